@@ -1,0 +1,3 @@
+mod Powers
+pub mod Takes
+pub mod Messages

@@ -1,0 +1,4 @@
+pub mod Varint
+pub mod Field
+pub mod Seen
+pub mod Message
