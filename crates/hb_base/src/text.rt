@@ -1,7 +1,8 @@
 //! Owned UTF-8 text.
 
-ghost use Rattle.std.specs.Prelude.{◌≡◌, ◌↔◌, [], IfOk, IfSome, IsSome};
+ghost use Rattle.std.specs.Prelude.{◌≡◌, ◌↔◌, [], IfOk, IsSome};
 ghost use Rattle.std.specs.Str.{IsUtf8};
+ghost use Rattle.hb_base.specs.Utf8.{text_of};
 
 use crate::or::NoMemory;
 use std::alloc::Global;
@@ -28,13 +29,15 @@ impl Text {
     /// A copy of these bytes as text; `None` exactly where they aren't UTF-8 (RFC 3629).
     pub fn of(alloc: Global, b: &[u8]) -> Result<Option<Text>, NoMemory>
         ensures found { IfOk result (λ r. IsSome r ↔ IsUtf8 b.now) }
-        ensures value { IfOk result (λ r. IfSome r (λ t. t ≡ b.now)) }
+        ensures value { IfOk result (λ r. r ≡ text_of b.now) }
     {
-        if std::str::from_utf8(b).is_err() {
-            return Ok(None);
+        match std::str::from_utf8(b) {
+            Ok(_) => {
+                let items = Vec::from_slice(alloc, b)?;
+                Ok(Some(Text { items }))
+            }
+            Err(_) => Ok(None),
         }
-        let items = Vec::from_slice(alloc, b)?;
-        Ok(Some(Text { items }))
     }
 
     /// The empty text, which takes no memory.
