@@ -1,1 +1,3 @@
 pub mod Utf8Test
+pub mod NameLemmas
+pub mod PartsLemmas

@@ -1,0 +1,108 @@
+//! Identities and their text.
+
+ghost use Rattle.std.specs.Prelude.{◌≡◌, ◌++◌, IfOk, true};
+ghost use Rattle.std.specs.List.{list_all};
+ghost use Rattle.hb_base.specs.IdentityText.{is_name_byte, is_name, identity_of, identity_of_parts, names_of, principal_of};
+ghost use Rattle.hb_base.specs.Parts.{parts};
+
+use crate::or::NoMemory;
+use crate::parts::first_part;
+use crate::text::Text;
+use std::alloc::Global;
+
+/// The identity of a workload, `spiffe://TRUST_DOMAIN/ns/NAMESPACE/sa/SERVICE_ACCOUNT` (the SPIFFE ID
+/// specification, section 2).
+#[derive(Debug, Drop)]
+pub struct Identity {
+    pub trust_domain: Text,
+    pub namespace: Text,
+    pub service_account: Text,
+}
+
+impl Identity {
+    pub fn copy(&self, alloc: Global) -> Result<Identity, NoMemory>
+        ensures { IfOk result (λ r. r ≡ self.now) }
+    {
+        Ok(Identity {
+            trust_domain: self.trust_domain.copy(alloc)?,
+            namespace: self.namespace.copy(alloc)?,
+            service_account: self.service_account.copy(alloc)?,
+        })
+    }
+}
+
+fn is_name_byte(b: u8) -> bool
+    ensures { result ≡ is_name_byte b }
+{
+    b.is_ascii_uppercase()
+        || b.is_ascii_lowercase()
+        || b.is_ascii_digit()
+        || b == b'.'
+        || b == b'_'
+        || b == b'-'
+}
+
+fn has_name_bytes_alone(text: &[u8]) -> bool
+    ensures { result ≡ list_all is_name_byte text.now }
+{
+    text.iter().all(|b| is_name_byte(*b))
+}
+
+fn is_name(text: &[u8]) -> bool
+    ensures { result ≡ is_name text.now }
+{
+    !text.is_empty() && has_name_bytes_alone(text)
+}
+
+/// The three names of a principal, `TD/ns/NS/sa/SA`.
+fn names(principal: &[u8]) -> Option<(&[u8], &[u8], &[u8])>
+    ensures { names_of result ≡ identity_of_parts (parts 47 principal.now) }
+{
+    let (trust_domain, rest) = first_part(principal, b'/');
+    let (namespace_word, rest) = first_part(rest?, b'/');
+    let (namespace, rest) = first_part(rest?, b'/');
+    let (account_word, rest) = first_part(rest?, b'/');
+    let (account, rest) = first_part(rest?, b'/');
+    if rest.is_some() {
+        return None;
+    }
+    let spelled = is_name(trust_domain)
+        && namespace_word == b"ns".as_slice()
+        && is_name(namespace)
+        && account_word == b"sa".as_slice()
+        && is_name(account);
+    if spelled {
+        Some((trust_domain, namespace, account))
+    } else {
+        None
+    }
+}
+
+/// A name as text.
+fn name(alloc: Global, text: &[u8]) -> Result<Text, NoMemory>
+    requires { is_name text.now ≡ true }
+    ensures { IfOk result (λ r. r ≡ text.now) }
+{
+    match Text::of(alloc, text)? {
+        Some(name) => Ok(name),
+        None => unreachable!(),
+    }
+}
+
+/// Reads an identity: `spiffe://TD/ns/NS/sa/SA`, each of TD, NS and SA one or more of `A-Z a-z 0-9 . _ -`.
+/// `None` for every other text.
+pub fn read_identity(alloc: Global, b: &[u8]) -> Result<Option<Identity>, NoMemory>
+    ensures { IfOk result (λ r. r ≡ identity_of b.now) }
+{
+    let Some(principal) = b.strip_prefix(b"spiffe://") else {
+        return Ok(None);
+    };
+    let Some((trust_domain, namespace, account)) = names(principal) else {
+        return Ok(None);
+    };
+    Ok(Some(Identity {
+        trust_domain: name(alloc, trust_domain)?,
+        namespace: name(alloc, namespace)?,
+        service_account: name(alloc, account)?,
+    }))
+}
