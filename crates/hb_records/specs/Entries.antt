@@ -1,0 +1,18 @@
+-- Strings, and the entries of a repeated field.
+use Rattle.std.specs.Prelude.{ℕ, nat_lt, List, [], ◌∷◌, ◌++◌, length, Result, Ok, Err, if◌then◌else◌}
+use Rattle.std.specs.Str.{is_utf8}
+use Rattle.hb_wire.specs.Message.{and_then}
+use Rattle.hb_records.specs.declared.fault.RecordFault.{RecordFault}
+use Rattle.hb_records.specs.declared.fault.RecordFault.TheVariants.{Utf8, TooMany}
+
+-- a string field: UTF-8 (Protocol Buffers language guide, "Scalar Value Types")
+abbrev pub text_in : ℕ → List ℕ → Result (List ℕ) RecordFault
+text_in field bytes = if is_utf8 bytes then Ok bytes else Err (Utf8 field)
+
+-- A repeated field has at most 4,096 entries: the 4,097th is one too many, whatever it is.
+abbrev pub room_in : {T : Type 0} → ℕ → List T → Result (Unit {0}) RecordFault
+room_in field entries = if nat_lt (length entries) 4096 then Ok tt else Err (TooMany field 4097)
+
+-- one more entry of a repeated field
+abbrev pub one_more : {T : Type 0} → ℕ → List T → Result T RecordFault → Result (List T) RecordFault
+one_more field entries entry = and_then (room_in field entries) (λ _. and_then entry (λ e. Ok (entries ++ e ∷ [])))

@@ -1,0 +1,6 @@
+pub mod Authorization
+pub mod Entries
+pub mod Reading
+pub mod Rule
+pub mod StringMatch
+pub mod Workload

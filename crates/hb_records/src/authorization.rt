@@ -1,0 +1,126 @@
+//! Authorization policies.
+
+ghost use Rattle.std.specs.Prelude.{◌≡◌, ◌+◌, ◌^◌, ◌<◌, length};
+ghost use Rattle.hb_base.specs.Outcome.{Answers};
+ghost use Rattle.hb_records.specs.Reading.{Merges};
+ghost use Rattle.hb_records.specs.Authorization.{reach_of, action_of, policy_span, policy_number, authorization_of};
+
+use crate::entries::{check_room, read_text};
+use crate::fault::RecordFault;
+use crate::message::{Message, read_message};
+use crate::rule::{Rule, read_rule};
+use hb_base::{List, Or, Text};
+use hb_wire::{Field, FieldValue};
+use std::alloc::Global as Alloc;
+
+/// The workloads that a policy is for: all of the mesh, those of its namespace, or those that name it.
+#[derive(Clone, Copy, Debug, PartialEq, Eq)]
+pub enum Reach {
+    Global,
+    Namespace,
+    Selector,
+}
+
+#[derive(Clone, Copy, Debug, PartialEq, Eq)]
+pub enum Action {
+    Allow,
+    Deny,
+}
+
+/// An authorization policy: it fires where one of its rules does.
+#[derive(Debug, Drop)]
+pub struct Authorization {
+    pub name: Text,
+    pub namespace: Text,
+    pub scope: Reach,
+    pub action: Action,
+    pub rules: List<Rule>,
+}
+
+fn read_reach(number: u32) -> Result<Reach, RecordFault>
+    ensures { result ≡ reach_of number }
+{
+    match number {
+        0 => Ok(Reach::Global),
+        1 => Ok(Reach::Namespace),
+        2 => Ok(Reach::Selector),
+        value => Err(RecordFault::BadEnum { field: 3, value }),
+    }
+}
+
+fn read_action(number: u32) -> Result<Action, RecordFault>
+    ensures { result ≡ action_of number }
+{
+    match number {
+        0 => Ok(Action::Allow),
+        1 => Ok(Action::Deny),
+        value => Err(RecordFault::BadEnum { field: 4, value }),
+    }
+}
+
+impl Message for Authorization {
+    ghost use Rattle.hb_records.specs.Authorization.{authorization_merged};
+
+    ghost merged = { authorization_merged };
+
+    fn merge(&mut self, alloc: Alloc, field: Field<'_>) -> Result<(), Or<RecordFault>> {
+        match field.value {
+            FieldValue::Span(bytes) => self.take_span(alloc, field.number, field.at, bytes),
+            FieldValue::Varint(n) => self.take_number(field.number, n),
+            _ => Ok(()),
+        }
+    }
+}
+
+impl Authorization {
+    fn take_span(
+        &mut self,
+        alloc: Alloc,
+        number: u32,
+        at: usize,
+        bytes: &[u8],
+    ) -> Result<(), Or<RecordFault>>
+        requires { at + length bytes.now < 2 ^ 64 }
+        ensures { Merges (policy_span self.old number at bytes.now) self.new result }
+    {
+        match number {
+            1 => self.name = read_text(alloc, 1, bytes)?,
+            2 => self.namespace = read_text(alloc, 2, bytes)?,
+            5 => {
+                check_room(5, &self.rules)?;
+                self.rules.push(read_rule(alloc, at, bytes)?)?;
+            }
+            _ => {}
+        }
+        Ok(())
+    }
+
+    /// An enum is the low 32 bits of its number.
+    fn take_number(&mut self, number: u32, n: u64) -> Result<(), Or<RecordFault>>
+        ensures { Merges (policy_number self.old number n) self.new result }
+    {
+        let low = (n % 4_294_967_296) as u32;
+        match number {
+            3 => self.scope = read_reach(low).map_err(Or::Fault)?,
+            4 => self.action = read_action(low).map_err(Or::Fault)?,
+            _ => {}
+        }
+        Ok(())
+    }
+}
+
+/// Reads an authorization policy; the first fault in order of bytes, depth first.
+#[tactic(auto, unfolding(crate::specs::Authorization::authorization_of))]
+pub fn read_authorization(alloc: Alloc, bytes: &[u8]) -> Result<Authorization, Or<RecordFault>>
+    ensures { Answers result (authorization_of bytes.now) }
+{
+    let mut read = Authorization {
+        name: Text::empty(alloc),
+        namespace: Text::empty(alloc),
+        scope: Reach::Global,
+        action: Action::Allow,
+        rules: List::new(alloc),
+    };
+    read_message(alloc, bytes, 0, &mut read)?;
+    Ok(read)
+}

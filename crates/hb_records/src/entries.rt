@@ -1,0 +1,31 @@
+//! Strings, and the entries of a repeated field.
+
+ghost use Rattle.hb_base.specs.Outcome.{Answers};
+ghost use Rattle.hb_records.specs.Entries.{text_in, room_in};
+
+use crate::fault::RecordFault;
+use hb_base::{List, Or, Text};
+use std::alloc::Global;
+
+/// The most entries that a repeated field may have.
+const MOST_ENTRIES: usize = 4096;
+
+/// A string field, which has to be UTF-8.
+pub fn read_text(alloc: Global, field: u32, bytes: &[u8]) -> Result<Text, Or<RecordFault>>
+    ensures { Answers result (text_in field bytes.now) }
+{
+    match Text::of(alloc, bytes)? {
+        Some(text) => Ok(text),
+        None => Err(Or::Fault(RecordFault::Utf8 { field })),
+    }
+}
+
+/// A fault where one more entry would be the 4,097th.
+pub fn check_room<T>(field: u32, entries: &List<T>) -> Result<(), Or<RecordFault>>
+    ensures { Answers result (room_in field entries.now) }
+{
+    if entries.len() < MOST_ENTRIES {
+        return Ok(());
+    }
+    Err(Or::Fault(RecordFault::TooMany { field, count: 4097 }))
+}

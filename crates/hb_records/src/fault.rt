@@ -1,0 +1,31 @@
+//! Why bytes are no record.
+
+use hb_wire::WireFault;
+use thiserror::Error;
+
+/// Why bytes are no record: the first fault in order of bytes, depth first. `field` is a field's number in
+/// the message that it stands in.
+#[derive(Clone, Copy, Debug, PartialEq, Eq, Error)]
+pub enum RecordFault {
+    /// The bytes are no fields; the place is counted in the whole record.
+    #[error("{0}")]
+    Wire(WireFault),
+    /// A string isn't UTF-8.
+    #[error("utf8 in field {field}")]
+    Utf8 { field: u32 },
+    /// An address has neither 4 nor 16 octets.
+    #[error("bad ip in field {field}")]
+    BadIp { field: u32 },
+    /// An enum has a value that it doesn't name.
+    #[error("bad enum {value} in field {field}")]
+    BadEnum { field: u32, value: u32 },
+    /// A message of one kind out of several has no kind; 0 is the whole record.
+    #[error("no kind in field {field}")]
+    NoKind { field: u32 },
+    /// The 4,097th entry of a repeated field.
+    #[error("too many in field {field}: {count}")]
+    TooMany { field: u32, count: u32 },
+    /// A field that isn't built yet.
+    #[error("not yet: field {field}")]
+    NotYet { field: u32 },
+}

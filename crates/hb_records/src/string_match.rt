@@ -1,0 +1,75 @@
+//! String matches.
+
+ghost use Rattle.std.specs.Prelude.{◌≡◌, ◌+◌, ◌^◌, ◌<◌, length};
+ghost use Rattle.hb_base.specs.Outcome.{Answers};
+ghost use Rattle.hb_records.specs.Reading.{Merges};
+ghost use Rattle.hb_records.specs.StringMatch.{string_match_in, member_in};
+
+use crate::entries::read_text;
+use crate::fault::RecordFault;
+use crate::message::{Message, read_message};
+use hb_base::{Or, Text};
+use hb_wire::{Field, FieldValue};
+use std::alloc::Global;
+
+/// What a text has to be to match: equal, begin so, end so, or not be empty.
+#[derive(Debug, Drop)]
+pub enum StringMatch {
+    Exact(Text),
+    Prefix(Text),
+    Suffix(Text),
+    Presence,
+}
+
+/// The member that occurred last, if one did.
+#[derive(Drop)]
+struct Member {
+    kind: Option<StringMatch>,
+}
+
+impl Message for Member {
+    ghost use Rattle.hb_records.specs.StringMatch.{member_of};
+
+    ghost merged = { member_of };
+
+    fn merge(&mut self, alloc: Global, field: Field<'_>) -> Result<(), Or<RecordFault>> {
+        match field.value {
+            FieldValue::Span(bytes) => self.take(alloc, field.number, bytes),
+            _ => Ok(()),
+        }
+    }
+}
+
+impl Member {
+    fn take(&mut self, alloc: Global, number: u32, bytes: &[u8]) -> Result<(), Or<RecordFault>>
+        ensures { Merges (member_in self.old.kind number bytes.now) self.new.kind result }
+    {
+        match number {
+            1 => self.kind = Some(StringMatch::Exact(read_text(alloc, 1, bytes)?)),
+            2 => self.kind = Some(StringMatch::Prefix(read_text(alloc, 2, bytes)?)),
+            3 => self.kind = Some(StringMatch::Suffix(read_text(alloc, 3, bytes)?)),
+            4 => self.kind = Some(StringMatch::Presence),
+            _ => {}
+        }
+        Ok(())
+    }
+}
+
+/// The string match of `bytes`, which stand at place `at` under the field number `field`.
+#[tactic(auto, unfolding(crate::specs::StringMatch::string_match_in))]
+pub fn read_string_match(
+    alloc: Global,
+    field: u32,
+    at: usize,
+    bytes: &[u8],
+) -> Result<StringMatch, Or<RecordFault>>
+    requires { at + length bytes.now < 2 ^ 64 }
+    ensures { Answers result (string_match_in field at bytes.now) }
+{
+    let mut member = Member { kind: None };
+    read_message(alloc, bytes, at, &mut member)?;
+    match member.kind {
+        Some(kind) => Ok(kind),
+        None => Err(Or::Fault(RecordFault::NoKind { field })),
+    }
+}

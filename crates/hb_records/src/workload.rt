@@ -1,0 +1,132 @@
+//! Workloads.
+
+ghost use Rattle.std.specs.Prelude.{◌≡◌, ◌+◌, ◌^◌, ◌<◌, length};
+ghost use Rattle.hb_base.specs.Outcome.{Answers};
+ghost use Rattle.hb_base.specs.Octets.{ip_of_octets};
+ghost use Rattle.hb_records.specs.Reading.{Merges};
+ghost use Rattle.hb_records.specs.Workload.{no_workload, ip_or, workload_text, workload_span, workload_number};
+
+use crate::entries::{check_room, read_text};
+use crate::fault::RecordFault;
+use crate::message::Message;
+use hb_base::{Ip, List, Or, Text};
+use hb_wire::{Field, FieldValue};
+use std::alloc::Global;
+
+/// A workload of the mesh. `authorization_policies` are the names `namespace/name` of the policies that
+/// it asks for.
+#[derive(Debug, Drop)]
+pub struct Workload {
+    pub name: Text,
+    pub namespace: Text,
+    pub addresses: List<Ip>,
+    pub network: Text,
+    /// It takes HBONE (tunnel protocol 1).
+    pub hbone: bool,
+    pub trust_domain: Text,
+    pub service_account: Text,
+    pub node: Text,
+    pub authorization_policies: List<Text>,
+    pub healthy: bool,
+    pub uid: Text,
+    pub hostname: Text,
+}
+
+/// An address of 4 or 16 octets.
+fn read_octets(field: u32, bytes: &[u8]) -> Result<Ip, Or<RecordFault>>
+    ensures { Answers result (ip_or field (ip_of_octets bytes.now)) }
+{
+    match Ip::from_octets(bytes) {
+        Some(ip) => Ok(ip),
+        None => Err(Or::Fault(RecordFault::BadIp { field })),
+    }
+}
+
+impl Message for Workload {
+    ghost use Rattle.hb_records.specs.Workload.{workload_merged};
+
+    ghost merged = { workload_merged };
+
+    fn merge(&mut self, alloc: Global, field: Field<'_>) -> Result<(), Or<RecordFault>> {
+        match field.value {
+            FieldValue::Span(bytes) => self.take_span(alloc, field.number, bytes),
+            FieldValue::Varint(n) => {
+                self.take_number(field.number, n);
+                Ok(())
+            }
+            _ => Ok(()),
+        }
+    }
+}
+
+impl Workload {
+    /// The workload of which no field was read.
+    pub fn unread(alloc: Global) -> Workload
+        ensures { result ≡ no_workload }
+    {
+        Workload {
+            name: Text::empty(alloc),
+            namespace: Text::empty(alloc),
+            addresses: List::new(alloc),
+            network: Text::empty(alloc),
+            hbone: false,
+            trust_domain: Text::empty(alloc),
+            service_account: Text::empty(alloc),
+            node: Text::empty(alloc),
+            authorization_policies: List::new(alloc),
+            healthy: true,
+            uid: Text::empty(alloc),
+            hostname: Text::empty(alloc),
+        }
+    }
+
+    fn take_span(&mut self, alloc: Global, number: u32, bytes: &[u8]) -> Result<(), Or<RecordFault>>
+        ensures { Merges (workload_span self.old number bytes.now) self.new result }
+    {
+        match number {
+            3 => {
+                check_room(3, &self.addresses)?;
+                self.addresses.push(read_octets(3, bytes)?)?;
+                Ok(())
+            }
+            16 => {
+                check_room(16, &self.authorization_policies)?;
+                let policy = read_text(alloc, 16, bytes)?;
+                self.authorization_policies.push(policy)?;
+                Ok(())
+            }
+            8 => Err(Or::Fault(RecordFault::NotYet { field: 8 })),
+            22 => Err(Or::Fault(RecordFault::NotYet { field: 22 })),
+            _ => self.take_text(alloc, number, bytes),
+        }
+    }
+
+    fn take_text(&mut self, alloc: Global, number: u32, bytes: &[u8]) -> Result<(), Or<RecordFault>>
+        ensures { Merges (workload_text self.old number bytes.now) self.new result }
+    {
+        match number {
+            1 => self.name = read_text(alloc, 1, bytes)?,
+            2 => self.namespace = read_text(alloc, 2, bytes)?,
+            4 => self.network = read_text(alloc, 4, bytes)?,
+            6 => self.trust_domain = read_text(alloc, 6, bytes)?,
+            7 => self.service_account = read_text(alloc, 7, bytes)?,
+            9 => self.node = read_text(alloc, 9, bytes)?,
+            20 => self.uid = read_text(alloc, 20, bytes)?,
+            21 => self.hostname = read_text(alloc, 21, bytes)?,
+            _ => {}
+        }
+        Ok(())
+    }
+
+    /// An enum is the low 32 bits of its number.
+    fn take_number(&mut self, number: u32, n: u64)
+        ensures { self.new ≡ workload_number self.old number n }
+    {
+        let low = n % 4_294_967_296;
+        match number {
+            5 => self.hbone = low == 1,
+            17 => self.healthy = low == 0,
+            _ => {}
+        }
+    }
+}
