@@ -1,0 +1,4 @@
+//! The command line: words, the input, and what a command answers.
+#![tactic(auto)]
+
+mod policy;
