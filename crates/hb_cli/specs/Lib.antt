@@ -1,1 +1,3 @@
+pub mod Held
 pub mod Policy
+pub mod Response
