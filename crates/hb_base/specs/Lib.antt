@@ -1,7 +1,12 @@
+pub mod Count
 pub mod Decimal
 pub mod IdentityText
 pub mod IpText
+pub mod MemSink
+pub mod MemSource
 pub mod Octets
 pub mod Outcome
 pub mod Parts
+pub mod Sink
+pub mod Source
 pub mod TargetText
