@@ -1,3 +1,4 @@
+pub mod CauseText
 pub mod Count
 pub mod Decimal
 pub mod IdentityText

@@ -3,11 +3,14 @@
 #![tactic(auto)]
 
 mod bytes;
+mod cause;
+mod door;
 mod identity;
 mod ip;
 mod list;
 mod mem_sink;
 mod mem_source;
+mod note;
 mod or;
 mod parts;
 mod peer;
@@ -22,11 +25,14 @@ mod text;
 mod writing;
 
 pub use bytes::Bytes;
+pub use cause::Cause;
+pub use door::{Door, Why};
 pub use identity::{Identity, read_identity};
 pub use ip::{Ip, read_ip};
 pub use list::List;
 pub use mem_sink::MemSink;
 pub use mem_source::MemSource;
+pub use note::Note;
 pub use or::{NoMemory, Or};
 pub use peer::Peer;
 pub use reading::{ReadStop, read_all};
