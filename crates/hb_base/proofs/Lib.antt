@@ -1,3 +1,4 @@
 pub mod BytesLemmas
 pub mod NameLemmas
 pub mod PartsLemmas
+pub mod PieceLemmas

@@ -8,6 +8,7 @@ pub mod MemSource
 pub mod Octets
 pub mod Outcome
 pub mod Parts
+pub mod Pieces
 pub mod Sink
 pub mod Source
 pub mod TargetText

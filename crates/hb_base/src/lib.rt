@@ -14,6 +14,7 @@ mod note;
 mod or;
 mod parts;
 mod peer;
+mod pieces;
 mod reading;
 mod scope;
 mod sink;
