@@ -22,6 +22,8 @@ mod source;
 mod std_sink;
 mod std_source;
 mod target;
+#[cfg(test)]
+mod tests;
 mod text;
 mod writing;
 
