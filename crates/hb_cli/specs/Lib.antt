@@ -1,3 +1,4 @@
 pub mod Held
+pub mod Judge
 pub mod Policy
 pub mod Response

@@ -2,6 +2,9 @@
 use Rattle.std.specs.Prelude.{ℕ, Bool, true, false, not, ◌==◌, ◌&&◌, ◌||◌, nat_eq, List, [], ◌∷◌, ◌++◌, length, filter, Option, Some, None}
 use Rattle.std.specs.List.{list_all, list_any, starts_with, ends_with}
 use Rattle.std.specs.Str.{bytes_eq}
+use Rattle.std.specs.Option.{option_map}
+use Rattle.hb_base.specs.declared.peer.Peer.{Peer}
+use Rattle.hb_base.specs.IdentityText.{principal_of}
 use Rattle.hb_records.specs.declared.authorization.Action.{Action}
 use Rattle.hb_records.specs.declared.authorization.Action.TheVariants.{Allow, Deny}
 use Rattle.hb_records.specs.declared.authorization.Reach.{Reach}
@@ -13,6 +16,10 @@ use Rattle.hb_records.specs.declared.rule.Rule.{Rule}
 use Rattle.hb_records.specs.declared.string_match.StringMatch.{StringMatch}
 use Rattle.hb_records.specs.declared.string_match.StringMatch.TheVariants.{Exact, Prefix, Suffix, Presence}
 use Rattle.hb_records.specs.declared.workload.Workload.{Workload}
+
+-- the principal of a peer with an identity
+abbrev pub principal : Peer → Option (List ℕ)
+principal p = option_map principal_of p.identity
 
 -- a text meets a string match
 abbrev pub text_matches : StringMatch → List ℕ → Bool

@@ -2,5 +2,6 @@
 #![tactic(auto)]
 
 mod held;
+mod judge;
 mod policy;
 mod response;

@@ -1,65 +1,65 @@
 //! Which policies are for a workload, and what they say of a peer.
 
 ghost use Rattle.std.specs.Prelude.{◌≡◌, ◌++◌, ◌∷◌, []};
-ghost use Rattle.std.specs.Option.{option_copied};
 ghost use Rattle.std.specs.List.{list_any};
 ghost use Rattle.std.specs.Str.{bytes_eq};
-ghost use Rattle.hb_cli.specs.Policy.{text_matches, principal_matches, is_met, match_met, clause_met, rule_met, fires, selector_name, is_for};
+ghost use Rattle.hb_base.specs.IdentityText.{principal_of};
+ghost use Rattle.hb_cli.specs.Policy.{principal, text_matches, principal_matches, is_met, match_met, clause_met, rule_met, fires, selector_name, is_for};
 
-use hb_base::{List, Text};
+use hb_base::{Identity, List, Peer, Text};
 use hb_records::{Authorization, Clause, Match, Reach, Rule, StringMatch, Workload};
 
-fn text_matches(value: &StringMatch, text: &[u8]) -> bool
-    ensures { result ≡ text_matches value.now text.now }
+fn identity_matches(value: &StringMatch, identity: &Identity) -> bool
+    ensures { result ≡ text_matches value.now (principal_of identity.now) }
 {
     match value {
-        StringMatch::Exact(whole) => text == whole.as_slice(),
-        StringMatch::Prefix(front) => text.starts_with(front.as_slice()),
-        StringMatch::Suffix(end) => text.ends_with(end.as_slice()),
-        StringMatch::Presence => !text.is_empty(),
+        StringMatch::Exact(whole) => identity.principal_equals(whole.as_slice()),
+        StringMatch::Prefix(front) => identity.principal_starts_with(front.as_slice()),
+        StringMatch::Suffix(end) => identity.principal_ends_with(end.as_slice()),
+        StringMatch::Presence => !identity.principal_equals(b""),
     }
 }
 
 /// Without an identity no value matches.
-fn principal_matches(principal: Option<&[u8]>, value: &StringMatch) -> bool
-    ensures { result ≡ principal_matches (option_copied principal.entry) value.now }
+fn peer_matches(peer: &Peer, value: &StringMatch) -> bool
+    ensures { result ≡ principal_matches (principal peer.now) value.now }
 {
-    match principal {
-        Some(text) => text_matches(value, text),
+    match &peer.identity {
+        Some(identity) => identity_matches(value, identity),
         None => false,
     }
 }
 
-fn is_any(principal: Option<&[u8]>, values: &List<StringMatch>) -> bool
-    ensures { result ≡ list_any (principal_matches (option_copied principal.entry)) values.now }
+fn is_any(peer: &Peer, values: &List<StringMatch>) -> bool
+    ensures { result ≡ list_any (principal_matches (principal peer.now)) values.now }
 {
-    values.as_slice().iter().any(|value| principal_matches(principal, value))
+    values.as_slice().iter().any(|value| peer_matches(peer, value))
 }
 
 /// All attributes of a match are met: an empty positive list is, and a negative one where no value matches.
-fn is_match_met(principal: Option<&[u8]>, m: &Match) -> bool
-    ensures { result ≡ match_met (option_copied principal.entry) m.now }
+fn is_match_met(peer: &Peer, m: &Match) -> bool
+    ensures { result ≡ match_met (principal peer.now) m.now }
 {
-    (m.principals.is_empty() || is_any(principal, &m.principals)) && !is_any(principal, &m.not_principals)
+    (m.principals.is_empty() || is_any(peer, &m.principals)) && !is_any(peer, &m.not_principals)
 }
 
-fn is_clause_met(principal: Option<&[u8]>, clause: &Clause) -> bool
-    ensures { result ≡ clause_met (option_copied principal.entry) clause.now }
+fn is_clause_met(peer: &Peer, clause: &Clause) -> bool
+    ensures { result ≡ clause_met (principal peer.now) clause.now }
 {
-    clause.matches.as_slice().iter().any(|m| is_match_met(principal, m))
+    clause.matches.as_slice().iter().any(|m| is_match_met(peer, m))
 }
 
-fn is_rule_met(principal: Option<&[u8]>, rule: &Rule) -> bool
-    ensures { result ≡ rule_met (option_copied principal.entry) rule.now }
+fn is_rule_met(peer: &Peer, rule: &Rule) -> bool
+    ensures { result ≡ rule_met (principal peer.now) rule.now }
 {
-    rule.clauses.as_slice().iter().all(|clause| is_clause_met(principal, clause))
+    rule.clauses.as_slice().iter().all(|clause| is_clause_met(peer, clause))
 }
 
 /// A policy fires where one of its rules is met.
-pub fn fires(policy: &Authorization, principal: Option<&[u8]>) -> bool
-    ensures { result ≡ fires (option_copied principal.entry) policy.now }
+pub fn fires(policy: &Authorization, peer: &Peer) -> bool
+    ensures { result ≡ fires (principal peer.now) policy.now }
 {
-    policy.rules.as_slice().iter().any(|rule| is_rule_met(principal, rule))
+    policy.rules.as_slice().iter().any(|rule| is_rule_met(peer, rule))
 }
 
 /// `text` is the namespace and the name, joined by a slash.
