@@ -1,4 +1,5 @@
 pub mod Held
+pub mod Input
 pub mod Judge
 pub mod Policy
 pub mod Response

@@ -1,8 +1,7 @@
 //! The resources that responses leave.
 
 ghost use Rattle.std.specs.Prelude.{◌≡◌, [], ◌<◌, length, position, true, IfSome, IfOk};
-ghost use Rattle.hb_base.specs.Outcome.{Answers};
-ghost use Rattle.hb_records.specs.Reading.{Merges};
+ghost use Rattle.hb_base.specs.Outcome.{Answers, Merges};
 ghost use Rattle.hb_cli.specs.Held.{is_of, is_named, record_of, refused_as, put_at, with_resource, with_resources, after_response, is_taken_whole};
 
 use crate::response::{Kind, Resource, Response};

@@ -2,6 +2,7 @@
 #![tactic(auto)]
 
 mod held;
+mod input;
 mod judge;
 mod policy;
 mod response;

@@ -1,8 +1,7 @@
 //! Delta discovery responses.
 
 ghost use Rattle.std.specs.Prelude.{◌≡◌, ◌+◌, ◌^◌, ◌<◌, length};
-ghost use Rattle.hb_base.specs.Outcome.{Answers};
-ghost use Rattle.hb_records.specs.Reading.{Merges};
+ghost use Rattle.hb_base.specs.Outcome.{Answers, Merges};
 ghost use Rattle.hb_cli.specs.Response.{text_in, any_span, resource_span, resource_in, response_span, kind_of_url, type_url, response_of};
 
 use hb_base::{Bytes, List, Or, Text};

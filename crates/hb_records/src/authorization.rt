@@ -1,8 +1,7 @@
 //! Authorization policies.
 
 ghost use Rattle.std.specs.Prelude.{◌≡◌, ◌+◌, ◌^◌, ◌<◌, length};
-ghost use Rattle.hb_base.specs.Outcome.{Answers};
-ghost use Rattle.hb_records.specs.Reading.{Merges};
+ghost use Rattle.hb_base.specs.Outcome.{Answers, Merges};
 ghost use Rattle.hb_records.specs.Authorization.{reach_of, action_of, policy_span, policy_number, authorization_of};
 
 use crate::entries::{check_room, read_text};

@@ -2,7 +2,7 @@
 
 ghost use Rattle.std.specs.Prelude.{◌≡◌, ◌+◌, ◌^◌, ◌<◌, length};
 ghost use Rattle.hb_wire.specs.Message.{message_of, fold_message};
-ghost use Rattle.hb_records.specs.Reading.{Merges};
+ghost use Rattle.hb_base.specs.Outcome.{Merges};
 
 use hb_base::Or;
 use hb_wire::{Field, Fields, WireFault};
@@ -14,7 +14,7 @@ pub trait Message {
     ghost use Rattle.hb_wire.specs.Field.{Content};
     ghost use Rattle.hb_wire.specs.Seen.{content, IsInMemory};
     ghost use Rattle.hb_wire.specs.declared.fault.WireFault.{WireFault as NoField};
-    ghost use Rattle.hb_records.specs.Reading.{Merges};
+    ghost use Rattle.hb_base.specs.Outcome.{Merges};
 
     /// Why bytes aren't such a message.
     type Fault;

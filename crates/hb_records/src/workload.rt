@@ -1,9 +1,8 @@
 //! Workloads.
 
 ghost use Rattle.std.specs.Prelude.{◌≡◌, ◌+◌, ◌^◌, ◌<◌, length};
-ghost use Rattle.hb_base.specs.Outcome.{Answers};
 ghost use Rattle.hb_base.specs.Octets.{ip_of_octets};
-ghost use Rattle.hb_records.specs.Reading.{Merges};
+ghost use Rattle.hb_base.specs.Outcome.{Answers, Merges};
 ghost use Rattle.hb_records.specs.Workload.{no_workload, ip_or, workload_text, workload_span, workload_number};
 
 use crate::entries::{check_room, read_text};
