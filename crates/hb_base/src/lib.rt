@@ -7,6 +7,7 @@ mod cause;
 mod door;
 mod identity;
 mod ip;
+mod laws;
 mod list;
 mod mem_sink;
 mod mem_source;
@@ -32,6 +33,10 @@ pub use cause::Cause;
 pub use door::{Door, Why};
 pub use identity::{Identity, read_identity};
 pub use ip::{Ip, read_ip};
+pub use laws::{
+    addresses_are_read_as_they_are_spelled, identities_are_read_as_they_are_spelled,
+    targets_are_read_as_they_are_spelled,
+};
 pub use list::List;
 pub use mem_sink::MemSink;
 pub use mem_source::MemSource;

@@ -50,6 +50,7 @@ pub fn read_all<S: Source>(alloc: Global, source: &mut S, limit: usize) -> Resul
     ensures within { IfOk result (λ b. length b ≤ limit) }
     ensures end { OnOk result (IfSome (S.left source.old) (λ _. S.left source.new ≡ Some [])) }
     ensures too_long { result ≡ Err TooLong → IfSome (S.left source.old) (λ left. limit < length left) }
+    ensures over { result ≡ Err TooLong → (b : List ℕ) × (limit < length b) × Consumes (S.left source.old) (S.left source.new) b }
     ensures taken { (b : List ℕ) × Consumes (S.left source.old) (S.left source.new) b }
     ensures later { S.faults source.old ≤ S.faults source.new }
     ensures cause { result ≡ Err Failed → Rose (S.faults source.old) (S.faults source.new) }
