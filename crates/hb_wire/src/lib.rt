@@ -8,3 +8,6 @@ mod varint;
 
 pub use fault::{WireFault, WireWhy};
 pub use fields::{Field, FieldValue, Fields};
+
+#[cfg(test)]
+mod tests;
