@@ -2,3 +2,4 @@ pub mod Varint
 pub mod Field
 pub mod Seen
 pub mod Message
+pub mod Spelling
