@@ -1,24 +1,22 @@
 -- Reading fields is exact: what is read is spelled so, and what is spelled so is read.
-use Rattle.std.proofs.Common.{◌≡◌, ℕ, ◌+◌, ◌*◌, ◌/◌, ◌%◌, ◌<◌, ◌≤◌, Bool, true, false, cond, zero, suc, ◌==◌, List, [], ◌∷◌, ◌++◌, length, take, drop, Option, Some, None, Result, Ok, Err, IfOk, inl, inr, refl, ap, sym, ◌∙◌, subst, arith, add-zero, append_assoc, length-append}
+use Rattle.std.proofs.Common.{◌≡◌, ℕ, ◌+◌, ◌*◌, ◌/◌, ◌%◌, ◌<◌, ◌≤◌, true, false, ◌==◌, List, ◌++◌, length, take, drop, Some, Result, Ok, Err, IfOk, inl, inr, refl, ap, sym, ◌∙◌, subst, arith, append_assoc, length-append}
 use Rattle.std.specs.Prelude.{nat_lt}
 use Rattle.std.specs.Int.{w32, w64, from_le_bytes}
 use Rattle.std.specs.List.{All}
 use Rattle.std.proofs.lemmas.Bool.{ltb-true, ltb-false, eqb-true, eqb-false, lt-ltb, le-ltb, ne_eqb, or_cases, and_parts, and_from}
-use Rattle.std.proofs.lemmas.List.{take-append-drop, length-take, append-nil}
+use Rattle.std.proofs.lemmas.List.{take-append-drop, length-take}
 use Rattle.std.proofs.lemmas.List.Elements.{All-drop, All-same}
 use Rattle.std.proofs.Math.Seq.{drop-append_seam, take-append_seam}
 use Rattle.hb_wire.specs.declared.fault.WireFault.{WireFault}
-use Rattle.hb_wire.specs.Field.{Unread, Content, Value, varint, eight, span, four, varint_in, bytes_in, eight_in, four_in, value_in, field_in, next_in, is_number, is_wire_type, ◌>>=◌}
-use Rattle.hb_wire.specs.Message.{Message, message_of, with_first}
-use Rattle.hb_wire.specs.Spelling.{IsOctet, IsVarint, wire_type, SpellsValue, SpellsField, SpellsMessage, EndsWith, SpellsUpTo}
-use Rattle.hb_wire.proofs.Messages.{next_cases, next_is_shorter, message-end, message-fault, message-field}
+use Rattle.hb_wire.specs.Field.{Unread, Content, Value, varint, eight, span, four, varint_in, bytes_in, eight_in, four_in, value_in, field_in, next_in, is_number, is_wire_type}
+use Rattle.hb_wire.specs.Spelling.{IsOctet, IsVarint, wire_type, SpellsValue, SpellsField}
 use Rattle.hb_wire.proofs.Varints.{Passes, if_bind, if_cond, at_ok, varint_spelled, varint_read, some_in_varint}
 
 if_weaker : {A : Type 0} (r : Result A WireFault) (P Q : A → Type 0) → ((x : A) → P x → Q x) → IfOk r P → IfOk r Q
 if_weaker (Ok x) P Q f h = f x h
 if_weaker (Err e) P Q f h = tt
 
-octets_behind : (u v : Unread) (bytes : List ℕ) → Passes u v bytes → All IsOctet u.left → All IsOctet v.left
+pub octets_behind : (u v : Unread) (bytes : List ℕ) → Passes u v bytes → All IsOctet u.left → All IsOctet v.left
 octets_behind u v bytes p octets = All-same IsOctet v.left (drop (length bytes) u.left) (sym (ap (λ l. drop (length bytes) l) p.left ∙ drop-append_seam bytes v.left)) (All-drop IsOctet (length bytes) u.left octets)
 
 passes_on : (u v w : Unread) (a b : List ℕ) → Passes u v a → Passes v w b → Passes u w (a ++ b)
@@ -48,7 +46,7 @@ record IsRead (number wire : ℕ) (u : Unread) (f : Content) (v : Unread) : Type
   spells : SpellsValue u.at bytes f.at f.value
   passes : Passes u v bytes
 
-wire_is_5 : (wire : ℕ) → is_wire_type wire ≡ true → (wire == 0) ≡ false → (wire == 1) ≡ false → (wire == 2) ≡ false → wire ≡ 5
+pub wire_is_5 : (wire : ℕ) → is_wire_type wire ≡ true → (wire == 0) ≡ false → (wire == 1) ≡ false → (wire == 2) ≡ false → wire ≡ 5
 wire_is_5 wire typed n0 n1 n2 = elim (or_cases (nat_lt wire 3) (wire == 5) typed) [
   | inl low ↦ let lt = ltb-true wire 3 low in let a = eqb-false wire 0 n0 in let b = eqb-false wire 1 n1 in let c = eqb-false wire 2 n2 in absurd (omega arith)
   | inr is ↦ eqb-true wire 5 is
@@ -97,7 +95,7 @@ tag_spelled u v w tag n f is_tag p good r =
     )
 
 -- a field that is read is spelled by the bytes that it takes
-field_spelled : (u : Unread) → All IsOctet u.left → IfOk (field_in u) (λ p. (bytes : List ℕ) × SpellsField u.at bytes p.0 × Passes u p.1 bytes)
+pub field_spelled : (u : Unread) → All IsOctet u.left → IfOk (field_in u) (λ p. (bytes : List ℕ) × SpellsField u.at bytes p.0 × Passes u p.1 bytes)
 unfolding field_in
 field_spelled u octets = if_bind (varint_in u) _ _
     (λ tag e. let s = at_ok (varint_in u) _ tag (varint_spelled u octets) e in
@@ -135,7 +133,7 @@ wire_small (span own) = (omega arith, refl)
 wire_small (four n) = (omega arith, refl)
 
 -- the field in front is read
-field_read : (front rest : List ℕ) (at : ℕ) (f : Content) → SpellsField at front f → field_in (record { at = at; left = front ++ rest }) ≡ Ok (f, record { at = at + length front; left = rest })
+pub field_read : (front rest : List ℕ) (at : ℕ) (f : Content) → SpellsField at front f → field_in (record { at = at; left = front ++ rest }) ≡ Ok (f, record { at = at + length front; left = rest })
 unfolding field_in
 field_read front rest at f s =
     let wire = wire_small f.value in
@@ -161,95 +159,9 @@ some_in_field : (at : ℕ) (front : List ℕ) (f : Content) → SpellsField at f
 some_in_field at front f s = let some = some_in_varint s.tag _ s.is_tag in rw s.cut (omega (arith, length-append s.tag s.behind))
 
 -- the next field, where one is in front
-next_read : (front rest : List ℕ) (at : ℕ) (f : Content) → SpellsField at front f
+pub next_read : (front rest : List ℕ) (at : ℕ) (f : Content) → SpellsField at front f
     → next_in (record { at = at; left = front ++ rest }) ≡ Ok (Some (f, record { at = at + length front; left = rest }))
 next_read front rest at f s =
     let some = some_in_field at front f s in
     let size : (length (front ++ rest) ≡ 0 → ⊥) = λ e. omega (arith, length-append front rest) in
     rw (ne_eqb (length (front ++ rest)) 0 size, field_read front rest at f s) refl
-
--- a message that is spelled is read
-pub message_read : (fields : List Content) (at : ℕ) (bytes : List ℕ) → SpellsMessage at bytes fields → message_of (record { at = at; left = bytes }) ≡ record { fields = fields; fault = None }
-message_read [] at bytes empty = message-end (record { at = at; left = bytes }) (rw empty refl)
-message_read (f ∷ fields) at bytes (front, behind, cut, s, more) =
-    rw cut (message-field (record { at = at; left = front ++ behind }) (record { at = at + length front; left = behind }) f (next_read front behind at f s)
-    ∙ ap (with_first f) (message_read fields (at + length front) behind more))
-
--- bytes and what reading their message gives
-abbrev Splits : Unread → Message → Type 0
-Splits u m = SpellsUpTo u.at u.left m.fields m.fault
-
-empty : (bytes : List ℕ) → length bytes ≡ 0 → bytes ≡ []
-empty [] e = refl
-empty (byte ∷ bytes) e = absurd (omega arith)
-
-end_cases : (b : Bool) (r : Result (Content × Unread) WireFault) → cond b (Ok None) (r >>= λ f. Ok (Some f)) ≡ Ok None → b ≡ true
-end_cases true r e = refl
-end_cases false (Ok f) e = absurd cc
-end_cases false (Err d) e = absurd cc
-
-nothing_left : (u : Unread) → next_in u ≡ Ok None → u.left ≡ []
-nothing_left u e = empty u.left (eqb-true (length u.left) 0 (end_cases (length u.left == 0) (field_in u) e))
-
-fault_cases : (b : Bool) (r : Result (Content × Unread) WireFault) (d : WireFault) → cond b (Ok None) (r >>= λ f. Ok (Some f)) ≡ Err d → (b ≡ false) × (r ≡ Err d)
-fault_cases true r d e = absurd cc
-fault_cases false (Ok f) d e = absurd cc
-fault_cases false (Err c) d e = (refl, cc)
-
-by_next : (r : Result (Option (Content × Unread)) WireFault) (P : Type 0) → (r ≡ Ok None → P) → ((f : Content) (v : Unread) → r ≡ Ok (Some (f, v)) → P) → ((d : WireFault) → r ≡ Err d → P) → P
-by_next (Ok None) P a b c = a refl
-by_next (Ok (Some p)) P a b c = b p.0 p.1 refl
-by_next (Err d) P a b c = c d refl
-
--- where the next field is refused, none is in front
-refused : (u : Unread) (d : WireFault) → next_in u ≡ Err d → EndsWith u.at u.left (Some d)
-refused u d e =
-    let c = fault_cases (length u.left == 0) (field_in u) d e in
-    let some = eqb-false (length u.left) 0 c.0 in (
-      omega arith,
-      λ front behind f cut s.
-          let read = field_read front behind u.at f s in
-          let same = ap (λ (l : List ℕ). field_in (record { at = u.at; left = l })) cut in
-          let fault = c.1 in
-          cc,
-    )
-
-first : (u v : Unread) (f : Content) → All IsOctet u.left → next_in u ≡ Ok (Some (f, v)) → Splits v (message_of v) → Splits u (with_first f (message_of v))
-first u v f octets e (front, behind, cut, spelled, ends) =
-    let c = next_cases (length u.left == 0) (field_in u) (f, v) e in
-    let s = at_ok (field_in u) _ (f, v) (field_spelled u octets) c.1 in
-    let at = s.2.at in
-    let on : v.at + length front ≡ u.at + length (s.0 ++ front) = omega (arith, length-append s.0 front) in (
-      s.0 ++ front,
-      behind,
-      s.2.left ∙ ap (λ (l : List ℕ). s.0 ++ l) cut ∙ sym (append_assoc s.0 front behind),
-      (s.0, front, refl, s.1, subst (λ (k : ℕ). SpellsMessage k front (message_of v).fields) at spelled),
-      subst (λ (k : ℕ). EndsWith k behind (message_of v).fault) on ends,
-    )
-
-split : (u : Unread) → All IsOctet u.left → ((f : Content) (v : Unread) → next_in u ≡ Ok (Some (f, v)) → Splits v (message_of v)) → Splits u (message_of u)
-split u octets more = by_next (next_in u) _
-    (λ e. subst (λ (m : Message). Splits u m) (sym (message-end u e)) ([], u.left, refl, refl, nothing_left u e))
-    (λ f v e. subst (λ (m : Message). Splits u m) (sym (message-field u v f e)) (first u v f octets e (more f v e)))
-    (λ d e. subst (λ (m : Message). Splits u m) (sym (message-fault u d e)) ([], u.left, refl, refl, subst (λ (k : ℕ). EndsWith k u.left (Some d)) (sym (add-zero u.at)) (refused u d e)))
-
-splits : (n : ℕ) (u : Unread) → length u.left ≤ n → All IsOctet u.left → Splits u (message_of u)
-splits zero u le octets = split u octets (λ f v e. let lt = next_is_shorter u v f e in absurd (omega arith))
-splits (suc n) u le octets = split u octets (λ f v e.
-    let lt = next_is_shorter u v f e in
-    let c = next_cases (length u.left == 0) (field_in u) (f, v) e in
-    let s = at_ok (field_in u) _ (f, v) (field_spelled u octets) c.1 in
-    splits n v (omega arith) (octets_behind u v s.0 s.2 octets))
-
--- a message that is read is spelled, up to its fault
-pub message_spelled : (at : ℕ) (bytes : List ℕ) (m : Message) → All IsOctet bytes → message_of (record { at = at; left = bytes }) ≡ m → SpellsUpTo at bytes m.fields m.fault
-message_spelled at bytes m octets e = subst (λ (m : Message). SpellsUpTo at bytes m.fields m.fault) e (splits (length bytes) (record { at = at; left = bytes }) (omega arith) octets)
-
--- nothing behind the fields
-pub whole_message : (at : ℕ) (bytes : List ℕ) (fields : List Content) → SpellsUpTo at bytes fields None → SpellsMessage at bytes fields
-whole_message at bytes fields (front, behind, cut, spelled, ends) =
-    let whole : front ≡ bytes = sym (append-nil front) ∙ ap (λ (l : List ℕ). front ++ l) (sym ends) ∙ sym cut in
-    subst (λ (l : List ℕ). SpellsMessage at l fields) whole spelled
-
-pub one_list : (at : ℕ) (bytes : List ℕ) (fields others : List Content) → SpellsMessage at bytes fields → SpellsMessage at bytes others → fields ≡ others
-one_list at bytes fields others a b = ap (λ (m : Message). m.fields) (sym (message_read fields at bytes a) ∙ message_read others at bytes b)

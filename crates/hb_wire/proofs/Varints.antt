@@ -87,7 +87,7 @@ varint_spelled u octets = if_bind (varint_at u.left u.at 0) _ _
       record { left = sym (take-append-drop v.length u.left); at = omega arith },
     ))
 
-pick : {A : Type 0} (t : Bool) (x y z : A) → (t ≡ true → x ≡ z) → (t ≡ false → y ≡ z) → cond t x y ≡ z
+pub pick : {A : Type 0} (t : Bool) (x y z : A) → (t ≡ true → x ≡ z) → (t ≡ false → y ≡ z) → cond t x y ≡ z
 pick true x y z p q = p refl
 pick false x y z p q = q refl
 

@@ -3,3 +3,4 @@ pub mod Field
 pub mod Seen
 pub mod Message
 pub mod Spelling
+pub mod Breaks

@@ -1,7 +1,6 @@
 -- How bytes spell the fields of a message (Protocol Buffers encoding guide), said without a reader.
-use Rattle.std.specs.Prelude.{◌≡◌, ℕ, ◌+◌, ◌*◌, ◌^◌, ◌<◌, ◌≤◌, List, [], ◌∷◌, ◌++◌, length, Option, Some, None}
+use Rattle.std.specs.Prelude.{◌≡◌, ℕ, ◌+◌, ◌*◌, ◌^◌, ◌<◌, ◌≤◌, List, [], ◌∷◌, ◌++◌, length}
 use Rattle.std.specs.Int.{w32, w64, from_le_bytes}
-use Rattle.hb_wire.specs.declared.fault.WireFault.{WireFault}
 use Rattle.hb_wire.specs.Field.{Value, varint, eight, span, four, Content}
 
 abbrev pub IsOctet : ℕ → Type 0
@@ -53,12 +52,3 @@ SpellsMessage at bytes (f ∷ fs) = (front : List ℕ) × (behind : List ℕ) ×
 -- no field is in front of the bytes at a place
 abbrev pub NoField : ℕ → List ℕ → Type 0
 NoField at bytes = (front behind : List ℕ) (f : Content) → bytes ≡ front ++ behind → SpellsField at front f → ⊥
-
--- How a message ends: behind its fields nothing is left, or bytes that no field is in front of.
-abbrev pub EndsWith : ℕ → List ℕ → Option WireFault → Type 0
-EndsWith at bytes None = bytes ≡ []
-EndsWith at bytes (Some fault) = (0 < length bytes) × NoField at bytes
-
--- the bytes at a place are spelled by these fields and end so
-abbrev pub SpellsUpTo : ℕ → List ℕ → List Content → Option WireFault → Type 0
-SpellsUpTo at bytes fields fault = (front : List ℕ) × (behind : List ℕ) × (bytes ≡ front ++ behind) × SpellsMessage at front fields × EndsWith (at + length front) behind fault
