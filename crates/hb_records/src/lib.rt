@@ -17,3 +17,6 @@ pub use fault::RecordFault;
 pub use rule::{Clause, Match, Rule};
 pub use string_match::StringMatch;
 pub use workload::Workload;
+
+#[cfg(test)]
+mod tests;
