@@ -9,7 +9,7 @@ some_left : (bytes : List ℕ) → (length bytes == 0) ≡ false → 0 < length 
 some_left [] e = absurd cc
 some_left (byte ∷ bytes) e = omega arith
 
-next_cases : (b : Bool) (r : Result (Content × Unread) WireFault) (p : Content × Unread) → cond b (Ok None) (r >>= λ f. Ok (Some f)) ≡ Ok (Some p) → (b ≡ false) × (r ≡ Ok p)
+pub next_cases : (b : Bool) (r : Result (Content × Unread) WireFault) (p : Content × Unread) → cond b (Ok None) (r >>= λ f. Ok (Some f)) ≡ Ok (Some p) → (b ≡ false) × (r ≡ Ok p)
 next_cases true r p e = absurd cc
 next_cases false (Ok q) p e = (refl, cc)
 next_cases false (Err d) p e = absurd cc

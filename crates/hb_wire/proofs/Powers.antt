@@ -3,7 +3,7 @@ use Rattle.std.proofs.Common.{◌≡◌, ℕ, ◌+◌, ◌-◌, ◌*◌, ◌^◌
 use Rattle.std.proofs.Math.Nat.{pow-le-pow_right}
 
 -- seven more bits
-seven_more : (k : ℕ) → k ≤ 8 → 2 ^ (64 - 7 * k) ≡ 128 * 2 ^ (64 - 7 * (k + 1))
+pub seven_more : (k : ℕ) → k ≤ 8 → 2 ^ (64 - 7 * k) ≡ 128 * 2 ^ (64 - 7 * (k + 1))
 seven_more k le = let e : 64 - 7 * k ≡ 7 + (64 - 7 * (k + 1)) = omega arith in rw (e, pow-add) refl
 
 -- a byte below 128 is below the bound

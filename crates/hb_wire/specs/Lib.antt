@@ -2,3 +2,5 @@ pub mod Varint
 pub mod Field
 pub mod Seen
 pub mod Message
+pub mod Spelling
+pub mod Breaks

@@ -4,7 +4,12 @@
 mod cursor;
 mod fault;
 mod fields;
+mod spelling;
 mod varint;
 
 pub use fault::{WireFault, WireWhy};
 pub use fields::{Field, FieldValue, Fields};
+pub use spelling::a_message_is_what_its_bytes_spell;
+
+#[cfg(test)]
+mod tests;

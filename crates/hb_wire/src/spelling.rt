@@ -1,0 +1,19 @@
+//! Reading against spelling: laws of messages, said of all bytes at once.
+
+ghost use Rattle.std.specs.Prelude.{◌≡◌, ◌↔◌, ℕ, List, Option, None};
+ghost use Rattle.std.specs.List.{All};
+ghost use Rattle.hb_wire.specs.Breaks.{BreaksField, SpellsUpTo};
+ghost use Rattle.hb_wire.specs.Field.{Content};
+ghost use Rattle.hb_wire.specs.Message.{message_of};
+ghost use Rattle.hb_wire.specs.Spelling.{IsOctet, SpellsMessage, NoField};
+ghost use Rattle.hb_wire.specs.declared.fault.WireFault.{WireFault as Fault};
+
+/// A message without a fault is the list of fields that its bytes spell, and bytes spell one list at most.
+/// With a fault it is the fields that its bytes begin with, and behind them bytes that are broken so; where
+/// bytes are broken, no field is in front.
+pub fn a_message_is_what_its_bytes_spell()
+    ensures whole { (at : ℕ) (bytes : List ℕ) (fields : List Content) → All IsOctet bytes → (message_of (record { at = at; left = bytes }) ≡ record { fields = fields; fault = None }) ↔ SpellsMessage at bytes fields }
+    ensures one { (at : ℕ) (bytes : List ℕ) (fields others : List Content) → SpellsMessage at bytes fields → SpellsMessage at bytes others → fields ≡ others }
+    ensures exact { (at : ℕ) (bytes : List ℕ) (fields : List Content) (fault : Option Fault) → All IsOctet bytes → (message_of (record { at = at; left = bytes }) ≡ record { fields = fields; fault = fault }) ↔ SpellsUpTo at bytes fields fault }
+    ensures apart { (at : ℕ) (bytes : List ℕ) (fault : Fault) → BreaksField at bytes fault → NoField at bytes }
+{}
