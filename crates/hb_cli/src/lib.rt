@@ -6,3 +6,4 @@ mod input;
 mod judge;
 mod policy;
 mod response;
+mod words;
