@@ -1,4 +1,5 @@
 mod Framings
 mod Joined
+mod Outcomes
 mod Policies
 mod Taken

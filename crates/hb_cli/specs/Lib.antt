@@ -4,4 +4,5 @@ pub mod Input
 pub mod Judge
 pub mod Policy
 pub mod Response
+pub mod Run
 pub mod Words

@@ -6,4 +6,6 @@ mod input;
 mod judge;
 mod policy;
 mod response;
+mod run;
+mod stop;
 mod words;

@@ -8,34 +8,21 @@ ghost use Rattle.hb_cli.specs.Asked.{asked};
 
 use hb_base::{BadTarget, Identity, Or, Peer, Target, read_identity, read_ip, read_target};
 use std::alloc::Global;
-use thiserror::Error;
 
 /// Why words aren't accepted. `check --node NODE SOURCE IDENTITY TARGET` is the only command.
-#[derive(Clone, Copy, Debug, PartialEq, Eq, Error)]
+#[derive(Clone, Copy, Debug, PartialEq, Eq)]
 pub enum WordsFault {
-    #[error("a command is wanted")]
     NoCommand,
-    #[error("unknown command")]
     UnknownCommand,
-    #[error("unknown option")]
     UnknownOption,
-    #[error("--node is wanted behind the command")]
     NoNode,
-    #[error("--node stands twice")]
     NodeTwice,
-    #[error("--node has no value")]
     NoValue,
-    #[error("the value of --node is empty or begins with a dash")]
     BadNode,
-    #[error("SOURCE, IDENTITY and TARGET are wanted")]
     TooFew,
-    #[error("too many words")]
     TooMany,
-    #[error("SOURCE is not an IPv4 address")]
     BadSource,
-    #[error("IDENTITY is neither none nor spiffe://TRUST_DOMAIN/ns/NAMESPACE/sa/SERVICE_ACCOUNT")]
     BadIdentity,
-    #[error("TARGET: {0}")]
     BadTarget(BadTarget),
 }
 
