@@ -31,7 +31,7 @@ at_least n k e = grind (arith, nat_tests)
 pub behind_is_shorter : (bytes front behind : List ℕ) → front_message bytes ≡ Some (front, behind) → length behind < length bytes
 behind_is_shorter bytes front behind e =
     let p = passed (nat_lt (length bytes) 5) (not (slice_index bytes 0 == 0)) (nat_lt 67108864 (length_in bytes) || nat_lt (length bytes - 5) (length_in bytes))
-      (take (length_in bytes) (drop 5 bytes), drop (length_in bytes) (drop 5 bytes)) (front, behind) e in
+    (take (length_in bytes) (drop 5 bytes), drop (length_in bytes) (drop 5 bytes)) (front, behind) e in
     let five = at_least (length bytes) 5 p.0 in
     let same : length (drop (length_in bytes) (drop 5 bytes)) ≡ length behind = ap (λ (t : List ℕ × List ℕ). length t.1) p.1 in
     omega (arith, length-drop (length_in bytes) (drop 5 bytes), length-drop 5 bytes)

@@ -1,3 +1,4 @@
+mod Endings
 mod Framings
 mod Joined
 mod Outcomes

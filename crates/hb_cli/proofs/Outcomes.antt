@@ -1,14 +1,13 @@
 -- The outcome of words and input, from what was read of them.
-use Rattle.std.proofs.Common.{◌≡◌, ℕ, ◌<◌, ◌≤◌, Bool, true, false, List, [], length, Option, Some, None, Result, Ok, Err, refl, sym, ap, ◌∙◌, subst, inl, inr, arith}
+use Rattle.std.proofs.Common.{◌≡◌, ℕ, ◌<◌, true, List, [], length, Option, Some, None, Result, Ok, Err, refl, sym, ap, ◌∙◌, inl, inr, arith}
 use Rattle.std.specs.Prelude.{IfSome, IsOk, nat_lt}
 use Rattle.std.specs.Io.KnownBytes.{Consumes}
 use Rattle.std.proofs.lemmas.Bool.Decides.{nat_tests}
 use Rattle.hb_cli.specs.declared.judge.Judged.{Judged}
 use Rattle.hb_cli.specs.declared.stop.Stop.{Stop}
 use Rattle.hb_cli.specs.declared.stop.Stop.TheVariants.{Words, TooLong, Refused, ReadFault, NoMemory}
-use Rattle.hb_cli.specs.declared.words.WordsFault.{WordsFault}
 use Rattle.hb_cli.specs.Words.{Question, words_of}
-use Rattle.hb_cli.specs.Run.{answer_after, outcome_of, IsOutcome, IsAnswer, ReadsEnough}
+use Rattle.hb_cli.specs.Run.{answer_after, outcome_of, IsOutcome, IsAnswer}
 
 accepted : (words : List (List ℕ)) (q : Question) → words_of words ≡ Ok q → IsOk (words_of words)
 accepted words q e = rw e refl

@@ -1,15 +1,14 @@
 -- A response is taken whole exactly where no resource of it is refused.
-use Rattle.std.proofs.Common.{◌≡◌, ℕ, Bool, true, false, List, [], ◌∷◌, length, Result, Ok, Err, refl, sym, ap, ◌∙◌, inl, inr, suc, arith}
+use Rattle.std.proofs.Common.{◌≡◌, ℕ, Bool, true, false, List, [], ◌∷◌, length, Result, Ok, Err, refl, ap, ◌∙◌, inl, inr, suc, arith}
 use Rattle.std.proofs.lemmas.Bool.Decides.{nat_tests}
-use Rattle.std.specs.Prelude.{◌⊎◌, ◌&&◌, ◌==◌, is_ok}
-use Rattle.std.specs.Result.{result_unwrap_or}
+use Rattle.std.specs.Prelude.{◌⊎◌, ◌&&◌, ◌==◌}
 use Rattle.hb_wire.specs.Message.{and_then}
 use Rattle.hb_cli.specs.declared.held.Entry.{Entry}
 use Rattle.hb_cli.specs.declared.held.RefusedWhy.{RefusedWhy}
 use Rattle.hb_cli.specs.declared.response.Kind.{Kind}
 use Rattle.hb_cli.specs.declared.response.Resource.{Resource}
 use Rattle.hb_cli.specs.declared.response.Response.{Response}
-use Rattle.hb_cli.specs.Held.{with_resource, with_resources, after_resource, after_resources, all_taken, without, after_response, is_taken_whole}
+use Rattle.hb_cli.specs.Held.{with_resource, with_resources, after_resources, all_taken, without, after_response, is_taken_whole}
 
 -- a step that went on
 and_then_ok : {A B F : Type 0} (x : Result A F) (f : A → Result B F) (y : B) → and_then x f ≡ Ok y → (a : A) × (x ≡ Ok a) × (f a ≡ Ok y)

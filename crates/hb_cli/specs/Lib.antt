@@ -1,4 +1,5 @@
 pub mod Asked
+pub mod Ending
 pub mod Held
 pub mod Input
 pub mod Judge

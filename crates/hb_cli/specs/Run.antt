@@ -1,7 +1,6 @@
 -- What a command answers: its status, what it writes, and why.
-use Rattle.std.specs.Prelude.{◌≡◌, ℕ, ◌+◌, ◌<◌, ◌≤◌, ◌⊎◌, ◌==◌, Bool, nat_lt, List, [], ◌∷◌, ◌++◌, length, take, Option, Some, None, IfSome, IsOk, Result, Ok, Err, if◌then◌else◌, codes, decimal}
-use Rattle.std.specs.List.{list_any}
-use Rattle.std.specs.Io.KnownBytes.{Appends, Consumes, Keeps}
+use Rattle.std.specs.Prelude.{◌≡◌, ℕ, ◌<◌, ◌≤◌, ◌⊎◌, nat_lt, List, [], ◌∷◌, ◌++◌, length, take, Option, Some, IfSome, IsOk, Result, Ok, Err, if◌then◌else◌, codes, decimal}
+use Rattle.std.specs.Io.KnownBytes.{Appends, Consumes}
 use Rattle.hb_base.specs.Count.{Rose}
 use Rattle.hb_base.specs.declared.target.BadTarget.TheVariants as target_faults
 use Rattle.hb_wire.specs.Message.{and_then}

@@ -106,7 +106,9 @@ impl Held {
     fn place_of(&self, kind: Kind, name: &[u8]) -> Option<usize>
         ensures { result ≡ position (is_named kind name.now) self.now }
     {
-        self.entries.iter().position(|entry| is_named(kind, name, entry))
+        self.entries
+            .iter()
+            .position(|entry| is_named(kind, name, entry))
     }
 
     /// Puts an entry at the place of the one of its kind and name, or behind all.
@@ -128,12 +130,7 @@ impl Held {
 
     /// Takes one resource of a response of this kind.
     #[tactic(auto, unfolding(crate::specs::Held::with_resource))]
-    fn take(
-        &mut self,
-        alloc: Global,
-        kind: Kind,
-        resource: &Resource,
-    ) -> Result<(), Or<RefusedWhy>>
+    fn take(&mut self, alloc: Global, kind: Kind, resource: &Resource) -> Result<(), Or<RefusedWhy>>
         ensures { Merges (with_resource self.old kind resource.now) self.new result }
     {
         let name = resource.name.as_slice();

@@ -9,7 +9,6 @@ ghost use Rattle.hb_cli.specs.Policy.{principal, fires, is_for, is_deny, admitte
 ghost use Rattle.hb_cli.specs.Judge.{workload_of, policy_of, ip_eq, has_address, is_at, lesser, least, known, policies, judged};
 
 use crate::held::{Entry, Held, Record};
-
 use crate::policy::{fires, is_for};
 use hb_base::{Ip, List, Peer, Target};
 use hb_records::{Action, AddressRecord, Authorization, Workload};

@@ -1,11 +1,13 @@
 //! The command line: words, the input, and what a command answers.
 #![tactic(auto)]
 
+mod command;
 mod held;
 mod input;
 mod judge;
 mod policy;
 mod response;
-mod run;
 mod stop;
 mod words;
+
+pub use command::run;

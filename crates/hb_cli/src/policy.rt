@@ -33,7 +33,10 @@ fn peer_matches(peer: &Peer, value: &StringMatch) -> bool
 fn is_any(peer: &Peer, values: &List<StringMatch>) -> bool
     ensures { result ≡ list_any (principal_matches (principal peer.now)) values.now }
 {
-    values.as_slice().iter().any(|value| peer_matches(peer, value))
+    values
+        .as_slice()
+        .iter()
+        .any(|value| peer_matches(peer, value))
 }
 
 /// All attributes of a match are met: an empty positive list is, and a negative one where no value matches.
@@ -46,20 +49,31 @@ fn is_match_met(peer: &Peer, m: &Match) -> bool
 fn is_clause_met(peer: &Peer, clause: &Clause) -> bool
     ensures { result ≡ clause_met (principal peer.now) clause.now }
 {
-    clause.matches.as_slice().iter().any(|m| is_match_met(peer, m))
+    clause
+        .matches
+        .as_slice()
+        .iter()
+        .any(|m| is_match_met(peer, m))
 }
 
 fn is_rule_met(peer: &Peer, rule: &Rule) -> bool
     ensures { result ≡ rule_met (principal peer.now) rule.now }
 {
-    rule.clauses.as_slice().iter().all(|clause| is_clause_met(peer, clause))
+    rule.clauses
+        .as_slice()
+        .iter()
+        .all(|clause| is_clause_met(peer, clause))
 }
 
 /// A policy fires where one of its rules is met.
 pub fn fires(policy: &Authorization, peer: &Peer) -> bool
     ensures { result ≡ fires (principal peer.now) policy.now }
 {
-    policy.rules.as_slice().iter().any(|rule| is_rule_met(peer, rule))
+    policy
+        .rules
+        .as_slice()
+        .iter()
+        .any(|rule| is_rule_met(peer, rule))
 }
 
 /// `text` is the namespace and the name, joined by a slash.

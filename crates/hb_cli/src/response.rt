@@ -74,6 +74,7 @@ struct Parts {
 }
 
 const ADDRESS_URL: &[u8] = b"type.googleapis.com/istio.workload.Address";
+
 const AUTHORIZATION_URL: &[u8] = b"type.googleapis.com/istio.security.Authorization";
 
 impl Kind {

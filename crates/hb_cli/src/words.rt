@@ -41,10 +41,7 @@ fn is_dashed(word: &String) -> bool
 }
 
 /// `none`, or the text of an identity.
-fn read_identity_or_none(
-    alloc: Global,
-    word: &String,
-) -> Result<Option<Identity>, Or<WordsFault>>
+fn read_identity_or_none(alloc: Global, word: &String) -> Result<Option<Identity>, Or<WordsFault>>
     ensures { Answers result (identity_or_none (string_bytes word.now)) }
 {
     if word.as_bytes() == b"none".as_slice() {

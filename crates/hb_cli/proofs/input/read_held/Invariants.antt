@@ -6,7 +6,7 @@ use Rattle.hb_cli.proofs.input.read_held.Given as goal
 abbrev pub invariant-loop-left : goal.invariant-loop-left
 invariant-loop-left l = record {
   within : l.number + length l.left ≤ length l.input + 1;
-  same : held_after l.number l.held (framing_of l.left).messages (framing_of l.left).whole ≡ held_by l.input
+  same : held_after l.number l.held (framing_of l.left).messages (framing_of l.left).whole ≡ held_by l.input;
 }
 
 abbrev pub decreases-loop-left : goal.decreases-loop-left

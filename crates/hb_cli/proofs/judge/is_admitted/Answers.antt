@@ -1,4 +1,3 @@
-use Rattle.std.proofs.Common.{sym, ◌∙◌}
 use Rattle.std.specs.Prelude.{◌&&◌, not}
 use Rattle.hb_cli.specs.Policy.{principal, fires, is_for, is_deny}
 use Rattle.hb_cli.specs.Judge.{policy_of}

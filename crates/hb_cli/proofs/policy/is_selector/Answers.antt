@@ -1,4 +1,4 @@
-use Rattle.std.proofs.Common.{sym, ap, ◌∙◌, List, ℕ, ◌∷◌, [], drop}
+use Rattle.std.proofs.Common.{sym, ap, ◌∙◌, List, ℕ, drop}
 use Rattle.std.specs.Prelude.{◌&&◌}
 use Rattle.std.specs.Str.{bytes_eq}
 use Rattle.hb_cli.proofs.Joined.{other_namespace, same_namespace}
@@ -12,7 +12,7 @@ returns-in_default-strip_prefix c =
     let rest = c.in-Some.rest.now in
     let front = c.in-Some.ensures.cases in
     sym (same_namespace c.args.text.now rest c.args.namespace.now c.args.name.now front.0 front.1
-      ∙ ap (λ t. t && bytes_eq (drop 1 rest) c.args.name.now) c.in_default-strip_prefix.ensures.cases)
+    ∙ ap (λ t. t && bytes_eq (drop 1 rest) c.args.name.now) c.in_default-strip_prefix.ensures.cases)
 
 pub returns : goal.returns
 returns c =

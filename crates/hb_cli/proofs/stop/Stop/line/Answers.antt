@@ -1,4 +1,4 @@
-use Rattle.std.proofs.Common.{append_assoc, rules, ◌∙◌}
+use Rattle.std.proofs.Common.{append_assoc, ◌∙◌}
 use Rattle.std.proofs.lemmas.Result.{IfOk-weaker}
 use Rattle.hb_cli.proofs.stop.Stop.line.Goals as goal
 
