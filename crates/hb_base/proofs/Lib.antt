@@ -1,3 +1,10 @@
 pub mod Utf8Test
+pub mod AddressLemmas
+pub mod BytesLemmas
+pub mod IdentityLemmas
 pub mod NameLemmas
+pub mod OctetLemmas
 pub mod PartsLemmas
+pub mod PieceLemmas
+pub mod TargetLemmas
+pub mod TestLemmas

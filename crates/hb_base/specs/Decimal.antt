@@ -10,5 +10,5 @@ abbrev pub digit : ℕ → ℕ
 digit b = b - 48
 
 -- the number that digits spell, most significant first
-abbrev pub decimal : List ℕ → ℕ
-decimal digits = fold (λ n b. n * 10 + digit b) 0 digits
+abbrev pub decimal_value : List ℕ → ℕ
+decimal_value digits = fold (λ n b. n * 10 + digit b) 0 digits

@@ -1,5 +1,5 @@
 -- The text of an identity (the SPIFFE ID specification, section 2).
-use Rattle.std.specs.Prelude.{ℕ, Bool, ◌&&◌, ◌||◌, ◌==◌, not, nat_le, nat_eq, if◌then◌else◌, List, [], ◌∷◌, ◌++◌, length, drop, Option, Some, None, codes}
+use Rattle.std.specs.Prelude.{◌≡◌, ◌↔◌, IsTrue, ℕ, Bool, ◌&&◌, ◌||◌, ◌==◌, not, nat_le, nat_eq, if◌then◌else◌, List, [], ◌∷◌, ◌++◌, length, drop, Option, Some, None, codes}
 use Rattle.std.specs.Borrow.{Bor}
 use Rattle.std.specs.List.{list_all, starts_with}
 use Rattle.std.specs.Str.{bytes_eq}
@@ -37,3 +37,9 @@ identity_of text =
 -- the principal of an identity: its text after `spiffe://`
 abbrev pub principal_of : Identity → List ℕ
 principal_of i = i.trust_domain ++ codes "/ns/" ++ i.namespace ++ codes "/sa/" ++ i.service_account
+
+-- exactly `spiffe://` and a principal of three names is read as that principal's identity
+abbrev pub ReadsPrincipalsAlone : Type 0
+ReadsPrincipalsAlone = (text : List ℕ) (i : Identity) → (identity_of text ≡ Some i)
+    ↔ ((text ≡ codes "spiffe://" ++ principal_of i) × IsTrue (is_name i.trust_domain) × IsTrue (is_name i.namespace)
+    × IsTrue (is_name i.service_account))

@@ -1,5 +1,7 @@
 -- The text of an address.
-use Rattle.std.specs.Prelude.{ℕ, ◌+◌, ◌*◌, ◌&&◌, not, ◌==◌, nat_le, if◌then◌else◌, List, [], ◌∷◌, Option, Some, None}
+use Rattle.std.specs.Prelude.{◌≡◌, ◌↔◌, ◌<◌, ◌^◌, ℕ, ◌+◌, ◌*◌, ◌&&◌, not, ◌==◌, nat_le, if◌then◌else◌, List, [], ◌∷◌, Option, Some, None, map, decimal}
+use Rattle.std.specs.Int.{to_be_bytes, w32}
+use Rattle.std.specs.List.{join_with_byte}
 use Rattle.std.specs.Option.{option_map}
 use Rattle.hb_base.specs.Decimal.{is_digit, digit}
 use Rattle.hb_base.specs.Parts.{parts}
@@ -34,3 +36,11 @@ v4_of text = v4_of_parts (parts 46 text)
 -- the address that this text spells
 abbrev pub ip_of : List ℕ → Option Ip
 ip_of text = option_map (λ n. V4 n) (v4_of text)
+
+-- the dotted text of an IPv4 address: its four octets in decimal, joined by dots
+abbrev pub v4_text : ℕ → List ℕ
+v4_text n = join_with_byte 46 (map decimal (to_be_bytes w32 n))
+
+-- exactly the dotted text of an address is read as that address
+abbrev pub ReadsDottedTextAlone : Type 0
+ReadsDottedTextAlone = (text : List ℕ) (n : ℕ) → (ip_of text ≡ Some (V4 n)) ↔ ((n < 2 ^ 32) × (text ≡ v4_text n))

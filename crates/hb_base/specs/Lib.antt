@@ -1,8 +1,15 @@
+pub mod CauseText
+pub mod Count
 pub mod Decimal
 pub mod IdentityText
 pub mod IpText
+pub mod MemSink
+pub mod MemSource
 pub mod Octets
 pub mod Outcome
 pub mod Utf8
 pub mod Parts
+pub mod Pieces
+pub mod Sink
+pub mod Source
 pub mod TargetText

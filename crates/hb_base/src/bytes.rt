@@ -29,6 +29,12 @@ impl Bytes {
         Ok(Bytes { items })
     }
 
+    pub(crate) fn from_vec(items: Vec<u8>) -> Bytes
+        ensures { result ≡ items.items }
+    {
+        Bytes { items }
+    }
+
     pub fn as_slice(&self) -> &[u8]
         ensures { result.now ≡ self.now }
     {

@@ -1,12 +1,15 @@
 //! Identities and their text.
 
-ghost use Rattle.std.specs.Prelude.{◌≡◌, ◌++◌, IfOk, true};
-ghost use Rattle.std.specs.List.{list_all};
+ghost use Rattle.std.specs.Prelude.{◌≡◌, ◌++◌, IfOk, true, nat_eq};
+ghost use Rattle.std.specs.List.{list_all, starts_with, ends_with};
+ghost use Rattle.std.specs.Str.{bytes_eq};
 ghost use Rattle.hb_base.specs.IdentityText.{is_name_byte, is_name, identity_of, identity_of_parts, names_of, principal_of};
 ghost use Rattle.hb_base.specs.Parts.{parts};
+ghost use Rattle.hb_base.specs.Pieces.{joined};
 
 use crate::or::NoMemory;
 use crate::parts::first_part;
+use crate::pieces::{pieces_end_with, pieces_equal, pieces_start_with};
 use crate::text::Text;
 use std::alloc::Global;
 
@@ -28,6 +31,40 @@ impl Identity {
             namespace: self.namespace.copy(alloc)?,
             service_account: self.service_account.copy(alloc)?,
         })
+    }
+
+    /// Whether the principal, the text behind `spiffe://`, is this text.
+    pub fn principal_equals(&self, text: &[u8]) -> bool
+        ensures { result ≡ bytes_eq (principal_of self.now) text.now }
+    {
+        pieces_equal(&self.pieces(), text)
+    }
+
+    /// Whether the principal begins with this text.
+    pub fn principal_starts_with(&self, prefix: &[u8]) -> bool
+        ensures { result ≡ starts_with nat_eq (principal_of self.now) prefix.now }
+    {
+        pieces_start_with(&self.pieces(), prefix)
+    }
+
+    /// Whether the principal ends with this text.
+    pub fn principal_ends_with(&self, suffix: &[u8]) -> bool
+        ensures { result ≡ ends_with nat_eq (principal_of self.now) suffix.now }
+    {
+        pieces_end_with(&self.pieces(), suffix)
+    }
+
+    /// The pieces of the principal.
+    fn pieces(&self) -> [&[u8]; 5]
+        ensures { joined result ≡ principal_of self.now }
+    {
+        [
+            self.trust_domain.as_slice(),
+            b"/ns/",
+            self.namespace.as_slice(),
+            b"/sa/",
+            self.service_account.as_slice(),
+        ]
     }
 }
 

@@ -3,22 +3,52 @@
 #![tactic(auto)]
 
 mod bytes;
+mod cause;
+mod door;
 mod identity;
 mod ip;
+mod laws;
 mod list;
+mod mem_sink;
+mod mem_source;
+mod note;
 mod or;
 mod parts;
 mod peer;
+mod pieces;
+mod reading;
 mod scope;
+mod sink;
+mod source;
+mod std_sink;
+mod std_source;
 mod target;
+#[cfg(test)]
+mod tests;
 mod text;
+mod writing;
 
 pub use bytes::Bytes;
+pub use cause::Cause;
+pub use door::{Door, Why};
 pub use identity::{Identity, read_identity};
 pub use ip::{Ip, read_ip};
+pub use laws::{
+    addresses_are_read_as_they_are_spelled, identities_are_read_as_they_are_spelled,
+    targets_are_read_as_they_are_spelled,
+};
 pub use list::List;
+pub use mem_sink::MemSink;
+pub use mem_source::MemSource;
+pub use note::Note;
 pub use or::{NoMemory, Or};
 pub use peer::Peer;
+pub use reading::{ReadStop, read_all};
 pub use scope::Scope;
+pub use sink::{Put, Sink};
+pub use source::{Source, Taken};
+pub use std_sink::StdSink;
+pub use std_source::StdSource;
 pub use target::{BadTarget, Target, read_target};
 pub use text::Text;
+pub use writing::{WriteFault, put_all};

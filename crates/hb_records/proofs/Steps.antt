@@ -6,7 +6,7 @@ use Rattle.hb_wire.specs.declared.fault.WireFault.{WireFault}
 use Rattle.hb_wire.specs.Field.{Unread, Content, next_in}
 use Rattle.hb_wire.specs.Message.{message_of, fold_message}
 use Rattle.hb_wire.proofs.Messages.{fold-field}
-use Rattle.hb_records.specs.Reading.{Fails}
+use Rattle.hb_base.specs.Outcome.{Fails}
 
 -- a field was merged, and the rest makes of the new value what all made of the old
 pub goes_on : {S F : Type 0} (merge : S → Content → Result S F) (wire : WireFault → F) (old new : S) (u v : Unread) (f : Content) (total : Result S F) → Ok (Some (f, v)) ≡ next_in u

@@ -1,15 +1,14 @@
 //! Address records.
 
 ghost use Rattle.std.specs.Prelude.{◌≡◌, ◌+◌, ◌^◌, ◌<◌, length, unwrap_or};
-ghost use Rattle.hb_base.specs.Outcome.{Answers};
-ghost use Rattle.hb_records.specs.Reading.{Merges};
+ghost use Rattle.hb_base.specs.Outcome.{Answers, Merges};
 ghost use Rattle.hb_records.specs.Workload.{no_workload, workload_with, address_span, address_of};
 
 use crate::fault::RecordFault;
 use crate::message::{Message, read_message};
 use crate::workload::Workload;
 use hb_base::Or;
-use hb_wire::{Field, FieldValue};
+use hb_wire::{Field, FieldValue, WireFault};
 use std::alloc::Global;
 
 /// What has an address in the mesh. (Services aren't read yet.)
@@ -25,9 +24,18 @@ struct Address {
 }
 
 impl Message for Address {
+    ghost use Rattle.hb_records.specs.declared.fault.RecordFault.TheVariants.{Wire};
     ghost use Rattle.hb_records.specs.Workload.{address_merged};
 
+    type Fault = RecordFault;
+
+    ghost wire = { Wire };
+
     ghost merged = { address_merged };
+
+    fn of_wire(fault: WireFault) -> RecordFault {
+        RecordFault::Wire(fault)
+    }
 
     fn merge(&mut self, alloc: Global, field: Field<'_>) -> Result<(), Or<RecordFault>> {
         match field.value {

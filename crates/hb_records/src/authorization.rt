@@ -1,8 +1,7 @@
 //! Authorization policies.
 
 ghost use Rattle.std.specs.Prelude.{◌≡◌, ◌+◌, ◌^◌, ◌<◌, length};
-ghost use Rattle.hb_base.specs.Outcome.{Answers};
-ghost use Rattle.hb_records.specs.Reading.{Merges};
+ghost use Rattle.hb_base.specs.Outcome.{Answers, Merges};
 ghost use Rattle.hb_records.specs.Authorization.{reach_of, action_of, policy_span, policy_number, authorization_of};
 
 use crate::entries::{check_room, read_text};
@@ -10,7 +9,7 @@ use crate::fault::RecordFault;
 use crate::message::{Message, read_message};
 use crate::rule::{Rule, read_rule};
 use hb_base::{List, Or, Text};
-use hb_wire::{Field, FieldValue};
+use hb_wire::{Field, FieldValue, WireFault};
 use std::alloc::Global as Alloc;
 
 /// The workloads that a policy is for: all of the mesh, those of its namespace, or those that name it.
@@ -59,9 +58,18 @@ fn read_action(number: u32) -> Result<Action, RecordFault>
 }
 
 impl Message for Authorization {
+    ghost use Rattle.hb_records.specs.declared.fault.RecordFault.TheVariants.{Wire};
     ghost use Rattle.hb_records.specs.Authorization.{authorization_merged};
 
+    type Fault = RecordFault;
+
+    ghost wire = { Wire };
+
     ghost merged = { authorization_merged };
+
+    fn of_wire(fault: WireFault) -> RecordFault {
+        RecordFault::Wire(fault)
+    }
 
     fn merge(&mut self, alloc: Alloc, field: Field<'_>) -> Result<(), Or<RecordFault>> {
         match field.value {

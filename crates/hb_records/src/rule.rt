@@ -1,8 +1,7 @@
 //! The rules of a policy.
 
 ghost use Rattle.std.specs.Prelude.{◌≡◌, ◌+◌, ◌^◌, ◌<◌, length};
-ghost use Rattle.hb_base.specs.Outcome.{Answers};
-ghost use Rattle.hb_records.specs.Reading.{Merges};
+ghost use Rattle.hb_base.specs.Outcome.{Answers, Merges};
 ghost use Rattle.hb_records.specs.Rule.{attribute_in, match_in, clause_in, rule_in};
 
 use crate::entries::check_room;
@@ -10,7 +9,7 @@ use crate::fault::RecordFault;
 use crate::message::{Message, read_message};
 use crate::string_match::{StringMatch, read_string_match};
 use hb_base::{List, Or};
-use hb_wire::{Field, FieldValue};
+use hb_wire::{Field, FieldValue, WireFault};
 use std::alloc::Global;
 
 /// One match of a clause: each attribute has to be met.
@@ -33,9 +32,18 @@ pub struct Rule {
 }
 
 impl Message for Match {
+    ghost use Rattle.hb_records.specs.declared.fault.RecordFault.TheVariants.{Wire};
     ghost use Rattle.hb_records.specs.Rule.{match_merged};
 
+    type Fault = RecordFault;
+
+    ghost wire = { Wire };
+
     ghost merged = { match_merged };
+
+    fn of_wire(fault: WireFault) -> RecordFault {
+        RecordFault::Wire(fault)
+    }
 
     fn merge(&mut self, alloc: Global, field: Field<'_>) -> Result<(), Or<RecordFault>> {
         match field.value {
@@ -77,9 +85,18 @@ impl Match {
 }
 
 impl Message for Clause {
+    ghost use Rattle.hb_records.specs.declared.fault.RecordFault.TheVariants.{Wire};
     ghost use Rattle.hb_records.specs.Rule.{clause_merged};
 
+    type Fault = RecordFault;
+
+    ghost wire = { Wire };
+
     ghost merged = { clause_merged };
+
+    fn of_wire(fault: WireFault) -> RecordFault {
+        RecordFault::Wire(fault)
+    }
 
     fn merge(&mut self, alloc: Global, field: Field<'_>) -> Result<(), Or<RecordFault>> {
         match field.value {
@@ -94,9 +111,18 @@ impl Message for Clause {
 }
 
 impl Message for Rule {
+    ghost use Rattle.hb_records.specs.declared.fault.RecordFault.TheVariants.{Wire};
     ghost use Rattle.hb_records.specs.Rule.{rule_merged};
 
+    type Fault = RecordFault;
+
+    ghost wire = { Wire };
+
     ghost merged = { rule_merged };
+
+    fn of_wire(fault: WireFault) -> RecordFault {
+        RecordFault::Wire(fault)
+    }
 
     fn merge(&mut self, alloc: Global, field: Field<'_>) -> Result<(), Or<RecordFault>> {
         match field.value {

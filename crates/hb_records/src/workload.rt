@@ -1,16 +1,15 @@
 //! Workloads.
 
 ghost use Rattle.std.specs.Prelude.{◌≡◌, ◌+◌, ◌^◌, ◌<◌, length};
-ghost use Rattle.hb_base.specs.Outcome.{Answers};
 ghost use Rattle.hb_base.specs.Octets.{ip_of_octets};
-ghost use Rattle.hb_records.specs.Reading.{Merges};
+ghost use Rattle.hb_base.specs.Outcome.{Answers, Merges};
 ghost use Rattle.hb_records.specs.Workload.{no_workload, ip_or, workload_text, workload_span, workload_number};
 
 use crate::entries::{check_room, read_text};
 use crate::fault::RecordFault;
 use crate::message::Message;
 use hb_base::{Ip, List, Or, Text};
-use hb_wire::{Field, FieldValue};
+use hb_wire::{Field, FieldValue, WireFault};
 use std::alloc::Global;
 
 /// A workload of the mesh. `authorization_policies` are the names `namespace/name` of the policies that
@@ -43,9 +42,18 @@ fn read_octets(field: u32, bytes: &[u8]) -> Result<Ip, Or<RecordFault>>
 }
 
 impl Message for Workload {
+    ghost use Rattle.hb_records.specs.declared.fault.RecordFault.TheVariants.{Wire};
     ghost use Rattle.hb_records.specs.Workload.{workload_merged};
 
+    type Fault = RecordFault;
+
+    ghost wire = { Wire };
+
     ghost merged = { workload_merged };
+
+    fn of_wire(fault: WireFault) -> RecordFault {
+        RecordFault::Wire(fault)
+    }
 
     fn merge(&mut self, alloc: Global, field: Field<'_>) -> Result<(), Or<RecordFault>> {
         match field.value {

@@ -1,0 +1,30 @@
+//! Whole writes.
+
+ghost use Rattle.std.specs.Prelude.{◌≤◌, OnErr};
+ghost use Rattle.hb_base.specs.Count.{Rose};
+ghost use Rattle.hb_base.specs.Sink.{WritesAll};
+
+use crate::sink::{Put, Sink};
+use thiserror::Error;
+
+/// A put failed before all bytes were written.
+#[derive(Clone, Copy, Debug, PartialEq, Eq, Error)]
+#[error("a write failed")]
+pub struct WriteFault;
+
+/// Writes all of these bytes. It gives up at the first put that fails, and then a part of them, from the
+/// front, is written.
+pub fn put_all<K: Sink>(sink: &mut K, bytes: &[u8]) -> Result<(), WriteFault>
+    ensures bytes { WritesAll (K.written sink.old) (K.written sink.new) bytes.now result }
+    ensures later { K.faults sink.old ≤ K.faults sink.new }
+    ensures cause { OnErr result (Rose (K.faults sink.old) (K.faults sink.new)) }
+{
+    let mut at = 0;
+    while at < bytes.len() {
+        match sink.put(&bytes[at..]) {
+            Put::Took(n) => at += n,
+            Put::Failed => return Err(WriteFault),
+        }
+    }
+    Ok(())
+}

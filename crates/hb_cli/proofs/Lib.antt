@@ -1,0 +1,4 @@
+mod Framings
+mod Joined
+mod Policies
+mod Taken

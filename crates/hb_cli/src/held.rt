@@ -1,0 +1,187 @@
+//! The resources that responses leave.
+
+ghost use Rattle.std.specs.Prelude.{◌≡◌, [], ◌<◌, length, position, true, IfSome, IfOk};
+ghost use Rattle.hb_base.specs.Outcome.{Answers, Merges};
+ghost use Rattle.hb_cli.specs.Held.{is_of, is_named, record_of, refused_as, put_at, with_resource, with_resources, after_response, is_taken_whole};
+
+use crate::response::{Kind, Resource, Response};
+use hb_base::{NoMemory, Or, Text};
+use hb_records::{AddressRecord, Authorization, RecordFault, read_address, read_authorization};
+use std::alloc::Global;
+use std::marker::Model;
+
+/// A record that is held.
+#[derive(Debug, Drop)]
+pub enum Record {
+    Address(AddressRecord),
+    Policy(Authorization),
+}
+
+/// A resource that is held: no other has its kind and name.
+#[derive(Debug, Drop)]
+pub struct Entry {
+    pub name: Text,
+    pub version: Text,
+    pub content: Record,
+}
+
+/// Why a resource is refused, in this order of looking.
+#[derive(Clone, Copy, Debug, PartialEq, Eq)]
+pub enum RefusedWhy {
+    NoName,
+    /// Its type isn't that of its response.
+    WrongType,
+    Record(RecordFault),
+    /// 65,536 resources are held, and none has this name.
+    Full,
+}
+
+/// The resources held, in the order in which their names came first.
+#[derive(Drop)]
+pub struct Held {
+    entries: Vec<Entry>,
+}
+
+impl Model for Held {
+    ghost use Rattle.std.specs.Prelude.{List};
+    ghost use Rattle.hb_cli.specs.declared.held.Entry.{Entry as entry};
+
+    ghost Value = { List entry };
+
+    ghost view = { λ h. h.entries.items };
+}
+
+/// The most resources that are held.
+const MOST_HELD: usize = 65_536;
+
+fn is_of(kind: Kind, record: &Record) -> bool
+    ensures { result ≡ is_of kind record.now }
+{
+    match (kind, record) {
+        (Kind::Address, Record::Address(_)) => true,
+        (Kind::Authorization, Record::Policy(_)) => true,
+        _ => false,
+    }
+}
+
+fn is_named(kind: Kind, name: &[u8], entry: &Entry) -> bool
+    ensures { result ≡ is_named kind name.now entry.now }
+{
+    is_of(kind, &entry.content) && entry.name.as_slice() == name
+}
+
+/// The record of this kind that the bytes are.
+fn read_record(alloc: Global, kind: Kind, bytes: &[u8]) -> Result<Record, Or<RefusedWhy>>
+    ensures { Answers result (refused_as (record_of kind bytes.now)) }
+{
+    let read = match kind {
+        Kind::Address => read_address(alloc, bytes).map(Record::Address),
+        Kind::Authorization => read_authorization(alloc, bytes).map(Record::Policy),
+    };
+    match read {
+        Ok(record) => Ok(record),
+        Err(Or::Fault(fault)) => Err(Or::Fault(RefusedWhy::Record(fault))),
+        Err(Or::NoMemory) => Err(Or::NoMemory),
+    }
+}
+
+impl Held {
+    /// Nothing is held.
+    pub fn new(alloc: Global) -> Held
+        ensures { result ≡ [] }
+    {
+        Held {
+            entries: Vec::new(alloc),
+        }
+    }
+
+    /// The entries, in the order in which their names came first.
+    pub fn entries(&self) -> &[Entry]
+        ensures { result.now ≡ self.now }
+    {
+        self.entries.as_slice()
+    }
+
+    /// Where the entry of this kind and name stands.
+    fn place_of(&self, kind: Kind, name: &[u8]) -> Option<usize>
+        ensures { result ≡ position (is_named kind name.now) self.now }
+    {
+        self.entries.iter().position(|entry| is_named(kind, name, entry))
+    }
+
+    /// Puts an entry at the place of the one of its kind and name, or behind all.
+    fn put(&mut self, place: Option<usize>, entry: Entry) -> Result<(), Or<RefusedWhy>>
+        requires { IfSome place (λ i. i < length self.old) }
+        ensures { Merges (put_at self.old place entry) self.new result }
+    {
+        match place {
+            Some(i) => self.entries[i] = entry,
+            None => {
+                if self.entries.len() >= MOST_HELD {
+                    return Err(Or::Fault(RefusedWhy::Full));
+                }
+                self.entries.push(entry)?;
+            }
+        }
+        Ok(())
+    }
+
+    /// Takes one resource of a response of this kind.
+    #[tactic(auto, unfolding(crate::specs::Held::with_resource))]
+    fn take(
+        &mut self,
+        alloc: Global,
+        kind: Kind,
+        resource: &Resource,
+    ) -> Result<(), Or<RefusedWhy>>
+        ensures { Merges (with_resource self.old kind resource.now) self.new result }
+    {
+        let name = resource.name.as_slice();
+        if name.is_empty() {
+            return Err(Or::Fault(RefusedWhy::NoName));
+        }
+        if resource.type_url.as_slice() != kind.type_url() {
+            return Err(Or::Fault(RefusedWhy::WrongType));
+        }
+        let content = read_record(alloc, kind, resource.value.as_slice())?;
+        let place = self.place_of(kind, name);
+        let entry = Entry {
+            name: resource.name.copy(alloc)?,
+            version: resource.version.copy(alloc)?,
+            content,
+        };
+        self.put(place, entry)
+    }
+
+    /// Takes the resources of a response of this kind, up to the first that is refused.
+    fn take_all(
+        &mut self,
+        alloc: Global,
+        kind: Kind,
+        resources: &[Resource],
+    ) -> Result<(), Or<RefusedWhy>>
+        ensures { Merges (with_resources self.old kind resources.now) self.new result }
+    {
+        for resource in resources {
+            self.take(alloc, kind, resource)?;
+        }
+        Ok(())
+    }
+
+    /// Takes a response, and tells whether it was taken whole: it removes no name, and none of its resources
+    /// is refused. Where it wasn't, what is held is a part of what it would leave.
+    #[tactic(auto, unfolding(crate::specs::Held::is_taken_whole, crate::specs::Held::after_response))]
+    pub fn apply(&mut self, alloc: Global, response: &Response) -> Result<bool, NoMemory>
+        ensures whole { IfOk result (λ whole. whole ≡ is_taken_whole self.old response.now) }
+        ensures held { IfOk result (λ whole. whole ≡ true → self.new ≡ after_response self.old response.now) }
+    {
+        if !response.removed.is_empty() {
+            return Ok(false);
+        }
+        match self.take_all(alloc, response.kind, response.resources.as_slice()) {
+            Ok(()) => Ok(true),
+            Err(Or::Fault(_)) => Ok(false),
+            Err(Or::NoMemory) => Err(NoMemory),
+        }
+    }
+}

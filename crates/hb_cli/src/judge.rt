@@ -1,0 +1,224 @@
+//! Is a peer admitted at a target by the resources held?
+
+ghost use Rattle.std.specs.Prelude.{◌≡◌, ◌&&◌, ◌||◌, not, false, filter};
+ghost use Rattle.std.specs.Cmp.Lexicographic.{slice_cmp};
+ghost use Rattle.std.specs.List.{list_any};
+ghost use Rattle.std.specs.Option.{option_copied, option_map_or};
+ghost use Rattle.std.specs.Ordering.{nat_cmp, is_lt};
+ghost use Rattle.hb_cli.specs.Policy.{principal, fires, is_for, is_deny, admitted_by};
+ghost use Rattle.hb_cli.specs.Judge.{workload_of, policy_of, ip_eq, has_address, is_at, lesser, least, known, policies, judged};
+
+use crate::held::{Entry, Held, Record};
+
+use crate::policy::{fires, is_for};
+use hb_base::{Ip, List, Peer, Target};
+use hb_records::{Action, AddressRecord, Authorization, Workload};
+use std::cmp::Ordering;
+
+/// What the resources held say of a peer at a target: admitted; the target is no workload of this node; or
+/// its policies refuse the peer.
+#[derive(Clone, Copy, Debug, PartialEq, Eq)]
+pub enum Judged {
+    Admitted,
+    Unknown,
+    Denied,
+}
+
+fn workload_of(record: &Record) -> Option<&Workload>
+    ensures { option_copied result ≡ workload_of record.now }
+{
+    match record {
+        Record::Address(AddressRecord::Workload(workload)) => Some(workload),
+        Record::Policy(_) => None,
+    }
+}
+
+fn is_same_ip(a: Ip, b: Ip) -> bool
+    ensures { result ≡ ip_eq a b }
+{
+    match (a, b) {
+        (Ip::V4(a), Ip::V4(b)) => a == b,
+        (Ip::V6(a), Ip::V6(b)) => a == b,
+        _ => false,
+    }
+}
+
+fn is_among(addresses: &List<Ip>, ip: Ip) -> bool
+    ensures { result ≡ list_any (λ a. ip_eq a ip) addresses.now }
+{
+    addresses
+        .as_slice()
+        .iter()
+        .any(|address| is_same_ip(*address, ip))
+}
+
+/// A workload of this network, whose name is empty, has the address.
+fn has_address(ip: Ip, workload: &Workload) -> bool
+    ensures { result ≡ has_address ip workload.now }
+{
+    workload.network.as_slice().is_empty() && is_among(&workload.addresses, ip)
+}
+
+fn is_at(ip: Ip, entry: &Entry) -> bool
+    ensures { result ≡ is_at ip entry.now }
+{
+    match workload_of(&entry.content) {
+        Some(workload) => has_address(ip, workload),
+        None => false,
+    }
+}
+
+/// The one text stands before the other, by its bytes.
+fn is_before(a: &[u8], b: &[u8]) -> bool
+    ensures { result ≡ is_lt (slice_cmp nat_cmp a.now b.now) }
+{
+    match a.cmp(b) {
+        Ordering::Less => true,
+        Ordering::Equal | Ordering::Greater => false,
+    }
+}
+
+/// The entry of the smaller name, by its bytes.
+fn lesser<'a>(entry: &'a Entry, other: Option<&'a Entry>) -> &'a Entry
+    ensures { result.now ≡ lesser entry.now (option_copied other.entry) }
+{
+    match other {
+        Some(other) => {
+            if is_before(other.name.as_slice(), entry.name.as_slice()) {
+                other
+            } else {
+                entry
+            }
+        }
+        None => entry,
+    }
+}
+
+/// Of the entries of this network's workloads with the address, the one of the smallest name.
+fn least_at(entries: &[Entry], ip: Ip) -> Option<&Entry>
+    ensures { option_copied result ≡ least (filter (is_at ip) entries.now) }
+{
+    let mut found: Option<&Entry> = None;
+    let mut left = entries.len();
+    while left > 0 {
+        left -= 1;
+        let entry = &entries[left];
+        if is_at(ip, entry) {
+            found = Some(lesser(entry, found));
+        }
+    }
+    found
+}
+
+/// The workload at the address, where its node is this one.
+fn known<'a>(held: &'a Held, node: &[u8], ip: Ip) -> Option<&'a Workload>
+    ensures { option_copied result ≡ known held.now node.now ip }
+{
+    let entry = least_at(held.entries(), ip)?;
+    let workload = workload_of(&entry.content)?;
+    if workload.node.as_slice() == node {
+        Some(workload)
+    } else {
+        None
+    }
+}
+
+fn policy_of(record: &Record) -> Option<&Authorization>
+    ensures { option_copied result ≡ policy_of record.now }
+{
+    match record {
+        Record::Address(_) => None,
+        Record::Policy(policy) => Some(policy),
+    }
+}
+
+fn is_deny(policy: &Authorization) -> bool
+    ensures { result ≡ is_deny policy.now.action }
+{
+    match policy.action {
+        Action::Deny => true,
+        Action::Allow => false,
+    }
+}
+
+/// The entry is a policy for the workload that denies the peer.
+fn denies(peer: &Peer, workload: &Workload, entry: &Entry) -> bool
+    ensures { result ≡ option_map_or (λ a. is_for workload.now a && (is_deny a.action && fires (principal peer.now) a)) (policy_of entry.now.content) false }
+{
+    match policy_of(&entry.content) {
+        Some(policy) => is_for(workload, policy) && is_deny(policy) && fires(policy, peer),
+        None => false,
+    }
+}
+
+/// The entry is a policy for the workload that allows peers.
+fn is_allow(workload: &Workload, entry: &Entry) -> bool
+    ensures { result ≡ option_map_or (λ a. is_for workload.now a && not (is_deny a.action)) (policy_of entry.now.content) false }
+{
+    match policy_of(&entry.content) {
+        Some(policy) => is_for(workload, policy) && !is_deny(policy),
+        None => false,
+    }
+}
+
+/// The entry is a policy for the workload that allows the peer.
+fn allows(peer: &Peer, workload: &Workload, entry: &Entry) -> bool
+    ensures { result ≡ option_map_or (λ a. is_for workload.now a && (not (is_deny a.action) && fires (principal peer.now) a)) (policy_of entry.now.content) false }
+{
+    match policy_of(&entry.content) {
+        Some(policy) => is_for(workload, policy) && !is_deny(policy) && fires(policy, peer),
+        None => false,
+    }
+}
+
+fn any_denies(entries: &[Entry], peer: &Peer, workload: &Workload) -> bool
+    ensures { result ≡ list_any (λ e. option_map_or (λ a. is_for workload.now a && (is_deny a.action && fires (principal peer.now) a)) (policy_of e.content) false) entries.now }
+{
+    entries.iter().any(|entry| denies(peer, workload, entry))
+}
+
+fn any_is_allow(entries: &[Entry], workload: &Workload) -> bool
+    ensures { result ≡ list_any (λ e. option_map_or (λ a. is_for workload.now a && not (is_deny a.action)) (policy_of e.content) false) entries.now }
+{
+    entries.iter().any(|entry| is_allow(workload, entry))
+}
+
+fn any_allows(entries: &[Entry], peer: &Peer, workload: &Workload) -> bool
+    ensures { result ≡ list_any (λ e. option_map_or (λ a. is_for workload.now a && (not (is_deny a.action) && fires (principal peer.now) a)) (policy_of e.content) false) entries.now }
+{
+    entries.iter().any(|entry| allows(peer, workload, entry))
+}
+
+/// No DENY fires, and there is no ALLOW or one fires.
+fn tally(denied: bool, has_allow: bool, allowed: bool) -> bool
+    ensures { result ≡ (not denied && (not has_allow || allowed)) }
+{
+    !denied && (!has_allow || allowed)
+}
+
+/// The policies for the workload admit the peer.
+fn is_admitted(entries: &[Entry], peer: &Peer, workload: &Workload) -> bool
+    ensures { result ≡ admitted_by (principal peer.now) (policies entries.now workload.now) }
+{
+    tally(
+        any_denies(entries, peer, workload),
+        any_is_allow(entries, workload),
+        any_allows(entries, peer, workload),
+    )
+}
+
+/// Judges a peer at a target, by the resources held at this node.
+pub fn judge(held: &Held, node: &[u8], peer: &Peer, target: Target) -> Judged
+    ensures { result ≡ judged held.now node.now peer.now target }
+{
+    match known(held, node, target.ip) {
+        None => Judged::Unknown,
+        Some(workload) => {
+            if is_admitted(held.entries(), peer, workload) {
+                Judged::Admitted
+            } else {
+                Judged::Denied
+            }
+        }
+    }
+}
