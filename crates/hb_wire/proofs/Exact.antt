@@ -6,7 +6,7 @@ use Rattle.std.proofs.lemmas.List.{append-nil}
 use Rattle.hb_wire.specs.declared.fault.WireFault.{WireFault}
 use Rattle.hb_wire.specs.Field.{Unread, Content, field_in, next_in, ◌>>=◌}
 use Rattle.hb_wire.specs.Message.{Message, message_of, with_first}
-use Rattle.hb_wire.specs.Spelling.{IsOctet, SpellsMessage, NoField}
+use Rattle.hb_wire.specs.Spelling.{IsOctet, SpellsNext, SpellsMessage, NoField}
 use Rattle.hb_wire.proofs.Messages.{next_cases, next_is_shorter, message-end, message-fault, message-field}
 use Rattle.hb_wire.specs.Breaks.{BreaksField, EndsWith, SpellsUpTo}
 use Rattle.hb_wire.proofs.Varints.{at_ok}
@@ -26,7 +26,7 @@ end_cases true r e = refl
 end_cases false (Ok f) e = absurd cc
 end_cases false (Err d) e = absurd cc
 
-nothing_left : (u : Unread) → next_in u ≡ Ok None → u.left ≡ []
+pub nothing_left : (u : Unread) → next_in u ≡ Ok None → u.left ≡ []
 nothing_left u e = empty u.left (eqb-true (length u.left) 0 (end_cases (length u.left == 0) (field_in u) e))
 
 fault_cases : (b : Bool) (r : Result (Content × Unread) WireFault) (d : WireFault) → cond b (Ok None) (r >>= λ f. Ok (Some f)) ≡ Err d → (b ≡ false) × (r ≡ Err d)
@@ -34,13 +34,34 @@ fault_cases true r d e = absurd cc
 fault_cases false (Ok f) d e = absurd cc
 fault_cases false (Err c) d e = (refl, cc)
 
+-- a field that is read is in front
+pub next_spelled : (u v : Unread) (f : Content) → All IsOctet u.left → next_in u ≡ Ok (Some (f, v)) → SpellsNext u f v
+next_spelled u v f octets e =
+    let c = next_cases (length u.left == 0) (field_in u) (f, v) e in
+    let s = at_ok (field_in u) _ (f, v) (field_spelled u octets) c.1 in
+    (s.0, s.2.left, s.2.at, s.1)
+
+-- a field that is in front is read
+pub next_of_spelled : (u v : Unread) (f : Content) → SpellsNext u f v → next_in u ≡ Ok (Some (f, v))
+next_of_spelled u v f (front, left, at, s) =
+    ap (λ (l : List ℕ). next_in (record { at = u.at; left = l })) left ∙ next_read front v.left u.at f s ∙ ap (λ (k : ℕ). Ok (Some (f, record { at = k; left = v.left }))) (sym at)
+
+pub end_of_nothing : (u : Unread) → u.left ≡ [] → next_in u ≡ Ok None
+end_of_nothing u e = rw e refl
+
+-- where the bytes are broken the next field is refused
+pub next_refused : (u : Unread) (d : WireFault) → EndsWith u.at u.left (Some d) → next_in u ≡ Err d
+next_refused u d (some, broken) =
+    let filled : (length u.left ≡ 0 → ⊥) = λ e. omega arith in
+    rw (ne_eqb (length u.left) 0 filled, field_refused u d broken) refl
+
 by_next : (r : Result (Option (Content × Unread)) WireFault) (P : Type 0) → (r ≡ Ok None → P) → ((f : Content) (v : Unread) → r ≡ Ok (Some (f, v)) → P) → ((d : WireFault) → r ≡ Err d → P) → P
 by_next (Ok None) P a b c = a refl
 by_next (Ok (Some p)) P a b c = b p.0 p.1 refl
 by_next (Err d) P a b c = c d refl
 
 -- where the next field is refused, what is left is broken
-refused : (u : Unread) (d : WireFault) → All IsOctet u.left → next_in u ≡ Err d → EndsWith u.at u.left (Some d)
+pub refused : (u : Unread) (d : WireFault) → All IsOctet u.left → next_in u ≡ Err d → EndsWith u.at u.left (Some d)
 refused u d octets e =
     let c = fault_cases (length u.left == 0) (field_in u) d e in
     let some = eqb-false (length u.left) 0 c.0 in
@@ -83,9 +104,7 @@ spelled_up_to : (fields : List Content) (fault : Option WireFault) (at : ℕ) (f
 spelled_up_to [] None at front behind none ends = rw (none, ends) (message-end (record { at = at; left = [] }) refl)
 spelled_up_to [] (Some d) at front behind none (some, broken) =
     let here : at + length front ≡ at = rw none (add-zero at) in
-    let filled : (length behind ≡ 0 → ⊥) = λ e. omega arith in
-    rw none (message-fault (record { at = at; left = behind }) d
-    (rw (ne_eqb (length behind) 0 filled, field_refused (record { at = at; left = behind }) d (subst (λ (k : ℕ). BreaksField k behind d) here broken)) refl))
+    rw none (message-fault (record { at = at; left = behind }) d (next_refused (record { at = at; left = behind }) d (some, subst (λ (k : ℕ). BreaksField k behind d) here broken)))
 spelled_up_to (f ∷ fields) fault at front behind (one, more, cut, s, rest) ends =
     let on : at + length front ≡ at + length one + length more = let size : length front ≡ length one + length more = ap length cut ∙ length-append one more in omega arith in
     rw (cut, append_assoc one more behind) (message-field (record { at = at; left = one ++ (more ++ behind) }) (record { at = at + length one; left = more ++ behind }) f (next_read one (more ++ behind) at f s)

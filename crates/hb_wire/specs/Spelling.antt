@@ -1,7 +1,7 @@
 -- How bytes spell the fields of a message (Protocol Buffers encoding guide), said without a reader.
 use Rattle.std.specs.Prelude.{◌≡◌, ℕ, ◌+◌, ◌*◌, ◌^◌, ◌<◌, ◌≤◌, List, [], ◌∷◌, ◌++◌, length}
 use Rattle.std.specs.Int.{w32, w64, from_le_bytes}
-use Rattle.hb_wire.specs.Field.{Value, varint, eight, span, four, Content}
+use Rattle.hb_wire.specs.Field.{Unread, Value, varint, eight, span, four, Content}
 
 abbrev pub IsOctet : ℕ → Type 0
 IsOctet b = b < 256
@@ -52,3 +52,7 @@ SpellsMessage at bytes (f ∷ fs) = (front : List ℕ) × (behind : List ℕ) ×
 -- no field is in front of the bytes at a place
 abbrev pub NoField : ℕ → List ℕ → Type 0
 NoField at bytes = (front behind : List ℕ) (f : Content) → bytes ≡ front ++ behind → SpellsField at front f → ⊥
+
+-- what is unread begins with a field, and what is behind it is unread after it
+abbrev pub SpellsNext : Unread → Content → Unread → Type 0
+SpellsNext u f v = (front : List ℕ) × (u.left ≡ front ++ v.left) × (v.at ≡ u.at + length front) × SpellsField u.at front f

@@ -1,12 +1,20 @@
 //! Reading against spelling: laws of messages, said of all bytes at once.
 
-ghost use Rattle.std.specs.Prelude.{◌≡◌, ◌↔◌, ℕ, List, Option, None};
+ghost use Rattle.std.specs.Prelude.{◌≡◌, ◌↔◌, ◌<◌, ℕ, List, [], Option, Some, None, Ok, Err, length};
 ghost use Rattle.std.specs.List.{All};
 ghost use Rattle.hb_wire.specs.Breaks.{BreaksField, SpellsUpTo};
-ghost use Rattle.hb_wire.specs.Field.{Content};
+ghost use Rattle.hb_wire.specs.Field.{Content, Unread, next_in};
 ghost use Rattle.hb_wire.specs.Message.{message_of};
-ghost use Rattle.hb_wire.specs.Spelling.{IsOctet, SpellsMessage, NoField};
+ghost use Rattle.hb_wire.specs.Spelling.{IsOctet, SpellsNext, SpellsMessage, NoField};
 ghost use Rattle.hb_wire.specs.declared.fault.WireFault.{WireFault as Fault};
+
+/// The next field is the one that the bytes begin with; there is none where no byte is left, and a fault
+/// where the bytes are broken so.
+pub fn the_next_field_is_what_its_bytes_spell()
+    ensures field { (u v : Unread) (f : Content) → All IsOctet u.left → (next_in u ≡ Ok (Some (f, v))) ↔ SpellsNext u f v }
+    ensures end { (u : Unread) → (next_in u ≡ Ok None) ↔ (u.left ≡ []) }
+    ensures fault { (u : Unread) (fault : Fault) → All IsOctet u.left → (next_in u ≡ Err fault) ↔ ((0 < length u.left) × BreaksField u.at u.left fault) }
+{}
 
 /// A message without a fault is the list of fields that its bytes spell, and bytes spell one list at most.
 /// With a fault it is the fields that its bytes begin with, and behind them bytes that are broken so; where
