@@ -1,0 +1,10 @@
+pub mod Buffers
+pub mod Faults
+pub mod FrameLists
+pub mod Histories
+pub mod Padding
+pub mod ReadBack
+pub mod Readings
+pub mod Runs
+pub mod Settings
+pub mod Spelling

@@ -1,0 +1,13 @@
+pub mod Bodies
+pub mod Calls
+pub mod Frames
+pub mod History
+pub mod Laws
+pub mod Octets
+pub mod RawFrame
+pub mod Reading
+pub mod Refusals
+pub mod Rests
+pub mod Seen
+pub mod Shapes
+pub mod Stored

@@ -1,0 +1,7 @@
+use Rattle.std.specs.Prelude.{ℕ, List}
+use Rattle.hb_frames.specs.RawFrame.{RawFrame}
+use Rattle.hb_frames.specs.declared.head.Head.{Head}
+
+-- the frame of a header and a payload
+abbrev pub seen : Head → List ℕ → RawFrame
+seen head payload = record { kind = head.kind; flags = head.flags; stream = head.stream; payload = payload }

@@ -1,0 +1,203 @@
+//! The refusals that one frame alone can tell.
+
+ghost use Rattle.std.specs.Prelude.{◌≡◌, ◌+◌, ◌*◌, ◌≤◌, [], length, slice_index, IfNone};
+ghost use Rattle.hb_frames.specs.Seen.{seen};
+ghost use Rattle.hb_frames.specs.Refusals.{refuses, stream_refusal, padding_refusal, size_refusal, front_len, padding_len, is_padded, has_priority, has_wrong_size, is_refused_setting, settings, value_refusal, first_refusal};
+ghost use Rattle.hb_frames.specs.Shapes.{PaddingFits, NumbersFit, IsShaped};
+ghost use Rattle.hb_frames.specs.Octets.{four_at};
+ghost use Rattle.std.specs.List.{list_any};
+
+use crate::head::{Head, word_at};
+use crate::kind::{
+    ACK_FLAG, GOAWAY, HEADERS, PADDED_FLAG, PING, PRIORITY, PRIORITY_FLAG, PUSH_PROMISE,
+    RST_STREAM, SETTINGS, WINDOW_UPDATE,
+};
+
+/// An error code (RFC 9113 section 7) and the row of the refusal table that gives it.
+#[derive(Clone, Copy)]
+pub(crate) struct Refusal {
+    pub code: u32,
+    pub row: u32,
+}
+
+const PROTOCOL_ERROR: u32 = 1;
+
+const FRAME_SIZE_ERROR: u32 = 6;
+
+const ENABLE_PUSH: u32 = 2;
+
+const MAX_FRAME_SIZE: u32 = 5;
+
+/// DATA, HEADERS, PRIORITY and RST_STREAM belong to a stream, SETTINGS, PING and GOAWAY to the
+/// connection; PUSH_PROMISE is never allowed.
+fn stream_refusal(head: Head) -> Option<Refusal>
+    ensures { result ≡ stream_refusal (seen head []) }
+{
+    let of_connection = head.kind == SETTINGS || head.kind == PING || head.kind == GOAWAY;
+    if head.kind <= RST_STREAM && head.stream == 0 {
+        Some(Refusal {
+            code: PROTOCOL_ERROR,
+            row: 5,
+        })
+    } else if of_connection && head.stream != 0 {
+        Some(Refusal {
+            code: PROTOCOL_ERROR,
+            row: 6,
+        })
+    } else if head.kind == PUSH_PROMISE {
+        Some(Refusal {
+            code: PROTOCOL_ERROR,
+            row: 7,
+        })
+    } else {
+        None
+    }
+}
+
+fn is_padded(head: Head) -> bool
+    ensures { result ≡ is_padded (seen head []) }
+{
+    head.kind <= HEADERS && head.flags & PADDED_FLAG != 0
+}
+
+/// The octets in front of the content: the padding's length, and a priority's five.
+pub(crate) fn front_len(head: Head) -> usize
+    ensures value { result ≡ front_len (seen head []) }
+    ensures small { result ≤ 6 }
+{
+    let padding_field = if is_padded(head) { 1 } else { 0 };
+    let priority = if head.kind == HEADERS && head.flags & PRIORITY_FLAG != 0 {
+        5
+    } else {
+        0
+    };
+    padding_field + priority
+}
+
+pub(crate) fn padding_len(head: Head, payload: &[u8]) -> usize
+    requires { front_len (seen head payload.now) ≤ length payload.now }
+    ensures value { result ≡ padding_len (seen head payload.now) }
+    ensures small { result ≤ 255 }
+{
+    if is_padded(head) {
+        payload[0] as usize
+    } else {
+        0
+    }
+}
+
+fn padding_refusal(head: Head, payload: &[u8]) -> Option<Refusal>
+    ensures value { result ≡ padding_refusal (seen head payload.now) }
+    ensures fits { IfNone result (PaddingFits (seen head payload.now)) }
+{
+    let front = front_len(head);
+    if payload.len() < front {
+        Some(Refusal {
+            code: FRAME_SIZE_ERROR,
+            row: 8,
+        })
+    } else if payload.len() < front + padding_len(head, payload) {
+        Some(Refusal {
+            code: PROTOCOL_ERROR,
+            row: 9,
+        })
+    } else {
+        None
+    }
+}
+
+fn has_wrong_size(head: Head, payload: &[u8]) -> bool
+    ensures { result ≡ has_wrong_size (seen head payload.now) }
+{
+    let size = payload.len();
+    match head.kind {
+        PRIORITY => size != 5,
+        RST_STREAM => size != 4,
+        SETTINGS => size % 6 != 0 || (head.flags & ACK_FLAG != 0 && size != 0),
+        PING => size != 8,
+        GOAWAY => size < 8,
+        WINDOW_UPDATE => size != 4,
+        _ => false,
+    }
+}
+
+fn size_refusal(head: Head, payload: &[u8]) -> Option<Refusal>
+    ensures value { result ≡ size_refusal (seen head payload.now) }
+    ensures fits { IfNone result (NumbersFit (seen head payload.now)) }
+{
+    if has_wrong_size(head, payload) {
+        Some(Refusal {
+            code: FRAME_SIZE_ERROR,
+            row: 10,
+        })
+    } else {
+        None
+    }
+}
+
+/// Whether the first setting of the payload is out of its range.
+fn is_refused_setting(settings: &[u8]) -> bool
+    requires { 6 ≤ length settings.now }
+    ensures { result
+        ≡ is_refused_setting (slice_index settings.now 0 * 256 + slice_index settings.now 1, four_at settings.now 2) }
+{
+    let identifier = settings[0] as u32 * 0x100 + settings[1] as u32;
+    let value = word_at(settings, 2);
+    match identifier {
+        ENABLE_PUSH => value > 1,
+        MAX_FRAME_SIZE => value < 0x4000 || value > 0xff_ffff,
+        _ => false,
+    }
+}
+
+fn has_refused_setting(payload: &[u8]) -> bool
+    ensures { result ≡ list_any is_refused_setting (settings payload.now) }
+{
+    let mut left = payload;
+    while left.len() >= 6 {
+        if is_refused_setting(left) {
+            return true;
+        }
+        left = left.split_at(6).1;
+    }
+    false
+}
+
+fn value_refusal(head: Head, payload: &[u8]) -> Option<Refusal>
+    requires { size_refusal (seen head payload.now) ≡ None }
+    ensures { result ≡ value_refusal (seen head payload.now) }
+{
+    if head.kind == SETTINGS && has_refused_setting(payload) {
+        Some(Refusal {
+            code: PROTOCOL_ERROR,
+            row: 11,
+        })
+    } else if head.kind == WINDOW_UPDATE
+        && head.stream == 0
+        && word_at(payload, 0) % 0x8000_0000 == 0
+    {
+        Some(Refusal {
+            code: PROTOCOL_ERROR,
+            row: 13,
+        })
+    } else {
+        None
+    }
+}
+
+/// The first row that refuses the frame, of those that one frame alone can tell.
+pub(crate) fn first_refusal(head: Head, payload: &[u8]) -> Option<Refusal>
+    ensures value { result ≡ first_refusal (seen head payload.now) }
+    ensures shaped { IfNone result (IsShaped (seen head payload.now)) }
+{
+    if let Some(refused) = stream_refusal(head) {
+        return Some(refused);
+    }
+    if let Some(refused) = padding_refusal(head, payload) {
+        return Some(refused);
+    }
+    if let Some(refused) = size_refusal(head, payload) {
+        return Some(refused);
+    }
+    value_refusal(head, payload)
+}

@@ -1,0 +1,94 @@
+ghost use Rattle.std.specs.Prelude.{◌≡◌, ◌≤◌, pos, ◌+ℤ◌, ◌-ℤ◌, ◌≤ℤ◌};
+ghost use Rattle.hb_windows.specs.Sending.{largest, Moves};
+
+use crate::overrun::Overrun;
+use std::marker::Model;
+
+/// The largest size and the largest content of a window (RFC 9113 section 6.9.1).
+const LARGEST: i64 = 2_147_483_647;
+
+/// The octets of DATA that this end may still send on a stream or a connection (RFC 9113 sections 5.2
+/// and 6.9). A change of the peer's initial window size may take it below zero.
+#[derive(Debug, Drop)]
+pub struct SendWindow {
+    held: i64,
+    size: u32,
+}
+
+impl Model for SendWindow {
+    ghost use Rattle.std.specs.Prelude.{◌≤◌, pos, ◌+ℤ◌, ◌≤ℤ◌};
+    ghost use Rattle.hb_windows.specs.Sending.{Sending, largest};
+
+    ghost Value = { Sending };
+
+    ghost view = { λ w. record { held = w.held; size = w.size } };
+
+    ghost invariant = { λ w.
+        (w.size ≤ largest) × (pos w.size ≤ℤ (w.held +ℤ pos largest)) × (w.held ≤ℤ pos largest) };
+}
+
+impl SendWindow {
+    /// A window of an initial size in octets.
+    pub fn new(size: u32) -> SendWindow
+        requires { size ≤ largest }
+        ensures { result ≡ record { held = pos size; size = size } }
+    {
+        SendWindow {
+            held: size as i64,
+            size,
+        }
+    }
+
+    /// The octets that may be sent; below zero where as many must be granted before any may be sent.
+    pub fn held(&self) -> i64
+        ensures value { result ≡ self.now.held }
+        // A resize takes away at most the size before it.
+        ensures least { pos self.now.size ≤ℤ (result +ℤ pos largest) }
+        ensures most { result ≤ℤ pos largest }
+    {
+        self.held
+    }
+
+    /// Takes away the octets of a DATA frame that is sent.
+    pub fn spend(&mut self, n: u32)
+        requires { pos n ≤ℤ self.old.held }
+        ensures { self.new ≡ record self.old { held = self.old.held -ℤ pos n } }
+    {
+        self.held -= n as i64;
+    }
+
+    /// Adds the increment of a WINDOW_UPDATE frame (RFC 9113 section 6.9).
+    pub fn grant(&mut self, n: u32) -> Result<(), Overrun>
+        ensures { Moves self.old self.new result (pos n) self.old.size }
+    {
+        let held = self.held + n as i64;
+        if held > LARGEST {
+            return Err(Overrun {
+                held: self.held,
+                asked: n as i64,
+            });
+        }
+        self.held = held;
+        Ok(())
+    }
+
+    /// Changes the initial size from `old` to `new` by SETTINGS_INITIAL_WINDOW_SIZE (RFC 9113 section
+    /// 6.9.2): the window moves by the difference, also below zero.
+    pub fn resize(&mut self, old: u32, new: u32) -> Result<(), Overrun>
+        requires last_size { old ≡ self.old.size }
+        requires in_range { new ≤ largest }
+        ensures { Moves self.old self.new result (pos new -ℤ pos old) new }
+    {
+        let by = new as i64 - old as i64;
+        let held = self.held + by;
+        if held > LARGEST {
+            return Err(Overrun {
+                held: self.held,
+                asked: by,
+            });
+        }
+        self.held = held;
+        self.size = new;
+        Ok(())
+    }
+}
