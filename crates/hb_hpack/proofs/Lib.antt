@@ -1,0 +1,6 @@
+pub mod CodeTable
+pub mod Bits
+pub mod Reading
+pub mod Taking
+pub mod Writing
+pub mod Integers
