@@ -4,3 +4,5 @@ pub mod Reading
 pub mod Taking
 pub mod Writing
 pub mod Integers
+pub mod StaticHeaders
+pub mod Fitting

@@ -45,6 +45,9 @@ pub record AreWritten (all bs : List ℕ) : Type 0 where
   pub short : padding ≤ 7
   pub joined : all ≡ bs ++ replicate padding 1
 
+regrouped : (front : List ℕ) (b : ℕ) (bs ones : List ℕ) → (front ++ b ∷ []) ++ (bs ++ ones) ≡ (front ++ b ∷ bs) ++ ones
+regrouped front b bs ones = append_assoc front (b ∷ []) (bs ++ ones) ∙ sym (append_assoc front (b ∷ bs) ones)
+
 bits_written : (bs : List ℕ) (byte count : ℕ) → AllByRecursion (λ b. b < 2) bs → count < 8 → AreWritten (bits_of (bytes_from byte count bs)) (bits count byte ++ bs)
 unfolding bits
 bits_written [] byte count small lt =
@@ -75,7 +78,8 @@ bits_written (b ∷ bs) byte count small lt =
             short = r.short;
             joined = first ∙ ap (λ (xs : List ℕ). bits 8 (2 * byte + b) ++ xs) r.joined
                 ∙ ap (λ (xs : List ℕ). xs ++ (bs ++ replicate r.padding 1)) pushed
-                ∙ rw (append_assoc, append_assoc, e) refl;
+                ∙ regrouped (bits 7 byte) b bs (replicate r.padding 1)
+              ∙ ap (λ k. (bits k byte ++ b ∷ bs) ++ replicate r.padding 1) (sym e);
           }
       | inr ne ↦
           let r = bits_written bs (2 * byte + b) (count + 1) small.1 (omega (arith, ne)) in

@@ -1,6 +1,10 @@
+pub mod Grown
 pub mod Huffman
 pub mod Tables
 pub mod HuffmanSteps
-pub mod Grown
 pub mod Outcome
 pub mod Integer
+pub mod StaticTable
+pub mod Table
+pub mod Literal
+pub mod Block

@@ -3,10 +3,15 @@
 #![tactic(auto)]
 
 mod code_table;
+mod dynamic_table;
 mod fault;
+mod header;
 mod huffman;
 mod integer;
+mod literal;
 mod partial;
+mod static_table;
 
 pub use fault::{HpackFault, HpackWhy};
+pub use header::{Header, HeaderList};
 pub use huffman::{huffman_put, huffman_read};
