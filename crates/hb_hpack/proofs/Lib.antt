@@ -6,3 +6,4 @@ pub mod Writing
 pub mod Integers
 pub mod StaticHeaders
 pub mod Fitting
+pub mod Entries

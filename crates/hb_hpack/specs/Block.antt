@@ -67,6 +67,12 @@ literal_at table prefix bytes = do
   value ← string_at name.1
   Ok (header name.0 value.0, value.1)
 
+-- an indexed header, and the bytes behind it
+unfoldable pub indexed_at : Table → List ℕ → Result (Header × List ℕ) Stop
+indexed_at table bytes = do
+  i ← integer_at 7 bytes
+  entry_or (entry_at table i.0) i.1 >>= λ h. Ok (h, i.1)
+
 -- what one representation gives
 pub record Field : Type 0 where
   pub header : Header
@@ -80,7 +86,7 @@ field h next rest = record { header = h; next = next; rest = rest }
 unfoldable pub field_at : Table → List ℕ → Result Field Stop
 field_at table [] = Err (stop 0 Truncated)
 field_at table (b ∷ bs) =
-    if nat_le 128 b then (integer_at 7 (b ∷ bs) >>= λ i. entry_or (entry_at table i.0) i.1 >>= λ h. Ok (field h table i.1))
+    if nat_le 128 b then (indexed_at table (b ∷ bs) >>= λ l. Ok (field l.0 table l.1))
     else (if nat_le 64 b then (literal_at table 6 (b ∷ bs) >>= λ l. Ok (field l.0 (added table l.0) l.1))
     else (if nat_le 32 b then Err (stop (length (b ∷ bs)) LateSize)
     else (literal_at table 4 (b ∷ bs) >>= λ l. Ok (field l.0 table l.1))))

@@ -10,6 +10,7 @@ mod huffman;
 mod integer;
 mod literal;
 mod partial;
+mod representation;
 mod static_table;
 
 pub use fault::{HpackFault, HpackWhy};
