@@ -7,3 +7,7 @@ pub mod Integers
 pub mod StaticHeaders
 pub mod Fitting
 pub mod Entries
+pub mod Outcomes
+pub mod Groups
+pub mod Strings
+pub mod Representations
