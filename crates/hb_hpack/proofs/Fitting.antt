@@ -30,9 +30,9 @@ fitting_push room (x ∷ hs) h lt =
     elim (cases_lt room (size_of x)) [
       | inl small ↦ fitting_none room x (hs ++ h ∷ []) small ∙ sym (fitting_none room x hs small)
       | inr le ↦
-        fitting_more room x (hs ++ h ∷ []) le
-        ∙ ap (λ (xs : List Header). x ∷ xs) (fitting_push (room - size_of x) hs h (omega arith))
-        ∙ sym (fitting_more room x hs le)
+          fitting_more room x (hs ++ h ∷ []) le
+          ∙ ap (λ (xs : List Header). x ∷ xs) (fitting_push (room - size_of x) hs h (omega arith))
+          ∙ sym (fitting_more room x hs le)
     ]
 
 -- what fits sums to no more than the room
@@ -49,3 +49,9 @@ pub fitting_zero : (hs : List Header) → fitting 0 hs ≡ []
 unfolding fitting
 fitting_zero [] = refl
 fitting_zero (h ∷ hs) = fitting_none 0 h hs (omega arith)
+
+-- one header more in a list
+pub kept_more : (headers : List Header) (h : Header) → total (headers ++ h ∷ []) ≤ 16384 → fitting 16384 (headers ++ h ∷ []) ≡ fitting 16384 headers ++ h ∷ []
+kept_more headers h le =
+    let sum : total (headers ++ h ∷ []) ≡ total headers + (size_of h + 0) = total-append headers (h ∷ []) in
+    fitting_all 16384 (headers ++ h ∷ []) le ∙ ap (λ (hs : List Header). hs ++ h ∷ []) (sym (fitting_all 16384 headers (omega arith)))

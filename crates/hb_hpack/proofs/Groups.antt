@@ -31,7 +31,7 @@ groups_take (b ∷ bytes) (suc left) weight n value rest o e =
     elim (chosen (ltb (n + b % 128 * weight) (2 ^ 32)) _ _ _ e) [
       | inr p ↦ absurd (no_value _ _ p.1)
       | inl p ↦ elim (chosen (ltb b 128) _ _ _ p.1) [
-          | inl q ↦
+        | inl q ↦
             let small : b < 128 = ltb-true b 128 q.0 in
             let is = ok_is (n + b % 128 * weight, bytes) (value, rest) q.1 in
             let value_is : n + b % 128 * weight ≡ value = ap (λ (x : ℕ × List ℕ). x.0) is in
@@ -46,7 +46,7 @@ groups_take (b ∷ bytes) (suc left) weight n value rest o e =
               value_is = sym value_is ∙ rw low (omega arith);
               small = omega (arith, ltb-true _ _ p.0);
             }
-          | inr q ↦
+        | inr q ↦
             let r = groups_take bytes left (128 * weight) (n + b % 128 * weight) value rest o.1 q.1 in
             record {
               groups = b ∷ r.groups;
@@ -57,7 +57,7 @@ groups_take (b ∷ bytes) (suc left) weight n value rest o e =
               value_is = r.value_is ∙ omega arith;
               small = r.small;
             }
-        ]
+      ]
     ]
 
 pub groups_again : (groups : List ℕ) (high : ℕ) (rest : List ℕ) (left weight n : ℕ) → AreGroups groups high → length groups ≤ left → n + weight * high < 2 ^ 32
@@ -90,27 +90,27 @@ unfolding integer_at
 integer_take prefix flag b bytes n rest o flag_is e =
     elim (chosen (ltb (b % 2 ^ prefix) (full prefix)) _ _ _ e) [
       | inl p ↦
-        let is = ok_is (b % 2 ^ prefix, bytes) (n, rest) p.1 in
-        let n_is : b % 2 ^ prefix ≡ n = ap (λ (x : ℕ × List ℕ). x.0) is in
-        let rest_is : bytes ≡ rest = ap (λ (x : ℕ × List ℕ). x.1) is in
-        let lt : n < full prefix = omega (arith, ltb-true _ _ p.0) in
-        let first : b ≡ flag + n = omega arith in
-        record {
-          front = b ∷ [];
-          parts = ap (λ (xs : List ℕ). b ∷ xs) rest_is;
-          is = IsInteger.within lt (ap (λ x. x ∷ []) first);
-        }
+          let is = ok_is (b % 2 ^ prefix, bytes) (n, rest) p.1 in
+          let n_is : b % 2 ^ prefix ≡ n = ap (λ (x : ℕ × List ℕ). x.0) is in
+          let rest_is : bytes ≡ rest = ap (λ (x : ℕ × List ℕ). x.1) is in
+          let lt : n < full prefix = omega (arith, ltb-true _ _ p.0) in
+          let first : b ≡ flag + n = omega arith in
+          record {
+            front = b ∷ [];
+            parts = ap (λ (xs : List ℕ). b ∷ xs) rest_is;
+            is = IsInteger.within lt (ap (λ x. x ∷ []) first);
+          }
       | inr p ↦
-        let r = groups_take bytes 5 1 (full prefix) n rest o.1 p.1 in
-        let le : full prefix ≤ b % 2 ^ prefix = ltb-false _ _ p.0 in
-        let below : b % 2 ^ prefix < 2 ^ prefix = omega (arith, pow_pos prefix) in
-        let low : b % 2 ^ prefix ≡ full prefix = omega arith in
-        let first : b ≡ flag + full prefix = flag_is ∙ ap (λ x. flag + x) low in
-        record {
-          front = b ∷ r.groups;
-          parts = ap (λ (xs : List ℕ). b ∷ xs) r.parts;
-          is = IsInteger.beyond r.groups r.high (ap (λ x. x ∷ r.groups) first) r.are r.few (omega (arith, r.value_is)) r.small;
-        }
+          let r = groups_take bytes 5 1 (full prefix) n rest o.1 p.1 in
+          let le : full prefix ≤ b % 2 ^ prefix = ltb-false _ _ p.0 in
+          let below : b % 2 ^ prefix < 2 ^ prefix = omega (arith, pow_pos prefix) in
+          let low : b % 2 ^ prefix ≡ full prefix = omega arith in
+          let first : b ≡ flag + full prefix = flag_is ∙ ap (λ x. flag + x) low in
+          record {
+            front = b ∷ r.groups;
+            parts = ap (λ (xs : List ℕ). b ∷ xs) r.parts;
+            is = IsInteger.beyond r.groups r.high (ap (λ x. x ∷ r.groups) first) r.are r.few (omega (arith, r.value_is)) r.small;
+          }
     ]
 
 low_of : (prefix flag n : ℕ) → flag % 2 ^ prefix ≡ 0 → n < 2 ^ prefix → (flag + n) % 2 ^ prefix ≡ n

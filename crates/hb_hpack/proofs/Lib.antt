@@ -11,3 +11,4 @@ pub mod Outcomes
 pub mod Groups
 pub mod Strings
 pub mod Representations
+pub mod Blocks

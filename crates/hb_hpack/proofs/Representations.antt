@@ -1,5 +1,5 @@
 -- What is read as a header's representation is one, and a representation is read.
-use Rattle.std.proofs.Common.{◌≡◌, ℕ, zero, suc, ◌+◌, ◌-◌, ◌%◌, ◌^◌, ◌<◌, ◌≤◌, Bool, true, false, cond, eqb, ltb, leb, List, [], ◌∷◌, ◌++◌, length, Option, Some, None, Result, Ok, Err, refl, sym, ap, subst, ◌∙◌, arith, append_assoc, inl, inr}
+use Rattle.std.proofs.Common.{◌≡◌, ℕ, zero, suc, ◌+◌, ◌-◌, ◌%◌, ◌^◌, ◌<◌, ◌≤◌, Bool, true, false, cond, eqb, ltb, leb, List, [], ◌∷◌, ◌++◌, length, Option, Some, None, Result, Ok, Err, refl, sym, ap, subst, ◌∙◌, arith, append_assoc, inl, inr, ◌⊎◌}
 use Rattle.std.proofs.lemmas.Bool.{eqb-true, eqb-false, eq-eqb, ne_eqb, leb-true, leb-false, le-leb, lt-leb, cases_lt}
 use Rattle.std.proofs.lemmas.List.{append-nil}
 use Rattle.hb_hpack.specs.declared.header.Header.{Header}
@@ -35,24 +35,24 @@ name_take table prefix flag b bytes name rest o flag_is e =
     let i = integer_take prefix flag b bytes n.0.0 n.0.1 o flag_is n.1 in
     elim (chosen (eqb n.0.0 0) _ _ _ n.2) [
       | inl p ↦
-        let zero_is : IsInteger prefix flag 0 i.front = subst (λ k. IsInteger prefix flag k i.front) (eqb-true _ _ p.0) i.is in
-        let octets : AreOctets n.0.1 = octets_back i.front n.0.1 (subst AreOctets i.parts o) in
-        let s = string_take n.0.1 name rest octets p.1 in
-        record {
-          front = i.front ++ s.front;
-          parts = i.parts ∙ ap (λ (xs : List ℕ). i.front ++ xs) s.parts ∙ sym (append_assoc i.front s.front rest);
-          is = IsName.new i.front s.front zero_is s.is refl;
-        }
+          let zero_is : IsInteger prefix flag 0 i.front = subst (λ k. IsInteger prefix flag k i.front) (eqb-true _ _ p.0) i.is in
+          let octets : AreOctets n.0.1 = octets_back i.front n.0.1 (subst AreOctets i.parts o) in
+          let s = string_take n.0.1 name rest octets p.1 in
+          record {
+            front = i.front ++ s.front;
+            parts = i.parts ∙ ap (λ (xs : List ℕ). i.front ++ xs) s.parts ∙ sym (append_assoc i.front s.front rest);
+            is = IsName.new i.front s.front zero_is s.is refl;
+          }
       | inr p ↦
-        let h = bind_ok (entry_or (entry_at table n.0.0) n.0.1) _ (name, rest) p.1 in
-        let is = ok_is (h.0.name, n.0.1) (name, rest) h.2 in
-        let name_is : h.0.name ≡ name = ap (λ (x : List ℕ × List ℕ). x.0) is in
-        let rest_is : n.0.1 ≡ rest = ap (λ (x : List ℕ × List ℕ). x.1) is in
-        record {
-          front = i.front;
-          parts = i.parts ∙ ap (λ (xs : List ℕ). i.front ++ xs) rest_is;
-          is = IsName.indexed n.0.0 h.0 i.is (entry_some (entry_at table n.0.0) n.0.1 h.0 h.1) (sym name_is);
-        }
+          let h = bind_ok (entry_or (entry_at table n.0.0) n.0.1) _ (name, rest) p.1 in
+          let is = ok_is (h.0.name, n.0.1) (name, rest) h.2 in
+          let name_is : h.0.name ≡ name = ap (λ (x : List ℕ × List ℕ). x.0) is in
+          let rest_is : n.0.1 ≡ rest = ap (λ (x : List ℕ × List ℕ). x.1) is in
+          record {
+            front = i.front;
+            parts = i.parts ∙ ap (λ (xs : List ℕ). i.front ++ xs) rest_is;
+            is = IsName.indexed n.0.0 h.0 i.is (entry_some (entry_at table n.0.0) n.0.1 h.0 h.1) (sym name_is);
+          }
     ]
 
 -- an index that has an entry isn't 0
@@ -162,42 +162,42 @@ field_take table b bytes f o e =
     let octet = o.0 in
     elim (chosen (leb 128 b) _ _ _ e) [
       | inl p ↦
-        let above = leb-true 128 b p.0 in
-        let l = bind_ok (indexed_at table (b ∷ bytes)) _ f p.1 in
-        let n = bind_ok (integer_at 7 (b ∷ bytes)) _ l.0 l.1 in
-        let h = bind_ok (entry_or (entry_at table n.0.0) n.0.1) _ l.0 n.2 in
-        let i = integer_take 7 128 b bytes n.0.0 n.0.1 o (omega arith) n.1 in
-        let l_is : (h.0, n.0.1) ≡ l.0 = ok_is (h.0, n.0.1) l.0 h.2 in
-        let f_is : field l.0.0 table l.0.1 ≡ f = ok_is _ f l.2 in
-        let whole : field h.0 table n.0.1 ≡ f = ap (λ (x : Header × List ℕ). field x.0 table x.1) l_is ∙ f_is in
-        subst (λ (g : Field). TakesField table (b ∷ bytes) g) whole (record {
-          front = i.front;
-          parts = i.parts;
-          is = Represents.indexed n.0.0 i.is (entry_some (entry_at table n.0.0) n.0.1 h.0 h.1) refl;
-        })
+          let above = leb-true 128 b p.0 in
+          let l = bind_ok (indexed_at table (b ∷ bytes)) _ f p.1 in
+          let n = bind_ok (integer_at 7 (b ∷ bytes)) _ l.0 l.1 in
+          let h = bind_ok (entry_or (entry_at table n.0.0) n.0.1) _ l.0 n.2 in
+          let i = integer_take 7 128 b bytes n.0.0 n.0.1 o (omega arith) n.1 in
+          let l_is : (h.0, n.0.1) ≡ l.0 = ok_is (h.0, n.0.1) l.0 h.2 in
+          let f_is : field l.0.0 table l.0.1 ≡ f = ok_is _ f l.2 in
+          let whole : field h.0 table n.0.1 ≡ f = ap (λ (x : Header × List ℕ). field x.0 table x.1) l_is ∙ f_is in
+          subst (λ (g : Field). TakesField table (b ∷ bytes) g) whole (record {
+            front = i.front;
+            parts = i.parts;
+            is = Represents.indexed n.0.0 i.is (entry_some (entry_at table n.0.0) n.0.1 h.0 h.1) refl;
+          })
       | inr p ↦
-        let below = leb-false 128 b p.0 in
-        elim (chosen (leb 64 b) _ _ _ p.1) [
-          | inl q ↦
-            let above = leb-true 64 b q.0 in
-            let l = literal_field table table 6 64 b bytes f (λ h. added table h) o (omega arith) q.1 in
-            subst (λ (g : Field). TakesField table (b ∷ bytes) g) l.2 (record { front = l.1.front; parts = l.1.parts; is = Represents.entered l.1.is refl })
-          | inr q ↦
-            let below_64 = leb-false 64 b q.0 in
-            elim (chosen (leb 32 b) _ _ _ q.1) [
-              | inl r ↦ absurd (no_value _ _ r.1)
-              | inr r ↦
-                let below_32 = leb-false 32 b r.0 in
-                elim (cases_lt b 16) [
-                  | inl low ↦
-                    let l = literal_field table table 4 0 b bytes f (λ h. table) o (omega arith) r.1 in
-                    subst (λ (g : Field). TakesField table (b ∷ bytes) g) l.2 (record { front = l.1.front; parts = l.1.parts; is = Represents.passed l.1.is refl })
-                  | inr high ↦
-                    let l = literal_field table table 4 16 b bytes f (λ h. table) o (omega arith) r.1 in
-                    subst (λ (g : Field). TakesField table (b ∷ bytes) g) l.2 (record { front = l.1.front; parts = l.1.parts; is = Represents.never l.1.is refl })
+          let below = leb-false 128 b p.0 in
+          elim (chosen (leb 64 b) _ _ _ p.1) [
+            | inl q ↦
+                let above = leb-true 64 b q.0 in
+                let l = literal_field table table 6 64 b bytes f (λ h. added table h) o (omega arith) q.1 in
+                subst (λ (g : Field). TakesField table (b ∷ bytes) g) l.2 (record { front = l.1.front; parts = l.1.parts; is = Represents.entered l.1.is refl })
+            | inr q ↦
+                let below_64 = leb-false 64 b q.0 in
+                elim (chosen (leb 32 b) _ _ _ q.1) [
+                  | inl r ↦ absurd (no_value _ _ r.1)
+                  | inr r ↦
+                      let below_32 = leb-false 32 b r.0 in
+                      elim (cases_lt b 16) [
+                        | inl low ↦
+                            let l = literal_field table table 4 0 b bytes f (λ h. table) o (omega arith) r.1 in
+                            subst (λ (g : Field). TakesField table (b ∷ bytes) g) l.2 (record { front = l.1.front; parts = l.1.parts; is = Represents.passed l.1.is refl })
+                        | inr high ↦
+                            let l = literal_field table table 4 16 b bytes f (λ h. table) o (omega arith) r.1 in
+                            subst (λ (g : Field). TakesField table (b ∷ bytes) g) l.2 (record { front = l.1.front; parts = l.1.parts; is = Represents.never l.1.is refl })
+                      ]
                 ]
-            ]
-        ]
+          ]
     ]
 
 field_indexed : (table : Table) (b : ℕ) (bytes : List ℕ) → 128 ≤ b → field_at table (b ∷ bytes) ≡ (indexed_at table (b ∷ bytes) >>= λ l. Ok (field l.0 table l.1))
@@ -238,3 +238,14 @@ field_again table front h next rest (Represents.never l same) =
     let b = literal_begins table 4 16 h front rest (front ++ rest) l refl in
     ap (field_at table) b.parts ∙ field_passed table b.first b.more (omega (arith, b.below))
     ∙ ap (λ (xs : List ℕ). literal_at table 4 xs >>= λ l. Ok (field l.0 table l.1)) (sym b.parts) ∙ literal_read table next 4 16 h front rest (λ g. table) refl l same
+
+-- a representation's first byte begins no size update
+pub represents_begins : (table : Table) (front rest : List ℕ) (h : Header) (next : Table) → Represents table front h next
+    → (b : ℕ) × (more : List ℕ) × (front ++ rest ≡ b ∷ more) × ((b < 32) ⊎ (64 ≤ b))
+represents_begins table front rest h next r =
+    elim r [
+      | Represents.indexed i is e same ↦ let b = integer_begins 7 128 i front rest (front ++ rest) is refl in (b.first, b.more, b.parts, inr (omega (arith, b.above)))
+      | Represents.entered l same ↦ let b = literal_begins table 6 64 h front rest (front ++ rest) l refl in (b.first, b.more, b.parts, inr b.above)
+      | Represents.passed l same ↦ let b = literal_begins table 4 0 h front rest (front ++ rest) l refl in (b.first, b.more, b.parts, inl (omega (arith, b.below)))
+      | Represents.never l same ↦ let b = literal_begins table 4 16 h front rest (front ++ rest) l refl in (b.first, b.more, b.parts, inl (omega (arith, b.below)))
+    ]

@@ -31,34 +31,34 @@ string_take (b ∷ bytes) text rest o e =
     elim (chosen (ltb (length n.0.1) n.0.0) _ _ _ n.2) [
       | inl p ↦ absurd (no_value _ _ p.1)
       | inr p ↦
-        let enough : n.0.0 ≤ length n.0.1 = ltb-false _ _ p.0 in
-        let len : length (take n.0.0 n.0.1) ≡ n.0.0 = omega (arith, length-take n.0.0 n.0.1) in
-        let joined : take n.0.0 n.0.1 ++ drop n.0.0 n.0.1 ≡ n.0.1 = take-append-drop n.0.0 n.0.1 in
-        elim (chosen (ltb b 128) _ _ _ p.1) [
-          | inl q ↦
-            let small = ltb-true b 128 q.0 in
-            let i = integer_take 7 0 b bytes n.0.0 n.0.1 o (omega arith) n.1 in
-            let is = ok_is (take n.0.0 n.0.1, drop n.0.0 n.0.1) (text, rest) q.1 in
-            let text_is : take n.0.0 n.0.1 ≡ text = ap (λ (x : List ℕ × List ℕ). x.0) is in
-            let rest_is : drop n.0.0 n.0.1 ≡ rest = ap (λ (x : List ℕ × List ℕ). x.1) is in
-            let length_is : IsInteger 7 0 (length text) i.front = subst (λ k. IsInteger 7 0 k i.front) (sym len ∙ ap (λ (xs : List ℕ). length xs) text_is) i.is in
-            record {
-              front = i.front ++ text;
-              parts = i.parts ∙ ap (λ (xs : List ℕ). i.front ++ xs) (sym joined ∙ rw (text_is, rest_is) refl) ∙ sym (append_assoc i.front text rest);
-              is = IsString.plain i.front length_is refl;
-            }
-          | inr q ↦
-            let large = ltb-false b 128 q.0 in
-            let octet = o.0 in
-            let i = integer_take 7 128 b bytes n.0.0 n.0.1 o (omega arith) n.1 in
-            let c = coded_some (length (b ∷ bytes)) (text_of (take n.0.0 n.0.1)) (drop n.0.0 n.0.1) text rest q.1 in
-            let length_is : IsInteger 7 128 (length (take n.0.0 n.0.1)) i.front = subst (λ k. IsInteger 7 128 k i.front) (sym len) i.is in
-            record {
-              front = i.front ++ take n.0.0 n.0.1;
-              parts = i.parts ∙ ap (λ (xs : List ℕ). i.front ++ xs) (sym joined ∙ rw c.1 refl) ∙ sym (append_assoc i.front (take n.0.0 n.0.1) rest);
-              is = IsString.coded i.front (take n.0.0 n.0.1) length_is (read_is_spelled _ text c.0) refl;
-            }
-        ]
+          let enough : n.0.0 ≤ length n.0.1 = ltb-false _ _ p.0 in
+          let len : length (take n.0.0 n.0.1) ≡ n.0.0 = omega (arith, length-take n.0.0 n.0.1) in
+          let joined : take n.0.0 n.0.1 ++ drop n.0.0 n.0.1 ≡ n.0.1 = take-append-drop n.0.0 n.0.1 in
+          elim (chosen (ltb b 128) _ _ _ p.1) [
+            | inl q ↦
+                let small = ltb-true b 128 q.0 in
+                let i = integer_take 7 0 b bytes n.0.0 n.0.1 o (omega arith) n.1 in
+                let is = ok_is (take n.0.0 n.0.1, drop n.0.0 n.0.1) (text, rest) q.1 in
+                let text_is : take n.0.0 n.0.1 ≡ text = ap (λ (x : List ℕ × List ℕ). x.0) is in
+                let rest_is : drop n.0.0 n.0.1 ≡ rest = ap (λ (x : List ℕ × List ℕ). x.1) is in
+                let length_is : IsInteger 7 0 (length text) i.front = subst (λ k. IsInteger 7 0 k i.front) (sym len ∙ ap (λ (xs : List ℕ). length xs) text_is) i.is in
+                record {
+                  front = i.front ++ text;
+                  parts = i.parts ∙ ap (λ (xs : List ℕ). i.front ++ xs) (sym joined ∙ rw (text_is, rest_is) refl) ∙ sym (append_assoc i.front text rest);
+                  is = IsString.plain i.front length_is refl;
+                }
+            | inr q ↦
+                let large = ltb-false b 128 q.0 in
+                let octet = o.0 in
+                let i = integer_take 7 128 b bytes n.0.0 n.0.1 o (omega arith) n.1 in
+                let c = coded_some (length (b ∷ bytes)) (text_of (take n.0.0 n.0.1)) (drop n.0.0 n.0.1) text rest q.1 in
+                let length_is : IsInteger 7 128 (length (take n.0.0 n.0.1)) i.front = subst (λ k. IsInteger 7 128 k i.front) (sym len) i.is in
+                record {
+                  front = i.front ++ take n.0.0 n.0.1;
+                  parts = i.parts ∙ ap (λ (xs : List ℕ). i.front ++ xs) (sym joined ∙ rw c.1 refl) ∙ sym (append_assoc i.front (take n.0.0 n.0.1) rest);
+                  is = IsString.coded i.front (take n.0.0 n.0.1) length_is (read_is_spelled _ text c.0) refl;
+                }
+          ]
     ]
 
 -- how the literal goes on behind its length

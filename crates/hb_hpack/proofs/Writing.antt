@@ -79,7 +79,7 @@ bits_written (b ∷ bs) byte count small lt =
             joined = first ∙ ap (λ (xs : List ℕ). bits 8 (2 * byte + b) ++ xs) r.joined
                 ∙ ap (λ (xs : List ℕ). xs ++ (bs ++ replicate r.padding 1)) pushed
                 ∙ regrouped (bits 7 byte) b bs (replicate r.padding 1)
-              ∙ ap (λ k. (bits k byte ++ b ∷ bs) ++ replicate r.padding 1) (sym e);
+                ∙ ap (λ k. (bits k byte ++ b ∷ bs) ++ replicate r.padding 1) (sym e);
           }
       | inr ne ↦
           let r = bits_written bs (2 * byte + b) (count + 1) small.1 (omega (arith, ne)) in

@@ -91,12 +91,17 @@ field_at table (b ∷ bs) =
     else (if nat_le 32 b then Err (stop (length (b ∷ bs)) LateSize)
     else (literal_at table 4 (b ∷ bs) >>= λ l. Ok (field l.0 table l.1))))
 
+-- a header in front of what is read behind it
+abbrev pub with_header : Header → Result (List Header × Table) Stop → Result (List Header × Table) Stop
+with_header h (Ok r) = Ok (h ∷ r.0, r.1)
+with_header h (Err e) = Err e
+
 -- headers to the end, of at most so many representations
 unfoldable pub headers_at : ℕ → Table → List ℕ → Result (List Header × Table) Stop
 headers_at most table [] = Ok ([], table)
 headers_at zero table (b ∷ bs) = Err (stop 0 Truncated)
 headers_at (suc most) table (b ∷ bs) =
-    field_at table (b ∷ bs) >>= λ f. headers_at most f.next f.rest >>= λ r. Ok (f.header ∷ r.0, r.1)
+    field_at table (b ∷ bs) >>= λ f. with_header f.header (headers_at most f.next f.rest)
 
 -- whether the byte begins a size update
 abbrev pub is_update : List ℕ → Bool

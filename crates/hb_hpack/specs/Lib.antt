@@ -8,3 +8,4 @@ pub mod StaticTable
 pub mod Table
 pub mod Literal
 pub mod Block
+pub mod Lists

@@ -26,4 +26,4 @@ string_at [] = Err (stop 0 Truncated)
 string_at (b ∷ bs) = do
   n ← integer_at 7 (b ∷ bs)
   if nat_lt (length n.1) n.0 then Err (stop 0 Truncated)
-    else (if nat_lt b 128 then Ok (take n.0 n.1, drop n.0 n.1) else coded_at (length (b ∷ bs)) (text_of (take n.0 n.1)) (drop n.0 n.1))
+      else (if nat_lt b 128 then Ok (take n.0 n.1, drop n.0 n.1) else coded_at (length (b ∷ bs)) (text_of (take n.0 n.1)) (drop n.0 n.1))

@@ -43,3 +43,32 @@ impl Header {
         name.saturating_add(value).saturating_add(32)
     }
 }
+
+/// The most that the sizes of the headers that are kept may sum to.
+const MOST_KEPT: u64 = 16384;
+
+impl HeaderList {
+    ghost use Rattle.std.specs.Prelude.{List as list, [], ◌∷◌, ◌++◌, OnOk};
+    ghost use Rattle.hb_hpack.specs.declared.header.Header.{Header};
+    ghost use Rattle.hb_hpack.specs.Lists.{IsListOf};
+
+    pub(crate) fn new(alloc: Global) -> HeaderList
+        ensures { IsListOf [] result }
+    {
+        HeaderList {
+            kept: List::new(alloc),
+            size: 0,
+        }
+    }
+
+    /// Adds a header. On NoMemory the list isn't used again.
+    pub(crate) fn add(&mut self, header: Header) -> Result<(), NoMemory>
+        ensures { OnOk result ((headers : list Header) → IsListOf headers self.old → IsListOf (headers ++ header ∷ []) self.new) }
+    {
+        self.size = self.size.saturating_add(header.size());
+        if self.size <= MOST_KEPT {
+            self.kept.push(header)?;
+        }
+        Ok(())
+    }
+}

@@ -3,6 +3,7 @@
 #![tactic(auto)]
 
 mod code_table;
+mod decoder;
 mod dynamic_table;
 mod fault;
 mod header;
@@ -13,6 +14,7 @@ mod partial;
 mod representation;
 mod static_table;
 
+pub use decoder::Decoder;
 pub use fault::{HpackFault, HpackWhy};
 pub use header::{Header, HeaderList};
 pub use huffman::{huffman_put, huffman_read};

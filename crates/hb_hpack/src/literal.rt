@@ -16,19 +16,28 @@ pub(crate) fn string_at(alloc: Global, bytes: &[u8]) -> Result<(Bytes, &[u8]), O
     ensures { GivesOr (λ x. (x.0, x.1.now)) result (string_at bytes.now) }
 {
     let Some(first) = bytes.first() else {
-        return Err(Or::Fault(Stop { left: 0, why: HpackWhy::Truncated }));
+        return Err(Or::Fault(Stop {
+            left: 0,
+            why: HpackWhy::Truncated,
+        }));
     };
     let (length, rest) = integer_at(bytes, 7).map_err(Or::Fault)?;
     let length = length as usize;
     if rest.len() < length {
-        return Err(Or::Fault(Stop { left: 0, why: HpackWhy::Truncated }));
+        return Err(Or::Fault(Stop {
+            left: 0,
+            why: HpackWhy::Truncated,
+        }));
     }
     let (text, rest) = rest.split_at(length);
     if *first < 128 {
         return Ok((Bytes::of(alloc, text)?, rest));
     }
     match huffman_read(alloc, text)? {
-        None => Err(Or::Fault(Stop { left: bytes.len(), why: HpackWhy::BadHuffman })),
+        None => Err(Or::Fault(Stop {
+            left: bytes.len(),
+            why: HpackWhy::BadHuffman,
+        })),
         Some(text) => Ok((text, rest)),
     }
 }
