@@ -12,3 +12,6 @@ pub mod Groups
 pub mod Strings
 pub mod Representations
 pub mod Blocks
+pub mod Appending
+pub mod StaticIndexes
+pub mod Statuses

@@ -9,3 +9,4 @@ pub mod Table
 pub mod Literal
 pub mod Block
 pub mod Lists
+pub mod Encoding

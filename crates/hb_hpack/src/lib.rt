@@ -5,6 +5,7 @@
 mod code_table;
 mod decoder;
 mod dynamic_table;
+mod encoder;
 mod fault;
 mod header;
 mod huffman;
@@ -12,9 +13,14 @@ mod integer;
 mod literal;
 mod partial;
 mod representation;
+mod spelling;
 mod static_table;
 
 pub use decoder::Decoder;
+pub use spelling::Spelling;
 pub use fault::{HpackFault, HpackWhy};
 pub use header::{Header, HeaderList};
 pub use huffman::{huffman_put, huffman_read};
+
+#[cfg(test)]
+mod tests;

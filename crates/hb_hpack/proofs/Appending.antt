@@ -1,0 +1,37 @@
+-- What is written, one piece after another.
+use Rattle.std.proofs.Common.{◌≡◌, ℕ, zero, suc, ◌+◌, ◌-◌, ◌*◌, ◌/◌, ◌%◌, ◌^◌, ◌<◌, ◌≤◌, List, [], ◌∷◌, ◌++◌, refl, sym, ap, ◌∙◌, arith, append_assoc}
+use Rattle.std.proofs.lemmas.Bool.{lt-ltb, le-ltb}
+use Rattle.hb_hpack.specs.Grown.{IsLonger}
+use Rattle.hb_hpack.specs.Integer.{full}
+use Rattle.hb_hpack.specs.Encoding.{groups_of, integer_of}
+
+pub ok_then : (old mid new first second : List ℕ) → mid ≡ old ++ first → new ≡ mid ++ second → new ≡ old ++ (first ++ second)
+ok_then old mid new first second e f = f ∙ ap (λ (xs : List ℕ). xs ++ second) e ∙ append_assoc old first second
+
+pub err_then : (old mid new first second : List ℕ) → mid ≡ old ++ first → IsLonger new (mid ++ second) → IsLonger new (old ++ (first ++ second))
+err_then old mid new first second e g = (g.0, sym (append_assoc old first second) ∙ ap (λ (xs : List ℕ). xs ++ second) (sym e) ∙ g.1)
+
+pub err_first : (old new first second : List ℕ) → IsLonger new (old ++ first) → IsLonger new (old ++ (first ++ second))
+err_first old new first second g = (g.0 ++ second, sym (append_assoc old first second) ∙ ap (λ (xs : List ℕ). xs ++ second) g.1 ∙ append_assoc new g.0 second)
+
+pub groups_none : (n : ℕ) → groups_of 0 n ≡ []
+unfolding groups_of
+groups_none n = refl
+
+pub groups_last : (most n : ℕ) → 0 < most → n < 128 → groups_of most n ≡ n ∷ []
+unfolding groups_of
+groups_last zero n some lt = absurd (omega arith)
+groups_last (suc most) n some lt = rw (lt-ltb n 128 lt, groups_of) refl
+
+pub groups_more : (most n : ℕ) → 0 < most → 128 ≤ n → groups_of most n ≡ (n % 128 + 128) ∷ groups_of (most - 1) (n / 128)
+unfolding groups_of
+groups_more zero n some le = absurd (omega arith)
+groups_more (suc most) n some le = let same : suc most - 1 ≡ most = omega arith in rw (le-ltb n 128 le, same, groups_of) refl
+
+pub integer_small : (prefix flag n : ℕ) → n < full prefix → integer_of prefix flag n ≡ (flag + n) ∷ []
+unfolding integer_of
+integer_small prefix flag n lt = rw (lt-ltb n (full prefix) lt, integer_of) refl
+
+pub integer_large : (prefix flag n : ℕ) → full prefix ≤ n → integer_of prefix flag n ≡ (flag + full prefix) ∷ groups_of 10 (n - full prefix)
+unfolding integer_of
+integer_large prefix flag n le = rw (le-ltb n (full prefix) le, integer_of) refl
