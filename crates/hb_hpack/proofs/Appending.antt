@@ -1,5 +1,8 @@
 -- What is written, one piece after another.
-use Rattle.std.proofs.Common.{◌≡◌, ℕ, zero, suc, ◌+◌, ◌-◌, ◌*◌, ◌/◌, ◌%◌, ◌^◌, ◌<◌, ◌≤◌, List, [], ◌∷◌, ◌++◌, refl, sym, ap, ◌∙◌, arith, append_assoc}
+use Rattle.std.proofs.Common.{◌≡◌, ℕ, zero, suc, ◌+◌, ◌-◌, ◌*◌, ◌/◌, ◌%◌, ◌^◌, ◌<◌, ◌≤◌, List, [], ◌∷◌, ◌++◌, refl, sym, ap, subst, ◌∙◌, arith, append_assoc, take, drop, get_or, length}
+use Rattle.std.specs.List.{flat_map}
+use Rattle.std.proofs.lemmas.List.{drop_more, take-append-drop}
+use Rattle.std.proofs.lemmas.List.Concat.{flat_map-append}
 use Rattle.std.proofs.lemmas.Bool.{lt-ltb, le-ltb}
 use Rattle.hb_hpack.specs.Grown.{IsLonger}
 use Rattle.hb_hpack.specs.Integer.{full}
@@ -35,3 +38,14 @@ integer_small prefix flag n lt = rw (lt-ltb n (full prefix) lt, integer_of) refl
 pub integer_large : (prefix flag n : ℕ) → full prefix ≤ n → integer_of prefix flag n ≡ (flag + full prefix) ∷ groups_of 10 (n - full prefix)
 unfolding integer_of
 integer_large prefix flag n le = rw (le-ltb n (full prefix) le, integer_of) refl
+
+-- the pieces of a list's items, where the piece of the item at i was begun
+pub err_at : {X : Type 0} (f : X → List ℕ) (old mid new : List ℕ) (xs : List X) (i : ℕ) (x : X) → i < length xs → x ≡ get_or xs i x → mid ≡ old ++ flat_map f (take i xs) → IsLonger new (mid ++ f x)
+    → IsLonger new (old ++ flat_map f xs)
+err_at f old mid new xs i x lt at e g =
+    let whole : take i xs ++ (x ∷ drop (i + 1) xs) ≡ xs = ap (λ (y : _). take i xs ++ (y ∷ drop (i + 1) xs)) at ∙ ap (λ (ys : List _). take i xs ++ ys) (sym (drop_more xs i x lt)) ∙ take-append-drop i xs in
+    let pieces : flat_map f (take i xs) ++ (f x ++ flat_map f (drop (i + 1) xs)) ≡ flat_map f xs = sym (flat_map-append f (take i xs) (x ∷ drop (i + 1) xs)) ∙ ap (flat_map f) whole in
+    let begun : IsLonger new (old ++ (flat_map f (take i xs) ++ f x)) = err_then old mid new (flat_map f (take i xs)) (f x) e g in
+    let goes_on : IsLonger new (old ++ ((flat_map f (take i xs) ++ f x) ++ flat_map f (drop (i + 1) xs))) = err_first old new (flat_map f (take i xs) ++ f x) (flat_map f (drop (i + 1) xs)) begun in
+    let regroup : (flat_map f (take i xs) ++ f x) ++ flat_map f (drop (i + 1) xs) ≡ flat_map f xs = append_assoc (flat_map f (take i xs)) (f x) (flat_map f (drop (i + 1) xs)) ∙ pieces in
+    subst (λ (ys : List ℕ). IsLonger new (old ++ ys)) regroup goes_on

@@ -15,3 +15,4 @@ pub mod Blocks
 pub mod Appending
 pub mod StaticIndexes
 pub mod Statuses
+pub mod Encoded

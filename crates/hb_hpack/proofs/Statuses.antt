@@ -18,3 +18,11 @@ statuses_test table = all_below 900 (λ k. is_status table (100 + k))
 statuses_hold : statuses_test static_headers ≡ true
 unfolding all_below static_headers index_from string_of integer_of groups_of status_of
 statuses_hold = refl
+
+pub status_is : (status : ℕ) → 100 ≤ status → status < 1000 → header_of Plain (status_header status) ≡ status_of status
+unfolding header_of
+status_is status low high =
+    let same : 100 + (status - 100) ≡ status = omega arith in
+    let test = at_below 900 (λ k. is_status static_headers (100 + k)) statuses_hold (status - 100) (omega arith) in
+    let test' : is_status static_headers status ≡ true = subst (λ k. is_status static_headers k ≡ true) same test in
+    (bytes_decides _ _).0 test'

@@ -88,9 +88,14 @@ abbrev pub MayHave : Bool → Table → Type 0
 MayHave false table = Unit {0}
 MayHave true table = table ≡ cleared
 
--- the strings of the headers have lengths that an integer can say
-abbrev pub AreShort : Spelling → List Header → Type 0
-AreShort spelling hs = AllByRecursion (λ h. (length (spelled spelling h.name) < 2 ^ 32) × (length (spelled spelling h.value) < 2 ^ 32)) hs
+-- the text has a literal: an integer can say its length, and what is coded are octets
+abbrev pub CanSpell : Spelling → List ℕ → Type 0
+CanSpell spellings.Plain text = length text < 2 ^ 32
+CanSpell spellings.Huffman text = (length (huffman_of text) < 2 ^ 32) × AllByRecursion (λ s. s < 256) text
+
+-- each string of the headers has one
+abbrev pub AreWritable : Spelling → List Header → Type 0
+AreWritable spelling hs = AllByRecursion (λ h. CanSpell spelling h.name × CanSpell spelling h.value) hs
 
 -- the text of a status of three digits, and its header
 abbrev pub status_text : ℕ → List ℕ

@@ -17,10 +17,11 @@ mod spelling;
 mod static_table;
 
 pub use decoder::Decoder;
-pub use spelling::Spelling;
+pub use encoder::Encoder;
 pub use fault::{HpackFault, HpackWhy};
 pub use header::{Header, HeaderList};
 pub use huffman::{huffman_put, huffman_read};
+pub use spelling::Spelling;
 
 #[cfg(test)]
 mod tests;
