@@ -25,3 +25,5 @@ pub use spelling::Spelling;
 
 #[cfg(test)]
 mod tests;
+#[cfg(test)]
+mod vectors;
