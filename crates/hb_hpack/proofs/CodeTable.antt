@@ -1,0 +1,165 @@
+-- What the checker computes of the code table: it is the code of the standard.
+use Rattle.std.proofs.Common.{◌≡◌, ℕ, zero, suc, ◌+◌, ◌-◌, ◌*◌, ◌^◌, ◌<◌, ◌≤◌, Bool, true, false, cond, eqb, ltb, leb, ◌&&◌, List, [], ◌∷◌, Option, Some, None, refl, sym, ap, subst, ◌∙◌, arith, inl, inr}
+use Rattle.std.proofs.lemmas.Bool.{eqb-true, cases_lt, leb-true, ltb-true}
+use Rattle.hb_hpack.specs.declared.code_table.Row.{Row}
+use Rattle.hb_hpack.specs.Huffman.{Word, words, word_among, word, bits, lengths, ordered, numbers_from, words_from, bits_of_word}
+use Rattle.hb_hpack.specs.Tables.{row_at, symbol_at, code_at, no_row}
+
+-- the test holds of each number below n
+unfoldable pub all_below : ℕ → (ℕ → Bool) → Bool
+all_below zero test = true
+all_below (suc n) test = test n && all_below n test
+
+pub both : (a b : Bool) → (a && b) ≡ true → (a ≡ true) × (b ≡ true)
+both true b h = (refl, h)
+both false b h = absurd cc
+
+pub at_below : (n : ℕ) (test : ℕ → Bool) → all_below n test ≡ true → (i : ℕ) → i < n → test i ≡ true
+unfolding all_below
+at_below zero test h i lt = absurd (omega arith)
+at_below (suc n) test h i lt =
+    let p = both (test n) (all_below n test) h in
+    elim (cases_lt i n) [
+      | inl below ↦ at_below n test p.1 i below
+      | inr above ↦ let e : n ≡ i = omega arith in subst (λ (k : ℕ). test k ≡ true) e p.0
+    ]
+
+-- a row follows the one before it
+abbrev row_follows : Row → Row → ℕ → Bool
+row_follows before row length =
+    eqb row.first (2 * before.limit) && leb row.first row.limit && leb row.limit (2 ^ length) && leb (row.offset + (row.limit - row.first)) 257
+
+rows_follow_test : all_below 30 (λ l. row_follows (row_at l) (row_at (suc l)) (suc l)) ≡ true
+unfolding all_below row_at
+rows_follow_test = refl
+
+-- the words of a length, as a test of the word that a symbol has
+abbrev is_word : Option Word → ℕ → ℕ → Bool
+is_word None length code = false
+is_word (Some w) length code = eqb w.length length && eqb w.code code
+
+abbrev rows_hold : List Word → Bool
+rows_hold ws = all_below 31 (λ l. all_below ((row_at l).limit - (row_at l).first) (λ d.
+    is_word (word_among (symbol_at ((row_at l).offset + d)) ws) l ((row_at l).first + d)))
+
+rows_hold_test : rows_hold words ≡ true
+unfolding all_below row_at symbol_at words word_among words_from ordered numbers_from lengths
+rows_hold_test = refl
+
+-- what a symbol's word is, as a test of the tables
+abbrev is_entry : Option Word → ℕ → Bool
+is_entry None symbol = false
+is_entry (Some w) symbol =
+    leb 1 w.length && leb w.length 30 && leb (row_at w.length).first w.code && ltb w.code (row_at w.length).limit
+    && eqb (symbol_at ((row_at w.length).offset + (w.code - (row_at w.length).first))) symbol
+
+abbrev symbols_hold : List Word → Bool
+symbols_hold ws = all_below 257 (λ s. is_entry (word_among s ws) s)
+
+symbols_hold_test : symbols_hold words ≡ true
+unfolding all_below row_at symbol_at words word_among words_from ordered numbers_from lengths
+symbols_hold_test = refl
+
+-- no shorter word begins a word
+limits_test : all_below 31 (λ n. all_below n (λ l. leb ((row_at l).limit * 2 ^ (n - l)) (row_at n).first)) ≡ true
+unfolding all_below row_at
+limits_test = refl
+
+symbols_test : all_below 257 (λ i. ltb (symbol_at i) 257) ≡ true
+unfolding all_below symbol_at
+symbols_test = refl
+
+pub symbols_small : (i : ℕ) → i < 257 → symbol_at i < 257
+symbols_small i lt = ltb-true _ _ (at_below 257 (λ i. ltb (symbol_at i) 257) symbols_test i lt)
+
+pub record RowFollows (before row : Row) (length : ℕ) : Type 0 where
+  pub first : row.first ≡ 2 * before.limit
+  pub ordered : row.first ≤ row.limit
+  pub small : row.limit ≤ 2 ^ length
+  pub places : row.offset + (row.limit - row.first) ≤ 257
+
+pub row_follows_at : (l : ℕ) → l < 30 → RowFollows (row_at l) (row_at (suc l)) (suc l)
+row_follows_at l lt =
+    let h = at_below 30 (λ l. row_follows (row_at l) (row_at (suc l)) (suc l)) rows_follow_test l lt in
+    let p = both _ _ h in
+    let q = both _ _ p.0 in
+    let r = both _ _ q.0 in
+    record { first = eqb-true _ _ r.0; ordered = leb-true _ _ r.1; small = leb-true _ _ q.1; places = leb-true _ _ p.1 }
+
+pub last_limit : (row_at 30).limit ≡ 2 ^ 30
+unfolding row_at
+last_limit = refl
+
+pub limit_below : (n l : ℕ) → n < 31 → l < n → (row_at l).limit * 2 ^ (n - l) ≤ (row_at n).first
+limit_below n l small lt = leb-true _ _ (at_below n _ (at_below 31 (λ n. all_below n (λ l. leb ((row_at l).limit * 2 ^ (n - l)) (row_at n).first)) limits_test n small) l lt)
+
+is_word_bits : (o : Option Word) (length code : ℕ) → is_word o length code ≡ true → bits_of_word o ≡ bits length code
+unfolding bits_of_word
+is_word_bits None length code h = absurd cc
+is_word_bits (Some w) length code h =
+    let p = both _ _ h in
+    let same_length : w.length ≡ length = eqb-true _ _ p.0 in
+    let same_code : w.code ≡ code = eqb-true _ _ p.1 in
+    rw (same_length, same_code) refl
+
+-- the word of the symbol that the tables give
+pub word_of_code : (l code : ℕ) → l < 31 → (row_at l).first ≤ code → code < (row_at l).limit → word (symbol_at ((row_at l).offset + (code - (row_at l).first))) ≡ bits l code
+unfolding word
+word_of_code l code small first limit =
+    let inner : ℕ → Bool = λ l. all_below ((row_at l).limit - (row_at l).first) (λ d. is_word (word_among (symbol_at ((row_at l).offset + d)) words) l ((row_at l).first + d)) in
+    let d : ℕ = code - (row_at l).first in
+    let h = at_below ((row_at l).limit - (row_at l).first) (λ d. is_word (word_among (symbol_at ((row_at l).offset + d)) words) l ((row_at l).first + d)) (at_below 31 inner rows_hold_test l small) d (omega arith) in
+    let e : (row_at l).first + d ≡ code = omega arith in
+    is_word_bits _ l code (subst (λ (c : ℕ). is_word (word_among (symbol_at ((row_at l).offset + d)) words) l c ≡ true) e h)
+
+-- where the tables have the word of a symbol
+pub record HasWord (symbol : ℕ) : Type 0 where
+  pub length : ℕ
+  pub code : ℕ
+  pub some : 0 < length
+  pub short : length < 31
+  pub first : (row_at length).first ≤ code
+  pub limit : code < (row_at length).limit
+  pub symbol_is : symbol_at ((row_at length).offset + (code - (row_at length).first)) ≡ symbol
+  pub word_is : word symbol ≡ bits length code
+
+has_word_of : (s : ℕ) (o : Option Word) → word_among s words ≡ o → is_entry o s ≡ true → HasWord s
+unfolding word bits_of_word
+has_word_of s None e h = absurd cc
+has_word_of s (Some w) e h =
+    let p = both _ _ h in
+    let q = both _ _ p.0 in
+    let r = both _ _ q.0 in
+    let t = both _ _ r.0 in
+    record {
+      length = w.length;
+      code = w.code;
+      some = leb-true _ _ t.0;
+      short = omega (arith, leb-true w.length 30 t.1);
+      first = leb-true _ _ r.1;
+      limit = ltb-true _ _ q.1;
+      symbol_is = eqb-true _ _ p.1;
+      word_is = rw e refl;
+    }
+
+pub has_word : (s : ℕ) → s < 257 → HasWord s
+has_word s lt = has_word_of s (word_among s words) refl (at_below 257 (λ s. is_entry (word_among s words) s) symbols_hold_test s lt)
+
+abbrev words_test : List Word → Bool
+words_test ws = all_below 256 (λ s. is_word (word_among s ws) (code_at s).length (code_at s).bits)
+
+codes_test : words_test words ≡ true
+unfolding all_below code_at words word_among words_from ordered numbers_from lengths
+codes_test = refl
+
+-- the table has each symbol's word
+pub code_is_word : (s : ℕ) → s < 256 → bits (code_at s).length (code_at s).bits ≡ word s
+unfolding word
+code_is_word s lt = sym (is_word_bits _ _ _ (at_below 256 (λ s. is_word (word_among s words) (code_at s).length (code_at s).bits) codes_test s lt))
+
+lengths_test : all_below 256 (λ s. leb (code_at s).length 30) ≡ true
+unfolding all_below code_at
+lengths_test = refl
+
+pub code_is_short : (s : ℕ) → s < 256 → (code_at s).length ≤ 30
+code_is_short s lt = leb-true _ _ (at_below 256 (λ s. leb (code_at s).length 30) lengths_test s lt)

@@ -1,0 +1,19 @@
+use Rattle.std.proofs.Common.{◌≡◌, arith, sym, ◌∙◌, Ok, Err}
+use Rattle.hb_hpack.proofs.Writing.{octets_of}
+use Rattle.hb_hpack.proofs.Blocks.{block_take, block_again, block_read_as}
+use Rattle.hb_hpack.proofs.Outcomes.{no_value}
+use Rattle.hb_hpack.proofs.decoder.Decoder.block.Goals as goal
+
+pub returns-in-Ok : goal.returns-in-Ok
+returns-in-Ok c =
+    let given = c.in-Ok.ensures in
+    record {
+      read = (given.0, block_take c.args.self.now c.args.b.now given.0 c.read.new.self (octets_of c.args.b.now (λ i. omega (arith, c.type_inv.b i))) given.1, given.2);
+      only = λ headers next reads. block_read_as c.args.self.now next c.args.b.now (Ok c.in-Ok.list) headers c.read.new.self given reads;
+      exact = given;
+    }
+
+pub returns-in-Err-Fault-clause-only : goal.returns-in-Err-Fault-clause-only
+returns-in-Err-Fault-clause-only c headers next reads =
+    let given = rw c.in-Err-Fault.field-0-is at c.in-Err-Fault.ensures in
+    no_value c.in-Err-Fault.stop (headers, next) (sym given ∙ block_again c.args.self.now c.args.b.now headers next reads)

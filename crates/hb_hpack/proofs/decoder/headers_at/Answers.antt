@@ -1,0 +1,46 @@
+use Rattle.std.proofs.Common.{◌≡◌, ◌<◌, ◌≤◌, ◌∙◌, ◌++◌, ◌∷◌, [], sym, ap, refl, arith, length, Ok, Err, List, ℕ, Bor}
+use Rattle.hb_hpack.specs.declared.header.Header.{Header}
+use Rattle.std.proofs.lemmas.Result.{err_from_is_err_and}
+use Rattle.std.proofs.lemmas.Bool.{eqb-true, eqb-false}
+use Rattle.hb_hpack.specs.Block.{field, field_at, headers_at}
+use Rattle.hb_hpack.specs.Lists.{IsListOf, with_headers, GivesList}
+use Rattle.hb_hpack.proofs.Outcomes.{AreOctets}
+use Rattle.hb_hpack.proofs.Writing.{octets_of}
+use Rattle.hb_hpack.proofs.Blocks.{field_leaves, headers_step_on, headers_stop, headers_end, headers_start, list_stops}
+use Rattle.hb_hpack.proofs.decoder.headers_at.Goals as goal
+
+pub loop-rest-init : goal.loop-rest-init
+loop-rest-init c = record {
+  octets = octets_of c.args.bytes.now (λ i. omega (arith, c.type_inv.bytes i));
+  headers = [];
+  list = c.new-list.ensures;
+  same = headers_start (headers_at (length c.args.bytes.now) c.args.table.now c.args.bytes.now);
+}
+
+pub returns-in_err-header : goal.returns-in_err-header
+returns-in_err-header c =
+    let p = err_from_is_err_and c.from_residual.result c.from_residual.ensures.1 in
+    let ne = eqb-false _ _ (sym c.is_empty.ensures ∙ c.loop-rest-test.true) in
+    let some : 0 < length c.loop-rest.rest.now = omega (arith, ne) in
+    rw (p.1, p.2) (list_stops (λ (x : Header × Bor (List ℕ)). field x.0 c.field_at.new.table x.1.now) c.in_err-header.field-0.0 c.field_at.new.table (field_at c.loop-rest.table c.loop-rest.rest.now) _ c.in_err-header.ensures
+    (λ s e. headers_stop c.loop-rest.table c.loop-rest.rest.now s c.loop-rest.invariant.headers _ some e c.loop-rest.invariant.same))
+
+pub loop-rest-smaller : goal.loop-rest-smaller
+loop-rest-smaller c = (field_leaves c.loop-rest.table c.loop-rest.rest.now (field c.in_ok-header.header c.field_at.new.table c.in_ok-header.after.now) c.loop-rest.invariant.octets c.in_ok-header.ensures).1
+
+pub loop-rest-preserved : goal.loop-rest-preserved
+loop-rest-preserved c =
+    let ne = eqb-false _ _ (sym c.is_empty.ensures ∙ c.loop-rest-test.true) in
+    let some : 0 < length c.loop-rest.rest.now = omega (arith, ne) in
+    record {
+      octets = (field_leaves c.loop-rest.table c.loop-rest.rest.now (field c.in_ok-header.header c.field_at.new.table c.in_ok-header.after.now) c.loop-rest.invariant.octets c.in_ok-header.ensures).0;
+      headers = c.loop-rest.invariant.headers ++ c.in_ok-header.header ∷ [];
+      list = c.in_ok-add.ensures c.loop-rest.invariant.headers c.loop-rest.invariant.list;
+      same = headers_step_on c.loop-rest.table c.loop-rest.rest.now (field c.in_ok-header.header c.field_at.new.table c.in_ok-header.after.now) c.loop-rest.invariant.headers _ some
+          c.loop-rest.invariant.octets c.in_ok-header.ensures c.loop-rest.invariant.same;
+    }
+
+pub returns : goal.returns
+returns c =
+    let none = eqb-true _ _ (sym c.is_empty.ensures ∙ c.loop-rest-test.false) in
+    (c.loop-rest.invariant.headers, headers_end c.loop-rest.table c.loop-rest.rest.now c.loop-rest.invariant.headers _ none c.loop-rest.invariant.same, c.loop-rest.invariant.list)

@@ -1,0 +1,12 @@
+pub mod Grown
+pub mod Huffman
+pub mod Tables
+pub mod HuffmanSteps
+pub mod Outcome
+pub mod Integer
+pub mod StaticTable
+pub mod Table
+pub mod Literal
+pub mod Block
+pub mod Lists
+pub mod Encoding

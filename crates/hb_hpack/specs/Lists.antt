@@ -1,0 +1,41 @@
+-- Header lists, and what the decoder answers.
+use Rattle.std.specs.Prelude.{◌≡◌, ℕ, ◌-◌, ◌^◌, min, List, ◌++◌, length, Result, Ok, Err}
+use Rattle.hb_base.specs.declared.or.Or.{Or}
+use Rattle.hb_base.specs.declared.or.Or.TheVariants as or
+use Rattle.hb_hpack.specs.declared.header.Header.{Header}
+use Rattle.hb_hpack.specs.declared.header.HeaderList.{HeaderList}
+use Rattle.hb_hpack.specs.declared.fault.Stop.{Stop}
+use Rattle.hb_hpack.specs.declared.fault.HpackFault.{HpackFault}
+use Rattle.hb_hpack.specs.Table.{Table, total, fitting}
+
+-- The list of these headers: their size, and the longest front of them of size at most 16,384.
+pub record IsListOf (headers : List Header) (list : HeaderList) : Type 0 where
+  pub kept : list.kept ≡ fitting 16384 headers
+  pub size : list.size ≡ min (total headers) (2 ^ 64 - 1)
+
+-- headers in front of what is read behind them
+abbrev pub with_headers : List Header → Result (List Header × Table) Stop → Result (List Header × Table) Stop
+with_headers front (Ok r) = Ok (front ++ r.0, r.1)
+with_headers front (Err e) = Err e
+
+-- the answer, with the table behind it, is what reading gives, want of memory aside
+abbrev pub GivesList : Table → Result HeaderList (Or Stop) → Result (List Header × Table) Stop → Type 0
+GivesList next (Ok list) read = (headers : List Header) × (read ≡ Ok (headers, next)) × IsListOf headers list
+GivesList next (Err (or.Fault s)) read = read ≡ Err s
+GivesList next (Err or.NoMemory) read = Unit {0}
+
+-- the fault that a block's reading stops at, by its offset
+abbrev pub fault_of : List ℕ → Stop → HpackFault
+fault_of block s = record { at = length block - s.left; why = s.why }
+
+-- the same of a whole block
+abbrev pub GivesBlock : List ℕ → Table → Result HeaderList (Or HpackFault) → Result (List Header × Table) Stop → Type 0
+GivesBlock block next (Ok list) read = (headers : List Header) × (read ≡ Ok (headers, next)) × IsListOf headers list
+GivesBlock block next (Err (or.Fault f)) read = (s : Stop) × (read ≡ Err s) × (f ≡ fault_of block s)
+GivesBlock block next (Err or.NoMemory) read = Unit {0}
+
+-- the block was read as these headers and this table, if memory didn't run out
+abbrev pub IsReadAs : List Header → Table → Table → Result HeaderList (Or HpackFault) → Type 0
+IsReadAs headers next table (Ok list) = IsListOf headers list × (table ≡ next)
+IsReadAs headers next table (Err (or.Fault f)) = ⊥
+IsReadAs headers next table (Err or.NoMemory) = Unit {0}
