@@ -3,11 +3,12 @@
 mod refusals;
 mod vectors;
 
-use self::refusals::REFUSALS;
+use self::refusals::{REFUSALS, Refused};
 use self::vectors::VECTORS;
 use crate::{FrameReader, Output};
 use hb_base::Scope;
 use std::alloc::{AllocError, Global};
+use std::process::Abort;
 use std::test::Fail;
 
 /// What the reader tells after it was fed one more piece: a line for each frame, and the fault.
@@ -102,26 +103,39 @@ fn what_is_put_is_what_another_writes(rt: HostRuntime) -> Result<(), Fail> {
     Ok(())
 }
 
+/// The refused frame is refused at its last octet and not before, at this offset, and again and again.
+fn assert_refused(rt: &impl Abort, reader: &mut FrameReader, refused: &Refused, at: u64) {
+    let (front, last) = refused
+        .octets
+        .split_at(refused.octets.len().saturating_sub(1));
+    for octet in front.chunks(1) {
+        reader.feed(octet);
+        assert!(rt; matches!(reader.next_frame(), Ok(None)), "{}", refused.why);
+    }
+    reader.feed(last);
+    for _ in 0..3 {
+        match reader.next_frame() {
+            Ok(_) => assert!(rt; false, "{}", refused.why),
+            Err(fault) => {
+                assert_eq!(rt; fault.code, refused.code, "{}", refused.why);
+                assert_eq!(rt; fault.row, refused.row, "{}", refused.why);
+                assert_eq!(rt; fault.scope, Scope::Connection);
+                assert_eq!(rt; fault.at, at);
+            }
+        }
+        reader.feed(b"\x00\x00\x00\x0b");
+    }
+}
+
 #[test]
 fn each_refusal_has_its_code_and_row(rt: HostRuntime) -> Result<(), Fail> {
-    for refusal in &REFUSALS {
+    for refused in &REFUSALS {
         let mut reader = FrameReader::new(rt.alloc(), 16_384)?;
-        // An empty frame of an unknown type in front, so that the refused one begins at offset 9.
+        assert_refused(&rt, &mut reader, refused, 0);
+        let mut reader = FrameReader::new(rt.alloc(), 16_384)?;
         reader.feed(b"\x00\x00\x00\x0b\x00\x00\x00\x00\x00");
         assert!(rt; matches!(reader.next_frame(), Ok(Some(_))));
-        reader.feed(refusal.octets);
-        for _ in 0..3 {
-            match reader.next_frame() {
-                Ok(_) => assert!(rt; false, "{}", refusal.why),
-                Err(fault) => {
-                    assert_eq!(rt; fault.code, refusal.code, "{}", refusal.why);
-                    assert_eq!(rt; fault.row, refusal.row, "{}", refusal.why);
-                    assert_eq!(rt; fault.scope, Scope::Connection);
-                    assert_eq!(rt; fault.at, 9);
-                }
-            }
-            reader.feed(b"\x00\x00\x00\x0b");
-        }
+        assert_refused(&rt, &mut reader, refused, 9);
     }
     Ok(())
 }
