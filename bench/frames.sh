@@ -8,7 +8,7 @@ trap 'rm -rf "$copy"' EXIT
 mkdir "$copy/crates"
 cp -a "$top/crates/hb_base" "$top/crates/hb_frames" "$copy/crates/"
 mkdir -p "$copy/crates/frames_bench/src"
-cp "$top/bench/frames_main.rt" "$copy/crates/frames_bench/src/main.rt"
+cp "$top/bench/frames_main.rt.in" "$copy/crates/frames_bench/src/main.rt"
 printf 'hb_base: thiserror\nhb_frames: hb_base thiserror\nframes_bench: hb_frames\n' > "$copy/crates.txt"
 cd "$copy"
 git init -q

@@ -46,16 +46,23 @@ ArePieces (asks ∷ calls) = ArePieces calls
 -- However a stream is cut into pieces and whenever frames are asked for: the frames given, followed by what is
 -- held, spell all bytes taken.
 abbrev pub AnyPieces : Type 0
-AnyPieces = (max : ℕ) (calls : List Call) → ArePieces calls → Joins (given_by (fresh max) calls) (after_calls (fresh max) calls).held (taken_by (fresh max) calls)
+AnyPieces = (max : ℕ) (calls : List Call) → ArePieces calls
+    → Joins (given_by (fresh max) calls) (after_calls (fresh max) calls).held (taken_by (fresh max) calls)
 
 -- Where the next answer is None, these are the frames of the bytes taken, and there are no others.
 abbrev pub AllFrames : Type 0
-AllFrames = (max : ℕ) (calls : List Call) → ArePieces calls → first_of max (after_calls (fresh max) calls).held ≡ Ok None → AreFrames (taken_by (fresh max) calls) (given_by (fresh max) calls) (after_calls (fresh max) calls).held
+AllFrames = (max : ℕ) (calls : List Call) → ArePieces calls
+    → first_of max (after_calls (fresh max) calls).held ≡ Ok None
+    → AreFrames (taken_by (fresh max) calls) (given_by (fresh max) calls) (after_calls (fresh max) calls).held
 
 -- The offset is the count of the bytes taken that aren't held.
 abbrev pub OffsetCounts : Type 0
-OffsetCounts = (max : ℕ) (calls : List Call) → (after_calls (fresh max) calls).at ≡ offset_after 0 (length (taken_by (fresh max) calls) - length (after_calls (fresh max) calls).held)
+OffsetCounts = (max : ℕ) (calls : List Call)
+    → let later = after_calls (fresh max) calls in
+    later.at ≡ offset_after 0 (length (taken_by (fresh max) calls) - length later.held)
 
 -- A fault that next_frame gave comes again after any calls, and nothing is given any more.
 abbrev pub FaultStays : Type 0
-FaultStays = (r : Reading) (refusal : Refusal) (calls : List Call) → first_of r.max r.held ≡ Err refusal → let later = after_calls r calls in (first_of later.max later.held ≡ Err refusal) × (fault_of later refusal ≡ fault_of r refusal) × (given_by r calls ≡ [])
+FaultStays = (r : Reading) (refusal : Refusal) (calls : List Call) → first_of r.max r.held ≡ Err refusal
+    → let later = after_calls r calls in
+    (first_of later.max later.held ≡ Err refusal) × (fault_of later refusal ≡ fault_of r refusal) × (given_by r calls ≡ [])

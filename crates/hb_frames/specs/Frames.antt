@@ -4,7 +4,8 @@ use Rattle.hb_frames.specs.RawFrame.{RawFrame, Spells}
 -- the spellings of the frames joined, followed by the rest, make the bytes
 abbrev pub Joins : List RawFrame → List ℕ → List ℕ → Type 0
 Joins [] rest bytes = bytes ≡ rest
-Joins (f ∷ fs) rest bytes = (spelled more : List ℕ) × Spells f spelled × (bytes ≡ spelled ++ more) × Joins fs rest more
+Joins (f ∷ fs) rest bytes =
+    (spelled more : List ℕ) × Spells f spelled × (bytes ≡ spelled ++ more) × Joins fs rest more
 
 -- no whole frame stands in front
 abbrev pub HasNoFrame : List ℕ → Type 0
@@ -21,4 +22,5 @@ AreOctets bytes = (i : ℕ) → slice_index bytes i < 256
 
 -- the bytes have one list of frames and one rest, if any
 abbrev pub OneReading : Type 0
-OneReading = (bytes rest others_rest : List ℕ) (frames others : List RawFrame) → AreFrames bytes frames rest → AreFrames bytes others others_rest → (frames ≡ others) × (rest ≡ others_rest)
+OneReading = (bytes rest others_rest : List ℕ) (frames others : List RawFrame)
+    → AreFrames bytes frames rest → AreFrames bytes others others_rest → (frames ≡ others) × (rest ≡ others_rest)

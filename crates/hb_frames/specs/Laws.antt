@@ -10,4 +10,7 @@ SentIsSpelled = (f : RawFrame) → Fits f → Spells f (spelling f)
 -- What spells a frame is read as this frame, whatever comes behind it: it is refused for its length, or else by
 -- the first row that refuses it, or else given whole.
 abbrev pub SpelledIsRead : Type 0
-SpelledIsRead = (max : ℕ) (f : RawFrame) (spelled more : List ℕ) → Spells f spelled → (raw_at (spelled ++ more) ≡ f) × (first_of max (spelled ++ more) ≡ (if nat_lt max (length f.payload) then Err too_long else unless_refused (first_refusal f) (length spelled)))
+SpelledIsRead = (max : ℕ) (f : RawFrame) (spelled more : List ℕ) → Spells f spelled
+    → (raw_at (spelled ++ more) ≡ f)
+    × (first_of max (spelled ++ more)
+    ≡ (if nat_lt max (length f.payload) then Err too_long else unless_refused (first_refusal f) (length spelled)))

@@ -14,4 +14,6 @@ three_at bytes i = slice_index bytes i * 65536 + slice_index bytes (i + 1) * 256
 
 -- the number that four octets from place i on spell
 abbrev pub four_at : List ℕ → ℕ → ℕ
-four_at bytes i = slice_index bytes i * 16777216 + slice_index bytes (i + 1) * 65536 + slice_index bytes (i + 2) * 256 + slice_index bytes (i + 3)
+four_at bytes i =
+    slice_index bytes i * 16777216 + slice_index bytes (i + 1) * 65536
+    + slice_index bytes (i + 2) * 256 + slice_index bytes (i + 3)

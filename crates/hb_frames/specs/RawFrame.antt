@@ -39,4 +39,9 @@ size_at bytes = three_at bytes 0
 
 -- the frame at the front of the bytes, where a whole one stands there
 abbrev pub raw_at : List ℕ → RawFrame
-raw_at bytes = record { kind = slice_index bytes 3; flags = slice_index bytes 4; stream = four_at bytes 5 % 2147483648; payload = slice_range bytes 9 (9 + size_at bytes) }
+raw_at bytes = record {
+  kind = slice_index bytes 3;
+  flags = slice_index bytes 4;
+  stream = four_at bytes 5 % 2147483648;
+  payload = slice_range bytes 9 (9 + size_at bytes);
+}

@@ -71,7 +71,14 @@ asked r = after_frame r (first_of r.max r.held)
 
 -- the fault of a refused frame in front, which is always the connection's
 abbrev pub fault_of : Reading → Refusal → FrameFault
-fault_of r refusal = record { code = refusal.code; scope = Connection; at = r.at; row = refusal.row; kind = slice_index r.held 3; flags = slice_index r.held 4 }
+fault_of r refusal = record {
+  code = refusal.code;
+  scope = Connection;
+  at = r.at;
+  row = refusal.row;
+  kind = slice_index r.held 3;
+  flags = slice_index r.held 4;
+}
 
 -- a frame that is spelled in front
 abbrev pub GivesFirst : Reading → Frame → Type 0

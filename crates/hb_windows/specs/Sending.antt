@@ -13,5 +13,7 @@ pub record Sending : Type 0 where
 -- the window moves by `by`, and counts from `size`; it is refused, and nothing moves, exactly where the
 -- sum exceeds the largest
 abbrev pub Moves : Sending → Sending → Result Unit Overrun → ℤ → ℕ → Type 0
-Moves old new (Ok _) by size = ((old.held +ℤ by) ≤ℤ pos largest) × (new ≡ record { held = old.held +ℤ by; size = size })
-Moves old new (Err e) by size = (pos largest <ℤ (old.held +ℤ by)) × (new ≡ old) × (e ≡ record { held = old.held; asked = by })
+Moves old new (Ok _) by size =
+    ((old.held +ℤ by) ≤ℤ pos largest) × (new ≡ record { held = old.held +ℤ by; size = size })
+Moves old new (Err e) by size =
+    (pos largest <ℤ (old.held +ℤ by)) × (new ≡ old) × (e ≡ record { held = old.held; asked = by })
