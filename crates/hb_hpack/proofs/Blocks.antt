@@ -1,14 +1,13 @@
 -- A block is read exactly where it stands for headers.
-use Rattle.std.proofs.Common.{◌≡◌, ℕ, zero, suc, ◌+◌, ◌-◌, ◌^◌, ◌<◌, ◌≤◌, Bool, true, false, cond, ltb, leb, ◌&&◌, List, [], ◌∷◌, ◌++◌, length, Result, Ok, Err, refl, sym, ap, subst, ◌∙◌, arith, append_assoc, inl, inr, ◌⊎◌}
-use Rattle.std.proofs.lemmas.Bool.{leb-true, leb-false, le-leb, lt-leb, lt-ltb, le-ltb, ltb-true, and_right, cases_Bool}
+use Rattle.std.proofs.Common.{◌≡◌, ℕ, zero, suc, ◌+◌, ◌<◌, ◌≤◌, true, false, ltb, leb, ◌&&◌, List, [], ◌∷◌, ◌++◌, length, Result, Ok, Err, refl, sym, ap, subst, ◌∙◌, arith, append_assoc, inl, inr, ◌⊎◌}
+use Rattle.std.proofs.lemmas.Bool.{leb-true, le-leb, lt-leb, lt-ltb, le-ltb, ltb-true, and_right, cases_Bool}
 use Rattle.std.proofs.lemmas.List.{append-nil, length-append}
 use Rattle.hb_hpack.specs.declared.header.Header.{Header}
 use Rattle.hb_hpack.specs.declared.fault.Stop.{Stop}
-use Rattle.hb_hpack.specs.declared.fault.HpackWhy.TheVariants.{BadSize, Truncated}
-use Rattle.hb_hpack.specs.Outcome.{stop, ◌>>=◌, GivesOr}
+use Rattle.hb_hpack.specs.Outcome.{◌>>=◌, GivesOr}
 use Rattle.hb_hpack.specs.Integer.{IsInteger, integer_at}
 use Rattle.hb_hpack.specs.Table.{Table, resized}
-use Rattle.hb_hpack.specs.Block.{Represents, ReadsHeaders, ReadsBehind, Reads, Field, field_at, headers_at, with_header, is_update, update_at, updates_at, block_at}
+use Rattle.hb_hpack.specs.Block.{ReadsHeaders, ReadsBehind, Reads, Field, field_at, headers_at, with_header, is_update, update_at, updates_at, block_at}
 use Rattle.hb_hpack.specs.declared.header.HeaderList.{HeaderList}
 use Rattle.hb_hpack.specs.declared.fault.HpackFault.{HpackFault}
 use Rattle.hb_base.specs.declared.or.Or.{Or}
@@ -17,8 +16,8 @@ use Rattle.std.specs.Prelude.{IfOk}
 use Rattle.hb_hpack.specs.Lists.{IsListOf, with_headers, GivesList, GivesBlock, IsReadAs}
 use Rattle.hb_hpack.proofs.CodeTable.{both}
 use Rattle.hb_hpack.proofs.Outcomes.{bind_ok, ok_is, chosen, no_value, AreOctets, octets_back}
-use Rattle.hb_hpack.proofs.Groups.{TakesInteger, integer_take, integer_again, integer_some}
-use Rattle.hb_hpack.proofs.Representations.{TakesField, field_take, field_again, represents_some, Begins, represents_begins}
+use Rattle.hb_hpack.proofs.Groups.{integer_take, integer_again, integer_some}
+use Rattle.hb_hpack.proofs.Representations.{field_take, field_again, represents_some, represents_begins}
 
 -- ---- headers
 

@@ -1,9 +1,9 @@
 -- What the checker computes of the code table: it is the code of the standard.
-use Rattle.std.proofs.Common.{◌≡◌, ℕ, zero, suc, ◌+◌, ◌-◌, ◌*◌, ◌^◌, ◌<◌, ◌≤◌, Bool, true, false, cond, eqb, ltb, leb, ◌&&◌, List, [], ◌∷◌, Option, Some, None, refl, sym, ap, subst, ◌∙◌, arith, inl, inr}
-use Rattle.std.proofs.lemmas.Bool.{eqb-true, cases_lt, leb-true, ltb-true}
+use Rattle.std.proofs.Common.{◌≡◌, ℕ, zero, suc, ◌+◌, ◌-◌, ◌*◌, ◌^◌, ◌<◌, ◌≤◌, Bool, true, false, eqb, ltb, leb, ◌&&◌, not, List, Option, Some, None, refl, sym, ap, subst, ◌∙◌, arith, inl, inr}
+use Rattle.std.proofs.lemmas.Bool.{not-true, eqb-true, cases_lt, leb-true, ltb-true}
 use Rattle.hb_hpack.specs.declared.code_table.Row.{Row}
-use Rattle.hb_hpack.specs.Huffman.{Word, words, word_among, word, bits, lengths, ordered, numbers_from, words_from, bits_of_word}
-use Rattle.hb_hpack.specs.Tables.{row_at, symbol_at, code_at, no_row}
+use Rattle.hb_hpack.specs.Huffman.{are_ones, Word, words, word_among, word, bits, lengths, ordered, numbers_from, words_from, bits_of_word}
+use Rattle.hb_hpack.specs.Tables.{row_at, symbol_at, code_at}
 
 -- the test holds of each number below n
 unfoldable pub all_below : ℕ → (ℕ → Bool) → Bool
@@ -163,3 +163,14 @@ lengths_test = refl
 
 pub code_is_short : (s : ℕ) → s < 256 → (code_at s).length ≤ 30
 code_is_short s lt = leb-true _ _ (at_below 256 (λ s. leb (code_at s).length 30) lengths_test s lt)
+
+ones_test : all_below 256 (λ s. not (are_ones (bits (code_at s).length (code_at s).bits))) ≡ true
+unfolding all_below code_at bits
+ones_test = refl
+
+pub others_are_not : (s : ℕ) → s < 256 → are_ones (word s) ≡ false
+others_are_not s lt = ap are_ones (sym (code_is_word s lt)) ∙ not-true _ (at_below 256 (λ s. not (are_ones (bits (code_at s).length (code_at s).bits))) ones_test s lt)
+
+pub last_is_ones : are_ones (word 256) ≡ true
+unfolding word bits bits_of_word words word_among words_from ordered numbers_from lengths
+last_is_ones = refl

@@ -1,7 +1,6 @@
 -- The block that is written stands for its headers.
-use Rattle.std.proofs.Common.{◌≡◌, ℕ, zero, suc, ◌+◌, ◌-◌, ◌*◌, ◌/◌, ◌%◌, ◌^◌, ◌<◌, ◌≤◌, Bool, true, false, cond, List, [], ◌∷◌, ◌++◌, length, Option, Some, None, refl, sym, ap, subst, ◌∙◌, arith, append_assoc, inl, inr, lit<, lit≤}
-use Rattle.std.specs.List.{flat_map, AllByRecursion, slice_get}
-use Rattle.std.specs.Str.{bytes_eq}
+use Rattle.std.proofs.Common.{◌≡◌, ℕ, zero, suc, ◌+◌, ◌-◌, ◌*◌, ◌/◌, ◌%◌, ◌^◌, ◌<◌, ◌≤◌, Bool, true, false, List, [], ◌∷◌, ◌++◌, length, Option, Some, None, refl, sym, ap, subst, ◌∙◌, arith, inl, inr, lit<, lit≤}
+use Rattle.std.specs.List.{flat_map, slice_get}
 use Rattle.std.specs.Cmp.Lexicographic.{bytes_decides}
 use Rattle.std.proofs.lemmas.Bool.{cases_lt}
 use Rattle.std.proofs.lemmas.Option.{slice_get_within}
@@ -12,9 +11,9 @@ use Rattle.hb_hpack.specs.declared.spelling.Spelling.TheVariants.{Plain, Huffman
 use Rattle.hb_hpack.specs.Integer.{AreGroups, full, IsInteger}
 use Rattle.hb_hpack.specs.Literal.{IsString}
 use Rattle.hb_hpack.specs.StaticTable.{header, static_headers}
-use Rattle.hb_hpack.specs.Table.{Table, fitting, resized, entry_at}
-use Rattle.hb_hpack.specs.Block.{IsName, IsLiteral, Represents, ReadsHeaders, ReadsBehind, Reads}
-use Rattle.hb_hpack.specs.Encoding.{groups_of, integer_of, spelled, bit_of, string_of, same_name, same_header, index_from, literal_of, representation_of, header_of, Writing, opening, block_of, cleared, MayHave, CanSpell, AreWritable, status_header}
+use Rattle.hb_hpack.specs.Table.{Table, resized, entry_at}
+use Rattle.hb_hpack.specs.Block.{IsName, IsLiteral, Represents, ReadsHeaders, Reads}
+use Rattle.hb_hpack.specs.Encoding.{groups_of, integer_of, spelled, string_of, same_name, same_header, index_from, literal_of, representation_of, header_of, Writing, opening, block_of, cleared, MayHave, CanSpell, AreWritable, status_header}
 use Rattle.hb_hpack.proofs.CodeTable.{both}
 use Rattle.hb_hpack.proofs.Outcomes.{chosen}
 use Rattle.hb_hpack.proofs.Fitting.{fitting_zero}

@@ -1,10 +1,7 @@
 -- What is read as an integer is one, and an integer is read.
-use Rattle.std.proofs.Common.{◌≡◌, ℕ, zero, suc, ◌+◌, ◌-◌, ◌*◌, ◌/◌, ◌%◌, ◌^◌, ◌<◌, ◌≤◌, Bool, true, false, cond, ltb, List, [], ◌∷◌, ◌++◌, length, Result, Ok, Err, refl, sym, ap, subst, ◌∙◌, arith, append_assoc, inl, inr}
+use Rattle.std.proofs.Common.{◌≡◌, ℕ, zero, suc, ◌+◌, ◌*◌, ◌/◌, ◌%◌, ◌^◌, ◌<◌, ◌≤◌, ltb, List, [], ◌∷◌, ◌++◌, length, Ok, refl, sym, ap, ◌∙◌, arith, inl, inr}
 use Rattle.std.proofs.lemmas.Bool.{lt-ltb, le-ltb, ltb-true, ltb-false}
 use Rattle.std.proofs.lemmas.Nat.{pow_pos, shr_split, mod_low}
-use Rattle.hb_hpack.specs.declared.fault.Stop.{Stop}
-use Rattle.hb_hpack.specs.declared.fault.HpackWhy.TheVariants.{LongInteger, Truncated}
-use Rattle.hb_hpack.specs.Outcome.{stop}
 use Rattle.hb_hpack.specs.Integer.{AreGroups, full, IsInteger, groups_from, integer_at}
 use Rattle.hb_hpack.proofs.Outcomes.{ok_is, chosen, no_value, AreOctets}
 use Rattle.hb_hpack.proofs.Integers.{integer_within, integer_beyond}

@@ -1,10 +1,9 @@
 -- Integers with a prefix: the numbers of the reader fit, and reading is the grammar.
-use Rattle.std.proofs.Common.{◌≡◌, ℕ, zero, suc, ◌+◌, ◌-◌, ◌*◌, ◌/◌, ◌%◌, ◌^◌, ◌<◌, ◌≤◌, Bool, true, false, cond, ltb, List, [], ◌∷◌, ◌++◌, length, Result, Ok, Err, refl, sym, ap, subst, ◌∙◌, arith, append_assoc, inl, inr, bit_and}
+use Rattle.std.proofs.Common.{◌≡◌, ℕ, suc, ◌-◌, ◌*◌, ◌%◌, ◌^◌, ◌<◌, ◌≤◌, List, ◌∷◌, Ok, refl, arith, bit_and}
 use Rattle.std.proofs.Math.Nat.{pow-le-pow_right}
 use Rattle.std.proofs.lemmas.Nat.{mul-le, one_shl, and_mask}
-use Rattle.std.proofs.lemmas.Bool.{lt-ltb, le-ltb, cases_lt}
-use Rattle.hb_hpack.specs.declared.fault.Stop.{Stop}
-use Rattle.hb_hpack.specs.Integer.{AreGroups, full, IsInteger, groups_from, integer_at}
+use Rattle.std.proofs.lemmas.Bool.{lt-ltb, le-ltb}
+use Rattle.hb_hpack.specs.Integer.{full, groups_from, integer_at}
 
 -- the weight of a group that may be there
 pub weight_small : (left weight : ℕ) → 0 < left → weight ≡ 128 ^ (5 - left) → weight ≤ 2 ^ 28

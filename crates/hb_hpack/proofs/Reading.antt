@@ -1,14 +1,14 @@
 -- The bits that are read are a text's, and a text's bits are read.
 use Rattle.std.proofs.Common.{◌≡◌, ℕ, zero, suc, ◌+◌, ◌-◌, ◌*◌, ◌/◌, ◌%◌, ◌^◌, ◌<◌, ◌≤◌, Bool, true, false, cond, eqb, ltb, ◌&&◌, List, [], ◌∷◌, ◌++◌, Option, Some, None, refl, sym, ap, subst, ◌∙◌, arith, append_assoc, replicate, inl, inr, lit<, lit≤}
 use Rattle.std.specs.List.{flat_map, AllByRecursion}
-use Rattle.std.proofs.lemmas.Bool.{cases_lt, lt-ltb, le-ltb, ltb-true, eqb-true, eqb-false, ne_eqb}
+use Rattle.std.proofs.lemmas.Bool.{both_ways, and_from, cases_eq, cases_lt, lt-ltb, le-ltb, ltb-true, eqb-true, eqb-false, ne_eqb}
 use Rattle.std.proofs.lemmas.List.{append-nil}
 use Rattle.std.proofs.lemmas.Nat.{le-div, pow_pos}
 use Rattle.std.proofs.Math.Nat.{div-eq_of_lt}
-use Rattle.hb_hpack.specs.Huffman.{bits, word, AreBitsOf, Spells, bits_of}
+use Rattle.hb_hpack.specs.Huffman.{are_ones, IsPrefixFree, bits, word, AreBitsOf, Spells, bits_of}
 use Rattle.hb_hpack.specs.Tables.{row_at, symbol_at}
-use Rattle.hb_hpack.specs.HuffmanSteps.{symbol_of, in_front, text_from, text_of}
-use Rattle.hb_hpack.proofs.CodeTable.{row_follows_at, last_limit, limit_below, word_of_code, symbols_small, HasWord, has_word, all_below, at_below, both}
+use Rattle.hb_hpack.specs.HuffmanSteps.{in_front, text_from, text_of}
+use Rattle.hb_hpack.proofs.CodeTable.{row_follows_at, last_limit, limit_below, word_of_code, symbols_small, HasWord, has_word, last_is_ones, others_are_not, all_below, at_below, both}
 use Rattle.hb_hpack.proofs.Bits.{bits_push, bits_small, next_bit, bits_of_ones}
 
 -- the symbol whose word has this many bits, which make this number
@@ -169,28 +169,32 @@ word_read (suc i) s w rest lt =
     ∙ ap (λ n. text_from (code / 2 ^ suc i) n (bits (suc i) code ++ rest)) len
     ∙ word_read i s w rest (omega arith)
 
--- a whole word gives its symbol
-word_first : (s : ℕ) (rest : List ℕ) → s < 256 → text_from 0 0 (word s ++ rest) ≡ in_front s (text_from 0 0 rest)
-word_first s rest lt =
-    let w = has_word s (omega arith) in
+-- a word's number is below its row's end
+word_start : (s : ℕ) (w : HasWord s) → w.code / 2 ^ w.length ≡ 0
+word_start s w =
+    let short = w.short in
     let some = w.some in
-    let other : eqb s 256 ≡ false = ne_eqb s 256 (λ e. omega arith) in
+    let same : suc (w.length - 1) ≡ w.length = omega arith in
+    let h = row_follows_at (w.length - 1) (omega arith) in
+    let small : (row_at w.length).limit ≤ 2 ^ w.length = rw same at h.small in
+    let limit = w.limit in
+    div-eq_of_lt (omega arith)
+
+-- a whole word gives its symbol, or ends the reading
+word_whole : (s : ℕ) (rest : List ℕ) → s < 257 → text_from 0 0 (word s ++ rest) ≡ cond (eqb s 256) None (in_front s (text_from 0 0 rest))
+word_whole s rest lt =
+    let w = has_word s lt in
+    let some = w.some in
     let at_0 : w.code / 2 ^ w.length ≡ 0 = word_start s w in
     let at_len : suc (w.length - 1) ≡ w.length = omega arith in
     let none : w.length - w.length ≡ 0 = omega arith in
     let read : text_from (w.code / 2 ^ suc (w.length - 1)) (w.length - suc (w.length - 1)) (bits (suc (w.length - 1)) w.code ++ rest) ≡ cond (eqb s 256) None (in_front s (text_from 0 0 rest)) = word_read (w.length - 1) s w rest (omega arith) in
     let read' : text_from 0 0 (bits w.length w.code ++ rest) ≡ cond (eqb s 256) None (in_front s (text_from 0 0 rest)) = rw (at_len, at_0, none) at read in
-    ap (λ (xs : List ℕ). text_from 0 0 (xs ++ rest)) w.word_is ∙ read' ∙ rw other refl
-  where
-    word_start : (s : ℕ) (w : HasWord s) → w.code / 2 ^ w.length ≡ 0
-    word_start s w =
-        let short = w.short in
-        let some = w.some in
-        let same : suc (w.length - 1) ≡ w.length = omega arith in
-        let h = row_follows_at (w.length - 1) (omega arith) in
-        let small : (row_at w.length).limit ≤ 2 ^ w.length = rw same at h.small in
-        let limit = w.limit in
-        div-eq_of_lt (omega arith)
+    ap (λ (xs : List ℕ). text_from 0 0 (xs ++ rest)) w.word_is ∙ read'
+
+-- a symbol of a text
+word_first : (s : ℕ) (rest : List ℕ) → s < 256 → text_from 0 0 (word s ++ rest) ≡ in_front s (text_from 0 0 rest)
+word_first s rest lt = let other : eqb s 256 ≡ false = ne_eqb s 256 (λ e. omega arith) in word_whole s rest (omega arith) ∙ rw other refl
 
 -- at most seven ones are read as nothing
 abbrev is_nothing : Option (List ℕ) → Bool
@@ -237,3 +241,40 @@ read_is_spelled bytes text e = joined_from (bits_of bytes) 0 0 text (bits_all_sm
 -- a text that is spelled is read
 pub spelled_is_read : (bytes text : List ℕ) → Spells bytes text → text_of bytes ≡ Some text
 spelled_is_read bytes text s = text_is_read (bits_of bytes) text s
+
+-- ---- no word begins another
+
+one_symbol : (s t : ℕ) (r : Option (List ℕ)) → in_front s r ≡ Some (t ∷ []) → s ≡ t
+one_symbol s t None e = absurd cc
+one_symbol s t (Some rest) e = let parts : given (s ∷ rest) ≡ given (t ∷ []) = e in cc
+
+alone : (t : ℕ) → t < 256 → text_from 0 0 (word t) ≡ Some (t ∷ [])
+alone t lt = ap (text_from 0 0) (sym (append-nil (word t))) ∙ word_first t [] lt ∙ ap (in_front t) (ones_read 0 (omega arith))
+
+ones_front : (xs ys : List ℕ) → are_ones (xs ++ ys) ≡ true → are_ones xs ≡ true
+ones_front [] ys e = refl
+ones_front (x ∷ xs) ys e = let p = both (eqb x 1) (are_ones (xs ++ ys)) e in and_from (eqb x 1) (are_ones xs) p.0 (ones_front xs ys p.1)
+
+pub prefix_free : IsPrefixFree
+prefix_free s t rest s_is t_is e =
+    elim (cases_eq s 256) [
+      | inl s_end ↦ elim (cases_eq t 256) [
+        | inl t_end ↦ s_end ∙ sym t_end
+        | inr t_other ↦
+            let lt : t < 256 = omega (arith, t_other) in
+            let stops : text_from 0 0 (word s ++ rest) ≡ None = word_whole s rest s_is ∙ rw s_end refl in
+            let both_ways : None ≡ given (t ∷ []) = sym stops ∙ ap (text_from 0 0) (sym e) ∙ alone t lt in
+            absurd cc
+      ]
+      | inr s_other ↦ elim (cases_eq t 256) [
+        | inl t_end ↦
+            let lt : s < 256 = omega (arith, s_other) in
+            let ones : are_ones (word s ++ rest) ≡ true = ap are_ones (sym e) ∙ ap (λ k. are_ones (word k)) t_end ∙ last_is_ones in
+            let front = ones_front (word s) rest ones in
+            absurd (both_ways (are_ones (word s)) (others_are_not s lt) front)
+        | inr t_other ↦
+            let s_lt : s < 256 = omega (arith, s_other) in
+            let t_lt : t < 256 = omega (arith, t_other) in
+            one_symbol s t (text_from 0 0 rest) (sym (word_first s rest s_lt) ∙ ap (text_from 0 0) (sym e) ∙ alone t t_lt)
+      ]
+    ]

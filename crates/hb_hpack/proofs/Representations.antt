@@ -1,19 +1,17 @@
 -- What is read as a header's representation is one, and a representation is read.
-use Rattle.std.proofs.Common.{◌≡◌, ℕ, zero, suc, ◌+◌, ◌-◌, ◌%◌, ◌^◌, ◌<◌, ◌≤◌, Bool, true, false, cond, eqb, ltb, leb, List, [], ◌∷◌, ◌++◌, length, Option, Some, None, Result, Ok, Err, refl, sym, ap, subst, ◌∙◌, arith, append_assoc, inl, inr, ◌⊎◌}
-use Rattle.std.proofs.lemmas.Bool.{eqb-true, eqb-false, eq-eqb, ne_eqb, leb-true, leb-false, le-leb, lt-leb, cases_lt}
+use Rattle.std.proofs.Common.{◌≡◌, ℕ, suc, ◌+◌, ◌%◌, ◌^◌, ◌<◌, ◌≤◌, false, eqb, leb, List, [], ◌∷◌, ◌++◌, length, Option, Some, None, Ok, refl, sym, ap, subst, ◌∙◌, arith, append_assoc, inl, inr, ◌⊎◌}
+use Rattle.std.proofs.lemmas.Bool.{eqb-true, ne_eqb, leb-true, leb-false, le-leb, lt-leb, cases_lt}
 use Rattle.std.proofs.lemmas.List.{append-nil}
 use Rattle.hb_hpack.specs.declared.header.Header.{Header}
-use Rattle.hb_hpack.specs.declared.fault.Stop.{Stop}
-use Rattle.hb_hpack.specs.declared.fault.HpackWhy.TheVariants.{BadIndex, LateSize, Truncated}
-use Rattle.hb_hpack.specs.Outcome.{stop, ◌>>=◌}
+use Rattle.hb_hpack.specs.Outcome.{◌>>=◌}
 use Rattle.hb_hpack.specs.Integer.{IsInteger, integer_at}
-use Rattle.hb_hpack.specs.Literal.{IsString, string_at}
+use Rattle.hb_hpack.specs.Literal.{string_at}
 use Rattle.hb_hpack.specs.StaticTable.{header}
 use Rattle.hb_hpack.specs.Table.{Table, added, entry_at}
 use Rattle.hb_hpack.specs.Block.{IsName, IsLiteral, Represents, entry_or, name_at, literal_at, indexed_at, Field, field, field_at}
 use Rattle.hb_hpack.proofs.Outcomes.{bind_ok, ok_is, chosen, no_value, AreOctets, octets_back}
-use Rattle.hb_hpack.proofs.Groups.{TakesInteger, integer_take, integer_again, integer_some}
-use Rattle.hb_hpack.proofs.Strings.{TakesString, string_take, string_again, string_some}
+use Rattle.hb_hpack.proofs.Groups.{integer_take, integer_again, integer_some}
+use Rattle.hb_hpack.proofs.Strings.{string_take, string_again}
 use Rattle.hb_hpack.proofs.Entries.{entry_none}
 
 -- ---- names

@@ -1,14 +1,13 @@
 -- The bytes that are written spell the text.
-use Rattle.std.proofs.Common.{◌≡◌, ℕ, zero, suc, ◌+◌, ◌-◌, ◌*◌, ◌^◌, ◌<◌, ◌≤◌, Bool, true, false, cond, eqb, List, [], ◌∷◌, ◌++◌, Option, Some, None, refl, sym, ap, subst, ◌∙◌, arith, append_assoc, get_or, replicate, inl, inr}
+use Rattle.std.proofs.Common.{◌≡◌, ℕ, zero, suc, ◌+◌, ◌-◌, ◌*◌, ◌^◌, ◌<◌, ◌≤◌, List, [], ◌∷◌, ◌++◌, Option, Some, None, refl, sym, ap, ◌∙◌, arith, append_assoc, get_or, replicate, inl, inr}
 use Rattle.std.specs.List.{flat_map, AllByRecursion}
 use Rattle.std.proofs.lemmas.Bool.{cases_eq, eq-eqb, ne_eqb}
 use Rattle.std.proofs.Math.Nat.{pow-le-pow_right}
 use Rattle.std.proofs.lemmas.List.{append-nil}
-use Rattle.hb_hpack.specs.Huffman.{Word, bits, bits_of, bits_of_word, word, words, word_among, AreBitsOf, Spells}
-use Rattle.hb_hpack.specs.HuffmanSteps.{with_ones, bytes_from, huffman_of, text_of}
+use Rattle.hb_hpack.specs.Huffman.{Word, bits, bits_of, bits_of_word, word, words, word_among, Spells}
+use Rattle.hb_hpack.specs.HuffmanSteps.{with_ones, bytes_from, huffman_of}
 use Rattle.hb_hpack.specs.Grown.{IsLonger}
 use Rattle.hb_hpack.proofs.Bits.{bits_push, bits_small}
-use Rattle.hb_hpack.proofs.Reading.{spelled_is_read}
 
 -- ---- one bit more
 

@@ -1,5 +1,5 @@
 -- The Huffman code (RFC 7541 section 5.2 and Appendix B), and the texts that bytes spell in it.
-use Rattle.std.specs.Prelude.{◌≡◌, ℕ, zero, suc, ◌+◌, ◌-◌, ◌*◌, ◌/◌, ◌%◌, ◌^◌, ◌<◌, ◌≤◌, ◌==◌, List, [], ◌∷◌, ◌++◌, Option, Some, None, replicate, filter, if◌then◌else◌}
+use Rattle.std.specs.Prelude.{◌≡◌, ℕ, zero, suc, ◌+◌, ◌-◌, ◌*◌, ◌/◌, ◌%◌, ◌^◌, ◌<◌, ◌≤◌, ◌==◌, ◌&&◌, Bool, true, List, [], ◌∷◌, ◌++◌, Option, Some, None, replicate, filter, if◌then◌else◌}
 use Rattle.std.specs.List.{flat_map, enumerate_from, AllByRecursion}
 
 -- the low count bits of a number, highest first
@@ -63,6 +63,15 @@ bits_of_word (Some w) = bits w.length w.code
 -- the bits of a symbol's word
 unfoldable pub word : ℕ → List ℕ
 word symbol = bits_of_word (word_among symbol words)
+
+-- whether all bits are one
+abbrev pub are_ones : List ℕ → Bool
+are_ones [] = true
+are_ones (b ∷ bs) = (b == 1) && are_ones bs
+
+-- no word is a front of another
+abbrev pub IsPrefixFree : Type 0
+IsPrefixFree = (s t : ℕ) (rest : List ℕ) → s < 257 → t < 257 → word t ≡ word s ++ rest → s ≡ t
 
 -- The bits are a text's: its words joined, and then at most seven ones.
 pub record AreBitsOf (text all : List ℕ) : Type 0 where

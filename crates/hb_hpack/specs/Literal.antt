@@ -1,5 +1,5 @@
 -- String literals (RFC 7541 section 5.2).
-use Rattle.std.specs.Prelude.{◌≡◌, ℕ, ◌<◌, nat_lt, List, [], ◌∷◌, ◌++◌, length, take, drop, Option, Some, None, Result, Ok, Err, if◌then◌else◌}
+use Rattle.std.specs.Prelude.{◌≡◌, ℕ, nat_lt, List, [], ◌∷◌, ◌++◌, length, take, drop, Option, Some, None, Result, Ok, Err, if◌then◌else◌}
 use Rattle.hb_hpack.specs.declared.fault.Stop.{Stop}
 use Rattle.hb_hpack.specs.declared.fault.HpackWhy.TheVariants.{Truncated, BadHuffman}
 use Rattle.hb_hpack.specs.Outcome.{stop, ◌>>=◌}

@@ -1,5 +1,5 @@
 -- What reading gives: a value, or the first fault and how many bytes are left from its place on.
-use Rattle.std.specs.Prelude.{◌≡◌, ℕ, List, Result, Ok, Err}
+use Rattle.std.specs.Prelude.{◌≡◌, ℕ, Result, Ok, Err}
 use Rattle.hb_base.specs.declared.or.Or.{Or}
 use Rattle.hb_base.specs.declared.or.Or.TheVariants as or
 use Rattle.hb_hpack.specs.declared.fault.Stop.{Stop}

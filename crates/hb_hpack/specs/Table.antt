@@ -1,5 +1,5 @@
 -- Headers, their sizes, and the dynamic table (RFC 7541 sections 2.3 and 4).
-use Rattle.std.specs.Prelude.{ℕ, zero, suc, ◌+◌, ◌-◌, nat_le, nat_lt, List, [], ◌∷◌, length, Option, Some, None, slice_get, if◌then◌else◌}
+use Rattle.std.specs.Prelude.{ℕ, zero, suc, ◌+◌, ◌-◌, nat_le, nat_lt, List, [], ◌∷◌, length, Option, None, slice_get, if◌then◌else◌}
 use Rattle.hb_hpack.specs.declared.header.Header.{Header}
 use Rattle.hb_hpack.specs.StaticTable.{static_headers}
 

@@ -59,15 +59,15 @@ fn put_bytes(out: &mut Vec<u8>, bytes: &[u8]) -> Result<(), NoMemory>
     out.extend_from_slice(bytes)
 }
 
-/// Writes a string literal of data that is spelled already, behind its Huffman bit.
-fn put_spelled(out: &mut Vec<u8>, bit: u8, data: &[u8]) -> Result<(), NoMemory>
+/// Writes a string literal of bytes that are spelled already, behind its Huffman bit.
+fn put_spelled(out: &mut Vec<u8>, bit: u8, bytes: &[u8]) -> Result<(), NoMemory>
     requires { bit ≤ 128 }
-    ensures ok { OnOk result (out.new.items ≡ out.old.items ++ (integer_of 7 bit (length data.now) ++ data.now)) }
+    ensures ok { OnOk result (out.new.items ≡ out.old.items ++ (integer_of 7 bit (length bytes.now) ++ bytes.now)) }
     ensures grows { IsLonger out.old.items out.new.items }
-    ensures err { OnErr result (IsLonger out.new.items (out.old.items ++ (integer_of 7 bit (length data.now) ++ data.now))) }
+    ensures err { OnErr result (IsLonger out.new.items (out.old.items ++ (integer_of 7 bit (length bytes.now) ++ bytes.now))) }
 {
-    put_integer(out, 7, bit, data.len() as u64)?;
-    put_bytes(out, data)
+    put_integer(out, 7, bit, bytes.len() as u64)?;
+    put_bytes(out, bytes)
 }
 
 /// Writes a string literal (RFC 7541 section 5.2).
@@ -85,9 +85,9 @@ fn put_string(
     match spelling {
         Spelling::Plain => put_spelled(out, 0, text),
         Spelling::Huffman => {
-            let mut data = Vec::new(alloc);
-            huffman_put(alloc, text, &mut data)?;
-            put_spelled(out, 128, data.as_slice())
+            let mut coded = Vec::new(alloc);
+            huffman_put(alloc, text, &mut coded)?;
+            put_spelled(out, 128, coded.as_slice())
         }
     }
 }

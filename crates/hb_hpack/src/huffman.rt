@@ -1,8 +1,8 @@
 //! Text in the Huffman code (RFC 7541 section 5.2).
 
-ghost use Rattle.std.specs.Prelude.{◌≡◌, ℕ, ◌+◌, ◌-◌, ◌*◌, ◌<◌, ◌^◌, ◌≤◌, ◌==◌, ◌&&◌, nat_lt, List, [], ◌∷◌, ◌++◌, Some, None, IfOk, IfSome, OnOk, OnErr};
+ghost use Rattle.std.specs.Prelude.{◌≡◌, ℕ, ◌+◌, ◌-◌, ◌*◌, ◌<◌, ◌^◌, ◌≤◌, ◌==◌, ◌&&◌, nat_lt, List, [], ◌∷◌, ◌++◌, Some, None, IfOk, IfSome, IsTrue, OnOk, OnErr};
 ghost use Rattle.hb_hpack.specs.Tables.{row_at, symbol_at, code_at};
-ghost use Rattle.hb_hpack.specs.Huffman.{bits, word, Spells};
+ghost use Rattle.hb_hpack.specs.Huffman.{bits, word, Spells, IsPrefixFree, are_ones};
 ghost use Rattle.hb_hpack.specs.HuffmanSteps.{text_from, text_of, after_text, read_on, with_ones, huffman_of, written_on};
 ghost use Rattle.hb_hpack.specs.Grown.{IsLonger};
 
@@ -107,6 +107,9 @@ pub fn huffman_read(alloc: Global, b: &[u8]) -> Result<Option<Bytes>, NoMemory>
     // What is spelled so is read, and no other text is.
     ensures only { IfOk result (λ r. (text : List ℕ) → Spells b.now text → r ≡ Some text) }
     ensures exact { IfOk result (λ r. r ≡ text_of b.now) }
+    // So no word of the code is a front of another, and the end of a string is all ones.
+    ensures apart { IsPrefixFree }
+    ensures last { IsTrue (are_ones (word 256)) }
 {
     text_of(alloc, b)
 }

@@ -80,7 +80,8 @@ fn reads(
 ) {
     let block = bytes_of(rt, alloc, block);
     match decoder.block(block.as_slice()) {
-        Err(_) => assert!(rt; false, "a block is refused"),
+        Err(Or::NoMemory) => assert!(rt; false, "memory"),
+        Err(Or::Fault(_)) => assert!(rt; false, "a block is refused"),
         Ok(list) => {
             let found = joined(rt, alloc, &list);
             let headers = if headers == "-" { "" } else { headers };

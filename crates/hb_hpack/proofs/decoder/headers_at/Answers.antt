@@ -1,10 +1,8 @@
-use Rattle.std.proofs.Common.{◌≡◌, ◌<◌, ◌≤◌, ◌∙◌, ◌++◌, ◌∷◌, [], sym, ap, refl, arith, length, Ok, Err, List, ℕ, Bor}
+use Rattle.std.proofs.Common.{◌<◌, ◌∙◌, ◌++◌, ◌∷◌, [], sym, arith, length, List, ℕ, Bor}
 use Rattle.hb_hpack.specs.declared.header.Header.{Header}
 use Rattle.std.proofs.lemmas.Result.{err_from_is_err_and}
 use Rattle.std.proofs.lemmas.Bool.{eqb-true, eqb-false}
 use Rattle.hb_hpack.specs.Block.{field, field_at, headers_at}
-use Rattle.hb_hpack.specs.Lists.{IsListOf, with_headers, GivesList}
-use Rattle.hb_hpack.proofs.Outcomes.{AreOctets}
 use Rattle.hb_hpack.proofs.Writing.{octets_of}
 use Rattle.hb_hpack.proofs.Blocks.{field_leaves, headers_step_on, headers_stop, headers_end, headers_start, list_stops}
 use Rattle.hb_hpack.proofs.decoder.headers_at.Goals as goal

@@ -1,9 +1,7 @@
-use Rattle.std.proofs.Common.{◌≡◌, ◌<◌, ◌≤◌, ◌∙◌, sym, ap, refl, arith, length, Ok, Err}
+use Rattle.std.proofs.Common.{◌∙◌, sym, refl, arith, length}
 use Rattle.std.proofs.lemmas.Result.{err_from_is_err_and}
-use Rattle.hb_hpack.specs.Block.{is_update, update_at, updates_at}
-use Rattle.hb_hpack.proofs.Outcomes.{AreOctets}
 use Rattle.hb_hpack.proofs.Writing.{octets_of}
-use Rattle.hb_hpack.proofs.Blocks.{TakesUpdate, update_take, update_leaves, no_updates, updates_step, updates_stop}
+use Rattle.hb_hpack.proofs.Blocks.{update_take, update_leaves, no_updates, updates_step, updates_stop}
 use Rattle.hb_hpack.proofs.decoder.updates_at.Goals as goal
 
 pub loop-rest-init : goal.loop-rest-init

@@ -1,5 +1,5 @@
-use Rattle.std.proofs.Common.{◌≡◌, ◌+◌, ◌<◌, ◌≤◌, ◌++◌, [], ◌∷◌, ◌∙◌, sym, ap, refl, arith, min, subst}
-use Rattle.hb_hpack.specs.Table.{size_of, total, fitting}
+use Rattle.std.proofs.Common.{◌≡◌, ◌+◌, ◌<◌, ◌++◌, [], ◌∷◌, ◌∙◌, sym, ap, arith}
+use Rattle.hb_hpack.specs.Table.{total, fitting}
 use Rattle.hb_hpack.proofs.Fitting.{total-append, fitting_push, fitting_all}
 use Rattle.hb_hpack.proofs.dynamic_table.evict.Goals as goal
 

@@ -1,7 +1,6 @@
-use Rattle.std.proofs.Common.{◌≡◌, ◌∙◌, sym, ap, Some, refl, true, false, Bool, ◌&&◌}
-use Rattle.std.specs.List.{slice_get}
+use Rattle.std.proofs.Common.{◌≡◌, ◌∙◌, sym, refl, true, false}
 use Rattle.std.specs.Str.{bytes_eq}
-use Rattle.hb_hpack.specs.StaticTable.{header, static_headers}
+use Rattle.hb_hpack.specs.StaticTable.{header}
 use Rattle.hb_hpack.specs.Encoding.{static_at}
 use Rattle.hb_hpack.proofs.StaticIndexes.{static_at_is}
 use Rattle.hb_hpack.proofs.encoder.has_header.Goals as goal

@@ -1,6 +1,5 @@
-use Rattle.std.proofs.Common.{◌≡◌, ◌∙◌, sym, ap, Some, refl}
-use Rattle.std.specs.List.{slice_get}
-use Rattle.hb_hpack.specs.StaticTable.{header, static_headers}
+use Rattle.std.proofs.Common.{◌≡◌, refl}
+use Rattle.hb_hpack.specs.StaticTable.{header}
 use Rattle.hb_hpack.specs.Encoding.{static_at}
 use Rattle.hb_hpack.proofs.StaticIndexes.{static_at_is}
 use Rattle.hb_hpack.proofs.encoder.has_name.Goals as goal

@@ -1,4 +1,4 @@
-use Rattle.std.proofs.Common.{◌≡◌, ◌∙◌, sym}
+use Rattle.std.proofs.Common.{◌∙◌, sym}
 use Rattle.hb_hpack.specs.Encoding.{same_header}
 use Rattle.hb_hpack.proofs.StaticIndexes.{index_here, index_behind, index_none}
 use Rattle.hb_hpack.proofs.encoder.index_of_header.Goals as goal

@@ -1,7 +1,4 @@
-use Rattle.std.proofs.Common.{◌≡◌, ◌+◌, ◌<◌, ◌∷◌, ◌++◌, ◌∙◌, sym, ap, subst, List, ℕ, refl, drop, take, get_or}
-use Rattle.std.specs.List.{flat_map}
 use Rattle.std.proofs.lemmas.Result.{err_from_is_err_and}
-use Rattle.hb_hpack.specs.declared.header.Header.{Header}
 use Rattle.hb_hpack.specs.Encoding.{header_of}
 use Rattle.hb_hpack.proofs.Appending.{err_at}
 use Rattle.hb_hpack.proofs.encoder.put_headers.Goals as goal

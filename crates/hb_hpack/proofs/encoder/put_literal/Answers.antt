@@ -1,4 +1,4 @@
-use Rattle.std.proofs.Common.{◌≡◌, ◌∙◌, [], ◌∷◌, sym, ap, List, ℕ, refl}
+use Rattle.std.proofs.Common.{[], ◌∷◌, List, ℕ}
 use Rattle.std.proofs.lemmas.Result.{err_from_is_err_and}
 use Rattle.hb_hpack.specs.Encoding.{integer_of, string_of}
 use Rattle.hb_hpack.proofs.Appending.{err_first, err_then}

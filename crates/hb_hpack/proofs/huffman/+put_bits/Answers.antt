@@ -1,8 +1,7 @@
-use Rattle.std.proofs.Common.{◌≡◌, ◌<◌, ◌-◌, ◌∷◌, ◌++◌, ◌∙◌, refl, sym, ap, subst, List, ℕ, arith}
+use Rattle.std.proofs.Common.{◌<◌, ◌-◌, ◌++◌, ◌∙◌, refl, subst, List, ℕ, arith}
 use Rattle.std.proofs.lemmas.Result.{IfOk-weaker, on_err_weaker}
 use Rattle.hb_hpack.specs.Huffman.{bits}
 use Rattle.hb_hpack.specs.Grown.{IsLonger}
-use Rattle.hb_hpack.specs.HuffmanSteps.{written_on}
 use Rattle.hb_hpack.proofs.Bits.{bits_next}
 use Rattle.hb_hpack.proofs.huffman.+put_bits.Goals as goal
 

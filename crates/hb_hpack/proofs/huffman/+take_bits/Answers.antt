@@ -1,6 +1,5 @@
-use Rattle.std.proofs.Common.{◌≡◌, ℕ, ◌-◌, ◌/◌, ◌^◌, ◌<◌, List, ◌∷◌, ◌++◌, bit_and, sym, ap, ◌∙◌, arith, refl, IfOk}
+use Rattle.std.proofs.Common.{◌-◌, ◌<◌, ◌++◌, ◌∙◌, arith, refl}
 use Rattle.hb_hpack.specs.Huffman.{bits}
-use Rattle.hb_hpack.specs.HuffmanSteps.{text_from, after_text, read_on}
 use Rattle.hb_hpack.proofs.Bits.{bits_next}
 use Rattle.std.proofs.lemmas.Result.{IfOk-weaker}
 use Rattle.hb_hpack.proofs.huffman.+take_bits.Goals as goal

@@ -1,4 +1,4 @@
-use Rattle.std.proofs.Common.{◌≡◌, refl, sym, List, ℕ}
+use Rattle.std.proofs.Common.{refl, sym}
 use Rattle.std.proofs.lemmas.List.{append-nil}
 use Rattle.hb_hpack.proofs.Writing.{byte_ends, nothing_ends}
 use Rattle.hb_hpack.proofs.huffman.finish.Goals as goal

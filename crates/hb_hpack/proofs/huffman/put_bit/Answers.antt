@@ -1,4 +1,4 @@
-use Rattle.std.proofs.Common.{◌≡◌, ℕ, ◌+◌, ◌*◌, List, [], ◌∷◌, ◌++◌, ap, sym, ◌∙◌, append_assoc, refl}
+use Rattle.std.proofs.Common.{◌+◌, ◌*◌, [], ◌∷◌, append_assoc, refl}
 use Rattle.hb_hpack.specs.HuffmanSteps.{bytes_from}
 use Rattle.hb_hpack.proofs.Writing.{byte_done, byte_goes_on}
 use Rattle.hb_hpack.proofs.huffman.put_bit.Goals as goal

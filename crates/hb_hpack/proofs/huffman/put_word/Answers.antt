@@ -1,10 +1,5 @@
-use Rattle.std.proofs.Common.{◌≡◌, ◌≤◌, ◌++◌, ◌∙◌, refl, sym, ap, subst, List, ℕ, arith}
-use Rattle.std.proofs.lemmas.Result.{IfOk-weaker, on_err_weaker}
-use Rattle.hb_hpack.specs.declared.code_table.Code.{Code}
+use Rattle.std.proofs.Common.{◌≡◌, arith}
 use Rattle.hb_hpack.specs.Huffman.{bits, word}
-use Rattle.hb_hpack.specs.Tables.{code_at}
-use Rattle.hb_hpack.specs.Grown.{IsLonger}
-use Rattle.hb_hpack.specs.HuffmanSteps.{written_on}
 use Rattle.hb_hpack.proofs.CodeTable.{code_is_short, code_is_word}
 use Rattle.hb_hpack.proofs.huffman.put_word.Goals as goal
 

@@ -1,4 +1,4 @@
-use Rattle.std.proofs.Common.{◌≡◌, ◌+◌, ◌*◌, ◌<◌, sym, arith, rules, lit<}
+use Rattle.std.proofs.Common.{◌<◌, arith}
 use Rattle.hb_hpack.proofs.Reading.{IsOpen, stays_open}
 use Rattle.hb_hpack.proofs.CodeTable.{symbols_small}
 use Rattle.hb_hpack.proofs.Taking.{Meets, above_first, in_places, goes_on, symbol_pushed, ended}

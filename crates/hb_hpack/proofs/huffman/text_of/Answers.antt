@@ -1,4 +1,4 @@
-use Rattle.std.proofs.Common.{◌≡◌, ap, sym, ◌∙◌, List, ℕ, Some, refl}
+use Rattle.std.proofs.Common.{sym, ◌∙◌, refl}
 use Rattle.hb_hpack.proofs.Taking.{ends_text}
 use Rattle.hb_hpack.proofs.huffman.text_of.Goals as goal
 

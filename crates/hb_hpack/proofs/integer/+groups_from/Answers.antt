@@ -1,4 +1,4 @@
-use Rattle.std.proofs.Common.{◌≡◌, ℕ, suc, ◌+◌, ◌-◌, ◌*◌, ◌%◌, ◌^◌, ◌<◌, ◌≤◌, sym, ap, ◌∙◌, arith}
+use Rattle.std.proofs.Common.{◌<◌, arith}
 use Rattle.hb_hpack.proofs.Integers.{weight_small, weight_next, group_small}
 use Rattle.hb_hpack.proofs.integer.+groups_from.Goals as goal
 

@@ -1,5 +1,3 @@
-use Rattle.std.proofs.Common.{◌≡◌, ◌≤◌, ◌∙◌, sym, ap, refl, Some}
-use Rattle.hb_hpack.specs.declared.static_table.Span.{Span}
 use Rattle.hb_hpack.proofs.StaticHeaders.{static_header_is, span_within}
 use Rattle.hb_hpack.proofs.static_table.static_header.Goals as goal
 

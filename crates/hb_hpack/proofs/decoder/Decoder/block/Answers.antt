@@ -1,4 +1,4 @@
-use Rattle.std.proofs.Common.{◌≡◌, arith, sym, ◌∙◌, Ok, Err}
+use Rattle.std.proofs.Common.{arith, sym, ◌∙◌, Ok}
 use Rattle.hb_hpack.proofs.Writing.{octets_of}
 use Rattle.hb_hpack.proofs.Blocks.{block_take, block_again, block_read_as}
 use Rattle.hb_hpack.proofs.Outcomes.{no_value}

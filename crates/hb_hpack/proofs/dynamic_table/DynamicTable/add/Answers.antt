@@ -1,6 +1,6 @@
-use Rattle.std.proofs.Common.{◌≡◌, ◌+◌, ◌-◌, ◌<◌, ◌≤◌, List, [], ◌∷◌, ◌∙◌, sym, ap, refl, arith, min, ℕ}
+use Rattle.std.proofs.Common.{◌≡◌, ◌-◌, ◌<◌, ◌≤◌, List, ◌∷◌, ◌∙◌, sym, ap, refl, arith, ℕ}
 use Rattle.hb_hpack.specs.declared.header.Header.{Header}
-use Rattle.hb_hpack.specs.Table.{Table, size_of, total, fitting, added}
+use Rattle.hb_hpack.specs.Table.{Table, size_of, fitting, added}
 use Rattle.hb_hpack.proofs.Fitting.{fitting_more, fitting_none, fitting_zero}
 use Rattle.hb_hpack.proofs.dynamic_table.DynamicTable.add.Goals as goal
 

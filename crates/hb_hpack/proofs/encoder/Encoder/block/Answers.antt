@@ -1,8 +1,6 @@
-use Rattle.std.proofs.Common.{◌≡◌, ◌++◌, ◌∙◌, sym, ap, subst, List, ℕ, refl}
 use Rattle.std.specs.List.{flat_map}
-use Rattle.std.proofs.lemmas.Result.{on_ok_weaker, on_err_weaker, err_from_is_err_and}
-use Rattle.hb_hpack.specs.Grown.{IsLonger}
-use Rattle.hb_hpack.specs.Encoding.{Writing, block_of, opening, header_of}
+use Rattle.std.proofs.lemmas.Result.{on_ok_weaker, on_err_weaker}
+use Rattle.hb_hpack.specs.Encoding.{block_of, opening, header_of}
 use Rattle.hb_hpack.proofs.Appending.{ok_then, err_then}
 use Rattle.hb_hpack.proofs.Encoded.{block_is_read}
 use Rattle.hb_hpack.proofs.encoder.Encoder.block.Goals as goal

@@ -1,9 +1,6 @@
-use Rattle.std.proofs.Common.{◌≡◌, ◌++◌, ◌∷◌, [], ◌∙◌, sym, ap, subst, List, ℕ, Bool, refl, take}
-use Rattle.std.proofs.lemmas.List.{append-nil}
-use Rattle.hb_hpack.specs.declared.spelling.Spelling.TheVariants.{Plain}
-use Rattle.hb_hpack.specs.Table.{Table}
+use Rattle.std.proofs.Common.{◌++◌, ◌∷◌, [], ◌∙◌, sym, ap, subst, List, ℕ}
 use Rattle.hb_hpack.specs.Block.{Reads}
-use Rattle.hb_hpack.specs.Encoding.{Writing, opening, header_of, status_of, block_of, cleared, MayHave, status_header}
+use Rattle.hb_hpack.specs.Encoding.{Writing, opening, status_of, cleared, status_header}
 use Rattle.hb_hpack.proofs.Statuses.{status_is}
 use Rattle.hb_hpack.proofs.Encoded.{status_is_read}
 use Rattle.hb_hpack.proofs.encoder.Encoder.put_status_block.Goals as goal

@@ -1,7 +1,6 @@
-use Rattle.std.proofs.Common.{◌≡◌, ◌+◌, ◌-◌, ◌<◌, ◌≤◌, ◌^◌, List, [], ◌∷◌, ◌++◌, ◌∙◌, sym, ap, refl, arith, min, ℕ}
+use Rattle.std.proofs.Common.{◌≡◌, ◌+◌, List, [], ◌∷◌, ◌++◌, ◌∙◌, sym, ap, arith}
 use Rattle.hb_hpack.specs.declared.header.Header.{Header}
-use Rattle.hb_hpack.specs.Table.{size_of, total, fitting}
-use Rattle.hb_hpack.specs.Lists.{IsListOf}
+use Rattle.hb_hpack.specs.Table.{size_of, total}
 use Rattle.hb_hpack.proofs.Fitting.{total-append, kept_more, fitting_push}
 use Rattle.hb_hpack.proofs.header.HeaderList.add.Goals as goal
 
