@@ -1,0 +1,10 @@
+//! Tests of whole runs of the command line over memory: words and input in, and status, output and error
+//! text out, each compared whole. The expected values come from the rules, and none from the program.
+#![tactic(auto)]
+
+#[cfg(test)]
+mod answers;
+#[cfg(test)]
+mod messages;
+#[cfg(test)]
+mod runs;
