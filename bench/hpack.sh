@@ -11,7 +11,8 @@ for crate in hb_base hb_hpack; do
         if [ -d "$top/crates/$crate/$part" ]; then cp -r "$top/crates/$crate/$part" "$work/crates/$crate/$part"; fi
     done
 done
-cp -r "$top/bench/hpack_bench" "$work/crates/hpack_bench"
+mkdir -p "$work/crates/hpack_bench/src"
+cp "$top/bench/hpack_main.rt.in" "$work/crates/hpack_bench/src/main.rt"
 printf 'hb_base: thiserror\nhb_hpack: hb_base thiserror\nhpack_bench: hb_hpack anyhow\n' > "$work/crates.txt"
 python3 "$top/bench/hpack_stream.py" "$work"
 gcc -O2 -w -o "$work/nghttp2" "$top/bench/hpack_nghttp2.c" -l:libnghttp2.so.14
