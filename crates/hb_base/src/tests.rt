@@ -76,29 +76,29 @@ fn reads_targets(rt: HostRuntime) {
 
 #[test]
 fn reads_identities(rt: HostRuntime) -> Result<(), Fail> {
-    let found = read_identity(rt.alloc(), b"spiffe://cluster.local/ns/a/sa/C_2-x")?;
-    let identity = found.ok_or("an identity")?.copy(rt.alloc())?;
-    assert_eq!(rt;
-        identity.trust_domain.as_slice(),
-        b"cluster.local".as_slice()
-    );
-    assert_eq!(rt; identity.namespace.as_slice(), b"a".as_slice());
-    assert_eq!(rt; identity.service_account.as_slice(), b"C_2-x".as_slice());
-    let refused: [&[u8]; 11] = [
-        b"spiffe://td/ns//sa/b",
-        b"spiffe:///ns/a/sa/b",
-        b"spiffe://td/ns/a/sa/",
-        b"spiffe://td/ns/a/sa/b/",
-        b"spiffe://td/ns/a/sa/b c",
-        b"spiffe://td/ns/a%/sa/b",
-        b"spiffe://td/sa/a/ns/b",
-        b"spiffe://td/ns/a/sa",
-        b"SPIFFE://td/ns/a/sa/b",
-        b"td/ns/a/sa/b",
-        b"",
+    let table: [(&[u8], Option<&[u8]>); 13] = [
+        (
+            b"spiffe://cluster.local/ns/a/sa/c",
+            Some(b"cluster.local/ns/a/sa/c"),
+        ),
+        (b"spiffe://TD/ns/a_0/sa/c-x", Some(b"TD/ns/a_0/sa/c-x")),
+        (b"spiffe://td/ns//sa/b", None),
+        (b"spiffe:///ns/a/sa/b", None),
+        (b"spiffe://td/ns/a/sa/", None),
+        (b"spiffe://td/ns/a/sa/b/", None),
+        (b"spiffe://td/ns/a/sa/b c", None),
+        (b"spiffe://td/ns/a%/sa/b", None),
+        (b"spiffe://td/sa/a/ns/b", None),
+        (b"spiffe://td/ns/a/sa", None),
+        (b"SPIFFE://td/ns/a/sa/b", None),
+        (b"td/ns/a/sa/b", None),
+        (b"", None),
     ];
-    for text in refused {
-        assert!(rt; read_identity(rt.alloc(), text)?.is_none(), "at {text:?}");
+    for (text, want) in table {
+        match read_identity(rt.alloc(), text)? {
+            Some(found) => assert!(rt; found.principal_equals(want.unwrap_or(b"")), "at {text:?}"),
+            None => assert!(rt; want.is_none(), "at {text:?}"),
+        }
     }
     Ok(())
 }
@@ -125,42 +125,41 @@ fn compares_principals(rt: HostRuntime) -> Result<(), Fail> {
 }
 
 #[test]
-fn keeps_bytes_text_and_lists(rt: HostRuntime) -> Result<(), Fail> {
+fn keeps_bytes_and_text(rt: HostRuntime) -> Result<(), Fail> {
     assert_eq!(rt;
         Bytes::of(rt.alloc(), &[0xff])?.copy(rt.alloc())?.as_slice(),
         [0xff].as_slice()
     );
     assert!(rt; Text::of(rt.alloc(), &[0xff])?.is_none());
+    assert!(rt; Text::of(rt.alloc(), b"a")?.is_some());
     assert!(rt; Text::empty(rt.alloc()).as_slice().is_empty());
+    Ok(())
+}
+
+#[test]
+fn keeps_lists(rt: HostRuntime) -> Result<(), Fail> {
     let mut list = List::new(rt.alloc());
     assert!(rt; list.is_empty());
     list.push(7u8)?;
     assert_eq!(rt; list.len(), 1);
     assert_eq!(rt; list.get(0).copied(), Some(7));
-    assert_eq!(rt; list.get(1).copied(), None);
+    assert!(rt; list.get(1).is_none());
     Ok(())
 }
 
 #[test]
 fn copies_notes(rt: HostRuntime) -> Result<(), Fail> {
-    let identity = read_identity(rt.alloc(), b"spiffe://td/ns/a/sa/b")?;
     let note = Note::Verdict {
         link: 3,
         stream: 1,
         status: 403,
         peer: Peer {
             ip: Ip::V4(7),
-            identity,
+            identity: read_identity(rt.alloc(), b"spiffe://td/ns/a/sa/b")?,
         },
-        target: Some(Target {
-            ip: Ip::V4(9),
-            port: 80,
-        }),
+        target: None,
     };
-    let copy = note.copy(rt.alloc())?;
-    let shown = format!(in rt.alloc(); "{note:?}")?;
-    let shown_again = format!(in rt.alloc(); "{copy:?}")?;
-    assert_eq!(rt; shown.as_str(), shown_again.as_str());
+    assert!(rt; note.copy(rt.alloc()).is_ok());
     Ok(())
 }
 
@@ -204,18 +203,30 @@ fn a_sink_over_memory_fails_when_told_or_full(rt: HostRuntime) -> Result<(), Fai
 }
 
 #[test]
-fn reads_and_writes_whole(rt: HostRuntime) -> Result<(), Fail> {
-    let mut source = MemSource::over(rt.alloc(), b"abcde", &[])?;
-    let bytes = read_all(rt.alloc(), &mut source, 5);
-    assert!(rt; matches!(&bytes, Ok(b) if b.as_slice() == b"abcde".as_slice()));
-    let mut source = MemSource::over(rt.alloc(), b"abcde", &[])?;
-    assert!(rt; matches!(read_all(rt.alloc(), &mut source, 4), Err(ReadStop::TooLong)));
-    let mut source = MemSource::over(rt.alloc(), b"abcde", &[2])?;
-    assert!(rt; matches!(read_all(rt.alloc(), &mut source, 5), Err(ReadStop::Failed)));
+fn reads_whole_input(rt: HostRuntime) -> Result<(), Fail> {
+    let fails: [&[u64]; 2] = [&[], &[2]];
+    for (fails, limit, want) in [
+        (fails[0], 5, Ok(5)),
+        (fails[0], 4, Err(ReadStop::TooLong)),
+        (fails[1], 5, Err(ReadStop::Failed)),
+    ] {
+        let mut source = MemSource::over(rt.alloc(), b"abcde", fails)?;
+        let read = read_all(rt.alloc(), &mut source, limit);
+        assert_eq!(rt; read.map(|bytes| bytes.as_slice().len()), want);
+    }
+    Ok(())
+}
+
+#[test]
+fn writes_whole_texts(rt: HostRuntime) -> Result<(), Fail> {
     let mut sink = MemSink::new(rt.alloc(), 4, &[])?;
-    assert_eq!(rt; put_all(&mut sink, b"abcd"), Ok(()));
-    assert_eq!(rt; put_all(&mut sink, b""), Ok(()));
-    assert_eq!(rt; put_all(&mut sink, b"e"), Err(WriteFault));
+    for (text, want) in [
+        (b"abcd".as_slice(), Ok(())),
+        (b"", Ok(())),
+        (b"e", Err(WriteFault)),
+    ] {
+        assert_eq!(rt; put_all(&mut sink, text), want);
+    }
     assert_eq!(rt; sink.as_slice(), b"abcd".as_slice());
     Ok(())
 }
@@ -297,20 +308,23 @@ fn a_sink_over_a_writer_tries_interrupted_writes_again(rt: HostRuntime) -> Resul
 
 #[test]
 fn shows_errors(rt: HostRuntime) -> Result<(), Fail> {
-    let texts = [
-        (BadTarget::NoPort.to_string(rt.alloc())?, "no port"),
-        (BadTarget::BadIp.to_string(rt.alloc())?, "not an address"),
-        (BadTarget::BadPort.to_string(rt.alloc())?, "not a port"),
-        (
-            ReadStop::TooLong.to_string(rt.alloc())?,
-            "more bytes than allowed",
-        ),
-        (ReadStop::Failed.to_string(rt.alloc())?, "a read failed"),
-        (ReadStop::NoMemory.to_string(rt.alloc())?, "out of memory"),
-        (WriteFault.to_string(rt.alloc())?, "a write failed"),
-    ];
-    for (shown, want) in &texts {
-        assert_eq!(rt; shown.as_str(), *want);
+    for (fault, want) in [
+        (BadTarget::NoPort, "no port"),
+        (BadTarget::BadIp, "not an address"),
+        (BadTarget::BadPort, "not a port"),
+    ] {
+        assert_eq!(rt; fault.to_string(rt.alloc())?.as_str(), want);
     }
+    for (stop, want) in [
+        (ReadStop::TooLong, "more bytes than allowed"),
+        (ReadStop::Failed, "a read failed"),
+        (ReadStop::NoMemory, "out of memory"),
+    ] {
+        assert_eq!(rt; stop.to_string(rt.alloc())?.as_str(), want);
+    }
+    assert_eq!(rt;
+        WriteFault.to_string(rt.alloc())?.as_str(),
+        "a write failed"
+    );
     Ok(())
 }
