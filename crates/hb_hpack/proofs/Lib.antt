@@ -16,3 +16,4 @@ pub mod Appending
 pub mod StaticIndexes
 pub mod Statuses
 pub mod Encoded
+pub mod Places

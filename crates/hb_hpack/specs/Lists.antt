@@ -1,5 +1,5 @@
 -- Header lists, and what the decoder answers.
-use Rattle.std.specs.Prelude.{◌≡◌, ℕ, ◌-◌, ◌^◌, min, List, ◌++◌, length, Result, Ok, Err}
+use Rattle.std.specs.Prelude.{◌≡◌, ℕ, ◌+◌, ◌-◌, ◌^◌, min, List, ◌++◌, length, Result, Ok, Err}
 use Rattle.hb_base.specs.declared.or.Or.{Or}
 use Rattle.hb_base.specs.declared.or.Or.TheVariants as or
 use Rattle.hb_hpack.specs.declared.header.Header.{Header}
@@ -24,14 +24,10 @@ GivesList next (Ok list) read = (headers : List Header) × (read ≡ Ok (headers
 GivesList next (Err (or.Fault s)) read = read ≡ Err s
 GivesList next (Err or.NoMemory) read = Unit {0}
 
--- the fault that a block's reading stops at, by its offset
-abbrev pub fault_of : List ℕ → Stop → HpackFault
-fault_of block s = record { at = length block - s.left; why = s.why }
-
--- the same of a whole block
+-- The same of a whole block: a fault's offset and the bytes left from its place on make the block's length.
 abbrev pub GivesBlock : List ℕ → Table → Result HeaderList (Or HpackFault) → Result (List Header × Table) Stop → Type 0
 GivesBlock block next (Ok list) read = (headers : List Header) × (read ≡ Ok (headers, next)) × IsListOf headers list
-GivesBlock block next (Err (or.Fault f)) read = (s : Stop) × (read ≡ Err s) × (f ≡ fault_of block s)
+GivesBlock block next (Err (or.Fault f)) read = (s : Stop) × (read ≡ Err s) × (f.at + s.left ≡ length block) × (f.why ≡ s.why)
 GivesBlock block next (Err or.NoMemory) read = Unit {0}
 
 -- the block was read as these headers and this table, if memory didn't run out

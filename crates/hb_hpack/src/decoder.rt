@@ -123,7 +123,7 @@ impl Decoder {
             Ok(list) => Ok(list),
             Err(Or::NoMemory) => Err(Or::NoMemory),
             Err(Or::Fault(stop)) => Err(Or::Fault(HpackFault {
-                at: b.len().saturating_sub(stop.left),
+                at: b.len() - stop.left,
                 why: stop.why,
             })),
         }
