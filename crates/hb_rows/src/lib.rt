@@ -5,6 +5,16 @@
 #[cfg(test)]
 mod answers;
 #[cfg(test)]
+mod faults;
+#[cfg(test)]
+mod memory;
+#[cfg(test)]
 mod messages;
 #[cfg(test)]
+mod policies;
+#[cfg(test)]
+mod refusals;
+#[cfg(test)]
 mod runs;
+#[cfg(test)]
+mod words;

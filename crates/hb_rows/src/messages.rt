@@ -1,5 +1,13 @@
 //! gRPC messages in hexadecimal digits, each a delta discovery response. Spaces join parts.
 
+/// The type of addresses, `type.googleapis.com/istio.workload.Address`.
+pub const ADDRESS_TYPE: &str =
+    "747970652e676f6f676c65617069732e636f6d2f697374696f2e776f726b6c6f61642e41646472657373";
+
+/// The type of policies, `type.googleapis.com/istio.security.Authorization`.
+pub const POLICY_TYPE: &str =
+    "747970652e676f6f676c65617069732e636f6d2f697374696f2e73656375726974792e417574686f72697a6174696f6e";
+
 /// The response `x1` with the workload `u1` of version 1: `web` of namespace `a` with the address 10.0.0.7,
 /// HBONE, on node `n1`; it names the policy `a/p`.
 pub const WORKLOAD: &str = "000000008a 1258 0a0131 124f 0a2a\
@@ -32,7 +40,7 @@ pub const ALLOW_NONE: &str = "0000000077 123f 0a0131 1237 0a30\
     2a027834";
 
 /// The response `x6`, which removes the name `u1` and adds it.
-pub const WORKLOAD_REMOVED_AND_ADDED: &str = "000000008e 1258 0a0131 124f 0a2a\
+pub const REMOVED_AND_ADDED: &str = "000000008e 1258 0a0131 124f 0a2a\
     747970652e676f6f676c65617069732e636f6d2f697374696f2e776f726b6c6f61642e41646472657373\
     1221 0a1f 0a03776562 120161 1a040a000007 2801 4a026e31 820103612f70 a201027531 1a027531 222a\
     747970652e676f6f676c65617069732e636f6d2f697374696f2e776f726b6c6f61642e41646472657373\

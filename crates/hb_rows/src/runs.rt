@@ -1,85 +1,83 @@
 //! One run over memory, compared whole.
 
+use crate::messages::{
+    ADDRESS_TYPE, ALLOW_NONE, ALLOW_ONE, DENY_ALL, POLICY_TYPE, REMOVED_AND_ADDED, WORKLOAD,
+};
 use hb_base::{MemSink, MemSource};
 use hb_cli::run;
-use std::alloc::Global;
+use std::alloc::{AllocError, Global};
 use std::process::Abort;
 
-/// Room for each line that a run may write.
-const ROOM: usize = 256;
-
-/// The words of a question with an identity.
-pub const AS_C: [&str; 6] = [
-    "check",
-    "--node",
-    "n1",
-    "10.0.0.9",
-    "spiffe://cluster.local/ns/a/sa/c",
-    "10.0.0.7:8080",
-];
-
-/// The words of a question without an identity.
-pub const AS_NONE: [&str; 6] = ["check", "--node", "n1", "10.0.0.9", "none", "10.0.0.7:8080"];
+/// The words of a question with an identity, each ended by `|`.
+pub const AS_C: &str = "check|--node|n1|SOURCE|IDENTITY|TARGET|";
 
 /// The words of a question with another identity.
-pub const AS_D: [&str; 6] = [
-    "check",
-    "--node",
-    "n1",
-    "10.0.0.9",
-    "spiffe://cluster.local/ns/b/sa/d",
-    "10.0.0.7:8080",
-];
+pub const AS_D: &str = "check|--node|n1|SOURCE|spiffe://cluster.local/ns/b/sa/d|TARGET|";
 
-/// Which calls of a run fail, counted from 1: the takes of the input, and the puts of the output and of the
-/// error text. `out` has this room.
+/// The words of a question without an identity.
+pub const AS_NONE: &str = "check|--node|n1|SOURCE|none|TARGET|";
+
+/// Which calls of a run fail, counted from 1: the takes of the input, the puts of the output, and the puts of
+/// the error text; and the room of the latter two.
 #[derive(Clone, Copy, Debug)]
 pub struct Failing<'a> {
     pub takes: &'a [u64],
-    pub room: usize,
     pub puts: &'a [u64],
-    pub losses: &'a [u64],
+    pub room: usize,
+    pub err_puts: &'a [u64],
+    pub err_room: usize,
 }
 
-/// No call fails.
+/// No call fails, and there is room for each line.
 pub const NOTHING_FAILS: Failing<'static> = Failing {
     takes: &[],
-    room: ROOM,
     puts: &[],
-    losses: &[],
+    room: 256,
+    err_puts: &[],
+    err_room: 256,
 };
 
-/// What a run ended with: its status, and all that it wrote.
-#[derive(Debug, PartialEq, Drop)]
-pub struct Ending {
-    pub status: u8,
-    pub out: String,
-    pub err: String,
+fn text_of(bytes: &[u8]) -> &str {
+    std::str::from_utf8(bytes).unwrap_or("no text")
 }
 
-/// An ending with this status, these bytes of output and these of error text.
-pub fn ended_with(rt: &impl Abort, alloc: Global, status: u8, out: &[u8], err: &[u8]) -> Ending {
-    Ending {
-        status,
-        out: String::from_str(alloc, text_of(out)).expect(rt, "memory"),
-        err: String::from_str(alloc, text_of(err)).expect(rt, "memory"),
+/// A word, or the usual one that its name stands for.
+fn word_of(name: &str) -> &str {
+    match name {
+        "SOURCE" => "10.0.0.9",
+        "IDENTITY" => "spiffe://cluster.local/ns/a/sa/c",
+        "TARGET" => "10.0.0.7:8080",
+        word => word,
     }
 }
 
-/// Words as a program is given them.
-pub fn words_of(rt: &impl Abort, alloc: Global, texts: &[&str]) -> Vec<String> {
+/// Words as a program is given them, of a text in which each is ended by `|`.
+pub fn words_of(alloc: Global, text: &str) -> Result<Vec<String>, AllocError> {
     let mut words = Vec::new(alloc);
-    for text in texts {
-        let word = String::from_str(alloc, text).expect(rt, "memory");
-        words.push(word).expect(rt, "memory");
+    for name in text.split_terminator('|') {
+        words.push(String::from_str(alloc, word_of(name))?)?;
     }
-    words
+    Ok(words)
+}
+
+/// The digits of a part of an input, or those that its name stands for.
+fn digits_of(name: &str) -> &str {
+    match name {
+        "ADDRESS_TYPE" => ADDRESS_TYPE,
+        "POLICY_TYPE" => POLICY_TYPE,
+        "WORKLOAD" => WORKLOAD,
+        "ALLOW_ONE" => ALLOW_ONE,
+        "ALLOW_NONE" => ALLOW_NONE,
+        "DENY_ALL" => DENY_ALL,
+        "REMOVED_AND_ADDED" => REMOVED_AND_ADDED,
+        digits => digits,
+    }
 }
 
 /// Appends the bytes that hexadecimal digits stand for, without the spaces.
-fn push_bytes(rt: &impl Abort, bytes: &mut Vec<u8>, text: &str) {
+fn push_bytes(bytes: &mut Vec<u8>, digits: &str) -> Result<(), AllocError> {
     let mut high: Option<u8> = None;
-    for digit in text.as_bytes() {
+    for digit in digits.as_bytes() {
         let value = match *digit {
             b'0'..=b'9' => *digit - b'0',
             b'a'..=b'f' => *digit - b'a' + 10,
@@ -88,68 +86,85 @@ fn push_bytes(rt: &impl Abort, bytes: &mut Vec<u8>, text: &str) {
         match high {
             None => high = Some(value),
             Some(first) => {
-                bytes.push((first % 16) * 16 + value).expect(rt, "memory");
+                bytes.push((first % 16) * 16 + value)?;
                 high = None;
             }
         }
     }
+    Ok(())
 }
 
-/// The bytes of messages in hexadecimal digits.
-pub fn input_of(rt: &impl Abort, alloc: Global, messages: &[&str]) -> Vec<u8> {
+/// The input of a text: hexadecimal digits, and names of parts, with spaces between.
+pub fn input_of(alloc: Global, text: &str) -> Result<Vec<u8>, AllocError> {
     let mut bytes = Vec::new(alloc);
-    for message in messages {
-        push_bytes(rt, &mut bytes, message);
+    for name in text.split(' ') {
+        push_bytes(&mut bytes, digits_of(name))?;
     }
-    bytes
+    Ok(bytes)
 }
 
-fn text_of(bytes: &[u8]) -> &str {
-    std::str::from_utf8(bytes).unwrap_or("no text")
-}
-
-/// A run over memory, some of whose calls fail.
+/// A run over memory, some of whose calls fail: its status, and all that it wrote as output and as error text.
 pub fn run_over(
-    rt: &impl Abort,
     alloc: Global,
-    texts: &[&str],
+    words: &str,
     bytes: &[u8],
     failing: Failing<'_>,
-) -> Ending {
-    let words = words_of(rt, alloc, texts);
-    let mut input = MemSource::over(alloc, bytes, failing.takes).expect(rt, "memory");
-    let mut out = MemSink::new(alloc, failing.room, failing.puts).expect(rt, "memory");
-    let mut err = MemSink::new(alloc, ROOM, failing.losses).expect(rt, "memory");
+) -> Result<String, AllocError> {
+    let words = words_of(alloc, words)?;
+    let mut input = MemSource::over(alloc, bytes, failing.takes)?;
+    let mut out = MemSink::new(alloc, failing.room, failing.puts)?;
+    let mut err = MemSink::new(alloc, failing.err_room, failing.err_puts)?;
     let status = run(alloc, words.as_slice(), &mut input, &mut out, &mut err);
-    ended_with(rt, alloc, status, out.as_slice(), err.as_slice())
+    told(alloc, status, out.as_slice(), err.as_slice())
 }
 
-/// Runs over messages, and compares the answer on `out`, behind which nothing stands on `err`.
+/// A status, and the output and the error text, each as a Rust literal.
+pub fn told(alloc: Global, status: u8, out: &[u8], err: &[u8]) -> Result<String, AllocError> {
+    let out = text_of(out);
+    let err = text_of(err);
+    format!(in alloc; "{status} {out:?} {err:?}")
+}
+
+/// Runs over an input, and compares the status and all that was written.
+pub fn assert_ends(
+    rt: &impl Abort,
+    alloc: Global,
+    words: &str,
+    input: &str,
+    failing: Failing<'_>,
+    want: &str,
+) -> Result<(), AllocError> {
+    let bytes = input_of(alloc, input)?;
+    let ended = run_over(alloc, words, &bytes, failing)?;
+    assert!(rt;
+        ended.as_bytes() == want.as_bytes(),
+        "{words} {input} {failing:?}: {ended}, not {want}"
+    );
+    Ok(())
+}
+
+/// Runs over an input, and compares the answer, beside which nothing is written.
 pub fn assert_answers(
     rt: &impl Abort,
     alloc: Global,
-    texts: &[&str],
-    messages: &[&str],
+    words: &str,
+    input: &str,
     answer: &str,
-) {
-    let input = input_of(rt, alloc, messages);
-    let ended = run_over(rt, alloc, texts, &input, NOTHING_FAILS);
-    let want = ended_with(rt, alloc, 0, answer.as_bytes(), b"");
-    assert_eq!(rt; ended, want, "{texts:?}, {messages:?}");
+) -> Result<(), AllocError> {
+    let want = format!(in alloc; "0 \"{answer}\\n\" \"\"")?;
+    assert_ends(rt, alloc, words, input, NOTHING_FAILS, want.as_str())
 }
 
-/// Runs over messages, and compares the status, which isn't 0, and its line on `err`, beside which nothing stands
-/// on `out`.
+/// Runs over an input, and compares the status, which isn't 0, and its line of error text, beside which nothing is
+/// written.
 pub fn assert_refuses(
     rt: &impl Abort,
     alloc: Global,
-    texts: &[&str],
-    messages: &[&str],
+    words: &str,
+    input: &str,
     status: u8,
     line: &str,
-) {
-    let input = input_of(rt, alloc, messages);
-    let ended = run_over(rt, alloc, texts, &input, NOTHING_FAILS);
-    let want = ended_with(rt, alloc, status, b"", line.as_bytes());
-    assert_eq!(rt; ended, want, "{texts:?}, {messages:?}");
+) -> Result<(), AllocError> {
+    let want = format!(in alloc; "{status} \"\" \"{line}\\n\"")?;
+    assert_ends(rt, alloc, words, input, NOTHING_FAILS, want.as_str())
 }

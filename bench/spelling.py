@@ -1,0 +1,112 @@
+"""Spells responses and their records, for the scripts beside this one that print tables of tests."""
+
+ADDRESS = b"type.googleapis.com/istio.workload.Address"
+AUTHORIZATION = b"type.googleapis.com/istio.security.Authorization"
+
+
+def varint(n):
+    out = b""
+    while n > 127:
+        out += bytes([n % 128 + 128])
+        n //= 128
+    return out + bytes([n])
+
+
+def span(number, content):
+    if isinstance(content, str):
+        content = content.encode()
+    return varint(number * 8 + 2) + varint(len(content)) + content
+
+
+def text(number, content):
+    return span(number, content) if content else b""
+
+
+def number(field, n):
+    return varint(field * 8) + varint(n) if n else b""
+
+
+# String matches.
+
+
+def exact(s):
+    return span(1, s)
+
+
+def prefix(s):
+    return span(2, s)
+
+
+def suffix(s):
+    return span(3, s)
+
+
+PRESENCE = span(4, "")
+
+
+# A match is (principals, not_principals); a clause is a list of matches, a rule a list of clauses.
+
+
+def match(positive, negative):
+    return b"".join(span(3, v) for v in positive) + b"".join(span(4, v) for v in negative)
+
+
+def rule(clauses):
+    return b"".join(span(2, b"".join(span(2, match(*m)) for m in clause)) for clause in clauses)
+
+
+SCOPES = {"GLOBAL": 0, "NAMESPACE": 1, "SELECTOR": 2}
+ACTIONS = {"ALLOW": 0, "DENY": 1}
+
+
+def policy(namespace, name, scope, action, rules):
+    return (
+        text(1, name)
+        + text(2, namespace)
+        + number(3, SCOPES[scope])
+        + number(4, ACTIONS[action])
+        + b"".join(span(5, rule(r)) for r in rules)
+    )
+
+
+def workload(name, namespace, ips, node, listed, *more):
+    """An address record: a workload, with more fields."""
+    return span(
+        1,
+        text(1, name)
+        + text(2, namespace)
+        + b"".join(span(3, bytes(ip)) for ip in ips)
+        + text(9, node)
+        + b"".join(span(16, x) for x in listed)
+        + b"".join(more),
+    )
+
+
+def resource(type_url, name, value, more=b""):
+    """The field of a response with a resource of version 1, which has more fields."""
+    return span(2, span(1, "1") + span(2, span(1, type_url) + span(2, value)) + span(3, name) + more)
+
+
+def grpc(message):
+    return b"\0" + len(message).to_bytes(4, "big") + message
+
+
+def response(type_url, resources, *more):
+    """A response with these resources, its type, and more bytes."""
+    return grpc(b"".join(resource(type_url, n, v) for n, v in resources) + span(4, type_url) + b"".join(more))
+
+
+def addresses(*resources):
+    return response(ADDRESS, resources)
+
+
+def policies(*resources):
+    return response(AUTHORIZATION, resources)
+
+
+def shown(messages):
+    """Messages, or names of them, in digits, in which the two types stand by name."""
+    text = " ".join(m if isinstance(m, str) else m.hex() for m in messages)
+    for name, url in (("ADDRESS_TYPE", ADDRESS), ("POLICY_TYPE", AUTHORIZATION)):
+        text = text.replace(url.hex(), f" {name} ")
+    return " ".join(text.split())

@@ -1,0 +1,88 @@
+//! Reads and writes that fail.
+
+use crate::runs::{Failing, assert_ends};
+use std::test::Fail;
+
+/// Words, the input, the take of the input that fails, the put of the output that fails, the output's room, the put of
+/// the error text that fails, its room, and the status, the output and the error text. 0 stands for no call.
+const FAULTS: &str = r#"
+# The first take fails, or the second, behind all of the input; whatever the input is.
+check|--node|n1|SOURCE|IDENTITY|TARGET|; WORKLOAD; 1; 0; 64; 0; 64; 6 "" "hbone: read fault\n"
+check|--node|n1|SOURCE|IDENTITY|TARGET|; WORKLOAD; 2; 0; 64; 0; 64; 6 "" "hbone: read fault\n"
+check|--node|n1|SOURCE|IDENTITY|TARGET|; ; 1; 0; 64; 0; 64; 6 "" "hbone: read fault\n"
+check|--node|n1|SOURCE|IDENTITY|TARGET|; WORKLOAD ALLOW_ONE DENY_ALL; 2; 0; 64; 0; 64; 6 "" "hbone: read fault\n"
+check|--node|n1|SOURCE|IDENTITY|TARGET|; 00; 1; 0; 64; 0; 64; 6 "" "hbone: read fault\n"
+check|--node|n1|SOURCE|IDENTITY|TARGET|; 00; 2; 0; 64; 0; 64; 6 "" "hbone: read fault\n"
+check|--node|n1|SOURCE|IDENTITY|TARGET|; WORKLOAD REMOVED_AND_ADDED; 2; 0; 64; 0; 64; 6 "" "hbone: read fault\n"
+# A take fails that never comes.
+check|--node|n1|SOURCE|IDENTITY|TARGET|; WORKLOAD; 1000; 0; 64; 0; 64; 0 "allow\n" ""
+# The first put of the output fails.
+check|--node|n1|SOURCE|IDENTITY|TARGET|; WORKLOAD; 0; 1; 64; 0; 64; 7 "" "hbone: write fault\n"
+check|--node|n1|SOURCE|IDENTITY|TARGET|; WORKLOAD DENY_ALL; 0; 1; 64; 0; 64; 7 "" "hbone: write fault\n"
+check|--node|n1|SOURCE|IDENTITY|TARGET|; ; 0; 1; 64; 0; 64; 7 "" "hbone: write fault\n"
+# The output has room for a part of the answer.
+check|--node|n1|SOURCE|IDENTITY|TARGET|; WORKLOAD; 0; 0; 0; 0; 64; 7 "" "hbone: write fault\n"
+check|--node|n1|SOURCE|IDENTITY|TARGET|; WORKLOAD; 0; 0; 1; 0; 64; 7 "a" "hbone: write fault\n"
+check|--node|n1|SOURCE|IDENTITY|TARGET|; WORKLOAD; 0; 0; 5; 0; 64; 7 "allow" "hbone: write fault\n"
+check|--node|n1|SOURCE|IDENTITY|TARGET|; WORKLOAD; 0; 0; 6; 0; 64; 0 "allow\n" ""
+check|--node|n1|SOURCE|IDENTITY|TARGET|; WORKLOAD DENY_ALL; 0; 0; 4; 0; 64; 7 "deny" "hbone: write fault\n"
+check|--node|n1|SOURCE|IDENTITY|TARGET|; WORKLOAD DENY_ALL; 0; 0; 5; 0; 64; 0 "deny\n" ""
+check|--node|n1|SOURCE|IDENTITY|TARGET|; ; 0; 0; 3; 0; 64; 7 "unk" "hbone: write fault\n"
+check|--node|n1|SOURCE|IDENTITY|TARGET|; ; 0; 0; 7; 0; 64; 7 "unknown" "hbone: write fault\n"
+check|--node|n1|SOURCE|IDENTITY|TARGET|; ; 0; 0; 8; 0; 64; 0 "unknown\n" ""
+# A put fails behind a part, or never comes.
+check|--node|n1|SOURCE|IDENTITY|TARGET|; WORKLOAD; 0; 2; 3; 0; 64; 7 "all" "hbone: write fault\n"
+check|--node|n1|SOURCE|IDENTITY|TARGET|; WORKLOAD; 0; 2; 64; 0; 64; 0 "allow\n" ""
+# Nothing is put of an input that is refused or can't be read.
+check|--node|n1|SOURCE|IDENTITY|TARGET|; 00; 0; 1; 0; 0; 64; 3 "" "hbone: message 1: not a response\n"
+check|--node|n1|SOURCE|IDENTITY|TARGET|; WORKLOAD REMOVED_AND_ADDED; 0; 1; 0; 0; 64; 3 "" "hbone: message 2: not yet\n"
+check|--node|n1|SOURCE|IDENTITY|TARGET|; WORKLOAD; 2; 1; 0; 0; 64; 6 "" "hbone: read fault\n"
+# The error text fails, at once or behind a part: the status is the same.
+check|--node|n1|SOURCE|IDENTITY|TARGET|; WORKLOAD; 0; 0; 64; 1; 0; 0 "allow\n" ""
+check|--node|n1|SOURCE|IDENTITY|TARGET|; 00; 0; 0; 64; 1; 64; 3 "" ""
+check|--node|n1|SOURCE|IDENTITY|TARGET|; 00; 0; 0; 64; 0; 0; 3 "" ""
+check|--node|n1|SOURCE|IDENTITY|TARGET|; 00; 0; 0; 64; 0; 10; 3 "" "hbone: mes"
+check|--node|n1|SOURCE|IDENTITY|TARGET|; 00; 0; 0; 64; 2; 10; 3 "" "hbone: mes"
+check|--node|n1|SOURCE|IDENTITY|TARGET|; 00; 0; 0; 64; 2; 64; 3 "" "hbone: message 1: not a response\n"
+check|--node|n1|SOURCE|IDENTITY|TARGET|; WORKLOAD; 1; 0; 64; 1; 64; 6 "" ""
+check|--node|n1|SOURCE|IDENTITY|TARGET|; WORKLOAD; 1; 0; 64; 0; 17; 6 "" "hbone: read fault"
+check|--node|n1|SOURCE|IDENTITY|TARGET|; WORKLOAD; 1; 0; 64; 0; 18; 6 "" "hbone: read fault\n"
+check|--node|n1|SOURCE|IDENTITY|TARGET|; WORKLOAD; 0; 1; 64; 1; 64; 7 "" ""
+check|--node|n1|SOURCE|IDENTITY|TARGET|; WORKLOAD; 0; 0; 2; 0; 5; 7 "al" "hbone"
+check|; WORKLOAD; 0; 0; 64; 1; 64; 2 "" ""
+check|; WORKLOAD; 0; 0; 64; 0; 13; 2 "" "hbone: words:"
+# Words that aren't accepted, and reads and writes that fail.
+check|; WORKLOAD; 1; 0; 64; 0; 64; 2 "" "hbone: words: --node is wanted behind the command\n"
+check|; 00; 1; 1; 0; 0; 64; 2 "" "hbone: words: --node is wanted behind the command\n"
+check|; WORKLOAD; 1; 1; 0; 1; 0; 2 "" ""
+# All of them fail.
+check|--node|n1|SOURCE|IDENTITY|TARGET|; WORKLOAD; 1; 1; 0; 1; 0; 6 "" ""
+check|--node|n1|SOURCE|IDENTITY|TARGET|; WORKLOAD; 0; 1; 0; 1; 0; 7 "" """#;
+
+fn number(field: Option<&str>) -> u64 {
+    field.unwrap_or("").trim().parse::<u64>().unwrap_or(0)
+}
+
+#[test]
+fn faults_have_their_status(rt: HostRuntime) -> Result<(), Fail> {
+    for line in FAULTS.lines().skip(1).filter(|line| !line.starts_with('#')) {
+        let mut fields = line.split(';');
+        let words = fields.next().unwrap_or("");
+        let input = fields.next().unwrap_or("");
+        let take = number(fields.next());
+        let put = number(fields.next());
+        let room = number(fields.next());
+        let err_put = number(fields.next());
+        let err_room = number(fields.next());
+        let want = fields.next().unwrap_or("").trim();
+        let failing = Failing {
+            takes: &[take],
+            puts: &[put],
+            room: room as usize,
+            err_puts: &[err_put],
+            err_room: err_room as usize,
+        };
+        assert_ends(&rt, rt.alloc(), words, input, failing, want)?;
+    }
+    Ok(())
+}

@@ -1,0 +1,237 @@
+//! Inputs that are refused. bench/refusal_rows.py prints this file: it spells the messages, and has each number and reason
+//! as it was worked out by hand.
+
+use crate::runs::{AS_C, assert_refuses};
+use std::test::Fail;
+
+/// The input, and the line that tells why it is refused. A line that begins with `#` says what the next one is.
+const REFUSALS: &str = "\
+# A name is removed and added in the second message.
+WORKLOAD REMOVED_AND_ADDED; hbone: message 2: not yet
+# One byte.
+00; hbone: message 1: not a response
+# A front of the first five bytes.
+00000000; hbone: message 1: not a response
+# A message of no bytes.
+0000000000; hbone: message 1: not a response
+# The last byte is missing.
+000000008a12580a0131124f0a2a ADDRESS_TYPE 12210a1f0a037765621201611a040a00000728014a026e31820103612f70a2010275311a027531222a ADDRESS_TYPE 2a0278; hbone: message 1: not a response
+# The first byte is missing.
+0000008a12580a0131124f0a2a ADDRESS_TYPE 12210a1f0a037765621201611a040a00000728014a026e31820103612f70a2010275311a027531222a ADDRESS_TYPE 2a027831; hbone: message 1: not a response
+# One byte more.
+WORKLOAD 00; hbone: message 2: not a response
+# A front of a second message.
+WORKLOAD 000000008a12580a0131124f0a2a ADDRESS_TYPE 12210a1f0a037765621201611a040a00000728014a026e31820103612f70a2010275311a027531222a ADDRESS_TYPE 2a0278; hbone: message 2: not a response
+# A length of one less.
+000000008912580a0131124f0a2a ADDRESS_TYPE 12210a1f0a037765621201611a040a00000728014a026e31820103612f70a2010275311a027531222a ADDRESS_TYPE 2a027831; hbone: message 1: not a response
+# A length of one more.
+000000008b12580a0131124f0a2a ADDRESS_TYPE 12210a1f0a037765621201611a040a00000728014a026e31820103612f70a2010275311a027531222a ADDRESS_TYPE 2a027831; hbone: message 1: not a response
+# The length in the other order of bytes.
+008a00000012580a0131124f0a2a ADDRESS_TYPE 12210a1f0a037765621201611a040a00000728014a026e31820103612f70a2010275311a027531222a ADDRESS_TYPE 2a027831; hbone: message 1: not a response
+# Flag 1.
+010000008a12580a0131124f0a2a ADDRESS_TYPE 12210a1f0a037765621201611a040a00000728014a026e31820103612f70a2010275311a027531222a ADDRESS_TYPE 2a027831; hbone: message 1: not a response
+# Flag 2.
+020000008a12580a0131124f0a2a ADDRESS_TYPE 12210a1f0a037765621201611a040a00000728014a026e31820103612f70a2010275311a027531222a ADDRESS_TYPE 2a027831; hbone: message 1: not a response
+# Flag 255.
+ff0000008a12580a0131124f0a2a ADDRESS_TYPE 12210a1f0a037765621201611a040a00000728014a026e31820103612f70a2010275311a027531222a ADDRESS_TYPE 2a027831; hbone: message 1: not a response
+# Flag 1 in the second message.
+WORKLOAD 010000008a12580a0131124f0a2a ADDRESS_TYPE 12210a1f0a037765621201611a040a00000728014a026e31820103612f70a2010275311a027531222a ADDRESS_TYPE 2a027831; hbone: message 2: not a response
+# A length of 67,108,864, cut short.
+000400000012580a0131124f0a2a ADDRESS_TYPE 12210a1f0a037765621201611a040a00000728014a026e31820103612f70a2010275311a027531222a ADDRESS_TYPE 2a027831; hbone: message 1: not a response
+# A length of 67,108,865.
+000400000112580a0131124f0a2a ADDRESS_TYPE 12210a1f0a037765621201611a040a00000728014a026e31820103612f70a2010275311a027531222a ADDRESS_TYPE 2a027831; hbone: message 1: not a response
+# The greatest length.
+00ffffffff12580a0131124f0a2a ADDRESS_TYPE 12210a1f0a037765621201611a040a00000728014a026e31820103612f70a2010275311a027531222a ADDRESS_TYPE 2a027831; hbone: message 1: not a response
+# An unknown type.
+000000002d222b747970652e676f6f676c65617069732e636f6d2f697374696f2e776f726b6c6f61642e576f726b6c6f6164; hbone: message 1: not a response
+# An unknown type with resources.
+000000002512200a013112170a017812120a100a01771201611a040a0000074a026e311a027531220178; hbone: message 1: not a response
+# A front of a type.
+000000007512480a0131123f0a29747970652e676f6f676c65617069732e636f6d2f697374696f2e776f726b6c6f61642e41646472657312120a100a01771201611a040a0000074a026e311a0275312229747970652e676f6f676c65617069732e636f6d2f697374696f2e776f726b6c6f61642e416464726573; hbone: message 1: not a response
+# A type and one byte more.
+0000000079124a0a013112410a2b ADDRESS_TYPE 2f12120a100a01771201611a040a0000074a026e311a027531222b ADDRESS_TYPE 2f; hbone: message 1: not a response
+# No type.
+000000004812461a02753112400a2a ADDRESS_TYPE 12120a100a01771201611a040a0000074a026e31; hbone: message 1: not a response
+# An empty type.
+0000000023121f0a013112160a0012120a100a01771201611a040a0000074a026e311a0275312200; hbone: message 1: not a response
+# An unknown type behind a known one.
+000000002f222a ADDRESS_TYPE 220178; hbone: message 1: not a response
+# The type under another wire type.
+00000000022001; hbone: message 1: not a response
+# The type as the nonce.
+000000002c2a2a ADDRESS_TYPE; hbone: message 1: not a response
+# Bad UTF-8 in the version of the system.
+000000002f0a01ff222a ADDRESS_TYPE; hbone: message 1: not a response
+# Bad UTF-8 in the first of two versions of the system.
+00000000320a01ff0a0178222a ADDRESS_TYPE; hbone: message 1: not a response
+# Bad UTF-8 in the first of two types.
+000000002f2201ff222a ADDRESS_TYPE; hbone: message 1: not a response
+# Bad UTF-8 in the nonce.
+000000002f222a ADDRESS_TYPE 2a01ff; hbone: message 1: not a response
+# Bad UTF-8 in a removed name.
+000000002f222a ADDRESS_TYPE 3201ff; hbone: message 1: not a response
+# Bad UTF-8 in a resource's version.
+000000007712490a01ff1a02753112400a2a ADDRESS_TYPE 12120a100a01771201611a040a0000074a026e31222a ADDRESS_TYPE; hbone: message 1: not a response
+# Bad UTF-8 in a resource's name.
+000000007312451a01ff12400a2a ADDRESS_TYPE 12120a100a01771201611a040a0000074a026e31222a ADDRESS_TYPE; hbone: message 1: not a response
+# Bad UTF-8 in the type of a resource's record.
+000000004b121d1a02753112170a01ff12120a100a01771201611a040a0000074a026e31222a ADDRESS_TYPE; hbone: message 1: not a response
+# A text of UTF-8 that is cut.
+000000002f222a ADDRESS_TYPE 2a01c3; hbone: message 1: not a response
+# A text of UTF-8 that is too long for its character.
+0000000030222a ADDRESS_TYPE 2a02c080; hbone: message 1: not a response
+# A surrogate in UTF-8.
+0000000031222a ADDRESS_TYPE 2a03eda080; hbone: message 1: not a response
+# A tag of number 0.
+000000002d222a ADDRESS_TYPE 00; hbone: message 1: not a response
+# Wire type 3.
+000000002d222a ADDRESS_TYPE 1b; hbone: message 1: not a response
+# Wire type 4.
+000000002d222a ADDRESS_TYPE 1c; hbone: message 1: not a response
+# Wire type 6.
+000000002e222a ADDRESS_TYPE 1e00; hbone: message 1: not a response
+# Wire type 7.
+000000002e222a ADDRESS_TYPE 1f00; hbone: message 1: not a response
+# A tag without a value.
+000000002d222a ADDRESS_TYPE 18; hbone: message 1: not a response
+# A span that is cut short.
+000000002f222a ADDRESS_TYPE 2a0278; hbone: message 1: not a response
+# Eight bytes that are cut short.
+0000000034222a ADDRESS_TYPE 1900000000000000; hbone: message 1: not a response
+# Four bytes that are cut short.
+0000000030222a ADDRESS_TYPE 1d000000; hbone: message 1: not a response
+# A number of eleven bytes.
+0000000038222a ADDRESS_TYPE 18ffffffffffffffffffff01; hbone: message 1: not a response
+# A number whose tenth byte is 2.
+0000000037222a ADDRESS_TYPE 18ffffffffffffffffff02; hbone: message 1: not a response
+# A wire fault in a resource.
+000000007512471a02753112400a2a ADDRESS_TYPE 12120a100a01771201611a040a0000074a026e3100222a ADDRESS_TYPE; hbone: message 1: not a response
+# A wire fault beside a resource's record.
+000000007512471a02753112410a2a ADDRESS_TYPE 12120a100a01771201611a040a0000074a026e311b222a ADDRESS_TYPE; hbone: message 1: not a response
+# No response in the second message.
+WORKLOAD 0000000003220178; hbone: message 2: not a response
+# A removed name.
+0000000030222a ADDRESS_TYPE 32027531; hbone: message 1: not yet
+# A removed name of no bytes.
+000000002e222a ADDRESS_TYPE 3200; hbone: message 1: not yet
+# A removed policy.
+00000000352230 POLICY_TYPE 320170; hbone: message 1: not yet
+# A name that is removed before the type.
+000000003032027531222a ADDRESS_TYPE; hbone: message 1: not yet
+# An empty name.
+000000007512470a013112400a2a ADDRESS_TYPE 12120a100a01771201611a040a0000074a026e311a00222a ADDRESS_TYPE; hbone: message 1: not yet
+# No name.
+0000000070124212400a2a ADDRESS_TYPE 12120a100a01771201611a040a0000074a026e31222a ADDRESS_TYPE; hbone: message 1: not yet
+# A name and then an empty one.
+000000007612481a02753112400a2a ADDRESS_TYPE 12120a100a01771201611a040a0000074a026e311a00222a ADDRESS_TYPE; hbone: message 1: not yet
+# A resource of the other type.
+000000007a124c1a02753112460a30 POLICY_TYPE 12120a100a01771201611a040a0000074a026e31222a ADDRESS_TYPE; hbone: message 1: not yet
+# A resource of an unknown type.
+000000004b121d1a02753112170a017812120a100a01771201611a040a0000074a026e31222a ADDRESS_TYPE; hbone: message 1: not yet
+# A resource without a type.
+0000000048121a1a027531121412120a100a01771201611a040a0000074a026e31222a ADDRESS_TYPE; hbone: message 1: not yet
+# A resource without a record.
+000000003212041a027531222a ADDRESS_TYPE; hbone: message 1: not yet
+# A policy in a response of addresses.
+000000006e12401a027531123a0a30 POLICY_TYPE 12060a0170120161222a ADDRESS_TYPE; hbone: message 1: not yet
+# An address in a response of policies.
+000000007a12461a02753112400a2a ADDRESS_TYPE 12120a100a01771201611a040a0000074a026e312230 POLICY_TYPE; hbone: message 1: not yet
+# An address record of no bytes.
+000000006512370a0131122e0a2a ADDRESS_TYPE 12001a027531222a ADDRESS_TYPE; hbone: message 1: not yet
+# An address record that is a service.
+000000006712390a013112300a2a ADDRESS_TYPE 120212001a027531222a ADDRESS_TYPE; hbone: message 1: not yet
+# A service and then a workload.
+0000000079124b0a013112420a2a ADDRESS_TYPE 121412000a100a01771201611a040a0000074a026e311a027531222a ADDRESS_TYPE; hbone: message 1: not yet
+# A workload and then a service.
+0000000079124b0a013112420a2a ADDRESS_TYPE 12140a100a01771201611a040a0000074a026e3112001a027531222a ADDRESS_TYPE; hbone: message 1: not yet
+# An address of no octets.
+0000000069123b0a013112320a2a ADDRESS_TYPE 12040a021a001a027531222a ADDRESS_TYPE; hbone: message 1: not yet
+# An address of three octets.
+000000006c123e0a013112350a2a ADDRESS_TYPE 12070a051a030a00001a027531222a ADDRESS_TYPE; hbone: message 1: not yet
+# An address of five octets.
+000000006e12400a013112370a2a ADDRESS_TYPE 12090a071a050a000007001a027531222a ADDRESS_TYPE; hbone: message 1: not yet
+# An address of 17 octets.
+000000007a124c0a013112430a2a ADDRESS_TYPE 12150a131a1100000000000000000000000000000000001a027531222a ADDRESS_TYPE; hbone: message 1: not yet
+# Bad UTF-8 in a workload's node.
+000000006a123c0a013112330a2a ADDRESS_TYPE 12050a034a01ff1a027531222a ADDRESS_TYPE; hbone: message 1: not yet
+# Bad UTF-8 in a policy's name that a workload lists.
+000000006b123d0a013112340a2a ADDRESS_TYPE 12060a04820101ff1a027531222a ADDRESS_TYPE; hbone: message 1: not yet
+# A wire fault in a record.
+000000006612380a0131122f0a2a ADDRESS_TYPE 1201001a027531222a ADDRESS_TYPE; hbone: message 1: not yet
+# A wire fault in a workload.
+0000000068123a0a013112310a2a ADDRESS_TYPE 12030a011b1a027531222a ADDRESS_TYPE; hbone: message 1: not yet
+# An unknown scope.
+0000000072123e0a013112360a30 POLICY_TYPE 120218031a01702230 POLICY_TYPE; hbone: message 1: not yet
+# An unknown action.
+0000000072123e0a013112360a30 POLICY_TYPE 120220021a01702230 POLICY_TYPE; hbone: message 1: not yet
+# Bad UTF-8 in a policy's namespace.
+0000000073123f0a013112370a30 POLICY_TYPE 12031201ff1a01702230 POLICY_TYPE; hbone: message 1: not yet
+# A wire fault in a policy.
+0000000071123d0a013112350a30 POLICY_TYPE 12010a1a01702230 POLICY_TYPE; hbone: message 1: not yet
+# A string match of no member.
+000000007812440a0131123c0a30 POLICY_TYPE 12082a06120412021a001a01702230 POLICY_TYPE; hbone: message 1: not yet
+# Bad UTF-8 in a string match.
+000000007b12470a0131123f0a30 POLICY_TYPE 120b2a091207120522030a01ff1a01702230 POLICY_TYPE; hbone: message 1: not yet
+# A waypoint.
+0000000069123b0a013112320a2a ADDRESS_TYPE 12040a0242001a027531222a ADDRESS_TYPE; hbone: message 1: not yet
+# Services of a workload.
+000000006a123c0a013112330a2a ADDRESS_TYPE 12050a03b201001a027531222a ADDRESS_TYPE; hbone: message 1: not yet
+# Namespaces.
+000000007b12470a0131123f0a30 POLICY_TYPE 120b2a09120712050a030a01611a01702230 POLICY_TYPE; hbone: message 1: not yet
+# Not_namespaces.
+000000007b12470a0131123f0a30 POLICY_TYPE 120b2a091207120512030a01611a01702230 POLICY_TYPE; hbone: message 1: not yet
+# Source_ips.
+000000007812440a0131123c0a30 POLICY_TYPE 12082a06120412022a001a01702230 POLICY_TYPE; hbone: message 1: not yet
+# Not_source_ips.
+000000007812440a0131123c0a30 POLICY_TYPE 12082a061204120232001a01702230 POLICY_TYPE; hbone: message 1: not yet
+# Destination_ips.
+000000007812440a0131123c0a30 POLICY_TYPE 12082a06120412023a001a01702230 POLICY_TYPE; hbone: message 1: not yet
+# Not_destination_ips.
+000000007812440a0131123c0a30 POLICY_TYPE 12082a061204120242001a01702230 POLICY_TYPE; hbone: message 1: not yet
+# Destination_ports.
+000000007812440a0131123c0a30 POLICY_TYPE 12082a061204120248501a01702230 POLICY_TYPE; hbone: message 1: not yet
+# Destination_ports, packed.
+000000007912450a0131123d0a30 POLICY_TYPE 12092a07120512034a01501a01702230 POLICY_TYPE; hbone: message 1: not yet
+# Not_destination_ports.
+000000007812440a0131123c0a30 POLICY_TYPE 12082a061204120250501a01702230 POLICY_TYPE; hbone: message 1: not yet
+# Not_destination_ports, packed.
+000000007912450a0131123d0a30 POLICY_TYPE 12092a07120512035201501a01702230 POLICY_TYPE; hbone: message 1: not yet
+# A bad resource behind a good one.
+00000000b012490a013112400a2a ADDRESS_TYPE 12120a100a01771201611a040a0000074a026e311a02753112370a0131122e0a2a ADDRESS_TYPE 12001a027532222a ADDRESS_TYPE; hbone: message 1: not yet
+# A bad resource between two good ones.
+00000000fb12490a013112400a2a ADDRESS_TYPE 12120a100a01771201611a040a0000074a026e311a02753112370a0131122e0a2a ADDRESS_TYPE 12001a02753212490a013112400a2a ADDRESS_TYPE 12120a100a01771201611a040a0000074a026e311a027533222a ADDRESS_TYPE; hbone: message 1: not yet
+# A bad record for a name that is held.
+WORKLOAD 000000006512370a0131122e0a2a ADDRESS_TYPE 12001a027531222a ADDRESS_TYPE; hbone: message 2: not yet
+# A bad record in the third message.
+WORKLOAD ALLOW_ONE 0000000072123e0a013112360a30 POLICY_TYPE 120220021a01702230 POLICY_TYPE; hbone: message 3: not yet
+# The eleventh message.
+WORKLOAD WORKLOAD WORKLOAD WORKLOAD WORKLOAD WORKLOAD WORKLOAD WORKLOAD WORKLOAD WORKLOAD 000000006512370a0131122e0a2a ADDRESS_TYPE 12001a027531222a ADDRESS_TYPE; hbone: message 11: not yet
+# A bad record, and then no response.
+000000006512370a0131122e0a2a ADDRESS_TYPE 12001a027531222a ADDRESS_TYPE ff; hbone: message 1: not yet
+# No response, and then a bad record.
+0000000003220178 000000006512370a0131122e0a2a ADDRESS_TYPE 12001a027531222a ADDRESS_TYPE; hbone: message 1: not a response
+# A good message behind a bad one.
+000000006512370a0131122e0a2a ADDRESS_TYPE 12001a027531222a ADDRESS_TYPE 000000007712490a013112400a2a ADDRESS_TYPE 12120a100a01771201611a040a0000074a026e311a027531222a ADDRESS_TYPE; hbone: message 1: not yet
+# A good message behind no response.
+0000000003220178 000000007712490a013112400a2a ADDRESS_TYPE 12120a100a01771201611a040a0000074a026e311a027531222a ADDRESS_TYPE; hbone: message 1: not a response
+# A good message, a bad record, and then no response.
+000000007712490a013112400a2a ADDRESS_TYPE 12120a100a01771201611a040a0000074a026e311a027531222a ADDRESS_TYPE 000000006512370a0131122e0a2a ADDRESS_TYPE 12001a027531222a ADDRESS_TYPE 0000000003220178 01; hbone: message 2: not yet
+# A good message, no response, and then a bad record.
+000000007712490a013112400a2a ADDRESS_TYPE 12120a100a01771201611a040a0000074a026e311a027531222a ADDRESS_TYPE 0000000000 000000006512370a0131122e0a2a ADDRESS_TYPE 12001a027531222a ADDRESS_TYPE; hbone: message 2: not a response
+# A bad record, and an unknown type behind it.
+0000000013120e0a013112050a017812001a027531220178; hbone: message 1: not a response
+# A removed name, and a wire fault behind it.
+0000000031222a ADDRESS_TYPE 3202753100; hbone: message 1: not a response
+# A resource without a name, and bad UTF-8 behind it.
+0000000073124212400a2a ADDRESS_TYPE 12120a100a01771201611a040a0000074a026e31222a ADDRESS_TYPE 2a01ff; hbone: message 1: not a response";
+
+#[test]
+fn refused_inputs_have_status_3(rt: HostRuntime) -> Result<(), Fail> {
+    for line in REFUSALS.lines().filter(|line| !line.starts_with('#')) {
+        let mut fields = line.split(';');
+        let input = fields.next().unwrap_or("");
+        let reason = fields.next().unwrap_or("").trim();
+        assert_refuses(&rt, rt.alloc(), AS_C, input, 3, reason)?;
+    }
+    Ok(())
+}
