@@ -54,10 +54,10 @@ impl Model for Held {
 /// The most resources that are held.
 const MOST_HELD: usize = 65_536;
 
-fn is_of(kind: Kind, record: &Record) -> bool
-    ensures { result ≡ is_of kind record.now }
+fn is_of(kind: Kind, content: &Record) -> bool
+    ensures { result ≡ is_of kind content.now }
 {
-    match (kind, record) {
+    match (kind, content) {
         (Kind::Address, Record::Address(_)) => true,
         (Kind::Authorization, Record::Policy(_)) => true,
         _ => false,

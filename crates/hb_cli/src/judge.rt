@@ -23,10 +23,10 @@ pub enum Judged {
     Denied,
 }
 
-fn workload_of(record: &Record) -> Option<&Workload>
-    ensures { option_copied result ≡ workload_of record.now }
+fn workload_of(content: &Record) -> Option<&Workload>
+    ensures { option_copied result ≡ workload_of content.now }
 {
-    match record {
+    match content {
         Record::Address(AddressRecord::Workload(workload)) => Some(workload),
         Record::Policy(_) => None,
     }
@@ -122,10 +122,10 @@ fn known<'a>(held: &'a Held, node: &[u8], ip: Ip) -> Option<&'a Workload>
     }
 }
 
-fn policy_of(record: &Record) -> Option<&Authorization>
-    ensures { option_copied result ≡ policy_of record.now }
+fn policy_of(content: &Record) -> Option<&Authorization>
+    ensures { option_copied result ≡ policy_of content.now }
 {
-    match record {
+    match content {
         Record::Address(_) => None,
         Record::Policy(policy) => Some(policy),
     }
