@@ -7,6 +7,8 @@ mod answers;
 #[cfg(test)]
 mod faults;
 #[cfg(test)]
+mod large;
+#[cfg(test)]
 mod memory;
 #[cfg(test)]
 mod messages;
