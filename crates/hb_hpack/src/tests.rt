@@ -360,6 +360,9 @@ fn updates_may_stand_alone(rt: HostRuntime) {
     let alloc = rt.alloc();
     let mut decoder = Decoder::new(alloc);
     reads(&rt, alloc, &mut decoder, "", "-", 0, 0);
+    // The integers 10 and 1337 behind a prefix of five bits (RFC 7541 Appendix C.1.1 and C.1.2).
+    reads(&rt, alloc, &mut decoder, "2a", "-", 0, 0);
+    reads(&rt, alloc, &mut decoder, "3f9a0a", "-", 0, 0);
     reads(&rt, alloc, &mut decoder, "3fe11f", "-", 0, 0);
     reads(&rt, alloc, &mut decoder, "203fe11f", "-", 0, 0);
 }
