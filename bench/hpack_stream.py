@@ -6,6 +6,8 @@ import os
 import random
 import sys
 
+from hpack_integer import integer
+
 sys.argv, folder = sys.argv[:1], sys.argv[1]
 lib = ctypes.CDLL("libnghttp2.so.14")
 lib.nghttp2_hd_deflate_hd.restype = ctypes.c_ssize_t
@@ -24,16 +26,6 @@ def request():
         (b":method", rng.choice([b"GET", b"POST"])), (b":scheme", b"https"), (b":path", rng.choice(PATHS)), (b":authority", b"www.example.com"),
         (b"user-agent", b"Mozilla/5.0 (X11; Linux x86_64; rv:121.0) Gecko/20100101 Firefox/121.0"), (b"accept", b"text/html,application/xhtml+xml"),
         (b"cookie", b"session=%032x" % rng.getrandbits(128)), (b"x-request-id", b"%016x" % rng.getrandbits(64))]
-
-
-def integer(value, bits, flag):
-    if value < 2**bits - 1:
-        return bytes([flag | value])
-    out, value = [flag | (2**bits - 1)], value - (2**bits - 1)
-    while value >= 128:
-        out.append(value % 128 + 128)
-        value //= 128
-    return bytes(out + [value])
 
 
 class Plain:

@@ -12,6 +12,8 @@ import ctypes
 import random
 import sys
 
+from hpack_integer import integer
+
 lib = ctypes.CDLL("libnghttp2.so.14")
 
 
@@ -246,16 +248,6 @@ def request():
     if rng.random() < 0.3:
         headers.append((b"accept-encoding", b"gzip, deflate", 0))
     return headers
-
-
-def integer(value, bits, flag):
-    if value < 2**bits - 1:
-        return bytes([flag | value])
-    out, value = [flag | (2**bits - 1)], value - (2**bits - 1)
-    while value >= 128:
-        out.append(value % 128 + 128)
-        value //= 128
-    return bytes(out + [value])
 
 
 def plain(text):
