@@ -29,7 +29,8 @@ impl Bytes {
         Ok(Bytes { items })
     }
 
-    pub(crate) fn from_vec(items: Vec<u8>) -> Bytes
+    /// These bytes, taken over without a copy.
+    pub fn from_vec(items: Vec<u8>) -> Bytes
         ensures { result ≡ items.items }
     {
         Bytes { items }
