@@ -1,4 +1,4 @@
-"""Spells responses and their records, for the scripts beside this one that print tables of tests."""
+"""Spells discovery messages and their records, for the scripts beside this one."""
 
 ADDRESS = b"type.googleapis.com/istio.workload.Address"
 AUTHORIZATION = b"type.googleapis.com/istio.security.Authorization"
@@ -102,6 +102,31 @@ def addresses(*resources):
 
 def policies(*resources):
     return response(AUTHORIZATION, resources)
+
+
+def spans(message):
+    """The length-delimited fields of a message, by number; the last of a number counts."""
+
+    def varint_at(at):
+        n = shift = 0
+        while True:
+            n |= (message[at] & 127) << shift
+            shift, at = shift + 7, at + 1
+            if message[at - 1] < 128:
+                return n, at
+
+    found, at = {}, 0
+    while at < len(message):
+        tag, at = varint_at(at)
+        if tag % 8 == 2:
+            size, at = varint_at(at)
+            found[tag // 8] = message[at : at + size]
+            at += size
+        elif tag % 8 == 0:
+            _, at = varint_at(at)
+        else:
+            at += 8 if tag % 8 == 1 else 4
+    return found
 
 
 def shown(messages):

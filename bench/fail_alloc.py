@@ -1,0 +1,55 @@
+#!/usr/bin/env python3
+"""Runs the program with each of its allocations failing in turn: it ends with status 9, nothing printed and the line of that status told,
+or with the whole answer.
+
+usage: bench/fail_alloc.py        (after `rt ci`, or `cd crates/hbone && rt run`, which leave the program in crates/hbone/out; needs gcc)
+"""
+
+import pathlib
+import subprocess
+import tempfile
+
+TOP = pathlib.Path(__file__).resolve().parent.parent
+PROGRAM = TOP / "crates/hbone/out/hbone"
+SAMPLE = (TOP / "crates/hbone/stdin").read_bytes()
+AS_C = "spiffe://cluster.local/ns/a/sa/c"
+WANTING = (9, b"", b"hbone: out of memory\n")
+
+# Words and input of each run.
+RUNS = [
+    (["check", "--node", "n1", "10.0.0.9", AS_C, "10.0.0.7:8080"], SAMPLE),
+    (["check", "--node", "n1", "10.0.0.9", "none", "10.0.0.7:8080"], SAMPLE * 40),
+    (["check", "--node", "n1", "10.0.0.9", "none", "10.0.0.8:8080"], b""),
+    (["check", "--node", "n1", "10.0.0.9", "none", "10.0.0.7:8080"], SAMPLE[:-1]),
+    (["check", "--node", "n1", "10.0.0.9", "none", "10.0.0.7"], b""),
+]
+
+
+def ended(words, given, library, fail_at, count_file):
+    env = {"LD_PRELOAD": library, "FAIL_AT": str(fail_at), "COUNT_FILE": count_file}
+    run = subprocess.run([PROGRAM, *words], input=given, env=env, stdout=subprocess.PIPE, stderr=subprocess.PIPE, timeout=60)
+    return run.returncode, run.stdout, run.stderr
+
+
+def main():
+    wrong = 0
+    with tempfile.TemporaryDirectory() as room:
+        library, count_file = f"{room}/fail_alloc.so", f"{room}/count"
+        subprocess.run(["gcc", "-O1", "-shared", "-fPIC", "-o", library, TOP / "bench/fail_alloc.c", "-ldl"], check=True)
+        for words, given in RUNS:
+            whole = ended(words, given, library, 0, count_file)
+            allocations = int(open(count_file).read())
+            wanting = 0
+            for fail_at in range(1, allocations + 1):
+                got = ended(words, given, library, fail_at, count_file)
+                wanting += got == WANTING
+                if got not in (WANTING, whole):
+                    wrong += 1
+                    print(f"fail_alloc: {words}, allocation {fail_at}: {got}")
+            print(f"fail_alloc: {whole}: {allocations} allocations, {wanting} end with want of memory")
+            # (an input of which no allocation counts would try nothing)
+            wrong += allocations == 0 or wanting == 0
+    return 1 if wrong else 0
+
+
+raise SystemExit(main())
