@@ -1,9 +1,9 @@
 //! A sink over memory.
 
 ghost use Rattle.std.specs.Prelude.{◌≡◌, ◌<◌, ◌≤◌, [], length, IfOk};
-ghost use Rattle.hb_base.specs.Count.{Rose};
+ghost use Rattle.hb_base.specs.Count.{Counts};
 ghost use Rattle.hb_base.specs.MemSink.{Writing, put_answer, after_put};
-ghost use Rattle.hb_base.specs.Sink.{Puts};
+ghost use Rattle.hb_base.specs.Sink.{Puts, put_failed};
 
 use crate::or::NoMemory;
 use crate::sink::{Put, Sink};
@@ -65,7 +65,6 @@ impl MemSink {
 
 impl Sink for MemSink {
     ghost use Rattle.std.specs.Prelude.{Some};
-    ghost use Rattle.hb_base.specs.declared.sink.Put.TheVariants.{Failed};
 
     ghost written = { λ s. Some s.written };
 
@@ -76,7 +75,7 @@ impl Sink for MemSink {
         requires { 0 < length from.now }
         ensures bytes { Puts (Some self.old.written) (Some self.new.written) from.now result }
         ensures later { self.old.faults ≤ self.new.faults }
-        ensures cause { result ≡ Failed → Rose self.old.faults self.new.faults }
+        ensures counts { Counts self.old.faults self.new.faults (put_failed result) }
         ensures answer { result ≡ put_answer self.old (length from.now) }
         ensures after { self.new ≡ after_put self.old from.now result }
     {
