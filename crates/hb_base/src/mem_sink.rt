@@ -13,7 +13,7 @@ use std::marker::Model;
 /// A sink of a fixed room, of which chosen calls fail, as does each put where no room is left. Contracts
 /// see what was written, the room, the numbers of the calls that fail, counted from 1, and how many calls
 /// came and failed. Both counts stay at `u64::MAX` once they are there.
-#[derive(Debug, Drop)]
+#[derive(Drop)]
 pub struct MemSink {
     bytes: Vec<u8>,
     room: usize,

@@ -13,7 +13,7 @@ use std::marker::Model;
 /// A source over a copy of bytes, of which chosen calls fail. Contracts see what is left, the numbers of
 /// the calls that fail, counted from 1, and how many calls came and failed. Both counts stay at
 /// `u64::MAX` once they are there.
-#[derive(Debug, Drop)]
+#[derive(Drop)]
 pub struct MemSource {
     bytes: Vec<u8>,
     at: usize,
