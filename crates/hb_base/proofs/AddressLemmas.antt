@@ -21,13 +21,15 @@ parts_at c part more lacks = slice_split_at (λ b. nat_eq b c) part c more lacks
 pub parts_end : (c : ℕ) (part : List ℕ) → Lacks c part → parts c part ≡ part ∷ []
 parts_end c part lacks = slice_split_none (λ b. nat_eq b c) part lacks
 
-four_parts : (c : ℕ) (p q r s : List ℕ) → Lacks c p → Lacks c q → Lacks c r → Lacks c s → parts c (p ++ c ∷ (q ++ c ∷ (r ++ c ∷ s))) ≡ p ∷ q ∷ r ∷ s ∷ []
+four_parts : (c : ℕ) (p q r s : List ℕ) → Lacks c p → Lacks c q → Lacks c r → Lacks c s → parts c (p ++ c ∷ (q ++ c ∷ (r ++ c ∷ s)))
+    ≡ p ∷ q ∷ r ∷ s ∷ []
 four_parts c p q r s at_p at_q at_r at_s =
     let from_r = parts_at c r s at_r ∙ ap (λ (ps : List (List ℕ)). r ∷ ps) (parts_end c s at_s) in
     let from_q = parts_at c q (r ++ c ∷ s) at_q ∙ ap (λ (ps : List (List ℕ)). q ∷ ps) from_r in
     parts_at c p (q ++ c ∷ (r ++ c ∷ s)) at_p ∙ ap (λ (ps : List (List ℕ)). p ∷ ps) from_q
 
-four_octets_are : (a b c d : Option ℕ) (p q r s n : ℕ) → a ≡ Some p → b ≡ Some q → c ≡ Some r → d ≡ Some s → ((p * 256 + q) * 256 + r) * 256 + s ≡ n → four_octets a b c d ≡ Some n
+four_octets_are : (a b c d : Option ℕ) (p q r s n : ℕ) → a ≡ Some p → b ≡ Some q → c ≡ Some r → d ≡ Some s
+    → ((p * 256 + q) * 256 + r) * 256 + s ≡ n → four_octets a b c d ≡ Some n
 four_octets_are a b c d p q r s n a_is b_is c_is d_is is = rw (a_is, b_is, c_is, d_is, is) refl
 
 -- the dotted text of an address is read as it
@@ -43,10 +45,13 @@ v4_of-text n h =
     let s_low : s < 256 = omega arith in
     let value : ((p * 256 + q) * 256 + r) * 256 + s ≡ n = omega arith in
     let cut = four_parts 46 (decimal p) (decimal q) (decimal r) (decimal s) (no_lower_byte 46 p (omega arith) (omega arith))
-    (no_lower_byte 46 q (omega arith) (omega arith)) (no_lower_byte 46 r (omega arith) (omega arith)) (no_lower_byte 46 s (omega arith) (omega arith)) in
-    ap v4_of_parts cut ∙ four_octets_are _ _ _ _ p q r s n (octet_of-decimal p p_low) (octet_of-decimal q q_low) (octet_of-decimal r r_low) (octet_of-decimal s s_low) value
+    (no_lower_byte 46 q (omega arith) (omega arith)) (no_lower_byte 46 r (omega arith) (omega arith))
+    (no_lower_byte 46 s (omega arith) (omega arith)) in
+    ap v4_of_parts cut ∙ four_octets_are _ _ _ _ p q r s n (octet_of-decimal p p_low) (octet_of-decimal q q_low)
+    (octet_of-decimal r r_low) (octet_of-decimal s s_low) value
 
-octets_spelled : (a b c d : List ℕ) (p q r s n : ℕ) → octet_of a ≡ Some p → octet_of b ≡ Some q → octet_of c ≡ Some r → octet_of d ≡ Some s → ((p * 256 + q) * 256 + r) * 256 + s ≡ n → (n < 2 ^ 32) × (a ++ 46 ∷ (b ++ 46 ∷ (c ++ 46 ∷ d)) ≡ v4_text n)
+octets_spelled : (a b c d : List ℕ) (p q r s n : ℕ) → octet_of a ≡ Some p → octet_of b ≡ Some q → octet_of c ≡ Some r
+    → octet_of d ≡ Some s → ((p * 256 + q) * 256 + r) * 256 + s ≡ n → (n < 2 ^ 32) × (a ++ 46 ∷ (b ++ 46 ∷ (c ++ 46 ∷ d)) ≡ v4_text n)
 octets_spelled a b c d p q r s n a_is b_is c_is d_is is =
     let (a_text, a_low) = octet_spelled a p a_is in
     let (b_text, b_low) = octet_spelled b q b_is in
@@ -62,7 +67,8 @@ octets_spelled a b c d p q r s n a_is b_is c_is d_is is =
     let d_spelled : d ≡ decimal (n % 256) = d_text ∙ ap decimal s_is in
     (omega arith, rw (a_spelled, b_spelled, c_spelled, d_spelled) refl)
 
-by_octets : (a b c d : List ℕ) (p q r s : Option ℕ) (n : ℕ) → octet_of a ≡ p → octet_of b ≡ q → octet_of c ≡ r → octet_of d ≡ s → four_octets p q r s ≡ Some n → (n < 2 ^ 32) × (a ++ 46 ∷ (b ++ 46 ∷ (c ++ 46 ∷ d)) ≡ v4_text n)
+by_octets : (a b c d : List ℕ) (p q r s : Option ℕ) (n : ℕ) → octet_of a ≡ p → octet_of b ≡ q → octet_of c ≡ r → octet_of d ≡ s
+    → four_octets p q r s ≡ Some n → (n < 2 ^ 32) × (a ++ 46 ∷ (b ++ 46 ∷ (c ++ 46 ∷ d)) ≡ v4_text n)
 by_octets a b c d None q r s n a_is b_is c_is d_is is = cc
 by_octets a b c d (Some p) None r s n a_is b_is c_is d_is is = cc
 by_octets a b c d (Some p) (Some q) None s n a_is b_is c_is d_is is = cc

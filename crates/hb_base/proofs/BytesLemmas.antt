@@ -11,7 +11,8 @@ pub rest_of : (at : ℕ) (xs : List ℕ) → take (length xs - at) (drop at xs) 
 rest_of at xs = grind (arith, common_steps)
 
 -- bytes from the front of what was left stand at the buffer's front, and what is left goes on behind them
-pub front_and_rest : (bytes into written : List ℕ) (at n : ℕ) → n ≤ length (drop at bytes) → written ≡ take n (drop at bytes) → drop at bytes ≡ take n (written ++ drop n into) ++ drop (at + n) bytes
+pub front_and_rest : (bytes into written : List ℕ) (at n : ℕ) → n ≤ length (drop at bytes) → written ≡ take n (drop at bytes)
+    → drop at bytes ≡ take n (written ++ drop n into) ++ drop (at + n) bytes
 front_and_rest bytes into written at n fits is =
     let count : length written ≡ n = omega (arith, ap length is, length-take n (drop at bytes)) in
     let front : take n (written ++ drop n into) ≡ written =
@@ -19,6 +20,7 @@ front_and_rest bytes into written at n fits is =
     rw (front, is, ← drop-drop n at bytes) (sym (take-append-drop n (drop at bytes)))
 
 -- one more part, from the place at which the last one ended
-pub Appends-next : (a b c : Option (List ℕ)) (bytes : List ℕ) (at n : ℕ) → Appends a b (take at bytes) → Appends b c (take n (take (length bytes - at) (drop at bytes))) → Appends a c (take (at + n) bytes)
+pub Appends-next : (a b c : Option (List ℕ)) (bytes : List ℕ) (at n : ℕ) → Appends a b (take at bytes)
+    → Appends b c (take n (take (length bytes - at) (drop at bytes))) → Appends a c (take (at + n) bytes)
 Appends-next a b c bytes at n before next =
     rw take-add (Appends-trans a b c (take at bytes) (take n (drop at bytes)) before (rw rest_of at next))

@@ -51,7 +51,8 @@ octet_one n high = some_if _ _ n (grind (arith, nat_tests)) (omega arith)
 
 by_size : (n : ℕ) → n < 256 → (one two : Bool) → nat_lt n 10 ≡ one → nat_lt n 100 ≡ two → octet_of (decimal n) ≡ Some n
 by_size n h true two is is' = rw (decimal_digit n (ltb-true n 10 is)) (octet_one n (ltb-true n 10 is))
-by_size n h false true is is' = rw (decimal_two n (ltb-false n 10 is) (ltb-true n 100 is')) (octet_two n (ltb-false n 10 is) (ltb-true n 100 is'))
+by_size n h false true is is' = rw (decimal_two n (ltb-false n 10 is) (ltb-true n 100 is'))
+    (octet_two n (ltb-false n 10 is) (ltb-true n 100 is'))
 by_size n h false false is is' =
     let high : n < 1000 = omega arith in
     rw (decimal_three n (ltb-false n 100 is') high) (octet_three n (ltb-false n 100 is') h)

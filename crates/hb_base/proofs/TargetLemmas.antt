@@ -41,18 +41,21 @@ begins_otherwise c (x ∷ xs) ys some lacks =
     grind (arith, nat_tests)
 
 -- what stands behind the last separator
-behind_at : (c : ℕ) (a b : List ℕ) → Lacks c b → (k : ℕ) → length a + 1 ≤ k → k < length (a ++ c ∷ b) → not (nat_eq (get_or (a ++ c ∷ b) k 0) c) ≡ true
+behind_at : (c : ℕ) (a b : List ℕ) → Lacks c b → (k : ℕ) → length a + 1 ≤ k → k < length (a ++ c ∷ b)
+    → not (nat_eq (get_or (a ++ c ∷ b) k 0) c) ≡ true
 behind_at c a b lacks k low high =
     let j = k - (length a + 1) in
     let within : j < length b = omega (arith, length-append a (c ∷ b)) in
     let place : k ≡ length a + suc j = omega arith in
-    let byte : get_or (a ++ c ∷ b) k 0 ≡ get_or b j 0 = ap (λ (i : ℕ). get_or (a ++ c ∷ b) i 0) place ∙ get_or-append-add a (c ∷ b) (suc j) 0 in
+    let byte : get_or (a ++ c ∷ b) k 0 ≡ get_or b j 0 = ap (λ (i : ℕ). get_or (a ++ c ∷ b) i 0) place
+    ∙ get_or-append-add a (c ∷ b) (suc j) 0 in
     rw (byte, lacks j 0 within) refl
 
 last_at : (c : ℕ) (a b : List ℕ) → not (nat_eq (get_or (a ++ c ∷ b) (length a + 1 - 1) 0) c) ≡ false
 last_at c a b =
     let place : length a + 1 - 1 ≡ length a + 0 = omega arith in
-    let byte : get_or (a ++ c ∷ b) (length a + 1 - 1) 0 ≡ c = ap (λ (i : ℕ). get_or (a ++ c ∷ b) i 0) place ∙ get_or-append-add a (c ∷ b) 0 0 in
+    let byte : get_or (a ++ c ∷ b) (length a + 1 - 1) 0 ≡ c = ap (λ (i : ℕ). get_or (a ++ c ∷ b) i 0) place
+    ∙ get_or-append-add a (c ∷ b) 0 0 in
     rw (byte, eq-eqb c c refl) refl
 
 behind : (c : ℕ) (a b : List ℕ) → Lacks c b → suffix_len (λ x. not (nat_eq x c)) (a ++ c ∷ b) ≡ length b
@@ -66,8 +69,10 @@ cut_last-at c a b lacks =
     let shorter : length b < length (a ++ c ∷ b) = omega (arith, length-append a (c ∷ b)) in
     let front_end : length (a ++ c ∷ b) - length b - 1 ≡ length a = omega (arith, length-append a (c ∷ b)) in
     let back_start : length (a ++ c ∷ b) - length b ≡ length a + 1 = omega (arith, length-append a (c ∷ b)) in
-    let front : take (length (a ++ c ∷ b) - length b - 1) (a ++ c ∷ b) ≡ a = ap (λ (i : ℕ). take i (a ++ c ∷ b)) front_end ∙ take-append_seam a (c ∷ b) in
-    let back : drop (length (a ++ c ∷ b) - length b) (a ++ c ∷ b) ≡ b = ap (λ (i : ℕ). drop i (a ++ c ∷ b)) back_start ∙ drop-append-add a (c ∷ b) 1 in
+    let front : take (length (a ++ c ∷ b) - length b - 1) (a ++ c ∷ b) ≡ a = ap (λ (i : ℕ). take i (a ++ c ∷ b)) front_end
+    ∙ take-append_seam a (c ∷ b) in
+    let back : drop (length (a ++ c ∷ b) - length b) (a ++ c ∷ b) ≡ b = ap (λ (i : ℕ). drop i (a ++ c ∷ b)) back_start
+    ∙ drop-append-add a (c ∷ b) 1 in
     rw (behind c a b lacks, lt-ltb (length b) (length (a ++ c ∷ b)) shorter, front, back) refl
 
 v4_text_begins : (n : ℕ) (more : List ℕ) → starts_with nat_eq (v4_text n ++ more) (codes "[") ≡ false
@@ -77,7 +82,8 @@ v4_text_begins n more =
     rw append_assoc (begins_otherwise 91 (decimal first) _ (decimal_nonempty first low) (no_higher_byte 91 first (omega arith) low))
 
 -- the text of an address and a port is read as their target
-pub target_of-text : (n port : ℕ) → n < 2 ^ 32 → 0 < port → port < 2 ^ 16 → target_of (v4_text n ++ 58 ∷ decimal port) ≡ Ok (record { ip = V4 n; port = port })
+pub target_of-text : (n port : ℕ) → n < 2 ^ 32 → 0 < port → port < 2 ^ 16 → target_of (v4_text n ++ 58 ∷ decimal port)
+    ≡ Ok (record { ip = V4 n; port = port })
 target_of-text n port low some high =
     let small : port < 2 ^ 64 = omega arith in
     let begins = v4_text_begins n (58 ∷ decimal port) in

@@ -10,6 +10,7 @@ pub mod Outcome
 pub mod Utf8
 pub mod Parts
 pub mod Pieces
+pub mod Reading
 pub mod Sink
 pub mod Source
 pub mod TargetText

@@ -4,7 +4,7 @@ ghost use Rattle.std.specs.Prelude.{◌≡◌};
 ghost use Rattle.hb_base.specs.CauseText.{word_of, number_of};
 
 /// The cause of the end of a tunnel or a link. HTTP/2 error codes are those of RFC 9113 section 7.
-#[derive(Clone, Copy, Debug, PartialEq, Eq)]
+#[derive(Clone, Copy)]
 pub enum Cause {
     /// Both sides ended and all bytes went through.
     Done,

@@ -1,7 +1,7 @@
 //! Why a link is there.
 
 /// At which door a link was accepted.
-#[derive(Clone, Copy, Debug, PartialEq, Eq)]
+#[derive(Clone, Copy)]
 pub enum Door {
     /// HBONE from other nodes: HTTP/2 CONNECT.
     Inbound,
@@ -12,7 +12,7 @@ pub enum Door {
 }
 
 /// Why a link was dialled.
-#[derive(Clone, Copy, Debug, PartialEq, Eq)]
+#[derive(Clone, Copy)]
 pub enum Why {
     /// The link to discovery.
     Discovery,

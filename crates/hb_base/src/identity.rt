@@ -1,6 +1,6 @@
 //! Identities and their text.
 
-ghost use Rattle.std.specs.Prelude.{◌≡◌, ◌++◌, IfOk, true, nat_eq};
+ghost use Rattle.std.specs.Prelude.{◌≡◌, ◌++◌, IfOk, IfSome, true, nat_eq};
 ghost use Rattle.std.specs.List.{list_all, starts_with, ends_with};
 ghost use Rattle.std.specs.Str.{bytes_eq};
 ghost use Rattle.hb_base.specs.IdentityText.{is_name_byte, is_name, identity_of, identity_of_parts, names_of, principal_of};
@@ -93,7 +93,8 @@ fn is_name(text: &[u8]) -> bool
 
 /// The three names of a principal, `TD/ns/NS/sa/SA`.
 fn names(principal: &[u8]) -> Option<(&[u8], &[u8], &[u8])>
-    ensures { names_of result ≡ identity_of_parts (parts 47 principal.now) }
+    ensures value { names_of result ≡ identity_of_parts (parts 47 principal.now) }
+    ensures named { IfSome result (λ n. (is_name n.0.now ≡ true) × (is_name n.1.now ≡ true) × (is_name n.2.now ≡ true)) }
 {
     let (trust_domain, rest) = first_part(principal, b'/');
     let (namespace_word, rest) = first_part(rest?, b'/');
@@ -115,6 +116,14 @@ fn names(principal: &[u8]) -> Option<(&[u8], &[u8], &[u8])>
     }
 }
 
+/// The three names of an identity's text.
+fn identity_names(b: &[u8]) -> Option<(&[u8], &[u8], &[u8])>
+    ensures value { names_of result ≡ identity_of b.now }
+    ensures named { IfSome result (λ n. (is_name n.0.now ≡ true) × (is_name n.1.now ≡ true) × (is_name n.2.now ≡ true)) }
+{
+    names(b.strip_prefix(b"spiffe://")?)
+}
+
 /// A name as text.
 fn name(alloc: Global, text: &[u8]) -> Result<Text, NoMemory>
     requires { is_name text.now ≡ true }
@@ -131,10 +140,7 @@ fn name(alloc: Global, text: &[u8]) -> Result<Text, NoMemory>
 pub fn read_identity(alloc: Global, b: &[u8]) -> Result<Option<Identity>, NoMemory>
     ensures { IfOk result (λ r. r ≡ identity_of b.now) }
 {
-    let Some(principal) = b.strip_prefix(b"spiffe://") else {
-        return Ok(None);
-    };
-    let Some((trust_domain, namespace, account)) = names(principal) else {
+    let Some((trust_domain, namespace, account)) = identity_names(b) else {
         return Ok(None);
     };
     Ok(Some(Identity {

@@ -1,7 +1,7 @@
 //! Addresses and their text.
 
 ghost use Rattle.std.specs.Prelude.{◌≡◌};
-ghost use Rattle.hb_base.specs.IpText.{octet_of, v4_of_parts, ip_of};
+ghost use Rattle.hb_base.specs.IpText.{octet_of, four_octets, ip_of};
 ghost use Rattle.hb_base.specs.Octets.{ip_of_octets};
 
 use crate::parts::first_part;
@@ -55,6 +55,15 @@ fn octet(text: &[u8]) -> Option<u8>
     }
 }
 
+/// The number of four octets, the first the most significant, if each of these texts is one.
+fn octets(first: &[u8], second: &[u8], third: &[u8], fourth: &[u8]) -> Option<u32>
+    ensures { result ≡ four_octets (octet_of first.now) (octet_of second.now) (octet_of third.now) (octet_of fourth.now) }
+{
+    let [p, q, r, s] = [octet(first)?, octet(second)?, octet(third)?, octet(fourth)?];
+    let high = u32::from(p) * 256 + u32::from(q);
+    Some((high * 256 + u32::from(r)) * 256 + u32::from(s))
+}
+
 /// Reads IPv4 text: four decimal numbers from 0 to 255 without leading zeros, joined by dots
 /// (RFC 3986 section 3.2.2). `None` for every other text, IPv6 text among them.
 pub fn read_ip(b: &[u8]) -> Option<Ip>
@@ -67,8 +76,5 @@ pub fn read_ip(b: &[u8]) -> Option<Ip>
     if rest.is_some() {
         return None;
     }
-    let [p, q, r, s] = [octet(first)?, octet(second)?, octet(third)?, octet(fourth)?];
-    let high = u32::from(p) * 256 + u32::from(q);
-    let value = (high * 256 + u32::from(r)) * 256 + u32::from(s);
-    Some(Ip::V4(value))
+    Some(Ip::V4(octets(first, second, third, fourth)?))
 }

@@ -23,8 +23,6 @@ mod source;
 mod std_sink;
 mod std_source;
 mod target;
-#[cfg(test)]
-mod tests;
 mod text;
 mod writing;
 

@@ -1,9 +1,9 @@
 //! A sink over memory.
 
 ghost use Rattle.std.specs.Prelude.{◌≡◌, ◌<◌, ◌≤◌, [], length, IfOk};
-ghost use Rattle.hb_base.specs.Count.{Rose};
+ghost use Rattle.hb_base.specs.Count.{Counts};
 ghost use Rattle.hb_base.specs.MemSink.{Writing, put_answer, after_put};
-ghost use Rattle.hb_base.specs.Sink.{Puts};
+ghost use Rattle.hb_base.specs.Sink.{Puts, put_failed};
 
 use crate::or::NoMemory;
 use crate::sink::{Put, Sink};
@@ -13,7 +13,7 @@ use std::marker::Model;
 /// A sink of a fixed room, of which chosen calls fail, as does each put where no room is left. Contracts
 /// see what was written, the room, the numbers of the calls that fail, counted from 1, and how many calls
 /// came and failed. Both counts stay at `u64::MAX` once they are there.
-#[derive(Debug, Drop)]
+#[derive(Drop)]
 pub struct MemSink {
     bytes: Vec<u8>,
     room: usize,
@@ -65,7 +65,6 @@ impl MemSink {
 
 impl Sink for MemSink {
     ghost use Rattle.std.specs.Prelude.{Some};
-    ghost use Rattle.hb_base.specs.declared.sink.Put.TheVariants.{Failed};
 
     ghost written = { λ s. Some s.written };
 
@@ -76,7 +75,7 @@ impl Sink for MemSink {
         requires { 0 < length from.now }
         ensures bytes { Puts (Some self.old.written) (Some self.new.written) from.now result }
         ensures later { self.old.faults ≤ self.new.faults }
-        ensures cause { result ≡ Failed → Rose self.old.faults self.new.faults }
+        ensures counts { Counts self.old.faults self.new.faults (put_failed result) }
         ensures answer { result ≡ put_answer self.old (length from.now) }
         ensures after { self.new ≡ after_put self.old from.now result }
     {

@@ -1,9 +1,9 @@
 //! A source over memory.
 
 ghost use Rattle.std.specs.Prelude.{◌≡◌, ◌<◌, ◌≤◌, length, IfOk};
-ghost use Rattle.hb_base.specs.Count.{Rose};
+ghost use Rattle.hb_base.specs.Count.{Counts};
 ghost use Rattle.hb_base.specs.MemSource.{Reading, take_answer, after_take};
-ghost use Rattle.hb_base.specs.Source.{Takes};
+ghost use Rattle.hb_base.specs.Source.{Takes, take_failed};
 
 use crate::or::NoMemory;
 use crate::source::{Source, Taken};
@@ -13,7 +13,7 @@ use std::marker::Model;
 /// A source over a copy of bytes, of which chosen calls fail. Contracts see what is left, the numbers of
 /// the calls that fail, counted from 1, and how many calls came and failed. Both counts stay at
 /// `u64::MAX` once they are there.
-#[derive(Debug, Drop)]
+#[derive(Drop)]
 pub struct MemSource {
     bytes: Vec<u8>,
     at: usize,
@@ -57,7 +57,6 @@ impl MemSource {
 
 impl Source for MemSource {
     ghost use Rattle.std.specs.Prelude.{Some};
-    ghost use Rattle.hb_base.specs.declared.source.Taken.TheVariants.{Failed};
 
     ghost left = { λ s. Some s.left };
 
@@ -68,7 +67,7 @@ impl Source for MemSource {
         requires { 0 < length into.old }
         ensures bytes { Takes (Some self.old.left) (Some self.new.left) into.new result }
         ensures later { self.old.faults ≤ self.new.faults }
-        ensures cause { result ≡ Failed → Rose self.old.faults self.new.faults }
+        ensures counts { Counts self.old.faults self.new.faults (take_failed result) }
         ensures answer { result ≡ take_answer self.old (length into.old) }
         ensures after { self.new ≡ after_take self.old result }
     {

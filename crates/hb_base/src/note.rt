@@ -9,7 +9,7 @@ use crate::target::Target;
 use std::alloc::Global;
 
 /// A note for the audits.
-#[derive(Debug, Drop)]
+#[derive(Drop)]
 pub enum Note {
     /// A request was answered with this HTTP status, 0 where it was malformed. A link that is not HTTP/2
     /// has stream 0.

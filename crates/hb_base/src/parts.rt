@@ -1,21 +1,20 @@
 //! A text cut at a separator.
 
-ghost use Rattle.std.specs.Prelude.{◌≡◌, ◌==◌, ◌∷◌, position};
+ghost use Rattle.std.specs.Prelude.{◌≡◌, ◌∷◌};
 ghost use Rattle.hb_base.specs.Parts.{parts, parts_after, cut_first as cut_at_first, cut_last as cut_at_last, cut_lists};
-
-/// The place of the first such byte.
-fn first_at(text: &[u8], byte: u8) -> Option<usize>
-    ensures { result ≡ position (λ b. b == byte) text.now }
-{
-    text.iter().position(|b| *b == byte)
-}
 
 /// What stands before and after the first separator.
 pub(crate) fn cut_first(text: &[u8], separator: u8) -> Option<(&[u8], &[u8])>
     ensures { cut_lists result ≡ cut_at_first separator text.now }
 {
-    let i = first_at(text, separator)?;
-    Some((&text[..i], &text[i + 1..]))
+    let mut at = 0;
+    while at < text.len() {
+        if text[at] == separator {
+            return Some((&text[..at], &text[at + 1..]));
+        }
+        at += 1;
+    }
+    None
 }
 
 /// What stands before and after the last separator.

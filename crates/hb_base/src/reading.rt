@@ -2,8 +2,9 @@
 
 ghost use Rattle.std.specs.Prelude.{◌≡◌, ◌<◌, ◌≤◌, List, [], ℕ, length, vec_len, IfOk, IfSome, OnOk};
 ghost use Rattle.std.specs.Io.KnownBytes.{Consumes};
-ghost use Rattle.hb_base.specs.Count.{Rose};
-ghost use Rattle.hb_base.specs.declared.reading.ReadStop.TheVariants.{TooLong, Failed};
+ghost use Rattle.hb_base.specs.Count.{Counts};
+ghost use Rattle.hb_base.specs.Reading.{read_failed};
+ghost use Rattle.hb_base.specs.declared.reading.ReadStop.TheVariants.{TooLong};
 
 use crate::bytes::Bytes;
 use crate::or::NoMemory;
@@ -53,7 +54,7 @@ pub fn read_all<S: Source>(alloc: Global, source: &mut S, limit: usize) -> Resul
     ensures over { result ≡ Err TooLong → (b : List ℕ) × (limit < length b) × Consumes (S.left source.old) (S.left source.new) b }
     ensures taken { (b : List ℕ) × Consumes (S.left source.old) (S.left source.new) b }
     ensures later { S.faults source.old ≤ S.faults source.new }
-    ensures cause { result ≡ Err Failed → Rose (S.faults source.old) (S.faults source.new) }
+    ensures counts { Counts (S.faults source.old) (S.faults source.new) (read_failed result) }
 {
     let mut chunk = zeros(alloc, CHUNK)?;
     let mut bytes = Vec::new(alloc);

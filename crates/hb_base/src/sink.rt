@@ -11,10 +11,9 @@ pub enum Put {
 
 /// A sink of bytes that counts its faults.
 pub trait Sink {
-    ghost use Rattle.std.specs.Prelude.{◌≡◌, ◌<◌, ◌≤◌, List, ℕ, length, Option};
-    ghost use Rattle.hb_base.specs.Count.{Rose};
-    ghost use Rattle.hb_base.specs.Sink.{Puts};
-    ghost use Rattle.hb_base.specs.declared.sink.Put.TheVariants.{Failed};
+    ghost use Rattle.std.specs.Prelude.{◌<◌, ◌≤◌, List, ℕ, length, Option};
+    ghost use Rattle.hb_base.specs.Count.{Counts};
+    ghost use Rattle.hb_base.specs.Sink.{Puts, put_failed};
 
     /// The bytes written, where the sink tells them.
     ghost written: { Self → Option (List ℕ) };
@@ -27,5 +26,5 @@ pub trait Sink {
         requires { 0 < length from.now }
         ensures bytes { Puts (written self.old) (written self.new) from.now result }
         ensures later { faults self.old ≤ faults self.new }
-        ensures cause { result ≡ Failed → Rose (faults self.old) (faults self.new) };
+        ensures counts { Counts (faults self.old) (faults self.new) (put_failed result) };
 }

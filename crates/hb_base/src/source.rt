@@ -13,10 +13,9 @@ pub enum Taken {
 
 /// A source of bytes that counts its faults.
 pub trait Source {
-    ghost use Rattle.std.specs.Prelude.{◌≡◌, ◌<◌, ◌≤◌, List, ℕ, length, Option};
-    ghost use Rattle.hb_base.specs.Count.{Rose};
-    ghost use Rattle.hb_base.specs.Source.{Takes};
-    ghost use Rattle.hb_base.specs.declared.source.Taken.TheVariants.{Failed};
+    ghost use Rattle.std.specs.Prelude.{◌<◌, ◌≤◌, List, ℕ, length, Option};
+    ghost use Rattle.hb_base.specs.Count.{Counts};
+    ghost use Rattle.hb_base.specs.Source.{Takes, take_failed};
 
     /// The bytes left, where the source tells them.
     ghost left: { Self → Option (List ℕ) };
@@ -29,5 +28,5 @@ pub trait Source {
         requires { 0 < length into.old }
         ensures bytes { Takes (left self.old) (left self.new) into.new result }
         ensures later { faults self.old ≤ faults self.new }
-        ensures cause { result ≡ Failed → Rose (faults self.old) (faults self.new) };
+        ensures counts { Counts (faults self.old) (faults self.new) (take_failed result) };
 }

@@ -12,7 +12,7 @@ const INTERRUPTS: u32 = 16;
 /// A sink over std's writer, which tells the bytes written where the writer tells them. A write of 0 bytes is a fault. A write that is
 /// interrupted is tried again, up to 16 times in one call; then it counts as a fault, as any other error
 /// does. Contracts see the writer and the count of faults, which stays at `u64::MAX` once it is there. Nothing is flushed.
-#[derive(Debug, Drop)]
+#[derive(Drop)]
 pub struct StdSink<W> {
     writer: W,
     faults: u64,

@@ -12,7 +12,7 @@ const INTERRUPTS: u32 = 16;
 /// A source over std's reader, which tells the bytes left where the reader tells them. A read of 0 bytes is the end. A read that is
 /// interrupted is tried again, up to 16 times in one call; then it counts as a fault, as any other error
 /// does. Contracts see the reader and the count of faults, which stays at `u64::MAX` once it is there.
-#[derive(Debug, Drop)]
+#[derive(Drop)]
 pub struct StdSource<R> {
     reader: R,
     faults: u64,

@@ -1,7 +1,7 @@
 //! Whole writes.
 
-ghost use Rattle.std.specs.Prelude.{◌≤◌, OnErr};
-ghost use Rattle.hb_base.specs.Count.{Rose};
+ghost use Rattle.std.specs.Prelude.{◌≤◌, is_err};
+ghost use Rattle.hb_base.specs.Count.{Counts};
 ghost use Rattle.hb_base.specs.Sink.{WritesAll};
 
 use crate::sink::{Put, Sink};
@@ -17,7 +17,7 @@ pub struct WriteFault;
 pub fn put_all<K: Sink>(sink: &mut K, bytes: &[u8]) -> Result<(), WriteFault>
     ensures bytes { WritesAll (K.written sink.old) (K.written sink.new) bytes.now result }
     ensures later { K.faults sink.old ≤ K.faults sink.new }
-    ensures cause { OnErr result (Rose (K.faults sink.old) (K.faults sink.new)) }
+    ensures counts { Counts (K.faults sink.old) (K.faults sink.new) (is_err result) }
 {
     let mut at = 0;
     while at < bytes.len() {

@@ -1,3 +1,22 @@
 //! Tests of the small types, the fields and the records: tables of values from outside the repository, and
 //! each public call of hb_base, hb_wire and hb_records once on its happy path.
 #![tactic(auto)]
+
+#[cfg(test)]
+mod addresses;
+#[cfg(test)]
+mod fields;
+#[cfg(test)]
+mod policies;
+#[cfg(test)]
+mod records;
+#[cfg(test)]
+mod repeated;
+#[cfg(test)]
+mod streams;
+#[cfg(test)]
+mod tables;
+#[cfg(test)]
+mod texts;
+#[cfg(test)]
+mod values;

@@ -1,5 +1,5 @@
 -- Authorization policies.
-use Rattle.std.specs.Prelude.{ℕ, ◌%◌, ◌^◌, ◌==◌, List, [], Result, Ok, Err, if◌then◌else◌}
+use Rattle.std.specs.Prelude.{ℕ, ◌==◌, List, [], Result, Ok, Err, if◌then◌else◌}
 use Rattle.hb_wire.specs.Field.{Content, Value, varint, eight, span, four}
 use Rattle.hb_wire.specs.Message.{message_of, fold_message, and_then}
 use Rattle.hb_records.specs.declared.fault.RecordFault.{RecordFault}
@@ -9,12 +9,8 @@ use Rattle.hb_records.specs.declared.authorization.Reach.TheVariants.{Global, Na
 use Rattle.hb_records.specs.declared.authorization.Action.{Action}
 use Rattle.hb_records.specs.declared.authorization.Action.TheVariants.{Allow, Deny}
 use Rattle.hb_records.specs.declared.authorization.Authorization.{Authorization}
-use Rattle.hb_records.specs.Entries.{text_in, one_more}
+use Rattle.hb_records.specs.Entries.{text_in, enum_number, one_more}
 use Rattle.hb_records.specs.Rule.{rule_in}
-
--- an enum's number: the low 32 bits of the varint
-abbrev pub enum_number : ℕ → ℕ
-enum_number n = n % 2 ^ 32
 
 -- scope 3: 0 is the mesh, 1 the policy's namespace, 2 the workloads that name it
 abbrev pub reach_of : ℕ → Result Reach RecordFault

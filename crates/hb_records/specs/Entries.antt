@@ -1,5 +1,5 @@
--- Strings, and the entries of a repeated field.
-use Rattle.std.specs.Prelude.{ℕ, nat_lt, List, [], ◌∷◌, ◌++◌, length, Result, Ok, Err, if◌then◌else◌}
+-- Strings, enums, and the entries of a repeated field.
+use Rattle.std.specs.Prelude.{ℕ, ◌%◌, ◌^◌, nat_lt, List, [], ◌∷◌, ◌++◌, length, Result, Ok, Err, if◌then◌else◌}
 use Rattle.std.specs.Str.{is_utf8}
 use Rattle.hb_wire.specs.Message.{and_then}
 use Rattle.hb_records.specs.declared.fault.RecordFault.{RecordFault}
@@ -8,6 +8,10 @@ use Rattle.hb_records.specs.declared.fault.RecordFault.TheVariants.{Utf8, TooMan
 -- a string field: UTF-8 (Protocol Buffers language guide, "Scalar Value Types")
 abbrev pub text_in : ℕ → List ℕ → Result (List ℕ) RecordFault
 text_in field bytes = if is_utf8 bytes then Ok bytes else Err (Utf8 field)
+
+-- an enum's number: the low 32 bits of the varint (Protocol Buffers encoding guide, "Bools and Enums")
+abbrev pub enum_number : ℕ → ℕ
+enum_number n = n % 2 ^ 32
 
 -- A repeated field has at most 4,096 entries: the 4,097th is one too many, whatever it is.
 abbrev pub room_in : {T : Type 0} → ℕ → List T → Result (Unit {0}) RecordFault

@@ -15,7 +15,8 @@ use Rattle.hb_records.specs.StringMatch.{string_match_in}
 abbrev pub attribute_in : Match → ℕ → ℕ → List ℕ → Result Match RecordFault
 attribute_in m number at bytes =
     if number == 3 then and_then (one_more 3 m.principals (string_match_in 3 at bytes)) (λ l. Ok (record m { principals = l }))
-    else (if number == 4 then and_then (one_more 4 m.not_principals (string_match_in 4 at bytes)) (λ l. Ok (record m { not_principals = l }))
+    else (if number == 4 then and_then (one_more 4 m.not_principals (string_match_in 4 at bytes))
+    (λ l. Ok (record m { not_principals = l }))
     else (if nat_le 1 number && nat_le number 10 then Err (NotYet number) else Ok m))
 
 -- destination_ports 9 and not_destination_ports 10 are numbers, and aren't built yet
@@ -37,14 +38,16 @@ match_in at bytes = fold_message match_merged Wire no_match (message_of (record 
 
 -- a clause has matches 2
 abbrev pub clause_merged : Clause → Content → Result Clause RecordFault
-clause_merged c f = of_span c f.value (λ bytes. if f.number == 2 then and_then (one_more 2 c.matches (match_in f.at bytes)) (λ l. Ok (record { matches = l })) else Ok c)
+clause_merged c f = of_span c f.value (λ bytes.
+    if f.number == 2 then and_then (one_more 2 c.matches (match_in f.at bytes)) (λ l. Ok (record { matches = l })) else Ok c)
 
 unfoldable pub clause_in : ℕ → List ℕ → Result Clause RecordFault
 clause_in at bytes = fold_message clause_merged Wire (record { matches = [] }) (message_of (record { at = at; left = bytes }))
 
 -- a rule has clauses 2
 abbrev pub rule_merged : Rule → Content → Result Rule RecordFault
-rule_merged r f = of_span r f.value (λ bytes. if f.number == 2 then and_then (one_more 2 r.clauses (clause_in f.at bytes)) (λ l. Ok (record { clauses = l })) else Ok r)
+rule_merged r f = of_span r f.value (λ bytes.
+    if f.number == 2 then and_then (one_more 2 r.clauses (clause_in f.at bytes)) (λ l. Ok (record { clauses = l })) else Ok r)
 
 unfoldable pub rule_in : ℕ → List ℕ → Result Rule RecordFault
 rule_in at bytes = fold_message rule_merged Wire (record { clauses = [] }) (message_of (record { at = at; left = bytes }))

@@ -32,4 +32,6 @@ kind_or field None = Err (NoKind field)
 
 -- the string match of these bytes at a place, which stands under this number
 unfoldable pub string_match_in : ℕ → ℕ → List ℕ → Result StringMatch RecordFault
-string_match_in field at bytes = and_then (fold_message member_of Wire (record { kind = None }) (message_of (record { at = at; left = bytes }))) (λ m. kind_or field m.kind)
+string_match_in field at bytes =
+    and_then (fold_message member_of Wire (record { kind = None }) (message_of (record { at = at; left = bytes })))
+    (λ m. kind_or field m.kind)

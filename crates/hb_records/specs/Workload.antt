@@ -10,9 +10,8 @@ use Rattle.hb_records.specs.declared.address.Address.{Address}
 use Rattle.hb_records.specs.declared.address.AddressRecord.{AddressRecord}
 use Rattle.hb_records.specs.declared.address.AddressRecord.TheVariants as records
 use Rattle.hb_records.specs.declared.workload.Workload.{Workload}
-use Rattle.hb_records.specs.Authorization.{enum_number}
 use Rattle.hb_records.specs.Reading.{of_span}
-use Rattle.hb_records.specs.Entries.{text_in, one_more}
+use Rattle.hb_records.specs.Entries.{text_in, enum_number, one_more}
 
 -- an address is 4 or 16 octets
 abbrev pub ip_or : ℕ → Option Ip → Result Ip RecordFault
@@ -36,7 +35,8 @@ workload_text w number bytes =
 abbrev pub workload_span : Workload → ℕ → List ℕ → Result Workload RecordFault
 workload_span w number bytes =
     if number == 3 then and_then (one_more 3 w.addresses (ip_or 3 (ip_of_octets bytes))) (λ l. Ok (record w { addresses = l }))
-    else (if number == 16 then and_then (one_more 16 w.authorization_policies (text_in 16 bytes)) (λ l. Ok (record w { authorization_policies = l }))
+    else (if number == 16 then and_then (one_more 16 w.authorization_policies (text_in 16 bytes))
+    (λ l. Ok (record w { authorization_policies = l }))
     else (if number == 8 then Err (NotYet 8)
     else (if number == 22 then Err (NotYet 22)
     else workload_text w number bytes)))
@@ -84,7 +84,8 @@ address_span w number at bytes =
     else (if number == 2 then Err (NotYet 2) else Ok w)
 
 abbrev pub address_merged : Address → Content → Result Address RecordFault
-address_merged a f = and_then (of_span a.workload f.value (λ bytes. address_span a.workload f.number f.at bytes)) (λ w. Ok (record { workload = w }))
+address_merged a f = and_then (of_span a.workload f.value (λ bytes. address_span a.workload f.number f.at bytes))
+    (λ w. Ok (record { workload = w }))
 
 -- a record without a kind
 abbrev pub workload_or : Option Workload → Result AddressRecord RecordFault
@@ -93,4 +94,5 @@ workload_or None = Err (NoKind 0)
 
 -- the address record that these bytes are
 unfoldable pub address_of : List ℕ → Result AddressRecord RecordFault
-address_of bytes = and_then (fold_message address_merged Wire (record { workload = None }) (message_of (record { at = 0; left = bytes }))) (λ a. workload_or a.workload)
+address_of bytes = and_then (fold_message address_merged Wire (record { workload = None }) (message_of (record { at = 0; left = bytes })))
+    (λ a. workload_or a.workload)

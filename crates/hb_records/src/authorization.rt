@@ -4,7 +4,7 @@ ghost use Rattle.std.specs.Prelude.{◌≡◌, ◌+◌, ◌^◌, ◌<◌, length
 ghost use Rattle.hb_base.specs.Outcome.{Answers, Merges};
 ghost use Rattle.hb_records.specs.Authorization.{reach_of, action_of, policy_span, policy_number, authorization_of};
 
-use crate::entries::{check_room, read_text};
+use crate::entries::{check_room, enum_number, read_text};
 use crate::fault::RecordFault;
 use crate::message::{Message, read_message};
 use crate::rule::{Rule, read_rule};
@@ -103,14 +103,12 @@ impl Authorization {
         Ok(())
     }
 
-    /// An enum is the low 32 bits of its number.
     fn take_number(&mut self, number: u32, n: u64) -> Result<(), Or<RecordFault>>
         ensures { Merges (policy_number self.old number n) self.new result }
     {
-        let low = (n % 4_294_967_296) as u32;
         match number {
-            3 => self.scope = read_reach(low).map_err(Or::Fault)?,
-            4 => self.action = read_action(low).map_err(Or::Fault)?,
+            3 => self.scope = read_reach(enum_number(n)).map_err(Or::Fault)?,
+            4 => self.action = read_action(enum_number(n)).map_err(Or::Fault)?,
             _ => {}
         }
         Ok(())

@@ -1,11 +1,15 @@
-//! Strings, and the entries of a repeated field.
+//! Strings, enums, and the entries of a repeated field.
 
+ghost use Rattle.std.specs.Prelude.{◌≡◌};
 ghost use Rattle.hb_base.specs.Outcome.{Answers};
-ghost use Rattle.hb_records.specs.Entries.{text_in, room_in};
+ghost use Rattle.hb_records.specs.Entries.{text_in, enum_number, room_in};
 
 use crate::fault::RecordFault;
 use hb_base::{List, Or, Text};
 use std::alloc::Global;
+
+/// How many numbers an enum's 32 bits have.
+const ENUM_NUMBERS: u64 = 4_294_967_296;
 
 /// The most entries that a repeated field may have.
 const MOST_ENTRIES: usize = 4096;
@@ -18,6 +22,13 @@ pub fn read_text(alloc: Global, field: u32, bytes: &[u8]) -> Result<Text, Or<Rec
         Some(text) => Ok(text),
         None => Err(Or::Fault(RecordFault::Utf8 { field })),
     }
+}
+
+/// An enum's number is the low 32 bits of its varint.
+pub fn enum_number(n: u64) -> u32
+    ensures { result ≡ enum_number n }
+{
+    (n % ENUM_NUMBERS) as u32
 }
 
 /// A fault where one more entry would be the 4,097th.

@@ -18,6 +18,3 @@ pub use message::{Message, read_message};
 pub use rule::{Clause, Match, Rule};
 pub use string_match::StringMatch;
 pub use workload::Workload;
-
-#[cfg(test)]
-mod tests;

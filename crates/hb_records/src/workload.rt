@@ -5,7 +5,7 @@ ghost use Rattle.hb_base.specs.Octets.{ip_of_octets};
 ghost use Rattle.hb_base.specs.Outcome.{Answers, Merges};
 ghost use Rattle.hb_records.specs.Workload.{no_workload, ip_or, workload_text, workload_span, workload_number};
 
-use crate::entries::{check_room, read_text};
+use crate::entries::{check_room, enum_number, read_text};
 use crate::fault::RecordFault;
 use crate::message::Message;
 use hb_base::{Ip, List, Or, Text};
@@ -126,14 +126,12 @@ impl Workload {
         Ok(())
     }
 
-    /// An enum is the low 32 bits of its number.
     fn take_number(&mut self, number: u32, n: u64)
         ensures { self.new ≡ workload_number self.old number n }
     {
-        let low = n % 4_294_967_296;
         match number {
-            5 => self.hbone = low == 1,
-            17 => self.healthy = low == 0,
+            5 => self.hbone = enum_number(n) == 1,
+            17 => self.healthy = enum_number(n) == 0,
             _ => {}
         }
     }

@@ -29,7 +29,8 @@ end_cases false (Err d) e = absurd cc
 pub nothing_left : (u : Unread) → next_in u ≡ Ok None → u.left ≡ []
 nothing_left u e = empty u.left (eqb-true (length u.left) 0 (end_cases (length u.left == 0) (field_in u) e))
 
-fault_cases : (b : Bool) (r : Result (Content × Unread) WireFault) (d : WireFault) → cond b (Ok None) (r >>= λ f. Ok (Some f)) ≡ Err d → (b ≡ false) × (r ≡ Err d)
+fault_cases : (b : Bool) (r : Result (Content × Unread) WireFault) (d : WireFault) → cond b (Ok None) (r >>= λ f. Ok (Some f)) ≡ Err d
+    → (b ≡ false) × (r ≡ Err d)
 fault_cases true r d e = absurd cc
 fault_cases false (Ok f) d e = absurd cc
 fault_cases false (Err c) d e = (refl, cc)
@@ -44,7 +45,8 @@ next_spelled u v f octets e =
 -- a field that is in front is read
 pub next_of_spelled : (u v : Unread) (f : Content) → SpellsNext u f v → next_in u ≡ Ok (Some (f, v))
 next_of_spelled u v f (front, left, at, s) =
-    ap (λ (l : List ℕ). next_in (record { at = u.at; left = l })) left ∙ next_read front v.left u.at f s ∙ ap (λ (k : ℕ). Ok (Some (f, record { at = k; left = v.left }))) (sym at)
+    ap (λ (l : List ℕ). next_in (record { at = u.at; left = l })) left ∙ next_read front v.left u.at f s
+    ∙ ap (λ (k : ℕ). Ok (Some (f, record { at = k; left = v.left }))) (sym at)
 
 pub end_of_nothing : (u : Unread) → u.left ≡ [] → next_in u ≡ Ok None
 end_of_nothing u e = rw e refl
@@ -55,7 +57,8 @@ next_refused u d (some, broken) =
     let filled : (length u.left ≡ 0 → ⊥) = λ e. omega arith in
     rw (ne_eqb (length u.left) 0 filled, field_refused u d broken) refl
 
-by_next : (r : Result (Option (Content × Unread)) WireFault) (P : Type 0) → (r ≡ Ok None → P) → ((f : Content) (v : Unread) → r ≡ Ok (Some (f, v)) → P) → ((d : WireFault) → r ≡ Err d → P) → P
+by_next : (r : Result (Option (Content × Unread)) WireFault) (P : Type 0) → (r ≡ Ok None → P)
+    → ((f : Content) (v : Unread) → r ≡ Ok (Some (f, v)) → P) → ((d : WireFault) → r ≡ Err d → P) → P
 by_next (Ok None) P a b c = a refl
 by_next (Ok (Some p)) P a b c = b p.0 p.1 refl
 by_next (Err d) P a b c = c d refl
@@ -67,7 +70,8 @@ refused u d octets e =
     let some = eqb-false (length u.left) 0 c.0 in
     (omega arith, at_err (field_in u) _ d (field_broken u octets) c.1)
 
-first : (u v : Unread) (f : Content) → All IsOctet u.left → next_in u ≡ Ok (Some (f, v)) → Splits v (message_of v) → Splits u (with_first f (message_of v))
+first : (u v : Unread) (f : Content) → All IsOctet u.left → next_in u ≡ Ok (Some (f, v)) → Splits v (message_of v)
+    → Splits u (with_first f (message_of v))
 first u v f octets e (front, behind, cut, spelled, ends) =
     let c = next_cases (length u.left == 0) (field_in u) (f, v) e in
     let s = at_ok (field_in u) _ (f, v) (field_spelled u octets) c.1 in
@@ -80,11 +84,13 @@ first u v f octets e (front, behind, cut, spelled, ends) =
       subst (λ (k : ℕ). EndsWith k behind (message_of v).fault) on ends,
     )
 
-split : (u : Unread) → All IsOctet u.left → ((f : Content) (v : Unread) → next_in u ≡ Ok (Some (f, v)) → Splits v (message_of v)) → Splits u (message_of u)
+split : (u : Unread) → All IsOctet u.left → ((f : Content) (v : Unread) → next_in u ≡ Ok (Some (f, v)) → Splits v (message_of v))
+    → Splits u (message_of u)
 split u octets more = by_next (next_in u) _
     (λ e. subst (λ (m : Message). Splits u m) (sym (message-end u e)) ([], u.left, refl, refl, nothing_left u e))
     (λ f v e. subst (λ (m : Message). Splits u m) (sym (message-field u v f e)) (first u v f octets e (more f v e)))
-    (λ d e. subst (λ (m : Message). Splits u m) (sym (message-fault u d e)) ([], u.left, refl, refl, subst (λ (k : ℕ). EndsWith k u.left (Some d)) (sym (add-zero u.at)) (refused u d octets e)))
+    (λ d e. subst (λ (m : Message). Splits u m) (sym (message-fault u d e))
+    ([], u.left, refl, refl, subst (λ (k : ℕ). EndsWith k u.left (Some d)) (sym (add-zero u.at)) (refused u d octets e)))
 
 splits : (n : ℕ) (u : Unread) → length u.left ≤ n → All IsOctet u.left → Splits u (message_of u)
 splits zero u le octets = split u octets (λ f v e. let lt = next_is_shorter u v f e in absurd (omega arith))
@@ -95,20 +101,27 @@ splits (suc n) u le octets = split u octets (λ f v e.
     splits n v (omega arith) (octets_behind u v s.0 s.2 octets))
 
 -- a message that is read is spelled, up to its fault
-pub message_spelled : (at : ℕ) (bytes : List ℕ) (m : Message) → All IsOctet bytes → message_of (record { at = at; left = bytes }) ≡ m → SpellsUpTo at bytes m.fields m.fault
-message_spelled at bytes m octets e = subst (λ (m : Message). SpellsUpTo at bytes m.fields m.fault) e (splits (length bytes) (record { at = at; left = bytes }) (omega arith) octets)
+pub message_spelled : (at : ℕ) (bytes : List ℕ) (m : Message) → All IsOctet bytes → message_of (record { at = at; left = bytes }) ≡ m
+    → SpellsUpTo at bytes m.fields m.fault
+message_spelled at bytes m octets e = subst (λ (m : Message). SpellsUpTo at bytes m.fields m.fault) e
+    (splits (length bytes) (record { at = at; left = bytes }) (omega arith) octets)
 
 -- a message that is spelled, up to its fault, is read
-spelled_up_to : (fields : List Content) (fault : Option WireFault) (at : ℕ) (front behind : List ℕ) → SpellsMessage at front fields → EndsWith (at + length front) behind fault
+spelled_up_to : (fields : List Content) (fault : Option WireFault) (at : ℕ) (front behind : List ℕ) → SpellsMessage at front fields
+    → EndsWith (at + length front) behind fault
     → message_of (record { at = at; left = front ++ behind }) ≡ record { fields = fields; fault = fault }
 spelled_up_to [] None at front behind none ends = rw (none, ends) (message-end (record { at = at; left = [] }) refl)
 spelled_up_to [] (Some d) at front behind none (some, broken) =
     let here : at + length front ≡ at = rw none (add-zero at) in
-    rw none (message-fault (record { at = at; left = behind }) d (next_refused (record { at = at; left = behind }) d (some, subst (λ (k : ℕ). BreaksField k behind d) here broken)))
+    rw none (message-fault (record { at = at; left = behind }) d
+    (next_refused (record { at = at; left = behind }) d (some, subst (λ (k : ℕ). BreaksField k behind d) here broken)))
 spelled_up_to (f ∷ fields) fault at front behind (one, more, cut, s, rest) ends =
-    let on : at + length front ≡ at + length one + length more = let size : length front ≡ length one + length more = ap length cut ∙ length-append one more in omega arith in
-    rw (cut, append_assoc one more behind) (message-field (record { at = at; left = one ++ (more ++ behind) }) (record { at = at + length one; left = more ++ behind }) f (next_read one (more ++ behind) at f s)
-    ∙ ap (λ (m : Message). with_first f m) (spelled_up_to fields fault (at + length one) more behind rest (subst (λ (k : ℕ). EndsWith k behind fault) on ends)))
+    let on : at + length front ≡ at + length one + length more = let size : length front ≡ length one + length more = ap length cut
+    ∙ length-append one more in omega arith in
+    rw (cut, append_assoc one more behind) (message-field (record { at = at; left = one ++ (more ++ behind) })
+    (record { at = at + length one; left = more ++ behind }) f (next_read one (more ++ behind) at f s)
+    ∙ ap (λ (m : Message). with_first f m) (spelled_up_to fields fault (at + length one) more behind rest
+    (subst (λ (k : ℕ). EndsWith k behind fault) on ends)))
 
 pub message_read : (at : ℕ) (bytes : List ℕ) (fields : List Content) (fault : Option WireFault) → SpellsUpTo at bytes fields fault
     → message_of (record { at = at; left = bytes }) ≡ record { fields = fields; fault = fault }
@@ -124,7 +137,8 @@ whole_message at bytes fields (front, behind, cut, spelled, ends) =
 pub up_to_its_end : (at : ℕ) (bytes : List ℕ) (fields : List Content) → SpellsMessage at bytes fields → SpellsUpTo at bytes fields None
 up_to_its_end at bytes fields s = (bytes, [], sym (append-nil bytes), s, refl)
 
-pub one_list : (at : ℕ) (bytes : List ℕ) (fields others : List Content) → SpellsMessage at bytes fields → SpellsMessage at bytes others → fields ≡ others
+pub one_list : (at : ℕ) (bytes : List ℕ) (fields others : List Content) → SpellsMessage at bytes fields → SpellsMessage at bytes others
+    → fields ≡ others
 one_list at bytes fields others a b =
     let first = message_read at bytes fields None (up_to_its_end at bytes fields a) in
     let second = message_read at bytes others None (up_to_its_end at bytes others b) in

@@ -4,7 +4,8 @@ use Rattle.std.specs.Prelude.{nat_lt}
 use Rattle.hb_wire.specs.declared.fault.WireFault.{WireFault}
 use Rattle.hb_wire.specs.declared.varint.Varint.{Varint}
 use Rattle.hb_wire.specs.Varint.{varint_at, before_high_bits}
-use Rattle.hb_wire.specs.Field.{Unread, Content, field_in, value_in, varint_in, bytes_in, eight_in, four_in, is_number, is_wire_type, ◌>>=◌}
+use Rattle.hb_wire.specs.Field.{Unread, Content, field_in, value_in, varint_in, bytes_in, eight_in, four_in, is_number, ◌>>=◌}
+use Rattle.hb_wire.specs.WireType.{is_wire_type}
 
 abbrev taken : Result Varint WireFault → ℕ
 taken (Ok v) = v.length
@@ -28,14 +29,16 @@ one_taken (byte ∷ rest) at index =
 -- a varint has a byte at least
 pub varint_takes : (bytes : List ℕ) (at index : ℕ) (v : Varint) → varint_at bytes at index ≡ Ok v → (0 < v.length) × (0 < length bytes)
 varint_takes [] at index v e = absurd cc
-varint_takes (byte ∷ rest) at index v e = let h : taken (varint_at (byte ∷ rest) at index) ≡ v.length = ap taken e in let p = one_taken (byte ∷ rest) at index in (omega arith, omega arith)
+varint_takes (byte ∷ rest) at index v e = let h : taken (varint_at (byte ∷ rest) at index) ≡ v.length = ap taken e in
+    let p = one_taken (byte ∷ rest) at index in (omega arith, omega arith)
 
 -- what is read leaves at most n bytes
 abbrev pub Leaves : {A : Type 0} → ℕ → Result (A × Unread) WireFault → Type 0
 Leaves n (Ok p) = length p.1.left ≤ n
 Leaves n (Err e) = Unit {0}
 
-bind_leaves : {A B : Type 0} (n : ℕ) (r : Result A WireFault) (f : A → Result (B × Unread) WireFault) → ((x : A) → r ≡ Ok x → Leaves n (f x)) → Leaves n (r >>= f)
+bind_leaves : {A B : Type 0} (n : ℕ) (r : Result A WireFault) (f : A → Result (B × Unread) WireFault)
+    → ((x : A) → r ≡ Ok x → Leaves n (f x)) → Leaves n (r >>= f)
 bind_leaves n (Ok x) f h = h x refl
 bind_leaves n (Err d) f h = tt
 
@@ -57,7 +60,8 @@ at_ok n (Err d) p e le = absurd cc
 
 varint_leaves : (u : Unread) → Leaves (length u.left - 1) (varint_in u)
 unfolding varint_in
-varint_leaves u = bind_leaves (length u.left - 1) (varint_at u.left u.at 0) _ (λ v e. let t = varint_takes u.left u.at 0 v e in omega (arith, length-drop v.length u.left))
+varint_leaves u = bind_leaves (length u.left - 1) (varint_at u.left u.at 0) _ (λ v e. let t = varint_takes u.left u.at 0 v e in
+    omega (arith, length-drop v.length u.left))
 
 bytes_leave : (k : ℕ) (u : Unread) → Leaves (length u.left) (bytes_in k u)
 unfolding bytes_in
@@ -67,22 +71,28 @@ value_leaves : (number wire : ℕ) (u : Unread) → Leaves (length u.left) (valu
 unfolding value_in
 value_leaves number wire u =
     cond_leaves (length u.left) (wire == 0) _ _
-    (bind_leaves (length u.left) (varint_in u) _ (λ p e. let t = at_ok (length u.left - 1) (varint_in u) p e (varint_leaves u) in omega arith))
+    (bind_leaves (length u.left) (varint_in u) _ (λ p e. let t = at_ok (length u.left - 1) (varint_in u) p e (varint_leaves u) in
+    omega arith))
     (cond_leaves (length u.left) (wire == 1) _ _
-    (bind_leaves (length u.left) (eight_in u) _ (λ p e. at_ok (length u.left) (eight_in u) p e (bind_leaves (length u.left) (bytes_in 8 u) _ (λ b d. at_ok (length u.left) (bytes_in 8 u) b d (bytes_leave 8 u)))))
+    (bind_leaves (length u.left) (eight_in u) _
+    (λ p e. at_ok (length u.left) (eight_in u) p e
+    (bind_leaves (length u.left) (bytes_in 8 u) _ (λ b d. at_ok (length u.left) (bytes_in 8 u) b d (bytes_leave 8 u)))))
     (cond_leaves (length u.left) (wire == 2) _ _
     (bind_leaves (length u.left) (varint_in u) _ (λ p e. bind_leaves (length u.left) (bytes_in p.0 p.1) _ (λ b d.
     let t = at_ok (length u.left - 1) (varint_in u) p e (varint_leaves u) in
     let w = at_ok (length p.1.left) (bytes_in p.0 p.1) b d (bytes_leave p.0 p.1) in
     omega arith)))
-    (bind_leaves (length u.left) (four_in u) _ (λ p e. at_ok (length u.left) (four_in u) p e (bind_leaves (length u.left) (bytes_in 4 u) _ (λ b d. at_ok (length u.left) (bytes_in 4 u) b d (bytes_leave 4 u)))))))
+    (bind_leaves (length u.left) (four_in u) _
+    (λ p e. at_ok (length u.left) (four_in u) p e
+    (bind_leaves (length u.left) (bytes_in 4 u) _ (λ b d. at_ok (length u.left) (bytes_in 4 u) b d (bytes_leave 4 u)))))))
 
 field_leaves : (u : Unread) → Leaves (length u.left - 1) (field_in u)
 unfolding field_in
 field_leaves u = bind_leaves (length u.left - 1) (varint_in u) _ (λ tag e.
     let t = at_ok (length u.left - 1) (varint_in u) tag e (varint_leaves u) in
     cond_leaves (length u.left - 1) (is_number (tag.0 / 8)) _ _
-    (cond_leaves (length u.left - 1) (is_wire_type (tag.0 % 8)) _ _ (leaves_more (length tag.1.left) (length u.left - 1) _ t (value_leaves (tag.0 / 8) (tag.0 % 8) tag.1)) tt)
+    (cond_leaves (length u.left - 1) (is_wire_type (tag.0 % 8)) _ _
+    (leaves_more (length tag.1.left) (length u.left - 1) _ t (value_leaves (tag.0 / 8) (tag.0 % 8) tag.1)) tt)
     tt)
 
 -- a field that was read leaves fewer bytes

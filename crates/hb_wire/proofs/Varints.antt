@@ -18,18 +18,22 @@ pub record Passes (before after : Unread) (bytes : List ℕ) : Type 0 where
   pub left : before.left ≡ bytes ++ after.left
   pub at : after.at ≡ before.at + length bytes
 
-pub if_bind : {A B : Type 0} (r : Result A WireFault) (f : A → Result B WireFault) (P : B → Type 0) → ((x : A) → r ≡ Ok x → IfOk (f x) P) → IfOk (r >>= f) P
+pub if_bind : {A B : Type 0} (r : Result A WireFault) (f : A → Result B WireFault) (P : B → Type 0) → ((x : A) → r ≡ Ok x → IfOk (f x) P)
+    → IfOk (r >>= f) P
 if_bind (Ok x) f P h = h x refl
 if_bind (Err e) f P h = tt
 
-pub if_cond : {A : Type 0} (t : Bool) (x y : Result A WireFault) (P : A → Type 0) → (t ≡ true → IfOk x P) → (t ≡ false → IfOk y P) → IfOk (cond t x y) P
+pub if_cond : {A : Type 0} (t : Bool) (x y : Result A WireFault) (P : A → Type 0) → (t ≡ true → IfOk x P) → (t ≡ false → IfOk y P)
+    → IfOk (cond t x y) P
 if_cond true x y P p q = p refl
 if_cond false x y P p q = q refl
 
 pub at_ok : {A : Type 0} (r : Result A WireFault) (P : A → Type 0) (x : A) → IfOk r P → r ≡ Ok x → P x
 at_ok r P x h e = let Q : Result _ WireFault → Type 0 = λ r. IfOk r P in subst Q e h
 
-if_high : (low : ℕ) (r : Result Varint WireFault) (P : Varint → Type 0) → ((high : Varint) → r ≡ Ok high → P (record { value = low + 128 * high.value; length = high.length + 1 })) → IfOk (before_high_bits low r) P
+if_high : (low : ℕ) (r : Result Varint WireFault) (P : Varint → Type 0)
+    → ((high : Varint) → r ≡ Ok high → P (record { value = low + 128 * high.value; length = high.length + 1 }))
+    → IfOk (before_high_bits low r) P
 if_high low (Ok high) P h = h high refl
 if_high low (Err e) P h = tt
 
@@ -40,14 +44,16 @@ record Reads (bytes : List ℕ) (index : ℕ) (v : Varint) : Type 0 where
   small : v.value < 2 ^ (64 - 7 * index)
   inside : v.length ≤ length bytes
 
-more_base128 : (byte : ℕ) (bytes : List ℕ) (high : ℕ) → 128 ≤ byte → byte < 256 → IsBase128 bytes high → IsBase128 (byte ∷ bytes) (byte - 128 + 128 * high)
+more_base128 : (byte : ℕ) (bytes : List ℕ) (high : ℕ) → 128 ≤ byte → byte < 256 → IsBase128 bytes high
+    → IsBase128 (byte ∷ bytes) (byte - 128 + 128 * high)
 more_base128 byte [] high le lt b = absurd b
 more_base128 byte (next ∷ bytes) high le lt b = (le, lt, high, omega arith, b)
 
 last_bound : (index : ℕ) → index ≡ 9 → 2 ^ (64 - 7 * index) ≡ 2
 last_bound index e = rw e refl
 
-one_byte : (byte : ℕ) (rest : List ℕ) (index : ℕ) → index ≤ 9 → byte < 128 → byte < 2 ^ (64 - 7 * index) → Reads (byte ∷ rest) index (record { value = byte; length = 1 })
+one_byte : (byte : ℕ) (rest : List ℕ) (index : ℕ) → index ≤ 9 → byte < 128 → byte < 2 ^ (64 - 7 * index)
+    → Reads (byte ∷ rest) index (record { value = byte; length = 1 })
 one_byte byte rest index le lt small = record { base128 = (lt, refl); few = omega arith; small = small; inside = omega arith }
 
 more_bytes : (byte : ℕ) (rest : List ℕ) (index : ℕ) (high : Varint) → index ≤ 8 → 128 ≤ byte → byte < 256 → Reads rest (index + 1) high
@@ -73,10 +79,12 @@ reads (byte ∷ rest) at index le octets =
     (λ top. let big = ltb-false byte 128 top in let octet = All-head IsOctet byte rest octets in
     if_high (byte - 128) (varint_at rest (at + 1) (index + 1)) _
     (λ high e. more_bytes byte rest index high early big octet
-    (at_ok (varint_at rest (at + 1) (index + 1)) (λ v. Reads rest (index + 1) v) high (reads rest (at + 1) (index + 1) (omega arith) (All-tail IsOctet byte rest octets)) e))))
+    (at_ok (varint_at rest (at + 1) (index + 1)) (λ v. Reads rest (index + 1) v) high
+    (reads rest (at + 1) (index + 1) (omega arith) (All-tail IsOctet byte rest octets)) e))))
 
 -- a varint that is read is spelled by the bytes that it takes
-pub varint_spelled : (u : Unread) → All IsOctet u.left → IfOk (varint_in u) (λ p. (bytes : List ℕ) × IsVarint bytes p.0 × Passes u p.1 bytes)
+pub varint_spelled : (u : Unread) → All IsOctet u.left
+    → IfOk (varint_in u) (λ p. (bytes : List ℕ) × IsVarint bytes p.0 × Passes u p.1 bytes)
 unfolding varint_in
 varint_spelled u octets = if_bind (varint_at u.left u.at 0) _ _
     (λ v e. let r = at_ok (varint_at u.left u.at 0) (λ v. Reads u.left 0 v) v (reads u.left u.at 0 (omega arith) octets) e in
@@ -91,7 +99,8 @@ pub pick : {A : Type 0} (t : Bool) (x y z : A) → (t ≡ true → x ≡ z) → 
 pick true x y z p q = p refl
 pick false x y z p q = q refl
 
-last_read : (byte : ℕ) (rest : List ℕ) (at index : ℕ) → index ≤ 9 → byte < 128 → byte < 2 ^ (64 - 7 * index) → varint_at (byte ∷ rest) at index ≡ Ok (record { value = byte; length = 1 })
+last_read : (byte : ℕ) (rest : List ℕ) (at index : ℕ) → index ≤ 9 → byte < 128 → byte < 2 ^ (64 - 7 * index)
+    → varint_at (byte ∷ rest) at index ≡ Ok (record { value = byte; length = 1 })
 last_read byte rest at index le lt small =
     pick (index == 9) _ _ _
     (λ last. let bound = last_bound index (eqb-true index 9 last) in rw (le-ltb 1 byte (omega arith)) refl)
@@ -120,9 +129,13 @@ read_back (byte ∷ next ∷ bytes) rest at index n le few small (big, octet, hi
     ∙ ap (λ (size : ℕ). Ok (record { value = n; length = size })) longer
 
 -- a varint in front is read
-pub varint_read : (bytes rest : List ℕ) (at n : ℕ) → IsVarint bytes n → varint_in (record { at = at; left = bytes ++ rest }) ≡ Ok (n, record { at = at + length bytes; left = rest })
+pub varint_read : (bytes rest : List ℕ) (at n : ℕ) → IsVarint bytes n → varint_in (record { at = at; left = bytes ++ rest })
+    ≡ Ok (n, record { at = at + length bytes; left = rest })
 unfolding varint_in
-varint_read bytes rest at n v = rw (read_back bytes rest at 0 n (omega arith) (let few = v.few in omega arith) v.small v.base128, drop-append_seam) refl
+varint_read bytes rest at n v = rw (
+  read_back bytes rest at 0 n (omega arith) (let few = v.few in omega arith) v.small v.base128,
+  drop-append_seam,
+) refl
 
 pub some_in_varint : (bytes : List ℕ) (n : ℕ) → IsVarint bytes n → 0 < length bytes
 some_in_varint [] n v = absurd v.base128

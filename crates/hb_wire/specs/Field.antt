@@ -1,10 +1,11 @@
 -- Fields (Protocol Buffers encoding guide, "Message Structure").
-use Rattle.std.specs.Prelude.{ℕ, ◌+◌, ◌/◌, ◌%◌, ◌==◌, Bool, ◌||◌, ◌&&◌, nat_lt, List, length, take, drop, Option, Some, None, Result, Ok, Err, if◌then◌else◌}
+use Rattle.std.specs.Prelude.{ℕ, ◌+◌, ◌/◌, ◌%◌, ◌==◌, Bool, ◌&&◌, nat_lt, List, length, take, drop, Option, Some, None, Result, Ok, Err, if◌then◌else◌}
 use Rattle.std.specs.Int.{w32, w64, from_le_bytes}
 use Rattle.hb_wire.specs.declared.fault.WireFault.{WireFault}
 use Rattle.hb_wire.specs.declared.fault.WireWhy.{WireWhy}
 use Rattle.hb_wire.specs.declared.fault.WireWhy.TheVariants.{Truncated, BadNumber, BadType}
 use Rattle.hb_wire.specs.Varint.{varint_at}
+use Rattle.hb_wire.specs.WireType.{varint_type, eight_type, span_type, is_wire_type}
 
 -- bytes that aren't read yet, and the place at which they stand
 pub record Unread : Type 0 where
@@ -57,35 +58,45 @@ four_in u = do
   b ← bytes_in 4 u
   Ok (from_le_bytes w32 b.0, b.1)
 
--- The value of a field of this number and wire type, the tag of which was read: type 0 is a varint, 1 eight bytes and
--- 5 four, the least first, and 2 a length and so many bytes.
+-- The value of a field of this number, the tag of which was read, by its wire type.
+abbrev pub varint_value : ℕ → Unread → Result (Content × Unread) WireFault
+varint_value number u = do
+  n ← varint_in u
+  Ok (record { number = number; at = u.at; value = varint n.0 }, n.1)
+
+abbrev pub eight_value : ℕ → Unread → Result (Content × Unread) WireFault
+eight_value number u = do
+  n ← eight_in u
+  Ok (record { number = number; at = u.at; value = eight n.0 }, n.1)
+
+abbrev pub span_value : ℕ → Unread → Result (Content × Unread) WireFault
+span_value number u = do
+  n ← varint_in u
+  b ← bytes_in n.0 n.1
+  Ok (record { number = number; at = n.1.at; value = span b.0 }, b.1)
+
+abbrev pub four_value : ℕ → Unread → Result (Content × Unread) WireFault
+four_value number u = do
+  n ← four_in u
+  Ok (record { number = number; at = u.at; value = four n.0 }, n.1)
+
 unfoldable pub value_in : ℕ → ℕ → Unread → Result (Content × Unread) WireFault
 value_in number wire u =
-    if wire == 0 then (do
-      n ← varint_in u
-      Ok (record { number = number; at = u.at; value = varint n.0 }, n.1))
-    else (if wire == 1 then (do
-      n ← eight_in u
-      Ok (record { number = number; at = u.at; value = eight n.0 }, n.1))
-    else (if wire == 2 then (do
-      n ← varint_in u
-      b ← bytes_in n.0 n.1
-      Ok (record { number = number; at = n.1.at; value = span b.0 }, b.1))
-    else (do
-      n ← four_in u
-      Ok (record { number = number; at = u.at; value = four n.0 }, n.1))))
+    if wire == varint_type then varint_value number u
+    else (if wire == eight_type then eight_value number u
+    else (if wire == span_type then span_value number u
+    else four_value number u))
 
 abbrev pub is_number : ℕ → Bool
 is_number n = nat_lt 0 n && nat_lt n 536870912
-
-abbrev pub is_wire_type : ℕ → Bool
-is_wire_type wire = nat_lt wire 3 || wire == 5
 
 -- The field in front, and what is unread behind it. A tag is eight times the number, and the wire type.
 unfoldable pub field_in : Unread → Result (Content × Unread) WireFault
 field_in u = do
   tag ← varint_in u
-  if is_number (tag.0 / 8) then (if is_wire_type (tag.0 % 8) then value_in (tag.0 / 8) (tag.0 % 8) tag.1 else fault u.at BadType) else fault u.at BadNumber
+  if is_number (tag.0 / 8)
+      then (if is_wire_type (tag.0 % 8) then value_in (tag.0 / 8) (tag.0 % 8) tag.1 else fault u.at BadType)
+      else fault u.at BadNumber
 
 -- the next field, if a byte is left
 abbrev pub next_in : Unread → Result (Option (Content × Unread)) WireFault

@@ -1,4 +1,5 @@
 pub mod Varint
+pub mod WireType
 pub mod Field
 pub mod Seen
 pub mod Message

@@ -2,6 +2,7 @@
 use Rattle.std.specs.Prelude.{◌≡◌, ℕ, ◌+◌, ◌*◌, ◌^◌, ◌<◌, ◌≤◌, List, [], ◌∷◌, ◌++◌, length}
 use Rattle.std.specs.Int.{w32, w64, from_le_bytes}
 use Rattle.hb_wire.specs.Field.{Unread, Value, varint, eight, span, four, Content}
+use Rattle.hb_wire.specs.WireType.{varint_type, eight_type, span_type, four_type}
 
 abbrev pub IsOctet : ℕ → Type 0
 IsOctet b = b < 256
@@ -11,7 +12,8 @@ IsOctet b = b < 256
 abbrev pub IsBase128 : List ℕ → ℕ → Type 0
 IsBase128 [] n = ⊥
 IsBase128 (byte ∷ []) n = (byte < 128) × (n ≡ byte)
-IsBase128 (byte ∷ next ∷ bytes) n = (128 ≤ byte) × (byte < 256) × (high : ℕ) × (n + 128 ≡ byte + 128 * high) × IsBase128 (next ∷ bytes) high
+IsBase128 (byte ∷ next ∷ bytes) n = (128 ≤ byte) × (byte < 256) × (high : ℕ) × (n + 128 ≡ byte + 128 * high)
+    × IsBase128 (next ∷ bytes) high
 
 -- a varint: a number of 64 bits, in at most ten bytes
 pub record IsVarint (bytes : List ℕ) (n : ℕ) : Type 0 where
@@ -19,12 +21,12 @@ pub record IsVarint (bytes : List ℕ) (n : ℕ) : Type 0 where
   pub few : length bytes ≤ 10
   pub small : n < 2 ^ 64
 
--- the wire types: a varint is 0, eight bytes are 1, a span is 2 and four bytes are 5
+-- the wire type of a value
 abbrev pub wire_type : Value → ℕ
-wire_type (varint n) = 0
-wire_type (eight n) = 1
-wire_type (span own) = 2
-wire_type (four n) = 5
+wire_type (varint n) = varint_type
+wire_type (eight n) = eight_type
+wire_type (span own) = span_type
+wire_type (four n) = four_type
 
 -- The bytes behind a tag, which stand at a place, and the place of the value's own first byte: a varint; eight bytes or
 -- four, the least first; or a length, which is a varint, and so many bytes.
@@ -47,7 +49,8 @@ pub record SpellsField (at : ℕ) (bytes : List ℕ) (f : Content) : Type 0 wher
 -- a message that stands at a place: its fields, one after the other
 abbrev pub SpellsMessage : ℕ → List ℕ → List Content → Type 0
 SpellsMessage at bytes [] = bytes ≡ []
-SpellsMessage at bytes (f ∷ fs) = (front : List ℕ) × (behind : List ℕ) × (bytes ≡ front ++ behind) × SpellsField at front f × SpellsMessage (at + length front) behind fs
+SpellsMessage at bytes (f ∷ fs) = (front : List ℕ) × (behind : List ℕ) × (bytes ≡ front ++ behind) × SpellsField at front f
+    × SpellsMessage (at + length front) behind fs
 
 -- no field is in front of the bytes at a place
 abbrev pub NoField : ℕ → List ℕ → Type 0

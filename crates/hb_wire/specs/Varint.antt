@@ -16,4 +16,5 @@ varint_at [] at index = Err (record { at = at; why = Truncated })
 varint_at (byte ∷ rest) at index =
     if index == 9
     then (if nat_lt 1 byte then Err (record { at = at; why = LongVarint }) else Ok (record { value = byte; length = 1 }))
-    else (if nat_lt byte 128 then Ok (record { value = byte; length = 1 }) else before_high_bits (byte - 128) (varint_at rest (at + 1) (index + 1)))
+    else (if nat_lt byte 128 then Ok (record { value = byte; length = 1 }) else
+    before_high_bits (byte - 128) (varint_at rest (at + 1) (index + 1)))

@@ -1,7 +1,8 @@
 //! The fields of a message.
 
 ghost use Rattle.std.specs.Prelude.{◌≡◌, ◌+◌, ◌^◌, ◌<◌, ◌≤◌, length, IfOk, IfSome, OnOk, OnErr, OnSome, IfNone};
-ghost use Rattle.hb_wire.specs.Field.{next_in, field_in, value_in};
+ghost use Rattle.hb_wire.specs.Field.{next_in, field_in, value_in, varint_value, eight_value, span_value, four_value};
+ghost use Rattle.hb_wire.specs.WireType.{is_wire_type};
 ghost use Rattle.hb_wire.specs.Seen.{answer, content, unread, seen, IsInMemory};
 
 use crate::cursor::Cursor;
@@ -9,7 +10,7 @@ use crate::fault::{WireFault, WireWhy};
 use std::marker::Model;
 
 /// The value of a field, by its wire type: a varint, eight bytes, a span of bytes, or four bytes.
-#[derive(Clone, Copy, Debug)]
+#[derive(Clone, Copy)]
 pub enum FieldValue<'a> {
     Varint(u64),
     Eight(u64),
@@ -19,15 +20,30 @@ pub enum FieldValue<'a> {
 
 /// A field: its number, its value, and the place at which the value's first byte stands (of a span the
 /// first byte behind its length).
-#[derive(Clone, Copy, Debug)]
+#[derive(Clone, Copy)]
 pub struct Field<'a> {
     pub number: u32,
     pub at: usize,
     pub value: FieldValue<'a>,
 }
 
+/// The wire types that are read (Protocol Buffers encoding guide, "Message Structure").
+const VARINT: u64 = 0;
+
+const EIGHT: u64 = 1;
+
+const SPAN: u64 = 2;
+
+const FOUR: u64 = 5;
+
 /// The largest field number (Protocol Buffers language guide, "Assigning Field Numbers").
 const LARGEST_NUMBER: u64 = 536_870_911;
+
+fn is_wire_type(wire_type: u64) -> bool
+    ensures { result ≡ is_wire_type wire_type }
+{
+    wire_type == VARINT || wire_type == EIGHT || wire_type == SPAN || wire_type == FOUR
+}
 
 /// The field in front, and what is unread behind it.
 #[tactic(auto, unfolding(crate::specs::Field::field_in))]
@@ -44,7 +60,7 @@ fn read_field(cursor: Cursor<'_>) -> Result<(Field<'_>, Cursor<'_>), WireFault>
         });
     }
     let wire_type = tag % 8;
-    if !(wire_type < 3 || wire_type == 5) {
+    if !is_wire_type(wire_type) {
         return Err(WireFault {
             at: cursor.at,
             why: WireWhy::BadType,
@@ -63,30 +79,58 @@ fn read_value(
     ensures value { seen (λ f. (content f.0, unread f.1)) result ≡ value_in number wire_type (unread cursor.entry) }
     ensures span { IfOk result (λ f. IsInMemory f.0) }
 {
+    if wire_type == VARINT {
+        return varint_field(number, cursor);
+    }
+    if wire_type == EIGHT {
+        return eight_field(number, cursor);
+    }
+    if wire_type == SPAN {
+        return span_field(number, cursor);
+    }
+    four_field(number, cursor)
+}
+
+/// A field that is a varint, and what is unread behind it.
+fn varint_field(number: u32, cursor: Cursor<'_>) -> Result<(Field<'_>, Cursor<'_>), WireFault>
+    ensures value { seen (λ f. (content f.0, unread f.1)) result ≡ varint_value number (unread cursor.entry) }
+    ensures span { IfOk result (λ f. IsInMemory f.0) }
+{
     let at = cursor.at;
-    if wire_type == 0 {
-        let (n, rest) = cursor.varint()?;
-        let value = FieldValue::Varint(n);
-        return Ok((Field { number, at, value }, rest));
-    }
-    if wire_type == 1 {
-        let (n, rest) = cursor.eight()?;
-        let value = FieldValue::Eight(n);
-        return Ok((Field { number, at, value }, rest));
-    }
-    if wire_type == 2 {
-        let (length, rest) = cursor.varint()?;
-        let (bytes, behind) = rest.bytes(length)?;
-        let value = FieldValue::Span(bytes);
-        return Ok((
-            Field {
-                number,
-                at: rest.at,
-                value,
-            },
-            behind,
-        ));
-    }
+    let (n, rest) = cursor.varint()?;
+    let value = FieldValue::Varint(n);
+    Ok((Field { number, at, value }, rest))
+}
+
+/// A field of eight bytes, and what is unread behind it.
+fn eight_field(number: u32, cursor: Cursor<'_>) -> Result<(Field<'_>, Cursor<'_>), WireFault>
+    ensures value { seen (λ f. (content f.0, unread f.1)) result ≡ eight_value number (unread cursor.entry) }
+    ensures span { IfOk result (λ f. IsInMemory f.0) }
+{
+    let at = cursor.at;
+    let (n, rest) = cursor.eight()?;
+    let value = FieldValue::Eight(n);
+    Ok((Field { number, at, value }, rest))
+}
+
+/// A field that is a length and so many bytes, and what is unread behind it.
+fn span_field(number: u32, cursor: Cursor<'_>) -> Result<(Field<'_>, Cursor<'_>), WireFault>
+    ensures value { seen (λ f. (content f.0, unread f.1)) result ≡ span_value number (unread cursor.entry) }
+    ensures span { IfOk result (λ f. IsInMemory f.0) }
+{
+    let (length, rest) = cursor.varint()?;
+    let at = rest.at;
+    let (bytes, rest) = rest.bytes(length)?;
+    let value = FieldValue::Span(bytes);
+    Ok((Field { number, at, value }, rest))
+}
+
+/// A field of four bytes, and what is unread behind it.
+fn four_field(number: u32, cursor: Cursor<'_>) -> Result<(Field<'_>, Cursor<'_>), WireFault>
+    ensures value { seen (λ f. (content f.0, unread f.1)) result ≡ four_value number (unread cursor.entry) }
+    ensures span { IfOk result (λ f. IsInMemory f.0) }
+{
+    let at = cursor.at;
     let (n, rest) = cursor.four()?;
     let value = FieldValue::Four(n);
     Ok((Field { number, at, value }, rest))

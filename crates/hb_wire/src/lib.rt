@@ -10,6 +10,3 @@ mod varint;
 pub use fault::{WireFault, WireWhy};
 pub use fields::{Field, FieldValue, Fields};
 pub use spelling::{a_message_is_what_its_bytes_spell, the_next_field_is_what_its_bytes_spell};
-
-#[cfg(test)]
-mod tests;

@@ -13,15 +13,19 @@ ghost use Rattle.hb_wire.specs.declared.fault.WireFault.{WireFault as Fault};
 pub fn the_next_field_is_what_its_bytes_spell()
     ensures field { (u v : Unread) (f : Content) → All IsOctet u.left → (next_in u ≡ Ok (Some (f, v))) ↔ SpellsNext u f v }
     ensures end { (u : Unread) → (next_in u ≡ Ok None) ↔ (u.left ≡ []) }
-    ensures fault { (u : Unread) (fault : Fault) → All IsOctet u.left → (next_in u ≡ Err fault) ↔ ((0 < length u.left) × BreaksField u.at u.left fault) }
+    ensures fault { (u : Unread) (fault : Fault) → All IsOctet u.left → (next_in u ≡ Err fault)
+        ↔ ((0 < length u.left) × BreaksField u.at u.left fault) }
 {}
 
 /// A message without a fault is the list of fields that its bytes spell, and bytes spell one list at most.
 /// With a fault it is the fields that its bytes begin with, and behind them bytes that are broken so; where
 /// bytes are broken, no field is in front.
 pub fn a_message_is_what_its_bytes_spell()
-    ensures whole { (at : ℕ) (bytes : List ℕ) (fields : List Content) → All IsOctet bytes → (message_of (record { at = at; left = bytes }) ≡ record { fields = fields; fault = None }) ↔ SpellsMessage at bytes fields }
-    ensures one { (at : ℕ) (bytes : List ℕ) (fields others : List Content) → SpellsMessage at bytes fields → SpellsMessage at bytes others → fields ≡ others }
-    ensures exact { (at : ℕ) (bytes : List ℕ) (fields : List Content) (fault : Option Fault) → All IsOctet bytes → (message_of (record { at = at; left = bytes }) ≡ record { fields = fields; fault = fault }) ↔ SpellsUpTo at bytes fields fault }
+    ensures whole { (at : ℕ) (bytes : List ℕ) (fields : List Content) → All IsOctet bytes
+        → (message_of (record { at = at; left = bytes }) ≡ record { fields = fields; fault = None }) ↔ SpellsMessage at bytes fields }
+    ensures one { (at : ℕ) (bytes : List ℕ) (fields others : List Content) → SpellsMessage at bytes fields → SpellsMessage at bytes others
+        → fields ≡ others }
+    ensures exact { (at : ℕ) (bytes : List ℕ) (fields : List Content) (fault : Option Fault) → All IsOctet bytes
+        → (message_of (record { at = at; left = bytes }) ≡ record { fields = fields; fault = fault }) ↔ SpellsUpTo at bytes fields fault }
     ensures apart { (at : ℕ) (bytes : List ℕ) (fault : Fault) → BreaksField at bytes fault → NoField at bytes }
 {}

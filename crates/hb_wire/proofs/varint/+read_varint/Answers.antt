@@ -7,13 +7,15 @@ returns-then-low-lt128-clause-small t c = low_fits c.args.index c.from-low.resul
 
 pub overflow_mul-result : goal.overflow_mul-result
 overflow_mul-result t c =
-    let all = below_word c.args.index _ (both_fit c.args.index 0 c.in_ok-high.high.value (omega arith) (omega arith) c.in_ok-high.ensures.small) in
+    let all = below_word c.args.index _ (both_fit c.args.index 0 c.in_ok-high.high.value (omega arith) (omega arith)
+    c.in_ok-high.ensures.small) in
     omega (arith, all)
 
 pub overflow_add-result : goal.overflow_add-result
 overflow_add-result t c =
     let low : c.from-low.result - 128 < 128 = omega arith in
-    let all = below_word c.args.index _ (both_fit c.args.index (c.from-low.result - 128) c.in_ok-high.high.value (omega arith) low c.in_ok-high.ensures.small) in
+    let all = below_word c.args.index _ (both_fit c.args.index (c.from-low.result - 128) c.in_ok-high.high.value (omega arith) low
+    c.in_ok-high.ensures.small) in
     omega (arith, all)
 
 pub returns-clause-small : goal.returns-clause-small

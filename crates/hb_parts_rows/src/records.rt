@@ -1,14 +1,14 @@
 //! Records by the rules of the Protocol Buffers encoding guide, with what each is read as.
 
-mod addresses;
-mod policies;
-mod repeated;
-
-use super::*;
-use addresses::ADDRESSES;
+use crate::addresses::ADDRESSES;
+use crate::policies::POLICIES;
+use crate::repeated::REPEATED;
+use crate::tables::{assert_told, bytes_of, number};
 use hb_base::{Ip, List, Or, Text};
-use policies::POLICIES;
-use repeated::{Kind, REPEATED};
+use hb_records::{
+    AddressRecord, Authorization, Clause, RecordFault, StringMatch, Workload, read_address,
+    read_authorization,
+};
 use std::alloc::{AllocError, Global};
 use std::fmt::Write;
 use std::test::Fail;
@@ -67,12 +67,13 @@ fn tell_matches(
     matches: &List<StringMatch>,
 ) -> Result<(), AllocError> {
     for string_match in matches.as_slice() {
-        match string_match {
-            StringMatch::Exact(text) => write!(out, "{name} exact {} ", text_of(text))?,
-            StringMatch::Prefix(text) => write!(out, "{name} prefix {} ", text_of(text))?,
-            StringMatch::Suffix(text) => write!(out, "{name} suffix {} ", text_of(text))?,
-            StringMatch::Presence => write!(out, "{name} presence ")?,
-        }
+        let (kind, text) = match string_match {
+            StringMatch::Exact(text) => ("exact ", text_of(text)),
+            StringMatch::Prefix(text) => ("prefix ", text_of(text)),
+            StringMatch::Suffix(text) => ("suffix ", text_of(text)),
+            StringMatch::Presence => ("presence", ""),
+        };
+        write!(out, "{name} {kind}{text} ")?;
     }
     Ok(())
 }
@@ -131,38 +132,59 @@ fn policy_told(alloc: Global, bytes: &[u8]) -> Result<String, AllocError> {
 
 #[test]
 fn addresses_are_read(rt: HostRuntime) -> Result<(), Fail> {
-    for (bytes, want) in ADDRESSES {
-        let told = address_told(rt.alloc(), bytes)?;
-        assert_eq!(rt; told.trim_end(), want, "{bytes:?}");
+    for line in ADDRESSES.lines().filter(|line| !line.starts_with('#')) {
+        let mut row = line.split(';');
+        let bytes = bytes_of(rt.alloc(), row.next().unwrap_or(""))?;
+        let told = address_told(rt.alloc(), &bytes)?;
+        assert_told(&rt, line, told.as_str(), row.next().unwrap_or(""));
     }
     Ok(())
 }
 
 #[test]
 fn policies_are_read(rt: HostRuntime) -> Result<(), Fail> {
-    for (bytes, want) in POLICIES {
-        let told = policy_told(rt.alloc(), bytes)?;
-        assert_eq!(rt; told.trim_end(), want, "{bytes:?}");
+    for line in POLICIES.lines().filter(|line| !line.starts_with('#')) {
+        let mut row = line.split(';');
+        let bytes = bytes_of(rt.alloc(), row.next().unwrap_or(""))?;
+        let told = policy_told(rt.alloc(), &bytes)?;
+        assert_told(&rt, line, told.as_str(), row.next().unwrap_or(""));
     }
     Ok(())
 }
 
+/// A record of a head, an entry so many times, and a tail.
+fn record_of(
+    alloc: Global,
+    head: &str,
+    entry: &str,
+    count: usize,
+    tail: &str,
+) -> Result<Vec<u8>, Fail> {
+    let mut bytes = bytes_of(alloc, head)?;
+    let entry = bytes_of(alloc, entry)?;
+    for _ in 0..count {
+        bytes.extend_from_slice(&entry)?;
+    }
+    bytes.extend_from_slice(&bytes_of(alloc, tail)?)?;
+    Ok(bytes)
+}
+
 #[test]
 fn the_entry_4097_is_one_too_many(rt: HostRuntime) -> Result<(), Fail> {
-    for (kind, head, entry, count, tail, want) in REPEATED {
-        let mut bytes = Vec::from_slice(rt.alloc(), head)?;
-        for _ in 0..count {
-            bytes.extend_from_slice(entry)?;
-        }
-        bytes.extend_from_slice(tail)?;
+    for line in REPEATED.lines().filter(|line| !line.starts_with('#')) {
+        let mut row = line.split(';');
+        let kind = row.next().unwrap_or("");
+        let head = row.next().unwrap_or("");
+        let entry = row.next().unwrap_or("");
+        let count = number(row.next().unwrap_or(""))?;
+        let bytes = record_of(rt.alloc(), head, entry, count, row.next().unwrap_or(""))?;
         let told = match kind {
-            Kind::Address => address_told(rt.alloc(), &bytes)?,
-            Kind::Policy => policy_told(rt.alloc(), &bytes)?,
+            "address" => address_told(rt.alloc(), &bytes)?,
+            "policy" => policy_told(rt.alloc(), &bytes)?,
+            _ => String::new(rt.alloc()),
         };
-        assert!(rt;
-            told.starts_with(want),
-            "{kind:?} {head:?} {entry:?} {count} {tail:?}: {told}"
-        );
+        let want = row.next().unwrap_or("").trim();
+        assert!(rt; !want.is_empty() && told.starts_with(want), "{line}");
     }
     Ok(())
 }
