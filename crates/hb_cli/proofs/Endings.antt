@@ -1,183 +1,131 @@
--- How a run ends, and what each way to end says.
-use Rattle.std.proofs.Common.{◌≡◌, ◌≢◌, ℕ, ◌<◌, List, length, take, Option, Some, None, Result, Ok, Err, refl, sym, ◌∙◌, inl, inr, arith}
-use Rattle.std.specs.Prelude.{◌⊎◌, IfSome, IsOk, IsErr, IsTrue}
-use Rattle.std.specs.Io.KnownBytes.{Appends}
-use Rattle.hb_base.specs.Count.{Rose}
+-- What the way in which a run ends says of its status, its bytes and its counts.
+use Rattle.std.proofs.Common.{◌≡◌, ◌≢◌, ℕ, ◌==◌, Bool, true, false, List, Option, Some, None, Result, Ok, Err, refl, sym, subst, ◌∙◌, inl, inr, arith}
+use Rattle.std.proofs.lemmas.Bool.Decides.{nat_tests}
+use Rattle.std.proofs.lemmas.Option.{IfSome_then}
+use Rattle.std.specs.Bool.{MatchBool}
+use Rattle.std.specs.Prelude.{◌⊎◌, IfSome, IfOk, IsOk, IsErr, IsTrue}
+use Rattle.std.specs.Result.{MatchResult}
+use Rattle.hb_base.specs.Count.{Rose, Counts, one_more}
 use Rattle.hb_cli.specs.declared.judge.Judged.{Judged}
 use Rattle.hb_cli.specs.declared.stop.Stop.{Stop}
-use Rattle.hb_cli.specs.declared.stop.Stop.TheVariants.{Words, TooLong, Refused, ReadFault, NoMemory}
+use Rattle.hb_cli.specs.declared.stop.Stop.TheVariants.{Words, NoMemory}
 use Rattle.hb_cli.specs.declared.words.WordsFault.{WordsFault}
 use Rattle.hb_cli.specs.Words.{words_of}
-use Rattle.hb_cli.specs.Run.{outcome_of, status_of, answer_line, stop_line, ReadsEnough, IsOutcome, Ends}
-use Rattle.hb_cli.specs.Ending.{Run, HasOutcome, Tells, Ending, answered, refused_words, refused_input, unread, unwritten, wanting, is_status, IsStated, told_line}
+use Rattle.hb_cli.specs.Run.{outcome_of, status_of, stop_line, ReadsEnough, is_status, IsStated, told_line}
+use Rattle.hb_cli.specs.Ending.{Use, Run, Tells, takes_memory, GivesUp, Answered, WordsRefused, InputRefused, Unread, Unwritten, Wanting, EndsWith}
 
--- an answer was printed, or a put failed
-pub of_answer : (t : Run) (answer : Judged) → IsOutcome t.words t.left t.left_after (Ok answer)
-    → Ends (Ok answer) t.status t.out t.out_after t.puts t.puts_after t.err t.err_after t.losses t.losses_after → Ending t
-of_answer t answer o ends =
-    elim ends [
-      | inl e ↦ answered answer e.0 o.0 o.1 o.2 e.1 e.2
-      | inr e ↦ unwritten answer e.0 o.0 o.1 o.2 e.1 e.2.0 e.2.1 e.2.2 e.3
-    ]
+-- a line that takes memory was told, or that memory is wanting
+pub made : {L E : Type 0} (text : L → List ℕ) (line : Result L E) (given stop : Stop) (err : Use) (status k : ℕ) → given ≡ stop
+    → IsTrue (takes_memory stop) → k ≡ status_of (Err stop) → IfOk line (λ l. text l ≡ stop_line stop)
+    → MatchResult line (λ l. (status ≡ k) × Tells err (text l)) (λ _. (status ≡ 9) × Tells err (stop_line NoMemory))
+    → GivesUp given err status
+made text (Ok l) given stop err status k same takes own is told = rw same (inl (told.0 ∙ own, subst (λ t. Tells err t) is told.1))
+made text (Err e) given stop err status k same takes own is told = rw same (inr (takes, told.0, told.1))
 
-abbrev Gives : Run → Stop → Type 0
-Gives t stop = ((t.status ≡ status_of (Err stop)) × Tells t (stop_line stop)) ⊎ ((t.status ≡ 9) × Tells t (stop_line NoMemory))
+-- what holds at one status
+pub at : (t : Run) (status k : ℕ) → EndsWith t status → status ≡ k → EndsWith t k
+at t status k e h = subst (EndsWith t) h e
 
-abbrev stopped : Stop → Result Judged Stop
-stopped stop = Err stop
+equal : (n k : ℕ) → (n == k) ≡ true → n ≡ k
+equal n k e = grind (arith, nat_tests)
 
-abbrev Cause : Run → Stop → Type 0
-Cause t stop = stopped stop ≡ stopped ReadFault → Rose t.reads t.reads_after
+pick : {A B C : Type 0} (n k : ℕ) (b : Bool) → (n == k) ≡ b → MatchBool b A B → (n ≡ k → A → C) → (B → C) → C
+pick n k true e h here behind = here (equal n k e) h
+pick n k false e h here behind = behind h
 
--- the reason was told
-pub of_stop : (t : Run) (stop : Stop) → IsOutcome t.words t.left t.left_after (Err stop) → Cause t stop → t.out_after ≡ t.out → Gives t stop → Ending t
-of_stop t (Words fault) o cause same (inl e) = refused_words fault e.0 o.0 o.1 same e.1
-of_stop t (Words fault) o cause same (inr e) = wanting e.0 same e.1
-of_stop t TooLong o cause same (inl e) = refused_input TooLong e.0 refl o.0 o.1 o.2 same e.1
-of_stop t TooLong o cause same (inr e) = wanting e.0 same e.1
-of_stop t (Refused refusal) o cause same (inl e) = refused_input (Refused refusal) e.0 refl o.0 o.1 o.2 same e.1
-of_stop t (Refused refusal) o cause same (inr e) = wanting e.0 same e.1
-of_stop t ReadFault o cause same (inl e) = unread e.0 o (cause refl) same e.1
-of_stop t ReadFault o cause same (inr e) = wanting e.0 same e.1
-of_stop t NoMemory o cause same (inl e) = wanting e.0 same e.1
-of_stop t NoMemory o cause same (inr e) = wanting e.0 same e.1
+-- what holds at each status holds at all
+by_status : (t : Run) (P : ℕ → Type 0) → (Answered t → P 0) → (WordsRefused t → P 2) → (InputRefused t → P 3) → (Unread t → P 6)
+    → (Unwritten t → P 7) → (Wanting t → P 9) → (status : ℕ) → EndsWith t status → P status
+by_status t P p0 p2 p3 p6 p7 p9 status e =
+    pick status 0 (status == 0) refl e (λ h a. subst P (sym h) (p0 a)) (λ e2.
+    pick status 2 (status == 2) refl e2 (λ h a. subst P (sym h) (p2 a)) (λ e3.
+    pick status 3 (status == 3) refl e3 (λ h a. subst P (sym h) (p3 a)) (λ e6.
+    pick status 6 (status == 6) refl e6 (λ h a. subst P (sym h) (p6 a)) (λ e7.
+    pick status 7 (status == 7) refl e7 (λ h a. subst P (sym h) (p7 a)) (λ e9.
+    pick status 9 (status == 9) refl e9 (λ h a. subst P (sym h) (p9 a)) (λ none. absurd none))))))
 
-pub status_is_one : (t : Run) → Ending t → IsTrue (is_status t.status)
-status_is_one t (answered a e w o r p l) = rw e refl
-status_is_one t (refused_words f e w r p l) = rw e refl
-status_is_one t (refused_input s e k w o r p l) = rw e refl
-status_is_one t (unread e w c p l) = rw e refl
-status_is_one t (unwritten a e w o r c n lt p l) = rw e refl
-status_is_one t (wanting e p l) = rw e refl
-
--- 2 comes only where the words aren't accepted
-pub two_refuses : (t : Run) → Ending t → t.status ≡ 2 → IsErr (words_of t.words)
-two_refuses t (answered a e w o r p l) h = absurd (omega arith)
-two_refuses t (refused_words f e w r p l) h = rw w refl
-two_refuses t (refused_input s e k w o r p l) h = absurd (omega arith)
-two_refuses t (unread e w c p l) h = absurd (omega arith)
-two_refuses t (unwritten a e w o r c n lt p l) h = absurd (omega arith)
-two_refuses t (wanting e p l) h = absurd (omega arith)
+pub status_is_one : (t : Run) (status : ℕ) → EndsWith t status → IsTrue (is_status status)
+status_is_one t = by_status t (λ s. IsTrue (is_status s)) (λ a. refl) (λ a. refl) (λ a. refl) (λ a. refl) (λ a. refl) (λ a. refl)
 
 not_both : {A F : Type 0} (r : Result A F) → IsOk r → IsErr r → ⊥
 not_both (Ok x) p q = cc
 not_both (Err e) p q = cc
 
 -- where the words aren't accepted 2 comes, or 9
-pub refused_is_two : (t : Run) → Ending t → IsErr (words_of t.words) → (t.status ≡ 2) ⊎ (t.status ≡ 9)
-refused_is_two t (answered a e w o r p l) h = absurd (not_both (words_of t.words) w h)
-refused_is_two t (refused_words f e w r p l) h = inl e
-refused_is_two t (refused_input s e k w o r p l) h = absurd (not_both (words_of t.words) w h)
-refused_is_two t (unread e w c p l) h = absurd (not_both (words_of t.words) w h)
-refused_is_two t (unwritten a e w o r c n lt p l) h = absurd (not_both (words_of t.words) w h)
-refused_is_two t (wanting e p l) h = inr e
+pub refused_is_two : (t : Run) (status : ℕ) → EndsWith t status → IsErr (words_of t.words) → (status ≡ 2) ⊎ (status ≡ 9)
+refused_is_two t =
+    let never : (s : ℕ) → IsOk (words_of t.words) → IsErr (words_of t.words) → (s ≡ 2) ⊎ (s ≡ 9) =
+    λ s ok err. absurd (not_both (words_of t.words) ok err) in
+    by_status t (λ s. IsErr (words_of t.words) → (s ≡ 2) ⊎ (s ≡ 9))
+    (λ a. never 0 a.1.0) (λ a h. inl refl) (λ a. never 3 a.2.0) (λ a. never 6 a.0) (λ a. never 7 a.1.0) (λ a h. inr refl)
 
--- a status that a told outcome gives
-stated_by : (words : List (List ℕ)) (left : Option (List ℕ)) (o : Result Judged Stop) (status : ℕ) → IfSome left (λ input. outcome_of words input ≡ o) → IsStated (status_of o) status
-    → IfSome left (λ input. IsStated (status_of (outcome_of words input)) status)
-stated_by words None o status h p = tt
-stated_by words (Some input) o status h p = rw h p
+-- what holds of each input holds of the one that is told
+of_each : {X : Type 0} {Q : X → Type 0} (o : Option X) → ((x : X) → Q x) → IfSome o Q
+of_each None q = tt
+of_each (Some x) q = q x
 
-words_outcome : (words : List (List ℕ)) (fault : WordsFault) (input : List ℕ) → words_of words ≡ Err fault → outcome_of words input ≡ Err (Words fault)
+words_outcome : (words : List (List ℕ)) (fault : WordsFault) (input : List ℕ) → words_of words ≡ Err fault
+    → outcome_of words input ≡ Err (Words fault)
 unfolding outcome_of
 words_outcome words fault input e = rw e refl
 
-words_told : (words : List (List ℕ)) (fault : WordsFault) (left : Option (List ℕ)) → words_of words ≡ Err fault → IfSome left (λ input. outcome_of words input ≡ Err (Words fault))
-words_told words fault None e = tt
-words_told words fault (Some input) e = words_outcome words fault input e
+-- an outcome that is told states its status
+pub is_stated : (t : Run) (status : ℕ) → EndsWith t status
+    → IfSome t.input.bytes (λ left. IsStated (status_of (outcome_of t.words left)) status)
+is_stated t =
+    by_status t (λ s. IfSome t.input.bytes (λ left. IsStated (status_of (outcome_of t.words left)) s))
+    (λ a. IfSome_then t.input.bytes a.1.1 (λ left o. rw o (inl refl)))
+    (λ a. of_each t.input.bytes (λ left. rw (words_outcome t.words a.0 left a.1) (inl refl)))
+    (λ a. IfSome_then t.input.bytes a.2.1 (λ left o. rw o (inl (sym a.1))))
+    (λ a. of_each t.input.bytes (λ left. inr (inl refl)))
+    (λ a. IfSome_then t.input.bytes a.1.1 (λ left o. rw o (inr (inr (inl (refl, refl))))))
+    (λ a. of_each t.input.bytes (λ left. inr (inr (inr refl))))
 
-any_stated : (words : List (List ℕ)) (left : Option (List ℕ)) (status : ℕ) → ((stated : ℕ) → IsStated stated status) → IfSome left (λ input. IsStated (status_of (outcome_of words input)) status)
-any_stated words None status h = tt
-any_stated words (Some input) status h = h (status_of (outcome_of words input))
+-- the count of the input, and that of the output
+pub reads_counted : (t : Run) (status : ℕ) → EndsWith t status → Counts t.input.faults t.input.faults_after (status == 6)
+reads_counted t = by_status t (λ s. Counts t.input.faults t.input.faults_after (s == 6)) (λ a. a.1.3) (λ a. a.2.1) (λ a. a.2.3)
+    (λ a. a.1) (λ a. a.1.3) (λ a. a.0)
 
-pub is_stated : (t : Run) → Ending t → IfSome t.left (λ input. IsStated (status_of (outcome_of t.words input)) t.status)
-is_stated t (answered a e w o r p l) = stated_by t.words t.left (Ok a) t.status o (inl e)
-is_stated t (refused_words f e w r p l) = stated_by t.words t.left (Err (Words f)) t.status (words_told t.words f t.left w) (inl e)
-is_stated t (refused_input s e k w o r p l) = stated_by t.words t.left (Err s) t.status o (inl (e ∙ sym k))
-is_stated t (unread e w c p l) = any_stated t.words t.left t.status (λ stated. inr (inl e))
-is_stated t (unwritten a e w o r c n lt p l) = stated_by t.words t.left (Ok a) t.status o (inr (inr (inl (e, refl))))
-is_stated t (wanting e p l) = any_stated t.words t.left t.status (λ stated. inr (inr (inr e)))
+pub puts_counted : (t : Run) (status : ℕ) → EndsWith t status → Counts t.out.faults t.out.faults_after (status == 7)
+puts_counted t = by_status t (λ s. Counts t.out.faults t.out.faults_after (s == 7)) (λ a. a.2.1) (λ a. a.3.1) (λ a. a.3.1) (λ a. a.2.1)
+    (λ a. a.2.1) (λ a. a.1.1)
 
-pub six_rose : (t : Run) → Ending t → t.status ≡ 6 → Rose t.reads t.reads_after
-six_rose t (answered a e w o r p l) h = absurd (omega arith)
-six_rose t (refused_words f e w r p l) h = absurd (omega arith)
-six_rose t (refused_input s e k w o r p l) h = absurd (omega arith)
-six_rose t (unread e w c p l) h = c
-six_rose t (unwritten a e w o r c n lt p l) h = absurd (omega arith)
-six_rose t (wanting e p l) h = absurd (omega arith)
+rose : (before after : ℕ) → after ≡ one_more before → Rose before after
+rose before after e = rw e (omega arith)
 
-pub seven_rose : (t : Run) → Ending t → t.status ≡ 7 → Rose t.puts t.puts_after
-seven_rose t (answered a e w o r p l) h = absurd (omega arith)
-seven_rose t (refused_words f e w r p l) h = absurd (omega arith)
-seven_rose t (refused_input s e k w o r p l) h = absurd (omega arith)
-seven_rose t (unread e w c p l) h = absurd (omega arith)
-seven_rose t (unwritten a e w o r c n lt p l) h = c
-seven_rose t (wanting e p l) h = absurd (omega arith)
-
-complete_from : (stated status : ℕ) (reads puts : Type 0) → IsStated stated status → (status ≡ 6 → reads) → (status ≡ 7 → puts) → stated ≡ 0 → (reads → ⊥) → (puts → ⊥) → (status ≡ 0) ⊎ (status ≡ 9)
-complete_from stated status reads puts (inl e) six seven zero no_reads no_puts = inl (e ∙ zero)
-complete_from stated status reads puts (inr (inl e)) six seven zero no_reads no_puts = absurd (no_reads (six e))
-complete_from stated status reads puts (inr (inr (inl e))) six seven zero no_reads no_puts = absurd (no_puts (seven e.0))
-complete_from stated status reads puts (inr (inr (inr e))) six seven zero no_reads no_puts = inr e
-
-complete_at : (words : List (List ℕ)) (left : Option (List ℕ)) (status : ℕ) (reads puts : Type 0) → IfSome left (λ input. IsStated (status_of (outcome_of words input)) status) → (status ≡ 6 → reads) → (status ≡ 7 → puts)
-    → IfSome left (λ input. status_of (outcome_of words input) ≡ 0 → (reads → ⊥) → (puts → ⊥) → (status ≡ 0) ⊎ (status ≡ 9))
-complete_at words None status reads puts h six seven = tt
-complete_at words (Some input) status reads puts h six seven = complete_from (status_of (outcome_of words input)) status reads puts h six seven
+zero_or_nine : (t : Run) (stated status : ℕ) → EndsWith t status → IsStated stated status → stated ≡ 0
+    → (Rose t.input.faults t.input.faults_after → ⊥) → (Rose t.out.faults t.out.faults_after → ⊥) → (status ≡ 0) ⊎ (status ≡ 9)
+zero_or_nine t stated status e (inl is) zero no_reads no_puts = inl (is ∙ zero)
+zero_or_nine t stated status e (inr (inl six)) zero no_reads no_puts =
+    absurd (no_reads (rose t.input.faults t.input.faults_after (at t status 6 e six).1))
+zero_or_nine t stated status e (inr (inr (inl seven))) zero no_reads no_puts =
+    absurd (no_puts (rose t.out.faults t.out.faults_after (at t status 7 e seven.0).2.1))
+zero_or_nine t stated status e (inr (inr (inr nine))) zero no_reads no_puts = inr nine
 
 -- where 0 is stated and no count rose, 0 comes, or 9
-pub is_complete : (t : Run) → Ending t → IfSome t.left (λ input. status_of (outcome_of t.words input) ≡ 0 → (Rose t.reads t.reads_after → ⊥) → (Rose t.puts t.puts_after → ⊥) → (t.status ≡ 0) ⊎ (t.status ≡ 9))
-is_complete t h = complete_at t.words t.left t.status (Rose t.reads t.reads_after) (Rose t.puts t.puts_after) (is_stated t h) (six_rose t h) (seven_rose t h)
+pub is_complete : (t : Run) (status : ℕ) → EndsWith t status → IfSome t.input.bytes (λ left. status_of (outcome_of t.words left) ≡ 0
+    → (Rose t.input.faults t.input.faults_after → ⊥) → (Rose t.out.faults t.out.faults_after → ⊥) → (status ≡ 0) ⊎ (status ≡ 9))
+is_complete t status e =
+    IfSome_then t.input.bytes (is_stated t status e) (λ left is. zero_or_nine t (status_of (outcome_of t.words left)) status e is)
 
-pub zero_prints : (t : Run) → Ending t → t.status ≡ 0 → (answer : Judged) × HasOutcome t (Ok answer) × Appends t.out t.out_after (answer_line answer)
-zero_prints t (answered a e w o r p l) h = (a, o, p)
-zero_prints t (refused_words f e w r p l) h = absurd (omega arith)
-zero_prints t (refused_input s e k w o r p l) h = absurd (omega arith)
-zero_prints t (unread e w c p l) h = absurd (omega arith)
-zero_prints t (unwritten a e w o r c n lt p l) h = absurd (omega arith)
-zero_prints t (wanting e p l) h = absurd (omega arith)
+-- 0, 3 and 7 come after enough was read
+pub reads_enough : (t : Run) (status : ℕ) → EndsWith t status → (status ≡ 0) ⊎ (status ≡ 3) ⊎ (status ≡ 7)
+    → ReadsEnough t.input.bytes t.input.bytes_after
+reads_enough t status e (inl h) = (at t status 0 e h).1.2
+reads_enough t status e (inr (inl h)) = (at t status 3 e h).2.2
+reads_enough t status e (inr (inr h)) = (at t status 7 e h).1.2
 
-pub seven_prints : (t : Run) → Ending t → t.status ≡ 7 → (answer : Judged) × HasOutcome t (Ok answer) × ((n : ℕ) × (n < length (answer_line answer)) × Appends t.out t.out_after (take n (answer_line answer)))
-seven_prints t (answered a e w o r p l) h = absurd (omega arith)
-seven_prints t (refused_words f e w r p l) h = absurd (omega arith)
-seven_prints t (refused_input s e k w o r p l) h = absurd (omega arith)
-seven_prints t (unread e w c p l) h = absurd (omega arith)
-seven_prints t (unwritten a e w o r c n lt p l) h = (a, o, (n, lt, p))
-seven_prints t (wanting e p l) h = absurd (omega arith)
+-- but at 0 and 7 nothing is printed
+pub is_quiet : (t : Run) (status : ℕ) → EndsWith t status → status ≢ 0 → status ≢ 7 → t.out.bytes_after ≡ t.out.bytes
+is_quiet t = by_status t (λ s. s ≢ 0 → s ≢ 7 → t.out.bytes_after ≡ t.out.bytes)
+    (λ a n0 n7. absurd (n0 refl)) (λ a n0 n7. a.3.0) (λ a n0 n7. a.3.0) (λ a n0 n7. a.2.0) (λ a n0 n7. absurd (n7 refl)) (λ a n0 n7. a.1.0)
 
-pub others_are_quiet : (t : Run) → Ending t → t.status ≢ 0 → t.status ≢ 7 → t.out_after ≡ t.out
-others_are_quiet t (answered a e w o r p l) h k = absurd (h e)
-others_are_quiet t (refused_words f e w r p l) h k = p
-others_are_quiet t (refused_input s e q w o r p l) h k = p
-others_are_quiet t (unread e w c p l) h k = p
-others_are_quiet t (unwritten a e w o r c n lt p l) h k = absurd (k e)
-others_are_quiet t (wanting e p l) h k = p
+told_at_three : (t : Run) (stop : Stop) (left : Option (List ℕ)) → IfSome left (λ input. outcome_of t.words input ≡ Err stop)
+    → Tells t.err (stop_line stop) → IfSome (told_line 3 t.words left) (λ text. Tells t.err text)
+told_at_three t stop None o l = tt
+told_at_three t stop (Some input) o l = rw o l
 
-told_at_three : (t : Run) (s : Stop) (left : Option (List ℕ)) → IfSome left (λ input. outcome_of t.words input ≡ Err s) → Tells t (stop_line s)
-    → IfSome (told_line 3 t.words left) (λ text. Tells t text)
-told_at_three t s None o l = tt
-told_at_three t s (Some input) o l = rw o l
-
-pub is_told : (t : Run) → Ending t → IfSome (told_line t.status t.words t.left) (λ text. Tells t text)
-is_told t (answered a e w o r p l) = rw e l
-is_told t (refused_words f e w r p l) = rw e (rw w l)
-is_told t (refused_input s e k w o r p l) = rw e (told_at_three t s t.left o l)
-is_told t (unread e w c p l) = rw e l
-is_told t (unwritten a e w o r c n lt p l) = rw e l
-is_told t (wanting e p l) = rw e l
-
-pub looked_at_enough : (t : Run) → Ending t → (t.status ≡ 0) ⊎ (t.status ≡ 3) ⊎ (t.status ≡ 7) → ReadsEnough t.left t.left_after
-looked_at_enough t (answered a e w o r p l) h = r
-looked_at_enough t (refused_words f e w r p l) h = absurd (elim h [ inl q ↦ omega arith | inr q ↦ elim q [ inl u ↦ omega arith | inr u ↦ omega arith ] ])
-looked_at_enough t (refused_input s e k w o r p l) h = r
-looked_at_enough t (unread e w c p l) h = absurd (elim h [ inl q ↦ omega arith | inr q ↦ elim q [ inl u ↦ omega arith | inr u ↦ omega arith ] ])
-looked_at_enough t (unwritten a e w o r c n lt p l) h = r
-looked_at_enough t (wanting e p l) h = absurd (elim h [ inl q ↦ omega arith | inr q ↦ elim q [ inl u ↦ omega arith | inr u ↦ omega arith ] ])
-
-pub two_reads_nothing : (t : Run) → Ending t → t.status ≡ 2 → t.left_after ≡ t.left
-two_reads_nothing t (answered a e w o r p l) h = absurd (omega arith)
-two_reads_nothing t (refused_words f e w r p l) h = r
-two_reads_nothing t (refused_input s e k w o r p l) h = absurd (omega arith)
-two_reads_nothing t (unread e w c p l) h = absurd (omega arith)
-two_reads_nothing t (unwritten a e w o r c n lt p l) h = absurd (omega arith)
-two_reads_nothing t (wanting e p l) h = absurd (omega arith)
+-- the line of the status is told
+pub is_told : (t : Run) (status : ℕ) → EndsWith t status → IfSome (told_line status t.words t.input.bytes) (λ text. Tells t.err text)
+is_told t = by_status t (λ s. IfSome (told_line s t.words t.input.bytes) (λ text. Tells t.err text))
+    (λ a. a.3) (λ a. rw a.1 a.4) (λ a. told_at_three t a.0 t.input.bytes a.2.1 a.4) (λ a. a.3) (λ a. a.3) (λ a. a.2)

@@ -1,49 +1,57 @@
 -- The outcome of words and input, from what was read of them.
-use Rattle.std.proofs.Common.{◌≡◌, ℕ, ◌<◌, true, List, [], length, Option, Some, None, Result, Ok, Err, refl, sym, ap, ◌∙◌, inl, inr, arith}
-use Rattle.std.specs.Prelude.{IfSome, IsOk, nat_lt}
+use Rattle.std.proofs.Common.{◌≡◌, ℕ, ◌<◌, ◌≤◌, true, false, List, [], length, Option, Some, None, Result, Ok, Err, refl, sym, ap, ◌∙◌, inl, inr, arith}
+use Rattle.std.specs.Prelude.{IfSome, nat_lt}
 use Rattle.std.specs.Io.KnownBytes.{Consumes}
 use Rattle.std.proofs.lemmas.Bool.Decides.{nat_tests}
 use Rattle.hb_cli.specs.declared.judge.Judged.{Judged}
+use Rattle.hb_cli.specs.declared.input.Refused.{Refused as Refusal}
 use Rattle.hb_cli.specs.declared.stop.Stop.{Stop}
-use Rattle.hb_cli.specs.declared.stop.Stop.TheVariants.{Words, TooLong, Refused, ReadFault, NoMemory}
+use Rattle.hb_cli.specs.declared.stop.Stop.TheVariants.{TooLong}
+use Rattle.hb_cli.specs.Input.{longest_input}
 use Rattle.hb_cli.specs.Words.{Question, words_of}
-use Rattle.hb_cli.specs.Run.{answer_after, outcome_of, IsOutcome, IsAnswer}
+use Rattle.hb_cli.specs.Run.{or_refused, answer_by, answer_after, outcome_of}
+use Rattle.hb_cli.specs.Ending.{Use, NoFault, LooksAt}
 
-accepted : (words : List (List ℕ)) (q : Question) → words_of words ≡ Ok q → IsOk (words_of words)
-accepted words q e = rw e refl
-
-answered : (words : List (List ℕ)) (q : Question) (input : List ℕ) (o : Result Judged Stop) → words_of words ≡ Ok q → answer_after q input ≡ o → outcome_of words input ≡ o
+outcome_is : (words : List (List ℕ)) (q : Question) (input : List ℕ) (o : Result Judged Stop) → words_of words ≡ Ok q
+    → answer_after q input ≡ o
+    → outcome_of words input ≡ o
 unfolding outcome_of
-answered words q input o e a = rw e a
+outcome_is words q input o e a = rw e a
+
+answer_is : (q : Question) (input : List ℕ) (r : Result Judged Refusal) → length input ≤ longest_input → answer_by q input ≡ r
+    → answer_after q input ≡ or_refused r
+unfolding answer_after
+answer_is q input r within a = rw (fits (length input) within, a) refl where
+  fits : (n : ℕ) → n ≤ longest_input → nat_lt longest_input n ≡ false
+  fits n le = grind (arith, nat_tests)
+
+too_long_is : (q : Question) (input : List ℕ) → longest_input < length input → answer_after q input ≡ Err TooLong
+unfolding answer_after
+too_long_is q input over = rw (passes (length input) over) refl where
+  passes : (n : ℕ) → longest_input < n → nat_lt longest_input n ≡ true
+  passes n lt = grind (arith, nat_tests)
 
 -- the input that is told is the one that was read
-told : (words : List (List ℕ)) (q : Question) (before : Option (List ℕ)) (input : List ℕ) (o : Result Judged Stop) → words_of words ≡ Ok q → IfSome before (λ left. input ≡ left) → answer_after q input ≡ o
-    → IfSome before (λ left. outcome_of words left ≡ o)
-told words q None input o e same a = tt
-told words q (Some left) input o e same a = answered words q left o e (ap (answer_after q) (sym same) ∙ a)
+whole_is : (words : List (List ℕ)) (q : Question) (before : Option (List ℕ)) (input : List ℕ) (o : Result Judged Stop)
+    → words_of words ≡ Ok q
+    → IfSome before (λ left. input ≡ left) → answer_after q input ≡ o → IfSome before (λ left. outcome_of words left ≡ o)
+whole_is words q None input o e same a = tt
+whole_is words q (Some left) input o e same a = outcome_is words q left o e (ap (answer_after q) (sym same) ∙ a)
+
+over_is : (words : List (List ℕ)) (q : Question) (before : Option (List ℕ)) → words_of words ≡ Ok q
+    → IfSome before (λ left. longest_input < length left) → IfSome before (λ left. outcome_of words left ≡ Err TooLong)
+over_is words q None e over = tt
+over_is words q (Some left) e over = outcome_is words q left (Err TooLong) e (too_long_is q left over)
 
 -- the whole input was read and answered
-pub was_whole : (words : List (List ℕ)) (q : Question) (before after : Option (List ℕ)) (input : List ℕ) (o : Result Judged Stop) → words_of words ≡ Ok q → IfSome before (λ left. input ≡ left)
-    → IfSome before (λ _. after ≡ Some []) → IsAnswer q input o → IsOutcome words before after o
-was_whole words q before after input (Ok answer) e same end a = (accepted words q e, told words q before input (Ok answer) e same a, inl end)
-was_whole words q before after input (Err (Refused refusal)) e same end a = (accepted words q e, told words q before input (Err (Refused refusal)) e same a, inl end)
-was_whole words q before after input (Err NoMemory) e same end a = tt
-was_whole words q before after input (Err (Words fault)) e same end a = absurd a
-was_whole words q before after input (Err TooLong) e same end a = absurd a
-was_whole words q before after input (Err ReadFault) e same end a = absurd a
-
-passed : (n : ℕ) → 67108864 < n → nat_lt 67108864 n ≡ true
-passed n lt = grind (arith, nat_tests)
-
-too_long_after : (q : Question) (input : List ℕ) → 67108864 < length input → answer_after q input ≡ Err TooLong
-unfolding answer_after
-too_long_after q input lt = rw (passed (length input) lt) refl
-
-too_long_told : (words : List (List ℕ)) (q : Question) (before : Option (List ℕ)) → words_of words ≡ Ok q → IfSome before (λ left. 67108864 < length left) → IfSome before (λ left. outcome_of words left ≡ Err TooLong)
-too_long_told words q None e lt = tt
-too_long_told words q (Some left) e lt = answered words q left (Err TooLong) e (too_long_after q left lt)
+pub was_whole : (words : List (List ℕ)) (q : Question) (u : Use) (input : List ℕ) (r : Result Judged Refusal) → words_of words ≡ Ok q
+    → IfSome u.bytes (λ left. input ≡ left) → IfSome u.bytes (λ _. u.bytes_after ≡ Some []) → NoFault u → length input ≤ longest_input
+    → answer_by q input ≡ r → LooksAt words u (or_refused r)
+was_whole words q u input r e same end good within a =
+    (rw e refl, whole_is words q u.bytes input (or_refused r) e same (answer_is q input r within a), inl end, good)
 
 -- the input was read past its limit
-pub was_too_long : (words : List (List ℕ)) (q : Question) (before after : Option (List ℕ)) → words_of words ≡ Ok q → IfSome before (λ left. 67108864 < length left)
-    → (read : List ℕ) × (67108864 < length read) × Consumes before after read → IsOutcome words before after (Err TooLong)
-was_too_long words q before after e lt read = (accepted words q e, too_long_told words q before e lt, inr read)
+pub was_too_long : (words : List (List ℕ)) (q : Question) (u : Use) → words_of words ≡ Ok q
+    → IfSome u.bytes (λ left. longest_input < length left)
+    → (read : List ℕ) × (longest_input < length read) × Consumes u.bytes u.bytes_after read → NoFault u → LooksAt words u (Err TooLong)
+was_too_long words q u e over read good = (rw e refl, over_is words q u.bytes e over, inr read, good)

@@ -16,12 +16,14 @@ and_then_ok (Ok a) f y e = (a, refl, e)
 and_then_ok (Err d) f y e = absurd cc
 
 -- a step that failed, now or later
-and_then_err : {A B F : Type 0} (x : Result A F) (f : A → Result B F) (d : F) → and_then x f ≡ Err d → (x ≡ Err d) ⊎ ((a : A) × (x ≡ Ok a) × (f a ≡ Err d))
+and_then_err : {A B F : Type 0} (x : Result A F) (f : A → Result B F) (d : F) → and_then x f ≡ Err d → (x ≡ Err d)
+    ⊎ ((a : A) × (x ≡ Ok a) × (f a ≡ Err d))
 and_then_err (Ok a) f d e = inr (a, refl, e)
 and_then_err (Err c) f d e = inl cc
 
 -- all were taken
-pub taken : (held : List Entry) (kind : Kind) (rs : List Resource) (after : List Entry) → with_resources held kind rs ≡ Ok after → (all_taken held kind rs ≡ true) × (after_resources held kind rs ≡ after)
+pub taken : (held : List Entry) (kind : Kind) (rs : List Resource) (after : List Entry) → with_resources held kind rs ≡ Ok after
+    → (all_taken held kind rs ≡ true) × (after_resources held kind rs ≡ after)
 taken held kind [] after e = (refl, cc)
 taken held kind (r ∷ rs) after e =
     let s = and_then_ok (with_resource held kind r) (λ next. with_resources next kind rs) after e in
@@ -29,7 +31,8 @@ taken held kind (r ∷ rs) after e =
     (rw s.1 below.0, rw s.1 below.1)
 
 -- one was refused
-pub refused : (held : List Entry) (kind : Kind) (rs : List Resource) (why : RefusedWhy) → with_resources held kind rs ≡ Err why → all_taken held kind rs ≡ false
+pub refused : (held : List Entry) (kind : Kind) (rs : List Resource) (why : RefusedWhy) → with_resources held kind rs ≡ Err why
+    → all_taken held kind rs ≡ false
 refused held kind [] why e = absurd cc
 refused held kind (r ∷ rs) why e =
     elim (and_then_err (with_resource held kind r) (λ next. with_resources next kind rs) why e) [
@@ -44,15 +47,18 @@ none_removed : (held : List Entry) (kind : Kind) (names : List (List ℕ)) → (
 none_removed held kind [] e = refl
 none_removed held kind (name ∷ names) e = absurd (omega (arith, eq_zero (suc (length names)) e))
 
-pub is_whole : (held : List Entry) (r : Response) (after : List Entry) → (length r.removed == 0) ≡ true → with_resources held r.kind r.resources ≡ Ok after → (is_taken_whole held r ≡ true) × (after_response held r ≡ after)
+pub is_whole : (held : List Entry) (r : Response) (after : List Entry) → (length r.removed == 0) ≡ true
+    → with_resources held r.kind r.resources ≡ Ok after → (is_taken_whole held r ≡ true) × (after_response held r ≡ after)
 unfolding is_taken_whole after_response
 is_whole held r after none e =
     let both = taken held r.kind r.resources after e in
     (rw (none, both.0) refl, rw (none_removed held r.kind r.removed none) both.1)
 
-pub is_part : (held : List Entry) (r : Response) (why : RefusedWhy) → with_resources held r.kind r.resources ≡ Err why → is_taken_whole held r ≡ false
+pub is_part : (held : List Entry) (r : Response) (why : RefusedWhy) → with_resources held r.kind r.resources ≡ Err why
+    → is_taken_whole held r ≡ false
 unfolding is_taken_whole
-is_part held r why e = ap (λ b. (length r.removed == 0) && b) (refused held r.kind r.resources why e) ∙ and_false (length r.removed == 0) where
-  and_false : (b : Bool) → (b && false) ≡ false
-  and_false true = refl
-  and_false false = refl
+is_part held r why e = ap (λ b. (length r.removed == 0) && b) (refused held r.kind r.resources why e)
+    ∙ and_false (length r.removed == 0) where
+      and_false : (b : Bool) → (b && false) ≡ false
+      and_false true = refl
+      and_false false = refl

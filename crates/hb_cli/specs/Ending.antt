@@ -1,81 +1,116 @@
--- How a run of a command may end.
-use Rattle.std.specs.Prelude.{◌≡◌, ◌⊎◌, ℕ, ◌<◌, ◌==◌, Bool, List, [], ◌∷◌, length, take, Option, Some, None, IfSome, IsOk, Result, Ok, Err, if◌then◌else◌}
-use Rattle.std.specs.List.{list_any}
-use Rattle.std.specs.Option.{option_map}
+-- How a run ends: what the functions below `run` say.
+use Rattle.std.specs.Prelude.{◌≡◌, ◌⊎◌, ℕ, ◌<◌, ◌==◌, Bool, true, false, IsTrue, List, [], length, take, Option, IfSome, IsOk, Result, Ok, Err}
+use Rattle.std.specs.Bool.{MatchBool}
 use Rattle.std.specs.Io.KnownBytes.{Appends}
-use Rattle.hb_base.specs.Count.{Rose}
+use Rattle.hb_base.specs.Count.{one_more}
 use Rattle.hb_cli.specs.declared.judge.Judged.{Judged}
 use Rattle.hb_cli.specs.declared.stop.Stop.{Stop}
-use Rattle.hb_cli.specs.declared.stop.Stop.TheVariants.{Words, ReadFault, NoMemory}
+use Rattle.hb_cli.specs.declared.stop.Stop.TheVariants.{Words, TooLong, Refused, ReadFault, NoMemory}
 use Rattle.hb_cli.specs.declared.words.WordsFault.{WordsFault}
-use Rattle.hb_cli.specs.Words.{Question, words_of}
+use Rattle.hb_cli.specs.Words.{words_of}
 use Rattle.hb_cli.specs.Run.{outcome_of, status_of, answer_line, stop_line, write_fault_line, WritesLine, ReadsEnough}
 
--- A run: its words; the input's bytes left before and after, and its count of faults; what out holds before and after, and its
--- count; the same of err; and the status.
+-- what a run does with a source or a sink: its bytes and its count of faults, before and after
+pub record Use : Type 0 where
+  pub bytes : Option (List ℕ)
+  pub bytes_after : Option (List ℕ)
+  pub faults : ℕ
+  pub faults_after : ℕ
+
+abbrev pub use_of : Option (List ℕ) → Option (List ℕ) → ℕ → ℕ → Use
+use_of bytes bytes_after faults faults_after =
+    record { bytes = bytes; bytes_after = bytes_after; faults = faults; faults_after = faults_after }
+
+-- a run: its words, and what it does with the input, the output and the error text
 pub record Run : Type 0 where
   pub words : List (List ℕ)
-  pub left : Option (List ℕ)
-  pub left_after : Option (List ℕ)
-  pub reads : ℕ
-  pub reads_after : ℕ
-  pub out : Option (List ℕ)
-  pub out_after : Option (List ℕ)
-  pub puts : ℕ
-  pub puts_after : ℕ
-  pub err : Option (List ℕ)
-  pub err_after : Option (List ℕ)
-  pub losses : ℕ
-  pub losses_after : ℕ
-  pub status : ℕ
+  pub input : Use
+  pub out : Use
+  pub err : Use
 
--- the outcome of a run, where its input is told
-abbrev pub HasOutcome : Run → Result Judged Stop → Type 0
-HasOutcome t o = IfSome t.left (λ input. outcome_of t.words input ≡ o)
+-- no fault came, or one did
+abbrev pub NoFault : Use → Type 0
+NoFault u = u.faults_after ≡ u.faults
 
-abbrev pub Tells : Run → List ℕ → Type 0
-Tells t text = WritesLine t.err t.err_after t.losses t.losses_after text
+abbrev pub OneFault : Use → Type 0
+OneFault u = u.faults_after ≡ one_more u.faults
 
--- The ways in which a run may end, one for each status.
-pub data Ending (t : Run) : Type 0 where
-  -- 0: the answer is printed whole
-  answered : (answer : Judged) → t.status ≡ 0 → IsOk (words_of t.words) → HasOutcome t (Ok answer) → ReadsEnough t.left t.left_after
-      → Appends t.out t.out_after (answer_line answer) → Tells t [] → Ending t
-  -- 2: the words aren't accepted; nothing is read or printed
-  refused_words : (fault : WordsFault) → t.status ≡ 2 → words_of t.words ≡ Err fault → t.left_after ≡ t.left → t.out_after ≡ t.out → Tells t (stop_line (Words fault)) → Ending t
-  -- 3: the input is too long, or one of its messages is refused
-  refused_input : (stop : Stop) → t.status ≡ 3 → status_of (Err stop) ≡ 3 → IsOk (words_of t.words) → HasOutcome t (Err stop) → ReadsEnough t.left t.left_after
-      → t.out_after ≡ t.out → Tells t (stop_line stop) → Ending t
-  -- 6: a read failed
-  unread : t.status ≡ 6 → IsOk (words_of t.words) → Rose t.reads t.reads_after → t.out_after ≡ t.out → Tells t (stop_line ReadFault) → Ending t
-  -- 7: a write failed, and the answer is printed in part
-  unwritten : (answer : Judged) → t.status ≡ 7 → IsOk (words_of t.words) → HasOutcome t (Ok answer) → ReadsEnough t.left t.left_after → Rose t.puts t.puts_after
-      → (n : ℕ) → n < length (answer_line answer) → Appends t.out t.out_after (take n (answer_line answer)) → Tells t write_fault_line → Ending t
-  -- 9: want of memory
-  wanting : t.status ≡ 9 → t.out_after ≡ t.out → Tells t (stop_line NoMemory) → Ending t
+-- nothing is read or written
+abbrev pub Untouched : Use → Type 0
+Untouched u = (u.bytes_after ≡ u.bytes) × NoFault u
 
--- the statuses that there are
-abbrev pub is_status : ℕ → Bool
-is_status status = list_any (λ s. s == status) (0 ∷ 2 ∷ 3 ∷ 6 ∷ 7 ∷ 9 ∷ [])
+-- all of a text is written, or a part from its front
+abbrev pub WritesAll : Use → List ℕ → Type 0
+WritesAll u text = Appends u.bytes u.bytes_after text × NoFault u
 
--- A status is the one that is stated, or 6, or 7 where 0 is stated, or 9.
-abbrev pub IsStated : ℕ → ℕ → Type 0
-IsStated stated status = (status ≡ stated) ⊎ (status ≡ 6) ⊎ ((status ≡ 7) × (stated ≡ 0)) ⊎ (status ≡ 9)
+abbrev pub WritesPart : Use → List ℕ → Type 0
+WritesPart u text = ((n : ℕ) × (n < length text) × Appends u.bytes u.bytes_after (take n text)) × OneFault u
 
-abbrev pub line_of : {A : Type 0} → Result A Stop → List ℕ
-line_of (Ok x) = []
-line_of (Err stop) = stop_line stop
+abbrev pub Tells : Use → List ℕ → Type 0
+Tells u text = WritesLine u.bytes u.bytes_after u.faults u.faults_after text
 
-abbrev pub words_line : Result Question WordsFault → Option (List ℕ)
-words_line (Ok q) = None
-words_line (Err fault) = Some (stop_line (Words fault))
+-- the words are accepted, and this is the outcome by the input, of which enough is read
+abbrev pub LooksAt : List (List ℕ) → Use → Result Judged Stop → Type 0
+LooksAt words input o =
+    IsOk (words_of words) × IfSome input.bytes (λ left. outcome_of words left ≡ o) × ReadsEnough input.bytes input.bytes_after
+    × NoFault input
 
--- What is told at a status: of 3, where the input is told.
-abbrev pub told_line : ℕ → List (List ℕ) → Option (List ℕ) → Option (List ℕ)
-told_line status words left =
-    if status == 0 then Some []
-    else (if status == 2 then words_line (words_of words)
-    else (if status == 3 then option_map (λ input. line_of (outcome_of words input)) left
-    else (if status == 6 then Some (stop_line ReadFault)
-    else (if status == 7 then Some write_fault_line
-    else (if status == 9 then Some (stop_line NoMemory) else None)))))
+-- What reading and answering comes to.
+abbrev pub ComesTo : List (List ℕ) → Use → Result Judged Stop → Type 0
+ComesTo words input (Ok answer) = LooksAt words input (Ok answer)
+ComesTo words input (Err (Words fault)) = (words_of words ≡ Err fault) × Untouched input
+ComesTo words input (Err TooLong) = LooksAt words input (Err TooLong)
+ComesTo words input (Err (Refused refusal)) = LooksAt words input (Err (Refused refusal))
+ComesTo words input (Err ReadFault) = IsOk (words_of words) × OneFault input
+ComesTo words input (Err NoMemory) = NoFault input
+
+-- a line whose text isn't fixed, so that telling it takes memory
+abbrev pub takes_memory : Stop → Bool
+takes_memory (Words fault) = true
+takes_memory TooLong = false
+takes_memory (Refused refusal) = true
+takes_memory ReadFault = false
+takes_memory NoMemory = false
+
+-- Telling why there is no answer: its line and its status, or those of want of memory.
+abbrev pub GivesUp : Stop → Use → ℕ → Type 0
+GivesUp stop err status =
+    ((status ≡ status_of (Err stop)) × Tells err (stop_line stop))
+    ⊎ (IsTrue (takes_memory stop) × (status ≡ 9) × Tells err (stop_line NoMemory))
+
+-- 0: the answer is printed whole
+abbrev pub Answered : Run → Type 0
+Answered t = (answer : Judged) × LooksAt t.words t.input (Ok answer) × WritesAll t.out (answer_line answer) × Tells t.err []
+
+-- 2: the words aren't accepted, and nothing is read
+abbrev pub WordsRefused : Run → Type 0
+WordsRefused t = (fault : WordsFault) × (words_of t.words ≡ Err fault) × Untouched t.input × Untouched t.out
+    × Tells t.err (stop_line (Words fault))
+
+-- 3: the input is too long, or one of its messages is refused
+abbrev pub InputRefused : Run → Type 0
+InputRefused t =
+    (stop : Stop) × (status_of (Err stop) ≡ 3) × LooksAt t.words t.input (Err stop) × Untouched t.out × Tells t.err (stop_line stop)
+
+-- 6: a take failed
+abbrev pub Unread : Run → Type 0
+Unread t = IsOk (words_of t.words) × OneFault t.input × Untouched t.out × Tells t.err (stop_line ReadFault)
+
+-- 7: a put failed, and the answer is printed in part
+abbrev pub Unwritten : Run → Type 0
+Unwritten t =
+    (answer : Judged) × LooksAt t.words t.input (Ok answer) × WritesPart t.out (answer_line answer) × Tells t.err write_fault_line
+
+-- 9: want of memory
+abbrev pub Wanting : Run → Type 0
+Wanting t = NoFault t.input × Untouched t.out × Tells t.err (stop_line NoMemory)
+
+-- How a run ends with a status.
+abbrev pub EndsWith : Run → ℕ → Type 0
+EndsWith t status =
+    MatchBool (status == 0) (Answered t)
+    (MatchBool (status == 2) (WordsRefused t)
+    (MatchBool (status == 3) (InputRefused t)
+    (MatchBool (status == 6) (Unread t)
+    (MatchBool (status == 7) (Unwritten t)
+    (MatchBool (status == 9) (Wanting t) ⊥)))))

@@ -48,7 +48,8 @@ unfoldable pub with_resource : List Entry → Kind → Resource → Result (List
 with_resource held kind r =
     if length r.name == 0 then Err why.NoName
     else (if bytes_eq r.type_url (type_url kind)
-    then and_then (refused_as (record_of kind r.value)) (λ x. put_at held (position (is_named kind r.name) held) (record { name = r.name; version = r.version; content = x }))
+    then and_then (refused_as (record_of kind r.value))
+    (λ x. put_at held (position (is_named kind r.name) held) (record { name = r.name; version = r.version; content = x }))
     else Err why.WrongType)
 
 -- the resources held after all of these, up to the first that is refused

@@ -15,13 +15,17 @@ use Rattle.hb_cli.specs.Response.{response_of}
 abbrev pub length_in : List ℕ → ℕ
 length_in bytes = from_be_bytes w32 (take 4 (drop 1 bytes))
 
+-- the most bytes of an input, and of a message
+abbrev pub longest_input : ℕ
+longest_input = 67108864
+
 -- The message in front, and what is behind it: flag 0, so it isn't compressed, a length of at most 67,108,864, and so
 -- many bytes.
 abbrev pub front_message : List ℕ → Option (List ℕ × List ℕ)
 front_message bytes =
     if nat_lt (length bytes) 5 then None
     else (if not (slice_index bytes 0 == 0) then None
-    else (if nat_lt 67108864 (length_in bytes) || nat_lt (length bytes - 5) (length_in bytes) then None
+    else (if nat_lt longest_input (length_in bytes) || nat_lt (length bytes - 5) (length_in bytes) then None
     else Some (take (length_in bytes) (drop 5 bytes), drop (length_in bytes) (drop 5 bytes))))
 
 -- the messages in front of bytes, and whether no byte is left behind them
@@ -52,7 +56,8 @@ response_or (Err fault) = Err NotAResponse
 
 -- the resources held after one more message
 abbrev pub after_message : List Entry → List ℕ → Result (List Entry) InputWhy
-after_message held m = and_then (response_or (response_of m)) (λ r. if is_taken_whole held r then Ok (after_response held r) else Err NotYet)
+after_message held m =
+    and_then (response_or (response_of m)) (λ r. if is_taken_whole held r then Ok (after_response held r) else Err NotYet)
 
 abbrev pub at_message : {A : Type 0} → ℕ → Result A InputWhy → Result A Refused
 at_message k (Ok x) = Ok x

@@ -28,6 +28,10 @@ abbrev pub policy_of : Record → Option Authorization
 policy_of (records.Address r) = None
 policy_of (records.Policy p) = Some p
 
+-- an entry is a policy that passes a test
+abbrev pub has_policy : (Authorization → Bool) → Entry → Bool
+has_policy test e = option_map_or test (policy_of e.content) false
+
 abbrev pub ip_eq : Ip → Ip → Bool
 ip_eq (ips.V4 a) (ips.V4 b) = a == b
 ip_eq (ips.V4 a) (ips.V6 b) = false

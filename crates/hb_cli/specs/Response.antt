@@ -47,7 +47,8 @@ any_merged a f = of_span a f.value (λ bytes. any_span a f.number bytes)
 abbrev pub resource_span : ResourceParts → ℕ → ℕ → List ℕ → Result ResourceParts ResponseFault
 resource_span r number at bytes =
     if number == 1 then and_then (text_in 1 bytes) (λ t. Ok (record r { version = t }))
-    else (if number == 2 then and_then (fold_message any_merged Wire r.any (message_of (record { at = at; left = bytes }))) (λ a. Ok (record r { any = a }))
+    else (if number == 2 then and_then (fold_message any_merged Wire r.any (message_of (record { at = at; left = bytes })))
+    (λ a. Ok (record r { any = a }))
     else (if number == 3 then and_then (text_in 3 bytes) (λ t. Ok (record r { name = t })) else Ok r))
 
 abbrev pub resource_merged : ResourceParts → Content → Result ResourceParts ResponseFault
@@ -78,7 +79,8 @@ abbrev pub no_parts : Parts
 no_parts = record { resources = []; type_url = []; nonce = []; removed = [] }
 
 abbrev pub response_of_parts : Parts → Result Response ResponseFault
-response_of_parts p = and_then (kind_of_url p.type_url) (λ kind. Ok (record { kind = kind; resources = p.resources; removed = p.removed; nonce = p.nonce }))
+response_of_parts p = and_then (kind_of_url p.type_url)
+    (λ kind. Ok (record { kind = kind; resources = p.resources; removed = p.removed; nonce = p.nonce }))
 
 -- the response that these bytes are; its type is looked at last
 unfoldable pub response_of : List ℕ → Result Response ResponseFault

@@ -1,10 +1,11 @@
 -- What a command answers: its status, what it writes, and why.
-use Rattle.std.specs.Prelude.{◌≡◌, ℕ, ◌<◌, ◌≤◌, ◌⊎◌, nat_lt, List, [], ◌∷◌, ◌++◌, length, take, Option, Some, IfSome, IsOk, Result, Ok, Err, if◌then◌else◌, codes, decimal}
+use Rattle.std.specs.Prelude.{◌≡◌, ℕ, ◌<◌, ◌==◌, Bool, ◌⊎◌, nat_lt, List, [], ◌∷◌, ◌++◌, length, take, Option, Some, None, IfSome, Result, Ok, Err, if◌then◌else◌, codes, decimal}
 use Rattle.std.specs.Io.KnownBytes.{Appends, Consumes}
-use Rattle.hb_base.specs.Count.{Rose}
+use Rattle.std.specs.List.{list_any}
+use Rattle.std.specs.Option.{option_map}
+use Rattle.hb_base.specs.Count.{one_more}
 use Rattle.hb_base.specs.declared.target.BadTarget.TheVariants as target_faults
 use Rattle.hb_wire.specs.Message.{and_then}
-use Rattle.hb_cli.specs.declared.held.Entry.{Entry}
 use Rattle.hb_cli.specs.declared.input.InputWhy.{InputWhy}
 use Rattle.hb_cli.specs.declared.input.InputWhy.TheVariants.{NotAResponse, NotYet}
 use Rattle.hb_cli.specs.declared.input.Refused.{Refused as Refusal}
@@ -14,7 +15,7 @@ use Rattle.hb_cli.specs.declared.stop.Stop.{Stop}
 use Rattle.hb_cli.specs.declared.stop.Stop.TheVariants.{Words, TooLong, Refused, ReadFault, NoMemory}
 use Rattle.hb_cli.specs.declared.words.WordsFault.{WordsFault}
 use Rattle.hb_cli.specs.declared.words.WordsFault.TheVariants as faults
-use Rattle.hb_cli.specs.Input.{held_by}
+use Rattle.hb_cli.specs.Input.{longest_input, held_by}
 use Rattle.hb_cli.specs.Judge.{judged}
 use Rattle.hb_cli.specs.Words.{Question, words_of}
 
@@ -22,15 +23,17 @@ abbrev pub or_words : Result Question WordsFault → Result Question Stop
 or_words (Ok q) = Ok q
 or_words (Err fault) = Err (Words fault)
 
-abbrev pub or_refused : Result (List Entry) Refusal → Result (List Entry) Stop
-or_refused (Ok held) = Ok held
+abbrev pub or_refused : Result Judged Refusal → Result Judged Stop
+or_refused (Ok answer) = Ok answer
 or_refused (Err refusal) = Err (Refused refusal)
+
+-- the answer to a question by the resources that an input leaves, or the first of its messages that is refused
+abbrev pub answer_by : Question → List ℕ → Result Judged Refusal
+answer_by q input = and_then (held_by input) (λ held. Ok (judged held q.node q.peer q.target))
 
 -- the answer to a question after this input, or why there is none
 unfoldable pub answer_after : Question → List ℕ → Result Judged Stop
-answer_after q input =
-    if nat_lt 67108864 (length input) then Err TooLong
-    else and_then (or_refused (held_by input)) (λ held. Ok (judged held q.node q.peer q.target))
+answer_after q input = if nat_lt longest_input (length input) then Err TooLong else or_refused (answer_by q input)
 
 -- The outcome of these words and this input: the words are looked at first, then the whole input.
 unfoldable pub outcome_of : List (List ℕ) → List ℕ → Result Judged Stop
@@ -75,9 +78,13 @@ abbrev pub why_text : InputWhy → List ℕ
 why_text NotAResponse = codes "not a response"
 why_text NotYet = codes "not yet"
 
+-- the form of accepted words
+abbrev pub usage : List ℕ
+usage = codes " (usage: hbone check --node NODE SOURCE IDENTITY TARGET)"
+
 -- the line that tells why there is no answer
 abbrev pub stop_line : Stop → List ℕ
-stop_line (Words fault) = line (codes "hbone: words: " ++ words_text fault)
+stop_line (Words fault) = line (codes "hbone: words: " ++ words_text fault ++ usage)
 stop_line TooLong = line (codes "hbone: input too long")
 stop_line (Refused refusal) = line (codes "hbone: message " ++ decimal refusal.message ++ codes ": " ++ why_text refusal.why)
 stop_line ReadFault = line (codes "hbone: read fault")
@@ -86,41 +93,39 @@ stop_line NoMemory = line (codes "hbone: out of memory")
 abbrev pub write_fault_line : List ℕ
 write_fault_line = line (codes "hbone: write fault")
 
--- what is written of a line: a part from its front, and all of it where the sink's count of faults didn't rise
+-- What is written of a line: all of it, or a part from its front where a put failed. Only that counts as a fault.
 abbrev pub WritesLine : Option (List ℕ) → Option (List ℕ) → ℕ → ℕ → List ℕ → Type 0
 WritesLine before after faults faults_after text =
-    (n : ℕ) × (n ≤ length text) × Appends before after (take n text) × (n < length text → Rose faults faults_after)
+    (Appends before after text × (faults_after ≡ faults))
+    ⊎ (((n : ℕ) × (n < length text) × Appends before after (take n text)) × (faults_after ≡ one_more faults))
 
 -- The input was read to its end, or more than 67,108,864 bytes of it were.
 abbrev pub ReadsEnough : Option (List ℕ) → Option (List ℕ) → Type 0
-ReadsEnough before after = IfSome before (λ _. after ≡ Some []) ⊎ ((read : List ℕ) × (67108864 < length read) × Consumes before after read)
+ReadsEnough before after =
+    IfSome before (λ _. after ≡ Some []) ⊎ ((read : List ℕ) × (longest_input < length read) × Consumes before after read)
 
--- What answering came to: the stated outcome, after the input was read; words that aren't accepted, and nothing was read;
--- or a fault of the input, or want of memory.
-abbrev pub IsOutcome : List (List ℕ) → Option (List ℕ) → Option (List ℕ) → Result Judged Stop → Type 0
-IsOutcome words before after (Ok answer) = IsOk (words_of words) × IfSome before (λ input. outcome_of words input ≡ Ok answer) × ReadsEnough before after
-IsOutcome words before after (Err (Words fault)) = (words_of words ≡ Err fault) × (after ≡ before)
-IsOutcome words before after (Err TooLong) = IsOk (words_of words) × IfSome before (λ input. outcome_of words input ≡ Err TooLong) × ReadsEnough before after
-IsOutcome words before after (Err (Refused refusal)) = IsOk (words_of words) × IfSome before (λ input. outcome_of words input ≡ Err (Refused refusal)) × ReadsEnough before after
-IsOutcome words before after (Err ReadFault) = IsOk (words_of words)
-IsOutcome words before after (Err NoMemory) = Unit {0}
+-- the statuses that there are
+abbrev pub is_status : ℕ → Bool
+is_status status = list_any (λ s. s == status) (0 ∷ 2 ∷ 3 ∷ 6 ∷ 7 ∷ 9 ∷ [])
 
--- What an answer to a question that was read came to.
-abbrev pub IsAnswer : Question → List ℕ → Result Judged Stop → Type 0
-IsAnswer q input (Ok answer) = answer_after q input ≡ Ok answer
-IsAnswer q input (Err (Refused refusal)) = answer_after q input ≡ Err (Refused refusal)
-IsAnswer q input (Err NoMemory) = Unit {0}
-IsAnswer q input (Err (Words fault)) = ⊥
-IsAnswer q input (Err TooLong) = ⊥
-IsAnswer q input (Err ReadFault) = ⊥
+-- A status is the one that is stated, or 6, or 7 where 0 is stated, or 9.
+abbrev pub IsStated : ℕ → ℕ → Type 0
+IsStated stated status = (status ≡ stated) ⊎ (status ≡ 6) ⊎ ((status ≡ 7) × (stated ≡ 0)) ⊎ (status ≡ 9)
 
--- What ending with an outcome does: its answer is written and the status is 0, or a put failed and it is 7; or the reason
--- is told and the status is its own, or 9 where the memory for telling it is wanting.
-abbrev pub Ends : Result Judged Stop → ℕ → Option (List ℕ) → Option (List ℕ) → ℕ → ℕ → Option (List ℕ) → Option (List ℕ) → ℕ → ℕ → Type 0
-Ends (Ok answer) status out out_after faults faults_after err err_after losses losses_after =
-    ((status ≡ 0) × Appends out out_after (answer_line answer) × WritesLine err err_after losses losses_after [])
-    ⊎ ((status ≡ 7) × Rose faults faults_after × ((n : ℕ) × (n < length (answer_line answer)) × Appends out out_after (take n (answer_line answer)))
-    × WritesLine err err_after losses losses_after write_fault_line)
-Ends (Err stop) status out out_after faults faults_after err err_after losses losses_after =
-    ((status ≡ status_of (Err stop)) × (out_after ≡ out) × WritesLine err err_after losses losses_after (stop_line stop))
-    ⊎ ((status ≡ 9) × (out_after ≡ out) × WritesLine err err_after losses losses_after (stop_line NoMemory))
+abbrev pub line_of : {A : Type 0} → Result A Stop → List ℕ
+line_of (Ok x) = []
+line_of (Err stop) = stop_line stop
+
+abbrev pub words_line : Result Question WordsFault → Option (List ℕ)
+words_line (Ok q) = None
+words_line (Err fault) = Some (stop_line (Words fault))
+
+-- What is told at a status: of 3, where the input is told.
+abbrev pub told_line : ℕ → List (List ℕ) → Option (List ℕ) → Option (List ℕ)
+told_line status words left =
+    if status == 0 then Some []
+    else (if status == 2 then words_line (words_of words)
+    else (if status == 3 then option_map (λ input. line_of (outcome_of words input)) left
+    else (if status == 6 then Some (stop_line ReadFault)
+    else (if status == 7 then Some write_fault_line
+    else (if status == 9 then Some (stop_line NoMemory) else None)))))

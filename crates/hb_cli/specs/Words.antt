@@ -54,7 +54,8 @@ abbrev pub places_of : List ℕ → List (List ℕ) → Result Question WordsFau
 places_of node [] = Err TooFew
 places_of node (source ∷ []) = if is_dashed source then Err (option_fault source) else Err TooFew
 places_of node (source ∷ identity ∷ []) = if is_dashed source then Err (option_fault source) else Err TooFew
-places_of node (source ∷ identity ∷ target ∷ []) = if is_dashed source then Err (option_fault source) else question_of node source identity target
+places_of node (source ∷ identity ∷ target ∷ []) =
+    if is_dashed source then Err (option_fault source) else question_of node source identity target
 places_of node (source ∷ identity ∷ target ∷ more ∷ rest) = if is_dashed source then Err (option_fault source) else Err TooMany
 
 -- the option's value: any text that isn't empty and doesn't begin as an option does

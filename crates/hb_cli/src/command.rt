@@ -1,55 +1,59 @@
 //! The top call: words and input in, answer and status out.
 
-ghost use Rattle.std.specs.Prelude.{◌≡◌, ◌≢◌, ◌<◌, ◌≤◌, ◌⊎◌, ℕ, IsTrue, IsErr, IfSome, length, map, take, Ok, Err};
+ghost use Rattle.std.specs.Prelude.{◌≡◌, ◌≢◌, ◌<◌, ◌≤◌, ◌==◌, ◌⊎◌, ℕ, IsTrue, IsErr, IfSome, length, map, take, Ok, Err};
 ghost use Rattle.std.specs.Io.KnownBytes.{Appends};
+ghost use Rattle.std.specs.Result.{MatchResult};
 ghost use Rattle.std.specs.String.{string_bytes};
-ghost use Rattle.hb_base.specs.Count.{Rose};
+ghost use Rattle.hb_base.specs.Count.{Counts, Rose};
+ghost use Rattle.hb_base.specs.Outcome.{Answers};
 ghost use Rattle.hb_cli.specs.Asked.{question};
-ghost use Rattle.hb_cli.specs.Ending.{Ending, IsStated, is_status, told_line};
-ghost use Rattle.hb_cli.specs.Run.{IsAnswer, IsOutcome, Ends, ReadsEnough, WritesLine, answer_line, outcome_of, status_of, stop_line};
+ghost use Rattle.hb_cli.specs.Ending.{ComesTo, EndsWith, GivesUp, use_of};
+ghost use Rattle.hb_cli.specs.Run.{IsStated, ReadsEnough, WritesLine, answer_by, answer_line, is_status};
+ghost use Rattle.hb_cli.specs.Run.{outcome_of, status_of, stop_line, told_line};
 ghost use Rattle.hb_cli.specs.Words.{words_of};
 ghost use Rattle.hb_cli.specs.declared.judge.Judged.{Judged};
-ghost use Rattle.hb_cli.specs.declared.stop.Stop.TheVariants.{NoMemory, ReadFault};
+ghost use Rattle.hb_cli.specs.declared.stop.Stop.{Stop};
+ghost use Rattle.hb_cli.specs.declared.stop.Stop.TheVariants.{NoMemory};
 
-use crate::input::read_held;
+use crate::input::{Refused, read_held};
 use crate::judge::{Judged, judge};
 use crate::stop::Stop;
 use crate::words::{Check, read_words};
 use hb_base::{Or, ReadStop, Sink, Source, put_all, read_all};
-use std::alloc::Global;
+use std::alloc::{AllocError, Global};
 
 /// The most bytes of input.
 const LONGEST_INPUT: usize = 67_108_864;
 
-/// The answer to a question after this input.
-#[tactic(auto, unfolding(crate::specs::Run::answer_after))]
-fn answer(alloc: Global, check: &Check<'_>, input: &[u8]) -> Result<Judged, Stop>
-    requires { length input.now ≤ 67108864 }
-    ensures { IsAnswer (question check.now) input.now result }
+/// The answer to a question by the resources that this input leaves.
+fn answer(alloc: Global, check: &Check<'_>, input: &[u8]) -> Result<Judged, Or<Refused>>
+    ensures { Answers result (answer_by (question check.now) input.now) }
 {
-    match read_held(alloc, input) {
-        Ok(held) => Ok(judge(&held, check.node, &check.peer, check.target)),
-        Err(Or::Fault(refused)) => Err(Stop::Refused(refused)),
-        Err(Or::NoMemory) => Err(Stop::NoMemory),
-    }
+    let held = read_held(alloc, input)?;
+    Ok(judge(&held, check.node, &check.peer, check.target))
 }
 
 /// The answer to these words and this input. The words are looked at first, then the whole input is read.
 fn outcome<S: Source>(alloc: Global, words: &[String], input: &mut S) -> Result<Judged, Stop>
-    ensures outcome { IsOutcome (map string_bytes words.now) (S.left input.old) (S.left input.new) result }
+    ensures outcome { ComesTo (map string_bytes words.now)
+        (use_of (S.left input.old) (S.left input.new) (S.faults input.old) (S.faults input.new)) result }
     ensures later { S.faults input.old ≤ S.faults input.new }
-    ensures cause { result ≡ Err ReadFault → Rose (S.faults input.old) (S.faults input.new) }
 {
     let check = match read_words(alloc, words) {
         Ok(check) => check,
         Err(Or::Fault(fault)) => return Err(Stop::Words(fault)),
         Err(Or::NoMemory) => return Err(Stop::NoMemory),
     };
-    match read_all(alloc, input, LONGEST_INPUT) {
-        Ok(bytes) => answer(alloc, &check, bytes.as_slice()),
-        Err(ReadStop::TooLong) => Err(Stop::TooLong),
-        Err(ReadStop::Failed) => Err(Stop::ReadFault),
-        Err(ReadStop::NoMemory) => Err(Stop::NoMemory),
+    let bytes = match read_all(alloc, input, LONGEST_INPUT) {
+        Ok(bytes) => bytes,
+        Err(ReadStop::TooLong) => return Err(Stop::TooLong),
+        Err(ReadStop::Failed) => return Err(Stop::ReadFault),
+        Err(ReadStop::NoMemory) => return Err(Stop::NoMemory),
+    };
+    match answer(alloc, &check, bytes.as_slice()) {
+        Ok(judged) => Ok(judged),
+        Err(Or::Fault(refused)) => Err(Stop::Refused(refused)),
+        Err(Or::NoMemory) => Err(Stop::NoMemory),
     }
 }
 
@@ -66,44 +70,42 @@ impl Judged {
     }
 }
 
-/// Writes a line as far as the sink takes it.
-fn tell<E: Sink>(err: &mut E, line: &[u8])
+/// Writes a line as far as the sink takes it. Gives the status.
+fn tell<E: Sink>(err: &mut E, line: &[u8], status: u8) -> u8
     ensures line { WritesLine (E.written err.old) (E.written err.new) (E.faults err.old) (E.faults err.new) line.now }
     ensures later { E.faults err.old ≤ E.faults err.new }
+    ensures status { result ≡ status }
 {
     let _ = put_all(err, line);
+    status
 }
 
-/// Prints an answer, and tells it where that failed. Gives the status.
-fn print<K: Sink, E: Sink>(judged: Judged, out: &mut K, err: &mut E) -> u8
-    ensures ends { Ends (Ok judged) result (K.written out.old) (K.written out.new) (K.faults out.old) (K.faults out.new) (E.written err.old) (E.written err.new) (E.faults err.old) (E.faults err.new) }
-    ensures later_out { K.faults out.old ≤ K.faults out.new }
-    ensures later_err { E.faults err.old ≤ E.faults err.new }
+/// Tells a line that takes memory, or that memory is wanting. Gives the status.
+fn tell_made<E: Sink>(err: &mut E, line: Result<String, AllocError>, status: u8) -> u8
+    ensures line { MatchResult line
+        (λ l. (result ≡ status)
+        × WritesLine (E.written err.old) (E.written err.new) (E.faults err.old) (E.faults err.new) (string_bytes l))
+        (λ _. (result ≡ 9)
+        × WritesLine (E.written err.old) (E.written err.new) (E.faults err.old) (E.faults err.new) (stop_line NoMemory)) }
+    ensures later { E.faults err.old ≤ E.faults err.new }
 {
-    match put_all(out, judged.line()) {
-        Ok(()) => 0,
-        Err(_) => {
-            tell(err, b"hbone: write fault\n");
-            7
-        }
+    match line {
+        Ok(line) => tell(err, line.as_bytes(), status),
+        Err(_) => tell(err, b"hbone: out of memory\n", 9),
     }
 }
 
 /// Tells why there is no answer. Gives the status.
 fn give_up<E: Sink>(alloc: Global, stop: Stop, err: &mut E) -> u8
-    ensures line { ((result ≡ status_of (Err stop)) × WritesLine (E.written err.old) (E.written err.new) (E.faults err.old) (E.faults err.new) (stop_line stop))
-        ⊎ ((result ≡ 9) × WritesLine (E.written err.old) (E.written err.new) (E.faults err.old) (E.faults err.new) (stop_line NoMemory)) }
+    ensures line { GivesUp stop (use_of (E.written err.old) (E.written err.new) (E.faults err.old) (E.faults err.new)) result }
     ensures later { E.faults err.old ≤ E.faults err.new }
 {
-    match stop.line(alloc) {
-        Ok(line) => {
-            tell(err, line.as_bytes());
-            stop.status()
-        }
-        Err(_) => {
-            tell(err, b"hbone: out of memory\n");
-            9
-        }
+    match stop {
+        Stop::Words(fault) => tell_made(err, fault.line(alloc), 2),
+        Stop::TooLong => tell(err, b"hbone: input too long\n", 3),
+        Stop::Refused(refused) => tell_made(err, refused.line(alloc), 3),
+        Stop::ReadFault => tell(err, b"hbone: read fault\n", 6),
+        Stop::NoMemory => tell(err, b"hbone: out of memory\n", 9),
     }
 }
 
@@ -115,29 +117,23 @@ fn conclude<S: Source, K: Sink, E: Sink>(
     out: &mut K,
     err: &mut E,
 ) -> u8
-    ensures ending { Ending (record {
+    ensures ending { EndsWith (record {
       words = map string_bytes words.now;
-      left = S.left input.old;
-      left_after = S.left input.new;
-      reads = S.faults input.old;
-      reads_after = S.faults input.new;
-      out = K.written out.old;
-      out_after = K.written out.new;
-      puts = K.faults out.old;
-      puts_after = K.faults out.new;
-      err = E.written err.old;
-      err_after = E.written err.new;
-      losses = E.faults err.old;
-      losses_after = E.faults err.new;
-      status = result;
-    }) }
+      input = use_of (S.left input.old) (S.left input.new) (S.faults input.old) (S.faults input.new);
+      out = use_of (K.written out.old) (K.written out.new) (K.faults out.old) (K.faults out.new);
+      err = use_of (E.written err.old) (E.written err.new) (E.faults err.old) (E.faults err.new);
+    }) result }
     ensures later_input { S.faults input.old ≤ S.faults input.new }
     ensures later_out { K.faults out.old ≤ K.faults out.new }
     ensures later_err { E.faults err.old ≤ E.faults err.new }
 {
-    match outcome(alloc, words, input) {
-        Ok(judged) => print(judged, out, err),
-        Err(stop) => give_up(alloc, stop, err),
+    let judged = match outcome(alloc, words, input) {
+        Ok(judged) => judged,
+        Err(stop) => return give_up(alloc, stop, err),
+    };
+    match put_all(out, judged.line()) {
+        Ok(()) => 0,
+        Err(_) => tell(err, b"hbone: write fault\n", 7),
     }
 }
 
@@ -160,27 +156,36 @@ pub fn run<S: Source, K: Sink, E: Sink>(
     ensures reads_nothing { result ≡ 2 → S.left input.new ≡ S.left input.old }
 
     // Of an input that is told the status is the stated one: 3 exactly by the input, 0 with its answer.
-    ensures stated { IfSome (S.left input.old) (λ left. IsStated (status_of (outcome_of (map string_bytes words.now) left)) result) }
+    ensures stated { IfSome (S.left input.old)
+        (λ left. IsStated (status_of (outcome_of (map string_bytes words.now) left)) result) }
     ensures complete { IfSome (S.left input.old) (λ left. status_of (outcome_of (map string_bytes words.now) left) ≡ 0
-        → (Rose (S.faults input.old) (S.faults input.new) → ⊥) → (Rose (K.faults out.old) (K.faults out.new) → ⊥) → (result ≡ 0) ⊎ (result ≡ 9)) }
+        → (Rose (S.faults input.old) (S.faults input.new) → ⊥) → (Rose (K.faults out.old) (K.faults out.new) → ⊥)
+        → (result ≡ 0) ⊎ (result ≡ 9)) }
 
-    // 6 and 7 come only where the count of the input, of out, rose.
-    ensures read_fault { result ≡ 6 → Rose (S.faults input.old) (S.faults input.new) }
-    ensures write_fault { result ≡ 7 → Rose (K.faults out.old) (K.faults out.new) }
+    // 6 comes exactly where a take failed, and 7 where a put into out did: the count is one more then, and else the same.
+    ensures read_fault { Counts (S.faults input.old) (S.faults input.new) (result == 6) }
+    ensures write_fault { Counts (K.faults out.old) (K.faults out.new) (result == 7) }
 
     // The input is read to its end, or past its limit, before it is looked at.
     ensures reads_enough { (result ≡ 0) ⊎ (result ≡ 3) ⊎ (result ≡ 7) → ReadsEnough (S.left input.old) (S.left input.new) }
 
     // The answer is printed whole at 0, in part at 7, and at every other status nothing is.
-    ensures printed { result ≡ 0 → (answer : Judged) × IfSome (S.left input.old) (λ left. outcome_of (map string_bytes words.now) left ≡ Ok answer)
+    ensures printed { result ≡ 0 → (answer : Judged)
+        × IfSome (S.left input.old) (λ left. outcome_of (map string_bytes words.now) left ≡ Ok answer)
         × Appends (K.written out.old) (K.written out.new) (answer_line answer) }
-    ensures printed_part { result ≡ 7 → (answer : Judged) × IfSome (S.left input.old) (λ left. outcome_of (map string_bytes words.now) left ≡ Ok answer)
+    ensures printed_part { result ≡ 7 → (answer : Judged)
+        × IfSome (S.left input.old) (λ left. outcome_of (map string_bytes words.now) left ≡ Ok answer)
         × ((n : ℕ) × (n < length (answer_line answer)) × Appends (K.written out.old) (K.written out.new) (take n (answer_line answer))) }
     ensures quiet { result ≢ 0 → result ≢ 7 → K.written out.new ≡ K.written out.old }
 
-    // The line of the status is told, all of it where the count of err didn't rise.
+    // The line of the status is told, all of it, or a part where a put into err failed; its count counts just that.
     ensures told { IfSome (told_line result (map string_bytes words.now) (S.left input.old))
         (λ text. WritesLine (E.written err.old) (E.written err.new) (E.faults err.old) (E.faults err.new) text) }
+
+    // Of status 3 it is the line of a refused input, told or not; of one that is told, of its outcome.
+    ensures told_refusal { result ≡ 3 → (stop : Stop) × (status_of (Err stop) ≡ 3)
+        × IfSome (S.left input.old) (λ left. outcome_of (map string_bytes words.now) left ≡ Err stop)
+        × WritesLine (E.written err.old) (E.written err.new) (E.faults err.old) (E.faults err.new) (stop_line stop) }
 
     ensures later_input { S.faults input.old ≤ S.faults input.new }
     ensures later_out { K.faults out.old ≤ K.faults out.new }

@@ -11,14 +11,14 @@ use std::alloc::Global;
 use std::marker::Model;
 
 /// A record that is held.
-#[derive(Debug, Drop)]
+#[derive(Drop)]
 pub enum Record {
     Address(AddressRecord),
     Policy(Authorization),
 }
 
 /// A resource that is held: no other has its kind and name.
-#[derive(Debug, Drop)]
+#[derive(Drop)]
 pub struct Entry {
     pub name: Text,
     pub version: Text,
@@ -26,7 +26,7 @@ pub struct Entry {
 }
 
 /// Why a resource is refused, in this order of looking.
-#[derive(Clone, Copy, Debug, PartialEq, Eq)]
+#[derive(Clone, Copy)]
 pub enum RefusedWhy {
     NoName,
     /// Its type isn't that of its response.
@@ -71,15 +71,21 @@ fn is_named(kind: Kind, name: &[u8], entry: &Entry) -> bool
 }
 
 /// The record of this kind that the bytes are.
-fn read_record(alloc: Global, kind: Kind, bytes: &[u8]) -> Result<Record, Or<RefusedWhy>>
+fn read_record(alloc: Global, kind: Kind, bytes: &[u8]) -> Result<Record, Or<RecordFault>>
+    ensures { Answers result (record_of kind bytes.now) }
+{
+    match kind {
+        Kind::Address => Ok(Record::Address(read_address(alloc, bytes)?)),
+        Kind::Authorization => Ok(Record::Policy(read_authorization(alloc, bytes)?)),
+    }
+}
+
+/// The same, for whose fault a resource is refused.
+fn read_content(alloc: Global, kind: Kind, bytes: &[u8]) -> Result<Record, Or<RefusedWhy>>
     ensures { Answers result (refused_as (record_of kind bytes.now)) }
 {
-    let read = match kind {
-        Kind::Address => read_address(alloc, bytes).map(Record::Address),
-        Kind::Authorization => read_authorization(alloc, bytes).map(Record::Policy),
-    };
-    match read {
-        Ok(record) => Ok(record),
+    match read_record(alloc, kind, bytes) {
+        Ok(content) => Ok(content),
         Err(Or::Fault(fault)) => Err(Or::Fault(RefusedWhy::Record(fault))),
         Err(Or::NoMemory) => Err(Or::NoMemory),
     }
@@ -140,7 +146,7 @@ impl Held {
         if resource.type_url.as_slice() != kind.type_url() {
             return Err(Or::Fault(RefusedWhy::WrongType));
         }
-        let content = read_record(alloc, kind, resource.value.as_slice())?;
+        let content = read_content(alloc, kind, resource.value.as_slice())?;
         let place = self.place_of(kind, name);
         let entry = Entry {
             name: resource.name.copy(alloc)?,

@@ -11,7 +11,7 @@ use hb_base::Or;
 use std::alloc::Global;
 
 /// Why a message is refused.
-#[derive(Clone, Copy, Debug, PartialEq, Eq)]
+#[derive(Clone, Copy)]
 pub enum InputWhy {
     /// It isn't a whole gRPC message with flag 0 and a length of at most 67,108,864, or no response.
     NotAResponse,
@@ -20,7 +20,7 @@ pub enum InputWhy {
 }
 
 /// The first message that is refused, counted from 1.
-#[derive(Clone, Copy, Debug, PartialEq, Eq)]
+#[derive(Clone, Copy)]
 pub struct Refused {
     pub message: u64,
     pub why: InputWhy,

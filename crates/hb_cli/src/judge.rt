@@ -1,12 +1,12 @@
 //! Is a peer admitted at a target by the resources held?
 
-ghost use Rattle.std.specs.Prelude.{◌≡◌, ◌&&◌, ◌||◌, not, false, filter};
+ghost use Rattle.std.specs.Prelude.{◌≡◌, ◌&&◌, ◌||◌, not, filter};
 ghost use Rattle.std.specs.Cmp.Lexicographic.{slice_cmp};
 ghost use Rattle.std.specs.List.{list_any};
-ghost use Rattle.std.specs.Option.{option_copied, option_map_or};
+ghost use Rattle.std.specs.Option.{option_copied};
 ghost use Rattle.std.specs.Ordering.{nat_cmp, is_lt};
 ghost use Rattle.hb_cli.specs.Policy.{principal, fires, is_for, is_deny, admitted_by};
-ghost use Rattle.hb_cli.specs.Judge.{workload_of, policy_of, ip_eq, has_address, is_at, lesser, least, known, policies, judged};
+ghost use Rattle.hb_cli.specs.Judge.{workload_of, policy_of, has_policy, ip_eq, has_address, is_at, lesser, least, known, policies, judged};
 
 use crate::held::{Entry, Held, Record};
 use crate::policy::{fires, is_for};
@@ -16,7 +16,7 @@ use std::cmp::Ordering;
 
 /// What the resources held say of a peer at a target: admitted; the target is no workload of this node; or
 /// its policies refuse the peer.
-#[derive(Clone, Copy, Debug, PartialEq, Eq)]
+#[derive(Clone, Copy)]
 pub enum Judged {
     Admitted,
     Unknown,
@@ -142,7 +142,7 @@ fn is_deny(policy: &Authorization) -> bool
 
 /// The entry is a policy for the workload that denies the peer.
 fn denies(peer: &Peer, workload: &Workload, entry: &Entry) -> bool
-    ensures { result ≡ option_map_or (λ a. is_for workload.now a && (is_deny a.action && fires (principal peer.now) a)) (policy_of entry.now.content) false }
+    ensures { result ≡ has_policy (λ a. is_for workload.now a && (is_deny a.action && fires (principal peer.now) a)) entry.now }
 {
     match policy_of(&entry.content) {
         Some(policy) => is_for(workload, policy) && is_deny(policy) && fires(policy, peer),
@@ -152,7 +152,7 @@ fn denies(peer: &Peer, workload: &Workload, entry: &Entry) -> bool
 
 /// The entry is a policy for the workload that allows peers.
 fn is_allow(workload: &Workload, entry: &Entry) -> bool
-    ensures { result ≡ option_map_or (λ a. is_for workload.now a && not (is_deny a.action)) (policy_of entry.now.content) false }
+    ensures { result ≡ has_policy (λ a. is_for workload.now a && not (is_deny a.action)) entry.now }
 {
     match policy_of(&entry.content) {
         Some(policy) => is_for(workload, policy) && !is_deny(policy),
@@ -162,7 +162,7 @@ fn is_allow(workload: &Workload, entry: &Entry) -> bool
 
 /// The entry is a policy for the workload that allows the peer.
 fn allows(peer: &Peer, workload: &Workload, entry: &Entry) -> bool
-    ensures { result ≡ option_map_or (λ a. is_for workload.now a && (not (is_deny a.action) && fires (principal peer.now) a)) (policy_of entry.now.content) false }
+    ensures { result ≡ has_policy (λ a. is_for workload.now a && (not (is_deny a.action) && fires (principal peer.now) a)) entry.now }
 {
     match policy_of(&entry.content) {
         Some(policy) => is_for(workload, policy) && !is_deny(policy) && fires(policy, peer),
@@ -171,19 +171,21 @@ fn allows(peer: &Peer, workload: &Workload, entry: &Entry) -> bool
 }
 
 fn any_denies(entries: &[Entry], peer: &Peer, workload: &Workload) -> bool
-    ensures { result ≡ list_any (λ e. option_map_or (λ a. is_for workload.now a && (is_deny a.action && fires (principal peer.now) a)) (policy_of e.content) false) entries.now }
+    ensures { result
+        ≡ list_any (has_policy (λ a. is_for workload.now a && (is_deny a.action && fires (principal peer.now) a))) entries.now }
 {
     entries.iter().any(|entry| denies(peer, workload, entry))
 }
 
 fn any_is_allow(entries: &[Entry], workload: &Workload) -> bool
-    ensures { result ≡ list_any (λ e. option_map_or (λ a. is_for workload.now a && not (is_deny a.action)) (policy_of e.content) false) entries.now }
+    ensures { result ≡ list_any (has_policy (λ a. is_for workload.now a && not (is_deny a.action))) entries.now }
 {
     entries.iter().any(|entry| is_allow(workload, entry))
 }
 
 fn any_allows(entries: &[Entry], peer: &Peer, workload: &Workload) -> bool
-    ensures { result ≡ list_any (λ e. option_map_or (λ a. is_for workload.now a && (not (is_deny a.action) && fires (principal peer.now) a)) (policy_of e.content) false) entries.now }
+    ensures { result
+        ≡ list_any (has_policy (λ a. is_for workload.now a && (not (is_deny a.action) && fires (principal peer.now) a))) entries.now }
 {
     entries.iter().any(|entry| allows(peer, workload, entry))
 }

@@ -8,31 +8,27 @@ use hb_base::{Bytes, List, Or, Text};
 use hb_records::{Message, read_message};
 use hb_wire::{Field, FieldValue, WireFault};
 use std::alloc::Global;
-use thiserror::Error;
 
 /// Why bytes are no response. `field` is a field's number in the message that it stands in.
-#[derive(Clone, Copy, Debug, PartialEq, Eq, Error)]
+#[derive(Clone, Copy)]
 pub enum ResponseFault {
     /// The bytes are no fields.
-    #[error("{0}")]
     Wire(WireFault),
     /// A string isn't UTF-8.
-    #[error("utf8 in field {field}")]
     Utf8 { field: u32 },
     /// The type is none of the two kinds of resources. Looked at last.
-    #[error("unknown type")]
     UnknownType,
 }
 
 /// A kind of resources: addresses, or authorization policies.
-#[derive(Clone, Copy, Debug, PartialEq, Eq)]
+#[derive(Clone, Copy)]
 pub enum Kind {
     Address,
     Authorization,
 }
 
 /// A resource of a response: its name, its version, and its record with the record's type.
-#[derive(Debug, Drop)]
+#[derive(Drop)]
 pub struct Resource {
     pub name: Text,
     pub version: Text,
@@ -41,7 +37,7 @@ pub struct Resource {
 }
 
 /// A response: resources that are added or replaced, and names that are removed.
-#[derive(Debug, Drop)]
+#[derive(Drop)]
 pub struct Response {
     pub kind: Kind,
     pub resources: List<Resource>,

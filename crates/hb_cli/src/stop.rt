@@ -1,8 +1,9 @@
 //! Why a command has no answer.
 
-ghost use Rattle.std.specs.Prelude.{◌≡◌, IfOk, Err};
+ghost use Rattle.std.specs.Prelude.{◌≡◌, IfOk};
 ghost use Rattle.std.specs.String.{string_bytes};
-ghost use Rattle.hb_cli.specs.Run.{words_text, why_text, stop_line, status_of};
+ghost use Rattle.hb_cli.specs.Run.{words_text, why_text, stop_line};
+ghost use Rattle.hb_cli.specs.declared.stop.Stop.TheVariants as stops;
 
 use crate::input::{InputWhy, Refused};
 use crate::words::WordsFault;
@@ -10,7 +11,7 @@ use hb_base::{BadTarget, NoMemory};
 use std::alloc::Global;
 
 /// Why a command has no answer.
-#[derive(Clone, Copy, Debug, PartialEq, Eq)]
+#[derive(Clone, Copy)]
 pub enum Stop {
     /// The words aren't accepted.
     Words(WordsFault),
@@ -48,6 +49,16 @@ impl WordsFault {
             }
         }
     }
+
+    /// The line that tells it, with the form of accepted words.
+    pub fn line(self, alloc: Global) -> Result<String, NoMemory>
+        ensures { IfOk result (λ l. string_bytes l ≡ stop_line (stops.Words self)) }
+    {
+        let text = self.text();
+        format!(in alloc;
+            "hbone: words: {text} (usage: hbone check --node NODE SOURCE IDENTITY TARGET)\n"
+        )
+    }
 }
 
 impl InputWhy {
@@ -61,36 +72,13 @@ impl InputWhy {
     }
 }
 
-impl Stop {
-    /// The exit status.
-    pub fn status(self) -> u8
-        ensures { result ≡ status_of (Err self) }
-    {
-        match self {
-            Stop::Words(_) => 2,
-            Stop::TooLong | Stop::Refused(_) => 3,
-            Stop::ReadFault => 6,
-            Stop::NoMemory => 9,
-        }
-    }
-
+impl Refused {
     /// The line that tells it.
     pub fn line(self, alloc: Global) -> Result<String, NoMemory>
-        ensures { IfOk result (λ l. string_bytes l ≡ stop_line self) }
+        ensures { IfOk result (λ l. string_bytes l ≡ stop_line (stops.Refused self)) }
     {
-        match self {
-            Stop::Words(fault) => {
-                let text = fault.text();
-                format!(in alloc; "hbone: words: {text}\n")
-            }
-            Stop::TooLong => String::from_str(alloc, "hbone: input too long\n"),
-            Stop::Refused(refused) => {
-                let number = refused.message;
-                let why = refused.why.text();
-                format!(in alloc; "hbone: message {number}: {why}\n")
-            }
-            Stop::ReadFault => String::from_str(alloc, "hbone: read fault\n"),
-            Stop::NoMemory => String::from_str(alloc, "hbone: out of memory\n"),
-        }
+        let number = self.message;
+        let why = self.why.text();
+        format!(in alloc; "hbone: message {number}: {why}\n")
     }
 }

@@ -10,7 +10,7 @@ use hb_base::{BadTarget, Identity, Or, Peer, Target, read_identity, read_ip, rea
 use std::alloc::Global;
 
 /// Why words aren't accepted. `check --node NODE SOURCE IDENTITY TARGET` is the only command.
-#[derive(Clone, Copy, Debug, PartialEq, Eq)]
+#[derive(Clone, Copy)]
 pub enum WordsFault {
     NoCommand,
     UnknownCommand,
@@ -27,7 +27,7 @@ pub enum WordsFault {
 }
 
 /// What `check` asks: is this peer admitted at this target of this node?
-#[derive(Debug, Drop)]
+#[derive(Drop)]
 pub struct Check<'a> {
     pub node: &'a [u8],
     pub peer: Peer,
@@ -62,7 +62,8 @@ fn read_question<'a>(
     identity: &String,
     target: &String,
 ) -> Result<Check<'a>, Or<WordsFault>>
-    ensures { Answers (asked result) (question_of node.entry.now (string_bytes source.now) (string_bytes identity.now) (string_bytes target.now)) }
+    ensures { Answers (asked result)
+        (question_of node.entry.now (string_bytes source.now) (string_bytes identity.now) (string_bytes target.now)) }
 {
     let Some(ip) = read_ip(source.as_bytes()) else {
         return Err(Or::Fault(WordsFault::BadSource));

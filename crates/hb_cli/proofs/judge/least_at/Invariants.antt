@@ -6,7 +6,8 @@ use Rattle.hb_cli.proofs.judge.least_at.Given as goal
 
 -- found is the least of the entries behind
 abbrev pub invariant-loop-left : goal.invariant-loop-left
-invariant-loop-left l = record { within : l.left ≤ length l.entries; behind : option_copied l.found ≡ least (filter (is_at l.ip) (drop l.left l.entries)) }
+invariant-loop-left l =
+    record { within : l.left ≤ length l.entries; behind : option_copied l.found ≡ least (filter (is_at l.ip) (drop l.left l.entries)) }
 
 abbrev pub decreases-loop-left : goal.decreases-loop-left
 decreases-loop-left l = l.left

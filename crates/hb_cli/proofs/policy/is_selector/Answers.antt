@@ -20,4 +20,5 @@ returns c =
     let front = c.in-Some.ensures.cases in
     let slash = c.in-Some-strip_prefix.ensures.cases in
     c.eq.ensures ∙ ap (λ (s : List ℕ). bytes_eq s c.args.name.now) slash.1
-    ∙ sym (same_namespace c.args.text.now rest c.args.namespace.now c.args.name.now front.0 front.1 ∙ ap (λ t. t && bytes_eq (drop 1 rest) c.args.name.now) slash.0)
+    ∙ sym (same_namespace c.args.text.now rest c.args.namespace.now c.args.name.now front.0 front.1
+    ∙ ap (λ t. t && bytes_eq (drop 1 rest) c.args.name.now) slash.0)
