@@ -4,7 +4,7 @@ use Rattle.std.proofs.lemmas.Bool.{leb-true, le-leb, lt-leb, lt-ltb, le-ltb, ltb
 use Rattle.std.proofs.lemmas.List.{append-nil, length-append}
 use Rattle.hb_hpack.specs.declared.header.Header.{Header}
 use Rattle.hb_hpack.specs.declared.fault.Stop.{Stop}
-use Rattle.hb_hpack.specs.Outcome.{◌>>=◌, GivesOr}
+use Rattle.hb_hpack.specs.Outcome.{◌>>=◌}
 use Rattle.hb_hpack.specs.Integer.{IsInteger, integer_at}
 use Rattle.hb_hpack.specs.Table.{Table, resized}
 use Rattle.hb_hpack.specs.Block.{ReadsHeaders, ReadsBehind, Reads, Field, field_at, headers_at, with_header, is_update, update_at, updates_at, block_at}
@@ -13,7 +13,7 @@ use Rattle.hb_hpack.specs.declared.fault.HpackFault.{HpackFault}
 use Rattle.hb_base.specs.declared.or.Or.{Or}
 use Rattle.hb_base.specs.declared.or.Or.TheVariants as or
 use Rattle.std.specs.Prelude.{IfOk}
-use Rattle.hb_hpack.specs.Lists.{IsListOf, with_headers, GivesList, GivesBlock, IsReadAs}
+use Rattle.hb_hpack.specs.Lists.{Adds, IsListOf, with_headers, GivesList, GivesBlock, IsReadAs}
 use Rattle.hb_hpack.proofs.CodeTable.{both}
 use Rattle.hb_hpack.proofs.Outcomes.{bind_ok, ok_is, chosen, no_value, AreOctets, octets_back}
 use Rattle.hb_hpack.proofs.Groups.{integer_take, integer_again, integer_some}
@@ -313,10 +313,10 @@ block_again table block hs next r = updates_again r.0 (length block) table block
 -- ---- what the decoder answers
 
 -- a header that can't be read, as the answer of the list
-pub list_stops : {X : Type 0} (view : X → Field) (e : Or Stop) (next : Table) (read : Result Field Stop) (whole : Result (List Header × Table) Stop) → GivesOr view (Err e) read
+pub list_stops : (old new : HeaderList) (next : Table) (e : Or Stop) (read : Result Field Stop) (whole : Result (List Header × Table) Stop) → Adds old new next (Err e) read
     → ((s : Stop) → read ≡ Err s → whole ≡ Err s) → GivesList next (Err e) whole
-list_stops view (or.Fault s) next read whole given stops = stops s given
-list_stops view or.NoMemory next read whole given stops = tt
+list_stops old new next (or.Fault s) read whole given stops = stops s given
+list_stops old new next or.NoMemory read whole given stops = tt
 
 -- updates that can't be read, as the answer of the block
 pub block_stops : (table : Table) (block : List ℕ) (s : Stop) → updates_at (length block) table block ≡ Err s → block_at table block ≡ Err s

@@ -2,15 +2,16 @@
 
 ghost use Rattle.std.specs.Prelude.{◌≡◌, ◌<◌, ◌≤◌, ◌+◌, ◌-◌, ◌^◌, min, List, [], ◌∷◌, ◌++◌, length, IfOk, OnOk, IsTrue};
 ghost use Rattle.hb_hpack.specs.Outcome.{Gives, GivesOr};
+ghost use Rattle.hb_hpack.specs.declared.header.Header.{Header};
 ghost use Rattle.hb_hpack.specs.Table.{total, fitting, Table};
 ghost use Rattle.hb_hpack.specs.Block.{Reads, is_update, update_at, updates_at, headers_at, block_at};
 ghost use Rattle.hb_hpack.specs.Lists.{IsListOf, GivesList, GivesBlock, IsReadAs};
 
 use crate::dynamic_table::DynamicTable;
 use crate::fault::{HpackFault, HpackWhy, Stop};
-use crate::header::{Header, HeaderList};
+use crate::header::HeaderList;
 use crate::integer::integer_at;
-use crate::representation::field_at;
+use crate::representation::add_field;
 use hb_base::{List, NoMemory, Or};
 use std::alloc::Global;
 use std::marker::Model;
@@ -60,9 +61,7 @@ fn headers_at(alloc: Global, table: &mut DynamicTable, bytes: &[u8]) -> Result<H
     let mut list = HeaderList::new(alloc);
     let mut rest = bytes;
     while !rest.is_empty() {
-        let (header, after) = field_at(alloc, table, rest)?;
-        list.add(header)?;
-        rest = after;
+        rest = add_field(alloc, table, &mut list, rest)?;
     }
     Ok(list)
 }
@@ -96,7 +95,8 @@ impl Decoder {
 
     /// The sum of the sizes of the entries in the table (RFC 7541 section 4.1).
     pub fn table_size(&self) -> usize
-        ensures { result ≡ total self.now.entries }
+        ensures size { result ≡ total self.now.entries }
+        ensures small { result ≤ 4096 }
     {
         self.table.size() as usize
     }
