@@ -1,11 +1,13 @@
 //! The decoder of header blocks (RFC 7541 section 3).
 
-ghost use Rattle.std.specs.Prelude.{◌≡◌, ◌<◌, ◌≤◌, ◌+◌, ◌-◌, ◌^◌, min, List, [], ◌∷◌, ◌++◌, length, IfOk, OnOk, IsTrue};
-ghost use Rattle.hb_hpack.specs.Outcome.{Gives, GivesOr};
+ghost use Rattle.std.specs.Prelude.{◌≡◌, ◌≤◌, ℕ, List, [], length, IfOk};
+ghost use Rattle.hb_hpack.specs.Outcome.{Gives};
 ghost use Rattle.hb_hpack.specs.declared.header.Header.{Header};
-ghost use Rattle.hb_hpack.specs.Table.{total, fitting, Table};
+ghost use Rattle.hb_hpack.specs.Table.{total, Table};
 ghost use Rattle.hb_hpack.specs.Block.{Reads, is_update, update_at, updates_at, headers_at, block_at};
-ghost use Rattle.hb_hpack.specs.Lists.{IsListOf, GivesList, GivesBlock, IsReadAs};
+ghost use Rattle.hb_hpack.specs.Lists.{IsListOf, GivesList, IsReadAs, IsBroken, IsRefusedAs};
+ghost use Rattle.hb_hpack.specs.Breaks.{BreaksAt};
+ghost use Rattle.hb_hpack.specs.declared.fault.HpackWhy.{HpackWhy};
 
 use crate::dynamic_table::DynamicTable;
 use crate::fault::{HpackFault, HpackWhy, Stop};
@@ -116,8 +118,10 @@ impl Decoder {
         ensures read { IfOk result (λ list. (headers : List Header) × Reads self.old b.now headers self.new × IsListOf headers list) }
         // What stands for headers is read as them, and leaves their table.
         ensures only { (headers : List Header) (next : Table) → Reads self.old b.now headers next → IsReadAs headers next self.new result }
-        // Which fault it is, and where.
-        ensures exact { GivesBlock b.now self.new result (block_at self.old b.now) }
+        // What is refused is broken so, at the fault's place.
+        ensures broken { IsBroken self.old b.now result }
+        // What is broken is refused with that fault.
+        ensures refused { (at : ℕ) (why : HpackWhy) → BreaksAt self.old b.now at why → IsRefusedAs at why result }
     {
         match self.read(b) {
             Ok(list) => Ok(list),
