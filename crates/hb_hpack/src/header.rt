@@ -24,18 +24,6 @@ pub struct HeaderList {
     pub size: u64,
 }
 
-impl Header {
-    ghost use Rattle.std.specs.Prelude.{◌≡◌, ◌-◌, ◌^◌, min};
-    ghost use Rattle.hb_hpack.specs.Table.{size_of};
-
-    /// Its size (RFC 7541 section 4.1).
-    pub(crate) fn size(&self) -> u64
-        ensures { result ≡ min (size_of self.now) (2 ^ 64 - 1) }
-    {
-        size_of(self.name.as_slice(), self.value.as_slice())
-    }
-}
-
 /// The size of the header of this name and this value (RFC 7541 section 4.1).
 fn size_of(name: &[u8], value: &[u8]) -> u64
     ensures { result ≡ min (size_of (header name.now value.now)) (2 ^ 64 - 1) }

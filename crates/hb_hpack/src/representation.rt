@@ -9,9 +9,9 @@ ghost use Rattle.hb_hpack.specs.Literal.{octets};
 ghost use Rattle.hb_hpack.specs.Block.{entry_or, name_at, literal_at, indexed_at, entered_at, field_at};
 ghost use Rattle.hb_hpack.specs.Lists.{Adds};
 
-use crate::dynamic_table::DynamicTable;
+use crate::dynamic_table::{DynamicTable, Entry};
 use crate::fault::{HpackWhy, Stop};
-use crate::header::{Header, HeaderList};
+use crate::header::HeaderList;
 use crate::integer::integer_at;
 use crate::literal::string_at;
 use crate::octets::Octets;
@@ -32,7 +32,7 @@ fn entry_at<'a>(table: &'a DynamicTable, index: u32) -> Option<(&'a [u8], &'a [u
     }
     match table.get(place - 61) {
         None => None,
-        Some(entry) => Some((entry.name.as_slice(), entry.value.as_slice())),
+        Some(entry) => Some(entry.parts()),
     }
 }
 
@@ -112,16 +112,9 @@ fn enter<'b>(
     ensures { Adds list.old list.new table.new result (entered_at table.old bytes.now) }
 {
     let (name, value, rest) = literal_at(alloc, table, bytes, 6)?;
-    let header = Header {
-        name: name.into_bytes(alloc)?,
-        value: value.into_bytes(alloc)?,
-    };
-    list.add(
-        alloc,
-        Octets::Standing(header.name.as_slice()),
-        Octets::Standing(header.value.as_slice()),
-    )?;
-    table.add(header)?;
+    let entry = Entry::of(alloc, name.as_slice(), value.as_slice())?;
+    list.add(alloc, name, value)?;
+    table.add(entry)?;
     Ok(rest)
 }
 
