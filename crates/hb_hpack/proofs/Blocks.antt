@@ -4,16 +4,14 @@ use Rattle.std.proofs.lemmas.Bool.{leb-true, le-leb, lt-leb, lt-ltb, le-ltb, ltb
 use Rattle.std.proofs.lemmas.List.{append-nil, length-append}
 use Rattle.hb_hpack.specs.declared.header.Header.{Header}
 use Rattle.hb_hpack.specs.declared.fault.Stop.{Stop}
-use Rattle.hb_hpack.specs.Outcome.{◌>>=◌, GivesOr}
+use Rattle.hb_hpack.specs.Outcome.{◌>>=◌}
 use Rattle.hb_hpack.specs.Integer.{IsInteger, integer_at}
 use Rattle.hb_hpack.specs.Table.{Table, resized}
 use Rattle.hb_hpack.specs.Block.{ReadsHeaders, ReadsBehind, Reads, Field, field_at, headers_at, with_header, is_update, update_at, updates_at, block_at}
 use Rattle.hb_hpack.specs.declared.header.HeaderList.{HeaderList}
-use Rattle.hb_hpack.specs.declared.fault.HpackFault.{HpackFault}
 use Rattle.hb_base.specs.declared.or.Or.{Or}
 use Rattle.hb_base.specs.declared.or.Or.TheVariants as or
-use Rattle.std.specs.Prelude.{IfOk}
-use Rattle.hb_hpack.specs.Lists.{IsListOf, with_headers, GivesList, GivesBlock, IsReadAs}
+use Rattle.hb_hpack.specs.Lists.{Adds, IsListOf, with_headers, GivesList}
 use Rattle.hb_hpack.proofs.CodeTable.{both}
 use Rattle.hb_hpack.proofs.Outcomes.{bind_ok, ok_is, chosen, no_value, AreOctets, octets_back}
 use Rattle.hb_hpack.proofs.Groups.{integer_take, integer_again, integer_some}
@@ -140,7 +138,7 @@ headers_end table (b ∷ bytes) front whole none so_far = absurd (omega arith)
 
 -- ---- size updates
 
-update_bits : (b : ℕ) → (leb 32 b && ltb b 64) ≡ true → (32 ≤ b) × (b < 64)
+pub update_bits : (b : ℕ) → (leb 32 b && ltb b 64) ≡ true → (32 ≤ b) × (b < 64)
 update_bits b e = let p = both _ _ e in (leb-true 32 b p.0, ltb-true b 64 p.1)
 
 pub record TakesUpdate (bytes : List ℕ) (n : ℕ) (rest : List ℕ) : Type 0 where
@@ -221,7 +219,7 @@ same_updates most n table bytes (Ok x) o update le le' again e =
     let len : length bytes ≡ length t.front + length x.1 = ap (λ (xs : List ℕ). length xs) t.parts ∙ length-append t.front x.1 in
     again (resized table x.0) x.1 (octets_back t.front x.1 (subst AreOctets t.parts o)) (omega arith) (omega arith)
 
-none_in_none : (bytes : List ℕ) → length bytes ≤ 0 → is_update bytes ≡ false
+pub none_in_none : (bytes : List ℕ) → length bytes ≤ 0 → is_update bytes ≡ false
 none_in_none [] le = refl
 none_in_none (b ∷ bytes) le = absurd (omega arith)
 
@@ -269,16 +267,16 @@ pub updates_stop : (table : Table) (bytes : List ℕ) (s : Stop) (whole : Result
 updates_stop table [] s whole update e so_far = absurd cc
 updates_stop table (b ∷ bytes) s whole update e so_far = sym so_far ∙ one_update (length bytes) table (b ∷ bytes) update ∙ rw e refl
 
+pub no_update_first : (b : ℕ) → (b < 32) ⊎ (64 ≤ b) → (leb 32 b && ltb b 64) ≡ false
+no_update_first b (inl lt) = rw (lt-leb 32 b lt) refl
+no_update_first b (inr le) = rw (le-ltb b 64 le) (and_right (leb 32 b) false refl)
+
 -- headers begin with no size update
 no_update : (table : Table) (block : List ℕ) (hs : List Header) (next : Table) → ReadsHeaders table block hs next → is_update block ≡ false
 no_update table block [] next r = ap is_update r.0
 no_update table block (h ∷ hs) next r =
     let b = represents_begins table r.0 r.1 h r.2 r.4 in
-    ap is_update (r.3 ∙ b.2) ∙ outside b.0 b.3
-  where
-    outside : (b : ℕ) → (b < 32) ⊎ (64 ≤ b) → (leb 32 b && ltb b 64) ≡ false
-    outside b (inl lt) = rw (lt-leb 32 b lt) refl
-    outside b (inr le) = rw (le-ltb b 64 le) (and_right (leb 32 b) false refl)
+    ap is_update (r.3 ∙ b.2) ∙ no_update_first b.0 b.3
 
 pub updates_again : (sizes : List ℕ) (most : ℕ) (table : Table) (block : List ℕ) (hs : List Header) (next : Table) → ReadsBehind sizes table block hs next → length block ≤ most
     → (updates_at most table block >>= λ u. headers_at (length u.1) u.0 u.1) ≡ Ok (hs, next)
@@ -313,10 +311,10 @@ block_again table block hs next r = updates_again r.0 (length block) table block
 -- ---- what the decoder answers
 
 -- a header that can't be read, as the answer of the list
-pub list_stops : {X : Type 0} (view : X → Field) (e : Or Stop) (next : Table) (read : Result Field Stop) (whole : Result (List Header × Table) Stop) → GivesOr view (Err e) read
+pub list_stops : (old new : HeaderList) (next : Table) (e : Or Stop) (read : Result Field Stop) (whole : Result (List Header × Table) Stop) → Adds old new next (Err e) read
     → ((s : Stop) → read ≡ Err s → whole ≡ Err s) → GivesList next (Err e) whole
-list_stops view (or.Fault s) next read whole given stops = stops s given
-list_stops view or.NoMemory next read whole given stops = tt
+list_stops old new next (or.Fault s) read whole given stops = stops s given
+list_stops old new next or.NoMemory read whole given stops = tt
 
 -- updates that can't be read, as the answer of the block
 pub block_stops : (table : Table) (block : List ℕ) (s : Stop) → updates_at (length block) table block ≡ Err s → block_at table block ≡ Err s
@@ -328,17 +326,9 @@ unfolding block_at
 block_goes_on table mid block rest e = rw e refl
 
 -- what stands for headers was read as them
-pub block_read_as : (table next : Table) (block : List ℕ) (r : Result HeaderList (Or HpackFault)) (headers : List Header) (new : Table) → GivesBlock block new r (block_at table block) → Reads table block headers next → IsReadAs headers next new r
-block_read_as table next block (Ok list) headers new given reads =
+pub block_read_as : (table next new : Table) (block : List ℕ) (list : HeaderList) (headers : List Header) → GivesList new (Ok list) (block_at table block) → Reads table block headers next
+    → IsListOf headers list × (new ≡ next)
+block_read_as table next new block list headers given reads =
     let again = block_again table block headers next reads in
     let same : ◌≡◌ {A = List Header × Table} (given.0, new) (headers, next) = ok_is (given.0, new) (headers, next) (sym given.1 ∙ again) in
     (subst (λ (hs : List Header). IsListOf hs list) (ap (λ (x : List Header × Table). x.0) same) given.2, ap (λ (x : List Header × Table). x.1) same)
-block_read_as table next block (Err (or.Fault f)) headers new given reads =
-    let again = block_again table block headers next reads in
-    no_value given.0 (headers, next) (sym given.1 ∙ again)
-block_read_as table next block (Err or.NoMemory) headers new given reads = tt
-
-pub block_found : (table : Table) (block : List ℕ) (r : Result HeaderList (Or HpackFault)) (new : Table) → AreOctets block → GivesBlock block new r (block_at table block)
-    → IfOk r (λ list. (headers : List Header) × Reads table block headers new × IsListOf headers list)
-block_found table block (Ok list) new o given = (given.0, block_take table block given.0 new o given.1, given.2)
-block_found table block (Err e) new o given = tt

@@ -110,7 +110,7 @@ integer_take prefix flag b bytes n rest o flag_is e =
           }
     ]
 
-low_of : (prefix flag n : ℕ) → flag % 2 ^ prefix ≡ 0 → n < 2 ^ prefix → (flag + n) % 2 ^ prefix ≡ n
+pub low_of : (prefix flag n : ℕ) → flag % 2 ^ prefix ≡ 0 → n < 2 ^ prefix → (flag + n) % 2 ^ prefix ≡ n
 low_of prefix flag n clear lt =
     let whole : flag / 2 ^ prefix * 2 ^ prefix + flag % 2 ^ prefix ≡ flag = shr_split flag prefix in
     let flag_is : flag ≡ flag / 2 ^ prefix * 2 ^ prefix = omega arith in

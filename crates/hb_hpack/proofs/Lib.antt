@@ -16,4 +16,5 @@ pub mod Appending
 pub mod StaticIndexes
 pub mod Statuses
 pub mod Encoded
-pub mod Places
+pub mod Broken
+pub mod Refused

@@ -23,6 +23,12 @@ chosen false x y z e = inr (refl, e)
 pub no_value : {A : Type 0} (d : Stop) (y : A) → Err d ≡ done y → ⊥
 no_value d y e = cc
 
+abbrev failed : (A : Type 0) → Stop → Result A Stop
+failed A s = Err s
+
+pub fault_is : {A : Type 0} (s t : Stop) → failed A s ≡ Err t → s ≡ t
+fault_is s t e = cc
+
 -- octets, and the octets of their parts
 abbrev pub AreOctets : List ℕ → Type 0
 AreOctets bytes = AllByRecursion (λ b. b < 256) bytes

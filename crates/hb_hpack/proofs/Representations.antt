@@ -54,7 +54,7 @@ name_take table prefix flag b bytes name rest o flag_is e =
     ]
 
 -- an index that has an entry isn't 0
-index_some : (table : Table) (i : ℕ) (h : Header) → entry_at table i ≡ Some h → i ≡ 0 → ⊥
+pub index_some : (table : Table) (i : ℕ) (h : Header) → entry_at table i ≡ Some h → i ≡ 0 → ⊥
 index_some table i h e zero_is =
     let none : None ≡ Some h = sym (entry_none table) ∙ ap (entry_at table) (sym zero_is) ∙ e in
     cc
@@ -78,17 +78,17 @@ pub record Begins (prefix flag : ℕ) (bytes : List ℕ) : Type 0 where
   pub above : flag ≤ first
   pub below : first < flag + 2 ^ prefix
 
-integer_begins : (prefix flag n : ℕ) (front rest bytes : List ℕ) → IsInteger prefix flag n front → bytes ≡ front ++ rest → Begins prefix flag bytes
+pub integer_begins : (prefix flag n : ℕ) (front rest bytes : List ℕ) → IsInteger prefix flag n front → bytes ≡ front ++ rest → Begins prefix flag bytes
 integer_begins prefix flag n front rest bytes is parts =
     let f = integer_some prefix flag n front is in
     record { first = f.0; more = f.1 ++ rest; parts = parts ∙ ap (λ (xs : List ℕ). xs ++ rest) f.2; above = f.3; below = f.4 }
 
-name_begins : (table : Table) (prefix flag : ℕ) (name front rest bytes : List ℕ) → IsName table prefix flag name front → bytes ≡ front ++ rest → Begins prefix flag bytes
+pub name_begins : (table : Table) (prefix flag : ℕ) (name front rest bytes : List ℕ) → IsName table prefix flag name front → bytes ≡ front ++ rest → Begins prefix flag bytes
 name_begins table prefix flag name front rest bytes (IsName.indexed i entry is e name_is) parts = integer_begins prefix flag i front rest bytes is parts
 name_begins table prefix flag name front rest bytes (IsName.new first text is string split) parts =
     integer_begins prefix flag 0 first (text ++ rest) bytes is (parts ∙ ap (λ (xs : List ℕ). xs ++ rest) split ∙ append_assoc first text rest)
 
-literal_begins : (table : Table) (prefix flag : ℕ) (h : Header) (front rest bytes : List ℕ) → IsLiteral table prefix flag h front → bytes ≡ front ++ rest → Begins prefix flag bytes
+pub literal_begins : (table : Table) (prefix flag : ℕ) (h : Header) (front rest bytes : List ℕ) → IsLiteral table prefix flag h front → bytes ≡ front ++ rest → Begins prefix flag bytes
 literal_begins table prefix flag h front rest bytes (IsLiteral.literal first text name string split) parts =
     name_begins table prefix flag h.name first (text ++ rest) bytes name (parts ∙ ap (λ (xs : List ℕ). xs ++ rest) split ∙ append_assoc first text rest)
 
@@ -198,15 +198,15 @@ field_take table b bytes f o e =
           ]
     ]
 
-field_indexed : (table : Table) (b : ℕ) (bytes : List ℕ) → 128 ≤ b → field_at table (b ∷ bytes) ≡ (indexed_at table (b ∷ bytes) >>= λ l. Ok (field l.0 table l.1))
+pub field_indexed : (table : Table) (b : ℕ) (bytes : List ℕ) → 128 ≤ b → field_at table (b ∷ bytes) ≡ (indexed_at table (b ∷ bytes) >>= λ l. Ok (field l.0 table l.1))
 unfolding field_at
 field_indexed table b bytes le = rw (le-leb 128 b le, field_at) refl
 
-field_entered : (table : Table) (b : ℕ) (bytes : List ℕ) → 64 ≤ b → b < 128 → field_at table (b ∷ bytes) ≡ (literal_at table 6 (b ∷ bytes) >>= λ l. Ok (field l.0 (added table l.0) l.1))
+pub field_entered : (table : Table) (b : ℕ) (bytes : List ℕ) → 64 ≤ b → b < 128 → field_at table (b ∷ bytes) ≡ (literal_at table 6 (b ∷ bytes) >>= λ l. Ok (field l.0 (added table l.0) l.1))
 unfolding field_at
 field_entered table b bytes le lt = rw (lt-leb 128 b lt, le-leb 64 b le, field_at) refl
 
-field_passed : (table : Table) (b : ℕ) (bytes : List ℕ) → b < 32 → field_at table (b ∷ bytes) ≡ (literal_at table 4 (b ∷ bytes) >>= λ l. Ok (field l.0 table l.1))
+pub field_passed : (table : Table) (b : ℕ) (bytes : List ℕ) → b < 32 → field_at table (b ∷ bytes) ≡ (literal_at table 4 (b ∷ bytes) >>= λ l. Ok (field l.0 table l.1))
 unfolding field_at
 field_passed table b bytes lt = rw (lt-leb 128 b (omega arith), lt-leb 64 b (omega arith), lt-leb 32 b lt, field_at) refl
 

@@ -59,7 +59,7 @@ string_take (b ∷ bytes) text rest o e =
     ]
 
 -- how the literal goes on behind its length
-string_first : (b : ℕ) (more : List ℕ) (n : ℕ) (after : List ℕ) → integer_at 7 (b ∷ more) ≡ Ok (n, after) → n ≤ length after
+pub string_first : (b : ℕ) (more : List ℕ) (n : ℕ) (after : List ℕ) → integer_at 7 (b ∷ more) ≡ Ok (n, after) → n ≤ length after
     → string_at (b ∷ more) ≡ cond (ltb b 128) (Ok (take n after, drop n after)) (coded_at (length (b ∷ more)) (text_of (take n after)) (drop n after))
 unfolding string_at
 string_first b more n after e le = rw (e, le-ltb (length after) n le, string_at) refl

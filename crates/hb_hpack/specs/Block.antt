@@ -82,12 +82,16 @@ pub record Field : Type 0 where
 abbrev pub field : Header → Table → List ℕ → Field
 field h next rest = record { header = h; next = next; rest = rest }
 
+-- a literal header that enters the table
+abbrev pub entered_at : Table → List ℕ → Result Field Stop
+entered_at table bytes = literal_at table 6 bytes >>= λ l. Ok (field l.0 (added table l.0) l.1)
+
 -- the representation in front
 unfoldable pub field_at : Table → List ℕ → Result Field Stop
 field_at table [] = Err (stop 0 Truncated)
 field_at table (b ∷ bs) =
     if nat_le 128 b then (indexed_at table (b ∷ bs) >>= λ l. Ok (field l.0 table l.1))
-    else (if nat_le 64 b then (literal_at table 6 (b ∷ bs) >>= λ l. Ok (field l.0 (added table l.0) l.1))
+    else (if nat_le 64 b then entered_at table (b ∷ bs)
     else (if nat_le 32 b then Err (stop (length (b ∷ bs)) LateSize)
     else (literal_at table 4 (b ∷ bs) >>= λ l. Ok (field l.0 table l.1))))
 

@@ -8,5 +8,6 @@ pub mod StaticTable
 pub mod Table
 pub mod Literal
 pub mod Block
+pub mod Breaks
 pub mod Lists
 pub mod Encoding

@@ -1,5 +1,7 @@
 -- String literals (RFC 7541 section 5.2).
 use Rattle.std.specs.Prelude.{◌≡◌, ℕ, nat_lt, List, [], ◌∷◌, ◌++◌, length, take, drop, Option, Some, None, Result, Ok, Err, if◌then◌else◌}
+use Rattle.hb_hpack.specs.declared.octets.Octets.{Octets}
+use Rattle.hb_hpack.specs.declared.octets.Octets.TheVariants.{Standing, Decoded}
 use Rattle.hb_hpack.specs.declared.fault.Stop.{Stop}
 use Rattle.hb_hpack.specs.declared.fault.HpackWhy.TheVariants.{Truncated, BadHuffman}
 use Rattle.hb_hpack.specs.Outcome.{stop, ◌>>=◌}
@@ -27,3 +29,8 @@ string_at (b ∷ bs) = do
   n ← integer_at 7 (b ∷ bs)
   if nat_lt (length n.1) n.0 then Err (stop 0 Truncated)
       else (if nat_lt b 128 then Ok (take n.0 n.1, drop n.0 n.1) else coded_at (length (b ∷ bs)) (text_of (take n.0 n.1)) (drop n.0 n.1))
+
+-- the octets of a name or a value, wherever they stand
+abbrev pub octets : Octets → List ℕ
+octets (Standing bytes) = bytes.now
+octets (Decoded bytes) = bytes

@@ -1,10 +1,8 @@
--- What the tables of the program have, by length, symbol and place.
-use Rattle.std.specs.Prelude.{ℕ, List, slice_index_or, slice_range}
+-- What the tables of the Huffman code have, by length, symbol and place.
+use Rattle.std.specs.Prelude.{ℕ, slice_index_or}
 use Rattle.hb_hpack.specs.declared.code_table.Code.{Code}
 use Rattle.hb_hpack.specs.declared.code_table.Row.{Row}
 use Rattle.hb_hpack.specs.declared.code_table.TheConstants.{CODES, ROWS, SYMBOLS}
-use Rattle.hb_hpack.specs.declared.static_table.Span.{Span}
-use Rattle.hb_hpack.specs.declared.static_table.TheConstants.{TEXT, SPANS}
 
 abbrev pub no_code : Code
 no_code = record { bits = 0; length = 0 }
@@ -23,14 +21,3 @@ code_at symbol = slice_index_or CODES symbol no_code
 -- the symbol at a place of the order
 unfoldable pub symbol_at : ℕ → ℕ
 symbol_at place = slice_index_or SYMBOLS place 0
-
-abbrev pub no_span : Span
-no_span = record { name = 0; name_end = 0; value = 0; value_end = 0 }
-
--- where the header at a place lies
-unfoldable pub span_at : ℕ → Span
-span_at place = slice_index_or SPANS place no_span
-
--- the text from a start to before an end
-unfoldable pub text_between : ℕ → ℕ → List ℕ
-text_between start end = slice_range TEXT start end

@@ -1,16 +1,19 @@
 //! The decoder of header blocks (RFC 7541 section 3).
 
-ghost use Rattle.std.specs.Prelude.{◌≡◌, ◌<◌, ◌≤◌, ◌+◌, ◌-◌, ◌^◌, min, List, [], ◌∷◌, ◌++◌, length, IfOk, OnOk, IsTrue};
-ghost use Rattle.hb_hpack.specs.Outcome.{Gives, GivesOr};
-ghost use Rattle.hb_hpack.specs.Table.{total, fitting, Table};
+ghost use Rattle.std.specs.Prelude.{◌≡◌, ◌≤◌, ℕ, List, [], length, IfOk};
+ghost use Rattle.hb_hpack.specs.Outcome.{Gives};
+ghost use Rattle.hb_hpack.specs.declared.header.Header.{Header};
+ghost use Rattle.hb_hpack.specs.Table.{total, Table};
 ghost use Rattle.hb_hpack.specs.Block.{Reads, is_update, update_at, updates_at, headers_at, block_at};
-ghost use Rattle.hb_hpack.specs.Lists.{IsListOf, GivesList, GivesBlock, IsReadAs};
+ghost use Rattle.hb_hpack.specs.Lists.{IsListOf, GivesList, IsReadAs, IsBroken, IsRefusedAs};
+ghost use Rattle.hb_hpack.specs.Breaks.{BreaksAt};
+ghost use Rattle.hb_hpack.specs.declared.fault.HpackWhy.{HpackWhy};
 
 use crate::dynamic_table::DynamicTable;
 use crate::fault::{HpackFault, HpackWhy, Stop};
-use crate::header::{Header, HeaderList};
+use crate::header::HeaderList;
 use crate::integer::integer_at;
-use crate::representation::field_at;
+use crate::representation::add_field;
 use hb_base::{List, NoMemory, Or};
 use std::alloc::Global;
 use std::marker::Model;
@@ -60,9 +63,7 @@ fn headers_at(alloc: Global, table: &mut DynamicTable, bytes: &[u8]) -> Result<H
     let mut list = HeaderList::new(alloc);
     let mut rest = bytes;
     while !rest.is_empty() {
-        let (header, after) = field_at(alloc, table, rest)?;
-        list.add(header)?;
-        rest = after;
+        rest = add_field(alloc, table, &mut list, rest)?;
     }
     Ok(list)
 }
@@ -96,7 +97,8 @@ impl Decoder {
 
     /// The sum of the sizes of the entries in the table (RFC 7541 section 4.1).
     pub fn table_size(&self) -> usize
-        ensures { result ≡ total self.now.entries }
+        ensures size { result ≡ total self.now.entries }
+        ensures small { result ≤ 4096 }
     {
         self.table.size() as usize
     }
@@ -116,8 +118,10 @@ impl Decoder {
         ensures read { IfOk result (λ list. (headers : List Header) × Reads self.old b.now headers self.new × IsListOf headers list) }
         // What stands for headers is read as them, and leaves their table.
         ensures only { (headers : List Header) (next : Table) → Reads self.old b.now headers next → IsReadAs headers next self.new result }
-        // Which fault it is, and where.
-        ensures exact { GivesBlock b.now self.new result (block_at self.old b.now) }
+        // What is refused is broken so, at the fault's place.
+        ensures broken { IsBroken self.old b.now result }
+        // What is broken is refused with that fault.
+        ensures refused { (at : ℕ) (why : HpackWhy) → BreaksAt self.old b.now at why → IsRefusedAs at why result }
     {
         match self.read(b) {
             Ok(list) => Ok(list),

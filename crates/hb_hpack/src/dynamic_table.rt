@@ -4,7 +4,6 @@ ghost use Rattle.std.specs.Prelude.{◌≡◌, ◌≤◌, ◌∷◌, OnOk, List,
 ghost use Rattle.std.specs.Option.{option_copied};
 ghost use Rattle.hb_hpack.specs.Table.{total, fitting};
 
-use crate::header::Header;
 use hb_base::NoMemory;
 use std::alloc::Global;
 use std::collections::VecDeque;
@@ -13,10 +12,61 @@ use std::marker::Model;
 /// The most that the sizes of the entries may ever sum to: the default of HTTP/2 (RFC 9113 section 6.5.2).
 pub(crate) const LARGEST: u64 = 4096;
 
+/// A header of the table, its name and behind it its value in one piece of memory. Contracts see it as the header.
+#[derive(Drop)]
+pub struct Entry {
+    octets: Vec<u8>,
+    name_length: usize,
+}
+
+impl Model for Entry {
+    ghost use Rattle.std.specs.Prelude.{◌≤◌, length, take, drop};
+    ghost use Rattle.hb_hpack.specs.declared.header.Header.{Header};
+    ghost use Rattle.hb_hpack.specs.StaticTable.{header};
+
+    ghost Value = { Header };
+
+    ghost view = { λ e. header (take e.name_length e.octets.items) (drop e.name_length e.octets.items) };
+
+    ghost invariant = { λ e. e.name_length ≤ length e.octets.items };
+}
+
+impl Entry {
+    ghost use Rattle.std.specs.Prelude.{◌≡◌, ◌-◌, ◌^◌, min, IfOk};
+    ghost use Rattle.hb_hpack.specs.StaticTable.{header};
+    ghost use Rattle.hb_hpack.specs.Table.{size_of};
+
+    pub(crate) fn of(alloc: Global, name: &[u8], value: &[u8]) -> Result<Entry, NoMemory>
+        ensures { IfOk result (λ r. r ≡ header name.now value.now) }
+    {
+        let mut octets = Vec::with_capacity(alloc, name.len() + value.len())?;
+        octets.extend_from_slice(name)?;
+        octets.extend_from_slice(value)?;
+        Ok(Entry {
+            octets,
+            name_length: name.len(),
+        })
+    }
+
+    /// Its name and its value.
+    pub(crate) fn parts(&self) -> (&[u8], &[u8])
+        ensures { header result.0.now result.1.now ≡ self.now }
+    {
+        self.octets.as_slice().split_at(self.name_length)
+    }
+
+    /// Its size (RFC 7541 section 4.1).
+    fn size(&self) -> u64
+        ensures { result ≡ min (size_of self.now) (2 ^ 64 - 1) }
+    {
+        (self.octets.len() as u64).saturating_add(32)
+    }
+}
+
 /// The headers that a block may name beside the static ones, the newest first.
 #[derive(Drop)]
 pub struct DynamicTable {
-    entries: VecDeque<Header>,
+    entries: VecDeque<Entry>,
     size: u64,
     maximum: u64,
 }
@@ -33,7 +83,7 @@ impl Model for DynamicTable {
 }
 
 /// Drops the oldest entries until the sizes sum to at most `limit`. Gives their sum.
-fn evict(entries: &mut VecDeque<Header>, size: u64, limit: u64) -> u64
+fn evict(entries: &mut VecDeque<Entry>, size: u64, limit: u64) -> u64
     requires { size ≡ total entries.old.items }
     ensures entries { entries.new.items ≡ fitting limit entries.old.items }
     ensures size { result ≡ total entries.new.items }
@@ -72,23 +122,23 @@ impl DynamicTable {
     }
 
     /// The entry at this place, the newest at 0.
-    pub(crate) fn get(&self, place: usize) -> Option<&Header>
+    pub(crate) fn get(&self, place: usize) -> Option<&Entry>
         ensures { option_copied result ≡ slice_get self.now.entries place }
     {
         self.entries.get(place)
     }
 
     /// Enters a header. On NoMemory the table isn't used again.
-    pub(crate) fn add(&mut self, header: Header) -> Result<(), NoMemory>
-        ensures { OnOk result (self.new ≡ added self.old header) }
+    pub(crate) fn add(&mut self, entry: Entry) -> Result<(), NoMemory>
+        ensures { OnOk result (self.new ≡ added self.old entry) }
     {
-        let size = header.size();
+        let size = entry.size();
         if self.maximum < size {
             self.size = evict(&mut self.entries, self.size, 0);
             return Ok(());
         }
         self.size = evict(&mut self.entries, self.size, self.maximum - size);
-        self.entries.push_front(header)?;
+        self.entries.push_front(entry)?;
         self.size += size;
         Ok(())
     }

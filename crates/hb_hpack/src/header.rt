@@ -1,8 +1,10 @@
 //! Headers and lists of them.
 
-ghost use Rattle.std.specs.Prelude.{◌≡◌, ◌-◌, ◌^◌, IfOk, min};
+ghost use Rattle.std.specs.Prelude.{◌≡◌, ◌-◌, ◌^◌, min};
+ghost use Rattle.hb_hpack.specs.StaticTable.{header};
 ghost use Rattle.hb_hpack.specs.Table.{size_of};
 
+use crate::octets::Octets;
 use hb_base::{Bytes, List, NoMemory};
 use std::alloc::Global;
 
@@ -22,26 +24,13 @@ pub struct HeaderList {
     pub size: u64,
 }
 
-impl Header {
-    ghost use Rattle.std.specs.Prelude.{◌≡◌, ◌-◌, ◌^◌, IfOk, min};
-    ghost use Rattle.hb_hpack.specs.Table.{size_of};
-
-    pub(crate) fn copy(&self, alloc: Global) -> Result<Header, NoMemory>
-        ensures { IfOk result (λ r. r ≡ self.now) }
-    {
-        let name = self.name.copy(alloc)?;
-        let value = self.value.copy(alloc)?;
-        Ok(Header { name, value })
-    }
-
-    /// Its size (RFC 7541 section 4.1).
-    pub(crate) fn size(&self) -> u64
-        ensures { result ≡ min (size_of self.now) (2 ^ 64 - 1) }
-    {
-        let name = self.name.as_slice().len() as u64;
-        let value = self.value.as_slice().len() as u64;
-        name.saturating_add(value).saturating_add(32)
-    }
+/// The size of the header of this name and this value (RFC 7541 section 4.1).
+fn size_of(name: &[u8], value: &[u8]) -> u64
+    ensures { result ≡ min (size_of (header name.now value.now)) (2 ^ 64 - 1) }
+{
+    let name = name.len() as u64;
+    let value = value.len() as u64;
+    name.saturating_add(value).saturating_add(32)
 }
 
 /// The most that the sizes of the headers that are kept may sum to.
@@ -51,6 +40,8 @@ impl HeaderList {
     ghost use Rattle.std.specs.Prelude.{List as list, [], ◌∷◌, ◌++◌, OnOk};
     ghost use Rattle.hb_hpack.specs.declared.header.Header.{Header};
     ghost use Rattle.hb_hpack.specs.Lists.{IsListOf};
+    ghost use Rattle.hb_hpack.specs.Literal.{octets};
+    ghost use Rattle.hb_hpack.specs.StaticTable.{header};
 
     pub(crate) fn new(alloc: Global) -> HeaderList
         ensures { IsListOf [] result }
@@ -61,13 +52,23 @@ impl HeaderList {
         }
     }
 
-    /// Adds a header. On NoMemory the list isn't used again.
-    pub(crate) fn add(&mut self, header: Header) -> Result<(), NoMemory>
-        ensures { OnOk result ((headers : list Header) → IsListOf headers self.old → IsListOf (headers ++ header ∷ []) self.new) }
+    /// Adds the header of this name and this value, which are copied only where they are kept. On NoMemory the list
+    /// isn't used again.
+    pub(crate) fn add(
+        &mut self,
+        alloc: Global,
+        name: Octets<'_>,
+        value: Octets<'_>,
+    ) -> Result<(), NoMemory>
+        ensures { OnOk result ((headers : list Header) → IsListOf headers self.old → IsListOf (headers ++ header (octets name.entry) (octets value.entry) ∷ []) self.new) }
     {
-        self.size = self.size.saturating_add(header.size());
+        let size = size_of(name.as_slice(), value.as_slice());
+        self.size = self.size.saturating_add(size);
         if self.size <= MOST_KEPT {
-            self.kept.push(header)?;
+            self.kept.push(Header {
+                name: name.into_bytes(alloc)?,
+                value: value.into_bytes(alloc)?,
+            })?;
         }
         Ok(())
     }

@@ -11,6 +11,7 @@ mod header;
 mod huffman;
 mod integer;
 mod literal;
+mod octets;
 mod partial;
 mod representation;
 mod spelling;

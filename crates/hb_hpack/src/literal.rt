@@ -2,18 +2,19 @@
 
 ghost use Rattle.std.specs.Prelude.{◌≡◌};
 ghost use Rattle.hb_hpack.specs.Outcome.{GivesOr};
-ghost use Rattle.hb_hpack.specs.Literal.{string_at};
+ghost use Rattle.hb_hpack.specs.Literal.{octets, string_at};
 
 use crate::fault::{HpackWhy, Stop};
 use crate::huffman::huffman_read;
 use crate::integer::integer_at;
-use hb_base::{Bytes, Or};
+use crate::octets::Octets;
+use hb_base::Or;
 use std::alloc::Global;
 
 /// The string literal in front, and the bytes behind it.
 #[tactic(auto, unfolding(crate::specs::Literal::string_at))]
-pub(crate) fn string_at(alloc: Global, bytes: &[u8]) -> Result<(Bytes, &[u8]), Or<Stop>>
-    ensures { GivesOr (λ x. (x.0, x.1.now)) result (string_at bytes.now) }
+pub(crate) fn string_at(alloc: Global, bytes: &[u8]) -> Result<(Octets<'_>, &[u8]), Or<Stop>>
+    ensures { GivesOr (λ x. (octets x.0, x.1.now)) result (string_at bytes.now) }
 {
     let Some(first) = bytes.first() else {
         return Err(Or::Fault(Stop {
@@ -31,13 +32,13 @@ pub(crate) fn string_at(alloc: Global, bytes: &[u8]) -> Result<(Bytes, &[u8]), O
     }
     let (text, rest) = rest.split_at(length);
     if *first < 128 {
-        return Ok((Bytes::of(alloc, text)?, rest));
+        return Ok((Octets::Standing(text), rest));
     }
     match huffman_read(alloc, text)? {
         None => Err(Or::Fault(Stop {
             left: bytes.len(),
             why: HpackWhy::BadHuffman,
         })),
-        Some(text) => Ok((text, rest)),
+        Some(text) => Ok((Octets::Decoded(text), rest)),
     }
 }

@@ -5,15 +5,18 @@ ghost use Rattle.std.specs.Option.{option_map};
 ghost use Rattle.hb_hpack.specs.Outcome.{Gives, GivesOr};
 ghost use Rattle.hb_hpack.specs.StaticTable.{header};
 ghost use Rattle.hb_hpack.specs.Table.{entry_at};
-ghost use Rattle.hb_hpack.specs.Block.{entry_or, name_at, literal_at, indexed_at, field, field_at};
+ghost use Rattle.hb_hpack.specs.Literal.{octets};
+ghost use Rattle.hb_hpack.specs.Block.{entry_or, name_at, literal_at, indexed_at, entered_at, field_at};
+ghost use Rattle.hb_hpack.specs.Lists.{Adds};
 
-use crate::dynamic_table::DynamicTable;
+use crate::dynamic_table::{DynamicTable, Entry};
 use crate::fault::{HpackWhy, Stop};
-use crate::header::Header;
+use crate::header::HeaderList;
 use crate::integer::integer_at;
 use crate::literal::string_at;
+use crate::octets::Octets;
 use crate::static_table::static_header;
-use hb_base::{Bytes, Or};
+use hb_base::Or;
 use std::alloc::Global;
 
 /// The name and the value of the header of an index, where there is one.
@@ -29,7 +32,7 @@ fn entry_at<'a>(table: &'a DynamicTable, index: u32) -> Option<(&'a [u8], &'a [u
     }
     match table.get(place - 61) {
         None => None,
-        Some(entry) => Some((entry.name.as_slice(), entry.value.as_slice())),
+        Some(entry) => Some(entry.parts()),
     }
 }
 
@@ -52,64 +55,79 @@ fn entry_or<'a>(
 
 /// The name in front of a literal, and the bytes behind it.
 #[tactic(auto, unfolding(crate::specs::Block::name_at))]
-fn name_at<'b>(
+fn name_at<'a, 'b: 'a>(
     alloc: Global,
-    table: &DynamicTable,
+    table: &'a DynamicTable,
     bytes: &'b [u8],
     prefix: u8,
-) -> Result<(Bytes, &'b [u8]), Or<Stop>>
+) -> Result<(Octets<'a>, &'b [u8]), Or<Stop>>
     requires { prefix < 8 }
-    ensures { GivesOr (λ x. (x.0, x.1.now)) result (name_at table.now prefix bytes.now) }
+    ensures { GivesOr (λ x. (octets x.0, x.1.now)) result (name_at table.now prefix bytes.now) }
 {
     let (index, rest) = integer_at(bytes, prefix).map_err(Or::Fault)?;
     if index == 0 {
         return string_at(alloc, rest);
     }
     let (name, _) = entry_or(table, index, rest).map_err(Or::Fault)?;
-    Ok((Bytes::of(alloc, name)?, rest))
+    Ok((Octets::Standing(name), rest))
 }
 
-/// The literal header in front, and the bytes behind it.
+/// The name and the value of the literal in front, and the bytes behind it.
 #[tactic(auto, unfolding(crate::specs::Block::literal_at))]
-fn literal_at<'b>(
+fn literal_at<'a, 'b: 'a>(
     alloc: Global,
-    table: &DynamicTable,
+    table: &'a DynamicTable,
     bytes: &'b [u8],
     prefix: u8,
-) -> Result<(Header, &'b [u8]), Or<Stop>>
+) -> Result<(Octets<'a>, Octets<'b>, &'b [u8]), Or<Stop>>
     requires { prefix < 8 }
-    ensures { GivesOr (λ x. (x.0, x.1.now)) result (literal_at table.now prefix bytes.now) }
+    ensures { GivesOr (λ x. (header (octets x.0) (octets x.1), x.2.now)) result (literal_at table.now prefix bytes.now) }
 {
     let (name, rest) = name_at(alloc, table, bytes, prefix)?;
     let (value, rest) = string_at(alloc, rest)?;
-    Ok((Header { name, value }, rest))
+    Ok((name, value, rest))
 }
 
-/// The indexed header in front, and the bytes behind it.
+/// The name and the value of the indexed header in front, and the bytes behind it.
 #[tactic(auto, unfolding(crate::specs::Block::indexed_at))]
-fn indexed_at<'b>(
-    alloc: Global,
-    table: &DynamicTable,
+fn indexed_at<'a, 'b>(
+    table: &'a DynamicTable,
     bytes: &'b [u8],
-) -> Result<(Header, &'b [u8]), Or<Stop>>
-    ensures { GivesOr (λ x. (x.0, x.1.now)) result (indexed_at table.now bytes.now) }
+) -> Result<(&'a [u8], &'a [u8], &'b [u8]), Stop>
+    ensures { Gives (λ x. (header x.0.now x.1.now, x.2.now)) result (indexed_at table.now bytes.now) }
 {
-    let (index, rest) = integer_at(bytes, 7).map_err(Or::Fault)?;
-    let (name, value) = entry_or(table, index, rest).map_err(Or::Fault)?;
-    let name = Bytes::of(alloc, name)?;
-    let value = Bytes::of(alloc, value)?;
-    Ok((Header { name, value }, rest))
+    let (index, rest) = integer_at(bytes, 7)?;
+    let (name, value) = entry_or(table, index, rest)?;
+    Ok((name, value, rest))
 }
 
-/// The header that the representation in front stands for, and the bytes behind it. On an error the table isn't
-/// used again.
-#[tactic(auto, unfolding(crate::specs::Block::field_at))]
-pub(crate) fn field_at<'b>(
+/// Adds the header of the literal in front to the list and to the table. Gives the bytes behind it. On an error
+/// neither is used again.
+fn enter<'b>(
     alloc: Global,
     table: &mut DynamicTable,
+    list: &mut HeaderList,
     bytes: &'b [u8],
-) -> Result<(Header, &'b [u8]), Or<Stop>>
-    ensures { GivesOr (λ x. field x.0 table.new x.1.now) result (field_at table.old bytes.now) }
+) -> Result<&'b [u8], Or<Stop>>
+    ensures { Adds list.old list.new table.new result (entered_at table.old bytes.now) }
+{
+    let (name, value, rest) = literal_at(alloc, table, bytes, 6)?;
+    let entry = Entry::of(alloc, name.as_slice(), value.as_slice())?;
+    list.add(alloc, name, value)?;
+    table.add(entry)?;
+    Ok(rest)
+}
+
+/// Adds the header that the representation in front stands for to the list. Gives the bytes behind it. On an error
+/// the list and the table aren't used again.
+#[tactic(auto, unfolding(crate::specs::Block::field_at))]
+pub(crate) fn add_field<'b>(
+    alloc: Global,
+    table: &mut DynamicTable,
+    list: &mut HeaderList,
+    bytes: &'b [u8],
+) -> Result<&'b [u8], Or<Stop>>
+    ensures { Adds list.old list.new table.new result (field_at table.old bytes.now) }
 {
     let Some(first) = bytes.first() else {
         return Err(Or::Fault(Stop {
@@ -118,12 +136,12 @@ pub(crate) fn field_at<'b>(
         }));
     };
     if 128 <= *first {
-        return indexed_at(alloc, table, bytes);
+        let (name, value, rest) = indexed_at(table, bytes).map_err(Or::Fault)?;
+        list.add(alloc, Octets::Standing(name), Octets::Standing(value))?;
+        return Ok(rest);
     }
     if 64 <= *first {
-        let (header, rest) = literal_at(alloc, table, bytes, 6)?;
-        table.add(header.copy(alloc)?)?;
-        return Ok((header, rest));
+        return enter(alloc, table, list, bytes);
     }
     if 32 <= *first {
         return Err(Or::Fault(Stop {
@@ -131,5 +149,7 @@ pub(crate) fn field_at<'b>(
             why: HpackWhy::LateSize,
         }));
     }
-    literal_at(alloc, table, bytes, 4)
+    let (name, value, rest) = literal_at(alloc, table, bytes, 4)?;
+    list.add(alloc, name, value)?;
+    Ok(rest)
 }

@@ -1,5 +1,4 @@
-use Rattle.std.proofs.Common.{◌<◌, ◌∙◌, ◌++◌, ◌∷◌, [], sym, arith, length, List, ℕ, Bor}
-use Rattle.hb_hpack.specs.declared.header.Header.{Header}
+use Rattle.std.proofs.Common.{◌<◌, ◌∙◌, ◌++◌, ◌∷◌, [], sym, arith, length}
 use Rattle.std.proofs.lemmas.Result.{err_from_is_err_and}
 use Rattle.std.proofs.lemmas.Bool.{eqb-true, eqb-false}
 use Rattle.hb_hpack.specs.Block.{field, field_at, headers_at}
@@ -15,27 +14,28 @@ loop-rest-init c = record {
   same = headers_start (headers_at (length c.args.bytes.now) c.args.table.now c.args.bytes.now);
 }
 
-pub returns-in_err-header : goal.returns-in_err-header
-returns-in_err-header c =
+pub returns-in_err-rest : goal.returns-in_err-rest
+returns-in_err-rest c =
     let p = err_from_is_err_and c.from_residual.result c.from_residual.ensures.1 in
     let ne = eqb-false _ _ (sym c.is_empty.ensures ∙ c.loop-rest-test.true) in
     let some : 0 < length c.loop-rest.rest.now = omega (arith, ne) in
-    rw (p.1, p.2) (list_stops (λ (x : Header × Bor (List ℕ)). field x.0 c.field_at.new.table x.1.now) c.in_err-header.field-0.0 c.field_at.new.table (field_at c.loop-rest.table c.loop-rest.rest.now) _ c.in_err-header.ensures
+    rw (p.1, p.2) (list_stops c.loop-rest.list c.add_field.new.list c.add_field.new.table c.in_err-rest.field-0.0 (field_at c.loop-rest.table c.loop-rest.rest.now) _ c.in_err-rest.ensures
     (λ s e. headers_stop c.loop-rest.table c.loop-rest.rest.now s c.loop-rest.invariant.headers _ some e c.loop-rest.invariant.same))
 
 pub loop-rest-smaller : goal.loop-rest-smaller
-loop-rest-smaller c = (field_leaves c.loop-rest.table c.loop-rest.rest.now (field c.in_ok-header.header c.field_at.new.table c.in_ok-header.after.now) c.loop-rest.invariant.octets c.in_ok-header.ensures).1
+loop-rest-smaller c = let h = c.in_ok-rest.ensures in (field_leaves c.loop-rest.table c.loop-rest.rest.now (field h.0 c.add_field.new.table c.in_ok-rest.rest.now) c.loop-rest.invariant.octets h.1).1
 
 pub loop-rest-preserved : goal.loop-rest-preserved
 loop-rest-preserved c =
     let ne = eqb-false _ _ (sym c.is_empty.ensures ∙ c.loop-rest-test.true) in
     let some : 0 < length c.loop-rest.rest.now = omega (arith, ne) in
+    let h = c.in_ok-rest.ensures in
     record {
-      octets = (field_leaves c.loop-rest.table c.loop-rest.rest.now (field c.in_ok-header.header c.field_at.new.table c.in_ok-header.after.now) c.loop-rest.invariant.octets c.in_ok-header.ensures).0;
-      headers = c.loop-rest.invariant.headers ++ c.in_ok-header.header ∷ [];
-      list = c.in_ok-add.ensures c.loop-rest.invariant.headers c.loop-rest.invariant.list;
-      same = headers_step_on c.loop-rest.table c.loop-rest.rest.now (field c.in_ok-header.header c.field_at.new.table c.in_ok-header.after.now) c.loop-rest.invariant.headers _ some
-          c.loop-rest.invariant.octets c.in_ok-header.ensures c.loop-rest.invariant.same;
+      octets = (field_leaves c.loop-rest.table c.loop-rest.rest.now (field h.0 c.add_field.new.table c.in_ok-rest.rest.now) c.loop-rest.invariant.octets h.1).0;
+      headers = c.loop-rest.invariant.headers ++ h.0 ∷ [];
+      list = h.2 c.loop-rest.invariant.headers c.loop-rest.invariant.list;
+      same = headers_step_on c.loop-rest.table c.loop-rest.rest.now (field h.0 c.add_field.new.table c.in_ok-rest.rest.now) c.loop-rest.invariant.headers _ some
+          c.loop-rest.invariant.octets h.1 c.loop-rest.invariant.same;
     }
 
 pub returns : goal.returns

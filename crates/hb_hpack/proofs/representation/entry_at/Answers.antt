@@ -1,6 +1,5 @@
-use Rattle.std.proofs.Common.{◌≡◌, ◌∙◌, sym, ap, refl, arith, Some}
+use Rattle.std.proofs.Common.{◌∙◌, sym, ap, arith, Some}
 use Rattle.hb_hpack.specs.declared.header.Header.{Header}
-use Rattle.hb_hpack.specs.StaticTable.{header}
 use Rattle.hb_hpack.proofs.Entries.{entry_none, entry_static, entry_dynamic}
 use Rattle.hb_hpack.proofs.representation.entry_at.Goals as goal
 
@@ -17,5 +16,4 @@ returns-in-None c =
 
 pub returns-in-Some : goal.returns-in-Some
 returns-in-Some c =
-    let same : header c.as_slice.result.now c.as_slice-in-Some.result.now ≡ c.in-Some.entry.now = rw (c.as_slice.ensures, c.as_slice-in-Some.ensures) refl in
-    ap (λ (h : Header). Some h) same ∙ c.in-Some.ensures ∙ sym (entry_dynamic c.args.table.now c.args.index (omega (arith, c.if-index-eq0.false)) c.if-place-lt61.false)
+    ap (λ (h : Header). Some h) c.parts.ensures ∙ c.in-Some.ensures ∙ sym (entry_dynamic c.args.table.now c.args.index (omega (arith, c.if-index-eq0.false)) c.if-place-lt61.false)
