@@ -30,7 +30,7 @@ fn is_update(bytes: &[u8]) -> bool
 
 /// The maximum of the size update in front, and the bytes behind it.
 #[tactic(auto, unfolding(crate::specs::Block::update_at))]
-fn update_at(bytes: &[u8]) -> Result<(u32, &[u8]), Stop>
+fn update_at(bytes: &[u8]) -> Result<(usize, &[u8]), Stop>
     ensures { Gives (λ x. (x.0, x.1.now)) result (update_at bytes.now) }
 {
     let (maximum, rest) = integer_at(bytes, 5)?;
@@ -50,7 +50,7 @@ fn updates_at<'b>(table: &mut DynamicTable, bytes: &'b [u8]) -> Result<&'b [u8],
     let mut rest = bytes;
     while is_update(rest) {
         let (maximum, after) = update_at(rest)?;
-        table.resize(u64::from(maximum));
+        table.resize(maximum as u64);
         rest = after;
     }
     Ok(rest)

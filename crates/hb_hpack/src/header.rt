@@ -25,6 +25,7 @@ pub struct HeaderList {
 }
 
 /// The size of the header of this name and this value (RFC 7541 section 4.1).
+#[inline(always)]
 fn size_of(name: &[u8], value: &[u8]) -> u64
     ensures { result ≡ min (size_of (header name.now value.now)) (2 ^ 64 - 1) }
 {
@@ -54,6 +55,7 @@ impl HeaderList {
 
     /// Adds the header of this name and this value, which are copied only where they are kept. On NoMemory the list
     /// isn't used again.
+    #[inline(always)]
     pub(crate) fn add(
         &mut self,
         alloc: Global,

@@ -13,6 +13,7 @@ use std::alloc::Global;
 
 /// The string literal in front, and the bytes behind it.
 #[tactic(auto, unfolding(crate::specs::Literal::string_at))]
+#[inline(always)]
 pub(crate) fn string_at(alloc: Global, bytes: &[u8]) -> Result<(Octets<'_>, &[u8]), Or<Stop>>
     ensures { GivesOr (λ x. (octets x.0, x.1.now)) result (string_at bytes.now) }
 {
@@ -23,7 +24,6 @@ pub(crate) fn string_at(alloc: Global, bytes: &[u8]) -> Result<(Octets<'_>, &[u8
         }));
     };
     let (length, rest) = integer_at(bytes, 7).map_err(Or::Fault)?;
-    let length = length as usize;
     if rest.len() < length {
         return Err(Or::Fault(Stop {
             left: 0,

@@ -18,6 +18,7 @@ impl<'a> Octets<'a> {
     ghost use Rattle.std.specs.Prelude.{◌≡◌, IfOk};
     ghost use Rattle.hb_hpack.specs.Literal.{octets};
 
+    #[inline(always)]
     pub(crate) fn as_slice(&self) -> &[u8]
         ensures { result.now ≡ octets self.now }
     {
@@ -28,6 +29,7 @@ impl<'a> Octets<'a> {
     }
 
     /// These octets as bytes of their own.
+    #[inline(always)]
     pub(crate) fn into_bytes(self, alloc: Global) -> Result<Bytes, NoMemory>
         ensures { IfOk result (λ r. r ≡ octets self.entry) }
     {

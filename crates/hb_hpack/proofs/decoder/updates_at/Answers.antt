@@ -15,7 +15,7 @@ returns-in_err-maximum c =
 pub resize-requires : goal.resize-requires
 resize-requires c =
     let t = update_take c.loop-rest.rest.now c.in_ok-maximum.maximum c.in_ok-maximum.after.now c.loop-rest.invariant.octets (sym c.is_update.ensures ∙ c.loop-rest-test.true) c.in_ok-maximum.ensures in
-    omega (arith, c.from.ensures, t.small)
+    t.small
 
 pub loop-rest-smaller : goal.loop-rest-smaller
 loop-rest-smaller c =
@@ -27,7 +27,7 @@ loop-rest-preserved c =
     let t = update_take c.loop-rest.rest.now c.in_ok-maximum.maximum c.in_ok-maximum.after.now c.loop-rest.invariant.octets (sym c.is_update.ensures ∙ c.loop-rest-test.true) c.in_ok-maximum.ensures in
     record {
       octets = (update_leaves c.loop-rest.rest.now c.in_ok-maximum.maximum c.in_ok-maximum.after.now t c.loop-rest.invariant.octets).0;
-      same = rw (c.resize.ensures, c.from.ensures)
+      same = rw c.resize.ensures
           (updates_step c.loop-rest.table c.loop-rest.rest.now c.in_ok-maximum.maximum c.in_ok-maximum.after.now _ t c.loop-rest.invariant.octets
           (sym c.is_update.ensures ∙ c.loop-rest-test.true) c.in_ok-maximum.ensures c.loop-rest.invariant.same);
     }
