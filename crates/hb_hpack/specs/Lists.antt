@@ -21,7 +21,8 @@ pub record IsListOf (headers : List Header) (list : HeaderList) : Type 0 where
 -- or its fault, want of memory aside.
 abbrev pub Adds : HeaderList → HeaderList → Table → Result (Bor (List ℕ)) (Or Stop) → Result Field Stop → Type 0
 Adds old new table (Ok rest) read =
-    (h : Header) × (read ≡ Ok (field h table rest.now)) × ((headers : List Header) → IsListOf headers old → IsListOf (headers ++ h ∷ []) new)
+    (h : Header) × (read ≡ Ok (field h table rest.now))
+    × ((headers : List Header) → IsListOf headers old → IsListOf (headers ++ h ∷ []) new)
 Adds old new table (Err (or.Fault s)) read = read ≡ Err s
 Adds old new table (Err or.NoMemory) read = Unit {0}
 

@@ -11,4 +11,5 @@ returns-in-Ok c =
 
 pub returns-in-Err : goal.returns-in-Err
 returns-in-Err c =
-    ap (λ (t : Table). block_at t c.args.b.now) (sym c.self.view_is) ∙ block_stops c.self.inside.table c.args.b.now c.in-Err.stop c.in-Err.ensures
+    ap (λ (t : Table). block_at t c.args.b.now) (sym c.self.view_is)
+    ∙ block_stops c.self.inside.table c.args.b.now c.in-Err.stop c.in-Err.ensures
