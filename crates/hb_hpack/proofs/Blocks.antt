@@ -5,13 +5,14 @@ use Rattle.std.proofs.lemmas.List.{append-nil, length-append}
 use Rattle.hb_hpack.specs.declared.header.Header.{Header}
 use Rattle.hb_hpack.specs.declared.fault.Stop.{Stop}
 use Rattle.hb_hpack.specs.Outcome.{◌>>=◌}
-use Rattle.hb_hpack.specs.Integer.{IsInteger, integer_at}
+use Rattle.hb_hpack.specs.Integer.{IsInteger}
+use Rattle.hb_hpack.specs.Reader.{integer_at, Field, field_at, headers_at, with_header, is_update, update_at, updates_at, block_at, Adds, with_headers, GivesList}
 use Rattle.hb_hpack.specs.Table.{Table, resized}
-use Rattle.hb_hpack.specs.Block.{ReadsHeaders, ReadsBehind, Reads, Field, field_at, headers_at, with_header, is_update, update_at, updates_at, block_at}
+use Rattle.hb_hpack.specs.Block.{ReadsHeaders, ReadsBehind, Reads}
 use Rattle.hb_hpack.specs.declared.header.HeaderList.{HeaderList}
 use Rattle.hb_base.specs.declared.or.Or.{Or}
 use Rattle.hb_base.specs.declared.or.Or.TheVariants as or
-use Rattle.hb_hpack.specs.Lists.{Adds, IsListOf, with_headers, GivesList}
+use Rattle.hb_hpack.specs.Decoded.{IsListOf}
 use Rattle.hb_hpack.proofs.CodeTable.{both}
 use Rattle.hb_hpack.proofs.Outcomes.{bind_ok, ok_is, chosen, no_value, AreOctets, octets_back}
 use Rattle.hb_hpack.proofs.Groups.{integer_take, integer_again, integer_some}

@@ -2,7 +2,8 @@
 use Rattle.std.proofs.Common.{◌≡◌, ℕ, zero, suc, ◌+◌, ◌*◌, ◌/◌, ◌%◌, ◌^◌, ◌<◌, ◌≤◌, ltb, List, [], ◌∷◌, ◌++◌, length, Ok, refl, sym, ap, ◌∙◌, arith, inl, inr}
 use Rattle.std.proofs.lemmas.Bool.{lt-ltb, le-ltb, ltb-true, ltb-false}
 use Rattle.std.proofs.lemmas.Nat.{pow_pos, shr_split, mod_low}
-use Rattle.hb_hpack.specs.Integer.{AreGroups, full, IsInteger, groups_from, integer_at}
+use Rattle.hb_hpack.specs.Integer.{AreGroups, full, IsInteger}
+use Rattle.hb_hpack.specs.Reader.{groups_from, integer_at}
 use Rattle.hb_hpack.proofs.Outcomes.{ok_is, chosen, no_value, AreOctets}
 use Rattle.hb_hpack.proofs.Integers.{integer_within, integer_beyond}
 

@@ -3,7 +3,8 @@ use Rattle.std.proofs.Common.{◌≡◌, ℕ, suc, ◌-◌, ◌*◌, ◌%◌, �
 use Rattle.std.proofs.Math.Nat.{pow-le-pow_right}
 use Rattle.std.proofs.lemmas.Nat.{mul-le, one_shl, and_mask}
 use Rattle.std.proofs.lemmas.Bool.{lt-ltb, le-ltb}
-use Rattle.hb_hpack.specs.Integer.{full, groups_from, integer_at}
+use Rattle.hb_hpack.specs.Integer.{full}
+use Rattle.hb_hpack.specs.Reader.{groups_from, integer_at}
 
 -- the weight of a group that may be there
 pub weight_small : (left weight : ℕ) → 0 < left → weight ≡ 128 ^ (5 - left) → weight ≤ 2 ^ 28

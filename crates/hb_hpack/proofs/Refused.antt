@@ -9,12 +9,12 @@ use Rattle.hb_hpack.specs.declared.fault.Stop.{Stop}
 use Rattle.hb_hpack.specs.declared.fault.HpackWhy.{HpackWhy}
 use Rattle.hb_hpack.specs.declared.fault.HpackWhy.TheVariants.{BadIndex, LongInteger, Truncated, BadHuffman, BadSize, LateSize}
 use Rattle.hb_hpack.specs.Outcome.{stop, ◌>>=◌}
-use Rattle.hb_hpack.specs.Integer.{full, IsInteger, groups_from, integer_at}
+use Rattle.hb_hpack.specs.Integer.{full, IsInteger}
+use Rattle.hb_hpack.specs.Reader.{groups_from, integer_at, string_at, Field, field, name_at, literal_at, indexed_at, field_at, headers_at, is_update, update_at, block_at}
 use Rattle.hb_hpack.specs.HuffmanSteps.{text_of}
 use Rattle.hb_hpack.specs.Huffman.{Spells}
-use Rattle.hb_hpack.specs.Literal.{string_at}
 use Rattle.hb_hpack.specs.Table.{Table, resized}
-use Rattle.hb_hpack.specs.Block.{ReadsHeaders, ReadsBehind, Reads, Field, field, name_at, literal_at, indexed_at, field_at, headers_at, is_update, update_at, block_at}
+use Rattle.hb_hpack.specs.Block.{ReadsHeaders, ReadsBehind, Reads}
 use Rattle.hb_hpack.specs.Breaks.{number_of, BreaksInteger, integer_ends, integer_too_long, IsHuffmanBit, BreaksString, no_string, in_length, string_ends, no_text, BreaksName, in_index, no_entry, in_new, BreaksLiteral, in_name, in_value, BreaksHeader, in_indexed, no_header, in_entered, in_passed, in_never, BreaksUpdate, in_maximum, too_large, BreaksAt, in_update, in_header, late_update}
 use Rattle.hb_hpack.proofs.Integers.{integer_beyond}
 use Rattle.hb_hpack.proofs.Groups.{low_of, integer_again}

@@ -4,11 +4,11 @@ use Rattle.std.proofs.lemmas.Bool.{eqb-true, ne_eqb, leb-true, leb-false, le-leb
 use Rattle.std.proofs.lemmas.List.{append-nil}
 use Rattle.hb_hpack.specs.declared.header.Header.{Header}
 use Rattle.hb_hpack.specs.Outcome.{◌>>=◌}
-use Rattle.hb_hpack.specs.Integer.{IsInteger, integer_at}
-use Rattle.hb_hpack.specs.Literal.{string_at}
+use Rattle.hb_hpack.specs.Integer.{IsInteger}
+use Rattle.hb_hpack.specs.Reader.{integer_at, string_at, entry_or, name_at, literal_at, indexed_at, Field, field, field_at}
 use Rattle.hb_hpack.specs.StaticTable.{header}
 use Rattle.hb_hpack.specs.Table.{Table, added, entry_at}
-use Rattle.hb_hpack.specs.Block.{IsName, IsLiteral, Represents, entry_or, name_at, literal_at, indexed_at, Field, field, field_at}
+use Rattle.hb_hpack.specs.Block.{IsName, IsLiteral, Represents}
 use Rattle.hb_hpack.proofs.Outcomes.{bind_ok, ok_is, chosen, no_value, AreOctets, octets_back}
 use Rattle.hb_hpack.proofs.Groups.{integer_take, integer_again, integer_some}
 use Rattle.hb_hpack.proofs.Strings.{string_take, string_again}

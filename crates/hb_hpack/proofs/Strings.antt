@@ -2,10 +2,11 @@
 use Rattle.std.proofs.Common.{◌≡◌, ℕ, suc, ◌<◌, ◌≤◌, cond, ltb, List, [], ◌∷◌, ◌++◌, length, take, drop, Option, Some, None, Ok, refl, sym, ap, subst, ◌∙◌, arith, append_assoc, inl, inr}
 use Rattle.std.proofs.lemmas.Bool.{lt-ltb, le-ltb, ltb-true, ltb-false}
 use Rattle.std.proofs.lemmas.List.{take-append-drop, take_at, drop_at, length-append, length-take}
-use Rattle.hb_hpack.specs.Integer.{IsInteger, integer_at}
+use Rattle.hb_hpack.specs.Integer.{IsInteger}
+use Rattle.hb_hpack.specs.Reader.{integer_at, coded_at, string_at}
 use Rattle.hb_hpack.specs.Huffman.{Spells}
 use Rattle.hb_hpack.specs.HuffmanSteps.{text_of}
-use Rattle.hb_hpack.specs.Literal.{IsString, coded_at, string_at}
+use Rattle.hb_hpack.specs.Literal.{IsString}
 use Rattle.hb_hpack.proofs.Outcomes.{bind_ok, ok_is, chosen, no_value, AreOctets}
 use Rattle.hb_hpack.proofs.Groups.{integer_take, integer_again, integer_some}
 use Rattle.hb_hpack.proofs.Reading.{read_is_spelled, spelled_is_read}

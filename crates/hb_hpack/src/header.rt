@@ -40,8 +40,8 @@ const MOST_KEPT: u64 = 16384;
 impl HeaderList {
     ghost use Rattle.std.specs.Prelude.{List as list, [], ◌∷◌, ◌++◌, OnOk};
     ghost use Rattle.hb_hpack.specs.declared.header.Header.{Header};
-    ghost use Rattle.hb_hpack.specs.Lists.{IsListOf};
-    ghost use Rattle.hb_hpack.specs.Literal.{octets};
+    ghost use Rattle.hb_hpack.specs.Decoded.{IsListOf};
+    ghost use Rattle.hb_hpack.specs.Reader.{octets};
     ghost use Rattle.hb_hpack.specs.StaticTable.{header};
 
     pub(crate) fn new(alloc: Global) -> HeaderList
@@ -62,7 +62,8 @@ impl HeaderList {
         name: Octets<'_>,
         value: Octets<'_>,
     ) -> Result<(), NoMemory>
-        ensures { OnOk result ((headers : list Header) → IsListOf headers self.old → IsListOf (headers ++ header (octets name.entry) (octets value.entry) ∷ []) self.new) }
+        ensures { OnOk result ((headers : list Header) → IsListOf headers self.old
+            → IsListOf (headers ++ header (octets name.entry) (octets value.entry) ∷ []) self.new) }
     {
         let size = size_of(name.as_slice(), value.as_slice());
         self.size = self.size.saturating_add(size);

@@ -2,13 +2,13 @@
 
 ghost use Rattle.std.specs.Prelude.{◌≡◌, ◌+◌, ◌-◌, ◌*◌, ◌^◌, ◌<◌, ◌≤◌};
 ghost use Rattle.hb_hpack.specs.Outcome.{Gives};
-ghost use Rattle.hb_hpack.specs.Integer.{groups_from, integer_at};
+ghost use Rattle.hb_hpack.specs.Reader.{groups_from, integer_at};
 
 use crate::fault::{HpackWhy, Stop};
 
 /// The groups of seven bits from the one of this weight on, behind groups that make `value`; at most `left` of
 /// them are there. Gives the bytes behind them too.
-#[tactic(auto, unfolding(crate::specs::Integer::groups_from))]
+#[tactic(auto, unfolding(crate::specs::Reader::groups_from))]
 fn groups_from(bytes: &[u8], left: u8, weight: u64, value: u64) -> Result<(usize, &[u8]), Stop>
     requires left { left ≤ 5 }
     requires weight { weight ≡ 128 ^ (5 - left) }
@@ -41,7 +41,7 @@ fn groups_from(bytes: &[u8], left: u8, weight: u64, value: u64) -> Result<(usize
 }
 
 /// The integer in front with a prefix of so many bits, and the bytes behind it.
-#[tactic(auto, unfolding(crate::specs::Integer::integer_at))]
+#[tactic(auto, unfolding(crate::specs::Reader::integer_at))]
 #[inline(always)]
 pub(crate) fn integer_at(bytes: &[u8], prefix: u8) -> Result<(usize, &[u8]), Stop>
     requires { prefix < 8 }

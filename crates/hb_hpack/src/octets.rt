@@ -1,7 +1,7 @@
 //! Octets of a header before it is known whether they are kept.
 
 ghost use Rattle.std.specs.Prelude.{◌≡◌};
-ghost use Rattle.hb_hpack.specs.Literal.{octets};
+ghost use Rattle.hb_hpack.specs.Reader.{octets};
 
 use hb_base::{Bytes, NoMemory};
 use std::alloc::Global;
@@ -16,7 +16,7 @@ pub enum Octets<'a> {
 
 impl<'a> Octets<'a> {
     ghost use Rattle.std.specs.Prelude.{◌≡◌, IfOk};
-    ghost use Rattle.hb_hpack.specs.Literal.{octets};
+    ghost use Rattle.hb_hpack.specs.Reader.{octets};
 
     #[inline(always)]
     pub(crate) fn as_slice(&self) -> &[u8]

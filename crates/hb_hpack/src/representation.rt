@@ -5,9 +5,7 @@ ghost use Rattle.std.specs.Option.{option_map};
 ghost use Rattle.hb_hpack.specs.Outcome.{Gives, GivesOr};
 ghost use Rattle.hb_hpack.specs.StaticTable.{header};
 ghost use Rattle.hb_hpack.specs.Table.{entry_at};
-ghost use Rattle.hb_hpack.specs.Literal.{octets};
-ghost use Rattle.hb_hpack.specs.Block.{entry_or, name_at, literal_at, indexed_at, entered_at, field_at};
-ghost use Rattle.hb_hpack.specs.Lists.{Adds};
+ghost use Rattle.hb_hpack.specs.Reader.{octets, entry_or, name_at, literal_at, indexed_at, entered_at, field_at, Adds};
 
 use crate::dynamic_table::{DynamicTable, Entry};
 use crate::fault::{HpackWhy, Stop};
@@ -56,7 +54,7 @@ fn entry_or<'a>(
 }
 
 /// The name in front of a literal, and the bytes behind it.
-#[tactic(auto, unfolding(crate::specs::Block::name_at))]
+#[tactic(auto, unfolding(crate::specs::Reader::name_at))]
 #[inline(always)]
 fn name_at<'a, 'b: 'a>(
     alloc: Global,
@@ -76,7 +74,7 @@ fn name_at<'a, 'b: 'a>(
 }
 
 /// The name and the value of the literal in front, and the bytes behind it.
-#[tactic(auto, unfolding(crate::specs::Block::literal_at))]
+#[tactic(auto, unfolding(crate::specs::Reader::literal_at))]
 #[inline(always)]
 fn literal_at<'a, 'b: 'a>(
     alloc: Global,
@@ -93,7 +91,7 @@ fn literal_at<'a, 'b: 'a>(
 }
 
 /// The name and the value of the indexed header in front, and the bytes behind it.
-#[tactic(auto, unfolding(crate::specs::Block::indexed_at))]
+#[tactic(auto, unfolding(crate::specs::Reader::indexed_at))]
 #[inline(always)]
 fn indexed_at<'a, 'b>(
     table: &'a DynamicTable,
@@ -126,7 +124,7 @@ fn enter<'b>(
 
 /// Adds the header that the representation in front stands for to the list. Gives the bytes behind it. On an error
 /// the list and the table aren't used again.
-#[tactic(auto, unfolding(crate::specs::Block::field_at))]
+#[tactic(auto, unfolding(crate::specs::Reader::field_at))]
 #[inline(always)]
 pub(crate) fn add_field<'b>(
     alloc: Global,

@@ -1,7 +1,7 @@
 use Rattle.std.proofs.Common.{◌<◌, ◌∙◌, ◌++◌, ◌∷◌, [], sym, arith, length}
 use Rattle.std.proofs.lemmas.Result.{err_from_is_err_and}
 use Rattle.std.proofs.lemmas.Bool.{eqb-true, eqb-false}
-use Rattle.hb_hpack.specs.Block.{field, field_at, headers_at}
+use Rattle.hb_hpack.specs.Reader.{field, field_at, headers_at}
 use Rattle.hb_hpack.proofs.Writing.{octets_of}
 use Rattle.hb_hpack.proofs.Blocks.{field_leaves, headers_step_on, headers_stop, headers_end, headers_start, list_stops}
 use Rattle.hb_hpack.proofs.decoder.headers_at.Goals as goal

@@ -1,5 +1,6 @@
 use Rattle.std.proofs.Common.{◌≡◌, ◌%◌, ◌^◌, ◌<◌, ◌≤◌, ◌∙◌}
-use Rattle.hb_hpack.specs.Integer.{integer_at, full, groups_from}
+use Rattle.hb_hpack.specs.Reader.{integer_at, groups_from}
+use Rattle.hb_hpack.specs.Integer.{full}
 use Rattle.hb_hpack.proofs.Integers.{full_is, low_is, integer_within, integer_beyond}
 use Rattle.hb_hpack.proofs.integer.integer_at.Goals as goal
 

@@ -1,6 +1,6 @@
 use Rattle.std.proofs.Common.{◌∙◌, sym, ap}
 use Rattle.hb_hpack.specs.Table.{Table}
-use Rattle.hb_hpack.specs.Block.{block_at}
+use Rattle.hb_hpack.specs.Reader.{block_at}
 use Rattle.hb_hpack.proofs.Blocks.{block_stops, block_goes_on}
 use Rattle.hb_hpack.proofs.decoder.Decoder.read.Goals as goal
 

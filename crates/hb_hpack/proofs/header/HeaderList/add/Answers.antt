@@ -1,6 +1,6 @@
 use Rattle.std.proofs.Common.{◌≡◌, ◌+◌, ◌-◌, ◌^◌, min, List, [], ◌∷◌, ◌++◌, ◌∙◌, sym, ap, refl, arith}
 use Rattle.hb_hpack.specs.declared.header.Header.{Header}
-use Rattle.hb_hpack.specs.Literal.{octets}
+use Rattle.hb_hpack.specs.Reader.{octets}
 use Rattle.hb_hpack.specs.StaticTable.{header}
 use Rattle.hb_hpack.specs.Table.{size_of, total}
 use Rattle.hb_hpack.proofs.Fitting.{total-append, kept_more, fitting_push}
