@@ -29,7 +29,8 @@ pub record MakesGroups (groups : List ℕ) (n left : ℕ) : Type 0 where
   pub are : AreGroups groups n
   pub few : length groups ≤ left
 
-one_more : (b n : ℕ) (groups : List ℕ) (high : ℕ) → 128 ≤ b → b < 256 → n + 128 ≡ b + 128 * high → AreGroups groups high → AreGroups (b ∷ groups) n
+one_more : (b n : ℕ) (groups : List ℕ) (high : ℕ) → 128 ≤ b → b < 256 → n + 128 ≡ b + 128 * high → AreGroups groups high
+    → AreGroups (b ∷ groups) n
 one_more b n [] high le lt e are = absurd are
 one_more b n (c ∷ groups) high le lt e are = (le, lt, high, e, are)
 
@@ -37,14 +38,19 @@ groups_made : (left most n : ℕ) → n < 128 ^ left → left ≤ most → 0 < l
 groups_made zero most n small le some = absurd (omega arith)
 groups_made (suc left) most n small le some =
     elim (cases_lt n 128) [
-      | inl lt ↦ subst (λ (xs : List ℕ). MakesGroups xs n (suc left)) (sym (groups_last most n (omega arith) lt)) (record { are = (lt, refl); few = omega arith })
+      | inl lt ↦ subst (λ (xs : List ℕ). MakesGroups xs n (suc left)) (sym (groups_last most n (omega arith) lt))
+          (record { are = (lt, refl); few = omega arith })
       | inr ge ↦
           let power : 128 ^ suc left ≡ 128 * 128 ^ left = omega arith in
           let below : n / 128 < 128 ^ left = omega arith in
           let more : 0 < left = left_more left n small ge in
           let r = groups_made left (most - 1) (n / 128) below (omega arith) more in
           subst (λ (xs : List ℕ). MakesGroups xs n (suc left)) (sym (groups_more most n (omega arith) ge))
-          (record { are = one_more (n % 128 + 128) n (groups_of (most - 1) (n / 128)) (n / 128) (omega arith) (omega arith) (omega arith) r.are; few = omega (arith, r.few) })
+          (record {
+            are = one_more (n % 128 + 128) n (groups_of (most - 1) (n / 128)) (n / 128) (omega arith) (omega arith)
+                (omega arith) r.are;
+            few = omega (arith, r.few);
+          })
     ]
   where
     left_more : (left n : ℕ) → n < 128 ^ suc left → 128 ≤ n → 0 < left
@@ -57,7 +63,8 @@ integer_is prefix flag n small =
       | inl lt ↦ IsInteger.within lt (integer_small prefix flag n lt)
       | inr ge ↦
           let r = groups_made 5 10 (n - full prefix) (omega arith) (omega arith) (omega arith) in
-          IsInteger.beyond (groups_of 10 (n - full prefix)) (n - full prefix) (integer_large prefix flag n ge) r.are r.few (omega arith) small
+          IsInteger.beyond (groups_of 10 (n - full prefix)) (n - full prefix) (integer_large prefix flag n ge) r.are r.few
+          (omega arith) small
     ]
 
 -- ---- strings
@@ -66,7 +73,8 @@ string_is : (spelling : Spelling) (text : List ℕ) → CanSpell spelling text �
 unfolding string_of
 string_is Plain text can = IsString.plain (integer_of 7 0 (length text)) (integer_is 7 0 (length text) can) refl
 string_is Huffman text can =
-    IsString.coded (integer_of 7 128 (length (spelled Huffman text))) (spelled Huffman text) (integer_is 7 128 (length (spelled Huffman text)) can.0) (is_spelled text can.1) refl
+    IsString.coded (integer_of 7 128 (length (spelled Huffman text))) (spelled Huffman text)
+    (integer_is 7 128 (length (spelled Huffman text)) can.0) (is_spelled text can.1) refl
 
 -- ---- headers
 
@@ -87,10 +95,12 @@ found test [] k i e = absurd cc
 found test (h ∷ hs) k i e =
     elim (chosen (test h) _ _ _ e) [
       | inl p ↦ record { place = 0; entry = h; index = sym (some_is k i p.1) ∙ omega arith; there = refl; meets = p.0 }
-      | inr p ↦ let r = found test hs (suc k) i p.1 in record { place = suc r.place; entry = r.entry; index = r.index ∙ omega arith; there = r.there; meets = r.meets }
+      | inr p ↦ let r = found test hs (suc k) i p.1 in
+          record { place = suc r.place; entry = r.entry; index = r.index ∙ omega arith; there = r.there; meets = r.meets }
     ]
 
-static_found : (test : Header → Bool) (table : Table) (i : ℕ) (f : Found test 1 i static_headers) → (entry_at table i ≡ Some f.entry) × (i < 2 ^ 32)
+static_found : (test : Header → Bool) (table : Table) (i : ℕ) (f : Found test 1 i static_headers)
+    → (entry_at table i ≡ Some f.entry) × (i < 2 ^ 32)
 static_found test table i f =
     let count = static_count in
     let within = slice_get_within static_headers f.place f.entry f.there in
@@ -98,7 +108,8 @@ static_found test table i f =
     let back : i - 1 ≡ f.place = omega arith in
     (entry_static table i (omega arith) (omega arith) ∙ ap (λ k. slice_get static_headers k) back ∙ f.there, omega arith)
 
-name_is : (spelling : Spelling) (table : Table) (h : Header) (o : Option ℕ) → index_from (same_name h) 1 static_headers ≡ o → CanSpell spelling h.name → CanSpell spelling h.value
+name_is : (spelling : Spelling) (table : Table) (h : Header) (o : Option ℕ) → index_from (same_name h) 1 static_headers ≡ o
+    → CanSpell spelling h.name → CanSpell spelling h.value
     → IsLiteral table 4 0 h (literal_of o spelling h)
 name_is spelling table h (Some i) e name value =
     let f = found (same_name h) static_headers 1 i e in
@@ -118,7 +129,8 @@ same_is entry h e =
     let value : entry.value ≡ h.value = (bytes_decides entry.value h.value).0 p.1 in
     ap (λ (n : List ℕ). header n entry.value) name ∙ ap (λ (v : List ℕ). header h.name v) value
 
-represented : (spelling : Spelling) (table : Table) (h : Header) (o : Option ℕ) → index_from (same_header h) 1 static_headers ≡ o → CanSpell spelling h.name → CanSpell spelling h.value
+represented : (spelling : Spelling) (table : Table) (h : Header) (o : Option ℕ) → index_from (same_header h) 1 static_headers ≡ o
+    → CanSpell spelling h.name → CanSpell spelling h.value
     → Represents table (representation_of o spelling h) h table
 represented spelling table h (Some i) e name value =
     let f = found (same_header h) static_headers 1 i e in
@@ -127,7 +139,8 @@ represented spelling table h (Some i) e name value =
 represented spelling table h None e name value =
     Represents.passed (name_is spelling table h (index_from (same_name h) 1 static_headers) refl name value) refl
 
-headers_are : (spelling : Spelling) (table : Table) (hs : List Header) → AreWritable spelling hs → ReadsHeaders table (flat_map (header_of spelling) hs) hs table
+headers_are : (spelling : Spelling) (table : Table) (hs : List Header) → AreWritable spelling hs
+    → ReadsHeaders table (flat_map (header_of spelling) hs) hs table
 unfolding header_of
 headers_are spelling table [] can = (refl, refl)
 headers_are spelling table (h ∷ hs) can = (
@@ -143,12 +156,18 @@ headers_are spelling table (h ∷ hs) can = (
 emptied : (table : Table) → resized table 0 ≡ cleared
 emptied table = ap (λ (es : List Header). record { entries = es; maximum = 0 }) (fitting_zero table.entries)
 
-pub block_is_read : (w : Writing) (hs : List Header) (table : Table) → AreWritable w.spelling hs → MayHave w.started table → Reads table (block_of w hs) hs cleared
+pub block_is_read : (w : Writing) (hs : List Header) (table : Table) → AreWritable w.spelling hs → MayHave w.started table
+    → Reads table (block_of w hs) hs cleared
 unfolding block_of
 block_is_read w hs table can may = from_start w.started w.spelling hs table can may
   where
-    from_start : (started : Bool) (spelling : Spelling) (hs : List Header) (table : Table) → AreWritable spelling hs → MayHave started table → Reads table (opening started ++ flat_map (header_of spelling) hs) hs cleared
-    from_start true spelling hs table can may = ([], subst (λ (t : Table). ReadsHeaders t (flat_map (header_of spelling) hs) hs cleared) (sym may) (headers_are spelling cleared hs can))
+    from_start : (started : Bool) (spelling : Spelling) (hs : List Header) (table : Table) → AreWritable spelling hs
+        → MayHave started table → Reads table (opening started ++ flat_map (header_of spelling) hs) hs cleared
+    from_start true spelling hs table can may = (
+      [],
+      subst (λ (t : Table). ReadsHeaders t (flat_map (header_of spelling) hs) hs cleared) (sym may)
+          (headers_are spelling cleared hs can),
+    )
     from_start false spelling hs table can may = (
       0 ∷ [],
       (
@@ -157,14 +176,17 @@ block_is_read w hs table can may = from_start w.started w.spelling hs table can 
         refl,
         IsInteger.within (lit< tt) refl,
         lit≤ tt,
-        subst (λ (t : Table). ReadsHeaders t (flat_map (header_of spelling) hs) hs cleared) (sym (emptied table)) (headers_are spelling cleared hs can),
+        subst (λ (t : Table). ReadsHeaders t (flat_map (header_of spelling) hs) hs cleared) (sym (emptied table))
+            (headers_are spelling cleared hs can),
       ),
     )
 
 -- the block of a status
-pub status_is_read : (started : Bool) (status : ℕ) (table : Table) → MayHave started table → Reads table (opening started ++ header_of Plain (status_header status)) (status_header status ∷ []) cleared
+pub status_is_read : (started : Bool) (status : ℕ) (table : Table) → MayHave started table
+    → Reads table (opening started ++ header_of Plain (status_header status)) (status_header status ∷ []) cleared
 unfolding block_of
 status_is_read started status table may =
     let w : Writing = record { spelling = Plain; started = started } in
     let all = block_is_read w (status_header status ∷ []) table ((lit< tt, lit< tt), tt) may in
-    subst (λ (xs : List ℕ). Reads table (opening started ++ xs) (status_header status ∷ []) cleared) (append-nil (header_of Plain (status_header status))) all
+    subst (λ (xs : List ℕ). Reads table (opening started ++ xs) (status_header status ∷ []) cleared)
+    (append-nil (header_of Plain (status_header status))) all

@@ -20,7 +20,8 @@ fitting_none room h hs lt = rw (lt-leb (size_of h) room lt, fitting) refl
 pub fitting_all : (room : ℕ) (hs : List Header) → total hs ≤ room → fitting room hs ≡ hs
 unfolding fitting
 fitting_all room [] le = refl
-fitting_all room (h ∷ hs) le = fitting_more room h hs (omega arith) ∙ ap (λ (xs : List Header). h ∷ xs) (fitting_all (room - size_of h) hs (omega arith))
+fitting_all room (h ∷ hs) le = fitting_more room h hs (omega arith)
+    ∙ ap (λ (xs : List Header). h ∷ xs) (fitting_all (room - size_of h) hs (omega arith))
 
 -- the oldest entry of a list that doesn't fit
 pub fitting_push : (room : ℕ) (hs : List Header) (h : Header) → room < total (hs ++ h ∷ []) → fitting room (hs ++ h ∷ []) ≡ fitting room hs
@@ -51,7 +52,8 @@ fitting_zero [] = refl
 fitting_zero (h ∷ hs) = fitting_none 0 h hs (omega arith)
 
 -- one header more in a list
-pub kept_more : (headers : List Header) (h : Header) → total (headers ++ h ∷ []) ≤ 16384 → fitting 16384 (headers ++ h ∷ []) ≡ fitting 16384 headers ++ h ∷ []
+pub kept_more : (headers : List Header) (h : Header) → total (headers ++ h ∷ []) ≤ 16384
+    → fitting 16384 (headers ++ h ∷ []) ≡ fitting 16384 headers ++ h ∷ []
 kept_more headers h le =
     let sum : total (headers ++ h ∷ []) ≡ total headers + (size_of h + 0) = total-append headers (h ∷ []) in
     fitting_all 16384 (headers ++ h ∷ []) le ∙ ap (λ (hs : List Header). hs ++ h ∷ []) (sym (fitting_all 16384 headers (omega arith)))

@@ -2,7 +2,8 @@
 use Rattle.std.proofs.Common.{◌≡◌, ℕ, zero, suc, ◌+◌, ◌*◌, ◌/◌, ◌%◌, ◌^◌, ◌<◌, ◌≤◌, ltb, List, [], ◌∷◌, ◌++◌, length, Ok, refl, sym, ap, ◌∙◌, arith, inl, inr}
 use Rattle.std.proofs.lemmas.Bool.{lt-ltb, le-ltb, ltb-true, ltb-false}
 use Rattle.std.proofs.lemmas.Nat.{pow_pos, shr_split, mod_low}
-use Rattle.hb_hpack.specs.Integer.{AreGroups, full, IsInteger, groups_from, integer_at}
+use Rattle.hb_hpack.specs.Integer.{AreGroups, full, IsInteger}
+use Rattle.hb_hpack.specs.Reader.{groups_from, integer_at}
 use Rattle.hb_hpack.proofs.Outcomes.{ok_is, chosen, no_value, AreOctets}
 use Rattle.hb_hpack.proofs.Integers.{integer_within, integer_beyond}
 
@@ -20,7 +21,8 @@ one_more : (b : ℕ) (groups : List ℕ) (high : ℕ) → 128 ≤ b → b < 256 
 one_more b [] high le lt are = absurd are
 one_more b (c ∷ groups) high le lt are = (le, lt, high, omega arith, are)
 
-pub groups_take : (bytes : List ℕ) (left weight n value : ℕ) (rest : List ℕ) → AreOctets bytes → groups_from left weight n bytes ≡ Ok (value, rest) → TakesGroups left weight n bytes value rest
+pub groups_take : (bytes : List ℕ) (left weight n value : ℕ) (rest : List ℕ) → AreOctets bytes
+    → groups_from left weight n bytes ≡ Ok (value, rest) → TakesGroups left weight n bytes value rest
 unfolding groups_from
 groups_take [] left weight n value rest o e = absurd (no_value _ _ e)
 groups_take (b ∷ bytes) zero weight n value rest o e = absurd (no_value _ _ e)
@@ -57,7 +59,8 @@ groups_take (b ∷ bytes) (suc left) weight n value rest o e =
       ]
     ]
 
-pub groups_again : (groups : List ℕ) (high : ℕ) (rest : List ℕ) (left weight n : ℕ) → AreGroups groups high → length groups ≤ left → n + weight * high < 2 ^ 32
+pub groups_again : (groups : List ℕ) (high : ℕ) (rest : List ℕ) (left weight n : ℕ) → AreGroups groups high → length groups ≤ left
+    → n + weight * high < 2 ^ 32
     → groups_from left weight n (groups ++ rest) ≡ Ok (n + weight * high, rest)
 unfolding groups_from
 groups_again [] high rest left weight n are few small = absurd are
@@ -73,7 +76,8 @@ groups_again (b ∷ c ∷ groups) high rest (suc left) weight n are few small =
     let value : n + b % 128 * weight + 128 * weight * are.2 ≡ n + weight * high = rw high_is (omega arith) in
     let fits : n + b % 128 * weight < 2 ^ 32 = omega (arith, value) in
     rw (lt-ltb (n + b % 128 * weight) (2 ^ 32) fits, le-ltb b 128 are.0, groups_from)
-    (groups_again (c ∷ groups) are.2 rest left (128 * weight) (n + b % 128 * weight) are.4 (omega arith) (omega (arith, value)) ∙ ap (λ v. Ok (v, rest)) value)
+    (groups_again (c ∷ groups) are.2 rest left (128 * weight) (n + b % 128 * weight) are.4 (omega arith) (omega (arith, value))
+    ∙ ap (λ v. Ok (v, rest)) value)
 
 -- the integer that was read, behind these bits of the first byte
 pub record TakesInteger (prefix flag : ℕ) (bytes : List ℕ) (n : ℕ) (rest : List ℕ) : Type 0 where
@@ -81,7 +85,8 @@ pub record TakesInteger (prefix flag : ℕ) (bytes : List ℕ) (n : ℕ) (rest :
   pub parts : bytes ≡ front ++ rest
   pub is : IsInteger prefix flag n front
 
-pub integer_take : (prefix flag b : ℕ) (bytes : List ℕ) (n : ℕ) (rest : List ℕ) → AreOctets (b ∷ bytes) → b ≡ flag + b % 2 ^ prefix → integer_at prefix (b ∷ bytes) ≡ Ok (n, rest)
+pub integer_take : (prefix flag b : ℕ) (bytes : List ℕ) (n : ℕ) (rest : List ℕ) → AreOctets (b ∷ bytes) → b ≡ flag + b % 2 ^ prefix
+    → integer_at prefix (b ∷ bytes) ≡ Ok (n, rest)
     → TakesInteger prefix flag (b ∷ bytes) n rest
 unfolding integer_at
 integer_take prefix flag b bytes n rest o flag_is e =
@@ -117,7 +122,8 @@ low_of prefix flag n clear lt =
     rw flag_is (mod_low (flag / 2 ^ prefix) prefix n lt)
 
 -- an integer is read behind any bits above its prefix
-pub integer_again : (prefix flag n : ℕ) (front rest : List ℕ) → flag % 2 ^ prefix ≡ 0 → IsInteger prefix flag n front → integer_at prefix (front ++ rest) ≡ Ok (n, rest)
+pub integer_again : (prefix flag n : ℕ) (front rest : List ℕ) → flag % 2 ^ prefix ≡ 0 → IsInteger prefix flag n front
+    → integer_at prefix (front ++ rest) ≡ Ok (n, rest)
 integer_again prefix flag n front rest clear (IsInteger.within lt is) =
     let some : 0 < 2 ^ prefix = pow_pos prefix in
     let low : (flag + n) % 2 ^ prefix ≡ n = low_of prefix flag n clear (omega arith) in
@@ -132,6 +138,9 @@ integer_again prefix flag n front rest clear (IsInteger.beyond groups high is ar
     ∙ groups_again groups high rest 5 1 (full prefix) are few (omega arith) ∙ ap (λ v. Ok (v, rest)) value
 
 -- an integer has a first byte
-pub integer_some : (prefix flag n : ℕ) (front : List ℕ) → IsInteger prefix flag n front → (b : ℕ) × (more : List ℕ) × (front ≡ b ∷ more) × (flag ≤ b) × (b < flag + 2 ^ prefix)
-integer_some prefix flag n front (IsInteger.within lt is) = let some : 0 < 2 ^ prefix = pow_pos prefix in (flag + n, [], is, omega arith, omega arith)
-integer_some prefix flag n front (IsInteger.beyond groups high is are few n_is small) = let some : 0 < 2 ^ prefix = pow_pos prefix in (flag + full prefix, groups, is, omega arith, omega arith)
+pub integer_some : (prefix flag n : ℕ) (front : List ℕ) → IsInteger prefix flag n front
+    → (b : ℕ) × (more : List ℕ) × (front ≡ b ∷ more) × (flag ≤ b) × (b < flag + 2 ^ prefix)
+integer_some prefix flag n front (IsInteger.within lt is) = let some : 0 < 2 ^ prefix =
+    pow_pos prefix in (flag + n, [], is, omega arith, omega arith)
+integer_some prefix flag n front (IsInteger.beyond groups high is are few n_is small) = let some : 0 < 2 ^ prefix =
+    pow_pos prefix in (flag + full prefix, groups, is, omega arith, omega arith)

@@ -3,7 +3,8 @@ use Rattle.std.proofs.Common.{◌≡◌, ℕ, suc, ◌-◌, ◌*◌, ◌%◌, �
 use Rattle.std.proofs.Math.Nat.{pow-le-pow_right}
 use Rattle.std.proofs.lemmas.Nat.{mul-le, one_shl, and_mask}
 use Rattle.std.proofs.lemmas.Bool.{lt-ltb, le-ltb}
-use Rattle.hb_hpack.specs.Integer.{full, groups_from, integer_at}
+use Rattle.hb_hpack.specs.Integer.{full}
+use Rattle.hb_hpack.specs.Reader.{groups_from, integer_at}
 
 -- the weight of a group that may be there
 pub weight_small : (left weight : ℕ) → 0 < left → weight ≡ 128 ^ (5 - left) → weight ≤ 2 ^ 28
@@ -28,11 +29,13 @@ pub low_is : (b prefix : ℕ) → prefix < 8 → bit_and b ((1 * 2 ^ prefix) % 2
 low_is b prefix lt = rw (one_shl prefix 8 lt) (and_mask b prefix)
 
 -- the integer that is in its prefix
-pub integer_within : (prefix b : ℕ) (rest : List ℕ) → b % 2 ^ prefix < full prefix → integer_at prefix (b ∷ rest) ≡ Ok (b % 2 ^ prefix, rest)
+pub integer_within : (prefix b : ℕ) (rest : List ℕ) → b % 2 ^ prefix < full prefix
+    → integer_at prefix (b ∷ rest) ≡ Ok (b % 2 ^ prefix, rest)
 unfolding integer_at
 integer_within prefix b rest lt = rw (lt-ltb (b % 2 ^ prefix) (full prefix) lt, integer_at) refl
 
 -- the integer that goes beyond it
-pub integer_beyond : (prefix b : ℕ) (rest : List ℕ) → full prefix ≤ b % 2 ^ prefix → integer_at prefix (b ∷ rest) ≡ groups_from 5 1 (full prefix) rest
+pub integer_beyond : (prefix b : ℕ) (rest : List ℕ) → full prefix ≤ b % 2 ^ prefix
+    → integer_at prefix (b ∷ rest) ≡ groups_from 5 1 (full prefix) rest
 unfolding integer_at
 integer_beyond prefix b rest le = rw (le-ltb (b % 2 ^ prefix) (full prefix) le, integer_at) refl

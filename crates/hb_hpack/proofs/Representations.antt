@@ -4,11 +4,11 @@ use Rattle.std.proofs.lemmas.Bool.{eqb-true, ne_eqb, leb-true, leb-false, le-leb
 use Rattle.std.proofs.lemmas.List.{append-nil}
 use Rattle.hb_hpack.specs.declared.header.Header.{Header}
 use Rattle.hb_hpack.specs.Outcome.{◌>>=◌}
-use Rattle.hb_hpack.specs.Integer.{IsInteger, integer_at}
-use Rattle.hb_hpack.specs.Literal.{string_at}
+use Rattle.hb_hpack.specs.Integer.{IsInteger}
+use Rattle.hb_hpack.specs.Reader.{integer_at, string_at, entry_or, name_at, literal_at, indexed_at, Field, field, field_at}
 use Rattle.hb_hpack.specs.StaticTable.{header}
 use Rattle.hb_hpack.specs.Table.{Table, added, entry_at}
-use Rattle.hb_hpack.specs.Block.{IsName, IsLiteral, Represents, entry_or, name_at, literal_at, indexed_at, Field, field, field_at}
+use Rattle.hb_hpack.specs.Block.{IsName, IsLiteral, Represents}
 use Rattle.hb_hpack.proofs.Outcomes.{bind_ok, ok_is, chosen, no_value, AreOctets, octets_back}
 use Rattle.hb_hpack.proofs.Groups.{integer_take, integer_again, integer_some}
 use Rattle.hb_hpack.proofs.Strings.{string_take, string_again}
@@ -25,7 +25,8 @@ entry_some : (o : Option Header) (rest : List ℕ) (h : Header) → entry_or o r
 entry_some None rest h e = absurd (no_value _ _ e)
 entry_some (Some g) rest h e = ap (λ (x : Header). Some x) (ok_is g h e)
 
-pub name_take : (table : Table) (prefix flag b : ℕ) (bytes name rest : List ℕ) → AreOctets (b ∷ bytes) → b ≡ flag + b % 2 ^ prefix → name_at table prefix (b ∷ bytes) ≡ Ok (name, rest)
+pub name_take : (table : Table) (prefix flag b : ℕ) (bytes name rest : List ℕ) → AreOctets (b ∷ bytes) → b ≡ flag + b % 2 ^ prefix
+    → name_at table prefix (b ∷ bytes) ≡ Ok (name, rest)
     → TakesName table prefix flag (b ∷ bytes) name rest
 unfolding name_at
 name_take table prefix flag b bytes name rest o flag_is e =
@@ -59,7 +60,8 @@ index_some table i h e zero_is =
     let none : None ≡ Some h = sym (entry_none table) ∙ ap (entry_at table) (sym zero_is) ∙ e in
     cc
 
-pub name_again : (table : Table) (prefix flag : ℕ) (name front rest : List ℕ) → flag % 2 ^ prefix ≡ 0 → IsName table prefix flag name front → name_at table prefix (front ++ rest) ≡ Ok (name, rest)
+pub name_again : (table : Table) (prefix flag : ℕ) (name front rest : List ℕ) → flag % 2 ^ prefix ≡ 0
+    → IsName table prefix flag name front → name_at table prefix (front ++ rest) ≡ Ok (name, rest)
 unfolding name_at
 name_again table prefix flag name front rest clear (IsName.indexed i entry is e name_is) =
     let read = integer_again prefix flag i front rest clear is in
@@ -78,19 +80,25 @@ pub record Begins (prefix flag : ℕ) (bytes : List ℕ) : Type 0 where
   pub above : flag ≤ first
   pub below : first < flag + 2 ^ prefix
 
-pub integer_begins : (prefix flag n : ℕ) (front rest bytes : List ℕ) → IsInteger prefix flag n front → bytes ≡ front ++ rest → Begins prefix flag bytes
+pub integer_begins : (prefix flag n : ℕ) (front rest bytes : List ℕ) → IsInteger prefix flag n front → bytes ≡ front ++ rest
+    → Begins prefix flag bytes
 integer_begins prefix flag n front rest bytes is parts =
     let f = integer_some prefix flag n front is in
     record { first = f.0; more = f.1 ++ rest; parts = parts ∙ ap (λ (xs : List ℕ). xs ++ rest) f.2; above = f.3; below = f.4 }
 
-pub name_begins : (table : Table) (prefix flag : ℕ) (name front rest bytes : List ℕ) → IsName table prefix flag name front → bytes ≡ front ++ rest → Begins prefix flag bytes
-name_begins table prefix flag name front rest bytes (IsName.indexed i entry is e name_is) parts = integer_begins prefix flag i front rest bytes is parts
+pub name_begins : (table : Table) (prefix flag : ℕ) (name front rest bytes : List ℕ) → IsName table prefix flag name front
+    → bytes ≡ front ++ rest → Begins prefix flag bytes
+name_begins table prefix flag name front rest bytes (IsName.indexed i entry is e name_is) parts =
+    integer_begins prefix flag i front rest bytes is parts
 name_begins table prefix flag name front rest bytes (IsName.new first text is string split) parts =
-    integer_begins prefix flag 0 first (text ++ rest) bytes is (parts ∙ ap (λ (xs : List ℕ). xs ++ rest) split ∙ append_assoc first text rest)
+    integer_begins prefix flag 0 first (text ++ rest) bytes is (parts ∙ ap (λ (xs : List ℕ). xs ++ rest) split
+    ∙ append_assoc first text rest)
 
-pub literal_begins : (table : Table) (prefix flag : ℕ) (h : Header) (front rest bytes : List ℕ) → IsLiteral table prefix flag h front → bytes ≡ front ++ rest → Begins prefix flag bytes
+pub literal_begins : (table : Table) (prefix flag : ℕ) (h : Header) (front rest bytes : List ℕ) → IsLiteral table prefix flag h front
+    → bytes ≡ front ++ rest → Begins prefix flag bytes
 literal_begins table prefix flag h front rest bytes (IsLiteral.literal first text name string split) parts =
-    name_begins table prefix flag h.name first (text ++ rest) bytes name (parts ∙ ap (λ (xs : List ℕ). xs ++ rest) split ∙ append_assoc first text rest)
+    name_begins table prefix flag h.name first (text ++ rest) bytes name (parts ∙ ap (λ (xs : List ℕ). xs ++ rest) split
+    ∙ append_assoc first text rest)
 
 -- ---- literal headers
 
@@ -99,7 +107,8 @@ pub record TakesLiteral (table : Table) (prefix flag : ℕ) (bytes : List ℕ) (
   pub parts : bytes ≡ front ++ rest
   pub is : IsLiteral table prefix flag h front
 
-pub literal_take : (table : Table) (prefix flag b : ℕ) (bytes : List ℕ) (h : Header) (rest : List ℕ) → AreOctets (b ∷ bytes) → b ≡ flag + b % 2 ^ prefix → literal_at table prefix (b ∷ bytes) ≡ Ok (h, rest)
+pub literal_take : (table : Table) (prefix flag b : ℕ) (bytes : List ℕ) (h : Header) (rest : List ℕ) → AreOctets (b ∷ bytes)
+    → b ≡ flag + b % 2 ^ prefix → literal_at table prefix (b ∷ bytes) ≡ Ok (h, rest)
     → TakesLiteral table prefix flag (b ∷ bytes) h rest
 unfolding literal_at
 literal_take table prefix flag b bytes h rest o flag_is e =
@@ -113,11 +122,14 @@ literal_take table prefix flag b bytes h rest o flag_is e =
     let rest_is : value.0.1 ≡ rest = ap (λ (x : Header × List ℕ). x.1) is in
     record {
       front = n.front ++ s.front;
-      parts = n.parts ∙ ap (λ (xs : List ℕ). n.front ++ xs) s.parts ∙ sym (append_assoc n.front s.front value.0.1) ∙ ap (λ (xs : List ℕ). (n.front ++ s.front) ++ xs) rest_is;
-      is = subst (λ (g : Header). IsLiteral table prefix flag g (n.front ++ s.front)) h_is (IsLiteral.literal n.front s.front n.is s.is refl);
+      parts = n.parts ∙ ap (λ (xs : List ℕ). n.front ++ xs) s.parts ∙ sym (append_assoc n.front s.front value.0.1)
+          ∙ ap (λ (xs : List ℕ). (n.front ++ s.front) ++ xs) rest_is;
+      is = subst (λ (g : Header). IsLiteral table prefix flag g (n.front ++ s.front)) h_is
+          (IsLiteral.literal n.front s.front n.is s.is refl);
     }
 
-pub literal_again : (table : Table) (prefix flag : ℕ) (h : Header) (front rest : List ℕ) → flag % 2 ^ prefix ≡ 0 → IsLiteral table prefix flag h front → literal_at table prefix (front ++ rest) ≡ Ok (h, rest)
+pub literal_again : (table : Table) (prefix flag : ℕ) (h : Header) (front rest : List ℕ) → flag % 2 ^ prefix ≡ 0
+    → IsLiteral table prefix flag h front → literal_at table prefix (front ++ rest) ≡ Ok (h, rest)
 unfolding literal_at
 literal_again table prefix flag h front rest clear (IsLiteral.literal first text name string parts) =
     let regroup : front ++ rest ≡ first ++ (text ++ rest) = rw parts (append_assoc first text rest) in
@@ -148,13 +160,15 @@ represents_some table bytes h next r =
 
 -- what is read of a literal, as the field that it makes
 literal_field : (table next : Table) (prefix flag b : ℕ) (bytes : List ℕ) (f : Field) (enter : Header → Table)
-    → AreOctets (b ∷ bytes) → b ≡ flag + b % 2 ^ prefix → (literal_at table prefix (b ∷ bytes) >>= λ l. Ok (field l.0 (enter l.0) l.1)) ≡ Ok f
+    → AreOctets (b ∷ bytes) → b ≡ flag + b % 2 ^ prefix
+    → (literal_at table prefix (b ∷ bytes) >>= λ l. Ok (field l.0 (enter l.0) l.1)) ≡ Ok f
     → (l : Header × List ℕ) × TakesLiteral table prefix flag (b ∷ bytes) l.0 l.1 × (field l.0 (enter l.0) l.1 ≡ f)
 literal_field table next prefix flag b bytes f enter o flag_is e =
     let l = bind_ok (literal_at table prefix (b ∷ bytes)) _ f e in
     (l.0, literal_take table prefix flag b bytes l.0.0 l.0.1 o flag_is l.1, ok_is _ f l.2)
 
-pub field_take : (table : Table) (b : ℕ) (bytes : List ℕ) (f : Field) → AreOctets (b ∷ bytes) → field_at table (b ∷ bytes) ≡ Ok f → TakesField table (b ∷ bytes) f
+pub field_take : (table : Table) (b : ℕ) (bytes : List ℕ) (f : Field) → AreOctets (b ∷ bytes) → field_at table (b ∷ bytes) ≡ Ok f
+    → TakesField table (b ∷ bytes) f
 unfolding field_at indexed_at
 field_take table b bytes f o e =
     let octet = o.0 in
@@ -179,7 +193,8 @@ field_take table b bytes f o e =
             | inl q ↦
                 let above = leb-true 64 b q.0 in
                 let l = literal_field table table 6 64 b bytes f (λ h. added table h) o (omega arith) q.1 in
-                subst (λ (g : Field). TakesField table (b ∷ bytes) g) l.2 (record { front = l.1.front; parts = l.1.parts; is = Represents.entered l.1.is refl })
+                subst (λ (g : Field). TakesField table (b ∷ bytes) g) l.2
+                (record { front = l.1.front; parts = l.1.parts; is = Represents.entered l.1.is refl })
             | inr q ↦
                 let below_64 = leb-false 64 b q.0 in
                 elim (chosen (leb 32 b) _ _ _ q.1) [
@@ -189,34 +204,41 @@ field_take table b bytes f o e =
                       elim (cases_lt b 16) [
                         | inl low ↦
                             let l = literal_field table table 4 0 b bytes f (λ h. table) o (omega arith) r.1 in
-                            subst (λ (g : Field). TakesField table (b ∷ bytes) g) l.2 (record { front = l.1.front; parts = l.1.parts; is = Represents.passed l.1.is refl })
+                            subst (λ (g : Field). TakesField table (b ∷ bytes) g) l.2
+                            (record { front = l.1.front; parts = l.1.parts; is = Represents.passed l.1.is refl })
                         | inr high ↦
                             let l = literal_field table table 4 16 b bytes f (λ h. table) o (omega arith) r.1 in
-                            subst (λ (g : Field). TakesField table (b ∷ bytes) g) l.2 (record { front = l.1.front; parts = l.1.parts; is = Represents.never l.1.is refl })
+                            subst (λ (g : Field). TakesField table (b ∷ bytes) g) l.2
+                            (record { front = l.1.front; parts = l.1.parts; is = Represents.never l.1.is refl })
                       ]
                 ]
           ]
     ]
 
-pub field_indexed : (table : Table) (b : ℕ) (bytes : List ℕ) → 128 ≤ b → field_at table (b ∷ bytes) ≡ (indexed_at table (b ∷ bytes) >>= λ l. Ok (field l.0 table l.1))
+pub field_indexed : (table : Table) (b : ℕ) (bytes : List ℕ) → 128 ≤ b
+    → field_at table (b ∷ bytes) ≡ (indexed_at table (b ∷ bytes) >>= λ l. Ok (field l.0 table l.1))
 unfolding field_at
 field_indexed table b bytes le = rw (le-leb 128 b le, field_at) refl
 
-pub field_entered : (table : Table) (b : ℕ) (bytes : List ℕ) → 64 ≤ b → b < 128 → field_at table (b ∷ bytes) ≡ (literal_at table 6 (b ∷ bytes) >>= λ l. Ok (field l.0 (added table l.0) l.1))
+pub field_entered : (table : Table) (b : ℕ) (bytes : List ℕ) → 64 ≤ b → b < 128
+    → field_at table (b ∷ bytes) ≡ (literal_at table 6 (b ∷ bytes) >>= λ l. Ok (field l.0 (added table l.0) l.1))
 unfolding field_at
 field_entered table b bytes le lt = rw (lt-leb 128 b lt, le-leb 64 b le, field_at) refl
 
-pub field_passed : (table : Table) (b : ℕ) (bytes : List ℕ) → b < 32 → field_at table (b ∷ bytes) ≡ (literal_at table 4 (b ∷ bytes) >>= λ l. Ok (field l.0 table l.1))
+pub field_passed : (table : Table) (b : ℕ) (bytes : List ℕ) → b < 32
+    → field_at table (b ∷ bytes) ≡ (literal_at table 4 (b ∷ bytes) >>= λ l. Ok (field l.0 table l.1))
 unfolding field_at
 field_passed table b bytes lt = rw (lt-leb 128 b (omega arith), lt-leb 64 b (omega arith), lt-leb 32 b lt, field_at) refl
 
-literal_read : (table next : Table) (prefix flag : ℕ) (h : Header) (front rest : List ℕ) (enter : Header → Table) → flag % 2 ^ prefix ≡ 0 → IsLiteral table prefix flag h front → next ≡ enter h
+literal_read : (table next : Table) (prefix flag : ℕ) (h : Header) (front rest : List ℕ) (enter : Header → Table) → flag % 2 ^ prefix ≡ 0
+    → IsLiteral table prefix flag h front → next ≡ enter h
     → (literal_at table prefix (front ++ rest) >>= λ l. Ok (field l.0 (enter l.0) l.1)) ≡ Ok (field h next rest)
 literal_read table next prefix flag h front rest enter clear l same =
     let read = literal_again table prefix flag h front rest clear l in
     rw (read, same) refl
 
-pub field_again : (table : Table) (front : List ℕ) (h : Header) (next : Table) (rest : List ℕ) → Represents table front h next → field_at table (front ++ rest) ≡ Ok (field h next rest)
+pub field_again : (table : Table) (front : List ℕ) (h : Header) (next : Table) (rest : List ℕ) → Represents table front h next
+    → field_at table (front ++ rest) ≡ Ok (field h next rest)
 unfolding indexed_at
 field_again table front h next rest (Represents.indexed i is e same) =
     let b = integer_begins 7 128 i front rest (front ++ rest) is refl in
@@ -227,23 +249,30 @@ field_again table front h next rest (Represents.indexed i is e same) =
 field_again table front h next rest (Represents.entered l same) =
     let b = literal_begins table 6 64 h front rest (front ++ rest) l refl in
     ap (field_at table) b.parts ∙ field_entered table b.first b.more b.above (omega (arith, b.below))
-    ∙ ap (λ (xs : List ℕ). literal_at table 6 xs >>= λ l. Ok (field l.0 (added table l.0) l.1)) (sym b.parts) ∙ literal_read table next 6 64 h front rest (λ g. added table g) refl l same
+    ∙ ap (λ (xs : List ℕ). literal_at table 6 xs >>= λ l. Ok (field l.0 (added table l.0) l.1)) (sym b.parts)
+    ∙ literal_read table next 6 64 h front rest (λ g. added table g) refl l same
 field_again table front h next rest (Represents.passed l same) =
     let b = literal_begins table 4 0 h front rest (front ++ rest) l refl in
     ap (field_at table) b.parts ∙ field_passed table b.first b.more (omega (arith, b.below))
-    ∙ ap (λ (xs : List ℕ). literal_at table 4 xs >>= λ l. Ok (field l.0 table l.1)) (sym b.parts) ∙ literal_read table next 4 0 h front rest (λ g. table) refl l same
+    ∙ ap (λ (xs : List ℕ). literal_at table 4 xs >>= λ l. Ok (field l.0 table l.1)) (sym b.parts)
+    ∙ literal_read table next 4 0 h front rest (λ g. table) refl l same
 field_again table front h next rest (Represents.never l same) =
     let b = literal_begins table 4 16 h front rest (front ++ rest) l refl in
     ap (field_at table) b.parts ∙ field_passed table b.first b.more (omega (arith, b.below))
-    ∙ ap (λ (xs : List ℕ). literal_at table 4 xs >>= λ l. Ok (field l.0 table l.1)) (sym b.parts) ∙ literal_read table next 4 16 h front rest (λ g. table) refl l same
+    ∙ ap (λ (xs : List ℕ). literal_at table 4 xs >>= λ l. Ok (field l.0 table l.1)) (sym b.parts)
+    ∙ literal_read table next 4 16 h front rest (λ g. table) refl l same
 
 -- a representation's first byte begins no size update
 pub represents_begins : (table : Table) (front rest : List ℕ) (h : Header) (next : Table) → Represents table front h next
     → (b : ℕ) × (more : List ℕ) × (front ++ rest ≡ b ∷ more) × ((b < 32) ⊎ (64 ≤ b))
 represents_begins table front rest h next r =
     elim r [
-      | Represents.indexed i is e same ↦ let b = integer_begins 7 128 i front rest (front ++ rest) is refl in (b.first, b.more, b.parts, inr (omega (arith, b.above)))
-      | Represents.entered l same ↦ let b = literal_begins table 6 64 h front rest (front ++ rest) l refl in (b.first, b.more, b.parts, inr b.above)
-      | Represents.passed l same ↦ let b = literal_begins table 4 0 h front rest (front ++ rest) l refl in (b.first, b.more, b.parts, inl (omega (arith, b.below)))
-      | Represents.never l same ↦ let b = literal_begins table 4 16 h front rest (front ++ rest) l refl in (b.first, b.more, b.parts, inl (omega (arith, b.below)))
+      | Represents.indexed i is e same ↦ let b =
+          integer_begins 7 128 i front rest (front ++ rest) is refl in (b.first, b.more, b.parts, inr (omega (arith, b.above)))
+      | Represents.entered l same ↦ let b =
+          literal_begins table 6 64 h front rest (front ++ rest) l refl in (b.first, b.more, b.parts, inr b.above)
+      | Represents.passed l same ↦ let b =
+          literal_begins table 4 0 h front rest (front ++ rest) l refl in (b.first, b.more, b.parts, inl (omega (arith, b.below)))
+      | Represents.never l same ↦ let b =
+          literal_begins table 4 16 h front rest (front ++ rest) l refl in (b.first, b.more, b.parts, inl (omega (arith, b.below)))
     ]

@@ -17,22 +17,27 @@ headers_from : (place : ℕ) → place < 61 → drop place static_headers ≡ st
 unfolding static_at
 headers_from place lt = let count = static_count in drop_more static_headers place (header [] []) (omega arith)
 
-pub index_here : (test : Header → Bool) (place : ℕ) (whole : Option ℕ) → place < 61 → test (static_at place) ≡ true → index_from test (1 + place) (drop place static_headers) ≡ whole → Some (place + 1) ≡ whole
+pub index_here : (test : Header → Bool) (place : ℕ) (whole : Option ℕ) → place < 61 → test (static_at place) ≡ true
+    → index_from test (1 + place) (drop place static_headers) ≡ whole → Some (place + 1) ≡ whole
 unfolding index_from
 index_here test place whole lt meets so_far =
     let same : place + 1 ≡ 1 + place = omega arith in
-    let here : index_from test (1 + place) (drop place static_headers) ≡ Some (1 + place) = ap (index_from test (1 + place)) (headers_from place lt) ∙ rw (meets, index_from) refl in
+    let here : index_from test (1 + place) (drop place static_headers) ≡ Some (1 + place) =
+    ap (index_from test (1 + place)) (headers_from place lt) ∙ rw (meets, index_from) refl in
     rw same (sym here ∙ so_far)
 
-pub index_behind : (test : Header → Bool) (place : ℕ) (whole : Option ℕ) → place < 61 → test (static_at place) ≡ false → index_from test (1 + place) (drop place static_headers) ≡ whole
+pub index_behind : (test : Header → Bool) (place : ℕ) (whole : Option ℕ) → place < 61 → test (static_at place) ≡ false
+    → index_from test (1 + place) (drop place static_headers) ≡ whole
     → index_from test (1 + (place + 1)) (drop (place + 1) static_headers) ≡ whole
 unfolding index_from
 index_behind test place whole lt misses so_far =
     let same : 1 + (place + 1) ≡ suc (1 + place) = omega arith in
-    let behind : index_from test (1 + place) (drop place static_headers) ≡ index_from test (suc (1 + place)) (drop (place + 1) static_headers) = ap (index_from test (1 + place)) (headers_from place lt) ∙ rw (misses, index_from) refl in
+    let behind : index_from test (1 + place) (drop place static_headers) ≡ index_from test (suc (1 + place))
+    (drop (place + 1) static_headers) = ap (index_from test (1 + place)) (headers_from place lt) ∙ rw (misses, index_from) refl in
     rw same (sym behind ∙ so_far)
 
-pub index_none : (test : Header → Bool) (place : ℕ) (whole : Option ℕ) → 61 ≤ place → index_from test (1 + place) (drop place static_headers) ≡ whole → None ≡ whole
+pub index_none : (test : Header → Bool) (place : ℕ) (whole : Option ℕ) → 61 ≤ place
+    → index_from test (1 + place) (drop place static_headers) ≡ whole → None ≡ whole
 unfolding index_from
 index_none test place whole le so_far =
     let count = static_count in

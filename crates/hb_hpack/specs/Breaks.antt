@@ -27,7 +27,8 @@ pub record GoOn (prefix : ℕ) (groups : List ℕ) : Type 0 where
 pub data BreaksInteger (prefix flag : ℕ) (bytes : List ℕ) (at : ℕ) (why : HpackWhy) : Type 0 where
   integer_ends : (groups : List ℕ) → bytes ≡ (flag + full prefix) ∷ groups → GoOn prefix groups
       → at ≡ length bytes → why ≡ Truncated → BreaksInteger prefix flag bytes at why
-  integer_too_long : (groups : List ℕ) (group : ℕ) (behind : List ℕ) → bytes ≡ (flag + full prefix) ∷ (groups ++ group ∷ behind) → GoOn prefix groups
+  integer_too_long : (groups : List ℕ) (group : ℕ) (behind : List ℕ) → bytes ≡ (flag + full prefix) ∷ (groups ++ group ∷ behind)
+      → GoOn prefix groups
       → (length groups ≡ 5) ⊎ (2 ^ 32 ≤ full prefix + number_of (groups ++ group ∷ []))
       → at ≡ 1 + length groups → why ≡ LongInteger → BreaksInteger prefix flag bytes at why
 
@@ -40,7 +41,8 @@ IsHuffmanBit bit = (bit ≡ 0) ⊎ (bit ≡ 128)
 pub data BreaksString (bytes : List ℕ) (at : ℕ) (why : HpackWhy) : Type 0 where
   no_string : bytes ≡ [] → at ≡ 0 → why ≡ Truncated → BreaksString bytes at why
   in_length : (bit : ℕ) → IsHuffmanBit bit → BreaksInteger 7 bit bytes at why → BreaksString bytes at why
-  string_ends : (bit n : ℕ) (front behind : List ℕ) → IsHuffmanBit bit → bytes ≡ front ++ behind → IsInteger 7 bit n front → length behind < n
+  string_ends : (bit n : ℕ) (front behind : List ℕ) → IsHuffmanBit bit → bytes ≡ front ++ behind → IsInteger 7 bit n front
+      → length behind < n
       → at ≡ length bytes → why ≡ Truncated → BreaksString bytes at why
   no_text : (front data' behind : List ℕ) → bytes ≡ front ++ (data' ++ behind) → IsInteger 7 128 (length data') front
       → ((text : List ℕ) → Spells data' text → ⊥) → at ≡ 0 → why ≡ BadHuffman → BreaksString bytes at why
@@ -60,7 +62,8 @@ pub data BreaksName (table : Table) (prefix flag : ℕ) (bytes : List ℕ) (at :
 -- Where a literal header should be (section 6.2), its name is broken, or its value.
 pub data BreaksLiteral (table : Table) (prefix flag : ℕ) (bytes : List ℕ) (at : ℕ) (why : HpackWhy) : Type 0 where
   in_name : BreaksName table prefix flag bytes at why → BreaksLiteral table prefix flag bytes at why
-  in_value : (name front behind : List ℕ) → bytes ≡ front ++ behind → IsName table prefix flag name front → BreaksStringBehind front behind at why
+  in_value : (name front behind : List ℕ) → bytes ≡ front ++ behind → IsName table prefix flag name front
+      → BreaksStringBehind front behind at why
       → BreaksLiteral table prefix flag bytes at why
 
 -- Where a header's representation should be (section 6), the index is broken, or has no entry, or a literal is broken.
@@ -81,7 +84,8 @@ pub data BreaksUpdate (bytes : List ℕ) (at : ℕ) (why : HpackWhy) : Type 0 wh
 -- The block stands for these headers up to a place, and is broken there: in a size update, before any header; in a
 -- header; or by a size update that comes after a header (section 4.2).
 pub data BreaksAt (table : Table) (block : List ℕ) (at : ℕ) (why : HpackWhy) : Type 0 where
-  in_update : (front behind : List ℕ) (mid : Table) (inner : ℕ) → block ≡ front ++ behind → Reads table front [] mid → BreaksUpdate behind inner why
+  in_update : (front behind : List ℕ) (mid : Table) (inner : ℕ) → block ≡ front ++ behind → Reads table front [] mid
+      → BreaksUpdate behind inner why
       → at ≡ length front + inner → BreaksAt table block at why
   in_header : (front behind : List ℕ) (hs : List Header) (mid : Table) (inner : ℕ) → block ≡ front ++ behind → Reads table front hs mid
       → BreaksHeader mid behind inner why → at ≡ length front + inner → BreaksAt table block at why

@@ -9,5 +9,6 @@ pub mod Table
 pub mod Literal
 pub mod Block
 pub mod Breaks
-pub mod Lists
+pub mod Decoded
+pub mod Reader
 pub mod Encoding

@@ -4,8 +4,9 @@ ghost use Rattle.std.specs.Prelude.{◌≡◌, ◌≤◌, ℕ, List, [], length,
 ghost use Rattle.hb_hpack.specs.Outcome.{Gives};
 ghost use Rattle.hb_hpack.specs.declared.header.Header.{Header};
 ghost use Rattle.hb_hpack.specs.Table.{total, Table};
-ghost use Rattle.hb_hpack.specs.Block.{Reads, is_update, update_at, updates_at, headers_at, block_at};
-ghost use Rattle.hb_hpack.specs.Lists.{IsListOf, GivesList, IsReadAs, IsBroken, IsRefusedAs};
+ghost use Rattle.hb_hpack.specs.Block.{Reads};
+ghost use Rattle.hb_hpack.specs.Reader.{is_update, update_at, updates_at, headers_at, block_at, GivesList};
+ghost use Rattle.hb_hpack.specs.Decoded.{IsListOf, IsReadAs, IsBroken, IsRefusedAs};
 ghost use Rattle.hb_hpack.specs.Breaks.{BreaksAt};
 ghost use Rattle.hb_hpack.specs.declared.fault.HpackWhy.{HpackWhy};
 
@@ -29,8 +30,8 @@ fn is_update(bytes: &[u8]) -> bool
 }
 
 /// The maximum of the size update in front, and the bytes behind it.
-#[tactic(auto, unfolding(crate::specs::Block::update_at))]
-fn update_at(bytes: &[u8]) -> Result<(u32, &[u8]), Stop>
+#[tactic(auto, unfolding(crate::specs::Reader::update_at))]
+fn update_at(bytes: &[u8]) -> Result<(usize, &[u8]), Stop>
     ensures { Gives (λ x. (x.0, x.1.now)) result (update_at bytes.now) }
 {
     let (maximum, rest) = integer_at(bytes, 5)?;
@@ -50,7 +51,7 @@ fn updates_at<'b>(table: &mut DynamicTable, bytes: &'b [u8]) -> Result<&'b [u8],
     let mut rest = bytes;
     while is_update(rest) {
         let (maximum, after) = update_at(rest)?;
-        table.resize(u64::from(maximum));
+        table.resize(maximum as u64);
         rest = after;
     }
     Ok(rest)

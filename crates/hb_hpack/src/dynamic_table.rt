@@ -49,6 +49,7 @@ impl Entry {
     }
 
     /// Its name and its value.
+    #[inline(always)]
     pub(crate) fn parts(&self) -> (&[u8], &[u8])
         ensures { header result.0.now result.1.now ≡ self.now }
     {
@@ -122,6 +123,7 @@ impl DynamicTable {
     }
 
     /// The entry at this place, the newest at 0.
+    #[inline(always)]
     pub(crate) fn get(&self, place: usize) -> Option<&Entry>
         ensures { option_copied result ≡ slice_get self.now.entries place }
     {

@@ -143,7 +143,8 @@ fn put_literal(
 ) -> Result<(), NoMemory>
     ensures ok { OnOk result (out.new.items ≡ out.old.items ++ literal_of (index_from (same_name h.now) 1 static_headers) spelling h.now) }
     ensures grows { IsLonger out.old.items out.new.items }
-    ensures err { OnErr result (IsLonger out.new.items (out.old.items ++ literal_of (index_from (same_name h.now) 1 static_headers) spelling h.now)) }
+    ensures err { OnErr result (IsLonger out.new.items
+        (out.old.items ++ literal_of (index_from (same_name h.now) 1 static_headers) spelling h.now)) }
 {
     match index_of_name(h) {
         Some(index) => {

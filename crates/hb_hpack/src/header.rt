@@ -25,6 +25,7 @@ pub struct HeaderList {
 }
 
 /// The size of the header of this name and this value (RFC 7541 section 4.1).
+#[inline(always)]
 fn size_of(name: &[u8], value: &[u8]) -> u64
     ensures { result ≡ min (size_of (header name.now value.now)) (2 ^ 64 - 1) }
 {
@@ -39,8 +40,8 @@ const MOST_KEPT: u64 = 16384;
 impl HeaderList {
     ghost use Rattle.std.specs.Prelude.{List as list, [], ◌∷◌, ◌++◌, OnOk};
     ghost use Rattle.hb_hpack.specs.declared.header.Header.{Header};
-    ghost use Rattle.hb_hpack.specs.Lists.{IsListOf};
-    ghost use Rattle.hb_hpack.specs.Literal.{octets};
+    ghost use Rattle.hb_hpack.specs.Decoded.{IsListOf};
+    ghost use Rattle.hb_hpack.specs.Reader.{octets};
     ghost use Rattle.hb_hpack.specs.StaticTable.{header};
 
     pub(crate) fn new(alloc: Global) -> HeaderList
@@ -54,13 +55,15 @@ impl HeaderList {
 
     /// Adds the header of this name and this value, which are copied only where they are kept. On NoMemory the list
     /// isn't used again.
+    #[inline(always)]
     pub(crate) fn add(
         &mut self,
         alloc: Global,
         name: Octets<'_>,
         value: Octets<'_>,
     ) -> Result<(), NoMemory>
-        ensures { OnOk result ((headers : list Header) → IsListOf headers self.old → IsListOf (headers ++ header (octets name.entry) (octets value.entry) ∷ []) self.new) }
+        ensures { OnOk result ((headers : list Header) → IsListOf headers self.old
+            → IsListOf (headers ++ header (octets name.entry) (octets value.entry) ∷ []) self.new) }
     {
         let size = size_of(name.as_slice(), value.as_slice());
         self.size = self.size.saturating_add(size);

@@ -2,14 +2,14 @@
 
 ghost use Rattle.std.specs.Prelude.{◌≡◌, ◌+◌, ◌-◌, ◌*◌, ◌^◌, ◌<◌, ◌≤◌};
 ghost use Rattle.hb_hpack.specs.Outcome.{Gives};
-ghost use Rattle.hb_hpack.specs.Integer.{groups_from, integer_at};
+ghost use Rattle.hb_hpack.specs.Reader.{groups_from, integer_at};
 
 use crate::fault::{HpackWhy, Stop};
 
 /// The groups of seven bits from the one of this weight on, behind groups that make `value`; at most `left` of
 /// them are there. Gives the bytes behind them too.
-#[tactic(auto, unfolding(crate::specs::Integer::groups_from))]
-fn groups_from(bytes: &[u8], left: u8, weight: u64, value: u64) -> Result<(u32, &[u8]), Stop>
+#[tactic(auto, unfolding(crate::specs::Reader::groups_from))]
+fn groups_from(bytes: &[u8], left: u8, weight: u64, value: u64) -> Result<(usize, &[u8]), Stop>
     requires left { left ≤ 5 }
     requires weight { weight ≡ 128 ^ (5 - left) }
     requires value { value < 2 ^ 32 }
@@ -35,14 +35,15 @@ fn groups_from(bytes: &[u8], left: u8, weight: u64, value: u64) -> Result<(u32, 
         });
     }
     if *byte < 128 {
-        return Ok((value as u32, rest));
+        return Ok((value as usize, rest));
     }
     groups_from(rest, left - 1, 128 * weight, value)
 }
 
 /// The integer in front with a prefix of so many bits, and the bytes behind it.
-#[tactic(auto, unfolding(crate::specs::Integer::integer_at))]
-pub(crate) fn integer_at(bytes: &[u8], prefix: u8) -> Result<(u32, &[u8]), Stop>
+#[tactic(auto, unfolding(crate::specs::Reader::integer_at))]
+#[inline(always)]
+pub(crate) fn integer_at(bytes: &[u8], prefix: u8) -> Result<(usize, &[u8]), Stop>
     requires { prefix < 8 }
     ensures { Gives (λ x. (x.0, x.1.now)) result (integer_at prefix bytes.now) }
 {
@@ -55,7 +56,7 @@ pub(crate) fn integer_at(bytes: &[u8], prefix: u8) -> Result<(u32, &[u8]), Stop>
     let full = (1u8 << prefix) - 1;
     let low = *byte & full;
     if low < full {
-        return Ok((u32::from(low), rest));
+        return Ok((usize::from(low), rest));
     }
     groups_from(rest, 5, 1, u64::from(full))
 }

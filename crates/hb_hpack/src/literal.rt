@@ -2,7 +2,7 @@
 
 ghost use Rattle.std.specs.Prelude.{◌≡◌};
 ghost use Rattle.hb_hpack.specs.Outcome.{GivesOr};
-ghost use Rattle.hb_hpack.specs.Literal.{octets, string_at};
+ghost use Rattle.hb_hpack.specs.Reader.{octets, string_at};
 
 use crate::fault::{HpackWhy, Stop};
 use crate::huffman::huffman_read;
@@ -12,7 +12,8 @@ use hb_base::Or;
 use std::alloc::Global;
 
 /// The string literal in front, and the bytes behind it.
-#[tactic(auto, unfolding(crate::specs::Literal::string_at))]
+#[tactic(auto, unfolding(crate::specs::Reader::string_at))]
+#[inline(always)]
 pub(crate) fn string_at(alloc: Global, bytes: &[u8]) -> Result<(Octets<'_>, &[u8]), Or<Stop>>
     ensures { GivesOr (λ x. (octets x.0, x.1.now)) result (string_at bytes.now) }
 {
@@ -23,7 +24,6 @@ pub(crate) fn string_at(alloc: Global, bytes: &[u8]) -> Result<(Octets<'_>, &[u8
         }));
     };
     let (length, rest) = integer_at(bytes, 7).map_err(Or::Fault)?;
-    let length = length as usize;
     if rest.len() < length {
         return Err(Or::Fault(Stop {
             left: 0,

@@ -1,7 +1,7 @@
 //! Octets of a header before it is known whether they are kept.
 
 ghost use Rattle.std.specs.Prelude.{◌≡◌};
-ghost use Rattle.hb_hpack.specs.Literal.{octets};
+ghost use Rattle.hb_hpack.specs.Reader.{octets};
 
 use hb_base::{Bytes, NoMemory};
 use std::alloc::Global;
@@ -16,8 +16,9 @@ pub enum Octets<'a> {
 
 impl<'a> Octets<'a> {
     ghost use Rattle.std.specs.Prelude.{◌≡◌, IfOk};
-    ghost use Rattle.hb_hpack.specs.Literal.{octets};
+    ghost use Rattle.hb_hpack.specs.Reader.{octets};
 
+    #[inline(always)]
     pub(crate) fn as_slice(&self) -> &[u8]
         ensures { result.now ≡ octets self.now }
     {
@@ -28,6 +29,7 @@ impl<'a> Octets<'a> {
     }
 
     /// These octets as bytes of their own.
+    #[inline(always)]
     pub(crate) fn into_bytes(self, alloc: Global) -> Result<Bytes, NoMemory>
         ensures { IfOk result (λ r. r ≡ octets self.entry) }
     {

@@ -5,9 +5,7 @@ ghost use Rattle.std.specs.Option.{option_map};
 ghost use Rattle.hb_hpack.specs.Outcome.{Gives, GivesOr};
 ghost use Rattle.hb_hpack.specs.StaticTable.{header};
 ghost use Rattle.hb_hpack.specs.Table.{entry_at};
-ghost use Rattle.hb_hpack.specs.Literal.{octets};
-ghost use Rattle.hb_hpack.specs.Block.{entry_or, name_at, literal_at, indexed_at, entered_at, field_at};
-ghost use Rattle.hb_hpack.specs.Lists.{Adds};
+ghost use Rattle.hb_hpack.specs.Reader.{octets, entry_or, name_at, literal_at, indexed_at, entered_at, field_at, Adds};
 
 use crate::dynamic_table::{DynamicTable, Entry};
 use crate::fault::{HpackWhy, Stop};
@@ -20,13 +18,14 @@ use hb_base::Or;
 use std::alloc::Global;
 
 /// The name and the value of the header of an index, where there is one.
-fn entry_at<'a>(table: &'a DynamicTable, index: u32) -> Option<(&'a [u8], &'a [u8])>
+#[inline(always)]
+fn entry_at<'a>(table: &'a DynamicTable, index: usize) -> Option<(&'a [u8], &'a [u8])>
     ensures { option_map (λ e. header e.0.now e.1.now) result ≡ entry_at table.now index }
 {
     if index == 0 {
         return None;
     }
-    let place = (index - 1) as usize;
+    let place = index - 1;
     if place < 61 {
         return Some(static_header(place));
     }
@@ -37,9 +36,10 @@ fn entry_at<'a>(table: &'a DynamicTable, index: u32) -> Option<(&'a [u8], &'a [u
 }
 
 /// The same, or the fault of an index that ends before `rest`.
+#[inline(always)]
 fn entry_or<'a>(
     table: &'a DynamicTable,
-    index: u32,
+    index: usize,
     rest: &[u8],
 ) -> Result<(&'a [u8], &'a [u8]), Stop>
     ensures { Gives (λ e. header e.0.now e.1.now) result (entry_or (entry_at table.now index) rest.now) }
@@ -54,7 +54,8 @@ fn entry_or<'a>(
 }
 
 /// The name in front of a literal, and the bytes behind it.
-#[tactic(auto, unfolding(crate::specs::Block::name_at))]
+#[tactic(auto, unfolding(crate::specs::Reader::name_at))]
+#[inline(always)]
 fn name_at<'a, 'b: 'a>(
     alloc: Global,
     table: &'a DynamicTable,
@@ -73,7 +74,8 @@ fn name_at<'a, 'b: 'a>(
 }
 
 /// The name and the value of the literal in front, and the bytes behind it.
-#[tactic(auto, unfolding(crate::specs::Block::literal_at))]
+#[tactic(auto, unfolding(crate::specs::Reader::literal_at))]
+#[inline(always)]
 fn literal_at<'a, 'b: 'a>(
     alloc: Global,
     table: &'a DynamicTable,
@@ -89,7 +91,8 @@ fn literal_at<'a, 'b: 'a>(
 }
 
 /// The name and the value of the indexed header in front, and the bytes behind it.
-#[tactic(auto, unfolding(crate::specs::Block::indexed_at))]
+#[tactic(auto, unfolding(crate::specs::Reader::indexed_at))]
+#[inline(always)]
 fn indexed_at<'a, 'b>(
     table: &'a DynamicTable,
     bytes: &'b [u8],
@@ -103,6 +106,7 @@ fn indexed_at<'a, 'b>(
 
 /// Adds the header of the literal in front to the list and to the table. Gives the bytes behind it. On an error
 /// neither is used again.
+#[inline(always)]
 fn enter<'b>(
     alloc: Global,
     table: &mut DynamicTable,
@@ -120,7 +124,8 @@ fn enter<'b>(
 
 /// Adds the header that the representation in front stands for to the list. Gives the bytes behind it. On an error
 /// the list and the table aren't used again.
-#[tactic(auto, unfolding(crate::specs::Block::field_at))]
+#[tactic(auto, unfolding(crate::specs::Reader::field_at))]
+#[inline(always)]
 pub(crate) fn add_field<'b>(
     alloc: Global,
     table: &mut DynamicTable,

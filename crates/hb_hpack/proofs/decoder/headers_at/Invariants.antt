@@ -1,7 +1,7 @@
 use Rattle.std.proofs.Common.{◌≡◌, length, List}
 use Rattle.hb_hpack.specs.declared.header.Header.{Header}
-use Rattle.hb_hpack.specs.Block.{headers_at}
-use Rattle.hb_hpack.specs.Lists.{IsListOf, with_headers}
+use Rattle.hb_hpack.specs.Reader.{headers_at, with_headers}
+use Rattle.hb_hpack.specs.Decoded.{IsListOf}
 use Rattle.hb_hpack.proofs.Outcomes.{AreOctets}
 use Rattle.hb_hpack.proofs.decoder.headers_at.Given as goal
 

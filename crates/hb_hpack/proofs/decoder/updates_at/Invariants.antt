@@ -1,5 +1,5 @@
 use Rattle.std.proofs.Common.{◌≡◌, length}
-use Rattle.hb_hpack.specs.Block.{updates_at}
+use Rattle.hb_hpack.specs.Reader.{updates_at}
 use Rattle.hb_hpack.proofs.Outcomes.{AreOctets}
 use Rattle.hb_hpack.proofs.decoder.updates_at.Given as goal
 

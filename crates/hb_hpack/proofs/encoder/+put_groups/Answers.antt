@@ -15,9 +15,13 @@ returns-then-n-lt128-clause-ok t c =
 pub returns-clause-ok : goal.returns-clause-ok
 returns-clause-ok t c =
     rw (groups_more c.args.most c.args.n (omega (arith, c.if-most-eq0.false)) c.if-n-lt128.false)
-    (on_ok_weaker c.put_groups.result (λ h. ok_then c.args.out.now.items c.push-2.new.self.items c.put_groups.new.out.items ((c.args.n % 128 + 128) ∷ []) (groups_of (c.args.most - 1) (c.args.n / 128)) c.in_ok-push-2.ensures.items h) c.put_groups.ensures.ok)
+    (on_ok_weaker c.put_groups.result
+    (λ h. ok_then c.args.out.now.items c.push-2.new.self.items c.put_groups.new.out.items ((c.args.n % 128 + 128) ∷ [])
+    (groups_of (c.args.most - 1) (c.args.n / 128)) c.in_ok-push-2.ensures.items h) c.put_groups.ensures.ok)
 
 pub returns-clause-err : goal.returns-clause-err
 returns-clause-err t c =
     rw (groups_more c.args.most c.args.n (omega (arith, c.if-most-eq0.false)) c.if-n-lt128.false)
-    (on_err_weaker c.put_groups.result (λ h. err_then c.args.out.now.items c.push-2.new.self.items c.put_groups.new.out.items ((c.args.n % 128 + 128) ∷ []) (groups_of (c.args.most - 1) (c.args.n / 128)) c.in_ok-push-2.ensures.items h) c.put_groups.ensures.err)
+    (on_err_weaker c.put_groups.result
+    (λ h. err_then c.args.out.now.items c.push-2.new.self.items c.put_groups.new.out.items ((c.args.n % 128 + 128) ∷ [])
+    (groups_of (c.args.most - 1) (c.args.n / 128)) c.in_ok-push-2.ensures.items h) c.put_groups.ensures.err)

@@ -7,12 +7,16 @@ use Rattle.hb_hpack.proofs.encoder.has_header.Goals as goal
 
 pub returns-then-eq : goal.returns-then-eq
 returns-then-eq c =
-    let at : static_at c.args.place ≡ header c.static_header.result.0.now c.static_header.result.1.now = static_at_is c.args.place _ (rw c.from.ensures at c.static_header.ensures) in
-    let name : bytes_eq c.static_header.result.0.now c.args.h.now.name ≡ true = rw c.as_slice.ensures at (sym c.eq.ensures ∙ c.if-eq.true) in
+    let at : static_at c.args.place ≡ header c.static_header.result.0.now c.static_header.result.1.now =
+    static_at_is c.args.place _ (rw c.from.ensures at c.static_header.ensures) in
+    let name : bytes_eq c.static_header.result.0.now c.args.h.now.name ≡ true =
+    rw c.as_slice.ensures at (sym c.eq.ensures ∙ c.if-eq.true) in
     rw (at, name, c.eq-then-eq.ensures, c.as_slice-then-eq.ensures) refl
 
 pub returns-else-eq : goal.returns-else-eq
 returns-else-eq c =
-    let at : static_at c.args.place ≡ header c.static_header.result.0.now c.static_header.result.1.now = static_at_is c.args.place _ (rw c.from.ensures at c.static_header.ensures) in
-    let name : bytes_eq c.static_header.result.0.now c.args.h.now.name ≡ false = rw c.as_slice.ensures at (sym c.eq.ensures ∙ c.if-eq.false) in
+    let at : static_at c.args.place ≡ header c.static_header.result.0.now c.static_header.result.1.now =
+    static_at_is c.args.place _ (rw c.from.ensures at c.static_header.ensures) in
+    let name : bytes_eq c.static_header.result.0.now c.args.h.now.name ≡ false =
+    rw c.as_slice.ensures at (sym c.eq.ensures ∙ c.if-eq.false) in
     rw (at, name, c.if-eq.false) refl

@@ -6,5 +6,6 @@ use Rattle.hb_hpack.proofs.encoder.has_name.Goals as goal
 
 pub returns : goal.returns
 returns c =
-    let at : static_at c.args.place ≡ header c.static_header.result.0.now c.static_header.result.1.now = static_at_is c.args.place _ (rw c.from.ensures at c.static_header.ensures) in
+    let at : static_at c.args.place ≡ header c.static_header.result.0.now c.static_header.result.1.now =
+    static_at_is c.args.place _ (rw c.from.ensures at c.static_header.ensures) in
     rw (at, c.eq.ensures, c.as_slice.ensures) refl

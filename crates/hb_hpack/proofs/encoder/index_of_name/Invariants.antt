@@ -5,4 +5,5 @@ use Rattle.hb_hpack.proofs.encoder.index_of_name.Given as goal
 
 -- the headers from here on have the index that all have
 abbrev pub invariant-loop-place : goal.invariant-loop-place
-invariant-loop-place l = index_from (same_name l.h) (1 + l.place) (drop l.place static_headers) ≡ index_from (same_name l.h) 1 static_headers
+invariant-loop-place l =
+    index_from (same_name l.h) (1 + l.place) (drop l.place static_headers) ≡ index_from (same_name l.h) 1 static_headers

@@ -19,7 +19,9 @@ returns-clause-ok c =
     let first = rw whole at c.in_ok-push-2.ensures.items in
     let groups = rw (c.from-2.ensures, whole) at c.put_groups.ensures.ok in
     rw (integer_large c.args.prefix c.args.flag c.args.n le)
-    (on_ok_weaker c.put_groups.result (λ h. ok_then c.args.out.now.items c.push-2.new.self.items c.put_groups.new.out.items ((c.args.flag + full c.args.prefix) ∷ []) (groups_of 10 (c.args.n - full c.args.prefix)) first h) groups)
+    (on_ok_weaker c.put_groups.result
+    (λ h. ok_then c.args.out.now.items c.push-2.new.self.items c.put_groups.new.out.items ((c.args.flag + full c.args.prefix) ∷ [])
+    (groups_of 10 (c.args.n - full c.args.prefix)) first h) groups)
 
 pub returns-clause-err : goal.returns-clause-err
 returns-clause-err c =
@@ -28,4 +30,6 @@ returns-clause-err c =
     let first = rw whole at c.in_ok-push-2.ensures.items in
     let groups = rw (c.from-2.ensures, whole) at c.put_groups.ensures.err in
     rw (integer_large c.args.prefix c.args.flag c.args.n le)
-    (on_err_weaker c.put_groups.result (λ h. err_then c.args.out.now.items c.push-2.new.self.items c.put_groups.new.out.items ((c.args.flag + full c.args.prefix) ∷ []) (groups_of 10 (c.args.n - full c.args.prefix)) first h) groups)
+    (on_err_weaker c.put_groups.result
+    (λ h. err_then c.args.out.now.items c.push-2.new.self.items c.put_groups.new.out.items ((c.args.flag + full c.args.prefix) ∷ [])
+    (groups_of 10 (c.args.n - full c.args.prefix)) first h) groups)

@@ -7,4 +7,5 @@ use Rattle.hb_hpack.proofs.encoder.put_spelled.Goals as goal
 pub returns-in_err-put_integer-clause-err : goal.returns-in_err-put_integer-clause-err
 returns-in_err-put_integer-clause-err c =
     let p = err_from_is_err_and c.from_residual.result c.from_residual.ensures.1 in
-    rw p.1 (err_first c.args.out.now.items c.put_integer.new.out.items (integer_of 7 c.args.bit (length c.args.bytes.now)) c.args.bytes.now c.in_err-put_integer.ensures.err)
+    rw p.1 (err_first c.args.out.now.items c.put_integer.new.out.items
+    (integer_of 7 c.args.bit (length c.args.bytes.now)) c.args.bytes.now c.in_err-put_integer.ensures.err)

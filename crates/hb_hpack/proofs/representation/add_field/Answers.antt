@@ -1,8 +1,7 @@
 use Rattle.std.proofs.Common.{rules, ◌≡◌, Ok}
 use Rattle.hb_hpack.specs.declared.header.Header.{Header}
-use Rattle.hb_hpack.specs.Literal.{octets}
+use Rattle.hb_hpack.specs.Reader.{octets, field, field_at}
 use Rattle.hb_hpack.specs.StaticTable.{header}
-use Rattle.hb_hpack.specs.Block.{field, field_at}
 use Rattle.hb_hpack.proofs.representation.add_field.Goals as goal
 
 pub returns-then-first-ge128 : goal.returns-then-first-ge128

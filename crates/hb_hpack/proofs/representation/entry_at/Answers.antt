@@ -16,4 +16,5 @@ returns-in-None c =
 
 pub returns-in-Some : goal.returns-in-Some
 returns-in-Some c =
-    ap (λ (h : Header). Some h) c.parts.ensures ∙ c.in-Some.ensures ∙ sym (entry_dynamic c.args.table.now c.args.index (omega (arith, c.if-index-eq0.false)) c.if-place-lt61.false)
+    ap (λ (h : Header). Some h) c.parts.ensures ∙ c.in-Some.ensures
+    ∙ sym (entry_dynamic c.args.table.now c.args.index (omega (arith, c.if-index-eq0.false)) c.if-place-lt61.false)

@@ -13,11 +13,17 @@ pub returns-in-Ok : goal.returns-in-Ok
 returns-in-Ok c =
     let given = c.in-Ok.ensures in
     record {
-      read = (given.0, block_take c.args.self.now c.args.b.now given.0 c.read.new.self (octets_of c.args.b.now (λ i. omega (arith, c.type_inv.b i))) given.1, given.2);
+      read = (
+        given.0,
+        block_take c.args.self.now c.args.b.now given.0 c.read.new.self
+            (octets_of c.args.b.now (λ i. omega (arith, c.type_inv.b i))) given.1,
+        given.2,
+      );
       only = λ headers next reads. block_read_as c.args.self.now next c.read.new.self c.args.b.now c.in-Ok.list headers given reads;
       broken = tt;
       refused = λ at why breaks.
-          let r = block_refused c.args.self.now c.args.b.now at why breaks in no_value (stop r.0 why) (given.0, c.read.new.self) (sym r.2 ∙ given.1);
+          let r = block_refused c.args.self.now c.args.b.now at why breaks in
+          no_value (stop r.0 why) (given.0, c.read.new.self) (sym r.2 ∙ given.1);
     }
 
 pub returns-in-Err-Fault-clause-only : goal.returns-in-Err-Fault-clause-only
@@ -28,13 +34,15 @@ returns-in-Err-Fault-clause-only c headers next reads =
 pub overflow_sub-result : goal.overflow_sub-result
 overflow_sub-result c =
     let given = rw c.in-Err-Fault.field-0-is at c.in-Err-Fault.ensures in
-    let broken = block_broken c.args.self.now c.args.b.now c.in-Err-Fault.stop (octets_of c.args.b.now (λ i. omega (arith, c.type_inv.b i))) given in
+    let broken = block_broken c.args.self.now c.args.b.now c.in-Err-Fault.stop
+    (octets_of c.args.b.now (λ i. omega (arith, c.type_inv.b i))) given in
     omega (arith, broken.1)
 
 pub returns-in-Err-Fault-clause-broken : goal.returns-in-Err-Fault-clause-broken
 returns-in-Err-Fault-clause-broken c =
     let given = rw c.in-Err-Fault.field-0-is at c.in-Err-Fault.ensures in
-    let broken = block_broken c.args.self.now c.args.b.now c.in-Err-Fault.stop (octets_of c.args.b.now (λ i. omega (arith, c.type_inv.b i))) given in
+    let broken = block_broken c.args.self.now c.args.b.now c.in-Err-Fault.stop
+    (octets_of c.args.b.now (λ i. omega (arith, c.type_inv.b i))) given in
     let place : broken.0 ≡ length c.args.b.now - c.in-Err-Fault.stop.left = omega (arith, broken.1) in
     subst (λ (at : ℕ). BreaksAt c.args.self.now c.args.b.now at c.in-Err-Fault.stop.why) place broken.2
 

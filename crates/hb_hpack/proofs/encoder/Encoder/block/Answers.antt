@@ -16,7 +16,9 @@ unfolding block_of
 returns-clause-ok c =
     let headers = rw c.as_slice.ensures at c.put_headers.ensures.ok in
     rw (← c.self.view_is)
-    (on_ok_weaker c.put_headers.result (λ h. ok_then c.args.out.now.items c.put_opening.new.out.items c.put_headers.new.out.items (opening c.self.inside.started) (flat_map (header_of c.self.inside.spelling) c.args.headers.now)
+    (on_ok_weaker c.put_headers.result
+    (λ h. ok_then c.args.out.now.items c.put_opening.new.out.items c.put_headers.new.out.items (opening c.self.inside.started)
+    (flat_map (header_of c.self.inside.spelling) c.args.headers.now)
     c.in_ok-put_opening.ensures.ok h) headers)
 
 pub returns-clause-err : goal.returns-clause-err
@@ -24,5 +26,7 @@ unfolding block_of
 returns-clause-err c =
     let headers = rw c.as_slice.ensures at c.put_headers.ensures.err in
     rw (← c.self.view_is)
-    (on_err_weaker c.put_headers.result (λ h. err_then c.args.out.now.items c.put_opening.new.out.items c.put_headers.new.out.items (opening c.self.inside.started) (flat_map (header_of c.self.inside.spelling) c.args.headers.now)
+    (on_err_weaker c.put_headers.result
+    (λ h. err_then c.args.out.now.items c.put_opening.new.out.items c.put_headers.new.out.items (opening c.self.inside.started)
+    (flat_map (header_of c.self.inside.spelling) c.args.headers.now)
     c.in_ok-put_opening.ensures.ok h) headers)
