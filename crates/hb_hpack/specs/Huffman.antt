@@ -56,6 +56,14 @@ unfoldable pub word_among : ℕ → List Word → Option Word
 word_among symbol [] = None
 word_among symbol (w ∷ ws) = if w.symbol == symbol then Some w else word_among symbol ws
 
+-- the symbol of the word that has so many bits, which make the number code
+unfoldable pub symbol_among : ℕ → ℕ → List Word → Option ℕ
+symbol_among code length [] = None
+symbol_among code length (w ∷ ws) = if (w.length == length) && (w.code == code) then Some w.symbol else symbol_among code length ws
+
+unfoldable pub symbol_of : ℕ → ℕ → Option ℕ
+symbol_of code length = symbol_among code length words
+
 unfoldable pub bits_of_word : Option Word → List ℕ
 bits_of_word None = []
 bits_of_word (Some w) = bits w.length w.code
