@@ -7,7 +7,8 @@ use Rattle.std.proofs.Math.Nat.{pow-le-pow_right}
 use Rattle.std.proofs.Math.Pow.{shr_lt}
 use Rattle.hb_hpack.specs.Tables.{row_at, symbol_at}
 use Rattle.hb_hpack.specs.Huffman.{bits, bits_of, word}
-use Rattle.hb_hpack.specs.HuffmanSteps.{in_front, after_text, text_from, text_of}
+use Rattle.hb_hpack.specs.HuffmanSteps.{in_front, text_from, text_of}
+use Rattle.hb_hpack.specs.Partial.{after_text}
 use Rattle.hb_hpack.proofs.Bits.{bits_split, bits_rest, bits_fewer, bits_with, next_bit}
 use Rattle.hb_hpack.proofs.CodeTable.{IsShort, word_of_code, last_limit}
 use Rattle.hb_hpack.proofs.Reading.{IsOpen, next_row, open_read, word_whole}

@@ -1,5 +1,5 @@
 -- How a text is read from bits and written as bytes, one bit after another.
-use Rattle.std.specs.Prelude.{ℕ, zero, suc, ◌+◌, ◌-◌, ◌*◌, ◌^◌, ◌==◌, nat_lt, ◌&&◌, List, [], ◌∷◌, ◌++◌, Option, Some, None, if◌then◌else◌}
+use Rattle.std.specs.Prelude.{ℕ, zero, suc, ◌+◌, ◌-◌, ◌*◌, ◌^◌, ◌==◌, nat_lt, ◌&&◌, List, [], ◌∷◌, Option, Some, None, if◌then◌else◌}
 use Rattle.std.specs.List.{flat_map}
 use Rattle.hb_hpack.specs.Huffman.{bits_of, word, symbol_of}
 
@@ -20,11 +20,6 @@ text_from code len (b ∷ bs) =
 -- the text that the bytes spell, where there is one
 abbrev pub text_of : List ℕ → Option (List ℕ)
 text_of bytes = text_from 0 0 (bits_of bytes)
-
--- a text in front of a text, where there is one
-abbrev pub after_text : List ℕ → Option (List ℕ) → Option (List ℕ)
-after_text front None = None
-after_text front (Some text) = Some (front ++ text)
 
 -- a byte with as many ones behind its bits
 unfoldable pub with_ones : ℕ → ℕ → ℕ

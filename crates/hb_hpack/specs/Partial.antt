@@ -4,7 +4,7 @@ use Rattle.hb_hpack.specs.declared.partial.Held.{Held}
 use Rattle.hb_hpack.specs.declared.partial.Found.{Found}
 use Rattle.hb_hpack.specs.declared.partial.Unfinished.{Unfinished}
 use Rattle.hb_hpack.specs.Huffman.{bits, word}
-use Rattle.hb_hpack.specs.HuffmanSteps.{after_text, text_from, bytes_from}
+use Rattle.hb_hpack.specs.HuffmanSteps.{text_from, bytes_from}
 
 -- the bits begin with the word that was found
 pub record IsInFront (held : Held) (found : Found) : Type 0 where
@@ -17,6 +17,11 @@ pub record IsInFront (held : Held) (found : Found) : Type 0 where
 pub record HasNoWord (held : Held) : Type 0 where
   pub few : held.count < 30
   pub goes_on : (rest : List ℕ) → text_from 0 0 (bits held.count held.bits ++ rest) ≡ text_from (held.bits % 2 ^ held.count) held.count rest
+
+-- a text in front of a text, where there is one
+abbrev pub after_text : List ℕ → Option (List ℕ) → Option (List ℕ)
+after_text front None = None
+after_text front (Some text) = Some (front ++ text)
 
 -- the text that is read in the end: what was read so far, and what the bits held and those from here on give; None where no text is read
 abbrev pub read_on : List ℕ → Option Held → List ℕ → Option (List ℕ)

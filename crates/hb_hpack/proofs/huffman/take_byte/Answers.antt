@@ -1,7 +1,8 @@
 use Rattle.std.proofs.Common.{◌≡◌, ◌++◌, ◌∙◌, ℕ, List, arith}
 use Rattle.std.proofs.lemmas.Result.{IfOk-weaker}
 use Rattle.hb_hpack.specs.Huffman.{bits}
-use Rattle.hb_hpack.specs.HuffmanSteps.{after_text, text_from}
+use Rattle.hb_hpack.specs.HuffmanSteps.{text_from}
+use Rattle.hb_hpack.specs.Partial.{after_text}
 use Rattle.hb_hpack.proofs.Taking.{byte_taken}
 use Rattle.hb_hpack.proofs.huffman.take_byte.Goals as goal
 
