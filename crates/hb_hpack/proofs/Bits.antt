@@ -1,7 +1,9 @@
 -- Laws of the bits of numbers.
-use Rattle.std.proofs.Common.{◌≡◌, ℕ, zero, suc, ◌+◌, ◌-◌, ◌*◌, ◌/◌, ◌%◌, ◌^◌, ◌<◌, List, [], ◌∷◌, ◌++◌, refl, sym, ap, ◌∙◌, arith, replicate, bit_and}
+use Rattle.std.proofs.Common.{◌≡◌, ℕ, zero, suc, ◌+◌, ◌-◌, ◌*◌, ◌/◌, ◌%◌, ◌^◌, ◌<◌, ◌≤◌, List, [], ◌∷◌, ◌++◌, refl, sym, ap, ◌∙◌, arith, replicate, bit_and}
 use Rattle.std.specs.List.{AllByRecursion}
-use Rattle.std.proofs.lemmas.Nat.{shr-shr, pow_pos}
+use Rattle.std.proofs.lemmas.Nat.{shr-shr, pow_pos, div-add-mod', div-mul-add}
+use Rattle.std.proofs.Math.Nat.{add-mul-div_left}
+use Rattle.std.proofs.Math.Pow.{mod-mod-pow}
 use Rattle.std.proofs.lemmas.Nat.Bits.{shr_and_one}
 use Rattle.std.proofs.lemmas.List.{replicate_more}
 use Rattle.hb_hpack.specs.Huffman.{bits}
@@ -53,3 +55,45 @@ bits_next zero byte some = absurd (omega arith)
 bits_next (suc k) byte some =
     let same : suc k - 1 ≡ k = omega arith in
     rw (same, shr_and_one byte k) refl
+
+-- a number's bits: those of its upper part, and those of its lower part
+pub bits_split : (l k n : ℕ) → bits (l + k) n ≡ bits l (n / 2 ^ k) ++ bits k n
+unfolding bits
+bits_split zero k n = let same : zero + k ≡ k = omega arith in rw same refl
+bits_split (suc l) k n =
+    let same : suc l + k ≡ suc (l + k) = omega arith in
+    let order : l + k ≡ k + l = omega arith in
+    let deep : n / 2 ^ (l + k) ≡ n / 2 ^ k / 2 ^ l = rw order (sym (shr-shr n k l)) in
+    rw (same, deep, bits_split l k n) refl
+
+-- what stands above a number's low bits is not among them
+pub bits_low : (k q r : ℕ) → bits k (q * 2 ^ k + r) ≡ bits k r
+unfolding bits
+bits_low zero q r = refl
+bits_low (suc k) q r =
+    let p : 0 < 2 ^ k = pow_pos k in
+    let double : 2 ^ suc k ≡ 2 * 2 ^ k = omega arith in
+    let above : q * 2 ^ suc k + r ≡ r + 2 ^ k * (2 * q) = rw double (omega arith) in
+    let again : r + 2 ^ k * (2 * q) ≡ 2 * q * 2 ^ k + r = omega arith in
+    let part : (r + 2 ^ k * (2 * q)) / 2 ^ k ≡ r / 2 ^ k + 2 * q = add-mul-div_left r (2 * q) p in
+    let head : (r / 2 ^ k + 2 * q) % 2 ≡ r / 2 ^ k % 2 = omega arith in
+    let tail : bits k (r + 2 ^ k * (2 * q)) ≡ bits k r = rw again (bits_low k (2 * q) r) in
+    rw (above, part, head, tail) refl
+
+-- the low bits are those of the rest
+pub bits_rest : (k n : ℕ) → bits k (n % 2 ^ k) ≡ bits k n
+bits_rest k n = sym (bits_low k (n / 2 ^ k) (n % 2 ^ k)) ∙ ap (bits k) (div-add-mod' n (2 ^ k))
+
+-- the same of fewer bits
+pub bits_fewer : (k j n : ℕ) → k ≤ j → bits k (n % 2 ^ j) ≡ bits k n
+bits_fewer k j n le =
+    let whole : j - k + k ≡ j = omega arith in
+    let masked : n % 2 ^ j % 2 ^ k ≡ n % 2 ^ k = rw whole at (mod-mod-pow n (j - k) k) in
+    sym (bits_rest k (n % 2 ^ j)) ∙ ap (bits k) masked ∙ bits_rest k n
+
+-- a byte behind a number's bits
+pub bits_with : (count n byte : ℕ) → byte < 256 → count ≤ 56 → bits (count + 8) (n % 2 ^ 56 * 256 + byte) ≡ bits count n ++ bits 8 byte
+bits_with count n byte lt le =
+    let upper : (n % 2 ^ 56 * 256 + byte) / 2 ^ 8 ≡ n % 2 ^ 56 = div-mul-add (n % 2 ^ 56) 256 byte lt in
+    let lower : bits 8 (n % 2 ^ 56 * 256 + byte) ≡ bits 8 byte = bits_low 8 (n % 2 ^ 56) byte in
+    bits_split count 8 (n % 2 ^ 56 * 256 + byte) ∙ rw (upper, lower, bits_fewer count 56 n le) refl

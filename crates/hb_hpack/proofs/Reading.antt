@@ -1,19 +1,19 @@
 -- The bits that are read are a text's, and a text's bits are read.
 use Rattle.std.proofs.Common.{◌≡◌, ℕ, zero, suc, ◌+◌, ◌-◌, ◌*◌, ◌/◌, ◌%◌, ◌^◌, ◌<◌, ◌≤◌, Bool, true, false, cond, eqb, ltb, ◌&&◌, List, [], ◌∷◌, ◌++◌, Option, Some, None, refl, sym, ap, subst, ◌∙◌, arith, append_assoc, replicate, inl, inr, lit<, lit≤}
 use Rattle.std.specs.List.{flat_map, AllByRecursion}
-use Rattle.std.proofs.lemmas.Bool.{both_ways, and_from, cases_eq, cases_lt, lt-ltb, le-ltb, ltb-true, eqb-true, eqb-false, ne_eqb}
+use Rattle.std.proofs.lemmas.Bool.{both_ways, and_from, cases_eq, cases_lt, eq-eqb, lt-ltb, ltb-true, eqb-true, eqb-false, ne_eqb}
 use Rattle.std.proofs.lemmas.List.{append-nil}
 use Rattle.std.proofs.lemmas.Nat.{le-div, pow_pos}
 use Rattle.std.proofs.Math.Nat.{div-eq_of_lt}
 use Rattle.hb_hpack.specs.Huffman.{are_ones, IsPrefixFree, bits, word, AreBitsOf, Spells, bits_of}
 use Rattle.hb_hpack.specs.Tables.{row_at, symbol_at}
 use Rattle.hb_hpack.specs.HuffmanSteps.{in_front, text_from, text_of}
-use Rattle.hb_hpack.proofs.CodeTable.{row_follows_at, last_limit, limit_below, word_of_code, symbols_small, HasWord, has_word, last_is_ones, others_are_not, all_below, at_below, both}
+use Rattle.hb_hpack.proofs.CodeTable.{row_follows_at, last_limit, limit_below, word_of_code, symbols_small, HasWord, has_word, last_is_ones, others_are_not, both, symbol_found, no_symbol, padding_past}
 use Rattle.hb_hpack.proofs.Bits.{bits_push, bits_small, next_bit, bits_of_ones}
 
 -- the symbol whose word has this many bits, which make this number
 abbrev pub symbol_here : ℕ → ℕ → ℕ
-symbol_here code len = symbol_at ((row_at len).offset + (code - (row_at len).first))
+symbol_here code len = symbol_at ((row_at len).place + (code - (row_at len).first))
 
 -- bits that begin a word and make none: so many, and the number that they make
 pub record IsOpen (code len : ℕ) : Type 0 where
@@ -26,22 +26,22 @@ unfolding row_at
 nothing_open = record { short = lit< tt; below = lit< tt; past = lit≤ tt }
 
 -- a word ends at this bit
-pub text_word : (code len b : ℕ) (bs : List ℕ) → 2 * code + b < (row_at (len + 1)).limit
+pub text_word : (code len b : ℕ) (bs : List ℕ) → len < 30 → (row_at (len + 1)).first ≤ 2 * code + b → 2 * code + b < (row_at (len + 1)).limit
     → text_from code len (b ∷ bs) ≡ cond (eqb (symbol_here (2 * code + b) (len + 1)) 256) None (in_front (symbol_here (2 * code + b) (len + 1)) (text_from 0 0 bs))
 unfolding text_from
-text_word code len b bs lt = rw (lt-ltb (2 * code + b) (row_at (len + 1)).limit lt, text_from) refl
+text_word code len b bs short first lt = rw (symbol_found (len + 1) (2 * code + b) (omega arith) first lt, text_from) refl
 
 -- no word ends at this bit
 pub text_more : (code len b : ℕ) (bs : List ℕ) → (row_at (len + 1)).limit ≤ 2 * code + b → text_from code len (b ∷ bs) ≡ text_from (2 * code + b) (len + 1) bs
 unfolding text_from
-text_more code len b bs le = rw (le-ltb (2 * code + b) (row_at (len + 1)).limit le, text_from) refl
+text_more code len b bs le = rw (no_symbol (len + 1) (2 * code + b) le, text_from) refl
 
 -- the rows from one length to the next
 pub record NextRow (code len b : ℕ) : Type 0 where
   pub first : (row_at (len + 1)).first ≤ 2 * code + b
   pub below : 2 * code + b < 2 ^ (len + 1)
   pub small : (row_at (len + 1)).limit ≤ 2 ^ (len + 1)
-  pub places : (row_at (len + 1)).offset + ((row_at (len + 1)).limit - (row_at (len + 1)).first) ≤ 257
+  pub places : (row_at (len + 1)).place + ((row_at (len + 1)).limit - (row_at (len + 1)).first) ≤ 257
 
 pub next_row : (code len b : ℕ) → IsOpen code len → b < 2 → NextRow code len b
 next_row code len b begun lt =
@@ -49,7 +49,7 @@ next_row code len b begun lt =
     let h = row_follows_at len begun.short in
     let first : (row_at (len + 1)).first ≡ 2 * (row_at len).limit = rw (← same) h.first in
     let small : (row_at (len + 1)).limit ≤ 2 ^ (len + 1) = rw (← same) h.small in
-    let places : (row_at (len + 1)).offset + ((row_at (len + 1)).limit - (row_at (len + 1)).first) ≤ 257 = rw (← same) h.places in
+    let places : (row_at (len + 1)).place + ((row_at (len + 1)).limit - (row_at (len + 1)).first) ≤ 257 = rw (← same) h.places in
     let past = begun.past in
     let below = begun.below in
     let double : 2 ^ suc len ≡ 2 * 2 ^ len = omega arith in
@@ -79,7 +79,7 @@ word_here code len b begun lt limit =
 
 -- ---- what is read is a text's bits
 
-symbol_here_small : (code len : ℕ) → (row_at len).offset + (code - (row_at len).first) < 257 → symbol_here code len < 257
+symbol_here_small : (code len : ℕ) → (row_at len).place + (code - (row_at len).first) < 257 → symbol_here code len < 257
 symbol_here_small code len lt = symbols_small _ lt
 
 abbrev given : List ℕ → Option (List ℕ)
@@ -121,7 +121,7 @@ joined_from (b ∷ bs) code len text small begun e =
     elim (cases_lt (2 * code + b) (row_at (len + 1)).limit) [
       | inl lt ↦
           let s : ℕ = symbol_here (2 * code + b) (len + 1) in
-          let p = word_end s (text_from 0 0 bs) text (sym (text_word code len b bs lt) ∙ e) in
+          let p = word_end s (text_from 0 0 bs) text (sym (text_word code len b bs begun.short (next_row code len b begun small.0).first lt) ∙ e) in
           let rest = p.1 in
           let n = next_row code len b begun small.0 in
           let place : s < 257 = symbol_here_small (2 * code + b) (len + 1) (omega (arith, n.places, n.first)) in
@@ -152,9 +152,11 @@ word_read zero s w rest lt =
     let code : ℕ = w.code in
     let here : 2 * (code / 2 ^ suc zero) + code / 2 ^ zero % 2 ≡ code = next_bit code zero ∙ omega arith in
     let len : w.length - suc zero + 1 ≡ w.length = omega arith in
+    let first : (row_at (w.length - suc zero + 1)).first ≤ 2 * (code / 2 ^ suc zero) + code / 2 ^ zero % 2 = rw (here, len) w.first in
     let limit : 2 * (code / 2 ^ suc zero) + code / 2 ^ zero % 2 < (row_at (w.length - suc zero + 1)).limit = rw (here, len) w.limit in
+    let short = w.short in
     let symbol : symbol_here (2 * (code / 2 ^ suc zero) + code / 2 ^ zero % 2) (w.length - suc zero + 1) ≡ s = rw (here, len) w.symbol_is in
-    text_word (code / 2 ^ suc zero) (w.length - suc zero) (code / 2 ^ zero % 2) rest limit ∙ rw symbol refl
+    text_word (code / 2 ^ suc zero) (w.length - suc zero) (code / 2 ^ zero % 2) rest (omega arith) first limit ∙ rw symbol refl
 word_read (suc i) s w rest lt =
     let code : ℕ = w.code in
     let here : 2 * (code / 2 ^ suc (suc i)) + code / 2 ^ suc i % 2 ≡ code / 2 ^ suc i = next_bit code (suc i) in
@@ -181,7 +183,7 @@ word_start s w =
     div-eq_of_lt (omega arith)
 
 -- a whole word gives its symbol, or ends the reading
-word_whole : (s : ℕ) (rest : List ℕ) → s < 257 → text_from 0 0 (word s ++ rest) ≡ cond (eqb s 256) None (in_front s (text_from 0 0 rest))
+pub word_whole : (s : ℕ) (rest : List ℕ) → s < 257 → text_from 0 0 (word s ++ rest) ≡ cond (eqb s 256) None (in_front s (text_from 0 0 rest))
 word_whole s rest lt =
     let w = has_word s lt in
     let some = w.some in
@@ -196,23 +198,57 @@ word_whole s rest lt =
 word_first : (s : ℕ) (rest : List ℕ) → s < 256 → text_from 0 0 (word s ++ rest) ≡ in_front s (text_from 0 0 rest)
 word_first s rest lt = let other : eqb s 256 ≡ false = ne_eqb s 256 (λ e. omega arith) in word_whole s rest (omega arith) ∙ rw other refl
 
+-- what stands past a row's words stands past the rows before it
+open_front : (i code len : ℕ) → IsOpen code len → i ≤ len → (row_at (len - i)).limit ≤ code / 2 ^ i
+open_front zero code len begun le =
+    let same : len - zero ≡ len = omega arith in
+    let whole : code / 2 ^ zero ≡ code = omega arith in
+    rw (same, whole) begun.past
+open_front (suc i) code len begun le =
+    let short = begun.short in
+    let past = begun.past in
+    let left : len - (len - suc i) ≡ suc i = omega arith in
+    let same : suc (len - 1) ≡ len = omega arith in
+    let ordered : (row_at len).first ≤ (row_at len).limit = rw same at (row_follows_at (len - 1) (omega arith)).ordered in
+    let scaled : (row_at (len - suc i)).limit * 2 ^ suc i ≤ (row_at len).first = rw left at (limit_below len (len - suc i) (omega arith) (omega arith)) in
+    le-div _ code (2 ^ suc i) (pow_pos (suc i)) (omega arith)
+
+open_from : (i code len : ℕ) (rest : List ℕ) → IsOpen code len → i ≤ len → text_from (code / 2 ^ i) (len - i) (bits i code ++ rest) ≡ text_from code len rest
+unfolding bits
+open_from zero code len rest begun le =
+    let same : len - zero ≡ len = omega arith in
+    let whole : code / 2 ^ zero ≡ code = omega arith in
+    rw (same, whole) refl
+open_from (suc i) code len rest begun le =
+    let here : 2 * (code / 2 ^ suc i) + code / 2 ^ i % 2 ≡ code / 2 ^ i = next_bit code i in
+    let next : len - suc i + 1 ≡ len - i = omega arith in
+    let past : (row_at (len - suc i + 1)).limit ≤ 2 * (code / 2 ^ suc i) + code / 2 ^ i % 2 = rw (here, next) (open_front i code len begun (omega arith)) in
+    text_more (code / 2 ^ suc i) (len - suc i) (code / 2 ^ i % 2) (bits i code ++ rest) past
+    ∙ ap (λ c. text_from c (len - suc i + 1) (bits i code ++ rest)) here
+    ∙ ap (λ n. text_from (code / 2 ^ i) n (bits i code ++ rest)) next
+    ∙ open_from i code len rest begun (omega arith)
+
+-- bits of which no word is whole are read, and none is a symbol
+pub open_read : (code len : ℕ) (rest : List ℕ) → IsOpen code len → text_from 0 0 (bits len code ++ rest) ≡ text_from code len rest
+open_read code len rest begun =
+    let start : code / 2 ^ len ≡ 0 = div-eq_of_lt begun.below in
+    let none : len - len ≡ 0 = omega arith in
+    rw (start, none) at (open_from len code len rest begun (omega arith))
+
+padding_ends : (n : ℕ) → n ≤ 7 → text_from (2 ^ n - 1) n [] ≡ Some []
+unfolding text_from
+padding_ends n le =
+    let p : 0 < 2 ^ n = pow_pos n in
+    let whole : 2 ^ n - 1 + 1 ≡ 2 ^ n = omega arith in
+    rw (lt-ltb n 8 (omega arith), eq-eqb (2 ^ n - 1 + 1) (2 ^ n) whole) refl
+
 -- at most seven ones are read as nothing
-abbrev is_nothing : Option (List ℕ) → Bool
-is_nothing (Some []) = true
-is_nothing (Some (s ∷ text)) = false
-is_nothing None = false
-
-is_nothing_is : (o : Option (List ℕ)) → is_nothing o ≡ true → o ≡ Some []
-is_nothing_is (Some []) h = refl
-is_nothing_is (Some (s ∷ text)) h = absurd cc
-is_nothing_is None h = absurd cc
-
-ones_test : all_below 8 (λ n. is_nothing (text_from 0 0 (replicate n 1))) ≡ true
-unfolding all_below text_from row_at symbol_at
-ones_test = refl
-
 ones_read : (n : ℕ) → n ≤ 7 → text_from 0 0 (replicate n 1) ≡ Some []
-ones_read n le = is_nothing_is _ (at_below 8 (λ n. is_nothing (text_from 0 0 (replicate n 1))) ones_test n (omega arith))
+ones_read n le =
+    let p : 0 < 2 ^ n = pow_pos n in
+    let begun : IsOpen (2 ^ n - 1) n = record { short = omega arith; below = omega arith; past = padding_past n (omega arith) } in
+    let ones : bits n (2 ^ n - 1) ++ [] ≡ replicate n 1 = append-nil (bits n (2 ^ n - 1)) ∙ bits_of_ones n (2 ^ n - 1) (omega arith) in
+    ap (text_from 0 0) (sym ones) ∙ open_read (2 ^ n - 1) n [] begun ∙ padding_ends n le
 
 words_read : (text : List ℕ) (n : ℕ) → AllByRecursion (λ s. s < 256) text → n ≤ 7 → text_from 0 0 (flat_map word text ++ replicate n 1) ≡ Some text
 words_read [] n octets le = ones_read n le

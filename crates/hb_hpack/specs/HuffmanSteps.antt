@@ -1,17 +1,7 @@
 -- How a text is read from bits and written as bytes, one bit after another.
-use Rattle.std.specs.Prelude.{ℕ, zero, suc, ◌+◌, ◌-◌, ◌*◌, ◌^◌, ◌==◌, nat_lt, ◌&&◌, List, [], ◌∷◌, ◌++◌, length, Option, Some, None, if◌then◌else◌}
+use Rattle.std.specs.Prelude.{ℕ, zero, suc, ◌+◌, ◌-◌, ◌*◌, ◌^◌, ◌==◌, nat_lt, ◌&&◌, List, [], ◌∷◌, Option, Some, None, if◌then◌else◌}
 use Rattle.std.specs.List.{flat_map}
-use Rattle.hb_hpack.specs.Tables.{row_at, symbol_at}
-use Rattle.hb_hpack.specs.declared.partial.Partial.{Partial}
-use Rattle.hb_hpack.specs.declared.partial.Unfinished.{Unfinished}
-use Rattle.hb_hpack.specs.Huffman.{bits_of, word}
-
--- the symbol whose word has this many bits, which make this number
-abbrev pub symbol_of : ℕ → ℕ → Option ℕ
-symbol_of code length =
-    if nat_lt code (row_at length).limit
-    then Some (symbol_at ((row_at length).offset + (code - (row_at length).first)))
-    else None
+use Rattle.hb_hpack.specs.Huffman.{bits_of, word, symbol_of}
 
 -- an octet in front of a text, where there is one
 abbrev pub in_front : ℕ → Option (List ℕ) → Option (List ℕ)
@@ -31,11 +21,6 @@ text_from code len (b ∷ bs) =
 abbrev pub text_of : List ℕ → Option (List ℕ)
 text_of bytes = text_from 0 0 (bits_of bytes)
 
--- a text in front of a text, where there is one
-abbrev pub after_text : List ℕ → Option (List ℕ) → Option (List ℕ)
-after_text front None = None
-after_text front (Some text) = Some (front ++ text)
-
 -- a byte with as many ones behind its bits
 unfoldable pub with_ones : ℕ → ℕ → ℕ
 with_ones zero byte = byte
@@ -50,12 +35,3 @@ bytes_from byte count (b ∷ bs) =
 -- the bytes that spell a text
 abbrev pub huffman_of : List ℕ → List ℕ
 huffman_of text = bytes_from 0 0 (flat_map word text)
-
--- the text that is read in the end: what was read so far, and what the bits from here on give; None where no text is read
-abbrev pub read_on : List ℕ → Option Partial → List ℕ → Option (List ℕ)
-read_on text None rest = None
-read_on text (Some at) rest = after_text text (text_from at.code at.length rest)
-
--- what is written in the end: what was written so far, and the bytes of the bits from here on
-abbrev pub written_on : List ℕ → Unfinished → List ℕ → List ℕ
-written_on out at rest = out ++ bytes_from at.byte at.count rest

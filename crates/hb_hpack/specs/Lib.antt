@@ -2,6 +2,7 @@ pub mod Grown
 pub mod Huffman
 pub mod Tables
 pub mod HuffmanSteps
+pub mod Partial
 pub mod Outcome
 pub mod Integer
 pub mod StaticTable

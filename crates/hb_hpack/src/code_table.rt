@@ -1,1214 +1,88 @@
 //! The Huffman code (RFC 7541 Appendix B) as the reader and the writer need it.
 
+ghost use Rattle.std.specs.Prelude.{◌≡◌, ◌<◌, ◌≤◌};
+ghost use Rattle.hb_hpack.specs.Tables.{row_at, symbol_at, code_at, short_at};
+
+use crate::partial::Found;
+
 /// A code word: its bits as a number, highest first, and how many they are.
+#[derive(Clone, Copy)]
 pub struct Code {
     pub bits: u32,
     pub length: u8,
 }
 
 /// The words of one length: they are the numbers from `first` on and below `limit`. Their symbols stand
-/// in `SYMBOLS` from `offset` on.
+/// in `SYMBOLS` from `place` on.
+#[derive(Clone, Copy)]
 pub struct Row {
     pub first: u32,
     pub limit: u32,
-    pub offset: u16,
+    pub place: u16,
 }
 
 /// The symbol that ends no text (RFC 7541 section 5.2).
 pub const END: u16 = 256;
 
 /// The longest word's length.
-pub const LONGEST: u8 = 30;
+pub const LONGEST: u64 = 30;
 
-/// The word of each symbol.
-pub static CODES: [Code; 257] = [
-    Code {
-        bits: 0x1ff8,
-        length: 13,
-    },
-    Code {
-        bits: 0x7fffd8,
-        length: 23,
-    },
-    Code {
-        bits: 0xfffffe2,
-        length: 28,
-    },
-    Code {
-        bits: 0xfffffe3,
-        length: 28,
-    },
-    Code {
-        bits: 0xfffffe4,
-        length: 28,
-    },
-    Code {
-        bits: 0xfffffe5,
-        length: 28,
-    },
-    Code {
-        bits: 0xfffffe6,
-        length: 28,
-    },
-    Code {
-        bits: 0xfffffe7,
-        length: 28,
-    },
-    Code {
-        bits: 0xfffffe8,
-        length: 28,
-    },
-    Code {
-        bits: 0xffffea,
-        length: 24,
-    },
-    Code {
-        bits: 0x3ffffffc,
-        length: 30,
-    },
-    Code {
-        bits: 0xfffffe9,
-        length: 28,
-    },
-    Code {
-        bits: 0xfffffea,
-        length: 28,
-    },
-    Code {
-        bits: 0x3ffffffd,
-        length: 30,
-    },
-    Code {
-        bits: 0xfffffeb,
-        length: 28,
-    },
-    Code {
-        bits: 0xfffffec,
-        length: 28,
-    },
-    Code {
-        bits: 0xfffffed,
-        length: 28,
-    },
-    Code {
-        bits: 0xfffffee,
-        length: 28,
-    },
-    Code {
-        bits: 0xfffffef,
-        length: 28,
-    },
-    Code {
-        bits: 0xffffff0,
-        length: 28,
-    },
-    Code {
-        bits: 0xffffff1,
-        length: 28,
-    },
-    Code {
-        bits: 0xffffff2,
-        length: 28,
-    },
-    Code {
-        bits: 0x3ffffffe,
-        length: 30,
-    },
-    Code {
-        bits: 0xffffff3,
-        length: 28,
-    },
-    Code {
-        bits: 0xffffff4,
-        length: 28,
-    },
-    Code {
-        bits: 0xffffff5,
-        length: 28,
-    },
-    Code {
-        bits: 0xffffff6,
-        length: 28,
-    },
-    Code {
-        bits: 0xffffff7,
-        length: 28,
-    },
-    Code {
-        bits: 0xffffff8,
-        length: 28,
-    },
-    Code {
-        bits: 0xffffff9,
-        length: 28,
-    },
-    Code {
-        bits: 0xffffffa,
-        length: 28,
-    },
-    Code {
-        bits: 0xffffffb,
-        length: 28,
-    },
-    Code {
-        bits: 0x14,
-        length: 6,
-    },
-    Code {
-        bits: 0x3f8,
-        length: 10,
-    },
-    Code {
-        bits: 0x3f9,
-        length: 10,
-    },
-    Code {
-        bits: 0xffa,
-        length: 12,
-    },
-    Code {
-        bits: 0x1ff9,
-        length: 13,
-    },
-    Code {
-        bits: 0x15,
-        length: 6,
-    },
-    Code {
-        bits: 0xf8,
-        length: 8,
-    },
-    Code {
-        bits: 0x7fa,
-        length: 11,
-    },
-    Code {
-        bits: 0x3fa,
-        length: 10,
-    },
-    Code {
-        bits: 0x3fb,
-        length: 10,
-    },
-    Code {
-        bits: 0xf9,
-        length: 8,
-    },
-    Code {
-        bits: 0x7fb,
-        length: 11,
-    },
-    Code {
-        bits: 0xfa,
-        length: 8,
-    },
-    Code {
-        bits: 0x16,
-        length: 6,
-    },
-    Code {
-        bits: 0x17,
-        length: 6,
-    },
-    Code {
-        bits: 0x18,
-        length: 6,
-    },
-    Code {
-        bits: 0x0,
-        length: 5,
-    },
-    Code {
-        bits: 0x1,
-        length: 5,
-    },
-    Code {
-        bits: 0x2,
-        length: 5,
-    },
-    Code {
-        bits: 0x19,
-        length: 6,
-    },
-    Code {
-        bits: 0x1a,
-        length: 6,
-    },
-    Code {
-        bits: 0x1b,
-        length: 6,
-    },
-    Code {
-        bits: 0x1c,
-        length: 6,
-    },
-    Code {
-        bits: 0x1d,
-        length: 6,
-    },
-    Code {
-        bits: 0x1e,
-        length: 6,
-    },
-    Code {
-        bits: 0x1f,
-        length: 6,
-    },
-    Code {
-        bits: 0x5c,
-        length: 7,
-    },
-    Code {
-        bits: 0xfb,
-        length: 8,
-    },
-    Code {
-        bits: 0x7ffc,
-        length: 15,
-    },
-    Code {
-        bits: 0x20,
-        length: 6,
-    },
-    Code {
-        bits: 0xffb,
-        length: 12,
-    },
-    Code {
-        bits: 0x3fc,
-        length: 10,
-    },
-    Code {
-        bits: 0x1ffa,
-        length: 13,
-    },
-    Code {
-        bits: 0x21,
-        length: 6,
-    },
-    Code {
-        bits: 0x5d,
-        length: 7,
-    },
-    Code {
-        bits: 0x5e,
-        length: 7,
-    },
-    Code {
-        bits: 0x5f,
-        length: 7,
-    },
-    Code {
-        bits: 0x60,
-        length: 7,
-    },
-    Code {
-        bits: 0x61,
-        length: 7,
-    },
-    Code {
-        bits: 0x62,
-        length: 7,
-    },
-    Code {
-        bits: 0x63,
-        length: 7,
-    },
-    Code {
-        bits: 0x64,
-        length: 7,
-    },
-    Code {
-        bits: 0x65,
-        length: 7,
-    },
-    Code {
-        bits: 0x66,
-        length: 7,
-    },
-    Code {
-        bits: 0x67,
-        length: 7,
-    },
-    Code {
-        bits: 0x68,
-        length: 7,
-    },
-    Code {
-        bits: 0x69,
-        length: 7,
-    },
-    Code {
-        bits: 0x6a,
-        length: 7,
-    },
-    Code {
-        bits: 0x6b,
-        length: 7,
-    },
-    Code {
-        bits: 0x6c,
-        length: 7,
-    },
-    Code {
-        bits: 0x6d,
-        length: 7,
-    },
-    Code {
-        bits: 0x6e,
-        length: 7,
-    },
-    Code {
-        bits: 0x6f,
-        length: 7,
-    },
-    Code {
-        bits: 0x70,
-        length: 7,
-    },
-    Code {
-        bits: 0x71,
-        length: 7,
-    },
-    Code {
-        bits: 0x72,
-        length: 7,
-    },
-    Code {
-        bits: 0xfc,
-        length: 8,
-    },
-    Code {
-        bits: 0x73,
-        length: 7,
-    },
-    Code {
-        bits: 0xfd,
-        length: 8,
-    },
-    Code {
-        bits: 0x1ffb,
-        length: 13,
-    },
-    Code {
-        bits: 0x7fff0,
-        length: 19,
-    },
-    Code {
-        bits: 0x1ffc,
-        length: 13,
-    },
-    Code {
-        bits: 0x3ffc,
-        length: 14,
-    },
-    Code {
-        bits: 0x22,
-        length: 6,
-    },
-    Code {
-        bits: 0x7ffd,
-        length: 15,
-    },
-    Code {
-        bits: 0x3,
-        length: 5,
-    },
-    Code {
-        bits: 0x23,
-        length: 6,
-    },
-    Code {
-        bits: 0x4,
-        length: 5,
-    },
-    Code {
-        bits: 0x24,
-        length: 6,
-    },
-    Code {
-        bits: 0x5,
-        length: 5,
-    },
-    Code {
-        bits: 0x25,
-        length: 6,
-    },
-    Code {
-        bits: 0x26,
-        length: 6,
-    },
-    Code {
-        bits: 0x27,
-        length: 6,
-    },
-    Code {
-        bits: 0x6,
-        length: 5,
-    },
-    Code {
-        bits: 0x74,
-        length: 7,
-    },
-    Code {
-        bits: 0x75,
-        length: 7,
-    },
-    Code {
-        bits: 0x28,
-        length: 6,
-    },
-    Code {
-        bits: 0x29,
-        length: 6,
-    },
-    Code {
-        bits: 0x2a,
-        length: 6,
-    },
-    Code {
-        bits: 0x7,
-        length: 5,
-    },
-    Code {
-        bits: 0x2b,
-        length: 6,
-    },
-    Code {
-        bits: 0x76,
-        length: 7,
-    },
-    Code {
-        bits: 0x2c,
-        length: 6,
-    },
-    Code {
-        bits: 0x8,
-        length: 5,
-    },
-    Code {
-        bits: 0x9,
-        length: 5,
-    },
-    Code {
-        bits: 0x2d,
-        length: 6,
-    },
-    Code {
-        bits: 0x77,
-        length: 7,
-    },
-    Code {
-        bits: 0x78,
-        length: 7,
-    },
-    Code {
-        bits: 0x79,
-        length: 7,
-    },
-    Code {
-        bits: 0x7a,
-        length: 7,
-    },
-    Code {
-        bits: 0x7b,
-        length: 7,
-    },
-    Code {
-        bits: 0x7ffe,
-        length: 15,
-    },
-    Code {
-        bits: 0x7fc,
-        length: 11,
-    },
-    Code {
-        bits: 0x3ffd,
-        length: 14,
-    },
-    Code {
-        bits: 0x1ffd,
-        length: 13,
-    },
-    Code {
-        bits: 0xffffffc,
-        length: 28,
-    },
-    Code {
-        bits: 0xfffe6,
-        length: 20,
-    },
-    Code {
-        bits: 0x3fffd2,
-        length: 22,
-    },
-    Code {
-        bits: 0xfffe7,
-        length: 20,
-    },
-    Code {
-        bits: 0xfffe8,
-        length: 20,
-    },
-    Code {
-        bits: 0x3fffd3,
-        length: 22,
-    },
-    Code {
-        bits: 0x3fffd4,
-        length: 22,
-    },
-    Code {
-        bits: 0x3fffd5,
-        length: 22,
-    },
-    Code {
-        bits: 0x7fffd9,
-        length: 23,
-    },
-    Code {
-        bits: 0x3fffd6,
-        length: 22,
-    },
-    Code {
-        bits: 0x7fffda,
-        length: 23,
-    },
-    Code {
-        bits: 0x7fffdb,
-        length: 23,
-    },
-    Code {
-        bits: 0x7fffdc,
-        length: 23,
-    },
-    Code {
-        bits: 0x7fffdd,
-        length: 23,
-    },
-    Code {
-        bits: 0x7fffde,
-        length: 23,
-    },
-    Code {
-        bits: 0xffffeb,
-        length: 24,
-    },
-    Code {
-        bits: 0x7fffdf,
-        length: 23,
-    },
-    Code {
-        bits: 0xffffec,
-        length: 24,
-    },
-    Code {
-        bits: 0xffffed,
-        length: 24,
-    },
-    Code {
-        bits: 0x3fffd7,
-        length: 22,
-    },
-    Code {
-        bits: 0x7fffe0,
-        length: 23,
-    },
-    Code {
-        bits: 0xffffee,
-        length: 24,
-    },
-    Code {
-        bits: 0x7fffe1,
-        length: 23,
-    },
-    Code {
-        bits: 0x7fffe2,
-        length: 23,
-    },
-    Code {
-        bits: 0x7fffe3,
-        length: 23,
-    },
-    Code {
-        bits: 0x7fffe4,
-        length: 23,
-    },
-    Code {
-        bits: 0x1fffdc,
-        length: 21,
-    },
-    Code {
-        bits: 0x3fffd8,
-        length: 22,
-    },
-    Code {
-        bits: 0x7fffe5,
-        length: 23,
-    },
-    Code {
-        bits: 0x3fffd9,
-        length: 22,
-    },
-    Code {
-        bits: 0x7fffe6,
-        length: 23,
-    },
-    Code {
-        bits: 0x7fffe7,
-        length: 23,
-    },
-    Code {
-        bits: 0xffffef,
-        length: 24,
-    },
-    Code {
-        bits: 0x3fffda,
-        length: 22,
-    },
-    Code {
-        bits: 0x1fffdd,
-        length: 21,
-    },
-    Code {
-        bits: 0xfffe9,
-        length: 20,
-    },
-    Code {
-        bits: 0x3fffdb,
-        length: 22,
-    },
-    Code {
-        bits: 0x3fffdc,
-        length: 22,
-    },
-    Code {
-        bits: 0x7fffe8,
-        length: 23,
-    },
-    Code {
-        bits: 0x7fffe9,
-        length: 23,
-    },
-    Code {
-        bits: 0x1fffde,
-        length: 21,
-    },
-    Code {
-        bits: 0x7fffea,
-        length: 23,
-    },
-    Code {
-        bits: 0x3fffdd,
-        length: 22,
-    },
-    Code {
-        bits: 0x3fffde,
-        length: 22,
-    },
-    Code {
-        bits: 0xfffff0,
-        length: 24,
-    },
-    Code {
-        bits: 0x1fffdf,
-        length: 21,
-    },
-    Code {
-        bits: 0x3fffdf,
-        length: 22,
-    },
-    Code {
-        bits: 0x7fffeb,
-        length: 23,
-    },
-    Code {
-        bits: 0x7fffec,
-        length: 23,
-    },
-    Code {
-        bits: 0x1fffe0,
-        length: 21,
-    },
-    Code {
-        bits: 0x1fffe1,
-        length: 21,
-    },
-    Code {
-        bits: 0x3fffe0,
-        length: 22,
-    },
-    Code {
-        bits: 0x1fffe2,
-        length: 21,
-    },
-    Code {
-        bits: 0x7fffed,
-        length: 23,
-    },
-    Code {
-        bits: 0x3fffe1,
-        length: 22,
-    },
-    Code {
-        bits: 0x7fffee,
-        length: 23,
-    },
-    Code {
-        bits: 0x7fffef,
-        length: 23,
-    },
-    Code {
-        bits: 0xfffea,
-        length: 20,
-    },
-    Code {
-        bits: 0x3fffe2,
-        length: 22,
-    },
-    Code {
-        bits: 0x3fffe3,
-        length: 22,
-    },
-    Code {
-        bits: 0x3fffe4,
-        length: 22,
-    },
-    Code {
-        bits: 0x7ffff0,
-        length: 23,
-    },
-    Code {
-        bits: 0x3fffe5,
-        length: 22,
-    },
-    Code {
-        bits: 0x3fffe6,
-        length: 22,
-    },
-    Code {
-        bits: 0x7ffff1,
-        length: 23,
-    },
-    Code {
-        bits: 0x3ffffe0,
-        length: 26,
-    },
-    Code {
-        bits: 0x3ffffe1,
-        length: 26,
-    },
-    Code {
-        bits: 0xfffeb,
-        length: 20,
-    },
-    Code {
-        bits: 0x7fff1,
-        length: 19,
-    },
-    Code {
-        bits: 0x3fffe7,
-        length: 22,
-    },
-    Code {
-        bits: 0x7ffff2,
-        length: 23,
-    },
-    Code {
-        bits: 0x3fffe8,
-        length: 22,
-    },
-    Code {
-        bits: 0x1ffffec,
-        length: 25,
-    },
-    Code {
-        bits: 0x3ffffe2,
-        length: 26,
-    },
-    Code {
-        bits: 0x3ffffe3,
-        length: 26,
-    },
-    Code {
-        bits: 0x3ffffe4,
-        length: 26,
-    },
-    Code {
-        bits: 0x7ffffde,
-        length: 27,
-    },
-    Code {
-        bits: 0x7ffffdf,
-        length: 27,
-    },
-    Code {
-        bits: 0x3ffffe5,
-        length: 26,
-    },
-    Code {
-        bits: 0xfffff1,
-        length: 24,
-    },
-    Code {
-        bits: 0x1ffffed,
-        length: 25,
-    },
-    Code {
-        bits: 0x7fff2,
-        length: 19,
-    },
-    Code {
-        bits: 0x1fffe3,
-        length: 21,
-    },
-    Code {
-        bits: 0x3ffffe6,
-        length: 26,
-    },
-    Code {
-        bits: 0x7ffffe0,
-        length: 27,
-    },
-    Code {
-        bits: 0x7ffffe1,
-        length: 27,
-    },
-    Code {
-        bits: 0x3ffffe7,
-        length: 26,
-    },
-    Code {
-        bits: 0x7ffffe2,
-        length: 27,
-    },
-    Code {
-        bits: 0xfffff2,
-        length: 24,
-    },
-    Code {
-        bits: 0x1fffe4,
-        length: 21,
-    },
-    Code {
-        bits: 0x1fffe5,
-        length: 21,
-    },
-    Code {
-        bits: 0x3ffffe8,
-        length: 26,
-    },
-    Code {
-        bits: 0x3ffffe9,
-        length: 26,
-    },
-    Code {
-        bits: 0xffffffd,
-        length: 28,
-    },
-    Code {
-        bits: 0x7ffffe3,
-        length: 27,
-    },
-    Code {
-        bits: 0x7ffffe4,
-        length: 27,
-    },
-    Code {
-        bits: 0x7ffffe5,
-        length: 27,
-    },
-    Code {
-        bits: 0xfffec,
-        length: 20,
-    },
-    Code {
-        bits: 0xfffff3,
-        length: 24,
-    },
-    Code {
-        bits: 0xfffed,
-        length: 20,
-    },
-    Code {
-        bits: 0x1fffe6,
-        length: 21,
-    },
-    Code {
-        bits: 0x3fffe9,
-        length: 22,
-    },
-    Code {
-        bits: 0x1fffe7,
-        length: 21,
-    },
-    Code {
-        bits: 0x1fffe8,
-        length: 21,
-    },
-    Code {
-        bits: 0x7ffff3,
-        length: 23,
-    },
-    Code {
-        bits: 0x3fffea,
-        length: 22,
-    },
-    Code {
-        bits: 0x3fffeb,
-        length: 22,
-    },
-    Code {
-        bits: 0x1ffffee,
-        length: 25,
-    },
-    Code {
-        bits: 0x1ffffef,
-        length: 25,
-    },
-    Code {
-        bits: 0xfffff4,
-        length: 24,
-    },
-    Code {
-        bits: 0xfffff5,
-        length: 24,
-    },
-    Code {
-        bits: 0x3ffffea,
-        length: 26,
-    },
-    Code {
-        bits: 0x7ffff4,
-        length: 23,
-    },
-    Code {
-        bits: 0x3ffffeb,
-        length: 26,
-    },
-    Code {
-        bits: 0x7ffffe6,
-        length: 27,
-    },
-    Code {
-        bits: 0x3ffffec,
-        length: 26,
-    },
-    Code {
-        bits: 0x3ffffed,
-        length: 26,
-    },
-    Code {
-        bits: 0x7ffffe7,
-        length: 27,
-    },
-    Code {
-        bits: 0x7ffffe8,
-        length: 27,
-    },
-    Code {
-        bits: 0x7ffffe9,
-        length: 27,
-    },
-    Code {
-        bits: 0x7ffffea,
-        length: 27,
-    },
-    Code {
-        bits: 0x7ffffeb,
-        length: 27,
-    },
-    Code {
-        bits: 0xffffffe,
-        length: 28,
-    },
-    Code {
-        bits: 0x7ffffec,
-        length: 27,
-    },
-    Code {
-        bits: 0x7ffffed,
-        length: 27,
-    },
-    Code {
-        bits: 0x7ffffee,
-        length: 27,
-    },
-    Code {
-        bits: 0x7ffffef,
-        length: 27,
-    },
-    Code {
-        bits: 0x7fffff0,
-        length: 27,
-    },
-    Code {
-        bits: 0x3ffffee,
-        length: 26,
-    },
-    Code {
-        bits: 0x3fffffff,
-        length: 30,
-    },
+/// How many bits the word of each symbol has. The number behind a row is its first symbol.
+pub static LENGTHS: [u8; 257] = [
+    13, 23, 28, 28, 28, 28, 28, 28, 28, 24, 30, 28, 28, 30, 28, 28, // 0
+    28, 28, 28, 28, 28, 28, 30, 28, 28, 28, 28, 28, 28, 28, 28, 28, // 16
+    6, 10, 10, 12, 13, 6, 8, 11, 10, 10, 8, 11, 8, 6, 6, 6, // 32
+    5, 5, 5, 6, 6, 6, 6, 6, 6, 6, 7, 8, 15, 6, 12, 10, // 48
+    13, 6, 7, 7, 7, 7, 7, 7, 7, 7, 7, 7, 7, 7, 7, 7, // 64
+    7, 7, 7, 7, 7, 7, 7, 7, 8, 7, 8, 13, 19, 13, 14, 6, // 80
+    15, 5, 6, 5, 6, 5, 6, 6, 6, 5, 7, 7, 6, 6, 6, 5, // 96
+    6, 7, 6, 5, 5, 6, 7, 7, 7, 7, 7, 15, 11, 14, 13, 28, // 112
+    20, 22, 20, 20, 22, 22, 22, 23, 22, 23, 23, 23, 23, 23, 24, 23, // 128
+    24, 24, 22, 23, 24, 23, 23, 23, 23, 21, 22, 23, 22, 23, 23, 24, // 144
+    22, 21, 20, 22, 22, 23, 23, 21, 23, 22, 22, 24, 21, 22, 23, 23, // 160
+    21, 21, 22, 21, 23, 22, 23, 23, 20, 22, 22, 22, 23, 22, 22, 23, // 176
+    26, 26, 20, 19, 22, 23, 22, 25, 26, 26, 26, 27, 27, 26, 24, 25, // 192
+    19, 21, 26, 27, 27, 26, 27, 24, 21, 21, 26, 26, 28, 27, 27, 27, // 208
+    20, 24, 20, 21, 22, 21, 21, 23, 22, 22, 25, 25, 24, 24, 26, 23, // 224
+    26, 27, 26, 26, 27, 27, 27, 27, 27, 28, 27, 27, 27, 27, 27, 26, // 240
+    30, // 256
 ];
 
-/// The words of each length, from 0 on.
-pub static ROWS: [Row; 31] = [
-    Row {
-        first: 0,
-        limit: 0,
-        offset: 0,
-    },
-    Row {
-        first: 0,
-        limit: 0,
-        offset: 0,
-    },
-    Row {
-        first: 0,
-        limit: 0,
-        offset: 0,
-    },
-    Row {
-        first: 0,
-        limit: 0,
-        offset: 0,
-    },
-    Row {
-        first: 0,
-        limit: 0,
-        offset: 0,
-    },
-    Row {
-        first: 0,
-        limit: 10,
-        offset: 0,
-    },
-    Row {
-        first: 20,
-        limit: 46,
-        offset: 10,
-    },
-    Row {
-        first: 92,
-        limit: 124,
-        offset: 36,
-    },
-    Row {
-        first: 248,
-        limit: 254,
-        offset: 68,
-    },
-    Row {
-        first: 508,
-        limit: 508,
-        offset: 74,
-    },
-    Row {
-        first: 1016,
-        limit: 1021,
-        offset: 74,
-    },
-    Row {
-        first: 2042,
-        limit: 2045,
-        offset: 79,
-    },
-    Row {
-        first: 4090,
-        limit: 4092,
-        offset: 82,
-    },
-    Row {
-        first: 8184,
-        limit: 8190,
-        offset: 84,
-    },
-    Row {
-        first: 16380,
-        limit: 16382,
-        offset: 90,
-    },
-    Row {
-        first: 32764,
-        limit: 32767,
-        offset: 92,
-    },
-    Row {
-        first: 65534,
-        limit: 65534,
-        offset: 95,
-    },
-    Row {
-        first: 131068,
-        limit: 131068,
-        offset: 95,
-    },
-    Row {
-        first: 262136,
-        limit: 262136,
-        offset: 95,
-    },
-    Row {
-        first: 524272,
-        limit: 524275,
-        offset: 95,
-    },
-    Row {
-        first: 1048550,
-        limit: 1048558,
-        offset: 98,
-    },
-    Row {
-        first: 2097116,
-        limit: 2097129,
-        offset: 106,
-    },
-    Row {
-        first: 4194258,
-        limit: 4194284,
-        offset: 119,
-    },
-    Row {
-        first: 8388568,
-        limit: 8388597,
-        offset: 145,
-    },
-    Row {
-        first: 16777194,
-        limit: 16777206,
-        offset: 174,
-    },
-    Row {
-        first: 33554412,
-        limit: 33554416,
-        offset: 186,
-    },
-    Row {
-        first: 67108832,
-        limit: 67108847,
-        offset: 190,
-    },
-    Row {
-        first: 134217694,
-        limit: 134217713,
-        offset: 205,
-    },
-    Row {
-        first: 268435426,
-        limit: 268435455,
-        offset: 224,
-    },
-    Row {
-        first: 536870910,
-        limit: 536870910,
-        offset: 253,
-    },
-    Row {
-        first: 1073741820,
-        limit: 1073741824,
-        offset: 253,
-    },
+/// The bits of each symbol's word as a number, highest first.
+pub static WORDS: [u32; 257] = [
+    0x1ff8, 0x7fffd8, 0xfffffe2, 0xfffffe3, 0xfffffe4, 0xfffffe5, 0xfffffe6, 0xfffffe7, // 0
+    0xfffffe8, 0xffffea, 0x3ffffffc, 0xfffffe9, 0xfffffea, 0x3ffffffd, 0xfffffeb, 0xfffffec, // 8
+    0xfffffed, 0xfffffee, 0xfffffef, 0xffffff0, 0xffffff1, 0xffffff2, 0x3ffffffe, 0xffffff3, // 16
+    0xffffff4, 0xffffff5, 0xffffff6, 0xffffff7, 0xffffff8, 0xffffff9, 0xffffffa, 0xffffffb, // 24
+    0x14, 0x3f8, 0x3f9, 0xffa, 0x1ff9, 0x15, 0xf8, 0x7fa, // 32
+    0x3fa, 0x3fb, 0xf9, 0x7fb, 0xfa, 0x16, 0x17, 0x18, // 40
+    0x0, 0x1, 0x2, 0x19, 0x1a, 0x1b, 0x1c, 0x1d, // 48
+    0x1e, 0x1f, 0x5c, 0xfb, 0x7ffc, 0x20, 0xffb, 0x3fc, // 56
+    0x1ffa, 0x21, 0x5d, 0x5e, 0x5f, 0x60, 0x61, 0x62, // 64
+    0x63, 0x64, 0x65, 0x66, 0x67, 0x68, 0x69, 0x6a, // 72
+    0x6b, 0x6c, 0x6d, 0x6e, 0x6f, 0x70, 0x71, 0x72, // 80
+    0xfc, 0x73, 0xfd, 0x1ffb, 0x7fff0, 0x1ffc, 0x3ffc, 0x22, // 88
+    0x7ffd, 0x3, 0x23, 0x4, 0x24, 0x5, 0x25, 0x26, // 96
+    0x27, 0x6, 0x74, 0x75, 0x28, 0x29, 0x2a, 0x7, // 104
+    0x2b, 0x76, 0x2c, 0x8, 0x9, 0x2d, 0x77, 0x78, // 112
+    0x79, 0x7a, 0x7b, 0x7ffe, 0x7fc, 0x3ffd, 0x1ffd, 0xffffffc, // 120
+    0xfffe6, 0x3fffd2, 0xfffe7, 0xfffe8, 0x3fffd3, 0x3fffd4, 0x3fffd5, 0x7fffd9, // 128
+    0x3fffd6, 0x7fffda, 0x7fffdb, 0x7fffdc, 0x7fffdd, 0x7fffde, 0xffffeb, 0x7fffdf, // 136
+    0xffffec, 0xffffed, 0x3fffd7, 0x7fffe0, 0xffffee, 0x7fffe1, 0x7fffe2, 0x7fffe3, // 144
+    0x7fffe4, 0x1fffdc, 0x3fffd8, 0x7fffe5, 0x3fffd9, 0x7fffe6, 0x7fffe7, 0xffffef, // 152
+    0x3fffda, 0x1fffdd, 0xfffe9, 0x3fffdb, 0x3fffdc, 0x7fffe8, 0x7fffe9, 0x1fffde, // 160
+    0x7fffea, 0x3fffdd, 0x3fffde, 0xfffff0, 0x1fffdf, 0x3fffdf, 0x7fffeb, 0x7fffec, // 168
+    0x1fffe0, 0x1fffe1, 0x3fffe0, 0x1fffe2, 0x7fffed, 0x3fffe1, 0x7fffee, 0x7fffef, // 176
+    0xfffea, 0x3fffe2, 0x3fffe3, 0x3fffe4, 0x7ffff0, 0x3fffe5, 0x3fffe6, 0x7ffff1, // 184
+    0x3ffffe0, 0x3ffffe1, 0xfffeb, 0x7fff1, 0x3fffe7, 0x7ffff2, 0x3fffe8, 0x1ffffec, // 192
+    0x3ffffe2, 0x3ffffe3, 0x3ffffe4, 0x7ffffde, 0x7ffffdf, 0x3ffffe5, 0xfffff1, 0x1ffffed, // 200
+    0x7fff2, 0x1fffe3, 0x3ffffe6, 0x7ffffe0, 0x7ffffe1, 0x3ffffe7, 0x7ffffe2, 0xfffff2, // 208
+    0x1fffe4, 0x1fffe5, 0x3ffffe8, 0x3ffffe9, 0xffffffd, 0x7ffffe3, 0x7ffffe4, 0x7ffffe5, // 216
+    0xfffec, 0xfffff3, 0xfffed, 0x1fffe6, 0x3fffe9, 0x1fffe7, 0x1fffe8, 0x7ffff3, // 224
+    0x3fffea, 0x3fffeb, 0x1ffffee, 0x1ffffef, 0xfffff4, 0xfffff5, 0x3ffffea, 0x7ffff4, // 232
+    0x3ffffeb, 0x7ffffe6, 0x3ffffec, 0x3ffffed, 0x7ffffe7, 0x7ffffe8, 0x7ffffe9, 0x7ffffea, // 240
+    0x7ffffeb, 0xffffffe, 0x7ffffec, 0x7ffffed, 0x7ffffee, 0x7ffffef, 0x7fffff0, 0x3ffffee, // 248
+    0x3fffffff, // 256
 ];
 
 /// The symbols by length, then by number.
@@ -1227,3 +101,110 @@ pub static SYMBOLS: [u16; 257] = [
     253, 254, 2, 3, 4, 5, 6, 7, 8, 11, 12, 14, 15, 16, 17, 18, 19, 20, 21, 23, 24, 25, 26, 27, 28,
     29, 30, 31, 127, 220, 249, 10, 13, 22, 256,
 ];
+
+/// The first word of each length, as a number: the words of a length are numbers in a row.
+pub static FIRSTS: [u32; 31] = [
+    0x0, 0x0, 0x0, 0x0, 0x0, 0x0, 0x14, 0x5c, 0xf8, 0x1fc, 0x3f8, 0x7fa, 0xffa, 0x1ff8, 0x3ffc,
+    0x7ffc, 0xfffe, 0x1fffc, 0x3fff8, 0x7fff0, 0xfffe6, 0x1fffdc, 0x3fffd2, 0x7fffd8, 0xffffea,
+    0x1ffffec, 0x3ffffe0, 0x7ffffde, 0xfffffe2, 0x1ffffffe, 0x3ffffffc,
+];
+
+/// The number behind the last word of each length. No longer word begins below it.
+pub static LIMITS: [u32; 31] = [
+    0x0, 0x0, 0x0, 0x0, 0x0, 0xa, 0x2e, 0x7c, 0xfe, 0x1fc, 0x3fd, 0x7fd, 0xffc, 0x1ffe, 0x3ffe,
+    0x7fff, 0xfffe, 0x1fffc, 0x3fff8, 0x7fff3, 0xfffee, 0x1fffe9, 0x3fffec, 0x7ffff5, 0xfffff6,
+    0x1fffff0, 0x3ffffef, 0x7fffff1, 0xfffffff, 0x1ffffffe, 0x40000000,
+];
+
+/// Where the symbols of each length begin in `SYMBOLS`.
+pub static PLACES: [u16; 31] = [
+    0, 0, 0, 0, 0, 0, 10, 36, 68, 74, 74, 79, 82, 84, 90, 92, 95, 95, 95, 95, 98, 106, 119, 145,
+    174, 186, 190, 205, 224, 253, 253,
+];
+
+/// How many bits the word has that stands in front of eight bits; 0 where it has more than eight.
+pub static SHORT_LENGTHS: [u8; 256] = [
+    5, 5, 5, 5, 5, 5, 5, 5, 5, 5, 5, 5, 5, 5, 5, 5, // 0
+    5, 5, 5, 5, 5, 5, 5, 5, 5, 5, 5, 5, 5, 5, 5, 5, // 16
+    5, 5, 5, 5, 5, 5, 5, 5, 5, 5, 5, 5, 5, 5, 5, 5, // 32
+    5, 5, 5, 5, 5, 5, 5, 5, 5, 5, 5, 5, 5, 5, 5, 5, // 48
+    5, 5, 5, 5, 5, 5, 5, 5, 5, 5, 5, 5, 5, 5, 5, 5, // 64
+    6, 6, 6, 6, 6, 6, 6, 6, 6, 6, 6, 6, 6, 6, 6, 6, // 80
+    6, 6, 6, 6, 6, 6, 6, 6, 6, 6, 6, 6, 6, 6, 6, 6, // 96
+    6, 6, 6, 6, 6, 6, 6, 6, 6, 6, 6, 6, 6, 6, 6, 6, // 112
+    6, 6, 6, 6, 6, 6, 6, 6, 6, 6, 6, 6, 6, 6, 6, 6, // 128
+    6, 6, 6, 6, 6, 6, 6, 6, 6, 6, 6, 6, 6, 6, 6, 6, // 144
+    6, 6, 6, 6, 6, 6, 6, 6, 6, 6, 6, 6, 6, 6, 6, 6, // 160
+    6, 6, 6, 6, 6, 6, 6, 6, 7, 7, 7, 7, 7, 7, 7, 7, // 176
+    7, 7, 7, 7, 7, 7, 7, 7, 7, 7, 7, 7, 7, 7, 7, 7, // 192
+    7, 7, 7, 7, 7, 7, 7, 7, 7, 7, 7, 7, 7, 7, 7, 7, // 208
+    7, 7, 7, 7, 7, 7, 7, 7, 7, 7, 7, 7, 7, 7, 7, 7, // 224
+    7, 7, 7, 7, 7, 7, 7, 7, 8, 8, 8, 8, 8, 8, 0, 0, // 240
+];
+
+/// The symbol of that word.
+pub static SHORT_SYMBOLS: [u8; 256] = [
+    48, 48, 48, 48, 48, 48, 48, 48, 49, 49, 49, 49, 49, 49, 49, 49, // 0
+    50, 50, 50, 50, 50, 50, 50, 50, 97, 97, 97, 97, 97, 97, 97, 97, // 16
+    99, 99, 99, 99, 99, 99, 99, 99, 101, 101, 101, 101, 101, 101, 101, 101, // 32
+    105, 105, 105, 105, 105, 105, 105, 105, 111, 111, 111, 111, 111, 111, 111, 111, // 48
+    115, 115, 115, 115, 115, 115, 115, 115, 116, 116, 116, 116, 116, 116, 116, 116, // 64
+    32, 32, 32, 32, 37, 37, 37, 37, 45, 45, 45, 45, 46, 46, 46, 46, // 80
+    47, 47, 47, 47, 51, 51, 51, 51, 52, 52, 52, 52, 53, 53, 53, 53, // 96
+    54, 54, 54, 54, 55, 55, 55, 55, 56, 56, 56, 56, 57, 57, 57, 57, // 112
+    61, 61, 61, 61, 65, 65, 65, 65, 95, 95, 95, 95, 98, 98, 98, 98, // 128
+    100, 100, 100, 100, 102, 102, 102, 102, 103, 103, 103, 103, 104, 104, 104, 104, // 144
+    108, 108, 108, 108, 109, 109, 109, 109, 110, 110, 110, 110, 112, 112, 112, 112, // 160
+    114, 114, 114, 114, 117, 117, 117, 117, 58, 58, 66, 66, 67, 67, 68, 68, // 176
+    69, 69, 70, 70, 71, 71, 72, 72, 73, 73, 74, 74, 75, 75, 76, 76, // 192
+    77, 77, 78, 78, 79, 79, 80, 80, 81, 81, 82, 82, 83, 83, 84, 84, // 208
+    85, 85, 86, 86, 87, 87, 89, 89, 106, 106, 107, 107, 113, 113, 118, 118, // 224
+    119, 119, 120, 120, 121, 121, 122, 122, 38, 42, 44, 59, 88, 90, 0, 0, // 240
+];
+
+/// The words of a length.
+#[tactic(auto, unfolding(crate::specs::Tables::row_at))]
+pub fn row_at(length: u64) -> Row
+    requires { length ≤ LONGEST }
+    ensures { result ≡ row_at length }
+{
+    let length = length as usize;
+    Row {
+        first: FIRSTS[length],
+        limit: LIMITS[length],
+        place: PLACES[length],
+    }
+}
+
+/// The symbol at a place of the order.
+#[tactic(auto, unfolding(crate::specs::Tables::symbol_at))]
+pub fn symbol_at(place: usize) -> u16
+    requires { place < 257 }
+    ensures { result ≡ symbol_at place }
+{
+    SYMBOLS[place]
+}
+
+/// The word of an octet.
+#[tactic(auto, unfolding(crate::specs::Tables::code_at))]
+pub fn code_at(symbol: u8) -> Code
+    ensures { result ≡ code_at symbol }
+{
+    let symbol = usize::from(symbol);
+    Code {
+        bits: WORDS[symbol],
+        length: LENGTHS[symbol],
+    }
+}
+
+/// The word in front of these eight bits, where it has at most eight; else its length is 0.
+#[tactic(auto, unfolding(crate::specs::Tables::short_at))]
+pub fn short_at(front: u8) -> Found
+    ensures { result ≡ short_at front }
+{
+    let front = usize::from(front);
+    Found {
+        symbol: u16::from(SHORT_SYMBOLS[front]),
+        length: u64::from(SHORT_LENGTHS[front]),
+    }
+}

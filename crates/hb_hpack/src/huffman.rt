@@ -1,99 +1,143 @@
 //! Text in the Huffman code (RFC 7541 section 5.2).
 
-ghost use Rattle.std.specs.Prelude.{◌≡◌, ℕ, ◌+◌, ◌-◌, ◌*◌, ◌<◌, ◌^◌, ◌≤◌, ◌==◌, ◌&&◌, nat_lt, List, [], ◌∷◌, ◌++◌, Some, None, IfOk, IfSome, IsTrue, OnOk, OnErr};
-ghost use Rattle.hb_hpack.specs.Tables.{row_at, symbol_at, code_at};
+ghost use Rattle.std.specs.Prelude.{◌≡◌, ℕ, ◌+◌, ◌-◌, ◌*◌, ◌%◌, ◌<◌, ◌^◌, ◌≤◌, ◌==◌, ◌&&◌, nat_lt, List, [], ◌∷◌, ◌++◌, Some, None, IfOk, IfSome, IsTrue, OnOk, OnErr, MatchOption, if◌then◌else◌};
 ghost use Rattle.hb_hpack.specs.Huffman.{bits, word, Spells, IsPrefixFree, are_ones};
-ghost use Rattle.hb_hpack.specs.HuffmanSteps.{text_from, text_of, after_text, read_on, with_ones, huffman_of, written_on};
+ghost use Rattle.hb_hpack.specs.HuffmanSteps.{text_of, with_ones, huffman_of};
+ghost use Rattle.hb_hpack.specs.Partial.{IsInFront, HasNoWord, read_on, written_on};
 ghost use Rattle.hb_hpack.specs.Grown.{IsLonger};
 
-use crate::code_table::{CODES, Code, END, LONGEST, ROWS, Row, SYMBOLS};
-use crate::partial::{Partial, Unfinished};
+use crate::code_table::{END, LONGEST, code_at, row_at, short_at, symbol_at};
+use crate::partial::{Found, Held, Unfinished};
 use hb_base::{Bytes, NoMemory};
 use std::alloc::Global;
 
-#[tactic(auto, unfolding(crate::specs::Tables::row_at))]
-fn row_at(length: u8) -> &'static Row
-    requires { length ≤ LONGEST }
-    ensures { result.now ≡ row_at length }
+/// The word in front, where it has at most eight bits.
+fn short_word(held: Held) -> Option<Found>
+    requires { 8 ≤ held.count }
+    ensures front { IfSome result (λ found. IsInFront held found) }
+    ensures octet { IfSome result (λ found. found.symbol < 256) }
 {
-    &ROWS[length as usize]
+    let found = short_at(((held.bits >> (held.count - 8)) % 256) as u8);
+    if found.length == 0 { None } else { Some(found) }
 }
 
-#[tactic(auto, unfolding(crate::specs::Tables::symbol_at))]
-fn symbol_at(place: usize) -> u16
-    requires { place < 257 }
-    ensures { result ≡ symbol_at place }
+/// The word in front, where it is whole.
+fn whole_word(held: Held) -> Option<Found>
+    ensures { MatchOption result (HasNoWord held) (λ found. IsInFront held found) }
 {
-    SYMBOLS[place]
-}
-
-#[tactic(auto, unfolding(crate::specs::Tables::code_at))]
-fn code_at(symbol: u8) -> &'static Code
-    ensures { result.now ≡ code_at symbol }
-{
-    &CODES[symbol as usize]
-}
-
-/// Reads one bit more. None where a whole EOS ends here, and no text is read.
-fn take_bit(text: &mut Vec<u8>, at: Partial, bit: u8) -> Result<Option<Partial>, NoMemory>
-    requires { bit < 2 }
-    ensures { IfOk result (λ r. (rest : List ℕ) →
-        read_on text.new.items r rest ≡ after_text text.old.items (text_from at.code at.length (bit ∷ rest))) }
-{
-    let code = 2 * at.code + u32::from(bit);
-    let length = at.length + 1;
-    let row = row_at(length);
-    if row.limit <= code {
-        return Ok(Some(Partial { code, length }));
+    let number = held.number();
+    for length in 1..LONGEST + 1 {
+        if held.count < length {
+            return None;
+        }
+        let code = (number >> (held.count - length)) as u32;
+        let row = row_at(length);
+        if code < row.limit {
+            let symbol = symbol_at(usize::from(row.place) + (code - row.first) as usize);
+            return Some(Found { symbol, length });
+        }
     }
-    let symbol = symbol_at(row.offset as usize + (code - row.first) as usize);
-    if symbol == END {
+    None
+}
+
+/// Takes the words of at most eight bits in front, as long as there are eight bits.
+fn take_short(text: &mut Vec<u8>, held: Held) -> Result<Held, NoMemory>
+    ensures read { IfOk result (λ left. (rest : List ℕ) → read_on text.new.items (Some left) rest ≡ read_on text.old.items (Some held) rest) }
+    ensures fewer { IfOk result (λ left. left.count ≤ held.count) }
+{
+    let mut held = held;
+    while held.count >= 8 {
+        let Some(found) = short_word(held) else {
+            return Ok(held);
+        };
+        text.push(found.symbol as u8)?;
+        held = held.behind(found.length);
+    }
+    Ok(held)
+}
+
+/// Takes the word in front as a symbol of the text. None where it is EOS, and no text is read.
+fn take_word(text: &mut Vec<u8>, held: Held, found: Found) -> Result<Option<Held>, NoMemory>
+    requires { IsInFront held found }
+    ensures read { IfOk result (λ r. (rest : List ℕ) → read_on text.new.items r rest ≡ read_on text.old.items (Some held) rest) }
+    ensures fewer { IfOk result (λ r. IfSome r (λ left. left.count < held.count)) }
+{
+    if found.symbol == END {
         return Ok(None);
     }
-    text.push(symbol as u8)?;
-    Ok(Some(Partial::new()))
+    text.push(found.symbol as u8)?;
+    Ok(Some(held.behind(found.length)))
 }
 
-/// Reads the low `left` bits of a byte, the highest first.
-fn take_bits(
-    text: &mut Vec<u8>,
-    at: Partial,
-    byte: u8,
-    left: u8,
-) -> Result<Option<Partial>, NoMemory>
-    requires { left ≤ 8 }
-    ensures { IfOk result (λ r. (rest : List ℕ) →
-        read_on text.new.items r rest ≡ after_text text.old.items (text_from at.code at.length (bits left byte ++ rest))) }
+/// Takes the words in front. What is left are fewer than eight bits, or the front of a longer word.
+fn take_words(text: &mut Vec<u8>, held: Held) -> Result<Option<Held>, NoMemory>
+    ensures read { IfOk result (λ r. (rest : List ℕ) → read_on text.new.items r rest ≡ read_on text.old.items (Some held) rest) }
+    ensures few { IfOk result (λ r. IfSome r (λ left. left.count < 30)) }
 {
-    if left == 0 {
-        return Ok(Some(at));
+    let mut held = take_short(text, held)?;
+    while held.count >= 8 {
+        let Some(found) = whole_word(held) else {
+            return Ok(Some(held));
+        };
+        let Some(left) = take_word(text, held, found)? else {
+            return Ok(None);
+        };
+        held = take_short(text, left)?;
     }
-    match take_bit(text, at, byte >> (left - 1) & 1)? {
-        None => Ok(None),
-        Some(next) => take_bits(text, next, byte, left - 1),
+    Ok(Some(held))
+}
+
+/// Takes a byte more. The words wait until there are 56 bits, so that the loops that take them are long.
+fn take_byte(text: &mut Vec<u8>, held: Held, byte: u8) -> Result<Option<Held>, NoMemory>
+    requires { held.count < 56 }
+    ensures read { IfOk result (λ r. (rest : List ℕ) → read_on text.new.items r rest ≡ read_on text.old.items (Some held) (bits 8 byte ++ rest)) }
+    ensures few { IfOk result (λ r. IfSome r (λ left. left.count < 56)) }
+{
+    let held = held.with(byte);
+    if held.count < 56 {
+        return Ok(Some(held));
     }
+    take_words(text, held)
 }
 
 /// Whether these bits may end a text: at most seven, all ones.
-fn is_padding(at: Partial) -> bool
-    ensures { result ≡ (nat_lt at.length 8 && (at.code + 1 == 2 ^ at.length)) }
+fn is_padding(held: Held) -> bool
+    ensures { result ≡ (nat_lt held.count 8 && (held.bits % 2 ^ held.count + 1 == 2 ^ held.count)) }
 {
-    at.length < 8 && at.code + 1 == 1 << at.length
+    held.count < 8 && held.number() + 1 == 1 << held.count
+}
+
+/// Takes the words that are left, and says whether the bits behind them may end a text.
+fn take_last(text: &mut Vec<u8>, held: Held) -> Result<bool, NoMemory>
+    ensures { IfOk result (λ ends. (if ends then Some text.new.items else None) ≡ read_on text.old.items (Some held) []) }
+{
+    let mut held = held;
+    while let Some(found) = whole_word(held) {
+        match take_word(text, held, found)? {
+            None => return Ok(false),
+            Some(left) => held = left,
+        }
+    }
+    Ok(is_padding(held))
 }
 
 fn text_of(alloc: Global, b: &[u8]) -> Result<Option<Bytes>, NoMemory>
     ensures { IfOk result (λ r. r ≡ text_of b.now) }
 {
-    let mut text = Vec::new(alloc);
-    let mut at = Partial::new();
+    // A word has five bits at least.
+    let mut text = Vec::with_capacity(alloc, b.len() / 5 * 8 + 8)?;
+    let mut held = Held::new();
     for byte in b {
-        match take_bits(&mut text, at, *byte, 8)? {
+        match take_byte(&mut text, held, *byte)? {
             None => return Ok(None),
-            Some(next) => at = next,
+            Some(left) => held = left,
         }
     }
-    if is_padding(at) {
-        Ok(Some(Bytes::of(alloc, text.as_slice())?))
+    let Some(held) = take_words(&mut text, held)? else {
+        return Ok(None);
+    };
+    if take_last(&mut text, held)? {
+        Ok(Some(Bytes::from_vec(text)))
     } else {
         Ok(None)
     }

@@ -4,7 +4,7 @@ use Rattle.std.proofs.lemmas.List.{drop_more}
 use Rattle.std.proofs.lemmas.Result.{err_from_is_err_and}
 use Rattle.hb_hpack.specs.Huffman.{word}
 use Rattle.hb_hpack.specs.Grown.{IsLonger}
-use Rattle.hb_hpack.specs.HuffmanSteps.{written_on}
+use Rattle.hb_hpack.specs.Partial.{written_on}
 use Rattle.hb_hpack.proofs.huffman.put_text.Goals as goal
 
 pub returns-in_err-at-clause-err : goal.returns-in_err-at-clause-err

@@ -2,7 +2,8 @@ use Rattle.std.proofs.Common.{◌≡◌, ◌++◌, drop}
 use Rattle.std.specs.List.{flat_map}
 use Rattle.hb_hpack.specs.Huffman.{word}
 use Rattle.hb_hpack.specs.Grown.{IsLonger}
-use Rattle.hb_hpack.specs.HuffmanSteps.{written_on, huffman_of}
+use Rattle.hb_hpack.specs.HuffmanSteps.{huffman_of}
+use Rattle.hb_hpack.specs.Partial.{written_on}
 use Rattle.hb_hpack.proofs.huffman.put_text.Given as goal
 
 -- what is written so far, and the bytes of the words from here on
