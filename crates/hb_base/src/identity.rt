@@ -15,7 +15,7 @@ use std::alloc::Global;
 
 /// The identity of a workload, `spiffe://TRUST_DOMAIN/ns/NAMESPACE/sa/SERVICE_ACCOUNT` (the SPIFFE ID
 /// specification, section 2).
-#[derive(Debug, Drop)]
+#[derive(Drop)]
 pub struct Identity {
     pub trust_domain: Text,
     pub namespace: Text,

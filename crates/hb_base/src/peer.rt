@@ -8,7 +8,7 @@ use crate::or::NoMemory;
 use std::alloc::Global;
 
 /// The other end of a connection: its address and, where it proved one, its identity.
-#[derive(Debug, Drop)]
+#[derive(Drop)]
 pub struct Peer {
     pub ip: Ip,
     pub identity: Option<Identity>,

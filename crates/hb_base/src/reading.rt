@@ -16,7 +16,7 @@ use thiserror::Error;
 const CHUNK: usize = 65536;
 
 /// Why a source wasn't read to its end.
-#[derive(Clone, Copy, Debug, PartialEq, Eq, Error)]
+#[derive(Clone, Copy, Debug, Error)]
 pub enum ReadStop {
     #[error("more bytes than allowed")]
     TooLong,

@@ -1,7 +1,7 @@
 //! Where bytes go.
 
 /// What a put answers.
-#[derive(Clone, Copy, Debug, PartialEq, Eq)]
+#[derive(Clone, Copy, Debug)]
 pub enum Put {
     /// So many bytes from the buffer's front are written, at least one.
     Took(usize),

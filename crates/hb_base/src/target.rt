@@ -8,14 +8,14 @@ use crate::parts::{cut_first, cut_last};
 use thiserror::Error;
 
 /// An address with a TCP port.
-#[derive(Clone, Copy, Debug, PartialEq, Eq)]
+#[derive(Clone, Copy)]
 pub struct Target {
     pub ip: Ip,
     pub port: u16,
 }
 
 /// Why a text isn't a target. They are looked for in this order.
-#[derive(Clone, Copy, Debug, PartialEq, Eq, Error)]
+#[derive(Clone, Copy, Debug, Error)]
 pub enum BadTarget {
     #[error("no port")]
     NoPort,

@@ -9,7 +9,7 @@ use std::alloc::Global;
 use std::marker::Model;
 
 /// Owned text. Contracts see it as the list of its bytes, which is always UTF-8.
-#[derive(Debug, Drop)]
+#[derive(Drop)]
 pub struct Text {
     items: Vec<u8>,
 }

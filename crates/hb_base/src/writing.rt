@@ -8,7 +8,7 @@ use crate::sink::{Put, Sink};
 use thiserror::Error;
 
 /// A put failed before all bytes were written.
-#[derive(Clone, Copy, Debug, PartialEq, Eq, Error)]
+#[derive(Clone, Copy, Debug, Error)]
 #[error("a write failed")]
 pub struct WriteFault;
 

@@ -12,7 +12,7 @@ use hb_wire::{Field, FieldValue, WireFault};
 use std::alloc::Global;
 
 /// What has an address in the mesh. (Services aren't read yet.)
-#[derive(Debug, Drop)]
+#[derive(Drop)]
 pub enum AddressRecord {
     Workload(Workload),
 }

@@ -13,21 +13,21 @@ use hb_wire::{Field, FieldValue, WireFault};
 use std::alloc::Global as Alloc;
 
 /// The workloads that a policy is for: all of the mesh, those of its namespace, or those that name it.
-#[derive(Clone, Copy, Debug, PartialEq, Eq)]
+#[derive(Clone, Copy, Debug)]
 pub enum Reach {
     Global,
     Namespace,
     Selector,
 }
 
-#[derive(Clone, Copy, Debug, PartialEq, Eq)]
+#[derive(Clone, Copy, Debug)]
 pub enum Action {
     Allow,
     Deny,
 }
 
 /// An authorization policy: it fires where one of its rules does.
-#[derive(Debug, Drop)]
+#[derive(Drop)]
 pub struct Authorization {
     pub name: Text,
     pub namespace: Text,

@@ -5,7 +5,7 @@ use thiserror::Error;
 
 /// Why bytes are no record: the first fault in order of bytes, depth first. `field` is a field's number in
 /// the message that it stands in.
-#[derive(Clone, Copy, Debug, PartialEq, Eq, Error)]
+#[derive(Clone, Copy, Debug, Error)]
 pub enum RecordFault {
     /// The bytes are no fields; the place is counted in the whole record.
     #[error("{0}")]

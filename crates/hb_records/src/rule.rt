@@ -13,20 +13,20 @@ use hb_wire::{Field, FieldValue, WireFault};
 use std::alloc::Global;
 
 /// One match of a clause: each attribute has to be met.
-#[derive(Debug, Drop)]
+#[derive(Drop)]
 pub struct Match {
     pub principals: List<StringMatch>,
     pub not_principals: List<StringMatch>,
 }
 
 /// A clause of a rule: one of its matches has to be met.
-#[derive(Debug, Drop)]
+#[derive(Drop)]
 pub struct Clause {
     pub matches: List<Match>,
 }
 
 /// A rule of a policy: all its clauses have to be met.
-#[derive(Debug, Drop)]
+#[derive(Drop)]
 pub struct Rule {
     pub clauses: List<Clause>,
 }

@@ -12,7 +12,7 @@ use hb_wire::{Field, FieldValue, WireFault};
 use std::alloc::Global;
 
 /// What a text has to be to match: equal, begin so, end so, or not be empty.
-#[derive(Debug, Drop)]
+#[derive(Drop)]
 pub enum StringMatch {
     Exact(Text),
     Prefix(Text),

@@ -14,7 +14,7 @@ use std::alloc::Global;
 
 /// A workload of the mesh. `authorization_policies` are the names `namespace/name` of the policies that
 /// it asks for.
-#[derive(Debug, Drop)]
+#[derive(Drop)]
 pub struct Workload {
     pub name: Text,
     pub namespace: Text,

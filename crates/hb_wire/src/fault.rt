@@ -3,7 +3,7 @@
 use thiserror::Error;
 
 /// What is wrong with the bytes of a field (Protocol Buffers encoding guide, "Message Structure").
-#[derive(Clone, Copy, Debug, PartialEq, Eq)]
+#[derive(Clone, Copy, Debug)]
 pub enum WireWhy {
     /// The bytes end inside the field.
     Truncated,
@@ -17,7 +17,7 @@ pub enum WireWhy {
 
 /// A fault and its place, counted in bytes: for `Truncated` the end of the bytes, for `LongVarint` the tenth
 /// byte, for `BadNumber` and `BadType` the tag's first byte.
-#[derive(Clone, Copy, Debug, PartialEq, Eq, Error)]
+#[derive(Clone, Copy, Debug, Error)]
 #[error("{why:?} at byte {at}")]
 pub struct WireFault {
     pub at: usize,
