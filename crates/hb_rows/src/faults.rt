@@ -55,8 +55,8 @@ check|--node|n1|SOURCE|IDENTITY|TARGET|; WORKLOAD; 0; 0; 2; 0; 5; 7 "al" "hbone"
 check|; WORKLOAD; 0; 0; 64; 1; 64; 2 "" ""
 check|; WORKLOAD; 0; 0; 64; 0; 13; 2 "" "hbone: words:"
 # Words that aren't accepted, and reads and writes that fail.
-check|; WORKLOAD; 1; 0; 64; 0; 256; 2 "" "hbone: words: --node is wanted behind the command (usage: hbone check --node NODE SOURCE IDENTITY TARGET)\n"
-check|; 00; 1; 1; 0; 0; 256; 2 "" "hbone: words: --node is wanted behind the command (usage: hbone check --node NODE SOURCE IDENTITY TARGET)\n"
+chec|; WORKLOAD; 1; 0; 64; 0; 256; 2 "" "hbone: words: unknown command (usage: hbone check --node NODE SOURCE IDENTITY TARGET)\n"
+chec|; 00; 1; 1; 0; 0; 256; 2 "" "hbone: words: unknown command (usage: hbone check --node NODE SOURCE IDENTITY TARGET)\n"
 check|; WORKLOAD; 1; 1; 0; 1; 0; 2 "" ""
 # All of them fail.
 check|--node|n1|SOURCE|IDENTITY|TARGET|; WORKLOAD; 1; 1; 0; 1; 0; 6 "" ""

@@ -52,7 +52,7 @@ fn word_of(name: &str) -> &str {
 }
 
 /// Words as a program is given them, of a text in which each is ended by `|`.
-pub fn words_of(alloc: Global, text: &str) -> Result<Vec<String>, AllocError> {
+fn words_of(alloc: Global, text: &str) -> Result<Vec<String>, AllocError> {
     let mut words = Vec::new(alloc);
     for name in text.split_terminator('|') {
         words.push(String::from_str(alloc, word_of(name))?)?;
@@ -128,7 +128,7 @@ fn run_over(
 }
 
 /// A status, and the output and the error text, each as a Rust literal.
-pub fn told(alloc: Global, status: u8, out: &[u8], err: &[u8]) -> Result<String, AllocError> {
+fn told(alloc: Global, status: u8, out: &[u8], err: &[u8]) -> Result<String, AllocError> {
     let out = text_of(out);
     let err = text_of(err);
     format!(in alloc; "{status} {out:?} {err:?}")

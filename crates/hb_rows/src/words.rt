@@ -1,8 +1,6 @@
 //! Words that are accepted, and words that aren't.
 
-use crate::runs::{assert_answers, told, words_of};
-use hb_base::{MemSink, MemSource, Source, Taken};
-use hb_cli::run;
+use crate::runs::{Failing, NOTHING_FAILS, assert_answers, assert_ends};
 use std::alloc::{AllocError, Global};
 use std::process::Abort;
 use std::test::Fail;
@@ -273,26 +271,7 @@ fn accepted_words_have_an_answer(rt: HostRuntime) -> Result<(), Fail> {
     Ok(())
 }
 
-/// Whether the next take is the first: it is the one that fails.
-fn is_unread(input: &mut MemSource) -> bool {
-    match input.take(&mut [0]) {
-        Taken::Failed => true,
-        Taken::Got(_) | Taken::End => false,
-    }
-}
-
-/// A run over an input without bytes: what it ended with, and whether nothing was read.
-fn run_unread(alloc: Global, text: &str) -> Result<(String, bool), AllocError> {
-    let words = words_of(alloc, text)?;
-    let mut input = MemSource::over(alloc, b"", &[1])?;
-    let mut out = MemSink::new(alloc, 256, &[])?;
-    let mut err = MemSink::new(alloc, 256, &[])?;
-    let status = run(alloc, words.as_slice(), &mut input, &mut out, &mut err);
-    let ended = told(alloc, status, out.as_slice(), err.as_slice())?;
-    Ok((ended, is_unread(&mut input)))
-}
-
-/// Words are refused, and nothing is read.
+/// Words are refused, and nothing is read: the first take fails, and the status would be 6.
 fn assert_words_refused(
     rt: &impl Abort,
     alloc: Global,
@@ -300,13 +279,11 @@ fn assert_words_refused(
     reason: &str,
 ) -> Result<(), AllocError> {
     let want = format!(in alloc; "2 \"\" \"hbone: words: {reason} {USAGE}\\n\"")?;
-    let (ended, is_unread) = run_unread(alloc, text)?;
-    assert!(rt;
-        ended.as_bytes() == want.as_bytes(),
-        "{text}: {ended}, not {want}"
-    );
-    assert!(rt; is_unread, "{text}: the input was read");
-    Ok(())
+    let failing = Failing {
+        takes: &[1],
+        ..NOTHING_FAILS
+    };
+    assert_ends(rt, alloc, text, "WORKLOAD", failing, want.as_str())
 }
 
 /// A reason, and behind it the words that are refused for it, a line each.
