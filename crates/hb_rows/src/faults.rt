@@ -1,6 +1,7 @@
 //! Reads and writes that fail.
 
 use crate::runs::{Failing, assert_ends};
+use std::num::ParseIntError;
 use std::test::Fail;
 
 /// Words, the input, the take of the input that fails, the put of the output that fails, the output's room, the put of
@@ -14,6 +15,8 @@ check|--node|n1|SOURCE|IDENTITY|TARGET|; WORKLOAD ALLOW_ONE DENY_ALL; 2; 0; 64; 
 check|--node|n1|SOURCE|IDENTITY|TARGET|; 00; 1; 0; 64; 0; 64; 6 "" "hbone: read fault\n"
 check|--node|n1|SOURCE|IDENTITY|TARGET|; 00; 2; 0; 64; 0; 64; 6 "" "hbone: read fault\n"
 check|--node|n1|SOURCE|IDENTITY|TARGET|; WORKLOAD REMOVED_AND_ADDED; 2; 0; 64; 0; 64; 6 "" "hbone: read fault\n"
+# Nothing fails.
+check|--node|n1|SOURCE|none|TARGET|; WORKLOAD; 0; 0; 64; 0; 64; 0 "allow\n" ""
 # A take fails that never comes.
 check|--node|n1|SOURCE|IDENTITY|TARGET|; WORKLOAD; 1000; 0; 64; 0; 64; 0 "allow\n" ""
 # The first put of the output fails.
@@ -52,28 +55,32 @@ check|--node|n1|SOURCE|IDENTITY|TARGET|; WORKLOAD; 0; 0; 2; 0; 5; 7 "al" "hbone"
 check|; WORKLOAD; 0; 0; 64; 1; 64; 2 "" ""
 check|; WORKLOAD; 0; 0; 64; 0; 13; 2 "" "hbone: words:"
 # Words that aren't accepted, and reads and writes that fail.
-check|; WORKLOAD; 1; 0; 64; 0; 64; 2 "" "hbone: words: --node is wanted behind the command\n"
-check|; 00; 1; 1; 0; 0; 64; 2 "" "hbone: words: --node is wanted behind the command\n"
+chec|; WORKLOAD; 1; 0; 64; 0; 256; 2 "" "hbone: words: unknown command (usage: hbone check --node NODE SOURCE IDENTITY TARGET)\n"
+chec|; 00; 1; 1; 0; 0; 256; 2 "" "hbone: words: unknown command (usage: hbone check --node NODE SOURCE IDENTITY TARGET)\n"
 check|; WORKLOAD; 1; 1; 0; 1; 0; 2 "" ""
 # All of them fail.
 check|--node|n1|SOURCE|IDENTITY|TARGET|; WORKLOAD; 1; 1; 0; 1; 0; 6 "" ""
 check|--node|n1|SOURCE|IDENTITY|TARGET|; WORKLOAD; 0; 1; 0; 1; 0; 7 "" """#;
 
-fn number(field: Option<&str>) -> u64 {
-    field.unwrap_or("").trim().parse::<u64>().unwrap_or(0)
+/// The number that a field is.
+fn number(field: Option<&str>) -> Result<u64, ParseIntError> {
+    field.unwrap_or("").trim().parse::<u64>()
 }
 
 #[test]
 fn faults_have_their_status(rt: HostRuntime) -> Result<(), Fail> {
-    for line in FAULTS.lines().skip(1).filter(|line| !line.starts_with('#')) {
+    for line in FAULTS.lines().skip(1) {
+        if line.starts_with('#') {
+            continue;
+        }
         let mut fields = line.split(';');
         let words = fields.next().unwrap_or("");
         let input = fields.next().unwrap_or("");
-        let take = number(fields.next());
-        let put = number(fields.next());
-        let room = number(fields.next());
-        let err_put = number(fields.next());
-        let err_room = number(fields.next());
+        let take = number(fields.next())?;
+        let put = number(fields.next())?;
+        let room = number(fields.next())?;
+        let err_put = number(fields.next())?;
+        let err_room = number(fields.next())?;
         let want = fields.next().unwrap_or("").trim();
         let failing = Failing {
             takes: &[take],

@@ -1,8 +1,6 @@
 //! Inputs of many reads.
 
-use crate::runs::{AS_NONE, Failing, NOTHING_FAILS, input_of, run_over};
-use std::alloc::{AllocError, Global};
-use std::process::Abort;
+use crate::runs::{AS_NONE, Failing, NOTHING_FAILS, assert_run, input_of};
 use std::test::Fail;
 
 /// The most bytes of input.
@@ -11,28 +9,24 @@ const LONGEST: usize = 67_108_864;
 /// A workload, and a response without resources whose unknown field fills the longest input.
 const FRONT: &str = "WORKLOAD 0003ffff6c 222a ADDRESS_TYPE 3a bbfeff1f";
 
-fn assert_told(
-    rt: &impl Abort,
-    alloc: Global,
-    bytes: &[u8],
-    failing: Failing<'_>,
-    want: &str,
-) -> Result<(), AllocError> {
-    let ended = run_over(alloc, AS_NONE, bytes, failing)?;
-    assert!(rt; ended.as_bytes() == want.as_bytes(), "{ended}, not {want}");
-    Ok(())
-}
-
 #[test]
 fn the_longest_input_is_looked_at(rt: HostRuntime) -> Result<(), Fail> {
     let alloc = rt.alloc();
-    let mut bytes = input_of(alloc, FRONT)?;
+    let mut bytes = input_of(&rt, alloc, FRONT)?;
     bytes.resize(LONGEST, 0)?;
-    assert_told(&rt, alloc, &bytes, NOTHING_FAILS, r#"0 "allow\n" """#)?;
-    bytes.push(1)?;
-    assert_told(
+    assert_run(
         &rt,
         alloc,
+        AS_NONE,
+        &bytes,
+        NOTHING_FAILS,
+        r#"0 "allow\n" """#,
+    )?;
+    bytes.push(1)?;
+    assert_run(
+        &rt,
+        alloc,
+        AS_NONE,
         &bytes,
         NOTHING_FAILS,
         r#"3 "" "hbone: input too long\n""#,
@@ -43,21 +37,36 @@ fn the_longest_input_is_looked_at(rt: HostRuntime) -> Result<(), Fail> {
 #[test]
 fn a_read_fails_in_mid_stream(rt: HostRuntime) -> Result<(), Fail> {
     let alloc = rt.alloc();
-    let message = input_of(alloc, "WORKLOAD")?;
+    let message = input_of(&rt, alloc, "WORKLOAD")?;
     let mut bytes = Vec::new(alloc);
     for _ in 0..1000 {
         bytes.extend_from_slice(&message)?;
     }
-    assert_told(&rt, alloc, &bytes, NOTHING_FAILS, r#"0 "allow\n" """#)?;
+    assert_run(
+        &rt,
+        alloc,
+        AS_NONE,
+        &bytes,
+        NOTHING_FAILS,
+        r#"0 "allow\n" """#,
+    )?;
     let failing = Failing {
         takes: &[2],
         ..NOTHING_FAILS
     };
-    assert_told(&rt, alloc, &bytes, failing, r#"6 "" "hbone: read fault\n""#)?;
-    bytes.push(0)?;
-    assert_told(
+    assert_run(
         &rt,
         alloc,
+        AS_NONE,
+        &bytes,
+        failing,
+        r#"6 "" "hbone: read fault\n""#,
+    )?;
+    bytes.push(0)?;
+    assert_run(
+        &rt,
+        alloc,
+        AS_NONE,
         &bytes,
         NOTHING_FAILS,
         r#"3 "" "hbone: message 1001: not a response\n""#,

@@ -9,8 +9,6 @@ mod faults;
 #[cfg(test)]
 mod large;
 #[cfg(test)]
-mod memory;
-#[cfg(test)]
 mod messages;
 #[cfg(test)]
 mod policies;

@@ -52,7 +52,7 @@ fn word_of(name: &str) -> &str {
 }
 
 /// Words as a program is given them, of a text in which each is ended by `|`.
-pub fn words_of(alloc: Global, text: &str) -> Result<Vec<String>, AllocError> {
+fn words_of(alloc: Global, text: &str) -> Result<Vec<String>, AllocError> {
     let mut words = Vec::new(alloc);
     for name in text.split_terminator('|') {
         words.push(String::from_str(alloc, word_of(name))?)?;
@@ -60,7 +60,7 @@ pub fn words_of(alloc: Global, text: &str) -> Result<Vec<String>, AllocError> {
     Ok(words)
 }
 
-/// The digits of a part of an input, or those that its name stands for.
+/// The digits that the name of a part of an input stands for; of any other text, the text.
 fn digits_of(name: &str) -> &str {
     match name {
         "ADDRESS_TYPE" => ADDRESS_TYPE,
@@ -74,37 +74,46 @@ fn digits_of(name: &str) -> &str {
     }
 }
 
-/// Appends the bytes that hexadecimal digits stand for, without the spaces.
-fn push_bytes(bytes: &mut Vec<u8>, digits: &str) -> Result<(), AllocError> {
+/// The value of a hexadecimal digit.
+fn nibble_of(rt: &impl Abort, digit: u8, digits: &str) -> u8 {
+    match digit {
+        b'0'..=b'9' => digit - b'0',
+        b'a'..=b'f' => digit - b'a' + 10,
+        _ => panic!(rt; "{digits} is neither the name of a part nor hexadecimal digits"),
+    }
+}
+
+/// Appends the bytes that hexadecimal digits stand for, two digits each, with spaces between some.
+fn push_bytes(rt: &impl Abort, bytes: &mut Vec<u8>, digits: &str) -> Result<(), AllocError> {
     let mut high: Option<u8> = None;
     for digit in digits.as_bytes() {
-        let value = match *digit {
-            b'0'..=b'9' => *digit - b'0',
-            b'a'..=b'f' => *digit - b'a' + 10,
-            _ => continue,
-        };
+        if *digit == b' ' {
+            continue;
+        }
+        let low = nibble_of(rt, *digit, digits);
         match high {
-            None => high = Some(value),
+            None => high = Some(low),
             Some(first) => {
-                bytes.push((first % 16) * 16 + value)?;
+                bytes.push((first % 16) * 16 + low % 16)?;
                 high = None;
             }
         }
     }
+    assert!(rt; high.is_none(), "half a byte in {digits}");
     Ok(())
 }
 
-/// The input of a text: hexadecimal digits, and names of parts, with spaces between.
-pub fn input_of(alloc: Global, text: &str) -> Result<Vec<u8>, AllocError> {
+/// The input of a text: hexadecimal digits, and names of parts, with spaces between. Any other text is refused.
+pub fn input_of(rt: &impl Abort, alloc: Global, text: &str) -> Result<Vec<u8>, AllocError> {
     let mut bytes = Vec::new(alloc);
     for name in text.split(' ') {
-        push_bytes(&mut bytes, digits_of(name))?;
+        push_bytes(rt, &mut bytes, digits_of(name))?;
     }
     Ok(bytes)
 }
 
 /// A run over memory, some of whose calls fail: its status, and all that it wrote as output and as error text.
-pub fn run_over(
+fn run_over(
     alloc: Global,
     words: &str,
     bytes: &[u8],
@@ -119,10 +128,27 @@ pub fn run_over(
 }
 
 /// A status, and the output and the error text, each as a Rust literal.
-pub fn told(alloc: Global, status: u8, out: &[u8], err: &[u8]) -> Result<String, AllocError> {
+fn told(alloc: Global, status: u8, out: &[u8], err: &[u8]) -> Result<String, AllocError> {
     let out = text_of(out);
     let err = text_of(err);
     format!(in alloc; "{status} {out:?} {err:?}")
+}
+
+/// Runs over the bytes of an input, and compares the status and all that was written.
+pub fn assert_run(
+    rt: &impl Abort,
+    alloc: Global,
+    words: &str,
+    bytes: &[u8],
+    failing: Failing<'_>,
+    want: &str,
+) -> Result<(), AllocError> {
+    let ended = run_over(alloc, words, bytes, failing)?;
+    assert!(rt;
+        ended.as_bytes() == want.as_bytes(),
+        "{words} {failing:?}: {ended}, not {want}"
+    );
+    Ok(())
 }
 
 /// Runs over an input, and compares the status and all that was written.
@@ -134,13 +160,8 @@ pub fn assert_ends(
     failing: Failing<'_>,
     want: &str,
 ) -> Result<(), AllocError> {
-    let bytes = input_of(alloc, input)?;
-    let ended = run_over(alloc, words, &bytes, failing)?;
-    assert!(rt;
-        ended.as_bytes() == want.as_bytes(),
-        "{words} {input} {failing:?}: {ended}, not {want}"
-    );
-    Ok(())
+    let bytes = input_of(rt, alloc, input)?;
+    assert_run(rt, alloc, words, &bytes, failing, want)
 }
 
 /// Runs over an input, and compares the answer, beside which nothing is written.

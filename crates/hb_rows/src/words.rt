@@ -1,8 +1,6 @@
 //! Words that are accepted, and words that aren't.
 
-use crate::runs::{assert_answers, told, words_of};
-use hb_base::{MemSink, MemSource, Source, Taken};
-use hb_cli::run;
+use crate::runs::{Failing, NOTHING_FAILS, assert_answers, assert_ends};
 use std::alloc::{AllocError, Global};
 use std::process::Abort;
 use std::test::Fail;
@@ -36,206 +34,235 @@ check|--node|n1|SOURCE|spiffe://A.b_c-9/ns/-/sa/_|TARGET|; allow
 check|--node|n1|SOURCE|spiffe://a/ns/ns/sa/sa|TARGET|; allow
 check|--node|n1|SOURCE|spiffe://none/ns/./sa/..|TARGET|; allow";
 
-/// Words that aren't accepted, each ended by `|`, and the line that tells why.
+/// The form of accepted words, which each reason names.
+const USAGE: &str = "(usage: hbone check --node NODE SOURCE IDENTITY TARGET)";
+
+/// Words that aren't accepted, each ended by `|`; an empty line has none. A line that begins with `=` has the reason that
+/// is told of the next ones, and one that begins with `#` says what they are.
 const REFUSED: &str = "\
 # No command, or another.
-; hbone: words: a command is wanted
-|; hbone: words: unknown command
-help|; hbone: words: unknown command
--h|; hbone: words: unknown command
---help|; hbone: words: unknown command
---|; hbone: words: unknown command
---version|; hbone: words: unknown command
-show|; hbone: words: unknown command
-chec|; hbone: words: unknown command
-checks|; hbone: words: unknown command
-Check|; hbone: words: unknown command
-check |; hbone: words: unknown command
- check|; hbone: words: unknown command
---node|n1|check|SOURCE|IDENTITY|TARGET|; hbone: words: unknown command
-help|check|; hbone: words: unknown command
---|check|--node|n1|SOURCE|IDENTITY|TARGET|; hbone: words: unknown command
-Check|--node|n1|SOURCE|IDENTITY|TARGET|; hbone: words: unknown command
+= a command is wanted
+
+= unknown command
+|
+help|
+-h|
+--help|
+--|
+--version|
+show|
+chec|
+checks|
+Check|
+check |
+ check|
+--node|n1|check|SOURCE|IDENTITY|TARGET|
+help|check|
+--|check|--node|n1|SOURCE|IDENTITY|TARGET|
+Check|--node|n1|SOURCE|IDENTITY|TARGET|
 # The option is missing.
-check|; hbone: words: --node is wanted behind the command
-check|SOURCE|IDENTITY|TARGET|; hbone: words: --node is wanted behind the command
-check|SOURCE|IDENTITY|TARGET|--node|n1|; hbone: words: --node is wanted behind the command
-check|SOURCE|--node|n1|IDENTITY|TARGET|; hbone: words: --node is wanted behind the command
-check|node|n1|SOURCE|IDENTITY|TARGET|; hbone: words: --node is wanted behind the command
-check||--node|n1|SOURCE|IDENTITY|TARGET|; hbone: words: --node is wanted behind the command
-check|check|--node|n1|SOURCE|IDENTITY|TARGET|; hbone: words: --node is wanted behind the command
-check|help|; hbone: words: --node is wanted behind the command
+= --node is wanted behind the command
+check|
+check|SOURCE|IDENTITY|TARGET|
+check|SOURCE|IDENTITY|TARGET|--node|n1|
+check|SOURCE|--node|n1|IDENTITY|TARGET|
+check|node|n1|SOURCE|IDENTITY|TARGET|
+check||--node|n1|SOURCE|IDENTITY|TARGET|
+check|check|--node|n1|SOURCE|IDENTITY|TARGET|
+check|help|
 # Unknown options.
-check|-h|; hbone: words: unknown option
-check|--help|; hbone: words: unknown option
-check|--|; hbone: words: unknown option
-check|-|; hbone: words: unknown option
-check|--node=n1|SOURCE|IDENTITY|TARGET|; hbone: words: unknown option
-check|--node=|n1|SOURCE|IDENTITY|TARGET|; hbone: words: unknown option
-check|-node|n1|SOURCE|IDENTITY|TARGET|; hbone: words: unknown option
-check|-n|n1|SOURCE|IDENTITY|TARGET|; hbone: words: unknown option
-check|--nod|n1|SOURCE|IDENTITY|TARGET|; hbone: words: unknown option
-check|--nodes|n1|SOURCE|IDENTITY|TARGET|; hbone: words: unknown option
-check|--Node|n1|SOURCE|IDENTITY|TARGET|; hbone: words: unknown option
-check|--node |n1|SOURCE|IDENTITY|TARGET|; hbone: words: unknown option
-check|--network|x|--node|n1|SOURCE|IDENTITY|TARGET|; hbone: words: unknown option
-check|--node|n1|--network|x|SOURCE|IDENTITY|TARGET|; hbone: words: unknown option
-check|--node|n1|--network=x|SOURCE|IDENTITY|TARGET|; hbone: words: unknown option
-check|--|--node|n1|SOURCE|IDENTITY|TARGET|; hbone: words: unknown option
-check|--node|n1|--|SOURCE|IDENTITY|TARGET|; hbone: words: unknown option
-check|--node|n1|-h|; hbone: words: unknown option
-check|--node|n1|--help|; hbone: words: unknown option
-check|--node|n1|--node=n2|SOURCE|IDENTITY|TARGET|; hbone: words: unknown option
-check|--node|n1|-10.0.0.9|IDENTITY|TARGET|; hbone: words: unknown option
-check|--node|n1|-|IDENTITY|TARGET|; hbone: words: unknown option
+= unknown option
+check|-h|
+check|--help|
+check|--|
+check|-|
+check|--node=n1|SOURCE|IDENTITY|TARGET|
+check|--node=|n1|SOURCE|IDENTITY|TARGET|
+check|-node|n1|SOURCE|IDENTITY|TARGET|
+check|-n|n1|SOURCE|IDENTITY|TARGET|
+check|--nod|n1|SOURCE|IDENTITY|TARGET|
+check|--nodes|n1|SOURCE|IDENTITY|TARGET|
+check|--Node|n1|SOURCE|IDENTITY|TARGET|
+check|--node |n1|SOURCE|IDENTITY|TARGET|
+check|--network|x|--node|n1|SOURCE|IDENTITY|TARGET|
+check|--node|n1|--network|x|SOURCE|IDENTITY|TARGET|
+check|--node|n1|--network=x|SOURCE|IDENTITY|TARGET|
+check|--|--node|n1|SOURCE|IDENTITY|TARGET|
+check|--node|n1|--|SOURCE|IDENTITY|TARGET|
+check|--node|n1|-h|
+check|--node|n1|--help|
+check|--node|n1|--node=n2|SOURCE|IDENTITY|TARGET|
+check|--node|n1|-10.0.0.9|IDENTITY|TARGET|
+check|--node|n1|-|IDENTITY|TARGET|
 # The option twice.
-check|--node|n1|--node|n1|SOURCE|IDENTITY|TARGET|; hbone: words: --node stands twice
-check|--node|n1|--node|n2|SOURCE|IDENTITY|TARGET|; hbone: words: --node stands twice
-check|--node|n1|--node|; hbone: words: --node stands twice
+= --node stands twice
+check|--node|n1|--node|n1|SOURCE|IDENTITY|TARGET|
+check|--node|n1|--node|n2|SOURCE|IDENTITY|TARGET|
+check|--node|n1|--node|
 # The option's value is missing, empty, or begins with a dash.
-check|--node|; hbone: words: --node has no value
-check|--node||SOURCE|IDENTITY|TARGET|; hbone: words: the value of --node is empty or begins with a dash
-check|--node||; hbone: words: the value of --node is empty or begins with a dash
-check|--node|-|SOURCE|IDENTITY|TARGET|; hbone: words: the value of --node is empty or begins with a dash
-check|--node|-n1|SOURCE|IDENTITY|TARGET|; hbone: words: the value of --node is empty or begins with a dash
-check|--node|--|SOURCE|IDENTITY|TARGET|; hbone: words: the value of --node is empty or begins with a dash
-check|--node|--node|n1|SOURCE|IDENTITY|TARGET|; hbone: words: the value of --node is empty or begins with a dash
-check|--node|--node|; hbone: words: the value of --node is empty or begins with a dash
+= --node has no value
+check|--node|
+= the value of --node is empty or begins with a dash
+check|--node||SOURCE|IDENTITY|TARGET|
+check|--node||
+check|--node|-|SOURCE|IDENTITY|TARGET|
+check|--node|-n1|SOURCE|IDENTITY|TARGET|
+check|--node|--|SOURCE|IDENTITY|TARGET|
+check|--node|--node|n1|SOURCE|IDENTITY|TARGET|
+check|--node|--node|
 # Too few words, and too many.
-check|--node|n1|; hbone: words: SOURCE, IDENTITY and TARGET are wanted
-check|--node|n1|SOURCE|; hbone: words: SOURCE, IDENTITY and TARGET are wanted
-check|--node|n1|SOURCE|IDENTITY|; hbone: words: SOURCE, IDENTITY and TARGET are wanted
-check|--node|n1|IDENTITY|TARGET|; hbone: words: SOURCE, IDENTITY and TARGET are wanted
-check|--node|SOURCE|IDENTITY|TARGET|; hbone: words: SOURCE, IDENTITY and TARGET are wanted
-check|--node|n1|SOURCE|IDENTITY|TARGET|TARGET|; hbone: words: too many words
-check|--node|n1|SOURCE|IDENTITY|TARGET||; hbone: words: too many words
-check|--node|n1|SOURCE|IDENTITY|TARGET|--node|n2|; hbone: words: too many words
-check|--node|n1|SOURCE|IDENTITY|TARGET|--network|x|; hbone: words: too many words
-check|--node|n1|SOURCE|--node|n1|IDENTITY|TARGET|; hbone: words: too many words
-check|--node|n1|SOURCE|--|IDENTITY|TARGET|; hbone: words: too many words
-check|--node|n1|SOURCE|IDENTITY|TARGET|-h|; hbone: words: too many words
-check|--node|n1||||||; hbone: words: too many words
+= SOURCE, IDENTITY and TARGET are wanted
+check|--node|n1|
+check|--node|n1|SOURCE|
+check|--node|n1|SOURCE|IDENTITY|
+check|--node|n1|IDENTITY|TARGET|
+check|--node|SOURCE|IDENTITY|TARGET|
+= too many words
+check|--node|n1|SOURCE|IDENTITY|TARGET|TARGET|
+check|--node|n1|SOURCE|IDENTITY|TARGET||
+check|--node|n1|SOURCE|IDENTITY|TARGET|--node|n2|
+check|--node|n1|SOURCE|IDENTITY|TARGET|--network|x|
+check|--node|n1|SOURCE|--node|n1|IDENTITY|TARGET|
+check|--node|n1|SOURCE|--|IDENTITY|TARGET|
+check|--node|n1|SOURCE|IDENTITY|TARGET|-h|
+check|--node|n1||||||
 # A source that is no IPv4 address.
-check|--node|n1||IDENTITY|TARGET|; hbone: words: SOURCE is no IPv4 address
-check|--node|n1|none|IDENTITY|TARGET|; hbone: words: SOURCE is no IPv4 address
-check|--node|n1|10.0.0|IDENTITY|TARGET|; hbone: words: SOURCE is no IPv4 address
-check|--node|n1|10.0.0.|IDENTITY|TARGET|; hbone: words: SOURCE is no IPv4 address
-check|--node|n1|10.0.0.9.1|IDENTITY|TARGET|; hbone: words: SOURCE is no IPv4 address
-check|--node|n1|.10.0.0.9|IDENTITY|TARGET|; hbone: words: SOURCE is no IPv4 address
-check|--node|n1|10..0.9|IDENTITY|TARGET|; hbone: words: SOURCE is no IPv4 address
-check|--node|n1|10.0.0.256|IDENTITY|TARGET|; hbone: words: SOURCE is no IPv4 address
-check|--node|n1|10.0.0.300|IDENTITY|TARGET|; hbone: words: SOURCE is no IPv4 address
-check|--node|n1|10.0.0.1000|IDENTITY|TARGET|; hbone: words: SOURCE is no IPv4 address
-check|--node|n1|256.0.0.9|IDENTITY|TARGET|; hbone: words: SOURCE is no IPv4 address
-check|--node|n1|010.0.0.9|IDENTITY|TARGET|; hbone: words: SOURCE is no IPv4 address
-check|--node|n1|10.00.0.9|IDENTITY|TARGET|; hbone: words: SOURCE is no IPv4 address
-check|--node|n1|10.0.0.09|IDENTITY|TARGET|; hbone: words: SOURCE is no IPv4 address
-check|--node|n1| 10.0.0.9|IDENTITY|TARGET|; hbone: words: SOURCE is no IPv4 address
-check|--node|n1|10.0.0.9 |IDENTITY|TARGET|; hbone: words: SOURCE is no IPv4 address
-check|--node|n1|10. 0.0.9|IDENTITY|TARGET|; hbone: words: SOURCE is no IPv4 address
-check|--node|n1|+10.0.0.9|IDENTITY|TARGET|; hbone: words: SOURCE is no IPv4 address
-check|--node|n1|10.0.0.0x9|IDENTITY|TARGET|; hbone: words: SOURCE is no IPv4 address
-check|--node|n1|10.0.0.a|IDENTITY|TARGET|; hbone: words: SOURCE is no IPv4 address
-check|--node|n1|10,0,0,9|IDENTITY|TARGET|; hbone: words: SOURCE is no IPv4 address
-check|--node|n1|167772169|IDENTITY|TARGET|; hbone: words: SOURCE is no IPv4 address
-check|--node|n1|10.0.0.9:80|IDENTITY|TARGET|; hbone: words: SOURCE is no IPv4 address
-check|--node|n1|10.0.0.9/32|IDENTITY|TARGET|; hbone: words: SOURCE is no IPv4 address
-check|--node|n1|::1|IDENTITY|TARGET|; hbone: words: SOURCE is no IPv4 address
-check|--node|n1|::ffff:10.0.0.9|IDENTITY|TARGET|; hbone: words: SOURCE is no IPv4 address
-check|--node|n1|[::1]|IDENTITY|TARGET|; hbone: words: SOURCE is no IPv4 address
-check|--node|n1|IDENTITY|SOURCE|TARGET|; hbone: words: SOURCE is no IPv4 address
+= SOURCE is no IPv4 address
+check|--node|n1||IDENTITY|TARGET|
+check|--node|n1|none|IDENTITY|TARGET|
+check|--node|n1|10.0.0|IDENTITY|TARGET|
+check|--node|n1|10.0.0.|IDENTITY|TARGET|
+check|--node|n1|10.0.0.9.1|IDENTITY|TARGET|
+check|--node|n1|.10.0.0.9|IDENTITY|TARGET|
+check|--node|n1|10..0.9|IDENTITY|TARGET|
+check|--node|n1|10.0.0.256|IDENTITY|TARGET|
+check|--node|n1|10.0.0.300|IDENTITY|TARGET|
+check|--node|n1|10.0.0.1000|IDENTITY|TARGET|
+check|--node|n1|256.0.0.9|IDENTITY|TARGET|
+check|--node|n1|010.0.0.9|IDENTITY|TARGET|
+check|--node|n1|10.00.0.9|IDENTITY|TARGET|
+check|--node|n1|10.0.0.09|IDENTITY|TARGET|
+check|--node|n1| 10.0.0.9|IDENTITY|TARGET|
+check|--node|n1|10.0.0.9 |IDENTITY|TARGET|
+check|--node|n1|10. 0.0.9|IDENTITY|TARGET|
+check|--node|n1|+10.0.0.9|IDENTITY|TARGET|
+check|--node|n1|10.0.0.0x9|IDENTITY|TARGET|
+check|--node|n1|10.0.0.a|IDENTITY|TARGET|
+check|--node|n1|10,0,0,9|IDENTITY|TARGET|
+check|--node|n1|167772169|IDENTITY|TARGET|
+check|--node|n1|10.0.0.9:80|IDENTITY|TARGET|
+check|--node|n1|10.0.0.9/32|IDENTITY|TARGET|
+check|--node|n1|::1|IDENTITY|TARGET|
+check|--node|n1|::ffff:10.0.0.9|IDENTITY|TARGET|
+check|--node|n1|[::1]|IDENTITY|TARGET|
+check|--node|n1|IDENTITY|SOURCE|TARGET|
 # An identity with an empty part, a part too few or too many, or a character outside of the grammar.
-check|--node|n1|SOURCE||TARGET|; hbone: words: IDENTITY is neither none nor spiffe://TRUST_DOMAIN/ns/NAMESPACE/sa/SERVICE_ACCOUNT
-check|--node|n1|SOURCE|None|TARGET|; hbone: words: IDENTITY is neither none nor spiffe://TRUST_DOMAIN/ns/NAMESPACE/sa/SERVICE_ACCOUNT
-check|--node|n1|SOURCE|NONE|TARGET|; hbone: words: IDENTITY is neither none nor spiffe://TRUST_DOMAIN/ns/NAMESPACE/sa/SERVICE_ACCOUNT
-check|--node|n1|SOURCE|none |TARGET|; hbone: words: IDENTITY is neither none nor spiffe://TRUST_DOMAIN/ns/NAMESPACE/sa/SERVICE_ACCOUNT
-check|--node|n1|SOURCE|-none|TARGET|; hbone: words: IDENTITY is neither none nor spiffe://TRUST_DOMAIN/ns/NAMESPACE/sa/SERVICE_ACCOUNT
-check|--node|n1|SOURCE|cluster.local/ns/a/sa/c|TARGET|; hbone: words: IDENTITY is neither none nor spiffe://TRUST_DOMAIN/ns/NAMESPACE/sa/SERVICE_ACCOUNT
-check|--node|n1|SOURCE|spiffe://|TARGET|; hbone: words: IDENTITY is neither none nor spiffe://TRUST_DOMAIN/ns/NAMESPACE/sa/SERVICE_ACCOUNT
-check|--node|n1|SOURCE|spiffe:///ns/a/sa/c|TARGET|; hbone: words: IDENTITY is neither none nor spiffe://TRUST_DOMAIN/ns/NAMESPACE/sa/SERVICE_ACCOUNT
-check|--node|n1|SOURCE|spiffe://cluster.local/ns//sa/c|TARGET|; hbone: words: IDENTITY is neither none nor spiffe://TRUST_DOMAIN/ns/NAMESPACE/sa/SERVICE_ACCOUNT
-check|--node|n1|SOURCE|spiffe://cluster.local/ns/a/sa/|TARGET|; hbone: words: IDENTITY is neither none nor spiffe://TRUST_DOMAIN/ns/NAMESPACE/sa/SERVICE_ACCOUNT
-check|--node|n1|SOURCE|spiffe://cluster.local/ns/a/sa|TARGET|; hbone: words: IDENTITY is neither none nor spiffe://TRUST_DOMAIN/ns/NAMESPACE/sa/SERVICE_ACCOUNT
-check|--node|n1|SOURCE|spiffe://cluster.local/ns/a/sa/c/|TARGET|; hbone: words: IDENTITY is neither none nor spiffe://TRUST_DOMAIN/ns/NAMESPACE/sa/SERVICE_ACCOUNT
-check|--node|n1|SOURCE|spiffe://cluster.local/ns/a/sa/c/d|TARGET|; hbone: words: IDENTITY is neither none nor spiffe://TRUST_DOMAIN/ns/NAMESPACE/sa/SERVICE_ACCOUNT
-check|--node|n1|SOURCE|spiffe://cluster.local//ns/a/sa/c|TARGET|; hbone: words: IDENTITY is neither none nor spiffe://TRUST_DOMAIN/ns/NAMESPACE/sa/SERVICE_ACCOUNT
-check|--node|n1|SOURCE|spiffe://cluster.local/sa/a/ns/c|TARGET|; hbone: words: IDENTITY is neither none nor spiffe://TRUST_DOMAIN/ns/NAMESPACE/sa/SERVICE_ACCOUNT
-check|--node|n1|SOURCE|spiffe://cluster.local/NS/a/sa/c|TARGET|; hbone: words: IDENTITY is neither none nor spiffe://TRUST_DOMAIN/ns/NAMESPACE/sa/SERVICE_ACCOUNT
-check|--node|n1|SOURCE|spiffe://cluster.local/ns/a/SA/c|TARGET|; hbone: words: IDENTITY is neither none nor spiffe://TRUST_DOMAIN/ns/NAMESPACE/sa/SERVICE_ACCOUNT
-check|--node|n1|SOURCE|SPIFFE://cluster.local/ns/a/sa/c|TARGET|; hbone: words: IDENTITY is neither none nor spiffe://TRUST_DOMAIN/ns/NAMESPACE/sa/SERVICE_ACCOUNT
-check|--node|n1|SOURCE|spiffe:/cluster.local/ns/a/sa/c|TARGET|; hbone: words: IDENTITY is neither none nor spiffe://TRUST_DOMAIN/ns/NAMESPACE/sa/SERVICE_ACCOUNT
-check|--node|n1|SOURCE| spiffe://cluster.local/ns/a/sa/c|TARGET|; hbone: words: IDENTITY is neither none nor spiffe://TRUST_DOMAIN/ns/NAMESPACE/sa/SERVICE_ACCOUNT
-check|--node|n1|SOURCE|spiffe://cluster.local/ns/a/sa/c |TARGET|; hbone: words: IDENTITY is neither none nor spiffe://TRUST_DOMAIN/ns/NAMESPACE/sa/SERVICE_ACCOUNT
-check|--node|n1|SOURCE|spiffe://cluster.local/ns/a b/sa/c|TARGET|; hbone: words: IDENTITY is neither none nor spiffe://TRUST_DOMAIN/ns/NAMESPACE/sa/SERVICE_ACCOUNT
-check|--node|n1|SOURCE|spiffe://cluster.local:80/ns/a/sa/c|TARGET|; hbone: words: IDENTITY is neither none nor spiffe://TRUST_DOMAIN/ns/NAMESPACE/sa/SERVICE_ACCOUNT
-check|--node|n1|SOURCE|spiffe://cluster+local/ns/a/sa/c|TARGET|; hbone: words: IDENTITY is neither none nor spiffe://TRUST_DOMAIN/ns/NAMESPACE/sa/SERVICE_ACCOUNT
-check|--node|n1|SOURCE|spiffe://cluster.local/ns/a%20/sa/c|TARGET|; hbone: words: IDENTITY is neither none nor spiffe://TRUST_DOMAIN/ns/NAMESPACE/sa/SERVICE_ACCOUNT
-check|--node|n1|SOURCE|spiffe://cluster.local/ns/a/sa/c?|TARGET|; hbone: words: IDENTITY is neither none nor spiffe://TRUST_DOMAIN/ns/NAMESPACE/sa/SERVICE_ACCOUNT
-check|--node|n1|SOURCE|spiffe://cluster.local/ns/a/sa/c~|TARGET|; hbone: words: IDENTITY is neither none nor spiffe://TRUST_DOMAIN/ns/NAMESPACE/sa/SERVICE_ACCOUNT
-check|--node|n1|SOURCE|spiffe://cluster.local/ns/é/sa/c|TARGET|; hbone: words: IDENTITY is neither none nor spiffe://TRUST_DOMAIN/ns/NAMESPACE/sa/SERVICE_ACCOUNT
-check|--node|n1|SOURCE|spiffe://user@cluster.local/ns/a/sa/c|TARGET|; hbone: words: IDENTITY is neither none nor spiffe://TRUST_DOMAIN/ns/NAMESPACE/sa/SERVICE_ACCOUNT
-check|--node|n1|SOURCE|--identity|TARGET|; hbone: words: IDENTITY is neither none nor spiffe://TRUST_DOMAIN/ns/NAMESPACE/sa/SERVICE_ACCOUNT
-check|--node|n1|SOURCE|TARGET|IDENTITY|; hbone: words: IDENTITY is neither none nor spiffe://TRUST_DOMAIN/ns/NAMESPACE/sa/SERVICE_ACCOUNT
+= IDENTITY is neither none nor spiffe://TRUST_DOMAIN/ns/NAMESPACE/sa/SERVICE_ACCOUNT
+check|--node|n1|SOURCE||TARGET|
+check|--node|n1|SOURCE|None|TARGET|
+check|--node|n1|SOURCE|NONE|TARGET|
+check|--node|n1|SOURCE|none |TARGET|
+check|--node|n1|SOURCE|-none|TARGET|
+check|--node|n1|SOURCE|cluster.local/ns/a/sa/c|TARGET|
+check|--node|n1|SOURCE|spiffe://|TARGET|
+check|--node|n1|SOURCE|spiffe:///ns/a/sa/c|TARGET|
+check|--node|n1|SOURCE|spiffe://cluster.local/ns//sa/c|TARGET|
+check|--node|n1|SOURCE|spiffe://cluster.local/ns/a/sa/|TARGET|
+check|--node|n1|SOURCE|spiffe://cluster.local/ns/a/sa|TARGET|
+check|--node|n1|SOURCE|spiffe://cluster.local/ns/a/sa/c/|TARGET|
+check|--node|n1|SOURCE|spiffe://cluster.local/ns/a/sa/c/d|TARGET|
+check|--node|n1|SOURCE|spiffe://cluster.local//ns/a/sa/c|TARGET|
+check|--node|n1|SOURCE|spiffe://cluster.local/sa/a/ns/c|TARGET|
+check|--node|n1|SOURCE|spiffe://cluster.local/NS/a/sa/c|TARGET|
+check|--node|n1|SOURCE|spiffe://cluster.local/ns/a/SA/c|TARGET|
+check|--node|n1|SOURCE|SPIFFE://cluster.local/ns/a/sa/c|TARGET|
+check|--node|n1|SOURCE|spiffe:/cluster.local/ns/a/sa/c|TARGET|
+check|--node|n1|SOURCE| spiffe://cluster.local/ns/a/sa/c|TARGET|
+check|--node|n1|SOURCE|spiffe://cluster.local/ns/a/sa/c |TARGET|
+check|--node|n1|SOURCE|spiffe://cluster.local/ns/a b/sa/c|TARGET|
+check|--node|n1|SOURCE|spiffe://cluster.local:80/ns/a/sa/c|TARGET|
+check|--node|n1|SOURCE|spiffe://cluster+local/ns/a/sa/c|TARGET|
+check|--node|n1|SOURCE|spiffe://cluster.local/ns/a%20/sa/c|TARGET|
+check|--node|n1|SOURCE|spiffe://cluster.local/ns/a/sa/c?|TARGET|
+check|--node|n1|SOURCE|spiffe://cluster.local/ns/a/sa/c~|TARGET|
+check|--node|n1|SOURCE|spiffe://cluster.local/ns/é/sa/c|TARGET|
+check|--node|n1|SOURCE|spiffe://user@cluster.local/ns/a/sa/c|TARGET|
+check|--node|n1|SOURCE|--identity|TARGET|
+check|--node|n1|SOURCE|TARGET|IDENTITY|
 # A target without a port.
-check|--node|n1|SOURCE|IDENTITY||; hbone: words: TARGET has no port
-check|--node|n1|SOURCE|IDENTITY|10.0.0.7|; hbone: words: TARGET has no port
-check|--node|n1|SOURCE|IDENTITY|8080|; hbone: words: TARGET has no port
-check|--node|n1|SOURCE|IDENTITY|none|; hbone: words: TARGET has no port
-check|--node|n1|SOURCE|IDENTITY|--help|; hbone: words: TARGET has no port
-check|--node|n1|SOURCE|IDENTITY|[::1]|; hbone: words: TARGET has no port
-check|--node|n1|SOURCE|IDENTITY|[::1|; hbone: words: TARGET has no port
-check|--node|n1|SOURCE|IDENTITY|[|; hbone: words: TARGET has no port
-check|--node|n1|SOURCE|IDENTITY|[10.0.0.7:8080|; hbone: words: TARGET has no port
-check|--node|n1|SOURCE|IDENTITY|[::1]8080|; hbone: words: TARGET has no port
-check|--node|n1|SOURCE|IDENTITY|[::1] :80|; hbone: words: TARGET has no port
+= TARGET has no port
+check|--node|n1|SOURCE|IDENTITY||
+check|--node|n1|SOURCE|IDENTITY|10.0.0.7|
+check|--node|n1|SOURCE|IDENTITY|8080|
+check|--node|n1|SOURCE|IDENTITY|none|
+check|--node|n1|SOURCE|IDENTITY|--help|
+check|--node|n1|SOURCE|IDENTITY|[::1]|
+check|--node|n1|SOURCE|IDENTITY|[::1|
+check|--node|n1|SOURCE|IDENTITY|[|
+check|--node|n1|SOURCE|IDENTITY|[10.0.0.7:8080|
+check|--node|n1|SOURCE|IDENTITY|[::1]8080|
+check|--node|n1|SOURCE|IDENTITY|[::1] :80|
 # A target whose address is no IPv4 address.
-check|--node|n1|SOURCE|IDENTITY|:|; hbone: words: the address of TARGET is no IPv4 address
-check|--node|n1|SOURCE|IDENTITY|:8080|; hbone: words: the address of TARGET is no IPv4 address
-check|--node|n1|SOURCE|IDENTITY|10.0.0:8080|; hbone: words: the address of TARGET is no IPv4 address
-check|--node|n1|SOURCE|IDENTITY|10.0.0.256:8080|; hbone: words: the address of TARGET is no IPv4 address
-check|--node|n1|SOURCE|IDENTITY|010.0.0.7:8080|; hbone: words: the address of TARGET is no IPv4 address
-check|--node|n1|SOURCE|IDENTITY|10.0.0.07:8080|; hbone: words: the address of TARGET is no IPv4 address
-check|--node|n1|SOURCE|IDENTITY| 10.0.0.7:8080|; hbone: words: the address of TARGET is no IPv4 address
-check|--node|n1|SOURCE|IDENTITY|10.0.0.7 :8080|; hbone: words: the address of TARGET is no IPv4 address
-check|--node|n1|SOURCE|IDENTITY|10.0.0.7:80:80|; hbone: words: the address of TARGET is no IPv4 address
-check|--node|n1|SOURCE|IDENTITY|10.0.0.7::80|; hbone: words: the address of TARGET is no IPv4 address
-check|--node|n1|SOURCE|IDENTITY|-10.0.0.7:8080|; hbone: words: the address of TARGET is no IPv4 address
-check|--node|n1|SOURCE|IDENTITY|a:80|; hbone: words: the address of TARGET is no IPv4 address
-check|--node|n1|SOURCE|IDENTITY|a:0|; hbone: words: the address of TARGET is no IPv4 address
-check|--node|n1|SOURCE|IDENTITY|localhost:80|; hbone: words: the address of TARGET is no IPv4 address
-check|--node|n1|SOURCE|IDENTITY|::1:80|; hbone: words: the address of TARGET is no IPv4 address
-check|--node|n1|SOURCE|IDENTITY|[::1]:80|; hbone: words: the address of TARGET is no IPv4 address
-check|--node|n1|SOURCE|IDENTITY|[10.0.0.7]:80|; hbone: words: the address of TARGET is no IPv4 address
-check|--node|n1|SOURCE|IDENTITY|[]:80|; hbone: words: the address of TARGET is no IPv4 address
+= the address of TARGET is no IPv4 address
+check|--node|n1|SOURCE|IDENTITY|:|
+check|--node|n1|SOURCE|IDENTITY|:8080|
+check|--node|n1|SOURCE|IDENTITY|10.0.0:8080|
+check|--node|n1|SOURCE|IDENTITY|10.0.0.256:8080|
+check|--node|n1|SOURCE|IDENTITY|010.0.0.7:8080|
+check|--node|n1|SOURCE|IDENTITY|10.0.0.07:8080|
+check|--node|n1|SOURCE|IDENTITY| 10.0.0.7:8080|
+check|--node|n1|SOURCE|IDENTITY|10.0.0.7 :8080|
+check|--node|n1|SOURCE|IDENTITY|10.0.0.7:80:80|
+check|--node|n1|SOURCE|IDENTITY|10.0.0.7::80|
+check|--node|n1|SOURCE|IDENTITY|-10.0.0.7:8080|
+check|--node|n1|SOURCE|IDENTITY|a:80|
+check|--node|n1|SOURCE|IDENTITY|a:0|
+check|--node|n1|SOURCE|IDENTITY|localhost:80|
+check|--node|n1|SOURCE|IDENTITY|::1:80|
+check|--node|n1|SOURCE|IDENTITY|[::1]:80|
+check|--node|n1|SOURCE|IDENTITY|[10.0.0.7]:80|
+check|--node|n1|SOURCE|IDENTITY|[]:80|
 # A target whose port is no number from 1 to 65535 of at most five digits.
-check|--node|n1|SOURCE|IDENTITY|10.0.0.7:|; hbone: words: the port of TARGET is no number from 1 to 65535
-check|--node|n1|SOURCE|IDENTITY|10.0.0.7:0|; hbone: words: the port of TARGET is no number from 1 to 65535
-check|--node|n1|SOURCE|IDENTITY|10.0.0.7:00000|; hbone: words: the port of TARGET is no number from 1 to 65535
-check|--node|n1|SOURCE|IDENTITY|10.0.0.7:65536|; hbone: words: the port of TARGET is no number from 1 to 65535
-check|--node|n1|SOURCE|IDENTITY|10.0.0.7:99999|; hbone: words: the port of TARGET is no number from 1 to 65535
-check|--node|n1|SOURCE|IDENTITY|10.0.0.7:000080|; hbone: words: the port of TARGET is no number from 1 to 65535
-check|--node|n1|SOURCE|IDENTITY|10.0.0.7:100000|; hbone: words: the port of TARGET is no number from 1 to 65535
-check|--node|n1|SOURCE|IDENTITY|10.0.0.7:18446744073709551697|; hbone: words: the port of TARGET is no number from 1 to 65535
-check|--node|n1|SOURCE|IDENTITY|10.0.0.7:-1|; hbone: words: the port of TARGET is no number from 1 to 65535
-check|--node|n1|SOURCE|IDENTITY|10.0.0.7:+80|; hbone: words: the port of TARGET is no number from 1 to 65535
-check|--node|n1|SOURCE|IDENTITY|10.0.0.7: 80|; hbone: words: the port of TARGET is no number from 1 to 65535
-check|--node|n1|SOURCE|IDENTITY|10.0.0.7:80 |; hbone: words: the port of TARGET is no number from 1 to 65535
-check|--node|n1|SOURCE|IDENTITY|10.0.0.7:8o|; hbone: words: the port of TARGET is no number from 1 to 65535
-check|--node|n1|SOURCE|IDENTITY|10.0.0.7:0x50|; hbone: words: the port of TARGET is no number from 1 to 65535
-check|--node|n1|SOURCE|IDENTITY|10.0.0.7:http|; hbone: words: the port of TARGET is no number from 1 to 65535
+= the port of TARGET is no number from 1 to 65535
+check|--node|n1|SOURCE|IDENTITY|10.0.0.7:|
+check|--node|n1|SOURCE|IDENTITY|10.0.0.7:0|
+check|--node|n1|SOURCE|IDENTITY|10.0.0.7:00000|
+check|--node|n1|SOURCE|IDENTITY|10.0.0.7:65536|
+check|--node|n1|SOURCE|IDENTITY|10.0.0.7:99999|
+check|--node|n1|SOURCE|IDENTITY|10.0.0.7:000080|
+check|--node|n1|SOURCE|IDENTITY|10.0.0.7:100000|
+check|--node|n1|SOURCE|IDENTITY|10.0.0.7:18446744073709551697|
+check|--node|n1|SOURCE|IDENTITY|10.0.0.7:-1|
+check|--node|n1|SOURCE|IDENTITY|10.0.0.7:+80|
+check|--node|n1|SOURCE|IDENTITY|10.0.0.7: 80|
+check|--node|n1|SOURCE|IDENTITY|10.0.0.7:80 |
+check|--node|n1|SOURCE|IDENTITY|10.0.0.7:8o|
+check|--node|n1|SOURCE|IDENTITY|10.0.0.7:0x50|
+check|--node|n1|SOURCE|IDENTITY|10.0.0.7:http|
 # Of several faults the first is told.
-check|--node|n1|x|x|x|; hbone: words: SOURCE is no IPv4 address
-check|--node|n1|SOURCE|x|x|; hbone: words: IDENTITY is neither none nor spiffe://TRUST_DOMAIN/ns/NAMESPACE/sa/SERVICE_ACCOUNT
-check|--node|-|x|; hbone: words: the value of --node is empty or begins with a dash
-check|--node|n1|--x|--node|; hbone: words: unknown option
-check|--node|n1|x|x|; hbone: words: SOURCE, IDENTITY and TARGET are wanted
-check|--node|n1|x|x|x|x|; hbone: words: too many words
-show|--x|; hbone: words: unknown command
-check|--x|--node|; hbone: words: unknown option";
+= SOURCE is no IPv4 address
+check|--node|n1|x|x|x|
+= IDENTITY is neither none nor spiffe://TRUST_DOMAIN/ns/NAMESPACE/sa/SERVICE_ACCOUNT
+check|--node|n1|SOURCE|x|x|
+= the value of --node is empty or begins with a dash
+check|--node|-|x|
+= unknown option
+check|--node|n1|--x|--node|
+= SOURCE, IDENTITY and TARGET are wanted
+check|--node|n1|x|x|
+= too many words
+check|--node|n1|x|x|x|x|
+= unknown command
+show|--x|
+= unknown option
+check|--x|--node|";
 
 #[test]
 fn accepted_words_have_an_answer(rt: HostRuntime) -> Result<(), Fail> {
-    for line in ACCEPTED.lines().filter(|line| !line.starts_with('#')) {
+    for line in ACCEPTED.lines() {
+        if line.starts_with('#') {
+            continue;
+        }
         let mut fields = line.split(';');
         let words = fields.next().unwrap_or("");
         let answer = fields.next().unwrap_or("").trim();
@@ -244,35 +271,39 @@ fn accepted_words_have_an_answer(rt: HostRuntime) -> Result<(), Fail> {
     Ok(())
 }
 
-/// Words are refused, and nothing is read: the first take, which fails, is the one behind the run.
+/// Words are refused, and nothing is read: the first take fails, and the status would be 6.
 fn assert_words_refused(
     rt: &impl Abort,
     alloc: Global,
     text: &str,
-    line: &str,
+    reason: &str,
 ) -> Result<(), AllocError> {
-    let words = words_of(alloc, text)?;
-    let mut input = MemSource::over(alloc, b"", &[1])?;
-    let mut out = MemSink::new(alloc, 256, &[])?;
-    let mut err = MemSink::new(alloc, 256, &[])?;
-    let status = run(alloc, words.as_slice(), &mut input, &mut out, &mut err);
-    let ended = told(alloc, status, out.as_slice(), err.as_slice())?;
-    let want = format!(in alloc; "2 \"\" \"{line}\\n\"")?;
-    assert!(rt;
-        ended.as_bytes() == want.as_bytes(),
-        "{text}: {ended}, not {want}"
-    );
-    assert_eq!(rt; input.take(&mut [0]), Taken::Failed, "{text}");
+    let want = format!(in alloc; "2 \"\" \"hbone: words: {reason} {USAGE}\\n\"")?;
+    let failing = Failing {
+        takes: &[1],
+        ..NOTHING_FAILS
+    };
+    assert_ends(rt, alloc, text, "WORKLOAD", failing, want.as_str())
+}
+
+/// A reason, and behind it the words that are refused for it, a line each.
+fn assert_group_refused(rt: &impl Abort, alloc: Global, group: &str) -> Result<(), AllocError> {
+    let Some((reason, rows)) = group.split_once('\n') else {
+        panic!(rt; "no words stand under {group}");
+    };
+    for line in rows.lines() {
+        if line.starts_with('#') {
+            continue;
+        }
+        assert_words_refused(rt, alloc, line, reason)?;
+    }
     Ok(())
 }
 
 #[test]
 fn other_words_have_status_2(rt: HostRuntime) -> Result<(), Fail> {
-    for line in REFUSED.lines().filter(|line| !line.starts_with('#')) {
-        let mut fields = line.split(';');
-        let words = fields.next().unwrap_or("");
-        let reason = fields.next().unwrap_or("").trim();
-        assert_words_refused(&rt, rt.alloc(), words, reason)?;
+    for group in REFUSED.split("= ").skip(1) {
+        assert_group_refused(&rt, rt.alloc(), group)?;
     }
     Ok(())
 }
