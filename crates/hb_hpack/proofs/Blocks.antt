@@ -378,8 +378,8 @@ pub block_read_as : (table next new : Table) (block : List ℕ) (list : HeaderLi
     → IsListOf headers list × (new ≡ next)
 block_read_as table next new block list headers given reads =
     let again = block_again table block headers next reads in
-    let same : ◌≡◌ {A = List Header × Table} (given.0, new) (headers, next) = ok_is (given.0, new) (headers, next) (sym given.1 ∙ again) in (
-      subst (λ (hs : List Header). IsListOf hs list) (ap (λ (x : List Header × Table). x.0) same) given.2,
-      ap
-          (λ (x : List Header × Table). x.1) same,
-    )
+    let same : ◌≡◌ {A = List Header × Table} (given.0, new) (headers, next) =
+    ok_is (given.0, new) (headers, next) (sym given.1 ∙ again) in
+    let headers_are : given.0 ≡ headers = ap (λ (x : List Header × Table). x.0) same in
+    let table_is : new ≡ next = ap (λ (x : List Header × Table). x.1) same in
+    (subst (λ (hs : List Header). IsListOf hs list) headers_are given.2, table_is)

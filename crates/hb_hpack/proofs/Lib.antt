@@ -18,3 +18,4 @@ pub mod Statuses
 pub mod Encoded
 pub mod Broken
 pub mod Refused
+pub mod Readings

@@ -194,7 +194,7 @@ field_take table b bytes f o e =
                 let above = leb-true 64 b q.0 in
                 let l = literal_field table table 6 64 b bytes f (λ h. added table h) o (omega arith) q.1 in
                 subst (λ (g : Field). TakesField table (b ∷ bytes) g) l.2
-                (record { front = l.1.front; parts = l.1.parts; is = Represents.entered l.1.is refl })
+                (record { front = l.1.front; parts = l.1.parts; is = Represents.entered l.1.is (refl {a = added table l.0.0}) })
             | inr q ↦
                 let below_64 = leb-false 64 b q.0 in
                 elim (chosen (leb 32 b) _ _ _ q.1) [

@@ -28,8 +28,7 @@ pub data BreaksInteger (prefix flag : ℕ) (bytes : List ℕ) (at : ℕ) (why : 
   integer_ends : (groups : List ℕ) → bytes ≡ (flag + full prefix) ∷ groups → GoOn prefix groups
       → at ≡ length bytes → why ≡ Truncated → BreaksInteger prefix flag bytes at why
   integer_too_long : (groups : List ℕ) (group : ℕ) (behind : List ℕ) → bytes ≡ (flag + full prefix) ∷ (groups ++ group ∷ behind)
-      → GoOn prefix groups
-      → (length groups ≡ 5) ⊎ (2 ^ 32 ≤ full prefix + number_of (groups ++ group ∷ []))
+      → GoOn prefix groups → (length groups ≡ 5) ⊎ (2 ^ 32 ≤ full prefix + number_of (groups ++ group ∷ []))
       → at ≡ 1 + length groups → why ≡ LongInteger → BreaksInteger prefix flag bytes at why
 
 -- the Huffman bit before a literal's length
@@ -42,12 +41,11 @@ pub data BreaksString (bytes : List ℕ) (at : ℕ) (why : HpackWhy) : Type 0 wh
   no_string : bytes ≡ [] → at ≡ 0 → why ≡ Truncated → BreaksString bytes at why
   in_length : (bit : ℕ) → IsHuffmanBit bit → BreaksInteger 7 bit bytes at why → BreaksString bytes at why
   string_ends : (bit n : ℕ) (front behind : List ℕ) → IsHuffmanBit bit → bytes ≡ front ++ behind → IsInteger 7 bit n front
-      → length behind < n
-      → at ≡ length bytes → why ≡ Truncated → BreaksString bytes at why
+      → length behind < n → at ≡ length bytes → why ≡ Truncated → BreaksString bytes at why
   no_text : (front data' behind : List ℕ) → bytes ≡ front ++ (data' ++ behind) → IsInteger 7 128 (length data') front
       → ((text : List ℕ) → Spells data' text → ⊥) → at ≡ 0 → why ≡ BadHuffman → BreaksString bytes at why
 
--- behind bytes of this many, a string literal is broken at a place counted from their front
+-- behind a front, a string literal is broken, at a place counted from that front's first byte
 abbrev pub BreaksStringBehind : List ℕ → List ℕ → ℕ → HpackWhy → Type 0
 BreaksStringBehind front behind at why = (inner : ℕ) × BreaksString behind inner why × (at ≡ length front + inner)
 
@@ -63,8 +61,7 @@ pub data BreaksName (table : Table) (prefix flag : ℕ) (bytes : List ℕ) (at :
 pub data BreaksLiteral (table : Table) (prefix flag : ℕ) (bytes : List ℕ) (at : ℕ) (why : HpackWhy) : Type 0 where
   in_name : BreaksName table prefix flag bytes at why → BreaksLiteral table prefix flag bytes at why
   in_value : (name front behind : List ℕ) → bytes ≡ front ++ behind → IsName table prefix flag name front
-      → BreaksStringBehind front behind at why
-      → BreaksLiteral table prefix flag bytes at why
+      → BreaksStringBehind front behind at why → BreaksLiteral table prefix flag bytes at why
 
 -- Where a header's representation should be (section 6), the index is broken, or has no entry, or a literal is broken.
 pub data BreaksHeader (table : Table) (bytes : List ℕ) (at : ℕ) (why : HpackWhy) : Type 0 where
@@ -85,8 +82,7 @@ pub data BreaksUpdate (bytes : List ℕ) (at : ℕ) (why : HpackWhy) : Type 0 wh
 -- header; or by a size update that comes after a header (section 4.2).
 pub data BreaksAt (table : Table) (block : List ℕ) (at : ℕ) (why : HpackWhy) : Type 0 where
   in_update : (front behind : List ℕ) (mid : Table) (inner : ℕ) → block ≡ front ++ behind → Reads table front [] mid
-      → BreaksUpdate behind inner why
-      → at ≡ length front + inner → BreaksAt table block at why
+      → BreaksUpdate behind inner why → at ≡ length front + inner → BreaksAt table block at why
   in_header : (front behind : List ℕ) (hs : List Header) (mid : Table) (inner : ℕ) → block ≡ front ++ behind → Reads table front hs mid
       → BreaksHeader mid behind inner why → at ≡ length front + inner → BreaksAt table block at why
   late_update : (front : List ℕ) (b : ℕ) (behind : List ℕ) (h : Header) (hs : List Header) (mid : Table) → block ≡ front ++ b ∷ behind

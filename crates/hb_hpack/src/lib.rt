@@ -10,6 +10,7 @@ mod fault;
 mod header;
 mod huffman;
 mod integer;
+mod laws;
 mod literal;
 mod octets;
 mod partial;
@@ -22,6 +23,7 @@ pub use encoder::Encoder;
 pub use fault::{HpackFault, HpackWhy};
 pub use header::{Header, HeaderList};
 pub use huffman::{huffman_put, huffman_read};
+pub use laws::a_block_is_read_or_broken;
 pub use spelling::Spelling;
 
 #[cfg(test)]
