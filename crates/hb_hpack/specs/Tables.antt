@@ -9,7 +9,11 @@ use Rattle.hb_hpack.specs.declared.static_table.TheConstants.{TEXT, SPANS}
 
 -- the words of a length, as the code table has them
 unfoldable pub row_at : ℕ → Row
-row_at length = record { first = slice_index_or FIRSTS length 0; limit = slice_index_or LIMITS length 0; place = slice_index_or PLACES length 0 }
+row_at length = record {
+  first = slice_index_or FIRSTS length 0;
+  limit = slice_index_or LIMITS length 0;
+  place = slice_index_or PLACES length 0;
+}
 
 -- the word of a symbol, as the code table has it
 unfoldable pub code_at : ℕ → Code
