@@ -41,7 +41,8 @@ symbol_taken old held found rest w ne =
 pub end_taken : (old : List ℕ) (held : Held) (found : Found) (rest : List ℕ) → IsInFront held found → found.symbol ≡ 256
     → None ≡ after_text old (text_from 0 0 (bits held.count held.bits ++ rest))
 end_taken old held found rest w e =
-    let read : text_from 0 0 (bits held.count held.bits ++ rest) ≡ None = front_read held found rest w ∙ rw (eq-eqb found.symbol 256 e) refl in
+    let read : text_from 0 0 (bits held.count held.bits ++ rest) ≡ None =
+    front_read held found rest w ∙ rw (eq-eqb found.symbol 256 e) refl in
     ap (after_text old) (sym read)
 
 -- ---- a word of at most eight bits
