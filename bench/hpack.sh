@@ -4,6 +4,7 @@
 set -e
 top=$(cd "$(dirname "$0")/.." && pwd)
 work=$(mktemp -d)
+trap 'rm -r "$work"' EXIT
 mkdir "$work/crates"
 for crate in hb_base hb_hpack; do
     mkdir "$work/crates/$crate"
@@ -19,4 +20,3 @@ gcc -O2 -o "$work/nghttp2" "$top/bench/hpack_nghttp2.c" -lnghttp2
 (cd "$work/crates/hpack_bench" && rt run > "$work/log" 2>&1) || { cat "$work/log"; exit 1; }
 python3 "$top/bench/hpack_time.py" "$work/plain.blocks" "$work/huffman.blocks" -- \
     hb_hpack "$work/crates/hpack_bench/out/hpack_bench" nghttp2 "$work/nghttp2"
-rm -r "$work"

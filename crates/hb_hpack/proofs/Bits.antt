@@ -25,6 +25,10 @@ unfolding bits
 bits_small zero n = tt
 bits_small (suc k) n = (omega arith, bits_small k n)
 
+pub append_small : (xs ys : List ℕ) → AllByRecursion (λ b. b < 2) xs → AllByRecursion (λ b. b < 2) ys → AllByRecursion (λ b. b < 2) (xs ++ ys)
+append_small [] ys p q = q
+append_small (x ∷ xs) ys p q = (p.0, append_small xs ys p.1 q)
+
 -- a number's halves: the front of its bits, and one more
 pub next_bit : (c i : ℕ) → 2 * (c / 2 ^ suc i) + c / 2 ^ i % 2 ≡ c / 2 ^ i
 next_bit c i =

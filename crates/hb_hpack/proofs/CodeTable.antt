@@ -28,7 +28,8 @@ at_below (suc n) test h i lt =
 -- a row follows the one before it
 abbrev row_follows : Row → Row → ℕ → Bool
 row_follows before row length =
-    eqb row.first (2 * before.limit) && leb row.first row.limit && leb row.limit (2 ^ length) && leb (row.place + (row.limit - row.first)) 257
+    eqb row.first (2 * before.limit) && leb row.first row.limit && leb row.limit (2 ^ length)
+    && leb (row.place + (row.limit - row.first)) 257
 
 rows_follow_test : all_below 30 (λ l. row_follows (row_at l) (row_at (suc l)) (suc l)) ≡ true
 unfolding all_below row_at
@@ -92,7 +93,8 @@ unfolding row_at
 last_limit = refl
 
 pub limit_below : (n l : ℕ) → n < 31 → l < n → (row_at l).limit * 2 ^ (n - l) ≤ (row_at n).first
-limit_below n l small lt = leb-true _ _ (at_below n _ (at_below 31 (λ n. all_below n (λ l. leb ((row_at l).limit * 2 ^ (n - l)) (row_at n).first)) limits_test n small) l lt)
+limit_below n l small lt = leb-true _ _
+    (at_below n _ (at_below 31 (λ n. all_below n (λ l. leb ((row_at l).limit * 2 ^ (n - l)) (row_at n).first)) limits_test n small) l lt)
 
 is_word_bits : (o : Option Word) (length code : ℕ) → is_word o length code ≡ true → bits_of_word o ≡ bits length code
 unfolding bits_of_word
@@ -104,12 +106,16 @@ is_word_bits (Some w) length code h =
     rw (same_length, same_code) refl
 
 -- the word of the symbol that the tables give
-pub word_of_code : (l code : ℕ) → l < 31 → (row_at l).first ≤ code → code < (row_at l).limit → word (symbol_at ((row_at l).place + (code - (row_at l).first))) ≡ bits l code
+pub word_of_code : (l code : ℕ) → l < 31 → (row_at l).first ≤ code → code < (row_at l).limit
+    → word (symbol_at ((row_at l).place + (code - (row_at l).first))) ≡ bits l code
 unfolding word
 word_of_code l code small first limit =
-    let inner : ℕ → Bool = λ l. all_below ((row_at l).limit - (row_at l).first) (λ d. is_word (word_among (symbol_at ((row_at l).place + d)) words) l ((row_at l).first + d)) in
+    let inner : ℕ → Bool = λ l. all_below ((row_at l).limit - (row_at l).first)
+    (λ d. is_word (word_among (symbol_at ((row_at l).place + d)) words) l ((row_at l).first + d)) in
     let d : ℕ = code - (row_at l).first in
-    let h = at_below ((row_at l).limit - (row_at l).first) (λ d. is_word (word_among (symbol_at ((row_at l).place + d)) words) l ((row_at l).first + d)) (at_below 31 inner rows_hold_test l small) d (omega arith) in
+    let h = at_below ((row_at l).limit - (row_at l).first)
+    (λ d. is_word (word_among (symbol_at ((row_at l).place + d)) words) l ((row_at l).first + d))
+    (at_below 31 inner rows_hold_test l small) d (omega arith) in
     let e : (row_at l).first + d ≡ code = omega arith in
     is_word_bits _ l code (subst (λ (c : ℕ). is_word (word_among (symbol_at ((row_at l).place + d)) words) l c ≡ true) e h)
 
@@ -156,7 +162,8 @@ codes_test = refl
 -- the table has each symbol's word
 pub code_is_word : (s : ℕ) → s < 256 → bits (code_at s).length (code_at s).bits ≡ word s
 unfolding word
-code_is_word s lt = sym (is_word_bits _ _ _ (at_below 256 (λ s. is_word (word_among s words) (code_at s).length (code_at s).bits) codes_test s lt))
+code_is_word s lt = sym (is_word_bits _ _ _
+    (at_below 256 (λ s. is_word (word_among s words) (code_at s).length (code_at s).bits) codes_test s lt))
 
 lengths_test : all_below 256 (λ s. leb (code_at s).length 30) ≡ true
 unfolding all_below code_at
@@ -170,7 +177,8 @@ unfolding all_below code_at bits
 ones_test = refl
 
 pub others_are_not : (s : ℕ) → s < 256 → are_ones (word s) ≡ false
-others_are_not s lt = ap are_ones (sym (code_is_word s lt)) ∙ not-true _ (at_below 256 (λ s. not (are_ones (bits (code_at s).length (code_at s).bits))) ones_test s lt)
+others_are_not s lt = ap are_ones (sym (code_is_word s lt))
+    ∙ not-true _ (at_below 256 (λ s. not (are_ones (bits (code_at s).length (code_at s).bits))) ones_test s lt)
 
 pub last_is_ones : are_ones (word 256) ≡ true
 unfolding word bits bits_of_word words word_among words_from ordered numbers_from lengths
@@ -195,12 +203,14 @@ unfolding all_below row_at symbol_at words symbol_among words_from ordered numbe
 symbols_found_test = refl
 
 -- a word of a row is a symbol's
-pub symbol_found : (l code : ℕ) → l < 31 → (row_at l).first ≤ code → code < (row_at l).limit → symbol_of code l ≡ Some (symbol_at ((row_at l).place + (code - (row_at l).first)))
+pub symbol_found : (l code : ℕ) → l < 31 → (row_at l).first ≤ code → code < (row_at l).limit
+    → symbol_of code l ≡ Some (symbol_at ((row_at l).place + (code - (row_at l).first)))
 unfolding symbol_of
 symbol_found l code small first limit =
     let row : ℕ → ℕ → Bool = λ l d. is_symbol (symbol_among ((row_at l).first + d) l words) (symbol_at ((row_at l).place + d)) in
     let d : ℕ = code - (row_at l).first in
-    let h = at_below ((row_at l).limit - (row_at l).first) (row l) (at_below 31 (λ l. all_below ((row_at l).limit - (row_at l).first) (row l)) symbols_found_test l small) d (omega arith) in
+    let h = at_below ((row_at l).limit - (row_at l).first) (row l)
+    (at_below 31 (λ l. all_below ((row_at l).limit - (row_at l).first) (row l)) symbols_found_test l small) d (omega arith) in
     let e : (row_at l).first + d ≡ code = omega arith in
     is_symbol_is _ _ (subst (λ (c : ℕ). is_symbol (symbol_among c l words) (symbol_at ((row_at l).place + d)) ≡ true) e h)
 
@@ -213,7 +223,10 @@ unfolding row_at words words_from ordered numbers_from lengths
 are_below_test = refl
 
 differs : (m l c code : ℕ) → (m ≡ l → c ≡ code → ⊥) → (eqb m l && eqb c code) ≡ false
-differs m l c code never = elim (cases_eq m l) [ inl e ↦ rw (eq-eqb m l e, ne_eqb c code (never e)) refl | inr ne ↦ rw (ne_eqb m l ne) refl ]
+differs m l c code never = elim (cases_eq m l) [
+  | inl e ↦ rw (eq-eqb m l e, ne_eqb c code (never e)) refl
+  | inr ne ↦ rw (ne_eqb m l ne) refl
+]
 
 none_among : (ws : List Word) (code l : ℕ) → are_below ws ≡ true → (row_at l).limit ≤ code → symbol_among code l ws ≡ None
 unfolding symbol_among
@@ -259,7 +272,8 @@ is_short_is (suc n) symbol front h some =
     record { within = within; small = ltb-true _ _ q.1; begin = rw word_is (rw whole at (bits_split (suc n) (8 - suc n) front)) }
 
 pub short_is : (front : ℕ) → front < 256 → 0 < (short_at front).length → IsShort (short_at front).length (short_at front).symbol front
-short_is front lt some = is_short_is _ _ _ (at_below 256 (λ v. is_short (short_at v).length (short_at v).symbol v words) shorts_hold_test front lt) some
+short_is front lt some = is_short_is _ _ _
+    (at_below 256 (λ v. is_short (short_at v).length (short_at v).symbol v words) shorts_hold_test front lt) some
 
 padding_test : all_below 8 (λ n. leb (row_at n).limit (2 ^ n - 1)) ≡ true
 unfolding all_below row_at

@@ -9,7 +9,7 @@ use Rattle.hb_hpack.specs.Huffman.{are_ones, IsPrefixFree, bits, word, AreBitsOf
 use Rattle.hb_hpack.specs.Tables.{row_at, symbol_at}
 use Rattle.hb_hpack.specs.HuffmanSteps.{in_front, text_from, text_of}
 use Rattle.hb_hpack.proofs.CodeTable.{row_follows_at, last_limit, limit_below, word_of_code, symbols_small, HasWord, has_word, last_is_ones, others_are_not, both, symbol_found, no_symbol, padding_past}
-use Rattle.hb_hpack.proofs.Bits.{bits_push, bits_small, next_bit, bits_of_ones}
+use Rattle.hb_hpack.proofs.Bits.{bits_push, bits_small, append_small, next_bit, bits_of_ones}
 
 -- the symbol whose word has this many bits, which make this number
 abbrev pub symbol_here : ℕ → ℕ → ℕ
@@ -26,13 +26,16 @@ unfolding row_at
 nothing_open = record { short = lit< tt; below = lit< tt; past = lit≤ tt }
 
 -- a word ends at this bit
-pub text_word : (code len b : ℕ) (bs : List ℕ) → len < 30 → (row_at (len + 1)).first ≤ 2 * code + b → 2 * code + b < (row_at (len + 1)).limit
-    → text_from code len (b ∷ bs) ≡ cond (eqb (symbol_here (2 * code + b) (len + 1)) 256) None (in_front (symbol_here (2 * code + b) (len + 1)) (text_from 0 0 bs))
+pub text_word : (code len b : ℕ) (bs : List ℕ) → len < 30 → (row_at (len + 1)).first ≤ 2 * code + b
+    → 2 * code + b < (row_at (len + 1)).limit
+    → text_from code len (b ∷ bs) ≡ cond (eqb (symbol_here (2 * code + b) (len + 1)) 256) None
+    (in_front (symbol_here (2 * code + b) (len + 1)) (text_from 0 0 bs))
 unfolding text_from
 text_word code len b bs short first lt = rw (symbol_found (len + 1) (2 * code + b) (omega arith) first lt, text_from) refl
 
 -- no word ends at this bit
-pub text_more : (code len b : ℕ) (bs : List ℕ) → (row_at (len + 1)).limit ≤ 2 * code + b → text_from code len (b ∷ bs) ≡ text_from (2 * code + b) (len + 1) bs
+pub text_more : (code len b : ℕ) (bs : List ℕ) → (row_at (len + 1)).limit ≤ 2 * code + b
+    → text_from code len (b ∷ bs) ≡ text_from (2 * code + b) (len + 1) bs
 unfolding text_from
 text_more code len b bs le = rw (no_symbol (len + 1) (2 * code + b) le, text_from) refl
 
@@ -71,7 +74,8 @@ stays_open code len b begun lt past =
     record { short = short; below = n.below; past = past }
 
 -- the bits of the word that ends at a bit
-pub word_here : (code len b : ℕ) → IsOpen code len → b < 2 → 2 * code + b < (row_at (len + 1)).limit → word (symbol_here (2 * code + b) (len + 1)) ≡ bits len code ++ b ∷ []
+pub word_here : (code len b : ℕ) → IsOpen code len → b < 2 → 2 * code + b < (row_at (len + 1)).limit
+    → word (symbol_here (2 * code + b) (len + 1)) ≡ bits len code ++ b ∷ []
 word_here code len b begun lt limit =
     let s = begun.short in
     let same : len + 1 ≡ suc len = omega arith in
@@ -92,14 +96,17 @@ end_is : (b : Bool) (text : List ℕ) → cond b (given []) None ≡ Some text �
 end_is true text e = (refl, cc)
 end_is false text e = absurd cc
 
-word_end : (s : ℕ) (r : Option (List ℕ)) (text : List ℕ) → cond (eqb s 256) None (in_front s r) ≡ Some text → (s ≡ 256 → ⊥) × (rest : List ℕ) × (r ≡ Some rest) × (text ≡ s ∷ rest)
+word_end : (s : ℕ) (r : Option (List ℕ)) (text : List ℕ) → cond (eqb s 256) None (in_front s r) ≡ Some text
+    → (s ≡ 256 → ⊥) × (rest : List ℕ) × (r ≡ Some rest) × (text ≡ s ∷ rest)
 word_end s r text e =
-    elim (eqb s 256) as (λ v. eqb s 256 ≡ v → cond v None (in_front s r) ≡ Some text → (s ≡ 256 → ⊥) × (rest : List ℕ) × (r ≡ Some rest) × (text ≡ s ∷ rest)) [
+    elim (eqb s 256) as (λ v. eqb s 256 ≡ v → cond v None (in_front s r) ≡ Some text
+    → (s ≡ 256 → ⊥) × (rest : List ℕ) × (r ≡ Some rest) × (text ≡ s ∷ rest)) [
       | true ↦ λ t e. absurd cc
       | false ↦ λ f e. let q = in_front_some s r text e in (eqb-false s 256 f, q.0, q.1, q.2)
     ] refl e
   where
-    in_front_some : (s : ℕ) (r : Option (List ℕ)) (text : List ℕ) → in_front s r ≡ Some text → (rest : List ℕ) × (r ≡ Some rest) × (text ≡ s ∷ rest)
+    in_front_some : (s : ℕ) (r : Option (List ℕ)) (text : List ℕ) → in_front s r ≡ Some text
+        → (rest : List ℕ) × (r ≡ Some rest) × (text ≡ s ∷ rest)
     in_front_some s None text e = absurd cc
     in_front_some s (Some rest) text e = (rest, refl, cc)
 
@@ -107,7 +114,8 @@ symbol_small : (s : ℕ) → s < 257 → (s ≡ 256 → ⊥) → s < 256
 symbol_small s lt ne = omega arith
 
 -- behind the bits of a word so far: what is read of the others is a text's bits
-pub joined_from : (bs : List ℕ) (code len : ℕ) (text : List ℕ) → AllByRecursion (λ b. b < 2) bs → IsOpen code len → text_from code len bs ≡ Some text → AreBitsOf text (bits len code ++ bs)
+pub joined_from : (bs : List ℕ) (code len : ℕ) (text : List ℕ) → AllByRecursion (λ b. b < 2) bs → IsOpen code len
+    → text_from code len bs ≡ Some text → AreBitsOf text (bits len code ++ bs)
 unfolding text_from bits
 joined_from [] code len text small begun e =
     let p = end_is (ltb len 8 && eqb (code + 1) (2 ^ len)) text e in
@@ -121,14 +129,16 @@ joined_from (b ∷ bs) code len text small begun e =
     elim (cases_lt (2 * code + b) (row_at (len + 1)).limit) [
       | inl lt ↦
           let s : ℕ = symbol_here (2 * code + b) (len + 1) in
-          let p = word_end s (text_from 0 0 bs) text (sym (text_word code len b bs begun.short (next_row code len b begun small.0).first lt) ∙ e) in
+          let p = word_end s (text_from 0 0 bs) text
+          (sym (text_word code len b bs begun.short (next_row code len b begun small.0).first lt) ∙ e) in
           let rest = p.1 in
           let n = next_row code len b begun small.0 in
           let place : s < 257 = symbol_here_small (2 * code + b) (len + 1) (omega (arith, n.places, n.first)) in
           let r = joined_from bs 0 0 rest small.1 nothing_open p.2 in
           let w : word s ≡ bits len code ++ b ∷ [] = word_here code len b begun small.0 lt in
           let tail : bs ≡ flat_map word rest ++ replicate r.padding 1 = r.joined in
-          let front : bits len code ++ b ∷ bs ≡ word s ++ bs = sym (append_assoc (bits len code) (b ∷ []) bs) ∙ ap (λ (xs : List ℕ). xs ++ bs) (sym w) in
+          let front : bits len code ++ b ∷ bs ≡ word s ++ bs = sym (append_assoc (bits len code) (b ∷ []) bs)
+          ∙ ap (λ (xs : List ℕ). xs ++ bs) (sym w) in
           let whole : bits len code ++ b ∷ bs ≡ (word s ++ flat_map word rest) ++ replicate r.padding 1 =
           front ∙ ap (λ (xs : List ℕ). word s ++ xs) tail ∙ sym (append_assoc (word s) (flat_map word rest) (replicate r.padding 1)) in
           subst (λ (t : List ℕ). AreBitsOf t (bits len code ++ b ∷ bs)) (sym p.3)
@@ -138,7 +148,8 @@ joined_from (b ∷ bs) code len text small begun e =
           let r = joined_from bs (2 * code + b) (len + 1) text small.1 begun' (sym (text_more code len b bs le) ∙ e) in
           let same : len + 1 ≡ suc len = omega arith in
           let pushed : bits (len + 1) (2 * code + b) ≡ bits len code ++ b ∷ [] = rw same (bits_push len code b small.0) in
-          let whole : bits (len + 1) (2 * code + b) ++ bs ≡ bits len code ++ b ∷ bs = ap (λ (xs : List ℕ). xs ++ bs) pushed ∙ append_assoc (bits len code) (b ∷ []) bs in
+          let whole : bits (len + 1) (2 * code + b) ++ bs ≡ bits len code ++ b ∷ bs = ap (λ (xs : List ℕ). xs ++ bs) pushed
+          ∙ append_assoc (bits len code) (b ∷ []) bs in
           subst (λ (xs : List ℕ). AreBitsOf text xs) whole r
     ]
 
@@ -146,7 +157,8 @@ joined_from (b ∷ bs) code len text small begun e =
 
 -- a word's bits, from any place in it on, give its symbol
 word_read : (i : ℕ) (s : ℕ) (w : HasWord s) (rest : List ℕ) → i < w.length
-    → text_from (w.code / 2 ^ suc i) (w.length - suc i) (bits (suc i) w.code ++ rest) ≡ cond (eqb s 256) None (in_front s (text_from 0 0 rest))
+    → text_from (w.code / 2 ^ suc i) (w.length - suc i) (bits (suc i) w.code ++ rest)
+    ≡ cond (eqb s 256) None (in_front s (text_from 0 0 rest))
 unfolding bits
 word_read zero s w rest lt =
     let code : ℕ = w.code in
@@ -164,7 +176,8 @@ word_read (suc i) s w rest lt =
     let left : w.length - (w.length - suc i) ≡ suc i = omega arith in
     let shorter = limit_below w.length (w.length - suc i) w.short (omega arith) in
     let scaled : (row_at (w.length - suc i)).limit * 2 ^ suc i ≤ (row_at w.length).first = rw left at shorter in
-    let past : (row_at (w.length - suc i)).limit ≤ code / 2 ^ suc i = le-div _ code (2 ^ suc i) (pow_pos (suc i)) (omega (arith, w.first)) in
+    let past : (row_at (w.length - suc i)).limit ≤ code / 2 ^ suc i =
+    le-div _ code (2 ^ suc i) (pow_pos (suc i)) (omega (arith, w.first)) in
     let limit : (row_at (w.length - suc (suc i) + 1)).limit ≤ 2 * (code / 2 ^ suc (suc i)) + code / 2 ^ suc i % 2 = rw (here, len) past in
     text_more (code / 2 ^ suc (suc i)) (w.length - suc (suc i)) (code / 2 ^ suc i % 2) (bits (suc i) code ++ rest) limit
     ∙ ap (λ c. text_from c (w.length - suc (suc i) + 1) (bits (suc i) code ++ rest)) here
@@ -183,15 +196,18 @@ word_start s w =
     div-eq_of_lt (omega arith)
 
 -- a whole word gives its symbol, or ends the reading
-pub word_whole : (s : ℕ) (rest : List ℕ) → s < 257 → text_from 0 0 (word s ++ rest) ≡ cond (eqb s 256) None (in_front s (text_from 0 0 rest))
+pub word_whole : (s : ℕ) (rest : List ℕ) → s < 257
+    → text_from 0 0 (word s ++ rest) ≡ cond (eqb s 256) None (in_front s (text_from 0 0 rest))
 word_whole s rest lt =
     let w = has_word s lt in
     let some = w.some in
     let at_0 : w.code / 2 ^ w.length ≡ 0 = word_start s w in
     let at_len : suc (w.length - 1) ≡ w.length = omega arith in
     let none : w.length - w.length ≡ 0 = omega arith in
-    let read : text_from (w.code / 2 ^ suc (w.length - 1)) (w.length - suc (w.length - 1)) (bits (suc (w.length - 1)) w.code ++ rest) ≡ cond (eqb s 256) None (in_front s (text_from 0 0 rest)) = word_read (w.length - 1) s w rest (omega arith) in
-    let read' : text_from 0 0 (bits w.length w.code ++ rest) ≡ cond (eqb s 256) None (in_front s (text_from 0 0 rest)) = rw (at_len, at_0, none) at read in
+    let read : text_from (w.code / 2 ^ suc (w.length - 1)) (w.length - suc (w.length - 1)) (bits (suc (w.length - 1)) w.code ++ rest)
+    ≡ cond (eqb s 256) None (in_front s (text_from 0 0 rest)) = word_read (w.length - 1) s w rest (omega arith) in
+    let read' : text_from 0 0 (bits w.length w.code ++ rest) ≡ cond (eqb s 256) None (in_front s (text_from 0 0 rest)) =
+    rw (at_len, at_0, none) at read in
     ap (λ (xs : List ℕ). text_from 0 0 (xs ++ rest)) w.word_is ∙ read'
 
 -- a symbol of a text
@@ -210,10 +226,12 @@ open_front (suc i) code len begun le =
     let left : len - (len - suc i) ≡ suc i = omega arith in
     let same : suc (len - 1) ≡ len = omega arith in
     let ordered : (row_at len).first ≤ (row_at len).limit = rw same at (row_follows_at (len - 1) (omega arith)).ordered in
-    let scaled : (row_at (len - suc i)).limit * 2 ^ suc i ≤ (row_at len).first = rw left at (limit_below len (len - suc i) (omega arith) (omega arith)) in
+    let scaled : (row_at (len - suc i)).limit * 2 ^ suc i ≤ (row_at len).first =
+    rw left at (limit_below len (len - suc i) (omega arith) (omega arith)) in
     le-div _ code (2 ^ suc i) (pow_pos (suc i)) (omega arith)
 
-open_from : (i code len : ℕ) (rest : List ℕ) → IsOpen code len → i ≤ len → text_from (code / 2 ^ i) (len - i) (bits i code ++ rest) ≡ text_from code len rest
+open_from : (i code len : ℕ) (rest : List ℕ) → IsOpen code len → i ≤ len
+    → text_from (code / 2 ^ i) (len - i) (bits i code ++ rest) ≡ text_from code len rest
 unfolding bits
 open_from zero code len rest begun le =
     let same : len - zero ≡ len = omega arith in
@@ -222,7 +240,8 @@ open_from zero code len rest begun le =
 open_from (suc i) code len rest begun le =
     let here : 2 * (code / 2 ^ suc i) + code / 2 ^ i % 2 ≡ code / 2 ^ i = next_bit code i in
     let next : len - suc i + 1 ≡ len - i = omega arith in
-    let past : (row_at (len - suc i + 1)).limit ≤ 2 * (code / 2 ^ suc i) + code / 2 ^ i % 2 = rw (here, next) (open_front i code len begun (omega arith)) in
+    let past : (row_at (len - suc i + 1)).limit ≤ 2 * (code / 2 ^ suc i) + code / 2 ^ i % 2 =
+    rw (here, next) (open_front i code len begun (omega arith)) in
     text_more (code / 2 ^ suc i) (len - suc i) (code / 2 ^ i % 2) (bits i code ++ rest) past
     ∙ ap (λ c. text_from c (len - suc i + 1) (bits i code ++ rest)) here
     ∙ ap (λ n. text_from (code / 2 ^ i) n (bits i code ++ rest)) next
@@ -250,7 +269,8 @@ ones_read n le =
     let ones : bits n (2 ^ n - 1) ++ [] ≡ replicate n 1 = append-nil (bits n (2 ^ n - 1)) ∙ bits_of_ones n (2 ^ n - 1) (omega arith) in
     ap (text_from 0 0) (sym ones) ∙ open_read (2 ^ n - 1) n [] begun ∙ padding_ends n le
 
-words_read : (text : List ℕ) (n : ℕ) → AllByRecursion (λ s. s < 256) text → n ≤ 7 → text_from 0 0 (flat_map word text ++ replicate n 1) ≡ Some text
+words_read : (text : List ℕ) (n : ℕ) → AllByRecursion (λ s. s < 256) text → n ≤ 7
+    → text_from 0 0 (flat_map word text ++ replicate n 1) ≡ Some text
 words_read [] n octets le = ones_read n le
 words_read (s ∷ text) n octets le =
     ap (text_from 0 0) (append_assoc (word s) (flat_map word text) (replicate n 1))
@@ -264,10 +284,6 @@ text_is_read all text b = ap (text_from 0 0) b.joined ∙ words_read text b.padd
 bits_all_small : (bytes : List ℕ) → AllByRecursion (λ b. b < 2) (bits_of bytes)
 bits_all_small [] = tt
 bits_all_small (byte ∷ bytes) = append_small (bits 8 byte) (bits_of bytes) (bits_small 8 byte) (bits_all_small bytes)
-  where
-    append_small : (xs ys : List ℕ) → AllByRecursion (λ b. b < 2) xs → AllByRecursion (λ b. b < 2) ys → AllByRecursion (λ b. b < 2) (xs ++ ys)
-    append_small [] ys p q = q
-    append_small (x ∷ xs) ys p q = (p.0, append_small xs ys p.1 q)
 
 -- the text that is read of bytes is spelled by them
 pub read_is_spelled : (bytes text : List ℕ) → text_of bytes ≡ Some text → Spells bytes text

@@ -7,7 +7,7 @@ use Rattle.std.proofs.lemmas.List.{append-nil}
 use Rattle.hb_hpack.specs.Huffman.{Word, bits, bits_of, bits_of_word, word, words, word_among, Spells}
 use Rattle.hb_hpack.specs.HuffmanSteps.{with_ones, bytes_from, huffman_of}
 use Rattle.hb_hpack.specs.Grown.{IsLonger}
-use Rattle.hb_hpack.proofs.Bits.{bits_push, bits_small}
+use Rattle.hb_hpack.proofs.Bits.{bits_push, bits_small, append_small}
 
 -- ---- one bit more
 
@@ -15,7 +15,8 @@ pub byte_done : (byte b : ℕ) (rest : List ℕ) → bytes_from byte 7 (b ∷ re
 unfolding bytes_from
 byte_done byte b rest = refl
 
-pub byte_goes_on : (byte count b : ℕ) (rest : List ℕ) → (count ≡ 7 → ⊥) → bytes_from byte count (b ∷ rest) ≡ bytes_from (2 * byte + b) (count + 1) rest
+pub byte_goes_on : (byte count b : ℕ) (rest : List ℕ) → (count ≡ 7 → ⊥)
+    → bytes_from byte count (b ∷ rest) ≡ bytes_from (2 * byte + b) (count + 1) rest
 unfolding bytes_from
 byte_goes_on byte count b rest ne = rw (ne_eqb count 7 ne, bytes_from) refl
 
@@ -47,7 +48,8 @@ pub record AreWritten (all bs : List ℕ) : Type 0 where
 regrouped : (front : List ℕ) (b : ℕ) (bs ones : List ℕ) → (front ++ b ∷ []) ++ (bs ++ ones) ≡ (front ++ b ∷ bs) ++ ones
 regrouped front b bs ones = append_assoc front (b ∷ []) (bs ++ ones) ∙ sym (append_assoc front (b ∷ bs) ones)
 
-bits_written : (bs : List ℕ) (byte count : ℕ) → AllByRecursion (λ b. b < 2) bs → count < 8 → AreWritten (bits_of (bytes_from byte count bs)) (bits count byte ++ bs)
+bits_written : (bs : List ℕ) (byte count : ℕ) → AllByRecursion (λ b. b < 2) bs → count < 8
+    → AreWritten (bits_of (bytes_from byte count bs)) (bits count byte ++ bs)
 unfolding bits
 bits_written [] byte count small lt =
     elim (cases_eq count 0) [
@@ -58,7 +60,8 @@ bits_written [] byte count small lt =
       }
       | inr ne ↦
           let whole : count + (8 - count) ≡ 8 = omega arith in
-          let ones : bits 8 (with_ones (8 - count) byte) ≡ bits count byte ++ replicate (8 - count) 1 = rw whole at (ones_behind (8 - count) count byte) in
+          let ones : bits 8 (with_ones (8 - count) byte) ≡ bits count byte ++ replicate (8 - count) 1 =
+          rw whole at (ones_behind (8 - count) count byte) in
           record {
             padding = 8 - count;
             short = omega (arith, ne);
@@ -71,7 +74,8 @@ bits_written (b ∷ bs) byte count small lt =
       | inl e ↦
           let r = bits_written bs 0 0 small.1 (omega arith) in
           let pushed : bits 8 (2 * byte + b) ≡ bits 7 byte ++ b ∷ [] = bits_push 7 byte b small.0 in
-          let first : bits_of (bytes_from byte count (b ∷ bs)) ≡ bits 8 (2 * byte + b) ++ bits_of (bytes_from 0 0 bs) = rw e (ap bits_of (byte_done byte b bs)) in
+          let first : bits_of (bytes_from byte count (b ∷ bs)) ≡ bits 8 (2 * byte + b) ++ bits_of (bytes_from 0 0 bs) =
+          rw e (ap bits_of (byte_done byte b bs)) in
           record {
             padding = r.padding;
             short = r.short;
@@ -84,7 +88,8 @@ bits_written (b ∷ bs) byte count small lt =
           let r = bits_written bs (2 * byte + b) (count + 1) small.1 (omega (arith, ne)) in
           let same : count + 1 ≡ suc count = omega arith in
           let pushed : bits (count + 1) (2 * byte + b) ≡ bits count byte ++ b ∷ [] = rw same (bits_push count byte b small.0) in
-          let first : bits_of (bytes_from byte count (b ∷ bs)) ≡ bits_of (bytes_from (2 * byte + b) (count + 1) bs) = ap bits_of (byte_goes_on byte count b bs ne) in
+          let first : bits_of (bytes_from byte count (b ∷ bs)) ≡ bits_of (bytes_from (2 * byte + b) (count + 1) bs) =
+          ap bits_of (byte_goes_on byte count b bs ne) in
           record {
             padding = r.padding;
             short = r.short;
@@ -92,10 +97,6 @@ bits_written (b ∷ bs) byte count small lt =
                 ∙ ap (λ (xs : List ℕ). xs ++ replicate r.padding 1) (append_assoc (bits count byte) (b ∷ []) bs);
           }
     ]
-
-append_small : (xs ys : List ℕ) → AllByRecursion (λ b. b < 2) xs → AllByRecursion (λ b. b < 2) ys → AllByRecursion (λ b. b < 2) (xs ++ ys)
-append_small [] ys p q = q
-append_small (x ∷ xs) ys p q = (p.0, append_small xs ys p.1 q)
 
 word_bits_small : (o : Option Word) → AllByRecursion (λ b. b < 2) (bits_of_word o)
 unfolding bits_of_word

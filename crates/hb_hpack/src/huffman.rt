@@ -42,7 +42,8 @@ fn whole_word(held: Held) -> Option<Found>
 
 /// Takes the words of at most eight bits in front, as long as there are eight bits.
 fn take_short(text: &mut Vec<u8>, held: Held) -> Result<Held, NoMemory>
-    ensures read { IfOk result (λ left. (rest : List ℕ) → read_on text.new.items (Some left) rest ≡ read_on text.old.items (Some held) rest) }
+    ensures read { IfOk result (λ left. (rest : List ℕ)
+        → read_on text.new.items (Some left) rest ≡ read_on text.old.items (Some held) rest) }
     ensures fewer { IfOk result (λ left. left.count ≤ held.count) }
 {
     let mut held = held;
@@ -90,7 +91,8 @@ fn take_words(text: &mut Vec<u8>, held: Held) -> Result<Option<Held>, NoMemory>
 /// Takes a byte more. The words wait until there are 56 bits, so that the loops that take them are long.
 fn take_byte(text: &mut Vec<u8>, held: Held, byte: u8) -> Result<Option<Held>, NoMemory>
     requires { held.count < 56 }
-    ensures read { IfOk result (λ r. (rest : List ℕ) → read_on text.new.items r rest ≡ read_on text.old.items (Some held) (bits 8 byte ++ rest)) }
+    ensures read { IfOk result (λ r. (rest : List ℕ)
+        → read_on text.new.items r rest ≡ read_on text.old.items (Some held) (bits 8 byte ++ rest)) }
     ensures few { IfOk result (λ r. IfSome r (λ left. left.count < 56)) }
 {
     let held = held.with(byte);

@@ -13,11 +13,13 @@ pub returns-clause-written : goal.returns-clause-written
 returns-clause-written t c =
     let some : 0 < c.args.left = omega (arith, c.if-left-eq0.false) in
     IfOk-weaker c.put_bits.result _ _ (λ next h rest.
-    h rest ∙ c.in_ok-next.ensures.written (bits (c.args.left - 1) c.args.word ++ rest) ∙ rw (bits_next c.args.left c.args.word some) refl) c.put_bits.ensures.written
+    h rest ∙ c.in_ok-next.ensures.written (bits (c.args.left - 1) c.args.word ++ rest)
+    ∙ rw (bits_next c.args.left c.args.word some) refl) c.put_bits.ensures.written
 
 pub returns-clause-err : goal.returns-clause-err
 returns-clause-err t c =
     let some : 0 < c.args.left = omega (arith, c.if-left-eq0.false) in
     on_err_weaker c.put_bits.result (λ h rest.
     subst (λ (xs : List ℕ). IsLonger c.put_bits.new.out.items xs)
-    (c.in_ok-next.ensures.written (bits (c.args.left - 1) c.args.word ++ rest) ∙ rw (bits_next c.args.left c.args.word some) refl) (h rest)) c.put_bits.ensures.err
+    (c.in_ok-next.ensures.written (bits (c.args.left - 1) c.args.word ++ rest) ∙ rw (bits_next c.args.left c.args.word some) refl)
+    (h rest)) c.put_bits.ensures.err

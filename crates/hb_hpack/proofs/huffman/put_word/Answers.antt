@@ -8,10 +8,12 @@ put_bits-requires c = rw c.code_at-code.ensures (code_is_short c.args.symbol (om
 
 pub returns-clause-written : goal.returns-clause-written
 returns-clause-written c =
-    let is : bits c.code_at-code.result.length c.code_at-code.result.bits ≡ word c.args.symbol = rw c.code_at-code.ensures (code_is_word c.args.symbol (omega (arith, c.ranges.symbol))) in
+    let is : bits c.code_at-code.result.length c.code_at-code.result.bits ≡ word c.args.symbol =
+    rw c.code_at-code.ensures (code_is_word c.args.symbol (omega (arith, c.ranges.symbol))) in
     rw (← is) c.put_bits.ensures.written
 
 pub returns-clause-err : goal.returns-clause-err
 returns-clause-err c =
-    let is : bits c.code_at-code.result.length c.code_at-code.result.bits ≡ word c.args.symbol = rw c.code_at-code.ensures (code_is_word c.args.symbol (omega (arith, c.ranges.symbol))) in
+    let is : bits c.code_at-code.result.length c.code_at-code.result.bits ≡ word c.args.symbol =
+    rw c.code_at-code.ensures (code_is_word c.args.symbol (omega (arith, c.ranges.symbol))) in
     rw (← is) c.put_bits.ensures.err
