@@ -22,8 +22,3 @@ pub use fault::{HpackFault, HpackWhy};
 pub use header::{Header, HeaderList};
 pub use huffman::{huffman_put, huffman_read};
 pub use spelling::Spelling;
-
-#[cfg(test)]
-mod tests;
-#[cfg(test)]
-mod vectors;
