@@ -79,6 +79,28 @@ fn list_of(alloc: Global, row: &Written) -> Result<List<Header>, AllocError> {
     Ok(headers)
 }
 
+fn block_of(
+    alloc: Global,
+    encoder: &mut Encoder,
+    headers: &List<Header>,
+) -> Result<Vec<u8>, AllocError> {
+    let mut block = Vec::new(alloc);
+    encoder.block(alloc, headers, &mut block)?;
+    Ok(block)
+}
+
+/// What a decoder is to tell of the row's block.
+fn told_of_row(
+    rt: &impl Abort,
+    alloc: Global,
+    headers: &List<Header>,
+    row: &Written,
+) -> Result<String, AllocError> {
+    assert!(rt; row.kept <= headers.len());
+    let shown = shown_of(alloc, &headers.as_slice()[..row.kept])?;
+    format!(in alloc; "r {} 0 {shown}", row.size)
+}
+
 /// The headers are written as the opening and the row's block, and are read back.
 fn assert_written(
     rt: &impl Abort,
@@ -89,13 +111,10 @@ fn assert_written(
     row: &Written,
 ) -> Result<(), AllocError> {
     let headers = list_of(alloc, row)?;
-    let mut block = Vec::new(alloc);
-    encoder.block(alloc, &headers, &mut block)?;
+    let block = block_of(alloc, encoder, &headers)?;
     let want = octets_behind(rt, alloc, opening, row.block, row.times)?;
     assert!(rt; block.as_slice() == want.as_slice(), "{}", row.block);
-    assert!(rt; row.kept <= headers.len());
-    let shown = shown_of(alloc, &headers.as_slice()[..row.kept])?;
-    let want = format!(in alloc; "r {} 0 {shown}", row.size)?;
+    let want = told_of_row(rt, alloc, &headers, row)?;
     let told = told_of(alloc, decoder, block.as_slice())?;
     assert_eq!(rt; told.as_str(), want.as_str());
     Ok(())

@@ -3,7 +3,7 @@
 use hb_windows::{Overrun, SendWindow, TakeWindow};
 
 #[test]
-fn a_sending_window_is_spent_granted_and_resized(rt: HostRuntime) {
+fn a_resize_moves_the_window_below_zero(rt: HostRuntime) {
     let mut window = SendWindow::new(65_535);
     assert_eq!(rt; window.resize(65_535, 0), Ok(()));
     assert_eq!(rt; window.held(), 0);
@@ -11,15 +11,20 @@ fn a_sending_window_is_spent_granted_and_resized(rt: HostRuntime) {
     spent.spend(65_535);
     assert_eq!(rt; spent.resize(65_535, 16_384), Ok(()));
     assert_eq!(rt; spent.held(), -49_151);
-    // What is taken back before it begins may be spent again.
+}
+
+#[test]
+fn what_is_given_back_is_spent_again(rt: HostRuntime) {
     let mut window = SendWindow::new(16_384);
     window.spend(16_384);
     window.give_back(9_000);
     assert_eq!(rt; window.held(), 9_000);
     window.spend(9_000);
-    assert_eq!(rt; window.grant(1), Ok(()));
-    assert_eq!(rt; window.held(), 1);
-    // The largest window, which can't grow.
+    assert_eq!(rt; window.held(), 0);
+}
+
+#[test]
+fn a_grant_past_the_largest_is_refused(rt: HostRuntime) {
     let mut window = SendWindow::new(0);
     assert_eq!(rt; window.grant(2_147_483_647), Ok(()));
     let refused = Overrun {
