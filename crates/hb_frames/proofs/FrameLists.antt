@@ -5,9 +5,11 @@ use Rattle.hb_frames.specs.Frames.{Joins, HasNoFrame, OneReading}
 use Rattle.hb_frames.proofs.Spelling.{IsInFront, spelled_in_front}
 
 pub in_front : (f : RawFrame) (spelled more bytes : List ℕ) → Spells f spelled → bytes ≡ spelled ++ more → IsInFront f spelled more bytes
-in_front f spelled more bytes spells is = subst (λ (b : List ℕ). IsInFront f spelled more b) (sym is) (spelled_in_front f spelled more spells)
+in_front f spelled more bytes spells is =
+    subst (λ (b : List ℕ). IsInFront f spelled more b) (sym is) (spelled_in_front f spelled more spells)
 
-pub one_list : (frames others : List RawFrame) (bytes rest others_rest : List ℕ) → Joins frames rest bytes → HasNoFrame rest → Joins others others_rest bytes → HasNoFrame others_rest → (frames ≡ others) × (rest ≡ others_rest)
+pub one_list : (frames others : List RawFrame) (bytes rest others_rest : List ℕ) → Joins frames rest bytes → HasNoFrame rest
+    → Joins others others_rest bytes → HasNoFrame others_rest → (frames ≡ others) × (rest ≡ others_rest)
 one_list [] [] bytes rest others_rest j p k q = (refl, sym j ∙ k)
 one_list [] (g ∷ gs) bytes rest others_rest j p k q = absurd (p g k.0 k.1 k.2 (sym j ∙ k.3))
 one_list (f ∷ fs) [] bytes rest others_rest j p k q = absurd (q f j.0 j.1 j.2 (sym k ∙ j.3))

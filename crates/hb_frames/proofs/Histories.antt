@@ -1,5 +1,6 @@
 -- What a call adds to the history that a reader stands for.
-use Rattle.std.proofs.Common.{◌≡◌, ⊎_elim, ℕ, min, List, [], ◌∷◌, ◌++◌, length, take, drop, refl, ap, ◌∙◌, sym, subst, Option, None, Result, Ok, Err}
+use Rattle.std.proofs.Common.{◌≡◌, ⊎_elim, ℕ, min, List, [], ◌∷◌, ◌++◌, length, take, drop, refl, ap, ◌∙◌, sym, subst, Option}
+use Rattle.std.proofs.Common.{None, Result, Ok, Err}
 use Rattle.std.proofs.lemmas.List.{append_assoc, take-append-drop}
 use Rattle.hb_frames.specs.RawFrame.{RawFrame, Spells, raw_at}
 use Rattle.hb_frames.specs.Frames.{Joins}
@@ -12,7 +13,8 @@ joins_more [] rest bytes more j = ap (λ xs. xs ++ more) j
 joins_more (f ∷ fs) rest bytes more j =
     (j.0, j.1 ++ more, j.2, ap (λ xs. xs ++ more) j.3 ∙ append_assoc j.0 j.1 more, joins_more fs rest j.1 more j.4)
 
-pub joins_push : (fs : List RawFrame) (g : RawFrame) (rest bytes spelled behind : List ℕ) → Joins fs rest bytes → Spells g spelled → rest ≡ spelled ++ behind → Joins (fs ++ g ∷ []) behind bytes
+pub joins_push : (fs : List RawFrame) (g : RawFrame) (rest bytes spelled behind : List ℕ) → Joins fs rest bytes → Spells g spelled
+    → rest ≡ spelled ++ behind → Joins (fs ++ g ∷ []) behind bytes
 joins_push [] g rest bytes spelled behind j spells is = (spelled, behind, spells, j ∙ is, refl)
 joins_push (f ∷ fs) g rest bytes spelled behind j spells is =
     (j.0, j.1, j.2, j.3, joins_push fs g rest j.1 spelled behind j.4 spells is)

@@ -2,9 +2,11 @@ pub mod Buffers
 pub mod Faults
 pub mod FrameLists
 pub mod Histories
+pub mod OneFault
 pub mod Padding
 pub mod ReadBack
 pub mod Readings
+pub mod Records
 pub mod Runs
 pub mod Settings
 pub mod Spelling

@@ -25,13 +25,16 @@ pads_content f h = record {
   padding_is = length-drop (length f.payload - padding_len f) f.payload ∙ omega (arith, h);
 }
 
-pub middle : (front content padding : List ℕ) (a b : ℕ) → length front ≡ a → length padding ≡ b → let p = front ++ (content ++ padding) in slice_range p a (length p - b) ≡ content
+pub middle : (front content padding : List ℕ) (a b : ℕ) → length front ≡ a → length padding ≡ b
+    → let p = front ++ (content ++ padding) in slice_range p a (length p - b) ≡ content
 middle front content padding a b front_is padding_is =
     let p = front ++ (content ++ padding) in
-    let len : length p - b - a ≡ length content = omega (arith, length-append front (content ++ padding), length-append content padding, front_is, padding_is) in
+    let len : length p - b - a ≡ length content =
+    omega (arith, length-append front (content ++ padding), length-append content padding, front_is, padding_is) in
     let rest : drop a p ≡ content ++ padding = rw (← front_is) (drop-append_seam front (content ++ padding)) in
     ap (λ n. take n (drop a p)) len ∙ ap (take (length content)) rest ∙ take-append_seam content padding
 
 pub one_content : OneContent
 one_content f content pads =
-    sym (ap (λ (p : List ℕ). slice_range p (front_len f) (length p - padding_len f)) pads.joined ∙ middle pads.front content pads.padding (front_len f) (padding_len f) pads.front_is pads.padding_is)
+    sym (ap (λ (p : List ℕ). slice_range p (front_len f) (length p - padding_len f)) pads.joined
+    ∙ middle pads.front content pads.padding (front_len f) (padding_len f) pads.front_is pads.padding_is)

@@ -25,13 +25,15 @@ spelled_is_read max f spelled more spells =
     let bytes = spelled ++ more in
     let front = spelled_in_front f spelled more spells in
     let enough : 9 + size_at bytes ≤ length bytes = omega (arith, front.len, front.size, length-append spelled more) in
-    let found : first_of max bytes ≡ (if nat_lt max (length f.payload) then Err too_long else unless_refused (first_refusal f) (length spelled)) = ⊎_elim
+    let found : first_of max bytes
+    ≡ (if nat_lt max (length f.payload) then Err too_long else unless_refused (first_refusal f) (length spelled)) = ⊎_elim
     (λ (h : max < length f.payload).
     let test : nat_lt max (length f.payload) ≡ true = grind (arith, nat_tests) in
     rw test (refused_long max bytes (omega (arith, enough)) (omega (arith, h, front.size))))
     (λ (h : length f.payload ≤ max).
     let test : nat_lt max (length f.payload) ≡ false = grind (arith, nat_tests) in
     let size : 9 + size_at bytes ≡ length spelled = omega (arith, front.size, front.len) in
-    rw test (whole_frame max bytes (omega (arith, h, front.size)) enough ∙ ap (unless_refused (first_refusal (raw_at bytes))) size ∙ ap (λ (g : RawFrame). unless_refused (first_refusal g) (length spelled)) front.frame))
+    rw test (whole_frame max bytes (omega (arith, h, front.size)) enough ∙ ap (unless_refused (first_refusal (raw_at bytes))) size
+    ∙ ap (λ (g : RawFrame). unless_refused (first_refusal g) (length spelled)) front.frame))
     (cases_lt max (length f.payload))
     in (front.frame, found)

@@ -24,5 +24,6 @@ settings_none (a ∷ b ∷ c ∷ d ∷ e ∷ []) h = refl
 settings_none (a ∷ b ∷ c ∷ d ∷ e ∷ f ∷ rest) h = absurd (omega arith)
 
 -- a setting that isn't refused says nothing of the others
-pub any_refused_drop : (s : List ℕ) → 6 ≤ length s → is_refused_setting (slice_index s 0 * 256 + slice_index s 1, four_at s 2) ≡ false → list_any is_refused_setting (settings (drop 6 s)) ≡ list_any is_refused_setting (settings s)
+pub any_refused_drop : (s : List ℕ) → 6 ≤ length s → is_refused_setting (slice_index s 0 * 256 + slice_index s 1, four_at s 2) ≡ false
+    → list_any is_refused_setting (settings (drop 6 s)) ≡ list_any is_refused_setting (settings s)
 any_refused_drop s h e = rw (settings_more s h, e) refl

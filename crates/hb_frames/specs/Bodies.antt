@@ -1,10 +1,13 @@
-use Rattle.std.specs.Prelude.{◌≡◌, ℕ, ◌+◌, ◌-◌, ◌*◌, ◌%◌, ◌≤◌, List, [], ◌++◌, length, slice_range, ◌==◌, nat_lt, if◌then◌else◌}
+use Rattle.std.specs.Prelude.{◌≡◌, ℕ, ◌+◌, ◌-◌, ◌*◌, ◌%◌, ◌<◌, List, [], ◌++◌, length, slice_range, ◌==◌, if◌then◌else◌}
 use Rattle.hb_frames.specs.Octets.{four_at}
 use Rattle.hb_frames.specs.RawFrame.{RawFrame}
-use Rattle.hb_frames.specs.Refusals.{front_len, padding_len, increment_of}
+use Rattle.hb_frames.specs.Numbers.{data_kind, headers_kind, priority_kind, rst_stream_kind, settings_kind, push_promise_kind}
+use Rattle.hb_frames.specs.Numbers.{ping_kind, goaway_kind, window_update_kind, continuation_kind}
+use Rattle.hb_frames.specs.Refusals.{has_content, front_len, padding_len, increment_of}
 use Rattle.hb_frames.specs.declared.frame.Frame.{Frame}
 use Rattle.hb_frames.specs.declared.body.Body.{Body}
-use Rattle.hb_frames.specs.declared.body.Body.TheVariants.{Payload, Headers, Priority, Reset, Settings, Push, Ping, GoAway, Window, Continuation, Unknown}
+use Rattle.hb_frames.specs.declared.body.Body.TheVariants.{Payload, Headers, Priority, Reset, Settings, Push, Ping, GoAway}
+use Rattle.hb_frames.specs.declared.body.Body.TheVariants.{Window, Continuation, Unknown}
 
 -- what a DATA or HEADERS payload has between what stands in front and the padding
 abbrev pub content_of : RawFrame → List ℕ
@@ -25,17 +28,17 @@ OneContent = (f : RawFrame) (content : List ℕ) → Pads f content → content 
 
 -- the body says what the payload of the frame's type has (RFC 9113 section 6)
 abbrev pub Shows : RawFrame → Body → Type 0
-Shows f (Payload bytes counted) = (f.kind ≡ 0) × Pads f bytes.now × (counted ≡ length f.payload)
-Shows f (Headers block) = (f.kind ≡ 1) × Pads f block.now
-Shows f Priority = f.kind ≡ 2
-Shows f (Reset code) = (f.kind ≡ 3) × (code ≡ four_at f.payload 0)
-Shows f (Settings pairs) = (f.kind ≡ 4) × (pairs.now ≡ f.payload)
-Shows f Push = f.kind ≡ 5
-Shows f (Ping value) = (f.kind ≡ 6) × (value ≡ four_at f.payload 0 * 4294967296 + four_at f.payload 4)
-Shows f (GoAway last code) = (f.kind ≡ 7) × (last ≡ four_at f.payload 0 % 2147483648) × (code ≡ four_at f.payload 4)
-Shows f (Window increment) = (f.kind ≡ 8) × (increment ≡ increment_of f)
-Shows f (Continuation block) = (f.kind ≡ 9) × (block.now ≡ f.payload)
-Shows f (Unknown kind) = (10 ≤ f.kind) × (kind ≡ f.kind)
+Shows f (Payload bytes counted) = (f.kind ≡ data_kind) × Pads f bytes.now × (counted ≡ length f.payload)
+Shows f (Headers block) = (f.kind ≡ headers_kind) × Pads f block.now
+Shows f Priority = f.kind ≡ priority_kind
+Shows f (Reset code) = (f.kind ≡ rst_stream_kind) × (code ≡ four_at f.payload 0)
+Shows f (Settings pairs) = (f.kind ≡ settings_kind) × (pairs.now ≡ f.payload)
+Shows f Push = f.kind ≡ push_promise_kind
+Shows f (Ping value) = (f.kind ≡ ping_kind) × (value ≡ four_at f.payload 0 * 4294967296 + four_at f.payload 4)
+Shows f (GoAway last code) = (f.kind ≡ goaway_kind) × (last ≡ four_at f.payload 0 % 2147483648) × (code ≡ four_at f.payload 4)
+Shows f (Window increment) = (f.kind ≡ window_update_kind) × (increment ≡ increment_of f)
+Shows f (Continuation block) = (f.kind ≡ continuation_kind) × (block.now ≡ f.payload)
+Shows f (Unknown kind) = (continuation_kind < f.kind) × (kind ≡ f.kind)
 
 -- the frame has these flags, this stream and this body
 pub record IsFrame (f : RawFrame) (frame : Frame) : Type 0 where
@@ -45,4 +48,6 @@ pub record IsFrame (f : RawFrame) (frame : Frame) : Type 0 where
 
 -- the bytes that can be asked for again: those of a DATA, HEADERS or CONTINUATION body
 abbrev pub lent_of : RawFrame → List ℕ
-lent_of f = if nat_lt f.kind 2 then content_of f else (if f.kind == 9 then f.payload else [])
+lent_of f =
+    if has_content f then content_of f
+    else if f.kind == continuation_kind then f.payload else []

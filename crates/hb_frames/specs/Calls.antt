@@ -1,7 +1,7 @@
 use Rattle.std.specs.Prelude.{◌≡◌, ℕ, ◌-◌, min, List, [], ◌∷◌, ◌++◌, length, take, Option, Some, None, Result, Ok, Err}
 use Rattle.hb_frames.specs.RawFrame.{RawFrame, raw_at}
 use Rattle.hb_frames.specs.Frames.{Joins, AreFrames, AreOctets}
-use Rattle.hb_frames.specs.Reading.{Reading, reading, space_of, fed, asked, first_of, fault_of, offset_after}
+use Rattle.hb_frames.specs.Reading.{Reading, space_of, fed, asked, first_of, fault_of, offset_after}
 use Rattle.hb_frames.specs.declared.refusal.Refusal.{Refusal}
 
 -- a call of feed with a piece, or of next_frame
@@ -11,7 +11,7 @@ pub data Call : Type 0 where
 
 -- a new reader
 abbrev pub fresh : ℕ → Reading
-fresh max = reading max [] 0 []
+fresh max = record { max = max; held = []; at = 0; last = [] }
 
 -- what the reader stands for after the calls
 abbrev pub after_calls : Reading → List Call → Reading
@@ -66,3 +66,14 @@ abbrev pub FaultStays : Type 0
 FaultStays = (r : Reading) (refusal : Refusal) (calls : List Call) → first_of r.max r.held ≡ Err refusal
     → let later = after_calls r calls in
     (first_of later.max later.held ≡ Err refusal) × (fault_of later refusal ≡ fault_of r refusal) × (given_by r calls ≡ [])
+
+-- Two readers of one maximum that took the front of the same bytes, each in its own pieces, and that both tell a fault,
+-- gave the same frames, and tell the same fault at the same offset.
+abbrev pub OneFault : Type 0
+OneFault = (max : ℕ) (calls others : List Call) (bytes more others_more : List ℕ) (refusal other : Refusal)
+    → ArePieces calls → ArePieces others
+    → bytes ≡ taken_by (fresh max) calls ++ more → bytes ≡ taken_by (fresh max) others ++ others_more
+    → let later = after_calls (fresh max) calls in
+    let others_later = after_calls (fresh max) others in
+    first_of max later.held ≡ Err refusal → first_of max others_later.held ≡ Err other
+    → (given_by (fresh max) calls ≡ given_by (fresh max) others) × (fault_of later refusal ≡ fault_of others_later other)

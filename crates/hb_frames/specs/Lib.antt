@@ -1,13 +1,14 @@
 pub mod Bodies
+pub mod BoundedBytes
 pub mod Calls
+pub mod FrameOf
 pub mod Frames
 pub mod History
 pub mod Laws
+pub mod Loan
+pub mod Numbers
 pub mod Octets
 pub mod RawFrame
 pub mod Reading
 pub mod Refusals
-pub mod Rests
-pub mod Seen
 pub mod Shapes
-pub mod Stored

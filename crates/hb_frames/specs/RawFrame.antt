@@ -8,9 +8,6 @@ pub record RawFrame : Type 0 where
   pub stream : ℕ
   pub payload : List ℕ
 
-abbrev pub raw : ℕ → ℕ → ℕ → List ℕ → RawFrame
-raw kind flags stream payload = record { kind = kind; flags = flags; stream = stream; payload = payload }
-
 -- each part fits its field: an octet, an octet, 31 bits, and a length of three octets
 pub record Fits (f : RawFrame) : Type 0 where
   pub kind : f.kind < 256

@@ -1,5 +1,7 @@
-use Rattle.std.specs.Prelude.{◌≡◌, ℕ, ◌+◌, ◌-◌, ◌≤◌, min, List, [], ◌++◌, length, take, drop, slice_index, nat_lt, if◌then◌else◌, Option, Some, None, Result, Ok, Err}
+use Rattle.std.specs.Prelude.{◌≡◌, ℕ, ◌+◌, ◌-◌, ◌≤◌, min, List, [], ◌++◌, length, take, drop, slice_index, nat_lt, if◌then◌else◌}
+use Rattle.std.specs.Prelude.{Option, Some, None, Result, Ok, Err}
 use Rattle.hb_frames.specs.RawFrame.{Spells, raw_at, size_at}
+use Rattle.hb_frames.specs.Numbers.{frame_size_error}
 use Rattle.hb_frames.specs.Refusals.{first_refusal}
 use Rattle.hb_frames.specs.Shapes.{IsShaped}
 use Rattle.hb_frames.specs.Bodies.{IsFrame, lent_of}
@@ -15,7 +17,7 @@ unless_refused (Some r) n = Err r
 
 -- row 2: a length above the maximum, which nine octets tell (RFC 9113 section 4.2)
 abbrev pub too_long : Refusal
-too_long = record { code = 6; row = 2 }
+too_long = record { code = frame_size_error; row = 2 }
 
 -- what the bytes begin with: the octets of a frame, no whole frame yet, or what no reader of this maximum takes
 abbrev pub first_of : ℕ → List ℕ → Result (Option ℕ) Refusal
@@ -44,9 +46,6 @@ pub record Reading : Type 0 where
   pub held : List ℕ
   pub at : ℕ
   pub last : List ℕ
-
-abbrev pub reading : ℕ → List ℕ → ℕ → List ℕ → Reading
-reading max held at last = record { max = max; held = held; at = at; last = last }
 
 -- how many bytes more can be fed: a whole frame of the longest payload has room
 abbrev pub space_of : Reading → ℕ
@@ -83,6 +82,10 @@ fault_of r refusal = record {
 -- a frame that is spelled in front
 abbrev pub GivesFirst : Reading → Frame → Type 0
 GivesFirst r frame = (n : ℕ) × IsFirst r.max r.held n × IsFrame (raw_at r.held) frame
+
+-- the frame that is given has as many octets as first_of says, nine or more, and they spell it
+abbrev pub HasSize : Reading → Frame → Type 0
+HasSize r frame = (n : ℕ) × (first_of r.max r.held ≡ Ok (Some n)) × (9 ≤ n) × IsFirst r.max r.held n × IsFrame (raw_at r.held) frame
 
 -- the frame in front, None exactly where no whole frame and no fault is there, or the fault
 abbrev pub Gives : Reading → Result (Option Frame) FrameFault → Type 0

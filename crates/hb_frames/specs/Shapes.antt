@@ -1,5 +1,6 @@
 use Rattle.std.specs.Prelude.{ℕ, ◌+◌, ◌≤◌, length, ◌||◌, ◌==◌, if◌then◌else◌}
 use Rattle.hb_frames.specs.RawFrame.{RawFrame}
+use Rattle.hb_frames.specs.Numbers.{rst_stream_kind, window_update_kind, ping_kind, goaway_kind}
 use Rattle.hb_frames.specs.Refusals.{front_len, padding_len}
 
 -- what stands in front of the content, and the padding, fit the payload
@@ -8,7 +9,9 @@ PaddingFits f = front_len f + padding_len f ≤ length f.payload
 
 -- the least payload of a type whose numbers have fixed places
 abbrev pub least_size : ℕ → ℕ
-least_size kind = if kind == 3 || kind == 8 then 4 else (if kind == 6 || kind == 7 then 8 else 0)
+least_size kind =
+    if kind == rst_stream_kind || kind == window_update_kind then 4
+    else if kind == ping_kind || kind == goaway_kind then 8 else 0
 
 abbrev pub NumbersFit : RawFrame → Type 0
 NumbersFit f = least_size f.kind ≤ length f.payload

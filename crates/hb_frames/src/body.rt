@@ -1,7 +1,7 @@
 //! What the payload of each frame type is.
 
 ghost use Rattle.std.specs.Prelude.{◌<◌, ◌^◌, length};
-ghost use Rattle.hb_frames.specs.Seen.{seen};
+ghost use Rattle.hb_frames.specs.FrameOf.{frame_of};
 ghost use Rattle.hb_frames.specs.Bodies.{Shows, Pads};
 ghost use Rattle.hb_frames.specs.Shapes.{IsShaped};
 
@@ -13,7 +13,7 @@ use crate::kind::{
 use crate::refusal::{front_len, padding_len};
 
 /// The payload of a frame by its type (RFC 9113 section 6).
-#[derive(Clone, Copy, Debug, PartialEq, Eq)]
+#[derive(Clone, Copy, Debug)]
 pub enum Body<'a> {
     /// DATA: its bytes without padding, and the octets that count against flow control, which are all
     /// of the payload.
@@ -42,17 +42,17 @@ pub enum Body<'a> {
 
 /// A DATA or HEADERS payload without what stands in front of its content and without its padding.
 fn content_of<'a>(head: Head, payload: &'a [u8]) -> &'a [u8]
-    requires { IsShaped (seen head payload.now) }
-    ensures { Pads (seen head payload.now) result.now }
+    requires { IsShaped (frame_of head payload.now) }
+    ensures { Pads (frame_of head payload.now) result.now }
 {
     &payload[front_len(head)..payload.len() - padding_len(head, payload)]
 }
 
 /// The body of a frame that isn't refused.
 pub(crate) fn body_of<'a>(head: Head, payload: &'a [u8]) -> Body<'a>
-    requires shaped { IsShaped (seen head payload.now) }
+    requires shaped { IsShaped (frame_of head payload.now) }
     requires short { length payload.now < 2 ^ 32 }
-    ensures { Shows (seen head payload.now) result }
+    ensures { Shows (frame_of head payload.now) result }
 {
     match head.kind {
         DATA => Body::Payload {

@@ -7,7 +7,7 @@ use std::alloc::Global;
 use std::marker::Model;
 
 /// Bytes that come in at the end and go out anywhere, at most as many as its size.
-#[derive(Debug, Drop)]
+#[derive(Drop)]
 pub(crate) struct Buffer {
     bytes: Vec<u8>,
     start: usize,
@@ -16,9 +16,9 @@ pub(crate) struct Buffer {
 
 impl Model for Buffer {
     ghost use Rattle.std.specs.Prelude.{◌≤◌, vec_len, slice_range};
-    ghost use Rattle.hb_frames.specs.Stored.{Stored};
+    ghost use Rattle.hb_frames.specs.BoundedBytes.{BoundedBytes};
 
-    ghost Value = { Stored };
+    ghost Value = { BoundedBytes };
 
     ghost view = { λ b. record { items = slice_range b.bytes.items b.start b.end; size = vec_len b.bytes } };
 

@@ -11,7 +11,7 @@ use crate::head::{HEADER, Head};
 use crate::refusal::{Refusal, first_refusal};
 
 /// A frame (RFC 9113 section 4.1). Its type is that of its body.
-#[derive(Clone, Copy, Debug, PartialEq, Eq)]
+#[derive(Clone, Copy, Debug)]
 pub struct Frame<'a> {
     pub flags: u8,
     pub stream: u32,

@@ -3,7 +3,7 @@
 ghost use Rattle.hb_frames.specs.Frames.{OneReading};
 ghost use Rattle.hb_frames.specs.Laws.{SentIsSpelled, SpelledIsRead};
 ghost use Rattle.hb_frames.specs.Bodies.{OneContent};
-ghost use Rattle.hb_frames.specs.Calls.{AnyPieces, AllFrames, OffsetCounts, FaultStays};
+ghost use Rattle.hb_frames.specs.Calls.{AnyPieces, AllFrames, OffsetCounts, FaultStays, OneFault};
 ghost use Rattle.hb_frames.specs.History.{FeedAdds, FrameAdds, OthersAddNothing};
 
 /// Bytes have at most one list of frames and one rest.
@@ -41,4 +41,10 @@ pub fn any_pieces()
 /// A fault that `next_frame` gave comes again after any calls, and no frame is given any more.
 pub fn fault_stays()
     ensures { FaultStays }
+{}
+
+/// Two readers of one maximum that are fed the same bytes in other pieces, and that both tell a fault, gave the
+/// same frames, and tell the same fault at the same offset, even where one of them took more of the bytes.
+pub fn one_fault()
+    ensures { OneFault }
 {}

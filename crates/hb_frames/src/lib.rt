@@ -18,6 +18,4 @@ pub use fault::FrameFault;
 pub use frame::Frame;
 pub use output::Output;
 pub use reader::FrameReader;
-
-#[cfg(test)]
-mod tests;
+pub use refusal::Refusal;

@@ -9,15 +9,15 @@ use std::alloc::Global;
 use std::marker::Model;
 
 /// Bytes that wait to be written, at most as many as its size. It takes its memory when it is made.
-#[derive(Debug, Drop)]
+#[derive(Drop)]
 pub struct Output {
     buffer: Buffer,
 }
 
 impl Model for Output {
-    ghost use Rattle.hb_frames.specs.Stored.{Stored};
+    ghost use Rattle.hb_frames.specs.BoundedBytes.{BoundedBytes};
 
-    ghost Value = { Stored };
+    ghost Value = { BoundedBytes };
 
     ghost view = { λ o. o.buffer };
 }

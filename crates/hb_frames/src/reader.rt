@@ -10,14 +10,14 @@ use crate::buffer::Buffer;
 use crate::fault::FrameFault;
 use crate::frame::{Frame, first_frame, frame_at};
 use crate::head::{HEADER, Head};
-use crate::kind::{CONTINUATION, HEADERS};
-use crate::refusal::{front_len, padding_len};
+use crate::kind::CONTINUATION;
+use crate::refusal::{front_len, has_content, padding_len};
 use hb_base::{NoMemory, Scope};
 use std::alloc::Global;
 use std::marker::Model;
 
 /// Reads the frames of a stream of bytes that comes in any pieces. It takes its memory when it is made.
-#[derive(Debug, Drop)]
+#[derive(Drop)]
 pub struct FrameReader {
     buffer: Buffer,
     max: u32,
@@ -47,9 +47,9 @@ impl Model for FrameReader {
 }
 
 impl FrameReader {
-    ghost use Rattle.hb_frames.specs.Reading.{Reading, space_of, fed, asked, Gives, GivesFirst};
+    ghost use Rattle.hb_frames.specs.Reading.{Reading, space_of, fed, asked, Gives, GivesFirst, HasSize};
     ghost use Rattle.hb_frames.specs.Frames.{HasNoFrame};
-    ghost use Rattle.hb_frames.specs.Rests.{EndsAsked};
+    ghost use Rattle.hb_frames.specs.Loan.{EndsAsked};
 
     /// A reader of payloads of at most `max` octets.
     pub fn new(alloc: Global, max: u32) -> Result<FrameReader, NoMemory>
@@ -102,6 +102,7 @@ impl FrameReader {
     pub fn next_frame(&mut self) -> Result<Option<Frame<'_>>, FrameFault>
         ensures* after { sem 𝓛 (EndsAsked self.entry) }
         ensures value { Gives self.old result }
+        ensures size { IfOk result (λ found. IfSome found (HasSize self.old)) }
         ensures first { IfOk result (λ found. IfSome found (GivesFirst self.old)) }
         ensures none { IfOk result (λ found. IfNone found (HasNoFrame self.old.held)) }
     {
@@ -145,7 +146,7 @@ fn lent_range(bytes: &[u8], size: usize) -> (usize, usize)
     ensures value { slice_range bytes.now result.0 result.1 ≡ lent_of (raw_at bytes.now) }
 {
     let head = Head::of(bytes);
-    if head.kind <= HEADERS {
+    if has_content(head) {
         let front = front_len(head);
         (
             HEADER + front,

@@ -1,21 +1,23 @@
 //! The refusals that one frame alone can tell.
 
 ghost use Rattle.std.specs.Prelude.{◌≡◌, ◌+◌, ◌*◌, ◌≤◌, [], length, slice_index, IfNone};
-ghost use Rattle.hb_frames.specs.Seen.{seen};
-ghost use Rattle.hb_frames.specs.Refusals.{refuses, stream_refusal, padding_refusal, size_refusal, front_len, padding_len, is_padded, has_priority, has_wrong_size, is_refused_setting, settings, value_refusal, first_refusal};
+ghost use Rattle.hb_frames.specs.FrameOf.{frame_of};
+ghost use Rattle.hb_frames.specs.Refusals.{refuses, stream_refusal, padding_refusal, size_refusal, front_len, padding_len};
+ghost use Rattle.hb_frames.specs.Refusals.{has_content, is_padded, has_priority, has_wrong_size, is_refused_setting, settings};
+ghost use Rattle.hb_frames.specs.Refusals.{value_refusal, first_refusal};
 ghost use Rattle.hb_frames.specs.Shapes.{PaddingFits, NumbersFit, IsShaped};
 ghost use Rattle.hb_frames.specs.Octets.{four_at};
 ghost use Rattle.std.specs.List.{list_any};
 
 use crate::head::{Head, word_at};
 use crate::kind::{
-    ACK_FLAG, GOAWAY, HEADERS, PADDED_FLAG, PING, PRIORITY, PRIORITY_FLAG, PUSH_PROMISE,
+    ACK_FLAG, DATA, GOAWAY, HEADERS, PADDED_FLAG, PING, PRIORITY, PRIORITY_FLAG, PUSH_PROMISE,
     RST_STREAM, SETTINGS, WINDOW_UPDATE,
 };
 
 /// An error code (RFC 9113 section 7) and the row of the refusal table that gives it.
 #[derive(Clone, Copy)]
-pub(crate) struct Refusal {
+pub struct Refusal {
     pub code: u32,
     pub row: u32,
 }
@@ -31,10 +33,11 @@ const MAX_FRAME_SIZE: u32 = 5;
 /// DATA, HEADERS, PRIORITY and RST_STREAM belong to a stream, SETTINGS, PING and GOAWAY to the
 /// connection; PUSH_PROMISE is never allowed.
 fn stream_refusal(head: Head) -> Option<Refusal>
-    ensures { result ≡ stream_refusal (seen head []) }
+    ensures { result ≡ stream_refusal (frame_of head []) }
 {
-    let of_connection = head.kind == SETTINGS || head.kind == PING || head.kind == GOAWAY;
-    if head.kind <= RST_STREAM && head.stream == 0 {
+    let of_stream = matches!(head.kind, DATA | HEADERS | PRIORITY | RST_STREAM);
+    let of_connection = matches!(head.kind, SETTINGS | PING | GOAWAY);
+    if of_stream && head.stream == 0 {
         Some(Refusal {
             code: PROTOCOL_ERROR,
             row: 5,
@@ -54,15 +57,22 @@ fn stream_refusal(head: Head) -> Option<Refusal>
     }
 }
 
-fn is_padded(head: Head) -> bool
-    ensures { result ≡ is_padded (seen head []) }
+/// Whether the payload has a content, which DATA and HEADERS have.
+pub(crate) fn has_content(head: Head) -> bool
+    ensures { result ≡ has_content (frame_of head []) }
 {
-    head.kind <= HEADERS && head.flags & PADDED_FLAG != 0
+    head.kind == DATA || head.kind == HEADERS
+}
+
+fn is_padded(head: Head) -> bool
+    ensures { result ≡ is_padded (frame_of head []) }
+{
+    has_content(head) && head.flags & PADDED_FLAG != 0
 }
 
 /// The octets in front of the content: the padding's length, and a priority's five.
 pub(crate) fn front_len(head: Head) -> usize
-    ensures value { result ≡ front_len (seen head []) }
+    ensures value { result ≡ front_len (frame_of head []) }
     ensures small { result ≤ 6 }
 {
     let padding_field = if is_padded(head) { 1 } else { 0 };
@@ -75,8 +85,8 @@ pub(crate) fn front_len(head: Head) -> usize
 }
 
 pub(crate) fn padding_len(head: Head, payload: &[u8]) -> usize
-    requires { front_len (seen head payload.now) ≤ length payload.now }
-    ensures value { result ≡ padding_len (seen head payload.now) }
+    requires { front_len (frame_of head payload.now) ≤ length payload.now }
+    ensures value { result ≡ padding_len (frame_of head payload.now) }
     ensures small { result ≤ 255 }
 {
     if is_padded(head) {
@@ -87,8 +97,8 @@ pub(crate) fn padding_len(head: Head, payload: &[u8]) -> usize
 }
 
 fn padding_refusal(head: Head, payload: &[u8]) -> Option<Refusal>
-    ensures value { result ≡ padding_refusal (seen head payload.now) }
-    ensures fits { IfNone result (PaddingFits (seen head payload.now)) }
+    ensures value { result ≡ padding_refusal (frame_of head payload.now) }
+    ensures fits { IfNone result (PaddingFits (frame_of head payload.now)) }
 {
     let front = front_len(head);
     if payload.len() < front {
@@ -107,7 +117,7 @@ fn padding_refusal(head: Head, payload: &[u8]) -> Option<Refusal>
 }
 
 fn has_wrong_size(head: Head, payload: &[u8]) -> bool
-    ensures { result ≡ has_wrong_size (seen head payload.now) }
+    ensures { result ≡ has_wrong_size (frame_of head payload.now) }
 {
     let size = payload.len();
     match head.kind {
@@ -122,8 +132,8 @@ fn has_wrong_size(head: Head, payload: &[u8]) -> bool
 }
 
 fn size_refusal(head: Head, payload: &[u8]) -> Option<Refusal>
-    ensures value { result ≡ size_refusal (seen head payload.now) }
-    ensures fits { IfNone result (NumbersFit (seen head payload.now)) }
+    ensures value { result ≡ size_refusal (frame_of head payload.now) }
+    ensures fits { IfNone result (NumbersFit (frame_of head payload.now)) }
 {
     if has_wrong_size(head, payload) {
         Some(Refusal {
@@ -164,8 +174,8 @@ fn has_refused_setting(payload: &[u8]) -> bool
 }
 
 fn value_refusal(head: Head, payload: &[u8]) -> Option<Refusal>
-    requires { size_refusal (seen head payload.now) ≡ None }
-    ensures { result ≡ value_refusal (seen head payload.now) }
+    requires { size_refusal (frame_of head payload.now) ≡ None }
+    ensures { result ≡ value_refusal (frame_of head payload.now) }
 {
     if head.kind == SETTINGS && has_refused_setting(payload) {
         Some(Refusal {
@@ -187,8 +197,8 @@ fn value_refusal(head: Head, payload: &[u8]) -> Option<Refusal>
 
 /// The first row that refuses the frame, of those that one frame alone can tell.
 pub(crate) fn first_refusal(head: Head, payload: &[u8]) -> Option<Refusal>
-    ensures value { result ≡ first_refusal (seen head payload.now) }
-    ensures shaped { IfNone result (IsShaped (seen head payload.now)) }
+    ensures value { result ≡ first_refusal (frame_of head payload.now) }
+    ensures shaped { IfNone result (IsShaped (frame_of head payload.now)) }
 {
     if let Some(refused) = stream_refusal(head) {
         return Some(refused);

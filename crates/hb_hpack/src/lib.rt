@@ -25,8 +25,3 @@ pub use header::{Header, HeaderList};
 pub use huffman::{huffman_put, huffman_read};
 pub use laws::a_block_is_read_or_broken;
 pub use spelling::Spelling;
-
-#[cfg(test)]
-mod tests;
-#[cfg(test)]
-mod vectors;

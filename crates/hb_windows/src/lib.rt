@@ -9,6 +9,3 @@ mod take_window;
 pub use overrun::Overrun;
 pub use send_window::SendWindow;
 pub use take_window::TakeWindow;
-
-#[cfg(test)]
-mod tests;

@@ -9,7 +9,7 @@ const LARGEST: i64 = 2_147_483_647;
 
 /// The octets of DATA that this end may still send on a stream or a connection (RFC 9113 sections 5.2
 /// and 6.9). A change of the peer's initial window size may take it below zero.
-#[derive(Debug, Drop)]
+#[derive(Drop)]
 pub struct SendWindow {
     held: i64,
     size: u32,
@@ -55,6 +55,14 @@ impl SendWindow {
         ensures { self.new ≡ record self.old { held = self.old.held -ℤ pos n } }
     {
         self.held -= n as i64;
+    }
+
+    /// Gives back the octets of a DATA frame that is taken back before it begins.
+    pub fn give_back(&mut self, n: u32)
+        requires { (self.old.held +ℤ pos n) ≤ℤ pos largest }
+        ensures { self.new ≡ record self.old { held = self.old.held +ℤ pos n } }
+    {
+        self.held += n as i64;
     }
 
     /// Adds the increment of a WINDOW_UPDATE frame (RFC 9113 section 6.9).

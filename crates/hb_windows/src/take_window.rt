@@ -10,7 +10,7 @@ const WORTH_GRANTING: u32 = 32_768;
 
 /// The octets of DATA that a peer may still send on a stream or a connection, and those that came and
 /// are to be granted again (RFC 9113 sections 5.2 and 6.9).
-#[derive(Debug, Drop)]
+#[derive(Drop)]
 pub struct TakeWindow {
     granted: u32,
     kept: u32,

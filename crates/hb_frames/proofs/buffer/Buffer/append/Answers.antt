@@ -2,7 +2,7 @@ use Rattle.std.proofs.Common.{◌+◌, ◌-◌, ◌≤◌, ◌≡◌, ◌++◌, 
 use Rattle.std.proofs.lemmas.List.{with_items_is}
 use Rattle.std.specs.Vec.{with_items}
 use Rattle.std.specs.Prelude.{vec_len, slice_range}
-use Rattle.hb_frames.specs.Stored.{stored}
+use Rattle.hb_frames.proofs.Records.{bounded}
 use Rattle.hb_frames.proofs.Buffers.{range_append}
 use Rattle.hb_frames.proofs.buffer.Buffer.append.Goals as goal
 
@@ -23,4 +23,4 @@ returns c =
     let full_again : length c.write_at.new.bytes ≡ vec_len first = omega arith in
     let stands = ap (λ (ys : List ℕ). slice_range ys r (r + (e - s) + length more)) (with_items_is first c.write_at.new.bytes full_again) in
     rw (← c.self.view_is)
-    (ap (λ (ys : List ℕ). stored ys (vec_len c.self.inside.bytes)) (stands ∙ grown ∙ ap (λ ys. ys ++ more) kept))
+    (ap (λ (ys : List ℕ). bounded ys (vec_len c.self.inside.bytes)) (stands ∙ grown ∙ ap (λ ys. ys ++ more) kept))

@@ -1,7 +1,7 @@
 use Rattle.std.proofs.Common.{◌+◌, ◌-◌, ◌≤◌, ◌≡◌, List, ℕ, length, drop, ap, arith, length-take, ◌∙◌}
 use Rattle.std.proofs.lemmas.List.{with_items_is}
 use Rattle.std.specs.Prelude.{vec_len, slice_range}
-use Rattle.hb_frames.specs.Stored.{stored}
+use Rattle.hb_frames.proofs.Records.{bounded}
 use Rattle.hb_frames.proofs.Buffers.{range_cut}
 use Rattle.hb_frames.proofs.buffer.Buffer.cut.Goals as goal
 
@@ -17,5 +17,5 @@ returns c =
     let full : length c.close_gap.new.bytes ≡ vec_len c.self.inside.bytes = omega arith in
     let stands = ap (λ (ys : List ℕ). slice_range ys s (e - c.args.n)) (with_items_is c.self.inside.bytes c.close_gap.new.bytes full) in
     rw (← c.self.view_is)
-    (ap (λ (ys : List ℕ). stored ys (vec_len c.self.inside.bytes))
+    (ap (λ (ys : List ℕ). bounded ys (vec_len c.self.inside.bytes))
     (stands ∙ range_cut xs c.close_gap.new.bytes s e c.args.at c.args.n fits within moved))

@@ -1,6 +1,6 @@
 use Rattle.std.proofs.Common.{◌+◌, ◌-◌, ◌≤◌, List, ℕ, drop, ap, arith, length-take}
 use Rattle.std.specs.Prelude.{vec_len}
-use Rattle.hb_frames.specs.Stored.{stored}
+use Rattle.hb_frames.proofs.Records.{bounded}
 use Rattle.hb_frames.proofs.Buffers.{range_drop}
 use Rattle.hb_frames.proofs.buffer.Buffer.drop_front.Goals as goal
 
@@ -11,4 +11,4 @@ returns c =
     let xs = c.self.inside.bytes.items in
     let enough = rw (← c.self.view_is) at c.requires in
     let fits : s + c.args.n ≤ e = omega (arith, enough, c.self.invariant, length-take (e - s) (drop s xs)) in
-    rw (← c.self.view_is) (ap (λ (ys : List ℕ). stored ys (vec_len c.self.inside.bytes)) (range_drop xs s c.args.n e fits))
+    rw (← c.self.view_is) (ap (λ (ys : List ℕ). bounded ys (vec_len c.self.inside.bytes)) (range_drop xs s c.args.n e fits))

@@ -1,12 +1,10 @@
 //! Each frame type and each refusal, in any pieces.
 
-mod refusals;
-mod vectors;
-
-use self::refusals::{REFUSALS, Refused};
-use self::vectors::VECTORS;
-use crate::{FrameReader, Output};
+use crate::frame_refusals::{REFUSALS, Refused};
+use crate::frame_vectors::VECTORS;
+use crate::hex::{octets_behind, octets_of};
 use hb_base::Scope;
+use hb_frames::{Body, Frame, FrameFault, FrameReader};
 use std::alloc::{AllocError, Global};
 use std::process::Abort;
 use std::test::Fail;
@@ -52,83 +50,64 @@ fn told_by_octets(alloc: Global, octets: &[u8]) -> Result<String, AllocError> {
     Ok(told)
 }
 
+/// The octets are told so, one at a time and at each cut.
+fn assert_told(
+    rt: &impl Abort,
+    alloc: Global,
+    octets: &[u8],
+    want: &str,
+) -> Result<(), AllocError> {
+    assert_eq!(rt; told_by_octets(alloc, octets)?.as_str(), want);
+    for cut in 0..octets.len() + 1 {
+        assert_eq!(rt;
+            told_at_cut(alloc, octets, cut)?.as_str(),
+            want,
+            "cut at {cut}"
+        );
+    }
+    Ok(())
+}
+
 #[test]
 fn each_frame_type_is_read_in_any_pieces(rt: HostRuntime) -> Result<(), Fail> {
     let mut stream = Vec::new(rt.alloc());
     let mut shown = String::new(rt.alloc());
     for vector in &VECTORS {
         let alone = format!(in rt.alloc(); "{}\n", vector.shown)?;
-        assert_eq!(rt;
-            told_by_octets(rt.alloc(), vector.octets)?.as_str(),
-            alone.as_str()
-        );
-        for cut in 0..vector.octets.len() + 1 {
-            assert_eq!(rt;
-                told_at_cut(rt.alloc(), vector.octets, cut)?.as_str(),
-                alone.as_str()
-            );
-        }
+        assert_told(&rt, rt.alloc(), vector.octets, alone.as_str())?;
         stream.extend_from_slice(vector.octets)?;
         shown.push_str(alone.as_str())?;
     }
-    assert_eq!(rt;
-        told_by_octets(rt.alloc(), stream.as_slice())?.as_str(),
-        shown.as_str()
-    );
-    for cut in 0..stream.len() + 1 {
-        assert_eq!(rt;
-            told_at_cut(rt.alloc(), stream.as_slice(), cut)?.as_str(),
-            shown.as_str()
-        );
-    }
-    Ok(())
-}
-
-#[test]
-fn what_is_put_is_what_another_writes(rt: HostRuntime) -> Result<(), Fail> {
-    let mut output = Output::new(rt.alloc(), 512)?;
-    for vector in &VECTORS {
-        let octets = vector.octets;
-        if octets.len() >= 9 && octets.len() <= 500 && octets[5] < 128 {
-            let stream = octets[5] as u32 * 0x100_0000
-                + octets[6] as u32 * 0x1_0000
-                + octets[7] as u32 * 0x100
-                + octets[8] as u32;
-            assert!(rt; output.room() >= octets.len());
-            output.put_frame(octets[3], octets[4], stream, &octets[9..]);
-            assert_eq!(rt; output.front(), octets);
-            output.drop_front(output.front().len());
-        }
-    }
+    assert_told(&rt, rt.alloc(), stream.as_slice(), shown.as_str())?;
     Ok(())
 }
 
 /// The refused frame is refused at its last octet and not before, at this offset, and again and again.
 fn assert_refused(rt: &impl Abort, reader: &mut FrameReader, refused: &Refused, at: u64) {
-    let (front, last) = refused
-        .octets
-        .split_at(refused.octets.len().saturating_sub(1));
+    let octets = refused.octets;
+    assert!(rt; octets.len() >= 9);
+    let want = FrameFault {
+        code: refused.code,
+        scope: Scope::Connection,
+        at,
+        row: refused.row,
+        kind: octets[3],
+        flags: octets[4],
+    };
+    let (front, last) = octets.split_at(octets.len() - 1);
     for octet in front.chunks(1) {
         reader.feed(octet);
         assert!(rt; matches!(reader.next_frame(), Ok(None)), "{}", refused.why);
     }
     reader.feed(last);
     for _ in 0..3 {
-        match reader.next_frame() {
-            Ok(_) => assert!(rt; false, "{}", refused.why),
-            Err(fault) => {
-                assert_eq!(rt; fault.code, refused.code, "{}", refused.why);
-                assert_eq!(rt; fault.row, refused.row, "{}", refused.why);
-                assert_eq!(rt; fault.scope, Scope::Connection);
-                assert_eq!(rt; fault.at, at);
-            }
-        }
+        assert_eq!(rt; reader.next_frame().err(), Some(want), "{}", refused.why);
         reader.feed(b"\x00\x00\x00\x0b");
     }
 }
 
 #[test]
-fn each_refusal_has_its_code_and_row(rt: HostRuntime) -> Result<(), Fail> {
+fn each_refusal_has_its_fault(rt: HostRuntime) -> Result<(), Fail> {
     for refused in &REFUSALS {
         let mut reader = FrameReader::new(rt.alloc(), 16_384)?;
         assert_refused(&rt, &mut reader, refused, 0);
@@ -137,6 +116,35 @@ fn each_refusal_has_its_code_and_row(rt: HostRuntime) -> Result<(), Fail> {
         assert!(rt; matches!(reader.next_frame(), Ok(Some(_))));
         assert_refused(&rt, &mut reader, refused, 9);
     }
+    Ok(())
+}
+
+/// Whether the frame is the last DATA of stream 5, and of these octets, which all count.
+fn is_data(frame: &Frame<'_>, octets: &[u8]) -> bool {
+    match frame.body {
+        Body::Payload { bytes, counted } => {
+            let counted = counted as usize;
+            frame.flags == 1 && frame.stream == 5 && bytes == octets && counted == octets.len()
+        }
+        _ => false,
+    }
+}
+
+/// A DATA frame of 16,384 octets, which fills a reader to its last of 16,393, and is given whole.
+#[test]
+fn the_largest_frame_is_read(rt: HostRuntime) -> Result<(), Fail> {
+    let payload = octets_of(&rt, rt.alloc(), "64", 16_384)?;
+    let mut octets = octets_behind(&rt, rt.alloc(), "004000000100000005", "64", 16_384)?;
+    octets.push(0)?;
+    let mut reader = FrameReader::new(rt.alloc(), 16_384)?;
+    assert_eq!(rt; reader.feed(octets.as_slice()), 16_393);
+    assert_eq!(rt; reader.space(), 0);
+    match reader.next_frame() {
+        Ok(Some(frame)) => assert!(rt; is_data(&frame, payload.as_slice())),
+        _ => panic!(rt; "no frame"),
+    }
+    assert!(rt; reader.last_bytes() == payload.as_slice());
+    assert_eq!(rt; reader.space(), 16_393);
     Ok(())
 }
 
@@ -159,24 +167,5 @@ fn the_last_body_is_given_again(rt: HostRuntime) -> Result<(), Fail> {
     assert_eq!(rt; reader.last_bytes(), b"\x62".as_slice());
     reader.feed(b"");
     assert_eq!(rt; reader.last_bytes(), b"".as_slice());
-    Ok(())
-}
-
-#[test]
-fn an_output_is_cut_in_order(rt: HostRuntime) -> Result<(), Fail> {
-    let mut output = Output::new(rt.alloc(), 40)?;
-    output.put_frame(6, 1, 0, b"abcdefgh");
-    output.put_frame(0, 0, 3, b"xy");
-    assert_eq!(rt; output.room(), 12);
-    assert!(rt; output.front().len() == 28);
-    output.drop_front(9);
-    output.cut(8, 9);
-    assert_eq!(rt; output.front(), b"abcdefghxy".as_slice());
-    output.put_frame(8, 0, 0, b"\x00\x00\x00\x01");
-    assert_eq!(rt; output.room(), 17);
-    assert_eq!(rt;
-        output.front(),
-        b"abcdefghxy\x00\x00\x04\x08\x00\x00\x00\x00\x00\x00\x00\x00\x01".as_slice()
-    );
     Ok(())
 }

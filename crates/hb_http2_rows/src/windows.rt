@@ -1,4 +1,6 @@
-use crate::{Overrun, SendWindow, TakeWindow};
+//! What the windows hold (RFC 9113 section 6.9).
+
+use hb_windows::{Overrun, SendWindow, TakeWindow};
 
 #[test]
 fn a_resize_moves_the_window_below_zero(rt: HostRuntime) {
@@ -9,6 +11,16 @@ fn a_resize_moves_the_window_below_zero(rt: HostRuntime) {
     spent.spend(65_535);
     assert_eq!(rt; spent.resize(65_535, 16_384), Ok(()));
     assert_eq!(rt; spent.held(), -49_151);
+}
+
+#[test]
+fn what_is_given_back_is_spent_again(rt: HostRuntime) {
+    let mut window = SendWindow::new(16_384);
+    window.spend(16_384);
+    window.give_back(9_000);
+    assert_eq!(rt; window.held(), 9_000);
+    window.spend(9_000);
+    assert_eq!(rt; window.held(), 0);
 }
 
 #[test]
