@@ -1,6 +1,6 @@
 //! An owned list.
 
-ghost use Rattle.std.specs.Prelude.{◌≡◌, ◌==◌, [], ◌∷◌, ◌++◌, length, OnOk, OnErr, slice_get};
+ghost use Rattle.std.specs.Prelude.{◌≡◌, ◌==◌, [], ◌∷◌, ◌++◌, length, IfOk, OnOk, OnErr, slice_get};
 ghost use Rattle.std.specs.Option.{option_copied};
 
 use crate::or::NoMemory;
@@ -29,6 +29,14 @@ impl<T> List<T> {
         List {
             items: Vec::new(alloc),
         }
+    }
+
+    /// The empty list, with memory for so many items.
+    pub fn with_capacity(alloc: Global, items: usize) -> Result<List<T>, NoMemory>
+        ensures { IfOk result (λ r. r ≡ []) }
+    {
+        let items = Vec::with_capacity(alloc, items)?;
+        Ok(List { items })
     }
 
     pub fn len(&self) -> usize

@@ -61,7 +61,7 @@ fn updates_at<'b>(table: &mut DynamicTable, bytes: &'b [u8]) -> Result<&'b [u8],
 fn headers_at(alloc: Global, table: &mut DynamicTable, bytes: &[u8]) -> Result<HeaderList, Or<Stop>>
     ensures { GivesList table.new result (headers_at (length bytes.now) table.old bytes.now) }
 {
-    let mut list = HeaderList::new(alloc);
+    let mut list = HeaderList::new(alloc)?;
     let mut rest = bytes;
     while !rest.is_empty() {
         rest = add_field(alloc, table, &mut list, rest)?;

@@ -37,20 +37,23 @@ fn size_of(name: &[u8], value: &[u8]) -> u64
 /// The most that the sizes of the headers that are kept may sum to.
 const MOST_KEPT: u64 = 16384;
 
+/// The headers for which a list has memory from the start: most requests have no more.
+const FIRST_ROOM: usize = 16;
+
 impl HeaderList {
-    ghost use Rattle.std.specs.Prelude.{List as list, [], ◌∷◌, ◌++◌, OnOk};
+    ghost use Rattle.std.specs.Prelude.{List as list, [], ◌∷◌, ◌++◌, IfOk, OnOk};
     ghost use Rattle.hb_hpack.specs.declared.header.Header.{Header};
     ghost use Rattle.hb_hpack.specs.Decoded.{IsListOf};
     ghost use Rattle.hb_hpack.specs.Reader.{octets};
     ghost use Rattle.hb_hpack.specs.StaticTable.{header};
 
-    pub(crate) fn new(alloc: Global) -> HeaderList
-        ensures { IsListOf [] result }
+    pub(crate) fn new(alloc: Global) -> Result<HeaderList, NoMemory>
+        ensures { IfOk result (λ r. IsListOf [] r) }
     {
-        HeaderList {
-            kept: List::new(alloc),
+        Ok(HeaderList {
+            kept: List::with_capacity(alloc, FIRST_ROOM)?,
             size: 0,
-        }
+        })
     }
 
     /// Adds the header of this name and this value, which are copied only where they are kept. On NoMemory the list

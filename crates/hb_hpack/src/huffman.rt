@@ -147,6 +147,7 @@ fn text_of(alloc: Global, b: &[u8]) -> Result<Option<Bytes>, NoMemory>
 
 /// The text that the bytes spell. None exactly where they spell none: the padding has more than seven bits
 /// or isn't all ones, or there is a whole EOS.
+#[inline(never)]
 pub fn huffman_read(alloc: Global, b: &[u8]) -> Result<Option<Bytes>, NoMemory>
     // What is read is spelled so.
     ensures found { IfOk result (λ r. IfSome r (λ text. Spells b.now text)) }

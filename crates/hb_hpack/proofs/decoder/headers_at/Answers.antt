@@ -10,13 +10,13 @@ pub loop-rest-init : goal.loop-rest-init
 loop-rest-init c = record {
   octets = octets_of c.args.bytes.now (λ i. omega (arith, c.type_inv.bytes i));
   headers = [];
-  list = c.new-list.ensures;
+  list = c.in_ok-list.ensures;
   same = headers_start (headers_at (length c.args.bytes.now) c.args.table.now c.args.bytes.now);
 }
 
 pub returns-in_err-rest : goal.returns-in_err-rest
 returns-in_err-rest c =
-    let p = err_from_is_err_and c.from_residual.result c.from_residual.ensures.1 in
+    let p = err_from_is_err_and c.from_residual-in_err-rest.result c.from_residual-in_err-rest.ensures.1 in
     let ne = eqb-false _ _ (sym c.is_empty.ensures ∙ c.loop-rest-test.true) in
     let some : 0 < length c.loop-rest.rest.now = omega (arith, ne) in
     rw (p.1, p.2) (list_stops c.loop-rest.list c.add_field.new.list c.add_field.new.table c.in_err-rest.field-0.0

@@ -4,4 +4,4 @@ use Rattle.hb_hpack.proofs.header.HeaderList.new.Goals as goal
 
 pub returns : goal.returns
 unfolding fitting
-returns c = record { kept = c.new.ensures; size = refl }
+returns c = record { kept = c.in_ok-with_capacity.ensures; size = refl }
