@@ -130,6 +130,15 @@ fn is_data(frame: &Frame<'_>, octets: &[u8]) -> bool {
     }
 }
 
+/// The reader gives that frame of these octets, and gives them again.
+fn assert_gives(rt: &impl Abort, reader: &mut FrameReader, octets: &[u8]) {
+    match reader.next_frame() {
+        Ok(Some(frame)) => assert!(rt; is_data(&frame, octets)),
+        _ => panic!(rt; "no frame"),
+    }
+    assert!(rt; reader.last_bytes() == octets);
+}
+
 /// A DATA frame of 16,384 octets, which fills a reader to its last of 16,393, and is given whole.
 #[test]
 fn the_largest_frame_is_read(rt: HostRuntime) -> Result<(), Fail> {
@@ -139,11 +148,7 @@ fn the_largest_frame_is_read(rt: HostRuntime) -> Result<(), Fail> {
     let mut reader = FrameReader::new(rt.alloc(), 16_384)?;
     assert_eq!(rt; reader.feed(octets.as_slice()), 16_393);
     assert_eq!(rt; reader.space(), 0);
-    match reader.next_frame() {
-        Ok(Some(frame)) => assert!(rt; is_data(&frame, payload.as_slice())),
-        _ => panic!(rt; "no frame"),
-    }
-    assert!(rt; reader.last_bytes() == payload.as_slice());
+    assert_gives(&rt, &mut reader, payload.as_slice());
     assert_eq!(rt; reader.space(), 16_393);
     Ok(())
 }

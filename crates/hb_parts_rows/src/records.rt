@@ -3,7 +3,7 @@
 use crate::addresses::ADDRESSES;
 use crate::policies::POLICIES;
 use crate::repeated::REPEATED;
-use crate::tables::{assert_told, bytes_of, number};
+use crate::tables::{assert_told, bytes_of, number, text_of};
 use hb_base::{Ip, List, Or, Text};
 use hb_records::{
     AddressRecord, Authorization, Clause, RecordFault, StringMatch, Workload, read_address,
@@ -12,10 +12,6 @@ use hb_records::{
 use std::alloc::{AllocError, Global};
 use std::fmt::Write;
 use std::test::Fail;
-
-fn text_of(text: &Text) -> &str {
-    std::str::from_utf8(text.as_slice()).unwrap_or("no text")
-}
 
 fn tell_texts(out: &mut String, texts: &[(&str, &Text)]) -> Result<(), AllocError> {
     for (name, text) in texts {

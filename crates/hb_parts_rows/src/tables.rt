@@ -1,5 +1,6 @@
 //! Tables that are one text: a row a line, its fields with semicolons between.
 
+use hb_base::Text;
 use std::alloc::Global;
 use std::process::Abort;
 use std::test::Fail;
@@ -15,6 +16,10 @@ pub fn bytes_of(alloc: Global, words: &str) -> Result<Vec<u8>, Fail> {
         }
     }
     Ok(bytes)
+}
+
+pub fn text_of(text: &Text) -> &str {
+    std::str::from_utf8(text.as_slice()).unwrap_or("no text")
 }
 
 pub fn number(field: &str) -> Result<usize, Fail> {

@@ -1,6 +1,6 @@
 //! The texts of addresses, targets and identities.
 
-use crate::tables::{assert_told, bytes_of};
+use crate::tables::{assert_told, bytes_of, text_of};
 use hb_base::{Identity, Ip, Text, read_identity, read_ip, read_target};
 use std::alloc::{AllocError, Global};
 use std::fmt::Write;
@@ -89,7 +89,7 @@ fn tell_target(told: &mut String, text: &[u8]) -> Result<(), AllocError> {
 }
 
 fn tell_name(told: &mut String, name: &Text) -> Result<(), AllocError> {
-    told.push_str(std::str::from_utf8(name.as_slice()).unwrap_or("no text"))?;
+    told.push_str(text_of(name))?;
     told.push_str(" ")
 }
 

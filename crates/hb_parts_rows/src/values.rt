@@ -6,15 +6,25 @@ use hb_base::{
 use std::test::Fail;
 
 #[test]
-fn values_keep_what_they_are_given(rt: HostRuntime) -> Result<(), Fail> {
+fn bytes_are_kept(rt: HostRuntime) -> Result<(), Fail> {
     assert_eq!(rt;
         Bytes::of(rt.alloc(), &[0xff])?.copy(rt.alloc())?.as_slice(),
         [0xff].as_slice()
     );
+    Ok(())
+}
+
+#[test]
+fn texts_are_kept(rt: HostRuntime) -> Result<(), Fail> {
     assert!(rt; Text::of(rt.alloc(), &[0xff])?.is_none());
     let text = Text::of(rt.alloc(), b"a\0b")?.ok_or("a text")?;
     assert_eq!(rt; text.copy(rt.alloc())?.as_slice(), b"a\0b".as_slice());
     assert!(rt; Text::empty(rt.alloc()).as_slice().is_empty());
+    Ok(())
+}
+
+#[test]
+fn lists_are_kept(rt: HostRuntime) -> Result<(), Fail> {
     let mut list = List::new(rt.alloc());
     assert!(rt; list.is_empty());
     list.push(7u8)?;

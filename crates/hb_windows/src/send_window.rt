@@ -1,4 +1,4 @@
-ghost use Rattle.std.specs.Prelude.{◌≡◌, ◌≤◌, pos, ◌+ℤ◌, ◌-ℤ◌, ◌≤ℤ◌};
+ghost use Rattle.std.specs.Prelude.{◌≡◌, ◌≤◌, pos, ◌+ℤ◌, ◌-ℤ◌, ◌≤ℤ◌, ◌<ℤ◌, IfOk, IfErr};
 ghost use Rattle.hb_windows.specs.Sending.{largest, Moves};
 
 use crate::overrun::Overrun;
@@ -69,14 +69,7 @@ impl SendWindow {
     pub fn grant(&mut self, n: u32) -> Result<(), Overrun>
         ensures { Moves self.old self.new result (pos n) self.old.size }
     {
-        let held = self.held + n as i64;
-        if held > LARGEST {
-            return Err(Overrun {
-                held: self.held,
-                asked: n as i64,
-            });
-        }
-        self.held = held;
+        self.held = moved(self.held, n as i64)?;
         Ok(())
     }
 
@@ -88,15 +81,24 @@ impl SendWindow {
         ensures { Moves self.old self.new result (pos new -ℤ pos old) new }
     {
         let by = new as i64 - old as i64;
-        let held = self.held + by;
-        if held > LARGEST {
-            return Err(Overrun {
-                held: self.held,
-                asked: by,
-            });
-        }
-        self.held = held;
+        self.held = moved(self.held, by)?;
         self.size = new;
         Ok(())
     }
+}
+
+/// What a window that holds so much holds after a change.
+fn moved(held: i64, by: i64) -> Result<i64, Overrun>
+    requires low { pos 0 ≤ℤ (held +ℤ pos 2147483648) }
+    requires high { held ≤ℤ pos 2147483648 }
+    requires small { by ≤ℤ pos 4294967296 }
+    requires least { pos 0 ≤ℤ (by +ℤ pos 4294967296) }
+    ensures ok { IfOk result (λ sum. (sum ≡ held +ℤ by) × (sum ≤ℤ pos largest)) }
+    ensures err { IfErr result (λ e. (pos largest <ℤ (held +ℤ by)) × (e ≡ record { held = held; asked = by })) }
+{
+    let sum = held + by;
+    if sum > LARGEST {
+        return Err(Overrun { held, asked: by });
+    }
+    Ok(sum)
 }
