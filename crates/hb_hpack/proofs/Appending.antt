@@ -4,18 +4,18 @@ use Rattle.std.specs.List.{flat_map}
 use Rattle.std.proofs.lemmas.List.{drop_more, take-append-drop}
 use Rattle.std.proofs.lemmas.List.Concat.{flat_map-append}
 use Rattle.std.proofs.lemmas.Bool.{lt-ltb, le-ltb}
-use Rattle.hb_hpack.specs.Grown.{IsLonger}
+use Rattle.hb_hpack.specs.Fronts.{IsFrontOf}
 use Rattle.hb_hpack.specs.Integer.{full}
 use Rattle.hb_hpack.specs.Encoding.{groups_of, integer_of}
 
 pub ok_then : (old mid new first second : List ℕ) → mid ≡ old ++ first → new ≡ mid ++ second → new ≡ old ++ (first ++ second)
 ok_then old mid new first second e f = f ∙ ap (λ (xs : List ℕ). xs ++ second) e ∙ append_assoc old first second
 
-pub err_then : (old mid new first second : List ℕ) → mid ≡ old ++ first → IsLonger new (mid ++ second)
-    → IsLonger new (old ++ (first ++ second))
+pub err_then : (old mid new first second : List ℕ) → mid ≡ old ++ first → IsFrontOf new (mid ++ second)
+    → IsFrontOf new (old ++ (first ++ second))
 err_then old mid new first second e g = (g.0, sym (append_assoc old first second) ∙ ap (λ (xs : List ℕ). xs ++ second) (sym e) ∙ g.1)
 
-pub err_first : (old new first second : List ℕ) → IsLonger new (old ++ first) → IsLonger new (old ++ (first ++ second))
+pub err_first : (old new first second : List ℕ) → IsFrontOf new (old ++ first) → IsFrontOf new (old ++ (first ++ second))
 err_first old new first second g =
     (g.0 ++ second, sym (append_assoc old first second) ∙ ap (λ (xs : List ℕ). xs ++ second) g.1 ∙ append_assoc new g.0 second)
 
@@ -43,16 +43,16 @@ integer_large prefix flag n le = rw (le-ltb n (full prefix) le, integer_of) refl
 
 -- the pieces of a list's items, where the piece of the item at i was begun
 pub err_at : {X : Type 0} (f : X → List ℕ) (old mid new : List ℕ) (xs : List X) (i : ℕ) (x : X) → i < length xs → x ≡ get_or xs i x
-    → mid ≡ old ++ flat_map f (take i xs) → IsLonger new (mid ++ f x)
-    → IsLonger new (old ++ flat_map f xs)
+    → mid ≡ old ++ flat_map f (take i xs) → IsFrontOf new (mid ++ f x)
+    → IsFrontOf new (old ++ flat_map f xs)
 err_at f old mid new xs i x lt at e g =
     let whole : take i xs ++ (x ∷ drop (i + 1) xs) ≡ xs = ap (λ (y : _). take i xs ++ (y ∷ drop (i + 1) xs)) at
     ∙ ap (λ (ys : List _). take i xs ++ ys) (sym (drop_more xs i x lt)) ∙ take-append-drop i xs in
     let pieces : flat_map f (take i xs) ++ (f x ++ flat_map f (drop (i + 1) xs)) ≡ flat_map f xs =
     sym (flat_map-append f (take i xs) (x ∷ drop (i + 1) xs)) ∙ ap (flat_map f) whole in
-    let begun : IsLonger new (old ++ (flat_map f (take i xs) ++ f x)) = err_then old mid new (flat_map f (take i xs)) (f x) e g in
-    let goes_on : IsLonger new (old ++ ((flat_map f (take i xs) ++ f x) ++ flat_map f (drop (i + 1) xs))) =
+    let begun : IsFrontOf new (old ++ (flat_map f (take i xs) ++ f x)) = err_then old mid new (flat_map f (take i xs)) (f x) e g in
+    let goes_on : IsFrontOf new (old ++ ((flat_map f (take i xs) ++ f x) ++ flat_map f (drop (i + 1) xs))) =
     err_first old new (flat_map f (take i xs) ++ f x) (flat_map f (drop (i + 1) xs)) begun in
     let regroup : (flat_map f (take i xs) ++ f x) ++ flat_map f (drop (i + 1) xs) ≡ flat_map f xs =
     append_assoc (flat_map f (take i xs)) (f x) (flat_map f (drop (i + 1) xs)) ∙ pieces in
-    subst (λ (ys : List ℕ). IsLonger new (old ++ ys)) regroup goes_on
+    subst (λ (ys : List ℕ). IsFrontOf new (old ++ ys)) regroup goes_on

@@ -6,7 +6,7 @@ use Rattle.std.proofs.Math.Nat.{pow-le-pow_right}
 use Rattle.std.proofs.lemmas.List.{append-nil}
 use Rattle.hb_hpack.specs.Huffman.{Word, bits, bits_of, bits_of_word, word, words, word_among, Spells}
 use Rattle.hb_hpack.specs.HuffmanSteps.{with_ones, bytes_from, huffman_of}
-use Rattle.hb_hpack.specs.Grown.{IsLonger}
+use Rattle.hb_hpack.specs.Fronts.{IsFrontOf}
 use Rattle.hb_hpack.proofs.Bits.{bits_push, bits_small, append_small}
 
 -- ---- one bit more
@@ -124,10 +124,10 @@ is_spelled text octets =
 
 -- ---- the old bytes, and more behind them
 
-pub longer_more : (a b c : List ℕ) → IsLonger a b → IsLonger b c → IsLonger a c
+pub longer_more : (a b c : List ℕ) → IsFrontOf a b → IsFrontOf b c → IsFrontOf a c
 longer_more a b c p q = (p.0 ++ q.0, q.1 ∙ ap (λ (xs : List ℕ). xs ++ q.0) p.1 ∙ append_assoc a p.0 q.0)
 
-pub longer_same : (a : List ℕ) → IsLonger a a
+pub longer_same : (a : List ℕ) → IsFrontOf a a
 longer_same a = ([], sym (append-nil a))
 
 -- ---- a byte in the making

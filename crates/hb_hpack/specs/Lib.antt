@@ -1,4 +1,4 @@
-pub mod Grown
+pub mod Fronts
 pub mod Huffman
 pub mod Tables
 pub mod HuffmanSteps

@@ -4,7 +4,7 @@ ghost use Rattle.std.specs.Prelude.{◌≡◌, ◌<◌, ◌≤◌, ◌+◌, ◌+
 ghost use Rattle.std.specs.List.{flat_map};
 ghost use Rattle.hb_hpack.specs.Table.{Table};
 ghost use Rattle.hb_hpack.specs.Block.{Reads};
-ghost use Rattle.hb_hpack.specs.Grown.{IsLonger};
+ghost use Rattle.hb_hpack.specs.Fronts.{IsFrontOf};
 ghost use Rattle.hb_hpack.specs.Integer.{full};
 ghost use Rattle.hb_hpack.specs.StaticTable.{header, static_headers};
 ghost use Rattle.hb_hpack.specs.Encoding.{groups_of, integer_of, string_of, static_at, same_name, same_header, index_from, literal_of, header_of, opening, status_of, Writing, block_of, going, cleared, MayHave, AreWritable, status_header};
@@ -20,8 +20,8 @@ use std::marker::Model;
 /// Writes the groups of seven bits of a number, of which there are at most `most`.
 fn put_groups(out: &mut Vec<u8>, n: u64, most: u8) -> Result<(), NoMemory>
     ensures ok { OnOk result (out.new.items ≡ out.old.items ++ groups_of most n) }
-    ensures grows { IsLonger out.old.items out.new.items }
-    ensures err { OnErr result (IsLonger out.new.items (out.old.items ++ groups_of most n)) }
+    ensures grows { IsFrontOf out.old.items out.new.items }
+    ensures err { OnErr result (IsFrontOf out.new.items (out.old.items ++ groups_of most n)) }
 {
     if most == 0 {
         return Ok(());
@@ -39,8 +39,8 @@ fn put_integer(out: &mut Vec<u8>, prefix: u8, flag: u8, n: u64) -> Result<(), No
     requires prefix { prefix < 8 }
     requires flag { flag + 2 ^ prefix ≤ 256 }
     ensures ok { OnOk result (out.new.items ≡ out.old.items ++ integer_of prefix flag n) }
-    ensures grows { IsLonger out.old.items out.new.items }
-    ensures err { OnErr result (IsLonger out.new.items (out.old.items ++ integer_of prefix flag n)) }
+    ensures grows { IsFrontOf out.old.items out.new.items }
+    ensures err { OnErr result (IsFrontOf out.new.items (out.old.items ++ integer_of prefix flag n)) }
 {
     let full = (1u8 << prefix) - 1;
     if n < u64::from(full) {
@@ -63,8 +63,8 @@ fn put_bytes(out: &mut Vec<u8>, bytes: &[u8]) -> Result<(), NoMemory>
 fn put_spelled(out: &mut Vec<u8>, bit: u8, bytes: &[u8]) -> Result<(), NoMemory>
     requires { bit ≤ 128 }
     ensures ok { OnOk result (out.new.items ≡ out.old.items ++ (integer_of 7 bit (length bytes.now) ++ bytes.now)) }
-    ensures grows { IsLonger out.old.items out.new.items }
-    ensures err { OnErr result (IsLonger out.new.items (out.old.items ++ (integer_of 7 bit (length bytes.now) ++ bytes.now))) }
+    ensures grows { IsFrontOf out.old.items out.new.items }
+    ensures err { OnErr result (IsFrontOf out.new.items (out.old.items ++ (integer_of 7 bit (length bytes.now) ++ bytes.now))) }
 {
     put_integer(out, 7, bit, bytes.len() as u64)?;
     put_bytes(out, bytes)
@@ -79,8 +79,8 @@ fn put_string(
     text: &[u8],
 ) -> Result<(), NoMemory>
     ensures ok { OnOk result (out.new.items ≡ out.old.items ++ string_of spelling text.now) }
-    ensures grows { IsLonger out.old.items out.new.items }
-    ensures err { OnErr result (IsLonger out.new.items (out.old.items ++ string_of spelling text.now)) }
+    ensures grows { IsFrontOf out.old.items out.new.items }
+    ensures err { OnErr result (IsFrontOf out.new.items (out.old.items ++ string_of spelling text.now)) }
 {
     match spelling {
         Spelling::Plain => put_spelled(out, 0, text),
@@ -142,8 +142,8 @@ fn put_literal(
     h: &Header,
 ) -> Result<(), NoMemory>
     ensures ok { OnOk result (out.new.items ≡ out.old.items ++ literal_of (index_from (same_name h.now) 1 static_headers) spelling h.now) }
-    ensures grows { IsLonger out.old.items out.new.items }
-    ensures err { OnErr result (IsLonger out.new.items
+    ensures grows { IsFrontOf out.old.items out.new.items }
+    ensures err { OnErr result (IsFrontOf out.new.items
         (out.old.items ++ literal_of (index_from (same_name h.now) 1 static_headers) spelling h.now)) }
 {
     match index_of_name(h) {
@@ -168,8 +168,8 @@ fn put_header(
     h: &Header,
 ) -> Result<(), NoMemory>
     ensures ok { OnOk result (out.new.items ≡ out.old.items ++ header_of spelling h.now) }
-    ensures grows { IsLonger out.old.items out.new.items }
-    ensures err { OnErr result (IsLonger out.new.items (out.old.items ++ header_of spelling h.now)) }
+    ensures grows { IsFrontOf out.old.items out.new.items }
+    ensures err { OnErr result (IsFrontOf out.new.items (out.old.items ++ header_of spelling h.now)) }
 {
     match index_of_header(h) {
         Some(index) => put_integer(out, 7, 128, u64::from(index)),
@@ -196,8 +196,8 @@ fn put_headers(
     headers: &[Header],
 ) -> Result<(), NoMemory>
     ensures ok { OnOk result (out.new.items ≡ out.old.items ++ flat_map (header_of spelling) headers.now) }
-    ensures grows { IsLonger out.old.items out.new.items }
-    ensures err { OnErr result (IsLonger out.new.items (out.old.items ++ flat_map (header_of spelling) headers.now)) }
+    ensures grows { IsFrontOf out.old.items out.new.items }
+    ensures err { OnErr result (IsFrontOf out.new.items (out.old.items ++ flat_map (header_of spelling) headers.now)) }
 {
     for h in headers {
         put_header(alloc, out, spelling, h)?;
@@ -298,8 +298,8 @@ impl Encoder {
         // The block stands for the headers, from each table that a decoder may have.
         ensures read { (table : Table) → AreWritable self.old.spelling headers.now → MayHave self.old.started table
             → Reads table (block_of self.old headers.now) headers.now cleared }
-        ensures grows { IsLonger out.old.items out.new.items }
-        ensures err { OnErr result (IsLonger out.new.items (out.old.items ++ block_of self.old headers.now)) }
+        ensures grows { IsFrontOf out.old.items out.new.items }
+        ensures err { OnErr result (IsFrontOf out.new.items (out.old.items ++ block_of self.old headers.now)) }
     {
         put_opening(out, self.started)?;
         self.started = true;

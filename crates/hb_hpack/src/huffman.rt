@@ -4,7 +4,7 @@ ghost use Rattle.std.specs.Prelude.{◌≡◌, ℕ, ◌+◌, ◌-◌, ◌*◌, �
 ghost use Rattle.hb_hpack.specs.Huffman.{bits, word, Spells, IsPrefixFree, are_ones};
 ghost use Rattle.hb_hpack.specs.HuffmanSteps.{text_of, with_ones, huffman_of};
 ghost use Rattle.hb_hpack.specs.Partial.{IsInFront, HasNoWord, read_on, written_on};
-ghost use Rattle.hb_hpack.specs.Grown.{IsLonger};
+ghost use Rattle.hb_hpack.specs.Fronts.{IsFrontOf};
 
 use crate::code_table::{END, LONGEST, code_at, row_at, short_at, symbol_at};
 use crate::partial::{Found, Held, Unfinished};
@@ -166,7 +166,7 @@ fn put_bit(out: &mut Vec<u8>, at: Unfinished, bit: u8) -> Result<Unfinished, NoM
     requires { bit < 2 }
     ensures written { IfOk result (λ next. (rest : List ℕ) →
         written_on out.new.items next rest ≡ written_on out.old.items at (bit ∷ rest)) }
-    ensures grows { IsLonger out.old.items out.new.items }
+    ensures grows { IsFrontOf out.old.items out.new.items }
     ensures err { OnErr result (out.new.items ≡ out.old.items) }
 {
     let byte = 2 * at.byte + bit;
@@ -185,8 +185,8 @@ fn put_bits(out: &mut Vec<u8>, at: Unfinished, word: u32, left: u8) -> Result<Un
     requires { left ≤ 30 }
     ensures written { IfOk result (λ next. (rest : List ℕ) →
         written_on out.new.items next rest ≡ written_on out.old.items at (bits left word ++ rest)) }
-    ensures grows { IsLonger out.old.items out.new.items }
-    ensures err { OnErr result ((rest : List ℕ) → IsLonger out.new.items (written_on out.old.items at (bits left word ++ rest))) }
+    ensures grows { IsFrontOf out.old.items out.new.items }
+    ensures err { OnErr result ((rest : List ℕ) → IsFrontOf out.new.items (written_on out.old.items at (bits left word ++ rest))) }
 {
     if left == 0 {
         return Ok(at);
@@ -210,8 +210,8 @@ fn with_ones(at: Unfinished) -> u8
 fn put_word(out: &mut Vec<u8>, at: Unfinished, symbol: u8) -> Result<Unfinished, NoMemory>
     ensures written { IfOk result (λ next. (rest : List ℕ) →
         written_on out.new.items next rest ≡ written_on out.old.items at (word symbol ++ rest)) }
-    ensures grows { IsLonger out.old.items out.new.items }
-    ensures err { OnErr result ((rest : List ℕ) → IsLonger out.new.items (written_on out.old.items at (word symbol ++ rest))) }
+    ensures grows { IsFrontOf out.old.items out.new.items }
+    ensures err { OnErr result ((rest : List ℕ) → IsFrontOf out.new.items (written_on out.old.items at (word symbol ++ rest))) }
 {
     let code = code_at(symbol);
     put_bits(out, at, code.bits, code.length)
@@ -230,8 +230,8 @@ fn finish(out: &mut Vec<u8>, at: Unfinished) -> Result<(), NoMemory>
 
 fn put_text(b: &[u8], out: &mut Vec<u8>) -> Result<(), NoMemory>
     ensures ok { OnOk result (out.new.items ≡ out.old.items ++ huffman_of b.now) }
-    ensures grows { IsLonger out.old.items out.new.items }
-    ensures err { OnErr result (IsLonger out.new.items (out.old.items ++ huffman_of b.now)) }
+    ensures grows { IsFrontOf out.old.items out.new.items }
+    ensures err { OnErr result (IsFrontOf out.new.items (out.old.items ++ huffman_of b.now)) }
 {
     let mut at = Unfinished::new();
     for symbol in b {
@@ -246,8 +246,8 @@ pub fn huffman_put(_alloc: Global, b: &[u8], out: &mut Vec<u8>) -> Result<(), No
     // What is written spells the text, and is read as the text.
     ensures spelled { Spells (huffman_of b.now) b.now }
     ensures read { text_of (huffman_of b.now) ≡ Some b.now }
-    ensures grows { IsLonger out.old.items out.new.items }
-    ensures err { OnErr result (IsLonger out.new.items (out.old.items ++ huffman_of b.now)) }
+    ensures grows { IsFrontOf out.old.items out.new.items }
+    ensures err { OnErr result (IsFrontOf out.new.items (out.old.items ++ huffman_of b.now)) }
 {
     put_text(b, out)
 }
