@@ -103,13 +103,18 @@ struct Counts {
     refused: u64,
 }
 
+/// Whether the tables show the octet as it is.
+fn is_plain(octet: u8) -> bool {
+    33 <= octet && octet < 127 && !matches!(octet, b'"' | b'\\' | b'%' | b'|')
+}
+
 /// Appends a text, with `%` and two digits for each octet that isn't printed or has a meaning in the tables.
 fn show(shown: &mut String, text: &[u8]) -> Result<(), AllocError> {
     for octet in text {
-        match octet {
-            b'"' | b'\\' | b'%' | b'|' => write!(shown, "%{octet:02x}")?,
-            33..=126 => shown.push(char::from(*octet))?,
-            _ => write!(shown, "%{octet:02x}")?,
+        if is_plain(*octet) {
+            shown.push(char::from(*octet))?;
+        } else {
+            write!(shown, "%{octet:02x}")?;
         }
     }
     Ok(())

@@ -166,6 +166,21 @@ fn assert_status(
     Ok(())
 }
 
+/// The block of the status is read back.
+fn assert_status_read(
+    rt: &impl Abort,
+    alloc: Global,
+    status: u16,
+    digits: &str,
+) -> Result<(), AllocError> {
+    let mut decoder = Decoder::new(alloc);
+    let block = octets_of(rt, alloc, digits, 1)?;
+    let told = told_of(alloc, &mut decoder, block.as_slice())?;
+    let want = format!(in alloc; "r 42 0 |:status|{status}")?;
+    assert_eq!(rt; told.as_str(), want.as_str());
+    Ok(())
+}
+
 #[test]
 fn statuses_are_written(rt: HostRuntime) -> Result<(), Fail> {
     for (status, digits) in STATUSES {
@@ -174,11 +189,7 @@ fn statuses_are_written(rt: HostRuntime) -> Result<(), Fail> {
         assert!(rt; 100 <= status && status < 1000);
         assert_status(&rt, rt.alloc(), &mut encoder, status, first.as_str())?;
         assert_status(&rt, rt.alloc(), &mut encoder, status, digits)?;
-        let mut decoder = Decoder::new(rt.alloc());
-        let block = octets_of(&rt, rt.alloc(), first.as_str(), 1)?;
-        let told = told_of(rt.alloc(), &mut decoder, block.as_slice())?;
-        let want = format!(in rt.alloc(); "r 42 0 |:status|{status}")?;
-        assert_eq!(rt; told.as_str(), want.as_str());
+        assert_status_read(&rt, rt.alloc(), status, first.as_str())?;
     }
     Ok(())
 }

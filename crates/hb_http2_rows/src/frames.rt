@@ -167,6 +167,12 @@ fn the_last_body_is_given_again(rt: HostRuntime) -> Result<(), Fail> {
     assert_eq!(rt; reader.last_bytes(), b"".as_slice());
     assert!(rt; matches!(reader.next_frame(), Ok(None)));
     assert_eq!(rt; reader.space(), 16_393);
+    Ok(())
+}
+
+#[test]
+fn a_feed_takes_the_last_body_away(rt: HostRuntime) -> Result<(), Fail> {
+    let mut reader = FrameReader::new(rt.alloc(), 16_384)?;
     reader.feed(b"\x00\x00\x01\x09\x00\x00\x00\x00\x01\x62");
     assert!(rt; matches!(reader.next_frame(), Ok(Some(_))));
     assert_eq!(rt; reader.last_bytes(), b"\x62".as_slice());

@@ -11,7 +11,7 @@ fn value_of(rt: &impl Abort, digit: u8) -> u8
     match digit {
         b'0'..=b'9' => digit - b'0',
         b'a'..=b'f' => digit - b'a' + 10,
-        _ => panic!(rt; "no digit: {digit}"),
+        _ => panic!(rt; "no digit"),
     }
 }
 
