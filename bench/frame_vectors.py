@@ -1,6 +1,6 @@
 #!/usr/bin/python3
 """Prints HTTP/2 frames as Debian's python3-hyperframe writes and reads them, as the lines of the table in
-crates/hb_frames/src/tests/vectors.rt: the octets of a frame, and the frame as `{:?}` shows it."""
+crates/hb_http2_rows/src/frame_vectors.rt: the octets of a frame, and the frame as `{:?}` shows it."""
 
 from hyperframe.frame import (
     AltSvcFrame, ContinuationFrame, DataFrame, ExtensionFrame, Frame, GoAwayFrame, HeadersFrame,

@@ -18,5 +18,5 @@ printf 'hb_base: thiserror\nhb_hpack: hb_base thiserror\nhpack_bench: hb_hpack a
 python3 "$top/bench/hpack_stream.py" "$work"
 gcc -O2 -o "$work/nghttp2" "$top/bench/hpack_nghttp2.c" -lnghttp2
 (cd "$work/crates/hpack_bench" && rt run > "$work/log" 2>&1) || { cat "$work/log"; exit 1; }
-python3 "$top/bench/hpack_time.py" "$work/plain.blocks" "$work/huffman.blocks" -- \
+python3 "$top/bench/hpack_time.py" "$work/plain.blocks" "$work/huffman.blocks" "$work/indexes.blocks" -- \
     hb_hpack "$work/crates/hpack_bench/out/hpack_bench" nghttp2 "$work/nghttp2"

@@ -1,5 +1,5 @@
 #!/usr/bin/python3
-"""Holds the table of header blocks in hb_hpack's tests against a second implementation, Debian's python3-hpack.
+"""Holds the table of header blocks in hb_http2_rows against a second implementation, Debian's python3-hpack.
 
 It reads each block of the table with that decoder: the headers and the table's size of each block that is read, and
 that each refused block is refused. It prints each line on which the two differ, and the counts.
@@ -12,7 +12,7 @@ import re
 from hpack import Decoder
 from hpack.exceptions import HPACKError
 
-TABLE = pathlib.Path(__file__).parent.parent / "crates/hb_hpack/src/vectors.rt"
+TABLE = pathlib.Path(__file__).parent.parent / "crates/hb_http2_rows/src/hpack_vectors.rt"
 
 
 def new_decoder():

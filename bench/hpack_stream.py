@@ -1,6 +1,7 @@
 #!/usr/bin/env python3
-"""Writes plain.blocks and huffman.blocks into the folder given: 2,000 requests of one connection, each block behind its
-length in two bytes. nghttp2 makes those in Huffman code; the plain ones have the same entries of the tables."""
+"""Writes streams of blocks into the folder given, each block behind its length in two bytes: plain.blocks and huffman.blocks have
+2,000 requests of one connection, made by nghttp2 where in Huffman code; the plain ones have the same entries of the tables.
+indexes.blocks has a header of 4,033 bytes, and then 32,768 indexes of it."""
 import ctypes
 import os
 import random
@@ -59,3 +60,6 @@ with open(os.path.join(folder, "plain.blocks"), "wb") as p, open(os.path.join(fo
         buf = (ctypes.c_uint8 * 65536)()
         n = lib.nghttp2_hd_deflate_hd(deflater, buf, ctypes.c_size_t(65536), nvs, ctypes.c_size_t(len(headers)))
         h.write(n.to_bytes(2, "big") + bytes(buf[:n]))
+with open(os.path.join(folder, "indexes.blocks"), "wb") as file:
+    for block in (Plain().block([(b"x", b"y" * 4032)]), integer(62, 7, 0x80) * 32768):
+        file.write(len(block).to_bytes(2, "big") + block)

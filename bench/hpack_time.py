@@ -3,12 +3,14 @@
 
 usage: bench/hpack_time.py STREAM.. -- NAME PROGRAM NAME PROGRAM
 
-Each program reads the stream that it is given 500 times, and prints the bytes of all blocks and the sum of the sizes of
+Each program reads the stream that it is given TIMES times, and prints the bytes of all blocks and the sum of the sizes of
 the headers: the two must agree.
 """
 import os
 import subprocess
 import sys
+
+TIMES = 500
 
 
 def run(program, stream):
@@ -35,7 +37,7 @@ def main():
         assert len(printed) == 1, printed
         total = int(printed.pop().split()[0])
         rates = {name: total / best[name] / 1e6 for name, _ in programs}
-        line = ", ".join(f"{name} {rates[name]:.0f} MB/s of blocks" for name, _ in programs)
+        line = ", ".join(f"{name} {rates[name]:.0f} MB/s of blocks, {best[name] / TIMES * 1000:.2f} ms for the stream" for name, _ in programs)
         print(f"{os.path.basename(stream)}: {line}, {rates[words[0]] / rates[words[2]]:.2f} of it")
 
 

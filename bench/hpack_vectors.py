@@ -1,7 +1,7 @@
 #!/usr/bin/env python3
 """Header blocks made by nghttp2 (libnghttp2.so.14, Debian's libnghttp2-14), and corrupted ones.
 
-Prints the lines of crates/hb_hpack/src/vectors.rt:  python3 bench/hpack_vectors.py > crates/hb_hpack/src/vectors.rt
+Prints the lines of crates/hb_http2_rows/src/hpack_vectors.rt:  python3 bench/hpack_vectors.py > crates/hb_http2_rows/src/hpack_vectors.rt
 
 Each block is made by nghttp2's deflater, or put together here by hand, and is read by nghttp2's inflater and by the
 decoder below, which is written from RFC 7541; both must agree on the headers and on the table's size. The place and
