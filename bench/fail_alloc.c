@@ -1,7 +1,5 @@
 /* Loaded in front of the C library (LD_PRELOAD): the allocation of number FAIL_AT finds no memory, all others go on as ever. At the
    end the count of allocations goes to the file named by COUNT_FILE. */
-#define _GNU_SOURCE
-#include <dlfcn.h>
 #include <errno.h>
 #include <fcntl.h>
 #include <stdio.h>
@@ -24,25 +22,13 @@ static int fails(void) {
 extern void *__libc_malloc(size_t size);
 extern void *__libc_calloc(size_t many, size_t size);
 extern void *__libc_realloc(void *old, size_t size);
-extern void *__libc_memalign(size_t align, size_t size);
 
 void *malloc(size_t size) { return fails() ? NULL : __libc_malloc(size); }
 void *calloc(size_t many, size_t size) { return fails() ? NULL : __libc_calloc(many, size); }
 void *realloc(void *old, size_t size) { return fails() ? NULL : __libc_realloc(old, size); }
-void *aligned_alloc(size_t align, size_t size) { return fails() ? NULL : __libc_memalign(align, size); }
-void *memalign(size_t align, size_t size) { return fails() ? NULL : __libc_memalign(align, size); }
 
-int posix_memalign(void **out, size_t align, size_t size) {
-    if (fails()) return ENOMEM;
-    *out = __libc_memalign(align, size);
-    return *out ? 0 : ENOMEM;
-}
-
-/* (the program leaves by _exit, which runs no destructor) */
-void _exit(int status) {
+__attribute__((destructor)) static void tell(void) {
     const char *file = getenv("COUNT_FILE");
     int to = file ? open(file, O_WRONLY | O_CREAT | O_TRUNC, 0600) : -1;
     if (to >= 0) dprintf(to, "%ld", count);
-    ((void (*)(int))dlsym(RTLD_NEXT, "_exit"))(status);
-    __builtin_unreachable();
 }

@@ -35,7 +35,7 @@ def main():
     wrong = 0
     with tempfile.TemporaryDirectory() as room:
         library, count_file = f"{room}/fail_alloc.so", f"{room}/count"
-        subprocess.run(["gcc", "-O1", "-shared", "-fPIC", "-o", library, TOP / "bench/fail_alloc.c", "-ldl"], check=True)
+        subprocess.run(["gcc", "-O1", "-shared", "-fPIC", "-o", library, TOP / "bench/fail_alloc.c"], check=True)
         for words, given in RUNS:
             whole = ended(words, given, library, 0, count_file)
             allocations = int(open(count_file).read())
