@@ -1,10 +1,10 @@
 -- Bytes that move into a buffer, or on from it.
-use Rattle.std.proofs.Common.{◌≡◌, ℕ, ◌+◌, ◌-◌, ◌≤◌, List, ◌++◌, length, take, drop, Option, sym, ap, subst, arith, length-take, take-append-drop}
+use Rattle.std.proofs.Common.{◌≡◌, ℕ, ◌+◌, ◌-◌, ◌<◌, ◌≤◌, List, ◌++◌, length, take, drop, Option, Some, None, IfSome, sym, ap, subst, arith, length-take, length-append, take-append-drop}
 use Rattle.std.proofs.Math.Seq.{take-append_seam, take-add}
 use Rattle.std.proofs.lemmas.List.{drop-drop}
 use Rattle.std.proofs.lemmas.Grind.{common_steps}
 use Rattle.std.proofs.KnownBytes.{Appends-trans}
-use Rattle.std.specs.Io.KnownBytes.{Appends}
+use Rattle.std.specs.Io.KnownBytes.{Appends, Consumes}
 
 -- the slice from a place on
 pub rest_of : (at : ℕ) (xs : List ℕ) → take (length xs - at) (drop at xs) ≡ drop at xs
@@ -24,3 +24,10 @@ pub Appends-next : (a b c : Option (List ℕ)) (bytes : List ℕ) (at n : ℕ) �
     → Appends b c (take n (take (length bytes - at) (drop at bytes))) → Appends a c (take (at + n) bytes)
 Appends-next a b c bytes at n before next =
     rw take-add (Appends-trans a b c (take at bytes) (take n (drop at bytes)) before (rw rest_of at next))
+
+-- what began with more bytes than the limit had more
+pub longer_than : (before after : Option (List ℕ)) (bytes : List ℕ) (limit : ℕ) → Consumes before after bytes → limit < length bytes
+    → IfSome before (λ left. limit < length left)
+longer_than None after bytes limit consumed long = tt
+longer_than (Some xs) None bytes limit consumed long = absurd consumed
+longer_than (Some xs) (Some ys) bytes limit consumed long = omega (arith, ap length consumed, length-append bytes ys)

@@ -1,5 +1,5 @@
 -- The text of an identity.
-use Rattle.std.proofs.Common.{◌≡◌, ℕ, List, [], ◌∷◌, ◌++◌, drop, Bool, true, false, cond, nat_eq, Some, None, refl, sym, ap, subst, ◌∙◌, arith, append_assoc, codes}
+use Rattle.std.proofs.Common.{◌≡◌, ◌≢◌, length, ℕ, List, [], ◌∷◌, ◌++◌, drop, Bool, true, false, cond, nat_eq, Some, None, refl, sym, ap, subst, ◌∙◌, arith, append_assoc, codes}
 use Rattle.std.specs.List.{starts_with, join_with_byte}
 use Rattle.std.proofs.lemmas.Bool.Decides.{nat_tests, Decides-eqb}
 use Rattle.std.proofs.lemmas.List.Splits.{join_with_byte-slice_split}
@@ -50,6 +50,15 @@ by_parts (a ∷ b ∷ c ∷ []) i h = cc
 by_parts (a ∷ b ∷ c ∷ d ∷ []) i h = cc
 by_parts (a ∷ b ∷ c ∷ d ∷ e ∷ []) i h = five_parts a b c d e i h
 by_parts (a ∷ b ∷ c ∷ d ∷ e ∷ f ∷ more) i h = cc
+
+-- no other number of parts makes one
+pub other_parts : (first : List ℕ) (more : List (List ℕ)) → length more ≢ 4 → identity_of_parts (first ∷ more) ≡ None
+other_parts a [] other = refl
+other_parts a (b ∷ []) other = refl
+other_parts a (b ∷ c ∷ []) other = refl
+other_parts a (b ∷ c ∷ d ∷ []) other = refl
+other_parts a (b ∷ c ∷ d ∷ e ∷ []) other = absurd (other refl)
+other_parts a (b ∷ c ∷ d ∷ e ∷ f ∷ more) other = refl
 
 principal_spelled : (rest : List ℕ) (i : Identity) → identity_of_parts (parts 47 rest) ≡ Some i → Spells rest i
 principal_spelled rest i h = rw join_with_byte-slice_split at (by_parts (parts 47 rest) i h)

@@ -1,5 +1,5 @@
 -- The parts of a text and its first cut.
-use Rattle.std.proofs.Common.{◌≡◌, ℕ, ◌<◌, ◌≤◌, List, [], ◌∷◌, length, Bool, true, false, Option, Some, None, nat_eq, nat_lt, if◌then◌else◌, refl, ◌∙◌, ap, arith}
+use Rattle.std.proofs.Common.{◌≡◌, ℕ, ◌<◌, ◌≤◌, List, [], ◌∷◌, length, Bool, true, false, Option, Some, None, nat_eq, nat_lt, if◌then◌else◌, refl, sym, ◌∙◌, ap, arith}
 use Rattle.std.specs.List.{position_or_len, onto_first, before_first, after_first}
 use Rattle.std.proofs.lemmas.List.Splits.{slice_split_first, slice_split_none}
 use Rattle.std.proofs.lemmas.List.Sums.{fails_before_first}
@@ -7,7 +7,7 @@ use Rattle.std.proofs.lemmas.List.Elements.{All-from_get_or}
 use Rattle.std.proofs.lemmas.Bool.Decides.{nat_tests}
 use Rattle.std.specs.Borrow.{Bor}
 use Rattle.std.specs.Option.{is_some}
-use Rattle.hb_base.specs.Parts.{parts, parts_after, cut_first}
+use Rattle.hb_base.specs.Parts.{parts, cut_first, cut_lists}
 
 -- the parts, by the first cut
 abbrev pub parts_of_cut : ℕ → List ℕ → Option (List ℕ × List ℕ) → List (List ℕ)
@@ -34,26 +34,33 @@ module _ (separator : ℕ) (text : List ℕ) where
   pub parts-first : parts separator text ≡ parts_of_cut separator text (cut_first separator text)
   parts-first = by_test (nat_lt (position_or_len is_separator text) (length text)) refl
 
+-- the parts of a text that has no separator, and of one that has one
+pub uncut : (separator : ℕ) (text : List ℕ) → None ≡ cut_first separator text → parts separator text ≡ text ∷ []
+uncut separator text h = parts-first separator text ∙ ap (parts_of_cut separator text) (sym h)
+
+pub cut : (separator : ℕ) (text first rest : List ℕ) → Some (first, rest) ≡ cut_first separator text
+    → parts separator text ≡ first ∷ parts separator rest
+cut separator text first rest h = parts-first separator text ∙ ap (parts_of_cut separator text) (sym h)
+
 -- a text has a first part
-pub parts-some : (separator : ℕ) (text : List ℕ) → (first : List ℕ) × ((more : List (List ℕ)) × (parts separator text ≡ first ∷ more))
-parts-some separator [] = ([], ([], refl))
-parts-some separator (b ∷ more) = starts (nat_eq b separator) (parts separator more)
+some_part : (separator : ℕ) (text : List ℕ) → 0 < length (parts separator text)
+some_part separator [] = omega arith
+some_part separator (b ∷ more) = starts (nat_eq b separator) (parts separator more)
   where
-    starts : (at : Bool) (ps : List (List ℕ)) → (first : List ℕ)
-        × ((rest : List (List ℕ)) × ((if at then ([] ∷ ps) else onto_first b ps) ≡ first ∷ rest))
-    starts true ps = ([], (ps, refl))
-    starts false [] = (b ∷ [], ([], refl))
-    starts false (p ∷ ps) = (b ∷ p, (ps, refl))
+    starts : (at : Bool) (ps : List (List ℕ)) → 0 < length (if at then ([] ∷ ps) else onto_first b ps)
+    starts true ps = omega arith
+    starts false [] = omega arith
+    starts false (p ∷ ps) = omega arith
 
--- what follows a separator has a first part
-pub parts_after-some : (separator : ℕ) (rest : Option (Bor (List ℕ))) → is_some rest ≡ true → (first : List ℕ)
-    × ((more : List (List ℕ)) × (parts_after separator rest ≡ first ∷ more))
-parts_after-some separator None h = cc
-parts_after-some separator (Some rest) h = parts-some separator rest.now
+-- the same, by whether there is a cut
+pub cut_makes_two : (separator : ℕ) (text : List ℕ) (two : Option (Bor (List ℕ) × Bor (List ℕ)))
+    → cut_lists two ≡ cut_first separator text → is_some two ≡ true → 1 < length (parts separator text)
+cut_makes_two separator text None h is = cc
+cut_makes_two separator text (Some two) h is =
+    let more : 0 < length (parts separator two.1.now) = some_part separator two.1.now in
+    rw (cut separator text two.0.now two.1.now h) (omega arith)
 
--- the first part, and then the parts of what follows the separator
-pub parts_then : (separator : ℕ) (text first : List ℕ) (rest : Option (Bor (List ℕ))) (next : Bor (List ℕ)) (more : List (List ℕ))
-    → parts separator text ≡ first ∷ parts_after separator rest → rest ≡ Some next → parts separator next.now ≡ more
-    → parts separator text ≡ first ∷ more
-parts_then separator text first rest next more h is goes_on =
-    h ∙ ap (λ (r : Option (Bor (List ℕ))). first ∷ parts_after separator r) is ∙ ap (λ (ps : List (List ℕ)). first ∷ ps) goes_on
+pub no_cut_makes_one : (separator : ℕ) (text : List ℕ) (two : Option (Bor (List ℕ) × Bor (List ℕ)))
+    → cut_lists two ≡ cut_first separator text → is_some two ≡ false → parts separator text ≡ text ∷ []
+no_cut_makes_one separator text None h is = uncut separator text h
+no_cut_makes_one separator text (Some two) h is = cc

@@ -1,16 +1,11 @@
 -- A text cut at a separator.
-use Rattle.std.specs.Prelude.{ℕ, ◌==◌, not, nat_lt, if◌then◌else◌, List, [], length, Option, Some, None}
+use Rattle.std.specs.Prelude.{ℕ, ◌==◌, not, nat_lt, if◌then◌else◌, List, length, Option, Some, None}
 use Rattle.std.specs.Borrow.{Bor}
 use Rattle.std.specs.List.{slice_split, position_or_len, suffix_len, before_first, after_first, before_last, after_last}
 
 -- the parts of a text between its separators
 abbrev pub parts : ℕ → List ℕ → List (List ℕ)
 parts separator text = slice_split (λ b. b == separator) text
-
--- the parts of what follows a separator, if one was there
-abbrev pub parts_after : ℕ → Option (Bor (List ℕ)) → List (List ℕ)
-parts_after separator None = []
-parts_after separator (Some rest) = parts separator rest.now
 
 -- what stands before and after the first separator
 abbrev pub cut_first : ℕ → List ℕ → Option (List ℕ × List ℕ)

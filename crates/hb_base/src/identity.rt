@@ -8,7 +8,7 @@ ghost use Rattle.hb_base.specs.Parts.{parts};
 ghost use Rattle.hb_base.specs.Pieces.{joined};
 
 use crate::or::NoMemory;
-use crate::parts::first_part;
+use crate::parts::{cut_first, four_parts};
 use crate::pieces::{pieces_end_with, pieces_equal, pieces_start_with};
 use crate::text::Text;
 use std::alloc::Global;
@@ -96,14 +96,8 @@ fn names(principal: &[u8]) -> Option<(&[u8], &[u8], &[u8])>
     ensures value { names_of result ≡ identity_of_parts (parts 47 principal.now) }
     ensures named { IfSome result (λ n. (is_name n.0.now ≡ true) × (is_name n.1.now ≡ true) × (is_name n.2.now ≡ true)) }
 {
-    let (trust_domain, rest) = first_part(principal, b'/');
-    let (namespace_word, rest) = first_part(rest?, b'/');
-    let (namespace, rest) = first_part(rest?, b'/');
-    let (account_word, rest) = first_part(rest?, b'/');
-    let (account, rest) = first_part(rest?, b'/');
-    if rest.is_some() {
-        return None;
-    }
+    let (trust_domain, rest) = cut_first(principal, b'/')?;
+    let (namespace_word, namespace, account_word, account) = four_parts(rest, b'/')?;
     let spelled = is_name(trust_domain)
         && namespace_word == b"ns".as_slice()
         && is_name(namespace)

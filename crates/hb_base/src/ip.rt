@@ -4,7 +4,7 @@ ghost use Rattle.std.specs.Prelude.{◌≡◌};
 ghost use Rattle.hb_base.specs.IpText.{octet_of, four_octets, ip_of};
 ghost use Rattle.hb_base.specs.Octets.{ip_of_octets};
 
-use crate::parts::first_part;
+use crate::parts::four_parts;
 
 /// The octets before an IPv4 address that is mapped into IPv6 (RFC 4291 section 2.5.5.2).
 const MAPPED_PREFIX: [u8; 12] = [0, 0, 0, 0, 0, 0, 0, 0, 0, 0, 255, 255];
@@ -59,9 +59,8 @@ fn octet(text: &[u8]) -> Option<u8>
 fn octets(first: &[u8], second: &[u8], third: &[u8], fourth: &[u8]) -> Option<u32>
     ensures { result ≡ four_octets (octet_of first.now) (octet_of second.now) (octet_of third.now) (octet_of fourth.now) }
 {
-    let [p, q, r, s] = [octet(first)?, octet(second)?, octet(third)?, octet(fourth)?];
-    let high = u32::from(p) * 256 + u32::from(q);
-    Some((high * 256 + u32::from(r)) * 256 + u32::from(s))
+    let octets = [octet(first)?, octet(second)?, octet(third)?, octet(fourth)?];
+    Some(u32::from_be_bytes(octets))
 }
 
 /// Reads IPv4 text: four decimal numbers from 0 to 255 without leading zeros, joined by dots
@@ -69,12 +68,6 @@ fn octets(first: &[u8], second: &[u8], third: &[u8], fourth: &[u8]) -> Option<u3
 pub fn read_ip(b: &[u8]) -> Option<Ip>
     ensures { result ≡ ip_of b.now }
 {
-    let (first, rest) = first_part(b, b'.');
-    let (second, rest) = first_part(rest?, b'.');
-    let (third, rest) = first_part(rest?, b'.');
-    let (fourth, rest) = first_part(rest?, b'.');
-    if rest.is_some() {
-        return None;
-    }
+    let (first, second, third, fourth) = four_parts(b, b'.')?;
     Some(Ip::V4(octets(first, second, third, fourth)?))
 }

@@ -6,7 +6,7 @@ use std::alloc::{AllocError, AllocFailed};
 pub use std::alloc::AllocError as NoMemory;
 
 /// Why a call that allocates gave up: a fault of its own kind, or want of memory.
-#[derive(Clone, Copy, Debug, PartialEq, Eq, Drop)]
+#[derive(Clone, Copy, Drop)]
 pub enum Or<E> {
     Fault(E),
     NoMemory,

@@ -1,7 +1,7 @@
 //! A text cut at a separator.
 
-ghost use Rattle.std.specs.Prelude.{◌≡◌, ◌∷◌};
-ghost use Rattle.hb_base.specs.Parts.{parts, parts_after, cut_first as cut_at_first, cut_last as cut_at_last, cut_lists};
+ghost use Rattle.std.specs.Prelude.{◌≡◌, ◌≢◌, [], ◌∷◌, length, MatchOption};
+ghost use Rattle.hb_base.specs.Parts.{parts, cut_first as cut_at_first, cut_last as cut_at_last, cut_lists};
 
 /// What stands before and after the first separator.
 pub(crate) fn cut_first(text: &[u8], separator: u8) -> Option<(&[u8], &[u8])>
@@ -31,12 +31,16 @@ pub(crate) fn cut_last(text: &[u8], separator: u8) -> Option<(&[u8], &[u8])>
     None
 }
 
-/// The part before the first separator, and what follows that separator, if one is there.
-pub(crate) fn first_part(text: &[u8], separator: u8) -> (&[u8], Option<&[u8]>)
-    ensures { parts separator text.now ≡ result.0.now ∷ parts_after separator result.1 }
+/// The parts of a text between its separators, where they are four.
+pub(crate) fn four_parts(text: &[u8], separator: u8) -> Option<(&[u8], &[u8], &[u8], &[u8])>
+    ensures { MatchOption result (length (parts separator text.now) ≢ 4) (λ four. parts separator text.now
+        ≡ four.0.now ∷ four.1.now ∷ four.2.now ∷ four.3.now ∷ []) }
 {
-    match cut_first(text, separator) {
-        None => (text, None),
-        Some((part, rest)) => (part, Some(rest)),
+    let (first, rest) = cut_first(text, separator)?;
+    let (second, rest) = cut_first(rest, separator)?;
+    let (third, fourth) = cut_first(rest, separator)?;
+    if cut_first(fourth, separator).is_some() {
+        return None;
     }
+    Some((first, second, third, fourth))
 }

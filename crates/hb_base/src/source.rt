@@ -1,7 +1,7 @@
 //! Where bytes come from.
 
 /// What a take answers.
-#[derive(Clone, Copy, Debug, PartialEq, Eq)]
+#[derive(Clone, Copy, Debug)]
 pub enum Taken {
     /// So many bytes stand at the buffer's front, at least one.
     Got(usize),
