@@ -1,5 +1,5 @@
 -- Workloads, and addresses, which are workloads or services.
-use Rattle.std.specs.Prelude.{ℕ, ◌==◌, List, [], true, false, Option, Some, None, Result, Ok, Err, if◌then◌else◌, unwrap_or}
+use Rattle.std.specs.Prelude.{ℕ, ◌==◌, List, [], true, false, Option, Some, None, Result, Ok, Err, if◌then◌else◌}
 use Rattle.hb_base.specs.declared.ip.Ip.{Ip}
 use Rattle.hb_base.specs.Octets.{ip_of_octets}
 use Rattle.hb_wire.specs.Field.{Content, Value, varint, eight, span, four}
@@ -78,21 +78,21 @@ unfoldable pub workload_with : Workload → ℕ → List ℕ → Result Workload
 workload_with w at bytes = fold_message workload_merged Wire w (message_of (record { at = at; left = bytes }))
 
 -- workload 1, whose occurrences merge; service 2 isn't built yet
-abbrev pub address_span : Option Workload → ℕ → ℕ → List ℕ → Result (Option Workload) RecordFault
-address_span w number at bytes =
-    if number == 1 then and_then (workload_with (unwrap_or w no_workload) at bytes) (λ x. Ok (Some x))
-    else (if number == 2 then Err (NotYet 2) else Ok w)
+abbrev pub address_span : Address → ℕ → ℕ → List ℕ → Result Address RecordFault
+address_span a number at bytes =
+    if number == 1 then and_then (workload_with a.workload at bytes) (λ w. Ok (record { workload = w; is_there = true }))
+    else (if number == 2 then Err (NotYet 2) else Ok a)
 
 abbrev pub address_merged : Address → Content → Result Address RecordFault
-address_merged a f = and_then (of_span a.workload f.value (λ bytes. address_span a.workload f.number f.at bytes))
-    (λ w. Ok (record { workload = w }))
+address_merged a f = of_span a f.value (λ bytes. address_span a f.number f.at bytes)
 
--- a record without a kind
-abbrev pub workload_or : Option Workload → Result AddressRecord RecordFault
-workload_or (Some w) = Ok (records.Workload w)
-workload_or None = Err (NoKind 0)
+abbrev pub no_address : Address
+no_address = record { workload = no_workload; is_there = false }
+
+-- what the fields made; a record without a kind
+abbrev pub address_or : Address → Result AddressRecord RecordFault
+address_or a = if a.is_there then Ok (records.Workload a.workload) else Err (NoKind 0)
 
 -- the address record that these bytes are
 unfoldable pub address_of : List ℕ → Result AddressRecord RecordFault
-address_of bytes = and_then (fold_message address_merged Wire (record { workload = None }) (message_of (record { at = 0; left = bytes })))
-    (λ a. workload_or a.workload)
+address_of bytes = and_then (fold_message address_merged Wire no_address (message_of (record { at = 0; left = bytes }))) address_or

@@ -1,11 +1,12 @@
 //! Address records.
 
-ghost use Rattle.std.specs.Prelude.{◌≡◌, ◌+◌, ◌^◌, ◌<◌, length, unwrap_or};
+ghost use Rattle.std.specs.Prelude.{◌≡◌, ◌+◌, ◌^◌, ◌<◌, if◌then◌else◌, length, Ok, Err};
 ghost use Rattle.hb_base.specs.Outcome.{Answers, Merges};
-ghost use Rattle.hb_records.specs.Workload.{no_workload, workload_with, address_span, address_of};
+ghost use Rattle.hb_records.specs.Workload.{address_span, address_of};
+ghost use Rattle.hb_records.specs.declared.fault.RecordFault.TheVariants.{NoKind};
 
 use crate::fault::RecordFault;
-use crate::message::{Message, read_message};
+use crate::message::{Message, read_message, read_whole};
 use crate::workload::Workload;
 use hb_base::Or;
 use hb_wire::{Field, FieldValue, WireFault};
@@ -17,10 +18,11 @@ pub enum AddressRecord {
     Workload(Workload),
 }
 
-/// The workload of which an occurrence was read, if one was.
+/// The workload as far as its occurrences were read, and whether there was one.
 #[derive(Drop)]
 struct Address {
-    workload: Option<Workload>,
+    workload: Workload,
+    is_there: bool,
 }
 
 impl Message for Address {
@@ -46,6 +48,7 @@ impl Message for Address {
 }
 
 impl Address {
+    #[tactic(auto, unfolding(crate::specs::Workload::workload_with))]
     fn take_span(
         &mut self,
         alloc: Global,
@@ -54,13 +57,12 @@ impl Address {
         bytes: &[u8],
     ) -> Result<(), Or<RecordFault>>
         requires { at + length bytes.now < 2 ^ 64 }
-        ensures { Merges (address_span self.old.workload number at bytes.now) self.new.workload result }
+        ensures { Merges (address_span self.old number at bytes.now) self.new result }
     {
         match number {
             1 => {
-                let workload = self.workload.take();
-                self.workload = Some(with_occurrence(alloc, workload, at, bytes)?);
-                Ok(())
+                self.is_there = true;
+                read_message(alloc, bytes, at, &mut self.workload)
             }
             2 => Err(Or::Fault(RecordFault::NotYet { field: 2 })),
             _ => Ok(()),
@@ -68,23 +70,15 @@ impl Address {
     }
 }
 
-/// The workload with one more occurrence of its message, whose bytes stand at place `at`.
-#[tactic(auto, unfolding(crate::specs::Workload::workload_with))]
-fn with_occurrence(
-    alloc: Global,
-    workload: Option<Workload>,
-    at: usize,
-    bytes: &[u8],
-) -> Result<Workload, Or<RecordFault>>
-    requires { at + length bytes.now < 2 ^ 64 }
-    ensures { Answers result (workload_with (unwrap_or workload no_workload) at bytes.now) }
+/// The value of a record's kind; a fault where the record has none.
+fn kept<T: Drop>(value: T, is_there: bool) -> Result<T, Or<RecordFault>>
+    ensures { Answers result (if is_there then Ok value else Err (NoKind 0)) }
 {
-    let mut read = match workload {
-        Some(workload) => workload,
-        None => Workload::unread(alloc),
-    };
-    read_message(alloc, bytes, at, &mut read)?;
-    Ok(read)
+    if is_there {
+        Ok(value)
+    } else {
+        Err(Or::Fault(RecordFault::NoKind { field: 0 }))
+    }
 }
 
 /// Reads an address record; the first fault in order of bytes, depth first.
@@ -92,10 +86,11 @@ fn with_occurrence(
 pub fn read_address(alloc: Global, bytes: &[u8]) -> Result<AddressRecord, Or<RecordFault>>
     ensures { Answers result (address_of bytes.now) }
 {
-    let mut address = Address { workload: None };
-    read_message(alloc, bytes, 0, &mut address)?;
-    match address.workload {
-        Some(workload) => Ok(AddressRecord::Workload(workload)),
-        None => Err(Or::Fault(RecordFault::NoKind { field: 0 })),
-    }
+    let unread = Address {
+        workload: Workload::unread(alloc),
+        is_there: false,
+    };
+    let address = read_whole(alloc, bytes, 0, unread)?;
+    let workload = kept(address.workload, address.is_there)?;
+    Ok(AddressRecord::Workload(workload))
 }

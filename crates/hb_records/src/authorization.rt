@@ -4,9 +4,9 @@ ghost use Rattle.std.specs.Prelude.{◌≡◌, ◌+◌, ◌^◌, ◌<◌, length
 ghost use Rattle.hb_base.specs.Outcome.{Answers, Merges};
 ghost use Rattle.hb_records.specs.Authorization.{reach_of, action_of, policy_span, policy_number, authorization_of};
 
-use crate::entries::{check_room, enum_number, read_text};
+use crate::entries::{add, check_room, enum_number, take_text};
 use crate::fault::RecordFault;
-use crate::message::{Message, read_message};
+use crate::message::{Message, read_whole};
 use crate::rule::{Rule, read_rule};
 use hb_base::{List, Or, Text};
 use hb_wire::{Field, FieldValue, WireFault};
@@ -92,15 +92,14 @@ impl Authorization {
         ensures { Merges (policy_span self.old number at bytes.now) self.new result }
     {
         match number {
-            1 => self.name = read_text(alloc, 1, bytes)?,
-            2 => self.namespace = read_text(alloc, 2, bytes)?,
+            1 => take_text(alloc, 1, bytes, &mut self.name),
+            2 => take_text(alloc, 2, bytes, &mut self.namespace),
             5 => {
                 check_room(5, &self.rules)?;
-                self.rules.push(read_rule(alloc, at, bytes)?)?;
+                add(&mut self.rules, read_rule(alloc, at, bytes)?)
             }
-            _ => {}
+            _ => Ok(()),
         }
-        Ok(())
     }
 
     fn take_number(&mut self, number: u32, n: u64) -> Result<(), Or<RecordFault>>
@@ -120,13 +119,12 @@ impl Authorization {
 pub fn read_authorization(alloc: Alloc, bytes: &[u8]) -> Result<Authorization, Or<RecordFault>>
     ensures { Answers result (authorization_of bytes.now) }
 {
-    let mut read = Authorization {
+    let unread = Authorization {
         name: Text::empty(alloc),
         namespace: Text::empty(alloc),
         scope: Reach::Global,
         action: Action::Allow,
         rules: List::new(alloc),
     };
-    read_message(alloc, bytes, 0, &mut read)?;
-    Ok(read)
+    read_whole(alloc, bytes, 0, unread)
 }

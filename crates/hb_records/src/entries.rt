@@ -1,7 +1,7 @@
 //! Strings, enums, and the entries of a repeated field.
 
-ghost use Rattle.std.specs.Prelude.{◌≡◌};
-ghost use Rattle.hb_base.specs.Outcome.{Answers};
+ghost use Rattle.std.specs.Prelude.{◌≡◌, ◌++◌, ◌∷◌, [], Ok};
+ghost use Rattle.hb_base.specs.Outcome.{Answers, Merges};
 ghost use Rattle.hb_records.specs.Entries.{text_in, enum_number, room_in};
 
 use crate::fault::RecordFault;
@@ -24,6 +24,19 @@ pub fn read_text(alloc: Global, field: u32, bytes: &[u8]) -> Result<Text, Or<Rec
     }
 }
 
+/// The same, put in the place of a text.
+pub fn take_text(
+    alloc: Global,
+    field: u32,
+    bytes: &[u8],
+    text: &mut Text,
+) -> Result<(), Or<RecordFault>>
+    ensures { Merges (text_in field bytes.now) text.new result }
+{
+    *text = read_text(alloc, field, bytes)?;
+    Ok(())
+}
+
 /// An enum's number is the low 32 bits of its varint.
 pub fn enum_number(n: u64) -> u32
     ensures { result ≡ enum_number n }
@@ -39,4 +52,12 @@ pub fn check_room<T>(field: u32, entries: &List<T>) -> Result<(), Or<RecordFault
         return Ok(());
     }
     Err(Or::Fault(RecordFault::TooMany { field, count: 4097 }))
+}
+
+/// One more entry, for which there is room.
+pub fn add<T: Drop, F>(entries: &mut List<T>, entry: T) -> Result<(), Or<F>>
+    ensures { Merges (Ok (entries.old ++ entry ∷ [])) entries.new result }
+{
+    entries.push(entry)?;
+    Ok(())
 }

@@ -14,7 +14,7 @@ mod workload;
 pub use address::{AddressRecord, read_address};
 pub use authorization::{Action, Authorization, Reach, read_authorization};
 pub use fault::RecordFault;
-pub use message::{Message, read_message};
+pub use message::{Message, read_message, read_whole};
 pub use rule::{Clause, Match, Rule};
 pub use string_match::StringMatch;
 pub use workload::Workload;

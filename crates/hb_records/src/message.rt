@@ -2,7 +2,7 @@
 
 ghost use Rattle.std.specs.Prelude.{◌≡◌, ◌+◌, ◌^◌, ◌<◌, length};
 ghost use Rattle.hb_wire.specs.Message.{message_of, fold_message};
-ghost use Rattle.hb_base.specs.Outcome.{Merges};
+ghost use Rattle.hb_base.specs.Outcome.{Answers, Merges};
 
 use hb_base::Or;
 use hb_wire::{Field, Fields, WireFault};
@@ -51,4 +51,18 @@ pub fn read_message<M: Message>(
             Err(fault) => return Err(Or::Fault(M::of_wire(fault))),
         }
     }
+}
+
+/// What the fields of `bytes`, which stand at place `at` of the whole record, make of `message`.
+pub fn read_whole<M: Message + Drop>(
+    alloc: Global,
+    bytes: &[u8],
+    at: usize,
+    mut message: M,
+) -> Result<M, Or<M::Fault>>
+    requires { at + length bytes.now < 2 ^ 64 }
+    ensures { Answers result (fold_message M.merged M.wire message (message_of (record { at = at; left = bytes.now }))) }
+{
+    read_message(alloc, bytes, at, &mut message)?;
+    Ok(message)
 }

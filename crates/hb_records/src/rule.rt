@@ -4,9 +4,9 @@ ghost use Rattle.std.specs.Prelude.{◌≡◌, ◌+◌, ◌^◌, ◌<◌, length
 ghost use Rattle.hb_base.specs.Outcome.{Answers, Merges};
 ghost use Rattle.hb_records.specs.Rule.{attribute_in, match_in, clause_in, rule_in};
 
-use crate::entries::check_room;
+use crate::entries::{add, check_room};
 use crate::fault::RecordFault;
-use crate::message::{Message, read_message};
+use crate::message::{Message, read_whole};
 use crate::string_match::{StringMatch, read_string_match};
 use hb_base::{List, Or};
 use hb_wire::{Field, FieldValue, WireFault};
@@ -69,18 +69,24 @@ impl Match {
         requires { at + length bytes.now < 2 ^ 64 }
         ensures { Merges (attribute_in self.old number at bytes.now) self.new result }
     {
-        if number == 3 {
-            check_room(3, &self.principals)?;
-            self.principals
-                .push(read_string_match(alloc, 3, at, bytes)?)?;
-        } else if number == 4 {
-            check_room(4, &self.not_principals)?;
-            self.not_principals
-                .push(read_string_match(alloc, 4, at, bytes)?)?;
-        } else if 1 <= number && number <= 10 {
-            return Err(Or::Fault(RecordFault::NotYet { field: number }));
+        match number {
+            3 => {
+                check_room(3, &self.principals)?;
+                add(
+                    &mut self.principals,
+                    read_string_match(alloc, 3, at, bytes)?,
+                )
+            }
+            4 => {
+                check_room(4, &self.not_principals)?;
+                add(
+                    &mut self.not_principals,
+                    read_string_match(alloc, 4, at, bytes)?,
+                )
+            }
+            1..=10 => Err(Or::Fault(RecordFault::NotYet { field: number })),
+            _ => Ok(()),
         }
-        Ok(())
     }
 }
 
@@ -102,8 +108,7 @@ impl Message for Clause {
         match field.value {
             FieldValue::Span(bytes) if field.number == 2 => {
                 check_room(2, &self.matches)?;
-                self.matches.push(read_match(alloc, field.at, bytes)?)?;
-                Ok(())
+                add(&mut self.matches, read_match(alloc, field.at, bytes)?)
             }
             _ => Ok(()),
         }
@@ -128,8 +133,7 @@ impl Message for Rule {
         match field.value {
             FieldValue::Span(bytes) if field.number == 2 => {
                 check_room(2, &self.clauses)?;
-                self.clauses.push(read_clause(alloc, field.at, bytes)?)?;
-                Ok(())
+                add(&mut self.clauses, read_clause(alloc, field.at, bytes)?)
             }
             _ => Ok(()),
         }
@@ -142,12 +146,11 @@ fn read_match(alloc: Global, at: usize, bytes: &[u8]) -> Result<Match, Or<Record
     requires { at + length bytes.now < 2 ^ 64 }
     ensures { Answers result (match_in at bytes.now) }
 {
-    let mut read = Match {
+    let unread = Match {
         principals: List::new(alloc),
         not_principals: List::new(alloc),
     };
-    read_message(alloc, bytes, at, &mut read)?;
-    Ok(read)
+    read_whole(alloc, bytes, at, unread)
 }
 
 /// The clause of `bytes`, which stand at place `at`.
@@ -156,11 +159,10 @@ fn read_clause(alloc: Global, at: usize, bytes: &[u8]) -> Result<Clause, Or<Reco
     requires { at + length bytes.now < 2 ^ 64 }
     ensures { Answers result (clause_in at bytes.now) }
 {
-    let mut read = Clause {
+    let unread = Clause {
         matches: List::new(alloc),
     };
-    read_message(alloc, bytes, at, &mut read)?;
-    Ok(read)
+    read_whole(alloc, bytes, at, unread)
 }
 
 /// The rule of `bytes`, which stand at place `at`.
@@ -169,9 +171,8 @@ pub fn read_rule(alloc: Global, at: usize, bytes: &[u8]) -> Result<Rule, Or<Reco
     requires { at + length bytes.now < 2 ^ 64 }
     ensures { Answers result (rule_in at bytes.now) }
 {
-    let mut read = Rule {
+    let unread = Rule {
         clauses: List::new(alloc),
     };
-    read_message(alloc, bytes, at, &mut read)?;
-    Ok(read)
+    read_whole(alloc, bytes, at, unread)
 }

@@ -6,7 +6,7 @@ ghost use Rattle.hb_records.specs.StringMatch.{string_match_in, member_in};
 
 use crate::entries::read_text;
 use crate::fault::RecordFault;
-use crate::message::{Message, read_message};
+use crate::message::{Message, read_whole};
 use hb_base::{Or, Text};
 use hb_wire::{Field, FieldValue, WireFault};
 use std::alloc::Global;
@@ -52,13 +52,14 @@ impl Member {
     fn take(&mut self, alloc: Global, number: u32, bytes: &[u8]) -> Result<(), Or<RecordFault>>
         ensures { Merges (member_in self.old.kind number bytes.now) self.new.kind result }
     {
-        match number {
-            1 => self.kind = Some(StringMatch::Exact(read_text(alloc, 1, bytes)?)),
-            2 => self.kind = Some(StringMatch::Prefix(read_text(alloc, 2, bytes)?)),
-            3 => self.kind = Some(StringMatch::Suffix(read_text(alloc, 3, bytes)?)),
-            4 => self.kind = Some(StringMatch::Presence),
-            _ => {}
-        }
+        let kind = match number {
+            1 => StringMatch::Exact(read_text(alloc, 1, bytes)?),
+            2 => StringMatch::Prefix(read_text(alloc, 2, bytes)?),
+            3 => StringMatch::Suffix(read_text(alloc, 3, bytes)?),
+            4 => StringMatch::Presence,
+            _ => return Ok(()),
+        };
+        self.kind = Some(kind);
         Ok(())
     }
 }
@@ -74,8 +75,7 @@ pub fn read_string_match(
     requires { at + length bytes.now < 2 ^ 64 }
     ensures { Answers result (string_match_in field at bytes.now) }
 {
-    let mut member = Member { kind: None };
-    read_message(alloc, bytes, at, &mut member)?;
+    let member = read_whole(alloc, bytes, at, Member { kind: None })?;
     match member.kind {
         Some(kind) => Ok(kind),
         None => Err(Or::Fault(RecordFault::NoKind { field })),

@@ -5,7 +5,7 @@ ghost use Rattle.hb_base.specs.Octets.{ip_of_octets};
 ghost use Rattle.hb_base.specs.Outcome.{Answers, Merges};
 ghost use Rattle.hb_records.specs.Workload.{no_workload, ip_or, workload_text, workload_span, workload_number};
 
-use crate::entries::{check_room, enum_number, read_text};
+use crate::entries::{add, check_room, enum_number, read_text, take_text};
 use crate::fault::RecordFault;
 use crate::message::Message;
 use hb_base::{Ip, List, Or, Text};
@@ -94,14 +94,14 @@ impl Workload {
         match number {
             3 => {
                 check_room(3, &self.addresses)?;
-                self.addresses.push(read_octets(3, bytes)?)?;
-                Ok(())
+                add(&mut self.addresses, read_octets(3, bytes)?)
             }
             16 => {
                 check_room(16, &self.authorization_policies)?;
-                let policy = read_text(alloc, 16, bytes)?;
-                self.authorization_policies.push(policy)?;
-                Ok(())
+                add(
+                    &mut self.authorization_policies,
+                    read_text(alloc, 16, bytes)?,
+                )
             }
             8 => Err(Or::Fault(RecordFault::NotYet { field: 8 })),
             22 => Err(Or::Fault(RecordFault::NotYet { field: 22 })),
@@ -113,17 +113,16 @@ impl Workload {
         ensures { Merges (workload_text self.old number bytes.now) self.new result }
     {
         match number {
-            1 => self.name = read_text(alloc, 1, bytes)?,
-            2 => self.namespace = read_text(alloc, 2, bytes)?,
-            4 => self.network = read_text(alloc, 4, bytes)?,
-            6 => self.trust_domain = read_text(alloc, 6, bytes)?,
-            7 => self.service_account = read_text(alloc, 7, bytes)?,
-            9 => self.node = read_text(alloc, 9, bytes)?,
-            20 => self.uid = read_text(alloc, 20, bytes)?,
-            21 => self.hostname = read_text(alloc, 21, bytes)?,
-            _ => {}
+            1 => take_text(alloc, 1, bytes, &mut self.name),
+            2 => take_text(alloc, 2, bytes, &mut self.namespace),
+            4 => take_text(alloc, 4, bytes, &mut self.network),
+            6 => take_text(alloc, 6, bytes, &mut self.trust_domain),
+            7 => take_text(alloc, 7, bytes, &mut self.service_account),
+            9 => take_text(alloc, 9, bytes, &mut self.node),
+            20 => take_text(alloc, 20, bytes, &mut self.uid),
+            21 => take_text(alloc, 21, bytes, &mut self.hostname),
+            _ => Ok(()),
         }
-        Ok(())
     }
 
     fn take_number(&mut self, number: u32, n: u64)
