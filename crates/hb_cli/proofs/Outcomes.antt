@@ -3,14 +3,15 @@ use Rattle.std.proofs.Common.{◌≡◌, ℕ, ◌<◌, ◌≤◌, true, false, L
 use Rattle.std.specs.Prelude.{IfSome, nat_lt}
 use Rattle.std.specs.Io.KnownBytes.{Consumes}
 use Rattle.std.proofs.lemmas.Bool.Decides.{nat_tests}
+use Rattle.std.proofs.lemmas.Option.{IfSome_then}
 use Rattle.hb_cli.specs.declared.judge.Judged.{Judged}
 use Rattle.hb_cli.specs.declared.input.Refused.{Refused as Refusal}
 use Rattle.hb_cli.specs.declared.stop.Stop.{Stop}
-use Rattle.hb_cli.specs.declared.stop.Stop.TheVariants.{TooLong}
+use Rattle.hb_cli.specs.declared.stop.Stop.TheVariants.{Words, TooLong, Refused, ReadFault, NoMemory}
 use Rattle.hb_cli.specs.Input.{longest_input}
 use Rattle.hb_cli.specs.Words.{Question, words_of}
 use Rattle.hb_cli.specs.Run.{or_refused, answer_by, answer_after, outcome_of}
-use Rattle.hb_cli.specs.Ending.{Use, NoFault, LooksAt}
+use Rattle.hb_cli.specs.Ending.{Use, NoFault, LooksAt, LooksFor, FindsOut, ComesTo}
 
 outcome_is : (words : List (List ℕ)) (q : Question) (input : List ℕ) (o : Result Judged Stop) → words_of words ≡ Ok q
     → answer_after q input ≡ o
@@ -31,27 +32,29 @@ too_long_is q input over = rw (passes (length input) over) refl where
   passes : (n : ℕ) → longest_input < n → nat_lt longest_input n ≡ true
   passes n lt = grind (arith, nat_tests)
 
--- the input that is told is the one that was read
-whole_is : (words : List (List ℕ)) (q : Question) (before : Option (List ℕ)) (input : List ℕ) (o : Result Judged Stop)
-    → words_of words ≡ Ok q
-    → IfSome before (λ left. input ≡ left) → answer_after q input ≡ o → IfSome before (λ left. outcome_of words left ≡ o)
-whole_is words q None input o e same a = tt
-whole_is words q (Some left) input o e same a = outcome_is words q left o e (ap (answer_after q) (sym same) ∙ a)
-
-over_is : (words : List (List ℕ)) (q : Question) (before : Option (List ℕ)) → words_of words ≡ Ok q
-    → IfSome before (λ left. longest_input < length left) → IfSome before (λ left. outcome_of words left ≡ Err TooLong)
-over_is words q None e over = tt
-over_is words q (Some left) e over = outcome_is words q left (Err TooLong) e (too_long_is q left over)
-
 -- the whole input was read and answered
-pub was_whole : (words : List (List ℕ)) (q : Question) (u : Use) (input : List ℕ) (r : Result Judged Refusal) → words_of words ≡ Ok q
-    → IfSome u.bytes (λ left. input ≡ left) → IfSome u.bytes (λ _. u.bytes_after ≡ Some []) → NoFault u → length input ≤ longest_input
-    → answer_by q input ≡ r → LooksAt words u (or_refused r)
-was_whole words q u input r e same end good within a =
-    (rw e refl, whole_is words q u.bytes input (or_refused r) e same (answer_is q input r within a), inl end, good)
+pub was_whole : (q : Question) (u : Use) (input : List ℕ) (r : Result Judged Refusal) → IfSome u.bytes (λ left. input ≡ left)
+    → IfSome u.bytes (λ _. u.bytes_after ≡ Some []) → NoFault u → length input ≤ longest_input → answer_by q input ≡ r
+    → LooksFor q u (or_refused r)
+was_whole q u input r same end good within a =
+    (IfSome_then u.bytes same (λ left is. ap (answer_after q) (sym is) ∙ answer_is q input r within a), inl end, good)
 
 -- the input was read past its limit
-pub was_too_long : (words : List (List ℕ)) (q : Question) (u : Use) → words_of words ≡ Ok q
-    → IfSome u.bytes (λ left. longest_input < length left)
-    → (read : List ℕ) × (longest_input < length read) × Consumes u.bytes u.bytes_after read → NoFault u → LooksAt words u (Err TooLong)
-was_too_long words q u e over read good = (rw e refl, over_is words q u.bytes e over, inr read, good)
+pub was_too_long : (q : Question) (u : Use) → IfSome u.bytes (λ left. longest_input < length left)
+    → (read : List ℕ) × (longest_input < length read) × Consumes u.bytes u.bytes_after read → NoFault u → LooksFor q u (Err TooLong)
+was_too_long q u over read good = (IfSome_then u.bytes over (λ left lt. too_long_is q left lt), inr read, good)
+
+looked : (words : List (List ℕ)) (q : Question) (u : Use) (o : Result Judged Stop) → words_of words ≡ Ok q → LooksFor q u o
+    → LooksAt words u o
+looked words q u o e found =
+    (rw e refl, IfSome_then u.bytes found.0 (λ left a. outcome_is words q left o e a), found.1, found.2)
+
+-- the words were accepted, and the input was read for their question
+pub was_asked : (words : List (List ℕ)) (q : Question) (u : Use) (r : Result Judged Stop) → words_of words ≡ Ok q → FindsOut q u r
+    → ComesTo words u r
+was_asked words q u (Ok answer) e found = looked words q u (Ok answer) e found
+was_asked words q u (Err (Words fault)) e found = absurd found
+was_asked words q u (Err TooLong) e found = looked words q u (Err TooLong) e found
+was_asked words q u (Err (Refused refusal)) e found = looked words q u (Err (Refused refusal)) e found
+was_asked words q u (Err ReadFault) e found = (rw e refl, found)
+was_asked words q u (Err NoMemory) e found = found

@@ -1,14 +1,14 @@
 -- A response is taken whole exactly where no resource of it is refused.
 use Rattle.std.proofs.Common.{◌≡◌, ℕ, Bool, true, false, List, [], ◌∷◌, length, Result, Ok, Err, refl, ap, ◌∙◌, inl, inr, suc, arith}
 use Rattle.std.proofs.lemmas.Bool.Decides.{nat_tests}
-use Rattle.std.specs.Prelude.{◌⊎◌, ◌&&◌, ◌==◌}
+use Rattle.std.specs.Prelude.{◌⊎◌, ◌&&◌, ◌==◌, position}
 use Rattle.hb_wire.specs.Message.{and_then}
 use Rattle.hb_cli.specs.declared.held.Entry.{Entry}
 use Rattle.hb_cli.specs.declared.held.RefusedWhy.{RefusedWhy}
 use Rattle.hb_cli.specs.declared.response.Kind.{Kind}
 use Rattle.hb_cli.specs.declared.response.Resource.{Resource}
 use Rattle.hb_cli.specs.declared.response.Response.{Response}
-use Rattle.hb_cli.specs.Held.{with_resource, with_resources, after_resources, all_taken, without, after_response, is_taken_whole}
+use Rattle.hb_cli.specs.Held.{is_named, entry_of, put_at, with_resource, with_resources, after_resources, all_taken, without, after_response, is_taken_whole}
 
 -- a step that went on
 and_then_ok : {A B F : Type 0} (x : Result A F) (f : A → Result B F) (y : B) → and_then x f ≡ Ok y → (a : A) × (x ≡ Ok a) × (f a ≡ Ok y)
@@ -20,6 +20,12 @@ and_then_err : {A B F : Type 0} (x : Result A F) (f : A → Result B F) (d : F) 
     ⊎ ((a : A) × (x ≡ Ok a) × (f a ≡ Err d))
 and_then_err (Ok a) f d e = inr (a, refl, e)
 and_then_err (Err c) f d e = inl cc
+
+-- the entry of a resource was made, and is put in its place
+pub is_put : (held : List Entry) (kind : Kind) (r : Resource) (e : Entry) → entry_of kind r ≡ Ok e
+    → with_resource held kind r ≡ put_at held (position (is_named kind r.name) held) e
+unfolding with_resource
+is_put held kind r e made = rw made refl
 
 -- all were taken
 pub taken : (held : List Entry) (kind : Kind) (rs : List Resource) (after : List Entry) → with_resources held kind rs ≡ Ok after

@@ -7,8 +7,8 @@ use Rattle.hb_cli.specs.declared.judge.Judged.{Judged}
 use Rattle.hb_cli.specs.declared.stop.Stop.{Stop}
 use Rattle.hb_cli.specs.declared.stop.Stop.TheVariants.{Words, TooLong, Refused, ReadFault, NoMemory}
 use Rattle.hb_cli.specs.declared.words.WordsFault.{WordsFault}
-use Rattle.hb_cli.specs.Words.{words_of}
-use Rattle.hb_cli.specs.Run.{outcome_of, status_of, answer_line, stop_line, write_fault_line, WritesLine, ReadsEnough}
+use Rattle.hb_cli.specs.Words.{Question, words_of}
+use Rattle.hb_cli.specs.Run.{answer_after, outcome_of, status_of, answer_line, stop_line, write_fault_line, WritesLine, ReadsEnough}
 
 -- what a run does with a source or a sink: its bytes and its count of faults, before and after
 pub record Use : Type 0 where
@@ -55,7 +55,21 @@ LooksAt words input o =
     IsOk (words_of words) × IfSome input.bytes (λ left. outcome_of words left ≡ o) × ReadsEnough input.bytes input.bytes_after
     × NoFault input
 
--- What reading and answering comes to.
+-- this is the outcome of a question by the input, of which enough is read
+abbrev pub LooksFor : Question → Use → Result Judged Stop → Type 0
+LooksFor q input o =
+    IfSome input.bytes (λ left. answer_after q left ≡ o) × ReadsEnough input.bytes input.bytes_after × NoFault input
+
+-- What reading the input and answering a question comes to.
+abbrev pub FindsOut : Question → Use → Result Judged Stop → Type 0
+FindsOut q input (Ok answer) = LooksFor q input (Ok answer)
+FindsOut q input (Err (Words fault)) = ⊥
+FindsOut q input (Err TooLong) = LooksFor q input (Err TooLong)
+FindsOut q input (Err (Refused refusal)) = LooksFor q input (Err (Refused refusal))
+FindsOut q input (Err ReadFault) = OneFault input
+FindsOut q input (Err NoMemory) = NoFault input
+
+-- What reading the words and then the input comes to.
 abbrev pub ComesTo : List (List ℕ) → Use → Result Judged Stop → Type 0
 ComesTo words input (Ok answer) = LooksAt words input (Ok answer)
 ComesTo words input (Err (Words fault)) = (words_of words ≡ Err fault) × Untouched input

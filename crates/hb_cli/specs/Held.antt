@@ -38,19 +38,22 @@ record_of kinds.Address bytes = and_then (address_of bytes) (λ r. Ok (records.A
 record_of kinds.Authorization bytes = and_then (authorization_of bytes) (λ p. Ok (records.Policy p))
 
 -- An entry takes the place of the one of its kind and name. A new one goes behind, where fewer than 65,536 are held.
-abbrev pub put_at : List Entry → Option ℕ → Entry → Result (List Entry) RefusedWhy
+abbrev pub put_at : {E : Type 0} → List E → Option ℕ → E → Result (List E) RefusedWhy
 put_at held (Some place) e = Ok (slice_set held place e)
 put_at held None e = if nat_lt (length held) 65536 then Ok (held ++ e ∷ []) else Err why.Full
 
--- The resources held after one more of a kind: one without a name, of another type, or whose record can't be read is
+-- The entry that a resource of a kind makes: one without a name, of another type, or whose record can't be read is
 -- refused, in this order of looking.
-unfoldable pub with_resource : List Entry → Kind → Resource → Result (List Entry) RefusedWhy
-with_resource held kind r =
+abbrev pub entry_of : Kind → Resource → Result Entry RefusedWhy
+entry_of kind r =
     if length r.name == 0 then Err why.NoName
-    else (if bytes_eq r.type_url (type_url kind)
-    then and_then (refused_as (record_of kind r.value))
-    (λ x. put_at held (position (is_named kind r.name) held) (record { name = r.name; version = r.version; content = x }))
+    else (if bytes_eq r.any.type_url (type_url kind)
+    then and_then (refused_as (record_of kind r.any.value)) (λ x. Ok (record { name = r.name; version = r.version; content = x }))
     else Err why.WrongType)
+
+-- the resources held after one more of a kind
+unfoldable pub with_resource : List Entry → Kind → Resource → Result (List Entry) RefusedWhy
+with_resource held kind r = and_then (entry_of kind r) (λ e. put_at held (position (is_named kind r.name) held) e)
 
 -- the resources held after all of these, up to the first that is refused
 abbrev pub with_resources : List Entry → Kind → List Resource → Result (List Entry) RefusedWhy

@@ -1,5 +1,5 @@
 -- Is a peer admitted at a target by the resources held?
-use Rattle.std.specs.Prelude.{ℕ, Bool, false, ◌==◌, ◌&&◌, if◌then◌else◌, List, [], ◌∷◌, length, filter, Option, Some, None, option_and_then}
+use Rattle.std.specs.Prelude.{ℕ, Bool, false, not, ◌==◌, ◌&&◌, if◌then◌else◌, List, [], ◌∷◌, length, filter, Option, Some, None, option_and_then}
 use Rattle.std.specs.Option.{option_map_or}
 use Rattle.std.specs.List.{list_any, filter_map}
 use Rattle.std.specs.Cmp.Lexicographic.{slice_cmp}
@@ -16,8 +16,10 @@ use Rattle.hb_cli.specs.declared.held.Entry.{Entry}
 use Rattle.hb_cli.specs.declared.held.Record.{Record}
 use Rattle.hb_cli.specs.declared.held.Record.TheVariants as records
 use Rattle.hb_cli.specs.declared.judge.Judged.{Judged}
+use Rattle.hb_cli.specs.declared.judge.Wanted.{Wanted}
+use Rattle.hb_cli.specs.declared.judge.Wanted.TheVariants.{Denies, IsAllow, Allows}
 use Rattle.hb_cli.specs.declared.judge.Judged.TheVariants.{Admitted, Unknown, Denied}
-use Rattle.hb_cli.specs.Policy.{principal, is_for, admitted_by}
+use Rattle.hb_cli.specs.Policy.{principal, fires, is_deny, is_for, admitted_by}
 
 -- the workload of an address record, and the policy of a policy's
 abbrev pub workload_of : Record → Option Workload
@@ -67,6 +69,12 @@ known held node ip = option_and_then (λ w. if bytes_eq w.node node then Some w 
 -- the policies that are for a workload
 abbrev pub policies : List Entry → Workload → List Authorization
 policies held w = filter (is_for w) (filter_map (λ e. policy_of e.content) held)
+
+-- what is asked of a policy: that it denies the principal, that it is one that allows, that it allows the principal
+abbrev pub passes : Wanted → Option (List ℕ) → Authorization → Bool
+passes Denies principal a = is_deny a.action && fires principal a
+passes IsAllow principal a = not (is_deny a.action)
+passes Allows principal a = not (is_deny a.action) && fires principal a
 
 abbrev pub judged_at : List Entry → Option Workload → Peer → Judged
 judged_at held None peer = Unknown

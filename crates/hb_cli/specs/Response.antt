@@ -9,7 +9,6 @@ use Rattle.hb_cli.specs.declared.response.Kind.{Kind}
 use Rattle.hb_cli.specs.declared.response.Kind.TheVariants.{Address, Authorization}
 use Rattle.hb_cli.specs.declared.response.Resource.{Resource}
 use Rattle.hb_cli.specs.declared.response.Any.{Any}
-use Rattle.hb_cli.specs.declared.response.ResourceParts.{ResourceParts}
 use Rattle.hb_cli.specs.declared.response.Response.{Response}
 use Rattle.hb_cli.specs.declared.response.Parts.{Parts}
 
@@ -44,24 +43,22 @@ abbrev pub any_merged : Any → Content → Result Any ResponseFault
 any_merged a f = of_span a f.value (λ bytes. any_span a f.number bytes)
 
 -- Resource: version 1, resource 2, an Any whose occurrences merge, name 3
-abbrev pub resource_span : ResourceParts → ℕ → ℕ → List ℕ → Result ResourceParts ResponseFault
+abbrev pub resource_span : Resource → ℕ → ℕ → List ℕ → Result Resource ResponseFault
 resource_span r number at bytes =
     if number == 1 then and_then (text_in 1 bytes) (λ t. Ok (record r { version = t }))
     else (if number == 2 then and_then (fold_message any_merged Wire r.any (message_of (record { at = at; left = bytes })))
     (λ a. Ok (record r { any = a }))
     else (if number == 3 then and_then (text_in 3 bytes) (λ t. Ok (record r { name = t })) else Ok r))
 
-abbrev pub resource_merged : ResourceParts → Content → Result ResourceParts ResponseFault
+abbrev pub resource_merged : Resource → Content → Result Resource ResponseFault
 resource_merged r f = of_span r f.value (λ bytes. resource_span r f.number f.at bytes)
 
-abbrev pub no_resource : ResourceParts
+abbrev pub no_resource : Resource
 no_resource = record { name = []; version = []; any = record { type_url = []; value = [] } }
 
 -- the resource of these bytes at a place
 unfoldable pub resource_in : ℕ → List ℕ → Result Resource ResponseFault
-resource_in at bytes =
-    and_then (fold_message resource_merged Wire no_resource (message_of (record { at = at; left = bytes })))
-    (λ r. Ok (record { name = r.name; version = r.version; type_url = r.any.type_url; value = r.any.value }))
+resource_in at bytes = fold_message resource_merged Wire no_resource (message_of (record { at = at; left = bytes }))
 
 -- DeltaDiscoveryResponse: system_version_info 1, which is only checked, resources 2, type_url 4, nonce 5, removed_resources 6
 abbrev pub response_span : Parts → ℕ → ℕ → List ℕ → Result Parts ResponseFault

@@ -7,7 +7,7 @@ ghost use Rattle.std.specs.String.{string_bytes};
 ghost use Rattle.hb_base.specs.Count.{Counts, Rose};
 ghost use Rattle.hb_base.specs.Outcome.{Answers};
 ghost use Rattle.hb_cli.specs.Asked.{question};
-ghost use Rattle.hb_cli.specs.Ending.{ComesTo, EndsWith, GivesUp, use_of};
+ghost use Rattle.hb_cli.specs.Ending.{FindsOut, ComesTo, EndsWith, GivesUp, use_of};
 ghost use Rattle.hb_cli.specs.Run.{IsStated, ReadsEnough, WritesLine, answer_by, answer_line, is_status};
 ghost use Rattle.hb_cli.specs.Run.{outcome_of, status_of, stop_line, told_line};
 ghost use Rattle.hb_cli.specs.Words.{words_of};
@@ -33,26 +33,34 @@ fn answer(alloc: Global, check: &Check<'_>, input: &[u8]) -> Result<Judged, Or<R
     Ok(judge(&held, check.node, &check.peer, check.target))
 }
 
-/// The answer to these words and this input. The words are looked at first, then the whole input is read.
-fn outcome<S: Source>(alloc: Global, words: &[String], input: &mut S) -> Result<Judged, Stop>
-    ensures outcome { ComesTo (map string_bytes words.now)
+/// The answer to a question, after the whole input is read.
+fn find_out<S: Source>(alloc: Global, check: &Check<'_>, input: &mut S) -> Result<Judged, Stop>
+    ensures found { FindsOut (question check.now)
         (use_of (S.left input.old) (S.left input.new) (S.faults input.old) (S.faults input.new)) result }
     ensures later { S.faults input.old ≤ S.faults input.new }
 {
-    let check = match read_words(alloc, words) {
-        Ok(check) => check,
-        Err(Or::Fault(fault)) => return Err(Stop::Words(fault)),
-        Err(Or::NoMemory) => return Err(Stop::NoMemory),
-    };
     let bytes = match read_all(alloc, input, LONGEST_INPUT) {
         Ok(bytes) => bytes,
         Err(ReadStop::TooLong) => return Err(Stop::TooLong),
         Err(ReadStop::Failed) => return Err(Stop::ReadFault),
         Err(ReadStop::NoMemory) => return Err(Stop::NoMemory),
     };
-    match answer(alloc, &check, bytes.as_slice()) {
+    match answer(alloc, check, bytes.as_slice()) {
         Ok(judged) => Ok(judged),
         Err(Or::Fault(refused)) => Err(Stop::Refused(refused)),
+        Err(Or::NoMemory) => Err(Stop::NoMemory),
+    }
+}
+
+/// The answer to these words and this input. The words are looked at first, then the whole input is read.
+fn outcome<S: Source>(alloc: Global, words: &[String], input: &mut S) -> Result<Judged, Stop>
+    ensures outcome { ComesTo (map string_bytes words.now)
+        (use_of (S.left input.old) (S.left input.new) (S.faults input.old) (S.faults input.new)) result }
+    ensures later { S.faults input.old ≤ S.faults input.new }
+{
+    match read_words(alloc, words) {
+        Ok(check) => find_out(alloc, &check, input),
+        Err(Or::Fault(fault)) => Err(Stop::Words(fault)),
         Err(Or::NoMemory) => Err(Stop::NoMemory),
     }
 }

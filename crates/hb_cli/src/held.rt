@@ -2,7 +2,8 @@
 
 ghost use Rattle.std.specs.Prelude.{◌≡◌, [], ◌<◌, length, position, true, IfSome, IfOk};
 ghost use Rattle.hb_base.specs.Outcome.{Answers, Merges};
-ghost use Rattle.hb_cli.specs.Held.{is_of, is_named, record_of, refused_as, put_at, with_resource, with_resources, after_response, is_taken_whole};
+ghost use Rattle.hb_cli.specs.Held.{is_of, is_named, record_of, refused_as, entry_of, put_at, with_resource, with_resources};
+ghost use Rattle.hb_cli.specs.Held.{after_response, is_taken_whole};
 
 use crate::response::{Kind, Resource, Response};
 use hb_base::{NoMemory, Or, Text};
@@ -91,6 +92,43 @@ fn read_content(alloc: Global, kind: Kind, bytes: &[u8]) -> Result<Record, Or<Re
     }
 }
 
+/// The entry that a resource of a response of this kind makes.
+fn read_entry(alloc: Global, kind: Kind, resource: &Resource) -> Result<Entry, Or<RefusedWhy>>
+    ensures { Answers result (entry_of kind resource.now) }
+{
+    if resource.name.as_slice().is_empty() {
+        return Err(Or::Fault(RefusedWhy::NoName));
+    }
+    if resource.any.type_url.as_slice() != kind.type_url() {
+        return Err(Or::Fault(RefusedWhy::WrongType));
+    }
+    let name = resource.name.copy(alloc)?;
+    let version = resource.version.copy(alloc)?;
+    let content = read_content(alloc, kind, resource.any.value.as_slice())?;
+    Ok(Entry {
+        name,
+        version,
+        content,
+    })
+}
+
+/// Puts an item at a place, or behind all.
+fn put<T: Drop>(items: &mut Vec<T>, place: Option<usize>, item: T) -> Result<(), Or<RefusedWhy>>
+    requires { IfSome place (λ i. i < length items.old.items) }
+    ensures { Merges (put_at items.old.items place item) items.new.items result }
+{
+    match place {
+        Some(i) => items[i] = item,
+        None => {
+            if items.len() >= MOST_HELD {
+                return Err(Or::Fault(RefusedWhy::Full));
+            }
+            items.push(item)?;
+        }
+    }
+    Ok(())
+}
+
 impl Held {
     /// Nothing is held.
     pub fn new(alloc: Global) -> Held
@@ -117,43 +155,14 @@ impl Held {
             .position(|entry| is_named(kind, name, entry))
     }
 
-    /// Puts an entry at the place of the one of its kind and name, or behind all.
-    fn put(&mut self, place: Option<usize>, entry: Entry) -> Result<(), Or<RefusedWhy>>
-        requires { IfSome place (λ i. i < length self.old) }
-        ensures { Merges (put_at self.old place entry) self.new result }
-    {
-        match place {
-            Some(i) => self.entries[i] = entry,
-            None => {
-                if self.entries.len() >= MOST_HELD {
-                    return Err(Or::Fault(RefusedWhy::Full));
-                }
-                self.entries.push(entry)?;
-            }
-        }
-        Ok(())
-    }
-
     /// Takes one resource of a response of this kind.
     #[tactic(auto, unfolding(crate::specs::Held::with_resource))]
     fn take(&mut self, alloc: Global, kind: Kind, resource: &Resource) -> Result<(), Or<RefusedWhy>>
         ensures { Merges (with_resource self.old kind resource.now) self.new result }
     {
-        let name = resource.name.as_slice();
-        if name.is_empty() {
-            return Err(Or::Fault(RefusedWhy::NoName));
-        }
-        if resource.type_url.as_slice() != kind.type_url() {
-            return Err(Or::Fault(RefusedWhy::WrongType));
-        }
-        let content = read_content(alloc, kind, resource.value.as_slice())?;
-        let place = self.place_of(kind, name);
-        let entry = Entry {
-            name: resource.name.copy(alloc)?,
-            version: resource.version.copy(alloc)?,
-            content,
-        };
-        self.put(place, entry)
+        let entry = read_entry(alloc, kind, resource)?;
+        let place = self.place_of(kind, resource.name.as_slice());
+        put(&mut self.entries, place, entry)
     }
 
     /// Takes the resources of a response of this kind, up to the first that is refused.

@@ -6,7 +6,8 @@ ghost use Rattle.std.specs.List.{list_any};
 ghost use Rattle.std.specs.Option.{option_copied};
 ghost use Rattle.std.specs.Ordering.{nat_cmp, is_lt};
 ghost use Rattle.hb_cli.specs.Policy.{principal, fires, is_for, is_deny, admitted_by};
-ghost use Rattle.hb_cli.specs.Judge.{workload_of, policy_of, has_policy, ip_eq, has_address, is_at, lesser, least, known, policies, judged};
+ghost use Rattle.hb_cli.specs.Judge.{workload_of, policy_of, has_policy, ip_eq, has_address, is_at, lesser, least};
+ghost use Rattle.hb_cli.specs.Judge.{known, passes, policies, judged};
 
 use crate::held::{Entry, Held, Record};
 use crate::policy::{fires, is_for};
@@ -140,54 +141,43 @@ fn is_deny(policy: &Authorization) -> bool
     }
 }
 
-/// The entry is a policy for the workload that denies the peer.
-fn denies(peer: &Peer, workload: &Workload, entry: &Entry) -> bool
-    ensures { result ≡ has_policy (λ a. is_for workload.now a && (is_deny a.action && fires (principal peer.now) a)) entry.now }
+/// What is asked of a policy that is for the workload.
+#[derive(Clone, Copy)]
+enum Wanted {
+    /// It denies the peer.
+    Denies,
+    /// It allows peers.
+    IsAllow,
+    /// It allows the peer.
+    Allows,
+}
+
+fn passes(wanted: Wanted, peer: &Peer, policy: &Authorization) -> bool
+    ensures { result ≡ passes wanted (principal peer.now) policy.now }
+{
+    match wanted {
+        Wanted::Denies => is_deny(policy) && fires(policy, peer),
+        Wanted::IsAllow => !is_deny(policy),
+        Wanted::Allows => !is_deny(policy) && fires(policy, peer),
+    }
+}
+
+/// The entry is such a policy.
+fn is_wanted(wanted: Wanted, peer: &Peer, workload: &Workload, entry: &Entry) -> bool
+    ensures { result ≡ has_policy (λ a. is_for workload.now a && passes wanted (principal peer.now) a) entry.now }
 {
     match policy_of(&entry.content) {
-        Some(policy) => is_for(workload, policy) && is_deny(policy) && fires(policy, peer),
+        Some(policy) => is_for(workload, policy) && passes(wanted, peer, policy),
         None => false,
     }
 }
 
-/// The entry is a policy for the workload that allows peers.
-fn is_allow(workload: &Workload, entry: &Entry) -> bool
-    ensures { result ≡ has_policy (λ a. is_for workload.now a && not (is_deny a.action)) entry.now }
+fn any_wanted(entries: &[Entry], wanted: Wanted, peer: &Peer, workload: &Workload) -> bool
+    ensures { result ≡ list_any (has_policy (λ a. is_for workload.now a && passes wanted (principal peer.now) a)) entries.now }
 {
-    match policy_of(&entry.content) {
-        Some(policy) => is_for(workload, policy) && !is_deny(policy),
-        None => false,
-    }
-}
-
-/// The entry is a policy for the workload that allows the peer.
-fn allows(peer: &Peer, workload: &Workload, entry: &Entry) -> bool
-    ensures { result ≡ has_policy (λ a. is_for workload.now a && (not (is_deny a.action) && fires (principal peer.now) a)) entry.now }
-{
-    match policy_of(&entry.content) {
-        Some(policy) => is_for(workload, policy) && !is_deny(policy) && fires(policy, peer),
-        None => false,
-    }
-}
-
-fn any_denies(entries: &[Entry], peer: &Peer, workload: &Workload) -> bool
-    ensures { result
-        ≡ list_any (has_policy (λ a. is_for workload.now a && (is_deny a.action && fires (principal peer.now) a))) entries.now }
-{
-    entries.iter().any(|entry| denies(peer, workload, entry))
-}
-
-fn any_is_allow(entries: &[Entry], workload: &Workload) -> bool
-    ensures { result ≡ list_any (has_policy (λ a. is_for workload.now a && not (is_deny a.action))) entries.now }
-{
-    entries.iter().any(|entry| is_allow(workload, entry))
-}
-
-fn any_allows(entries: &[Entry], peer: &Peer, workload: &Workload) -> bool
-    ensures { result
-        ≡ list_any (has_policy (λ a. is_for workload.now a && (not (is_deny a.action) && fires (principal peer.now) a))) entries.now }
-{
-    entries.iter().any(|entry| allows(peer, workload, entry))
+    entries
+        .iter()
+        .any(|entry| is_wanted(wanted, peer, workload, entry))
 }
 
 /// No DENY fires, and there is no ALLOW or one fires.
@@ -202,9 +192,9 @@ fn is_admitted(entries: &[Entry], peer: &Peer, workload: &Workload) -> bool
     ensures { result ≡ admitted_by (principal peer.now) (policies entries.now workload.now) }
 {
     tally(
-        any_denies(entries, peer, workload),
-        any_is_allow(entries, workload),
-        any_allows(entries, peer, workload),
+        any_wanted(entries, Wanted::Denies, peer, workload),
+        any_wanted(entries, Wanted::IsAllow, peer, workload),
+        any_wanted(entries, Wanted::Allows, peer, workload),
     )
 }
 

@@ -1,11 +1,12 @@
 //! Delta discovery responses.
 
-ghost use Rattle.std.specs.Prelude.{◌≡◌, ◌+◌, ◌^◌, ◌<◌, length};
+ghost use Rattle.std.specs.Prelude.{◌≡◌, ◌+◌, ◌^◌, ◌<◌, ◌++◌, ◌∷◌, [], length, Ok};
 ghost use Rattle.hb_base.specs.Outcome.{Answers, Merges};
-ghost use Rattle.hb_cli.specs.Response.{text_in, any_span, resource_span, resource_in, response_span, kind_of_url, type_url, response_of};
+ghost use Rattle.hb_cli.specs.Response.{text_in, any_span, resource_span, resource_in, response_span};
+ghost use Rattle.hb_cli.specs.Response.{kind_of_url, type_url, response_of};
 
 use hb_base::{Bytes, List, Or, Text};
-use hb_records::{Message, read_message};
+use hb_records::{Message, read_message, read_whole};
 use hb_wire::{Field, FieldValue, WireFault};
 use std::alloc::Global;
 
@@ -27,13 +28,19 @@ pub enum Kind {
     Authorization,
 }
 
+/// A record and its type (Protocol Buffers, google.protobuf.Any).
+#[derive(Drop)]
+pub struct Any {
+    pub type_url: Text,
+    pub value: Bytes,
+}
+
 /// A resource of a response: its name, its version, and its record with the record's type.
 #[derive(Drop)]
 pub struct Resource {
     pub name: Text,
     pub version: Text,
-    pub type_url: Text,
-    pub value: Bytes,
+    pub any: Any,
 }
 
 /// A response: resources that are added or replaced, and names that are removed.
@@ -43,21 +50,6 @@ pub struct Response {
     pub resources: List<Resource>,
     pub removed: List<Text>,
     pub nonce: Text,
-}
-
-/// A record and its type (Protocol Buffers, google.protobuf.Any).
-#[derive(Drop)]
-struct Any {
-    type_url: Text,
-    value: Bytes,
-}
-
-/// The parts of a resource as far as its fields were read.
-#[derive(Drop)]
-struct ResourceParts {
-    name: Text,
-    version: Text,
-    any: Any,
 }
 
 /// The parts of a response as far as its fields were read.
@@ -106,6 +98,27 @@ fn read_text(alloc: Global, field: u32, bytes: &[u8]) -> Result<Text, Or<Respons
     }
 }
 
+/// A string field, put in the place of a text.
+fn take_text(
+    alloc: Global,
+    field: u32,
+    bytes: &[u8],
+    text: &mut Text,
+) -> Result<(), Or<ResponseFault>>
+    ensures { Merges (text_in field bytes.now) text.new result }
+{
+    *text = read_text(alloc, field, bytes)?;
+    Ok(())
+}
+
+/// One more item of a repeated field.
+fn add<T: Drop>(items: &mut List<T>, item: T) -> Result<(), Or<ResponseFault>>
+    ensures { Merges (Ok (items.old ++ item ∷ [])) items.new result }
+{
+    items.push(item)?;
+    Ok(())
+}
+
 impl Message for Any {
     ghost use Rattle.hb_cli.specs.declared.response.ResponseFault.TheVariants.{Wire};
     ghost use Rattle.hb_cli.specs.Response.{any_merged};
@@ -138,15 +151,17 @@ impl Any {
         ensures { Merges (any_span self.old number bytes.now) self.new result }
     {
         match number {
-            1 => self.type_url = read_text(alloc, 1, bytes)?,
-            2 => self.value = Bytes::of(alloc, bytes)?,
-            _ => {}
+            1 => take_text(alloc, 1, bytes, &mut self.type_url),
+            2 => {
+                self.value = Bytes::of(alloc, bytes)?;
+                Ok(())
+            }
+            _ => Ok(()),
         }
-        Ok(())
     }
 }
 
-impl Message for ResourceParts {
+impl Message for Resource {
     ghost use Rattle.hb_cli.specs.declared.response.ResponseFault.TheVariants.{Wire};
     ghost use Rattle.hb_cli.specs.Response.{resource_merged};
 
@@ -168,7 +183,7 @@ impl Message for ResourceParts {
     }
 }
 
-impl ResourceParts {
+impl Resource {
     fn take_span(
         &mut self,
         alloc: Global,
@@ -180,12 +195,11 @@ impl ResourceParts {
         ensures { Merges (resource_span self.old number at bytes.now) self.new result }
     {
         match number {
-            1 => self.version = read_text(alloc, 1, bytes)?,
-            2 => read_message(alloc, bytes, at, &mut self.any)?,
-            3 => self.name = read_text(alloc, 3, bytes)?,
-            _ => {}
+            1 => take_text(alloc, 1, bytes, &mut self.version),
+            2 => read_message(alloc, bytes, at, &mut self.any),
+            3 => take_text(alloc, 3, bytes, &mut self.name),
+            _ => Ok(()),
         }
-        Ok(())
     }
 }
 
@@ -195,21 +209,16 @@ fn read_resource(alloc: Global, at: usize, bytes: &[u8]) -> Result<Resource, Or<
     requires { at + length bytes.now < 2 ^ 64 }
     ensures { Answers result (resource_in at bytes.now) }
 {
-    let mut parts = ResourceParts {
+    let value = Bytes::of(alloc, b"")?;
+    let unread = Resource {
         name: Text::empty(alloc),
         version: Text::empty(alloc),
         any: Any {
             type_url: Text::empty(alloc),
-            value: Bytes::of(alloc, b"")?,
+            value,
         },
     };
-    read_message(alloc, bytes, at, &mut parts)?;
-    Ok(Resource {
-        name: parts.name,
-        version: parts.version,
-        type_url: parts.any.type_url,
-        value: parts.any.value,
-    })
+    read_whole(alloc, bytes, at, unread)
 }
 
 impl Message for Parts {
@@ -248,14 +257,14 @@ impl Parts {
         match number {
             1 => {
                 let _system_version = read_text(alloc, 1, bytes)?;
+                Ok(())
             }
-            2 => self.resources.push(read_resource(alloc, at, bytes)?)?,
-            4 => self.type_url = read_text(alloc, 4, bytes)?,
-            5 => self.nonce = read_text(alloc, 5, bytes)?,
-            6 => self.removed.push(read_text(alloc, 6, bytes)?)?,
-            _ => {}
+            2 => add(&mut self.resources, read_resource(alloc, at, bytes)?),
+            4 => take_text(alloc, 4, bytes, &mut self.type_url),
+            5 => take_text(alloc, 5, bytes, &mut self.nonce),
+            6 => add(&mut self.removed, read_text(alloc, 6, bytes)?),
+            _ => Ok(()),
         }
-        Ok(())
     }
 }
 
@@ -264,13 +273,13 @@ impl Parts {
 pub fn read_response(alloc: Global, bytes: &[u8]) -> Result<Response, Or<ResponseFault>>
     ensures { Answers result (response_of bytes.now) }
 {
-    let mut parts = Parts {
+    let unread = Parts {
         resources: List::new(alloc),
         type_url: Text::empty(alloc),
         nonce: Text::empty(alloc),
         removed: List::new(alloc),
     };
-    read_message(alloc, bytes, 0, &mut parts)?;
+    let parts = read_whole(alloc, bytes, 0, unread)?;
     let kind = match read_kind(parts.type_url.as_slice()) {
         Ok(kind) => kind,
         Err(fault) => return Err(Or::Fault(fault)),
