@@ -1,7 +1,7 @@
 -- What is written, one piece after another.
 use Rattle.std.proofs.Common.{◌≡◌, ℕ, zero, suc, ◌+◌, ◌-◌, ◌/◌, ◌%◌, ◌<◌, ◌≤◌, List, [], ◌∷◌, ◌++◌, refl, sym, ap, subst, ◌∙◌, arith, append_assoc, take, drop, get_or, length}
 use Rattle.std.specs.List.{flat_map}
-use Rattle.std.proofs.lemmas.List.{drop_more, take-append-drop}
+use Rattle.std.proofs.lemmas.List.{drop_more, take_more, take-append-drop, append-nil}
 use Rattle.std.proofs.lemmas.List.Concat.{flat_map-append}
 use Rattle.std.proofs.lemmas.Bool.{lt-ltb, le-ltb}
 use Rattle.hb_hpack.specs.Fronts.{IsFrontOf}
@@ -56,3 +56,14 @@ err_at f old mid new xs i x lt at e g =
     let regroup : (flat_map f (take i xs) ++ f x) ++ flat_map f (drop (i + 1) xs) ≡ flat_map f xs =
     append_assoc (flat_map f (take i xs)) (f x) (flat_map f (drop (i + 1) xs)) ∙ pieces in
     subst (λ (ys : List ℕ). IsFrontOf new (old ++ ys)) regroup goes_on
+
+-- the same, where the piece was written whole
+pub ok_at : {X : Type 0} (f : X → List ℕ) (old mid new : List ℕ) (xs : List X) (i : ℕ) (x : X) → i < length xs → x ≡ get_or xs i x
+    → mid ≡ old ++ flat_map f (take i xs) → new ≡ mid ++ f x
+    → new ≡ old ++ flat_map f (take (i + 1) xs)
+ok_at f old mid new xs i x lt at e g =
+    let last : List _ = x ∷ [] in
+    let more : take (i + 1) xs ≡ take i xs ++ last = take_more xs i x lt ∙ ap (λ (y : _). take i xs ++ y ∷ []) (sym at) in
+    let piece : flat_map f (take (i + 1) xs) ≡ flat_map f (take i xs) ++ f x =
+    ap (flat_map f) more ∙ flat_map-append f (take i xs) last ∙ ap (λ (ys : List ℕ). flat_map f (take i xs) ++ ys) (append-nil (f x)) in
+    ok_then old mid new (flat_map f (take i xs)) (f x) e g ∙ ap (λ (ys : List ℕ). old ++ ys) (sym piece)

@@ -25,7 +25,8 @@ unfolding bits
 bits_small zero n = tt
 bits_small (suc k) n = (omega arith, bits_small k n)
 
-pub append_small : (xs ys : List ℕ) → AllByRecursion (λ b. b < 2) xs → AllByRecursion (λ b. b < 2) ys → AllByRecursion (λ b. b < 2) (xs ++ ys)
+pub append_small : (xs ys : List ℕ) → AllByRecursion (λ b. b < 2) xs → AllByRecursion (λ b. b < 2) ys
+    → AllByRecursion (λ b. b < 2) (xs ++ ys)
 append_small [] ys p q = q
 append_small (x ∷ xs) ys p q = (p.0, append_small xs ys p.1 q)
 

@@ -4,7 +4,7 @@ use Rattle.std.proofs.lemmas.Bool.{not-true, eqb-true, cases_lt, cases_eq, eq-eq
 use Rattle.hb_hpack.specs.declared.code_table.Row.{Row}
 use Rattle.hb_hpack.specs.Huffman.{are_ones, Word, words, word_among, symbol_among, symbol_of, word, bits, lengths, ordered, numbers_from, words_from, bits_of_word}
 use Rattle.hb_hpack.proofs.Bits.{bits_split}
-use Rattle.hb_hpack.specs.Tables.{row_at, symbol_at, code_at, short_at}
+use Rattle.hb_hpack.specs.CodeTables.{row_at, symbol_at, code_at, short_at}
 
 -- the test holds of each number below n
 unfoldable pub all_below : ℕ → (ℕ → Bool) → Bool
@@ -48,18 +48,22 @@ rows_hold_test : rows_hold words ≡ true
 unfolding all_below row_at symbol_at words word_among words_from ordered numbers_from lengths
 rows_hold_test = refl
 
+-- where a symbol's word is, as a test of its row
+abbrev is_entry : Row → Word → ℕ → Bool
+is_entry row w symbol =
+    leb 1 w.length && leb w.length 30 && leb row.first w.code && ltb w.code row.limit
+    && eqb (symbol_at (row.place + (w.code - row.first))) symbol
+
 -- what a symbol's word is, as a test of the tables
-abbrev is_entry : Option Word → ℕ → Bool
-is_entry None symbol = false
-is_entry (Some w) symbol =
-    leb 1 w.length && leb w.length 30 && leb (row_at w.length).first w.code && ltb w.code (row_at w.length).limit
-    && eqb (symbol_at ((row_at w.length).place + (w.code - (row_at w.length).first))) symbol
+abbrev is_known : Option Word → ℕ → Bool
+is_known None symbol = false
+is_known (Some w) symbol = is_entry (row_at w.length) w symbol && is_word (Some w) (code_at symbol).length (code_at symbol).bits
 
 abbrev symbols_hold : List Word → Bool
-symbols_hold ws = all_below 257 (λ s. is_entry (word_among s ws) s)
+symbols_hold ws = all_below 257 (λ s. is_known (word_among s ws) s)
 
 symbols_hold_test : symbols_hold words ≡ true
-unfolding all_below row_at symbol_at words word_among words_from ordered numbers_from lengths
+unfolding all_below row_at code_at symbol_at words word_among words_from ordered numbers_from lengths
 symbols_hold_test = refl
 
 -- no shorter word begins a word
@@ -130,11 +134,11 @@ pub record HasWord (symbol : ℕ) : Type 0 where
   pub symbol_is : symbol_at ((row_at length).place + (code - (row_at length).first)) ≡ symbol
   pub word_is : word symbol ≡ bits length code
 
-has_word_of : (s : ℕ) (o : Option Word) → word_among s words ≡ o → is_entry o s ≡ true → HasWord s
+has_word_of : (s : ℕ) (o : Option Word) → word_among s words ≡ o → is_known o s ≡ true → HasWord s
 unfolding word bits_of_word
 has_word_of s None e h = absurd cc
 has_word_of s (Some w) e h =
-    let p = both _ _ h in
+    let p = both _ _ (both _ _ h).0 in
     let q = both _ _ p.0 in
     let r = both _ _ q.0 in
     let t = both _ _ r.0 in
@@ -150,20 +154,17 @@ has_word_of s (Some w) e h =
     }
 
 pub has_word : (s : ℕ) → s < 257 → HasWord s
-has_word s lt = has_word_of s (word_among s words) refl (at_below 257 (λ s. is_entry (word_among s words) s) symbols_hold_test s lt)
+has_word s lt = has_word_of s (word_among s words) refl (at_below 257 (λ s. is_known (word_among s words) s) symbols_hold_test s lt)
 
-abbrev words_test : List Word → Bool
-words_test ws = all_below 256 (λ s. is_word (word_among s ws) (code_at s).length (code_at s).bits)
-
-codes_test : words_test words ≡ true
-unfolding all_below code_at words word_among words_from ordered numbers_from lengths
-codes_test = refl
+is_known_word : (o : Option Word) (s : ℕ) → is_known o s ≡ true → is_word o (code_at s).length (code_at s).bits ≡ true
+is_known_word None s h = absurd cc
+is_known_word (Some w) s h = (both _ _ h).1
 
 -- the table has each symbol's word
 pub code_is_word : (s : ℕ) → s < 256 → bits (code_at s).length (code_at s).bits ≡ word s
 unfolding word
 code_is_word s lt = sym (is_word_bits _ _ _
-    (at_below 256 (λ s. is_word (word_among s words) (code_at s).length (code_at s).bits) codes_test s lt))
+    (is_known_word (word_among s words) s (at_below 257 (λ s. is_known (word_among s words) s) symbols_hold_test s (omega arith))))
 
 lengths_test : all_below 256 (λ s. leb (code_at s).length 30) ≡ true
 unfolding all_below code_at

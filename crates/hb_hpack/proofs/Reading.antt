@@ -6,7 +6,7 @@ use Rattle.std.proofs.lemmas.List.{append-nil}
 use Rattle.std.proofs.lemmas.Nat.{le-div, pow_pos}
 use Rattle.std.proofs.Math.Nat.{div-eq_of_lt}
 use Rattle.hb_hpack.specs.Huffman.{are_ones, IsPrefixFree, bits, word, AreBitsOf, Spells, bits_of}
-use Rattle.hb_hpack.specs.Tables.{row_at, symbol_at}
+use Rattle.hb_hpack.specs.CodeTables.{row_at, symbol_at}
 use Rattle.hb_hpack.specs.HuffmanSteps.{in_front, text_from, text_of}
 use Rattle.hb_hpack.proofs.CodeTable.{row_follows_at, last_limit, limit_below, word_of_code, symbols_small, HasWord, has_word, last_is_ones, others_are_not, both, symbol_found, no_symbol, padding_past}
 use Rattle.hb_hpack.proofs.Bits.{bits_push, bits_small, append_small, next_bit, bits_of_ones}

@@ -5,7 +5,7 @@ use Rattle.std.proofs.lemmas.List.{append-nil}
 use Rattle.std.proofs.lemmas.Nat.{pow_pos}
 use Rattle.std.proofs.Math.Nat.{pow-le-pow_right}
 use Rattle.std.proofs.Math.Pow.{shr_lt}
-use Rattle.hb_hpack.specs.Tables.{row_at, symbol_at}
+use Rattle.hb_hpack.specs.CodeTables.{row_at, symbol_at}
 use Rattle.hb_hpack.specs.Huffman.{bits, bits_of, word}
 use Rattle.hb_hpack.specs.HuffmanSteps.{in_front, text_from, text_of}
 use Rattle.hb_hpack.specs.Partial.{after_text, IsInFront}

@@ -1,5 +1,5 @@
 -- The bytes that are written spell the text.
-use Rattle.std.proofs.Common.{◌≡◌, ℕ, zero, suc, ◌+◌, ◌-◌, ◌*◌, ◌^◌, ◌<◌, ◌≤◌, List, [], ◌∷◌, ◌++◌, Option, Some, None, refl, sym, ap, ◌∙◌, arith, append_assoc, get_or, replicate, inl, inr}
+use Rattle.std.proofs.Common.{◌≡◌, ℕ, zero, suc, ◌+◌, ◌-◌, ◌*◌, ◌^◌, ◌<◌, ◌≤◌, List, [], ◌∷◌, ◌++◌, Option, Some, None, refl, sym, ap, ◌∙◌, arith, append_assoc, get_or, replicate, inl, inr, Result, Ok, Err, OnOk, OnErr}
 use Rattle.std.specs.List.{flat_map, AllByRecursion}
 use Rattle.std.proofs.lemmas.Bool.{cases_eq, eq-eqb, ne_eqb}
 use Rattle.std.proofs.Math.Nat.{pow-le-pow_right}
@@ -129,6 +129,18 @@ longer_more a b c p q = (p.0 ++ q.0, q.1 ∙ ap (λ (xs : List ℕ). xs ++ q.0) 
 
 pub longer_same : (a : List ℕ) → IsFrontOf a a
 longer_same a = ([], sym (append-nil a))
+
+longer_by : (a b c rest : List ℕ) → IsFrontOf a b → c ≡ b ++ rest → IsFrontOf a c
+longer_by a b c rest p e = longer_more a b c p (rest, e)
+
+longer_then : (a b c : List ℕ) → IsFrontOf a b → c ≡ b → IsFrontOf a c
+longer_then a b c p e = longer_by a b c [] p (e ∙ sym (append-nil b))
+
+-- more only where it was written
+pub longer_if : {T E : Type 0} (r : Result T E) (a b c rest : List ℕ) → IsFrontOf a b → OnOk r (c ≡ b ++ rest) → OnErr r (c ≡ b)
+    → IsFrontOf a c
+longer_if (Ok x) a b c rest p ok err = longer_by a b c rest p ok
+longer_if (Err x) a b c rest p ok err = longer_then a b c p err
 
 -- ---- a byte in the making
 

@@ -1,6 +1,6 @@
 pub mod Fronts
 pub mod Huffman
-pub mod Tables
+pub mod CodeTables
 pub mod HuffmanSteps
 pub mod Partial
 pub mod Outcome

@@ -1,7 +1,7 @@
 //! The Huffman code (RFC 7541 Appendix B) as the reader and the writer need it.
 
 ghost use Rattle.std.specs.Prelude.{◌≡◌, ◌<◌, ◌≤◌};
-ghost use Rattle.hb_hpack.specs.Tables.{row_at, symbol_at, code_at, short_at};
+ghost use Rattle.hb_hpack.specs.CodeTables.{row_at, symbol_at, code_at, short_at};
 
 use crate::partial::Found;
 
@@ -163,7 +163,7 @@ pub static SHORT_SYMBOLS: [u8; 256] = [
 ];
 
 /// The words of a length.
-#[tactic(auto, unfolding(crate::specs::Tables::row_at))]
+#[tactic(auto, unfolding(crate::specs::CodeTables::row_at))]
 pub fn row_at(length: u64) -> Row
     requires { length ≤ LONGEST }
     ensures { result ≡ row_at length }
@@ -177,7 +177,7 @@ pub fn row_at(length: u64) -> Row
 }
 
 /// The symbol at a place of the order.
-#[tactic(auto, unfolding(crate::specs::Tables::symbol_at))]
+#[tactic(auto, unfolding(crate::specs::CodeTables::symbol_at))]
 pub fn symbol_at(place: usize) -> u16
     requires { place < 257 }
     ensures { result ≡ symbol_at place }
@@ -186,7 +186,7 @@ pub fn symbol_at(place: usize) -> u16
 }
 
 /// The word of an octet.
-#[tactic(auto, unfolding(crate::specs::Tables::code_at))]
+#[tactic(auto, unfolding(crate::specs::CodeTables::code_at))]
 pub fn code_at(symbol: u8) -> Code
     ensures { result ≡ code_at symbol }
 {
@@ -198,7 +198,7 @@ pub fn code_at(symbol: u8) -> Code
 }
 
 /// The word in front of these eight bits, where it has at most eight; else its length is 0.
-#[tactic(auto, unfolding(crate::specs::Tables::short_at))]
+#[tactic(auto, unfolding(crate::specs::CodeTables::short_at))]
 pub fn short_at(front: u8) -> Found
     ensures { result ≡ short_at front }
 {

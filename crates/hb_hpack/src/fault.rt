@@ -3,7 +3,7 @@
 use thiserror::Error;
 
 /// Why a header block can't be read (RFC 7541). Each is a connection error of type COMPRESSION_ERROR.
-#[derive(Clone, Copy, Debug, PartialEq, Eq, Error)]
+#[derive(Clone, Copy, Debug, Error)]
 pub enum HpackWhy {
     /// An index that is 0 or has no entry (section 2.3.3).
     #[error("no entry has this index")]
@@ -27,7 +27,7 @@ pub enum HpackWhy {
 
 /// The fault of a block, and the offset in it of the byte that makes it: for `Truncated` the block's length,
 /// for `BadHuffman` the byte that has the string's Huffman bit.
-#[derive(Clone, Copy, Debug, PartialEq, Eq, Error)]
+#[derive(Clone, Copy, Debug, Error)]
 #[error("{why}, at byte {at}")]
 pub struct HpackFault {
     pub at: usize,

@@ -9,7 +9,7 @@ use hb_base::{Bytes, List, NoMemory};
 use std::alloc::Global;
 
 /// A header: a name and a value, any bytes.
-#[derive(Debug, Drop)]
+#[derive(Drop)]
 pub struct Header {
     pub name: Bytes,
     pub value: Bytes,
@@ -18,7 +18,7 @@ pub struct Header {
 /// The headers of a block. `size` is the sum of their sizes, each the bytes of name and value and 32
 /// (RFC 7541 section 4.1), or 18,446,744,073,709,551,615 where it is more. `kept` are the headers in order,
 /// the longest front whose sizes sum to at most 16,384.
-#[derive(Debug, Drop)]
+#[derive(Drop)]
 pub struct HeaderList {
     pub kept: List<Header>,
     pub size: u64,

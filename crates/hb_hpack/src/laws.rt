@@ -12,7 +12,8 @@ ghost use Rattle.hb_hpack.specs.declared.header.Header.{Header};
 /// one table, or it is broken at one place by one fault.
 pub fn a_block_is_read_or_broken()
     ensures either { (table : Table) (block : List ℕ) → AllByRecursion (λ b. b < 256) block
-        → ((headers : List Header) × (next : Table) × Reads table block headers next) ⊎ ((at : ℕ) × (why : HpackWhy) × BreaksAt table block at why) }
+        → ((headers : List Header) × (next : Table) × Reads table block headers next)
+        ⊎ ((at : ℕ) × (why : HpackWhy) × BreaksAt table block at why) }
     ensures apart { (table : Table) (block : List ℕ) (headers : List Header) (next : Table) (at : ℕ) (why : HpackWhy)
         → Reads table block headers next → BreaksAt table block at why → ⊥ }
     ensures one_reading { (table : Table) (block : List ℕ) (headers others : List Header) (next last : Table)

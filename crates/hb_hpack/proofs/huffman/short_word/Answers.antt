@@ -1,5 +1,5 @@
 use Rattle.std.proofs.Common.{◌-◌, ◌/◌, ◌%◌, ◌<◌, ◌^◌, arith}
-use Rattle.hb_hpack.specs.Tables.{short_at}
+use Rattle.hb_hpack.specs.CodeTables.{short_at}
 use Rattle.hb_hpack.proofs.CodeTable.{IsShort, short_is}
 use Rattle.hb_hpack.proofs.Taking.{short_begins}
 use Rattle.hb_hpack.proofs.huffman.short_word.Goals as goal

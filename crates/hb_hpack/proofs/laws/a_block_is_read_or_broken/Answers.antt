@@ -8,7 +8,8 @@ pub returns-clause-apart : goal.returns-clause-apart
 returns-clause-apart c = λ table block headers next at why reads breaks. apart table block headers next at why reads breaks
 
 pub returns-clause-one_reading : goal.returns-clause-one_reading
-returns-clause-one_reading c = λ table block headers others next last first second. one_reading table block headers others next last first second
+returns-clause-one_reading c = λ table block headers others next last first second.
+    one_reading table block headers others next last first second
 
 pub returns-clause-one_fault : goal.returns-clause-one_fault
 returns-clause-one_fault c = λ table block at place why other first second. one_fault table block at place why other first second

@@ -1,4 +1,4 @@
--- What the tables of the Huffman code have, by length, symbol and place.
+-- What the tables of the Huffman code have, by length, symbol, place and front.
 use Rattle.std.specs.Prelude.{ℕ, slice_index_or}
 use Rattle.hb_hpack.specs.declared.partial.Found.{Found}
 use Rattle.hb_hpack.specs.declared.code_table.Code.{Code}
