@@ -1,16 +1,16 @@
 //! Header blocks that are read, and that are refused.
 
-use crate::hex::{octets_behind, octets_of};
+use crate::hex::octets_of;
 use crate::hpack_vectors;
+use crate::told::{assert_told, cut};
 use hb_base::Or;
-use hb_hpack::{Decoder, Header};
-use std::alloc::{AllocError, Global};
+use hb_hpack::{Decoder, Header, HeaderList, HpackFault};
+use std::alloc::Global;
 use std::process::Abort;
-use std::test::Fail;
 
 /// The examples of RFC 7541 Appendix C.1 to C.6, and refused blocks whose places were counted by hand. The lines are
 /// those of hpack_vectors.rt; one that begins with `#` says what the next ones are, and `-` is a block of no octets.
-const EXAMPLES: &str = "\
+const EXAMPLES: &[u8] = b"\
 # Single representations, C.2.
 n
 r 400a637573746f6d2d6b65790d637573746f6d2d686561646572 55 55 |custom-key|custom-header
@@ -97,122 +97,128 @@ n
 f 823fe11f 1 6";
 
 /// How many blocks were read, and how many refused.
-#[derive(Clone, Copy, Debug, PartialEq, Eq)]
+#[derive(Clone, Copy)]
 struct Counts {
     read: u64,
     refused: u64,
 }
 
+impl Counts {
+    /// Counts a line of the tables.
+    fn add(&mut self, line: &str) {
+        if line.starts_with('r') {
+            self.read = self.read.saturating_add(1);
+        } else {
+            self.refused = self.refused.saturating_add(1);
+        }
+    }
+}
+
 /// Whether the tables show the octet as it is.
 fn is_plain(octet: u8) -> bool {
-    33 <= octet && octet < 127 && !matches!(octet, b'"' | b'\\' | b'%' | b'|')
+    octet.is_ascii_graphic() && !b"\"\\%|".contains(&octet)
 }
 
 /// Appends a text, with `%` and two digits for each octet that isn't printed or has a meaning in the tables.
-fn show(shown: &mut String, text: &[u8]) -> Result<(), AllocError> {
+fn show(rt: &impl Abort, shown: &mut String, text: &[u8]) {
     for octet in text {
         if is_plain(*octet) {
-            shown.push(char::from(*octet))?;
+            shown.push(char::from(*octet)).expect(rt, "memory");
         } else {
-            write!(shown, "%{octet:02x}")?;
+            write!(shown, "%{octet:02x}").expect(rt, "memory");
         }
     }
-    Ok(())
 }
 
 /// The headers as the tables have them.
-pub fn shown_of(alloc: Global, headers: &[Header]) -> Result<String, AllocError> {
+pub fn shown_of(rt: &impl Abort, alloc: Global, headers: &[Header]) -> String {
     let mut shown = String::new(alloc);
     for header in headers {
-        shown.push('|')?;
-        show(&mut shown, header.name.as_slice())?;
-        shown.push('|')?;
-        show(&mut shown, header.value.as_slice())?;
+        shown.push('|').expect(rt, "memory");
+        show(rt, &mut shown, header.name.as_slice());
+        shown.push('|').expect(rt, "memory");
+        show(rt, &mut shown, header.value.as_slice());
     }
     if shown.is_empty() {
-        shown.push('-')?;
+        shown.push('-').expect(rt, "memory");
     }
-    Ok(shown)
+    shown
 }
 
-/// What the decoder tells of a block, as the tables have it behind the block.
-pub fn told_of(alloc: Global, decoder: &mut Decoder, block: &[u8]) -> Result<String, AllocError> {
-    match decoder.block(block) {
-        Ok(list) => {
-            let shown = shown_of(alloc, list.kept.as_slice())?;
-            format!(in alloc; "r {} {} {shown}", list.size, decoder.table_size())
-        }
-        Err(Or::Fault(fault)) => { format!(in alloc; "f {} {}", fault.at, fault.why as u8 + 1) }
-        Err(Or::NoMemory) => Err(AllocError),
-    }
+fn told_of_list(
+    rt: &impl Abort,
+    alloc: Global,
+    words: &str,
+    list: &HeaderList,
+    table: usize,
+) -> String {
+    let shown = shown_of(rt, alloc, list.kept.as_slice());
+    format!(in alloc; "r {words} {} {table} {shown}", list.size).expect(rt, "memory")
 }
 
-/// Reads the block of a line and compares what is told. Says whether the block is one that is read.
-fn assert_told(
+fn told_of_fault(rt: &impl Abort, alloc: Global, words: &str, fault: HpackFault) -> String {
+    format!(in alloc; "f {words} {} {}", fault.at, fault.why as u8 + 1).expect(rt, "memory")
+}
+
+/// What the decoder tells of a block, as the tables have it, where `words` stand for the block.
+pub fn told_of(
     rt: &impl Abort,
     alloc: Global,
     decoder: &mut Decoder,
-    line: &str,
-) -> Result<bool, AllocError> {
-    let mut parts = line.splitn(3, ' ');
-    let kind = parts.next().unwrap_or("");
-    let digits = parts.next().unwrap_or("");
-    let rest = parts.next().unwrap_or("");
-    let digits = if digits == "-" { "" } else { digits };
-    let block = octets_of(rt, alloc, digits, 1)?;
-    let told = told_of(alloc, decoder, block.as_slice())?;
-    let want = format!(in alloc; "{kind} {rest}")?;
-    assert_eq!(rt; told.as_str(), want.as_str(), "{line}");
-    Ok(kind == "r")
+    words: &str,
+    block: &[u8],
+) -> String {
+    match decoder.block(block) {
+        Ok(list) => told_of_list(rt, alloc, words, &list, decoder.table_size()),
+        Err(Or::Fault(fault)) => told_of_fault(rt, alloc, words, fault),
+        Err(Or::NoMemory) => panic!(rt; "memory"),
+    }
+}
+
+/// The words of the block of a line.
+pub fn block_of(line: &str) -> &str {
+    cut(cut(line, " ").1, " ").0
+}
+
+/// Reads the block of a line and compares what is told.
+pub fn assert_line(rt: &impl Abort, alloc: Global, decoder: &mut Decoder, line: &str) {
+    let words = block_of(line);
+    let block = octets_of(rt, alloc, words.trim_start_matches('-'));
+    let told = told_of(rt, alloc, decoder, words, block.as_slice());
+    assert_told(rt, line, told.as_str(), line);
+}
+
+fn renew(alloc: Global, decoder: &mut Decoder) {
+    *decoder = Decoder::new(alloc);
 }
 
 /// Follows the lines of a table, as the head of hpack_vectors.rt says.
-fn follow(
-    rt: &impl Abort,
-    alloc: Global,
-    table: &str,
-    counts: &mut Counts,
-) -> Result<(), AllocError> {
+fn follow(rt: &impl Abort, alloc: Global, table: &[u8], counts: &mut Counts) {
     let mut decoder = Decoder::new(alloc);
-    for line in table.lines() {
+    for line in std::str::from_utf8(table).unwrap_or("no text").lines() {
         if line == "n" {
-            decoder = Decoder::new(alloc);
+            renew(alloc, &mut decoder);
         } else if !line.starts_with('#') {
-            if assert_told(rt, alloc, &mut decoder, line)? {
-                counts.read = counts.read.saturating_add(1);
-            } else {
-                counts.refused = counts.refused.saturating_add(1);
-            }
+            assert_line(rt, alloc, &mut decoder, line);
+            counts.add(line);
         }
     }
-    Ok(())
 }
 
-fn assert_follows(
-    rt: &impl Abort,
-    alloc: Global,
-    tables: &[&str],
-    want: Counts,
-) -> Result<(), AllocError> {
+fn assert_follows(rt: &impl Abort, alloc: Global, tables: &[&[u8]], want: Counts) {
     let mut counts = Counts {
         read: 0,
         refused: 0,
     };
     for table in tables {
-        follow(rt, alloc, table, &mut counts)?;
+        follow(rt, alloc, table, &mut counts);
     }
-    assert_eq!(rt; counts, want);
-    Ok(())
+    assert!(rt; counts.read == want.read && counts.refused == want.refused);
 }
 
-#[test]
-fn blocks_are_read_and_refused_as_elsewhere(rt: HostRuntime) -> Result<(), Fail> {
-    let examples = Counts {
-        read: 21,
-        refused: 15,
-    };
-    assert_follows(&rt, rt.alloc(), &[EXAMPLES], examples)?;
-    let tables = [
+/// The parts of the table that nghttp2 made.
+fn tables() -> [&'static [u8]; 12] {
+    [
         hpack_vectors::PART_1,
         hpack_vectors::PART_2,
         hpack_vectors::PART_3,
@@ -225,127 +231,64 @@ fn blocks_are_read_and_refused_as_elsewhere(rt: HostRuntime) -> Result<(), Fail>
         hpack_vectors::PART_10,
         hpack_vectors::PART_11,
         hpack_vectors::PART_12,
-    ];
+    ]
+}
+
+#[test]
+fn blocks_are_read_and_refused_as_elsewhere(rt: HostRuntime) {
+    let examples = Counts {
+        read: 21,
+        refused: 15,
+    };
+    assert_follows(&rt, rt.alloc(), &[EXAMPLES], examples);
     let vectors = Counts {
         read: 271,
         refused: 210,
     };
-    assert_follows(&rt, rt.alloc(), &tables, vectors)?;
-    Ok(())
+    assert_follows(&rt, rt.alloc(), &tables(), vectors);
 }
 
-/// A block of a front, an octet sequence so many times, and a back; and its list's size, how many headers are kept,
-/// and the table's size behind it.
-struct Large {
-    front: &'static str,
-    repeated: &'static str,
-    times: usize,
-    back: &'static str,
-    size: u64,
-    kept: usize,
-    table: usize,
-}
+/// Blocks and lists at their limits: the words of a block, its list's size, how many headers are kept, and the table's
+/// size behind it.
+const LARGE: &str = "\
+# 32,768 indexes, of which 390 headers of 42 sum to at most 16,384.
+82*32768; 1376256 390 0
+# A value of 32,762 octets, in a block of 32,768.
+00007ffbfe01 76*32762; 32794 0 0
+# 512 headers whose sizes sum to 16,384, and to one more by the last and by the first.
+000000*512; 16384 512 0
+000000*511 00000161; 16385 511 0
+00000161 000000*511; 16385 511 0
+# One header whose size is 16,384, and one more.
+00007fe17e 76*16352; 16384 1 0
+00007fe27e 76*16353; 16385 0 0
+# A header of 4,033, which enters the table, itself four times more, and a short one behind the list's limit.
+4001617fa11e 76*4000 bebebebe82; 20207 4 4033";
 
-/// Blocks and lists at their limits.
-static LARGE: [Large; 8] = [
-    // 32,768 indexes, of which 390 headers of 42 sum to at most 16,384.
-    Large {
-        front: "",
-        repeated: "82",
-        times: 32_768,
-        back: "",
-        size: 1_376_256,
-        kept: 390,
-        table: 0,
-    },
-    // A value of 32,762 octets, in a block of 32,768.
-    Large {
-        front: "00007ffbfe01",
-        repeated: "76",
-        times: 32_762,
-        back: "",
-        size: 32_794,
-        kept: 0,
-        table: 0,
-    },
-    // 512 headers whose sizes sum to 16,384, and to one more by the last and by the first.
-    Large {
-        front: "",
-        repeated: "000000",
-        times: 512,
-        back: "",
-        size: 16_384,
-        kept: 512,
-        table: 0,
-    },
-    Large {
-        front: "",
-        repeated: "000000",
-        times: 511,
-        back: "00000161",
-        size: 16_385,
-        kept: 511,
-        table: 0,
-    },
-    Large {
-        front: "00000161",
-        repeated: "000000",
-        times: 511,
-        back: "",
-        size: 16_385,
-        kept: 511,
-        table: 0,
-    },
-    // One header whose size is 16,384, and one more.
-    Large {
-        front: "00007fe17e",
-        repeated: "76",
-        times: 16_352,
-        back: "",
-        size: 16_384,
-        kept: 1,
-        table: 0,
-    },
-    Large {
-        front: "00007fe27e",
-        repeated: "76",
-        times: 16_353,
-        back: "",
-        size: 16_385,
-        kept: 0,
-        table: 0,
-    },
-    // A header of 4,033, which enters the table, itself four times more, and a short one behind the list's limit.
-    Large {
-        front: "4001617fa11e",
-        repeated: "76",
-        times: 4_000,
-        back: "bebebebe82",
-        size: 20_207,
-        kept: 4,
-        table: 4_033,
-    },
-];
-
-fn assert_large(rt: &impl Abort, alloc: Global, row: &Large) -> Result<(), AllocError> {
-    let mut block = octets_behind(rt, alloc, row.front, row.repeated, row.times)?;
-    block.extend_from_slice(octets_of(rt, alloc, row.back, 1)?.as_slice())?;
+/// What the decoder tells of a large block.
+fn told_of_large(rt: &impl Abort, alloc: Global, block: &[u8]) -> String {
     let mut decoder = Decoder::new(alloc);
-    match decoder.block(block.as_slice()) {
+    match decoder.block(block) {
         Ok(list) => {
-            assert_eq!(rt; list.size, row.size);
-            assert_eq!(rt; list.kept.len(), row.kept);
+            let (size, kept) = (list.size, list.kept.len());
+            format!(in alloc; "{size} {kept} {}", decoder.table_size()).expect(rt, "memory")
         }
-        Err(_) => panic!(rt; "a block is refused, whose list has the size {}", row.size),
+        Err(_) => panic!(rt; "a large block is refused"),
     }
-    assert_eq!(rt; decoder.table_size(), row.table);
-    Ok(())
+}
+
+fn assert_large(rt: &impl Abort, alloc: Global, row: &str) {
+    let (words, want) = cut(row, "; ");
+    let block = octets_of(rt, alloc, words);
+    let told = told_of_large(rt, alloc, block.as_slice());
+    assert_told(rt, row, told.as_str(), want);
 }
 
 #[test]
-fn a_list_keeps_its_longest_front(rt: HostRuntime) -> Result<(), Fail> {
-    for row in &LARGE {
-        assert_large(&rt, rt.alloc(), row)?;
+fn a_list_keeps_its_longest_front(rt: HostRuntime) {
+    for row in LARGE.lines() {
+        if !row.starts_with('#') {
+            assert_large(&rt, rt.alloc(), row);
+        }
     }
-    Ok(())
 }

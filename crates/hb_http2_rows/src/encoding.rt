@@ -1,19 +1,18 @@
 //! Header blocks that are written, and read back.
 
-ghost use Rattle.std.specs.Prelude.{◌≤◌, ◌<◌};
-
-use crate::blocks::{shown_of, told_of};
-use crate::hex::{octets_behind, octets_of};
+use crate::blocks::{assert_line, block_of, shown_of, told_of};
+use crate::hex::octets_behind;
+use crate::told::{assert_octets, assert_told, cut};
 use hb_base::{Bytes, List};
 use hb_hpack::{Decoder, Encoder, Header, Spelling};
-use std::alloc::{AllocError, Global};
+use std::alloc::Global;
 use std::process::Abort;
-use std::test::Fail;
 
-/// Headers, so many times over, their list's size, and the octets of their representations, as often.
+/// Headers, each a name, `=` and a value, with blanks between, so many times over; their list's size; and the words of
+/// their representations.
 struct Written {
     spelling: Spelling,
-    headers: &'static [(&'static str, &'static str)],
+    headers: &'static str,
     times: usize,
     size: u64,
     kept: usize,
@@ -25,12 +24,7 @@ struct Written {
 static WRITTEN: [Written; 4] = [
     Written {
         spelling: Spelling::Plain,
-        headers: &[
-            (":method", "CONNECT"),
-            (":authority", "www.example.com"),
-            (":method", "GET"),
-            ("x", "y"),
-        ],
+        headers: ":method=CONNECT :authority=www.example.com :method=GET x=y",
         times: 1,
         size: 179,
         kept: 4,
@@ -38,11 +32,7 @@ static WRITTEN: [Written; 4] = [
     },
     Written {
         spelling: Spelling::Huffman,
-        headers: &[
-            (":authority", "www.example.com"),
-            (":method", "GET"),
-            ("x", "y"),
-        ],
+        headers: ":authority=www.example.com :method=GET x=y",
         times: 1,
         size: 133,
         kept: 3,
@@ -51,100 +41,122 @@ static WRITTEN: [Written; 4] = [
     // 512 headers, of which 481 of 34 octets sum to at most 16,384.
     Written {
         spelling: Spelling::Plain,
-        headers: &[("x", "y")],
+        headers: "x=y",
         times: 512,
         size: 17_408,
         kept: 481,
-        block: "0001780179",
+        block: "0001780179*512",
     },
     Written {
         spelling: Spelling::Huffman,
-        headers: &[("x", "y")],
+        headers: "x=y",
         times: 512,
         size: 17_408,
         kept: 481,
-        block: "0081f381f5",
+        block: "0081f381f5*512",
     },
 ];
 
-fn list_of(alloc: Global, row: &Written) -> Result<List<Header>, AllocError> {
-    let mut headers = List::new(alloc);
-    for _ in 0..row.times {
-        for pair in row.headers {
-            let name = Bytes::of(alloc, pair.0.as_bytes())?;
-            let value = Bytes::of(alloc, pair.1.as_bytes())?;
-            headers.push(Header { name, value })?;
-        }
-    }
-    Ok(headers)
+fn bytes_of(rt: &impl Abort, alloc: Global, text: &str) -> Bytes {
+    Bytes::of(alloc, text.as_bytes()).expect(rt, "memory")
 }
 
-fn block_of(
+fn header_of(rt: &impl Abort, alloc: Global, word: &str) -> Header {
+    let (name, value) = cut(word, "=");
+    Header {
+        name: bytes_of(rt, alloc, name),
+        value: bytes_of(rt, alloc, value),
+    }
+}
+
+fn push_headers(rt: &impl Abort, alloc: Global, headers: &mut List<Header>, words: &str) {
+    for word in words.split(' ') {
+        headers
+            .push(header_of(rt, alloc, word))
+            .expect(rt, "memory");
+    }
+}
+
+fn list_of(rt: &impl Abort, alloc: Global, row: &Written) -> List<Header> {
+    let mut headers = List::new(alloc);
+    for _ in 0..row.times {
+        push_headers(rt, alloc, &mut headers, row.headers);
+    }
+    headers
+}
+
+fn written_of(
+    rt: &impl Abort,
     alloc: Global,
     encoder: &mut Encoder,
     headers: &List<Header>,
-) -> Result<Vec<u8>, AllocError> {
+) -> Vec<u8> {
     let mut block = Vec::new(alloc);
-    encoder.block(alloc, headers, &mut block)?;
-    Ok(block)
+    encoder
+        .block(alloc, headers, &mut block)
+        .expect(rt, "memory");
+    block
 }
 
 /// What a decoder is to tell of the row's block.
-fn told_of_row(
-    rt: &impl Abort,
-    alloc: Global,
-    headers: &List<Header>,
-    row: &Written,
-) -> Result<String, AllocError> {
+fn told_of_row(rt: &impl Abort, alloc: Global, headers: &List<Header>, row: &Written) -> String {
     assert!(rt; row.kept <= headers.len());
-    let shown = shown_of(alloc, &headers.as_slice()[..row.kept])?;
-    format!(in alloc; "r {} 0 {shown}", row.size)
+    let shown = shown_of(rt, alloc, &headers.as_slice()[..row.kept]);
+    format!(in alloc; "r {} {} 0 {shown}", row.block, row.size).expect(rt, "memory")
 }
 
-/// The headers are written as the opening and the row's block, and are read back.
-fn assert_written(
+/// The headers are written as the opening and the row's block.
+fn assert_written(rt: &impl Abort, alloc: Global, opening: &str, row: &Written, block: &[u8]) {
+    let want = octets_behind(rt, alloc, opening, row.block);
+    assert_octets(rt, row.block, block, want.as_slice());
+}
+
+/// The row's block is read back.
+fn assert_read_back(
     rt: &impl Abort,
     alloc: Global,
-    encoder: &mut Encoder,
     decoder: &mut Decoder,
-    opening: &str,
+    headers: &List<Header>,
     row: &Written,
-) -> Result<(), AllocError> {
-    let headers = list_of(alloc, row)?;
-    let block = block_of(alloc, encoder, &headers)?;
-    let want = octets_behind(rt, alloc, opening, row.block, row.times)?;
-    assert!(rt; block.as_slice() == want.as_slice(), "{}", row.block);
-    let want = told_of_row(rt, alloc, &headers, row)?;
-    let told = told_of(alloc, decoder, block.as_slice())?;
-    assert_eq!(rt; told.as_str(), want.as_str());
-    Ok(())
+    block: &[u8],
+) {
+    let want = told_of_row(rt, alloc, headers, row);
+    let told = told_of(rt, alloc, decoder, row.block, block);
+    assert_told(rt, row.block, told.as_str(), want.as_str());
+}
+
+/// The headers are written behind the table's size, and again without it, and are read back.
+fn assert_row(rt: &impl Abort, alloc: Global, row: &Written) {
+    let headers = list_of(rt, alloc, row);
+    let mut encoder = Encoder::new(row.spelling);
+    let mut decoder = Decoder::new(alloc);
+    for opening in ["20", ""] {
+        let block = written_of(rt, alloc, &mut encoder, &headers);
+        assert_written(rt, alloc, opening, row, block.as_slice());
+        assert_read_back(rt, alloc, &mut decoder, &headers, row, block.as_slice());
+    }
 }
 
 #[test]
-fn blocks_are_written_and_read_back(rt: HostRuntime) -> Result<(), Fail> {
+fn blocks_are_written_and_read_back(rt: HostRuntime) {
     for row in &WRITTEN {
-        let mut encoder = Encoder::new(row.spelling);
-        let mut decoder = Decoder::new(rt.alloc());
-        for opening in ["20", ""] {
-            assert_written(&rt, rt.alloc(), &mut encoder, &mut decoder, opening, row)?;
-        }
+        assert_row(&rt, rt.alloc(), row);
     }
-    Ok(())
 }
 
-/// Statuses, and their representations: those of the static table, and others.
-const STATUSES: [(u16, &str); 10] = [
-    (200, "88"),
-    (204, "89"),
-    (206, "8a"),
-    (304, "8b"),
-    (400, "8c"),
-    (404, "8d"),
-    (500, "8e"),
-    (100, "0803313030"),
-    (503, "0803353033"),
-    (999, "0803393939"),
-];
+/// Blocks of statuses as the tables of blocks have them, an empty table's size in front: those of the static table,
+/// and others.
+const STATUSES: &str = "\
+r 2088 42 0 |:status|200
+r 2089 42 0 |:status|204
+r 208a 42 0 |:status|206
+r 208b 42 0 |:status|304
+r 208c 42 0 |:status|400
+r 208d 42 0 |:status|404
+r 208e 42 0 |:status|500
+r 200803313030 42 0 |:status|100
+r 200803353033 42 0 |:status|503
+r 200803393939 42 0 |:status|999";
 
 /// The status is written as these octets at the front, and the others stay.
 fn assert_status(
@@ -152,44 +164,32 @@ fn assert_status(
     alloc: Global,
     encoder: &mut Encoder,
     status: u16,
-    digits: &str,
-) -> Result<(), AllocError>
-    requires low { 100 ≤ status }
-    requires high { status < 1000 }
-{
+    opening: &str,
+    words: &str,
+) {
+    assert!(rt; 100 <= status && status < 1000);
     let mut into = [0xaau8; 9];
     let size = encoder.put_status_block(status, &mut into);
-    let mut want = octets_of(rt, alloc, digits, 1)?;
-    assert_eq!(rt; size, want.len(), "{status}");
-    want.resize(9, 0xaa)?;
-    assert!(rt; into.as_slice() == want.as_slice(), "{status}");
-    Ok(())
+    let mut want = octets_behind(rt, alloc, opening, words);
+    assert!(rt; size == want.len());
+    want.resize(9, 0xaa).expect(rt, "memory");
+    assert_octets(rt, words, into.as_slice(), want.as_slice());
 }
 
-/// The block of the status is read back.
-fn assert_status_read(
-    rt: &impl Abort,
-    alloc: Global,
-    status: u16,
-    digits: &str,
-) -> Result<(), AllocError> {
-    let mut decoder = Decoder::new(alloc);
-    let block = octets_of(rt, alloc, digits, 1)?;
-    let told = told_of(alloc, &mut decoder, block.as_slice())?;
-    let want = format!(in alloc; "r 42 0 |:status|{status}")?;
-    assert_eq!(rt; told.as_str(), want.as_str());
-    Ok(())
+/// The status of a line is written first with the size of the table, and then without, and the line is read back.
+fn assert_statuses(rt: &impl Abort, alloc: Global, line: &str) {
+    let (_, status) = cut(line, "|:status|");
+    let status = status.parse::<u16>().ok().expect(rt, "a status");
+    let (_, words) = cut(block_of(line), "20");
+    let mut encoder = Encoder::new(Spelling::Huffman);
+    assert_status(rt, alloc, &mut encoder, status, "20", words);
+    assert_status(rt, alloc, &mut encoder, status, "", words);
+    assert_line(rt, alloc, &mut Decoder::new(alloc), line)
 }
 
 #[test]
-fn statuses_are_written(rt: HostRuntime) -> Result<(), Fail> {
-    for (status, digits) in STATUSES {
-        let mut encoder = Encoder::new(Spelling::Huffman);
-        let first = format!(in rt.alloc(); "20{digits}")?;
-        assert!(rt; 100 <= status && status < 1000);
-        assert_status(&rt, rt.alloc(), &mut encoder, status, first.as_str())?;
-        assert_status(&rt, rt.alloc(), &mut encoder, status, digits)?;
-        assert_status_read(&rt, rt.alloc(), status, first.as_str())?;
+fn statuses_are_written(rt: HostRuntime) {
+    for line in STATUSES.lines() {
+        assert_statuses(&rt, rt.alloc(), line);
     }
-    Ok(())
 }

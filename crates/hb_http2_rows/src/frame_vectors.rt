@@ -1,162 +1,44 @@
 //! Frames as another implementation, Debian's python3-hyperframe, writes and reads them. bench/frame_vectors.py
 //! prints the lines of the table.
 
-pub struct Vector {
-    pub octets: &'static [u8],
-    pub shown: &'static str,
-}
-
-pub static VECTORS: [Vector; 38] = [
-    Vector {
-        octets: b"\x00\x00\x05\x00\x00\x00\x00\x00\x01\x68\x65\x6c\x6c\x6f",
-        shown: "Frame { flags: 0, stream: 1, body: Payload { bytes: [104, 101, 108, 108, 111], counted: 5 } }",
-    },
-    Vector {
-        octets: b"\x00\x00\x00\x00\x01\x00\x00\x00\x03",
-        shown: "Frame { flags: 1, stream: 3, body: Payload { bytes: [], counted: 0 } }",
-    },
-    Vector {
-        octets: b"\x00\x00\x03\x00\x08\x00\x00\x00\x01\x01\x61\x00",
-        shown: "Frame { flags: 8, stream: 1, body: Payload { bytes: [97], counted: 3 } }",
-    },
-    Vector {
-        octets: b"\x00\x01\x03\x00\x09\x7f\xff\xff\xff\xff\x61\x62\x63\x00\x00\x00\x00\x00\x00\x00\x00\x00\x00\x00\x00\x00\x00\x00\x00\x00\x00\x00\x00\x00\x00\x00\x00\x00\x00\x00\x00\x00\x00\x00\x00\x00\x00\x00\x00\x00\x00\x00\x00\x00\x00\x00\x00\x00\x00\x00\x00\x00\x00\x00\x00\x00\x00\x00\x00\x00\x00\x00\x00\x00\x00\x00\x00\x00\x00\x00\x00\x00\x00\x00\x00\x00\x00\x00\x00\x00\x00\x00\x00\x00\x00\x00\x00\x00\x00\x00\x00\x00\x00\x00\x00\x00\x00\x00\x00\x00\x00\x00\x00\x00\x00\x00\x00\x00\x00\x00\x00\x00\x00\x00\x00\x00\x00\x00\x00\x00\x00\x00\x00\x00\x00\x00\x00\x00\x00\x00\x00\x00\x00\x00\x00\x00\x00\x00\x00\x00\x00\x00\x00\x00\x00\x00\x00\x00\x00\x00\x00\x00\x00\x00\x00\x00\x00\x00\x00\x00\x00\x00\x00\x00\x00\x00\x00\x00\x00\x00\x00\x00\x00\x00\x00\x00\x00\x00\x00\x00\x00\x00\x00\x00\x00\x00\x00\x00\x00\x00\x00\x00\x00\x00\x00\x00\x00\x00\x00\x00\x00\x00\x00\x00\x00\x00\x00\x00\x00\x00\x00\x00\x00\x00\x00\x00\x00\x00\x00\x00\x00\x00\x00\x00\x00\x00\x00\x00\x00\x00\x00\x00\x00\x00\x00\x00\x00\x00\x00\x00\x00\x00\x00\x00\x00\x00\x00\x00\x00\x00\x00\x00\x00\x00\x00\x00\x00\x00",
-        shown: "Frame { flags: 9, stream: 2147483647, body: Payload { bytes: [97, 98, 99], counted: 259 } }",
-    },
-    Vector {
-        octets: b"\x00\x00\x01\x00\x08\x00\x00\x00\x05\x00",
-        shown: "Frame { flags: 8, stream: 5, body: Payload { bytes: [], counted: 1 } }",
-    },
-    Vector {
-        octets: b"\x00\x00\x08\x00\x08\x00\x00\x00\x05\x07\x00\x00\x00\x00\x00\x00\x00",
-        shown: "Frame { flags: 8, stream: 5, body: Payload { bytes: [], counted: 8 } }",
-    },
-    Vector {
-        octets: b"\x00\x00\x02\x01\x04\x00\x00\x00\x01\x82\x86",
-        shown: "Frame { flags: 4, stream: 1, body: Headers { block: [130, 134] } }",
-    },
-    Vector {
-        octets: b"\x00\x00\x00\x01\x00\x00\x00\x00\x07",
-        shown: "Frame { flags: 0, stream: 7, body: Headers { block: [] } }",
-    },
-    Vector {
-        octets: b"\x00\x00\x05\x01\x0d\x00\x00\x00\x01\x03\x88\x00\x00\x00",
-        shown: "Frame { flags: 13, stream: 1, body: Headers { block: [136] } }",
-    },
-    Vector {
-        octets: b"\x00\x00\x06\x01\x20\x00\x00\x00\x09\x80\x00\x00\x03\xc8\x82",
-        shown: "Frame { flags: 32, stream: 9, body: Headers { block: [130] } }",
-    },
-    Vector {
-        octets: b"\x00\x00\x05\x01\x24\x00\x00\x00\x09\x80\x00\x00\x03\xc8",
-        shown: "Frame { flags: 36, stream: 9, body: Headers { block: [] } }",
-    },
-    Vector {
-        octets: b"\x00\x00\x11\x01\x28\x00\x00\x00\x09\x09\x80\x00\x00\x03\xc8\x84\x85\x00\x00\x00\x00\x00\x00\x00\x00\x00",
-        shown: "Frame { flags: 40, stream: 9, body: Headers { block: [132, 133] } }",
-    },
-    Vector {
-        octets: b"\x00\x00\x05\x02\x00\x00\x00\x00\x05\x00\x00\x00\x01\x10",
-        shown: "Frame { flags: 0, stream: 5, body: Priority }",
-    },
-    Vector {
-        octets: b"\x00\x00\x04\x03\x00\x00\x00\x00\x01\x00\x00\x00\x08",
-        shown: "Frame { flags: 0, stream: 1, body: Reset { code: 8 } }",
-    },
-    Vector {
-        octets: b"\x00\x00\x04\x03\x00\x00\x00\x00\x03\xff\xff\xff\xff",
-        shown: "Frame { flags: 0, stream: 3, body: Reset { code: 4294967295 } }",
-    },
-    Vector {
-        octets: b"\x00\x00\x00\x04\x00\x00\x00\x00\x00",
-        shown: "Frame { flags: 0, stream: 0, body: Settings { pairs: [] } }",
-    },
-    Vector {
-        octets: b"\x00\x00\x24\x04\x00\x00\x00\x00\x00\x00\x02\x00\x00\x00\x00\x00\x03\x00\x00\x00\x64\x00\x04\x00\x00\xff\xff\x00\x05\x00\x00\x40\x00\x00\x06\x00\x00\x40\x00\x00\xff\x00\x00\x00\x07",
-        shown: "Frame { flags: 0, stream: 0, body: Settings { pairs: [0, 2, 0, 0, 0, 0, 0, 3, 0, 0, 0, 100, 0, 4, 0, 0, 255, 255, 0, 5, 0, 0, 64, 0, 0, 6, 0, 0, 64, 0, 0, 255, 0, 0, 0, 7] } }",
-    },
-    Vector {
-        octets: b"\x00\x00\x0c\x04\x00\x00\x00\x00\x00\x00\x05\x00\xff\xff\xff\x00\x02\x00\x00\x00\x01",
-        shown: "Frame { flags: 0, stream: 0, body: Settings { pairs: [0, 5, 0, 255, 255, 255, 0, 2, 0, 0, 0, 1] } }",
-    },
-    Vector {
-        octets: b"\x00\x00\x00\x04\x01\x00\x00\x00\x00",
-        shown: "Frame { flags: 1, stream: 0, body: Settings { pairs: [] } }",
-    },
-    Vector {
-        octets: b"\x00\x00\x08\x06\x00\x00\x00\x00\x00\x01\x02\x03\x04\xfc\xfd\xfe\xff",
-        shown: "Frame { flags: 0, stream: 0, body: Ping { value: 72623863950606079 } }",
-    },
-    Vector {
-        octets: b"\x00\x00\x08\x06\x01\x00\x00\x00\x00\x00\x00\x00\x00\x00\x00\x00\x00",
-        shown: "Frame { flags: 1, stream: 0, body: Ping { value: 0 } }",
-    },
-    Vector {
-        octets: b"\x00\x00\x08\x07\x00\x00\x00\x00\x00\x7f\xff\xff\xff\x00\x00\x00\x02",
-        shown: "Frame { flags: 0, stream: 0, body: GoAway { last: 2147483647, code: 2 } }",
-    },
-    Vector {
-        octets: b"\x00\x00\x10\x07\x00\x00\x00\x00\x00\x00\x00\x00\x00\x00\x00\x00\x0b\x74\x6f\x6f\x20\x6d\x61\x6e\x79",
-        shown: "Frame { flags: 0, stream: 0, body: GoAway { last: 0, code: 11 } }",
-    },
-    Vector {
-        octets: b"\x00\x00\x04\x08\x00\x00\x00\x00\x00\x00\x00\x00\x01",
-        shown: "Frame { flags: 0, stream: 0, body: Window { increment: 1 } }",
-    },
-    Vector {
-        octets: b"\x00\x00\x04\x08\x00\x00\x00\x00\x07\x7f\xff\xff\xff",
-        shown: "Frame { flags: 0, stream: 7, body: Window { increment: 2147483647 } }",
-    },
-    Vector {
-        octets: b"\x00\x00\x05\x09\x00\x00\x00\x00\x01\x40\x01\x61\x01\x62",
-        shown: "Frame { flags: 0, stream: 1, body: Continuation { block: [64, 1, 97, 1, 98] } }",
-    },
-    Vector {
-        octets: b"\x00\x00\x00\x09\x04\x00\x00\x00\x01",
-        shown: "Frame { flags: 4, stream: 1, body: Continuation { block: [] } }",
-    },
-    Vector {
-        octets: b"\x00\x00\x14\x0a\x00\x00\x00\x00\x00\x00\x09\x61\x2e\x65\x78\x61\x6d\x70\x6c\x65\x68\x32\x3d\x22\x3a\x34\x34\x33\x22",
-        shown: "Frame { flags: 0, stream: 0, body: Unknown { kind: 10 } }",
-    },
-    Vector {
-        octets: b"\x00\x00\x03\xfe\xa5\x00\x00\x00\x04\x00\x01\x02",
-        shown: "Frame { flags: 165, stream: 4, body: Unknown { kind: 254 } }",
-    },
-    Vector {
-        octets: b"\x00\x00\x05\x00\x00\x80\x00\x00\x01\x68\x65\x6c\x6c\x6f",
-        shown: "Frame { flags: 0, stream: 1, body: Payload { bytes: [104, 101, 108, 108, 111], counted: 5 } }",
-    },
-    Vector {
-        octets: b"\x00\x01\x03\x00\x09\xff\xff\xff\xff\xff\x61\x62\x63\x00\x00\x00\x00\x00\x00\x00\x00\x00\x00\x00\x00\x00\x00\x00\x00\x00\x00\x00\x00\x00\x00\x00\x00\x00\x00\x00\x00\x00\x00\x00\x00\x00\x00\x00\x00\x00\x00\x00\x00\x00\x00\x00\x00\x00\x00\x00\x00\x00\x00\x00\x00\x00\x00\x00\x00\x00\x00\x00\x00\x00\x00\x00\x00\x00\x00\x00\x00\x00\x00\x00\x00\x00\x00\x00\x00\x00\x00\x00\x00\x00\x00\x00\x00\x00\x00\x00\x00\x00\x00\x00\x00\x00\x00\x00\x00\x00\x00\x00\x00\x00\x00\x00\x00\x00\x00\x00\x00\x00\x00\x00\x00\x00\x00\x00\x00\x00\x00\x00\x00\x00\x00\x00\x00\x00\x00\x00\x00\x00\x00\x00\x00\x00\x00\x00\x00\x00\x00\x00\x00\x00\x00\x00\x00\x00\x00\x00\x00\x00\x00\x00\x00\x00\x00\x00\x00\x00\x00\x00\x00\x00\x00\x00\x00\x00\x00\x00\x00\x00\x00\x00\x00\x00\x00\x00\x00\x00\x00\x00\x00\x00\x00\x00\x00\x00\x00\x00\x00\x00\x00\x00\x00\x00\x00\x00\x00\x00\x00\x00\x00\x00\x00\x00\x00\x00\x00\x00\x00\x00\x00\x00\x00\x00\x00\x00\x00\x00\x00\x00\x00\x00\x00\x00\x00\x00\x00\x00\x00\x00\x00\x00\x00\x00\x00\x00\x00\x00\x00\x00\x00\x00\x00\x00\x00\x00\x00\x00\x00\x00\x00\x00\x00\x00\x00\x00",
-        shown: "Frame { flags: 9, stream: 2147483647, body: Payload { bytes: [97, 98, 99], counted: 259 } }",
-    },
-    Vector {
-        octets: b"\x00\x00\x08\x06\x00\x80\x00\x00\x00\x01\x02\x03\x04\xfc\xfd\xfe\xff",
-        shown: "Frame { flags: 0, stream: 0, body: Ping { value: 72623863950606079 } }",
-    },
-    Vector {
-        octets: b"\x00\x00\x04\x03\xff\x00\x00\x00\x01\x00\x00\x00\x08",
-        shown: "Frame { flags: 255, stream: 1, body: Reset { code: 8 } }",
-    },
-    Vector {
-        octets: b"\x00\x00\x08\x06\x28\x00\x00\x00\x00\x01\x02\x03\x04\xfc\xfd\xfe\xff",
-        shown: "Frame { flags: 40, stream: 0, body: Ping { value: 72623863950606079 } }",
-    },
-    Vector {
-        octets: b"\x00\x00\x05\x09\xfb\x00\x00\x00\x01\x40\x01\x61\x01\x62",
-        shown: "Frame { flags: 251, stream: 1, body: Continuation { block: [64, 1, 97, 1, 98] } }",
-    },
-    Vector {
-        octets: b"\x00\x00\x05\x00\xf6\x00\x00\x00\x01\x68\x65\x6c\x6c\x6f",
-        shown: "Frame { flags: 246, stream: 1, body: Payload { bytes: [104, 101, 108, 108, 111], counted: 5 } }",
-    },
-    Vector {
-        octets: b"\x00\x00\x04\x08\x00\x00\x00\x00\x07\xff\xff\xff\xff",
-        shown: "Frame { flags: 0, stream: 7, body: Window { increment: 2147483647 } }",
-    },
-    Vector {
-        octets: b"\x00\x00\x08\x07\x00\x00\x00\x00\x00\xff\xff\xff\xff\x00\x00\x00\x02",
-        shown: "Frame { flags: 0, stream: 0, body: GoAway { last: 2147483647, code: 2 } }",
-    },
-];
+/// The octets of each frame, and the frame as `{:?}` shows it.
+pub const VECTORS: &str = "\
+00000500000000000168656c6c6f; Frame { flags: 0, stream: 1, body: Payload { bytes: [104, 101, 108, 108, 111], counted: 5 } }
+000000000100000003; Frame { flags: 1, stream: 3, body: Payload { bytes: [], counted: 0 } }
+000003000800000001016100; Frame { flags: 8, stream: 1, body: Payload { bytes: [97], counted: 3 } }
+00010300097fffffffff616263 00*255; Frame { flags: 9, stream: 2147483647, body: Payload { bytes: [97, 98, 99], counted: 259 } }
+00000100080000000500; Frame { flags: 8, stream: 5, body: Payload { bytes: [], counted: 1 } }
+0000080008000000050700000000000000; Frame { flags: 8, stream: 5, body: Payload { bytes: [], counted: 8 } }
+0000020104000000018286; Frame { flags: 4, stream: 1, body: Headers { block: [130, 134] } }
+000000010000000007; Frame { flags: 0, stream: 7, body: Headers { block: [] } }
+000005010d000000010388000000; Frame { flags: 13, stream: 1, body: Headers { block: [136] } }
+00000601200000000980000003c882; Frame { flags: 32, stream: 9, body: Headers { block: [130] } }
+00000501240000000980000003c8; Frame { flags: 36, stream: 9, body: Headers { block: [] } }
+0000110128000000090980000003c88485000000000000000000; Frame { flags: 40, stream: 9, body: Headers { block: [132, 133] } }
+0000050200000000050000000110; Frame { flags: 0, stream: 5, body: Priority }
+00000403000000000100000008; Frame { flags: 0, stream: 1, body: Reset { code: 8 } }
+000004030000000003ffffffff; Frame { flags: 0, stream: 3, body: Reset { code: 4294967295 } }
+000000040000000000; Frame { flags: 0, stream: 0, body: Settings { pairs: [] } }
+00002404000000000000020000000000030000006400040000ffff00050000400000060000400000ff00000007; Frame { flags: 0, stream: 0, body: Settings { pairs: [0, 2, 0, 0, 0, 0, 0, 3, 0, 0, 0, 100, 0, 4, 0, 0, 255, 255, 0, 5, 0, 0, 64, 0, 0, 6, 0, 0, 64, 0, 0, 255, 0, 0, 0, 7] } }
+00000c040000000000000500ffffff000200000001; Frame { flags: 0, stream: 0, body: Settings { pairs: [0, 5, 0, 255, 255, 255, 0, 2, 0, 0, 0, 1] } }
+000000040100000000; Frame { flags: 1, stream: 0, body: Settings { pairs: [] } }
+00000806000000000001020304fcfdfeff; Frame { flags: 0, stream: 0, body: Ping { value: 72623863950606079 } }
+0000080601000000000000000000000000; Frame { flags: 1, stream: 0, body: Ping { value: 0 } }
+0000080700000000007fffffff00000002; Frame { flags: 0, stream: 0, body: GoAway { last: 2147483647, code: 2 } }
+000010070000000000000000000000000b746f6f206d616e79; Frame { flags: 0, stream: 0, body: GoAway { last: 0, code: 11 } }
+00000408000000000000000001; Frame { flags: 0, stream: 0, body: Window { increment: 1 } }
+0000040800000000077fffffff; Frame { flags: 0, stream: 7, body: Window { increment: 2147483647 } }
+0000050900000000014001610162; Frame { flags: 0, stream: 1, body: Continuation { block: [64, 1, 97, 1, 98] } }
+000000090400000001; Frame { flags: 4, stream: 1, body: Continuation { block: [] } }
+0000140a00000000000009612e6578616d706c6568323d223a34343322; Frame { flags: 0, stream: 0, body: Unknown { kind: 10 } }
+000003fea500000004000102; Frame { flags: 165, stream: 4, body: Unknown { kind: 254 } }
+00000500008000000168656c6c6f; Frame { flags: 0, stream: 1, body: Payload { bytes: [104, 101, 108, 108, 111], counted: 5 } }
+0001030009ffffffffff616263 00*255; Frame { flags: 9, stream: 2147483647, body: Payload { bytes: [97, 98, 99], counted: 259 } }
+00000806008000000001020304fcfdfeff; Frame { flags: 0, stream: 0, body: Ping { value: 72623863950606079 } }
+00000403ff0000000100000008; Frame { flags: 255, stream: 1, body: Reset { code: 8 } }
+00000806280000000001020304fcfdfeff; Frame { flags: 40, stream: 0, body: Ping { value: 72623863950606079 } }
+00000509fb000000014001610162; Frame { flags: 251, stream: 1, body: Continuation { block: [64, 1, 97, 1, 98] } }
+00000500f60000000168656c6c6f; Frame { flags: 246, stream: 1, body: Payload { bytes: [104, 101, 108, 108, 111], counted: 5 } }
+000004080000000007ffffffff; Frame { flags: 0, stream: 7, body: Window { increment: 2147483647 } }
+000008070000000000ffffffff00000002; Frame { flags: 0, stream: 0, body: GoAway { last: 2147483647, code: 2 } }
+";

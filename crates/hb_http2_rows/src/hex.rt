@@ -1,48 +1,52 @@
-//! Octets in hexadecimal digits.
+//! Octets in words.
 
-ghost use Rattle.std.specs.Prelude.{◌<◌};
-
-use std::alloc::{AllocError, Global};
+use crate::told::cut;
+use std::alloc::Global;
 use std::process::Abort;
 
-fn value_of(rt: &impl Abort, digit: u8) -> u8
-    ensures { result < 16 }
-{
-    match digit {
-        b'0'..=b'9' => digit - b'0',
-        b'a'..=b'f' => digit - b'a' + 10,
-        _ => panic!(rt; "no digit"),
+/// The octet of two hexadecimal digits.
+fn octet_of(rt: &impl Abort, digits: &[u8]) -> u8 {
+    let digits = std::str::from_utf8(digits).unwrap_or("");
+    u8::from_str_radix(digits, 16).ok().expect(rt, "two digits")
+}
+
+/// Appends the octets that the digits stand for.
+fn push_digits(rt: &impl Abort, octets: &mut Vec<u8>, digits: &str) {
+    assert!(rt; digits.len() % 2 == 0);
+    for pair in digits.as_bytes().chunks(2) {
+        octets.push(octet_of(rt, pair)).expect(rt, "memory");
     }
 }
 
-/// The octets that the digits stand for, so many times over.
-pub fn octets_of(
-    rt: &impl Abort,
-    alloc: Global,
-    digits: &str,
-    times: usize,
-) -> Result<Vec<u8>, AllocError> {
-    let mut octets = Vec::new(alloc);
-    for _ in 0..times {
-        for pair in digits.as_bytes().chunks(2) {
-            match pair {
-                [high, low] => octets.push(value_of(rt, *high) * 16 + value_of(rt, *low))?,
-                _ => panic!(rt; "half an octet: {digits}"),
-            }
+/// The number of a text; 1 of an empty one.
+fn times_of(rt: &impl Abort, text: &str) -> usize {
+    if text.is_empty() {
+        return 1;
+    }
+    text.parse::<usize>().ok().expect(rt, "a number")
+}
+
+/// Appends the octets of words with blanks between: hexadecimal digits, two an octet, and behind them `*` and a number
+/// where they stand so many times over.
+pub fn push_octets(rt: &impl Abort, octets: &mut Vec<u8>, words: &str) {
+    for word in words.split(' ') {
+        let (digits, times) = cut(word, "*");
+        for _ in 0..times_of(rt, times) {
+            push_digits(rt, octets, digits);
         }
     }
-    Ok(octets)
 }
 
-/// The octets of a front, and behind it those of other digits so many times over.
-pub fn octets_behind(
-    rt: &impl Abort,
-    alloc: Global,
-    front: &str,
-    digits: &str,
-    times: usize,
-) -> Result<Vec<u8>, AllocError> {
-    let mut octets = octets_of(rt, alloc, front, 1)?;
-    octets.extend_from_slice(octets_of(rt, alloc, digits, times)?.as_slice())?;
-    Ok(octets)
+/// The octets of words.
+pub fn octets_of(rt: &impl Abort, alloc: Global, words: &str) -> Vec<u8> {
+    let mut octets = Vec::new(alloc);
+    push_octets(rt, &mut octets, words);
+    octets
+}
+
+/// The octets of words, and of others behind them.
+pub fn octets_behind(rt: &impl Abort, alloc: Global, front: &str, words: &str) -> Vec<u8> {
+    let mut octets = octets_of(rt, alloc, front);
+    push_octets(rt, &mut octets, words);
+    octets
 }

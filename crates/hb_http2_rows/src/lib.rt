@@ -23,4 +23,6 @@ mod huffman;
 #[cfg(test)]
 mod output;
 #[cfg(test)]
+mod told;
+#[cfg(test)]
 mod windows;

@@ -1,0 +1,27 @@
+//! Rows of tables, and what is told of them, compared as one text.
+
+use std::fmt::Debug;
+use std::process::Abort;
+
+/// Tells a value as `{:?}` shows it.
+pub fn tell(rt: &impl Abort, told: &mut String, value: &impl Debug) {
+    writeln!(told, "{value:?}").expect(rt, "memory");
+}
+
+/// A row in front of a mark and behind it; the whole row and nothing where it has none.
+pub fn cut<'a>(row: &'a str, mark: &str) -> (&'a str, &'a str) {
+    row.split_once(mark).unwrap_or((row, ""))
+}
+
+/// What is told of a row has to be what the row wants.
+pub fn assert_told(rt: &impl Abort, row: &str, told: &str, want: &str) {
+    assert!(rt;
+        told.as_bytes() == want.as_bytes(),
+        "{row}: {told}, not {want}"
+    );
+}
+
+/// The octets of a row have to be those that the row wants.
+pub fn assert_octets(rt: &impl Abort, row: &str, octets: &[u8], want: &[u8]) {
+    assert!(rt; octets == want, "{row}");
+}
