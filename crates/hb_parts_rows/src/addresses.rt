@@ -1,7 +1,6 @@
 //! Address records.
 
-/// Address records, and what each is read as: what isn't a default, or the fault. A line that begins with `#` says
-/// what the next ones are.
+/// Address records, and what each is read as: what isn't a default, or the fault.
 pub const ADDRESSES: &str = "\
 # A whole workload, and one without a field.
 0a 1f 0a 03 'web 12 01 'a 1a 04 0a 00 00 07 28 01 4a 02 'n 31 82 01 03 'a/p a2 01 02 'u 31; name=web namespace=a node=n1 uid=u1 \

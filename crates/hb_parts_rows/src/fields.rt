@@ -1,16 +1,12 @@
 //! Messages by the rules of the Protocol Buffers encoding guide, with the fields that they spell.
 
-ghost use Rattle.std.specs.Prelude.{◌+◌, ◌^◌, ◌<◌, length};
-
-use crate::tables::{assert_told, bytes_of, number};
+use crate::tables::{bytes_of, fields_of, number, put, tell, tell_debug};
 use hb_wire::{Field, FieldValue, Fields};
-use std::alloc::{AllocError, Global};
-use std::fmt::Write;
-use std::test::Fail;
+use std::process::Abort;
 
 /// Messages, the place at which each stands in a larger one, and what they tell: each field as its number, place and
-/// value, and what two calls behind them answer. A line that begins with `#` says what the next ones are.
-const MESSAGES: &str = "\
+/// value, and what two calls behind them answer.
+pub const MESSAGES: &str = "\
 ; 0; end. end.
 # The guide's own messages.
 08 96 01; 0; 1@1 150, end. end.
@@ -62,52 +58,52 @@ ff ff ff ff ff ff ff ff ff ff; 0; LongVarint at byte 9. LongVarint at byte 9.
 0f; 0; BadType at byte 0. BadType at byte 0.
 10 01 8b 00 08 01; 0; 2@1 1, BadType at byte 2. BadType at byte 2.";
 
-fn tell(told: &mut String, field: Field<'_>) -> Result<(), AllocError> {
-    let Field { number, at, value } = field;
-    let (kind, n) = match value {
-        FieldValue::Varint(n) => ("", n),
-        FieldValue::Eight(n) => ("eight ", n),
-        FieldValue::Four(n) => ("four ", u64::from(n)),
-        FieldValue::Span(bytes) => return write!(told, "{number}@{at} {bytes:?}, "),
-    };
-    write!(told, "{number}@{at} {kind}{n}, ")
+fn tell_field(told: &mut String, field: Field<'_>) {
+    tell(told, &field.number, "@");
+    tell(told, &field.at, " ");
+    match field.value {
+        FieldValue::Varint(n) => tell(told, &n, ", "),
+        FieldValue::Eight(n) => {
+            put(told, "eight ");
+            tell(told, &n, ", ");
+        }
+        FieldValue::Four(n) => {
+            put(told, "four ");
+            tell(told, &n, ", ");
+        }
+        FieldValue::Span(bytes) => tell_debug(told, &bytes, ", "),
+    }
 }
 
-/// The fields of a message at a place, and what two calls behind them answer.
-fn message_told(alloc: Global, bytes: &[u8], at: usize) -> Result<String, AllocError>
-    requires { at + length bytes.now < 2 ^ 64 }
-{
-    let mut told = String::new(alloc);
-    let mut fields = if at == 0 {
-        Fields::over(bytes)
-    } else {
-        Fields::within(bytes, at)
-    };
-    for _ in 0..bytes.len() {
+/// The fields up to the first call that gives none, of so many calls.
+fn tell_fields(told: &mut String, fields: &mut Fields<'_>, calls: usize) {
+    for _ in 0..calls {
         match fields.next_field() {
-            Ok(Some(field)) => tell(&mut told, field)?,
+            Ok(Some(field)) => tell_field(told, field),
             _ => break,
         }
     }
-    for _ in 0..2 {
-        match fields.next_field() {
-            Ok(None) => told.push_str("end. ")?,
-            Ok(Some(_)) => told.push_str("a field. ")?,
-            Err(fault) => write!(told, "{fault}. ")?,
-        }
-    }
-    Ok(told)
 }
 
-#[test]
-fn messages_tell_their_fields(rt: HostRuntime) -> Result<(), Fail> {
-    for line in MESSAGES.lines().filter(|line| !line.starts_with('#')) {
-        let mut row = line.split(';');
-        let bytes = bytes_of(rt.alloc(), row.next().unwrap_or(""))?;
-        let at = number(row.next().unwrap_or(""))?;
-        assert!(rt; bytes.len() < 100 && at < 200);
-        let told = message_told(rt.alloc(), &bytes, at)?;
-        assert_told(&rt, line, told.as_str(), row.next().unwrap_or(""));
+fn tell_end(told: &mut String, fields: &mut Fields<'_>) {
+    match fields.next_field() {
+        Ok(None) => put(told, "end. "),
+        Ok(Some(_)) => put(told, "a field. "),
+        Err(fault) => tell(told, &fault, ". "),
     }
-    Ok(())
+}
+
+pub fn tell_message(rt: &(impl Abort + AllocGlobal), told: &mut String, row: &str) {
+    let (words, at) = fields_of(rt, row);
+    let bytes = bytes_of(rt, words);
+    let at = number(rt, at);
+    assert!(rt; bytes.len() < 100 && at < 200);
+    let mut fields = if at == 0 {
+        Fields::over(&bytes)
+    } else {
+        Fields::within(&bytes, at)
+    };
+    tell_fields(told, &mut fields, bytes.len());
+    tell_end(told, &mut fields);
+    tell_end(told, &mut fields);
 }

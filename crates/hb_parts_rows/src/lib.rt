@@ -13,6 +13,8 @@ mod records;
 #[cfg(test)]
 mod repeated;
 #[cfg(test)]
+mod rows;
+#[cfg(test)]
 mod streams;
 #[cfg(test)]
 mod tables;

@@ -1,6 +1,6 @@
 //! Authorization policies.
 
-/// Authorization policies, and what each is read as. A line that begins with `#` says what the next ones are.
+/// Authorization policies, and what each is read as.
 pub const POLICIES: &str = "\
 # A policy of a selector, one that denies all, one without rules, and no bytes.
 0a 01 'p 12 01 'a 18 02 2a 1f 12 1d 12 1b 1a 19 0a 17 'cluster 2e 'local/ns/a/sa/c; name=p namespace=a Selector Allow rule clause \

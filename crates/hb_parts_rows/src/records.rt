@@ -1,186 +1,115 @@
 //! Records by the rules of the Protocol Buffers encoding guide, with what each is read as.
 
-use crate::addresses::ADDRESSES;
-use crate::policies::POLICIES;
-use crate::repeated::REPEATED;
-use crate::tables::{assert_told, bytes_of, number, text_of};
+use crate::tables::{bytes_of, put, put_if, tell, tell_debug, text_of};
 use hb_base::{Ip, List, Or, Text};
 use hb_records::{
-    AddressRecord, Authorization, Clause, RecordFault, StringMatch, Workload, read_address,
+    AddressRecord, Authorization, Clause, RecordFault, Rule, StringMatch, Workload, read_address,
     read_authorization,
 };
-use std::alloc::{AllocError, Global};
-use std::fmt::Write;
-use std::test::Fail;
+use std::process::Abort;
 
-fn tell_texts(out: &mut String, texts: &[(&str, &Text)]) -> Result<(), AllocError> {
-    for (name, text) in texts {
-        if !text.as_slice().is_empty() {
-            write!(out, "{name}={} ", text_of(text))?;
-        }
-    }
-    Ok(())
+/// A text behind its name, and a blank.
+fn tell_text(told: &mut String, name: &str, text: &Text) {
+    put(told, name);
+    put(told, text_of(text));
+    put(told, " ");
 }
 
-fn tell_addresses(out: &mut String, addresses: &[Ip]) -> Result<(), AllocError> {
-    for address in addresses {
-        write!(out, "{address:?} ")?;
+fn tell_set(told: &mut String, name: &str, text: &Text) {
+    if !text.as_slice().is_empty() {
+        tell_text(told, name, text);
     }
-    Ok(())
+}
+
+fn tell_addresses(told: &mut String, addresses: &[Ip]) {
+    for address in addresses {
+        tell_debug(told, address, " ");
+    }
+}
+
+fn tell_policies(told: &mut String, policies: &[Text]) {
+    for policy in policies {
+        tell_text(told, "policy=", policy);
+    }
 }
 
 /// What of a workload isn't a default.
-fn tell_workload(out: &mut String, workload: &Workload) -> Result<(), AllocError> {
-    tell_texts(
-        out,
-        &[
-            ("name", &workload.name),
-            ("namespace", &workload.namespace),
-            ("network", &workload.network),
-            ("trust_domain", &workload.trust_domain),
-            ("service_account", &workload.service_account),
-            ("node", &workload.node),
-            ("uid", &workload.uid),
-            ("hostname", &workload.hostname),
-        ],
-    )?;
-    tell_addresses(out, workload.addresses.as_slice())?;
-    for policy in workload.authorization_policies.as_slice() {
-        write!(out, "policy={} ", text_of(policy))?;
-    }
-    if workload.hbone {
-        write!(out, "hbone ")?;
-    }
-    if !workload.healthy {
-        write!(out, "unhealthy ")?;
-    }
-    Ok(())
+fn tell_workload(told: &mut String, workload: &Workload) {
+    tell_set(told, "name=", &workload.name);
+    tell_set(told, "namespace=", &workload.namespace);
+    tell_set(told, "network=", &workload.network);
+    tell_set(told, "trust_domain=", &workload.trust_domain);
+    tell_set(told, "service_account=", &workload.service_account);
+    tell_set(told, "node=", &workload.node);
+    tell_set(told, "uid=", &workload.uid);
+    tell_set(told, "hostname=", &workload.hostname);
+    tell_addresses(told, workload.addresses.as_slice());
+    tell_policies(told, workload.authorization_policies.as_slice());
+    put_if(told, workload.hbone, "hbone ");
+    put_if(told, !workload.healthy, "unhealthy ");
 }
 
-fn tell_matches(
-    out: &mut String,
-    name: &str,
-    matches: &List<StringMatch>,
-) -> Result<(), AllocError> {
+fn tell_match(told: &mut String, name: &str, string_match: &StringMatch) {
+    put(told, name);
+    match string_match {
+        StringMatch::Exact(text) => tell_text(told, " exact ", text),
+        StringMatch::Prefix(text) => tell_text(told, " prefix ", text),
+        StringMatch::Suffix(text) => tell_text(told, " suffix ", text),
+        StringMatch::Presence => put(told, " presence "),
+    }
+}
+
+fn tell_matches(told: &mut String, name: &str, matches: &List<StringMatch>) {
     for string_match in matches.as_slice() {
-        let (kind, text) = match string_match {
-            StringMatch::Exact(text) => ("exact ", text_of(text)),
-            StringMatch::Prefix(text) => ("prefix ", text_of(text)),
-            StringMatch::Suffix(text) => ("suffix ", text_of(text)),
-            StringMatch::Presence => ("presence", ""),
-        };
-        write!(out, "{name} {kind}{text} ")?;
+        tell_match(told, name, string_match);
     }
-    Ok(())
 }
 
-fn tell_clause(out: &mut String, clause: &Clause) -> Result<(), AllocError> {
-    write!(out, "clause ")?;
+fn tell_clause(told: &mut String, clause: &Clause) {
+    put(told, "clause ");
     for one in clause.matches.as_slice() {
-        write!(out, "match ")?;
-        tell_matches(out, "principal", &one.principals)?;
-        tell_matches(out, "not", &one.not_principals)?;
+        put(told, "match ");
+        tell_matches(told, "principal", &one.principals);
+        tell_matches(told, "not", &one.not_principals);
     }
-    Ok(())
 }
 
-fn tell_policy(out: &mut String, policy: &Authorization) -> Result<(), AllocError> {
-    tell_texts(
-        out,
-        &[("name", &policy.name), ("namespace", &policy.namespace)],
-    )?;
-    write!(out, "{:?} {:?} ", policy.scope, policy.action)?;
+fn tell_rule(told: &mut String, rule: &Rule) {
+    put(told, "rule ");
+    for clause in rule.clauses.as_slice() {
+        tell_clause(told, clause);
+    }
+}
+
+fn tell_authorization(told: &mut String, policy: &Authorization) {
+    tell_set(told, "name=", &policy.name);
+    tell_set(told, "namespace=", &policy.namespace);
+    tell_debug(told, &policy.scope, " ");
+    tell_debug(told, &policy.action, " ");
     for rule in policy.rules.as_slice() {
-        write!(out, "rule ")?;
-        for clause in rule.clauses.as_slice() {
-            tell_clause(out, clause)?;
-        }
+        tell_rule(told, rule);
     }
-    Ok(())
 }
 
-fn tell_fault(out: &mut String, why: Or<RecordFault>) -> Result<(), AllocError> {
+fn tell_fault(told: &mut String, why: Or<RecordFault>) {
     match why {
-        Or::Fault(fault) => write!(out, "{fault}"),
-        Or::NoMemory => write!(out, "no memory"),
+        Or::Fault(fault) => tell(told, &fault, ""),
+        Or::NoMemory => put(told, "no memory"),
     }
 }
 
 /// What an address record is read as.
-fn address_told(alloc: Global, bytes: &[u8]) -> Result<String, AllocError> {
-    let mut out = String::new(alloc);
-    match read_address(alloc, bytes) {
-        Ok(AddressRecord::Workload(workload)) => tell_workload(&mut out, &workload)?,
-        Err(why) => tell_fault(&mut out, why)?,
+pub fn tell_address(rt: &(impl Abort + AllocGlobal), told: &mut String, words: &str) {
+    match read_address(rt.alloc(), &bytes_of(rt, words)) {
+        Ok(AddressRecord::Workload(workload)) => tell_workload(told, &workload),
+        Err(why) => tell_fault(told, why),
     }
-    Ok(out)
 }
 
 /// What a policy is read as.
-fn policy_told(alloc: Global, bytes: &[u8]) -> Result<String, AllocError> {
-    let mut out = String::new(alloc);
-    match read_authorization(alloc, bytes) {
-        Ok(policy) => tell_policy(&mut out, &policy)?,
-        Err(why) => tell_fault(&mut out, why)?,
+pub fn tell_policy(rt: &(impl Abort + AllocGlobal), told: &mut String, words: &str) {
+    match read_authorization(rt.alloc(), &bytes_of(rt, words)) {
+        Ok(policy) => tell_authorization(told, &policy),
+        Err(why) => tell_fault(told, why),
     }
-    Ok(out)
-}
-
-#[test]
-fn addresses_are_read(rt: HostRuntime) -> Result<(), Fail> {
-    for line in ADDRESSES.lines().filter(|line| !line.starts_with('#')) {
-        let mut row = line.split(';');
-        let bytes = bytes_of(rt.alloc(), row.next().unwrap_or(""))?;
-        let told = address_told(rt.alloc(), &bytes)?;
-        assert_told(&rt, line, told.as_str(), row.next().unwrap_or(""));
-    }
-    Ok(())
-}
-
-#[test]
-fn policies_are_read(rt: HostRuntime) -> Result<(), Fail> {
-    for line in POLICIES.lines().filter(|line| !line.starts_with('#')) {
-        let mut row = line.split(';');
-        let bytes = bytes_of(rt.alloc(), row.next().unwrap_or(""))?;
-        let told = policy_told(rt.alloc(), &bytes)?;
-        assert_told(&rt, line, told.as_str(), row.next().unwrap_or(""));
-    }
-    Ok(())
-}
-
-/// A record of a head, an entry so many times, and a tail.
-fn record_of(
-    alloc: Global,
-    head: &str,
-    entry: &str,
-    count: usize,
-    tail: &str,
-) -> Result<Vec<u8>, Fail> {
-    let mut bytes = bytes_of(alloc, head)?;
-    let entry = bytes_of(alloc, entry)?;
-    for _ in 0..count {
-        bytes.extend_from_slice(&entry)?;
-    }
-    bytes.extend_from_slice(&bytes_of(alloc, tail)?)?;
-    Ok(bytes)
-}
-
-#[test]
-fn the_entry_4097_is_one_too_many(rt: HostRuntime) -> Result<(), Fail> {
-    for line in REPEATED.lines().filter(|line| !line.starts_with('#')) {
-        let mut row = line.split(';');
-        let kind = row.next().unwrap_or("");
-        let head = row.next().unwrap_or("");
-        let entry = row.next().unwrap_or("");
-        let count = number(row.next().unwrap_or(""))?;
-        let bytes = record_of(rt.alloc(), head, entry, count, row.next().unwrap_or(""))?;
-        let told = match kind {
-            "address" => address_told(rt.alloc(), &bytes)?,
-            "policy" => policy_told(rt.alloc(), &bytes)?,
-            _ => String::new(rt.alloc()),
-        };
-        let want = row.next().unwrap_or("").trim();
-        assert!(rt; !want.is_empty() && told.starts_with(want), "{line}");
-    }
-    Ok(())
 }

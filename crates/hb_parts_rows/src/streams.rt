@@ -1,10 +1,9 @@
 //! Sources and sinks.
 
+use crate::tables::{assert_told, fields_of, number, put, tell, tell_debug};
 use hb_base::{MemSink, MemSource, Sink, Source, StdSink, StdSource, put_all, read_all};
-use std::alloc::{AllocError, Global};
-use std::fmt::Write as _;
 use std::io::{Error, ErrorKind, Read, Write};
-use std::test::Fail;
+use std::process::Abort;
 
 /// A reader and writer that answers in turn as its letters say, and then nothing but faults: a digit is a
 /// number of bytes, `i` an interrupt, and any other letter a fault.
@@ -42,103 +41,124 @@ impl Write for Answers<'_> {
 }
 
 /// What a source answers to so many takes of at most three bytes.
-fn takes<S: Source>(alloc: Global, source: &mut S, count: usize) -> Result<String, AllocError> {
-    let mut told = String::new(alloc);
+fn tell_takes<S: Source>(told: &mut String, source: &mut S, count: usize) {
     let mut buffer = [0u8; 3];
     for _ in 0..count {
-        let taken = source.take(&mut buffer);
-        write!(told, "{taken:?} ")?;
+        tell_debug(told, &source.take(&mut buffer), " ");
     }
-    Ok(told)
 }
 
 /// What a sink answers to a put of each of these words.
-fn puts<K: Sink>(alloc: Global, sink: &mut K, words: &str) -> Result<String, AllocError> {
-    let mut told = String::new(alloc);
-    for word in words.split(' ') {
+fn tell_puts<K: Sink>(told: &mut String, sink: &mut K, words: &str) {
+    for word in words.split_whitespace() {
         if !word.is_empty() {
-            let put = sink.put(word.as_bytes());
-            write!(told, "{put:?} ")?;
+            tell_debug(told, &sink.put(word.as_bytes()), " ");
         }
     }
-    Ok(told)
-}
-
-/// A reader's answers, a number of takes, and what they answer.
-const READS: [(&str, usize, &str); 4] = [
-    ("i2x0", 3, "Got(2) Failed End "),
-    // Fifteen interrupts are passed over in one take, and sixteen are a fault.
-    ("iiiiiiiiiiiiiii1", 1, "Got(1) "),
-    ("iiiiiiiiiiiiiiii1", 2, "Failed Got(1) "),
-    ("", 2, "Failed Failed "),
-];
-
-#[test]
-fn sources_answer(rt: HostRuntime) -> Result<(), Fail> {
-    for (answers, count, want) in READS {
-        let mut source = StdSource::over(Answers(answers.as_bytes()));
-        let told = takes(rt.alloc(), &mut source, count)?;
-        assert_eq!(rt; told.as_str(), want, "{answers}");
-    }
-    let mut source = StdSource::over(b"abcde".as_slice());
-    let told = takes(rt.alloc(), &mut source, 3)?;
-    assert_eq!(rt; told.as_str(), "Got(3) Got(2) End ");
-    let mut source = MemSource::over(rt.alloc(), b"abcde", &[2, 4])?;
-    let told = takes(rt.alloc(), &mut source, 6)?;
-    assert_eq!(rt; told.as_str(), "Got(3) Failed Got(2) Failed End End ");
-    Ok(())
-}
-
-/// A writer's answers, the words that are put, and what the puts answer.
-const WRITES: [(&str, &str, &str); 3] = [
-    ("i2x01", "abcd cd cd cd", "Took(2) Failed Failed Took(1) "),
-    ("iiiiiiiiiiiiiii1", "a", "Took(1) "),
-    ("iiiiiiiiiiiiiiii1", "a a a", "Failed Took(1) Failed "),
-];
-
-#[test]
-fn sinks_answer(rt: HostRuntime) -> Result<(), Fail> {
-    for (answers, words, want) in WRITES {
-        let mut sink = StdSink::over(Answers(answers.as_bytes()));
-        let told = puts(rt.alloc(), &mut sink, words)?;
-        assert_eq!(rt; told.as_str(), want, "{answers}");
-    }
-    let mut sink = MemSink::new(rt.alloc(), 4, &[1])?;
-    let told = puts(rt.alloc(), &mut sink, "abc abc de e")?;
-    assert_eq!(rt; told.as_str(), "Failed Took(3) Took(1) Failed ");
-    assert_eq!(rt; sink.as_slice(), b"abcd".as_slice());
-    let mut written = Vec::new(rt.alloc());
-    assert!(rt; put_all(&mut StdSink::over(&mut written), b"abc").is_ok());
-    assert_eq!(rt; written.as_slice(), b"abc".as_slice());
-    Ok(())
 }
 
 /// What a whole read answers: its bytes, or why it stopped.
-fn read_told<S: Source>(alloc: Global, source: &mut S, limit: usize) -> Result<String, AllocError> {
-    match read_all(alloc, source, limit) {
-        Ok(bytes) => format!(in alloc; "{:?}", bytes.as_slice()),
-        Err(stop) => format!(in alloc; "{stop}"),
+fn tell_whole<S: Source>(
+    rt: &(impl Abort + AllocGlobal),
+    told: &mut String,
+    source: &mut S,
+    limit: usize,
+) {
+    match read_all(rt.alloc(), source, limit) {
+        Ok(bytes) => tell_debug(told, &bytes.as_slice(), " "),
+        Err(stop) => tell(told, &stop, " "),
     }
 }
 
+/// Whether a whole text is put.
+fn tell_whole_put<K: Sink>(told: &mut String, sink: &mut K, text: &[u8]) {
+    let word = match put_all(sink, text) {
+        Ok(()) => "put ",
+        Err(_) => "failed ",
+    };
+    put(told, word);
+}
+
+/// A reader's answers, a number of takes, and what they answer.
+pub const READERS: &str = "\
+i2x0; 3; Got(2) Failed End
+# Fifteen interrupts are passed over in one take, and sixteen are a fault.
+iiiiiiiiiiiiiii1; 1; Got(1)
+iiiiiiiiiiiiiiii1; 2; Failed Got(1)
+; 2; Failed Failed";
+
+/// A writer's answers, the words that are put, and what the puts answer.
+pub const WRITERS: &str = "\
+i2x01; abcd cd cd cd; Took(2) Failed Failed Took(1)
+iiiiiiiiiiiiiii1; a; Took(1)
+iiiiiiiiiiiiiiii1; a a a; Failed Took(1) Failed";
+
+/// Of a source of `abcde` the take that fails, or 0, how many bytes are allowed, and what the read of all answers.
+pub const WHOLE_INPUTS: &str = "\
+0; 5; [97, 98, 99, 100, 101]
+0; 4; more bytes than allowed
+2; 5; a read failed";
+
+pub fn tell_reader(rt: &impl Abort, told: &mut String, row: &str) {
+    let (answers, count) = fields_of(rt, row);
+    let mut source = StdSource::over(Answers(answers.as_bytes()));
+    tell_takes(told, &mut source, number(rt, count));
+}
+
+pub fn tell_writer(rt: &impl Abort, told: &mut String, row: &str) {
+    let (answers, words) = fields_of(rt, row);
+    let mut sink = StdSink::over(Answers(answers.as_bytes()));
+    tell_puts(told, &mut sink, words);
+}
+
+pub fn tell_whole_input(rt: &(impl Abort + AllocGlobal), told: &mut String, row: &str) {
+    let (fails, limit) = fields_of(rt, row);
+    let fails = [number(rt, fails) as u64];
+    let mut source = MemSource::over(rt.alloc(), b"abcde", &fails).expect(rt, "memory");
+    tell_whole(rt, told, &mut source, number(rt, limit));
+}
+
+fn tell_sources(rt: &(impl Abort + AllocGlobal), told: &mut String) {
+    let mut slice = StdSource::over(b"abcde".as_slice());
+    tell_takes(told, &mut slice, 3);
+    let mut source = MemSource::over(rt.alloc(), b"abcde", &[2, 4]).expect(rt, "memory");
+    tell_takes(told, &mut source, 6);
+    let mut whole = StdSource::over(b"abcde".as_slice());
+    tell_whole(rt, told, &mut whole, 5);
+}
+
+fn tell_sink(rt: &(impl Abort + AllocGlobal), told: &mut String) {
+    let mut sink = MemSink::new(rt.alloc(), 4, &[1]).expect(rt, "memory");
+    tell_puts(told, &mut sink, "abc abc de e");
+    tell_debug(told, &sink.as_slice(), " ");
+}
+
+fn tell_whole_puts(rt: &(impl Abort + AllocGlobal), told: &mut String) {
+    let mut sink = MemSink::new(rt.alloc(), 4, &[]).expect(rt, "memory");
+    tell_whole_put(told, &mut sink, b"abcd");
+    tell_whole_put(told, &mut sink, b"");
+    tell_whole_put(told, &mut sink, b"e");
+    tell_debug(told, &sink.as_slice(), " ");
+}
+
+fn tell_written(rt: &(impl Abort + AllocGlobal), told: &mut String) {
+    let mut written = Vec::new(rt.alloc());
+    tell_whole_put(told, &mut StdSink::over(&mut written), b"abc");
+    tell_debug(told, &written.as_slice(), " ");
+}
+
+/// What a slice, memory and a vector answer.
+const TOLD: &str = "Got(3) Got(2) End Got(3) Failed Got(2) Failed End End [97, 98, 99, 100, 101] \
+    Failed Took(3) Took(1) Failed [97, 98, 99, 100] \
+    put put failed [97, 98, 99, 100] \
+    put [97, 98, 99]";
+
 #[test]
-fn whole_inputs_and_texts_pass(rt: HostRuntime) -> Result<(), Fail> {
-    let mut source = StdSource::over(b"abcde".as_slice());
-    let told = read_told(rt.alloc(), &mut source, 5)?;
-    assert!(rt; told.as_str() == "[97, 98, 99, 100, 101]", "{told}");
-    for (fails, limit, want) in [
-        (0, 5, "[97, 98, 99, 100, 101]"),
-        (0, 4, "more bytes than allowed"),
-        (2, 5, "a read failed"),
-    ] {
-        let mut source = MemSource::over(rt.alloc(), b"abcde", &[fails])?;
-        let told = read_told(rt.alloc(), &mut source, limit)?;
-        assert!(rt; told.as_str() == want, "{told}, not {want}");
-    }
-    let mut sink = MemSink::new(rt.alloc(), 4, &[])?;
-    for (text, passes) in [(b"abcd".as_slice(), true), (b"", true), (b"e", false)] {
-        assert!(rt; put_all(&mut sink, text).is_ok() == passes, "{text:?}");
-    }
-    assert_eq!(rt; sink.as_slice(), b"abcd".as_slice());
-    Ok(())
+fn sources_and_sinks_of_memory_answer(rt: HostRuntime) {
+    let mut told = String::new(rt.alloc());
+    tell_sources(&rt, &mut told);
+    tell_sink(&rt, &mut told);
+    tell_whole_puts(&rt, &mut told);
+    tell_written(&rt, &mut told);
+    assert_told(&rt, "memory", told.as_str(), TOLD);
 }

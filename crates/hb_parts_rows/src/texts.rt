@@ -1,149 +1,140 @@
 //! The texts of addresses, targets and identities.
 
-use crate::tables::{assert_told, bytes_of, text_of};
+use crate::tables::{bytes_of, put, put_if, tell, text_of};
 use hb_base::{Identity, Ip, Text, read_identity, read_ip, read_target};
-use std::alloc::{AllocError, Global};
-use std::fmt::Write;
-use std::test::Fail;
+use std::process::Abort;
 
-/// What a text is read as, the text, and what that gives: an address as the hexadecimal digits of its octets, an
-/// identity as its names, a principal as how that of `spiffe://td/ns/a/sa/b` matches it.
-const TEXTS: &str = "\
-address|0.0.0.0|00000000
-address|10.0.0.7|0a000007
-address|255.254.100.99|fffe6463
-address|10.0.0.07|none
-address|10.00.0.7|none
-address|256.0.0.7|none
-address|10.0.0|none
-address|10.0.0.7.1|none
-address|10.0.0.|none
-address| 10.0.0.7|none
-address|10.0.0.7 |none
-address|10.0.0.1000|none
-address||none
-address|2001:db8::1|none
-octets|0a 00 00 07|0a000007
-octets|20 01 0d b8 00 00 00 00 00 00 00 00 00 00 00 01|20010db8000000000000000000000001
-octets|00 00 00 00 00 00 00 00 00 00 ff ff 0a 00 00 07|0a000007
-octets|00 00 00 00 00 00 00 00 00 01 ff ff 0a 00 00 07|00000000000000000001ffff0a000007
-octets|00 00 00|none
-octets|00 00 00 00 00|none
-octets|00 00 00 00 00 00 00 00 00 00 ff ff 0a 00 00|none
-octets||none
-target|10.0.0.7:8080|0a000007 8080
-target|10.0.0.7:1|0a000007 1
-target|10.0.0.7:65535|0a000007 65535
-target|10.0.0.7:00080|0a000007 80
-target|10.0.0.7|no port
-target||no port
-target|a:80|not an address
-target|a:0|not an address
-target|10.0.0.7:80:80|not an address
-target|10.0.0.7:0|not a port
-target|10.0.0.7:65536|not a port
-target|10.0.0.7:000080|not a port
-target|10.0.0.7:|not a port
-target|10.0.0.7:8o|not a port
-target|[2001:db8::1]:80|not an address
-target|[2001:db8::1]|no port
-target|[2001:db8::1:80|no port
-identity|spiffe://cluster.local/ns/a/sa/c|cluster.local a c
-identity|spiffe://TD/ns/a_0/sa/c-x|TD a_0 c-x
-identity|spiffe://td/ns//sa/b|none
-identity|spiffe:///ns/a/sa/b|none
-identity|spiffe://td/ns/a/sa/|none
-identity|spiffe://td/ns/a/sa/b/|none
-identity|spiffe://td/ns/a/sa/b c|none
-identity|spiffe://td/ns/a%/sa/b|none
-identity|spiffe://td/sa/a/ns/b|none
-identity|spiffe://td/ns/a/sa|none
-identity|SPIFFE://td/ns/a/sa/b|none
-identity|td/ns/a/sa/b|none
-identity||none
-principal|td/ns/a/sa/b|equals starts ends
-principal||starts ends
-principal|td/ns/a|starts
-principal|/sa/b|ends
-principal|ns/a/sa/b|ends
-principal|td/ns/b|
-principal|td/ns/a/sa/b/|
-principal|xtd/ns/a/sa/b|";
+/// Texts, and the address that each is read as, in hexadecimal digits.
+pub const IPS: &str = "\
+0.0.0.0; 00000000
+10.0.0.7; 0a000007
+255.254.100.99; fffe6463
+10.0.0.07; none
+10.00.0.7; none
+256.0.0.7; none
+10.0.0; none
+10.0.0.7.1; none
+10.0.0.; none
+ 10.0.0.7; none
+10.0.0.7 ; none
+10.0.0.1000; none
+; none
+2001:db8::1; none";
 
-fn tell_ip(told: &mut String, ip: Option<Ip>) -> Result<(), AllocError> {
+/// Octets, and the address that they are read as, in hexadecimal digits.
+pub const OCTETS: &str = "\
+0a 00 00 07; 0a000007
+20 01 0d b8 00 00 00 00 00 00 00 00 00 00 00 01; 20010db8000000000000000000000001
+00 00 00 00 00 00 00 00 00 00 ff ff 0a 00 00 07; 0a000007
+00 00 00 00 00 00 00 00 00 01 ff ff 0a 00 00 07; 00000000000000000001ffff0a000007
+00 00 00; none
+00 00 00 00 00; none
+00 00 00 00 00 00 00 00 00 00 ff ff 0a 00 00; none
+; none";
+
+/// Texts, and the target that each is read as.
+pub const TARGETS: &str = "\
+10.0.0.7:8080; 0a000007 8080
+10.0.0.7:1; 0a000007 1
+10.0.0.7:65535; 0a000007 65535
+10.0.0.7:00080; 0a000007 80
+10.0.0.7; no port
+; no port
+a:80; not an address
+a:0; not an address
+10.0.0.7:80:80; not an address
+10.0.0.7:0; not a port
+10.0.0.7:65536; not a port
+10.0.0.7:000080; not a port
+10.0.0.7:; not a port
+10.0.0.7:8o; not a port
+[2001:db8::1]:80; not an address
+[2001:db8::1]; no port
+[2001:db8::1:80; no port";
+
+/// Texts, and the names of the identity that each is read as.
+pub const IDENTITIES: &str = "\
+spiffe://cluster.local/ns/a/sa/c; cluster.local a c
+spiffe://TD/ns/a_0/sa/c-x; TD a_0 c-x
+spiffe://td/ns//sa/b; none
+spiffe:///ns/a/sa/b; none
+spiffe://td/ns/a/sa/; none
+spiffe://td/ns/a/sa/b/; none
+spiffe://td/ns/a/sa/b c; none
+spiffe://td/ns/a%/sa/b; none
+spiffe://td/sa/a/ns/b; none
+spiffe://td/ns/a/sa; none
+SPIFFE://td/ns/a/sa/b; none
+td/ns/a/sa/b; none
+; none";
+
+/// Texts, and how the principal of `spiffe://td/ns/a/sa/b` matches each.
+pub const PRINCIPALS: &str = "\
+td/ns/a/sa/b; equals starts ends
+; starts ends
+td/ns/a; starts
+/sa/b; ends
+ns/a/sa/b; ends
+td/ns/b;
+td/ns/a/sa/b/;
+xtd/ns/a/sa/b;";
+
+fn tell_ip(told: &mut String, ip: Option<Ip>) {
     match ip {
-        Some(Ip::V4(n)) => write!(told, "{n:08x} "),
-        Some(Ip::V6(n)) => write!(told, "{n:032x} "),
-        None => told.push_str("none"),
+        Some(Ip::V4(n)) => {
+            let _ = write!(told, "{n:08x} ");
+        }
+        Some(Ip::V6(n)) => {
+            let _ = write!(told, "{n:032x} ");
+        }
+        None => put(told, "none"),
     }
 }
 
-fn tell_target(told: &mut String, text: &[u8]) -> Result<(), AllocError> {
-    match read_target(text) {
+pub fn tell_ip_text(told: &mut String, text: &str) {
+    tell_ip(told, read_ip(text.as_bytes()));
+}
+
+pub fn tell_octets(rt: &(impl Abort + AllocGlobal), told: &mut String, words: &str) {
+    tell_ip(told, Ip::from_octets(&bytes_of(rt, words)));
+}
+
+pub fn tell_target_text(told: &mut String, text: &str) {
+    match read_target(text.as_bytes()) {
         Ok(target) => {
-            tell_ip(told, Some(target.ip))?;
-            write!(told, "{}", target.port)
+            tell_ip(told, Some(target.ip));
+            tell(told, &target.port, "");
         }
-        Err(fault) => write!(told, "{fault}"),
+        Err(fault) => tell(told, &fault, ""),
     }
 }
 
-fn tell_name(told: &mut String, name: &Text) -> Result<(), AllocError> {
-    told.push_str(text_of(name))?;
-    told.push_str(" ")
+fn tell_name(told: &mut String, name: &Text) {
+    put(told, text_of(name));
+    put(told, " ");
 }
 
-fn tell_identity(told: &mut String, identity: Option<Identity>) -> Result<(), AllocError> {
+pub fn tell_identity(told: &mut String, identity: &Option<Identity>) {
     let Some(identity) = identity else {
-        return told.push_str("none");
+        return put(told, "none");
     };
-    tell_name(told, &identity.trust_domain)?;
-    tell_name(told, &identity.namespace)?;
-    tell_name(told, &identity.service_account)
+    tell_name(told, &identity.trust_domain);
+    tell_name(told, &identity.namespace);
+    tell_name(told, &identity.service_account);
 }
 
-fn tell_matches(told: &mut String, identity: &Identity, text: &[u8]) -> Result<(), AllocError> {
-    if identity.principal_equals(text) {
-        told.push_str("equals ")?;
-    }
-    if identity.principal_starts_with(text) {
-        told.push_str("starts ")?;
-    }
-    if identity.principal_ends_with(text) {
-        told.push_str("ends ")?;
-    }
-    Ok(())
+fn identity_of(rt: &(impl Abort + AllocGlobal), text: &str) -> Option<Identity> {
+    read_identity(rt.alloc(), text.as_bytes()).expect(rt, "memory")
 }
 
-fn text_told(alloc: Global, kind: &str, text: &str) -> Result<String, Fail> {
-    let mut told = String::new(alloc);
-    match kind {
-        "address" => tell_ip(&mut told, read_ip(text.as_bytes()))?,
-        "octets" => tell_ip(&mut told, Ip::from_octets(&bytes_of(alloc, text)?))?,
-        "target" => tell_target(&mut told, text.as_bytes())?,
-        "identity" => tell_identity(&mut told, read_identity(alloc, text.as_bytes())?)?,
-        "principal" => {
-            let identity = read_identity(alloc, b"spiffe://td/ns/a/sa/b")?.ok_or("an identity")?;
-            tell_matches(&mut told, &identity, text.as_bytes())?;
-        }
-        _ => told.push_str("no such kind")?,
-    }
-    Ok(told)
+pub fn tell_identity_text(rt: &(impl Abort + AllocGlobal), told: &mut String, text: &str) {
+    tell_identity(told, &identity_of(rt, text));
 }
 
-#[test]
-fn texts_are_read(rt: HostRuntime) -> Result<(), Fail> {
-    for line in TEXTS.lines() {
-        let mut row = line.split('|');
-        let kind = row.next().unwrap_or("");
-        let text = row.next().unwrap_or("");
-        let told = text_told(rt.alloc(), kind, text)?;
-        assert_told(
-            &rt,
-            line,
-            told.as_str(),
-            row.next().unwrap_or("no third field"),
-        );
-    }
-    Ok(())
+pub fn tell_principal(rt: &(impl Abort + AllocGlobal), told: &mut String, text: &str) {
+    let identity = identity_of(rt, "spiffe://td/ns/a/sa/b").expect(rt, "an identity");
+    let text = text.as_bytes();
+    put_if(told, identity.principal_equals(text), "equals ");
+    put_if(told, identity.principal_starts_with(text), "starts ");
+    put_if(told, identity.principal_ends_with(text), "ends ");
 }

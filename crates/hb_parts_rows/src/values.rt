@@ -1,98 +1,115 @@
 //! Bytes, texts, lists, notes and causes, and the texts of faults.
 
+use crate::tables::{assert_told, tell, tell_debug};
 use hb_base::{
     Bytes, Cause, Ip, List, Note, Peer, ReadStop, Target, Text, WriteFault, read_identity,
 };
-use std::test::Fail;
+use std::process::Abort;
 
-#[test]
-fn bytes_are_kept(rt: HostRuntime) -> Result<(), Fail> {
-    assert_eq!(rt;
-        Bytes::of(rt.alloc(), &[0xff])?.copy(rt.alloc())?.as_slice(),
-        [0xff].as_slice()
+fn tell_bytes(rt: &(impl Abort + AllocGlobal), told: &mut String) {
+    let alloc = rt.alloc();
+    let bytes = Bytes::of(alloc, &[0xff]).expect(rt, "memory");
+    let copy = bytes.copy(alloc).expect(rt, "memory");
+    tell_debug(told, &copy.as_slice(), " ");
+}
+
+fn tell_texts(rt: &(impl Abort + AllocGlobal), told: &mut String) {
+    let alloc = rt.alloc();
+    let text = Text::of(alloc, b"a\0b")
+        .expect(rt, "memory")
+        .expect(rt, "a text");
+    let copy = text.copy(alloc).expect(rt, "memory");
+    tell_debug(told, &copy.as_slice(), " ");
+    tell_debug(told, &Text::empty(alloc).as_slice(), " ");
+    tell_debug(
+        told,
+        &Text::of(alloc, &[0xff]).expect(rt, "memory").is_none(),
+        " ",
     );
-    Ok(())
 }
 
-#[test]
-fn texts_are_kept(rt: HostRuntime) -> Result<(), Fail> {
-    assert!(rt; Text::of(rt.alloc(), &[0xff])?.is_none());
-    let text = Text::of(rt.alloc(), b"a\0b")?.ok_or("a text")?;
-    assert_eq!(rt; text.copy(rt.alloc())?.as_slice(), b"a\0b".as_slice());
-    assert!(rt; Text::empty(rt.alloc()).as_slice().is_empty());
-    Ok(())
-}
-
-#[test]
-fn lists_are_kept(rt: HostRuntime) -> Result<(), Fail> {
+fn tell_list(rt: &(impl Abort + AllocGlobal), told: &mut String) {
     let mut list = List::new(rt.alloc());
-    assert!(rt; list.is_empty());
-    list.push(7u8)?;
-    assert_eq!(rt; list.len(), 1);
-    assert_eq!(rt; list.get(0).copied(), Some(7));
-    assert!(rt; list.get(1).is_none());
-    Ok(())
+    tell_debug(told, &list.is_empty(), " ");
+    list.push(7u8).expect(rt, "memory");
+    tell_debug(told, &(list.len(), list.get(0), list.get(1)), " ");
 }
 
+fn tell_cause(told: &mut String, cause: Cause) {
+    tell(told, &cause.word(), " ");
+    tell_debug(told, &cause.number(), ", ");
+}
+
+fn tell_causes(told: &mut String) {
+    tell_cause(told, Cause::Done);
+    tell_cause(told, Cause::PeerReset(8));
+    tell_cause(told, Cause::FrontFault(0));
+    tell_cause(told, Cause::NoMemory);
+}
+
+fn tell_faults(told: &mut String) {
+    tell(told, &ReadStop::TooLong, "; ");
+    tell(told, &ReadStop::Failed, "; ");
+    tell(told, &ReadStop::NoMemory, "; ");
+    tell(told, &WriteFault, "");
+}
+
+/// What the values tell, in turn.
+const TOLD: &str = "[255] [97, 0, 98] [] true true (1, Some(7), None) \
+    done None, peer reset Some(8), front fault Some(0), no memory None, \
+    more bytes than allowed; a read failed; out of memory; a write failed";
+
 #[test]
-fn a_copied_note_is_the_same(rt: HostRuntime) -> Result<(), Fail> {
-    let note = Note::Verdict {
+fn values_tell_what_they_are_given(rt: HostRuntime) {
+    let mut told = String::new(rt.alloc());
+    tell_bytes(&rt, &mut told);
+    tell_texts(&rt, &mut told);
+    tell_list(&rt, &mut told);
+    tell_causes(&mut told);
+    tell_faults(&mut told);
+    assert_told(&rt, "values", told.as_str(), TOLD);
+}
+
+fn note_of(rt: &(impl Abort + AllocGlobal), identity: &[u8]) -> Note {
+    Note::Verdict {
         link: 3,
         stream: 1,
         status: 403,
         peer: Peer {
             ip: Ip::V4(7),
-            identity: read_identity(rt.alloc(), b"spiffe://td/ns/a/sa/b")?,
+            identity: read_identity(rt.alloc(), identity).expect(rt, "memory"),
         },
         target: Some(Target {
             ip: Ip::V4(8),
             port: 80,
         }),
-    };
-    match note.copy(rt.alloc())? {
+    }
+}
+
+fn is_noted(note: &Note) -> bool {
+    match note {
         Note::Verdict {
             link: 3,
             stream: 1,
             status: 403,
-            peer,
+            peer: Peer {
+                ip: Ip::V4(7),
+                identity: Some(identity),
+            },
             target: Some(
                 Target {
                     ip: Ip::V4(8),
                     port: 80,
                 },
             ),
-        } => {
-            assert_eq!(rt; peer.ip, Ip::V4(7));
-            let identity = peer.identity.ok_or("an identity")?;
-            assert!(rt; identity.principal_equals(b"td/ns/a/sa/b"));
-        }
-        _ => assert!(rt; false, "another note"),
-    }
-    Ok(())
-}
-
-#[test]
-fn causes_have_their_words(rt: HostRuntime) {
-    for (cause, word, number) in [
-        (Cause::Done, "done", None),
-        (Cause::PeerReset(8), "peer reset", Some(8)),
-        (Cause::FrontFault(0), "front fault", Some(0)),
-        (Cause::NoMemory, "no memory", None),
-    ] {
-        assert!(rt; cause.word() == word && cause.number() == number, "{word}");
+        } => identity.principal_equals(b"td/ns/a/sa/b"),
+        _ => false,
     }
 }
 
 #[test]
-fn faults_have_their_texts(rt: HostRuntime) -> Result<(), Fail> {
-    let told = format!(in rt.alloc();
-        "{}; {}; {}; {}",
-        ReadStop::TooLong,
-        ReadStop::Failed,
-        ReadStop::NoMemory,
-        WriteFault
-    )?;
-    let want = "more bytes than allowed; a read failed; out of memory; a write failed";
-    assert_eq!(rt; told.as_str(), want);
-    Ok(())
+fn a_copied_note_is_the_same(rt: HostRuntime) {
+    let note = note_of(&rt, b"spiffe://td/ns/a/sa/b");
+    let copy = note.copy(rt.alloc()).expect(&rt, "memory");
+    assert!(rt; is_noted(&copy), "another note");
 }
