@@ -1,11 +1,8 @@
 //! The target that is known, and its answer. bench/answer_rows.py prints this file: it spells the messages, and has each
 //! answer as it was worked out by hand.
 
-use crate::runs::assert_answers;
-use std::test::Fail;
-
 /// Words, the input, and the answer. A line that begins with `#` says what the next one is.
-const ANSWERS: &str = "\
+pub const ANSWERS: &str = "\
 # One workload, and a peer without an identity.
 check|--node|n1|SOURCE|none|TARGET|; WORKLOAD; allow
 # One workload, and a peer with an identity.
@@ -112,15 +109,3 @@ check|--node|n1|SOURCE|none|TARGET|; 000000007612481a027531122c0a2a ADDRESS_TYPE
 check|--node|n1|SOURCE|none|TARGET|; 000000008312550a0131124c0a2a ADDRESS_TYPE 121e0a100a01771201611a040a0000084a026e320a0a1a040a0000074a026e311a027531222a ADDRESS_TYPE; allow
 # Two resources are not merged.
 check|--node|n1|SOURCE|none|TARGET|; 00000000b812450a0131123c0a2a ADDRESS_TYPE 120e0a0c0a01771201611a040a0000071a02753112430a0131123a0a2a ADDRESS_TYPE 120c0a0a0a01771201614a026e311a027531222a ADDRESS_TYPE; unknown";
-
-#[test]
-fn targets_are_known_by_what_is_held(rt: HostRuntime) -> Result<(), Fail> {
-    for line in ANSWERS.lines().filter(|line| !line.starts_with('#')) {
-        let mut fields = line.split(';');
-        let words = fields.next().unwrap_or("");
-        let input = fields.next().unwrap_or("");
-        let answer = fields.next().unwrap_or("").trim();
-        assert_answers(&rt, rt.alloc(), words, input, answer)?;
-    }
-    Ok(())
-}

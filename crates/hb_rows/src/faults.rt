@@ -1,13 +1,14 @@
 //! Reads and writes that fail.
 
+use crate::rows::field;
 use crate::runs::{Failing, assert_ends};
-use std::num::ParseIntError;
-use std::test::Fail;
+use std::process::Abort;
+use std::str::Split;
 
 /// Words, the input, the take of the input that fails, the put of the output that fails, the output's room, the put of
 /// the error text that fails, its room, and the status, the output and the error text. 0 stands for no call.
-const FAULTS: &str = r#"
-# The first take fails, or the second, behind all of the input; whatever the input is.
+pub const FAULTS: &str =
+    r#"# The first take fails, or the second, behind all of the input; whatever the input is.
 check|--node|n1|SOURCE|IDENTITY|TARGET|; WORKLOAD; 1; 0; 64; 0; 64; 6 "" "hbone: read fault\n"
 check|--node|n1|SOURCE|IDENTITY|TARGET|; WORKLOAD; 2; 0; 64; 0; 64; 6 "" "hbone: read fault\n"
 check|--node|n1|SOURCE|IDENTITY|TARGET|; ; 1; 0; 64; 0; 64; 6 "" "hbone: read fault\n"
@@ -62,34 +63,24 @@ check|; WORKLOAD; 1; 1; 0; 1; 0; 2 "" ""
 check|--node|n1|SOURCE|IDENTITY|TARGET|; WORKLOAD; 1; 1; 0; 1; 0; 6 "" ""
 check|--node|n1|SOURCE|IDENTITY|TARGET|; WORKLOAD; 0; 1; 0; 1; 0; 7 "" """#;
 
-/// The number that a field is.
-fn number(field: Option<&str>) -> Result<u64, ParseIntError> {
-    field.unwrap_or("").trim().parse::<u64>()
+/// The number that the next field is.
+fn number(rt: &impl Abort, fields: &mut Split<'_, char>) -> usize {
+    field(rt, fields).parse::<usize>().expect(rt, "a number")
 }
 
-#[test]
-fn faults_have_their_status(rt: HostRuntime) -> Result<(), Fail> {
-    for line in FAULTS.lines().skip(1) {
-        if line.starts_with('#') {
-            continue;
-        }
-        let mut fields = line.split(';');
-        let words = fields.next().unwrap_or("");
-        let input = fields.next().unwrap_or("");
-        let take = number(fields.next())?;
-        let put = number(fields.next())?;
-        let room = number(fields.next())?;
-        let err_put = number(fields.next())?;
-        let err_room = number(fields.next())?;
-        let want = fields.next().unwrap_or("").trim();
-        let failing = Failing {
-            takes: &[take],
-            puts: &[put],
-            room: room as usize,
-            err_puts: &[err_put],
-            err_room: err_room as usize,
-        };
-        assert_ends(&rt, rt.alloc(), words, input, failing, want)?;
+fn failing_of(rt: &impl Abort, fields: &mut Split<'_, char>) -> Failing {
+    Failing {
+        take: number(rt, fields) as u64,
+        put: number(rt, fields) as u64,
+        room: number(rt, fields),
+        err_put: number(rt, fields) as u64,
+        err_room: number(rt, fields),
     }
-    Ok(())
+}
+
+pub fn assert_fault(rt: &(impl Abort + AllocGlobal), fields: &mut Split<'_, char>) {
+    let words = field(rt, fields);
+    let input = field(rt, fields);
+    let failing = failing_of(rt, fields);
+    assert_ends(rt, words, input, failing, field(rt, fields));
 }

@@ -1,12 +1,9 @@
 //! Policies, and what they answer. bench/policy_rows.py prints this file: it spells the messages, and has each answer as
 //! it was worked out by hand.
 
-use crate::runs::{AS_C, AS_D, AS_NONE, assert_answers};
-use std::test::Fail;
-
 /// The input, and the answers for two peers with an identity and for one without. A line that begins with `#` says what
 /// the next one is.
-const POLICIES: &str = "\
+pub const POLICIES: &str = "\
 # No policies.
 WORKLOAD; allow; allow; allow
 # An ALLOW without rules never fires.
@@ -153,16 +150,3 @@ WORKLOAD 00000000d912410a013112390a30 POLICY_TYPE 12050a01642a001a016412620a0131
 WORKLOAD 000000007c12480a0131123e0a30 POLICY_TYPE 120a0a017012016120012a001a03612f702230 POLICY_TYPE 000000009912650a0131125b0a30 POLICY_TYPE 12270a01701201612a1f121d121b1a190a17636c75737465722e6c6f63616c2f6e732f612f73612f631a03612f702230 POLICY_TYPE; allow; deny; deny
 # A policy and an address of the same name stand side by side.
 WORKLOAD 000000009712630a0131125a0a30 POLICY_TYPE 12260a016420012a1f121d121b1a190a17636c75737465722e6c6f63616c2f6e732f612f73612f631a0275312230 POLICY_TYPE; deny; allow; allow";
-
-#[test]
-fn policies_allow_and_deny(rt: HostRuntime) -> Result<(), Fail> {
-    for line in POLICIES.lines().filter(|line| !line.starts_with('#')) {
-        let mut fields = line.split(';');
-        let input = fields.next().unwrap_or("");
-        for words in [AS_C, AS_D, AS_NONE] {
-            let answer = fields.next().unwrap_or("").trim();
-            assert_answers(&rt, rt.alloc(), words, input, answer)?;
-        }
-    }
-    Ok(())
-}

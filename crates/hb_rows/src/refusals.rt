@@ -1,11 +1,8 @@
 //! Inputs that are refused. bench/refusal_rows.py prints this file: it spells the messages, and has each number and reason
 //! as it was worked out by hand.
 
-use crate::runs::{AS_C, assert_refuses};
-use std::test::Fail;
-
 /// The input, and the line that tells why it is refused. A line that begins with `#` says what the next one is.
-const REFUSALS: &str = "\
+pub const REFUSALS: &str = "\
 # A name is removed and added in the second message.
 WORKLOAD REMOVED_AND_ADDED; hbone: message 2: not yet
 # One byte.
@@ -224,14 +221,3 @@ WORKLOAD WORKLOAD WORKLOAD WORKLOAD WORKLOAD WORKLOAD WORKLOAD WORKLOAD WORKLOAD
 0000000031222a ADDRESS_TYPE 3202753100; hbone: message 1: not a response
 # A resource without a name, and bad UTF-8 behind it.
 0000000073124212400a2a ADDRESS_TYPE 12120a100a01771201611a040a0000074a026e31222a ADDRESS_TYPE 2a01ff; hbone: message 1: not a response";
-
-#[test]
-fn refused_inputs_have_status_3(rt: HostRuntime) -> Result<(), Fail> {
-    for line in REFUSALS.lines().filter(|line| !line.starts_with('#')) {
-        let mut fields = line.split(';');
-        let input = fields.next().unwrap_or("");
-        let reason = fields.next().unwrap_or("").trim();
-        assert_refuses(&rt, rt.alloc(), AS_C, input, 3, reason)?;
-    }
-    Ok(())
-}

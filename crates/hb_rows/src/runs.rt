@@ -1,11 +1,10 @@
-//! One run over memory, compared whole.
+//! One run over memory, compared whole. A test ends where memory is wanting.
 
 use crate::messages::{
     ADDRESS_TYPE, ALLOW_NONE, ALLOW_ONE, DENY_ALL, POLICY_TYPE, REMOVED_AND_ADDED, WORKLOAD,
 };
 use hb_base::{MemSink, MemSource};
 use hb_cli::run;
-use std::alloc::{AllocError, Global};
 use std::process::Abort;
 
 /// The words of a question with an identity, each ended by `|`.
@@ -17,23 +16,23 @@ pub const AS_D: &str = "check|--node|n1|SOURCE|spiffe://cluster.local/ns/b/sa/d|
 /// The words of a question without an identity.
 pub const AS_NONE: &str = "check|--node|n1|SOURCE|none|TARGET|";
 
-/// Which calls of a run fail, counted from 1: the takes of the input, the puts of the output, and the puts of
-/// the error text; and the room of the latter two.
-#[derive(Clone, Copy, Debug)]
-pub struct Failing<'a> {
-    pub takes: &'a [u64],
-    pub puts: &'a [u64],
+/// Which calls of a run fail, counted from 1, or 0 for none: a take of the input, a put of the output, and a put of the
+/// error text; and the room of the latter two.
+#[derive(Clone, Copy)]
+pub struct Failing {
+    pub take: u64,
+    pub put: u64,
     pub room: usize,
-    pub err_puts: &'a [u64],
+    pub err_put: u64,
     pub err_room: usize,
 }
 
 /// No call fails, and there is room for each line.
-pub const NOTHING_FAILS: Failing<'static> = Failing {
-    takes: &[],
-    puts: &[],
+pub const NOTHING_FAILS: Failing = Failing {
+    take: 0,
+    put: 0,
     room: 256,
-    err_puts: &[],
+    err_put: 0,
     err_room: 256,
 };
 
@@ -52,12 +51,13 @@ fn word_of(name: &str) -> &str {
 }
 
 /// Words as a program is given them, of a text in which each is ended by `|`.
-fn words_of(alloc: Global, text: &str) -> Result<Vec<String>, AllocError> {
-    let mut words = Vec::new(alloc);
+fn words_of(rt: &(impl Abort + AllocGlobal), text: &str) -> Vec<String> {
+    let mut words = Vec::new(rt.alloc());
     for name in text.split_terminator('|') {
-        words.push(String::from_str(alloc, word_of(name))?)?;
+        let word = String::from_str(rt.alloc(), word_of(name)).expect(rt, "memory");
+        words.push(word).expect(rt, "memory");
     }
-    Ok(words)
+    words
 }
 
 /// The digits that the name of a part of an input stands for; of any other text, the text.
@@ -75,117 +75,110 @@ fn digits_of(name: &str) -> &str {
 }
 
 /// The value of a hexadecimal digit.
-fn nibble_of(rt: &impl Abort, digit: u8, digits: &str) -> u8 {
+fn nibble_of(digit: u8) -> Option<u8> {
     match digit {
-        b'0'..=b'9' => digit - b'0',
-        b'a'..=b'f' => digit - b'a' + 10,
-        _ => panic!(rt; "{digits} is neither the name of a part nor hexadecimal digits"),
+        b'0'..=b'9' => Some(digit - b'0'),
+        b'a'..=b'f' => Some(digit - b'a' + 10),
+        _ => None,
     }
 }
 
 /// Appends the bytes that hexadecimal digits stand for, two digits each, with spaces between some.
-fn push_bytes(rt: &impl Abort, bytes: &mut Vec<u8>, digits: &str) -> Result<(), AllocError> {
+fn push_bytes(rt: &impl Abort, bytes: &mut Vec<u8>, digits: &str) {
     let mut high: Option<u8> = None;
     for digit in digits.as_bytes() {
         if *digit == b' ' {
             continue;
         }
-        let low = nibble_of(rt, *digit, digits);
+        let low = nibble_of(*digit).expect(rt, digits);
         match high {
             None => high = Some(low),
             Some(first) => {
-                bytes.push((first % 16) * 16 + low % 16)?;
+                bytes
+                    .push((first % 16) * 16 + low % 16)
+                    .expect(rt, "memory");
                 high = None;
             }
         }
     }
     assert!(rt; high.is_none(), "half a byte in {digits}");
-    Ok(())
 }
 
 /// The input of a text: hexadecimal digits, and names of parts, with spaces between. Any other text is refused.
-pub fn input_of(rt: &impl Abort, alloc: Global, text: &str) -> Result<Vec<u8>, AllocError> {
-    let mut bytes = Vec::new(alloc);
+pub fn input_of(rt: &(impl Abort + AllocGlobal), text: &str) -> Vec<u8> {
+    let mut bytes = Vec::new(rt.alloc());
     for name in text.split(' ') {
-        push_bytes(rt, &mut bytes, digits_of(name))?;
+        push_bytes(rt, &mut bytes, digits_of(name));
     }
-    Ok(bytes)
+    bytes
+}
+
+/// A status, and the output and the error text, each as a Rust literal.
+fn told(rt: &(impl Abort + AllocGlobal), status: u8, out: &[u8], err: &[u8]) -> String {
+    let out = text_of(out);
+    let err = text_of(err);
+    format!(in rt.alloc(); "{status} {out:?} {err:?}").expect(rt, "memory")
 }
 
 /// A run over memory, some of whose calls fail: its status, and all that it wrote as output and as error text.
 fn run_over(
-    alloc: Global,
+    rt: &(impl Abort + AllocGlobal),
     words: &str,
     bytes: &[u8],
-    failing: Failing<'_>,
-) -> Result<String, AllocError> {
-    let words = words_of(alloc, words)?;
-    let mut input = MemSource::over(alloc, bytes, failing.takes)?;
-    let mut out = MemSink::new(alloc, failing.room, failing.puts)?;
-    let mut err = MemSink::new(alloc, failing.err_room, failing.err_puts)?;
+    failing: Failing,
+) -> String {
+    let alloc = rt.alloc();
+    let words = words_of(rt, words);
+    let mut input = MemSource::over(alloc, bytes, &[failing.take]).expect(rt, "memory");
+    let mut out = MemSink::new(alloc, failing.room, &[failing.put]).expect(rt, "memory");
+    let mut err = MemSink::new(alloc, failing.err_room, &[failing.err_put]).expect(rt, "memory");
     let status = run(alloc, words.as_slice(), &mut input, &mut out, &mut err);
-    told(alloc, status, out.as_slice(), err.as_slice())
-}
-
-/// A status, and the output and the error text, each as a Rust literal.
-fn told(alloc: Global, status: u8, out: &[u8], err: &[u8]) -> Result<String, AllocError> {
-    let out = text_of(out);
-    let err = text_of(err);
-    format!(in alloc; "{status} {out:?} {err:?}")
+    told(rt, status, out.as_slice(), err.as_slice())
 }
 
 /// Runs over the bytes of an input, and compares the status and all that was written.
 pub fn assert_run(
-    rt: &impl Abort,
-    alloc: Global,
+    rt: &(impl Abort + AllocGlobal),
     words: &str,
     bytes: &[u8],
-    failing: Failing<'_>,
+    failing: Failing,
     want: &str,
-) -> Result<(), AllocError> {
-    let ended = run_over(alloc, words, bytes, failing)?;
+) {
+    let ended = run_over(rt, words, bytes, failing);
     assert!(rt;
         ended.as_bytes() == want.as_bytes(),
-        "{words} {failing:?}: {ended}, not {want}"
+        "{words}: {ended}, not {want}"
     );
-    Ok(())
 }
 
 /// Runs over an input, and compares the status and all that was written.
 pub fn assert_ends(
-    rt: &impl Abort,
-    alloc: Global,
+    rt: &(impl Abort + AllocGlobal),
     words: &str,
     input: &str,
-    failing: Failing<'_>,
+    failing: Failing,
     want: &str,
-) -> Result<(), AllocError> {
-    let bytes = input_of(rt, alloc, input)?;
-    assert_run(rt, alloc, words, &bytes, failing, want)
+) {
+    let bytes = input_of(rt, input);
+    assert_run(rt, words, &bytes, failing, want);
 }
 
 /// Runs over an input, and compares the answer, beside which nothing is written.
-pub fn assert_answers(
-    rt: &impl Abort,
-    alloc: Global,
-    words: &str,
-    input: &str,
-    answer: &str,
-) -> Result<(), AllocError> {
-    let want = format!(in alloc; "0 \"{answer}\\n\" \"\"")?;
-    assert_ends(rt, alloc, words, input, NOTHING_FAILS, want.as_str())
+pub fn assert_answers(rt: &(impl Abort + AllocGlobal), words: &str, input: &str, answer: &str) {
+    let want = format!(in rt.alloc(); "0 \"{answer}\\n\" \"\"").expect(rt, "memory");
+    assert_ends(rt, words, input, NOTHING_FAILS, want.as_str());
 }
 
-/// Runs over an input, and compares the status, which isn't 0, and its line of error text, beside which nothing is
-/// written.
+/// Runs over an input, some of whose calls fail, and compares the status, which isn't 0, and its line of error text, beside
+/// which nothing is written.
 pub fn assert_refuses(
-    rt: &impl Abort,
-    alloc: Global,
+    rt: &(impl Abort + AllocGlobal),
     words: &str,
     input: &str,
+    failing: Failing,
     status: u8,
     line: &str,
-) -> Result<(), AllocError> {
-    let want = format!(in alloc; "{status} \"\" \"{line}\\n\"")?;
-    assert_ends(rt, alloc, words, input, NOTHING_FAILS, want.as_str())
+) {
+    let want = format!(in rt.alloc(); "{status} \"\" \"{line}\\n\"").expect(rt, "memory");
+    assert_ends(rt, words, input, failing, want.as_str());
 }

@@ -1,44 +1,41 @@
 //! Words that are accepted, and words that aren't.
 
-use crate::runs::{Failing, NOTHING_FAILS, assert_answers, assert_ends};
-use std::alloc::{AllocError, Global};
+use crate::runs::{Failing, NOTHING_FAILS, assert_refuses};
 use std::process::Abort;
-use std::test::Fail;
 
-/// Words that are accepted, each ended by `|`, and the answer where one workload of node `n1` has the address 10.0.0.7.
-/// A line that begins with `#` says what the next ones are.
-const ACCEPTED: &str = "\
+/// Words that are accepted, each ended by `|`, the input of one workload of node `n1` with the address 10.0.0.7, and the answer.
+pub const ACCEPTED: &str = "\
 # The identity is given or not.
-check|--node|n1|SOURCE|IDENTITY|TARGET|; allow
-check|--node|n1|SOURCE|none|TARGET|; allow
+check|--node|n1|SOURCE|IDENTITY|TARGET|; WORKLOAD; allow
+check|--node|n1|SOURCE|none|TARGET|; WORKLOAD; allow
 # The value of --node is any other text.
-check|--node|n2|SOURCE|none|TARGET|; unknown
-check|--node|check|SOURCE|none|TARGET|; unknown
-check|--node|n1 |SOURCE|none|TARGET|; unknown
-check|--node| |SOURCE|none|TARGET|; unknown
-check|--node|n-1|SOURCE|none|TARGET|; unknown
-check|--node|n1=n1|SOURCE|none|TARGET|; unknown
-check|--node|é|SOURCE|none|TARGET|; unknown
+check|--node|n2|SOURCE|none|TARGET|; WORKLOAD; unknown
+check|--node|check|SOURCE|none|TARGET|; WORKLOAD; unknown
+check|--node|n1 |SOURCE|none|TARGET|; WORKLOAD; unknown
+check|--node| |SOURCE|none|TARGET|; WORKLOAD; unknown
+check|--node|n-1|SOURCE|none|TARGET|; WORKLOAD; unknown
+check|--node|n1=n1|SOURCE|none|TARGET|; WORKLOAD; unknown
+check|--node|é|SOURCE|none|TARGET|; WORKLOAD; unknown
 # The first and the last address, and all octets at their bounds.
-check|--node|n1|0.0.0.0|none|TARGET|; allow
-check|--node|n1|255.255.255.255|none|TARGET|; allow
-check|--node|n1|SOURCE|none|0.0.0.0:1|; unknown
-check|--node|n1|SOURCE|none|255.255.255.255:65535|; unknown
+check|--node|n1|0.0.0.0|none|TARGET|; WORKLOAD; allow
+check|--node|n1|255.255.255.255|none|TARGET|; WORKLOAD; allow
+check|--node|n1|SOURCE|none|0.0.0.0:1|; WORKLOAD; unknown
+check|--node|n1|SOURCE|none|255.255.255.255:65535|; WORKLOAD; unknown
 # Ports at their bounds, with leading zeros up to five digits.
-check|--node|n1|SOURCE|none|10.0.0.7:1|; allow
-check|--node|n1|SOURCE|none|10.0.0.7:65535|; allow
-check|--node|n1|SOURCE|none|10.0.0.7:00080|; allow
-check|--node|n1|SOURCE|none|10.0.0.7:00001|; allow
+check|--node|n1|SOURCE|none|10.0.0.7:1|; WORKLOAD; allow
+check|--node|n1|SOURCE|none|10.0.0.7:65535|; WORKLOAD; allow
+check|--node|n1|SOURCE|none|10.0.0.7:00080|; WORKLOAD; allow
+check|--node|n1|SOURCE|none|10.0.0.7:00001|; WORKLOAD; allow
 # Each character of an identity's grammar, and names of one character.
-check|--node|n1|SOURCE|spiffe://A.b_c-9/ns/-/sa/_|TARGET|; allow
-check|--node|n1|SOURCE|spiffe://a/ns/ns/sa/sa|TARGET|; allow
-check|--node|n1|SOURCE|spiffe://none/ns/./sa/..|TARGET|; allow";
+check|--node|n1|SOURCE|spiffe://A.b_c-9/ns/-/sa/_|TARGET|; WORKLOAD; allow
+check|--node|n1|SOURCE|spiffe://a/ns/ns/sa/sa|TARGET|; WORKLOAD; allow
+check|--node|n1|SOURCE|spiffe://none/ns/./sa/..|TARGET|; WORKLOAD; allow";
 
 /// The form of accepted words, which each reason names.
 const USAGE: &str = "(usage: hbone check --node NODE SOURCE IDENTITY TARGET)";
 
 /// Words that aren't accepted, each ended by `|`; an empty line has none. A line that begins with `=` has the reason that
-/// is told of the next ones, and one that begins with `#` says what they are.
+/// is told of the next ones.
 const REFUSED: &str = "\
 # No command, or another.
 = a command is wanted
@@ -257,53 +254,29 @@ show|--x|
 = unknown option
 check|--x|--node|";
 
-#[test]
-fn accepted_words_have_an_answer(rt: HostRuntime) -> Result<(), Fail> {
-    for line in ACCEPTED.lines() {
-        if line.starts_with('#') {
-            continue;
-        }
-        let mut fields = line.split(';');
-        let words = fields.next().unwrap_or("");
-        let answer = fields.next().unwrap_or("").trim();
-        assert_answers(&rt, rt.alloc(), words, "WORKLOAD", answer)?;
-    }
-    Ok(())
-}
-
 /// Words are refused, and nothing is read: the first take fails, and the status would be 6.
-fn assert_words_refused(
-    rt: &impl Abort,
-    alloc: Global,
-    text: &str,
-    reason: &str,
-) -> Result<(), AllocError> {
-    let want = format!(in alloc; "2 \"\" \"hbone: words: {reason} {USAGE}\\n\"")?;
+fn assert_words_refused(rt: &(impl Abort + AllocGlobal), words: &str, reason: &str) {
+    let line = format!(in rt.alloc(); "hbone: words: {reason} {USAGE}").expect(rt, "memory");
     let failing = Failing {
-        takes: &[1],
+        take: 1,
         ..NOTHING_FAILS
     };
-    assert_ends(rt, alloc, text, "WORKLOAD", failing, want.as_str())
+    assert_refuses(rt, words, "WORKLOAD", failing, 2, line.as_str());
 }
 
 /// A reason, and behind it the words that are refused for it, a line each.
-fn assert_group_refused(rt: &impl Abort, alloc: Global, group: &str) -> Result<(), AllocError> {
-    let Some((reason, rows)) = group.split_once('\n') else {
-        panic!(rt; "no words stand under {group}");
-    };
+fn assert_group_refused(rt: &(impl Abort + AllocGlobal), group: &str) {
+    let (reason, rows) = group.split_once('\n').expect(rt, "words under a reason");
     for line in rows.lines() {
-        if line.starts_with('#') {
-            continue;
+        if !line.starts_with('#') {
+            assert_words_refused(rt, line, reason);
         }
-        assert_words_refused(rt, alloc, line, reason)?;
     }
-    Ok(())
 }
 
 #[test]
-fn other_words_have_status_2(rt: HostRuntime) -> Result<(), Fail> {
-    for group in REFUSED.split("= ").skip(1) {
-        assert_group_refused(&rt, rt.alloc(), group)?;
+fn other_words_have_status_2(rt: HostRuntime) {
+    for group in REFUSED.split("= ") {
+        assert_group_refused(&rt, group);
     }
-    Ok(())
 }

@@ -1,0 +1,74 @@
+//! Tables that are one text: a row a line, its fields with semicolons between. A line that begins with `#` says what the next
+//! ones are.
+
+use crate::answers::ANSWERS;
+use crate::faults::{FAULTS, assert_fault};
+use crate::policies::POLICIES;
+use crate::refusals::REFUSALS;
+use crate::runs::{AS_C, AS_D, AS_NONE, NOTHING_FAILS, assert_answers, assert_refuses};
+use crate::words::ACCEPTED;
+use std::process::Abort;
+use std::str::Split;
+
+/// What the rows of a table are.
+enum Kind {
+    /// Words, the input, and the answer.
+    Answers,
+    /// The input, and the answers for two peers with an identity and for one without.
+    Policies,
+    /// The input, and the line that tells why it is refused.
+    Refusals,
+    /// Words, reads and writes that fail, and what a run ends with.
+    Faults,
+}
+
+/// The next field of a row.
+pub fn field<'a>(rt: &impl Abort, fields: &mut Split<'a, char>) -> &'a str {
+    fields.next().expect(rt, "a field").trim()
+}
+
+fn assert_row(rt: &(impl Abort + AllocGlobal), kind: &Kind, row: &str) {
+    let mut fields = row.split(';');
+    match kind {
+        Kind::Answers => assert_answer(rt, &mut fields),
+        Kind::Policies => assert_policy(rt, &mut fields),
+        Kind::Refusals => assert_refusal(rt, &mut fields),
+        Kind::Faults => assert_fault(rt, &mut fields),
+    }
+}
+
+fn assert_answer(rt: &(impl Abort + AllocGlobal), fields: &mut Split<'_, char>) {
+    let words = field(rt, fields);
+    let input = field(rt, fields);
+    assert_answers(rt, words, input, field(rt, fields));
+}
+
+fn assert_policy(rt: &(impl Abort + AllocGlobal), fields: &mut Split<'_, char>) {
+    let input = field(rt, fields);
+    assert_answers(rt, AS_C, input, field(rt, fields));
+    assert_answers(rt, AS_D, input, field(rt, fields));
+    assert_answers(rt, AS_NONE, input, field(rt, fields));
+}
+
+fn assert_refusal(rt: &(impl Abort + AllocGlobal), fields: &mut Split<'_, char>) {
+    let input = field(rt, fields);
+    assert_refuses(rt, AS_C, input, NOTHING_FAILS, 3, field(rt, fields));
+}
+
+/// Each row of a table ends as it wants.
+fn assert_rows(rt: &(impl Abort + AllocGlobal), kind: &Kind, table: &str) {
+    for line in table.lines() {
+        if !line.starts_with('#') {
+            assert_row(rt, kind, line);
+        }
+    }
+}
+
+#[test]
+fn runs_end_as_their_rows_want(rt: HostRuntime) {
+    assert_rows(&rt, &Kind::Answers, ANSWERS);
+    assert_rows(&rt, &Kind::Answers, ACCEPTED);
+    assert_rows(&rt, &Kind::Policies, POLICIES);
+    assert_rows(&rt, &Kind::Refusals, REFUSALS);
+    assert_rows(&rt, &Kind::Faults, FAULTS);
+}
