@@ -126,9 +126,9 @@ def main():
             frame = parsed(octets)
         except Exception:  # hyperframe keeps the reserved bit of an increment; read it without that bit
             frame = parsed(changed(octets, 9, octets[9] & 0x7F))
-        literal = "".join(f"\\x{octet:02x}" for octet in octets)
-        shown = f"Frame {{ flags: {octets[4]}, stream: {frame.stream_id}, body: {body_of(frame, octets)} }}"
-        print(f'    Vector {{\n        octets: b"{literal}",\n        shown: "{shown}",\n    }},')
+        zeros = len(octets) - len(octets.rstrip(b"\0"))
+        words = octets.hex() if zeros < 16 else f"{octets[:-zeros].hex()} 00*{zeros}"
+        print(f"{words}; Frame {{ flags: {octets[4]}, stream: {frame.stream_id}, body: {body_of(frame, octets)} }}")
 
 
 if __name__ == "__main__":

@@ -341,5 +341,5 @@ print("//! `n` begins a new decoder. `r` has a block, the sizes of its list and 
 print("//! of each `|`, the name, `|` and the value, where `%` and two digits are a byte. `f` has a block, and the offset and number of its fault.")
 print("//! %d blocks are read and %d are refused." % (counts["reads"], counts["faults"]))
 for i, part in enumerate(parts):
-    print('\npub const PART_%d: &str = "\\\n%s";' % (i + 1, "\n".join(part)))
+    print('\npub const PART_%d: &[u8] = b"\\\n%s";' % (i + 1, "\n".join(part)))
 sys.stderr.write("%s\n" % counts)
