@@ -1,0 +1,93 @@
+ghost use Rattle.std.specs.Prelude.{◌≡◌, OnOk, OnErr, IfSome, IfNone};
+ghost use Rattle.std.specs.Option.{option_copied};
+ghost use Rattle.std.specs.Borrow.{sem};
+ghost use Rattle.std.specs.FinMap as map;
+ghost use Rattle.hb_map.specs.Keyed.{IsFirstFrom};
+ghost use Rattle.hb_map.specs.Lending.{LendsById};
+
+use hb_base::NoMemory;
+use std::alloc::Global;
+use std::collections::BTreeMap;
+use std::marker::Model;
+
+/// Values under numbers, one at most under each. Contracts see the finite map from the numbers to the
+/// values.
+#[derive(Drop)]
+pub struct ById<T> {
+    items: BTreeMap<u32, T>,
+}
+
+impl<T> Model for ById<T> {
+    ghost use Rattle.std.specs.FinMap.{FinMap, from_entries, code};
+    ghost use Rattle.std.specs.Coded.{coded_ℕ};
+    ghost use Rattle.std.specs.Ordering.{nat_cmp};
+
+    ghost Value = { FinMap nat_cmp T };
+
+    ghost coded = { code coded_ℕ T.code };
+
+    ghost view = { λ m. from_entries m.items.entries };
+}
+
+impl<T> ById<T> {
+    /// The empty map, which takes no memory.
+    pub fn new(alloc: Global) -> ById<T>
+        ensures { result ≡ map.empty }
+    {
+        ById {
+            items: BTreeMap::new(alloc),
+        }
+    }
+
+    /// How many values it holds.
+    pub fn len(&self) -> usize
+        ensures { result ≡ map.len self.now }
+    {
+        self.items.len()
+    }
+
+    /// The value under a number.
+    pub fn get(&self, id: u32) -> Option<&T>
+        ensures { option_copied result ≡ map.get self.now id }
+    {
+        self.items.get(&id)
+    }
+
+    /// The value under a number, to be changed.
+    pub fn at(&mut self, id: u32) -> Option<&mut T>
+        ensures* after { sem 𝓛 (LendsById T.row self.entry id result) }
+        ensures value { IfSome result (λ item. map.get self.old id ≡ Some item.now) }
+        ensures none { IfNone result (map.get self.old id ≡ None) }
+    {
+        self.items.get_mut(&id)
+    }
+
+    /// Takes the value under a number out.
+    pub fn remove(&mut self, id: u32) -> Option<T>
+        ensures value { result ≡ map.get self.old id }
+        ensures rest { self.new ≡ map.remove self.old id }
+    {
+        self.items.remove(&id)
+    }
+
+    /// The least number from `id` on that has a value.
+    pub fn first_from(&self, id: u32) -> Option<u32>
+        ensures { IsFirstFrom self.now id result }
+    {
+        match self.items.range(id..).next() {
+            Some((first, _)) => Some(*first),
+            None => None,
+        }
+    }
+}
+
+impl<T: Drop> ById<T> {
+    /// Puts a value under a number, in place of one that stood there. On an error the value is dropped.
+    pub fn put(&mut self, id: u32, item: T) -> Result<(), NoMemory>
+        ensures ok { OnOk result (self.new ≡ map.insert self.old id item) }
+        ensures err { OnErr result (self.new ≡ self.old) }
+    {
+        self.items.insert(id, item)?;
+        Ok(())
+    }
+}
