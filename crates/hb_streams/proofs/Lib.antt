@@ -1,0 +1,5 @@
+pub mod Begins
+pub mod Keys
+pub mod Lasts
+pub mod Room
+pub mod Used
