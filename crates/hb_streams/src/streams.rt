@@ -1,6 +1,6 @@
 //! All streams of one connection.
 
-ghost use Rattle.std.specs.Prelude.{◌≡◌, IfOk, OnOk, OnErr, IsTrue};
+ghost use Rattle.std.specs.Prelude.{◌≡◌, IfOk, OnOk, OnErr, IsOk, IsTrue};
 ghost use Rattle.hb_base.specs.Outcome.{Answers};
 ghost use Rattle.hb_streams.specs.Sides.{both_open, sides_of, IsActive};
 ghost use Rattle.hb_streams.specs.States.{fresh, is_full, state_of, state_of_others};
@@ -91,6 +91,7 @@ impl Streams {
     pub fn open(&mut self, limit: u32) -> Result<u32, Or<OpenFault>>
         requires { self.old.role ≡ Role.Client }
         ensures told { Answers result (number_of self.old limit) }
+        ensures memory { result ≡ Err Or.NoMemory → IsOk (number_of self.old limit) }
         ensures after { Makes self.old self.new (begins limit) result }
         ensures err { OnErr result (self.new ≡ self.old) }
     {
