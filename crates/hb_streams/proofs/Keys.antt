@@ -1,39 +1,40 @@
--- Which numbers have a stream after each change of a map of streams, and how many there are.
-use Rattle.std.proofs.Common.{◌≡◌, ℕ, ◌+◌, ◌-◌, ◌≤◌, Bool, true, false, cond, ◌⊎◌, inl, inr, is_some, refl, sym, ap, subst, ◌∙◌, arith}
+-- What a map under numbers has after each change, and how much.
+use Rattle.std.proofs.Common.{◌≡◌, ℕ, ◌+◌, ◌-◌, ◌≤◌, Bool, true, false, cond, ◌⊎◌, inl, inr, Some, unwrap_or, is_some, refl, sym, ap, subst, ◌∙◌, arith}
 use Rattle.std.specs.Ordering.{nat_cmp}
 use Rattle.std.specs.Cmp.{nat_cmp_total}
 use Rattle.std.specs.FinMap.{FinMap, get, insert, remove, len, len-insert, len-remove}
 use Rattle.std.proofs.lemmas.Bool.{false≢true, cases_eq}
 use Rattle.hb_map.specs.Keyed.{written}
-use Rattle.hb_map.proofs.Laws.{put_elsewhere, removed_here, removed_elsewhere, len_written}
+use Rattle.hb_map.proofs.Laws.{put_here, put_elsewhere, removed_here, removed_elsewhere, len_written}
 
 module _ {T : Type 0} (m : FinMap nat_cmp T) (k : ℕ) where
-  -- a number that has a value is the one under which it was put, or had one before
-  pub keys-insert : (v : T) (q : ℕ) → is_some (get (insert m k v) q) ≡ true → (q ≡ k) ⊎ (is_some (get m q) ≡ true)
-  keys-insert v q there =
+  -- what is held is what was put, or was held before
+  pub held-insert : (v w : T) (q : ℕ) → get (insert m k v) q ≡ Some w → ((q ≡ k) × (w ≡ v)) ⊎ (get m q ≡ Some w)
+  held-insert v w q there =
       elim (cases_eq q k) [
-        | inl same ↦ inl same
-        | inr apart ↦ inr (sym (ap is_some (put_elsewhere m k v q apart)) ∙ there)
+        | inl same ↦ inl (same, sym (ap (λ o. unwrap_or o v) (sym (ap (get (insert m k v)) same ∙ put_here m k v) ∙ there)))
+        | inr apart ↦ inr (sym (put_elsewhere m k v q apart) ∙ there)
       ]
 
-  pub keys-remove : (q : ℕ) → is_some (get (remove m k) q) ≡ true → is_some (get m q) ≡ true
-  keys-remove q there =
+  pub held-remove : (w : T) (q : ℕ) → get (remove m k) q ≡ Some w → get m q ≡ Some w
+  held-remove w q there =
       elim (cases_eq q k) [
-        | inl same ↦ absurd (false≢true (sym (ap is_some (ap (get (remove m k)) same ∙ removed_here m k)) ∙ there))
-        | inr apart ↦ sym (ap is_some (removed_elsewhere m k q apart)) ∙ there
+        | inl same ↦ absurd (false≢true (ap is_some (sym (ap (get (remove m k)) same ∙ removed_here m k) ∙ there)))
+        | inr apart ↦ sym (removed_elsewhere m k q apart) ∙ there
       ]
 
-  written_by : (w : T) (q : ℕ) (b : Bool) → is_some (get m k) ≡ b
-      → is_some (get (cond b (insert m k w) m) q) ≡ true → is_some (get m q) ≡ true
-  written_by w q false none there = there
-  written_by w q true some there =
-      elim (keys-insert w q there) [
-        | inl same ↦ ap (λ p. is_some (get m p)) same ∙ some
-        | inr before ↦ before
+  written_by : (v w : T) (q : ℕ) (b : Bool) → is_some (get m k) ≡ b → get (cond b (insert m k v) m) q ≡ Some w
+      → ((w ≡ v) × (is_some (get m q) ≡ true)) ⊎ (get m q ≡ Some w)
+  written_by v w q false none there = inr there
+  written_by v w q true some there =
+      elim (held-insert v w q there) [
+        | inl put ↦ inl (put.1, ap (λ p. is_some (get m p)) put.0 ∙ some)
+        | inr before ↦ inr before
       ]
 
-  pub keys-written : (w : T) (q : ℕ) → is_some (get (written m k w) q) ≡ true → is_some (get m q) ≡ true
-  keys-written w q there = written_by w q (is_some (get m k)) refl there
+  pub held-written : (v w : T) (q : ℕ) → get (written m k v) q ≡ Some w
+      → ((w ≡ v) × (is_some (get m q) ≡ true)) ⊎ (get m q ≡ Some w)
+  held-written v w q there = written_by v w q (is_some (get m k)) refl there
 
   one_more : (b : Bool) (n : ℕ) → cond b n (n + 1) ≤ n + 1
   one_more true n = omega arith

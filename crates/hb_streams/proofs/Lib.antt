@@ -1,5 +1,6 @@
 pub mod Begins
+pub mod Follows
+pub mod Forward
 pub mod Keys
 pub mod Lasts
 pub mod Room
-pub mod Used

@@ -1,7 +1,7 @@
-use Rattle.std.specs.Prelude.{true, false, ◌&&◌, if◌then◌else◌, IsTrue, ◌||◌}
+use Rattle.std.specs.Prelude.{Bool, true, false, ◌&&◌, if◌then◌else◌, IsTrue, ◌||◌}
 use Rattle.hb_streams.specs.declared.sides.Sides.{Sides}
 use Rattle.hb_streams.specs.declared.state.State.{State}
-use Rattle.hb_streams.specs.declared.state.State.TheVariants.{Open, HalfClosedLocal, HalfClosedRemote, Closed}
+use Rattle.hb_streams.specs.declared.state.State.TheVariants.{Open, HalfClosedLocal, HalfClosedRemote, Closed, Reset}
 
 abbrev pub both_open : Sides
 both_open = record { own = true; peer = true }
@@ -25,3 +25,8 @@ sides_of _ = record { own = false; peer = false }
 -- open or half-closed
 abbrev pub IsActive : State → Type 0
 IsActive state = IsTrue ((sides_of state).own || (sides_of state).peer)
+
+abbrev pub is_closed : State → Bool
+is_closed Closed = true
+is_closed Reset = true
+is_closed _ = false

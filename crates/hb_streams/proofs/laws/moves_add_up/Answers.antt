@@ -1,4 +1,4 @@
-use Rattle.hb_streams.proofs.Used.{moves_add_up}
+use Rattle.hb_streams.proofs.Forward.{moves_add_up}
 use Rattle.hb_streams.proofs.laws.moves_add_up.Goals as goal
 
 pub returns : goal.returns

@@ -1,4 +1,4 @@
-use Rattle.hb_streams.proofs.Used.{numbers_rise, highest_stays}
+use Rattle.hb_streams.proofs.Follows.{numbers_rise, highest_stays}
 use Rattle.hb_streams.proofs.laws.numbers_rise.Goals as goal
 
 pub returns : goal.returns
