@@ -60,12 +60,17 @@ impl Streams {
     }
 
     /// A frame of type `kind` came on `stream`, with END_STREAM where `end`; HEADERS when their field block is
-    /// whole. A frame on stream 0 is the connection's, and isn't asked about here. A stream error leaves its
-    /// stream as it was, and the caller resets it; only a new stream that is refused is reset by the call.
+    /// whole. A frame on stream 0 is the connection's, and isn't asked about here.
+    ///
+    /// Errors: PROTOCOL_ERROR where the number or the state of the stream doesn't allow the frame, STREAM_CLOSED
+    /// where the stream is closed or the peer has ended it, REFUSED_STREAM where no further one may begin. A stream
+    /// error leaves its stream as it was, and the caller resets it; only a new stream that is refused is reset by
+    /// this call.
     pub fn on_frame(&mut self, kind: u8, stream: u32, end: bool) -> Result<Step, Or<StreamFault>>
         ensures told { Answers result (answer_of self.old kind stream) }
         ensures memory { result ≡ Err Or.NoMemory → answer_of self.old kind stream ≡ Ok Step.New }
         ensures after { Makes self.old self.new (receives kind stream end) result }
+        ensures role { self.new.role ≡ self.old.role }
     {
         match self.answer(kind, stream) {
             Ok(Step::New) => {
@@ -86,14 +91,15 @@ impl Streams {
         }
     }
 
-    /// Begins the next stream of this client, for HEADERS that it is going to send. `limit` is the peer's on
-    /// streams that are open or half-closed (SETTINGS_MAX_CONCURRENT_STREAMS).
+    /// Begins the next stream of this client, for HEADERS that it is going to send, and gives its number. `limit`
+    /// is the peer's on streams that are open or half-closed (SETTINGS_MAX_CONCURRENT_STREAMS).
     pub fn open(&mut self, limit: u32) -> Result<u32, Or<OpenFault>>
         requires { self.old.role ≡ Role.Client }
         ensures told { Answers result (number_of self.old limit) }
         ensures memory { result ≡ Err Or.NoMemory → IsOk (number_of self.old limit) }
         ensures after { Makes self.old self.new (begins limit) result }
         ensures err { OnErr result (self.new ≡ self.old) }
+        ensures role { self.new.role ≡ self.old.role }
     {
         match self.next_number(limit) {
             Ok(stream) => {
@@ -107,7 +113,8 @@ impl Streams {
     /// This end sends END_STREAM on a stream whose side of its own is open.
     pub fn sent_end(&mut self, stream: u32)
         requires { IsTrue (sides_of (state_of self.old stream)).own }
-        ensures { self.new ≡ after self.old (sends_end stream) }
+        ensures after { self.new ≡ after self.old (sends_end stream) }
+        ensures role { self.new.role ≡ self.old.role }
     {
         if let Some(sides) = self.active.get(stream).copied() {
             self.set_sides(stream, false, sides.peer);
@@ -117,7 +124,8 @@ impl Streams {
     /// This end sends RST_STREAM on a stream that is open or half-closed.
     pub fn sent_reset(&mut self, stream: u32)
         requires { IsActive (state_of self.old stream) }
-        ensures { self.new ≡ after self.old (sends_reset stream) }
+        ensures after { self.new ≡ after self.old (sends_reset stream) }
+        ensures role { self.new.role ≡ self.old.role }
     {
         self.active.remove(stream);
         self.resets.add(stream);
