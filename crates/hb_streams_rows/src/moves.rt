@@ -28,6 +28,7 @@ fn number_or(rt: &impl Abort, text: &str, other: u32) -> u32 {
 /// The moves of a word, and what each has to be answered.
 #[derive(Clone, Copy)]
 struct Word<'a> {
+    line: &'a str,
     text: &'a str,
     letters: &'a [u8],
     first: u32,
@@ -37,7 +38,7 @@ struct Word<'a> {
     sides: &'a str,
 }
 
-fn word_of<'a>(rt: &impl Abort, text: &'a str) -> Word<'a> {
+fn word_of<'a>(rt: &impl Abort, line: &'a str, text: &'a str) -> Word<'a> {
     let (made, want) = cut(text, "=");
     let (answer, sides) = cut(want, ":");
     let (made, limit) = cut(made, "/");
@@ -45,6 +46,7 @@ fn word_of<'a>(rt: &impl Abort, text: &'a str) -> Word<'a> {
     let (first, last) = cut(streams, "..");
     let first = number_of(rt, first);
     Word {
+        line,
         text,
         letters: letters.as_bytes(),
         first,
@@ -164,8 +166,8 @@ fn play_move(
         && sides.as_bytes() == word.sides.as_bytes();
     assert!(rt;
         as_wanted,
-        "{} on stream {stream}: {answer}:{sides}",
-        word.text
+        "{}: {} on stream {stream}: {answer}:{sides}",
+        word.line, word.text
     );
 }
 
@@ -203,6 +205,6 @@ pub fn play(rt: &impl Abort, alloc: Global, line: &str) {
     let client = role.as_bytes() == "client".as_bytes();
     let mut streams = streams_of(rt, alloc, client);
     for word in words.split(' ') {
-        play_word(rt, &mut streams, client, word_of(rt, word));
+        play_word(rt, &mut streams, client, word_of(rt, line, word));
     }
 }
