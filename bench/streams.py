@@ -424,12 +424,13 @@ def sequences():
 
 
 def telling(all_of_them):
-    """Those that together show the most different moves in different states, each the one that adds most for its length."""
-    left, seen, kept = list(all_of_them), set(), []
-    while left and len(kept) < KEPT_SEQUENCES:
-        best = max(left, key=lambda s: (len(s.seen - seen) / (60 + len(s.line())), -len(s.line())))
-        kept.append(best)
-        seen |= best.seen
+    """The lines of those that together show the most different moves in different states, each the one that adds most for its
+    length."""
+    left, seen, kept = [(sequence.line(), sequence.seen) for sequence in all_of_them], set(), []
+    while len(kept) < KEPT_SEQUENCES:
+        best = max(left, key=lambda other: (len(other[1] - seen) / (60 + len(other[0])), -len(other[0])))
+        kept.append(best[0])
+        seen |= best[1]
         left.remove(best)
     return kept
 
@@ -460,8 +461,9 @@ def main():
         return
     print(HEAD, end="")
     print(literal("STATES", "Each frame on a stream in each state, named by the lines that begin with `#`.", table()), end="")
-    kept = [sequence.line() for sequence in telling(sequences())]
+    kept = telling(sequences())
     print(literal("SEQUENCES", "Random sequences of moves: those that show most of them in most states.", kept), end="")
 
 
-main()
+if __name__ == "__main__":
+    main()
