@@ -1,7 +1,6 @@
 #!/bin/sh
 # Plays every line that bench/streams.py makes through hb_streams, and opens streams of a client until no number is left,
-# which takes a minute or two.
-# The program is proved and built in a copy of the crates.
+# which takes a minute or two. The program is proved and built in a copy of the crates.
 set -eu
 top=$(cd "$(dirname "$0")/.." && pwd)
 copy=$(mktemp -d)
