@@ -19,6 +19,7 @@ WHOLE = [
     ("refusal_rows.py", "hb_rows", "refusals.rt"),
     ("hpack_vectors.py", "hb_http2_rows", "hpack_vectors.rt"),
     ("streams.py", "hb_streams_rows", "rows.rt"),
+    ("ip_rows.py", "hb_parts_rows", "ips.rt"),
 ]
 PARTS = [("frame_vectors.py", "hb_http2_rows", "frame_vectors.rt")]
 
