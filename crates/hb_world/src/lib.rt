@@ -1,0 +1,14 @@
+//! The world of sockets as the proxy sees it, the trace of what its calls did, and a script's lines.
+#![tactic(auto)]
+
+mod entry;
+mod laws;
+mod line;
+mod ready;
+mod world;
+
+pub use entry::{Entry, ReadyItem, Way, Woken};
+pub use laws::a_trace_grows;
+pub use line::Line;
+pub use ready::Ready;
+pub use world::{Born, Finished, Listened, Read, Waited, World, Wrote};
