@@ -2,9 +2,11 @@
 #![tactic(auto)]
 
 mod entry;
+mod journal;
 mod laws;
 mod line;
 mod ready;
+mod script_link;
 mod world;
 
 pub use entry::{Entry, ReadyItem, Way, Woken};
