@@ -5,3 +5,7 @@ pub mod TraceLaws
 pub mod Script
 pub mod Journal
 pub mod LinkState
+pub mod LifeEntries
+pub mod Lives
+pub mod DoorState
+pub mod LinkStates

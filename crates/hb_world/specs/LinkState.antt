@@ -1,6 +1,7 @@
 -- What the world of a script keeps of a link.
-use Rattle.std.specs.Prelude.{◌≡◌, ℕ, ◌<◌, ◌==◌, min, Bool, true, false, if◌then◌else◌, List, [], ◌∷◌, length, drop, Option, Some, None}
-use Rattle.hb_world.specs.Script.{LinkScript, blank}
+use Rattle.std.specs.Prelude.{◌≡◌, ℕ, ◌<◌, ◌==◌, min, Bool, true, false, if◌then◌else◌, List, [], ◌∷◌, ◌++◌, length, drop, Option, Some, None}
+use Rattle.hb_world.specs.Script.{LinkScript, blank, said_with, pieces_by}
+use Rattle.hb_world.specs.declared.line.Line.{Line}
 use Rattle.hb_world.specs.declared.world.Finished.{Finished}
 use Rattle.hb_world.specs.declared.world.Finished.TheVariants as finished
 use Rattle.hb_world.specs.declared.world.Read.{Read}
@@ -16,6 +17,14 @@ pub record LinkState : Type 0 where
 -- a link that no line names
 abbrev pub unnamed : LinkState
 unnamed = record { said = blank; coming = [] }
+
+-- what is kept once one more line that names the link is applied
+abbrev pub state_with : LinkState → Line → LinkState
+state_with k l = record { said = said_with k.said l; coming = drop (length (pieces_by l)) k.coming }
+
+-- the pieces of the lines to come begin with those of this line
+abbrev pub IsNext : List (List ℕ) → Line → Type 0
+IsNext coming l = (more : List (List ℕ)) × (coming ≡ pieces_by l ++ more)
 
 -- the pieces, of the first only what stands behind so many bytes
 abbrev pub behind : ℕ → List (List ℕ) → List (List ℕ)

@@ -1,7 +1,7 @@
 -- What the world of a script has come to behind a trace: the lines that its waits applied, less what its calls used up.
 use Rattle.std.specs.Prelude.{◌≡◌, ℕ, ◌+◌, ◌-◌, ◌==◌, max, Bool, true, false, not, ◌&&◌, if◌then◌else◌, List, [], ◌∷◌, ◌++◌, length, drop, Option, Some, None}
 use Rattle.std.specs.List.{flat_map, fold, filter, filter_map, list_any}
-use Rattle.std.specs.Option.{is_some, unwrap_or}
+use Rattle.std.specs.Option.{is_some, unwrap_or, option_map}
 use Rattle.hb_base.specs.Count.{one_more}
 use Rattle.hb_base.specs.declared.door.Door.{Door}
 use Rattle.hb_world.specs.declared.entry.Entry.{Entry}
@@ -13,6 +13,11 @@ use Rattle.hb_world.specs.declared.entry.Woken.TheVariants as woken
 use Rattle.hb_world.specs.declared.line.Line.{Line}
 use Rattle.hb_world.specs.declared.line.Line.TheVariants as line
 use Rattle.hb_world.specs.Trace.{lives, listens, same_door}
+
+-- this is the number, where there is one
+abbrev pub is_number : ℕ → Option ℕ → Bool
+is_number k None = false
+is_number k (Some l) = l == k
 
 -- how the wait ends that this line ends
 abbrev pub woken_by : Line → Option Woken
@@ -32,16 +37,24 @@ abbrev pub turn_ends : List Line → Woken
 turn_ends [] = woken.Stop
 turn_ends (l ∷ ls) = unwrap_or (woken_by l) (turn_ends ls)
 
+-- the link that a line names
+abbrev pub link_of : Line → Option ℕ
+link_of (line.Open l) = Some l
+link_of (line.Refuse l) = Some l
+link_of (line.Piece l bytes) = Some l
+link_of (line.End l) = Some l
+link_of (line.Break l) = Some l
+link_of (line.Room l room) = Some l
+link_of _ = None
+
 -- the door or link that a line names
 abbrev pub named_by : Line → Option ReadyItem
 named_by (line.Accept d) = Some (item.Door d)
-named_by (line.Open l) = Some (item.Link l)
-named_by (line.Refuse l) = Some (item.Link l)
-named_by (line.Piece l bytes) = Some (item.Link l)
-named_by (line.End l) = Some (item.Link l)
-named_by (line.Break l) = Some (item.Link l)
-named_by (line.Room l room) = Some (item.Link l)
-named_by _ = None
+named_by l = option_map (λ k. item.Link k) (link_of l)
+
+-- a line names this link
+abbrev pub is_of : ℕ → Line → Bool
+is_of link l = is_number link (link_of l)
 
 -- two items are the same
 abbrev pub same_item : ReadyItem → ReadyItem → Bool
@@ -75,18 +88,19 @@ pub record LinkScript : Type 0 where
 abbrev pub blank : LinkScript
 blank = record { opening = None; unread = []; ended = false; broken = false; room = None }
 
--- a piece behind others; one without bytes gives nothing to read
-abbrev pub with_piece : List (List ℕ) → List ℕ → List (List ℕ)
-with_piece pieces [] = pieces
-with_piece pieces (b ∷ bytes) = pieces ++ (b ∷ bytes) ∷ []
+-- the piece that a line gives; one without bytes gives nothing to read
+abbrev pub piece_of : List ℕ → List (List ℕ)
+piece_of [] = []
+piece_of (b ∷ bytes) = (b ∷ bytes) ∷ []
+
+-- the pieces that a line gives
+abbrev pub pieces_by : Line → List (List ℕ)
+pieces_by (line.Piece l bytes) = piece_of bytes
+pieces_by _ = []
 
 -- the pieces that lines give a link
-abbrev pub piece_on : ℕ → Line → List (List ℕ)
-piece_on link (line.Piece l bytes) = if l == link then with_piece [] bytes else []
-piece_on link _ = []
-
 abbrev pub pieces_on : ℕ → List Line → List (List ℕ)
-pieces_on link lines = flat_map (piece_on link) lines
+pieces_on link lines = flat_map (λ l. if is_of link l then pieces_by l else []) lines
 
 -- the pieces once so many bytes of the first were read
 abbrev pub without_bytes : ℕ → List (List ℕ) → List (List ℕ)
@@ -98,15 +112,19 @@ abbrev pub less_room : ℕ → Option ℕ → Option ℕ
 less_room n None = None
 less_room n (Some room) = Some (room - n)
 
--- what a script says of a link once one more line is applied
+-- what a script says of a link once one more line that names it is applied
+abbrev pub said_with : LinkScript → Line → LinkScript
+said_with k (line.Open l) = record k { opening = Some true }
+said_with k (line.Refuse l) = record k { opening = Some false }
+said_with k (line.Piece l bytes) = record k { unread = k.unread ++ piece_of bytes }
+said_with k (line.End l) = record k { ended = true }
+said_with k (line.Break l) = record k { broken = true }
+said_with k (line.Room l room) = record k { room = Some room }
+said_with k _ = k
+
+-- and once one more line is applied
 abbrev pub link_with : ℕ → LinkScript → Line → LinkScript
-link_with link k (line.Open l) = if l == link then record k { opening = Some true } else k
-link_with link k (line.Refuse l) = if l == link then record k { opening = Some false } else k
-link_with link k (line.Piece l bytes) = if l == link then record k { unread = with_piece k.unread bytes } else k
-link_with link k (line.End l) = if l == link then record k { ended = true } else k
-link_with link k (line.Break l) = if l == link then record k { broken = true } else k
-link_with link k (line.Room l room) = if l == link then record k { room = Some room } else k
-link_with link k _ = k
+link_with link k l = if is_of link l then said_with k l else k
 
 -- and once one more entry stands in the trace
 abbrev pub link_after : ℕ → LinkScript → Entry → LinkScript

@@ -1,12 +1,15 @@
 //! The world of sockets as the proxy sees it, the trace of what its calls did, and a script's lines.
 #![tactic(auto)]
 
+mod doors;
 mod entry;
 mod journal;
 mod laws;
 mod line;
+mod links;
 mod ready;
 mod script_link;
+mod trace;
 mod world;
 
 pub use entry::{Entry, ReadyItem, Way, Woken};

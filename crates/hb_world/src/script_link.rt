@@ -1,9 +1,10 @@
 //! What the world of a script keeps of a link.
 
-ghost use Rattle.std.specs.Prelude.{◌≡◌, ◌<◌, ◌≤◌, [], ◌∷◌, ◌++◌, true, Some, length, drop, OnOk, OnErr, IfOk};
-ghost use Rattle.hb_world.specs.LinkState.{LinkState, unnamed, front_of, finish_said, read_said, write_said};
-ghost use Rattle.hb_world.specs.Script.{with_piece, without_bytes, less_room};
+ghost use Rattle.std.specs.Prelude.{◌≡◌, ◌<◌, ◌≤◌, [], ◌∷◌, ◌++◌, length, drop, OnOk, OnErr, IfOk};
+ghost use Rattle.hb_world.specs.LinkState.{LinkState, IsNext, state_with, unnamed, front_of, finish_said, read_said, write_said};
+ghost use Rattle.hb_world.specs.Script.{without_bytes, less_room};
 
+use crate::line::Line;
 use crate::world::{Finished, Read, Wrote};
 use hb_base::{Bytes, NoMemory};
 use std::alloc::Global;
@@ -73,7 +74,7 @@ impl ScriptLink {
     }
 
     /// The line of the next piece is applied.
-    pub fn give(&mut self)
+    fn give(&mut self)
         requires { 0 < length self.old.coming }
         ensures { self.new ≡ record {
           said = record self.old.said { unread = self.old.said.unread ++ front_of self.old.coming ∷ [] };
@@ -83,28 +84,30 @@ impl ScriptLink {
         self.given += 1;
     }
 
-    pub fn set_opening(&mut self, opens: bool)
-        ensures { self.new ≡ record self.old { said = record self.old.said { opening = Some opens } } }
+    /// A line that names the link is applied.
+    pub fn apply(&mut self, line: &Line)
+        requires { IsNext self.old.coming line.now }
+        ensures { self.new ≡ state_with self.old line.now }
     {
-        self.opening = Some(opens);
-    }
-
-    pub fn end(&mut self)
-        ensures { self.new ≡ record self.old { said = record self.old.said { ended = true } } }
-    {
-        self.ended = true;
-    }
-
-    pub fn break_off(&mut self)
-        ensures { self.new ≡ record self.old { said = record self.old.said { broken = true } } }
-    {
-        self.broken = true;
-    }
-
-    pub fn set_room(&mut self, room: u64)
-        ensures { self.new ≡ record self.old { said = record self.old.said { room = Some room } } }
-    {
-        self.room = Some(room);
+        match line {
+            Line::Open(_) => self.opening = Some(true),
+            Line::Refuse(_) => self.opening = Some(false),
+            Line::Piece { bytes, .. } => {
+                if !bytes.as_slice().is_empty() {
+                    self.give();
+                }
+            }
+            Line::End(_) => self.ended = true,
+            Line::Break(_) => self.broken = true,
+            Line::Room { room, .. } => self.room = Some(*room),
+            Line::Accept(_)
+            | Line::NoDial(_)
+            | Line::Wake
+            | Line::Tick
+            | Line::Stop
+            | Line::FaultWait
+            | Line::FaultListen => {}
+        }
     }
 
     pub fn finish(&self) -> Finished
