@@ -6,7 +6,7 @@ use Rattle.hb_world.specs.declared.doors.Doors.{Doors}
 use Rattle.hb_world.specs.declared.doors.ScriptDoor.{ScriptDoor}
 
 -- what is kept of a door
-abbrev pub door_at : Doors → Door → ScriptDoor
+abbrev pub door_at : {T : Type 0} → Doors T → Door → T
 door_at doors Inbound = doors.inbound
 door_at doors Outbound = doors.outbound
 door_at doors Plain = doors.plain

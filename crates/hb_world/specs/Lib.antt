@@ -9,3 +9,5 @@ pub mod LifeEntries
 pub mod Lives
 pub mod DoorState
 pub mod LinkStates
+pub mod ScriptAnswers
+pub mod WorldState

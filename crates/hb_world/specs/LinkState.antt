@@ -61,3 +61,8 @@ room_takes (Some room) n = if room == 0 then wrote.Balked else wrote.Took (min r
 -- a broken link fails at once
 abbrev pub write_said : LinkScript → ℕ → Wrote
 write_said k n = if k.broken then wrote.Failed else room_takes k.room n
+
+-- bytes come only where the first piece has some
+abbrev pub HasFront : List ℕ → Read → Type 0
+HasFront front (reads.Got n) = 0 < length front
+HasFront front _ = Unit {0}

@@ -1,10 +1,11 @@
 -- What the world of a script keeps of all links.
-use Rattle.std.specs.Prelude.{ℕ, Bool, Option, Some, None}
+use Rattle.std.specs.Prelude.{ℕ, Bool, List, [], ◌∷◌, ◌++◌, Option, Some, None}
 use Rattle.std.specs.BTreeMap.{get}
 use Rattle.std.specs.Option.{is_some, unwrap_or}
 use Rattle.std.specs.Ordering.{nat_cmp}
 use Rattle.hb_world.specs.LinkState.{LinkState, unnamed}
-use Rattle.hb_world.specs.Script.{without_bytes, less_room}
+use Rattle.hb_world.specs.Script.{without_bytes, less_room, pieces_by}
+use Rattle.hb_world.specs.declared.line.Line.{Line}
 use Rattle.hb_world.specs.declared.links.Links.{Links}
 
 -- what is kept of a link, if a line names it
@@ -26,3 +27,11 @@ skipped n k = record k { said = record k.said { unread = without_bytes n k.said.
 -- once so many bytes were written
 abbrev pub written : ℕ → LinkState → LinkState
 written n k = record k { said = record k.said { room = less_room n k.said.room } }
+
+-- once one more line to come names it
+abbrev pub expecting : LinkState → Line → LinkState
+expecting k l = record k { coming = k.coming ++ pieces_by l }
+
+-- once one more piece is to come
+abbrev pub awaiting : List ℕ → LinkState → LinkState
+awaiting piece k = record k { coming = k.coming ++ piece ∷ [] }

@@ -1,6 +1,6 @@
 -- What the world of a script has come to behind a trace: the lines that its waits applied, less what its calls used up.
 use Rattle.std.specs.Prelude.{◌≡◌, ℕ, ◌+◌, ◌-◌, ◌==◌, max, Bool, true, false, not, ◌&&◌, if◌then◌else◌, List, [], ◌∷◌, ◌++◌, length, drop, Option, Some, None}
-use Rattle.std.specs.List.{flat_map, fold, filter, filter_map, list_any}
+use Rattle.std.specs.List.{flat_map, fold, list_any}
 use Rattle.std.specs.Option.{is_some, unwrap_or, option_map}
 use Rattle.hb_base.specs.Count.{one_more}
 use Rattle.hb_base.specs.declared.door.Door.{Door}
@@ -71,9 +71,14 @@ may_be_ready trace (item.Link l) = lives l trace
 abbrev pub with_item : List ReadyItem → ReadyItem → List ReadyItem
 with_item items i = if list_any (same_item i) items then items else items ++ i ∷ []
 
+-- and if it may be ready
+abbrev pub with_named : List Entry → List ReadyItem → Option ReadyItem → List ReadyItem
+with_named trace items None = items
+with_named trace items (Some i) = if may_be_ready trace i then with_item items i else items
+
 -- the listening doors and living links that lines name, in order, each once
 abbrev pub ready_in : List Line → List Entry → List ReadyItem
-ready_in lines trace = fold with_item [] (filter (may_be_ready trace) (filter_map named_by lines))
+ready_in lines trace = fold (λ items l. with_named trace items (named_by l)) [] lines
 
 -- what a script says of a link: how its finish answers, the pieces that are left to be read, whether it ends behind
 -- them, whether it is broken, and how many bytes it takes, where that is limited

@@ -1,7 +1,7 @@
 //! What the world of a script keeps of the doors.
 
 ghost use Rattle.std.specs.Prelude.{◌≡◌, if◌then◌else◌};
-ghost use Rattle.hb_world.specs.DoorState.{door_at, closed_door};
+ghost use Rattle.hb_world.specs.DoorState.{door_at};
 ghost use Rattle.hb_world.specs.Trace.{same_door};
 ghost use Rattle.hb_base.specs.declared.door.Door.{Door};
 
@@ -15,31 +15,27 @@ pub struct ScriptDoor {
     pub waiting: u64,
 }
 
-/// What is kept of each door.
+/// Something of each door.
 #[derive(Clone, Copy)]
-pub struct Doors {
-    pub inbound: ScriptDoor,
-    pub outbound: ScriptDoor,
-    pub plain: ScriptDoor,
+pub struct Doors<T> {
+    pub inbound: T,
+    pub outbound: T,
+    pub plain: T,
 }
 
-impl Doors {
-    /// No door listens.
-    pub fn new() -> Doors
-        ensures { (d : Door) → door_at result d ≡ closed_door }
+impl<T: Copy> Doors<T> {
+    /// The same of each door.
+    pub fn new(each: T) -> Doors<T>
+        ensures { (d : Door) → door_at result d ≡ each }
     {
-        let closed = ScriptDoor {
-            listening: false,
-            waiting: 0,
-        };
         Doors {
-            inbound: closed,
-            outbound: closed,
-            plain: closed,
+            inbound: each,
+            outbound: each,
+            plain: each,
         }
     }
 
-    pub fn at(&self, door: Door) -> ScriptDoor
+    pub fn at(&self, door: Door) -> T
         ensures { result ≡ door_at self.now door }
     {
         match door {
@@ -49,8 +45,8 @@ impl Doors {
         }
     }
 
-    pub fn set(&mut self, door: Door, now: ScriptDoor)
-        ensures { (d : Door) → door_at self.new d ≡ (if same_door d door then now else door_at self.old d) }
+    pub fn set(&mut self, door: Door, now: T)
+        ensures { (d : Door) → door_at self.new d ≡ (if same_door door d then now else door_at self.old d) }
     {
         match door {
             Door::Inbound => self.inbound = now,

@@ -7,9 +7,12 @@ mod journal;
 mod laws;
 mod line;
 mod links;
+mod named;
 mod ready;
 mod script_link;
+mod script_world;
 mod trace;
+mod turn;
 mod world;
 
 pub use entry::{Entry, ReadyItem, Way, Woken};

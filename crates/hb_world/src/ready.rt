@@ -8,7 +8,7 @@ use std::alloc::Global;
 use std::marker::Model;
 
 /// At most this many items are ready at once.
-const MOST_ITEMS: usize = 1024;
+pub const MOST_ITEMS: usize = 1024;
 
 /// At most 1,024 items that a wait found ready, in order. Contracts see their list. After `new` no call
 /// takes memory.
@@ -50,6 +50,17 @@ impl Ready {
         match self.items.push(item) {
             Ok(()) => {}
             Err(_) => unreachable!(),
+        }
+    }
+
+    /// These items in place of what it held.
+    pub(crate) fn fill(&mut self, items: &[ReadyItem])
+        requires { length items.now ≤ 1024 }
+        ensures { self.new ≡ items.now }
+    {
+        self.clear();
+        for item in items {
+            self.push(*item);
         }
     }
 

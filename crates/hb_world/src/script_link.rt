@@ -1,7 +1,7 @@
 //! What the world of a script keeps of a link.
 
 ghost use Rattle.std.specs.Prelude.{◌≡◌, ◌<◌, ◌≤◌, [], ◌∷◌, ◌++◌, length, drop, OnOk, OnErr, IfOk};
-ghost use Rattle.hb_world.specs.LinkState.{LinkState, IsNext, state_with, unnamed, front_of, finish_said, read_said, write_said};
+ghost use Rattle.hb_world.specs.LinkState.{LinkState, HasFront, IsNext, state_with, unnamed, front_of, finish_said, read_said, write_said};
 ghost use Rattle.hb_world.specs.Script.{without_bytes, less_room};
 
 use crate::line::Line;
@@ -135,8 +135,8 @@ impl ScriptLink {
 
     /// What a read into a buffer of this length answers.
     pub fn read(&self, room: usize) -> Read
-        requires { 0 < room }
-        ensures { result ≡ read_said self.now.said room }
+        ensures answer { result ≡ read_said self.now.said room }
+        ensures piece { HasFront (front_of self.now.said.unread) result }
     {
         let piece = self.front();
         if !piece.is_empty() {
