@@ -1,4 +1,5 @@
-//! The world of sockets as the proxy sees it, the trace of what its calls did, and a script's lines.
+//! The world of sockets as the proxy sees it, the trace of what its calls did, and the world of a
+//! script's lines.
 #![tactic(auto)]
 
 mod doors;
@@ -19,4 +20,5 @@ pub use entry::{Entry, ReadyItem, Way, Woken};
 pub use laws::a_trace_grows;
 pub use line::Line;
 pub use ready::Ready;
+pub use script_world::ScriptWorld;
 pub use world::{Born, Finished, Listened, Read, Waited, World, Wrote};

@@ -4,7 +4,7 @@ ghost use Rattle.std.specs.Prelude.{◌≡◌, ◌⊎◌, ◌<◌, ◌≤◌, �
 ghost use Rattle.hb_world.specs.Calls.{listen_entries, accept_entries, dial_entries, finish_entries, read_entries, write_entries, wait_entries, shut_entries, close_entries};
 ghost use Rattle.hb_world.specs.ScriptAnswers.{listen_answer, accept_answer, dial_answer, finish_answer, read_answer, write_answer, wait_answer, waited_for, told_by_wait, begins_with_fault, GivesFront, LeavesReady};
 ghost use Rattle.hb_world.specs.WorldState.{ScriptState, passed_by, GivesNothing, TakesNothing, counted};
-ghost use Rattle.hb_world.specs.Answers.{birth_failed, ReadsLiving};
+ghost use Rattle.hb_world.specs.Answers.{birth_failed, ReadsLiving, ReadsWithin, WritesWithin};
 ghost use Rattle.hb_world.specs.LinkState.{front_of, HasFront};
 ghost use Rattle.hb_world.specs.Script.{standing, turn_of, turn_ends, ready_in};
 ghost use Rattle.hb_world.specs.Trace.{lives};
@@ -17,7 +17,7 @@ use crate::named::ready_items;
 use crate::ready::{MOST_ITEMS, Ready};
 use crate::trace::Trace;
 use crate::turn::{failing_after_turn, turn_end, turn_len, turn_to_doors, turn_to_links};
-use crate::world::{Born, Finished, Listened, Read, Waited, Wrote};
+use crate::world::{Born, Finished, Listened, Read, Waited, World, Wrote};
 use hb_base::{Bytes, Cause, Door, List, NoMemory, Target, Why};
 use std::alloc::Global;
 use std::marker::Model;
@@ -233,6 +233,7 @@ impl ScriptWorld {
         requires lives { IsTrue (lives link self.old.trace) }
         requires piece { 0 < length (front_of ((standing self.old.lines self.old.trace).links link).unread) }
         ensures answer { (result ≡ Read.NoMemory) ⊎ (result ≡ read_answer self.old.lines self.old.trace link (length into.old)) }
+        ensures within { ReadsWithin into.new result }
         ensures front { GivesFront self.old.lines self.old.trace link into.new result }
         ensures after { self.new ≡ record self.old { trace = self.old.trace ++ read_entries link into.new result } }
     {
@@ -255,6 +256,7 @@ impl ScriptWorld {
     fn read_link(&mut self, link: u64, into: &mut [u8]) -> Read
         requires { 0 < length into.old }
         ensures answer { (result ≡ Read.NoMemory) ⊎ (result ≡ read_answer self.old.lines self.old.trace link (length into.old)) }
+        ensures within { ReadsWithin into.new result }
         ensures front { GivesFront self.old.lines self.old.trace link into.new result }
         ensures after { self.new ≡ record self.old { trace = self.old.trace ++ read_entries link into.new result } }
     {
@@ -463,5 +465,93 @@ fn waited(woken: Woken) -> Waited
         Woken::Tick => Waited::Tick,
         Woken::Stop => Waited::Stop,
         Woken::Failed => Waited::Failed,
+    }
+}
+
+impl World for ScriptWorld {
+    ghost use Rattle.std.specs.Prelude.{Some};
+    ghost use Rattle.hb_world.specs.WorldState.{link_faults_in, faults_in};
+
+    ghost trace = { λ w. Some w.trace };
+
+    ghost link_faults = { λ w. link_faults_in w.trace };
+
+    ghost birth_faults = { λ w. w.birth_faults };
+
+    ghost faults = { λ w. faults_in w.trace };
+
+    fn listen(&mut self, at: Target, door: Door) -> Listened
+        ensures answer { (result ≡ Listened.NoMemory) ⊎ (result ≡ listen_answer self.old.lines self.old.trace) }
+        ensures after { self.new ≡ record self.old { trace = self.old.trace ++ listen_entries door at result } }
+    {
+        self.listen_at(at, door)
+    }
+
+    fn accept(&mut self, door: Door) -> Born
+        ensures answer { (result ≡ Born.NoMemory) ⊎ (result ≡ accept_answer self.old.lines self.old.trace door) }
+        ensures after { self.new ≡ record self.old {
+          trace = self.old.trace ++ accept_entries door result;
+          birth_faults = counted self.old.birth_faults (birth_failed result);
+        } }
+        ensures later { self.old.birth_faults ≤ self.new.birth_faults }
+    {
+        self.accept_at(door)
+    }
+
+    fn dial(&mut self, to: Target, why: Why) -> Born
+        ensures answer { (result ≡ Born.NoMemory) ⊎ (result ≡ dial_answer self.old.lines self.old.trace) }
+        ensures after { self.new ≡ record self.old {
+          trace = self.old.trace ++ dial_entries to why result;
+          birth_faults = counted self.old.birth_faults (birth_failed result);
+        } }
+        ensures later { self.old.birth_faults ≤ self.new.birth_faults }
+    {
+        self.dial_to(to, why)
+    }
+
+    fn finish(&mut self, link: u64) -> Finished
+        ensures answer { (result ≡ Finished.NoMemory) ⊎ (result ≡ finish_answer self.old.lines self.old.trace link) }
+        ensures after { self.new ≡ record self.old { trace = self.old.trace ++ finish_entries link result } }
+    {
+        self.finish_link(link)
+    }
+
+    fn read(&mut self, link: u64, into: &mut [u8]) -> Read
+        requires { 0 < length into.old }
+        ensures answer { (result ≡ Read.NoMemory) ⊎ (result ≡ read_answer self.old.lines self.old.trace link (length into.old)) }
+        ensures front { GivesFront self.old.lines self.old.trace link into.new result }
+        ensures within { ReadsWithin into.new result }
+        ensures after { self.new ≡ record self.old { trace = self.old.trace ++ read_entries link into.new result } }
+    {
+        self.read_link(link, into)
+    }
+
+    fn write(&mut self, link: u64, from: &[u8]) -> Wrote
+        requires { 0 < length from.now }
+        ensures answer { (result ≡ Wrote.NoMemory) ⊎ (result ≡ write_answer self.old.lines self.old.trace link (length from.now)) }
+        ensures within { WritesWithin from.now result }
+        ensures after { self.new ≡ record self.old { trace = self.old.trace ++ write_entries link from.now result } }
+    {
+        self.write_link(link, from)
+    }
+
+    fn shut(&mut self, link: u64)
+        ensures { self.new ≡ record self.old { trace = self.old.trace ++ shut_entries link self.old.trace } }
+    {
+        self.shut_link(link);
+    }
+
+    fn close(&mut self, link: u64, cause: Cause)
+        ensures { self.new ≡ record self.old { trace = self.old.trace ++ close_entries link cause self.old.trace } }
+    {
+        self.close_link(link, cause);
+    }
+
+    fn wait(&mut self, ready: &mut Ready) -> Waited
+        ensures answer { (result ≡ Waited.NoMemory) ⊎ (result ≡ wait_answer self.old.lines self.old.trace) }
+        ensures items { LeavesReady ready.old ready.new (told_by_wait self.old.lines self.old.trace) result }
+        ensures after { self.new ≡ record self.old { trace = self.old.trace ++ wait_entries ready.new result } }
+    {
+        self.wait_for(ready)
     }
 }
