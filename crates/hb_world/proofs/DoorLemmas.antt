@@ -1,5 +1,5 @@
 -- What is kept of the doors once one more entry stands in the trace.
-use Rattle.std.proofs.Common.{◌≡◌, ℕ, ◌-◌, Bool, true, false, ◌||◌, ◌&&◌, cond, refl, ap, ◌∙◌, sym}
+use Rattle.std.proofs.Common.{◌≡◌, ℕ, ◌-◌, Bool, true, false, ◌||◌, ◌&&◌, cond, ap, ◌∙◌, sym}
 use Rattle.hb_base.specs.declared.door.Door.{Door}
 use Rattle.hb_base.specs.declared.door.Door.TheVariants.{Inbound, Outbound, Plain}
 use Rattle.hb_world.specs.declared.doors.Doors.{Doors}

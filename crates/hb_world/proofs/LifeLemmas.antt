@@ -1,17 +1,17 @@
 -- The lives of links once one more entry stands in the trace.
-use Rattle.std.proofs.Common.{◌≡◌, ◌⊎◌, ℕ, ◌+◌, ◌-◌, ◌<◌, ◌≤◌, Bool, true, false, IsTrue, not, ◌&&◌, ◌||◌, cond, eqb, suc, zero, List, [], ◌∷◌, ◌++◌, length, set, get_or, refl, ap, ap₂, ◌∙◌, sym, subst, arith, Option, Some, None, ⊎_elim, add-zero}
-use Rattle.std.proofs.lemmas.Bool.{eq-eqb, ne_eqb, eqb-true, cond-true, cond-false, cond_both, cases_eq}
+use Rattle.std.proofs.Common.{◌≡◌, ℕ, ◌+◌, ◌-◌, ◌<◌, ◌≤◌, Bool, true, false, IsTrue, ◌&&◌, ◌||◌, cond, eqb, suc, zero, List, [], ◌∷◌, ◌++◌, length, set, refl, ap, ap₂, ◌∙◌, sym, subst, arith, Option, Some, None, ⊎_elim, add-zero}
+use Rattle.std.proofs.lemmas.Bool.{eq-eqb, ne_eqb, cond-true, cond-false, cond_both, cases_eq}
 use Rattle.std.proofs.lemmas.List.{length-append, length-set}
 use Rattle.std.proofs.lemmas.List.Sums.{sum_by-append, sum_by-set}
 use Rattle.std.proofs.lemmas.Option.{slice_get_within, slice_get_past, get_or_from_slice_get}
-use Rattle.std.specs.List.{slice_get, sum_by}
+use Rattle.std.specs.List.{slice_get}
 use Rattle.std.specs.Option.{is_some}
 use Rattle.hb_world.specs.declared.entry.Entry.{Entry}
 use Rattle.hb_world.specs.declared.trace.Life.{Life}
 use Rattle.hb_world.specs.declared.entry.Entry.TheVariants as v
 use Rattle.hb_world.specs.LifeEntries.{IsBirth, fresh, is_plain}
 use Rattle.hb_world.specs.Lives.{life_of, shut_in, closed_in, owed_by, AreLives}
-use Rattle.hb_world.specs.Trace.{is_birth, births, is_birth_of, is_close_of, is_shut_of, was_born, was_closed, was_shut}
+use Rattle.hb_world.specs.Trace.{is_birth, is_birth_of, is_close_of, is_shut_of}
 use Rattle.hb_world.proofs.TraceLemmas.{births-grow, was_born-grows, was_closed-grows, was_shut-grows}
 
 get-push : {X : Type 0} (xs : List X) (x : X) (k : ℕ) → slice_get (xs ++ x ∷ []) k ≡ cond (eqb k (length xs)) (Some x) (slice_get xs k)
@@ -22,9 +22,11 @@ get-push (y ∷ xs) x (suc k) =
     get-push xs x k
     ∙ ap (λ (b : Bool). cond b (Some x) (slice_get xs k))
     (⊎_elim (λ e. eq-eqb k (length xs) e ∙ sym (eq-eqb (suc k) (suc (length xs)) (ap suc e)))
-    (λ n. ne_eqb k (length xs) n ∙ sym (ne_eqb (suc k) (suc (length xs)) (λ e. n (let h : suc k ≡ suc (length xs) = e in omega (arith, h))))) (cases_eq k (length xs)))
+    (λ n. ne_eqb k (length xs) n ∙ sym (ne_eqb (suc k) (suc (length xs)) (λ e. n (let h : suc k ≡ suc (length xs) = e in omega
+    (arith, h))))) (cases_eq k (length xs)))
 
-get-set : {X : Type 0} (xs : List X) (i : ℕ) (x : X) (k : ℕ) → i < length xs → slice_get (set xs i x) k ≡ cond (eqb k i) (Some x) (slice_get xs k)
+get-set : {X : Type 0} (xs : List X) (i : ℕ) (x : X) (k : ℕ) → i < length xs → slice_get (set xs i x) k ≡ cond (eqb k i) (Some x)
+    (slice_get xs k)
 get-set [] i x k h = absurd (omega (arith, h))
 get-set (y ∷ xs) zero x zero h = refl
 get-set (y ∷ xs) zero x (suc k) h = sym (cond-false _ _ _ (ne_eqb (suc k) 0 (λ e. omega (arith, e))))
@@ -40,7 +42,8 @@ life-zero ls = refl
 
 life-suc : (ls : List Life) (k : ℕ) → life_of ls (suc k) ≡ slice_get ls k
 life-suc ls k =
-    cond-false _ _ _ (ne_eqb (suc k) 0 (λ e. omega (arith, e))) ∙ ap (λ (n : ℕ). slice_get ls n) (let e : suc k - 1 ≡ k = omega arith in e)
+    cond-false _ _ _ (ne_eqb (suc k) 0 (λ e. omega (arith, e))) ∙ ap (λ (n : ℕ). slice_get ls n) (let e : suc k - 1
+    ≡ k = omega arith in e)
 
 pub life-push : (ls : List Life) (x : Life) (k : ℕ) → life_of (ls ++ x ∷ []) k ≡ cond (eqb (length ls + 1) k) (Some x) (life_of ls k)
 life-push ls x zero = sym (cond-false _ _ _ (ne_eqb (length ls + 1) 0 (λ e. omega (arith, e))))
@@ -48,7 +51,8 @@ life-push ls x (suc k) =
     life-suc (ls ++ x ∷ []) k ∙ get-push ls x k
     ∙ ap₂ (λ (b : Bool) (o : Option Life). cond b (Some x) o)
     (⊎_elim (λ e. eq-eqb k (length ls) e ∙ sym (eq-eqb (length ls + 1) (suc k) (let h : k ≡ length ls = e in omega (arith, h))))
-    (λ n. ne_eqb k (length ls) n ∙ sym (ne_eqb (length ls + 1) (suc k) (λ e. n (let h : length ls + 1 ≡ suc k = e in omega (arith, h))))) (cases_eq k (length ls)))
+    (λ n. ne_eqb k (length ls) n ∙ sym (ne_eqb (length ls + 1) (suc k) (λ e. n (let h : length ls + 1 ≡ suc k = e in omega
+    (arith, h))))) (cases_eq k (length ls)))
     (sym (life-suc ls k))
 
 pub life-set : (ls : List Life) (link : ℕ) (x : Life) (k : ℕ) → 0 < link → link - 1 < length ls
@@ -58,11 +62,13 @@ life-set ls link x (suc k) some fits =
     life-suc (set ls (link - 1) x) k ∙ get-set ls (link - 1) x k fits
     ∙ ap₂ (λ (b : Bool) (o : Option Life). cond b (Some x) o)
     (⊎_elim (λ e. eq-eqb k (link - 1) e ∙ sym (eq-eqb link (suc k) (let h : k ≡ link - 1 = e in omega (arith, h, some))))
-    (λ n. ne_eqb k (link - 1) n ∙ sym (ne_eqb link (suc k) (λ e. n (let h : link ≡ suc k = e in omega (arith, h))))) (cases_eq k (link - 1)))
+    (λ n. ne_eqb k (link - 1) n ∙ sym (ne_eqb link (suc k) (λ e. n (let h : link ≡ suc k = e in omega (arith, h))))) (cases_eq k
+    (link - 1)))
     (sym (life-suc ls k))
 
 -- where a link has a life
-pub life-place : (ls : List Life) (link : ℕ) (l : Life) → life_of ls link ≡ Some l → (0 < link) × (slice_get ls (link - 1) ≡ Some l) × (link - 1 < length ls)
+pub life-place : (ls : List Life) (link : ℕ) (l : Life) → life_of ls link ≡ Some l → (0 < link) × (slice_get ls (link - 1)
+    ≡ Some l) × (link - 1 < length ls)
 life-place ls zero l is = absurd (cc)
 life-place ls (suc k) l is =
     let at : slice_get ls k ≡ Some l = sym (life-suc ls k) ∙ is in
@@ -91,7 +97,8 @@ lives-birth ls owed trace e are birth = record {
   born = λ link. was_born-grows link trace e
       ∙ ap₂ (λ (a b : Bool). a || b) (are.born link) (birth.born link)
       ∙ ⊎_elim (λ (is : length ls + 1 ≡ link). rw (eq-eqb (length ls + 1) link is) (or-true _ ∙ sym (ap is_some (found link is))))
-      (λ (differs : length ls + 1 ≡ link → ⊥). rw (ne_eqb (length ls + 1) link differs) (or-false _ ∙ sym (ap is_some (other link differs))))
+      (λ (differs : length ls + 1 ≡ link → ⊥). rw (ne_eqb (length ls + 1) link differs) (or-false _ ∙ sym (ap is_some
+      (other link differs))))
       (cases_eq (length ls + 1) link);
   shut = λ link. was_shut-grows link trace e
       ∙ ap₂ (λ (a b : Bool). a || b) (are.shut link) (birth.shut link) ∙ or-false _
@@ -106,8 +113,10 @@ lives-birth ls owed trace e are birth = record {
   where
     found : (link : ℕ) → length ls + 1 ≡ link → life_of (ls ++ fresh ∷ []) link ≡ Some fresh
     found link is = life-push ls fresh link ∙ cond-true _ _ _ (eq-eqb (length ls + 1) link is)
+
     other : (link : ℕ) → (length ls + 1 ≡ link → ⊥) → life_of (ls ++ fresh ∷ []) link ≡ life_of ls link
     other link differs = life-push ls fresh link ∙ cond-false _ _ _ (ne_eqb (length ls + 1) link differs)
+
     past : (link : ℕ) → length ls + 1 ≡ link → life_of ls link ≡ None
     past link is = subst (λ (n : ℕ). life_of ls n ≡ None) is (life-next ls)
 
@@ -127,12 +136,14 @@ lives-change ls owed settled trace e link l m s k are is no_birth unborn shuts c
       shut = λ other. was_shut-grows other trace e ∙ ap₂ (λ (a b : Bool). a || b) (are.shut other) (shuts other)
           ∙ ⊎_elim (λ (same : link ≡ other). ap₂ (λ (a b : Bool). a || (b && s)) (ap shut_in (old other same)) (eq-eqb link other same)
           ∙ sym shut ∙ sym (ap shut_in (new at other same)))
-          (λ (differs : link ≡ other → ⊥). ap (λ (b : Bool). shut_in (life_of ls other) || (b && s)) (ne_eqb link other differs) ∙ or-false _
+          (λ (differs : link ≡ other → ⊥). ap (λ (b : Bool). shut_in (life_of ls other) || (b && s)) (ne_eqb link other differs)
+          ∙ or-false _
           ∙ sym (ap shut_in (kept at other differs))) (cases_eq link other);
       closed = λ other. was_closed-grows other trace e ∙ ap₂ (λ (a b : Bool). a || b) (are.closed other) (closes other)
           ∙ ⊎_elim (λ (same : link ≡ other). ap₂ (λ (a b : Bool). a || (b && k)) (ap closed_in (old other same)) (eq-eqb link other same)
           ∙ sym closed ∙ sym (ap closed_in (new at other same)))
-          (λ (differs : link ≡ other → ⊥). ap (λ (b : Bool). closed_in (life_of ls other) || (b && k)) (ne_eqb link other differs) ∙ or-false _
+          (λ (differs : link ≡ other → ⊥). ap (λ (b : Bool). closed_in (life_of ls other) || (b && k)) (ne_eqb link other differs)
+          ∙ or-false _
           ∙ sym (ap closed_in (kept at other differs))) (cases_eq link other);
       owes =
           let sum = sum_by-set owed_by ls (link - 1) m m at.2 in
@@ -142,9 +153,11 @@ lives-change ls owed settled trace e link l m s k are is no_birth unborn shuts c
   where
     old : (other : ℕ) → link ≡ other → life_of ls other ≡ Some l
     old other same = subst (λ (n : ℕ). life_of ls n ≡ Some l) same is
+
     new : (0 < link) × (slice_get ls (link - 1) ≡ Some l) × (link - 1 < length ls) → (other : ℕ) → link ≡ other
         → life_of (set ls (link - 1) m) other ≡ Some m
     new at other same = life-set ls link m other at.0 at.2 ∙ cond-true _ _ _ (eq-eqb link other same)
+
     kept : (0 < link) × (slice_get ls (link - 1) ≡ Some l) × (link - 1 < length ls) → (other : ℕ) → (link ≡ other → ⊥)
         → life_of (set ls (link - 1) m) other ≡ life_of ls other
     kept at other differs = life-set ls link m other at.0 at.2 ∙ cond-false _ _ _ (ne_eqb link other differs)

@@ -4,7 +4,7 @@ use Rattle.std.proofs.lemmas.List.{append-nil, append_assoc}
 use Rattle.std.proofs.lemmas.List.Concat.{flat_map-append}
 use Rattle.std.proofs.lemmas.List.Folds.{list_any-append}
 use Rattle.std.proofs.lemmas.List.Sums.{sum_by-append}
-use Rattle.std.specs.List.{flat_map, list_any, count_by, fold}
+use Rattle.std.specs.List.{list_any}
 use Rattle.std.specs.Prelude.{if◌then◌else◌}
 use Rattle.hb_base.specs.declared.door.Door.{Door}
 use Rattle.hb_world.specs.declared.entry.Entry.{Entry}
@@ -63,7 +63,8 @@ place_of [] e (b ∷ []) x after is = absurd (cc)
 place_of [] e (b ∷ c ∷ bs) x after is = absurd (cc)
 place_of (t ∷ ts) e [] x after is = inr (ts, cc)
 place_of (t ∷ ts) e (b ∷ bs) x after is =
-    ⊎_elim (λ h. inl (let p : bs ≡ ts = h.0 in cc, h.1)) (λ h. inr (h.0, let p : ts ≡ bs ++ x ∷ h.0 = h.1 in cc)) (place_of ts e bs x after (cc))
+    ⊎_elim (λ h. inl (let p : bs ≡ ts = h.0 in cc, h.1)) (λ h. inr (h.0, let p : ts ≡ bs ++ x ∷ h.0 = h.1 in cc))
+    (place_of ts e bs x after (cc))
 
 -- what holds at each place of a longer trace holds at each place of the trace and at its end
 pub AtEach-grows : (P : List Entry → Entry → Type 0) (trace : List Entry) (e : Entry)

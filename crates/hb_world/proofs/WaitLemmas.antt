@@ -1,5 +1,5 @@
 -- What a script has come to behind a wait.
-use Rattle.std.proofs.Common.{◌≡◌, ℕ, ◌+◌, ◌-◌, ◌≤◌, ◌<◌, min, Bool, true, false, cond, eqb, ◌||◌, suc, zero, List, [], ◌∷◌, ◌++◌, length, take, drop, refl, ap, ap₂, ◌∙◌, sym, subst, arith, Option, Some, None}
+use Rattle.std.proofs.Common.{◌≡◌, ℕ, ◌+◌, ◌-◌, ◌≤◌, ◌<◌, min, Bool, true, suc, List, [], ◌∷◌, ◌++◌, length, take, drop, refl, ap, ap₂, ◌∙◌, sym, subst, arith}
 use Rattle.std.proofs.lemmas.Bool.{cond-true, cond-false, cond_both, eq-eqb, ne_eqb, or_right}
 use Rattle.std.proofs.lemmas.List.{append_assoc, append-nil, drop-drop, drop_min, take_min, length-drop, take-append-drop, drop_all}
 use Rattle.std.proofs.lemmas.List.Folds.{list_any-append}
@@ -19,9 +19,8 @@ use Rattle.hb_world.specs.Calls.{wait_entries}
 use Rattle.hb_world.specs.DoorState.{door_at}
 use Rattle.hb_world.specs.LinkState.{LinkState}
 use Rattle.hb_world.specs.LinkStates.{state_at, is_named}
-use Rattle.hb_world.specs.Script.{Standing, LinkScript, standing, start, after_entry, waited, turned, turn_of, turn_ends, woken_by, ready_in, kept_for, is_of, pieces_on, link_with, waiting_with, failing_with}
+use Rattle.hb_world.specs.Script.{Standing, standing, start, after_entry, turned, turn_of, turn_ends, woken_by, ready_in, kept_for, is_of, pieces_on, link_with, waiting_with, failing_with}
 use Rattle.hb_world.specs.ScriptAnswers.{waited_for, is_listen, LeavesReady}
-use Rattle.hb_world.specs.Trace.{listens}
 use Rattle.hb_world.specs.WorldState.{Keeps, passed_by}
 use Rattle.hb_world.proofs.LifeLemmas.{or-false}
 use Rattle.hb_world.proofs.StandingLemmas.{standing-grows, keeps-entry}
@@ -91,7 +90,8 @@ any-drop p n xs is =
 
 -- a wait that tells what is left
 pub keeps-told : (lines : List Line) (trace : List Entry) (items : List ReadyItem) (woken : Woken) (next : ℕ) (links : Links)
-    (doors : Doors ScriptDoor) (failing : ℕ) (rest rest2 : List ReadyItem) → Keeps (standing lines trace) lines next links doors failing rest
+    (doors : Doors ScriptDoor) (failing : ℕ) (rest rest2 : List ReadyItem) → Keeps
+    (standing lines trace) lines next links doors failing rest
     → 0 < length (standing lines trace).rest → rest2 ≡ drop 1024 rest
     → Keeps (standing lines (trace ++ v.Wait items woken ∷ [])) lines next links doors failing rest2
 keeps-told lines trace items woken next links doors failing rest rest2 k some is =
@@ -126,9 +126,11 @@ pub keeps-turned : (lines : List Line) (trace : List Entry) (items : List ReadyI
     ≡ fold (waiting_with (door_at doors d).listening d) (door_at doors d).waiting (turn_of (standing lines trace).coming))
     → failing2 ≡ fold failing_with failing (turn_of (standing lines trace).coming)
     → rest2 ≡ kept_for (turn_ends (standing lines trace).coming) (ready_in (turn_of (standing lines trace).coming) trace)
-    → Keeps (standing lines (trace ++ v.Wait items woken ∷ [])) lines (next + length (turn_of (standing lines trace).coming)) links2 doors2
+    → Keeps (standing lines (trace ++ v.Wait items woken ∷ [])) lines (next + length (turn_of
+    (standing lines trace).coming)) links2 doors2
     failing2 rest2
-keeps-turned lines trace items woken next links links2 doors doors2 failing failing2 rest rest2 k none said names listening waiting fails left =
+keeps-turned lines trace items woken next links links2 doors doors2 failing failing2 rest rest2 k none said names listening waiting
+    fails left =
     let s = standing lines trace in
     let e : Entry = v.Wait items woken in
     let turn = turn_of s.coming in
@@ -137,7 +139,8 @@ keeps-turned lines trace items woken next links links2 doors doors2 failing fail
     (cond-true _ (turned s) (record s { rest = drop 1024 s.rest }) (eq-eqb (length s.rest) 0 none)) in
     let within : length turn ≤ length lines - next =
     subst (λ (n : ℕ). length turn ≤ n) (ap (λ (ls : List Line). length ls) k.coming ∙ length-drop next lines) (turn-within s.coming) in
-    subst (λ (z : Standing). Keeps z lines (next + length turn) links2 doors2 failing2 rest2) (sym (standing-grows lines trace e ∙ goes)) (record {
+    subst (λ (z : Standing). Keeps z lines (next + length turn) links2 doors2 failing2 rest2) (sym (standing-grows lines trace e
+    ∙ goes)) (record {
       coming = ap (λ (ls : List Line). drop (length turn) ls) k.coming ∙ drop-drop (length turn) next lines;
       bound = omega (arith, within, k.bound);
       said = λ l. said l ∙ ap (λ (x : LinkState). record {

@@ -1,5 +1,5 @@
 -- What is kept of the lives of links.
-use Rattle.std.specs.Prelude.{◌≡◌, ℕ, ◌-◌, ◌==◌, Bool, true, false, if◌then◌else◌, List, length, slice_get, Option, Some, None}
+use Rattle.std.specs.Prelude.{◌≡◌, ℕ, ◌-◌, ◌==◌, Bool, false, if◌then◌else◌, List, length, slice_get, Option, Some, None}
 use Rattle.std.specs.List.{sum_by}
 use Rattle.std.specs.Option.{is_some}
 use Rattle.hb_world.specs.declared.entry.Entry.{Entry}

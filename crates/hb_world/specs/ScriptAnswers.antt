@@ -1,5 +1,5 @@
 -- What the world of a script answers behind a trace, want of memory aside.
-use Rattle.std.specs.Prelude.{◌≡◌, ◌⊎◌, ℕ, ◌+◌, ◌-◌, ◌^◌, ◌==◌, Bool, true, false, not, ◌&&◌, if◌then◌else◌, List, [], ◌∷◌, length, take, Option, Some, None}
+use Rattle.std.specs.Prelude.{◌≡◌, ℕ, ◌+◌, ◌-◌, ◌^◌, ◌==◌, Bool, true, false, not, ◌&&◌, if◌then◌else◌, List, ◌∷◌, length, take}
 use Rattle.std.specs.List.{list_any}
 use Rattle.hb_base.specs.declared.door.Door.{Door}
 use Rattle.hb_world.specs.declared.entry.Entry.{Entry}
@@ -23,7 +23,7 @@ use Rattle.hb_world.specs.declared.entry.ReadyItem.{ReadyItem}
 use Rattle.hb_world.specs.declared.entry.Woken.{Woken}
 use Rattle.hb_world.specs.declared.entry.Woken.TheVariants as woken
 use Rattle.hb_world.specs.LinkState.{finish_said, read_said, write_said, front_of}
-use Rattle.hb_world.specs.Script.{Standing, standing, turn_of, turn_ends, ready_in}
+use Rattle.hb_world.specs.Script.{standing, turn_of, turn_ends, ready_in}
 use Rattle.hb_world.specs.Trace.{births, lives}
 
 -- a listen, of whatever door
@@ -81,7 +81,8 @@ waited_for woken.Failed = waited.Failed
 
 -- a wait answers by the line that ends it; while items wait to be told, Woke
 abbrev pub wait_answer : List Line → List Entry → Waited
-wait_answer lines trace = if length (standing lines trace).rest == 0 then waited_for (turn_ends (standing lines trace).coming) else waited.Woke
+wait_answer lines trace = if length (standing lines trace).rest == 0 then waited_for (turn_ends
+    (standing lines trace).coming) else waited.Woke
 
 -- what a wait tells: at most 1,024 of the items
 abbrev pub told_by_wait : List Line → List Entry → List ReadyItem

@@ -1,5 +1,5 @@
 -- What the world of a script keeps.
-use Rattle.std.specs.Prelude.{◌≡◌, ◌≤◌, ◌^◌, ◌-◌, ℕ, min, Bool, true, false, not, IsTrue, List, length, drop, count_by, nat_eq, if◌then◌else◌}
+use Rattle.std.specs.Prelude.{◌≡◌, ◌≤◌, ◌^◌, ◌-◌, ℕ, min, Bool, true, false, not, List, length, drop, count_by, nat_eq, if◌then◌else◌}
 use Rattle.hb_base.specs.Count.{one_more}
 use Rattle.hb_world.specs.declared.world.Read.{Read}
 use Rattle.hb_world.specs.declared.world.Read.TheVariants as reads

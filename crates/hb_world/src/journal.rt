@@ -48,7 +48,8 @@ impl Journal {
         ensures ok { OnOk result (self.new ≡ record self.old { entries = self.old.entries ++ entry ∷ [] }) }
         ensures err { OnErr result (self.new ≡ self.old) }
     {
-        self.entries.reserve(self.owed.checked_add(1).ok_or(NoMemory)?)?;
+        self.entries
+            .reserve(self.owed.checked_add(1).ok_or(NoMemory)?)?;
         match self.entries.push(entry) {
             Ok(()) => Ok(()),
             Err(_) => unreachable!(),
@@ -60,7 +61,8 @@ impl Journal {
         ensures ok { OnOk result (self.new ≡ record self.old { entries = self.old.entries ++ first ∷ second ∷ [] }) }
         ensures err { OnErr result (self.new ≡ self.old) }
     {
-        self.entries.reserve(self.owed.checked_add(2).ok_or(NoMemory)?)?;
+        self.entries
+            .reserve(self.owed.checked_add(2).ok_or(NoMemory)?)?;
         match self.entries.push(first) {
             Ok(()) => {}
             Err(_) => unreachable!(),
@@ -76,7 +78,8 @@ impl Journal {
         ensures ok { OnOk result (self.new ≡ record { entries = self.old.entries ++ birth ∷ []; owed = self.old.owed + 2 }) }
         ensures err { OnErr result (self.new ≡ self.old) }
     {
-        self.entries.reserve(self.owed.checked_add(3).ok_or(NoMemory)?)?;
+        self.entries
+            .reserve(self.owed.checked_add(3).ok_or(NoMemory)?)?;
         self.owed += 2;
         match self.entries.push(birth) {
             Ok(()) => Ok(()),

@@ -40,7 +40,7 @@ impl Links {
     /// What a line to come will give the link that it names.
     pub fn expect(&mut self, alloc: Global, line: &Line) -> Result<(), NoMemory>
         ensures states { OnOk result ((l : ℕ) → state_at self.new l
-          ≡ (if is_of l line.now then expecting (state_at self.old l) line.now else state_at self.old l)) }
+            ≡ (if is_of l line.now then expecting (state_at self.old l) line.now else state_at self.old l)) }
         ensures names { OnOk result ((l : ℕ) → is_named self.new l ≡ (is_named self.old l || is_of l line.now)) }
     {
         let Some(link) = named_link(line) else {
@@ -72,7 +72,7 @@ impl Links {
         requires some { 0 < length piece }
         requires named { is_named self.old link ≡ true }
         ensures states { OnOk result ((l : ℕ) → state_at self.new l
-          ≡ (if link == l then awaiting piece (state_at self.old l) else state_at self.old l)) }
+            ≡ (if link == l then awaiting piece (state_at self.old l) else state_at self.old l)) }
         ensures names { OnOk result ((l : ℕ) → is_named self.new l ≡ is_named self.old l) }
     {
         match self.map.get_mut(&link) {
@@ -85,7 +85,8 @@ impl Links {
     pub fn apply(&mut self, link: u64, line: &Line)
         requires named { is_named self.old link ≡ true }
         requires next { IsNext (state_at self.old link).coming line.now }
-        ensures states { (l : ℕ) → state_at self.new l ≡ (if link == l then state_with (state_at self.old l) line.now else state_at self.old l) }
+        ensures states { (l : ℕ) → state_at self.new l ≡ (if link == l then state_with
+            (state_at self.old l) line.now else state_at self.old l) }
         ensures names { (l : ℕ) → is_named self.new l ≡ is_named self.old l }
     {
         if let Some(slot) = self.map.get_mut(&link) {

@@ -40,7 +40,7 @@ impl Model for Named {
     ghost view = { λ n. n.items.items };
 
     ghost invariant = { λ n. ((l : ℕ) → contains nat_cmp n.links l ≡ list_any (same_item (Link l)) n.items.items)
-      × ((d : door) → door_at n.doors d ≡ list_any (same_item (Door d)) n.items.items) };
+        × ((d : door) → door_at n.doors d ≡ list_any (same_item (Door d)) n.items.items) };
 }
 
 impl Named {
@@ -65,7 +65,12 @@ impl Named {
     }
 
     /// Adds what a line names, if it may be ready.
-    fn add_line(&mut self, line: &Line, trace: &Trace, doors: &Doors<ScriptDoor>) -> Result<(), NoMemory>
+    fn add_line(
+        &mut self,
+        line: &Line,
+        trace: &Trace,
+        doors: &Doors<ScriptDoor>,
+    ) -> Result<(), NoMemory>
         requires { (d : Door) → (door_at doors.now d).listening ≡ listens d trace.now }
         ensures { OnOk result (self.new ≡ with_named trace.now self.old (named_by line.now)) }
     {
@@ -130,7 +135,12 @@ fn is_ready(item: ReadyItem, trace: &Trace, doors: &Doors<ScriptDoor>) -> bool
 }
 
 /// The listening doors and living links that lines name, in order, each once.
-pub fn ready_items(alloc: Global, lines: &[Line], trace: &Trace, doors: &Doors<ScriptDoor>) -> Result<Vec<ReadyItem>, NoMemory>
+pub fn ready_items(
+    alloc: Global,
+    lines: &[Line],
+    trace: &Trace,
+    doors: &Doors<ScriptDoor>,
+) -> Result<Vec<ReadyItem>, NoMemory>
     requires { (d : Door) → (door_at doors.now d).listening ≡ listens d trace.now }
     ensures { IfOk result (λ items. items.items ≡ ready_in lines.now trace.now) }
 {

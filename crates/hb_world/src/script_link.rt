@@ -45,7 +45,7 @@ impl Model for ScriptLink {
     } };
 
     ghost invariant = { λ l. (l.given ≤ length l.pieces.items) × All (λ p. 0 < length p) l.pieces.items
-      × IsOffset l.offset (take l.given l.pieces.items) };
+        × IsOffset l.offset (take l.given l.pieces.items) };
 }
 
 impl ScriptLink {

@@ -56,7 +56,7 @@ impl Model for ScriptWorld {
     ghost view = { λ w. record { lines = w.lines; trace = w.trace; birth_faults = w.birth_faults } };
 
     ghost invariant = { λ w. Keeps (standing w.lines w.trace) w.lines w.next w.links w.doors w.failing (drop w.told w.named.items)
-      × (w.listened ≡ list_any is_listen w.trace) };
+        × (w.listened ≡ list_any is_listen w.trace) };
 }
 
 impl ScriptWorld {
@@ -375,7 +375,7 @@ impl ScriptWorld {
         requires { length (standing self.old.lines self.old.trace).rest ≡ 0 }
         ensures answer { (result ≡ Waited.NoMemory) ⊎ (result ≡ waited_for (turn_ends (standing self.old.lines self.old.trace).coming)) }
         ensures items { LeavesReady ready.old ready.new
-          (take 1024 (ready_in (turn_of (standing self.old.lines self.old.trace).coming) self.old.trace)) result }
+            (take 1024 (ready_in (turn_of (standing self.old.lines self.old.trace).coming) self.old.trace)) result }
         ensures after { self.new ≡ record self.old { trace = self.old.trace ++ wait_entries ready.new result } }
     {
         let (_, coming) = self.lines.as_slice().split_at(self.next);

@@ -84,7 +84,8 @@ pub fn turn_end(lines: &[Line]) -> Woken
 /// A line is applied to what is kept of the doors.
 pub fn apply_to_doors(line: &Line, doors: &mut Doors<ScriptDoor>)
     ensures listening { (d : Door) → (door_at doors.new d).listening ≡ (door_at doors.old d).listening }
-    ensures waiting { (d : Door) → (door_at doors.new d).waiting ≡ waiting_with (door_at doors.old d).listening d (door_at doors.old d).waiting line.now }
+    ensures waiting { (d : Door) → (door_at doors.new d).waiting ≡ waiting_with (door_at doors.old d).listening d
+        (door_at doors.old d).waiting line.now }
 {
     let Line::Accept(door) = line else {
         return;
@@ -113,7 +114,8 @@ pub fn failing_after_line(line: &Line, failing: u64) -> u64
 pub fn apply_to_links(line: &Line, links: &mut Links)
     requires named { (l : ℕ) → is_of l line.now ≡ true → is_named links.old l ≡ true }
     requires next { (l : ℕ) → is_of l line.now ≡ true → IsNext (state_at links.old l).coming line.now }
-    ensures states { (l : ℕ) → state_at links.new l ≡ (if is_of l line.now then state_with (state_at links.old l) line.now else state_at links.old l) }
+    ensures states { (l : ℕ) → state_at links.new l ≡ (if is_of l line.now then state_with
+        (state_at links.old l) line.now else state_at links.old l) }
     ensures names { (l : ℕ) → is_named links.new l ≡ is_named links.old l }
 {
     if let Some(link) = named_link(line) {
@@ -141,7 +143,7 @@ pub fn turn_to_links(lines: &[Line], count: usize, links: &mut Links)
 pub fn turn_to_doors(turn: &[Line], doors: &mut Doors<ScriptDoor>)
     ensures listening { (d : Door) → (door_at doors.new d).listening ≡ (door_at doors.old d).listening }
     ensures waiting { (d : Door) → (door_at doors.new d).waiting
-      ≡ fold (waiting_with (door_at doors.old d).listening d) (door_at doors.old d).waiting turn.now }
+        ≡ fold (waiting_with (door_at doors.old d).listening d) (door_at doors.old d).waiting turn.now }
 {
     for line in turn {
         apply_to_doors(line, doors);

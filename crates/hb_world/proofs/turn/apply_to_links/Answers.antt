@@ -1,6 +1,6 @@
 use Rattle.std.proofs.Common.{◌≡◌, ℕ, true, Option, Some, subst, sym, ◌∙◌, refl}
 use Rattle.std.proofs.lemmas.Bool.{eq-eqb}
-use Rattle.hb_world.specs.Script.{is_number, is_of, link_of}
+use Rattle.hb_world.specs.Script.{is_number, link_of}
 use Rattle.hb_world.proofs.turn.apply_to_links.Goals as goal
 
 pub apply-requires-clause-named : goal.apply-requires-clause-named

@@ -1,4 +1,4 @@
-use Rattle.std.proofs.Common.{rules, arith, ap, sym, ◌∙◌, ◌≡◌, ◌<◌, List, ℕ}
+use Rattle.std.proofs.Common.{arith, sym, ◌∙◌, ◌<◌}
 use Rattle.hb_world.proofs.PieceLemmas.{front-first, rest-is}
 use Rattle.hb_world.proofs.script_link.ScriptLink.front.Goals as goal
 

@@ -1,4 +1,4 @@
-use Rattle.std.proofs.Common.{rules, arith, ◌≡◌, ◌<◌, ◌≤◌, ◌-◌, ◌+◌, ℕ, List, length, take, drop, ap, sym, subst, refl, ◌∙◌}
+use Rattle.std.proofs.Common.{arith, ◌≡◌, ◌<◌, ◌≤◌, ◌-◌, ◌+◌, ℕ, List, length, take, drop, ap, sym, subst, refl, ◌∙◌}
 use Rattle.std.proofs.lemmas.List.{length-drop}
 use Rattle.std.proofs.lemmas.List.Elements.{All-drop, All-take}
 use Rattle.hb_world.specs.LinkState.{LinkState, front_of, behind}
@@ -17,10 +17,10 @@ returns-then-n-as_slice c =
     let a = without-part i.offset i.given c.args.n i.pieces.items c.in-Some.piece.now some c.self.invariant.0
     c.in-Some.ensures.lookup part in
     subst
-        (λ (v : LinkState). state i.opening i.ended i.broken i.room (behind (i.offset + c.args.n) (take i.given i.pieces.items))
-        (drop i.given i.pieces.items)
-        ≡ record v { said = record v.said { unread = without_bytes c.args.n v.said.unread } })
-        c.self.view_is (same-state i.opening i.ended i.broken i.room _ _ _ _ a refl)
+    (λ (v : LinkState). state i.opening i.ended i.broken i.room (behind (i.offset + c.args.n) (take i.given i.pieces.items))
+    (drop i.given i.pieces.items)
+    ≡ record v { said = record v.said { unread = without_bytes c.args.n v.said.unread } })
+    c.self.view_is (same-state i.opening i.ended i.broken i.room _ _ _ _ a refl)
 
 pub invariant_of-self-2 : goal.invariant_of-self-2
 invariant_of-self-2 c =
@@ -47,7 +47,7 @@ returns c =
     let b = drop-whole i.given i.pieces.items some in
     let d = behind-none (take (i.given - 1) (drop 1 i.pieces.items)) in
     rw c.pop_front.ensures.rest (subst
-        (λ (v : LinkState). state i.opening i.ended i.broken i.room (behind 0 (take (i.given - 1) (drop 1 i.pieces.items)))
-        (drop (i.given - 1) (drop 1 i.pieces.items))
-        ≡ record v { said = record v.said { unread = without_bytes c.args.n v.said.unread } })
-        c.self.view_is (same-state i.opening i.ended i.broken i.room _ _ _ _ (d ∙ sym a) b))
+    (λ (v : LinkState). state i.opening i.ended i.broken i.room (behind 0 (take (i.given - 1) (drop 1 i.pieces.items)))
+    (drop (i.given - 1) (drop 1 i.pieces.items))
+    ≡ record v { said = record v.said { unread = without_bytes c.args.n v.said.unread } })
+    c.self.view_is (same-state i.opening i.ended i.broken i.room _ _ _ _ (d ∙ sym a) b))

@@ -1,4 +1,4 @@
-use Rattle.std.proofs.Common.{rules, ◌≡◌, ◌||◌, ℕ, ◌+◌, ◌-◌, Bool, true, false, List, [], ◌∷◌, ◌++◌, drop, refl, ap, ◌∙◌, sym, subst}
+use Rattle.std.proofs.Common.{rules, ◌≡◌, ◌+◌, ◌-◌, List, [], ◌∷◌, ◌++◌, drop, refl, ap, ◌∙◌, sym, subst}
 use Rattle.std.specs.List.{list_any}
 use Rattle.hb_world.specs.declared.doors.ScriptDoor.{ScriptDoor}
 use Rattle.hb_world.specs.declared.entry.Entry.{Entry}
@@ -24,12 +24,11 @@ invariant_of-self-2 c =
       waiting = (door_at i.doors c.args.door).waiting - 1;
     }) =
     subst (λ (x : ScriptDoor). IsSet i.doors c.set.new.self c.args.door (record { listening = x.listening; waiting = x.waiting - 1 }))
-    c.at-at_door.ensures c.set.ensures in
-    (
+    c.at-at_door.ensures c.set.ensures in (
       subst (λ (t : List Entry). Keeps (standing i.lines t) i.lines i.next i.links c.set.new.self i.failing rest) (sym added)
-      (keeps-entry i.lines i.trace e i.next i.links i.links i.doors c.set.new.self i.failing i.failing rest c.self.invariant.0
-      (λ s. refl) (λ l. refl) (λ l. refl) (λ d. listening-same i.doors c.set.new.self c.args.door d _ set)
-      (λ d. waiting-less i.doors c.set.new.self c.args.door d _ set) refl),
+          (keeps-entry i.lines i.trace e i.next i.links i.links i.doors c.set.new.self i.failing i.failing rest c.self.invariant.0
+          (λ s. refl) (λ l. refl) (λ l. refl) (λ d. listening-same i.doors c.set.new.self c.args.door d _ set)
+          (λ d. waiting-less i.doors c.set.new.self c.args.door d _ set) refl),
       c.self.invariant.1
-      ∙ sym (ap (λ (t : List Entry). list_any is_listen t) added ∙ any-grows is_listen i.trace e ∙ or-false _),
+          ∙ sym (ap (λ (t : List Entry). list_any is_listen t) added ∙ any-grows is_listen i.trace e ∙ or-false _),
     )

@@ -1,4 +1,4 @@
-use Rattle.std.proofs.Common.{rules, ◌≡◌, ◌||◌, not, Bool, true, false, List, [], ◌∷◌, ◌++◌, drop, refl, ap, ◌∙◌, sym, subst, ℕ}
+use Rattle.std.proofs.Common.{rules, ◌≡◌, true, List, [], ◌∷◌, ◌++◌, drop, refl, ap, ◌∙◌, sym, subst, ℕ}
 use Rattle.std.specs.List.{list_any}
 use Rattle.hb_world.specs.declared.doors.ScriptDoor.{ScriptDoor}
 use Rattle.hb_world.specs.declared.entry.Entry.{Entry}
@@ -20,13 +20,13 @@ invariant_of-self-2 c =
     let rest = drop i.told i.named.items in
     let e : Entry = Balked (Listen c.args.door c.args.at true) in
     let added : c.add.new.self ≡ i.trace ++ e ∷ [] = search rules in
-    let at : c.at-waiting.result.waiting ≡ (door_at i.doors c.args.door).waiting = ap (λ (x : ScriptDoor). x.waiting) c.at-waiting.ensures in
+    let at : c.at-waiting.result.waiting ≡ (door_at i.doors c.args.door).waiting = ap (λ
+    (x : ScriptDoor). x.waiting) c.at-waiting.ensures in
     let set : IsSet i.doors c.set.new.self c.args.door (record { listening = true; waiting = (door_at i.doors c.args.door).waiting }) =
-    subst (λ (n : ℕ). IsSet i.doors c.set.new.self c.args.door (record { listening = true; waiting = n })) at c.set.ensures in
-    (
+    subst (λ (n : ℕ). IsSet i.doors c.set.new.self c.args.door (record { listening = true; waiting = n })) at c.set.ensures in (
       subst (λ (t : List Entry). Keeps (standing i.lines t) i.lines i.next i.links c.set.new.self i.failing rest) (sym added)
-      (keeps-entry i.lines i.trace e i.next i.links i.links i.doors c.set.new.self i.failing i.failing rest c.self.invariant.0
-      (λ s. refl) (λ l. refl) (λ l. refl) (λ d. listening-set i.doors c.set.new.self c.args.door d _ set)
-      (λ d. waiting-same i.doors c.set.new.self c.args.door d true set) refl),
+          (keeps-entry i.lines i.trace e i.next i.links i.links i.doors c.set.new.self i.failing i.failing rest c.self.invariant.0
+          (λ s. refl) (λ l. refl) (λ l. refl) (λ d. listening-set i.doors c.set.new.self c.args.door d _ set)
+          (λ d. waiting-same i.doors c.set.new.self c.args.door d true set) refl),
       sym (ap (λ (t : List Entry). list_any is_listen t) added ∙ any-grows is_listen i.trace e ∙ or-true _),
     )

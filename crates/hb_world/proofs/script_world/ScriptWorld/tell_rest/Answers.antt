@@ -1,4 +1,4 @@
-use Rattle.std.proofs.Common.{rules, arith, ◌≡◌, ℕ, ◌+◌, ◌-◌, ◌<◌, min, length, List, [], ◌∷◌, ◌++◌, drop, take, refl, ap, ◌∙◌, sym, subst}
+use Rattle.std.proofs.Common.{rules, ◌≡◌, ℕ, ◌+◌, ◌-◌, ◌<◌, min, length, List, [], ◌∷◌, ◌++◌, drop, take, ap, ◌∙◌, sym, subst}
 use Rattle.std.proofs.lemmas.List.{length-drop}
 use Rattle.std.specs.List.{list_any}
 use Rattle.hb_world.specs.declared.entry.Entry.{Entry}
@@ -24,14 +24,13 @@ invariant_of-self-2 c =
     subst (λ (w : ScriptState). 0 < length (standing w.lines w.trace).rest) (sym c.self.view_is) c.requires in
     let count : c.min-count.result ≡ min (length i.named.items - i.told) 1024 =
     c.min-count.ensures ∙ ap (λ (xs : List ReadyItem). min (length xs) 1024) left
-    ∙ ap (λ (n : ℕ). min n 1024) (length-drop i.told i.named.items) in
-    (
+    ∙ ap (λ (n : ℕ). min n 1024) (length-drop i.told i.named.items) in (
       subst (λ (t : List Entry). Keeps (standing i.lines t) i.lines i.next i.links i.doors i.failing
-      (drop (i.told + c.min-count.result) i.named.items)) (sym added)
-      (keeps-told i.lines i.trace c.in-Ok.items Woke i.next i.links i.doors i.failing rest _ c.self.invariant.0 some
-      (rest-told i.named.items i.told c.min-count.result count)),
+          (drop (i.told + c.min-count.result) i.named.items)) (sym added)
+          (keeps-told i.lines i.trace c.in-Ok.items Woke i.next i.links i.doors i.failing rest _ c.self.invariant.0 some
+          (rest-told i.named.items i.told c.min-count.result count)),
       c.self.invariant.1
-      ∙ sym (ap (λ (t : List Entry). list_any is_listen t) added ∙ any-grows is_listen i.trace e ∙ or-false _),
+          ∙ sym (ap (λ (t : List Entry). list_any is_listen t) added ∙ any-grows is_listen i.trace e ∙ or-false _),
     )
 
 pub returns-clause-items : goal.returns-clause-items

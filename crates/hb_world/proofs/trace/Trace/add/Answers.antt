@@ -1,4 +1,4 @@
-use Rattle.std.proofs.Common.{rules, ◌≡◌, List, [], ◌∷◌, ◌++◌, sym, subst}
+use Rattle.std.proofs.Common.{sym, subst}
 use Rattle.hb_world.specs.Journal.{Kept}
 use Rattle.hb_world.specs.Lives.{AreLives}
 use Rattle.hb_world.proofs.LifeLemmas.{lives-plain}

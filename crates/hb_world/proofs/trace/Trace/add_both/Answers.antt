@@ -1,6 +1,5 @@
-use Rattle.std.proofs.Common.{rules, ◌≡◌, List, [], ◌∷◌, ◌++◌, sym, subst}
+use Rattle.std.proofs.Common.{List, [], ◌∷◌, ◌++◌, sym, subst}
 use Rattle.std.proofs.lemmas.List.{append_assoc}
-use Rattle.std.proofs.lemmas.Bool.{cases_Bool}
 use Rattle.hb_world.specs.Journal.{Kept}
 use Rattle.hb_world.specs.Lives.{AreLives}
 use Rattle.hb_world.specs.declared.entry.Entry.{Entry}

@@ -1,4 +1,4 @@
-use Rattle.std.proofs.Common.{rules, arith, ◌≡◌, ◌≤◌, ◌<◌, ◌+◌, ◌-◌, ℕ, Bool, true, false, ◌&&◌, ◌||◌, eqb, List, [], ◌∷◌, ◌++◌, length, set, Option, Some, sym, subst, ap, ◌∙◌, refl}
+use Rattle.std.proofs.Common.{arith, ◌≡◌, ◌<◌, ◌-◌, ℕ, true, false, eqb, List, [], ◌∷◌, ◌++◌, set, Some, sym, subst, ◌∙◌, refl}
 use Rattle.hb_world.specs.Journal.{Kept}
 use Rattle.hb_world.specs.Lives.{AreLives, life_of, owed_by}
 use Rattle.hb_world.specs.declared.entry.Entry.TheVariants.{Closed}
@@ -13,7 +13,8 @@ pub pay-requires-clause-owed : goal.pay-requires-clause-owed
 pay-requires-clause-owed c =
     let i = c.self.inside in
     let is : life_of i.lives.items c.args.link ≡ Some c.in-Some.life =
-    subst (λ (ls : List Life). life_of ls c.args.link ≡ Some c.in-Some.life) c.as_slice.ensures.value (sym c.life_at.ensures ∙ c.in-Some.is) in
+    subst (λ (ls : List Life). life_of ls c.args.link ≡ Some c.in-Some.life) c.as_slice.ensures.value (sym c.life_at.ensures
+    ∙ c.in-Some.is) in
     omega (
       arith,
       owed-some i.lives.items i.journal.owed i.journal.entries c.args.link c.in-Some.life c.self.invariant is,
@@ -24,10 +25,12 @@ pub invariant_of-self : goal.invariant_of-self
 invariant_of-self c =
     let i = c.self.inside in
     let is : life_of i.lives.items c.args.link ≡ Some c.in-Some.life =
-    subst (λ (ls : List Life). life_of ls c.args.link ≡ Some c.in-Some.life) c.as_slice.ensures.value (sym c.life_at.ensures ∙ c.in-Some.is) in
+    subst (λ (ls : List Life). life_of ls c.args.link ≡ Some c.in-Some.life) c.as_slice.ensures.value (sym c.life_at.ensures
+    ∙ c.in-Some.is) in
     let now : Life = record { shut = c.in-Some.life.shut; closed = true } in
     subst (λ (k : Kept). AreLives (set i.lives.items (c.args.link - 1) now) k.owed k.entries) (sym c.pay.ensures)
-    (subst (λ (n : ℕ). AreLives (set i.lives.items (c.args.link - 1) now) (i.journal.owed - n) (i.journal.entries ++ Closed c.args.link c.args.cause ∷ [])) (sym c.entries_owed-settled.ensures)
+    (subst (λ (n : ℕ). AreLives (set i.lives.items (c.args.link - 1) now) (i.journal.owed - n)
+    (i.journal.entries ++ Closed c.args.link c.args.cause ∷ [])) (sym c.entries_owed-settled.ensures)
     (lives-change i.lives.items i.journal.owed (owed_by c.in-Some.life) i.journal.entries (Closed c.args.link c.args.cause) c.args.link
     c.in-Some.life now false true c.self.invariant is refl (λ other. refl) (λ other. sym (and-false (eqb c.args.link other)))
     (λ other. sym (and-true (eqb c.args.link other)))
