@@ -1,0 +1,6 @@
+pub mod TraceLemmas
+pub mod PieceLemmas
+pub mod LifeLemmas
+pub mod StandingLemmas
+pub mod DoorLemmas
+pub mod WaitLemmas

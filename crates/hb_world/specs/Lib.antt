@@ -1,0 +1,13 @@
+pub mod Answers
+pub mod Calls
+pub mod Trace
+pub mod TraceLaws
+pub mod Script
+pub mod Journal
+pub mod LinkState
+pub mod LifeEntries
+pub mod Lives
+pub mod DoorState
+pub mod LinkStates
+pub mod ScriptAnswers
+pub mod WorldState

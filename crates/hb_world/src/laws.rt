@@ -1,0 +1,11 @@
+//! Laws of a trace, which no code calls: each is proved, and its body is empty.
+
+ghost use Rattle.hb_world.specs.TraceLaws.{RecvGrows, SentGrows, BirthsGrow, LivesGrows};
+
+/// What a trace says once one more entry stands at its end.
+pub fn a_trace_grows()
+    ensures recv { RecvGrows }
+    ensures sent { SentGrows }
+    ensures births { BirthsGrow }
+    ensures lives { LivesGrows }
+{}
