@@ -1,0 +1,3 @@
+pub mod Form
+pub mod Script
+pub mod Spelling
