@@ -1,4 +1,4 @@
-use Rattle.std.proofs.Common.{sym, ap, ◌∙◌, arith, take, drop, ◌+◌, ◌==◌}
+use Rattle.std.proofs.Common.{sym, ap, ◌∙◌, arith, take, drop, ◌+◌}
 use Rattle.std.proofs.lemmas.List.{take_all, take_rest}
 use Rattle.std.proofs.Math.ListN.{drop_of_length-le}
 use Rattle.hb_script.proofs.RowLemmas.{found_at, missing}

@@ -1,6 +1,6 @@
-use Rattle.std.proofs.Common.{refl, ◌∙◌, arith}
+use Rattle.std.proofs.Common.{arith}
 use Rattle.std.proofs.lemmas.Result.{err_from_is_err_and}
-use Rattle.hb_script.specs.Script.{lines, lines_from, rows}
+use Rattle.hb_script.specs.Script.{lines}
 use Rattle.hb_script.proofs.RowLemmas.{some_left, none_left, behind_is_shorter, nothing_joined, goes_on, ends, is_done}
 use Rattle.hb_script.proofs.script.read_script.Goals as goal
 
