@@ -19,7 +19,9 @@ abbrev pub is_plain : ℕ → Bool
 is_plain b = nat_le 32 b && nat_lt b 128
 
 plain_test : (b : ℕ) → is_plain b ≡ true → IsPlain b
-plain_test b e = let p = and_parts (nat_le 32 b) (nat_lt b 128) e in record { low = grind (arith, nat_tests, p.0); high = grind (arith, nat_tests, p.1) }
+plain_test b e =
+    let p = and_parts (nat_le 32 b) (nat_lt b 128) e in
+    record { low = grind (arith, nat_tests, p.0); high = grind (arith, nat_tests, p.1) }
 
 -- a literal
 pub plain_text : (xs : List ℕ) → list_all is_plain xs ≡ true → All IsPlain xs
@@ -66,8 +68,10 @@ unfolding encode_with
 letters_hex [] h = All-nil IsLetter
 letters_hex (b ∷ rest) h =
     let small : b < 256 = h 0 in
-    All-cons IsLetter (get_or lower_digits (b / 16) 0) (get_or lower_digits (b % 16) 0 ∷ encode_lower rest) (letter_at (b / 16) (omega arith))
-    (All-cons IsLetter (get_or lower_digits (b % 16) 0) (encode_lower rest) (letter_at (b % 16) (omega arith)) (letters_hex rest (λ i. h (suc i))))
+    All-cons IsLetter (get_or lower_digits (b / 16) 0) (get_or lower_digits (b % 16) 0 ∷ encode_lower rest)
+    (letter_at (b / 16) (omega arith))
+    (All-cons IsLetter (get_or lower_digits (b % 16) 0) (encode_lower rest) (letter_at (b % 16) (omega arith))
+    (letters_hex rest (λ i. h (suc i))))
 
 pub plain_letter : (b : ℕ) → IsLetter b → IsPlain b
 plain_letter b h = record { low = omega (arith, h.low); high = h.high }

@@ -40,7 +40,8 @@ number_then : (least : ℕ) (o : Option ℕ) (f : ℕ → Result Line ScriptWhy)
 number_then least None f h = refused BadValue
 number_then least (Some n) f h = within_then least n f (nat_le least n) (nat_lt n (2 ^ 63)) refl refl (h n)
 
-link_then : (d : Data) (f : ℕ → Line) → ((n : ℕ) → 1 ≤ n → n < 2 ^ 63 → CanBeRead (f n)) → IsReadable (and_then (link_of d) (λ n. Ok (f n)))
+link_then : (d : Data) (f : ℕ → Line) → ((n : ℕ) → 1 ≤ n → n < 2 ^ 63 → CanBeRead (f n))
+    → IsReadable (and_then (link_of d) (λ n. Ok (f n)))
 link_then d f h = number_then 1 (option_and_then as_u64 (as_number d)) (λ n. Ok (f n)) (λ n low high. given (f n) (h n low high))
 
 door_then : (r : Result Door ScriptWhy) → IsReadable (and_then r (λ door. Ok (Accept door)))
@@ -90,7 +91,8 @@ two_members_read first d second e =
     (λ n low high. bytes_read n (as_str d) low high))
     (either (bytes_eq first (codes "link") && bytes_eq second (codes "room")) _ _
     (number_then 1 (option_and_then as_u64 (as_number d)) (λ n. and_then (number_from 0 e) (λ k. Ok (Room n k)))
-    (λ n low high. number_then 0 (option_and_then as_u64 (as_number e)) (λ k. Ok (Room n k)) (λ k least most. given (Room n k) ((low, high), most))))
+    (λ n low high. number_then 0 (option_and_then as_u64 (as_number e)) (λ k. Ok (Room n k))
+    (λ k least most. given (Room n k) ((low, high), most))))
     (refused _))
 
 members_read : (ms : Members) → IsReadable (line_of_members ms)

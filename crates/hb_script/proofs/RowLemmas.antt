@@ -23,7 +23,8 @@ found_in n k i false is e = absurd cc
 
 -- where a newline is found
 pub found_at : (text : List ℕ) (i : ℕ) → position is_newline text ≡ Some i → i ≡ position_or_len is_newline text
-found_at text i e = found_in (position_or_len is_newline text) (length text) i (nat_lt (position_or_len is_newline text) (length text)) refl e
+found_at text i e = found_in (position_or_len is_newline text) (length text) i
+    (nat_lt (position_or_len is_newline text) (length text)) refl e
 
 missing_in : (n k : ℕ) (test : Bool) → nat_lt n k ≡ test → cond test (Some n) None ≡ None → k ≤ n
 missing_in n k true is e = absurd cc
@@ -57,7 +58,8 @@ joined_assoc (Err fault) b c = refl
 
 -- the first row is cut off, and an empty row behind the last newline changes nothing
 pub first_row_off : (n : ℕ) (text : List ℕ)
-    → lines_from n (rows text) ≡ joined (row_lines n (before_first is_newline text)) (lines_from (n + 1) (rows (after_first is_newline text)))
+    → lines_from n (rows text) ≡ joined (row_lines n (before_first is_newline text))
+    (lines_from (n + 1) (rows (after_first is_newline text)))
 first_row_off n text = elim (cases_lt (position_or_len is_newline text) (length text)) [
   | inl inside ↦ ap (lines_from n) (slice_split_first is_newline text 0 inside)
   | inr past ↦ rw (

@@ -43,7 +43,8 @@ read-compact_text : (d : Data) → IsWritable d → read (compact_text d) ≡ So
 read-compact_text d w =
     ap read (sym (print-outline d))
     ∙ ap (λ o. option_and_then of_json (option_and_then (λ p. json.if_last p.0 p.1) o))
-    (ap (json.value 127) (tokens-print (tree.json_tokens (outline d)) (ArePrintable-json_tokens (outline d) w.numbers) ∙ sym (append-nil (tree.json_tokens (outline d))))
+    (ap (json.value 127) (tokens-print (tree.json_tokens (outline d)) (ArePrintable-json_tokens (outline d) w.numbers)
+    ∙ sym (append-nil (tree.json_tokens (outline d))))
     ∙ value-json_tokens (outline d) 127 [] w.shallow)
     ∙ w.same
 
@@ -87,7 +88,8 @@ compact_text-line_data (Open link) h = refl
 compact_text-line_data (Refuse link) h = refl
 compact_text-line_data (Piece link bytes) h =
     rw (escape_letters (encode_lower bytes) (letters_hex bytes h.2))
-    (ap (λ xs. codes "{\"bytes\":\"" ++ xs) (append_assoc (encode_lower bytes) (34 ∷ []) (codes ",\"link\":" ++ (decimal link ++ codes "}")))
+    (ap (λ xs. codes "{\"bytes\":\"" ++ xs)
+    (append_assoc (encode_lower bytes) (34 ∷ []) (codes ",\"link\":" ++ (decimal link ++ codes "}")))
     ∙ regrouped (codes "{\"bytes\":\"") (encode_lower bytes) (codes "\",\"link\":") (decimal link) (codes "}"))
 compact_text-line_data (End link) h = refl
 compact_text-line_data (Break link) h = refl
@@ -250,7 +252,8 @@ lines_from-written n (line ∷ later) all =
     ∙ slice_split_at (λ b. b == 10) (line_text line) 10 (lines_text later)
     (All-weaker IsPlain (λ b. (b == 10) ≡ false) no_newline (line_text line) (plain_line line here)) refl in
     ap (lines_from n) cut
-    ∙ ap (λ r. joined r (lines_from (n + 1) (rows (lines_text later)))) (row_lines_of n (line_text line) line (some_text line) (line_of-line_text line here))
+    ∙ ap (λ r. joined r (lines_from (n + 1) (rows (lines_text later))))
+    (row_lines_of n (line_text line) line (some_text line) (line_of-line_text line here))
     ∙ ap (joined (Ok (line ∷ []))) (lines_from-written (n + 1) later (All-tail CanBeRead line later all))
 
 -- the text of lines is read as these lines
