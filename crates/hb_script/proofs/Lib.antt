@@ -1,0 +1,5 @@
+pub mod PlainLemmas
+pub mod ReadableLemmas
+pub mod RowLemmas
+pub mod SpellingLemmas
+pub mod ValueLemmas

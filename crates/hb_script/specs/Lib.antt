@@ -1,0 +1,4 @@
+pub mod EntryText
+pub mod Form
+pub mod Script
+pub mod Spelling
