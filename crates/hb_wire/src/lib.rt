@@ -6,7 +6,12 @@ mod fault;
 mod fields;
 mod spelling;
 mod varint;
+mod writing;
 
 pub use fault::{WireFault, WireWhy};
 pub use fields::{Field, FieldValue, Fields};
-pub use spelling::{a_message_is_what_its_bytes_spell, the_next_field_is_what_its_bytes_spell};
+pub use spelling::{
+    a_message_is_what_its_bytes_spell, the_next_field_is_what_its_bytes_spell,
+    what_is_written_is_spelled_so,
+};
+pub use writing::{put_bytes, put_number, put_packed, put_varint};
