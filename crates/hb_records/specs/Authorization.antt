@@ -1,7 +1,8 @@
 -- Authorization policies.
 use Rattle.std.specs.Prelude.{ℕ, ◌==◌, List, [], Result, Ok, Err, if◌then◌else◌}
 use Rattle.hb_wire.specs.Field.{Content, Value, varint, eight, span, four}
-use Rattle.hb_wire.specs.Message.{message_of, fold_message, and_then}
+use Rattle.hb_wire.specs.Message.{and_then}
+use Rattle.hb_message.specs.Reading.{read_into}
 use Rattle.hb_records.specs.declared.fault.RecordFault.{RecordFault}
 use Rattle.hb_records.specs.declared.fault.RecordFault.TheVariants.{Wire, BadEnum}
 use Rattle.hb_records.specs.declared.authorization.Reach.{Reach}
@@ -53,4 +54,4 @@ no_authorization = record { name = []; namespace = []; scope = Global; action = 
 
 -- the policy that these bytes are
 unfoldable pub authorization_of : List ℕ → Result Authorization RecordFault
-authorization_of bytes = fold_message authorization_merged Wire no_authorization (message_of (record { at = 0; left = bytes }))
+authorization_of bytes = read_into authorization_merged Wire no_authorization 0 bytes

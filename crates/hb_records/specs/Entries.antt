@@ -1,13 +1,13 @@
 -- Strings, enums, and the entries of a repeated field.
 use Rattle.std.specs.Prelude.{ℕ, ◌%◌, ◌^◌, nat_lt, List, [], ◌∷◌, ◌++◌, length, Result, Ok, Err, if◌then◌else◌}
-use Rattle.std.specs.Str.{is_utf8}
 use Rattle.hb_wire.specs.Message.{and_then}
+use Rattle.hb_message.specs.Reading.{text_by}
 use Rattle.hb_records.specs.declared.fault.RecordFault.{RecordFault}
 use Rattle.hb_records.specs.declared.fault.RecordFault.TheVariants.{Utf8, TooMany}
 
--- a string field: UTF-8 (Protocol Buffers language guide, "Scalar Value Types")
+-- a string field
 abbrev pub text_in : ℕ → List ℕ → Result (List ℕ) RecordFault
-text_in field bytes = if is_utf8 bytes then Ok bytes else Err (Utf8 field)
+text_in field bytes = text_by Utf8 field bytes
 
 -- an enum's number: the low 32 bits of the varint (Protocol Buffers encoding guide, "Bools and Enums")
 abbrev pub enum_number : ℕ → ℕ

@@ -1,6 +1,5 @@
 pub mod Authorization
 pub mod Entries
-pub mod Reading
 pub mod Rule
 pub mod StringMatch
 pub mod Workload

@@ -1,13 +1,13 @@
 -- The rules of a policy.
 use Rattle.std.specs.Prelude.{ℕ, ◌==◌, ◌&&◌, nat_le, List, [], Result, Ok, Err, if◌then◌else◌}
 use Rattle.hb_wire.specs.Field.{Content, Value, varint, eight, span, four}
-use Rattle.hb_wire.specs.Message.{message_of, fold_message, and_then}
+use Rattle.hb_wire.specs.Message.{and_then}
+use Rattle.hb_message.specs.Reading.{read_into, of_span}
 use Rattle.hb_records.specs.declared.fault.RecordFault.{RecordFault}
 use Rattle.hb_records.specs.declared.fault.RecordFault.TheVariants.{Wire, NotYet}
 use Rattle.hb_records.specs.declared.rule.Match.{Match}
 use Rattle.hb_records.specs.declared.rule.Clause.{Clause}
 use Rattle.hb_records.specs.declared.rule.Rule.{Rule}
-use Rattle.hb_records.specs.Reading.{of_span}
 use Rattle.hb_records.specs.Entries.{one_more}
 use Rattle.hb_records.specs.StringMatch.{string_match_in}
 
@@ -34,7 +34,7 @@ no_match = record { principals = []; not_principals = [] }
 
 -- the match of these bytes at a place
 unfoldable pub match_in : ℕ → List ℕ → Result Match RecordFault
-match_in at bytes = fold_message match_merged Wire no_match (message_of (record { at = at; left = bytes }))
+match_in at bytes = read_into match_merged Wire no_match at bytes
 
 -- a clause has matches 2
 abbrev pub clause_merged : Clause → Content → Result Clause RecordFault
@@ -42,7 +42,7 @@ clause_merged c f = of_span c f.value (λ bytes.
     if f.number == 2 then and_then (one_more 2 c.matches (match_in f.at bytes)) (λ l. Ok (record { matches = l })) else Ok c)
 
 unfoldable pub clause_in : ℕ → List ℕ → Result Clause RecordFault
-clause_in at bytes = fold_message clause_merged Wire (record { matches = [] }) (message_of (record { at = at; left = bytes }))
+clause_in at bytes = read_into clause_merged Wire (record { matches = [] }) at bytes
 
 -- a rule has clauses 2
 abbrev pub rule_merged : Rule → Content → Result Rule RecordFault
@@ -50,4 +50,4 @@ rule_merged r f = of_span r f.value (λ bytes.
     if f.number == 2 then and_then (one_more 2 r.clauses (clause_in f.at bytes)) (λ l. Ok (record { clauses = l })) else Ok r)
 
 unfoldable pub rule_in : ℕ → List ℕ → Result Rule RecordFault
-rule_in at bytes = fold_message rule_merged Wire (record { clauses = [] }) (message_of (record { at = at; left = bytes }))
+rule_in at bytes = read_into rule_merged Wire (record { clauses = [] }) at bytes

@@ -3,14 +3,14 @@ use Rattle.std.specs.Prelude.{ℕ, ◌==◌, List, [], true, false, Option, Some
 use Rattle.hb_base.specs.declared.ip.Ip.{Ip}
 use Rattle.hb_base.specs.Octets.{ip_of_octets}
 use Rattle.hb_wire.specs.Field.{Content, Value, varint, eight, span, four}
-use Rattle.hb_wire.specs.Message.{message_of, fold_message, and_then}
+use Rattle.hb_wire.specs.Message.{and_then}
+use Rattle.hb_message.specs.Reading.{read_into, of_span}
 use Rattle.hb_records.specs.declared.fault.RecordFault.{RecordFault}
 use Rattle.hb_records.specs.declared.fault.RecordFault.TheVariants.{Wire, BadIp, NoKind, NotYet}
 use Rattle.hb_records.specs.declared.address.Address.{Address}
 use Rattle.hb_records.specs.declared.address.AddressRecord.{AddressRecord}
 use Rattle.hb_records.specs.declared.address.AddressRecord.TheVariants as records
 use Rattle.hb_records.specs.declared.workload.Workload.{Workload}
-use Rattle.hb_records.specs.Reading.{of_span}
 use Rattle.hb_records.specs.Entries.{text_in, enum_number, one_more}
 
 -- an address is 4 or 16 octets
@@ -75,7 +75,7 @@ no_workload = record {
 
 -- what the bytes of one more occurrence at a place make of a workload
 unfoldable pub workload_with : Workload → ℕ → List ℕ → Result Workload RecordFault
-workload_with w at bytes = fold_message workload_merged Wire w (message_of (record { at = at; left = bytes }))
+workload_with w at bytes = read_into workload_merged Wire w at bytes
 
 -- workload 1, whose occurrences merge; service 2 isn't built yet
 abbrev pub address_span : Address → ℕ → ℕ → List ℕ → Result Address RecordFault
@@ -95,4 +95,4 @@ address_or a = if a.is_there then Ok (records.Workload a.workload) else Err (NoK
 
 -- the address record that these bytes are
 unfoldable pub address_of : List ℕ → Result AddressRecord RecordFault
-address_of bytes = and_then (fold_message address_merged Wire no_address (message_of (record { at = 0; left = bytes }))) address_or
+address_of bytes = and_then (read_into address_merged Wire no_address 0 bytes) address_or

@@ -6,10 +6,10 @@ ghost use Rattle.hb_records.specs.Workload.{address_span, address_of};
 ghost use Rattle.hb_records.specs.declared.fault.RecordFault.TheVariants.{NoKind};
 
 use crate::fault::RecordFault;
-use crate::message::{Message, read_message, read_whole};
 use crate::workload::Workload;
 use hb_base::Or;
-use hb_wire::{Field, FieldValue, WireFault};
+use hb_message::{Message, read_message, read_whole};
+use hb_wire::{Field, FieldValue};
 use std::alloc::Global;
 
 /// What has an address in the mesh. (Services aren't read yet.)
@@ -26,18 +26,11 @@ struct Address {
 }
 
 impl Message for Address {
-    ghost use Rattle.hb_records.specs.declared.fault.RecordFault.TheVariants.{Wire};
     ghost use Rattle.hb_records.specs.Workload.{address_merged};
 
     type Fault = RecordFault;
 
-    ghost wire = { Wire };
-
     ghost merged = { address_merged };
-
-    fn of_wire(fault: WireFault) -> RecordFault {
-        RecordFault::Wire(fault)
-    }
 
     fn merge(&mut self, alloc: Global, field: Field<'_>) -> Result<(), Or<RecordFault>> {
         match field.value {

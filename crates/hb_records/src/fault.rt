@@ -1,5 +1,6 @@
 //! Why bytes are no record.
 
+use hb_message::MessageFault;
 use hb_wire::WireFault;
 use thiserror::Error;
 
@@ -28,4 +29,20 @@ pub enum RecordFault {
     /// A field that isn't built yet.
     #[error("not yet: field {field}")]
     NotYet { field: u32 },
+}
+
+impl MessageFault for RecordFault {
+    ghost use Rattle.hb_records.specs.declared.fault.RecordFault.TheVariants.{Wire, Utf8};
+
+    ghost wire = { Wire };
+
+    ghost utf8 = { Utf8 };
+
+    fn of_wire(fault: WireFault) -> RecordFault {
+        RecordFault::Wire(fault)
+    }
+
+    fn of_utf8(field: u32) -> RecordFault {
+        RecordFault::Utf8 { field }
+    }
 }

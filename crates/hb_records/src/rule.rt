@@ -4,12 +4,12 @@ ghost use Rattle.std.specs.Prelude.{◌≡◌, ◌+◌, ◌^◌, ◌<◌, length
 ghost use Rattle.hb_base.specs.Outcome.{Answers, Merges};
 ghost use Rattle.hb_records.specs.Rule.{attribute_in, match_in, clause_in, rule_in};
 
-use crate::entries::{add, check_room};
+use crate::entries::check_room;
 use crate::fault::RecordFault;
-use crate::message::{Message, read_whole};
 use crate::string_match::{StringMatch, read_string_match};
 use hb_base::{List, Or};
-use hb_wire::{Field, FieldValue, WireFault};
+use hb_message::{Message, add, read_whole};
+use hb_wire::{Field, FieldValue};
 use std::alloc::Global;
 
 /// One match of a clause: each attribute has to be met.
@@ -32,18 +32,11 @@ pub struct Rule {
 }
 
 impl Message for Match {
-    ghost use Rattle.hb_records.specs.declared.fault.RecordFault.TheVariants.{Wire};
     ghost use Rattle.hb_records.specs.Rule.{match_merged};
 
     type Fault = RecordFault;
 
-    ghost wire = { Wire };
-
     ghost merged = { match_merged };
-
-    fn of_wire(fault: WireFault) -> RecordFault {
-        RecordFault::Wire(fault)
-    }
 
     fn merge(&mut self, alloc: Global, field: Field<'_>) -> Result<(), Or<RecordFault>> {
         match field.value {
@@ -91,18 +84,11 @@ impl Match {
 }
 
 impl Message for Clause {
-    ghost use Rattle.hb_records.specs.declared.fault.RecordFault.TheVariants.{Wire};
     ghost use Rattle.hb_records.specs.Rule.{clause_merged};
 
     type Fault = RecordFault;
 
-    ghost wire = { Wire };
-
     ghost merged = { clause_merged };
-
-    fn of_wire(fault: WireFault) -> RecordFault {
-        RecordFault::Wire(fault)
-    }
 
     fn merge(&mut self, alloc: Global, field: Field<'_>) -> Result<(), Or<RecordFault>> {
         match field.value {
@@ -116,18 +102,11 @@ impl Message for Clause {
 }
 
 impl Message for Rule {
-    ghost use Rattle.hb_records.specs.declared.fault.RecordFault.TheVariants.{Wire};
     ghost use Rattle.hb_records.specs.Rule.{rule_merged};
 
     type Fault = RecordFault;
 
-    ghost wire = { Wire };
-
     ghost merged = { rule_merged };
-
-    fn of_wire(fault: WireFault) -> RecordFault {
-        RecordFault::Wire(fault)
-    }
 
     fn merge(&mut self, alloc: Global, field: Field<'_>) -> Result<(), Or<RecordFault>> {
         match field.value {

@@ -5,11 +5,11 @@ ghost use Rattle.hb_base.specs.Octets.{ip_of_octets};
 ghost use Rattle.hb_base.specs.Outcome.{Answers, Merges};
 ghost use Rattle.hb_records.specs.Workload.{no_workload, ip_or, workload_text, workload_span, workload_number};
 
-use crate::entries::{add, check_room, enum_number, read_text, take_text};
+use crate::entries::{check_room, enum_number};
 use crate::fault::RecordFault;
-use crate::message::Message;
 use hb_base::{Ip, List, Or, Text};
-use hb_wire::{Field, FieldValue, WireFault};
+use hb_message::{Message, add, read_text, take_text};
+use hb_wire::{Field, FieldValue};
 use std::alloc::Global;
 
 /// A workload of the mesh. `authorization_policies` are the names `namespace/name` of the policies that
@@ -42,18 +42,11 @@ fn read_octets(field: u32, bytes: &[u8]) -> Result<Ip, Or<RecordFault>>
 }
 
 impl Message for Workload {
-    ghost use Rattle.hb_records.specs.declared.fault.RecordFault.TheVariants.{Wire};
     ghost use Rattle.hb_records.specs.Workload.{workload_merged};
 
     type Fault = RecordFault;
 
-    ghost wire = { Wire };
-
     ghost merged = { workload_merged };
-
-    fn of_wire(fault: WireFault) -> RecordFault {
-        RecordFault::Wire(fault)
-    }
 
     fn merge(&mut self, alloc: Global, field: Field<'_>) -> Result<(), Or<RecordFault>> {
         match field.value {
