@@ -1,100 +1,166 @@
--- The dotted text of an address.
-use Rattle.std.proofs.Common.{◌≡◌, ℕ, ◌+◌, ◌*◌, ◌/◌, ◌%◌, ◌<◌, ◌^◌, List, [], ◌∷◌, ◌++◌, false, nat_eq, Option, Some, None, refl, sym, ap, ◌∙◌, arith, decimal, eq-eqb}
-use Rattle.std.specs.List.{All, join_with_byte}
-use Rattle.std.specs.Option.{option_map}
-use Rattle.std.proofs.lemmas.List.Splits.{slice_split_at, slice_split_none, join_with_byte-slice_split}
-use Rattle.hb_base.specs.IpText.{octet_of, four_octets, v4_of_parts, v4_of, ip_of, v4_text}
-use Rattle.hb_base.specs.Parts.{parts}
+-- The text of an address: std's readers read what its grammar spells.
+use Rattle.std.proofs.Common.{◌≡◌, ℕ, ◌<◌, ◌^◌, ◌⊎◌, inl, inr, Bool, false, cond, List, [], ◌∷◌, ◌++◌, length, Option, Some, None, Result, Ok, Err, refl, sym, ap, ap₂, subst, ◌∙◌, arith, lit≤, append-nil, ne_eqb}
+use Rattle.std.specs.Int.{from_be_bytes, to_be_bytes, w32, w128}
+use Rattle.std.specs.Option.{option_map, option_or, option_and_then}
+use Rattle.std.specs.Result.{result_ok}
+use Rattle.std.specs.Net.Addr.{segments_of, octets_of, ipv4_octets, ipv6_segments}
+use Rattle.std.specs.Net.Grammar.{Parses, IsDotted, IsColonHex, IsIpv4Text, IsIpv6Text}
+use Rattle.std.specs.Net.Reader.{Read, read_ipv4, read_ipv6, whole_value}
+use Rattle.std.specs.declared.net.ipv4_addr.Ipv4Addr.{Ipv4Addr}
+use Rattle.std.specs.declared.net.ipv6_addr.Ipv6Addr.{Ipv6Addr}
+use Rattle.std.proofs.NetLemmas.Ipv4.{read_ipv4_complete, read_ipv4_sound}
+use Rattle.std.proofs.NetLemmas.Ipv6.{read_ipv6_complete, read_ipv6_sound, EndsGroups-nil, IsDotted-not_colon_hex}
+use Rattle.std.proofs.NetLemmas.Options.{and_then_some}
+use Rattle.std.proofs.NetLemmas.Texts.{IsDotted-ipv4_text, IsColonHex-hex_groups_text}
+use Rattle.std.proofs.lemmas.Nat.{from_be_bytes-to_be_bytes_4}
+use Rattle.std.proofs.lemmas.Option.{same_Some}
+use Rattle.hb_base.specs.IpText.{SpellsIp, v4_of, v6_of, ip_of, ip_text}
+use Rattle.hb_base.specs.Octets.{ip_of_octets, IsGiven}
 use Rattle.hb_base.specs.declared.ip.Ip.{Ip}
-use Rattle.hb_base.specs.declared.ip.Ip.TheVariants.{V4}
-use Rattle.hb_base.proofs.OctetLemmas.{no_lower_byte, octet_of-decimal, octet_spelled}
+use Rattle.hb_base.specs.declared.ip.Ip.TheVariants.{V4, V6}
+use Rattle.hb_base.proofs.OctetLemmas.{octets_fit, groups_fit, octets_back, number_back}
 
--- this byte stands nowhere in the text
-abbrev pub Lacks : ℕ → List ℕ → Type 0
-Lacks c text = All (λ b. nat_eq b c ≡ false) text
+whole_at : {A : Type 0} (a x : A) (rest : List ℕ) → whole_value (Some (a, rest)) ≡ Some x → (a ≡ x) × (rest ≡ [])
+whole_at a x [] h = (same_Some a x h, refl)
+whole_at a x (c ∷ rest) h = absurd (none (rw (ne_eqb (length (c ∷ rest)) 0 (omega arith)) at h))
+  where
+    none : None ≡ Some x → ⊥
+    none e = cc
 
--- a part, a separator and more parts
-pub parts_at : (c : ℕ) (part more : List ℕ) → Lacks c part → parts c (part ++ c ∷ more) ≡ part ∷ parts c more
-parts_at c part more lacks = slice_split_at (λ b. nat_eq b c) part c more lacks (eq-eqb c c refl)
+whole_some : {A : Type 0} (r : Read A) (x : A) → whole_value r ≡ Some x → r ≡ Some (x, [])
+whole_some None x h = cc
+whole_some (Some p) x h =
+    let (same, no_more) = whole_at p.0 x p.1 h in
+    ap₂ (λ a rest. Some (a, rest)) same no_more
 
--- one part
-pub parts_end : (c : ℕ) (part : List ℕ) → Lacks c part → parts c part ≡ part ∷ []
-parts_end c part lacks = slice_split_none (λ b. nat_eq b c) part lacks
+-- a reader of a text's front, and what it reads of a whole text
+module _ {A : Type 0} (read : List ℕ → Read A) (Spells : List ℕ → A → Type 0)
+    (sound : (text : List ℕ) (a : A) → read text ≡ Some (a, []) → (front : List ℕ) × (text ≡ front ++ []) × Spells front a)
+    (complete : (text : List ℕ) (a : A) → Spells text a → read (text ++ []) ≡ Some (a, [])) where
+  pub reads_whole : (text : List ℕ) (a : A) → Spells text a → whole_value (read text) ≡ Some a
+  reads_whole text a h = ap whole_value (sym (ap read (append-nil text)) ∙ complete text a h)
 
-four_parts : (c : ℕ) (p q r s : List ℕ) → Lacks c p → Lacks c q → Lacks c r → Lacks c s → parts c (p ++ c ∷ (q ++ c ∷ (r ++ c ∷ s)))
-    ≡ p ∷ q ∷ r ∷ s ∷ []
-four_parts c p q r s at_p at_q at_r at_s =
-    let from_r = parts_at c r s at_r ∙ ap (λ (ps : List (List ℕ)). r ∷ ps) (parts_end c s at_s) in
-    let from_q = parts_at c q (r ++ c ∷ s) at_q ∙ ap (λ (ps : List (List ℕ)). q ∷ ps) from_r in
-    parts_at c p (q ++ c ∷ (r ++ c ∷ s)) at_p ∙ ap (λ (ps : List (List ℕ)). p ∷ ps) from_q
+  pub whole_spelled : (text : List ℕ) (a : A) → whole_value (read text) ≡ Some a → Spells text a
+  whole_spelled text a h =
+      let (front, split, spells) = sound text a (whole_some (read text) a h) in
+      subst (λ t. Spells t a) (sym (split ∙ append-nil front)) spells
 
-four_octets_are : (a b c d : Option ℕ) (p q r s n : ℕ) → a ≡ Some p → b ≡ Some q → c ≡ Some r → d ≡ Some s
-    → ((p * 256 + q) * 256 + r) * 256 + s ≡ n → four_octets a b c d ≡ Some n
-four_octets_are a b c d p q r s n a_is b_is c_is d_is is = rw (a_is, b_is, c_is, d_is, is) refl
+  -- what is spelled in no way is read as nothing
+  reads_none : (text : List ℕ) → ((a : A) → ¬ (Spells text a)) → (o : Option A) → whole_value (read text) ≡ o → whole_value (read text) ≡ None
+  reads_none text not_spelled None is = is
+  reads_none text not_spelled (Some a) is = absurd (not_spelled a (whole_spelled text a is))
 
--- the dotted text of an address is read as it
-pub v4_of-text : (n : ℕ) → n < 2 ^ 32 → v4_of (v4_text n) ≡ Some n
-v4_of-text n h =
-    let p = n / 16777216 % 256 in
-    let q = n / 65536 % 256 in
-    let r = n / 256 % 256 in
-    let s = n % 256 in
-    let p_low : p < 256 = omega arith in
-    let q_low : q < 256 = omega arith in
-    let r_low : r < 256 = omega arith in
-    let s_low : s < 256 = omega arith in
-    let value : ((p * 256 + q) * 256 + r) * 256 + s ≡ n = omega arith in
-    let cut = four_parts 46 (decimal p) (decimal q) (decimal r) (decimal s) (no_lower_byte 46 p (omega arith) (omega arith))
-    (no_lower_byte 46 q (omega arith) (omega arith)) (no_lower_byte 46 r (omega arith) (omega arith))
-    (no_lower_byte 46 s (omega arith) (omega arith)) in
-    ap v4_of_parts cut ∙ four_octets_are _ _ _ _ p q r s n (octet_of-decimal p p_low) (octet_of-decimal q q_low)
-    (octet_of-decimal r r_low) (octet_of-decimal s s_low) value
+  pub unspelled : (text : List ℕ) → ((a : A) → ¬ (Spells text a)) → whole_value (read text) ≡ None
+  unspelled text not_spelled = reads_none text not_spelled (whole_value (read text)) refl
 
-octets_spelled : (a b c d : List ℕ) (p q r s n : ℕ) → octet_of a ≡ Some p → octet_of b ≡ Some q → octet_of c ≡ Some r
-    → octet_of d ≡ Some s → ((p * 256 + q) * 256 + r) * 256 + s ≡ n → (n < 2 ^ 32) × (a ++ 46 ∷ (b ++ 46 ∷ (c ++ 46 ∷ d)) ≡ v4_text n)
-octets_spelled a b c d p q r s n a_is b_is c_is d_is is =
-    let (a_text, a_low) = octet_spelled a p a_is in
-    let (b_text, b_low) = octet_spelled b q b_is in
-    let (c_text, c_low) = octet_spelled c r c_is in
-    let (d_text, d_low) = octet_spelled d s d_is in
-    let p_is : p ≡ n / 16777216 % 256 = omega arith in
-    let q_is : q ≡ n / 65536 % 256 = omega arith in
-    let r_is : r ≡ n / 256 % 256 = omega arith in
-    let s_is : s ≡ n % 256 = omega arith in
-    let a_spelled : a ≡ decimal (n / 16777216 % 256) = a_text ∙ ap decimal p_is in
-    let b_spelled : b ≡ decimal (n / 65536 % 256) = b_text ∙ ap decimal q_is in
-    let c_spelled : c ≡ decimal (n / 256 % 256) = c_text ∙ ap decimal r_is in
-    let d_spelled : d ≡ decimal (n % 256) = d_text ∙ ap decimal s_is in
-    (omega arith, rw (a_spelled, b_spelled, c_spelled, d_spelled) refl)
+  -- so a parser reads the same
+  pub parsed : {B E : Type 0} (view : B → A) (of_view : (a : A) → (b : B) × (view b ≡ a)) (text : List ℕ) (r : Result B E)
+      → Parses (λ t b. Spells t (view b)) text r → whole_value (read text) ≡ option_map view (result_ok r)
+  parsed view of_view text (Ok b) h = reads_whole text (view b) h
+  parsed view of_view text (Err e) h = unspelled text (λ a spells. let (b, is) = of_view a in h b (subst (Spells text) (sym is) spells))
 
-by_octets : (a b c d : List ℕ) (p q r s : Option ℕ) (n : ℕ) → octet_of a ≡ p → octet_of b ≡ q → octet_of c ≡ r → octet_of d ≡ s
-    → four_octets p q r s ≡ Some n → (n < 2 ^ 32) × (a ++ 46 ∷ (b ++ 46 ∷ (c ++ 46 ∷ d)) ≡ v4_text n)
-by_octets a b c d None q r s n a_is b_is c_is d_is is = cc
-by_octets a b c d (Some p) None r s n a_is b_is c_is d_is is = cc
-by_octets a b c d (Some p) (Some q) None s n a_is b_is c_is d_is is = cc
-by_octets a b c d (Some p) (Some q) (Some r) None n a_is b_is c_is d_is is = cc
-by_octets a b c d (Some p) (Some q) (Some r) (Some s) n a_is b_is c_is d_is is = octets_spelled a b c d p q r s n a_is b_is c_is d_is cc
+v4_sound : (text octets : List ℕ) → read_ipv4 text ≡ Some (octets, []) → (front : List ℕ) × (text ≡ front ++ []) × IsDotted front octets
+v4_sound text octets h = read_ipv4_sound text octets [] h
 
-by_parts : (ps : List (List ℕ)) (n : ℕ) → v4_of_parts ps ≡ Some n → (n < 2 ^ 32) × (join_with_byte 46 ps ≡ v4_text n)
-by_parts [] n is = cc
-by_parts (a ∷ []) n is = cc
-by_parts (a ∷ b ∷ []) n is = cc
-by_parts (a ∷ b ∷ c ∷ []) n is = cc
-by_parts (a ∷ b ∷ c ∷ d ∷ []) n is = by_octets a b c d (octet_of a) (octet_of b) (octet_of c) (octet_of d) n refl refl refl refl is
-by_parts (a ∷ b ∷ c ∷ d ∷ e ∷ more) n is = cc
+v4_complete : (text octets : List ℕ) → IsDotted text octets → read_ipv4 (text ++ []) ≡ Some (octets, [])
+v4_complete text octets h = read_ipv4_complete text octets [] h (lit≤ tt)
 
--- and no other text is
-pub v4_spelled : (text : List ℕ) (n : ℕ) → v4_of text ≡ Some n → (n < 2 ^ 32) × (text ≡ v4_text n)
-v4_spelled text n is =
-    let (low, joined) = by_parts (parts 46 text) n is in
-    (low, sym (join_with_byte-slice_split 46 text) ∙ joined)
+v6_sound : (text groups : List ℕ) → read_ipv6 text ≡ Some (groups, []) → (front : List ℕ) × (text ≡ front ++ []) × IsColonHex front groups
+v6_sound text groups h = read_ipv6_sound text groups [] h
 
-is_v4 : (o : Option ℕ) (n : ℕ) → option_map {T = ℕ} {U = Ip} (λ m. V4 m) o ≡ Some (V4 n) → o ≡ Some n
-is_v4 None n is = cc
-is_v4 (Some m) n is = cc
+v6_complete : (text groups : List ℕ) → IsColonHex text groups → read_ipv6 (text ++ []) ≡ Some (groups, [])
+v6_complete text groups h = read_ipv6_complete text groups [] h EndsGroups-nil
 
-pub ip_of-text : (n : ℕ) → n < 2 ^ 32 → ip_of (v4_text n) ≡ Some (V4 n)
-ip_of-text n h = ap (λ (o : Option ℕ). option_map {T = ℕ} {U = Ip} (λ m. V4 m) o) (v4_of-text n h)
+pub v4_parsed : {E : Type 0} (text : List ℕ) (r : Result Ipv4Addr E) (o : Option Ipv4Addr) → Parses IsIpv4Text text r → o ≡ result_ok r
+    → v4_of text ≡ option_and_then ip_of_octets (option_map ipv4_octets o)
+unfolding v4_of
+v4_parsed text r o h is =
+    ap (option_and_then ip_of_octets)
+    (parsed read_ipv4 IsDotted v4_sound v4_complete ipv4_octets (λ octets. (record { octets = octets }, refl)) text r h
+    ∙ ap (option_map ipv4_octets) (sym is))
 
-pub ip_spelled : (text : List ℕ) (n : ℕ) → ip_of text ≡ Some (V4 n) → (n < 2 ^ 32) × (text ≡ v4_text n)
-ip_spelled text n is = v4_spelled text n (is_v4 (v4_of text) n is)
+pub v6_parsed : {E : Type 0} (text : List ℕ) (r : Result Ipv6Addr E) (o : Option Ipv6Addr) → Parses IsIpv6Text text r → o ≡ result_ok r
+    → v6_of text ≡ option_and_then (λ groups. ip_of_octets (octets_of groups)) (option_map ipv6_segments o)
+unfolding v6_of
+v6_parsed text r o h is =
+    ap (option_and_then (λ groups. ip_of_octets (octets_of groups)))
+    (parsed read_ipv6 IsColonHex v6_sound v6_complete ipv6_segments (λ groups. (record { segments = groups }, refl)) text r h
+    ∙ ap (option_map ipv6_segments) (sym is))
+
+-- what is read is spelled
+v4_spelled : (text : List ℕ) (ip : Ip) → v4_of text ≡ Some ip → SpellsIp text ip
+unfolding v4_of
+v4_spelled text ip h =
+    and_then_some ip_of_octets (whole_value (read_ipv4 text)) ip h λ octets read given.
+    (octets, inl (whole_spelled read_ipv4 IsDotted v4_sound v4_complete text octets read), given)
+
+v6_spelled : (text : List ℕ) (ip : Ip) → v6_of text ≡ Some ip → SpellsIp text ip
+unfolding v6_of
+v6_spelled text ip h =
+    and_then_some (λ groups. ip_of_octets (octets_of groups)) (whole_value (read_ipv6 text)) ip h λ groups read given.
+    (octets_of groups, inr (groups, whole_spelled read_ipv6 IsColonHex v6_sound v6_complete text groups read, refl), given)
+
+either : (o p : Option Ip) (ip : Ip) → option_or o p ≡ Some ip → (o ≡ Some ip) ⊎ (p ≡ Some ip)
+either None p ip h = inr h
+either (Some x) p ip h = inl h
+
+pub ip_spelled : (text : List ℕ) (ip : Ip) → ip_of text ≡ Some ip → SpellsIp text ip
+unfolding ip_of
+ip_spelled text ip h =
+    elim (either (v4_of text) (v6_of text) ip h) [
+      | inl v4 ↦ v4_spelled text ip v4
+      | inr v6 ↦ v6_spelled text ip v6
+    ]
+
+-- and what is spelled is read
+pub v4_reads : (text octets : List ℕ) → IsDotted text octets → v4_of text ≡ ip_of_octets octets
+unfolding v4_of
+v4_reads text octets h = ap (option_and_then ip_of_octets) (reads_whole read_ipv4 IsDotted v4_sound v4_complete text octets h)
+
+pub v6_reads : (text groups : List ℕ) → IsColonHex text groups → v6_of text ≡ ip_of_octets (octets_of groups)
+unfolding v6_of
+v6_reads text groups h =
+    ap (option_and_then (λ (gs : List ℕ). ip_of_octets (octets_of gs)))
+    (reads_whole read_ipv6 IsColonHex v6_sound v6_complete text groups h)
+
+not_v4 : (text groups : List ℕ) → IsColonHex text groups → v4_of text ≡ None
+unfolding v4_of
+not_v4 text groups h =
+    ap (option_and_then ip_of_octets)
+    (unspelled read_ipv4 IsDotted v4_sound v4_complete text (λ octets dotted. IsDotted-not_colon_hex text octets groups dotted h))
+
+pub ip_of-spelled : (text : List ℕ) (ip : Ip) → SpellsIp text ip → ip_of text ≡ Some ip
+unfolding ip_of
+ip_of-spelled text ip (octets, inl dotted, given) = rw (v4_reads text octets dotted, given) refl
+ip_of-spelled text ip (octets, inr (groups, hex, is), given) =
+    rw (not_v4 text groups hex, v6_reads text groups hex, ← is, given) refl
+
+-- the octets of an address give it back
+v4_given : (n : ℕ) → n < 2 ^ 32 → ip_of_octets (to_be_bytes w32 n) ≡ Some (V4 n)
+v4_given n fits = ap (λ m. Some (V4 m)) (from_be_bytes-to_be_bytes_4 n fits)
+
+not_so : (b : Bool) (x y : Option Ip) → b ≡ false → cond b x y ≡ y
+not_so b x y is = rw is refl
+
+v6_given : (n : ℕ) → IsGiven (V6 n) → ip_of_octets (octets_of (segments_of (to_be_bytes w128 n))) ≡ Some (V6 n)
+v6_given n (fits, unmapped) =
+    ap ip_of_octets (octets_back 8 (to_be_bytes w128 n) refl (octets_fit 16 n)) ∙ not_so _ _ _ unmapped
+    ∙ ap (λ m. Some (V6 m)) (number_back n fits)
+
+-- what is written of an address is its text, and is read as it
+pub v4_text_read : (n : ℕ) → n < 2 ^ 32 → v4_of (ip_text (V4 n)) ≡ Some (V4 n)
+unfolding ip_text
+v4_text_read n fits =
+    v4_reads _ (to_be_bytes w32 n) (IsDotted-ipv4_text (to_be_bytes w32 n) refl (octets_fit 4 n)) ∙ v4_given n fits
+
+v6_text_spelled : (n : ℕ) → IsColonHex (ip_text (V6 n)) (segments_of (to_be_bytes w128 n))
+unfolding ip_text
+v6_text_spelled n = IsColonHex-hex_groups_text (segments_of (to_be_bytes w128 n)) refl (groups_fit (to_be_bytes w128 n) (octets_fit 16 n))
+
+pub v6_text_read : (n : ℕ) → IsGiven (V6 n) → v6_of (ip_text (V6 n)) ≡ Some (V6 n)
+v6_text_read n given = v6_reads _ (segments_of (to_be_bytes w128 n)) (v6_text_spelled n) ∙ v6_given n given
+
+pub ip_of-text : (ip : Ip) → IsGiven ip → ip_of (ip_text ip) ≡ Some ip
+unfolding ip_of
+ip_of-text (V4 n) fits = rw (v4_text_read n fits) refl
+ip_of-text (V6 n) given = rw (not_v4 _ _ (v6_text_spelled n), v6_text_read n given) refl

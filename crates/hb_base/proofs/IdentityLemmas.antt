@@ -8,8 +8,8 @@ use Rattle.std.proofs.lemmas.Slice.Eq.{bytes_eq-Decides, starts_is}
 use Rattle.hb_base.specs.IdentityText.{is_name_byte, is_name, identity_of, identity_of_parts, principal_of}
 use Rattle.hb_base.specs.Parts.{parts}
 use Rattle.hb_base.specs.declared.identity.Identity.{Identity}
-use Rattle.hb_base.proofs.AddressLemmas.{Lacks, parts_at, parts_end}
 use Rattle.hb_base.proofs.NameLemmas.{name_bytes}
+use Rattle.hb_base.proofs.PartsLemmas.{Lacks, parts_at, parts_end}
 use Rattle.hb_base.proofs.TestLemmas.{both, if_some}
 
 -- a name has no slash

@@ -1,6 +1,7 @@
 pub mod Utf8Test
 pub mod AddressLemmas
 pub mod BytesLemmas
+pub mod DecimalLemmas
 pub mod IdentityLemmas
 pub mod NameLemmas
 pub mod OctetLemmas

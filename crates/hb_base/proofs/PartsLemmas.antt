@@ -1,13 +1,25 @@
 -- The parts of a text and its first cut.
-use Rattle.std.proofs.Common.{◌≡◌, ℕ, ◌<◌, ◌≤◌, List, [], ◌∷◌, length, Bool, true, false, Option, Some, None, nat_eq, nat_lt, if◌then◌else◌, refl, sym, ◌∙◌, ap, arith}
-use Rattle.std.specs.List.{position_or_len, onto_first, before_first, after_first}
-use Rattle.std.proofs.lemmas.List.Splits.{slice_split_first, slice_split_none}
+use Rattle.std.proofs.Common.{◌≡◌, ℕ, ◌<◌, ◌≤◌, List, [], ◌∷◌, ◌++◌, length, Bool, true, false, Option, Some, None, nat_eq, nat_lt, eq-eqb, if◌then◌else◌, refl, sym, ◌∙◌, ap, arith}
+use Rattle.std.specs.List.{All, position_or_len, onto_first, before_first, after_first}
+use Rattle.std.proofs.lemmas.List.Splits.{slice_split_at, slice_split_first, slice_split_none}
 use Rattle.std.proofs.lemmas.List.Sums.{fails_before_first}
 use Rattle.std.proofs.lemmas.List.Elements.{All-from_get_or}
 use Rattle.std.proofs.lemmas.Bool.Decides.{nat_tests}
 use Rattle.std.specs.Borrow.{Bor}
 use Rattle.std.specs.Option.{is_some}
 use Rattle.hb_base.specs.Parts.{parts, cut_first, cut_lists}
+
+-- this byte stands nowhere in the text
+abbrev pub Lacks : ℕ → List ℕ → Type 0
+Lacks c text = All (λ b. nat_eq b c ≡ false) text
+
+-- a part, a separator and more parts
+pub parts_at : (c : ℕ) (part more : List ℕ) → Lacks c part → parts c (part ++ c ∷ more) ≡ part ∷ parts c more
+parts_at c part more lacks = slice_split_at (λ b. nat_eq b c) part c more lacks (eq-eqb c c refl)
+
+-- one part
+pub parts_end : (c : ℕ) (part : List ℕ) → Lacks c part → parts c part ≡ part ∷ []
+parts_end c part lacks = slice_split_none (λ b. nat_eq b c) part lacks
 
 -- the parts, by the first cut
 abbrev pub parts_of_cut : ℕ → List ℕ → Option (List ℕ × List ℕ) → List (List ℕ)

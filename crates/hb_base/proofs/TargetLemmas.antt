@@ -1,20 +1,29 @@
 -- The text of a target.
-use Rattle.std.proofs.Common.{◌≡◌, ℕ, suc, ◌+◌, ◌-◌, ◌*◌, ◌<◌, ◌≤◌, ◌^◌, List, [], ◌∷◌, ◌++◌, length, take, drop, get_or, true, false, not, nat_eq, nat_le, Some, Ok, refl, ap, ◌∙◌, arith, rules, decimal, codes, fold, length-append, append_assoc, eq-eqb, ◌/◌, ◌%◌}
-use Rattle.std.specs.List.{list_all, starts_with, suffix_len}
-use Rattle.std.proofs.Math.Seq.{take-append_seam, drop-append-add}
+use Rattle.std.proofs.Common.{◌≡◌, ℕ, suc, ◌+◌, ◌-◌, ◌*◌, ◌<◌, ◌≤◌, ◌^◌, List, [], ◌∷◌, ◌++◌, length, take, drop, get_or, true, false, not, nat_eq, nat_le, inl, inr, Some, Ok, refl, ap, ◌∙◌, arith, rules, decimal, codes, fold, length-append, append_assoc, eq-eqb, ◌/◌, ◌%◌}
+use Rattle.std.specs.Int.{to_be_bytes, w128}
+use Rattle.std.specs.List.{All, list_all, starts_with, suffix_len, position_or_len}
+use Rattle.std.specs.Net.Addr.{segments_of}
+use Rattle.std.proofs.NetLemmas.Alphabet.{IsHexOrColon, All-hex_groups_text}
+use Rattle.std.proofs.Math.Seq.{take-append_seam, drop-append-add, get_or-append_seam}
 use Rattle.std.proofs.lemmas.Bool.{lt-ltb, le-leb}
 use Rattle.std.proofs.lemmas.Bool.Decides.{nat_tests}
 use Rattle.std.proofs.lemmas.Fmt.{decimal_nonempty, digits_decimal, digits_value-decimal, length-decimal-le}
 use Rattle.std.proofs.lemmas.List.{get_or-append-add}
-use Rattle.std.proofs.lemmas.List.Sums.{suffix_len_is}
+use Rattle.std.proofs.Math.ListN.{get_or-append}
+use Rattle.std.proofs.lemmas.List.Sums.{suffix_len_is, position_or_len_is}
 use Rattle.std.proofs.lemmas.Str.Parse.{IsNumeralModel, numerals_by_fold}
 use Rattle.hb_base.specs.Decimal.{is_digit, digit, decimal_value}
-use Rattle.hb_base.specs.IpText.{v4_text}
-use Rattle.hb_base.specs.Parts.{cut_last}
-use Rattle.hb_base.specs.TargetText.{port_of, target_of}
-use Rattle.hb_base.specs.declared.ip.Ip.TheVariants.{V4}
-use Rattle.hb_base.proofs.AddressLemmas.{Lacks, ip_of-text}
-use Rattle.hb_base.proofs.OctetLemmas.{no_higher_byte}
+use Rattle.hb_base.specs.IpText.{ip_text}
+use Rattle.hb_base.specs.Octets.{IsGiven}
+use Rattle.hb_base.specs.Parts.{cut_first, cut_last}
+use Rattle.hb_base.specs.TargetText.{port_of, target_of, target_text}
+use Rattle.hb_base.specs.declared.ip.Ip.{Ip}
+use Rattle.hb_base.specs.declared.ip.Ip.TheVariants.{V4, V6}
+use Rattle.hb_base.specs.declared.target.Target.{Target}
+use Rattle.hb_base.proofs.AddressLemmas.{v4_text_read, v6_text_read}
+use Rattle.hb_base.proofs.DecimalLemmas.{no_higher_byte}
+use Rattle.hb_base.proofs.OctetLemmas.{octets_fit, groups_fit}
+use Rattle.hb_base.proofs.PartsLemmas.{Lacks}
 use Rattle.hb_base.proofs.TestLemmas.{some_if}
 
 own : IsNumeralModel (λ ds. list_all is_digit ds ≡ true) (λ ds. decimal_value ds)
@@ -75,19 +84,56 @@ cut_last-at c a b lacks =
     ∙ drop-append-add a (c ∷ b) 1 in
     rw (behind c a b lacks, lt-ltb (length b) (length (a ++ c ∷ b)) shorter, front, back) refl
 
-v4_text_begins : (n : ℕ) (more : List ℕ) → starts_with nat_eq (v4_text n ++ more) (codes "[") ≡ false
+first_at : (c : ℕ) (a b : List ℕ) → Lacks c a → position_or_len (λ x. nat_eq x c) (a ++ c ∷ b) ≡ length a
+first_at c a b lacks =
+    let within : length a ≤ length (a ++ c ∷ b) = omega (arith, length-append a (c ∷ b)) in
+    position_or_len_is (λ x. nat_eq x c) (a ++ c ∷ b) (length a) 0 within
+    (λ k below. rw (get_or-append a (c ∷ b) 0 k below) (lacks k 0 below))
+    (λ _. rw (get_or-append_seam a c b 0) (eq-eqb c c refl))
+
+cut_first-at : (c : ℕ) (a b : List ℕ) → Lacks c a → cut_first c (a ++ c ∷ b) ≡ Some (a, b)
+cut_first-at c a b lacks =
+    let shorter : length a < length (a ++ c ∷ b) = omega (arith, length-append a (c ∷ b)) in
+    rw (first_at c a b lacks, lt-ltb (length a) (length (a ++ c ∷ b)) shorter, take-append_seam a (c ∷ b), drop-append-add a (c ∷ b) 1) refl
+
+v4_text_begins : (n : ℕ) (more : List ℕ) → starts_with nat_eq (ip_text (V4 n) ++ more) (codes "[") ≡ false
+unfolding ip_text
 v4_text_begins n more =
     let first = n / 16777216 % 256 in
     let low : first < 2 ^ 64 = omega arith in
-    rw append_assoc (begins_otherwise 91 (decimal first) _ (decimal_nonempty first low) (no_higher_byte 91 first (omega arith) low))
+    simp append_assoc (begins_otherwise 91 (decimal first) _ (decimal_nonempty first low) (no_higher_byte 91 first (omega arith) low))
 
--- the text of an address and a port is read as their target
-pub target_of-text : (n port : ℕ) → n < 2 ^ 32 → 0 < port → port < 2 ^ 16 → target_of (v4_text n ++ 58 ∷ decimal port)
-    ≡ Ok (record { ip = V4 n; port = port })
-target_of-text n port low some high =
+not_bracket : (b : ℕ) → IsHexOrColon b → nat_eq b 93 ≡ false
+not_bracket b (inl digit) = grind (arith, nat_tests, digit.1)
+not_bracket b (inr letter) = grind (arith, nat_tests, letter.0)
+
+v6_text_lacks : (n : ℕ) → Lacks 93 (ip_text (V6 n))
+unfolding ip_text
+v6_text_lacks n k d below =
+    not_bracket _ (All-hex_groups_text (segments_of (to_be_bytes w128 n)) (groups_fit (to_be_bytes w128 n) (octets_fit 16 n)) k d below)
+
+-- what is written of a target is read as it
+v4_target_read : (n port : ℕ) → n < 2 ^ 32 → 0 < port → port < 2 ^ 16
+    → target_of (target_text (record { ip = V4 n; port = port })) ≡ Ok (record { ip = V4 n; port = port })
+unfolding target_of target_text
+v4_target_read n port low some high =
     let small : port < 2 ^ 64 = omega arith in
     let begins = v4_text_begins n (58 ∷ decimal port) in
-    let cut = cut_last-at 58 (v4_text n) (decimal port) (no_higher_byte 58 port (omega arith) small) in
-    let address = ip_of-text n low in
-    let number = port_of-decimal port some high in
-    rw (begins, cut, address, number) refl
+    let cut = cut_last-at 58 (ip_text (V4 n)) (decimal port) (no_higher_byte 58 port (omega arith) small) in
+    rw (begins, cut, v4_text_read n low, port_of-decimal port some high) refl
+
+v6_target_read : (n port : ℕ) → IsGiven (V6 n) → 0 < port → port < 2 ^ 16
+    → target_of (target_text (record { ip = V6 n; port = port })) ≡ Ok (record { ip = V6 n; port = port })
+unfolding target_of target_text
+v6_target_read n port given some high =
+    let cut = cut_first-at 93 (ip_text (V6 n)) (58 ∷ decimal port) (v6_text_lacks n) in
+    rw (cut, v6_text_read n given, port_of-decimal port some high) refl
+
+by_family : (ip : Ip) (port : ℕ) → IsGiven ip → 0 < port → port < 2 ^ 16
+    → target_of (target_text (record { ip = ip; port = port })) ≡ Ok (record { ip = ip; port = port })
+by_family (V4 n) port given some high = v4_target_read n port given some high
+by_family (V6 n) port given some high = v6_target_read n port given some high
+
+pub target_of-text : (target : Target) → IsGiven target.ip → 0 < target.port → target.port < 2 ^ 16
+    → target_of (target_text target) ≡ Ok target
+target_of-text target given some high = by_family target.ip target.port given some high

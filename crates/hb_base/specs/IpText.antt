@@ -1,46 +1,48 @@
 -- The text of an address.
-use Rattle.std.specs.Prelude.{◌≡◌, ◌↔◌, ◌<◌, ◌^◌, ℕ, ◌+◌, ◌*◌, ◌&&◌, not, ◌==◌, nat_le, if◌then◌else◌, List, [], ◌∷◌, Option, Some, None, map, decimal}
-use Rattle.std.specs.Int.{to_be_bytes, w32}
-use Rattle.std.specs.List.{join_with_byte}
-use Rattle.std.specs.Option.{option_map}
-use Rattle.hb_base.specs.Decimal.{is_digit, digit}
-use Rattle.hb_base.specs.Parts.{parts}
+use Rattle.std.specs.Prelude.{◌≡◌, ◌↔◌, ◌⊎◌, ℕ, List, Option, Some}
+use Rattle.std.specs.Int.{to_be_bytes, w32, w128}
+use Rattle.std.specs.Net.Addr.{segments_of, octets_of}
+use Rattle.std.specs.Net.Grammar.{IsDotted, IsColonHex}
+use Rattle.std.specs.Net.Reader.{read_ipv4, read_ipv6, whole_value}
+use Rattle.std.specs.Net.Text.{ipv4_text, hex_groups_text}
+use Rattle.std.specs.Option.{option_or, option_and_then}
+use Rattle.hb_base.specs.Octets.{ip_of_octets, IsGiven}
 use Rattle.hb_base.specs.declared.ip.Ip.{Ip}
-use Rattle.hb_base.specs.declared.ip.Ip.TheVariants.{V4}
+use Rattle.hb_base.specs.declared.ip.Ip.TheVariants.{V4, V6}
 
--- a number from 0 to 255 without leading zeros (RFC 3986 section 3.2.2, dec-octet)
-abbrev pub octet_of : List ℕ → Option ℕ
-octet_of [] = None
-octet_of (a ∷ []) = if is_digit a then Some (digit a) else None
-octet_of (a ∷ b ∷ []) =
-    if is_digit a && is_digit b && not (a == 48) then Some (10 * digit a + digit b) else None
-octet_of (a ∷ b ∷ c ∷ []) =
-    let n : ℕ = 100 * digit a + 10 * digit b + digit c in
-    if is_digit a && is_digit b && is_digit c && not (a == 48) && nat_le n 255 then Some n else None
-octet_of (a ∷ b ∷ c ∷ d ∷ more) = None
+-- IPv4 text spells four octets: decimal numbers below 256 without leading zeros, joined by dots. IPv6 text spells eight
+-- groups, and so sixteen octets: groups of one to four hexadecimal digits of either case, joined by colons; `::` may stand
+-- once for one or more zero groups, and IPv4 text for the last two groups (RFC 4291 section 2.2).
+abbrev pub SpellsOctets : List ℕ → List ℕ → Type 0
+SpellsOctets text octets =
+    IsDotted text octets ⊎ ((groups : List ℕ) × IsColonHex text groups × (octets ≡ octets_of groups))
 
--- four octets as one number, most significant first
-abbrev pub four_octets : Option ℕ → Option ℕ → Option ℕ → Option ℕ → Option ℕ
-four_octets (Some a) (Some b) (Some c) (Some d) = Some (((a * 256 + b) * 256 + c) * 256 + d)
-four_octets _ _ _ _ = None
+-- the text spells this address
+abbrev pub SpellsIp : List ℕ → Ip → Type 0
+SpellsIp text ip = (octets : List ℕ) × SpellsOctets text octets × (ip_of_octets octets ≡ Some ip)
 
--- four parts, each an octet
-abbrev pub v4_of_parts : List (List ℕ) → Option ℕ
-v4_of_parts (a ∷ b ∷ c ∷ d ∷ []) = four_octets (octet_of a) (octet_of b) (octet_of c) (octet_of d)
-v4_of_parts _ = None
+-- the address of IPv4 text
+unfoldable pub v4_of : List ℕ → Option Ip
+v4_of text = option_and_then ip_of_octets (whole_value (read_ipv4 text))
 
--- IPv4 text is four octets joined by dots (RFC 3986 section 3.2.2, IPv4address)
-abbrev pub v4_of : List ℕ → Option ℕ
-v4_of text = v4_of_parts (parts 46 text)
+-- the address of IPv6 text
+unfoldable pub v6_of : List ℕ → Option Ip
+v6_of text = option_and_then (λ groups. ip_of_octets (octets_of groups)) (whole_value (read_ipv6 text))
 
 -- the address that this text spells
-abbrev pub ip_of : List ℕ → Option Ip
-ip_of text = option_map (λ n. V4 n) (v4_of text)
+unfoldable pub ip_of : List ℕ → Option Ip
+ip_of text = option_or (v4_of text) (v6_of text)
 
--- the dotted text of an IPv4 address: its four octets in decimal, joined by dots
-abbrev pub v4_text : ℕ → List ℕ
-v4_text n = join_with_byte 46 (map decimal (to_be_bytes w32 n))
+-- How an address is written. IPv4: four octets in decimal, joined by dots. IPv6, by RFC 5952 section 4: groups in lower
+-- case without leading zeros, the first longest run of two or more zero groups as `::`; always hexadecimal groups.
+unfoldable pub ip_text : Ip → List ℕ
+ip_text (V4 n) = ipv4_text (to_be_bytes w32 n)
+ip_text (V6 n) = hex_groups_text (segments_of (to_be_bytes w128 n))
 
--- exactly the dotted text of an address is read as that address
-abbrev pub ReadsDottedTextAlone : Type 0
-ReadsDottedTextAlone = (text : List ℕ) (n : ℕ) → (ip_of text ≡ Some (V4 n)) ↔ ((n < 2 ^ 32) × (text ≡ v4_text n))
+-- a text is read as an address exactly where it spells it
+abbrev pub ReadsSpelledAddressesAlone : Type 0
+ReadsSpelledAddressesAlone = (text : List ℕ) (ip : Ip) → (ip_of text ≡ Some ip) ↔ SpellsIp text ip
+
+-- what is written of an address is read as it
+abbrev pub ReadsWrittenAddresses : Type 0
+ReadsWrittenAddresses = (ip : Ip) → IsGiven ip → ip_of (ip_text ip) ≡ Some ip

@@ -1,4 +1,5 @@
 pub mod CauseText
+pub mod Cidr
 pub mod Count
 pub mod Decimal
 pub mod IdentityText

@@ -1,7 +1,7 @@
 -- An address as octets.
-use Rattle.std.specs.Prelude.{ℕ, ◌==◌, if◌then◌else◌, List, [], ◌∷◌, length, nat_eq, drop, Option, Some, None}
+use Rattle.std.specs.Prelude.{◌≡◌, ◌<◌, ◌^◌, ℕ, ◌==◌, if◌then◌else◌, false, List, [], ◌∷◌, length, nat_eq, drop, Option, Some, None}
 use Rattle.std.specs.List.{starts_with}
-use Rattle.std.specs.Int.{from_be_bytes, w32, w128}
+use Rattle.std.specs.Int.{from_be_bytes, to_be_bytes, w32, w128}
 use Rattle.hb_base.specs.declared.ip.Ip.{Ip}
 use Rattle.hb_base.specs.declared.ip.Ip.TheVariants.{V4, V6}
 
@@ -18,3 +18,8 @@ ip_of_octets octets =
     (if starts_with nat_eq octets mapped_prefix then Some (V4 (from_be_bytes w32 (drop 12 octets)))
     else Some (V6 (from_be_bytes w128 octets)))
     else None
+
+-- an address that octets can give: of 32 bits, or of 128 bits that map no IPv4 address
+abbrev pub IsGiven : Ip → Type 0
+IsGiven (V4 n) = n < 2 ^ 32
+IsGiven (V6 n) = (n < 2 ^ 128) × (starts_with nat_eq (to_be_bytes w128 n) mapped_prefix ≡ false)

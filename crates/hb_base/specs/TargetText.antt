@@ -1,11 +1,12 @@
 -- The text of an address with a port.
-use Rattle.std.specs.Prelude.{◌≡◌, ◌<◌, ◌^◌, ◌∷◌, ◌++◌, decimal, ℕ, ◌&&◌, nat_le, nat_eq, if◌then◌else◌, List, length, Option, Some, None, Result, Ok, Err, codes}
+use Rattle.std.specs.Prelude.{◌≡◌, ◌<◌, ◌^◌, ◌++◌, decimal, ℕ, ◌&&◌, nat_le, nat_eq, if◌then◌else◌, List, length, drop, Option, Some, None, Result, Ok, Err, codes}
 use Rattle.std.specs.List.{list_all, starts_with}
 use Rattle.hb_base.specs.Decimal.{is_digit, decimal_value}
-use Rattle.hb_base.specs.IpText.{ip_of, v4_text}
+use Rattle.hb_base.specs.IpText.{v4_of, v6_of, ip_text}
+use Rattle.hb_base.specs.Octets.{IsGiven}
 use Rattle.hb_base.specs.Parts.{cut_first, cut_last}
 use Rattle.hb_base.specs.declared.ip.Ip.{Ip}
-use Rattle.hb_base.specs.declared.ip.Ip.TheVariants.{V4}
+use Rattle.hb_base.specs.declared.ip.Ip.TheVariants.{V4, V6}
 use Rattle.hb_base.specs.declared.target.Target.{Target}
 use Rattle.hb_base.specs.declared.target.BadTarget.{BadTarget}
 use Rattle.hb_base.specs.declared.target.BadTarget.TheVariants.{NoPort, BadIp, BadPort}
@@ -23,23 +24,33 @@ target_with None port = Err BadIp
 target_with (Some ip) None = Err BadPort
 target_with (Some ip) (Some port) = Ok (record { ip = ip; port = port })
 
--- address and port, cut at the last colon
+-- IPv4 text and port, cut at the last colon
 abbrev pub plain_target : Option (List ℕ × List ℕ) → Result Target BadTarget
 plain_target None = Err NoPort
-plain_target (Some cut) = target_with (ip_of cut.0) (port_of cut.1)
+plain_target (Some cut) = target_with (v4_of cut.0) (port_of cut.1)
 
--- a bracket, cut where it closes: a colon follows; no text behind a bracket is an address yet
+-- IPv6 text and port, cut where the bracket closes: a colon follows
 abbrev pub bracketed_target : Option (List ℕ × List ℕ) → Result Target BadTarget
 bracketed_target None = Err NoPort
-bracketed_target (Some cut) = if starts_with nat_eq cut.1 (codes ":") then Err BadIp else Err NoPort
+bracketed_target (Some cut) =
+    if starts_with nat_eq cut.1 (codes ":") then target_with (v6_of cut.0) (port_of (drop 1 cut.1)) else Err NoPort
 
--- the target that this text spells, or why it spells none
-abbrev pub target_of : List ℕ → Result Target BadTarget
+-- the target that this text spells, `IPv4:PORT` or `[IPv6]:PORT`, or why it spells none
+unfoldable pub target_of : List ℕ → Result Target BadTarget
 target_of text =
-    if starts_with nat_eq text (codes "[") then bracketed_target (cut_first 93 text)
+    if starts_with nat_eq text (codes "[") then bracketed_target (cut_first 93 (drop 1 text))
     else plain_target (cut_last 58 text)
 
--- the text of an IPv4 address, a colon and a port in decimal are read as that target
-abbrev pub ReadsSpelledTargets : Type 0
-ReadsSpelledTargets = (n port : ℕ) → n < 2 ^ 32 → 0 < port → port < 2 ^ 16
-    → target_of (v4_text n ++ 58 ∷ decimal port) ≡ Ok (record { ip = V4 n; port = port })
+-- an address and a port: an IPv6 address stands in brackets
+abbrev pub with_port : Ip → List ℕ → List ℕ
+with_port (V4 n) port = ip_text (V4 n) ++ (codes ":" ++ port)
+with_port (V6 n) port = codes "[" ++ (ip_text (V6 n) ++ (codes "]:" ++ port))
+
+-- how a target is written
+unfoldable pub target_text : Target → List ℕ
+target_text target = with_port target.ip (decimal target.port)
+
+-- what is written of a target is read as it
+abbrev pub ReadsWrittenTargets : Type 0
+ReadsWrittenTargets = (target : Target) → IsGiven target.ip → 0 < target.port → target.port < 2 ^ 16
+    → target_of (target_text target) ≡ Ok target

@@ -1,13 +1,16 @@
 //! Addresses and their text.
 
-ghost use Rattle.std.specs.Prelude.{◌≡◌};
-ghost use Rattle.hb_base.specs.IpText.{octet_of, four_octets, ip_of};
+ghost use Rattle.std.specs.Prelude.{◌≡◌, ◌++◌, IfOk, is_ok, if◌then◌else◌};
+ghost use Rattle.std.specs.String.{string_bytes};
+ghost use Rattle.hb_base.specs.IpText.{v4_of, v6_of, ip_of, ip_text};
 ghost use Rattle.hb_base.specs.Octets.{ip_of_octets};
 
-use crate::parts::four_parts;
+use crate::or::NoMemory;
+use std::alloc::Global;
+use std::net::{Ipv4Addr, Ipv6Addr};
 
 /// The octets before an IPv4 address that is mapped into IPv6 (RFC 4291 section 2.5.5.2).
-const MAPPED_PREFIX: [u8; 12] = [0, 0, 0, 0, 0, 0, 0, 0, 0, 0, 255, 255];
+pub(crate) const MAPPED_PREFIX: [u8; 12] = [0, 0, 0, 0, 0, 0, 0, 0, 0, 0, 255, 255];
 
 /// An IPv4 or IPv6 address as a number, its first octet the most significant.
 #[derive(Clone, Copy, Debug, PartialEq, Eq)]
@@ -35,39 +38,52 @@ impl Ip {
     }
 }
 
-/// One octet of IPv4 text: a number from 0 to 255 without leading zeros.
-fn octet(text: &[u8]) -> Option<u8>
-    ensures { result ≡ octet_of text.now }
+/// Reads IPv4 text.
+pub(crate) fn read_v4(b: &[u8]) -> Option<Ip>
+    ensures { result ≡ v4_of b.now }
 {
-    match text {
-        [a] if a.is_ascii_digit() => Some(*a - b'0'),
-        [a, b] if a.is_ascii_digit() && b.is_ascii_digit() && *a != b'0' => {
-            Some(10 * (*a - b'0') + (*b - b'0'))
-        }
-        [a, b, c] if a.is_ascii_digit() && b.is_ascii_digit() && c.is_ascii_digit() && *a != b'0' =>
-            {
-                let value = 100 * u32::from(*a - b'0')
-                    + 10 * u32::from(*b - b'0')
-                    + u32::from(*c - b'0');
-                u8::try_from(value).ok()
-            }
-        _ => None,
-    }
+    let address = Ipv4Addr::parse_ascii(b).ok()?;
+    Ip::from_octets(&address.octets())
 }
 
-/// The number of four octets, the first the most significant, if each of these texts is one.
-fn octets(first: &[u8], second: &[u8], third: &[u8], fourth: &[u8]) -> Option<u32>
-    ensures { result ≡ four_octets (octet_of first.now) (octet_of second.now) (octet_of third.now) (octet_of fourth.now) }
+/// Reads IPv6 text.
+pub(crate) fn read_v6(b: &[u8]) -> Option<Ip>
+    ensures { result ≡ v6_of b.now }
 {
-    let octets = [octet(first)?, octet(second)?, octet(third)?, octet(fourth)?];
-    Some(u32::from_be_bytes(octets))
+    let address = Ipv6Addr::parse_ascii(b).ok()?;
+    Ip::from_octets(&address.octets())
 }
 
-/// Reads IPv4 text: four decimal numbers from 0 to 255 without leading zeros, joined by dots
-/// (RFC 3986 section 3.2.2). `None` for every other text, IPv6 text among them.
+/// Reads the text of an address. IPv4 text is four decimal numbers from 0 to 255 without leading zeros,
+/// joined by dots (RFC 3986 section 3.2.2). IPv6 text is that of RFC 4291 section 2.2: eight groups of one
+/// to four hexadecimal digits of either case, joined by colons; `::` may stand once for one or more zero
+/// groups, and IPv4 text for the last two groups. `None` for every other text.
+#[tactic(auto, unfolding(crate::specs::IpText::ip_of))]
 pub fn read_ip(b: &[u8]) -> Option<Ip>
     ensures { result ≡ ip_of b.now }
 {
-    let (first, second, third, fourth) = four_parts(b, b'.')?;
-    Some(Ip::V4(octets(first, second, third, fourth)?))
+    match read_v4(b) {
+        Some(ip) => Some(ip),
+        None => read_v6(b),
+    }
+}
+
+/// The text of an address.
+#[tactic(auto, unfolding(crate::specs::IpText::ip_text, std::specs::Net::Addr::IsIpv4OfBits, std::specs::Net::Addr::IsIpv6OfBits))]
+pub(crate) fn text_of(alloc: Global, ip: Ip) -> Result<String, NoMemory>
+    ensures { IfOk result (λ text. string_bytes text ≡ ip_text ip) }
+{
+    match ip {
+        Ip::V4(n) => Ipv4Addr::from_bits(n).to_string(alloc),
+        Ip::V6(n) => Ipv6Addr::from_bits(n).hex_groups().to_string(alloc),
+    }
+}
+
+/// Writes the text of an address behind the bytes of `out`: an IPv6 address by RFC 5952, always as
+/// hexadecimal groups, without brackets. After want of memory `out` is unchanged.
+pub fn put_ip(alloc: Global, ip: Ip, out: &mut Vec<u8>) -> Result<(), NoMemory>
+    ensures { out.new.items ≡ (if is_ok result then out.old.items ++ ip_text ip else out.old.items) }
+{
+    let text = text_of(alloc, ip)?;
+    out.extend_from_slice(text.as_bytes())
 }

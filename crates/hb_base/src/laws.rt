@@ -1,17 +1,22 @@
 //! Laws of the texts, which no code calls: each is proved, and its body is empty.
 
 ghost use Rattle.hb_base.specs.IdentityText.{ReadsPrincipalsAlone};
-ghost use Rattle.hb_base.specs.IpText.{ReadsDottedTextAlone};
-ghost use Rattle.hb_base.specs.TargetText.{ReadsSpelledTargets};
+ghost use Rattle.hb_base.specs.IpText.{ReadsSpelledAddressesAlone, ReadsWrittenAddresses};
+ghost use Rattle.hb_base.specs.TargetText.{ReadsWrittenTargets};
 
-/// Exactly the dotted text of an IPv4 address is read as that address.
+/// A text is read as an address exactly where it spells it.
 pub fn addresses_are_read_as_they_are_spelled()
-    ensures { ReadsDottedTextAlone }
+    ensures { ReadsSpelledAddressesAlone }
 {}
 
-/// The text of each IPv4 address and port is read as them.
-pub fn targets_are_read_as_they_are_spelled()
-    ensures { ReadsSpelledTargets }
+/// What is written of an address is read as it.
+pub fn written_addresses_are_read()
+    ensures { ReadsWrittenAddresses }
+{}
+
+/// What is written of a target is read as it.
+pub fn written_targets_are_read()
+    ensures { ReadsWrittenTargets }
 {}
 
 /// Exactly `spiffe://` and a principal of three names is read as that principal's identity.

@@ -4,6 +4,7 @@
 
 mod bytes;
 mod cause;
+mod cidr;
 mod door;
 mod identity;
 mod ip;
@@ -28,12 +29,13 @@ mod writing;
 
 pub use bytes::Bytes;
 pub use cause::Cause;
+pub use cidr::Cidr;
 pub use door::{Door, Why};
 pub use identity::{Identity, read_identity};
-pub use ip::{Ip, read_ip};
+pub use ip::{Ip, put_ip, read_ip};
 pub use laws::{
     addresses_are_read_as_they_are_spelled, identities_are_read_as_they_are_spelled,
-    targets_are_read_as_they_are_spelled,
+    written_addresses_are_read, written_targets_are_read,
 };
 pub use list::List;
 pub use mem_sink::MemSink;
@@ -47,6 +49,6 @@ pub use sink::{Put, Sink};
 pub use source::{Source, Taken};
 pub use std_sink::StdSink;
 pub use std_source::StdSource;
-pub use target::{BadTarget, Target, read_target};
+pub use target::{BadTarget, Target, put_target, read_target};
 pub use text::Text;
 pub use writing::{WriteFault, put_all};

@@ -1,5 +1,5 @@
 use Rattle.hb_base.proofs.TargetLemmas.{target_of-text}
-use Rattle.hb_base.proofs.laws.targets_are_read_as_they_are_spelled.Goals as goal
+use Rattle.hb_base.proofs.laws.written_targets_are_read.Goals as goal
 
 pub returns : goal.returns
 returns c = target_of-text
