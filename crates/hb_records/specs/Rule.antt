@@ -30,7 +30,18 @@ abbrev pub match_merged : Match → Content → Result Match RecordFault
 match_merged m f = attribute_of_value m f.number f.at f.value
 
 abbrev pub no_match : Match
-no_match = record { principals = []; not_principals = [] }
+no_match = record {
+  namespaces = [];
+  not_namespaces = [];
+  principals = [];
+  not_principals = [];
+  source_ips = [];
+  not_source_ips = [];
+  destination_ips = [];
+  not_destination_ips = [];
+  destination_ports = [];
+  not_destination_ports = [];
+}
 
 -- the match of these bytes at a place
 unfoldable pub match_in : ℕ → List ℕ → Result Match RecordFault

@@ -7,7 +7,7 @@ ghost use Rattle.hb_records.specs.Rule.{attribute_in, match_in, clause_in, rule_
 use crate::entries::check_room;
 use crate::fault::RecordFault;
 use crate::string_match::{StringMatch, read_string_match};
-use hb_base::{List, Or};
+use hb_base::{Cidr, List, Or};
 use hb_message::{Message, add, read_whole};
 use hb_wire::{Field, FieldValue};
 use std::alloc::Global;
@@ -15,8 +15,16 @@ use std::alloc::Global;
 /// One match of a clause: each attribute has to be met.
 #[derive(Drop)]
 pub struct Match {
+    pub namespaces: List<StringMatch>,
+    pub not_namespaces: List<StringMatch>,
     pub principals: List<StringMatch>,
     pub not_principals: List<StringMatch>,
+    pub source_ips: List<Cidr>,
+    pub not_source_ips: List<Cidr>,
+    pub destination_ips: List<Cidr>,
+    pub not_destination_ips: List<Cidr>,
+    pub destination_ports: List<u32>,
+    pub not_destination_ports: List<u32>,
 }
 
 /// A clause of a rule: one of its matches has to be met.
@@ -126,8 +134,16 @@ fn read_match(alloc: Global, at: usize, bytes: &[u8]) -> Result<Match, Or<Record
     ensures { Answers result (match_in at bytes.now) }
 {
     let unread = Match {
+        namespaces: List::new(alloc),
+        not_namespaces: List::new(alloc),
         principals: List::new(alloc),
         not_principals: List::new(alloc),
+        source_ips: List::new(alloc),
+        not_source_ips: List::new(alloc),
+        destination_ips: List::new(alloc),
+        not_destination_ips: List::new(alloc),
+        destination_ports: List::new(alloc),
+        not_destination_ports: List::new(alloc),
     };
     read_whole(alloc, bytes, at, unread)
 }
