@@ -10,7 +10,7 @@ use Rattle.hb_records.specs.declared.authorization.Reach.TheVariants.{Global, Na
 use Rattle.hb_records.specs.declared.authorization.Action.{Action}
 use Rattle.hb_records.specs.declared.authorization.Action.TheVariants.{Allow, Deny}
 use Rattle.hb_records.specs.declared.authorization.Authorization.{Authorization}
-use Rattle.hb_records.specs.Entries.{text_in, enum_number, one_more}
+use Rattle.hb_records.specs.Entries.{text_in, low_32, one_more}
 use Rattle.hb_records.specs.Rule.{rule_in}
 
 -- scope 3: 0 is the mesh, 1 the policy's namespace, 2 the workloads that name it
@@ -36,8 +36,8 @@ policy_span a number at bytes =
 
 abbrev pub policy_number : Authorization → ℕ → ℕ → Result Authorization RecordFault
 policy_number a number n =
-    if number == 3 then and_then (reach_of (enum_number n)) (λ r. Ok (record a { scope = r }))
-    else (if number == 4 then and_then (action_of (enum_number n)) (λ x. Ok (record a { action = x }))
+    if number == 3 then and_then (reach_of (low_32 n)) (λ r. Ok (record a { scope = r }))
+    else (if number == 4 then and_then (action_of (low_32 n)) (λ x. Ok (record a { action = x }))
     else Ok a)
 
 abbrev pub policy_value : Authorization → ℕ → ℕ → Value → Result Authorization RecordFault

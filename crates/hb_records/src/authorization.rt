@@ -4,7 +4,7 @@ ghost use Rattle.std.specs.Prelude.{◌≡◌, ◌+◌, ◌^◌, ◌<◌, length
 ghost use Rattle.hb_base.specs.Outcome.{Answers, Merges};
 ghost use Rattle.hb_records.specs.Authorization.{reach_of, action_of, policy_span, policy_number, authorization_of};
 
-use crate::entries::{check_room, enum_number};
+use crate::entries::{check_room, low_32};
 use crate::fault::RecordFault;
 use crate::rule::{Rule, read_rule};
 use hb_base::{List, Or, Text};
@@ -99,8 +99,8 @@ impl Authorization {
         ensures { Merges (policy_number self.old number n) self.new result }
     {
         match number {
-            3 => self.scope = read_reach(enum_number(n)).map_err(Or::Fault)?,
-            4 => self.action = read_action(enum_number(n)).map_err(Or::Fault)?,
+            3 => self.scope = read_reach(low_32(n)).map_err(Or::Fault)?,
+            4 => self.action = read_action(low_32(n)).map_err(Or::Fault)?,
             _ => {}
         }
         Ok(())
