@@ -49,6 +49,8 @@ ROWS = [
     ("a workload without addresses", "AS_NONE", [addresses(at("u1"))], "unknown"),
     ("the octets in another order", "AS_NONE", [addresses(at("u1", (7, 0, 0, 10)))], "unknown"),
     ("the address mapped into IPv6", "AS_NONE", [addresses(at("u1", (0,) * 10 + (255, 255) + SEVEN))], "allow"),
+    ("an IPv6 address", "check|--node|n1|SOURCE|none|[2001:db8::7]:8080|", [addresses(at("u1", (32, 1, 13, 184) + (0,) * 11 + (7,)))], "allow"),
+    ("the target's address mapped into IPv6", "check|--node|n1|SOURCE|none|[::ffff:a00:7]:8080|", [addresses(at("u1", SEVEN))], "allow"),
     ("an IPv6 address with these last octets", "AS_NONE", [addresses(at("u1", (0,) * 12 + SEVEN))], "unknown"),
     # Nodes.
     ("a workload without a node", "AS_NONE", [addresses(at("u1", SEVEN, node=""))], "unknown"),

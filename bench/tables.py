@@ -18,6 +18,7 @@ WHOLE = [
     ("policy_rows.py", "hb_rows", "policies.rt"),
     ("refusal_rows.py", "hb_rows", "refusals.rt"),
     ("hpack_vectors.py", "hb_http2_rows", "hpack_vectors.rt"),
+    ("ip_rows.py", "hb_parts_rows", "ips.rt"),
 ]
 PARTS = [("frame_vectors.py", "hb_http2_rows", "frame_vectors.rt")]
 

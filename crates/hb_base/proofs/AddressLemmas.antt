@@ -1,6 +1,6 @@
 -- The text of an address: std's readers read what its grammar spells.
 use Rattle.std.proofs.Common.{◌≡◌, ℕ, ◌<◌, ◌^◌, ◌⊎◌, inl, inr, Bool, false, cond, List, [], ◌∷◌, ◌++◌, length, Option, Some, None, Result, Ok, Err, refl, sym, ap, ap₂, subst, ◌∙◌, arith, lit≤, append-nil, ne_eqb}
-use Rattle.std.specs.Int.{from_be_bytes, to_be_bytes, w32, w128}
+use Rattle.std.specs.Int.{to_be_bytes, w32, w128}
 use Rattle.std.specs.Option.{option_map, option_or, option_and_then}
 use Rattle.std.specs.Result.{result_ok}
 use Rattle.std.specs.Net.Addr.{segments_of, octets_of, ipv4_octets, ipv6_segments}
@@ -46,7 +46,8 @@ module _ {A : Type 0} (read : List ℕ → Read A) (Spells : List ℕ → A → 
       subst (λ t. Spells t a) (sym (split ∙ append-nil front)) spells
 
   -- what is spelled in no way is read as nothing
-  reads_none : (text : List ℕ) → ((a : A) → ¬ (Spells text a)) → (o : Option A) → whole_value (read text) ≡ o → whole_value (read text) ≡ None
+  reads_none : (text : List ℕ) → ((a : A) → ¬ (Spells text a)) → (o : Option A) → whole_value (read text) ≡ o
+      → whole_value (read text) ≡ None
   reads_none text not_spelled None is = is
   reads_none text not_spelled (Some a) is = absurd (not_spelled a (whole_spelled text a is))
 

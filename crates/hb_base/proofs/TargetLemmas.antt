@@ -1,7 +1,7 @@
 -- The text of a target.
 use Rattle.std.proofs.Common.{◌≡◌, ℕ, suc, ◌+◌, ◌-◌, ◌*◌, ◌<◌, ◌≤◌, ◌^◌, List, [], ◌∷◌, ◌++◌, length, take, drop, get_or, true, false, not, nat_eq, nat_le, inl, inr, Some, Ok, refl, ap, ◌∙◌, arith, rules, decimal, codes, fold, length-append, append_assoc, eq-eqb, ◌/◌, ◌%◌}
 use Rattle.std.specs.Int.{to_be_bytes, w128}
-use Rattle.std.specs.List.{All, list_all, starts_with, suffix_len, position_or_len}
+use Rattle.std.specs.List.{list_all, starts_with, suffix_len, position_or_len}
 use Rattle.std.specs.Net.Addr.{segments_of}
 use Rattle.std.proofs.NetLemmas.Alphabet.{IsHexOrColon, All-hex_groups_text}
 use Rattle.std.proofs.Math.Seq.{take-append_seam, drop-append-add, get_or-append_seam}
@@ -94,7 +94,8 @@ first_at c a b lacks =
 cut_first-at : (c : ℕ) (a b : List ℕ) → Lacks c a → cut_first c (a ++ c ∷ b) ≡ Some (a, b)
 cut_first-at c a b lacks =
     let shorter : length a < length (a ++ c ∷ b) = omega (arith, length-append a (c ∷ b)) in
-    rw (first_at c a b lacks, lt-ltb (length a) (length (a ++ c ∷ b)) shorter, take-append_seam a (c ∷ b), drop-append-add a (c ∷ b) 1) refl
+    let within = lt-ltb (length a) (length (a ++ c ∷ b)) shorter in
+    rw (first_at c a b lacks, within, take-append_seam a (c ∷ b), drop-append-add a (c ∷ b) 1) refl
 
 v4_text_begins : (n : ℕ) (more : List ℕ) → starts_with nat_eq (ip_text (V4 n) ++ more) (codes "[") ≡ false
 unfolding ip_text
@@ -110,7 +111,8 @@ not_bracket b (inr letter) = grind (arith, nat_tests, letter.0)
 v6_text_lacks : (n : ℕ) → Lacks 93 (ip_text (V6 n))
 unfolding ip_text
 v6_text_lacks n k d below =
-    not_bracket _ (All-hex_groups_text (segments_of (to_be_bytes w128 n)) (groups_fit (to_be_bytes w128 n) (octets_fit 16 n)) k d below)
+    let groups = segments_of (to_be_bytes w128 n) in
+    not_bracket _ (All-hex_groups_text groups (groups_fit (to_be_bytes w128 n) (octets_fit 16 n)) k d below)
 
 -- what is written of a target is read as it
 v4_target_read : (n port : ℕ) → n < 2 ^ 32 → 0 < port → port < 2 ^ 16

@@ -68,10 +68,10 @@ words_text faults.NoValue = codes "--node has no value"
 words_text faults.BadNode = codes "the value of --node is empty or begins with a dash"
 words_text faults.TooFew = codes "SOURCE, IDENTITY and TARGET are wanted"
 words_text faults.TooMany = codes "too many words"
-words_text faults.BadSource = codes "SOURCE is no IPv4 address"
+words_text faults.BadSource = codes "SOURCE is neither an IPv4 nor an IPv6 address"
 words_text faults.BadIdentity = codes "IDENTITY is neither none nor spiffe://TRUST_DOMAIN/ns/NAMESPACE/sa/SERVICE_ACCOUNT"
 words_text (faults.BadTarget target_faults.NoPort) = codes "TARGET has no port"
-words_text (faults.BadTarget target_faults.BadIp) = codes "the address of TARGET is no IPv4 address"
+words_text (faults.BadTarget target_faults.BadIp) = codes "the address of TARGET is neither IPv4 text nor IPv6 text in brackets"
 words_text (faults.BadTarget target_faults.BadPort) = codes "the port of TARGET is no number from 1 to 65535"
 
 abbrev pub why_text : InputWhy → List ℕ

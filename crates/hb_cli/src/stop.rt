@@ -38,12 +38,13 @@ impl WordsFault {
             WordsFault::BadNode => "the value of --node is empty or begins with a dash",
             WordsFault::TooFew => "SOURCE, IDENTITY and TARGET are wanted",
             WordsFault::TooMany => "too many words",
-            WordsFault::BadSource => "SOURCE is no IPv4 address",
+            WordsFault::BadSource => "SOURCE is neither an IPv4 nor an IPv6 address",
             WordsFault::BadIdentity => {
                 "IDENTITY is neither none nor spiffe://TRUST_DOMAIN/ns/NAMESPACE/sa/SERVICE_ACCOUNT"
             }
             WordsFault::BadTarget(BadTarget::NoPort) => "TARGET has no port",
-            WordsFault::BadTarget(BadTarget::BadIp) => "the address of TARGET is no IPv4 address",
+            WordsFault::BadTarget(BadTarget::BadIp) =>
+                "the address of TARGET is neither IPv4 text nor IPv6 text in brackets",
             WordsFault::BadTarget(BadTarget::BadPort) => {
                 "the port of TARGET is no number from 1 to 65535"
             }

@@ -7,6 +7,8 @@ mod addresses;
 #[cfg(test)]
 mod fields;
 #[cfg(test)]
+mod ips;
+#[cfg(test)]
 mod policies;
 #[cfg(test)]
 mod records;

@@ -3,14 +3,15 @@
 
 use crate::addresses::ADDRESSES;
 use crate::fields::{MESSAGES, tell_message};
+use crate::ips::{IPS_READ, IPS_REFUSED, PREFIXES};
 use crate::policies::POLICIES;
 use crate::records::{tell_address, tell_policy};
 use crate::repeated::{REPEATED_IN_ADDRESSES, REPEATED_IN_POLICIES};
 use crate::streams::{READERS, WHOLE_INPUTS, WRITERS, tell_reader, tell_whole_input, tell_writer};
 use crate::tables::assert_told;
 use crate::texts::{
-    IDENTITIES, IPS, OCTETS, PRINCIPALS, TARGETS, tell_identity_text, tell_ip_text, tell_octets,
-    tell_principal, tell_target_text,
+    IDENTITIES, OCTETS, PRINCIPALS, TARGETS, tell_identity_text, tell_ip_text, tell_octets,
+    tell_prefixes, tell_principal, tell_target_text,
 };
 use std::process::Abort;
 
@@ -20,6 +21,7 @@ enum Kind {
     Address,
     Policy,
     Ip,
+    Prefix,
     Octets,
     Target,
     Identity,
@@ -34,9 +36,10 @@ fn tell_row(rt: &(impl Abort + AllocGlobal), told: &mut String, kind: &Kind, row
         Kind::Message => tell_message(rt, told, row),
         Kind::Address => tell_address(rt, told, row),
         Kind::Policy => tell_policy(rt, told, row),
-        Kind::Ip => tell_ip_text(told, row),
+        Kind::Ip => tell_ip_text(rt, told, row),
+        Kind::Prefix => tell_prefixes(rt, told, row),
         Kind::Octets => tell_octets(rt, told, row),
-        Kind::Target => tell_target_text(told, row),
+        Kind::Target => tell_target_text(rt, told, row),
         Kind::Identity => tell_identity_text(rt, told, row),
         Kind::Principal => tell_principal(rt, told, row),
         Kind::Reader => tell_reader(rt, told, row),
@@ -68,7 +71,9 @@ fn rows_tell_what_they_want(rt: HostRuntime) {
     assert_rows(&rt, &Kind::Policy, POLICIES);
     assert_rows(&rt, &Kind::Address, REPEATED_IN_ADDRESSES);
     assert_rows(&rt, &Kind::Policy, REPEATED_IN_POLICIES);
-    assert_rows(&rt, &Kind::Ip, IPS);
+    assert_rows(&rt, &Kind::Ip, IPS_READ);
+    assert_rows(&rt, &Kind::Ip, IPS_REFUSED);
+    assert_rows(&rt, &Kind::Prefix, PREFIXES);
     assert_rows(&rt, &Kind::Octets, OCTETS);
     assert_rows(&rt, &Kind::Target, TARGETS);
     assert_rows(&rt, &Kind::Identity, IDENTITIES);

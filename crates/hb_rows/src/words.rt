@@ -21,6 +21,15 @@ check|--node|n1|0.0.0.0|none|TARGET|; WORKLOAD; allow
 check|--node|n1|255.255.255.255|none|TARGET|; WORKLOAD; allow
 check|--node|n1|SOURCE|none|0.0.0.0:1|; WORKLOAD; unknown
 check|--node|n1|SOURCE|none|255.255.255.255:65535|; WORKLOAD; unknown
+# IPv6 text. A mapped address is the IPv4 address.
+check|--node|n1|::1|IDENTITY|TARGET|; WORKLOAD; allow
+check|--node|n1|2001:DB8:0:0::1|none|TARGET|; WORKLOAD; allow
+check|--node|n1|::ffff:10.0.0.9|none|TARGET|; WORKLOAD; allow
+check|--node|n1|SOURCE|none|[::ffff:10.0.0.7]:8080|; WORKLOAD; allow
+check|--node|n1|SOURCE|none|[::ffff:a00:7]:8080|; WORKLOAD; allow
+check|--node|n1|SOURCE|none|[::10.0.0.7]:8080|; WORKLOAD; unknown
+check|--node|n1|SOURCE|none|[::1]:80|; WORKLOAD; unknown
+check|--node|n1|SOURCE|none|[ffff:ffff:ffff:ffff:ffff:ffff:ffff:ffff]:65535|; WORKLOAD; unknown
 # Ports at their bounds, with leading zeros up to five digits.
 check|--node|n1|SOURCE|none|10.0.0.7:1|; WORKLOAD; allow
 check|--node|n1|SOURCE|none|10.0.0.7:65535|; WORKLOAD; allow
@@ -123,8 +132,8 @@ check|--node|n1|SOURCE|--node|n1|IDENTITY|TARGET|
 check|--node|n1|SOURCE|--|IDENTITY|TARGET|
 check|--node|n1|SOURCE|IDENTITY|TARGET|-h|
 check|--node|n1||||||
-# A source that is no IPv4 address.
-= SOURCE is no IPv4 address
+# A source that is no address.
+= SOURCE is neither an IPv4 nor an IPv6 address
 check|--node|n1||IDENTITY|TARGET|
 check|--node|n1|none|IDENTITY|TARGET|
 check|--node|n1|10.0.0|IDENTITY|TARGET|
@@ -149,9 +158,12 @@ check|--node|n1|10,0,0,9|IDENTITY|TARGET|
 check|--node|n1|167772169|IDENTITY|TARGET|
 check|--node|n1|10.0.0.9:80|IDENTITY|TARGET|
 check|--node|n1|10.0.0.9/32|IDENTITY|TARGET|
-check|--node|n1|::1|IDENTITY|TARGET|
-check|--node|n1|::ffff:10.0.0.9|IDENTITY|TARGET|
 check|--node|n1|[::1]|IDENTITY|TARGET|
+check|--node|n1|::1%1|IDENTITY|TARGET|
+check|--node|n1|::1/128|IDENTITY|TARGET|
+check|--node|n1|1::2::3|IDENTITY|TARGET|
+check|--node|n1|1:2:3:4:5:6:7:8:9|IDENTITY|TARGET|
+check|--node|n1|::ffff:10.0.0.09|IDENTITY|TARGET|
 check|--node|n1|IDENTITY|SOURCE|TARGET|
 # An identity with an empty part, a part too few or too many, or a character outside of the grammar.
 = IDENTITY is neither none nor spiffe://TRUST_DOMAIN/ns/NAMESPACE/sa/SERVICE_ACCOUNT
@@ -199,8 +211,8 @@ check|--node|n1|SOURCE|IDENTITY|[|
 check|--node|n1|SOURCE|IDENTITY|[10.0.0.7:8080|
 check|--node|n1|SOURCE|IDENTITY|[::1]8080|
 check|--node|n1|SOURCE|IDENTITY|[::1] :80|
-# A target whose address is no IPv4 address.
-= the address of TARGET is no IPv4 address
+# A target whose address isn't the text of its form.
+= the address of TARGET is neither IPv4 text nor IPv6 text in brackets
 check|--node|n1|SOURCE|IDENTITY|:|
 check|--node|n1|SOURCE|IDENTITY|:8080|
 check|--node|n1|SOURCE|IDENTITY|10.0.0:8080|
@@ -216,7 +228,8 @@ check|--node|n1|SOURCE|IDENTITY|a:80|
 check|--node|n1|SOURCE|IDENTITY|a:0|
 check|--node|n1|SOURCE|IDENTITY|localhost:80|
 check|--node|n1|SOURCE|IDENTITY|::1:80|
-check|--node|n1|SOURCE|IDENTITY|[::1]:80|
+check|--node|n1|SOURCE|IDENTITY|[1::2::3]:80|
+check|--node|n1|SOURCE|IDENTITY|[::1%1]:80|
 check|--node|n1|SOURCE|IDENTITY|[10.0.0.7]:80|
 check|--node|n1|SOURCE|IDENTITY|[]:80|
 # A target whose port is no number from 1 to 65535 of at most five digits.
@@ -237,7 +250,7 @@ check|--node|n1|SOURCE|IDENTITY|10.0.0.7:8o|
 check|--node|n1|SOURCE|IDENTITY|10.0.0.7:0x50|
 check|--node|n1|SOURCE|IDENTITY|10.0.0.7:http|
 # Of several faults the first is told.
-= SOURCE is no IPv4 address
+= SOURCE is neither an IPv4 nor an IPv6 address
 check|--node|n1|x|x|x|
 = IDENTITY is neither none nor spiffe://TRUST_DOMAIN/ns/NAMESPACE/sa/SERVICE_ACCOUNT
 check|--node|n1|SOURCE|x|x|
