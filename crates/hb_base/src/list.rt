@@ -1,6 +1,6 @@
 //! An owned list.
 
-ghost use Rattle.std.specs.Prelude.{◌≡◌, ◌==◌, [], ◌∷◌, ◌++◌, length, IfOk, OnOk, OnErr, slice_get};
+ghost use Rattle.std.specs.Prelude.{◌≡◌, ◌<◌, ◌≤◌, ◌==◌, [], ◌∷◌, ◌++◌, length, take, drop, IfOk, OnOk, OnErr, slice_get, slice_set};
 ghost use Rattle.std.specs.Option.{option_copied};
 
 use crate::or::NoMemory;
@@ -73,5 +73,23 @@ impl<T: Drop> List<T> {
     {
         self.items.push(item)?;
         Ok(())
+    }
+
+    /// Puts an item at place `i`, in front of all that stand there or behind. On an error the item is dropped.
+    pub fn insert(&mut self, i: usize, item: T) -> Result<(), NoMemory>
+        requires { i ≤ length self.old }
+        ensures ok { OnOk result (self.new ≡ take i self.old ++ item ∷ drop i self.old) }
+        ensures err { OnErr result (self.new ≡ self.old) }
+    {
+        self.items.insert(i, item)?;
+        Ok(())
+    }
+
+    /// Puts an item in place of the one at place `i`.
+    pub fn replace(&mut self, i: usize, item: T)
+        requires { i < length self.old }
+        ensures { self.new ≡ slice_set self.old i item }
+    {
+        self.items[i] = item;
     }
 }

@@ -1,8 +1,9 @@
 -- Delta discovery responses (Envoy xDS protocol, "Incremental xDS"; proto3 messages).
 use Rattle.std.specs.Prelude.{ℕ, ◌==◌, List, [], ◌∷◌, ◌++◌, Result, Ok, Err, if◌then◌else◌, codes}
-use Rattle.std.specs.Str.{bytes_eq, is_utf8}
-use Rattle.hb_wire.specs.Field.{Content, Value, varint, eight, span, four}
-use Rattle.hb_wire.specs.Message.{message_of, fold_message, and_then}
+use Rattle.std.specs.Str.{bytes_eq}
+use Rattle.hb_wire.specs.Field.{Content}
+use Rattle.hb_wire.specs.Message.{and_then}
+use Rattle.hb_message.specs.Reading.{read_into, of_span, text_by}
 use Rattle.hb_cli.specs.declared.response.ResponseFault.{ResponseFault}
 use Rattle.hb_cli.specs.declared.response.ResponseFault.TheVariants.{Wire, Utf8, UnknownType}
 use Rattle.hb_cli.specs.declared.response.Kind.{Kind}
@@ -12,16 +13,9 @@ use Rattle.hb_cli.specs.declared.response.Any.{Any}
 use Rattle.hb_cli.specs.declared.response.Response.{Response}
 use Rattle.hb_cli.specs.declared.response.Parts.{Parts}
 
--- what a field makes of a value, where it has the wire type of a span; any other leaves the value as it is
-abbrev pub of_span : {S : Type 0} → S → Value → (List ℕ → Result S ResponseFault) → Result S ResponseFault
-of_span s (span bytes) merge = merge bytes
-of_span s (varint n) merge = Ok s
-of_span s (eight n) merge = Ok s
-of_span s (four n) merge = Ok s
-
--- a string field: UTF-8
+-- a string field
 abbrev pub text_in : ℕ → List ℕ → Result (List ℕ) ResponseFault
-text_in field bytes = if is_utf8 bytes then Ok bytes else Err (Utf8 field)
+text_in field bytes = text_by Utf8 field bytes
 
 -- the type URLs of the two kinds
 abbrev pub type_url : Kind → List ℕ
@@ -46,7 +40,7 @@ any_merged a f = of_span a f.value (λ bytes. any_span a f.number bytes)
 abbrev pub resource_span : Resource → ℕ → ℕ → List ℕ → Result Resource ResponseFault
 resource_span r number at bytes =
     if number == 1 then and_then (text_in 1 bytes) (λ t. Ok (record r { version = t }))
-    else (if number == 2 then and_then (fold_message any_merged Wire r.any (message_of (record { at = at; left = bytes })))
+    else (if number == 2 then and_then (read_into any_merged Wire r.any at bytes)
     (λ a. Ok (record r { any = a }))
     else (if number == 3 then and_then (text_in 3 bytes) (λ t. Ok (record r { name = t })) else Ok r))
 
@@ -58,7 +52,7 @@ no_resource = record { name = []; version = []; any = record { type_url = []; va
 
 -- the resource of these bytes at a place
 unfoldable pub resource_in : ℕ → List ℕ → Result Resource ResponseFault
-resource_in at bytes = fold_message resource_merged Wire no_resource (message_of (record { at = at; left = bytes }))
+resource_in at bytes = read_into resource_merged Wire no_resource at bytes
 
 -- DeltaDiscoveryResponse: system_version_info 1, which is only checked, resources 2, type_url 4, nonce 5, removed_resources 6
 abbrev pub response_span : Parts → ℕ → ℕ → List ℕ → Result Parts ResponseFault
@@ -81,4 +75,4 @@ response_of_parts p = and_then (kind_of_url p.type_url)
 
 -- the response that these bytes are; its type is looked at last
 unfoldable pub response_of : List ℕ → Result Response ResponseFault
-response_of bytes = and_then (fold_message response_merged Wire no_parts (message_of (record { at = 0; left = bytes }))) response_of_parts
+response_of bytes = and_then (read_into response_merged Wire no_parts 0 bytes) response_of_parts

@@ -1,12 +1,12 @@
 //! Delta discovery responses.
 
-ghost use Rattle.std.specs.Prelude.{◌≡◌, ◌+◌, ◌^◌, ◌<◌, ◌++◌, ◌∷◌, [], length, Ok};
+ghost use Rattle.std.specs.Prelude.{◌≡◌, ◌+◌, ◌^◌, ◌<◌, length};
 ghost use Rattle.hb_base.specs.Outcome.{Answers, Merges};
-ghost use Rattle.hb_cli.specs.Response.{text_in, any_span, resource_span, resource_in, response_span};
+ghost use Rattle.hb_cli.specs.Response.{any_span, resource_span, resource_in, response_span};
 ghost use Rattle.hb_cli.specs.Response.{kind_of_url, type_url, response_of};
 
 use hb_base::{Bytes, List, Or, Text};
-use hb_records::{Message, read_message, read_whole};
+use hb_message::{Message, MessageFault, add, read_message, read_text, read_whole, take_text};
 use hb_wire::{Field, FieldValue, WireFault};
 use std::alloc::Global;
 
@@ -19,6 +19,22 @@ pub enum ResponseFault {
     Utf8 { field: u32 },
     /// The type is none of the two kinds of resources. Looked at last.
     UnknownType,
+}
+
+impl MessageFault for ResponseFault {
+    ghost use Rattle.hb_cli.specs.declared.response.ResponseFault.TheVariants.{Wire, Utf8};
+
+    ghost wire = { Wire };
+
+    ghost utf8 = { Utf8 };
+
+    fn of_wire(fault: WireFault) -> ResponseFault {
+        ResponseFault::Wire(fault)
+    }
+
+    fn of_utf8(field: u32) -> ResponseFault {
+        ResponseFault::Utf8 { field }
+    }
 }
 
 /// A kind of resources: addresses, or authorization policies.
@@ -89,49 +105,12 @@ fn read_kind(url: &[u8]) -> Result<Kind, ResponseFault>
     Err(ResponseFault::UnknownType)
 }
 
-fn read_text(alloc: Global, field: u32, bytes: &[u8]) -> Result<Text, Or<ResponseFault>>
-    ensures { Answers result (text_in field bytes.now) }
-{
-    match Text::of(alloc, bytes)? {
-        Some(text) => Ok(text),
-        None => Err(Or::Fault(ResponseFault::Utf8 { field })),
-    }
-}
-
-/// A string field, put in the place of a text.
-fn take_text(
-    alloc: Global,
-    field: u32,
-    bytes: &[u8],
-    text: &mut Text,
-) -> Result<(), Or<ResponseFault>>
-    ensures { Merges (text_in field bytes.now) text.new result }
-{
-    *text = read_text(alloc, field, bytes)?;
-    Ok(())
-}
-
-/// One more item of a repeated field.
-fn add<T: Drop>(items: &mut List<T>, item: T) -> Result<(), Or<ResponseFault>>
-    ensures { Merges (Ok (items.old ++ item ∷ [])) items.new result }
-{
-    items.push(item)?;
-    Ok(())
-}
-
 impl Message for Any {
-    ghost use Rattle.hb_cli.specs.declared.response.ResponseFault.TheVariants.{Wire};
     ghost use Rattle.hb_cli.specs.Response.{any_merged};
 
     type Fault = ResponseFault;
 
-    ghost wire = { Wire };
-
     ghost merged = { any_merged };
-
-    fn of_wire(fault: WireFault) -> ResponseFault {
-        ResponseFault::Wire(fault)
-    }
 
     fn merge(&mut self, alloc: Global, field: Field<'_>) -> Result<(), Or<ResponseFault>> {
         match field.value {
@@ -162,18 +141,11 @@ impl Any {
 }
 
 impl Message for Resource {
-    ghost use Rattle.hb_cli.specs.declared.response.ResponseFault.TheVariants.{Wire};
     ghost use Rattle.hb_cli.specs.Response.{resource_merged};
 
     type Fault = ResponseFault;
 
-    ghost wire = { Wire };
-
     ghost merged = { resource_merged };
-
-    fn of_wire(fault: WireFault) -> ResponseFault {
-        ResponseFault::Wire(fault)
-    }
 
     fn merge(&mut self, alloc: Global, field: Field<'_>) -> Result<(), Or<ResponseFault>> {
         match field.value {
@@ -222,18 +194,11 @@ fn read_resource(alloc: Global, at: usize, bytes: &[u8]) -> Result<Resource, Or<
 }
 
 impl Message for Parts {
-    ghost use Rattle.hb_cli.specs.declared.response.ResponseFault.TheVariants.{Wire};
     ghost use Rattle.hb_cli.specs.Response.{response_merged};
 
     type Fault = ResponseFault;
 
-    ghost wire = { Wire };
-
     ghost merged = { response_merged };
-
-    fn of_wire(fault: WireFault) -> ResponseFault {
-        ResponseFault::Wire(fault)
-    }
 
     fn merge(&mut self, alloc: Global, field: Field<'_>) -> Result<(), Or<ResponseFault>> {
         match field.value {

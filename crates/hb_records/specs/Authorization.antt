@@ -1,7 +1,8 @@
 -- Authorization policies.
 use Rattle.std.specs.Prelude.{ℕ, ◌==◌, List, [], Result, Ok, Err, if◌then◌else◌}
 use Rattle.hb_wire.specs.Field.{Content, Value, varint, eight, span, four}
-use Rattle.hb_wire.specs.Message.{message_of, fold_message, and_then}
+use Rattle.hb_wire.specs.Message.{and_then}
+use Rattle.hb_message.specs.Reading.{read_into}
 use Rattle.hb_records.specs.declared.fault.RecordFault.{RecordFault}
 use Rattle.hb_records.specs.declared.fault.RecordFault.TheVariants.{Wire, BadEnum}
 use Rattle.hb_records.specs.declared.authorization.Reach.{Reach}
@@ -9,7 +10,7 @@ use Rattle.hb_records.specs.declared.authorization.Reach.TheVariants.{Global, Na
 use Rattle.hb_records.specs.declared.authorization.Action.{Action}
 use Rattle.hb_records.specs.declared.authorization.Action.TheVariants.{Allow, Deny}
 use Rattle.hb_records.specs.declared.authorization.Authorization.{Authorization}
-use Rattle.hb_records.specs.Entries.{text_in, enum_number, one_more}
+use Rattle.hb_records.specs.Entries.{text_in, low_32, one_more}
 use Rattle.hb_records.specs.Rule.{rule_in}
 
 -- scope 3: 0 is the mesh, 1 the policy's namespace, 2 the workloads that name it
@@ -35,8 +36,8 @@ policy_span a number at bytes =
 
 abbrev pub policy_number : Authorization → ℕ → ℕ → Result Authorization RecordFault
 policy_number a number n =
-    if number == 3 then and_then (reach_of (enum_number n)) (λ r. Ok (record a { scope = r }))
-    else (if number == 4 then and_then (action_of (enum_number n)) (λ x. Ok (record a { action = x }))
+    if number == 3 then and_then (reach_of (low_32 n)) (λ r. Ok (record a { scope = r }))
+    else (if number == 4 then and_then (action_of (low_32 n)) (λ x. Ok (record a { action = x }))
     else Ok a)
 
 abbrev pub policy_value : Authorization → ℕ → ℕ → Value → Result Authorization RecordFault
@@ -53,4 +54,4 @@ no_authorization = record { name = []; namespace = []; scope = Global; action = 
 
 -- the policy that these bytes are
 unfoldable pub authorization_of : List ℕ → Result Authorization RecordFault
-authorization_of bytes = fold_message authorization_merged Wire no_authorization (message_of (record { at = 0; left = bytes }))
+authorization_of bytes = read_into authorization_merged Wire no_authorization 0 bytes

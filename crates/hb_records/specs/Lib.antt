@@ -1,6 +1,12 @@
-pub mod Authorization
 pub mod Entries
-pub mod Reading
-pub mod Rule
+pub mod Numbers
+pub mod Prefix
 pub mod StringMatch
+pub mod Rule
+pub mod Authorization
+pub mod Network
+pub mod Gateway
+pub mod Ports
+pub mod Service
 pub mod Workload
+pub mod Address

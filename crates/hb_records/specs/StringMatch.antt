@@ -1,13 +1,13 @@
 -- A string match: one of its members, the last that occurs.
 use Rattle.std.specs.Prelude.{ℕ, ◌==◌, List, Option, Some, None, Result, Ok, Err, if◌then◌else◌}
 use Rattle.hb_wire.specs.Field.{Content}
-use Rattle.hb_wire.specs.Message.{message_of, fold_message, and_then}
+use Rattle.hb_wire.specs.Message.{and_then}
+use Rattle.hb_message.specs.Reading.{read_into, of_span}
 use Rattle.hb_records.specs.declared.fault.RecordFault.{RecordFault}
 use Rattle.hb_records.specs.declared.fault.RecordFault.TheVariants.{Wire, NoKind}
 use Rattle.hb_records.specs.declared.string_match.StringMatch.{StringMatch}
 use Rattle.hb_records.specs.declared.string_match.Member.{Member}
 use Rattle.hb_records.specs.declared.string_match.StringMatch.TheVariants.{Exact, Prefix, Suffix, Presence}
-use Rattle.hb_records.specs.Reading.{of_span}
 use Rattle.hb_records.specs.Entries.{text_in}
 
 -- the members exact 1, prefix 2, suffix 3, and presence 4, whose bytes don't matter
@@ -33,5 +33,5 @@ kind_or field None = Err (NoKind field)
 -- the string match of these bytes at a place, which stands under this number
 unfoldable pub string_match_in : ℕ → ℕ → List ℕ → Result StringMatch RecordFault
 string_match_in field at bytes =
-    and_then (fold_message member_of Wire (record { kind = None }) (message_of (record { at = at; left = bytes })))
+    and_then (read_into member_of Wire (record { kind = None }) at bytes)
     (λ m. kind_or field m.kind)

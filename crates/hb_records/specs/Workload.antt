@@ -1,22 +1,16 @@
--- Workloads, and addresses, which are workloads or services.
-use Rattle.std.specs.Prelude.{ℕ, ◌==◌, List, [], true, false, Option, Some, None, Result, Ok, Err, if◌then◌else◌}
-use Rattle.hb_base.specs.declared.ip.Ip.{Ip}
-use Rattle.hb_base.specs.Octets.{ip_of_octets}
+-- Workloads.
+use Rattle.std.specs.Prelude.{ℕ, ◌+◌, ◌==◌, nat_lt, List, [], true, false, Some, None, Result, Ok, Err, if◌then◌else◌}
 use Rattle.hb_wire.specs.Field.{Content, Value, varint, eight, span, four}
-use Rattle.hb_wire.specs.Message.{message_of, fold_message, and_then}
+use Rattle.hb_wire.specs.Message.{and_then}
+use Rattle.hb_message.specs.Reading.{read_into}
 use Rattle.hb_records.specs.declared.fault.RecordFault.{RecordFault}
-use Rattle.hb_records.specs.declared.fault.RecordFault.TheVariants.{Wire, BadIp, NoKind, NotYet}
-use Rattle.hb_records.specs.declared.address.Address.{Address}
-use Rattle.hb_records.specs.declared.address.AddressRecord.{AddressRecord}
-use Rattle.hb_records.specs.declared.address.AddressRecord.TheVariants as records
+use Rattle.hb_records.specs.declared.fault.RecordFault.TheVariants.{Wire}
+use Rattle.hb_records.specs.declared.port.ServicePorts.{ServicePorts}
 use Rattle.hb_records.specs.declared.workload.Workload.{Workload}
-use Rattle.hb_records.specs.Reading.{of_span}
-use Rattle.hb_records.specs.Entries.{text_in, enum_number, one_more}
-
--- an address is 4 or 16 octets
-abbrev pub ip_or : ℕ → Option Ip → Result Ip RecordFault
-ip_or field None = Err (BadIp field)
-ip_or field (Some ip) = Ok ip
+use Rattle.hb_records.specs.declared.workload.WorkloadParts.{WorkloadParts}
+use Rattle.hb_records.specs.Entries.{text_in, octets_in, low_32, most_entries, too_many, one_more}
+use Rattle.hb_records.specs.Ports.{entry_in, with_entry}
+use Rattle.hb_records.specs.Gateway.{gateway_with}
 
 -- name 1, namespace 2, network 4, trust_domain 6, service_account 7, node 9, uid 20, hostname 21
 abbrev pub workload_text : Workload → ℕ → List ℕ → Result Workload RecordFault
@@ -31,31 +25,44 @@ workload_text w number bytes =
     else (if number == 21 then and_then (text_in 21 bytes) (λ t. Ok (record w { hostname = t }))
     else Ok w)))))))
 
--- addresses 3 and authorization_policies 16; waypoint 8 and services 22 aren't built yet
-abbrev pub workload_span : Workload → ℕ → List ℕ → Result Workload RecordFault
-workload_span w number bytes =
-    if number == 3 then and_then (one_more 3 w.addresses (ip_or 3 (ip_of_octets bytes))) (λ l. Ok (record w { addresses = l }))
+-- addresses 3, waypoint 8 and authorization_policies 16
+abbrev pub workload_span : Workload → ℕ → ℕ → List ℕ → Result Workload RecordFault
+workload_span w number at bytes =
+    if number == 3 then and_then (one_more 3 w.addresses (octets_in 3 bytes)) (λ l. Ok (record w { addresses = l }))
+    else (if number == 8 then and_then (gateway_with 8 w.waypoint at bytes) (λ g. Ok (record w { waypoint = Some g }))
     else (if number == 16 then and_then (one_more 16 w.authorization_policies (text_in 16 bytes))
     (λ l. Ok (record w { authorization_policies = l }))
-    else (if number == 8 then Err (NotYet 8)
-    else (if number == 22 then Err (NotYet 22)
-    else workload_text w number bytes)))
+    else workload_text w number bytes))
 
 -- tunnel_protocol 5: 1 is HBONE; status 17: 0 is healthy
 abbrev pub workload_number : Workload → ℕ → ℕ → Workload
 workload_number w number n =
-    if number == 5 then record w { hbone = enum_number n == 1 }
-    else (if number == 17 then record w { healthy = enum_number n == 0 }
+    if number == 5 then record w { hbone = low_32 n == 1 }
+    else (if number == 17 then record w { healthy = low_32 n == 0 }
     else w)
 
-abbrev pub workload_value : Workload → ℕ → Value → Result Workload RecordFault
-workload_value w number (span bytes) = workload_span w number bytes
-workload_value w number (varint n) = Ok (workload_number w number n)
-workload_value w number (eight n) = Ok w
-workload_value w number (four n) = Ok w
+-- one more entry of the map of services: each that came counts, also one that replaces another
+abbrev pub with_service : WorkloadParts → ServicePorts → WorkloadParts
+with_service p e = record { workload = record p.workload { services = with_entry p.workload.services e }; entries = p.entries + 1 }
 
-abbrev pub workload_merged : Workload → Content → Result Workload RecordFault
-workload_merged w f = workload_value w f.number f.value
+abbrev pub service_entry : WorkloadParts → ℕ → List ℕ → Result WorkloadParts RecordFault
+service_entry p at bytes =
+    if nat_lt p.entries most_entries then and_then (entry_in at bytes) (λ e. Ok (with_service p e)) else too_many 22
+
+-- services 22, and all others
+abbrev pub parts_span : WorkloadParts → ℕ → ℕ → List ℕ → Result WorkloadParts RecordFault
+parts_span p number at bytes =
+    if number == 22 then service_entry p at bytes
+    else and_then (workload_span p.workload number at bytes) (λ w. Ok (record p { workload = w }))
+
+abbrev pub parts_value : WorkloadParts → ℕ → ℕ → Value → Result WorkloadParts RecordFault
+parts_value p number at (span bytes) = parts_span p number at bytes
+parts_value p number at (varint n) = Ok (record p { workload = workload_number p.workload number n })
+parts_value p number at (eight n) = Ok p
+parts_value p number at (four n) = Ok p
+
+abbrev pub parts_merged : WorkloadParts → Content → Result WorkloadParts RecordFault
+parts_merged p f = parts_value p f.number f.at f.value
 
 abbrev pub no_workload : Workload
 no_workload = record {
@@ -66,33 +73,18 @@ no_workload = record {
   hbone = false;
   trust_domain = [];
   service_account = [];
+  waypoint = None;
   node = [];
   authorization_policies = [];
   healthy = true;
   uid = [];
   hostname = [];
+  services = [];
 }
 
+abbrev pub no_parts : WorkloadParts
+no_parts = record { workload = no_workload; entries = 0 }
+
 -- what the bytes of one more occurrence at a place make of a workload
-unfoldable pub workload_with : Workload → ℕ → List ℕ → Result Workload RecordFault
-workload_with w at bytes = fold_message workload_merged Wire w (message_of (record { at = at; left = bytes }))
-
--- workload 1, whose occurrences merge; service 2 isn't built yet
-abbrev pub address_span : Address → ℕ → ℕ → List ℕ → Result Address RecordFault
-address_span a number at bytes =
-    if number == 1 then and_then (workload_with a.workload at bytes) (λ w. Ok (record { workload = w; is_there = true }))
-    else (if number == 2 then Err (NotYet 2) else Ok a)
-
-abbrev pub address_merged : Address → Content → Result Address RecordFault
-address_merged a f = of_span a f.value (λ bytes. address_span a f.number f.at bytes)
-
-abbrev pub no_address : Address
-no_address = record { workload = no_workload; is_there = false }
-
--- what the fields made; a record without a kind
-abbrev pub address_or : Address → Result AddressRecord RecordFault
-address_or a = if a.is_there then Ok (records.Workload a.workload) else Err (NoKind 0)
-
--- the address record that these bytes are
-unfoldable pub address_of : List ℕ → Result AddressRecord RecordFault
-address_of bytes = and_then (fold_message address_merged Wire no_address (message_of (record { at = 0; left = bytes }))) address_or
+unfoldable pub workload_with : WorkloadParts → ℕ → List ℕ → Result WorkloadParts RecordFault
+workload_with p at bytes = read_into parts_merged Wire p at bytes

@@ -4,12 +4,12 @@ ghost use Rattle.std.specs.Prelude.{◌≡◌, ◌+◌, ◌^◌, ◌<◌, length
 ghost use Rattle.hb_base.specs.Outcome.{Answers, Merges};
 ghost use Rattle.hb_records.specs.Authorization.{reach_of, action_of, policy_span, policy_number, authorization_of};
 
-use crate::entries::{add, check_room, enum_number, take_text};
+use crate::entries::{check_room, low_32};
 use crate::fault::RecordFault;
-use crate::message::{Message, read_whole};
 use crate::rule::{Rule, read_rule};
 use hb_base::{List, Or, Text};
-use hb_wire::{Field, FieldValue, WireFault};
+use hb_message::{Message, add, read_whole, take_text};
+use hb_wire::{Field, FieldValue};
 use std::alloc::Global as Alloc;
 
 /// The workloads that a policy is for: all of the mesh, those of its namespace, or those that name it.
@@ -58,18 +58,11 @@ fn read_action(number: u32) -> Result<Action, RecordFault>
 }
 
 impl Message for Authorization {
-    ghost use Rattle.hb_records.specs.declared.fault.RecordFault.TheVariants.{Wire};
     ghost use Rattle.hb_records.specs.Authorization.{authorization_merged};
 
     type Fault = RecordFault;
 
-    ghost wire = { Wire };
-
     ghost merged = { authorization_merged };
-
-    fn of_wire(fault: WireFault) -> RecordFault {
-        RecordFault::Wire(fault)
-    }
 
     fn merge(&mut self, alloc: Alloc, field: Field<'_>) -> Result<(), Or<RecordFault>> {
         match field.value {
@@ -106,8 +99,8 @@ impl Authorization {
         ensures { Merges (policy_number self.old number n) self.new result }
     {
         match number {
-            3 => self.scope = read_reach(enum_number(n)).map_err(Or::Fault)?,
-            4 => self.action = read_action(enum_number(n)).map_err(Or::Fault)?,
+            3 => self.scope = read_reach(low_32(n)).map_err(Or::Fault)?,
+            4 => self.action = read_action(low_32(n)).map_err(Or::Fault)?,
             _ => {}
         }
         Ok(())

@@ -1,47 +1,40 @@
-//! Strings, enums, and the entries of a repeated field.
+//! Numbers, addresses, and the entries of a repeated field.
 
-ghost use Rattle.std.specs.Prelude.{◌≡◌, ◌++◌, ◌∷◌, [], Ok};
-ghost use Rattle.hb_base.specs.Outcome.{Answers, Merges};
-ghost use Rattle.hb_records.specs.Entries.{text_in, enum_number, room_in};
+ghost use Rattle.std.specs.Prelude.{◌≡◌};
+ghost use Rattle.hb_base.specs.Outcome.{Answers};
+ghost use Rattle.hb_records.specs.Entries.{low_32, octets_in, room_in, too_many};
 
 use crate::fault::RecordFault;
-use hb_base::{List, Or, Text};
-use std::alloc::Global;
+use hb_base::{Ip, List, Or};
 
-/// How many numbers an enum's 32 bits have.
-const ENUM_NUMBERS: u64 = 4_294_967_296;
+/// How many numbers 32 bits have.
+const NUMBERS_OF_32_BITS: u64 = 4_294_967_296;
 
 /// The most entries that a repeated field may have.
-const MOST_ENTRIES: usize = 4096;
+pub const MOST_ENTRIES: usize = 4096;
 
-/// A string field, which has to be UTF-8.
-pub fn read_text(alloc: Global, field: u32, bytes: &[u8]) -> Result<Text, Or<RecordFault>>
-    ensures { Answers result (text_in field bytes.now) }
+/// A uint32 or an enum is the low 32 bits of its varint.
+pub fn low_32(n: u64) -> u32
+    ensures { result ≡ low_32 n }
 {
-    match Text::of(alloc, bytes)? {
-        Some(text) => Ok(text),
-        None => Err(Or::Fault(RecordFault::Utf8 { field })),
+    (n % NUMBERS_OF_32_BITS) as u32
+}
+
+/// An address of 4 or 16 octets.
+pub fn read_octets(field: u32, octets: &[u8]) -> Result<Ip, Or<RecordFault>>
+    ensures { Answers result (octets_in field octets.now) }
+{
+    match Ip::from_octets(octets) {
+        Some(ip) => Ok(ip),
+        None => Err(Or::Fault(RecordFault::BadIp { field })),
     }
 }
 
-/// The same, put in the place of a text.
-pub fn take_text(
-    alloc: Global,
-    field: u32,
-    bytes: &[u8],
-    text: &mut Text,
-) -> Result<(), Or<RecordFault>>
-    ensures { Merges (text_in field bytes.now) text.new result }
+/// One entry more than a repeated field may have.
+pub fn too_many<T>(field: u32) -> Result<T, Or<RecordFault>>
+    ensures { Answers result (too_many field) }
 {
-    *text = read_text(alloc, field, bytes)?;
-    Ok(())
-}
-
-/// An enum's number is the low 32 bits of its varint.
-pub fn enum_number(n: u64) -> u32
-    ensures { result ≡ enum_number n }
-{
-    (n % ENUM_NUMBERS) as u32
+    Err(Or::Fault(RecordFault::TooMany { field, count: 4097 }))
 }
 
 /// A fault where one more entry would be the 4,097th.
@@ -51,13 +44,5 @@ pub fn check_room<T>(field: u32, entries: &List<T>) -> Result<(), Or<RecordFault
     if entries.len() < MOST_ENTRIES {
         return Ok(());
     }
-    Err(Or::Fault(RecordFault::TooMany { field, count: 4097 }))
-}
-
-/// One more entry, for which there is room.
-pub fn add<T: Drop, F>(entries: &mut List<T>, entry: T) -> Result<(), Or<F>>
-    ensures { Merges (Ok (entries.old ++ entry ∷ [])) entries.new result }
-{
-    entries.push(entry)?;
-    Ok(())
+    too_many(field)
 }

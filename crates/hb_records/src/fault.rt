@@ -1,5 +1,6 @@
 //! Why bytes are no record.
 
+use hb_message::MessageFault;
 use hb_wire::WireFault;
 use thiserror::Error;
 
@@ -16,6 +17,9 @@ pub enum RecordFault {
     /// An address has neither 4 nor 16 octets.
     #[error("bad ip in field {field}")]
     BadIp { field: u32 },
+    /// A prefix has no address, or is longer than its address.
+    #[error("bad cidr in field {field}")]
+    BadCidr { field: u32 },
     /// An enum has a value that it doesn't name.
     #[error("bad enum {value} in field {field}")]
     BadEnum { field: u32, value: u32 },
@@ -25,7 +29,20 @@ pub enum RecordFault {
     /// The 4,097th entry of a repeated field.
     #[error("too many in field {field}: {count}")]
     TooMany { field: u32, count: u32 },
-    /// A field that isn't built yet.
-    #[error("not yet: field {field}")]
-    NotYet { field: u32 },
+}
+
+impl MessageFault for RecordFault {
+    ghost use Rattle.hb_records.specs.declared.fault.RecordFault.TheVariants.{Wire, Utf8};
+
+    ghost wire = { Wire };
+
+    ghost utf8 = { Utf8 };
+
+    fn of_wire(fault: WireFault) -> RecordFault {
+        RecordFault::Wire(fault)
+    }
+
+    fn of_utf8(field: u32) -> RecordFault {
+        RecordFault::Utf8 { field }
+    }
 }

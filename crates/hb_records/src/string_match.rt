@@ -4,11 +4,10 @@ ghost use Rattle.std.specs.Prelude.{◌≡◌, ◌+◌, ◌^◌, ◌<◌, length
 ghost use Rattle.hb_base.specs.Outcome.{Answers, Merges};
 ghost use Rattle.hb_records.specs.StringMatch.{string_match_in, member_in};
 
-use crate::entries::read_text;
 use crate::fault::RecordFault;
-use crate::message::{Message, read_whole};
 use hb_base::{Or, Text};
-use hb_wire::{Field, FieldValue, WireFault};
+use hb_message::{Message, read_text, read_whole};
+use hb_wire::{Field, FieldValue};
 use std::alloc::Global;
 
 /// What a text has to be to match: equal, begin so, end so, or not be empty.
@@ -27,18 +26,11 @@ struct Member {
 }
 
 impl Message for Member {
-    ghost use Rattle.hb_records.specs.declared.fault.RecordFault.TheVariants.{Wire};
     ghost use Rattle.hb_records.specs.StringMatch.{member_of};
 
     type Fault = RecordFault;
 
-    ghost wire = { Wire };
-
     ghost merged = { member_of };
-
-    fn of_wire(fault: WireFault) -> RecordFault {
-        RecordFault::Wire(fault)
-    }
 
     fn merge(&mut self, alloc: Global, field: Field<'_>) -> Result<(), Or<RecordFault>> {
         match field.value {

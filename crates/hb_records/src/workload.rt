@@ -1,15 +1,18 @@
 //! Workloads.
 
 ghost use Rattle.std.specs.Prelude.{◌≡◌, ◌+◌, ◌^◌, ◌<◌, length};
-ghost use Rattle.hb_base.specs.Octets.{ip_of_octets};
-ghost use Rattle.hb_base.specs.Outcome.{Answers, Merges};
-ghost use Rattle.hb_records.specs.Workload.{no_workload, ip_or, workload_text, workload_span, workload_number};
+ghost use Rattle.hb_base.specs.Outcome.{Merges};
+ghost use Rattle.hb_records.specs.Workload.{no_workload, no_parts, workload_text, workload_span, workload_number};
+ghost use Rattle.hb_records.specs.Workload.{service_entry, parts_span};
 
-use crate::entries::{add, check_room, enum_number, read_text, take_text};
+use crate::entries::{MOST_ENTRIES, check_room, low_32, read_octets, too_many};
 use crate::fault::RecordFault;
-use crate::message::Message;
+use crate::gateway::{GatewayAddress, read_gateway};
+use crate::port::{ServicePorts, read_entry};
+use crate::services::put_entry;
 use hb_base::{Ip, List, Or, Text};
-use hb_wire::{Field, FieldValue, WireFault};
+use hb_message::{Message, add, read_text, take_text};
+use hb_wire::{Field, FieldValue};
 use std::alloc::Global;
 
 /// A workload of the mesh. `authorization_policies` are the names `namespace/name` of the policies that
@@ -24,42 +27,35 @@ pub struct Workload {
     pub hbone: bool,
     pub trust_domain: Text,
     pub service_account: Text,
+    pub waypoint: Option<GatewayAddress>,
     pub node: Text,
     pub authorization_policies: List<Text>,
     pub healthy: bool,
     pub uid: Text,
     pub hostname: Text,
+    /// The services that it serves, by their keys, each once.
+    pub services: List<ServicePorts>,
 }
 
-/// An address of 4 or 16 octets.
-fn read_octets(field: u32, bytes: &[u8]) -> Result<Ip, Or<RecordFault>>
-    ensures { Answers result (ip_or field (ip_of_octets bytes.now)) }
-{
-    match Ip::from_octets(bytes) {
-        Some(ip) => Ok(ip),
-        None => Err(Or::Fault(RecordFault::BadIp { field })),
-    }
+/// A workload as far as its fields were read, and how many entries of its map of services came.
+#[derive(Drop)]
+pub struct WorkloadParts {
+    pub workload: Workload,
+    pub entries: usize,
 }
 
-impl Message for Workload {
-    ghost use Rattle.hb_records.specs.declared.fault.RecordFault.TheVariants.{Wire};
-    ghost use Rattle.hb_records.specs.Workload.{workload_merged};
+impl Message for WorkloadParts {
+    ghost use Rattle.hb_records.specs.Workload.{parts_merged};
 
     type Fault = RecordFault;
 
-    ghost wire = { Wire };
-
-    ghost merged = { workload_merged };
-
-    fn of_wire(fault: WireFault) -> RecordFault {
-        RecordFault::Wire(fault)
-    }
+    ghost merged = { parts_merged };
 
     fn merge(&mut self, alloc: Global, field: Field<'_>) -> Result<(), Or<RecordFault>> {
         match field.value {
-            FieldValue::Span(bytes) => self.take_span(alloc, field.number, bytes),
+            FieldValue::Span(bytes) => self.take_span(alloc, field.number, field.at, bytes),
             FieldValue::Varint(n) => {
-                self.take_number(field.number, n);
+                self.workload.take_number(field.number, n);
                 Ok(())
             }
             _ => Ok(()),
@@ -67,9 +63,55 @@ impl Message for Workload {
     }
 }
 
+impl WorkloadParts {
+    /// No field was read.
+    pub fn unread(alloc: Global) -> WorkloadParts
+        ensures { result ≡ no_parts }
+    {
+        WorkloadParts {
+            workload: Workload::unread(alloc),
+            entries: 0,
+        }
+    }
+
+    fn take_span(
+        &mut self,
+        alloc: Global,
+        number: u32,
+        at: usize,
+        bytes: &[u8],
+    ) -> Result<(), Or<RecordFault>>
+        requires { at + length bytes.now < 2 ^ 64 }
+        ensures { Merges (parts_span self.old number at bytes.now) self.new result }
+    {
+        if number == 22 {
+            return self.take_service(alloc, at, bytes);
+        }
+        self.workload.take_span(alloc, number, at, bytes)
+    }
+
+    fn take_service(
+        &mut self,
+        alloc: Global,
+        at: usize,
+        bytes: &[u8],
+    ) -> Result<(), Or<RecordFault>>
+        requires { at + length bytes.now < 2 ^ 64 }
+        ensures { Merges (service_entry self.old at bytes.now) self.new result }
+    {
+        if self.entries >= MOST_ENTRIES {
+            return too_many(22);
+        }
+        let entry = read_entry(alloc, at, bytes)?;
+        put_entry(&mut self.workload.services, entry)?;
+        self.entries += 1;
+        Ok(())
+    }
+}
+
 impl Workload {
     /// The workload of which no field was read.
-    pub fn unread(alloc: Global) -> Workload
+    fn unread(alloc: Global) -> Workload
         ensures { result ≡ no_workload }
     {
         Workload {
@@ -80,21 +122,35 @@ impl Workload {
             hbone: false,
             trust_domain: Text::empty(alloc),
             service_account: Text::empty(alloc),
+            waypoint: None,
             node: Text::empty(alloc),
             authorization_policies: List::new(alloc),
             healthy: true,
             uid: Text::empty(alloc),
             hostname: Text::empty(alloc),
+            services: List::new(alloc),
         }
     }
 
-    fn take_span(&mut self, alloc: Global, number: u32, bytes: &[u8]) -> Result<(), Or<RecordFault>>
-        ensures { Merges (workload_span self.old number bytes.now) self.new result }
+    fn take_span(
+        &mut self,
+        alloc: Global,
+        number: u32,
+        at: usize,
+        bytes: &[u8],
+    ) -> Result<(), Or<RecordFault>>
+        requires { at + length bytes.now < 2 ^ 64 }
+        ensures { Merges (workload_span self.old number at bytes.now) self.new result }
     {
         match number {
             3 => {
                 check_room(3, &self.addresses)?;
                 add(&mut self.addresses, read_octets(3, bytes)?)
+            }
+            8 => {
+                let there = self.waypoint.take();
+                self.waypoint = Some(read_gateway(alloc, 8, at, bytes, there)?);
+                Ok(())
             }
             16 => {
                 check_room(16, &self.authorization_policies)?;
@@ -103,8 +159,6 @@ impl Workload {
                     read_text(alloc, 16, bytes)?,
                 )
             }
-            8 => Err(Or::Fault(RecordFault::NotYet { field: 8 })),
-            22 => Err(Or::Fault(RecordFault::NotYet { field: 22 })),
             _ => self.take_text(alloc, number, bytes),
         }
     }
@@ -129,8 +183,8 @@ impl Workload {
         ensures { self.new ≡ workload_number self.old number n }
     {
         match number {
-            5 => self.hbone = enum_number(n) == 1,
-            17 => self.healthy = enum_number(n) == 0,
+            5 => self.hbone = low_32(n) == 1,
+            17 => self.healthy = low_32(n) == 0,
             _ => {}
         }
     }

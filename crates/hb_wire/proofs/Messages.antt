@@ -1,22 +1,27 @@
 -- A message is taken apart field by field, and so is what it makes of a value.
 use Rattle.std.proofs.Common.{◌≡◌, ℕ, zero, suc, ◌<◌, ◌≤◌, Bool, true, false, cond, ◌==◌, List, [], ◌∷◌, length, Option, Some, None, Result, Ok, Err, refl, ap, ◌∙◌, arith}
 use Rattle.hb_wire.specs.declared.fault.WireFault.{WireFault}
-use Rattle.hb_wire.specs.Field.{Unread, Content, next_in, field_in, ◌>>=◌}
-use Rattle.hb_wire.proofs.Takes.{field_takes}
+use Rattle.hb_wire.specs.Field.{Unread, Content, next_in, next_number_in, field_in, varint_in, ◌>>=◌}
+use Rattle.hb_wire.proofs.Takes.{field_takes, varint_shortens}
 use Rattle.hb_wire.specs.Message.{with_first, message_from, message_within, message_of, and_then, fault_or, fold_fields, fold_message}
 
 some_left : (bytes : List ℕ) → (length bytes == 0) ≡ false → 0 < length bytes
 some_left [] e = absurd cc
 some_left (byte ∷ bytes) e = omega arith
 
-pub next_cases : (b : Bool) (r : Result (Content × Unread) WireFault) (p : Content × Unread) → cond b (Ok None) (r >>= λ f. Ok (Some f))
-    ≡ Ok (Some p) → (b ≡ false) × (r ≡ Ok p)
+pub next_cases : {A : Type 0} (b : Bool) (r : Result A WireFault) (p : A) → cond b (Ok None) (r >>= λ f. Ok (Some f)) ≡ Ok (Some p)
+    → (b ≡ false) × (r ≡ Ok p)
 next_cases true r p e = absurd cc
 next_cases false (Ok q) p e = (refl, cc)
 next_cases false (Err d) p e = absurd cc
 
 pub next_is_shorter : (u v : Unread) (f : Content) → next_in u ≡ Ok (Some (f, v)) → length v.left < length u.left
 next_is_shorter u v f e = let c = next_cases (length u.left == 0) (field_in u) (f, v) e in field_takes u v f (some_left u.left c.0) c.1
+
+-- a number of a packed field takes a byte
+pub number_is_shorter : (u v : Unread) (n : ℕ) → next_number_in u ≡ Ok (Some (n, v)) → length v.left < length u.left
+number_is_shorter u v n e = let c = next_cases (length u.left == 0) (varint_in u) (n, v) e in
+    varint_shortens u v n (some_left u.left c.0) c.1
 
 -- an empty rest is the end
 at_end : (u : Unread) → length u.left ≤ 0 → next_in u ≡ Ok None

@@ -98,3 +98,7 @@ field_leaves u = bind_leaves (length u.left - 1) (varint_in u) _ (λ tag e.
 -- a field that was read leaves fewer bytes
 pub field_takes : (u v : Unread) (f : Content) → 0 < length u.left → field_in u ≡ Ok (f, v) → length v.left < length u.left
 field_takes u v f lt e = let t = at_ok (length u.left - 1) (field_in u) (f, v) e (field_leaves u) in omega arith
+
+-- so does a varint
+pub varint_shortens : (u v : Unread) (n : ℕ) → 0 < length u.left → varint_in u ≡ Ok (n, v) → length v.left < length u.left
+varint_shortens u v n lt e = let t = at_ok (length u.left - 1) (varint_in u) (n, v) e (varint_leaves u) in omega arith

@@ -101,3 +101,7 @@ field_in u = do
 -- the next field, if a byte is left
 abbrev pub next_in : Unread → Result (Option (Content × Unread)) WireFault
 next_in u = if length u.left == 0 then Ok None else (field_in u >>= λ f. Ok (Some f))
+
+-- the next number of varints that stand one behind the other, if a byte is left ("Packed Repeated Fields")
+abbrev pub next_number_in : Unread → Result (Option (ℕ × Unread)) WireFault
+next_number_in u = if length u.left == 0 then Ok None else (varint_in u >>= λ v. Ok (Some v))

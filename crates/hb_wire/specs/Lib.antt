@@ -5,3 +5,4 @@ pub mod Seen
 pub mod Message
 pub mod Spelling
 pub mod Breaks
+pub mod Writing

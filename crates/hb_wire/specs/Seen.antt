@@ -39,3 +39,9 @@ abbrev pub answer : Result (Option Field) WireFault → Unread → Result (Optio
 answer (Ok None) after = Ok None
 answer (Ok (Some f)) after = Ok (Some (content f, after))
 answer (Err e) after = Err e
+
+-- the same of the next number of a packed field
+abbrev pub number_answer : Result (Option ℕ) WireFault → Unread → Result (Option (ℕ × Unread)) WireFault
+number_answer (Ok None) after = Ok None
+number_answer (Ok (Some n)) after = Ok (Some (n, after))
+number_answer (Err e) after = Err e

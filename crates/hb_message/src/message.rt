@@ -1,31 +1,25 @@
 //! A message that is read field by field.
 
-ghost use Rattle.std.specs.Prelude.{◌≡◌, ◌+◌, ◌^◌, ◌<◌, length};
-ghost use Rattle.hb_wire.specs.Message.{message_of, fold_message};
+ghost use Rattle.std.specs.Prelude.{◌≡◌, ◌+◌, ◌^◌, ◌<◌, ◌++◌, ◌∷◌, [], length, Ok};
+ghost use Rattle.hb_message.specs.Reading.{read_into};
 ghost use Rattle.hb_base.specs.Outcome.{Answers, Merges};
 
-use hb_base::Or;
-use hb_wire::{Field, Fields, WireFault};
+use crate::fault::MessageFault;
+use hb_base::{List, Or};
+use hb_wire::{Field, Fields};
 use std::alloc::Global;
 
 /// A value that takes a message's fields one after the other.
 pub trait Message {
-    ghost use Rattle.std.specs.Prelude.{◌≡◌, Result};
+    ghost use Rattle.std.specs.Prelude.{Result};
     ghost use Rattle.hb_wire.specs.Field.{Content};
     ghost use Rattle.hb_wire.specs.Seen.{content, IsInMemory};
-    ghost use Rattle.hb_wire.specs.declared.fault.WireFault.{WireFault as NoField};
     ghost use Rattle.hb_base.specs.Outcome.{Merges};
 
     /// Why bytes aren't such a message.
-    type Fault;
-
-    ghost wire: { NoField → Self.Fault };
+    type Fault: MessageFault;
 
     ghost merged: { Self → Content → Result Self Self.Fault };
-
-    /// The fault of bytes that are no fields.
-    fn of_wire(fault: WireFault) -> Self::Fault
-        ensures { result ≡ wire fault };
 
     /// Takes one field.
     fn merge(&mut self, alloc: Global, field: Field<'_>) -> Result<(), Or<Self::Fault>>
@@ -41,14 +35,14 @@ pub fn read_message<M: Message>(
     message: &mut M,
 ) -> Result<(), Or<M::Fault>>
     requires { at + length bytes.now < 2 ^ 64 }
-    ensures { Merges (fold_message M.merged M.wire message.old (message_of (record { at = at; left = bytes.now }))) message.new result }
+    ensures { Merges (read_into M.merged M.Fault.wire message.old at bytes.now) message.new result }
 {
     let mut fields = Fields::within(bytes, at);
     loop {
         match fields.next_field() {
             Ok(Some(field)) => message.merge(alloc, field)?,
             Ok(None) => return Ok(()),
-            Err(fault) => return Err(Or::Fault(M::of_wire(fault))),
+            Err(fault) => return Err(Or::Fault(M::Fault::of_wire(fault))),
         }
     }
 }
@@ -61,8 +55,16 @@ pub fn read_whole<M: Message + Drop>(
     mut message: M,
 ) -> Result<M, Or<M::Fault>>
     requires { at + length bytes.now < 2 ^ 64 }
-    ensures { Answers result (fold_message M.merged M.wire message (message_of (record { at = at; left = bytes.now }))) }
+    ensures { Answers result (read_into M.merged M.Fault.wire message at bytes.now) }
 {
     read_message(alloc, bytes, at, &mut message)?;
     Ok(message)
+}
+
+/// One more entry of a repeated field.
+pub fn add<T: Drop, F>(entries: &mut List<T>, entry: T) -> Result<(), Or<F>>
+    ensures { Merges (Ok (entries.old ++ entry ∷ [])) entries.new result }
+{
+    entries.push(entry)?;
+    Ok(())
 }

@@ -1,0 +1,31 @@
+//! String fields.
+
+ghost use Rattle.hb_base.specs.Outcome.{Answers, Merges};
+ghost use Rattle.hb_message.specs.Reading.{text_by};
+
+use crate::fault::MessageFault;
+use hb_base::{Or, Text};
+use std::alloc::Global;
+
+/// A string field, which has to be UTF-8.
+pub fn read_text<F: MessageFault>(alloc: Global, field: u32, bytes: &[u8]) -> Result<Text, Or<F>>
+    ensures { Answers result (text_by F.utf8 field bytes.now) }
+{
+    match Text::of(alloc, bytes)? {
+        Some(text) => Ok(text),
+        None => Err(Or::Fault(F::of_utf8(field))),
+    }
+}
+
+/// The same, put in the place of a text.
+pub fn take_text<F: MessageFault>(
+    alloc: Global,
+    field: u32,
+    bytes: &[u8],
+    text: &mut Text,
+) -> Result<(), Or<F>>
+    ensures { Merges (text_by F.utf8 field bytes.now) text.new result }
+{
+    *text = read_text(alloc, field, bytes)?;
+    Ok(())
+}
