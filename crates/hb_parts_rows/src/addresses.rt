@@ -1,4 +1,4 @@
-//! Address records.
+//! Address records: workloads and services.
 
 /// Address records, and what each is read as: what isn't a default, or the fault.
 pub const ADDRESSES: &str = "\
@@ -65,19 +65,111 @@ pub const ADDRESSES: &str = "\
 08 01; no kind in field 0
 1a 1f 0a 03 'web 12 01 'a 1a 04 0a 00 00 07 28 01 4a 02 'n 31 82 01 03 'a/p a2 01 02 'u 31; no kind in field 0
 11 01 02 03 04 05 06 07 08 15 01 02 03 04; no kind in field 0
-# Fields that aren't built yet.
-12 00; not yet: field 2
-0a 03 0a 01 'a 12 00; not yet: field 2
-0a 02 42 00; not yet: field 8
-0a 03 b2 01 00; not yet: field 22
+# A waypoint by a hostname and by an address, with its port and without; neither part of a hostname has to be there.
+0a 0e 42 0c 0a 07 0a 02 'ns 12 01 'h 18 98 75; waypoint host ns/h 15000
+0a 0e 42 0c 18 98 75 0a 07 12 01 'h 0a 02 'ns; waypoint host ns/h 15000
+0a 04 42 02 0a 00; waypoint host / 0
+0a 0d 42 0b 12 09 0a 01 'n 12 04 00 00 00 01; waypoint address n/V4(1) 0
+0a 0d 42 0b 12 06 12 04 00 00 00 01 18 98 75; waypoint address /V4(1) 15000
+0a 16 42 14 12 12 12 10 20 01 0d b8 00 00 00 00 00 00 00 00 00 00 00 07; waypoint address /V6(42540766411282592856903984951653826567) 0
+0a 16 42 14 12 12 12 10 00 00 00 00 00 00 00 00 00 00 ff ff 0a 00 00 07; waypoint address /V4(167772167) 0
+0a 0a 42 08 0a 00 18 81 80 80 80 10; waypoint host / 1
+0a 08 42 06 0a 00 18 09 18 08; waypoint host / 8
+# The last member counts; occurrences of one merge, if the other didn't come between.
+0a 13 42 11 0a 07 0a 02 'ns 12 01 'h 12 06 12 04 00 00 00 01; waypoint address /V4(1) 0
+0a 12 42 10 12 09 0a 01 'n 12 04 00 00 00 01 0a 03 12 01 'h; waypoint host /h 0
+0a 0d 42 0b 0a 04 0a 02 'ns 0a 03 12 01 'h; waypoint host ns/h 0
+0a 15 42 13 0a 04 0a 02 'ns 12 06 12 04 00 00 00 01 0a 03 12 01 'h; waypoint host /h 0
+0a 0f 42 0d 12 06 12 04 00 00 00 01 12 03 0a 01 'n; waypoint address n/V4(1) 0
+0a 15 42 13 12 09 0a 01 'n 12 04 00 00 00 01 12 06 12 04 00 00 00 02; waypoint address n/V4(2) 0
+0a 17 42 15 12 09 0a 01 'n 12 04 00 00 00 01 0a 00 12 06 12 04 00 00 00 02; waypoint address /V4(2) 0
+# So do occurrences of the waypoint, also over those of the workload.
+0a 12 42 09 0a 04 0a 02 'ns 18 98 75 42 05 0a 03 12 01 'h; waypoint host ns/h 15000
+0a 0f 42 09 0a 07 0a 02 'ns 12 01 'h 42 02 18 09; waypoint host ns/h 9
+0a 18 42 0c 0a 07 0a 02 'ns 12 01 'h 18 98 75 42 08 12 06 12 04 00 00 00 01; waypoint address /V4(1) 15000
+0a 0a 42 08 12 06 12 04 00 00 00 01 0a 07 42 05 12 03 0a 01 'n; waypoint address n/V4(1) 0
+0a 0d 42 09 0a 07 0a 02 'ns 12 01 'h 42 00; waypoint host ns/h 0
+# One without either, told as the field that it stands under; each occurrence is looked at where it ends.
+0a 02 42 00; no kind in field 8
+0a 05 42 03 18 98 75; no kind in field 8
+0a 09 42 07 08 01 10 01 22 01 'x; no kind in field 8
+0a 09 42 03 18 98 75 42 02 0a 00; no kind in field 8
+12 02 3a 00; no kind in field 7
+12 09 3a 03 18 98 75 3a 02 0a 00; no kind in field 7
+# A network's address without octets, and with others than 4 or 16.
+0a 04 42 02 12 00; bad ip in field 2
+0a 07 42 05 12 03 0a 01 'n; bad ip in field 2
+0a 0b 42 09 12 07 12 05 00 00 00 00 00; bad ip in field 2
+0a 06 42 04 12 02 12 00; bad ip in field 2
+0a 0f 42 0d 12 03 0a 01 'n 12 06 12 04 00 00 00 01; bad ip in field 2
+0a 0d 42 0b 0a 04 0a 02 'ns 12 03 0a 01 'n; bad ip in field 2
+0a 11 42 0f 12 06 12 04 00 00 00 01 0a 00 12 03 0a 01 'n; bad ip in field 2
+12 02 22 00; bad ip in field 2
+12 05 22 03 0a 01 'n; bad ip in field 2
+12 0d 22 06 12 04 00 00 00 01 22 03 0a 01 'n; bad ip in field 2
+12 07 22 05 12 03 00 00 00; bad ip in field 2
+# A map of services, by the bytes of its keys whatever their order.
+0a 12 b2 01 0f 0a 04 'ns/h 12 07 0a 05 08 50 10 90 3f; serves=ns/h 80:8080
+0a 15 b2 01 12 12 0a 0a 02 08 50 0a 04 08 51 10 01 0a 04 'ns/h; serves=ns/h 80:0 81:1
+0a 18 b2 01 03 0a 01 'c b2 01 09 0a 01 'a 12 04 0a 02 08 01 b2 01 03 0a 01 'b; serves=a 1:0 serves=b serves=c
+0a 23 b2 01 04 0a 02 'é b2 01 03 0a 01 'z b2 01 04 0a 02 'ab b2 01 03 0a 01 'a b2 01 03 0a 01 'B b2 01 00; serves= serves=B serves=a \
+    serves=ab serves=z serves=é
+# A later equal key replaces, over merged occurrences too.
+0a 18 b2 01 09 0a 01 'a 12 04 0a 02 08 01 b2 01 09 0a 01 'a 12 04 0a 02 08 02; serves=a 2:0
+0a 1e b2 01 09 0a 01 'a 12 04 0a 02 08 01 b2 01 09 0a 01 'b 12 04 0a 02 08 03 b2 01 03 0a 01 'a; serves=a serves=b 3:0
+0a 18 b2 01 09 0a 01 'b 12 04 0a 02 08 01 b2 01 09 0a 01 'a 12 04 0a 02 08 03 0a 0c b2 01 09 0a 01 'b 12 04 0a 02 08 02; serves=a 3:0 \
+    serves=b 2:0
+0a 12 b2 01 06 12 04 0a 02 08 01 b2 01 06 12 04 0a 02 08 02; serves= 2:0
+# In one entry the last key counts, and its values merge; a missing part is its default.
+0a 09 b2 01 06 0a 01 'b 0a 01 'a; serves=a
+0a 12 b2 01 0f 12 04 0a 02 08 01 0a 01 'a 12 04 0a 02 08 02; serves=a 1:0 2:0
+0a 06 b2 01 03 0a 01 'a; serves=a
+0a 09 b2 01 06 12 04 0a 02 08 01; serves= 1:0
+0a 0a b2 01 07 0a 01 'a 12 02 0a 00; serves=a 0:0
+0a 16 b2 01 13 0a 01 'a 12 0e 0a 0c 08 01 08 02 10 03 10 84 80 80 80 10; serves=a 2:4
+0a 20 b2 01 1d 08 01 10 01 1a 01 'x 0a 01 'a 12 11 08 01 12 01 ff 0a 0a 0a 01 'x 18 01 0d 01 02 03 04; serves=a 0:0
+# A fault in it, also of an entry that a later one replaces.
+0a 06 b2 01 03 0a 01 ff; utf8 in field 1
+0a 0c b2 01 09 0a 01 'a 0a 01 ff 0a 01 'a; utf8 in field 1
+0a 11 b2 01 08 0a 01 'a 12 03 0a 01 0b b2 01 03 0a 01 'a; BadType at byte 12
+0a 0e b2 01 0b 0a 01 'a 12 03 0a 01 08 0a 01 'b; Truncated at byte 13
+# A service with all its fields, and one without a field; addresses and ports don't merge.
+12 35 0a 01 's 12 01 'a 1a 03 'h.x 22 09 0a 01 'n 12 04 00 00 00 01 22 06 12 04 00 00 00 02 2a 05 08 50 10 90 3f 2a 00 3a 0c 0a 07 0a \
+    02 'ns 12 01 'h 18 98 75; service name=s namespace=a hostname=h.x address n/V4(1) address /V4(2) 80:8080 0:0 waypoint host ns/h 15000
+12 3a 3a 17 12 15 0a 01 'n 12 10 20 01 0d b8 00 00 00 00 00 00 00 00 00 00 00 07 2a 02 10 01 22 12 12 10 00 00 00 00 00 00 00 00 00 \
+    00 ff ff 0a 00 00 07 1a 01 'h 12 01 'a 0a 01 's; service name=s namespace=a hostname=h address /V4(167772167) 0:1 waypoint address \
+    n/V6(42540766411282592856903984951653826567) 0
+12 00; service
+12 17 0a 01 's 22 06 12 04 00 00 00 01 2a 02 08 01 3a 06 0a 04 0a 02 'ns 12 16 0a 01 't 22 06 12 04 00 00 00 02 2a 02 08 02 3a 05 0a \
+    03 12 01 'h; service name=t address /V4(1) address /V4(2) 1:0 2:0 waypoint host ns/h 0
+12 15 08 01 10 01 18 01 20 01 28 01 38 01 32 01 ff 42 01 ff 0a 01 's; service name=s
+12 03 0a 01 ff; utf8 in field 1
+12 03 12 01 ff; utf8 in field 2
+12 03 1a 01 ff; utf8 in field 3
+12 05 22 03 0a 01 ff; utf8 in field 1
+12 07 3a 05 0a 03 12 01 ff; utf8 in field 2
+# Of a workload and a service the last counts; occurrences of one merge, if the other didn't come between.
+0a 03 0a 01 'a 12 00; service
+12 03 0a 01 's 0a 00;
+0a 03 0a 01 'a 12 00 0a 03 12 01 'b; namespace=b
+12 03 0a 01 's 0a 00 12 03 12 01 'b; service namespace=b
+0a 03 0a 01 'a 12 03 0a 01 's 12 03 12 01 'b; service name=s namespace=b
+0a 0c b2 01 09 0a 01 'a 12 04 0a 02 08 01 12 00 0a 06 b2 01 03 0a 01 'b; serves=b
+0a 03 0a 01 'a 10 01; name=a
+0a 03 0a 01 ff 12 00; utf8 in field 1
+12 02 3a 00 0a 00; no kind in field 7
 # The first fault of two, in both orders.
 0a 08 0a 01 ff 1a 03 31 32 33; utf8 in field 1
 0a 08 1a 03 31 32 33 0a 01 ff; bad ip in field 3
 0a 07 aa 01 01 ff 0a 01 ff; utf8 in field 21
-0a 05 42 00 0a 01 ff; not yet: field 8
+0a 05 42 00 0a 01 ff; no kind in field 8
 0a 06 0a 01 ff b2 01 00; utf8 in field 1
 0a 03 0a 01 ff 12 00; utf8 in field 1
-12 00 0a 03 0a 01 ff; not yet: field 2
+12 00 0a 03 0a 01 ff; utf8 in field 1
+0a 09 42 07 12 00 0a 03 0a 01 ff; bad ip in field 2
+0a 09 42 07 0a 03 0a 01 ff 12 00; utf8 in field 1
+0a 05 42 02 18 01 0b; no kind in field 8
+0a 05 42 03 18 01 0b; BadType at byte 6
 0a 03 0a 01 ff 0b; utf8 in field 1
 0b 0a 03 0a 01 ff; BadType at byte 0
 0a 03 0a 01 ff 0a 05; utf8 in field 1
@@ -95,4 +187,7 @@ pub const ADDRESSES: &str = "\
 0a 03 28 01 00; BadNumber at byte 4
 0a 0b 28 ff ff ff ff ff ff ff ff ff 02; LongVarint at byte 12
 ff ff ff ff ff ff ff ff ff ff; LongVarint at byte 9
+0a 05 42 03 0a 01 0b; BadType at byte 6
+0a 06 42 04 12 02 12 04; Truncated at byte 8
+12 03 2a 01 00; BadNumber at byte 4
 0a 03 0a 01 'a 80; Truncated at byte 6";

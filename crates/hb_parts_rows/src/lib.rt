@@ -17,6 +17,8 @@ mod repeated;
 #[cfg(test)]
 mod rows;
 #[cfg(test)]
+mod spelled;
+#[cfg(test)]
 mod streams;
 #[cfg(test)]
 mod tables;

@@ -1,10 +1,10 @@
 //! Records by the rules of the Protocol Buffers encoding guide, with what each is read as.
 
 use crate::tables::{bytes_of, put, put_if, tell, tell_debug, text_of};
-use hb_base::{Ip, List, Or, Text};
+use hb_base::{Cidr, Ip, List, Or, Text};
 use hb_records::{
-    AddressRecord, Authorization, Clause, RecordFault, Rule, StringMatch, Workload, read_address,
-    read_authorization,
+    AddressRecord, Authorization, Clause, GatewayAddress, Match, NetworkAddress, Port, RecordFault,
+    Rule, Service, ServicePorts, StringMatch, Waypoint, Workload, read_address, read_authorization,
 };
 use std::process::Abort;
 
@@ -33,6 +33,61 @@ fn tell_policies(told: &mut String, policies: &[Text]) {
     }
 }
 
+/// A network, a slash and an address.
+fn tell_network_address(told: &mut String, there: &NetworkAddress) {
+    put(told, "address ");
+    put(told, text_of(&there.network));
+    put(told, "/");
+    tell_debug(told, &there.address, " ");
+}
+
+fn tell_network_addresses(told: &mut String, addresses: &[NetworkAddress]) {
+    for address in addresses {
+        tell_network_address(told, address);
+    }
+}
+
+/// A namespace, a slash and a hostname.
+fn tell_hostname(told: &mut String, namespace: &Text, hostname: &Text) {
+    put(told, "host ");
+    put(told, text_of(namespace));
+    tell_text(told, "/", hostname);
+}
+
+/// To where a waypoint is, and its port.
+fn tell_gateway(told: &mut String, gateway: &GatewayAddress) {
+    put(told, "waypoint ");
+    match &gateway.to {
+        Waypoint::Hostname {
+            namespace,
+            hostname,
+        } => tell_hostname(told, namespace, hostname),
+        Waypoint::Address(there) => tell_network_address(told, there),
+    }
+    tell(told, &gateway.hbone_mtls_port, " ");
+}
+
+fn tell_waypoint(told: &mut String, waypoint: &Option<GatewayAddress>) {
+    if let Some(gateway) = waypoint {
+        tell_gateway(told, gateway);
+    }
+}
+
+/// The port of a service, a colon and the port of a workload.
+fn tell_ports(told: &mut String, ports: &[Port]) {
+    for port in ports {
+        tell(told, &port.service_port, ":");
+        tell(told, &port.target_port, " ");
+    }
+}
+
+fn tell_services(told: &mut String, services: &[ServicePorts]) {
+    for service in services {
+        tell_text(told, "serves=", &service.key);
+        tell_ports(told, service.ports.as_slice());
+    }
+}
+
 /// What of a workload isn't a default.
 fn tell_workload(told: &mut String, workload: &Workload) {
     tell_set(told, "name=", &workload.name);
@@ -45,8 +100,28 @@ fn tell_workload(told: &mut String, workload: &Workload) {
     tell_set(told, "hostname=", &workload.hostname);
     tell_addresses(told, workload.addresses.as_slice());
     tell_policies(told, workload.authorization_policies.as_slice());
+    tell_waypoint(told, &workload.waypoint);
+    tell_services(told, workload.services.as_slice());
     put_if(told, workload.hbone, "hbone ");
     put_if(told, !workload.healthy, "unhealthy ");
+}
+
+/// What of a service isn't a default.
+fn tell_service(told: &mut String, service: &Service) {
+    put(told, "service ");
+    tell_set(told, "name=", &service.name);
+    tell_set(told, "namespace=", &service.namespace);
+    tell_set(told, "hostname=", &service.hostname);
+    tell_network_addresses(told, service.addresses.as_slice());
+    tell_ports(told, service.ports.as_slice());
+    tell_waypoint(told, &service.waypoint);
+}
+
+fn tell_record(told: &mut String, record: &AddressRecord) {
+    match record {
+        AddressRecord::Workload(workload) => tell_workload(told, workload),
+        AddressRecord::Service(service) => tell_service(told, service),
+    }
 }
 
 fn tell_match(told: &mut String, name: &str, string_match: &StringMatch) {
@@ -65,12 +140,40 @@ fn tell_matches(told: &mut String, name: &str, matches: &List<StringMatch>) {
     }
 }
 
+fn tell_prefixes(told: &mut String, name: &str, prefixes: &List<Cidr>) {
+    for prefix in prefixes.as_slice() {
+        put(told, name);
+        tell_debug(told, &prefix.ip, "/");
+        tell(told, &prefix.length, " ");
+    }
+}
+
+fn tell_numbers(told: &mut String, name: &str, numbers: &List<u32>) {
+    for number in numbers.as_slice() {
+        put(told, name);
+        tell(told, number, " ");
+    }
+}
+
+/// The ten attributes of a match.
+fn tell_attributes(told: &mut String, one: &Match) {
+    put(told, "match ");
+    tell_matches(told, "namespace", &one.namespaces);
+    tell_matches(told, "not_namespace", &one.not_namespaces);
+    tell_matches(told, "principal", &one.principals);
+    tell_matches(told, "not_principal", &one.not_principals);
+    tell_prefixes(told, "source ", &one.source_ips);
+    tell_prefixes(told, "not_source ", &one.not_source_ips);
+    tell_prefixes(told, "destination ", &one.destination_ips);
+    tell_prefixes(told, "not_destination ", &one.not_destination_ips);
+    tell_numbers(told, "port ", &one.destination_ports);
+    tell_numbers(told, "not_port ", &one.not_destination_ports);
+}
+
 fn tell_clause(told: &mut String, clause: &Clause) {
     put(told, "clause ");
     for one in clause.matches.as_slice() {
-        put(told, "match ");
-        tell_matches(told, "principal", &one.principals);
-        tell_matches(told, "not", &one.not_principals);
+        tell_attributes(told, one);
     }
 }
 
@@ -101,7 +204,7 @@ fn tell_fault(told: &mut String, why: Or<RecordFault>) {
 /// What an address record is read as.
 pub fn tell_address(rt: &(impl Abort + AllocGlobal), told: &mut String, words: &str) {
     match read_address(rt.alloc(), &bytes_of(rt, words)) {
-        Ok(AddressRecord::Workload(workload)) => tell_workload(told, &workload),
+        Ok(record) => tell_record(told, &record),
         Err(why) => tell_fault(told, why),
     }
 }

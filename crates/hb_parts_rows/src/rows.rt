@@ -7,6 +7,7 @@ use crate::ips::{IPS_READ, IPS_REFUSED, PREFIXES};
 use crate::policies::POLICIES;
 use crate::records::{tell_address, tell_policy};
 use crate::repeated::{REPEATED_IN_ADDRESSES, REPEATED_IN_POLICIES};
+use crate::spelled::{SPELLED_ADDRESSES, SPELLED_POLICIES};
 use crate::streams::{READERS, WHOLE_INPUTS, WRITERS, tell_reader, tell_whole_input, tell_writer};
 use crate::tables::assert_told;
 use crate::texts::{
@@ -64,6 +65,11 @@ fn assert_rows(rt: &(impl Abort + AllocGlobal), kind: &Kind, table: &str) {
     }
 }
 
+/// The same of a table of octets, which costs the check less than a text.
+fn assert_octets(rt: &(impl Abort + AllocGlobal), kind: &Kind, table: &[u8]) {
+    assert_rows(rt, kind, std::str::from_utf8(table).unwrap_or("no text"));
+}
+
 #[test]
 fn rows_tell_what_they_want(rt: HostRuntime) {
     assert_rows(&rt, &Kind::Message, MESSAGES);
@@ -71,6 +77,8 @@ fn rows_tell_what_they_want(rt: HostRuntime) {
     assert_rows(&rt, &Kind::Policy, POLICIES);
     assert_rows(&rt, &Kind::Address, REPEATED_IN_ADDRESSES);
     assert_rows(&rt, &Kind::Policy, REPEATED_IN_POLICIES);
+    assert_octets(&rt, &Kind::Address, SPELLED_ADDRESSES);
+    assert_octets(&rt, &Kind::Policy, SPELLED_POLICIES);
     assert_rows(&rt, &Kind::Ip, IPS_READ);
     assert_rows(&rt, &Kind::Ip, IPS_REFUSED);
     assert_rows(&rt, &Kind::Prefix, PREFIXES);
