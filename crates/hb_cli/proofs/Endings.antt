@@ -6,7 +6,6 @@ use Rattle.std.specs.Bool.{MatchBool}
 use Rattle.std.specs.Prelude.{◌⊎◌, IfSome, IfOk, IsOk, IsErr, IsTrue}
 use Rattle.std.specs.Result.{MatchResult}
 use Rattle.hb_base.specs.Count.{Rose, Counts, one_more}
-use Rattle.hb_cli.specs.declared.judge.Judged.{Judged}
 use Rattle.hb_cli.specs.declared.stop.Stop.{Stop}
 use Rattle.hb_cli.specs.declared.stop.Stop.TheVariants.{Words, NoMemory}
 use Rattle.hb_cli.specs.declared.words.WordsFault.{WordsFault}

@@ -2,5 +2,4 @@ mod Endings
 mod Framings
 mod Joined
 mod Outcomes
-mod Policies
 mod Taken

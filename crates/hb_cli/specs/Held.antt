@@ -4,7 +4,7 @@ use Rattle.std.specs.Result.{result_unwrap_or}
 use Rattle.std.specs.Str.{bytes_eq}
 use Rattle.hb_wire.specs.Message.{and_then}
 use Rattle.hb_records.specs.declared.fault.RecordFault.{RecordFault}
-use Rattle.hb_records.specs.Workload.{address_of}
+use Rattle.hb_records.specs.Address.{address_of}
 use Rattle.hb_records.specs.Authorization.{authorization_of}
 use Rattle.hb_cli.specs.declared.held.Entry.{Entry}
 use Rattle.hb_cli.specs.declared.held.Record.{Record}

@@ -1,5 +1,5 @@
 -- Is a peer admitted at a target by the resources held?
-use Rattle.std.specs.Prelude.{ℕ, Bool, false, not, ◌==◌, ◌&&◌, if◌then◌else◌, List, [], ◌∷◌, length, filter, Option, Some, None, option_and_then}
+use Rattle.std.specs.Prelude.{ℕ, Bool, false, ◌==◌, ◌&&◌, if◌then◌else◌, List, [], ◌∷◌, length, filter, Option, Some, None, option_and_then}
 use Rattle.std.specs.Option.{option_map_or}
 use Rattle.std.specs.List.{list_any, filter_map}
 use Rattle.std.specs.Cmp.Lexicographic.{slice_cmp}
@@ -16,23 +16,20 @@ use Rattle.hb_cli.specs.declared.held.Entry.{Entry}
 use Rattle.hb_cli.specs.declared.held.Record.{Record}
 use Rattle.hb_cli.specs.declared.held.Record.TheVariants as records
 use Rattle.hb_cli.specs.declared.judge.Judged.{Judged}
-use Rattle.hb_cli.specs.declared.judge.Wanted.{Wanted}
-use Rattle.hb_cli.specs.declared.judge.Wanted.TheVariants.{Denies, IsAllow, Allows}
 use Rattle.hb_cli.specs.declared.judge.Judged.TheVariants.{Admitted, Unknown, Denied}
-use Rattle.hb_cli.specs.Policy.{principal, fires, is_deny, is_for, admitted_by}
+use Rattle.hb_policy.specs.Connection.{Connection}
+use Rattle.hb_policy.specs.Policy.{admitted_by}
+use Rattle.hb_cli.specs.Policy.{is_for}
 
 -- the workload of an address record, and the policy of a policy's
 abbrev pub workload_of : Record → Option Workload
 workload_of (records.Address (addresses.Workload w)) = Some w
+workload_of (records.Address (addresses.Service s)) = None
 workload_of (records.Policy p) = None
 
 abbrev pub policy_of : Record → Option Authorization
 policy_of (records.Address r) = None
 policy_of (records.Policy p) = Some p
-
--- an entry is a policy that passes a test
-abbrev pub has_policy : (Authorization → Bool) → Entry → Bool
-has_policy test e = option_map_or test (policy_of e.content) false
 
 abbrev pub ip_eq : Ip → Ip → Bool
 ip_eq (ips.V4 a) (ips.V4 b) = a == b
@@ -70,16 +67,11 @@ known held node ip = option_and_then (λ w. if bytes_eq w.node node then Some w 
 abbrev pub policies : List Entry → Workload → List Authorization
 policies held w = filter (is_for w) (filter_map (λ e. policy_of e.content) held)
 
--- what is asked of a policy: that it denies the principal, that it is one that allows, that it allows the principal
-abbrev pub passes : Wanted → Option (List ℕ) → Authorization → Bool
-passes Denies principal a = is_deny a.action && fires principal a
-passes IsAllow principal a = not (is_deny a.action)
-passes Allows principal a = not (is_deny a.action) && fires principal a
-
-abbrev pub judged_at : List Entry → Option Workload → Peer → Judged
-judged_at held None peer = Unknown
-judged_at held (Some w) peer = if admitted_by (principal peer) (policies held w) then Admitted else Denied
+-- the workload's policies admit a connection; no connection is admitted where no workload is known
+abbrev pub judged_at : List Entry → Option Workload → Connection → Judged
+judged_at held None c = Unknown
+judged_at held (Some w) c = if admitted_by c (policies held w) then Admitted else Denied
 
 -- Whether a peer is admitted at a target: the target's workload is known, and its policies admit the peer.
 abbrev pub judged : List Entry → List ℕ → Peer → Target → Judged
-judged held node peer target = judged_at held (known held node target.ip) peer
+judged held node peer target = judged_at held (known held node target.ip) (record { peer = peer; target = target })

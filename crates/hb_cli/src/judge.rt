@@ -1,18 +1,20 @@
 //! Is a peer admitted at a target by the resources held?
 
-ghost use Rattle.std.specs.Prelude.{◌≡◌, ◌&&◌, ◌||◌, not, filter};
+ghost use Rattle.std.specs.Prelude.{◌≡◌, ◌∷◌, [], filter};
 ghost use Rattle.std.specs.Cmp.Lexicographic.{slice_cmp};
 ghost use Rattle.std.specs.List.{list_any};
 ghost use Rattle.std.specs.Option.{option_copied};
 ghost use Rattle.std.specs.Ordering.{nat_cmp, is_lt};
-ghost use Rattle.hb_cli.specs.Policy.{principal, fires, is_for, is_deny, admitted_by};
-ghost use Rattle.hb_cli.specs.Judge.{workload_of, policy_of, has_policy, ip_eq, has_address, is_at, lesser, least};
-ghost use Rattle.hb_cli.specs.Judge.{known, passes, policies, judged};
+ghost use Rattle.hb_policy.specs.Policy.{admitted_by};
+ghost use Rattle.hb_policy.specs.Tally.{Adds};
+ghost use Rattle.hb_cli.specs.Judge.{workload_of, policy_of, ip_eq, has_address, is_at, lesser, least};
+ghost use Rattle.hb_cli.specs.Judge.{known, policies, judged};
 
 use crate::held::{Entry, Held, Record};
-use crate::policy::{fires, is_for};
+use crate::policy::is_for;
 use hb_base::{Ip, List, Peer, Target};
-use hb_records::{Action, AddressRecord, Authorization, Workload};
+use hb_policy::Tally;
+use hb_records::{AddressRecord, Authorization, Workload};
 use std::cmp::Ordering;
 
 /// What the resources held say of a peer at a target: admitted; the target is no workload of this node; or
@@ -29,7 +31,7 @@ fn workload_of(content: &Record) -> Option<&Workload>
 {
     match content {
         Record::Address(AddressRecord::Workload(workload)) => Some(workload),
-        Record::Policy(_) => None,
+        Record::Address(AddressRecord::Service(_)) | Record::Policy(_) => None,
     }
 }
 
@@ -132,70 +134,26 @@ fn policy_of(content: &Record) -> Option<&Authorization>
     }
 }
 
-fn is_deny(policy: &Authorization) -> bool
-    ensures { result ≡ is_deny policy.now.action }
+/// Counts the policy of an entry, where it is one for the workload.
+fn count(tally: &mut Tally, entry: &Entry, workload: &Workload, peer: &Peer, target: Target)
+    ensures { Adds (policies (entry.now ∷ []) workload.now) (record { peer = peer.now; target = target }) tally.old tally.new }
 {
-    match policy.action {
-        Action::Deny => true,
-        Action::Allow => false,
+    if let Some(policy) = policy_of(&entry.content) {
+        if is_for(workload, policy) {
+            tally.count(policy, peer, target);
+        }
     }
 }
 
-/// What is asked of a policy that is for the workload.
-#[derive(Clone, Copy)]
-enum Wanted {
-    /// It denies the peer.
-    Denies,
-    /// It allows peers.
-    IsAllow,
-    /// It allows the peer.
-    Allows,
-}
-
-fn passes(wanted: Wanted, peer: &Peer, policy: &Authorization) -> bool
-    ensures { result ≡ passes wanted (principal peer.now) policy.now }
+/// The policies for the workload admit the connection.
+fn is_admitted(entries: &[Entry], workload: &Workload, peer: &Peer, target: Target) -> bool
+    ensures { result ≡ admitted_by (record { peer = peer.now; target = target }) (policies entries.now workload.now) }
 {
-    match wanted {
-        Wanted::Denies => is_deny(policy) && fires(policy, peer),
-        Wanted::IsAllow => !is_deny(policy),
-        Wanted::Allows => !is_deny(policy) && fires(policy, peer),
+    let mut tally = Tally::new();
+    for entry in entries {
+        count(&mut tally, entry, workload, peer, target);
     }
-}
-
-/// The entry is such a policy.
-fn is_wanted(wanted: Wanted, peer: &Peer, workload: &Workload, entry: &Entry) -> bool
-    ensures { result ≡ has_policy (λ a. is_for workload.now a && passes wanted (principal peer.now) a) entry.now }
-{
-    match policy_of(&entry.content) {
-        Some(policy) => is_for(workload, policy) && passes(wanted, peer, policy),
-        None => false,
-    }
-}
-
-fn any_wanted(entries: &[Entry], wanted: Wanted, peer: &Peer, workload: &Workload) -> bool
-    ensures { result ≡ list_any (has_policy (λ a. is_for workload.now a && passes wanted (principal peer.now) a)) entries.now }
-{
-    entries
-        .iter()
-        .any(|entry| is_wanted(wanted, peer, workload, entry))
-}
-
-/// No DENY fires, and there is no ALLOW or one fires.
-fn tally(denied: bool, has_allow: bool, allowed: bool) -> bool
-    ensures { result ≡ (not denied && (not has_allow || allowed)) }
-{
-    !denied && (!has_allow || allowed)
-}
-
-/// The policies for the workload admit the peer.
-fn is_admitted(entries: &[Entry], peer: &Peer, workload: &Workload) -> bool
-    ensures { result ≡ admitted_by (principal peer.now) (policies entries.now workload.now) }
-{
-    tally(
-        any_wanted(entries, Wanted::Denies, peer, workload),
-        any_wanted(entries, Wanted::IsAllow, peer, workload),
-        any_wanted(entries, Wanted::Allows, peer, workload),
-    )
+    tally.admits()
 }
 
 /// Judges a peer at a target, by the resources held at this node.
@@ -205,7 +163,7 @@ pub fn judge(held: &Held, node: &[u8], peer: &Peer, target: Target) -> Judged
     match known(held, node, target.ip) {
         None => Judged::Unknown,
         Some(workload) => {
-            if is_admitted(held.entries(), peer, workload) {
+            if is_admitted(held.entries(), workload, peer, target) {
                 Judged::Admitted
             } else {
                 Judged::Denied

@@ -1,14 +1,18 @@
-use Rattle.hb_cli.specs.Policy.{principal, is_for}
-use Rattle.hb_cli.specs.Judge.{passes, policy_of}
-use Rattle.hb_cli.specs.declared.held.Entry.{Entry}
-use Rattle.hb_cli.specs.declared.judge.Wanted.{Wanted}
-use Rattle.hb_cli.specs.declared.judge.Wanted.TheVariants.{Denies, IsAllow, Allows}
-use Rattle.hb_cli.proofs.Policies.{any_chosen}
+use Rattle.std.proofs.Common.{◌≡◌, ◌++◌, ◌∷◌, [], ◌+◌, take, arith}
+use Rattle.std.proofs.lemmas.Grind.{common_steps}
+use Rattle.std.proofs.lemmas.List.Elements.{filter_map-append, filter-append}
+use Rattle.hb_cli.specs.Judge.{policies}
 use Rattle.hb_cli.proofs.judge.is_admitted.Goals as goal
 
-pub returns : goal.returns
-returns c =
-    let chosen = λ (w : Wanted). any_chosen (passes w (principal c.args.peer.now)) (is_for c.args.workload.now)
-    (λ (e : Entry). policy_of e.content) c.args.entries.now in
-    rw (chosen Denies, chosen IsAllow, chosen Allows, ← c.any_wanted.ensures, ← c.any_wanted-2.ensures, ← c.any_wanted-3.ensures)
-    c.tally.ensures
+pub loop-entry-init : goal.loop-entry-init
+loop-entry-init c = c.new-tally.ensures (record { peer = c.args.peer.now; target = c.args.target })
+
+pub loop-entry-preserved : goal.loop-entry-preserved
+loop-entry-preserved c =
+    let i = c.loop-entry.entry-index in
+    let entries = c.args.entries.now in
+    let w = c.args.workload.now in
+    let e = c.entry-item.result in
+    let more : policies (take (i + 1) entries) w ≡ policies (take i entries) w ++ policies (e ∷ []) w =
+    grind (arith, common_steps, filter_map-append, filter-append) in
+    rw more (c.count.ensures (policies (take i entries) w) c.loop-entry.invariant)
