@@ -19,6 +19,11 @@ def at(name, *ips, node="n1", more=b""):
     return (name, workload("w", "a", ips, node, [], more))
 
 
+def service_at(name, ip):
+    """A resource of this name: a service with this address."""
+    return (name, span(2, text(1, "s") + text(2, "a") + span(4, span(2, bytes(ip)))))
+
+
 def denies(name):
     return (name, policy("a", name, "GLOBAL", "DENY", [[]]))
 
@@ -81,6 +86,15 @@ ROWS = [
     ("another name doesn't replace", "AS_NONE", [U1, addresses(at("u11", EIGHT))], "allow"),
     ("a policy of the same name doesn't replace", "AS_NONE", [U1, policies(("u1", policy("", "u1", "GLOBAL", "ALLOW", [[]])))], "allow"),
     ("a DENY is replaced by one that never fires", "AS_NONE", [U1, policies(denies("d")), policies(("d", policy("a", "d", "GLOBAL", "DENY", [])))], "allow"),
+    # Services, which are no workloads.
+    ("a service with the address", "AS_NONE", [addresses(service_at("s1", SEVEN))], "unknown"),
+    ("a workload behind a service with the address", "AS_NONE", [addresses(service_at("s1", SEVEN), at("u1", SEVEN))], "allow"),
+    ("a service of the name replaces the workload", "AS_NONE", [U1, addresses(service_at("u1", SEVEN))], "unknown"),
+    ("a workload of the name replaces the service", "AS_NONE", [addresses(service_at("u1", SEVEN)), U1], "allow"),
+    ("a record of a workload and then a service", "AS_NONE", [addresses(("u1", at("u1", SEVEN)[1] + span(2, "")))], "unknown"),
+    ("a record of a service and then a workload", "AS_NONE", [addresses(("u1", span(2, "") + at("u1", SEVEN)[1]))], "allow"),
+    ("a workload, a service and a workload in one record aren't merged", "AS_NONE", [addresses(("u1", at("u1", SEVEN)[1] + span(2, "") + span(1, text(9, "n1"))))], "unknown"),
+    ("a workload with a waypoint and services", "AS_NONE", [addresses(at("u1", SEVEN, more=span(8, span(1, text(1, "a") + text(2, "w"))) + span(22, text(1, "a/s") + span(2, span(1, number(1, 80))))))], "allow"),
     # What is passed over.
     ("a response without resources", "AS_NONE", [U1, addresses(), policies()], "allow"),
     ("unknown fields of a response, of a resource and of its record", "AS_NONE", [grpc(span(7, "x") + number(3, 5) + resource(ADDRESS, "u1", workload("w", "a", [SEVEN], "n1", [], span(99, "x")), span(4, "x") + number(5, 1)) + span(4, ADDRESS))], "allow"),

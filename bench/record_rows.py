@@ -140,6 +140,14 @@ def workload():
     )
 
 
+def workload_of_waypoints():
+    return span(1, message("Workload", some(3, lambda: gateway(8), least=2)))
+
+
+def workload_of_services():
+    return span(1, message("Workload", texts("Workload", "name"), some(6, entry, least=3)))
+
+
 def service():
     return span(
         2,
@@ -178,6 +186,10 @@ def match():
     matches = [string_match(number) for number in (1, 2, 3, 4) for _ in range(CHOICE.choice([0, 0, 1, 2]))]
     prefixes = [prefix(number) for number in (5, 6, 7, 8) for _ in range(CHOICE.choice([0, 0, 0, 1, 2]))]
     return span(2, message("Match", matches, prefixes, perhaps(0.5, ports(9)), perhaps(0.4, ports(10))))
+
+
+def policy_of_ports():
+    return message("Authorization", [span(5, span(2, span(2, message("Match", ports(9), ports(10)))))])
 
 
 def clause():
@@ -300,7 +312,7 @@ def rows(title, count, kind, told, make, is_whole=False):
         record = make()
         if is_whole:
             record = getattr(RECORDS, kind).FromString(record).SerializeToString(deterministic=True)
-        if 20 < len(record) < 150:
+        if 20 < len(record) < 160:
             found[record] = row(kind, told, record)
     return [f"# {title}", *found.values()]
 
@@ -310,15 +322,15 @@ def joined(*kinds):
 
 
 def any_order():
-    return b"".join(some(4, lambda: CHOICE.choice([workload(), service()]), least=2))
+    return b"".join(some(5, lambda: CHOICE.choice([workload(), service()]), least=3))
 
 
-def wrapped(line):
+def wrapped(line, room=136):
     """A row over several lines of less than 140 characters: each but the last ends with a blank, and none begins with one."""
-    if len(line) < 139:
+    if len(line) <= room:
         return line
-    at = max(i for i in range(1, 134) if line[i - 1] == " " and line[i] != " ")
-    return line[:at] + "\\\n    " + wrapped(line[at:])
+    at = max(i for i in range(1, room) if line[i - 1] == " " and line[i] != " ")
+    return line[:at] + "\\\n    " + wrapped(line[at:], 132)
 
 
 def table(name, what, lines):
@@ -329,15 +341,18 @@ def main():
     addresses = [
         ("A workload, as the other implementation writes it.", 4, workload, True),
         ("A service, as it writes it.", 3, service, True),
-        ("A workload, its fields in any order.", 14, workload, False),
-        ("A service, its fields in any order.", 9, service, False),
+        ("A workload, its fields in any order.", 9, workload, False),
+        ("Waypoints of a workload, which merge.", 6, workload_of_waypoints, False),
+        ("Services of a workload, some with equal keys.", 6, workload_of_services, False),
+        ("A service, its fields in any order.", 7, service, False),
         ("Two occurrences of a workload.", 4, joined(workload, workload), False),
         ("Two occurrences of a service.", 3, joined(service, service), False),
-        ("A workload and a service that alternate.", 5, any_order, False),
+        ("Workloads and services of one record in any order.", 6, any_order, False),
     ]
     lines = [line for title, count, make, whole in addresses for line in rows(title, count, "Address", record_told, make, whole)]
     policies = rows("A policy, as the other implementation writes it.", 4, "Authorization", policy_told, policy, True)
-    policies += rows("A policy, its fields in any order.", 22, "Authorization", policy_told, policy)
+    policies += rows("A policy, its fields in any order.", 20, "Authorization", policy_told, policy)
+    policies += rows("Ports of a policy, packed and one a field.", 5, "Authorization", policy_told, policy_of_ports)
     print("//! Records, printed by bench/record_rows.py: Google's Protocol Buffers wrote their pieces and read each of them.")
     print()
     print(table("SPELLED_ADDRESSES", "Address records, and what each is read as.", lines))

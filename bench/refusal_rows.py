@@ -29,6 +29,10 @@ def of_workload(*fields):
     return record(span(1, b"".join(fields)))
 
 
+def of_service(*fields):
+    return record(span(2, b"".join(fields)))
+
+
 def of_policy(bytes_):
     """A message with one policy of these bytes."""
     return policies(("p", bytes_))
@@ -133,9 +137,6 @@ ROWS = [
     ("an address in a response of policies", [of_response(span(2, NAME + RECORD), span(4, AUTHORIZATION))], 1, NOT_YET),
     # Records that can't be read.
     ("an address record of no bytes", [record(b"")], 1, NOT_YET),
-    ("an address record that is a service", [record(span(2, ""))], 1, NOT_YET),
-    ("a service and then a workload", [record(span(2, "") + GOOD)], 1, NOT_YET),
-    ("a workload and then a service", [record(GOOD + span(2, ""))], 1, NOT_YET),
     ("an address of no octets", [of_workload(span(3, ""))], 1, NOT_YET),
     ("an address of three octets", [of_workload(span(3, b"\x0a\0\0"))], 1, NOT_YET),
     ("an address of five octets", [of_workload(span(3, b"\x0a\0\0\7\0"))], 1, NOT_YET),
@@ -150,19 +151,24 @@ ROWS = [
     ("a wire fault in a policy", [of_policy(b"\x0a")], 1, NOT_YET),
     ("a string match of no member", [of_match(span(3, ""))], 1, NOT_YET),
     ("bad UTF-8 in a string match", [of_match(span(4, exact(b"\xff")))], 1, NOT_YET),
-    # Fields that aren't read yet.
-    ("a waypoint", [of_workload(span(8, ""))], 1, NOT_YET),
-    ("services of a workload", [of_workload(span(22, ""))], 1, NOT_YET),
-    ("namespaces", [of_match(span(1, exact("a")))], 1, NOT_YET),
-    ("not_namespaces", [of_match(span(2, exact("a")))], 1, NOT_YET),
-    ("source_ips", [of_match(span(5, ""))], 1, NOT_YET),
-    ("not_source_ips", [of_match(span(6, ""))], 1, NOT_YET),
-    ("destination_ips", [of_match(span(7, ""))], 1, NOT_YET),
-    ("not_destination_ips", [of_match(span(8, ""))], 1, NOT_YET),
-    ("destination_ports", [of_match(number(9, 80))], 1, NOT_YET),
-    ("destination_ports, packed", [of_match(span(9, b"\x50"))], 1, NOT_YET),
-    ("not_destination_ports", [of_match(number(10, 80))], 1, NOT_YET),
-    ("not_destination_ports, packed", [of_match(span(10, b"\x50"))], 1, NOT_YET),
+    ("a waypoint to nowhere", [of_workload(span(8, number(3, 15008)))], 1, NOT_YET),
+    ("a waypoint by an address without octets", [of_workload(span(8, span(2, span(1, "x"))))], 1, NOT_YET),
+    ("bad UTF-8 in a key of a workload's services", [of_workload(span(22, span(1, NOT_UTF8)))], 1, NOT_YET),
+    ("a wire fault in a port of a workload's services", [of_workload(span(22, span(2, span(1, b"\x08"))))], 1, NOT_YET),
+    ("a service's address without octets", [of_service(span(4, span(1, "x")))], 1, NOT_YET),
+    ("a service's address of three octets", [of_service(span(4, span(2, b"\x0a\0\0")))], 1, NOT_YET),
+    ("a service's waypoint to nowhere", [of_service(span(7, ""))], 1, NOT_YET),
+    ("bad UTF-8 in a service's hostname", [of_service(span(3, NOT_UTF8))], 1, NOT_YET),
+    ("a bad service, and then a workload", [record(span(2, span(7, "")) + GOOD)], 1, NOT_YET),
+    ("a namespace of no member", [of_match(span(1, ""))], 1, NOT_YET),
+    ("a not_namespace of no member", [of_match(span(2, ""))], 1, NOT_YET),
+    ("a prefix without an address in source_ips", [of_match(span(5, number(2, 8)))], 1, NOT_YET),
+    ("a prefix without an address in not_source_ips", [of_match(span(6, ""))], 1, NOT_YET),
+    ("a prefix of an IPv4 address with 33 bits in destination_ips", [of_match(span(7, span(1, bytes(SEVEN)) + number(2, 33)))], 1, NOT_YET),
+    ("a prefix of an IPv6 address with 129 bits in not_destination_ips", [of_match(span(8, span(1, bytes(16)) + number(2, 129)))], 1, NOT_YET),
+    ("a prefix of five octets", [of_match(span(5, span(1, bytes(5))))], 1, NOT_YET),
+    ("destination_ports, packed, that end inside a number", [of_match(span(9, b"\x50\x80"))], 1, NOT_YET),
+    ("a number of not_destination_ports that is too long", [of_match(span(10, b"\xff" * 10))], 1, NOT_YET),
     # Places and order.
     ("a bad resource behind a good one", [addresses(("u1", GOOD), ("u2", b""))], 1, NOT_YET),
     ("a bad resource between two good ones", [addresses(("u1", GOOD), ("u2", b""), ("u3", GOOD))], 1, NOT_YET),
