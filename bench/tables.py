@@ -16,6 +16,7 @@ TOP = pathlib.Path(__file__).resolve().parent.parent
 WHOLE = [
     ("answer_rows.py", "hb_rows", "answers.rt"),
     ("policy_rows.py", "hb_rows", "policies.rt"),
+    ("attribute_rows.py", "hb_rows", "attributes.rt"),
     ("refusal_rows.py", "hb_rows", "refusals.rt"),
     ("hpack_vectors.py", "hb_http2_rows", "hpack_vectors.rt"),
     ("streams.py", "hb_streams_rows", "rows.rt"),

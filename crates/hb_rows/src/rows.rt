@@ -2,6 +2,7 @@
 //! ones are.
 
 use crate::answers::ANSWERS;
+use crate::attributes::{ATTRIBUTES, CONNECTIONS};
 use crate::faults::{FAULTS, assert_fault};
 use crate::policies::POLICIES;
 use crate::refusals::REFUSALS;
@@ -16,6 +17,8 @@ enum Kind {
     Answers,
     /// The input, and the answers for two peers with an identity and for one without.
     Policies,
+    /// The input, and a sign for the answer to each connection.
+    Attributes,
     /// The input, and the line that tells why it is refused.
     Refusals,
     /// Words, reads and writes that fail, and what a run ends with.
@@ -32,6 +35,7 @@ fn assert_row(rt: &(impl Abort + AllocGlobal), kind: &Kind, row: &str) {
     match kind {
         Kind::Answers => assert_answer(rt, &mut fields),
         Kind::Policies => assert_policy(rt, &mut fields),
+        Kind::Attributes => assert_attributes(rt, &mut fields),
         Kind::Refusals => assert_refusal(rt, &mut fields),
         Kind::Faults => assert_fault(rt, &mut fields),
     }
@@ -48,6 +52,27 @@ fn assert_policy(rt: &(impl Abort + AllocGlobal), fields: &mut Split<'_, char>) 
     assert_answers(rt, AS_C, input, field(rt, fields));
     assert_answers(rt, AS_D, input, field(rt, fields));
     assert_answers(rt, AS_NONE, input, field(rt, fields));
+}
+
+/// The answer that a sign stands for.
+fn answer_of(sign: u8) -> Option<&'static str> {
+    match sign {
+        b'+' => Some("allow"),
+        b'-' => Some("deny"),
+        _ => None,
+    }
+}
+
+fn assert_attributes(rt: &(impl Abort + AllocGlobal), fields: &mut Split<'_, char>) {
+    let input = field(rt, fields);
+    let signs = field(rt, fields);
+    assert!(rt;
+        signs.len() == CONNECTIONS.len(),
+        "{signs} is not a sign for each connection"
+    );
+    for (words, sign) in CONNECTIONS.iter().zip(signs.as_bytes()) {
+        assert_answers(rt, words, input, answer_of(*sign).expect(rt, signs));
+    }
 }
 
 fn assert_refusal(rt: &(impl Abort + AllocGlobal), fields: &mut Split<'_, char>) {
@@ -69,6 +94,7 @@ fn runs_end_as_their_rows_want(rt: HostRuntime) {
     assert_rows(&rt, &Kind::Answers, ANSWERS);
     assert_rows(&rt, &Kind::Answers, ACCEPTED);
     assert_rows(&rt, &Kind::Policies, POLICIES);
+    assert_rows(&rt, &Kind::Attributes, ATTRIBUTES);
     assert_rows(&rt, &Kind::Refusals, REFUSALS);
     assert_rows(&rt, &Kind::Faults, FAULTS);
 }

@@ -1,7 +1,8 @@
 //! One run over memory, compared whole. A test ends where memory is wanting.
 
 use crate::messages::{
-    ADDRESS_TYPE, ALLOW_NONE, ALLOW_ONE, DENY_ALL, POLICY_TYPE, REMOVED_AND_ADDED, WORKLOAD,
+    ADDRESS_TYPE, ALLOW_NONE, ALLOW_ONE, DENY_ALL, DUAL_STACK, POLICY_TYPE, REMOVED_AND_ADDED,
+    WORKLOAD,
 };
 use hb_base::{MemSink, MemSource};
 use hb_cli::run;
@@ -66,6 +67,7 @@ fn digits_of(name: &str) -> &str {
         "ADDRESS_TYPE" => ADDRESS_TYPE,
         "POLICY_TYPE" => POLICY_TYPE,
         "WORKLOAD" => WORKLOAD,
+        "DUAL_STACK" => DUAL_STACK,
         "ALLOW_ONE" => ALLOW_ONE,
         "ALLOW_NONE" => ALLOW_NONE,
         "DENY_ALL" => DENY_ALL,
