@@ -55,18 +55,21 @@ module _ {T : Type 0} where
   set_value_nowhere : (test : ℕ → Bool) (es : List (ℕ × T)) (w : T) → is_some (lookup test es) ≡ false → set_value test es w ≡ es
   set_value_nowhere test [] w none = refl
   set_value_nowhere test (e ∷ es) w none =
-      elim (test e.0) as (λ b. is_some (cond b (Some e.1) (lookup test es)) ≡ false → cond b ((e.0, w) ∷ es) (e ∷ set_value test es w) ≡ e ∷ es) [
+      elim (test e.0) as (λ b. is_some (cond b (Some e.1) (lookup test es)) ≡ false
+      → cond b ((e.0, w) ∷ es) (e ∷ set_value test es w) ≡ e ∷ es) [
         | true ↦ λ there. let never : true ≡ false = there in cc
         | false ↦ λ gone. ap (λ (rest : List (ℕ × T)). e ∷ rest) (set_value_nowhere test es w gone)
       ] none
 
   -- entries of which one has a new value under one key make maps of which one was written there
   pub made_written : (es fs : List (ℕ × T)) (key : ℕ) (w : T) → fs ≡ set_value (is_at (nat_cmp key)) es w
-      → (IsSome (lookup (is_at (nat_cmp key)) es) → (q : ℕ) → lookup (is_at (nat_cmp q)) fs ≡ cond (is_at (nat_cmp key) q) (Some w) (lookup (is_at (nat_cmp q)) es))
+      → (IsSome (lookup (is_at (nat_cmp key)) es) → (q : ℕ) → lookup (is_at (nat_cmp q)) fs
+      ≡ cond (is_at (nat_cmp key) q) (Some w) (lookup (is_at (nat_cmp q)) es))
       → from_entries {R = nat_cmp} fs ≡ written (from_entries es) key w
   made_written es fs key w set changed = by (is_some (lookup (is_at (nat_cmp key)) es)) refl
     where
       by : (b : Bool) → is_some (lookup (is_at (nat_cmp key)) es) ≡ b → from_entries {R = nat_cmp} fs ≡ written (from_entries es) key w
-      by true there = made_with es fs key w (changed there) ∙ sym (ap (λ b. cond b (insert (from_entries es) key w) (from_entries es)) (ap is_some (get_made es key) ∙ there))
+      by true there = made_with es fs key w (changed there)
+          ∙ sym (ap (λ b. cond b (insert (from_entries es) key w) (from_entries es)) (ap is_some (get_made es key) ∙ there))
       by false none = ap (from_entries {R = nat_cmp}) (set ∙ set_value_nowhere (is_at (nat_cmp key)) es w none)
           ∙ sym (ap (λ b. cond b (insert (from_entries es) key w) (from_entries es)) (ap is_some (get_made es key) ∙ none))

@@ -47,7 +47,8 @@ module _ {T : Type 0} (m : FinMap nat_cmp T) (k : ℕ) where
 
   counted : (n : ℕ) → len m ≡ n → IsSome (get m k) → 0 < n
   counted zero none there =
-      let gone : false ≡ true = sym (ap (λ (n : FinMap nat_cmp T). is_some (get n k)) (empty_of_len m none) ∙ ap is_some (get-empty nat_cmp k)) ∙ there in
+      let gone : false ≡ true = sym (ap (λ (n : FinMap nat_cmp T). is_some (get n k)) (empty_of_len m none)
+      ∙ ap is_some (get-empty nat_cmp k)) ∙ there in
       cc gone
   counted (suc n) more there = omega arith
 
@@ -61,4 +62,19 @@ module _ {T : Type 0} (m : FinMap nat_cmp T) (k : ℕ) where
   len_without_none none = len-remove nat_cmp_total m k ∙ ap (λ o. cond (is_some o) (len m - 1) (len m)) none
 
 -- the above and that the empty map has nothing: for the lists of tactics
-pub ruleset kept_laws = (get-empty, len-empty, put_here, put_elsewhere, removed_here, removed_elsewhere, written_here, written_elsewhere, written_where_none, len_with_new, len_with_old, len_written, len_without_one, len_without_none)
+pub ruleset kept_laws = (
+  get-empty,
+  len-empty,
+  put_here,
+  put_elsewhere,
+  removed_here,
+  removed_elsewhere,
+  written_here,
+  written_elsewhere,
+  written_where_none,
+  len_with_new,
+  len_with_old,
+  len_written,
+  len_without_one,
+  len_without_none,
+)

@@ -29,9 +29,14 @@ module _ {T : Type 0} (m : BTreeMap ℕ T) (map : FinMap nat_cmp T) (is : from_e
   found : (key : ℕ) → get map key ≡ tree.get nat_cmp m key
   found key = ap (λ n. get n key) (sym is) ∙ get_made m.entries key
 
-  pub first_of_range : (e : ℕ × T) (es : List (ℕ × T)) → IsRangeOf nat_cmp (Included from) Unbounded m (e ∷ es) → IsFirstFrom map from (Some e.0)
-  first_of_range e es range =
-      (le_from_not_gt from e.0 range.1.0.0, ap is_some (found e.0 ∙ range.1.1), λ key above below. none_of (get map key) (by key above below (is_some (get map key)) refl))
+  pub first_of_range : (e : ℕ × T) (es : List (ℕ × T)) → IsRangeOf nat_cmp (Included from) Unbounded m (e ∷ es)
+      → IsFirstFrom map from (Some e.0)
+  first_of_range e es range = (
+    le_from_not_gt from e.0 range.1.0.0,
+    ap is_some (found e.0 ∙ range.1.1),
+    λ key above below.
+        none_of (get map key) (by key above below (is_some (get map key)) refl),
+  )
     where
       by : (key : ℕ) → from ≤ key → key < e.0 → (b : Bool) → is_some (get map key) ≡ b → is_some (get map key) ≡ false
       by key above below true there =

@@ -23,18 +23,22 @@ returns-in_err-merge-in-Ok-Some g c =
     rw (p.1, p.2) (ends g.M.Message.merged g.M.Fault.MessageFault.wire c.loop-field.message c.loop-field.fields c.next_field.new.self
     (content c.in-Ok-Some.field) c.in_err-merge-in-Ok-Some.field-0.0 _
     (rw c.in-Ok-Some.field-0-is at c.in-Ok-Some.ensures.answer) c.in_err-merge-in-Ok-Some.ensures
-    (c.loop-field.invariant ∙ ap (λ (u : Unread). fold_message g.M.Message.merged g.M.Fault.MessageFault.wire c.args.message.now (message_of u))
+    (c.loop-field.invariant
+    ∙ ap (λ (u : Unread). fold_message g.M.Message.merged g.M.Fault.MessageFault.wire c.args.message.now (message_of u))
     c.within-fields.ensures))
 
 pub returns-in-Ok-None : goal.returns-in-Ok-None
 returns-in-Ok-None g c =
-    sym (c.loop-field.invariant ∙ ap (λ (u : Unread). fold_message g.M.Message.merged g.M.Fault.MessageFault.wire c.args.message.now (message_of u))
+    sym (c.loop-field.invariant
+    ∙ ap (λ (u : Unread). fold_message g.M.Message.merged g.M.Fault.MessageFault.wire c.args.message.now (message_of u))
     c.within-fields.ensures) ∙ fold-end g.M.Message.merged g.M.Fault.MessageFault.wire c.loop-field.message c.loop-field.fields
     (sym (rw c.in-Ok-None.field-0-is at c.in-Ok-None.ensures.answer))
 
 pub returns-in-Err : goal.returns-in-Err
 returns-in-Err g c =
-    sym (c.loop-field.invariant ∙ ap (λ (u : Unread). fold_message g.M.Message.merged g.M.Fault.MessageFault.wire c.args.message.now (message_of u))
-    c.within-fields.ensures) ∙ fold-fault g.M.Message.merged g.M.Fault.MessageFault.wire c.loop-field.message c.loop-field.fields c.in-Err.fault
+    sym (c.loop-field.invariant
+    ∙ ap (λ (u : Unread). fold_message g.M.Message.merged g.M.Fault.MessageFault.wire c.args.message.now (message_of u))
+    c.within-fields.ensures)
+    ∙ fold-fault g.M.Message.merged g.M.Fault.MessageFault.wire c.loop-field.message c.loop-field.fields c.in-Err.fault
     (sym c.in-Err.ensures.answer)
     ∙ ap Err (sym c.of_wire.ensures)

@@ -25,7 +25,8 @@ returns-in_err-take_number-in-Ok-Some c =
 
 pub returns-in-Ok-None : goal.returns-in-Ok-None
 returns-in-Ok-None c =
-    sym (c.loop-n.invariant ∙ ap (λ (u : Unread). packed_in c.args.field c.args.numbers.now u) c.within-packed.ensures) ∙ packed_end c.args.field c.loop-n.numbers c.loop-n.packed
+    sym (c.loop-n.invariant ∙ ap (λ (u : Unread). packed_in c.args.field c.args.numbers.now u) c.within-packed.ensures)
+    ∙ packed_end c.args.field c.loop-n.numbers c.loop-n.packed
     (sym (rw c.in-Ok-None.field-0-is at c.in-Ok-None.ensures.answer))
 
 pub returns-in_err-check_room-in-Err : goal.returns-in_err-check_room-in-Err

@@ -5,7 +5,8 @@ use Rattle.hb_map.specs.Keyed.{written}
 use Rattle.hb_map.proofs.Entries.{get_made, made_written}
 use Rattle.hb_map.proofs.by_id.ById.at.Goals as goal
 
-shown : {T : Type 0} (r : Option (MutBor T)) (held : Option T) → option_copied_mut r ≡ held → IfSome r (λ item. held ≡ Some item.now) × IfNone r (held ≡ None)
+shown : {T : Type 0} (r : Option (MutBor T)) (held : Option T) → option_copied_mut r ≡ held
+    → IfSome r (λ item. held ≡ Some item.now) × IfNone r (held ≡ None)
 shown (Some item) held is = (sym is, tt)
 shown None held is = (tt, sym is)
 
@@ -16,7 +17,8 @@ returns g c =
       (
         refl,
         (λ w. let h = c.get_mut.follows.holds w in
-            made_written c.self.inside.items.entries _ c.args.id w h.0 (λ some. (h.3 some).0) ∙ ap (λ m. written m c.args.id w) c.self.view_is),
+            made_written c.self.inside.items.entries _ c.args.id w h.0 (λ some. (h.3 some).0)
+            ∙ ap (λ m. written m c.args.id w) c.self.view_is),
         ap (λ m. map.from_entries m.entries) c.get_mut.follows.holds-at-none ∙ c.self.view_is,
       ),
       record { after = tt; value = held.0; none = held.1 },
