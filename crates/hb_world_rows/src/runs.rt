@@ -71,3 +71,30 @@ fn a_room_is_used_up_and_a_door_accepts_what_waits(rt: HostRuntime) -> Result<()
     assert!(rt; matches!(world.write(1, b"fg"), Wrote::Balked));
     Ok(())
 }
+
+#[test]
+fn more_than_1024_items_come_in_two_answers(rt: HostRuntime) -> Result<(), Fail> {
+    let mut lines = List::new(rt.alloc());
+    for link in 1..=1_500u64 {
+        lines.push(Line::Open(link))?;
+        lines.push(Line::End(link))?;
+    }
+    lines.push(Line::Wake)?;
+    lines.push(Line::NoDial(1))?;
+    lines.push(Line::Tick)?;
+    let mut world = ScriptWorld::over(rt.alloc(), lines)?;
+    let mut ready = Ready::new(rt.alloc())?;
+    for _ in 0..1_500 {
+        let _ = world.dial(DISCOVERY, Why::Discovery);
+    }
+    assert!(rt; matches!(world.wait(&mut ready), Waited::Woke));
+    assert!(rt; ready.items().len() == 1024);
+    assert!(rt; matches!(world.wait(&mut ready), Waited::Woke));
+    assert!(rt; ready.items().len() == 476);
+    assert!(rt; matches!(world.wait(&mut ready), Waited::Tick));
+    assert!(rt; ready.items().is_empty());
+    assert!(rt; matches!(world.dial(DISCOVERY, Why::Discovery), Born::Failed));
+    assert!(rt; matches!(world.dial(DISCOVERY, Why::Discovery), Born::New(1501)));
+    assert!(rt; matches!(world.wait(&mut ready), Waited::Stop));
+    Ok(())
+}
