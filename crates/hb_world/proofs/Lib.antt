@@ -4,3 +4,4 @@ pub mod LifeLemmas
 pub mod StandingLemmas
 pub mod DoorLemmas
 pub mod WaitLemmas
+pub mod AllowedLemmas

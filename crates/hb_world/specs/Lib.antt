@@ -11,3 +11,4 @@ pub mod DoorState
 pub mod LinkStates
 pub mod ScriptAnswers
 pub mod WorldState
+pub mod Allowed

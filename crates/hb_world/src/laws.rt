@@ -1,5 +1,6 @@
-//! Laws of a trace, which no code calls: each is proved, and its body is empty.
+//! Laws of traces, which no code calls: each is proved, and its body is empty.
 
+ghost use Rattle.hb_world.specs.Allowed.{AllowsNothing};
 ghost use Rattle.hb_world.specs.TraceLaws.{RecvGrows, SentGrows, BirthsGrow, LivesGrows};
 
 /// What a trace says once one more entry stands at its end.
@@ -8,4 +9,9 @@ pub fn a_trace_grows()
     ensures sent { SentGrows }
     ensures births { BirthsGrow }
     ensures lives { LivesGrows }
+{}
+
+/// Every script allows the trace in which nothing happened. Each call of its world keeps what it allows.
+pub fn a_script_allows_nothing_done()
+    ensures { AllowsNothing }
 {}

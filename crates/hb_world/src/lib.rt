@@ -17,7 +17,7 @@ mod turn;
 mod world;
 
 pub use entry::{Entry, ReadyItem, Way, Woken};
-pub use laws::a_trace_grows;
+pub use laws::{a_script_allows_nothing_done, a_trace_grows};
 pub use line::Line;
 pub use ready::Ready;
 pub use script_world::ScriptWorld;

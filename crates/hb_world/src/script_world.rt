@@ -1,6 +1,7 @@
 //! The world of a script.
 
 ghost use Rattle.std.specs.Prelude.{◌≡◌, ◌⊎◌, ◌<◌, ◌≤◌, ℕ, [], ◌∷◌, ◌++◌, length, take, IsTrue, not, ◌&&◌, OnOk, OnErr, IfOk, Some, None};
+ghost use Rattle.hb_world.specs.Allowed.{Allowed};
 ghost use Rattle.hb_world.specs.Calls.{listen_entries, accept_entries, dial_entries, finish_entries, read_entries, write_entries, wait_entries, shut_entries, close_entries};
 ghost use Rattle.hb_world.specs.ScriptAnswers.{listen_answer, accept_answer, dial_answer, finish_answer, read_answer, write_answer, wait_answer, waited_for, told_by_wait, begins_with_fault, GivesFront, LeavesReady};
 ghost use Rattle.hb_world.specs.WorldState.{ScriptState, passed_by, GivesNothing, TakesNothing, counted};
@@ -284,6 +285,7 @@ impl ScriptWorld {
     fn write_link(&mut self, link: u64, from: &[u8]) -> Wrote
         requires { 0 < length from.now }
         ensures answer { (result ≡ Wrote.NoMemory) ⊎ (result ≡ write_answer self.old.lines self.old.trace link (length from.now)) }
+        ensures within { WritesWithin from.now result }
         ensures after { self.new ≡ record self.old { trace = self.old.trace ++ write_entries link from.now result } }
     {
         match self.write_said(link, from.len()) {
@@ -483,6 +485,7 @@ impl World for ScriptWorld {
     fn listen(&mut self, at: Target, door: Door) -> Listened
         ensures answer { (result ≡ Listened.NoMemory) ⊎ (result ≡ listen_answer self.old.lines self.old.trace) }
         ensures after { self.new ≡ record self.old { trace = self.old.trace ++ listen_entries door at result } }
+        ensures allowed { Allowed self.old.lines self.old.trace → Allowed self.new.lines self.new.trace }
     {
         self.listen_at(at, door)
     }
@@ -494,6 +497,7 @@ impl World for ScriptWorld {
           birth_faults = counted self.old.birth_faults (birth_failed result);
         } }
         ensures later { self.old.birth_faults ≤ self.new.birth_faults }
+        ensures allowed { Allowed self.old.lines self.old.trace → Allowed self.new.lines self.new.trace }
     {
         self.accept_at(door)
     }
@@ -505,6 +509,7 @@ impl World for ScriptWorld {
           birth_faults = counted self.old.birth_faults (birth_failed result);
         } }
         ensures later { self.old.birth_faults ≤ self.new.birth_faults }
+        ensures allowed { Allowed self.old.lines self.old.trace → Allowed self.new.lines self.new.trace }
     {
         self.dial_to(to, why)
     }
@@ -512,6 +517,7 @@ impl World for ScriptWorld {
     fn finish(&mut self, link: u64) -> Finished
         ensures answer { (result ≡ Finished.NoMemory) ⊎ (result ≡ finish_answer self.old.lines self.old.trace link) }
         ensures after { self.new ≡ record self.old { trace = self.old.trace ++ finish_entries link result } }
+        ensures allowed { Allowed self.old.lines self.old.trace → Allowed self.new.lines self.new.trace }
     {
         self.finish_link(link)
     }
@@ -522,6 +528,7 @@ impl World for ScriptWorld {
         ensures front { GivesFront self.old.lines self.old.trace link into.new result }
         ensures within { ReadsWithin into.new result }
         ensures after { self.new ≡ record self.old { trace = self.old.trace ++ read_entries link into.new result } }
+        ensures allowed { Allowed self.old.lines self.old.trace → Allowed self.new.lines self.new.trace }
     {
         self.read_link(link, into)
     }
@@ -531,18 +538,21 @@ impl World for ScriptWorld {
         ensures answer { (result ≡ Wrote.NoMemory) ⊎ (result ≡ write_answer self.old.lines self.old.trace link (length from.now)) }
         ensures within { WritesWithin from.now result }
         ensures after { self.new ≡ record self.old { trace = self.old.trace ++ write_entries link from.now result } }
+        ensures allowed { Allowed self.old.lines self.old.trace → Allowed self.new.lines self.new.trace }
     {
         self.write_link(link, from)
     }
 
     fn shut(&mut self, link: u64)
-        ensures { self.new ≡ record self.old { trace = self.old.trace ++ shut_entries link self.old.trace } }
+        ensures after { self.new ≡ record self.old { trace = self.old.trace ++ shut_entries link self.old.trace } }
+        ensures allowed { Allowed self.old.lines self.old.trace → Allowed self.new.lines self.new.trace }
     {
         self.shut_link(link);
     }
 
     fn close(&mut self, link: u64, cause: Cause)
-        ensures { self.new ≡ record self.old { trace = self.old.trace ++ close_entries link cause self.old.trace } }
+        ensures after { self.new ≡ record self.old { trace = self.old.trace ++ close_entries link cause self.old.trace } }
+        ensures allowed { Allowed self.old.lines self.old.trace → Allowed self.new.lines self.new.trace }
     {
         self.close_link(link, cause);
     }
@@ -551,6 +561,7 @@ impl World for ScriptWorld {
         ensures answer { (result ≡ Waited.NoMemory) ⊎ (result ≡ wait_answer self.old.lines self.old.trace) }
         ensures items { LeavesReady ready.old ready.new (told_by_wait self.old.lines self.old.trace) result }
         ensures after { self.new ≡ record self.old { trace = self.old.trace ++ wait_entries ready.new result } }
+        ensures allowed { Allowed self.old.lines self.old.trace → Allowed self.new.lines self.new.trace }
     {
         self.wait_for(ready)
     }
