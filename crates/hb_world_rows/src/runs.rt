@@ -33,6 +33,9 @@ write 1 xy=failed, entries=9
 a broken link fails in place of its end; \
 {'bytes':'61','link':1}|{'end':1}|{'wake':true}|{'break':1}|{'wake':true}; \
 dial=1, wait=woke 1, read 1 9=a, read 1 9=end, wait=woke 1, read 1 9=failed, read 1 9=failed
+a piece, a break and an end in one wait; \
+{'end':1}|{'break':1}|{'bytes':'61','link':1}|{'wake':true}; \
+dial=1, wait=woke 1, read 1 9=a, read 1 9=failed, read 1 9=failed, trace=dialled 1 10.0.0.7:8080|came 1 61|broke 1|broke 1|
 a break of one link changes nothing for another; \
 {'break':1}|{'bytes':'61','link':2}|{'wake':true}; \
 dial=1, dial=2, wait=woke 1 2, read 1 9=failed, read 2 9=a, read 2 9=balked, write 2 xyz=3
