@@ -24,7 +24,8 @@ whole_err bytes (Ok None) x e = absurd (cc)
 whole_err bytes (Ok (Some size)) x e = absurd (sized_first (nat_lt (length bytes) (5 + size)) size x e)
 whole_err bytes (Err y) x e = e
 
-pub told_long : (empty zero short long : Bool) (flag size n : ℕ) → telling empty zero short long flag size ≡ Err (TooLong n) → short ≡ false
+pub told_long : (empty zero short long : Bool) (flag size n : ℕ) → telling empty zero short long flag size ≡ Err (TooLong n)
+    → short ≡ false
 told_long true zero short long flag size n e = absurd (cc)
 told_long false false short long flag size n e = absurd (cc)
 told_long false true true long flag size n e = absurd (cc)

@@ -7,41 +7,49 @@ pub returns-in-Ok-None-clause-told : goal.returns-in-Ok-None-clause-told
 returns-in-Ok-None-clause-told c =
     let h = c.self.inside.header in
     let p = c.args.piece.now in
-    let held : IsHeld c.self.inside.limit h c.self.inside.body.items = record { short = c.fill-rest.ensures.short; body = c.self.invariant } in
+    let b = c.self.inside.body.items in
+    let held : IsHeld c.self.inside.limit h b =
+    record { short = c.fill-rest.ensures.short; body = c.self.invariant } in
     let at_front = ap (announced c.self.inside.limit) (c.as_slice.ensures.value ∙ c.fill-rest.ensures.after) in
     let found : announced c.self.inside.limit (take 5 (h ++ p)) ≡ Ok None = cc in
-    rw (← c.self.view_is) (none_told c.self.inside.limit h c.self.inside.body.items p held found)
+    rw (← c.self.view_is) (none_told c.self.inside.limit h b p held found)
 
 pub returns-in-Ok-None-clause-after : goal.returns-in-Ok-None-clause-after
 returns-in-Ok-None-clause-after c =
     let h = c.self.inside.header in
     let p = c.args.piece.now in
-    let held : IsHeld c.self.inside.limit h c.self.inside.body.items = record { short = c.fill-rest.ensures.short; body = c.self.invariant } in
+    let b = c.self.inside.body.items in
+    let held : IsHeld c.self.inside.limit h b =
+    record { short = c.fill-rest.ensures.short; body = c.self.invariant } in
     let at_front = ap (announced c.self.inside.limit) (c.as_slice.ensures.value ∙ c.fill-rest.ensures.after) in
     let found : announced c.self.inside.limit (take 5 (h ++ p)) ≡ Ok None = cc in
-    rw (← c.self.view_is) (ap (λ (xs : List ℕ). framing c.self.inside.limit (xs ++ c.self.inside.body.items)) c.fill-rest.ensures.after
-    ∙ none_held c.self.inside.limit h c.self.inside.body.items p held found)
+    rw (← c.self.view_is) (ap (λ (xs : List ℕ). framing c.self.inside.limit (xs ++ b)) c.fill-rest.ensures.after
+    ∙ none_held c.self.inside.limit h b p held found)
 
 pub returns-in-Err-clause-told : goal.returns-in-Err-clause-told
 returns-in-Err-clause-told c =
     let h = c.self.inside.header in
     let p = c.args.piece.now in
-    let held : IsHeld c.self.inside.limit h c.self.inside.body.items = record { short = c.fill-rest.ensures.short; body = c.self.invariant } in
+    let b = c.self.inside.body.items in
+    let held : IsHeld c.self.inside.limit h b =
+    record { short = c.fill-rest.ensures.short; body = c.self.invariant } in
     let at_front = ap (announced c.self.inside.limit) (c.as_slice.ensures.value ∙ c.fill-rest.ensures.after) in
     let found : announced c.self.inside.limit (take 5 (h ++ p)) ≡ Err c.in-Err.fault = cc in
-    rw (← c.self.view_is) (fault_told c.self.inside.limit h c.self.inside.body.items p c.in-Err.fault held found)
+    rw (← c.self.view_is) (fault_told c.self.inside.limit h b p c.in-Err.fault held found)
 
 pub returns-in-Err-clause-after : goal.returns-in-Err-clause-after
 returns-in-Err-clause-after c =
     let h = c.self.inside.header in
     let p = c.args.piece.now in
-    let held : IsHeld c.self.inside.limit h c.self.inside.body.items = record { short = c.fill-rest.ensures.short; body = c.self.invariant } in
+    let b = c.self.inside.body.items in
+    let held : IsHeld c.self.inside.limit h b =
+    record { short = c.fill-rest.ensures.short; body = c.self.invariant } in
     let at_front = ap (announced c.self.inside.limit) (c.as_slice.ensures.value ∙ c.fill-rest.ensures.after) in
     let found : announced c.self.inside.limit (take 5 (h ++ p)) ≡ Err c.in-Err.fault = cc in
     let left = c.truncate.ensures ∙ ap (λ (n : ℕ). take n c.fill-rest.new.self) c.told_by.ensures in
     let kept = left ∙ ap (take _) c.fill-rest.ensures.after in
-    rw (← c.self.view_is) (ap (λ (xs : List ℕ). framing c.self.inside.limit (xs ++ c.self.inside.body.items)) kept
-    ∙ fault_held c.self.inside.limit h c.self.inside.body.items p c.in-Err.fault held found)
+    rw (← c.self.view_is) (ap (λ (xs : List ℕ). framing c.self.inside.limit (xs ++ b)) kept
+    ∙ fault_held c.self.inside.limit h b p c.in-Err.fault held found)
 
 pub returns-in_default-clause-after : goal.returns-in_default-clause-after
 returns-in_default-clause-after c =
@@ -51,7 +59,8 @@ returns-in_default-clause-after c =
     let left = c.truncate-in_default.ensures ∙ ap (λ (n : ℕ). take n c.fill-rest.new.self) known
     ∙ ap (take (length h)) c.fill-rest.ensures.after in
     rw (← c.self.view_is) (ap (λ (xs : List ℕ). framing c.self.inside.limit (xs ++ c.fill.new.body.items)) left
-    ∙ memory_held c.self.inside.limit h c.self.inside.body.items c.fill.new.body.items p c.fill-rest.ensures.short c.in_default.ensures.err)
+    ∙ memory_held c.self.inside.limit h c.self.inside.body.items c.fill.new.body.items p c.fill-rest.ensures.short
+    c.in_default.ensures.err)
 
 pub returns-then-len-size-clause-told : goal.returns-then-len-size-clause-told
 returns-then-len-size-clause-told c =
@@ -59,7 +68,8 @@ returns-then-len-size-clause-told c =
     let b = c.self.inside.body.items in
     let p = c.args.piece.now in
     let size = c.in-Ok-Some.length in
-    let held : IsHeld c.self.inside.limit h b = record { short = c.fill-rest.ensures.short; body = c.self.invariant } in
+    let held : IsHeld c.self.inside.limit h b =
+    record { short = c.fill-rest.ensures.short; body = c.self.invariant } in
     let at_front = ap (announced c.self.inside.limit) (c.as_slice.ensures.value ∙ c.fill-rest.ensures.after) in
     let found : announced c.self.inside.limit (take 5 (h ++ p)) ≡ Ok (Some size) = cc in
     let grown : c.fill.new.body.items ≡ take size (b ++ drop (5 - length h) p) =
@@ -75,7 +85,8 @@ returns-then-len-size-clause-after c =
     let b = c.self.inside.body.items in
     let p = c.args.piece.now in
     let size = c.in-Ok-Some.length in
-    let held : IsHeld c.self.inside.limit h b = record { short = c.fill-rest.ensures.short; body = c.self.invariant } in
+    let held : IsHeld c.self.inside.limit h b =
+    record { short = c.fill-rest.ensures.short; body = c.self.invariant } in
     let at_front = ap (announced c.self.inside.limit) (c.as_slice.ensures.value ∙ c.fill-rest.ensures.after) in
     let found : announced c.self.inside.limit (take 5 (h ++ p)) ≡ Ok (Some size) = cc in
     let grown : c.fill.new.body.items ≡ take size (b ++ drop (5 - length h) p) =
@@ -90,7 +101,8 @@ returns-clause-told c =
     let b = c.self.inside.body.items in
     let p = c.args.piece.now in
     let size = c.in-Ok-Some.length in
-    let held : IsHeld c.self.inside.limit h b = record { short = c.fill-rest.ensures.short; body = c.self.invariant } in
+    let held : IsHeld c.self.inside.limit h b =
+    record { short = c.fill-rest.ensures.short; body = c.self.invariant } in
     let at_front = ap (announced c.self.inside.limit) (c.as_slice.ensures.value ∙ c.fill-rest.ensures.after) in
     let found : announced c.self.inside.limit (take 5 (h ++ p)) ≡ Ok (Some size) = cc in
     let grown : c.fill.new.body.items ≡ take size (b ++ drop (5 - length h) p) =
@@ -108,7 +120,8 @@ returns-clause-after c =
     let b = c.self.inside.body.items in
     let p = c.args.piece.now in
     let size = c.in-Ok-Some.length in
-    let held : IsHeld c.self.inside.limit h b = record { short = c.fill-rest.ensures.short; body = c.self.invariant } in
+    let held : IsHeld c.self.inside.limit h b =
+    record { short = c.fill-rest.ensures.short; body = c.self.invariant } in
     let at_front = ap (announced c.self.inside.limit) (c.as_slice.ensures.value ∙ c.fill-rest.ensures.after) in
     let found : announced c.self.inside.limit (take 5 (h ++ p)) ≡ Ok (Some size) = cc in
     let grown : c.fill.new.body.items ≡ take size (b ++ drop (5 - length h) p) =
