@@ -1,0 +1,11 @@
+//! Tests of gRPC messages: what each piece is answered, one stream in many pieces, and what is written.
+#![tactic(auto)]
+
+#[cfg(test)]
+mod answers;
+#[cfg(test)]
+mod hex;
+#[cfg(test)]
+mod stream;
+#[cfg(test)]
+mod texts;
