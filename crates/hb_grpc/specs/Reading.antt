@@ -62,12 +62,6 @@ answer_of held piece (Err fault) = Err fault
 abbrev pub answer : Framing → List ℕ → Result Fed GrpcFault
 answer f piece = answer_of f.held piece (first_of f.limit (f.held ++ piece))
 
--- it is this answer, want of memory aside
-abbrev pub Answers : Result Fed (Or GrpcFault) → Result Fed GrpcFault → Type 0
-Answers (Ok given) wanted = wanted ≡ Ok given
-Answers (Err (or.Fault fault)) wanted = wanted ≡ Err fault
-Answers (Err or.NoMemory) wanted = Unit {0}
-
 -- after want of memory nothing has changed
 abbrev pub Leaves : Result Fed (Or GrpcFault) → Framing → Framing → Framing → Type 0
 Leaves (Ok given) old next new = new ≡ next

@@ -37,7 +37,8 @@ impl Model for Framer {
 }
 
 impl Framer {
-    ghost use Rattle.hb_grpc.specs.Reading.{Framing, answer, fed, Answers, Leaves};
+    ghost use Rattle.hb_base.specs.Outcome.{Answers};
+    ghost use Rattle.hb_grpc.specs.Reading.{Framing, answer, fed, Leaves};
 
     /// A Framer of messages of at most `limit` bytes.
     pub fn new(alloc: Global, limit: u32) -> Framer
