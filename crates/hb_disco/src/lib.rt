@@ -1,0 +1,10 @@
+//! Delta discovery (Envoy's xDS protocol, "Incremental xDS"): responses are read, and requests written.
+#![tactic(auto)]
+
+mod kind;
+mod request;
+mod response;
+
+pub use kind::Kind;
+pub use request::{NameVersion, put_answer, put_first};
+pub use response::{Resource, Response, ResponseFault, read_response};
