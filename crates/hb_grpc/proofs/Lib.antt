@@ -4,3 +4,4 @@ pub mod Runs
 pub mod Spelled
 pub mod Steps
 pub mod Stays
+pub mod Whole

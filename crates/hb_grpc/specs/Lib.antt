@@ -1,3 +1,4 @@
+pub mod Framed
 pub mod Message
 pub mod Pieces
 pub mod Reading

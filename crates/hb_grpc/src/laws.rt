@@ -1,11 +1,17 @@
 //! Laws about the definitions that the contracts cite. Each is the contract of a function that does nothing.
 
+ghost use Rattle.hb_grpc.specs.Framed.{FramedAreAll};
 ghost use Rattle.hb_grpc.specs.Message.{OneReading};
 ghost use Rattle.hb_grpc.specs.Pieces.{AnyPieces, FaultStays, OneFault, SentIsRead};
 
 /// Bytes have at most one list of messages and one rest.
 pub fn one_reading()
     ensures { OneReading }
+{}
+
+/// The messages that bytes are taken apart into are those of the bytes.
+pub fn framed_are_all()
+    ensures { FramedAreAll }
 {}
 
 /// However a stream is cut into pieces, the messages given are those of all bytes taken, and what is held is their
