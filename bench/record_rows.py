@@ -1,7 +1,8 @@
 #!/usr/bin/python3
-"""Prints crates/hb_parts_rows/src/spelled.rt: records in hexadecimal digits, and what Google's Protocol Buffers read them as.
+"""Prints crates/hb_records_rows/src/spelled.rt: records in hexadecimal digits, what Google's Protocol Buffers write them as again, and
+what they read them as.
 
-    python3 bench/record_rows.py > crates/hb_parts_rows/src/spelled.rt && (cd crates/hb_parts_rows && rt fmt)
+    python3 bench/record_rows.py > crates/hb_records_rows/src/spelled.rt && (cd crates/hb_records_rows && rt fmt)
 
 Needs Debian's python3-protobuf and protobuf-compiler: run it with /usr/bin/python3. `protoc` makes its types from records.proto. A
 record is joined of pieces in random order, each written by that implementation (numbers that are packed or longer than 32 bits, unknown
@@ -15,6 +16,11 @@ What a record is read as is told from the fields that it gives. The two readings
 - bytes of `presence` that are a message.
 
 A known field under another wire type is unknown to both, and of a number both keep the low 32 bits.
+
+The two spellings agree too, once what Nastulbe doesn't keep is taken from a record: unknown fields, which that implementation writes
+again; a tunnel protocol other than HBONE, and a status other than 0 and 1; the first octets of a mapped address, and of a mapped prefix
+of 96 bits or more; what stands in `presence`. That implementation is asked for its deterministic spelling, and not of a record with an
+empty key of a map: it writes that key, which Nastulbe leaves out like any empty string.
 """
 
 import importlib
@@ -206,7 +212,7 @@ def policy():
     return message("Authorization", texts("Authorization", "name", "namespace"), numbers, some(2, rule, least=1))
 
 
-# What a record is told as, in the words of crates/hb_parts_rows/src/records.rt.
+# What a record is told as, in the words of crates/hb_records_rows/src/records.rt.
 
 
 def address_told(own):
@@ -298,11 +304,58 @@ def policy_told(it):
     return set_told(it, "name", "namespace") + f"{reach} {['Allow', 'Deny'][it.action]} " + "".join(map(rule_told, it.rules))
 
 
+# What a record is written as.
+
+
+def is_mapped(own):
+    return len(own) == 16 and own[:12] == bytes(10) + b"\xff\xff"
+
+
+def keep_prefix(it):
+    if is_mapped(it.address) and it.length >= 96:
+        it.address, it.length = it.address[12:], it.length - 96
+
+
+def keep_network(it):
+    it.address = it.address[12:] if is_mapped(it.address) else it.address
+
+
+def keep_workload(it):
+    it.addresses[:] = [own[12:] if is_mapped(own) else own for own in it.addresses]
+    it.tunnel_protocol = int(it.tunnel_protocol == 1)
+    it.status = int(it.status != 0)
+
+
+KEPT = {"Prefix": keep_prefix, "NetworkAddress": keep_network, "Workload": keep_workload}
+
+
+def keep(it):
+    """Takes from a message, and from those in it, what isn't kept."""
+    KEPT.get(it.DESCRIPTOR.name, lambda it: None)(it)
+    for field, value in it.ListFields():
+        if field.message_type and not field.message_type.GetOptions().map_entry:
+            for each in value if field.label == field.LABEL_REPEATED else [value]:
+                keep(each)
+
+
+def has_empty_key(it):
+    return it.DESCRIPTOR.name == "Address" and "" in it.workload.services
+
+
+def written(it):
+    kept = type(it).FromString(it.SerializeToString())
+    kept.DiscardUnknownFields()
+    keep(kept)
+    return kept.SerializeToString(deterministic=True)
+
+
 # The tables.
 
 
 def row(kind, told, record):
-    return f"{record.hex(' ')}; {told(getattr(RECORDS, kind).FromString(record)).strip()}"
+    it = getattr(RECORDS, kind).FromString(record)
+    columns = [record.hex(" ")] + [written(it).hex(" ")] * (not has_empty_key(it)) + [told(it).strip()]
+    return "; ".join(columns)
 
 
 def rows(title, count, kind, told, make, is_whole=False):
@@ -353,10 +406,10 @@ def main():
     policies = rows("A policy, as the other implementation writes it.", 4, "Authorization", policy_told, policy, True)
     policies += rows("A policy, its fields in any order.", 20, "Authorization", policy_told, policy)
     policies += rows("Ports of a policy, packed and one a field.", 5, "Authorization", policy_told, policy_of_ports)
-    print("//! Records, printed by bench/record_rows.py: Google's Protocol Buffers wrote their pieces and read each of them.")
+    print("//! Records, printed by bench/record_rows.py: Google's Protocol Buffers wrote their pieces, read each, and wrote it again.")
     print()
-    print(table("SPELLED_ADDRESSES", "Address records, and what each is read as.", lines))
-    print(table("SPELLED_POLICIES", "Policies, and what each is read as.", policies), end="")
+    print(table("SPELLED_ADDRESSES", "Address records, what each is written as, and what it is read as.", lines))
+    print(table("SPELLED_POLICIES", "Policies, what each is written as, and what it is read as.", policies), end="")
 
 
 if __name__ == "__main__":

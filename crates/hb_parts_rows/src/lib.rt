@@ -1,23 +1,13 @@
-//! Tests of the small types, the fields and the records: tables of values from outside the repository, and
-//! each public call of hb_base, hb_wire and hb_records once on its happy path.
+//! Tests of the small types and the fields: tables of values from outside the repository, and each public call of
+//! hb_base and hb_wire once on its happy path.
 #![tactic(auto)]
 
-#[cfg(test)]
-mod addresses;
 #[cfg(test)]
 mod fields;
 #[cfg(test)]
 mod ips;
 #[cfg(test)]
-mod policies;
-#[cfg(test)]
-mod records;
-#[cfg(test)]
-mod repeated;
-#[cfg(test)]
 mod rows;
-#[cfg(test)]
-mod spelled;
 #[cfg(test)]
 mod streams;
 #[cfg(test)]

@@ -1,13 +1,8 @@
 //! Tables that are one text: a row a line, its fields with semicolons between, the last of which is what the row wants to be
 //! told of it. A line that begins with `#` says what the next ones are.
 
-use crate::addresses::ADDRESSES;
 use crate::fields::{MESSAGES, tell_message};
 use crate::ips::{IPS_READ, IPS_REFUSED, PREFIXES};
-use crate::policies::POLICIES;
-use crate::records::{tell_address, tell_policy};
-use crate::repeated::{REPEATED_IN_ADDRESSES, REPEATED_IN_POLICIES};
-use crate::spelled::{SPELLED_ADDRESSES, SPELLED_POLICIES};
 use crate::streams::{READERS, WHOLE_INPUTS, WRITERS, tell_reader, tell_whole_input, tell_writer};
 use crate::tables::assert_told;
 use crate::texts::{
@@ -19,8 +14,6 @@ use std::process::Abort;
 /// What the rows of a table are.
 enum Kind {
     Message,
-    Address,
-    Policy,
     Ip,
     Prefix,
     Octets,
@@ -35,8 +28,6 @@ enum Kind {
 fn tell_row(rt: &(impl Abort + AllocGlobal), told: &mut String, kind: &Kind, row: &str) {
     match kind {
         Kind::Message => tell_message(rt, told, row),
-        Kind::Address => tell_address(rt, told, row),
-        Kind::Policy => tell_policy(rt, told, row),
         Kind::Ip => tell_ip_text(rt, told, row),
         Kind::Prefix => tell_prefixes(rt, told, row),
         Kind::Octets => tell_octets(rt, told, row),
@@ -65,20 +56,9 @@ fn assert_rows(rt: &(impl Abort + AllocGlobal), kind: &Kind, table: &str) {
     }
 }
 
-/// The same of a table of octets, which costs the check less than a text.
-fn assert_octets(rt: &(impl Abort + AllocGlobal), kind: &Kind, table: &[u8]) {
-    assert_rows(rt, kind, std::str::from_utf8(table).unwrap_or("no text"));
-}
-
 #[test]
 fn rows_tell_what_they_want(rt: HostRuntime) {
     assert_rows(&rt, &Kind::Message, MESSAGES);
-    assert_rows(&rt, &Kind::Address, ADDRESSES);
-    assert_rows(&rt, &Kind::Policy, POLICIES);
-    assert_rows(&rt, &Kind::Address, REPEATED_IN_ADDRESSES);
-    assert_rows(&rt, &Kind::Policy, REPEATED_IN_POLICIES);
-    assert_octets(&rt, &Kind::Address, SPELLED_ADDRESSES);
-    assert_octets(&rt, &Kind::Policy, SPELLED_POLICIES);
     assert_rows(&rt, &Kind::Ip, IPS_READ);
     assert_rows(&rt, &Kind::Ip, IPS_REFUSED);
     assert_rows(&rt, &Kind::Prefix, PREFIXES);

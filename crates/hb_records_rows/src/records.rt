@@ -1,11 +1,13 @@
-//! Records by the rules of the Protocol Buffers encoding guide, with what each is read as.
+//! What a record is read as, told in words, and what it is written as again.
 
-use crate::tables::{bytes_of, put, put_if, tell, tell_debug, text_of};
+use crate::tables::{put, put_if, tell, tell_debug, text_of};
 use hb_base::{Cidr, Ip, List, Or, Text};
+use hb_canonical::{put_address, put_authorization};
 use hb_records::{
     AddressRecord, Authorization, Clause, GatewayAddress, Match, NetworkAddress, Port, RecordFault,
     Rule, Service, ServicePorts, StringMatch, Waypoint, Workload, read_address, read_authorization,
 };
+use std::alloc::Global;
 use std::process::Abort;
 
 /// A text behind its name, and a blank.
@@ -202,17 +204,53 @@ fn tell_fault(told: &mut String, why: Or<RecordFault>) {
 }
 
 /// What an address record is read as.
-pub fn tell_address(rt: &(impl Abort + AllocGlobal), told: &mut String, words: &str) {
-    match read_address(rt.alloc(), &bytes_of(rt, words)) {
+fn tell_address(alloc: Global, told: &mut String, bytes: &[u8]) {
+    match read_address(alloc, bytes) {
         Ok(record) => tell_record(told, &record),
         Err(why) => tell_fault(told, why),
     }
 }
 
 /// What a policy is read as.
-pub fn tell_policy(rt: &(impl Abort + AllocGlobal), told: &mut String, words: &str) {
-    match read_authorization(rt.alloc(), &bytes_of(rt, words)) {
+fn tell_policy(alloc: Global, told: &mut String, bytes: &[u8]) {
+    match read_authorization(alloc, bytes) {
         Ok(policy) => tell_authorization(told, &policy),
         Err(why) => tell_fault(told, why),
+    }
+}
+
+/// What the records of a table are.
+pub enum Kind {
+    Address,
+    Policy,
+}
+
+/// What a record is read as.
+pub fn tell_read(rt: &impl AllocGlobal, told: &mut String, kind: &Kind, bytes: &[u8]) {
+    match kind {
+        Kind::Address => tell_address(rt.alloc(), told, bytes),
+        Kind::Policy => tell_policy(rt.alloc(), told, bytes),
+    }
+}
+
+fn written_address(rt: &(impl Abort + AllocGlobal), bytes: &[u8]) -> Option<Vec<u8>> {
+    let record = read_address(rt.alloc(), bytes).ok()?;
+    let mut written = Vec::new(rt.alloc());
+    put_address(rt.alloc(), &record, &mut written).expect(rt, "memory");
+    Some(written)
+}
+
+fn written_policy(rt: &(impl Abort + AllocGlobal), bytes: &[u8]) -> Option<Vec<u8>> {
+    let policy = read_authorization(rt.alloc(), bytes).ok()?;
+    let mut written = Vec::new(rt.alloc());
+    put_authorization(rt.alloc(), &policy, &mut written).expect(rt, "memory");
+    Some(written)
+}
+
+/// What a record is written as again, if it is one.
+pub fn written(rt: &(impl Abort + AllocGlobal), kind: &Kind, bytes: &[u8]) -> Option<Vec<u8>> {
+    match kind {
+        Kind::Address => written_address(rt, bytes),
+        Kind::Policy => written_policy(rt, bytes),
     }
 }

@@ -1,0 +1,17 @@
+use Rattle.std.proofs.Common.{◌^◌, ◌<◌, length, ap, arith, length-append}
+use Rattle.hb_canonical.specs.Authorization.{canonical_authorization}
+use Rattle.hb_canonical.proofs.Kept.{also_ok}
+use Rattle.hb_canonical.proofs.PolicyMade.{policy_back}
+use Rattle.hb_canonical.proofs.authorization.put_authorization.Goals as goal
+
+pub returns-clause-reads_back : goal.returns-clause-reads_back
+returns-clause-reads_back c =
+    let a = c.args.a.now in
+    let own = canonical_authorization a in
+    let fits : length own < 2 ^ 64 = omega (
+      arith,
+      ap length c.as_slice.ensures.value,
+      ap length c.in_ok-put.ensures,
+      length-append c.new-own.result.items own,
+    ) in
+    also_ok c.extend_from_slice.result _ (λ bytes octets is. policy_back a bytes fits octets is)
