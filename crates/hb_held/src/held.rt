@@ -1,0 +1,209 @@
+//! The resources held.
+
+ghost use Rattle.std.specs.Prelude.{◌≡◌, ◌&&◌, OnErr, Ok};
+ghost use Rattle.hb_base.specs.Outcome.{Merges};
+ghost use Rattle.hb_held.specs.Held.{nothing_held, count, holds, fits, without, with_came};
+ghost use Rattle.hb_held.specs.Outcome.{refusing, with_read_address, with_read_policy, with_record, with_resource};
+
+use crate::by_name::ByName;
+use crate::outcome::RefusedWhy;
+use crate::versioned::Versioned;
+use hb_base::{Or, Text};
+use hb_disco::{Kind, Resource};
+use hb_records::{AddressRecord, Authorization, RecordFault, read_address, read_authorization};
+use std::alloc::Global;
+use std::marker::Model;
+
+/// The resources that a node of a network holds, by kind and name. Contracts see the node's network and name, a finite
+/// map for each kind, and whether a response of each kind was applied.
+#[derive(Drop)]
+pub struct Held {
+    pub(crate) network: Text,
+    pub(crate) node: Text,
+    pub(crate) addresses: ByName<Versioned<AddressRecord>>,
+    pub(crate) policies: ByName<Versioned<Authorization>>,
+    addresses_came: bool,
+    policies_came: bool,
+}
+
+impl Model for Held {
+    ghost use Rattle.hb_held.specs.Held.{Resources, resources_code};
+    ghost use Rattle.hb_held.specs.contracts.versioned.Versioned.{the_row as versioned_row};
+    ghost use Rattle.hb_records.specs.contracts.address.AddressRecord.{the_row as address_row};
+    ghost use Rattle.hb_records.specs.contracts.authorization.Authorization.{the_row as policy_row};
+
+    ghost Value = { Resources };
+
+    ghost coded = { resources_code (versioned_row address_row).coded (versioned_row policy_row).coded };
+
+    ghost view = { λ h. record {
+      network = h.network;
+      node = h.node;
+      addresses = h.addresses;
+      policies = h.policies;
+      addresses_came = h.addresses_came;
+      policies_came = h.policies_came;
+    } };
+}
+
+/// The most resources that are held, of both kinds together.
+const MOST_HELD: usize = 65_536;
+
+/// A resource is refused for the fault of its record.
+fn refusing(why: Or<RecordFault>) -> Or<RefusedWhy>
+    ensures { result ≡ refusing why }
+{
+    match why {
+        Or::Fault(fault) => Or::Fault(RefusedWhy::Record(fault)),
+        Or::NoMemory => Or::NoMemory,
+    }
+}
+
+impl Held {
+    /// Nothing is held, at this node of this network.
+    pub fn new(alloc: Global, network: Text, node: Text) -> Held
+        ensures { result ≡ nothing_held network node }
+    {
+        Held {
+            network,
+            node,
+            addresses: ByName::new(alloc),
+            policies: ByName::new(alloc),
+            addresses_came: false,
+            policies_came: false,
+        }
+    }
+
+    /// How many resources of both kinds are held.
+    pub fn count(&self) -> usize
+        ensures { result ≡ count self.now }
+    {
+        self.addresses.len() + self.policies.len()
+    }
+
+    /// A resource of this kind and name is held.
+    fn holds(&self, kind: Kind, name: &Text) -> bool
+        ensures { result ≡ holds self.now kind name.now }
+    {
+        match kind {
+            Kind::Address => self.addresses.contains(name),
+            Kind::Authorization => self.policies.contains(name),
+        }
+    }
+
+    /// A resource of this kind and name may be held.
+    fn fits(&self, kind: Kind, name: &Text) -> bool
+        ensures { result ≡ fits self.now kind name.now }
+    {
+        self.count() < MOST_HELD || self.holds(kind, name)
+    }
+
+    /// Takes a name of this kind away, and tells whether it was held.
+    pub(crate) fn remove(&mut self, kind: Kind, name: &Text) -> bool
+        ensures held { result ≡ holds self.old kind name.now }
+        ensures rest { self.new ≡ without self.old kind name.now }
+    {
+        match kind {
+            Kind::Address => self.addresses.remove(name),
+            Kind::Authorization => self.policies.remove(name),
+        }
+    }
+
+    /// Puts the address record of a resource under its name, where there is room.
+    fn put_address(
+        &mut self,
+        alloc: Global,
+        resource: &Resource,
+        content: AddressRecord,
+    ) -> Result<(), Or<RefusedWhy>>
+        ensures value { Merges (with_read_address self.old resource.now (Ok content)) self.new result }
+        ensures err { OnErr result (self.new ≡ self.old) }
+    {
+        if !self.fits(Kind::Address, &resource.name) {
+            return Err(Or::Fault(RefusedWhy::Full));
+        }
+        let version = resource.version.copy(alloc)?;
+        let item = Versioned { version, content };
+        self.addresses.put(alloc, &resource.name, item)?;
+        Ok(())
+    }
+
+    /// Puts the policy of a resource under its name, where there is room.
+    fn put_policy(
+        &mut self,
+        alloc: Global,
+        resource: &Resource,
+        content: Authorization,
+    ) -> Result<(), Or<RefusedWhy>>
+        ensures value { Merges (with_read_policy self.old resource.now (Ok content)) self.new result }
+        ensures err { OnErr result (self.new ≡ self.old) }
+    {
+        if !self.fits(Kind::Authorization, &resource.name) {
+            return Err(Or::Fault(RefusedWhy::Full));
+        }
+        let version = resource.version.copy(alloc)?;
+        let item = Versioned { version, content };
+        self.policies.put(alloc, &resource.name, item)?;
+        Ok(())
+    }
+
+    /// Reads the record of a resource of this kind, and puts it under the resource's name.
+    fn put_record(
+        &mut self,
+        alloc: Global,
+        kind: Kind,
+        resource: &Resource,
+    ) -> Result<(), Or<RefusedWhy>>
+        ensures value { Merges (with_record self.old kind resource.now) self.new result }
+        ensures err { OnErr result (self.new ≡ self.old) }
+    {
+        let bytes = resource.value.as_slice();
+        match kind {
+            Kind::Address => match read_address(alloc, bytes) {
+                Ok(content) => self.put_address(alloc, resource, content),
+                Err(why) => Err(refusing(why)),
+            },
+            Kind::Authorization => match read_authorization(alloc, bytes) {
+                Ok(content) => self.put_policy(alloc, resource, content),
+                Err(why) => Err(refusing(why)),
+            },
+        }
+    }
+
+    /// Takes a resource of a response of this kind.
+    #[tactic(auto, unfolding(crate::specs::Outcome::with_resource))]
+    pub(crate) fn put(
+        &mut self,
+        alloc: Global,
+        kind: Kind,
+        resource: &Resource,
+    ) -> Result<(), Or<RefusedWhy>>
+        ensures value { Merges (with_resource self.old kind resource.now) self.new result }
+        ensures err { OnErr result (self.new ≡ self.old) }
+    {
+        if resource.name.as_slice().is_empty() {
+            return Err(Or::Fault(RefusedWhy::NoName));
+        }
+        if resource.type_url.as_slice() != kind.type_url() {
+            return Err(Or::Fault(RefusedWhy::WrongType));
+        }
+        self.put_record(alloc, kind, resource)
+    }
+
+    /// A response of this kind was applied.
+    pub(crate) fn mark(&mut self, kind: Kind)
+        ensures { self.new ≡ with_came self.old kind }
+    {
+        match kind {
+            Kind::Address => self.addresses_came = true,
+            Kind::Authorization => self.policies_came = true,
+        }
+    }
+
+    /// A response of each kind was applied.
+    pub fn synced(&self) -> bool
+        ensures { result ≡ (self.now.addresses_came && self.now.policies_came) }
+    {
+        self.addresses_came && self.policies_came
+    }
+}

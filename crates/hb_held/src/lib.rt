@@ -1,0 +1,25 @@
+//! The resources of the mesh that a node holds: what responses leave, and look-ups.
+#![tactic(auto)]
+
+mod apply;
+mod by_name;
+mod endpoints;
+mod found;
+mod held;
+mod joined;
+mod laws;
+mod lookup;
+mod outcome;
+mod policies;
+mod rows;
+mod versioned;
+mod workloads;
+
+pub use endpoints::Endpoints;
+pub use found::{Found, FoundService};
+pub use held::Held;
+pub use laws::{least_is_found, names_stand_once};
+pub use outcome::{Changed, Outcome, Refusal, RefusedWhy};
+pub use policies::Policies;
+pub use rows::{HeldRecord, HeldRow, Rows};
+pub use versioned::Versioned;

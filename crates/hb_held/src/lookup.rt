@@ -1,0 +1,97 @@
+//! Which workload and which service have an address.
+
+ghost use Rattle.std.specs.Prelude.{◌≡◌};
+ghost use Rattle.std.specs.List.{list_any};
+ghost use Rattle.std.specs.Option.{option_map};
+ghost use Rattle.hb_held.specs.Lookup.{ip_eq, has_address, is_address, serves_at};
+ghost use Rattle.hb_held.specs.Lookup.{workload_at, known, service_at, found_as, found_service_as};
+
+use crate::found::{Found, FoundService};
+use crate::held::Held;
+use hb_base::{Ip, List, Text};
+use hb_records::{AddressRecord, NetworkAddress, Service, Workload};
+
+fn is_same_ip(a: Ip, b: Ip) -> bool
+    ensures { result ≡ ip_eq a b }
+{
+    match (a, b) {
+        (Ip::V4(a), Ip::V4(b)) => a == b,
+        (Ip::V6(a), Ip::V6(b)) => a == b,
+        _ => false,
+    }
+}
+
+fn is_among(addresses: &List<Ip>, ip: Ip) -> bool
+    ensures { result ≡ list_any (λ a. ip_eq a ip) addresses.now }
+{
+    addresses
+        .as_slice()
+        .iter()
+        .any(|address| is_same_ip(*address, ip))
+}
+
+/// A workload of the network has the address.
+fn has_address(network: &Text, ip: Ip, workload: &Workload) -> bool
+    ensures { result ≡ has_address network.now ip workload.now }
+{
+    workload.network.as_slice() == network.as_slice() && is_among(&workload.addresses, ip)
+}
+
+fn is_address(network: &Text, ip: Ip, address: &NetworkAddress) -> bool
+    ensures { result ≡ is_address network.now ip address.now }
+{
+    address.network.as_slice() == network.as_slice() && is_same_ip(address.address, ip)
+}
+
+/// One of the service's addresses is this one of the network.
+fn serves_at(network: &Text, ip: Ip, service: &Service) -> bool
+    ensures { result ≡ serves_at network.now ip service.now }
+{
+    service
+        .addresses
+        .as_slice()
+        .iter()
+        .any(|address| is_address(network, ip, address))
+}
+
+impl Held {
+    /// Of the workloads of this network with the address, the one of the smallest resource name, by bytes.
+    pub fn workload_at(&self, ip: Ip) -> Option<Found<'_>>
+        ensures { option_map found_as result ≡ workload_at self.now ip }
+    {
+        let mut workloads = self.workloads();
+        while let Some(found) = workloads.next() {
+            if has_address(&self.network, ip, found.workload) {
+                return Some(found);
+            }
+        }
+        None
+    }
+
+    /// The same workload, where its node is this node; the least is taken first, and its node is looked at then.
+    pub fn known(&self, ip: Ip) -> Option<Found<'_>>
+        ensures { option_map found_as result ≡ known self.now ip }
+    {
+        let found = self.workload_at(ip)?;
+        if found.workload.node.as_slice() == self.node.as_slice() {
+            Some(found)
+        } else {
+            None
+        }
+    }
+
+    /// Of the services that have the address in this network, the one of the smallest resource name, by bytes.
+    pub fn service_at(&self, ip: Ip) -> Option<FoundService<'_>>
+        ensures { option_map found_service_as result ≡ service_at self.now ip }
+    {
+        let mut rest = self.addresses.iter();
+        while let Some((name, held)) = rest.next() {
+            if let AddressRecord::Service(service) = &held.content {
+                if serves_at(&self.network, ip, service) {
+                    return Some(FoundService { name, service });
+                }
+            }
+        }
+        None
+    }
+}
