@@ -1,0 +1,2 @@
+pub mod AddressText
+pub mod NoFloats

@@ -1,0 +1,4 @@
+pub mod Why
+pub mod Value
+pub mod Outcome
+pub mod Row
