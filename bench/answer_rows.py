@@ -4,8 +4,9 @@
     python3 bench/answer_rows.py > crates/hb_rows/src/answers.rt && (cd crates/hb_rows && rt fmt)
 
 The script only spells the messages. Every answer stands in its row and was worked out by hand: the target is known
-where a workload of the network of the empty name has its address, and of several the one with the smallest resource
-name by its bytes is on the node that is asked. A later resource of a name replaces the earlier one.
+where a workload of the network that is asked (the one of the empty name where none is) has its address, and of several the
+one with the smallest resource name by its bytes is on the node that is asked. A later resource of a name replaces the
+earlier one; a response removes names first; a resource that is refused leaves what is held.
 """
 
 from spelling import *
@@ -24,6 +25,16 @@ def service_at(name, ip):
     return (name, span(2, text(1, "s") + text(2, "a") + span(4, span(2, bytes(ip)))))
 
 
+def of_x(name, *ips, node="n1"):
+    """A resource of this name: a workload of the network `x`."""
+    return at(name, *ips, node=node, more=span(4, "x"))
+
+
+def removal(type_url, *names):
+    """A response that removes these names."""
+    return response(type_url, [], *(span(6, name) for name in names))
+
+
 def denies(name):
     return (name, policy("a", name, "GLOBAL", "DENY", [[]]))
 
@@ -31,8 +42,11 @@ def denies(name):
 U1 = addresses(at("u1", SEVEN))
 AS_C = "check|--node|n1|SOURCE|IDENTITY|TARGET|"
 AS_NONE = "check|--node|n1|SOURCE|none|TARGET|"
+OF_X = "check|--node|n1|--network|x|SOURCE|none|TARGET|"
+BAD = ("u1", b"")  # a record without a kind
+BAD_POLICY = ("a/p", number(4, 2))  # an action that isn't known
 
-# Title, words (AS_C, AS_NONE, or each ended by `|`), messages, answer.
+# Title, words (by name, or each ended by `|`), messages, answer.
 ROWS = [
     ("one workload, and a peer without an identity", "AS_NONE", ["WORKLOAD"], "allow"),
     ("one workload, and a peer with an identity", "AS_C", ["WORKLOAD"], "allow"),
@@ -65,7 +79,25 @@ ROWS = [
     # Networks.
     ("a workload of another network", "AS_NONE", [addresses(at("u1", SEVEN, more=span(4, "x")))], "unknown"),
     ("a workload of another network, with a smaller name", "AS_NONE", [addresses(at("u0", SEVEN, node="n2", more=span(4, "x")), at("u1", SEVEN))], "allow"),
+    ("a workload of the network that is asked", "OF_X", [addresses(of_x("u1", SEVEN))], "allow"),
+    ("the words in another order", "check|--network|x|--node|n1|SOURCE|none|TARGET|", [addresses(of_x("u1", SEVEN))], "allow"),
+    ("a workload of the network of the empty name", "OF_X", ["WORKLOAD"], "unknown"),
+    ("a network whose name begins so", "OF_X", [addresses(at("u1", SEVEN, more=span(4, "xx")))], "unknown"),
+    ("a network's name in capitals", "OF_X", [addresses(at("u1", SEVEN, more=span(4, "X")))], "unknown"),
+    ("a network whose name is a front", "check|--node|n1|--network|xx|SOURCE|none|TARGET|", [addresses(of_x("u1", SEVEN))], "unknown"),
+    ("a network that is named as the node", "check|--node|n1|--network|n1|SOURCE|none|TARGET|", [addresses(of_x("u1", SEVEN))], "unknown"),
+    ("a network's name that isn't ASCII", "check|--node|n1|--network|\u00e9|SOURCE|none|TARGET|", [addresses(at("u1", SEVEN, more=span(4, "\u00e9")))], "allow"),
+    ("the last network of a record counts", "OF_X", [addresses(at("u1", SEVEN, more=span(4, "y") + span(4, "x")))], "allow"),
+    ("two networks, of which the asked one has the smaller name", "OF_X", [addresses(of_x("u1", SEVEN), at("u2", SEVEN, node="n2"))], "allow"),
+    ("two networks, of which the asked one has the larger name", "OF_X", [addresses(at("u1", SEVEN, node="n2"), of_x("u2", SEVEN))], "allow"),
+    ("two networks, of which the other is on this node", "OF_X", [addresses(at("u1", SEVEN), of_x("u2", SEVEN, node="n2"))], "unknown"),
+    ("two networks, and none is asked", "AS_NONE", [addresses(of_x("u1", SEVEN), at("u2", SEVEN, node="n2"))], "unknown"),
+    ("two networks, and none is asked: the empty name's is on this node", "AS_NONE", [addresses(of_x("u1", SEVEN, node="n2"), at("u2", SEVEN))], "allow"),
+    ("two of the network, and one of another with the smallest name", "OF_X", [addresses(at("a", SEVEN), of_x("c", SEVEN), of_x("b", SEVEN, node="n2"))], "unknown"),
+    ("policies count in each network", "OF_X", [addresses(of_x("u1", SEVEN)), policies(denies("d"))], "deny"),
     # Two workloads with the address: the one of the smaller name counts.
+    ("b on this node and a on another", "AS_NONE", [addresses(at("b", SEVEN), at("a", SEVEN, node="n2"))], "unknown"),
+    ("b on another node and a on this one", "AS_NONE", [addresses(at("b", SEVEN, node="n2"), at("a", SEVEN))], "allow"),
     ("the smaller name first, on this node", "AS_NONE", [addresses(at("u1", SEVEN), at("u2", SEVEN, node="n2"))], "allow"),
     ("the smaller name last, on this node", "AS_NONE", [addresses(at("u2", SEVEN, node="n2"), at("u1", SEVEN))], "allow"),
     ("the smaller name first, on another node", "AS_NONE", [addresses(at("u1", SEVEN, node="n2"), at("u2", SEVEN))], "unknown"),
@@ -86,6 +118,31 @@ ROWS = [
     ("another name doesn't replace", "AS_NONE", [U1, addresses(at("u11", EIGHT))], "allow"),
     ("a policy of the same name doesn't replace", "AS_NONE", [U1, policies(("u1", policy("", "u1", "GLOBAL", "ALLOW", [[]])))], "allow"),
     ("a DENY is replaced by one that never fires", "AS_NONE", [U1, policies(denies("d")), policies(("d", policy("a", "d", "GLOBAL", "DENY", [])))], "allow"),
+    # Removals, before the resources of their response.
+    ("the workload is removed", "AS_NONE", ["WORKLOAD", removal(ADDRESS, "u1")], "unknown"),
+    ("the workload is removed and added", "AS_NONE", ["WORKLOAD", "REMOVED_AND_ADDED"], "allow"),
+    ("the workload is removed, and added by the next response", "AS_NONE", ["WORKLOAD", removal(ADDRESS, "u1"), "WORKLOAD"], "allow"),
+    ("the workload is removed, and added with another address", "AS_NONE", ["WORKLOAD", response(ADDRESS, [at("u1", EIGHT)], span(6, "u1"))], "unknown"),
+    ("another name is removed", "AS_NONE", ["WORKLOAD", removal(ADDRESS, "u", "u11", "U1", "")], "allow"),
+    ("a workload isn't held yet where it is removed", "AS_NONE", [response(ADDRESS, [at("u1", SEVEN)], span(6, "u1"))], "allow"),
+    ("the smaller of two names is removed", "AS_NONE", [addresses(at("u1", SEVEN, node="n2"), at("u2", SEVEN)), removal(ADDRESS, "u1")], "allow"),
+    ("the larger of two names is removed", "AS_NONE", [addresses(at("u1", SEVEN, node="n2"), at("u2", SEVEN)), removal(ADDRESS, "u2")], "unknown"),
+    ("the policy is removed", "AS_NONE", ["WORKLOAD", "ALLOW_ONE", removal(AUTHORIZATION, "a/p")], "allow"),
+    ("one of two policies is removed", "AS_NONE", ["WORKLOAD", "ALLOW_ONE", "DENY_ALL", removal(AUTHORIZATION, "a/p")], "deny"),
+    ("the DENY is removed", "AS_C", ["WORKLOAD", "ALLOW_ONE", "DENY_ALL", removal(AUTHORIZATION, "d")], "allow"),
+    ("addresses remove no policy", "AS_NONE", ["WORKLOAD", "DENY_ALL", removal(ADDRESS, "d")], "deny"),
+    ("policies remove no workload", "AS_NONE", ["WORKLOAD", removal(AUTHORIZATION, "u1")], "allow"),
+    # Resources that are refused.
+    ("a bad record leaves the workload", "AS_NONE", ["WORKLOAD", addresses(BAD)], "allow"),
+    ("a bad record leaves the policy", "AS_NONE", ["WORKLOAD", "ALLOW_ONE", policies(BAD_POLICY)], "deny"),
+    ("a bad record, and then a good one of the name", "AS_NONE", [addresses(BAD, at("u1", SEVEN))], "allow"),
+    ("a good record, and then a bad one of the name", "AS_NONE", [addresses(at("u1", SEVEN), BAD)], "allow"),
+    ("a bad record in front of another name", "AS_NONE", [addresses(BAD, at("u2", SEVEN))], "allow"),
+    ("a bad record in the first of two messages", "AS_NONE", [addresses(BAD), "WORKLOAD"], "allow"),
+    ("the workload is removed, and its addition is refused", "AS_NONE", ["WORKLOAD", response(ADDRESS, [BAD], span(6, "u1"))], "unknown"),
+    ("a workload without a name", "AS_NONE", [addresses(at("", SEVEN))], "unknown"),
+    ("a workload of another type", "AS_NONE", [grpc(resource(AUTHORIZATION, *at("u1", SEVEN)) + span(4, ADDRESS))], "unknown"),
+    ("a policy of another type", "AS_NONE", ["WORKLOAD", grpc(resource(ADDRESS, *denies("d")) + span(4, AUTHORIZATION))], "allow"),
     # Services, which are no workloads.
     ("a service with the address", "AS_NONE", [addresses(service_at("s1", SEVEN))], "unknown"),
     ("a workload behind a service with the address", "AS_NONE", [addresses(service_at("s1", SEVEN), at("u1", SEVEN))], "allow"),
@@ -110,7 +167,7 @@ ROWS = [
 def main():
     lines = []
     for title, words, messages, answer in ROWS:
-        asked = {"AS_C": AS_C, "AS_NONE": AS_NONE}.get(words, words)
+        asked = {"AS_C": AS_C, "AS_NONE": AS_NONE, "OF_X": OF_X}.get(words, words)
         lines.append(f"# {title[0].upper()}{title[1:]}.")
         lines.append(f"{asked}; {shown(messages)}; {answer}")
     print("//! The target that is known, and its answer. bench/answer_rows.py prints this file: it spells the messages, and has each")

@@ -18,10 +18,11 @@ WHOLE = [
     ("policy_rows.py", "hb_rows", "policies.rt"),
     ("attribute_rows.py", "hb_rows", "attributes.rt"),
     ("refusal_rows.py", "hb_rows", "refusals.rt"),
+    ("show_rows.py", "hb_rows", "shows.rt"),
     ("hpack_vectors.py", "hb_http2_rows", "hpack_vectors.rt"),
     ("streams.py", "hb_streams_rows", "rows.rt"),
     ("ip_rows.py", "hb_parts_rows", "ips.rt"),
-    ("record_rows.py", "hb_parts_rows", "spelled.rt"),
+    ("record_rows.py", "hb_records_rows", "spelled.rt"),
 ]
 PARTS = [("frame_vectors.py", "hb_http2_rows", "frame_vectors.rt")]
 

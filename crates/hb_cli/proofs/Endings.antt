@@ -1,17 +1,19 @@
 -- What the way in which a run ends says of its status, its bytes and its counts.
-use Rattle.std.proofs.Common.{◌≡◌, ◌≢◌, ℕ, ◌==◌, Bool, true, false, List, Option, Some, None, Result, Ok, Err, refl, sym, subst, ◌∙◌, inl, inr, arith}
+use Rattle.std.proofs.Common.{◌≡◌, ◌≢◌, ℕ, ◌≤◌, length, take, ◌==◌, Bool, true, false, List, Option, Some, None, Result, Ok, Err, refl, sym, subst, ◌∙◌, inl, inr, ⊎_elim, arith}
 use Rattle.std.proofs.lemmas.Bool.Decides.{nat_tests}
 use Rattle.std.proofs.lemmas.Option.{IfSome_then}
 use Rattle.std.specs.Bool.{MatchBool}
+use Rattle.std.specs.Io.KnownBytes.{Appends}
 use Rattle.std.specs.Prelude.{◌⊎◌, IfSome, IfOk, IsOk, IsErr, IsTrue}
 use Rattle.std.specs.Result.{MatchResult}
 use Rattle.hb_base.specs.Count.{Rose, Counts, one_more}
 use Rattle.hb_cli.specs.declared.stop.Stop.{Stop}
 use Rattle.hb_cli.specs.declared.stop.Stop.TheVariants.{Words, NoMemory}
-use Rattle.hb_cli.specs.declared.words.WordsFault.{WordsFault}
-use Rattle.hb_cli.specs.Words.{words_of}
-use Rattle.hb_cli.specs.Run.{outcome_of, status_of, stop_line, ReadsEnough, is_status, IsStated, told_line}
-use Rattle.hb_cli.specs.Ending.{Use, Run, Tells, takes_memory, GivesUp, Answered, WordsRefused, InputRefused, Unread, Unwritten, Wanting, EndsWith}
+use Rattle.hb_words.specs.declared.fault.WordsFault.{WordsFault}
+use Rattle.hb_words.specs.Words.{words_of, shows}
+use Rattle.hb_cli.specs.Run.{outcome_of, IsAnOutcome, status_of, stop_line, ReadsEnough, is_status, IsStated, told_line}
+use Rattle.hb_cli.specs.Ending.{Use, Run, NoFault, Untouched, Tells, takes_memory, GivesUp, Answered, WordsRefused, InputRefused, Unread, Unwritten}
+use Rattle.hb_cli.specs.Ending.{ShownInPart, Wanting, EndsWith}
 
 -- a line that takes memory was told, or that memory is wanting
 pub made : {L E : Type 0} (text : L → List ℕ) (line : Result L E) (given stop : Stop) (err : Use) (status k : ℕ) → given ≡ stop
@@ -80,14 +82,21 @@ is_stated t =
     (λ a. IfSome_then t.input.bytes a.1.1 (λ left o. rw o (inr (inr (inl (refl, refl))))))
     (λ a. of_each t.input.bytes (λ left. inr (inr (inr refl))))
 
+-- while memory was wanting, no fault came
+no_read_fault : (t : Run) → Wanting t → NoFault t.input
+no_read_fault t w = ⊎_elim (λ (quiet : NoFault t.input × Untouched t.out). quiet.0) (λ (part : ShownInPart t). part.2.4) w.0
+
+no_put_fault : (t : Run) → Wanting t → NoFault t.out
+no_put_fault t w = ⊎_elim (λ (quiet : NoFault t.input × Untouched t.out). quiet.1.1) (λ (part : ShownInPart t). part.3.1) w.0
+
 -- the count of the input, and that of the output
 pub reads_counted : (t : Run) (status : ℕ) → EndsWith t status → Counts t.input.faults t.input.faults_after (status == 6)
-reads_counted t = by_status t (λ s. Counts t.input.faults t.input.faults_after (s == 6)) (λ a. a.1.3) (λ a. a.2.1) (λ a. a.2.3)
-    (λ a. a.1) (λ a. a.1.3) (λ a. a.0)
+reads_counted t = by_status t (λ s. Counts t.input.faults t.input.faults_after (s == 6)) (λ a. a.1.4) (λ a. a.2.1) (λ a. a.2.4)
+    (λ a. a.1) (λ a. a.1.4) (λ a. no_read_fault t a)
 
 pub puts_counted : (t : Run) (status : ℕ) → EndsWith t status → Counts t.out.faults t.out.faults_after (status == 7)
 puts_counted t = by_status t (λ s. Counts t.out.faults t.out.faults_after (s == 7)) (λ a. a.2.1) (λ a. a.3.1) (λ a. a.3.1) (λ a. a.2.1)
-    (λ a. a.2.1) (λ a. a.1.1)
+    (λ a. a.2.1) (λ a. no_put_fault t a)
 
 rose : (before after : ℕ) → after ≡ one_more before → Rose before after
 rose before after e = rw e (omega arith)
@@ -110,14 +119,22 @@ is_complete t status e =
 -- 0, 3 and 7 come after enough was read
 pub reads_enough : (t : Run) (status : ℕ) → EndsWith t status → (status ≡ 0) ⊎ (status ≡ 3) ⊎ (status ≡ 7)
     → ReadsEnough t.input.bytes t.input.bytes_after
-reads_enough t status e (inl h) = (at t status 0 e h).1.2
-reads_enough t status e (inr (inl h)) = (at t status 3 e h).2.2
-reads_enough t status e (inr (inr h)) = (at t status 7 e h).1.2
+reads_enough t status e (inl h) = (at t status 0 e h).1.3
+reads_enough t status e (inr (inl h)) = (at t status 3 e h).2.3
+reads_enough t status e (inr (inr h)) = (at t status 7 e h).1.3
 
--- but at 0 and 7 nothing is printed
-pub is_quiet : (t : Run) (status : ℕ) → EndsWith t status → status ≢ 0 → status ≢ 7 → t.out.bytes_after ≡ t.out.bytes
-is_quiet t = by_status t (λ s. s ≢ 0 → s ≢ 7 → t.out.bytes_after ≡ t.out.bytes)
-    (λ a n0 n7. absurd (n0 refl)) (λ a n0 n7. a.3.0) (λ a n0 n7. a.3.0) (λ a n0 n7. a.2.0) (λ a n0 n7. absurd (n7 refl)) (λ a n0 n7. a.1.0)
+-- but at 0, 7 and 9 nothing is printed
+pub is_quiet : (t : Run) (status : ℕ) → EndsWith t status → status ≢ 0 → status ≢ 7 → status ≢ 9 → t.out.bytes_after ≡ t.out.bytes
+is_quiet t = by_status t (λ s. s ≢ 0 → s ≢ 7 → s ≢ 9 → t.out.bytes_after ≡ t.out.bytes)
+    (λ a n0 n7 n9. absurd (n0 refl)) (λ a n0 n7 n9. a.3.0) (λ a n0 n7 n9. a.3.0) (λ a n0 n7 n9. a.2.0)
+    (λ a n0 n7 n9. absurd (n7 refl)) (λ a n0 n7 n9. absurd (n9 refl))
+
+-- where memory was wanting nothing is printed, or a part of what `show` prints
+pub in_part : (t : Run) → Wanting t → (t.out.bytes_after ≡ t.out.bytes) ⊎ ((text : List ℕ) × (words_of t.words ≡ Ok shows)
+    × IsAnOutcome t.words (Ok text) × IfSome t.input.bytes (λ left. outcome_of t.words left ≡ Ok text)
+    × ((n : ℕ) × (n ≤ length text) × Appends t.out.bytes t.out.bytes_after (take n text)))
+in_part t w = ⊎_elim (λ (quiet : NoFault t.input × Untouched t.out). inl quiet.1.0)
+    (λ (part : ShownInPart t). inr (part.0, part.1, part.2.2, part.2.1, part.3.0)) w.0
 
 told_at_three : (t : Run) (stop : Stop) (left : Option (List ℕ)) → IfSome left (λ input. outcome_of t.words input ≡ Err stop)
     → Tells t.err (stop_line stop) → IfSome (told_line 3 t.words left) (λ text. Tells t.err text)
@@ -127,4 +144,4 @@ told_at_three t stop (Some input) o l = rw o l
 -- the line of the status is told
 pub is_told : (t : Run) (status : ℕ) → EndsWith t status → IfSome (told_line status t.words t.input.bytes) (λ text. Tells t.err text)
 is_told t = by_status t (λ s. IfSome (told_line s t.words t.input.bytes) (λ text. Tells t.err text))
-    (λ a. a.3) (λ a. rw a.1 a.4) (λ a. told_at_three t a.0 t.input.bytes a.2.1 a.4) (λ a. a.3) (λ a. a.3) (λ a. a.2)
+    (λ a. a.3) (λ a. rw a.1 a.4) (λ a. told_at_three t a.0 t.input.bytes a.2.1 a.4) (λ a. a.3) (λ a. a.3) (λ a. a.1)

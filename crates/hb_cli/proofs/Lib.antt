@@ -1,5 +1,4 @@
 mod Endings
-mod Framings
-mod Joined
+mod Inputs
 mod Outcomes
-mod Taken
+mod Printing

@@ -1,14 +1,15 @@
 -- How a run ends: what the functions below `run` say.
-use Rattle.std.specs.Prelude.{◌≡◌, ◌⊎◌, ℕ, ◌<◌, ◌==◌, Bool, true, false, IsTrue, List, [], length, take, Option, IfSome, IsOk, Result, Ok, Err}
+use Rattle.std.specs.Prelude.{◌≡◌, ◌⊎◌, ℕ, ◌<◌, ◌≤◌, ◌==◌, Bool, true, false, IsTrue, List, [], length, take, Option, IfSome, IsOk, Result, Ok, Err}
 use Rattle.std.specs.Bool.{MatchBool}
 use Rattle.std.specs.Io.KnownBytes.{Appends}
 use Rattle.hb_base.specs.Count.{one_more}
-use Rattle.hb_cli.specs.declared.judge.Judged.{Judged}
 use Rattle.hb_cli.specs.declared.stop.Stop.{Stop}
 use Rattle.hb_cli.specs.declared.stop.Stop.TheVariants.{Words, TooLong, Refused, ReadFault, NoMemory}
-use Rattle.hb_cli.specs.declared.words.WordsFault.{WordsFault}
-use Rattle.hb_cli.specs.Words.{Question, words_of}
-use Rattle.hb_cli.specs.Run.{answer_after, outcome_of, status_of, answer_line, stop_line, write_fault_line, WritesLine, ReadsEnough}
+use Rattle.hb_words.specs.declared.fault.WordsFault.{WordsFault}
+use Rattle.hb_words.specs.Words.{Command, shows, words_of}
+use Rattle.hb_cli.specs.declared.answer.Printed.{Printed}
+use Rattle.hb_cli.specs.declared.answer.Printed.TheVariants as printing
+use Rattle.hb_cli.specs.Run.{answer_after, outcome_of, IsAnOutcome, status_of, stop_line, write_fault_line, WritesLine, ReadsEnough}
 
 -- what a run does with a source or a sink: its bytes and its count of faults, before and after
 pub record Use : Type 0 where
@@ -46,32 +47,43 @@ WritesAll u text = Appends u.bytes u.bytes_after text × NoFault u
 abbrev pub WritesPart : Use → List ℕ → Type 0
 WritesPart u text = ((n : ℕ) × (n < length text) × Appends u.bytes u.bytes_after (take n text)) × OneFault u
 
+-- a part from its front, or all, is written, and no put failed
+abbrev pub WritesSome : Use → List ℕ → Type 0
+WritesSome u text = ((n : ℕ) × (n ≤ length text) × Appends u.bytes u.bytes_after (take n text)) × NoFault u
+
+-- how far a text is printed
+abbrev pub Prints : Use → List ℕ → Printed → Type 0
+Prints u text printing.Whole = WritesAll u text
+Prints u text printing.Failed = WritesPart u text
+Prints u text printing.NoMemory = WritesSome u text
+
 abbrev pub Tells : Use → List ℕ → Type 0
 Tells u text = WritesLine u.bytes u.bytes_after u.faults u.faults_after text
 
 -- the words are accepted, and this is the outcome by the input, of which enough is read
-abbrev pub LooksAt : List (List ℕ) → Use → Result Judged Stop → Type 0
+abbrev pub LooksAt : List (List ℕ) → Use → Result (List ℕ) Stop → Type 0
 LooksAt words input o =
-    IsOk (words_of words) × IfSome input.bytes (λ left. outcome_of words left ≡ o) × ReadsEnough input.bytes input.bytes_after
-    × NoFault input
+    IsOk (words_of words) × IfSome input.bytes (λ left. outcome_of words left ≡ o) × IsAnOutcome words o
+    × ReadsEnough input.bytes input.bytes_after × NoFault input
 
--- this is the outcome of a question by the input, of which enough is read
-abbrev pub LooksFor : Question → Use → Result Judged Stop → Type 0
-LooksFor q input o =
-    IfSome input.bytes (λ left. answer_after q left ≡ o) × ReadsEnough input.bytes input.bytes_after × NoFault input
+-- this is what a command answers by the input, of which enough is read
+abbrev pub LooksFor : Command → Use → Result (List ℕ) Stop → Type 0
+LooksFor c input o =
+    IfSome input.bytes (λ left. answer_after c left ≡ o) × ((some : List ℕ) × (answer_after c some ≡ o))
+    × ReadsEnough input.bytes input.bytes_after × NoFault input
 
--- What reading the input and answering a question comes to.
-abbrev pub FindsOut : Question → Use → Result Judged Stop → Type 0
-FindsOut q input (Ok answer) = LooksFor q input (Ok answer)
-FindsOut q input (Err (Words fault)) = ⊥
-FindsOut q input (Err TooLong) = LooksFor q input (Err TooLong)
-FindsOut q input (Err (Refused refusal)) = LooksFor q input (Err (Refused refusal))
-FindsOut q input (Err ReadFault) = OneFault input
-FindsOut q input (Err NoMemory) = NoFault input
+-- What reading the input for a command comes to.
+abbrev pub FindsOut : Command → Use → Result (List ℕ) Stop → Type 0
+FindsOut c input (Ok text) = LooksFor c input (Ok text)
+FindsOut c input (Err (Words fault)) = ⊥
+FindsOut c input (Err TooLong) = LooksFor c input (Err TooLong)
+FindsOut c input (Err (Refused refusal)) = LooksFor c input (Err (Refused refusal))
+FindsOut c input (Err ReadFault) = OneFault input
+FindsOut c input (Err NoMemory) = NoFault input
 
 -- What reading the words and then the input comes to.
-abbrev pub ComesTo : List (List ℕ) → Use → Result Judged Stop → Type 0
-ComesTo words input (Ok answer) = LooksAt words input (Ok answer)
+abbrev pub ComesTo : List (List ℕ) → Use → Result (List ℕ) Stop → Type 0
+ComesTo words input (Ok text) = LooksAt words input (Ok text)
 ComesTo words input (Err (Words fault)) = (words_of words ≡ Err fault) × Untouched input
 ComesTo words input (Err TooLong) = LooksAt words input (Err TooLong)
 ComesTo words input (Err (Refused refusal)) = LooksAt words input (Err (Refused refusal))
@@ -94,7 +106,7 @@ GivesUp stop err status =
 
 -- 0: the answer is printed whole
 abbrev pub Answered : Run → Type 0
-Answered t = (answer : Judged) × LooksAt t.words t.input (Ok answer) × WritesAll t.out (answer_line answer) × Tells t.err []
+Answered t = (text : List ℕ) × LooksAt t.words t.input (Ok text) × WritesAll t.out text × Tells t.err []
 
 -- 2: the words aren't accepted, and nothing is read
 abbrev pub WordsRefused : Run → Type 0
@@ -113,11 +125,15 @@ Unread t = IsOk (words_of t.words) × OneFault t.input × Untouched t.out × Tel
 -- 7: a put failed, and the answer is printed in part
 abbrev pub Unwritten : Run → Type 0
 Unwritten t =
-    (answer : Judged) × LooksAt t.words t.input (Ok answer) × WritesPart t.out (answer_line answer) × Tells t.err write_fault_line
+    (text : List ℕ) × LooksAt t.words t.input (Ok text) × WritesPart t.out text × Tells t.err write_fault_line
 
--- 9: want of memory
+-- the answer of `show` is printed in part
+abbrev pub ShownInPart : Run → Type 0
+ShownInPart t = (text : List ℕ) × (words_of t.words ≡ Ok shows) × LooksAt t.words t.input (Ok text) × WritesSome t.out text
+
+-- 9: want of memory, before the answer or while it is shown
 abbrev pub Wanting : Run → Type 0
-Wanting t = NoFault t.input × Untouched t.out × Tells t.err (stop_line NoMemory)
+Wanting t = (NoFault t.input × Untouched t.out ⊎ ShownInPart t) × Tells t.err (stop_line NoMemory)
 
 -- How a run ends with a status.
 abbrev pub EndsWith : Run → ℕ → Type 0

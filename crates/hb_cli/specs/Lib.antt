@@ -1,9 +1,6 @@
-pub mod Asked
+pub mod Answer
 pub mod Ending
-pub mod Held
 pub mod Input
 pub mod Judge
-pub mod Policy
-pub mod Response
 pub mod Run
-pub mod Words
+pub mod Taking

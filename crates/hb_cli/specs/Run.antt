@@ -1,52 +1,24 @@
 -- What a command answers: its status, what it writes, and why.
-use Rattle.std.specs.Prelude.{◌≡◌, ℕ, ◌<◌, ◌==◌, Bool, ◌⊎◌, nat_lt, List, [], ◌∷◌, ◌++◌, length, take, Option, Some, None, IfSome, Result, Ok, Err, if◌then◌else◌, codes, decimal}
+use Rattle.std.specs.Prelude.{◌≡◌, ℕ, ◌<◌, ◌==◌, Bool, true, ◌⊎◌, nat_lt, List, [], ◌∷◌, ◌++◌, length, take, Option, Some, None, IfSome, Result, Ok, Err, if◌then◌else◌, codes, decimal}
 use Rattle.std.specs.Io.KnownBytes.{Appends, Consumes}
-use Rattle.std.specs.List.{list_any}
+use Rattle.std.specs.List.{list_any, flat_map}
 use Rattle.std.specs.Option.{option_map}
 use Rattle.hb_base.specs.Count.{one_more}
-use Rattle.hb_base.specs.declared.target.BadTarget.TheVariants as target_faults
+use Rattle.hb_held.specs.Rows.{rows}
+use Rattle.hb_lines.specs.Row.{row_text}
 use Rattle.hb_wire.specs.Message.{and_then}
+use Rattle.hb_words.specs.Fault.{fault_line}
+use Rattle.hb_words.specs.Words.{Command, checks, shows, words_of}
+use Rattle.hb_words.specs.declared.fault.WordsFault.{WordsFault}
 use Rattle.hb_cli.specs.declared.input.InputWhy.{InputWhy}
-use Rattle.hb_cli.specs.declared.input.InputWhy.TheVariants.{NotAResponse, NotYet}
+use Rattle.hb_cli.specs.declared.input.InputWhy.TheVariants as why
 use Rattle.hb_cli.specs.declared.input.Refused.{Refused as Refusal}
 use Rattle.hb_cli.specs.declared.judge.Judged.{Judged}
 use Rattle.hb_cli.specs.declared.judge.Judged.TheVariants.{Admitted, Unknown, Denied}
 use Rattle.hb_cli.specs.declared.stop.Stop.{Stop}
 use Rattle.hb_cli.specs.declared.stop.Stop.TheVariants.{Words, TooLong, Refused, ReadFault, NoMemory}
-use Rattle.hb_cli.specs.declared.words.WordsFault.{WordsFault}
-use Rattle.hb_cli.specs.declared.words.WordsFault.TheVariants as faults
-use Rattle.hb_cli.specs.Input.{longest_input, held_by}
-use Rattle.hb_cli.specs.Judge.{judged}
-use Rattle.hb_cli.specs.Words.{Question, words_of}
-
-abbrev pub or_words : Result Question WordsFault → Result Question Stop
-or_words (Ok q) = Ok q
-or_words (Err fault) = Err (Words fault)
-
-abbrev pub or_refused : Result Judged Refusal → Result Judged Stop
-or_refused (Ok answer) = Ok answer
-or_refused (Err refusal) = Err (Refused refusal)
-
--- the answer to a question by the resources that an input leaves, or the first of its messages that is refused
-abbrev pub answer_by : Question → List ℕ → Result Judged Refusal
-answer_by q input = and_then (held_by input) (λ held. Ok (judged held q.node q.peer q.target))
-
--- the answer to a question after this input, or why there is none
-unfoldable pub answer_after : Question → List ℕ → Result Judged Stop
-answer_after q input = if nat_lt longest_input (length input) then Err TooLong else or_refused (answer_by q input)
-
--- The outcome of these words and this input: the words are looked at first, then the whole input.
-unfoldable pub outcome_of : List (List ℕ) → List ℕ → Result Judged Stop
-outcome_of words input = and_then (or_words (words_of words)) (λ q. answer_after q input)
-
--- the status of an outcome
-abbrev pub status_of : Result Judged Stop → ℕ
-status_of (Ok answer) = 0
-status_of (Err (Words fault)) = 2
-status_of (Err TooLong) = 3
-status_of (Err (Refused refusal)) = 3
-status_of (Err ReadFault) = 6
-status_of (Err NoMemory) = 9
+use Rattle.hb_cli.specs.Input.{longest_input, Leaves, left_by}
+use Rattle.hb_cli.specs.Judge.{judged_by}
 
 -- a line of text
 abbrev pub line : List ℕ → List ℕ
@@ -58,33 +30,53 @@ answer_line Admitted = line (codes "allow")
 answer_line Denied = line (codes "deny")
 answer_line Unknown = line (codes "unknown")
 
-abbrev pub words_text : WordsFault → List ℕ
-words_text faults.NoCommand = codes "a command is wanted"
-words_text faults.UnknownCommand = codes "unknown command"
-words_text faults.UnknownOption = codes "unknown option"
-words_text faults.NoNode = codes "--node is wanted behind the command"
-words_text faults.NodeTwice = codes "--node stands twice"
-words_text faults.NoValue = codes "--node has no value"
-words_text faults.BadNode = codes "the value of --node is empty or begins with a dash"
-words_text faults.TooFew = codes "SOURCE, IDENTITY and TARGET are wanted"
-words_text faults.TooMany = codes "too many words"
-words_text faults.BadSource = codes "SOURCE is neither an IPv4 nor an IPv6 address"
-words_text faults.BadIdentity = codes "IDENTITY is neither none nor spiffe://TRUST_DOMAIN/ns/NAMESPACE/sa/SERVICE_ACCOUNT"
-words_text (faults.BadTarget target_faults.NoPort) = codes "TARGET has no port"
-words_text (faults.BadTarget target_faults.BadIp) = codes "the address of TARGET is neither IPv4 text nor IPv6 text in brackets"
-words_text (faults.BadTarget target_faults.BadPort) = codes "the port of TARGET is no number from 1 to 65535"
+-- what `show` prints: a line of each response, and then a line of each resource held, by kind and name
+abbrev pub shown : Leaves → List ℕ
+shown l = l.told ++ flat_map row_text (rows l.held)
+
+abbrev pub or_words : Result Command WordsFault → Result Command Stop
+or_words (Ok c) = Ok c
+or_words (Err fault) = Err (Words fault)
+
+abbrev pub or_refused : {A : Type 0} → Result A Refusal → Result A Stop
+or_refused (Ok x) = Ok x
+or_refused (Err refusal) = Err (Refused refusal)
+
+-- what a command prints by the resources that an input leaves, or the first of its messages that is refused
+abbrev pub printed_by : Command → List ℕ → Result (List ℕ) Refusal
+printed_by (checks q) input = and_then (judged_by q input) (λ j. Ok (answer_line j))
+printed_by shows input = and_then (left_by true [] [] input) (λ l. Ok (shown l))
+
+-- what a command prints after this input, or why it prints nothing
+unfoldable pub answer_after : Command → List ℕ → Result (List ℕ) Stop
+answer_after c input = if nat_lt longest_input (length input) then Err TooLong else or_refused (printed_by c input)
+
+-- The outcome of these words and this input: the words are looked at first, then the whole input.
+unfoldable pub outcome_of : List (List ℕ) → List ℕ → Result (List ℕ) Stop
+outcome_of words input = and_then (or_words (words_of words)) (λ c. answer_after c input)
+
+-- it is the outcome of the words and some input
+abbrev pub IsAnOutcome : List (List ℕ) → Result (List ℕ) Stop → Type 0
+IsAnOutcome words o = (input : List ℕ) × (outcome_of words input ≡ o)
+
+-- the status of an outcome
+abbrev pub status_of : Result (List ℕ) Stop → ℕ
+status_of (Ok answer) = 0
+status_of (Err (Words fault)) = 2
+status_of (Err TooLong) = 3
+status_of (Err (Refused refusal)) = 3
+status_of (Err ReadFault) = 6
+status_of (Err NoMemory) = 9
 
 abbrev pub why_text : InputWhy → List ℕ
-why_text NotAResponse = codes "not a response"
-why_text NotYet = codes "not yet"
-
--- the form of accepted words
-abbrev pub usage : List ℕ
-usage = codes " (usage: hbone check --node NODE SOURCE IDENTITY TARGET)"
+why_text why.Compressed = codes "compressed"
+why_text why.TooLong = codes "too long"
+why_text why.CutShort = codes "cut short"
+why_text why.NotAResponse = codes "not a response"
 
 -- the line that tells why there is no answer
 abbrev pub stop_line : Stop → List ℕ
-stop_line (Words fault) = line (codes "hbone: words: " ++ words_text fault ++ usage)
+stop_line (Words fault) = fault_line fault
 stop_line TooLong = line (codes "hbone: input too long")
 stop_line (Refused refusal) = line (codes "hbone: message " ++ decimal refusal.message ++ codes ": " ++ why_text refusal.why)
 stop_line ReadFault = line (codes "hbone: read fault")
@@ -116,8 +108,8 @@ abbrev pub line_of : {A : Type 0} → Result A Stop → List ℕ
 line_of (Ok x) = []
 line_of (Err stop) = stop_line stop
 
-abbrev pub words_line : Result Question WordsFault → Option (List ℕ)
-words_line (Ok q) = None
+abbrev pub words_line : Result Command WordsFault → Option (List ℕ)
+words_line (Ok c) = None
 words_line (Err fault) = Some (stop_line (Words fault))
 
 -- What is told at a status: of 3, where the input is told.

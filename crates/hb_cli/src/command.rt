@@ -1,42 +1,75 @@
 //! The top call: words and input in, answer and status out.
 
-ghost use Rattle.std.specs.Prelude.{◌≡◌, ◌≢◌, ◌<◌, ◌≤◌, ◌==◌, ◌⊎◌, ℕ, IsTrue, IsErr, IfSome, length, map, take, Ok, Err};
+ghost use Rattle.std.specs.Prelude.{◌≡◌, ◌≢◌, ◌<◌, ◌≤◌, ◌==◌, ◌⊎◌, ℕ, List, IsTrue, IsErr, IfSome, IfOk, length, map, take, Ok, Err};
 ghost use Rattle.std.specs.Io.KnownBytes.{Appends};
 ghost use Rattle.std.specs.Result.{MatchResult};
 ghost use Rattle.std.specs.String.{string_bytes};
 ghost use Rattle.hb_base.specs.Count.{Counts, Rose};
 ghost use Rattle.hb_base.specs.Outcome.{Answers};
-ghost use Rattle.hb_cli.specs.Asked.{question};
+ghost use Rattle.hb_words.specs.Asked.{question, command_of};
+ghost use Rattle.hb_words.specs.Words.{shows, words_of};
+ghost use Rattle.hb_cli.specs.Answer.{texts, found_texts, Suits, SuitsWords};
 ghost use Rattle.hb_cli.specs.Ending.{FindsOut, ComesTo, EndsWith, GivesUp, use_of};
-ghost use Rattle.hb_cli.specs.Run.{IsStated, ReadsEnough, WritesLine, answer_by, answer_line, is_status};
+ghost use Rattle.hb_cli.specs.Judge.{judged_by};
+ghost use Rattle.hb_cli.specs.Run.{IsAnOutcome, IsStated, ReadsEnough, WritesLine, printed_by, is_status};
 ghost use Rattle.hb_cli.specs.Run.{outcome_of, status_of, stop_line, told_line};
-ghost use Rattle.hb_cli.specs.Words.{words_of};
-ghost use Rattle.hb_cli.specs.declared.judge.Judged.{Judged};
 ghost use Rattle.hb_cli.specs.declared.stop.Stop.{Stop};
 ghost use Rattle.hb_cli.specs.declared.stop.Stop.TheVariants.{NoMemory};
 
-use crate::input::{Refused, read_held};
+use crate::answer::{Answer, Printed, print};
+use crate::input::{Refused, read_input};
 use crate::judge::{Judged, judge};
 use crate::stop::Stop;
-use crate::words::{Check, read_words};
-use hb_base::{Or, ReadStop, Sink, Source, put_all, read_all};
+use hb_base::{Or, ReadStop, Sink, Source, Text, put_all, read_all};
+use hb_words::{Check, Command, read_words};
 use std::alloc::{AllocError, Global};
 
 /// The most bytes of input.
 const LONGEST_INPUT: usize = 67_108_864;
 
-/// The answer to a question by the resources that this input leaves.
-fn answer(alloc: Global, check: &Check<'_>, input: &[u8]) -> Result<Judged, Or<Refused>>
-    ensures { Answers result (answer_by (question check.now) input.now) }
+/// A word as a text.
+fn text_of(alloc: Global, word: &String) -> Result<Text, AllocError>
+    ensures { IfOk result (λ text. text ≡ string_bytes word.now) }
 {
-    let held = read_held(alloc, input)?;
-    Ok(judge(&held, check.node, &check.peer, check.target))
+    match Text::of(alloc, word.as_bytes())? {
+        Some(text) => Ok(text),
+        None => unreachable!(),
+    }
 }
 
-/// The answer to a question, after the whole input is read.
-fn find_out<S: Source>(alloc: Global, check: &Check<'_>, input: &mut S) -> Result<Judged, Stop>
-    ensures found { FindsOut (question check.now)
-        (use_of (S.left input.old) (S.left input.new) (S.faults input.old) (S.faults input.new)) result }
+/// The answer to a question by the resources that this input leaves.
+fn judge_input(alloc: Global, check: &Check<'_>, input: &[u8]) -> Result<Judged, Or<Refused>>
+    ensures { Answers result (judged_by (question check.now) input.now) }
+{
+    let network = match check.network {
+        Some(network) => text_of(alloc, network)?,
+        None => Text::empty(alloc),
+    };
+    let node = text_of(alloc, check.node)?;
+    let left = read_input(alloc, network, node, false, input)?;
+    Ok(judge(&left.held, &check.peer, check.target))
+}
+
+/// The answer of a command by the resources that this input leaves.
+fn answer(alloc: Global, command: &Command<'_>, input: &[u8]) -> Result<Answer, Or<Refused>>
+    ensures text { Answers (texts result) (printed_by (command_of command.now) input.now) }
+    ensures kind { IfOk result (λ a. Suits (command_of command.now) a) }
+{
+    match command {
+        Command::Check(check) => Ok(Answer::Judged(judge_input(alloc, check, input)?)),
+        Command::Show => {
+            let unnamed = Text::empty(alloc);
+            let left = read_input(alloc, unnamed, Text::empty(alloc), true, input)?;
+            Ok(Answer::Left(left))
+        }
+    }
+}
+
+/// The answer of a command, after the whole input is read.
+fn find_out<S: Source>(alloc: Global, command: &Command<'_>, input: &mut S) -> Result<Answer, Stop>
+    ensures found { FindsOut (command_of command.now)
+        (use_of (S.left input.old) (S.left input.new) (S.faults input.old) (S.faults input.new)) (found_texts result) }
+    ensures kind { IfOk result (λ a. Suits (command_of command.now) a) }
     ensures later { S.faults input.old ≤ S.faults input.new }
 {
     let bytes = match read_all(alloc, input, LONGEST_INPUT) {
@@ -45,36 +78,24 @@ fn find_out<S: Source>(alloc: Global, check: &Check<'_>, input: &mut S) -> Resul
         Err(ReadStop::Failed) => return Err(Stop::ReadFault),
         Err(ReadStop::NoMemory) => return Err(Stop::NoMemory),
     };
-    match answer(alloc, check, bytes.as_slice()) {
-        Ok(judged) => Ok(judged),
+    match answer(alloc, command, bytes.as_slice()) {
+        Ok(answer) => Ok(answer),
         Err(Or::Fault(refused)) => Err(Stop::Refused(refused)),
         Err(Or::NoMemory) => Err(Stop::NoMemory),
     }
 }
 
 /// The answer to these words and this input. The words are looked at first, then the whole input is read.
-fn outcome<S: Source>(alloc: Global, words: &[String], input: &mut S) -> Result<Judged, Stop>
+fn outcome<S: Source>(alloc: Global, words: &[String], input: &mut S) -> Result<Answer, Stop>
     ensures outcome { ComesTo (map string_bytes words.now)
-        (use_of (S.left input.old) (S.left input.new) (S.faults input.old) (S.faults input.new)) result }
+        (use_of (S.left input.old) (S.left input.new) (S.faults input.old) (S.faults input.new)) (found_texts result) }
+    ensures kind { IfOk result (λ a. SuitsWords (words_of (map string_bytes words.now)) a) }
     ensures later { S.faults input.old ≤ S.faults input.new }
 {
     match read_words(alloc, words) {
-        Ok(check) => find_out(alloc, &check, input),
+        Ok(command) => find_out(alloc, &command, input),
         Err(Or::Fault(fault)) => Err(Stop::Words(fault)),
         Err(Or::NoMemory) => Err(Stop::NoMemory),
-    }
-}
-
-impl Judged {
-    /// What `check` prints.
-    fn line(self) -> &'static [u8]
-        ensures { result.now ≡ answer_line self }
-    {
-        match self {
-            Judged::Admitted => b"allow\n",
-            Judged::Denied => b"deny\n",
-            Judged::Unknown => b"unknown\n",
-        }
     }
 }
 
@@ -135,13 +156,14 @@ fn conclude<S: Source, K: Sink, E: Sink>(
     ensures later_out { K.faults out.old ≤ K.faults out.new }
     ensures later_err { E.faults err.old ≤ E.faults err.new }
 {
-    let judged = match outcome(alloc, words, input) {
-        Ok(judged) => judged,
+    let answer = match outcome(alloc, words, input) {
+        Ok(answer) => answer,
         Err(stop) => return give_up(alloc, stop, err),
     };
-    match put_all(out, judged.line()) {
-        Ok(()) => 0,
-        Err(_) => tell(err, b"hbone: write fault\n", 7),
+    match print(alloc, &answer, out) {
+        Printed::Whole => 0,
+        Printed::Failed => tell(err, b"hbone: write fault\n", 7),
+        Printed::NoMemory => tell(err, b"hbone: out of memory\n", 9),
     }
 }
 
@@ -177,14 +199,20 @@ pub fn run<S: Source, K: Sink, E: Sink>(
     // The input is read to its end, or past its limit, before it is looked at.
     ensures reads_enough { (result ≡ 0) ⊎ (result ≡ 3) ⊎ (result ≡ 7) → ReadsEnough (S.left input.old) (S.left input.new) }
 
-    // The answer is printed whole at 0, in part at 7, and at every other status nothing is.
-    ensures printed { result ≡ 0 → (answer : Judged)
-        × IfSome (S.left input.old) (λ left. outcome_of (map string_bytes words.now) left ≡ Ok answer)
-        × Appends (K.written out.old) (K.written out.new) (answer_line answer) }
-    ensures printed_part { result ≡ 7 → (answer : Judged)
-        × IfSome (S.left input.old) (λ left. outcome_of (map string_bytes words.now) left ≡ Ok answer)
-        × ((n : ℕ) × (n < length (answer_line answer)) × Appends (K.written out.old) (K.written out.new) (take n (answer_line answer))) }
-    ensures quiet { result ≢ 0 → result ≢ 7 → K.written out.new ≡ K.written out.old }
+    // The answer, which is that of some input, and of the one that is told, is printed whole at 0 and in part at 7.
+    ensures printed { result ≡ 0 → (text : List ℕ) × IsAnOutcome (map string_bytes words.now) (Ok text)
+        × IfSome (S.left input.old) (λ left. outcome_of (map string_bytes words.now) left ≡ Ok text)
+        × Appends (K.written out.old) (K.written out.new) text }
+    ensures printed_part { result ≡ 7 → (text : List ℕ) × IsAnOutcome (map string_bytes words.now) (Ok text)
+        × IfSome (S.left input.old) (λ left. outcome_of (map string_bytes words.now) left ≡ Ok text)
+        × ((n : ℕ) × (n < length text) × Appends (K.written out.old) (K.written out.new) (take n text)) }
+
+    // At every other status nothing is printed; but where memory is wanting while `show` prints, a part is.
+    ensures quiet { result ≢ 0 → result ≢ 7 → result ≢ 9 → K.written out.new ≡ K.written out.old }
+    ensures printed_wanting { result ≡ 9 → (K.written out.new ≡ K.written out.old) ⊎ ((text : List ℕ)
+        × (words_of (map string_bytes words.now) ≡ Ok shows) × IsAnOutcome (map string_bytes words.now) (Ok text)
+        × IfSome (S.left input.old) (λ left. outcome_of (map string_bytes words.now) left ≡ Ok text)
+        × ((n : ℕ) × (n ≤ length text) × Appends (K.written out.old) (K.written out.new) (take n text))) }
 
     // The line of the status is told, all of it, or a part where a put into err failed; its count counts just that.
     ensures told { IfSome (told_line result (map string_bytes words.now) (S.left input.old))

@@ -1,22 +1,28 @@
 //! The input of a command: gRPC messages, each a response.
 
-ghost use Rattle.std.specs.Prelude.{◌≡◌};
-ghost use Rattle.std.specs.Option.{option_map};
+ghost use Rattle.std.specs.Prelude.{◌≡◌, ◌<◌, ◌≤◌, length, drop, OnOk, IfOk};
 ghost use Rattle.hb_base.specs.Outcome.{Answers, Merges};
-ghost use Rattle.hb_cli.specs.Input.{front_message, after_message, at_message, held_by};
+ghost use Rattle.hb_grpc.specs.Pieces.{fresh};
+ghost use Rattle.hb_cli.specs.Input.{longest_input, none_left, with_response, with_message, front_of, with_front, left_by};
+ghost use Rattle.hb_cli.specs.Taking.{TakesFront, numbered};
 
-use crate::held::Held;
-use crate::response::read_response;
-use hb_base::Or;
+use hb_base::{Bytes, NoMemory, Or, Text};
+use hb_disco::{Response, read_response};
+use hb_grpc::{Fed, Framer, GrpcFault};
+use hb_held::Held;
+use hb_lines::outcome_line;
 use std::alloc::Global;
+use std::marker::Model;
 
-/// Why a message is refused.
+/// Why a message is refused, in this order of looking.
 #[derive(Clone, Copy)]
 pub enum InputWhy {
-    /// It isn't a whole gRPC message with flag 0 and a length of at most 67,108,864, or no response.
+    Compressed,
+    /// It has more than 67,108,864 bytes.
+    TooLong,
+    /// The input ends before it is whole.
+    CutShort,
     NotAResponse,
-    /// It removes a name, or one of its resources is refused.
-    NotYet,
 }
 
 /// The first message that is refused, counted from 1.
@@ -26,75 +32,147 @@ pub struct Refused {
     pub why: InputWhy,
 }
 
-/// The flag and the length before a message.
-const PREFIX: usize = 5;
-
 /// The longest message.
-const LONGEST: u64 = 67_108_864;
+const LONGEST: u32 = 67_108_864;
 
-/// The message in front, and what is behind it.
-fn split_message(bytes: &[u8]) -> Option<(&[u8], &[u8])>
-    ensures { option_map (λ m. (m.0.now, m.1.now)) result ≡ front_message bytes.now }
-{
-    if bytes.len() < PREFIX {
-        return None;
-    }
-    if bytes[0] != 0 {
-        return None;
-    }
-    let message = u32::from_be_bytes([bytes[1], bytes[2], bytes[3], bytes[4]]);
-    let left = bytes.len() - PREFIX;
-    if u64::from(message) > LONGEST || left < message as usize {
-        return None;
-    }
-    Some(bytes[PREFIX..].split_at(message as usize))
+/// What responses leave: the resources held, and the lines that tell what each response did.
+#[derive(Drop)]
+pub struct Left {
+    pub held: Held,
+    pub told: Vec<u8>,
 }
 
-/// Takes the message of this number.
-fn take_message(
-    alloc: Global,
-    held: &mut Held,
-    number: u64,
-    message: &[u8],
-) -> Result<(), Or<Refused>>
-    ensures { Merges (at_message number (after_message held.old message.now)) held.new result }
+impl Model for Left {
+    ghost use Rattle.std.specs.Coded.{codes};
+    ghost use Rattle.hb_held.specs.contracts.held.Held.{the_row as held_row};
+    ghost use Rattle.hb_cli.specs.Input.{Leaves};
+
+    ghost Value = { Leaves };
+
+    ghost coded = { Prim.hlevel (codes, held_row.coded) };
+
+    ghost view = { λ l. record { held = l.held; told = l.told.items } };
+}
+
+/// The message in front of bytes, of which there are some, and how many of them it takes.
+fn next_message(framer: &mut Framer, bytes: &[u8]) -> Result<(usize, Bytes), Or<InputWhy>>
+    requires ready { framer.old ≡ fresh longest_input }
+    requires some { 0 < length bytes.now }
+    ensures told { Answers result (front_of bytes.now) }
+    ensures within { IfOk result (λ given. given.0 ≤ length bytes.now) }
+    ensures ready { IfOk result (λ _. framer.new ≡ fresh longest_input) }
 {
-    let response = match read_response(alloc, message) {
-        Ok(response) => response,
-        Err(Or::Fault(_)) => {
-            return Err(Or::Fault(Refused {
-                message: number,
-                why: InputWhy::NotAResponse,
-            }));
+    match framer.feed(bytes) {
+        Ok(
+            Fed {
+                taken,
+                message: Some(message),
+            },
+        ) => Ok((taken, message)),
+        Ok(Fed { message: None, .. }) => Err(Or::Fault(InputWhy::CutShort)),
+        Err(Or::Fault(GrpcFault::Compressed { .. })) => Err(Or::Fault(InputWhy::Compressed)),
+        Err(Or::Fault(GrpcFault::TooLong { .. })) => Err(Or::Fault(InputWhy::TooLong)),
+        Err(Or::NoMemory) => Err(Or::NoMemory),
+    }
+}
+
+impl Left {
+    /// Takes a response; tells of it where `tells`.
+    fn take(&mut self, alloc: Global, tells: bool, response: &Response) -> Result<(), NoMemory>
+        ensures { OnOk result (self.new ≡ with_response tells self.old response.now) }
+    {
+        let outcome = self.held.apply(alloc, response)?;
+        if tells {
+            let line = outcome_line(alloc, response.kind, &response.nonce, &outcome)?;
+            self.told.extend_from_slice(line.as_slice())?;
         }
-        Err(Or::NoMemory) => return Err(Or::NoMemory),
-    };
-    if held.apply(alloc, &response)? {
-        return Ok(());
+        Ok(())
     }
-    Err(Or::Fault(Refused {
-        message: number,
-        why: InputWhy::NotYet,
-    }))
+
+    /// Takes a message.
+    fn take_message(
+        &mut self,
+        alloc: Global,
+        tells: bool,
+        message: &[u8],
+    ) -> Result<(), Or<InputWhy>>
+        ensures { Merges (with_message tells self.old message.now) self.new result }
+    {
+        match read_response(alloc, message) {
+            Ok(response) => {
+                self.take(alloc, tells, &response)?;
+                Ok(())
+            }
+            Err(Or::Fault(_)) => Err(Or::Fault(InputWhy::NotAResponse)),
+            Err(Or::NoMemory) => Err(Or::NoMemory),
+        }
+    }
+
+    /// Takes the message in front of bytes, of which there are some, and says how many of them it takes.
+    fn take_front(
+        &mut self,
+        alloc: Global,
+        framer: &mut Framer,
+        tells: bool,
+        bytes: &[u8],
+    ) -> Result<usize, Or<InputWhy>>
+        requires ready { framer.old ≡ fresh longest_input }
+        requires some { 0 < length bytes.now }
+        ensures told { TakesFront (with_front tells self.old bytes.now) self.new result }
+        ensures within { IfOk result (λ taken. taken ≤ length bytes.now) }
+        ensures ready { IfOk result (λ _. framer.new ≡ fresh longest_input) }
+    {
+        let (taken, message) = next_message(framer, bytes)?;
+        self.take_message(alloc, tells, message.as_slice())?;
+        Ok(taken)
+    }
 }
 
-/// The resources that an input leaves, or the first of its messages that is refused.
-pub fn read_held(alloc: Global, input: &[u8]) -> Result<Held, Or<Refused>>
-    ensures { Answers result (held_by input.now) }
+/// What is behind the first `n` bytes.
+fn behind(bytes: &[u8], n: usize) -> &[u8]
+    requires { n ≤ length bytes.now }
+    ensures { result.now ≡ drop n bytes.now }
 {
-    let mut held = Held::new(alloc);
-    let mut left = input;
+    &bytes[n..]
+}
+
+/// The message of this number is refused.
+fn numbered(number: u64, why: Or<InputWhy>) -> Or<Refused>
+    ensures { result ≡ numbered number why }
+{
+    match why {
+        Or::Fault(why) => Or::Fault(Refused {
+            message: number,
+            why,
+        }),
+        Or::NoMemory => Or::NoMemory,
+    }
+}
+
+/// What an input leaves at a node of a network, or the first of its messages that is refused. Lines are told
+/// where `tells`.
+pub fn read_input(
+    alloc: Global,
+    network: Text,
+    node: Text,
+    tells: bool,
+    input: &[u8],
+) -> Result<Left, Or<Refused>>
+    ensures { Answers result (left_by tells network node input.now) }
+{
+    let mut left = Left {
+        held: Held::new(alloc, network, node),
+        told: Vec::new(alloc),
+    };
+    let mut framer = Framer::new(alloc, LONGEST);
+    let mut bytes = input;
     let mut number = 1u64;
-    while !left.is_empty() {
-        let Some((message, behind)) = split_message(left) else {
-            return Err(Or::Fault(Refused {
-                message: number,
-                why: InputWhy::NotAResponse,
-            }));
-        };
-        take_message(alloc, &mut held, number, message)?;
-        left = behind;
+    while !bytes.is_empty() {
+        match left.take_front(alloc, &mut framer, tells, bytes) {
+            Ok(taken) => bytes = behind(bytes, taken),
+            Err(why) => return Err(numbered(number, why)),
+        }
         number += 1;
     }
-    Ok(held)
+    Ok(left)
 }

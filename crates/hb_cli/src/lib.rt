@@ -1,13 +1,10 @@
-//! The command line: words, the input, and what a command answers.
+//! The commands: what they answer to words and input.
 #![tactic(auto)]
 
+mod answer;
 mod command;
-mod held;
 mod input;
 mod judge;
-mod policy;
-mod response;
 mod stop;
-mod words;
 
 pub use command::run;

@@ -21,4 +21,6 @@ mod rows;
 #[cfg(test)]
 mod runs;
 #[cfg(test)]
+mod shows;
+#[cfg(test)]
 mod words;

@@ -5,8 +5,11 @@ use crate::answers::ANSWERS;
 use crate::attributes::{ATTRIBUTES, CONNECTIONS};
 use crate::faults::{FAULTS, assert_fault};
 use crate::policies::POLICIES;
-use crate::refusals::REFUSALS;
-use crate::runs::{AS_C, AS_D, AS_NONE, NOTHING_FAILS, assert_answers, assert_refuses};
+use crate::refusals::{REFUSALS, REFUSED_RESOURCES};
+use crate::runs::{
+    AS_C, AS_D, AS_NONE, NOTHING_FAILS, SHOW, assert_answers, assert_refuses, assert_shows,
+};
+use crate::shows::{SHOWN_TEXTS, SHOWS};
 use crate::words::ACCEPTED;
 use std::process::Abort;
 use std::str::Split;
@@ -21,6 +24,8 @@ enum Kind {
     Attributes,
     /// The input, and the line that tells why it is refused.
     Refusals,
+    /// The input, and the lines that are shown.
+    Shows,
     /// Words, reads and writes that fail, and what a run ends with.
     Faults,
 }
@@ -37,6 +42,7 @@ fn assert_row(rt: &(impl Abort + AllocGlobal), kind: &Kind, row: &str) {
         Kind::Policies => assert_policy(rt, &mut fields),
         Kind::Attributes => assert_attributes(rt, &mut fields),
         Kind::Refusals => assert_refusal(rt, &mut fields),
+        Kind::Shows => assert_shown(rt, &mut fields),
         Kind::Faults => assert_fault(rt, &mut fields),
     }
 }
@@ -77,7 +83,21 @@ fn assert_attributes(rt: &(impl Abort + AllocGlobal), fields: &mut Split<'_, cha
 
 fn assert_refusal(rt: &(impl Abort + AllocGlobal), fields: &mut Split<'_, char>) {
     let input = field(rt, fields);
-    assert_refuses(rt, AS_C, input, NOTHING_FAILS, 3, field(rt, fields));
+    let line = field(rt, fields);
+    assert_refuses(rt, AS_C, input, NOTHING_FAILS, 3, line);
+    assert_refuses(rt, SHOW, input, NOTHING_FAILS, 3, line);
+}
+
+fn assert_shown(rt: &(impl Abort + AllocGlobal), fields: &mut Split<'_, char>) {
+    let input = field(rt, fields);
+    let mut lines = Vec::new(rt.alloc());
+    for line in fields {
+        lines
+            .extend_from_slice(line.trim().as_bytes())
+            .expect(rt, "memory");
+        lines.push(b'\n').expect(rt, "memory");
+    }
+    assert_shows(rt, input, &lines);
 }
 
 /// Each row of a table ends as it wants.
@@ -96,5 +116,8 @@ fn runs_end_as_their_rows_want(rt: HostRuntime) {
     assert_rows(&rt, &Kind::Policies, POLICIES);
     assert_rows(&rt, &Kind::Attributes, ATTRIBUTES);
     assert_rows(&rt, &Kind::Refusals, REFUSALS);
+    assert_rows(&rt, &Kind::Shows, REFUSED_RESOURCES);
+    assert_rows(&rt, &Kind::Shows, SHOWS);
+    assert_rows(&rt, &Kind::Shows, SHOWN_TEXTS);
     assert_rows(&rt, &Kind::Faults, FAULTS);
 }

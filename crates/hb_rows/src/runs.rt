@@ -17,6 +17,9 @@ pub const AS_D: &str = "check|--node|n1|SOURCE|spiffe://cluster.local/ns/b/sa/d|
 /// The words of a question without an identity.
 pub const AS_NONE: &str = "check|--node|n1|SOURCE|none|TARGET|";
 
+/// The words that ask for what is held, each ended by `|`.
+pub const SHOW: &str = "show|";
+
 /// Which calls of a run fail, counted from 1, or 0 for none: a take of the input, a put of the output, and a put of the
 /// error text; and the room of the latter two.
 #[derive(Clone, Copy)]
@@ -28,7 +31,7 @@ pub struct Failing {
     pub err_room: usize,
 }
 
-/// No call fails, and there is room for each line.
+/// No call fails, and there is room for each line but those of `show`.
 pub const NOTHING_FAILS: Failing = Failing {
     take: 0,
     put: 0,
@@ -169,6 +172,26 @@ pub fn assert_ends(
 pub fn assert_answers(rt: &(impl Abort + AllocGlobal), words: &str, input: &str, answer: &str) {
     let want = format!(in rt.alloc(); "0 \"{answer}\\n\" \"\"").expect(rt, "memory");
     assert_ends(rt, words, input, NOTHING_FAILS, want.as_str());
+}
+
+/// Shows what the resources of an input leave, and compares the lines, beside which nothing is written.
+pub fn assert_shows(rt: &(impl Abort + AllocGlobal), input: &str, lines: &[u8]) {
+    let failing = Failing {
+        room: 4096,
+        ..NOTHING_FAILS
+    };
+    let want = told(rt, 0, lines, b"");
+    assert_ends(rt, SHOW, input, failing, want.as_str());
+}
+
+/// Shows what the resources of an input leave where the output has room for the first lines alone, and compares these.
+pub fn assert_first_lines(rt: &(impl Abort + AllocGlobal), bytes: &[u8], lines: &str) {
+    let failing = Failing {
+        room: lines.len(),
+        ..NOTHING_FAILS
+    };
+    let want = told(rt, 7, lines.as_bytes(), b"hbone: write fault\n");
+    assert_run(rt, SHOW, bytes, failing, want.as_str());
 }
 
 /// Runs over an input, some of whose calls fail, and compares the status, which isn't 0, and its line of error text, beside

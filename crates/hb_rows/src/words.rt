@@ -16,6 +16,15 @@ check|--node| |SOURCE|none|TARGET|; WORKLOAD; unknown
 check|--node|n-1|SOURCE|none|TARGET|; WORKLOAD; unknown
 check|--node|n1=n1|SOURCE|none|TARGET|; WORKLOAD; unknown
 check|--node|é|SOURCE|none|TARGET|; WORKLOAD; unknown
+# So is that of --network, before --node or behind it; without it the network is the one of the empty name.
+check|--node|n1|--network|x|SOURCE|none|TARGET|; WORKLOAD; unknown
+check|--network|x|--node|n1|SOURCE|none|TARGET|; WORKLOAD; unknown
+check|--network|x|--node|n1|SOURCE|IDENTITY|TARGET|; ; unknown
+check|--node|n1|--network| |SOURCE|none|TARGET|; WORKLOAD; unknown
+check|--node|n1|--network|a-b=c|SOURCE|none|TARGET|; WORKLOAD; unknown
+check|--node|n1|--network|é|SOURCE|none|TARGET|; WORKLOAD; unknown
+check|--node|network|--network|node|SOURCE|none|TARGET|; WORKLOAD; unknown
+check|--node|check|--network|show|SOURCE|none|TARGET|; WORKLOAD; unknown
 # The first and the last address, and all octets at their bounds.
 check|--node|n1|0.0.0.0|none|TARGET|; WORKLOAD; allow
 check|--node|n1|255.255.255.255|none|TARGET|; WORKLOAD; allow
@@ -40,8 +49,9 @@ check|--node|n1|SOURCE|spiffe://A.b_c-9/ns/-/sa/_|TARGET|; WORKLOAD; allow
 check|--node|n1|SOURCE|spiffe://a/ns/ns/sa/sa|TARGET|; WORKLOAD; allow
 check|--node|n1|SOURCE|spiffe://none/ns/./sa/..|TARGET|; WORKLOAD; allow";
 
-/// The form of accepted words, which each reason names.
-const USAGE: &str = "(usage: hbone check --node NODE SOURCE IDENTITY TARGET)";
+/// The forms of accepted words, which each reason names.
+const USAGE: &str =
+    "(usage: hbone check --node NODE [--network NETWORK] SOURCE IDENTITY TARGET, or hbone show)";
 
 /// Words that aren't accepted, each ended by `|`; an empty line has none. A line that begins with `=` has the reason that
 /// is told of the next ones.
@@ -56,7 +66,13 @@ help|
 --help|
 --|
 --version|
-show|
+--show|
+sho|
+shows|
+Show|
+show |
+ show|
+--network|x|show|
 chec|
 checks|
 Check|
@@ -66,7 +82,19 @@ check |
 help|check|
 --|check|--node|n1|SOURCE|IDENTITY|TARGET|
 Check|--node|n1|SOURCE|IDENTITY|TARGET|
-# The option is missing.
+# A word behind `show`.
+= show takes no words
+show|x|
+show||
+show|show|
+show|check|
+show|--|
+show|-h|
+show|--help|
+show|--node|n1|
+show|--network|x|
+show|--node|n1|SOURCE|IDENTITY|TARGET|
+# The option --node is missing.
 = --node is wanted behind the command
 check|
 check|SOURCE|IDENTITY|TARGET|
@@ -76,6 +104,11 @@ check|node|n1|SOURCE|IDENTITY|TARGET|
 check||--node|n1|SOURCE|IDENTITY|TARGET|
 check|check|--node|n1|SOURCE|IDENTITY|TARGET|
 check|help|
+check|show|
+check|--network|x|
+check|--network|x|SOURCE|IDENTITY|TARGET|
+check|--network|x|SOURCE|--node|n1|IDENTITY|TARGET|
+check|SOURCE|IDENTITY|TARGET|--network|x|--node|n1|
 # Unknown options.
 = unknown option
 check|-h|
@@ -90,9 +123,17 @@ check|--nod|n1|SOURCE|IDENTITY|TARGET|
 check|--nodes|n1|SOURCE|IDENTITY|TARGET|
 check|--Node|n1|SOURCE|IDENTITY|TARGET|
 check|--node |n1|SOURCE|IDENTITY|TARGET|
-check|--network|x|--node|n1|SOURCE|IDENTITY|TARGET|
-check|--node|n1|--network|x|SOURCE|IDENTITY|TARGET|
 check|--node|n1|--network=x|SOURCE|IDENTITY|TARGET|
+check|--network=x|--node|n1|SOURCE|IDENTITY|TARGET|
+check|--network=|x|--node|n1|SOURCE|IDENTITY|TARGET|
+check|--node|n1|-network|x|SOURCE|IDENTITY|TARGET|
+check|--node|n1|--net|x|SOURCE|IDENTITY|TARGET|
+check|--node|n1|--networks|x|SOURCE|IDENTITY|TARGET|
+check|--node|n1|--Network|x|SOURCE|IDENTITY|TARGET|
+check|--node|n1|--id|x|SOURCE|IDENTITY|TARGET|
+check|--node|n1|--network|x|--id|x|SOURCE|IDENTITY|TARGET|
+check|--node|n1|--network|x|--|SOURCE|IDENTITY|TARGET|
+check|--node|n1|--network|x|-h|
 check|--|--node|n1|SOURCE|IDENTITY|TARGET|
 check|--node|n1|--|SOURCE|IDENTITY|TARGET|
 check|--node|n1|-h|
@@ -100,14 +141,37 @@ check|--node|n1|--help|
 check|--node|n1|--node=n2|SOURCE|IDENTITY|TARGET|
 check|--node|n1|-10.0.0.9|IDENTITY|TARGET|
 check|--node|n1|-|IDENTITY|TARGET|
-# The option twice.
+# An option twice.
 = --node stands twice
 check|--node|n1|--node|n1|SOURCE|IDENTITY|TARGET|
 check|--node|n1|--node|n2|SOURCE|IDENTITY|TARGET|
-check|--node|n1|--node|
-# The option's value is missing, empty, or begins with a dash.
+check|--node|n1|--network|x|--node|n1|SOURCE|IDENTITY|TARGET|
+check|--node|n1|--node|n2|--network|
+= --network stands twice
+check|--node|n1|--network|x|--network|x|SOURCE|IDENTITY|TARGET|
+check|--node|n1|--network|x|--network|y|SOURCE|IDENTITY|TARGET|
+check|--network|x|--node|n1|--network|x|SOURCE|IDENTITY|TARGET|
+check|--network|x|--network|x|SOURCE|IDENTITY|TARGET|
+check|--network|x|--network|x|
+# An option's value is missing, empty, or begins with a dash.
 = --node has no value
 check|--node|
+check|--node|n1|--node|
+check|--network|x|--node|
+= --network has no value
+check|--network|
+check|--node|n1|--network|
+check|--node|n1|--network|x|--network|
+= the value of --network is empty or begins with a dash
+check|--node|n1|--network||SOURCE|IDENTITY|TARGET|
+check|--network||--node|n1|SOURCE|IDENTITY|TARGET|
+check|--node|n1|--network||
+check|--node|n1|--network|-|SOURCE|IDENTITY|TARGET|
+check|--node|n1|--network|-x|SOURCE|IDENTITY|TARGET|
+check|--node|n1|--network|--|SOURCE|IDENTITY|TARGET|
+check|--network|--node|n1|SOURCE|IDENTITY|TARGET|
+check|--node|n1|--network|x|--network|-x|SOURCE|IDENTITY|TARGET|
+check|--network|--network|
 = the value of --node is empty or begins with a dash
 check|--node||SOURCE|IDENTITY|TARGET|
 check|--node||
@@ -115,6 +179,8 @@ check|--node|-|SOURCE|IDENTITY|TARGET|
 check|--node|-n1|SOURCE|IDENTITY|TARGET|
 check|--node|--|SOURCE|IDENTITY|TARGET|
 check|--node|--node|n1|SOURCE|IDENTITY|TARGET|
+check|--node|--network|x|SOURCE|IDENTITY|TARGET|
+check|--node|n1|--node||SOURCE|IDENTITY|TARGET|
 check|--node|--node|
 # Too few words, and too many.
 = SOURCE, IDENTITY and TARGET are wanted
@@ -123,12 +189,19 @@ check|--node|n1|SOURCE|
 check|--node|n1|SOURCE|IDENTITY|
 check|--node|n1|IDENTITY|TARGET|
 check|--node|SOURCE|IDENTITY|TARGET|
+check|--node|n1|--network|x|
+check|--node|n1|--network|x|SOURCE|IDENTITY|
+check|--node|n1|--network|SOURCE|IDENTITY|TARGET|
+check|--network|x|--node|SOURCE|IDENTITY|TARGET|
 = too many words
 check|--node|n1|SOURCE|IDENTITY|TARGET|TARGET|
 check|--node|n1|SOURCE|IDENTITY|TARGET||
 check|--node|n1|SOURCE|IDENTITY|TARGET|--node|n2|
 check|--node|n1|SOURCE|IDENTITY|TARGET|--network|x|
+check|--node|n1|SOURCE|IDENTITY|TARGET|--network|
 check|--node|n1|SOURCE|--node|n1|IDENTITY|TARGET|
+check|--node|n1|SOURCE|--network|x|IDENTITY|TARGET|
+check|--node|n1|x|--network|x|SOURCE|IDENTITY|TARGET|
 check|--node|n1|SOURCE|--|IDENTITY|TARGET|
 check|--node|n1|SOURCE|IDENTITY|TARGET|-h|
 check|--node|n1||||||
@@ -262,10 +335,18 @@ check|--node|n1|--x|--node|
 check|--node|n1|x|x|
 = too many words
 check|--node|n1|x|x|x|x|
-= unknown command
+= show takes no words
 show|--x|
 = unknown option
-check|--x|--node|";
+check|--x|--node|
+= SOURCE is neither an IPv4 nor an IPv6 address
+check|--node|n1|--network|x|x|x|x|
+= the value of --network is empty or begins with a dash
+check|--network||--node|-|
+= the value of --node is empty or begins with a dash
+check|--node||--network|-|
+= --node is wanted behind the command
+check|--network|x|x|x|x|x|";
 
 /// Words are refused, and nothing is read: the first take fails, and the status would be 6.
 fn assert_words_refused(rt: &(impl Abort + AllocGlobal), words: &str, reason: &str) {

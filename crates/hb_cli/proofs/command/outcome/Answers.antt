@@ -1,6 +1,6 @@
-use Rattle.hb_cli.specs.Asked.{question}
+use Rattle.hb_words.specs.Asked.{command_of}
 use Rattle.hb_cli.proofs.Outcomes.{was_asked}
 use Rattle.hb_cli.proofs.command.outcome.Goals as goal
 
 pub returns-in-Ok-clause-outcome : goal.returns-in-Ok-clause-outcome
-returns-in-Ok-clause-outcome g c = was_asked _ (question c.in-Ok.check) _ _ c.in-Ok.ensures c.find_out.ensures.found
+returns-in-Ok-clause-outcome g c = was_asked _ (command_of c.in-Ok.command) _ _ c.in-Ok.ensures c.find_out.ensures.found

@@ -1,5 +1,5 @@
 use Rattle.std.proofs.Common.{refl}
-use Rattle.hb_cli.proofs.Endings.{at, status_is_one, refused_is_two, is_stated, is_complete, reads_counted, puts_counted, reads_enough, is_quiet, is_told}
+use Rattle.hb_cli.proofs.Endings.{at, status_is_one, refused_is_two, is_stated, is_complete, reads_counted, puts_counted, reads_enough, is_quiet, in_part, is_told}
 use Rattle.hb_cli.proofs.command.run.Goals as goal
 
 pub returns-clause-status : goal.returns-clause-status
@@ -30,13 +30,16 @@ pub returns-clause-reads_enough : goal.returns-clause-reads_enough
 returns-clause-reads_enough g c = reads_enough _ c.conclude.result c.conclude.ensures.ending
 
 pub returns-clause-printed : goal.returns-clause-printed
-returns-clause-printed g c = λ zero. let e = at _ c.conclude.result 0 c.conclude.ensures.ending zero in (e.0, e.1.1, e.2.0)
+returns-clause-printed g c = λ zero. let e = at _ c.conclude.result 0 c.conclude.ensures.ending zero in (e.0, e.1.2, e.1.1, e.2.0)
 
 pub returns-clause-printed_part : goal.returns-clause-printed_part
-returns-clause-printed_part g c = λ seven. let e = at _ c.conclude.result 7 c.conclude.ensures.ending seven in (e.0, e.1.1, e.2.0)
+returns-clause-printed_part g c = λ seven. let e = at _ c.conclude.result 7 c.conclude.ensures.ending seven in (e.0, e.1.2, e.1.1, e.2.0)
 
 pub returns-clause-quiet : goal.returns-clause-quiet
 returns-clause-quiet g c = is_quiet _ c.conclude.result c.conclude.ensures.ending
+
+pub returns-clause-printed_wanting : goal.returns-clause-printed_wanting
+returns-clause-printed_wanting g c = λ nine. in_part _ (at _ c.conclude.result 9 c.conclude.ensures.ending nine)
 
 pub returns-clause-told : goal.returns-clause-told
 returns-clause-told g c = is_told _ c.conclude.result c.conclude.ensures.ending

@@ -1,18 +1,15 @@
-use Rattle.std.proofs.Common.{◌≡◌, ◌++◌, ◌∷◌, [], ◌+◌, take, arith}
-use Rattle.std.proofs.lemmas.Grind.{common_steps}
-use Rattle.std.proofs.lemmas.List.Elements.{filter_map-append, filter-append}
-use Rattle.hb_cli.specs.Judge.{policies}
+use Rattle.std.proofs.Common.{[], ◌∷◌, ◌++◌, ap, sym, ◌∙◌, append_assoc}
+use Rattle.hb_held.specs.Policies.{policies_left}
 use Rattle.hb_cli.proofs.judge.is_admitted.Goals as goal
 
-pub loop-entry-init : goal.loop-entry-init
-loop-entry-init c = c.new-tally.ensures (record { peer = c.args.peer.now; target = c.args.target })
+pub loop-policy-init : goal.loop-policy-init
+loop-policy-init c = ([], c.new-tally.ensures _, c.policies_for-policies.ensures)
 
-pub loop-entry-preserved : goal.loop-entry-preserved
-loop-entry-preserved c =
-    let i = c.loop-entry.entry-index in
-    let entries = c.args.entries.now in
-    let w = c.args.workload.now in
-    let e = c.entry-item.result in
-    let more : policies (take (i + 1) entries) w ≡ policies (take i entries) w ++ policies (e ∷ []) w =
-    grind (arith, common_steps, filter_map-append, filter-append) in
-    rw more (c.count.ensures (policies (take i entries) w) c.loop-entry.invariant)
+pub loop-policy-preserved : goal.loop-policy-preserved
+loop-policy-preserved c =
+    let i = c.loop-policy.invariant in
+    let p = c.in-Some.policy.now in (
+      i.0 ++ p ∷ [],
+      c.count.ensures i.0 i.1,
+      append_assoc i.0 (p ∷ []) (policies_left c.next.new.self) ∙ ap (λ l. i.0 ++ l) (sym c.in-Some.ensures.steps) ∙ i.2,
+    )

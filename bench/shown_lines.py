@@ -1,0 +1,48 @@
+"""Spells the lines that `show` prints, for the scripts beside this one."""
+
+import json
+
+from spelling import span
+
+
+def line(**members):
+    return json.dumps(members, sort_keys=True, separators=(",", ":"), ensure_ascii=False)
+
+
+def came(kind, applied, *refused, removed=0, nonce=""):
+    """The line of a response, whose refused resources are each a name and why."""
+    return line(applied=applied, kind=kind, nonce=nonce, refused=[{"name": name, "why": why} for name, why in refused], removed=removed)
+
+
+def addresses_came(applied, *refused, **more):
+    return came("address", applied, *refused, **more)
+
+
+def policies_came(applied, *refused, **more):
+    return came("authorization", applied, *refused, **more)
+
+
+def workload_line(name, record, addresses=(), node="", version="1"):
+    return line(addresses=addresses, kind="workload", name=name, node=node, record=record.hex(), version=version)
+
+
+def service_line(name, record, addresses=(), version="1"):
+    return line(addresses=addresses, kind="service", name=name, record=record.hex(), version=version)
+
+
+def policy_line(name, record, action, scope, version="1"):
+    return line(action=action, kind="policy", name=name, record=record.hex(), scope=scope, version=version)
+
+
+def row(title, input_, lines):
+    """A row of a table that is a raw text: what it is, its input, and the lines."""
+    fields = [input_, *lines]
+    assert not any(";" in field or '"##' in field for field in fields), title
+    return f"# {title[0].upper()}{title[1:]}.\n" + "; ".join(fields)
+
+
+# The lines of the workload of WORKLOAD and of the policy of ALLOW_ONE.
+WEB = span(1, bytes.fromhex("0a03776562 120161 1a040a000007 2801 4a026e31 820103612f70 a201027531"))
+HELD = workload_line("u1", WEB, ["10.0.0.7"], node="n1")
+ONLY_C = bytes.fromhex("0a0170 120161 1802 2a1f 121d 121b 1a19 0a17") + b"cluster.local/ns/a/sa/c"
+ALLOWED = policy_line("a/p", ONLY_C, "allow", "selector")

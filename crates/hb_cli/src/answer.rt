@@ -1,0 +1,101 @@
+//! What a command prints.
+
+ghost use Rattle.std.specs.Prelude.{◌≡◌, ◌≢◌, ◌≤◌, ◌++◌};
+ghost use Rattle.std.specs.List.{flat_map};
+ghost use Rattle.hb_held.specs.Rows.{rows};
+ghost use Rattle.hb_lines.specs.Row.{row_text};
+ghost use Rattle.hb_cli.specs.Answer.{answer_text, IsJudged};
+ghost use Rattle.hb_cli.specs.Ending.{Prints, use_of};
+ghost use Rattle.hb_cli.specs.Run.{answer_line, shown};
+ghost use Rattle.hb_cli.specs.declared.answer.Printed.TheVariants as printing;
+
+use crate::input::Left;
+use crate::judge::Judged;
+use hb_base::{Sink, put_all};
+use hb_held::Held;
+use hb_lines::row_line;
+use std::alloc::Global;
+
+/// The answer of a command: of `check`, or of `show`.
+#[derive(Drop)]
+pub enum Answer {
+    Judged(Judged),
+    Left(Left),
+}
+
+/// How far an answer is printed: whole; up to a put that failed; or as far as memory went.
+#[derive(Clone, Copy)]
+pub enum Printed {
+    Whole,
+    Failed,
+    NoMemory,
+}
+
+impl Judged {
+    /// What `check` prints.
+    fn line(self) -> &'static [u8]
+        ensures { result.now ≡ answer_line self }
+    {
+        match self {
+            Judged::Admitted => b"allow\n",
+            Judged::Denied => b"deny\n",
+            Judged::Unknown => b"unknown\n",
+        }
+    }
+}
+
+/// Prints a text that is there whole.
+fn print_text<K: Sink>(out: &mut K, text: &[u8]) -> Printed
+    ensures printed { Prints (use_of (K.written out.old) (K.written out.new) (K.faults out.old) (K.faults out.new)) text.now result }
+    ensures later { K.faults out.old ≤ K.faults out.new }
+    ensures made { result ≢ printing.NoMemory }
+{
+    match put_all(out, text) {
+        Ok(()) => Printed::Whole,
+        Err(_) => Printed::Failed,
+    }
+}
+
+/// Prints a line of each resource held, by kind and name.
+fn print_rows<K: Sink>(alloc: Global, held: &Held, out: &mut K) -> Printed
+    ensures printed { Prints (use_of (K.written out.old) (K.written out.new) (K.faults out.old) (K.faults out.new))
+        (flat_map row_text (rows held.now)) result }
+    ensures later { K.faults out.old ≤ K.faults out.new }
+{
+    let mut rows = held.rows();
+    while let Some(row) = rows.next() {
+        let Ok(line) = row_line(alloc, &row) else {
+            return Printed::NoMemory;
+        };
+        match print_text(out, line.as_slice()) {
+            Printed::Whole => {}
+            other => return other,
+        }
+    }
+    Printed::Whole
+}
+
+/// Prints the lines of the responses, and then those of the resources held.
+fn print_left<K: Sink>(alloc: Global, left: &Left, out: &mut K) -> Printed
+    ensures printed { Prints (use_of (K.written out.old) (K.written out.new) (K.faults out.old) (K.faults out.new))
+        (shown left.now) result }
+    ensures later { K.faults out.old ≤ K.faults out.new }
+{
+    match print_text(out, left.told.as_slice()) {
+        Printed::Whole => print_rows(alloc, &left.held, out),
+        other => other,
+    }
+}
+
+/// Prints an answer.
+pub fn print<K: Sink>(alloc: Global, answer: &Answer, out: &mut K) -> Printed
+    ensures printed { Prints (use_of (K.written out.old) (K.written out.new) (K.faults out.old) (K.faults out.new))
+        (answer_text answer.now) result }
+    ensures later { K.faults out.old ≤ K.faults out.new }
+    ensures made { IsJudged answer.now → result ≢ printing.NoMemory }
+{
+    match answer {
+        Answer::Judged(judged) => print_text(out, judged.line()),
+        Answer::Left(left) => print_left(alloc, left, out),
+    }
+}
