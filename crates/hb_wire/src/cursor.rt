@@ -22,6 +22,12 @@ impl<'a> Cursor<'a> {
     pub fn varint(self) -> Result<(u64, Cursor<'a>), WireFault>
         ensures { seen (λ v. (v.0, unread v.1)) result ≡ varint_in (unread self.entry) }
     {
+        // Most are one byte, which needs no reading byte by byte.
+        if let Some(byte) = self.left.first() {
+            if *byte < 128 {
+                return Ok((u64::from(*byte), self.behind(1)));
+            }
+        }
         let read = read_varint(self.left, self.at, 0)?;
         Ok((read.value, self.behind(read.length)))
     }
