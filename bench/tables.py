@@ -23,6 +23,8 @@ WHOLE = [
     ("streams.py", "hb_streams_rows", "rows.rt"),
     ("ip_rows.py", "hb_parts_rows", "ips.rt"),
     ("record_rows.py", "hb_records_rows", "spelled.rt"),
+    ("request_rows.py", "hb_disco_rows", "written.rt"),
+    ("lines_rows.py", "hb_lines_rows", "told.rt"),
 ]
 PARTS = [("frame_vectors.py", "hb_http2_rows", "frame_vectors.rt")]
 
