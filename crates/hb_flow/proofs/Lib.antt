@@ -1,0 +1,6 @@
+pub mod Changes
+pub mod Numbers
+pub mod Same
+pub mod Sending
+pub mod Sizes
+pub mod Taking

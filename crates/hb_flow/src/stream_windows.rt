@@ -1,0 +1,131 @@
+//! The windows of one stream.
+
+ghost use Rattle.std.specs.Prelude.{◌≡◌, ◌≤◌, ◌+◌, pos, ◌+ℤ◌, ◌-ℤ◌, ◌≤ℤ◌};
+ghost use Rattle.hb_windows.specs.Sending.{largest};
+ghost use Rattle.hb_flow.specs.Windows.{room, counted, less, more, sized, taken, owing, due_of, paid_of};
+ghost use Rattle.hb_flow.specs.Flows.{new_windows};
+ghost use Rattle.hb_flow.specs.Answers.{Rises, Comes};
+
+use crate::window;
+use hb_windows::{Overrun, SendWindow, TakeWindow};
+use std::marker::Model;
+
+/// The initial size of a window of this end (RFC 9113 section 6.9.2).
+pub const FIRST_SIZE: u32 = 65_535;
+
+/// The windows of a stream.
+#[derive(Drop)]
+pub struct StreamWindows {
+    sending: SendWindow,
+    /// The initial size that `sending` counts from.
+    size: u32,
+    taking: TakeWindow,
+    /// The octets that `taking` keeps.
+    kept: u32,
+}
+
+impl Model for StreamWindows {
+    ghost use Rattle.std.specs.Prelude.{◌≡◌, ◌≤◌, ◌+◌};
+    ghost use Rattle.hb_windows.specs.Sending.{largest};
+    ghost use Rattle.hb_flow.specs.Windows.{Windows};
+
+    ghost Value = { Windows };
+
+    ghost view = { λ w. record { sending = w.sending; taking = w.taking } };
+
+    ghost invariant = { λ w.
+        (w.size ≡ w.sending.size) × (w.kept ≡ w.taking.kept)
+        × (w.taking.granted + w.taking.kept + w.taking.owed ≤ largest) };
+}
+
+impl StreamWindows {
+    /// The windows of a new stream, at the peer's initial size.
+    pub fn new(initial: u32) -> StreamWindows
+        requires { initial ≤ largest }
+        ensures { result ≡ new_windows initial }
+    {
+        StreamWindows {
+            sending: SendWindow::new(initial),
+            size: initial,
+            taking: TakeWindow::new(FIRST_SIZE),
+            kept: 0,
+        }
+    }
+
+    /// The octets that the sending window lets go.
+    pub fn room(&self) -> u32
+        ensures value { result ≡ room self.now.sending }
+        ensures most { self.now.sending.held ≤ℤ pos largest }
+    {
+        window::room_of(&self.sending)
+    }
+
+    /// Takes away the octets of DATA that is sent.
+    pub fn spend(&mut self, n: u32)
+        requires { n ≤ room self.old.sending }
+        ensures { self.new ≡ record self.old { sending = less self.old.sending n } }
+    {
+        window::spend(&mut self.sending, n);
+    }
+
+    /// Gives back the octets of DATA that is taken back.
+    pub fn give_back(&mut self, n: u32)
+        requires { (self.old.sending.held +ℤ pos n) ≤ℤ pos largest }
+        ensures { self.new ≡ record self.old { sending = more self.old.sending n } }
+    {
+        self.sending.give_back(n);
+    }
+
+    /// Adds an increment to the sending window.
+    pub fn grant(&mut self, n: u32, unbegun: u32) -> Result<(), Overrun>
+        ensures { Rises self.old self.new result (record self.old { sending = more self.old.sending n })
+            (counted self.old.sending unbegun) (pos n) }
+    {
+        window::grant(&mut self.sending, n, unbegun)
+    }
+
+    /// Changes the initial size of the sending window.
+    pub fn resize(&mut self, initial: u32, unbegun: u32) -> Result<(), Overrun>
+        requires { initial ≤ largest }
+        ensures { Rises self.old self.new result (record self.old { sending = sized initial self.old.sending })
+            (counted self.old.sending unbegun) (pos initial -ℤ pos self.old.sending.size) }
+    {
+        window::resize(&mut self.sending, self.size, initial, unbegun)?;
+        self.size = initial;
+        Ok(())
+    }
+
+    /// Takes DATA that came.
+    pub fn take(&mut self, n: u32) -> Result<(), Overrun>
+        ensures { Comes self.old self.new result (record self.old { taking = taken self.old.taking n })
+            self.old.taking.granted n }
+    {
+        self.taking.spend(n)?;
+        self.kept += n;
+        Ok(())
+    }
+
+    /// Octets that came are used up.
+    pub fn owe(&mut self, n: u32)
+        requires { n ≤ self.old.taking.kept }
+        ensures { self.new ≡ record self.old { taking = owing self.old.taking n } }
+    {
+        self.taking.owe(n);
+        self.kept -= n;
+    }
+
+    /// The increment that is to be granted now.
+    pub fn due(&mut self) -> Option<u32>
+        ensures told { result ≡ due_of self.old.taking }
+        ensures after { self.new ≡ record self.old { taking = paid_of self.old.taking } }
+    {
+        self.taking.due()
+    }
+
+    /// The octets that came and aren't used up.
+    pub fn creditable(&self) -> u32
+        ensures { result ≡ self.now.taking.kept }
+    {
+        self.kept
+    }
+}
