@@ -1,0 +1,4 @@
+pub mod Queues
+pub mod Sent
+pub mod Views
+pub mod Walks

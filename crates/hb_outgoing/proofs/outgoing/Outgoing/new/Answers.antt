@@ -1,0 +1,13 @@
+use Rattle.std.proofs.Common.{ap, ◌∙◌, sym, subst, None}
+use Rattle.hb_frames.specs.BoundedBytes.{BoundedBytes}
+use Rattle.hb_outgoing.proofs.Views.{Inside, view, none_waits}
+use Rattle.hb_outgoing.proofs.outgoing.Outgoing.new.Goals as goal
+
+pub invariant_of-result : goal.invariant_of-result
+invariant_of-result c =
+    let is = c.in_ok-output.ensures in
+    let inside = subst (λ (b : BoundedBytes). Inside b.items 0) (sym is) none_waits.inside in
+    (ap (λ (b : BoundedBytes). b.size) is, inside.small, inside.within, inside.whole)
+
+pub returns : goal.returns
+returns c = ap (λ (b : BoundedBytes). view b.items 0 None) c.in_ok-output.ensures ∙ none_waits.seen

@@ -1,0 +1,35 @@
+use Rattle.std.proofs.Common.{◌≤◌, ◌+◌, length, ap, ◌∙◌, sym, subst, arith}
+use Rattle.hb_frames.specs.RawFrame.{Fits}
+use Rattle.hb_frames.specs.BoundedBytes.{BoundedBytes}
+use Rattle.hb_frames.proofs.Records.{raw}
+use Rattle.hb_outgoing.proofs.Queues.{octets_are}
+use Rattle.hb_outgoing.proofs.Views.{Inside, view, frame_is_put}
+use Rattle.hb_outgoing.proofs.outgoing.Outgoing.put_frame.Goals as goal
+
+pub returns : goal.returns
+returns c =
+    let f = raw c.args.kind c.args.flags c.args.stream c.args.payload.now in
+    let items = c.self.inside.output.items in
+    let rest = c.self.inside.rest in
+    let inv = c.self.invariant in
+    let roomy = rw (← c.self.view_is) at c.requires.room in
+    let room : length items + (9 + length f.payload) ≤ 32768 = omega (arith, roomy, ap length (octets_are items rest inv.3)) in
+    let fits : Fits f = record { kind = omega arith; flags = omega arith; stream = omega arith; size = omega (arith, room) } in
+    let before : Inside items rest = record { small = inv.1; within = inv.2; whole = inv.3 } in
+    let now = frame_is_put items rest c.self.inside.begun f before fits room in
+    rw (← c.self.view_is)
+    (ap (λ (b : BoundedBytes). view b.items rest c.self.inside.begun) c.put_frame.ensures ∙ now.seen)
+
+pub invariant_of-self : goal.invariant_of-self
+invariant_of-self c =
+    let f = raw c.args.kind c.args.flags c.args.stream c.args.payload.now in
+    let items = c.self.inside.output.items in
+    let rest = c.self.inside.rest in
+    let inv = c.self.invariant in
+    let roomy = rw (← c.self.view_is) at c.requires.room in
+    let room : length items + (9 + length f.payload) ≤ 32768 = omega (arith, roomy, ap length (octets_are items rest inv.3)) in
+    let fits : Fits f = record { kind = omega arith; flags = omega arith; stream = omega arith; size = omega (arith, room) } in
+    let before : Inside items rest = record { small = inv.1; within = inv.2; whole = inv.3 } in
+    let now = frame_is_put items rest c.self.inside.begun f before fits room in
+    let inside = subst (λ (b : BoundedBytes). Inside b.items rest) (sym c.put_frame.ensures) now.inside in
+    (ap (λ (b : BoundedBytes). b.size) c.put_frame.ensures ∙ inv.0, inside.small, inside.within, inside.whole)

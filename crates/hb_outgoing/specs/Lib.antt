@@ -1,0 +1,5 @@
+pub mod Laws
+pub mod Queue
+pub mod Selected
+pub mod Waiting
+pub mod Written

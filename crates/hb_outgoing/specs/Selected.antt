@@ -1,0 +1,53 @@
+use Rattle.std.specs.Prelude.{ℕ, List, [], ◌∷◌, length, Bool, false, not, ◌&&◌, ◌||◌, ◌==◌, bit_and, Option, Some, None, if◌then◌else◌}
+use Rattle.std.specs.List.{filter, list_any, sum_by}
+use Rattle.hb_frames.specs.RawFrame.{RawFrame}
+use Rattle.hb_frames.specs.Numbers.{data_kind, headers_kind}
+use Rattle.hb_outgoing.specs.declared.head.Head.{Head}
+use Rattle.hb_outgoing.specs.declared.unbegun.Unbegun.{Unbegun}
+use Rattle.hb_outgoing.specs.Waiting.{Waiting, head_of}
+
+-- a DATA frame of the stream
+abbrev pub is_data_of : ℕ → RawFrame → Bool
+is_data_of stream f = f.kind == data_kind && f.stream == stream
+
+abbrev pub is_kept : ℕ → RawFrame → Bool
+is_kept stream f = not (is_data_of stream f)
+
+-- after the stream's DATA frames that haven't begun were taken back
+abbrev pub taken_back : ℕ → Waiting → Waiting
+taken_back stream w = record w { queue = filter (is_kept stream) w.queue }
+
+abbrev pub payload_size : RawFrame → ℕ
+payload_size f = length f.payload
+
+-- the payload octets of the stream's DATA frames
+abbrev pub data_size : ℕ → List RawFrame → ℕ
+data_size stream queue = sum_by payload_size (filter (is_data_of stream) queue)
+
+-- the flag of DATA and HEADERS that ends a stream (RFC 9113 sections 6.1 and 6.2)
+abbrev pub end_stream_flag : ℕ
+end_stream_flag = 1
+
+-- a frame that ends the stream
+abbrev pub ends : ℕ → Head → Bool
+ends stream h = (h.kind == data_kind || h.kind == headers_kind) && h.stream == stream && not (bit_and h.flags end_stream_flag == 0)
+
+abbrev pub begun_ends : ℕ → Option Head → Bool
+begun_ends stream None = false
+begun_ends stream (Some h) = ends stream h
+
+abbrev pub frame_ends : ℕ → RawFrame → Bool
+frame_ends stream f = ends stream (head_of f)
+
+-- an octet of a frame that ends the stream waits
+abbrev pub end_waits : ℕ → Waiting → Bool
+end_waits stream w = begun_ends stream w.begun || list_any (frame_ends stream) w.queue
+
+-- a DATA frame that windows count
+abbrev pub has_data : RawFrame → Bool
+has_data f = f.kind == data_kind && not (length f.payload == 0)
+
+-- the first DATA frame with payload
+abbrev pub first_data : List RawFrame → Option Unbegun
+first_data [] = None
+first_data (f ∷ fs) = if has_data f then Some (record { stream = f.stream; size = length f.payload }) else first_data fs

@@ -1,0 +1,144 @@
+//! The octets and frames that wait to be written.
+
+ghost use Rattle.std.specs.Prelude.{◌≡◌, ◌+◌, ◌≤◌, ◌==◌, length, IfOk};
+ghost use Rattle.hb_outgoing.specs.Waiting.{octets_of, room_of, nothing, opened, put, size};
+ghost use Rattle.hb_outgoing.specs.Written.{written};
+ghost use Rattle.hb_outgoing.specs.Selected.{taken_back, data_size, first_data, end_waits};
+
+use crate::head::Head;
+use crate::queue::{any_ends, begin, ends, first_data, take_data, while_waits};
+use crate::unbegun::Unbegun;
+use hb_base::NoMemory;
+use hb_frames::Output;
+use std::alloc::Global;
+use std::marker::Model;
+
+/// How many octets can wait.
+const SIZE: usize = 32_768;
+
+/// The octets of a frame's header, for which the output has room beside.
+const HEADER: usize = 9;
+
+/// What waits to be written on one connection: at most 32,768 octets. It takes its memory when it is made.
+#[derive(Drop)]
+pub struct Outgoing {
+    output: Output,
+    /// How many octets in front are left of what was begun.
+    rest: usize,
+    begun: Option<Head>,
+}
+
+impl Model for Outgoing {
+    ghost use Rattle.std.specs.Prelude.{◌≡◌, ◌≤◌, length, take, drop};
+    ghost use Rattle.hb_outgoing.specs.Waiting.{Waiting};
+    ghost use Rattle.hb_outgoing.specs.Queue.{frames_of, AreWhole};
+
+    ghost Value = { Waiting };
+
+    ghost view = { λ o. record {
+      rest = take o.rest o.output.items;
+      begun = o.begun;
+      queue = frames_of (drop o.rest o.output.items);
+    } };
+
+    ghost invariant = { λ o.
+        (o.output.size ≡ 32777) × (length o.output.items ≤ 32768) × (o.rest ≤ length o.output.items)
+        × AreWhole (drop o.rest o.output.items) };
+}
+
+impl Outgoing {
+    /// Nothing waits.
+    pub fn new(alloc: Global) -> Result<Outgoing, NoMemory>
+        ensures { IfOk result (λ o. o ≡ nothing) }
+    {
+        let output = Output::new(alloc, SIZE + HEADER)?;
+        Ok(Outgoing {
+            output,
+            rest: 0,
+            begun: None,
+        })
+    }
+
+    /// How many octets more can wait.
+    pub fn room(&self) -> usize
+        ensures value { result ≡ room_of self.now }
+        ensures fits { length (octets_of self.now) ≤ size }
+    {
+        self.output.room() - HEADER
+    }
+
+    /// All octets that wait, in order.
+    pub fn front(&self) -> &[u8]
+        ensures { result.now ≡ octets_of self.now }
+    {
+        self.output.front()
+    }
+
+    /// Nothing waits.
+    pub fn is_empty(&self) -> bool
+        ensures { result ≡ (length (octets_of self.now) == 0) }
+    {
+        self.output.front().is_empty()
+    }
+
+    /// Puts what a connection begins with, as a client's preface (RFC 9113 section 3.4), which is no frame.
+    pub fn put_opening(&mut self, bytes: &[u8])
+        requires empty { length (octets_of self.old) ≡ 0 }
+        requires room { length bytes.now ≤ size }
+        ensures { self.new ≡ opened bytes.now }
+    {
+        // as the payload of a frame whose header is left out
+        self.output.put_frame(0, 0, 0, bytes);
+        self.output.drop_front(HEADER);
+        self.rest = bytes.len();
+        self.begun = None;
+    }
+
+    /// Puts a frame behind all others (RFC 9113 section 4.1), its reserved bit unset.
+    pub fn put_frame(&mut self, kind: u8, flags: u8, stream: u32, payload: &[u8])
+        requires room { length (octets_of self.old) + (9 + length payload.now) ≤ size }
+        requires in_range { stream ≤ 2147483647 }
+        ensures { self.new
+            ≡ put (record { kind = kind; flags = flags; stream = stream; payload = payload.now }) self.old }
+    {
+        self.output.put_frame(kind, flags, stream, payload);
+    }
+
+    /// Removes the first `n` octets, which were written. A frame whose first octet is among them has begun.
+    pub fn wrote(&mut self, n: usize)
+        requires { n ≤ length (octets_of self.old) }
+        ensures { self.new ≡ written n self.old }
+    {
+        let (end, head) = begin(self.output.front(), self.rest, self.begun, n);
+        self.output.drop_front(n);
+        self.rest = end - n;
+        self.begun = while_waits(self.rest, head);
+    }
+
+    /// Takes the stream's DATA frames back of which no octet was written, and says how many octets of payload
+    /// they had, which its window gets back (RFC 9113 section 6.9).
+    pub fn take_back(&mut self, stream: u32) -> u32
+        ensures value { result ≡ data_size stream self.old.queue }
+        ensures left { self.new ≡ taken_back stream self.old }
+    {
+        take_data(&mut self.output, self.rest, stream)
+    }
+
+    /// The first DATA frame with payload of which no octet was written.
+    pub fn unbegun(&self) -> Option<Unbegun>
+        ensures { result ≡ first_data self.now.queue }
+    {
+        first_data(self.output.front(), self.rest)
+    }
+
+    /// An octet of a DATA or HEADERS frame waits that ends the stream (END_STREAM; RFC 9113 section 5.1).
+    pub fn end_waits(&self, stream: u32) -> bool
+        ensures { result ≡ end_waits stream self.now }
+    {
+        let begun = match self.begun {
+            None => false,
+            Some(head) => ends(stream, head),
+        };
+        begun || any_ends(self.output.front(), self.rest, stream)
+    }
+}

@@ -1,0 +1,54 @@
+//! As many octets and frames as can wait.
+
+use crate::steps::{put, wrote};
+use hb_outgoing::Outgoing;
+use std::process::Abort;
+
+/// An acknowledgement of SETTINGS, and the empty DATA frame that ends stream 3.
+const ACKNOWLEDGED: &[u8] = b"\x00\x00\x00\x04\x01\x00\x00\x00\x00";
+
+const END: &[u8] = b"\x00\x00\x00\x00\x01\x00\x00\x00\x03";
+
+/// The last octet of a frame is the lowest of its stream.
+fn assert_last(rt: &impl Abort, outgoing: &Outgoing, count: usize, last: u8) {
+    assert!(rt; outgoing.front().len() == count);
+    assert!(rt; outgoing.front().last() == Some(&last));
+}
+
+/// 3,640 frames of nine octets leave room for eight more.
+#[test]
+fn many_frames_wait(rt: HostRuntime) {
+    let mut outgoing = Outgoing::new(rt.alloc()).expect(&rt, "memory");
+    for _ in 0..1_820 {
+        put(&rt, &mut outgoing, ACKNOWLEDGED);
+        put(&rt, &mut outgoing, END);
+    }
+    assert!(rt; outgoing.room() == 8);
+    assert_last(&rt, &outgoing, 32_760, 3);
+    wrote(&rt, &mut outgoing, 10);
+    assert!(rt; outgoing.take_back(3) == 0);
+    assert!(rt; outgoing.end_waits(3));
+    assert_last(&rt, &outgoing, 8 + 1_819 * 9, 0);
+    wrote(&rt, &mut outgoing, 8);
+    assert!(rt; !outgoing.end_waits(3));
+    wrote(&rt, &mut outgoing, 1_819 * 9);
+    assert!(rt; outgoing.is_empty());
+}
+
+/// Two DATA frames of 16,384 octets fill it to the last octet, also once others were written.
+#[test]
+fn the_last_octet_is_put(rt: HostRuntime) {
+    let mut outgoing = Outgoing::new(rt.alloc()).expect(&rt, "memory");
+    let payload = [7u8; 16_375];
+    outgoing.put_frame(0, 0, 1, &payload);
+    outgoing.put_frame(0, 1, 3, &payload);
+    assert!(rt; outgoing.room() == 0);
+    wrote(&rt, &mut outgoing, 16_384);
+    assert!(rt; outgoing.room() == 16_384);
+    outgoing.put_frame(0, 0, 5, &payload);
+    assert!(rt; outgoing.room() == 0);
+    assert!(rt; outgoing.take_back(1) == 0);
+    assert!(rt; outgoing.take_back(3) == 16_375);
+    assert!(rt; outgoing.unbegun().is_some_and(|found| found.stream == 5));
+    assert_last(&rt, &outgoing, 16_384, 7);
+}
