@@ -1,0 +1,4 @@
+use Rattle.hb_blocks.proofs.blocks.decode.Goals as goal
+
+pub returns-in-Err-Fault : goal.returns-in-Err-Fault
+returns-in-Err-Fault c = rw c.in-Err-Fault.field-0-is at c.in-Err-Fault.ensures.broken

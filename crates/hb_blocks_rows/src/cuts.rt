@@ -1,0 +1,84 @@
+//! One run of blocks, cut at every place.
+
+use crate::frames::{Frame, assert_told, told_of};
+use crate::hex::{cut, octets_of};
+use hb_blocks::Blocks;
+use std::alloc::Global;
+use std::process::Abort;
+
+/// The requests of RFC 7541 Appendix C.3, which one decoder reads, and what is told of each.
+const REQUESTS: &str = "\
+828684410f7777772e6578616d706c652e636f6d => w1e 180 |:method|GET|:scheme|http|:path|/|:authority|www.example.com
+828684be58086e6f2d6361636865 => w1e 233 |:method|GET|:scheme|http|:path|/|:authority|www.example.com|cache-control|no-cache
+828785bf400a637573746f6d2d6b65790c637573746f6d2d76616c7565 => w1e 245 \
+|:method|GET|:scheme|https|:path|/index.html|:authority|www.example.com|custom-key|custom-value";
+
+/// The octets of the longest of them.
+const LONGEST: usize = 29;
+
+fn frame_of(fragment: &[u8], end_headers: bool) -> Frame<'_> {
+    Frame {
+        stream: 1,
+        end_stream: true,
+        fragment,
+        end_headers,
+    }
+}
+
+/// What is told of the last fragment of a block that comes in two.
+fn told_in_two(
+    rt: &impl Abort,
+    blocks: &mut Blocks,
+    alloc: Global,
+    block: &[u8],
+    at: usize,
+) -> String {
+    let (front, back) = block.split_at(at.min(block.len()));
+    told_of(rt, alloc, blocks, frame_of(front, false));
+    told_of(rt, alloc, blocks, frame_of(back, true))
+}
+
+/// What is told of the last fragment of a block that comes in fragments of so many octets.
+fn told_in_pieces(
+    rt: &impl Abort,
+    blocks: &mut Blocks,
+    alloc: Global,
+    block: &[u8],
+    size: usize,
+) -> String {
+    let mut left = block.len();
+    let mut told = String::new(alloc);
+    for piece in block.chunks(size.max(1)) {
+        left = left.saturating_sub(piece.len());
+        told = told_of(rt, alloc, blocks, frame_of(piece, left == 0));
+    }
+    told
+}
+
+#[test]
+fn blocks_cut_in_two_are_told_as_whole_ones(rt: HostRuntime) {
+    let alloc = rt.alloc();
+    for at in 0..LONGEST + 1 {
+        let mut blocks = Blocks::new(alloc);
+        for row in REQUESTS.lines() {
+            let (digits, want) = cut(row, " => ");
+            let block = octets_of(&rt, alloc, digits);
+            let told = told_in_two(&rt, &mut blocks, alloc, block.as_slice(), at);
+            assert_told(&rt, row, told.as_str(), want);
+        }
+    }
+}
+
+#[test]
+fn blocks_cut_into_pieces_are_told_as_whole_ones(rt: HostRuntime) {
+    let alloc = rt.alloc();
+    for size in 1..LONGEST + 1 {
+        let mut blocks = Blocks::new(alloc);
+        for row in REQUESTS.lines() {
+            let (digits, want) = cut(row, " => ");
+            let block = octets_of(&rt, alloc, digits);
+            let told = told_in_pieces(&rt, &mut blocks, alloc, block.as_slice(), size);
+            assert_told(&rt, row, told.as_str(), want);
+        }
+    }
+}
