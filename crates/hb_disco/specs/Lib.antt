@@ -1,3 +1,4 @@
 pub mod Kind
 pub mod Response
 pub mod Request
+pub mod Written
