@@ -1,9 +1,9 @@
 #!/usr/bin/env python3
 """Writes a framed discovery input: responses of one resource each, of 100 distinct names over and over.
 
-usage: check_input.py BYTES [mixed] > FILE      (the input has about BYTES bytes)
+usage: check_input.py BYTES [mixed|names] > FILE      (the input has about BYTES bytes)
 
-Without `mixed` each is a workload. With it 40 % of the resources, and of their bytes within a hundredth, are workloads with a waypoint and
+Without a further word each is a workload. With `names` each is a workload too, of 65,536 distinct names. With `mixed` 40 % of the resources, and of their bytes within a hundredth, are workloads with a waypoint and
 a map of services, 20 % services, and 40 % policies with all ten attributes of a match.
 """
 
@@ -20,15 +20,16 @@ def message(i, type_url, name, record):
     return grpc(span(2, resource) + span(4, type_url) + span(5, b"nonce-%d" % i))
 
 
-def workload(i, more=b""):
-    name = b"cluster1//v1/Pod/default/workload-%03d" % i
+def workload(i, more=b"", digits=3):
+    number_text = b"%0*d" % (digits, i)
+    name = b"cluster1//v1/Pod/default/workload-" + number_text
     fields = [
-        span(1, b"workload-%03d" % i),
+        span(1, b"workload-" + number_text),
         span(2, b"default"),
-        span(3, bytes([10, 0, 0, i])),
+        span(3, bytes([10, 0, i // 256, i % 256])),
         number(5, 1),
         span(6, b"cluster.local"),
-        span(7, b"account-%03d" % i),
+        span(7, b"account-" + number_text),
         span(9, b"n1"),
         span(16, b"default/allow-frontend"),
         span(20, name),
@@ -110,9 +111,17 @@ def mixed():
     return b"".join(b"".join(workloads[2 * i : 2 * i + 2] + services[i : i + 1] + policies[2 * i : 2 * i + 2]) for i in range(20))
 
 
+def block_of(kind):
+    if kind == "mixed":
+        return mixed()
+    if kind == "names":
+        return b"".join(workload(i, digits=5) for i in range(65536))
+    return b"".join(workload(i) for i in range(1, 101))
+
+
 def main():
     wanted = int(sys.argv[1])
-    block = mixed() if sys.argv[2:] == ["mixed"] else b"".join(workload(i) for i in range(1, 101))
+    block = block_of("".join(sys.argv[2:]))
     for _ in range(max(1, wanted // len(block))):
         sys.stdout.buffer.write(block)
 
