@@ -1,4 +1,4 @@
-use Rattle.std.specs.Prelude.{◌≡◌, ℕ, ◌+◌, ◌-◌, ◌*◌, ◌%◌, ◌<◌, List, [], ◌++◌, length, slice_range, ◌==◌, if◌then◌else◌}
+use Rattle.std.specs.Prelude.{◌≡◌, ℕ, ◌+◌, ◌-◌, ◌*◌, ◌%◌, ◌<◌, List, [], ◌++◌, length, slice_range, ◌==◌, ◌||◌, if◌then◌else◌}
 use Rattle.hb_frames.specs.Octets.{four_at}
 use Rattle.hb_frames.specs.RawFrame.{RawFrame}
 use Rattle.hb_frames.specs.Numbers.{data_kind, headers_kind, priority_kind, rst_stream_kind, settings_kind, push_promise_kind}
@@ -46,8 +46,8 @@ pub record IsFrame (f : RawFrame) (frame : Frame) : Type 0 where
   pub stream : frame.stream ≡ f.stream
   pub body : Shows f frame.body
 
--- the bytes that can be asked for again: those of a DATA, HEADERS or CONTINUATION body
+-- the bytes that can be asked for again: those of a DATA, HEADERS, SETTINGS or CONTINUATION body
 abbrev pub lent_of : RawFrame → List ℕ
 lent_of f =
     if has_content f then content_of f
-    else if f.kind == continuation_kind then f.payload else []
+    else if f.kind == settings_kind || f.kind == continuation_kind then f.payload else []

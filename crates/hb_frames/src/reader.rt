@@ -10,7 +10,7 @@ use crate::buffer::Buffer;
 use crate::fault::FrameFault;
 use crate::frame::{Frame, first_frame, frame_at};
 use crate::head::{HEADER, Head};
-use crate::kind::CONTINUATION;
+use crate::kind::{CONTINUATION, SETTINGS};
 use crate::refusal::{front_len, has_content, padding_len};
 use hb_base::{NoMemory, Scope};
 use std::alloc::Global;
@@ -89,7 +89,7 @@ impl FrameReader {
         taken
     }
 
-    /// The bytes of the Payload, Headers or Continuation body that the last `next_frame` gave; none where it
+    /// The bytes of the Payload, Headers, Settings or Continuation body that the last `next_frame` gave; none where it
     /// gave no such body, and after a `feed`.
     pub fn last_bytes(&self) -> &[u8]
         ensures { result.now ≡ self.now.last }
@@ -138,7 +138,7 @@ impl FrameReader {
     }
 }
 
-/// Where the bytes of a DATA, HEADERS or CONTINUATION body stand.
+/// Where the bytes of a DATA, HEADERS, SETTINGS or CONTINUATION body stand.
 fn lent_range(bytes: &[u8], size: usize) -> (usize, usize)
     requires { StandsInFront bytes.now size }
     ensures order { result.0 ≤ result.1 }
@@ -152,7 +152,7 @@ fn lent_range(bytes: &[u8], size: usize) -> (usize, usize)
             HEADER + front,
             size - padding_len(head, &bytes[HEADER..size]),
         )
-    } else if head.kind == CONTINUATION {
+    } else if head.kind == SETTINGS || head.kind == CONTINUATION {
         (HEADER, size)
     } else {
         (0, 0)

@@ -295,6 +295,7 @@ impl Encoder {
     ) -> Result<(), NoMemory>
         ensures ok { OnOk result (out.new.items ≡ out.old.items ++ block_of self.old headers.now) }
         ensures goes_on { OnOk result (self.new ≡ going self.old) }
+        ensures spelling { self.new.spelling ≡ self.old.spelling }
         // The block stands for the headers, from each table that a decoder may have.
         ensures read { (table : Table) → AreWritable self.old.spelling headers.now → MayHave self.old.started table
             → Reads table (block_of self.old headers.now) headers.now cleared }

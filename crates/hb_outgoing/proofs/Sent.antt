@@ -1,5 +1,5 @@
 -- What was sent and what waits, before and after each call.
-use Rattle.std.proofs.Common.{◌≡◌, ◌≢◌, ℕ, zero, suc, ◌+◌, ◌-◌, ◌≤◌, ◌<◌, List, [], ◌∷◌, ◌++◌, length, take, drop, refl, sym, ap, ap₂, ◌∙◌, ⊎_elim}
+use Rattle.std.proofs.Common.{◌≡◌, ◌≢◌, ℕ, zero, suc, ◌+◌, ◌-◌, ◌≤◌, ◌<◌, List, [], ◌∷◌, ◌++◌, length, take, drop, refl, sym, ap, ap₂, ◌∙◌, ⊎_elim, Some}
 use Rattle.std.proofs.Common.{arith, Bool, true, false, length-append}
 use Rattle.std.specs.Prelude.{◌==◌, ◌&&◌, not}
 use Rattle.std.proofs.Math.Bool.{and-false}
@@ -124,13 +124,13 @@ ends_at_a_frame w before behind is =
 pub take_back_keeps : TakeBackKeeps
 take_back_keeps opening sent begun w stream shows = (shows, refl)
 
-pub is_kept_elsewhere : (stream : ℕ) (f : RawFrame) → (f.stream == stream) ≡ false → is_kept stream f ≡ true
+pub is_kept_elsewhere : (stream : ℕ) (f : RawFrame) → (f.stream == stream) ≡ false → is_kept (Some stream) f ≡ true
 is_kept_elsewhere stream f differs =
     ap not (ap (λ (b : Bool). f.kind == data_kind && b) differs ∙ and-false (f.kind == data_kind))
 
 -- a frame of another stream is kept
 pub others_kept : (stream other : ℕ) (fs : List RawFrame) → stream ≢ other
-    → frames_on other (filter (is_kept stream) fs) ≡ frames_on other fs
+    → frames_on other (filter (is_kept (Some stream)) fs) ≡ frames_on other fs
 others_kept stream other [] apart = refl
 others_kept stream other (f ∷ fs) apart =
     let rest = others_kept stream other fs apart in
@@ -138,12 +138,12 @@ others_kept stream other (f ∷ fs) apart =
     (λ (on : (f.stream == other) ≡ true).
     let is : f.stream ≡ other = grind (arith, nat_tests) in
     let differs : (f.stream == stream) ≡ false = grind (arith, nat_tests, apart) in
-    let kept : is_kept stream f ≡ true = is_kept_elsewhere stream f differs in
+    let kept : is_kept (Some stream) f ≡ true = is_kept_elsewhere stream f differs in
     rw (kept, on) (ap (λ (gs : List RawFrame). f ∷ gs) rest))
     (λ (off : (f.stream == other) ≡ false). ⊎_elim
-    (λ (kept : is_kept stream f ≡ true). rw (kept, off) rest)
-    (λ (gone : is_kept stream f ≡ false). rw (gone, off) rest)
-    (cases_Bool (is_kept stream f)))
+    (λ (kept : is_kept (Some stream) f ≡ true). rw (kept, off) rest)
+    (λ (gone : is_kept (Some stream) f ≡ false). rw (gone, off) rest)
+    (cases_Bool (is_kept (Some stream) f)))
     (cases_Bool (f.stream == other))
 
 pub others_stay : OthersStay

@@ -1,19 +1,20 @@
 -- What is seen of an Outgoing by its octets, and what it becomes.
 use Rattle.std.proofs.Common.{◌≡◌, ℕ, ◌+◌, ◌-◌, ◌≤◌, List, [], ◌∷◌, ◌++◌, length, take, drop, refl, sym, ap, ap₂, ◌∙◌, subst}
-use Rattle.std.proofs.Common.{arith, ⊎_elim, Bool, true, false, Option, None, length-append, length-drop}
+use Rattle.std.proofs.Common.{arith, ⊎_elim, Bool, true, false, Option, Some, None, length-append, length-drop}
 use Rattle.std.specs.Prelude.{◌==◌, if◌then◌else◌}
 use Rattle.std.specs.List.{filter}
 use Rattle.std.proofs.lemmas.Bool.{cases_Bool}
 use Rattle.std.proofs.lemmas.Bool.Decides.{nat_tests}
-use Rattle.std.proofs.lemmas.List.{take-append-le, drop-append-le, length-take-le, drop-take, drop-drop, take_all, drop_all}
+use Rattle.std.proofs.lemmas.List.{take-append-le, drop-append-le, length-take-le, drop-take, drop-drop, take_all, drop_all, append-nil}
+use Rattle.std.proofs.lemmas.Grind.{flat_map-append}
 use Rattle.std.proofs.Math.Seq.{take-append_seam, drop-append_seam}
 use Rattle.hb_frames.specs.RawFrame.{RawFrame, Fits, spelling}
 use Rattle.hb_frames.proofs.Records.{bounded}
 use Rattle.hb_outgoing.specs.declared.head.Head.{Head}
-use Rattle.hb_outgoing.specs.Waiting.{Waiting, spelled, nothing, opened, put}
+use Rattle.hb_outgoing.specs.Waiting.{Waiting, spelled, octets_of, nothing, opened, put}
 use Rattle.hb_outgoing.specs.Queue.{frames_of, AllFit, AreWhole}
 use Rattle.hb_outgoing.specs.Written.{begun_in, begun_by, last_head, while_waits, rest_after, written}
-use Rattle.hb_outgoing.specs.Selected.{is_kept, taken_back}
+use Rattle.hb_outgoing.specs.Selected.{is_kept, taken_back, all_taken_back}
 use Rattle.hb_outgoing.proofs.Queues.{no_frames, whole_none, whole_spelled, frames_spelled, grown, spelling_len}
 
 abbrev pub waiting : List ℕ → Option Head → List RawFrame → Waiting
@@ -135,9 +136,41 @@ filter_is_short p (f ∷ fs) =
     (λ (test : p f ≡ false). rw test (omega (arith, shorter, len)))
     (cases_Bool (p f))
 
-pub frames_are_taken : (items : List ℕ) (rest : ℕ) (begun : Option Head) (stream : ℕ) → Inside items rest
+-- without the stream's DATA frames; None: of any
+abbrev pub without : Option ℕ → Waiting → Waiting
+without stream w = record w { queue = filter (is_kept stream) w.queue }
+
+pub without_is_short : (stream : Option ℕ) (w : Waiting) → length (octets_of (without stream w)) ≤ length (octets_of w)
+without_is_short stream w =
+    omega (
+      arith,
+      filter_is_short (is_kept stream) w.queue,
+      length-append w.rest (spelled w.queue),
+      length-append w.rest (spelled (filter (is_kept stream) w.queue)),
+    )
+
+pub taken_is_short : (stream : ℕ) (w : Waiting) → length (octets_of (taken_back stream w)) ≤ length (octets_of w)
+taken_is_short stream w = without_is_short (Some stream) w
+
+pub all_taken_is_short : (w : Waiting) → length (octets_of (all_taken_back w)) ≤ length (octets_of w)
+all_taken_is_short w = without_is_short None w
+
+pub put_is_long : (f : RawFrame) (w : Waiting) → length (octets_of (put f w)) ≡ length (octets_of w) + (9 + length f.payload)
+put_is_long f w =
+    let one : spelled (f ∷ []) ≡ spelling f = append-nil (spelling f) in
+    omega (
+      arith,
+      length-append w.rest (spelled w.queue),
+      length-append w.rest (spelled (w.queue ++ f ∷ [])),
+      ap length (flat_map-append spelling w.queue (f ∷ [])),
+      length-append (spelled w.queue) (spelled (f ∷ [])),
+      ap length one,
+      spelling_len f,
+    )
+
+pub frames_are_taken : (items : List ℕ) (rest : ℕ) (begun : Option Head) (stream : Option ℕ) → Inside items rest
     → Becomes (take rest items ++ spelled (filter (is_kept stream) (frames_of (drop rest items)))) rest begun
-    (taken_back stream (view items rest begun))
+    (without stream (view items rest begun))
 frames_are_taken items rest begun stream inside =
     let fs = frames_of (drop rest items) in
     let kept = filter (is_kept stream) fs in

@@ -59,7 +59,7 @@ begins_end bytes n end passed =
     let none : n - end ≡ 0 = omega arith in ap (λ (m : ℕ). begun_in m (frames_of (drop end bytes))) none
 
 -- what is left and what was taken once a walk came to a place
-pub record Takes (stream : ℕ) (before now : List ℕ) (from at taken : ℕ) : Type 0 where
+pub record Takes (stream : Option ℕ) (before now : List ℕ) (from at taken : ℕ) : Type 0 where
   pub within : at ≤ length now
   pub small : length now ≤ 32768
   pub later : AreWhole (drop at now)
@@ -67,11 +67,11 @@ pub record Takes (stream : ℕ) (before now : List ℕ) (from at taken : ℕ) : 
       ≡ take from before ++ spelled (filter (is_kept stream) (frames_of (drop from before)))
   pub taken_is : taken + data_size stream (frames_of (drop at now)) ≡ data_size stream (frames_of (drop from before))
 
-pub kept_more : (stream : ℕ) (f : RawFrame) (fs : List RawFrame) → is_data_of stream f ≡ false
+pub kept_more : (stream : Option ℕ) (f : RawFrame) (fs : List RawFrame) → is_data_of stream f ≡ false
     → (filter (is_kept stream) (f ∷ fs) ≡ f ∷ filter (is_kept stream) fs) × (data_size stream (f ∷ fs) ≡ data_size stream fs)
 kept_more stream f fs test = (rw test refl, rw test refl)
 
-pub taken_more : (stream : ℕ) (f : RawFrame) (fs : List RawFrame) → is_data_of stream f ≡ true
+pub taken_more : (stream : Option ℕ) (f : RawFrame) (fs : List RawFrame) → is_data_of stream f ≡ true
     → (filter (is_kept stream) (f ∷ fs) ≡ filter (is_kept stream) fs)
     × (data_size stream (f ∷ fs) ≡ length f.payload + data_size stream fs)
 taken_more stream f fs test =
@@ -79,7 +79,7 @@ taken_more stream f fs test =
     (rw test refl, ap (sum_by payload_size) all ∙ sum_by-cons payload_size f (filter (is_data_of stream) fs))
 
 -- payloads are shorter than the frames that they stand in
-pub data_is_short : (stream : ℕ) (fs : List RawFrame) → data_size stream fs ≤ length (spelled fs)
+pub data_is_short : (stream : Option ℕ) (fs : List RawFrame) → data_size stream fs ≤ length (spelled fs)
 data_is_short stream [] = omega arith
 data_is_short stream (f ∷ fs) =
     let len = length-append (spelling f) (spelled fs) in
@@ -89,19 +89,19 @@ data_is_short stream (f ∷ fs) =
     (λ (test : is_data_of stream f ≡ false). omega (arith, (kept_more stream f fs test).1, len, shorter))
     (cases_Bool (is_data_of stream f))
 
-pub taken_is_small : (stream : ℕ) (bytes : List ℕ) (from : ℕ) → AreWhole (drop from bytes) → length bytes ≤ 32768
+pub taken_is_small : (stream : Option ℕ) (bytes : List ℕ) (from : ℕ) → AreWhole (drop from bytes) → length bytes ≤ 32768
     → data_size stream (frames_of (drop from bytes)) ≤ 32768
 taken_is_small stream bytes from whole small =
     omega (arith, data_is_short stream (frames_of (drop from bytes)), ap length whole.joined, length-drop from bytes, small)
 
-pub taken_fits : (stream : ℕ) (before now : List ℕ) (from at to taken size : ℕ) (f : RawFrame) → Takes stream before now from at taken
+pub taken_fits : (stream : Option ℕ) (before now : List ℕ) (from at to taken size : ℕ) (f : RawFrame) → Takes stream before now from at taken
     → Stands now f at to → is_data_of stream f ≡ true → size ≡ length f.payload → AreWhole (drop from before) → length before ≤ 32768
     → taken + size ≤ 32768
 taken_fits stream before now from at to taken size f so stands test size_is whole small =
     let all = ap (data_size stream) stands.first ∙ (taken_more stream f (frames_of (drop to now)) test).1 in
     omega (arith, all, size_is, so.taken_is, taken_is_small stream before from whole small)
 
-pub takes_end : (stream : ℕ) (before now : List ℕ) (from at taken : ℕ) → Takes stream before now from at taken → length now ≤ at
+pub takes_end : (stream : Option ℕ) (before now : List ℕ) (from at taken : ℕ) → Takes stream before now from at taken → length now ≤ at
     → (now ≡ take from before ++ spelled (filter (is_kept stream) (frames_of (drop from before))))
     × (taken ≡ data_size stream (frames_of (drop from before)))
 takes_end stream before now from at taken so passed =

@@ -1,4 +1,4 @@
-use Rattle.std.specs.Prelude.{◌≡◌, ◌≢◌, ℕ, ◌+◌, ◌≤◌, ◌<◌, List, [], ◌∷◌, ◌++◌, length, take, ◌==◌, None}
+use Rattle.std.specs.Prelude.{◌≡◌, ◌≢◌, ℕ, ◌+◌, ◌≤◌, ◌<◌, List, [], ◌∷◌, ◌++◌, length, take, ◌==◌, None, Some}
 use Rattle.std.specs.List.{filter}
 use Rattle.hb_frames.specs.RawFrame.{RawFrame}
 use Rattle.hb_outgoing.specs.Waiting.{Waiting, spelled, octets_of, put}
@@ -45,7 +45,7 @@ EndsAtAFrame = (w : Waiting) (before behind : List RawFrame) → w.queue ≡ bef
 abbrev pub TakeBackKeeps : Type 0
 TakeBackKeeps = (opening sent : List ℕ) (begun : List RawFrame) (w : Waiting) (stream : ℕ) → Shows opening sent begun w
     → Shows opening sent begun (taken_back stream w)
-    × (frames begun (taken_back stream w) ≡ begun ++ filter (is_kept stream) w.queue)
+    × (frames begun (taken_back stream w) ≡ begun ++ filter (is_kept (Some stream)) w.queue)
 
 -- the frames of a stream
 abbrev pub frames_on : ℕ → List RawFrame → List RawFrame

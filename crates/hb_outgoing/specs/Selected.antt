@@ -1,4 +1,4 @@
-use Rattle.std.specs.Prelude.{ℕ, List, [], ◌∷◌, length, Bool, false, not, ◌&&◌, ◌||◌, ◌==◌, bit_and, Option, Some, None, if◌then◌else◌}
+use Rattle.std.specs.Prelude.{ℕ, List, [], ◌∷◌, length, Bool, true, false, not, ◌&&◌, ◌||◌, ◌==◌, bit_and, Option, Some, None, if◌then◌else◌}
 use Rattle.std.specs.List.{filter, list_any, sum_by}
 use Rattle.hb_frames.specs.RawFrame.{RawFrame}
 use Rattle.hb_frames.specs.Numbers.{data_kind, headers_kind}
@@ -6,22 +6,31 @@ use Rattle.hb_outgoing.specs.declared.head.Head.{Head}
 use Rattle.hb_outgoing.specs.declared.unbegun.Unbegun.{Unbegun}
 use Rattle.hb_outgoing.specs.Waiting.{Waiting, head_of}
 
--- a DATA frame of the stream
-abbrev pub is_data_of : ℕ → RawFrame → Bool
-is_data_of stream f = f.kind == data_kind && f.stream == stream
+-- the stream n is the one that is meant; None: all are
+abbrev pub is_meant : Option ℕ → ℕ → Bool
+is_meant None n = true
+is_meant (Some stream) n = n == stream
 
-abbrev pub is_kept : ℕ → RawFrame → Bool
+-- a DATA frame of the stream; None: of any
+abbrev pub is_data_of : Option ℕ → RawFrame → Bool
+is_data_of stream f = f.kind == data_kind && is_meant stream f.stream
+
+abbrev pub is_kept : Option ℕ → RawFrame → Bool
 is_kept stream f = not (is_data_of stream f)
 
 -- after the stream's DATA frames that haven't begun were taken back
 abbrev pub taken_back : ℕ → Waiting → Waiting
-taken_back stream w = record w { queue = filter (is_kept stream) w.queue }
+taken_back stream w = record w { queue = filter (is_kept (Some stream)) w.queue }
+
+-- after all DATA frames that haven't begun were taken back
+abbrev pub all_taken_back : Waiting → Waiting
+all_taken_back w = record w { queue = filter (is_kept None) w.queue }
 
 abbrev pub payload_size : RawFrame → ℕ
 payload_size f = length f.payload
 
--- the payload octets of the stream's DATA frames
-abbrev pub data_size : ℕ → List RawFrame → ℕ
+-- the payload octets of the stream's DATA frames; None: of all
+abbrev pub data_size : Option ℕ → List RawFrame → ℕ
 data_size stream queue = sum_by payload_size (filter (is_data_of stream) queue)
 
 -- the flag of DATA and HEADERS that ends a stream (RFC 9113 sections 6.1 and 6.2)

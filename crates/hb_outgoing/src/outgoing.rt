@@ -1,9 +1,9 @@
 //! The octets and frames that wait to be written.
 
-ghost use Rattle.std.specs.Prelude.{◌≡◌, ◌+◌, ◌≤◌, ◌==◌, length, IfOk};
+ghost use Rattle.std.specs.Prelude.{◌≡◌, ◌+◌, ◌≤◌, ◌==◌, length, Some, IfOk};
 ghost use Rattle.hb_outgoing.specs.Waiting.{octets_of, room_of, nothing, opened, put, size};
 ghost use Rattle.hb_outgoing.specs.Written.{written};
-ghost use Rattle.hb_outgoing.specs.Selected.{taken_back, data_size, first_data, end_waits};
+ghost use Rattle.hb_outgoing.specs.Selected.{taken_back, all_taken_back, data_size, first_data, end_waits};
 
 use crate::head::Head;
 use crate::queue::{any_ends, begin, ends, first_data, take_data, while_waits};
@@ -98,8 +98,9 @@ impl Outgoing {
     pub fn put_frame(&mut self, kind: u8, flags: u8, stream: u32, payload: &[u8])
         requires room { length (octets_of self.old) + (9 + length payload.now) ≤ size }
         requires in_range { stream ≤ 2147483647 }
-        ensures { self.new
+        ensures after { self.new
             ≡ put (record { kind = kind; flags = flags; stream = stream; payload = payload.now }) self.old }
+        ensures grows { length (octets_of self.new) ≡ length (octets_of self.old) + (9 + length payload.now) }
     {
         self.output.put_frame(kind, flags, stream, payload);
     }
@@ -118,10 +119,19 @@ impl Outgoing {
     /// Takes the stream's DATA frames back of which no octet was written, and says how many octets of payload
     /// they had, which its window gets back (RFC 9113 section 6.9).
     pub fn take_back(&mut self, stream: u32) -> u32
-        ensures value { result ≡ data_size stream self.old.queue }
+        ensures value { result ≡ data_size (Some stream) self.old.queue }
         ensures left { self.new ≡ taken_back stream self.old }
+        ensures shorter { length (octets_of self.new) ≤ length (octets_of self.old) }
     {
-        take_data(&mut self.output, self.rest, stream)
+        take_data(&mut self.output, self.rest, Some(stream))
+    }
+
+    /// Takes all DATA frames back of which no octet was written.
+    pub fn take_back_all(&mut self)
+        ensures left { self.new ≡ all_taken_back self.old }
+        ensures shorter { length (octets_of self.new) ≤ length (octets_of self.old) }
+    {
+        take_data(&mut self.output, self.rest, None);
     }
 
     /// The first DATA frame with payload of which no octet was written.

@@ -6,7 +6,7 @@ ghost use Rattle.hb_frames.specs.RawFrame.{raw_at, spelling, size_at};
 ghost use Rattle.hb_outgoing.specs.Waiting.{spelled, head_of};
 ghost use Rattle.hb_outgoing.specs.Queue.{frames_of, AreWhole, IsPlaced};
 ghost use Rattle.hb_outgoing.specs.Written.{begun_in, last_head};
-ghost use Rattle.hb_outgoing.specs.Selected.{is_kept, data_size, frame_ends, ends, first_data};
+ghost use Rattle.hb_outgoing.specs.Selected.{is_meant, is_kept, data_size, frame_ends, ends, first_data};
 
 use crate::head::Head;
 use crate::unbegun::Unbegun;
@@ -95,8 +95,19 @@ pub(crate) fn while_waits(rest: usize, begun: Option<Head>) -> Option<Head>
     if rest == 0 { None } else { begun }
 }
 
-/// Takes the stream's DATA frames from a place on out, and says how many octets of payload they had.
-pub(crate) fn take_data(output: &mut Output, from: usize, stream: u32) -> u32
+/// The stream is the one that is meant; None: all are.
+fn is_meant(meant: Option<u32>, stream: u32) -> bool
+    ensures { result ≡ is_meant meant stream }
+{
+    match meant {
+        None => true,
+        Some(one) => stream == one,
+    }
+}
+
+/// Takes the stream's DATA frames from a place on out, None: those of all streams, and says how many octets of
+/// payload they had.
+pub(crate) fn take_data(output: &mut Output, from: usize, stream: Option<u32>) -> u32
     requires order { from ≤ length output.old.items }
     requires small { length output.old.items ≤ 32768 }
     requires whole { AreWhole (drop from output.old.items) }
@@ -110,7 +121,7 @@ pub(crate) fn take_data(output: &mut Output, from: usize, stream: u32) -> u32
     while at < output.front().len() {
         let next = frame_at(output.front(), at);
         let end = HEADER + next.size as usize;
-        if next.head.kind == DATA && next.head.stream == stream {
+        if next.head.kind == DATA && is_meant(stream, next.head.stream) {
             output.cut(at, end);
             taken += next.size;
         } else {

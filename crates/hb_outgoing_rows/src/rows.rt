@@ -35,6 +35,9 @@ an opening: open 505249202a20485454502f322e300d0a0d0a534d0d0a0d0a; ends 0 no; pu
     back 1 1; waits 0d0a0d0a
 an opening and a frame begun: open 505249202a20485454502f322e300d0a0d0a534d0d0a0d0a; put 00000100010000000161; wrote 25; \
     ends 1 yes; back 1 0; waits 000100010000000161
+all DATA is taken back: put 00000100000000000161; put 000000040100000000; put 0000020001000000036263; put 000000000100000005; all; \
+    waits 000000040100000000; unbegun 0 0; ends 3 no; room 32759
+but what has begun: put 00000100000000000161; put 00000100000000000362; wrote 1; all; waits 000100000000000161; all; wrote 9; waits
 an opening twice: open 41; wrote 1; open 42; waits 42; back 0 0
 ";
 

@@ -6,6 +6,7 @@ use Rattle.hb_streams.specs.Numbers.{is_even, most_active}
 use Rattle.hb_streams.specs.Resets.{is_among}
 use Rattle.hb_streams.specs.Sides.{state_with}
 use Rattle.hb_streams.specs.declared.role.Role.{Role}
+use Rattle.hb_streams.specs.declared.role.Role.TheVariants.{Server, Client}
 use Rattle.hb_streams.specs.declared.sides.Sides.{Sides}
 use Rattle.hb_streams.specs.declared.state.State.{State}
 use Rattle.hb_streams.specs.declared.state.State.TheVariants.{Idle, Closed, Reset}
@@ -53,3 +54,11 @@ state_by None other = other
 -- the state of a stream (RFC 9113 section 5.1)
 abbrev pub state_of : States → ℕ → State
 state_of s n = state_by (get s.active n) (state_of_others s n)
+
+abbrev pub last_by : Role → ℕ → ℕ
+last_by Server highest = highest
+last_by Client highest = 0
+
+-- the last stream that the peer opened, 0 where it opened none: a server's peer opens all of them, a client's none
+abbrev pub last_of_peer : States → ℕ
+last_of_peer s = last_by s.role s.highest

@@ -1,9 +1,10 @@
 //! All streams of one connection.
 
 ghost use Rattle.std.specs.Prelude.{◌≡◌, IfOk, OnOk, OnErr, IsOk, IsTrue};
+ghost use Rattle.std.specs.FinMap.{len};
 ghost use Rattle.hb_base.specs.Outcome.{Answers};
 ghost use Rattle.hb_streams.specs.Sides.{both_open, sides_of, IsActive};
-ghost use Rattle.hb_streams.specs.States.{fresh, is_full, state_of, state_of_others};
+ghost use Rattle.hb_streams.specs.States.{fresh, is_full, state_of, state_of_others, last_of_peer};
 ghost use Rattle.hb_streams.specs.Answers.{answer_of, number_of};
 ghost use Rattle.hb_streams.specs.Moves.{receives, begins, sends_end, sends_reset, after, begun, refused};
 ghost use Rattle.hb_streams.specs.Moves.{with_sides, peer_ended, after_going};
@@ -138,6 +139,31 @@ impl Streams {
         self.state(stream).sides()
     }
 
+    /// What this end of the connection is.
+    pub fn role(&self) -> Role
+        ensures { result ≡ self.now.role }
+    {
+        self.role
+    }
+
+    /// How many streams are open or half-closed.
+    pub fn active(&self) -> usize
+        ensures { result ≡ len self.now.active }
+    {
+        self.active.len()
+    }
+
+    /// The last stream that the peer opened, refused ones included, as GOAWAY names it (RFC 9113 section 6.8); 0
+    /// where it opened none.
+    pub fn last_of_peer(&self) -> u32
+        ensures value { result ≡ last_of_peer self.now }
+    {
+        match self.role {
+            Role::Server => self.highest,
+            Role::Client => 0,
+        }
+    }
+
     fn state(&self, stream: u32) -> State
         ensures { result ≡ state_of self.now stream }
     {
@@ -166,7 +192,8 @@ impl Streams {
         self.active.len() >= MOST_ACTIVE
     }
 
-    fn answer(&self, kind: u8, stream: u32) -> Result<Step, StreamFault>
+    /// What a frame of type `kind` on `stream` is answered, as `on_frame` answers it; nothing happens by this call.
+    pub fn answer(&self, kind: u8, stream: u32) -> Result<Step, StreamFault>
         ensures { result ≡ answer_of self.now kind stream }
     {
         match kind {

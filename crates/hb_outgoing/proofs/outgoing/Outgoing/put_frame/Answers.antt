@@ -1,13 +1,14 @@
-use Rattle.std.proofs.Common.{◌≤◌, ◌+◌, length, ap, ◌∙◌, sym, subst, arith}
+use Rattle.std.proofs.Common.{◌≡◌, ◌≤◌, ◌+◌, length, ap, ◌∙◌, sym, subst, arith}
 use Rattle.hb_frames.specs.RawFrame.{Fits}
 use Rattle.hb_frames.specs.BoundedBytes.{BoundedBytes}
 use Rattle.hb_frames.proofs.Records.{raw}
 use Rattle.hb_outgoing.proofs.Queues.{octets_are}
-use Rattle.hb_outgoing.proofs.Views.{Inside, view, frame_is_put}
+use Rattle.hb_outgoing.specs.Waiting.{Waiting, octets_of}
+use Rattle.hb_outgoing.proofs.Views.{Inside, put_is_long, view, frame_is_put}
 use Rattle.hb_outgoing.proofs.outgoing.Outgoing.put_frame.Goals as goal
 
-pub returns : goal.returns
-returns c =
+pub returns-clause-after : goal.returns-clause-after
+returns-clause-after c =
     let f = raw c.args.kind c.args.flags c.args.stream c.args.payload.now in
     let items = c.self.inside.output.items in
     let rest = c.self.inside.rest in
@@ -33,3 +34,9 @@ invariant_of-self c =
     let now = frame_is_put items rest c.self.inside.begun f before fits room in
     let inside = subst (λ (b : BoundedBytes). Inside b.items rest) (sym c.put_frame.ensures) now.inside in
     (ap (λ (b : BoundedBytes). b.size) c.put_frame.ensures ∙ inv.0, inside.small, inside.within, inside.whole)
+
+pub returns-clause-grows : goal.returns-clause-grows
+returns-clause-grows c =
+    let f = raw c.args.kind c.args.flags c.args.stream c.args.payload.now in
+    subst (λ (w : Waiting). length (octets_of w) ≡ length (octets_of c.args.self.now) + (9 + length c.args.payload.now)) (sym (returns-clause-after c))
+    (put_is_long f c.args.self.now)
