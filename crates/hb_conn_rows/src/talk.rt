@@ -1,0 +1,229 @@
+//! One end in a conversation, and what it tells, in the words of a table.
+
+ghost use Rattle.std.specs.Prelude.{◌≤◌};
+ghost use Rattle.hb_hpack.specs.Table.{total};
+
+use crate::octets::{cut, octets_of};
+use hb_base::{Bytes, List};
+use hb_conn::{Conn, Happening};
+use hb_hpack::{Header, HeaderList};
+use hb_streams::Role;
+use std::alloc::Global;
+use std::process::Abort;
+
+/// The most pieces and the most happenings of one step.
+const MANY: usize = 100_000;
+
+/// From this size on the headers of a list aren't told.
+const LARGE: u64 = 1_000;
+
+fn number_of(rt: &impl Abort, text: &str) -> u32 {
+    text.parse::<u32>().ok().expect(rt, "a number")
+}
+
+/// Appends octets that are letters.
+pub fn show(rt: &impl Abort, shown: &mut String, octets: &[u8]) {
+    let text = std::str::from_utf8(octets).ok().expect(rt, "a text");
+    write!(shown, "{text}").expect(rt, "memory");
+}
+
+fn tell_headers(rt: &impl Abort, told: &mut String, headers: &HeaderList) {
+    if headers.size >= LARGE {
+        show(rt, told, b"+");
+        return;
+    }
+    let mut mark = "";
+    for header in headers.kept.as_slice() {
+        show(rt, told, mark.as_bytes());
+        show(rt, told, header.name.as_slice());
+        show(rt, told, b"=");
+        show(rt, told, header.value.as_slice());
+        mark = ",";
+    }
+}
+
+/// Appends a line that says what happened.
+fn tell(rt: &impl Abort, told: &mut String, happening: Happening<'_>) {
+    let put = match happening {
+        Happening::Opened {
+            stream,
+            headers,
+            end,
+        } => {
+            let end = if end { "end" } else { "open" };
+            write!(told, "opened {stream} {end} {} ", headers.size).expect(rt, "memory");
+            tell_headers(rt, told, headers);
+            Ok(())
+        }
+        Happening::Chunk { stream, bytes } => {
+            write!(told, "chunk {stream} ").expect(rt, "memory");
+            show(rt, told, bytes);
+            Ok(())
+        }
+        Happening::Ended { stream } => write!(told, "ended {stream}"),
+        Happening::Reset { stream, code } => write!(told, "reset {stream} {code}"),
+        Happening::Broken { stream, code } => write!(told, "broken {stream} {code}"),
+        Happening::GoneAway { last } => write!(told, "gone {last}"),
+        Happening::Fault { code } => write!(told, "fault {code}"),
+    };
+    put.expect(rt, "memory");
+    show(rt, told, b"\n");
+}
+
+/// A CONNECT of this authority.
+fn connect(rt: &impl Abort, alloc: Global, authority: &str) -> List<Header>
+    ensures { total result ≤ 900 }
+{
+    assert!(rt; authority.len() <= 100);
+    let mut headers = List::new(alloc);
+    let method = Header {
+        name: Bytes::of(alloc, b":method").expect(rt, "memory"),
+        value: Bytes::of(alloc, b"CONNECT").expect(rt, "memory"),
+    };
+    let authority = Header {
+        name: Bytes::of(alloc, b":authority").expect(rt, "memory"),
+        value: Bytes::of(alloc, authority.as_bytes()).expect(rt, "memory"),
+    };
+    headers.push(method).expect(rt, "memory");
+    headers.push(authority).expect(rt, "memory");
+    headers
+}
+
+/// One end, and how what comes is cut: not at all where `chance` is 0.
+#[derive(Drop)]
+pub struct Talk {
+    conn: Conn,
+    chance: u32,
+}
+
+impl Talk {
+    pub fn new(rt: &impl Abort, alloc: Global, role: &str, chance: u32) -> Talk {
+        let made = if role == "client" {
+            Conn::client(alloc)
+        } else {
+            Conn::server(alloc)
+        };
+        Talk {
+            conn: made.expect(rt, "memory"),
+            chance,
+        }
+    }
+
+    /// How many octets come at once, of so many at most.
+    fn piece(&mut self, most: usize) -> usize {
+        if self.chance == 0 {
+            return most;
+        }
+        self.chance = self
+            .chance
+            .wrapping_mul(1_664_525)
+            .wrapping_add(1_013_904_223)
+            | 1;
+        let number = (self.chance >> 12) as usize;
+        let size = if number % 4 == 0 {
+            number % 5_000
+        } else {
+            number % 23
+        };
+        (size + 1).min(most)
+    }
+
+    fn drain(&mut self, rt: &impl Abort, told: &mut String) {
+        for _ in 0..MANY {
+            match self.conn.next_happening() {
+                Ok(Some(happening)) => tell(rt, told, happening),
+                Ok(None) => return,
+                Err(_) => panic!(rt; "memory"),
+            }
+        }
+    }
+
+    /// The peer's octets come; what happened is told, a line each.
+    pub fn come(&mut self, rt: &impl Abort, told: &mut String, octets: &[u8]) {
+        let mut left = octets;
+        for _ in 0..MANY {
+            let size = self.piece(left.len()).min(left.len());
+            let taken = self.conn.take(&left[..size]).min(left.len());
+            left = left.split_at(taken).1;
+            self.drain(rt, told);
+            if taken == 0 {
+                return;
+            }
+        }
+    }
+
+    /// All that waits is this.
+    pub fn output(&self, rt: &impl Abort, name: &str, want: &[u8]) {
+        assert!(rt; self.conn.output() == want, "{name}: other octets wait");
+    }
+
+    fn open(&mut self, rt: &impl Abort, alloc: Global, name: &str, stream: u32, words: &str) {
+        let (authority, end) = cut(words, " ");
+        let headers = connect(rt, alloc, authority);
+        match self.conn.role() {
+            Role::Client => {
+                assert!(rt; self.conn.room() >= 1_024);
+                let opened = self.conn.open(&headers, end == "end").unwrap_or(0);
+                assert!(rt; opened == stream, "{name}: opened {opened}, not {stream}");
+            }
+            Role::Server => panic!(rt; "a client"),
+        }
+    }
+
+    fn status(&mut self, rt: &impl Abort, stream: u32, words: &str) {
+        let (digits, end) = cut(words, " ");
+        let number = number_of(rt, digits);
+        assert!(rt; number >= 100 && number < 1000);
+        assert!(rt; self.conn.sides(stream).own);
+        self.conn.put_status(stream, number as u16, end == "end");
+    }
+
+    fn end(&mut self, rt: &impl Abort, stream: u32) {
+        assert!(rt; self.conn.sides(stream).own);
+        self.conn.put_end(stream);
+    }
+
+    fn reset(&mut self, rt: &impl Abort, stream: u32, code: u32) {
+        let sides = self.conn.sides(stream);
+        assert!(rt; sides.own || sides.peer);
+        self.conn.put_reset(stream, code);
+    }
+
+    fn credit(&mut self, rt: &impl Abort, stream: u32, n: u32) {
+        assert!(rt; n <= self.conn.creditable(stream));
+        self.conn.credit(stream, n);
+    }
+
+    fn some(&mut self, rt: &impl Abort, alloc: Global, name: &str, stream: u32, words: &str) {
+        let (want, words) = cut(words, " ");
+        let octets = octets_of(rt, alloc, words);
+        assert!(rt; self.conn.sides(stream).own);
+        let n = self.conn.put_some(stream, octets.as_slice());
+        assert!(rt;
+            n == number_of(rt, want) as usize,
+            "{name}: put {n}, not {want}"
+        );
+    }
+
+    fn wrote(&mut self, rt: &impl Abort, n: usize) {
+        assert!(rt; n <= self.conn.output().len());
+        self.conn.wrote(n);
+    }
+
+    /// An act of this end, and what it is answered.
+    pub fn act(&mut self, rt: &impl Abort, alloc: Global, name: &str, line: &str) {
+        let (call, rest) = cut(line, " ");
+        let (number, rest) = cut(rest, " ");
+        let number = number_of(rt, number);
+        match call {
+            "wrote" => self.wrote(rt, number as usize),
+            "open" => self.open(rt, alloc, name, number, rest),
+            "status" => self.status(rt, number, rest),
+            "end" => self.end(rt, number),
+            "reset" => self.reset(rt, number, number_of(rt, rest)),
+            "credit" => self.credit(rt, number, number_of(rt, rest)),
+            "some" => self.some(rt, alloc, name, number, rest),
+            _ => panic!(rt; "{name}: {line}"),
+        }
+    }
+}

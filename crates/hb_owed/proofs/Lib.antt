@@ -1,0 +1,5 @@
+pub mod Numbers
+pub mod Orders
+pub mod Payments
+pub mod Records
+pub mod Walks
