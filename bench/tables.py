@@ -1,7 +1,7 @@
 #!/usr/bin/python3
 """Compares the tables of tests that scripts here print with the files in which they stand, and names those that differ.
 
-usage: bench/tables.py        (after `apt-get install libnghttp2-14 python3-hpack python3-hyperframe python3-protobuf protobuf-compiler`)
+usage: bench/tables.py        (after `apt-get install libnghttp2-14 python3-h2 python3-hpack python3-hyperframe python3-protobuf protobuf-compiler`)
 """
 
 import pathlib
@@ -21,6 +21,7 @@ WHOLE = [
     ("show_rows.py", "hb_rows", "shows.rt"),
     ("hpack_vectors.py", "hb_http2_rows", "hpack_vectors.rt"),
     ("streams.py", "hb_streams_rows", "rows.rt"),
+    ("conversations.py", "hb_conn_rows", "conversation_rows.rt"),
     ("ip_rows.py", "hb_parts_rows", "ips.rt"),
     ("record_rows.py", "hb_records_rows", "spelled.rt"),
     ("request_rows.py", "hb_disco_rows", "written.rt"),
