@@ -8,6 +8,7 @@ pub mod MemSink
 pub mod MemSource
 pub mod Octets
 pub mod Outcome
+pub mod Text
 pub mod Utf8
 pub mod Parts
 pub mod Pieces

@@ -19,6 +19,7 @@ mod peer;
 mod pieces;
 mod reading;
 mod scope;
+mod short;
 mod sink;
 mod source;
 mod std_sink;

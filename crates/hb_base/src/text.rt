@@ -2,28 +2,67 @@
 
 ghost use Rattle.std.specs.Prelude.{◌≡◌, ◌↔◌, [], IfOk, IsSome};
 ghost use Rattle.std.specs.Str.{IsUtf8};
+ghost use Rattle.hb_base.specs.Text.{bytes_at};
 ghost use Rattle.hb_base.specs.Utf8.{text_of};
 
 use crate::or::NoMemory;
+use crate::short::{SHORT, Short};
 use std::alloc::Global;
 use std::cmp::Ordering;
 use std::marker::Model;
 
-/// Owned text. Contracts see it as the list of its bytes, which is always UTF-8.
+/// Where the bytes of a text are: in it, which takes no memory, or in memory of their own.
+enum Place {
+    Short(Short),
+    Long(Vec<u8>),
+}
+
+// Written out, so that a value that holds texts is dropped without a look into each.
+impl Drop for Place {
+    fn drop(self) {
+        match self {
+            Place::Short(_) | Place::Long(_) => {}
+        }
+    }
+}
+
+impl Place {
+    /// A copy of these bytes.
+    fn of(alloc: Global, b: &[u8]) -> Result<Place, NoMemory>
+        ensures { IfOk result (λ r. bytes_at r ≡ b.now) }
+    {
+        if b.len() <= SHORT {
+            return Ok(Place::Short(Short::of(b)));
+        }
+        Ok(Place::Long(Vec::from_slice(alloc, b)?))
+    }
+
+    fn as_slice(&self) -> &[u8]
+        ensures { result.now ≡ bytes_at self.now }
+    {
+        match self {
+            Place::Short(bytes) => bytes.as_slice(),
+            Place::Long(bytes) => bytes.as_slice(),
+        }
+    }
+}
+
+/// Owned text; up to 23 bytes take no memory. Contracts see it as the list of its bytes, which is always UTF-8.
 #[derive(Drop)]
 pub struct Text {
-    items: Vec<u8>,
+    place: Place,
 }
 
 impl Model for Text {
     ghost use Rattle.std.specs.Prelude.{List, ℕ};
     ghost use Rattle.std.specs.Str.{IsUtf8};
+    ghost use Rattle.hb_base.specs.Text.{bytes_at};
 
     ghost Value = { List ℕ };
 
-    ghost view = { λ t. t.items.items };
+    ghost view = { λ t. bytes_at t.place };
 
-    ghost invariant = { λ t. IsUtf8 t.items.items };
+    ghost invariant = { λ t. IsUtf8 (bytes_at t.place) };
 }
 
 impl Text {
@@ -34,19 +73,19 @@ impl Text {
     {
         match std::str::from_utf8(b) {
             Ok(_) => {
-                let items = Vec::from_slice(alloc, b)?;
-                Ok(Some(Text { items }))
+                let place = Place::of(alloc, b)?;
+                Ok(Some(Text { place }))
             }
             Err(_) => Ok(None),
         }
     }
 
     /// The empty text, which takes no memory.
-    pub fn empty(alloc: Global) -> Text
+    pub fn empty(_alloc: Global) -> Text
         ensures { result ≡ [] }
     {
         Text {
-            items: Vec::new(alloc),
+            place: Place::Short(Short::new()),
         }
     }
 
@@ -55,16 +94,18 @@ impl Text {
         ensures value { result.now ≡ self.now }
         ensures utf8 { IsUtf8 self.now }
     {
-        self.items.as_slice()
+        self.place.as_slice()
     }
 
     pub fn copy(&self, alloc: Global) -> Result<Text, NoMemory>
         ensures { IfOk result (λ r. r ≡ self.now) }
     {
-        let items = Vec::from_slice(alloc, self.items.as_slice())?;
-        Ok(Text { items })
+        let place = Place::of(alloc, self.as_slice())?;
+        Ok(Text { place })
     }
 }
+
+const _: () = prove!(size_of::<Text>() == 32);
 
 impl PartialEq for Text {
     ghost use Rattle.std.specs.Prelude.{◌==◌};

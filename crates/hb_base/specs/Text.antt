@@ -1,0 +1,9 @@
+-- Where the bytes of a text are.
+use Rattle.std.specs.Prelude.{ℕ, List}
+use Rattle.hb_base.specs.declared.text.Place.{Place}
+use Rattle.hb_base.specs.declared.text.Place.TheVariants.{Short, Long}
+
+-- the bytes that are there
+abbrev pub bytes_at : Place → List ℕ
+bytes_at (Short bytes) = bytes
+bytes_at (Long bytes) = bytes.items
