@@ -1,5 +1,5 @@
 -- What services and address records are, where reading gives them.
-use Rattle.std.proofs.Common.{◌≡◌, ℕ, ◌==◌, List, length, ◌≤◌, Some, IfSome, Ok, IfOk, arith, rules}
+use Rattle.std.proofs.Common.{◌≡◌, ℕ, ◌==◌, List, length, ◌≤◌, Option, Some, None, IfSome, Ok, IfOk, arith}
 use Rattle.std.specs.List.{All}
 use Rattle.hb_wire.specs.Field.{Content}
 use Rattle.hb_wire.specs.Spelling.{IsOctet}
@@ -68,25 +68,25 @@ no_service_kept = record {
 
 -- an address record as far as its fields were read
 abbrev IsAddress : Taker address_merged → Type 0
-IsAddress a = AreParts a.workload × IsService a.service
+IsAddress a = IfSome a.workload AreParts × IfSome a.service IsService
 
-parts_are_there : (a : Taker address_merged) (P : Taker parts_merged → Type 0) → P a.workload → P no_parts
-    → P (workload_there a.kind a.workload)
-parts_are_there a P p none = search rules
+parts_are_there : (o : Option (Taker parts_merged)) → IfSome o AreParts → AreParts (workload_there o)
+parts_are_there (Some p) are = are
+parts_are_there None are = none_kept
 
-service_is_there : (a : Taker address_merged) (P : Service → Type 0) → P a.service → P no_service → P (service_there a.kind a.service)
-service_is_there a P p none = search rules
+service_is_there : (o : Option Service) → IfSome o IsService → IsService (service_there o)
+service_is_there (Some s) is = is
+service_is_there None is = no_service_kept
 
 address_span_kept : (a : Taker address_merged) (number at : ℕ) (bytes : List ℕ) → IsAddress a → All IsOctet bytes
     → IfOk (address_span a number at bytes) IsAddress
 address_span_kept a number at bytes (parts, service) octets =
     ok_cond (number == 1) _ _ _
-    (ok_then (workload_with (workload_there a.kind a.workload) at bytes) _ AreParts IsAddress
-    (workload_kept (workload_there a.kind a.workload) at bytes (parts_are_there a AreParts parts none_kept) octets) (λ p q. (q, service)))
+    (ok_then (workload_with (workload_there a.workload) at bytes) _ AreParts IsAddress
+    (workload_kept (workload_there a.workload) at bytes (parts_are_there a.workload parts) octets) (λ p q. (q, tt)))
     (ok_cond (number == 2) _ _ _
-    (ok_then (service_with (service_there a.kind a.service) at bytes) _ IsService IsAddress
-    (service_kept (service_there a.kind a.service) at bytes (service_is_there a IsService service no_service_kept) octets)
-    (λ s q. (parts, q)))
+    (ok_then (service_with (service_there a.service) at bytes) _ IsService IsAddress
+    (service_kept (service_there a.service) at bytes (service_is_there a.service service) octets) (λ s q. (tt, q)))
     (parts, service))
 
 address_part_kept : (a : Taker address_merged) (f : Content) → IsAddress a → HasOctets f.value → IfOk (address_merged a f) IsAddress
@@ -97,22 +97,19 @@ abbrev pub IsRecord : AddressRecord → Type 0
 IsRecord (records.Workload w) = IsWorkload most_entries w
 IsRecord (records.Service s) = IsService s
 
-either_record : (a : Taker address_merged) (P : AddressRecord → Type 0) → P (records.Workload a.workload.workload)
-    → P (records.Service a.service) → IfOk (record_or a a.kind) P
-either_record a P p q = search rules
-
 enough : (few most : ℕ) (w : Workload) → few ≤ most → IsWorkload few w → IsWorkload most w
 enough few most w le p = let least : length w.services ≤ most = let had = p.few in omega arith in assumption
 
-record_kept : (a : Taker address_merged) → IsAddress a → IfOk (record_or a a.kind) IsRecord
-record_kept a (parts, service) =
-    either_record a IsRecord (enough a.workload.entries most_entries a.workload.workload parts.1 parts.0) service
+record_kept : (o : Option (Taker parts_merged)) (service : Option Service) → IfSome o AreParts → IfSome service IsService
+    → IfOk (record_or o service) IsRecord
+record_kept (Some p) service parts is = enough p.entries most_entries p.workload parts.1 parts.0
+record_kept None (Some s) parts is = is
+record_kept None None parts is = tt
 
 -- an address record that octets are
 pub address_kept : (bytes : List ℕ) (r : AddressRecord) → All IsOctet bytes → address_of bytes ≡ Ok r → IsRecord r
 unfolding address_of
 address_kept bytes r octets is =
     ok_at (address_of bytes) IsRecord r
-    (ok_then _ _ IsAddress IsRecord (read_keeps address_merged Wire IsAddress address_part_kept no_address 0 bytes
-    (none_kept, no_service_kept) octets)
-    record_kept) is
+    (ok_then _ _ IsAddress IsRecord (read_keeps address_merged Wire IsAddress address_part_kept no_address 0 bytes (tt, tt) octets)
+    (λ a p. record_kept a.workload a.service p.0 p.1)) is

@@ -62,12 +62,12 @@ service_made at s p small = made_is_read service_merged Wire no_service s at (se
 record_made : (r : AddressRecord) → IsRecord r → length (canonical_address r) < 2 ^ 64 → address_of (canonical_address r) ≡ Ok r
 unfolding address_of canonical_address
 record_made (records.Workload w) p small =
-    ap (λ (x : Result (Taker address_merged) _). and_then x (λ a. record_or a a.kind))
+    ap (λ (x : Result (Taker address_merged) _). and_then x (λ a. record_or a.workload a.service))
     (made_is_read address_merged Wire no_address _ 0 (bytes_of 1 (workload_of w)) small
     (makes_bytes address_merged no_address _ 1 (workload_of w) refl (λ fits at.
     goes_through (workload_with no_parts at (workload_of w)) _ (served w w.services) (workload_made at w p fits))))
 record_made (records.Service s) p small =
-    ap (λ (x : Result (Taker address_merged) _). and_then x (λ a. record_or a a.kind))
+    ap (λ (x : Result (Taker address_merged) _). and_then x (λ a. record_or a.workload a.service))
     (made_is_read address_merged Wire no_address _ 0 (bytes_of 2 (service_of s)) small
     (makes_bytes address_merged no_address _ 2 (service_of s) refl (λ fits at.
     goes_through (service_with no_service at (service_of s)) _ s (service_made at s p fits))))

@@ -1,15 +1,14 @@
 //! Address records.
 
-ghost use Rattle.std.specs.Prelude.{◌≡◌, ◌+◌, ◌^◌, ◌<◌, length, Some};
+ghost use Rattle.std.specs.Prelude.{◌≡◌, ◌+◌, ◌^◌, ◌<◌, length};
 ghost use Rattle.hb_base.specs.Outcome.{Answers, Merges};
-ghost use Rattle.hb_records.specs.Address.{workload_there, service_there, address_span, record_or, address_of};
-ghost use Rattle.hb_records.specs.declared.address.AddressKind.TheVariants as kinds;
+ghost use Rattle.hb_records.specs.Address.{address_span, record_or, address_of};
 
 use crate::fault::RecordFault;
 use crate::service::Service;
 use crate::workload::{Workload, WorkloadParts};
 use hb_base::Or;
-use hb_message::{Message, read_message, read_whole};
+use hb_message::{Message, read_message};
 use hb_wire::{Field, FieldValue};
 use std::alloc::Global;
 
@@ -20,20 +19,11 @@ pub enum AddressRecord {
     Service(Service),
 }
 
-/// What an address record is.
-#[derive(Clone, Copy)]
-enum AddressKind {
-    Workload,
-    Service,
-}
-
-/// An address record as far as its fields were read: the workload and the service of their last occurrences, and
-/// which of the two occurred last.
+/// An address record as far as its fields were read: the workload or the service that occurred last, if one did.
 #[derive(Drop)]
 struct Address {
-    workload: WorkloadParts,
-    service: Service,
-    kind: Option<AddressKind>,
+    workload: Option<WorkloadParts>,
+    service: Option<Service>,
 }
 
 impl Message for Address {
@@ -52,7 +42,6 @@ impl Message for Address {
 }
 
 impl Address {
-    #[tactic(auto, unfolding(crate::specs::Workload::workload_with, crate::specs::Service::service_with))]
     fn take_span(
         &mut self,
         alloc: Global,
@@ -64,49 +53,60 @@ impl Address {
         ensures { Merges (address_span self.old number at bytes.now) self.new result }
     {
         match number {
-            1 => {
-                self.begin_workload(alloc);
-                read_message(alloc, bytes, at, &mut self.workload)
-            }
-            2 => {
-                self.begin_service(alloc);
-                read_message(alloc, bytes, at, &mut self.service)
-            }
+            1 => self.take_workload(alloc, at, bytes),
+            2 => self.take_service(alloc, at, bytes),
             _ => Ok(()),
         }
     }
 
-    /// One more occurrence of a workload begins.
-    fn begin_workload(&mut self, alloc: Global)
-        ensures { self.new
-            ≡ record self.old { workload = workload_there self.old.kind self.old.workload; kind = Some kinds.Workload } }
+    #[tactic(auto, unfolding(crate::specs::Workload::workload_with))]
+    fn take_workload(
+        &mut self,
+        alloc: Global,
+        at: usize,
+        bytes: &[u8],
+    ) -> Result<(), Or<RecordFault>>
+        requires { at + length bytes.now < 2 ^ 64 }
+        ensures { Merges (address_span self.old 1 at bytes.now) self.new result }
     {
-        match self.kind {
-            Some(AddressKind::Workload) => {}
-            _ => self.workload = WorkloadParts::unread(alloc),
+        self.service = None;
+        if self.workload.is_none() {
+            self.workload = Some(WorkloadParts::unread(alloc));
         }
-        self.kind = Some(AddressKind::Workload);
+        match &mut self.workload {
+            Some(there) => read_message(alloc, bytes, at, there),
+            None => unreachable!(),
+        }
     }
 
-    /// One more occurrence of a service begins.
-    fn begin_service(&mut self, alloc: Global)
-        ensures { self.new ≡ record self.old { service = service_there self.old.kind self.old.service; kind = Some kinds.Service } }
+    #[tactic(auto, unfolding(crate::specs::Service::service_with))]
+    fn take_service(
+        &mut self,
+        alloc: Global,
+        at: usize,
+        bytes: &[u8],
+    ) -> Result<(), Or<RecordFault>>
+        requires { at + length bytes.now < 2 ^ 64 }
+        ensures { Merges (address_span self.old 2 at bytes.now) self.new result }
     {
-        match self.kind {
-            Some(AddressKind::Service) => {}
-            _ => self.service = Service::unread(alloc),
+        self.workload = None;
+        if self.service.is_none() {
+            self.service = Some(Service::unread(alloc));
         }
-        self.kind = Some(AddressKind::Service);
+        match &mut self.service {
+            Some(there) => read_message(alloc, bytes, at, there),
+            None => unreachable!(),
+        }
     }
 
     /// The record, which has to be one of the two.
     fn whole(self) -> Result<AddressRecord, Or<RecordFault>>
-        ensures { Answers result (record_or self self.kind) }
+        ensures { Answers result (record_or self.workload self.service) }
     {
-        match self.kind {
-            Some(AddressKind::Workload) => Ok(AddressRecord::Workload(self.workload.workload)),
-            Some(AddressKind::Service) => Ok(AddressRecord::Service(self.service)),
-            None => Err(Or::Fault(RecordFault::NoKind { field: 0 })),
+        match (self.workload, self.service) {
+            (Some(parts), _) => Ok(AddressRecord::Workload(parts.workload)),
+            (None, Some(service)) => Ok(AddressRecord::Service(service)),
+            (None, None) => Err(Or::Fault(RecordFault::NoKind { field: 0 })),
         }
     }
 }
@@ -116,10 +116,10 @@ impl Address {
 pub fn read_address(alloc: Global, bytes: &[u8]) -> Result<AddressRecord, Or<RecordFault>>
     ensures { Answers result (address_of bytes.now) }
 {
-    let unread = Address {
-        workload: WorkloadParts::unread(alloc),
-        service: Service::unread(alloc),
-        kind: None,
+    let mut address = Address {
+        workload: None,
+        service: None,
     };
-    read_whole(alloc, bytes, 0, unread)?.whole()
+    read_message(alloc, bytes, 0, &mut address)?;
+    address.whole()
 }
