@@ -28,6 +28,7 @@ pub trait Message {
 }
 
 /// Reads `bytes`, which stand at place `at` of the whole record, into `message`.
+#[inline(never)]
 pub fn read_message<M: Message>(
     alloc: Global,
     bytes: &[u8],
@@ -48,6 +49,7 @@ pub fn read_message<M: Message>(
 }
 
 /// What the fields of `bytes`, which stand at place `at` of the whole record, make of `message`.
+#[inline(always)]
 pub fn read_whole<M: Message + Drop>(
     alloc: Global,
     bytes: &[u8],

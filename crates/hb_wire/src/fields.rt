@@ -46,6 +46,7 @@ fn is_wire_type(wire_type: u64) -> bool
 }
 
 /// The field in front, and what is unread behind it.
+#[inline(always)]
 #[tactic(auto, unfolding(crate::specs::Field::field_in))]
 fn read_field(cursor: Cursor<'_>) -> Result<(Field<'_>, Cursor<'_>), WireFault>
     ensures value { seen (λ f. (content f.0, unread f.1)) result ≡ field_in (unread cursor.entry) }
@@ -70,6 +71,7 @@ fn read_field(cursor: Cursor<'_>) -> Result<(Field<'_>, Cursor<'_>), WireFault>
 }
 
 /// The value of a field of this number and wire type, and what is unread behind it.
+#[inline(always)]
 #[tactic(auto, unfolding(crate::specs::Field::value_in))]
 fn read_value(
     number: u32,
@@ -92,6 +94,7 @@ fn read_value(
 }
 
 /// A field that is a varint, and what is unread behind it.
+#[inline(always)]
 fn varint_field(number: u32, cursor: Cursor<'_>) -> Result<(Field<'_>, Cursor<'_>), WireFault>
     ensures value { seen (λ f. (content f.0, unread f.1)) result ≡ varint_value number (unread cursor.entry) }
     ensures span { IfOk result (λ f. IsInMemory f.0) }
@@ -114,6 +117,7 @@ fn eight_field(number: u32, cursor: Cursor<'_>) -> Result<(Field<'_>, Cursor<'_>
 }
 
 /// A field that is a length and so many bytes, and what is unread behind it.
+#[inline(always)]
 fn span_field(number: u32, cursor: Cursor<'_>) -> Result<(Field<'_>, Cursor<'_>), WireFault>
     ensures value { seen (λ f. (content f.0, unread f.1)) result ≡ span_value number (unread cursor.entry) }
     ensures span { IfOk result (λ f. IsInMemory f.0) }
@@ -170,6 +174,7 @@ impl<'a> Fields<'a> {
     }
 
     /// The next field; `None` at the end of the bytes. After a fault every later call answers the same fault.
+    #[inline(always)]
     pub fn next_field(&mut self) -> Result<Option<Field<'a>>, WireFault>
         ensures answer { answer result self.new ≡ next_in self.old }
         ensures end { IfOk result (λ f. IfNone f (self.new ≡ self.old)) }
