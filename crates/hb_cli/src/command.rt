@@ -156,11 +156,11 @@ fn conclude<S: Source, K: Sink, E: Sink>(
     ensures later_out { K.faults out.old ≤ K.faults out.new }
     ensures later_err { E.faults err.old ≤ E.faults err.new }
 {
-    let answer = match outcome(alloc, words, input) {
-        Ok(answer) => answer,
+    let printed = match outcome(alloc, words, input) {
+        Ok(answer) => print(alloc, &answer, out),
         Err(stop) => return give_up(alloc, stop, err),
     };
-    match print(alloc, &answer, out) {
+    match printed {
         Printed::Whole => 0,
         Printed::Failed => tell(err, b"hbone: write fault\n", 7),
         Printed::NoMemory => tell(err, b"hbone: out of memory\n", 9),

@@ -1,14 +1,14 @@
 //! The input of a command: gRPC messages, each a response.
 
-ghost use Rattle.std.specs.Prelude.{◌≡◌, ◌<◌, ◌≤◌, length, drop, OnOk, IfOk};
+ghost use Rattle.std.specs.Prelude.{◌≡◌, ◌≤◌, length, drop, Ok, Err, OnOk, IfOk};
+ghost use Rattle.std.specs.Result.{MatchResult};
 ghost use Rattle.hb_base.specs.Outcome.{Answers, Merges};
-ghost use Rattle.hb_grpc.specs.Pieces.{fresh};
-ghost use Rattle.hb_cli.specs.Input.{longest_input, none_left, with_response, with_message, front_of, with_front, left_by};
+ghost use Rattle.hb_cli.specs.Input.{none_left, with_response, with_message, front_of, with_front, left_by};
 ghost use Rattle.hb_cli.specs.Taking.{TakesFront, numbered};
 
-use hb_base::{Bytes, NoMemory, Or, Text};
+use hb_base::{NoMemory, Or, Text};
 use hb_disco::{Response, read_response};
-use hb_grpc::{Fed, Framer, GrpcFault};
+use hb_grpc::{GrpcFault, first_length};
 use hb_held::Held;
 use hb_lines::outcome_line;
 use std::alloc::Global;
@@ -54,25 +54,19 @@ impl Model for Left {
     ghost view = { λ l. record { held = l.held; told = l.told.items } };
 }
 
-/// The message in front of bytes, of which there are some, and how many of them it takes.
-fn next_message(framer: &mut Framer, bytes: &[u8]) -> Result<(usize, Bytes), Or<InputWhy>>
-    requires ready { framer.old ≡ fresh longest_input }
-    requires some { 0 < length bytes.now }
-    ensures told { Answers result (front_of bytes.now) }
-    ensures within { IfOk result (λ given. given.0 ≤ length bytes.now) }
-    ensures ready { IfOk result (λ _. framer.new ≡ fresh longest_input) }
+/// The message in front of bytes, and how many of them it takes.
+fn next_message(bytes: &[u8]) -> Result<(usize, &[u8]), InputWhy>
+    ensures told { MatchResult result (λ front. front_of bytes.now ≡ Ok (front.0, front.1.now)) (λ why. front_of bytes.now ≡ Err why) }
+    ensures within { IfOk result (λ front. front.0 ≤ length bytes.now) }
 {
-    match framer.feed(bytes) {
-        Ok(
-            Fed {
-                taken,
-                message: Some(message),
-            },
-        ) => Ok((taken, message)),
-        Ok(Fed { message: None, .. }) => Err(Or::Fault(InputWhy::CutShort)),
-        Err(Or::Fault(GrpcFault::Compressed { .. })) => Err(Or::Fault(InputWhy::Compressed)),
-        Err(Or::Fault(GrpcFault::TooLong { .. })) => Err(Or::Fault(InputWhy::TooLong)),
-        Err(Or::NoMemory) => Err(Or::NoMemory),
+    match first_length(bytes, LONGEST) {
+        Ok(Some(size)) => {
+            let (_, rest) = bytes.split_at(5);
+            Ok((5 + size, &rest[..size]))
+        }
+        Ok(None) => Err(InputWhy::CutShort),
+        Err(GrpcFault::Compressed { .. }) => Err(InputWhy::Compressed),
+        Err(GrpcFault::TooLong { .. }) => Err(InputWhy::TooLong),
     }
 }
 
@@ -108,23 +102,23 @@ impl Left {
         }
     }
 
-    /// Takes the message in front of bytes, of which there are some, and says how many of them it takes.
+    /// Takes the message in front of bytes, and says how many of them it takes.
     fn take_front(
         &mut self,
         alloc: Global,
-        framer: &mut Framer,
         tells: bool,
         bytes: &[u8],
     ) -> Result<usize, Or<InputWhy>>
-        requires ready { framer.old ≡ fresh longest_input }
-        requires some { 0 < length bytes.now }
         ensures told { TakesFront (with_front tells self.old bytes.now) self.new result }
         ensures within { IfOk result (λ taken. taken ≤ length bytes.now) }
-        ensures ready { IfOk result (λ _. framer.new ≡ fresh longest_input) }
     {
-        let (taken, message) = next_message(framer, bytes)?;
-        self.take_message(alloc, tells, message.as_slice())?;
-        Ok(taken)
+        match next_message(bytes) {
+            Ok((taken, message)) => {
+                self.take_message(alloc, tells, message)?;
+                Ok(taken)
+            }
+            Err(why) => Err(Or::Fault(why)),
+        }
     }
 }
 
@@ -164,11 +158,10 @@ pub fn read_input(
         held: Held::new(alloc, network, node),
         told: Vec::new(alloc),
     };
-    let mut framer = Framer::new(alloc, LONGEST);
     let mut bytes = input;
     let mut number = 1u64;
     while !bytes.is_empty() {
-        match left.take_front(alloc, &mut framer, tells, bytes) {
+        match left.take_front(alloc, tells, bytes) {
             Ok(taken) => bytes = behind(bytes, taken),
             Err(why) => return Err(numbered(number, why)),
         }

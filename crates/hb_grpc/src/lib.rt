@@ -4,10 +4,12 @@
 
 mod fault;
 mod framer;
+mod front;
 mod header;
 pub mod laws;
 mod writing;
 
 pub use fault::GrpcFault;
 pub use framer::{Fed, Framer};
+pub use front::first_length;
 pub use writing::put_message;

@@ -7,7 +7,6 @@ pub loop-bytes-init : goal.loop-bytes-init
 unfolding left_by
 loop-bytes-init c = record {
   within = omega arith;
-  ready = c.new-framer.ensures;
   same = rw (c.new.ensures, c.new-2.ensures.items) refl;
 }
 
@@ -24,7 +23,6 @@ loop-bytes-preserved c =
     let is = c.behind-bytes.ensures in
     record {
       within = rw is (omega (arith, less, i.within));
-      ready = c.in-Ok.ensures.ready;
       same = rw is (goes_on c.args.tells c.loop-bytes.number c.loop-bytes.left c.take_front.new.self c.loop-bytes.bytes.now c.in-Ok.taken _ told
           i.same);
     }
