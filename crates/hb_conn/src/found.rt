@@ -6,7 +6,7 @@ ghost use Rattle.hb_conn.specs.Outcome.{is_silent};
 
 /// What the node is told of a frame. Its octets or headers are lent beside it.
 #[derive(Clone, Copy)]
-pub(crate) enum Found {
+pub enum Found {
     /// Nothing is told.
     Silent,
     /// A stream began, or headers came on one; `end`: and the peer ended it.

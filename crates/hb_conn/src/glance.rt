@@ -11,7 +11,7 @@ use hb_frames::{Body, Frame, FrameReader};
 
 /// A frame without the octets of its content, which its reader lends.
 #[derive(Clone, Copy)]
-pub(crate) enum Glance {
+pub enum Glance {
     /// No whole frame is there.
     Nothing,
     /// DATA; `counted` are the octets of its payload with padding.

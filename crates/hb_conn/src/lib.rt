@@ -29,3 +29,9 @@ mod windows;
 
 pub use conn::Conn;
 pub use happening::Happening;
+// The parts of a connection, of which laws of other crates speak.
+pub use found::Found;
+pub use glance::Glance;
+pub use machine::{Core, Peer};
+pub use plain_encoder::PlainEncoder;
+pub use receiver::Receiver;

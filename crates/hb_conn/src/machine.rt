@@ -9,7 +9,7 @@ use hb_streams::Streams;
 
 /// What the peer's SETTINGS say (RFC 9113 section 6.5.2).
 #[derive(Clone, Copy)]
-pub(crate) struct Peer {
+pub struct Peer {
     /// The longest payload that it takes (SETTINGS_MAX_FRAME_SIZE).
     pub frame_size: u32,
     /// How many streams it lets this end open (SETTINGS_MAX_CONCURRENT_STREAMS).
@@ -18,7 +18,7 @@ pub(crate) struct Peer {
 
 /// A connection's streams, windows, output, owed frames and header blocks.
 #[derive(Drop)]
-pub(crate) struct Core {
+pub struct Core {
     pub streams: Streams,
     pub flow: Flow,
     pub out: Outgoing,

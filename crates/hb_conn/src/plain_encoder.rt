@@ -18,7 +18,7 @@ use std::marker::Model;
 
 /// An encoder that spells no string in the Huffman code.
 #[derive(Drop)]
-pub(crate) struct PlainEncoder {
+pub struct PlainEncoder {
     encoder: Encoder,
 }
 

@@ -14,7 +14,7 @@ const LEAST_ROOM: usize = 256;
 
 /// The frames that come, and what they are answered from.
 #[derive(Drop)]
-pub(crate) struct Receiver {
+pub struct Receiver {
     pub reader: FrameReader,
     pub core: Core,
 }
