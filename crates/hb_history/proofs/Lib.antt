@@ -1,0 +1,10 @@
+pub mod Parts
+pub mod Moved
+pub mod Records
+pub mod Kept
+pub mod Handled
+pub mod Acted
+pub mod Shown
+pub mod Runs
+pub mod Front
+pub mod Fed
