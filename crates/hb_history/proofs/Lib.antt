@@ -8,3 +8,5 @@ pub mod Shown
 pub mod Runs
 pub mod Front
 pub mod Fed
+pub mod Looks
+pub mod Adds
