@@ -10,3 +10,4 @@ pub mod Front
 pub mod Fed
 pub mod Looks
 pub mod Adds
+pub mod Called

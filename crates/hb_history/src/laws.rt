@@ -2,7 +2,19 @@
 
 ghost use Rattle.hb_history.specs.Calls.{Begins, TakeAdds, NextAdds, ActAdds, WriteAdds, CallsStand, AnyCut};
 
-/// A new connection stands for nothing yet.
-pub fn begins()
-    ensures { Begins }
+/// A new connection stands for nothing yet, and each call adds to the history that a connection stands for: octets taken,
+/// frames looked at and what is told of them, acts of this end, octets written.
+pub fn each_call_adds()
+    ensures begins { Begins }
+    ensures take { TakeAdds }
+    ensures next { NextAdds }
+    ensures act { ActAdds }
+    ensures write { WriteAdds }
+{}
+
+/// After any calls a connection stands for a history. With the same points its callers were told the same, in whatever
+/// pieces octets came.
+pub fn any_calls()
+    ensures stand { CallsStand }
+    ensures cut { AnyCut }
 {}
