@@ -11,3 +11,4 @@ pub mod Fed
 pub mod Looks
 pub mod Adds
 pub mod Called
+pub mod First

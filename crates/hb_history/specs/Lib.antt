@@ -1,3 +1,4 @@
 pub mod Points
 pub mod History
 pub mod Calls
+pub mod Waits

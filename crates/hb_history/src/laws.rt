@@ -1,6 +1,7 @@
 //! Laws over every history of a connection. Each is the contract of a function that does nothing.
 
 ghost use Rattle.hb_history.specs.Calls.{Begins, TakeAdds, NextAdds, ActAdds, WriteAdds, CallsStand, AnyCut};
+ghost use Rattle.hb_history.specs.Waits.{DataStandsFirst};
 
 /// A new connection stands for nothing yet, and each call adds to the history that a connection stands for: octets taken,
 /// frames looked at and what is told of them, acts of this end, octets written.
@@ -17,4 +18,9 @@ pub fn each_call_adds()
 pub fn any_calls()
     ensures stand { CallsStand }
     ensures cut { AnyCut }
+{}
+
+/// At most one DATA frame with payload waits to be written, and nothing stands in front of it.
+pub fn data_stands_first()
+    ensures { DataStandsFirst }
 {}
