@@ -12,3 +12,4 @@ pub mod Looks
 pub mod Adds
 pub mod Called
 pub mod First
+pub mod Lives

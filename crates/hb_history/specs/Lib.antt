@@ -2,3 +2,4 @@ pub mod Points
 pub mod History
 pub mod Calls
 pub mod Waits
+pub mod Live

@@ -2,6 +2,7 @@
 
 ghost use Rattle.hb_history.specs.Calls.{Begins, TakeAdds, NextAdds, ActAdds, WriteAdds, CallsStand, AnyCut};
 ghost use Rattle.hb_history.specs.Waits.{DataStandsFirst};
+ghost use Rattle.hb_history.specs.Live.{LiveStreams, StreamsMove};
 
 /// A new connection stands for nothing yet, and each call adds to the history that a connection stands for: octets taken,
 /// frames looked at and what is told of them, acts of this end, octets written.
@@ -23,4 +24,11 @@ pub fn any_calls()
 /// At most one DATA frame with payload waits to be written, and nothing stands in front of it.
 pub fn data_stands_first()
     ensures { DataStandsFirst }
+{}
+
+/// Unless a connection error was told, a stream has windows exactly where it is open or half-closed, and then a record of
+/// what is owed on it. The streams are always what moves of streams make of them.
+pub fn live_streams()
+    ensures live { LiveStreams }
+    ensures streams { StreamsMove }
 {}
