@@ -13,3 +13,4 @@ pub mod Adds
 pub mod Called
 pub mod First
 pub mod Lives
+pub mod Flowed

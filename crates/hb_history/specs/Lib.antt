@@ -3,3 +3,4 @@ pub mod History
 pub mod Calls
 pub mod Waits
 pub mod Live
+pub mod Taking

@@ -2,7 +2,8 @@
 
 ghost use Rattle.hb_history.specs.Calls.{Begins, TakeAdds, NextAdds, ActAdds, WriteAdds, CallsStand, AnyCut};
 ghost use Rattle.hb_history.specs.Waits.{DataStandsFirst};
-ghost use Rattle.hb_history.specs.Live.{LiveStreams, StreamsMove};
+ghost use Rattle.hb_history.specs.Live.{LiveStreams, StreamsMove, WindowsMove};
+ghost use Rattle.hb_history.specs.Taking.{TakingIsWhole};
 
 /// A new connection stands for nothing yet, and each call adds to the history that a connection stands for: octets taken,
 /// frames looked at and what is told of them, acts of this end, octets written.
@@ -31,4 +32,11 @@ pub fn data_stands_first()
 pub fn live_streams()
     ensures live { LiveStreams }
     ensures streams { StreamsMove }
+{}
+
+/// Unless a connection error was told, the windows are what moves of windows make of them, each as it may be; so of each
+/// taking window 65,535 octets are granted, kept or owed, and never more are granted.
+pub fn taking_windows_are_whole()
+    ensures moves { WindowsMove }
+    ensures whole { TakingIsWhole }
 {}
