@@ -14,3 +14,7 @@ pub mod Called
 pub mod First
 pub mod Lives
 pub mod Flowed
+pub mod Payloads
+pub mod Sums
+pub mod Grants
+pub mod Balanced

@@ -4,3 +4,4 @@ pub mod Calls
 pub mod Waits
 pub mod Live
 pub mod Taking
+pub mod Sending
