@@ -18,3 +18,4 @@ pub mod Payloads
 pub mod Sums
 pub mod Grants
 pub mod Balanced
+pub mod Sent

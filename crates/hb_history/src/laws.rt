@@ -4,6 +4,7 @@ ghost use Rattle.hb_history.specs.Calls.{Begins, TakeAdds, NextAdds, ActAdds, Wr
 ghost use Rattle.hb_history.specs.Waits.{DataStandsFirst};
 ghost use Rattle.hb_history.specs.Live.{LiveStreams, StreamsMove, WindowsMove};
 ghost use Rattle.hb_history.specs.Taking.{TakingIsWhole};
+ghost use Rattle.hb_history.specs.Sending.{ConnectionSends, StreamsSend, WindowsFit, AllIsGivenBack, NeverBelowZero};
 
 /// A new connection stands for nothing yet, and each call adds to the history that a connection stands for: octets taken,
 /// frames looked at and what is told of them, acts of this end, octets written.
@@ -39,4 +40,19 @@ pub fn live_streams()
 pub fn taking_windows_are_whole()
     ensures moves { WindowsMove }
     ensures whole { TakingIsWhole }
+{}
+
+/// Unless a connection error was told, each sending window is a sum over the history: what it began with and the peer's
+/// increments, less the payload of the DATA frames that have begun. None is above 2^31 - 1, so DATA that is taken back is
+/// always given back.
+pub fn sending_windows_are_sums()
+    ensures connection { ConnectionSends }
+    ensures streams { StreamsSend }
+    ensures within { WindowsFit }
+    ensures back { AllIsGivenBack }
+{}
+
+/// Where DATA with payload is put, neither window is below zero afterwards.
+pub fn no_data_beyond_a_window()
+    ensures { NeverBelowZero }
 {}

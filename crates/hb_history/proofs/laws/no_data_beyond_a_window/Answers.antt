@@ -1,0 +1,5 @@
+use Rattle.hb_history.proofs.Sent.{never_below_zero}
+use Rattle.hb_history.proofs.laws.no_data_beyond_a_window.Goals as goal
+
+pub returns : goal.returns
+returns c = never_below_zero
