@@ -1,5 +1,5 @@
 -- What each part keeps is kept by each act of this end, and by each move.
-use Rattle.std.proofs.Common.{◌≡◌, ℕ, ◌≤◌, Bool, true, false, cond, List, [], ◌∷◌, Option, Some, None, IfSome, Ok, refl, ap, sym, ◌∙◌, subst}
+use Rattle.std.proofs.Common.{◌≡◌, ℕ, ◌≤◌, Bool, true, false, cond, List, [], ◌∷◌, Option, Some, None, IfSome, Ok, refl, ap, sym, subst}
 use Rattle.std.specs.FinMap.{get}
 use Rattle.std.specs.Prelude.{length}
 use Rattle.hb_hpack.specs.Encoding.{going, block_of}
@@ -8,7 +8,7 @@ use Rattle.hb_frames.specs.Bodies.{lent_of}
 use Rattle.hb_streams.specs.Sides.{both_open, sides_of}
 use Rattle.hb_streams.specs.States.{States, state_of}
 use Rattle.hb_streams.specs.Answers.{number_of}
-use Rattle.hb_streams.specs.Moves.{after, after_number, begins}
+use Rattle.hb_streams.specs.Moves.{after_number, begins}
 use Rattle.hb_streams.proofs.Follows.{numbers_rise}
 use Rattle.hb_flow.specs.Windows.{Windows}
 use Rattle.hb_flow.specs.Flows.{creditable, creditable_by}
@@ -18,10 +18,8 @@ use Rattle.hb_outgoing.specs.Written.{written}
 use Rattle.hb_owed.specs.declared.due.Due.TheVariants as due
 use Rattle.hb_owed.specs.declared.status.Status.{Status}
 use Rattle.hb_conn.specs.Numbers.{protocol_error}
-use Rattle.hb_conn.specs.Frames.{sent}
 use Rattle.hb_conn.specs.Glance.{glance_at}
 use Rattle.hb_conn.specs.Owing.{with_due}
-use Rattle.hb_conn.specs.Owing as owing
 use Rattle.hb_conn.specs.Ending.{own_ended, status_put, end_put}
 use Rattle.hb_conn.specs.Credit.{used_on, credit}
 use Rattle.hb_conn.specs.Data.{credited_on}

@@ -1,24 +1,21 @@
 -- What each call adds to a history.
-use Rattle.std.proofs.Common.{◌≡◌, ℕ, ◌+◌, ◌≤◌, Bool, true, false, List, [], ◌∷◌, ◌++◌, length, take, drop, Option, Some, None, refl, ap, ap₂, sym, ◌∙◌, subst, arith, if◌then◌else◌}
+use Rattle.std.proofs.Common.{◌≡◌, ℕ, Bool, true, false, List, [], ◌∷◌, ◌++◌, length, take, drop, Option, Some, None, refl, ap, ap₂, sym, ◌∙◌, subst, if◌then◌else◌}
 use Rattle.std.proofs.lemmas.List.{append_assoc, append-nil}
 use Rattle.std.proofs.Math.Seq.{drop-append_seam}
 use Rattle.std.proofs.lemmas.Grind.{flat_map-append}
 use Rattle.hb_frames.specs.RawFrame.{RawFrame}
 use Rattle.hb_frames.specs.Frames.{Joins, AreOctets}
-use Rattle.hb_frames.specs.Reading.{asked}
 use Rattle.hb_frames.proofs.Runs.{octets_drop}
 use Rattle.hb_streams.specs.declared.role.Role.{Role}
-use Rattle.hb_streams.specs.declared.role.Role.TheVariants.{Server, Client}
 use Rattle.hb_outgoing.specs.Waiting.{Waiting, octets_of}
 use Rattle.hb_outgoing.specs.Written.{begun_by, written as out_written}
 use Rattle.hb_outgoing.specs.Laws.{Shows}
 use Rattle.hb_outgoing.proofs.Sent.{write_begins}
-use Rattle.hb_conn.specs.Numbers.{protocol_error}
 use Rattle.hb_conn.specs.Preface.{is_whole}
-use Rattle.hb_conn.specs.Receiving.{pauses, Receives, Ends, waits, lacks, tells}
-use Rattle.hb_conn.specs.Connection.{Connection, with_core, ended_by, Finds, FindsWhile, FindsOf, FindsAfter, FindsBy}
+use Rattle.hb_conn.specs.Receiving.{pauses, Ends, waits, lacks, tells}
+use Rattle.hb_conn.specs.Connection.{Connection, with_core, ended_by, FindsWhile, FindsOf, FindsAfter, FindsBy}
 use Rattle.hb_conn.specs.Faults.{faulted}
-use Rattle.hb_conn.specs.Outcome.{is_silent, Gives}
+use Rattle.hb_conn.specs.Outcome.{is_silent}
 use Rattle.hb_conn.specs.Owing as owing
 use Rattle.hb_conn.specs.declared.machine.Core.{Core}
 use Rattle.hb_conn.specs.declared.receiver.Receiver.{Receiver}
@@ -26,7 +23,7 @@ use Rattle.hb_conn.specs.declared.found.Found.{Found}
 use Rattle.hb_conn.specs.declared.found.Found.TheVariants as found
 use Rattle.hb_conn.specs.declared.found.Found.TheVariants.{Silent}
 use Rattle.hb_history.specs.Points.{Move, got, refused, misbegan, opened, answered, ended, reset, credited, put, wrote, Point, point, After, Runs, RunsWith, begins_by, got_by, frames_got}
-use Rattle.hb_history.specs.History.{fresh, opening, ends_in, told_of, happenings, behind_of, Came, StandsFor}
+use Rattle.hb_history.specs.History.{fresh, opening, ends_in, told_of, happenings, behind_of, StandsFor}
 use Rattle.hb_history.specs.Calls.{in_list, IsLook, IsAct, AreLooks, Looked, NextAdds, ActAdds, WriteAdds}
 use Rattle.hb_history.proofs.Runs.{runs_more, begins_more, runs_one, begins_one}
 use Rattle.hb_history.proofs.Looks.{Holds, held_on, held_same, Look, look_of, look_rest, act_rest, asked_in_vain, ArePassed, Trail, trail_of, trail_same}
@@ -54,7 +51,7 @@ passed_tell [] passed = refl
 passed_tell (p ∷ ps) passed =
     ap₂ (λ (f : Found) (fs : List Found). (if is_silent f then [] else f ∷ ends_in (ended_by f)) ++ fs) passed.1 (passed_tell ps passed.2)
 
-told_more : (ps more : List Point) (given : List Found) (told : Found) (e : Option ℕ) → happenings ps ≡ given ++ [] 
+told_more : (ps more : List Point) (given : List Found) (told : Found) (e : Option ℕ) → happenings ps ≡ given ++ []
     → happenings more ≡ in_list told ++ ends_in e → happenings (ps ++ more) ≡ (given ++ in_list told) ++ ends_in e
 told_more ps more given told e before after =
     flat_map-append told_of ps more ∙ ap₂ (λ (xs ys : List Found). xs ++ ys) (before ∙ append-nil given) after

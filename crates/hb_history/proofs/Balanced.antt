@@ -1,11 +1,9 @@
 -- Sending windows as sums, move after move.
-use Rattle.std.proofs.Common.{◌≡◌, ◌≢◌, ◌⊎◌, inl, inr, ℕ, ◌+◌, ◌-◌, ◌*◌, ◌≤◌, ◌<◌, ◌==◌, ◌%◌, if◌then◌else◌, ◌&&◌, ◌||◌, Bool, true, false, cond, pos, ◌+ℤ◌, ◌≤ℤ◌, List, [], ◌∷◌, ◌++◌, length, take, Option, Some, None, is_some, refl, ap, sym, ◌∙◌, subst, arith}
+use Rattle.std.proofs.Common.{◌≡◌, ◌≢◌, ◌⊎◌, inl, inr, ℕ, ◌+◌, ◌-◌, ◌*◌, ◌≤◌, ◌==◌, ◌%◌, if◌then◌else◌, ◌&&◌, ◌||◌, Bool, true, false, cond, pos, ◌+ℤ◌, ◌≤ℤ◌, List, [], ◌∷◌, ◌++◌, length, take, Option, Some, None, is_some, refl, ap, sym, ◌∙◌, subst, arith}
 use Rattle.std.specs.Prelude.{min, nat_lt, nat_le}
 use Rattle.std.specs.FinMap.{get}
-use Rattle.std.specs.List.{filter}
 use Rattle.std.proofs.lemmas.Bool.{false≢true}
 use Rattle.std.proofs.lemmas.Bool.Decides.{nat_tests}
-use Rattle.std.proofs.lemmas.Int.{ints}
 use Rattle.std.proofs.lemmas.List.{append_assoc, append-nil, length-take-le}
 use Rattle.hb_frames.specs.RawFrame.{RawFrame}
 use Rattle.hb_frames.specs.Numbers.{window_update_kind}
@@ -17,18 +15,16 @@ use Rattle.hb_streams.specs.Numbers.{is_even}
 use Rattle.hb_streams.specs.Resets.{is_among}
 use Rattle.hb_streams.specs.States.{States, state_of, state_by}
 use Rattle.hb_streams.specs.declared.role.Role.{Role}
-use Rattle.hb_streams.specs.declared.role.Role.TheVariants.{Server, Client}
 use Rattle.hb_streams.specs.declared.sides.Sides.{Sides}
 use Rattle.hb_streams.specs.declared.state.State.TheVariants.{Idle, Closed, Reset}
 use Rattle.hb_streams.proofs.Begins.{is_idle}
 use Rattle.hb_streams.proofs.Follows.{highest_stays}
-use Rattle.hb_flow.specs.Windows.{Windows, counted}
-use Rattle.hb_flow.specs.Flows.{Flows, closed, spent, sendable, sendable_by}
-use Rattle.hb_flow.specs.Sizes.{Fits, unbegun_on}
-use Rattle.hb_flow.specs.Moves.{Move as FlowMove}
+use Rattle.hb_flow.specs.Windows.{Windows}
+use Rattle.hb_flow.specs.Flows.{Flows, closed, spent, sendable_by}
+use Rattle.hb_flow.specs.Sizes.{Fits}
 use Rattle.hb_outgoing.specs.Waiting.{octets_of}
 use Rattle.hb_outgoing.specs.Written.{begun_by, written}
-use Rattle.hb_outgoing.specs.Selected.{data_size, has_data}
+use Rattle.hb_outgoing.specs.Selected.{has_data}
 use Rattle.hb_owed.specs.Debts.{largest as largest_stream}
 use Rattle.hb_owed.specs.Debts.{closed as owed_closed}
 use Rattle.hb_conn.specs.Numbers.{data_kind, protocol_error}
@@ -45,12 +41,11 @@ use Rattle.hb_conn.specs.declared.glance.Glance.{Glance}
 use Rattle.hb_conn.specs.declared.glance.Glance.TheVariants as glance
 use Rattle.hb_history.specs.Points.{Move, got, refused, misbegan, opened, answered, ended, reset, credited, put, wrote, Point, point, After, RunsWith, begins_by, got_by, frames_got}
 use Rattle.hb_history.specs.Waits.{IsFirst}
-use Rattle.hb_history.specs.Sending.{increments}
 use Rattle.hb_history.proofs.Parts.{Amid, calm, amid, ending, gone, Keeps}
 use Rattle.hb_history.proofs.Kept as kept
 use Rattle.hb_history.proofs.Handled.{Grows, window_keeps, handles_keep}
 use Rattle.hb_history.proofs.Acted.{act_keeps}
-use Rattle.hb_history.proofs.Shown.{OfOut, out_keeps, out_grows}
+use Rattle.hb_history.proofs.Shown.{out_keeps, out_grows}
 use Rattle.hb_history.proofs.First.{first_keeps, first_written}
 use Rattle.hb_history.proofs.Lives.{Lives, Moved, used, used_some, inactive_none, lives_keep, lives_grow}
 use Rattle.hb_history.proofs.Flowed.{put_within}
@@ -155,31 +150,60 @@ module _ (role : Role) (frames begun : List RawFrame) where
       let first = out_keeps IsFirst first_keeps in
       let lives = lives_keep role in
       record {
-        ends = λ s c h. (h.0, lives.ends s c h.1, λ still. still_sums frames begun c.out.queue calm (ending s) c.flow c.flow
-            c.streams.highest c.streams.highest (λ n u. tt) (same_flows c.flow) (omega arith) (h.2 still));
-        goes = λ s c h. (h.0, lives.goes s c h.1, λ still. still_sums frames begun c.out.queue (ending s) (gone s) c.flow c.flow
-            c.streams.highest c.streams.highest (λ n u. tt) (same_flows c.flow) (omega arith) (h.2 still));
+        ends = λ s c h. (
+          h.0,
+          lives.ends s c h.1,
+          λ still. still_sums frames begun c.out.queue calm (ending s) c.flow c.flow
+              c.streams.highest c.streams.highest (λ n u. tt) (same_flows c.flow) (omega arith) (h.2 still),
+        );
+        goes = λ s c h. (
+          h.0,
+          lives.goes s c h.1,
+          λ still. still_sums frames begun c.out.queue (ending s) (gone s) c.flow c.flow
+              c.streams.highest c.streams.highest (λ n u. tt) (same_flows c.flow) (omega arith) (h.2 still),
+        );
         other = λ a c e b p t h. h;
-        sends = λ a c f none h. (first.sends a c f none h.0, lives.sends a c f none h.1,
-            λ still. carried frames frames (λ n. refl) begun c.out.queue begun (c.out.queue ++ f ∷ []) a a c.flow c.flow
-            c.streams.highest c.streams.highest (push_passes begun c.out.queue f none) (λ n u. u) (same_flows c.flow) (omega arith) (h.2 still));
+        sends = λ a c f none h. (
+          first.sends a c f none h.0,
+          lives.sends a c f none h.1,
+          λ still. carried frames frames (λ n. refl) begun c.out.queue begun (c.out.queue ++ f ∷ []) a a c.flow c.flow
+              c.streams.highest c.streams.highest (push_passes begun c.out.queue f none) (λ n u. u) (same_flows c.flow) (omega arith) (h.2 still),
+        );
         owes = λ a c m keeps h. (h.0, lives.owes a c m keeps h.1, h.2);
-        moves = λ b s c t on h. (h.0, lives.moves b s c t on h.1,
-            λ still. still_sums frames begun c.out.queue (amid b s) (amid b s) c.flow c.flow c.streams.highest t.highest (λ n u. u) (same_flows c.flow)
-            (subst (λ (u : States). c.streams.highest ≤ u.highest) (sym on.is) (highest_stays c.streams on.move)) (h.2 still));
-        withdraws = λ s c h. (first.withdraws s c h.0, lives.withdraws s c h.1,
-            λ still. sums.back_sums frames begun c.out.queue c.flow c.streams.highest s (h.2 still));
+        moves = λ b s c t on h. (
+          h.0,
+          lives.moves b s c t on h.1,
+          λ still. still_sums frames begun c.out.queue (amid b s) (amid b s) c.flow c.flow c.streams.highest t.highest (λ n u. u) (same_flows c.flow)
+              (subst (λ (u : States). c.streams.highest ≤ u.highest) (sym on.is) (highest_stays c.streams on.move)) (h.2 still),
+        );
+        withdraws = λ s c h. (
+          first.withdraws s c h.0,
+          lives.withdraws s c h.1,
+          λ still. sums.back_sums frames begun c.out.queue c.flow c.streams.highest s (h.2 still),
+        );
         releases = λ s c h. (first.releases s c h.0, lives.releases s c h.1, released_sums s c (is_active c.streams s) h.2);
-        leaves = λ s c none h. (h.0, lives.leaves s c none h.1,
-            λ still. sums.left_sums frames begun c.out.queue c.flow c.streams.highest s (h.2 still));
-        takes_in = λ a c m taking may h. (h.0, lives.takes_in a c m taking may h.1,
-            λ still. still_sums frames begun c.out.queue a a c.flow _ c.streams.highest c.streams.highest (λ n u. u)
-            (sums.taking_kept c.flow m taking) (omega arith) (h.2 still));
-        begins = λ s c sides m above becomes h. (h.0, lives.begins s c sides m above becomes h.1,
-            λ still. sums.opened_sums frames begun c.out.queue c.flow c.streams.highest s above (h.2 still));
-        resizes = λ c k within fits h. (h.0, lives.resizes c k within fits h.1,
-            λ still. sums.resized_sums frames begun c.out.queue c.flow c.streams.highest k within
-            (λ n. subst (λ q. Fits k q (get c.flow.streams n)) (sym ((all_of c h.0).one n)) (fits n)) (h.2 still));
+        leaves = λ s c none h. (
+          h.0,
+          lives.leaves s c none h.1,
+          λ still. sums.left_sums frames begun c.out.queue c.flow c.streams.highest s (h.2 still),
+        );
+        takes_in = λ a c m taking may h. (
+          h.0,
+          lives.takes_in a c m taking may h.1,
+          λ still. still_sums frames begun c.out.queue a a c.flow _ c.streams.highest c.streams.highest (λ n u. u)
+              (sums.taking_kept c.flow m taking) (omega arith) (h.2 still),
+        );
+        begins = λ s c sides m above becomes h. (
+          h.0,
+          lives.begins s c sides m above becomes h.1,
+          λ still. sums.opened_sums frames begun c.out.queue c.flow c.streams.highest s above (h.2 still),
+        );
+        resizes = λ c k within fits h. (
+          h.0,
+          lives.resizes c k within fits h.1,
+          λ still. sums.resized_sums frames begun c.out.queue c.flow c.streams.highest k within
+              (λ n. subst (λ q. Fits k q (get c.flow.streams n)) (sym ((all_of c h.0).one n)) (fits n)) (h.2 still),
+        );
         puts = λ c s bytes h. (first.puts c s bytes h.0, lives.puts c s bytes h.1, put_by c s bytes h (count_put c s bytes == 0) refl);
         faults = λ a c f code h. (first.faults a c f code h.0, lives.faults a c f code h.1, λ still. no_sum (record c { flow = f }) code _ still);
       }
@@ -192,19 +216,31 @@ module _ (role : Role) (frames begun : List RawFrame) where
       let lives = lives_grow role c f.stream (increment_of f) h.1 in
       record {
         fault = λ code. (first.fault code, lives.fault code, λ still. no_sum c code _ still);
-        whole = λ zero fits. (first.whole zero fits, lives.whole zero fits,
-            λ still. grants.whole_granted frames begun c.out.queue c.flow c.streams.highest f kind zero (none_at_zero role c h.1 still)
-            (subst (λ q. ((c.flow.sending.held +ℤ pos q) +ℤ pos (increment_of f)) ≤ℤ pos largest) (sym (all_of c h.0).whole) fits) (h.2 still));
-        one = λ some w is fits. (first.one some w is fits, lives.one some w is fits,
-            λ still. grants.one_granted frames begun c.out.queue c.flow c.streams.highest f kind (not_zero some)
-            (low role c h.1 still f.stream (ap is_some is)) w is
-            (subst (λ q. ((w.sending.held +ℤ pos q) +ℤ pos (increment_of f)) ≤ℤ pos largest) (sym ((all_of c h.0).one f.stream)) fits) (h.2 still));
-        broken = λ some live. (first.broken some live, lives.broken some live,
-            λ still. grants.gone_granted frames begun c.out.queue c.flow c.streams.highest f kind (not_zero some)
-            (used_low role c.streams f.stream h.1.0 live) (h.2 still));
-        ignored = λ some live why. (first.ignored some live why, lives.ignored some live why,
-            λ still. grants.none_granted frames begun c.out.queue c.flow c.streams.highest f kind (not_zero some)
-            (used_low role c.streams f.stream h.1.0 live) (none_by why still) (h.2 still));
+        whole = λ zero fits. (
+          first.whole zero fits,
+          lives.whole zero fits,
+          λ still. grants.whole_granted frames begun c.out.queue c.flow c.streams.highest f kind zero (none_at_zero role c h.1 still)
+              (subst (λ q. ((c.flow.sending.held +ℤ pos q) +ℤ pos (increment_of f)) ≤ℤ pos largest) (sym (all_of c h.0).whole) fits) (h.2 still),
+        );
+        one = λ some w is fits. (
+          first.one some w is fits,
+          lives.one some w is fits,
+          λ still. grants.one_granted frames begun c.out.queue c.flow c.streams.highest f kind (not_zero some)
+              (low role c h.1 still f.stream (ap is_some is)) w is
+              (subst (λ q. ((w.sending.held +ℤ pos q) +ℤ pos (increment_of f)) ≤ℤ pos largest) (sym ((all_of c h.0).one f.stream)) fits) (h.2 still),
+        );
+        broken = λ some live. (
+          first.broken some live,
+          lives.broken some live,
+          λ still. grants.gone_granted frames begun c.out.queue c.flow c.streams.highest f kind (not_zero some)
+              (used_low role c.streams f.stream h.1.0 live) (h.2 still),
+        );
+        ignored = λ some live why. (
+          first.ignored some live why,
+          lives.ignored some live why,
+          λ still. grants.none_granted frames begun c.out.queue c.flow c.streams.highest f kind (not_zero some)
+              (used_low role c.streams f.stream h.1.0 live) (none_by why still) (h.2 still),
+        );
       }
     where
       not_zero : (f.stream == 0) ≡ false → f.stream ≢ 0
@@ -276,8 +312,7 @@ got_by_kind role frames begun c f true kind h new told is =
     window_by role frames begun c f kind h (is_misplaced c (glance.Window f.stream (increment_of f))) (lent_of f) new told
     (subst (λ (g : Glance). Handles c g (lent_of f) new told) (window_is f kind) is)
 got_by_kind role frames begun c f false kind h new told is =
-    handles_keep (Sent role (frames ++ f ∷ []) begun) (sent_keeps role (frames ++ f ∷ []) begun) c (glance_at f) (lent_of f) new told
-    (
+    handles_keep (Sent role (frames ++ f ∷ []) begun) (sent_keeps role (frames ++ f ∷ []) begun) c (glance_at f) (lent_of f) new told (
       h.0,
       h.1,
       λ still. carried frames (frames ++ f ∷ []) (λ n. grants.grants_nothing n frames f kind) begun c.out.queue begun c.out.queue calm calm

@@ -1,5 +1,5 @@
 -- Octets that are taken.
-use Rattle.std.proofs.Common.{◌≡◌, ℕ, ◌+◌, ◌-◌, ◌≤◌, min, Bool, true, false, cond, ◌&&◌, ◌==◌, List, [], ◌∷◌, ◌++◌, length, take, drop, refl, ap, ap₂, sym, ◌∙◌, subst, arith, length-append, length-drop, length-take}
+use Rattle.std.proofs.Common.{◌≡◌, ℕ, ◌+◌, ◌-◌, ◌≤◌, min, Bool, true, false, cond, ◌&&◌, ◌==◌, List, ◌++◌, length, take, drop, ap, ap₂, sym, ◌∙◌, subst, arith, length-append, length-take}
 use Rattle.std.specs.Cmp.Lexicographic.{pointwise}
 use Rattle.std.specs.Prelude.{slice_range}
 use Rattle.std.proofs.lemmas.List.{take_all, drop-take}
@@ -15,7 +15,7 @@ use Rattle.hb_conn.specs.Preface.{octets, fed, taken_of}
 use Rattle.hb_conn.specs.Receiving.{pauses}
 use Rattle.hb_conn.specs.Connection.{Connection, space_of, count_of, taken}
 use Rattle.hb_conn.specs.Connection.{front_of as front_count}
-use Rattle.hb_history.specs.History.{awaited, front_of, behind_of, Came, StandsFor}
+use Rattle.hb_history.specs.History.{awaited, front_of, behind_of, Came}
 use Rattle.hb_history.specs.Calls.{TakeAdds}
 use Rattle.hb_history.proofs.Front.{take_both, drop_both, take_least, drop_least, compared}
 

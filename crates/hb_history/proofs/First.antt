@@ -1,12 +1,12 @@
 -- DATA with payload stands in front of all that waits.
-use Rattle.std.proofs.Common.{◌≡◌, ℕ, zero, suc, ◌+◌, ◌-◌, ◌≤◌, Bool, true, false, cond, List, [], ◌∷◌, ◌++◌, length, drop, Some, None, refl, ap, sym, ◌∙◌, subst, arith, length-append}
+use Rattle.std.proofs.Common.{◌≡◌, ℕ, zero, suc, ◌-◌, Bool, true, false, cond, List, [], ◌∷◌, ◌++◌, length, drop, Some, None, refl, ap, sym, ◌∙◌, arith, length-append}
 use Rattle.std.specs.List.{AllByRecursion, filter}
 use Rattle.std.proofs.lemmas.Bool.{false≢true}
 use Rattle.std.proofs.lemmas.List.{nil_from_length, drop_all}
 use Rattle.hb_frames.specs.RawFrame.{RawFrame, spelling}
 use Rattle.hb_streams.specs.declared.role.Role.{Role}
 use Rattle.hb_streams.specs.declared.role.Role.TheVariants.{Server, Client}
-use Rattle.hb_outgoing.specs.Waiting.{Waiting, spelled, octets_of}
+use Rattle.hb_outgoing.specs.Waiting.{Waiting, spelled}
 use Rattle.hb_outgoing.specs.Written.{begun_in, written}
 use Rattle.hb_outgoing.specs.Selected.{has_data, is_kept}
 use Rattle.hb_outgoing.proofs.Queues.{spelling_len}

@@ -19,9 +19,8 @@ use Rattle.hb_owed.specs.Debts.{closed as owed_closed}
 use Rattle.hb_conn.specs.Numbers.{data_kind}
 use Rattle.hb_conn.specs.Frames.{frame, sent}
 use Rattle.hb_conn.specs.Faults.{faulted, is_active}
-use Rattle.hb_conn.specs.Payload.{allowed, count_put}
+use Rattle.hb_conn.specs.Payload.{count_put}
 use Rattle.hb_conn.specs.declared.machine.Core.{Core}
-use Rattle.hb_history.specs.Points.{Point, Runs}
 use Rattle.hb_history.specs.History.{fresh}
 use Rattle.hb_history.specs.Live.{WindowsMove}
 use Rattle.hb_history.specs.Taking.{TakingIsWhole}

@@ -1,7 +1,6 @@
 -- Sending windows as sums, where the peer grants octets.
-use Rattle.std.proofs.Common.{◌≡◌, ◌≢◌, ◌⊎◌, inl, inr, ℕ, ◌+◌, ◌≤◌, ◌<◌, ◌==◌, ◌&&◌, Bool, true, false, cond, ℤ, pos, ◌+ℤ◌, ◌≤ℤ◌, List, [], ◌∷◌, ◌++◌, Option, Some, None, is_some, refl, ap, sym, ◌∙◌, subst, arith}
+use Rattle.std.proofs.Common.{◌≡◌, ◌≢◌, ◌⊎◌, inl, inr, ℕ, ◌+◌, ◌≤◌, ◌==◌, ◌&&◌, true, false, cond, ℤ, pos, ◌+ℤ◌, ◌≤ℤ◌, List, [], ◌∷◌, ◌++◌, Some, None, is_some, ap, sym, ◌∙◌, subst, arith}
 use Rattle.std.specs.FinMap.{get}
-use Rattle.std.specs.List.{sum_by}
 use Rattle.std.proofs.lemmas.Bool.{false≢true, cases_eq, eq-eqb, ne_eqb}
 use Rattle.std.proofs.lemmas.Int.{ints}
 use Rattle.std.proofs.lemmas.List.Sums.{sum_by_push}
@@ -14,7 +13,7 @@ use Rattle.hb_flow.specs.Flows.{Flows, granted, granted_on, sending_by}
 use Rattle.hb_flow.proofs.Changes.{still_sending, still_initial, was, same_some}
 use Rattle.hb_outgoing.specs.Selected.{data_size}
 use Rattle.hb_history.specs.Sending.{increment_on, increments}
-use Rattle.hb_history.proofs.Parts.{Amid, calm, amid, gone}
+use Rattle.hb_history.proofs.Parts.{calm, gone}
 use Rattle.hb_history.proofs.Sums.{Adds, One, Idle, Sums}
 
 -- one more frame of the peer

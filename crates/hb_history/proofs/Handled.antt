@@ -1,8 +1,8 @@
 -- What each part keeps is kept by each frame of the peer.
 use Rattle.std.proofs.Common.{◌≡◌, ◌⊎◌, inl, inr, ℕ, ◌≤◌, ◌-◌, Bool, true, false, cond, ◌==◌, ◌||◌, not, List, [], ◌∷◌, Option, Some, None, IfSome, Result, Ok, Err, refl, ap, sym, ◌∙◌, subst, arith, ℤ, pos, ◌+ℤ◌, ◌≤ℤ◌}
-use Rattle.std.specs.Prelude.{nat_lt, nat_le, int_lt, length}
+use Rattle.std.specs.Prelude.{nat_lt, int_lt, length}
 use Rattle.std.specs.FinMap.{get}
-use Rattle.std.proofs.lemmas.Bool.{false≢true, cases_Bool}
+use Rattle.std.proofs.lemmas.Bool.{false≢true}
 use Rattle.std.proofs.lemmas.Bool.Decides.{nat_tests}
 use Rattle.std.proofs.lemmas.Int.{ints}
 use Rattle.hb_frames.specs.Refusals.{settings}
@@ -11,7 +11,7 @@ use Rattle.hb_streams.specs.Numbers.{data_kind, headers_kind, rst_stream_kind, w
 use Rattle.hb_streams.specs.Sides.{both_open, sides_of}
 use Rattle.hb_streams.specs.States.{States, state_of}
 use Rattle.hb_streams.specs.Answers.{answer_of, control_answer}
-use Rattle.hb_streams.specs.Moves.{after, after_answer, receives, closed}
+use Rattle.hb_streams.specs.Moves.{after, after_answer, receives}
 use Rattle.hb_streams.specs.declared.state.State.{State}
 use Rattle.hb_streams.specs.declared.state.State.TheVariants.{Idle, Open, HalfClosedLocal, HalfClosedRemote, Closed, Reset}
 use Rattle.hb_streams.specs.declared.step.Step.{Step}
@@ -19,30 +19,30 @@ use Rattle.hb_streams.specs.declared.step.Step.TheVariants.{New, Goes, Ignored}
 use Rattle.hb_streams.specs.declared.fault.StreamFault.{StreamFault}
 use Rattle.hb_streams.proofs.Begins.{is_new, uses_number, number_is_above, is_idle}
 use Rattle.hb_flow.specs.Windows.{Windows, counted as counted_with}
-use Rattle.hb_flow.specs.Flows.{Flows, TakesOn, granted, granted_on, took_on}
-use Rattle.hb_flow.specs.Sizes.{resized, unbegun_on}
+use Rattle.hb_flow.specs.Flows.{TakesOn, granted, granted_on, took_on}
+use Rattle.hb_flow.specs.Sizes.{unbegun_on}
 use Rattle.hb_flow.specs.Moves.{takes_on, owes_on}
-use Rattle.hb_blocks.specs.Assembly.{Assembly, Progress}
+use Rattle.hb_blocks.specs.Assembly.{Progress}
 use Rattle.hb_blocks.specs.declared.fault.BlockFault.{BlockFault}
 use Rattle.hb_blocks.specs.declared.whole.Whole.{Whole}
 use Rattle.hb_conn.proofs.Flowing.{data_is_kept}
 use Rattle.hb_conn.specs.Numbers.{initial_window_size, max_concurrent_streams, max_frame_size, protocol_error}
 use Rattle.hb_conn.specs.Frames.{sent, settings_ack, ping_ack}
-use Rattle.hb_conn.specs.Faults.{faulted, is_active, broken, refused, released}
+use Rattle.hb_conn.specs.Faults.{faulted, is_active, broken, released}
 use Rattle.hb_conn.specs.Data.{used, padded, continued, data_goes, data_answered, is_of_idle, on_data}
-use Rattle.hb_conn.specs.Resets.{peer_reset, reset_answered, on_reset}
+use Rattle.hb_conn.specs.Resets.{peer_reset, reset_answered}
 use Rattle.hb_conn.specs.Windows.{unbegun, connection_grows, stream_grows, stream_answered, on_window}
-use Rattle.hb_conn.specs.Headers.{headed, begun, registered, headers_answered, on_whole, block_told, DoesBlock}
-use Rattle.hb_conn.specs.Settings.{allows_push, noted, Resized, AppliesBy, Applies, Then, AppliesAll, applied, SettlesBy, DoesSettings}
+use Rattle.hb_conn.specs.Headers.{headed, begun, registered, headers_answered, block_told, DoesBlock}
+use Rattle.hb_conn.specs.Settings.{allows_push, Resized, AppliesBy, Then, AppliesAll, applied, SettlesBy, DoesSettings}
 use Rattle.hb_conn.specs.Places.{is_misplaced}
 use Rattle.hb_conn.specs.Handling.{Answers, HandlesBy, Handles}
-use Rattle.hb_conn.specs.Outcome.{Outcome, outcome, Gives}
+use Rattle.hb_conn.specs.Outcome.{outcome, Gives}
 use Rattle.hb_conn.specs.declared.machine.Core.{Core}
 use Rattle.hb_conn.specs.declared.found.Found.{Found}
 use Rattle.hb_conn.specs.declared.found.Found.TheVariants.{Silent, Chunk}
 use Rattle.hb_conn.specs.declared.glance.Glance.{Glance}
 use Rattle.hb_conn.specs.declared.glance.Glance.TheVariants as glance
-use Rattle.hb_history.proofs.Parts.{Amid, calm, amid, ending, gone, Keeps, MovesOn}
+use Rattle.hb_history.proofs.Parts.{Amid, calm, gone, Keeps}
 use Rattle.hb_history.proofs.Moved.{received, received_refused, data_begins_none, reset_begins_none, reset_closes, closed_inactive}
 use Rattle.hb_history.proofs.Kept as kept
 

@@ -1,8 +1,6 @@
 -- What each part of a move keeps is kept by what is made of these parts: owed frames, stream errors, ends of sides.
-use Rattle.std.proofs.Common.{◌≡◌, ℕ, ◌≤◌, ◌+◌, Bool, true, false, cond, List, [], ◌∷◌, ◌++◌, Option, Some, None, IfSome, refl, ap, sym, ◌∙◌, subst, arith}
+use Rattle.std.proofs.Common.{◌≡◌, ℕ, ◌≤◌, Bool, true, false, cond, List, [], ◌∷◌, ◌++◌, Option, Some, None, refl, ap, sym, ◌∙◌, subst, arith}
 use Rattle.std.specs.List.{AllByRecursion}
-use Rattle.std.specs.FinMap.{get}
-use Rattle.std.proofs.lemmas.Bool.{false≢true}
 use Rattle.std.proofs.lemmas.List.{append_assoc, append-nil}
 use Rattle.hb_base.specs.declared.scope.Scope.{Scope}
 use Rattle.hb_base.specs.declared.scope.Scope.TheVariants.{Connection, Stream}
@@ -26,10 +24,10 @@ use Rattle.hb_owed.proofs.Payments.{pays_in_order}
 use Rattle.hb_conn.specs.Frames.{sent, window_update}
 use Rattle.hb_conn.specs.Owing.{goes_at_once, put_now, put_later, also, with_due, with_update, owed_paid}
 use Rattle.hb_conn.specs.Faults.{faulted, is_active, withdrawn, released, given_up, cancelled, aborted, broken, refused, refused_by}
-use Rattle.hb_conn.specs.Data.{updated, credited, credited_on, used}
+use Rattle.hb_conn.specs.Data.{updated, credited_on, used}
 use Rattle.hb_conn.specs.Ending.{own_ended}
 use Rattle.hb_conn.specs.declared.machine.Core.{Core}
-use Rattle.hb_history.proofs.Parts.{Amid, calm, amid, ending, gone, Keeps, KeepsOpen}
+use Rattle.hb_history.proofs.Parts.{Amid, calm, ending, gone, Keeps, KeepsOpen}
 use Rattle.hb_history.proofs.Moved.{own_ended as ends_own, was_reset, reset_inactive}
 use Rattle.hb_history.proofs.Records as records
 

@@ -1,12 +1,12 @@
 -- Which streams have windows and records, move after move.
-use Rattle.std.proofs.Common.{◌≡◌, ◌≢◌, ◌⊎◌, inl, inr, ℕ, ◌≤◌, ◌<◌, ◌%◌, ◌==◌, Bool, true, false, cond, ◌||◌, ◌&&◌, List, [], ◌∷◌, ◌++◌, Option, Some, None, is_some, refl, ap, sym, ◌∙◌, subst}
+use Rattle.std.proofs.Common.{◌≡◌, ◌≢◌, inl, inr, ℕ, ◌≤◌, ◌%◌, ◌==◌, Bool, true, false, cond, ◌||◌, ◌&&◌, List, [], ◌∷◌, ◌++◌, Option, Some, None, is_some, refl, ap, sym, ◌∙◌, subst}
 use Rattle.std.specs.Prelude.{take}
 use Rattle.std.specs.Option.{option_map}
 use Rattle.std.specs.Ordering.{nat_cmp}
 use Rattle.std.specs.FinMap.{FinMap, empty, get, insert, remove, get-empty}
 use Rattle.std.proofs.lemmas.Bool.{false≢true, cases_eq}
 use Rattle.hb_map.proofs.Laws.{put_here, put_elsewhere, removed_here, removed_elsewhere}
-use Rattle.hb_streams.specs.Sides.{sides_of, state_with}
+use Rattle.hb_streams.specs.Sides.{sides_of}
 use Rattle.hb_streams.specs.States.{States, state_by, state_of_others}
 use Rattle.hb_streams.specs.Moves.{Move as StreamMove, after, after_all, begun}
 use Rattle.hb_streams.specs.declared.role.Role.{Role}
@@ -15,13 +15,13 @@ use Rattle.hb_streams.specs.declared.sides.Sides.{Sides}
 use Rattle.hb_streams.specs.declared.state.State.TheVariants.{Open, HalfClosedLocal, HalfClosedRemote, Closed}
 use Rattle.hb_streams.proofs.Forward.{moves_add_up, active_are_in_use}
 use Rattle.hb_flow.specs.Windows.{Windows}
-use Rattle.hb_flow.specs.Flows.{Flows, changed, opened, closed, spent, granted, granted_on, new_windows}
-use Rattle.hb_flow.specs.Sizes.{with_size, all_with_size, resized}
+use Rattle.hb_flow.specs.Flows.{Flows, changed, closed, spent, granted, new_windows}
+use Rattle.hb_flow.specs.Sizes.{with_size, all_with_size}
 use Rattle.hb_flow.specs.Moves.{Move as FlowMove, takes, takes_on, owes, owes_on, pays, pays_on, opens, closes, grants, grants_on, resizes, sends, takes_back}
 use Rattle.hb_flow.specs.Moves.{after as flow_after}
 use Rattle.hb_flow.proofs.Changes.{changed_here, changed_elsewhere}
 use Rattle.hb_flow.proofs.Sizes.{get_all}
-use Rattle.hb_outgoing.specs.Selected.{data_size, taken_back}
+use Rattle.hb_outgoing.specs.Selected.{data_size}
 use Rattle.hb_outgoing.specs.Written.{written}
 use Rattle.hb_owed.specs.Dues.{clear}
 use Rattle.hb_owed.specs.Debts.{Debts, shut}
@@ -30,14 +30,13 @@ use Rattle.hb_owed.specs.Moves.{is_open}
 use Rattle.hb_owed.proofs.Walks.{settled_elsewhere}
 use Rattle.hb_conn.specs.Numbers.{data_kind}
 use Rattle.hb_conn.specs.Frames.{frame, sent}
-use Rattle.hb_conn.specs.Faults.{faulted, is_active, regained, released}
-use Rattle.hb_conn.specs.Headers.{registered}
-use Rattle.hb_conn.specs.Payload.{count_put, data_put}
+use Rattle.hb_conn.specs.Faults.{faulted, is_active}
+use Rattle.hb_conn.specs.Payload.{count_put}
 use Rattle.hb_conn.specs.declared.machine.Core.{Core}
 use Rattle.hb_history.specs.Points.{Point, Runs}
 use Rattle.hb_history.specs.History.{fresh}
-use Rattle.hb_history.specs.Live.{AreLive, LiveStreams, StreamsMove}
-use Rattle.hb_history.proofs.Parts.{Amid, calm, amid, ending, gone, Keeps, KeepsOpen, MovesOn, is_taking}
+use Rattle.hb_history.specs.Live.{LiveStreams, StreamsMove}
+use Rattle.hb_history.proofs.Parts.{Amid, calm, amid, ending, gone, Keeps, MovesOn, is_taking}
 use Rattle.hb_history.proofs.Moved.{no_sides}
 use Rattle.hb_history.proofs.Handled.{Grows}
 use Rattle.hb_history.proofs.Acted.{runs_keep}

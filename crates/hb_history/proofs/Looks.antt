@@ -1,5 +1,5 @@
 -- Frames that are looked at, and what is held of the octets then.
-use Rattle.std.proofs.Common.{◌≡◌, ◌≢◌, ℕ, ◌+◌, ◌≤◌, Bool, true, false, cond, ◌==◌, List, [], ◌∷◌, ◌++◌, length, take, drop, Option, Some, None, Result, Ok, Err, refl, ap, sym, ◌∙◌, subst, arith}
+use Rattle.std.proofs.Common.{◌≡◌, ℕ, ◌+◌, ◌≤◌, Bool, true, false, cond, ◌==◌, List, [], ◌∷◌, ◌++◌, length, take, drop, Option, Some, None, Result, Ok, Err, refl, ap, sym, ◌∙◌, subst, arith}
 use Rattle.std.proofs.lemmas.Bool.{false≢true}
 use Rattle.std.proofs.lemmas.List.{append_assoc, append-nil, take-append-drop}
 use Rattle.std.specs.Prelude.{slice_index}
@@ -15,8 +15,7 @@ use Rattle.hb_outgoing.specs.Waiting.{Waiting}
 use Rattle.hb_conn.specs.Numbers.{data_kind, headers_kind, rst_stream_kind, settings_kind, ping_kind, goaway_kind, window_update_kind, continuation_kind}
 use Rattle.hb_conn.specs.Glance.{glance_at, glance_by, glance_of}
 use Rattle.hb_conn.specs.Handling.{Handles}
-use Rattle.hb_conn.specs.Outcome.{is_silent}
-use Rattle.hb_conn.specs.Receiving.{pauses, Steps, Passes}
+use Rattle.hb_conn.specs.Receiving.{Steps, Passes}
 use Rattle.hb_conn.specs.declared.machine.Core.{Core}
 use Rattle.hb_conn.specs.declared.receiver.Receiver.{Receiver}
 use Rattle.hb_conn.specs.declared.found.Found.{Found}

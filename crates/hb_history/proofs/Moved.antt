@@ -1,15 +1,15 @@
 -- Moves of streams by which none begins.
-use Rattle.std.proofs.Common.{◌≡◌, ◌≢◌, ℕ, Bool, true, false, cond, ◌||◌, ◌&&◌, ◌==◌, Option, Some, None, is_some, Result, Ok, Err, refl, ap, sym, ◌∙◌, subst}
+use Rattle.std.proofs.Common.{◌≡◌, ◌≢◌, ℕ, Bool, true, false, cond, ◌||◌, ◌&&◌, ◌==◌, Option, Some, None, Result, Ok, Err, refl, ap, sym, ◌∙◌, subst}
 use Rattle.std.specs.FinMap.{get}
 use Rattle.std.proofs.lemmas.Bool.{false≢true}
 use Rattle.hb_map.specs.Keyed.{written}
 use Rattle.hb_map.proofs.Laws.{removed_here, removed_elsewhere, written_elsewhere, written_where_none}
-use Rattle.hb_streams.specs.Numbers.{data_kind, headers_kind, rst_stream_kind, window_update_kind, refused_stream, is_even}
+use Rattle.hb_streams.specs.Numbers.{data_kind, headers_kind, rst_stream_kind, refused_stream, is_even}
 use Rattle.hb_streams.specs.Resets.{is_among}
 use Rattle.hb_streams.specs.Sides.{sides_of}
 use Rattle.hb_streams.specs.States.{States, state_of, state_by, state_of_others}
 use Rattle.hb_streams.specs.Answers.{answer_of, data_answer, control_answer}
-use Rattle.hb_streams.specs.Moves.{Move, receives, sends_end, sends_reset, after, after_answer, after_going, closed, refused, reset, with_sides, own_side_ended, peer_side_ended, peer_ended}
+use Rattle.hb_streams.specs.Moves.{receives, sends_end, sends_reset, after, after_answer, closed, refused, reset, own_side_ended, peer_side_ended, peer_ended}
 use Rattle.hb_streams.specs.declared.state.State.{State}
 use Rattle.hb_streams.specs.declared.state.State.TheVariants.{Idle, Open, HalfClosedLocal, HalfClosedRemote, Closed, Reset}
 use Rattle.hb_streams.specs.declared.sides.Sides.{Sides}

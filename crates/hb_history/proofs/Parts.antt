@@ -1,5 +1,5 @@
 -- What a frame or an act makes of a connection, part by part.
-use Rattle.std.proofs.Common.{◌≡◌, ◌≢◌, ℕ, ◌≤◌, ◌<◌, Bool, true, false, List, Option, Some, None}
+use Rattle.std.proofs.Common.{◌≡◌, ◌≢◌, ℕ, ◌≤◌, ◌<◌, Bool, true, false, List, Some, None}
 use Rattle.std.specs.FinMap.{get}
 use Rattle.hb_blocks.specs.Assembly.{Assembly}
 use Rattle.hb_frames.specs.RawFrame.{RawFrame}

@@ -82,8 +82,15 @@ size_split s (f ∷ fs) = by (is_data_of (Some s) f) refl (size_split s fs)
         let kept : filter (is_kept (Some s)) (f ∷ fs) ≡ f ∷ filter (is_kept (Some s)) fs =
         ap (λ b. cond (not b) (f ∷ filter (is_kept (Some s)) fs) (filter (is_kept (Some s)) fs)) test in
         let one : size_on (Some s) f ≡ 0 = ap (λ b. cond b (length f.payload) 0) test in
-        omega (arith, ap (data_size None) kept, one, size_cons None f fs, size_cons (Some s) f fs,
-        size_cons None f (filter (is_kept (Some s)) fs), rest)
+        omega (
+          arith,
+          ap (data_size None) kept,
+          one,
+          size_cons None f fs,
+          size_cons (Some s) f fs,
+          size_cons None f (filter (is_kept (Some s)) fs),
+          rest,
+        )
 
 other_by : (a : Bool) (q n s m : ℕ) → n ≢ s → (a && (q == s)) ≡ true → cond (a && (q == n)) m 0 ≡ 0
 other_by true q n s m apart is =

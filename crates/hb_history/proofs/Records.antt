@@ -1,5 +1,5 @@
 -- Records of streams that aren't closed stay with what is owed.
-use Rattle.std.proofs.Common.{◌≡◌, ◌≢◌, ℕ, Bool, true, false, not, cond, ◌&&◌, Option, Some, None, is_some, inl, inr, refl, ap, sym, ◌∙◌, subst}
+use Rattle.std.proofs.Common.{◌≡◌, ℕ, Bool, true, false, not, cond, ◌&&◌, Option, Some, None, is_some, inl, inr, refl, ap, sym, ◌∙◌}
 use Rattle.std.specs.FinMap.{get, remove}
 use Rattle.std.specs.Prelude.{nat_le, ◌-◌}
 use Rattle.std.proofs.lemmas.Bool.{false≢true, cases_eq}

@@ -1,5 +1,5 @@
 -- The laws of sending windows.
-use Rattle.std.proofs.Common.{◌≡◌, ℕ, ◌+◌, ◌≤◌, ◌<◌, ◌==◌, Bool, true, false, cond, pos, ◌+ℤ◌, ◌≤ℤ◌, List, [], ◌∷◌, ◌++◌, take, Option, Some, None, is_some, refl, ap, sym, ◌∙◌, subst, arith}
+use Rattle.std.proofs.Common.{◌≡◌, ℕ, ◌==◌, false, cond, pos, ◌+ℤ◌, ◌≤ℤ◌, List, [], take, Some, None, is_some, refl, ap, sym, ◌∙◌, subst, arith}
 use Rattle.std.specs.Ordering.{nat_cmp}
 use Rattle.std.specs.FinMap.{empty, get, get-empty}
 use Rattle.std.proofs.lemmas.Bool.{false≢true, ne_eqb}
@@ -15,7 +15,7 @@ use Rattle.hb_outgoing.specs.Selected.{data_size}
 use Rattle.hb_conn.specs.Connection.{Connection}
 use Rattle.hb_conn.specs.Frames.{frame, sent}
 use Rattle.hb_conn.specs.Numbers.{data_kind}
-use Rattle.hb_conn.specs.Payload.{count_put, with_data}
+use Rattle.hb_conn.specs.Payload.{count_put}
 use Rattle.hb_conn.specs.Windows.{unbegun}
 use Rattle.hb_conn.specs.declared.machine.Core.{Core}
 use Rattle.hb_conn.specs.declared.found.Found.{Found}
@@ -27,7 +27,7 @@ use Rattle.hb_history.proofs.First.{first_new}
 use Rattle.hb_history.proofs.Lives.{lives_new}
 use Rattle.hb_history.proofs.Flowed.{put_within}
 use Rattle.hb_history.proofs.Payloads.{IsAll, is_all, size_of_one}
-use Rattle.hb_history.proofs.Sums.{Adds, One, Sums, regains}
+use Rattle.hb_history.proofs.Sums.{Adds, Sums, regains}
 use Rattle.hb_history.proofs.Balanced.{Sent, runs}
 
 no_windows : (T : Type 0) (n : ℕ) (w : Windows) → get (empty {X = Windows} {R = nat_cmp}) n ≡ Some w → T

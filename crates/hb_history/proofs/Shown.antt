@@ -1,5 +1,5 @@
 -- What waits to be written, kept part by part.
-use Rattle.std.proofs.Common.{◌≡◌, ℕ, ◌≤◌, Bool, true, false, cond, ◌==◌, ◌&&◌, List, [], ◌∷◌, refl, ap, sym, ◌∙◌, subst, arith}
+use Rattle.std.proofs.Common.{◌≡◌, ℕ, Bool, true, false, cond, ◌==◌, ◌&&◌, List, [], refl, sym, arith}
 use Rattle.std.specs.Prelude.{nat_le, min, length, take}
 use Rattle.std.proofs.lemmas.Bool.{false≢true}
 use Rattle.std.proofs.lemmas.Bool.Decides.{nat_tests}
@@ -12,8 +12,8 @@ use Rattle.hb_owed.specs.Debts.{closed as owed_closed}
 use Rattle.hb_flow.specs.Flows.{closed, spent}
 use Rattle.hb_conn.specs.Numbers.{data_kind}
 use Rattle.hb_conn.specs.Frames.{frame, sent}
-use Rattle.hb_conn.specs.Faults.{faulted, is_active, released}
-use Rattle.hb_conn.specs.Payload.{allowed, count_put, with_data, data_put}
+use Rattle.hb_conn.specs.Faults.{faulted, is_active}
+use Rattle.hb_conn.specs.Payload.{allowed, count_put}
 use Rattle.hb_conn.specs.declared.machine.Core.{Core}
 use Rattle.hb_history.proofs.Parts.{Amid, Keeps}
 use Rattle.hb_history.proofs.Handled.{Grows}

@@ -9,17 +9,17 @@ use Rattle.hb_frames.specs.RawFrame.{RawFrame}
 use Rattle.hb_frames.specs.Numbers.{data_kind}
 use Rattle.hb_windows.specs.Sending.{Sending, largest}
 use Rattle.hb_flow.specs.Windows.{Windows, less, more, counted}
-use Rattle.hb_flow.specs.Flows.{Flows, changed, opened, closed, spent, granted, granted_on, sending_by, taking_by, new_windows}
-use Rattle.hb_flow.specs.Sizes.{resized, with_size, moves_by, Fits, unbegun_on}
+use Rattle.hb_flow.specs.Flows.{Flows, changed, opened, closed, spent, granted, sending_by, new_windows}
+use Rattle.hb_flow.specs.Sizes.{resized, Fits}
 use Rattle.hb_flow.specs.Moves.{Move, takes, takes_on, owes, owes_on, pays, pays_on, opens, closes, grants, grants_on, resizes, sends, takes_back}
 use Rattle.hb_flow.specs.Moves.{after as flow_after}
-use Rattle.hb_flow.proofs.Changes.{still_sending, still_initial, was, was_put, was_left, was_sized, same_some}
+use Rattle.hb_flow.proofs.Changes.{still_sending, still_initial, was, was_left, was_sized, same_some}
 use Rattle.hb_outgoing.specs.Selected.{data_size, is_kept}
 use Rattle.std.specs.List.{filter}
 use Rattle.hb_conn.specs.Faults.{regained}
 use Rattle.hb_conn.specs.Frames.{frame}
 use Rattle.hb_history.specs.Sending.{increments}
-use Rattle.hb_history.proofs.Parts.{Amid, calm, amid, ending, gone, is_taking}
+use Rattle.hb_history.proofs.Parts.{Amid, calm, amid, gone, is_taking}
 use Rattle.hb_history.proofs.Payloads.{size_on, size_push, size_left, size_split, size_others, size_of_one}
 
 -- what a window holds, the payload that hasn't begun and that which has are what it began with and what was granted

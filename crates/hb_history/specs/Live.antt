@@ -1,5 +1,5 @@
 -- Which streams have windows, and records of what is owed.
-use Rattle.std.specs.Prelude.{◌≡◌, ℕ, ◌<◌, Bool, true, false, List, is_some}
+use Rattle.std.specs.Prelude.{◌≡◌, ℕ, true, false, List, is_some}
 use Rattle.std.specs.FinMap.{get}
 use Rattle.hb_streams.specs.Laws.{StandsFor as StreamsStandFor}
 use Rattle.hb_streams.specs.Moves.{Move as StreamMove}

@@ -1,5 +1,5 @@
 -- What happens at one end of a connection, in order, and what is told of it.
-use Rattle.std.specs.Prelude.{◌≡◌, ℕ, false, Bool, List, [], ◌∷◌, ◌++◌, length, ◌≤◌, Option, Some, None, Ok}
+use Rattle.std.specs.Prelude.{◌≡◌, ℕ, false, Bool, List, [], ◌∷◌, ◌++◌, length, ◌≤◌, Ok}
 use Rattle.std.specs.List.{flat_map}
 use Rattle.hb_hpack.specs.declared.header.Header.{Header}
 use Rattle.hb_frames.specs.RawFrame.{RawFrame}
@@ -14,7 +14,7 @@ use Rattle.hb_conn.specs.Numbers.{protocol_error}
 use Rattle.hb_conn.specs.Glance.{glance_at}
 use Rattle.hb_conn.specs.Handling.{Handles}
 use Rattle.hb_conn.specs.Receiving.{pauses}
-use Rattle.hb_conn.specs.Outcome.{Gives, is_silent}
+use Rattle.hb_conn.specs.Outcome.{Gives}
 use Rattle.hb_conn.specs.Faults.{faulted, aborted}
 use Rattle.hb_conn.specs.Opening.{opened_with}
 use Rattle.hb_conn.specs.Ending.{status_put, end_put}
