@@ -31,9 +31,9 @@ use Rattle.hb_conn.specs.declared.found.Found.{Found}
 use Rattle.hb_conn.specs.declared.glance.Glance.TheVariants as glance
 use Rattle.hb_history.specs.Points.{Move, got, refused, misbegan, opened, answered, ended, reset, credited, put, wrote, Point, After, Runs}
 use Rattle.hb_history.specs.Calls.{IsAct, IsLook}
-use Rattle.hb_history.proofs.Parts.{Amid, calm, Keeps}
+use Rattle.hb_history.proofs.Parts.{Amid, calm, Keeps, Resizes}
 use Rattle.hb_history.proofs.Kept as kept
-use Rattle.hb_history.proofs.Handled.{Grows, window_keeps, handles_keep}
+use Rattle.hb_history.proofs.Handled.{Grows, window_keeps, settings_keep, handles_keep}
 
 -- no more is used up than came
 pub may_owe : (c : Core) (s n : ℕ) → n ≤ creditable c.flow s → May c.flow (owes_on s n)
@@ -90,28 +90,30 @@ module _ (P : Amid → Core → Type 0) (k : Keeps P) where
   act_keeps c (put s bytes) new told act h is = subst (P calm) (sym is.0) (k.puts c s bytes h)
   act_keeps c (wrote n) new told act h is = absurd act
 
-  pub look_keeps : (c : Core) (m : Move) (new : Core) (told : Found) → IsLook m → P calm c
+  pub look_keeps : Resizes P → (c : Core) (m : Move) (new : Core) (told : Found) → IsLook m → P calm c
       → ((s n : ℕ) → P calm (on_window c s n).core) → After c m new told → P calm new
-  look_keeps c (got f) new told look h window is = handles_keep P k c (glance_at f) (lent_of f) new told h (λ s n e. window s n) is.1
-  look_keeps c (refused r kind flags) new told look h window is =
-      handles_keep P k c (glance.Refused r.code r.row kind flags) [] new told h (λ s n e. window s n) is.1
-  look_keeps c misbegan new told look h window is = subst (P calm) (sym is.1.0) (kept.faulted_keeps P k calm c protocol_error h)
-  look_keeps c (opened s headers end) new told look h window is = absurd look
-  look_keeps c (answered s status) new told look h window is = absurd look
-  look_keeps c (ended s) new told look h window is = absurd look
-  look_keeps c (reset s code) new told look h window is = absurd look
-  look_keeps c (credited s n) new told look h window is = absurd look
-  look_keeps c (put s bytes) new told look h window is = absurd look
-  look_keeps c (wrote n) new told look h window is = absurd look
+  look_keeps r c (got f) new told look h window is = handles_keep P k c (glance_at f) (lent_of f) new told h (λ s n e. window s n)
+      (λ ack e is. settings_keep P k r ack c (lent_of f) new told h is) is.1
+  look_keeps r c (refused why kind flags) new told look h window is =
+      handles_keep P k c (glance.Refused why.code why.row kind flags) [] new told h (λ s n e. window s n)
+      (λ ack e is. settings_keep P k r ack c [] new told h is) is.1
+  look_keeps r c misbegan new told look h window is = subst (P calm) (sym is.1.0) (kept.faulted_keeps P k calm c protocol_error h)
+  look_keeps r c (opened s headers end) new told look h window is = absurd look
+  look_keeps r c (answered s status) new told look h window is = absurd look
+  look_keeps r c (ended s) new told look h window is = absurd look
+  look_keeps r c (reset s code) new told look h window is = absurd look
+  look_keeps r c (credited s n) new told look h window is = absurd look
+  look_keeps r c (put s bytes) new told look h window is = absurd look
+  look_keeps r c (wrote n) new told look h window is = absurd look
 
   -- where WINDOW_UPDATE and writes keep it too, all moves do
-  module _ (grows : (c : Core) (s n : ℕ) → P calm c → Grows P c s n)
+  module _ (sizes : Resizes P) (grows : (c : Core) (s n : ℕ) → P calm c → Grows P c s n)
       (writes : (c : Core) (n : ℕ) → n ≤ length (octets_of c.out) → P calm c → P calm (record c { out = written n c.out })) where
     pub move_keeps : (c : Core) (m : Move) (new : Core) (told : Found) → P calm c → After c m new told → P calm new
-    move_keeps c (got f) new told h is = look_keeps c (got f) new told tt h (λ s n. window_keeps P k c s n (grows c s n h)) is
+    move_keeps c (got f) new told h is = look_keeps sizes c (got f) new told tt h (λ s n. window_keeps P k c s n (grows c s n h)) is
     move_keeps c (refused r kind flags) new told h is =
-        look_keeps c (refused r kind flags) new told tt h (λ s n. window_keeps P k c s n (grows c s n h)) is
-    move_keeps c misbegan new told h is = look_keeps c misbegan new told tt h (λ s n. window_keeps P k c s n (grows c s n h)) is
+        look_keeps sizes c (refused r kind flags) new told tt h (λ s n. window_keeps P k c s n (grows c s n h)) is
+    move_keeps c misbegan new told h is = look_keeps sizes c misbegan new told tt h (λ s n. window_keeps P k c s n (grows c s n h)) is
     move_keeps c (opened s headers end) new told h is = act_keeps c (opened s headers end) new told tt h is
     move_keeps c (answered s status) new told h is = act_keeps c (answered s status) new told tt h is
     move_keeps c (ended s) new told h is = act_keeps c (ended s) new told tt h is

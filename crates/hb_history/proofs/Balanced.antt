@@ -41,13 +41,13 @@ use Rattle.hb_conn.specs.declared.glance.Glance.{Glance}
 use Rattle.hb_conn.specs.declared.glance.Glance.TheVariants as glance
 use Rattle.hb_history.specs.Points.{Move, got, refused, misbegan, opened, answered, ended, reset, credited, put, wrote, Point, point, After, RunsWith, begins_by, got_by, frames_got}
 use Rattle.hb_history.specs.Waits.{IsFirst}
-use Rattle.hb_history.proofs.Parts.{Amid, calm, amid, ending, gone, Keeps}
+use Rattle.hb_history.proofs.Parts.{Amid, calm, amid, ending, gone, Keeps, Resizes}
 use Rattle.hb_history.proofs.Kept as kept
-use Rattle.hb_history.proofs.Handled.{Grows, window_keeps, handles_keep}
+use Rattle.hb_history.proofs.Handled.{Grows, window_keeps, settings_keep, handles_keep}
 use Rattle.hb_history.proofs.Acted.{act_keeps}
 use Rattle.hb_history.proofs.Shown.{out_keeps, out_grows}
 use Rattle.hb_history.proofs.First.{first_keeps, first_written}
-use Rattle.hb_history.proofs.Lives.{Lives, Moved, used, used_some, inactive_none, lives_keep, lives_grow}
+use Rattle.hb_history.proofs.Lives.{Lives, Moved, used, used_some, inactive_none, lives_keep, lives_resize, lives_grow}
 use Rattle.hb_history.proofs.Flowed.{put_within}
 use Rattle.hb_history.proofs.Payloads.{size_append, size_push, size_begun, no_size, IsAll, is_all}
 use Rattle.hb_history.proofs.Sums as sums
@@ -198,15 +198,17 @@ module _ (role : Role) (frames begun : List RawFrame) where
           lives.begins s c sides m above becomes h.1,
           λ still. sums.opened_sums frames begun c.out.queue c.flow c.streams.highest s above (h.2 still),
         );
-        resizes = λ c k within fits h. (
-          h.0,
-          lives.resizes c k within fits h.1,
-          λ still. sums.resized_sums frames begun c.out.queue c.flow c.streams.highest k within
-              (λ n. subst (λ q. Fits k q (get c.flow.streams n)) (sym ((all_of c h.0).one n)) (fits n)) (h.2 still),
-        );
         puts = λ c s bytes h. (first.puts c s bytes h.0, lives.puts c s bytes h.1, put_by c s bytes h (count_put c s bytes == 0) refl);
         faults = λ a c f code h. (first.faults a c f code h.0, lives.faults a c f code h.1, λ still. no_sum (record c { flow = f }) code _ still);
       }
+
+  pub sent_resizes : Resizes (Sent role frames begun)
+  sent_resizes c k within fits h = (
+    h.0,
+    lives_resize role c k within fits h.1,
+    λ still. sums.resized_sums frames begun c.out.queue c.flow c.streams.highest k within
+        (λ n. subst (λ q. Fits k q (get c.flow.streams n)) (sym ((all_of c h.0).one n)) (fits n)) (h.2 still),
+  )
 
   -- a WINDOW_UPDATE
   pub sent_grows : (c : Core) (f : RawFrame) → (f.kind == window_update_kind) ≡ true → Sent role frames begun calm c
@@ -305,6 +307,17 @@ window_by role frames begun c f kind h false bytes new told is =
     (window_keeps (Sent role (frames ++ f ∷ []) begun) (sent_keeps role (frames ++ f ∷ []) begun) c f.stream (increment_of f)
     (sent_grows role frames begun c f kind h))
 
+-- a frame that is no WINDOW_UPDATE
+with_frame : (role : Role) (frames begun : List RawFrame) (c : Core) (f : RawFrame) → (f.kind == window_update_kind) ≡ false
+    → Sent role frames begun calm c → Sent role (frames ++ f ∷ []) begun calm c
+with_frame role frames begun c f kind h = (
+  h.0,
+  h.1,
+  λ still. carried frames (frames ++ f ∷ []) (λ n. grants.grants_nothing n frames f kind) begun c.out.queue begun c.out.queue calm calm
+      c.flow c.flow c.streams.highest c.streams.highest (still_passes begun c.out.queue) (λ n u. u) (same_flows c.flow) (omega arith)
+      (h.2 still),
+)
+
 got_by_kind : (role : Role) (frames begun : List RawFrame) (c : Core) (f : RawFrame) (b : Bool) → (f.kind == window_update_kind) ≡ b
     → Sent role frames begun calm c → (new : Core) (told : Found) → Handles c (glance_at f) (lent_of f) new told
     → Sent role (frames ++ f ∷ []) begun calm new
@@ -312,14 +325,11 @@ got_by_kind role frames begun c f true kind h new told is =
     window_by role frames begun c f kind h (is_misplaced c (glance.Window f.stream (increment_of f))) (lent_of f) new told
     (subst (λ (g : Glance). Handles c g (lent_of f) new told) (window_is f kind) is)
 got_by_kind role frames begun c f false kind h new told is =
-    handles_keep (Sent role (frames ++ f ∷ []) begun) (sent_keeps role (frames ++ f ∷ []) begun) c (glance_at f) (lent_of f) new told (
-      h.0,
-      h.1,
-      λ still. carried frames (frames ++ f ∷ []) (λ n. grants.grants_nothing n frames f kind) begun c.out.queue begun c.out.queue calm calm
-          c.flow c.flow c.streams.highest c.streams.highest (still_passes begun c.out.queue) (λ n u. u) (same_flows c.flow) (omega arith)
-          (h.2 still),
-    )
-    (λ s n e. absurd (false≢true (sym (no_window f kind) ∙ ap is_window e))) is
+    handles_keep (Sent role (frames ++ f ∷ []) begun) (sent_keeps role (frames ++ f ∷ []) begun) c (glance_at f) (lent_of f) new told
+    (with_frame role frames begun c f kind h)
+    (λ s n e. absurd (false≢true (sym (no_window f kind) ∙ ap is_window e)))
+    (λ ack e does. settings_keep (Sent role (frames ++ f ∷ []) begun) (sent_keeps role (frames ++ f ∷ []) begun)
+    (sent_resizes role (frames ++ f ∷ []) begun) ack c (lent_of f) new told (with_frame role frames begun c f kind h) does) is
 
 write_passes : (c : Core) (n : ℕ) (begun : List RawFrame)
     → Passes begun c.out.queue (begun ++ begun_by n c.out) (written n c.out).queue
@@ -352,7 +362,9 @@ moves role frames begun c (got f) new told h is =
 moves role frames begun c (refused r kind flags) new told h is =
     no_more role frames begun new
     (handles_keep (Sent role frames begun) (sent_keeps role frames begun) c (glance.Refused r.code r.row kind flags) [] new told h
-    (λ s n e. absurd (false≢true (ap is_window e))) is.1)
+    (λ s n e. absurd (false≢true (ap is_window e)))
+    (λ ack e does. settings_keep (Sent role frames begun) (sent_keeps role frames begun) (sent_resizes role frames begun) ack c [] new told h does)
+    is.1)
 moves role frames begun c misbegan new told h is =
     no_more role frames begun new
     (subst (Sent role frames begun calm) (sym is.1.0) (kept.faulted_keeps (Sent role frames begun) (sent_keeps role frames begun) calm c protocol_error h))

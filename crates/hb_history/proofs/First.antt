@@ -14,7 +14,7 @@ use Rattle.hb_conn.specs.declared.machine.Core.{Core}
 use Rattle.hb_history.specs.Points.{Point, Runs}
 use Rattle.hb_history.specs.History.{fresh}
 use Rattle.hb_history.specs.Waits.{IsFirstBy, IsFirst, DataStandsFirst}
-use Rattle.hb_history.proofs.Shown.{KeepsOut, OfOut, out_keeps, out_grows}
+use Rattle.hb_history.proofs.Shown.{KeepsOut, OfOut, out_keeps, out_resizes, out_grows}
 use Rattle.hb_history.proofs.Acted.{runs_keep}
 
 abbrev NoData : List RawFrame → Type 0
@@ -89,7 +89,8 @@ first_new Client = (λ some. absurd (false≢true some), tt)
 
 pub first_runs : (points : List Point) (c new : Core) → IsFirst c.out → Runs c points new → IsFirst new.out
 first_runs points c new first runs =
-    runs_keep (OfOut IsFirst) (out_keeps IsFirst first_keeps) (λ d s n h. out_grows IsFirst first_keeps d s n h)
+    runs_keep (OfOut IsFirst) (out_keeps IsFirst first_keeps) (out_resizes IsFirst first_keeps)
+    (λ d s n h. out_grows IsFirst first_keeps d s n h)
     (λ d n within h. first_written d.out n h) points c new first runs
 
 pub data_stands_first : DataStandsFirst

@@ -24,7 +24,7 @@ use Rattle.hb_conn.specs.declared.machine.Core.{Core}
 use Rattle.hb_history.specs.History.{fresh}
 use Rattle.hb_history.specs.Live.{WindowsMove}
 use Rattle.hb_history.specs.Taking.{TakingIsWhole}
-use Rattle.hb_history.proofs.Parts.{Amid, calm, amid, Keeps}
+use Rattle.hb_history.proofs.Parts.{Amid, calm, amid, Keeps, Resizes}
 use Rattle.hb_history.proofs.Handled.{Grows}
 use Rattle.hb_history.proofs.Acted.{runs_keep}
 
@@ -88,10 +88,12 @@ flow_keeps = record {
   leaves = λ s c none h. λ still. flowed_on c.flow (closes s) tt (h still);
   takes_in = λ a c m taking may h. λ still. flowed_on c.flow m may (h still);
   begins = λ s c sides m above becomes h. λ still. flowed_on c.flow (opens s) tt (h still);
-  resizes = λ c k within fits h. λ still. flowed_on c.flow (resizes k) tt (h still);
   puts = λ c s bytes h. put_by c s (count_put c s bytes) bytes (count_put c s bytes == 0) (put_within c s bytes) h;
   faults = λ a c f code h. fault_by (record c { flow = f }) code;
 }
+
+pub flow_resizes : Resizes Flow
+flow_resizes c k within fits h = λ still. flowed_on c.flow (resizes k) tt (h still)
 
 pub flow_grows : (c : Core) (s n : ℕ) → Flow calm c → Grows Flow c s n
 flow_grows c s n h = record {
@@ -108,7 +110,7 @@ flow_new Client = λ still. ([], refl, tt)
 
 pub windows_move : WindowsMove
 windows_move role points given came written c stands still =
-    runs_keep Flow flow_keeps (λ d s n h. flow_grows d s n h) (λ d n within h. h) points (fresh role).receiver.core c.receiver.core
+    runs_keep Flow flow_keeps flow_resizes (λ d s n h. flow_grows d s n h) (λ d n within h. h) points (fresh role).receiver.core c.receiver.core
     (flow_new role) stands.runs still
 
 pub taking_is_whole : TakingIsWhole

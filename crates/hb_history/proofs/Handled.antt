@@ -42,7 +42,7 @@ use Rattle.hb_conn.specs.declared.found.Found.{Found}
 use Rattle.hb_conn.specs.declared.found.Found.TheVariants.{Silent, Chunk}
 use Rattle.hb_conn.specs.declared.glance.Glance.{Glance}
 use Rattle.hb_conn.specs.declared.glance.Glance.TheVariants as glance
-use Rattle.hb_history.proofs.Parts.{Amid, calm, gone, Keeps}
+use Rattle.hb_history.proofs.Parts.{Amid, calm, gone, Keeps, Resizes}
 use Rattle.hb_history.proofs.Moved.{received, received_refused, data_begins_none, reset_begins_none, reset_closes, closed_inactive}
 use Rattle.hb_history.proofs.Kept as kept
 
@@ -171,25 +171,25 @@ module _ (P : Amid → Core → Type 0) (k : Keeps P) where
   noted_by c s false true h = k.other calm c c.encoder c.blocks (record c.peer { frame_size = s.1 }) c.settled h
   noted_by c s false false h = h
 
-  resized_keeps : (c new : Core) (n : ℕ) (fits : Bool) → P calm c → Resized c n new fits → Settled new fits
-  resized_keeps c new n true h is =
-      subst (P calm) (sym is.2) (k.resizes c n is.0 is.1.0 h)
-  resized_keeps c new n false h (inl large) =
+  resized_keeps : Resizes P → (c new : Core) (n : ℕ) (fits : Bool) → P calm c → Resized c n new fits → Settled new fits
+  resized_keeps r c new n true h is =
+      subst (P calm) (sym is.2) (r c n is.0 is.1.0 h)
+  resized_keeps r c new n false h (inl large) =
       λ code. subst (λ (d : Core). P calm (faulted d code).core) (sym large.1) (kept.faulted_keeps P k calm c code h)
-  resized_keeps c new n false h (inr over) =
+  resized_keeps r c new n false h (inr over) =
       λ code. subst (λ (d : Core). P calm (faulted d code).core) (sym over.3) (k.faults calm c new.flow code h)
 
-  one_keeps : (c new : Core) (s : ℕ × ℕ) (b fits : Bool) → P calm c → AppliesBy b c s new fits → Settled new fits
-  one_keeps c new s true fits h is = resized_keeps c new s.1 fits h is
-  one_keeps c new s false true h is =
+  one_keeps : Resizes P → (c new : Core) (s : ℕ × ℕ) (b fits : Bool) → P calm c → AppliesBy b c s new fits → Settled new fits
+  one_keeps r c new s true fits h is = resized_keeps r c new s.1 fits h is
+  one_keeps r c new s false true h is =
       subst (P calm) (sym is.0) (noted_by c s (s.0 == max_concurrent_streams) (s.0 == max_frame_size) h)
-  one_keeps c new s false false h is = absurd (false≢true is.1)
+  one_keeps r c new s false false h is = absurd (false≢true is.1)
 
-  all_keep : (pairs : List (ℕ × ℕ)) (c new : Core) (fits : Bool) → P calm c → AppliesAll c pairs new fits → Settled new fits
-  all_keep [] c new fits h is =
+  all_keep : Resizes P → (pairs : List (ℕ × ℕ)) (c new : Core) (fits : Bool) → P calm c → AppliesAll c pairs new fits → Settled new fits
+  all_keep r [] c new fits h is =
       subst (Settled new) (sym is.1) (subst (P calm) (sym is.0) h)
-  all_keep (s ∷ more) c new fits h is =
-      by is.1 (one_keeps c is.0 s (s.0 == initial_window_size) is.1 h is.2) (all_keep more is.0 new fits) is.3
+  all_keep r (s ∷ more) c new fits h is =
+      by is.1 (one_keeps r c is.0 s (s.0 == initial_window_size) is.1 h is.2) (all_keep r more is.0 new fits) is.3
     where
       by : (ok : Bool) → Settled is.0 ok → (P calm is.0 → AppliesAll is.0 more new fits → Settled new fits)
           → Then ok (AppliesAll is.0 more new fits) ((new ≡ is.0) × (fits ≡ false)) → Settled new fits
@@ -202,15 +202,15 @@ module _ (P : Amid → Core → Type 0) (k : Keeps P) where
       (k.sends calm (record c { settled = true }) settings_ack refl (k.other calm c c.encoder c.blocks c.peer true h))
   settled_keeps c new false found h is = subst (P calm) (sym is.0) (h 3)
 
-  settings_by : (b : Bool) (c : Core) (pairs : List (ℕ × ℕ)) (new : Core) (found : Found) → P calm c → SettlesBy b c pairs new found → P calm new
-  settings_by true c pairs new found h is = subst (P calm) (sym is.0) (kept.faulted_keeps P k calm c protocol_error h)
-  settings_by false c pairs new found h is =
-      settled_keeps is.0 new is.1 found (all_keep pairs c is.0 is.1 h is.2) is.3
+  settings_by : Resizes P → (b : Bool) (c : Core) (pairs : List (ℕ × ℕ)) (new : Core) (found : Found) → P calm c → SettlesBy b c pairs new found → P calm new
+  settings_by r true c pairs new found h is = subst (P calm) (sym is.0) (kept.faulted_keeps P k calm c protocol_error h)
+  settings_by r false c pairs new found h is =
+      settled_keeps is.0 new is.1 found (all_keep r pairs c is.0 is.1 h is.2) is.3
 
-  settings_keep : (ack : Bool) (c : Core) (payload : List ℕ) (new : Core) (found : Found) → P calm c → DoesSettings ack c payload new found
+  pub settings_keep : Resizes P → (ack : Bool) (c : Core) (payload : List ℕ) (new : Core) (found : Found) → P calm c → DoesSettings ack c payload new found
       → P calm new
-  settings_keep true c payload new found h is = subst (P calm) (sym is.0) h
-  settings_keep false c payload new found h is = settings_by (allows_push c.streams.role (settings payload)) c (settings payload) new found h is
+  settings_keep r true c payload new found h is = subst (P calm) (sym is.0) h
+  settings_keep r false c payload new found h is = settings_by r (allows_push c.streams.role (settings payload)) c (settings payload) new found h is
 
   -- PING
 
@@ -273,29 +273,32 @@ module _ (P : Amid → Core → Type 0) (k : Keeps P) where
   -- a frame in its place, and any frame
 
   answers_keep : (c : Core) (g : Glance) (bytes : List ℕ) (new : Core) (found : Found) → P calm c
-      → ((s n : ℕ) → g ≡ glance.Window s n → P calm (on_window c s n).core) → Answers c g bytes new found → P calm new
-  answers_keep c glance.Nothing bytes new found h window is = subst (P calm) (sym is.0) h
-  answers_keep c (glance.Data s n end) bytes new found h window is =
+      → ((s n : ℕ) → g ≡ glance.Window s n → P calm (on_window c s n).core)
+      → ((ack : Bool) → g ≡ glance.Settings ack → DoesSettings ack c bytes new found → P calm new) → Answers c g bytes new found → P calm new
+  answers_keep c glance.Nothing bytes new found h window settings is = subst (P calm) (sym is.0) h
+  answers_keep c (glance.Data s n end) bytes new found h window settings is =
       subst (P calm) (sym is.0) (data_keeps c s n (length bytes) end h)
-  answers_keep c (glance.Headers s end whole) bytes new found h window is = block_keeps _ c new found h is
-  answers_keep c (glance.Reset s code) bytes new found h window is =
+  answers_keep c (glance.Headers s end whole) bytes new found h window settings is = block_keeps _ c new found h is
+  answers_keep c (glance.Reset s code) bytes new found h window settings is =
       subst (P calm) (sym is.0) (reset_by c s code (answer_of c.streams rst_stream_kind s) refl h)
-  answers_keep c (glance.Settings ack) bytes new found h window is = settings_keep ack c bytes new found h is
-  answers_keep c (glance.Ping ack value) bytes new found h window is =
+  answers_keep c (glance.Settings ack) bytes new found h window settings is = settings ack refl is
+  answers_keep c (glance.Ping ack value) bytes new found h window settings is =
       subst (P calm) (sym is.0) (ping_keeps c ack value h)
-  answers_keep c (glance.GoAway last) bytes new found h window is = subst (P calm) (sym is.0) h
-  answers_keep c (glance.Window s n) bytes new found h window is = subst (P calm) (sym is.0) (window s n refl)
-  answers_keep c (glance.Continuation s whole) bytes new found h window is = block_keeps _ c new found h is
-  answers_keep c glance.Other bytes new found h window is = subst (P calm) (sym is.0) h
-  answers_keep c (glance.Refused code row kind flags) bytes new found h window is =
+  answers_keep c (glance.GoAway last) bytes new found h window settings is = subst (P calm) (sym is.0) h
+  answers_keep c (glance.Window s n) bytes new found h window settings is = subst (P calm) (sym is.0) (window s n refl)
+  answers_keep c (glance.Continuation s whole) bytes new found h window settings is = block_keeps _ c new found h is
+  answers_keep c glance.Other bytes new found h window settings is = subst (P calm) (sym is.0) h
+  answers_keep c (glance.Refused code row kind flags) bytes new found h window settings is =
       subst (P calm) (sym is.0) (kept.faulted_keeps P k calm c code h)
 
   handles_by : (b : Bool) (c : Core) (g : Glance) (bytes : List ℕ) (new : Core) (found : Found) → P calm c
-      → ((s n : ℕ) → g ≡ glance.Window s n → P calm (on_window c s n).core) → HandlesBy b c g bytes new found → P calm new
-  handles_by true c g bytes new found h window is =
+      → ((s n : ℕ) → g ≡ glance.Window s n → P calm (on_window c s n).core)
+      → ((ack : Bool) → g ≡ glance.Settings ack → DoesSettings ack c bytes new found → P calm new) → HandlesBy b c g bytes new found → P calm new
+  handles_by true c g bytes new found h window settings is =
       subst (P calm) (sym is.0) (kept.faulted_keeps P k calm c protocol_error h)
-  handles_by false c g bytes new found h window is = answers_keep c g bytes new found h window is
+  handles_by false c g bytes new found h window settings is = answers_keep c g bytes new found h window settings is
 
   pub handles_keep : (c : Core) (g : Glance) (bytes : List ℕ) (new : Core) (found : Found) → P calm c
-      → ((s n : ℕ) → g ≡ glance.Window s n → P calm (on_window c s n).core) → Handles c g bytes new found → P calm new
-  handles_keep c g bytes new found h window is = handles_by (is_misplaced c g) c g bytes new found h window is
+      → ((s n : ℕ) → g ≡ glance.Window s n → P calm (on_window c s n).core)
+      → ((ack : Bool) → g ≡ glance.Settings ack → DoesSettings ack c bytes new found → P calm new) → Handles c g bytes new found → P calm new
+  handles_keep c g bytes new found h window settings is = handles_by (is_misplaced c g) c g bytes new found h window settings is

@@ -26,7 +26,7 @@ use Rattle.hb_history.specs.Points.{Move, got, refused, Point, point, After, Run
 use Rattle.hb_history.specs.Calls.{IsLook, IsAct}
 use Rattle.hb_history.proofs.Acted.{look_keeps, act_keeps}
 use Rattle.hb_history.proofs.Handled.{window_keeps}
-use Rattle.hb_history.proofs.Shown.{OfOut, out_keeps, out_grows, rest_keeps}
+use Rattle.hb_history.proofs.Shown.{OfOut, out_keeps, out_resizes, out_grows, rest_keeps}
 
 -- a frame that stands there is glanced at
 abbrev is_nothing : Glance → Bool
@@ -151,7 +151,7 @@ pub look_rest : (c : Core) (m : Move) (new : Core) (told : Found) → IsLook m �
 look_rest c m new told look after =
     let Q : Waiting → Type 0 = Leaves c.out.rest in
     let k = rest_keeps c.out.rest in
-    look_keeps (OfOut Q) (out_keeps Q k) c m new told look refl
+    look_keeps (OfOut Q) (out_keeps Q k) (out_resizes Q k) c m new told look refl
     (λ s n. window_keeps (OfOut Q) (out_keeps Q k) c s n (out_grows Q k c s n refl)) after
 
 pub act_rest : (c : Core) (m : Move) (new : Core) (told : Found) → IsAct m → After c m new told → new.out.rest ≡ c.out.rest

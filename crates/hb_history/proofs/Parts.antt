@@ -75,8 +75,12 @@ pub record Keeps (P : Amid → Core → Type 0) : Type 0 where
       → P a (record c { flow = flow_after c.flow m })
   pub begins : (s : ℕ) (c : Core) (sides : Sides) (m : StreamMove) → c.streams.highest < s
       → after c.streams m ≡ begun c.streams s sides → P calm c → P calm (registered (record c { streams = begun c.streams s sides }) s)
-  pub resizes : (c : Core) (k : ℕ) → k ≤ largest
-      → ((n : ℕ) → Fits k (unbegun_on (unbegun c).stream (unbegun c).size n) (get c.flow.streams n)) → P calm c
-      → P calm (record c { flow = resized c.flow k })
   pub puts : (c : Core) (s : ℕ) (bytes : List ℕ) → P calm c → P calm (data_put c s bytes)
   pub faults : (a : Amid) (c : Core) (f : Flows) (code : ℕ) → P a c → P calm (faulted (record c { flow = f }) code).core
+
+-- and what a new initial size of windows keeps
+abbrev pub Resizes : (Amid → Core → Type 0) → Type 0
+Resizes P =
+    (c : Core) (k : ℕ) → k ≤ largest
+    → ((n : ℕ) → Fits k (unbegun_on (unbegun c).stream (unbegun c).size n) (get c.flow.streams n)) → P calm c
+    → P calm (record c { flow = resized c.flow k })

@@ -15,7 +15,7 @@ use Rattle.hb_conn.specs.Frames.{frame, sent}
 use Rattle.hb_conn.specs.Faults.{faulted, is_active}
 use Rattle.hb_conn.specs.Payload.{allowed, count_put}
 use Rattle.hb_conn.specs.declared.machine.Core.{Core}
-use Rattle.hb_history.proofs.Parts.{Amid, Keeps}
+use Rattle.hb_history.proofs.Parts.{Amid, Keeps, Resizes}
 use Rattle.hb_history.proofs.Handled.{Grows}
 
 waits_by : (n x : ℕ) (a b : Bool) → (cond (a && b) x 0 == 0) ≡ false → b ≡ true
@@ -68,10 +68,12 @@ module _ (Q : Waiting → Type 0) (k : KeepsOut Q) where
     leaves = λ s c none h. h;
     takes_in = λ a c m taking may h. h;
     begins = λ s c sides m above becomes h. h;
-    resizes = λ c n within fits h. h;
     puts = λ c s bytes h. put_by c s (count_put c s bytes) bytes (count_put c s bytes == 0) (nothing_waits c s bytes) h;
     faults = λ a c f code h. fault_keeps (record c { flow = f }) code h;
   }
+
+  pub out_resizes : Resizes (OfOut Q)
+  out_resizes c n within fits h = h
 
   pub out_grows : (c : Core) (s n : ℕ) → Q c.out → Grows (OfOut Q) c s n
   out_grows c s n h = record {
