@@ -53,6 +53,7 @@ use Rattle.hb_history.proofs.Payloads.{size_append, size_push, size_begun, no_si
 use Rattle.hb_history.proofs.Sums as sums
 use Rattle.hb_history.proofs.Sums.{Sums, Counts, Passes, SameSending, same_flows, still_passes, carried}
 use Rattle.hb_history.proofs.Grants as grants
+use Rattle.hb_history.proofs.Glanced.{window_is, no_window, is_window}
 
 abbrev pub Sent : Role → List RawFrame → List RawFrame → Amid → Core → Type 0
 Sent role frames begun a c =
@@ -251,51 +252,6 @@ module _ (role : Role) (frames begun : List RawFrame) where
       none_by : (get c.flow.streams f.stream ≡ None) ⊎ (is_active c.streams f.stream ≡ false) → c.over ≡ false → get c.flow.streams f.stream ≡ None
       none_by (inl none) still = none
       none_by (inr off) still = none_inactive role c h.1 still f.stream off
-
--- what a frame of the peer is glanced at
-
-abbrev glance_with : RawFrame → ℕ → Glance
-glance_with f k =
-    if k == 0 then glance.Data f.stream (length f.payload) (has_flag f 1)
-    else if k == 1 then glance.Headers f.stream (has_flag f 1) (has_flag f 4)
-    else if k == 3 then glance.Reset f.stream (four_at f.payload 0)
-    else if k == 9 then glance.Continuation f.stream (has_flag f 4)
-    else if k == 4 then glance.Settings (is_ack f)
-    else if k == 6 then glance.Ping (is_ack f) (four_at f.payload 0 * 4294967296 + four_at f.payload 4)
-    else if k == 7 then glance.GoAway (four_at f.payload 0 % 2147483648)
-    else if k == 8 then glance.Window f.stream (increment_of f)
-    else glance.Other
-
-window_is : (f : RawFrame) → (f.kind == window_update_kind) ≡ true → glance_at f ≡ glance.Window f.stream (increment_of f)
-window_is f test = let kind : f.kind ≡ 8 = grind (arith, nat_tests, test) in ap (glance_with f) kind
-
-abbrev is_window : Glance → Bool
-is_window (glance.Window s n) = true
-is_window _ = false
-
-no_window : (f : RawFrame) → (f.kind == window_update_kind) ≡ false → is_window (glance_at f) ≡ false
-no_window f test =
-    by (f.kind == 0) (f.kind == 1) (f.kind == 3) (f.kind == 9) (f.kind == 4) (f.kind == 6) (f.kind == 7) (f.kind == 8) test
-  where
-    by : (p q r s t u v w : Bool) → w ≡ false → is_window
-        (if p then glance.Data f.stream (length f.payload) (has_flag f 1)
-        else if q then glance.Headers f.stream (has_flag f 1) (has_flag f 4)
-        else if r then glance.Reset f.stream (four_at f.payload 0)
-        else if s then glance.Continuation f.stream (has_flag f 4)
-        else if t then glance.Settings (is_ack f)
-        else if u then glance.Ping (is_ack f) (four_at f.payload 0 * 4294967296 + four_at f.payload 4)
-        else if v then glance.GoAway (four_at f.payload 0 % 2147483648)
-        else if w then glance.Window f.stream (increment_of f)
-        else glance.Other) ≡ false
-    by true q r s t u v w off = refl
-    by false true r s t u v w off = refl
-    by false false true s t u v w off = refl
-    by false false false true t u v w off = refl
-    by false false false false true u v w off = refl
-    by false false false false false true v w off = refl
-    by false false false false false false true w off = refl
-    by false false false false false false false true off = absurd (false≢true (sym off))
-    by false false false false false false false false off = refl
 
 window_by : (role : Role) (frames begun : List RawFrame) (c : Core) (f : RawFrame) → (f.kind == window_update_kind) ≡ true
     → Sent role frames begun calm c → (b : Bool) (bytes : List ℕ) (new : Core) (told : Found)

@@ -19,3 +19,5 @@ pub mod Sums
 pub mod Grants
 pub mod Balanced
 pub mod Sent
+pub mod Initial
+pub mod Glanced

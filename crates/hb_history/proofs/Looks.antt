@@ -26,32 +26,8 @@ use Rattle.hb_history.specs.Points.{Move, got, refused, Point, point, After, Run
 use Rattle.hb_history.specs.Calls.{IsLook, IsAct}
 use Rattle.hb_history.proofs.Acted.{look_keeps, act_keeps}
 use Rattle.hb_history.proofs.Handled.{window_keeps}
+use Rattle.hb_history.proofs.Glanced.{something, is_nothing}
 use Rattle.hb_history.proofs.Shown.{OfOut, out_keeps, out_resizes, out_grows, rest_keeps}
-
--- a frame that stands there is glanced at
-abbrev is_nothing : Glance → Bool
-is_nothing glance.Nothing = true
-is_nothing _ = false
-
-something_by : (a b c d e f g h : Bool) (p q r s t u v w : Glance)
-    → is_nothing p ≡ false → is_nothing q ≡ false → is_nothing r ≡ false → is_nothing s ≡ false
-    → is_nothing t ≡ false → is_nothing u ≡ false → is_nothing v ≡ false → is_nothing w ≡ false
-    → is_nothing (cond a p (cond b q (cond c r (cond d s (cond e t (cond f u (cond g v (cond h w glance.Other)))))))) ≡ false
-something_by true b c d e f g h p q r s t u v w i j k l m n o x = i
-something_by false true c d e f g h p q r s t u v w i j k l m n o x = j
-something_by false false true d e f g h p q r s t u v w i j k l m n o x = k
-something_by false false false true e f g h p q r s t u v w i j k l m n o x = l
-something_by false false false false true f g h p q r s t u v w i j k l m n o x = m
-something_by false false false false false true g h p q r s t u v w i j k l m n o x = n
-something_by false false false false false false true h p q r s t u v w i j k l m n o x = o
-something_by false false false false false false false true p q r s t u v w i j k l m n o x = x
-something_by false false false false false false false false p q r s t u v w i j k l m n o x = refl
-
-something : (f : RawFrame) → is_nothing (glance_at f) ≡ false
-something f =
-    something_by (f.kind == data_kind) (f.kind == headers_kind) (f.kind == rst_stream_kind) (f.kind == continuation_kind)
-    (f.kind == settings_kind) (f.kind == ping_kind) (f.kind == goaway_kind) (f.kind == window_update_kind)
-    _ _ _ _ _ _ _ _ refl refl refl refl refl refl refl refl
 
 -- what a look does to what is held
 pub record Holds (old new : Reading) (frames : List RawFrame) : Type 0 where

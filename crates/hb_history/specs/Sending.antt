@@ -1,10 +1,10 @@
 -- The windows for what this end sends, as sums over the history (RFC 9113 sections 6.9 and 6.9.2).
-use Rattle.std.specs.Prelude.{◌≡◌, ℕ, ◌+◌, ◌<◌, ◌==◌, ◌&&◌, false, if◌then◌else◌, pos, ◌+ℤ◌, ◌≤ℤ◌, List, Some, None}
+use Rattle.std.specs.Prelude.{◌≡◌, ℕ, ◌+◌, ◌<◌, ◌==◌, ◌&&◌, not, false, fold, if◌then◌else◌, pos, ◌+ℤ◌, ◌≤ℤ◌, List, Some, None}
 use Rattle.std.specs.List.{sum_by}
 use Rattle.std.specs.FinMap.{get}
 use Rattle.hb_frames.specs.RawFrame.{RawFrame}
-use Rattle.hb_frames.specs.Numbers.{window_update_kind}
-use Rattle.hb_frames.specs.Refusals.{increment_of}
+use Rattle.hb_frames.specs.Numbers.{window_update_kind, settings_kind}
+use Rattle.hb_frames.specs.Refusals.{is_ack, increment_of, settings}
 use Rattle.hb_windows.specs.Sending.{largest}
 use Rattle.hb_streams.specs.declared.role.Role.{Role}
 use Rattle.hb_flow.specs.Windows.{Windows, first_size, counted}
@@ -15,6 +15,7 @@ use Rattle.hb_conn.specs.Connection.{Connection}
 use Rattle.hb_conn.specs.Faults.{regained}
 use Rattle.hb_conn.specs.Payload.{count_put, data_put}
 use Rattle.hb_conn.specs.Windows.{unbegun}
+use Rattle.hb_conn.specs.Numbers.{initial_window_size}
 use Rattle.hb_conn.specs.declared.machine.Core.{Core}
 use Rattle.hb_conn.specs.declared.found.Found.{Found}
 use Rattle.hb_history.specs.Points.{Point, frames_got}
@@ -68,3 +69,17 @@ abbrev pub NeverBelowZero : Type 0
 NeverBelowZero = (c : Core) (n : ℕ) (bytes : List ℕ) → 0 < count_put c n bytes
     → (pos 0 ≤ℤ (data_put c n bytes).flow.sending.held)
     × ((w : Windows) → get (data_put c n bytes).flow.streams n ≡ Some w → pos 0 ≤ℤ w.sending.held)
+
+-- the initial size of streams' windows that a setting leaves, and that a frame of the peer leaves: SETTINGS without ACK
+-- (RFC 9113 section 6.5.2)
+abbrev pub size_after : ℕ → ℕ × ℕ → ℕ
+size_after size s = if s.0 == initial_window_size then s.1 else size
+
+abbrev pub size_with : ℕ → RawFrame → ℕ
+size_with size f = if f.kind == settings_kind && not (is_ack f) then fold size_after size (settings f.payload) else size
+
+-- the peer's initial size of now is the last that it set, 65,535 before it set any
+abbrev pub InitialIsLast : Type 0
+InitialIsLast = (role : Role) (points : List Point) (given : List Found) (came written : List ℕ) (c : Connection)
+    → StandsFor role points given came written c → c.receiver.core.over ≡ false
+    → c.receiver.core.flow.initial ≡ fold size_with first_size (frames_got points)

@@ -4,7 +4,7 @@ ghost use Rattle.hb_history.specs.Calls.{Begins, TakeAdds, NextAdds, ActAdds, Wr
 ghost use Rattle.hb_history.specs.Waits.{DataStandsFirst};
 ghost use Rattle.hb_history.specs.Live.{LiveStreams, StreamsMove, WindowsMove};
 ghost use Rattle.hb_history.specs.Taking.{TakingIsWhole};
-ghost use Rattle.hb_history.specs.Sending.{ConnectionSends, StreamsSend, WindowsFit, AllIsGivenBack, NeverBelowZero};
+ghost use Rattle.hb_history.specs.Sending.{ConnectionSends, StreamsSend, WindowsFit, AllIsGivenBack, NeverBelowZero, InitialIsLast};
 
 /// A new connection stands for nothing yet, and each call adds to the history that a connection stands for: octets taken,
 /// frames looked at and what is told of them, acts of this end, octets written.
@@ -48,6 +48,7 @@ pub fn taking_windows_are_whole()
 pub fn sending_windows_are_sums()
     ensures connection { ConnectionSends }
     ensures streams { StreamsSend }
+    ensures initial { InitialIsLast }
     ensures within { WindowsFit }
     ensures back { AllIsGivenBack }
 {}
