@@ -21,3 +21,4 @@ pub mod Balanced
 pub mod Sent
 pub mod Initial
 pub mod Glanced
+pub mod Cuts

@@ -1,6 +1,7 @@
 -- What each call adds to the history of a connection.
-use Rattle.std.specs.Prelude.{⊤, ◌≡◌, ℕ, ◌≤◌, if◌then◌else◌, List, [], ◌∷◌, ◌++◌, length, take}
+use Rattle.std.specs.Prelude.{⊤, ◌⊎◌, ◌≡◌, ℕ, ◌≤◌, if◌then◌else◌, List, [], ◌∷◌, ◌++◌, length, take}
 use Rattle.std.specs.List.{flat_map}
+use Rattle.hb_frames.specs.RawFrame.{RawFrame}
 use Rattle.hb_frames.specs.Frames.{AreOctets}
 use Rattle.hb_streams.specs.declared.role.Role.{Role}
 use Rattle.hb_outgoing.specs.Waiting.{octets_of}
@@ -10,7 +11,7 @@ use Rattle.hb_conn.specs.Owing as owing
 use Rattle.hb_conn.specs.declared.machine.Core.{Core}
 use Rattle.hb_conn.specs.declared.found.Found.{Found}
 use Rattle.hb_conn.specs.declared.found.Found.TheVariants.{Silent}
-use Rattle.hb_history.specs.Points.{Move, got, refused, misbegan, wrote, Point, point, After, Runs}
+use Rattle.hb_history.specs.Points.{Move, got, refused, misbegan, wrote, Point, point, After, Runs, frames_got}
 use Rattle.hb_history.specs.History.{fresh, ends_in, StandsFor}
 
 -- what was found, where anything was
@@ -122,3 +123,14 @@ abbrev pub AnyCut : Type 0
 AnyCut = (role : Role) (points : List Point) (given others : List Found) (came others_came written others_written : List ℕ)
     (c d : Connection) → StandsFor role points given came written c → StandsFor role points others others_came others_written d
     → given ++ ends_in c.ended ≡ others ++ ends_in d.ended
+
+-- the first frames are the same
+abbrev pub IsFront : List RawFrame → List RawFrame → Type 0
+IsFront fs gs = (more : List RawFrame) × (gs ≡ fs ++ more)
+
+-- Where a connection took the octets of another one of its role, and maybe more, both looked at the same first frames, in
+-- whatever pieces octets came and whenever their callers asked; one may have looked at more of them
+abbrev pub SameFrames : Type 0
+SameFrames = (role : Role) (points others : List Point) (given told : List Found) (came more written out : List ℕ) (c d : Connection)
+    → StandsFor role points given came written c → StandsFor role others told (came ++ more) out d
+    → IsFront (frames_got points) (frames_got others) ⊎ IsFront (frames_got others) (frames_got points)

@@ -1,6 +1,6 @@
 //! Laws over every history of a connection. Each is the contract of a function that does nothing.
 
-ghost use Rattle.hb_history.specs.Calls.{Begins, TakeAdds, NextAdds, ActAdds, WriteAdds, CallsStand, AnyCut};
+ghost use Rattle.hb_history.specs.Calls.{Begins, TakeAdds, NextAdds, ActAdds, WriteAdds, CallsStand, AnyCut, SameFrames};
 ghost use Rattle.hb_history.specs.Waits.{DataStandsFirst};
 ghost use Rattle.hb_history.specs.Live.{LiveStreams, StreamsMove, WindowsMove};
 ghost use Rattle.hb_history.specs.Taking.{TakingIsWhole};
@@ -16,11 +16,12 @@ pub fn each_call_adds()
     ensures write { WriteAdds }
 {}
 
-/// After any calls a connection stands for a history. With the same points its callers were told the same, in whatever
-/// pieces octets came.
+/// After any calls a connection stands for a history. In whatever pieces octets came, the same first frames were looked at,
+/// and with the same points callers were told the same.
 pub fn any_calls()
     ensures stand { CallsStand }
     ensures cut { AnyCut }
+    ensures frames { SameFrames }
 {}
 
 /// At most one DATA frame with payload waits to be written, and nothing stands in front of it.
