@@ -1,7 +1,9 @@
-pub mod Points
-pub mod History
+pub mod Budget
 pub mod Calls
-pub mod Waits
+pub mod CatchUp
+pub mod History
 pub mod Live
-pub mod Taking
+pub mod Points
 pub mod Sending
+pub mod Taking
+pub mod Waits

@@ -58,3 +58,26 @@ pub fn sending_windows_are_sums()
 pub fn no_data_beyond_a_window()
     ensures { NeverBelowZero }
 {}
+
+ghost use Rattle.hb_history.specs.CatchUp.{LooksKeepUp, FindsKeepUp, CallsCatchUp};
+ghost use Rattle.hb_history.specs.Budget.{FindsWithin, TakesWithin, AnswersAreFew, NeverPauses};
+
+/// While the output has room for the largest frame that can be owed, nothing is owed, whatever the peer sends: of every
+/// connection that came of calls.
+pub fn nothing_is_owed_with_room()
+    ensures looks { LooksKeepUp }
+    ensures finds { FindsKeepUp }
+    ensures calls { CallsCatchUp }
+{}
+
+/// The answers to `n` octets that are taken take at most `3 * n + 64` octets of room.
+pub fn answers_are_few()
+    ensures finds { FindsWithin }
+    ensures takes { TakesWithin }
+    ensures all { AnswersAreFew }
+{}
+
+/// A caller that takes no more octets than a third of the room above 320 never waits for room with a frame in front.
+pub fn never_pauses()
+    ensures { NeverPauses }
+{}
