@@ -43,7 +43,8 @@ spans max n held more none some =
     (first_refusal (raw_at held)) (9 + size_at held) none))
     (cases_lt (length held) 9)
 
-behind_by : (max : ℕ) (held more : List ℕ) (found : Result (Option ℕ) Refusal) → first_of max held ≡ Ok None → first_of max (held ++ more) ≡ found
+behind_by : (max : ℕ) (held more : List ℕ) (found : Result (Option ℕ) Refusal) → first_of max held ≡ Ok None
+    → first_of max (held ++ more) ≡ found
     → most_by (length (held ++ more)) found ≤ 3 * length more + 26
 behind_by max held more (Ok None) none is = omega arith
 behind_by max held more (Err refusal) none is = omega arith

@@ -28,7 +28,8 @@ pub record Spends (old new : Receiver) : Type 0 where
   pub room : room_of old.core.out + most_of new.reader ≤ room_of new.core.out + most_of old.reader + goaway_of new.core
   pub caught : IsCaughtUp new.core
 
-bound_by : (r : Reading) (found : Result (Option ℕ) Refusal) → first_of r.max r.held ≡ found → most_by (length r.held) found ≤ 3 * length r.held
+bound_by : (r : Reading) (found : Result (Option ℕ) Refusal) → first_of r.max r.held ≡ found
+    → most_by (length r.held) found ≤ 3 * length r.held
 bound_by r (Ok None) is = omega arith
 bound_by r (Ok (Some n)) is = let t = first_some r.max n r.held is in omega (arith, t.size, t.whole)
 bound_by r (Err refusal) is = omega arith
@@ -42,13 +43,15 @@ step_by old new told (Ok None) is steps caught = absurd (steps.whole (ap (glance
 step_by old new told (Ok (Some n)) is steps caught =
     let there = goes old.core steps.goes in
     let clear = caught (omega (arith, there.room)) in
-    let cost = handles_cost (glance_of old.reader) old.core new.core _ told (in_range old.reader) steps.handled (omega (arith, there.room)) clear in
+    let cost = handles_cost (glance_of old.reader) old.core new.core _ told (in_range old.reader) steps.handled
+    (omega (arith, there.room)) clear in
     let held = ap (λ (r : Reading). length r.held) (steps.reader ∙ ap (after_frame old.reader) is) ∙ length-drop n old.reader.held in
     let before = ap (most_by (length old.reader.held)) is in
     record { room = omega (arith, cost.room, bound new.reader, held, before); caught = λ _. cost.clear }
 step_by old new told (Err refusal) is steps caught =
     let seen = ap (glance_by old.reader) is in
-    let cost = refusal_costs old.core new.core _ told refusal.code refusal.row (slice_index old.reader.held 3) (slice_index old.reader.held 4)
+    let cost = refusal_costs old.core new.core _ told refusal.code refusal.row (slice_index old.reader.held 3)
+    (slice_index old.reader.held 4)
     (subst (λ (g : Glance). Handles old.core g (asked old.reader).last new.core told) seen steps.handled) in
     let same = ap most_of (steps.reader ∙ ap (after_frame old.reader) is) in
     record { room = omega (arith, cost.room, same); caught = λ _. cost.clear }
@@ -92,7 +95,8 @@ ends_spend old new told (lacks goes none is silent) caught =
     subst (Spends old) (sym is) (record { room = omega (arith, asked_same old.reader none); caught = caught })
 ends_spend old new told (tells steps not_silent) caught = step_spends old new told steps caught
 
-ends_then : (old mid new : Receiver) (told : Found) (over : Bool) → mid.core.over ≡ over → Ends mid new told → Spends old mid → Spends mid new
+ends_then : (old mid new : Receiver) (told : Found) (over : Bool) → mid.core.over ≡ over → Ends mid new told → Spends old mid
+    → Spends mid new
     → Spends old new
 ends_then old mid new told false over ends one other = spends_then old mid new over one other
 ends_then old mid new told true over (waits paused is silent) one other = subst (Spends old) (sym is) one
@@ -102,9 +106,11 @@ ends_then old mid new told true over (tells steps not_silent) one other = never_
 receives_spend : (old new : Receiver) (told : Found) → Receives old new told → IsCaughtUp old.core → Spends old new
 receives_spend old new told receives caught =
     let one = passes_spend receives.through old receives.last receives.passes caught in
-    ends_then old receives.last new told receives.last.core.over refl receives.ends one (ends_spend receives.last new told receives.ends one.caught)
+    ends_then old receives.last new told receives.last.core.over refl receives.ends one
+    (ends_spend receives.last new told receives.ends one.caught)
 
-by_preface : (same : Bool) (c d : Connection) (told : Found) → FindsBy same c d told → IsCaughtUp c.receiver.core → Spends c.receiver d.receiver
+by_preface : (same : Bool) (c d : Connection) (told : Found) → FindsBy same c d told → IsCaughtUp c.receiver.core
+    → Spends c.receiver d.receiver
 by_preface true c d told finds caught = receives_spend c.receiver d.receiver told finds.0 caught
 by_preface false c d told finds caught =
     let cost = subst (Costs 0 c.receiver.core) (sym finds.0.0) (faulted_costs c.receiver.core protocol_error) in
@@ -114,15 +120,18 @@ by_preface false c d told finds caught =
 spends_same : (c d : Connection) → d.receiver ≡ c.receiver → IsCaughtUp c.receiver.core → Spends c.receiver d.receiver
 spends_same c d is caught = subst (Spends c.receiver) (sym is) (spends_none c.receiver caught)
 
-after_preface : (whole : Bool) (c d : Connection) (told : Found) → FindsAfter whole c d told → IsCaughtUp c.receiver.core → Spends c.receiver d.receiver
+after_preface : (whole : Bool) (c d : Connection) (told : Found) → FindsAfter whole c d told → IsCaughtUp c.receiver.core
+    → Spends c.receiver d.receiver
 after_preface true c d told finds caught = by_preface c.preface.same c d told finds caught
 after_preface false c d told finds caught = spends_same c d (ap (λ (k : Connection). k.receiver) finds.0) caught
 
-of_ended : (ended : Option ℕ) (c d : Connection) (told : Found) → FindsOf ended c d told → IsCaughtUp c.receiver.core → Spends c.receiver d.receiver
+of_ended : (ended : Option ℕ) (c d : Connection) (told : Found) → FindsOf ended c d told → IsCaughtUp c.receiver.core
+    → Spends c.receiver d.receiver
 of_ended (Some stream) c d told finds caught = spends_same c d (ap (λ (k : Connection). k.receiver) finds.0) caught
 of_ended None c d told finds caught = after_preface (is_whole c.preface) c d told finds caught
 
-while_goes : (paused : Bool) (c d : Connection) (told : Found) → FindsWhile paused c d told → IsCaughtUp c.receiver.core → Spends c.receiver d.receiver
+while_goes : (paused : Bool) (c d : Connection) (told : Found) → FindsWhile paused c d told → IsCaughtUp c.receiver.core
+    → Spends c.receiver d.receiver
 while_goes true c d told finds caught = spends_same c d (ap (λ (k : Connection). k.receiver) finds.0) caught
 while_goes false c d told finds caught = of_ended c.ended c d told finds caught
 

@@ -99,7 +99,8 @@ faulted_costs c code =
 
 pub released_lowers : (c : Core) (s : ℕ) → dues c.owed ≡ [] → Lowers 0 c (released c s)
 released_lowers c s clear =
-    lowers_by 0 (is_active c.streams s) c c _ (stays c c refl refl clear) (record { room = omega arith; clear = closed_owes c.owed s clear })
+    lowers_by 0 (is_active c.streams s) c c _ (stays c c refl refl clear)
+    (record { room = omega arith; clear = closed_owes c.owed s clear })
 
 -- an increment or an error code
 pub due_room : (b : Bool) (c : Core) (s : ℕ) (d : Due) → length (frame_of c.encoder s d).payload ≡ 4
@@ -111,7 +112,8 @@ credit_room : (c : Core) (s n : ℕ) → room_of c.out ≤ room_of (with_due c s
 unfolding with_due
 credit_room c s n = due_room (goes_at_once c s (due.Credit n)) c s (due.Credit n) refl
 
-pub update_lowers : (o : Option ℕ) (c : Core) (s : ℕ) → s ≤ largest → 30 ≤ room_of c.out → dues c.owed ≡ [] → Lowers 13 c (with_update c s o)
+pub update_lowers : (o : Option ℕ) (c : Core) (s : ℕ) → s ≤ largest → 30 ≤ room_of c.out → dues c.owed ≡ []
+    → Lowers 13 c (with_update c s o)
 update_lowers None c s number room clear = record { room = omega arith; clear = clear }
 update_lowers (Some n) c s number room clear =
     let left = credit_room c s n in

@@ -97,7 +97,8 @@ at_most : (s code : ℕ) (xs : List (ℕ × Due)) (ys : List Due) → xs ≡ on 
 at_most s code xs ys is (inl none) = inl (is ∙ ap (on s) none)
 at_most s code xs ys is (inr one) = inr (is ∙ ap (on s) one)
 
-reset_owes_by : (code : ℕ) (o : Option Debt) → dues_by o ≡ [] → (owes (with_reset code) o ≡ []) ⊎ (owes (with_reset code) o ≡ due.Reset code ∷ [])
+reset_owes_by : (code : ℕ) (o : Option Debt) → dues_by o ≡ []
+    → (owes (with_reset code) o ≡ []) ⊎ (owes (with_reset code) o ≡ due.Reset code ∷ [])
 reset_owes_by code None none = inl refl
 reset_owes_by code (Some d) none = let c = clear_parts d none in inr (rw c.status refl)
 
@@ -110,7 +111,8 @@ reset_here m s code none =
 pub reset_owes : (m : Debts) (s code : ℕ) → dues m ≡ [] → AtMost s code (dues (changed m s (with_reset code)))
 reset_owes m s code none =
     let n = changed m s (with_reset code) in
-    at_most s code (dues n) (dues_on n s) (alone m n s none (λ q apart. changed_elsewhere m s q (with_reset code) (get m s) apart)) (reset_here m s code none)
+    at_most s code (dues n) (dues_on n s) (alone m n s none (λ q apart. changed_elsewhere m s q (with_reset code) (get m s) apart))
+    (reset_here m s code none)
 
 shut_same : (o : Option Debt) → owes shut o ≡ dues_by o
 shut_same None = refl
@@ -126,7 +128,8 @@ pub closed_reset_owes : (m : Debts) (s code : ℕ) → dues m ≡ [] → AtMost 
 closed_reset_owes m s code none =
     let n = changed m s (with_reset code) in
     let shut_n = changed n s shut in
-    let elsewhere : (q : ℕ) → q ≢ s → get (closed n s) q ≡ get m q = λ q apart. settled_elsewhere n s q shut apart ∙ changed_elsewhere m s q (with_reset code) (get m s) apart in
+    let elsewhere : (q : ℕ) → q ≢ s → get (closed n s) q ≡ get m q =
+    λ q apart. settled_elsewhere n s q shut apart ∙ changed_elsewhere m s q (with_reset code) (get m s) apart in
     let here : dues_on shut_n s ≡ dues_on n s = changed_here n s shut (get n s) refl ∙ shut_same (get n s) in
     let same = settled_by (is_done_by (get shut_n s)) shut_n s in
     at_most s code (dues (closed n s)) (dues_on (closed n s) s) (alone m (closed n s) s none elsewhere)

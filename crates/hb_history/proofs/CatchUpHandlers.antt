@@ -97,7 +97,8 @@ data_costs : (c : Core) (s counted size : ℕ) (end : Bool) → s ≤ largest �
     → Costs 26 c (on_data c s counted size end).core
 data_costs c s counted size end number room clear =
     let put = used_lowers c counted clear in
-    let goes = data_answered_costs (answer_of c.streams data_kind s) (used c counted) s counted size end number (omega (arith, put.room, room)) put.clear in
+    let goes = data_answered_costs (answer_of c.streams data_kind s) (used c counted) s counted size end number
+    (omega (arith, put.room, room)) put.clear in
     told_by 26 (is_of_idle (answer_of c.streams data_kind s)) c _ _ (ends 26 c protocol_error)
     (told_by 26 (nat_lt c.flow.taking.granted counted) c _ _ (ends 26 c flow_control_error) (after 13 13 c (used c counted) _ put goes))
 
@@ -108,7 +109,8 @@ grows_costs c n clear =
     told_by 13 (int_lt (pos largest_window) (counted c.flow.sending (unbegun c).size +ℤ pos n)) c _ _ (ends 13 c flow_control_error)
     (costs 0 13 c _ (stays c _ refl refl clear) (omega arith))
 
-stream_grows_costs : (o : Option Windows) (c : Core) (s n : ℕ) → 30 ≤ room_of c.out → dues c.owed ≡ [] → Costs 13 c (stream_grows c s n o).core
+stream_grows_costs : (o : Option Windows) (c : Core) (s n : ℕ) → 30 ≤ room_of c.out → dues c.owed ≡ []
+    → Costs 13 c (stream_grows c s n o).core
 stream_grows_costs None c s n room clear = quiet 13 c clear
 stream_grows_costs (Some w) c s n room clear =
     told_by 13 (int_lt (pos largest_window) (counted w.sending (unbegun_on (unbegun c).stream (unbegun c).size s) +ℤ pos n)) c _ _
@@ -139,7 +141,8 @@ reset_answered_costs (Ok step.Ignored) c s code room clear = quiet 13 c clear
 
 ping_len : (value : ℕ) → length (ping_ack value).payload ≡ 8
 ping_len value =
-    length-append (word (value / 4294967296)) (word (value % 4294967296)) ∙ rw (word_len (value / 4294967296), word_len (value % 4294967296)) refl
+    length-append (word (value / 4294967296)) (word (value % 4294967296))
+    ∙ rw (word_len (value / 4294967296), word_len (value % 4294967296)) refl
 
 ping_costs : (c : Core) (ack : Bool) (value : ℕ) → dues c.owed ≡ [] → Costs 17 c (on_ping c ack value).core
 ping_costs c ack value clear =
@@ -183,20 +186,24 @@ all_same (s ∷ pairs) c new fits (mid, ok, one, later) =
 applied_costs : (fits : Bool) (c mid : Core) → Same c mid → dues c.owed ≡ [] → Costs 9 c (applied mid fits).core
 applied_costs true c mid same clear =
     let before = stays c mid same.0 same.1 clear in
-    after 0 9 c mid _ before (costs 9 9 mid _ (let put = sent_lowers (record mid { settled = true }) settings_ack 0 refl before.clear in record { room = put.room; clear = put.clear }) (omega arith))
+    let put = sent_lowers (record mid { settled = true }) settings_ack 0 refl before.clear in
+    after 0 9 c mid _ before (costs 9 9 mid _ (record { room = put.room; clear = put.clear }) (omega arith))
 applied_costs false c mid same clear = after 0 9 c mid _ (stays c mid same.0 same.1 clear) (ends 9 mid flow_control_error)
 
 given : (most : ℕ) (c new : Core) (told : Found) (o : Outcome) → Gives o new told → Costs most c o.core → Costs most c new
 given most c new told o gives cost = subst (Costs most c) (sym gives.0) cost
 
-settles_costs : (pushes : Bool) (c new : Core) (pairs : List (ℕ × ℕ)) (told : Found) → SettlesBy pushes c pairs new told → dues c.owed ≡ [] → Costs 9 c new
+settles_costs : (pushes : Bool) (c new : Core) (pairs : List (ℕ × ℕ)) (told : Found) → SettlesBy pushes c pairs new told
+    → dues c.owed ≡ [] → Costs 9 c new
 settles_costs true c new pairs told settles clear = given 9 c new told _ settles (ends 9 c protocol_error)
 settles_costs false c new pairs told (mid, fits, all, gives) clear =
     given 9 c new told _ gives (applied_costs fits c mid (all_same pairs c mid fits all) clear)
 
-settings_costs : (ack : Bool) (c new : Core) (payload : List ℕ) (told : Found) → DoesSettings ack c payload new told → dues c.owed ≡ [] → Costs 9 c new
+settings_costs : (ack : Bool) (c new : Core) (payload : List ℕ) (told : Found) → DoesSettings ack c payload new told → dues c.owed ≡ []
+    → Costs 9 c new
 settings_costs true c new payload told does clear = given 9 c new told _ does (quiet 9 c clear)
-settings_costs false c new payload told does clear = settles_costs (allows_push c.streams.role (settings payload)) c new (settings payload) told does clear
+settings_costs false c new payload told does clear = settles_costs (allows_push c.streams.role (settings payload)) c new
+    (settings payload) told does clear
 
 -- HEADERS and CONTINUATION
 
@@ -211,13 +218,15 @@ headers_costs (Ok step.Ignored) c s end room clear = quiet 13 c clear
 headers_costs (Err fault) c s end room clear =
     let cost = refused_costs (headed c s end) fault room clear in record { room = cost.room; clear = cost.clear }
 
-block_costs : (told : Result (Option Whole) BlockFault) (c : Core) → 30 ≤ room_of c.out → dues c.owed ≡ [] → Costs 13 c (block_told c told).core
+block_costs : (told : Result (Option Whole) BlockFault) (c : Core) → 30 ≤ room_of c.out → dues c.owed ≡ []
+    → Costs 13 c (block_told c told).core
 block_costs (Ok None) c room clear = quiet 13 c clear
 block_costs (Ok (Some whole)) c room clear =
     headers_costs (answer_of c.streams headers_kind whole.stream) c whole.stream whole.end_stream room clear
 block_costs (Err fault) c room clear = ends 13 c (code_of fault)
 
-assembly_costs : (progress : Progress) (c new : Core) (told : Found) → DoesBlock progress c new told → 30 ≤ room_of c.out → dues c.owed ≡ [] → Costs 13 c new
+assembly_costs : (progress : Progress) (c new : Core) (told : Found) → DoesBlock progress c new told → 30 ≤ room_of c.out
+    → dues c.owed ≡ [] → Costs 13 c new
 assembly_costs progress c new told (blocks, answer, makes, gives) room clear =
     let cost = block_costs answer (record c { blocks = blocks }) room clear in
     given 13 c new told _ gives (record { room = cost.room; clear = cost.clear })
@@ -233,7 +242,8 @@ answers_cost (Headers s end whole) c new bytes told number answers room clear =
 answers_cost (Reset s code) c new bytes told number answers room clear =
     given 26 c new told _ answers
     (more 13 26 c _ (reset_answered_costs (answer_of c.streams rst_stream_kind s) c s code (omega (arith, room)) clear) (omega arith))
-answers_cost (Settings ack) c new bytes told number answers room clear = more 9 26 c new (settings_costs ack c new bytes told answers clear) (omega arith)
+answers_cost (Settings ack) c new bytes told number answers room clear = more 9 26 c new
+    (settings_costs ack c new bytes told answers clear) (omega arith)
 answers_cost (Ping ack value) c new bytes told number answers room clear =
     given 26 c new told _ answers (more 17 26 c _ (ping_costs c ack value clear) (omega arith))
 answers_cost (GoAway last) c new bytes told number answers room clear = given 26 c new told _ answers (quiet 26 c clear)
@@ -251,7 +261,8 @@ handles_by true g c new bytes told number handles room clear = given 26 c new to
 handles_by false g c new bytes told number handles room clear = answers_cost g c new bytes told number handles room clear
 
 -- the answer to a frame takes 26 octets at most, but for a GOAWAY
-pub handles_cost : (g : Glance) (c new : Core) (bytes : List ℕ) (told : Found) → IsInRange g → Handles c g bytes new told → 60 ≤ room_of c.out
+pub handles_cost : (g : Glance) (c new : Core) (bytes : List ℕ) (told : Found) → IsInRange g → Handles c g bytes new told
+    → 60 ≤ room_of c.out
     → dues c.owed ≡ [] → Costs 26 c new
 handles_cost g c new bytes told number handles room clear = handles_by (is_misplaced c g) g c new bytes told number handles room clear
 

@@ -53,7 +53,8 @@ reset_by true c s code clear =
 reset_by false c s code clear =
     let later = put_later c s (due.Reset code) in
     let out = ap room_of (released_out (is_active c.streams s) later s) in
-    let owes = released_owes (is_active c.streams s) later s code (reset_owes c.owed s code clear) (closed_reset_owes c.owed s code clear) in
+    let owes = released_owes (is_active c.streams s) later s code (reset_owes c.owed s code clear)
+    (closed_reset_owes c.owed s code clear) in
     let paid = one_paid (released later s) s code owes in
     omega (arith, out, paid)
 
