@@ -5,6 +5,8 @@ ghost use Rattle.hb_history.specs.Waits.{DataStandsFirst};
 ghost use Rattle.hb_history.specs.Live.{LiveStreams, StreamsMove, WindowsMove};
 ghost use Rattle.hb_history.specs.Taking.{TakingIsWhole};
 ghost use Rattle.hb_history.specs.Sending.{ConnectionSends, StreamsSend, WindowsFit, AllIsGivenBack, NeverBelowZero, InitialIsLast};
+ghost use Rattle.hb_history.specs.CatchUp.{LooksKeepUp, FindsKeepUp, CallsCatchUp};
+ghost use Rattle.hb_history.specs.Budget.{FindsWithin, TakesWithin, AnswersAreFew, NeverPauses};
 
 /// A new connection stands for nothing yet, and each call adds to the history that a connection stands for: octets taken,
 /// frames looked at and what is told of them, acts of this end, octets written.
@@ -58,9 +60,6 @@ pub fn sending_windows_are_sums()
 pub fn no_data_beyond_a_window()
     ensures { NeverBelowZero }
 {}
-
-ghost use Rattle.hb_history.specs.CatchUp.{LooksKeepUp, FindsKeepUp, CallsCatchUp};
-ghost use Rattle.hb_history.specs.Budget.{FindsWithin, TakesWithin, AnswersAreFew, NeverPauses};
 
 /// While the output has room for the largest frame that can be owed, nothing is owed, whatever the peer sends: of every
 /// connection that came of calls.
