@@ -277,7 +277,8 @@ write_adds role points given came written c n within stands =
     let core = owing.wrote old n in
     let after : After old (wrote n) core Silent = (within, (refl, refl)) in
     let shown = (write_begins (opening role) written stands.begun old.out n within stands.shows).0 in
-    goes_on role points given came written c stands (p ∷ []) (begun_by n old.out) given (written ++ take n (octets_of old.out)) (with_core c core)
+    goes_on role points given came written c stands (p ∷ []) (begun_by n old.out) given (written ++ take n (octets_of old.out))
+    (with_core c core)
     (runs_one p old core after) (begins_one p old core (begun_by n old.out) refl after)
     (ap (λ (xs : List ℕ). (written ++ take n (octets_of old.out)) ++ xs) (written_rest old n) ∙ shown)
     (held_same c.receiver.reader c.receiver.reader refl) refl

@@ -1,5 +1,5 @@
 -- Sending windows as sums, move after move.
-use Rattle.std.proofs.Common.{◌≡◌, ◌≢◌, ◌⊎◌, inl, inr, ℕ, ◌+◌, ◌-◌, ◌*◌, ◌≤◌, ◌==◌, ◌%◌, if◌then◌else◌, ◌&&◌, ◌||◌, Bool, true, false, cond, pos, ◌+ℤ◌, ◌≤ℤ◌, List, [], ◌∷◌, ◌++◌, length, take, Option, Some, None, is_some, refl, ap, sym, ◌∙◌, subst, arith}
+use Rattle.std.proofs.Common.{◌≡◌, ◌≢◌, ◌⊎◌, inl, inr, ℕ, ◌-◌, ◌≤◌, ◌==◌, ◌&&◌, ◌||◌, Bool, true, false, cond, pos, ◌+ℤ◌, ◌≤ℤ◌, List, [], ◌∷◌, ◌++◌, length, take, Option, Some, None, is_some, refl, ap, sym, ◌∙◌, subst, arith}
 use Rattle.std.specs.Prelude.{min, nat_lt, nat_le}
 use Rattle.std.specs.FinMap.{get}
 use Rattle.std.proofs.lemmas.Bool.{false≢true}
@@ -7,8 +7,7 @@ use Rattle.std.proofs.lemmas.Bool.Decides.{nat_tests}
 use Rattle.std.proofs.lemmas.List.{append_assoc, append-nil, length-take-le}
 use Rattle.hb_frames.specs.RawFrame.{RawFrame}
 use Rattle.hb_frames.specs.Numbers.{window_update_kind}
-use Rattle.hb_frames.specs.Octets.{four_at}
-use Rattle.hb_frames.specs.Refusals.{is_ack, increment_of}
+use Rattle.hb_frames.specs.Refusals.{increment_of}
 use Rattle.hb_frames.specs.Bodies.{lent_of}
 use Rattle.hb_windows.specs.Sending.{largest}
 use Rattle.hb_streams.specs.Numbers.{is_even}
@@ -30,7 +29,7 @@ use Rattle.hb_owed.specs.Debts.{closed as owed_closed}
 use Rattle.hb_conn.specs.Numbers.{data_kind, protocol_error}
 use Rattle.hb_conn.specs.Frames.{frame, sent}
 use Rattle.hb_conn.specs.Faults.{faulted, is_active}
-use Rattle.hb_conn.specs.Glance.{glance_at, has_flag}
+use Rattle.hb_conn.specs.Glance.{glance_at}
 use Rattle.hb_conn.specs.Handling.{Handles, HandlesBy}
 use Rattle.hb_conn.specs.Payload.{allowed, count_put}
 use Rattle.hb_conn.specs.Places.{is_misplaced}
@@ -139,7 +138,8 @@ module _ (role : Role) (frames begun : List RawFrame) where
       (sums.closed_same c.flow s) (omega arith) (h still)
 
   put_by : (c : Core) (s : ℕ) (bytes : List ℕ) → Sent role frames begun calm c → (b : Bool) → (count_put c s bytes == 0) ≡ b
-      → let d = cond b c (sent (record c { flow = spent c.flow s (count_put c s bytes) }) (frame data_kind 0 s (take (count_put c s bytes) bytes))) in
+      → let d = cond b c (sent (record c { flow = spent c.flow s (count_put c s bytes) })
+      (frame data_kind 0 s (take (count_put c s bytes) bytes))) in
       d.over ≡ false → Sums frames begun calm d.flow d.out.queue d.streams.highest
   put_by c s bytes h true is still = h.2 still
   put_by c s bytes h false is still =
@@ -168,13 +168,15 @@ module _ (role : Role) (frames begun : List RawFrame) where
           first.sends a c f none h.0,
           lives.sends a c f none h.1,
           λ still. carried frames frames (λ n. refl) begun c.out.queue begun (c.out.queue ++ f ∷ []) a a c.flow c.flow
-              c.streams.highest c.streams.highest (push_passes begun c.out.queue f none) (λ n u. u) (same_flows c.flow) (omega arith) (h.2 still),
+              c.streams.highest c.streams.highest (push_passes begun c.out.queue f none) (λ n u. u) (same_flows c.flow) (omega arith)
+              (h.2 still),
         );
         owes = λ a c m keeps h. (h.0, lives.owes a c m keeps h.1, h.2);
         moves = λ b s c t on h. (
           h.0,
           lives.moves b s c t on h.1,
-          λ still. still_sums frames begun c.out.queue (amid b s) (amid b s) c.flow c.flow c.streams.highest t.highest (λ n u. u) (same_flows c.flow)
+          λ still. still_sums frames begun c.out.queue (amid b s) (amid b s) c.flow c.flow c.streams.highest t.highest (λ n u. u)
+              (same_flows c.flow)
               (subst (λ (u : States). c.streams.highest ≤ u.highest) (sym on.is) (highest_stays c.streams on.move)) (h.2 still),
         );
         withdraws = λ s c h. (
@@ -200,7 +202,12 @@ module _ (role : Role) (frames begun : List RawFrame) where
           λ still. sums.opened_sums frames begun c.out.queue c.flow c.streams.highest s above (h.2 still),
         );
         puts = λ c s bytes h. (first.puts c s bytes h.0, lives.puts c s bytes h.1, put_by c s bytes h (count_put c s bytes == 0) refl);
-        faults = λ a c f code h. (first.faults a c f code h.0, lives.faults a c f code h.1, λ still. no_sum (record c { flow = f }) code _ still);
+        faults = λ a c f code h. (
+          first.faults a c f code h.0,
+          lives.faults a c f code h.1,
+          λ still. no_sum
+              (record c { flow = f }) code _ still,
+        );
       }
 
   pub sent_resizes : Resizes (Sent role frames begun)
@@ -223,14 +230,16 @@ module _ (role : Role) (frames begun : List RawFrame) where
           first.whole zero fits,
           lives.whole zero fits,
           λ still. grants.whole_granted frames begun c.out.queue c.flow c.streams.highest f kind zero (none_at_zero role c h.1 still)
-              (subst (λ q. ((c.flow.sending.held +ℤ pos q) +ℤ pos (increment_of f)) ≤ℤ pos largest) (sym (all_of c h.0).whole) fits) (h.2 still),
+              (subst (λ q. ((c.flow.sending.held +ℤ pos q) +ℤ pos (increment_of f)) ≤ℤ pos largest) (sym (all_of c h.0).whole) fits)
+              (h.2 still),
         );
         one = λ some w is fits. (
           first.one some w is fits,
           lives.one some w is fits,
           λ still. grants.one_granted frames begun c.out.queue c.flow c.streams.highest f kind (not_zero some)
               (low role c h.1 still f.stream (ap is_some is)) w is
-              (subst (λ q. ((w.sending.held +ℤ pos q) +ℤ pos (increment_of f)) ≤ℤ pos largest) (sym ((all_of c h.0).one f.stream)) fits) (h.2 still),
+              (subst (λ q. ((w.sending.held +ℤ pos q) +ℤ pos (increment_of f)) ≤ℤ pos largest) (sym ((all_of c h.0).one f.stream)) fits)
+              (h.2 still),
         );
         broken = λ some live. (
           first.broken some live,
@@ -249,7 +258,8 @@ module _ (role : Role) (frames begun : List RawFrame) where
       not_zero : (f.stream == 0) ≡ false → f.stream ≢ 0
       not_zero some zero = absurd (false≢true (sym some ∙ grind (arith, nat_tests, zero)))
 
-      none_by : (get c.flow.streams f.stream ≡ None) ⊎ (is_active c.streams f.stream ≡ false) → c.over ≡ false → get c.flow.streams f.stream ≡ None
+      none_by : (get c.flow.streams f.stream ≡ None) ⊎ (is_active c.streams f.stream ≡ false) → c.over ≡ false
+          → get c.flow.streams f.stream ≡ None
       none_by (inl none) still = none
       none_by (inr off) still = none_inactive role c h.1 still f.stream off
 
@@ -319,13 +329,16 @@ moves role frames begun c (refused r kind flags) new told h is =
     no_more role frames begun new
     (handles_keep (Sent role frames begun) (sent_keeps role frames begun) c (glance.Refused r.code r.row kind flags) [] new told h
     (λ s n e. absurd (false≢true (ap is_window e)))
-    (λ ack e does. settings_keep (Sent role frames begun) (sent_keeps role frames begun) (sent_resizes role frames begun) ack c [] new told h does)
+    (λ ack e does. settings_keep (Sent role frames begun) (sent_keeps role frames begun)
+    (sent_resizes role frames begun) ack c [] new told h does)
     is.1)
 moves role frames begun c misbegan new told h is =
     no_more role frames begun new
-    (subst (Sent role frames begun calm) (sym is.1.0) (kept.faulted_keeps (Sent role frames begun) (sent_keeps role frames begun) calm c protocol_error h))
+    (subst (Sent role frames begun calm) (sym is.1.0)
+    (kept.faulted_keeps (Sent role frames begun) (sent_keeps role frames begun) calm c protocol_error h))
 moves role frames begun c (opened s headers end) new told h is =
-    no_more role frames begun new (act_keeps (Sent role frames begun) (sent_keeps role frames begun) c (opened s headers end) new told tt h is)
+    no_more role frames begun new (act_keeps (Sent role frames begun) (sent_keeps role frames begun) c
+    (opened s headers end) new told tt h is)
 moves role frames begun c (answered s status) new told h is =
     no_more role frames begun new (act_keeps (Sent role frames begun) (sent_keeps role frames begun) c (answered s status) new told tt h is)
 moves role frames begun c (ended s) new told h is =
@@ -347,10 +360,12 @@ pub runs : (role : Role) (points : List Point) (frames begun begins : List RawFr
     → RunsWith c points begins new → Sent role (frames ++ frames_got points) (begun ++ begins) calm new
 runs role [] frames begun begins c new h is =
     subst (λ (fs : List RawFrame). Sent role fs (begun ++ begins) calm new) (sym (append-nil frames))
-    (subst (λ (fs : List RawFrame). Sent role frames fs calm new) (sym (append-nil begun) ∙ ap (λ (fs : List RawFrame). begun ++ fs) (sym is.1))
+    (subst (λ (fs : List RawFrame). Sent role frames fs calm new)
+    (sym (append-nil begun) ∙ ap (λ (fs : List RawFrame). begun ++ fs) (sym is.1))
     (subst (Sent role frames begun calm) (sym is.0) h))
 runs role (p ∷ ps) frames begun begins c new h is =
     subst (λ (fs : List RawFrame). Sent role fs (begun ++ begins) calm new) (append_assoc frames (got_by p) (frames_got ps))
     (subst (λ (fs : List RawFrame). Sent role ((frames ++ got_by p) ++ frames_got ps) fs calm new)
     (append_assoc begun (begins_by c p.move) is.2 ∙ ap (λ (fs : List RawFrame). begun ++ fs) (sym is.3))
-    (runs role ps (frames ++ got_by p) (begun ++ begins_by c p.move) is.2 is.0 new (moves role frames begun c p.move is.0 p.told h is.1) is.4))
+    (runs role ps (frames ++ got_by p) (begun ++ begins_by c p.move) is.2 is.0 new
+    (moves role frames begun c p.move is.0 p.told h is.1) is.4))

@@ -15,7 +15,8 @@ use Rattle.hb_history.proofs.Fed.{take_adds}
 use Rattle.hb_history.proofs.Adds.{next_adds, act_adds, write_adds}
 
 same_stands : (role : Role) (points : List Point) (given told : List Found) (came more written out : List ℕ) (c d : Connection)
-    → given ≡ told → came ≡ more → written ≡ out → c ≡ d → StandsFor role points given came written c → StandsFor role points told more out d
+    → given ≡ told → came ≡ more → written ≡ out → c ≡ d → StandsFor role points given came written c
+    → StandsFor role points told more out d
 same_stands role points given told came more written out c d g t w is stands =
     subst (λ (x : Connection). StandsFor role points told more out x) is
     (subst (λ (xs : List ℕ). StandsFor role points told more xs c) w

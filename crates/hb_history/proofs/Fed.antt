@@ -100,7 +100,8 @@ module _ (role : Role) (before piece : List ℕ) (c : Connection) where
 same_server : (before piece : List ℕ) (c : Connection) → Counts Server before piece c
     → c.preface.same ≡ pointwise ◌==◌ (front_of Server before) (take (length (front_of Server before)) octets)
     → (fed c.preface (P Server before piece c)).same
-    ≡ pointwise ◌==◌ (front_of Server (before ++ P Server before piece c)) (take (length (front_of Server (before ++ P Server before piece c))) octets)
+    ≡ pointwise ◌==◌ (front_of Server (before ++ P Server before piece c))
+    (take (length (front_of Server (before ++ P Server before piece c))) octets)
 same_server before piece c counts same =
     let xs = take (count_of c piece) piece in
     let k = taken_of c.preface xs in
@@ -133,11 +134,13 @@ same_client before piece c counts same =
 same_is : (role : Role) (before piece : List ℕ) (c : Connection) → Counts role before piece c
     → c.preface.same ≡ pointwise ◌==◌ (front_of role before) (take (length (front_of role before)) (awaited role))
     → (fed c.preface (P role before piece c)).same
-    ≡ pointwise ◌==◌ (front_of role (before ++ P role before piece c)) (take (length (front_of role (before ++ P role before piece c))) (awaited role))
+    ≡ pointwise ◌==◌ (front_of role (before ++ P role before piece c))
+    (take (length (front_of role (before ++ P role before piece c))) (awaited role))
 same_is Server before piece c counts same = same_server before piece c counts same
 same_is Client before piece c counts same = same_client before piece c counts same
 
-pub came_adds : (role : Role) (frames : List RawFrame) (before piece : List ℕ) (c : Connection) → AreOctets piece → Came role frames before c
+pub came_adds : (role : Role) (frames : List RawFrame) (before piece : List ℕ) (c : Connection) → AreOctets piece
+    → Came role frames before c
     → Came role frames (before ++ take (count_of c piece) piece) (taken c piece)
 came_adds role frames before piece c new came = record {
   are_octets = octets_append before (take (count_of c piece) piece) came.are_octets (octets_take (count_of c piece) piece new);

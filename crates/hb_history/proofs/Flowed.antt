@@ -110,7 +110,8 @@ flow_new Client = λ still. ([], refl, tt)
 
 pub windows_move : WindowsMove
 windows_move role points given came written c stands still =
-    runs_keep Flow flow_keeps flow_resizes (λ d s n h. flow_grows d s n h) (λ d n within h. h) points (fresh role).receiver.core c.receiver.core
+    runs_keep Flow flow_keeps flow_resizes (λ d s n h. flow_grows d s n h) (λ d n within h. h) points
+    (fresh role).receiver.core c.receiver.core
     (flow_new role) stands.runs still
 
 pub taking_is_whole : TakingIsWhole

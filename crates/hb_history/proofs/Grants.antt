@@ -17,7 +17,8 @@ use Rattle.hb_history.proofs.Parts.{calm, gone}
 use Rattle.hb_history.proofs.Sums.{Adds, One, Idle, Sums}
 
 -- one more frame of the peer
-pub granted_more : (n : ℕ) (frames : List RawFrame) (f : RawFrame) → increments n (frames ++ f ∷ []) ≡ increments n frames + increment_on n f
+pub granted_more : (n : ℕ) (frames : List RawFrame) (f : RawFrame)
+    → increments n (frames ++ f ∷ []) ≡ increments n frames + increment_on n f
 granted_more n frames f = sum_by_push (increment_on n) frames f
 
 -- a frame that is no WINDOW_UPDATE grants nothing
@@ -27,7 +28,8 @@ grants_nothing n frames f other =
     let none : increment_on n f ≡ 0 = ap (λ b. cond (b && (f.stream == n)) (increment_of f) 0) other in
     omega (arith, granted_more n frames f, none)
 
-module _ (frames begun queue : List RawFrame) (flow : Flows) (highest : ℕ) (f : RawFrame) (kind : (f.kind == window_update_kind) ≡ true) where
+module _ (frames begun queue : List RawFrame) (flow : Flows) (highest : ℕ) (f : RawFrame)
+    (kind : (f.kind == window_update_kind) ≡ true) where
   abbrev s : ℕ
   s = f.stream
 
@@ -43,7 +45,8 @@ module _ (frames begun queue : List RawFrame) (flow : Flows) (highest : ℕ) (f 
   elsewhere : (m : ℕ) → m ≢ s → increments m (frames ++ f ∷ []) ≡ increments m frames
   elsewhere m apart =
       let off : increment_on m f ≡ 0 =
-      ap (λ b. cond (b && (f.stream == m)) (increment_of f) 0) kind ∙ ap (λ b. cond b (increment_of f) 0) (ne_eqb f.stream m (λ e. apart (sym e))) in
+      ap (λ b. cond (b && (f.stream == m)) (increment_of f) 0) kind
+      ∙ ap (λ b. cond b (increment_of f) 0) (ne_eqb f.stream m (λ e. apart (sym e))) in
       omega (arith, granted_more m frames f, off)
 
   grown : (held : ℤ) (q b first g h k : ℕ) → h ≡ g + k → Adds held q b first g → Adds (held +ℤ pos k) q b first h
@@ -94,7 +97,8 @@ module _ (frames begun queue : List RawFrame) (flow : Flows) (highest : ℕ) (f 
         let v = was flow s grow m x there in
         subst (λ i. One x.sending (data_size (Some m) queue) (data_size (Some m) begun) i (increments m (frames ++ f ∷ [])))
         (sym (still_initial flow s grow))
-        (subst (λ (y : Windows). One y.sending (data_size (Some m) queue) (data_size (Some m) begun) flow.initial (increments m (frames ++ f ∷ [])))
+        (subst (λ (y : Windows). One y.sending (data_size (Some m) queue) (data_size (Some m) begun) flow.initial
+        (increments m (frames ++ f ∷ [])))
         (sym v.2) (by m v.0 v.1 (sums.one m v.0 tt v.1) (cases_eq m s)));
     idle = λ m above. let off : m ≢ s = (λ e. omega arith) in same_idle m off (sums.idle m above);
   }
@@ -104,7 +108,8 @@ module _ (frames begun queue : List RawFrame) (flow : Flows) (highest : ℕ) (f 
 
       by : (m : ℕ) (v : Windows) → get flow.streams m ≡ Some v
           → One v.sending (data_size (Some m) queue) (data_size (Some m) begun) flow.initial (increments m frames) → (m ≡ s) ⊎ (m ≢ s)
-          → One (cond (m == s) (grow v) v).sending (data_size (Some m) queue) (data_size (Some m) begun) flow.initial (increments m (frames ++ f ∷ []))
+          → One (cond (m == s) (grow v) v).sending (data_size (Some m) queue) (data_size (Some m) begun) flow.initial
+          (increments m (frames ++ f ∷ []))
       by m v there old (inl same) =
           let held : w ≡ v = same_some v w (sym there ∙ ap (get flow.streams) same ∙ is) in
           subst (λ b. One (cond b (grow v) v).sending (data_size (Some m) queue) (data_size (Some m) begun) flow.initial
@@ -120,7 +125,8 @@ module _ (frames begun queue : List RawFrame) (flow : Flows) (highest : ℕ) (f 
           (increments m (frames ++ f ∷ []))) (sym (ne_eqb m s apart)) (same_one m v.sending apart old)
 
   -- on a stream that is broken for it
-  pub gone_granted : s ≢ 0 → s ≤ highest → Sums frames begun calm flow queue highest → Sums (frames ++ f ∷ []) begun (gone s) flow queue highest
+  pub gone_granted : s ≢ 0 → s ≤ highest → Sums frames begun calm flow queue highest
+      → Sums (frames ++ f ∷ []) begun (gone s) flow queue highest
   gone_granted some low sums = record {
     first = sums.first;
     whole = untouched some sums.whole;

@@ -84,7 +84,8 @@ module _ (P : Amid → Core → Type 0) (k : Keeps P) where
       let less : n - size ≤ n = omega arith in
       k.takes_in calm (record c { flow = took_on c.flow s n }) (owes_on s (n - size)) refl
       (data_is_kept c.flow (took_on c.flow s n) s n (n - size) takes less)
-      (k.takes_in calm c (takes_on s n) refl (subst (λ (o : Option Windows). IfSome o (λ (v : Windows). n ≤ v.taking.granted)) (sym is) within) h)
+      (k.takes_in calm c (takes_on s n) refl
+      (subst (λ (o : Option Windows). IfSome o (λ (v : Windows). n ≤ v.taking.granted)) (sym is) within) h)
 
   goes_by : (c : Core) (s n size : ℕ) (end : Bool) (o : Option Windows) → get c.flow.streams s ≡ o → P calm c
       → P calm (data_goes c s n size end o).core
@@ -104,14 +105,16 @@ module _ (P : Amid → Core → Type 0) (k : Keeps P) where
   answered_keeps c s n size end (Err fault) h = kept.refused_keeps P k c fault (λ q. k.ends q c h)
 
   data_by : (c : Core) (s n size : ℕ) (end : Bool) (a b : Bool) → nat_lt c.flow.taking.granted n ≡ b → P calm c
-      → P calm (cond a (faulted c protocol_error) (cond b (faulted c 3) (data_answered (used c n) s n size end (answer_of c.streams data_kind s)))).core
+      → P calm (cond a (faulted c protocol_error)
+      (cond b (faulted c 3) (data_answered (used c n) s n size end (answer_of c.streams data_kind s)))).core
   data_by c s n size end true b test h = kept.faulted_keeps P k calm c protocol_error h
   data_by c s n size end false true test h = kept.faulted_keeps P k calm c 3 h
   data_by c s n size end false false test h =
       answered_keeps (used c n) s n size end (answer_of c.streams data_kind s) (kept.used_keeps P k c n (grind (arith, nat_tests, test)) h)
 
   data_keeps : (c : Core) (s n size : ℕ) (end : Bool) → P calm c → P calm (on_data c s n size end).core
-  data_keeps c s n size end h = data_by c s n size end (is_of_idle (answer_of c.streams data_kind s)) (nat_lt c.flow.taking.granted n) refl h
+  data_keeps c s n size end h =
+      data_by c s n size end (is_of_idle (answer_of c.streams data_kind s)) (nat_lt c.flow.taking.granted n) refl h
 
   -- RST_STREAM
 
@@ -166,7 +169,8 @@ module _ (P : Amid → Core → Type 0) (k : Keeps P) where
   Settled c false = (code : ℕ) → P calm (faulted c code).core
 
   noted_by : (c : Core) (s : ℕ × ℕ) (a b : Bool) → P calm c
-      → P calm (cond a (record c { peer = record c.peer { streams = s.1 } }) (cond b (record c { peer = record c.peer { frame_size = s.1 } }) c))
+      → P calm (cond a (record c { peer = record c.peer { streams = s.1 } })
+      (cond b (record c { peer = record c.peer { frame_size = s.1 } }) c))
   noted_by c s true b h = k.other calm c c.encoder c.blocks (record c.peer { streams = s.1 }) c.settled h
   noted_by c s false true h = k.other calm c c.encoder c.blocks (record c.peer { frame_size = s.1 }) c.settled h
   noted_by c s false false h = h
@@ -202,15 +206,18 @@ module _ (P : Amid → Core → Type 0) (k : Keeps P) where
       (k.sends calm (record c { settled = true }) settings_ack refl (k.other calm c c.encoder c.blocks c.peer true h))
   settled_keeps c new false found h is = subst (P calm) (sym is.0) (h 3)
 
-  settings_by : Resizes P → (b : Bool) (c : Core) (pairs : List (ℕ × ℕ)) (new : Core) (found : Found) → P calm c → SettlesBy b c pairs new found → P calm new
+  settings_by : Resizes P → (b : Bool) (c : Core) (pairs : List (ℕ × ℕ)) (new : Core) (found : Found) → P calm c
+      → SettlesBy b c pairs new found → P calm new
   settings_by r true c pairs new found h is = subst (P calm) (sym is.0) (kept.faulted_keeps P k calm c protocol_error h)
   settings_by r false c pairs new found h is =
       settled_keeps is.0 new is.1 found (all_keep r pairs c is.0 is.1 h is.2) is.3
 
-  pub settings_keep : Resizes P → (ack : Bool) (c : Core) (payload : List ℕ) (new : Core) (found : Found) → P calm c → DoesSettings ack c payload new found
+  pub settings_keep : Resizes P → (ack : Bool) (c : Core) (payload : List ℕ) (new : Core) (found : Found) → P calm c
+      → DoesSettings ack c payload new found
       → P calm new
   settings_keep r true c payload new found h is = subst (P calm) (sym is.0) h
-  settings_keep r false c payload new found h is = settings_by r (allows_push c.streams.role (settings payload)) c (settings payload) new found h is
+  settings_keep r false c payload new found h is =
+      settings_by r (allows_push c.streams.role (settings payload)) c (settings payload) new found h is
 
   -- PING
 
@@ -274,7 +281,8 @@ module _ (P : Amid → Core → Type 0) (k : Keeps P) where
 
   answers_keep : (c : Core) (g : Glance) (bytes : List ℕ) (new : Core) (found : Found) → P calm c
       → ((s n : ℕ) → g ≡ glance.Window s n → P calm (on_window c s n).core)
-      → ((ack : Bool) → g ≡ glance.Settings ack → DoesSettings ack c bytes new found → P calm new) → Answers c g bytes new found → P calm new
+      → ((ack : Bool) → g ≡ glance.Settings ack → DoesSettings ack c bytes new found → P calm new) → Answers c g bytes new found
+      → P calm new
   answers_keep c glance.Nothing bytes new found h window settings is = subst (P calm) (sym is.0) h
   answers_keep c (glance.Data s n end) bytes new found h window settings is =
       subst (P calm) (sym is.0) (data_keeps c s n (length bytes) end h)
@@ -293,12 +301,14 @@ module _ (P : Amid → Core → Type 0) (k : Keeps P) where
 
   handles_by : (b : Bool) (c : Core) (g : Glance) (bytes : List ℕ) (new : Core) (found : Found) → P calm c
       → ((s n : ℕ) → g ≡ glance.Window s n → P calm (on_window c s n).core)
-      → ((ack : Bool) → g ≡ glance.Settings ack → DoesSettings ack c bytes new found → P calm new) → HandlesBy b c g bytes new found → P calm new
+      → ((ack : Bool) → g ≡ glance.Settings ack → DoesSettings ack c bytes new found → P calm new) → HandlesBy b c g bytes new found
+      → P calm new
   handles_by true c g bytes new found h window settings is =
       subst (P calm) (sym is.0) (kept.faulted_keeps P k calm c protocol_error h)
   handles_by false c g bytes new found h window settings is = answers_keep c g bytes new found h window settings is
 
   pub handles_keep : (c : Core) (g : Glance) (bytes : List ℕ) (new : Core) (found : Found) → P calm c
       → ((s n : ℕ) → g ≡ glance.Window s n → P calm (on_window c s n).core)
-      → ((ack : Bool) → g ≡ glance.Settings ack → DoesSettings ack c bytes new found → P calm new) → Handles c g bytes new found → P calm new
+      → ((ack : Bool) → g ≡ glance.Settings ack → DoesSettings ack c bytes new found → P calm new) → Handles c g bytes new found
+      → P calm new
   handles_keep c g bytes new found h window settings is = handles_by (is_misplaced c g) c g bytes new found h window settings is

@@ -1,12 +1,10 @@
 -- The peer's initial size of windows is the last that it set.
-use Rattle.std.proofs.Common.{◌≡◌, ℕ, ◌+◌, ◌*◌, ◌%◌, ◌≤◌, ◌==◌, ◌&&◌, ◌||◌, not, if◌then◌else◌, Bool, true, false, cond, List, [], ◌∷◌, ◌++◌, length, take, fold, Option, Some, refl, ap, sym, ◌∙◌, subst, arith}
+use Rattle.std.proofs.Common.{◌≡◌, ℕ, ◌==◌, ◌&&◌, not, Bool, true, false, cond, List, [], ◌∷◌, ◌++◌, take, fold, Some, refl, ap, sym, ◌∙◌, subst}
 use Rattle.std.proofs.lemmas.Bool.{false≢true}
-use Rattle.std.proofs.lemmas.Bool.Decides.{nat_tests}
 use Rattle.hb_frames.specs.RawFrame.{RawFrame}
 use Rattle.hb_frames.specs.Numbers.{settings_kind}
-use Rattle.hb_frames.specs.Octets.{four_at}
-use Rattle.hb_frames.specs.Refusals.{is_ack, increment_of, settings}
-use Rattle.hb_frames.specs.Bodies.{content_of, lent_of}
+use Rattle.hb_frames.specs.Refusals.{is_ack, settings}
+use Rattle.hb_frames.specs.Bodies.{lent_of}
 use Rattle.hb_streams.specs.declared.role.Role.{Role}
 use Rattle.hb_streams.specs.declared.role.Role.TheVariants.{Server, Client}
 use Rattle.hb_flow.specs.Windows.{less, more}
@@ -18,12 +16,12 @@ use Rattle.hb_owed.specs.Debts.{closed as owed_closed}
 use Rattle.hb_conn.specs.Numbers.{data_kind, protocol_error, initial_window_size, max_concurrent_streams, max_frame_size}
 use Rattle.hb_conn.specs.Frames.{frame, sent}
 use Rattle.hb_conn.specs.Faults.{faulted, is_active}
-use Rattle.hb_conn.specs.Glance.{glance_at, has_flag}
+use Rattle.hb_conn.specs.Glance.{glance_at}
 use Rattle.hb_conn.specs.Handling.{Handles, HandlesBy}
 use Rattle.hb_conn.specs.Outcome.{Gives}
 use Rattle.hb_conn.specs.Payload.{count_put}
 use Rattle.hb_conn.specs.Places.{is_misplaced}
-use Rattle.hb_conn.specs.Settings.{allows_push, Resized, AppliesBy, Then, AppliesAll, applied, SettlesBy, DoesSettings}
+use Rattle.hb_conn.specs.Settings.{allows_push, AppliesBy, Then, AppliesAll, applied, SettlesBy, DoesSettings}
 use Rattle.hb_conn.specs.declared.machine.Core.{Core}
 use Rattle.hb_conn.specs.declared.found.Found.{Found}
 use Rattle.hb_conn.specs.declared.glance.Glance.{Glance}
@@ -92,7 +90,8 @@ abbrev Sized : Core → Core → ℕ → Type 0
 Sized c new size = (new.flow.initial ≡ size) × (new.over ≡ c.over)
 
 noted_by : (c : Core) (s : ℕ × ℕ) (a b : Bool)
-    → Sized c (cond a (record c { peer = record c.peer { streams = s.1 } }) (cond b (record c { peer = record c.peer { frame_size = s.1 } }) c)) c.flow.initial
+    → Sized c (cond a (record c { peer = record c.peer { streams = s.1 } })
+    (cond b (record c { peer = record c.peer { frame_size = s.1 } }) c)) c.flow.initial
 noted_by c s true b = (refl, refl)
 noted_by c s false true = (refl, refl)
 noted_by c s false false = (refl, refl)
@@ -116,7 +115,8 @@ all_sized (s ∷ more) c new is = by is.1 is.2 (all_sized more is.0 new) is.3
         (last.0 ∙ ap (λ size. fold size_after size more) first.0, last.1 ∙ first.1)
     by false one later rest = absurd (false≢true (sym rest.1))
 
-settles_by : (size : ℕ) (c mid new : Core) (pairs : List (ℕ × ℕ)) (fits : Bool) (told : Found) → Initial size calm c → AppliesAll c pairs mid fits
+settles_by : (size : ℕ) (c mid new : Core) (pairs : List (ℕ × ℕ)) (fits : Bool) (told : Found) → Initial size calm c
+    → AppliesAll c pairs mid fits
     → Gives (applied mid fits) new told → Initial (fold size_after size pairs) calm new
 settles_by size c mid new pairs true told h all is = λ still.
     let sized = all_sized pairs c mid all in
@@ -134,17 +134,20 @@ pushed_by size false c pairs new told h is = settles_by size c is.0 new pairs is
 settings_by : (size : ℕ) (ack : Bool) (c : Core) (payload : List ℕ) (new : Core) (told : Found) → Initial size calm c
     → DoesSettings ack c payload new told → Initial (cond (not ack) (fold size_after size (settings payload)) size) calm new
 settings_by size true c payload new told h is = subst (Initial size calm) (sym is.0) h
-settings_by size false c payload new told h is = pushed_by size (allows_push c.streams.role (settings payload)) c (settings payload) new told h is
+settings_by size false c payload new told h is =
+    pushed_by size (allows_push c.streams.role (settings payload)) c (settings payload) new told h is
 
 handled_by : (size : ℕ) (b ack : Bool) (c : Core) (payload : List ℕ) (new : Core) (told : Found) → Initial size calm c
-    → HandlesBy b c (glance.Settings ack) payload new told → Initial (cond (not ack) (fold size_after size (settings payload)) size) calm new
+    → HandlesBy b c (glance.Settings ack) payload new told
+    → Initial (cond (not ack) (fold size_after size (settings payload)) size) calm new
 handled_by size true ack c payload new told h is =
     subst (Initial (cond (not ack) (fold size_after size (settings payload)) size) calm) (sym is.0)
     (fault_by (cond (not ack) (fold size_after size (settings payload)) size) c protocol_error)
 handled_by size false ack c payload new told h is = settings_by size ack c payload new told h is
 
 -- one frame
-frame_by : (size : ℕ) (c : Core) (f : RawFrame) (b : Bool) → (f.kind == settings_kind) ≡ b → (new : Core) (told : Found) → Initial size calm c
+frame_by : (size : ℕ) (c : Core) (f : RawFrame) (b : Bool) → (f.kind == settings_kind) ≡ b → (new : Core) (told : Found)
+    → Initial size calm c
     → Handles c (glance_at f) (lent_of f) new told
     → Initial (cond (b && not (is_ack f)) (fold size_after size (settings f.payload)) size) calm new
 frame_by size c f true test new told h is =
@@ -173,7 +176,8 @@ moves size c (reset s code) new told h is = act_keeps (Initial size) (initial_ke
 moves size c (credited s n) new told h is = act_keeps (Initial size) (initial_keeps size) c (credited s n) new told tt h is
 moves size c (put s bytes) new told h is = act_keeps (Initial size) (initial_keeps size) c (put s bytes) new told tt h is
 moves size c (wrote n) new told h is =
-    subst (Initial size calm) (sym is.1.0) (kept.payment_keeps (Initial size) (initial_keeps size) calm (record c { out = written n c.out }) h)
+    subst (Initial size calm) (sym is.1.0)
+    (kept.payment_keeps (Initial size) (initial_keeps size) calm (record c { out = written n c.out }) h)
 
 fold_both : (size : ℕ) (fs gs : List RawFrame) → fold size_with size (fs ++ gs) ≡ fold size_with (fold size_with size fs) gs
 fold_both size [] gs = refl

@@ -84,7 +84,8 @@ module _ (P : Amid → Core → Type 0) (k : Keeps P) where
       → KeepsOpen c.owed p.owed → P a c → P a (record c { owed = p.owed; out = p.out; encoder = p.writing })
   payment_by a c p paying keeps h =
       let fs = frames_for c.encoder paying.put in
-      let queue : P a (record c { out = record c.out { queue = c.out.queue ++ fs } }) = all_sent fs (dues_have_no_data c.encoder paying.put) a c h in
+      let queue : P a (record c { out = record c.out { queue = c.out.queue ++ fs } }) = all_sent fs
+      (dues_have_no_data c.encoder paying.put) a c h in
       let there : record c.out { queue = c.out.queue ++ fs } ≡ p.out =
       sym (paying.begun ∙ ap (λ (q : List RawFrame). record c.out { queue = q }) paying.queue) in
       let out : P a (record c { out = p.out }) = subst (λ w. P a (record c { out = w })) there queue in

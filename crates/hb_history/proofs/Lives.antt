@@ -75,7 +75,8 @@ sides_by false true some = refl
 sides_by false false some = absurd (false≢true some)
 
 -- a stream without an open side isn't active
-pub inactive_none : (role : Role) (s : States) (n : ℕ) → Moved role s → is_active s n ≡ false → is_some (get s.active n) ≡ true → false ≡ true
+pub inactive_none : (role : Role) (s : States) (n : ℕ) → Moved role s → is_active s n ≡ false → is_some (get s.active n) ≡ true
+    → false ≡ true
 inactive_none role s n moved none some =
     let v = used_some role s n moved some in
     let shown = ap (λ o. (sides_of (state_by o (state_of_others s n))).own || (sides_of (state_by o (state_of_others s n))).peer) v.1 in
@@ -190,7 +191,8 @@ left b s active windows owed none live = record {
 }
 
 -- one that is keeps them
-stayed : (b : Bool) (s : ℕ) (active : FinMap nat_cmp Sides) (windows : FinMap nat_cmp Windows) (owed : Debts) → is_some (get active s) ≡ true
+stayed : (b : Bool) (s : ℕ) (active : FinMap nat_cmp Sides) (windows : FinMap nat_cmp Windows) (owed : Debts)
+    → is_some (get active s) ≡ true
     → Live (amid b s) active windows owed → Live calm active windows owed
 stayed b s active windows owed sure live = record {
   held = live.held;
@@ -207,7 +209,8 @@ opening : (s : ℕ) (active : FinMap nat_cmp Sides) (sides : Sides) (windows : F
 opening s active sides windows w owed live = record {
   held = λ n some. elim (cases_eq n s) [
     | inl same ↦ ap (λ q. is_some (get (insert windows s w) q)) same ∙ ap is_some (put_here windows s w)
-    | inr apart ↦ ap is_some (put_elsewhere windows s w n apart) ∙ live.held n (sym (ap is_some (put_elsewhere active s sides n apart)) ∙ some)
+    | inr apart ↦ ap is_some (put_elsewhere windows s w n apart)
+        ∙ live.held n (sym (ap is_some (put_elsewhere active s sides n apart)) ∙ some)
   ];
   only = λ n spared some. elim (cases_eq n s) [
     | inl same ↦ ap (λ q. is_some (get (insert active s sides) q)) same ∙ ap is_some (put_here active s sides)
@@ -221,7 +224,8 @@ opening s active sides windows w owed live = record {
   ];
 }
 
-weaker : (s : ℕ) (active : FinMap nat_cmp Sides) (windows : FinMap nat_cmp Windows) (owed : Debts) → (a : Amid) → ((n : ℕ) → n ≢ s → Spares a n)
+weaker : (s : ℕ) (active : FinMap nat_cmp Sides) (windows : FinMap nat_cmp Windows) (owed : Debts) → (a : Amid)
+    → ((n : ℕ) → n ≢ s → Spares a n)
     → (b : Bool) → Live a active windows owed → Live (amid b s) active windows owed
 weaker s active windows owed a spares b live =
     record { held = live.held; only = λ n apart some. live.only n (spares n apart) some; records = live.records }
@@ -270,7 +274,8 @@ module _ (role : Role) where
     );
     withdraws = λ s c h. (
       h.0,
-      λ still. rewindowed (gone s) c.streams.active c.flow.streams _ c.owed (regained_by c.flow (data_size (Some s) c.out.queue) _) (h.1 still),
+      λ still. rewindowed (gone s) c.streams.active c.flow.streams _ c.owed (regained_by c.flow (data_size (Some s) c.out.queue) _)
+          (h.1 still),
     );
     releases = λ s c h. released_by s c (is_active c.streams s) refl h;
     leaves = λ s c none h. (

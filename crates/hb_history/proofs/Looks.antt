@@ -1,5 +1,5 @@
 -- Frames that are looked at, and what is held of the octets then.
-use Rattle.std.proofs.Common.{◌≡◌, ℕ, ◌+◌, ◌≤◌, Bool, true, false, cond, ◌==◌, List, [], ◌∷◌, ◌++◌, length, take, drop, Option, Some, None, Result, Ok, Err, refl, ap, sym, ◌∙◌, subst, arith}
+use Rattle.std.proofs.Common.{◌≡◌, ℕ, ◌+◌, ◌≤◌, List, [], ◌∷◌, ◌++◌, length, take, drop, Option, Some, None, Result, Ok, Err, refl, ap, sym, ◌∙◌, subst, arith}
 use Rattle.std.proofs.lemmas.Bool.{false≢true}
 use Rattle.std.proofs.lemmas.List.{append_assoc, append-nil, take-append-drop}
 use Rattle.std.specs.Prelude.{slice_index}
@@ -12,7 +12,6 @@ use Rattle.hb_frames.proofs.Histories.{joins_push}
 use Rattle.hb_frames.proofs.Runs.{octets_drop, first_some}
 use Rattle.hb_frames.proofs.Spelling.{raw_is_spelled}
 use Rattle.hb_outgoing.specs.Waiting.{Waiting}
-use Rattle.hb_conn.specs.Numbers.{data_kind, headers_kind, rst_stream_kind, settings_kind, ping_kind, goaway_kind, window_update_kind, continuation_kind}
 use Rattle.hb_conn.specs.Glance.{glance_at, glance_by, glance_of}
 use Rattle.hb_conn.specs.Handling.{Handles}
 use Rattle.hb_conn.specs.Receiving.{Steps, Passes}
@@ -109,7 +108,8 @@ look_by old new told (Err refusal) is steps =
 pub look_of : (old new : Receiver) (told : Found) → Steps old new told → Look old new told
 look_of old new told steps = look_by old new told (first_of old.reader.max old.reader.held) refl steps
 
-asked_by : (r : Reading) (o : Result (Option ℕ) Refusal) → first_of r.max r.held ≡ o → glance_of r ≡ glance.Nothing → (asked r).held ≡ r.held
+asked_by : (r : Reading) (o : Result (Option ℕ) Refusal) → first_of r.max r.held ≡ o → glance_of r ≡ glance.Nothing
+    → (asked r).held ≡ r.held
 asked_by r (Ok None) is none = ap (λ o. (after_frame r o).held) is
 asked_by r (Ok (Some n)) is none =
     absurd (false≢true (sym (something (raw_at r.held)) ∙ ap is_nothing (sym (ap (glance_by r) is) ∙ none)))

@@ -118,7 +118,8 @@ reset_closes s old end is = ap (after_answer old rst_stream_kind s end) is
 
 -- a stream that has no sides isn't active
 others_by : (s : ℕ) (even above among : Bool)
-    → (sides_of (cond (even || above) Idle (cond among Reset Closed))).own || (sides_of (cond (even || above) Idle (cond among Reset Closed))).peer ≡ false
+    → (sides_of (cond (even || above) Idle (cond among Reset Closed))).own ||
+    (sides_of (cond (even || above) Idle (cond among Reset Closed))).peer ≡ false
 others_by s true above among = refl
 others_by s false true among = refl
 others_by s false false true = refl

@@ -53,7 +53,8 @@ size_filtered : (x : Option ℕ) (p : RawFrame → Bool) (fs : List RawFrame) �
 size_filtered x p [] = omega arith
 size_filtered x p (f ∷ fs) = by (p f) (size_filtered x p fs)
   where
-    by : (b : Bool) → data_size x (filter p fs) ≤ data_size x fs → data_size x (cond b (f ∷ filter p fs) (filter p fs)) ≤ data_size x (f ∷ fs)
+    by : (b : Bool) → data_size x (filter p fs) ≤ data_size x fs
+        → data_size x (cond b (f ∷ filter p fs) (filter p fs)) ≤ data_size x (f ∷ fs)
     by true less = omega (arith, less, size_cons x f fs, size_cons x f (filter p fs))
     by false less = omega (arith, less, size_cons x f fs)
 
@@ -127,7 +128,14 @@ one_by false q n m = omega arith
 pub size_of_one : (n : ℕ) (fs : List RawFrame) → data_size (Some n) fs ≤ data_size None fs
 size_of_one n [] = omega arith
 size_of_one n (f ∷ fs) =
-    omega (arith, size_cons (Some n) f fs, size_cons None f fs, size_of_one n fs, one_by (f.kind == data_kind) f.stream n (length f.payload))
+    omega (
+      arith,
+      size_cons (Some n) f fs,
+      size_cons None f fs,
+      size_of_one n fs,
+      one_by (f.kind == data_kind) f.stream n
+          (length f.payload),
+    )
 
 -- frames that begin go on to be counted
 
@@ -174,7 +182,8 @@ all_there f fs none true test =
           omega (arith, size_cons None f fs, no_sizes None fs none, one);
       one = λ n.
           let one : size_on (Some n) f ≡ unbegun_on f.stream (length f.payload) n =
-          ap (λ b. cond (b && (f.stream == n)) (length f.payload) 0) data_frame ∙ ap (λ b. cond b (length f.payload) 0) (same_test f.stream n) in
+          ap (λ b. cond (b && (f.stream == n)) (length f.payload) 0) data_frame
+          ∙ ap (λ b. cond b (length f.payload) 0) (same_test f.stream n) in
           omega (arith, size_cons (Some n) f fs, no_sizes (Some n) fs none, one);
     }
 all_there f fs none false test =

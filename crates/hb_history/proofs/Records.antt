@@ -29,7 +29,8 @@ changed_at m s n change (Some d) is keeps live =
       | inr apart ↦ ap is_open (written_elsewhere m s (change d) n apart) ∙ live
     ]
 
-pub changed_keeps : (m : Debts) (s : ℕ) (change : Debt → Debt) → ((d : Debt) → (change d).closed ≡ d.closed) → KeepsOpen m (changed m s change)
+pub changed_keeps : (m : Debts) (s : ℕ) (change : Debt → Debt) → ((d : Debt) → (change d).closed ≡ d.closed)
+    → KeepsOpen m (changed m s change)
 changed_keeps m s change keeps n live = changed_at m s n change (get m s) refl keeps live
 
 done_closed : (o : Option Debt) → is_done_by o ≡ true → is_open o ≡ true → false ≡ true

@@ -29,8 +29,3 @@ runs_one p c new after = (new, after, refl)
 pub begins_one : (p : Point) (c new : Core) (fs : List RawFrame) → begins_by c p.move ≡ fs → After c p.move new p.told
     → RunsWith c (p ∷ []) fs new
 begins_one p c new fs is after = (new, after, [], sym is ∙ sym (append-nil (begins_by c p.move)), (refl, refl))
-
--- moves with which frames begin are moves
-pub runs_of : (ps : List Point) (c new : Core) (fs : List RawFrame) → RunsWith c ps fs new → Runs c ps new
-runs_of [] c new fs runs = runs.0
-runs_of (p ∷ ps) c new fs runs = (runs.0, runs.1, runs_of ps runs.0 new runs.2 runs.4)

@@ -183,7 +183,8 @@ module _ (frames begun queue : List RawFrame) (f : Flows) (highest : ℕ) where
       by : (held : ℤ) (q left back b first g : ℕ) → left + back ≡ q → Adds held q b first g → Adds (held +ℤ pos back) left b first g
       by held q left back b first g split sum = omega (arith, ints)
 
-      fit : (held : ℤ) (q left back : ℕ) → left + back ≡ q → (held +ℤ pos q) ≤ℤ pos largest → ((held +ℤ pos back) +ℤ pos left) ≤ℤ pos largest
+      fit : (held : ℤ) (q left back : ℕ) → left + back ≡ q → (held +ℤ pos q) ≤ℤ pos largest
+          → ((held +ℤ pos back) +ℤ pos left) ≤ℤ pos largest
       fit held q left back split fits = omega (arith, ints)
 
   -- a stream begins, which nobody used
@@ -212,7 +213,8 @@ module _ (frames begun queue : List RawFrame) (f : Flows) (highest : ℕ) where
           let there : w ≡ new_windows f.initial =
           same_some (new_windows f.initial) w
           (sym (ap (get (insert f.streams s (new_windows f.initial))) same ∙ put_here f.streams s (new_windows f.initial)) ∙ is) in
-          subst (λ (x : Windows). One x.sending (data_size (Some n) queue) (data_size (Some n) begun) f.initial (increments n frames)) (sym there)
+          subst (λ (x : Windows). One x.sending (data_size (Some n) queue) (data_size (Some n) begun) f.initial (increments n frames))
+          (sym there)
           (fresh _ _ f.initial _ sums.first (sums.idle n (omega (arith, above, same))))
 
   -- the peer's initial size changes
@@ -248,7 +250,8 @@ module _ (frames begun queue : List RawFrame) (f : Flows) (highest : ℕ) where
         let v = was f s (sending_by (λ w. less w n)) m w is in
         subst (λ i. One w.sending (data_size (Some m) (queue ++ put ∷ [])) (data_size (Some m) begun) i (increments m frames))
         (sym (still_initial f s (sending_by (λ w. less w n))))
-        (subst (λ (x : Windows). One x.sending (data_size (Some m) (queue ++ put ∷ [])) (data_size (Some m) begun) f.initial (increments m frames))
+        (subst (λ (x : Windows). One x.sending (data_size (Some m) (queue ++ put ∷ [])) (data_size (Some m) begun) f.initial
+        (increments m frames))
         (sym v.2) (by m v.0 (sums.one m v.0 tt v.1) (cases_eq m s)));
     idle = λ m above.
         let old = sums.idle m above in
@@ -275,7 +278,8 @@ module _ (frames begun queue : List RawFrame) (f : Flows) (highest : ℕ) where
           let on : size_on (Some m) put ≡ length (take n bytes) = ap (λ b. cond b (length (take n bytes)) 0) (eq-eqb s m (sym same)) in
           let more : data_size (Some m) (queue ++ put ∷ []) ≡ data_size (Some m) queue + length (take n bytes) =
           size_push (Some m) queue put ∙ ap (λ k. data_size (Some m) queue + k) on in
-          subst (λ b. One (cond b (sending_by (λ w. less w n) v) v).sending (data_size (Some m) (queue ++ put ∷ [])) (data_size (Some m) begun)
+          subst (λ b. One (cond b (sending_by (λ w. less w n) v) v).sending (data_size (Some m) (queue ++ put ∷ []))
+          (data_size (Some m) begun)
           f.initial (increments m frames)) (sym (eq-eqb m s same)) (record {
             size = old.size;
             sum = spend v.sending.held _ _ _ f.initial (increments m frames) more len old.sum;
@@ -285,6 +289,7 @@ module _ (frames begun queue : List RawFrame) (f : Flows) (highest : ℕ) where
           let off : size_on (Some m) put ≡ 0 = ap (λ b. cond b (length (take n bytes)) 0) (ne_eqb s m (λ e. apart (sym e))) in
           let same : data_size (Some m) (queue ++ put ∷ []) ≡ data_size (Some m) queue =
           omega (arith, size_push (Some m) queue put, off) in
-          subst (λ b. One (cond b (sending_by (λ w. less w n) v) v).sending (data_size (Some m) (queue ++ put ∷ [])) (data_size (Some m) begun)
+          subst (λ b. One (cond b (sending_by (λ w. less w n) v) v).sending (data_size (Some m) (queue ++ put ∷ []))
+          (data_size (Some m) begun)
           f.initial (increments m frames)) (sym (ne_eqb m s apart))
           (subst (λ q. One v.sending q (data_size (Some m) begun) f.initial (increments m frames)) (sym same) old)
