@@ -25,7 +25,7 @@ fn number_of(rt: &impl Abort, text: &str) -> u32 {
 }
 
 /// The one header `:method` CONNECT.
-fn connect(rt: &impl Abort, alloc: Global) -> List<Header>
+pub fn connect(rt: &impl Abort, alloc: Global) -> List<Header>
     ensures { total result ≤ 900 }
 {
     let mut headers = List::new(alloc);

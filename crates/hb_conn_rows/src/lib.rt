@@ -9,6 +9,8 @@ mod conversations;
 #[cfg(test)]
 mod desk;
 #[cfg(test)]
+mod floods;
+#[cfg(test)]
 mod octets;
 #[cfg(test)]
 mod peer;
