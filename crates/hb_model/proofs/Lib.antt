@@ -1,0 +1,17 @@
+pub mod Places
+pub mod CallsSaid
+pub mod CallsSteps
+pub mod CallsPhases
+pub mod CallsLives
+pub mod DialsHeld
+pub mod DialsDue
+pub mod EndsFirst
+pub mod EndsPhases
+pub mod EndsLaw
+pub mod Grown
+pub mod Unborn
+pub mod Messages
+pub mod MessagesRun
+pub mod MessagesAtOnce
+pub mod Connections
+pub mod ConnectionsRun

@@ -1,0 +1,39 @@
+-- What every run of the machine obeys.
+use Rattle.std.specs.Prelude.{◌≡◌, List}
+use Rattle.hb_model.specs.declared.config.NodeConfig.{NodeConfig}
+use Rattle.hb_model.specs.Point.{Point}
+use Rattle.hb_model.specs.Machine.{Machine}
+use Rattle.hb_model.specs.Runs.{StandsFor}
+use Rattle.hb_model.specs.Calls.{CallsLaw}
+use Rattle.hb_model.specs.Dials.{DialLaw}
+use Rattle.hb_model.specs.Ends.{EndLaw}
+use Rattle.hb_model.specs.Connections.{ConnectionLaw}
+use Rattle.hb_model.specs.Messages.{held, MessagesLaw, AppliedAtOnceLaw}
+
+-- the calls on links are in order
+abbrev pub RunsObeyCalls : Type 0
+RunsObeyCalls = (g : NodeConfig) (m : Machine) (points : List Point) → StandsFor g m points → CallsLaw points
+
+-- the control plane is dialled exactly when it is to be
+abbrev pub RunsObeyDials : Type 0
+RunsObeyDials = (g : NodeConfig) (m : Machine) (points : List Point) → StandsFor g m points → DialLaw g points
+
+-- a link to the control plane is closed exactly for the first cause that ended it
+abbrev pub RunsObeyEnds : Type 0
+RunsObeyEnds = (g : NodeConfig) (m : Machine) (points : List Point) → StandsFor g m points → EndLaw points
+
+-- what is held is what the responses applied make
+abbrev pub RunsHold : Type 0
+RunsHold = (g : NodeConfig) (m : Machine) (points : List Point) → StandsFor g m points → m.held ≡ held g points
+
+-- the responses applied on a link are its first messages
+abbrev pub RunsObeyMessages : Type 0
+RunsObeyMessages = (g : NodeConfig) (m : Machine) (points : List Point) → StandsFor g m points → MessagesLaw points
+
+-- each response is applied in the read that completes it
+abbrev pub RunsApplyAtOnce : Type 0
+RunsApplyAtOnce = (g : NodeConfig) (m : Machine) (points : List Point) → StandsFor g m points → AppliedAtOnceLaw points
+
+-- a link's connection is one history
+abbrev pub RunsObeyConnections : Type 0
+RunsObeyConnections = (g : NodeConfig) (m : Machine) (points : List Point) → StandsFor g m points → ConnectionLaw points

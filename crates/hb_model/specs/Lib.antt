@@ -1,0 +1,11 @@
+pub mod Calls
+pub mod Connections
+pub mod Dials
+pub mod Discovery
+pub mod Ends
+pub mod Laws
+pub mod Machine
+pub mod Messages
+pub mod Point
+pub mod Requests
+pub mod Runs

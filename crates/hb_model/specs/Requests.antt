@@ -1,0 +1,45 @@
+-- The requests to the control plane.
+use Rattle.std.specs.Prelude.{◌≡◌, ℕ, ◌==◌, ◌&&◌, if◌then◌else◌, List, [], ◌∷◌, ◌++◌}
+use Rattle.std.specs.List.{flat_map}
+use Rattle.hb_frames.specs.RawFrame.{RawFrame}
+use Rattle.hb_frames.specs.Numbers.{data_kind}
+use Rattle.hb_held.specs.Held.{Resources, nothing_held}
+use Rattle.hb_conn.specs.Preface.{octets}
+use Rattle.hb_outgoing.specs.Waiting as outgoing
+use Rattle.hb_world.specs.Trace.{sent}
+use Rattle.hb_world.specs.declared.entry.Entry.TheVariants as e
+use Rattle.hb_model.specs.declared.config.NodeConfig.{NodeConfig}
+use Rattle.hb_model.specs.Discovery.{stream, first_requests, answer_to, spelled}
+use Rattle.hb_model.specs.Point.{Point, entry, applied, entries}
+use Rattle.hb_model.specs.Messages.{held_by}
+
+-- the requests that a point asks for on a link: the first two where it is dialled, then an answer to each response
+abbrev pub request_in : NodeConfig → Resources → ℕ → Point → List (List ℕ)
+request_in g held l (entry (e.Dialled k to why)) = if k == l then first_requests g.id held else []
+request_in g held l (applied k r) = if k == l then answer_to held r ∷ [] else []
+request_in g held l _ = []
+
+-- those of some points, before which this is held
+abbrev pub requests_from : NodeConfig → Resources → ℕ → List Point → List (List ℕ)
+requests_from g held l [] = []
+requests_from g held l (p ∷ points) = request_in g held l p ++ requests_from g (held_by held p) l points
+
+-- the requests of a link, in order
+abbrev pub requests : NodeConfig → ℕ → List Point → List (List ℕ)
+requests g l points = requests_from g (nothing_held g.network g.node) l points
+
+-- the payload of a DATA frame of the link's stream
+abbrev pub payload_of : RawFrame → List ℕ
+payload_of f = if f.kind == data_kind && f.stream == stream then f.payload else []
+
+-- What went on a link is, after the opening, frames, of which the last may be in part; the DATA in them is a front of the
+-- requests, each in the spelling of a message
+pub record AreRequests (g : NodeConfig) (points : List Point) (l : ℕ) : Type 0 where
+  pub begun : List RawFrame
+  pub owed : List ℕ
+  pub went : sent l (entries points) ++ owed ≡ octets ++ outgoing.spelled begun
+  pub rest : List ℕ
+  pub front : spelled (requests g l points) ≡ flat_map payload_of begun ++ rest
+
+abbrev pub RequestLaw : NodeConfig → List Point → Type 0
+RequestLaw g points = (l : ℕ) → AreRequests g points l

@@ -1,0 +1,32 @@
+//! Laws over every run of the machine. Each is the contract of a function that does nothing.
+
+ghost use Rattle.hb_model.specs.Laws.{RunsObeyCalls, RunsObeyDials, RunsObeyEnds, RunsHold, RunsObeyMessages, RunsApplyAtOnce, RunsObeyConnections};
+
+/// The calls on each link stand in order: it is dialled and opened once, then read up to its end and written, and closed once.
+pub fn calls_are_in_order()
+    ensures { RunsObeyCalls }
+{}
+
+/// The control plane is dialled at the start, and behind each tick at which no link to it lives.
+pub fn dials_are_due()
+    ensures { RunsObeyDials }
+{}
+
+/// A link to the control plane is closed exactly for the first cause that ended it, and before all else but calls that move
+/// nothing and the one write behind a connection error.
+pub fn ends_are_first()
+    ensures { RunsObeyEnds }
+{}
+
+/// On each link the responses that were applied are what the first messages of its DATA are read as; and what is held is what
+/// the responses of all links make, in order. Each is applied in the read that completes it.
+pub fn messages_are_applied()
+    ensures held { RunsHold }
+    ensures messages { RunsObeyMessages }
+    ensures at_once { RunsApplyAtOnce }
+{}
+
+/// The connection of each link stands for the link's moves, the bytes that came on it and those that went.
+pub fn connections_are_histories()
+    ensures { RunsObeyConnections }
+{}
