@@ -1,5 +1,5 @@
 -- Delta discovery responses (Envoy xDS protocol, "Incremental xDS"; proto3 messages).
-use Rattle.std.specs.Prelude.{ℕ, ◌==◌, List, [], ◌∷◌, ◌++◌, Result, Ok, Err, if◌then◌else◌}
+use Rattle.std.specs.Prelude.{ℕ, ◌==◌, List, [], ◌∷◌, ◌++◌, Option, Some, None, Result, Ok, Err, if◌then◌else◌}
 use Rattle.std.specs.Str.{bytes_eq}
 use Rattle.hb_wire.specs.Field.{Content}
 use Rattle.hb_wire.specs.Message.{and_then}
@@ -19,11 +19,15 @@ use Rattle.hb_disco.specs.Kind.{type_url}
 abbrev pub text_in : ℕ → List ℕ → Result (List ℕ) ResponseFault
 text_in field bytes = text_by Utf8 field bytes
 
--- the kind whose type URL these bytes are
-abbrev pub kind_of_url : List ℕ → Result Kind ResponseFault
+-- the kind whose type URL these bytes are, if one has it
+abbrev pub kind_of_url : List ℕ → Option Kind
 kind_of_url url =
-    if bytes_eq url (type_url Address) then Ok Address
-    else (if bytes_eq url (type_url Authorization) then Ok Authorization else Err UnknownType)
+    if bytes_eq url (type_url Address) then Some Address
+    else (if bytes_eq url (type_url Authorization) then Some Authorization else None)
+
+abbrev pub kind_or : Option Kind → Result Kind ResponseFault
+kind_or (Some kind) = Ok kind
+kind_or None = Err UnknownType
 
 -- Any: type_url 1, value 2
 abbrev pub any_span : Any → ℕ → List ℕ → Result Any ResponseFault
@@ -58,7 +62,7 @@ abbrev pub response_span : Parts → ℕ → ℕ → List ℕ → Result Parts R
 response_span p number at bytes =
     if number == 1 then and_then (text_in 1 bytes) (λ t. Ok p)
     else (if number == 2 then and_then (resource_in at bytes) (λ r. Ok (record p { resources = p.resources ++ r ∷ [] }))
-    else (if number == 4 then and_then (text_in 4 bytes) (λ t. Ok (record p { type_url = t }))
+    else (if number == 4 then and_then (text_in 4 bytes) (λ t. Ok (record p { kind = kind_of_url t }))
     else (if number == 5 then and_then (text_in 5 bytes) (λ t. Ok (record p { nonce = t }))
     else (if number == 6 then and_then (text_in 6 bytes) (λ t. Ok (record p { removed = p.removed ++ t ∷ [] })) else Ok p))))
 
@@ -66,10 +70,10 @@ abbrev pub response_merged : Parts → Content → Result Parts ResponseFault
 response_merged p f = of_span p f.value (λ bytes. response_span p f.number f.at bytes)
 
 abbrev pub no_parts : Parts
-no_parts = record { resources = []; type_url = []; nonce = []; removed = [] }
+no_parts = record { resources = []; kind = None; nonce = []; removed = [] }
 
 abbrev pub response_of_parts : Parts → Result Response ResponseFault
-response_of_parts p = and_then (kind_of_url p.type_url)
+response_of_parts p = and_then (kind_or p.kind)
     (λ kind. Ok (record { kind = kind; resources = p.resources; removed = p.removed; nonce = p.nonce }))
 
 -- the response that these bytes are; its type is looked at last

@@ -7,7 +7,9 @@ ghost use Rattle.hb_disco.specs.Response.{kind_of_url, response_of};
 
 use crate::kind::Kind;
 use hb_base::{Bytes, List, Or, Text};
-use hb_message::{Message, MessageFault, add, read_message, read_text, read_whole, take_text};
+use hb_message::{
+    Message, MessageFault, add, check_text, read_message, read_text, read_whole, take_text,
+};
 use hb_wire::{Field, FieldValue, WireFault};
 use std::alloc::Global;
 
@@ -75,21 +77,21 @@ struct ResourceParts {
 #[derive(Drop)]
 struct Parts {
     resources: List<Resource>,
-    type_url: Text,
+    kind: Option<Kind>,
     nonce: Text,
     removed: List<Text>,
 }
 
-fn read_kind(url: &[u8]) -> Result<Kind, ResponseFault>
+fn read_kind(url: &[u8]) -> Option<Kind>
     ensures { result ≡ kind_of_url url.now }
 {
     if url == Kind::Address.type_url() {
-        return Ok(Kind::Address);
+        return Some(Kind::Address);
     }
     if url == Kind::Authorization.type_url() {
-        return Ok(Kind::Authorization);
+        return Some(Kind::Authorization);
     }
-    Err(ResponseFault::UnknownType)
+    None
 }
 
 impl Message for Any {
@@ -213,12 +215,13 @@ impl Parts {
         ensures { Merges (response_span self.old number at bytes.now) self.new result }
     {
         match number {
-            1 => {
-                let _system_version = read_text(alloc, 1, bytes)?;
+            1 => check_text(1, bytes),
+            2 => add(&mut self.resources, read_resource(alloc, at, bytes)?),
+            4 => {
+                check_text(4, bytes)?;
+                self.kind = read_kind(bytes);
                 Ok(())
             }
-            2 => add(&mut self.resources, read_resource(alloc, at, bytes)?),
-            4 => take_text(alloc, 4, bytes, &mut self.type_url),
             5 => take_text(alloc, 5, bytes, &mut self.nonce),
             6 => add(&mut self.removed, read_text(alloc, 6, bytes)?),
             _ => Ok(()),
@@ -233,14 +236,13 @@ pub fn read_response(alloc: Global, bytes: &[u8]) -> Result<Response, Or<Respons
 {
     let unread = Parts {
         resources: List::new(alloc),
-        type_url: Text::empty(alloc),
+        kind: None,
         nonce: Text::empty(alloc),
         removed: List::new(alloc),
     };
     let parts = read_whole(alloc, bytes, 0, unread)?;
-    let kind = match read_kind(parts.type_url.as_slice()) {
-        Ok(kind) => kind,
-        Err(fault) => return Err(Or::Fault(fault)),
+    let Some(kind) = parts.kind else {
+        return Err(Or::Fault(ResponseFault::UnknownType));
     };
     Ok(Response {
         kind,

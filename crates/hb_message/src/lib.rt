@@ -8,4 +8,4 @@ mod text;
 
 pub use fault::MessageFault;
 pub use message::{Message, add, read_message, read_whole};
-pub use text::{read_text, take_text};
+pub use text::{check_text, read_text, take_text};

@@ -29,3 +29,13 @@ pub fn take_text<F: MessageFault>(
     *text = read_text(alloc, field, bytes)?;
     Ok(())
 }
+
+/// Looks whether a string field that isn't kept is UTF-8.
+pub fn check_text<F: MessageFault>(field: u32, bytes: &[u8]) -> Result<(), Or<F>>
+    ensures { Merges (text_by F.utf8 field bytes.now) bytes.now result }
+{
+    match std::str::from_utf8(bytes) {
+        Ok(_) => Ok(()),
+        Err(_) => Err(Or::Fault(F::of_utf8(field))),
+    }
+}

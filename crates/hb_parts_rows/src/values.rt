@@ -1,6 +1,6 @@
 //! Bytes, texts, lists, notes and causes, and the texts of faults.
 
-use crate::tables::{assert_told, tell, tell_debug};
+use crate::tables::{assert_told, tell, tell_debug, text_of};
 use hb_base::{
     Bytes, Cause, Ip, List, Note, Peer, ReadStop, Target, Text, WriteFault, read_identity,
 };
@@ -26,6 +26,17 @@ fn tell_texts(rt: &(impl Abort + AllocGlobal), told: &mut String) {
         &Text::of(alloc, &[0xff]).expect(rt, "memory").is_none(),
         " ",
     );
+}
+
+/// The longest text that takes no memory, and one that is longer by a byte.
+fn tell_long_texts(rt: &(impl Abort + AllocGlobal), told: &mut String) {
+    for letters in ["abcdefghijklmnopqrstuvw", "abcdefghijklmnopqrstuvwx"] {
+        let text = Text::of(rt.alloc(), letters.as_bytes())
+            .expect(rt, "memory")
+            .expect(rt, "a text");
+        let copy = text.copy(rt.alloc()).expect(rt, "memory");
+        tell(told, &text_of(&copy), " ");
+    }
 }
 
 fn tell_list(rt: &(impl Abort + AllocGlobal), told: &mut String) {
@@ -55,7 +66,8 @@ fn tell_faults(told: &mut String) {
 }
 
 /// What the values tell, in turn.
-const TOLD: &str = "[255] [97, 0, 98] [] true true (1, Some(7), None) \
+const TOLD: &str = "[255] [97, 0, 98] [] true abcdefghijklmnopqrstuvw abcdefghijklmnopqrstuvwx \
+    true (1, Some(7), None) \
     done None, peer reset Some(8), front fault Some(0), no memory None, \
     more bytes than allowed; a read failed; out of memory; a write failed";
 
@@ -64,6 +76,7 @@ fn values_tell_what_they_are_given(rt: HostRuntime) {
     let mut told = String::new(rt.alloc());
     tell_bytes(&rt, &mut told);
     tell_texts(&rt, &mut told);
+    tell_long_texts(&rt, &mut told);
     tell_list(&rt, &mut told);
     tell_causes(&mut told);
     tell_faults(&mut told);
