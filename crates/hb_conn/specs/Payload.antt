@@ -12,11 +12,13 @@ use Rattle.hb_conn.specs.declared.machine.Core.{Core}
 abbrev pub allowed : Core → ℕ → ℕ
 allowed c stream = min (sendable c.flow stream) (min c.peer.frame_size 16384)
 
--- how many of the octets are put in one DATA frame: as many as may be, and none while anything waits to be written; the
--- number of a stream has 31 bits
+-- how many of the octets are put in one DATA frame: as many as may be, and none while anything waits to be written, nor
+-- behind a connection error; the number of a stream has 31 bits
 abbrev pub count_put : Core → ℕ → List ℕ → ℕ
 count_put c stream bytes =
-    if nat_le stream largest && length (octets_of c.out) == 0 then min (length bytes) (allowed c stream) else 0
+    if c.over then 0
+    else if nat_le stream largest && length (octets_of c.out) == 0 then min (length bytes) (allowed c stream)
+    else 0
 
 -- the first n octets are put, and spent at once on both windows
 abbrev pub with_data : Core → ℕ → List ℕ → ℕ → Core

@@ -220,8 +220,8 @@ impl Conn {
     }
 
     /// Puts the first octets in one DATA frame, as many as the stream's window, the connection's, the peer's
-    /// SETTINGS_MAX_FRAME_SIZE and 16,384 let go, and says how many; none while the output holds any octet (RFC 9113
-    /// section 6.9).
+    /// SETTINGS_MAX_FRAME_SIZE and 16,384 let go, and says how many; none while the output holds any octet, nor behind a
+    /// connection error (RFC 9113 sections 5.4.1 and 6.9).
     pub fn put_some(&mut self, stream: u32, bytes: &[u8]) -> usize
         requires { IsTrue (sides_of (state_of self.old.receiver.core.streams stream)).own }
         ensures count { result ≡ count_put self.old.receiver.core stream bytes.now }

@@ -27,7 +27,7 @@ impl Core {
         ensures room { 0 < result → length (octets_of self.now.out) ≡ 0 }
         ensures in_range { 0 < result → stream ≤ 2147483647 }
     {
-        if stream > LARGEST_STREAM || !self.out.is_empty() {
+        if self.over || stream > LARGEST_STREAM || !self.out.is_empty() {
             return 0;
         }
         let allowed = self.allowed(stream);

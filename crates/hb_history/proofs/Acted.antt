@@ -25,15 +25,16 @@ use Rattle.hb_conn.specs.Credit.{used_on, credit}
 use Rattle.hb_conn.specs.Data.{credited_on}
 use Rattle.hb_conn.specs.Headers.{registered}
 use Rattle.hb_conn.specs.Opening.{begun, headers_frame, headers_put, opened_with}
+use Rattle.hb_conn.specs.Payload.{data_put}
 use Rattle.hb_conn.specs.Windows.{on_window}
 use Rattle.hb_conn.specs.declared.machine.Core.{Core}
 use Rattle.hb_conn.specs.declared.found.Found.{Found}
 use Rattle.hb_conn.specs.declared.glance.Glance.TheVariants as glance
 use Rattle.hb_history.specs.Points.{Move, got, refused, misbegan, opened, answered, ended, reset, credited, put, wrote, Point, After, Runs}
 use Rattle.hb_history.specs.Calls.{IsAct, IsLook}
-use Rattle.hb_history.proofs.Parts.{Amid, calm, Keeps, Resizes}
+use Rattle.hb_history.proofs.Parts.{Amid, calm, Keeps, Puts, PutsAck, Resizes}
 use Rattle.hb_history.proofs.Kept as kept
-use Rattle.hb_history.proofs.Handled.{Grows, window_keeps, settings_keep, handles_keep}
+use Rattle.hb_history.proofs.Handled.{Grows, window_keeps, settings_keep, ping_keeps, handles_keep}
 
 -- no more is used up than came
 pub may_owe : (c : Core) (s n : ℕ) → n ≤ creditable c.flow s → May c.flow (owes_on s n)
@@ -52,7 +53,8 @@ module _ (P : Amid → Core → Type 0) (k : Keeps P) where
 
   headers_keep : (c : Core) (s : ℕ) (headers : List Header) (end : Bool) → P calm c → P calm (headers_put c s headers end)
   headers_keep c s headers end h =
-      k.sends calm (record c { encoder = going c.encoder }) (headers_frame s end (block_of c.encoder headers)) refl
+      k.sends calm (record c { encoder = going c.encoder }) (headers_frame s end (block_of c.encoder headers))
+      (refl, refl)
       (k.other calm c (going c.encoder) c.blocks c.peer c.settled h)
 
   ended_by : (c : Core) (s : ℕ) (end : Bool) → P calm c → P calm (cond end (own_ended c s) c)
@@ -74,52 +76,58 @@ module _ (P : Amid → Core → Type 0) (k : Keeps P) where
   credit_by c s true h = kept.credited_keeps P k c s h
   credit_by c s false h = h
 
-  credit_keeps : (c : Core) (s n : ℕ) → n ≤ creditable c.flow s → P calm c → P calm (credit c s n)
+  pub credit_keeps : (c : Core) (s n : ℕ) → n ≤ creditable c.flow s → P calm c → P calm (credit c s n)
   credit_keeps c s n within h =
       credit_by (used_on c s n) s (sides_of (state_of c.streams s)).peer (k.takes_in calm c (owes_on s n) refl (may_owe c s n within) h)
 
-  pub act_keeps : (c : Core) (m : Move) (new : Core) (told : Found) → IsAct m → P calm c → After c m new told → P calm new
-  act_keeps c (got f) new told act h is = absurd act
-  act_keeps c (refused r kind flags) new told act h is = absurd act
-  act_keeps c misbegan new told act h is = absurd act
-  act_keeps c (opened s headers end) new told act h is = subst (P calm) (sym is.1.0) (opened_keeps c s headers end is.0 h)
-  act_keeps c (answered s status) new told act h is = subst (P calm) (sym is.0) (status_keeps c s status h)
-  act_keeps c (ended s) new told act h is = subst (P calm) (sym is.0) (end_keeps c s h)
-  act_keeps c (reset s code) new told act h is = subst (P calm) (sym is.0) (kept.aborted_keeps P k s c code (k.goes s c (k.ends s c h)))
-  act_keeps c (credited s n) new told act h is = subst (P calm) (sym is.1.0) (credit_keeps c s n is.0 h)
-  act_keeps c (put s bytes) new told act h is = subst (P calm) (sym is.0) (k.puts c s bytes h)
-  act_keeps c (wrote n) new told act h is = absurd act
+  pub act_keeps : (c : Core) → ((s : ℕ) (bytes : List ℕ) → P calm (data_put c s bytes)) → (m : Move) (new : Core) (told : Found) → IsAct m
+      → P calm c → After c m new told → P calm new
+  act_keeps c puts (got f) new told act h is = absurd act
+  act_keeps c puts (refused r kind flags) new told act h is = absurd act
+  act_keeps c puts misbegan new told act h is = absurd act
+  act_keeps c puts (opened s headers end) new told act h is = subst (P calm) (sym is.1.0) (opened_keeps c s headers end is.0 h)
+  act_keeps c puts (answered s status) new told act h is = subst (P calm) (sym is.0) (status_keeps c s status h)
+  act_keeps c puts (ended s) new told act h is = subst (P calm) (sym is.0) (end_keeps c s h)
+  act_keeps c puts (reset s code) new told act h is = subst (P calm) (sym is.0) (kept.aborted_keeps P k s c code (k.goes s c (k.ends s c h)))
+  act_keeps c puts (credited s n) new told act h is = subst (P calm) (sym is.1.0) (credit_keeps c s n is.0 h)
+  act_keeps c puts (put s bytes) new told act h is = subst (P calm) (sym is.0) (puts s bytes)
+  act_keeps c puts (wrote n) new told act h is = absurd act
 
-  pub look_keeps : Resizes P → (c : Core) (m : Move) (new : Core) (told : Found) → IsLook m → P calm c
+  pub look_keeps : Resizes P → PutsAck P → (c : Core) (m : Move) (new : Core) (told : Found) → IsLook m → P calm c
       → ((s n : ℕ) → P calm (on_window c s n).core) → After c m new told → P calm new
-  look_keeps r c (got f) new told look h window is = handles_keep P k c (glance_at f) (lent_of f) new told h (λ s n e. window s n)
-      (λ ack e is. settings_keep P k r ack c (lent_of f) new told h is) is.1
-  look_keeps r c (refused why kind flags) new told look h window is =
+  look_keeps r acks c (got f) new told look h window is = handles_keep P k c (glance_at f) (lent_of f) new told h (λ s n e. window s n)
+      (λ ack e is. settings_keep P k r acks ack c (lent_of f) new told h is)
+      (λ ack value e. ping_keeps P k acks c ack value h) is.1
+  look_keeps r acks c (refused why kind flags) new told look h window is =
       handles_keep P k c (glance.Refused why.code why.row kind flags) [] new told h (λ s n e. window s n)
-      (λ ack e is. settings_keep P k r ack c [] new told h is) is.1
-  look_keeps r c misbegan new told look h window is = subst (P calm) (sym is.1.0) (kept.faulted_keeps P k calm c protocol_error h)
-  look_keeps r c (opened s headers end) new told look h window is = absurd look
-  look_keeps r c (answered s status) new told look h window is = absurd look
-  look_keeps r c (ended s) new told look h window is = absurd look
-  look_keeps r c (reset s code) new told look h window is = absurd look
-  look_keeps r c (credited s n) new told look h window is = absurd look
-  look_keeps r c (put s bytes) new told look h window is = absurd look
-  look_keeps r c (wrote n) new told look h window is = absurd look
+      (λ ack e is. settings_keep P k r acks ack c [] new told h is)
+      (λ ack value e. ping_keeps P k acks c ack value h) is.1
+  look_keeps r acks c misbegan new told look h window is = subst (P calm) (sym is.1.0) (kept.faulted_keeps P k calm c protocol_error h)
+  look_keeps r acks c (opened s headers end) new told look h window is = absurd look
+  look_keeps r acks c (answered s status) new told look h window is = absurd look
+  look_keeps r acks c (ended s) new told look h window is = absurd look
+  look_keeps r acks c (reset s code) new told look h window is = absurd look
+  look_keeps r acks c (credited s n) new told look h window is = absurd look
+  look_keeps r acks c (put s bytes) new told look h window is = absurd look
+  look_keeps r acks c (wrote n) new told look h window is = absurd look
 
-  -- where WINDOW_UPDATE and writes keep it too, all moves do
-  module _ (sizes : Resizes P) (grows : (c : Core) (s n : ℕ) → P calm c → Grows P c s n)
+  -- where DATA, SETTINGS with ACK, WINDOW_UPDATE and writes keep it too, all moves do
+  module _ (puts : Puts P) (sizes : Resizes P) (acks : PutsAck P) (grows : (c : Core) (s n : ℕ) → P calm c → Grows P c s n)
       (writes : (c : Core) (n : ℕ) → n ≤ length (octets_of c.out) → P calm c → P calm (record c { out = written n c.out })) where
+    acts : (c : Core) (m : Move) (new : Core) (told : Found) → IsAct m → P calm c → After c m new told → P calm new
+    acts c m new told act h is = act_keeps c (λ s bytes. puts c s bytes h) m new told act h is
+
     pub move_keeps : (c : Core) (m : Move) (new : Core) (told : Found) → P calm c → After c m new told → P calm new
-    move_keeps c (got f) new told h is = look_keeps sizes c (got f) new told tt h (λ s n. window_keeps P k c s n (grows c s n h)) is
+    move_keeps c (got f) new told h is = look_keeps sizes acks c (got f) new told tt h (λ s n. window_keeps P k c s n (grows c s n h)) is
     move_keeps c (refused r kind flags) new told h is =
-        look_keeps sizes c (refused r kind flags) new told tt h (λ s n. window_keeps P k c s n (grows c s n h)) is
-    move_keeps c misbegan new told h is = look_keeps sizes c misbegan new told tt h (λ s n. window_keeps P k c s n (grows c s n h)) is
-    move_keeps c (opened s headers end) new told h is = act_keeps c (opened s headers end) new told tt h is
-    move_keeps c (answered s status) new told h is = act_keeps c (answered s status) new told tt h is
-    move_keeps c (ended s) new told h is = act_keeps c (ended s) new told tt h is
-    move_keeps c (reset s code) new told h is = act_keeps c (reset s code) new told tt h is
-    move_keeps c (credited s n) new told h is = act_keeps c (credited s n) new told tt h is
-    move_keeps c (put s bytes) new told h is = act_keeps c (put s bytes) new told tt h is
+        look_keeps sizes acks c (refused r kind flags) new told tt h (λ s n. window_keeps P k c s n (grows c s n h)) is
+    move_keeps c misbegan new told h is = look_keeps sizes acks c misbegan new told tt h (λ s n. window_keeps P k c s n (grows c s n h)) is
+    move_keeps c (opened s headers end) new told h is = acts c (opened s headers end) new told tt h is
+    move_keeps c (answered s status) new told h is = acts c (answered s status) new told tt h is
+    move_keeps c (ended s) new told h is = acts c (ended s) new told tt h is
+    move_keeps c (reset s code) new told h is = acts c (reset s code) new told tt h is
+    move_keeps c (credited s n) new told h is = acts c (credited s n) new told tt h is
+    move_keeps c (put s bytes) new told h is = acts c (put s bytes) new told tt h is
     move_keeps c (wrote n) new told h is =
         subst (P calm) (sym is.1.0) (kept.payment_keeps P k calm (record c { out = written n c.out }) (writes c n is.0 h))
 

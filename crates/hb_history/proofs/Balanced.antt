@@ -40,13 +40,14 @@ use Rattle.hb_conn.specs.declared.glance.Glance.{Glance}
 use Rattle.hb_conn.specs.declared.glance.Glance.TheVariants as glance
 use Rattle.hb_history.specs.Points.{Move, got, refused, misbegan, opened, answered, ended, reset, credited, put, wrote, Point, point, After, RunsWith, begins_by, got_by, frames_got}
 use Rattle.hb_history.specs.Waits.{IsFirst}
-use Rattle.hb_history.proofs.Parts.{Amid, calm, amid, ending, gone, Keeps, Resizes}
+use Rattle.hb_history.specs.Calls.{IsAct}
+use Rattle.hb_history.proofs.Parts.{Amid, calm, amid, ending, gone, Keeps, Puts, PutsAck, Resizes}
 use Rattle.hb_history.proofs.Kept as kept
-use Rattle.hb_history.proofs.Handled.{Grows, window_keeps, settings_keep, handles_keep}
+use Rattle.hb_history.proofs.Handled.{Grows, window_keeps, settings_keep, ping_keeps, handles_keep}
 use Rattle.hb_history.proofs.Acted.{act_keeps}
-use Rattle.hb_history.proofs.Shown.{out_keeps, out_grows}
-use Rattle.hb_history.proofs.First.{first_keeps, first_written}
-use Rattle.hb_history.proofs.Lives.{Lives, Moved, used, used_some, inactive_none, lives_keep, lives_resize, lives_grow}
+use Rattle.hb_history.proofs.Shown.{out_keeps, out_puts, out_grows}
+use Rattle.hb_history.proofs.First.{first_keeps, first_puts, first_acks, first_written}
+use Rattle.hb_history.proofs.Lives.{Lives, Moved, used, used_some, inactive_none, lives_keep, lives_puts, lives_acks, lives_resize, lives_grow}
 use Rattle.hb_history.proofs.Flowed.{put_within}
 use Rattle.hb_history.proofs.Payloads.{size_append, size_push, size_begun, no_size, IsAll, is_all}
 use Rattle.hb_history.proofs.Sums as sums
@@ -112,15 +113,16 @@ used_low role s n moved live =
 
 -- how much is put
 
-length_by : (a b : Bool) (n x y : ℕ) → n ≡ cond (a && b) (min x y) 0 → n ≤ x
-length_by true true n x y is = omega (arith, is)
-length_by true false n x y is = omega (arith, is)
-length_by false b n x y is = omega (arith, is)
+length_by : (o a b : Bool) (n x y : ℕ) → n ≡ cond o 0 (cond (a && b) (min x y) 0) → n ≤ x
+length_by true a b n x y is = omega (arith, is)
+length_by false true true n x y is = omega (arith, is)
+length_by false true false n x y is = omega (arith, is)
+length_by false false b n x y is = omega (arith, is)
 
-put_length : (c : Core) (s : ℕ) (bytes : List ℕ) → length (take (count_put c s bytes) bytes) ≡ count_put c s bytes
+pub put_length : (c : Core) (s : ℕ) (bytes : List ℕ) → length (take (count_put c s bytes) bytes) ≡ count_put c s bytes
 put_length c s bytes =
     length-take-le (count_put c s bytes) bytes
-    (length_by (nat_le s largest_stream) (length (octets_of c.out) == 0) (count_put c s bytes) (length bytes) (allowed c s) refl)
+    (length_by c.over (nat_le s largest_stream) (length (octets_of c.out) == 0) (count_put c s bytes) (length bytes) (allowed c s) refl)
 
 has_window : (f : Flows) (o : Option Windows) (n : ℕ) → (n == 0) ≡ false → n ≤ sendable_by f o → is_some o ≡ true
 has_window f None n some within = absurd (false≢true (sym some ∙ grind (arith, nat_tests, within)))
@@ -146,6 +148,13 @@ module _ (role : Role) (frames begun : List RawFrame) where
       let small = low role c h.1 still s (has_window c.flow (get c.flow.streams s) (count_put c s bytes) is (put_within c s bytes)) in
       sums.put_sums frames begun c.out.queue c.flow c.streams.highest s (count_put c s bytes) bytes (put_length c s bytes) small (h.2 still)
 
+  -- a frame without payload that windows count
+  pushed_sums : (a : Amid) (c : Core) (f : RawFrame) → has_data f ≡ false → Sums frames begun a c.flow c.out.queue c.streams.highest
+      → Sums frames begun a c.flow (c.out.queue ++ f ∷ []) c.streams.highest
+  pushed_sums a c f none s =
+      carried frames frames (λ n. refl) begun c.out.queue begun (c.out.queue ++ f ∷ []) a a c.flow c.flow c.streams.highest
+      c.streams.highest (push_passes begun c.out.queue f none) (λ n u. u) (same_flows c.flow) (omega arith) s
+
   pub sent_keeps : Keeps (Sent role frames begun)
   sent_keeps =
       let first = out_keeps IsFirst first_keeps in
@@ -164,12 +173,10 @@ module _ (role : Role) (frames begun : List RawFrame) where
               c.streams.highest c.streams.highest (λ n u. tt) (same_flows c.flow) (omega arith) (h.2 still),
         );
         other = λ a c e b p t h. h;
-        sends = λ a c f none h. (
-          first.sends a c f none h.0,
-          lives.sends a c f none h.1,
-          λ still. carried frames frames (λ n. refl) begun c.out.queue begun (c.out.queue ++ f ∷ []) a a c.flow c.flow
-              c.streams.highest c.streams.highest (push_passes begun c.out.queue f none) (λ n u. u) (same_flows c.flow) (omega arith)
-              (h.2 still),
+        sends = λ a c f plain h. (
+          first.sends a c f plain h.0,
+          lives.sends a c f plain h.1,
+          λ still. pushed_sums a c f plain.0 (h.2 still),
         );
         owes = λ a c m keeps h. (h.0, lives.owes a c m keeps h.1, h.2);
         moves = λ b s c t on h. (
@@ -201,7 +208,6 @@ module _ (role : Role) (frames begun : List RawFrame) where
           lives.begins s c sides m above becomes h.1,
           λ still. sums.opened_sums frames begun c.out.queue c.flow c.streams.highest s above (h.2 still),
         );
-        puts = λ c s bytes h. (first.puts c s bytes h.0, lives.puts c s bytes h.1, put_by c s bytes h (count_put c s bytes == 0) refl);
         faults = λ a c f code h. (
           first.faults a c f code h.0,
           lives.faults a c f code h.1,
@@ -209,6 +215,17 @@ module _ (role : Role) (frames begun : List RawFrame) where
               (record c { flow = f }) code _ still,
         );
       }
+
+  pub sent_puts : Puts (Sent role frames begun)
+  sent_puts c s bytes h = (
+    out_puts IsFirst first_puts c s bytes h.0,
+    lives_puts role c s bytes h.1,
+    put_by c s bytes h (count_put c s bytes == 0) refl,
+  )
+
+  pub sent_acks : PutsAck (Sent role frames begun)
+  sent_acks c f answer h =
+      (first_acks c f answer h.0, lives_acks role c f answer h.1, λ still. pushed_sums calm c f answer.0 (h.2 still))
 
   pub sent_resizes : Resizes (Sent role frames begun)
   sent_resizes c k within fits h = (
@@ -295,7 +312,10 @@ got_by_kind role frames begun c f false kind h new told is =
     (with_frame role frames begun c f kind h)
     (λ s n e. absurd (false≢true (sym (no_window f kind) ∙ ap is_window e)))
     (λ ack e does. settings_keep (Sent role (frames ++ f ∷ []) begun) (sent_keeps role (frames ++ f ∷ []) begun)
-    (sent_resizes role (frames ++ f ∷ []) begun) ack c (lent_of f) new told (with_frame role frames begun c f kind h) does) is
+    (sent_resizes role (frames ++ f ∷ []) begun) (sent_acks role (frames ++ f ∷ []) begun) ack c (lent_of f) new told
+    (with_frame role frames begun c f kind h) does)
+    (λ ack value e. ping_keeps (Sent role (frames ++ f ∷ []) begun) (sent_keeps role (frames ++ f ∷ []) begun)
+    (sent_acks role (frames ++ f ∷ []) begun) c ack value (with_frame role frames begun c f kind h)) is
 
 write_passes : (c : Core) (n : ℕ) (begun : List RawFrame)
     → Passes begun c.out.queue (begun ++ begun_by n c.out) (written n c.out).queue
@@ -319,8 +339,15 @@ no_more role frames begun new h =
     subst (λ (fs : List RawFrame). Sent role fs (begun ++ []) calm new) (sym (append-nil frames))
     (subst (λ (fs : List RawFrame). Sent role frames fs calm new) (sym (append-nil begun)) h)
 
+-- an act of this end
+acts : (role : Role) (frames begun : List RawFrame) (c : Core) (m : Move) (new : Core) (told : Found) → IsAct m
+    → Sent role frames begun calm c → After c m new told → Sent role (frames ++ []) (begun ++ []) calm new
+acts role frames begun c m new told act h is =
+    no_more role frames begun new
+    (act_keeps (Sent role frames begun) (sent_keeps role frames begun) c (λ s bytes. sent_puts role frames begun c s bytes h) m new told act h is)
+
 -- one move
-moves : (role : Role) (frames begun : List RawFrame) (c : Core) (m : Move) (new : Core) (told : Found) → Sent role frames begun calm c
+pub moves : (role : Role) (frames begun : List RawFrame) (c : Core) (m : Move) (new : Core) (told : Found) → Sent role frames begun calm c
     → After c m new told → Sent role (frames ++ got_by (point m told)) (begun ++ begins_by c m) calm new
 moves role frames begun c (got f) new told h is =
     subst (λ (fs : List RawFrame). Sent role (frames ++ f ∷ []) fs calm new) (sym (append-nil begun))
@@ -330,25 +357,25 @@ moves role frames begun c (refused r kind flags) new told h is =
     (handles_keep (Sent role frames begun) (sent_keeps role frames begun) c (glance.Refused r.code r.row kind flags) [] new told h
     (λ s n e. absurd (false≢true (ap is_window e)))
     (λ ack e does. settings_keep (Sent role frames begun) (sent_keeps role frames begun)
-    (sent_resizes role frames begun) ack c [] new told h does)
+    (sent_resizes role frames begun) (sent_acks role frames begun) ack c [] new told h does)
+    (λ ack value e. ping_keeps (Sent role frames begun) (sent_keeps role frames begun) (sent_acks role frames begun) c ack value h)
     is.1)
 moves role frames begun c misbegan new told h is =
     no_more role frames begun new
     (subst (Sent role frames begun calm) (sym is.1.0)
     (kept.faulted_keeps (Sent role frames begun) (sent_keeps role frames begun) calm c protocol_error h))
 moves role frames begun c (opened s headers end) new told h is =
-    no_more role frames begun new (act_keeps (Sent role frames begun) (sent_keeps role frames begun) c
-    (opened s headers end) new told tt h is)
+    acts role frames begun c (opened s headers end) new told tt h is
 moves role frames begun c (answered s status) new told h is =
-    no_more role frames begun new (act_keeps (Sent role frames begun) (sent_keeps role frames begun) c (answered s status) new told tt h is)
+    acts role frames begun c (answered s status) new told tt h is
 moves role frames begun c (ended s) new told h is =
-    no_more role frames begun new (act_keeps (Sent role frames begun) (sent_keeps role frames begun) c (ended s) new told tt h is)
+    acts role frames begun c (ended s) new told tt h is
 moves role frames begun c (reset s code) new told h is =
-    no_more role frames begun new (act_keeps (Sent role frames begun) (sent_keeps role frames begun) c (reset s code) new told tt h is)
+    acts role frames begun c (reset s code) new told tt h is
 moves role frames begun c (credited s n) new told h is =
-    no_more role frames begun new (act_keeps (Sent role frames begun) (sent_keeps role frames begun) c (credited s n) new told tt h is)
+    acts role frames begun c (credited s n) new told tt h is
 moves role frames begun c (put s bytes) new told h is =
-    no_more role frames begun new (act_keeps (Sent role frames begun) (sent_keeps role frames begun) c (put s bytes) new told tt h is)
+    acts role frames begun c (put s bytes) new told tt h is
 moves role frames begun c (wrote n) new told h is =
     let begins = begun ++ begun_by n c.out in
     subst (λ (fs : List RawFrame). Sent role fs begins calm new) (sym (append-nil frames))

@@ -48,7 +48,7 @@ either_keeps false x y of_x of_y = of_y
 released_keeps : (c : Core) (s : ℕ) → IsCaughtUp c → IsCaughtUp (released c s)
 released_keeps c s caught = either_keeps (is_active c.streams s) c _ caught (λ room. closed_owes c.owed s (caught room))
 
-act_keeps : (move : Move) (c d : Core) → IsAct move → IsOnStream move → After c move d Silent → IsCaughtUp c → IsCaughtUp d
+pub act_keeps : (move : Move) (c d : Core) → IsAct move → IsOnStream move → After c move d Silent → IsCaughtUp c → IsCaughtUp d
 act_keeps (got f) c d act on after caught = absurd act
 act_keeps (refused r kind flags) c d act on after caught = absurd act
 act_keeps misbegan c d act on after caught = absurd act
@@ -77,7 +77,7 @@ calls_keep (writes n ∷ calls) c d came written on (mid, makes, later, came_is,
     calls_keep calls mid d later behind on others
     (subst (λ (k : Connection). IsCaughtUp k.receiver.core) (sym makes.1) (writes_catch_up c.receiver.core n))
 
-fresh_owes : (role : Role) → IsCaughtUp (fresh role).receiver.core
+pub fresh_owes : (role : Role) → IsCaughtUp (fresh role).receiver.core
 fresh_owes Server = λ room. nothing_due empty (λ q. ap dues_by (get-empty nat_cmp q))
 fresh_owes Client = λ room. nothing_due empty (λ q. ap dues_by (get-empty nat_cmp q))
 

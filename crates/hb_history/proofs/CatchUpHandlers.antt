@@ -68,7 +68,7 @@ used_lowers c counted clear =
     let put = updated_lowers (due_of f.taking) _ clear in
     record { room = put.room; clear = put.clear }
 
-credited_lowers : (c : Core) (s : ℕ) → s ≤ largest → 30 ≤ room_of c.out → dues c.owed ≡ [] → Lowers 13 c (credited_on c s)
+pub credited_lowers : (c : Core) (s : ℕ) → s ≤ largest → 30 ≤ room_of c.out → dues c.owed ≡ [] → Lowers 13 c (credited_on c s)
 credited_lowers c s number room clear =
     let put = update_lowers (due_on c.flow s) _ s number room clear in record { room = put.room; clear = put.clear }
 

@@ -6,7 +6,7 @@ use Rattle.std.proofs.lemmas.List.{nil_from_length, drop_all}
 use Rattle.hb_frames.specs.RawFrame.{RawFrame, spelling}
 use Rattle.hb_streams.specs.declared.role.Role.{Role}
 use Rattle.hb_streams.specs.declared.role.Role.TheVariants.{Server, Client}
-use Rattle.hb_outgoing.specs.Waiting.{Waiting, spelled}
+use Rattle.hb_outgoing.specs.Waiting.{Waiting, octets_of, spelled}
 use Rattle.hb_outgoing.specs.Written.{begun_in, written}
 use Rattle.hb_outgoing.specs.Selected.{has_data, is_kept}
 use Rattle.hb_outgoing.proofs.Queues.{spelling_len}
@@ -14,10 +14,11 @@ use Rattle.hb_conn.specs.declared.machine.Core.{Core}
 use Rattle.hb_history.specs.Points.{Point, Runs}
 use Rattle.hb_history.specs.History.{fresh}
 use Rattle.hb_history.specs.Waits.{IsFirstBy, IsFirst, DataStandsFirst}
-use Rattle.hb_history.proofs.Shown.{KeepsOut, OfOut, out_keeps, out_resizes, out_grows}
+use Rattle.hb_history.proofs.Parts.{PutsAck}
+use Rattle.hb_history.proofs.Shown.{KeepsOut, PutsOut, OfOut, out_keeps, out_puts, out_resizes, out_grows}
 use Rattle.hb_history.proofs.Acted.{runs_keep}
 
-abbrev NoData : List RawFrame → Type 0
+abbrev pub NoData : List RawFrame → Type 0
 NoData fs = AllByRecursion (λ g. has_data g ≡ false) fs
 
 none_first : (rest : List ℕ) (fs : List RawFrame) → NoData fs → IsFirstBy rest fs
@@ -28,13 +29,13 @@ none_more : (fs : List RawFrame) (f : RawFrame) → NoData fs → has_data f ≡
 none_more [] f none is = (is, tt)
 none_more (g ∷ fs) f none is = (none.0, none_more fs f none.1 is)
 
-none_left : (n : ℕ) (fs : List RawFrame) → NoData fs → NoData (drop n fs)
+pub none_left : (n : ℕ) (fs : List RawFrame) → NoData fs → NoData (drop n fs)
 none_left zero [] none = tt
 none_left zero (f ∷ fs) none = none
 none_left (suc n) [] none = tt
 none_left (suc n) (f ∷ fs) none = none_left n fs none.1
 
-none_filtered : (p : RawFrame → Bool) (fs : List RawFrame) → NoData fs → NoData (filter p fs)
+pub none_filtered : (p : RawFrame → Bool) (fs : List RawFrame) → NoData fs → NoData (filter p fs)
 none_filtered p [] none = tt
 none_filtered p (f ∷ fs) none = by (p f) (none_filtered p fs none.1)
   where
@@ -45,6 +46,17 @@ none_filtered p (f ∷ fs) none = by (p f) (none_filtered p fs none.1)
 put_by : (rest : List ℕ) (fs : List RawFrame) (f : RawFrame) → has_data f ≡ false → IsFirstBy rest fs → IsFirstBy rest (fs ++ f ∷ [])
 put_by rest [] f none first = none_first rest (f ∷ []) (none, tt)
 put_by rest (g ∷ fs) f none first = (first.0, none_more fs f first.1 none)
+
+-- where no octet waits no frame does
+pub none_waits : (w : Waiting) → octets_of w ≡ [] → w.queue ≡ []
+none_waits w none = by w.queue none
+  where
+    by : (fs : List RawFrame) → w.rest ++ spelled fs ≡ [] → fs ≡ []
+    by [] none = refl
+    by (g ∷ fs) none =
+        let len = length-append w.rest (spelled (g ∷ fs)) in
+        let one = length-append (spelling g) (spelled fs) in
+        absurd (omega (arith, len, one, spelling_len g, ap length none))
 
 data_by : (rest : List ℕ) (fs : List RawFrame) (f : RawFrame) → rest ++ spelled fs ≡ [] → IsFirstBy rest (fs ++ f ∷ [])
 data_by rest [] f none =
@@ -74,11 +86,16 @@ written_by rest n (suc m) (f ∷ fs) first = none_first _ _ (none_left (length (
 
 pub first_keeps : KeepsOut IsFirst
 first_keeps = record {
-  puts = λ w f none first. put_by w.rest w.queue f none first;
-  puts_data = λ w f none first. data_by w.rest w.queue f none;
+  puts = λ w f plain first. put_by w.rest w.queue f plain.0 first;
   takes_back = λ w s first. filtered_by (is_kept (Some s)) w.rest w.queue first;
   takes_all_back = λ w first. filtered_by (is_kept None) w.rest w.queue first;
 }
+
+pub first_puts : PutsOut IsFirst
+first_puts w f other none first = data_by w.rest w.queue f none
+
+pub first_acks : PutsAck (OfOut IsFirst)
+first_acks c f answer first = put_by c.out.rest c.out.queue f answer.0 first
 
 pub first_written : (w : Waiting) (n : ℕ) → IsFirst w → IsFirst (written n w)
 first_written w n first = written_by w.rest n (n - length w.rest) w.queue first
@@ -89,7 +106,7 @@ first_new Client = (λ some. absurd (false≢true some), tt)
 
 pub first_runs : (points : List Point) (c new : Core) → IsFirst c.out → Runs c points new → IsFirst new.out
 first_runs points c new first runs =
-    runs_keep (OfOut IsFirst) (out_keeps IsFirst first_keeps) (out_resizes IsFirst first_keeps)
+    runs_keep (OfOut IsFirst) (out_keeps IsFirst first_keeps) (out_puts IsFirst first_puts) (out_resizes IsFirst first_keeps) first_acks
     (λ d s n h. out_grows IsFirst first_keeps d s n h)
     (λ d n within h. first_written d.out n h) points c new first runs
 

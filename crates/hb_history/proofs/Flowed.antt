@@ -24,7 +24,7 @@ use Rattle.hb_conn.specs.declared.machine.Core.{Core}
 use Rattle.hb_history.specs.History.{fresh}
 use Rattle.hb_history.specs.Live.{WindowsMove}
 use Rattle.hb_history.specs.Taking.{TakingIsWhole}
-use Rattle.hb_history.proofs.Parts.{Amid, calm, amid, Keeps, Resizes}
+use Rattle.hb_history.proofs.Parts.{Amid, calm, amid, Keeps, Puts, PutsAck, Resizes}
 use Rattle.hb_history.proofs.Handled.{Grows}
 use Rattle.hb_history.proofs.Acted.{runs_keep}
 
@@ -47,14 +47,15 @@ abbrev pub Flow : Amid → Core → Type 0
 Flow a c = c.over ≡ false → Flowed c.flow
 
 -- no more is put than both windows let go
-within_by : (a b : Bool) (n x y z : ℕ) → n ≡ cond (a && b) (min x (min y z)) 0 → n ≤ y
-within_by true true n x y z is = omega (arith, is)
-within_by true false n x y z is = omega (arith, is)
-within_by false b n x y z is = omega (arith, is)
+within_by : (o a b : Bool) (n x y z : ℕ) → n ≡ cond o 0 (cond (a && b) (min x (min y z)) 0) → n ≤ y
+within_by true a b n x y z is = omega (arith, is)
+within_by false true true n x y z is = omega (arith, is)
+within_by false true false n x y z is = omega (arith, is)
+within_by false false b n x y z is = omega (arith, is)
 
 pub put_within : (c : Core) (s : ℕ) (bytes : List ℕ) → count_put c s bytes ≤ sendable c.flow s
 put_within c s bytes =
-    within_by (nat_le s largest) (length (octets_of c.out) == 0) (count_put c s bytes) (length bytes) (sendable c.flow s)
+    within_by c.over (nat_le s largest) (length (octets_of c.out) == 0) (count_put c s bytes) (length bytes) (sendable c.flow s)
     (min c.peer.frame_size 16384) refl
 
 put_by : (c : Core) (s n : ℕ) (bytes : List ℕ) (b : Bool) → n ≤ sendable c.flow s → Flow calm c
@@ -88,9 +89,14 @@ flow_keeps = record {
   leaves = λ s c none h. λ still. flowed_on c.flow (closes s) tt (h still);
   takes_in = λ a c m taking may h. λ still. flowed_on c.flow m may (h still);
   begins = λ s c sides m above becomes h. λ still. flowed_on c.flow (opens s) tt (h still);
-  puts = λ c s bytes h. put_by c s (count_put c s bytes) bytes (count_put c s bytes == 0) (put_within c s bytes) h;
   faults = λ a c f code h. fault_by (record c { flow = f }) code;
 }
+
+pub flow_puts : Puts Flow
+flow_puts c s bytes h = put_by c s (count_put c s bytes) bytes (count_put c s bytes == 0) (put_within c s bytes) h
+
+pub flow_acks : PutsAck Flow
+flow_acks c f answer h = h
 
 pub flow_resizes : Resizes Flow
 flow_resizes c k within fits h = λ still. flowed_on c.flow (resizes k) tt (h still)
@@ -110,7 +116,7 @@ flow_new Client = λ still. ([], refl, tt)
 
 pub windows_move : WindowsMove
 windows_move role points given came written c stands still =
-    runs_keep Flow flow_keeps flow_resizes (λ d s n h. flow_grows d s n h) (λ d n within h. h) points
+    runs_keep Flow flow_keeps flow_puts flow_resizes flow_acks (λ d s n h. flow_grows d s n h) (λ d n within h. h) points
     (fresh role).receiver.core c.receiver.core
     (flow_new role) stands.runs still
 

@@ -3,13 +3,14 @@ use Rattle.std.proofs.Common.{◌≡◌, ℕ, ◌+◌, ◌*◌, ◌%◌, ◌==�
 use Rattle.std.proofs.lemmas.Bool.{false≢true}
 use Rattle.std.proofs.lemmas.Bool.Decides.{nat_tests}
 use Rattle.hb_frames.specs.RawFrame.{RawFrame}
-use Rattle.hb_frames.specs.Numbers.{settings_kind, window_update_kind}
+use Rattle.hb_frames.specs.Numbers.{settings_kind, ping_kind, window_update_kind}
 use Rattle.hb_frames.specs.Octets.{four_at}
 use Rattle.hb_frames.specs.Refusals.{is_ack, increment_of}
 use Rattle.hb_frames.specs.Bodies.{content_of, lent_of}
 use Rattle.hb_conn.specs.Glance.{glance_at, has_flag}
 use Rattle.hb_conn.specs.declared.glance.Glance.{Glance}
 use Rattle.hb_conn.specs.declared.glance.Glance.TheVariants as glance
+use Rattle.hb_history.specs.Answered.{ping_value}
 
 -- by its type
 abbrev glance_with : RawFrame → ℕ → Glance
@@ -34,6 +35,9 @@ pub settings_are : (f : RawFrame) → (f.kind == settings_kind) ≡ true
     → (glance_at f ≡ glance.Settings (is_ack f)) × (lent_of f ≡ f.payload)
 settings_are f test =
     let kind : f.kind ≡ 4 = grind (arith, nat_tests, test) in (ap (glance_with f) kind, ap (lent_with f) kind)
+
+pub ping_is : (f : RawFrame) → (f.kind == ping_kind) ≡ true → glance_at f ≡ glance.Ping (is_ack f) (ping_value f)
+ping_is f test = let kind : f.kind ≡ 6 = grind (arith, nat_tests, test) in ap (glance_with f) kind
 
 -- a test that fails of what a frame of each type is glanced at fails of all frames
 module _ (q : Glance → Bool) where
@@ -64,6 +68,10 @@ abbrev pub is_settings : Glance → Bool
 is_settings (glance.Settings ack) = true
 is_settings _ = false
 
+abbrev pub is_ping : Glance → Bool
+is_ping (glance.Ping ack value) = true
+is_ping _ = false
+
 pub something : (f : RawFrame) → is_nothing (glance_at f) ≡ false
 something f =
     none_by is_nothing (f.kind == 0) (f.kind == 1) (f.kind == 3) (f.kind == 9) (f.kind == 4) (f.kind == 6) (f.kind == 7) (f.kind == 8)
@@ -80,3 +88,9 @@ no_settings f test =
     none_by is_settings (f.kind == 0) (f.kind == 1) (f.kind == 3) (f.kind == 9) (f.kind == 4) (f.kind == 6) (f.kind == 7) (f.kind == 8)
     _ _ _ _ _ _ _ _ (λ e. refl) (λ e. refl) (λ e. refl) (λ e. refl) (λ e. absurd (false≢true (sym test ∙ e)))
     (λ e. refl) (λ e. refl) (λ e. refl) refl
+
+pub no_ping : (f : RawFrame) → (f.kind == ping_kind) ≡ false → is_ping (glance_at f) ≡ false
+no_ping f test =
+    none_by is_ping (f.kind == 0) (f.kind == 1) (f.kind == 3) (f.kind == 9) (f.kind == 4) (f.kind == 6) (f.kind == 7) (f.kind == 8)
+    _ _ _ _ _ _ _ _ (λ e. refl) (λ e. refl) (λ e. refl) (λ e. refl) (λ e. refl)
+    (λ e. absurd (false≢true (sym test ∙ e))) (λ e. refl) (λ e. refl) refl

@@ -27,7 +27,8 @@ use Rattle.hb_blocks.specs.declared.fault.BlockFault.{BlockFault}
 use Rattle.hb_blocks.specs.declared.whole.Whole.{Whole}
 use Rattle.hb_conn.proofs.Flowing.{data_is_kept}
 use Rattle.hb_conn.specs.Numbers.{initial_window_size, max_concurrent_streams, max_frame_size, protocol_error}
-use Rattle.hb_conn.specs.Frames.{sent, settings_ack, ping_ack}
+use Rattle.hb_conn.specs.Frames.{settings_ack, ping_ack}
+use Rattle.hb_conn.specs.Ping.{on_ping}
 use Rattle.hb_conn.specs.Faults.{faulted, is_active, broken, released}
 use Rattle.hb_conn.specs.Data.{used, padded, continued, data_goes, data_answered, is_of_idle, on_data}
 use Rattle.hb_conn.specs.Resets.{peer_reset, reset_answered}
@@ -42,7 +43,7 @@ use Rattle.hb_conn.specs.declared.found.Found.{Found}
 use Rattle.hb_conn.specs.declared.found.Found.TheVariants.{Silent, Chunk}
 use Rattle.hb_conn.specs.declared.glance.Glance.{Glance}
 use Rattle.hb_conn.specs.declared.glance.Glance.TheVariants as glance
-use Rattle.hb_history.proofs.Parts.{Amid, calm, gone, Keeps, Resizes}
+use Rattle.hb_history.proofs.Parts.{Amid, calm, gone, Keeps, PutsAck, Resizes}
 use Rattle.hb_history.proofs.Moved.{received, received_refused, data_begins_none, reset_begins_none, reset_closes, closed_inactive}
 use Rattle.hb_history.proofs.Kept as kept
 
@@ -200,31 +201,31 @@ module _ (P : Amid → Core → Type 0) (k : Keeps P) where
       by true one later rest = later one rest
       by false one later rest = subst (Settled new) (sym rest.1) (subst (λ d. Settled d false) (sym rest.0) one)
 
-  settled_keeps : (c new : Core) (fits : Bool) (found : Found) → Settled c fits → Gives (applied c fits) new found → P calm new
-  settled_keeps c new true found h is =
-      subst (P calm) (sym is.0)
-      (k.sends calm (record c { settled = true }) settings_ack refl (k.other calm c c.encoder c.blocks c.peer true h))
-  settled_keeps c new false found h is = subst (P calm) (sym is.0) (h 3)
+  settled_keeps : PutsAck P → (c new : Core) (fits : Bool) (found : Found) → Settled c fits → Gives (applied c fits) new found
+      → P calm new
+  settled_keeps acks c new true found h is =
+      subst (P calm) (sym is.0) (acks (record c { settled = true }) settings_ack (refl, refl)
+      (k.other calm c c.encoder c.blocks c.peer true h))
+  settled_keeps acks c new false found h is = subst (P calm) (sym is.0) (h 3)
 
-  settings_by : Resizes P → (b : Bool) (c : Core) (pairs : List (ℕ × ℕ)) (new : Core) (found : Found) → P calm c
+  settings_by : Resizes P → PutsAck P → (b : Bool) (c : Core) (pairs : List (ℕ × ℕ)) (new : Core) (found : Found) → P calm c
       → SettlesBy b c pairs new found → P calm new
-  settings_by r true c pairs new found h is = subst (P calm) (sym is.0) (kept.faulted_keeps P k calm c protocol_error h)
-  settings_by r false c pairs new found h is =
-      settled_keeps is.0 new is.1 found (all_keep r pairs c is.0 is.1 h is.2) is.3
+  settings_by r acks true c pairs new found h is = subst (P calm) (sym is.0) (kept.faulted_keeps P k calm c protocol_error h)
+  settings_by r acks false c pairs new found h is =
+      settled_keeps acks is.0 new is.1 found (all_keep r pairs c is.0 is.1 h is.2) is.3
 
-  pub settings_keep : Resizes P → (ack : Bool) (c : Core) (payload : List ℕ) (new : Core) (found : Found) → P calm c
+  pub settings_keep : Resizes P → PutsAck P → (ack : Bool) (c : Core) (payload : List ℕ) (new : Core) (found : Found) → P calm c
       → DoesSettings ack c payload new found
       → P calm new
-  settings_keep r true c payload new found h is = subst (P calm) (sym is.0) h
-  settings_keep r false c payload new found h is =
-      settings_by r (allows_push c.streams.role (settings payload)) c (settings payload) new found h is
+  settings_keep r acks true c payload new found h is = subst (P calm) (sym is.0) h
+  settings_keep r acks false c payload new found h is =
+      settings_by r acks (allows_push c.streams.role (settings payload)) c (settings payload) new found h is
 
   -- PING
 
-  ping_keeps : (c : Core) (b : Bool) (value : ℕ) → P calm c
-      → P calm (cond b (outcome c Silent) (outcome (sent c (ping_ack value)) Silent)).core
-  ping_keeps c true value h = h
-  ping_keeps c false value h = k.sends calm c (ping_ack value) refl h
+  pub ping_keeps : PutsAck P → (c : Core) (ack : Bool) (value : ℕ) → P calm c → P calm (on_ping c ack value).core
+  ping_keeps acks c true value h = h
+  ping_keeps acks c false value h = acks c (ping_ack value) (refl, refl) h
 
   -- WINDOW_UPDATE
 
@@ -281,34 +282,37 @@ module _ (P : Amid → Core → Type 0) (k : Keeps P) where
 
   answers_keep : (c : Core) (g : Glance) (bytes : List ℕ) (new : Core) (found : Found) → P calm c
       → ((s n : ℕ) → g ≡ glance.Window s n → P calm (on_window c s n).core)
-      → ((ack : Bool) → g ≡ glance.Settings ack → DoesSettings ack c bytes new found → P calm new) → Answers c g bytes new found
+      → ((ack : Bool) → g ≡ glance.Settings ack → DoesSettings ack c bytes new found → P calm new)
+      → ((ack : Bool) (value : ℕ) → g ≡ glance.Ping ack value → P calm (on_ping c ack value).core) → Answers c g bytes new found
       → P calm new
-  answers_keep c glance.Nothing bytes new found h window settings is = subst (P calm) (sym is.0) h
-  answers_keep c (glance.Data s n end) bytes new found h window settings is =
+  answers_keep c glance.Nothing bytes new found h window settings ping is = subst (P calm) (sym is.0) h
+  answers_keep c (glance.Data s n end) bytes new found h window settings ping is =
       subst (P calm) (sym is.0) (data_keeps c s n (length bytes) end h)
-  answers_keep c (glance.Headers s end whole) bytes new found h window settings is = block_keeps _ c new found h is
-  answers_keep c (glance.Reset s code) bytes new found h window settings is =
+  answers_keep c (glance.Headers s end whole) bytes new found h window settings ping is = block_keeps _ c new found h is
+  answers_keep c (glance.Reset s code) bytes new found h window settings ping is =
       subst (P calm) (sym is.0) (reset_by c s code (answer_of c.streams rst_stream_kind s) refl h)
-  answers_keep c (glance.Settings ack) bytes new found h window settings is = settings ack refl is
-  answers_keep c (glance.Ping ack value) bytes new found h window settings is =
-      subst (P calm) (sym is.0) (ping_keeps c ack value h)
-  answers_keep c (glance.GoAway last) bytes new found h window settings is = subst (P calm) (sym is.0) h
-  answers_keep c (glance.Window s n) bytes new found h window settings is = subst (P calm) (sym is.0) (window s n refl)
-  answers_keep c (glance.Continuation s whole) bytes new found h window settings is = block_keeps _ c new found h is
-  answers_keep c glance.Other bytes new found h window settings is = subst (P calm) (sym is.0) h
-  answers_keep c (glance.Refused code row kind flags) bytes new found h window settings is =
+  answers_keep c (glance.Settings ack) bytes new found h window settings ping is = settings ack refl is
+  answers_keep c (glance.Ping ack value) bytes new found h window settings ping is =
+      subst (P calm) (sym is.0) (ping ack value refl)
+  answers_keep c (glance.GoAway last) bytes new found h window settings ping is = subst (P calm) (sym is.0) h
+  answers_keep c (glance.Window s n) bytes new found h window settings ping is = subst (P calm) (sym is.0) (window s n refl)
+  answers_keep c (glance.Continuation s whole) bytes new found h window settings ping is = block_keeps _ c new found h is
+  answers_keep c glance.Other bytes new found h window settings ping is = subst (P calm) (sym is.0) h
+  answers_keep c (glance.Refused code row kind flags) bytes new found h window settings ping is =
       subst (P calm) (sym is.0) (kept.faulted_keeps P k calm c code h)
 
   handles_by : (b : Bool) (c : Core) (g : Glance) (bytes : List ℕ) (new : Core) (found : Found) → P calm c
       → ((s n : ℕ) → g ≡ glance.Window s n → P calm (on_window c s n).core)
-      → ((ack : Bool) → g ≡ glance.Settings ack → DoesSettings ack c bytes new found → P calm new) → HandlesBy b c g bytes new found
+      → ((ack : Bool) → g ≡ glance.Settings ack → DoesSettings ack c bytes new found → P calm new)
+      → ((ack : Bool) (value : ℕ) → g ≡ glance.Ping ack value → P calm (on_ping c ack value).core) → HandlesBy b c g bytes new found
       → P calm new
-  handles_by true c g bytes new found h window settings is =
+  handles_by true c g bytes new found h window settings ping is =
       subst (P calm) (sym is.0) (kept.faulted_keeps P k calm c protocol_error h)
-  handles_by false c g bytes new found h window settings is = answers_keep c g bytes new found h window settings is
+  handles_by false c g bytes new found h window settings ping is = answers_keep c g bytes new found h window settings ping is
 
   pub handles_keep : (c : Core) (g : Glance) (bytes : List ℕ) (new : Core) (found : Found) → P calm c
       → ((s n : ℕ) → g ≡ glance.Window s n → P calm (on_window c s n).core)
-      → ((ack : Bool) → g ≡ glance.Settings ack → DoesSettings ack c bytes new found → P calm new) → Handles c g bytes new found
+      → ((ack : Bool) → g ≡ glance.Settings ack → DoesSettings ack c bytes new found → P calm new)
+      → ((ack : Bool) (value : ℕ) → g ≡ glance.Ping ack value → P calm (on_ping c ack value).core) → Handles c g bytes new found
       → P calm new
-  handles_keep c g bytes new found h window settings is = handles_by (is_misplaced c g) c g bytes new found h window settings is
+  handles_keep c g bytes new found h window settings ping is = handles_by (is_misplaced c g) c g bytes new found h window settings ping is

@@ -29,9 +29,10 @@ use Rattle.hb_conn.specs.declared.glance.Glance.TheVariants as glance
 use Rattle.hb_history.specs.Points.{Move, got, refused, misbegan, opened, answered, ended, reset, credited, put, wrote, Point, point, After, Runs, got_by, frames_got}
 use Rattle.hb_history.specs.History.{fresh}
 use Rattle.hb_history.specs.Sending.{size_after, size_with, InitialIsLast}
-use Rattle.hb_history.proofs.Parts.{Amid, calm, amid, Keeps}
+use Rattle.hb_history.specs.Calls.{IsAct}
+use Rattle.hb_history.proofs.Parts.{Amid, calm, amid, Keeps, Puts, PutsAck}
 use Rattle.hb_history.proofs.Kept as kept
-use Rattle.hb_history.proofs.Handled.{Grows, window_keeps, handles_keep}
+use Rattle.hb_history.proofs.Handled.{Grows, window_keeps, ping_keeps, handles_keep}
 use Rattle.hb_history.proofs.Acted.{act_keeps}
 use Rattle.hb_history.proofs.Sums.{taking_kept}
 use Rattle.hb_history.proofs.Glanced.{settings_are, no_settings, is_settings}
@@ -70,9 +71,14 @@ initial_keeps size = record {
   leaves = λ s c none h. h;
   takes_in = λ a c m taking may h. λ still. (taking_kept c.flow m taking).initial ∙ h still;
   begins = λ s c sides m above becomes h. h;
-  puts = λ c s bytes h. put_by size c s (count_put c s bytes) bytes (count_put c s bytes == 0) h;
   faults = λ a c f code h. fault_by size (record c { flow = f }) code;
 }
+
+pub initial_puts : (size : ℕ) → Puts (Initial size)
+initial_puts size c s bytes h = put_by size c s (count_put c s bytes) bytes (count_put c s bytes == 0) h
+
+pub initial_acks : (size : ℕ) → PutsAck (Initial size)
+initial_acks size c f answer h = h
 
 pub initial_grows : (size : ℕ) (c : Core) (s n : ℕ) → Initial size calm c → Grows (Initial size) c s n
 initial_grows size c s n h = record {
@@ -158,23 +164,31 @@ frame_by size c f true test new told h is =
 frame_by size c f false test new told h is =
     handles_keep (Initial size) (initial_keeps size) c (glance_at f) (lent_of f) new told h
     (λ s n e. window_keeps (Initial size) (initial_keeps size) c s n (initial_grows size c s n h))
-    (λ ack e does. absurd (false≢true (sym (no_settings f test) ∙ ap is_settings e))) is
+    (λ ack e does. absurd (false≢true (sym (no_settings f test) ∙ ap is_settings e)))
+    (λ ack value e. ping_keeps (Initial size) (initial_keeps size) (initial_acks size) c ack value h) is
+
+-- an act of this end
+acts : (size : ℕ) (c : Core) (m : Move) (new : Core) (told : Found) → IsAct m → Initial size calm c → After c m new told
+    → Initial size calm new
+acts size c m new told act h is =
+    act_keeps (Initial size) (initial_keeps size) c (λ s bytes. initial_puts size c s bytes h) m new told act h is
 
 -- one move
-moves : (size : ℕ) (c : Core) (m : Move) (new : Core) (told : Found) → Initial size calm c → After c m new told
+pub moves : (size : ℕ) (c : Core) (m : Move) (new : Core) (told : Found) → Initial size calm c → After c m new told
     → Initial (fold size_with size (got_by (point m told))) calm new
 moves size c (got f) new told h is = frame_by size c f (f.kind == settings_kind) refl new told h is.1
 moves size c (refused r kind flags) new told h is =
     handles_keep (Initial size) (initial_keeps size) c (glance.Refused r.code r.row kind flags) [] new told h
     (λ s n e. window_keeps (Initial size) (initial_keeps size) c s n (initial_grows size c s n h))
-    (λ ack e does. absurd (false≢true (ap is_settings e))) is.1
+    (λ ack e does. absurd (false≢true (ap is_settings e)))
+    (λ ack value e. ping_keeps (Initial size) (initial_keeps size) (initial_acks size) c ack value h) is.1
 moves size c misbegan new told h is = subst (Initial size calm) (sym is.1.0) (fault_by size c protocol_error)
-moves size c (opened s headers end) new told h is = act_keeps (Initial size) (initial_keeps size) c (opened s headers end) new told tt h is
-moves size c (answered s status) new told h is = act_keeps (Initial size) (initial_keeps size) c (answered s status) new told tt h is
-moves size c (ended s) new told h is = act_keeps (Initial size) (initial_keeps size) c (ended s) new told tt h is
-moves size c (reset s code) new told h is = act_keeps (Initial size) (initial_keeps size) c (reset s code) new told tt h is
-moves size c (credited s n) new told h is = act_keeps (Initial size) (initial_keeps size) c (credited s n) new told tt h is
-moves size c (put s bytes) new told h is = act_keeps (Initial size) (initial_keeps size) c (put s bytes) new told tt h is
+moves size c (opened s headers end) new told h is = acts size c (opened s headers end) new told tt h is
+moves size c (answered s status) new told h is = acts size c (answered s status) new told tt h is
+moves size c (ended s) new told h is = acts size c (ended s) new told tt h is
+moves size c (reset s code) new told h is = acts size c (reset s code) new told tt h is
+moves size c (credited s n) new told h is = acts size c (credited s n) new told tt h is
+moves size c (put s bytes) new told h is = acts size c (put s bytes) new told tt h is
 moves size c (wrote n) new told h is =
     subst (Initial size calm) (sym is.1.0)
     (kept.payment_keeps (Initial size) (initial_keeps size) calm (record c { out = written n c.out }) h)
@@ -190,7 +204,7 @@ runs (p ∷ ps) size c new h is =
     subst (λ n. Initial n calm new) (sym (fold_both size (got_by p) (frames_got ps)))
     (runs ps (fold size_with size (got_by p)) is.0 new (moves size c p.move is.0 p.told h is.1) is.2)
 
-initial_new : (role : Role) → Initial 65535 calm (fresh role).receiver.core
+pub initial_new : (role : Role) → Initial 65535 calm (fresh role).receiver.core
 initial_new Server = λ still. refl
 initial_new Client = λ still. refl
 

@@ -13,7 +13,6 @@ use Rattle.hb_flow.specs.Windows.{due_of}
 use Rattle.hb_flow.specs.Flows.{took, owed, due_on, paid_on}
 use Rattle.hb_flow.specs.Flows.{paid as paid_flow}
 use Rattle.hb_flow.specs.Moves.{takes, owes, pays, pays_on}
-use Rattle.hb_outgoing.specs.Selected.{has_data}
 use Rattle.hb_owed.specs.declared.due.Due.{Due}
 use Rattle.hb_owed.specs.declared.due.Due.TheVariants as due
 use Rattle.hb_owed.specs.Frames.{frame_of, behind}
@@ -27,20 +26,20 @@ use Rattle.hb_conn.specs.Faults.{faulted, is_active, withdrawn, released, given_
 use Rattle.hb_conn.specs.Data.{updated, credited_on, used}
 use Rattle.hb_conn.specs.Ending.{own_ended}
 use Rattle.hb_conn.specs.declared.machine.Core.{Core}
-use Rattle.hb_history.proofs.Parts.{Amid, calm, ending, gone, Keeps, KeepsOpen}
+use Rattle.hb_history.proofs.Parts.{Amid, calm, ending, gone, IsPlain, Keeps, KeepsOpen}
 use Rattle.hb_history.proofs.Moved.{own_ended as ends_own, was_reset, reset_inactive}
 use Rattle.hb_history.proofs.Records as records
 
--- frames that are owed have no payload that windows count
-pub due_has_no_data : (w : Writing) (s : ℕ) (d : Due) → has_data (frame_of w s d) ≡ false
-due_has_no_data w s (due.Status status) = refl
-due_has_no_data w s (due.Credit n) = refl
-due_has_no_data w s due.End = refl
-due_has_no_data w s (due.Reset code) = refl
+-- frames that are owed have no payload that windows count, and answer no SETTINGS and no PING
+pub due_is_plain : (w : Writing) (s : ℕ) (d : Due) → IsPlain (frame_of w s d)
+due_is_plain w s (due.Status status) = (refl, refl)
+due_is_plain w s (due.Credit n) = (refl, refl)
+due_is_plain w s due.End = (refl, refl)
+due_is_plain w s (due.Reset code) = (refl, refl)
 
-pub dues_have_no_data : (w : Writing) (xs : List (ℕ × Due)) → AllByRecursion (λ f. has_data f ≡ false) (frames_for w xs)
-dues_have_no_data w [] = tt
-dues_have_no_data w (x ∷ xs) = (due_has_no_data w x.0 x.1, dues_have_no_data (behind x.1 w) xs)
+pub dues_are_plain : (w : Writing) (xs : List (ℕ × Due)) → AllByRecursion IsPlain (frames_for w xs)
+dues_are_plain w [] = tt
+dues_are_plain w (x ∷ xs) = (due_is_plain w x.0 x.1, dues_are_plain (behind x.1 w) xs)
 
 streams_by : (c : Core) (s : ℕ) (d : Due) (b : Bool) → (cond b (put_now c s d) (put_later c s d)).streams ≡ c.streams
 streams_by c s d true = refl
@@ -59,7 +58,7 @@ cancelled_by c s false is = is
 module _ (P : Amid → Core → Type 0) (k : Keeps P) where
   due_by : (a : Amid) (c : Core) (s : ℕ) (d : Due) → P a c → (b : Bool) → P a (cond b (put_now c s d) (put_later c s d))
   due_by a c s d h true =
-      k.sends a (record c { encoder = behind d c.encoder }) (frame_of c.encoder s d) (due_has_no_data c.encoder s d)
+      k.sends a (record c { encoder = behind d c.encoder }) (frame_of c.encoder s d) (due_is_plain c.encoder s d)
       (k.other a c (behind d c.encoder) c.blocks c.peer c.settled h)
   due_by a c s d h false = k.owes a c (also c.owed s d) (records.also_keeps c.owed s d) h
 
@@ -72,20 +71,20 @@ module _ (P : Amid → Core → Type 0) (k : Keeps P) where
   update_keeps a c s (Some n) h = due_keeps a c s (due.Credit n) h
 
   -- frames that are put one after another
-  all_sent : (fs : List RawFrame) → AllByRecursion (λ f. has_data f ≡ false) fs → (a : Amid) (c : Core) → P a c
+  all_sent : (fs : List RawFrame) → AllByRecursion IsPlain fs → (a : Amid) (c : Core) → P a c
       → P a (record c { out = record c.out { queue = c.out.queue ++ fs } })
-  all_sent [] none a c h =
+  all_sent [] plain a c h =
       subst (λ (q : List RawFrame). P a (record c { out = record c.out { queue = q } })) (sym (append-nil c.out.queue)) h
-  all_sent (f ∷ fs) none a c h =
+  all_sent (f ∷ fs) plain a c h =
       subst (λ (q : List RawFrame). P a (record c { out = record c.out { queue = q } })) (append_assoc c.out.queue (f ∷ []) fs)
-      (all_sent fs none.1 a (sent c f) (k.sends a c f none.0 h))
+      (all_sent fs plain.1 a (sent c f) (k.sends a c f plain.0 h))
 
   payment_by : (a : Amid) (c : Core) (p : Payment) → IsPayment (record { owed = c.owed; out = c.out; writing = c.encoder }) p
       → KeepsOpen c.owed p.owed → P a c → P a (record c { owed = p.owed; out = p.out; encoder = p.writing })
   payment_by a c p paying keeps h =
       let fs = frames_for c.encoder paying.put in
       let queue : P a (record c { out = record c.out { queue = c.out.queue ++ fs } }) = all_sent fs
-      (dues_have_no_data c.encoder paying.put) a c h in
+      (dues_are_plain c.encoder paying.put) a c h in
       let there : record c.out { queue = c.out.queue ++ fs } ≡ p.out =
       sym (paying.begun ∙ ap (λ (q : List RawFrame). record c.out { queue = q }) paying.queue) in
       let out : P a (record c { out = p.out }) = subst (λ w. P a (record c { out = w })) there queue in
@@ -147,7 +146,7 @@ module _ (P : Amid → Core → Type 0) (k : Keeps P) where
 
   updated_keeps : (a : Amid) (c : Core) (o : Option ℕ) → P a c → P a (updated c o)
   updated_keeps a c None h = h
-  updated_keeps a c (Some n) h = k.sends a c (window_update 0 n) refl h
+  updated_keeps a c (Some n) h = k.sends a c (window_update 0 n) (refl, refl) h
 
   pub used_keeps : (c : Core) (n : ℕ) → n ≤ c.flow.taking.granted → P calm c → P calm (used c n)
   used_keeps c n within h =

@@ -1,5 +1,7 @@
+pub mod Acknowledged
 pub mod Acted
 pub mod Adds
+pub mod Answered
 pub mod Balanced
 pub mod Budget
 pub mod BudgetReceived
@@ -13,9 +15,11 @@ pub mod CatchUpSeen
 pub mod Cuts
 pub mod Fed
 pub mod First
+pub mod Fitting
 pub mod Flowed
 pub mod Front
 pub mod Glanced
+pub mod Granted
 pub mod Grants
 pub mod Handled
 pub mod Initial
@@ -23,6 +27,7 @@ pub mod Kept
 pub mod Lives
 pub mod Looks
 pub mod Moved
+pub mod Over
 pub mod Parts
 pub mod Payloads
 pub mod Records

@@ -36,7 +36,7 @@ use Rattle.hb_conn.specs.declared.machine.Core.{Core}
 use Rattle.hb_history.specs.Points.{Point, Runs}
 use Rattle.hb_history.specs.History.{fresh}
 use Rattle.hb_history.specs.Live.{LiveStreams, StreamsMove}
-use Rattle.hb_history.proofs.Parts.{Amid, calm, amid, ending, gone, Keeps, Resizes, MovesOn, is_taking}
+use Rattle.hb_history.proofs.Parts.{Amid, calm, amid, ending, gone, Keeps, Puts, PutsAck, Resizes, MovesOn, is_taking}
 use Rattle.hb_history.proofs.Moved.{no_sides}
 use Rattle.hb_history.proofs.Handled.{Grows}
 use Rattle.hb_history.proofs.Acted.{runs_keep}
@@ -90,7 +90,7 @@ none_of : {T : Type 0} (o : Option T) → is_some o ≡ false → o ≡ None
 none_of None e = refl
 none_of (Some x) e = absurd (false≢true (sym e))
 
-active_some : (s : States) (n : ℕ) → is_active s n ≡ true → is_some (get s.active n) ≡ true
+pub active_some : (s : States) (n : ℕ) → is_active s n ≡ true → is_some (get s.active n) ≡ true
 active_some s n some = by_none (get s.active n) (λ none. sym (no_sides n s none) ∙ some)
 
 -- the streams that have windows and records, but for one amid a move
@@ -290,9 +290,14 @@ module _ (role : Role) where
       moved_on role c.streams (begun c.streams s sides) m (sym becomes) h.0,
       λ still. opening s c.streams.active sides c.flow.streams (new_windows c.flow.initial) c.owed (h.1 still),
     );
-    puts = λ c s bytes h. put_by c s (count_put c s bytes) bytes (count_put c s bytes == 0) h;
     faults = λ a c f code h. fault_by (record c { flow = f }) code h.0;
   }
+
+  pub lives_puts : Puts (Lives role)
+  lives_puts c s bytes h = put_by c s (count_put c s bytes) bytes (count_put c s bytes == 0) h
+
+  pub lives_acks : PutsAck (Lives role)
+  lives_acks c f answer h = h
 
   pub lives_resize : Resizes (Lives role)
   lives_resize c k within fits h = (
@@ -331,7 +336,7 @@ lives_new Client = (([], refl), λ still. no_streams)
 
 pub lives_runs : (role : Role) (points : List Point) (c new : Core) → Lives role calm c → Runs c points new → Lives role calm new
 lives_runs role points c new h runs =
-    runs_keep (Lives role) (lives_keep role) (lives_resize role) (λ d s n h. lives_grow role d s n h)
+    runs_keep (Lives role) (lives_keep role) (lives_puts role) (lives_resize role) (lives_acks role) (λ d s n h. lives_grow role d s n h)
     (λ d n within h. lives_written role d n h) points c new h runs
 
 both_ways : (a b : Bool) → (a ≡ true → b ≡ true) → (b ≡ true → a ≡ true) → a ≡ b

@@ -26,7 +26,7 @@ use Rattle.hb_history.specs.Calls.{IsLook, IsAct}
 use Rattle.hb_history.proofs.Acted.{look_keeps, act_keeps}
 use Rattle.hb_history.proofs.Handled.{window_keeps}
 use Rattle.hb_history.proofs.Glanced.{something, is_nothing}
-use Rattle.hb_history.proofs.Shown.{OfOut, out_keeps, out_resizes, out_grows, rest_keeps}
+use Rattle.hb_history.proofs.Shown.{OfOut, out_keeps, out_puts, out_resizes, out_grows, rest_keeps, rest_puts, rest_acks}
 
 -- what a look does to what is held
 pub record Holds (old new : Reading) (frames : List RawFrame) : Type 0 where
@@ -127,13 +127,14 @@ pub look_rest : (c : Core) (m : Move) (new : Core) (told : Found) → IsLook m �
 look_rest c m new told look after =
     let Q : Waiting → Type 0 = Leaves c.out.rest in
     let k = rest_keeps c.out.rest in
-    look_keeps (OfOut Q) (out_keeps Q k) (out_resizes Q k) c m new told look refl
+    look_keeps (OfOut Q) (out_keeps Q k) (out_resizes Q k) (rest_acks c.out.rest) c m new told look refl
     (λ s n. window_keeps (OfOut Q) (out_keeps Q k) c s n (out_grows Q k c s n refl)) after
 
 pub act_rest : (c : Core) (m : Move) (new : Core) (told : Found) → IsAct m → After c m new told → new.out.rest ≡ c.out.rest
 act_rest c m new told act after =
     let Q : Waiting → Type 0 = Leaves c.out.rest in
-    act_keeps (OfOut Q) (out_keeps Q (rest_keeps c.out.rest)) c m new told act refl after
+    act_keeps (OfOut Q) (out_keeps Q (rest_keeps c.out.rest)) c (λ s bytes. out_puts Q (rest_puts c.out.rest) c s bytes refl) m new told act
+    refl after
 
 -- looks of which nothing is told
 abbrev pub ArePassed : List Point → Type 0

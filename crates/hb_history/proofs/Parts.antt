@@ -23,6 +23,7 @@ use Rattle.hb_conn.specs.Payload.{data_put}
 use Rattle.hb_conn.specs.Windows.{unbegun}
 use Rattle.hb_conn.specs.declared.machine.Core.{Core}
 use Rattle.hb_conn.specs.declared.machine.Peer.{Peer}
+use Rattle.hb_history.specs.Answered.{is_answer}
 
 -- between moves, or amid one that closes a stream or ends a side of it; then its DATA that hasn't begun may be taken back
 pub data Amid : Type 0 where
@@ -56,13 +57,21 @@ is_taking pays = true
 is_taking (pays_on s) = true
 is_taking _ = false
 
+-- a frame that is no DATA with payload, and answers no SETTINGS and no PING
+abbrev pub IsPlain : RawFrame → Type 0
+IsPlain f = (has_data f ≡ false) × (is_answer f ≡ false)
+
+-- and one that answers such
+abbrev pub IsAnswer : RawFrame → Type 0
+IsAnswer f = (has_data f ≡ false) × (is_answer f ≡ true)
+
 -- what each part keeps
 pub record Keeps (P : Amid → Core → Type 0) : Type 0 where
   pub ends : (s : ℕ) (c : Core) → P calm c → P (ending s) c
   pub goes : (s : ℕ) (c : Core) → P (ending s) c → P (gone s) c
   pub other : (a : Amid) (c : Core) (e : Writing) (b : Assembly) (p : Peer) (t : Bool) → P a c
       → P a (record c { encoder = e; blocks = b; peer = p; settled = t })
-  pub sends : (a : Amid) (c : Core) (f : RawFrame) → has_data f ≡ false → P a c → P a (sent c f)
+  pub sends : (a : Amid) (c : Core) (f : RawFrame) → IsPlain f → P a c → P a (sent c f)
   pub owes : (a : Amid) (c : Core) (m : Debts) → KeepsOpen c.owed m → P a c → P a (record c { owed = m })
   pub moves : (b : Bool) (s : ℕ) (c : Core) (t : States) → MovesOn s c.streams t → P (amid b s) c
       → P (amid b s) (record c { streams = t })
@@ -75,8 +84,15 @@ pub record Keeps (P : Amid → Core → Type 0) : Type 0 where
       → P a (record c { flow = flow_after c.flow m })
   pub begins : (s : ℕ) (c : Core) (sides : Sides) (m : StreamMove) → c.streams.highest < s
       → after c.streams m ≡ begun c.streams s sides → P calm c → P calm (registered (record c { streams = begun c.streams s sides }) s)
-  pub puts : (c : Core) (s : ℕ) (bytes : List ℕ) → P calm c → P calm (data_put c s bytes)
   pub faults : (a : Amid) (c : Core) (f : Flows) (code : ℕ) → P a c → P calm (faulted (record c { flow = f }) code).core
+
+-- DATA that this end puts keeps it
+abbrev pub Puts : (Amid → Core → Type 0) → Type 0
+Puts P = (c : Core) (s : ℕ) (bytes : List ℕ) → P calm c → P calm (data_put c s bytes)
+
+-- SETTINGS and PING with ACK that this end puts keep it
+abbrev pub PutsAck : (Amid → Core → Type 0) → Type 0
+PutsAck P = (c : Core) (f : RawFrame) → IsAnswer f → P calm c → P calm (sent c f)
 
 -- and what a new initial size of windows keeps
 abbrev pub Resizes : (Amid → Core → Type 0) → Type 0

@@ -22,6 +22,30 @@ begins_more (p ∷ ps) qs c mid new fs gs first then = (
   begins_more ps qs first.0 mid new first.2 gs first.4 then,
 )
 
+-- moves in front of a place, and from it on
+pub record Split (ps qs : List Point) (c new : Core) (fs : List RawFrame) : Type 0 where
+  pub mid : Core
+  pub front : List RawFrame
+  pub others : List RawFrame
+  pub leads : RunsWith c ps front mid
+  pub goes_on : RunsWith mid qs others new
+  pub all : fs ≡ front ++ others
+
+pub begins_split : (ps qs : List Point) (c new : Core) (fs : List RawFrame) → RunsWith c (ps ++ qs) fs new → Split ps qs c new fs
+begins_split [] qs c new fs runs =
+    record { mid = c; front = []; others = fs; leads = (refl, refl); goes_on = runs; all = refl }
+begins_split (p ∷ ps) qs c new fs runs =
+    let rest = begins_split ps qs runs.0 new runs.2 runs.4 in
+    let first = begins_by c p.move in
+    record {
+      mid = rest.mid;
+      front = first ++ rest.front;
+      others = rest.others;
+      leads = (runs.0, runs.1, rest.front, refl, rest.leads);
+      goes_on = rest.goes_on;
+      all = runs.3 ∙ ap (λ (gs : List RawFrame). first ++ gs) rest.all ∙ sym (append_assoc first rest.front rest.others);
+    }
+
 -- one move
 pub runs_one : (p : Point) (c new : Core) → After c p.move new p.told → Runs c (p ∷ []) new
 runs_one p c new after = (new, after, refl)

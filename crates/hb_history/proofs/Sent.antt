@@ -49,7 +49,7 @@ sums_new Client = record {
   idle = λ n above. record { waits = refl; begins = refl; gains = refl };
 }
 
-sent_new : (role : Role) → Sent role [] [] calm (fresh role).receiver.core
+pub sent_new : (role : Role) → Sent role [] [] calm (fresh role).receiver.core
 sent_new Server = (first_new Server, lives_new Server, λ still. sums_new Server)
 sent_new Client = (first_new Client, lives_new Client, λ still. sums_new Client)
 

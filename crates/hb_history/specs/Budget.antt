@@ -3,14 +3,18 @@ use Rattle.std.specs.Prelude.{◌≡◌, ◌⊎◌, ◌≤◌, ℕ, ◌+◌, ◌
 use Rattle.hb_frames.specs.Reading.{Reading, first_of}
 use Rattle.hb_frames.specs.declared.refusal.Refusal.{Refusal}
 use Rattle.hb_outgoing.specs.Waiting.{room_of}
+use Rattle.hb_streams.specs.declared.role.Role.{Role}
 use Rattle.hb_conn.specs.Glance.{glance_of}
 use Rattle.hb_conn.specs.Laws.{IsCaughtUp}
 use Rattle.hb_conn.specs.Outcome.{is_silent}
+use Rattle.hb_conn.specs.Preface.{is_whole}
 use Rattle.hb_conn.specs.Connection.{Connection, Finds, taken}
 use Rattle.hb_conn.specs.declared.machine.Core.{Core}
 use Rattle.hb_conn.specs.declared.found.Found.{Found}
 use Rattle.hb_conn.specs.declared.found.Found.TheVariants.{Silent}
 use Rattle.hb_conn.specs.declared.glance.Glance.TheVariants.{Nothing}
+use Rattle.hb_history.specs.History.{fresh}
+use Rattle.hb_history.specs.Calls.{Call, MakesAll}
 
 -- how many octets more the output of a connection has room for
 abbrev pub room : Connection → ℕ
@@ -61,3 +65,17 @@ abbrev pub NeverPauses : Type 0
 NeverPauses = (c d : Connection) (piece : List ℕ) (told : List Found) → IsCaughtUp c.receiver.core → HoldsNoFrame c
     → 3 * length piece + 320 ≤ room c → Asked (taken c piece) told d
     → (256 ≤ room d) × ((d.receiver.core.over ≡ true) ⊎ HoldsNoFrame d)
+
+-- in front of a whole preface no frame is held (RFC 9113 section 3.4)
+abbrev pub WaitsForPreface : Connection → Type 0
+WaitsForPreface c = (c.preface.came ≤ 24) × (is_whole c.preface ≡ false → glance_of c.receiver.reader ≡ Nothing)
+
+-- so it is of every connection that came of calls
+abbrev pub CallsWait : Type 0
+CallsWait = (role : Role) (calls : List Call) (came written : List ℕ) (c : Connection) → MakesAll (fresh role) calls came written c
+    → WaitsForPreface c
+
+-- where nothing more is told and there is room, every whole frame was looked at, or a connection error was told
+abbrev pub LooksAtAll : Type 0
+LooksAtAll = (c d : Connection) → WaitsForPreface c → Finds c d Silent → 256 ≤ room d
+    → (d.receiver.core.over ≡ true) ⊎ HoldsNoFrame d

@@ -1,6 +1,8 @@
+pub mod Answered
 pub mod Budget
 pub mod Calls
 pub mod CatchUp
+pub mod Fits
 pub mod History
 pub mod Live
 pub mod Points

@@ -1,5 +1,5 @@
 -- The windows for what this end sends, as sums over the history (RFC 9113 sections 6.9 and 6.9.2).
-use Rattle.std.specs.Prelude.{◌≡◌, ℕ, ◌+◌, ◌<◌, ◌==◌, ◌&&◌, not, false, fold, if◌then◌else◌, pos, ◌+ℤ◌, ◌≤ℤ◌, List, Some, None}
+use Rattle.std.specs.Prelude.{◌≡◌, ℕ, ◌+◌, ◌≤◌, ◌<◌, ◌==◌, ◌&&◌, not, false, fold, if◌then◌else◌, pos, ◌+ℤ◌, ◌≤ℤ◌, List, Some, None}
 use Rattle.std.specs.List.{sum_by}
 use Rattle.std.specs.FinMap.{get}
 use Rattle.hb_frames.specs.RawFrame.{RawFrame}
@@ -63,6 +63,12 @@ AllIsGivenBack = (role : Role) (points : List Point) (given : List Found) (came 
     → StandsFor role points given came written c → c.receiver.core.over ≡ false
     → (n : ℕ) → let size = data_size (Some n) c.receiver.core.out.queue in
     regained c.receiver.core.flow size ≡ granted c.receiver.core.flow size
+
+-- so this end sends no more DATA than the peer granted on the connection, that counted which is put and hasn't begun
+abbrev pub NeverMoreThanGranted : Type 0
+NeverMoreThanGranted = (role : Role) (points : List Point) (given : List Found) (came written : List ℕ) (c : Connection)
+    → (stands : StandsFor role points given came written c) → c.receiver.core.over ≡ false
+    → data_size None stands.begun + (unbegun c.receiver.core).size ≤ first_size + increments 0 (frames_got points)
 
 -- where DATA is put, neither window is below zero afterwards
 abbrev pub NeverBelowZero : Type 0

@@ -4,9 +4,12 @@ ghost use Rattle.hb_history.specs.Calls.{Begins, TakeAdds, NextAdds, ActAdds, Wr
 ghost use Rattle.hb_history.specs.Waits.{DataStandsFirst};
 ghost use Rattle.hb_history.specs.Live.{LiveStreams, StreamsMove, WindowsMove};
 ghost use Rattle.hb_history.specs.Taking.{TakingIsWhole};
-ghost use Rattle.hb_history.specs.Sending.{ConnectionSends, StreamsSend, WindowsFit, AllIsGivenBack, NeverBelowZero, InitialIsLast};
+ghost use Rattle.hb_history.specs.Sending.{ConnectionSends, StreamsSend, WindowsFit, AllIsGivenBack, InitialIsLast};
+ghost use Rattle.hb_history.specs.Sending.{NeverMoreThanGranted, NeverBelowZero};
 ghost use Rattle.hb_history.specs.CatchUp.{LooksKeepUp, FindsKeepUp, CallsCatchUp};
-ghost use Rattle.hb_history.specs.Budget.{FindsWithin, TakesWithin, AnswersAreFew, NeverPauses};
+ghost use Rattle.hb_history.specs.Budget.{FindsWithin, TakesWithin, AnswersAreFew, NeverPauses, CallsWait, LooksAtAll};
+ghost use Rattle.hb_history.specs.Fits.{DataFits, DataFitsEverywhere};
+ghost use Rattle.hb_history.specs.Answered.{AnswersAreThose, PingsAreEchoed};
 
 /// A new connection stands for nothing yet, and each call adds to the history that a connection stands for: octets taken,
 /// frames looked at and what is told of them, acts of this end, octets written.
@@ -56,9 +59,11 @@ pub fn sending_windows_are_sums()
     ensures back { AllIsGivenBack }
 {}
 
-/// Where DATA with payload is put, neither window is below zero afterwards.
+/// Unless a connection error was told, no more DATA is sent than the peer granted on the connection. Where DATA with payload is
+/// put, neither window is below zero afterwards.
 pub fn no_data_beyond_a_window()
-    ensures { NeverBelowZero }
+    ensures granted { NeverMoreThanGranted }
+    ensures below { NeverBelowZero }
 {}
 
 /// While the output has room for the largest frame that can be owed, nothing is owed, whatever the peer sends: of every
@@ -78,5 +83,23 @@ pub fn answers_are_few()
 
 /// A caller that takes no more octets than a third of the room above 320 never waits for room with a frame in front.
 pub fn never_pauses()
-    ensures { NeverPauses }
+    ensures calls { CallsWait }
+    ensures looks { LooksAtAll }
+    ensures all { NeverPauses }
+{}
+
+/// Each DATA frame with payload fits both windows where it begins: it has at most 16,384 octets, and with the DATA in front of
+/// it is within what the peer granted so far, on the connection and on its stream, where the SETTINGS count that are
+/// acknowledged in front of it (RFC 9113 sections 6.9 and 6.9.2).
+pub fn data_fits_windows()
+    ensures next { DataFits }
+    ensures everywhere { DataFitsEverywhere }
+{}
+
+/// Unless a connection error was told, each SETTINGS and each PING of the peer is answered once, in order: of the frames that
+/// have begun and those that wait, SETTINGS and PING with ACK are exactly the answers to the frames that came. The answer to a
+/// PING has its octets (RFC 9113 sections 6.5.3 and 6.7).
+pub fn answers_are_put()
+    ensures all { AnswersAreThose }
+    ensures echo { PingsAreEchoed }
 {}

@@ -40,7 +40,7 @@ use Rattle.hb_model.proofs.Unborn.{AreUnborn, are_unborn, Passes, passes_looked,
 use Rattle.hb_model.proofs.Connections.{looks_add}
 
 -- the first stream that a client opens
-first_number : number_of fresh_client.receiver.core.streams fresh_client.receiver.core.peer.streams ≡ Ok stream
+pub first_number : number_of fresh_client.receiver.core.streams fresh_client.receiver.core.peer.streams ≡ Ok stream
 first_number =
     let none : len fresh_client.receiver.core.streams.active ≡ 0 = len-empty nat_cmp Sides in rw none refl
 
@@ -77,7 +77,7 @@ heard_conn g held (e.Closed k cause) l d quiet = same_at (k == l) _ d refl
 heard_conn g held e.Tick l d quiet = refl
 heard_conn g held (e.Wait ready way) l d quiet = refl
 
-quiet_passes : (g : NodeConfig) (l : ℕ) (x : Entry) → IsQuietEntry x → Passes g l (entry x)
+pub quiet_passes : (g : NodeConfig) (l : ℕ) (x : Entry) → IsQuietEntry x → Passes g l (entry x)
 quiet_passes g l (e.Accepted k door) quiet = record { moves = refl; came = refl; went = refl; response = refl; request = λ held. refl }
 quiet_passes g l (e.Dialled k to why) quiet = absurd quiet
 quiet_passes g l (e.DialFailed to why) quiet = record { moves = refl; came = refl; went = refl; response = refl; request = λ held. refl }
@@ -95,7 +95,7 @@ quiet_passes g l (e.Wait ready way) quiet = record { moves = refl; came = refl; 
 pub on_itself : {A : Type 0} (k : ℕ) (xs : List A) → (if k == k then xs else []) ≡ xs
 on_itself k xs = rw (eq-eqb k k refl) refl
 
-itself_alone : (k : ℕ) (xs : List ℕ) → (if k == k then xs else []) ++ [] ≡ xs
+pub itself_alone : (k : ℕ) (xs : List ℕ) → (if k == k then xs else []) ++ [] ≡ xs
 itself_alone k xs = append-nil (if k == k then xs else []) ∙ on_itself k xs
 
 module _ (g : NodeConfig) (m : Machine) (points : List Point) (unborn : AreUnborn g m points) (one : AreAllOne m points) where

@@ -15,3 +15,6 @@ pub mod MessagesRun
 pub mod MessagesAtOnce
 pub mod Connections
 pub mod ConnectionsRun
+pub mod Requests
+pub mod RequestsRun
+pub mod WindowsFit

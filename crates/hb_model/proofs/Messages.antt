@@ -32,8 +32,8 @@ abbrev pub ReadsAs : List ℕ → List (List ℕ) → List ℕ → Type 0
 ReadsAs octets messages rest = (more : List ℕ)
     → (framed_of longest_message (octets ++ more)).messages ≡ messages ++ (framed_of longest_message (rest ++ more)).messages
 
-reads_more : (octets rest bytes : List ℕ) (messages : List (List ℕ)) → ReadsAs octets messages rest → ReadsAs (octets ++ bytes) messages
-    (rest ++ bytes)
+reads_more : (octets rest bytes : List ℕ) (messages : List (List ℕ)) → ReadsAs octets messages rest
+    → ReadsAs (octets ++ bytes) messages (rest ++ bytes)
 reads_more octets rest bytes messages reads more =
     ap (λ xs. (framed_of longest_message xs).messages) (append_assoc octets bytes more) ∙ reads (bytes ++ more)
     ∙ ap (λ xs. messages ++ (framed_of longest_message xs).messages) (sym (append_assoc rest bytes more))

@@ -80,7 +80,7 @@ plain : (g : NodeConfig) (l : ℕ) (p : Point) → moves_in l p ≡ [] → flat_
 plain g l p moves came went response request =
     record { moves = moves; came = came; went = went; response = response; request = request }
 
-born_closing : (phase : Phase) (cause : Cause) → closing phase ≡ Some cause → IsBorn phase
+pub born_closing : (phase : Phase) (cause : Cause) → closing phase ≡ Some cause → IsBorn phase
 born_closing unborn cause is = absurd cc
 born_closing dialling cause is = tt
 born_closing live cause is = tt

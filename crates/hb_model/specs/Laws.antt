@@ -8,6 +8,8 @@ use Rattle.hb_model.specs.Calls.{CallsLaw}
 use Rattle.hb_model.specs.Dials.{DialLaw}
 use Rattle.hb_model.specs.Ends.{EndLaw}
 use Rattle.hb_model.specs.Connections.{ConnectionLaw}
+use Rattle.hb_model.specs.Windows.{WindowLaw}
+use Rattle.hb_model.specs.Requests.{RequestLaw}
 use Rattle.hb_model.specs.Messages.{held, MessagesLaw, AppliedAtOnceLaw}
 
 -- the calls on links are in order
@@ -37,3 +39,11 @@ RunsApplyAtOnce = (g : NodeConfig) (m : Machine) (points : List Point) → Stand
 -- a link's connection is one history
 abbrev pub RunsObeyConnections : Type 0
 RunsObeyConnections = (g : NodeConfig) (m : Machine) (points : List Point) → StandsFor g m points → ConnectionLaw points
+
+-- the DATA that went on a link is a front of its requests
+abbrev pub RunsObeyRequests : Type 0
+RunsObeyRequests = (g : NodeConfig) (m : Machine) (points : List Point) → StandsFor g m points → RequestLaw g points
+
+-- on each link DATA fits both windows where it begins
+abbrev pub RunsObeyWindows : Type 0
+RunsObeyWindows = (g : NodeConfig) (m : Machine) (points : List Point) → StandsFor g m points → WindowLaw points

@@ -9,3 +9,4 @@ pub mod Messages
 pub mod Point
 pub mod Requests
 pub mod Runs
+pub mod Windows

@@ -27,9 +27,10 @@ use Rattle.hb_model.specs.Discovery.{Discovery, Phase, dialling, live, faulted, 
 use Rattle.hb_model.specs.Machine.{Machine, fresh, entered, with_link, with_response, with_used, with_stop}
 use Rattle.hb_model.specs.Point.{Point, entry, looked, applied, refused, used, put, stopped, data_in}
 
--- how many bytes may be read: so many that every answer to them has room, and that the connection takes
+-- how many bytes may be read: so many that every answer to them has room, with what is granted again of the DATA that they
+-- hand out, and that the connection takes
 abbrev pub wants_of : Discovery → ℕ
-wants_of x = min ((room_of x.conn.receiver.core.out - 320) / 3) (space_of x.conn)
+wants_of x = min ((room_of x.conn.receiver.core.out - 320) / 5) (space_of x.conn)
 
 abbrev pub wanted_by : Phase → Discovery → ℕ
 wanted_by live x = wants_of x

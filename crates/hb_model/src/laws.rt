@@ -1,6 +1,7 @@
 //! Laws over every run of the machine. Each is the contract of a function that does nothing.
 
-ghost use Rattle.hb_model.specs.Laws.{RunsObeyCalls, RunsObeyDials, RunsObeyEnds, RunsHold, RunsObeyMessages, RunsApplyAtOnce, RunsObeyConnections};
+ghost use Rattle.hb_model.specs.Laws.{RunsObeyCalls, RunsObeyDials, RunsObeyEnds, RunsHold, RunsObeyMessages, RunsApplyAtOnce, RunsObeyConnections, RunsObeyRequests};
+ghost use Rattle.hb_model.specs.Laws.{RunsObeyWindows};
 
 /// The calls on each link stand in order: it is dialled and opened once, then read up to its end and written, and closed once.
 pub fn calls_are_in_order()
@@ -29,4 +30,16 @@ pub fn messages_are_applied()
 /// The connection of each link stands for the link's moves, the bytes that came on it and those that went.
 pub fn connections_are_histories()
     ensures { RunsObeyConnections }
+{}
+
+/// The DATA that went on a link's stream is a front of its requests, each in the spelling of a message: the first two, and an
+/// answer to each response.
+pub fn requests_go_in_order()
+    ensures { RunsObeyRequests }
+{}
+
+/// Each DATA frame with payload fits both windows where it begins to go on a link: it is within what the peer granted by the
+/// bytes that came on the link so far (RFC 9113 sections 6.9 and 6.9.2).
+pub fn data_fits_windows()
+    ensures { RunsObeyWindows }
 {}

@@ -1,0 +1,411 @@
+-- The requests of every run.
+use Rattle.std.proofs.Common.{◌≡◌, inl, inr, ℕ, ◌≤◌, ◌<◌, ◌==◌, ◌||◌, Bool, true, false, cond, if◌then◌else◌, List, [], ◌∷◌, ◌++◌, length, take, drop, Option, Some, refl, ap, ap₂, sym, ◌∙◌, subst, arith, length-append}
+use Rattle.std.specs.List.{flat_map}
+use Rattle.std.proofs.lemmas.Bool.Decides.{nat_tests}
+use Rattle.std.proofs.lemmas.List.{append_assoc, append-nil}
+use Rattle.std.proofs.lemmas.Grind.{flat_map-append}
+use Rattle.std.proofs.Math.Seq.{take-append_seam}
+use Rattle.hb_base.specs.declared.cause.Cause.{Cause}
+use Rattle.hb_base.specs.declared.cause.Cause.TheVariants as cause
+use Rattle.hb_frames.specs.RawFrame.{RawFrame}
+use Rattle.hb_frames.specs.Numbers.{data_kind}
+use Rattle.hb_hpack.specs.Encoding.{block_of}
+use Rattle.hb_hpack.specs.declared.header.Header.{Header}
+use Rattle.hb_grpc.specs.Message.{spelling}
+use Rattle.hb_held.specs.Held.{nothing_held}
+use Rattle.hb_streams.specs.Answers.{number_of}
+use Rattle.hb_streams.specs.Moves.{after_number, begins as begins_next}
+use Rattle.hb_streams.specs.Sides.{sides_of}
+use Rattle.hb_streams.specs.States.{state_of}
+use Rattle.hb_streams.specs.declared.role.Role.TheVariants.{Client}
+use Rattle.hb_outgoing.specs.Waiting.{Waiting, octets_of}
+use Rattle.hb_outgoing.specs.Written.{begun_by, written}
+use Rattle.hb_outgoing.specs.Laws.{Shows}
+use Rattle.hb_outgoing.proofs.Sent.{write_begins}
+use Rattle.hb_conn.specs.Preface.{octets}
+use Rattle.hb_conn.specs.Connection.{Connection, Finds, fresh_client}
+use Rattle.hb_conn.specs.Credit.{credit}
+use Rattle.hb_conn.specs.Opening.{begun, headers_frame, opened_with}
+use Rattle.hb_conn.specs.Frames.{frame, sent as out_sent}
+use Rattle.hb_conn.specs.Owing as owing
+use Rattle.hb_conn.specs.Payload.{count_put, data_put}
+use Rattle.hb_conn.specs.declared.machine.Core.{Core}
+use Rattle.hb_conn.specs.declared.found.Found.{Found}
+use Rattle.hb_conn.specs.declared.found.Found.TheVariants as found
+use Rattle.hb_flow.specs.Flows.{creditable, spent}
+use Rattle.hb_history.specs.Points as history
+use Rattle.hb_history.specs.Waits.{IsFirst}
+use Rattle.hb_history.proofs.Parts.{calm}
+use Rattle.hb_history.proofs.Kept.{payment_keeps}
+use Rattle.hb_history.proofs.Shown.{OfOut, out_keeps, rest_keeps}
+use Rattle.hb_history.proofs.Looks.{act_rest}
+use Rattle.hb_history.proofs.First.{first_keeps, first_new}
+use Rattle.hb_history.proofs.Lives.{Moved, moved_on, active_some}
+use Rattle.hb_history.proofs.Over.{Rises, finds_over, paid_over, credit_over}
+use Rattle.hb_world.specs.Trace.{went_on, sent}
+use Rattle.hb_world.specs.declared.entry.Entry.{Entry}
+use Rattle.hb_world.specs.declared.entry.Entry.TheVariants as e
+use Rattle.hb_model.specs.declared.config.NodeConfig.{NodeConfig}
+use Rattle.hb_model.specs.Discovery.{Discovery, Phase, unborn, dialling, live, faulted, ending, closed, opened, ended, broken, went, stopped_for, phase_by, end_by, headers_read, stream, headers_of, first_requests, answer_to, spelled, no_link, dialled, came, wrote, on_found, ends_for, put_requests, sendable}
+use Rattle.hb_model.specs.Machine.{Machine, entered, with_phase}
+use Rattle.hb_model.specs.Messages.{held}
+use Rattle.hb_model.specs.Point.{Point, entry, looked, applied, refused, used, put, stopped, entry_in, entries}
+use Rattle.hb_model.specs.Requests.{request_in, requests, payload_of}
+use Rattle.hb_model.specs.Runs.{output_by, MayCome, Steps, StandsFor, begins, goes_on}
+use Rattle.hb_model.specs.Laws.{RunsObeyRequests}
+use Rattle.hb_model.proofs.Grown.{entries_more, requests_more, of_all, IsBorn}
+use Rattle.hb_model.proofs.Unborn.{AreUnborn, are_unborn, born_closing, Passes, passes_looked, passes_applied, passes_used, passes_put, passes_dial, passes_came, passes_went}
+use Rattle.hb_model.proofs.MessagesRun.{held_is}
+use Rattle.hb_model.proofs.Connections.{looks_rest}
+use Rattle.hb_model.proofs.ConnectionsRun.{first_number, on_itself, itself_alone, quiet_passes}
+use Rattle.hb_model.proofs.Requests.{payloads, Follows, GoesOn, Asks, looks_ask, credit_asks, write_asks, more_asks, put_asks}
+
+-- a link that goes on
+abbrev IsGoing : Phase → Type 0
+IsGoing dialling = Unit {0}
+IsGoing live = Unit {0}
+IsGoing _ = ⊥
+
+-- what was asked on a link, and what of it went and waits
+record IsAsked (g : NodeConfig) (points : List Point) (l : ℕ) (phase : Phase) (waiting : List ℕ) (c : Core) : Type 0 where
+  begun : List RawFrame
+  shows : Shows octets (sent l (entries points)) begun c.out
+  first : IsFirst c.out
+  moved : Moved Client c.streams
+  started : IsBorn phase → stream ≤ c.streams.highest
+  follows : Follows begun (spelled (requests g l points)) waiting (GoesOn calm c) c.out.queue
+  goes : IsGoing phase → c.over ≡ false
+
+abbrev IsAskedOn : NodeConfig → List Point → ℕ → Discovery → Type 0
+IsAskedOn g points l x = IsAsked g points l x.phase x.waiting x.conn.receiver.core
+
+abbrev AreAsked : NodeConfig → Machine → List Point → Type 0
+AreAsked g m points = (l : ℕ) → IsAskedOn g points l (m.links l)
+
+spelled_more : (ms ns : List (List ℕ)) → spelled (ms ++ ns) ≡ spelled ms ++ spelled ns
+spelled_more [] ns = refl
+spelled_more (m ∷ ms) ns =
+    ap (λ (xs : List ℕ). spelling m ++ xs) (spelled_more ms ns) ∙ sym (append_assoc (spelling m) (spelled ms) (spelled ns))
+
+-- the output of a new connection that opened its stream
+first_out : (headers : List Header) → IsFirst (opened_with fresh_client.receiver.core stream headers false).out
+first_out headers =
+    let core = fresh_client.receiver.core in
+    first_keeps.puts core.out (headers_frame stream false (block_of (begun core stream).encoder headers)) (refl, refl)
+    (first_new Client)
+
+-- a run that ends
+was_born : (why : Cause) (p : Phase) → IsBorn (stopped_for why p) → IsBorn p
+was_born why unborn born = born
+was_born why dialling born = tt
+was_born why live born = tt
+was_born why (faulted code) born = tt
+was_born why (ending other) born = tt
+was_born why closed born = tt
+
+never_goes : (why : Cause) (p : Phase) → IsGoing (stopped_for why p) → ⊥
+never_goes why unborn goes = goes
+never_goes why dialling goes = goes
+never_goes why live goes = goes
+never_goes why (faulted code) goes = goes
+never_goes why (ending other) goes = goes
+never_goes why closed goes = goes
+
+-- how many octets go
+some_go : (own : Bool) (n : ℕ) → 0 < (if own then n else 0) → (own ≡ true) × (0 < n)
+some_go true n some = (refl, some)
+some_go false n some = absurd (omega (arith, some))
+
+put_over : (c : Core) (n : ℕ) (bytes : List ℕ) (b : Bool)
+    → (cond b c (out_sent (record c { flow = spent c.flow stream n }) (frame data_kind 0 stream (take n bytes)))).over ≡ c.over
+put_over c n bytes true = refl
+put_over c n bytes false = refl
+
+module _ (g : NodeConfig) (m : Machine) (points : List Point) (unborn : AreUnborn g m points) (hold : m.held ≡ held g points)
+    (asked : AreAsked g m points) where
+  -- with a point by which these octets go on a link, and these requests are made
+  grown : (p : Point) (l : ℕ) (phase : Phase) (waiting : List ℕ) (c : Core) (begun : List RawFrame) (bytes more : List ℕ)
+      → flat_map (went_on l) (entry_in p) ≡ bytes → spelled (request_in g m.held l p) ≡ more
+      → Shows octets (sent l (entries points) ++ bytes) begun c.out → IsFirst c.out → Moved Client c.streams
+      → (IsBorn phase → stream ≤ c.streams.highest)
+      → Follows begun (spelled (requests g l points) ++ more) waiting (GoesOn calm c) c.out.queue
+      → (IsGoing phase → c.over ≡ false) → IsAsked g (points ++ p ∷ []) l phase waiting c
+  grown p l phase waiting c begun bytes more goes asks shows first moved started follows going =
+      let all : spelled (requests g l points) ++ more ≡ spelled (requests g l (points ++ p ∷ [])) =
+      ap (λ (xs : List ℕ). spelled (requests g l points) ++ xs) (sym asks ∙ ap (λ h. spelled (request_in g h l p)) hold)
+      ∙ sym (spelled_more (requests g l points) (request_in g (held g points) l p))
+      ∙ ap spelled (sym (requests_more g (nothing_held g.network g.node) l points p)) in
+      record {
+        begun = begun;
+        shows = subst (λ (bs : List ℕ). Shows octets bs begun c.out)
+            (ap (λ (bs : List ℕ). sent l (entries points) ++ bs) (sym goes) ∙ sym (entries_more (went_on l) points p)) shows;
+        first = first;
+        moved = moved;
+        started = started;
+        follows = subst (λ (xs : List ℕ). Follows begun xs waiting (GoesOn calm c) c.out.queue) all follows;
+        goes = going;
+      }
+
+  -- one by which nothing of the output changes
+  kept : (p : Point) (l : ℕ) (phase : Phase) → flat_map (went_on l) (entry_in p) ≡ [] → spelled (request_in g m.held l p) ≡ []
+      → (IsBorn phase → IsBorn (m.links l).phase) → (IsGoing phase → (m.links l).conn.receiver.core.over ≡ false)
+      → IsAsked g (points ++ p ∷ []) l phase (m.links l).waiting (m.links l).conn.receiver.core
+  kept p l phase goes asks born going =
+      let a = asked l in
+      let c = (m.links l).conn.receiver.core in
+      let w = (m.links l).waiting in
+      grown p l phase w c a.begun [] [] goes asks
+      (subst (λ (bs : List ℕ). Shows octets bs a.begun c.out) (sym (append-nil (sent l (entries points)))) a.shows)
+      a.first a.moved (λ b. a.started (born b))
+      (subst (λ (xs : List ℕ). Follows a.begun xs w (GoesOn calm c) c.out.queue)
+      (sym (append-nil (spelled (requests g l points)))) a.follows)
+      going
+
+  elsewhere : (p : Point) (l : ℕ) → Passes g l p → IsAskedOn g (points ++ p ∷ []) l (m.links l)
+  elsewhere p l passes =
+      kept p l (m.links l).phase passes.went (ap spelled (passes.request m.held)) (λ b. b) (asked l).goes
+
+  changed : (p : Point) (k : ℕ) (new : ℕ → Discovery) → IsAskedOn g (points ++ p ∷ []) k (new k)
+      → ((l : ℕ) → (k == l) ≡ false → Passes g l p) → (l : ℕ) → IsAskedOn g (points ++ p ∷ []) l (if k == l then new l else m.links l)
+  changed p k new here passes =
+      of_all (IsAskedOn g (points ++ p ∷ [])) k new m.links here (λ l apart. elsewhere p l (passes l apart))
+
+  -- a link whose phase alone changes
+  phase_changes : (x : Entry) (k : ℕ) (change : Phase → Phase) → IsBorn (m.links k).phase
+      → (IsGoing (change (m.links k).phase) → (m.links k).conn.receiver.core.over ≡ false)
+      → ((l : ℕ) → Passes g l (entry x)) → (l : ℕ)
+      → IsAskedOn g (points ++ entry x ∷ []) l (if k == l then with_phase change (m.links l) else m.links l)
+  phase_changes x k change born going passes =
+      changed (entry x) k (λ l. with_phase change (m.links l))
+      (kept (entry x) k (change (m.links k).phase) (passes k).went (ap spelled ((passes k).request m.held)) (λ b. born) going)
+      (λ l apart. passes l)
+
+  born_asked : (k : ℕ) (to : _) (why : _) → MayCome g m (e.Dialled k to why)
+      → AreAsked g (entered g (e.Dialled k to why) m) (points ++ entry (e.Dialled k to why) ∷ [])
+  born_asked k to why may =
+      let p = entry (e.Dialled k to why) in
+      let x = dialled g.id to m.held in
+      let c = x.conn.receiver.core in
+      let none = (unborn k (omega (arith, may.1))).none in
+      let first_bytes = spelled (first_requests g.id m.held) in
+      let asks : spelled (request_in g m.held k p) ≡ first_bytes = ap spelled (on_itself k (first_requests g.id m.held)) in
+      let old = fresh_client.receiver.core in
+      changed p k (λ l. x)
+      (grown p k dialling x.waiting c [] [] first_bytes refl asks
+      (ap (λ (bs : List ℕ). (bs ++ []) ++ octets) none.went)
+      (first_out (headers_of to))
+      (moved_on Client old.streams c.streams (begins_next old.peer.streams) refl ([], refl))
+      (λ b. let up : (after_number old.streams (number_of old.streams old.peer.streams)).highest ≡ stream =
+      ap (λ r. (after_number old.streams r).highest) first_number in omega (arith, up))
+      (first_bytes, ap (λ (ms : List (List ℕ)). spelled ms ++ first_bytes) none.requests, λ o. refl)
+      (λ i. refl))
+      (λ l apart. passes_dial g l k to why apart)
+
+  -- what is kept by all that is made of a connection is so with a point
+  made : (p : Point) (l : ℕ) (phase : Phase) (waiting : List ℕ) (c : Core) (begun : List RawFrame) (bytes more : List ℕ)
+      → flat_map (went_on l) (entry_in p) ≡ bytes → spelled (request_in g m.held l p) ≡ more
+      → Shows octets (sent l (entries points) ++ bytes) begun c.out
+      → Asks begun (spelled (requests g l points) ++ more) waiting calm c → (IsGoing phase → c.over ≡ false)
+      → IsAsked g (points ++ p ∷ []) l phase waiting c
+  made p l phase waiting c begun bytes more goes asks shows h going =
+      grown p l phase waiting c begun bytes more goes asks shows h.0 h.1 (λ b. h.2) h.3 going
+
+  asks_of : (l : ℕ) → IsBorn (m.links l).phase
+      → Asks (asked l).begun (spelled (requests g l points)) (m.links l).waiting calm (m.links l).conn.receiver.core
+  asks_of l born = ((asked l).first, (asked l).moved, (asked l).started born, (asked l).follows)
+
+  with_none : (l : ℕ) (begun : List RawFrame) (waiting : List ℕ) (c : Core) → Asks begun (spelled (requests g l points)) waiting calm c
+      → Asks begun (spelled (requests g l points) ++ []) waiting calm c
+  with_none l begun waiting c h =
+      subst (λ (xs : List ℕ). Asks begun xs waiting calm c) (sym (append-nil (spelled (requests g l points)))) h
+
+  -- what was begun waits on
+  shows_on : (l : ℕ) (w : Waiting) → w.rest ≡ (m.links l).conn.receiver.core.out.rest
+      → Shows octets (sent l (entries points) ++ []) (asked l).begun w
+  shows_on l w same =
+      ap₂ (λ (xs ys : List ℕ). xs ++ ys) (append-nil (sent l (entries points))) same ∙ (asked l).shows
+
+  went_asked : (k : ℕ) (bytes rest : List ℕ) → octets_of (m.links k).conn.receiver.core.out ≡ bytes ++ rest
+      → IsBorn (m.links k).phase → (IsGoing (went (m.links k).phase) → (m.links k).conn.receiver.core.over ≡ false)
+      → AreAsked g (entered g (e.Went k bytes) m) (points ++ entry (e.Went k bytes) ∷ [])
+  went_asked k bytes rest is born going =
+      let p = entry (e.Went k bytes) in
+      let a = asked k in
+      let x = m.links k in
+      let c = x.conn.receiver.core in
+      let n = length bytes in
+      let within : n ≤ length (octets_of c.out) = omega (arith, ap length is, length-append bytes rest) in
+      let all : take n (octets_of c.out) ≡ bytes = ap (take n) is ∙ take-append_seam bytes rest in
+      let left = (written n c.out).rest in
+      let same : (owing.wrote c n).out.rest ≡ left = payment_keeps (OfOut (λ w. w.rest ≡ left))
+      (out_keeps (λ w. w.rest ≡ left) (rest_keeps left)) calm (record c { out = written n c.out }) refl in
+      let shown = (write_begins octets (sent k (entries points)) a.begun c.out n within a.shows).0 in
+      changed p k (λ l. wrote n (m.links l))
+      (made p k (went x.phase) x.waiting (owing.wrote c n) (a.begun ++ begun_by n c.out) bytes [] (itself_alone k bytes) refl
+      (ap₂ (λ (bs xs : List ℕ). (sent k (entries points) ++ bs) ++ xs) (sym all) same ∙ shown)
+      (with_none k (a.begun ++ begun_by n c.out) x.waiting (owing.wrote c n)
+      (write_asks a.begun (spelled (requests g k points)) x.waiting c n (asks_of k born)))
+      (λ i. paid_over _ ∙ going i))
+      (λ l apart. passes_went g l k bytes apart)
+
+  -- all links stay
+  all_kept : (x : Entry) → ((l : ℕ) → Passes g l (entry x)) → AreAsked g m (points ++ entry x ∷ [])
+  all_kept x passes l = elsewhere (entry x) l (passes l)
+
+  live_over : (k : ℕ) → (m.links k).phase ≡ live → (m.links k).conn.receiver.core.over ≡ false
+  live_over k alive = (asked k).goes (subst IsGoing (sym alive) tt)
+
+  entry_asked : (x : Entry) → MayCome g m x → AreAsked g (entered g x m) (points ++ entry x ∷ [])
+  entry_asked (e.Accepted k door) may = absurd may
+  entry_asked (e.Dialled k to why) may = born_asked k to why may
+  entry_asked (e.DialFailed to why) may = all_kept _ (λ l. quiet_passes g l (e.DialFailed to why) tt)
+  entry_asked (e.Opened k) may =
+      phase_changes (e.Opened k) k opened (subst IsBorn (sym may.1) tt) (λ i. (asked k).goes (subst IsGoing (sym may.1) tt))
+      (λ l. quiet_passes g l (e.Opened k) tt)
+  entry_asked (e.Came k bytes) may =
+      changed (entry (e.Came k bytes)) k (λ l. came bytes (m.links l))
+      (kept (entry (e.Came k bytes)) k (m.links k).phase refl refl (λ b. b) (asked k).goes)
+      (λ l apart. passes_came g l k bytes apart)
+  entry_asked (e.Ended k) may =
+      phase_changes (e.Ended k) k ended (subst IsBorn (sym may.0.1) tt) (λ i. live_over k may.0.1) (λ l. quiet_passes g l (e.Ended k) tt)
+  entry_asked (e.Broke k) (inl may) =
+      phase_changes (e.Broke k) k broken (subst IsBorn (sym may.1) tt) (λ i. (asked k).goes (subst IsGoing (sym may.1) tt))
+      (λ l. quiet_passes g l (e.Broke k) tt)
+  entry_asked (e.Broke k) (inr (inl may)) =
+      phase_changes (e.Broke k) k broken (subst IsBorn (sym may.1) tt) (λ i. live_over k may.1) (λ l. quiet_passes g l (e.Broke k) tt)
+  entry_asked (e.Broke k) (inr (inr may)) =
+      phase_changes (e.Broke k) k broken (subst IsBorn (sym may.1) tt) (λ i. absurd (subst IsGoing (ap broken may.1) i))
+      (λ l. quiet_passes g l (e.Broke k) tt)
+  entry_asked (e.Went k bytes) (inl may, some, rest) =
+      went_asked k bytes rest.0 (sym (ap (λ (phase : Phase). output_by phase (m.links k)) may.1) ∙ rest.1) (subst IsBorn (sym may.1) tt)
+      (λ i. live_over k may.1)
+  entry_asked (e.Went k bytes) (inr may, some, rest) =
+      went_asked k bytes rest.0 (sym (ap (λ (phase : Phase). output_by phase (m.links k)) may.1) ∙ rest.1) (subst IsBorn (sym may.1) tt)
+      (λ i. absurd (subst IsGoing (ap went may.1) i))
+  entry_asked (e.Balked way) may = all_kept _ (λ l. quiet_passes g l (e.Balked way) tt)
+  entry_asked (e.Shut k) may = absurd may
+  entry_asked (e.Closed k why) may =
+      phase_changes (e.Closed k why) k (λ p. closed) (born_closing (m.links k).phase why may) (λ i. absurd i)
+      (λ l. quiet_passes g l (e.Closed k why) tt)
+  entry_asked e.Tick may = all_kept _ (λ l. quiet_passes g l e.Tick tt)
+  entry_asked (e.Wait ready way) may = all_kept _ (λ l. quiet_passes g l (e.Wait ready way) tt)
+
+  linked : (p : Point) (k : ℕ) (n next : Machine) (new : Discovery) → n ≡ next
+      → ((l : ℕ) → next.links l ≡ (if k == l then new else m.links l))
+      → IsAskedOn g (points ++ p ∷ []) k new → ((l : ℕ) → (k == l) ≡ false → Passes g l p) → AreAsked g n (points ++ p ∷ [])
+  linked p k n next new is links here passes l =
+      subst (IsAskedOn g (points ++ p ∷ []) l) (sym (ap (λ (x : Machine). x.links l) is ∙ links l)) (changed p k (λ j. new) here passes l)
+
+  -- after a look that tells no connection error a link goes on
+  look_over : (k : ℕ) (told : Found) (conn : Connection) (why : Option Cause) → (m.links k).phase ≡ live
+      → ((code : ℕ) → told ≡ found.Fault code → why ≡ Some (cause.ConnFault code)) → Finds (m.links k).conn conn told
+      → IsGoing (phase_by (m.links k).phase why) → conn.receiver.core.over ≡ false
+  look_over k told conn why alive fault finds goes = by (finds_over (m.links k).conn conn told finds)
+    where
+      by : Rises (m.links k).conn.receiver.core conn.receiver.core told → conn.receiver.core.over ≡ false
+      by (inl same) = same ∙ live_over k alive
+      by (inr code) = absurd (subst (λ o. IsGoing (phase_by (m.links k).phase o)) (fault code.0 code.1) goes)
+
+  point_asked : (p : Point) (n : Machine) → Steps g m p n → AreAsked g n (points ++ p ∷ [])
+  point_asked (entry x) n steps = subst (λ (y : Machine). AreAsked g y (points ++ entry x ∷ [])) (sym steps.1) (entry_asked x steps.0)
+  point_asked (looked k ps told headers) n steps =
+      let p = looked k ps told headers in
+      let x = m.links k in
+      let look = steps.2 in
+      let core = steps.1.receiver.core in
+      let why = end_by x.answered (headers_read steps.1) told in
+      linked p k n _ (on_found told steps.1 x) steps.4 (λ l. refl)
+      (made p k (phase_by x.phase why) x.waiting core (asked k).begun [] [] refl refl
+      (shows_on k core.out (looks_rest ps x.conn.receiver.core core look.looks look.runs))
+      (with_none k (asked k).begun x.waiting core
+      (looks_ask (asked k).begun (spelled (requests g k points)) x.waiting ps x.conn.receiver.core core look.looks look.runs
+      (asks_of k (subst IsBorn (sym steps.0) tt))))
+      (look_over k told steps.1 why steps.0 (λ code is. ap (end_by x.answered (headers_read steps.1)) is) look.finds))
+      (λ l apart. passes_looked g l k ps told headers apart)
+  point_asked (applied k r) n steps =
+      let p = applied k r in
+      let x = m.links k in
+      let answer = answer_to m.held r in
+      let c = x.conn.receiver.core in
+      linked p k n _ _ steps.3 (λ l. refl)
+      (made p k x.phase (x.waiting ++ spelling answer) c (asked k).begun [] (spelling answer) refl
+      (ap spelled (on_itself k (answer ∷ [])) ∙ append-nil (spelling answer))
+      (shows_on k c.out refl)
+      (more_asks (asked k).begun (spelled (requests g k points)) x.waiting (spelling answer) c
+      (asks_of k (subst IsBorn (sym steps.0) tt)))
+      (asked k).goes)
+      (λ l apart. passes_applied g l k r apart)
+  point_asked (refused k) n steps =
+      linked (refused k) k n _ (ends_for cause.Discovery (m.links k)) steps.2 (λ l. refl)
+      (kept (refused k) k (ending cause.Discovery) refl refl (λ b. subst IsBorn (sym steps.0) tt) (λ i. absurd i))
+      (λ l apart. record { moves = refl; came = refl; went = refl; response = refl; request = λ h. refl })
+  point_asked (used k n) next steps =
+      let p = used k n in
+      let x = m.links k in
+      let c = x.conn.receiver.core in
+      let core = credit c stream n in
+      let within : n ≤ creditable c.flow stream = omega (arith, steps.1.counted) in
+      linked p k next _ _ steps.2 (λ l. refl)
+      (made p k x.phase x.waiting core (asked k).begun [] [] refl refl
+      (shows_on k core.out (act_rest c (history.credited stream n) core found.Silent tt (within, (refl, refl))))
+      (with_none k (asked k).begun x.waiting core
+      (credit_asks (asked k).begun (spelled (requests g k points)) x.waiting c n within (asks_of k (subst IsBorn (sym steps.0) tt))))
+      (λ i. credit_over c stream n ∙ (asked k).goes i))
+      (λ l apart. passes_used g l k n apart)
+  point_asked (put k bytes) n steps =
+      let p = put k bytes in
+      let x = m.links k in
+      let c = x.conn.receiver.core in
+      let count = count_put c stream x.waiting in
+      let core = data_put c stream x.waiting in
+      let go = some_go (sides_of (state_of c.streams stream)).own count steps.2 in
+      let some : (count == 0) ≡ false = grind (arith, nat_tests, go.1) in
+      let size : sendable x ≡ count = ap (λ b. if b then count else 0) go.0 in
+      let active = active_some c.streams stream
+      (ap (λ b. b || (sides_of (state_of c.streams stream)).peer) go.0) in
+      linked p k n _ (put_requests x) steps.3 (λ l. refl)
+      (made p k x.phase (drop (sendable x) x.waiting) core (asked k).begun [] [] refl refl
+      (shows_on k core.out (act_rest c (history.put stream x.waiting) core found.Silent tt (refl, refl)))
+      (with_none k (asked k).begun (drop (sendable x) x.waiting) core
+      (subst (λ i. Asks (asked k).begun (spelled (requests g k points)) (drop i x.waiting) calm core) (sym size)
+      (put_asks (asked k).begun (spelled (requests g k points)) x.waiting c some (tt, live_over k steps.0, active)
+      (asks_of k (subst IsBorn (sym steps.0) tt)))))
+      (λ i. put_over c count x.waiting (count == 0) ∙ live_over k steps.0))
+      (λ l apart. passes_put g l k bytes apart)
+  point_asked (stopped why) n steps =
+      subst (λ (y : Machine). AreAsked g y (points ++ stopped why ∷ [])) (sym steps.1)
+      (λ l. kept (stopped why) l (stopped_for why (m.links l).phase) refl refl (was_born why (m.links l).phase)
+      (λ i. absurd (never_goes why (m.links l).phase i)))
+
+begins_asked : (g : NodeConfig) (l : ℕ) → IsAskedOn g [] l no_link
+begins_asked g l = record {
+  begun = [];
+  shows = refl;
+  first = first_new Client;
+  moved = ([], refl);
+  started = λ born. absurd born;
+  follows = ([], refl, λ o. refl);
+  goes = λ goes. absurd goes;
+}
+
+all_asked : (g : NodeConfig) (m : Machine) (points : List Point) → StandsFor g m points → AreAsked g m points
+all_asked g m points (begins is none) = λ l.
+    subst (λ ps. IsAskedOn g ps l (m.links l)) (sym none)
+    (subst (λ (x : Machine). IsAskedOn g [] l (x.links l)) (sym is) (begins_asked g l))
+all_asked g n more (goes_on {m = m} {points = points} before p steps grows) =
+    subst (AreAsked g n) (sym grows)
+    (point_asked g m points (are_unborn g m points before) (held_is g m points before) (all_asked g m points before) p n steps)
+
+pub obey_requests : RunsObeyRequests
+obey_requests g m points stands l =
+    let a = all_asked g m points stands l in
+    let c = (m.links l).conn.receiver.core in
+    record {
+      begun = a.begun;
+      owed = c.out.rest;
+      went = a.shows;
+      rest = payloads c.out.queue ++ a.follows.0;
+      front = a.follows.1
+          ∙ ap (λ (xs : List ℕ). xs ++ a.follows.0) (flat_map-append payload_of a.begun c.out.queue)
+          ∙ append_assoc (payloads a.begun) (payloads c.out.queue) a.follows.0;
+    }
