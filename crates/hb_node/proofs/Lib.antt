@@ -1,0 +1,14 @@
+pub mod TargetLength
+pub mod Opened
+pub mod Handed
+pub mod Looked
+pub mod Room
+pub mod Kept
+pub mod Led
+pub mod Heard
+pub mod Settled
+pub mod Lifted
+pub mod Entering
+pub mod Dialling
+pub mod Acting
+pub mod Resting

@@ -1,0 +1,6 @@
+pub mod Inbox
+pub mod Laws
+pub mod Leads
+pub mod Links
+pub mod Phases
+pub mod State

@@ -1,0 +1,142 @@
+-- A link of the node, in the words of the machine.
+use Rattle.std.specs.Prelude.{⊤, ◌≡◌, ◌≤◌, ℕ, ◌+◌, ◌-◌, ◌*◌, nat_lt, ◌||◌, Bool, true, false, [], length, min, if◌then◌else◌, Option, Some, None, Result, Ok}
+use Rattle.hb_frames.specs.Frames.{AreOctets}
+use Rattle.hb_frames.specs.Reading.{first_of}
+use Rattle.hb_frames.specs.declared.refusal.Refusal.{Refusal}
+use Rattle.hb_held.specs.Held.{Resources}
+use Rattle.hb_outgoing.specs.Waiting.{octets_of}
+use Rattle.hb_flow.specs.Flows.{creditable}
+use Rattle.hb_conn.specs.Connection.{Connection, with_core}
+use Rattle.hb_conn.specs.Credit.{credit}
+use Rattle.hb_conn.specs.Glance.{glance_of}
+use Rattle.hb_conn.specs.Laws.{IsCaughtUp}
+use Rattle.hb_conn.specs.declared.glance.Glance.TheVariants.{Nothing}
+use Rattle.hb_history.specs.Budget.{room, most, WaitsForPreface}
+use Rattle.hb_model.specs.Discovery.{Discovery, Phase, dialling, live, faulted, ending, stream, put_requests, sendable, wrote}
+use Rattle.hb_model.specs.Runs.{IsCalm}
+use Rattle.hb_node.specs.declared.inbox.Heard.{Heard}
+use Rattle.hb_node.specs.declared.link.Link.{Link}
+use Rattle.hb_node.specs.declared.phase.Phase.{Phase as Stage}
+use Rattle.hb_node.specs.declared.phase.Phase.TheVariants as stage
+use Rattle.hb_node.specs.Phases.{phase_of, is_live, end_for}
+use Rattle.hb_node.specs.Leads.{Leads}
+
+-- its part: between two calls no DATA is in hand
+abbrev pub part_of : Link → Discovery
+part_of k = record {
+  phase = phase_of k.phase;
+  conn = k.conn;
+  answered = k.answered;
+  chunk = [];
+  counted = 0;
+  framing = k.inbox.framer;
+  waiting = k.inbox.waiting;
+}
+
+-- as much of what waits to be sent as may be is put
+abbrev pub with_puts : Discovery → Discovery
+with_puts x = if nat_lt 0 (sendable x) then put_requests x else x
+
+abbrev pub put_by : Bool → Discovery → Discovery
+put_by goes x = if goes then with_puts x else x
+
+-- octets were written; of a link that isn't open or is to be closed there are none
+abbrev pub wrote_by : Stage → ℕ → Discovery → Discovery
+wrote_by stage.Live n x = wrote n x
+wrote_by (stage.Faulted code) n x = wrote n x
+wrote_by _ n x = x
+
+-- octets of DATA are used up, as far as the stream has windows
+abbrev pub used_up : ℕ → Connection → Connection
+used_up n c = with_core c (credit c.receiver.core stream (min n (creditable c.receiver.core.flow stream)))
+
+-- so they are, where there are any and the link goes on
+abbrev pub credited_by : Bool → ℕ → Connection → Connection
+credited_by true n c = if nat_lt 0 n then used_up n c else c
+credited_by false n c = c
+
+-- what was heard of a link's connection is done
+abbrev pub settled : Heard → Link → Link
+settled heard k = record k {
+  phase = end_for k.phase heard.end;
+  answered = k.answered || heard.accepted;
+  conn = credited_by (is_live (end_for k.phase heard.end)) heard.counted k.conn;
+}
+
+-- the machine's part is this; of a link that is to be closed it may be another, and of a faulted one all but what waits to be
+-- written
+abbrev pub AgreesBy : Phase → Discovery → Discovery → Type 0
+AgreesBy (ending cause) x y = ⊤
+AgreesBy (faulted code) x y = octets_of x.conn.receiver.core.out ≡ octets_of y.conn.receiver.core.out
+AgreesBy _ x y = x ≡ y
+
+pub record Agrees (x y : Discovery) : Type 0 where
+  pub phase : x.phase ≡ y.phase
+  pub rest : AgreesBy y.phase x y
+
+-- what holds of the part of a link that isn't to be closed: octets are held of the next frame; nothing is owed where there is
+-- room; in front of a whole preface no frame is held; no connection error was told
+pub record IsKept (x : Discovery) : Type 0 where
+  pub octets : AreOctets x.conn.receiver.reader.held
+  pub caught_up : IsCaughtUp x.conn.receiver.core
+  pub preface : WaitsForPreface x.conn
+  pub goes_on : x.conn.receiver.core.over ≡ false
+
+-- What the frames that are held may still need for the credit of their DATA: 13 octets for the frame in front, which are a
+-- WINDOW_UPDATE, and 2 for each octet behind it, since every frame has nine octets at least
+abbrev pub credit_by : ℕ → Result (Option ℕ) Refusal → ℕ
+credit_by held (Ok (Some n)) = 2 * (held - n) + 13
+credit_by held _ = 0
+
+abbrev pub credit_most : Connection → ℕ
+credit_most c = credit_by (length c.receiver.reader.held) (first_of c.receiver.reader.max c.receiver.reader.held)
+
+-- with all that the frames held may still need, there is room to look at the last of them
+abbrev pub HasRoom : Connection → Type 0
+HasRoom c = most c + credit_most c + 256 ≤ room c
+
+-- so it is between two looks
+pub record Fares (x : Discovery) : Type 0 where
+  pub kept : IsKept x
+  pub has_room : HasRoom x.conn
+
+-- all that came was looked at
+abbrev pub IsLookedAt : Connection → Type 0
+IsLookedAt c = (c.ended ≡ None) × (glance_of c.receiver.reader ≡ Nothing)
+
+-- so it is between two calls, while a link isn't to be closed: nothing more happens by itself either
+abbrev pub SteadyBy : Phase → Discovery → Type 0
+SteadyBy dialling x = IsKept x × IsCalm x
+SteadyBy live x = IsKept x × IsCalm x
+SteadyBy _ x = ⊤
+
+abbrev pub IsSteady : Discovery → Type 0
+IsSteady x = SteadyBy x.phase x
+
+-- points of the link lead from one part to one that agrees with another, and of which this holds
+pub record GoesTo (P : Discovery → Type 0) (l : ℕ) (held : Resources) (x : Discovery) (new_held : Resources) (y : Discovery)
+    : Type 0 where
+  pub part : Discovery
+  pub leads : Leads l (record { held = held; part = x }) (record { held = new_held; part = part })
+  pub agrees : Agrees part y
+  pub so : P part
+
+-- a link that lived fares on, or it is to be closed
+abbrev pub FaresBy : Phase → Discovery → Type 0
+FaresBy live x = Fares x
+FaresBy (faulted code) x = ⊤
+FaresBy (ending cause) x = ⊤
+FaresBy _ x = ⊥
+
+abbrev pub FaresOn : Discovery → Type 0
+FaresOn x = FaresBy x.phase x
+
+abbrev pub Goes : ℕ → Resources → Discovery → Resources → Discovery → Type 0
+Goes l held x new_held y = Fares x → GoesTo FaresOn l held x new_held y
+
+-- where nothing more is told all was looked at
+abbrev pub Rests : Discovery → Stage → Connection → Type 0
+Rests x p c = Fares x → is_live p ≡ true → IsLookedAt c
+
+abbrev pub Settles : ℕ → Resources → Discovery → Resources → Discovery → Type 0
+Settles l held x new_held y = Fares x → GoesTo IsSteady l held x new_held y
