@@ -78,7 +78,10 @@ impl Drive {
             if left.is_empty() {
                 return;
             }
-            let size = self.piece(left.len()).min(self.node.wants(link)).min(left.len());
+            let size = self
+                .piece(left.len())
+                .min(self.node.wants(link))
+                .min(left.len());
             assert!(rt; size > 0, "row {row}: nothing is wanted");
             let (piece, behind) = left.split_at(size);
             self.node.take_bytes(link, piece).ok().expect(rt, "memory");
@@ -122,7 +125,10 @@ impl Drive {
             }
             "wants" => {
                 let wants = self.node.wants(link) as u64;
-                assert!(rt; wants == number_of(rt, words), "row {row}: {wants} are wanted");
+                assert!(rt;
+                    wants == number_of(rt, words),
+                    "row {row}: {wants} are wanted"
+                );
             }
             _ => self.on_output(rt, alloc, row, link, call, words),
         }
