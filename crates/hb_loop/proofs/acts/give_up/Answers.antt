@@ -1,0 +1,5 @@
+use Rattle.hb_loop.proofs.Closing.{gave_up}
+use Rattle.hb_loop.proofs.acts.give_up.Goals as goal
+
+pub returns-clause-over : goal.returns-clause-over
+returns-clause-over g c = λ config had. gave_up config c.args.link _ _ c.close.ensures.trace had

@@ -1,0 +1,11 @@
+use Rattle.hb_model.specs.declared.config.NodeConfig.{NodeConfig}
+use Rattle.hb_loop.specs.Stands.{Carries, weight}
+use Rattle.hb_loop.proofs.acts.make_acts.Given as goal
+
+-- the run is kept
+abbrev pub invariant-loop : goal.invariant-loop
+invariant-loop g l = (c : NodeConfig) → Carries c l.initial.run.node l.initial.run.known (g.W.World.trace l.initial.world)
+    → Carries c l.run.node l.run.known (g.W.World.trace l.world)
+
+abbrev pub decreases-loop : goal.decreases-loop
+decreases-loop g l = weight l.run.node

@@ -1,0 +1,22 @@
+use Rattle.std.proofs.Common.{[], Option, refl, ap, sym, subst}
+use Rattle.hb_model.specs.Machine.{fresh}
+use Rattle.hb_model.specs.Runs.{begins}
+use Rattle.hb_node.specs.State.{State}
+use Rattle.hb_loop.specs.declared.run.Known.{Known}
+use Rattle.hb_loop.specs.Stands.{Knows}
+use Rattle.hb_loop.proofs.service.begin.Goals as goal
+
+pub returns : goal.returns
+returns c =
+    let config = c.args.words.config in
+    let begun = c.in_ok-run.ensures {u = tt} in
+    record {
+      points = [];
+      machine = fresh config;
+      run = begins refl refl;
+      trace_is = refl;
+      goes_on = refl;
+      config = ap (λ (s : State). s.config) begun.node;
+      shows = begun.shows;
+      knows = subst (λ (o : Option Known). Knows o (fresh config)) (sym begun.known) refl;
+    }

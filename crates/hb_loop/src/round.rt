@@ -1,0 +1,47 @@
+//! A round: the link that lives is tried.
+
+ghost use Rattle.std.specs.Prelude.{◌≡◌, false, Some, IfOk};
+ghost use Rattle.hb_loop.specs.Stands.{Keeps, IsIdle};
+
+use crate::acts::make_acts;
+use crate::link::{finish, read, write};
+use crate::run::Run;
+use hb_base::NoMemory;
+use hb_world::World;
+
+/// A link that isn't open makes one finish.
+fn try_finish<W: World>(run: &mut Run, world: &mut W, link: u64) -> Result<bool, NoMemory>
+    ensures keeps { IsIdle run.old → run.old.known ≡ Some (record { number = link; is_open = false })
+        → Keeps result run.old (W.trace world.old) run.new (W.trace world.new) }
+    ensures idle { IfOk result (λ _. IsIdle run.new) }
+{
+    let moved = finish(run, world, link)?;
+    make_acts(run, world)?;
+    Ok(moved)
+}
+
+/// An open link makes at most one read and two writes. Between the read and the first write no other call is made: behind a
+/// connection error that write is its last.
+fn try_bytes<W: World>(run: &mut Run, world: &mut W, link: u64) -> Result<bool, NoMemory>
+    ensures keeps { Keeps result run.old (W.trace world.old) run.new (W.trace world.new) }
+    ensures idle { IfOk result (λ _. IsIdle run.new) }
+{
+    let came = read(run, world, link)?;
+    let went = write(run, world, link)?;
+    make_acts(run, world)?;
+    let more = write(run, world, link)?;
+    make_acts(run, world)?;
+    Ok(came || went || more)
+}
+
+/// A round. Says whether anything moved.
+pub(crate) fn round<W: World>(run: &mut Run, world: &mut W) -> Result<bool, NoMemory>
+    ensures keeps { IsIdle run.old → Keeps result run.old (W.trace world.old) run.new (W.trace world.new) }
+    ensures idle { IfOk result (λ _. IsIdle run.old → IsIdle run.new) }
+{
+    match run.known {
+        None => Ok(false),
+        Some(known) if known.is_open => try_bytes(run, world, known.number),
+        Some(known) => try_finish(run, world, known.number),
+    }
+}
