@@ -26,6 +26,8 @@ WHOLE = [
     ("record_rows.py", "hb_records_rows", "spelled.rt"),
     ("request_rows.py", "hb_disco_rows", "written.rt"),
     ("lines_rows.py", "hb_lines_rows", "told.rt"),
+    ("node_rows.py", "hb_node_rows", "rows.rt"),
+    ("loop_rows.py", "hb_loop_rows", "rows.rt"),
 ]
 PARTS = [("frame_vectors.py", "hb_http2_rows", "frame_vectors.rt")]
 
