@@ -1,2 +1,4 @@
+pub mod Ends
 pub mod Lawful
+pub mod Reckons
 pub mod Stands

@@ -5,6 +5,7 @@ ghost use Rattle.hb_frames.specs.Frames.{AreOctets};
 ghost use Rattle.hb_world.specs.Answers.{ReadsWithin};
 ghost use Rattle.hb_world.specs.Calls.{with_entries, read_entries};
 ghost use Rattle.hb_world.specs.declared.entry.Entry.TheVariants as e;
+ghost use Rattle.hb_loop.specs.Reckons.{Passes, PassesTold, moved_by};
 ghost use Rattle.hb_loop.specs.Stands.{Keeps, Hears, IsIdle};
 
 use crate::acts::give_up;
@@ -14,8 +15,10 @@ use hb_world::{Finished, Read, World, Wrote};
 
 /// Asks whether the link is open. Says whether anything moved.
 pub(crate) fn finish<W: World>(run: &mut Run, world: &mut W, link: u64) -> Result<bool, NoMemory>
-    ensures { IsIdle run.old → run.old.known ≡ Some (record { number = link; is_open = false })
+    ensures keeps { IsIdle run.old → run.old.known ≡ Some (record { number = link; is_open = false })
         → Keeps result run.old (W.trace world.old) run.new (W.trace world.new) }
+    ensures passes { Passes (moved_by result) run.old (W.trace world.old) run.new (W.trace world.new) }
+    ensures faults { W.faults world.new ≡ W.faults world.old }
 {
     match world.finish(link) {
         Finished::Opened => {
@@ -43,6 +46,7 @@ fn read_front<W: World>(world: &mut W, link: u64, buffer: &mut [u8], most: usize
     ensures within { ReadsWithin (take most buffer.new) result }
     ensures same { length buffer.new ≡ length buffer.old }
     ensures octets { AreOctets buffer.new }
+    ensures faults { W.faults world.new ≡ W.faults world.old }
 {
     world.read(link, &mut buffer[..most])
 }
@@ -50,7 +54,9 @@ fn read_front<W: World>(world: &mut W, link: u64, buffer: &mut [u8], most: usize
 /// Bytes came, and stand at the buffer's front: the node is told.
 fn came<W: World>(run: &mut Run, world: &mut W, link: u64, n: usize) -> Result<bool, NoMemory>
     requires { n ≤ length run.old.buffer.items }
-    ensures { Hears result (e.Came link (take n run.old.buffer.items)) run.old (W.trace world.old) run.new (W.trace world.new) }
+    ensures hears { Hears result (e.Came link (take n run.old.buffer.items)) run.old (W.trace world.old) run.new (W.trace world.new) }
+    ensures passes { PassesTold (e.Came link (take n run.old.buffer.items)) run.old (W.trace world.old) run.new (W.trace world.new) }
+    ensures faults { W.faults world.new ≡ W.faults world.old }
 {
     match run.node.take_bytes(link, &run.buffer[..n]) {
         Ok(()) => Ok(true),
@@ -60,7 +66,9 @@ fn came<W: World>(run: &mut Run, world: &mut W, link: u64, n: usize) -> Result<b
 
 /// Reads what the node wants. Says whether anything moved.
 pub(crate) fn read<W: World>(run: &mut Run, world: &mut W, link: u64) -> Result<bool, NoMemory>
-    ensures { Keeps result run.old (W.trace world.old) run.new (W.trace world.new) }
+    ensures keeps { Keeps result run.old (W.trace world.old) run.new (W.trace world.new) }
+    ensures passes { Passes (moved_by result) run.old (W.trace world.old) run.new (W.trace world.new) }
+    ensures faults { W.faults world.new ≡ W.faults world.old }
 {
     let most = run.node.wants(link).min(run.buffer.len());
     if most == 0 {
@@ -83,7 +91,9 @@ pub(crate) fn read<W: World>(run: &mut Run, world: &mut W, link: u64) -> Result<
 
 /// Writes what waits. Says whether anything moved.
 pub(crate) fn write<W: World>(run: &mut Run, world: &mut W, link: u64) -> Result<bool, NoMemory>
-    ensures { Keeps result run.old (W.trace world.old) run.new (W.trace world.new) }
+    ensures keeps { Keeps result run.old (W.trace world.old) run.new (W.trace world.new) }
+    ensures passes { Passes (moved_by result) run.old (W.trace world.old) run.new (W.trace world.new) }
+    ensures faults { W.faults world.new ≡ W.faults world.old }
 {
     let output = run.node.output(link);
     if output.is_empty() {

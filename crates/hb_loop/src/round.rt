@@ -1,6 +1,7 @@
 //! A round: the link that lives is tried.
 
 ghost use Rattle.std.specs.Prelude.{◌≡◌, false, Some, IfOk};
+ghost use Rattle.hb_loop.specs.Reckons.{Passes, moved_by};
 ghost use Rattle.hb_loop.specs.Stands.{Keeps, IsIdle};
 
 use crate::acts::make_acts;
@@ -14,10 +15,25 @@ fn try_finish<W: World>(run: &mut Run, world: &mut W, link: u64) -> Result<bool,
     ensures keeps { IsIdle run.old → run.old.known ≡ Some (record { number = link; is_open = false })
         → Keeps result run.old (W.trace world.old) run.new (W.trace world.new) }
     ensures idle { IfOk result (λ _. IsIdle run.new) }
+    ensures passes { IsIdle run.old → run.old.known ≡ Some (record { number = link; is_open = false })
+        → Passes (moved_by result) run.old (W.trace world.old) run.new (W.trace world.new) }
+    ensures faults { W.faults world.new ≡ W.faults world.old }
 {
     let moved = finish(run, world, link)?;
     make_acts(run, world)?;
     Ok(moved)
+}
+
+/// A write, and the calls that are due behind it.
+fn try_write<W: World>(run: &mut Run, world: &mut W, link: u64) -> Result<bool, NoMemory>
+    ensures keeps { Keeps result run.old (W.trace world.old) run.new (W.trace world.new) }
+    ensures idle { IfOk result (λ _. IsIdle run.new) }
+    ensures passes { Passes (moved_by result) run.old (W.trace world.old) run.new (W.trace world.new) }
+    ensures faults { W.faults world.new ≡ W.faults world.old }
+{
+    let went = write(run, world, link)?;
+    make_acts(run, world)?;
+    Ok(went)
 }
 
 /// An open link makes at most one read and two writes. Between the read and the first write no other call is made: behind a
@@ -25,19 +41,21 @@ fn try_finish<W: World>(run: &mut Run, world: &mut W, link: u64) -> Result<bool,
 fn try_bytes<W: World>(run: &mut Run, world: &mut W, link: u64) -> Result<bool, NoMemory>
     ensures keeps { Keeps result run.old (W.trace world.old) run.new (W.trace world.new) }
     ensures idle { IfOk result (λ _. IsIdle run.new) }
+    ensures passes { Passes (moved_by result) run.old (W.trace world.old) run.new (W.trace world.new) }
+    ensures faults { W.faults world.new ≡ W.faults world.old }
 {
     let came = read(run, world, link)?;
-    let went = write(run, world, link)?;
-    make_acts(run, world)?;
-    let more = write(run, world, link)?;
-    make_acts(run, world)?;
-    Ok(came || went || more)
+    let went = try_write(run, world, link)?;
+    let more = try_write(run, world, link)?;
+    Ok(came | went | more)
 }
 
 /// A round. Says whether anything moved.
 pub(crate) fn round<W: World>(run: &mut Run, world: &mut W) -> Result<bool, NoMemory>
     ensures keeps { IsIdle run.old → Keeps result run.old (W.trace world.old) run.new (W.trace world.new) }
     ensures idle { IfOk result (λ _. IsIdle run.old → IsIdle run.new) }
+    ensures passes { IsIdle run.old → Passes (moved_by result) run.old (W.trace world.old) run.new (W.trace world.new) }
+    ensures faults { W.faults world.new ≡ W.faults world.old }
 {
     match run.known {
         None => Ok(false),

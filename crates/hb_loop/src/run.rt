@@ -1,6 +1,6 @@
 //! A run of the proxy, as its loop holds it.
 
-ghost use Rattle.std.specs.Prelude.{◌≡◌, None, IfOk};
+ghost use Rattle.std.specs.Prelude.{◌≡◌, false, None, IfOk};
 ghost use Rattle.hb_held.specs.Held.{nothing_held};
 ghost use Rattle.hb_model.specs.Machine.{fresh};
 ghost use Rattle.hb_node.specs.State.{fresh_state, Shows};
@@ -38,6 +38,8 @@ impl Run {
         ensures node { IfOk result (λ run. run.node ≡ fresh_state config (nothing_held config.network config.node)) }
         ensures shows { IfOk result (λ run. Shows run.node (fresh config)) }
         ensures known { IfOk result (λ run. run.known ≡ None) }
+        ensures links { IfOk result (λ run. run.links ≡ 0) }
+        ensures wanting { IfOk result (λ run. run.wanting ≡ false) }
     {
         let mut buffer = Vec::with_capacity(alloc, MOST_READ)?;
         buffer.resize(MOST_READ, 0)?;

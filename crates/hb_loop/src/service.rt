@@ -1,10 +1,15 @@
 //! The event loop.
 
-ghost use Rattle.std.specs.Prelude.{◌≡◌, [], None, Some, IfOk};
+ghost use Rattle.std.specs.Prelude.{◌≡◌, ℕ, ◌+◌, false, [], None, Some, Option, IfOk, IfSome};
 ghost use Rattle.hb_world.specs.declared.entry.Entry.TheVariants as e;
 ghost use Rattle.hb_model.specs.declared.config.NodeConfig.{NodeConfig};
+ghost use Rattle.hb_base.specs.Count.{Counts};
+ghost use Rattle.hb_world.specs.Trace.{births};
+ghost use Rattle.hb_loop.specs.Ends.{EndsAs, SpendsTurns, is_fault, was_wanting};
 ghost use Rattle.hb_loop.specs.Lawful.{Lawful, NoneLives, AfterServe};
-ghost use Rattle.hb_loop.specs.Stands.{Carries, Ended, Falls, Keeps, Hears, IsIdle};
+ghost use Rattle.hb_loop.specs.Reckons.{Reckons, Reckoned, IsBehindTick, Finished, Turned, one_less, is_spent, end_of, is_fault_of_turn, turns_kept};
+ghost use Rattle.hb_loop.specs.Stands.{Carries, Ended, Falls, Keeps, Hears, IsIdle, Tells};
+ghost use Rattle.hb_loop.specs.declared.turns.ServeEnd.{ServeEnd};
 
 use crate::acts::{close, make_acts};
 use crate::round::round;
@@ -16,7 +21,10 @@ use hb_world::{Ready, Waited, World};
 use std::alloc::Global;
 
 /// Counts a tick down, and says whether it is the last.
-fn is_last(ticks: &mut Option<u64>) -> bool {
+fn is_last(ticks: &mut Option<u64>) -> bool
+    ensures left { ticks.new ≡ one_less ticks.old }
+    ensures last { result ≡ is_spent ticks.new }
+{
     match ticks {
         None => false,
         Some(left) => {
@@ -34,6 +42,11 @@ fn tick<W: World>(
 ) -> Result<Option<ServeEnd>, NoMemory>
     ensures hears { Hears result e.Tick run.old (W.trace world.old) run.new (W.trace world.new) }
     ensures idle { IfOk result (λ end. end ≡ None → IsIdle run.new) }
+    ensures turned { (g : NodeConfig) → IfSome (W.trace world.old) (Tells g run.old.node run.old.known e.Tick)
+        → (stated : Option ℕ) (n : ℕ) → IfSome (W.trace world.old) (IsBehindTick stated ticks.old n run.old.links run.old.wanting)
+        → Turned result stated ticks.new n run.new (W.trace world.new) }
+    ensures faults { W.faults world.new ≡ W.faults world.old }
+    ensures stops { is_fault_of_turn result ≡ false }
 {
     run.node.tick();
     if is_last(ticks) {
@@ -52,6 +65,10 @@ fn wait<W: World>(
 ) -> Result<Option<ServeEnd>, NoMemory>
     ensures keeps { IsIdle run.old → Keeps result run.old (W.trace world.old) run.new (W.trace world.new) }
     ensures idle { IfOk result (λ end. end ≡ None → IsIdle run.old → IsIdle run.new) }
+    ensures turned { (g : NodeConfig) → IsIdle run.old → Carries g run.old.node run.old.known (W.trace world.old)
+        → (stated : Option ℕ) (n : ℕ) → Reckoned stated ticks.old n run.old (W.trace world.old)
+        → Turned result stated ticks.new (n + 2) run.new (W.trace world.new) }
+    ensures faults { Counts (W.faults world.old) (W.faults world.new) (is_fault_of_turn result) }
 {
     match world.wait(ready) {
         Waited::Woke => Ok(None),
@@ -62,7 +79,31 @@ fn wait<W: World>(
     }
 }
 
-/// All turns. A turn is a wait, or a round behind a wait or behind a round in which something moved.
+/// A turn: a round where a link lives and something moved in the turn before, else a wait. The end, where it ends the run.
+fn turn<W: World>(
+    run: &mut Run,
+    world: &mut W,
+    ready: &mut Ready,
+    ticks: &mut Option<u64>,
+    moved: &mut bool,
+) -> Result<Option<ServeEnd>, NoMemory>
+    ensures keeps { IsIdle run.old → Keeps result run.old (W.trace world.old) run.new (W.trace world.new) }
+    ensures idle { IfOk result (λ end. end ≡ None → IsIdle run.old → IsIdle run.new) }
+    ensures turned { (g : NodeConfig) → IsIdle run.old → Carries g run.old.node run.old.known (W.trace world.old)
+        → (stated : Option ℕ) (n : ℕ) → Reckoned stated ticks.old (turns_kept moved.old n) run.old (W.trace world.old)
+        → Turned result stated ticks.new (turns_kept moved.new (n + 1)) run.new (W.trace world.new) }
+    ensures faults { Counts (W.faults world.old) (W.faults world.new) (is_fault_of_turn result) }
+{
+    if *moved & run.known.is_some() {
+        *moved = round(run, world)?;
+        return Ok(None);
+    }
+    let end = wait(run, world, ready, ticks)?;
+    *moved = true;
+    Ok(end)
+}
+
+/// All turns.
 fn turns<W: World>(
     run: &mut Run,
     world: &mut W,
@@ -70,19 +111,19 @@ fn turns<W: World>(
     most: u64,
     ticks: Option<u64>,
 ) -> Result<ServeEnd, NoMemory>
-    ensures { Keeps result run.old (W.trace world.old) run.new (W.trace world.new) }
+    ensures keeps { Keeps result run.old (W.trace world.old) run.new (W.trace world.new) }
+    ensures finished { (g : NodeConfig) → Carries g run.old.node run.old.known (W.trace world.old)
+        → (stated : Option ℕ) → Reckoned stated ticks 0 run.old (W.trace world.old)
+        → Finished stated most (end_of result) run.new (W.trace world.new) }
+    ensures faults { Counts (W.faults world.old) (W.faults world.new) (is_fault (end_of result)) }
 {
     make_acts(run, world)?;
     let mut ticks = ticks;
     let mut moved = true;
-    for _ in 0..most {
-        if moved && run.known.is_some() {
-            moved = round(run, world)?;
-        } else {
-            if let Some(end) = wait(run, world, ready, &mut ticks)? {
-                return Ok(end);
-            }
-            moved = true;
+    for _turn in 0..most {
+        match turn(run, world, ready, &mut ticks, &mut moved)? {
+            Some(end) => return Ok(end),
+            None => {}
         }
     }
     Ok(ServeEnd::TurnsSpent)
@@ -90,7 +131,10 @@ fn turns<W: World>(
 
 /// Closes the link that lives, for the run's end.
 fn stop<W: World>(run: &mut Run, world: &mut W, cause: Cause)
-    ensures { (g : NodeConfig) → Falls g run.old (W.trace world.old) → Ended g (W.trace world.new) }
+    ensures over { (g : NodeConfig) → Falls g run.old (W.trace world.old) → Ended g (W.trace world.new) }
+    ensures finished { (g : NodeConfig) → Falls g run.old (W.trace world.old) → (stated : Option ℕ) (turns : ℕ) (end : ServeEnd)
+        → Finished stated turns end run.old (W.trace world.old) → Finished stated turns end run.new (W.trace world.new) }
+    ensures faults { W.faults world.new ≡ W.faults world.old }
 {
     if run.known.is_none() {
         return;
@@ -98,10 +142,6 @@ fn stop<W: World>(run: &mut Run, world: &mut W, cause: Cause)
     run.node.stop(cause);
     if let Some(Act::Close { link, cause }) = run.node.next_act() {
         close(run, world, link, cause);
-        run.wanting = match cause {
-            Cause::NoMemory => true,
-            _ => run.wanting,
-        };
     }
 }
 
@@ -113,7 +153,10 @@ fn serve_run<W: World>(
     most: u64,
     ticks: Option<u64>,
 ) -> ServeEnd
-    ensures { (g : NodeConfig) → Carries g run.old.node run.old.known (W.trace world.old) → Ended g (W.trace world.new) }
+    ensures over { (g : NodeConfig) → Carries g run.old.node run.old.known (W.trace world.old) → Ended g (W.trace world.new) }
+    ensures finished { (g : NodeConfig) → Carries g run.old.node run.old.known (W.trace world.old)
+        → Reckoned ticks ticks 0 run.old (W.trace world.old) → Finished ticks most result run.new (W.trace world.new) }
+    ensures faults { Counts (W.faults world.old) (W.faults world.new) (is_fault result) }
 {
     match turns(run, world, ready, most, ticks) {
         Ok(end) => {
@@ -129,7 +172,8 @@ fn serve_run<W: World>(
 
 /// Before anything moved.
 fn begin(alloc: Global, words: ServeWords) -> Result<(Run, Ready), NoMemory>
-    ensures { IfOk result (λ begun. Carries words.config begun.0.node begun.0.known (Some [])) }
+    ensures carries { IfOk result (λ begun. Carries words.config begun.0.node begun.0.known (Some [])) }
+    ensures reckons { IfOk result (λ begun. Reckons words.ticks words.ticks 0 begun.0.links begun.0.wanting []) }
 {
     let run = Run::new(alloc, words.config)?;
     Ok((run, Ready::new(alloc)?))
@@ -140,6 +184,11 @@ fn begin(alloc: Global, words: ServeWords) -> Result<(Run, Ready), NoMemory>
 pub fn serve<W: World>(alloc: Global, words: ServeWords, world: &mut W) -> Served
     ensures lawful { AfterServe (Lawful words.config) (W.trace world.old) (W.trace world.new) }
     ensures closed { AfterServe NoneLives (W.trace world.old) (W.trace world.new) }
+    ensures ends { AfterServe (EndsAs words.ticks result.end) (W.trace world.old) (W.trace world.new) }
+    ensures turns { AfterServe (SpendsTurns words.turns result.end) (W.trace world.old) (W.trace world.new) }
+    ensures links { AfterServe (λ trace. result.totals.links ≡ births trace) (W.trace world.old) (W.trace world.new) }
+    ensures wanting { AfterServe (λ trace. result.wanting ≡ was_wanting trace) (W.trace world.old) (W.trace world.new) }
+    ensures faults { Counts (W.faults world.old) (W.faults world.new) (is_fault result.end) }
 {
     let most = words.turns;
     let ticks = words.ticks;

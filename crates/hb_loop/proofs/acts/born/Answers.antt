@@ -13,3 +13,8 @@ returns-in-Err-clause-hears g c = λ config told.
       c.give_up.ensures.over config
           (lasts_birth config c.args.run.now.node c.args.run.now.known c.args.run.now.node.config.discovery c.args.why c.args.link _ told),
     )
+
+pub returns-in-Err-clause-passes : goal.returns-in-Err-clause-passes
+returns-in-Err-clause-passes g c = λ config told.
+    c.give_up.ensures.passes config
+    (lasts_birth config c.args.run.now.node c.args.run.now.known c.args.run.now.node.config.discovery c.args.why c.args.link _ told)

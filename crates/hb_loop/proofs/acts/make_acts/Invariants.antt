@@ -1,11 +1,18 @@
+use Rattle.std.specs.Prelude.{◌≡◌, false}
 use Rattle.hb_model.specs.declared.config.NodeConfig.{NodeConfig}
+use Rattle.hb_loop.specs.Reckons.{PassesBy}
 use Rattle.hb_loop.specs.Stands.{Carries, weight}
 use Rattle.hb_loop.proofs.acts.make_acts.Given as goal
 
--- the run is kept
+-- the run is kept, and its numbers
 abbrev pub invariant-loop : goal.invariant-loop
-invariant-loop g l = (c : NodeConfig) → Carries c l.initial.run.node l.initial.run.known (g.W.World.trace l.initial.world)
-    → Carries c l.run.node l.run.known (g.W.World.trace l.world)
+invariant-loop g l = record {
+  kept : (c : NodeConfig) → Carries c l.initial.run.node l.initial.run.known (g.W.World.trace l.initial.world)
+      → Carries c l.run.node l.run.known (g.W.World.trace l.world);
+  passes : (c : NodeConfig) → Carries c l.initial.run.node l.initial.run.known (g.W.World.trace l.initial.world)
+      → PassesBy false l.initial.run (g.W.World.trace l.initial.world) l.run (g.W.World.trace l.world);
+  faults : g.W.World.faults l.world ≡ g.W.World.faults l.initial.world;
+}
 
 abbrev pub decreases-loop : goal.decreases-loop
 decreases-loop g l = weight l.run.node

@@ -1,9 +1,17 @@
+use Rattle.std.specs.Prelude.{◌≡◌, ℕ, Option}
 use Rattle.hb_model.specs.declared.config.NodeConfig.{NodeConfig}
+use Rattle.hb_loop.specs.Reckons.{Reckoned, turns_kept}
 use Rattle.hb_loop.specs.Stands.{Carries, IsIdle}
 use Rattle.hb_loop.proofs.service.turns.Given as goal
 
--- between two turns nothing is due, and the run is kept
-abbrev pub invariant-loop : goal.invariant-loop
-invariant-loop g l =
-    IsIdle l.run × ((c : NodeConfig) → Carries c l.fn.run.node l.fn.run.known (g.W.World.trace l.fn.world)
-    → Carries c l.run.node l.run.known (g.W.World.trace l.world))
+-- Between two turns nothing is due, and the run is kept; each turn has its entries, but one in which nothing moved
+abbrev pub invariant-loop-turn : goal.invariant-loop-turn
+invariant-loop-turn g l = record {
+  idle : IsIdle l.run;
+  kept : (c : NodeConfig) → Carries c l.fn.run.node l.fn.run.known (g.W.World.trace l.fn.world)
+      → Carries c l.run.node l.run.known (g.W.World.trace l.world);
+  reckoned : (c : NodeConfig) → Carries c l.fn.run.node l.fn.run.known (g.W.World.trace l.fn.world) → (stated : Option ℕ)
+      → Reckoned stated l.fn.ticks 0 l.fn.run (g.W.World.trace l.fn.world)
+      → Reckoned stated l.ticks (turns_kept l.moved l._turn) l.run (g.W.World.trace l.world);
+  faults : g.W.World.faults l.world ≡ g.W.World.faults l.fn.world;
+}

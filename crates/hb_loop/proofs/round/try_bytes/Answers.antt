@@ -1,0 +1,26 @@
+use Rattle.std.proofs.Common.{rules}
+use Rattle.hb_loop.proofs.Counted.{none_more, less_moved, any_moved}
+use Rattle.hb_loop.proofs.round.try_bytes.Goals as goal
+
+pub returns-in_err-went-clause-passes : goal.returns-in_err-went-clause-passes
+returns-in_err-went-clause-passes g c = λ config carries stated left n had.
+    none_more c.from_residual-in_err-went.result c.in_ok-came.came stated left n _ _ _ (search rules)
+    ((c.in_err-went.ensures {u = tt}).passes config ((c.in_ok-came.ensures {u = tt}).keeps config carries) stated left _
+    ((c.in_ok-came.ensures {u = tt}).passes config carries stated left n had))
+
+pub returns-in_err-more-clause-passes : goal.returns-in_err-more-clause-passes
+returns-in_err-more-clause-passes g c = λ config carries stated left n had.
+    let came = (c.in_ok-came.ensures {u = tt}).keeps config carries in
+    none_more c.from_residual-in_err-more.result c.in_ok-came.came stated left n _ _ _ (search rules)
+    (less_moved c.in_ok-went.went stated left _ _ _ _
+    ((c.in_err-more.ensures {u = tt}).passes config ((c.in_ok-went.ensures {u = tt}).keeps config came) stated left _
+    ((c.in_ok-went.ensures {u = tt}).passes config came stated left _
+    ((c.in_ok-came.ensures {u = tt}).passes config carries stated left n had))))
+
+pub returns-clause-passes : goal.returns-clause-passes
+returns-clause-passes g c = λ config carries stated left n had.
+    let came = (c.in_ok-came.ensures {u = tt}).keeps config carries in
+    any_moved c.in_ok-came.came c.in_ok-went.went c.in_ok-more.more stated left n _ _ _
+    ((c.in_ok-more.ensures {u = tt}).passes config ((c.in_ok-went.ensures {u = tt}).keeps config came) stated left _
+    ((c.in_ok-went.ensures {u = tt}).passes config came stated left _
+    ((c.in_ok-came.ensures {u = tt}).passes config carries stated left n had)))
