@@ -11,6 +11,8 @@ use Rattle.hb_model.proofs.Places.{entries-grow}
 use Rattle.hb_node.specs.State.{State, Shows, Reaches, Inner, Enters}
 use Rattle.hb_node.specs.Laws.{RestsWhereNoneIsDue, BalksPass, WaitsPass}
 use Rattle.hb_loop.specs.declared.run.Known.{Known}
+use Rattle.hb_loop.specs.Settled.{SettledBefore}
+use Rattle.hb_loop.proofs.Settling.{settled_entry, settled_inner}
 use Rattle.hb_loop.specs.Stands.{Knows, Stands, Carries, Tells}
 use Rattle.hb_loop.proofs.Model.{InnerKeeps, inner_keeps, inner_runs}
 
@@ -55,6 +57,8 @@ stands_on g old new known now x trace tells enters knows =
       points = (s.points ++ entry x ∷ []) ++ reaches.points;
       machine = reaches.machine;
       run = runs.0;
+      settled = settled_inner g (entered g x s.machine) reaches.machine (s.points ++ entry x ∷ []) reaches.points inner
+          (settled_entry s.points x tells.settles s.settled);
       trace_is = runs.1 ∙ trace_on s.points x tells.before trace s.trace_is tells.grows;
       goes_on = keeps.over ∙ s.goes_on;
       config = config;
@@ -66,12 +70,17 @@ stands_on g old new known now x trace tells enters knows =
 abbrev pub MayBehind : NodeConfig → State → Option Known → Entry → Option (List Entry) → Type 0
 MayBehind g node known x told = (trace : List Entry) → told ≡ Some trace → (s : Stands g node known trace) → MayCome g s.machine x
 
+-- where it is a wait, each link that lives is settled
+abbrev pub SettlesBehind : NodeConfig → State → Option Known → Entry → Option (List Entry) → Type 0
+SettlesBehind g node known x told =
+    (trace : List Entry) → told ≡ Some trace → (s : Stands g node known trace) → SettledBefore s.points x
+
 pub tell : (g : NodeConfig) (node : State) (known : Option Known) (x : Entry) (told after : Option (List Entry))
-    → after ≡ with_entries (x ∷ []) told → MayBehind g node known x told → Carries g node known told
-    → IfSome after (Tells g node known x)
-tell g node known x told after adds may =
+    → after ≡ with_entries (x ∷ []) told → MayBehind g node known x told → SettlesBehind g node known x told
+    → Carries g node known told → IfSome after (Tells g node known x)
+tell g node known x told after adds may settles =
     told_on (Stands g node known) (Tells g node known x) (x ∷ []) told after adds
-    (λ trace is s. record { before = trace; stands = s; may = may trace is s; grows = refl })
+    (λ trace is s. record { before = trace; stands = s; may = may trace is s; settles = settles trace is s; grows = refl })
 
 pub if_told : (P Q : List Entry → Type 0) (told : Option (List Entry)) → ((trace : List Entry) → P trace → Q trace) → IfSome told P
     → IfSome told Q
@@ -85,10 +94,11 @@ hear g old new known now x told enters knows =
 
 -- call, tell, carry
 pub carry : (g : NodeConfig) (old new : State) (known now : Option Known) (x : Entry) (told after : Option (List Entry))
-    → after ≡ with_entries (x ∷ []) told → Enters x old new → MayBehind g old known x told → KnowsBehind g old known x now
+    → after ≡ with_entries (x ∷ []) told → Enters x old new → MayBehind g old known x told → SettlesBehind g old known x told
+    → KnowsBehind g old known x now
     → Carries g old known told → Carries g new now after
-carry g old new known now x told after adds enters may knows carries =
-    hear g old new known now x after enters knows (tell g old known x told after adds may carries)
+carry g old new known now x told after adds enters may settles knows carries =
+    hear g old new known now x after enters knows (tell g old known x told after adds may settles carries)
 
 -- where no call is due and the run goes on, all is quiet
 pub rests : RestsWhereNoneIsDue

@@ -19,6 +19,8 @@ use Rattle.hb_node.specs.State.{State, Shows, Acts, Stops}
 use Rattle.hb_loop.specs.declared.run.Known.{Known}
 use Rattle.hb_loop.specs.declared.run.Run.{Run}
 use Rattle.hb_loop.specs.Stands.{Stands, Carries, Ended, IsOver, Falls, GoesOn, Lasts}
+use Rattle.hb_loop.specs.Settled.{SettledLaw}
+use Rattle.hb_loop.proofs.Settling.{settled_entry, settled_stop}
 use Rattle.hb_loop.specs.Lawful.{Lawful, NoneLives}
 use Rattle.hb_loop.proofs.Model.{current_lives, none_live, lawful_run}
 use Rattle.hb_loop.proofs.Carried.{run_on, if_told}
@@ -66,6 +68,7 @@ stands_closed g old new known l cause trace acts s =
       points = s.points ++ entry (e.Closed l cause) ∷ [];
       machine = entered g (e.Closed l cause) s.machine;
       run = run_on g s.machine s.points (e.Closed l cause) s.run closes.0;
+      settled = settled_entry s.points (e.Closed l cause) tt s.settled;
       trace_is = closed_trace g s.machine s.points trace l cause s.run s.trace_is current;
       goes_on = s.goes_on;
       config = acts.0 ∙ s.config;
@@ -91,9 +94,10 @@ stop_trace : (points : List Point) (cause : Cause) → entries (points ++ stoppe
 stop_trace points cause = entries-grow points (stopped cause) ∙ append-nil (entries points)
 
 over_closed : (g : NodeConfig) (m : Machine) (points : List Point) (trace : List Entry) (l : ℕ) (cause : Cause)
-    → StandsFor g m points → entries points ≡ trace → m.current ≡ Some l → MayCome g m (e.Closed l cause)
+    → StandsFor g m points → SettledLaw points → entries points ≡ trace → m.current ≡ Some l → MayCome g m (e.Closed l cause)
     → IsOver g (trace ++ close_entries l cause trace)
-over_closed g m points trace l cause run is current may = record {
+over_closed g m points trace l cause run settled is current may = record {
+  settled = settled_entry points (e.Closed l cause) tt settled;
   points = points ++ entry (e.Closed l cause) ∷ [];
   machine = entered g (e.Closed l cause) m;
   run = run_on g m points (e.Closed l cause) run may;
@@ -104,7 +108,7 @@ over_closed g m points trace l cause run is current may = record {
 gives_up : (g : NodeConfig) (l : ℕ) (trace : List Entry) → Lasts g l trace → IsOver g (trace ++ close_entries l NoMemory trace)
 gives_up g l trace h =
     over_closed g (with_stop NoMemory h.machine) (h.points ++ stopped NoMemory ∷ []) trace l NoMemory
-    (goes_on h.run (stopped NoMemory) (h.goes_on, refl) refl) (stop_trace h.points NoMemory ∙ h.trace_is) h.current
+    (goes_on h.run (stopped NoMemory) (h.goes_on, refl) refl) (settled_stop h.points NoMemory h.settled) (stop_trace h.points NoMemory ∙ h.trace_is) h.current
     (stopped_closing NoMemory (h.machine.links l).phase h.phase)
 
 pub gave_up : (g : NodeConfig) (l : ℕ) (told after : Option (List Entry)) → after ≡ with_closed l NoMemory told
@@ -114,7 +118,7 @@ gave_up g l told after adds = closed_on (Lasts g l) (IsOver g) l NoMemory told a
 -- where no link lives the run may end
 over_none : (g : NodeConfig) (node : State) (trace : List Entry) → Stands g node None trace → IsOver g trace
 over_none g node trace s =
-    record { points = s.points; machine = s.machine; run = s.run; trace_is = s.trace_is; none = s.knows }
+    record { points = s.points; machine = s.machine; run = s.run; settled = s.settled; trace_is = s.trace_is; none = s.knows }
 
 over_told : (g : NodeConfig) (node : State) (told : Option (List Entry)) → Carries g node None told → Ended g told
 over_told g node None carries = tt
@@ -134,7 +138,7 @@ ends_closed g old mid new known cause why l trace stops acts s =
     let config : mid.config ≡ g = stops.0 ∙ s.config in
     let is_due : Some (act.Close l why) ≡ due g m = subst (λ c. Some (act.Close l why) ≡ due c m) config (acts.1 m shows) in
     over_closed g m (s.points ++ stopped cause ∷ []) trace l why (goes_on s.run (stopped cause) (s.goes_on, refl) refl)
-    (stop_trace s.points cause ∙ s.trace_is) (close_of g m l why is_due)
+    (settled_stop s.points cause s.settled) (stop_trace s.points cause ∙ s.trace_is) (close_of g m l why is_due)
     (subst (λ c. MayCome c m (e.Closed l why)) config (acts.2 m shows).0)
 
 pub ended_closed : (g : NodeConfig) (old mid new : State) (known : Option Known) (cause why : Cause) (l : ℕ)
@@ -155,7 +159,7 @@ stop_ends g old mid new cause why l told after some stops acts adds (inr ended) 
 -- the trace of a run at whose end no link lives
 pub over_lawful : (g : NodeConfig) (told : Option (List Entry)) → Ended g told → IfSome told (Lawful g)
 over_lawful g told =
-    if_told (IsOver g) (Lawful g) told (λ trace over. lawful_run g over.machine over.points trace over.run over.trace_is)
+    if_told (IsOver g) (Lawful g) told (λ trace over. lawful_run g over.machine over.points trace over.run over.settled over.trace_is)
 
 pub over_none_lives : (g : NodeConfig) (told : Option (List Entry)) → Ended g told → IfSome told NoneLives
 over_none_lives g told =

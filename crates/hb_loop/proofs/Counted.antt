@@ -1,6 +1,5 @@
 -- What the loop counts, once a call told one more entry.
 use Rattle.std.proofs.Common.{◌≡◌, ℕ, ◌+◌, ◌*◌, ◌-◌, ◌^◌, ◌<◌, ◌≤◌, min, Bool, true, false, ◌||◌, cond, if◌then◌else◌, List, [], ◌∷◌, ◌++◌, Option, Some, None, IfSome, Result, refl, ap, sym, ◌∙◌, subst, arith, zero-add}
-use Rattle.std.proofs.lemmas.List.{append-nil}
 use Rattle.std.proofs.lemmas.List.Sums.{sum_by-append}
 use Rattle.std.specs.Prelude.{⊤, count_by}
 use Rattle.hb_base.specs.declared.door.Why.{Why}
@@ -20,7 +19,7 @@ use Rattle.hb_model.specs.declared.config.NodeConfig.{NodeConfig}
 use Rattle.hb_model.specs.Runs.{due}
 use Rattle.hb_node.specs.State.{State, Acts}
 use Rattle.hb_loop.specs.declared.run.Known.{Known}
-use Rattle.hb_loop.specs.Ends.{is_tick, ticks, end_by, RunsOn, is_wait, is_move, waits, moves, is_lack, is_close_for_lack, was_wanting}
+use Rattle.hb_loop.specs.Ends.{is_tick, ticks, end_by, is_wait, is_move, waits, moves, is_lack, is_close_for_lack, was_wanting}
 use Rattle.hb_loop.specs.Reckons.{AreLeft, Counts, Reckons, turns_after, moved_by}
 use Rattle.hb_loop.specs.Stands.{Carries, Lasts}
 use Rattle.hb_loop.proofs.Model.{current_lives}

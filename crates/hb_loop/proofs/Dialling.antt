@@ -22,6 +22,7 @@ use Rattle.hb_loop.specs.declared.run.Known.{Known}
 use Rattle.hb_loop.specs.declared.run.Run.{Run}
 use Rattle.hb_loop.specs.Stands.{Knows, Carries, IsOver, Falls, Leaves, Lasts, Tells}
 use Rattle.hb_loop.proofs.Model.{born_is}
+use Rattle.hb_loop.proofs.Settling.{settled_entry}
 use Rattle.hb_loop.proofs.Known.{knows_dialled, knows_failed, knows_inner}
 use Rattle.hb_loop.proofs.Carried.{KnowsBehind, MayBehind, tell, hear, run_on, trace_on, if_told}
 
@@ -80,7 +81,7 @@ tells_birth g node known to why l told after is next adds =
     let is_due = dial_is_due node to why is in
     tell g node known (e.Dialled l node.config.discovery why) told after
     (subst (λ (t : Target). after ≡ with_entries (e.Dialled l t why ∷ []) told) is_due.to_is adds)
-    (may_give g node known to why l told is_due next)
+    (may_give g node known to why l told is_due next) (λ trace is s. tt)
 
 -- the node is told of a birth
 pub hears_birth : (g : NodeConfig) (old new : State) (known : Option Known) (why : Why) (l : ℕ) (told : Option (List Entry))
@@ -100,6 +101,7 @@ lasts_born g node known to why l trace tells =
       points = s.points ++ entry (e.Dialled l to why) ∷ [];
       machine = entered g (e.Dialled l to why) s.machine;
       run = run_on g s.machine s.points (e.Dialled l to why) s.run tells.may;
+      settled = settled_entry s.points (e.Dialled l to why) tt s.settled;
       trace_is = trace_on s.points (e.Dialled l to why) tells.before trace s.trace_is tells.grows;
       goes_on = s.goes_on;
       current = refl;
@@ -122,6 +124,7 @@ fails_so g node known to why trace dials tells =
         points = s.points ++ entry (e.DialFailed to why) ∷ [];
         machine = entered g (e.DialFailed to why) s.machine;
         run = run_on g s.machine s.points (e.DialFailed to why) s.run tells.may;
+        settled = settled_entry s.points (e.DialFailed to why) tt s.settled;
         trace_is = trace_on s.points (e.DialFailed to why) tells.before trace s.trace_is tells.grows;
         none = none;
       },
@@ -143,7 +146,7 @@ failed_leaves {E} g r old run to why told after is adds answers carries = by_res
     tells : IfSome after (Tells g old run.known (e.DialFailed old.config.discovery why))
     tells = tell g old run.known (e.DialFailed old.config.discovery why) told after
         (subst (λ (t : Target). after ≡ with_entries (e.DialFailed t why ∷ []) told) is_due.to_is adds)
-        (may_fail g old run.known to why told is_due) carries
+        (may_fail g old run.known to why told is_due) (λ trace is s. tt) carries
 
     knows : KnowsBehind g old run.known (e.DialFailed old.config.discovery why) run.known
     knows m n shows may knew keeps = knows_inner run.known _ n (knows_failed g run.known m old.config.discovery why knew) keeps

@@ -1,8 +1,11 @@
 pub mod Model
 pub mod Known
+pub mod Settling
 pub mod Carried
 pub mod Closing
 pub mod Counted
 pub mod Dialling
+pub mod Resting
 pub mod Trying
+pub mod Waiting
 pub mod Turning

@@ -27,6 +27,7 @@ use Rattle.hb_model.proofs.RequestsRun.{obey_requests}
 use Rattle.hb_model.proofs.WindowsFit.{obey_windows}
 use Rattle.hb_node.specs.State.{IsInner, Inner}
 use Rattle.hb_loop.specs.Lawful.{Lawful}
+use Rattle.hb_loop.specs.Settled.{SettledLaw}
 use Rattle.hb_loop.specs.Stands.{IsInPhase}
 
 -- the last link born has the number of births
@@ -178,8 +179,9 @@ inner_runs g m n before (p ∷ points) stands (is, mid, steps, more) =
 
 -- the trace of a run is lawful
 pub lawful_run : (g : NodeConfig) (m : Machine) (points : List Point) (trace : List Entry) → StandsFor g m points
-    → entries points ≡ trace → Lawful g trace
-lawful_run g m points trace stands is = record {
+    → SettledLaw points → entries points ≡ trace → Lawful g trace
+lawful_run g m points trace stands settled is = record {
+  settled = settled;
   points = points;
   trace_is = is;
   calls = calls_in_order g m points stands;

@@ -21,11 +21,12 @@ use Rattle.hb_node.specs.Phases.{phase_of}
 use Rattle.hb_node.specs.State.{State, ShowsLink, IsGone, Enters, Goes, Wants, Puts, due_of, number_of, closing_of}
 use Rattle.hb_loop.specs.declared.run.Known.{Known}
 use Rattle.hb_loop.specs.Stands.{IsInPhase, Knows, Stands, Carries, GoesOn, Lasts, Tells}
+use Rattle.hb_loop.proofs.Settling.{settled_entry}
 use Rattle.hb_loop.proofs.Known.{knows_inner, knows_came, knows_went, knows_ended, knows_broke, knows_tick, knows_balked, knows_wait, knows_opened}
-use Rattle.hb_loop.proofs.Carried.{MayBehind, tell, hear, carry, run_on, trace_on, if_told, rests, balks, waits}
+use Rattle.hb_loop.proofs.Carried.{MayBehind, SettlesBehind, tell, hear, carry, run_on, trace_on, if_told, rests, balks, waits}
 
 -- where no call is due all is quiet
-quiet_where : (g : NodeConfig) (node : State) (known : Option Known) (trace : List Entry) → due_of node ≡ None
+pub quiet_where : (g : NodeConfig) (node : State) (known : Option Known) (trace : List Entry) → due_of node ≡ None
     → (s : Stands g node known trace) → IsQuiet s.machine
 quiet_where g node known trace idle s = rests node s.machine s.shows idle (sym s.shows.over ∙ s.goes_on)
 
@@ -55,19 +56,19 @@ waits_enter node ready how = (
 pub balked : (g : NodeConfig) (node : State) (known : Option Known) (way : Way) (told after : Option (List Entry))
     → after ≡ with_entries (e.Balked way ∷ []) told → Carries g node known told → Carries g node known after
 balked g node known way told after adds =
-    carry g node node known known (e.Balked way) told after adds (balks_enter node way) (λ trace is s. s.goes_on)
+    carry g node node known known (e.Balked way) told after adds (balks_enter node way) (λ trace is s. s.goes_on) (λ trace same s. tt)
     (λ m n shows may knows keeps. knows_inner known _ n (knows_balked g known m way knows) keeps)
 
 pub waited : (g : NodeConfig) (node : State) (known : Option Known) (ready : List ReadyItem) (how : Woken)
     (told after : Option (List Entry)) → after ≡ with_entries (e.Wait ready how ∷ []) told → due_of node ≡ None
-    → Carries g node known told → Carries g node known after
-waited g node known ready how told after adds idle =
+    → SettlesBehind g node known (e.Wait ready how) told → Carries g node known told → Carries g node known after
+waited g node known ready how told after adds idle settles =
     carry g node node known known (e.Wait ready how) told after adds (waits_enter node ready how)
-    (λ trace is s. quiet_where g node known trace idle s)
+    (λ trace is s. quiet_where g node known trace idle s) settles
     (λ m n shows may knows keeps. knows_inner known _ n (knows_wait g known m ready how knows) keeps)
 
 -- a link that isn't open is dialling, where all is quiet
-dialling_by : (p : Phase) (x : Discovery) → IsCalmBy p x → IsInPhase false p → p ≡ dialling
+pub dialling_by : (p : Phase) (x : Discovery) → IsCalmBy p x → IsInPhase false p → p ≡ dialling
 dialling_by dialling x calm free = refl
 dialling_by (ending cause) x calm free = absurd calm
 dialling_by _ x calm free = absurd free
@@ -88,7 +89,7 @@ pub finish_opens : (g : NodeConfig) (old new : State) (known : Option Known) (l 
     → Carries g new (Some (record { number = l; is_open = true })) after
 finish_opens g old new known l told after adds enters idle is =
     carry g old new known (Some (record { number = l; is_open = true })) (e.Opened l) told after adds enters
-    (λ trace same s. (finishes g old known l trace idle is s).1)
+    (λ trace same s. (finishes g old known l trace idle is s).1) (λ trace same s. tt)
     (λ m n shows may knows keeps. knows_inner (Some (record { number = l; is_open = true })) _ n
     (knows_opened g m l (subst (λ (o : Option Known). Knows o m) is knows).0 may.1) keeps)
 
@@ -96,7 +97,7 @@ broke_so : (g : NodeConfig) (old new : State) (known : Option Known) (l : ℕ) (
     → after ≡ with_entries (e.Broke l ∷ []) told → Enters (e.Broke l) old new → MayBehind g old known (e.Broke l) told
     → Carries g old known told → Carries g new known after
 broke_so g old new known l told after adds enters may =
-    carry g old new known known (e.Broke l) told after adds enters may
+    carry g old new known known (e.Broke l) told after adds enters may (λ trace same s. tt)
     (λ m n shows may knows keeps. knows_inner known _ n (knows_broke g known m l knows) keeps)
 
 pub finish_breaks : (g : NodeConfig) (old new : State) (known : Option Known) (l : ℕ) (told after : Option (List Entry))
@@ -153,7 +154,7 @@ write_goes g old new known l n bytes told after adds goes puts some most =
       may_write g old known l bytes trace puts (omega (arith, some, most)) s,
       subst (λ k. 0 < k) (sym size) some,
       (drop n bytes, sym (puts s.machine s.shows) ∙ sym (take-append-drop n bytes)),
-    ))
+    )) (λ trace same s. tt)
     (λ m n shows may knows keeps. knows_inner known _ n (knows_went g known m l _ knows) keeps)
 
 pub write_breaks : (g : NodeConfig) (old new : State) (known : Option Known) (l : ℕ) (bytes : List ℕ) (told after : Option (List Entry))
@@ -184,7 +185,7 @@ read_tells g node known l most bytes told after adds wanted octets some at_most 
       octets,
       some,
       subst (λ n. length bytes ≤ n) (wanted s.machine s.shows) at_most,
-    ))
+    )) (λ trace same s. tt)
 
 -- a buffer that was written whole
 pub refilled : (n : ℕ) (new old : List ℕ) → length new ≡ n → length old ≡ n → new ≡ take n (new ++ drop (length new) old)
@@ -229,6 +230,7 @@ lasts_read g node known l bytes trace tells =
       points = s.points ++ entry (e.Came l bytes) ∷ [];
       machine = entered g (e.Came l bytes) s.machine;
       run = run_on g s.machine s.points (e.Came l bytes) s.run tells.may;
+      settled = settled_entry s.points (e.Came l bytes) tt s.settled;
       trace_is = trace_on s.points (e.Came l bytes) tells.before trace s.trace_is tells.grows;
       goes_on = s.goes_on;
       current = live_current node.link s.machine l s.shows.link tells.may.0.1;
@@ -248,7 +250,7 @@ read_ends g old new known l most told after adds enters wanted some =
     (λ trace same s. (
       may_read g old known l most trace wanted some s,
       subst (λ n. 0 < n) (wanted s.machine s.shows) some,
-    ))
+    )) (λ trace same s. tt)
     (λ m n shows may knows keeps. knows_inner known _ n (knows_ended g known m l knows) keeps)
 
 pub read_breaks : (g : NodeConfig) (old new : State) (known : Option Known) (l most : ℕ) (told after : Option (List Entry))
@@ -260,13 +262,13 @@ read_breaks g old new known l most told after adds enters wanted some =
 -- time passed behind a wait
 pub tick_tells : (g : NodeConfig) (node : State) (known : Option Known) (ready : List ReadyItem) (how : Woken)
     (told after : Option (List Entry)) → after ≡ with_entries (e.Wait ready how ∷ e.Tick ∷ []) told → due_of node ≡ None
-    → Carries g node known told → IfSome after (Tells g node known e.Tick)
-tick_tells g node known ready how None after adds idle carries = subst (λ o. IfSome o (Tells g node known e.Tick)) (sym adds) tt
-tick_tells g node known ready how (Some trace) after adds idle carries =
+    → SettlesBehind g node known (e.Wait ready how) told → Carries g node known told → IfSome after (Tells g node known e.Tick)
+tick_tells g node known ready how None after adds idle settles carries = subst (λ o. IfSome o (Tells g node known e.Tick)) (sym adds) tt
+tick_tells g node known ready how (Some trace) after adds idle settles carries =
     tell g node known e.Tick (Some (trace ++ e.Wait ready how ∷ [])) after
     (adds ∙ ap (λ (es : List Entry). Some es) (sym (append_assoc trace (e.Wait ready how ∷ []) (e.Tick ∷ []))))
-    (λ more same s. quiet_where g node known more idle s)
-    (waited g node known ready how (Some trace) (Some (trace ++ e.Wait ready how ∷ [])) refl idle carries)
+    (λ more same s. quiet_where g node known more idle s) (λ trace same s. tt)
+    (waited g node known ready how (Some trace) (Some (trace ++ e.Wait ready how ∷ [])) refl idle settles carries)
 
 pub hears_tick : (g : NodeConfig) (old new : State) (known : Option Known) (told : Option (List Entry)) → Enters e.Tick old new
     → IfSome told (Tells g old known e.Tick) → Carries g new known told

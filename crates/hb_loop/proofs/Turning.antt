@@ -1,5 +1,5 @@
 -- What the loop counts behind a wait, a tick and at the end of a run.
-use Rattle.std.proofs.Common.{◌≡◌, ℕ, ◌+◌, ◌-◌, ◌*◌, ◌≤◌, ◌==◌, Bool, true, false, ◌&&◌, ◌||◌, if◌then◌else◌, List, [], ◌∷◌, ◌++◌, Option, Some, None, IfSome, is_none, refl, ap, sym, ◌∙◌, subst, inl, inr, arith}
+use Rattle.std.proofs.Common.{◌≡◌, ℕ, ◌+◌, ◌-◌, ◌≤◌, ◌==◌, Bool, true, false, ◌&&◌, ◌||◌, if◌then◌else◌, List, [], ◌∷◌, ◌++◌, Option, Some, None, IfSome, is_none, refl, ap, sym, ◌∙◌, subst, inl, inr, arith}
 use Rattle.std.specs.List.{list_all}
 use Rattle.std.proofs.lemmas.List.{append_assoc}
 use Rattle.hb_base.specs.Count.{Counts as Rises}
@@ -22,7 +22,7 @@ use Rattle.hb_loop.specs.declared.run.Known.{Known}
 use Rattle.hb_loop.specs.declared.run.Run.{Run}
 use Rattle.hb_loop.specs.declared.turns.ServeEnd.{ServeEnd}
 use Rattle.hb_loop.specs.declared.turns.ServeEnd.TheVariants as ends
-use Rattle.hb_loop.specs.Ends.{ticks, are_spent, end_by_wait, end_by, RunsOn, is_close, IsEndedBy, EndsAs, is_move, is_wait, moves, waits, SpendsTurns, is_lack, was_wanting}
+use Rattle.hb_loop.specs.Ends.{ticks, are_spent, end_by_wait, end_by, RunsOn, is_close, IsEndedBy, EndsAs, is_move, is_wait, SpendsTurns, is_lack, was_wanting}
 use Rattle.hb_loop.specs.Reckons.{one_less, is_spent, turns_after, turns_kept, TurnedTo, AreLeft, Counts, Reckons, Reckoned, Finishes, Finished, IsBehindTick}
 use Rattle.hb_loop.specs.Stands.{Carries, Falls}
 use Rattle.hb_loop.proofs.Model.{current_lives}

@@ -11,6 +11,7 @@ use Rattle.hb_model.specs.Messages.{MessagesLaw, AppliedAtOnceLaw}
 use Rattle.hb_model.specs.Connections.{ConnectionLaw}
 use Rattle.hb_model.specs.Requests.{RequestLaw}
 use Rattle.hb_model.specs.Windows.{WindowLaw}
+use Rattle.hb_loop.specs.Settled.{SettledLaw}
 
 -- the entries of a trace, with what the proxy looked at and did by itself between them, obey each law
 pub record Lawful (g : NodeConfig) (trace : List Entry) : Type 0 where
@@ -24,6 +25,7 @@ pub record Lawful (g : NodeConfig) (trace : List Entry) : Type 0 where
   pub connections : ConnectionLaw points
   pub requests : RequestLaw g points
   pub windows : WindowLaw points
+  pub settled : SettledLaw points
 
 -- at the end of a trace no link lives
 abbrev pub NoneLives : List Entry → Type 0

@@ -1,4 +1,6 @@
 pub mod Ends
 pub mod Lawful
 pub mod Reckons
+pub mod Settled
 pub mod Stands
+pub mod Tried

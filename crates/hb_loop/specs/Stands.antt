@@ -9,6 +9,7 @@ use Rattle.hb_model.specs.Machine.{Machine}
 use Rattle.hb_model.specs.Point.{Point, entries}
 use Rattle.hb_model.specs.Runs.{StandsFor, MayCome}
 use Rattle.hb_node.specs.State.{State, Shows, due_of}
+use Rattle.hb_loop.specs.Settled.{SettledBefore, SettledLaw}
 use Rattle.hb_loop.specs.declared.run.Known.{Known}
 use Rattle.hb_loop.specs.declared.run.Run.{Run}
 
@@ -32,6 +33,7 @@ pub record Stands (g : NodeConfig) (node : State) (known : Option Known) (trace 
   pub machine : Machine
   pub run : StandsFor g machine points
   pub trace_is : entries points ≡ trace
+  pub settled : SettledLaw points
   pub goes_on : machine.over ≡ false
   pub config : node.config ≡ g
   pub shows : Shows node machine
@@ -47,6 +49,7 @@ pub record IsOver (g : NodeConfig) (trace : List Entry) : Type 0 where
   pub machine : Machine
   pub run : StandsFor g machine points
   pub trace_is : entries points ≡ trace
+  pub settled : SettledLaw points
   pub none : machine.current ≡ None
 
 abbrev pub Ended : NodeConfig → Option (List Entry) → Type 0
@@ -73,6 +76,7 @@ pub record Tells (g : NodeConfig) (node : State) (known : Option Known) (told : 
   pub before : List Entry
   pub stands : Stands g node known before
   pub may : MayCome g stands.machine told
+  pub settles : SettledBefore stands.points told
   pub grows : trace ≡ before ++ told ∷ []
 
 -- a trace that told this entry is that of a run again
@@ -92,6 +96,7 @@ pub record Lasts (g : NodeConfig) (link : ℕ) (trace : List Entry) : Type 0 whe
   pub machine : Machine
   pub run : StandsFor g machine points
   pub trace_is : entries points ≡ trace
+  pub settled : SettledLaw points
   pub goes_on : machine.over ≡ false
   pub current : machine.current ≡ Some link
   pub phase : GoesOn (machine.links link).phase

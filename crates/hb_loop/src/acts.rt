@@ -9,6 +9,7 @@ ghost use Rattle.hb_model.specs.declared.config.NodeConfig.{NodeConfig};
 ghost use Rattle.hb_node.specs.State.{due_of, NoneIsDue};
 ghost use Rattle.hb_loop.specs.Ends.{is_lack};
 ghost use Rattle.hb_loop.specs.Reckons.{Passes, PassesBy, PassesTold};
+ghost use Rattle.hb_loop.specs.Tried.{Rests};
 ghost use Rattle.hb_loop.specs.Stands.{Ended, Keeps, Hears, Lasts, IsIdle, weight};
 
 use crate::run::{Known, Run};
@@ -93,6 +94,7 @@ fn dial<W: World>(run: &mut Run, world: &mut W, to: Target, why: Why) -> Result<
 fn make_act<W: World>(run: &mut Run, world: &mut W) -> Result<bool, NoMemory>
     ensures keeps { Keeps result run.old (W.trace world.old) run.new (W.trace world.new) }
     ensures idle { IfOk result (λ made. made ≡ false → IsIdle run.new) }
+    ensures rests { IsIdle run.old → Rests run.old (W.trace world.old) run.new (W.trace world.new) }
     ensures less { IfOk result (λ made. made ≡ true → weight run.new.node < weight run.old.node) }
     ensures passes { Passes false run.old (W.trace world.old) run.new (W.trace world.new) }
     ensures faults { W.faults world.new ≡ W.faults world.old }
@@ -114,6 +116,7 @@ fn make_act<W: World>(run: &mut Run, world: &mut W) -> Result<bool, NoMemory>
 pub(crate) fn make_acts<W: World>(run: &mut Run, world: &mut W) -> Result<(), NoMemory>
     ensures keeps { Keeps result run.old (W.trace world.old) run.new (W.trace world.new) }
     ensures idle { IfOk result (λ _. IsIdle run.new) }
+    ensures rests { IsIdle run.old → Rests run.old (W.trace world.old) run.new (W.trace world.new) }
     ensures passes { Passes false run.old (W.trace world.old) run.new (W.trace world.new) }
     ensures faults { W.faults world.new ≡ W.faults world.old }
 {

@@ -1,11 +1,13 @@
 //! One call on a link: it is made, and the node is told what it did.
 
-ghost use Rattle.std.specs.Prelude.{◌≡◌, ◌<◌, ◌≤◌, false, length, take, Some};
+ghost use Rattle.std.specs.Prelude.{◌≡◌, ◌<◌, ◌≤◌, true, false, length, take, Some, IfOk};
 ghost use Rattle.hb_frames.specs.Frames.{AreOctets};
 ghost use Rattle.hb_world.specs.Answers.{ReadsWithin};
 ghost use Rattle.hb_world.specs.Calls.{with_entries, read_entries};
 ghost use Rattle.hb_world.specs.declared.entry.Entry.TheVariants as e;
 ghost use Rattle.hb_loop.specs.Reckons.{Passes, PassesTold, moved_by};
+ghost use Rattle.hb_world.specs.declared.entry.Way.TheVariants as way;
+ghost use Rattle.hb_loop.specs.Tried.{Rests, Sleeps, ReadRests, WriteRests};
 ghost use Rattle.hb_loop.specs.Stands.{Keeps, Hears, IsIdle};
 
 use crate::acts::give_up;
@@ -18,6 +20,7 @@ pub(crate) fn finish<W: World>(run: &mut Run, world: &mut W, link: u64) -> Resul
     ensures keeps { IsIdle run.old → run.old.known ≡ Some (record { number = link; is_open = false })
         → Keeps result run.old (W.trace world.old) run.new (W.trace world.new) }
     ensures passes { Passes (moved_by result) run.old (W.trace world.old) run.new (W.trace world.new) }
+    ensures rests { IfOk result (λ moved. moved ≡ false → Rests run.old (W.trace world.old) run.new (W.trace world.new) × Sleeps (way.Finish link) (W.trace world.new)) }
     ensures faults { W.faults world.new ≡ W.faults world.old }
 {
     match world.finish(link) {
@@ -57,6 +60,7 @@ fn came<W: World>(run: &mut Run, world: &mut W, link: u64, n: usize) -> Result<b
     ensures hears { Hears result (e.Came link (take n run.old.buffer.items)) run.old (W.trace world.old) run.new (W.trace world.new) }
     ensures passes { PassesTold (e.Came link (take n run.old.buffer.items)) run.old (W.trace world.old) run.new (W.trace world.new) }
     ensures faults { W.faults world.new ≡ W.faults world.old }
+    ensures moved { IfOk result (λ moved. moved ≡ true) }
 {
     match run.node.take_bytes(link, &run.buffer[..n]) {
         Ok(()) => Ok(true),
@@ -68,11 +72,17 @@ fn came<W: World>(run: &mut Run, world: &mut W, link: u64, n: usize) -> Result<b
 pub(crate) fn read<W: World>(run: &mut Run, world: &mut W, link: u64) -> Result<bool, NoMemory>
     ensures keeps { Keeps result run.old (W.trace world.old) run.new (W.trace world.new) }
     ensures passes { Passes (moved_by result) run.old (W.trace world.old) run.new (W.trace world.new) }
+    ensures rests { IfOk result (λ moved. moved ≡ false → Rests run.old (W.trace world.old) run.new (W.trace world.new) × ReadRests run.new.node link (W.trace world.new)) }
     ensures faults { W.faults world.new ≡ W.faults world.old }
 {
-    let most = run.node.wants(link).min(run.buffer.len());
-    if most == 0 {
+    let wanted = run.node.wants(link);
+    if wanted == 0 {
         return Ok(false);
+    }
+    let most = wanted.min(run.buffer.len());
+    // The buffer has no room for a byte.
+    if most == 0 {
+        return Err(NoMemory);
     }
     match read_front(world, link, &mut run.buffer, most) {
         Read::Got(n) => came(run, world, link, n),
@@ -93,6 +103,7 @@ pub(crate) fn read<W: World>(run: &mut Run, world: &mut W, link: u64) -> Result<
 pub(crate) fn write<W: World>(run: &mut Run, world: &mut W, link: u64) -> Result<bool, NoMemory>
     ensures keeps { Keeps result run.old (W.trace world.old) run.new (W.trace world.new) }
     ensures passes { Passes (moved_by result) run.old (W.trace world.old) run.new (W.trace world.new) }
+    ensures rests { IfOk result (λ moved. moved ≡ false → Rests run.old (W.trace world.old) run.new (W.trace world.new) × WriteRests run.new.node link (W.trace world.new)) }
     ensures faults { W.faults world.new ≡ W.faults world.old }
 {
     let output = run.node.output(link);

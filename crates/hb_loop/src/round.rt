@@ -2,6 +2,8 @@
 
 ghost use Rattle.std.specs.Prelude.{◌≡◌, false, Some, IfOk};
 ghost use Rattle.hb_loop.specs.Reckons.{Passes, moved_by};
+ghost use Rattle.hb_world.specs.declared.entry.Way.TheVariants as way;
+ghost use Rattle.hb_loop.specs.Tried.{Rests, Sleeps, ReadRests, WriteRests, Tried};
 ghost use Rattle.hb_loop.specs.Stands.{Keeps, IsIdle};
 
 use crate::acts::make_acts;
@@ -18,6 +20,8 @@ fn try_finish<W: World>(run: &mut Run, world: &mut W, link: u64) -> Result<bool,
     ensures passes { IsIdle run.old → run.old.known ≡ Some (record { number = link; is_open = false })
         → Passes (moved_by result) run.old (W.trace world.old) run.new (W.trace world.new) }
     ensures faults { W.faults world.new ≡ W.faults world.old }
+    ensures rests { IfOk result (λ moved. moved ≡ false → IsIdle run.old
+        → Rests run.old (W.trace world.old) run.new (W.trace world.new) × Sleeps (way.Finish link) (W.trace world.new)) }
 {
     let moved = finish(run, world, link)?;
     make_acts(run, world)?;
@@ -30,6 +34,8 @@ fn try_write<W: World>(run: &mut Run, world: &mut W, link: u64) -> Result<bool, 
     ensures idle { IfOk result (λ _. IsIdle run.new) }
     ensures passes { Passes (moved_by result) run.old (W.trace world.old) run.new (W.trace world.new) }
     ensures faults { W.faults world.new ≡ W.faults world.old }
+    ensures rests { IfOk result (λ moved. moved ≡ false → IsIdle run.old
+        → Rests run.old (W.trace world.old) run.new (W.trace world.new) × WriteRests run.new.node link (W.trace world.new)) }
 {
     let went = write(run, world, link)?;
     make_acts(run, world)?;
@@ -43,6 +49,8 @@ fn try_bytes<W: World>(run: &mut Run, world: &mut W, link: u64) -> Result<bool, 
     ensures idle { IfOk result (λ _. IsIdle run.new) }
     ensures passes { Passes (moved_by result) run.old (W.trace world.old) run.new (W.trace world.new) }
     ensures faults { W.faults world.new ≡ W.faults world.old }
+    ensures rests { IfOk result (λ moved. moved ≡ false → IsIdle run.old
+        → Rests run.old (W.trace world.old) run.new (W.trace world.new) × ReadRests run.new.node link (W.trace world.new) × WriteRests run.new.node link (W.trace world.new)) }
 {
     let came = read(run, world, link)?;
     let went = try_write(run, world, link)?;
@@ -56,6 +64,7 @@ pub(crate) fn round<W: World>(run: &mut Run, world: &mut W) -> Result<bool, NoMe
     ensures idle { IfOk result (λ _. IsIdle run.old → IsIdle run.new) }
     ensures passes { IsIdle run.old → Passes (moved_by result) run.old (W.trace world.old) run.new (W.trace world.new) }
     ensures faults { W.faults world.new ≡ W.faults world.old }
+    ensures tried { IfOk result (λ moved. moved ≡ false → IsIdle run.old → Tried run.new.known run.new.node (W.trace world.new)) }
 {
     match run.known {
         None => Ok(false),

@@ -9,6 +9,7 @@ ghost use Rattle.hb_loop.specs.Ends.{EndsAs, SpendsTurns, is_fault, was_wanting}
 ghost use Rattle.hb_loop.specs.Lawful.{Lawful, NoneLives, AfterServe};
 ghost use Rattle.hb_loop.specs.Reckons.{Reckons, Reckoned, IsBehindTick, Finished, Turned, one_less, is_spent, end_of, is_fault_of_turn, turns_kept};
 ghost use Rattle.hb_loop.specs.Stands.{Carries, Ended, Falls, Keeps, Hears, IsIdle, Tells};
+ghost use Rattle.hb_loop.specs.Tried.{Tried};
 ghost use Rattle.hb_loop.specs.declared.turns.ServeEnd.{ServeEnd};
 
 use crate::acts::{close, make_acts};
@@ -63,9 +64,10 @@ fn wait<W: World>(
     ready: &mut Ready,
     ticks: &mut Option<u64>,
 ) -> Result<Option<ServeEnd>, NoMemory>
-    ensures keeps { IsIdle run.old → Keeps result run.old (W.trace world.old) run.new (W.trace world.new) }
+    ensures keeps { IsIdle run.old → Tried run.old.known run.old.node (W.trace world.old)
+        → Keeps result run.old (W.trace world.old) run.new (W.trace world.new) }
     ensures idle { IfOk result (λ end. end ≡ None → IsIdle run.old → IsIdle run.new) }
-    ensures turned { (g : NodeConfig) → IsIdle run.old → Carries g run.old.node run.old.known (W.trace world.old)
+    ensures turned { (g : NodeConfig) → IsIdle run.old → Tried run.old.known run.old.node (W.trace world.old) → Carries g run.old.node run.old.known (W.trace world.old)
         → (stated : Option ℕ) (n : ℕ) → Reckoned stated ticks.old n run.old (W.trace world.old)
         → Turned result stated ticks.new (n + 2) run.new (W.trace world.new) }
     ensures faults { Counts (W.faults world.old) (W.faults world.new) (is_fault_of_turn result) }
@@ -87,11 +89,13 @@ fn turn<W: World>(
     ticks: &mut Option<u64>,
     moved: &mut bool,
 ) -> Result<Option<ServeEnd>, NoMemory>
-    ensures keeps { IsIdle run.old → Keeps result run.old (W.trace world.old) run.new (W.trace world.new) }
+    ensures keeps { IsIdle run.old → (moved.old ≡ false → Tried run.old.known run.old.node (W.trace world.old))
+        → Keeps result run.old (W.trace world.old) run.new (W.trace world.new) }
     ensures idle { IfOk result (λ end. end ≡ None → IsIdle run.old → IsIdle run.new) }
-    ensures turned { (g : NodeConfig) → IsIdle run.old → Carries g run.old.node run.old.known (W.trace world.old)
+    ensures turned { (g : NodeConfig) → IsIdle run.old → (moved.old ≡ false → Tried run.old.known run.old.node (W.trace world.old)) → Carries g run.old.node run.old.known (W.trace world.old)
         → (stated : Option ℕ) (n : ℕ) → Reckoned stated ticks.old (turns_kept moved.old n) run.old (W.trace world.old)
         → Turned result stated ticks.new (turns_kept moved.new (n + 1)) run.new (W.trace world.new) }
+    ensures tried { IfOk result (λ _. moved.new ≡ false → IsIdle run.old → Tried run.new.known run.new.node (W.trace world.new)) }
     ensures faults { Counts (W.faults world.old) (W.faults world.new) (is_fault_of_turn result) }
 {
     if *moved & run.known.is_some() {
@@ -180,7 +184,8 @@ fn begin(alloc: Global, words: ServeWords) -> Result<(Run, Ready), NoMemory>
 }
 
 /// Runs the proxy over a world until a wait tells a stop or fails, the ticks passed or the turns are spent, or memory lacks.
-/// Then each link is closed. Where the world tells its trace, and no call was made on it before, the trace is lawful.
+/// Then each link is closed. Where the world tells its trace, and no call was made on it before, the trace is lawful, and says
+/// how the run ended, how many links were born, whether one was closed for want of memory, and what the turns were spent on.
 pub fn serve<W: World>(alloc: Global, words: ServeWords, world: &mut W) -> Served
     ensures lawful { AfterServe (Lawful words.config) (W.trace world.old) (W.trace world.new) }
     ensures closed { AfterServe NoneLives (W.trace world.old) (W.trace world.new) }

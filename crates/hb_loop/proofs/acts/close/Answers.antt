@@ -1,4 +1,4 @@
-use Rattle.std.proofs.Common.{◌≡◌, ◌||◌, Bool, true, false, ℕ, Option, IfSome, ap, sym, ◌∙◌, subst}
+use Rattle.std.proofs.Common.{◌≡◌, ◌||◌, true, false, IfSome, sym, ◌∙◌, subst}
 use Rattle.hb_loop.specs.Ends.{is_lack}
 use Rattle.hb_loop.specs.Reckons.{Reckons}
 use Rattle.hb_loop.proofs.Counted.{passes_close}

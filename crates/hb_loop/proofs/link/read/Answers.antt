@@ -1,3 +1,6 @@
+use Rattle.std.proofs.Common.{inl}
+use Rattle.hb_model.proofs.CallsSaid.{eqb-self}
+use Rattle.hb_loop.proofs.Resting.{sleeps_on, sleeps_now, moved_not}
 use Rattle.std.proofs.Common.{◌≡◌, ℕ, ◌+◌, ◌<◌, ◌≤◌, List, ◌++◌, length, take, drop, IfSome, refl, ◌∙◌, subst, rules}
 use Rattle.hb_world.specs.declared.entry.Entry.TheVariants as e
 use Rattle.hb_world.specs.declared.entry.Way.TheVariants as way
@@ -20,7 +23,7 @@ told g c config carries =
     let known = c.args.run.now.known in
     let buffer = c.read_front.new.buffer in
     let most = c.min-most.result in
-    let within : most ≤ c.wants.result = search rules in
+    let within : most ≤ c.wants-wanted.result = search rules in
     let room : most ≤ length buffer = search rules in
     let size = c.args.run.now.buffer.len in
     let items = c.args.run.now.buffer.items in
@@ -28,7 +31,7 @@ told g c config carries =
     refilled size buffer items (c.read_front.ensures.same ∙ c.deref_mut.ensures.len) (search rules) in
     subst (λ (bs : List ℕ). IfSome (g.W.World.trace c.read_front.new.world) (Tells config node known
     (e.Came c.args.link (take c.in-Got.n bs)))) same
-    (read_gets config node known c.args.link c.wants.result most c.in-Got.n buffer _ _ c.in-Got.ensures.adds c.wants.ensures.machine
+    (read_gets config node known c.args.link c.wants-wanted.result most c.in-Got.n buffer _ _ c.in-Got.ensures.adds c.wants-wanted.ensures.machine
     within room c.in-Got.ensures.octets c.in-Got.ensures.within.0 c.in-Got.ensures.within.1 carries)
 
 pub returns-in-Got-clause-keeps : goal.returns-in-Got-clause-keeps
@@ -45,9 +48,9 @@ returns-in-Got-clause-passes g c = λ config carries stated left n had.
 
 pub returns-in-End-clause-keeps : goal.returns-in-End-clause-keeps
 returns-in-End-clause-keeps g c = λ config carries.
-    let some : 0 < c.wants.result = search rules in
-    read_ends config c.args.run.now.node c.ended.new.self c.args.run.now.known c.args.link c.wants.result _ _ c.in-End.ensures.adds
-    c.ended.ensures c.wants.ensures.machine some carries
+    let some : 0 < c.wants-wanted.result = search rules in
+    read_ends config c.args.run.now.node c.ended.new.self c.args.run.now.known c.args.link c.wants-wanted.result _ _ c.in-End.ensures.adds
+    c.ended.ensures c.wants-wanted.ensures.machine some carries
 
 pub returns-in-Balked-clause-keeps : goal.returns-in-Balked-clause-keeps
 returns-in-Balked-clause-keeps g c = λ config carries.
@@ -55,9 +58,9 @@ returns-in-Balked-clause-keeps g c = λ config carries.
 
 pub returns-in-Failed-clause-keeps : goal.returns-in-Failed-clause-keeps
 returns-in-Failed-clause-keeps g c = λ config carries.
-    let some : 0 < c.wants.result = search rules in
-    read_breaks config c.args.run.now.node c.broke.new.self c.args.run.now.known c.args.link c.wants.result _ _
-    c.in-Failed.ensures.adds c.broke.ensures c.wants.ensures.machine some carries
+    let some : 0 < c.wants-wanted.result = search rules in
+    read_breaks config c.args.run.now.node c.broke.new.self c.args.run.now.known c.args.link c.wants-wanted.result _ _
+    c.in-Failed.ensures.adds c.broke.ensures c.wants-wanted.ensures.machine some carries
 
 pub returns-in-End-clause-passes : goal.returns-in-End-clause-passes
 returns-in-End-clause-passes g c = λ config carries.
@@ -74,3 +77,12 @@ returns-in-Failed-clause-passes g c = λ config carries.
 pub returns-in-NoMemory-clause-passes : goal.returns-in-NoMemory-clause-passes
 returns-in-NoMemory-clause-passes g c = λ config carries.
     passes_none c.args.run.now.links c.args.run.now.wanting _ _ c.in-NoMemory.ensures.adds
+
+pub returns-in-Balked-clause-rests : goal.returns-in-Balked-clause-rests
+returns-in-Balked-clause-rests g c = λ still. (
+  record { node = refl; known = refl; sleeps = λ w. sleeps_on w (way.Read c.args.link) _ _ c.in-Balked.ensures.adds },
+  inl (sleeps_now (way.Read c.args.link) _ _ c.in-Balked.ensures.adds (eqb-self c.args.link)),
+)
+
+pub returns-in-Got-clause-rests : goal.returns-in-Got-clause-rests
+returns-in-Got-clause-rests g c = moved_not _ c.came.result c.came.ensures.moved

@@ -1,3 +1,6 @@
+use Rattle.std.proofs.Common.{inl}
+use Rattle.hb_model.proofs.CallsSaid.{eqb-self}
+use Rattle.hb_loop.proofs.Resting.{sleeps_on, sleeps_now}
 use Rattle.std.proofs.Common.{refl, take}
 use Rattle.hb_world.specs.declared.entry.Entry.TheVariants as e
 use Rattle.hb_loop.proofs.Counted.{passes_one, passes_none}
@@ -37,3 +40,9 @@ returns-in-Failed-clause-passes g c = λ config carries.
 pub returns-in-NoMemory-clause-passes : goal.returns-in-NoMemory-clause-passes
 returns-in-NoMemory-clause-passes g c = λ config carries.
     passes_none c.args.run.now.links c.args.run.now.wanting _ _ c.in-NoMemory.ensures.adds
+
+pub returns-in-Balked-clause-rests : goal.returns-in-Balked-clause-rests
+returns-in-Balked-clause-rests g c = λ still. (
+  record { node = refl; known = refl; sleeps = λ w. sleeps_on w (way.Write c.args.link) _ _ c.in-Balked.ensures.adds },
+  inl (sleeps_now (way.Write c.args.link) _ _ c.in-Balked.ensures.adds (eqb-self c.args.link)),
+)

@@ -4,6 +4,7 @@ use Rattle.hb_model.specs.Runs.{begins}
 use Rattle.hb_node.specs.State.{State}
 use Rattle.hb_loop.specs.declared.run.Known.{Known}
 use Rattle.hb_loop.specs.Stands.{Knows}
+use Rattle.hb_loop.proofs.Settling.{nothing_settled}
 use Rattle.hb_loop.proofs.Turning.{nothing_reckoned}
 use Rattle.hb_loop.proofs.service.begin.Goals as goal
 
@@ -13,6 +14,7 @@ returns-clause-carries c =
     let begun = c.in_ok-run.ensures {u = tt} in
     record {
       points = [];
+      settled = nothing_settled;
       machine = fresh config;
       run = begins refl refl;
       trace_is = refl;

@@ -6,6 +6,7 @@ use Rattle.hb_loop.specs.Lawful.{Lawful}
 use Rattle.hb_loop.specs.Ends.{RunsOn}
 use Rattle.hb_loop.proofs.Model.{lawful_run}
 use Rattle.hb_loop.proofs.Closing.{over_lawful, over_none_lives}
+use Rattle.hb_loop.proofs.Settling.{nothing_settled}
 use Rattle.hb_loop.proofs.Turning.{carries_from, reckoned_from, ends_told, turns_told, links_told, wanting_told, none_ends}
 use Rattle.hb_loop.proofs.service.serve.Goals as goal
 
@@ -57,7 +58,7 @@ pub returns-in-Err-clause-lawful : goal.returns-in-Err-clause-lawful
 returns-in-Err-clause-lawful g c = λ untouched.
     let config = c.args.words.config in
     subst (λ (o : Option (List Entry)). IfSome o (Lawful config)) (sym untouched)
-    (lawful_run config (fresh config) [] [] (begins refl refl) refl)
+    (lawful_run config (fresh config) [] [] (begins refl refl) nothing_settled refl)
 
 pub returns-in-Err-clause-ends : goal.returns-in-Err-clause-ends
 returns-in-Err-clause-ends g c = λ untouched.

@@ -1,4 +1,4 @@
-use Rattle.std.proofs.Common.{ℕ, ◌+◌, Option, subst, ◌∙◌, rules}
+use Rattle.std.proofs.Common.{◌+◌, Option, subst, ◌∙◌, rules}
 use Rattle.hb_loop.specs.Reckons.{Finished, TurnedTo, turns_kept, is_fault_by}
 use Rattle.hb_base.specs.Count.{Counts}
 use Rattle.hb_loop.specs.declared.turns.ServeEnd.{ServeEnd}
@@ -17,7 +17,7 @@ pub returns-in_err-end-clause-finished : goal.returns-in_err-end-clause-finished
 returns-in_err-end-clause-finished g c = λ config carries stated had.
     let at = c.loop-turn.invariant in
     let finished : Finished stated c.args.most ends.NoMemory c.turn.new.run (g.W.World.trace c.turn.new.world) =
-    (c.in_err-end.ensures {u = tt}).turned config at.idle (at.kept config carries) stated c.loop-turn._turn
+    (c.in_err-end.ensures {u = tt}).turned config at.idle at.tried (at.kept config carries) stated c.loop-turn._turn
     (at.reckoned config carries stated had) c.args.most in
     search rules
 
@@ -26,7 +26,7 @@ returns-in-Some-clause-finished g c = λ config carries stated had.
     let at = c.loop-turn.invariant in
     subst (λ (o : Option ServeEnd). TurnedTo o stated c.turn.new.ticks (turns_kept c.turn.new.moved (c.loop-turn._turn + 1)) c.turn.new.run
     (g.W.World.trace c.turn.new.world)) c.in-Some.is
-    ((c.in_ok-end.ensures {u = tt}).turned config at.idle (at.kept config carries) stated c.loop-turn._turn
+    ((c.in_ok-end.ensures {u = tt}).turned config at.idle at.tried (at.kept config carries) stated c.loop-turn._turn
     (at.reckoned config carries stated had)) c.args.most
 
 pub loop-turn-preserved : goal.loop-turn-preserved
@@ -35,11 +35,12 @@ loop-turn-preserved g c =
     let turned = c.in_ok-end.ensures {u = tt} in
     record {
       idle = turned.idle c.in-None.is at.idle;
-      kept = λ config carries. turned.keeps at.idle config (at.kept config carries);
+      tried = λ still. turned.tried still at.idle;
+      kept = λ config carries. turned.keeps at.idle at.tried config (at.kept config carries);
       reckoned = λ config carries stated had.
           subst (λ (o : Option ServeEnd). TurnedTo o stated c.turn.new.ticks (turns_kept c.turn.new.moved (c.loop-turn._turn + 1))
           c.turn.new.run (g.W.World.trace c.turn.new.world)) c.in-None.is
-          (turned.turned config at.idle (at.kept config carries) stated c.loop-turn._turn (at.reckoned config carries stated had));
+          (turned.turned config at.idle at.tried (at.kept config carries) stated c.loop-turn._turn (at.reckoned config carries stated had));
       faults = subst (λ (o : Option ServeEnd). Counts (g.W.World.faults c.loop-turn.world) (g.W.World.faults c.turn.new.world)
           (is_fault_by o)) c.in-None.is turned.faults ∙ at.faults;
     }

@@ -1,13 +1,15 @@
-use Rattle.std.specs.Prelude.{◌≡◌, ℕ, Option}
+use Rattle.std.specs.Prelude.{◌≡◌, ℕ, false, Option}
 use Rattle.hb_model.specs.declared.config.NodeConfig.{NodeConfig}
 use Rattle.hb_loop.specs.Reckons.{Reckoned, turns_kept}
 use Rattle.hb_loop.specs.Stands.{Carries, IsIdle}
+use Rattle.hb_loop.specs.Tried.{Tried}
 use Rattle.hb_loop.proofs.service.turns.Given as goal
 
 -- Between two turns nothing is due, and the run is kept; each turn has its entries, but one in which nothing moved
 abbrev pub invariant-loop-turn : goal.invariant-loop-turn
 invariant-loop-turn g l = record {
   idle : IsIdle l.run;
+  tried : l.moved ≡ false → Tried l.run.known l.run.node (g.W.World.trace l.world);
   kept : (c : NodeConfig) → Carries c l.fn.run.node l.fn.run.known (g.W.World.trace l.fn.world)
       → Carries c l.run.node l.run.known (g.W.World.trace l.world);
   reckoned : (c : NodeConfig) → Carries c l.fn.run.node l.fn.run.known (g.W.World.trace l.fn.world) → (stated : Option ℕ)
