@@ -108,7 +108,8 @@ over_closed g m points trace l cause run settled is current may = record {
 gives_up : (g : NodeConfig) (l : ℕ) (trace : List Entry) → Lasts g l trace → IsOver g (trace ++ close_entries l NoMemory trace)
 gives_up g l trace h =
     over_closed g (with_stop NoMemory h.machine) (h.points ++ stopped NoMemory ∷ []) trace l NoMemory
-    (goes_on h.run (stopped NoMemory) (h.goes_on, refl) refl) (settled_stop h.points NoMemory h.settled) (stop_trace h.points NoMemory ∙ h.trace_is) h.current
+    (goes_on h.run (stopped NoMemory) (h.goes_on, refl) refl)
+    (settled_stop h.points NoMemory h.settled) (stop_trace h.points NoMemory ∙ h.trace_is) h.current
     (stopped_closing NoMemory (h.machine.links l).phase h.phase)
 
 pub gave_up : (g : NodeConfig) (l : ℕ) (told after : Option (List Entry)) → after ≡ with_closed l NoMemory told

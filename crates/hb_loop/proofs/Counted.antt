@@ -189,7 +189,12 @@ passes_birth links link now wanting to why before behind adds next fits is state
     let more = reckons_on stated left n links now wanting wanting trace (e.Dialled link to why) tt
     (subst (λ k. Counts k wanting (trace ++ e.Dialled link to why ∷ [])) same
     (birth_counts links link wanting trace to why number r.counts)) r in
-    record { runs_on = more.runs_on; to_come = more.to_come; turns = (let least = more.turns in omega (arith, least)); counts = more.counts })
+    record {
+      runs_on = more.runs_on;
+      to_come = more.to_come;
+      turns = (let least = more.turns in omega (arith, least));
+      counts = more.counts;
+    })
     had
 
 -- a close of a link that lives

@@ -6,11 +6,10 @@ use Rattle.hb_world.specs.declared.entry.Entry.TheVariants as e
 use Rattle.hb_world.specs.declared.entry.Way.{Way}
 use Rattle.hb_world.specs.declared.entry.Way.TheVariants as way
 use Rattle.hb_node.specs.State.{State, due_of, Wants, Puts}
-use Rattle.hb_loop.specs.declared.run.Known.{Known}
 use Rattle.hb_loop.specs.declared.run.Run.{Run}
 use Rattle.hb_loop.specs.Stands.{IsIdle}
 use Rattle.hb_loop.specs.Settled.{asleep, asleep_from, asleep_behind, wakes, is_same_way}
-use Rattle.hb_loop.specs.Tried.{Sleeps, ReadRests, WriteRests, TriedBy, Tried, Rests}
+use Rattle.hb_loop.specs.Tried.{Sleeps, ReadRests, WriteRests, Rests}
 use Rattle.hb_loop.proofs.Carried.{told_on}
 
 asleep_one : (w : Way) (now : Bool) (trace : List Entry) (x : Entry)
@@ -73,14 +72,6 @@ none_of false false false is = (refl, refl, refl)
 none_of true b c is = absurd (cc)
 none_of false true c is = absurd (cc)
 none_of false false true is = absurd (cc)
-
-pub tried_link : (new : Run) (k : Known) (told : Option (List Entry)) → new.known ≡ Some k
-    → TriedBy k.is_open k.number new.node told → Tried new.known new.node told
-tried_link new k told is by = subst (λ (o : Option Known). Tried o new.node told) (sym is) by
-
-pub on_ok : {A E : Type 0} (P Q : A → Type 0) (r : Result A E) → ((x : A) → P x → Q x) → IfOk r P → IfOk r Q
-on_ok P Q (Ok x) on had = on x had
-on_ok P Q (Err why) on had = tt
 
 -- what moved didn't move nothing
 pub moved_not : {E : Type 0} (A : Type 0) (r : Result Bool E) → IfOk r (λ moved. moved ≡ true) → IfOk r (λ moved. moved ≡ false → A)

@@ -23,7 +23,7 @@ use Rattle.hb_loop.specs.declared.run.Run.{Run}
 use Rattle.hb_loop.specs.declared.turns.ServeEnd.{ServeEnd}
 use Rattle.hb_loop.specs.declared.turns.ServeEnd.TheVariants as ends
 use Rattle.hb_loop.specs.Ends.{ticks, are_spent, end_by_wait, end_by, RunsOn, is_close, IsEndedBy, EndsAs, is_move, is_wait, SpendsTurns, is_lack, was_wanting}
-use Rattle.hb_loop.specs.Reckons.{one_less, is_spent, turns_after, turns_kept, TurnedTo, AreLeft, Counts, Reckons, Reckoned, Finishes, Finished, IsBehindTick}
+use Rattle.hb_loop.specs.Reckons.{one_less, is_spent, turns_kept, TurnedTo, AreLeft, Counts, Reckons, Reckoned, Finishes, Finished, IsBehindTick}
 use Rattle.hb_loop.specs.Stands.{Carries, Falls}
 use Rattle.hb_loop.proofs.Model.{current_lives}
 use Rattle.hb_loop.proofs.Carried.{told_on, if_told}
@@ -58,7 +58,8 @@ tick_goes stated left n links wanting trace more at =
     subst (λ (es : List Entry). Reckons stated (one_less left) n links wanting es) (sym at.trace_is) (record {
       runs_on = AtEach-grows (λ before y. end_by stated before y ≡ None) at.before e.Tick r.runs_on (end_by_tick _ unspent);
       to_come = one_left stated left at.before (at.before ++ e.Tick ∷ []) (count-grows _ at.before e.Tick) r.to_come;
-      turns = (let least = r.turns in rw (count-grows is_move at.before e.Tick, count-grows is_wait at.before e.Tick) (omega (arith, least)));
+      turns = (let least = r.turns in
+          rw (count-grows is_move at.before e.Tick, count-grows is_wait at.before e.Tick) (omega (arith, least)));
       counts = counts_on links wanting at.before e.Tick refl refl r.counts;
     })
 
@@ -159,15 +160,7 @@ wait_ends stated left n links wanting ready how end turns before behind adds is 
     }) in
     record { ends = said.0; spends = said.1; counts = counts_on links wanting trace (e.Wait ready how) refl refl r.counts })
 
--- a round where something moved before, and a wait
-pub turn_moved : (old some new : Bool) (stated left : Option ℕ) (n links : ℕ) (wanting : Bool) (told : Option (List Entry))
-    → (old && some) ≡ true → IfSome told (Reckons stated left (turns_after new (turns_kept old n)) links wanting)
-    → IfSome told (Reckons stated left (turns_kept new (n + 1)) links wanting)
-turn_moved true some true stated left n links wanting told is had = had
-turn_moved true some false stated left n links wanting told is had =
-    fewer_turns stated left (n + 1 - 1) n links wanting told (omega arith) had
-turn_moved false some new stated left n links wanting told is had = absurd (cc)
-
+-- a turn that is a wait
 kept_least : (old : Bool) (n : ℕ) → n + 1 ≤ turns_kept old n + 2
 kept_least true n = omega arith
 kept_least false n = omega arith

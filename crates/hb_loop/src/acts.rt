@@ -55,7 +55,8 @@ pub(crate) fn give_up<W: World>(run: &mut Run, world: &mut W, link: u64) -> NoMe
 
 /// A link is born: the node is told.
 fn born<W: World>(run: &mut Run, world: &mut W, why: Why, link: u64) -> Result<(), NoMemory>
-    ensures hears { Hears result (e.Dialled link run.old.node.config.discovery why) run.old (W.trace world.old) run.new (W.trace world.new) }
+    ensures hears { Hears result (e.Dialled link run.old.node.config.discovery why) run.old (W.trace world.old) run.new
+        (W.trace world.new) }
     ensures due { IfOk result (λ _. NoneIsDue why run.old.node run.new.node) }
     ensures passes { PassesTold (e.Dialled link run.old.node.config.discovery why) run.old (W.trace world.old) run.new (W.trace world.new) }
     ensures faults { W.faults world.new ≡ W.faults world.old }

@@ -20,7 +20,8 @@ pub(crate) fn finish<W: World>(run: &mut Run, world: &mut W, link: u64) -> Resul
     ensures keeps { IsIdle run.old → run.old.known ≡ Some (record { number = link; is_open = false })
         → Keeps result run.old (W.trace world.old) run.new (W.trace world.new) }
     ensures passes { Passes (moved_by result) run.old (W.trace world.old) run.new (W.trace world.new) }
-    ensures rests { IfOk result (λ moved. moved ≡ false → Rests run.old (W.trace world.old) run.new (W.trace world.new) × Sleeps (way.Finish link) (W.trace world.new)) }
+    ensures rests { IfOk result (λ moved. moved ≡ false
+        → Rests run.old (W.trace world.old) run.new (W.trace world.new) × Sleeps (way.Finish link) (W.trace world.new)) }
     ensures faults { W.faults world.new ≡ W.faults world.old }
 {
     match world.finish(link) {
@@ -72,7 +73,8 @@ fn came<W: World>(run: &mut Run, world: &mut W, link: u64, n: usize) -> Result<b
 pub(crate) fn read<W: World>(run: &mut Run, world: &mut W, link: u64) -> Result<bool, NoMemory>
     ensures keeps { Keeps result run.old (W.trace world.old) run.new (W.trace world.new) }
     ensures passes { Passes (moved_by result) run.old (W.trace world.old) run.new (W.trace world.new) }
-    ensures rests { IfOk result (λ moved. moved ≡ false → Rests run.old (W.trace world.old) run.new (W.trace world.new) × ReadRests run.new.node link (W.trace world.new)) }
+    ensures rests { IfOk result (λ moved. moved ≡ false
+        → Rests run.old (W.trace world.old) run.new (W.trace world.new) × ReadRests run.new.node link (W.trace world.new)) }
     ensures faults { W.faults world.new ≡ W.faults world.old }
 {
     let wanted = run.node.wants(link);
@@ -103,7 +105,8 @@ pub(crate) fn read<W: World>(run: &mut Run, world: &mut W, link: u64) -> Result<
 pub(crate) fn write<W: World>(run: &mut Run, world: &mut W, link: u64) -> Result<bool, NoMemory>
     ensures keeps { Keeps result run.old (W.trace world.old) run.new (W.trace world.new) }
     ensures passes { Passes (moved_by result) run.old (W.trace world.old) run.new (W.trace world.new) }
-    ensures rests { IfOk result (λ moved. moved ≡ false → Rests run.old (W.trace world.old) run.new (W.trace world.new) × WriteRests run.new.node link (W.trace world.new)) }
+    ensures rests { IfOk result (λ moved. moved ≡ false
+        → Rests run.old (W.trace world.old) run.new (W.trace world.new) × WriteRests run.new.node link (W.trace world.new)) }
     ensures faults { W.faults world.new ≡ W.faults world.old }
 {
     let output = run.node.output(link);

@@ -50,7 +50,8 @@ fn try_bytes<W: World>(run: &mut Run, world: &mut W, link: u64) -> Result<bool, 
     ensures passes { Passes (moved_by result) run.old (W.trace world.old) run.new (W.trace world.new) }
     ensures faults { W.faults world.new ≡ W.faults world.old }
     ensures rests { IfOk result (λ moved. moved ≡ false → IsIdle run.old
-        → Rests run.old (W.trace world.old) run.new (W.trace world.new) × ReadRests run.new.node link (W.trace world.new) × WriteRests run.new.node link (W.trace world.new)) }
+        → Rests run.old (W.trace world.old) run.new (W.trace world.new) × ReadRests run.new.node link (W.trace world.new)
+        × WriteRests run.new.node link (W.trace world.new)) }
 {
     let came = read(run, world, link)?;
     let went = try_write(run, world, link)?;

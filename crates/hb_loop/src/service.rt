@@ -67,7 +67,8 @@ fn wait<W: World>(
     ensures keeps { IsIdle run.old → Tried run.old.known run.old.node (W.trace world.old)
         → Keeps result run.old (W.trace world.old) run.new (W.trace world.new) }
     ensures idle { IfOk result (λ end. end ≡ None → IsIdle run.old → IsIdle run.new) }
-    ensures turned { (g : NodeConfig) → IsIdle run.old → Tried run.old.known run.old.node (W.trace world.old) → Carries g run.old.node run.old.known (W.trace world.old)
+    ensures turned { (g : NodeConfig) → IsIdle run.old → Tried run.old.known run.old.node (W.trace world.old)
+        → Carries g run.old.node run.old.known (W.trace world.old)
         → (stated : Option ℕ) (n : ℕ) → Reckoned stated ticks.old n run.old (W.trace world.old)
         → Turned result stated ticks.new (n + 2) run.new (W.trace world.new) }
     ensures faults { Counts (W.faults world.old) (W.faults world.new) (is_fault_of_turn result) }
@@ -92,7 +93,8 @@ fn turn<W: World>(
     ensures keeps { IsIdle run.old → (moved.old ≡ false → Tried run.old.known run.old.node (W.trace world.old))
         → Keeps result run.old (W.trace world.old) run.new (W.trace world.new) }
     ensures idle { IfOk result (λ end. end ≡ None → IsIdle run.old → IsIdle run.new) }
-    ensures turned { (g : NodeConfig) → IsIdle run.old → (moved.old ≡ false → Tried run.old.known run.old.node (W.trace world.old)) → Carries g run.old.node run.old.known (W.trace world.old)
+    ensures turned { (g : NodeConfig) → IsIdle run.old → (moved.old ≡ false → Tried run.old.known run.old.node (W.trace world.old))
+        → Carries g run.old.node run.old.known (W.trace world.old)
         → (stated : Option ℕ) (n : ℕ) → Reckoned stated ticks.old (turns_kept moved.old n) run.old (W.trace world.old)
         → Turned result stated ticks.new (turns_kept moved.new (n + 1)) run.new (W.trace world.new) }
     ensures tried { IfOk result (λ _. moved.new ≡ false → IsIdle run.old → Tried run.new.known run.new.node (W.trace world.new)) }

@@ -31,7 +31,8 @@ told g c config carries =
     refilled size buffer items (c.read_front.ensures.same ∙ c.deref_mut.ensures.len) (search rules) in
     subst (λ (bs : List ℕ). IfSome (g.W.World.trace c.read_front.new.world) (Tells config node known
     (e.Came c.args.link (take c.in-Got.n bs)))) same
-    (read_gets config node known c.args.link c.wants-wanted.result most c.in-Got.n buffer _ _ c.in-Got.ensures.adds c.wants-wanted.ensures.machine
+    (read_gets config node known c.args.link c.wants-wanted.result most c.in-Got.n buffer
+    _ _ c.in-Got.ensures.adds c.wants-wanted.ensures.machine
     within room c.in-Got.ensures.octets c.in-Got.ensures.within.0 c.in-Got.ensures.within.1 carries)
 
 pub returns-in-Got-clause-keeps : goal.returns-in-Got-clause-keeps

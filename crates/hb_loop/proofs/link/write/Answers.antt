@@ -27,7 +27,8 @@ returns-in-Failed-clause-keeps g c = λ config carries.
 
 pub returns-in-Took-clause-passes : goal.returns-in-Took-clause-passes
 returns-in-Took-clause-passes g c = λ config carries.
-    passes_one (e.Went c.args.link (take c.in-Took.n c.output-output.result.now)) c.args.run.now.links c.args.run.now.wanting _ _ c.in-Took.ensures.adds tt refl refl
+    passes_one (e.Went c.args.link (take c.in-Took.n c.output-output.result.now)) c.args.run.now.links
+    c.args.run.now.wanting _ _ c.in-Took.ensures.adds tt refl refl
 
 pub returns-in-Balked-clause-passes : goal.returns-in-Balked-clause-passes
 returns-in-Balked-clause-passes g c = λ config carries.
