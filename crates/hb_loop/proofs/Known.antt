@@ -64,13 +64,17 @@ knows_failed g (Some k) m to why knows = knows
 pub knows_came : (g : NodeConfig) (known : Option Known) (m : Machine) (l : ℕ) (bytes : List ℕ) → Knows known m
     → Knows known (entered g (e.Came l bytes) m)
 knows_came g None m l bytes knows = knows
-knows_came g (Some k) m l bytes knows = (knows.0, at_phase k.is_open (l == k.number) (came bytes) (m.links k.number) (λ y free. free) knows.1)
+knows_came g (Some k) m l bytes knows =
+    (knows.0, at_phase k.is_open (l == k.number) (came bytes) (m.links k.number) (λ y free. free) knows.1)
 
 pub knows_went : (g : NodeConfig) (known : Option Known) (m : Machine) (l : ℕ) (bytes : List ℕ) → Knows known m
     → Knows known (entered g (e.Went l bytes) m)
 knows_went g None m l bytes knows = knows
-knows_went g (Some k) m l bytes knows =
-    (knows.0, at_phase k.is_open (l == k.number) (wrote (length bytes)) (m.links k.number) (λ y free. went_in k.is_open y.phase free) knows.1)
+knows_went g (Some k) m l bytes knows = (
+  knows.0,
+  at_phase k.is_open (l == k.number) (wrote (length bytes)) (m.links k.number)
+      (λ y free. went_in k.is_open y.phase free) knows.1,
+)
 
 pub knows_ended : (g : NodeConfig) (known : Option Known) (m : Machine) (l : ℕ) → Knows known m
     → Knows known (entered g (e.Ended l) m)
@@ -81,8 +85,11 @@ knows_ended g (Some k) m l knows =
 pub knows_broke : (g : NodeConfig) (known : Option Known) (m : Machine) (l : ℕ) → Knows known m
     → Knows known (entered g (e.Broke l) m)
 knows_broke g None m l knows = knows
-knows_broke g (Some k) m l knows =
-    (knows.0, at_phase k.is_open (l == k.number) (with_phase broken) (m.links k.number) (λ y free. broken_in k.is_open y.phase free) knows.1)
+knows_broke g (Some k) m l knows = (
+  knows.0,
+  at_phase k.is_open (l == k.number) (with_phase broken) (m.links k.number)
+      (λ y free. broken_in k.is_open y.phase free) knows.1,
+)
 
 pub knows_tick : (g : NodeConfig) (known : Option Known) (m : Machine) → Knows known m → Knows known (entered g e.Tick m)
 knows_tick g None m knows = knows
