@@ -8,10 +8,10 @@ pub mod MemSink
 pub mod MemSource
 pub mod Octets
 pub mod Outcome
-pub mod Text
 pub mod Utf8
 pub mod Parts
 pub mod Pieces
+pub mod Place
 pub mod Reading
 pub mod Sink
 pub mod Source

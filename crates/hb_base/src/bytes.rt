@@ -3,21 +3,23 @@
 ghost use Rattle.std.specs.Prelude.{◌≡◌, IfOk};
 
 use crate::or::NoMemory;
+use crate::place::Place;
 use std::alloc::Global;
 use std::marker::Model;
 
-/// Owned bytes, of any content. Contracts see them as a list of numbers below 256.
+/// Owned bytes, of any content; up to 23 take no memory. Contracts see them as a list of numbers below 256.
 #[derive(Drop)]
 pub struct Bytes {
-    items: Vec<u8>,
+    place: Place,
 }
 
 impl Model for Bytes {
     ghost use Rattle.std.specs.Prelude.{List, ℕ};
+    ghost use Rattle.hb_base.specs.Place.{bytes_at};
 
     ghost Value = { List ℕ };
 
-    ghost view = { λ b. b.items.items };
+    ghost view = { λ b. bytes_at b.place };
 }
 
 impl Bytes {
@@ -25,26 +27,29 @@ impl Bytes {
     pub fn of(alloc: Global, b: &[u8]) -> Result<Bytes, NoMemory>
         ensures { IfOk result (λ r. r ≡ b.now) }
     {
-        let items = Vec::from_slice(alloc, b)?;
-        Ok(Bytes { items })
+        let place = Place::of(alloc, b)?;
+        Ok(Bytes { place })
     }
 
-    /// These bytes, taken over without a copy.
+    /// These bytes, taken over: their memory is kept, without a copy, where they are more than 23.
     pub fn from_vec(items: Vec<u8>) -> Bytes
         ensures { result ≡ items.items }
     {
-        Bytes { items }
+        let place = Place::from_vec(items);
+        Bytes { place }
     }
 
     pub fn as_slice(&self) -> &[u8]
         ensures { result.now ≡ self.now }
     {
-        self.items.as_slice()
+        self.place.as_slice()
     }
 
     pub fn copy(&self, alloc: Global) -> Result<Bytes, NoMemory>
         ensures { IfOk result (λ r. r ≡ self.now) }
     {
-        Bytes::of(alloc, self.items.as_slice())
+        Bytes::of(alloc, self.as_slice())
     }
 }
+
+const _: () = prove!(size_of::<Bytes>() == 32);

@@ -9,7 +9,7 @@ pub(crate) const SHORT: usize = 23;
 
 /// At most 23 bytes. Contracts see it as these bytes.
 #[derive(Drop)]
-pub(crate) struct Short {
+pub struct Short {
     bytes: [u8; 23],
     known: u8,
 }
@@ -26,7 +26,7 @@ impl Model for Short {
 
 impl Short {
     /// No byte.
-    pub(crate) fn new() -> Short
+    pub fn new() -> Short
         ensures { result ≡ [] }
     {
         Short {
@@ -36,7 +36,7 @@ impl Short {
     }
 
     /// A copy of these bytes.
-    pub(crate) fn of(b: &[u8]) -> Short
+    pub fn of(b: &[u8]) -> Short
         requires { length b.now ≤ 23 }
         ensures { result ≡ b.now }
     {
@@ -48,7 +48,7 @@ impl Short {
         }
     }
 
-    pub(crate) fn as_slice(&self) -> &[u8]
+    pub fn as_slice(&self) -> &[u8]
         ensures { result.now ≡ self.now }
     {
         &self.bytes[..usize::from(self.known)]

@@ -2,50 +2,15 @@
 
 ghost use Rattle.std.specs.Prelude.{◌≡◌, ◌↔◌, [], IfOk, IsSome};
 ghost use Rattle.std.specs.Str.{IsUtf8};
-ghost use Rattle.hb_base.specs.Text.{bytes_at};
 ghost use Rattle.hb_base.specs.Utf8.{text_of};
 
 use crate::or::NoMemory;
-use crate::short::{SHORT, Short};
+use crate::place::Place;
+use crate::short::Short;
+use crate::utf8::is_utf8;
 use std::alloc::Global;
 use std::cmp::Ordering;
 use std::marker::Model;
-
-/// Where the bytes of a text are: in it, which takes no memory, or in memory of their own.
-enum Place {
-    Short(Short),
-    Long(Vec<u8>),
-}
-
-// Written out, so that a value that holds texts is dropped without a look into each.
-impl Drop for Place {
-    fn drop(self) {
-        match self {
-            Place::Short(_) | Place::Long(_) => {}
-        }
-    }
-}
-
-impl Place {
-    /// A copy of these bytes.
-    fn of(alloc: Global, b: &[u8]) -> Result<Place, NoMemory>
-        ensures { IfOk result (λ r. bytes_at r ≡ b.now) }
-    {
-        if b.len() <= SHORT {
-            return Ok(Place::Short(Short::of(b)));
-        }
-        Ok(Place::Long(Vec::from_slice(alloc, b)?))
-    }
-
-    fn as_slice(&self) -> &[u8]
-        ensures { result.now ≡ bytes_at self.now }
-    {
-        match self {
-            Place::Short(bytes) => bytes.as_slice(),
-            Place::Long(bytes) => bytes.as_slice(),
-        }
-    }
-}
 
 /// Owned text; up to 23 bytes take no memory. Contracts see it as the list of its bytes, which is always UTF-8.
 #[derive(Drop)]
@@ -56,7 +21,7 @@ pub struct Text {
 impl Model for Text {
     ghost use Rattle.std.specs.Prelude.{List, ℕ};
     ghost use Rattle.std.specs.Str.{IsUtf8};
-    ghost use Rattle.hb_base.specs.Text.{bytes_at};
+    ghost use Rattle.hb_base.specs.Place.{bytes_at};
 
     ghost Value = { List ℕ };
 
@@ -71,13 +36,11 @@ impl Text {
         ensures found { IfOk result (λ r. IsSome r ↔ IsUtf8 b.now) }
         ensures value { IfOk result (λ r. r ≡ text_of b.now) }
     {
-        match std::str::from_utf8(b) {
-            Ok(_) => {
-                let place = Place::of(alloc, b)?;
-                Ok(Some(Text { place }))
-            }
-            Err(_) => Ok(None),
+        if !is_utf8(b) {
+            return Ok(None);
         }
+        let place = Place::of(alloc, b)?;
+        Ok(Some(Text { place }))
     }
 
     /// The empty text, which takes no memory.

@@ -4,7 +4,7 @@ ghost use Rattle.hb_base.specs.Outcome.{Answers, Merges};
 ghost use Rattle.hb_message.specs.Reading.{text_by};
 
 use crate::fault::MessageFault;
-use hb_base::{Or, Text};
+use hb_base::{Or, Text, is_utf8};
 use std::alloc::Global;
 
 /// A string field, which has to be UTF-8.
@@ -34,8 +34,8 @@ pub fn take_text<F: MessageFault>(
 pub fn check_text<F: MessageFault>(field: u32, bytes: &[u8]) -> Result<(), Or<F>>
     ensures { Merges (text_by F.utf8 field bytes.now) bytes.now result }
 {
-    match std::str::from_utf8(bytes) {
-        Ok(_) => Ok(()),
-        Err(_) => Err(Or::Fault(F::of_utf8(field))),
+    if is_utf8(bytes) {
+        return Ok(());
     }
+    Err(Or::Fault(F::of_utf8(field)))
 }

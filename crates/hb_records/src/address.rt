@@ -13,17 +13,36 @@ use hb_wire::{Field, FieldValue};
 use std::alloc::Global;
 
 /// What has an address in the mesh.
-#[derive(Drop)]
 pub enum AddressRecord {
     Workload(Workload),
     Service(Service),
 }
 
+// Never inlined, so that a record that may have to be dropped is still moved as one piece of memory.
+impl Drop for AddressRecord {
+    #[inline(never)]
+    fn drop(self) {
+        match self {
+            AddressRecord::Workload(_) | AddressRecord::Service(_) => {}
+        }
+    }
+}
+
 /// An address record as far as its fields were read: the workload or the service that occurred last, if one did.
-#[derive(Drop)]
 struct Address {
     workload: Option<WorkloadParts>,
     service: Option<Service>,
+}
+
+// Never inlined, for the same reason.
+impl Drop for Address {
+    #[inline(never)]
+    fn drop(self) {
+        let Address {
+            workload: _,
+            service: _,
+        } = self;
+    }
 }
 
 impl Message for Address {
@@ -69,7 +88,9 @@ impl Address {
         requires { at + length bytes.now < 2 ^ 64 }
         ensures { Merges (address_span self.old 1 at bytes.now) self.new result }
     {
-        self.service = None;
+        if self.service.is_some() {
+            self.service = None;
+        }
         if self.workload.is_none() {
             self.workload = Some(WorkloadParts::unread(alloc));
         }
@@ -89,7 +110,9 @@ impl Address {
         requires { at + length bytes.now < 2 ^ 64 }
         ensures { Merges (address_span self.old 2 at bytes.now) self.new result }
     {
-        self.workload = None;
+        if self.workload.is_some() {
+            self.workload = None;
+        }
         if self.service.is_none() {
             self.service = Some(Service::unread(alloc));
         }
@@ -103,10 +126,13 @@ impl Address {
     fn whole(self) -> Result<AddressRecord, Or<RecordFault>>
         ensures { Answers result (record_or self.workload self.service) }
     {
-        match (self.workload, self.service) {
-            (Some(parts), _) => Ok(AddressRecord::Workload(parts.workload)),
-            (None, Some(service)) => Ok(AddressRecord::Service(service)),
-            (None, None) => Err(Or::Fault(RecordFault::NoKind { field: 0 })),
+        let Address { workload, service } = self;
+        if let Some(parts) = workload {
+            return Ok(AddressRecord::Workload(parts.workload));
+        }
+        match service {
+            Some(service) => Ok(AddressRecord::Service(service)),
+            None => Err(Or::Fault(RecordFault::NoKind { field: 0 })),
         }
     }
 }

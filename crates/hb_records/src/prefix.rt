@@ -6,7 +6,7 @@ ghost use Rattle.hb_records.specs.Prefix.{prefix_span, prefix_number, octets_or,
 
 use crate::entries::{low_32, read_octets};
 use crate::fault::RecordFault;
-use hb_base::{Bytes, Cidr, Or};
+use hb_base::{Cidr, Or, Short};
 use hb_message::{Message, read_whole};
 use hb_wire::{Field, FieldValue};
 use std::alloc::Global;
@@ -14,7 +14,7 @@ use std::alloc::Global;
 /// A prefix as far as its fields were read.
 #[derive(Drop)]
 struct PrefixParts {
-    address: Option<Bytes>,
+    address: Option<Short>,
     length: u32,
 }
 
@@ -25,9 +25,9 @@ impl Message for PrefixParts {
 
     ghost merged = { prefix_merged };
 
-    fn merge(&mut self, alloc: Global, field: Field<'_>) -> Result<(), Or<RecordFault>> {
+    fn merge(&mut self, _alloc: Global, field: Field<'_>) -> Result<(), Or<RecordFault>> {
         match field.value {
-            FieldValue::Span(bytes) => self.take_span(alloc, field.number, bytes),
+            FieldValue::Span(bytes) => self.take_span(field.number, bytes),
             FieldValue::Varint(n) => {
                 self.take_number(field.number, n);
                 Ok(())
@@ -38,12 +38,12 @@ impl Message for PrefixParts {
 }
 
 impl PrefixParts {
-    fn take_span(&mut self, alloc: Global, number: u32, bytes: &[u8]) -> Result<(), Or<RecordFault>>
+    fn take_span(&mut self, number: u32, bytes: &[u8]) -> Result<(), Or<RecordFault>>
         ensures { Merges (prefix_span self.old number bytes.now) self.new result }
     {
         if number == 1 {
             let _ip = read_octets(1, bytes)?;
-            self.address = Some(Bytes::of(alloc, bytes)?);
+            self.address = Some(Short::of(bytes));
         }
         Ok(())
     }

@@ -22,10 +22,16 @@ impl<'a> Cursor<'a> {
     pub fn varint(self) -> Result<(u64, Cursor<'a>), WireFault>
         ensures { seen (λ v. (v.0, unread v.1)) result ≡ varint_in (unread self.entry) }
     {
-        // Most are one byte, which needs no reading byte by byte.
-        if let Some(byte) = self.left.first() {
-            if *byte < 128 {
-                return Ok((u64::from(*byte), self.behind(1)));
+        // Most are one byte or two, which need no reading byte by byte.
+        if let Some(first) = self.left.first() {
+            if *first < 128 {
+                return Ok((u64::from(*first), self.behind(1)));
+            }
+            if let Some(second) = self.left.get(1) {
+                if *second < 128 {
+                    let value = (u64::from(*first) - 128) + 128 * u64::from(*second);
+                    return Ok((value, self.behind(2)));
+                }
             }
         }
         let read = read_varint(self.left, self.at, 0)?;

@@ -1,9 +1,12 @@
+use Rattle.std.proofs.Common.{rules}
 use Rattle.hb_message.proofs.Texts.{text_taken, text_refused}
 use Rattle.hb_message.proofs.text.check_text.Goals as goal
 
-pub returns-in-Ok : goal.returns-in-Ok
-returns-in-Ok g c = text_taken g.F.MessageFault.utf8 c.args.field c.args.bytes.now c.in-Ok.ensures.cases.1
+pub returns-then-is_utf8 : goal.returns-then-is_utf8
+returns-then-is_utf8 g c =
+    text_taken g.F.MessageFault.utf8 c.args.field c.args.bytes.now (c.is_utf8.ensures.0 c.if-is_utf8.true)
 
-pub returns-in-Err : goal.returns-in-Err
-returns-in-Err g c =
-    rw c.of_utf8.ensures (text_refused g.F.MessageFault.utf8 c.args.field c.args.bytes.now c.in-Err.ensures.cases.0)
+pub returns : goal.returns
+returns g c = rw c.of_utf8.ensures
+    (text_refused g.F.MessageFault.utf8 c.args.field c.args.bytes.now
+    (λ utf8. search (rules, c.if-is_utf8.false, c.is_utf8.ensures.1 utf8)))

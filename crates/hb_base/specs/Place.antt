@@ -1,7 +1,7 @@
--- Where the bytes of a text are.
+-- Where owned bytes are.
 use Rattle.std.specs.Prelude.{ℕ, List}
-use Rattle.hb_base.specs.declared.text.Place.{Place}
-use Rattle.hb_base.specs.declared.text.Place.TheVariants.{Short, Long}
+use Rattle.hb_base.specs.declared.place.Place.{Place}
+use Rattle.hb_base.specs.declared.place.Place.TheVariants.{Short, Long}
 
 -- the bytes that are there
 abbrev pub bytes_at : Place → List ℕ
