@@ -7,13 +7,13 @@ use Rattle.std.proofs.lemmas.Bool.Decides.{nat_tests}
 use Rattle.hb_base.specs.declared.or.Or.TheVariants.{Fault, NoMemory}
 use Rattle.hb_blocks.specs.declared.fault.BlockFault.TheVariants.{TooLong, Compression}
 use Rattle.hb_blocks.specs.declared.whole.Opening.{Opening}
-use Rattle.hb_blocks.specs.Assembly.{Assembly, too_long, waits, complete, longest_block, joined, continued}
+use Rattle.hb_blocks.specs.Assembly.{Assembly, no_headers, too_long, waits, complete, longest_block, joined, continued}
 use Rattle.hb_blocks.specs.Outcome.{Makes}
 use Rattle.hb_blocks.specs.Laws.{Answer, AllWait, AllIsHeld, CutsChangeNothing, LengthIsToldAtOnce, LongFrontsChangeNothing}
 
 -- the block so far, from one state to another
 abbrev pub held : Assembly → Opening → List ℕ → Assembly
-held s opening block = record s { opening = Some opening; block = block }
+held s opening block = record s { opening = Some opening; block = block; headers = no_headers }
 
 -- a fragment that is answered nothing
 waits_by : (long : Bool) (s next : Assembly) (opening : Opening) (block : List ℕ)

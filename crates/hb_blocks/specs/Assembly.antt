@@ -12,8 +12,11 @@ pub record Assembly : Type 0 where
   pub opening : Option Opening
   -- the fragments of that block so far, joined
   pub block : List ℕ
-  -- the headers of the last block that was whole
+  -- the headers of the last block, where it is whole
   pub headers : HeaderList
+
+abbrev pub no_headers : HeaderList
+no_headers = record { kept = []; size = 0 }
 
 -- before the first block
 abbrev pub fresh : Assembly
@@ -21,7 +24,7 @@ fresh = record {
   table = record { entries = []; maximum = 4096 };
   opening = None;
   block = [];
-  headers = record { kept = []; size = 0 };
+  headers = no_headers;
 }
 
 -- the stream of a block that isn't whole yet

@@ -7,7 +7,7 @@ use Rattle.hb_blocks.specs.declared.fault.BlockFault.{BlockFault}
 use Rattle.hb_blocks.specs.declared.fault.BlockFault.TheVariants.{TooLong}
 use Rattle.hb_blocks.specs.declared.whole.Opening.{Opening}
 use Rattle.hb_blocks.specs.declared.whole.Whole.{Whole}
-use Rattle.hb_blocks.specs.Assembly.{Assembly, Progress, longest_block, joined, begun, continued}
+use Rattle.hb_blocks.specs.Assembly.{Assembly, no_headers, Progress, longest_block, joined, begun, continued}
 use Rattle.hb_blocks.specs.Outcome.{Makes}
 
 abbrev pub Answer : Type 0
@@ -19,11 +19,15 @@ AllWait first s [] last = Makes (first false) s last (Ok None)
 AllWait first s (fragment ∷ more) last =
     (next : Assembly) × Makes (first false) s next (Ok None) × AllWait (continued next fragment) next more last
 
--- what waits is all that came, and within the limit
+-- what waits is all that came, within the limit, and no headers are held beside it
 abbrev pub AllIsHeld : Type 0
 AllIsHeld = (s last : Assembly) (stream : ℕ) (end_stream : Bool) (first : List ℕ) (more : List (List ℕ))
     → AllWait (begun stream end_stream first) s more last
-    → (last ≡ record s { opening = Some (record { stream = stream; end_stream = end_stream }); block = first ++ concat more })
+    → (last ≡ record s {
+      opening = Some (record { stream = stream; end_stream = end_stream });
+      block = first ++ concat more;
+      headers = no_headers;
+    })
     × (length (first ++ concat more) ≤ longest_block)
 
 -- however a block is cut into fragments, the last one is answered as the block is that comes in one frame

@@ -2,3 +2,4 @@ pub mod Assembly
 pub mod Faults
 pub mod Laws
 pub mod Outcome
+pub mod Room

@@ -12,7 +12,7 @@ use Rattle.hb_blocks.specs.declared.fault.BlockFault.{BlockFault}
 use Rattle.hb_blocks.specs.declared.fault.BlockFault.TheVariants.{TooLong, Compression}
 use Rattle.hb_blocks.specs.declared.whole.Whole.{Whole}
 use Rattle.hb_blocks.specs.declared.whole.Opening.{Opening}
-use Rattle.hb_blocks.specs.Assembly.{Assembly, Progress, too_long, waits, complete}
+use Rattle.hb_blocks.specs.Assembly.{Assembly, no_headers, Progress, too_long, waits, complete}
 
 -- the block stands for the headers of the list, and leads from the table to next (RFC 7541); or it is broken, where and
 -- how the fault says; want of memory aside
@@ -30,8 +30,8 @@ whole_of opening = record { stream = opening.stream; end_stream = opening.end_st
 abbrev pub Makes : Progress → Assembly → Assembly → Result (Option Whole) (Or BlockFault) → Type 0
 -- too long: so it is told
 Makes too_long old new (Err (Fault TooLong)) = Unit {0}
--- not whole: nothing is told, and the block is held
-Makes (waits opening block) old new (Ok None) = new ≡ record old { opening = Some opening; block = block }
+-- not whole: nothing is told, and the block is held, in place of the headers of the last one
+Makes (waits opening block) old new (Ok None) = new ≡ record old { opening = Some opening; block = block; headers = no_headers }
 Makes (waits opening block) old new (Err NoMemory) = Unit {0}
 -- whole: it is told, its headers are kept, and no block is open any more; or why it is refused
 Makes (complete opening block) old new (Ok (Some whole)) =

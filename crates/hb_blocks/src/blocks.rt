@@ -1,7 +1,7 @@
 //! Header blocks on their way, and the decoder of them all.
 
 ghost use Rattle.std.specs.Prelude.{◌≡◌, [], None, IsSome};
-ghost use Rattle.hb_blocks.specs.Assembly.{stream_of, begun, continued};
+ghost use Rattle.hb_blocks.specs.Assembly.{no_headers, stream_of, begun, continued};
 ghost use Rattle.hb_blocks.specs.Outcome.{Decodes, Makes};
 
 use crate::fault::BlockFault;
@@ -14,9 +14,11 @@ use std::marker::Model;
 /// The most octets of a block.
 const LONGEST_BLOCK: usize = 32768;
 
-/// The header blocks that one end of a connection receives. After an error it isn't used again.
+/// The header blocks that one end of a connection receives. After an error it isn't used again. As long as a block is
+/// open, memory for the longest block is held and no headers are; else no memory is held for a block.
 #[derive(Drop)]
 pub struct Blocks {
+    alloc: Global,
     decoder: Decoder,
     opening: Option<Opening>,
     block: Vec<u8>,
@@ -24,14 +26,14 @@ pub struct Blocks {
 }
 
 impl Model for Blocks {
-    ghost use Rattle.std.specs.Prelude.{◌≡◌, [], None};
     ghost use Rattle.hb_blocks.specs.Assembly.{Assembly};
+    ghost use Rattle.hb_blocks.specs.Room.{HoldsOne};
 
     ghost Value = { Assembly };
 
     ghost view = { λ b. record { table = b.decoder; opening = b.opening; block = b.block.items; headers = b.headers } };
 
-    ghost invariant = { λ b. b.opening ≡ None → b.block.items ≡ [] };
+    ghost invariant = { λ b. HoldsOne b.opening b.block b.headers };
 }
 
 fn decode(decoder: &mut Decoder, block: &[u8]) -> Result<HeaderList, Or<BlockFault>>
@@ -44,6 +46,16 @@ fn decode(decoder: &mut Decoder, block: &[u8]) -> Result<HeaderList, Or<BlockFau
     }
 }
 
+/// No headers, which take no memory.
+fn no_headers(alloc: Global) -> HeaderList
+    ensures { result ≡ no_headers }
+{
+    HeaderList {
+        kept: List::new(alloc),
+        size: 0,
+    }
+}
+
 impl Blocks {
     ghost use Rattle.hb_blocks.specs.Assembly.{fresh};
 
@@ -52,13 +64,11 @@ impl Blocks {
         ensures { result ≡ fresh }
     {
         Blocks {
+            alloc,
             decoder: Decoder::new(alloc),
             opening: None,
             block: Vec::new(alloc),
-            headers: HeaderList {
-                kept: List::new(alloc),
-                size: 0,
-            },
+            headers: no_headers(alloc),
         }
     }
 
@@ -73,7 +83,7 @@ impl Blocks {
         }
     }
 
-    /// The headers of the last block that was whole; none before the first.
+    /// The headers of the last block, where it is whole; none before the first, nor while a block is open.
     pub fn headers(&self) -> &HeaderList
         ensures { result.now ≡ self.now.headers }
     {
@@ -101,6 +111,8 @@ impl Blocks {
             self.headers = decode(&mut self.decoder, fragment)?;
             return Ok(Some(Whole { stream, end_stream }));
         }
+        self.headers = no_headers(self.alloc);
+        self.block.reserve_exact(LONGEST_BLOCK)?;
         self.opening = Some(Opening { stream, end_stream });
         self.block.extend_from_slice(fragment)?;
         Ok(None)
@@ -127,7 +139,7 @@ impl Blocks {
             return Ok(None);
         }
         self.headers = decode(&mut self.decoder, self.block.as_slice())?;
-        self.block.clear();
+        self.block = Vec::new(self.alloc);
         match self.opening.take() {
             Some(opening) => Ok(Some(Whole {
                 stream: opening.stream,

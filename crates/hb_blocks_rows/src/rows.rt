@@ -17,24 +17,23 @@ n
 |:method|GET|:scheme|http|:path|/|:authority|www.example.com|cache-control|no-cache
 5e:828785bf400a637573746f6d2d6b65790c637573746f6d2d76616c7565. => w5e 245 \
 |:method|GET|:scheme|https|:path|/index.html|:authority|www.example.com|custom-key|custom-value
-# The same in fragments: the table of one block is the next one's, and headers are lent until the next block is whole.
+# The same in fragments: the table of one block is the next one's, and no headers are lent while a block is open.
 n
 1:8286 => -1 0 \n\
 :84410f7777772e6578616d => -1 0 \n\
 :706c652e636f6d. => w1 180 |:method|GET|:scheme|http|:path|/|:authority|www.example.com
-3e:828684be => -3 180 |:method|GET|:scheme|http|:path|/|:authority|www.example.com
+3e:828684be => -3 0 \n\
 :58086e6f2d6361636865. => w3e 233 |:method|GET|:scheme|http|:path|/|:authority|www.example.com|cache-control|no-cache
-5: => -5 233 |:method|GET|:scheme|http|:path|/|:authority|www.example.com|cache-control|no-cache
-: => -5 233 |:method|GET|:scheme|http|:path|/|:authority|www.example.com|cache-control|no-cache
-:828785bf400a637573746f6d2d6b65790c637573746f6d2d76616c7565 => -5 233 \
-|:method|GET|:scheme|http|:path|/|:authority|www.example.com|cache-control|no-cache
+5: => -5 0 \n\
+: => -5 0 \n\
+:828785bf400a637573746f6d2d6b65790c637573746f6d2d76616c7565 => -5 0 \n\
 :. => w5 245 |:method|GET|:scheme|https|:path|/index.html|:authority|www.example.com|custom-key|custom-value
 7:be. => w7 54 |custom-key|custom-value
 # END_STREAM is that of HEADERS, and so is the stream; a block may have no octets.
 n
 2147483647e:82 => -2147483647 0 \n\
 1:. => w2147483647e 42 |:method|GET
-1:82 => -1 42 |:method|GET
+1:82 => -1 0 \n\
 3e:. => w1 42 |:method|GET
 9:. => w9 0 \n\
 11e: => -11 0 \n\
@@ -56,11 +55,11 @@ n
 # Blocks of 32,768 octets, of which a value has 32,762, and of one more.
 n
 1:00007ffbfe01 76*32762. => w1 32794 \n\
-3:00007ffbfe01 76*16378 => -3 32794 \n\
+3:00007ffbfe01 76*16378 => -3 0 \n\
 :76*16384. => w3 32794 \n\
-5:00007ffbfe01 76*32762 => -5 32794 \n\
+5:00007ffbfe01 76*32762 => -5 0 \n\
 :. => w5 32794 \n\
-7:82 => -7 32794 \n\
+7:82 => -7 0 \n\
 :00007ffafe01 76*32761. => w7 32835 |:method|GET
 n
 1:00007ffcfe01 76*32763. => f11

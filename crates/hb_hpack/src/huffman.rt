@@ -139,6 +139,7 @@ fn text_of(alloc: Global, b: &[u8]) -> Result<Option<Bytes>, NoMemory>
         return Ok(None);
     };
     if take_last(&mut text, held)? {
+        text.shrink_to_fit();
         Ok(Some(Bytes::from_vec(text)))
     } else {
         Ok(None)

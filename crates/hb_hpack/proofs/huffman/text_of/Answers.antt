@@ -46,7 +46,7 @@ returns-then-branch c =
     let none = drop_all c.loop-byte.byte-index c.args.b.now c.loop-byte-test.false in
     let end : read_on c.loop-byte.text.items (Some c.loop-byte.held) [] ≡ text_of c.args.b.now =
     ap (λ (xs : List ℕ). read_on c.loop-byte.text.items (Some c.loop-byte.held) (bits_of xs)) (sym none) ∙ c.loop-byte.invariant.read in
-    ap (λ (xs : List ℕ). Some xs) c.from_vec.ensures ∙ (rw c.if-branch.true at c.in_ok-take_last.ensures)
+    ap (λ (xs : List ℕ). Some xs) (c.from_vec.ensures ∙ c.shrink_to_fit.ensures.items) ∙ (rw c.if-branch.true at c.in_ok-take_last.ensures)
     ∙ ap (λ (o : Option Held). read_on c.take_words.new.text.items o []) (sym c.in-Some-2.is) ∙ c.in_ok-held.ensures.read [] ∙ end
 
 pub returns-else-branch : goal.returns-else-branch
