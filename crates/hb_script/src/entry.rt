@@ -28,7 +28,7 @@ fn bytes_text(alloc: Global, word: &str, link: u64, bytes: &Bytes) -> Result<Str
 }
 
 /// A cause: its word, and its number where it has one.
-fn cause_string(alloc: Global, cause: &Cause) -> Result<String, NoMemory>
+pub fn cause_string(alloc: Global, cause: &Cause) -> Result<String, NoMemory>
     ensures { IfOk result (λ text. string_bytes text ≡ cause_text cause.now) }
 {
     let word = cause.word();

@@ -8,8 +8,8 @@ mod laws;
 mod script;
 mod spelling;
 
-pub use entry::put_entry;
+pub use entry::{cause_string, put_entry};
 pub use fault::{ScriptFault, ScriptWhy};
 pub use laws::{lines_are_read_as_they_are_written, lines_that_are_read_can_be_written};
 pub use script::read_script;
-pub use spelling::put_line;
+pub use spelling::{door_word, put_line};

@@ -9,7 +9,7 @@ use hb_world::Line;
 use std::alloc::Global;
 
 /// The word of a door.
-pub(crate) fn door_word(door: Door) -> &'static str
+pub fn door_word(door: Door) -> &'static str
     ensures { result.now ≡ door_word door }
 {
     match door {

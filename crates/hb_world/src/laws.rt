@@ -11,7 +11,7 @@ pub fn a_trace_grows()
     ensures lives { LivesGrows }
 {}
 
-/// Every script allows the trace in which nothing happened. Each call of its world keeps what it allows.
+/// Every script allows the trace in which nothing happened. What its world does later is allowed too: `ScriptWorld::is_allowed`.
 pub fn a_script_allows_nothing_done()
     ensures { AllowsNothing }
 {}

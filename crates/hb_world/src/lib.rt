@@ -11,6 +11,7 @@ mod links;
 mod named;
 mod ready;
 mod script_link;
+mod script_run;
 mod script_world;
 mod trace;
 mod turn;

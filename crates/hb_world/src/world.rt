@@ -74,17 +74,22 @@ pub enum Waited {
 /// The sockets, as the proxy sees them. Links are numbered from 1 in order of birth.
 ///
 /// Each call adds to the trace the entries that its answer says. Want of memory adds none and moves nothing.
+/// No call changes the lines that the world follows.
 /// The counts of faults stay at `u64::MAX` once they are there.
 pub trait World {
     ghost use Rattle.std.specs.Prelude.{◌≡◌, ◌<◌, ◌≤◌, List, ℕ, length, Option};
     ghost use Rattle.hb_base.specs.Count.{Counts};
     ghost use Rattle.hb_world.specs.declared.entry.Entry.{Entry};
+    ghost use Rattle.hb_world.specs.declared.line.Line.{Line};
     ghost use Rattle.hb_world.specs.declared.world.Born.TheVariants.{Balked};
     ghost use Rattle.hb_world.specs.Answers.{listen_failed, birth_failed, finish_failed, read_failed, write_failed, wait_failed, HasNextNumber, ReadsWithin, WritesWithin, FinishesLiving, ReadsLiving, WritesLiving};
     ghost use Rattle.hb_world.specs.Calls.{with_entries, with_shut, with_closed, listen_entries, accept_entries, dial_entries, finish_entries, read_entries, write_entries, wait_entries};
 
     /// What the calls did, in order, where the world tells it.
     ghost trace: { Self → Option (List Entry) };
+
+    /// The lines that the world follows, where it is the world of a script.
+    ghost script: { Self → Option (List Line) };
 
     /// How often a finish, read or write of a link failed.
     ghost link_faults: { Self → ℕ → ℕ };
@@ -97,6 +102,7 @@ pub trait World {
 
     /// Begins to listen at a door.
     fn listen(&mut self, at: Target, door: Door) -> Listened
+        ensures follows { script self.new ≡ script self.old }
         ensures adds { trace self.new ≡ with_entries (listen_entries door at result) (trace self.old) }
         ensures counts { Counts (faults self.old) (faults self.new) (listen_failed result) }
         ensures later { faults self.old ≤ faults self.new }
@@ -105,6 +111,7 @@ pub trait World {
 
     /// A link that waits at a door.
     fn accept(&mut self, door: Door) -> Born
+        ensures follows { script self.new ≡ script self.old }
         ensures adds { trace self.new ≡ with_entries (accept_entries door result) (trace self.old) }
         ensures number { HasNextNumber (trace self.old) result }
         ensures counts { Counts (birth_faults self.old) (birth_faults self.new) (birth_failed result) }
@@ -114,6 +121,7 @@ pub trait World {
 
     /// A link to this address, which `finish` tells to be open. It never balks.
     fn dial(&mut self, to: Target, why: Why) -> Born
+        ensures follows { script self.new ≡ script self.old }
         ensures adds { trace self.new ≡ with_entries (dial_entries to why result) (trace self.old) }
         ensures number { HasNextNumber (trace self.old) result }
         ensures moves { ¬ (result ≡ Balked) }
@@ -124,6 +132,7 @@ pub trait World {
 
     /// Whether a dialled link is open. A link that doesn't live balks.
     fn finish(&mut self, link: u64) -> Finished
+        ensures follows { script self.new ≡ script self.old }
         ensures adds { trace self.new ≡ with_entries (finish_entries link result) (trace self.old) }
         ensures living { FinishesLiving link (trace self.old) result }
         ensures counts { Counts (link_faults self.old link) (link_faults self.new link) (finish_failed result) }
@@ -135,6 +144,7 @@ pub trait World {
     /// Reads some bytes to the buffer's front. A link that doesn't live balks.
     fn read(&mut self, link: u64, into: &mut [u8]) -> Read
         requires { 0 < length into.old }
+        ensures follows { script self.new ≡ script self.old }
         ensures adds { trace self.new ≡ with_entries (read_entries link into.new result) (trace self.old) }
         ensures within { ReadsWithin into.new result }
         ensures living { ReadsLiving link (trace self.old) result }
@@ -147,6 +157,7 @@ pub trait World {
     /// Writes some bytes from the buffer's front. A link that doesn't live balks.
     fn write(&mut self, link: u64, from: &[u8]) -> Wrote
         requires { 0 < length from.now }
+        ensures follows { script self.new ≡ script self.old }
         ensures adds { trace self.new ≡ with_entries (write_entries link from.now result) (trace self.old) }
         ensures within { WritesWithin from.now result }
         ensures living { WritesLiving link (trace self.old) result }
@@ -159,6 +170,7 @@ pub trait World {
     /// Writes no more to the link. It takes no memory, and does nothing to a link that doesn't live or was
     /// shut before.
     fn shut(&mut self, link: u64)
+        ensures follows { script self.new ≡ script self.old }
         ensures adds { trace self.new ≡ with_shut link (trace self.old) }
         ensures links { (l : ℕ) → link_faults self.new l ≡ link_faults self.old l }
         ensures births { birth_faults self.new ≡ birth_faults self.old }
@@ -166,6 +178,7 @@ pub trait World {
 
     /// Ends the link. It takes no memory, and does nothing to a link that doesn't live.
     fn close(&mut self, link: u64, cause: Cause)
+        ensures follows { script self.new ≡ script self.old }
         ensures adds { trace self.new ≡ with_closed link cause (trace self.old) }
         ensures links { (l : ℕ) → link_faults self.new l ≡ link_faults self.old l }
         ensures births { birth_faults self.new ≡ birth_faults self.old }
@@ -173,6 +186,7 @@ pub trait World {
 
     /// Waits until something is ready, and puts what is in place of what `ready` held.
     fn wait(&mut self, ready: &mut Ready) -> Waited
+        ensures follows { script self.new ≡ script self.old }
         ensures adds { trace self.new ≡ with_entries (wait_entries ready.new result) (trace self.old) }
         ensures counts { Counts (faults self.old) (faults self.new) (wait_failed result) }
         ensures later { faults self.old ≤ faults self.new }

@@ -4,8 +4,8 @@ use Rattle.hb_world.specs.WorldState.{ScriptState}
 use Rattle.hb_world.proofs.AllowedLemmas.{allowed-shut}
 use Rattle.hb_world.proofs.script_world.ScriptWorldWorld.shut.Goals as goal
 
-pub returns-clause-allowed : goal.returns-clause-allowed
-returns-clause-allowed c = λ all.
-    let w = c.args.self.now in
+pub invariant_of-self : goal.invariant_of-self
+invariant_of-self c =
+    let w = c.self.inside.run in
     subst (λ (v : ScriptState). Allowed v.lines v.trace) (sym c.shut_link.ensures)
-    (allowed-shut w.lines w.trace c.args.link all)
+    (allowed-shut w.lines w.trace c.args.link c.self.invariant)

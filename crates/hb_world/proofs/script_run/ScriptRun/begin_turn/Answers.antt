@@ -13,7 +13,7 @@ use Rattle.hb_world.specs.declared.entry.ReadyItem.{ReadyItem}
 use Rattle.hb_world.specs.declared.line.Line.{Line}
 use Rattle.hb_world.specs.declared.world.Waited.{Waited}
 use Rattle.hb_world.proofs.WaitLemmas.{standing-trace, turn-within, turn-take, keeps-turned, keeps-wait, kept-behind, told-now, leaves, waits-unheard}
-use Rattle.hb_world.proofs.script_world.ScriptWorld.begin_turn.Goals as goal
+use Rattle.hb_world.proofs.script_run.ScriptRun.begin_turn.Goals as goal
 
 abbrev kept : LinkScript → List (List ℕ) → LinkState
 kept said coming = record { said = said; coming = coming }

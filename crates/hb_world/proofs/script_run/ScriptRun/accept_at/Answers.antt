@@ -11,7 +11,7 @@ use Rattle.hb_world.proofs.DoorLemmas.{IsSet, listening-same, waiting-less}
 use Rattle.hb_world.proofs.LifeLemmas.{or-false}
 use Rattle.hb_world.proofs.StandingLemmas.{keeps-entry}
 use Rattle.hb_world.proofs.TraceLemmas.{any-grows}
-use Rattle.hb_world.proofs.script_world.ScriptWorld.accept_at.Goals as goal
+use Rattle.hb_world.proofs.script_run.ScriptRun.accept_at.Goals as goal
 
 pub invariant_of-self-2 : goal.invariant_of-self-2
 invariant_of-self-2 c =

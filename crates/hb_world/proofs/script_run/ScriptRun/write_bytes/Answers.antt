@@ -11,7 +11,7 @@ use Rattle.hb_world.specs.WorldState.{Keeps}
 use Rattle.hb_world.proofs.LifeLemmas.{or-false}
 use Rattle.hb_world.proofs.StandingLemmas.{keeps-entry, cond-said}
 use Rattle.hb_world.proofs.TraceLemmas.{any-grows}
-use Rattle.hb_world.proofs.script_world.ScriptWorld.write_bytes.Goals as goal
+use Rattle.hb_world.proofs.script_run.ScriptRun.write_bytes.Goals as goal
 
 pub invariant_of-self-2 : goal.invariant_of-self-2
 invariant_of-self-2 c =

@@ -11,7 +11,7 @@ use Rattle.hb_world.specs.WorldState.{Keeps, ScriptState}
 use Rattle.hb_world.proofs.LifeLemmas.{or-false}
 use Rattle.hb_world.proofs.TraceLemmas.{any-grows}
 use Rattle.hb_world.proofs.WaitLemmas.{keeps-told, rest-told, told-now}
-use Rattle.hb_world.proofs.script_world.ScriptWorld.tell_rest.Goals as goal
+use Rattle.hb_world.proofs.script_run.ScriptRun.tell_rest.Goals as goal
 
 pub invariant_of-self-2 : goal.invariant_of-self-2
 invariant_of-self-2 c =

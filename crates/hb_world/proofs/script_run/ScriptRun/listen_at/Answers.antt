@@ -12,7 +12,7 @@ use Rattle.hb_world.proofs.DoorLemmas.{IsSet, listening-set, waiting-same}
 use Rattle.hb_world.proofs.LifeLemmas.{or-true}
 use Rattle.hb_world.proofs.StandingLemmas.{keeps-entry}
 use Rattle.hb_world.proofs.TraceLemmas.{any-grows}
-use Rattle.hb_world.proofs.script_world.ScriptWorld.listen_at.Goals as goal
+use Rattle.hb_world.proofs.script_run.ScriptRun.listen_at.Goals as goal
 
 pub invariant_of-self-2 : goal.invariant_of-self-2
 invariant_of-self-2 c =
