@@ -24,6 +24,8 @@ def figure(name, rate):
         return f"{rate:,.0f} MB/s"
     if name == "requests":
         return f"{1 / rate:.2f} us each, at both ends together"
+    if name.startswith("requests, "):
+        return f"{1 / rate:.2f} us each, in batches"
     return f"{rate:.2f} million frames/s"
 
 
@@ -38,7 +40,7 @@ def speeds(programs):
                     key = (name, "" if name.startswith("memcpy") else of)
                     best[key] = max(best.get(key, 0), rate)
         for (name, of), rate in sorted(best.items()):
-            print(f"{name:26} {of:8} {figure(name, rate)}")
+            print(f"{name:29} {of:8} {figure(name, rate)}")
 
 
 def peak(program, connections):
@@ -52,9 +54,9 @@ def memory(programs):
     for of, program in programs:
         alone, _ = peak(program, 0)
         held, what = peak(program, CONNECTIONS)
-        print(f"{'memory':26} {of:8} {(held - alone) / CONNECTIONS / 1000:.0f} KB each of {CONNECTIONS} connections")
+        print(f"{'memory':29} {of:8} {(held - alone) / CONNECTIONS / 1000:.0f} KB each of {CONNECTIONS} connections")
         for _, streams, octets in what:
-            print(f"{'':26} {'':8} with {streams} open streams and {octets} octets that wait")
+            print(f"{'':29} {'':8} with {streams} open streams and {octets} octets that wait")
 
 
 def main():

@@ -17,15 +17,13 @@ pub const FIRST_SIZE: u32 = 65_535;
 #[derive(Drop)]
 pub struct StreamWindows {
     sending: SendWindow,
-    /// The initial size that `sending` counts from.
-    size: u32,
     taking: TakeWindow,
-    /// The octets that `taking` keeps.
-    kept: u32,
 }
 
+const _: () = prove!(size_of::<StreamWindows>() == 20);
+
 impl Model for StreamWindows {
-    ghost use Rattle.std.specs.Prelude.{◌≡◌, ◌≤◌, ◌+◌};
+    ghost use Rattle.std.specs.Prelude.{◌≤◌, ◌+◌};
     ghost use Rattle.hb_windows.specs.Sending.{largest};
     ghost use Rattle.hb_flow.specs.Windows.{Windows};
 
@@ -33,9 +31,7 @@ impl Model for StreamWindows {
 
     ghost view = { λ w. record { sending = w.sending; taking = w.taking } };
 
-    ghost invariant = { λ w.
-        (w.size ≡ w.sending.size) × (w.kept ≡ w.taking.kept)
-        × (w.taking.granted + w.taking.kept + w.taking.owed ≤ largest) };
+    ghost invariant = { λ w. w.taking.granted + w.taking.kept + w.taking.owed ≤ largest };
 }
 
 impl StreamWindows {
@@ -46,9 +42,7 @@ impl StreamWindows {
     {
         StreamWindows {
             sending: SendWindow::new(initial),
-            size: initial,
             taking: TakeWindow::new(FIRST_SIZE),
-            kept: 0,
         }
     }
 
@@ -90,9 +84,8 @@ impl StreamWindows {
         ensures { Rises self.old self.new result (record self.old { sending = sized initial self.old.sending })
             (counted self.old.sending unbegun) (pos initial -ℤ pos self.old.sending.size) }
     {
-        window::resize(&mut self.sending, self.size, initial, unbegun)?;
-        self.size = initial;
-        Ok(())
+        let size = self.sending.size();
+        window::resize(&mut self.sending, size, initial, unbegun)
     }
 
     /// Takes DATA that came.
@@ -100,9 +93,7 @@ impl StreamWindows {
         ensures { Comes self.old self.new result (record self.old { taking = taken self.old.taking n })
             self.old.taking.granted n }
     {
-        self.taking.spend(n)?;
-        self.kept += n;
-        Ok(())
+        self.taking.spend(n)
     }
 
     /// Octets that came are used up.
@@ -111,7 +102,6 @@ impl StreamWindows {
         ensures { self.new ≡ record self.old { taking = owing self.old.taking n } }
     {
         self.taking.owe(n);
-        self.kept -= n;
     }
 
     /// The increment that is to be granted now.
@@ -126,6 +116,6 @@ impl StreamWindows {
     pub fn creditable(&self) -> u32
         ensures { result ≡ self.now.taking.kept }
     {
-        self.kept
+        self.taking.kept()
     }
 }

@@ -4,7 +4,7 @@ ghost use Rattle.std.specs.Prelude.{◌≡◌, ◌≤◌, ◌∷◌, OnOk, List,
 ghost use Rattle.std.specs.Option.{option_copied};
 ghost use Rattle.hb_hpack.specs.Table.{total, fitting};
 
-use hb_base::NoMemory;
+use hb_base::{Bytes, NoMemory};
 use std::alloc::Global;
 use std::collections::VecDeque;
 use std::marker::Model;
@@ -12,10 +12,10 @@ use std::marker::Model;
 /// The most that the sizes of the entries may ever sum to: the default of HTTP/2 (RFC 9113 section 6.5.2).
 pub(crate) const LARGEST: u64 = 4096;
 
-/// A header of the table, its name and behind it its value in one piece of memory. Contracts see it as the header.
+/// A header of the table, its name and behind it its value in one piece. Contracts see it as the header.
 #[derive(Drop)]
 pub struct Entry {
-    octets: Vec<u8>,
+    octets: Bytes,
     name_length: usize,
 }
 
@@ -26,9 +26,9 @@ impl Model for Entry {
 
     ghost Value = { Header };
 
-    ghost view = { λ e. header (take e.name_length e.octets.items) (drop e.name_length e.octets.items) };
+    ghost view = { λ e. header (take e.name_length e.octets) (drop e.name_length e.octets) };
 
-    ghost invariant = { λ e. e.name_length ≤ length e.octets.items };
+    ghost invariant = { λ e. e.name_length ≤ length e.octets };
 }
 
 impl Entry {
@@ -43,7 +43,7 @@ impl Entry {
         octets.extend_from_slice(name)?;
         octets.extend_from_slice(value)?;
         Ok(Entry {
-            octets,
+            octets: Bytes::from_vec(octets),
             name_length: name.len(),
         })
     }
@@ -60,7 +60,7 @@ impl Entry {
     fn size(&self) -> u64
         ensures { result ≡ min (size_of self.now) (2 ^ 64 - 1) }
     {
-        (self.octets.len() as u64).saturating_add(32)
+        (self.octets.as_slice().len() as u64).saturating_add(32)
     }
 }
 

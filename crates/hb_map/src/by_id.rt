@@ -1,32 +1,45 @@
-ghost use Rattle.std.specs.Prelude.{◌≡◌, OnOk, OnErr, IfSome, IfNone};
+ghost use Rattle.std.specs.Prelude.{◌≡◌, OnOk, OnErr, IfOk, IfErr, IfSome, IfNone};
 ghost use Rattle.std.specs.Option.{option_copied};
 ghost use Rattle.std.specs.Borrow.{sem};
 ghost use Rattle.std.specs.FinMap as map;
 ghost use Rattle.hb_map.specs.Keyed.{IsFirstFrom};
 ghost use Rattle.hb_map.specs.Lending.{LendsById};
+ghost use Rattle.hb_map.specs.Places.{AreRising, IsAt, IsGapFor};
 
 use hb_base::NoMemory;
 use std::alloc::Global;
-use std::collections::BTreeMap;
 use std::marker::Model;
 
 /// Values under numbers, one at most under each. Contracts see the finite map from the numbers to the
 /// values.
 #[derive(Drop)]
 pub struct ById<T> {
-    items: BTreeMap<u32, T>,
+    /// By rising numbers: a tree's nodes would stay half full, since streams are numbered upwards.
+    items: Vec<(u32, T)>,
 }
 
 impl<T> Model for ById<T> {
     ghost use Rattle.std.specs.FinMap.{FinMap, from_entries, code};
     ghost use Rattle.std.specs.Coded.{coded_ℕ};
     ghost use Rattle.std.specs.Ordering.{nat_cmp};
+    ghost use Rattle.hb_map.specs.Places.{AreRising};
 
     ghost Value = { FinMap nat_cmp T };
 
     ghost coded = { code coded_ℕ T.code };
 
-    ghost view = { λ m. from_entries m.items.entries };
+    ghost view = { λ m. from_entries m.items.items };
+
+    ghost invariant = { λ m. AreRising m.items.items };
+}
+
+/// The place of the number, or where it would go.
+fn search<T>(items: &[(u32, T)], id: u32) -> Result<usize, usize>
+    requires { AreRising items.now }
+    ensures found { IfOk result (IsAt items.now id) }
+    ensures absent { IfErr result (IsGapFor items.now id) }
+{
+    items.binary_search_by_key(&id, |item| item.0)
 }
 
 impl<T> ById<T> {
@@ -35,7 +48,7 @@ impl<T> ById<T> {
         ensures { result ≡ map.empty }
     {
         ById {
-            items: BTreeMap::new(alloc),
+            items: Vec::new(alloc),
         }
     }
 
@@ -43,14 +56,17 @@ impl<T> ById<T> {
     pub fn len(&self) -> usize
         ensures { result ≡ map.len self.now }
     {
-        self.items.len()
+        self.items.as_slice().len()
     }
 
     /// The value under a number.
     pub fn get(&self, id: u32) -> Option<&T>
         ensures { option_copied result ≡ map.get self.now id }
     {
-        self.items.get(&id)
+        match search(&self.items, id) {
+            Ok(at) => Some(&self.items[at].1),
+            Err(_) => None,
+        }
     }
 
     /// The value under a number, to be changed.
@@ -59,7 +75,10 @@ impl<T> ById<T> {
         ensures value { IfSome result (λ item. map.get self.old id ≡ Some item.now) }
         ensures none { IfNone result (map.get self.old id ≡ None) }
     {
-        self.items.get_mut(&id)
+        match search(&self.items, id) {
+            Ok(at) => Some(&mut self.items[at].1),
+            Err(_) => None,
+        }
     }
 
     /// Takes the value under a number out.
@@ -67,16 +86,20 @@ impl<T> ById<T> {
         ensures value { result ≡ map.get self.old id }
         ensures rest { self.new ≡ map.remove self.old id }
     {
-        self.items.remove(&id)
+        match search(&self.items, id) {
+            Ok(at) => Some(self.items.remove(at).1),
+            Err(_) => None,
+        }
     }
 
     /// The least number from `id` on that has a value.
     pub fn first_from(&self, id: u32) -> Option<u32>
         ensures { IsFirstFrom self.now id result }
     {
-        match self.items.range(id..).next() {
-            Some((first, _)) => Some(*first),
-            None => None,
+        match search(&self.items, id) {
+            Ok(_) => Some(id),
+            Err(at) if at < self.items.len() => Some(self.items[at].0),
+            Err(_) => None,
         }
     }
 }
@@ -87,7 +110,15 @@ impl<T: Drop> ById<T> {
         ensures ok { OnOk result (self.new ≡ map.insert self.old id item) }
         ensures err { OnErr result (self.new ≡ self.old) }
     {
-        self.items.insert(id, item)?;
-        Ok(())
+        match search(&self.items, id) {
+            Ok(at) => {
+                self.items[at] = (id, item);
+                Ok(())
+            }
+            Err(at) => {
+                self.items.insert(at, (id, item))?;
+                Ok(())
+            }
+        }
     }
 }

@@ -8,17 +8,19 @@ use crate::due::Due;
 use crate::status::Status;
 use std::marker::Model;
 
-/// What is owed on one stream.
+/// What is owed on one stream. The wide fields come first, so that no room is left between them.
 #[derive(Drop)]
 pub struct StreamDebt {
-    status: Option<Status>,
+    reset: Option<u32>,
     /// An increment, 0 where none is owed.
     credit: u32,
+    status: Option<Status>,
     end: bool,
-    reset: Option<u32>,
     /// The stream is closed.
     closed: bool,
 }
+
+const _: () = prove!(size_of::<StreamDebt>() == 20);
 
 impl Model for StreamDebt {
     ghost use Rattle.std.specs.Prelude.{◌≤◌, IfSome};
@@ -44,10 +46,10 @@ impl StreamDebt {
         ensures { result ≡ clear }
     {
         StreamDebt {
-            status: None,
-            credit: 0,
-            end: false,
             reset: None,
+            credit: 0,
+            status: None,
+            end: false,
             closed: false,
         }
     }

@@ -11,7 +11,7 @@ const LARGEST: i64 = 2_147_483_647;
 /// and 6.9). A change of the peer's initial window size may take it below zero.
 #[derive(Drop)]
 pub struct SendWindow {
-    held: i64,
+    held: i32,
     size: u32,
 }
 
@@ -34,7 +34,7 @@ impl SendWindow {
         ensures { result ≡ record { held = pos size; size = size } }
     {
         SendWindow {
-            held: size as i64,
+            held: size as i32,
             size,
         }
     }
@@ -46,7 +46,14 @@ impl SendWindow {
         ensures least { pos self.now.size ≤ℤ (result +ℤ pos largest) }
         ensures most { result ≤ℤ pos largest }
     {
-        self.held
+        i64::from(self.held)
+    }
+
+    /// The initial size that it counts from.
+    pub fn size(&self) -> u32
+        ensures { result ≡ self.now.size }
+    {
+        self.size
     }
 
     /// Takes away the octets of a DATA frame that is sent.
@@ -54,7 +61,7 @@ impl SendWindow {
         requires { pos n ≤ℤ self.old.held }
         ensures { self.new ≡ record self.old { held = self.old.held -ℤ pos n } }
     {
-        self.held -= n as i64;
+        self.held = (i64::from(self.held) - i64::from(n)) as i32;
     }
 
     /// Gives back the octets of a DATA frame that is taken back before it begins.
@@ -62,14 +69,14 @@ impl SendWindow {
         requires { (self.old.held +ℤ pos n) ≤ℤ pos largest }
         ensures { self.new ≡ record self.old { held = self.old.held +ℤ pos n } }
     {
-        self.held += n as i64;
+        self.held = (i64::from(self.held) + i64::from(n)) as i32;
     }
 
     /// Adds the increment of a WINDOW_UPDATE frame (RFC 9113 section 6.9).
     pub fn grant(&mut self, n: u32) -> Result<(), Overrun>
         ensures { Moves self.old self.new result (pos n) self.old.size }
     {
-        self.held = moved(self.held, n as i64)?;
+        self.held = moved(self.held, i64::from(n))?;
         Ok(())
     }
 
@@ -88,17 +95,17 @@ impl SendWindow {
 }
 
 /// What a window that holds so much holds after a change.
-fn moved(held: i64, by: i64) -> Result<i64, Overrun>
-    requires low { pos 0 ≤ℤ (held +ℤ pos 2147483648) }
-    requires high { held ≤ℤ pos 2147483648 }
+fn moved(held: i32, by: i64) -> Result<i32, Overrun>
+    requires least_sum { pos 0 ≤ℤ ((held +ℤ by) +ℤ pos 2147483648) }
     requires small { by ≤ℤ pos 4294967296 }
     requires least { pos 0 ≤ℤ (by +ℤ pos 4294967296) }
     ensures ok { IfOk result (λ sum. (sum ≡ held +ℤ by) × (sum ≤ℤ pos largest)) }
     ensures err { IfErr result (λ e. (pos largest <ℤ (held +ℤ by)) × (e ≡ record { held = held; asked = by })) }
 {
+    let held = i64::from(held);
     let sum = held + by;
     if sum > LARGEST {
         return Err(Overrun { held, asked: by });
     }
-    Ok(sum)
+    Ok(sum as i32)
 }

@@ -42,6 +42,13 @@ impl TakeWindow {
         }
     }
 
+    /// The octets that came and aren't used up.
+    pub fn kept(&self) -> u32
+        ensures { result ≡ self.now.kept }
+    {
+        self.kept
+    }
+
     /// Takes away the octets of a DATA frame that came, its padding included.
     pub fn spend(&mut self, n: u32) -> Result<(), Overrun>
         ensures { Takes self.old self.new result n }

@@ -1,25 +1,46 @@
-use Rattle.std.proofs.Common.{◌≡◌, Option, Some, None, IfSome, IfNone, MutBor, ap, sym, ◌∙◌, refl}
-use Rattle.std.specs.Option.{option_copied_mut}
+use Rattle.std.proofs.Common.{Some, ap, sym, ◌∙◌, refl}
+use Rattle.std.specs.Ordering.{nat_cmp}
 use Rattle.std.specs.FinMap as map
 use Rattle.hb_map.specs.Keyed.{written}
-use Rattle.hb_map.proofs.Entries.{get_made, made_written}
+use Rattle.hb_map.proofs.Laws.{written_where_some, written_where_none}
+use Rattle.hb_map.proofs.Places.{its_own, rising_set, made_set, get_at, is_there, get_in_gap}
 use Rattle.hb_map.proofs.by_id.ById.at.Goals as goal
 
-shown : {T : Type 0} (r : Option (MutBor T)) (held : Option T) → option_copied_mut r ≡ held
-    → IfSome r (λ item. held ≡ Some item.now) × IfNone r (held ≡ None)
-shown (Some item) held is = (sym is, tt)
-shown None held is = (tt, sym is)
+-- the entry keeps its number
+pub invariant_of-self-lent : goal.invariant_of-self-lent
+invariant_of-self-lent g c =
+    let is = rw c.deref.ensures.value at c.in-Ok.ensures.found in
+    let own = its_own c.self.inside.items.items _ _ c.index_mut.result.now is c.index_mut.ensures.value in
+    rising_set c.self.inside.items.items c.self.invariant c.index_mut.result.now.0 _ (is.0, λ d. is.1 d ∙ sym own)
 
-pub returns : goal.returns
-returns g c =
-    let held = shown c.get_mut.result (map.get c.args.self.now c.args.id)
-    (c.get_mut.ensures.value ∙ sym (get_made c.self.inside.items.entries c.args.id) ∙ ap (λ m. map.get m c.args.id) c.self.view_is) in (
+pub returns-in-Ok : goal.returns-in-Ok
+returns-in-Ok g c =
+    let l = c.self.inside.items.items in
+    let is = rw c.deref.ensures.value at c.in-Ok.ensures.found in
+    let own = its_own l _ _ c.index_mut.result.now is c.index_mut.ensures.value in
+    let there = is_there l c.self.invariant _ _ is in (
       (
         refl,
-        (λ w. let h = c.get_mut.follows.holds w in
-            made_written c.self.inside.items.entries _ c.args.id w h.0 (λ some. (h.3 some).0)
+        (λ w.
+            made_set l c.self.invariant c.index_mut.result.now.0 _ (is.0, λ d. is.1 d ∙ sym own) w
+            ∙ ap (λ k. map.insert (map.from_entries {R = nat_cmp} l) k w) own
+            ∙ sym (written_where_some (map.from_entries {R = nat_cmp} l) c.args.id w there)
             ∙ ap (λ m. written m c.args.id w) c.self.view_is),
-        ap (λ m. map.from_entries m.entries) c.get_mut.follows.holds-at-none ∙ c.self.view_is,
+        refl,
       ),
-      record { after = tt; value = held.0; none = held.1 },
+      record {
+        after = tt;
+        value = sym (ap (λ m. map.get m c.args.id) c.self.view_is)
+            ∙ get_at l c.self.invariant _ _ is c.index_mut.result.now
+            ∙ sym (ap (λ x. Some x.1) c.index_mut.ensures.value);
+        none = tt;
+      },
+    )
+
+pub returns-in-Err : goal.returns-in-Err
+returns-in-Err g c =
+    let none = sym (ap (λ m. map.get m c.args.id) c.self.view_is)
+    ∙ get_in_gap c.self.inside.items.items c.args.id _ (rw c.deref.ensures.value at c.in-Err.ensures.absent) in (
+      (refl, (λ w. c.self.view_is ∙ sym (written_where_none c.args.self.now c.args.id w none)), c.self.view_is),
+      record { after = tt; value = tt; none = none },
     )
