@@ -33,6 +33,7 @@ pub(crate) fn close<W: World>(run: &mut Run, world: &mut W, link: u64, cause: Ca
     ensures trace { W.trace world.new ≡ with_closed link cause (W.trace world.old) }
     ensures passes { Lives link (W.trace world.old) → PassesBy false run.old (W.trace world.old) run.new (W.trace world.new) }
     ensures faults { W.faults world.new ≡ W.faults world.old }
+    ensures follows { W.script world.new ≡ W.script world.old }
 {
     world.close(link, cause);
     run.known = None;
@@ -48,6 +49,7 @@ pub(crate) fn give_up<W: World>(run: &mut Run, world: &mut W, link: u64) -> NoMe
     ensures passes { (g : NodeConfig) → IfSome (W.trace world.old) (Lasts g link)
         → PassesBy false run.old (W.trace world.old) run.new (W.trace world.new) }
     ensures faults { W.faults world.new ≡ W.faults world.old }
+    ensures follows { W.script world.new ≡ W.script world.old }
 {
     close(run, world, link, Cause::NoMemory);
     NoMemory
@@ -60,6 +62,7 @@ fn born<W: World>(run: &mut Run, world: &mut W, why: Why, link: u64) -> Result<(
     ensures due { IfOk result (λ _. NoneIsDue why run.old.node run.new.node) }
     ensures passes { PassesTold (e.Dialled link run.old.node.config.discovery why) run.old (W.trace world.old) run.new (W.trace world.new) }
     ensures faults { W.faults world.new ≡ W.faults world.old }
+    ensures follows { W.script world.new ≡ W.script world.old }
 {
     match run.node.dialled(why, Some(link)) {
         Ok(()) => {
@@ -79,6 +82,7 @@ fn dial<W: World>(run: &mut Run, world: &mut W, to: Target, why: Why) -> Result<
     ensures due { IfOk result (λ _. NoneIsDue why run.old.node run.new.node) }
     ensures passes { due_of run.old.node ≡ Some (act.Dial to why) → Passes false run.old (W.trace world.old) run.new (W.trace world.new) }
     ensures faults { W.faults world.new ≡ W.faults world.old }
+    ensures follows { W.script world.new ≡ W.script world.old }
 {
     match world.dial(to, why) {
         Born::New(link) => {
@@ -99,6 +103,7 @@ fn make_act<W: World>(run: &mut Run, world: &mut W) -> Result<bool, NoMemory>
     ensures less { IfOk result (λ made. made ≡ true → weight run.new.node < weight run.old.node) }
     ensures passes { Passes false run.old (W.trace world.old) run.new (W.trace world.new) }
     ensures faults { W.faults world.new ≡ W.faults world.old }
+    ensures follows { W.script world.new ≡ W.script world.old }
 {
     match run.node.next_act() {
         None => Ok(false),
@@ -120,6 +125,7 @@ pub(crate) fn make_acts<W: World>(run: &mut Run, world: &mut W) -> Result<(), No
     ensures rests { IsIdle run.old → Rests run.old (W.trace world.old) run.new (W.trace world.new) }
     ensures passes { Passes false run.old (W.trace world.old) run.new (W.trace world.new) }
     ensures faults { W.faults world.new ≡ W.faults world.old }
+    ensures follows { W.script world.new ≡ W.script world.old }
 {
     while make_act(run, world)? {}
     Ok(())

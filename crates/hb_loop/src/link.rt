@@ -23,6 +23,7 @@ pub(crate) fn finish<W: World>(run: &mut Run, world: &mut W, link: u64) -> Resul
     ensures rests { IfOk result (λ moved. moved ≡ false
         → Rests run.old (W.trace world.old) run.new (W.trace world.new) × Sleeps (way.Finish link) (W.trace world.new)) }
     ensures faults { W.faults world.new ≡ W.faults world.old }
+    ensures follows { W.script world.new ≡ W.script world.old }
 {
     match world.finish(link) {
         Finished::Opened => {
@@ -51,6 +52,7 @@ fn read_front<W: World>(world: &mut W, link: u64, buffer: &mut [u8], most: usize
     ensures same { length buffer.new ≡ length buffer.old }
     ensures octets { AreOctets buffer.new }
     ensures faults { W.faults world.new ≡ W.faults world.old }
+    ensures follows { W.script world.new ≡ W.script world.old }
 {
     world.read(link, &mut buffer[..most])
 }
@@ -61,6 +63,7 @@ fn came<W: World>(run: &mut Run, world: &mut W, link: u64, n: usize) -> Result<b
     ensures hears { Hears result (e.Came link (take n run.old.buffer.items)) run.old (W.trace world.old) run.new (W.trace world.new) }
     ensures passes { PassesTold (e.Came link (take n run.old.buffer.items)) run.old (W.trace world.old) run.new (W.trace world.new) }
     ensures faults { W.faults world.new ≡ W.faults world.old }
+    ensures follows { W.script world.new ≡ W.script world.old }
     ensures moved { IfOk result (λ moved. moved ≡ true) }
 {
     match run.node.take_bytes(link, &run.buffer[..n]) {
@@ -76,6 +79,7 @@ pub(crate) fn read<W: World>(run: &mut Run, world: &mut W, link: u64) -> Result<
     ensures rests { IfOk result (λ moved. moved ≡ false
         → Rests run.old (W.trace world.old) run.new (W.trace world.new) × ReadRests run.new.node link (W.trace world.new)) }
     ensures faults { W.faults world.new ≡ W.faults world.old }
+    ensures follows { W.script world.new ≡ W.script world.old }
 {
     let wanted = run.node.wants(link);
     if wanted == 0 {
@@ -108,6 +112,7 @@ pub(crate) fn write<W: World>(run: &mut Run, world: &mut W, link: u64) -> Result
     ensures rests { IfOk result (λ moved. moved ≡ false
         → Rests run.old (W.trace world.old) run.new (W.trace world.new) × WriteRests run.new.node link (W.trace world.new)) }
     ensures faults { W.faults world.new ≡ W.faults world.old }
+    ensures follows { W.script world.new ≡ W.script world.old }
 {
     let output = run.node.output(link);
     if output.is_empty() {

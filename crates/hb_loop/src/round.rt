@@ -20,6 +20,7 @@ fn try_finish<W: World>(run: &mut Run, world: &mut W, link: u64) -> Result<bool,
     ensures passes { IsIdle run.old → run.old.known ≡ Some (record { number = link; is_open = false })
         → Passes (moved_by result) run.old (W.trace world.old) run.new (W.trace world.new) }
     ensures faults { W.faults world.new ≡ W.faults world.old }
+    ensures follows { W.script world.new ≡ W.script world.old }
     ensures rests { IfOk result (λ moved. moved ≡ false → IsIdle run.old
         → Rests run.old (W.trace world.old) run.new (W.trace world.new) × Sleeps (way.Finish link) (W.trace world.new)) }
 {
@@ -34,6 +35,7 @@ fn try_write<W: World>(run: &mut Run, world: &mut W, link: u64) -> Result<bool, 
     ensures idle { IfOk result (λ _. IsIdle run.new) }
     ensures passes { Passes (moved_by result) run.old (W.trace world.old) run.new (W.trace world.new) }
     ensures faults { W.faults world.new ≡ W.faults world.old }
+    ensures follows { W.script world.new ≡ W.script world.old }
     ensures rests { IfOk result (λ moved. moved ≡ false → IsIdle run.old
         → Rests run.old (W.trace world.old) run.new (W.trace world.new) × WriteRests run.new.node link (W.trace world.new)) }
 {
@@ -49,6 +51,7 @@ fn try_bytes<W: World>(run: &mut Run, world: &mut W, link: u64) -> Result<bool, 
     ensures idle { IfOk result (λ _. IsIdle run.new) }
     ensures passes { Passes (moved_by result) run.old (W.trace world.old) run.new (W.trace world.new) }
     ensures faults { W.faults world.new ≡ W.faults world.old }
+    ensures follows { W.script world.new ≡ W.script world.old }
     ensures rests { IfOk result (λ moved. moved ≡ false → IsIdle run.old
         → Rests run.old (W.trace world.old) run.new (W.trace world.new) × ReadRests run.new.node link (W.trace world.new)
         × WriteRests run.new.node link (W.trace world.new)) }
@@ -65,6 +68,7 @@ pub(crate) fn round<W: World>(run: &mut Run, world: &mut W) -> Result<bool, NoMe
     ensures idle { IfOk result (λ _. IsIdle run.old → IsIdle run.new) }
     ensures passes { IsIdle run.old → Passes (moved_by result) run.old (W.trace world.old) run.new (W.trace world.new) }
     ensures faults { W.faults world.new ≡ W.faults world.old }
+    ensures follows { W.script world.new ≡ W.script world.old }
     ensures tried { IfOk result (λ moved. moved ≡ false → IsIdle run.old → Tried run.new.known run.new.node (W.trace world.new)) }
 {
     match run.known {

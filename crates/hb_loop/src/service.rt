@@ -47,6 +47,7 @@ fn tick<W: World>(
         → (stated : Option ℕ) (n : ℕ) → IfSome (W.trace world.old) (IsBehindTick stated ticks.old n run.old.links run.old.wanting)
         → Turned result stated ticks.new n run.new (W.trace world.new) }
     ensures faults { W.faults world.new ≡ W.faults world.old }
+    ensures follows { W.script world.new ≡ W.script world.old }
     ensures stops { is_fault_of_turn result ≡ false }
 {
     run.node.tick();
@@ -72,6 +73,7 @@ fn wait<W: World>(
         → (stated : Option ℕ) (n : ℕ) → Reckoned stated ticks.old n run.old (W.trace world.old)
         → Turned result stated ticks.new (n + 2) run.new (W.trace world.new) }
     ensures faults { Counts (W.faults world.old) (W.faults world.new) (is_fault_of_turn result) }
+    ensures follows { W.script world.new ≡ W.script world.old }
 {
     match world.wait(ready) {
         Waited::Woke => Ok(None),
@@ -99,6 +101,7 @@ fn turn<W: World>(
         → Turned result stated ticks.new (turns_kept moved.new (n + 1)) run.new (W.trace world.new) }
     ensures tried { IfOk result (λ _. moved.new ≡ false → IsIdle run.old → Tried run.new.known run.new.node (W.trace world.new)) }
     ensures faults { Counts (W.faults world.old) (W.faults world.new) (is_fault_of_turn result) }
+    ensures follows { W.script world.new ≡ W.script world.old }
 {
     if *moved & run.known.is_some() {
         *moved = round(run, world)?;
@@ -122,6 +125,7 @@ fn turns<W: World>(
         → (stated : Option ℕ) → Reckoned stated ticks 0 run.old (W.trace world.old)
         → Finished stated most (end_of result) run.new (W.trace world.new) }
     ensures faults { Counts (W.faults world.old) (W.faults world.new) (is_fault (end_of result)) }
+    ensures follows { W.script world.new ≡ W.script world.old }
 {
     make_acts(run, world)?;
     let mut ticks = ticks;
@@ -141,6 +145,7 @@ fn stop<W: World>(run: &mut Run, world: &mut W, cause: Cause)
     ensures finished { (g : NodeConfig) → Falls g run.old (W.trace world.old) → (stated : Option ℕ) (turns : ℕ) (end : ServeEnd)
         → Finished stated turns end run.old (W.trace world.old) → Finished stated turns end run.new (W.trace world.new) }
     ensures faults { W.faults world.new ≡ W.faults world.old }
+    ensures follows { W.script world.new ≡ W.script world.old }
 {
     if run.known.is_none() {
         return;
@@ -163,6 +168,7 @@ fn serve_run<W: World>(
     ensures finished { (g : NodeConfig) → Carries g run.old.node run.old.known (W.trace world.old)
         → Reckoned ticks ticks 0 run.old (W.trace world.old) → Finished ticks most result run.new (W.trace world.new) }
     ensures faults { Counts (W.faults world.old) (W.faults world.new) (is_fault result) }
+    ensures follows { W.script world.new ≡ W.script world.old }
 {
     match turns(run, world, ready, most, ticks) {
         Ok(end) => {
@@ -191,6 +197,7 @@ fn begin(alloc: Global, words: ServeWords) -> Result<(Run, Ready), NoMemory>
 pub fn serve<W: World>(alloc: Global, words: ServeWords, world: &mut W) -> Served
     ensures lawful { AfterServe (Lawful words.config) (W.trace world.old) (W.trace world.new) }
     ensures closed { AfterServe NoneLives (W.trace world.old) (W.trace world.new) }
+    ensures follows { W.script world.new ≡ W.script world.old }
     ensures ends { AfterServe (EndsAs words.ticks result.end) (W.trace world.old) (W.trace world.new) }
     ensures turns { AfterServe (SpendsTurns words.turns result.end) (W.trace world.old) (W.trace world.new) }
     ensures links { AfterServe (λ trace. result.totals.links ≡ births trace) (W.trace world.old) (W.trace world.new) }

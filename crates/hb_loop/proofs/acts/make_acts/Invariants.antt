@@ -14,6 +14,7 @@ invariant-loop g l = record {
       → PassesBy false l.initial.run (g.W.World.trace l.initial.world) l.run (g.W.World.trace l.world);
   rests : IsIdle l.initial.run → Rests l.initial.run (g.W.World.trace l.initial.world) l.run (g.W.World.trace l.world);
   faults : g.W.World.faults l.world ≡ g.W.World.faults l.initial.world;
+  follows : g.W.World.script l.world ≡ g.W.World.script l.initial.world;
 }
 
 abbrev pub decreases-loop : goal.decreases-loop

@@ -43,6 +43,7 @@ loop-turn-preserved g c =
           (turned.turned config at.idle at.tried (at.kept config carries) stated c.loop-turn._turn (at.reckoned config carries stated had));
       faults = subst (λ (o : Option ServeEnd). Counts (g.W.World.faults c.loop-turn.world) (g.W.World.faults c.turn.new.world)
           (is_fault_by o)) c.in-None.is turned.faults ∙ at.faults;
+      follows = turned.follows ∙ at.follows;
     }
 
 pub returns-clause-finished : goal.returns-clause-finished

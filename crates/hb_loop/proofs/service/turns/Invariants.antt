@@ -16,4 +16,5 @@ invariant-loop-turn g l = record {
       → Reckoned stated l.fn.ticks 0 l.fn.run (g.W.World.trace l.fn.world)
       → Reckoned stated l.ticks (turns_kept l.moved l._turn) l.run (g.W.World.trace l.world);
   faults : g.W.World.faults l.world ≡ g.W.World.faults l.fn.world;
+  follows : g.W.World.script l.world ≡ g.W.World.script l.fn.world;
 }
