@@ -17,6 +17,7 @@ pub mod Fed
 pub mod First
 pub mod Fitting
 pub mod Flowed
+pub mod Found
 pub mod Front
 pub mod Glanced
 pub mod Granted
@@ -24,6 +25,7 @@ pub mod Grants
 pub mod Handled
 pub mod Initial
 pub mod Kept
+pub mod Lasting
 pub mod Lives
 pub mod Looks
 pub mod Moved

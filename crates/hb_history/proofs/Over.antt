@@ -18,7 +18,7 @@ use Rattle.hb_blocks.specs.Assembly.{Progress}
 use Rattle.hb_blocks.specs.declared.fault.BlockFault.{BlockFault}
 use Rattle.hb_blocks.specs.declared.whole.Whole.{Whole}
 use Rattle.hb_owed.specs.declared.due.Due.{Due}
-use Rattle.hb_conn.specs.Connection.{Connection, Finds, FindsWhile, FindsOf, FindsAfter, FindsBy}
+use Rattle.hb_conn.specs.Connection.{Connection, Finds}
 use Rattle.hb_conn.specs.Credit.{used_on, credit}
 use Rattle.hb_conn.specs.Data.{updated, credited_on, used, padded, is_of_idle, continued, data_goes, data_answered, on_data}
 use Rattle.hb_conn.specs.Faults.{faulted, is_active, released, given_up, cancelled, aborted, broken, refused, refused_by}
@@ -28,19 +28,17 @@ use Rattle.hb_conn.specs.Headers.{headed, headers_answered, block_told, DoesBloc
 use Rattle.hb_conn.specs.Outcome.{Outcome, outcome, Gives}
 use Rattle.hb_conn.specs.Owing.{put_now, put_later, goes_at_once, with_due, with_update, owed_paid}
 use Rattle.hb_conn.specs.Places.{is_misplaced}
-use Rattle.hb_conn.specs.Preface.{is_whole}
-use Rattle.hb_conn.specs.Receiving.{pauses, Passes, Ends, waits, lacks, tells, Receives}
 use Rattle.hb_conn.specs.Resets.{peer_reset, reset_answered}
 use Rattle.hb_conn.specs.Settings.{noted, Resized, AppliesBy, AppliesAll, Then, applied, SettlesBy, DoesSettings}
 use Rattle.hb_conn.specs.Frames.{sent, ping_ack}
 use Rattle.hb_conn.specs.Numbers.{data_kind, window_update_kind, protocol_error, flow_control_error, max_concurrent_streams, max_frame_size, initial_window_size}
 use Rattle.hb_conn.specs.Windows.{connection_grows, stream_grows, stream_answered, on_window}
 use Rattle.hb_conn.specs.declared.machine.Core.{Core}
-use Rattle.hb_conn.specs.declared.receiver.Receiver.{Receiver}
 use Rattle.hb_conn.specs.declared.found.Found.{Found}
 use Rattle.hb_conn.specs.declared.found.Found.TheVariants as found
 use Rattle.hb_conn.specs.declared.glance.Glance.{Glance}
 use Rattle.hb_conn.specs.declared.glance.Glance.TheVariants as glance
+use Rattle.hb_history.proofs.Found.{Holds, finds_so}
 
 -- all is over as before, or a connection error is told
 abbrev pub Rises : Core → Core → Found → Type 0
@@ -248,47 +246,21 @@ pub handled_over : (c : Core) (g : Glance) (bytes : List ℕ) (new : Core) (told
 handled_over c g bytes new told is = handles_by (is_misplaced c g) c g bytes new told is
 
 -- and so it is with what is found next
+rises_on : (c mid new : Core) (told : Found) → Rises c mid found.Silent → Rises mid new told → Rises c new told
+rises_on c mid new told (inl same) (inl next) = inl (next ∙ same)
+rises_on c mid new told (inl same) (inr why) = inr why
+rises_on c mid new told (inr why) next = absurd (let never = why.1 in cc)
 
-passed : (through : List Receiver) (old new : Receiver) → Passes through old new → new.core.over ≡ old.core.over
-passed [] old new is = ap (λ (r : Receiver). r.core.over) is
-passed (mid ∷ more) old new is =
-    passed more mid new is.1
-    ∙ by (handled_over old.core (glance_of old.reader) (asked old.reader).last mid.core found.Silent is.0.handled)
-  where
-    by : Rises old.core mid.core found.Silent → mid.core.over ≡ old.core.over
-    by (inl same) = same
-    by (inr why) = absurd (let never = why.1 in cc)
-
-ended : (last new : Receiver) (told : Found) → Ends last new told → Rises last.core new.core told
-ended last new told (waits test is silent) = inl (ap (λ (r : Receiver). r.core.over) is)
-ended last new told (lacks test nothing is silent) = inl (ap (λ (r : Receiver). r.core.over) is)
-ended last new told (tells steps some) = handled_over last.core (glance_of last.reader) (asked last.reader).last new.core told steps.handled
-
-received : (old new : Receiver) (told : Found) → Receives old new told → Rises old.core new.core told
-received old new told is = by (ended is.last new told is.ends)
-  where
-    by : Rises is.last.core new.core told → Rises old.core new.core told
-    by (inl same) = inl (same ∙ passed is.through old is.last is.passes)
-    by (inr why) = inr why
+rising : Holds Rises
+rising = record {
+  same = λ c new told is. inl (ap (λ (x : Core). x.over) is);
+  on = rises_on;
+  handled = λ r c new told is. handled_over c (glance_of r) (asked r).last new told is;
+  faults = λ c new code told is. given c _ new told (fault c c code) is;
+}
 
 abbrev FindsOver : Connection → Connection → Found → Type 0
 FindsOver c d told = Rises c.receiver.core d.receiver.core told
 
-found_by : (b : Bool) (c d : Connection) (told : Found) → FindsBy b c d told → FindsOver c d told
-found_by false c d told is = given c.receiver.core _ d.receiver.core told (fault c.receiver.core c.receiver.core _) is.0
-found_by true c d told is = received c.receiver d.receiver told is.0
-
-found_after : (b : Bool) (c d : Connection) (told : Found) → FindsAfter b c d told → FindsOver c d told
-found_after false c d told is = inl (ap (λ (x : Connection). x.receiver.core.over) is.0)
-found_after true c d told is = found_by c.preface.same c d told is
-
-found_of : (o : Option ℕ) (c d : Connection) (told : Found) → FindsOf o c d told → FindsOver c d told
-found_of (Some s) c d told is = inl (ap (λ (x : Connection). x.receiver.core.over) is.0)
-found_of None c d told is = found_after (is_whole c.preface) c d told is
-
-found_while : (b : Bool) (c d : Connection) (told : Found) → FindsWhile b c d told → FindsOver c d told
-found_while true c d told is = inl (ap (λ (x : Connection). x.receiver.core.over) is.0)
-found_while false c d told is = found_of c.ended c d told is
-
 pub finds_over : (c d : Connection) (told : Found) → Finds c d told → FindsOver c d told
-finds_over c d told is = found_while (pauses c.receiver.core) c d told is
+finds_over c d told is = finds_so Rises rising c d told is
