@@ -17,4 +17,6 @@ pub mod Connections
 pub mod ConnectionsRun
 pub mod Requests
 pub mod RequestsRun
+pub mod SendingRun
+pub mod AllPut
 pub mod WindowsFit

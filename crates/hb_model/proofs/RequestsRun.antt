@@ -34,6 +34,7 @@ use Rattle.hb_conn.specs.declared.found.Found.{Found}
 use Rattle.hb_conn.specs.declared.found.Found.TheVariants as found
 use Rattle.hb_flow.specs.Flows.{creditable, spent}
 use Rattle.hb_history.specs.Points as history
+use Rattle.hb_history.specs.Points.{RunsWith}
 use Rattle.hb_history.specs.Waits.{IsFirst}
 use Rattle.hb_history.proofs.Parts.{calm}
 use Rattle.hb_history.proofs.Kept.{payment_keeps}
@@ -41,6 +42,7 @@ use Rattle.hb_history.proofs.Shown.{OfOut, out_keeps, rest_keeps}
 use Rattle.hb_history.proofs.Looks.{act_rest}
 use Rattle.hb_history.proofs.First.{first_keeps, first_new}
 use Rattle.hb_history.proofs.Lives.{Moved, moved_on, active_some}
+use Rattle.hb_history.proofs.Runs.{begins_more, begins_one}
 use Rattle.hb_history.proofs.Over.{Rises, finds_over, paid_over, credit_over}
 use Rattle.hb_world.specs.Trace.{went_on, sent}
 use Rattle.hb_world.specs.declared.entry.Entry.{Entry}
@@ -49,37 +51,38 @@ use Rattle.hb_model.specs.declared.config.NodeConfig.{NodeConfig}
 use Rattle.hb_model.specs.Discovery.{Discovery, Phase, unborn, dialling, live, faulted, ending, closed, opened, ended, broken, went, stopped_for, phase_by, end_by, headers_read, stream, headers_of, first_requests, answer_to, spelled, no_link, dialled, came, wrote, on_found, ends_for, put_requests, sendable}
 use Rattle.hb_model.specs.Machine.{Machine, entered, with_phase}
 use Rattle.hb_model.specs.Messages.{held}
-use Rattle.hb_model.specs.Point.{Point, entry, looked, applied, refused, used, put, stopped, entry_in, entries}
+use Rattle.hb_model.specs.Point.{Point, entry, looked, applied, refused, used, put, stopped, entry_in, entries, moves_in, moves, act}
 use Rattle.hb_model.specs.Requests.{request_in, requests, payload_of}
 use Rattle.hb_model.specs.Runs.{output_by, MayCome, Steps, StandsFor, begins, goes_on}
 use Rattle.hb_model.specs.Laws.{RunsObeyRequests}
-use Rattle.hb_model.proofs.Grown.{entries_more, requests_more, of_all, IsBorn}
+use Rattle.hb_model.proofs.Grown.{one_more, entries_more, requests_more, of_all, IsBorn}
 use Rattle.hb_model.proofs.Unborn.{AreUnborn, are_unborn, born_closing, Passes, passes_looked, passes_applied, passes_used, passes_put, passes_dial, passes_came, passes_went}
 use Rattle.hb_model.proofs.MessagesRun.{held_is}
-use Rattle.hb_model.proofs.Connections.{looks_rest}
+use Rattle.hb_model.proofs.Connections.{looks_begin_none, looks_rest}
 use Rattle.hb_model.proofs.ConnectionsRun.{first_number, on_itself, itself_alone, quiet_passes}
 use Rattle.hb_model.proofs.Requests.{payloads, Follows, GoesOn, Asks, looks_ask, credit_asks, write_asks, more_asks, put_asks}
 
 -- a link that goes on
-abbrev IsGoing : Phase → Type 0
+abbrev pub IsGoing : Phase → Type 0
 IsGoing dialling = Unit {0}
 IsGoing live = Unit {0}
 IsGoing _ = ⊥
 
 -- what was asked on a link, and what of it went and waits
-record IsAsked (g : NodeConfig) (points : List Point) (l : ℕ) (phase : Phase) (waiting : List ℕ) (c : Core) : Type 0 where
-  begun : List RawFrame
-  shows : Shows octets (sent l (entries points)) begun c.out
-  first : IsFirst c.out
-  moved : Moved Client c.streams
-  started : IsBorn phase → stream ≤ c.streams.highest
-  follows : Follows begun (spelled (requests g l points)) waiting (GoesOn calm c) c.out.queue
-  goes : IsGoing phase → c.over ≡ false
+pub record IsAsked (g : NodeConfig) (points : List Point) (l : ℕ) (phase : Phase) (waiting : List ℕ) (c : Core) : Type 0 where
+  pub begun : List RawFrame
+  pub begins : RunsWith fresh_client.receiver.core (moves l points) begun c
+  pub shows : Shows octets (sent l (entries points)) begun c.out
+  pub first : IsFirst c.out
+  pub moved : Moved Client c.streams
+  pub started : IsBorn phase → stream ≤ c.streams.highest
+  pub follows : Follows begun (spelled (requests g l points)) waiting (GoesOn calm c) c.out.queue
+  pub goes : IsGoing phase → c.over ≡ false
 
-abbrev IsAskedOn : NodeConfig → List Point → ℕ → Discovery → Type 0
+abbrev pub IsAskedOn : NodeConfig → List Point → ℕ → Discovery → Type 0
 IsAskedOn g points l x = IsAsked g points l x.phase x.waiting x.conn.receiver.core
 
-abbrev AreAsked : NodeConfig → Machine → List Point → Type 0
+abbrev pub AreAsked : NodeConfig → Machine → List Point → Type 0
 AreAsked g m points = (l : ℕ) → IsAskedOn g points l (m.links l)
 
 spelled_more : (ms ns : List (List ℕ)) → spelled (ms ++ ns) ≡ spelled ms ++ spelled ns
@@ -126,17 +129,20 @@ module _ (g : NodeConfig) (m : Machine) (points : List Point) (unborn : AreUnbor
   -- with a point by which these octets go on a link, and these requests are made
   grown : (p : Point) (l : ℕ) (phase : Phase) (waiting : List ℕ) (c : Core) (begun : List RawFrame) (bytes more : List ℕ)
       → flat_map (went_on l) (entry_in p) ≡ bytes → spelled (request_in g m.held l p) ≡ more
+      → RunsWith fresh_client.receiver.core (moves l points ++ moves_in l p) begun c
       → Shows octets (sent l (entries points) ++ bytes) begun c.out → IsFirst c.out → Moved Client c.streams
       → (IsBorn phase → stream ≤ c.streams.highest)
       → Follows begun (spelled (requests g l points) ++ more) waiting (GoesOn calm c) c.out.queue
       → (IsGoing phase → c.over ≡ false) → IsAsked g (points ++ p ∷ []) l phase waiting c
-  grown p l phase waiting c begun bytes more goes asks shows first moved started follows going =
+  grown p l phase waiting c begun bytes more goes asks runs shows first moved started follows going =
       let all : spelled (requests g l points) ++ more ≡ spelled (requests g l (points ++ p ∷ [])) =
       ap (λ (xs : List ℕ). spelled (requests g l points) ++ xs) (sym asks ∙ ap (λ h. spelled (request_in g h l p)) hold)
       ∙ sym (spelled_more (requests g l points) (request_in g (held g points) l p))
       ∙ ap spelled (sym (requests_more g (nothing_held g.network g.node) l points p)) in
       record {
         begun = begun;
+        begins = subst (λ (qs : List history.Point). RunsWith fresh_client.receiver.core qs begun c)
+            (sym (one_more (moves_in l) points p)) runs;
         shows = subst (λ (bs : List ℕ). Shows octets bs begun c.out)
             (ap (λ (bs : List ℕ). sent l (entries points) ++ bs) (sym goes) ∙ sym (entries_more (went_on l) points p)) shows;
         first = first;
@@ -146,15 +152,31 @@ module _ (g : NodeConfig) (m : Machine) (points : List Point) (unborn : AreUnbor
         goes = going;
       }
 
+  -- one by which these moves are made, with which these frames begin
+  runs_on : (p : Point) (l : ℕ) (ps : List history.Point) (gs : List RawFrame) (c : Core) → moves_in l p ≡ ps
+      → RunsWith (m.links l).conn.receiver.core ps gs c
+      → RunsWith fresh_client.receiver.core (moves l points ++ moves_in l p) ((asked l).begun ++ gs) c
+  runs_on p l ps gs c are runs =
+      subst (λ (qs : List history.Point). RunsWith fresh_client.receiver.core (moves l points ++ qs) ((asked l).begun ++ gs) c) (sym are)
+      (begins_more (moves l points) ps fresh_client.receiver.core (m.links l).conn.receiver.core c (asked l).begun gs (asked l).begins runs)
+
+  runs_still : (p : Point) (l : ℕ) (ps : List history.Point) (c : Core) → moves_in l p ≡ ps
+      → RunsWith (m.links l).conn.receiver.core ps [] c
+      → RunsWith fresh_client.receiver.core (moves l points ++ moves_in l p) (asked l).begun c
+  runs_still p l ps c are runs =
+      subst (λ (fs : List RawFrame). RunsWith fresh_client.receiver.core (moves l points ++ moves_in l p) fs c)
+      (append-nil (asked l).begun) (runs_on p l ps [] c are runs)
+
   -- one by which nothing of the output changes
-  kept : (p : Point) (l : ℕ) (phase : Phase) → flat_map (went_on l) (entry_in p) ≡ [] → spelled (request_in g m.held l p) ≡ []
+  kept : (p : Point) (l : ℕ) (phase : Phase) → moves_in l p ≡ [] → flat_map (went_on l) (entry_in p) ≡ []
+      → spelled (request_in g m.held l p) ≡ []
       → (IsBorn phase → IsBorn (m.links l).phase) → (IsGoing phase → (m.links l).conn.receiver.core.over ≡ false)
       → IsAsked g (points ++ p ∷ []) l phase (m.links l).waiting (m.links l).conn.receiver.core
-  kept p l phase goes asks born going =
+  kept p l phase none goes asks born going =
       let a = asked l in
       let c = (m.links l).conn.receiver.core in
       let w = (m.links l).waiting in
-      grown p l phase w c a.begun [] [] goes asks
+      grown p l phase w c a.begun [] [] goes asks (runs_still p l [] c none (refl, refl))
       (subst (λ (bs : List ℕ). Shows octets bs a.begun c.out) (sym (append-nil (sent l (entries points)))) a.shows)
       a.first a.moved (λ b. a.started (born b))
       (subst (λ (xs : List ℕ). Follows a.begun xs w (GoesOn calm c) c.out.queue)
@@ -163,7 +185,7 @@ module _ (g : NodeConfig) (m : Machine) (points : List Point) (unborn : AreUnbor
 
   elsewhere : (p : Point) (l : ℕ) → Passes g l p → IsAskedOn g (points ++ p ∷ []) l (m.links l)
   elsewhere p l passes =
-      kept p l (m.links l).phase passes.went (ap spelled (passes.request m.held)) (λ b. b) (asked l).goes
+      kept p l (m.links l).phase passes.moves passes.went (ap spelled (passes.request m.held)) (λ b. b) (asked l).goes
 
   changed : (p : Point) (k : ℕ) (new : ℕ → Discovery) → IsAskedOn g (points ++ p ∷ []) k (new k)
       → ((l : ℕ) → (k == l) ≡ false → Passes g l p) → (l : ℕ) → IsAskedOn g (points ++ p ∷ []) l (if k == l then new l else m.links l)
@@ -177,7 +199,7 @@ module _ (g : NodeConfig) (m : Machine) (points : List Point) (unborn : AreUnbor
       → IsAskedOn g (points ++ entry x ∷ []) l (if k == l then with_phase change (m.links l) else m.links l)
   phase_changes x k change born going passes =
       changed (entry x) k (λ l. with_phase change (m.links l))
-      (kept (entry x) k (change (m.links k).phase) (passes k).went (ap spelled ((passes k).request m.held)) (λ b. born) going)
+      (kept (entry x) k (change (m.links k).phase) (passes k).moves (passes k).went (ap spelled ((passes k).request m.held)) (λ b. born) going)
       (λ l apart. passes l)
 
   born_asked : (k : ℕ) (to : _) (why : _) → MayCome g m (e.Dialled k to why)
@@ -190,8 +212,13 @@ module _ (g : NodeConfig) (m : Machine) (points : List Point) (unborn : AreUnbor
       let first_bytes = spelled (first_requests g.id m.held) in
       let asks : spelled (request_in g m.held k p) ≡ first_bytes = ap spelled (on_itself k (first_requests g.id m.held)) in
       let old = fresh_client.receiver.core in
+      let move = history.opened stream (headers_of to) false in
       changed p k (λ l. x)
       (grown p k dialling x.waiting c [] [] first_bytes refl asks
+      (subst (λ (qs : List history.Point). RunsWith old qs [] c)
+      (ap (λ (qs : List history.Point). qs ++ moves_in k p) (sym none.moves))
+      (subst (λ (qs : List history.Point). RunsWith old qs [] c) (sym (on_itself k (act move)))
+      (begins_one (history.point move found.Silent) old c [] refl (first_number, (refl, refl)))))
       (ap (λ (bs : List ℕ). (bs ++ []) ++ octets) none.went)
       (first_out (headers_of to))
       (moved_on Client old.streams c.streams (begins_next old.peer.streams) refl ([], refl))
@@ -204,11 +231,12 @@ module _ (g : NodeConfig) (m : Machine) (points : List Point) (unborn : AreUnbor
   -- what is kept by all that is made of a connection is so with a point
   made : (p : Point) (l : ℕ) (phase : Phase) (waiting : List ℕ) (c : Core) (begun : List RawFrame) (bytes more : List ℕ)
       → flat_map (went_on l) (entry_in p) ≡ bytes → spelled (request_in g m.held l p) ≡ more
+      → RunsWith fresh_client.receiver.core (moves l points ++ moves_in l p) begun c
       → Shows octets (sent l (entries points) ++ bytes) begun c.out
       → Asks begun (spelled (requests g l points) ++ more) waiting calm c → (IsGoing phase → c.over ≡ false)
       → IsAsked g (points ++ p ∷ []) l phase waiting c
-  made p l phase waiting c begun bytes more goes asks shows h going =
-      grown p l phase waiting c begun bytes more goes asks shows h.0 h.1 (λ b. h.2) h.3 going
+  made p l phase waiting c begun bytes more goes asks runs shows h going =
+      grown p l phase waiting c begun bytes more goes asks runs shows h.0 h.1 (λ b. h.2) h.3 going
 
   asks_of : (l : ℕ) → IsBorn (m.links l).phase
       → Asks (asked l).begun (spelled (requests g l points)) (m.links l).waiting calm (m.links l).conn.receiver.core
@@ -242,6 +270,8 @@ module _ (g : NodeConfig) (m : Machine) (points : List Point) (unborn : AreUnbor
       let shown = (write_begins octets (sent k (entries points)) a.begun c.out n within a.shows).0 in
       changed p k (λ l. wrote n (m.links l))
       (made p k (went x.phase) x.waiting (owing.wrote c n) (a.begun ++ begun_by n c.out) bytes [] (itself_alone k bytes) refl
+      (runs_on p k (act (history.wrote n)) (begun_by n c.out) (owing.wrote c n) (on_itself k (act (history.wrote n)))
+      (begins_one (history.point (history.wrote n) found.Silent) c (owing.wrote c n) (begun_by n c.out) refl (within, (refl, refl))))
       (ap₂ (λ (bs xs : List ℕ). (sent k (entries points) ++ bs) ++ xs) (sym all) same ∙ shown)
       (with_none k (a.begun ++ begun_by n c.out) x.waiting (owing.wrote c n)
       (write_asks a.begun (spelled (requests g k points)) x.waiting c n (asks_of k born)))
@@ -264,7 +294,7 @@ module _ (g : NodeConfig) (m : Machine) (points : List Point) (unborn : AreUnbor
       (λ l. quiet_passes g l (e.Opened k) tt)
   entry_asked (e.Came k bytes) may =
       changed (entry (e.Came k bytes)) k (λ l. came bytes (m.links l))
-      (kept (entry (e.Came k bytes)) k (m.links k).phase refl refl (λ b. b) (asked k).goes)
+      (kept (entry (e.Came k bytes)) k (m.links k).phase refl refl refl (λ b. b) (asked k).goes)
       (λ l apart. passes_came g l k bytes apart)
   entry_asked (e.Ended k) may =
       phase_changes (e.Ended k) k ended (subst IsBorn (sym may.0.1) tt) (λ i. live_over k may.0.1) (λ l. quiet_passes g l (e.Ended k) tt)
@@ -316,6 +346,7 @@ module _ (g : NodeConfig) (m : Machine) (points : List Point) (unborn : AreUnbor
       let why = end_by x.answered (headers_read steps.1) told in
       linked p k n _ (on_found told steps.1 x) steps.4 (λ l. refl)
       (made p k (phase_by x.phase why) x.waiting core (asked k).begun [] [] refl refl
+      (runs_still p k ps core (on_itself k ps) (looks_begin_none ps x.conn.receiver.core core look.looks look.runs))
       (shows_on k core.out (looks_rest ps x.conn.receiver.core core look.looks look.runs))
       (with_none k (asked k).begun x.waiting core
       (looks_ask (asked k).begun (spelled (requests g k points)) x.waiting ps x.conn.receiver.core core look.looks look.runs
@@ -330,6 +361,7 @@ module _ (g : NodeConfig) (m : Machine) (points : List Point) (unborn : AreUnbor
       linked p k n _ _ steps.3 (λ l. refl)
       (made p k x.phase (x.waiting ++ spelling answer) c (asked k).begun [] (spelling answer) refl
       (ap spelled (on_itself k (answer ∷ [])) ∙ append-nil (spelling answer))
+      (runs_still p k [] c refl (refl, refl))
       (shows_on k c.out refl)
       (more_asks (asked k).begun (spelled (requests g k points)) x.waiting (spelling answer) c
       (asks_of k (subst IsBorn (sym steps.0) tt)))
@@ -337,7 +369,7 @@ module _ (g : NodeConfig) (m : Machine) (points : List Point) (unborn : AreUnbor
       (λ l apart. passes_applied g l k r apart)
   point_asked (refused k) n steps =
       linked (refused k) k n _ (ends_for cause.Discovery (m.links k)) steps.2 (λ l. refl)
-      (kept (refused k) k (ending cause.Discovery) refl refl (λ b. subst IsBorn (sym steps.0) tt) (λ i. absurd i))
+      (kept (refused k) k (ending cause.Discovery) refl refl refl (λ b. subst IsBorn (sym steps.0) tt) (λ i. absurd i))
       (λ l apart. record { moves = refl; came = refl; went = refl; response = refl; request = λ h. refl })
   point_asked (used k n) next steps =
       let p = used k n in
@@ -347,6 +379,8 @@ module _ (g : NodeConfig) (m : Machine) (points : List Point) (unborn : AreUnbor
       let within : n ≤ creditable c.flow stream = omega (arith, steps.1.counted) in
       linked p k next _ _ steps.2 (λ l. refl)
       (made p k x.phase x.waiting core (asked k).begun [] [] refl refl
+      (runs_still p k (act (history.credited stream n)) core (on_itself k (act (history.credited stream n)))
+      (begins_one (history.point (history.credited stream n) found.Silent) c core [] refl (within, (refl, refl))))
       (shows_on k core.out (act_rest c (history.credited stream n) core found.Silent tt (within, (refl, refl))))
       (with_none k (asked k).begun x.waiting core
       (credit_asks (asked k).begun (spelled (requests g k points)) x.waiting c n within (asks_of k (subst IsBorn (sym steps.0) tt))))
@@ -365,6 +399,9 @@ module _ (g : NodeConfig) (m : Machine) (points : List Point) (unborn : AreUnbor
       (ap (λ b. b || (sides_of (state_of c.streams stream)).peer) go.0) in
       linked p k n _ (put_requests x) steps.3 (λ l. refl)
       (made p k x.phase (drop (sendable x) x.waiting) core (asked k).begun [] [] refl refl
+      (runs_still p k (act (history.put stream x.waiting)) core
+      (on_itself k (act (history.put stream bytes)) ∙ ap (λ (bs : List ℕ). act (history.put stream bs)) steps.1)
+      (begins_one (history.point (history.put stream x.waiting) found.Silent) c core [] refl (refl, refl)))
       (shows_on k core.out (act_rest c (history.put stream x.waiting) core found.Silent tt (refl, refl)))
       (with_none k (asked k).begun (drop (sendable x) x.waiting) core
       (subst (λ i. Asks (asked k).begun (spelled (requests g k points)) (drop i x.waiting) calm core) (sym size)
@@ -374,12 +411,13 @@ module _ (g : NodeConfig) (m : Machine) (points : List Point) (unborn : AreUnbor
       (λ l apart. passes_put g l k bytes apart)
   point_asked (stopped why) n steps =
       subst (λ (y : Machine). AreAsked g y (points ++ stopped why ∷ [])) (sym steps.1)
-      (λ l. kept (stopped why) l (stopped_for why (m.links l).phase) refl refl (was_born why (m.links l).phase)
+      (λ l. kept (stopped why) l (stopped_for why (m.links l).phase) refl refl refl (was_born why (m.links l).phase)
       (λ i. absurd (never_goes why (m.links l).phase i)))
 
 begins_asked : (g : NodeConfig) (l : ℕ) → IsAskedOn g [] l no_link
 begins_asked g l = record {
   begun = [];
+  begins = (refl, refl);
   shows = refl;
   first = first_new Client;
   moved = ([], refl);
@@ -388,7 +426,7 @@ begins_asked g l = record {
   goes = λ goes. absurd goes;
 }
 
-all_asked : (g : NodeConfig) (m : Machine) (points : List Point) → StandsFor g m points → AreAsked g m points
+pub all_asked : (g : NodeConfig) (m : Machine) (points : List Point) → StandsFor g m points → AreAsked g m points
 all_asked g m points (begins is none) = λ l.
     subst (λ ps. IsAskedOn g ps l (m.links l)) (sym none)
     (subst (λ (x : Machine). IsAskedOn g [] l (x.links l)) (sym is) (begins_asked g l))

@@ -1,9 +1,12 @@
 -- What every run of the machine obeys.
-use Rattle.std.specs.Prelude.{◌≡◌, List}
+use Rattle.std.specs.Prelude.{◌≡◌, ℕ, List, []}
+use Rattle.hb_outgoing.specs.Waiting.{octets_of}
 use Rattle.hb_model.specs.declared.config.NodeConfig.{NodeConfig}
 use Rattle.hb_model.specs.Point.{Point}
 use Rattle.hb_model.specs.Machine.{Machine}
-use Rattle.hb_model.specs.Runs.{StandsFor}
+use Rattle.hb_model.specs.Discovery.{live}
+use Rattle.hb_model.specs.Puts.{IsAllPut}
+use Rattle.hb_model.specs.Runs.{StandsFor, IsCalm}
 use Rattle.hb_model.specs.Calls.{CallsLaw}
 use Rattle.hb_model.specs.Dials.{DialLaw}
 use Rattle.hb_model.specs.Ends.{EndLaw}
@@ -47,3 +50,8 @@ RunsObeyRequests = (g : NodeConfig) (m : Machine) (points : List Point) → Stan
 -- on each link DATA fits both windows where it begins
 abbrev pub RunsObeyWindows : Type 0
 RunsObeyWindows = (g : NodeConfig) (m : Machine) (points : List Point) → StandsFor g m points → WindowLaw points
+
+-- where nothing waits to be written on a link that lives, and nothing more happens on it by itself, all is put
+abbrev pub RunsPutAll : Type 0
+RunsPutAll = (g : NodeConfig) (m : Machine) (points : List Point) (l : ℕ) → StandsFor g m points → (m.links l).phase ≡ live
+    → IsCalm (m.links l) → octets_of (m.links l).conn.receiver.core.out ≡ [] → IsAllPut g points l

@@ -7,6 +7,7 @@ pub mod Laws
 pub mod Machine
 pub mod Messages
 pub mod Point
+pub mod Puts
 pub mod Requests
 pub mod Runs
 pub mod Windows

@@ -1,7 +1,7 @@
 //! Laws over every run of the machine. Each is the contract of a function that does nothing.
 
 ghost use Rattle.hb_model.specs.Laws.{RunsObeyCalls, RunsObeyDials, RunsObeyEnds, RunsHold, RunsObeyMessages, RunsApplyAtOnce, RunsObeyConnections, RunsObeyRequests};
-ghost use Rattle.hb_model.specs.Laws.{RunsObeyWindows};
+ghost use Rattle.hb_model.specs.Laws.{RunsObeyWindows, RunsPutAll};
 
 /// The calls on each link stand in order: it is dialled and opened once, then read up to its end and written, and closed once.
 pub fn calls_are_in_order()
@@ -42,4 +42,11 @@ pub fn requests_go_in_order()
 /// bytes that came on the link so far (RFC 9113 sections 6.9 and 6.9.2).
 pub fn data_fits_windows()
     ensures { RunsObeyWindows }
+{}
+
+/// Where nothing waits to be written on a link that lives, and nothing more happens on it by itself, whole frames went on it:
+/// the answers to all SETTINGS and PING frames that came, and all requests that are due, but for octets that wait because the
+/// peer's window of the connection or of the stream is used up (RFC 9113 sections 6.9 and 6.9.2).
+pub fn all_is_put()
+    ensures { RunsPutAll }
 {}
