@@ -58,7 +58,7 @@ stands_on g old new known now x trace tells enters knows =
       machine = reaches.machine;
       run = runs.0;
       settled = settled_inner g (entered g x s.machine) reaches.machine (s.points ++ entry x ∷ []) reaches.points inner
-          (settled_entry s.points x tells.settles s.settled);
+          (settled_entry g s.points x tells.settles s.settled);
       trace_is = runs.1 ∙ trace_on s.points x tells.before trace s.trace_is tells.grows;
       goes_on = keeps.over ∙ s.goes_on;
       config = config;
@@ -73,7 +73,7 @@ MayBehind g node known x told = (trace : List Entry) → told ≡ Some trace →
 -- where it is a wait, each link that lives is settled
 abbrev pub SettlesBehind : NodeConfig → State → Option Known → Entry → Option (List Entry) → Type 0
 SettlesBehind g node known x told =
-    (trace : List Entry) → told ≡ Some trace → (s : Stands g node known trace) → SettledBefore s.points x
+    (trace : List Entry) → told ≡ Some trace → (s : Stands g node known trace) → SettledBefore g s.points x
 
 pub tell : (g : NodeConfig) (node : State) (known : Option Known) (x : Entry) (told after : Option (List Entry))
     → after ≡ with_entries (x ∷ []) told → MayBehind g node known x told → SettlesBehind g node known x told

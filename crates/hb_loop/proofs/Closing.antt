@@ -68,7 +68,7 @@ stands_closed g old new known l cause trace acts s =
       points = s.points ++ entry (e.Closed l cause) ∷ [];
       machine = entered g (e.Closed l cause) s.machine;
       run = run_on g s.machine s.points (e.Closed l cause) s.run closes.0;
-      settled = settled_entry s.points (e.Closed l cause) tt s.settled;
+      settled = settled_entry g s.points (e.Closed l cause) tt s.settled;
       trace_is = closed_trace g s.machine s.points trace l cause s.run s.trace_is current;
       goes_on = s.goes_on;
       config = acts.0 ∙ s.config;
@@ -94,10 +94,10 @@ stop_trace : (points : List Point) (cause : Cause) → entries (points ++ stoppe
 stop_trace points cause = entries-grow points (stopped cause) ∙ append-nil (entries points)
 
 over_closed : (g : NodeConfig) (m : Machine) (points : List Point) (trace : List Entry) (l : ℕ) (cause : Cause)
-    → StandsFor g m points → SettledLaw points → entries points ≡ trace → m.current ≡ Some l → MayCome g m (e.Closed l cause)
+    → StandsFor g m points → SettledLaw g points → entries points ≡ trace → m.current ≡ Some l → MayCome g m (e.Closed l cause)
     → IsOver g (trace ++ close_entries l cause trace)
 over_closed g m points trace l cause run settled is current may = record {
-  settled = settled_entry points (e.Closed l cause) tt settled;
+  settled = settled_entry g points (e.Closed l cause) tt settled;
   points = points ++ entry (e.Closed l cause) ∷ [];
   machine = entered g (e.Closed l cause) m;
   run = run_on g m points (e.Closed l cause) run may;
@@ -109,7 +109,7 @@ gives_up : (g : NodeConfig) (l : ℕ) (trace : List Entry) → Lasts g l trace �
 gives_up g l trace h =
     over_closed g (with_stop NoMemory h.machine) (h.points ++ stopped NoMemory ∷ []) trace l NoMemory
     (goes_on h.run (stopped NoMemory) (h.goes_on, refl) refl)
-    (settled_stop h.points NoMemory h.settled) (stop_trace h.points NoMemory ∙ h.trace_is) h.current
+    (settled_stop g h.points NoMemory h.settled) (stop_trace h.points NoMemory ∙ h.trace_is) h.current
     (stopped_closing NoMemory (h.machine.links l).phase h.phase)
 
 pub gave_up : (g : NodeConfig) (l : ℕ) (told after : Option (List Entry)) → after ≡ with_closed l NoMemory told
@@ -139,7 +139,7 @@ ends_closed g old mid new known cause why l trace stops acts s =
     let config : mid.config ≡ g = stops.0 ∙ s.config in
     let is_due : Some (act.Close l why) ≡ due g m = subst (λ c. Some (act.Close l why) ≡ due c m) config (acts.1 m shows) in
     over_closed g m (s.points ++ stopped cause ∷ []) trace l why (goes_on s.run (stopped cause) (s.goes_on, refl) refl)
-    (settled_stop s.points cause s.settled) (stop_trace s.points cause ∙ s.trace_is) (close_of g m l why is_due)
+    (settled_stop g s.points cause s.settled) (stop_trace s.points cause ∙ s.trace_is) (close_of g m l why is_due)
     (subst (λ c. MayCome c m (e.Closed l why)) config (acts.2 m shows).0)
 
 pub ended_closed : (g : NodeConfig) (old mid new : State) (known : Option Known) (cause why : Cause) (l : ℕ)

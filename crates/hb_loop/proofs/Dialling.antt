@@ -101,7 +101,7 @@ lasts_born g node known to why l trace tells =
       points = s.points ++ entry (e.Dialled l to why) ∷ [];
       machine = entered g (e.Dialled l to why) s.machine;
       run = run_on g s.machine s.points (e.Dialled l to why) s.run tells.may;
-      settled = settled_entry s.points (e.Dialled l to why) tt s.settled;
+      settled = settled_entry g s.points (e.Dialled l to why) tt s.settled;
       trace_is = trace_on s.points (e.Dialled l to why) tells.before trace s.trace_is tells.grows;
       goes_on = s.goes_on;
       current = refl;
@@ -124,7 +124,7 @@ fails_so g node known to why trace dials tells =
         points = s.points ++ entry (e.DialFailed to why) ∷ [];
         machine = entered g (e.DialFailed to why) s.machine;
         run = run_on g s.machine s.points (e.DialFailed to why) s.run tells.may;
-        settled = settled_entry s.points (e.DialFailed to why) tt s.settled;
+        settled = settled_entry g s.points (e.DialFailed to why) tt s.settled;
         trace_is = trace_on s.points (e.DialFailed to why) tells.before trace s.trace_is tells.grows;
         none = none;
       },

@@ -179,7 +179,7 @@ inner_runs g m n before (p ∷ points) stands (is, mid, steps, more) =
 
 -- the trace of a run is lawful
 pub lawful_run : (g : NodeConfig) (m : Machine) (points : List Point) (trace : List Entry) → StandsFor g m points
-    → SettledLaw points → entries points ≡ trace → Lawful g trace
+    → SettledLaw g points → entries points ≡ trace → Lawful g trace
 lawful_run g m points trace stands settled is = record {
   settled = settled;
   points = points;

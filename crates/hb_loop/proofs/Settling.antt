@@ -10,27 +10,30 @@ use Rattle.hb_model.proofs.Places.{at_entry-grows}
 use Rattle.hb_node.specs.State.{IsInner, Inner}
 use Rattle.hb_loop.specs.Settled.{SettledBefore, SettledLaw}
 
-same_entry : (x e : Entry) (points : List Point) → entry x ≡ entry e → SettledBefore points x → SettledBefore points e
-same_entry x e points is settles = subst (λ (y : Entry). SettledBefore points y) (cc) settles
+same_entry : (g : NodeConfig) (x e : Entry) (points : List Point) → entry x ≡ entry e → SettledBefore g points x
+    → SettledBefore g points e
+same_entry g x e points is settles = subst (λ (y : Entry). SettledBefore g points y) (cc) settles
 
-pub settled_entry : (points : List Point) (x : Entry) → SettledBefore points x → SettledLaw points → SettledLaw (points ++ entry x ∷ [])
-settled_entry points x settles law =
-    at_entry-grows SettledBefore points (entry x) law (λ e is. same_entry x e points is settles)
+pub settled_entry : (g : NodeConfig) (points : List Point) (x : Entry) → SettledBefore g points x → SettledLaw g points
+    → SettledLaw g (points ++ entry x ∷ [])
+settled_entry g points x settles law =
+    at_entry-grows (SettledBefore g) points (entry x) law (λ e is. same_entry g x e points is settles)
 
-pub settled_stop : (points : List Point) (cause : Cause) → SettledLaw points → SettledLaw (points ++ stopped cause ∷ [])
-settled_stop points cause law = at_entry-grows SettledBefore points (stopped cause) law (λ e is. absurd (cc))
+pub settled_stop : (g : NodeConfig) (points : List Point) (cause : Cause) → SettledLaw g points
+    → SettledLaw g (points ++ stopped cause ∷ [])
+settled_stop g points cause law = at_entry-grows (SettledBefore g) points (stopped cause) law (λ e is. absurd (cc))
 
 inner_entry : (p : Point) (e : Entry) → IsInner p → p ≡ entry e → ⊥
 inner_entry p e inner is = subst IsInner is inner
 
-pub settled_inner : (g : NodeConfig) (m n : Machine) (before points : List Point) → Inner g m points n → SettledLaw before
-    → SettledLaw (before ++ points)
-settled_inner g m n before [] inner law = subst SettledLaw (sym (append-nil before)) law
+pub settled_inner : (g : NodeConfig) (m n : Machine) (before points : List Point) → Inner g m points n → SettledLaw g before
+    → SettledLaw g (before ++ points)
+settled_inner g m n before [] inner law = subst (SettledLaw g) (sym (append-nil before)) law
 settled_inner g m n before (p ∷ points) (is, mid, steps, more) law =
-    subst SettledLaw (append_assoc before (p ∷ []) points)
+    subst (SettledLaw g) (append_assoc before (p ∷ []) points)
     (settled_inner g mid n (before ++ p ∷ []) points more
-    (at_entry-grows SettledBefore before p law (λ e same. absurd (inner_entry p e is same))))
+    (at_entry-grows (SettledBefore g) before p law (λ e same. absurd (inner_entry p e is same))))
 
-pub nothing_settled : SettledLaw []
-nothing_settled [] e after is = absurd (cc)
-nothing_settled (p ∷ ps) e after is = absurd (cc)
+pub nothing_settled : (g : NodeConfig) → SettledLaw g []
+nothing_settled g [] e after is = absurd (cc)
+nothing_settled g (p ∷ ps) e after is = absurd (cc)

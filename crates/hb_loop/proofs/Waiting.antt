@@ -12,13 +12,15 @@ use Rattle.hb_model.specs.declared.config.NodeConfig.{NodeConfig}
 use Rattle.hb_model.specs.Discovery.{Discovery, Phase, dialling, live, faulted, ending}
 use Rattle.hb_model.specs.Machine.{Machine}
 use Rattle.hb_model.specs.Point.{Point, entries}
-use Rattle.hb_model.specs.Runs.{IsCalmBy, wants, output_by}
+use Rattle.hb_model.specs.Puts.{IsAllPut}
+use Rattle.hb_model.specs.Runs.{IsCalm, IsCalmBy, wants, output_by}
 use Rattle.hb_model.proofs.CallsSaid.{Said, seen, birth, open_link}
 use Rattle.hb_model.proofs.CallsLives.{lived}
 use Rattle.hb_model.proofs.DialsHeld.{is_held, other-rests, held}
 use Rattle.hb_model.proofs.CallsPhases.{Fits}
 use Rattle.hb_model.proofs.ConnectionsRun.{all_one}
-use Rattle.hb_node.specs.State.{State, Shows, due_of}
+use Rattle.hb_model.proofs.AllPut.{put_all}
+use Rattle.hb_node.specs.State.{State, Shows, Puts, due_of}
 use Rattle.hb_node.proofs.Resting as resting
 use Rattle.hb_loop.specs.declared.run.Known.{Known}
 use Rattle.hb_loop.specs.Settled.{IsSettled, asleep}
@@ -55,7 +57,7 @@ lives_current g l node known trace s alive = by (is_held (s.machine.links l).pha
 
 -- what a round left of a link is what the run says of it
 unopened_so : (g : NodeConfig) (node : State) (known : Option Known) (l : ℕ) (trace : List Entry) (s : Stands g node known trace)
-    → (s.machine.links l).phase ≡ dialling → asleep (way.Finish l) trace ≡ true → IsSettled l s.points
+    → (s.machine.links l).phase ≡ dialling → asleep (way.Finish l) trace ≡ true → IsSettled g l s.points
 unopened_so g node known l trace s is sleeps =
     let said : seen l s.points ≡ birth =
     birth_at s.points l (subst (λ (p : Phase). Fits p (seen l s.points)) is ((lived g s.machine s.points s.run).fits l)) in
@@ -77,6 +79,11 @@ reads_so node m l trace es shows is same (inl sleeps) =
 reads_so node m l trace es shows is same (inr none) =
     inr (many_wait (length (octets_of (m.links l).conn.receiver.core.out)) (wants m l) (none m shows) (resting.reads node m l shows is))
 
+-- what waits to be written is none
+none_waits : (node : State) (m : Machine) (l : ℕ) → Shows node m → (m.links l).phase ≡ live → Puts node l []
+    → octets_of (m.links l).conn.receiver.core.out ≡ []
+none_waits node m l shows is none = sym (none m shows ∙ ap (λ (p : Phase). output_by p (m.links l)) is)
+
 writes_so : (node : State) (m : Machine) (l : ℕ) (trace es : List Entry) → Shows node m → (m.links l).phase ≡ live → es ≡ trace
     → WriteRests node l (Some trace)
     → (asleep (way.Write l) es ≡ true)
@@ -84,13 +91,21 @@ writes_so : (node : State) (m : Machine) (l : ℕ) (trace es : List Entry) → S
 writes_so node m l trace es shows is same (inl sleeps) =
     inl (subst (λ (xs : List Entry). asleep (way.Write l) xs ≡ true) (sym same) sleeps)
 writes_so node m l trace es shows is same (inr none) =
-    let empty : octets_of (m.links l).conn.receiver.core.out ≡ [] =
-    sym (none m shows ∙ ap (λ (p : Phase). output_by p (m.links l)) is) in
+    let empty = none_waits node m l shows is none in
     inr (empty, (resting.all_is_put node m l shows is empty).0)
 
+puts_so : (g : NodeConfig) (node : State) (known : Option Known) (l : ℕ) (trace : List Entry) (s : Stands g node known trace)
+    → (s.machine.links l).phase ≡ live → IsCalm (s.machine.links l) → WriteRests node l (Some trace)
+    → (asleep (way.Write l) (entries s.points) ≡ true) ⊎ IsAllPut g s.points l
+puts_so g node known l trace s is calm (inl sleeps) =
+    inl (subst (λ (xs : List Entry). asleep (way.Write l) xs ≡ true) (sym s.trace_is) sleeps)
+puts_so g node known l trace s is calm (inr none) =
+    inr (put_all g s.machine s.points l s.run is calm (none_waits node s.machine l s.shows is none))
+
 opened_so : (g : NodeConfig) (node : State) (known : Option Known) (l : ℕ) (trace : List Entry) (s : Stands g node known trace)
-    → (s.machine.links l).phase ≡ live → ReadRests node l (Some trace) → WriteRests node l (Some trace) → IsSettled l s.points
-opened_so g node known l trace s is reads writes =
+    → (s.machine.links l).phase ≡ live → IsCalm (s.machine.links l) → ReadRests node l (Some trace) → WriteRests node l (Some trace)
+    → IsSettled g l s.points
+opened_so g node known l trace s is calm reads writes =
     let said : seen l s.points ≡ open_link =
     open_at s.points l (subst (λ (p : Phase). Fits p (seen l s.points)) is ((lived g s.machine s.points s.run).fits l)) in
     let one = all_one g s.machine s.points s.run l in
@@ -100,26 +115,28 @@ opened_so g node known l trace s is reads writes =
         history = record { conn = (s.machine.links l).conn; given = one.given; stands = one.stands };
         reads = reads_so node s.machine l trace (entries s.points) s.shows is s.trace_is reads;
         writes = writes_so node s.machine l trace (entries s.points) s.shows is s.trace_is writes;
+        puts = puts_so g node known l trace s is calm writes;
       };
     }
 
 known_so : (g : NodeConfig) (node : State) (known : Option Known) (l : ℕ) (is_open : Bool) (trace : List Entry) → due_of node ≡ None
     → (s : Stands g node known trace) → IsInPhase is_open (s.machine.links l).phase → TriedBy is_open l node (Some trace)
-    → IsSettled l s.points
+    → IsSettled g l s.points
 known_so g node known l true trace idle s free tried =
-    opened_so g node known l trace s
-    (live_by (s.machine.links l).phase (s.machine.links l) ((quiet_where g node known trace idle s).calm l) free) tried.0 tried.1
+    let calm = (quiet_where g node known trace idle s).calm l in
+    let lives = live_by (s.machine.links l).phase (s.machine.links l) calm free in
+    opened_so g node known l trace s lives (subst (λ (p : Phase). IsCalmBy p (s.machine.links l)) lives calm) tried.0 tried.1
 known_so g node known l false trace idle s free tried =
     unopened_so g node known l trace s
     (dialling_by (s.machine.links l).phase (s.machine.links l) ((quiet_where g node known trace idle s).calm l) free) tried
 
 settled_by : (g : NodeConfig) (node : State) (known : Option Known) (trace : List Entry) → due_of node ≡ None
     → (o : Option Known) → (s : Stands g node known trace) → Knows o s.machine → Tried o node (Some trace) → (l : ℕ)
-    → s.machine.current ≡ Some l → IsSettled l s.points
+    → s.machine.current ≡ Some l → IsSettled g l s.points
 settled_by g node known trace idle None s knows tried l is = absurd (cc)
 settled_by g node known trace idle (Some k) s knows tried l is =
     let same : k.number ≡ l = (let both : Some k.number ≡ Some l = sym knows.0 ∙ is in cc) in
-    subst (λ (i : ℕ). IsSettled i s.points) same
+    subst (λ (i : ℕ). IsSettled g i s.points) same
     (known_so g node known k.number k.is_open trace idle s knows.1 tried)
 
 pub wait_settles : (g : NodeConfig) (node : State) (known : Option Known) (ready : List ReadyItem) (how : Woken)

@@ -25,7 +25,7 @@ pub record Lawful (g : NodeConfig) (trace : List Entry) : Type 0 where
   pub connections : ConnectionLaw points
   pub requests : RequestLaw g points
   pub windows : WindowLaw points
-  pub settled : SettledLaw points
+  pub settled : SettledLaw g points
 
 -- at the end of a trace no link lives
 abbrev pub NoneLives : List Entry → Type 0

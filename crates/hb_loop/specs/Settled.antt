@@ -10,9 +10,11 @@ use Rattle.hb_world.specs.declared.entry.ReadyItem.TheVariants as item
 use Rattle.hb_world.specs.declared.entry.Way.{Way}
 use Rattle.hb_world.specs.declared.entry.Way.TheVariants as way
 use Rattle.hb_world.specs.Trace.{lives}
+use Rattle.hb_model.specs.declared.config.NodeConfig.{NodeConfig}
 use Rattle.hb_model.specs.Calls.{AtEntry, Was, WasNot, is_opened_of}
 use Rattle.hb_model.specs.Connections.{IsOneHistory}
 use Rattle.hb_model.specs.Point.{Point, entries}
+use Rattle.hb_model.specs.Puts.{IsAllPut}
 
 -- a wait names the link
 abbrev pub is_item_of : ℕ → ReadyItem → Bool
@@ -60,21 +62,23 @@ abbrev pub asleep : Way → List Entry → Bool
 asleep w trace = asleep_from w false trace
 
 -- An open link is asleep for reading, or more than 32,000 octets wait to be written on it; and it is asleep for writing, or all
--- that it owes was written: its connection is one that stands for the link's moves, and the bytes that came and went
-pub record IsTried (l : ℕ) (points : List Point) : Type 0 where
+-- that it owes was written: its connection is one that stands for the link's moves, and the bytes that came and went. And it is
+-- asleep for writing, or what went says that all is put: requests wait only where a window is used up
+pub record IsTried (g : NodeConfig) (l : ℕ) (points : List Point) : Type 0 where
   pub history : IsOneHistory points l
   pub reads : (asleep (way.Read l) (entries points) ≡ true) ⊎ (32000 < length (octets_of history.conn.receiver.core.out))
   pub writes : (asleep (way.Write l) (entries points) ≡ true)
       ⊎ ((octets_of history.conn.receiver.core.out ≡ []) × (dues history.conn.receiver.core.owed ≡ []))
+  pub puts : (asleep (way.Write l) (entries points) ≡ true) ⊎ IsAllPut g points l
 
 -- one of which no finish told that it is open is asleep for finishing
-pub record IsSettled (l : ℕ) (points : List Point) : Type 0 where
+pub record IsSettled (g : NodeConfig) (l : ℕ) (points : List Point) : Type 0 where
   pub unopened : WasNot (is_opened_of l) points → asleep (way.Finish l) (entries points) ≡ true
-  pub opened : Was (is_opened_of l) points → IsTried l points
+  pub opened : Was (is_opened_of l) points → IsTried g l points
 
-abbrev pub SettledBefore : List Point → Entry → Type 0
-SettledBefore before (e.Wait ready how) = (l : ℕ) → lives l (entries before) ≡ true → IsSettled l before
-SettledBefore before _ = ⊤
+abbrev pub SettledBefore : NodeConfig → List Point → Entry → Type 0
+SettledBefore g before (e.Wait ready how) = (l : ℕ) → lives l (entries before) ≡ true → IsSettled g l before
+SettledBefore g before _ = ⊤
 
-abbrev pub SettledLaw : List Point → Type 0
-SettledLaw points = AtEntry SettledBefore points
+abbrev pub SettledLaw : NodeConfig → List Point → Type 0
+SettledLaw g points = AtEntry (SettledBefore g) points

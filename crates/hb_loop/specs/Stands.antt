@@ -33,7 +33,7 @@ pub record Stands (g : NodeConfig) (node : State) (known : Option Known) (trace 
   pub machine : Machine
   pub run : StandsFor g machine points
   pub trace_is : entries points ≡ trace
-  pub settled : SettledLaw points
+  pub settled : SettledLaw g points
   pub goes_on : machine.over ≡ false
   pub config : node.config ≡ g
   pub shows : Shows node machine
@@ -49,7 +49,7 @@ pub record IsOver (g : NodeConfig) (trace : List Entry) : Type 0 where
   pub machine : Machine
   pub run : StandsFor g machine points
   pub trace_is : entries points ≡ trace
-  pub settled : SettledLaw points
+  pub settled : SettledLaw g points
   pub none : machine.current ≡ None
 
 abbrev pub Ended : NodeConfig → Option (List Entry) → Type 0
@@ -76,7 +76,7 @@ pub record Tells (g : NodeConfig) (node : State) (known : Option Known) (told : 
   pub before : List Entry
   pub stands : Stands g node known before
   pub may : MayCome g stands.machine told
-  pub settles : SettledBefore stands.points told
+  pub settles : SettledBefore g stands.points told
   pub grows : trace ≡ before ++ told ∷ []
 
 -- a trace that told this entry is that of a run again
@@ -96,7 +96,7 @@ pub record Lasts (g : NodeConfig) (link : ℕ) (trace : List Entry) : Type 0 whe
   pub machine : Machine
   pub run : StandsFor g machine points
   pub trace_is : entries points ≡ trace
-  pub settled : SettledLaw points
+  pub settled : SettledLaw g points
   pub goes_on : machine.over ≡ false
   pub current : machine.current ≡ Some link
   pub phase : GoesOn (machine.links link).phase

@@ -9,6 +9,7 @@ use Rattle.hb_conn.specs.declared.machine.Core.{Core}
 use Rattle.hb_model.specs.Discovery.{Phase, live, stream}
 use Rattle.hb_model.specs.Machine.{Machine}
 use Rattle.hb_model.specs.Runs.{IsCalm, wanted_by}
+use Rattle.hb_model.proofs.AllPut.{none_put}
 use Rattle.hb_node.specs.declared.link.Link.{Link}
 use Rattle.hb_node.specs.Phases.{phase_of}
 use Rattle.hb_node.specs.Links.{IsKept, SteadyBy, IsSteady}
@@ -43,20 +44,6 @@ reads s m l shows lives room =
 -- where nothing waits to be written there is room
 room_where_empty : (w : Waiting) → octets_of w ≡ [] → 17 ≤ room_of w
 room_where_empty w empty = omega (arith, ap (λ (xs : List ℕ). length xs) empty)
-
-least : (xs : List ℕ) (n : ℕ) → min (length xs) n ≡ 0 → (xs ≡ []) ⊎ (n ≡ 0)
-least [] n is = inl refl
-least (x ∷ xs) n is = inr (omega (arith, is))
-
--- where no octet is put, nothing waits, or the stream lets none go
-none_put : (c : Core) (bytes : List ℕ) (own : Bool) → c.over ≡ false → octets_of c.out ≡ []
-    → (if own then count_put c stream bytes else 0) ≡ 0 → (bytes ≡ []) ⊎ ((own ≡ false) ⊎ (allowed c stream ≡ 0))
-none_put c bytes false goes empty is = inr (inl refl)
-none_put c bytes true goes empty is = from (least bytes (allowed c stream) (rw (goes, empty) at is))
-  where
-    from : (bytes ≡ []) ⊎ (allowed c stream ≡ 0) → (bytes ≡ []) ⊎ ((true ≡ false) ⊎ (allowed c stream ≡ 0))
-    from (inl none) = inl none
-    from (inr none) = inr (inr none)
 
 -- where nothing waits to be written, all is put
 pub all_is_put : AllIsPut

@@ -14,7 +14,7 @@ returns-clause-carries c =
     let begun = c.in_ok-run.ensures {u = tt} in
     record {
       points = [];
-      settled = nothing_settled;
+      settled = nothing_settled config;
       machine = fresh config;
       run = begins refl refl;
       trace_is = refl;

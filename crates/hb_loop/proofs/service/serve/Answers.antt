@@ -58,7 +58,7 @@ pub returns-in-Err-clause-lawful : goal.returns-in-Err-clause-lawful
 returns-in-Err-clause-lawful g c = λ untouched.
     let config = c.args.words.config in
     subst (λ (o : Option (List Entry)). IfSome o (Lawful config)) (sym untouched)
-    (lawful_run config (fresh config) [] [] (begins refl refl) nothing_settled refl)
+    (lawful_run config (fresh config) [] [] (begins refl refl) (nothing_settled config) refl)
 
 pub returns-in-Err-clause-ends : goal.returns-in-Err-clause-ends
 returns-in-Err-clause-ends g c = λ untouched.
