@@ -22,8 +22,8 @@ pub record Holds (P : Core → Core → Found → Type 0) : Type 0 where
   pub faults : (c new : Core) (code : ℕ) (told : Found) → Gives (faulted c code) new told → P c new told
 
 module _ (P : Core → Core → Found → Type 0) (h : Holds P) where
-  passed : (through : List Receiver) (old last : Receiver) (new : Core) (told : Found) → Passes through old last → P last.core new told
-      → P old.core new told
+  passed : (through : List Receiver) (old last : Receiver) (new : Core) (told : Found) → Passes through old last
+      → P last.core new told → P old.core new told
   passed [] old last new told is next = subst (λ (r : Receiver). P r.core new told) is next
   passed (mid ∷ more) old last new told is next =
       h.on old.core mid.core new told (h.handled old.reader old.core mid.core found.Silent is.0.handled)
@@ -43,7 +43,8 @@ module _ (P : Core → Core → Found → Type 0) (h : Holds P) where
 
   still : (c d e : Connection) (told : Found) → d ≡ e → e.receiver.core ≡ c.receiver.core → P c.receiver.core d.receiver.core told
   still c d e told is same =
-      subst (λ (x : Connection). P c.receiver.core x.receiver.core told) (sym is) (h.same c.receiver.core e.receiver.core told same)
+      subst (λ (x : Connection). P c.receiver.core x.receiver.core told) (sym is)
+      (h.same c.receiver.core e.receiver.core told same)
 
   found_after : (b : Bool) (c d : Connection) (told : Found) → FindsAfter b c d told → P c.receiver.core d.receiver.core told
   found_after false c d told is = still c d c told is.0 refl

@@ -1,5 +1,5 @@
 -- This end's side of a stream stays open, and DATA frames stay allowed as long as any may be, until an end is told.
-use Rattle.std.proofs.Common.{◌≡◌, ◌≢◌, ◌⊎◌, inl, inr, ℕ, ◌≤◌, ◌==◌, ◌&&◌, ◌||◌, Bool, true, false, cond, List, [], ◌∷◌, Option, Some, None, is_some, IsSome, Result, Ok, Err, refl, ap, sym, ◌∙◌, subst, arith}
+use Rattle.std.proofs.Common.{◌≡◌, ◌⊎◌, inl, inr, ℕ, ◌≤◌, ◌==◌, ◌&&◌, ◌||◌, Bool, true, false, cond, List, [], ◌∷◌, Option, Some, None, is_some, Result, Ok, Err, refl, ap, sym, ◌∙◌, subst, arith}
 use Rattle.std.specs.Prelude.{nat_lt, not}
 use Rattle.std.specs.List.{list_any}
 use Rattle.std.specs.FinMap.{get, insert}
@@ -18,7 +18,7 @@ use Rattle.hb_map.specs.Keyed.{written}
 use Rattle.hb_map.proofs.Laws.{put_here, put_elsewhere, removed_elsewhere}
 use Rattle.hb_streams.specs.Answers.{answer_of}
 use Rattle.hb_streams.specs.States.{States}
-use Rattle.hb_streams.specs.Moves.{after, receives, after_answer, after_going, peer_ended, peer_side_ended, with_sides, begun, closed, refused as stream_refused}
+use Rattle.hb_streams.specs.Moves.{after, receives, after_answer, peer_ended, peer_side_ended, begun, closed, refused as stream_refused}
 use Rattle.hb_streams.specs.Numbers.{rst_stream_kind, refused_stream}
 use Rattle.hb_streams.specs.Sides.{both_open}
 use Rattle.hb_streams.specs.declared.sides.Sides.{Sides}
@@ -36,7 +36,7 @@ use Rattle.hb_conn.specs.Credit.{used_on, credit}
 use Rattle.hb_conn.specs.Data.{updated, credited_on, used, padded, is_of_idle, continued, data_goes, data_answered, on_data}
 use Rattle.hb_conn.specs.Faults.{faulted, is_active, released, broken, refused, refused_by}
 use Rattle.hb_conn.specs.Glance.{glance_at, glance_by, glance_of}
-use Rattle.hb_conn.specs.Handling.{does, Answers, HandlesBy, Handles}
+use Rattle.hb_conn.specs.Handling.{does, Answers, HandlesBy}
 use Rattle.hb_conn.specs.Headers.{headed, headers_answered, block_told, DoesBlock}
 use Rattle.hb_conn.specs.Outcome.{Outcome, outcome, Gives}
 use Rattle.hb_conn.specs.Owing.{put_now, put_later, goes_at_once, with_due, with_update, owed_paid}
@@ -102,8 +102,8 @@ credited_parts c s = update_parts (record c { flow = paid_on c.flow s }) s (due_
 
 pub credit_parts : (c : Core) (s n : ℕ) → parts (credit c s n) ≡ parts c
 credit_parts c s n =
-    cond_both _ (credited_on (used_on c s n) s) (used_on c s n) (λ (x : Core). parts x ≡ parts c) (λ is. credited_parts (used_on c s n) s)
-    (λ is. refl)
+    cond_both _ (credited_on (used_on c s n) s) (used_on c s n) (λ (x : Core). parts x ≡ parts c)
+    (λ is. credited_parts (used_on c s n) s) (λ is. refl)
 
 -- of a setting that no row refuses
 third_no : (a b c d : Bool) → (a || (b && (c || d))) ≡ false → b ≡ true → c ≡ false
@@ -114,7 +114,8 @@ third_no false true false d none is = refl
 
 large : (s : ℕ × ℕ) → is_refused_setting s ≡ false → (s.0 == max_frame_size) ≡ true → 16384 ≤ s.1
 large s fine is =
-    let no : nat_lt s.1 16384 ≡ false = third_no (s.0 == enable_push && nat_lt 1 s.1) (s.0 == max_frame_size) (nat_lt s.1 16384) (nat_lt 16777215 s.1) fine is in
+    let no : nat_lt s.1 16384 ≡ false =
+    third_no (s.0 == enable_push && nat_lt 1 s.1) (s.0 == max_frame_size) (nat_lt s.1 16384) (nat_lt 16777215 s.1) fine is in
     grind (arith, nat_tests, no)
 
 both_no : (a b : Bool) → (a || b) ≡ false → (a ≡ false) × (b ≡ false)
@@ -149,7 +150,8 @@ fine_settings f none is =
     let value : value_refusal f ≡ None =
     last_none (stream_refusal f else padding_refusal f else size_refusal f) (value_refusal f) none in
     let all = list_any is_refused_setting (settings f.payload) in
-    let no : ((f.kind == settings_kind) && all) ≡ false = refuses_none ((f.kind == settings_kind) && all) protocol_error 11 (first_none _ _ value) in
+    let no : ((f.kind == settings_kind) && all) ≡ false =
+    refuses_none ((f.kind == settings_kind) && all) protocol_error 11 (first_none _ _ value) in
     sym (ap (λ b. b && all) is) ∙ no
 
 fine_by : (f : RawFrame) → first_refusal f ≡ None → (b : Bool) → (f.kind == settings_kind) ≡ b → IsFine (glance_at f) (lent_of f)
@@ -159,7 +161,8 @@ fine_by f none true is =
     (subst (λ (xs : List ℕ). list_any is_refused_setting (settings xs) ≡ false) (sym seen.1) (fine_settings f none is))
 fine_by f none false is = fine_others (glance_at f) (lent_of f) (no_settings f is)
 
-fine_front : (r : Reading) (o : Result (Option ℕ) Refusal) → first_of r.max r.held ≡ o → IsFine (glance_by r o) (after_frame r o).last
+fine_front : (r : Reading) (o : Result (Option ℕ) Refusal) → first_of r.max r.held ≡ o
+    → IsFine (glance_by r o) (after_frame r o).last
 fine_front r (Ok None) is = tt
 fine_front r (Err why) is = tt
 fine_front r (Ok (Some n)) is =
@@ -216,7 +219,8 @@ module _ (n : ℕ) where
       sides_open s k (record sides { peer = false }) (sides.own || false) (ap is_some is)
       (λ same. (own same, ap (λ o. o || false) (own same))) had
 
-  going_open : (s : States) (k : ℕ) (b t : Bool) → b ≡ false → IsOpen n s → IsOpen n (cond b (closed s k) (cond t (peer_ended s k) s))
+  going_open : (s : States) (k : ℕ) (b t : Bool) → b ≡ false → IsOpen n s
+      → IsOpen n (cond b (closed s k) (cond t (peer_ended s k) s))
   going_open s k true t is had = absurd (false≢true (sym is))
   going_open s k false true is had = peer_open s k (get s.active k) refl had
   going_open s k false false is had = had
@@ -227,10 +231,11 @@ module _ (n : ℕ) where
     | inr apart ↦ (had.0, put_elsewhere s.active k w n apart ∙ had.1, had.2)
   ]
 
-  answer_open : (s : States) (kind k : ℕ) (end : Bool) (r : Result Step StreamFault) → (kind == rst_stream_kind) ≡ false → IsOpen n s
-      → IsOpen n (after_answer s kind k end r)
+  answer_open : (s : States) (kind k : ℕ) (end : Bool) (r : Result Step StreamFault) → (kind == rst_stream_kind) ≡ false
+      → IsOpen n s → IsOpen n (after_answer s kind k end r)
   answer_open s kind k end (Ok step.New) other had = begun_open s k (record both_open { peer = not end }) refl had
-  answer_open s kind k end (Ok step.Goes) other had = going_open s k (kind == rst_stream_kind) (end && (kind == data_kind || kind == headers_kind)) other had
+  answer_open s kind k end (Ok step.Goes) other had =
+      going_open s k (kind == rst_stream_kind) (end && (kind == data_kind || kind == headers_kind)) other had
   answer_open s kind k end (Ok step.Ignored) other had = had
   answer_open s kind k end (Err why) other had =
       cond_both (why.code == refused_stream) (stream_refused s k) s (λ (t : States). IsOpen n t) (λ is. had) (λ is. had)
@@ -246,11 +251,13 @@ module _ (n : ℕ) where
       stays ended (released ended s) (released_parts ended s) (received c data_kind s true refl sends)
   continues c s false sends = stays c (credited_on c s) (credited_parts c s) sends
 
-  data_by : (c d : Core) (s k size : ℕ) (end : Bool) (o : Option Windows) → parts d ≡ parts c → OutLasts c (data_goes d s k size end o)
+  data_by : (c d : Core) (s k size : ℕ) (end : Bool) (o : Option Windows) → parts d ≡ parts c
+      → OutLasts c (data_goes d s k size end o)
   data_by c d s k size end None same = inr (λ sends. continues d s end (stays c d same sends))
   data_by c d s k size end (Some w) same =
-      either c (nat_lt w.taking.granted k) (broken d s flow_control_error) (outcome (continued (padded d s k size) s end) (found.Chunk s end))
-      (inl refl) (inr (λ sends. continues (padded d s k size) s end (stays c (padded d s k size) same sends)))
+      either c (nat_lt w.taking.granted k) (broken d s flow_control_error)
+      (outcome (continued (padded d s k size) s end) (found.Chunk s end)) (inl refl)
+      (inr (λ sends. continues (padded d s k size) s end (stays c (padded d s k size) same sends)))
 
   data_answers : (c d : Core) (s k size : ℕ) (end : Bool) (r : Result Step StreamFault) → parts d ≡ parts c
       → OutLasts c (data_answered d s k size end r)
@@ -263,8 +270,8 @@ module _ (n : ℕ) where
   data_lasts c s k size end =
       let r = answer_of c.streams data_kind s in
       let goes = data_answered (used c k) s k size end r in
-      either c (is_of_idle r) (faulted c protocol_error) (cond (nat_lt c.flow.taking.granted k) (faulted c flow_control_error) goes)
-      (fault c c protocol_error)
+      either c (is_of_idle r) (faulted c protocol_error)
+      (cond (nat_lt c.flow.taking.granted k) (faulted c flow_control_error) goes) (fault c c protocol_error)
       (either c (nat_lt c.flow.taking.granted k) (faulted c flow_control_error) goes (fault c c flow_control_error)
       (data_answers c (used c k) s k size end r (updated_parts _ _)))
 
@@ -328,13 +335,13 @@ module _ (n : ℕ) where
   resized_parts c new k false (inl over) = ap parts over.1
   resized_parts c new k false (inr over) = ap parts over.3
 
-  one_sends : (b : Bool) (c new : Core) (s : ℕ × ℕ) (fits : Bool) → is_refused_setting s ≡ false → AppliesBy b c s new fits → Sends n c
-      → Sends n new
+  one_sends : (b : Bool) (c new : Core) (s : ℕ × ℕ) (fits : Bool) → is_refused_setting s ≡ false → AppliesBy b c s new fits
+      → Sends n c → Sends n new
   one_sends true c new s fits fine is sends = stays c new (resized_parts c new s.1 fits is) sends
   one_sends false c new s fits fine is sends = stays (noted c s) new (ap parts is.0) (noted_sends c s fine sends)
 
-  all_send : (pairs : List (ℕ × ℕ)) (c new : Core) (fits : Bool) → list_any is_refused_setting pairs ≡ false → AppliesAll c pairs new fits
-      → Sends n c → Sends n new
+  all_send : (pairs : List (ℕ × ℕ)) (c new : Core) (fits : Bool) → list_any is_refused_setting pairs ≡ false
+      → AppliesAll c pairs new fits → Sends n c → Sends n new
   all_send [] c new fits fine is sends = stays c new (ap parts is.0) sends
   all_send (s ∷ more) c new fits fine is sends =
       let no = both_no (is_refused_setting s) (list_any is_refused_setting more) fine in
@@ -360,8 +367,8 @@ module _ (n : ℕ) where
   settings_last true c payload new told fine is = inr (stays c new (ap parts is.0))
   settings_last false c payload new told fine is = settings_by _ c _ new told fine is
 
-  answers_last : (c : Core) (g : Glance) (bytes : List ℕ) (new : Core) (told : Found) → IsFine g bytes → Answers c g bytes new told
-      → Lasts c new told
+  answers_last : (c : Core) (g : Glance) (bytes : List ℕ) (new : Core) (told : Found) → IsFine g bytes
+      → Answers c g bytes new told → Lasts c new told
   answers_last c glance.Nothing bytes new told fine is = given c _ new told (inr (λ sends. sends)) is
   answers_last c (glance.Data s k end) bytes new told fine is = given c _ new told (data_lasts c s k _ end) is
   answers_last c (glance.Headers s end whole) bytes new told fine is = block_lasts _ c new told is
@@ -369,8 +376,8 @@ module _ (n : ℕ) where
   answers_last c (glance.Settings ack) bytes new told fine is = settings_last ack c bytes new told fine is
   answers_last c (glance.Ping ack value) bytes new told fine is =
       given c (does c (glance.Ping ack value) bytes) new told
-      (either c ack (outcome c found.Silent) (outcome (sent c (ping_ack value)) found.Silent) (inr (λ sends. sends)) (inr (λ sends. sends)))
-      is
+      (either c ack (outcome c found.Silent) (outcome (sent c (ping_ack value)) found.Silent) (inr (λ sends. sends))
+      (inr (λ sends. sends))) is
   answers_last c (glance.GoAway last) bytes new told fine is = given c _ new told (inr (λ sends. sends)) is
   answers_last c (glance.Window s k) bytes new told fine is = given c _ new told (window_lasts c s k) is
   answers_last c (glance.Continuation s whole) bytes new told fine is = block_lasts _ c new told is

@@ -103,8 +103,8 @@ puts_so g node known l trace s is calm (inr none) =
     inr (put_all g s.machine s.points l s.run is calm (none_waits node s.machine l s.shows is none))
 
 opened_so : (g : NodeConfig) (node : State) (known : Option Known) (l : ℕ) (trace : List Entry) (s : Stands g node known trace)
-    → (s.machine.links l).phase ≡ live → IsCalm (s.machine.links l) → ReadRests node l (Some trace) → WriteRests node l (Some trace)
-    → IsSettled g l s.points
+    → (s.machine.links l).phase ≡ live → IsCalm (s.machine.links l) → ReadRests node l (Some trace)
+    → WriteRests node l (Some trace) → IsSettled g l s.points
 opened_so g node known l trace s is calm reads writes =
     let said : seen l s.points ≡ open_link =
     open_at s.points l (subst (λ (p : Phase). Fits p (seen l s.points)) is ((lived g s.machine s.points s.run).fits l)) in

@@ -172,11 +172,13 @@ put_all g m points l stands lives calm empty =
       held = x.conn.receiver.reader.held;
       came = record {
         joined = one.stands.came.frames_are;
-        partial = first_none x.conn.receiver.reader.max x.conn.receiver.reader.held (none_there x.conn.receiver.reader calm.looked_at.1);
+        partial = first_none x.conn.receiver.reader.max x.conn.receiver.reader.held
+            (none_there x.conn.receiver.reader calm.looked_at.1);
       };
       gone = a.begun;
       went = sym (append-nil (sent l (entries points)))
-          ∙ ap (λ (xs : List ℕ). sent l (entries points) ++ xs) (sym (rest_none c.out.rest (out_spelled c.out.queue) empty)) ∙ a.shows;
+          ∙ ap (λ (xs : List ℕ). sent l (entries points) ++ xs) (sym (rest_none c.out.rest (out_spelled c.out.queue) empty))
+          ∙ a.shows;
       answers = ap (filter is_answer) (sym (append-nil a.begun) ∙ ap (λ (fs : List RawFrame). a.begun ++ fs) (sym none))
           ∙ answers_are_those Client (moves l points) one.given (recv l (entries points)) (sent l (entries points)) x.conn
           (history g m points l stands) still;

@@ -157,8 +157,10 @@ module _ (g : NodeConfig) (m : Machine) (points : List Point) (unborn : AreUnbor
       → RunsWith (m.links l).conn.receiver.core ps gs c
       → RunsWith fresh_client.receiver.core (moves l points ++ moves_in l p) ((asked l).begun ++ gs) c
   runs_on p l ps gs c are runs =
-      subst (λ (qs : List history.Point). RunsWith fresh_client.receiver.core (moves l points ++ qs) ((asked l).begun ++ gs) c) (sym are)
-      (begins_more (moves l points) ps fresh_client.receiver.core (m.links l).conn.receiver.core c (asked l).begun gs (asked l).begins runs)
+      subst (λ (qs : List history.Point). RunsWith fresh_client.receiver.core (moves l points ++ qs) ((asked l).begun ++ gs) c)
+      (sym are)
+      (begins_more (moves l points) ps fresh_client.receiver.core (m.links l).conn.receiver.core c (asked l).begun gs
+      (asked l).begins runs)
 
   runs_still : (p : Point) (l : ℕ) (ps : List history.Point) (c : Core) → moves_in l p ≡ ps
       → RunsWith (m.links l).conn.receiver.core ps [] c
@@ -199,7 +201,8 @@ module _ (g : NodeConfig) (m : Machine) (points : List Point) (unborn : AreUnbor
       → IsAskedOn g (points ++ entry x ∷ []) l (if k == l then with_phase change (m.links l) else m.links l)
   phase_changes x k change born going passes =
       changed (entry x) k (λ l. with_phase change (m.links l))
-      (kept (entry x) k (change (m.links k).phase) (passes k).moves (passes k).went (ap spelled ((passes k).request m.held)) (λ b. born) going)
+      (kept (entry x) k (change (m.links k).phase) (passes k).moves (passes k).went (ap spelled ((passes k).request m.held))
+      (λ b. born) going)
       (λ l apart. passes l)
 
   born_asked : (k : ℕ) (to : _) (why : _) → MayCome g m (e.Dialled k to why)
@@ -271,7 +274,8 @@ module _ (g : NodeConfig) (m : Machine) (points : List Point) (unborn : AreUnbor
       changed p k (λ l. wrote n (m.links l))
       (made p k (went x.phase) x.waiting (owing.wrote c n) (a.begun ++ begun_by n c.out) bytes [] (itself_alone k bytes) refl
       (runs_on p k (act (history.wrote n)) (begun_by n c.out) (owing.wrote c n) (on_itself k (act (history.wrote n)))
-      (begins_one (history.point (history.wrote n) found.Silent) c (owing.wrote c n) (begun_by n c.out) refl (within, (refl, refl))))
+      (begins_one (history.point (history.wrote n) found.Silent) c (owing.wrote c n) (begun_by n c.out) refl
+      (within, (refl, refl))))
       (ap₂ (λ (bs xs : List ℕ). (sent k (entries points) ++ bs) ++ xs) (sym all) same ∙ shown)
       (with_none k (a.begun ++ begun_by n c.out) x.waiting (owing.wrote c n)
       (write_asks a.begun (spelled (requests g k points)) x.waiting c n (asks_of k born)))

@@ -78,7 +78,8 @@ heard_sends g held (e.Dialled k to why) l d sends = here (k == l) (dialled g.id 
 heard_sends g held (e.DialFailed to why) l d sends = sends
 heard_sends g held (e.Opened k) l d sends =
     here (k == l) (with_phase opened d) d (carries d (with_phase opened d) (opened_going d.phase) refl sends) sends
-heard_sends g held (e.Came k bytes) l d sends = here (k == l) (came bytes d) d (carries d (came bytes d) (λ going. going) refl sends) sends
+heard_sends g held (e.Came k bytes) l d sends =
+    here (k == l) (came bytes d) d (carries d (came bytes d) (λ going. going) refl sends) sends
 heard_sends g held (e.Ended k) l d sends =
     here (k == l) (with_phase ended d) d (carries d (with_phase ended d) (ended_going d.phase) refl sends) sends
 heard_sends g held (e.Broke k) l d sends =
