@@ -1,5 +1,5 @@
 -- Where nothing waits to be written on a link, all is put.
-use Rattle.std.proofs.Common.{◌≡◌, ◌⊎◌, inl, inr, ℕ, zero, suc, ◌+◌, ◌≤◌, ◌==◌, Bool, true, false, min, if◌then◌else◌, pos, ◌+ℤ◌, ◌≤ℤ◌, filter, fold, List, [], ◌∷◌, ◌++◌, length, Option, Some, None, is_some, refl, ap, sym, ◌∙◌, subst, arith}
+use Rattle.std.proofs.Common.{◌≡◌, ◌⊎◌, inl, inr, ℕ, zero, suc, ◌+◌, ◌≤◌, Bool, true, false, min, if◌then◌else◌, pos, ◌+ℤ◌, ◌≤ℤ◌, filter, fold, List, [], ◌∷◌, ◌++◌, length, Option, Some, None, is_some, refl, ap, sym, ◌∙◌, subst, arith}
 use Rattle.std.specs.FinMap.{get}
 use Rattle.std.proofs.lemmas.Bool.{false≢true}
 use Rattle.std.proofs.lemmas.Int.{ints}
@@ -16,12 +16,10 @@ use Rattle.hb_flow.specs.Windows.{Windows, room, first_size}
 use Rattle.hb_flow.specs.Flows.{sendable_by}
 use Rattle.hb_flow.specs.Sizes.{unbegun_on}
 use Rattle.hb_outgoing.specs.Selected.{data_size, first_data}
-use Rattle.hb_outgoing.specs.Waiting.{Waiting, octets_of, spelled as out_spelled}
-use Rattle.hb_conn.specs.Connection.{Connection}
+use Rattle.hb_outgoing.specs.Waiting.{octets_of, spelled as out_spelled}
 use Rattle.hb_conn.specs.Payload.{allowed, count_put}
 use Rattle.hb_conn.specs.Windows.{unbegun, unbegun_by}
 use Rattle.hb_conn.specs.declared.machine.Core.{Core}
-use Rattle.hb_conn.specs.declared.found.Found.{Found}
 use Rattle.hb_history.specs.Answered.{is_answer}
 use Rattle.hb_history.specs.Points.{frames_got}
 use Rattle.hb_history.specs.History.{StandsFor as ConnStandsFor}
@@ -35,7 +33,7 @@ use Rattle.hb_history.proofs.Lives.{live_streams}
 use Rattle.hb_history.proofs.Sent.{connection_sends, streams_send}
 use Rattle.hb_world.specs.Trace.{recv, sent}
 use Rattle.hb_model.specs.declared.config.NodeConfig.{NodeConfig}
-use Rattle.hb_model.specs.Discovery.{Discovery, live, stream}
+use Rattle.hb_model.specs.Discovery.{Discovery, stream}
 use Rattle.hb_model.specs.Laws.{RunsPutAll}
 use Rattle.hb_model.specs.Machine.{Machine}
 use Rattle.hb_model.specs.Point.{Point, entries, moves}

@@ -1,5 +1,5 @@
 -- While a link goes on, this end's side of its stream is open, and the peer takes frames of 16,384 octets.
-use Rattle.std.proofs.Common.{◌≡◌, ℕ, ◌≤◌, ◌==◌, Bool, true, false, if◌then◌else◌, List, [], ◌∷◌, ◌++◌, length, drop, Ok, refl, ap, sym, ◌∙◌, subst, arith}
+use Rattle.std.proofs.Common.{◌≡◌, ℕ, ◌==◌, Bool, true, false, if◌then◌else◌, List, [], ◌++◌, length, drop, Ok, refl, ap, sym, ◌∙◌, subst, arith}
 use Rattle.std.proofs.lemmas.Bool.{cond_both}
 use Rattle.hb_base.specs.declared.cause.Cause.{Cause}
 use Rattle.hb_base.specs.declared.cause.Cause.TheVariants as cause
@@ -20,8 +20,8 @@ use Rattle.hb_history.proofs.Lasting.{IsOpen, SendsBy, parts, Sends, is_end, pai
 use Rattle.hb_world.specs.declared.entry.Entry.{Entry}
 use Rattle.hb_world.specs.declared.entry.Entry.TheVariants as e
 use Rattle.hb_model.specs.declared.config.NodeConfig.{NodeConfig}
-use Rattle.hb_model.specs.Discovery.{Discovery, Phase, unborn, dialling, live, faulted, ending, closed, opened, ended, broken, went, stopped_for, phase_by, end_by, headers_read, stream, no_link, dialled, came, wrote, on_found, ends_for, put_requests, credited, answer_to}
-use Rattle.hb_model.specs.Machine.{Machine, heard, entered, with_phase}
+use Rattle.hb_model.specs.Discovery.{Discovery, Phase, dialling, live, faulted, closed, opened, ended, broken, went, stopped_for, phase_by, end_by, headers_read, stream, dialled, came, wrote, on_found, ends_for, put_requests, credited, answer_to}
+use Rattle.hb_model.specs.Machine.{Machine, heard, with_phase}
 use Rattle.hb_model.specs.Point.{Point, entry, looked, applied, refused, used, put, stopped}
 use Rattle.hb_model.specs.Runs.{Steps, StandsFor, begins, goes_on}
 use Rattle.hb_model.proofs.ConnectionsRun.{first_number}

@@ -1,11 +1,9 @@
 -- What holds of each machine that a node shows, proved.
-use Rattle.std.proofs.Common.{◌≡◌, ◌⊎◌, ◌≤◌, ◌<◌, ℕ, ◌==◌, Bool, true, false, List, [], ◌∷◌, length, min, Option, Some, None, refl, ap, sym, subst, inl, inr, if◌then◌else◌, arith}
+use Rattle.std.proofs.Common.{◌≡◌, ◌⊎◌, ◌≤◌, ◌<◌, ℕ, ◌==◌, Bool, true, false, List, [], length, Option, Some, None, refl, ap, sym, subst, inl, inr, arith}
 use Rattle.std.proofs.lemmas.Bool.{eqb-true, eqb-false}
 use Rattle.hb_streams.specs.Sides.{sides_of}
 use Rattle.hb_streams.specs.States.{state_of}
 use Rattle.hb_outgoing.specs.Waiting.{Waiting, octets_of, room_of}
-use Rattle.hb_conn.specs.Payload.{allowed, count_put}
-use Rattle.hb_conn.specs.declared.machine.Core.{Core}
 use Rattle.hb_model.specs.Discovery.{Phase, live, stream}
 use Rattle.hb_model.specs.Machine.{Machine}
 use Rattle.hb_model.specs.Runs.{IsCalm, wanted_by}
