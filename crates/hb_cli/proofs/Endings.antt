@@ -1,5 +1,5 @@
 -- What the way in which a run ends says of its status, its bytes and its counts.
-use Rattle.std.proofs.Common.{◌≡◌, ◌≢◌, ℕ, ◌≤◌, length, take, ◌==◌, Bool, true, false, List, Option, Some, None, Result, Ok, Err, refl, sym, subst, ◌∙◌, inl, inr, ⊎_elim, arith}
+use Rattle.std.proofs.Common.{◌≡◌, ◌≢◌, ℕ, ◌≤◌, length, take, ◌==◌, Bool, true, false, List, [], Option, Some, None, Result, Ok, Err, refl, sym, subst, ◌∙◌, inl, inr, ⊎_elim, arith}
 use Rattle.std.proofs.lemmas.Bool.Decides.{nat_tests}
 use Rattle.std.proofs.lemmas.Option.{IfSome_then}
 use Rattle.std.specs.Bool.{MatchBool}
@@ -10,10 +10,18 @@ use Rattle.hb_base.specs.Count.{Rose, Counts, one_more}
 use Rattle.hb_cli.specs.declared.stop.Stop.{Stop}
 use Rattle.hb_cli.specs.declared.stop.Stop.TheVariants.{Words, NoMemory}
 use Rattle.hb_words.specs.declared.fault.WordsFault.{WordsFault}
-use Rattle.hb_words.specs.Words.{words_of, shows}
-use Rattle.hb_cli.specs.Run.{outcome_of, IsAnOutcome, status_of, stop_line, ReadsEnough, is_status, IsStated, told_line}
-use Rattle.hb_cli.specs.Ending.{Use, Run, NoFault, Untouched, Tells, takes_memory, GivesUp, Answered, WordsRefused, InputRefused, Unread, Unwritten}
-use Rattle.hb_cli.specs.Ending.{ShownInPart, Wanting, EndsWith}
+use Rattle.hb_words.specs.Words.{Command, checks, shows, replays, words_of}
+use Rattle.hb_world.specs.declared.entry.Entry.{Entry}
+use Rattle.hb_cli.specs.declared.answer.Answer.{Answer}
+use Rattle.hb_cli.specs.declared.answer.Answer.TheVariants.{Judged, Left, Replayed}
+use Rattle.hb_cli.specs.declared.answer.Printed.{Printed}
+use Rattle.hb_cli.specs.declared.answer.Printed.TheVariants.{NoMemory as Short}
+use Rattle.hb_cli.specs.Answer.{answer_text, IsMade, SuitsWords}
+use Rattle.hb_cli.specs.Input.{Leaves}
+use Rattle.hb_cli.specs.Run.{outcome_of, IsAnOutcome, status_of, stop_line, world_fault_line, turns_spent_line, ReadsEnough, is_status, is_answered}
+use Rattle.hb_cli.specs.Run.{IsStated, told_line}
+use Rattle.hb_cli.specs.Ending.{Use, Run, NoFault, Untouched, Tells, takes_memory, GivesUp, LooksAt, WritesAll, Prints, Answered, WordsRefused, InputRefused}
+use Rattle.hb_cli.specs.Ending.{Unread, Unwritten, ShownInPart, Wanting, EndsWith}
 
 -- a line that takes memory was told, or that memory is wanting
 pub made : {L E : Type 0} (text : L → List ℕ) (line : Result L E) (given stop : Stop) (err : Use) (status k : ℕ) → given ≡ stop
@@ -35,18 +43,22 @@ pick n k true e h here behind = here (equal n k e) h
 pick n k false e h here behind = behind h
 
 -- what holds at each status holds at all
-by_status : (t : Run) (P : ℕ → Type 0) → (Answered t → P 0) → (WordsRefused t → P 2) → (InputRefused t → P 3) → (Unread t → P 6)
-    → (Unwritten t → P 7) → (Wanting t → P 9) → (status : ℕ) → EndsWith t status → P status
-by_status t P p0 p2 p3 p6 p7 p9 status e =
+by_status : (t : Run) (P : ℕ → Type 0) → (Answered t [] → P 0) → (WordsRefused t → P 2) → (InputRefused t → P 3)
+    → (Answered t world_fault_line → P 4) → (Answered t turns_spent_line → P 5) → (Unread t → P 6) → (Unwritten t → P 7)
+    → (Wanting t → P 9) → (status : ℕ) → EndsWith t status → P status
+by_status t P p0 p2 p3 p4 p5 p6 p7 p9 status e =
     pick status 0 (status == 0) refl e (λ h a. subst P (sym h) (p0 a)) (λ e2.
     pick status 2 (status == 2) refl e2 (λ h a. subst P (sym h) (p2 a)) (λ e3.
-    pick status 3 (status == 3) refl e3 (λ h a. subst P (sym h) (p3 a)) (λ e6.
+    pick status 3 (status == 3) refl e3 (λ h a. subst P (sym h) (p3 a)) (λ e4.
+    pick status 4 (status == 4) refl e4 (λ h a. subst P (sym h) (p4 a)) (λ e5.
+    pick status 5 (status == 5) refl e5 (λ h a. subst P (sym h) (p5 a)) (λ e6.
     pick status 6 (status == 6) refl e6 (λ h a. subst P (sym h) (p6 a)) (λ e7.
     pick status 7 (status == 7) refl e7 (λ h a. subst P (sym h) (p7 a)) (λ e9.
-    pick status 9 (status == 9) refl e9 (λ h a. subst P (sym h) (p9 a)) (λ none. absurd none))))))
+    pick status 9 (status == 9) refl e9 (λ h a. subst P (sym h) (p9 a)) (λ none. absurd none))))))))
 
 pub status_is_one : (t : Run) (status : ℕ) → EndsWith t status → IsTrue (is_status status)
-status_is_one t = by_status t (λ s. IsTrue (is_status s)) (λ a. refl) (λ a. refl) (λ a. refl) (λ a. refl) (λ a. refl) (λ a. refl)
+status_is_one t = by_status t (λ s. IsTrue (is_status s)) (λ a. refl) (λ a. refl) (λ a. refl) (λ a. refl) (λ a. refl)
+    (λ a. refl) (λ a. refl) (λ a. refl)
 
 not_both : {A F : Type 0} (r : Result A F) → IsOk r → IsErr r → ⊥
 not_both (Ok x) p q = cc
@@ -58,28 +70,31 @@ refused_is_two t =
     let never : (s : ℕ) → IsOk (words_of t.words) → IsErr (words_of t.words) → (s ≡ 2) ⊎ (s ≡ 9) =
     λ s ok err. absurd (not_both (words_of t.words) ok err) in
     by_status t (λ s. IsErr (words_of t.words) → (s ≡ 2) ⊎ (s ≡ 9))
-    (λ a. never 0 a.1.0) (λ a h. inl refl) (λ a. never 3 a.2.0) (λ a. never 6 a.0) (λ a. never 7 a.1.0) (λ a h. inr refl)
+    (λ a. never 0 a.1.0) (λ a h. inl refl) (λ a. never 3 a.2.0) (λ a. never 4 a.1.0) (λ a. never 5 a.1.0) (λ a. never 6 a.0)
+    (λ a. never 7 a.1.0) (λ a h. inr refl)
 
 -- what holds of each input holds of the one that is told
 of_each : {X : Type 0} {Q : X → Type 0} (o : Option X) → ((x : X) → Q x) → IfSome o Q
 of_each None q = tt
 of_each (Some x) q = q x
 
-words_outcome : (words : List (List ℕ)) (fault : WordsFault) (input : List ℕ) → words_of words ≡ Err fault
-    → outcome_of words input ≡ Err (Words fault)
+words_outcome : (words : List (List ℕ)) (fault : WordsFault) (trace : List Entry) (input : List ℕ) → words_of words ≡ Err fault
+    → outcome_of words trace input ≡ Err (Words fault)
 unfolding outcome_of
-words_outcome words fault input e = rw e refl
+words_outcome words fault trace input e = rw e refl
 
 -- an outcome that is told states its status
 pub is_stated : (t : Run) (status : ℕ) → EndsWith t status
-    → IfSome t.input.bytes (λ left. IsStated (status_of (outcome_of t.words left)) status)
+    → IfSome t.input.bytes (λ left. IsStated (status_of (outcome_of t.words t.trace left)) status)
 is_stated t =
-    by_status t (λ s. IfSome t.input.bytes (λ left. IsStated (status_of (outcome_of t.words left)) s))
+    by_status t (λ s. IfSome t.input.bytes (λ left. IsStated (status_of (outcome_of t.words t.trace left)) s))
     (λ a. IfSome_then t.input.bytes a.1.1 (λ left o. rw o (inl refl)))
-    (λ a. of_each t.input.bytes (λ left. rw (words_outcome t.words a.0 left a.1) (inl refl)))
+    (λ a. of_each t.input.bytes (λ left. rw (words_outcome t.words a.0 t.trace left a.1) (inl refl)))
     (λ a. IfSome_then t.input.bytes a.2.1 (λ left o. rw o (inl (sym a.1))))
+    (λ a. IfSome_then t.input.bytes a.1.1 (λ left o. rw o (inr (inr (inl (inl refl, refl))))))
+    (λ a. IfSome_then t.input.bytes a.1.1 (λ left o. rw o (inr (inr (inl (inr (inl refl), refl))))))
     (λ a. of_each t.input.bytes (λ left. inr (inl refl)))
-    (λ a. IfSome_then t.input.bytes a.1.1 (λ left o. rw o (inr (inr (inl (refl, refl))))))
+    (λ a. IfSome_then t.input.bytes a.1.1 (λ left o. rw o (inr (inr (inl (inr (inr refl), refl))))))
     (λ a. of_each t.input.bytes (λ left. inr (inr (inr refl))))
 
 -- while memory was wanting, no fault came
@@ -92,56 +107,91 @@ no_put_fault t w = ⊎_elim (λ (quiet : NoFault t.input × Untouched t.out). qu
 -- the count of the input, and that of the output
 pub reads_counted : (t : Run) (status : ℕ) → EndsWith t status → Counts t.input.faults t.input.faults_after (status == 6)
 reads_counted t = by_status t (λ s. Counts t.input.faults t.input.faults_after (s == 6)) (λ a. a.1.4) (λ a. a.2.1) (λ a. a.2.4)
-    (λ a. a.1) (λ a. a.1.4) (λ a. no_read_fault t a)
+    (λ a. a.1.4) (λ a. a.1.4) (λ a. a.1) (λ a. a.1.4) (λ a. no_read_fault t a)
 
 pub puts_counted : (t : Run) (status : ℕ) → EndsWith t status → Counts t.out.faults t.out.faults_after (status == 7)
 puts_counted t = by_status t (λ s. Counts t.out.faults t.out.faults_after (s == 7)) (λ a. a.2.1) (λ a. a.3.1) (λ a. a.3.1) (λ a. a.2.1)
-    (λ a. a.2.1) (λ a. no_put_fault t a)
+    (λ a. a.2.1) (λ a. a.2.1) (λ a. a.2.1) (λ a. no_put_fault t a)
 
 rose : (before after : ℕ) → after ≡ one_more before → Rose before after
 rose before after e = rw e (omega arith)
 
-zero_or_nine : (t : Run) (stated status : ℕ) → EndsWith t status → IsStated stated status → stated ≡ 0
-    → (Rose t.input.faults t.input.faults_after → ⊥) → (Rose t.out.faults t.out.faults_after → ⊥) → (status ≡ 0) ⊎ (status ≡ 9)
-zero_or_nine t stated status e (inl is) zero no_reads no_puts = inl (is ∙ zero)
-zero_or_nine t stated status e (inr (inl six)) zero no_reads no_puts =
+answered_at : (status k : ℕ) → status ≡ k → IsTrue (is_answered k) → IsTrue (is_answered status)
+answered_at status k is answered = subst (λ s. IsTrue (is_answered s)) (sym is) answered
+
+answered_or_nine : (t : Run) (stated status : ℕ) → EndsWith t status → IsStated stated status → stated ≡ 0
+    → (Rose t.input.faults t.input.faults_after → ⊥) → (Rose t.out.faults t.out.faults_after → ⊥)
+    → IsTrue (is_answered status) ⊎ (status ≡ 9)
+answered_or_nine t stated status e (inl is) zero no_reads no_puts = inl (answered_at status 0 (is ∙ zero) refl)
+answered_or_nine t stated status e (inr (inl six)) zero no_reads no_puts =
     absurd (no_reads (rose t.input.faults t.input.faults_after (at t status 6 e six).1))
-zero_or_nine t stated status e (inr (inr (inl seven))) zero no_reads no_puts =
-    absurd (no_puts (rose t.out.faults t.out.faults_after (at t status 7 e seven.0).2.1))
-zero_or_nine t stated status e (inr (inr (inr nine))) zero no_reads no_puts = inr nine
+answered_or_nine t stated status e (inr (inr (inl (inl four, is)))) zero no_reads no_puts = inl (answered_at status 4 four refl)
+answered_or_nine t stated status e (inr (inr (inl (inr (inl five), is)))) zero no_reads no_puts = inl (answered_at status 5 five refl)
+answered_or_nine t stated status e (inr (inr (inl (inr (inr seven), is)))) zero no_reads no_puts =
+    absurd (no_puts (rose t.out.faults t.out.faults_after (at t status 7 e seven).2.1))
+answered_or_nine t stated status e (inr (inr (inr nine))) zero no_reads no_puts = inr nine
 
--- where 0 is stated and no count rose, 0 comes, or 9
-pub is_complete : (t : Run) (status : ℕ) → EndsWith t status → IfSome t.input.bytes (λ left. status_of (outcome_of t.words left) ≡ 0
-    → (Rose t.input.faults t.input.faults_after → ⊥) → (Rose t.out.faults t.out.faults_after → ⊥) → (status ≡ 0) ⊎ (status ≡ 9))
+-- where 0 is stated and no count rose, the answer comes whole, or 9
+pub is_complete : (t : Run) (status : ℕ) → EndsWith t status → IfSome t.input.bytes (λ left. status_of (outcome_of t.words t.trace left) ≡ 0
+    → (Rose t.input.faults t.input.faults_after → ⊥) → (Rose t.out.faults t.out.faults_after → ⊥)
+    → IsTrue (is_answered status) ⊎ (status ≡ 9))
 is_complete t status e =
-    IfSome_then t.input.bytes (is_stated t status e) (λ left is. zero_or_nine t (status_of (outcome_of t.words left)) status e is)
+    IfSome_then t.input.bytes (is_stated t status e) (λ left is. answered_or_nine t (status_of (outcome_of t.words t.trace left)) status e is)
 
--- 0, 3 and 7 come after enough was read
-pub reads_enough : (t : Run) (status : ℕ) → EndsWith t status → (status ≡ 0) ⊎ (status ≡ 3) ⊎ (status ≡ 7)
+-- what an answer says that is printed whole
+abbrev pub Whole : Run → Type 0
+Whole t = (text : List ℕ) × LooksAt t.words t.trace t.input (Ok text) × WritesAll t.out text
+
+-- at 0, 4 and 5 the answer is printed whole
+pub is_whole : (t : Run) (status : ℕ) → EndsWith t status → IsTrue (is_answered status) → Whole t
+is_whole t = by_status t (λ s. IsTrue (is_answered s) → Whole t) (λ a h. (a.0, a.1, a.2)) (λ a h. absurd cc) (λ a h. absurd cc)
+    (λ a h. (a.0, a.1, a.2)) (λ a h. (a.0, a.1, a.2)) (λ a h. absurd cc) (λ a h. absurd cc) (λ a h. absurd cc)
+
+-- these, 3 and 7 come after enough was read
+pub reads_enough : (t : Run) (status : ℕ) → EndsWith t status → IsTrue (is_answered status) ⊎ (status ≡ 3) ⊎ (status ≡ 7)
     → ReadsEnough t.input.bytes t.input.bytes_after
-reads_enough t status e (inl h) = (at t status 0 e h).1.3
+reads_enough t status e (inl h) = (is_whole t status e h).1.3
 reads_enough t status e (inr (inl h)) = (at t status 3 e h).2.3
 reads_enough t status e (inr (inr h)) = (at t status 7 e h).1.3
 
--- but at 0, 7 and 9 nothing is printed
-pub is_quiet : (t : Run) (status : ℕ) → EndsWith t status → status ≢ 0 → status ≢ 7 → status ≢ 9 → t.out.bytes_after ≡ t.out.bytes
-is_quiet t = by_status t (λ s. s ≢ 0 → s ≢ 7 → s ≢ 9 → t.out.bytes_after ≡ t.out.bytes)
-    (λ a n0 n7 n9. absurd (n0 refl)) (λ a n0 n7 n9. a.3.0) (λ a n0 n7 n9. a.3.0) (λ a n0 n7 n9. a.2.0)
-    (λ a n0 n7 n9. absurd (n7 refl)) (λ a n0 n7 n9. absurd (n9 refl))
+-- but at these, 7 and 9 nothing is printed
+pub is_quiet : (t : Run) (status : ℕ) → EndsWith t status → is_answered status ≡ false → status ≢ 7 → status ≢ 9
+    → t.out.bytes_after ≡ t.out.bytes
+is_quiet t = by_status t (λ s. is_answered s ≡ false → s ≢ 7 → s ≢ 9 → t.out.bytes_after ≡ t.out.bytes)
+    (λ a no n7 n9. absurd cc) (λ a no n7 n9. a.3.0) (λ a no n7 n9. a.3.0) (λ a no n7 n9. absurd cc) (λ a no n7 n9. absurd cc)
+    (λ a no n7 n9. a.2.0) (λ a no n7 n9. absurd (n7 refl)) (λ a no n7 n9. absurd (n9 refl))
 
 -- where memory was wanting nothing is printed, or a part of what `show` prints
 pub in_part : (t : Run) → Wanting t → (t.out.bytes_after ≡ t.out.bytes) ⊎ ((text : List ℕ) × (words_of t.words ≡ Ok shows)
-    × IsAnOutcome t.words (Ok text) × IfSome t.input.bytes (λ left. outcome_of t.words left ≡ Ok text)
+    × IsAnOutcome t.words t.trace (Ok text) × IfSome t.input.bytes (λ left. outcome_of t.words t.trace left ≡ Ok text)
     × ((n : ℕ) × (n ≤ length text) × Appends t.out.bytes t.out.bytes_after (take n text)))
 in_part t w = ⊎_elim (λ (quiet : NoFault t.input × Untouched t.out). inl quiet.1.0)
     (λ (part : ShownInPart t). inr (part.0, part.1, part.2.2, part.2.1, part.3.0)) w.0
 
-told_at_three : (t : Run) (stop : Stop) (left : Option (List ℕ)) → IfSome left (λ input. outcome_of t.words input ≡ Err stop)
-    → Tells t.err (stop_line stop) → IfSome (told_line 3 t.words left) (λ text. Tells t.err text)
+told_at_three : (t : Run) (stop : Stop) (left : Option (List ℕ)) → IfSome left (λ input. outcome_of t.words t.trace input ≡ Err stop)
+    → Tells t.err (stop_line stop) → IfSome (told_line 3 t.words t.trace left) (λ text. Tells t.err text)
 told_at_three t stop None o l = tt
 told_at_three t stop (Some input) o l = rw o l
 
 -- the line of the status is told
-pub is_told : (t : Run) (status : ℕ) → EndsWith t status → IfSome (told_line status t.words t.input.bytes) (λ text. Tells t.err text)
-is_told t = by_status t (λ s. IfSome (told_line s t.words t.input.bytes) (λ text. Tells t.err text))
-    (λ a. a.3) (λ a. rw a.1 a.4) (λ a. told_at_three t a.0 t.input.bytes a.2.1 a.4) (λ a. a.3) (λ a. a.3) (λ a. a.1)
+pub is_told : (t : Run) (status : ℕ) → EndsWith t status → IfSome (told_line status t.words t.trace t.input.bytes) (λ text. Tells t.err text)
+is_told t = by_status t (λ s. IfSome (told_line s t.words t.trace t.input.bytes) (λ text. Tells t.err text))
+    (λ a. a.3) (λ a. rw a.1 a.4) (λ a. told_at_three t a.0 t.input.bytes a.2.1 a.4) (λ a. a.3) (λ a. a.3) (λ a. a.3) (λ a. a.3)
+    (λ a. a.1)
+
+shows_of : (w : Result Command WordsFault) (l : Leaves) → SuitsWords w (Left l) → w ≡ Ok shows
+shows_of (Ok (checks q)) l suits = absurd suits
+shows_of (Ok shows) l suits = refl
+shows_of (Ok (replays r)) l suits = absurd suits
+shows_of (Err fault) l suits = absurd suits
+
+-- memory was wanting while an answer was printed: it is one of `show`
+pub wanting : (t : Run) (a : Answer) (p : Printed) (status : ℕ) → p ≡ Short → (IsMade a → p ≢ Short) → SuitsWords (words_of t.words) a
+    → LooksAt t.words t.trace t.input (Ok (answer_text a)) → Prints t.out (answer_text a) p → status ≡ 9 → Tells t.err (stop_line NoMemory)
+    → EndsWith t status
+wanting t (Judged judged) p status short made suits looks prints nine told = absurd (made tt short)
+wanting t (Left l) p status short made suits looks prints nine told = rw nine (
+  inr (answer_text (Left l), shows_of (words_of t.words) l suits, looks, subst (Prints t.out (answer_text (Left l))) short prints),
+  told,
+)
+wanting t (Replayed told) p status short made suits looks prints nine says = absurd (made tt short)

@@ -11,6 +11,7 @@ use Rattle.hb_grpc.specs.Framed.{Framed, framed_of}
 use Rattle.hb_grpc.specs.Reading.{first_of}
 use Rattle.hb_grpc.proofs.Whole.{framed_message, framed_none, framed_fault, behind_is_shorter}
 use Rattle.hb_cli.specs.declared.input.Refused.{Refused}
+use Rattle.hb_cli.specs.declared.input.Refused.TheVariants.{Message}
 use Rattle.hb_cli.specs.declared.input.InputWhy.{InputWhy}
 use Rattle.hb_cli.specs.Taking.{numbered}
 use Rattle.hb_cli.specs.Input.{longest_input, Leaves, with_message, rest_why, at_message, left_after, left_through, front_by, with_front}
@@ -78,7 +79,7 @@ goes_on tells k l next bytes taken total e so_far =
 
 refused_by : (tells : Bool) (k : ℕ) (l : Leaves) (bytes : List ℕ) (t : Result (Option ℕ) GrpcFault) (why : InputWhy)
     → 0 < length bytes → first_of longest_input bytes ≡ t → front_taken tells l bytes t ≡ Err why
-    → left_through tells k l bytes ≡ Err (record { message = k; why = why })
+    → left_through tells k l bytes ≡ Err (Message k why)
 refused_by tells k l bytes (Ok (Some size)) why lt first e =
     through tells k l bytes _ (framed_message longest_input size bytes first)
     ∙ ap (λ r. and_then (at_message k r) (λ x. left_after tells (k + 1) x (framed_of longest_input (drop (5 + size) bytes)).messages

@@ -2,3 +2,4 @@ mod Endings
 mod Inputs
 mod Outcomes
 mod Printing
+mod Scripts

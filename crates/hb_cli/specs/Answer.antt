@@ -1,22 +1,24 @@
 -- What an answer prints.
-use Rattle.std.specs.Prelude.{ℕ, List, Result, Ok, Err}
+use Rattle.std.specs.Prelude.{⊤, ℕ, List, Result, Ok, Err}
 use Rattle.hb_base.specs.declared.or.Or.{Or}
-use Rattle.hb_words.specs.Words.{Command, checks, shows}
+use Rattle.hb_words.specs.Words.{Command, checks, shows, replays}
 use Rattle.hb_words.specs.declared.fault.WordsFault.{WordsFault}
 use Rattle.hb_cli.specs.declared.input.Refused.{Refused}
 use Rattle.hb_cli.specs.declared.stop.Stop.{Stop}
 use Rattle.hb_cli.specs.declared.answer.Answer.{Answer}
-use Rattle.hb_cli.specs.declared.answer.Answer.TheVariants.{Judged as IsJudgement, Left as IsLeft}
+use Rattle.hb_cli.specs.declared.answer.Answer.TheVariants.{Judged as IsJudgement, Left as IsLeft, Replayed as IsReplayed}
 use Rattle.hb_cli.specs.Run.{answer_line, shown}
 
 abbrev pub answer_text : Answer → List ℕ
 answer_text (IsJudgement judged) = answer_line judged
 answer_text (IsLeft left) = shown left
+answer_text (IsReplayed told) = told.report.items
 
--- it is an answer of `check`
-abbrev pub IsJudged : Answer → Type 0
-IsJudged (IsJudgement judged) = Unit {0}
-IsJudged (IsLeft left) = ⊥
+-- it is printed without memory
+abbrev pub IsMade : Answer → Type 0
+IsMade (IsJudgement judged) = ⊤
+IsMade (IsLeft left) = ⊥
+IsMade (IsReplayed told) = ⊤
 
 abbrev pub texts : Result Answer (Or Refused) → Result (List ℕ) (Or Refused)
 texts (Ok a) = Ok (answer_text a)
@@ -28,8 +30,10 @@ found_texts (Err stop) = Err stop
 
 -- it is an answer of this command
 abbrev pub Suits : Command → Answer → Type 0
-Suits (checks q) a = IsJudged a
-Suits shows a = IsJudged a → ⊥
+Suits (checks q) (IsJudgement judged) = ⊤
+Suits shows (IsLeft left) = ⊤
+Suits (replays r) (IsReplayed told) = ⊤
+Suits _ _ = ⊥
 
 abbrev pub SuitsWords : Result Command WordsFault → Answer → Type 0
 SuitsWords (Ok c) a = Suits c a

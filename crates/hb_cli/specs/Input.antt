@@ -12,6 +12,7 @@ use Rattle.hb_held.specs.Held.{Resources, nothing_held}
 use Rattle.hb_held.specs.Outcome.{after_response, outcome_of}
 use Rattle.hb_lines.specs.Outcome.{outcome_text}
 use Rattle.hb_cli.specs.declared.input.Refused.{Refused}
+use Rattle.hb_cli.specs.declared.input.Refused.TheVariants.{Message}
 use Rattle.hb_cli.specs.declared.input.InputWhy.{InputWhy}
 use Rattle.hb_cli.specs.declared.input.InputWhy.TheVariants.{Compressed, TooLong, CutShort, NotAResponse}
 
@@ -52,12 +53,12 @@ rest_why rest = why_of (first_of longest_input rest) (if length rest == 0 then N
 
 abbrev pub at_message : {A : Type 0} → ℕ → Result A InputWhy → Result A Refused
 at_message k (Ok x) = Ok x
-at_message k (Err why) = Err (record { message = k; why = why })
+at_message k (Err why) = Err (Message k why)
 
 -- what these messages leave, of which the first is number k, or the first that is refused: the rest is refused last
 abbrev pub left_after : Bool → ℕ → Leaves → List (List ℕ) → Option InputWhy → Result Leaves Refused
 left_after tells k l [] None = Ok l
-left_after tells k l [] (Some why) = Err (record { message = k; why = why })
+left_after tells k l [] (Some why) = Err (Message k why)
 left_after tells k l (m ∷ ms) rest = and_then (at_message k (with_message tells l m)) (λ next. left_after tells (k + 1) next ms rest)
 
 -- what the messages of bytes leave, of which the first is number k

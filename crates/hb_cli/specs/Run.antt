@@ -5,14 +5,21 @@ use Rattle.std.specs.List.{list_any, flat_map}
 use Rattle.std.specs.Option.{option_map}
 use Rattle.hb_base.specs.Count.{one_more}
 use Rattle.hb_held.specs.Rows.{rows}
-use Rattle.hb_lines.specs.Row.{row_text}
+use Rattle.hb_lines.specs.Row.{row_text as held_text}
+use Rattle.hb_replay.specs.Run.{report_of}
+use Rattle.hb_script.specs.declared.fault.ScriptFault.{ScriptFault}
+use Rattle.hb_script.specs.declared.fault.ScriptWhy.{ScriptWhy}
+use Rattle.hb_script.specs.declared.fault.ScriptWhy.TheVariants as row
+use Rattle.hb_script.specs.Script.{lines}
 use Rattle.hb_wire.specs.Message.{and_then}
+use Rattle.hb_world.specs.declared.entry.Entry.{Entry}
 use Rattle.hb_words.specs.Fault.{fault_line}
-use Rattle.hb_words.specs.Words.{Command, checks, shows, words_of}
+use Rattle.hb_words.specs.Words.{Command, checks, shows, replays, words_of}
 use Rattle.hb_words.specs.declared.fault.WordsFault.{WordsFault}
 use Rattle.hb_cli.specs.declared.input.InputWhy.{InputWhy}
 use Rattle.hb_cli.specs.declared.input.InputWhy.TheVariants as why
 use Rattle.hb_cli.specs.declared.input.Refused.{Refused as Refusal}
+use Rattle.hb_cli.specs.declared.input.Refused.TheVariants.{Message, Line as BadLine}
 use Rattle.hb_cli.specs.declared.judge.Judged.{Judged}
 use Rattle.hb_cli.specs.declared.judge.Judged.TheVariants.{Admitted, Unknown, Denied}
 use Rattle.hb_cli.specs.declared.stop.Stop.{Stop}
@@ -32,7 +39,7 @@ answer_line Unknown = line (codes "unknown")
 
 -- what `show` prints: a line of each response, and then a line of each resource held, by kind and name
 abbrev pub shown : Leaves → List ℕ
-shown l = l.told ++ flat_map row_text (rows l.held)
+shown l = l.told ++ flat_map held_text (rows l.held)
 
 abbrev pub or_words : Result Command WordsFault → Result Command Stop
 or_words (Ok c) = Ok c
@@ -42,22 +49,28 @@ abbrev pub or_refused : {A : Type 0} → Result A Refusal → Result A Stop
 or_refused (Ok x) = Ok x
 or_refused (Err refusal) = Err (Refused refusal)
 
--- what a command prints by the resources that an input leaves, or the first of its messages that is refused
-abbrev pub printed_by : Command → List ℕ → Result (List ℕ) Refusal
-printed_by (checks q) input = and_then (judged_by q input) (λ j. Ok (answer_line j))
-printed_by shows input = and_then (left_by true [] [] input) (λ l. Ok (shown l))
+abbrev pub or_line : {A : Type 0} → Result A ScriptFault → Result A Refusal
+or_line (Ok x) = Ok x
+or_line (Err fault) = Err (BadLine fault)
+
+-- What a command prints by the resources that an input leaves, or the first of its messages that is refused. `replay` prints
+-- the report of the trace that it left, where each row of its input is a line.
+abbrev pub printed_by : Command → List Entry → List ℕ → Result (List ℕ) Refusal
+printed_by (checks q) trace input = and_then (judged_by q input) (λ j. Ok (answer_line j))
+printed_by shows trace input = and_then (left_by true [] [] input) (λ l. Ok (shown l))
+printed_by (replays r) trace input = and_then (or_line (lines input)) (λ script. Ok (report_of r trace))
 
 -- what a command prints after this input, or why it prints nothing
-unfoldable pub answer_after : Command → List ℕ → Result (List ℕ) Stop
-answer_after c input = if nat_lt longest_input (length input) then Err TooLong else or_refused (printed_by c input)
+unfoldable pub answer_after : Command → List Entry → List ℕ → Result (List ℕ) Stop
+answer_after c trace input = if nat_lt longest_input (length input) then Err TooLong else or_refused (printed_by c trace input)
 
--- The outcome of these words and this input: the words are looked at first, then the whole input.
-unfoldable pub outcome_of : List (List ℕ) → List ℕ → Result (List ℕ) Stop
-outcome_of words input = and_then (or_words (words_of words)) (λ c. answer_after c input)
+-- The outcome of these words and this input, and of the trace that was left: the words are looked at first, then the whole input.
+unfoldable pub outcome_of : List (List ℕ) → List Entry → List ℕ → Result (List ℕ) Stop
+outcome_of words trace input = and_then (or_words (words_of words)) (λ c. answer_after c trace input)
 
--- it is the outcome of the words and some input
-abbrev pub IsAnOutcome : List (List ℕ) → Result (List ℕ) Stop → Type 0
-IsAnOutcome words o = (input : List ℕ) × (outcome_of words input ≡ o)
+-- it is the outcome of the words, the trace and some input
+abbrev pub IsAnOutcome : List (List ℕ) → List Entry → Result (List ℕ) Stop → Type 0
+IsAnOutcome words trace o = (input : List ℕ) × (outcome_of words trace input ≡ o)
 
 -- the status of an outcome
 abbrev pub status_of : Result (List ℕ) Stop → ℕ
@@ -74,16 +87,32 @@ why_text why.TooLong = codes "too long"
 why_text why.CutShort = codes "cut short"
 why_text why.NotAResponse = codes "not a response"
 
+-- why a row of a script is no line
+abbrev pub row_text : ScriptWhy → List ℕ
+row_text row.NotJson = codes "not json"
+row_text row.NotObject = codes "not an object"
+row_text row.BadKeys = codes "bad keys"
+row_text row.BadValue = codes "bad value"
+row_text row.BadHex = codes "bad hex"
+
 -- the line that tells why there is no answer
 abbrev pub stop_line : Stop → List ℕ
 stop_line (Words fault) = fault_line fault
 stop_line TooLong = line (codes "hbone: input too long")
-stop_line (Refused refusal) = line (codes "hbone: message " ++ decimal refusal.message ++ codes ": " ++ why_text refusal.why)
+stop_line (Refused (Message number why)) = line (codes "hbone: message " ++ decimal number ++ codes ": " ++ why_text why)
+stop_line (Refused (BadLine fault)) = line (codes "hbone: line " ++ decimal fault.line ++ codes ": " ++ row_text fault.why)
 stop_line ReadFault = line (codes "hbone: read fault")
 stop_line NoMemory = line (codes "hbone: out of memory")
 
 abbrev pub write_fault_line : List ℕ
 write_fault_line = line (codes "hbone: write fault")
+
+-- the lines of a replay whose world failed, and of one whose turns were spent
+abbrev pub world_fault_line : List ℕ
+world_fault_line = line (codes "hbone: world fault")
+
+abbrev pub turns_spent_line : List ℕ
+turns_spent_line = line (codes "hbone: turns spent")
 
 -- What is written of a line: all of it, or a part from its front where a put failed. Only that counts as a fault.
 abbrev pub WritesLine : Option (List ℕ) → Option (List ℕ) → ℕ → ℕ → List ℕ → Type 0
@@ -98,11 +127,16 @@ ReadsEnough before after =
 
 -- the statuses that there are
 abbrev pub is_status : ℕ → Bool
-is_status status = list_any (λ s. s == status) (0 ∷ 2 ∷ 3 ∷ 6 ∷ 7 ∷ 9 ∷ [])
+is_status status = list_any (λ s. s == status) (0 ∷ 2 ∷ 3 ∷ 4 ∷ 5 ∷ 6 ∷ 7 ∷ 9 ∷ [])
 
--- A status is the one that is stated, or 6, or 7 where 0 is stated, or 9.
+-- the statuses at which an answer is printed whole: 0, and those of a replay that no stop ended
+abbrev pub is_answered : ℕ → Bool
+is_answered status = list_any (λ s. s == status) (0 ∷ 4 ∷ 5 ∷ [])
+
+-- A status is the one that is stated, or 6, or 4, 5 or 7 where 0 is stated, or 9.
 abbrev pub IsStated : ℕ → ℕ → Type 0
-IsStated stated status = (status ≡ stated) ⊎ (status ≡ 6) ⊎ ((status ≡ 7) × (stated ≡ 0)) ⊎ (status ≡ 9)
+IsStated stated status =
+    (status ≡ stated) ⊎ (status ≡ 6) ⊎ (((status ≡ 4) ⊎ (status ≡ 5) ⊎ (status ≡ 7)) × (stated ≡ 0)) ⊎ (status ≡ 9)
 
 abbrev pub line_of : {A : Type 0} → Result A Stop → List ℕ
 line_of (Ok x) = []
@@ -113,11 +147,13 @@ words_line (Ok c) = None
 words_line (Err fault) = Some (stop_line (Words fault))
 
 -- What is told at a status: of 3, where the input is told.
-abbrev pub told_line : ℕ → List (List ℕ) → Option (List ℕ) → Option (List ℕ)
-told_line status words left =
+abbrev pub told_line : ℕ → List (List ℕ) → List Entry → Option (List ℕ) → Option (List ℕ)
+told_line status words trace left =
     if status == 0 then Some []
     else (if status == 2 then words_line (words_of words)
-    else (if status == 3 then option_map (λ input. line_of (outcome_of words input)) left
+    else (if status == 3 then option_map (λ input. line_of (outcome_of words trace input)) left
+    else (if status == 4 then Some world_fault_line
+    else (if status == 5 then Some turns_spent_line
     else (if status == 6 then Some (stop_line ReadFault)
     else (if status == 7 then Some write_fault_line
-    else (if status == 9 then Some (stop_line NoMemory) else None)))))
+    else (if status == 9 then Some (stop_line NoMemory) else None)))))))

@@ -5,6 +5,7 @@ use Rattle.hb_base.specs.declared.or.Or.TheVariants.{Fault, NoMemory}
 use Rattle.hb_base.specs.Outcome.{Fails}
 use Rattle.hb_cli.specs.declared.input.InputWhy.{InputWhy}
 use Rattle.hb_cli.specs.declared.input.Refused.{Refused}
+use Rattle.hb_cli.specs.declared.input.Refused.TheVariants.{Message}
 use Rattle.hb_cli.specs.Input.{Leaves}
 
 -- how many bytes were taken and what is left are as stated, want of memory aside
@@ -14,5 +15,5 @@ TakesFront stated new (Err why) = Fails stated why
 
 -- the message of this number is refused
 abbrev pub numbered : ℕ → Or InputWhy → Or Refused
-numbered k (Fault why) = Fault (record { message = k; why = why })
+numbered k (Fault why) = Fault (Message k why)
 numbered k NoMemory = NoMemory

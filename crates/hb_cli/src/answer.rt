@@ -4,23 +4,27 @@ ghost use Rattle.std.specs.Prelude.{◌≡◌, ◌≢◌, ◌≤◌, ◌++◌};
 ghost use Rattle.std.specs.List.{flat_map};
 ghost use Rattle.hb_held.specs.Rows.{rows};
 ghost use Rattle.hb_lines.specs.Row.{row_text};
-ghost use Rattle.hb_cli.specs.Answer.{answer_text, IsJudged};
+ghost use Rattle.hb_cli.specs.Answer.{answer_text, IsMade};
 ghost use Rattle.hb_cli.specs.Ending.{Prints, use_of};
+ghost use Rattle.hb_cli.specs.Replaying.{EndsRun, EndsAnswer};
 ghost use Rattle.hb_cli.specs.Run.{answer_line, shown};
 ghost use Rattle.hb_cli.specs.declared.answer.Printed.TheVariants as printing;
 
 use crate::input::Left;
 use crate::judge::Judged;
+use crate::telling::tell;
 use hb_base::{Sink, put_all};
 use hb_held::Held;
 use hb_lines::row_line;
+use hb_replay::{ReplayEnd, Replayed};
 use std::alloc::Global;
 
-/// The answer of a command: of `check`, or of `show`.
+/// The answer of a command: of `check`, of `show`, or of `replay`.
 #[derive(Drop)]
 pub enum Answer {
     Judged(Judged),
     Left(Left),
+    Replayed(Replayed),
 }
 
 /// How far an answer is printed: whole; up to a put that failed; or as far as memory went.
@@ -92,10 +96,34 @@ pub fn print<K: Sink>(alloc: Global, answer: &Answer, out: &mut K) -> Printed
     ensures printed { Prints (use_of (K.written out.old) (K.written out.new) (K.faults out.old) (K.faults out.new))
         (answer_text answer.now) result }
     ensures later { K.faults out.old ≤ K.faults out.new }
-    ensures made { IsJudged answer.now → result ≢ printing.NoMemory }
+    ensures made { IsMade answer.now → result ≢ printing.NoMemory }
 {
     match answer {
         Answer::Judged(judged) => print_text(out, judged.line()),
         Answer::Left(left) => print_left(alloc, left, out),
+        Answer::Replayed(replayed) => print_text(out, replayed.report.as_slice()),
+    }
+}
+
+/// Tells how a run ended, where no stop ended it. Gives the status.
+fn end_run<E: Sink>(end: ReplayEnd, err: &mut E) -> u8
+    ensures ends { EndsRun end (use_of (E.written err.old) (E.written err.new) (E.faults err.old) (E.faults err.new)) result }
+    ensures later { E.faults err.old ≤ E.faults err.new }
+{
+    match end {
+        ReplayEnd::Stopped => 0,
+        ReplayEnd::WorldFault => tell(err, b"hbone: world fault\n", 4),
+        ReplayEnd::TurnsSpent => tell(err, b"hbone: turns spent\n", 5),
+    }
+}
+
+/// Tells how a replay ended, where no stop ended it. Gives the status behind an answer that is printed whole.
+pub fn end<E: Sink>(answer: &Answer, err: &mut E) -> u8
+    ensures ends { EndsAnswer answer.now (use_of (E.written err.old) (E.written err.new) (E.faults err.old) (E.faults err.new)) result }
+    ensures later { E.faults err.old ≤ E.faults err.new }
+{
+    match answer {
+        Answer::Judged(_) | Answer::Left(_) => 0,
+        Answer::Replayed(replayed) => end_run(replayed.end, err),
     }
 }

@@ -1,27 +1,37 @@
 //! The top call: words and input in, answer and status out.
 
-ghost use Rattle.std.specs.Prelude.{◌≡◌, ◌≢◌, ◌<◌, ◌≤◌, ◌==◌, ◌⊎◌, ℕ, List, IsTrue, IsErr, IfSome, IfOk, length, map, take, Ok, Err};
+ghost use Rattle.std.specs.Prelude.{◌≡◌, ◌≢◌, ◌<◌, ◌≤◌, ◌==◌, ◌⊎◌, ℕ, List, [], false, IsTrue, IsErr, IfSome, IfOk, length, map, take, Ok, Err};
 ghost use Rattle.std.specs.Io.KnownBytes.{Appends};
 ghost use Rattle.std.specs.Result.{MatchResult};
 ghost use Rattle.std.specs.String.{string_bytes};
 ghost use Rattle.hb_base.specs.Count.{Counts, Rose};
 ghost use Rattle.hb_base.specs.Outcome.{Answers};
+ghost use Rattle.hb_replay.specs.Run.{DoneLawfully};
+ghost use Rattle.hb_replay.specs.declared.run.ReplayEnd.{ReplayEnd as ReplayEnds};
+ghost use Rattle.hb_replay.specs.declared.run.ReplayEnd.TheVariants as ends;
 ghost use Rattle.hb_words.specs.Asked.{question, command_of};
-ghost use Rattle.hb_words.specs.Words.{shows, words_of};
+ghost use Rattle.hb_words.specs.AskedReplay.{replay_seen};
+ghost use Rattle.hb_words.specs.Replay.{Replay as Replays};
+ghost use Rattle.hb_words.specs.Words.{shows, replays, words_of};
+ghost use Rattle.hb_world.specs.Allowed.{Allowed};
 ghost use Rattle.hb_cli.specs.Answer.{texts, found_texts, Suits, SuitsWords};
 ghost use Rattle.hb_cli.specs.Ending.{FindsOut, ComesTo, EndsWith, GivesUp, use_of};
 ghost use Rattle.hb_cli.specs.Judge.{judged_by};
-ghost use Rattle.hb_cli.specs.Run.{IsAnOutcome, IsStated, ReadsEnough, WritesLine, printed_by, is_status};
+ghost use Rattle.hb_cli.specs.Replaying.{LeavesOf, CommandLeaves, LeavesBy, LeavesByWords, WordsLeaveAt, RunsTo};
+ghost use Rattle.hb_cli.specs.Run.{IsAnOutcome, IsStated, ReadsEnough, WritesLine, printed_by, is_status, is_answered};
 ghost use Rattle.hb_cli.specs.Run.{outcome_of, status_of, stop_line, told_line};
 ghost use Rattle.hb_cli.specs.declared.stop.Stop.{Stop};
 ghost use Rattle.hb_cli.specs.declared.stop.Stop.TheVariants.{NoMemory};
 
-use crate::answer::{Answer, Printed, print};
+use crate::answer::{Answer, Printed, end, print};
 use crate::input::{Refused, read_input};
 use crate::judge::{Judged, judge};
 use crate::stop::Stop;
-use hb_base::{Or, ReadStop, Sink, Source, Text, put_all, read_all};
-use hb_words::{Check, Command, read_words};
+use crate::telling::tell;
+use hb_base::{Or, ReadStop, Sink, Source, Text, read_all};
+use hb_replay::replay;
+use hb_words::{Check, Command, Replay, read_words};
+use hb_world::ScriptWorld;
 use std::alloc::{AllocError, Global};
 
 /// The most bytes of input.
@@ -50,10 +60,38 @@ fn judge_input(alloc: Global, check: &Check<'_>, input: &[u8]) -> Result<Judged,
     Ok(judge(&left.held, &check.peer, check.target))
 }
 
-/// The answer of a command by the resources that this input leaves.
-fn answer(alloc: Global, command: &Command<'_>, input: &[u8]) -> Result<Answer, Or<Refused>>
-    ensures text { Answers (texts result) (printed_by (command_of command.now) input.now) }
+/// The answer of a replay of this input.
+fn replay_input(
+    alloc: Global,
+    words: &Replay<'_>,
+    input: &[u8],
+    script: &mut ScriptWorld,
+) -> Result<Answer, Or<Refused>>
+    requires lines { script.old.lines ≡ [] }
+    requires trace { script.old.trace ≡ [] }
+    ensures text { Answers (texts result) (printed_by (replays (replay_seen words.now)) script.new.trace input.now) }
+    ensures kind { IfOk result (λ a. Suits (replays (replay_seen words.now)) a) }
+    ensures leaves { LeavesOf (replay_seen words.now) input.now script.new result }
+{
+    match replay(alloc, words, input, script) {
+        Ok(replayed) => Ok(Answer::Replayed(replayed)),
+        Err(Or::Fault(fault)) => Err(Or::Fault(Refused::Line(fault))),
+        Err(Or::NoMemory) => Err(Or::NoMemory),
+    }
+}
+
+/// The answer of a command by this input.
+fn answer(
+    alloc: Global,
+    command: &Command<'_>,
+    input: &[u8],
+    script: &mut ScriptWorld,
+) -> Result<Answer, Or<Refused>>
+    requires lines { script.old.lines ≡ [] }
+    requires trace { script.old.trace ≡ [] }
+    ensures text { Answers (texts result) (printed_by (command_of command.now) script.new.trace input.now) }
     ensures kind { IfOk result (λ a. Suits (command_of command.now) a) }
+    ensures leaves { CommandLeaves (command_of command.now) input.now script.old script.new result }
 {
     match command {
         Command::Check(check) => Ok(Answer::Judged(judge_input(alloc, check, input)?)),
@@ -62,14 +100,23 @@ fn answer(alloc: Global, command: &Command<'_>, input: &[u8]) -> Result<Answer, 
             let left = read_input(alloc, unnamed, Text::empty(alloc), true, input)?;
             Ok(Answer::Left(left))
         }
+        Command::Replay(words) => replay_input(alloc, words, input, script),
     }
 }
 
 /// The answer of a command, after the whole input is read.
-fn find_out<S: Source>(alloc: Global, command: &Command<'_>, input: &mut S) -> Result<Answer, Stop>
-    ensures found { FindsOut (command_of command.now)
+fn find_out<S: Source>(
+    alloc: Global,
+    command: &Command<'_>,
+    input: &mut S,
+    script: &mut ScriptWorld,
+) -> Result<Answer, Stop>
+    requires lines { script.old.lines ≡ [] }
+    requires trace { script.old.trace ≡ [] }
+    ensures found { FindsOut (command_of command.now) script.new.trace
         (use_of (S.left input.old) (S.left input.new) (S.faults input.old) (S.faults input.new)) (found_texts result) }
     ensures kind { IfOk result (λ a. Suits (command_of command.now) a) }
+    ensures leaves { LeavesBy (command_of command.now) (S.left input.old) script.old script.new result }
     ensures later { S.faults input.old ≤ S.faults input.new }
 {
     let bytes = match read_all(alloc, input, LONGEST_INPUT) {
@@ -78,7 +125,7 @@ fn find_out<S: Source>(alloc: Global, command: &Command<'_>, input: &mut S) -> R
         Err(ReadStop::Failed) => return Err(Stop::ReadFault),
         Err(ReadStop::NoMemory) => return Err(Stop::NoMemory),
     };
-    match answer(alloc, command, bytes.as_slice()) {
+    match answer(alloc, command, bytes.as_slice(), script) {
         Ok(answer) => Ok(answer),
         Err(Or::Fault(refused)) => Err(Stop::Refused(refused)),
         Err(Or::NoMemory) => Err(Stop::NoMemory),
@@ -86,27 +133,25 @@ fn find_out<S: Source>(alloc: Global, command: &Command<'_>, input: &mut S) -> R
 }
 
 /// The answer to these words and this input. The words are looked at first, then the whole input is read.
-fn outcome<S: Source>(alloc: Global, words: &[String], input: &mut S) -> Result<Answer, Stop>
-    ensures outcome { ComesTo (map string_bytes words.now)
+fn outcome<S: Source>(
+    alloc: Global,
+    words: &[String],
+    input: &mut S,
+    script: &mut ScriptWorld,
+) -> Result<Answer, Stop>
+    requires lines { script.old.lines ≡ [] }
+    requires trace { script.old.trace ≡ [] }
+    ensures outcome { ComesTo (map string_bytes words.now) script.new.trace
         (use_of (S.left input.old) (S.left input.new) (S.faults input.old) (S.faults input.new)) (found_texts result) }
     ensures kind { IfOk result (λ a. SuitsWords (words_of (map string_bytes words.now)) a) }
+    ensures leaves { LeavesByWords (words_of (map string_bytes words.now)) (S.left input.old) script.old script.new result }
     ensures later { S.faults input.old ≤ S.faults input.new }
 {
     match read_words(alloc, words) {
-        Ok(command) => find_out(alloc, &command, input),
+        Ok(command) => find_out(alloc, &command, input, script),
         Err(Or::Fault(fault)) => Err(Stop::Words(fault)),
         Err(Or::NoMemory) => Err(Stop::NoMemory),
     }
-}
-
-/// Writes a line as far as the sink takes it. Gives the status.
-fn tell<E: Sink>(err: &mut E, line: &[u8], status: u8) -> u8
-    ensures line { WritesLine (E.written err.old) (E.written err.new) (E.faults err.old) (E.faults err.new) line.now }
-    ensures later { E.faults err.old ≤ E.faults err.new }
-    ensures status { result ≡ status }
-{
-    let _ = put_all(err, line);
-    status
 }
 
 /// Tells a line that takes memory, or that memory is wanting. Gives the status.
@@ -138,30 +183,35 @@ fn give_up<E: Sink>(alloc: Global, stop: Stop, err: &mut E) -> u8
     }
 }
 
-/// A run, all of whose ways to end are one clause.
+/// A run, all of whose ways to end are one clause, and what it leaves of the script's world another.
 fn conclude<S: Source, K: Sink, E: Sink>(
     alloc: Global,
     words: &[String],
     input: &mut S,
     out: &mut K,
     err: &mut E,
+    script: &mut ScriptWorld,
 ) -> u8
+    requires lines { script.old.lines ≡ [] }
+    requires trace { script.old.trace ≡ [] }
     ensures ending { EndsWith (record {
       words = map string_bytes words.now;
+      trace = script.new.trace;
       input = use_of (S.left input.old) (S.left input.new) (S.faults input.old) (S.faults input.new);
       out = use_of (K.written out.old) (K.written out.new) (K.faults out.old) (K.faults out.new);
       err = use_of (E.written err.old) (E.written err.new) (E.faults err.old) (E.faults err.new);
     }) result }
+    ensures leaves { WordsLeaveAt (words_of (map string_bytes words.now)) (S.left input.old) script.old script.new result }
     ensures later_input { S.faults input.old ≤ S.faults input.new }
     ensures later_out { K.faults out.old ≤ K.faults out.new }
     ensures later_err { E.faults err.old ≤ E.faults err.new }
 {
-    let printed = match outcome(alloc, words, input) {
-        Ok(answer) => print(alloc, &answer, out),
+    let answer = match outcome(alloc, words, input, script) {
+        Ok(answer) => answer,
         Err(stop) => return give_up(alloc, stop, err),
     };
-    match printed {
-        Printed::Whole => 0,
+    match print(alloc, &answer, out) {
+        Printed::Whole => end(&answer, err),
         Printed::Failed => tell(err, b"hbone: write fault\n", 7),
         Printed::NoMemory => tell(err, b"hbone: out of memory\n", 9),
     }
@@ -169,15 +219,19 @@ fn conclude<S: Source, K: Sink, E: Sink>(
 
 /// Runs a command: `words` are those behind the program's name. The answer goes to `out`, and why there is
 /// none to `err`; a fault of `err` changes no status. The statuses: 0 done, 2 words that aren't accepted,
-/// 3 an input that is refused, 6 a read that failed, 7 a write that failed, 9 want of memory. The words are
-/// looked at first, then the whole input is read, and then it is looked at.
+/// 3 an input that is refused, 4 a replay whose world failed, 5 one whose turns were spent, 6 a read that failed,
+/// 7 a write that failed, 9 want of memory. The words are looked at first, then the whole input is read, and then it
+/// is looked at. `script` is the world that `replay` runs over; nothing happened in it before.
 pub fn run<S: Source, K: Sink, E: Sink>(
     alloc: Global,
     words: &[String],
     input: &mut S,
     out: &mut K,
     err: &mut E,
+    script: &mut ScriptWorld,
 ) -> u8
+    requires no_lines { script.old.lines ≡ [] }
+    requires no_trace { script.old.trace ≡ [] }
     ensures status { IsTrue (is_status result) }
 
     // 2 comes exactly where the words aren't accepted, want of memory aside, and nothing is read then.
@@ -185,47 +239,75 @@ pub fn run<S: Source, K: Sink, E: Sink>(
     ensures refused_words { IsErr (words_of (map string_bytes words.now)) → (result ≡ 2) ⊎ (result ≡ 9) }
     ensures reads_nothing { result ≡ 2 → S.left input.new ≡ S.left input.old }
 
-    // Of an input that is told the status is the stated one: 3 exactly by the input, 0 with its answer.
+    // Of an input that is told the status is the stated one: 3 exactly by the input, 0 with its answer; a replay that has an
+    // answer may have ended otherwise than by a stop.
     ensures stated { IfSome (S.left input.old)
-        (λ left. IsStated (status_of (outcome_of (map string_bytes words.now) left)) result) }
-    ensures complete { IfSome (S.left input.old) (λ left. status_of (outcome_of (map string_bytes words.now) left) ≡ 0
+        (λ left. IsStated (status_of (outcome_of (map string_bytes words.now) script.new.trace left)) result) }
+    ensures complete { IfSome (S.left input.old)
+        (λ left. status_of (outcome_of (map string_bytes words.now) script.new.trace left) ≡ 0
         → (Rose (S.faults input.old) (S.faults input.new) → ⊥) → (Rose (K.faults out.old) (K.faults out.new) → ⊥)
-        → (result ≡ 0) ⊎ (result ≡ 9)) }
+        → IsTrue (is_answered result) ⊎ (result ≡ 9)) }
 
     // 6 comes exactly where a take failed, and 7 where a put into out did: the count is one more then, and else the same.
     ensures read_fault { Counts (S.faults input.old) (S.faults input.new) (result == 6) }
     ensures write_fault { Counts (K.faults out.old) (K.faults out.new) (result == 7) }
 
     // The input is read to its end, or past its limit, before it is looked at.
-    ensures reads_enough { (result ≡ 0) ⊎ (result ≡ 3) ⊎ (result ≡ 7) → ReadsEnough (S.left input.old) (S.left input.new) }
+    ensures reads_enough { IsTrue (is_answered result) ⊎ (result ≡ 3) ⊎ (result ≡ 7)
+        → ReadsEnough (S.left input.old) (S.left input.new) }
 
-    // The answer, which is that of some input, and of the one that is told, is printed whole at 0 and in part at 7.
-    ensures printed { result ≡ 0 → (text : List ℕ) × IsAnOutcome (map string_bytes words.now) (Ok text)
-        × IfSome (S.left input.old) (λ left. outcome_of (map string_bytes words.now) left ≡ Ok text)
+    // The answer, which is that of some input, and of the one that is told, is printed whole at 0, 4 and 5, and in part at 7.
+    ensures printed { IsTrue (is_answered result) → (text : List ℕ)
+        × IsAnOutcome (map string_bytes words.now) script.new.trace (Ok text)
+        × IfSome (S.left input.old) (λ left. outcome_of (map string_bytes words.now) script.new.trace left ≡ Ok text)
         × Appends (K.written out.old) (K.written out.new) text }
-    ensures printed_part { result ≡ 7 → (text : List ℕ) × IsAnOutcome (map string_bytes words.now) (Ok text)
-        × IfSome (S.left input.old) (λ left. outcome_of (map string_bytes words.now) left ≡ Ok text)
+    ensures printed_part { result ≡ 7 → (text : List ℕ) × IsAnOutcome (map string_bytes words.now) script.new.trace (Ok text)
+        × IfSome (S.left input.old) (λ left. outcome_of (map string_bytes words.now) script.new.trace left ≡ Ok text)
         × ((n : ℕ) × (n < length text) × Appends (K.written out.old) (K.written out.new) (take n text)) }
 
     // At every other status nothing is printed; but where memory is wanting while `show` prints, a part is.
-    ensures quiet { result ≢ 0 → result ≢ 7 → result ≢ 9 → K.written out.new ≡ K.written out.old }
+    ensures quiet { is_answered result ≡ false → result ≢ 7 → result ≢ 9 → K.written out.new ≡ K.written out.old }
     ensures printed_wanting { result ≡ 9 → (K.written out.new ≡ K.written out.old) ⊎ ((text : List ℕ)
-        × (words_of (map string_bytes words.now) ≡ Ok shows) × IsAnOutcome (map string_bytes words.now) (Ok text)
-        × IfSome (S.left input.old) (λ left. outcome_of (map string_bytes words.now) left ≡ Ok text)
+        × (words_of (map string_bytes words.now) ≡ Ok shows)
+        × IsAnOutcome (map string_bytes words.now) script.new.trace (Ok text)
+        × IfSome (S.left input.old) (λ left. outcome_of (map string_bytes words.now) script.new.trace left ≡ Ok text)
         × ((n : ℕ) × (n ≤ length text) × Appends (K.written out.old) (K.written out.new) (take n text))) }
 
     // The line of the status is told, all of it, or a part where a put into err failed; its count counts just that.
-    ensures told { IfSome (told_line result (map string_bytes words.now) (S.left input.old))
+    ensures told { IfSome (told_line result (map string_bytes words.now) script.new.trace (S.left input.old))
         (λ text. WritesLine (E.written err.old) (E.written err.new) (E.faults err.old) (E.faults err.new) text) }
 
     // Of status 3 it is the line of a refused input, told or not; of one that is told, of its outcome.
     ensures told_refusal { result ≡ 3 → (stop : Stop) × (status_of (Err stop) ≡ 3)
-        × IfSome (S.left input.old) (λ left. outcome_of (map string_bytes words.now) left ≡ Err stop)
+        × IfSome (S.left input.old) (λ left. outcome_of (map string_bytes words.now) script.new.trace left ≡ Err stop)
         × WritesLine (E.written err.old) (E.written err.new) (E.faults err.old) (E.faults err.new) (stop_line stop) }
+
+    // A replay ran over the lines of the input that is told, and left a trace that is lawful: at 0 a stop ended it, at 4 a wait
+    // that failed, and at 5 its turns were spent; 7 comes behind any of these. At 9 what was done is lawful, and at 2, 3 and 6
+    // nothing was done.
+    ensures stopped { (r : Replays) → words_of (map string_bytes words.now) ≡ Ok (replays r) → result ≡ 0
+        → RunsTo r (S.left input.old) script.new ends.Stopped }
+    ensures world_fault { (r : Replays) → words_of (map string_bytes words.now) ≡ Ok (replays r) → result ≡ 4
+        → RunsTo r (S.left input.old) script.new ends.WorldFault }
+    ensures turns_spent { (r : Replays) → words_of (map string_bytes words.now) ≡ Ok (replays r) → result ≡ 5
+        → RunsTo r (S.left input.old) script.new ends.TurnsSpent }
+    ensures unwritten { (r : Replays) → words_of (map string_bytes words.now) ≡ Ok (replays r) → result ≡ 7
+        → (end : ReplayEnds) × RunsTo r (S.left input.old) script.new end }
+    ensures wanting { (r : Replays) → words_of (map string_bytes words.now) ≡ Ok (replays r) → result ≡ 9
+        → DoneLawfully r script.new.trace }
+    ensures nothing_done { (result ≡ 2) ⊎ (result ≡ 3) ⊎ (result ≡ 6) → script.new.trace ≡ [] }
+
+    // The script's lines allow the trace. 4 and 5 come of a replay alone, and no other command changes the script's world.
+    ensures allowed { Allowed script.new.lines script.new.trace }
+    ensures replays_alone { (result ≡ 4) ⊎ (result ≡ 5)
+        → (r : Replays) × (words_of (map string_bytes words.now) ≡ Ok (replays r)) }
+    ensures others { ((r : Replays) → words_of (map string_bytes words.now) ≡ Ok (replays r) → ⊥) → script.new ≡ script.old }
 
     ensures later_input { S.faults input.old ≤ S.faults input.new }
     ensures later_out { K.faults out.old ≤ K.faults out.new }
     ensures later_err { E.faults err.old ≤ E.faults err.new }
 {
-    conclude(alloc, words, input, out, err)
+    let status = conclude(alloc, words, input, out, err, script);
+    script.is_allowed();
+    status
 }

@@ -11,6 +11,7 @@ use hb_disco::{Response, read_response};
 use hb_grpc::{GrpcFault, first_length};
 use hb_held::Held;
 use hb_lines::outcome_line;
+use hb_script::ScriptFault;
 use std::alloc::Global;
 use std::marker::Model;
 
@@ -25,11 +26,13 @@ pub enum InputWhy {
     NotAResponse,
 }
 
-/// The first message that is refused, counted from 1.
+/// Why an input is refused.
 #[derive(Clone, Copy)]
-pub struct Refused {
-    pub message: u64,
-    pub why: InputWhy,
+pub enum Refused {
+    /// The first message that is refused, counted from 1.
+    Message { number: u64, why: InputWhy },
+    /// The first row of a script that is no line.
+    Line(ScriptFault),
 }
 
 /// The longest message.
@@ -135,10 +138,7 @@ fn numbered(number: u64, why: Or<InputWhy>) -> Or<Refused>
     ensures { result ≡ numbered number why }
 {
     match why {
-        Or::Fault(why) => Or::Fault(Refused {
-            message: number,
-            why,
-        }),
+        Or::Fault(why) => Or::Fault(Refused::Message { number, why }),
         Or::NoMemory => Or::NoMemory,
     }
 }

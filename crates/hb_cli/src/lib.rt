@@ -6,5 +6,6 @@ mod command;
 mod input;
 mod judge;
 mod stop;
+mod telling;
 
 pub use command::run;

@@ -6,6 +6,7 @@ use crate::messages::{
 };
 use hb_base::{MemSink, MemSource};
 use hb_cli::run;
+use hb_world::ScriptWorld;
 use std::process::Abort;
 
 /// The words of a question with an identity, each ended by `|`.
@@ -37,7 +38,7 @@ pub const NOTHING_FAILS: Failing = Failing {
     put: 0,
     room: 256,
     err_put: 0,
-    err_room: 256,
+    err_room: 512,
 };
 
 fn text_of(bytes: &[u8]) -> &str {
@@ -137,7 +138,15 @@ fn run_over(
     let mut input = MemSource::over(alloc, bytes, &[failing.take]).expect(rt, "memory");
     let mut out = MemSink::new(alloc, failing.room, &[failing.put]).expect(rt, "memory");
     let mut err = MemSink::new(alloc, failing.err_room, &[failing.err_put]).expect(rt, "memory");
-    let status = run(alloc, words.as_slice(), &mut input, &mut out, &mut err);
+    let mut script = ScriptWorld::new(alloc);
+    let status = run(
+        alloc,
+        words.as_slice(),
+        &mut input,
+        &mut out,
+        &mut err,
+        &mut script,
+    );
     told(rt, status, out.as_slice(), err.as_slice())
 }
 

@@ -51,7 +51,9 @@ check|--node|n1|SOURCE|spiffe://none/ns/./sa/..|TARGET|; WORKLOAD; allow";
 
 /// The forms of accepted words, which each reason names.
 const USAGE: &str =
-    "(usage: hbone check --node NODE [--network NETWORK] SOURCE IDENTITY TARGET, or hbone show)";
+    "(usage: hbone check --node NODE [--network NETWORK] SOURCE IDENTITY TARGET, hbone show, \
+     or hbone replay --node NODE --id ID --discovery TARGET [--network NETWORK] [--hbone-port PORT] [--tunnels COUNT] \
+     [--turns COUNT] [--trace] [--brief])";
 
 /// Words that aren't accepted, each ended by `|`; an empty line has none. A line that begins with `=` has the reason that
 /// is told of the next ones.

@@ -10,7 +10,8 @@ use Rattle.hb_words.specs.declared.words.Command.{Command as Given}
 use Rattle.hb_words.specs.declared.words.Command.TheVariants as given
 use Rattle.hb_words.specs.declared.options.Options.{Options as Held}
 use Rattle.hb_words.specs.declared.fault.WordsFault.{WordsFault}
-use Rattle.hb_words.specs.Words.{Question, Command, checks, shows, Options}
+use Rattle.hb_words.specs.AskedReplay.{replay_seen}
+use Rattle.hb_words.specs.Words.{Question, Command, checks, shows, replays, Options}
 
 -- a network that isn't named has the empty name
 abbrev pub network_name : Option (Bor (String Global)) → List ℕ
@@ -22,6 +23,7 @@ question c = record { node = string_bytes c.node.now; network = network_name c.n
 abbrev pub command_of : Given → Command
 command_of (given.Check c) = checks (question c)
 command_of given.Show = shows
+command_of (given.Replay r) = replays (replay_seen r)
 
 abbrev pub seen : Held → Options
 seen o = record { node = option_map (λ s. string_bytes s.now) o.node; network = option_map (λ s. string_bytes s.now) o.network }

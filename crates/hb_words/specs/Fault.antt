@@ -3,6 +3,7 @@ use Rattle.std.specs.Prelude.{ℕ, List, ◌++◌, codes}
 use Rattle.hb_base.specs.declared.target.BadTarget.TheVariants as target_faults
 use Rattle.hb_words.specs.declared.fault.WordsFault.{WordsFault}
 use Rattle.hb_words.specs.declared.fault.WordsFault.TheVariants as faults
+use Rattle.hb_words.specs.ReplayFault.{replay_text}
 use Rattle.hb_words.specs.declared.options.OptionName.{OptionName}
 use Rattle.hb_words.specs.declared.options.OptionName.TheVariants.{Node, Network}
 
@@ -26,10 +27,13 @@ fault_text faults.BadIdentity = codes "IDENTITY is neither none nor spiffe://TRU
 fault_text (faults.BadTarget target_faults.NoPort) = codes "TARGET has no port"
 fault_text (faults.BadTarget target_faults.BadIp) = codes "the address of TARGET is neither IPv4 text nor IPv6 text in brackets"
 fault_text (faults.BadTarget target_faults.BadPort) = codes "the port of TARGET is no number from 1 to 65535"
+fault_text (faults.Replay fault) = replay_text fault
 
 -- the forms of accepted words
 abbrev pub usage : List ℕ
-usage = codes " (usage: hbone check --node NODE [--network NETWORK] SOURCE IDENTITY TARGET, or hbone show)"
+usage = codes " (usage: hbone check --node NODE [--network NETWORK] SOURCE IDENTITY TARGET, hbone show,"
+    ++ codes " or hbone replay --node NODE --id ID --discovery TARGET [--network NETWORK]"
+    ++ codes " [--hbone-port PORT] [--tunnels COUNT] [--turns COUNT] [--trace] [--brief])"
 
 -- the line, with the forms of accepted words
 abbrev pub fault_line : WordsFault → List ℕ

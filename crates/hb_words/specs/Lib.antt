@@ -1,3 +1,9 @@
 pub mod Asked
+pub mod AskedReplay
 pub mod Fault
+pub mod Number
+pub mod Replay
+pub mod ReplayFault
+pub mod Spelling
+pub mod Word
 pub mod Words

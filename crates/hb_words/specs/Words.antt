@@ -1,6 +1,5 @@
--- The words of the command line: `check --node NODE [--network NETWORK] SOURCE IDENTITY TARGET`, or `show`.
-use Rattle.std.specs.Prelude.{ℕ, Bool, ◌==◌, nat_eq, List, [], ◌∷◌, length, Option, Some, None, Result, Ok, Err, if◌then◌else◌, codes}
-use Rattle.std.specs.List.{starts_with}
+-- The words of the command line: `check --node NODE [--network NETWORK] SOURCE IDENTITY TARGET`, `show`, or `replay` with its options.
+use Rattle.std.specs.Prelude.{ℕ, ◌==◌, List, [], ◌∷◌, length, Option, Some, None, Result, Ok, Err, if◌then◌else◌, codes}
 use Rattle.std.specs.Option.{unwrap_or}
 use Rattle.std.specs.Str.{bytes_eq}
 use Rattle.hb_base.specs.declared.identity.Identity.{Identity}
@@ -14,7 +13,10 @@ use Rattle.hb_wire.specs.Message.{and_then}
 use Rattle.hb_words.specs.declared.options.OptionName.{OptionName}
 use Rattle.hb_words.specs.declared.options.OptionName.TheVariants.{Node, Network}
 use Rattle.hb_words.specs.declared.fault.WordsFault.{WordsFault}
-use Rattle.hb_words.specs.declared.fault.WordsFault.TheVariants.{NoCommand, UnknownCommand, UnknownOption, Twice, NoValue, BadValue, NoNode, TooFew, TooMany, ShowTakesNone, BadSource, BadIdentity, BadTarget as NoTarget}
+use Rattle.hb_words.specs.declared.fault.WordsFault.TheVariants.{NoCommand, UnknownCommand, UnknownOption, Twice, NoValue, BadValue, NoNode, TooFew, TooMany, ShowTakesNone, BadSource, BadIdentity, BadTarget as NoTarget, Replay as BadReplay}
+use Rattle.hb_words.specs.declared.replay_fault.ReplayFault.{ReplayFault}
+use Rattle.hb_words.specs.Replay.{Replay, replay_of}
+use Rattle.hb_words.specs.Word.{is_dashed}
 
 -- what `check` asks: is this peer admitted at this target of this node of this network?
 pub record Question : Type 0 where
@@ -23,14 +25,11 @@ pub record Question : Type 0 where
   pub peer : Peer
   pub target : Target
 
--- what is asked for: an answer to a question, or what is held
+-- what is asked for: an answer to a question, what is held, or a run over a script
 pub data Command : Type 0 where
   checks : Question → Command
   shows : Command
-
--- a word that begins as an option does
-abbrev pub is_dashed : List ℕ → Bool
-is_dashed word = starts_with nat_eq word (codes "-")
+  replays : Replay → Command
 
 abbrev pub or_fault : {A : Type 0} → WordsFault → Option A → Result A WordsFault
 or_fault fault None = Err fault
@@ -115,9 +114,15 @@ abbrev pub show_of : List (List ℕ) → Result Command WordsFault
 show_of [] = Ok shows
 show_of (word ∷ words) = Err ShowTakesNone
 
+-- behind `replay`: its options and flags
+abbrev pub replayed : Result Replay ReplayFault → Result Command WordsFault
+replayed (Ok r) = Ok (replays r)
+replayed (Err fault) = Err (BadReplay fault)
+
 -- The accepted words, and what they ask; or why words aren't accepted.
 unfoldable pub words_of : List (List ℕ) → Result Command WordsFault
 words_of [] = Err NoCommand
 words_of (command ∷ words) =
     if bytes_eq command (codes "check") then and_then (options_of no_options words) (λ q. Ok (checks q))
-    else (if bytes_eq command (codes "show") then show_of words else Err UnknownCommand)
+    else (if bytes_eq command (codes "show") then show_of words
+    else (if bytes_eq command (codes "replay") then replayed (replay_of words) else Err UnknownCommand))

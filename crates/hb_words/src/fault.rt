@@ -2,15 +2,16 @@
 
 ghost use Rattle.std.specs.Prelude.{◌≡◌, IfOk};
 ghost use Rattle.std.specs.String.{string_bytes};
-ghost use Rattle.hb_words.specs.Fault.{fault_text, fault_line};
+ghost use Rattle.hb_words.specs.Fault.{fault_text, fault_line, usage};
 ghost use Rattle.hb_words.specs.declared.fault.WordsFault.TheVariants.{Twice, NoValue, BadValue, BadTarget as NoTarget};
 
 use crate::options::OptionName;
+use crate::replay_fault::ReplayFault;
 use hb_base::{BadTarget, NoMemory};
 use std::alloc::Global;
 
-/// Why words aren't accepted. The commands are `check --node NODE [--network NETWORK] SOURCE IDENTITY TARGET`
-/// and `show`.
+/// Why words aren't accepted. The commands are `check --node NODE [--network NETWORK] SOURCE IDENTITY TARGET`,
+/// `show`, and `replay` with its options.
 #[derive(Clone, Copy)]
 pub enum WordsFault {
     NoCommand,
@@ -29,6 +30,8 @@ pub enum WordsFault {
     BadSource,
     BadIdentity,
     BadTarget(BadTarget),
+    /// Behind `replay`.
+    Replay(ReplayFault),
 }
 
 fn target_text(fault: BadTarget) -> &'static str
@@ -68,6 +71,15 @@ fn bad_value_text(name: OptionName) -> &'static str
     }
 }
 
+/// The forms of accepted words.
+fn usage() -> &'static str
+    ensures { result.now ≡ usage }
+{
+    " (usage: hbone check --node NODE [--network NETWORK] SOURCE IDENTITY TARGET, hbone show, \
+     or hbone replay --node NODE --id ID --discovery TARGET [--network NETWORK] \
+     [--hbone-port PORT] [--tunnels COUNT] [--turns COUNT] [--trace] [--brief])"
+}
+
 impl WordsFault {
     fn text(self) -> &'static str
         ensures { result.now ≡ fault_text self }
@@ -88,6 +100,7 @@ impl WordsFault {
                 "IDENTITY is neither none nor spiffe://TRUST_DOMAIN/ns/NAMESPACE/sa/SERVICE_ACCOUNT"
             }
             WordsFault::BadTarget(fault) => target_text(fault),
+            WordsFault::Replay(fault) => fault.text(),
         }
     }
 
@@ -96,8 +109,7 @@ impl WordsFault {
         ensures { IfOk result (λ l. string_bytes l ≡ fault_line self) }
     {
         let text = self.text();
-        format!(in alloc;
-            "hbone: words: {text} (usage: hbone check --node NODE [--network NETWORK] SOURCE IDENTITY TARGET, or hbone show)\n"
-        )
+        let usage = usage();
+        format!(in alloc; "hbone: words: {text}{usage}\n")
     }
 }

@@ -4,7 +4,8 @@ ghost use Rattle.std.specs.Prelude.{◌≡◌};
 ghost use Rattle.std.specs.Result.{result_map_both};
 ghost use Rattle.std.specs.String.{string_bytes};
 ghost use Rattle.hb_words.specs.Asked.{seen, seen_answer};
-ghost use Rattle.hb_words.specs.Words.{is_dashed, option_of, value_of, set, with_option};
+ghost use Rattle.hb_words.specs.Word.{is_dashed};
+ghost use Rattle.hb_words.specs.Words.{option_of, value_of, set, with_option};
 
 use crate::fault::WordsFault;
 

@@ -5,10 +5,11 @@ ghost use Rattle.std.specs.String.{string_bytes};
 ghost use Rattle.hb_base.specs.Outcome.{Answers};
 ghost use Rattle.hb_words.specs.Asked.{network_name, seen, asked, commanded};
 ghost use Rattle.hb_words.specs.Words.{identity_or_none, question_of, places_of, option_of};
-ghost use Rattle.hb_words.specs.Words.{asked_of, alone_of, options_of, words_of};
+ghost use Rattle.hb_words.specs.Words.{asked_of, alone_of, options_of, show_of, words_of};
 
 use crate::fault::WordsFault;
 use crate::options::{Options, is_dashed, read_option};
+use crate::replay::{Replay, read_replay};
 use hb_base::{Identity, Or, Peer, Target, read_identity, read_ip, read_target};
 use std::alloc::Global;
 
@@ -27,6 +28,7 @@ pub struct Check<'a> {
 pub enum Command<'a> {
     Check(Check<'a>),
     Show,
+    Replay(Replay<'a>),
 }
 
 /// `none`, or the text of an identity.
@@ -144,6 +146,17 @@ fn read_options<'a>(
     }
 }
 
+/// Behind `show`: nothing.
+fn show(words: &[String]) -> Result<Command<'_>, Or<WordsFault>>
+    ensures { Answers (commanded result) (show_of (map string_bytes words.now)) }
+{
+    if words.is_empty() {
+        Ok(Command::Show)
+    } else {
+        Err(Or::Fault(WordsFault::ShowTakesNone))
+    }
+}
+
 /// What the words ask for, or why they aren't accepted.
 #[tactic(auto, unfolding(crate::specs::Words::words_of))]
 pub fn read_words(alloc: Global, words: &[String]) -> Result<Command<'_>, Or<WordsFault>>
@@ -159,12 +172,14 @@ pub fn read_words(alloc: Global, words: &[String]) -> Result<Command<'_>, Or<Wor
         };
         return Ok(Command::Check(read_options(alloc, none, rest)?));
     }
-    if command.as_bytes() != b"show".as_slice() {
+    if command.as_bytes() == b"show".as_slice() {
+        return show(rest);
+    }
+    if command.as_bytes() != b"replay".as_slice() {
         return Err(Or::Fault(WordsFault::UnknownCommand));
     }
-    if rest.is_empty() {
-        Ok(Command::Show)
-    } else {
-        Err(Or::Fault(WordsFault::ShowTakesNone))
+    match read_replay(rest) {
+        Ok(replay) => Ok(Command::Replay(replay)),
+        Err(fault) => Err(Or::Fault(WordsFault::Replay(fault))),
     }
 }

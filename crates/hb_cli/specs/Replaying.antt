@@ -1,0 +1,82 @@
+-- What the world of a script is left as: a replay runs over it, and no other command makes a call on it.
+use Rattle.std.specs.Prelude.{◌≡◌, ◌≢◌, ℕ, ◌==◌, List, [], Option, Some, IfSome, Result, Ok, Err}
+use Rattle.std.specs.Bool.{MatchBool}
+use Rattle.hb_base.specs.declared.or.Or.{Or}
+use Rattle.hb_base.specs.declared.or.Or.TheVariants.{Fault, NoMemory as Lacks}
+use Rattle.hb_script.specs.Script.{lines}
+use Rattle.hb_words.specs.declared.fault.WordsFault.{WordsFault}
+use Rattle.hb_words.specs.Replay.{Replay}
+use Rattle.hb_words.specs.Words.{Command, replays}
+use Rattle.hb_world.specs.WorldState.{ScriptState}
+use Rattle.hb_replay.specs.declared.run.ReplayEnd.{ReplayEnd}
+use Rattle.hb_replay.specs.declared.run.ReplayEnd.TheVariants as ends
+use Rattle.hb_replay.specs.Run.{IsRun, DoneLawfully}
+use Rattle.hb_cli.specs.declared.answer.Answer.{Answer}
+use Rattle.hb_cli.specs.declared.answer.Answer.TheVariants.{Judged, Left, Replayed}
+use Rattle.hb_cli.specs.declared.input.Refused.{Refused}
+use Rattle.hb_cli.specs.declared.stop.Stop.{Stop}
+use Rattle.hb_cli.specs.declared.stop.Stop.TheVariants.{NoMemory}
+use Rattle.hb_cli.specs.Ending.{Use, Tells}
+use Rattle.hb_cli.specs.Run.{world_fault_line, turns_spent_line}
+
+-- the lines of this input, where it is told, were run over, and the run ended so
+abbrev pub RunsTo : Replay → Option (List ℕ) → ScriptState → ReplayEnd → Type 0
+RunsTo r input world end = IfSome input (λ left. lines left ≡ Ok world.lines) × IsRun r end world.trace
+
+-- what an answer of a replay says of its script's world
+abbrev pub AnswersFrom : Replay → Option (List ℕ) → ScriptState → Answer → Type 0
+AnswersFrom r input world (Replayed told) = RunsTo r input world told.end
+AnswersFrom r input world _ = ⊥
+
+-- what a replay leaves: where it has no answer, want of memory aside, nothing was done
+abbrev pub Leaves : Replay → Option (List ℕ) → ScriptState → Result Answer Stop → Type 0
+Leaves r input world (Ok a) = AnswersFrom r input world a
+Leaves r input world (Err NoMemory) = DoneLawfully r world.trace
+Leaves r input world (Err _) = world.trace ≡ []
+
+-- the same of an input that is there, and of a command by it
+abbrev pub LeavesOf : Replay → List ℕ → ScriptState → Result Answer (Or Refused) → Type 0
+LeavesOf r input world (Ok a) = AnswersFrom r (Some input) world a
+LeavesOf r input world (Err (Fault refusal)) = world.trace ≡ []
+LeavesOf r input world (Err Lacks) = DoneLawfully r world.trace
+
+abbrev pub CommandLeaves : Command → List ℕ → ScriptState → ScriptState → Result Answer (Or Refused) → Type 0
+CommandLeaves (replays r) input before after result = LeavesOf r input after result
+CommandLeaves _ input before after result = after ≡ before
+
+abbrev pub LeavesBy : Command → Option (List ℕ) → ScriptState → ScriptState → Result Answer Stop → Type 0
+LeavesBy (replays r) input before after result = Leaves r input after result
+LeavesBy _ input before after result = after ≡ before
+
+-- words that aren't accepted leave it as it was
+abbrev pub LeavesByWords : Result Command WordsFault → Option (List ℕ) → ScriptState → ScriptState → Result Answer Stop → Type 0
+LeavesByWords (Ok c) input before after result = LeavesBy c input before after result
+LeavesByWords (Err fault) input before after result = after ≡ before
+
+-- the status of a run that ended so, and its line
+abbrev pub EndsRun : ReplayEnd → Use → ℕ → Type 0
+EndsRun ends.Stopped err status = (status ≡ 0) × Tells err []
+EndsRun ends.WorldFault err status = (status ≡ 4) × Tells err world_fault_line
+EndsRun ends.TurnsSpent err status = (status ≡ 5) × Tells err turns_spent_line
+
+abbrev pub EndsAnswer : Answer → Use → ℕ → Type 0
+EndsAnswer (Judged judged) err status = (status ≡ 0) × Tells err []
+EndsAnswer (Left left) err status = (status ≡ 0) × Tells err []
+EndsAnswer (Replayed told) err status = EndsRun told.end err status
+
+-- What a replay leaves at each status.
+abbrev pub LeavesAt : Replay → Option (List ℕ) → ScriptState → ℕ → Type 0
+LeavesAt r input world status =
+    MatchBool (status == 0) (RunsTo r input world ends.Stopped)
+    (MatchBool (status == 4) (RunsTo r input world ends.WorldFault)
+    (MatchBool (status == 5) (RunsTo r input world ends.TurnsSpent)
+    (MatchBool (status == 7) ((end : ReplayEnd) × RunsTo r input world end)
+    (MatchBool (status == 9) (DoneLawfully r world.trace) (world.trace ≡ [])))))
+
+abbrev pub CommandLeavesAt : Command → Option (List ℕ) → ScriptState → ScriptState → ℕ → Type 0
+CommandLeavesAt (replays r) input before after status = LeavesAt r input after status
+CommandLeavesAt _ input before after status = (after ≡ before) × (status ≢ 4) × (status ≢ 5)
+
+abbrev pub WordsLeaveAt : Result Command WordsFault → Option (List ℕ) → ScriptState → ScriptState → ℕ → Type 0
+WordsLeaveAt (Ok c) input before after status = CommandLeavesAt c input before after status
+WordsLeaveAt (Err fault) input before after status = (after ≡ before) × (status ≢ 4) × (status ≢ 5)

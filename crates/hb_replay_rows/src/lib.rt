@@ -1,0 +1,14 @@
+//! Tests of `hbone replay`: runs of the command over memory, each with its status, its whole output and its error text. The
+//! expected texts come from a second, plain model of the formats, and none from the program.
+#![tactic(auto)]
+
+#[cfg(test)]
+mod cuts;
+#[cfg(test)]
+mod faults;
+#[cfg(test)]
+mod notation;
+#[cfg(test)]
+mod rows;
+#[cfg(test)]
+mod runs;

@@ -1,0 +1,177 @@
+-- The words of `replay`: options, `--name value` or `--name=value`, and flags, `--name`, each at most once, in any order, and
+-- nothing else. `--node`, `--id` and `--discovery` have to be there.
+use Rattle.std.specs.Prelude.{ℕ, Bool, true, false, List, [], ◌∷◌, Option, Some, None, Result, Ok, Err, if◌then◌else◌, codes}
+use Rattle.std.specs.Option.{ok_or, unwrap_or}
+use Rattle.std.specs.Result.{result_ok}
+use Rattle.std.specs.Str.{bytes_eq}
+use Rattle.hb_base.specs.declared.target.Target.{Target}
+use Rattle.hb_base.specs.Parts.{cut_first}
+use Rattle.hb_base.specs.TargetText.{target_of}
+use Rattle.hb_wire.specs.Message.{and_then}
+use Rattle.hb_words.specs.declared.settings.ReplayOption.{ReplayOption}
+use Rattle.hb_words.specs.declared.settings.ReplayOption.TheVariants.{Node, Id, Discovery, Network, HbonePort, Tunnels, Turns}
+use Rattle.hb_words.specs.declared.settings.ReplayFlag.{ReplayFlag}
+use Rattle.hb_words.specs.declared.settings.ReplayFlag.TheVariants.{Trace, Brief}
+use Rattle.hb_words.specs.declared.replay_fault.ReplayFault.{ReplayFault}
+use Rattle.hb_words.specs.declared.replay_fault.ReplayFault.TheVariants.{NoOption, UnknownOption, Twice, FlagTwice, NoValue, BadValue, NoNode, NoId, NoDiscovery}
+use Rattle.hb_words.specs.Number.{number_of}
+use Rattle.hb_words.specs.Word.{is_dashed, is_value}
+
+-- what `replay` asks: who the node is, where its control plane is, the bounds of its run, and what is told of it
+pub record Replay : Type 0 where
+  pub node : List ℕ
+  pub id : List ℕ
+  pub discovery : Target
+  pub network : List ℕ
+  pub hbone_port : ℕ
+  pub tunnels : ℕ
+  pub turns : ℕ
+  pub trace : Bool
+  pub brief : Bool
+
+-- the options and flags of `replay`, as far as they were read
+pub record Settings : Type 0 where
+  pub node : Option (List ℕ)
+  pub id : Option (List ℕ)
+  pub discovery : Option Target
+  pub network : Option (List ℕ)
+  pub hbone_port : Option ℕ
+  pub tunnels : Option ℕ
+  pub turns : Option ℕ
+  pub trace : Bool
+  pub brief : Bool
+
+abbrev pub no_settings : Settings
+no_settings = record {
+  node = None;
+  id = None;
+  discovery = None;
+  network = None;
+  hbone_port = None;
+  tunnels = None;
+  turns = None;
+  trace = false;
+  brief = false;
+}
+
+-- a value is set where it is of its grammar and none was
+abbrev pub once : {A : Type 0} → ReplayOption → Option A → Option A → Result (Option A) ReplayFault
+once name earlier None = Err (BadValue name)
+once name None (Some value) = Ok (Some value)
+once name (Some first) (Some value) = Err (Twice name)
+
+-- each option's grammar: any text, an address with a port, or a number of a range
+abbrev pub set_value : Settings → ReplayOption → List ℕ → Result Settings ReplayFault
+set_value s Node value = and_then (once Node s.node (Some value)) (λ v. Ok (record s { node = v }))
+set_value s Id value = and_then (once Id s.id (Some value)) (λ v. Ok (record s { id = v }))
+set_value s Discovery value = and_then (once Discovery s.discovery (result_ok (target_of value))) (λ v. Ok (record s { discovery = v }))
+set_value s Network value = and_then (once Network s.network (Some value)) (λ v. Ok (record s { network = v }))
+set_value s HbonePort value = and_then (once HbonePort s.hbone_port (number_of 1 65535 value)) (λ v. Ok (record s { hbone_port = v }))
+set_value s Tunnels value = and_then (once Tunnels s.tunnels (number_of 1 4096 value)) (λ v. Ok (record s { tunnels = v }))
+set_value s Turns value = and_then (once Turns s.turns (number_of 1 18446744073709551615 value)) (λ v. Ok (record s { turns = v }))
+
+-- one more option and its value: no value is empty or begins as an option does
+unfoldable pub set : Settings → ReplayOption → List ℕ → Result Settings ReplayFault
+set s name value = if is_value value then set_value s name value else Err (BadValue name)
+
+-- a flag is raised once
+abbrev pub raised : ReplayFlag → Bool → Result Bool ReplayFault
+raised name true = Err (FlagTwice name)
+raised name false = Ok true
+
+abbrev pub raise : Settings → ReplayFlag → Result Settings ReplayFault
+raise s Trace = and_then (raised Trace s.trace) (λ up. Ok (record s { trace = up }))
+raise s Brief = and_then (raised Brief s.brief) (λ up. Ok (record s { brief = up }))
+
+-- the option of this name
+abbrev pub option_named : List ℕ → Option ReplayOption
+option_named name =
+    if bytes_eq name (codes "--node") then Some Node
+    else (if bytes_eq name (codes "--id") then Some Id
+    else (if bytes_eq name (codes "--discovery") then Some Discovery
+    else (if bytes_eq name (codes "--network") then Some Network
+    else (if bytes_eq name (codes "--hbone-port") then Some HbonePort
+    else (if bytes_eq name (codes "--tunnels") then Some Tunnels
+    else (if bytes_eq name (codes "--turns") then Some Turns else None))))))
+
+-- the flag of this name
+abbrev pub flag_named : List ℕ → Option ReplayFlag
+flag_named name =
+    if bytes_eq name (codes "--trace") then Some Trace
+    else (if bytes_eq name (codes "--brief") then Some Brief else None)
+
+-- what a word that isn't a value says: a flag; an option, whose value is the next word; or an option and its value
+pub data Said : Type 0 where
+  flag : ReplayFlag → Said
+  option : ReplayOption → Said
+  valued : ReplayOption → List ℕ → Said
+
+abbrev pub said_whole : Option ReplayFlag → Option ReplayOption → Result Said ReplayFault
+said_whole (Some name) other = Ok (flag name)
+said_whole None (Some name) = Ok (option name)
+said_whole None None = Err UnknownOption
+
+abbrev pub said_cut : Option ReplayOption → List ℕ → Result Said ReplayFault
+said_cut (Some name) value = Ok (valued name value)
+said_cut None value = Err UnknownOption
+
+-- the word is cut at its first equals sign, if it has one
+abbrev pub said_by : List ℕ → Option (List ℕ × List ℕ) → Result Said ReplayFault
+said_by word None = said_whole (flag_named word) (option_named word)
+said_by word (Some cut) = said_cut (option_named cut.0) cut.1
+
+unfoldable pub said : List ℕ → Result Said ReplayFault
+said word = if is_dashed word then said_by word (cut_first 61 word) else Err NoOption
+
+-- what was read, and the option whose value is the next word, if one is
+pub record Reading : Type 0 where
+  pub settings : Settings
+  pub wanted : Option ReplayOption
+
+abbrev pub reads : Settings → Reading
+reads s = record { settings = s; wanted = None }
+
+abbrev pub after_said : Settings → Said → Result Reading ReplayFault
+after_said s (flag name) = and_then (raise s name) (λ t. Ok (reads t))
+after_said s (option name) = Ok (record { settings = s; wanted = Some name })
+after_said s (valued name value) = and_then (set s name value) (λ t. Ok (reads t))
+
+abbrev pub after_wanted : Settings → Option ReplayOption → List ℕ → Result Reading ReplayFault
+after_wanted s (Some name) word = and_then (set s name word) (λ t. Ok (reads t))
+after_wanted s None word = and_then (said word) (after_said s)
+
+-- one more word: the value that is wanted, or what it says by itself
+unfoldable pub after_word : Reading → List ℕ → Result Reading ReplayFault
+after_word r word = after_wanted r.settings r.wanted word
+
+-- all words, one after the other
+unfoldable pub after_words : Reading → List (List ℕ) → Result Reading ReplayFault
+after_words r [] = Ok r
+after_words r (word ∷ words) = and_then (after_word r word) (λ s. after_words s words)
+
+-- behind the last word no value is wanted
+abbrev pub ended : Settings → Option ReplayOption → Result Settings ReplayFault
+ended s None = Ok s
+ended s (Some name) = Err (NoValue name)
+
+-- what these settings ask: what has to be there, and what holds where nothing is said
+unfoldable pub asked_by : Settings → Result Replay ReplayFault
+asked_by s =
+    and_then (ok_or s.node NoNode) (λ node.
+    and_then (ok_or s.id NoId) (λ id.
+    and_then (ok_or s.discovery NoDiscovery) (λ discovery.
+    Ok (record {
+      node = node;
+      id = id;
+      discovery = discovery;
+      network = unwrap_or s.network [];
+      hbone_port = unwrap_or s.hbone_port 15008;
+      tunnels = unwrap_or s.tunnels 4096;
+      turns = unwrap_or s.turns 1000000000000;
+      trace = s.trace;
+      brief = s.brief;
+    }))))
+
+-- The accepted words behind `replay`, and what they ask; or the first reason why they aren't accepted.
+unfoldable pub replay_of : List (List ℕ) → Result Replay ReplayFault
+replay_of words = and_then (after_words (reads no_settings) words) (λ r. and_then (ended r.settings r.wanted) asked_by)

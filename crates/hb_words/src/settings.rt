@@ -1,0 +1,192 @@
+//! The options and flags of `replay`, and their values.
+
+ghost use Rattle.std.specs.Prelude.{◌≡◌, Some};
+ghost use Rattle.std.specs.Result.{result_ok};
+ghost use Rattle.hb_base.specs.TargetText.{target_of};
+ghost use Rattle.hb_words.specs.AskedReplay.{text, text_answer, settings_seen, settings_answer};
+ghost use Rattle.hb_words.specs.Number.{number_of};
+ghost use Rattle.hb_words.specs.Replay.{once as set_once, raised, set_value, set, raise, no_settings};
+ghost use Rattle.hb_words.specs.Word.{is_value};
+
+use crate::number::read_number;
+use crate::replay_fault::ReplayFault;
+use hb_base::{Target, read_target};
+
+/// The options of `replay`.
+#[derive(Clone, Copy)]
+pub enum ReplayOption {
+    Node,
+    Id,
+    Discovery,
+    Network,
+    HbonePort,
+    Tunnels,
+    Turns,
+}
+
+/// The flags of `replay`.
+#[derive(Clone, Copy)]
+pub enum ReplayFlag {
+    Trace,
+    Brief,
+}
+
+/// The options and flags of `replay`, as far as they were read.
+#[derive(Clone, Copy)]
+pub(crate) struct Settings<'a> {
+    pub node: Option<&'a str>,
+    pub id: Option<&'a str>,
+    pub discovery: Option<Target>,
+    pub network: Option<&'a str>,
+    pub hbone_port: Option<u16>,
+    pub tunnels: Option<u16>,
+    pub turns: Option<u64>,
+    pub trace: bool,
+    pub brief: bool,
+}
+
+fn is_value(word: &str) -> bool
+    ensures { result ≡ is_value word.now }
+{
+    !word.is_empty() && !word.as_bytes().starts_with(b"-")
+}
+
+/// An address with a port.
+fn address(value: &str) -> Option<Target>
+    ensures { result ≡ result_ok (target_of value.now) }
+{
+    read_target(value.as_bytes()).ok()
+}
+
+/// A number from 1 to the most.
+fn number_up_to(value: &str, most: u16) -> Option<u16>
+    ensures { result ≡ number_of 1 most value.now }
+{
+    match read_number(value, 1, u64::from(most)) {
+        Some(number) => Some(number as u16),
+        None => None,
+    }
+}
+
+/// A value is set where it is of its grammar and none was.
+fn once<T: Copy>(
+    name: ReplayOption,
+    earlier: Option<T>,
+    value: Option<T>,
+) -> Result<Option<T>, ReplayFault>
+    ensures { result ≡ set_once name earlier value }
+{
+    if value.is_none() {
+        return Err(ReplayFault::BadValue(name));
+    }
+    if earlier.is_some() {
+        return Err(ReplayFault::Twice(name));
+    }
+    Ok(value)
+}
+
+/// The same of a text.
+fn once_text<'a>(
+    name: ReplayOption,
+    earlier: Option<&'a str>,
+    value: &'a str,
+) -> Result<Option<&'a str>, ReplayFault>
+    ensures { text_answer result ≡ set_once name (text earlier.entry) (Some value.entry.now) }
+{
+    if earlier.is_some() {
+        return Err(ReplayFault::Twice(name));
+    }
+    Ok(Some(value))
+}
+
+/// A flag is raised once.
+fn raise_once(name: ReplayFlag, before: bool) -> Result<bool, ReplayFault>
+    ensures { result ≡ raised name before }
+{
+    if before {
+        return Err(ReplayFault::FlagTwice(name));
+    }
+    Ok(true)
+}
+
+impl<'a> Settings<'a> {
+    /// Before the first word.
+    pub fn none() -> Settings<'a>
+        ensures { settings_seen result ≡ no_settings }
+    {
+        Settings {
+            node: None,
+            id: None,
+            discovery: None,
+            network: None,
+            hbone_port: None,
+            tunnels: None,
+            turns: None,
+            trace: false,
+            brief: false,
+        }
+    }
+
+    /// Sets an option by its grammar.
+    fn set_value(self, name: ReplayOption, value: &'a str) -> Result<Settings<'a>, ReplayFault>
+        ensures { settings_answer result ≡ set_value (settings_seen self.entry) name value.entry.now }
+    {
+        Ok(match name {
+            ReplayOption::Node => Settings {
+                node: once_text(name, self.node, value)?,
+                ..self
+            },
+            ReplayOption::Id => Settings {
+                id: once_text(name, self.id, value)?,
+                ..self
+            },
+            ReplayOption::Discovery => Settings {
+                discovery: once(name, self.discovery, address(value))?,
+                ..self
+            },
+            ReplayOption::Network => Settings {
+                network: once_text(name, self.network, value)?,
+                ..self
+            },
+            ReplayOption::HbonePort => Settings {
+                hbone_port: once(name, self.hbone_port, number_up_to(value, 65535))?,
+                ..self
+            },
+            ReplayOption::Tunnels => Settings {
+                tunnels: once(name, self.tunnels, number_up_to(value, 4096))?,
+                ..self
+            },
+            ReplayOption::Turns => Settings {
+                turns: once(name, self.turns, read_number(value, 1, u64::MAX))?,
+                ..self
+            },
+        })
+    }
+
+    /// One more option and its value. No value is empty or begins with a dash.
+    #[tactic(auto, unfolding(crate::specs::Replay::set))]
+    pub fn set(self, name: ReplayOption, value: &'a str) -> Result<Settings<'a>, ReplayFault>
+        ensures { settings_answer result ≡ set (settings_seen self.entry) name value.entry.now }
+    {
+        if !is_value(value) {
+            return Err(ReplayFault::BadValue(name));
+        }
+        self.set_value(name, value)
+    }
+
+    /// One more flag.
+    pub fn raise(self, name: ReplayFlag) -> Result<Settings<'a>, ReplayFault>
+        ensures { settings_answer result ≡ raise (settings_seen self.entry) name }
+    {
+        Ok(match name {
+            ReplayFlag::Trace => Settings {
+                trace: raise_once(name, self.trace)?,
+                ..self
+            },
+            ReplayFlag::Brief => Settings {
+                brief: raise_once(name, self.brief)?,
+                ..self
+            },
+        })
+    }
+}
