@@ -28,7 +28,7 @@ use crate::input::{Refused, read_input};
 use crate::judge::{Judged, judge};
 use crate::stop::Stop;
 use crate::telling::tell;
-use hb_base::{Or, ReadStop, Sink, Source, Text, read_all};
+use hb_base::{Bytes, Or, ReadStop, Sink, Source, Text, read_all};
 use hb_replay::replay;
 use hb_words::{Check, Command, Replay, read_words};
 use hb_world::ScriptWorld;
@@ -64,14 +64,14 @@ fn judge_input(alloc: Global, check: &Check<'_>, input: &[u8]) -> Result<Judged,
 fn replay_input(
     alloc: Global,
     words: &Replay<'_>,
-    input: &[u8],
+    input: Bytes,
     script: &mut ScriptWorld,
 ) -> Result<Answer, Or<Refused>>
     requires lines { script.old.lines ≡ [] }
     requires trace { script.old.trace ≡ [] }
-    ensures text { Answers (texts result) (printed_by (replays (replay_seen words.now)) script.new.trace input.now) }
+    ensures text { Answers (texts result) (printed_by (replays (replay_seen words.now)) script.new.trace input) }
     ensures kind { IfOk result (λ a. Suits (replays (replay_seen words.now)) a) }
-    ensures leaves { LeavesOf (replay_seen words.now) input.now script.new result }
+    ensures leaves { LeavesOf (replay_seen words.now) input script.new result }
 {
     match replay(alloc, words, input, script) {
         Ok(replayed) => Ok(Answer::Replayed(replayed)),
@@ -84,20 +84,22 @@ fn replay_input(
 fn answer(
     alloc: Global,
     command: &Command<'_>,
-    input: &[u8],
+    input: Bytes,
     script: &mut ScriptWorld,
 ) -> Result<Answer, Or<Refused>>
     requires lines { script.old.lines ≡ [] }
     requires trace { script.old.trace ≡ [] }
-    ensures text { Answers (texts result) (printed_by (command_of command.now) script.new.trace input.now) }
+    ensures text { Answers (texts result) (printed_by (command_of command.now) script.new.trace input) }
     ensures kind { IfOk result (λ a. Suits (command_of command.now) a) }
-    ensures leaves { CommandLeaves (command_of command.now) input.now script.old script.new result }
+    ensures leaves { CommandLeaves (command_of command.now) input script.old script.new result }
 {
     match command {
-        Command::Check(check) => Ok(Answer::Judged(judge_input(alloc, check, input)?)),
+        Command::Check(check) => {
+            Ok(Answer::Judged(judge_input(alloc, check, input.as_slice())?))
+        },
         Command::Show => {
             let unnamed = Text::empty(alloc);
-            let left = read_input(alloc, unnamed, Text::empty(alloc), true, input)?;
+            let left = read_input(alloc, unnamed, Text::empty(alloc), true, input.as_slice())?;
             Ok(Answer::Left(left))
         }
         Command::Replay(words) => replay_input(alloc, words, input, script),
@@ -125,7 +127,7 @@ fn find_out<S: Source>(
         Err(ReadStop::Failed) => return Err(Stop::ReadFault),
         Err(ReadStop::NoMemory) => return Err(Stop::NoMemory),
     };
-    match answer(alloc, command, bytes.as_slice(), script) {
+    match answer(alloc, command, bytes, script) {
         Ok(answer) => Ok(answer),
         Err(Or::Fault(refused)) => Err(Stop::Refused(refused)),
         Err(Or::NoMemory) => Err(Stop::NoMemory),

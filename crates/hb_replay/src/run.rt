@@ -1,18 +1,20 @@
 //! The run, and what is told of it.
 
 ghost use Rattle.std.specs.Prelude.{◌≡◌, [], false, None, IfOk};
+ghost use Rattle.hb_base.specs.Outcome.{Answers};
 ghost use Rattle.hb_loop.specs.Ends.{EndsAs, SpendsTurns, was_wanting};
 ghost use Rattle.hb_loop.specs.Lawful.{Lawful, NoneLives};
+ghost use Rattle.hb_script.specs.Script.{lines};
 ghost use Rattle.hb_words.specs.AskedReplay.{replay_seen};
 ghost use Rattle.hb_replay.specs.Run.{config_of, serve_end, report_of, IsRun, DoneLawfully, Replays};
 
-use hb_base::{NoMemory, Or, Text};
+use hb_base::{Bytes, List, NoMemory, Or, Text};
 use hb_loop::{ServeEnd, ServeWords, serve};
 use hb_model::NodeConfig;
 use hb_report::{Flags, put_report, totals_of};
 use hb_script::{ScriptFault, read_script};
 use hb_words::Replay;
-use hb_world::{Entry, ScriptWorld};
+use hb_world::{Entry, Line, ScriptWorld};
 use std::alloc::Global;
 
 /// How a run ended.
@@ -96,20 +98,27 @@ fn report_of(alloc: Global, words: &Replay<'_>, trace: &[Entry]) -> Result<Vec<u
     Ok(text)
 }
 
+/// The lines that a text spells. The text is given back before the run, which takes memory of its own.
+fn lines_of(alloc: Global, text: Bytes) -> Result<List<Line>, Or<ScriptFault>>
+    ensures { Answers result (lines text) }
+{
+    read_script(alloc, text.as_slice())
+}
+
 /// Runs the proxy over the script that a text spells, in whose world nothing happened yet.
 ///
 /// Errors: the first row that is no line; then nothing is done.
 pub fn replay(
     alloc: Global,
     words: &Replay<'_>,
-    text: &[u8],
+    text: Bytes,
     script: &mut ScriptWorld,
 ) -> Result<Replayed, Or<ScriptFault>>
     requires lines { script.old.lines ≡ [] }
     requires trace { script.old.trace ≡ [] }
-    ensures { Replays (replay_seen words.now) text.now script.new result }
+    ensures { Replays (replay_seen words.now) text script.new result }
 {
-    script.load(read_script(alloc, text)?)?;
+    script.load(lines_of(alloc, text)?)?;
     let end = run_over(alloc, words, script)?;
     let report = report_of(alloc, words, script.entries())?;
     Ok(Replayed { end, report })

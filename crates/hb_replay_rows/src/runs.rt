@@ -153,14 +153,17 @@ fn assert_refused(rt: &impl Abort, alloc: Global, text: &str, why: &str) {
     assert!(rt; told.as_bytes() == want.as_bytes(), "{text}: {told}");
 }
 
+/// A reason, and behind it the words that are refused for it, a line each.
+fn assert_group_refused(rt: &impl Abort, alloc: Global, group: &str) {
+    let (why, rows) = cut(group, "\n");
+    for line in rows.lines() {
+        assert_refused(rt, alloc, line, why);
+    }
+}
+
 #[test]
 fn words_that_are_not_accepted_are_refused(rt: HostRuntime) {
-    let alloc = rt.alloc();
-    let mut why = "";
-    for line in text_of(REFUSED).lines() {
-        match line.strip_prefix("= ") {
-            Some(reason) => why = reason,
-            None => assert_refused(&rt, alloc, line, why),
-        }
+    for group in text_of(REFUSED).split("= ") {
+        assert_group_refused(&rt, rt.alloc(), group);
     }
 }

@@ -12,10 +12,10 @@ pub returns-in-Ok-answer-clause-found : goal.returns-in-Ok-answer-clause-found
 returns-in-Ok-answer-clause-found g c =
     let read = c.in-Ok.ensures in
     was_whole (command_of c.args.command.now) _ _ c.in-Ok.bytes _ read.whole read.end read.counts read.within
-    (rw c.as_slice.ensures at c.in-Ok-answer.ensures.text)
+    c.in-Ok-answer.ensures.text
 
 pub returns-in-Err-Fault-clause-found : goal.returns-in-Err-Fault-clause-found
 returns-in-Err-Fault-clause-found g c =
     let read = c.in-Ok.ensures in
     was_whole (command_of c.args.command.now) _ _ c.in-Ok.bytes _ read.whole read.end read.counts read.within
-    (rw c.as_slice.ensures at (rw c.in-Err-Fault.field-0-is at c.in-Err-Fault.ensures.text))
+    (rw c.in-Err-Fault.field-0-is at c.in-Err-Fault.ensures.text)

@@ -7,7 +7,7 @@ use Rattle.hb_replay.proofs.run.replay.Goals as goal
 pub returns : goal.returns
 returns c =
     let loaded = c.in_ok-load.ensures.ok in (
-      c.in_ok-read_script.ensures ∙ ap Ok (sym (c.run_over.ensures.lines ∙ ap (λ (w : ScriptState). w.lines) loaded)),
+      c.in_ok-lines_of.ensures ∙ ap Ok (sym (c.run_over.ensures.lines ∙ ap (λ (w : ScriptState). w.lines) loaded)),
       c.in_ok-end.ensures.runs,
       c.in_ok-report.ensures ∙ ap (report_of (replay_seen c.args.words.now)) c.entries.ensures,
     )
