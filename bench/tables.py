@@ -28,6 +28,7 @@ WHOLE = [
     ("lines_rows.py", "hb_lines_rows", "told.rt"),
     ("node_rows.py", "hb_node_rows", "rows.rt"),
     ("loop_rows.py", "hb_loop_rows", "rows.rt"),
+    ("replay_rows.py", "hb_replay_rows", "rows.rt"),
 ]
 PARTS = [("frame_vectors.py", "hb_http2_rows", "frame_vectors.rt")]
 
