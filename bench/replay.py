@@ -34,13 +34,22 @@ def response():
     return b"".join(frame(0, 0, 1, content[at:at + 16384]) for at in range(0, len(content), 16384))
 
 
-def script(pieces):
-    """The lines of a link that opens and is answered, and then of so many pieces."""
-    answered = frame(4, 0, 0) + frame(1, 4, 1, b"\x88")
-    stream = answered + response() * (pieces * PIECE // len(response()) + 1)
-    lines = ['{"open":1}\n{"wake":true}\n']
-    lines += ['{"bytes":"%s","link":1}\n' % stream[at:at + PIECE].hex() for at in range(0, pieces * PIECE, PIECE)]
-    return "".join(lines) + '{"wake":true}\n'
+def write_script(file, pieces):
+    """The lines of a link that opens and is answered, and then of so many pieces. They are written as they come: the peak of
+    a program that is started counts what its starter held."""
+    front = frame(4, 0, 0) + frame(1, 4, 1, b"\x88")
+    behind = response()
+    many = behind + behind[:PIECE]
+    file.write('{"open":1}\n{"wake":true}\n')
+    for at in range(0, pieces * PIECE, PIECE):
+        if at < len(front):
+            piece = (front + behind)[at:at + PIECE]
+        else:
+            place = (at - len(front)) % len(behind)
+            piece = many[place:place + PIECE]
+        file.write('{"bytes":"%s","link":1}\n' % piece.hex())
+    file.write('{"wake":true}\n')
+    file.flush()
 
 
 def measured(program, path):
@@ -57,8 +66,7 @@ def main():
     program = sys.argv[1] if len(sys.argv) > 1 else os.path.join(here, "../crates/hbone/out/hbone")
     for pieces in (10_000, 300_000):
         with tempfile.NamedTemporaryFile("w", suffix=".script") as file:
-            file.write(script(pieces))
-            file.flush()
+            write_script(file, pieces)
             size = os.path.getsize(file.name)
             runs = [measured(program, file.name) for _ in range(3)]
         status, out, _, peak = runs[0]
