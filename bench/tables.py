@@ -1,7 +1,8 @@
 #!/usr/bin/python3
 """Compares the tables of tests that scripts here print with the files in which they stand, and names those that differ.
 
-usage: bench/tables.py        (after `apt-get install libnghttp2-14 python3-h2 python3-hpack python3-hyperframe python3-protobuf protobuf-compiler`)
+usage: bench/tables.py        (after `apt-get install libnghttp2-14 python3-h2 python3-hpack python3-hyperframe python3-protobuf
+                              protobuf-compiler`)
 """
 
 import pathlib
