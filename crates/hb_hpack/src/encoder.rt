@@ -1,7 +1,8 @@
 //! The encoder of header blocks. It never enters a header into the table.
 
-ghost use Rattle.std.specs.Prelude.{◌≡◌, ◌<◌, ◌≤◌, ◌+◌, ◌++◌, ◌^◌, List, length, take, drop, false, [], ◌∷◌, OnOk, OnErr};
+ghost use Rattle.std.specs.Prelude.{◌≡◌, ◌<◌, ◌≤◌, ◌+◌, ◌++◌, ◌^◌, ◌&&◌, List, length, take, drop, false, [], ◌∷◌, OnOk, OnErr};
 ghost use Rattle.std.specs.List.{flat_map};
+ghost use Rattle.std.specs.Str.{bytes_eq};
 ghost use Rattle.hb_hpack.specs.Table.{Table};
 ghost use Rattle.hb_hpack.specs.Block.{Reads};
 ghost use Rattle.hb_hpack.specs.Fronts.{IsFrontOf};
@@ -12,7 +13,7 @@ ghost use Rattle.hb_hpack.specs.Encoding.{groups_of, integer_of, string_of, stat
 use crate::header::Header;
 use crate::huffman::huffman_put;
 use crate::spelling::Spelling;
-use crate::static_table::static_header;
+use crate::static_table::{NAME_LENGTHS, static_header};
 use hb_base::{List, NoMemory};
 use std::alloc::Global;
 use std::marker::Model;
@@ -92,30 +93,42 @@ fn put_string(
     }
 }
 
-/// Whether the header at this place of the static table has the same name.
-fn has_name(h: &Header, place: u8) -> bool
+/// Whether the header at this place of the static table has this name. Most names aren't even of its length.
+fn has_name(name: &[u8], place: u8) -> bool
     requires { place < 61 }
-    ensures { result ≡ same_name h.now (static_at place) }
+    ensures { result ≡ bytes_eq (static_at place).name name.now }
 {
-    let (name, _) = static_header(usize::from(place));
-    name == h.name.as_slice()
+    if name.len() != usize::from(NAME_LENGTHS[usize::from(place)]) {
+        return false;
+    }
+    let (there, _) = static_header(usize::from(place));
+    there == name
 }
 
-/// Whether the header at this place of the static table is the same.
-fn has_header(h: &Header, place: u8) -> bool
+/// Whether the header at this place of the static table has this value.
+fn has_value(value: &[u8], place: u8) -> bool
     requires { place < 61 }
-    ensures { result ≡ same_header h.now (static_at place) }
+    ensures { result ≡ bytes_eq (static_at place).value value.now }
 {
-    let (name, value) = static_header(usize::from(place));
-    name == h.name.as_slice() && value == h.value.as_slice()
+    let (_, there) = static_header(usize::from(place));
+    there == value
+}
+
+/// Whether the header at this place of the static table has this name and this value.
+fn has_header(name: &[u8], value: &[u8], place: u8) -> bool
+    requires { place < 61 }
+    ensures { result ≡ (bytes_eq (static_at place).name name.now && bytes_eq (static_at place).value value.now) }
+{
+    has_name(name, place) && has_value(value, place)
 }
 
 /// The index of the first header of the static table with this name, where there is one.
 fn index_of_name(h: &Header) -> Option<u8>
     ensures { result ≡ index_from (same_name h.now) 1 static_headers }
 {
+    let name = h.name.as_slice();
     for place in 0..61u8 {
-        if has_name(h, place) {
+        if has_name(name, place) {
             return Some(place + 1);
         }
     }
@@ -126,8 +139,10 @@ fn index_of_name(h: &Header) -> Option<u8>
 fn index_of_header(h: &Header) -> Option<u8>
     ensures { result ≡ index_from (same_header h.now) 1 static_headers }
 {
+    let name = h.name.as_slice();
+    let value = h.value.as_slice();
     for place in 0..61u8 {
-        if has_header(h, place) {
+        if has_header(name, value, place) {
             return Some(place + 1);
         }
     }

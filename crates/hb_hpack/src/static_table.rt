@@ -3,6 +3,13 @@
 ghost use Rattle.std.specs.Prelude.{◌≡◌, ◌<◌, Some, slice_get};
 ghost use Rattle.hb_hpack.specs.StaticTable.{header, static_headers};
 
+/// The length of the name of each header, in order.
+pub(crate) static NAME_LENGTHS: [u8; 61] = [
+    10, 7, 7, 5, 5, 7, 7, 7, 7, 7, 7, 7, 7, 7, 14, 15, 15, 13, 6, 27, 3, 5, 13, 13, 19, 16, 16, 14,
+    16, 13, 12, 6, 4, 4, 6, 7, 4, 4, 8, 17, 13, 8, 19, 13, 4, 8, 12, 18, 19, 5, 7, 7, 11, 6, 10,
+    25, 17, 10, 4, 3, 16,
+];
+
 /// The name and the value of the header at this place, counted from 0.
 #[tactic(auto, unfolding(crate::specs::StaticTable::static_headers))]
 pub(crate) fn static_header(place: usize) -> (&'static [u8], &'static [u8])
