@@ -55,7 +55,7 @@ def target_text(text):
 
 
 def number_up_to(most):
-    return lambda text: int(text) if re.fullmatch("[0-9]+", text) and 1 <= int(text) <= most else None
+    return lambda text: int(text) if re.fullmatch("[1-9][0-9]*", text) and int(text) <= most else None
 
 
 OPTIONS = {

@@ -1039,6 +1039,7 @@ pub const REFUSED: &[u8] = b"\
 --node|n1|--id|z1|--discovery|10.0.0.1:15010|--hbone-port=--trace|\n\
 --node|n1|--id|z1|--discovery|10.0.0.1:15010|--hbone-port|0|\n\
 --node|n1|--id|z1|--discovery|10.0.0.1:15010|--hbone-port|65536|\n\
+--node|n1|--id|z1|--discovery|10.0.0.1:15010|--hbone-port|015008|\n\
 --node|n1|--id|z1|--discovery|10.0.0.1:15010|--hbone-port|1x|\n\
 --node|n1|--id|z1|--discovery|10.0.0.1:15010|--hbone-port|+1|\n\
 --node|n1|--id|z1|--discovery|10.0.0.1:15010|--hbone-port|1.0|\n\
@@ -1060,6 +1061,7 @@ pub const REFUSED: &[u8] = b"\
 --node|n1|--id|z1|--discovery|10.0.0.1:15010|--tunnels=--trace|\n\
 --node|n1|--id|z1|--discovery|10.0.0.1:15010|--tunnels|0|\n\
 --node|n1|--id|z1|--discovery|10.0.0.1:15010|--tunnels|4097|\n\
+--node|n1|--id|z1|--discovery|10.0.0.1:15010|--tunnels|01|\n\
 --node|n1|--id|z1|--discovery|10.0.0.1:15010|--tunnels|x|\n\
 = --turns stands twice\n\
 --node|n1|--id|z1|--discovery|10.0.0.1:15010|--turns|1|--turns|1|\n\
@@ -1077,6 +1079,8 @@ pub const REFUSED: &[u8] = b"\
 --node|n1|--id|z1|--discovery|10.0.0.1:15010|--turns=--trace|\n\
 --node|n1|--id|z1|--discovery|10.0.0.1:15010|--turns|0|\n\
 --node|n1|--id|z1|--discovery|10.0.0.1:15010|--turns|18446744073709551616|\n\
+--node|n1|--id|z1|--discovery|10.0.0.1:15010|--turns|007|\n\
+--node|n1|--id|z1|--discovery|10.0.0.1:15010|--turns|00|\n\
 --node|n1|--id|z1|--discovery|10.0.0.1:15010|--turns|1e3|\n\
 = --trace stands twice\n\
 --node|n1|--id|z1|--discovery|10.0.0.1:15010|--trace|--trace|\n\

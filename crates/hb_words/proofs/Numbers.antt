@@ -1,12 +1,13 @@
 -- Decimal digits as `parse` reads them.
-use Rattle.std.proofs.Common.{◌≡◌, ℕ, ◌<◌, ◌≤◌, ◌^◌, ◌*◌, ◌+◌, Bool, true, false, List, length, fold, Some, None, Result, Ok, Err, nat_le, refl, arith}
+use Rattle.std.proofs.Common.{◌≡◌, ℕ, ◌<◌, ◌≤◌, ◌^◌, ◌*◌, ◌+◌, Bool, true, false, not, List, length, fold, Some, None, Result, Ok, Err, nat_le, refl, arith}
 use Rattle.std.specs.Str.Parse.{ParsesUnsigned}
 use Rattle.std.specs.List.{list_all}
 use Rattle.std.specs.Result.{OkIff}
+use Rattle.std.proofs.lemmas.Bool.{and_parts}
 use Rattle.std.proofs.lemmas.Bool.Decides.{nat_tests}
 use Rattle.std.proofs.lemmas.Str.Parse.{IsDigitsTest, IsNumeralModel, numerals_by_fold, parse_digits}
 use Rattle.hb_base.specs.Decimal.{is_digit, digit, decimal_value}
-use Rattle.hb_words.specs.Number.{number_of}
+use Rattle.hb_words.specs.Number.{leads_with_zero, is_plain, number_of}
 
 abbrev IsDigits : List ℕ → Type 0
 IsDigits text = list_all is_digit text ≡ true
@@ -29,16 +30,20 @@ Read text r = OkIff r ((0 < length text) × (decimal_value text < 2 ^ 64)) (deci
 pub digits_read : {E : Type 0} (text : List ℕ) (r : Result ℕ E) → ParsesUnsigned 64 10 text r → list_all is_digit text ≡ true → Read text r
 digits_read text r parsed digits = parse_digits model 64 text r parsed digits
 
-module _ (least most : ℕ) (text : List ℕ) where
-  pub no_digits : list_all is_digit text ≡ false → number_of least most text ≡ None
-  unfolding number_of
-  no_digits digits = rw digits (grind (arith, nat_tests))
+-- a plain text has digits alone
+pub plain_digits : (text : List ℕ) → is_plain text ≡ true → list_all is_digit text ≡ true
+plain_digits text plain = (and_parts (list_all is_digit text) (not (leads_with_zero text)) plain).0
 
-  pub number_read : {E : Type 0} (r : Result ℕ E) (n : ℕ) → Read text r → r ≡ Ok n → list_all is_digit text ≡ true → least ≤ n → n ≤ most
+module _ (least most : ℕ) (text : List ℕ) where
+  pub not_plain : is_plain text ≡ false → number_of least most text ≡ None
+  unfolding number_of
+  not_plain plain = rw plain (grind (arith, nat_tests))
+
+  pub number_read : {E : Type 0} (r : Result ℕ E) (n : ℕ) → Read text r → r ≡ Ok n → is_plain text ≡ true → least ≤ n → n ≤ most
       → number_of least most text ≡ Some n
   unfolding number_of
-  number_read (Ok m) n read is digits low high = rw digits (grind (arith, nat_tests))
-  number_read (Err e) n read is digits low high = cc
+  number_read (Ok m) n read is plain low high = rw plain (grind (arith, nat_tests))
+  number_read (Err e) n read is plain low high = cc
 
   pub number_low : {E : Type 0} (r : Result ℕ E) (n : ℕ) → Read text r → r ≡ Ok n → n < least → number_of least most text ≡ None
   unfolding number_of
