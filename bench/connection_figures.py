@@ -11,6 +11,7 @@ import sys
 
 RUNS = [("data", 30_000), ("small", 2_000), ("requests", 100_000)]
 CONNECTIONS = 100
+HELD = [("hold", "memory, an open block"), ("hold a list", "memory, a long list")]
 
 
 def printed(program, times, word):
@@ -43,20 +44,21 @@ def speeds(programs):
             print(f"{name:29} {of:8} {figure(name, rate)}")
 
 
-def peak(program, connections):
+def peak(program, connections, word):
     """The peak of the program's resident memory, in bytes, and what it printed beside."""
-    lines = printed(program, connections, "hold")
+    lines = printed(program, connections, word)
     [kilobytes] = [line[1].split()[0] for line in lines if line[0] == "VmHWM:"]
     return int(kilobytes) * 1024, [line for line in lines if line[0] == "held"]
 
 
 def memory(programs):
-    for of, program in programs:
-        alone, _ = peak(program, 0)
-        held, what = peak(program, CONNECTIONS)
-        print(f"{'memory':29} {of:8} {(held - alone) / CONNECTIONS / 1000:.0f} KB each of {CONNECTIONS} connections")
-        for _, streams, octets in what:
-            print(f"{'':29} {'':8} with {streams} open streams and {octets} octets that wait")
+    for word, name in HELD:
+        for of, program in programs:
+            alone, _ = peak(program, 0, word)
+            held, what = peak(program, CONNECTIONS, word)
+            print(f"{name:29} {of:8} {(held - alone) / CONNECTIONS / 1000:.0f} KB each of {CONNECTIONS} connections")
+            for _, streams, octets in what:
+                print(f"{'':29} {'':8} with {streams} open streams and {octets} octets that wait")
 
 
 def main():

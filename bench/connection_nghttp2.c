@@ -206,9 +206,9 @@ static void copies(int times) {
 }
 
 /* What connection_main.rt.in feeds to a connection that it holds. */
-static void hold(void) {
+static void hold(int listed) {
     static const uint8_t ping[] = {0, 0, 8, 6, 0, 0, 0, 0, 0, 1, 2, 3, 4, 5, 6, 7, 8};
-    static uint8_t octets[1000 + 2500 + 1910 * 17 + 3 * 16393];
+    static uint8_t octets[1000 + 2500 + 287 * 28 + 1910 * 17 + 3 * 16393];
     size_t n = 0;
     for (int i = 0; i < 99; i++) {
         uint8_t head[] = {0, 0, 1, 1, 4, 0, 0, 0, i * 2 + 1, 0x82};
@@ -217,8 +217,18 @@ static void hold(void) {
     uint8_t head[] = {0, 9, 101, 1, 4, 0, 0, 0, 199};
     memcpy(octets + n, head, sizeof head), n += sizeof head;
     for (int i = 0; i < 481; i++) memcpy(octets + n, "\x40\1a\1b", 5), n += 5;
+    if (listed) {
+        uint8_t list[] = {0, 31, 100, 1, 4, 0, 0, 0, 201};
+        memcpy(octets + n, list, sizeof list), n += sizeof list;
+        for (int i = 0; i < 287; i++) memcpy(octets + n, "\0\1a\30vvvvvvvvvvvvvvvvvvvvvvvv", 28), n += 28;
+    }
     for (int i = 0; i < 1910; i++) memcpy(octets + n, ping, sizeof ping), n += sizeof ping;
-    for (int i = 0; i < 3; i++) {
+    if (listed) {
+        uint8_t data[] = {0, 0x40, 0, 0, 0, 0, 0, 0, 1};
+        memcpy(octets + n, data, sizeof data), n += sizeof data;
+        memset(octets + n, 'x', 16384), n += 16384;
+    }
+    for (int i = 0; i < 3 && !listed; i++) {
         uint8_t block[] = {0, 0x40, 0, i ? 9 : 1, 0, 0, 0, 0, 201};
         memcpy(octets + n, block, sizeof block), n += sizeof block;
         memset(octets + n, 0x82, 16384), n += 16384;
@@ -249,7 +259,7 @@ int main(int argc, char **argv) {
     } else if (!strcmp(argv[2], "requests")) {
         requests(times);
     } else {
-        for (int i = 0; i < times; i++) hold();
+        for (int i = 0; i < times; i++) hold(strcmp(argv[2], "hold"));
         peak();
     }
 }
