@@ -2,15 +2,12 @@
 //! there is then: `told`, how many happenings since it was last asked; `streams` that are open; `room` of the output; `space`
 //! to take octets; `left`, the octets of the peer that weren't taken; `sent`, all of the output, which is written.
 
-use crate::desk::connect;
+use crate::acts::{self, MANY, connect, end_of, number_of};
 use crate::octets::{cut, octets_of};
 use hb_conn::Conn;
 use hb_streams::{OpenFault, Role};
 use std::alloc::Global;
 use std::process::Abort;
-
-/// The most pieces and the most happenings of one step.
-const MANY: usize = 100_000;
 
 /// Rows of a server whose opening is written, and of a client. `odd` and `all` are the octets behind them once for each odd
 /// number, or each, from one up to another, the second left out; `@` is the number in four octets.
@@ -53,10 +50,6 @@ struct Flood {
     /// How many of them were taken.
     at: usize,
     told: u32,
-}
-
-fn number_of(rt: &impl Abort, text: &str) -> u32 {
-    text.parse::<u32>().ok().expect(rt, "a number")
 }
 
 /// Appends the words, `@` standing for a number.
@@ -118,8 +111,7 @@ impl Flood {
     }
 
     fn wrote(&mut self, rt: &impl Abort, n: usize) {
-        assert!(rt; n <= self.conn.output().len());
-        self.conn.wrote(n);
+        acts::wrote(rt, &mut self.conn, n);
         self.go_on(rt);
     }
 
@@ -136,16 +128,14 @@ impl Flood {
         let stream = number_of(rt, stream);
         let size = number_of(rt, size) as usize;
         assert!(rt; size <= 20_000);
-        assert!(rt; self.conn.sides(stream).own);
-        let n = self.conn.put_some(stream, &bytes[..size]);
-        assert!(rt; n == number_of(rt, want) as usize, "{row}: put {n}");
+        acts::some(rt, &mut self.conn, row, stream, &bytes[..size], want);
         let all = self.conn.output().len();
         self.wrote(rt, all);
     }
 
     /// Opens a stream of this end: its number, None where as many are open as may be.
     fn open(&mut self, rt: &impl Abort, alloc: Global) -> Option<u32> {
-        let headers = connect(rt, alloc);
+        let headers = connect(rt, alloc, "");
         assert!(rt; self.conn.room() >= 1_024);
         match self.conn.role() {
             Role::Client => match self.conn.open(&headers, false) {
@@ -217,12 +207,12 @@ impl Flood {
 fn assert_row(rt: &impl Abort, alloc: Global, row: &str) {
     let (_, rest) = cut(row, ": ");
     let (role, steps) = cut(rest, "; ");
-    let (made, opening) = match role {
-        "client" => (Conn::client(alloc), "come SET; wrote 54"),
-        _ => (Conn::server(alloc), "come PRE SET; wrote 30"),
+    let opening = match role {
+        "client" => "come SET; wrote 54",
+        _ => "come PRE SET; wrote 30",
     };
     let mut flood = Flood {
-        conn: made.expect(rt, "memory"),
+        conn: end_of(rt, alloc, role),
         offered: Vec::new(alloc),
         at: 0,
         told: 0,

@@ -2,9 +2,9 @@
 //! is one of the table of refusals in docs/FORMATS.md. Told are: `o` headers (`e` with END_STREAM), `c` DATA and its
 //! octets, `e` an end, `r` a reset and `b` a stream error with their codes, `g` GOAWAY, `f` a connection error.
 
+use crate::acts::end_of;
 use crate::octets::{cut, octets_of, times_of};
-use crate::peer::run;
-use hb_conn::Conn;
+use crate::peer::{Seen, run};
 use std::alloc::Global;
 use std::process::Abort;
 
@@ -151,7 +151,7 @@ PING and GOAWAY: client; SET 0000080600000000000102030405060708 0000080700000000
 #[derive(Clone, Copy)]
 struct Row<'a> {
     line: &'a str,
-    client: bool,
+    role: &'a str,
     came: &'a str,
     told: &'a str,
     sent: &'a str,
@@ -164,7 +164,7 @@ fn row_of(line: &str) -> Row<'_> {
     let (told, sent) = cut(rest, " => ");
     Row {
         line,
-        client: role == "client",
+        role,
         came,
         told,
         sent,
@@ -188,10 +188,9 @@ fn told_of(rt: &impl Abort, alloc: Global, words: &str) -> String {
 
 /// What is sent in a row, the opening in front.
 fn sent_of(rt: &impl Abort, alloc: Global, row: Row<'_>) -> Vec<u8> {
-    let opening = if row.client {
-        CLIENT_OPENING
-    } else {
-        SERVER_OPENING
+    let opening = match row.role {
+        "client" => CLIENT_OPENING,
+        _ => SERVER_OPENING,
     };
     let mut sent = octets_of(rt, alloc, opening);
     sent.extend_from_slice(octets_of(rt, alloc, row.sent).as_slice())
@@ -199,15 +198,8 @@ fn sent_of(rt: &impl Abort, alloc: Global, row: Row<'_>) -> Vec<u8> {
     sent
 }
 
-fn assert_row(rt: &impl Abort, alloc: Global, row: Row<'_>, size: usize) {
-    let made = if row.client {
-        Conn::client(alloc)
-    } else {
-        Conn::server(alloc)
-    };
-    let mut conn = made.expect(rt, "memory");
-    let came = octets_of(rt, alloc, row.came);
-    let seen = run(rt, alloc, &mut conn, came.as_slice(), size);
+/// What is told and sent is that of the row.
+fn compare(rt: &impl Abort, alloc: Global, row: Row<'_>, seen: &Seen) {
     let told = told_of(rt, alloc, row.told);
     let sent = sent_of(rt, alloc, row);
     assert!(rt;
@@ -221,6 +213,13 @@ fn assert_row(rt: &impl Abort, alloc: Global, row: Row<'_>, size: usize) {
         "{}: other octets are sent",
         row.line
     );
+}
+
+fn assert_row(rt: &impl Abort, alloc: Global, row: Row<'_>, size: usize) {
+    let mut conn = end_of(rt, alloc, row.role);
+    let came = octets_of(rt, alloc, row.came);
+    let seen = run(rt, alloc, &mut conn, came.as_slice(), size);
+    compare(rt, alloc, row, &seen);
 }
 
 fn assert_rows(rt: &impl Abort, alloc: Global, size: usize) {

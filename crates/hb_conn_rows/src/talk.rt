@@ -1,25 +1,14 @@
 //! One end in a conversation, and what it tells, in the words of a table.
 
-ghost use Rattle.std.specs.Prelude.{◌≤◌};
-ghost use Rattle.hb_hpack.specs.Table.{total};
-
+use crate::acts::{self, MANY, connect, end_of, number_of};
 use crate::octets::{cut, octets_of};
-use hb_base::{Bytes, List};
 use hb_conn::{Conn, Happening};
-use hb_hpack::{Header, HeaderList};
-use hb_streams::Role;
+use hb_hpack::HeaderList;
 use std::alloc::Global;
 use std::process::Abort;
 
-/// The most pieces and the most happenings of one step.
-const MANY: usize = 100_000;
-
 /// From this size on the headers of a list aren't told.
 const LARGE: u64 = 1_000;
-
-fn number_of(rt: &impl Abort, text: &str) -> u32 {
-    text.parse::<u32>().ok().expect(rt, "a number")
-}
 
 /// Appends octets that are letters.
 pub fn show(rt: &impl Abort, shown: &mut String, octets: &[u8]) {
@@ -70,25 +59,6 @@ fn tell(rt: &impl Abort, told: &mut String, happening: Happening<'_>) {
     show(rt, told, b"\n");
 }
 
-/// A CONNECT of this authority.
-fn connect(rt: &impl Abort, alloc: Global, authority: &str) -> List<Header>
-    ensures { total result ≤ 900 }
-{
-    assert!(rt; authority.len() <= 100);
-    let mut headers = List::new(alloc);
-    let method = Header {
-        name: Bytes::of(alloc, b":method").expect(rt, "memory"),
-        value: Bytes::of(alloc, b"CONNECT").expect(rt, "memory"),
-    };
-    let authority = Header {
-        name: Bytes::of(alloc, b":authority").expect(rt, "memory"),
-        value: Bytes::of(alloc, authority.as_bytes()).expect(rt, "memory"),
-    };
-    headers.push(method).expect(rt, "memory");
-    headers.push(authority).expect(rt, "memory");
-    headers
-}
-
 /// One end, and how what comes is cut: not at all where `chance` is 0.
 #[derive(Drop)]
 pub struct Talk {
@@ -98,13 +68,8 @@ pub struct Talk {
 
 impl Talk {
     pub fn new(rt: &impl Abort, alloc: Global, role: &str, chance: u32) -> Talk {
-        let made = if role == "client" {
-            Conn::client(alloc)
-        } else {
-            Conn::server(alloc)
-        };
         Talk {
-            conn: made.expect(rt, "memory"),
+            conn: end_of(rt, alloc, role),
             chance,
         }
     }
@@ -160,54 +125,13 @@ impl Talk {
     fn open(&mut self, rt: &impl Abort, alloc: Global, name: &str, stream: u32, words: &str) {
         let (authority, end) = cut(words, " ");
         let headers = connect(rt, alloc, authority);
-        match self.conn.role() {
-            Role::Client => {
-                assert!(rt; self.conn.room() >= 1_024);
-                let opened = self.conn.open(&headers, end == "end").unwrap_or(0);
-                assert!(rt; opened == stream, "{name}: opened {opened}, not {stream}");
-            }
-            Role::Server => panic!(rt; "a client"),
-        }
-    }
-
-    fn status(&mut self, rt: &impl Abort, stream: u32, words: &str) {
-        let (digits, end) = cut(words, " ");
-        let number = number_of(rt, digits);
-        assert!(rt; number >= 100 && number < 1000);
-        assert!(rt; self.conn.sides(stream).own);
-        self.conn.put_status(stream, number as u16, end == "end");
-    }
-
-    fn end(&mut self, rt: &impl Abort, stream: u32) {
-        assert!(rt; self.conn.sides(stream).own);
-        self.conn.put_end(stream);
-    }
-
-    fn reset(&mut self, rt: &impl Abort, stream: u32, code: u32) {
-        let sides = self.conn.sides(stream);
-        assert!(rt; sides.own || sides.peer);
-        self.conn.put_reset(stream, code);
-    }
-
-    fn credit(&mut self, rt: &impl Abort, stream: u32, n: u32) {
-        assert!(rt; n <= self.conn.creditable(stream));
-        self.conn.credit(stream, n);
+        acts::open(rt, &mut self.conn, name, &headers, stream, end == "end");
     }
 
     fn some(&mut self, rt: &impl Abort, alloc: Global, name: &str, stream: u32, words: &str) {
         let (want, words) = cut(words, " ");
         let octets = octets_of(rt, alloc, words);
-        assert!(rt; self.conn.sides(stream).own);
-        let n = self.conn.put_some(stream, octets.as_slice());
-        assert!(rt;
-            n == number_of(rt, want) as usize,
-            "{name}: put {n}, not {want}"
-        );
-    }
-
-    fn wrote(&mut self, rt: &impl Abort, n: usize) {
-        assert!(rt; n <= self.conn.output().len());
-        self.conn.wrote(n);
+        acts::some(rt, &mut self.conn, name, stream, octets.as_slice(), want);
     }
 
     /// An act of this end, and what it is answered.
@@ -216,12 +140,12 @@ impl Talk {
         let (number, rest) = cut(rest, " ");
         let number = number_of(rt, number);
         match call {
-            "wrote" => self.wrote(rt, number as usize),
+            "wrote" => acts::wrote(rt, &mut self.conn, number as usize),
             "open" => self.open(rt, alloc, name, number, rest),
-            "status" => self.status(rt, number, rest),
-            "end" => self.end(rt, number),
-            "reset" => self.reset(rt, number, number_of(rt, rest)),
-            "credit" => self.credit(rt, number, number_of(rt, rest)),
+            "status" => acts::status(rt, &mut self.conn, number, rest),
+            "end" => acts::end(rt, &mut self.conn, number),
+            "reset" => acts::reset(rt, &mut self.conn, number, number_of(rt, rest)),
+            "credit" => acts::credit(rt, &mut self.conn, number, number_of(rt, rest)),
             "some" => self.some(rt, alloc, name, number, rest),
             _ => panic!(rt; "{name}: {line}"),
         }
