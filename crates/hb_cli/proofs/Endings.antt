@@ -136,7 +136,8 @@ pub is_complete : (t : Run) (status : ℕ) → EndsWith t status → IfSome t.in
     → (Rose t.input.faults t.input.faults_after → ⊥) → (Rose t.out.faults t.out.faults_after → ⊥)
     → IsTrue (is_answered status) ⊎ (status ≡ 9))
 is_complete t status e =
-    IfSome_then t.input.bytes (is_stated t status e) (λ left is. answered_or_nine t (status_of (outcome_of t.words t.trace left)) status e is)
+    IfSome_then t.input.bytes (is_stated t status e) (λ left is. answered_or_nine t
+    (status_of (outcome_of t.words t.trace left)) status e is)
 
 -- what an answer says that is printed whole
 abbrev pub Whole : Run → Type 0
@@ -174,7 +175,8 @@ told_at_three t stop None o l = tt
 told_at_three t stop (Some input) o l = rw o l
 
 -- the line of the status is told
-pub is_told : (t : Run) (status : ℕ) → EndsWith t status → IfSome (told_line status t.words t.trace t.input.bytes) (λ text. Tells t.err text)
+pub is_told : (t : Run) (status : ℕ) → EndsWith t status → IfSome (told_line status t.words t.trace t.input.bytes)
+    (λ text. Tells t.err text)
 is_told t = by_status t (λ s. IfSome (told_line s t.words t.trace t.input.bytes) (λ text. Tells t.err text))
     (λ a. a.3) (λ a. rw a.1 a.4) (λ a. told_at_three t a.0 t.input.bytes a.2.1 a.4) (λ a. a.3) (λ a. a.3) (λ a. a.3) (λ a. a.3)
     (λ a. a.1)

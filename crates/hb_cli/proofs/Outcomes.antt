@@ -34,7 +34,8 @@ too_long_is c trace input over = rw (passes (length input) over) refl where
   passes n lt = grind (arith, nat_tests)
 
 -- the whole input was read and answered
-pub was_whole : (c : Command) (trace : List Entry) (u : Use) (input : List ℕ) (r : Result (List ℕ) Refusal) → IfSome u.bytes (λ left. input ≡ left)
+pub was_whole : (c : Command) (trace : List Entry) (u : Use) (input : List ℕ) (r : Result (List ℕ) Refusal)
+    → IfSome u.bytes (λ left. input ≡ left)
     → IfSome u.bytes (λ _. u.bytes_after ≡ Some []) → NoFault u → length input ≤ longest_input → printed_by c trace input ≡ r
     → LooksFor c trace u (or_refused r)
 was_whole c trace u input r same end good within a =

@@ -101,7 +101,8 @@ update_keeps (Some n) c stream number caught = frames_keep_up c stream (due.Cred
 
 pub credit_keeps_up : CreditKeepsUp
 credit_keeps_up c stream n number caught =
-    released_by (sides_of (state_of c.streams stream)).peer _ _ (update_keeps (due_on (used_on c stream n).flow stream) _ stream number caught) caught
+    released_by (sides_of (state_of c.streams stream)).peer _ _ (update_keeps
+    (due_on (used_on c stream n).flow stream) _ stream number caught) caught
 
 opened_owes : (m : Debts) (s : ℕ) → dues m ≡ [] → dues (opened m s) ≡ []
 opened_owes m s none = nothing_due (opened m s) (λ q. elim (cases_eq q s) [

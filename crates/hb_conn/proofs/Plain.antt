@@ -78,7 +78,8 @@ behind_keeps (due.Reset code) w = refl
 puts_keep : (xs : List (ℕ × Due)) (p : Payment) → (put_while_fits xs p).writing.spelling ≡ p.writing.spelling
 puts_keep [] p = refl
 puts_keep (x ∷ xs) p =
-    elim (nat_lt (room_of p.out) (due_size x.1)) as (λ b. (cond b p (put_while_fits xs (with_put x.0 x.1 p))).writing.spelling ≡ p.writing.spelling) [
+    elim (nat_lt (room_of p.out) (due_size x.1)) as (λ b. (cond b p (put_while_fits xs (with_put x.0 x.1 p))).writing.spelling ≡
+    p.writing.spelling) [
       | true ↦ refl
       | false ↦ puts_keep xs (with_put x.0 x.1 p) ∙ behind_keeps x.1 p.writing
     ]

@@ -44,7 +44,8 @@ both a b xs ys f g at =
     let t = g (at + length a) in (
       s.0 ++ t.0,
       joined a b s.0 t.0 at s.1 t.1,
-      map-append (λ (c : Content). (c.number, c.value)) s.0 t.0 ∙ ap (λ (zs : List (ℕ × Value)). zs ++ map (λ c. (c.number, c.value)) t.0) s.2
+      map-append (λ (c : Content). (c.number, c.value)) s.0 t.0 ∙ ap (λ (zs : List (ℕ × Value)). zs ++ map
+          (λ c. (c.number, c.value)) t.0) s.2
           ∙ ap (λ (zs : List (ℕ × Value)). xs ++ zs) t.2,
     )
 

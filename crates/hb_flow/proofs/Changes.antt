@@ -46,7 +46,8 @@ module _ (f : Flows) (n : ℕ) (change : Windows → Windows) where
         | inl same ↦ (
           v,
           ap (get f.streams) same ∙ is,
-          same_some (change v) w (sym (ap (get (written f.streams n (change v))) same ∙ written_here f.streams n (change v) (ap is_some is)) ∙ there)
+          same_some (change v) w (sym (ap (get (written f.streams n (change v))) same
+              ∙ written_here f.streams n (change v) (ap is_some is)) ∙ there)
               ∙ sym (ap (λ b. if b then change v else v) (eq-eqb q n same)),
         )
         | inr apart ↦ (

@@ -21,7 +21,8 @@ same : (v w : Sending) (first a b : ℕ) → w ≡ v → Stands v first a b → 
 same v w first a b is stands =
     subst (λ x. Stands x first (a + 0) (b + 0)) (sym is) (omega (arith, ints))
 
-joined : (w : Sending) (first a b x y m n s g : ℕ) → s ≡ x + m → g ≡ y + n → Stands w first (a + x + m) (b + y + n) → Stands w first (a + s) (b + g)
+joined : (w : Sending) (first a b x y m n s g : ℕ) → s ≡ x + m → g ≡ y + n → Stands w first (a + x + m) (b + y + n)
+    → Stands w first (a + s) (b + g)
 joined w first a b x y m n s g is_s is_g stands = omega (arith, ints)
 
 connection_step : (f : Flows) (move : Move) (a b : ℕ) → Stands f.sending 65535 a b
@@ -94,7 +95,8 @@ changed_step q f n change before move step w there =
 -- a change of the sending window of one stream
 sending_step : (q : ℕ) (f : Flows) (n : ℕ) (change : Sending → Sending) (before : List Move) (move : Move)
     → AllStand q f before
-    → ((b : Bool) → (q == n) ≡ b → (v : Sending) → StandsOn q f.initial v before → StandsOn q f.initial (if b then change v else v) (before ++ move ∷ []))
+    → ((b : Bool) → (q == n) ≡ b → (v : Sending) → StandsOn q f.initial v before
+    → StandsOn q f.initial (if b then change v else v) (before ++ move ∷ []))
     → (w : Windows) → get (changed f n (sending_by change)).streams q ≡ Some w → StandsOn q f.initial w.sending (before ++ move ∷ [])
 sending_step q f n change before move all step = changed_step q f n (sending_by change) before move (λ v there.
     by v (q == n) refl (all v there))
@@ -137,7 +139,8 @@ resize_step q f k before all w there =
     let held = was_sized f.streams k q w there in
     let stands = all held.0 held.1 in
     subst (λ (x : Windows). StandsOn q k x.sending (before ++ resizes k ∷ [])) (sym held.2)
-    (unmoved q before (resizes k) k (sized k held.0.sending) (sized k held.0.sending) refl refl refl (refl, by held.0.sending _ _ stands.0 stands.1))
+    (unmoved q before (resizes k) k (sized k held.0.sending) (sized k held.0.sending) refl refl refl
+    (refl, by held.0.sending _ _ stands.0 stands.1))
   where
     by : (v : Sending) (a b : ℕ) → v.size ≡ f.initial → Stands v f.initial a b → Stands (sized k v) k a b
     by v a b size stands = omega (arith, ints)
@@ -152,20 +155,23 @@ stream_step q f (grants_on n k) before all = still q f n _ before _ (sending_ste
   where
     by : (b : Bool) → (q == n) ≡ b → (v : Sending) → StandsOn q f.initial v before
         → StandsOn q f.initial (if b then more v k else v) (before ++ grants_on n k ∷ [])
-    by true e v stands = moved q before (grants_on n k) f.initial v (more v k) 0 k refl (ap (λ b. if b then k else 0) e) refl (omega (arith, ints)) stands
+    by true e v stands = moved q before (grants_on n k) f.initial v (more v k) 0 k refl (ap (λ b. if b then k else 0) e) refl
+        (omega (arith, ints)) stands
     by false e v stands = unmoved q before (grants_on n k) f.initial v v refl (ap (λ b. if b then k else 0) e) refl stands
 stream_step q f (resizes k) before all = resize_step q f k before all
 stream_step q f (sends n k) before all = still q f n _ before _ (sending_step q f n (λ w. less w k) before (sends n k) all by)
   where
     by : (b : Bool) → (q == n) ≡ b → (v : Sending) → StandsOn q f.initial v before
         → StandsOn q f.initial (if b then less v k else v) (before ++ sends n k ∷ [])
-    by true e v stands = moved q before (sends n k) f.initial v (less v k) k 0 (ap (λ b. if b then k else 0) e) refl refl (omega (arith, ints)) stands
+    by true e v stands = moved q before (sends n k) f.initial v (less v k) k 0 (ap (λ b. if b then k else 0) e) refl refl
+        (omega (arith, ints)) stands
     by false e v stands = unmoved q before (sends n k) f.initial v v (ap (λ b. if b then k else 0) e) refl refl stands
 stream_step q f (takes_back n k) before all = still q f n _ before _ (sending_step q f n (λ w. more w k) before (takes_back n k) all by)
   where
     by : (b : Bool) → (q == n) ≡ b → (v : Sending) → StandsOn q f.initial v before
         → StandsOn q f.initial (if b then more v k else v) (before ++ takes_back n k ∷ [])
-    by true e v stands = moved q before (takes_back n k) f.initial v (more v k) 0 k refl (ap (λ b. if b then k else 0) e) refl (omega (arith, ints)) stands
+    by true e v stands = moved q before (takes_back n k) f.initial v (more v k) 0 k refl (ap (λ b. if b then k else 0) e) refl
+        (omega (arith, ints)) stands
     by false e v stands = unmoved q before (takes_back n k) f.initial v v refl (ap (λ b. if b then k else 0) e) refl stands
 stream_step q f (takes n) before all = λ w there. unmoved q before (takes n) f.initial w.sending w.sending refl refl refl (all w there)
 stream_step q f (takes_on n k) before all = still q f n _ before _ (taking_step q f n (λ w. taken w k) before (takes_on n k) refl refl all)

@@ -125,7 +125,8 @@ never_beyond f q n some within = (
   λ w there.
       let held = was f q (sending_by (λ w. less w n)) q w there in
       let parts = both f n held.0 (get f.streams q) held.1 within in
-      subst (λ (x : Windows). pos 0 ≤ℤ x.sending.held) (sym (held.2 ∙ ap (λ b. if b then sending_by (λ w. less w n) held.0 else held.0) (eq-eqb q q refl)))
+      subst (λ (x : Windows). pos 0 ≤ℤ x.sending.held) (sym (held.2 ∙ ap
+      (λ b. if b then sending_by (λ w. less w n) held.0 else held.0) (eq-eqb q q refl)))
       (within_room held.0.sending n some parts.1),
 )
   where

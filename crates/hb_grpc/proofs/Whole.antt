@@ -51,7 +51,8 @@ framed_message limit size (b ∷ bs) e =
     ∙ ap (with_first (take size (drop 5 (b ∷ bs)))) (let less = behind_is_shorter limit size (b ∷ bs) e in
     enough (length bs) (length (drop (5 + size) (b ∷ bs))) limit (drop (5 + size) (b ∷ bs)) (omega arith) (omega arith))
 
-pub framed_none : (limit : ℕ) (bytes : List ℕ) → first_of limit bytes ≡ Ok None → framed_of limit bytes ≡ record { messages = []; rest = bytes }
+pub framed_none : (limit : ℕ) (bytes : List ℕ) → first_of limit bytes ≡ Ok None
+    → framed_of limit bytes ≡ record { messages = []; rest = bytes }
 unfolding framed_of framed_within
 framed_none limit [] e = refl
 framed_none limit (b ∷ bs) e = ap (framed_from (b ∷ bs) (λ c. framed_within (length bs) limit c)) e

@@ -42,7 +42,8 @@ one_more_refusal h kind (q ∷ rs) r =
     (refused_for r (with_resource (after_resources (after_resource h kind q) kind rs) kind r)))
 
 -- a list that grew by what is told of one more
-pub told_more : {T : Type 0} (before after ns one all : List T) (middle : List T) → middle ≡ before ++ ns → after ≡ middle ++ one → all ≡ ns ++ one
+pub told_more : {T : Type 0} (before after ns one all : List T) (middle : List T) → middle ≡ before ++ ns → after ≡ middle ++ one
+    → all ≡ ns ++ one
     → after ≡ before ++ all
 told_more before after ns one all middle m a e =
     a ∙ ap (λ ts. ts ++ one) m ∙ append_assoc before ns one ∙ ap (λ ts. before ++ ts) (sym e)

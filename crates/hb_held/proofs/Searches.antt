@@ -29,7 +29,8 @@ found_behind : {A : Type 0} (k : List ℕ) (es : List (List ℕ × A)) (q : List
     → by_bytes k q ≡ Less
 found_behind k [] q v h is = no_value v is
 found_behind k (e ∷ es) q v h is =
-    elim (eq_by_cmp by_bytes q e.0) as (λ b. eq_by_cmp by_bytes q e.0 ≡ b → cond b (Some e.1) (find by_bytes q es) ≡ Some v → by_bytes k q ≡ Less) [
+    elim (eq_by_cmp by_bytes q e.0) as (λ b. eq_by_cmp by_bytes q e.0 ≡ b → cond b (Some e.1) (find by_bytes q es) ≡ Some v
+    → by_bytes k q ≡ Less) [
       | true ↦ λ tie _. ap (by_bytes k) (differ q e.0 (equal _ tie)) ∙ h.0
       | false ↦ λ _ there. found_behind k es q v h.1 there
     ] refl is
@@ -69,7 +70,8 @@ module _ {A X : Type 0} (g : A → Option X) (p : X → Bool) where
   found_is_held [] f h is = no_value f is
   found_is_held (e ∷ es) f h is =
       elim (g e.1) as (λ o. g e.1 ≡ o
-      → first (filter (λ d. p d.1) (cons_option (option_map (λ x. (e.0, x)) o) (filter_map (named_by g) es))) ≡ Some f → IsHeld (e ∷ es) f) [
+      → first (filter (λ d. p d.1) (cons_option (option_map (λ x. (e.0, x)) o) (filter_map (named_by g) es))) ≡ Some f
+      → IsHeld (e ∷ es) f) [
         | None ↦ λ _ there. later e es f h.0 (found_is_held es f h.1 there)
         | Some x ↦ λ makes found. elim (p x) as (λ b. p x ≡ b → first (cond b ((e.0, x) ∷ passing es) (passing es)) ≡ Some f
             → IsHeld (e ∷ es) f) [

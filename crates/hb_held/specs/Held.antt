@@ -30,7 +30,14 @@ resources_code address policy =
     (coded× (coded× (code {R = slice_cmp nat_cmp} (coded_list coded_ℕ) address) (code {R = slice_cmp nat_cmp} (coded_list coded_ℕ) policy))
     (coded× coded_bool coded_bool)))
     (λ h. ((h.network, h.node), ((h.addresses, h.policies), (h.addresses_came, h.policies_came))))
-    (λ p. record { network = p.0.0; node = p.0.1; addresses = p.1.0.0; policies = p.1.0.1; addresses_came = p.1.1.0; policies_came = p.1.1.1 })
+    (λ p. record {
+      network = p.0.0;
+      node = p.0.1;
+      addresses = p.1.0.0;
+      policies = p.1.0.1;
+      addresses_came = p.1.1.0;
+      policies_came = p.1.1.1;
+    })
     (λ _. refl)
 
 -- a node that holds nothing

@@ -88,7 +88,8 @@ module _ (P : Amid → Core → Type 0) (k : Keeps P) where
   act_keeps c puts (opened s headers end) new told act h is = subst (P calm) (sym is.1.0) (opened_keeps c s headers end is.0 h)
   act_keeps c puts (answered s status) new told act h is = subst (P calm) (sym is.0) (status_keeps c s status h)
   act_keeps c puts (ended s) new told act h is = subst (P calm) (sym is.0) (end_keeps c s h)
-  act_keeps c puts (reset s code) new told act h is = subst (P calm) (sym is.0) (kept.aborted_keeps P k s c code (k.goes s c (k.ends s c h)))
+  act_keeps c puts (reset s code) new told act h is = subst (P calm) (sym is.0)
+      (kept.aborted_keeps P k s c code (k.goes s c (k.ends s c h)))
   act_keeps c puts (credited s n) new told act h is = subst (P calm) (sym is.1.0) (credit_keeps c s n is.0 h)
   act_keeps c puts (put s bytes) new told act h is = subst (P calm) (sym is.0) (puts s bytes)
   act_keeps c puts (wrote n) new told act h is = absurd act

@@ -344,7 +344,8 @@ acts : (role : Role) (frames begun : List RawFrame) (c : Core) (m : Move) (new :
     → Sent role frames begun calm c → After c m new told → Sent role (frames ++ []) (begun ++ []) calm new
 acts role frames begun c m new told act h is =
     no_more role frames begun new
-    (act_keeps (Sent role frames begun) (sent_keeps role frames begun) c (λ s bytes. sent_puts role frames begun c s bytes h) m new told act h is)
+    (act_keeps (Sent role frames begun) (sent_keeps role frames begun) c
+    (λ s bytes. sent_puts role frames begun c s bytes h) m new told act h is)
 
 -- one move
 pub moves : (role : Role) (frames begun : List RawFrame) (c : Core) (m : Move) (new : Core) (told : Found) → Sent role frames begun calm c

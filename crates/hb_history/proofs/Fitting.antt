@@ -206,7 +206,8 @@ module _ (role : Role) (frames begun : List RawFrame) (c : Core) (sums : Sent ro
       record {
         size = omega (arith, len, most);
         connection =
-            fits_by c.flow.sending (data_size None c.out.queue) n (length (take n bytes)) (data_size None begun) (65535 + increments 0 frames)
+            fits_by c.flow.sending (data_size None c.out.queue) n (length (take n bytes)) (data_size None begun)
+            (65535 + increments 0 frames)
             more go.whole (ap (data_size None) none) len balance.whole;
         stream =
             subst (λ i. data_size (Some s) begun + length (take n bytes) ≤ i + increments s frames) (initial_is still none)

@@ -105,7 +105,13 @@ module _ {T : Type 0} where
       let gone : found l k ≡ None = found_absent l k (λ j d lt. after (suc j) d (omega arith) (omega arith)) in
       grind (arith, nat_tests, is.1 x, gone)
   found_remove (x ∷ l) k (suc i) is none after q =
-      grind (arith, nat_tests, none 0 x (omega arith), found_remove l k i (is_at_tail x l k i is) (none_before_tail x l k i none) (λ j d lt in_range. after (suc j) d (omega arith) (omega arith)) q)
+      grind (
+        arith,
+        nat_tests,
+        none 0 x (omega arith),
+        found_remove l k i (is_at_tail x l k i is) (none_before_tail x l k i none)
+            (λ j d lt in_range. after (suc j) d (omega arith) (omega arith)) q,
+      )
 
   -- where the numbers rise, the map has as many as there are entries
   pub len_rising : (l : List (ℕ × T)) → AreRising l → map.len (from_entries {R = nat_cmp} l) ≡ length l
@@ -120,7 +126,12 @@ module _ {T : Type 0} (l : List (ℕ × T)) (rising : AreRising l) (k : ℕ) whe
   -- the comparisons with k rise along the list, as a binary search asks
   comparisons_rise : IsNonDecreasingBy (λ e. ordering_index (nat_cmp e.0 k)) l
   comparisons_rise i j d le in_range =
-      let numbers_rise : (get_or l i d).0 ≤ (get_or l j d).0 = grind (arith, rising i j d, λ (same : i ≡ j). ap (λ i. (get_or l i d).0) same) in
+      let numbers_rise : (get_or l i d).0 ≤ (get_or l j d).0 = grind (
+        arith,
+        rising i j d,
+        λ (same : i ≡ j). ap
+            (λ i. (get_or l i d).0) same,
+      ) in
       grind (arith, nat_tests)
 
   -- a binary search ends at the number, or at the gap for it
@@ -225,7 +236,8 @@ module _ {T : Type 0} (l : List (ℕ × T)) (k at : ℕ) (gap : IsGapFor l k at)
 
 module _ {T : Type 0} (l : List (ℕ × T)) (rising : AreRising l) (from at : ℕ) (gap : IsGapFor l from at) where
   -- the entry behind the gap has the least number from `from` on
-  pub first_behind : (e : ℕ × T) → at < length l → ((d : ℕ × T) → get_or l at d ≡ e) → IsFirstFrom (from_entries {R = nat_cmp} l) from (Some e.0)
+  pub first_behind : (e : ℕ × T) → at < length l → ((d : ℕ × T) → get_or l at d ≡ e)
+      → IsFirstFrom (from_entries {R = nat_cmp} l) from (Some e.0)
   first_behind e in_range is = (
     omega (arith, gap.2 at e (omega arith) in_range, ap (λ (x : ℕ × T). x.0) (is e)),
     is_there l rising e.0 at (in_range, λ d. ap (λ (x : ℕ × T). x.0) (is d)),

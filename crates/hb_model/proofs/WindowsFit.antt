@@ -50,4 +50,5 @@ goes g m before e.Tick stands may = tt
 goes g m before (e.Wait ready way) stands may = tt
 
 pub obey_windows : RunsObeyWindows
-obey_windows g m points stands = at_entries g WindowsAt (λ n before x before_stands may. goes g n before x before_stands may) m points stands
+obey_windows g m points stands = at_entries g WindowsAt (λ n before x before_stands may. goes g n before x before_stands may) m points
+    stands

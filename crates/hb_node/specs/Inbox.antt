@@ -70,7 +70,8 @@ pub data TakesAll : Resources → Inbox → List ℕ → Bool → Resources → 
       → TakesFront held box chunk Lacking new_held new_box → whole ≡ true → TakesAll held box chunk whole new_held new_box
   refuses : {held new_held : Resources} {box new_box : Inbox} {chunk : List ℕ} {whole : Bool}
       → TakesFront held box chunk Refused new_held new_box → whole ≡ false → TakesAll held box chunk whole new_held new_box
-  applies : {held new_held : Resources} {box new_box : Inbox} {chunk : List ℕ} {whole : Bool} → (n : ℕ) (mid_held : Resources) (mid_box : Inbox)
+  applies : {held new_held : Resources} {box new_box : Inbox} {chunk : List ℕ} {whole : Bool}
+      → (n : ℕ) (mid_held : Resources) (mid_box : Inbox)
       → TakesFront held box chunk (Applied n) mid_held mid_box → TakesAll mid_held mid_box (drop n chunk) whole new_held new_box
       → TakesAll held box chunk whole new_held new_box
 

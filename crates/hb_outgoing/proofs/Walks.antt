@@ -94,7 +94,8 @@ pub taken_is_small : (stream : Option ℕ) (bytes : List ℕ) (from : ℕ) → A
 taken_is_small stream bytes from whole small =
     omega (arith, data_is_short stream (frames_of (drop from bytes)), ap length whole.joined, length-drop from bytes, small)
 
-pub taken_fits : (stream : Option ℕ) (before now : List ℕ) (from at to taken size : ℕ) (f : RawFrame) → Takes stream before now from at taken
+pub taken_fits : (stream : Option ℕ) (before now : List ℕ) (from at to taken size : ℕ) (f : RawFrame)
+    → Takes stream before now from at taken
     → Stands now f at to → is_data_of stream f ≡ true → size ≡ length f.payload → AreWhole (drop from before) → length before ≤ 32768
     → taken + size ≤ 32768
 taken_fits stream before now from at to taken size f so stands test size_is whole small =

@@ -50,7 +50,8 @@ stays : (p : Payment) → LacksRoom (dues p.owed) p.out → IsPayment p p
 stays p lacking = record { put = []; owed = refl; queue = sym (append-nil p.out.queue); begun = refl; lacking = lacking }
 
 -- one frame is put in front of others
-goes_on : (p new : Payment) (x : ℕ × Due) → dues p.owed ≡ x ∷ dues (with_put x.0 x.1 p).owed → IsPayment (with_put x.0 x.1 p) new → IsPayment p new
+goes_on : (p new : Payment) (x : ℕ × Due) → dues p.owed ≡ x ∷ dues (with_put x.0 x.1 p).owed → IsPayment (with_put x.0 x.1 p) new
+    → IsPayment p new
 goes_on p new x is later = record {
   put = x ∷ later.put;
   owed = is ∙ ap (λ xs. x ∷ xs) later.owed;

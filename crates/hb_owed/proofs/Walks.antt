@@ -168,7 +168,8 @@ nothing_from m k none =
       | inl l ↦ get_below k m q l ∙ sym (get-empty nat_cmp q)
       | inr g ↦ get_above k m q g ∙ none q g ∙ sym (get-empty nat_cmp q)
     ]) in
-    ap (flat_map tagged) (no_entries (entries (from_on k m)) (sym (len-entries (from_on k m)) ∙ ap (λ (n : Debts). len n) gone ∙ len-empty nat_cmp Debt))
+    ap (flat_map tagged) (no_entries (entries (from_on k m)) (sym (len-entries (from_on k m)) ∙ ap (λ (n : Debts). len n) gone
+    ∙ len-empty nat_cmp Debt))
   where
     no_entries : (es : List (ℕ × Debt)) → length es ≡ 0 → es ≡ []
     no_entries [] h = refl
@@ -223,7 +224,8 @@ left_reset : (r : Option ℕ) (c : Bool) (x : Due) → first (dues_of (debt_of N
 left_reset None c x e = absurd (false≢true (ap is_some e))
 left_reset (Some code) c x e = subst (IsLeft (debt_of None 0 false (Some code) c)) (same_Some (due.Reset code) x e) refl
 
-left_end : (e : Bool) (r : Option ℕ) (c : Bool) (x : Due) → first (dues_of (debt_of None 0 e r c)) ≡ Some x → IsLeft (debt_of None 0 e r c) x
+left_end : (e : Bool) (r : Option ℕ) (c : Bool) (x : Due) → first (dues_of (debt_of None 0 e r c)) ≡ Some x
+    → IsLeft (debt_of None 0 e r c) x
 left_end true r c x e = subst (IsLeft (debt_of None 0 true r c)) (same_Some due.End x e) refl
 left_end false r c x e = left_reset r c x e
 
@@ -275,7 +277,8 @@ settled_here_by m s (Some d) true is done = ap dues_by (removed_here m s) ∙ sy
 settled_here : (m : Debts) (s : ℕ) → dues_on (settled m s) s ≡ dues_on m s
 settled_here m s = settled_here_by m s (get m s) (is_done_by (get m s)) refl refl
 
-changed_here : (m : Debts) (s : ℕ) (change : Debt → Debt) (d : Debt) → get m s ≡ Some d → dues_on (changed m s change) s ≡ dues_of (change d)
+changed_here : (m : Debts) (s : ℕ) (change : Debt → Debt) (d : Debt) → get m s ≡ Some d
+    → dues_on (changed m s change) s ≡ dues_of (change d)
 changed_here m s change d some =
     ap (λ o. dues_by (get (changed_by m s change o) s)) some
     ∙ ap dues_by (written_here m s (change d) (ap is_some some))

@@ -19,6 +19,7 @@ unfolding options_of
 goes_on o p [] word value a two w v dashed set rest = absurd (omega arith)
 goes_on o p (x ∷ []) word value a two w v dashed set rest = absurd (omega arith)
 goes_on o p (x ∷ y ∷ ws) word value a two w v dashed set rest =
-    let behind : Answers a (options_of p (map string_bytes ws)) = subst (λ (l : List (String Global)). Answers a (options_of p (map string_bytes l)))
+    let behind : Answers a (options_of p (map string_bytes ws)) = subst
+    (λ (l : List (String Global)). Answers a (options_of p (map string_bytes l)))
     (take_all (length (x ∷ y ∷ ws) - 2) ws (omega arith)) rest in
     rw (sym w, sym v, dashed, set) behind

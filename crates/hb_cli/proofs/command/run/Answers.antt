@@ -31,10 +31,12 @@ pub returns-clause-reads_enough : goal.returns-clause-reads_enough
 returns-clause-reads_enough g c = reads_enough _ c.conclude-status.result c.conclude-status.ensures.ending
 
 pub returns-clause-printed : goal.returns-clause-printed
-returns-clause-printed g c = λ whole. let e = is_whole _ c.conclude-status.result c.conclude-status.ensures.ending whole in (e.0, e.1.2, e.1.1, e.2.0)
+returns-clause-printed g c = λ whole. let e = is_whole _ c.conclude-status.result c.conclude-status.ensures.ending whole in
+    (e.0, e.1.2, e.1.1, e.2.0)
 
 pub returns-clause-printed_part : goal.returns-clause-printed_part
-returns-clause-printed_part g c = λ seven. let e = at _ c.conclude-status.result 7 c.conclude-status.ensures.ending seven in (e.0, e.1.2, e.1.1, e.2.0)
+returns-clause-printed_part g c = λ seven. let e = at _ c.conclude-status.result 7 c.conclude-status.ensures.ending seven in
+    (e.0, e.1.2, e.1.1, e.2.0)
 
 pub returns-clause-quiet : goal.returns-clause-quiet
 returns-clause-quiet g c = is_quiet _ c.conclude-status.result c.conclude-status.ensures.ending
@@ -46,7 +48,8 @@ pub returns-clause-told : goal.returns-clause-told
 returns-clause-told g c = is_told _ c.conclude-status.result c.conclude-status.ensures.ending
 
 pub returns-clause-told_refusal : goal.returns-clause-told_refusal
-returns-clause-told_refusal g c = λ three. let e = at _ c.conclude-status.result 3 c.conclude-status.ensures.ending three in (e.0, e.1, e.2.1, e.4)
+returns-clause-told_refusal g c = λ three. let e = at _ c.conclude-status.result 3 c.conclude-status.ensures.ending three in
+    (e.0, e.1, e.2.1, e.4)
 
 pub returns-clause-stopped : goal.returns-clause-stopped
 returns-clause-stopped g c = λ r is zero. left_at _ r _ _ _ c.conclude-status.result 0 c.conclude-status.ensures.leaves is zero

@@ -23,7 +23,8 @@ loop-bytes-preserved c =
     let is = c.behind-bytes.ensures in
     record {
       within = rw is (omega (arith, less, i.within));
-      same = rw is (goes_on c.args.tells c.loop-bytes.number c.loop-bytes.left c.take_front.new.self c.loop-bytes.bytes.now c.in-Ok.taken _ told
+      same = rw is (goes_on c.args.tells c.loop-bytes.number c.loop-bytes.left c.take_front.new.self c.loop-bytes.bytes.now
+          c.in-Ok.taken _ told
           i.same);
     }
 

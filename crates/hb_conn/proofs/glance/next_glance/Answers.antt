@@ -13,4 +13,5 @@ returns-in-Ok-Some-clause-seen c =
 pub returns-in-Ok-Some-clause-falls : goal.returns-in-Ok-Some-clause-falls
 returns-in-Ok-Some-clause-falls c =
     let size = rw (c.in-Ok-Some.is, c.in-Ok-Some.field-0-is) at c.next_frame.ensures.size in
-    frame_falls c.glance_at.result c.args.reader.now c.next_frame.follows.lender-at-none size.0 size.1 size.2 size.3 c.next_frame.follows.holds-at-none
+    frame_falls c.glance_at.result c.args.reader.now c.next_frame.follows.lender-at-none size.0 size.1 size.2 size.3
+    c.next_frame.follows.holds-at-none

@@ -17,7 +17,13 @@ pub returns-in-Err : goal.returns-in-Err
 returns-in-Err g c =
     let l = c.self.inside.items.items in
     let gap = rw c.deref.ensures.value at c.in-Err.ensures.absent in
-    let in_range : c.in-Err.at < length l = omega (arith, c.len.ensures, c.deref.ensures.len, ap length c.deref.ensures.value, c.if-at-len.true) in
+    let in_range : c.in-Err.at < length l = omega (
+      arith,
+      c.len.ensures,
+      c.deref.ensures.len,
+      ap length c.deref.ensures.value,
+      c.if-at-len.true,
+    ) in
     subst (λ m. IsFirstFrom m c.args.id (Some c.index.result.now.0)) c.self.view_is
     (first_behind l c.self.invariant c.args.id c.in-Err.at gap c.index.result.now in_range (λ d.
     get_or_default l c.in-Err.at d c.index.result.now in_range ∙ sym c.index.ensures))

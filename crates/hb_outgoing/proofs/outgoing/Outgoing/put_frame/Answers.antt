@@ -38,5 +38,6 @@ invariant_of-self c =
 pub returns-clause-grows : goal.returns-clause-grows
 returns-clause-grows c =
     let f = raw c.args.kind c.args.flags c.args.stream c.args.payload.now in
-    subst (λ (w : Waiting). length (octets_of w) ≡ length (octets_of c.args.self.now) + (9 + length c.args.payload.now)) (sym (returns-clause-after c))
+    subst (λ (w : Waiting). length (octets_of w) ≡ length (octets_of c.args.self.now) + (9 + length c.args.payload.now))
+    (sym (returns-clause-after c))
     (put_is_long f c.args.self.now)

@@ -18,4 +18,5 @@ returns c =
     let written = octets_are_written items rest begun n c.begin-end.result.0 c.begin-end.result.1 c.while_waits-self-inside.result
     before ends c.while_waits-self-inside.ensures in
     rw (← c.self.view_is)
-    (ap (λ (b : BoundedBytes). view b.items (c.begin-end.result.0 - n) c.while_waits-self-inside.result) c.drop_front.ensures ∙ written.seen)
+    (ap (λ (b : BoundedBytes). view b.items (c.begin-end.result.0 - n) c.while_waits-self-inside.result) c.drop_front.ensures
+    ∙ written.seen)
