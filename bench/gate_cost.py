@@ -1,7 +1,8 @@
 #!/usr/bin/env python3
 """What the gate costs, crate by crate, in processor seconds (user and system).
 
-usage: bench/gate_cost.py            runs `rt ci` on a copy of the repository; nothing else should run on the machine
+usage: bench/gate_cost.py [of FOLDER]   runs `rt ci` on a copy of the repository, or of another tree, as of an older commit; nothing
+                                        else should run on the machine
        bench/gate_cost.py slowest CRATE..   checks these crates from nothing, one job, and names their ten slowest functions
 
 The first looks at the provers that `rt ci` starts, five times a second, and counts each one's time for its crate: as its proof, as
@@ -77,10 +78,10 @@ def row(*cells):
     print("| {:14} | {:>6} | {:>6} | {:>6} | {:>6} | {:>6} | {:>6} |".format(*cells))
 
 
-def gate():
+def gate(top):
     with tempfile.TemporaryDirectory(prefix="gate-cost-") as room:
         root = f"{room}/repository"
-        shutil.copytree(TOP, root, ignore=shutil.ignore_patterns("out", ".git", "__pycache__"))
+        shutil.copytree(top, root, ignore=shutil.ignore_patterns("out", ".git", "__pycache__"))
         subprocess.run(["git", "init", "-q", root], check=True)
         watch = Watch(root)
         watching = threading.Thread(target=watch.run)
@@ -134,9 +135,11 @@ def slowest(crates):
 def main():
     if sys.argv[1:2] == ["slowest"] and len(sys.argv) > 2:
         return slowest(sys.argv[2:])
+    if sys.argv[1:2] == ["of"] and len(sys.argv) == 3:
+        return gate(sys.argv[2])
     if len(sys.argv) > 1:
         raise SystemExit(__doc__)
-    return gate()
+    return gate(TOP)
 
 
 raise SystemExit(main())
