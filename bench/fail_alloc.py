@@ -12,6 +12,8 @@ import tempfile
 TOP = pathlib.Path(__file__).resolve().parent.parent
 PROGRAM = TOP / "crates/hbone/out/hbone"
 SAMPLE = (TOP / "crates/hbone/stdin").read_bytes()
+SCRIPT = (TOP / "crates/hbone/script").read_bytes()
+REPLAY = ["replay", "--node", "n1", "--id", "z1", "--discovery", "10.0.0.1:15010"]
 AS_C = "spiffe://cluster.local/ns/a/sa/c"
 WANTING_LINE = b"hbone: out of memory\n"
 
@@ -25,6 +27,9 @@ RUNS = [
     (["check", "--node", "n1", "10.0.0.9", "none", "10.0.0.7"], b""),
     (["show"], SAMPLE),
     (["show"], SAMPLE[:-1]),
+    ([*REPLAY, "--trace"], SCRIPT),
+    (REPLAY, SAMPLE),
+    ([*REPLAY, "--turns", "2"], SCRIPT),
 ]
 
 
