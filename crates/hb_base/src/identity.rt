@@ -1,6 +1,6 @@
 //! Identities and their text.
 
-ghost use Rattle.std.specs.Prelude.{◌≡◌, ◌++◌, IfOk, IfSome, true, nat_eq};
+ghost use Rattle.std.specs.Prelude.{◌≡◌, ◌++◌, ◌&&◌, IfOk, IfSome, is_some, true, nat_eq};
 ghost use Rattle.std.specs.List.{list_all, starts_with, ends_with};
 ghost use Rattle.std.specs.Str.{bytes_eq};
 ghost use Rattle.hb_base.specs.IdentityText.{is_name_byte, is_name, identity_of, identity_of_parts, names_of, principal_of};
@@ -31,6 +31,15 @@ impl Identity {
             namespace: self.namespace.copy(alloc)?,
             service_account: self.service_account.copy(alloc)?,
         })
+    }
+
+    /// Whether its three parts are names: one or more of `A-Z a-z 0-9 . _ -`. What `read_identity` gives is.
+    pub fn is_well_formed(&self) -> bool
+        ensures { result ≡ (is_name self.now.trust_domain && is_name self.now.namespace && is_name self.now.service_account) }
+    {
+        is_name(self.trust_domain.as_slice())
+            && is_name(self.namespace.as_slice())
+            && is_name(self.service_account.as_slice())
     }
 
     /// Whether the principal, the text behind `spiffe://`, is this text.
@@ -116,6 +125,13 @@ fn identity_names(b: &[u8]) -> Option<(&[u8], &[u8], &[u8])>
     ensures named { IfSome result (λ n. (is_name n.0.now ≡ true) × (is_name n.1.now ≡ true) × (is_name n.2.now ≡ true)) }
 {
     names(b.strip_prefix(b"spiffe://")?)
+}
+
+/// Whether `read_identity` reads an identity here. It takes no memory.
+pub fn is_identity(b: &[u8]) -> bool
+    ensures { result ≡ is_some (identity_of b.now) }
+{
+    identity_names(b).is_some()
 }
 
 /// A name as text.

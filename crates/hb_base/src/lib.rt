@@ -34,7 +34,7 @@ pub use bytes::Bytes;
 pub use cause::Cause;
 pub use cidr::Cidr;
 pub use door::{Door, Why};
-pub use identity::{Identity, read_identity};
+pub use identity::{Identity, is_identity, read_identity};
 pub use ip::{Ip, put_ip, read_ip};
 pub use laws::{
     addresses_are_read_as_they_are_spelled, identities_are_read_as_they_are_spelled,
