@@ -1,14 +1,13 @@
 -- What stands under a number in a list of entries whose numbers rise, and what an edit of the list does to it.
-use Rattle.std.proofs.Common.{◌≡◌, ◌≢◌, ℕ, zero, suc, ◌+◌, ◌-◌, ◌<◌, ◌≤◌, eqb, cond, List, [], ◌∷◌, length, get_or, set, remove, Option, Some, None, Result, Ok, Err, IfOk, IfErr, is_some, IsSome, refl, ap, sym, subst, ◌∙◌, add-one, arith}
+use Rattle.std.proofs.Common.{◌≡◌, ◌≢◌, ℕ, zero, suc, ◌+◌, ◌-◌, ◌<◌, ◌≤◌, eqb, cond, List, [], ◌∷◌, length, get_or, set, remove, Option, Some, None, is_some, IsSome, refl, ap, sym, subst, ◌∙◌, add-one, arith}
 use Rattle.std.specs.List.{insert}
-use Rattle.std.specs.List.Sorted.{IsSearchInRange, IsBinarySearchResult, IsNonDecreasingBy}
+use Rattle.std.specs.List.Sorted.{IsNonDecreasingBy}
 use Rattle.std.specs.Ordering.{nat_cmp, ordering_index}
 use Rattle.std.specs.Map.{lookup}
 use Rattle.std.specs.BTreeMap.{is_at}
 use Rattle.std.specs.Cmp.{nat_cmp_total, unsigned_tied}
 use Rattle.std.specs.FinMap as map
 use Rattle.std.specs.FinMap.{from_entries, get-insert, get-remove, len-insert, len-empty, same_map, nat_cmp-IsAntisymmetric}
-use Rattle.std.proofs.lemmas.Cmp.{ranked}
 use Rattle.std.proofs.lemmas.List.Edits.{length-insert, get_or-insert_below, get_or-insert_at, get_or-insert_above, length-remove, get_or-remove_below, get_or-remove_above}
 use Rattle.std.proofs.lemmas.Bool.Decides.{nat_tests}
 use Rattle.std.proofs.lemmas.Grind.{common_steps}
@@ -124,7 +123,7 @@ module _ {T : Type 0} where
 
 module _ {T : Type 0} (l : List (ℕ × T)) (rising : AreRising l) (k : ℕ) where
   -- the comparisons with k rise along the list, as a binary search asks
-  comparisons_rise : IsNonDecreasingBy (λ e. ordering_index (nat_cmp e.0 k)) l
+  pub comparisons_rise : IsNonDecreasingBy (λ e. ordering_index (nat_cmp e.0 k)) l
   comparisons_rise i j d le in_range =
       let numbers_rise : (get_or l i d).0 ≤ (get_or l j d).0 = grind (
         arith,
@@ -133,19 +132,6 @@ module _ {T : Type 0} (l : List (ℕ × T)) (rising : AreRising l) (k : ℕ) whe
             (λ i. (get_or l i d).0) same,
       ) in
       grind (arith, nat_tests)
-
-  -- a binary search ends at the number, or at the gap for it
-  pub searched : (r : Result ℕ ℕ) → IsSearchInRange r (length l) → IsBinarySearchResult (λ e. nat_cmp e.0 k) l r
-      → IfOk r (IsAt l k) × IfErr r (IsGapFor l k)
-  searched (Ok at) in_range equal = ((in_range, λ d. ranked _ k _ (sym (equal d))), tt)
-  searched (Err at) in_range parted = (
-    tt,
-    (
-      in_range,
-      λ j d lt. ranked _ k _ (sym ((parted comparisons_rise).0 j d (omega arith) lt)),
-      λ j d le lt. ranked _ k _ (sym ((parted comparisons_rise).1 j d le lt)),
-    ),
-  )
 
 -- an entry that was read at a place has the number that it has
 pub its_own : {T : Type 0} (l : List (ℕ × T)) (k at : ℕ) (e : ℕ × T) → IsAt l k at → e ≡ get_or l at e → e.0 ≡ k

@@ -1,5 +1,9 @@
 -- Where the numbers of a list of entries stand, whose numbers rise.
-use Rattle.std.specs.Prelude.{◌≡◌, ℕ, ◌<◌, ◌≤◌, List, length, slice_index_or}
+use Rattle.std.specs.Prelude.{◌≡◌, ℕ, ◌<◌, ◌≤◌, List, length, map, slice_index_or}
+
+-- the entries with the numbers of their keys
+abbrev pub numbered : {K T : Type 0} → (K → ℕ) → List (K × T) → List (ℕ × T)
+numbered number entries = map (λ e. (number e.0, e.1)) entries
 
 module _ {T : Type 0} where
   -- the numbers rise, so none comes twice

@@ -29,7 +29,7 @@ use std::marker::Model;
 #[derive(Drop)]
 pub struct Streams {
     role: Role,
-    active: ById<Sides>,
+    active: ById<u32, Sides>,
     highest: u32,
     resets: Resets,
 }
