@@ -1,0 +1,111 @@
+//! Values under names.
+
+ghost use Rattle.std.specs.Prelude.{◌≡◌, ◌<◌, ◌^◌, IfOk, OnOk, OnErr, IsTrue};
+ghost use Rattle.std.specs.BTreeMap.{IsOrdered};
+ghost use Rattle.std.specs.Cmp.Lexicographic.{slice_cmp};
+ghost use Rattle.std.specs.List.Sorted.{IsStrictlySortedBy};
+ghost use Rattle.std.specs.Map.{keys_of};
+ghost use Rattle.std.specs.Option.{option_copied};
+ghost use Rattle.std.specs.Ordering.{nat_cmp};
+ghost use Rattle.std.specs.FinMap as map;
+
+use hb_base::{NoMemory, Text};
+use std::alloc::Global;
+use std::collections::BTreeMap;
+use std::collections::btree_map::Iter;
+use std::marker::Model;
+use std::mem;
+
+/// Values under names, one at most under each. Contracts see the finite map from the names to the values.
+#[derive(Drop)]
+pub struct ByName<T> {
+    items: BTreeMap<Text, T>,
+}
+
+impl<T> Model for ByName<T> {
+    ghost use Rattle.std.specs.FinMap.{from_entries, code};
+    ghost use Rattle.std.specs.Coded.{coded_ℕ, coded_list};
+    ghost use Rattle.hb_index.specs.Named.{Named};
+
+    ghost Value = { Named T };
+
+    ghost coded = { code (coded_list coded_ℕ) T.code };
+
+    ghost view = { λ m. from_entries m.items.entries };
+}
+
+impl<T> ByName<T> {
+    /// The empty map, which takes no memory.
+    pub fn new(alloc: Global) -> ByName<T>
+        ensures { result ≡ map.empty }
+    {
+        ByName {
+            items: BTreeMap::new(alloc),
+        }
+    }
+
+    /// How many names it holds.
+    pub fn len(&self) -> usize
+        ensures value { result ≡ map.len self.now }
+        ensures small { result < 2 ^ 63 }
+    {
+        self.items.len()
+    }
+
+    pub fn contains(&self, name: &Text) -> bool
+        ensures { result ≡ map.contains_key self.now name.now }
+    {
+        self.items.contains_key(name)
+    }
+
+    /// The value under a name.
+    pub fn get(&self, name: &Text) -> Option<&T>
+        ensures { option_copied result ≡ map.get self.now name.now }
+    {
+        self.items.get(name)
+    }
+
+    /// The names and their values, by the names' bytes.
+    pub fn iter(&self) -> Iter<'_, Text, T>
+        ensures rest { result ≡ map.entries self.now }
+        ensures ordered { IsStrictlySortedBy (slice_cmp nat_cmp) (keys_of result) }
+    {
+        self.items.iter()
+    }
+}
+
+impl<T: Drop> ByName<T> {
+    /// Puts a value under a name, and gives the one that stood there; only a new name is copied. After want of
+    /// memory the map is unchanged.
+    pub fn put(&mut self, alloc: Global, name: &Text, item: T) -> Result<Option<T>, NoMemory>
+        ensures stood { IfOk result (λ stood. stood ≡ map.get self.old name.now) }
+        ensures ok { OnOk result (self.new ≡ map.insert self.old name.now item) }
+        ensures err { OnErr result (self.new ≡ self.old) }
+    {
+        if let Some(place) = self.items.get_mut(name) {
+            return Ok(Some(mem::replace(place, item)));
+        }
+        let name = name.copy(alloc)?;
+        self.items.insert(name, item)?;
+        Ok(None)
+    }
+
+    /// Puts a value in place of the one that stands under a name. Takes no memory.
+    pub fn set(&mut self, name: &Text, item: T)
+        requires { IsTrue (map.contains_key self.old name.now) }
+        ensures { self.new ≡ map.insert self.old name.now item }
+    {
+        match self.items.get_mut(name) {
+            Some(place) => *place = item,
+            None => unreachable!(),
+        }
+    }
+
+    /// Takes the value under a name out.
+    pub fn take(&mut self, name: &Text) -> Option<T>
+        ensures value { result ≡ map.get self.old name.now }
+        ensures rest { self.new ≡ map.remove self.old name.now }
+    {
+        self.items.remove(name)
+    }
+}
