@@ -9,7 +9,7 @@ use Rattle.std.specs.declared.cmp.Ordering.TheVariants.{Less, Equal, Greater}
 use Rattle.std.specs.Cmp.Lexicographic.{slice_cmp, nat_list_cmp_total}
 use Rattle.std.specs.FinMap.{is_sorted, entries, entries_sorted}
 use Rattle.std.specs.FinMap.Entries.{below_all}
-use Rattle.hb_held.specs.Named.{Named, AllBehind, Rise}
+use Rattle.hb_index.specs.Named.{Named, AllBehind, Rise}
 use Rattle.hb_held.specs.Lookup.{lesser, least}
 
 abbrev pub by_bytes : List ℕ → List ℕ → Ordering

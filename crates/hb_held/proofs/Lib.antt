@@ -1,6 +1,9 @@
-pub mod Entries
+pub mod Alike
 pub mod Folds
 pub mod InParts
+pub mod Indexed
 pub mod Least
 pub mod LeastLaw
 pub mod Searches
+pub mod Somewhere
+pub mod TouchedLaw

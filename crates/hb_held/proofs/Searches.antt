@@ -4,28 +4,22 @@ use Rattle.std.specs.Prelude.{filter}
 use Rattle.std.specs.List.{filter_map, cons_option}
 use Rattle.std.specs.Option.{option_map}
 use Rattle.std.specs.Ordering.{is_lt, is_eq, eq_by_cmp, ordering_reverse}
-use Rattle.std.specs.declared.cmp.Ordering.{Ordering}
-use Rattle.std.specs.declared.cmp.Ordering.TheVariants.{Less, Equal, Greater}
+use Rattle.std.specs.declared.cmp.Ordering.TheVariants.{Less}
 use Rattle.std.specs.Cmp.{tied_itself}
 use Rattle.std.specs.Cmp.Lexicographic.{nat_list_cmp_total}
 use Rattle.std.specs.FinMap.{find}
-use Rattle.hb_held.specs.Named.{AllBehind, Rise}
+use Rattle.hb_index.specs.Named.{AllBehind, Rise}
 use Rattle.hb_held.proofs.Least.{by_bytes, first, named_by, reversed}
-use Rattle.hb_held.proofs.Entries.{differ}
+use Rattle.hb_index.proofs.Entries.{differ, equal}
 
-equal : (o : Ordering) → is_eq o ≡ true → o ≡ Equal
-equal Less h = absurd cc
-equal Equal h = refl
-equal Greater h = absurd cc
-
-same : {A : Type 0} (x y : A) → Some x ≡ Some y → x ≡ y
+pub same : {A : Type 0} (x y : A) → Some x ≡ Some y → x ≡ y
 same x y e = cc
 
 no_value : {A P : Type 0} (x : A) → None ≡ Some x → P
 no_value x e = absurd cc
 
 -- a name that is found behind k stands behind k
-found_behind : {A : Type 0} (k : List ℕ) (es : List (List ℕ × A)) (q : List ℕ) (v : A) → AllBehind k es → find by_bytes q es ≡ Some v
+pub found_behind : {A : Type 0} (k : List ℕ) (es : List (List ℕ × A)) (q : List ℕ) (v : A) → AllBehind k es → find by_bytes q es ≡ Some v
     → by_bytes k q ≡ Less
 found_behind k [] q v h is = no_value v is
 found_behind k (e ∷ es) q v h is =
@@ -39,7 +33,7 @@ apart : (k q : List ℕ) → by_bytes k q ≡ Less → eq_by_cmp by_bytes q k �
 apart k q h = ap is_eq (nat_list_cmp_total.antisymm q k ∙ ap ordering_reverse h)
 
 -- a name found behind the first entry is found among all
-found_later : {A : Type 0} (e : List ℕ × A) (es : List (List ℕ × A)) (q : List ℕ) (v : A) → AllBehind e.0 es → find by_bytes q es ≡ Some v
+pub found_later : {A : Type 0} (e : List ℕ × A) (es : List (List ℕ × A)) (q : List ℕ) (v : A) → AllBehind e.0 es → find by_bytes q es ≡ Some v
     → find by_bytes q (e ∷ es) ≡ Some v
 found_later e es q v h is =
     ap (λ b. cond b (Some e.1) (find by_bytes q es)) (apart e.0 q (found_behind e.0 es q v h is)) ∙ is

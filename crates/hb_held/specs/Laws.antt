@@ -7,9 +7,11 @@ use Rattle.hb_base.specs.declared.ip.Ip.{Ip}
 use Rattle.hb_records.specs.declared.workload.Workload.{Workload}
 use Rattle.hb_held.specs.declared.versioned.Versioned.{Versioned}
 use Rattle.hb_records.specs.declared.address.AddressRecord.{AddressRecord}
-use Rattle.hb_held.specs.Named.{Rise}
-use Rattle.hb_held.specs.Held.{Resources}
-use Rattle.hb_held.specs.Lookup.{workload_of, has_address, workload_at}
+use Rattle.hb_index.specs.Named.{Rise}
+use Rattle.hb_held.specs.Held.{Resources, before}
+use Rattle.hb_held.specs.Lookup.{workload_of, has_address, workload_at, known}
+use Rattle.hb_held.specs.Policies.{policies_for}
+use Rattle.hb_held.specs.Touched.{touched}
 
 -- under a name this workload is held, of this network and with the address
 abbrev pub IsAt : Resources → Ip → List ℕ → Workload → Type 0
@@ -29,3 +31,10 @@ LeastIsFound = (h : Resources) (ip : Ip) → IsLeastAt h ip (workload_at h ip)
 -- in each kind the names rise, so a kind and a name stand once among the rows
 abbrev pub NamesStandOnce : Type 0
 NamesStandOnce = (h : Resources) → Rise (entries h.addresses) × Rise (entries h.policies)
+
+-- what is known at an address that isn't touched, and the policies for it, are what they were before the last response
+abbrev pub UntouchedStays : Type 0
+UntouchedStays =
+    (h : Resources) (ip : Ip) → touched h ip ≡ false
+    → (known h ip ≡ known (before h) ip)
+    × ((e : List ℕ × Workload) → known h ip ≡ Some e → policies_for h e.1 ≡ policies_for (before h) e.1)

@@ -28,6 +28,22 @@ abbrev pub service_of : AddressRecord → Option Service
 service_of (addresses.Workload w) = None
 service_of (addresses.Service s) = Some s
 
+abbrev pub workload_in : Versioned AddressRecord → Option Workload
+workload_in v = workload_of v.content
+
+abbrev pub service_in : Versioned AddressRecord → Option Service
+service_in v = service_of v.content
+
+-- a value, where it passes
+abbrev pub kept_if : {X : Type 0} → (X → Bool) → Option X → Option X
+kept_if p None = None
+kept_if p (Some x) = if p x then Some x else None
+
+-- what g finds in what stands there, where it passes
+abbrev pub found_by : {X : Type 0} → (Versioned AddressRecord → Option X) → (X → Bool) → Option (Versioned AddressRecord) → Option X
+found_by g p None = None
+found_by g p (Some v) = kept_if p (g v)
+
 -- the workload of what is held under a name, with this name, and the service
 abbrev pub named_workload : List ℕ × Versioned AddressRecord → Option (List ℕ × Workload)
 named_workload e = option_map (λ w. (e.0, w)) (workload_of e.1.content)

@@ -19,7 +19,7 @@ use Rattle.hb_held.specs.declared.outcome.Outcome.{Outcome}
 use Rattle.hb_held.specs.declared.outcome.Refusal.{Refusal}
 use Rattle.hb_held.specs.declared.outcome.RefusedWhy.{RefusedWhy}
 use Rattle.hb_held.specs.declared.outcome.RefusedWhy.TheVariants.{NoName, WrongType, Record, Full}
-use Rattle.hb_held.specs.Held.{Resources, holds, fits, without, with_address, with_policy, with_came}
+use Rattle.hb_held.specs.Held.{Resources, holds, fits, begun, without, with_address, with_policy, with_came}
 
 -- a resource is refused for the fault of its record
 abbrev pub refusing : Or RecordFault → Or RefusedWhy
@@ -91,7 +91,7 @@ changes kind names = map (λ name. record { kind = kind; name = name }) names
 
 -- what is held after a response
 abbrev pub after_response : Resources → Response → Resources
-after_response h r = with_came (after_resources (after_removals h r.kind r.removed) r.kind r.resources) r.kind
+after_response h r = with_came (after_resources (after_removals (begun h) r.kind r.removed) r.kind r.resources) r.kind
 
 -- what a response tells
 abbrev pub outcome_at : Resources → List (List ℕ) → Response → Outcome
@@ -104,7 +104,7 @@ outcome_at h removed r =
     }
 
 abbrev pub outcome_of : Resources → Response → Outcome
-outcome_of h r = outcome_at (after_removals h r.kind r.removed) (removed_names h r.kind r.removed) r
+outcome_of h r = outcome_at (after_removals (begun h) r.kind r.removed) (removed_names (begun h) r.kind r.removed) r
 
 -- h' is what h becomes by some first names of those to be removed
 abbrev pub AfterSomeRemovals : Resources → Kind → List (List ℕ) → Resources → Type 0
@@ -118,4 +118,5 @@ AfterSomeResources h kind rs h' = (n : ℕ) × (h' ≡ after_resources h kind (t
 -- resources
 abbrev pub AfterFront : Resources → Response → Resources → Type 0
 AfterFront h r h' =
-    AfterSomeRemovals h r.kind r.removed h' ⊎ AfterSomeResources (after_removals h r.kind r.removed) r.kind r.resources h'
+    AfterSomeRemovals (begun h) r.kind r.removed h'
+    ⊎ AfterSomeResources (after_removals (begun h) r.kind r.removed) r.kind r.resources h'

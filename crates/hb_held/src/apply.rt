@@ -1,7 +1,7 @@
 //! What a response makes of the resources held.
 
 ghost use Rattle.std.specs.Prelude.{◌≡◌, ◌++◌, ◌⊎◌, IfOk, OnOk, OnErr};
-ghost use Rattle.hb_held.specs.Held.{without, with_came};
+ghost use Rattle.hb_held.specs.Held.{begun, without, with_came};
 ghost use Rattle.hb_held.specs.Outcome.{with_resource, after_resource, after_removals, after_resources};
 ghost use Rattle.hb_held.specs.Outcome.{removed_name, removed_names, applied_as, refused_for, applied_names, refusals, changes};
 ghost use Rattle.hb_held.specs.Outcome.{after_response, outcome_of, AfterSomeRemovals, AfterSomeResources, AfterFront};
@@ -21,10 +21,11 @@ impl Held {
         name: &Text,
         changed: &mut List<Changed>,
     ) -> Result<(), NoMemory>
-        ensures held { self.new ≡ without self.old kind name.now }
+        ensures held { OnOk result (self.new ≡ without self.old kind name.now) }
         ensures told { OnOk result (changed.new ≡ changed.old ++ changes kind (removed_name self.old kind name.now)) }
+        ensures stays { OnErr result ((self.new ≡ self.old) ⊎ (self.new ≡ without self.old kind name.now)) }
     {
-        if self.remove(kind, name) {
+        if self.remove(alloc, kind, name)? {
             let name = name.copy(alloc)?;
             changed.push(Changed { kind, name })?;
         }
@@ -108,6 +109,7 @@ impl Held {
         ensures stays { OnErr result (AfterFront self.old response.now self.new) }
     {
         let kind = response.kind;
+        self.begin(alloc);
         let mut changed = List::new(alloc);
         let mut refused = List::new(alloc);
         self.remove_all(alloc, kind, response.removed.as_slice(), &mut changed)?;

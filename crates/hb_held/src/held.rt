@@ -1,29 +1,31 @@
 //! The resources held.
 
-ghost use Rattle.std.specs.Prelude.{◌≡◌, ◌&&◌, OnErr, Ok};
+ghost use Rattle.std.specs.Prelude.{◌≡◌, ◌&&◌, IfOk, OnOk, OnErr, Ok};
 ghost use Rattle.hb_base.specs.Outcome.{Merges};
-ghost use Rattle.hb_held.specs.Held.{nothing_held, count, holds, fits, without, with_came};
+ghost use Rattle.hb_held.specs.Held.{nothing_held, count, holds, fits, begun, without, with_came};
 ghost use Rattle.hb_held.specs.Outcome.{refusing, with_read_address, with_read_policy, with_record, with_resource};
 
-use crate::by_name::ByName;
+use crate::addresses::Addresses;
 use crate::outcome::RefusedWhy;
 use crate::versioned::Versioned;
-use hb_base::{Or, Text};
+use hb_base::{NoMemory, Or, Text};
 use hb_disco::{Kind, Resource};
+use hb_index::Kept;
 use hb_records::{AddressRecord, Authorization, RecordFault, read_address, read_authorization};
 use std::alloc::Global;
 use std::marker::Model;
 
 /// The resources that a node of a network holds, by kind and name. Contracts see the node's network and name, a finite
-/// map for each kind, and whether a response of each kind was applied.
+/// map for each kind, whether a response of each kind was applied, and what the last one changed.
 #[derive(Drop)]
 pub struct Held {
     pub(crate) network: Text,
     pub(crate) node: Text,
-    pub(crate) addresses: ByName<Versioned<AddressRecord>>,
-    pub(crate) policies: ByName<Versioned<Authorization>>,
+    pub(crate) addresses: Addresses,
+    pub(crate) policies: Kept<Versioned<Authorization>>,
     addresses_came: bool,
     policies_came: bool,
+    settled: bool,
 }
 
 impl Model for Held {
@@ -39,10 +41,13 @@ impl Model for Held {
     ghost view = { λ h. record {
       network = h.network;
       node = h.node;
-      addresses = h.addresses;
-      policies = h.policies;
+      addresses = h.addresses.now;
+      policies = h.policies.now;
       addresses_came = h.addresses_came;
       policies_came = h.policies_came;
+      past_addresses = h.addresses.past;
+      past_policies = h.policies.past;
+      settled = h.settled;
     } };
 }
 
@@ -67,10 +72,11 @@ impl Held {
         Held {
             network,
             node,
-            addresses: ByName::new(alloc),
-            policies: ByName::new(alloc),
+            addresses: Addresses::new(alloc),
+            policies: Kept::new(alloc),
             addresses_came: false,
             policies_came: false,
+            settled: true,
         }
     }
 
@@ -78,7 +84,7 @@ impl Held {
     pub fn count(&self) -> usize
         ensures { result ≡ count self.now }
     {
-        self.addresses.len() + self.policies.len()
+        self.addresses.now().len() + self.policies.now.len()
     }
 
     /// A resource of this kind and name is held.
@@ -86,8 +92,8 @@ impl Held {
         ensures { result ≡ holds self.now kind name.now }
     {
         match kind {
-            Kind::Address => self.addresses.contains(name),
-            Kind::Authorization => self.policies.contains(name),
+            Kind::Address => self.addresses.now().contains(name),
+            Kind::Authorization => self.policies.now.contains(name),
         }
     }
 
@@ -98,14 +104,29 @@ impl Held {
         self.count() < MOST_HELD || self.holds(kind, name)
     }
 
+    /// A response begins to be applied.
+    pub(crate) fn begin(&mut self, alloc: Global)
+        ensures { self.new ≡ begun self.old }
+    {
+        self.addresses.begin(alloc);
+        self.policies.begin(alloc);
+        self.settled = false;
+    }
+
     /// Takes a name of this kind away, and tells whether it was held.
-    pub(crate) fn remove(&mut self, kind: Kind, name: &Text) -> bool
-        ensures held { result ≡ holds self.old kind name.now }
-        ensures rest { self.new ≡ without self.old kind name.now }
+    pub(crate) fn remove(
+        &mut self,
+        alloc: Global,
+        kind: Kind,
+        name: &Text,
+    ) -> Result<bool, NoMemory>
+        ensures held { IfOk result (λ held. held ≡ holds self.old kind name.now) }
+        ensures rest { OnOk result (self.new ≡ without self.old kind name.now) }
+        ensures err { OnErr result (self.new ≡ self.old) }
     {
         match kind {
-            Kind::Address => self.addresses.remove(name),
-            Kind::Authorization => self.policies.remove(name),
+            Kind::Address => self.addresses.remove(alloc, name),
+            Kind::Authorization => self.policies.remove(alloc, name),
         }
     }
 
@@ -190,14 +211,22 @@ impl Held {
         self.put_record(alloc, kind, resource)
     }
 
-    /// A response of this kind was applied.
+    /// A response of this kind was applied whole.
     pub(crate) fn mark(&mut self, kind: Kind)
         ensures { self.new ≡ with_came self.old kind }
     {
+        self.settled = true;
         match kind {
             Kind::Address => self.addresses_came = true,
             Kind::Authorization => self.policies_came = true,
         }
+    }
+
+    /// The last `apply` answered `Ok`, or there was none.
+    pub fn is_settled(&self) -> bool
+        ensures { result ≡ self.now.settled }
+    {
+        self.settled
     }
 
     /// A response of each kind was applied.

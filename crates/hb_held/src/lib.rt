@@ -1,8 +1,8 @@
 //! The resources of the mesh that a node holds: what responses leave, and look-ups.
 #![tactic(auto)]
 
+mod addresses;
 mod apply;
-mod by_name;
 mod endpoints;
 mod found;
 mod held;
@@ -12,13 +12,14 @@ mod lookup;
 mod outcome;
 mod policies;
 mod rows;
+mod touched;
 mod versioned;
 mod workloads;
 
 pub use endpoints::Endpoints;
 pub use found::{Found, FoundService};
 pub use held::Held;
-pub use laws::{least_is_found, names_stand_once};
+pub use laws::{least_is_found, names_stand_once, untouched_stays};
 pub use outcome::{Changed, Outcome, Refusal, RefusedWhy};
 pub use policies::Policies;
 pub use rows::{HeldRecord, HeldRow, Rows};

@@ -2,9 +2,10 @@
 
 ghost use Rattle.std.specs.Prelude.{◌≡◌};
 ghost use Rattle.std.specs.List.{list_any};
-ghost use Rattle.std.specs.Option.{option_map};
+ghost use Rattle.std.specs.FinMap.{get};
+ghost use Rattle.std.specs.Option.{option_copied, option_map};
 ghost use Rattle.hb_held.specs.Lookup.{ip_eq, has_address, is_address, serves_at};
-ghost use Rattle.hb_held.specs.Lookup.{workload_at, known, service_at, found_as, found_service_as};
+ghost use Rattle.hb_held.specs.Lookup.{workload_at, known, service_at, found_as, found_service_as, workload_in, service_in, found_by};
 
 use crate::found::{Found, FoundService};
 use crate::held::Held;
@@ -31,7 +32,7 @@ fn is_among(addresses: &List<Ip>, ip: Ip) -> bool
 }
 
 /// A workload of the network has the address.
-fn has_address(network: &Text, ip: Ip, workload: &Workload) -> bool
+pub(crate) fn has_address(network: &Text, ip: Ip, workload: &Workload) -> bool
     ensures { result ≡ has_address network.now ip workload.now }
 {
     workload.network.as_slice() == network.as_slice() && is_among(&workload.addresses, ip)
@@ -55,14 +56,43 @@ fn serves_at(network: &Text, ip: Ip, service: &Service) -> bool
 }
 
 impl Held {
+    /// The workload under a name, where it is of this network and has the address.
+    fn workload_with(&self, ip: Ip, name: &Text) -> Option<&Workload>
+        ensures { option_copied result
+            ≡ found_by workload_in (has_address self.now.network ip) (get self.now.addresses name.now) }
+    {
+        let held = self.addresses.now().get(name)?;
+        match &held.content {
+            AddressRecord::Workload(workload) if has_address(&self.network, ip, workload) => {
+                Some(workload)
+            }
+            _ => None,
+        }
+    }
+
+    /// The service under a name, where it has the address in this network.
+    fn service_with(&self, ip: Ip, name: &Text) -> Option<&Service>
+        ensures { option_copied result
+            ≡ found_by service_in (serves_at self.now.network ip) (get self.now.addresses name.now) }
+    {
+        let held = self.addresses.now().get(name)?;
+        match &held.content {
+            AddressRecord::Service(service) if serves_at(&self.network, ip, service) => {
+                Some(service)
+            }
+            _ => None,
+        }
+    }
+
     /// Of the workloads of this network with the address, the one of the smallest resource name, by bytes.
     pub fn workload_at(&self, ip: Ip) -> Option<Found<'_>>
         ensures { option_map found_as result ≡ workload_at self.now ip }
     {
-        let mut workloads = self.workloads();
-        while let Some(found) = workloads.next() {
-            if has_address(&self.network, ip, found.workload) {
-                return Some(found);
+        let names = self.addresses.names_at(ip)?;
+        let mut rest = names.iter();
+        while let Some((name, _)) = rest.next() {
+            if let Some(workload) = self.workload_with(ip, name) {
+                return Some(Found { name, workload });
             }
         }
         None
@@ -84,12 +114,11 @@ impl Held {
     pub fn service_at(&self, ip: Ip) -> Option<FoundService<'_>>
         ensures { option_map found_service_as result ≡ service_at self.now ip }
     {
-        let mut rest = self.addresses.iter();
-        while let Some((name, held)) = rest.next() {
-            if let AddressRecord::Service(service) = &held.content {
-                if serves_at(&self.network, ip, service) {
-                    return Some(FoundService { name, service });
-                }
+        let names = self.addresses.names_at(ip)?;
+        let mut rest = names.iter();
+        while let Some((name, _)) = rest.next() {
+            if let Some(service) = self.service_with(ip, name) {
+                return Some(FoundService { name, service });
             }
         }
         None

@@ -25,7 +25,7 @@ fn is_listed(names: &List<Text>, policy: &Authorization) -> bool
 
 /// The policy is for the workload: for all of the mesh, for those of its namespace, or for those that
 /// name it.
-fn is_for(workload: &Workload, policy: &Authorization) -> bool
+pub(crate) fn is_for(workload: &Workload, policy: &Authorization) -> bool
     ensures { result ≡ is_for workload.now policy.now }
 {
     match policy.scope {
@@ -66,7 +66,7 @@ impl Held {
         ensures { policies_left result ≡ policies_for self.now workload.now }
     {
         Policies {
-            rest: self.policies.iter(),
+            rest: self.policies.now.iter(),
             workload,
         }
     }

@@ -6,11 +6,11 @@ ghost use Rattle.std.specs.Iterator.{YieldsFirstBy, item_count};
 ghost use Rattle.std.specs.Option.{option_map};
 ghost use Rattle.hb_held.specs.Rows.{rows, rows_left, row_as, versions, versions_in};
 
-use crate::by_name::ByName;
 use crate::held::Held;
 use crate::versioned::Versioned;
 use hb_base::{List, NoMemory, Text};
 use hb_disco::{Kind, NameVersion};
+use hb_index::ByName;
 use hb_records::{AddressRecord, Authorization};
 use std::alloc::Global;
 use std::collections::btree_map::Iter;
@@ -87,8 +87,8 @@ impl Held {
         ensures { rows_left result ≡ rows self.now }
     {
         Rows {
-            addresses: self.addresses.iter(),
-            policies: self.policies.iter(),
+            addresses: self.addresses.now().iter(),
+            policies: self.policies.now.iter(),
         }
     }
 
@@ -110,8 +110,8 @@ impl Held {
         ensures { IfOk result (λ list. list ≡ versions self.now kind) }
     {
         match kind {
-            Kind::Address => versions_in(alloc, &self.addresses),
-            Kind::Authorization => versions_in(alloc, &self.policies),
+            Kind::Address => versions_in(alloc, self.addresses.now()),
+            Kind::Authorization => versions_in(alloc, &self.policies.now),
         }
     }
 }

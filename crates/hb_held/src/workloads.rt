@@ -40,7 +40,7 @@ impl Held {
         ensures { workloads_left result ≡ workloads self.now }
     {
         Workloads {
-            rest: self.addresses.iter(),
+            rest: self.addresses.now().iter(),
         }
     }
 }

@@ -70,6 +70,57 @@ a w:w,net=net,ip=0a000007,asks=a/pp | z r1:p,name=p,ns=a,selector => policies 10
 a w:w,net=net,ip=0a000007,ns=a | z r1:p,name=p,ns=a,selector => policies 10.0.0.7 = none
 a w:w,net=net,ip=0a000007,asks=a/p | z b:p,name=p,ns=a,selector a:p,name=p,ns=a,selector,rules=1 => policies 10.0.0.7 = a/p+1 a/p
 a w:w,net=net,ip=0a000007 | z b:p,name=2 a:p,name=1 | z ~a => policies 10.0.0.7 = -/2
+# Of records that share an address one goes, moves, becomes a service; of two addresses one goes.
+a a:s,at=net/0a000007 b:s,at=net/0a000007 | a ~a => service 10.0.0.7 = b
+a a:s,at=net/0a000007 b:s,at=net/0a000007 | a a:s,at=net/0a000008 => service 10.0.0.7 = b
+a a:s,at=net/0a000007 b:s,at=net/0a000007 | a a:s,at=net/0a000008 => service 10.0.0.8 = a
+a a:w,net=net,ip=0a000007 b:w,net=net,ip=0a000007 | a ~a ~b => workload 10.0.0.7 = none
+a a:w,net=net,ip=0a000007 b:w,net=net,ip=0a000007 | a ~a | a a:w,net=net,ip=0a000007 => workload 10.0.0.7 = a
+a a:w,net=net,ip=0a000007 b:w,net=net,ip=0a000007 | a ~a a:w,net=net,ip=0a000008 => workload 10.0.0.7 = b
+a a:w,net=net,ip=0a000007,ip=0a000008 | a a:w,net=net,ip=0a000008 => workload 10.0.0.7 = none
+a a:w,net=net,ip=0a000007,ip=0a000008 | a a:w,net=net,ip=0a000008 => workload 10.0.0.8 = a
+a a:w,net=net,ip=0a000007,ip=0a000007 | a a:w,net=net,ip=0a000008 => workload 10.0.0.7 = none
+a a:w,net=net,ip=0a000007 | a a:w,net=net,ip=0a000008,ip=0a000007,ip=0a000008 => workload 10.0.0.7 = a
+a a:w,net=net,ip=0a000007 | a a:s,at=net/0a000007 => workload 10.0.0.7 = none
+a a:w,net=net,ip=0a000007 | a a:s,at=net/0a000007 => service 10.0.0.7 = a
+a a:w,net=net,ip=0000000000000000000000000a000007 b:w,net=net,ip=0a000007 => workload 10.0.0.7 = b
+a a:w,net=other,ip=0a000007 b:w,net=net,ip=0a000007 | a a:w,net=net,ip=0a000007 => workload 10.0.0.7 = a
+a a:w,net=net,ip=0a000007 | a a:x,hex=0b => workload 10.0.0.7 = a
+# Policies that come before the workload and after it, whose namespace or scope is replaced.
+z r:p,name=p,ns=a,selector | a w:w,net=net,ip=0a000007,asks=a/p => policies 10.0.0.7 = a/p
+a w:w,net=net,ip=0a000007,asks=a/p | z r:p,name=p,ns=a,selector | z r:p,name=p,ns=b,selector => policies 10.0.0.7 = none
+a w:w,net=net,ip=0a000007,ns=a | z r:p,name=p,ns=a,namespace | z r:p,name=p,ns=b,namespace => policies 10.0.0.7 = none
+a w:w,net=net,ip=0a000007,ns=a | z r:p,name=p,ns=b,namespace | z r:p,name=p,ns=b => policies 10.0.0.7 = b/p
+a w:w,net=net,ip=0a000007,ns=a | z r:p,name=p,ns=a,namespace | a w:w,net=net,ip=0a000007,ns=b => policies 10.0.0.7 = none
+a w1:w,net=net,serves=a/b w2:w,net=net,serves=a/b | a w1:w,net=net,serves=a/c => endpoints a b = w2
+# Touched: the workload at the address, before or after, whatever its node.
+=> touched 10.0.0.7 = no
+a u:w,net=net,ip=0a000007 => touched 10.0.0.7 = yes
+a u:w,net=net,ip=0a000007,node=n2 v:w,net=net,ip=0a000008 | a u:w,net=net,ip=0a000007,node=n2 => touched 10.0.0.7 = yes
+a u:w,net=net,ip=0a000007,node=n1 v:w,net=net,ip=0a000008 | a u:w,net=net,ip=0a000007 => touched 10.0.0.8 = no
+a u:w,net=net,ip=0a000007 | a u:w,net=net,ip=0a000008 => touched 10.0.0.7 = yes
+a u:w,net=net,ip=0a000007 | a u:w,net=net,ip=0a000008 => touched 10.0.0.8 = yes
+a u:w,net=net,ip=0a000007 | a ~u => touched 10.0.0.7 = yes
+a u:w,net=net,ip=0a000007 | a ~v => touched 10.0.0.7 = no
+a u:w,net=net,ip=0a000007 | a ~u u:w,net=net,ip=0a000007 => touched 10.0.0.7 = yes
+a u:w,net=net,ip=0a000007 | a u:x,hex=0b => touched 10.0.0.7 = no
+a b:w,net=net,ip=0a000007 | a a:w,net=net,ip=0a000007 => touched 10.0.0.7 = yes
+a a:w,net=net,ip=0a000007 | a b:w,net=net,ip=0a000007 => touched 10.0.0.7 = no
+a a:w,net=net,ip=0a000007 b:w,net=net,ip=0a000007 | a ~b => touched 10.0.0.7 = no
+a a:w,net=net,ip=0a000007 b:w,net=net,ip=0a000007 | a ~a => touched 10.0.0.7 = yes
+a a:w,net=net,ip=0a000007 b:w,net=net,ip=0a000007 | a a:s,at=net/0a000007 => touched 10.0.0.7 = yes
+a a:w,net=net,ip=0a000007 | a ~a | a b:w,net=net,ip=0a000008 => touched 10.0.0.7 = no
+# A policy for the workload known there, before or after.
+a u:w,net=net,ip=0a000007,node=n1,ns=a | z p:p,name=p,ns=a,namespace => touched 10.0.0.7 = yes
+a u:w,net=net,ip=0a000007,node=n2,ns=a | z p:p,name=p,ns=a,namespace => touched 10.0.0.7 = no
+a u:w,net=net,ip=0a000007,node=n1,ns=a | z p:p,name=p,ns=b,namespace => touched 10.0.0.7 = no
+a u:w,net=net,ip=0a000007,node=n1,ns=a | z p:p,name=p,ns=a,namespace | z p:p,name=p,ns=b,namespace => touched 10.0.0.7 = yes
+a u:w,net=net,ip=0a000007,node=n1,ns=a | z p:p,name=p,ns=a,namespace | z ~p => touched 10.0.0.7 = yes
+a u:w,net=net,ip=0a000007,node=n1,ns=a | z p:p,name=p,ns=a,namespace q:p,name=q,ns=b,namespace | z ~q => touched 10.0.0.7 = no
+a u:w,net=net,ip=0a000007,node=n1,asks=a/p | z p:p,name=p,ns=a,selector => touched 10.0.0.7 = yes
+a u:w,net=net,ip=0a000007,node=n1,asks=a/p | z p:p,name=q,ns=a,selector => touched 10.0.0.7 = no
+a u:w,net=net,ip=0a000007,node=n1 | z p:p,name=p => touched 10.0.0.7 = yes
+z p:p,name=p | a u:w,net=net,ip=0a000007,node=n1 | a v:w,net=net,ip=0a000008,node=n1 => touched 10.0.0.7 = no
 # Versions of a kind by name; places by kind and name.
 a b@2:w a@1:s B@3:w | z a@9:p => versions a = B@3 a@1 b@2
 a b@2:w | z b@8:p a@9:p => versions z = a@9 b@8
@@ -153,6 +204,13 @@ fn tell_service(rt: &impl Abort, told: &mut String, held: &Held, ip: Ip) {
     }
 }
 
+fn tell_touched(rt: &impl Abort, told: &mut String, held: &Held, ip: Ip) {
+    if held.is_settled() {
+        let touched = held.touched(ip);
+        tell(rt, told, if touched { " yes" } else { " no" });
+    }
+}
+
 fn ip_of(rt: &impl Abort, text: &str) -> Ip {
     hb_base::read_ip(text.as_bytes()).expect(rt, "an address")
 }
@@ -163,6 +221,7 @@ fn tell_answer(rt: &(impl Abort + AllocGlobal), told: &mut String, held: &Held, 
         "workload" => tell_found(rt, told, held.workload_at(ip_of(rt, words))),
         "known" => tell_found(rt, told, held.known(ip_of(rt, words))),
         "service" => tell_service(rt, told, held, ip_of(rt, words)),
+        "touched" => tell_touched(rt, told, held, ip_of(rt, words)),
         "policies" => tell_policies(rt, told, held, ip_of(rt, words)),
         "endpoints" => {
             let (namespace, host) = words.split_once(" ").unwrap_or((words, ""));

@@ -1,4 +1,4 @@
-use Rattle.std.proofs.Common.{◌≡◌, ◌+◌, ◌++◌, ◌∷◌, [], take, ap, sym, ◌∙◌, arith}
+use Rattle.std.proofs.Common.{◌≡◌, ◌+◌, ◌++◌, ◌∷◌, [], take, ap, sym, ◌∙◌, arith, inl, inr}
 use Rattle.std.proofs.lemmas.Grind.{common_steps}
 use Rattle.hb_held.specs.Held.{without}
 use Rattle.hb_held.specs.Outcome.{after_removals, removed_name, removed_names}
@@ -15,7 +15,7 @@ loop-name-preserved c =
     let more : take (i + 1) names ≡ take i names ++ name ∷ [] = grind (arith, common_steps) in
     let held = c.loop-name.invariant.held in
     record {
-      held = c.remove_named.ensures.held ∙ ap (λ s. without s kind name) held ∙ sym (one_more_removed h kind (take i names) name)
+      held = c.in_ok-remove_named.ensures.held ∙ ap (λ s. without s kind name) held ∙ sym (one_more_removed h kind (take i names) name)
           ∙ ap (after_removals h kind) (sym more);
       told = told_more _ _ _ _ _ _ c.loop-name.invariant.told c.in_ok-remove_named.ensures.told
           (changes_more kind _ _ _ (ap (removed_names h kind) more ∙ one_more_name h kind (take i names) name
@@ -30,8 +30,12 @@ returns-in_err-remove_named-clause-stays c =
     let names = c.args.names.now in
     let name = c.name-item.result in
     let more : take (i + 1) names ≡ take i names ++ name ∷ [] = grind (arith, common_steps) in
-    on_err c.from_residual.result (
-      i + 1,
-      c.remove_named.ensures.held ∙ ap (λ s. without s kind name) c.loop-name.invariant.held
-          ∙ sym (one_more_removed h kind (take i names) name) ∙ ap (after_removals h kind) (sym more),
-    )
+    let held = c.loop-name.invariant.held in
+    on_err c.from_residual.result (elim c.in_err-remove_named.ensures.stays [
+      | inl same ↦ (i, same ∙ held)
+      | inr gone ↦ (
+        i + 1,
+        gone ∙ ap (λ s. without s kind name) held ∙ sym (one_more_removed h kind (take i names) name)
+            ∙ ap (after_removals h kind) (sym more),
+      )
+    ])

@@ -1,31 +1,66 @@
-use Rattle.std.proofs.Common.{◌≡◌, ◌∷◌, ap, sym, ◌∙◌}
-use Rattle.std.specs.FinMap.{entries}
-use Rattle.std.specs.List.{filter_map, cons_option}
+use Rattle.std.proofs.Common.{ℕ, List, Some, None, ap, sym, subst, ◌∙◌}
 use Rattle.std.specs.Option.{option_map}
+use Rattle.hb_index.specs.Named.{Rise}
+use Rattle.hb_held.specs.Addresses.{number_of, AreNamesAt}
 use Rattle.hb_held.specs.Held.{Resources}
-use Rattle.hb_held.specs.Lookup.{service_of, named_service, services, serves_at, service_at}
-use Rattle.hb_held.proofs.Least.{entries_rise, rise_named, is_least, none_passes}
+use Rattle.hb_held.specs.Lookup.{service_in, serves_at, service_at, found_service_as}
+use Rattle.hb_held.proofs.Indexed.{services_named, no_service_named}
+use Rattle.hb_held.proofs.Least.{entries_rise}
+use Rattle.hb_held.proofs.LeastLaw.{MissesNone, is_least_by, none_left, passed_over, first_found}
 use Rattle.hb_held.proofs.held.Held.service_at.Goals as goal
 
-pub returns-then-serves_at : goal.returns-then-serves_at
+pub returns-in_err-names : goal.returns-in_err-names
 unfolding service_at
-returns-then-serves_at c =
+returns-in_err-names c =
     let h = c.args.self.now in
-    let ip = c.args.ip in
-    let name = c.in-Some.name.now in
-    let s = c.in-Service.service in
-    let rest = filter_map named_service c.next.new.self in
-    let next : filter_map named_service c.loop-name.rest ≡ (name, s) ∷ rest =
-    ap (filter_map named_service) c.in-Some.ensures.steps
-    ∙ ap (λ r. cons_option (option_map (λ x. (name, x)) (service_of r)) rest) c.in-Service.is in
-    sym (is_least (λ e. serves_at h.network ip e.1) (services h) (filter_map named_service c.loop-name.rest) rest (name, s)
-    (rise_named (λ v. service_of v.content) (entries h.addresses) (entries_rise h.addresses))
-    c.loop-name.invariant.left next
-    (sym (c.if-serves_at.ensures ∙ ap (λ (r : Resources). serves_at r.network ip s) c.self.view_is)))
+    let all = subst (λ m. AreNamesAt m (number_of c.args.ip) None) (ap (λ (s : Resources). s.addresses) c.self.view_is) c.in_err-names.ensures in
+    ap (option_map found_service_as) c.from_residual.ensures
+    ∙ is_least_by service_in (serves_at h.network c.args.ip) h.addresses None (no_service_named h.addresses h.network c.args.ip all)
+
+pub loop-name-init : goal.loop-name-init
+loop-name-init c =
+    let h = c.args.self.now in
+    let names = c.in_ok-names.names.now in
+    let all = subst (λ m. AreNamesAt m (number_of c.args.ip) (Some names)) (ap (λ (s : Resources). s.addresses) c.self.view_is)
+    c.in_ok-names.ensures in
+    record {
+      can = tt;
+      ends = tt;
+      rises = subst Rise (sym c.iter-rest.ensures.rest) (entries_rise names);
+      all = subst (MissesNone service_in (serves_at h.network c.args.ip) h.addresses) (sym c.iter-rest.ensures.rest)
+          (services_named h.addresses h.network c.args.ip names all);
+    }
+
+pub returns-in-Some-service_with : goal.returns-in-Some-service_with
+unfolding service_at
+returns-in-Some-service_with c =
+    let h = c.args.self.now in
+    let p = serves_at h.network c.args.ip in
+    let e : List ℕ × Unit {0} = (c.in-Some.name.now, c.in-Some.field-0-1.now) in
+    is_least_by service_in p h.addresses (Some (c.in-Some.name.now, c.in-Some-service_with.service.now))
+    (first_found service_in p h.addresses e c.next.new.self c.in-Some-service_with.service.now
+    (subst Rise c.in-Some.ensures.steps c.loop-name.invariant.rises)
+    (subst (MissesNone service_in p h.addresses) c.in-Some.ensures.steps c.loop-name.invariant.all)
+    (sym c.in-Some-service_with.ensures))
+
+pub loop-name-preserved : goal.loop-name-preserved
+loop-name-preserved c =
+    let h = c.args.self.now in
+    let p = serves_at h.network c.args.ip in
+    let e : List ℕ × Unit {0} = (c.in-Some.name.now, c.in-Some.field-0-1.now) in
+    record {
+      can = tt;
+      ends = tt;
+      rises = (subst Rise c.in-Some.ensures.steps c.loop-name.invariant.rises).1;
+      all = passed_over service_in p h.addresses e c.next.new.self
+          (subst (MissesNone service_in p h.addresses) c.in-Some.ensures.steps c.loop-name.invariant.all)
+          (sym c.in_default-service_with.ensures);
+    }
 
 pub returns : goal.returns
 unfolding service_at
 returns c =
     let h = c.args.self.now in
-    sym (none_passes (λ e. serves_at h.network c.args.ip e.1) (services h) (filter_map named_service c.loop-name.rest)
-    c.loop-name.invariant.left (ap (filter_map named_service) c.in_default.ensures.steps.0))
+    let p = serves_at h.network c.args.ip in
+    is_least_by service_in p h.addresses None
+    (none_left service_in p h.addresses c.loop-name.rest c.loop-name.invariant.all c.in_default.ensures.steps.0)

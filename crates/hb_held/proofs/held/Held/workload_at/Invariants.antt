@@ -1,14 +1,14 @@
-use Rattle.std.proofs.Common.{◌≡◌}
-use Rattle.std.specs.Prelude.{filter}
-use Rattle.hb_held.specs.Lookup.{workloads, workloads_left, has_address}
+use Rattle.hb_index.specs.Named.{Rise}
+use Rattle.hb_held.specs.Lookup.{workload_in, has_address}
+use Rattle.hb_held.proofs.LeastLaw.{MissesNone}
 use Rattle.hb_held.proofs.held.Held.workload_at.Given as goal
 
--- the workloads passed over don't have the address
-abbrev pub invariant-loop-found : goal.invariant-loop-found
-invariant-loop-found l =
+-- no workload with the address stands under a name that was passed over
+abbrev pub invariant-loop-name : goal.invariant-loop-name
+invariant-loop-name l =
     record {
-      can : (goal.iterator-loop-found).can_next l.workloads;
-      ends : (goal.iterator-loop-found).is_finite l.workloads;
-      left : filter (λ e. has_address l.self.network l.ip e.1) (workloads_left l.workloads)
-          ≡ filter (λ e. has_address l.self.network l.ip e.1) (workloads l.self);
+      can : (goal.iterator-loop-name).can_next l.rest;
+      ends : (goal.iterator-loop-name).is_finite l.rest;
+      rises : Rise l.rest;
+      all : MissesNone workload_in (has_address l.self.network l.ip) l.self.addresses l.rest;
     }
