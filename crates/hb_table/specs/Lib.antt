@@ -1,0 +1,5 @@
+pub mod Judgement
+pub mod Lending
+pub mod Places
+pub mod Revoking
+pub mod Table
