@@ -1,4 +1,5 @@
 pub mod Changes
+pub mod Limits
 pub mod Numbers
 pub mod Same
 pub mod Sending

@@ -33,6 +33,13 @@ get_all k m q =
 pub resizes_each : ResizesEach
 resizes_each f k q = get_all k f.streams q
 
+pub split : (q from : ℕ) → (q < from) ⊎ (from ≤ q)
+split q from = by (leb from q) refl
+  where
+    by : (b : Bool) → leb from q ≡ b → (q < from) ⊎ (from ≤ q)
+    by true e = inr (leb-true from q e)
+    by false e = inl (leb-false from q e)
+
 module _ (k of unbegun : ℕ) (old : FinMap nat_cmp Windows) where
   -- the stream q is moved, and its window stays within the largest
   abbrev pub IsMoved : FinMap nat_cmp Windows → ℕ → Type 0
@@ -51,13 +58,6 @@ module _ (k of unbegun : ℕ) (old : FinMap nat_cmp Windows) where
   nothing_moved now q same none =
       let gone : get old q ≡ None = sym same ∙ none in
       subst (λ (o : Option Windows). (get now q ≡ option_map (with_size k) o) × Fits k (unbegun_on of unbegun q) o) (sym gone) (none, tt)
-
-  split : (q from : ℕ) → (q < from) ⊎ (from ≤ q)
-  split q from = by (leb from q) refl
-    where
-      by : (b : Bool) → leb from q ≡ b → (q < from) ⊎ (from ≤ q)
-      by true e = inr (leb-true from q e)
-      by false e = inl (leb-false from q e)
 
   -- where those in front of `from` are moved, and the next has the least number from there on
   pub moved_up_to : (now : FinMap nat_cmp Windows) (from : ℕ) (next : Option ℕ) → IsFirstFrom now from next

@@ -1,7 +1,7 @@
-use Rattle.std.specs.Prelude.{⊤, ◌≡◌, ℕ, ◌+◌, ◌==◌, if◌then◌else◌, ℤ, pos, ◌+ℤ◌, ◌-ℤ◌, ◌≤ℤ◌, ◌<ℤ◌, is_some, map, Option, Some, None, Result, Ok, Err}
+use Rattle.std.specs.Prelude.{⊤, ◌≡◌, ◌⊎◌, ℕ, ◌+◌, ◌==◌, if◌then◌else◌, ℤ, pos, ◌+ℤ◌, ◌-ℤ◌, ◌≤ℤ◌, ◌<ℤ◌, is_some, map, Option, Some, None, Result, Ok, Err}
 use Rattle.std.specs.Ordering.{nat_cmp}
 use Rattle.std.specs.FinMap.{FinMap, get, entries, from_entries}
-use Rattle.hb_windows.specs.Sending.{largest}
+use Rattle.hb_windows.specs.Sending.{Sending, largest}
 use Rattle.hb_windows.specs.declared.overrun.Overrun.{Overrun}
 use Rattle.hb_flow.specs.Windows.{Windows, counted, sized}
 use Rattle.hb_flow.specs.Answers.{Rises}
@@ -38,6 +38,24 @@ Exceeds k unbegun e None = ⊥
 Exceeds k unbegun e (Some w) =
     (pos largest <ℤ (counted w.sending unbegun +ℤ moves_by k w))
     × (e ≡ record { held = counted w.sending unbegun; asked = moves_by k w })
+
+-- the largest initial size at which a window stays within the largest
+abbrev pub size_limit : Sending → ℕ → ℤ
+size_limit w unbegun = pos largest -ℤ (counted w unbegun -ℤ pos w.size)
+
+abbrev pub limit_by : ℕ → Option Windows → ℤ
+limit_by unbegun None = pos largest
+limit_by unbegun (Some w) = size_limit w.sending unbegun
+
+-- and that of the stream n, the largest of all where it has no windows
+abbrev pub limit_on : Flows → ℕ → ℕ → ℕ → ℤ
+limit_on f of unbegun n = limit_by (unbegun_on of unbegun n) (get f.streams n)
+
+-- the least of the streams' limits and of the largest size of all
+pub record IsSizeLimit (f : Flows) (of unbegun : ℕ) (limit : ℤ) : Type 0 where
+  pub most : limit ≤ℤ pos largest
+  pub under : (n : ℕ) → limit ≤ℤ limit_on f of unbegun n
+  pub reached : (limit ≡ pos largest) ⊎ ((n : ℕ) × (limit ≡ limit_on f of unbegun n))
 
 -- but for the windows of streams, all is as it was, and the same streams have windows
 abbrev pub KeepsStreams : Flows → Flows → Type 0

@@ -6,7 +6,7 @@ ghost use Rattle.hb_windows.specs.Sending.{largest};
 ghost use Rattle.hb_flow.specs.Windows.{counted, due_of};
 ghost use Rattle.hb_flow.specs.Flows.{fresh, opened, closed, sendable, spent, given_back, granted, took, owed, owed_on};
 ghost use Rattle.hb_flow.specs.Flows.{paid, paid_on, due_on, creditable, GrantsOn, TakesOn};
-ghost use Rattle.hb_flow.specs.Sizes.{unbegun_on, Resizes, ResizesOn, resized, all_with_size, behind};
+ghost use Rattle.hb_flow.specs.Sizes.{unbegun_on, Resizes, ResizesOn, resized, all_with_size, behind, limit_by, IsSizeLimit};
 ghost use Rattle.hb_flow.specs.Answers.{Rises, Comes};
 ghost use Rattle.hb_map.specs.Keyed.{IsFirstFrom};
 
@@ -18,13 +18,16 @@ use hb_windows::{Overrun, SendWindow, TakeWindow};
 use std::alloc::Global;
 use std::marker::Model;
 
+/// The largest size of a window (RFC 9113 section 6.9.2).
+const LARGEST: i64 = 2_147_483_647;
+
 /// The windows of one connection and of its streams.
 #[derive(Drop)]
 pub struct Flow {
     sending: SendWindow,
     taking: TakeWindow,
     initial: u32,
-    streams: ById<StreamWindows>,
+    streams: ById<u32, StreamWindows>,
 }
 
 impl Model for Flow {
@@ -151,6 +154,31 @@ impl Flow {
         self.resize_streams(initial, unbegun_stream, unbegun)?;
         self.initial = initial;
         Ok(())
+    }
+
+    /// The largest initial size at which the sending window of each stream stays within 2,147,483,647, below zero where
+    /// there is none. `unbegun` octets of the DATA of `unbegun_stream` that are spent haven't begun, and count as not spent.
+    pub fn size_limit(&self, unbegun_stream: u32, unbegun: u32) -> i64
+        ensures { IsSizeLimit self.now unbegun_stream unbegun result }
+    {
+        let mut limit = LARGEST;
+        let mut next = self.first_behind(None);
+        while let Some(stream) = next {
+            let on_stream = self.limit_on(stream, unbegun_on(unbegun_stream, unbegun, stream));
+            limit = limit.min(on_stream);
+            next = self.first_behind(Some(stream));
+        }
+        limit
+    }
+
+    /// The largest initial size that the sending window of a stream allows.
+    fn limit_on(&self, stream: u32, unbegun: u32) -> i64
+        ensures { result ≡ limit_by unbegun (get self.now.streams stream) }
+    {
+        match self.streams.get(stream) {
+            Some(windows) => windows.size_limit(unbegun),
+            None => LARGEST,
+        }
     }
 
     fn resize_streams(

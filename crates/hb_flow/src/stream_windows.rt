@@ -4,6 +4,7 @@ ghost use Rattle.std.specs.Prelude.{◌≡◌, ◌≤◌, ◌+◌, pos, ◌+ℤ�
 ghost use Rattle.hb_windows.specs.Sending.{largest};
 ghost use Rattle.hb_flow.specs.Windows.{room, counted, less, more, sized, taken, owing, due_of, paid_of};
 ghost use Rattle.hb_flow.specs.Flows.{new_windows};
+ghost use Rattle.hb_flow.specs.Sizes.{size_limit};
 ghost use Rattle.hb_flow.specs.Answers.{Rises, Comes};
 
 use crate::window;
@@ -86,6 +87,13 @@ impl StreamWindows {
     {
         let size = self.sending.size();
         window::resize(&mut self.sending, size, initial, unbegun)
+    }
+
+    /// The largest initial size at which the sending window stays within the largest content.
+    pub fn size_limit(&self, unbegun: u32) -> i64
+        ensures { result ≡ size_limit self.now.sending unbegun }
+    {
+        window::size_limit(&self.sending, unbegun)
     }
 
     /// Takes DATA that came.

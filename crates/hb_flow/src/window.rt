@@ -3,6 +3,7 @@
 ghost use Rattle.std.specs.Prelude.{◌≡◌, ◌≤◌, pos, ◌+ℤ◌, ◌-ℤ◌, ◌≤ℤ◌, ◌<ℤ◌, IfOk, IfErr};
 ghost use Rattle.hb_windows.specs.Sending.{largest};
 ghost use Rattle.hb_flow.specs.Windows.{room, counted, less, more, sized};
+ghost use Rattle.hb_flow.specs.Sizes.{size_limit};
 ghost use Rattle.hb_flow.specs.Answers.{Rises};
 
 use hb_windows::{Overrun, SendWindow};
@@ -45,6 +46,14 @@ pub fn resize(window: &mut SendWindow, old: u32, new: u32, unbegun: u32) -> Resu
 {
     within(window.held() + unbegun as i64, new as i64 - old as i64)?;
     window.resize(old, new)
+}
+
+/// The largest initial size at which the window stays within the largest content, where the DATA that hasn't begun counts as
+/// not spent.
+pub fn size_limit(window: &SendWindow, unbegun: u32) -> i64
+    ensures { result ≡ size_limit window.now unbegun }
+{
+    LARGEST - (window.held() + unbegun as i64 - window.size() as i64)
 }
 
 /// That a sum doesn't exceed the largest content.

@@ -6,7 +6,8 @@
 //! `o` opens a stream, `c` closes it, `s` sends DATA where so much may be sent and `b` also takes it back, `g` grants,
 //! `z` changes the initial size, with octets of the stream behind `@` that haven't begun. `t` takes DATA that comes, and
 //! `u` uses up what came; on the connection `u` takes it before. `d` asks what is due, `r` what may be sent, and `k` what
-//! came and isn't used up. A step that is refused is answered with what the window holds and what was asked.
+//! came and isn't used up; `l` asks the largest initial size, with octets that haven't begun as `z`. A step that is
+//! refused is answered with what the window holds and what was asked.
 
 pub const SENDING: &[u8] = b"\
 # 65,535 octets, and then an update on one window alone\n\
@@ -49,7 +50,12 @@ o@1=ok s@1/10=ok g/2147418123=65525+2147418123 g/2147418122=ok\n\
 o@1=ok s@1/10=ok g@1/2147418113+10=65535+2147418113 g@1/2147418112+10=ok g@1/11=2147483637+11 g@1/10=ok\n\
 z/0=ok o@1=ok g@1/2147483640=ok s@1/5=ok z@1/8+5=2147483640+8\n\
 z/0=ok o@1=ok g@1/2147483640=ok s@1/5=ok z@1/7+5=ok g@1/6=2147483642+6 g@1/5=ok\n\
-z/0=ok o@1=ok g@1/2147483640=ok s@1/5=ok z@3/12+5=ok g@1/1=2147483647+1\n";
+z/0=ok o@1=ok g@1/2147483640=ok s@1/5=ok z@3/12+5=ok g@1/1=2147483647+1\n\
+# the largest initial size that all streams allow, also below zero, where DATA that hasn't begun counts as not spent\n\
+l=2147483647 o@1=ok l=2147483647 g@1/1=ok l=2147483646 o@3=ok g@3/10=ok l=2147483637 c@3=ok l=2147483646\n\
+o@1=ok g@1/5=ok o@3=ok l=2147483642 o@5=ok g@5/9=ok l=2147483638 g@1/5=ok l=2147483637 z/2147483637=ok z/2147483638=2147483647+1\n\
+o@1=ok g@1/1=ok s@1/3=ok l=2147483647 l@3+3=2147483647 l@1+2=2147483647 l@1+3=2147483646\n\
+z/0=ok o@1=ok g@1/2147483647=ok l=0 s@1/1=ok l=1 l@1+1=0 l@1+2=-1\n";
 
 pub const TAKING: &[u8] = b"\
 # the octet behind the 65,535th, on the connection and on a stream\n\

@@ -22,6 +22,7 @@ fn number_of(rt: &impl Abort, text: &str) -> u32 {
 enum Answer {
     Done(bool),
     Octets(Option<u32>),
+    Limit(i64),
     Refused(Overrun),
 }
 
@@ -126,6 +127,7 @@ fn make(flow: &mut Flow, letter: u8, stream: Option<u32>, n: u32, unbegun: u32) 
         b'u' => use_up(flow, stream, n),
         b'd' => due(flow, stream),
         b'r' => Answer::Octets(Some(flow.sendable(on))),
+        b'l' => Answer::Limit(flow.size_limit(on, unbegun)),
         b'k' => Answer::Octets(Some(flow.creditable(on))),
         _ => Answer::Done(false),
     }
@@ -137,6 +139,7 @@ fn tell(rt: &impl Abort, alloc: Global, answer: Answer) -> String {
         Answer::Done(false) => format!(in alloc; "no"),
         Answer::Octets(None) => format!(in alloc; "none"),
         Answer::Octets(Some(n)) => format!(in alloc; "{n}"),
+        Answer::Limit(size) => format!(in alloc; "{size}"),
         Answer::Refused(fault) => format!(in alloc; "{}+{}", fault.held, fault.asked),
     };
     told.ok().expect(rt, "memory")

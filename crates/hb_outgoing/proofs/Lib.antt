@@ -1,3 +1,4 @@
+pub mod Known
 pub mod Queues
 pub mod Sent
 pub mod Views

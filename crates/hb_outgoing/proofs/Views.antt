@@ -14,7 +14,7 @@ use Rattle.hb_outgoing.specs.declared.head.Head.{Head}
 use Rattle.hb_outgoing.specs.Waiting.{Waiting, spelled, octets_of, nothing, opened, put}
 use Rattle.hb_outgoing.specs.Queue.{frames_of, AllFit, AreWhole}
 use Rattle.hb_outgoing.specs.Written.{begun_in, begun_by, last_head, while_waits, rest_after, written}
-use Rattle.hb_outgoing.specs.Selected.{is_kept, taken_back, all_taken_back}
+use Rattle.hb_outgoing.specs.Selected.{is_kept, without, taken_back, all_taken_back}
 use Rattle.hb_outgoing.proofs.Queues.{no_frames, whole_none, whole_spelled, frames_spelled, grown, spelling_len}
 
 abbrev pub waiting : List ℕ → Option Head → List RawFrame → Waiting
@@ -116,6 +116,13 @@ octets_are_written items rest begun n end head left inside ends left_is =
           ∙ ap (λ (fs : List RawFrame). drop (length fs) (frames_of (drop rest items))) (sym begins));
     }
 
+pub front_is_written : (items front : List ℕ) (rest : ℕ) (begun : Option Head) (n end : ℕ) (head left : Option Head) → front ≡ items
+    → Inside items rest → Ends front rest begun n end head → left ≡ (if end - n == 0 then None else head)
+    → Becomes (drop n items) (end - n) left (written n (view items rest begun))
+front_is_written items front rest begun n end head left is inside ends left_is =
+    octets_are_written items rest begun n end head left inside
+    (subst (λ (xs : List ℕ). Ends xs rest begun n end head) is ends) left_is
+
 -- what is left once frames were taken back
 
 pub fit_filter : (p : RawFrame → Bool) (fs : List RawFrame) → AllFit fs → AllFit (filter p fs)
@@ -135,10 +142,6 @@ filter_is_short p (f ∷ fs) =
     (λ (test : p f ≡ true). rw test (omega (arith, shorter, len, len_kept)))
     (λ (test : p f ≡ false). rw test (omega (arith, shorter, len)))
     (cases_Bool (p f))
-
--- without the stream's DATA frames; None: of any
-abbrev pub without : Option ℕ → Waiting → Waiting
-without stream w = record w { queue = filter (is_kept stream) w.queue }
 
 pub without_is_short : (stream : Option ℕ) (w : Waiting) → length (octets_of (without stream w)) ≤ length (octets_of w)
 without_is_short stream w =

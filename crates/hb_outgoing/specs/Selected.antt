@@ -1,4 +1,4 @@
-use Rattle.std.specs.Prelude.{ℕ, List, [], ◌∷◌, length, Bool, true, false, not, ◌&&◌, ◌||◌, ◌==◌, bit_and, Option, Some, None, if◌then◌else◌}
+use Rattle.std.specs.Prelude.{◌≡◌, ℕ, ◌<◌, List, [], ◌∷◌, length, Bool, true, false, not, ◌&&◌, ◌||◌, ◌==◌, bit_and, Option, Some, None, if◌then◌else◌}
 use Rattle.std.specs.List.{filter, list_any, sum_by}
 use Rattle.hb_frames.specs.RawFrame.{RawFrame}
 use Rattle.hb_frames.specs.Numbers.{data_kind, headers_kind}
@@ -18,13 +18,17 @@ is_data_of stream f = f.kind == data_kind && is_meant stream f.stream
 abbrev pub is_kept : Option ℕ → RawFrame → Bool
 is_kept stream f = not (is_data_of stream f)
 
+-- without the stream's DATA frames that haven't begun; None: without any
+abbrev pub without : Option ℕ → Waiting → Waiting
+without stream w = record w { queue = filter (is_kept stream) w.queue }
+
 -- after the stream's DATA frames that haven't begun were taken back
 abbrev pub taken_back : ℕ → Waiting → Waiting
-taken_back stream w = record w { queue = filter (is_kept (Some stream)) w.queue }
+taken_back stream w = without (Some stream) w
 
 -- after all DATA frames that haven't begun were taken back
 abbrev pub all_taken_back : Waiting → Waiting
-all_taken_back w = record w { queue = filter (is_kept None) w.queue }
+all_taken_back w = without None w
 
 abbrev pub payload_size : RawFrame → ℕ
 payload_size f = length f.payload
@@ -60,3 +64,9 @@ has_data f = f.kind == data_kind && not (length f.payload == 0)
 abbrev pub first_data : List RawFrame → Option Unbegun
 first_data [] = None
 first_data (f ∷ fs) = if has_data f then Some (record { stream = f.stream; size = length f.payload }) else first_data fs
+
+-- What is kept of the DATA frames of a queue: where none with payload waits there is none, and none is of a stream with a
+-- number greater than the newest
+pub record KnowsData (waits : Bool) (newest : ℕ) (queue : List RawFrame) : Type 0 where
+  pub none : waits ≡ false → list_any has_data queue ≡ false
+  pub older : (stream : ℕ) → newest < stream → list_any (is_data_of (Some stream)) queue ≡ false

@@ -3,10 +3,12 @@
 ghost use Rattle.std.specs.Prelude.{◌≡◌, ◌+◌, ◌≤◌, ◌==◌, length, Some, IfOk};
 ghost use Rattle.hb_outgoing.specs.Waiting.{octets_of, room_of, nothing, opened, put, size};
 ghost use Rattle.hb_outgoing.specs.Written.{written};
-ghost use Rattle.hb_outgoing.specs.Selected.{taken_back, all_taken_back, data_size, first_data, end_waits};
+ghost use Rattle.hb_outgoing.specs.Selected.{without, taken_back, all_taken_back, data_size, first_data, end_waits};
 
 use crate::head::Head;
-use crate::queue::{any_ends, begin, ends, first_data, take_data, while_waits};
+use crate::queue::{
+    any_ends, begin, ends, first_data, newest_with, still_waits, take_data, waits_with, while_waits,
+};
 use crate::unbegun::Unbegun;
 use hb_base::NoMemory;
 use hb_frames::Output;
@@ -26,12 +28,17 @@ pub struct Outgoing {
     /// How many octets in front are left of what was begun.
     rest: usize,
     begun: Option<Head>,
+    /// Not set: no DATA frame with payload waits of which no octet was written.
+    data_waits: bool,
+    /// The greatest stream of which a DATA frame was put.
+    newest: u32,
 }
 
 impl Model for Outgoing {
     ghost use Rattle.std.specs.Prelude.{◌≡◌, ◌≤◌, length, take, drop};
     ghost use Rattle.hb_outgoing.specs.Waiting.{Waiting};
     ghost use Rattle.hb_outgoing.specs.Queue.{frames_of, AreWhole};
+    ghost use Rattle.hb_outgoing.specs.Selected.{KnowsData};
 
     ghost Value = { Waiting };
 
@@ -43,7 +50,8 @@ impl Model for Outgoing {
 
     ghost invariant = { λ o.
         (o.output.size ≡ 32777) × (length o.output.items ≤ 32768) × (o.rest ≤ length o.output.items)
-        × AreWhole (drop o.rest o.output.items) };
+        × AreWhole (drop o.rest o.output.items)
+        × KnowsData o.data_waits o.newest (frames_of (drop o.rest o.output.items)) };
 }
 
 impl Outgoing {
@@ -56,6 +64,8 @@ impl Outgoing {
             output,
             rest: 0,
             begun: None,
+            data_waits: false,
+            newest: 0,
         })
     }
 
@@ -103,6 +113,8 @@ impl Outgoing {
         ensures grows { length (octets_of self.new) ≡ length (octets_of self.old) + (9 + length payload.now) }
     {
         self.output.put_frame(kind, flags, stream, payload);
+        self.data_waits = waits_with(self.data_waits, kind, payload.len());
+        self.newest = newest_with(self.newest, kind, stream);
     }
 
     /// Removes the first `n` octets, which were written. A frame whose first octet is among them has begun.
@@ -114,6 +126,7 @@ impl Outgoing {
         self.output.drop_front(n);
         self.rest = end - n;
         self.begun = while_waits(self.rest, head);
+        self.look_for_data();
     }
 
     /// Takes the stream's DATA frames back of which no octet was written, and says how many octets of payload
@@ -123,7 +136,10 @@ impl Outgoing {
         ensures left { self.new ≡ taken_back stream self.old }
         ensures shorter { length (octets_of self.new) ≤ length (octets_of self.old) }
     {
-        take_data(&mut self.output, self.rest, Some(stream))
+        if stream > self.newest {
+            return 0;
+        }
+        self.take(Some(stream))
     }
 
     /// Takes all DATA frames back of which no octet was written.
@@ -131,13 +147,33 @@ impl Outgoing {
         ensures left { self.new ≡ all_taken_back self.old }
         ensures shorter { length (octets_of self.new) ≤ length (octets_of self.old) }
     {
-        take_data(&mut self.output, self.rest, None);
+        self.take(None);
+    }
+
+    /// Takes the stream's DATA frames back of which no octet was written, None: those of all streams.
+    fn take(&mut self, stream: Option<u32>) -> u32
+        ensures value { result ≡ data_size stream self.old.queue }
+        ensures left { self.new ≡ without stream self.old }
+    {
+        let taken = take_data(&mut self.output, self.rest, stream);
+        self.look_for_data();
+        taken
+    }
+
+    /// Looks whether DATA with payload still waits.
+    fn look_for_data(&mut self)
+        ensures { self.new ≡ self.old }
+    {
+        self.data_waits = still_waits(self.data_waits, self.output.front(), self.rest);
     }
 
     /// The first DATA frame with payload of which no octet was written.
     pub fn unbegun(&self) -> Option<Unbegun>
         ensures { result ≡ first_data self.now.queue }
     {
+        if !self.data_waits {
+            return None;
+        }
         first_data(self.output.front(), self.rest)
     }
 

@@ -1,7 +1,8 @@
 //! Walks over whole frames that stand one after the other in octets.
 
-ghost use Rattle.std.specs.Prelude.{◌≡◌, ◌+◌, ◌-◌, ◌≤◌, ◌<◌, ◌++◌, ◌==◌, length, take, drop, None, if◌then◌else◌};
+ghost use Rattle.std.specs.Prelude.{◌≡◌, ◌+◌, ◌-◌, ◌≤◌, ◌<◌, ◌++◌, ◌==◌, length, take, drop, None, is_some, not, ◌&&◌, ◌||◌, if◌then◌else◌};
 ghost use Rattle.std.specs.List.{filter, list_any};
+ghost use Rattle.hb_frames.specs.Numbers.{data_kind};
 ghost use Rattle.hb_frames.specs.RawFrame.{raw_at, spelling, size_at};
 ghost use Rattle.hb_outgoing.specs.Waiting.{spelled, head_of};
 ghost use Rattle.hb_outgoing.specs.Queue.{frames_of, AreWhole, IsPlaced};
@@ -175,4 +176,32 @@ pub(crate) fn first_data(bytes: &[u8], from: usize) -> Option<Unbegun>
         at += HEADER + next.size as usize;
     }
     None
+}
+
+/// A DATA frame with payload waits, or it is put.
+pub(crate) fn waits_with(waits: bool, kind: u8, size: usize) -> bool
+    ensures { result ≡ (waits || (kind == data_kind && not (size == 0))) }
+{
+    waits || (kind == DATA && size != 0)
+}
+
+/// The greatest stream of DATA once a frame is put.
+pub(crate) fn newest_with(newest: u32, kind: u8, stream: u32) -> u32
+    ensures grows { newest ≤ result }
+    ensures data { kind ≡ data_kind → stream ≤ result }
+{
+    if kind == DATA {
+        newest.max(stream)
+    } else {
+        newest
+    }
+}
+
+/// A DATA frame with payload still waits from a place on.
+pub(crate) fn still_waits(waits: bool, bytes: &[u8], from: usize) -> bool
+    requires order { from ≤ length bytes.now }
+    requires whole { AreWhole (drop from bytes.now) }
+    ensures { result ≡ (waits && is_some (first_data (frames_of (drop from bytes.now)))) }
+{
+    waits && first_data(bytes, from).is_some()
 }

@@ -1,3 +1,4 @@
+pub mod Clear
 pub mod Numbers
 pub mod Orders
 pub mod Payments

@@ -25,8 +25,8 @@ use std::marker::Model;
 /// a stream without a record changes nothing, and only `open` takes memory.
 #[derive(Drop)]
 pub struct Owed {
-    streams: ById<StreamDebt>,
-    /// A look through all records found nothing owed, and none has changed since.
+    streams: ById<u32, StreamDebt>,
+    /// A look through all records found nothing owed, and nothing came to be owed since.
     all_clear: bool,
 }
 
@@ -60,13 +60,12 @@ impl Owed {
     }
 
     /// Gives a new stream a record, which owes nothing.
-    #[tactic(auto, using(crate::proofs::Numbers::numbered_put))]
+    #[tactic(auto, using(crate::proofs::Numbers::numbered_put, crate::proofs::Clear::clear_put))]
     pub fn open(&mut self, stream: u32) -> Result<(), NoMemory>
         requires in_range { stream ≤ largest }
         ensures ok { OnOk result (self.new ≡ opened self.old stream) }
         ensures err { OnErr result (self.new ≡ self.old) }
     {
-        self.all_clear = false;
         self.streams.put(stream, StreamDebt::new())
     }
 
@@ -213,21 +212,19 @@ impl Owed {
         }
     }
 
-    #[tactic(auto, using(crate::proofs::Numbers::numbered_written))]
+    #[tactic(auto, using(crate::proofs::Numbers::numbered_written, crate::proofs::Clear::clear_shut))]
     fn mark_closed(&mut self, stream: u32)
         ensures { self.new ≡ changed self.old stream shut }
     {
-        self.all_clear = false;
         if let Some(debt) = self.streams.at(stream) {
             debt.close();
         }
     }
 
-    #[tactic(auto, using(crate::proofs::Numbers::numbered_written))]
+    #[tactic(auto, using(crate::proofs::Numbers::numbered_written, crate::proofs::Clear::clear_without_end))]
     fn drop_end(&mut self, stream: u32)
         ensures { self.new ≡ changed self.old stream without_end }
     {
-        self.all_clear = false;
         if let Some(debt) = self.streams.at(stream) {
             debt.take_back();
         }
@@ -261,12 +258,11 @@ impl Owed {
     }
 
     /// Takes the stream's record away where it is closed and owes nothing.
-    #[tactic(auto, using(crate::proofs::Numbers::numbered_removed))]
+    #[tactic(auto, using(crate::proofs::Numbers::numbered_removed, crate::proofs::Clear::clear_removed))]
     fn settle(&mut self, stream: u32)
         ensures { self.new ≡ settled self.old stream }
     {
         if self.is_done(stream) {
-            self.all_clear = false;
             self.streams.remove(stream);
         }
     }
