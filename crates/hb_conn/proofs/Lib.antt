@@ -2,6 +2,7 @@ pub mod Begun
 pub mod Blocks
 pub mod Flowing
 pub mod Keeping
+pub mod Pending
 pub mod Plain
 pub mod Received
 pub mod Setting

@@ -95,6 +95,10 @@ taken c piece = record c {
   };
 }
 
+-- what it keeps beside the octets that came and an end that is still to be told: of this the laws of its history speak
+abbrev pub core_of : Connection → Core
+core_of c = c.receiver.core
+
 -- with other streams, windows and output
 abbrev pub with_core : Connection → Core → Connection
 with_core c core = record c { receiver = record c.receiver { core = core } }

@@ -10,6 +10,7 @@ pub mod Headers
 pub mod Laws
 pub mod Loan
 pub mod Numbers
+pub mod Observed
 pub mod Opening
 pub mod Outcome
 pub mod Owing
@@ -20,4 +21,5 @@ pub mod Preface
 pub mod Receiving
 pub mod Resets
 pub mod Settings
+pub mod Sizes
 pub mod Windows

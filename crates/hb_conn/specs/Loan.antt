@@ -3,6 +3,7 @@ use Rattle.std.specs.Prelude.{⊤, ◌≡◌, Option, Some, None, Result, IfOk}
 use Rattle.std.specs.Borrow.{MutBor, Fml}
 use Rattle.std.specs.Io.BufRead.{Rests}
 use Rattle.hb_conn.specs.Connection.{Connection, Finds, LeavesLess}
+use Rattle.hb_conn.specs.Observed.{data_told, header_list}
 use Rattle.hb_conn.specs.contracts.conn.Conn.{the_row}
 use Rattle.hb_conn.specs.declared.found.Found.{Found}
 use Rattle.hb_conn.specs.declared.found.Found.TheVariants as found
@@ -13,8 +14,8 @@ use Rattle.hb_conn.specs.declared.happening.Happening.TheVariants.{Opened, Chunk
 abbrev pub Shows : Connection → Found → Option Happening → Type 0
 Shows c found.Silent None = ⊤
 Shows c (found.Opened stream end) (Some (Opened of headers last)) =
-    (of ≡ stream) × (headers.now ≡ c.receiver.core.blocks.headers) × (last ≡ end)
-Shows c (found.Chunk stream end) (Some (Chunk of bytes)) = (of ≡ stream) × (bytes.now ≡ c.receiver.reader.last)
+    (of ≡ stream) × (headers.now ≡ header_list c) × (last ≡ end)
+Shows c (found.Chunk stream end) (Some (Chunk of bytes)) = (of ≡ stream) × (bytes.now ≡ data_told c)
 Shows c (found.Ended stream) (Some (Ended of)) = of ≡ stream
 Shows c (found.Reset stream code) (Some (Reset of why)) = (of ≡ stream) × (why ≡ code)
 Shows c (found.Broken stream code) (Some (Broken of why)) = (of ≡ stream) × (why ≡ code)

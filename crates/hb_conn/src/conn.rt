@@ -2,21 +2,12 @@
 
 ghost use Rattle.std.specs.Prelude.{◌≡◌, ◌≤◌, ◌<◌, ◌+◌, min, length, IfOk, IsTrue};
 ghost use Rattle.std.specs.Borrow.{sem};
-ghost use Rattle.std.specs.FinMap.{len};
-ghost use Rattle.hb_streams.specs.Sides.{sides_of, IsActive};
-ghost use Rattle.hb_streams.specs.States.{state_of};
-ghost use Rattle.hb_outgoing.specs.Waiting.{octets_of, room_of};
-ghost use Rattle.hb_flow.specs.Flows.{creditable};
-ghost use Rattle.hb_conn.specs.Connection.{fresh_core, fresh_server, fresh_client, space_of, count_of, taken, with_core, Finds, LeavesLess};
 ghost use Rattle.hb_hpack.specs.Table.{total};
 ghost use Rattle.hb_streams.specs.declared.role.Role.TheVariants.{Client};
-ghost use Rattle.hb_conn.specs.Opening.{Opens, opened_with};
-ghost use Rattle.hb_conn.specs.Owing.{wrote};
-ghost use Rattle.hb_conn.specs.Payload.{count_put, data_put};
-ghost use Rattle.hb_conn.specs.Credit.{credit};
-ghost use Rattle.hb_conn.specs.Ending.{status_put, end_put, end_waits_on};
-ghost use Rattle.hb_conn.specs.Faults.{aborted};
+ghost use Rattle.hb_conn.specs.Connection.{fresh_core, fresh_server, fresh_client, space_of, count_of, taken, Finds, LeavesLess};
 ghost use Rattle.hb_conn.specs.Loan.{EndsTold};
+ghost use Rattle.hb_conn.specs.Observed.{output, room, role, sides, own_side_open, IsActiveOn, streams_open, creditable, count_put, end_waits};
+ghost use Rattle.hb_conn.specs.Observed.{KeepsWhatCame, wrote, Opens, data_put, credited, status_put, end_put, aborted};
 
 use crate::found::Found;
 use crate::happening::Happening;
@@ -190,15 +181,15 @@ impl Conn {
 
     /// All octets that wait to be written.
     pub fn output(&self) -> &[u8]
-        ensures { result.now ≡ octets_of self.now.receiver.core.out }
+        ensures { result.now ≡ output self.now }
     {
         self.receiver.core.out.front()
     }
 
     /// Removes the first `n` octets of the output, which were written. Then what is owed is put, as far as there is room.
     pub fn wrote(&mut self, n: usize)
-        requires { n ≤ length (octets_of self.old.receiver.core.out) }
-        ensures { self.new ≡ with_core self.old (wrote self.old.receiver.core n) }
+        requires { n ≤ length (output self.old) }
+        ensures { self.new ≡ wrote self.old n }
     {
         self.receiver.core.wrote(n);
     }
@@ -209,12 +200,11 @@ impl Conn {
     /// Errors: Full where 100 streams are open or half-closed, or as many as the peer's SETTINGS_MAX_CONCURRENT_STREAMS;
     /// Spent where no number is left. Nothing has changed then.
     pub fn open(&mut self, headers: &List<Header>, end: bool) -> Result<u32, Or<OpenFault>>
-        requires client { self.old.receiver.core.streams.role ≡ Client }
-        requires room { 1024 ≤ room_of self.old.receiver.core.out }
+        requires client { role self.old ≡ Client }
+        requires room { 1024 ≤ room self.old }
         requires headers { total headers.now ≤ 900 }
-        ensures told { Opens self.old.receiver.core (λ stream. opened_with self.old.receiver.core stream headers.now end)
-            self.new.receiver.core result }
-        ensures rest { self.new ≡ with_core self.old self.new.receiver.core }
+        ensures told { Opens self.old headers.now end self.new result }
+        ensures rest { KeepsWhatCame self.old self.new }
     {
         self.receiver.core.open(self.alloc, headers, end)
     }
@@ -223,9 +213,9 @@ impl Conn {
     /// SETTINGS_MAX_FRAME_SIZE and 16,384 let go, and says how many; none while the output holds any octet, nor behind a
     /// connection error (RFC 9113 sections 5.4.1 and 6.9).
     pub fn put_some(&mut self, stream: u32, bytes: &[u8]) -> usize
-        requires { IsTrue (sides_of (state_of self.old.receiver.core.streams stream)).own }
-        ensures count { result ≡ count_put self.old.receiver.core stream bytes.now }
-        ensures after { self.new ≡ with_core self.old (data_put self.old.receiver.core stream bytes.now) }
+        requires { IsTrue (own_side_open self.old stream) }
+        ensures count { result ≡ count_put self.old stream bytes.now }
+        ensures after { self.new ≡ data_put self.old stream bytes.now }
     {
         self.receiver.core.put_some(stream, bytes)
     }
@@ -233,8 +223,8 @@ impl Conn {
     /// `n` octets that came on the stream are used up. WINDOW_UPDATE is put or owed where it is due, as long as the peer
     /// hasn't ended the stream (RFC 9113 section 6.9).
     pub fn credit(&mut self, stream: u32, n: u32)
-        requires { n ≤ creditable self.old.receiver.core.flow stream }
-        ensures { self.new ≡ with_core self.old (credit self.old.receiver.core stream n) }
+        requires { n ≤ creditable self.old stream }
+        ensures { self.new ≡ credited self.old stream n }
     {
         self.receiver.core.credit(stream, n);
     }
@@ -242,19 +232,18 @@ impl Conn {
     /// Answers on the stream with a status in HEADERS, which end this end's side where `end` says so. They are owed as
     /// long as room lacks.
     pub fn put_status(&mut self, stream: u32, status: u16, end: bool)
-        requires open { IsTrue (sides_of (state_of self.old.receiver.core.streams stream)).own }
+        requires open { IsTrue (own_side_open self.old stream) }
         requires low { 100 ≤ status }
         requires high { status < 1000 }
-        ensures { self.new ≡ with_core self.old
-            (status_put self.old.receiver.core stream (record { number = status; end = end })) }
+        ensures { self.new ≡ status_put self.old stream (record { number = status; end = end }) }
     {
         self.receiver.core.put_status(stream, status, end);
     }
 
     /// Ends this end's side of the stream with an empty DATA frame, which is owed as long as room lacks.
     pub fn put_end(&mut self, stream: u32)
-        requires { IsTrue (sides_of (state_of self.old.receiver.core.streams stream)).own }
-        ensures { self.new ≡ with_core self.old (end_put self.old.receiver.core stream) }
+        requires { IsTrue (own_side_open self.old stream) }
+        ensures { self.new ≡ end_put self.old stream }
     {
         self.receiver.core.put_end(stream);
     }
@@ -262,50 +251,50 @@ impl Conn {
     /// Resets the stream: its DATA that hasn't begun is taken back, and RST_STREAM is put, or owed as long as room lacks
     /// (RFC 9113 section 6.4).
     pub fn put_reset(&mut self, stream: u32, code: u32)
-        requires { IsActive (state_of self.old.receiver.core.streams stream) }
-        ensures { self.new ≡ with_core self.old (aborted self.old.receiver.core stream code) }
+        requires { IsActiveOn self.old stream }
+        ensures { self.new ≡ aborted self.old stream code }
     {
         self.receiver.core.abort(stream, code);
     }
 
     /// The octets that came on the stream and aren't used up: so many may be given to `credit`.
     pub fn creditable(&self, stream: u32) -> u32
-        ensures { result ≡ creditable self.now.receiver.core.flow stream }
+        ensures { result ≡ creditable self.now stream }
     {
         self.receiver.core.flow.creditable(stream)
     }
 
     /// Which end of the connection this is.
     pub fn role(&self) -> Role
-        ensures { result ≡ self.now.receiver.core.streams.role }
+        ensures { result ≡ role self.now }
     {
         self.receiver.core.streams.role()
     }
 
     /// A frame of the stream with END_STREAM is owed, or has an octet in the output.
     pub fn end_waits(&self, stream: u32) -> bool
-        ensures { result ≡ end_waits_on self.now.receiver.core stream }
+        ensures { result ≡ end_waits self.now stream }
     {
         self.receiver.core.end_waits(stream)
     }
 
     /// How many octets more the output has room for.
     pub fn room(&self) -> usize
-        ensures { result ≡ room_of self.now.receiver.core.out }
+        ensures { result ≡ room self.now }
     {
         self.receiver.core.out.room()
     }
 
     /// How many streams are open or half-closed.
     pub fn streams_open(&self) -> u32
-        ensures { result ≡ min (len self.now.receiver.core.streams.active) 4294967295 }
+        ensures { result ≡ min (streams_open self.now) 4294967295 }
     {
         self.receiver.core.streams.active().min(u32::MAX as usize) as u32
     }
 
     /// Which sides of a stream are open: none exactly of an idle or a closed one.
     pub fn sides(&self, stream: u32) -> Sides
-        ensures { result ≡ sides_of (state_of self.now.receiver.core.streams stream) }
+        ensures { result ≡ sides self.now stream }
     {
         self.receiver.core.streams.sides(stream)
     }

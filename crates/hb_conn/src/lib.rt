@@ -25,6 +25,7 @@ mod preface;
 mod receiver;
 mod resets;
 mod settings;
+mod sizes;
 mod windows;
 
 pub use conn::Conn;

@@ -5,15 +5,16 @@ ghost use Rattle.std.specs.List.{list_any};
 ghost use Rattle.hb_frames.specs.Octets.{four_at};
 ghost use Rattle.hb_frames.specs.Refusals.{settings};
 ghost use Rattle.hb_outgoing.specs.Waiting.{octets_of, size};
-ghost use Rattle.hb_conn.specs.Settings.{is_push, allows_push, noted, Resized, Applies, AppliesAll, applied, DoesSettings};
+ghost use Rattle.hb_conn.specs.Settings.{is_push, allows_push, noted, Resized, AppliesAll, applied, DoesSettings};
 ghost use Rattle.hb_conn.specs.Outcome.{Gives};
 
 use crate::found::Found;
 use crate::machine::Core;
 use crate::numbers::{
-    ENABLE_PUSH, FLOW_CONTROL_ERROR, INITIAL_WINDOW_SIZE, LARGEST_WINDOW, MAX_CONCURRENT_STREAMS,
-    MAX_FRAME_SIZE, PROTOCOL_ERROR,
+    ENABLE_PUSH, FLOW_CONTROL_ERROR, LARGEST_WINDOW, MAX_CONCURRENT_STREAMS, MAX_FRAME_SIZE,
+    PROTOCOL_ERROR,
 };
+use crate::sizes::NOTHING_KNOWN;
 use hb_streams::Role;
 
 /// The identifier and the value of the first setting.
@@ -55,7 +56,7 @@ impl Core {
     }
 
     /// Whether the windows of streams may have this initial size.
-    fn resize(&mut self, initial: u32) -> bool
+    pub(crate) fn resize(&mut self, initial: u32) -> bool
         ensures after { Resized self.old initial self.new result }
         ensures out { self.new.out ≡ self.old.out }
     {
@@ -69,7 +70,7 @@ impl Core {
         }
     }
 
-    fn note(&mut self, identifier: u32, value: u32)
+    pub(crate) fn note(&mut self, identifier: u32, value: u32)
         ensures after { self.new ≡ noted self.old (identifier, value) }
         ensures out { self.new.out ≡ self.old.out }
     {
@@ -80,30 +81,21 @@ impl Core {
         }
     }
 
-    fn apply(&mut self, identifier: u32, value: u32) -> bool
-        ensures after { Applies self.old (identifier, value) self.new result }
-        ensures out { self.new.out ≡ self.old.out }
-    {
-        if identifier == INITIAL_WINDOW_SIZE {
-            return self.resize(value);
-        }
-        self.note(identifier, value);
-        true
-    }
-
     /// Applies the settings one by one, up to the first that doesn't fit.
     fn apply_all(&mut self, pairs: &[u8]) -> bool
         ensures after { AppliesAll self.old (settings pairs.now) self.new result }
         ensures out { self.new.out ≡ self.old.out }
     {
+        let mut sizes = NOTHING_KNOWN;
         let mut left = pairs;
         while left.len() >= 6 {
-            let (identifier, value) = first_setting(left);
-            if !self.apply(identifier, value) {
-                return false;
+            match self.apply(sizes, first_setting(left), left.len() > 6) {
+                None => return false,
+                Some(next) => sizes = next,
             }
             left = left.split_at(6).1;
         }
+        self.set_pending(sizes.pending);
         true
     }
 
