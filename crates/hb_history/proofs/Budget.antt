@@ -17,6 +17,7 @@ use Rattle.hb_conn.specs.Faults.{faulted}
 use Rattle.hb_conn.specs.Preface.{Came, is_whole, taken_of}
 use Rattle.hb_conn.specs.Receiving.{pauses, Ends, waits, lacks, tells}
 use Rattle.hb_conn.specs.Connection.{Connection, FindsWhile, FindsOf, FindsAfter, FindsBy, count_of, front_of, taken}
+use Rattle.hb_conn.specs.Observed.{room}
 use Rattle.hb_conn.specs.declared.machine.Core.{Core}
 use Rattle.hb_conn.specs.declared.receiver.Receiver.{Receiver}
 use Rattle.hb_conn.specs.declared.found.Found.{Found}
@@ -26,7 +27,7 @@ use Rattle.hb_streams.specs.declared.role.Role.{Role}
 use Rattle.hb_streams.specs.declared.role.Role.TheVariants.{Server, Client}
 use Rattle.hb_history.specs.History.{fresh}
 use Rattle.hb_history.specs.Calls.{Call, takes, asks, acts, writes, MakesAll}
-use Rattle.hb_history.specs.Budget.{room, HoldsNoFrame, most_by, most_of, goaway_of, Asked, FindsWithin, TakesWithin, AnswersAreFew, NeverPauses, WaitsForPreface, CallsWait, LooksAtAll}
+use Rattle.hb_history.specs.Budget.{HoldsNoFrame, most_by, most_of, goaway_of, Asked, FindsWithin, TakesWithin, AnswersAreFew, NeverPauses, WaitsForPreface, CallsWait, LooksAtAll}
 use Rattle.hb_history.proofs.CatchUpSeen.{none_there}
 use Rattle.hb_history.proofs.BudgetReceived.{finds_spend, asked_spend}
 

@@ -3,7 +3,7 @@ use Rattle.std.proofs.Common.{◌≡◌, ℕ, ◌+◌, ◌*◌, ◌%◌, ◌==�
 use Rattle.std.proofs.lemmas.Bool.{false≢true}
 use Rattle.std.proofs.lemmas.Bool.Decides.{nat_tests}
 use Rattle.hb_frames.specs.RawFrame.{RawFrame}
-use Rattle.hb_frames.specs.Numbers.{settings_kind, ping_kind, window_update_kind}
+use Rattle.hb_frames.specs.Numbers.{data_kind, settings_kind, ping_kind, window_update_kind}
 use Rattle.hb_frames.specs.Octets.{four_at}
 use Rattle.hb_frames.specs.Refusals.{is_ack, increment_of}
 use Rattle.hb_frames.specs.Bodies.{content_of, lent_of}
@@ -39,6 +39,10 @@ settings_are f test =
 pub ping_is : (f : RawFrame) → (f.kind == ping_kind) ≡ true → glance_at f ≡ glance.Ping (is_ack f) (ping_value f)
 ping_is f test = let kind : f.kind ≡ 6 = grind (arith, nat_tests, test) in ap (glance_with f) kind
 
+pub data_are : (f : RawFrame) → (f.kind == data_kind) ≡ true
+    → (glance_at f ≡ glance.Data f.stream (length f.payload) (has_flag f 1)) × (lent_of f ≡ content_of f)
+data_are f test = let kind : f.kind ≡ 0 = grind (arith, nat_tests, test) in (ap (glance_with f) kind, ap (lent_with f) kind)
+
 -- a test that fails of what a frame of each type is glanced at fails of all frames
 module _ (q : Glance → Bool) where
   none_by : (a b c d e f g h : Bool) (p r s t u v w x : Glance)
@@ -72,6 +76,10 @@ abbrev pub is_ping : Glance → Bool
 is_ping (glance.Ping ack value) = true
 is_ping _ = false
 
+abbrev pub is_data : Glance → Bool
+is_data (glance.Data s n end) = true
+is_data _ = false
+
 pub something : (f : RawFrame) → is_nothing (glance_at f) ≡ false
 something f =
     none_by is_nothing (f.kind == 0) (f.kind == 1) (f.kind == 3) (f.kind == 9) (f.kind == 4) (f.kind == 6) (f.kind == 7) (f.kind == 8)
@@ -94,3 +102,9 @@ no_ping f test =
     none_by is_ping (f.kind == 0) (f.kind == 1) (f.kind == 3) (f.kind == 9) (f.kind == 4) (f.kind == 6) (f.kind == 7) (f.kind == 8)
     _ _ _ _ _ _ _ _ (λ e. refl) (λ e. refl) (λ e. refl) (λ e. refl) (λ e. refl)
     (λ e. absurd (false≢true (sym test ∙ e))) (λ e. refl) (λ e. refl) refl
+
+pub no_data : (f : RawFrame) → (f.kind == data_kind) ≡ false → is_data (glance_at f) ≡ false
+no_data f test =
+    none_by is_data (f.kind == 0) (f.kind == 1) (f.kind == 3) (f.kind == 9) (f.kind == 4) (f.kind == 6) (f.kind == 7) (f.kind == 8)
+    _ _ _ _ _ _ _ _ (λ e. absurd (false≢true (sym test ∙ e))) (λ e. refl) (λ e. refl) (λ e. refl) (λ e. refl) (λ e. refl)
+    (λ e. refl) (λ e. refl) refl

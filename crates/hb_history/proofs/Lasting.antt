@@ -231,7 +231,7 @@ module _ (n : ℕ) where
     | inr apart ↦ (had.0, put_elsewhere s.active k w n apart ∙ had.1, had.2)
   ]
 
-  answer_open : (s : States) (kind k : ℕ) (end : Bool) (r : Result Step StreamFault) → (kind == rst_stream_kind) ≡ false
+  pub answer_open : (s : States) (kind k : ℕ) (end : Bool) (r : Result Step StreamFault) → (kind == rst_stream_kind) ≡ false
       → IsOpen n s → IsOpen n (after_answer s kind k end r)
   answer_open s kind k end (Ok step.New) other had = begun_open s k (record both_open { peer = not end }) refl had
   answer_open s kind k end (Ok step.Goes) other had =

@@ -21,7 +21,7 @@ use Rattle.hb_conn.specs.declared.found.Found.{Found}
 use Rattle.hb_conn.specs.declared.found.Found.TheVariants.{Silent}
 use Rattle.hb_conn.specs.declared.glance.Glance.{Glance}
 use Rattle.hb_conn.specs.declared.glance.Glance.TheVariants as glance
-use Rattle.hb_history.specs.Points.{Move, got, refused, Point, point, After, Runs, RunsWith, begins_by, got_by, frames_got}
+use Rattle.hb_history.specs.Points.{Move, got, refused, Point, point, After, Runs, got_by, frames_got}
 use Rattle.hb_history.specs.Calls.{IsLook, IsAct}
 use Rattle.hb_history.proofs.Acted.{look_keeps, act_keeps}
 use Rattle.hb_history.proofs.Handled.{window_keeps}
@@ -65,7 +65,6 @@ pub record Look (old new : Receiver) (told : Found) : Type 0 where
   pub move : Move
   pub is : IsLook move
   pub after : After old.core move new.core told
-  pub begins : begins_by old.core move ≡ []
   pub holds : Holds old.reader new.reader (got_by (point move told))
 
 look_by : (old new : Receiver) (told : Found) (o : Result (Option ℕ) Refusal) → first_of old.reader.max old.reader.held ≡ o
@@ -84,7 +83,6 @@ look_by old new told (Ok (Some n)) is steps =
         subst (λ (g : Glance). Handles old.core g (lent_of f) new.core told) glanced
             (subst (λ (xs : List ℕ). Handles old.core (glance_of old.reader) xs new.core told) lent steps.handled),
       );
-      begins = refl;
       holds = subst (λ (r : Reading). Holds old.reader r (f ∷ [])) (sym (steps.reader ∙ there)) (held_frame old.reader n is);
     }
 look_by old new told (Err refusal) is steps =
@@ -101,7 +99,6 @@ look_by old new told (Err refusal) is steps =
         subst (λ (h : Glance). Handles old.core h [] new.core told) glanced
             (subst (λ (xs : List ℕ). Handles old.core (glance_of r) xs new.core told) lent steps.handled),
       );
-      begins = refl;
       holds = held_same r new.reader (ap (λ (s : Reading). s.held) (steps.reader ∙ there));
     }
 
@@ -145,8 +142,6 @@ pub record Trail (old new : Receiver) : Type 0 where
   pub points : List Point
   pub passed : ArePassed points
   pub leads : Runs old.core points new.core
-  pub begins : RunsWith old.core points [] new.core
-  pub rest : new.core.out.rest ≡ old.core.out.rest
   pub holds : Holds old.reader new.reader (frames_got points)
 
 pub trail_of : (through : List Receiver) (old new : Receiver) → Passes through old new → Trail old new
@@ -154,8 +149,6 @@ trail_of [] old new passes = record {
   points = [];
   passed = tt;
   leads = ap (λ (r : Receiver). r.core) passes;
-  begins = (ap (λ (r : Receiver). r.core) passes, refl);
-  rest = ap (λ (r : Receiver). r.core.out.rest) passes;
   holds = held_same old.reader new.reader (ap (λ (r : Receiver). r.reader.held) passes);
 }
 trail_of (mid ∷ more) old new passes =
@@ -165,19 +158,15 @@ trail_of (mid ∷ more) old new passes =
       points = point look.move Silent ∷ later.points;
       passed = (look.is, refl, later.passed);
       leads = (mid.core, look.after, later.leads);
-      begins = (mid.core, look.after, [], ap (λ (fs : List RawFrame). fs ++ []) (sym look.begins), later.begins);
-      rest = later.rest ∙ look_rest old.core look.move mid.core Silent look.is look.after;
       holds = held_on old.reader mid.reader new.reader _ _ look.holds later.holds;
     }
 
--- what follows changes neither what is held nor the rest
+-- what follows changes neither what is held nor what the moves made
 pub trail_same : (old mid new : Receiver) → Trail old mid → new.core ≡ mid.core → new.reader.held ≡ mid.reader.held → Trail old new
 trail_same old mid new trail core held = record {
   points = trail.points;
   passed = trail.passed;
   leads = subst (λ (k : Core). Runs old.core trail.points k) (sym core) trail.leads;
-  begins = subst (λ (k : Core). RunsWith old.core trail.points [] k) (sym core) trail.begins;
-  rest = ap (λ (k : Core). k.out.rest) core ∙ trail.rest;
   holds = subst (Holds old.reader new.reader) (append-nil (frames_got trail.points))
       (held_on old.reader mid.reader new.reader (frames_got trail.points) [] trail.holds (held_same mid.reader new.reader held));
 }

@@ -2,23 +2,19 @@
 use Rattle.std.specs.Prelude.{◌≡◌, ◌⊎◌, ◌≤◌, ℕ, ◌+◌, ◌-◌, ◌*◌, true, false, if◌then◌else◌, List, [], ◌∷◌, length, Option, Some, Result, Ok}
 use Rattle.hb_frames.specs.Reading.{Reading, first_of}
 use Rattle.hb_frames.specs.declared.refusal.Refusal.{Refusal}
-use Rattle.hb_outgoing.specs.Waiting.{room_of}
 use Rattle.hb_streams.specs.declared.role.Role.{Role}
 use Rattle.hb_conn.specs.Glance.{glance_of}
 use Rattle.hb_conn.specs.Laws.{IsCaughtUp}
 use Rattle.hb_conn.specs.Outcome.{is_silent}
 use Rattle.hb_conn.specs.Preface.{is_whole}
 use Rattle.hb_conn.specs.Connection.{Connection, Finds, taken}
+use Rattle.hb_conn.specs.Observed.{room}
 use Rattle.hb_conn.specs.declared.machine.Core.{Core}
 use Rattle.hb_conn.specs.declared.found.Found.{Found}
 use Rattle.hb_conn.specs.declared.found.Found.TheVariants.{Silent}
 use Rattle.hb_conn.specs.declared.glance.Glance.TheVariants.{Nothing}
 use Rattle.hb_history.specs.History.{fresh}
 use Rattle.hb_history.specs.Calls.{Call, MakesAll}
-
--- how many octets more the output of a connection has room for
-abbrev pub room : Connection → ℕ
-room c = room_of c.receiver.core.out
 
 -- No whole frame is held, so that nothing is left to be looked at; of a preface 24 octets came at most
 abbrev pub HoldsNoFrame : Connection → Type 0
@@ -79,3 +75,19 @@ CallsWait = (role : Role) (calls : List Call) (came written : List ℕ) (c : Con
 abbrev pub LooksAtAll : Type 0
 LooksAtAll = (c d : Connection) → WaitsForPreface c → Finds c d Silent → 256 ≤ room d
     → (d.receiver.core.over ≡ true) ⊎ HoldsNoFrame d
+
+-- What the frames that are held may still need where all their DATA is used up as it is told: 13 octets for the frame in front,
+-- which are a WINDOW_UPDATE, and 2 for each octet behind it, since every frame has nine octets at least
+abbrev pub credit_by : ℕ → Result (Option ℕ) Refusal → ℕ
+credit_by held (Ok (Some n)) = 2 * (held - n) + 13
+credit_by held _ = 0
+
+abbrev pub credit_most_of : Reading → ℕ
+credit_most_of r = credit_by (length r.held) (first_of r.max r.held)
+
+abbrev pub credit_most : Connection → ℕ
+credit_most c = credit_most_of c.receiver.reader
+
+-- with all that the frames held may still need, there is room to look at the last of them
+abbrev pub HasRoom : Connection → Type 0
+HasRoom c = most c + credit_most c + 256 ≤ room c

@@ -11,8 +11,8 @@ use Rattle.hb_conn.specs.Owing as owing
 use Rattle.hb_conn.specs.declared.machine.Core.{Core}
 use Rattle.hb_conn.specs.declared.found.Found.{Found}
 use Rattle.hb_conn.specs.declared.found.Found.TheVariants.{Silent}
-use Rattle.hb_history.specs.Points.{Move, got, refused, misbegan, wrote, Point, point, After, Runs, frames_got}
-use Rattle.hb_history.specs.History.{fresh, ends_in, StandsFor}
+use Rattle.hb_history.specs.Points.{Move, got, refused, misbegan, wrote, Point, point, After, frames_got}
+use Rattle.hb_history.specs.History.{fresh, Leads, ends_in, StandsFor}
 
 -- what was found, where anything was
 abbrev pub in_list : Found → List Found
@@ -54,7 +54,7 @@ pub record Looked (role : Role) (points : List Point) (given : List Found) (came
     : Type 0 where
   pub more : List Point
   pub looks : AreLooks more
-  pub leads : Runs c.receiver.core more d.receiver.core
+  pub leads : Leads c more d
   pub stands : StandsFor role (points ++ more) (given ++ in_list told) came written d
 
 -- what happened next is asked for

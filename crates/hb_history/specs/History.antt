@@ -9,7 +9,7 @@ use Rattle.hb_streams.specs.declared.role.Role.TheVariants.{Server, Client}
 use Rattle.hb_outgoing.specs.Laws.{Shows}
 use Rattle.hb_conn.specs.Preface.{octets}
 use Rattle.hb_conn.specs.Outcome.{is_silent}
-use Rattle.hb_conn.specs.Connection.{Connection, fresh_server, fresh_client, ended_by}
+use Rattle.hb_conn.specs.Connection.{Connection, fresh_server, fresh_client, core_of, ended_by}
 use Rattle.hb_conn.specs.declared.found.Found.{Found}
 use Rattle.hb_conn.specs.declared.found.Found.TheVariants as found
 use Rattle.hb_history.specs.Points.{Point, Runs, RunsWith, frames_got}
@@ -27,6 +27,10 @@ opening Client = octets
 abbrev pub awaited : Role → List ℕ
 awaited Server = octets
 awaited Client = []
+
+-- these points lead from one connection to another one
+abbrev pub Leads : Connection → List Point → Connection → Type 0
+Leads c points d = Runs (core_of c) points (core_of d)
 
 -- a stream that the peer ended, told behind its last octets
 abbrev pub ends_in : Option ℕ → List Found

@@ -2,9 +2,13 @@ pub mod Answered
 pub mod Budget
 pub mod Calls
 pub mod CatchUp
+pub mod CreditExamples
 pub mod Fits
 pub mod History
 pub mod Live
+pub mod OwnCredits
+pub mod OwnExamples
+pub mod OwnFrames
 pub mod Points
 pub mod Sending
 pub mod Taking

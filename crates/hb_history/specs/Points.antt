@@ -102,3 +102,11 @@ got_by p = got_of p.move where
 
 abbrev pub frames_got : List Point → List RawFrame
 frames_got points = flat_map got_by points
+
+-- the octets of DATA, without padding, that a move hands out
+abbrev pub data_of : Move → Found → List ℕ
+data_of (got f) (found.Chunk s end) = lent_of f
+data_of _ _ = []
+
+abbrev pub data_in : Point → List ℕ
+data_in p = data_of p.move p.told

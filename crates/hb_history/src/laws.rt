@@ -10,6 +10,10 @@ ghost use Rattle.hb_history.specs.CatchUp.{LooksKeepUp, FindsKeepUp, CallsCatchU
 ghost use Rattle.hb_history.specs.Budget.{FindsWithin, TakesWithin, AnswersAreFew, NeverPauses, CallsWait, LooksAtAll};
 ghost use Rattle.hb_history.specs.Fits.{DataFits, DataFitsEverywhere};
 ghost use Rattle.hb_history.specs.Answered.{AnswersAreThose, PingsAreEchoed};
+ghost use Rattle.hb_history.specs.OwnFrames.{OwnFrames};
+ghost use Rattle.hb_history.specs.OwnCredits.{OwnCredits};
+ghost use Rattle.hb_history.specs.CreditExamples.{NoneIsTooFew, OnAnotherIsTooFew, MoreIsTooMuch, AllIsEnough, LessMayWait};
+ghost use Rattle.hb_history.specs.OwnExamples.{NoMoreHeaders, NoEnd, NoOtherStream, NoReset, NoEndAtOnce, NoGoodbye, NoGoodbyeOfStream, NothingBehind, GoodFrames};
 
 /// A new connection stands for nothing yet, and each call adds to the history that a connection stands for: octets taken,
 /// frames looked at and what is told of them, acts of this end, octets written.
@@ -102,4 +106,46 @@ pub fn data_fits_windows()
 pub fn answers_are_put()
     ensures all { AnswersAreThose }
     ensures echo { PingsAreEchoed }
+{}
+
+/// A client that opens its first stream, and then only looks at frames, uses up octets of that stream, puts DATA on it and
+/// writes, writes the opening SETTINGS, HEADERS of that stream, and behind them only answers to SETTINGS and PING, increments of
+/// the connection and of the stream, and its DATA without END_STREAM; and a GOAWAY last, where a connection error was told.
+pub fn own_frames_go()
+    ensures { OwnFrames }
+{}
+
+/// No more HEADERS go, no END_STREAM, nothing of another stream, no RST_STREAM, no GOAWAY where no connection error was told
+/// or of a stream, and nothing behind one.
+pub fn own_frames_are_refused()
+    ensures headers { NoMoreHeaders }
+    ensures end { NoEnd }
+    ensures end_at_once { NoEndAtOnce }
+    ensures other_stream { NoOtherStream }
+    ensures reset { NoReset }
+    ensures goodbye { NoGoodbye }
+    ensures goodbye_of_stream { NoGoodbyeOfStream }
+    ensures behind { NothingBehind }
+{}
+
+/// Answers, increments, DATA, and the GOAWAY of a connection error may go.
+pub fn own_frames_may_go()
+    ensures { GoodFrames }
+{}
+
+/// As long as the stream of such a client goes on, what it granted again on the connection is at most the DATA that came, and
+/// short of that by less than 32,768 octets; and so on the stream, once all that was handed out is used up and there is room for
+/// a frame, unless the peer ended the stream (RFC 9113 section 6.9).
+pub fn own_credits_go()
+    ensures { OwnCredits }
+{}
+
+/// 32,768 octets that came and aren't granted again are too many, also where as many are granted elsewhere; and no more is
+/// granted than came.
+pub fn credits_are_refused()
+    ensures few { NoneIsTooFew }
+    ensures elsewhere { OnAnotherIsTooFew }
+    ensures much { MoreIsTooMuch }
+    ensures all { AllIsEnough }
+    ensures less { LessMayWait }
 {}
