@@ -1,5 +1,5 @@
 -- The lives of links in a run, and that calls on them are in order.
-use Rattle.std.proofs.Common.{◌≡◌, ◌⊎◌, ℕ, ◌+◌, ◌<◌, ◌≤◌, Bool, true, false, ◌&&◌, not, List, [], ◌∷◌, ◌++◌, None, refl, ap, ap₂, ◌∙◌, sym, subst, arith, inl, inr, ⊎_elim}
+use Rattle.std.proofs.Common.{◌≡◌, ◌⊎◌, ℕ, ◌<◌, ◌≤◌, Bool, true, false, ◌&&◌, not, List, [], ◌∷◌, ◌++◌, None, refl, ap, ap₂, ◌∙◌, sym, subst, arith, inl, inr, ⊎_elim}
 use Rattle.hb_base.specs.declared.door.Why.{Why}
 use Rattle.hb_base.specs.declared.target.Target.{Target}
 use Rattle.hb_world.specs.declared.entry.Entry.{Entry}
@@ -9,9 +9,12 @@ use Rattle.hb_model.specs.declared.config.NodeConfig.{NodeConfig}
 use Rattle.hb_model.specs.Discovery.{Discovery, Phase, unborn, dialling, live, faulted, stopped_for, closing}
 use Rattle.hb_model.specs.Point.{Point, entry, stopped, entries}
 use Rattle.hb_model.specs.Machine.{Machine, fresh, born_after}
-use Rattle.hb_model.specs.Runs.{MayCome, Steps, StandsFor, begins, goes_on, IsFaulted}
-use Rattle.hb_model.specs.Calls.{CallMayStand, CallsLaw, IsUsable, WasNot, is_ended_of}
-use Rattle.hb_model.proofs.Places.{at_entries}
+use Rattle.hb_world.specs.declared.entry.Way.{Way}
+use Rattle.hb_world.specs.declared.entry.Way.TheVariants as way
+use Rattle.hb_model.specs.Runs.{MayCome, MayBalk, Steps, StandsFor, begins, goes_on, IsFaulted}
+use Rattle.hb_model.specs.Calls.{CallMayStand, BalkMayStand, CallsLaw, IsSound, MayFinish, MayRead, MayWrite}
+use Rattle.hb_model.proofs.Births.{Plain, plain}
+use Rattle.hb_model.proofs.Places.{at_entries, at_trace}
 use Rattle.hb_model.proofs.CallsSaid.{Said, seen, birth, open_link, seen-grows}
 use Rattle.hb_model.proofs.CallsSteps.{Becomes, stays, is_born, opens, peer_ends, breaks, breaks_faulted, writes, writes_faulted, closes, looks, refuses, stops, becomes, own_keeps}
 use Rattle.hb_model.proofs.CallsPhases.{Fits, fits_next, closing-lives}
@@ -38,7 +41,8 @@ unborn_next k x y p was (stops why is now same) = inl (now ∙ ap (stopped_for w
 
 -- births are counted: no point makes them fewer
 born_by : (g : NodeConfig) (m : Machine) (en : Entry) → MayCome g m en → m.born ≤ born_after m en
-born_by g m (e.Dialled l to why) may = let next : l ≡ m.born + 1 = may.1 in omega (arith, next)
+born_by g m (e.Dialled l to why) may = let more : m.born < l = may.1 in omega (arith, more)
+born_by g m (e.Accepted l door) may = absurd may
 born_by g m _ may = omega arith
 
 born_grows : (g : NodeConfig) (m n : Machine) (p : Point) → Steps g m p n → m.born ≤ n.born
@@ -87,52 +91,64 @@ pub fits_at : (m : Machine) (points : List Point) (l : ℕ) (phase : Phase) → 
     → Fits phase (seen l points)
 fits_at m points l phase h is = subst (λ (q : Phase). Fits q (seen l points)) is (h.fits l)
 
-usable_at : (l : ℕ) (points : List Point) → seen l points ≡ open_link → IsUsable l points × WasNot (is_ended_of l) points
-usable_at l points is = (
-  (
-    lives_where l points (ap (λ (s : Said). s.born) is) (ap (λ (s : Said). s.closed) is),
-    ap (λ (s : Said). s.broke) is,
-    ap (λ (s : Said). s.opened) is,
-  ),
-  ap (λ (s : Said). s.ended) is,
+sound_at : (l : ℕ) (points : List Point) (s : Said) → seen l points ≡ s → s.born ≡ true → s.closed ≡ false → s.broke ≡ false
+    → IsSound l (entries points)
+sound_at l points s is born unclosed sound = (
+  lives_where l points (ap (λ (t : Said). t.born) is ∙ born) (ap (λ (t : Said). t.closed) is ∙ unclosed),
+  ap (λ (t : Said). t.broke) is ∙ sound,
 )
 
-usable_by : (m : Machine) (l : ℕ) (points : List Point) → Lived m points → ((m.links l).phase ≡ live) ⊎ IsFaulted m l
-    → IsUsable l points
-unfolding Fits
-usable_by m l points h =
-    ⊎_elim (λ (at : (m.links l).phase ≡ live). (usable_at l points (fits_at m points l live h at)).0)
-    (λ (at : IsFaulted m l). (usable_at l points (fits_at m points l (faulted at.0) h at.1)).0)
+pub readable_at : (l : ℕ) (points : List Point) → seen l points ≡ open_link → MayRead l (entries points)
+readable_at l points is =
+    ((sound_at l points open_link is refl refl refl, λ was. ap (λ (s : Said). s.opened) is), ap (λ (s : Said). s.ended) is)
 
-dialling_at : (l : ℕ) (points : List Point) → seen l points ≡ birth → CallMayStand points (e.Opened l)
-dialling_at l points is = (
-  lives_where l points (ap (λ (s : Said). s.born) is) (ap (λ (s : Said). s.closed) is),
-  ap (λ (s : Said). s.opened) is,
-  ap (λ (s : Said). s.broke) is,
-)
+module _ (g : NodeConfig) (m : Machine) (points : List Point) (h : Lived m points) (all : (l : ℕ) → Plain l (entries points)) where
+  readable : (l : ℕ) → (m.links l).phase ≡ live → MayRead l (entries points)
+  unfolding Fits
+  readable l at = readable_at l points (fits_at m points l live h at)
 
-call_stands : (g : NodeConfig) (m : Machine) (points : List Point) (en : Entry) → Lived m points → MayCome g m en
-    → CallMayStand points en
-unfolding Fits
-call_stands g m points (e.Accepted l door) h may = absurd may
-call_stands g m points (e.Dialled l to why) h may =
-    let next : l ≡ m.born + 1 = may.1 in
-    ap (λ (s : Said). s.born) (fits_at m points l unborn h (h.fresh l (omega (arith, next))))
-call_stands g m points (e.DialFailed to why) h may = tt
-call_stands g m points (e.Opened l) h may = dialling_at l points (fits_at m points l dialling h may.1)
-call_stands g m points (e.Came l bytes) h may = usable_at l points (fits_at m points l live h may.0.1)
-call_stands g m points (e.Ended l) h may = usable_at l points (fits_at m points l live h may.0.1)
-call_stands g m points (e.Broke l) h may =
-    ⊎_elim (λ at. let d = dialling_at l points (fits_at m points l dialling h at.1) in (d.0, d.2))
-    (λ at. let u = usable_by m l points h (⊎_elim (λ a. inl a.1) (λ a. inr a) at) in (u.0, u.1)) may
-call_stands g m points (e.Went l bytes) h may = usable_by m l points h (⊎_elim (λ a. inl a.1) (λ a. inr a) may.0)
-call_stands g m points (e.Balked way) h may = tt
-call_stands g m points (e.Shut l) h may = absurd may
-call_stands g m points (e.Closed l why) h may =
-    let is = closing-lives (m.links l).phase (seen l points) why (h.fits l) may in lives_where l points is.0 is.1
-call_stands g m points e.Tick h may = tt
-call_stands g m points (e.Wait ready way) h may = tt
+  writable : (l : ℕ) → ((m.links l).phase ≡ live) ⊎ IsFaulted m l → MayWrite l (entries points)
+  unfolding Fits
+  writable l =
+      ⊎_elim (λ (at : (m.links l).phase ≡ live). ((readable l at).0, (all l).unshut))
+      (λ (at : IsFaulted m l). ((readable_at l points (fits_at m points l (faulted at.0) h at.1)).0, (all l).unshut))
 
-pub calls_in_order : (g : NodeConfig) (m : Machine) (points : List Point) → StandsFor g m points → CallsLaw points
+  finishable : (l : ℕ) → (m.links l).phase ≡ dialling → MayFinish l (entries points)
+  unfolding Fits
+  finishable l at =
+      let is = fits_at m points l dialling h at in (
+        sound_at l points birth is refl refl refl,
+        (all l).dialled ∙ ap (λ (s : Said). s.born) is,
+        ap (λ (s : Said). s.opened) is,
+      )
+
+  balk_stands : (w : Way) → MayBalk m w → BalkMayStand (entries points) w
+  balk_stands (way.Listen door at listening) may = may
+  balk_stands (way.Accept door) may = absurd may
+  balk_stands (way.Finish l) may = finishable l may.1
+  balk_stands (way.Read l) may = readable l may.0.1
+  balk_stands (way.Write l) may = writable l (⊎_elim (λ a. inl a.1) (λ a. inr a) may.0)
+
+  call_stands : (en : Entry) → MayCome g m en → CallMayStand (entries points) en
+  unfolding Fits
+  call_stands (e.Accepted l door) may = absurd may
+  call_stands (e.Dialled l to why) may = ap (λ (s : Said). s.born) (fits_at m points l unborn h (h.fresh l may.1))
+  call_stands (e.DialFailed to why) may = tt
+  call_stands (e.Opened l) may = finishable l may.1
+  call_stands (e.Came l bytes) may = readable l may.0.1
+  call_stands (e.Ended l) may = readable l may.0.1
+  call_stands (e.Broke l) may =
+      ⊎_elim (λ at. (finishable l at.1).0) (λ at. (writable l (⊎_elim (λ a. inl a.1) (λ a. inr a) at)).0.0) may
+  call_stands (e.Went l bytes) may = writable l (⊎_elim (λ a. inl a.1) (λ a. inr a) may.0)
+  call_stands (e.Balked w) may = balk_stands w may.1
+  call_stands (e.Shut l) may = absurd may
+  call_stands (e.Closed l why) may =
+      let is = closing-lives (m.links l).phase (seen l points) why (h.fits l) may in lives_where l points is.0 is.1
+  call_stands e.Tick may = tt
+  call_stands (e.Wait ready how) may = tt
+
+pub calls_in_order : (g : NodeConfig) (m : Machine) (points : List Point) → StandsFor g m points → CallsLaw (entries points)
 calls_in_order g m points stands =
-    at_entries g CallMayStand (λ n before en runs may. call_stands g n before en (lived g n before runs) may) m points stands
+    at_trace CallMayStand points
+    (at_entries g (λ before en. CallMayStand (entries before) en)
+    (λ n before en runs may. call_stands g n before (lived g n before runs) (plain g n before runs) en may) m points stands)

@@ -1,5 +1,5 @@
 -- What a point makes of each link.
-use Rattle.std.proofs.Common.{◌≡◌, ◌⊎◌, ℕ, ◌+◌, ◌<◌, false, eqb, List, length, Some, refl, ap, sym, subst, arith, inl, inr, ⊎_elim, Bool, true, ◌∙◌}
+use Rattle.std.proofs.Common.{◌≡◌, ◌⊎◌, ℕ, ◌<◌, false, eqb, List, length, Some, refl, ap, sym, subst, inl, inr, ⊎_elim, Bool, true, ◌∙◌}
 use Rattle.std.proofs.lemmas.Bool.{ne_eqb, cases_eq}
 use Rattle.hb_base.specs.declared.cause.Cause.{Cause}
 use Rattle.hb_base.specs.declared.cause.Cause.TheVariants as cause
@@ -11,11 +11,12 @@ use Rattle.hb_history.specs.Points as history
 use Rattle.hb_world.specs.declared.entry.Entry.{Entry}
 use Rattle.hb_world.specs.declared.entry.Entry.TheVariants as e
 use Rattle.hb_model.specs.declared.config.NodeConfig.{NodeConfig}
-use Rattle.hb_model.specs.Discovery.{Discovery, unborn, dialling, live, faulted, ending, closed, dialled, opened, came, ended, broken, went, wrote, stopped_for, closing, end_by, answered_by, phase_by, on_found, ends_for}
+use Rattle.hb_model.specs.Discovery.{Discovery, unborn, dialling, live, faulted, ending, closed, opened, came, ended, broken, went, wrote, stopped_for, closing, end_by, answered_by, phase_by, on_found, ends_for}
 use Rattle.hb_model.specs.Point.{Point, entry, looked, applied, refused, used, put, stopped}
-use Rattle.hb_model.specs.Machine.{Machine, at, with_phase, heard}
+use Rattle.hb_model.specs.Machine.{Machine, at, with_phase, dialled_for, while_open, heard}
 use Rattle.hb_model.specs.Runs.{MayCome, Steps, IsFaulted}
 use Rattle.hb_model.proofs.CallsSaid.{Silent, eqb-self}
+use Rattle.hb_model.proofs.Open.{live_changes, open_changes}
 
 -- a point p makes y of the link k, which was x
 pub data Becomes (k : ℕ) (x y : Discovery) (p : Point) : Type 0 where
@@ -61,16 +62,18 @@ hears : (g : NodeConfig) (m : Machine) (en : Entry) → ((k : ℕ) → m.born < 
     → Becomes k (m.links k) (heard g m.held en k (m.links k)) (entry en)
 hears g m (e.Accepted l door) fresh may k = absurd may
 hears g m (e.Dialled l to why) fresh may k =
-    let next : l ≡ m.born + 1 = may.1 in
-    at_link m l (λ y. dialled g.id to m.held) (entry (e.Dialled l to why))
-    (is_born to why refl (fresh l (omega (arith, next))) refl refl)
+    at_link m l (dialled_for g.id to m.held why) (entry (e.Dialled l to why))
+    (is_born to why refl (fresh l may.1) (ap (λ (w : Why). (dialled_for g.id to m.held w (m.links l)).phase) may.3)
+    (ap (λ (w : Why). (dialled_for g.id to m.held w (m.links l)).answered) may.3))
     (λ i d. record { says = rw d refl; ends = λ a. refl; answers = λ a. refl; writes = refl }) k
 hears g m (e.Opened l) fresh may k =
     at_link m l (with_phase opened) (entry (e.Opened l)) (opens refl may.1 (ap opened may.1) refl)
     (λ i d. record { says = rw d refl; ends = λ a. refl; answers = λ a. refl; writes = refl }) k
 hears g m (e.Came l bytes) fresh may k =
-    at_link m l (came bytes) (entry (e.Came l bytes))
-    (stays (record { says = refl; ends = λ a. refl; answers = λ a. refl; writes = refl }) refl refl)
+    let same = live_changes (came bytes) (m.links l) may.0.1 in
+    at_link m l (while_open (came bytes)) (entry (e.Came l bytes))
+    (stays (record { says = refl; ends = λ a. refl; answers = λ a. refl; writes = refl }) (ap (λ (x : Discovery). x.phase) same)
+    (ap (λ (x : Discovery). x.answered) same))
     (λ i d. record { says = refl; ends = λ a. refl; answers = λ a. refl; writes = refl }) k
 hears g m (e.Ended l) fresh may k =
     at_link m l (with_phase ended) (entry (e.Ended l)) (peer_ends refl may.0.1 (ap ended may.0.1))
@@ -80,8 +83,10 @@ hears g m (e.Broke l) fresh may k =
     (breaks_by m l (⊎_elim (λ at. inl at.1) (⊎_elim (λ at. inr (inl at.1)) (λ at. inr (inr at))) may))
     (λ i d. record { says = rw d refl; ends = λ a. rw d refl; answers = λ a. refl; writes = refl }) k
 hears g m (e.Went l bytes) fresh may k =
-    at_link m l (wrote (length bytes)) (entry (e.Went l bytes))
-    (writes_by m l bytes (length bytes) (⊎_elim (λ at. inl at.1) (λ at. inr at) may.0))
+    let where_open = ⊎_elim (λ at. inl at.1) (λ at. inr at) may.0 in
+    at_link m l (while_open (wrote (length bytes))) (entry (e.Went l bytes))
+    (subst (λ (y : Discovery). Becomes l (m.links l) y (entry (e.Went l bytes)))
+    (sym (open_changes (wrote (length bytes)) m l where_open)) (writes_by m l bytes (length bytes) where_open))
     (λ i d. record { says = refl; ends = λ a. refl; answers = λ a. refl; writes = rw d refl }) k
 hears g m (e.Shut l) fresh may k = absurd may
 hears g m (e.Closed l why) fresh may k =

@@ -3,6 +3,7 @@ use Rattle.std.proofs.Common.{◌≡◌, ◌⊎◌, ℕ, Bool, true, false, ◌&
 use Rattle.std.proofs.lemmas.Bool.{cases_eq}
 use Rattle.hb_base.specs.declared.cause.Cause.{Cause}
 use Rattle.hb_base.specs.declared.door.Why.{Why}
+use Rattle.hb_base.specs.declared.door.Why.TheVariants as whys
 use Rattle.hb_base.specs.declared.target.Target.{Target}
 use Rattle.hb_world.specs.declared.entry.Entry.{Entry}
 use Rattle.hb_world.specs.declared.entry.Entry.TheVariants as e
@@ -108,8 +109,8 @@ none_of (Some k) is = absurd (cc)
 
 -- a dial is due where it was, and behind a tick at which the machine has no link
 dials_by : (m : Machine) (en : Entry) → dials_after m en ≡ true → (m.dials ≡ true) ⊎ (m.current ≡ None)
-dials_by m (e.Dialled l to why) due = absurd (cc)
-dials_by m (e.DialFailed to why) due = absurd (cc)
+dials_by m (e.Dialled l to whys.Discovery) due = absurd (cc)
+dials_by m (e.DialFailed to whys.Discovery) due = absurd (cc)
 dials_by m e.Tick due = inr (none_of m.current due)
 dials_by m _ due = inl due
 
@@ -133,10 +134,10 @@ calm_on g m n p parts h steps calm = record {
     same k = held-same k (m.links k) (n.links k) p (λ to why is. absurd (let turn = ap turns is in cc))
         (λ why is. absurd (let turn = ap turns is in cc)) (parts k)
 
-dialled_on : (g : NodeConfig) (m n : Machine) (l : ℕ) (to : Target) (why : Why)
-    → ((k : ℕ) → Becomes k (m.links k) (n.links k) (entry (e.Dialled l to why))) → Held m → Steps g m (entry (e.Dialled l to why)) n
-    → Held n
-dialled_on g m n l to why parts h steps = record {
+dialled_on : (g : NodeConfig) (m n : Machine) (l : ℕ) (to : Target)
+    → ((k : ℕ) → Becomes k (m.links k) (n.links k) (entry (e.Dialled l to whys.Discovery))) → Held m
+    → Steps g m (entry (e.Dialled l to whys.Discovery)) n → Held n
+dialled_on g m n l to parts h steps = record {
   only = λ k held. kept ∙ ⊎_elim (λ (is : l ≡ k). ap Some is)
       (λ (differs : l ≡ k → ⊥). absurd (let other : None ≡ Some k = sym none ∙ h.only k (sym (same k differs) ∙ held) in cc))
       (cases_eq l k);
@@ -159,7 +160,7 @@ dialled_on g m n l to why parts h steps = record {
 
     same : (k : ℕ) → (l ≡ k → ⊥) → is_held (n.links k).phase ≡ is_held (m.links k).phase
     same k differs =
-        held-same k (m.links k) (n.links k) (entry (e.Dialled l to why)) (λ a b is. differs (cc)) (λ b is. absurd (cc)) (parts k)
+        held-same k (m.links k) (n.links k) (entry (e.Dialled l to whys.Discovery)) (λ a b is. differs (cc)) (λ b is. absurd (cc)) (parts k)
 
 closed_on : (g : NodeConfig) (m n : Machine) (l : ℕ) (why : Cause)
     → ((k : ℕ) → Becomes k (m.links k) (n.links k) (entry (e.Closed l why))) → Held m → Steps g m (entry (e.Closed l why)) n → Held n
@@ -187,7 +188,10 @@ closed_on g m n l why parts h steps = record {
 
 held_on : (g : NodeConfig) (m n : Machine) (p : Point) → ((k : ℕ) → Becomes k (m.links k) (n.links k) p) → Held m → Steps g m p n
     → Held n
-held_on g m n (entry (e.Dialled l to why)) parts h steps = dialled_on g m n l to why parts h steps
+held_on g m n (entry (e.Dialled l to why)) parts h steps =
+    subst (λ (w : Why). ((k : ℕ) → Becomes k (m.links k) (n.links k) (entry (e.Dialled l to w)))
+    → Steps g m (entry (e.Dialled l to w)) n → Held n)
+    (sym steps.0.3) (λ each now. dialled_on g m n l to each h now) parts steps
 held_on g m n (entry (e.Closed l why)) parts h steps = closed_on g m n l why parts h steps
 held_on g m n p parts h steps = calm_on g m n p parts h steps refl
 

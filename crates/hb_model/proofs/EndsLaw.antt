@@ -9,8 +9,10 @@ use Rattle.hb_world.proofs.LifeLemmas.{and-false}
 use Rattle.hb_model.specs.declared.config.NodeConfig.{NodeConfig}
 use Rattle.hb_model.specs.Discovery.{Discovery, Phase, unborn, dialling, live, faulted, ending, closed, closing}
 use Rattle.hb_model.specs.Point.{Point, entry, stopped}
-use Rattle.hb_model.specs.Machine.{Machine, dials_after}
-use Rattle.hb_model.specs.Runs.{MayCome, Steps, StandsFor, begins, goes_on, IsFaulted, IsQuiet, IsCalmBy}
+use Rattle.hb_model.specs.Machine.{Machine}
+use Rattle.hb_world.specs.declared.entry.Way.{Way}
+use Rattle.hb_world.specs.declared.entry.Way.TheVariants as way
+use Rattle.hb_model.specs.Runs.{MayCome, MayBalk, Steps, StandsFor, begins, goes_on, IsFaulted, IsQuiet, IsCalmBy}
 use Rattle.hb_model.specs.Ends.{end_of, NoneEnded, IsFaultedOn, EndMayStand, EndLaw}
 use Rattle.hb_model.proofs.Places.{at_entries}
 use Rattle.hb_model.proofs.CallsSaid.{Said, seen}
@@ -18,29 +20,9 @@ use Rattle.hb_model.proofs.CallsSteps.{becomes, own_keeps}
 use Rattle.hb_model.proofs.CallsPhases.{Fits, closing-lives}
 use Rattle.hb_model.proofs.CallsLives.{Lived, lived, lives_where}
 use Rattle.hb_model.proofs.DialsHeld.{Held, held}
-use Rattle.hb_model.proofs.DialsDue.{none_lives}
+use Rattle.hb_model.proofs.DialsDue.{none_lives, runs_on}
 use Rattle.hb_model.proofs.EndsFirst.{answered-none}
 use Rattle.hb_model.proofs.EndsPhases.{EndFits, Over, ends_next}
-
--- in a run that is over no dial is due
-over_by : (g : NodeConfig) (m : Machine) (en : Entry) → MayCome g m en → (m.dials ≡ true → m.over ≡ false)
-    → dials_after m en ≡ true → m.over ≡ false
-over_by g m (e.Dialled l to why) may h due = absurd (cc)
-over_by g m (e.DialFailed to why) may h due = absurd (cc)
-over_by g m e.Tick may h due = may.goes
-over_by g m _ may h due = h due
-
-over_on : (g : NodeConfig) (m n : Machine) (p : Point) → Steps g m p n → (m.dials ≡ true → m.over ≡ false) → n.dials ≡ true
-    → n.over ≡ false
-over_on g m n (entry en) steps h due =
-    ap (λ (z : Machine). z.over) steps.1 ∙ over_by g m en steps.0 h (sym (ap (λ (z : Machine). z.dials) steps.1) ∙ due)
-over_on g m n (stopped why) steps h due = absurd (let never = ap (λ (z : Machine). z.dials) steps.1 in cc)
-over_on g m n p steps h due = let kept = own_keeps g m n p refl steps in kept.over ∙ h (sym kept.dials ∙ due)
-
-pub runs_on : (g : NodeConfig) (m : Machine) (points : List Point) → StandsFor g m points → m.dials ≡ true → m.over ≡ false
-runs_on g m points (begins is none) due = ap (λ (z : Machine). z.over) is
-runs_on g n more (goes_on {m = m} {points = points} stands p steps are) due =
-    over_on g m n p steps (runs_on g m points stands) due
 
 over_next : (g : NodeConfig) (m n : Machine) (p : Point) → Steps g m p n → (m.dials ≡ true → m.over ≡ false) → Over m.over n.over p
 over_next g m n (entry en) steps h = record {
@@ -91,13 +73,13 @@ quiet_by over answered k points x closed s fits calm ends living =
 
 none_ended : (m : Machine) (points : List Point) → Lived m points → Ended m points → IsQuiet m → NoneEnded points
 unfolding Ended
-none_ended m points lives ends quiet k living =
+none_ended m points lives ends quiet k control living =
     quiet_by m.over (m.links k).answered k points (m.links k) (m.links k).phase (seen k points) (lives.fits k) (quiet.calm k) (ends k)
     living
 
 -- and so it is while no link lives
 none_there : (m : Machine) (points : List Point) → Lived m points → Held m → m.dials ≡ true → NoneEnded points
-none_there m points lives h due k living = absurd (both_ways _ (none_lives m points lives h (h.idle due) k) living)
+none_there m points lives h due k control living = absurd (both_ways _ (none_lives m points lives h (h.idle due) k) living)
 
 faulted_there : (m : Machine) (points : List Point) (l : ℕ) → Ended m points → IsFaulted m l → IsFaultedOn l points
 unfolding Ended EndFits
@@ -119,6 +101,22 @@ pub closing_is_end : (m : Machine) (points : List Point) (k : ℕ) (why : Cause)
 unfolding Ended
 closing_is_end m points k why ends is = closing_ended m.over (m.links k).answered k points (m.links k).phase why (ends k) is
 
+balk_ends : (m : Machine) (points : List Point) (w : Way) → Lived m points → Ended m points → MayBalk m w
+    → EndMayStand points (e.Balked w)
+unfolding Ended
+balk_ends m points (way.Listen door at listening) lives ends may = absurd may
+balk_ends m points (way.Accept door) lives ends may = absurd may
+balk_ends m points (way.Finish l) lives ends may = none_ended m points lives ends may.0
+balk_ends m points (way.Read l) lives ends may = none_ended m points lives ends may.0.0
+balk_ends m points (way.Write l) lives ends may =
+    ⊎_elim (λ at. inl (none_ended m points lives ends at.0)) (λ at. inr (faulted_there m points l ends at)) may.0
+
+-- a link that is live hasn't ended
+pub lasts_at : (m : Machine) (points : List Point) (k : ℕ) → Ended m points → (m.links k).phase ≡ live → end_of k points ≡ None
+unfolding Ended EndFits
+lasts_at m points k ends is =
+    (subst (λ (phase : Phase). EndFits m.over (m.links k).answered k points phase) is (ends k)).0
+
 end_stands : (g : NodeConfig) (m : Machine) (points : List Point) (en : Entry) → Lived m points → Held m → Ended m points
     → MayCome g m en → EndMayStand points en
 unfolding Ended
@@ -133,9 +131,10 @@ end_stands g m points (e.Broke l) lives h ends may =
     (λ at. inr (faulted_there m points l ends at))) may
 end_stands g m points (e.Went l bytes) lives h ends may =
     ⊎_elim (λ at. inl (none_ended m points lives ends at.0)) (λ at. inr (faulted_there m points l ends at)) may.0
-end_stands g m points (e.Balked way) lives h ends may = tt
+end_stands g m points (e.Balked w) lives h ends may = balk_ends m points w lives ends may.1
 end_stands g m points (e.Shut l) lives h ends may = absurd may
 end_stands g m points (e.Closed l why) lives h ends may =
+    λ control.
     let is = closing-lives (m.links l).phase (seen l points) why (lives.fits l) may in
     (lives_where l points is.0 is.1, closing_ended m.over (m.links l).answered l points (m.links l).phase why (ends l) may)
 end_stands g m points e.Tick lives h ends may = none_ended m points lives ends may

@@ -1,4 +1,7 @@
 pub mod Places
+pub mod Births
+pub mod Open
+pub mod OwnFrames
 pub mod CallsSaid
 pub mod CallsSteps
 pub mod CallsPhases
@@ -12,11 +15,13 @@ pub mod Grown
 pub mod Unborn
 pub mod Messages
 pub mod MessagesRun
+pub mod AtOnce
 pub mod MessagesAtOnce
-pub mod Connections
 pub mod ConnectionsRun
 pub mod Requests
+pub mod Inner
 pub mod RequestsRun
 pub mod SendingRun
+pub mod CreditsRun
 pub mod AllPut
 pub mod WindowsFit

@@ -1,9 +1,11 @@
 -- Each response is applied before the next entry.
-use Rattle.std.proofs.Common.{◌≡◌, inl, inr, ℕ, ◌==◌, Bool, true, false, ◌&&◌, not, if◌then◌else◌, List, [], ◌++◌, map, Option, Some, None, Result, Ok, Err, refl, ap, sym, ◌∙◌, subst, ⊎_elim}
+use Rattle.std.proofs.Common.{◌≡◌, ℕ, ◌==◌, Bool, true, false, ◌&&◌, not, if◌then◌else◌, List, [], ◌++◌, length, map, Option, Some, None, Result, Ok, Err, refl, ap, sym, ◌∙◌, subst, ⊎_elim}
 use Rattle.std.proofs.lemmas.Bool.{cond_both, both_ways}
 use Rattle.std.proofs.lemmas.List.{append-nil}
 use Rattle.hb_base.specs.declared.cause.Cause.{Cause}
-use Rattle.hb_base.specs.declared.cause.Cause.TheVariants as cause
+use Rattle.hb_base.specs.declared.door.Why.{Why}
+use Rattle.hb_base.specs.declared.door.Why.TheVariants as whys
+use Rattle.hb_base.specs.declared.target.Target.{Target}
 use Rattle.hb_grpc.specs.Framed.{Framed, framed_of}
 use Rattle.hb_grpc.specs.Reading.{first_of}
 use Rattle.hb_grpc.specs.declared.fault.GrpcFault.{GrpcFault}
@@ -11,25 +13,22 @@ use Rattle.hb_grpc.proofs.Runs.{Waits, not_held}
 use Rattle.hb_grpc.proofs.Whole.{framed_none, framed_fault}
 use Rattle.hb_disco.specs.Response.{response_of}
 use Rattle.hb_held.specs.Held.{Resources}
-use Rattle.hb_world.specs.Trace.{lives}
 use Rattle.hb_world.specs.declared.entry.Entry.{Entry}
 use Rattle.hb_world.specs.declared.entry.Entry.TheVariants as e
 use Rattle.hb_world.proofs.LifeLemmas.{and-false}
 use Rattle.hb_model.specs.declared.config.NodeConfig.{NodeConfig}
-use Rattle.hb_model.specs.Discovery.{Discovery, Phase, unborn, dialling, live, faulted, ending, closed, opened, ended, broken, went, stopped_for, closing, phase_by, end_by, headers_read, on_found, longest_message}
-use Rattle.hb_model.specs.Machine.{Machine, heard}
-use Rattle.hb_model.specs.Point.{Point, entry, looked, applied, refused, used, put, stopped, entries}
-use Rattle.hb_model.specs.Ends.{end_of}
+use Rattle.hb_model.specs.Discovery.{Discovery, Phase, unborn, dialling, live, faulted, ending, closed, opened, came, ended, broken, went, wrote, stopped_for, phase_by, end_by, headers_read, on_found, longest_message}
+use Rattle.hb_model.specs.Machine.{Machine, dialled_for, heard}
+use Rattle.hb_model.specs.Point.{Point, entry, looked, applied, refused, used, put, stopped}
 use Rattle.hb_model.specs.Messages.{responses, messages_came, AllMayBeApplied}
-use Rattle.hb_model.specs.Runs.{IsQuiet, IsCalmBy, MayCome, Steps, StandsFor, begins, goes_on}
+use Rattle.hb_model.specs.Runs.{IsQuiet, IsCalmBy, Steps, StandsFor, begins, goes_on}
 use Rattle.hb_model.specs.Laws.{RunsApplyAtOnce}
 use Rattle.hb_model.proofs.Places.{at_entries}
+use Rattle.hb_model.proofs.Open.{open_or_not}
 use Rattle.hb_model.proofs.CallsSaid.{Said, seen}
 use Rattle.hb_model.proofs.CallsPhases.{Fits, ended_by}
 use Rattle.hb_model.proofs.CallsLives.{lived}
-use Rattle.hb_model.proofs.DialsHeld.{is_held, held-closing, other-rests, held}
-use Rattle.hb_model.proofs.DialsDue.{none_lives}
-use Rattle.hb_model.proofs.EndsLaw.{ended_all, closing_is_end}
+use Rattle.hb_model.proofs.AtOnce.{OfEach, at_once}
 use Rattle.hb_model.proofs.MessagesRun.{IsReadBy, all_read}
 
 -- no DATA is in hand on a link that isn't open
@@ -88,16 +87,23 @@ not_looked (Some why) is =
 idle_at : (b : Bool) (new old : Discovery) → (IsIdle old → IsIdle new) → IsIdle old → IsIdle (if b then new else old)
 idle_at b new old change idle = cond_both b new old IsIdle (λ is. change idle) (λ is. idle)
 
+idle_dialled : (id : List ℕ) (to : Target) (held : Resources) (why : Why) (d : Discovery) → IsIdle d
+    → IsIdle (dialled_for id to held why d)
+unfolding IsIdle
+idle_dialled id to held whys.Discovery d idle = λ is. refl
+idle_dialled id to held _ d idle = idle
+
 idle_heard : (g : NodeConfig) (held : Resources) (x : Entry) (l : ℕ) (d : Discovery) → IsIdle d → IsIdle (heard g held x l d)
 unfolding IsIdle
 idle_heard g held (e.Accepted k door) l d idle = idle
-idle_heard g held (e.Dialled k to why) l d idle = idle_at (k == l) _ d (λ i is. refl) idle
+idle_heard g held (e.Dialled k to why) l d idle = idle_at (k == l) _ d (idle_dialled g.id to held why d) idle
 idle_heard g held (e.DialFailed to why) l d idle = idle
 idle_heard g held (e.Opened k) l d idle = idle_at (k == l) _ d (λ i is. absurd (not_opened d.phase is)) idle
-idle_heard g held (e.Came k bytes) l d idle = idle_at (k == l) _ d (λ i. i) idle
+idle_heard g held (e.Came k bytes) l d idle = idle_at (k == l) _ d (λ i. open_or_not IsIdle (came bytes) d i i) idle
 idle_heard g held (e.Ended k) l d idle = idle_at (k == l) _ d (λ i is. i (was_ended d.phase is)) idle
 idle_heard g held (e.Broke k) l d idle = idle_at (k == l) _ d (λ i is. absurd (not_broken d.phase is)) idle
-idle_heard g held (e.Went k bytes) l d idle = idle_at (k == l) _ d (λ i is. i (was_went d.phase is)) idle
+idle_heard g held (e.Went k bytes) l d idle =
+    idle_at (k == l) _ d (λ i. open_or_not IsIdle (wrote (length bytes)) d (λ is. i (was_went d.phase is)) i) idle
 idle_heard g held (e.Balked way) l d idle = idle
 idle_heard g held (e.Shut k) l d idle = idle
 idle_heard g held (e.Closed k why) l d idle = idle_at (k == l) _ d (λ i is. absurd (let never : closed ≡ dialling = is in cc)) idle
@@ -169,66 +175,16 @@ calm_by x (ending why) s fits calm idle living = absurd calm
 calm_by x closed s fits calm idle living =
     absurd (let gone : (s.born && not s.closed) ≡ false = rw fits (and-false s.born) in both_ways _ gone living)
 
-module _ (g : NodeConfig) (m : Machine) (points : List Point) (stands : StandsFor g m points) where
-  All : Type 0
-  All = (l : ℕ) → lives l (entries points) ≡ true → end_of l points ≡ None → messages_came l points ≡ map Ok (responses l points)
-
-  quiet_all : IsQuiet m → All
-  unfolding All AreIdle IsIdle
-  quiet_all quiet l living none =
-      let x = m.links l in
-      all_applied points l x (all_read g m points stands l)
-      (calm_by x x.phase (seen l points) ((lived g m points stands).fits l) (quiet.calm l)
-      (idle_all g m points stands l) living)
-
-  none_all : m.dials ≡ true → All
-  unfolding All
-  none_all due l living none =
-      let h = held g m points stands in
-      absurd (both_ways _ (none_lives m points (lived g m points stands) h (h.idle due) l) living)
-
-  -- the one link that lives is to be closed
-  closing_all : (k : ℕ) (why : Cause) → closing (m.links k).phase ≡ Some why → All
-  unfolding All
-  closing_all k why is l living none =
-      let h = held g m points stands in
-      let mine = h.only k (held-closing (m.links k).phase why is) in
-      let ends = closing_is_end m points k why (ended_all g m points stands) is in
-      absurd (let here : is_held (m.links l).phase ≡ true = held_where l living in
-      let same : Some k ≡ Some l = sym mine ∙ h.only l here in
-      let number : k ≡ l = some_same k l same in
-      let ended : None ≡ Some why = sym none ∙ subst (λ j. end_of j points ≡ Some why) number ends in cc)
-    where
-      some_same : (i j : ℕ) → Some i ≡ Some j → i ≡ j
-      some_same i j is = cc
-
-      held_where : (l : ℕ) → lives l (entries points) ≡ true → is_held (m.links l).phase ≡ true
-      held_where l living = by (is_held (m.links l).phase) refl
-        where
-          by : (b : Bool) → is_held (m.links l).phase ≡ b → is_held (m.links l).phase ≡ true
-          by true is = is
-          by false is =
-              absurd (both_ways _ (other-rests (m.links l).phase (seen l points) ((lived g m points stands).fits l) is) living)
-
-  at_once : (x : Entry) → MayCome g m x → AllMayBeApplied points x
-  unfolding All
-  at_once (e.Accepted k door) may = absurd may
-  at_once (e.Dialled k to why) may = none_all may.0
-  at_once (e.DialFailed to why) may = none_all may.0
-  at_once (e.Opened k) may = quiet_all may.0
-  at_once (e.Came k bytes) may = quiet_all may.0.0
-  at_once (e.Ended k) may = quiet_all may.0.0
-  at_once (e.Broke k) (inl may) = quiet_all may.0
-  at_once (e.Broke k) (inr (inl may)) = quiet_all may.0
-  at_once (e.Broke k) (inr (inr may)) = closing_all k (cause.ConnFault may.0) (ap closing may.1)
-  at_once (e.Went k bytes) (inl may, some, rest) = quiet_all may.0
-  at_once (e.Went k bytes) (inr may, some, rest) = closing_all k (cause.ConnFault may.0) (ap closing may.1)
-  at_once (e.Balked way) may = tt
-  at_once (e.Shut k) may = absurd may
-  at_once (e.Closed k why) may = closing_all k why may
-  at_once e.Tick may = quiet_all may
-  at_once (e.Wait ready way) may = quiet_all may
+all_quiet : (g : NodeConfig) (m : Machine) (points : List Point) → StandsFor g m points → IsQuiet m
+    → OfEach points (λ l. messages_came l points ≡ map Ok (responses l points))
+unfolding AreIdle IsIdle
+all_quiet g m points stands quiet l control living none =
+    let x = m.links l in
+    all_applied points l x (all_read g m points stands l)
+    (calm_by x x.phase (seen l points) ((lived g m points stands).fits l) (quiet.calm l)
+    (idle_all g m points stands l) living)
 
 pub applied_at_once : RunsApplyAtOnce
 applied_at_once g m points stands =
-    at_entries g AllMayBeApplied (λ n before x runs may. at_once g n before runs x may) m points stands
+    at_entries g AllMayBeApplied
+    (λ n before x runs may. at_once g n before runs _ (all_quiet g n before runs) x may) m points stands

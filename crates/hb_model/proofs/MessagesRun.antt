@@ -1,7 +1,10 @@
 -- The messages of every run.
-use Rattle.std.proofs.Common.{◌≡◌, ℕ, ◌==◌, Bool, false, if◌then◌else◌, List, [], ◌∷◌, ◌++◌, drop, map, refl, ap, sym, ◌∙◌, subst, arith}
+use Rattle.std.proofs.Common.{◌≡◌, ℕ, ◌<◌, ◌==◌, Bool, false, if◌then◌else◌, List, [], ◌∷◌, ◌++◌, length, drop, map, refl, ap, sym, ◌∙◌, subst}
 use Rattle.std.specs.List.{flat_map}
 use Rattle.hb_base.specs.declared.cause.Cause.TheVariants as cause
+use Rattle.hb_base.specs.declared.door.Why.{Why}
+use Rattle.hb_base.specs.declared.door.Why.TheVariants as whys
+use Rattle.hb_base.specs.declared.target.Target.{Target}
 use Rattle.std.proofs.lemmas.Bool.{cond_both, eq-eqb}
 use Rattle.std.proofs.lemmas.List.{append-nil, map-append}
 use Rattle.std.proofs.lemmas.Grind.{fold-append}
@@ -14,13 +17,14 @@ use Rattle.hb_history.specs.Points as history
 use Rattle.hb_world.specs.declared.entry.Entry.{Entry}
 use Rattle.hb_world.specs.declared.entry.Entry.TheVariants as e
 use Rattle.hb_model.specs.declared.config.NodeConfig.{NodeConfig}
-use Rattle.hb_model.specs.Discovery.{Discovery, longest_message, dialled, chunk_of, on_found, ends_for, put_requests, stopped_for}
+use Rattle.hb_model.specs.Discovery.{Discovery, longest_message, dialled, came, wrote, chunk_of, on_found, ends_for, put_requests, stopped_for}
 use Rattle.hb_model.specs.Machine.{Machine, heard, entered, with_phase}
-use Rattle.hb_model.specs.Point.{Point, entry, looked, applied, refused, used, put, stopped, moves_in, moves_in_entry, data_in}
+use Rattle.hb_model.specs.Point.{Point, entry, looked, applied, refused, used, put, stopped, moves_in, moves_at_birth, moves_in_entry, data_in}
 use Rattle.hb_model.specs.Messages.{data_came, response_in, responses, held_by, held}
 use Rattle.hb_model.specs.Runs.{MayCome, Steps, StandsFor, begins, goes_on}
 use Rattle.hb_model.specs.Laws.{RunsHold, RunsObeyMessages}
 use Rattle.hb_model.proofs.Grown.{one_more, data_more, of_all}
+use Rattle.hb_model.proofs.Open.{open_or_not}
 use Rattle.hb_model.proofs.Unborn.{AreUnborn, are_unborn, Passes, passes_looked, passes_applied, passes_used, passes_put, passes_dial}
 use Rattle.hb_model.proofs.Messages.{AreRead, nothing_read, chunk_read, message_read, rest_read}
 
@@ -47,10 +51,12 @@ heard_same g held (e.Accepted k door) l d none = (refl, refl)
 heard_same g held (e.Dialled k to why) l d none = absurd none
 heard_same g held (e.DialFailed to why) l d none = (refl, refl)
 heard_same g held (e.Opened k) l d none = same_at (k == l) _ d (refl, refl)
-heard_same g held (e.Came k bytes) l d none = same_at (k == l) _ d (refl, refl)
+heard_same g held (e.Came k bytes) l d none =
+    same_at (k == l) _ d (open_or_not (λ y. Same y d) (came bytes) d (refl, refl) (refl, refl))
 heard_same g held (e.Ended k) l d none = same_at (k == l) _ d (refl, refl)
 heard_same g held (e.Broke k) l d none = same_at (k == l) _ d (refl, refl)
-heard_same g held (e.Went k bytes) l d none = same_at (k == l) _ d (refl, refl)
+heard_same g held (e.Went k bytes) l d none =
+    same_at (k == l) _ d (open_or_not (λ y. Same y d) (wrote (length bytes)) d (refl, refl) (refl, refl))
 heard_same g held (e.Balked way) l d none = (refl, refl)
 heard_same g held (e.Shut k) l d none = (refl, refl)
 heard_same g held (e.Closed k cause) l d none = same_at (k == l) _ d (refl, refl)
@@ -60,9 +66,13 @@ heard_same g held (e.Wait ready way) l d none = (refl, refl)
 none_at : (b : Bool) (points : List history.Point) → flat_map data_in points ≡ [] → flat_map data_in (if b then points else []) ≡ []
 none_at b points none = cond_both b points [] (λ ps. flat_map data_in ps ≡ []) (λ is. none) (λ is. refl)
 
+birth_hands_out : (to : Target) (why : Why) → flat_map data_in (moves_at_birth to why) ≡ []
+birth_hands_out to whys.Discovery = refl
+birth_hands_out to _ = refl
+
 entry_hands_out : (l : ℕ) (x : Entry) → flat_map data_in (moves_in_entry l x) ≡ []
 entry_hands_out l (e.Accepted k door) = refl
-entry_hands_out l (e.Dialled k to why) = none_at (k == l) _ refl
+entry_hands_out l (e.Dialled k to why) = none_at (k == l) _ (birth_hands_out to why)
 entry_hands_out l (e.DialFailed to why) = refl
 entry_hands_out l (e.Opened k) = refl
 entry_hands_out l (e.Came k bytes) = refl
@@ -103,21 +113,23 @@ module _ (g : NodeConfig) (m : Machine) (points : List Point) (unborn : AreUnbor
   entry_read x none l = kept (entry x) l (heard g m.held x l (m.links l)) (heard_same g m.held x l (m.links l) none)
       (entry_hands_out l x) refl
 
-  born_read : (k : ℕ) (to : _) (why : _) → MayCome g m (e.Dialled k to why)
-      → AreAllRead (entered g (e.Dialled k to why) m) (points ++ entry (e.Dialled k to why) ∷ [])
-  born_read k to why may =
-      let p = entry (e.Dialled k to why) in
-      let none = (unborn k (omega (arith, may.1))).none in
+  born_read : (k : ℕ) (to : Target) → m.born < k
+      → AreAllRead (entered g (e.Dialled k to whys.Discovery) m) (points ++ entry (e.Dialled k to whys.Discovery) ∷ [])
+  born_read k to above =
+      let p = entry (e.Dialled k to whys.Discovery) in
+      let none = (unborn k above).none in
       of_all (IsReadBy (points ++ p ∷ [])) k (λ l. dialled g.id to m.held) m.links
-      (grown p k _ [] [] [] (entry_hands_out k (e.Dialled k to why)) refl
+      (grown p k _ [] [] [] (entry_hands_out k (e.Dialled k to whys.Discovery)) refl
       (subst (λ xs. AreRead (dialled g.id to m.held).framing [] xs (responses k points ++ []))
       (sym (append-nil (data_came k points) ∙ ap (flat_map data_in) none.moves))
       (subst (AreRead (dialled g.id to m.held).framing [] []) (sym (append-nil (responses k points) ∙ none.responses)) nothing_read)))
-      (λ l apart. elsewhere p l (passes_dial g l k to why apart))
+      (λ l apart. elsewhere p l (passes_dial g l k to whys.Discovery apart))
 
   entries_read : (x : Entry) → MayCome g m x → AreAllRead (entered g x m) (points ++ entry x ∷ [])
   entries_read (e.Accepted k door) may = absurd may
-  entries_read (e.Dialled k to why) may = born_read k to why may
+  entries_read (e.Dialled k to why) may =
+      subst (λ (w : Why). AreAllRead (entered g (e.Dialled k to w) m) (points ++ entry (e.Dialled k to w) ∷ [])) (sym may.3)
+      (born_read k to may.1)
   entries_read (e.DialFailed to why) may = entry_read _ tt
   entries_read (e.Opened k) may = entry_read _ tt
   entries_read (e.Came k bytes) may = entry_read _ tt
@@ -166,7 +178,7 @@ module _ (g : NodeConfig) (m : Machine) (points : List Point) (unborn : AreUnbor
   point_read (refused k) n steps =
       linked (refused k) k n _ _ steps.2 (λ l. refl)
       (kept (refused k) k (ends_for cause.Discovery (m.links k)) (refl, refl) refl refl)
-      (λ l apart. record { moves = refl; came = refl; went = refl; response = refl; request = λ held. refl })
+      (λ l apart. record { moves = refl; came = refl; went = refl; tells = refl; response = refl; request = λ held. refl })
   point_read (used k c) n steps =
       let is = steps.1 in
       let x = m.links k in
@@ -192,7 +204,7 @@ all_read g n more (goes_on before p steps grows) =
     subst (AreAllRead n) (sym grows) (point_read g _ _ (are_unborn g _ _ before) (all_read g _ _ before) p n steps)
 
 pub obey_messages : RunsObeyMessages
-obey_messages g m points stands l =
+obey_messages g m points stands l control =
     let read = all_read g m points stands l in
     let x = m.links l in
     let more = map response_of (framed_of longest_message ((x.framing.held ++ x.chunk) ++ [])).messages in

@@ -1,5 +1,5 @@
 -- The requests of every run.
-use Rattle.std.proofs.Common.{◌≡◌, inl, inr, ℕ, ◌≤◌, ◌<◌, ◌==◌, ◌||◌, Bool, true, false, cond, if◌then◌else◌, List, [], ◌∷◌, ◌++◌, length, take, drop, Option, Some, refl, ap, ap₂, sym, ◌∙◌, subst, arith, length-append}
+use Rattle.std.proofs.Common.{◌≡◌, ◌⊎◌, inl, inr, ℕ, ◌≤◌, ◌<◌, ◌==◌, ◌||◌, Bool, true, false, if◌then◌else◌, List, [], ◌∷◌, ◌++◌, length, take, drop, Option, Some, refl, ap, ap₂, sym, ◌∙◌, subst, arith, length-append}
 use Rattle.std.specs.List.{flat_map}
 use Rattle.std.proofs.lemmas.Bool.Decides.{nat_tests}
 use Rattle.std.proofs.lemmas.List.{append_assoc, append-nil}
@@ -7,8 +7,10 @@ use Rattle.std.proofs.lemmas.Grind.{flat_map-append}
 use Rattle.std.proofs.Math.Seq.{take-append_seam}
 use Rattle.hb_base.specs.declared.cause.Cause.{Cause}
 use Rattle.hb_base.specs.declared.cause.Cause.TheVariants as cause
+use Rattle.hb_base.specs.declared.door.Why.{Why}
+use Rattle.hb_base.specs.declared.door.Why.TheVariants as whys
+use Rattle.hb_base.specs.declared.target.Target.{Target}
 use Rattle.hb_frames.specs.RawFrame.{RawFrame}
-use Rattle.hb_frames.specs.Numbers.{data_kind}
 use Rattle.hb_hpack.specs.Encoding.{block_of}
 use Rattle.hb_hpack.specs.declared.header.Header.{Header}
 use Rattle.hb_grpc.specs.Message.{spelling}
@@ -23,16 +25,16 @@ use Rattle.hb_outgoing.specs.Written.{begun_by, written}
 use Rattle.hb_outgoing.specs.Laws.{Shows}
 use Rattle.hb_outgoing.proofs.Sent.{write_begins}
 use Rattle.hb_conn.specs.Preface.{octets}
-use Rattle.hb_conn.specs.Connection.{Connection, Finds, fresh_client}
+use Rattle.hb_conn.specs.Connection.{Connection, Finds, fresh_client, core_of}
 use Rattle.hb_conn.specs.Credit.{credit}
+use Rattle.hb_conn.specs.Observed.{output, is_over}
 use Rattle.hb_conn.specs.Opening.{begun, headers_frame, opened_with}
-use Rattle.hb_conn.specs.Frames.{frame, sent as out_sent}
 use Rattle.hb_conn.specs.Owing as owing
 use Rattle.hb_conn.specs.Payload.{count_put, data_put}
 use Rattle.hb_conn.specs.declared.machine.Core.{Core}
 use Rattle.hb_conn.specs.declared.found.Found.{Found}
 use Rattle.hb_conn.specs.declared.found.Found.TheVariants as found
-use Rattle.hb_flow.specs.Flows.{creditable, spent}
+use Rattle.hb_flow.specs.Flows.{creditable}
 use Rattle.hb_history.specs.Points as history
 use Rattle.hb_history.specs.Points.{RunsWith}
 use Rattle.hb_history.specs.Waits.{IsFirst}
@@ -43,23 +45,24 @@ use Rattle.hb_history.proofs.Looks.{act_rest}
 use Rattle.hb_history.proofs.First.{first_keeps, first_new}
 use Rattle.hb_history.proofs.Lives.{Moved, moved_on, active_some}
 use Rattle.hb_history.proofs.Runs.{begins_more, begins_one}
-use Rattle.hb_history.proofs.Over.{Rises, finds_over, paid_over, credit_over}
+use Rattle.hb_history.proofs.Looking.{looks_begin_none, looks_rest}
+use Rattle.hb_history.proofs.Steady.{not_over, put_over, credited_over, wrote_over, first_stream}
 use Rattle.hb_world.specs.Trace.{went_on, sent}
 use Rattle.hb_world.specs.declared.entry.Entry.{Entry}
 use Rattle.hb_world.specs.declared.entry.Entry.TheVariants as e
 use Rattle.hb_model.specs.declared.config.NodeConfig.{NodeConfig}
 use Rattle.hb_model.specs.Discovery.{Discovery, Phase, unborn, dialling, live, faulted, ending, closed, opened, ended, broken, went, stopped_for, phase_by, end_by, headers_read, stream, headers_of, first_requests, answer_to, spelled, no_link, dialled, came, wrote, on_found, ends_for, put_requests, sendable}
-use Rattle.hb_model.specs.Machine.{Machine, entered, with_phase}
+use Rattle.hb_model.specs.Machine.{Machine, while_open, entered, with_phase}
 use Rattle.hb_model.specs.Messages.{held}
 use Rattle.hb_model.specs.Point.{Point, entry, looked, applied, refused, used, put, stopped, entry_in, entries, moves_in, moves, act}
 use Rattle.hb_model.specs.Requests.{request_in, requests, payload_of}
-use Rattle.hb_model.specs.Runs.{output_by, MayCome, Steps, StandsFor, begins, goes_on}
+use Rattle.hb_model.specs.Runs.{output_by, MayCome, Steps, StandsFor, begins, goes_on, IsFaulted}
 use Rattle.hb_model.specs.Laws.{RunsObeyRequests}
 use Rattle.hb_model.proofs.Grown.{one_more, entries_more, requests_more, of_all, IsBorn}
+use Rattle.hb_model.proofs.Open.{live_changes, open_changes}
 use Rattle.hb_model.proofs.Unborn.{AreUnborn, are_unborn, born_closing, Passes, passes_looked, passes_applied, passes_used, passes_put, passes_dial, passes_came, passes_went}
 use Rattle.hb_model.proofs.MessagesRun.{held_is}
-use Rattle.hb_model.proofs.Connections.{looks_begin_none, looks_rest}
-use Rattle.hb_model.proofs.ConnectionsRun.{first_number, on_itself, itself_alone, quiet_passes}
+use Rattle.hb_model.proofs.ConnectionsRun.{on_itself, itself_alone, quiet_passes}
 use Rattle.hb_model.proofs.Requests.{payloads, Follows, GoesOn, Asks, looks_ask, credit_asks, write_asks, more_asks, put_asks}
 
 -- a link that goes on
@@ -71,7 +74,7 @@ IsGoing _ = ⊥
 -- what was asked on a link, and what of it went and waits
 pub record IsAsked (g : NodeConfig) (points : List Point) (l : ℕ) (phase : Phase) (waiting : List ℕ) (c : Core) : Type 0 where
   pub begun : List RawFrame
-  pub begins : RunsWith fresh_client.receiver.core (moves l points) begun c
+  pub begins : RunsWith (core_of fresh_client) (moves l points) begun c
   pub shows : Shows octets (sent l (entries points)) begun c.out
   pub first : IsFirst c.out
   pub moved : Moved Client c.streams
@@ -80,7 +83,7 @@ pub record IsAsked (g : NodeConfig) (points : List Point) (l : ℕ) (phase : Pha
   pub goes : IsGoing phase → c.over ≡ false
 
 abbrev pub IsAskedOn : NodeConfig → List Point → ℕ → Discovery → Type 0
-IsAskedOn g points l x = IsAsked g points l x.phase x.waiting x.conn.receiver.core
+IsAskedOn g points l x = IsAsked g points l x.phase x.waiting (core_of x.conn)
 
 abbrev pub AreAsked : NodeConfig → Machine → List Point → Type 0
 AreAsked g m points = (l : ℕ) → IsAskedOn g points l (m.links l)
@@ -91,9 +94,9 @@ spelled_more (m ∷ ms) ns =
     ap (λ (xs : List ℕ). spelling m ++ xs) (spelled_more ms ns) ∙ sym (append_assoc (spelling m) (spelled ms) (spelled ns))
 
 -- the output of a new connection that opened its stream
-first_out : (headers : List Header) → IsFirst (opened_with fresh_client.receiver.core stream headers false).out
+first_out : (headers : List Header) → IsFirst (opened_with (core_of fresh_client) stream headers false).out
 first_out headers =
-    let core = fresh_client.receiver.core in
+    let core = core_of fresh_client in
     first_keeps.puts core.out (headers_frame stream false (block_of (begun core stream).encoder headers)) (refl, refl)
     (first_new Client)
 
@@ -119,17 +122,12 @@ some_go : (own : Bool) (n : ℕ) → 0 < (if own then n else 0) → (own ≡ tru
 some_go true n some = (refl, some)
 some_go false n some = absurd (omega (arith, some))
 
-put_over : (c : Core) (n : ℕ) (bytes : List ℕ) (b : Bool)
-    → (cond b c (out_sent (record c { flow = spent c.flow stream n }) (frame data_kind 0 stream (take n bytes)))).over ≡ c.over
-put_over c n bytes true = refl
-put_over c n bytes false = refl
-
 module _ (g : NodeConfig) (m : Machine) (points : List Point) (unborn : AreUnborn g m points) (hold : m.held ≡ held g points)
     (asked : AreAsked g m points) where
   -- with a point by which these octets go on a link, and these requests are made
   grown : (p : Point) (l : ℕ) (phase : Phase) (waiting : List ℕ) (c : Core) (begun : List RawFrame) (bytes more : List ℕ)
       → flat_map (went_on l) (entry_in p) ≡ bytes → spelled (request_in g m.held l p) ≡ more
-      → RunsWith fresh_client.receiver.core (moves l points ++ moves_in l p) begun c
+      → RunsWith (core_of fresh_client) (moves l points ++ moves_in l p) begun c
       → Shows octets (sent l (entries points) ++ bytes) begun c.out → IsFirst c.out → Moved Client c.streams
       → (IsBorn phase → stream ≤ c.streams.highest)
       → Follows begun (spelled (requests g l points) ++ more) waiting (GoesOn calm c) c.out.queue
@@ -141,7 +139,7 @@ module _ (g : NodeConfig) (m : Machine) (points : List Point) (unborn : AreUnbor
       ∙ ap spelled (sym (requests_more g (nothing_held g.network g.node) l points p)) in
       record {
         begun = begun;
-        begins = subst (λ (qs : List history.Point). RunsWith fresh_client.receiver.core qs begun c)
+        begins = subst (λ (qs : List history.Point). RunsWith (core_of fresh_client) qs begun c)
             (sym (one_more (moves_in l) points p)) runs;
         shows = subst (λ (bs : List ℕ). Shows octets bs begun c.out)
             (ap (λ (bs : List ℕ). sent l (entries points) ++ bs) (sym goes) ∙ sym (entries_more (went_on l) points p)) shows;
@@ -154,29 +152,29 @@ module _ (g : NodeConfig) (m : Machine) (points : List Point) (unborn : AreUnbor
 
   -- one by which these moves are made, with which these frames begin
   runs_on : (p : Point) (l : ℕ) (ps : List history.Point) (gs : List RawFrame) (c : Core) → moves_in l p ≡ ps
-      → RunsWith (m.links l).conn.receiver.core ps gs c
-      → RunsWith fresh_client.receiver.core (moves l points ++ moves_in l p) ((asked l).begun ++ gs) c
+      → RunsWith (core_of (m.links l).conn) ps gs c
+      → RunsWith (core_of fresh_client) (moves l points ++ moves_in l p) ((asked l).begun ++ gs) c
   runs_on p l ps gs c are runs =
-      subst (λ (qs : List history.Point). RunsWith fresh_client.receiver.core (moves l points ++ qs) ((asked l).begun ++ gs) c)
+      subst (λ (qs : List history.Point). RunsWith (core_of fresh_client) (moves l points ++ qs) ((asked l).begun ++ gs) c)
       (sym are)
-      (begins_more (moves l points) ps fresh_client.receiver.core (m.links l).conn.receiver.core c (asked l).begun gs
+      (begins_more (moves l points) ps (core_of fresh_client) (core_of (m.links l).conn) c (asked l).begun gs
       (asked l).begins runs)
 
   runs_still : (p : Point) (l : ℕ) (ps : List history.Point) (c : Core) → moves_in l p ≡ ps
-      → RunsWith (m.links l).conn.receiver.core ps [] c
-      → RunsWith fresh_client.receiver.core (moves l points ++ moves_in l p) (asked l).begun c
+      → RunsWith (core_of (m.links l).conn) ps [] c
+      → RunsWith (core_of fresh_client) (moves l points ++ moves_in l p) (asked l).begun c
   runs_still p l ps c are runs =
-      subst (λ (fs : List RawFrame). RunsWith fresh_client.receiver.core (moves l points ++ moves_in l p) fs c)
+      subst (λ (fs : List RawFrame). RunsWith (core_of fresh_client) (moves l points ++ moves_in l p) fs c)
       (append-nil (asked l).begun) (runs_on p l ps [] c are runs)
 
   -- one by which nothing of the output changes
   kept : (p : Point) (l : ℕ) (phase : Phase) → moves_in l p ≡ [] → flat_map (went_on l) (entry_in p) ≡ []
       → spelled (request_in g m.held l p) ≡ []
-      → (IsBorn phase → IsBorn (m.links l).phase) → (IsGoing phase → (m.links l).conn.receiver.core.over ≡ false)
-      → IsAsked g (points ++ p ∷ []) l phase (m.links l).waiting (m.links l).conn.receiver.core
+      → (IsBorn phase → IsBorn (m.links l).phase) → (IsGoing phase → is_over (m.links l).conn ≡ false)
+      → IsAsked g (points ++ p ∷ []) l phase (m.links l).waiting (core_of (m.links l).conn)
   kept p l phase none goes asks born going =
       let a = asked l in
-      let c = (m.links l).conn.receiver.core in
+      let c = core_of (m.links l).conn in
       let w = (m.links l).waiting in
       grown p l phase w c a.begun [] [] goes asks (runs_still p l [] c none (refl, refl))
       (subst (λ (bs : List ℕ). Shows octets bs a.begun c.out) (sym (append-nil (sent l (entries points)))) a.shows)
@@ -196,7 +194,7 @@ module _ (g : NodeConfig) (m : Machine) (points : List Point) (unborn : AreUnbor
 
   -- a link whose phase alone changes
   phase_changes : (x : Entry) (k : ℕ) (change : Phase → Phase) → IsBorn (m.links k).phase
-      → (IsGoing (change (m.links k).phase) → (m.links k).conn.receiver.core.over ≡ false)
+      → (IsGoing (change (m.links k).phase) → is_over (m.links k).conn ≡ false)
       → ((l : ℕ) → Passes g l (entry x)) → (l : ℕ)
       → IsAskedOn g (points ++ entry x ∷ []) l (if k == l then with_phase change (m.links l) else m.links l)
   phase_changes x k change born going passes =
@@ -205,36 +203,36 @@ module _ (g : NodeConfig) (m : Machine) (points : List Point) (unborn : AreUnbor
       (λ b. born) going)
       (λ l apart. passes l)
 
-  born_asked : (k : ℕ) (to : _) (why : _) → MayCome g m (e.Dialled k to why)
-      → AreAsked g (entered g (e.Dialled k to why) m) (points ++ entry (e.Dialled k to why) ∷ [])
-  born_asked k to why may =
-      let p = entry (e.Dialled k to why) in
+  born_asked : (k : ℕ) (to : Target) → m.born < k
+      → AreAsked g (entered g (e.Dialled k to whys.Discovery) m) (points ++ entry (e.Dialled k to whys.Discovery) ∷ [])
+  born_asked k to above =
+      let p = entry (e.Dialled k to whys.Discovery) in
       let x = dialled g.id to m.held in
-      let c = x.conn.receiver.core in
-      let none = (unborn k (omega (arith, may.1))).none in
+      let c = core_of x.conn in
+      let none = (unborn k above).none in
       let first_bytes = spelled (first_requests g.id m.held) in
       let asks : spelled (request_in g m.held k p) ≡ first_bytes = ap spelled (on_itself k (first_requests g.id m.held)) in
-      let old = fresh_client.receiver.core in
+      let old = core_of fresh_client in
       let move = history.opened stream (headers_of to) false in
       changed p k (λ l. x)
       (grown p k dialling x.waiting c [] [] first_bytes refl asks
       (subst (λ (qs : List history.Point). RunsWith old qs [] c)
       (ap (λ (qs : List history.Point). qs ++ moves_in k p) (sym none.moves))
       (subst (λ (qs : List history.Point). RunsWith old qs [] c) (sym (on_itself k (act move)))
-      (begins_one (history.point move found.Silent) old c [] refl (first_number, (refl, refl)))))
+      (begins_one (history.point move found.Silent) old c [] refl (first_stream, (refl, refl)))))
       (ap (λ (bs : List ℕ). (bs ++ []) ++ octets) none.went)
       (first_out (headers_of to))
       (moved_on Client old.streams c.streams (begins_next old.peer.streams) refl ([], refl))
       (λ b. let up : (after_number old.streams (number_of old.streams old.peer.streams)).highest ≡ stream =
-      ap (λ r. (after_number old.streams r).highest) first_number in omega (arith, up))
+      ap (λ r. (after_number old.streams r).highest) first_stream in omega (arith, up))
       (first_bytes, ap (λ (ms : List (List ℕ)). spelled ms ++ first_bytes) none.requests, λ o. refl)
       (λ i. refl))
-      (λ l apart. passes_dial g l k to why apart)
+      (λ l apart. passes_dial g l k to whys.Discovery apart)
 
   -- what is kept by all that is made of a connection is so with a point
   made : (p : Point) (l : ℕ) (phase : Phase) (waiting : List ℕ) (c : Core) (begun : List RawFrame) (bytes more : List ℕ)
       → flat_map (went_on l) (entry_in p) ≡ bytes → spelled (request_in g m.held l p) ≡ more
-      → RunsWith fresh_client.receiver.core (moves l points ++ moves_in l p) begun c
+      → RunsWith (core_of fresh_client) (moves l points ++ moves_in l p) begun c
       → Shows octets (sent l (entries points) ++ bytes) begun c.out
       → Asks begun (spelled (requests g l points) ++ more) waiting calm c → (IsGoing phase → c.over ≡ false)
       → IsAsked g (points ++ p ∷ []) l phase waiting c
@@ -242,7 +240,7 @@ module _ (g : NodeConfig) (m : Machine) (points : List Point) (unborn : AreUnbor
       grown p l phase waiting c begun bytes more goes asks runs shows h.0 h.1 (λ b. h.2) h.3 going
 
   asks_of : (l : ℕ) → IsBorn (m.links l).phase
-      → Asks (asked l).begun (spelled (requests g l points)) (m.links l).waiting calm (m.links l).conn.receiver.core
+      → Asks (asked l).begun (spelled (requests g l points)) (m.links l).waiting calm (core_of (m.links l).conn)
   asks_of l born = ((asked l).first, (asked l).moved, (asked l).started born, (asked l).follows)
 
   with_none : (l : ℕ) (begun : List RawFrame) (waiting : List ℕ) (c : Core) → Asks begun (spelled (requests g l points)) waiting calm c
@@ -251,19 +249,20 @@ module _ (g : NodeConfig) (m : Machine) (points : List Point) (unborn : AreUnbor
       subst (λ (xs : List ℕ). Asks begun xs waiting calm c) (sym (append-nil (spelled (requests g l points)))) h
 
   -- what was begun waits on
-  shows_on : (l : ℕ) (w : Waiting) → w.rest ≡ (m.links l).conn.receiver.core.out.rest
+  shows_on : (l : ℕ) (w : Waiting) → w.rest ≡ (core_of (m.links l).conn).out.rest
       → Shows octets (sent l (entries points) ++ []) (asked l).begun w
   shows_on l w same =
       ap₂ (λ (xs ys : List ℕ). xs ++ ys) (append-nil (sent l (entries points))) same ∙ (asked l).shows
 
-  went_asked : (k : ℕ) (bytes rest : List ℕ) → octets_of (m.links k).conn.receiver.core.out ≡ bytes ++ rest
-      → IsBorn (m.links k).phase → (IsGoing (went (m.links k).phase) → (m.links k).conn.receiver.core.over ≡ false)
+  went_asked : (k : ℕ) (bytes rest : List ℕ) → output (m.links k).conn ≡ bytes ++ rest
+      → ((m.links k).phase ≡ live) ⊎ IsFaulted m k → IsBorn (m.links k).phase
+      → (IsGoing (went (m.links k).phase) → is_over (m.links k).conn ≡ false)
       → AreAsked g (entered g (e.Went k bytes) m) (points ++ entry (e.Went k bytes) ∷ [])
-  went_asked k bytes rest is born going =
+  went_asked k bytes rest is opened born going =
       let p = entry (e.Went k bytes) in
       let a = asked k in
       let x = m.links k in
-      let c = x.conn.receiver.core in
+      let c = core_of x.conn in
       let n = length bytes in
       let within : n ≤ length (octets_of c.out) = omega (arith, ap length is, length-append bytes rest) in
       let all : take n (octets_of c.out) ≡ bytes = ap (take n) is ∙ take-append_seam bytes rest in
@@ -271,7 +270,8 @@ module _ (g : NodeConfig) (m : Machine) (points : List Point) (unborn : AreUnbor
       let same : (owing.wrote c n).out.rest ≡ left = payment_keeps (OfOut (λ w. w.rest ≡ left))
       (out_keeps (λ w. w.rest ≡ left) (rest_keeps left)) calm (record c { out = written n c.out }) refl in
       let shown = (write_begins octets (sent k (entries points)) a.begun c.out n within a.shows).0 in
-      changed p k (λ l. wrote n (m.links l))
+      changed p k (λ l. while_open (wrote n) (m.links l))
+      (subst (IsAskedOn g (points ++ p ∷ []) k) (sym (open_changes (wrote n) m k opened))
       (made p k (went x.phase) x.waiting (owing.wrote c n) (a.begun ++ begun_by n c.out) bytes [] (itself_alone k bytes) refl
       (runs_on p k (act (history.wrote n)) (begun_by n c.out) (owing.wrote c n) (on_itself k (act (history.wrote n)))
       (begins_one (history.point (history.wrote n) found.Silent) c (owing.wrote c n) (begun_by n c.out) refl
@@ -279,26 +279,29 @@ module _ (g : NodeConfig) (m : Machine) (points : List Point) (unborn : AreUnbor
       (ap₂ (λ (bs xs : List ℕ). (sent k (entries points) ++ bs) ++ xs) (sym all) same ∙ shown)
       (with_none k (a.begun ++ begun_by n c.out) x.waiting (owing.wrote c n)
       (write_asks a.begun (spelled (requests g k points)) x.waiting c n (asks_of k born)))
-      (λ i. paid_over _ ∙ going i))
+      (λ i. wrote_over x.conn n ∙ going i)))
       (λ l apart. passes_went g l k bytes apart)
 
   -- all links stay
   all_kept : (x : Entry) → ((l : ℕ) → Passes g l (entry x)) → AreAsked g m (points ++ entry x ∷ [])
   all_kept x passes l = elsewhere (entry x) l (passes l)
 
-  live_over : (k : ℕ) → (m.links k).phase ≡ live → (m.links k).conn.receiver.core.over ≡ false
+  live_over : (k : ℕ) → (m.links k).phase ≡ live → is_over (m.links k).conn ≡ false
   live_over k alive = (asked k).goes (subst IsGoing (sym alive) tt)
 
   entry_asked : (x : Entry) → MayCome g m x → AreAsked g (entered g x m) (points ++ entry x ∷ [])
   entry_asked (e.Accepted k door) may = absurd may
-  entry_asked (e.Dialled k to why) may = born_asked k to why may
+  entry_asked (e.Dialled k to why) may =
+      subst (λ (w : Why). AreAsked g (entered g (e.Dialled k to w) m) (points ++ entry (e.Dialled k to w) ∷ [])) (sym may.3)
+      (born_asked k to may.1)
   entry_asked (e.DialFailed to why) may = all_kept _ (λ l. quiet_passes g l (e.DialFailed to why) tt)
   entry_asked (e.Opened k) may =
       phase_changes (e.Opened k) k opened (subst IsBorn (sym may.1) tt) (λ i. (asked k).goes (subst IsGoing (sym may.1) tt))
       (λ l. quiet_passes g l (e.Opened k) tt)
   entry_asked (e.Came k bytes) may =
-      changed (entry (e.Came k bytes)) k (λ l. came bytes (m.links l))
-      (kept (entry (e.Came k bytes)) k (m.links k).phase refl refl refl (λ b. b) (asked k).goes)
+      changed (entry (e.Came k bytes)) k (λ l. while_open (came bytes) (m.links l))
+      (subst (IsAskedOn g (points ++ entry (e.Came k bytes) ∷ []) k) (sym (live_changes (came bytes) (m.links k) may.0.1))
+      (kept (entry (e.Came k bytes)) k (m.links k).phase refl refl refl (λ b. b) (asked k).goes))
       (λ l apart. passes_came g l k bytes apart)
   entry_asked (e.Ended k) may =
       phase_changes (e.Ended k) k ended (subst IsBorn (sym may.0.1) tt) (λ i. live_over k may.0.1) (λ l. quiet_passes g l (e.Ended k) tt)
@@ -311,10 +314,12 @@ module _ (g : NodeConfig) (m : Machine) (points : List Point) (unborn : AreUnbor
       phase_changes (e.Broke k) k broken (subst IsBorn (sym may.1) tt) (λ i. absurd (subst IsGoing (ap broken may.1) i))
       (λ l. quiet_passes g l (e.Broke k) tt)
   entry_asked (e.Went k bytes) (inl may, some, rest) =
-      went_asked k bytes rest.0 (sym (ap (λ (phase : Phase). output_by phase (m.links k)) may.1) ∙ rest.1) (subst IsBorn (sym may.1) tt)
+      went_asked k bytes rest.0 (sym (ap (λ (phase : Phase). output_by phase (m.links k)) may.1) ∙ rest.1) (inl may.1)
+      (subst IsBorn (sym may.1) tt)
       (λ i. live_over k may.1)
   entry_asked (e.Went k bytes) (inr may, some, rest) =
-      went_asked k bytes rest.0 (sym (ap (λ (phase : Phase). output_by phase (m.links k)) may.1) ∙ rest.1) (subst IsBorn (sym may.1) tt)
+      went_asked k bytes rest.0 (sym (ap (λ (phase : Phase). output_by phase (m.links k)) may.1) ∙ rest.1) (inr may)
+      (subst IsBorn (sym may.1) tt)
       (λ i. absurd (subst IsGoing (ap went may.1) i))
   entry_asked (e.Balked way) may = all_kept _ (λ l. quiet_passes g l (e.Balked way) tt)
   entry_asked (e.Shut k) may = absurd may
@@ -333,11 +338,11 @@ module _ (g : NodeConfig) (m : Machine) (points : List Point) (unborn : AreUnbor
   -- after a look that tells no connection error a link goes on
   look_over : (k : ℕ) (told : Found) (conn : Connection) (why : Option Cause) → (m.links k).phase ≡ live
       → ((code : ℕ) → told ≡ found.Fault code → why ≡ Some (cause.ConnFault code)) → Finds (m.links k).conn conn told
-      → IsGoing (phase_by (m.links k).phase why) → conn.receiver.core.over ≡ false
-  look_over k told conn why alive fault finds goes = by (finds_over (m.links k).conn conn told finds)
+      → IsGoing (phase_by (m.links k).phase why) → is_over conn ≡ false
+  look_over k told conn why alive fault finds goes = by (not_over (m.links k).conn conn told (live_over k alive) finds)
     where
-      by : Rises (m.links k).conn.receiver.core conn.receiver.core told → conn.receiver.core.over ≡ false
-      by (inl same) = same ∙ live_over k alive
+      by : (is_over conn ≡ false) ⊎ ((code : ℕ) × (told ≡ found.Fault code)) → is_over conn ≡ false
+      by (inl over) = over
       by (inr code) = absurd (subst (λ o. IsGoing (phase_by (m.links k).phase o)) (fault code.0 code.1) goes)
 
   point_asked : (p : Point) (n : Machine) → Steps g m p n → AreAsked g n (points ++ p ∷ [])
@@ -346,14 +351,14 @@ module _ (g : NodeConfig) (m : Machine) (points : List Point) (unborn : AreUnbor
       let p = looked k ps told headers in
       let x = m.links k in
       let look = steps.2 in
-      let core = steps.1.receiver.core in
+      let core = core_of steps.1 in
       let why = end_by x.answered (headers_read steps.1) told in
       linked p k n _ (on_found told steps.1 x) steps.4 (λ l. refl)
       (made p k (phase_by x.phase why) x.waiting core (asked k).begun [] [] refl refl
-      (runs_still p k ps core (on_itself k ps) (looks_begin_none ps x.conn.receiver.core core look.looks look.runs))
-      (shows_on k core.out (looks_rest ps x.conn.receiver.core core look.looks look.runs))
+      (runs_still p k ps core (on_itself k ps) (looks_begin_none ps (core_of x.conn) core look.looks look.runs))
+      (shows_on k core.out (looks_rest ps (core_of x.conn) core look.looks look.runs))
       (with_none k (asked k).begun x.waiting core
-      (looks_ask (asked k).begun (spelled (requests g k points)) x.waiting ps x.conn.receiver.core core look.looks look.runs
+      (looks_ask (asked k).begun (spelled (requests g k points)) x.waiting ps (core_of x.conn) core look.looks look.runs
       (asks_of k (subst IsBorn (sym steps.0) tt))))
       (look_over k told steps.1 why steps.0 (λ code is. ap (end_by x.answered (headers_read steps.1)) is) look.finds))
       (λ l apart. passes_looked g l k ps told headers apart)
@@ -361,7 +366,7 @@ module _ (g : NodeConfig) (m : Machine) (points : List Point) (unborn : AreUnbor
       let p = applied k r in
       let x = m.links k in
       let answer = answer_to m.held r in
-      let c = x.conn.receiver.core in
+      let c = core_of x.conn in
       linked p k n _ _ steps.3 (λ l. refl)
       (made p k x.phase (x.waiting ++ spelling answer) c (asked k).begun [] (spelling answer) refl
       (ap spelled (on_itself k (answer ∷ [])) ∙ append-nil (spelling answer))
@@ -374,11 +379,11 @@ module _ (g : NodeConfig) (m : Machine) (points : List Point) (unborn : AreUnbor
   point_asked (refused k) n steps =
       linked (refused k) k n _ (ends_for cause.Discovery (m.links k)) steps.2 (λ l. refl)
       (kept (refused k) k (ending cause.Discovery) refl refl refl (λ b. subst IsBorn (sym steps.0) tt) (λ i. absurd i))
-      (λ l apart. record { moves = refl; came = refl; went = refl; response = refl; request = λ h. refl })
+      (λ l apart. record { moves = refl; came = refl; went = refl; tells = refl; response = refl; request = λ h. refl })
   point_asked (used k n) next steps =
       let p = used k n in
       let x = m.links k in
-      let c = x.conn.receiver.core in
+      let c = core_of x.conn in
       let core = credit c stream n in
       let within : n ≤ creditable c.flow stream = omega (arith, steps.1.counted) in
       linked p k next _ _ steps.2 (λ l. refl)
@@ -388,12 +393,12 @@ module _ (g : NodeConfig) (m : Machine) (points : List Point) (unborn : AreUnbor
       (shows_on k core.out (act_rest c (history.credited stream n) core found.Silent tt (within, (refl, refl))))
       (with_none k (asked k).begun x.waiting core
       (credit_asks (asked k).begun (spelled (requests g k points)) x.waiting c n within (asks_of k (subst IsBorn (sym steps.0) tt))))
-      (λ i. credit_over c stream n ∙ (asked k).goes i))
+      (λ i. credited_over x.conn stream n ∙ (asked k).goes i))
       (λ l apart. passes_used g l k n apart)
   point_asked (put k bytes) n steps =
       let p = put k bytes in
       let x = m.links k in
-      let c = x.conn.receiver.core in
+      let c = core_of x.conn in
       let count = count_put c stream x.waiting in
       let core = data_put c stream x.waiting in
       let go = some_go (sides_of (state_of c.streams stream)).own count steps.2 in
@@ -411,7 +416,7 @@ module _ (g : NodeConfig) (m : Machine) (points : List Point) (unborn : AreUnbor
       (subst (λ i. Asks (asked k).begun (spelled (requests g k points)) (drop i x.waiting) calm core) (sym size)
       (put_asks (asked k).begun (spelled (requests g k points)) x.waiting c some (tt, live_over k steps.0, active)
       (asks_of k (subst IsBorn (sym steps.0) tt)))))
-      (λ i. put_over c count x.waiting (count == 0) ∙ live_over k steps.0))
+      (λ i. put_over x.conn stream x.waiting ∙ live_over k steps.0))
       (λ l apart. passes_put g l k bytes apart)
   point_asked (stopped why) n steps =
       subst (λ (y : Machine). AreAsked g y (points ++ stopped why ∷ [])) (sym steps.1)
@@ -439,9 +444,9 @@ all_asked g n more (goes_on {m = m} {points = points} before p steps grows) =
     (point_asked g m points (are_unborn g m points before) (held_is g m points before) (all_asked g m points before) p n steps)
 
 pub obey_requests : RunsObeyRequests
-obey_requests g m points stands l =
+obey_requests g m points stands l control =
     let a = all_asked g m points stands l in
-    let c = (m.links l).conn.receiver.core in
+    let c = core_of (m.links l).conn in
     record {
       begun = a.begun;
       owed = c.out.rest;

@@ -1,93 +1,93 @@
 -- While a link goes on, this end's side of its stream is open, and the peer takes frames of 16,384 octets.
-use Rattle.std.proofs.Common.{◌≡◌, ℕ, ◌==◌, Bool, true, false, if◌then◌else◌, List, [], ◌++◌, length, drop, Ok, refl, ap, sym, ◌∙◌, subst, arith}
-use Rattle.std.proofs.lemmas.Bool.{cond_both}
+use Rattle.std.proofs.Common.{◌≡◌, ℕ, ◌==◌, Bool, true, false, if◌then◌else◌, List, [], ◌++◌, length, drop, refl, ap, sym, ◌∙◌, subst}
 use Rattle.hb_base.specs.declared.cause.Cause.{Cause}
 use Rattle.hb_base.specs.declared.cause.Cause.TheVariants as cause
+use Rattle.hb_base.specs.declared.door.Why.{Why}
+use Rattle.hb_base.specs.declared.door.Why.TheVariants as whys
 use Rattle.hb_base.specs.declared.target.Target.{Target}
 use Rattle.hb_grpc.specs.Message.{spelling}
 use Rattle.hb_grpc.specs.Reading.{fed}
 use Rattle.hb_held.specs.Held.{Resources}
 use Rattle.hb_hpack.specs.declared.header.Header.{Header}
-use Rattle.hb_map.proofs.Laws.{put_here}
-use Rattle.hb_streams.specs.Sides.{both_open}
-use Rattle.hb_streams.specs.Moves.{after_number}
-use Rattle.hb_outgoing.specs.Written.{written}
-use Rattle.hb_conn.specs.Connection.{fresh_client}
-use Rattle.hb_conn.specs.Payload.{count_put, data_put}
 use Rattle.hb_conn.specs.declared.found.Found.{Found}
 use Rattle.hb_conn.specs.declared.found.Found.TheVariants as found
-use Rattle.hb_history.proofs.Lasting.{IsOpen, SendsBy, parts, Sends, is_end, paid_parts, credit_parts, finds_last}
+use Rattle.hb_history.proofs.CanSend.{CanSend, KeepsStreams, sends_on, first_sends, wrote_keeps, credited_keeps, put_keeps}
+use Rattle.hb_history.proofs.Lasting.{is_end, finds_last}
 use Rattle.hb_world.specs.declared.entry.Entry.{Entry}
 use Rattle.hb_world.specs.declared.entry.Entry.TheVariants as e
 use Rattle.hb_model.specs.declared.config.NodeConfig.{NodeConfig}
-use Rattle.hb_model.specs.Discovery.{Discovery, Phase, dialling, live, faulted, closed, opened, ended, broken, went, stopped_for, phase_by, end_by, headers_read, stream, dialled, came, wrote, on_found, ends_for, put_requests, credited, answer_to}
-use Rattle.hb_model.specs.Machine.{Machine, heard, with_phase}
+use Rattle.hb_model.specs.Discovery.{Discovery, Phase, dialling, live, faulted, closed, opened, ended, broken, went, stopped_for, phase_by, end_by, headers_read, stream, headers_of, dialled, came, wrote, on_found, ends_for, put_requests, credited, answer_to}
+use Rattle.hb_model.specs.Machine.{Machine, dialled_for, while_open, heard, with_phase}
 use Rattle.hb_model.specs.Point.{Point, entry, looked, applied, refused, used, put, stopped}
 use Rattle.hb_model.specs.Runs.{Steps, StandsFor, begins, goes_on}
-use Rattle.hb_model.proofs.ConnectionsRun.{first_number}
+use Rattle.hb_model.proofs.Open.{open_or_not}
 use Rattle.hb_model.proofs.RequestsRun.{IsGoing}
 
 abbrev SendsOn : Discovery → Type 0
-SendsOn x = IsGoing x.phase → Sends stream x.conn.receiver.core
+SendsOn x = IsGoing x.phase → CanSend stream x.conn
 
 abbrev pub AreSending : Machine → Type 0
 AreSending m = (l : ℕ) → SendsOn (m.links l)
 
 -- a link that went on before, and whose streams stay
 carries : (old new : Discovery) → (IsGoing new.phase → IsGoing old.phase)
-    → parts new.conn.receiver.core ≡ parts old.conn.receiver.core → SendsOn old → SendsOn new
-carries old new was same sends = λ going. subst (SendsBy stream) (sym same) (sends (was going))
+    → KeepsStreams old.conn new.conn → SendsOn old → SendsOn new
+carries old new was same sends = λ going. sends_on stream old.conn new.conn same (sends (was going))
 
 here : (b : Bool) (new old : Discovery) → SendsOn new → SendsOn old → SendsOn (if b then new else old)
 here true new old this other = this
 here false new old this other = other
 
 -- entries
-opened_going : (p : Phase) → IsGoing (opened p) → IsGoing p
+pub opened_going : (p : Phase) → IsGoing (opened p) → IsGoing p
 opened_going dialling going = tt
 opened_going _ going = going
 
-ended_going : (p : Phase) → IsGoing (ended p) → IsGoing p
+pub ended_going : (p : Phase) → IsGoing (ended p) → IsGoing p
 ended_going live going = absurd going
 ended_going _ going = going
 
-broken_going : (p : Phase) → IsGoing (broken p) → IsGoing p
+pub broken_going : (p : Phase) → IsGoing (broken p) → IsGoing p
 broken_going dialling going = absurd going
 broken_going live going = absurd going
 broken_going (faulted code) going = absurd going
 broken_going _ going = going
 
-went_going : (p : Phase) → IsGoing (went p) → IsGoing p
+pub went_going : (p : Phase) → IsGoing (went p) → IsGoing p
 went_going (faulted code) going = absurd going
 went_going _ going = going
 
-stopped_going : (why : Cause) (p : Phase) → IsGoing (stopped_for why p) → IsGoing p
+pub stopped_going : (why : Cause) (p : Phase) → IsGoing (stopped_for why p) → IsGoing p
 stopped_going why dialling going = absurd going
 stopped_going why live going = absurd going
 stopped_going why _ going = going
 
 born_sends : (id : List ℕ) (to : Target) (held : Resources) → SendsOn (dialled id to held)
-born_sends id to held = λ going.
-    let old = fresh_client.receiver.core.streams in
-    let had : IsOpen stream (after_number old (Ok stream)) = (both_open, put_here old.active stream both_open, refl) in
-    (subst (λ r. IsOpen stream (after_number old r)) (sym first_number) had, omega arith)
+born_sends id to held = λ going. first_sends (headers_of to)
+
+dialled_sends : (id : List ℕ) (to : Target) (held : Resources) (why : Why) (d : Discovery) → SendsOn d
+    → SendsOn (dialled_for id to held why d)
+dialled_sends id to held whys.Discovery d sends = born_sends id to held
+dialled_sends id to held _ d sends = sends
 
 heard_sends : (g : NodeConfig) (held : Resources) (x : Entry) (l : ℕ) (d : Discovery) → SendsOn d → SendsOn (heard g held x l d)
 heard_sends g held (e.Accepted k door) l d sends = sends
-heard_sends g held (e.Dialled k to why) l d sends = here (k == l) (dialled g.id to held) d (born_sends g.id to held) sends
+heard_sends g held (e.Dialled k to why) l d sends =
+    here (k == l) (dialled_for g.id to held why d) d (dialled_sends g.id to held why d sends) sends
 heard_sends g held (e.DialFailed to why) l d sends = sends
 heard_sends g held (e.Opened k) l d sends =
     here (k == l) (with_phase opened d) d (carries d (with_phase opened d) (opened_going d.phase) refl sends) sends
 heard_sends g held (e.Came k bytes) l d sends =
-    here (k == l) (came bytes d) d (carries d (came bytes d) (λ going. going) refl sends) sends
+    here (k == l) (while_open (came bytes) d) d
+    (open_or_not SendsOn (came bytes) d (carries d (came bytes d) (λ going. going) refl sends) sends) sends
 heard_sends g held (e.Ended k) l d sends =
     here (k == l) (with_phase ended d) d (carries d (with_phase ended d) (ended_going d.phase) refl sends) sends
 heard_sends g held (e.Broke k) l d sends =
     here (k == l) (with_phase broken d) d (carries d (with_phase broken d) (broken_going d.phase) refl sends) sends
 heard_sends g held (e.Went k bytes) l d sends =
-    here (k == l) (wrote (length bytes) d) d
-    (carries d (wrote (length bytes) d) (went_going d.phase)
-    (paid_parts (record d.conn.receiver.core { out = written (length bytes) d.conn.receiver.core.out })) sends) sends
+    here (k == l) (while_open (wrote (length bytes)) d) d
+    (open_or_not SendsOn (wrote (length bytes)) d (carries d (wrote (length bytes) d) (went_going d.phase)
+    (wrote_keeps d.conn (length bytes)) sends) sends) sends
 heard_sends g held (e.Balked way) l d sends = sends
 heard_sends g held (e.Shut k) l d sends = sends
 heard_sends g held (e.Closed k why) l d sends = here (k == l) (with_phase (λ p. closed) d) d (λ going. absurd going) sends
@@ -101,11 +101,6 @@ going_on answered headers (found.Reset s code) phase going = absurd going
 going_on answered headers (found.Broken s code) phase going = absurd going
 going_on answered headers (found.Fault code) phase going = absurd going
 going_on answered headers _ phase going = refl
-
-put_parts : (x : Discovery) → parts (data_put x.conn.receiver.core stream x.waiting) ≡ parts x.conn.receiver.core
-put_parts x =
-    let c = x.conn.receiver.core in
-    cond_both (count_put c stream x.waiting == 0) c _ (λ d. parts d ≡ parts c) (λ is. refl) (λ is. refl)
 
 module _ (g : NodeConfig) (m : Machine) (sends : AreSending m) where
   linked : (k : ℕ) (n next : Machine) (new : Discovery) → n ≡ next
@@ -134,10 +129,10 @@ module _ (g : NodeConfig) (m : Machine) (sends : AreSending m) where
   point_sends (used k i) n steps =
       let x = m.links k in
       let new = credited i (record x { chunk = []; framing = fed x.framing x.chunk }) in
-      linked k n _ new steps.2 (λ l. refl) (carries x new (λ going. going) (credit_parts x.conn.receiver.core stream i) (sends k))
+      linked k n _ new steps.2 (λ l. refl) (carries x new (λ going. going) (credited_keeps x.conn stream i) (sends k))
   point_sends (put k bytes) n steps =
       linked k n _ (put_requests (m.links k)) steps.3 (λ l. refl)
-      (carries (m.links k) (put_requests (m.links k)) (λ going. going) (put_parts (m.links k)) (sends k))
+      (carries (m.links k) (put_requests (m.links k)) (λ going. going) (put_keeps (m.links k).conn stream (m.links k).waiting) (sends k))
   point_sends (stopped why) n steps =
       subst AreSending (sym steps.1)
       (λ l. carries (m.links l) (with_phase (stopped_for why) (m.links l)) (stopped_going why (m.links l).phase) refl (sends l))

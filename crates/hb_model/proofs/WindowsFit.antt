@@ -1,7 +1,7 @@
 -- DATA fits both windows where it begins, in every run.
 use Rattle.std.proofs.Common.{◌≡◌, inl, inr, ℕ, List, ◌++◌, length, ap, sym, ◌∙◌}
 use Rattle.hb_streams.specs.declared.role.Role.TheVariants.{Client}
-use Rattle.hb_outgoing.specs.Waiting.{octets_of}
+use Rattle.hb_conn.specs.Observed.{output}
 use Rattle.hb_history.proofs.Fitting.{data_fits}
 use Rattle.hb_world.specs.Trace.{recv, sent}
 use Rattle.hb_world.specs.declared.entry.Entry.{Entry}
@@ -9,7 +9,7 @@ use Rattle.hb_world.specs.declared.entry.Entry.TheVariants as e
 use Rattle.hb_model.specs.declared.config.NodeConfig.{NodeConfig}
 use Rattle.hb_model.specs.Discovery.{Phase}
 use Rattle.hb_model.specs.Machine.{Machine}
-use Rattle.hb_model.specs.Point.{Point, entries, moves}
+use Rattle.hb_model.specs.Point.{Point, entries, moves, tellings}
 use Rattle.hb_model.specs.Runs.{output_by, MayCome, StandsFor}
 use Rattle.hb_model.specs.Windows.{GoesWithin, WindowsAt}
 use Rattle.hb_model.specs.Laws.{RunsObeyWindows}
@@ -17,25 +17,24 @@ use Rattle.hb_model.proofs.Places.{at_entries}
 use Rattle.hb_model.proofs.ConnectionsRun.{all_one}
 
 goes_within : (g : NodeConfig) (m : Machine) (before : List Point) (l : ℕ) (bytes rest : List ℕ) → StandsFor g m before
-    → octets_of (m.links l).conn.receiver.core.out ≡ bytes ++ rest → GoesWithin before l bytes
+    → output (m.links l).conn ≡ bytes ++ rest → GoesWithin before l bytes
 goes_within g m before l bytes rest stands is =
     let one = all_one g m before stands l in
     record {
       conn = (m.links l).conn;
-      given = one.given;
       stands = one.stands;
       rest = rest;
       first = is;
       fit =
-          data_fits Client (moves l before) one.given (recv l (entries before)) (sent l (entries before)) (m.links l).conn one.stands
+          data_fits Client (moves l before) (tellings l before) (recv l (entries before)) (sent l (entries before)) (m.links l).conn one.stands
           (length bytes);
     }
 
 goes : (g : NodeConfig) (m : Machine) (before : List Point) (x : Entry) → StandsFor g m before → MayCome g m x → WindowsAt before x
 goes g m before (e.Went l bytes) stands (inl may, some, rest) =
-    goes_within g m before l bytes rest.0 stands (sym (ap (λ (phase : Phase). output_by phase (m.links l)) may.1) ∙ rest.1)
+    λ control. goes_within g m before l bytes rest.0 stands (sym (ap (λ (phase : Phase). output_by phase (m.links l)) may.1) ∙ rest.1)
 goes g m before (e.Went l bytes) stands (inr may, some, rest) =
-    goes_within g m before l bytes rest.0 stands (sym (ap (λ (phase : Phase). output_by phase (m.links l)) may.1) ∙ rest.1)
+    λ control. goes_within g m before l bytes rest.0 stands (sym (ap (λ (phase : Phase). output_by phase (m.links l)) may.1) ∙ rest.1)
 goes g m before (e.Accepted l door) stands may = tt
 goes g m before (e.Dialled l to why) stands may = tt
 goes g m before (e.DialFailed to why) stands may = tt

@@ -18,14 +18,10 @@ use Rattle.hb_held.specs.Rows.{versions}
 use Rattle.hb_held.specs.declared.outcome.Refusal.{Refusal}
 use Rattle.hb_hpack.specs.StaticTable.{header}
 use Rattle.hb_hpack.specs.declared.header.Header.{Header}
-use Rattle.hb_streams.specs.Sides.{sides_of}
-use Rattle.hb_streams.specs.States.{state_of}
-use Rattle.hb_flow.specs.Flows.{creditable}
-use Rattle.hb_conn.specs.Connection.{Connection, fresh_client, with_core, taken}
-use Rattle.hb_conn.specs.Opening.{opened_with}
-use Rattle.hb_conn.specs.Owing as owing
-use Rattle.hb_conn.specs.Payload.{count_put, data_put}
-use Rattle.hb_conn.specs.Credit.{credit}
+use Rattle.hb_conn.specs.Connection.{Connection, fresh_client, taken}
+use Rattle.hb_conn.specs.Observed as connection
+use Rattle.hb_conn.specs.Observed.{own_side_open, count_put, data_put, creditable, header_list}
+pub use Rattle.hb_conn.specs.Observed.{chunk_of}
 use Rattle.hb_conn.specs.declared.found.Found.{Found}
 use Rattle.hb_conn.specs.declared.found.Found.TheVariants as found
 
@@ -109,7 +105,7 @@ spelled (m ∷ ms) = spelling m ++ spelled ms
 abbrev pub dialled : List ℕ → Target → Resources → Discovery
 dialled id to held = record no_link {
   phase = dialling;
-  conn = with_core fresh_client (opened_with fresh_client.receiver.core stream (headers_of to) false);
+  conn = connection.opened fresh_client stream (headers_of to) false;
   waiting = spelled (first_requests id held);
 }
 
@@ -194,14 +190,9 @@ phase_by phase None = phase
 phase_by phase (Some (cause.ConnFault code)) = faulted code
 phase_by phase (Some cause) = ending cause
 
--- the octets of DATA that are handed out
-abbrev pub chunk_of : Connection → Found → List ℕ
-chunk_of c (found.Chunk s end) = c.receiver.reader.last
-chunk_of c _ = []
-
 -- the headers that a connection read last
 abbrev pub headers_read : Connection → List Header
-headers_read c = c.receiver.core.blocks.headers.kept
+headers_read c = (header_list c).kept
 
 -- frames were looked at, of the last of which this is told
 abbrev pub on_found : Found → Connection → Discovery → Discovery
@@ -222,24 +213,24 @@ abbrev pub came : List ℕ → Discovery → Discovery
 came bytes x = record x { conn = taken x.conn bytes }
 
 abbrev pub wrote : ℕ → Discovery → Discovery
-wrote n x = record x { phase = went x.phase; conn = with_core x.conn (owing.wrote x.conn.receiver.core n) }
+wrote n x = record x { phase = went x.phase; conn = connection.wrote x.conn n }
 
 -- how many octets of what waits may go in one DATA frame now: none once this end's side of the stream is closed
 abbrev pub sendable : Discovery → ℕ
 sendable x =
-    if (sides_of (state_of x.conn.receiver.core.streams stream)).own then count_put x.conn.receiver.core stream x.waiting else 0
+    if own_side_open x.conn stream then count_put x.conn stream x.waiting else 0
 
 -- they go in one DATA frame
 abbrev pub put_requests : Discovery → Discovery
 put_requests x = record x {
-  conn = with_core x.conn (data_put x.conn.receiver.core stream x.waiting);
+  conn = data_put x.conn stream x.waiting;
   waiting = drop (sendable x) x.waiting;
 }
 
 -- how many octets of the DATA handed out can be used up: all of them, as long as the stream has windows
 abbrev pub usable : Discovery → ℕ
-usable x = min x.counted (creditable x.conn.receiver.core.flow stream)
+usable x = min x.counted (creditable x.conn stream)
 
 -- they are used up
 abbrev pub credited : ℕ → Discovery → Discovery
-credited n x = record x { conn = with_core x.conn (credit x.conn.receiver.core stream n); counted = 0 }
+credited n x = record x { conn = connection.credited x.conn stream n; counted = 0 }

@@ -1,5 +1,5 @@
 -- When and why a link to the control plane is closed.
-use Rattle.std.specs.Prelude.{⊤, ◌≡◌, ◌⊎◌, ℕ, ◌==◌, Bool, true, false, if◌then◌else◌, List, [], ◌∷◌, ◌++◌, Option, Some, None}
+use Rattle.std.specs.Prelude.{◌≡◌, ◌⊎◌, ℕ, ◌==◌, Bool, true, false, if◌then◌else◌, List, [], ◌∷◌, ◌++◌, Option, Some, None}
 use Rattle.hb_base.specs.declared.cause.Cause.{Cause}
 use Rattle.hb_base.specs.declared.cause.Cause.TheVariants as cause
 use Rattle.hb_world.specs.Trace.{lives}
@@ -7,7 +7,8 @@ use Rattle.hb_world.specs.declared.entry.Entry.{Entry}
 use Rattle.hb_world.specs.declared.entry.Entry.TheVariants as e
 use Rattle.hb_model.specs.Discovery.{end_by, answered_by}
 use Rattle.hb_model.specs.Point.{Point, entry, looked, refused, stopped, entries}
-use Rattle.hb_model.specs.Calls.{AtEntry, WasNot, is_went_of}
+use Rattle.hb_world.specs.declared.entry.Way.TheVariants as way
+use Rattle.hb_model.specs.Calls.{AtEntry, WasNot, is_went_of, IsControl}
 
 -- why an entry ends a link: its peer sends no more, or a call on it failed
 abbrev pub end_by_entry : ℕ → Entry → Option Cause
@@ -41,9 +42,9 @@ first_end l answered (p ∷ points) = first_of (end_in l answered p) (first_end 
 abbrev pub end_of : ℕ → List Point → Option Cause
 end_of l points = first_end l false points
 
--- no link that lives has ended
+-- no link to the control plane that lives has ended
 abbrev pub NoneEnded : List Point → Type 0
-NoneEnded points = (l : ℕ) → lives l (entries points) ≡ true → end_of l points ≡ None
+NoneEnded points = (l : ℕ) → IsControl l (entries points) → lives l (entries points) ≡ true → end_of l points ≡ None
 
 -- a connection error ended the link, and nothing was written on it since
 pub record IsFaultedOn (l : ℕ) (points : List Point) : Type 0 where
@@ -54,15 +55,16 @@ pub record IsFaultedOn (l : ℕ) (points : List Point) : Type 0 where
   pub points_are : points ≡ before ++ p ∷ behind
   pub lasted : end_of l before ≡ None
   pub faulted : end_of l (before ++ p ∷ []) ≡ Some (cause.ConnFault code)
-  pub unwritten : WasNot (is_went_of l) behind
+  pub unwritten : WasNot (is_went_of l) (entries behind)
 
--- A link is closed exactly for the first cause that ended it. No other entry stands before that, but those of calls that
--- moved nothing, and of the one write behind a connection error
+-- A link to the control plane is closed exactly for the first cause that ended it. No other entry stands before that, but that
+-- of the one write behind a connection error
 abbrev pub EndMayStand : List Point → Entry → Type 0
-EndMayStand before (e.Closed l cause) = (lives l (entries before) ≡ true) × (end_of l before ≡ Some cause)
+EndMayStand before (e.Closed l cause) =
+    IsControl l (entries before) → (lives l (entries before) ≡ true) × (end_of l before ≡ Some cause)
 EndMayStand before (e.Went l bytes) = NoneEnded before ⊎ IsFaultedOn l before
 EndMayStand before (e.Broke l) = NoneEnded before ⊎ IsFaultedOn l before
-EndMayStand before (e.Balked way) = ⊤
+EndMayStand before (e.Balked (way.Write l)) = NoneEnded before ⊎ IsFaultedOn l before
 EndMayStand before _ = NoneEnded before
 
 abbrev pub EndLaw : List Point → Type 0

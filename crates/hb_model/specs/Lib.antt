@@ -3,6 +3,8 @@ pub mod Connections
 pub mod Dials
 pub mod Discovery
 pub mod Ends
+pub mod Frames
+pub mod Inner
 pub mod Laws
 pub mod Machine
 pub mod Messages

@@ -1,6 +1,9 @@
 -- The proxy as a machine: what each point of a run makes of it.
-use Rattle.std.specs.Prelude.{ℕ, ◌==◌, Bool, true, false, is_none, if◌then◌else◌, [], ◌++◌, length, drop, Option, Some, None}
+use Rattle.std.specs.Prelude.{ℕ, ◌==◌, Bool, true, false, is_none, if◌then◌else◌, [], List, ◌++◌, length, drop, Option, Some, None}
 use Rattle.hb_base.specs.declared.cause.Cause.{Cause}
+use Rattle.hb_base.specs.declared.door.Why.{Why}
+use Rattle.hb_base.specs.declared.door.Why.TheVariants as whys
+use Rattle.hb_base.specs.declared.target.Target.{Target}
 use Rattle.hb_grpc.specs.Message.{spelling}
 use Rattle.hb_grpc.specs.Reading.{fed}
 use Rattle.hb_disco.specs.declared.response.Response.{Response}
@@ -9,14 +12,14 @@ use Rattle.hb_held.specs.Outcome.{after_response}
 use Rattle.hb_world.specs.declared.entry.Entry.{Entry}
 use Rattle.hb_world.specs.declared.entry.Entry.TheVariants as e
 use Rattle.hb_model.specs.declared.config.NodeConfig.{NodeConfig}
-use Rattle.hb_model.specs.Discovery.{Discovery, Phase, closed, opened, ended, broken, stopped_for, no_link, dialled, came, wrote, credited, answer_to}
+use Rattle.hb_model.specs.Discovery.{Discovery, Phase, live, faulted, closed, opened, ended, broken, stopped_for, no_link, dialled, came, wrote, credited, answer_to}
 
 pub record Machine : Type 0 where
   -- the resources held
   pub held : Resources
   -- the control plane is to be dialled
   pub dials : Bool
-  -- how many links were born
+  -- the number of the link that was born last, to whatever it is
   pub born : ℕ
   -- the link to the control plane that lives
   pub current : Option ℕ
@@ -47,12 +50,26 @@ abbrev pub without : ℕ → Option ℕ → Option ℕ
 without l None = None
 without l (Some k) = if l == k then None else Some k
 
+-- a link is dialled; a link to anything but the control plane is none of these links
+abbrev pub dialled_for : List ℕ → Target → Resources → Why → Discovery → Discovery
+dialled_for id to held whys.Discovery x = dialled id to held
+dialled_for id to held _ x = x
+
+-- bytes come and go on links that are open; those of a link that isn't one of these links change none of them
+abbrev pub by_open : Phase → Discovery → Discovery → Discovery
+by_open live changed x = changed
+by_open (faulted code) changed x = changed
+by_open _ changed x = x
+
+abbrev pub while_open : (Discovery → Discovery) → Discovery → Discovery
+while_open change x = by_open x.phase (change x) x
+
 -- what an entry makes of each link
 abbrev pub heard : NodeConfig → Resources → Entry → ℕ → Discovery → Discovery
-heard g held (e.Dialled l to why) k x = at l (λ y. dialled g.id to held) k x
+heard g held (e.Dialled l to why) k x = at l (dialled_for g.id to held why) k x
 heard g held (e.Opened l) k x = at l (with_phase opened) k x
-heard g held (e.Came l bytes) k x = at l (came bytes) k x
-heard g held (e.Went l bytes) k x = at l (wrote (length bytes)) k x
+heard g held (e.Came l bytes) k x = at l (while_open (came bytes)) k x
+heard g held (e.Went l bytes) k x = at l (while_open (wrote (length bytes))) k x
 heard g held (e.Ended l) k x = at l (with_phase ended) k x
 heard g held (e.Broke l) k x = at l (with_phase broken) k x
 heard g held (e.Closed l cause) k x = at l (with_phase (λ p. closed)) k x
@@ -60,18 +77,19 @@ heard g held _ k x = x
 
 -- whether the control plane is to be dialled: an answer to a dial ends that, and a tick begins it where no link to it lives
 abbrev pub dials_after : Machine → Entry → Bool
-dials_after m (e.Dialled l to why) = false
-dials_after m (e.DialFailed to why) = false
+dials_after m (e.Dialled l to whys.Discovery) = false
+dials_after m (e.DialFailed to whys.Discovery) = false
 dials_after m e.Tick = is_none m.current
 dials_after m _ = m.dials
 
 abbrev pub current_after : Machine → Entry → Option ℕ
-current_after m (e.Dialled l to why) = Some l
+current_after m (e.Dialled l to whys.Discovery) = Some l
 current_after m (e.Closed l cause) = without l m.current
 current_after m _ = m.current
 
 abbrev pub born_after : Machine → Entry → ℕ
 born_after m (e.Dialled l to why) = l
+born_after m (e.Accepted l door) = l
 born_after m _ = m.born
 
 abbrev pub entered : NodeConfig → Entry → Machine → Machine

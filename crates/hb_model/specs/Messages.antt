@@ -1,5 +1,5 @@
 -- The responses of the control plane, and the resources held.
-use Rattle.std.specs.Prelude.{⊤, ◌≡◌, ℕ, ◌==◌, true, if◌then◌else◌, List, [], ◌∷◌, ◌++◌, fold, map, None, Result, Ok}
+use Rattle.std.specs.Prelude.{◌≡◌, ℕ, ◌==◌, true, if◌then◌else◌, List, [], ◌∷◌, ◌++◌, fold, map, None, Result, Ok}
 use Rattle.std.specs.List.{flat_map}
 use Rattle.hb_grpc.specs.Framed.{framed_of}
 use Rattle.hb_disco.specs.Response.{response_of}
@@ -11,8 +11,7 @@ use Rattle.hb_model.specs.declared.config.NodeConfig.{NodeConfig}
 use Rattle.hb_model.specs.Discovery.{longest_message}
 use Rattle.hb_world.specs.Trace.{lives}
 use Rattle.hb_world.specs.declared.entry.Entry.{Entry}
-use Rattle.hb_world.specs.declared.entry.Entry.TheVariants as e
-use Rattle.hb_model.specs.Calls.{AtEntry}
+use Rattle.hb_model.specs.Calls.{AtEntry, IsControl}
 use Rattle.hb_model.specs.Ends.{end_of}
 use Rattle.hb_model.specs.Point.{Point, applied, entries, moves, data_in}
 
@@ -47,14 +46,14 @@ pub record AreApplied (points : List Point) (l : ℕ) : Type 0 where
   pub read : messages_came l points ≡ map Ok (responses l points) ++ more
 
 abbrev pub MessagesLaw : List Point → Type 0
-MessagesLaw points = (l : ℕ) → AreApplied points l
+MessagesLaw points = (l : ℕ) → IsControl l (entries points) → AreApplied points l
 
--- Each response is applied in the read that completes it: at each entry all messages are, on each link that lives and hasn't
--- ended. (A call that moves nothing stands anywhere.)
+-- Each response is applied in the read that completes it: at each entry all messages are, on each link to the control plane that
+-- lives and hasn't ended
 abbrev pub AllMayBeApplied : List Point → Entry → Type 0
-AllMayBeApplied before (e.Balked way) = ⊤
-AllMayBeApplied before _ =
-    (l : ℕ) → lives l (entries before) ≡ true → end_of l before ≡ None → messages_came l before ≡ map Ok (responses l before)
+AllMayBeApplied before e =
+    (l : ℕ) → IsControl l (entries before) → lives l (entries before) ≡ true → end_of l before ≡ None
+    → messages_came l before ≡ map Ok (responses l before)
 
 abbrev pub AppliedAtOnceLaw : List Point → Type 0
 AppliedAtOnceLaw points = AtEntry AllMayBeApplied points

@@ -2,12 +2,16 @@
 use Rattle.std.specs.Prelude.{ℕ, ◌==◌, false, if◌then◌else◌, List, [], ◌∷◌, length}
 use Rattle.std.specs.List.{flat_map}
 use Rattle.hb_base.specs.declared.cause.Cause.{Cause}
-use Rattle.hb_frames.specs.Bodies.{lent_of}
+use Rattle.hb_base.specs.declared.door.Why.{Why}
+use Rattle.hb_base.specs.declared.door.Why.TheVariants as whys
+use Rattle.hb_base.specs.declared.target.Target.{Target}
 use Rattle.hb_hpack.specs.declared.header.Header.{Header}
 use Rattle.hb_disco.specs.declared.response.Response.{Response}
 use Rattle.hb_conn.specs.declared.found.Found.{Found}
 use Rattle.hb_conn.specs.declared.found.Found.TheVariants as found
 use Rattle.hb_history.specs.Points as history
+use Rattle.hb_history.specs.Calls.{in_list}
+pub use Rattle.hb_history.specs.Points.{data_of, data_in}
 use Rattle.hb_world.specs.declared.entry.Entry.{Entry}
 use Rattle.hb_world.specs.declared.entry.Entry.TheVariants as e
 use Rattle.hb_model.specs.Discovery.{stream, headers_of}
@@ -45,9 +49,14 @@ on_link link l points = if l == link then points else []
 abbrev pub act : history.Move → List history.Point
 act move = history.point move found.Silent ∷ []
 
--- a link's stream is opened where it is dialled, and what is written counts where it went
+-- a link to the control plane opens its stream where it is dialled
+abbrev pub moves_at_birth : Target → Why → List history.Point
+moves_at_birth to whys.Discovery = act (history.opened stream (headers_of to) false)
+moves_at_birth to _ = []
+
+-- what is written counts where it went
 abbrev pub moves_in_entry : ℕ → Entry → List history.Point
-moves_in_entry link (e.Dialled l to why) = on_link link l (act (history.opened stream (headers_of to) false))
+moves_in_entry link (e.Dialled l to why) = on_link link l (moves_at_birth to why)
 moves_in_entry link (e.Went l bytes) = on_link link l (act (history.wrote (length bytes)))
 moves_in_entry link _ = []
 
@@ -62,10 +71,11 @@ moves_in link _ = []
 abbrev pub moves : ℕ → List Point → List history.Point
 moves link points = flat_map (moves_in link) points
 
--- the octets of DATA, without padding, that a move hands out
-abbrev pub data_of : history.Move → Found → List ℕ
-data_of (history.got f) (found.Chunk s end) = lent_of f
-data_of _ _ = []
+-- what a point tells of a link's connection
+abbrev pub telling : ℕ → Point → List Found
+telling link (looked l points told headers) = if l == link then in_list told else []
+telling link _ = []
 
-abbrev pub data_in : history.Point → List ℕ
-data_in p = data_of p.move p.told
+-- all that is told of it, in order
+abbrev pub tellings : ℕ → List Point → List Found
+tellings link points = flat_map (telling link) points

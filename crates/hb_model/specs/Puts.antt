@@ -8,6 +8,7 @@ use Rattle.hb_outgoing.specs.Selected.{data_size}
 use Rattle.hb_outgoing.specs.Waiting as outgoing
 use Rattle.hb_conn.specs.Preface.{octets}
 use Rattle.hb_history.specs.Answered.{answer_to, is_answer}
+use Rattle.hb_history.specs.OwnCredits.{IsGrantedAgain}
 use Rattle.hb_history.specs.Sending.{increments, size_with}
 use Rattle.hb_world.specs.Trace.{recv, sent}
 use Rattle.hb_model.specs.declared.config.NodeConfig.{NodeConfig}
@@ -24,7 +25,8 @@ IsUsedUp went got =
 
 -- What came on a link is frames, and the front of one that isn't whole; what went is the opening and whole frames. Of these
 -- SETTINGS and PING with ACK are the answers to all SETTINGS and PING frames that came. The DATA in them is a front of the
--- requests that are due, each in the spelling of a message; and it is all of them, or a window is used up
+-- requests that are due, each in the spelling of a message; and it is all of them, or a window is used up. Of the DATA that came,
+-- on the connection and on the stream, what they grant again is no more, and less by fewer than 32,768 octets
 pub record IsAllPut (g : NodeConfig) (points : List Point) (l : ℕ) : Type 0 where
   pub got : List RawFrame
   pub held : List ℕ
@@ -35,3 +37,5 @@ pub record IsAllPut (g : NodeConfig) (points : List Point) (l : ℕ) : Type 0 wh
   pub rest : List ℕ
   pub front : spelled (requests g l points) ≡ flat_map payload_of gone ++ rest
   pub waits : (rest ≡ []) ⊎ IsUsedUp gone got
+  pub connection_credit : IsGrantedAgain (increments 0 gone) (data_size None got)
+  pub stream_credit : IsGrantedAgain (increments stream gone) (data_size (Some stream) got)

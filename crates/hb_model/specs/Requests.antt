@@ -3,6 +3,8 @@ use Rattle.std.specs.Prelude.{◌≡◌, ℕ, ◌==◌, ◌&&◌, if◌then◌el
 use Rattle.std.specs.List.{flat_map}
 use Rattle.hb_frames.specs.RawFrame.{RawFrame}
 use Rattle.hb_frames.specs.Numbers.{data_kind}
+use Rattle.hb_base.specs.declared.door.Why.{Why}
+use Rattle.hb_base.specs.declared.door.Why.TheVariants as whys
 use Rattle.hb_held.specs.Held.{Resources, nothing_held}
 use Rattle.hb_conn.specs.Preface.{octets}
 use Rattle.hb_outgoing.specs.Waiting as outgoing
@@ -11,11 +13,17 @@ use Rattle.hb_world.specs.declared.entry.Entry.TheVariants as e
 use Rattle.hb_model.specs.declared.config.NodeConfig.{NodeConfig}
 use Rattle.hb_model.specs.Discovery.{stream, first_requests, answer_to, spelled}
 use Rattle.hb_model.specs.Point.{Point, entry, applied, entries}
+use Rattle.hb_model.specs.Calls.{IsControl}
 use Rattle.hb_model.specs.Messages.{held_by}
+
+-- the first two, of a link to the control plane
+abbrev pub requests_at_birth : List ℕ → Resources → Why → List (List ℕ)
+requests_at_birth id held whys.Discovery = first_requests id held
+requests_at_birth id held _ = []
 
 -- the requests that a point asks for on a link: the first two where it is dialled, then an answer to each response
 abbrev pub request_in : NodeConfig → Resources → ℕ → Point → List (List ℕ)
-request_in g held l (entry (e.Dialled k to why)) = if k == l then first_requests g.id held else []
+request_in g held l (entry (e.Dialled k to why)) = if k == l then requests_at_birth g.id held why else []
 request_in g held l (applied k r) = if k == l then answer_to held r ∷ [] else []
 request_in g held l _ = []
 
@@ -41,5 +49,6 @@ pub record AreRequests (g : NodeConfig) (points : List Point) (l : ℕ) : Type 0
   pub rest : List ℕ
   pub front : spelled (requests g l points) ≡ flat_map payload_of begun ++ rest
 
+-- so it is of each link to the control plane
 abbrev pub RequestLaw : NodeConfig → List Point → Type 0
-RequestLaw g points = (l : ℕ) → AreRequests g points l
+RequestLaw g points = (l : ℕ) → IsControl l (entries points) → AreRequests g points l

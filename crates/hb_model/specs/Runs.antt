@@ -1,5 +1,5 @@
 -- Which points may come next, and what a run of the machine stands for.
-use Rattle.std.specs.Prelude.{⊤, ◌≡◌, ◌⊎◌, ℕ, ◌+◌, ◌-◌, ◌/◌, ◌<◌, ◌≤◌, Bool, true, false, List, [], ◌∷◌, ◌++◌, length, min, Option, Some, None, Ok, Err}
+use Rattle.std.specs.Prelude.{⊤, ◌≡◌, ◌⊎◌, ℕ, ◌-◌, ◌/◌, ◌<◌, ◌≤◌, Bool, true, false, List, [], ◌∷◌, ◌++◌, length, min, Option, Some, None, Ok, Err}
 use Rattle.std.specs.List.{flat_map}
 use Rattle.hb_base.specs.declared.cause.Cause.{Cause}
 use Rattle.hb_base.specs.declared.cause.Cause.TheVariants as cause
@@ -9,17 +9,18 @@ use Rattle.hb_grpc.specs.declared.fault.GrpcFault.{GrpcFault}
 use Rattle.hb_disco.specs.Response.{response_of}
 use Rattle.hb_disco.specs.declared.response.Response.{Response}
 use Rattle.hb_disco.specs.declared.response.ResponseFault.{ResponseFault}
-use Rattle.hb_outgoing.specs.Waiting.{octets_of, room_of}
 use Rattle.hb_conn.specs.Connection.{Connection, Finds, space_of}
-use Rattle.hb_conn.specs.Glance.{glance_of}
+use Rattle.hb_conn.specs.Observed as connection
+use Rattle.hb_conn.specs.Observed.{room, octets_held, IsLookedAt}
 use Rattle.hb_conn.specs.declared.found.Found.{Found}
-use Rattle.hb_conn.specs.declared.glance.Glance.TheVariants as glance
 use Rattle.hb_frames.specs.Frames.{Joins, AreOctets}
 use Rattle.hb_history.specs.Points as history
-use Rattle.hb_history.specs.History.{happenings, ends_in}
+use Rattle.hb_history.specs.History.{Leads, happenings, ends_in}
 use Rattle.hb_history.specs.Calls.{in_list, AreLooks}
 use Rattle.hb_world.specs.declared.entry.Entry.{Entry}
 use Rattle.hb_world.specs.declared.entry.Entry.TheVariants as e
+use Rattle.hb_world.specs.declared.entry.Way.{Way}
+use Rattle.hb_world.specs.declared.entry.Way.TheVariants as way
 use Rattle.hb_model.specs.declared.act.Act.{Act}
 use Rattle.hb_model.specs.declared.act.Act.TheVariants as act
 use Rattle.hb_model.specs.declared.config.NodeConfig.{NodeConfig}
@@ -30,7 +31,7 @@ use Rattle.hb_model.specs.Point.{Point, entry, looked, applied, refused, used, p
 -- how many bytes may be read: so many that every answer to them has room, with what is granted again of the DATA that they
 -- hand out, and that the connection takes
 abbrev pub wants_of : Discovery → ℕ
-wants_of x = min ((room_of x.conn.receiver.core.out - 320) / 5) (space_of x.conn)
+wants_of x = min ((room x.conn - 320) / 5) (space_of x.conn)
 
 abbrev pub wanted_by : Phase → Discovery → ℕ
 wanted_by live x = wants_of x
@@ -41,8 +42,8 @@ wants m l = wanted_by (m.links l).phase (m.links l)
 
 -- what may be written
 abbrev pub output_by : Phase → Discovery → List ℕ
-output_by live x = octets_of x.conn.receiver.core.out
-output_by (faulted code) x = octets_of x.conn.receiver.core.out
+output_by live x = connection.output x.conn
+output_by (faulted code) x = connection.output x.conn
 output_by _ x = []
 
 abbrev pub output : Machine → ℕ → List ℕ
@@ -68,7 +69,7 @@ IsEmptyHanded x = (x.chunk ≡ []) × (x.counted ≡ 0)
 -- nothing more happens by itself: all that came is looked at, and no request can go now
 pub record IsCalm (x : Discovery) : Type 0 where
   pub empty_handed : IsEmptyHanded x
-  pub looked_at : (x.conn.ended ≡ None) × (glance_of x.conn.receiver.reader ≡ glance.Nothing)
+  pub looked_at : IsLookedAt x.conn
   pub all_put : sendable x ≡ 0
 
 abbrev pub IsCalmBy : Phase → Discovery → Type 0
@@ -91,9 +92,17 @@ IsQuietAt m l phase = IsQuiet m × ((m.links l).phase ≡ phase)
 abbrev pub IsFaulted : Machine → ℕ → Type 0
 IsFaulted m l = (code : ℕ) × ((m.links l).phase ≡ faulted code)
 
+-- A call that moves nothing comes where one may come that moves something: a link that is dialled is asked whether it is open,
+-- one that is open is read while bytes are wanted, and written while something waits. No door is given to listen at
+abbrev pub MayBalk : Machine → Way → Type 0
+MayBalk m (way.Finish l) = IsQuietAt m l dialling
+MayBalk m (way.Read l) = IsQuietAt m l live × (0 < wants m l)
+MayBalk m (way.Write l) = (IsQuietAt m l live ⊎ IsFaulted m l) × (0 < length (output m l))
+MayBalk m _ = ⊥
+
 -- which entry may come next
 abbrev pub MayCome : NodeConfig → Machine → Entry → Type 0
-MayCome g m (e.Dialled l to why) = (m.dials ≡ true) × (l ≡ m.born + 1) × (to ≡ g.discovery) × (why ≡ whys.Discovery)
+MayCome g m (e.Dialled l to why) = (m.dials ≡ true) × (m.born < l) × (to ≡ g.discovery) × (why ≡ whys.Discovery)
 MayCome g m (e.DialFailed to why) = (m.dials ≡ true) × (to ≡ g.discovery) × (why ≡ whys.Discovery)
 MayCome g m (e.Opened l) = IsQuietAt m l dialling
 MayCome g m (e.Came l bytes) = IsQuietAt m l live × AreOctets bytes × (0 < length bytes) × (length bytes ≤ wants m l)
@@ -104,7 +113,7 @@ MayCome g m (e.Went l bytes) =
 MayCome g m (e.Closed l cause) = closing (m.links l).phase ≡ Some cause
 MayCome g m e.Tick = IsQuiet m
 MayCome g m (e.Wait ready way) = IsQuiet m
-MayCome g m (e.Balked way) = m.over ≡ false
+MayCome g m (e.Balked way) = (m.over ≡ false) × MayBalk m way
 MayCome g m _ = ⊥
 
 -- frames of the link are looked at: what a connection finds next, and the points that lead to it
@@ -113,9 +122,9 @@ pub record IsLook (x : Discovery) (points : List history.Point) (told : Found) (
   pub finds : Finds x.conn conn told
   -- these points are looks, of which the last alone tells anything, and lead to what the connection is then
   pub looks : AreLooks points
-  pub runs : history.Runs x.conn.receiver.core points conn.receiver.core
+  pub runs : Leads x.conn points conn
   -- they have the frames that were held and aren't any more
-  pub frames : Joins (history.frames_got points) conn.receiver.reader.held x.conn.receiver.reader.held
+  pub frames : Joins (history.frames_got points) (octets_held conn) (octets_held x.conn)
   -- an end that was still to be told, and what they tell, are what is told, and an end that is still to be told
   pub tells : ends_in x.conn.ended ++ happenings points ≡ in_list told ++ ends_in conn.ended
   -- the octets of DATA that they hand out are those that the connection hands out

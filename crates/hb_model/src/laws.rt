@@ -1,7 +1,7 @@
 //! Laws over every run of the machine. Each is the contract of a function that does nothing.
 
 ghost use Rattle.hb_model.specs.Laws.{RunsObeyCalls, RunsObeyDials, RunsObeyEnds, RunsHold, RunsObeyMessages, RunsApplyAtOnce, RunsObeyConnections, RunsObeyRequests};
-ghost use Rattle.hb_model.specs.Laws.{RunsObeyWindows, RunsPutAll};
+ghost use Rattle.hb_model.specs.Laws.{RunsObeyWindows, RunsPutAll, RunsObeyInner, RunsLookAtAll, RunsSendOwnFrames};
 
 /// The calls on each link stand in order: it is dialled and opened once, then read up to its end and written, and closed once.
 pub fn calls_are_in_order()
@@ -27,6 +27,13 @@ pub fn messages_are_applied()
     ensures at_once { RunsApplyAtOnce }
 {}
 
+/// Nothing is looked at, applied, refused, used up or put on a link but while it is open and goes on; and at each entry every
+/// whole frame that came on a link that goes on is among the frames looked at.
+pub fn all_is_looked_at()
+    ensures inner { RunsObeyInner }
+    ensures looked { RunsLookAtAll }
+{}
+
 /// The connection of each link stands for the link's moves, the bytes that came on it and those that went.
 pub fn connections_are_histories()
     ensures { RunsObeyConnections }
@@ -38,6 +45,13 @@ pub fn requests_go_in_order()
     ensures { RunsObeyRequests }
 {}
 
+/// The frames that went on a link are the opening SETTINGS, HEADERS of stream 1, and behind them only answers to SETTINGS and
+/// PING, increments of the connection and of stream 1, and DATA of stream 1 without END_STREAM; and a GOAWAY last, where a
+/// connection error was told.
+pub fn own_frames_go()
+    ensures { RunsSendOwnFrames }
+{}
+
 /// Each DATA frame with payload fits both windows where it begins to go on a link: it is within what the peer granted by the
 /// bytes that came on the link so far (RFC 9113 sections 6.9 and 6.9.2).
 pub fn data_fits_windows()
@@ -46,7 +60,8 @@ pub fn data_fits_windows()
 
 /// Where nothing waits to be written on a link that lives, and nothing more happens on it by itself, whole frames went on it:
 /// the answers to all SETTINGS and PING frames that came, and all requests that are due, but for octets that wait because the
-/// peer's window of the connection or of the stream is used up (RFC 9113 sections 6.9 and 6.9.2).
+/// peer's window of the connection or of the stream is used up (RFC 9113 sections 6.9 and 6.9.2). Of the DATA that came all is
+/// granted again but for fewer than 32,768 octets, on the connection and on the stream, and no more than came.
 pub fn all_is_put()
     ensures { RunsPutAll }
 {}
