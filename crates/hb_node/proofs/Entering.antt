@@ -1,5 +1,5 @@
 -- What a node shows behind an entry of its link.
-use Rattle.std.proofs.Common.{◌≡◌, ◌≢◌, ◌≤◌, ℕ, Bool, true, false, List, length, Option, Some, None, refl, ap, sym, ◌∙◌, subst, ⊎_elim, nat_lt, if◌then◌else◌}
+use Rattle.std.proofs.Common.{◌≡◌, ◌≢◌, ◌≤◌, ℕ, Bool, true, false, List, length, Option, Some, None, refl, ap, sym, ◌∙◌, subst, inl, inr, ⊎_elim, nat_lt, if◌then◌else◌}
 use Rattle.std.specs.Prelude.{⊤}
 use Rattle.hb_base.specs.declared.cause.Cause.{Cause}
 use Rattle.hb_base.specs.declared.cause.Cause.TheVariants as cause
@@ -8,8 +8,9 @@ use Rattle.hb_world.specs.declared.entry.Entry.{Entry}
 use Rattle.hb_world.specs.declared.entry.Entry.TheVariants as e
 use Rattle.hb_model.specs.declared.config.NodeConfig.{NodeConfig}
 use Rattle.hb_model.specs.Discovery.{Discovery, Phase, dialling, live, faulted, ending, opened, ended, broken, went, came, wrote, put_requests, sendable}
-use Rattle.hb_model.specs.Machine.{Machine, at, with_phase}
+use Rattle.hb_model.specs.Machine.{Machine, at, with_phase, while_open}
 use Rattle.hb_model.specs.Runs.{MayCome, IsCalm, wants_of, wanted_by}
+use Rattle.hb_model.proofs.Open.{live_changes, open_changes}
 use Rattle.hb_node.specs.declared.link.Link.{Link}
 use Rattle.hb_node.specs.declared.phase.Phase.{Phase as Stage}
 use Rattle.hb_node.specs.declared.phase.Phase.TheVariants as stage
@@ -221,10 +222,11 @@ came_enters old new k next b all settles = (
       let s = steady old new k next all m shows live lives in
       let few : length b ≤ wants_of x = subst (λ (p : Phase). length b ≤ wanted_by p x) lives may.3 in
       let fares : Fares (came b x) = came_fares x b s.0 s.1 may.1 may.2 few in
-      link_reaches old new k next all m shows (came b)
+      link_reaches old new k next all m shows (while_open (came b))
+      (subst (λ (v : Discovery). GoesTo IsSteady k.number old.held v new.held (part_of next)) (sym (live_changes (came b) x lives))
       (subst (λ (v : Discovery). GoesTo IsSteady k.number old.held (came b v) new.held (part_of next)) (sym is)
       (settles (live_back k.phase (ap (λ (v : Discovery). v.phase) (sym is) ∙ lives))
-      (subst (λ (v : Discovery). Fares (came b v)) is fares))),
+      (subst (λ (v : Discovery). Fares (came b v)) is fares)))),
 )
 
 -- what waits is put in the phase that the link had
@@ -277,6 +279,8 @@ went_enters old new k next n all held part bytes many = (
       ends_so old new k next all m shows (cause.ConnFault fault.0) (wrote n x) (part_of next) held (ap went fault.1)
       (ap (λ (v : Discovery). v.phase) (part ∙ went_faulted k.phase n fault.0 (part_of k) phase) ∙ ap went phase))
       may.0 in
-      link_reaches old new k next all m shows (wrote (length bytes))
-      (subst (λ i. GoesTo IsSteady k.number old.held (wrote i x) new.held (part_of next)) (sym many) goes),
+      link_reaches old new k next all m shows (while_open (wrote (length bytes)))
+      (subst (λ (v : Discovery). GoesTo IsSteady k.number old.held v new.held (part_of next))
+      (sym (open_changes (wrote (length bytes)) m k.number (⊎_elim (λ quiet. inl quiet.1) (λ fault. inr fault) may.0)))
+      (subst (λ i. GoesTo IsSteady k.number old.held (wrote i x) new.held (part_of next)) (sym many) goes)),
 )

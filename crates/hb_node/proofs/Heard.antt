@@ -1,5 +1,5 @@
 -- What is heard of a link's connection leads on.
-use Rattle.std.proofs.Common.{◌≡◌, ◌⊎◌, inl, inr, ℕ, ◌+◌, ◌<◌, ◌||◌, not, is_some, Bool, true, false, List, [], ◌∷◌, length, min, Option, Some, None, refl, ap, ap₂, sym, ◌∙◌, subst, if◌then◌else◌, nat_lt, arith}
+use Rattle.std.proofs.Common.{◌≡◌, ◌⊎◌, inl, inr, ℕ, ◌<◌, ◌||◌, not, Bool, true, false, List, [], ◌∷◌, length, min, Option, Some, None, refl, ap, ap₂, sym, ◌∙◌, subst, if◌then◌else◌, nat_lt, arith}
 use Rattle.std.proofs.lemmas.Bool.{false≢true}
 use Rattle.std.proofs.lemmas.Bool.Decides.{nat_tests}
 use Rattle.hb_base.specs.declared.cause.Cause.{Cause}
@@ -9,14 +9,14 @@ use Rattle.hb_held.specs.Held.{Resources}
 use Rattle.hb_hpack.specs.declared.header.Header.{Header}
 use Rattle.hb_hpack.specs.declared.header.HeaderList.{HeaderList}
 use Rattle.hb_conn.specs.Connection.{Connection, Finds, LeavesLess, left_of}
+use Rattle.hb_conn.specs.Observed.{is_over, data_told, creditable, IsLookedAt}
 use Rattle.hb_conn.specs.Outcome.{is_silent}
 use Rattle.hb_conn.specs.Loan.{Shows}
 use Rattle.hb_conn.specs.declared.found.Found.{Found}
 use Rattle.hb_conn.specs.declared.found.Found.TheVariants as found
 use Rattle.hb_conn.specs.declared.happening.Happening.{Happening}
 use Rattle.hb_conn.specs.declared.happening.Happening.TheVariants as happening
-use Rattle.hb_flow.specs.Flows.{creditable}
-use Rattle.hb_history.proofs.Over.{credit_over}
+use Rattle.hb_history.proofs.Steady.{not_over, credited_leaves}
 use Rattle.hb_model.specs.Discovery.{Discovery, Phase, live, faulted, ending, stream, status_of, is_accepted, end_by_headers, end_by, answered_by, phase_by, chunk_of, headers_read, on_found, credited, usable}
 use Rattle.hb_model.specs.Point.{looked}
 use Rattle.hb_node.specs.declared.inbox.Inbox.{Inbox}
@@ -27,9 +27,9 @@ use Rattle.hb_node.specs.declared.phase.Phase.TheVariants as stage
 use Rattle.hb_node.specs.Phases.{phase_of, is_live, end_for}
 use Rattle.hb_node.specs.Inbox.{TakesAll, HearsData, Hears, ends, heard_of, data_heard}
 use Rattle.hb_node.specs.Leads.{Leads, stays, goes}
-use Rattle.hb_node.specs.Links.{part_of, credited_by, used_up, settled, Agrees, Goes, Fares, FaresBy, FaresOn, IsLookedAt}
+use Rattle.hb_node.specs.Links.{part_of, credited_by, used_up, settled, Agrees, Goes, Fares, FaresBy, FaresOn}
 use Rattle.hb_node.proofs.Looked.{Looked, look_of_next}
-use Rattle.hb_node.proofs.Kept.{look_fares, look_fares_plain, look_rests, not_over}
+use Rattle.hb_node.proofs.Kept.{look_fares, look_fares_plain, look_rests}
 use Rattle.hb_node.proofs.Led.{leads_on, with_box, state, HasTaken, taken_leads, agrees_same}
 
 pub live_is : (s : Stage) → is_live s ≡ true → phase_of s ≡ live
@@ -110,16 +110,16 @@ module _ (held new_held : Resources) (k : Link) (c : Connection) (heard : Heard)
 
   -- where the link goes on no connection error was told
   no_fault : (told : Found) → phase_by x.phase (end_by k.answered (headers_read c) told) ≡ live
-      → (c.receiver.core.over ≡ false) ⊎ ((code : ℕ) × (told ≡ found.Fault code)) → c.receiver.core.over ≡ false
+      → (is_over c ≡ false) ⊎ ((code : ℕ) × (told ≡ found.Fault code)) → is_over c ≡ false
   no_fault told still (inl not) = not
   no_fault told still (inr (code, is)) =
       absurd (faulted_dead code (ap (λ f. phase_by x.phase (end_by k.answered (headers_read c) f)) (sym is) ∙ still))
 
-  goes_on : (told : Found) → Fares x → Finds k.conn c told → (on_found told c x).phase ≡ live → c.receiver.core.over ≡ false
-  goes_on told fares finds still = no_fault told still (not_over x c told fares finds)
+  goes_on : (told : Found) → Fares x → Finds k.conn c told → (on_found told c x).phase ≡ live → is_over c ≡ false
+  goes_on told fares finds still = no_fault told still (not_over k.conn c told fares.kept.goes_on finds)
 
-  chunk_goes_on : (s : ℕ) (end : Bool) → Fares x → Finds k.conn c (found.Chunk s end) → c.receiver.core.over ≡ false
-  chunk_goes_on s end fares finds = no_fault (found.Chunk s end) x_lives (not_over x c (found.Chunk s end) fares finds)
+  chunk_goes_on : (s : ℕ) (end : Bool) → Fares x → Finds k.conn c (found.Chunk s end) → is_over c ≡ false
+  chunk_goes_on s end fares finds = no_fault (found.Chunk s end) x_lives (not_over k.conn c (found.Chunk s end) fares.kept.goes_on finds)
 
   plain : (told : Found) → Finds k.conn c told → IsTold k.answered c told heard → new_held ≡ held → b ≡ k.inbox
       → Goes k.number held x new_held (part_of next)
@@ -141,7 +141,7 @@ module _ (held new_held : Resources) (k : Link) (c : Connection) (heard : Heard)
       }
 
   -- DATA
-  data_whole : (s : ℕ) (end whole : Bool) (byte : ℕ) (bytes : List ℕ) → byte ∷ bytes ≡ c.receiver.reader.last
+  data_whole : (s : ℕ) (end whole : Bool) (byte : ℕ) (bytes : List ℕ) → byte ∷ bytes ≡ data_told c
       → Finds k.conn c (found.Chunk s end) → heard ≡ data_heard (byte ∷ bytes) whole
       → TakesAll held k.inbox (byte ∷ bytes) whole new_held b → Goes k.number held x new_held (part_of next)
   data_whole s end true byte bytes data_is finds is takes fares =
@@ -186,7 +186,7 @@ module _ (held new_held : Resources) (k : Link) (c : Connection) (heard : Heard)
         so = fares_by (Some cause.Discovery) more.0 more.2 (λ lives. absurd (ending_dead cause.Discovery (sym more.2 ∙ lives)));
       }
 
-  data_heard_of : (s : ℕ) (end : Bool) (bytes : List ℕ) → bytes ≡ c.receiver.reader.last → Finds k.conn c (found.Chunk s end)
+  data_heard_of : (s : ℕ) (end : Bool) (bytes : List ℕ) → bytes ≡ data_told c → Finds k.conn c (found.Chunk s end)
       → HearsData held k.inbox bytes heard new_held b → Goes k.number held x new_held (part_of next)
   data_heard_of s end [] is finds h =
       plain (found.Chunk s end) finds
@@ -294,8 +294,7 @@ credited_left true n c = by (nat_lt 0 n)
   where
     by : (some : Bool) → left_of (if some then used_up n c else c) ≡ left_of c
     by true =
-        ap (λ (over : Bool). length c.receiver.reader.held + (if is_some c.ended then 1 else 0) + (if over then 0 else 1))
-        (credit_over c.receiver.core stream (min n (creditable c.receiver.core.flow stream)))
+        credited_leaves c stream (min n (creditable c stream))
     by false = refl
 
 pub look_falls : (held new_held : Resources) (k : Link) (c : Connection) (heard : Heard) (b : Inbox) (told : Found) (h : Option Happening)

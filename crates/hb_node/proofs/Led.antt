@@ -3,7 +3,7 @@ use Rattle.std.proofs.Common.{◌≡◌, ℕ, ◌<◌, Bool, true, false, List, 
 use Rattle.std.proofs.lemmas.Bool.Decides.{nat_tests}
 use Rattle.hb_base.specs.declared.cause.Cause.TheVariants as cause
 use Rattle.hb_held.specs.Held.{Resources}
-use Rattle.hb_outgoing.specs.Waiting.{octets_of}
+use Rattle.hb_conn.specs.Observed.{output}
 use Rattle.hb_model.specs.Discovery.{Discovery, Phase, unborn, dialling, live, faulted, ending, closed, ends_for, credited, usable, put_requests, sendable}
 use Rattle.hb_model.specs.Point.{Point, applied, refused, used, put}
 use Rattle.hb_model.specs.Runs.{IsRefused, no_response, no_message}
@@ -69,7 +69,7 @@ agrees_by : (p : Phase) (x y : Discovery) → x ≡ y → AgreesBy p x y
 agrees_by unborn x y is = is
 agrees_by dialling x y is = is
 agrees_by live x y is = is
-agrees_by (faulted code) x y is = ap (λ (z : Discovery). octets_of z.conn.receiver.core.out) is
+agrees_by (faulted code) x y is = ap (λ (z : Discovery). output z.conn) is
 agrees_by (ending c) x y is = tt
 agrees_by closed x y is = is
 

@@ -1,8 +1,5 @@
 pub mod TargetLength
-pub mod Opened
-pub mod Handed
 pub mod Looked
-pub mod Room
 pub mod Kept
 pub mod Led
 pub mod Heard

@@ -1,147 +1,34 @@
--- What a connection finds next is a look at its frames.
-use Rattle.std.proofs.Common.{◌≡◌, ℕ, Bool, true, false, List, [], ◌∷◌, ◌++◌, Option, Some, None, refl, ap, ap₂, sym, ◌∙◌, subst, if◌then◌else◌}
-use Rattle.std.proofs.lemmas.List.{append-nil}
-use Rattle.std.specs.List.{flat_map}
-use Rattle.std.proofs.lemmas.Grind.{flat_map-append}
-use Rattle.hb_frames.specs.RawFrame.{RawFrame}
+-- What a link's connection finds next is a look at its frames.
+use Rattle.std.proofs.Common.{List}
 use Rattle.hb_frames.specs.Frames.{AreOctets}
-use Rattle.hb_conn.specs.Preface.{is_whole}
-use Rattle.hb_conn.specs.Receiving.{pauses, Steps, Ends, waits, lacks, tells}
-use Rattle.hb_conn.specs.Connection.{Connection, ended_by, Finds, FindsWhile, FindsOf, FindsAfter, FindsBy}
-use Rattle.hb_conn.specs.Faults.{faulted}
-use Rattle.hb_conn.specs.Outcome.{is_silent}
-use Rattle.hb_conn.specs.declared.receiver.Receiver.{Receiver}
+use Rattle.hb_conn.specs.Connection.{Connection, Finds}
+use Rattle.hb_conn.specs.Observed.{octets_held}
 use Rattle.hb_conn.specs.declared.found.Found.{Found}
-use Rattle.hb_conn.specs.declared.found.Found.TheVariants as found
-use Rattle.hb_conn.specs.declared.found.Found.TheVariants.{Silent}
-use Rattle.hb_history.specs.Points.{misbegan, Point, point, After, Runs, got_by, frames_got}
-use Rattle.hb_history.specs.History.{ends_in, told_of, happenings}
-use Rattle.hb_history.specs.Calls.{in_list, AreLooks}
-use Rattle.hb_history.proofs.Runs.{runs_more, runs_one}
-use Rattle.hb_history.proofs.Looks.{Holds, held_on, held_same, look_of, asked_in_vain, Trail, trail_of, trail_same}
-use Rattle.hb_model.specs.Point.{data_of, data_in}
-use Rattle.hb_model.specs.Discovery.{Discovery, chunk_of}
+use Rattle.hb_history.specs.Points.{Point}
+use Rattle.hb_history.proofs.Looked.{found_by_looks}
+use Rattle.hb_model.specs.Discovery.{Discovery}
 use Rattle.hb_model.specs.Runs.{IsEmptyHanded, IsLook}
-use Rattle.hb_node.proofs.Handed.{passed_adds, look_hands_out}
-
--- what is told of a point
-told_by : (f : Found) → (if is_silent f then [] else f ∷ ends_in (ended_by f)) ≡ in_list f ++ ends_in (ended_by f)
-told_by Silent = refl
-told_by f = refl
-
-told_one : (p : Point) → happenings (p ∷ []) ≡ in_list p.told ++ ends_in (ended_by p.told)
-told_one p = append-nil (told_of p) ∙ told_by p.told
 
 -- a look, behind which octets are held
 pub record Looked (x : Discovery) (told : Found) (d : Connection) : Type 0 where
   pub points : List Point
   pub look : IsLook x points told d
-  pub octets : AreOctets d.receiver.reader.held
+  pub octets : AreOctets (octets_held d)
 
-module _ (x : Discovery) (empty : IsEmptyHanded x) (octets : AreOctets x.conn.receiver.reader.held) (d : Connection) (told : Found)
-    (found_next : Finds x.conn d told) where
-  looked : (more : List Point) → AreLooks more → Runs x.conn.receiver.core more d.receiver.core
-      → Holds x.conn.receiver.reader d.receiver.reader (frames_got more)
-      → ends_in x.conn.ended ++ happenings more ≡ in_list told ++ ends_in d.ended
-      → flat_map data_in more ≡ chunk_of d told → Looked x told d
-  looked more looks runs holds telling handed = record {
-    points = more;
-    look = record {
-      empty_handed = empty;
-      finds = found_next;
-      looks = looks;
-      runs = runs;
-      frames = holds.joins octets [] x.conn.receiver.reader.held refl;
-      tells = telling;
-      hands_out = handed;
-    };
-    octets = holds.octets octets;
-  }
-
-  nothing_new : d ≡ x.conn → told ≡ Silent → Looked x told d
-  nothing_new is none =
-      looked [] tt (ap (λ (c : Connection). c.receiver.core) is)
-      (held_same x.conn.receiver.reader d.receiver.reader (ap (λ (c : Connection). c.receiver.reader.held) is))
-      (append-nil (ends_in x.conn.ended)
-      ∙ ap₂ (λ (f : Found) (e : Option ℕ). in_list f ++ ends_in e) (sym none) (ap (λ (c : Connection). c.ended) (sym is)))
-      (ap (chunk_of d) (sym none))
-
-  end_told : (s : ℕ) → x.conn.ended ≡ Some s → d ≡ record (x.conn) { ended = None } → told ≡ found.Ended s → Looked x told d
-  end_told s ends is telling =
-      looked [] tt (ap (λ (c : Connection). c.receiver.core) is)
-      (held_same x.conn.receiver.reader d.receiver.reader (ap (λ (c : Connection). c.receiver.reader.held) is))
-      (ap (λ e. ends_in e ++ []) ends
-      ∙ ap₂ (λ (f : Found) (e : Option ℕ). in_list f ++ ends_in e) (sym telling) (ap (λ (c : Connection). c.ended) (sym is)))
-      (ap (chunk_of d) (sym telling))
-
-  begins_badly : x.conn.ended ≡ None → pauses x.conn.receiver.core ≡ false → FindsBy false x.conn d told → Looked x told d
-  unfolding faulted
-  begins_badly none goes is =
-      let p = point misbegan told in
-      let handled : After x.conn.receiver.core misbegan d.receiver.core told = (goes, is.0) in
-      let ends : ended_by told ≡ d.ended = ap ended_by is.0.1 ∙ sym none ∙ ap (λ (c : Connection). c.ended) (sym is.1) in
-      looked (p ∷ []) tt (runs_one p x.conn.receiver.core d.receiver.core handled)
-      (held_same x.conn.receiver.reader d.receiver.reader (ap (λ (c : Connection). c.receiver.reader.held) is.1))
-      (ap (λ e. ends_in e ++ happenings (p ∷ [])) none ∙ told_one p ∙ ap (λ e. in_list told ++ ends_in e) ends)
-      (ap (chunk_of d) (sym is.0.1))
-
-  passed_all : x.conn.ended ≡ None → Trail x.conn.receiver d.receiver → told ≡ Silent → d.ended ≡ ended_by told → Looked x told d
-  passed_all none trail silent ends =
-      let passed = passed_adds trail.points [] trail.passed in
-      let same = append-nil trail.points in
-      looked trail.points (subst AreLooks same (passed.looks tt)) trail.leads trail.holds
-      (ap (λ e. ends_in e ++ happenings trail.points) none ∙ ap happenings (sym same) ∙ passed.tells
-      ∙ ap₂ (λ (f : Found) (e : Option ℕ). in_list f ++ ends_in e) (sym silent) (ap ended_by (sym silent) ∙ sym ends))
-      (ap (flat_map data_in) (sym same) ∙ passed.hands_out ∙ ap (chunk_of d) (sym silent))
-
-  told_last : x.conn.ended ≡ None → (last : Receiver) → Trail x.conn.receiver last → Steps last d.receiver told → d.ended ≡ ended_by told
-      → Looked x told d
-  told_last none last trail steps ends =
-      let look = look_of last d.receiver told steps in
-      let p = point look.move told in
-      let ps = trail.points in
-      let passed = passed_adds ps (p ∷ []) trail.passed in
-      let frames : frames_got ps ++ got_by p ≡ frames_got (ps ++ p ∷ []) =
-      ap (λ (fs : List RawFrame). frames_got ps ++ fs) (sym (append-nil (got_by p))) ∙ sym (flat_map-append got_by ps (p ∷ [])) in
-      looked (ps ++ p ∷ []) (passed.looks look.is)
-      (runs_more ps (p ∷ []) x.conn.receiver.core last.core d.receiver.core trail.leads (runs_one p last.core d.receiver.core look.after))
-      (subst (Holds x.conn.receiver.reader d.receiver.reader) frames
-      (held_on x.conn.receiver.reader last.reader d.receiver.reader (frames_got ps) (got_by p) trail.holds look.holds))
-      (ap (λ e. ends_in e ++ happenings (ps ++ p ∷ [])) none ∙ passed.tells ∙ told_one p
-      ∙ ap (λ e. in_list told ++ ends_in e) (sym ends))
-      (passed.hands_out ∙ append-nil (data_of look.move told)
-      ∙ look_hands_out last d (trail.holds.octets octets) told steps look)
-
-  ends_with : x.conn.ended ≡ None → (last : Receiver) → Trail x.conn.receiver last → Ends last d.receiver told → d.ended ≡ ended_by told
-      → Looked x told d
-  ends_with none last trail (waits test is silent) ends =
-      passed_all none
-      (trail_same x.conn.receiver last d.receiver trail (ap (λ (r : Receiver). r.core) is) (ap (λ (r : Receiver). r.reader.held) is))
-      silent ends
-  ends_with none last trail (lacks test nothing is silent) ends =
-      passed_all none
-      (trail_same x.conn.receiver last d.receiver trail (ap (λ (r : Receiver). r.core) is)
-      (ap (λ (r : Receiver). r.reader.held) is ∙ asked_in_vain last.reader nothing))
-      silent ends
-  ends_with none last trail (tells steps some) ends = told_last none last trail steps ends
-
-  finds_by : (b : Bool) → x.conn.ended ≡ None → pauses x.conn.receiver.core ≡ false → FindsBy b x.conn d told → Looked x told d
-  finds_by false none goes is = begins_badly none goes is
-  finds_by true none goes is = ends_with none is.0.last (trail_of is.0.through x.conn.receiver is.0.last is.0.passes) is.0.ends is.2
-
-  finds_after : (b : Bool) → x.conn.ended ≡ None → pauses x.conn.receiver.core ≡ false → FindsAfter b x.conn d told → Looked x told d
-  finds_after false none goes is = nothing_new is.0 is.1
-  finds_after true none goes is = finds_by x.conn.preface.same none goes is
-
-  finds_of : (o : Option ℕ) → x.conn.ended ≡ o → pauses x.conn.receiver.core ≡ false → FindsOf o x.conn d told → Looked x told d
-  finds_of None ends goes is = finds_after (is_whole x.conn.preface) ends goes is
-  finds_of (Some s) ends goes is = end_told s ends is.0 is.1
-
-  finds_while : (b : Bool) → pauses x.conn.receiver.core ≡ b → FindsWhile b x.conn d told → Looked x told d
-  finds_while true goes is = nothing_new is.0 is.1
-  finds_while false goes is = finds_of x.conn.ended refl goes is
-
--- what a connection finds next
-pub look_of_next : (x : Discovery) (d : Connection) (told : Found) → IsEmptyHanded x → AreOctets x.conn.receiver.reader.held
+pub look_of_next : (x : Discovery) (d : Connection) (told : Found) → IsEmptyHanded x → AreOctets (octets_held x.conn)
     → Finds x.conn d told → Looked x told d
-look_of_next x d told empty octets finds = finds_while x empty octets d told finds (pauses x.conn.receiver.core) refl finds
+look_of_next x d told empty octets finds =
+    let found = found_by_looks x.conn d told octets finds in
+    record {
+      points = found.points;
+      look = record {
+        empty_handed = empty;
+        finds = finds;
+        looks = found.looks;
+        runs = found.leads;
+        frames = found.frames;
+        tells = found.tells;
+        hands_out = found.hands_out;
+      };
+      octets = found.octets;
+    }

@@ -1,9 +1,8 @@
 -- What holds of each machine that a node shows, proved.
 use Rattle.std.proofs.Common.{◌≡◌, ◌⊎◌, ◌≤◌, ◌<◌, ℕ, ◌==◌, Bool, true, false, List, [], length, Option, Some, None, refl, ap, sym, subst, inl, inr, arith}
 use Rattle.std.proofs.lemmas.Bool.{eqb-true, eqb-false}
-use Rattle.hb_streams.specs.Sides.{sides_of}
-use Rattle.hb_streams.specs.States.{state_of}
-use Rattle.hb_outgoing.specs.Waiting.{Waiting, octets_of, room_of}
+use Rattle.hb_conn.specs.Connection.{Connection}
+use Rattle.hb_conn.specs.Observed.{output, room, own_side_open}
 use Rattle.hb_model.specs.Discovery.{Phase, live, stream}
 use Rattle.hb_model.specs.Machine.{Machine}
 use Rattle.hb_model.specs.Runs.{IsCalm, wanted_by}
@@ -40,15 +39,15 @@ reads s m l shows lives room =
     subst (λ (p : Phase). 0 < wanted_by p (m.links l)) (sym lives) (wants_some (m.links l) kept.0 kept.1 room)
 
 -- where nothing waits to be written there is room
-room_where_empty : (w : Waiting) → octets_of w ≡ [] → 17 ≤ room_of w
-room_where_empty w empty = omega (arith, ap (λ (xs : List ℕ). length xs) empty)
+room_where_empty : (c : Connection) → output c ≡ [] → 17 ≤ room c
+room_where_empty c empty = omega (arith, ap (λ (xs : List ℕ). length xs) empty)
 
 -- where nothing waits to be written, all is put
 pub all_is_put : AllIsPut
 all_is_put s m l shows lives empty =
     let kept = live_steady s.link m l shows.link lives in
     let x = m.links l in (
-      kept.0.caught_up (room_where_empty x.conn.receiver.core.out empty),
-      none_put x.conn.receiver.core x.waiting (sides_of (state_of x.conn.receiver.core.streams stream)).own kept.0.goes_on empty
+      kept.0.caught_up (room_where_empty x.conn empty),
+      none_put x.conn x.waiting (own_side_open x.conn stream) kept.0.goes_on empty
           kept.1.all_put,
     )

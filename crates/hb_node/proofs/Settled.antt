@@ -6,7 +6,8 @@ use Rattle.hb_model.specs.Discovery.{Discovery, Phase, unborn, dialling, live, f
 use Rattle.hb_node.specs.declared.link.Link.{Link}
 use Rattle.hb_node.specs.Phases.{phase_of, is_live}
 use Rattle.hb_node.specs.Leads.{Leads, stays}
-use Rattle.hb_node.specs.Links.{part_of, with_puts, put_by, Agrees, GoesTo, Goes, Settles, Rests, IsLookedAt, Fares, FaresBy, FaresOn, SteadyBy, IsSteady}
+use Rattle.hb_conn.specs.Observed.{IsLookedAt}
+use Rattle.hb_node.specs.Links.{part_of, with_puts, put_by, Agrees, GoesTo, Goes, Settles, Rests, Fares, FaresBy, FaresOn, SteadyBy, IsSteady}
 use Rattle.hb_node.proofs.Led.{leads_on, state, same_live, agrees_same, puts_lead}
 use Rattle.hb_node.proofs.Heard.{live_is, live_back}
 use Rattle.hb_node.proofs.Kept.{puts_steady}

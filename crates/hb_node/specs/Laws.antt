@@ -1,10 +1,6 @@
 -- What holds of each machine that a node shows.
 use Rattle.std.specs.Prelude.{◌≡◌, ◌⊎◌, ◌≤◌, ◌<◌, ℕ, false, List, [], None}
-use Rattle.hb_streams.specs.Sides.{sides_of}
-use Rattle.hb_streams.specs.States.{state_of}
-use Rattle.hb_owed.specs.Debts.{dues}
-use Rattle.hb_outgoing.specs.Waiting.{octets_of, room_of}
-use Rattle.hb_conn.specs.Payload.{allowed}
+use Rattle.hb_conn.specs.Observed.{output, room, owed, own_side_open, sendable}
 use Rattle.hb_world.specs.declared.entry.Entry.TheVariants as e
 use Rattle.hb_world.specs.declared.entry.ReadyItem.{ReadyItem}
 use Rattle.hb_world.specs.declared.entry.Way.{Way}
@@ -29,14 +25,14 @@ WaitsPass = (s : State) (m : Machine) (ready : List ReadyItem) (woken : Woken) �
 -- of a link that lives bytes are wanted wherever its output has room for 768 octets more
 abbrev pub ReadsWhereRoom : Type 0
 ReadsWhereRoom = (s : State) (m : Machine) (l : ℕ) → Shows s m → (m.links l).phase ≡ live
-    → 768 ≤ room_of (m.links l).conn.receiver.core.out → 0 < wants m l
+    → 768 ≤ room (m.links l).conn → 0 < wants m l
 
 -- Where nothing waits to be written on a link that lives, no frame is owed; and nothing waits to be put, or its stream lets
 -- none go: this end's side of it is closed, or a window or the frame size is used up
 abbrev pub AllIsPut : Type 0
 AllIsPut = (s : State) (m : Machine) (l : ℕ) → Shows s m → (m.links l).phase ≡ live
-    → octets_of (m.links l).conn.receiver.core.out ≡ []
-    → (dues (m.links l).conn.receiver.core.owed ≡ [])
+    → output (m.links l).conn ≡ []
+    → (owed (m.links l).conn ≡ [])
     × (((m.links l).waiting ≡ [])
-    ⊎ (((sides_of (state_of (m.links l).conn.receiver.core.streams stream)).own ≡ false)
-    ⊎ (allowed (m.links l).conn.receiver.core stream ≡ 0)))
+    ⊎ ((own_side_open (m.links l).conn stream ≡ false)
+    ⊎ (sendable (m.links l).conn stream ≡ 0)))

@@ -1,17 +1,10 @@
 -- A link of the node, in the words of the machine.
-use Rattle.std.specs.Prelude.{⊤, ◌≡◌, ◌≤◌, ℕ, ◌+◌, ◌-◌, ◌*◌, nat_lt, ◌||◌, Bool, true, false, [], length, min, if◌then◌else◌, Option, Some, None, Result, Ok}
+use Rattle.std.specs.Prelude.{⊤, ◌≡◌, ℕ, nat_lt, ◌||◌, Bool, true, false, [], min, if◌then◌else◌}
 use Rattle.hb_frames.specs.Frames.{AreOctets}
-use Rattle.hb_frames.specs.Reading.{first_of}
-use Rattle.hb_frames.specs.declared.refusal.Refusal.{Refusal}
 use Rattle.hb_held.specs.Held.{Resources}
-use Rattle.hb_outgoing.specs.Waiting.{octets_of}
-use Rattle.hb_flow.specs.Flows.{creditable}
-use Rattle.hb_conn.specs.Connection.{Connection, with_core}
-use Rattle.hb_conn.specs.Credit.{credit}
-use Rattle.hb_conn.specs.Glance.{glance_of}
-use Rattle.hb_conn.specs.Laws.{IsCaughtUp}
-use Rattle.hb_conn.specs.declared.glance.Glance.TheVariants.{Nothing}
-use Rattle.hb_history.specs.Budget.{room, most, WaitsForPreface}
+use Rattle.hb_conn.specs.Connection.{Connection}
+use Rattle.hb_conn.specs.Observed.{output, is_over, octets_held, IsLookedAt, OwesNoneWithRoom, creditable, credited}
+use Rattle.hb_history.specs.Budget.{WaitsForPreface, HasRoom}
 use Rattle.hb_model.specs.Discovery.{Discovery, Phase, dialling, live, faulted, ending, stream, put_requests, sendable, wrote}
 use Rattle.hb_model.specs.Runs.{IsCalm}
 use Rattle.hb_node.specs.declared.inbox.Heard.{Heard}
@@ -48,7 +41,7 @@ wrote_by _ n x = x
 
 -- octets of DATA are used up, as far as the stream has windows
 abbrev pub used_up : ℕ → Connection → Connection
-used_up n c = with_core c (credit c.receiver.core stream (min n (creditable c.receiver.core.flow stream)))
+used_up n c = credited c stream (min n (creditable c stream))
 
 -- so they are, where there are any and the link goes on
 abbrev pub credited_by : Bool → ℕ → Connection → Connection
@@ -67,7 +60,7 @@ settled heard k = record k {
 -- written
 abbrev pub AgreesBy : Phase → Discovery → Discovery → Type 0
 AgreesBy (ending cause) x y = ⊤
-AgreesBy (faulted code) x y = octets_of x.conn.receiver.core.out ≡ octets_of y.conn.receiver.core.out
+AgreesBy (faulted code) x y = output x.conn ≡ output y.conn
 AgreesBy _ x y = x ≡ y
 
 pub record Agrees (x y : Discovery) : Type 0 where
@@ -77,32 +70,15 @@ pub record Agrees (x y : Discovery) : Type 0 where
 -- what holds of the part of a link that isn't to be closed: octets are held of the next frame; nothing is owed where there is
 -- room; in front of a whole preface no frame is held; no connection error was told
 pub record IsKept (x : Discovery) : Type 0 where
-  pub octets : AreOctets x.conn.receiver.reader.held
-  pub caught_up : IsCaughtUp x.conn.receiver.core
+  pub octets : AreOctets (octets_held x.conn)
+  pub caught_up : OwesNoneWithRoom x.conn
   pub preface : WaitsForPreface x.conn
-  pub goes_on : x.conn.receiver.core.over ≡ false
-
--- What the frames that are held may still need for the credit of their DATA: 13 octets for the frame in front, which are a
--- WINDOW_UPDATE, and 2 for each octet behind it, since every frame has nine octets at least
-abbrev pub credit_by : ℕ → Result (Option ℕ) Refusal → ℕ
-credit_by held (Ok (Some n)) = 2 * (held - n) + 13
-credit_by held _ = 0
-
-abbrev pub credit_most : Connection → ℕ
-credit_most c = credit_by (length c.receiver.reader.held) (first_of c.receiver.reader.max c.receiver.reader.held)
-
--- with all that the frames held may still need, there is room to look at the last of them
-abbrev pub HasRoom : Connection → Type 0
-HasRoom c = most c + credit_most c + 256 ≤ room c
+  pub goes_on : is_over x.conn ≡ false
 
 -- so it is between two looks
 pub record Fares (x : Discovery) : Type 0 where
   pub kept : IsKept x
   pub has_room : HasRoom x.conn
-
--- all that came was looked at
-abbrev pub IsLookedAt : Connection → Type 0
-IsLookedAt c = (c.ended ≡ None) × (glance_of c.receiver.reader ≡ Nothing)
 
 -- so it is between two calls, while a link isn't to be closed: nothing more happens by itself either
 abbrev pub SteadyBy : Phase → Discovery → Type 0

@@ -5,8 +5,8 @@ ghost use Rattle.hb_model.specs.Discovery.{dialled, came};
 ghost use Rattle.hb_model.specs.Runs.{wanted_by, output_by};
 ghost use Rattle.hb_node.specs.Phases.{phase_of, is_live};
 ghost use Rattle.hb_node.specs.Links.{part_of, with_puts, used_up, wrote_by, put_by, settled, Goes, Rests, Settles};
-ghost use Rattle.hb_conn.specs.Connection.{fresh_client, with_core, left_of};
-ghost use Rattle.hb_conn.specs.Opening.{opened_with};
+ghost use Rattle.hb_conn.specs.Connection.{fresh_client, left_of};
+ghost use Rattle.hb_conn.specs.Observed.{opened};
 ghost use Rattle.hb_model.specs.Discovery.{stream, headers_of};
 
 use crate::headers::headers_of;
@@ -38,7 +38,7 @@ pub(crate) struct Link {
 
 /// A client's connection, with a stream of these headers.
 fn connection(alloc: Global, to: Target) -> Result<Conn, NoMemory>
-    ensures { IfOk result (λ c. c ≡ with_core fresh_client (opened_with fresh_client.receiver.core stream (headers_of to) false)) }
+    ensures { IfOk result (λ c. c ≡ opened fresh_client stream (headers_of to) false) }
 {
     let headers = headers_of(alloc, to)?;
     let mut conn = Conn::client(alloc)?;

@@ -1,4 +1,4 @@
-use Rattle.hb_node.proofs.Opened.{never_refused}
+use Rattle.hb_history.proofs.Steady.{never_refused}
 use Rattle.hb_node.proofs.link.connection.Goals as goal
 
 pub open-requires-clause-headers : goal.open-requires-clause-headers
