@@ -13,8 +13,8 @@ use Rattle.hb_node.specs.Laws.{RestsWhereNoneIsDue, BalksPass, WaitsPass}
 use Rattle.hb_loop.specs.declared.run.Known.{Known}
 use Rattle.hb_loop.specs.Settled.{SettledBefore}
 use Rattle.hb_loop.proofs.Settling.{settled_entry, settled_inner}
-use Rattle.hb_loop.specs.Stands.{Knows, Stands, Carries, Tells}
-use Rattle.hb_loop.proofs.Model.{InnerKeeps, inner_keeps, inner_runs}
+use Rattle.hb_loop.specs.Stands.{Knows, Stands, Carries, Tells, IsNumbered}
+use Rattle.hb_loop.proofs.Model.{InnerKeeps, inner_keeps, inner_runs, numbered_on}
 
 -- what holds of a trace, and so of it with more entries, holds where it is told
 pub told_on : (P Q : List Entry → Type 0) (more : List Entry) (old new : Option (List Entry)) → new ≡ with_entries more old
@@ -61,6 +61,7 @@ stands_on g old new known now x trace tells enters knows =
           (settled_entry g s.points x tells.settles s.settled);
       trace_is = runs.1 ∙ trace_on s.points x tells.before trace s.trace_is tells.grows;
       goes_on = keeps.over ∙ s.goes_on;
+      numbered = numbered_on g s.machine reaches.machine tells.before trace x tells.numbered s.numbered keeps.born tells.grows;
       config = config;
       shows = reaches.shows;
       knows = knows s.machine reaches.machine s.shows tells.may s.knows keeps;
@@ -68,7 +69,8 @@ stands_on g old new known now x trace tells enters knows =
 
 -- the entry that a call told may come
 abbrev pub MayBehind : NodeConfig → State → Option Known → Entry → Option (List Entry) → Type 0
-MayBehind g node known x told = (trace : List Entry) → told ≡ Some trace → (s : Stands g node known trace) → MayCome g s.machine x
+MayBehind g node known x told =
+    (trace : List Entry) → told ≡ Some trace → (s : Stands g node known trace) → MayCome g s.machine x × IsNumbered x trace
 
 -- where it is a wait, each link that lives is settled
 abbrev pub SettlesBehind : NodeConfig → State → Option Known → Entry → Option (List Entry) → Type 0
@@ -80,7 +82,14 @@ pub tell : (g : NodeConfig) (node : State) (known : Option Known) (x : Entry) (t
     → Carries g node known told → IfSome after (Tells g node known x)
 tell g node known x told after adds may settles =
     told_on (Stands g node known) (Tells g node known x) (x ∷ []) told after adds
-    (λ trace is s. record { before = trace; stands = s; may = may trace is s; settles = settles trace is s; grows = refl })
+    (λ trace is s. record {
+      before = trace;
+      stands = s;
+      may = (may trace is s).0;
+      settles = settles trace is s;
+      numbered = (may trace is s).1;
+      grows = refl;
+    })
 
 pub if_told : (P Q : List Entry → Type 0) (told : Option (List Entry)) → ((trace : List Entry) → P trace → Q trace) → IfSome told P
     → IfSome told Q

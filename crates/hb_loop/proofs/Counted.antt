@@ -20,7 +20,7 @@ use Rattle.hb_model.specs.Runs.{due}
 use Rattle.hb_node.specs.State.{State, Acts}
 use Rattle.hb_loop.specs.declared.run.Known.{Known}
 use Rattle.hb_loop.specs.Ends.{is_tick, ticks, end_by, is_wait, is_move, waits, moves, is_lack, is_close_for_lack, was_wanting}
-use Rattle.hb_loop.specs.Reckons.{AreLeft, Counts, Reckons, turns_after, moved_by}
+use Rattle.hb_loop.specs.Reckons.{Asked, AreLeft, Counts, Reckons, turns_after, moved_by}
 use Rattle.hb_loop.specs.Stands.{Carries, Lasts}
 use Rattle.hb_loop.proofs.Model.{current_lives}
 use Rattle.hb_loop.proofs.Carried.{told_on, told_same, if_told}
@@ -76,6 +76,9 @@ turns-grow n trace x is least =
     more_by (is_move x) n (moves trace + 2 * waits trace) 0 (moves (trace ++ x ∷ []) + 2 * waits (trace ++ x ∷ [])) least
     (rw (count-grows is_move trace x, count-grows is_wait trace x, is) (omega arith))
 
+pub same_waits : (most : ℕ) (trace : List Entry) (x : Entry) → is_wait x ≡ false → waits trace ≤ most → waits (trace ++ x ∷ []) ≤ most
+same_waits most trace x is few = rw (count-grows is_wait trace x, is) (omega (arith, few))
+
 pub wants-grow : (trace : List Entry) (x : Entry) → was_wanting (trace ++ x ∷ []) ≡ (was_wanting trace || is_close_for_lack x)
 wants-grow trace x = any-grows is_close_for_lack trace x
 
@@ -93,20 +96,21 @@ counts_on links wanting trace x no_birth no_lack counts = record {
       ∙ or-false (was_wanting trace));
 }
 
-reckons_on : (stated left : Option ℕ) (n links more : ℕ) (wanting wants : Bool) (trace : List Entry) (x : Entry) → IsPlain x
+reckons_on : (stated : Asked) (left : Option ℕ) (n links more : ℕ) (wanting wants : Bool) (trace : List Entry) (x : Entry) → IsPlain x
     → Counts more wants (trace ++ x ∷ []) → Reckons stated left n links wanting trace
     → Reckons stated left (turns_after (is_move x) n) more wants (trace ++ x ∷ [])
 reckons_on stated left n links more wanting wants trace x plain counts r = record {
-  runs_on = AtEach-grows (λ before y. end_by stated before y ≡ None) trace x r.runs_on (plain_ends stated trace x plain);
-  to_come = same_left stated left trace (trace ++ x ∷ []) (same_ticks trace x (plain_ticks x plain)) r.to_come;
+  runs_on = AtEach-grows (λ before y. end_by stated.ticks before y ≡ None) trace x r.runs_on (plain_ends stated.ticks trace x plain);
+  to_come = same_left stated.ticks left trace (trace ++ x ∷ []) (same_ticks trace x (plain_ticks x plain)) r.to_come;
   turns = turns-grow n trace x (plain_waits x plain) r.turns;
+  few_waits = same_waits stated.waits trace x (plain_waits x plain) r.few_waits;
   counts = counts;
 }
 
 -- a call told a plain entry
 pub passes_one : (x : Entry) (links : ℕ) (wanting : Bool) (before behind : Option (List Entry))
     → behind ≡ with_entries (x ∷ []) before → IsPlain x → is_birth x ≡ false → is_close_for_lack x ≡ false
-    → (stated left : Option ℕ) (n : ℕ) → IfSome before (Reckons stated left n links wanting)
+    → (stated : Asked) (left : Option ℕ) (n : ℕ) → IfSome before (Reckons stated left n links wanting)
     → IfSome behind (Reckons stated left (turns_after (is_move x) n) links wanting)
 passes_one x links wanting before behind adds plain no_birth no_lack stated left n =
     told_on (Reckons stated left n links wanting) (Reckons stated left (turns_after (is_move x) n) links wanting) (x ∷ []) before behind
@@ -115,18 +119,19 @@ passes_one x links wanting before behind adds plain no_birth no_lack stated left
 
 -- a call told nothing
 pub passes_none : (links : ℕ) (wanting : Bool) (before behind : Option (List Entry)) → behind ≡ with_entries [] before
-    → (stated left : Option ℕ) (n : ℕ) → IfSome before (Reckons stated left n links wanting)
+    → (stated : Asked) (left : Option ℕ) (n : ℕ) → IfSome before (Reckons stated left n links wanting)
     → IfSome behind (Reckons stated left n links wanting)
 passes_none links wanting before behind adds stated left n = told_same (Reckons stated left n links wanting) before behind adds
 
 -- so many turns, and so fewer
-pub fewer_turns : (stated left : Option ℕ) (m n links : ℕ) (wanting : Bool) (told : Option (List Entry)) → m ≤ n
+pub fewer_turns : (stated : Asked) (left : Option ℕ) (m n links : ℕ) (wanting : Bool) (told : Option (List Entry)) → m ≤ n
     → IfSome told (Reckons stated left n links wanting) → IfSome told (Reckons stated left m links wanting)
 fewer_turns stated left m n links wanting told fewer =
     if_told (Reckons stated left n links wanting) (Reckons stated left m links wanting) told (λ trace r. record {
       runs_on = r.runs_on;
       to_come = r.to_come;
       turns = (let least = r.turns in omega (arith, fewer, least));
+      few_waits = r.few_waits;
       counts = r.counts;
     })
 
@@ -135,7 +140,7 @@ at_most_one true n = omega arith
 at_most_one false n = omega arith
 
 -- so many turns, and none more where memory lacked
-pub none_more : {E : Type 0} (r : Result Bool E) (moved : Bool) (stated left : Option ℕ) (n links : ℕ) (wanting : Bool)
+pub none_more : {E : Type 0} (r : Result Bool E) (moved : Bool) (stated : Asked) (left : Option ℕ) (n links : ℕ) (wanting : Bool)
     (told : Option (List Entry)) → moved_by r ≡ false → IfSome told (Reckons stated left (turns_after moved n) links wanting)
     → IfSome told (Reckons stated left (turns_after (moved_by r) n) links wanting)
 none_more r true stated left n links wanting told lacks had =
@@ -143,13 +148,13 @@ none_more r true stated left n links wanting told lacks had =
 none_more r false stated left n links wanting told lacks had =
     subst (λ b. IfSome told (Reckons stated left (turns_after b n) links wanting)) (sym lacks) had
 
-pub less_moved : (moved : Bool) (stated left : Option ℕ) (n links : ℕ) (wanting : Bool) (told : Option (List Entry))
+pub less_moved : (moved : Bool) (stated : Asked) (left : Option ℕ) (n links : ℕ) (wanting : Bool) (told : Option (List Entry))
     → IfSome told (Reckons stated left (turns_after moved n) links wanting) → IfSome told (Reckons stated left n links wanting)
 less_moved true stated left n links wanting told had = fewer_turns stated left n (n + 1) links wanting told (omega arith) had
 less_moved false stated left n links wanting told had = had
 
 -- of three calls any moved something
-pub any_moved : (a b c : Bool) (stated left : Option ℕ) (n links : ℕ) (wanting : Bool) (told : Option (List Entry))
+pub any_moved : (a b c : Bool) (stated : Asked) (left : Option ℕ) (n links : ℕ) (wanting : Bool) (told : Option (List Entry))
     → IfSome told (Reckons stated left (turns_after c (turns_after b (turns_after a n))) links wanting)
     → IfSome told (Reckons stated left (turns_after ((a || b) || c) n) links wanting)
 any_moved true true true stated left n links wanting told had =
@@ -179,7 +184,7 @@ one_more links link trace is next fits = omega (arith, is, next, fits)
 
 pub passes_birth : (links link now : ℕ) (wanting : Bool) (to : Target) (why : Why) (before behind : Option (List Entry))
     → behind ≡ with_entries (e.Dialled link to why ∷ []) before → HasNextNumber before (born.New link) → link < 2 ^ 64
-    → now ≡ min (links + 1) (2 ^ 64 - 1) → (stated left : Option ℕ) (n : ℕ) → IfSome before (Reckons stated left n links wanting)
+    → now ≡ min (links + 1) (2 ^ 64 - 1) → (stated : Asked) (left : Option ℕ) (n : ℕ) → IfSome before (Reckons stated left n links wanting)
     → IfSome behind (Reckons stated left n now wanting)
 passes_birth links link now wanting to why before behind adds next fits is stated left n had =
     told_on (Reckons stated left n links wanting) (Reckons stated left n now wanting) (e.Dialled link to why ∷ []) before behind adds
@@ -193,6 +198,7 @@ passes_birth links link now wanting to why before behind adds next fits is state
       runs_on = more.runs_on;
       to_come = more.to_come;
       turns = (let least = more.turns in omega (arith, least));
+      few_waits = more.few_waits;
       counts = more.counts;
     })
     had
@@ -225,7 +231,7 @@ told_close P Q link cause (Some trace) behind adds alive on had =
     (on trace had)
 
 pub passes_close : (links : ℕ) (wanting : Bool) (link : ℕ) (cause : Cause) (before behind : Option (List Entry))
-    → behind ≡ with_closed link cause before → Lives link before → (stated left : Option ℕ) (n : ℕ)
+    → behind ≡ with_closed link cause before → Lives link before → (stated : Asked) (left : Option ℕ) (n : ℕ)
     → IfSome before (Reckons stated left n links wanting) → IfSome behind (Reckons stated left n links (is_lack cause || wanting))
 passes_close links wanting link cause before behind adds alive stated left n had =
     fewer_turns stated left n (n + 1) links (is_lack cause || wanting) behind (omega arith)

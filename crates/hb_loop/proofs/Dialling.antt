@@ -1,6 +1,7 @@
 -- A dial, and what the node is told of it.
-use Rattle.std.proofs.Common.{◌≡◌, ℕ, ◌+◌, Bool, true, false, List, [], ◌∷◌, ◌++◌, Option, Some, None, Result, Ok, Err, IfOk, IfSome, refl, ap, sym, ◌∙◌, subst, inl, inr}
+use Rattle.std.proofs.Common.{◌≡◌, ℕ, ◌+◌, ◌≤◌, arith, Bool, true, false, List, [], ◌∷◌, ◌++◌, Option, Some, None, Result, Ok, Err, IfOk, IfSome, refl, ap, sym, ◌∙◌, subst, inl, inr}
 use Rattle.hb_base.specs.declared.cause.Cause.{Cause}
+use Rattle.hb_base.specs.declared.cause.Cause.TheVariants.{NoMemory}
 use Rattle.hb_base.specs.declared.target.Target.{Target}
 use Rattle.hb_base.specs.declared.door.Why.{Why}
 use Rattle.hb_base.specs.declared.door.Why.TheVariants as whys
@@ -20,8 +21,8 @@ use Rattle.hb_node.specs.declared.link.Link.{Link}
 use Rattle.hb_node.specs.State.{State, ShowsLink, Answers, due_of}
 use Rattle.hb_loop.specs.declared.run.Known.{Known}
 use Rattle.hb_loop.specs.declared.run.Run.{Run}
-use Rattle.hb_loop.specs.Stands.{Knows, Carries, IsOver, Falls, Leaves, Lasts, Tells}
-use Rattle.hb_loop.proofs.Model.{born_is}
+use Rattle.hb_loop.specs.Stands.{Knows, Carries, IsOver, Falls, Leaves, Lasts, GoesOn, Tells}
+use Rattle.hb_loop.proofs.Stopping.{running_stops}
 use Rattle.hb_loop.proofs.Settling.{settled_entry}
 use Rattle.hb_loop.proofs.Known.{knows_dialled, knows_failed, knows_inner}
 use Rattle.hb_loop.proofs.Carried.{KnowsBehind, MayBehind, tell, hear, run_on, trace_on, if_told}
@@ -61,17 +62,21 @@ may_give : (g : NodeConfig) (node : State) (known : Option Known) (to : Target) 
     → DialIsDue node to why → HasNextNumber told (born.New l)
     → MayBehind g node known (e.Dialled l node.config.discovery why) told
 may_give g node known to why l told is_due next trace is s =
-    let number : l ≡ births trace + 1 = subst (λ o. HasNextNumber o (born.New l)) is next in (
-      s.shows.dials ∙ is_due.dials,
-      number ∙ ap (λ n. n + 1) (sym (born_is g s.machine s.points s.run ∙ ap births s.trace_is)),
-      ap (λ (c : NodeConfig). c.discovery) s.config,
-      is_due.why_is,
+    let number : l ≡ births trace + 1 = subst (λ o. HasNextNumber o (born.New l)) is next in
+    let least : s.machine.born ≤ births trace = s.numbered in (
+      (
+        s.shows.dials ∙ is_due.dials,
+        omega (arith, number, least),
+        ap (λ (c : NodeConfig). c.discovery) s.config,
+        is_due.why_is,
+      ),
+      number,
     )
 
 may_fail : (g : NodeConfig) (node : State) (known : Option Known) (to : Target) (why : Why) (told : Option (List Entry))
     → DialIsDue node to why → MayBehind g node known (e.DialFailed node.config.discovery why) told
 may_fail g node known to why told is_due trace is s =
-    (s.shows.dials ∙ is_due.dials, ap (λ (c : NodeConfig). c.discovery) s.config, is_due.why_is)
+    ((s.shows.dials ∙ is_due.dials, ap (λ (c : NodeConfig). c.discovery) s.config, is_due.why_is), tt)
 
 pub tells_birth : (g : NodeConfig) (node : State) (known : Option Known) (to : Target) (why : Why) (l : ℕ)
     (told after : Option (List Entry)) → due_of node ≡ Some (act.Dial to why) → HasNextNumber told (born.New l)
@@ -90,13 +95,19 @@ pub hears_birth : (g : NodeConfig) (old new : State) (known : Option Known) (why
 hears_birth g old new known why l told answers =
     hear g old new known (Some (record { number = l; is_open = false })) (e.Dialled l old.config.discovery why) told answers
     (λ m n shows may knows keeps. knows_inner (Some (record { number = l; is_open = false })) _ n
-    (knows_dialled g m l old.config.discovery why) keeps)
+    (knows_dialled g m l old.config.discovery why may.3) keeps)
+
+born_goes : (g : NodeConfig) (m : Machine) (l : ℕ) (to : Target) (w : Why) → w ≡ whys.Discovery
+    → GoesOn ((entered g (e.Dialled l to w) m).links l).phase
+born_goes g m l to w same =
+    subst (λ (x : Why). GoesOn ((entered g (e.Dialled l to x) m).links l).phase) (sym same) (rw (eqb-self l) tt)
 
 -- it lacks memory for it
 lasts_born : (g : NodeConfig) (node : State) (known : Option Known) (to : Target) (why : Why) (l : ℕ) (trace : List Entry)
     → Tells g node known (e.Dialled l to why) trace → Lasts g l trace
 lasts_born g node known to why l trace tells =
     let s = tells.stands in
+    let knows = knows_dialled g s.machine l to why tells.may.3 in
     record {
       points = s.points ++ entry (e.Dialled l to why) ∷ [];
       machine = entered g (e.Dialled l to why) s.machine;
@@ -104,8 +115,8 @@ lasts_born g node known to why l trace tells =
       settled = settled_entry g s.points (e.Dialled l to why) tt s.settled;
       trace_is = trace_on s.points (e.Dialled l to why) tells.before trace s.trace_is tells.grows;
       goes_on = s.goes_on;
-      current = refl;
-      phase = rw (eqb-self l) tt;
+      current = knows.0;
+      phase = born_goes g s.machine l to why tells.may.3;
     }
 
 pub lasts_birth : (g : NodeConfig) (node : State) (known : Option Known) (to : Target) (why : Why) (l : ℕ) (told : Option (List Entry))
@@ -115,7 +126,7 @@ lasts_birth g node known to why l told =
 
 -- a dial failed, and the node lacked memory
 fails_so : (g : NodeConfig) (node : State) (known : Option Known) (to : Target) (why : Why) (trace : List Entry)
-    → node.dials ≡ true → Tells g node known (e.DialFailed to why) trace → (known ≡ None) × IsOver g trace
+    → node.dials ≡ true → Tells g node known (e.DialFailed to why) trace → (known ≡ None) × IsOver g NoMemory trace
 fails_so g node known to why trace dials tells =
     let s = tells.stands in
     let none = none_shown node.link s.machine s.shows.link (s.shows.dials ∙ dials) in (
@@ -126,6 +137,7 @@ fails_so g node known to why trace dials tells =
         run = run_on g s.machine s.points (e.DialFailed to why) s.run tells.may;
         settled = settled_entry g s.points (e.DialFailed to why) tt s.settled;
         trace_is = trace_on s.points (e.DialFailed to why) tells.before trace s.trace_is tells.grows;
+        stops = running_stops g _ _ NoMemory (run_on g s.machine s.points (e.DialFailed to why) s.run tells.may) s.goes_on;
         none = none;
       },
     )

@@ -1,9 +1,12 @@
 -- The link that the loop knows, behind an entry and behind points that are no entries.
 use Rattle.std.proofs.Common.{◌≡◌, ◌≢◌, ℕ, ◌==◌, Bool, true, false, List, length, Option, Some, None, refl, ap, sym, ◌∙◌, subst, if◌then◌else◌}
+use Rattle.hb_base.specs.declared.door.Why.{Why}
+use Rattle.hb_base.specs.declared.door.Why.TheVariants as whys
 use Rattle.hb_world.specs.declared.entry.Entry.TheVariants as e
 use Rattle.hb_model.specs.declared.config.NodeConfig.{NodeConfig}
 use Rattle.hb_model.specs.Discovery.{Discovery, Phase, unborn, dialling, live, faulted, ending, closed, opened, ended, broken, went, came, wrote}
-use Rattle.hb_model.specs.Machine.{Machine, entered, with_phase}
+use Rattle.hb_model.specs.Machine.{Machine, entered, while_open, with_phase}
+use Rattle.hb_model.proofs.Open.{open_or_not}
 use Rattle.hb_model.proofs.CallsSaid.{eqb-self}
 use Rattle.hb_loop.specs.declared.run.Known.{Known}
 use Rattle.hb_loop.specs.Stands.{IsInPhase, Knows}
@@ -64,16 +67,20 @@ knows_failed g (Some k) m to why knows = knows
 pub knows_came : (g : NodeConfig) (known : Option Known) (m : Machine) (l : ℕ) (bytes : List ℕ) → Knows known m
     → Knows known (entered g (e.Came l bytes) m)
 knows_came g None m l bytes knows = knows
-knows_came g (Some k) m l bytes knows =
-    (knows.0, at_phase k.is_open (l == k.number) (came bytes) (m.links k.number) (λ y free. free) knows.1)
+knows_came g (Some k) m l bytes knows = (
+  knows.0,
+  at_phase k.is_open (l == k.number) (while_open (came bytes)) (m.links k.number)
+      (λ y free. open_or_not (λ (x : Discovery). IsInPhase k.is_open x.phase) (came bytes) y free free) knows.1,
+)
 
 pub knows_went : (g : NodeConfig) (known : Option Known) (m : Machine) (l : ℕ) (bytes : List ℕ) → Knows known m
     → Knows known (entered g (e.Went l bytes) m)
 knows_went g None m l bytes knows = knows
 knows_went g (Some k) m l bytes knows = (
   knows.0,
-  at_phase k.is_open (l == k.number) (wrote (length bytes)) (m.links k.number)
-      (λ y free. went_in k.is_open y.phase free) knows.1,
+  at_phase k.is_open (l == k.number) (while_open (wrote (length bytes))) (m.links k.number)
+      (λ y free. open_or_not (λ (x : Discovery). IsInPhase k.is_open x.phase) (wrote (length bytes)) y
+      (went_in k.is_open y.phase free) free) knows.1,
 )
 
 pub knows_ended : (g : NodeConfig) (known : Option Known) (m : Machine) (l : ℕ) → Knows known m
@@ -106,9 +113,11 @@ knows_wait g None m ready how knows = knows
 knows_wait g (Some k) m ready how knows = knows
 
 -- a link that was dialled, and one that opened
-pub knows_dialled : (g : NodeConfig) (m : Machine) (l : ℕ) (to : _) (why : _)
+pub knows_dialled : (g : NodeConfig) (m : Machine) (l : ℕ) (to : _) (why : Why) → why ≡ whys.Discovery
     → Knows (Some (record { number = l; is_open = false })) (entered g (e.Dialled l to why) m)
-knows_dialled g m l to why = (refl, rw (eqb-self l) tt)
+knows_dialled g m l to why is =
+    subst (λ (w : Why). Knows (Some (record { number = l; is_open = false })) (entered g (e.Dialled l to w) m)) (sym is)
+    (refl, rw (eqb-self l) tt)
 
 opened_phase : (p : Phase) → p ≡ dialling → IsInPhase true (opened p)
 opened_phase dialling is = tt

@@ -2,6 +2,7 @@ pub mod Model
 pub mod Known
 pub mod Settling
 pub mod Carried
+pub mod Stopping
 pub mod Closing
 pub mod Counted
 pub mod Dialling
@@ -9,3 +10,6 @@ pub mod Resting
 pub mod Trying
 pub mod Waiting
 pub mod Turning
+pub mod Refusing
+pub mod RefusedTraces
+pub mod GoodRun

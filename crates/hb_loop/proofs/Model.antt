@@ -1,5 +1,5 @@
 -- What a run of the machine says of its trace, and what points between two entries leave as it was.
-use Rattle.std.proofs.Common.{◌≡◌, ◌≢◌, ℕ, ◌+◌, true, false, List, [], ◌∷◌, ◌++◌, Option, Some, None, refl, ap, ◌∙◌, sym, subst, ⊎_elim, add-zero}
+use Rattle.std.proofs.Common.{◌≡◌, ◌≢◌, ℕ, ◌+◌, ◌≤◌, true, false, List, [], ◌∷◌, ◌++◌, Option, Some, None, refl, ap, ◌∙◌, sym, subst, ⊎_elim, arith}
 use Rattle.std.proofs.lemmas.Bool.{ne_eqb, cases_eq}
 use Rattle.std.proofs.lemmas.List.{append-nil, append_assoc}
 use Rattle.std.proofs.lemmas.List.Sums.{sum_by-append}
@@ -10,8 +10,8 @@ use Rattle.hb_world.specs.declared.entry.Entry.TheVariants as e
 use Rattle.hb_model.specs.declared.config.NodeConfig.{NodeConfig}
 use Rattle.hb_model.specs.Discovery.{Discovery, Phase, live, faulted, ending, phase_by}
 use Rattle.hb_model.specs.Point.{Point, entry, looked, applied, refused, used, put, stopped, entry_in, entries}
-use Rattle.hb_model.specs.Machine.{Machine, at, born_after}
-use Rattle.hb_model.specs.Runs.{MayCome, Steps, StandsFor, begins, goes_on}
+use Rattle.hb_model.specs.Machine.{Machine, at, born_after, entered}
+use Rattle.hb_model.specs.Runs.{Steps, StandsFor, goes_on}
 use Rattle.hb_model.proofs.Places.{entries-grow}
 use Rattle.hb_model.proofs.CallsSaid.{seen, eqb-self}
 use Rattle.hb_model.proofs.CallsSteps.{Kept, is_own, own_keeps}
@@ -20,36 +20,43 @@ use Rattle.hb_model.proofs.CallsLives.{lived, lives_where, calls_in_order}
 use Rattle.hb_model.proofs.DialsHeld.{held-lives, held}
 use Rattle.hb_model.proofs.DialsDue.{none_lives, dials_when_due}
 use Rattle.hb_model.proofs.EndsLaw.{ends_are_first}
+use Rattle.hb_model.specs.Calls.{CallsLaw}
+use Rattle.hb_model.specs.Connections.{ConnectionLaw}
+use Rattle.hb_model.specs.Dials.{DialLaw}
+use Rattle.hb_model.specs.Frames.{FrameLaw}
+use Rattle.hb_model.specs.Messages.{MessagesLaw}
+use Rattle.hb_model.specs.Requests.{RequestLaw}
+use Rattle.hb_model.proofs.Places.{at_fronts}
+use Rattle.hb_model.proofs.Inner.{obey_inner, look_at_all}
 use Rattle.hb_model.proofs.MessagesRun.{obey_messages}
 use Rattle.hb_model.proofs.MessagesAtOnce.{applied_at_once}
 use Rattle.hb_model.proofs.ConnectionsRun.{obey_connections}
 use Rattle.hb_model.proofs.RequestsRun.{obey_requests}
 use Rattle.hb_model.proofs.WindowsFit.{obey_windows}
+use Rattle.hb_model.proofs.OwnFrames.{send_own_frames}
 use Rattle.hb_node.specs.State.{IsInner, Inner}
 use Rattle.hb_loop.specs.Lawful.{Lawful}
 use Rattle.hb_loop.specs.Settled.{SettledLaw}
-use Rattle.hb_loop.specs.Stands.{IsInPhase}
+use Rattle.hb_loop.specs.Stands.{IsInPhase, IsNumbered}
 
--- the last link born has the number of births
-born_by : (g : NodeConfig) (m : Machine) (en : Entry) → MayCome g m en → born_after m en ≡ m.born + births (en ∷ [])
-born_by g m (e.Dialled l to why) may = may.1
-born_by g m (e.Accepted l door) may = absurd may
-born_by g m _ may = sym (add-zero m.born)
+pub births_more : (trace : List Entry) (en : Entry) → births (trace ++ en ∷ []) ≡ births trace + births (en ∷ [])
+births_more trace en = sum_by-append _ trace (en ∷ [])
 
-born_with : (g : NodeConfig) (m n : Machine) (p : Point) → Steps g m p n → n.born ≡ m.born + births (entry_in p)
-born_with g m n (entry en) steps = ap (λ (z : Machine). z.born) steps.1 ∙ born_by g m en steps.0
-born_with g m n (stopped why) steps = ap (λ (z : Machine). z.born) steps.1 ∙ sym (add-zero m.born)
-born_with g m n p steps = (own_keeps g m n p refl steps).born ∙ sym (add-zero m.born)
+-- a link is born with the next number
+numbered_by : (m : Machine) (trace : List Entry) (en : Entry) → IsNumbered en trace → m.born ≤ births trace
+    → born_after m en ≤ births (trace ++ en ∷ [])
+numbered_by m trace (e.Dialled l to why) next least =
+    subst (λ (n : ℕ). l ≤ n) (sym (births_more trace (e.Dialled l to why))) (omega (arith, next))
+numbered_by m trace (e.Accepted l door) next least =
+    subst (λ (n : ℕ). l ≤ n) (sym (births_more trace (e.Accepted l door))) (omega (arith, next))
+numbered_by m trace en next least =
+    subst (λ (n : ℕ). m.born ≤ n) (sym (births_more trace en)) (omega (arith, least))
 
-births_more : (points : List Point) (p : Point) → births (entries (points ++ p ∷ [])) ≡ births (entries points) + births (entry_in p)
-births_more points p = ap births (entries-grow points p) ∙ sum_by-append _ (entries points) (entry_in p)
-
-pub born_is : (g : NodeConfig) (m : Machine) (points : List Point) → StandsFor g m points → m.born ≡ births (entries points)
-born_is g m points (begins is none) =
-    ap (λ (z : Machine). z.born) is ∙ sym (ap (λ (ps : List Point). births (entries ps)) none)
-born_is g n more (goes_on {m = m} {points = points} stands p steps are) =
-    born_with g m n p steps ∙ ap (λ (k : ℕ). k + births (entry_in p)) (born_is g m points stands) ∙ sym (births_more points p)
-    ∙ sym (ap (λ (ps : List Point). births (entries ps)) are)
+pub numbered_on : (g : NodeConfig) (m n : Machine) (before trace : List Entry) (en : Entry) → IsNumbered en before
+    → m.born ≤ births before → n.born ≡ (entered g en m).born → trace ≡ before ++ en ∷ [] → n.born ≤ births trace
+numbered_on g m n before trace en next least same grows =
+    subst (λ (es : List Entry). n.born ≤ births es) (sym grows)
+    (subst (λ (k : ℕ). k ≤ births (before ++ en ∷ [])) (sym same) (numbered_by m before en next least))
 
 -- the link of a machine lives, and no link of one that has none
 pub current_lives : (g : NodeConfig) (m : Machine) (points : List Point) → StandsFor g m points → (l : ℕ) → m.current ≡ Some l
@@ -178,18 +185,23 @@ inner_runs g m n before (p ∷ points) stands (is, mid, steps, more) =
     )
 
 -- the trace of a run is lawful
-pub lawful_run : (g : NodeConfig) (m : Machine) (points : List Point) (trace : List Entry) → StandsFor g m points
+abbrev pub lawful_run : (g : NodeConfig) (m : Machine) (points : List Point) (trace : List Entry) → StandsFor g m points
     → SettledLaw g points → entries points ≡ trace → Lawful g trace
 lawful_run g m points trace stands settled is = record {
   settled = settled;
   points = points;
+  machine = m;
+  run = stands;
   trace_is = is;
-  calls = calls_in_order g m points stands;
-  dials = dials_when_due g m points stands;
+  calls = subst CallsLaw is (calls_in_order g m points stands);
+  dials = subst (DialLaw g) is (dials_when_due g m points stands);
+  inner = obey_inner g m points stands;
+  looked = look_at_all g m points stands;
   ends = ends_are_first g m points stands;
-  messages = obey_messages g m points stands;
+  messages = at_fronts g MessagesLaw (obey_messages g) m points stands;
   at_once = applied_at_once g m points stands;
-  connections = obey_connections g m points stands;
-  requests = obey_requests g m points stands;
+  connections = at_fronts g ConnectionLaw (obey_connections g) m points stands;
+  requests = at_fronts g (RequestLaw g) (obey_requests g) m points stands;
   windows = obey_windows g m points stands;
+  own_frames = at_fronts g FrameLaw (send_own_frames g) m points stands;
 }

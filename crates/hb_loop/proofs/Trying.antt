@@ -10,12 +10,14 @@ use Rattle.hb_world.specs.declared.entry.Entry.{Entry}
 use Rattle.hb_world.specs.declared.entry.Entry.TheVariants as e
 use Rattle.hb_world.specs.declared.entry.ReadyItem.{ReadyItem}
 use Rattle.hb_world.specs.declared.entry.Way.{Way}
+use Rattle.hb_world.specs.declared.entry.Way.TheVariants as way
 use Rattle.hb_world.specs.declared.entry.Woken.{Woken}
 use Rattle.hb_model.specs.declared.config.NodeConfig.{NodeConfig}
 use Rattle.hb_model.specs.Discovery.{Discovery, Phase, dialling, live, faulted, ending, closing, came}
-use Rattle.hb_model.specs.Machine.{Machine, entered}
+use Rattle.hb_model.specs.Machine.{Machine, entered, while_open}
+use Rattle.hb_model.proofs.Open.{live_changes}
 use Rattle.hb_model.specs.Point.{entry}
-use Rattle.hb_model.specs.Runs.{IsCalmBy, IsQuiet, IsQuietAt, IsFaulted, due_by, wanted_by, output, output_by}
+use Rattle.hb_model.specs.Runs.{IsCalmBy, IsQuiet, IsQuietAt, IsFaulted, MayBalk, due_by, wanted_by, output, output_by}
 use Rattle.hb_node.specs.declared.link.Link.{Link}
 use Rattle.hb_node.specs.Phases.{phase_of}
 use Rattle.hb_node.specs.State.{State, ShowsLink, IsGone, Enters, Goes, Wants, Puts, due_of, number_of, closing_of}
@@ -31,14 +33,14 @@ pub quiet_where : (g : NodeConfig) (node : State) (known : Option Known) (trace 
 quiet_where g node known trace idle s = rests node s.machine s.shows idle (sym s.shows.over ∙ s.goes_on)
 
 -- a call that moved nothing, and a wait
-balks_enter : (node : State) (way : Way) → Enters (e.Balked way) node node
-balks_enter node way = (
+balks_enter : (node : State) (w : Way) → Enters (e.Balked w) node node
+balks_enter node w = (
   refl,
   λ m shows may. record {
     points = [];
-    machine = entered node.config (e.Balked way) m;
+    machine = entered node.config (e.Balked w) m;
     inner = refl;
-    shows = balks node m way shows;
+    shows = balks node m w shows;
   },
 )
 
@@ -53,18 +55,21 @@ waits_enter node ready how = (
   },
 )
 
-pub balked : (g : NodeConfig) (node : State) (known : Option Known) (way : Way) (told after : Option (List Entry))
-    → after ≡ with_entries (e.Balked way ∷ []) told → Carries g node known told → Carries g node known after
-balked g node known way told after adds =
-    carry g node node known known (e.Balked way) told after adds (balks_enter node way) (λ trace is s. s.goes_on) (λ trace same s. tt)
-    (λ m n shows may knows keeps. knows_inner known _ n (knows_balked g known m way knows) keeps)
+balked : (g : NodeConfig) (node : State) (known : Option Known) (w : Way) (told after : Option (List Entry))
+    → after ≡ with_entries (e.Balked w ∷ []) told
+    → ((trace : List Entry) → (s : Stands g node known trace) → MayBalk s.machine w)
+    → Carries g node known told → Carries g node known after
+balked g node known w told after adds may =
+    carry g node node known known (e.Balked w) told after adds (balks_enter node w)
+    (λ trace is s. ((s.goes_on, may trace s), tt)) (λ trace same s. tt)
+    (λ m n shows may knows keeps. knows_inner known _ n (knows_balked g known m w knows) keeps)
 
 pub waited : (g : NodeConfig) (node : State) (known : Option Known) (ready : List ReadyItem) (how : Woken)
     (told after : Option (List Entry)) → after ≡ with_entries (e.Wait ready how ∷ []) told → due_of node ≡ None
     → SettlesBehind g node known (e.Wait ready how) told → Carries g node known told → Carries g node known after
 waited g node known ready how told after adds idle settles =
     carry g node node known known (e.Wait ready how) told after adds (waits_enter node ready how)
-    (λ trace is s. quiet_where g node known trace idle s) settles
+    (λ trace is s. (quiet_where g node known trace idle s, tt)) settles
     (λ m n shows may knows keeps. knows_inner known _ n (knows_wait g known m ready how knows) keeps)
 
 -- a link that isn't open is dialling, where all is quiet
@@ -89,7 +94,7 @@ pub finish_opens : (g : NodeConfig) (old new : State) (known : Option Known) (l 
     → Carries g new (Some (record { number = l; is_open = true })) after
 finish_opens g old new known l told after adds enters idle is =
     carry g old new known (Some (record { number = l; is_open = true })) (e.Opened l) told after adds enters
-    (λ trace same s. (finishes g old known l trace idle is s).1) (λ trace same s. tt)
+    (λ trace same s. ((finishes g old known l trace idle is s).1, tt)) (λ trace same s. tt)
     (λ m n shows may knows keeps. knows_inner (Some (record { number = l; is_open = true })) _ n
     (knows_opened g m l (subst (λ (o : Option Known). Knows o m) is knows).0 may.1) keeps)
 
@@ -104,7 +109,13 @@ pub finish_breaks : (g : NodeConfig) (old new : State) (known : Option Known) (l
     → after ≡ with_entries (e.Broke l ∷ []) told → Enters (e.Broke l) old new → due_of old ≡ None
     → known ≡ Some (record { number = l; is_open = false }) → Carries g old known told → Carries g new known after
 finish_breaks g old new known l told after adds enters idle is =
-    broke_so g old new known l told after adds enters (λ trace same s. inl (finishes g old known l trace idle is s).1)
+    broke_so g old new known l told after adds enters (λ trace same s. (inl (finishes g old known l trace idle is s).1, tt))
+
+pub finish_balks : (g : NodeConfig) (node : State) (known : Option Known) (l : ℕ) (told after : Option (List Entry))
+    → after ≡ with_entries (e.Balked (way.Finish l) ∷ []) told → due_of node ≡ None
+    → known ≡ Some (record { number = l; is_open = false }) → Carries g node known told → Carries g node known after
+finish_balks g node known l told after adds idle is =
+    balked g node known (way.Finish l) told after adds (λ trace s. (finishes g node known l trace idle is s).1)
 
 -- while a link lives no call is due
 idle_by : (c : NodeConfig) (dials : Bool) (l : ℕ) (p : Phase) → dials ≡ false → p ≡ live → due_by c dials (Some l) (closing p) ≡ None
@@ -151,9 +162,12 @@ write_goes g old new known l n bytes told after adds goes puts some most =
     let size : length (take n bytes) ≡ n = length-take-le n bytes most in
     carry g old new known known (e.Went l (take n bytes)) told after adds (goes (take n bytes) size)
     (λ trace same s. (
-      may_write g old known l bytes trace puts (omega (arith, some, most)) s,
-      subst (λ k. 0 < k) (sym size) some,
-      (drop n bytes, sym (puts s.machine s.shows) ∙ sym (take-append-drop n bytes)),
+      (
+        may_write g old known l bytes trace puts (omega (arith, some, most)) s,
+        subst (λ k. 0 < k) (sym size) some,
+        (drop n bytes, sym (puts s.machine s.shows) ∙ sym (take-append-drop n bytes)),
+      ),
+      tt,
     )) (λ trace same s. tt)
     (λ m n shows may knows keeps. knows_inner known _ n (knows_went g known m l _ knows) keeps)
 
@@ -161,7 +175,17 @@ pub write_breaks : (g : NodeConfig) (old new : State) (known : Option Known) (l 
     → after ≡ with_entries (e.Broke l ∷ []) told → Enters (e.Broke l) old new → Puts old l bytes → 0 < length bytes
     → Carries g old known told → Carries g new known after
 write_breaks g old new known l bytes told after adds enters puts some =
-    broke_so g old new known l told after adds enters (λ trace same s. inr (may_write g old known l bytes trace puts some s))
+    broke_so g old new known l told after adds enters (λ trace same s. (inr (may_write g old known l bytes trace puts some s), tt))
+
+pub write_balks : (g : NodeConfig) (node : State) (known : Option Known) (l : ℕ) (bytes : List ℕ) (told after : Option (List Entry))
+    → after ≡ with_entries (e.Balked (way.Write l) ∷ []) told → Puts node l bytes → 0 < length bytes
+    → Carries g node known told → Carries g node known after
+write_balks g node known l bytes told after adds puts some =
+    balked g node known (way.Write l) told after adds
+    (λ trace s. (
+      may_write g node known l bytes trace puts some s,
+      subst (λ (bs : List ℕ). 0 < length bs) (puts s.machine s.shows) some,
+    ))
 
 -- where bytes are wanted the link lives
 wanted_live : (p : Phase) (x : Discovery) → 0 < wanted_by p x → p ≡ live
@@ -181,10 +205,13 @@ pub read_tells : (g : NodeConfig) (node : State) (known : Option Known) (l most 
 read_tells g node known l most bytes told after adds wanted octets some at_most =
     tell g node known (e.Came l bytes) told after adds
     (λ trace same s. (
-      may_read g node known l most trace wanted (omega (arith, some, at_most)) s,
-      octets,
-      some,
-      subst (λ n. length bytes ≤ n) (wanted s.machine s.shows) at_most,
+      (
+        may_read g node known l most trace wanted (omega (arith, some, at_most)) s,
+        octets,
+        some,
+        subst (λ n. length bytes ≤ n) (wanted s.machine s.shows) at_most,
+      ),
+      tt,
     )) (λ trace same s. tt)
 
 -- a buffer that was written whole
@@ -217,8 +244,9 @@ live_current (Some k) m l shows lives =
     ⊎_elim (λ (here : l ≡ k.number). shows.0 ∙ ap (λ n. Some n) (sym here))
     (λ (other : l ≡ k.number → ⊥). absurd (subst IsGone lives (shows.4 l other))) (cases_eq l k.number)
 
-goes_by : (here : Bool) (bytes : List ℕ) (x : Discovery) → x.phase ≡ live → GoesOn (if here then came bytes x else x).phase
-goes_by true bytes x lives = subst GoesOn (sym lives) tt
+goes_by : (here : Bool) (bytes : List ℕ) (x : Discovery) → x.phase ≡ live
+    → GoesOn (if here then while_open (came bytes) x else x).phase
+goes_by true bytes x lives = subst (λ (y : Discovery). GoesOn y.phase) (sym (live_changes (came bytes) x lives)) (subst GoesOn (sym lives) tt)
 goes_by false bytes x lives = subst GoesOn (sym lives) tt
 
 -- the node lacks memory for them
@@ -248,8 +276,11 @@ pub read_ends : (g : NodeConfig) (old new : State) (known : Option Known) (l mos
 read_ends g old new known l most told after adds enters wanted some =
     carry g old new known known (e.Ended l) told after adds enters
     (λ trace same s. (
-      may_read g old known l most trace wanted some s,
-      subst (λ n. 0 < n) (wanted s.machine s.shows) some,
+      (
+        may_read g old known l most trace wanted some s,
+        subst (λ n. 0 < n) (wanted s.machine s.shows) some,
+      ),
+      tt,
     )) (λ trace same s. tt)
     (λ m n shows may knows keeps. knows_inner known _ n (knows_ended g known m l knows) keeps)
 
@@ -257,7 +288,15 @@ pub read_breaks : (g : NodeConfig) (old new : State) (known : Option Known) (l m
     → after ≡ with_entries (e.Broke l ∷ []) told → Enters (e.Broke l) old new → Wants old l most → 0 < most
     → Carries g old known told → Carries g new known after
 read_breaks g old new known l most told after adds enters wanted some =
-    broke_so g old new known l told after adds enters (λ trace same s. inr (inl (may_read g old known l most trace wanted some s)))
+    broke_so g old new known l told after adds enters
+    (λ trace same s. (inr (inl (may_read g old known l most trace wanted some s)), tt))
+
+pub read_balks : (g : NodeConfig) (node : State) (known : Option Known) (l most : ℕ) (told after : Option (List Entry))
+    → after ≡ with_entries (e.Balked (way.Read l) ∷ []) told → Wants node l most → 0 < most
+    → Carries g node known told → Carries g node known after
+read_balks g node known l most told after adds wanted some =
+    balked g node known (way.Read l) told after adds
+    (λ trace s. (may_read g node known l most trace wanted some s, subst (λ n. 0 < n) (wanted s.machine s.shows) some))
 
 -- time passed behind a wait
 pub tick_tells : (g : NodeConfig) (node : State) (known : Option Known) (ready : List ReadyItem) (how : Woken)
@@ -267,7 +306,7 @@ tick_tells g node known ready how None after adds idle settles carries = subst (
 tick_tells g node known ready how (Some trace) after adds idle settles carries =
     tell g node known e.Tick (Some (trace ++ e.Wait ready how ∷ [])) after
     (adds ∙ ap (λ (es : List Entry). Some es) (sym (append_assoc trace (e.Wait ready how ∷ []) (e.Tick ∷ []))))
-    (λ more same s. quiet_where g node known more idle s) (λ trace same s. tt)
+    (λ more same s. (quiet_where g node known more idle s, tt)) (λ trace same s. tt)
     (waited g node known ready how (Some trace) (Some (trace ++ e.Wait ready how ∷ [])) refl idle settles carries)
 
 pub hears_tick : (g : NodeConfig) (old new : State) (known : Option Known) (told : Option (List Entry)) → Enters e.Tick old new

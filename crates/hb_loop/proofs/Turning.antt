@@ -22,13 +22,13 @@ use Rattle.hb_loop.specs.declared.run.Known.{Known}
 use Rattle.hb_loop.specs.declared.run.Run.{Run}
 use Rattle.hb_loop.specs.declared.turns.ServeEnd.{ServeEnd}
 use Rattle.hb_loop.specs.declared.turns.ServeEnd.TheVariants as ends
-use Rattle.hb_loop.specs.Ends.{ticks, are_spent, end_by_wait, end_by, RunsOn, is_close, IsEndedBy, EndsAs, is_move, is_wait, SpendsTurns, is_lack, was_wanting}
-use Rattle.hb_loop.specs.Reckons.{one_less, is_spent, turns_kept, TurnedTo, AreLeft, Counts, Reckons, Reckoned, Finishes, Finished, IsBehindTick}
-use Rattle.hb_loop.specs.Stands.{Carries, Falls}
+use Rattle.hb_loop.specs.Ends.{ticks, are_spent, end_by_wait, end_by, RunsOn, is_close, IsEndedBy, EndsAs, is_move, is_wait, waits, SpendsTurns, is_lack, was_wanting}
+use Rattle.hb_loop.specs.Reckons.{Asked, asked, one_wait_more, one_less, is_spent, turns_kept, TurnedTo, AreLeft, Counts, Reckons, Reckoned, Finishes, Finished, IsBehindTick}
+use Rattle.hb_loop.specs.Stands.{Carries, MayEnd}
 use Rattle.hb_loop.proofs.Model.{current_lives}
 use Rattle.hb_loop.proofs.Carried.{told_on, if_told}
-use Rattle.hb_loop.proofs.Closing.{close_of}
-use Rattle.hb_loop.proofs.Counted.{count-grows, same_ticks, same_left, counts_on, counts_closed, told_close, fewer_turns}
+use Rattle.hb_loop.proofs.Closing.{close_of, none_ends}
+use Rattle.hb_loop.proofs.Counted.{count-grows, same_ticks, same_left, same_waits, counts_on, counts_closed, told_close, fewer_turns}
 
 -- a tick more
 one_spent : (stated left : Option ℕ) (before : List Entry) → AreLeft stated left before
@@ -50,30 +50,34 @@ end_by_tick : (b : Bool) → b ≡ false → (if b then Some ends.Stopped else N
 end_by_tick true is = absurd (cc)
 end_by_tick false is = refl
 
-tick_goes : (stated left : Option ℕ) (n links : ℕ) (wanting : Bool) (trace : List Entry) → is_spent (one_less left) ≡ false
+tick_goes : (stated : Asked) (left : Option ℕ) (n links : ℕ) (wanting : Bool) (trace : List Entry) → is_spent (one_less left) ≡ false
     → IsBehindTick stated left n links wanting trace → Reckons stated (one_less left) n links wanting trace
 tick_goes stated left n links wanting trace more at =
     let r = at.reckons in
-    let unspent : are_spent stated (ticks at.before + 1) ≡ false = sym (one_spent stated left at.before r.to_come) ∙ more in
+    let unspent : are_spent stated.ticks (ticks at.before + 1) ≡ false =
+    sym (one_spent stated.ticks left at.before r.to_come) ∙ more in
     subst (λ (es : List Entry). Reckons stated (one_less left) n links wanting es) (sym at.trace_is) (record {
-      runs_on = AtEach-grows (λ before y. end_by stated before y ≡ None) at.before e.Tick r.runs_on (end_by_tick _ unspent);
-      to_come = one_left stated left at.before (at.before ++ e.Tick ∷ []) (count-grows _ at.before e.Tick) r.to_come;
+      runs_on = AtEach-grows (λ before y. end_by stated.ticks before y ≡ None) at.before e.Tick r.runs_on (end_by_tick _ unspent);
+      to_come = one_left stated.ticks left at.before (at.before ++ e.Tick ∷ []) (count-grows _ at.before e.Tick) r.to_come;
       turns = (let least = r.turns in
           rw (count-grows is_move at.before e.Tick, count-grows is_wait at.before e.Tick) (omega (arith, least)));
+      few_waits = same_waits stated.waits at.before e.Tick refl r.few_waits;
       counts = counts_on links wanting at.before e.Tick refl refl r.counts;
     })
 
-pub tick_on : (stated left : Option ℕ) (n links : ℕ) (wanting : Bool) (told : Option (List Entry)) → is_spent (one_less left) ≡ false
-    → IfSome told (IsBehindTick stated left n links wanting) → IfSome told (Reckons stated (one_less left) n links wanting)
+pub tick_on : (stated : Asked) (left : Option ℕ) (n links : ℕ) (wanting : Bool) (told : Option (List Entry))
+    → is_spent (one_less left) ≡ false → IfSome told (IsBehindTick stated left n links wanting) → IfSome told (Reckons stated (one_less left) n links wanting)
 tick_on stated left n links wanting told more =
     if_told (IsBehindTick stated left n links wanting) (Reckons stated (one_less left) n links wanting) told
     (λ trace at. tick_goes stated left n links wanting trace more at)
 
-tick_stops : (stated left : Option ℕ) (n links : ℕ) (wanting : Bool) (turns : ℕ) (trace : List Entry) → is_spent (one_less left) ≡ true
-    → IsBehindTick stated left n links wanting trace → Finishes stated turns ends.Stopped links wanting trace
-tick_stops stated left n links wanting turns trace last at =
+tick_stops : (stated : Asked) (left : Option ℕ) (n links : ℕ) (wanting : Bool) (turns : ℕ) (trace : List Entry)
+    → is_spent (one_less left) ≡ true → stated.waits ≤ turns
+    → IsBehindTick stated left n links wanting trace → Finishes stated.ticks turns ends.Stopped links wanting trace
+tick_stops stated left n links wanting turns trace last within at =
     let r = at.reckons in
-    let spent : are_spent stated (ticks at.before + 1) ≡ true = sym (one_spent stated left at.before r.to_come) ∙ last in
+    let spent : are_spent stated.ticks (ticks at.before + 1) ≡ true = sym (one_spent stated.ticks left at.before r.to_come) ∙ last in
+    let few : waits at.before ≤ stated.waits = r.few_waits in
     record {
       ends = record {
         before = at.before;
@@ -85,54 +89,89 @@ tick_stops stated left n links wanting turns trace last at =
         closes = refl;
       };
       spends = tt;
+      few_waits = subst (λ (es : List Entry). waits es ≤ turns) (sym at.trace_is)
+          (same_waits turns at.before e.Tick refl (omega (arith, few, within)));
       counts = subst (λ (es : List Entry). Counts links wanting es) (sym at.trace_is)
           (counts_on links wanting at.before e.Tick refl refl r.counts);
     }
 
-pub tick_ends : (stated left : Option ℕ) (n links : ℕ) (wanting : Bool) (turns : ℕ) (told : Option (List Entry))
-    → is_spent (one_less left) ≡ true → IfSome told (IsBehindTick stated left n links wanting)
-    → IfSome told (Finishes stated turns ends.Stopped links wanting)
-tick_ends stated left n links wanting turns told last =
-    if_told (IsBehindTick stated left n links wanting) (Finishes stated turns ends.Stopped links wanting) told
-    (λ trace at. tick_stops stated left n links wanting turns trace last at)
+pub tick_ends : (stated : Asked) (left : Option ℕ) (n links : ℕ) (wanting : Bool) (turns : ℕ) (told : Option (List Entry))
+    → is_spent (one_less left) ≡ true → stated.waits ≤ turns → IfSome told (IsBehindTick stated left n links wanting)
+    → IfSome told (Finishes stated.ticks turns ends.Stopped links wanting)
+tick_ends stated left n links wanting turns told last within =
+    if_told (IsBehindTick stated left n links wanting) (Finishes stated.ticks turns ends.Stopped links wanting) told
+    (λ trace at. tick_stops stated left n links wanting turns trace last within at)
 
 -- memory lacked, or the turns are spent
-pub lack_finishes : (stated left : Option ℕ) (n links : ℕ) (wanting : Bool) (turns : ℕ) (told : Option (List Entry))
-    → IfSome told (Reckons stated left n links wanting) → IfSome told (Finishes stated turns ends.NoMemory links wanting)
-lack_finishes stated left n links wanting turns told =
-    if_told (Reckons stated left n links wanting) (Finishes stated turns ends.NoMemory links wanting) told
-    (λ trace r. record { ends = r.runs_on; spends = tt; counts = r.counts })
+pub lack_finishes : (stated : Asked) (left : Option ℕ) (n links : ℕ) (wanting : Bool) (turns : ℕ) (told : Option (List Entry))
+    → stated.waits ≤ turns → IfSome told (Reckons stated left n links wanting)
+    → IfSome told (Finishes stated.ticks turns ends.NoMemory links wanting)
+lack_finishes stated left n links wanting turns told within =
+    if_told (Reckons stated left n links wanting) (Finishes stated.ticks turns ends.NoMemory links wanting) told
+    (λ trace r. record {
+      ends = r.runs_on;
+      spends = tt;
+      few_waits = (let few = r.few_waits in omega (arith, few, within));
+      counts = r.counts;
+    })
 
-pub spent_finishes : (stated left : Option ℕ) (n links : ℕ) (wanting : Bool) (turns : ℕ) (told : Option (List Entry)) → turns ≤ n + 1
-    → IfSome told (Reckons stated left n links wanting) → IfSome told (Finishes stated turns ends.TurnsSpent links wanting)
-spent_finishes stated left n links wanting turns told most =
-    if_told (Reckons stated left n links wanting) (Finishes stated turns ends.TurnsSpent links wanting) told
-    (λ trace r. record { ends = r.runs_on; spends = (let least = r.turns in omega (arith, most, least)); counts = r.counts })
+pub spent_finishes : (stated : Asked) (left : Option ℕ) (n links : ℕ) (wanting : Bool) (turns : ℕ) (told : Option (List Entry))
+    → stated.waits ≤ turns → turns ≤ n + 1 → IfSome told (Reckons stated left n links wanting)
+    → IfSome told (Finishes stated.ticks turns ends.TurnsSpent links wanting)
+spent_finishes stated left n links wanting turns told within most =
+    if_told (Reckons stated left n links wanting) (Finishes stated.ticks turns ends.TurnsSpent links wanting) told
+    (λ trace r. record {
+      ends = r.runs_on;
+      spends = (let least = r.turns in omega (arith, most, least));
+      few_waits = (let few = r.few_waits in omega (arith, few, within));
+      counts = r.counts;
+    })
+
+-- a turn in which no wait was made
+pub no_wait : (stated : Asked) (left : Option ℕ) (n links : ℕ) (wanting : Bool) (told : Option (List Entry))
+    → IfSome told (Reckons stated left n links wanting) → IfSome told (Reckons (one_wait_more stated) left n links wanting)
+no_wait stated left n links wanting told =
+    if_told (Reckons stated left n links wanting) (Reckons (one_wait_more stated) left n links wanting) told
+    (λ trace r. record {
+      runs_on = r.runs_on;
+      to_come = r.to_come;
+      turns = r.turns;
+      few_waits = (let few = r.few_waits in omega (arith, few));
+      counts = r.counts;
+    })
+
+one_wait : (most : ℕ) (trace : List Entry) (ready : List ReadyItem) (how : Woken) → waits trace ≤ most
+    → waits (trace ++ e.Wait ready how ∷ []) ≤ most + 1
+one_wait most trace ready how few = rw (count-grows is_wait trace (e.Wait ready how)) (omega (arith, few))
 
 -- a wait behind which the run goes on
-wait_goes : (stated left : Option ℕ) (n links : ℕ) (wanting : Bool) (ready : List ReadyItem) (how : Woken) (trace : List Entry)
+wait_goes : (stated : Asked) (left : Option ℕ) (n links : ℕ) (wanting : Bool) (ready : List ReadyItem) (how : Woken) (trace : List Entry)
     → end_by_wait how ≡ None → Reckons stated left n links wanting trace
-    → Reckons stated left (n + 2) links wanting (trace ++ e.Wait ready how ∷ [])
+    → Reckons (one_wait_more stated) left (n + 2) links wanting (trace ++ e.Wait ready how ∷ [])
 wait_goes stated left n links wanting ready how trace goes r = record {
-  runs_on = AtEach-grows (λ before y. end_by stated before y ≡ None) trace (e.Wait ready how) r.runs_on goes;
-  to_come = same_left stated left trace (trace ++ e.Wait ready how ∷ []) (same_ticks trace (e.Wait ready how) refl) r.to_come;
+  runs_on = AtEach-grows (λ before y. end_by stated.ticks before y ≡ None) trace (e.Wait ready how) r.runs_on goes;
+  to_come = same_left stated.ticks left trace (trace ++ e.Wait ready how ∷ []) (same_ticks trace (e.Wait ready how) refl) r.to_come;
   turns = (let least = r.turns in rw (count-grows is_move trace (e.Wait ready how), count-grows is_wait trace (e.Wait ready how))
       (omega (arith, least)));
+  few_waits = one_wait stated.waits trace ready how r.few_waits;
   counts = counts_on links wanting trace (e.Wait ready how) refl refl r.counts;
 }
 
-pub wait_on : (stated left : Option ℕ) (n links : ℕ) (wanting : Bool) (ready : List ReadyItem) (how : Woken)
+pub wait_on : (stated : Asked) (left : Option ℕ) (n links : ℕ) (wanting : Bool) (ready : List ReadyItem) (how : Woken)
     (before behind : Option (List Entry)) → behind ≡ with_entries (e.Wait ready how ∷ []) before → end_by_wait how ≡ None
-    → IfSome before (Reckons stated left n links wanting) → IfSome behind (Reckons stated left (n + 2) links wanting)
+    → IfSome before (Reckons stated left n links wanting)
+    → IfSome behind (Reckons (one_wait_more stated) left (n + 2) links wanting)
 wait_on stated left n links wanting ready how before behind adds goes =
-    told_on (Reckons stated left n links wanting) (Reckons stated left (n + 2) links wanting) (e.Wait ready how ∷ []) before behind adds
+    told_on (Reckons stated left n links wanting) (Reckons (one_wait_more stated) left (n + 2) links wanting) (e.Wait ready how ∷ [])
+    before behind adds
     (λ trace is r. wait_goes stated left n links wanting ready how trace goes r)
 
-pub wait_ticks : (stated left : Option ℕ) (n links : ℕ) (wanting : Bool) (ready : List ReadyItem) (before behind : Option (List Entry))
+pub wait_ticks : (stated : Asked) (left : Option ℕ) (n links : ℕ) (wanting : Bool) (ready : List ReadyItem)
+    (before behind : Option (List Entry))
     → behind ≡ with_entries (e.Wait ready woken.Tick ∷ e.Tick ∷ []) before → IfSome before (Reckons stated left n links wanting)
-    → IfSome behind (IsBehindTick stated left (n + 2) links wanting)
+    → IfSome behind (IsBehindTick (one_wait_more stated) left (n + 2) links wanting)
 wait_ticks stated left n links wanting ready before behind adds =
-    told_on (Reckons stated left n links wanting) (IsBehindTick stated left (n + 2) links wanting)
+    told_on (Reckons stated left n links wanting) (IsBehindTick (one_wait_more stated) left (n + 2) links wanting)
     (e.Wait ready woken.Tick ∷ e.Tick ∷ []) before behind adds
     (λ trace is r. record {
       before = trace ++ e.Wait ready woken.Tick ∷ [];
@@ -141,13 +180,14 @@ wait_ticks stated left n links wanting ready before behind adds =
     })
 
 -- a wait that ends the run
-pub wait_ends : (stated left : Option ℕ) (n links : ℕ) (wanting : Bool) (ready : List ReadyItem) (how : Woken) (end : ServeEnd)
+pub wait_ends : (stated : Asked) (left : Option ℕ) (n links : ℕ) (wanting : Bool) (ready : List ReadyItem) (how : Woken) (end : ServeEnd)
     (turns : ℕ) (before behind : Option (List Entry)) → behind ≡ with_entries (e.Wait ready how ∷ []) before
     → end_by_wait how ≡ Some end
-    → ((trace : List Entry) → IsEndedBy stated end trace → EndsAs stated end trace × SpendsTurns turns end trace)
-    → IfSome before (Reckons stated left n links wanting) → IfSome behind (Finishes stated turns end links wanting)
-wait_ends stated left n links wanting ready how end turns before behind adds is so =
-    told_on (Reckons stated left n links wanting) (Finishes stated turns end links wanting) (e.Wait ready how ∷ []) before behind adds
+    → ((trace : List Entry) → IsEndedBy stated.ticks end trace → EndsAs stated.ticks end trace × SpendsTurns turns end trace)
+    → stated.waits + 1 ≤ turns → IfSome before (Reckons stated left n links wanting)
+    → IfSome behind (Finishes stated.ticks turns end links wanting)
+wait_ends stated left n links wanting ready how end turns before behind adds is so within =
+    told_on (Reckons stated left n links wanting) (Finishes stated.ticks turns end links wanting) (e.Wait ready how ∷ []) before behind adds
     (λ trace same r.
     let said = so (trace ++ e.Wait ready how ∷ []) (record {
       before = trace;
@@ -158,14 +198,20 @@ wait_ends stated left n links wanting ready how end turns before behind adds is 
       ends = is;
       closes = refl;
     }) in
-    record { ends = said.0; spends = said.1; counts = counts_on links wanting trace (e.Wait ready how) refl refl r.counts })
+    let few = one_wait stated.waits trace ready how r.few_waits in
+    record {
+      ends = said.0;
+      spends = said.1;
+      few_waits = omega (arith, few, within);
+      counts = counts_on links wanting trace (e.Wait ready how) refl refl r.counts;
+    })
 
 -- a turn that is a wait
 kept_least : (old : Bool) (n : ℕ) → n + 1 ≤ turns_kept old n + 2
 kept_least true n = omega arith
 kept_least false n = omega arith
 
-pub turn_waited : (end : Option ServeEnd) (old : Bool) (stated left : Option ℕ) (n : ℕ) (run : Run) (told : Option (List Entry))
+pub turn_waited : (end : Option ServeEnd) (old : Bool) (stated : Asked) (left : Option ℕ) (n : ℕ) (run : Run) (told : Option (List Entry))
     → TurnedTo end stated left (turns_kept old n + 2) run told
     → TurnedTo end stated left (n + 1) run told
 turn_waited None old stated left n run told had =
@@ -231,6 +277,7 @@ close_finishes stated turns end links wanting link cause before behind adds aliv
     (λ trace f. record {
       ends = ends_on stated end link cause trace f.ends;
       spends = spends_on turns end link cause trace f.spends;
+      few_waits = same_waits turns trace (e.Closed link cause) refl f.few_waits;
       counts = counts_closed links wanting link cause trace f.counts;
     })
 
@@ -246,27 +293,25 @@ stop_lives_so g old mid new known cause why l (Some trace) stops acts s =
     subst (λ t. lives l t ≡ true) s.trace_is (current_lives g s.machine s.points s.run l (close_of g m l why is_due))
 
 pub stop_lives : (g : NodeConfig) (old : Run) (mid new : State) (cause why : Cause) (l : ℕ) (told : Option (List Entry))
-    → is_none old.known ≡ false → Stops cause old.node mid → Acts (Some (act.Close l why)) mid new → Falls g old told → Lives l told
+    → is_none old.known ≡ false → Stops cause old.node mid → Acts (Some (act.Close l why)) mid new
+    → MayEnd g cause old told → Lives l told
 stop_lives g old mid new cause why l told some stops acts (inl carries) =
     stop_lives_so g old.node mid new old.known cause why l told stops acts carries
 stop_lives g old mid new cause why l told some stops acts (inr ended) =
     absurd (let none : is_none old.known ≡ true = ap is_none ended.0 in cc)
 
 -- before anything moved
-pub none_ends : (stated : Option ℕ) → RunsOn stated []
-none_ends stated [] x after is = absurd (cc)
-none_ends stated (b ∷ bs) x after is = absurd (cc)
-
 all_left : (stated : Option ℕ) → AreLeft stated stated []
 all_left None = tt
 all_left (Some n) = omega arith
 
 pub nothing_reckoned : (stated : Option ℕ) (links : ℕ) (wanting : Bool) → links ≡ 0 → wanting ≡ false
-    → Reckons stated stated 0 links wanting []
+    → Reckons (asked stated 0) stated 0 links wanting []
 nothing_reckoned stated links wanting none not = record {
   runs_on = none_ends stated;
   to_come = all_left stated;
   turns = omega arith;
+  few_waits = omega arith;
   counts = record { links_are = none; wanting_is = not };
 }
 
@@ -276,18 +321,13 @@ pub carries_from : (g : NodeConfig) (run : Run) (told : Option (List Entry)) →
 carries_from g run told untouched = subst (λ (o : Option (List Entry)). Carries g run.node run.known o) (sym untouched)
 
 pub reckoned_from : (stated : Option ℕ) (run : Run) (told : Option (List Entry)) → told ≡ Some []
-    → Reckons stated stated 0 run.links run.wanting [] → Reckoned stated stated 0 run told
-reckoned_from stated run told untouched = subst (λ (o : Option (List Entry)). Reckoned stated stated 0 run o) (sym untouched)
+    → Reckons (asked stated 0) stated 0 run.links run.wanting [] → Reckoned (asked stated 0) stated 0 run told
+reckoned_from stated run told untouched =
+    subst (λ (o : Option (List Entry)). Reckoned (asked stated 0) stated 0 run o) (sym untouched)
 
 -- what the trace says at a run's end
 module _ (stated : Option ℕ) (turns : ℕ) (end : ServeEnd) (run : Run) (told : Option (List Entry))
     (finished : Finished stated turns end run told) where
-  pub ends_told : IfSome told (EndsAs stated end)
-  ends_told = if_told (Finishes stated turns end run.links run.wanting) (EndsAs stated end) told (λ trace f. f.ends) finished
-
-  pub turns_told : IfSome told (SpendsTurns turns end)
-  turns_told = if_told (Finishes stated turns end run.links run.wanting) (SpendsTurns turns end) told (λ trace f. f.spends) finished
-
   pub links_told : IfSome told (λ trace. run.links ≡ births trace)
   links_told =
       if_told (Finishes stated turns end run.links run.wanting) (λ trace. run.links ≡ births trace) told

@@ -1,7 +1,6 @@
 -- In front of a wait each link that lives is settled.
 use Rattle.std.proofs.Common.{◌≡◌, ◌⊎◌, ℕ, ◌-◌, ◌<◌, ◌≤◌, Bool, true, false, ◌&&◌, List, [], length, Option, Some, None, is_some, refl, ap, sym, ◌∙◌, subst, inl, inr, ⊎_elim, arith, eq-zero-or-pos}
-use Rattle.hb_outgoing.specs.Waiting.{octets_of}
-use Rattle.hb_owed.specs.Debts.{dues}
+use Rattle.hb_conn.specs.Observed.{output, owed}
 use Rattle.hb_world.specs.Trace.{lives}
 use Rattle.hb_world.specs.declared.entry.Entry.{Entry}
 use Rattle.hb_world.specs.declared.entry.Entry.TheVariants as e
@@ -73,21 +72,21 @@ many_wait n wanted none reads =
 
 reads_so : (node : State) (m : Machine) (l : ℕ) (trace es : List Entry) → Shows node m → (m.links l).phase ≡ live → es ≡ trace
     → ReadRests node l (Some trace)
-    → (asleep (way.Read l) es ≡ true) ⊎ (32000 < length (octets_of (m.links l).conn.receiver.core.out))
+    → (asleep (way.Read l) es ≡ true) ⊎ (32000 < length (output (m.links l).conn))
 reads_so node m l trace es shows is same (inl sleeps) =
     inl (subst (λ (xs : List Entry). asleep (way.Read l) xs ≡ true) (sym same) sleeps)
 reads_so node m l trace es shows is same (inr none) =
-    inr (many_wait (length (octets_of (m.links l).conn.receiver.core.out)) (wants m l) (none m shows) (resting.reads node m l shows is))
+    inr (many_wait (length (output (m.links l).conn)) (wants m l) (none m shows) (resting.reads node m l shows is))
 
 -- what waits to be written is none
 none_waits : (node : State) (m : Machine) (l : ℕ) → Shows node m → (m.links l).phase ≡ live → Puts node l []
-    → octets_of (m.links l).conn.receiver.core.out ≡ []
+    → output (m.links l).conn ≡ []
 none_waits node m l shows is none = sym (none m shows ∙ ap (λ (p : Phase). output_by p (m.links l)) is)
 
 writes_so : (node : State) (m : Machine) (l : ℕ) (trace es : List Entry) → Shows node m → (m.links l).phase ≡ live → es ≡ trace
     → WriteRests node l (Some trace)
     → (asleep (way.Write l) es ≡ true)
-    ⊎ ((octets_of (m.links l).conn.receiver.core.out ≡ []) × (dues (m.links l).conn.receiver.core.owed ≡ []))
+    ⊎ ((output (m.links l).conn ≡ []) × (owed (m.links l).conn ≡ []))
 writes_so node m l trace es shows is same (inl sleeps) =
     inl (subst (λ (xs : List Entry). asleep (way.Write l) xs ≡ true) (sym same) sleeps)
 writes_so node m l trace es shows is same (inr none) =
@@ -112,7 +111,7 @@ opened_so g node known l trace s is calm reads writes =
     record {
       unopened = λ not. absurd (let yes : (seen l s.points).opened ≡ true = ap (λ (x : Said). x.opened) said in cc);
       opened = λ was. record {
-        history = record { conn = (s.machine.links l).conn; given = one.given; stands = one.stands };
+        history = record { conn = (s.machine.links l).conn; stands = one.stands };
         reads = reads_so node s.machine l trace (entries s.points) s.shows is s.trace_is reads;
         writes = writes_so node s.machine l trace (entries s.points) s.shows is s.trace_is writes;
         puts = puts_so g node known l trace s is calm writes;
@@ -141,7 +140,7 @@ settled_by g node known trace idle (Some k) s knows tried l is =
 
 pub wait_settles : (g : NodeConfig) (node : State) (known : Option Known) (ready : List ReadyItem) (how : Woken)
     (told : Option (List Entry)) → due_of node ≡ None → Tried known node told → SettlesBehind g node known (e.Wait ready how) told
-wait_settles g node known ready how told idle tried trace is s l alive =
+wait_settles g node known ready how told idle tried trace is s l control alive =
     settled_by g node known trace idle known s s.knows (subst (λ (o : Option (List Entry)). Tried known node o) is tried) l
     (lives_current g l node known trace s alive)
 

@@ -2,12 +2,14 @@
 use Rattle.std.specs.Prelude.{⊤, ◌≡◌, ◌≤◌, ℕ, ◌+◌, ◌-◌, ◌*◌, ◌==◌, Bool, true, false, if◌then◌else◌, List, ◌∷◌, ◌++◌, Option, Some, None, count_by}
 use Rattle.std.specs.List.{list_all, list_any}
 use Rattle.hb_base.specs.declared.cause.Cause.{Cause}
-use Rattle.hb_base.specs.declared.cause.Cause.TheVariants.{NoMemory}
+use Rattle.hb_base.specs.declared.cause.Cause.TheVariants.{NoMemory, Stopped}
 use Rattle.hb_world.specs.declared.entry.Entry.{Entry}
 use Rattle.hb_world.specs.declared.entry.Entry.TheVariants as e
 use Rattle.hb_world.specs.declared.entry.Woken.{Woken}
 use Rattle.hb_world.specs.declared.entry.Woken.TheVariants as woken
 use Rattle.hb_world.specs.Trace.{AtEach}
+use Rattle.hb_model.specs.Point.{Point, stopped}
+use Rattle.hb_model.specs.Calls as run
 use Rattle.hb_loop.specs.declared.turns.ServeEnd.{ServeEnd}
 use Rattle.hb_loop.specs.declared.turns.ServeEnd.TheVariants as ends
 
@@ -60,6 +62,19 @@ EndsAs stated ends.Stopped trace = IsEndedBy stated ends.Stopped trace
 EndsAs stated ends.WorldFault trace = IsEndedBy stated ends.WorldFault trace
 EndsAs stated ends.TurnsSpent trace = RunsOn stated trace
 EndsAs stated ends.NoMemory trace = RunsOn stated trace
+
+-- the cause for which links are closed that live at such an end
+abbrev pub cause_at : ServeEnd → Cause
+cause_at ends.NoMemory = NoMemory
+cause_at _ = Stopped
+
+-- a run is stopped for this cause alone
+abbrev pub IsStopFor : Cause → Point → Type 0
+IsStopFor cause (stopped why) = why ≡ cause
+IsStopFor cause _ = ⊤
+
+abbrev pub StopsFor : Cause → List Point → Type 0
+StopsFor cause points = run.AtEach (λ before p. IsStopFor cause p) points
 
 abbrev pub is_fault : ServeEnd → Bool
 is_fault ends.WorldFault = true

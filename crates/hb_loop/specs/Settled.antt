@@ -1,8 +1,7 @@
 -- The settled law: in front of a wait every link that lives was tried, and balked since.
 use Rattle.std.specs.Prelude.{⊤, ◌≡◌, ◌⊎◌, ℕ, ◌<◌, ◌==◌, ◌&&◌, ◌||◌, not, Bool, true, false, List, [], ◌∷◌, length}
 use Rattle.std.specs.List.{list_any}
-use Rattle.hb_owed.specs.Debts.{dues}
-use Rattle.hb_outgoing.specs.Waiting.{octets_of}
+use Rattle.hb_conn.specs.Observed.{output, owed}
 use Rattle.hb_world.specs.declared.entry.Entry.{Entry}
 use Rattle.hb_world.specs.declared.entry.Entry.TheVariants as e
 use Rattle.hb_world.specs.declared.entry.ReadyItem.{ReadyItem}
@@ -11,7 +10,7 @@ use Rattle.hb_world.specs.declared.entry.Way.{Way}
 use Rattle.hb_world.specs.declared.entry.Way.TheVariants as way
 use Rattle.hb_world.specs.Trace.{lives}
 use Rattle.hb_model.specs.declared.config.NodeConfig.{NodeConfig}
-use Rattle.hb_model.specs.Calls.{AtEntry, Was, WasNot, is_opened_of}
+use Rattle.hb_model.specs.Calls.{AtEntry, Was, WasNot, is_opened_of, IsControl}
 use Rattle.hb_model.specs.Connections.{IsOneHistory}
 use Rattle.hb_model.specs.Point.{Point, entries}
 use Rattle.hb_model.specs.Puts.{IsAllPut}
@@ -66,18 +65,19 @@ asleep w trace = asleep_from w false trace
 -- asleep for writing, or what went says that all is put: requests wait only where a window is used up
 pub record IsTried (g : NodeConfig) (l : ℕ) (points : List Point) : Type 0 where
   pub history : IsOneHistory points l
-  pub reads : (asleep (way.Read l) (entries points) ≡ true) ⊎ (32000 < length (octets_of history.conn.receiver.core.out))
+  pub reads : (asleep (way.Read l) (entries points) ≡ true) ⊎ (32000 < length (output history.conn))
   pub writes : (asleep (way.Write l) (entries points) ≡ true)
-      ⊎ ((octets_of history.conn.receiver.core.out ≡ []) × (dues history.conn.receiver.core.owed ≡ []))
+      ⊎ ((output history.conn ≡ []) × (owed history.conn ≡ []))
   pub puts : (asleep (way.Write l) (entries points) ≡ true) ⊎ IsAllPut g points l
 
 -- one of which no finish told that it is open is asleep for finishing
 pub record IsSettled (g : NodeConfig) (l : ℕ) (points : List Point) : Type 0 where
-  pub unopened : WasNot (is_opened_of l) points → asleep (way.Finish l) (entries points) ≡ true
-  pub opened : Was (is_opened_of l) points → IsTried g l points
+  pub unopened : WasNot (is_opened_of l) (entries points) → asleep (way.Finish l) (entries points) ≡ true
+  pub opened : Was (is_opened_of l) (entries points) → IsTried g l points
 
 abbrev pub SettledBefore : NodeConfig → List Point → Entry → Type 0
-SettledBefore g before (e.Wait ready how) = (l : ℕ) → lives l (entries before) ≡ true → IsSettled g l before
+SettledBefore g before (e.Wait ready how) =
+    (l : ℕ) → IsControl l (entries before) → lives l (entries before) ≡ true → IsSettled g l before
 SettledBefore g before _ = ⊤
 
 abbrev pub SettledLaw : NodeConfig → List Point → Type 0

@@ -1,6 +1,7 @@
 //! The calls that are due.
 
 ghost use Rattle.std.specs.Prelude.{◌≡◌, ◌<◌, ◌||◌, true, false, None, Some, IfOk, IfSome};
+ghost use Rattle.hb_base.specs.declared.cause.Cause.TheVariants as causes;
 ghost use Rattle.hb_world.specs.Answers.{Lives};
 ghost use Rattle.hb_world.specs.Calls.{with_closed};
 ghost use Rattle.hb_world.specs.declared.entry.Entry.TheVariants as e;
@@ -45,7 +46,7 @@ pub(crate) fn close<W: World>(run: &mut Run, world: &mut W, link: u64, cause: Ca
 /// Closes a link for want of memory in the node: the node doesn't hold it as it is.
 pub(crate) fn give_up<W: World>(run: &mut Run, world: &mut W, link: u64) -> NoMemory
     ensures known { run.new.known ≡ None }
-    ensures over { (g : NodeConfig) → IfSome (W.trace world.old) (Lasts g link) → Ended g (W.trace world.new) }
+    ensures over { (g : NodeConfig) → IfSome (W.trace world.old) (Lasts g link) → Ended g causes.NoMemory (W.trace world.new) }
     ensures passes { (g : NodeConfig) → IfSome (W.trace world.old) (Lasts g link)
         → PassesBy false run.old (W.trace world.old) run.new (W.trace world.new) }
     ensures faults { W.faults world.new ≡ W.faults world.old }

@@ -5,10 +5,10 @@ ghost use Rattle.hb_world.specs.declared.entry.Entry.TheVariants as e;
 ghost use Rattle.hb_model.specs.declared.config.NodeConfig.{NodeConfig};
 ghost use Rattle.hb_base.specs.Count.{Counts};
 ghost use Rattle.hb_world.specs.Trace.{births};
-ghost use Rattle.hb_loop.specs.Ends.{EndsAs, SpendsTurns, is_fault, was_wanting};
-ghost use Rattle.hb_loop.specs.Lawful.{Lawful, NoneLives, AfterServe};
-ghost use Rattle.hb_loop.specs.Reckons.{Reckons, Reckoned, IsBehindTick, Finished, Turned, one_less, is_spent, end_of, is_fault_of_turn, turns_kept};
-ghost use Rattle.hb_loop.specs.Stands.{Carries, Ended, Falls, Keeps, Hears, IsIdle, Tells};
+ghost use Rattle.hb_loop.specs.Ends.{cause_at, is_fault, was_wanting};
+ghost use Rattle.hb_loop.specs.Lawful.{IsServed, AfterServe};
+ghost use Rattle.hb_loop.specs.Reckons.{Asked, asked, one_wait_more, Reckons, Reckoned, IsBehindTick, Finished, Turned, one_less, is_spent, end_of, is_fault_of_turn, turns_kept};
+ghost use Rattle.hb_loop.specs.Stands.{Carries, Ended, MayEnd, Keeps, Hears, IsIdle, Tells};
 ghost use Rattle.hb_loop.specs.Tried.{Tried};
 ghost use Rattle.hb_loop.specs.declared.turns.ServeEnd.{ServeEnd};
 
@@ -44,7 +44,7 @@ fn tick<W: World>(
     ensures hears { Hears result e.Tick run.old (W.trace world.old) run.new (W.trace world.new) }
     ensures idle { IfOk result (λ end. end ≡ None → IsIdle run.new) }
     ensures turned { (g : NodeConfig) → IfSome (W.trace world.old) (Tells g run.old.node run.old.known e.Tick)
-        → (stated : Option ℕ) (n : ℕ) → IfSome (W.trace world.old) (IsBehindTick stated ticks.old n run.old.links run.old.wanting)
+        → (stated : Asked) (n : ℕ) → IfSome (W.trace world.old) (IsBehindTick stated ticks.old n run.old.links run.old.wanting)
         → Turned result stated ticks.new n run.new (W.trace world.new) }
     ensures faults { W.faults world.new ≡ W.faults world.old }
     ensures follows { W.script world.new ≡ W.script world.old }
@@ -70,8 +70,8 @@ fn wait<W: World>(
     ensures idle { IfOk result (λ end. end ≡ None → IsIdle run.old → IsIdle run.new) }
     ensures turned { (g : NodeConfig) → IsIdle run.old → Tried run.old.known run.old.node (W.trace world.old)
         → Carries g run.old.node run.old.known (W.trace world.old)
-        → (stated : Option ℕ) (n : ℕ) → Reckoned stated ticks.old n run.old (W.trace world.old)
-        → Turned result stated ticks.new (n + 2) run.new (W.trace world.new) }
+        → (stated : Asked) (n : ℕ) → Reckoned stated ticks.old n run.old (W.trace world.old)
+        → Turned result (one_wait_more stated) ticks.new (n + 2) run.new (W.trace world.new) }
     ensures faults { Counts (W.faults world.old) (W.faults world.new) (is_fault_of_turn result) }
     ensures follows { W.script world.new ≡ W.script world.old }
 {
@@ -97,8 +97,8 @@ fn turn<W: World>(
     ensures idle { IfOk result (λ end. end ≡ None → IsIdle run.old → IsIdle run.new) }
     ensures turned { (g : NodeConfig) → IsIdle run.old → (moved.old ≡ false → Tried run.old.known run.old.node (W.trace world.old))
         → Carries g run.old.node run.old.known (W.trace world.old)
-        → (stated : Option ℕ) (n : ℕ) → Reckoned stated ticks.old (turns_kept moved.old n) run.old (W.trace world.old)
-        → Turned result stated ticks.new (turns_kept moved.new (n + 1)) run.new (W.trace world.new) }
+        → (stated : Asked) (n : ℕ) → Reckoned stated ticks.old (turns_kept moved.old n) run.old (W.trace world.old)
+        → Turned result (one_wait_more stated) ticks.new (turns_kept moved.new (n + 1)) run.new (W.trace world.new) }
     ensures tried { IfOk result (λ _. moved.new ≡ false → IsIdle run.old → Tried run.new.known run.new.node (W.trace world.new)) }
     ensures faults { Counts (W.faults world.old) (W.faults world.new) (is_fault_of_turn result) }
     ensures follows { W.script world.new ≡ W.script world.old }
@@ -122,7 +122,7 @@ fn turns<W: World>(
 ) -> Result<ServeEnd, NoMemory>
     ensures keeps { Keeps result run.old (W.trace world.old) run.new (W.trace world.new) }
     ensures finished { (g : NodeConfig) → Carries g run.old.node run.old.known (W.trace world.old)
-        → (stated : Option ℕ) → Reckoned stated ticks 0 run.old (W.trace world.old)
+        → (stated : Option ℕ) → Reckoned (asked stated 0) ticks 0 run.old (W.trace world.old)
         → Finished stated most (end_of result) run.new (W.trace world.new) }
     ensures faults { Counts (W.faults world.old) (W.faults world.new) (is_fault (end_of result)) }
     ensures follows { W.script world.new ≡ W.script world.old }
@@ -141,8 +141,8 @@ fn turns<W: World>(
 
 /// Closes the link that lives, for the run's end.
 fn stop<W: World>(run: &mut Run, world: &mut W, cause: Cause)
-    ensures over { (g : NodeConfig) → Falls g run.old (W.trace world.old) → Ended g (W.trace world.new) }
-    ensures finished { (g : NodeConfig) → Falls g run.old (W.trace world.old) → (stated : Option ℕ) (turns : ℕ) (end : ServeEnd)
+    ensures over { (g : NodeConfig) → MayEnd g cause run.old (W.trace world.old) → Ended g cause (W.trace world.new) }
+    ensures finished { (g : NodeConfig) → MayEnd g cause run.old (W.trace world.old) → (stated : Option ℕ) (turns : ℕ) (end : ServeEnd)
         → Finished stated turns end run.old (W.trace world.old) → Finished stated turns end run.new (W.trace world.new) }
     ensures faults { W.faults world.new ≡ W.faults world.old }
     ensures follows { W.script world.new ≡ W.script world.old }
@@ -156,6 +156,16 @@ fn stop<W: World>(run: &mut Run, world: &mut W, cause: Cause)
     }
 }
 
+/// The cause for which links are closed that live at the run's end.
+fn cause_at(end: ServeEnd) -> Cause
+    ensures { result ≡ cause_at end }
+{
+    match end {
+        ServeEnd::NoMemory => Cause::NoMemory,
+        _ => Cause::Stopped,
+    }
+}
+
 /// All turns, and the run's end.
 fn serve_run<W: World>(
     run: &mut Run,
@@ -164,15 +174,16 @@ fn serve_run<W: World>(
     most: u64,
     ticks: Option<u64>,
 ) -> ServeEnd
-    ensures over { (g : NodeConfig) → Carries g run.old.node run.old.known (W.trace world.old) → Ended g (W.trace world.new) }
+    ensures over { (g : NodeConfig) → Carries g run.old.node run.old.known (W.trace world.old)
+        → Ended g (cause_at result) (W.trace world.new) }
     ensures finished { (g : NodeConfig) → Carries g run.old.node run.old.known (W.trace world.old)
-        → Reckoned ticks ticks 0 run.old (W.trace world.old) → Finished ticks most result run.new (W.trace world.new) }
+        → Reckoned (asked ticks 0) ticks 0 run.old (W.trace world.old) → Finished ticks most result run.new (W.trace world.new) }
     ensures faults { Counts (W.faults world.old) (W.faults world.new) (is_fault result) }
     ensures follows { W.script world.new ≡ W.script world.old }
 {
     match turns(run, world, ready, most, ticks) {
         Ok(end) => {
-            stop(run, world, Cause::Stopped);
+            stop(run, world, cause_at(end));
             end
         }
         Err(_) => {
@@ -185,21 +196,19 @@ fn serve_run<W: World>(
 /// Before anything moved.
 fn begin(alloc: Global, words: ServeWords) -> Result<(Run, Ready), NoMemory>
     ensures carries { IfOk result (λ begun. Carries words.config begun.0.node begun.0.known (Some [])) }
-    ensures reckons { IfOk result (λ begun. Reckons words.ticks words.ticks 0 begun.0.links begun.0.wanting []) }
+    ensures reckons { IfOk result (λ begun. Reckons (asked words.ticks 0) words.ticks 0 begun.0.links begun.0.wanting []) }
 {
     let run = Run::new(alloc, words.config)?;
     Ok((run, Ready::new(alloc)?))
 }
 
 /// Runs the proxy over a world until a wait tells a stop or fails, the ticks passed or the turns are spent, or memory lacks.
-/// Then each link is closed. Where the world tells its trace, and no call was made on it before, the trace is lawful, and says
-/// how the run ended, how many links were born, whether one was closed for want of memory, and what the turns were spent on.
+/// Then each link is closed. Where the world tells its trace, and no call was made on it before, the trace is that of a run that
+/// is served: it is lawful, no link lives, and it says how the run ended; and it says how many links were born, and whether one
+/// was closed for want of memory.
 pub fn serve<W: World>(alloc: Global, words: ServeWords, world: &mut W) -> Served
-    ensures lawful { AfterServe (Lawful words.config) (W.trace world.old) (W.trace world.new) }
-    ensures closed { AfterServe NoneLives (W.trace world.old) (W.trace world.new) }
+    ensures served { AfterServe (IsServed words.config words.ticks words.turns result.end) (W.trace world.old) (W.trace world.new) }
     ensures follows { W.script world.new ≡ W.script world.old }
-    ensures ends { AfterServe (EndsAs words.ticks result.end) (W.trace world.old) (W.trace world.new) }
-    ensures turns { AfterServe (SpendsTurns words.turns result.end) (W.trace world.old) (W.trace world.new) }
     ensures links { AfterServe (λ trace. result.totals.links ≡ births trace) (W.trace world.old) (W.trace world.new) }
     ensures wanting { AfterServe (λ trace. result.wanting ≡ was_wanting trace) (W.trace world.old) (W.trace world.new) }
     ensures faults { Counts (W.faults world.old) (W.faults world.new) (is_fault result.end) }

@@ -4,7 +4,7 @@ use Rattle.std.proofs.Common.{refl}
 use Rattle.hb_world.specs.declared.entry.Entry.TheVariants as e
 use Rattle.hb_loop.proofs.Counted.{passes_one, passes_none}
 use Rattle.hb_world.specs.declared.entry.Way.TheVariants as way
-use Rattle.hb_loop.proofs.Trying.{finish_opens, finish_breaks, balked}
+use Rattle.hb_loop.proofs.Trying.{finish_opens, finish_breaks, finish_balks}
 use Rattle.hb_loop.proofs.link.finish.Goals as goal
 
 pub returns-in-Opened-clause-keeps : goal.returns-in-Opened-clause-keeps
@@ -14,7 +14,7 @@ returns-in-Opened-clause-keeps g c = λ idle is config carries.
 
 pub returns-in-Balked-clause-keeps : goal.returns-in-Balked-clause-keeps
 returns-in-Balked-clause-keeps g c = λ idle is config carries.
-    balked config c.args.run.now.node c.args.run.now.known (way.Finish c.args.link) _ _ c.in-Balked.ensures.adds carries
+    finish_balks config c.args.run.now.node c.args.run.now.known c.args.link _ _ c.in-Balked.ensures.adds idle is carries
 
 pub returns-in-Failed-clause-keeps : goal.returns-in-Failed-clause-keeps
 returns-in-Failed-clause-keeps g c = λ idle is config carries.

@@ -8,7 +8,7 @@ use Rattle.hb_model.specs.declared.config.NodeConfig.{NodeConfig}
 use Rattle.hb_loop.specs.Reckons.{moved_by, turns_after}
 use Rattle.hb_loop.specs.Stands.{Carries, Tells}
 use Rattle.hb_loop.proofs.Counted.{passes_one, passes_none, fewer_turns, at_most_one}
-use Rattle.hb_loop.proofs.Trying.{refilled, read_gets, read_ends, read_breaks, balked}
+use Rattle.hb_loop.proofs.Trying.{refilled, read_gets, read_ends, read_breaks, read_balks}
 use Rattle.hb_loop.proofs.link.read.Given as given
 use Rattle.hb_loop.proofs.link.read.Goals as goal
 
@@ -55,7 +55,9 @@ returns-in-End-clause-keeps g c = λ config carries.
 
 pub returns-in-Balked-clause-keeps : goal.returns-in-Balked-clause-keeps
 returns-in-Balked-clause-keeps g c = λ config carries.
-    balked config c.args.run.now.node c.args.run.now.known (way.Read c.args.link) _ _ c.in-Balked.ensures.adds carries
+    let some : 0 < c.wants-wanted.result = search rules in
+    read_balks config c.args.run.now.node c.args.run.now.known c.args.link c.wants-wanted.result _ _ c.in-Balked.ensures.adds
+    c.wants-wanted.ensures.machine some carries
 
 pub returns-in-Failed-clause-keeps : goal.returns-in-Failed-clause-keeps
 returns-in-Failed-clause-keeps g c = λ config carries.

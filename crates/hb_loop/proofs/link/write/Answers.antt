@@ -6,7 +6,7 @@ use Rattle.hb_world.specs.declared.entry.Entry.TheVariants as e
 use Rattle.hb_loop.proofs.Counted.{passes_one, passes_none}
 use Rattle.std.proofs.Common.{length, ◌<◌, rules}
 use Rattle.hb_world.specs.declared.entry.Way.TheVariants as way
-use Rattle.hb_loop.proofs.Trying.{write_goes, write_breaks, balked}
+use Rattle.hb_loop.proofs.Trying.{write_goes, write_breaks, write_balks}
 use Rattle.hb_loop.proofs.link.write.Goals as goal
 
 pub returns-in-Took-clause-keeps : goal.returns-in-Took-clause-keeps
@@ -17,7 +17,9 @@ returns-in-Took-clause-keeps g c = λ config carries.
 
 pub returns-in-Balked-clause-keeps : goal.returns-in-Balked-clause-keeps
 returns-in-Balked-clause-keeps g c = λ config carries.
-    balked config c.args.run.now.node c.args.run.now.known (way.Write c.args.link) _ _ c.in-Balked.ensures.adds carries
+    let some : 0 < length c.output-output.result.now = search rules in
+    write_balks config c.args.run.now.node c.args.run.now.known c.args.link c.output-output.result.now _ _ c.in-Balked.ensures.adds
+    c.output-output.ensures.machine some carries
 
 pub returns-in-Failed-clause-keeps : goal.returns-in-Failed-clause-keeps
 returns-in-Failed-clause-keeps g c = λ config carries.

@@ -1,4 +1,4 @@
-use Rattle.std.proofs.Common.{[], Option, refl, ap, sym, subst}
+use Rattle.std.proofs.Common.{[], Option, arith, refl, ap, sym, subst}
 use Rattle.hb_model.specs.Machine.{fresh}
 use Rattle.hb_model.specs.Runs.{begins}
 use Rattle.hb_node.specs.State.{State}
@@ -19,6 +19,7 @@ returns-clause-carries c =
       run = begins refl refl;
       trace_is = refl;
       goes_on = refl;
+      numbered = omega arith;
       config = ap (λ (s : State). s.config) begun.node;
       shows = begun.shows;
       knows = subst (λ (o : Option Known). Knows o (fresh config)) (sym begun.known) refl;

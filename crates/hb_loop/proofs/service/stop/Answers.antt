@@ -11,7 +11,7 @@ use Rattle.hb_loop.proofs.service.stop.Goals as goal
 pub returns-then-is_none-clause-over : goal.returns-then-is_none-clause-over
 returns-then-is_none-clause-over g c = λ config falls.
     let none : c.args.run.now.known ≡ None = search rules in
-    ends_none config c.args.run.now _ none falls
+    ends_none config c.args.cause c.args.run.now _ none falls
 
 pub returns-in-Some-Close-clause-over : goal.returns-in-Some-Close-clause-over
 returns-in-Some-Close-clause-over g c = λ config falls.

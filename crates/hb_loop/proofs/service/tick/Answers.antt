@@ -1,4 +1,4 @@
-use Rattle.std.proofs.Common.{ℕ, Option, IfSome, sym, subst, rules}
+use Rattle.std.proofs.Common.{ℕ, ◌≤◌, Option, IfSome, sym, subst, rules}
 use Rattle.hb_loop.specs.Reckons.{Reckons, Finished, one_less}
 use Rattle.hb_loop.specs.declared.turns.ServeEnd.TheVariants as ends
 use Rattle.hb_loop.specs.Stands.{Falls}
@@ -23,14 +23,15 @@ returns-clause-hears g c = λ config told.
     (hears_tick config c.args.run.now.node c.tick.new.self c.args.run.now.known _ c.tick.ensures.enters told)
 
 pub returns-then-is_last-clause-turned : goal.returns-then-is_last-clause-turned
-returns-then-is_last-clause-turned g c = λ config told stated n had turns.
-    tick_ends stated c.args.ticks.now n c.args.run.now.links c.args.run.now.wanting turns _ (search rules) had
+returns-then-is_last-clause-turned g c = λ config told stated n had turns within.
+    tick_ends stated c.args.ticks.now n c.args.run.now.links c.args.run.now.wanting turns _ (search rules) within had
 
 pub returns-in_err-make_acts-clause-turned : goal.returns-in_err-make_acts-clause-turned
 returns-in_err-make_acts-clause-turned g c = λ config told stated n had.
     let run = c.args.run.now in
-    let finished : (turns : ℕ) → Finished stated turns ends.NoMemory c.make_acts.new.run (g.W.World.trace c.make_acts.new.world) =
-    (λ turns. lack_finishes stated (one_less c.args.ticks.now) n _ _ turns _
+    let finished : (turns : ℕ) → stated.waits ≤ turns
+    → Finished stated.ticks turns ends.NoMemory c.make_acts.new.run (g.W.World.trace c.make_acts.new.world) =
+    (λ turns within. lack_finishes stated (one_less c.args.ticks.now) n _ _ turns _ within
     ((c.in_err-make_acts.ensures {u = tt}).passes config
     (hears_tick config run.node c.tick.new.self run.known _ c.tick.ensures.enters told) stated (one_less c.args.ticks.now) n
     (tick_on stated c.args.ticks.now n run.links run.wanting _ (search rules) had))) in

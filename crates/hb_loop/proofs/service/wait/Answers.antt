@@ -2,7 +2,8 @@ use Rattle.hb_loop.proofs.Waiting.{wait_settles}
 use Rattle.std.proofs.Common.{◌+◌, refl}
 use Rattle.hb_loop.specs.declared.turns.ServeEnd.TheVariants as ends
 use Rattle.hb_loop.proofs.Counted.{passes_none}
-use Rattle.hb_loop.proofs.Turning.{wait_on, wait_ticks, wait_ends, lack_finishes, no_fault}
+use Rattle.hb_loop.specs.Reckons.{one_wait_more}
+use Rattle.hb_loop.proofs.Turning.{wait_on, wait_ticks, wait_ends, lack_finishes, no_wait, no_fault}
 use Rattle.hb_world.specs.declared.entry.Woken.TheVariants as woken
 use Rattle.hb_loop.proofs.Trying.{waited, tick_tells}
 use Rattle.hb_loop.proofs.service.wait.Goals as goal
@@ -38,7 +39,7 @@ returns-in-Tick-clause-turned g c = λ config idle tried carries stated n had.
     c.tick.ensures.turned config
     (tick_tells config c.args.run.now.node c.args.run.now.known c.wait.new.ready woken.Tick _ _ c.in-Tick.ensures.adds idle
     (wait_settles config c.args.run.now.node c.args.run.now.known c.wait.new.ready woken.Tick _ idle tried) carries)
-    stated (n + 2)
+    (one_wait_more stated) (n + 2)
     (wait_ticks stated c.args.ticks.now n c.args.run.now.links c.args.run.now.wanting c.wait.new.ready _ _ c.in-Tick.ensures.adds had)
 
 pub returns-in-Tick-clause-faults : goal.returns-in-Tick-clause-faults
@@ -46,16 +47,17 @@ returns-in-Tick-clause-faults g c =
     no_fault _ _ _ _ c.tick.ensures.stops c.tick.ensures.faults c.in-Tick.ensures.counts
 
 pub returns-in-Stop-clause-turned : goal.returns-in-Stop-clause-turned
-returns-in-Stop-clause-turned g c = λ config idle tried carries stated n had turns.
+returns-in-Stop-clause-turned g c = λ config idle tried carries stated n had turns within.
     wait_ends stated c.args.ticks.now n c.args.run.now.links c.args.run.now.wanting c.wait.new.ready woken.Stop ends.Stopped turns _ _
-    c.in-Stop.ensures.adds refl (λ trace so. (so, tt)) had
+    c.in-Stop.ensures.adds refl (λ trace so. (so, tt)) within had
 
 pub returns-in-Failed-clause-turned : goal.returns-in-Failed-clause-turned
-returns-in-Failed-clause-turned g c = λ config idle tried carries stated n had turns.
+returns-in-Failed-clause-turned g c = λ config idle tried carries stated n had turns within.
     wait_ends stated c.args.ticks.now n c.args.run.now.links c.args.run.now.wanting c.wait.new.ready woken.Failed ends.WorldFault turns
-    _ _ c.in-Failed.ensures.adds refl (λ trace so. (so, tt)) had
+    _ _ c.in-Failed.ensures.adds refl (λ trace so. (so, tt)) within had
 
 pub returns-in-NoMemory-clause-turned : goal.returns-in-NoMemory-clause-turned
-returns-in-NoMemory-clause-turned g c = λ config idle tried carries stated n had turns.
-    lack_finishes stated c.args.ticks.now n c.args.run.now.links c.args.run.now.wanting turns _
-    (passes_none c.args.run.now.links c.args.run.now.wanting _ _ c.in-NoMemory.ensures.adds stated c.args.ticks.now n had)
+returns-in-NoMemory-clause-turned g c = λ config idle tried carries stated n had turns within.
+    lack_finishes (one_wait_more stated) c.args.ticks.now n c.args.run.now.links c.args.run.now.wanting turns _ within
+    (no_wait stated c.args.ticks.now n _ _ _
+    (passes_none c.args.run.now.links c.args.run.now.wanting _ _ c.in-NoMemory.ensures.adds stated c.args.ticks.now n had))
