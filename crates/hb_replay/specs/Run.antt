@@ -10,8 +10,8 @@ use Rattle.hb_script.specs.Script.{lines}
 use Rattle.hb_model.specs.declared.config.NodeConfig.{NodeConfig}
 use Rattle.hb_loop.specs.declared.turns.ServeEnd.{ServeEnd}
 use Rattle.hb_loop.specs.declared.turns.ServeEnd.TheVariants as ends
-use Rattle.hb_loop.specs.Ends.{EndsAs, SpendsTurns, was_wanting}
-use Rattle.hb_loop.specs.Lawful.{Lawful, NoneLives}
+use Rattle.hb_loop.specs.Ends.{was_wanting}
+use Rattle.hb_loop.specs.Lawful.{IsServed}
 use Rattle.hb_report.specs.Report.{report}
 use Rattle.hb_report.specs.Totals.{totals_of}
 use Rattle.hb_words.specs.Replay.{Replay}
@@ -28,21 +28,18 @@ serve_end replays.Stopped = ends.Stopped
 serve_end replays.WorldFault = ends.WorldFault
 serve_end replays.TurnsSpent = ends.TurnsSpent
 
--- a run that is asked for so left this trace, which is lawful; it ended so, within its turns, and memory never lacked
+-- a run that is asked for so was served, left this trace and ended so, and memory never lacked
 pub record IsRun (r : Replay) (end : ReplayEnd) (trace : List Entry) : Type 0 where
-  pub lawful : Lawful (config_of r) trace
-  pub closed : NoneLives trace
-  pub ends : EndsAs None (serve_end end) trace
-  pub turns : SpendsTurns r.turns (serve_end end) trace
+  pub served : IsServed (config_of r) None r.turns (serve_end end) trace
   pub not_wanting : was_wanting trace ≡ false
 
 -- what is told of it
 abbrev pub report_of : Replay → List Entry → List ℕ
 report_of r trace = report (record { trace = r.trace; brief = r.brief }) (totals_of trace) trace
 
--- nothing was done, or what was done is lawful
+-- nothing was done, or a run was served, however it ended
 abbrev pub DoneLawfully : Replay → List Entry → Type 0
-DoneLawfully r trace = (trace ≡ []) ⊎ Lawful (config_of r) trace
+DoneLawfully r trace = (trace ≡ []) ⊎ ((end : ServeEnd) × IsServed (config_of r) None r.turns end trace)
 
 -- The script's world behind a replay of this text: its lines are the text's, and its trace is that of the run that is told
 abbrev pub Replays : Replay → List ℕ → ScriptState → Result Replayed (Or ScriptFault) → Type 0

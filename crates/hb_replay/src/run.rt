@@ -2,8 +2,8 @@
 
 ghost use Rattle.std.specs.Prelude.{◌≡◌, [], false, None, IfOk};
 ghost use Rattle.hb_base.specs.Outcome.{Answers};
-ghost use Rattle.hb_loop.specs.Ends.{EndsAs, SpendsTurns, was_wanting};
-ghost use Rattle.hb_loop.specs.Lawful.{Lawful, NoneLives};
+ghost use Rattle.hb_loop.specs.Ends.{was_wanting};
+ghost use Rattle.hb_loop.specs.Lawful.{IsServed};
 ghost use Rattle.hb_script.specs.Script.{lines};
 ghost use Rattle.hb_words.specs.AskedReplay.{replay_seen};
 ghost use Rattle.hb_replay.specs.Run.{config_of, serve_end, report_of, IsRun, DoneLawfully, Replays};
