@@ -24,6 +24,7 @@ WHOLE = [
     ("streams.py", "hb_streams_rows", "rows.rt"),
     ("conversations.py", "hb_conn_rows", "conversation_rows.rt"),
     ("ip_rows.py", "hb_parts_rows", "ips.rt"),
+    ("front_rows.py", "hb_front_rows", "rows.rt"),
     ("record_rows.py", "hb_records_rows", "spelled.rt"),
     ("request_rows.py", "hb_disco_rows", "written.rt"),
     ("lines_rows.py", "hb_lines_rows", "told.rt"),
