@@ -39,12 +39,16 @@ impl Bytes {
         Bytes { place }
     }
 
+    /// The bytes, in order.
     pub fn as_slice(&self) -> &[u8]
         ensures { result.now ≡ self.now }
     {
         self.place.as_slice()
     }
 
+    /// A copy of these bytes.
+    ///
+    /// Errors: `NoMemory`.
     pub fn copy(&self, alloc: Global) -> Result<Bytes, NoMemory>
         ensures { IfOk result (λ r. r ≡ self.now) }
     {

@@ -23,6 +23,9 @@ pub struct Identity {
 }
 
 impl Identity {
+    /// The same identity, in memory of its own.
+    ///
+    /// Errors: `NoMemory`.
     pub fn copy(&self, alloc: Global) -> Result<Identity, NoMemory>
         ensures { IfOk result (λ r. r ≡ self.now) }
     {

@@ -39,12 +39,14 @@ impl<T> List<T> {
         Ok(List { items })
     }
 
+    /// How many items it has.
     pub fn len(&self) -> usize
         ensures { result ≡ length self.now }
     {
         self.items.len()
     }
 
+    /// Whether it has no item.
     pub fn is_empty(&self) -> bool
         ensures { result ≡ (length self.now == 0) }
     {
@@ -58,6 +60,7 @@ impl<T> List<T> {
         self.items.get(i)
     }
 
+    /// The items, in order.
     pub fn as_slice(&self) -> &[T]
         ensures { result.now ≡ self.now }
     {

@@ -31,6 +31,9 @@ pub enum Note {
 }
 
 impl Note {
+    /// The same note, in memory of its own.
+    ///
+    /// Errors: `NoMemory`.
     pub fn copy(&self, alloc: Global) -> Result<Note, NoMemory>
         ensures { IfOk result (λ r. r ≡ self.now) }
     {

@@ -15,6 +15,9 @@ pub struct Peer {
 }
 
 impl Peer {
+    /// The same peer, in memory of its own.
+    ///
+    /// Errors: `NoMemory`.
     pub fn copy(&self, alloc: Global) -> Result<Peer, NoMemory>
         ensures { IfOk result (λ r. r ≡ self.now) }
     {

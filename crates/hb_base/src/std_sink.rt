@@ -27,6 +27,7 @@ impl<W> Model for StdSink<W> {
 }
 
 impl<W> StdSink<W> {
+    /// A sink that writes to `writer`, of which no put has failed.
     pub fn over(writer: W) -> StdSink<W>
         ensures { result ≡ (writer, 0) }
     {

@@ -27,6 +27,7 @@ impl<R> Model for StdSource<R> {
 }
 
 impl<R> StdSource<R> {
+    /// A source that reads from `reader`, of which no take has failed.
     pub fn over(reader: R) -> StdSource<R>
         ensures { result ≡ (reader, 0) }
     {

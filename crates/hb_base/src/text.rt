@@ -60,6 +60,9 @@ impl Text {
         self.place.as_slice()
     }
 
+    /// A copy of this text.
+    ///
+    /// Errors: `NoMemory`.
     pub fn copy(&self, alloc: Global) -> Result<Text, NoMemory>
         ensures { IfOk result (λ r. r ≡ self.now) }
     {

@@ -46,6 +46,7 @@ impl Buffer {
         self.bytes.len() - (self.end - self.start)
     }
 
+    /// The bytes that are held, in order.
     pub fn as_slice(&self) -> &[u8]
         ensures value { result.now ≡ self.now.items }
         ensures fits { length self.now.items ≤ self.now.size }
@@ -53,6 +54,7 @@ impl Buffer {
         &self.bytes.as_slice()[self.start..self.end]
     }
 
+    /// Adds these bytes at the end.
     pub fn append(&mut self, piece: &[u8])
         requires { length self.old.items + length piece.now ≤ self.old.size }
         ensures { self.new ≡ record self.old { items = self.old.items ++ piece.now } }
@@ -65,6 +67,7 @@ impl Buffer {
         self.end += piece.len();
     }
 
+    /// Removes the first `n` bytes.
     pub fn drop_front(&mut self, n: usize)
         requires { n ≤ length self.old.items }
         ensures { self.new ≡ record self.old { items = drop n self.old.items } }

@@ -17,6 +17,7 @@ pub(crate) struct Head {
 }
 
 impl Head {
+    /// The header that these octets begin with (RFC 9113 section 4.1).
     pub fn of(bytes: &[u8]) -> Head
         requires { 9 ≤ length bytes.now }
         ensures size { result.size ≡ size_at bytes.now }

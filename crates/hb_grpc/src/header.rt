@@ -37,6 +37,7 @@ impl Header {
         }
     }
 
+    /// The bytes that have come of it, in order.
     pub fn as_slice(&self) -> &[u8]
         ensures value { result.now ≡ self.now }
         ensures short { length self.now ≤ 5 }

@@ -52,6 +52,7 @@ impl<T> ByName<T> {
         self.items.len()
     }
 
+    /// Whether a value stands under a name.
     pub fn contains(&self, name: &Text) -> bool
         ensures { result ≡ map.contains_key self.now name.now }
     {

@@ -34,6 +34,9 @@ pub(crate) struct Run {
 }
 
 impl Run {
+    /// A run in which nothing happened yet, with room for one read.
+    ///
+    /// Errors: `NoMemory`.
     pub fn new(alloc: Global, config: NodeConfig) -> Result<Run, NoMemory>
         ensures node { IfOk result (λ run. run.node ≡ fresh_state config (nothing_held config.network config.node)) }
         ensures shows { IfOk result (λ run. Shows run.node (fresh config)) }

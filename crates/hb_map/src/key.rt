@@ -7,6 +7,7 @@ pub trait Key: Copy {
     /// The number that it is.
     ghost number: { Self → ℕ };
 
+    /// The number, in 64 bits.
     fn to_u64(self) -> u64
         ensures { result ≡ number self };
 }

@@ -120,6 +120,7 @@ impl Heard {
 }
 
 impl Inbox {
+    /// No byte has come, and no answer waits.
     pub fn new(alloc: Global) -> Inbox
         ensures { result ≡ record { framer = record { limit = longest_message; held = [] }; waiting = [] } }
     {

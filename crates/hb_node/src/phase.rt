@@ -20,6 +20,7 @@ pub(crate) enum Phase {
 }
 
 impl Phase {
+    /// Whether bytes may come and go.
     pub fn is_live(self) -> bool
         ensures { result ≡ is_live self }
     {

@@ -27,6 +27,7 @@ impl Model for Queue {
 }
 
 impl Queue {
+    /// No byte waits.
     pub fn new(alloc: Global) -> Queue
         ensures { result ≡ [] }
     {

@@ -16,6 +16,7 @@ pub trait Attribute {
 
     ghost matched: { Self → Self.Value → Bool };
 
+    /// Whether this value matches.
     fn matches(&self, value: &Self::Value) -> bool
         ensures { result ≡ matched self.now value.now };
 }

@@ -20,6 +20,7 @@ pub enum Reach {
     Selector,
 }
 
+/// What a policy does with a connection for which it fires.
 #[derive(Clone, Copy, Debug)]
 pub enum Action {
     Allow,

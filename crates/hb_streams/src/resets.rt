@@ -27,6 +27,9 @@ impl Model for Resets {
 }
 
 impl Resets {
+    /// No stream was reset.
+    ///
+    /// Errors: `NoMemory`.
     pub fn new(alloc: Global) -> Result<Resets, NoMemory>
         ensures { IfOk result (λ resets. resets ≡ []) }
     {
@@ -41,6 +44,7 @@ impl Resets {
         self.numbers.push_back(stream);
     }
 
+    /// Whether this stream is one of them.
     pub fn contains(&self, stream: u32) -> bool
         ensures { result ≡ is_among self.now stream }
     {

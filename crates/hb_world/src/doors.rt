@@ -35,6 +35,7 @@ impl<T: Copy> Doors<T> {
         }
     }
 
+    /// What is kept of this door.
     pub fn at(&self, door: Door) -> T
         ensures { result ≡ door_at self.now door }
     {
@@ -45,6 +46,7 @@ impl<T: Copy> Doors<T> {
         }
     }
 
+    /// Keeps this of a door, in place of what was kept.
     pub fn set(&mut self, door: Door, now: T)
         ensures { (d : Door) → door_at self.new d ≡ (if same_door door d then now else door_at self.old d) }
     {

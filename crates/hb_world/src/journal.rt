@@ -28,6 +28,7 @@ impl Model for Journal {
 }
 
 impl Journal {
+    /// No entry, and none is owed.
     pub fn new(alloc: Global) -> Journal
         ensures { result ≡ record { entries = []; owed = 0 } }
     {
@@ -37,6 +38,7 @@ impl Journal {
         }
     }
 
+    /// The entries, in order.
     pub fn entries(&self) -> &[Entry]
         ensures { result.now ≡ self.now.entries }
     {

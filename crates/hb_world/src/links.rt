@@ -21,6 +21,7 @@ pub struct Links {
 }
 
 impl Links {
+    /// No line names a link.
     pub fn new(alloc: Global) -> Links
         ensures states { (l : ℕ) → state_at result l ≡ unnamed }
         ensures names { (l : ℕ) → is_named result l ≡ false }

@@ -29,6 +29,9 @@ impl Model for Ready {
 }
 
 impl Ready {
+    /// Nothing is ready.
+    ///
+    /// Errors: `NoMemory`.
     pub fn new(alloc: Global) -> Result<Ready, NoMemory>
         ensures { IfOk result (λ r. r ≡ []) }
     {
@@ -36,6 +39,7 @@ impl Ready {
         Ok(Ready { items })
     }
 
+    /// Removes all items.
     pub fn clear(&mut self)
         ensures { self.new ≡ [] }
     {
@@ -64,6 +68,7 @@ impl Ready {
         }
     }
 
+    /// The items, in order.
     pub fn items(&self) -> &[ReadyItem]
         ensures items { result.now ≡ self.now }
         ensures most { length self.now ≤ 1024 }

@@ -49,6 +49,7 @@ impl Model for ScriptLink {
 }
 
 impl ScriptLink {
+    /// A link of which no line has said anything.
     pub fn new(alloc: Global) -> ScriptLink
         ensures { result ≡ unnamed }
     {
@@ -110,6 +111,7 @@ impl ScriptLink {
         }
     }
 
+    /// How its opening ended, by the last line that says so: balked as long as none does.
     pub fn finish(&self) -> Finished
         ensures { result ≡ finish_said self.now.said.opening }
     {

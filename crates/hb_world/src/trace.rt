@@ -39,6 +39,7 @@ impl Model for Trace {
 }
 
 impl Trace {
+    /// The empty trace.
     pub fn new(alloc: Global) -> Trace
         ensures { result ≡ [] }
     {
@@ -48,6 +49,7 @@ impl Trace {
         }
     }
 
+    /// The entries, in order.
     pub fn entries(&self) -> &[Entry]
         ensures { result.now ≡ self.now }
     {
