@@ -1,5 +1,5 @@
 //! Conversations of one end with a peer, python3-h2, as a machine that was written from RFC 9113 has this end speak.
-//! bench/conversations.py prints this file.
+//! bench/tables/conversations.py prints this file.
 //!
 //! A conversation begins with the role of this end and a name. `take` are octets that the peer wrote, in the words of
 //! `octets`, and each line with `>` behind it is something that happens: `opened` with the stream, `end` where the peer ends

@@ -1,4 +1,4 @@
-//! Requests, printed by bench/request_rows.py: Google's Protocol Buffers wrote the bytes of each.
+//! Requests, printed by bench/tables/request_rows.py: Google's Protocol Buffers wrote the bytes of each.
 
 /// First requests and answers, and the bytes of each.
 pub const WRITTEN: &[u8] = b"\

@@ -1,4 +1,4 @@
-//! Bytes and headers, printed by bench/front_rows.py: a reader and a writer in Python, from the protocol's text, tell each.
+//! Bytes and headers, printed by bench/tables/front_rows.py: a reader and a writer in Python, from the protocol's text, tell each.
 
 /// Bytes, and the answer to each front of them: from how many bytes on, and which.
 pub const READ: &str = "\

@@ -1,4 +1,4 @@
-//! Frames as another implementation, Debian's python3-hyperframe, writes and reads them. bench/frame_vectors.py
+//! Frames as another implementation, Debian's python3-hyperframe, writes and reads them. bench/tables/frame_vectors.py
 //! prints the lines of the table.
 
 /// The octets of each frame, and the frame as `{:?}` shows it.

@@ -1,4 +1,4 @@
-//! Header blocks, printed by bench/hpack_vectors.py: nghttp2 made or read each of them.
+//! Header blocks, printed by bench/tables/hpack_vectors.py: nghttp2 made or read each of them.
 //!
 //! `n` begins a new decoder. `r` has a block, the sizes of its list and of the table behind it, and its kept headers:
 //! of each `|`, the name, `|` and the value, where `%` and two digits are a byte. `f` has a block, and the offset and number of its fault.

@@ -1,4 +1,4 @@
-//! Responses and lines, printed by bench/lines_rows.py.
+//! Responses and lines, printed by bench/tables/lines_rows.py.
 
 /// Blocks with an empty line between. Behind `<` stand the digits of a response to a node that held nothing at the block's
 /// beginning, behind `>` the lines that it makes, and at the block's end those of what is held. In these, bytes that aren't

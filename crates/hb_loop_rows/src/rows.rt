@@ -1,4 +1,4 @@
-//! Runs of the event loop. bench/loop_rows.py prints this file.
+//! Runs of the event loop. bench/tables/loop_rows.py prints this file.
 //!
 //! A row is its name, the most turns and the tick that ends the run (0: none does), its script, and its trace with its end:
 //! a quote is written as `'`, a newline as `|`.

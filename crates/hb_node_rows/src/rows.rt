@@ -1,4 +1,4 @@
-//! Runs of a node. bench/node_rows.py prints this file.
+//! Runs of a node. bench/tables/node_rows.py prints this file.
 //!
 //! A run begins with its name. `act` is the call that is due. `dialled`, `failed`, `opened`, `ended`, `broke`, `tick` and
 //! `stop` tell the node what happened; `came` octets that came on a link; `output` is all that waits on it, `sent` is that

@@ -1,4 +1,4 @@
-//! Texts of addresses, and prefixes, printed by bench/ip_rows.py: Python's `ipaddress` read each of them.
+//! Texts of addresses, and prefixes, printed by bench/tables/ip_rows.py: Python's `ipaddress` read each of them.
 
 /// Texts, and of each its address in hexadecimal digits and as it is written.
 pub const IPS_READ: &str = "\

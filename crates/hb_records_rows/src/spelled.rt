@@ -1,4 +1,4 @@
-//! Records, printed by bench/record_rows.py: Google's Protocol Buffers wrote their pieces, read each, and wrote it again.
+//! Records, printed by bench/tables/record_rows.py: Google's Protocol Buffers wrote their pieces, read each, and wrote it again.
 
 /// Address records, what each is written as, and what it is read as.
 pub const SPELLED_ADDRESSES: &[u8] = b"\

@@ -1,4 +1,4 @@
-//! Runs of `hbone replay`. bench/replay_rows.py prints this file: a plain model of the formats gives each answer.
+//! Runs of `hbone replay`. bench/tables/replay_rows.py prints this file: a plain model of the formats gives each answer.
 //!
 //! A row is its name, the words behind `replay`, its script, its status, its output and its error text. A quote is
 //! written as `'`, a newline as `|`. A name in angle brackets stands for its part below, and a number, a star and a text

@@ -1,4 +1,4 @@
-//! The target that is known, and its answer. bench/answer_rows.py prints this file: it spells the messages, and has each
+//! The target that is known, and its answer. bench/tables/answer_rows.py prints this file: it spells the messages, and has each
 //! answer as it was worked out by hand.
 
 /// Words, the input, and the answer. A line that begins with `#` says what the next one is.

@@ -1,4 +1,4 @@
-//! Policies over all ten attributes of a match, and what they answer. bench/attribute_rows.py prints this file.
+//! Policies over all ten attributes of a match, and what they answer. bench/tables/attribute_rows.py prints this file.
 
 /// The connections of which each policy is asked: the words of each, ended by `|`.
 pub const CONNECTIONS: [&str; 8] = [

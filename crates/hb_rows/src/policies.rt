@@ -1,4 +1,4 @@
-//! Policies, and what they answer. bench/policy_rows.py prints this file: it spells the messages, and has each answer as
+//! Policies, and what they answer. bench/tables/policy_rows.py prints this file: it spells the messages, and has each answer as
 //! it was worked out by hand.
 
 /// The input, and the answers for two peers with an identity and for one without. A line that begins with `#` says what

@@ -1,4 +1,4 @@
-//! Inputs that are refused, and resources that are. bench/refusal_rows.py prints this file: it spells the messages, and has each
+//! Inputs that are refused, and resources that are. bench/tables/refusal_rows.py prints this file: it spells the messages, and has each
 //! number, reason and line as it was worked out by hand.
 
 /// The input, and the line that tells why it is refused. A line that begins with `#` says what the next one is.

@@ -1,4 +1,4 @@
-//! What `show` prints. bench/show_rows.py prints this file: it spells the messages and the lines, and has what each says as it was
+//! What `show` prints. bench/tables/show_rows.py prints this file: it spells the messages and the lines, and has what each says as it was
 //! worked out by hand.
 
 /// The input, and the lines. A line that begins with `#` says what the next one is.

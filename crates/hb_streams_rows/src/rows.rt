@@ -1,4 +1,4 @@
-//! What one end of a connection answers, as a machine that was written from RFC 9113 answers it. bench/streams.py prints
+//! What one end of a connection answers, as a machine that was written from RFC 9113 answers it. bench/tables/streams.py prints
 //! this file.
 //!
 //! A line has the role of the end, and then its moves in order: their letters, `@`, the number of the stream, `=`, what each

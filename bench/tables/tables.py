@@ -1,0 +1,64 @@
+#!/usr/bin/python3
+"""Compares the tables of tests that scripts here print with the files in which they stand, and names those that differ.
+
+usage: bench/tables/tables.py        (after `apt-get install libnghttp2-14 python3-h2 python3-hpack python3-hyperframe python3-protobuf
+                              protobuf-compiler`)
+"""
+
+import pathlib
+import shutil
+import subprocess
+import sys
+import tempfile
+
+TOP = pathlib.Path(__file__).resolve().parents[2]
+
+# Each script, the crate, and the file of it that the script prints, whole or as a part.
+WHOLE = [
+    ("answer_rows.py", "hb_rows", "answers.rt"),
+    ("policy_rows.py", "hb_rows", "policies.rt"),
+    ("attribute_rows.py", "hb_rows", "attributes.rt"),
+    ("refusal_rows.py", "hb_rows", "refusals.rt"),
+    ("show_rows.py", "hb_rows", "shows.rt"),
+    ("hpack_vectors.py", "hb_http2_rows", "hpack_vectors.rt"),
+    ("streams.py", "hb_streams_rows", "rows.rt"),
+    ("conversations.py", "hb_conn_rows", "conversation_rows.rt"),
+    ("ip_rows.py", "hb_parts_rows", "ips.rt"),
+    ("front_rows.py", "hb_front_rows", "rows.rt"),
+    ("record_rows.py", "hb_records_rows", "spelled.rt"),
+    ("request_rows.py", "hb_disco_rows", "written.rt"),
+    ("lines_rows.py", "hb_lines_rows", "told.rt"),
+    ("node_rows.py", "hb_node_rows", "rows.rt"),
+    ("loop_rows.py", "hb_loop_rows", "rows.rt"),
+    ("replay_rows.py", "hb_replay_rows", "rows.rt"),
+]
+PARTS = [("frame_vectors.py", "hb_http2_rows", "frame_vectors.rt")]
+
+
+def printed_by(script):
+    return subprocess.run([sys.executable, TOP / "bench/tables" / script], check=True, stdout=subprocess.PIPE, text=True).stdout
+
+
+def laid_out(text, crate, file):
+    """The text as `rt fmt` lays it out in its crate."""
+    with tempfile.TemporaryDirectory() as room:
+        folder = pathlib.Path(room) / "crates" / crate
+        shutil.copytree(TOP / "crates" / crate / "src", folder / "src")
+        shutil.copy(TOP / "crates.txt", room)
+        (folder / "src" / file).write_text(text)
+        subprocess.run(["git", "init", "-q"], cwd=room, check=True)
+        subprocess.run(["rt", "fmt"], cwd=folder, check=True, stdout=subprocess.DEVNULL)
+        return (folder / "src" / file).read_text()
+
+
+def main():
+    differ = 0
+    for script, crate, file in WHOLE + PARTS:
+        printed, stands = printed_by(script), (TOP / "crates" / crate / "src" / file).read_text()
+        same = stands == laid_out(printed, crate, file) if (script, crate, file) in WHOLE else printed and printed in stands
+        print(f"tables: {script}: crates/{crate}/src/{file} {'is what it prints' if same else 'DIFFERS from what it prints'}")
+        differ += not same
+    return 1 if differ else 0
+
+
+raise SystemExit(main())
