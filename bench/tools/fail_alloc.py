@@ -11,8 +11,8 @@ import tempfile
 
 TOP = pathlib.Path(__file__).resolve().parents[2]
 PROGRAM = TOP / "crates/hbone/out/hbone"
-SAMPLE = (TOP / "crates/hbone/stdin").read_bytes()
-SCRIPT = (TOP / "crates/hbone/script").read_bytes()
+SAMPLE = (TOP / "examples/responses").read_bytes()
+SCRIPT = (TOP / "examples/script").read_bytes()
 REPLAY = ["replay", "--node", "n1", "--id", "z1", "--discovery", "10.0.0.1:15010"]
 AS_C = "spiffe://cluster.local/ns/a/sa/c"
 WANTING_LINE = b"hbone: out of memory\n"
