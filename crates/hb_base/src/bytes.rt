@@ -24,6 +24,8 @@ impl Model for Bytes {
 
 impl Bytes {
     /// A copy of these bytes.
+    ///
+    /// Errors: `NoMemory`.
     pub fn of(alloc: Global, b: &[u8]) -> Result<Bytes, NoMemory>
         ensures { IfOk result (λ r. r ≡ b.now) }
     {

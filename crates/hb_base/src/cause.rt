@@ -68,7 +68,8 @@ impl Cause {
         }
     }
 
-    /// The cause's number, where it has one: an error code, a status, a fault or a reason.
+    /// The cause's number: an error code, a status, a fault or a reason. `None` for each cause that has no number in
+    /// its variant.
     pub fn number(&self) -> Option<u32>
         ensures { result ≡ number_of self.now }
     {

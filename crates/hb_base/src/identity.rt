@@ -148,8 +148,10 @@ fn name(alloc: Global, text: &[u8]) -> Result<Text, NoMemory>
     }
 }
 
-/// Reads an identity: `spiffe://TD/ns/NS/sa/SA`, each of TD, NS and SA one or more of `A-Z a-z 0-9 . _ -`.
-/// `None` for every other text.
+/// Reads an identity: `spiffe://TD/ns/NS/sa/SA`, each of TD, NS and SA one or more of `A-Z a-z 0-9 . _ -` (the SPIFFE
+/// ID specification, section 2). `None` for every other text.
+///
+/// Errors: `NoMemory`.
 pub fn read_identity(alloc: Global, b: &[u8]) -> Result<Option<Identity>, NoMemory>
     ensures { IfOk result (λ r. r ≡ identity_of b.now) }
 {

@@ -79,8 +79,10 @@ pub(crate) fn text_of(alloc: Global, ip: Ip) -> Result<String, NoMemory>
     }
 }
 
-/// Writes the text of an address behind the bytes of `out`: an IPv6 address by RFC 5952, always as
-/// hexadecimal groups, without brackets. After want of memory `out` is unchanged.
+/// Writes the text of an address behind the bytes of `out`: an IPv6 address by RFC 5952 section 4, always as
+/// hexadecimal groups, without brackets.
+///
+/// Errors: `NoMemory`, and then `out` is unchanged.
 pub fn put_ip(alloc: Global, ip: Ip, out: &mut Vec<u8>) -> Result<(), NoMemory>
     ensures { out.new.items ≡ (if is_ok result then out.old.items ++ ip_text ip else out.old.items) }
 {

@@ -32,6 +32,8 @@ impl<T> List<T> {
     }
 
     /// The empty list, with memory for so many items.
+    ///
+    /// Errors: `NoMemory`.
     pub fn with_capacity(alloc: Global, items: usize) -> Result<List<T>, NoMemory>
         ensures { IfOk result (λ r. r ≡ []) }
     {
@@ -53,7 +55,7 @@ impl<T> List<T> {
         self.items.is_empty()
     }
 
-    /// The item at place `i`, counted from 0.
+    /// The item at place `i`, counted from 0. `None` exactly where the list has at most `i` items.
     pub fn get(&self, i: usize) -> Option<&T>
         ensures { option_copied result ≡ slice_get self.now i }
     {
@@ -69,7 +71,9 @@ impl<T> List<T> {
 }
 
 impl<T: Drop> List<T> {
-    /// Adds an item at the end. On an error the item is dropped.
+    /// Adds an item at the end.
+    ///
+    /// Errors: `NoMemory`, and then the list is unchanged and the item dropped.
     pub fn push(&mut self, item: T) -> Result<(), NoMemory>
         ensures ok { OnOk result (self.new ≡ self.old ++ item ∷ []) }
         ensures err { OnErr result (self.new ≡ self.old) }
@@ -78,7 +82,9 @@ impl<T: Drop> List<T> {
         Ok(())
     }
 
-    /// Puts an item at place `i`, in front of all that stand there or behind. On an error the item is dropped.
+    /// Puts an item at place `i`, in front of all that stand there or behind.
+    ///
+    /// Errors: `NoMemory`, and then the list is unchanged and the item dropped.
     pub fn insert(&mut self, i: usize, item: T) -> Result<(), NoMemory>
         requires { i ≤ length self.old }
         ensures ok { OnOk result (self.new ≡ take i self.old ++ item ∷ drop i self.old) }

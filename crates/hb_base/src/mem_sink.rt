@@ -41,6 +41,8 @@ impl Model for MemSink {
 
 impl MemSink {
     /// An empty sink with room for so many bytes, whose calls of these numbers fail.
+    ///
+    /// Errors: `NoMemory`.
     pub fn new(alloc: Global, room: usize, fails: &[u64]) -> Result<MemSink, NoMemory>
         ensures { IfOk result (λ s. s ≡ record { written = []; room = room; fails = fails.now; calls = 0; faults = 0 }) }
     {

@@ -40,6 +40,8 @@ impl Model for MemSource {
 
 impl MemSource {
     /// A source of these bytes, whose calls of these numbers fail.
+    ///
+    /// Errors: `NoMemory`.
     pub fn over(alloc: Global, bytes: &[u8], fails: &[u64]) -> Result<MemSource, NoMemory>
         ensures { IfOk result (λ s. s ≡ record { left = bytes.now; fails = fails.now; calls = 0; faults = 0 }) }
     {

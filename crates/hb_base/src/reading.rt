@@ -44,8 +44,10 @@ fn zeros(alloc: Global, count: usize) -> Result<Vec<u8>, NoMemory>
     vec![in alloc; 0u8; count]
 }
 
-/// Reads a source to its end, which has to come within `limit` bytes. `TooLong` where more bytes came,
-/// `Failed` at the first take that failed. At an error what was read is lost.
+/// Reads a source to its end, which has to come within `limit` bytes.
+///
+/// Errors: `TooLong` where more bytes came, `Failed` at the first take that failed, and `NoMemory`. What was read is
+/// lost then.
 pub fn read_all<S: Source>(alloc: Global, source: &mut S, limit: usize) -> Result<Bytes, ReadStop>
     ensures whole { IfOk result (λ b. IfSome (S.left source.old) (λ left. b ≡ left)) }
     ensures within { IfOk result (λ b. length b ≤ limit) }

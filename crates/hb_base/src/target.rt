@@ -67,9 +67,11 @@ fn bracketed_target(inner: &[u8]) -> Result<Target, BadTarget>
     target_with(read_v6(address), port)
 }
 
-/// Reads a target, `IPv4:PORT` or `[IPv6]:PORT`. The text is cut at its last colon; a text that begins with
-/// a bracket is cut where the bracket first closes, and a colon has to follow. `NoPort` where there is no
-/// such cut, then `BadIp` where the address isn't IPv4 text, or IPv6 text in brackets, then `BadPort`.
+/// Reads a target, `IPv4:PORT` or `[IPv6]:PORT`. The text is cut at its last colon; a text that begins with a bracket
+/// is cut where the bracket first closes, and a colon has to follow.
+///
+/// Errors, the first that applies: `NoPort` where there is no such cut, `BadIp` where the address isn't IPv4 text, or
+/// IPv6 text in brackets, and `BadPort` where the port isn't one to five decimal digits of value 1 to 65,535.
 #[tactic(auto, unfolding(crate::specs::TargetText::target_of))]
 pub fn read_target(b: &[u8]) -> Result<Target, BadTarget>
     ensures { result ≡ target_of b.now }
@@ -94,8 +96,9 @@ fn target_string(alloc: Global, target: Target) -> Result<String, NoMemory>
     }
 }
 
-/// Writes a target behind the bytes of `out`, an IPv6 address by RFC 5952 in brackets. After want of
-/// memory `out` is unchanged.
+/// Writes a target behind the bytes of `out`, an IPv6 address by RFC 5952 section 4 in brackets.
+///
+/// Errors: `NoMemory`, and then `out` is unchanged.
 pub fn put_target(alloc: Global, target: Target, out: &mut Vec<u8>) -> Result<(), NoMemory>
     ensures { out.new.items ≡ (if is_ok result then out.old.items ++ target_text target else out.old.items) }
 {

@@ -32,6 +32,8 @@ impl Model for Text {
 
 impl Text {
     /// A copy of these bytes as text; `None` exactly where they aren't UTF-8 (RFC 3629).
+    ///
+    /// Errors: `NoMemory`.
     pub fn of(alloc: Global, b: &[u8]) -> Result<Option<Text>, NoMemory>
         ensures found { IfOk result (λ r. IsSome r ↔ IsUtf8 b.now) }
         ensures value { IfOk result (λ r. r ≡ text_of b.now) }

@@ -12,8 +12,10 @@ use thiserror::Error;
 #[error("a write failed")]
 pub struct WriteFault;
 
-/// Writes all of these bytes. It gives up at the first put that fails, and then a part of them, from the
-/// front, is written.
+/// Writes all of these bytes.
+///
+/// Errors: `WriteFault` at the first put that fails, after which nothing more is put; a part of the bytes, from the
+/// front, is written then.
 pub fn put_all<K: Sink>(sink: &mut K, bytes: &[u8]) -> Result<(), WriteFault>
     ensures bytes { WritesAll (K.written sink.old) (K.written sink.new) bytes.now result }
     ensures later { K.faults sink.old ≤ K.faults sink.new }

@@ -72,8 +72,8 @@ impl Blocks {
         }
     }
 
-    /// The stream of the block that isn't whole yet: behind its HEADERS only its CONTINUATION may come
-    /// (RFC 9113 section 6.10).
+    /// The stream of the block that isn't whole yet: behind its HEADERS only its CONTINUATION may come (RFC 9113
+    /// section 6.10). `None` where no block is open.
     pub fn open(&self) -> Option<u32>
         ensures { result ≡ stream_of self.now.opening }
     {
@@ -90,10 +90,11 @@ impl Blocks {
         &self.headers
     }
 
-    /// A HEADERS frame came (RFC 9113 section 6.2). Gives its block where END_HEADERS says that it is whole.
+    /// A HEADERS frame came (RFC 9113 section 6.2). Gives its block where END_HEADERS says that it is whole; `None`
+    /// where it says that more is to come.
     ///
-    /// Errors: `TooLong` where the fragment has more than 32,768 octets, `Compression` where a block that is whole
-    /// is refused.
+    /// Errors: `TooLong` where the fragment has more than 32,768 octets, `Compression` where a block that is whole is
+    /// refused (RFC 7541), and `NoMemory`. Each ends the connection: no call follows.
     pub fn begin(
         &mut self,
         stream: u32,
@@ -119,10 +120,10 @@ impl Blocks {
     }
 
     /// A CONTINUATION frame of the open block came (RFC 9113 section 6.10). Gives the block where END_HEADERS says
-    /// that it is whole.
+    /// that it is whole; `None` where it says that more is to come.
     ///
     /// Errors: `TooLong` where the fragments have more than 32,768 octets together, `Compression` where a block that
-    /// is whole is refused.
+    /// is whole is refused (RFC 7541), and `NoMemory`. Each ends the connection: no call follows.
     pub fn go_on(
         &mut self,
         fragment: &[u8],

@@ -112,8 +112,10 @@ impl Canonical for AddressRecord {
     }
 }
 
-/// Appends an address record in its canonical spelling, from which a record that reading gave is read again. After want
-/// of memory `out` is unchanged.
+/// Appends an address record in its canonical spelling, from which a record that reading gave is read again (the
+/// message `Address` of Istio's ztunnel).
+///
+/// Errors: `NoMemory`, and then `out` is unchanged.
 pub fn put_address(alloc: Global, r: &AddressRecord, out: &mut Vec<u8>) -> Result<(), NoMemory>
     ensures ok { OnOk result (out.new.items ≡ out.old.items ++ canonical_address r.now) }
     ensures err { OnErr result (out.new.items ≡ out.old.items) }

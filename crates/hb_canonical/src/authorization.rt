@@ -138,8 +138,10 @@ impl Canonical for Authorization {
     }
 }
 
-/// Appends an authorization policy in its canonical spelling, from which a policy that reading gave is read again. After
-/// want of memory `out` is unchanged.
+/// Appends an authorization policy in its canonical spelling, from which a policy that reading gave is read again
+/// (the message `Authorization` of Istio's ztunnel).
+///
+/// Errors: `NoMemory`, and then `out` is unchanged.
 pub fn put_authorization(
     alloc: Global,
     a: &Authorization,

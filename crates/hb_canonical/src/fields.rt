@@ -16,11 +16,15 @@ pub trait Canonical {
     ghost spelled: { Self → list ℕ };
 
     /// Appends the spelling.
+    ///
+    /// Errors: `NoMemory`; what was appended to `out` isn't said then.
     fn put(&self, alloc: Global, out: &mut Vec<u8>) -> Result<(), NoMemory>
         ensures { OnOk result (out.new.items ≡ out.old.items ++ spelled self.now) };
 }
 
 /// Appends a value as a field, one with no bytes too.
+///
+/// Errors: `NoMemory`; what was appended to `out` isn't said then.
 pub fn put_value<T: Canonical>(
     alloc: Global,
     number: u32,
@@ -37,6 +41,8 @@ pub fn put_value<T: Canonical>(
 }
 
 /// Appends each entry of a repeated field.
+///
+/// Errors: `NoMemory`; what was appended to `out` isn't said then.
 pub fn put_entries<T: Canonical>(
     alloc: Global,
     number: u32,
@@ -54,6 +60,8 @@ pub fn put_entries<T: Canonical>(
 }
 
 /// Appends a text as a field; nothing for the empty text.
+///
+/// Errors: `NoMemory`; what was appended to `out` isn't said then.
 pub fn put_text(alloc: Global, number: u32, text: &Text, out: &mut Vec<u8>) -> Result<(), NoMemory>
     requires some { 1 ≤ number }
     requires small { number < 2 ^ 29 }

@@ -69,6 +69,8 @@ impl Canonical for GatewayAddress {
 }
 
 /// Appends a gateway as a field, where there is one.
+///
+/// Errors: `NoMemory`; what was appended to `out` isn't said then.
 pub fn put_gateway(
     alloc: Global,
     number: u32,

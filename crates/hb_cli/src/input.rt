@@ -143,8 +143,11 @@ fn numbered(number: u64, why: Or<InputWhy>) -> Or<Refused>
     }
 }
 
-/// What an input leaves at a node of a network, or the first of its messages that is refused. Lines are told
-/// where `tells`.
+/// What an input leaves at a node of a network: gRPC messages, one behind the other (gRPC over HTTP/2,
+/// "Length-Prefixed-Message"). Lines are told where `tells`.
+///
+/// Errors: `Refused::Message` with the number of the first message that is refused and, as the first that applies,
+/// `Compressed`, `TooLong` (more than 67,108,864 bytes), `CutShort` or `NotAResponse`; and `NoMemory`.
 pub fn read_input(
     alloc: Global,
     network: Text,

@@ -69,6 +69,8 @@ fn row_line(alloc: Global, fault: ScriptFault) -> Result<String, NoMemory>
 
 impl Refused {
     /// The line that tells it.
+    ///
+    /// Errors: `NoMemory`.
     pub fn line(self, alloc: Global) -> Result<String, NoMemory>
         ensures { IfOk result (λ l. string_bytes l ≡ stop_line (stops.Refused self)) }
     {

@@ -77,7 +77,9 @@ fn core(alloc: Global, role: Role, out: Outgoing) -> Result<Core, NoMemory>
 }
 
 impl Conn {
-    /// A server's end; its SETTINGS are put.
+    /// A server's end; its SETTINGS are put (RFC 9113 section 3.4).
+    ///
+    /// Errors: `NoMemory`.
     pub fn server(alloc: Global) -> Result<Conn, NoMemory>
         ensures { IfOk result (λ c. c ≡ fresh_server) }
     {
@@ -93,7 +95,9 @@ impl Conn {
         })
     }
 
-    /// A client's end; its preface and its SETTINGS are put.
+    /// A client's end; its preface and its SETTINGS are put (RFC 9113 section 3.4).
+    ///
+    /// Errors: `NoMemory`.
     pub fn client(alloc: Global) -> Result<Conn, NoMemory>
         ensures { IfOk result (λ c. c ≡ fresh_client) }
     {
@@ -154,8 +158,10 @@ impl Conn {
         Ok(found)
     }
 
-    /// What happened next, None where nothing more did: no whole frame is left that makes a happening, `room` is below
-    /// 256, or a connection error was told. After NoMemory the connection isn't used again.
+    /// What happened next. `None` where nothing more did: no whole frame is left that makes a happening, `room` is
+    /// below 256, or a connection error was told.
+    ///
+    /// Errors: `NoMemory`, after which the connection isn't used again.
     pub fn next_happening(&mut self) -> Result<Option<Happening<'_>>, NoMemory>
         ensures* after { sem 𝓛 (EndsTold self.entry result) }
     {
@@ -194,11 +200,12 @@ impl Conn {
         self.receiver.core.wrote(n);
     }
 
-    /// Opens the next stream of this client with these headers, whose block goes in one HEADERS frame; `end` ends this
-    /// end's side at once. After NoMemory the connection isn't used again (RFC 9113 sections 5.1.1 and 8.5).
+    /// Opens the next stream of this client with these headers, whose block goes in one HEADERS frame; `end` ends
+    /// this end's side at once (RFC 9113 sections 5.1.1 and 8.5).
     ///
-    /// Errors: Full where 100 streams are open or half-closed, or as many as the peer's SETTINGS_MAX_CONCURRENT_STREAMS;
-    /// Spent where no number is left. Nothing has changed then.
+    /// Errors: `Full` where 100 streams are open or half-closed, or as many as the peer's
+    /// SETTINGS_MAX_CONCURRENT_STREAMS, and `Spent` where no number is left; nothing has changed then. `NoMemory`,
+    /// after which the connection isn't used again.
     pub fn open(&mut self, headers: &List<Header>, end: bool) -> Result<u32, Or<OpenFault>>
         requires client { role self.old ≡ Client }
         requires room { 1024 ≤ room self.old }

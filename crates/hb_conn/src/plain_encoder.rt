@@ -44,7 +44,9 @@ impl PlainEncoder {
         }
     }
 
-    /// The block of the headers.
+    /// The block of the headers (RFC 7541 section 6).
+    ///
+    /// Errors: `NoMemory`, after which the encoder isn't used again.
     #[tactic(auto, using(crate::proofs::Plain::block_short))]
     pub fn block(&mut self, alloc: Global, headers: &List<Header>) -> Result<Vec<u8>, NoMemory>
         ensures block { IfOk result (λ b. b.items ≡ block_of self.old headers.now) }

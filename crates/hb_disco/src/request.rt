@@ -132,9 +132,11 @@ fn answer(
     Ok(request)
 }
 
-/// Appends the first request for resources of a kind by the node of this id, which subscribes to all of them (Envoy xDS
-/// protocol, "How the client specifies what resources to return"): it tells the versions that are held, by the bytes of
-/// their names, one a name, of which the last counts. After want of memory nothing is appended.
+/// Appends the first request for resources of a kind by the node of this id, which subscribes to all of them (Envoy
+/// xDS protocol, "How the client specifies what resources to return"): it tells the versions that are held, by the
+/// bytes of their names, one a name, of which the last counts.
+///
+/// Errors: `NoMemory`, and then nothing is appended.
 pub fn put_first(
     alloc: Global,
     id: &Text,
@@ -149,9 +151,10 @@ pub fn put_first(
     out.extend_from_slice(request.as_slice())
 }
 
-/// Appends the answer to the response of this nonce: it accepts the response, or with a refused name rejects it and tells
-/// that name (Envoy xDS protocol, "ACK/NACK and resource type instance version"). After want of memory nothing is
-/// appended.
+/// Appends the answer to the response of this nonce: it accepts the response, or with a refused name rejects it and
+/// tells that name (Envoy xDS protocol, "ACK/NACK and resource type instance version").
+///
+/// Errors: `NoMemory`, and then nothing is appended.
 pub fn put_answer(
     alloc: Global,
     kind: Kind,

@@ -229,7 +229,10 @@ impl Parts {
     }
 }
 
-/// Reads a response; the first fault in order of bytes, depth first.
+/// Reads a response (Envoy xDS protocol, "Incremental xDS").
+///
+/// Errors: the first in order of bytes, depth first, of `Wire`, where the bytes are no fields, and `Utf8`, where a
+/// string isn't UTF-8; then `UnknownType`, where the type is none of the two kinds; and `NoMemory`.
 #[tactic(auto, unfolding(crate::specs::Response::response_of))]
 pub fn read_response(alloc: Global, bytes: &[u8]) -> Result<Response, Or<ResponseFault>>
     ensures { Answers result (response_of bytes.now) }

@@ -61,7 +61,9 @@ impl Flow {
         }
     }
 
-    /// Gives a new stream its windows, the sending one of the peer's initial size. Without memory nothing changes.
+    /// Gives a new stream its windows, the sending one of the peer's initial size (RFC 9113 section 6.9.2).
+    ///
+    /// Errors: `NoMemory`, and then nothing changes.
     #[tactic(auto, using(crate::proofs::Numbers::numbered_put))]
     pub fn open(&mut self, stream: u32) -> Result<(), NoMemory>
         ensures ok { OnOk result (self.new ≡ opened self.old stream) }
@@ -115,11 +117,11 @@ impl Flow {
         }
     }
 
-    /// Adds the increment of a WINDOW_UPDATE frame on stream 0. `unbegun` octets of DATA that are spent haven't begun,
-    /// and count as not spent.
+    /// Adds the increment of a WINDOW_UPDATE frame on stream 0 (RFC 9113 section 6.9). `unbegun` octets of DATA that
+    /// are spent haven't begun, and count as not spent.
     ///
-    /// Errors: an Overrun where the window, these octets counted, would exceed 2,147,483,647; it tells both sums. The
-    /// window is then unchanged.
+    /// Errors: an `Overrun` where the window, these octets counted, would exceed 2,147,483,647 (section 6.9.1); it
+    /// tells both sums. The window is unchanged then.
     pub fn grant(&mut self, n: u32, unbegun: u32) -> Result<(), Overrun>
         ensures { Rises self.old self.new result (granted self.old n) (counted self.old.sending unbegun) (pos n) }
     {
@@ -223,9 +225,9 @@ impl Flow {
         }
     }
 
-    /// Counts DATA that came, its padding included, against the connection's window.
+    /// Counts DATA that came, its padding included, against the connection's window (RFC 9113 section 6.9).
     ///
-    /// Errors: an Overrun where it exceeds what is granted. The window is then unchanged.
+    /// Errors: an `Overrun` where it exceeds what is granted. The window is unchanged then.
     pub fn take(&mut self, n: u32) -> Result<(), Overrun>
         ensures { Comes self.old self.new result (took self.old n) self.old.taking.granted n }
     {
@@ -265,7 +267,8 @@ impl Flow {
         }
     }
 
-    /// The increment that is to be granted on the connection now: all that is owed, from 32,768 octets on.
+    /// The increment that is to be granted on the connection now: all that is owed. `None` where that is below 32,768
+    /// octets.
     pub fn due(&mut self) -> Option<u32>
         ensures told { result ≡ due_of self.old.taking }
         ensures after { self.new ≡ paid self.old }
@@ -273,7 +276,8 @@ impl Flow {
         self.taking.due()
     }
 
-    /// The increment that is to be granted on a stream now: all that is owed, from 32,768 octets on.
+    /// The increment that is to be granted on a stream now: all that is owed. `None` where that is below 32,768
+    /// octets, and where the stream has no windows.
     #[tactic(auto, using(crate::proofs::Numbers::numbered_written))]
     pub fn due_stream(&mut self, stream: u32) -> Option<u32>
         ensures told { result ≡ due_on self.old stream }

@@ -71,7 +71,10 @@ impl StreamWindows {
         self.sending.give_back(n);
     }
 
-    /// Adds an increment to the sending window.
+    /// Adds an increment to the sending window. `unbegun` octets that are spent count as not spent.
+    ///
+    /// Errors: an `Overrun` where the window, these octets counted, would exceed 2,147,483,647. Nothing has changed
+    /// then.
     pub fn grant(&mut self, n: u32, unbegun: u32) -> Result<(), Overrun>
         ensures { Rises self.old self.new result (record self.old { sending = more self.old.sending n })
             (counted self.old.sending unbegun) (pos n) }
@@ -79,7 +82,10 @@ impl StreamWindows {
         window::grant(&mut self.sending, n, unbegun)
     }
 
-    /// Changes the initial size of the sending window.
+    /// Changes the initial size of the sending window. `unbegun` octets that are spent count as not spent.
+    ///
+    /// Errors: an `Overrun` where the window, these octets counted, would exceed 2,147,483,647. Nothing has changed
+    /// then.
     pub fn resize(&mut self, initial: u32, unbegun: u32) -> Result<(), Overrun>
         requires { initial ≤ largest }
         ensures { Rises self.old self.new result (record self.old { sending = sized initial self.old.sending })
@@ -97,6 +103,8 @@ impl StreamWindows {
     }
 
     /// Takes DATA that came.
+    ///
+    /// Errors: an `Overrun` where it exceeds what is granted. Nothing has changed then.
     pub fn take(&mut self, n: u32) -> Result<(), Overrun>
         ensures { Comes self.old self.new result (record self.old { taking = taken self.old.taking n })
             self.old.taking.granted n }
@@ -112,7 +120,7 @@ impl StreamWindows {
         self.taking.owe(n);
     }
 
-    /// The increment that is to be granted now.
+    /// The increment that is to be granted now. `None` where less than 32,768 octets are owed.
     pub fn due(&mut self) -> Option<u32>
         ensures told { result ≡ due_of self.old.taking }
         ensures after { self.new ≡ record self.old { taking = paid_of self.old.taking } }

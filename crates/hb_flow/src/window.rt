@@ -31,6 +31,9 @@ pub fn spend(window: &mut SendWindow, n: u32)
 }
 
 /// Adds an increment, where the DATA that hasn't begun counts as not spent.
+///
+/// Errors: an `Overrun` where the window, that DATA counted, would exceed 2,147,483,647 (RFC 9113 section 6.9.1). The
+/// window is unchanged then.
 pub fn grant(window: &mut SendWindow, n: u32, unbegun: u32) -> Result<(), Overrun>
     ensures { Rises window.old window.new result (more window.old n) (counted window.old unbegun) (pos n) }
 {
@@ -39,6 +42,9 @@ pub fn grant(window: &mut SendWindow, n: u32, unbegun: u32) -> Result<(), Overru
 }
 
 /// Changes the initial size, where the DATA that hasn't begun counts as not spent.
+///
+/// Errors: an `Overrun` where the window, that DATA counted, would exceed 2,147,483,647 (RFC 9113 section 6.9.2). The
+/// window is unchanged then.
 pub fn resize(window: &mut SendWindow, old: u32, new: u32, unbegun: u32) -> Result<(), Overrun>
     requires last_size { old ≡ window.old.size }
     requires in_range { new ≤ largest }

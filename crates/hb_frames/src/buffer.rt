@@ -27,6 +27,8 @@ impl Model for Buffer {
 
 impl Buffer {
     /// An empty buffer, with the memory for `size` bytes.
+    ///
+    /// Errors: `NoMemory`.
     pub fn new(alloc: Global, size: usize) -> Result<Buffer, NoMemory>
         ensures { IfOk result (λ b. b ≡ record { items = []; size = size }) }
     {

@@ -24,6 +24,8 @@ impl Model for Output {
 
 impl Output {
     /// An empty output for `size` octets.
+    ///
+    /// Errors: `NoMemory`.
     pub fn new(alloc: Global, size: usize) -> Result<Output, NoMemory>
         ensures { IfOk result (λ o. o ≡ record { items = []; size = size }) }
     {

@@ -52,6 +52,8 @@ impl FrameReader {
     ghost use Rattle.hb_frames.specs.Loan.{EndsAsked};
 
     /// A reader of payloads of at most `max` octets.
+    ///
+    /// Errors: `NoMemory`.
     pub fn new(alloc: Global, max: u32) -> Result<FrameReader, NoMemory>
         ensures { IfOk result (λ r. r ≡ record { max = max; held = []; at = 0; last = [] }) }
     {
@@ -97,8 +99,11 @@ impl FrameReader {
         &self.buffer.as_slice()[self.lent_start..self.lent_end]
     }
 
-    /// The frame in front of the octets held, which then aren't held any more. None exactly where they have
-    /// no whole frame and no fault. A fault comes again at every later call.
+    /// The frame in front of the octets held, which then aren't held any more. `None` exactly where they have no
+    /// whole frame and no fault.
+    ///
+    /// Errors: the first refusal that the frame in front can tell alone (RFC 9113 sections 4.2, 6 and 8.4), with its
+    /// code and its place. It comes again at every later call.
     pub fn next_frame(&mut self) -> Result<Option<Frame<'_>>, FrameFault>
         ensures* after { sem 𝓛 (EndsAsked self.entry) }
         ensures value { Gives self.old result }

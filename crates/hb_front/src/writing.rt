@@ -130,9 +130,11 @@ fn has_short_text(identity: &Identity) -> bool
         && service_account <= MAX_NAMES - trust_domain - namespace
 }
 
-/// Appends the header of a connection (PROXY protocol section 2.2): TCP over IPv4 where both addresses are of
-/// IPv4, else over IPv6 with an IPv4 address mapped; and the identity, where there is one, in the type-length-value
-/// e0. The identity has to pass `may_be_sent`. After want of memory `out` is unchanged.
+/// Appends the header of a connection (PROXY protocol, version 2, section 2.2): TCP over IPv4 where both addresses
+/// are of IPv4, else over IPv6 with an IPv4 address mapped; and the identity, where there is one, in the
+/// type-length-value e0. The identity has to pass `may_be_sent`.
+///
+/// Errors: `NoMemory`, and then `out` is unchanged.
 pub fn put_front(
     alloc: Global,
     source: Target,

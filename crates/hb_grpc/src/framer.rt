@@ -59,8 +59,11 @@ impl Framer {
         self.header.as_slice().is_empty()
     }
 
-    /// Takes the piece to the end of the first whole message, or else all of it. A fault comes again at every later
-    /// call. After want of memory it is as before the call.
+    /// Takes the piece to the end of the first whole message, or else all of it (gRPC over HTTP/2,
+    /// "Length-Prefixed-Message").
+    ///
+    /// Errors: `Compressed` where the message's flag isn't 0, and `TooLong` where its length is above the limit;
+    /// either comes again at every later call. `NoMemory`, and then it is as before the call.
     pub fn feed(&mut self, piece: &[u8]) -> Result<Fed, Or<GrpcFault>>
         ensures told { Answers result (answer self.old piece.now) }
         ensures after { Leaves result self.old (fed self.old piece.now) self.new }

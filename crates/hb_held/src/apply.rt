@@ -100,9 +100,10 @@ impl Held {
         Ok(())
     }
 
-    /// Applies a response: its removals go first, and then its resources, in order; a later equal name replaces. A
-    /// refused resource leaves its name as it was. After want of memory the resources held are what some first of these
-    /// changes made of them.
+    /// Applies a response (Envoy xDS protocol, "Incremental xDS"): its removals go first, and then its resources, in
+    /// order; a later equal name replaces. A refused resource leaves its name as it was.
+    ///
+    /// Errors: `NoMemory`, and then the resources held are what some first of these changes made of them.
     pub fn apply(&mut self, alloc: Global, response: &Response) -> Result<Outcome, NoMemory>
         ensures outcome { IfOk result (λ outcome. outcome ≡ outcome_of self.old response.now) }
         ensures held { OnOk result (self.new ≡ after_response self.old response.now) }

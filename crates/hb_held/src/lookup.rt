@@ -84,7 +84,8 @@ impl Held {
         }
     }
 
-    /// Of the workloads of this network with the address, the one of the smallest resource name, by bytes.
+    /// Of the workloads of this network with the address, the one of the smallest resource name, by bytes. `None`
+    /// where there is none.
     pub fn workload_at(&self, ip: Ip) -> Option<Found<'_>>
         ensures { option_map found_as result ≡ workload_at self.now ip }
     {
@@ -99,6 +100,7 @@ impl Held {
     }
 
     /// The same workload, where its node is this node; the least is taken first, and its node is looked at then.
+    /// `None` where there is no workload, or where that one's node is another.
     pub fn known(&self, ip: Ip) -> Option<Found<'_>>
         ensures { option_map found_as result ≡ known self.now ip }
     {
@@ -110,7 +112,8 @@ impl Held {
         }
     }
 
-    /// Of the services that have the address in this network, the one of the smallest resource name, by bytes.
+    /// Of the services that have the address in this network, the one of the smallest resource name, by bytes. `None`
+    /// where there is none.
     pub fn service_at(&self, ip: Ip) -> Option<FoundService<'_>>
         ensures { option_map found_service_as result ≡ service_at self.now ip }
     {

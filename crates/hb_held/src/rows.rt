@@ -106,6 +106,8 @@ impl Held {
     }
 
     /// The names and versions of the resources of a kind, by name.
+    ///
+    /// Errors: `NoMemory`.
     pub fn versions(&self, alloc: Global, kind: Kind) -> Result<List<NameVersion>, NoMemory>
         ensures { IfOk result (λ list. list ≡ versions self.now kind) }
     {

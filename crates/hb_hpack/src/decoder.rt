@@ -113,7 +113,10 @@ impl Decoder {
         }
     }
 
-    /// The headers of a block.
+    /// The headers of a block (RFC 7541 sections 3.2 and 6), whose entries go into the table.
+    ///
+    /// Errors: where the block stands for no headers, what is wrong with it and the place of that, by `HpackWhy`; and
+    /// `NoMemory`. After either the decoder isn't used again.
     pub fn block(&mut self, b: &[u8]) -> Result<HeaderList, Or<HpackFault>>
         // What is read is what the block stands for.
         ensures read { IfOk result (λ list. (headers : List Header) × Reads self.old b.now headers self.new × IsListOf headers list) }

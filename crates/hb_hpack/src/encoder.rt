@@ -300,8 +300,9 @@ impl Encoder {
         }
     }
 
-    /// Writes the block of the headers, in which none enters the table. After NoMemory the old bytes stand in `out`,
-    /// and a front of the block.
+    /// Writes the block of the headers, in which none enters the table (RFC 7541 section 6).
+    ///
+    /// Errors: `NoMemory`, and then the old bytes stand in `out`, and a front of the block.
     pub fn block(
         &mut self,
         alloc: Global,

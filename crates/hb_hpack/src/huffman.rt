@@ -146,8 +146,10 @@ fn text_of(alloc: Global, b: &[u8]) -> Result<Option<Bytes>, NoMemory>
     }
 }
 
-/// The text that the bytes spell. None exactly where they spell none: the padding has more than seven bits
-/// or isn't all ones, or there is a whole EOS.
+/// The text that the bytes spell (RFC 7541 section 5.2). `None` exactly where they spell none: the padding has more
+/// than seven bits or isn't all ones, or there is a whole EOS.
+///
+/// Errors: `NoMemory`.
 #[inline(never)]
 pub fn huffman_read(alloc: Global, b: &[u8]) -> Result<Option<Bytes>, NoMemory>
     // What is read is spelled so.
@@ -241,7 +243,9 @@ fn put_text(b: &[u8], out: &mut Vec<u8>) -> Result<(), NoMemory>
     finish(out, at)
 }
 
-/// Writes the bytes that spell the text. After NoMemory the old bytes stand there, and a front of these.
+/// Writes the bytes that spell the text (RFC 7541 section 5.2).
+///
+/// Errors: `NoMemory`, and then the old bytes stand there, and a front of these.
 pub fn huffman_put(_alloc: Global, b: &[u8], out: &mut Vec<u8>) -> Result<(), NoMemory>
     ensures ok { OnOk result (out.new.items ≡ out.old.items ++ huffman_of b.now) }
     // What is written spells the text, and is read as the text.

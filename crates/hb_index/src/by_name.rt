@@ -59,7 +59,7 @@ impl<T> ByName<T> {
         self.items.contains_key(name)
     }
 
-    /// The value under a name.
+    /// The value under a name. `None` where none stands there.
     pub fn get(&self, name: &Text) -> Option<&T>
         ensures { option_copied result ≡ map.get self.now name.now }
     {
@@ -76,8 +76,10 @@ impl<T> ByName<T> {
 }
 
 impl<T: Drop> ByName<T> {
-    /// Puts a value under a name, and gives the one that stood there; only a new name is copied. After want of
-    /// memory the map is unchanged.
+    /// Puts a value under a name, and gives the one that stood there, `None` where none did; only a new name is
+    /// copied.
+    ///
+    /// Errors: `NoMemory`, and then the map is unchanged.
     pub fn put(&mut self, alloc: Global, name: &Text, item: T) -> Result<Option<T>, NoMemory>
         ensures stood { IfOk result (λ stood. stood ≡ map.get self.old name.now) }
         ensures ok { OnOk result (self.new ≡ map.insert self.old name.now item) }
@@ -102,7 +104,7 @@ impl<T: Drop> ByName<T> {
         }
     }
 
-    /// Takes the value under a name out.
+    /// Takes the value under a name out. `None` where none stands there.
     pub fn take(&mut self, name: &Text) -> Option<T>
         ensures value { result ≡ map.get self.old name.now }
         ensures rest { self.new ≡ map.remove self.old name.now }

@@ -45,7 +45,7 @@ impl Index {
         }
     }
 
-    /// The names under a number, where there are any.
+    /// The names under a number. `None` where there are none.
     pub fn names(&self, number: u128) -> Option<&ByName<()>>
         ensures { option_copied result ≡ map.get self.now number }
     {
@@ -80,7 +80,9 @@ impl Index {
         }
     }
 
-    /// Puts a name under each of these numbers. After want of memory it stands under some first of them.
+    /// Puts a name under each of these numbers.
+    ///
+    /// Errors: `NoMemory`, and then it stands under some first of them.
     pub fn add_all(&mut self, alloc: Global, name: &Text, numbers: &[u128]) -> Result<(), NoMemory>
         ensures ok { OnOk result (self.new ≡ with_all self.old name.now numbers.now) }
         ensures err { OnErr result ((n : ℕ) × (self.new ≡ with_all self.old name.now (take n numbers.now))) }

@@ -39,6 +39,8 @@ impl<T: Drop> Kept<T> {
     }
 
     /// Puts a value under a name, in place of one that stood there, which is noted.
+    ///
+    /// Errors: `NoMemory`, and then nothing changes.
     pub fn put(&mut self, alloc: Global, name: &Text, item: T) -> Result<(), NoMemory>
         ensures now { OnOk result (self.new.now ≡ map.insert self.old.now name.now item) }
         ensures past { OnOk result (self.new.past ≡ note self.old.past name.now (map.get self.old.now name.now)) }
@@ -63,6 +65,8 @@ impl<T: Drop> Kept<T> {
 
     /// Takes the value under a name out, which is noted, and tells whether one stood there. Memory for the note is
     /// taken before.
+    ///
+    /// Errors: `NoMemory`, and then nothing changes.
     pub fn remove(&mut self, alloc: Global, name: &Text) -> Result<bool, NoMemory>
         ensures held { IfOk result (λ held. held ≡ map.contains_key self.old.now name.now) }
         ensures now { OnOk result (self.new.now ≡ map.remove self.old.now name.now) }

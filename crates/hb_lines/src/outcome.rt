@@ -56,7 +56,9 @@ fn outcome_value(
     })
 }
 
-/// What a response of this kind with this nonce did: compact JSON, its keys in byte order, and a newline.
+/// What a response of this kind with this nonce did: compact JSON (RFC 8259), its keys in byte order, and a newline.
+///
+/// Errors: `NoMemory`.
 #[tactic(auto, unfolding(crate::specs::Outcome::outcome_text))]
 pub fn outcome_line(
     alloc: Global,

@@ -143,7 +143,9 @@ fn row_value(alloc: Global, row: &HeldRow<'_>) -> Result<Value, NoMemory>
     }
 }
 
-/// A resource held: compact JSON, its keys in byte order, and a newline.
+/// A resource held: compact JSON (RFC 8259), its keys in byte order, and a newline.
+///
+/// Errors: `NoMemory`.
 #[tactic(auto, unfolding(crate::specs::Row::row_text))]
 pub fn row_line(alloc: Global, row: &HeldRow<'_>) -> Result<Vec<u8>, NoMemory>
     ensures { IfOk result (λ line. line.items ≡ row_text (row_as row.now)) }

@@ -60,7 +60,7 @@ impl<K: Key, T> ById<K, T> {
         self.items.as_slice().len()
     }
 
-    /// The value under a number.
+    /// The value under a number. `None` where none stands there.
     pub fn get(&self, id: K) -> Option<&T>
         ensures { option_copied result ≡ map.get self.now (K.number id) }
     {
@@ -70,7 +70,7 @@ impl<K: Key, T> ById<K, T> {
         }
     }
 
-    /// The value under a number, to be changed.
+    /// The value under a number, to be changed. `None` where none stands there.
     pub fn at(&mut self, id: K) -> Option<&mut T>
         ensures* after { sem 𝓛 (LendsById K.row T.row K.Key self.entry (K.number id) result) }
         ensures value { IfSome result (λ item. map.get self.old (K.number id) ≡ Some item.now) }
@@ -82,7 +82,7 @@ impl<K: Key, T> ById<K, T> {
         }
     }
 
-    /// Takes the value under a number out.
+    /// Takes the value under a number out. `None` where none stands there.
     pub fn remove(&mut self, id: K) -> Option<T>
         ensures value { result ≡ map.get self.old (K.number id) }
         ensures rest { self.new ≡ map.remove self.old (K.number id) }
@@ -93,7 +93,7 @@ impl<K: Key, T> ById<K, T> {
         }
     }
 
-    /// The least number from `id` on that has a value.
+    /// The least number from `id` on that has a value. `None` where there is none.
     pub fn first_from(&self, id: K) -> Option<K>
         ensures { IsFirstFrom self.now (K.number id) (option_map K.number result) }
     {
@@ -106,7 +106,9 @@ impl<K: Key, T> ById<K, T> {
 }
 
 impl<K: Key, T: Drop> ById<K, T> {
-    /// Puts a value under a number, in place of one that stood there. On an error the value is dropped.
+    /// Puts a value under a number, in place of one that stood there.
+    ///
+    /// Errors: `NoMemory`, and then the map is unchanged and the value dropped.
     pub fn put(&mut self, id: K, item: T) -> Result<(), NoMemory>
         ensures ok { OnOk result (self.new ≡ map.insert self.old (K.number id) item) }
         ensures err { OnErr result (self.new ≡ self.old) }

@@ -22,12 +22,19 @@ pub trait Message {
     ghost merged: { Self → Content → Result Self Self.Fault };
 
     /// Takes one field.
+    ///
+    /// Errors: the type's own fault, where the message can't have this field; and `NoMemory`. What the value is then
+    /// isn't said.
     fn merge(&mut self, alloc: Global, field: Field<'_>) -> Result<(), Or<Self::Fault>>
         requires { IsInMemory field }
         ensures { Merges (merged self.old (content field.entry)) self.new result };
 }
 
-/// Reads `bytes`, which stand at place `at` of the whole record, into `message`.
+/// Reads `bytes`, which stand at place `at` of the whole record, into `message` (Protocol Buffers encoding guide,
+/// "Message Structure").
+///
+/// Errors: the first, in order of bytes, of a field that `merge` refuses and of bytes that are no field; and
+/// `NoMemory`. What `message` is then isn't said.
 #[inline(never)]
 pub fn read_message<M: Message>(
     alloc: Global,
@@ -49,6 +56,8 @@ pub fn read_message<M: Message>(
 }
 
 /// What the fields of `bytes`, which stand at place `at` of the whole record, make of `message`.
+///
+/// Errors: as for `read_message`.
 #[inline(always)]
 pub fn read_whole<M: Message + Drop>(
     alloc: Global,
@@ -64,6 +73,8 @@ pub fn read_whole<M: Message + Drop>(
 }
 
 /// One more entry of a repeated field.
+///
+/// Errors: `NoMemory`, and then the entry is dropped.
 pub fn add<T: Drop, F>(entries: &mut List<T>, entry: T) -> Result<(), Or<F>>
     ensures { Merges (Ok (entries.old ++ entry ∷ [])) entries.new result }
 {

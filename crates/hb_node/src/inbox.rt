@@ -206,7 +206,9 @@ impl Inbox {
         })
     }
 
-    /// What is told of a connection: DATA is taken.
+    /// What is told of a connection: DATA is taken, and a message that it completes applied to what is held.
+    ///
+    /// Errors: `NoMemory`, after which the inbox isn't used again.
     pub fn hear(
         &mut self,
         alloc: Global,

@@ -51,6 +51,8 @@ fn connection(alloc: Global, to: Target) -> Result<Conn, NoMemory>
 
 impl Link {
     /// A link that is dialled: its stream is opened, and the first requests wait.
+    ///
+    /// Errors: `NoMemory`.
     pub fn dialled(
         alloc: Global,
         number: u64,
@@ -151,6 +153,8 @@ impl Link {
     }
 
     /// Takes bytes that came, and looks at all that they complete.
+    ///
+    /// Errors: `NoMemory`, after which the link isn't used again.
     pub fn take(&mut self, alloc: Global, held: &mut Held, b: &[u8]) -> Result<(), NoMemory>
         ensures live { is_live self.old.phase ≡ true
             → IfOk result (λ _. Settles self.old.number held.old (came b.now (part_of self.old)) held.new (part_of self.new)) }

@@ -43,6 +43,8 @@ impl Model for Node {
 
 impl Node {
     /// A node that holds nothing, and whose control plane is to be dialled.
+    ///
+    /// Errors: `NoMemory`.
     pub fn new(alloc: Global, c: NodeConfig) -> Result<Node, NoMemory>
         ensures state { IfOk result (λ node. node ≡ fresh_state c (nothing_held c.network c.node)) }
         ensures shows { IfOk result (λ node. Shows node (fresh c)) }
@@ -58,7 +60,9 @@ impl Node {
         })
     }
 
-    /// The dial that was due gave this link; None: it failed. After NoMemory only `stop` and `next_act` are called.
+    /// The dial that was due gave this link; `None`: it failed.
+    ///
+    /// Errors: `NoMemory`, after which only `stop` and `next_act` are called.
     pub fn dialled(&mut self, why: Why, link: Option<u64>) -> Result<(), NoMemory>
         ensures machine { IfOk result (λ _. Answers why link self.old self.new) }
         ensures due { IfOk result (λ _. NoneIsDue why self.old self.new) }
@@ -96,7 +100,9 @@ impl Node {
         }
     }
 
-    /// These bytes came on the link, at most as many as it wants. After NoMemory only `stop` and `next_act` are called.
+    /// These bytes came on the link, at most as many as it wants.
+    ///
+    /// Errors: `NoMemory`, after which only `stop` and `next_act` are called.
     pub fn take_bytes(&mut self, link: u64, b: &[u8]) -> Result<(), NoMemory>
         ensures { IfOk result (λ _. Enters (e.Came link b.now) self.old self.new) }
     {
@@ -161,8 +167,8 @@ impl Node {
         }
     }
 
-    /// The call of the world that is due. A link that is to be closed counts as closed from now on; a dial stays due until
-    /// `dialled` says what became of it.
+    /// The call of the world that is due, `None` where none is. A link that is to be closed counts as closed from now
+    /// on; a dial stays due until `dialled` says what became of it.
     pub fn next_act(&mut self) -> Option<Act>
         ensures act { result ≡ due_of self.old }
         ensures after { self.new ≡ after_act self.old }

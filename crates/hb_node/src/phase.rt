@@ -80,7 +80,7 @@ impl Phase {
         }
     }
 
-    /// Why the link is to be closed.
+    /// Why the link is to be closed. `None` as long as it isn't open yet, or bytes may come and go.
     pub fn closing(self) -> Option<Cause>
         ensures { result ≡ closing (phase_of self) }
     {

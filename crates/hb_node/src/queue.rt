@@ -44,7 +44,9 @@ impl Queue {
         &self.bytes[self.gone..]
     }
 
-    /// Adds a message of gRPC. NoMemory also where its length has no 32 bits. After NoMemory the queue isn't used again.
+    /// Adds a message of gRPC.
+    ///
+    /// Errors: `NoMemory`, also where the message's length has no 32 bits, after which the queue isn't used again.
     pub fn add(&mut self, alloc: Global, message: &[u8]) -> Result<(), NoMemory>
         ensures { OnOk result (self.new ≡ self.old ++ spelling message.now) }
     {

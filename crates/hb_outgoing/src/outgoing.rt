@@ -56,6 +56,8 @@ impl Model for Outgoing {
 
 impl Outgoing {
     /// Nothing waits.
+    ///
+    /// Errors: `NoMemory`.
     pub fn new(alloc: Global) -> Result<Outgoing, NoMemory>
         ensures { IfOk result (λ o. o ≡ nothing) }
     {
@@ -167,7 +169,7 @@ impl Outgoing {
         self.data_waits = still_waits(self.data_waits, self.output.front(), self.rest);
     }
 
-    /// The first DATA frame with payload of which no octet was written.
+    /// The first DATA frame with payload of which no octet was written. `None` where no such frame waits.
     pub fn unbegun(&self) -> Option<Unbegun>
         ensures { result ≡ first_data self.now.queue }
     {

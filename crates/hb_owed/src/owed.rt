@@ -60,6 +60,8 @@ impl Owed {
     }
 
     /// Gives a new stream a record, which owes nothing.
+    ///
+    /// Errors: `NoMemory`, and then nothing changes.
     #[tactic(auto, using(crate::proofs::Numbers::numbered_put, crate::proofs::Clear::clear_put))]
     pub fn open(&mut self, stream: u32) -> Result<(), NoMemory>
         requires in_range { stream ≤ largest }

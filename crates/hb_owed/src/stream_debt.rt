@@ -54,7 +54,7 @@ impl StreamDebt {
         }
     }
 
-    /// The frame that is put first.
+    /// The frame that is put first. `None` where none is owed.
     pub fn first(&self) -> Option<Due>
         ensures value { result ≡ first (dues_of self.now) }
         ensures fits { IfSome result IsDue }

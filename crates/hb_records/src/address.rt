@@ -137,7 +137,10 @@ impl Address {
     }
 }
 
-/// Reads an address record; the first fault in order of bytes, depth first.
+/// Reads an address record: the message `Address` of Istio's ztunnel, a workload or a service.
+///
+/// Errors: the first `RecordFault` in order of bytes, depth first, and `NoKind` of field 0 behind all of them, where
+/// it is neither; and `NoMemory`.
 #[tactic(auto, unfolding(crate::specs::Address::address_of))]
 pub fn read_address(alloc: Global, bytes: &[u8]) -> Result<AddressRecord, Or<RecordFault>>
     ensures { Answers result (address_of bytes.now) }

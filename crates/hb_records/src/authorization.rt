@@ -108,7 +108,9 @@ impl Authorization {
     }
 }
 
-/// Reads an authorization policy; the first fault in order of bytes, depth first.
+/// Reads an authorization policy: the message `Authorization` of Istio's ztunnel.
+///
+/// Errors: the first `RecordFault` in order of bytes, depth first; and `NoMemory`.
 #[tactic(auto, unfolding(crate::specs::Authorization::authorization_of))]
 pub fn read_authorization(alloc: Alloc, bytes: &[u8]) -> Result<Authorization, Or<RecordFault>>
     ensures { Answers result (authorization_of bytes.now) }

@@ -21,6 +21,8 @@ pub fn low_32(n: u64) -> u32
 }
 
 /// An address of 4 or 16 octets.
+///
+/// Errors: `BadIp` of this field for any other number of octets.
 pub fn read_octets(field: u32, octets: &[u8]) -> Result<Ip, Or<RecordFault>>
     ensures { Answers result (octets_in field octets.now) }
 {
@@ -31,13 +33,17 @@ pub fn read_octets(field: u32, octets: &[u8]) -> Result<Ip, Or<RecordFault>>
 }
 
 /// One entry more than a repeated field may have.
+///
+/// Errors: always `TooMany` of this field, with the count 4,097.
 pub fn too_many<T>(field: u32) -> Result<T, Or<RecordFault>>
     ensures { Answers result (too_many field) }
 {
     Err(Or::Fault(RecordFault::TooMany { field, count: 4097 }))
 }
 
-/// A fault where one more entry would be the 4,097th.
+/// Looks whether a repeated field has room for one more entry.
+///
+/// Errors: `TooMany` of this field where that would be the 4,097th.
 pub fn check_room<T>(field: u32, entries: &List<T>) -> Result<(), Or<RecordFault>>
     ensures { Answers result (room_in field entries.now) }
 {

@@ -226,6 +226,9 @@ impl GatewayParts {
 }
 
 /// What `bytes`, which stand at place `at` under the field number `field`, make of the gateway that is there.
+///
+/// Errors: the first `RecordFault` in order of bytes, depth first, and `NoKind` of `field` behind them, where it has
+/// neither a hostname nor an address; and `NoMemory`.
 #[tactic(auto, unfolding(crate::specs::Gateway::gateway_with))]
 pub fn read_gateway(
     alloc: Global,

@@ -79,6 +79,9 @@ impl NetworkParts {
 }
 
 /// What `bytes`, which stand at place `at`, make of the parts that are there.
+///
+/// Errors: the first of `Wire`, `Utf8` and `BadIp` in order of bytes, and `BadIp` of field 2 behind them, where there
+/// is no address; and `NoMemory`.
 #[tactic(auto, unfolding(crate::specs::Network::network_with))]
 pub fn read_network(
     alloc: Global,

@@ -11,6 +11,8 @@ use hb_message::add;
 use hb_wire::Packed;
 
 /// Takes one more number of the field `field`.
+///
+/// Errors: `TooMany` where it would be the 4,097th; and `NoMemory`. What `numbers` has then isn't said.
 pub fn take_number(field: u32, n: u64, numbers: &mut List<u32>) -> Result<(), Or<RecordFault>>
     ensures { Merges (with_number field numbers.old n) numbers.new result }
 {
@@ -18,7 +20,11 @@ pub fn take_number(field: u32, n: u64, numbers: &mut List<u32>) -> Result<(), Or
     add(numbers, low_32(n))
 }
 
-/// Takes the numbers of the packed field `field` whose bytes stand at place `at`.
+/// Takes the numbers of the packed field `field` whose bytes stand at place `at` (Protocol Buffers encoding guide,
+/// "Packed Repeated Fields").
+///
+/// Errors: at the first number for which one applies, `TooMany` where it would be the 4,097th, also of a broken one,
+/// and `Wire` where it is broken; and `NoMemory`. What `numbers` has then isn't said.
 pub fn take_packed(
     field: u32,
     at: usize,

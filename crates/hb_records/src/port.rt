@@ -66,6 +66,8 @@ impl Port {
 }
 
 /// The port of `bytes`, which stand at place `at`.
+///
+/// Errors: `Wire` where the bytes are no fields; and `NoMemory`.
 #[tactic(auto, unfolding(crate::specs::Ports::port_in))]
 pub fn read_port(alloc: Global, at: usize, bytes: &[u8]) -> Result<Port, Or<RecordFault>>
     requires { at + length bytes.now < 2 ^ 64 }
@@ -132,7 +134,9 @@ impl ServiceEntry {
     }
 }
 
-/// The entry of the map of services of `bytes`, which stand at place `at`.
+/// The entry of the map of services of `bytes`, which stand at place `at` (Protocol Buffers encoding guide, "Maps").
+///
+/// Errors: the first of `Wire`, `Utf8` and `TooMany` in order of bytes, depth first; and `NoMemory`.
 #[tactic(auto, unfolding(crate::specs::Ports::entry_in))]
 pub fn read_entry(alloc: Global, at: usize, bytes: &[u8]) -> Result<ServicePorts, Or<RecordFault>>
     requires { at + length bytes.now < 2 ^ 64 }

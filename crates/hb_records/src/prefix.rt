@@ -71,6 +71,9 @@ impl PrefixParts {
 }
 
 /// The prefix of `bytes`, which stand at place `at` under the field number `field`.
+///
+/// Errors: the first of `Wire` and `BadIp` in order of bytes, and `BadCidr` of `field` behind them, where it has no
+/// address or is longer than its address; and `NoMemory`.
 #[tactic(auto, unfolding(crate::specs::Prefix::prefix_in))]
 pub fn read_prefix(
     alloc: Global,

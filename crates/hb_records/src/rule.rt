@@ -246,6 +246,8 @@ fn read_clause(alloc: Global, at: usize, bytes: &[u8]) -> Result<Clause, Or<Reco
 }
 
 /// The rule of `bytes`, which stand at place `at`.
+///
+/// Errors: the first `RecordFault` in order of bytes, depth first; and `NoMemory`.
 #[tactic(auto, unfolding(crate::specs::Rule::rule_in))]
 pub fn read_rule(alloc: Global, at: usize, bytes: &[u8]) -> Result<Rule, Or<RecordFault>>
     requires { at + length bytes.now < 2 ^ 64 }

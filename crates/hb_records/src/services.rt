@@ -43,6 +43,8 @@ fn is_of(services: &[ServicePorts], place: usize, entry: &ServicePorts) -> bool
 }
 
 /// Puts an entry at its place by key, or in place of that of an equal key.
+///
+/// Errors: `NoMemory`, and then what the map has isn't said.
 #[tactic(auto, using(crate::proofs::Places::replaced, crate::proofs::Places::inserted))]
 pub fn put_entry(
     services: &mut List<ServicePorts>,

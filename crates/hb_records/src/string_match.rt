@@ -57,6 +57,9 @@ impl Member {
 }
 
 /// The string match of `bytes`, which stand at place `at` under the field number `field`.
+///
+/// Errors: the first of `Wire` and `Utf8` in order of bytes, and `NoKind` of `field` behind them, where it has no
+/// member; and `NoMemory`.
 #[tactic(auto, unfolding(crate::specs::StringMatch::string_match_in))]
 pub fn read_string_match(
     alloc: Global,

@@ -107,7 +107,8 @@ fn lines_of(alloc: Global, text: Bytes) -> Result<List<Line>, Or<ScriptFault>>
 
 /// Runs the proxy over the script that a text spells, in whose world nothing happened yet.
 ///
-/// Errors: the first row that is no line; then nothing is done.
+/// Errors: the fault of the first row that is no line, and then nothing is done; and `NoMemory`, and then nothing is
+/// done, or a run was served, whose links are all closed.
 pub fn replay(
     alloc: Global,
     words: &Replay<'_>,

@@ -46,7 +46,9 @@ fn details(alloc: Global, flags: &Flags, trace: &[Entry]) -> Result<Vec<u8>, NoM
     Ok(text)
 }
 
-/// Appends the report of a run with this trace. Where memory lacks, nothing is appended.
+/// Appends the report of a run with this trace.
+///
+/// Errors: `NoMemory`, and then nothing is appended.
 pub fn put_report(
     alloc: Global,
     flags: &Flags,

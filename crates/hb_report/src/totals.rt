@@ -72,6 +72,8 @@ fn revoked_dials(tallies: &Tallies, trace: &[Entry]) -> u64
 }
 
 /// The totals of a trace without tunnels.
+///
+/// Errors: `NoMemory`.
 pub fn totals_of(alloc: Global, trace: &[Entry]) -> Result<Totals, NoMemory>
     ensures { IfOk result (λ totals. totals ≡ totals_of trace.now) }
 {

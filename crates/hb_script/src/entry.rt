@@ -28,6 +28,8 @@ fn bytes_text(alloc: Global, word: &str, link: u64, bytes: &Bytes) -> Result<Str
 }
 
 /// A cause: its word, and its number where it has one.
+///
+/// Errors: `NoMemory`.
 pub fn cause_string(alloc: Global, cause: &Cause) -> Result<String, NoMemory>
     ensures { IfOk result (λ text. string_bytes text ≡ cause_text cause.now) }
 {
@@ -90,8 +92,9 @@ fn entry_bytes(alloc: Global, entry: &Entry) -> Result<Vec<u8>, NoMemory>
     Ok(text?.into_bytes())
 }
 
-/// Appends the line that tells an entry, with its newline; nothing for a call that moved nothing and for a
-/// wait. Where memory lacks, nothing is appended.
+/// Appends the line that tells an entry, with its newline; nothing for a call that moved nothing and for a wait.
+///
+/// Errors: `NoMemory`, and then nothing is appended.
 pub fn put_entry(alloc: Global, entry: &Entry, out: &mut Vec<u8>) -> Result<(), NoMemory>
     ensures ok { OnOk result (out.new.items ≡ out.old.items ++ entry_text entry.now) }
     ensures err { OnErr result (out.new.items ≡ out.old.items) }

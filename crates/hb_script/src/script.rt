@@ -51,9 +51,10 @@ fn take_row(
     }
 }
 
-/// Reads a script: rows of UTF-8 text, each ended by a newline, which the last may lack. An empty row is
-/// no line, but is counted; each other row is a JSON object of one of the forms. The fault is that of the
-/// first row that is none.
+/// Reads a script: rows of UTF-8 text, each ended by a newline, which the last may lack. An empty row is no line, but
+/// is counted; each other row is a JSON object (RFC 8259) of one of the forms.
+///
+/// Errors: the number and the reason of the first row that is none; and `NoMemory`.
 pub fn read_script(alloc: Global, b: &[u8]) -> Result<List<Line>, Or<ScriptFault>>
     ensures { Answers result (lines b.now) }
 {

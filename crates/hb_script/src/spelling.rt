@@ -55,7 +55,9 @@ fn line_text(alloc: Global, line: &Line) -> Result<String, NoMemory>
     }
 }
 
-/// Appends the line's text, compact JSON without a newline. Where memory lacks, nothing is appended.
+/// Appends the line's text, compact JSON (RFC 8259) without a newline.
+///
+/// Errors: `NoMemory`, and then nothing is appended.
 pub fn put_line(alloc: Global, line: &Line, out: &mut Vec<u8>) -> Result<(), NoMemory>
     ensures ok { OnOk result (out.new.items ≡ out.old.items ++ line_text line.now) }
     ensures err { OnErr result (out.new.items ≡ out.old.items) }

@@ -55,7 +55,7 @@ impl<T> Slots<T> {
         self.index.len()
     }
 
-    /// The value under a number.
+    /// The value under a number. `None` where none stands there.
     pub fn get(&self, number: u32) -> Option<&T>
         ensures { option_copied result ≡ map.get self.now number }
     {
@@ -65,7 +65,7 @@ impl<T> Slots<T> {
         }
     }
 
-    /// The value under a number, to be changed.
+    /// The value under a number, to be changed. `None` where none stands there.
     pub fn at(&mut self, number: u32) -> Option<&mut T>
         ensures* after { sem 𝓛 (LendsItem T.row self.entry number result) }
         ensures value { IfSome result (λ item. map.get self.old number ≡ Some item.now) }
@@ -77,7 +77,7 @@ impl<T> Slots<T> {
         }
     }
 
-    /// The least number from `number` on that has a value.
+    /// The least number from `number` on that has a value. `None` where there is none.
     pub fn first_from(&self, number: u32) -> Option<u32>
         ensures first { IsFirstFrom self.now number result }
         ensures numbers { (n : ℕ) → IsSome (map.get self.now n) → n < 2 ^ 32 }
@@ -85,7 +85,7 @@ impl<T> Slots<T> {
         self.index.first_from(number)
     }
 
-    /// The least number behind this one that has a value.
+    /// The least number behind this one that has a value. `None` where there is none.
     pub fn first_behind(&self, number: u32) -> Option<u32>
         ensures { IsFirstFrom self.now (number + 1) result }
     {
@@ -98,7 +98,9 @@ impl<T> Slots<T> {
 }
 
 impl<T: Drop> Slots<T> {
-    /// Puts a value under a number that has none. On an error the value is dropped.
+    /// Puts a value under a number that has none.
+    ///
+    /// Errors: `NoMemory`, and then nothing changes and the value is dropped.
     pub fn add(&mut self, number: u32, item: T) -> Result<(), NoMemory>
         requires new { map.get self.old number ≡ None }
         ensures ok { OnOk result (self.new ≡ map.insert self.old number item) }
@@ -110,7 +112,7 @@ impl<T: Drop> Slots<T> {
         Ok(())
     }
 
-    /// Takes the value under a number out.
+    /// Takes the value under a number out. `None` where none stands there.
     pub fn remove(&mut self, number: u32) -> Option<T>
         ensures value { result ≡ map.get self.old number }
         ensures rest { self.new ≡ map.remove self.old number }

@@ -48,6 +48,8 @@ impl Model for Streams {
 
 impl Streams {
     /// A connection on which no stream was used yet.
+    ///
+    /// Errors: `NoMemory`.
     pub fn new(alloc: Global, role: Role) -> Result<Streams, NoMemory>
         ensures { IfOk result (λ streams. streams ≡ fresh role) }
     {
@@ -60,13 +62,13 @@ impl Streams {
         })
     }
 
-    /// A frame of type `kind` came on `stream`, with END_STREAM where `end`; HEADERS when their field block is
-    /// whole. A frame on stream 0 is the connection's, and isn't asked about here.
+    /// A frame of type `kind` came on `stream`, with END_STREAM where `end`; HEADERS when their field block is whole
+    /// (RFC 9113 section 5.1). A frame on stream 0 is the connection's, and isn't asked about here.
     ///
     /// Errors: PROTOCOL_ERROR where the number or the state of the stream doesn't allow the frame, STREAM_CLOSED
     /// where the stream is closed or the peer has ended it, REFUSED_STREAM where no further one may begin. A stream
     /// error leaves its stream as it was, and the caller resets it; only a new stream that is refused is reset by
-    /// this call.
+    /// this call. `NoMemory` of a new stream alone, and then nothing happens.
     pub fn on_frame(&mut self, kind: u8, stream: u32, end: bool) -> Result<Step, Or<StreamFault>>
         ensures told { Answers result (answer_of self.old kind stream) }
         ensures memory { result ≡ Err Or.NoMemory → answer_of self.old kind stream ≡ Ok Step.New }
@@ -92,8 +94,12 @@ impl Streams {
         }
     }
 
-    /// Begins the next stream of this client, for HEADERS that it is going to send, and gives its number. `limit`
-    /// is the peer's on streams that are open or half-closed (SETTINGS_MAX_CONCURRENT_STREAMS).
+    /// Begins the next stream of this client, for HEADERS that it is going to send, and gives its number (RFC 9113
+    /// section 5.1.1). `limit` is the peer's on streams that are open or half-closed
+    /// (SETTINGS_MAX_CONCURRENT_STREAMS).
+    ///
+    /// Errors: `Full` where as many are as `limit` says, or 100; `Spent` where no odd number up to 2,147,483,647 is
+    /// left; and `NoMemory`. Nothing changes then.
     pub fn open(&mut self, limit: u32) -> Result<u32, Or<OpenFault>>
         requires { self.old.role ≡ Role.Client }
         ensures told { Answers result (number_of self.old limit) }
@@ -193,6 +199,8 @@ impl Streams {
     }
 
     /// What a frame of type `kind` on `stream` is answered, as `on_frame` answers it; nothing happens by this call.
+    ///
+    /// Errors: the three codes of `on_frame`.
     pub fn answer(&self, kind: u8, stream: u32) -> Result<Step, StreamFault>
         ensures { result ≡ answer_of self.now kind stream }
     {

@@ -46,7 +46,9 @@ impl Tunnels {
         }
     }
 
-    /// Adds a tunnel under its stream, without a mark. On an error the slot is dropped.
+    /// Adds a tunnel under its stream, without a mark.
+    ///
+    /// Errors: `NoMemory`, and then nothing changes and the slot is dropped.
     pub fn add(&mut self, slot: Slot) -> Result<(), NoMemory>
         requires new { map.get self.old slot.stream ≡ None }
         ensures ok { OnOk result (self.new ≡ map.insert self.old slot.stream (unmarked slot)) }
@@ -61,7 +63,7 @@ impl Tunnels {
         )
     }
 
-    /// The tunnel on a stream.
+    /// The tunnel on a stream. `None` where none stands there.
     pub fn get(&self, stream: u32) -> Option<&Slot>
         ensures { option_copied result ≡ slot_at self.now stream }
     {
@@ -71,7 +73,7 @@ impl Tunnels {
         }
     }
 
-    /// The tunnel on a stream, to be changed. Its mark stays.
+    /// The tunnel on a stream, to be changed. Its mark stays. `None` where none stands there.
     pub fn at(&mut self, stream: u32) -> Option<&mut Slot>
         ensures* after { sem 𝓛 (LendsSlot self.entry stream result) }
         ensures value { IfSome result (λ slot. slot_at self.old stream ≡ Some slot.now) }
@@ -83,7 +85,7 @@ impl Tunnels {
         }
     }
 
-    /// The least stream from `stream` on that has a tunnel.
+    /// The least stream from `stream` on that has a tunnel. `None` where there is none.
     pub fn first_from(&self, stream: u32) -> Option<u32>
         ensures first { IsFirstFrom self.now stream result }
         ensures numbers { (n : ℕ) → IsSome (map.get self.now n) → n < 2 ^ 32 }
@@ -91,7 +93,7 @@ impl Tunnels {
         self.slots.first_from(stream)
     }
 
-    /// Takes the tunnel of a stream out, and its mark with it.
+    /// Takes the tunnel of a stream out, and its mark with it. `None` where none stands there.
     pub fn end(&mut self, stream: u32) -> Option<Slot>
         ensures value { result ≡ slot_at self.old stream }
         ensures rest { self.new ≡ map.remove self.old stream }
@@ -119,7 +121,7 @@ impl Tunnels {
         }
     }
 
-    /// The least stream whose tunnel is marked.
+    /// The least stream whose tunnel is marked. `None` where none is.
     pub fn next_revoked(&self) -> Option<u32>
         ensures { IsFirstMarked self.now result }
     {

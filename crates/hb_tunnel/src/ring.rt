@@ -17,6 +17,8 @@ pub(crate) struct Ring {
 
 impl Ring {
     /// An empty ring of `size` bytes.
+    ///
+    /// Errors: `NoMemory`.
     pub fn new(alloc: Global, size: usize) -> Result<Ring, NoMemory>
         ensures { IfOk result (λ ring. ring ≡ record { bytes = buffer [] size; has_ended = false }) }
     {

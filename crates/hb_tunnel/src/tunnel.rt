@@ -39,6 +39,8 @@ impl Model for Tunnel {
 
 impl Tunnel {
     /// A tunnel whose upstream isn't open yet, with nothing on either way.
+    ///
+    /// Errors: `NoMemory`.
     pub fn new(alloc: Global) -> Result<Tunnel, NoMemory>
         ensures { IfOk result (λ tunnel. tunnel ≡ dialling) }
     {

@@ -73,6 +73,8 @@ impl SendWindow {
     }
 
     /// Adds the increment of a WINDOW_UPDATE frame (RFC 9113 section 6.9).
+    ///
+    /// Errors: an `Overrun` where the window would exceed 2,147,483,647 (section 6.9.1). It is unchanged then.
     pub fn grant(&mut self, n: u32) -> Result<(), Overrun>
         ensures { Moves self.old self.new result (pos n) self.old.size }
     {
@@ -80,8 +82,10 @@ impl SendWindow {
         Ok(())
     }
 
-    /// Changes the initial size from `old` to `new` by SETTINGS_INITIAL_WINDOW_SIZE (RFC 9113 section
-    /// 6.9.2): the window moves by the difference, also below zero.
+    /// Changes the initial size from `old` to `new` by SETTINGS_INITIAL_WINDOW_SIZE (RFC 9113 section 6.9.2): the
+    /// window moves by the difference, also below zero.
+    ///
+    /// Errors: an `Overrun` where the window would exceed 2,147,483,647. It is unchanged then.
     pub fn resize(&mut self, old: u32, new: u32) -> Result<(), Overrun>
         requires last_size { old ≡ self.old.size }
         requires in_range { new ≤ largest }

@@ -49,7 +49,9 @@ impl TakeWindow {
         self.kept
     }
 
-    /// Takes away the octets of a DATA frame that came, its padding included.
+    /// Takes away the octets of a DATA frame that came, its padding included (RFC 9113 section 6.9).
+    ///
+    /// Errors: an `Overrun` where they exceed what is granted. The window is unchanged then.
     pub fn spend(&mut self, n: u32) -> Result<(), Overrun>
         ensures { Takes self.old self.new result n }
     {
@@ -74,7 +76,7 @@ impl TakeWindow {
         self.owed += n;
     }
 
-    /// The increment that is to be granted now: all that is owed, from 32,768 octets on.
+    /// The increment that is to be granted now: all that is owed. `None` where that is below 32,768 octets.
     pub fn due(&mut self) -> Option<u32>
         ensures all { PaysBack self.old self.new result }
         ensures in_range { IfSome result (λ n. n ≤ largest) }

@@ -17,7 +17,9 @@ pub struct Cursor<'a> {
 impl<'a> Cursor<'a> {
     ghost use Rattle.hb_wire.specs.Seen.{seen, unread};
 
-    /// The varint in front, and what is unread behind it.
+    /// The varint in front, and what is unread behind it (Protocol Buffers encoding guide, "Base 128 Varints").
+    ///
+    /// Errors: `Truncated` where the bytes end within it, `LongVarint` where its tenth byte is above 1.
     #[tactic(auto, unfolding(crate::specs::Field::varint_in))]
     pub fn varint(self) -> Result<(u64, Cursor<'a>), WireFault>
         ensures { seen (λ v. (v.0, unread v.1)) result ≡ varint_in (unread self.entry) }
@@ -50,6 +52,8 @@ impl<'a> Cursor<'a> {
     }
 
     /// The first `n` bytes, and what is unread behind them.
+    ///
+    /// Errors: `Truncated`, at the end of the bytes, where there are fewer.
     #[tactic(auto, unfolding(crate::specs::Field::bytes_in))]
     pub fn bytes(self, n: u64) -> Result<(&'a [u8], Cursor<'a>), WireFault>
         ensures value { seen (λ b. (b.0.now, unread b.1)) result ≡ bytes_in n (unread self.entry) }
@@ -66,6 +70,8 @@ impl<'a> Cursor<'a> {
     }
 
     /// The number of the first eight bytes, the least first, and what is unread behind them.
+    ///
+    /// Errors: `Truncated`, at the end of the bytes, where there are fewer.
     #[tactic(auto, unfolding(crate::specs::Field::bytes_in))]
     pub fn eight(self) -> Result<(u64, Cursor<'a>), WireFault>
         ensures { seen (λ v. (v.0, unread v.1)) result ≡ eight_in (unread self.entry) }
@@ -78,6 +84,8 @@ impl<'a> Cursor<'a> {
     }
 
     /// The number of the first four bytes, the least first, and what is unread behind them.
+    ///
+    /// Errors: `Truncated`, at the end of the bytes, where there are fewer.
     #[tactic(auto, unfolding(crate::specs::Field::bytes_in))]
     pub fn four(self) -> Result<(u32, Cursor<'a>), WireFault>
         ensures { seen (λ v. (v.0, unread v.1)) result ≡ four_in (unread self.entry) }

@@ -173,7 +173,9 @@ impl<'a> Fields<'a> {
         }
     }
 
-    /// The next field; `None` at the end of the bytes. After a fault every later call answers the same fault.
+    /// The next field (Protocol Buffers encoding guide, "Message Structure"); `None` at the end of the bytes.
+    ///
+    /// Errors: what is wrong with the field in front, and where. Every later call answers the same fault.
     #[inline(always)]
     pub fn next_field(&mut self) -> Result<Option<Field<'a>>, WireFault>
         ensures answer { answer result self.new ≡ next_in self.old }

@@ -34,7 +34,10 @@ impl<'a> Packed<'a> {
         }
     }
 
-    /// The next number; `None` at the end of the bytes. After a fault every later call answers the same fault.
+    /// The next number (Protocol Buffers encoding guide, "Packed Repeated Fields"); `None` at the end of the bytes.
+    ///
+    /// Errors: `Truncated` or `LongVarint` of the number in front, and where. Every later call answers the same
+    /// fault.
     pub fn next_number(&mut self) -> Result<Option<u64>, WireFault>
         ensures answer { number_answer result self.new ≡ next_number_in self.old }
         ensures end { IfOk result (λ n. IfNone n (self.new ≡ self.old)) }

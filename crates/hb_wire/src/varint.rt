@@ -12,7 +12,10 @@ pub struct Varint {
     pub length: usize,
 }
 
-/// The varint in front of `bytes`, which stand at place `at`; `index` of its bytes stand before them.
+/// The varint in front of `bytes`, which stand at place `at`; `index` of its bytes stand before them (Protocol
+/// Buffers encoding guide, "Base 128 Varints").
+///
+/// Errors: `Truncated` where the bytes end within it, `LongVarint` where its tenth byte is above 1.
 pub fn read_varint(bytes: &[u8], at: usize, index: u32) -> Result<Varint, WireFault>
     requires place { at + length bytes.now < 2 ^ 64 }
     requires few { index ≤ 9 }

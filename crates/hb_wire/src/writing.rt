@@ -26,7 +26,9 @@ fn put_groups(out: &mut Vec<u8>, n: u64, most: u8) -> Result<(), AllocError>
     put_groups(out, n / 128, most - 1)
 }
 
-/// Appends a varint ("Base 128 Varints"); after want of memory a front of it.
+/// Appends a varint ("Base 128 Varints").
+///
+/// Errors: `AllocError`, and then a front of it is appended.
 pub fn put_varint(_alloc: Global, v: u64, out: &mut Vec<u8>) -> Result<(), AllocError>
     ensures ok { OnOk result (out.new.items ≡ out.old.items ++ varint_of v) }
     ensures front { AppendsFront out.old.items out.new.items (varint_of v) }
@@ -43,7 +45,9 @@ fn put_tag(alloc: Global, number: u32, wire: u64, out: &mut Vec<u8>) -> Result<(
     put_varint(alloc, 8 * u64::from(number) + wire, out)
 }
 
-/// Appends a number as a field; nothing for 0. After want of memory a front of that.
+/// Appends a number as a field; nothing for 0.
+///
+/// Errors: `AllocError`, and then a front of that is appended.
 #[tactic(auto, using(crate::proofs::Fronts::front_first))]
 pub fn put_number(alloc: Global, number: u32, v: u64, out: &mut Vec<u8>) -> Result<(), AllocError>
     requires some { 1 ≤ number }
@@ -68,7 +72,9 @@ fn put_span(alloc: Global, b: &[u8], out: &mut Vec<u8>) -> Result<(), AllocError
     out.extend_from_slice(b)
 }
 
-/// Appends bytes as a field, none of them too; after want of memory a front of that.
+/// Appends bytes as a field, none of them too.
+///
+/// Errors: `AllocError`, and then a front of that is appended.
 #[tactic(auto, using(crate::proofs::Fronts::front_first))]
 pub fn put_bytes(alloc: Global, number: u32, b: &[u8], out: &mut Vec<u8>) -> Result<(), AllocError>
     requires some { 1 ≤ number }
@@ -91,8 +97,9 @@ fn packed(alloc: Global, v: &[u32]) -> Result<Vec<u8>, AllocError>
     Ok(body)
 }
 
-/// Appends numbers as one packed field ("Packed Repeated Fields"); nothing where there are none. After want of memory a
-/// front of that.
+/// Appends numbers as one packed field ("Packed Repeated Fields"); nothing where there are none.
+///
+/// Errors: `AllocError`, and then a front of that is appended.
 pub fn put_packed(
     alloc: Global,
     number: u32,

@@ -105,6 +105,8 @@ impl WordsFault {
     }
 
     /// The line that tells it, with the forms of accepted words.
+    ///
+    /// Errors: `NoMemory`.
     pub fn line(self, alloc: Global) -> Result<String, NoMemory>
         ensures { IfOk result (λ l. string_bytes l ≡ fault_line self) }
     {

@@ -78,6 +78,9 @@ impl<'a> Options<'a> {
     }
 
     /// One more option and its value.
+    ///
+    /// Errors, the first that applies: `UnknownOption` where the word is none, `BadValue` where the value is empty or
+    /// begins with a dash, `Twice` where the option has a value.
     #[tactic(auto, unfolding(crate::specs::Words::with_option))]
     pub fn with(self, word: &String, value: &'a String) -> Result<Options<'a>, WordsFault>
         ensures { seen_answer result ≡ with_option (seen self.entry) (string_bytes word.now) (string_bytes value.entry.now) }

@@ -164,6 +164,9 @@ impl<'a> Settings<'a> {
     }
 
     /// One more option and its value. No value is empty or begins with a dash.
+    ///
+    /// Errors: `BadValue` where the value is that, or isn't of the option's grammar and range; else `Twice` where the
+    /// option has a value.
     #[tactic(auto, unfolding(crate::specs::Replay::set))]
     pub fn set(self, name: ReplayOption, value: &'a str) -> Result<Settings<'a>, ReplayFault>
         ensures { settings_answer result ≡ set (settings_seen self.entry) name value.entry.now }
@@ -175,6 +178,8 @@ impl<'a> Settings<'a> {
     }
 
     /// One more flag.
+    ///
+    /// Errors: `FlagTwice` where it is raised.
     pub fn raise(self, name: ReplayFlag) -> Result<Settings<'a>, ReplayFault>
         ensures { settings_answer result ≡ raise (settings_seen self.entry) name }
     {

@@ -157,7 +157,9 @@ fn show(words: &[String]) -> Result<Command<'_>, Or<WordsFault>>
     }
 }
 
-/// What the words ask for, or why they aren't accepted.
+/// What the words ask for.
+///
+/// Errors: the first fault, word by word, and then of what isn't there; and `NoMemory`.
 #[tactic(auto, unfolding(crate::specs::Words::words_of))]
 pub fn read_words(alloc: Global, words: &[String]) -> Result<Command<'_>, Or<WordsFault>>
     ensures { Answers (commanded result) (words_of (map string_bytes words.now)) }

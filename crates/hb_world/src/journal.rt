@@ -46,6 +46,8 @@ impl Journal {
     }
 
     /// Adds an entry at the end.
+    ///
+    /// Errors: `NoMemory`, and then nothing changes.
     pub fn add(&mut self, entry: Entry) -> Result<(), NoMemory>
         ensures ok { OnOk result (self.new ≡ record self.old { entries = self.old.entries ++ entry ∷ [] }) }
         ensures err { OnErr result (self.new ≡ self.old) }
@@ -59,6 +61,8 @@ impl Journal {
     }
 
     /// Adds two entries at the end.
+    ///
+    /// Errors: `NoMemory`, and then nothing changes.
     pub fn add_both(&mut self, first: Entry, second: Entry) -> Result<(), NoMemory>
         ensures ok { OnOk result (self.new ≡ record self.old { entries = self.old.entries ++ first ∷ second ∷ [] }) }
         ensures err { OnErr result (self.new ≡ self.old) }
@@ -76,6 +80,8 @@ impl Journal {
     }
 
     /// Adds the birth of a link at the end. Its Shut and its Closed are owed from now on.
+    ///
+    /// Errors: `NoMemory`, and then nothing changes.
     pub fn add_birth(&mut self, birth: Entry) -> Result<(), NoMemory>
         ensures ok { OnOk result (self.new ≡ record { entries = self.old.entries ++ birth ∷ []; owed = self.old.owed + 2 }) }
         ensures err { OnErr result (self.new ≡ self.old) }

@@ -31,7 +31,7 @@ impl Links {
         }
     }
 
-    /// What is kept of a link, if a line names it.
+    /// What is kept of a link. `None` where no line names it.
     pub fn get(&self, link: u64) -> Option<&ScriptLink>
         ensures { option_copied result ≡ entry_at self.now link }
     {
@@ -39,6 +39,8 @@ impl Links {
     }
 
     /// What a line to come will give the link that it names.
+    ///
+    /// Errors: `NoMemory`, and then what is kept of that link isn't said.
     pub fn expect(&mut self, alloc: Global, line: &Line) -> Result<(), NoMemory>
         ensures states { OnOk result ((l : ℕ) → state_at self.new l
             ≡ (if is_of l line.now then expecting (state_at self.old l) line.now else state_at self.old l)) }
@@ -119,6 +121,8 @@ impl Links {
 }
 
 /// What the lines of a script will give the links that they name.
+///
+/// Errors: `NoMemory`.
 pub fn links_of(alloc: Global, lines: &[Line]) -> Result<Links, NoMemory>
     ensures states { IfOk result (λ r. (l : ℕ) → state_at r l ≡ record { said = blank; coming = pieces_on l lines.now }) }
     ensures names { IfOk result (λ r. (l : ℕ) → is_named r l ≡ list_any (is_of l) lines.now) }

@@ -135,6 +135,8 @@ fn is_ready(item: ReadyItem, trace: &Trace, doors: &Doors<ScriptDoor>) -> bool
 }
 
 /// The listening doors and living links that lines name, in order, each once.
+///
+/// Errors: `NoMemory`.
 pub fn ready_items(
     alloc: Global,
     lines: &[Line],

@@ -65,6 +65,8 @@ impl ScriptLink {
     }
 
     /// One more piece of a line to come.
+    ///
+    /// Errors: `NoMemory`, and then nothing changes.
     pub fn expect(&mut self, piece: Bytes) -> Result<(), NoMemory>
         requires { 0 < length piece }
         ensures ok { OnOk result (self.new ≡ record self.old { coming = self.old.coming ++ piece ∷ [] }) }

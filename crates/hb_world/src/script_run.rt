@@ -81,7 +81,9 @@ impl ScriptRun {
         }
     }
 
-    /// Gives a run its lines in which nothing happened yet. Want of memory leaves it without lines.
+    /// Gives a run its lines in which nothing happened yet.
+    ///
+    /// Errors: `NoMemory`, and then it has no lines.
     pub fn load(&mut self, lines: List<Line>) -> Result<(), NoMemory>
         requires lines { self.old.lines ≡ [] }
         requires trace { self.old.trace ≡ [] }

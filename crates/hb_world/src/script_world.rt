@@ -44,7 +44,9 @@ impl ScriptWorld {
         }
     }
 
-    /// Gives a world its lines in which nothing happened yet. Want of memory leaves it without lines.
+    /// Gives a world its lines in which nothing happened yet.
+    ///
+    /// Errors: `NoMemory`, and then it has no lines.
     pub fn load(&mut self, lines: List<Line>) -> Result<(), NoMemory>
         requires lines { self.old.lines ≡ [] }
         requires trace { self.old.trace ≡ [] }
@@ -55,6 +57,8 @@ impl ScriptWorld {
     }
 
     /// The world of these lines, in which nothing happened yet.
+    ///
+    /// Errors: `NoMemory`.
     pub fn over(alloc: Global, lines: List<Line>) -> Result<ScriptWorld, NoMemory>
         ensures { IfOk result (λ w. w ≡ record { lines = lines; trace = []; birth_faults = 0 }) }
     {

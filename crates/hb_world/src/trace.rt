@@ -74,6 +74,8 @@ impl Trace {
     }
 
     /// Adds an entry at the end, neither a birth nor a Shut nor a Closed.
+    ///
+    /// Errors: `NoMemory`, and then the trace is unchanged.
     pub fn add(&mut self, entry: Entry) -> Result<(), NoMemory>
         requires { IsTrue (is_plain entry) }
         ensures ok { OnOk result (self.new ≡ self.old ++ entry ∷ []) }
@@ -84,6 +86,8 @@ impl Trace {
     }
 
     /// Adds two such entries.
+    ///
+    /// Errors: `NoMemory`, and then the trace is unchanged.
     pub fn add_both(&mut self, first: Entry, second: Entry) -> Result<(), NoMemory>
         requires first { IsTrue (is_plain first) }
         requires second { IsTrue (is_plain second) }
@@ -95,6 +99,8 @@ impl Trace {
     }
 
     /// Adds the birth of the next link at the end.
+    ///
+    /// Errors: `NoMemory`, and then the trace is unchanged.
     pub fn add_birth(&mut self, birth: Entry) -> Result<(), NoMemory>
         requires { IsBirth (births self.old + 1) birth }
         ensures ok { OnOk result (self.new ≡ self.old ++ birth ∷ []) }

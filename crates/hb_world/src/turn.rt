@@ -13,7 +13,7 @@ use crate::entry::Woken;
 use crate::line::Line;
 use crate::links::Links;
 
-/// How the wait ends that this line ends.
+/// How the wait ends that this line ends. `None` where the line ends no wait.
 pub fn woken(line: &Line) -> Option<Woken>
     ensures { result ≡ woken_by line.now }
 {
@@ -34,7 +34,7 @@ pub fn woken(line: &Line) -> Option<Woken>
     }
 }
 
-/// The link that a line names.
+/// The link that a line names. `None` where it names none.
 pub fn named_link(line: &Line) -> Option<u64>
     ensures { result ≡ link_of line.now }
 {
