@@ -1,5 +1,5 @@
 -- The rules of a policy.
-use Rattle.std.specs.Prelude.{ℕ, ◌==◌, nat_le, List, [], Result, Ok, Err, if◌then◌else◌}
+use Rattle.std.specs.Prelude.{ℕ, ◌==◌, nat_le, List, [], Result, Ok, if◌then◌else◌}
 use Rattle.hb_wire.specs.Field.{Unread, Content, Value, varint, eight, span, four}
 use Rattle.hb_wire.specs.Message.{and_then}
 use Rattle.hb_message.specs.Reading.{read_into, of_span}

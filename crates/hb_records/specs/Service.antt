@@ -1,5 +1,5 @@
 -- Services.
-use Rattle.std.specs.Prelude.{ℕ, ◌==◌, List, [], Some, None, Result, Ok, Err, if◌then◌else◌}
+use Rattle.std.specs.Prelude.{ℕ, ◌==◌, List, [], Some, None, Result, Ok, if◌then◌else◌}
 use Rattle.hb_wire.specs.Field.{Content}
 use Rattle.hb_wire.specs.Message.{and_then}
 use Rattle.hb_message.specs.Reading.{read_into, of_span}

@@ -1,5 +1,5 @@
 -- Workloads.
-use Rattle.std.specs.Prelude.{ℕ, ◌+◌, ◌==◌, nat_lt, List, [], true, false, Some, None, Result, Ok, Err, if◌then◌else◌}
+use Rattle.std.specs.Prelude.{ℕ, ◌+◌, ◌==◌, nat_lt, List, [], true, false, Some, None, Result, Ok, if◌then◌else◌}
 use Rattle.hb_wire.specs.Field.{Content, Value, varint, eight, span, four}
 use Rattle.hb_wire.specs.Message.{and_then}
 use Rattle.hb_message.specs.Reading.{read_into}
