@@ -13,7 +13,7 @@ use Rattle.hb_records.specs.Network.{no_network, network_with}
 use Rattle.hb_records.specs.Ports.{port_in}
 use Rattle.hb_records.specs.Gateway.{gateway_with}
 use Rattle.hb_records.specs.Service.{service_span, service_merged, no_service, service_with}
-use Rattle.hb_records.specs.Workload.{no_parts, parts_merged, workload_with}
+use Rattle.hb_records.specs.Workload.{parts_merged, workload_with}
 use Rattle.hb_records.specs.Address.{workload_there, service_there, address_span, address_merged, no_address, record_or, address_of}
 use Rattle.hb_canonical.proofs.Kept.{ok_cond, ok_then, ok_at, set_kept, span_kept, read_keeps, HasOctets, Taker}
 use Rattle.hb_canonical.proofs.Pieces.{IsText, IsList, no_text, no_list}

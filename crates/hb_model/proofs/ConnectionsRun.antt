@@ -10,7 +10,7 @@ use Rattle.hb_base.specs.declared.door.Why.TheVariants as whys
 use Rattle.hb_base.specs.declared.target.Target.{Target}
 use Rattle.hb_held.specs.Held.{Resources}
 use Rattle.hb_streams.specs.declared.role.Role.TheVariants.{Client}
-use Rattle.hb_conn.specs.Connection.{Connection, count_of, space_of, fresh_client, core_of, with_core}
+use Rattle.hb_conn.specs.Connection.{Connection, count_of, fresh_client, core_of, with_core}
 use Rattle.hb_conn.specs.Connection as conn
 use Rattle.hb_conn.specs.Observed.{output, creditable, opened, data_put, credited}
 use Rattle.hb_conn.specs.declared.found.Found.{Found}

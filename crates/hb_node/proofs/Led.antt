@@ -9,7 +9,7 @@ use Rattle.hb_model.specs.Point.{Point, applied, refused, used, put}
 use Rattle.hb_model.specs.Runs.{IsRefused, no_response, no_message}
 use Rattle.hb_node.specs.declared.inbox.Inbox.{Inbox}
 use Rattle.hb_node.specs.Inbox as box
-use Rattle.hb_node.specs.Inbox.{Refuses, TakesFront, TakesAll, lacks, refuses, applies, with_fed}
+use Rattle.hb_node.specs.Inbox.{Refuses, TakesAll, lacks, refuses, applies, with_fed}
 use Rattle.hb_node.specs.Leads.{LinkState, LinkSteps, Leads, stays, goes, with_response}
 use Rattle.hb_node.specs.Links.{Agrees, AgreesBy, with_puts}
 

@@ -1,5 +1,5 @@
 -- A packed field is taken apart number by number.
-use Rattle.std.proofs.Common.{◌≡◌, ℕ, zero, suc, ◌<◌, ◌≤◌, Bool, true, false, cond, ◌==◌, List, [], ◌∷◌, length, Option, Some, None, Result, Ok, Err, refl, sym, ap, ◌∙◌, arith}
+use Rattle.std.proofs.Common.{◌≡◌, ℕ, zero, suc, ◌≤◌, List, length, Option, Some, None, Result, Ok, Err, refl, sym, ◌∙◌, arith}
 use Rattle.hb_wire.specs.declared.fault.WireFault.{WireFault}
 use Rattle.hb_wire.specs.Field.{Unread, next_number_in}
 use Rattle.hb_wire.specs.Message.{and_then}

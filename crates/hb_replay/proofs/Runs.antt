@@ -1,5 +1,5 @@
 -- A run over a script, from what the loop says of it.
-use Rattle.std.proofs.Common.{◌≡◌, ℕ, Bool, false, List, [], None, inr, sym, subst, ◌∙◌}
+use Rattle.std.proofs.Common.{◌≡◌, Bool, false, List, None, inr, sym, subst, ◌∙◌}
 use Rattle.hb_world.specs.declared.entry.Entry.{Entry}
 use Rattle.hb_model.specs.declared.config.NodeConfig.{NodeConfig}
 use Rattle.hb_loop.specs.declared.turns.ServeEnd.{ServeEnd}

@@ -1,14 +1,14 @@
 -- What the map of an index and its cells has under each number, after each change of both.
-use Rattle.std.proofs.Common.{◌≡◌, ◌≢◌, ℕ, ◌+◌, ◌<◌, ◌≤◌, ◌^◌, zero, suc, eqb, Bool, cond, true, false, List, [], ◌∷◌, length, Option, Some, None, is_some, unwrap_or, IsSome, IfSome, IfNone, Result, Ok, Err, OnErr, MutBor, ◌⊎◌, inl, inr, refl, sym, ap, subst, ◌∙◌, option_and_then, arith}
+use Rattle.std.proofs.Common.{◌≡◌, ◌≢◌, ℕ, ◌<◌, ◌≤◌, ◌^◌, eqb, Bool, cond, true, false, List, [], ◌∷◌, Option, Some, None, is_some, unwrap_or, IsSome, IfSome, IfNone, Result, Ok, Err, OnErr, MutBor, ◌⊎◌, inl, inr, refl, sym, ap, subst, ◌∙◌, option_and_then, arith}
 use Rattle.std.specs.Option.{option_copied_mut, option_map}
 use Rattle.std.specs.Ordering.{nat_cmp}
 use Rattle.std.specs.Cmp.{nat_cmp_total, unsigned_tied}
 use Rattle.std.specs.FinMap.{FinMap, empty, entries, get, insert, remove, find, get-entries, get-empty, get-insert, get-remove, same_map, nat_cmp-IsAntisymmetric}
 use Rattle.std.proofs.lemmas.Bool.{false≢true, cases_eq}
-use Rattle.hb_map.specs.Keyed.{written, IsFirstFrom}
-use Rattle.hb_map.proofs.Laws.{put_here, put_elsewhere, removed_here, removed_elsewhere, written_where_some}
+use Rattle.hb_map.specs.Keyed.{IsFirstFrom}
+use Rattle.hb_map.proofs.Laws.{put_here, put_elsewhere, removed_here, removed_elsewhere}
 use Rattle.slab.specs.Slab as slab
-use Rattle.slab.specs.Slab.{Slab, Updates, with_value}
+use Rattle.slab.specs.Slab.{Slab, Updates}
 use Rattle.hb_slots.specs.Joined.{placed, joined_entries, joined, IsIndex}
 
 -- a key of 32 bits is its own number

@@ -1,5 +1,5 @@
 -- Maps that have the same numbers have as many values.
-use Rattle.std.proofs.Common.{◌≡◌, ℕ, ◌+◌, ◌⊎◌, inl, inr, zero, suc, true, false, List, [], ◌∷◌, length, Some, is_some, IsSome, cond, refl, sym, ap, ◌∙◌, arith}
+use Rattle.std.proofs.Common.{◌≡◌, ℕ, inl, inr, zero, suc, true, false, List, [], ◌∷◌, length, Some, is_some, IsSome, cond, refl, sym, ap, ◌∙◌, arith}
 use Rattle.std.specs.Ordering.{nat_cmp}
 use Rattle.std.specs.Cmp.{unsigned_tied}
 use Rattle.std.specs.FinMap.{FinMap, entries, get, remove, find, len, get-entries, len-entries, get-empty, empty_of_len}

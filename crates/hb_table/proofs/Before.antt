@@ -1,12 +1,11 @@
 -- What was held before a response, from what is held after it and what it changed.
-use Rattle.std.proofs.Common.{◌≡◌, ℕ, Bool, true, false, cond, length, ◌==◌, List, [], ◌∷◌, ◌++◌, Option, Some, None, is_some, Result, Ok, Err, refl, sym, ap, subst, ◌∙◌}
-use Rattle.std.specs.Prelude.{◌||◌, if◌then◌else◌}
+use Rattle.std.proofs.Common.{◌≡◌, ℕ, Bool, true, false, cond, length, ◌==◌, List, [], ◌∷◌, Option, Some, None, is_some, Result, Ok, Err, refl, sym, ap, subst, ◌∙◌}
+use Rattle.std.specs.Prelude.{if◌then◌else◌}
 use Rattle.std.specs.Result.{result_unwrap_or}
 use Rattle.std.specs.Str.{bytes_eq}
-use Rattle.std.specs.Ordering.{eq_by_cmp, is_eq}
-use Rattle.std.specs.Cmp.{tied_itself}
+use Rattle.std.specs.Ordering.{eq_by_cmp}
 use Rattle.std.specs.Cmp.Lexicographic.{nat_list_cmp_total}
-use Rattle.std.specs.FinMap.{empty, get, insert, remove, contains_key, get-empty, get-insert, get-remove, same_map}
+use Rattle.std.specs.FinMap.{empty, get, insert, remove, get-empty, get-insert, get-remove, same_map}
 use Rattle.hb_disco.specs.declared.kind.Kind.{Kind}
 use Rattle.hb_disco.specs.declared.kind.Kind.TheVariants.{Address, Authorization}
 use Rattle.hb_disco.specs.declared.response.Resource.{Resource}
@@ -17,7 +16,6 @@ use Rattle.hb_records.specs.declared.authorization.Authorization.{Authorization 
 use Rattle.hb_records.specs.declared.fault.RecordFault.{RecordFault}
 use Rattle.hb_records.specs.Address.{address_of}
 use Rattle.hb_records.specs.Authorization.{authorization_of}
-use Rattle.hb_held.specs.declared.outcome.RefusedWhy.{RefusedWhy}
 use Rattle.hb_held.specs.declared.outcome.RefusedWhy.TheVariants.{NoName, WrongType, Full}
 use Rattle.hb_base.specs.declared.peer.Peer.{Peer}
 use Rattle.hb_base.specs.declared.target.Target.{Target}
@@ -25,7 +23,7 @@ use Rattle.hb_held.specs.Lookup.{workload_at}
 use Rattle.hb_held.specs.declared.versioned.Versioned.{Versioned}
 use Rattle.hb_index.specs.Named.{Named}
 use Rattle.hb_index.specs.Kept.{note, note_removal, undone}
-use Rattle.hb_held.specs.Held.{Resources, begun, before, without, with_address, with_policy, with_came, fits, holds}
+use Rattle.hb_held.specs.Held.{Resources, begun, before, without, with_address, with_policy, with_came, fits}
 use Rattle.hb_held.specs.Outcome.{with_read_address, with_read_policy, with_record, with_resource, after_resource, after_removals, after_resources, after_response}
 use Rattle.hb_table.specs.Judgement.{judged}
 use Rattle.hb_index.proofs.Entries.{by_bytes, equal, differ}

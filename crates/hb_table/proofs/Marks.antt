@@ -1,11 +1,11 @@
 -- A walk over the streams that looks for a mark.
-use Rattle.std.proofs.Common.{◌≡◌, ℕ, ◌+◌, ◌-◌, ◌<◌, ◌≤◌, ◌^◌, ◌⊎◌, inl, inr, Option, Some, None, IsFalse, ap, subst, sym, ◌∙◌, arith}
+use Rattle.std.proofs.Common.{◌≡◌, ℕ, ◌+◌, ◌-◌, ◌<◌, ◌^◌, inl, inr, Option, Some, None, IsFalse, ap, ◌∙◌, arith}
 use Rattle.std.specs.Ordering.{nat_cmp}
 use Rattle.std.specs.FinMap.{FinMap, get}
 use Rattle.std.proofs.lemmas.Bool.{cases_lt, cases_eq}
 use Rattle.hb_map.specs.Keyed.{IsFirstFrom}
 use Rattle.hb_table.specs.declared.entry.Entry.{Entry}
-use Rattle.hb_table.specs.Table.{is_marked, is_marked_at, IsFirstMarked}
+use Rattle.hb_table.specs.Table.{is_marked, is_marked_at}
 
 -- no tunnel in front of this stream is marked; none at all where there is no such stream
 abbrev pub NoneMarkedBefore : FinMap nat_cmp Entry → Option ℕ → Type 0

@@ -1,7 +1,7 @@
 -- A response that tells no change has changed nothing.
-use Rattle.std.proofs.Common.{◌≡◌, ℕ, Bool, true, false, cond, List, [], ◌∷◌, ◌++◌, map, Option, Some, None, is_some, Result, Ok, Err, refl, sym, ap, subst, ◌∙◌}
+use Rattle.std.proofs.Common.{◌≡◌, ℕ, Bool, true, false, cond, List, [], ◌∷◌, ◌++◌, Option, Some, None, is_some, Result, Ok, Err, refl, sym, ap, subst, ◌∙◌}
 use Rattle.std.specs.Result.{result_unwrap_or}
-use Rattle.std.specs.FinMap.{empty, get, get-empty}
+use Rattle.std.specs.FinMap.{get, get-empty}
 use Rattle.std.specs.Cmp.Lexicographic.{slice_cmp}
 use Rattle.std.specs.Ordering.{nat_cmp}
 use Rattle.hb_disco.specs.declared.kind.Kind.{Kind}
@@ -9,7 +9,6 @@ use Rattle.hb_disco.specs.declared.kind.Kind.TheVariants.{Address, Authorization
 use Rattle.hb_disco.specs.declared.response.Resource.{Resource}
 use Rattle.hb_disco.specs.declared.response.Response.{Response}
 use Rattle.hb_held.specs.declared.outcome.RefusedWhy.{RefusedWhy}
-use Rattle.hb_held.specs.declared.versioned.Versioned.{Versioned}
 use Rattle.hb_index.specs.Named.{Named}
 use Rattle.hb_index.specs.Kept.{note_removal}
 use Rattle.hb_held.specs.Held.{Resources, is_changed, holds, begun, without, with_came}

@@ -1,5 +1,5 @@
 -- One slot at an update: where it isn't judged it is admitted, so nothing changes.
-use Rattle.std.proofs.Common.{◌≡◌, ℕ, ◌+◌, Bool, true, false, not, List, [], ◌∷◌, Option, Some, None, refl, sym, ap, ◌∙◌}
+use Rattle.std.proofs.Common.{◌≡◌, ℕ, Bool, true, false, not, List, [], ◌∷◌, Option, Some, None, refl, sym, ap, ◌∙◌}
 use Rattle.std.specs.Prelude.{◌&&◌, ◌||◌}
 use Rattle.std.specs.List.{list_any}
 use Rattle.std.specs.FinMap.{entries}
@@ -14,7 +14,7 @@ use Rattle.hb_held.specs.Lookup.{workload_at, known}
 use Rattle.hb_held.specs.Policies.{is_for}
 use Rattle.hb_held.specs.Touched.{is_workload_changed, is_policy_changed, is_touched_in, touched}
 use Rattle.hb_table.specs.declared.judgement.Judged.{Judged}
-use Rattle.hb_table.specs.declared.judgement.Judged.TheVariants.{Admitted, Unknown, Denied}
+use Rattle.hb_table.specs.declared.judgement.Judged.TheVariants.{Admitted}
 use Rattle.hb_table.specs.declared.entry.Entry.{Entry}
 use Rattle.hb_table.specs.Judgement.{judged}
 use Rattle.hb_table.specs.Revoking.{is_admitted, is_refused, is_judged, after_update, WasAdmitted}

@@ -1,13 +1,12 @@
 -- What the condition of an update gives.
-use Rattle.std.proofs.Common.{◌≡◌, ℕ, Bool, true, false, List, [], ◌∷◌, Option, Some, None, IsTrue, refl, sym, ap, subst, ◌∙◌, arith}
+use Rattle.std.proofs.Common.{◌≡◌, ℕ, Bool, true, false, List, [], Option, Some, None, IsTrue, refl, sym, ap, subst, ◌∙◌}
 use Rattle.std.specs.Prelude.{◌&&◌}
 use Rattle.std.specs.Option.{option_map}
 use Rattle.std.specs.Ordering.{nat_cmp}
-use Rattle.std.specs.FinMap.{FinMap, get, entries}
+use Rattle.std.specs.FinMap.{FinMap, get}
 use Rattle.hb_held.specs.declared.outcome.Changed.{Changed}
 use Rattle.hb_held.specs.Held.{Resources, before, begun}
 use Rattle.hb_held.specs.Outcome.{after_removals, after_resources}
-use Rattle.hb_held.specs.Touched.{touched}
 use Rattle.hb_table.specs.declared.entry.Entry.{Entry}
 use Rattle.hb_table.specs.Judgement.{judged}
 use Rattle.hb_table.specs.Revoking.{FollowsAdmitted, WereAdmitted, is_refused, is_judged, after_update, how_many}

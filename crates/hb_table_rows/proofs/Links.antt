@@ -1,5 +1,5 @@
 -- That a link's tunnels were admitted, from one addition to the next, and what an update of them asks for.
-use Rattle.std.proofs.Common.{◌≡◌, ℕ, true, List, Some, None, unwrap_or, IsTrue, ◌⊎◌, inl, inr, refl, sym, ap, subst, ◌∙◌}
+use Rattle.std.proofs.Common.{◌≡◌, ℕ, Some, None, unwrap_or, IsTrue, inl, inr, sym, ap, subst, ◌∙◌}
 use Rattle.std.specs.Ordering.{nat_cmp}
 use Rattle.std.specs.FinMap.{FinMap, get, insert, empty, get-empty}
 use Rattle.std.proofs.lemmas.Bool.{cases_eq}

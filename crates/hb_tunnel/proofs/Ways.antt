@@ -1,5 +1,5 @@
 -- What is pushed on a way is taken or held.
-use Rattle.std.proofs.Common.{◌≡◌, ℕ, List, [], ◌∷◌, ◌++◌, take, drop, sym, ap, ◌∙◌, append_assoc}
+use Rattle.std.proofs.Common.{◌≡◌, List, [], ◌∷◌, ◌++◌, take, drop, sym, ap, ◌∙◌, append_assoc}
 use Rattle.std.proofs.lemmas.List.{append-nil, take-append-drop}
 use Rattle.hb_tunnel.specs.Way.{Way, Move, pushes, takes, ends, after}
 use Rattle.hb_tunnel.specs.Laws.{pushed, taken, after_all}

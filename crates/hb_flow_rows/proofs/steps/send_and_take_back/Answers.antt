@@ -1,4 +1,4 @@
-use Rattle.std.proofs.Common.{rules, pos, ◌+ℤ◌, ◌≤ℤ◌, IfSome, sym, subst, arith}
+use Rattle.std.proofs.Common.{rules, pos, ◌+ℤ◌, ◌≤ℤ◌, IfSome, sym, subst}
 use Rattle.std.specs.FinMap.{get}
 use Rattle.hb_windows.specs.Sending.{largest}
 use Rattle.hb_flow.specs.Flows.{Flows}

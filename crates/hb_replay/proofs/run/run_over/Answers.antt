@@ -1,5 +1,5 @@
 use Rattle.std.proofs.Common.{ap, Some}
-use Rattle.hb_replay.proofs.Runs.{ran, done}
+use Rattle.hb_replay.proofs.Runs.{ran}
 use Rattle.hb_replay.proofs.run.run_over.Goals as goal
 
 pub returns-in-Stopped-clause-runs : goal.returns-in-Stopped-clause-runs

@@ -1,4 +1,4 @@
-use Rattle.std.proofs.Common.{sym, ap, subst, ◌∙◌}
+use Rattle.std.proofs.Common.{sym, subst, ◌∙◌}
 use Rattle.hb_table.specs.Table.{unmarked}
 use Rattle.hb_table.specs.Revoking.{WereAdmitted}
 use Rattle.hb_table_rows.proofs.Links.{admitted_with}

@@ -1,4 +1,4 @@
-use Rattle.std.proofs.Common.{◌≡◌, ap, sym, ◌∙◌, refl, Some, is_some, IsSome}
+use Rattle.std.proofs.Common.{ap, sym, ◌∙◌, refl, is_some}
 use Rattle.std.specs.FinMap as map
 use Rattle.hb_map.proofs.Laws.{written_where_some, written_where_none}
 use Rattle.slab.proofs.SlabLemmas.{Updates-with_value}

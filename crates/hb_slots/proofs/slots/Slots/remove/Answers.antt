@@ -1,4 +1,4 @@
-use Rattle.std.proofs.Common.{ap, sym, subst, ◌∙◌, refl}
+use Rattle.std.proofs.Common.{ap, sym, subst, ◌∙◌}
 use Rattle.std.specs.FinMap as map
 use Rattle.hb_slots.specs.Joined.{joined, IsIndex}
 use Rattle.hb_slots.proofs.Joins.{at_key, none_joined, joined_remove, index_remove, joined_without, index_without}

@@ -1,4 +1,4 @@
-use Rattle.std.proofs.Common.{ℕ, ◌-◌, ◌^◌, Option, Some, None}
+use Rattle.std.proofs.Common.{◌-◌}
 use Rattle.hb_table.proofs.Marks.{NoneMarkedBefore, left_from}
 use Rattle.hb_table.proofs.tunnels.Tunnels.next_revoked.Given as goal
 
