@@ -65,7 +65,8 @@ module _ {X : Type 0} (p : List ℕ × X → Bool) where
             ]
       ] refl
 
-  pub passing_alike : (m n : Named X) → ((q : List ℕ) → passed q (get m q) ≡ passed q (get n q)) → filter p (entries m) ≡ filter p (entries n)
+  pub passing_alike : (m n : Named X) → ((q : List ℕ) → passed q (get m q) ≡ passed q (get n q))
+      → filter p (entries m) ≡ filter p (entries n)
   passing_alike m n h =
       same_list _ _ (rise_filter p _ (entries_rise m)) (rise_filter p _ (entries_rise n)) (λ q.
       find_filter (entries m) q (entries_rise m) ∙ ap (passed q) (sym (get-entries m q)) ∙ h q

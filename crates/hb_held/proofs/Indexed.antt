@@ -177,7 +177,9 @@ module _ (m : Named (Versioned AddressRecord)) (network : List ℕ) (ip : Ip) wh
   services_named names all = λ name s at. named (Some names) all name at.0 at.1 (service_number network ip at.0.content s at.2 at.3)
 
   pub no_workload_named : AreNamesAt m (number_of ip) None → IsLeastBy workload_in (has_address network ip) m None
-  no_workload_named all = λ name w at. never (sym (nothing_found name) ∙ named None all name at.0 at.1 (workload_number network ip at.0.content w at.2 at.3))
+  no_workload_named all = λ name w at. never
+      (sym (nothing_found name) ∙ named None all name at.0 at.1 (workload_number network ip at.0.content w at.2 at.3))
 
   pub no_service_named : AreNamesAt m (number_of ip) None → IsLeastBy service_in (serves_at network ip) m None
-  no_service_named all = λ name s at. never (sym (nothing_found name) ∙ named None all name at.0 at.1 (service_number network ip at.0.content s at.2 at.3))
+  no_service_named all = λ name s at. never
+      (sym (nothing_found name) ∙ named None all name at.0 at.1 (service_number network ip at.0.content s at.2 at.3))

@@ -33,7 +33,8 @@ apart : (k q : List ℕ) → by_bytes k q ≡ Less → eq_by_cmp by_bytes q k �
 apart k q h = ap is_eq (nat_list_cmp_total.antisymm q k ∙ ap ordering_reverse h)
 
 -- a name found behind the first entry is found among all
-pub found_later : {A : Type 0} (e : List ℕ × A) (es : List (List ℕ × A)) (q : List ℕ) (v : A) → AllBehind e.0 es → find by_bytes q es ≡ Some v
+pub found_later : {A : Type 0} (e : List ℕ × A) (es : List (List ℕ × A)) (q : List ℕ) (v : A) → AllBehind e.0 es
+    → find by_bytes q es ≡ Some v
     → find by_bytes q (e ∷ es) ≡ Some v
 found_later e es q v h is =
     ap (λ b. cond b (Some e.1) (find by_bytes q es)) (apart e.0 q (found_behind e.0 es q v h is)) ∙ is

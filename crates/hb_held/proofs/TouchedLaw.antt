@@ -55,7 +55,8 @@ module _ (h : Resources) (ip : Ip) where
       → (w : Workload) × IsAt (before h) ip k w
   was_there k None is had = absurd cc
   was_there k (Some v) is had =
-      elim (workload_of v.content) as (λ x. workload_of v.content ≡ x → is_at h.network ip x ≡ true → (w : Workload) × IsAt (before h) ip k w) [
+      elim (workload_of v.content) as
+      (λ x. workload_of v.content ≡ x → is_at h.network ip x ≡ true → (w : Workload) × IsAt (before h) ip k w) [
         | None ↦ λ _ no. absurd cc
         | Some w ↦ λ e at. (w, (v, changed h.addresses h.past_addresses k (Some v) is, e, at))
       ] refl had
@@ -129,7 +130,8 @@ module _ (h : Resources) (w : Workload) where
   is_noted : (k : List ℕ) (v : Versioned Policy) → passes (k, v) ≡ true
       → ((stood : Option (Versioned Policy)) → get h.past_policies k ≡ Some stood → stood_for (k, stood) ≡ true) → had_policy h w ≡ true
   is_noted k v p stood =
-      let note = is_there (get h.past_policies k) (and_left _ _ p) in any_held stood_for h.past_policies k note.0 note.1 (stood note.0 note.1)
+      let note = is_there (get h.past_policies k) (and_left _ _ p) in
+      any_held stood_for h.past_policies k note.0 note.1 (stood note.0 note.1)
 
   before_noted : list_any passes (entries (before h).policies) ≡ true → had_policy h w ≡ true
   before_noted any =
@@ -219,8 +221,10 @@ module _ (h : Resources) (ip : Ip) where
       ] refl
 
 of_node_in : (h r : Resources) (ip : Ip) (o : Option (List ℕ × Workload)) → workload_at r ip ≡ o → is_touched_in h r ip ≡ in_with h r o
-of_node_in h r ip None is = ap (λ t. is_workload_changed h t || is_policy_changed h r.policies (option_and_then (λ e. cond (bytes_eq e.1.node r.node) (Some e) None) t)) is
-of_node_in h r ip (Some e) is = ap (λ t. is_workload_changed h t || is_policy_changed h r.policies (option_and_then (λ e. cond (bytes_eq e.1.node r.node) (Some e) None) t)) is
+of_node_in h r ip None is = ap (λ t. is_workload_changed h t || is_policy_changed h r.policies
+    (option_and_then (λ e. cond (bytes_eq e.1.node r.node) (Some e) None) t)) is
+of_node_in h r ip (Some e) is = ap (λ t. is_workload_changed h t || is_policy_changed h r.policies
+    (option_and_then (λ e. cond (bytes_eq e.1.node r.node) (Some e) None) t)) is
 
 pub from_is_touched : (h : Resources) (ip : Ip) → touched_from h ip (workload_at h ip) ≡ touched h ip
 from_is_touched h ip =
@@ -252,7 +256,8 @@ module _ (h : Resources) (w : Workload) where
   abbrev for_it : List ℕ × Versioned Policy → Bool
   for_it e = is_for w e.1.content
 
-  none_passes : (m : Named (Versioned Policy)) (q : List ℕ) → is_changed h Authorization q ≡ true → list_any (passes h w) (entries m) ≡ false
+  none_passes : (m : Named (Versioned Policy)) (q : List ℕ) → is_changed h Authorization q ≡ true
+      → list_any (passes h w) (entries m) ≡ false
       → passed for_it q (get m q) ≡ None
   none_passes m q was none =
       elim (get m q) as (λ o. get m q ≡ o → passed for_it q o ≡ None) [
@@ -267,7 +272,8 @@ module _ (h : Resources) (w : Workload) where
   contents [] = refl
   contents (e ∷ es) =
       elim (is_for w e.1.content) as (λ b.
-      cond b (e.1.content ∷ policies_in es w) (policies_in es w) ≡ map (λ e. e.1.content) (cond b (e ∷ filter for_it es) (filter for_it es))) [
+      cond b (e.1.content ∷ policies_in es w) (policies_in es w)
+      ≡ map (λ e. e.1.content) (cond b (e ∷ filter for_it es) (filter for_it es))) [
         | true ↦ ap (λ ps. e.1.content ∷ ps) (contents es)
         | false ↦ contents es
       ]

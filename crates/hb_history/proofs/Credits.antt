@@ -130,7 +130,8 @@ falls_by old new told (Err refusal) is steps =
 step_falls : (old new : Receiver) (told : Found) → Steps old new told → Falls old new told
 step_falls old new told steps = falls_by old new told (first_of old.reader.max old.reader.held) refl steps
 
-passes_fall : (through : List Receiver) (old last : Receiver) → Passes through old last → credit_most_of last.reader ≤ credit_most_of old.reader
+passes_fall : (through : List Receiver) (old last : Receiver) → Passes through old last
+    → credit_most_of last.reader ≤ credit_most_of old.reader
 passes_fall [] old last passes = omega (arith, ap (λ (r : Receiver). credit_most_of r.reader) passes)
 passes_fall (mid ∷ through) old last passes =
     omega (arith, step_falls old mid Silent passes.0, passes_fall through mid last passes.1)

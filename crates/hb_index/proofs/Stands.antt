@@ -176,7 +176,8 @@ module _ (name : List ℕ) where
       ∙ elim (n == k) as (λ b. (n == k) ≡ b
       → (not (is_among ks k && not (is_among kept k)) && stands_at (cond (is_among kept n) m (without_name m n name)) k q)
       ≡ (not ((b || is_among ks k) && not (is_among kept k)) && stands_at m k q)) [
-        | true ↦ λ e. ap (λ x. not (is_among ks k && not (is_among kept k)) && stands_at (cond (is_among kept x) m (without_name m n name)) k q)
+        | true ↦ λ e. ap (λ x. not (is_among ks k && not (is_among kept k)) && stands_at
+            (cond (is_among kept x) m (without_name m n name)) k q)
             (same_number n k e)
             ∙ elim (is_among kept k) as (λ b. (not (is_among ks k && not b) && stands_at (cond b m (without_name m n name)) k q)
             ≡ (not (not b) && stands_at m k q)) [

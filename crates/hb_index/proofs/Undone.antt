@@ -125,12 +125,14 @@ module _ {T : Type 0} where
       sym (ap (λ b. cond b past (insert past name stood)) h ∙ sym (same_map nat_list_cmp_total differ _ _ (λ q.
       get-insert nat_list_cmp_total (insert past name None) name stood q
       ∙ ap (cond (eq_by_cmp by_bytes q name) (Some stood)) (get-insert nat_list_cmp_total past name None q)
-      ∙ elim (eq_by_cmp by_bytes q name) as (λ b. cond b (Some stood) (cond b (Some None) (get past q)) ≡ cond b (Some stood) (get past q)) [
+      ∙ elim (eq_by_cmp by_bytes q name) as
+      (λ b. cond b (Some stood) (cond b (Some None) (get past q)) ≡ cond b (Some stood) (get past q)) [
         | true ↦ refl
         | false ↦ refl
       ] ∙ sym (get-insert nat_list_cmp_total past name stood q))))
 
-  pub note_again : (past : Named (Option T)) (name : List ℕ) (stood : Option T) → is_some (get past name) ≡ true → note past name stood ≡ past
+  pub note_again : (past : Named (Option T)) (name : List ℕ) (stood : Option T) → is_some (get past name) ≡ true
+      → note past name stood ≡ past
   note_again past name stood h = ap (λ b. cond b past (insert past name stood)) h
 
   pub note_held : (past : Named (Option T)) (name : List ℕ) (stood : Option T) → is_some stood ≡ true

@@ -96,7 +96,8 @@ one_point l answered (looked k points told headers) why is =
     inr (inl (told_end answered headers told why (told_here (k == l) (end_by answered headers told) why is)))
 one_point l answered (applied k r) why is = absurd cc
 one_point l answered (refused k) why is =
-    inr (inl (subst IsTold (let same : cause.Discovery ≡ why = (let here = told_here (k == l) (Some cause.Discovery) why is in cc) in same) tt))
+    inr (inl (subst IsTold
+    (let same : cause.Discovery ≡ why = (let here = told_here (k == l) (Some cause.Discovery) why is in cc) in same) tt))
 one_point l answered (used k n) why is = absurd cc
 one_point l answered (put k bytes) why is = absurd cc
 one_point l answered (stopped by) why is = inr (inr (let same : by ≡ why = cc in ap stopped same))

@@ -246,7 +246,8 @@ live_current (Some k) m l shows lives =
 
 goes_by : (here : Bool) (bytes : List ℕ) (x : Discovery) → x.phase ≡ live
     → GoesOn (if here then while_open (came bytes) x else x).phase
-goes_by true bytes x lives = subst (λ (y : Discovery). GoesOn y.phase) (sym (live_changes (came bytes) x lives)) (subst GoesOn (sym lives) tt)
+goes_by true bytes x lives =
+    subst (λ (y : Discovery). GoesOn y.phase) (sym (live_changes (came bytes) x lives)) (subst GoesOn (sym lives) tt)
 goes_by false bytes x lives = subst GoesOn (sym lives) tt
 
 -- the node lacks memory for them

@@ -66,7 +66,8 @@ tick_goes stated left n links wanting trace more at =
     })
 
 pub tick_on : (stated : Asked) (left : Option ℕ) (n links : ℕ) (wanting : Bool) (told : Option (List Entry))
-    → is_spent (one_less left) ≡ false → IfSome told (IsBehindTick stated left n links wanting) → IfSome told (Reckons stated (one_less left) n links wanting)
+    → is_spent (one_less left) ≡ false → IfSome told (IsBehindTick stated left n links wanting)
+    → IfSome told (Reckons stated (one_less left) n links wanting)
 tick_on stated left n links wanting told more =
     if_told (IsBehindTick stated left n links wanting) (Reckons stated (one_less left) n links wanting) told
     (λ trace at. tick_goes stated left n links wanting trace more at)

@@ -69,19 +69,27 @@ heard_conn g held e.Tick l d quiet = refl
 heard_conn g held (e.Wait ready way) l d quiet = refl
 
 pub quiet_passes : (g : NodeConfig) (l : ℕ) (x : Entry) → IsQuietEntry x → Passes g l (entry x)
-quiet_passes g l (e.Accepted k door) quiet = record { moves = refl; came = refl; went = refl; tells = refl; response = refl; request = λ held. refl }
+quiet_passes g l (e.Accepted k door) quiet =
+    record { moves = refl; came = refl; went = refl; tells = refl; response = refl; request = λ held. refl }
 quiet_passes g l (e.Dialled k to why) quiet = absurd quiet
-quiet_passes g l (e.DialFailed to why) quiet = record { moves = refl; came = refl; went = refl; tells = refl; response = refl; request = λ held. refl }
-quiet_passes g l (e.Opened k) quiet = record { moves = refl; came = refl; went = refl; tells = refl; response = refl; request = λ held. refl }
+quiet_passes g l (e.DialFailed to why) quiet =
+    record { moves = refl; came = refl; went = refl; tells = refl; response = refl; request = λ held. refl }
+quiet_passes g l (e.Opened k) quiet =
+    record { moves = refl; came = refl; went = refl; tells = refl; response = refl; request = λ held. refl }
 quiet_passes g l (e.Came k bytes) quiet = absurd quiet
-quiet_passes g l (e.Ended k) quiet = record { moves = refl; came = refl; went = refl; tells = refl; response = refl; request = λ held. refl }
-quiet_passes g l (e.Broke k) quiet = record { moves = refl; came = refl; went = refl; tells = refl; response = refl; request = λ held. refl }
+quiet_passes g l (e.Ended k) quiet =
+    record { moves = refl; came = refl; went = refl; tells = refl; response = refl; request = λ held. refl }
+quiet_passes g l (e.Broke k) quiet =
+    record { moves = refl; came = refl; went = refl; tells = refl; response = refl; request = λ held. refl }
 quiet_passes g l (e.Went k bytes) quiet = absurd quiet
-quiet_passes g l (e.Balked way) quiet = record { moves = refl; came = refl; went = refl; tells = refl; response = refl; request = λ held. refl }
+quiet_passes g l (e.Balked way) quiet =
+    record { moves = refl; came = refl; went = refl; tells = refl; response = refl; request = λ held. refl }
 quiet_passes g l (e.Shut k) quiet = record { moves = refl; came = refl; went = refl; tells = refl; response = refl; request = λ held. refl }
-quiet_passes g l (e.Closed k cause) quiet = record { moves = refl; came = refl; went = refl; tells = refl; response = refl; request = λ held. refl }
+quiet_passes g l (e.Closed k cause) quiet =
+    record { moves = refl; came = refl; went = refl; tells = refl; response = refl; request = λ held. refl }
 quiet_passes g l e.Tick quiet = record { moves = refl; came = refl; went = refl; tells = refl; response = refl; request = λ held. refl }
-quiet_passes g l (e.Wait ready way) quiet = record { moves = refl; came = refl; went = refl; tells = refl; response = refl; request = λ held. refl }
+quiet_passes g l (e.Wait ready way) quiet =
+    record { moves = refl; came = refl; went = refl; tells = refl; response = refl; request = λ held. refl }
 
 pub on_itself : {A : Type 0} (k : ℕ) (xs : List A) → (if k == k then xs else []) ≡ xs
 on_itself k xs = rw (eq-eqb k k refl) refl
@@ -183,13 +191,15 @@ module _ (g : NodeConfig) (m : Machine) (points : List Point) (unborn : AreUnbor
       (subst (λ ps. ConnStandsFor Client ps (tellings k points) (recv k (entries points) ++ bytes) (sent k (entries points) ++ [])
       (conn.taken c bytes))
       (sym (append-nil (moves k points)))
-      (subst (λ bs. ConnStandsFor Client (moves k points) (tellings k points) (recv k (entries points) ++ bs) (sent k (entries points) ++ [])
+      (subst (λ bs. ConnStandsFor Client (moves k points) (tellings k points) (recv k (entries points) ++ bs)
+      (sent k (entries points) ++ [])
       (conn.taken c bytes))
       all
       (subst (λ bs. ConnStandsFor Client (moves k points) (tellings k points) (recv k (entries points) ++ take (count_of c bytes) bytes) bs
       (conn.taken c bytes))
       (sym (append-nil (sent k (entries points))))
-      (take_adds Client (moves k points) (tellings k points) (recv k (entries points)) (sent k (entries points)) bytes c may.1 (one k).stands))))))
+      (take_adds Client (moves k points) (tellings k points) (recv k (entries points)) (sent k (entries points)) bytes c may.1
+      (one k).stands))))))
       (λ l apart. passes_came g l k bytes apart)
 
   went_one : (k : ℕ) (bytes rest : List ℕ) → ((m.links k).phase ≡ live) ⊎ IsFaulted m k → output (m.links k).conn ≡ bytes ++ rest
@@ -257,7 +267,8 @@ module _ (g : NodeConfig) (m : Machine) (points : List Point) (unborn : AreUnbor
       (grown (looked k ps told headers) k (on_found told steps.1 (m.links k)) ps [] [] (in_list told) (on_itself k ps) refl refl
       (on_itself k (in_list told))
       (with_none k (moves k points ++ ps) (recv k (entries points)) (sent k (entries points)) (tellings k points ++ in_list told) steps.1
-      (looks_add Client (moves k points) ps (tellings k points) (recv k (entries points)) (sent k (entries points)) (m.links k).conn steps.1 told
+      (looks_add Client (moves k points) ps (tellings k points) (recv k (entries points)) (sent k (entries points))
+      (m.links k).conn steps.1 told
       (one k).stands look.finds look.looks look.runs look.frames look.tells)))
       (λ l apart. passes_looked g l k ps told headers apart)
   point_one (applied k r) n steps =

@@ -116,7 +116,12 @@ pub split : (points : List Point) (before : List Entry) (e : Entry) (after : Lis
 split [] [] e after is = absurd cc
 split [] (b ∷ before) e after is = absurd cc
 split (entry x ∷ points) [] e after is =
-    record { front = []; rest = points; points_are = (let same : x ≡ e = cc in ap (λ (y : Entry). entry y ∷ points) same); before_is = refl }
+    record {
+      front = [];
+      rest = points;
+      points_are = (let same : x ≡ e = cc in ap (λ (y : Entry). entry y ∷ points) same);
+      before_is = refl;
+    }
 split (entry x ∷ points) (b ∷ before) e after is =
     let same : x ≡ b = cc in
     subst (λ (y : Entry). Split (entry x ∷ points) (y ∷ before) e) same

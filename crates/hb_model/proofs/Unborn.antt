@@ -49,13 +49,15 @@ none_more g l points p none passes = record {
 }
 
 pub passes_dial : (g : NodeConfig) (l k : ℕ) (to : _) (why : _) → (k == l) ≡ false → Passes g l (entry (e.Dialled k to why))
-passes_dial g l k to why is = record { moves = rw is refl; came = refl; went = refl; tells = refl; response = refl; request = λ held. rw is refl }
+passes_dial g l k to why is =
+    record { moves = rw is refl; came = refl; went = refl; tells = refl; response = refl; request = λ held. rw is refl }
 
 pub passes_came : (g : NodeConfig) (l k : ℕ) (bytes : List ℕ) → (k == l) ≡ false → Passes g l (entry (e.Came k bytes))
 passes_came g l k bytes is = record { moves = refl; came = rw is refl; went = refl; tells = refl; response = refl; request = λ held. refl }
 
 pub passes_went : (g : NodeConfig) (l k : ℕ) (bytes : List ℕ) → (k == l) ≡ false → Passes g l (entry (e.Went k bytes))
-passes_went g l k bytes is = record { moves = rw is refl; came = refl; went = rw is refl; tells = refl; response = refl; request = λ held. refl }
+passes_went g l k bytes is =
+    record { moves = rw is refl; came = refl; went = rw is refl; tells = refl; response = refl; request = λ held. refl }
 
 pub passes_looked : (g : NodeConfig) (l k : ℕ) (points : _) (told : _) (headers : _) → (k == l) ≡ false
     → Passes g l (looked k points told headers)
@@ -63,7 +65,8 @@ passes_looked g l k points told headers is =
     record { moves = rw is refl; came = refl; went = refl; tells = rw is refl; response = refl; request = λ held. refl }
 
 pub passes_applied : (g : NodeConfig) (l k : ℕ) (r : Response) → (k == l) ≡ false → Passes g l (applied k r)
-passes_applied g l k r is = record { moves = refl; came = refl; went = refl; tells = refl; response = rw is refl; request = λ held. rw is refl }
+passes_applied g l k r is =
+    record { moves = refl; came = refl; went = refl; tells = refl; response = rw is refl; request = λ held. rw is refl }
 
 pub passes_used : (g : NodeConfig) (l k n : ℕ) → (k == l) ≡ false → Passes g l (used k n)
 passes_used g l k n is = record { moves = rw is refl; came = refl; went = refl; tells = refl; response = refl; request = λ held. refl }
@@ -179,7 +182,8 @@ module _ (g : NodeConfig) (m : Machine) (points : List Point) (before : AreUnbor
 pub are_unborn : (g : NodeConfig) (m : Machine) (points : List Point) → StandsFor g m points → AreUnborn g m points
 are_unborn g m points (begins is none) = λ l above. record {
   link = ap (λ (x : Machine). x.links l) is;
-  none = subst (AreNone g l) (sym none) (record { moves = refl; came = refl; went = refl; tells = refl; responses = refl; requests = refl });
+  none = subst (AreNone g l) (sym none)
+      (record { moves = refl; came = refl; went = refl; tells = refl; responses = refl; requests = refl });
 }
 are_unborn g n more (goes_on before p steps grows) =
     subst (AreUnborn g n) (sym grows) (point_unborn g _ _ (are_unborn g _ _ before) p n steps)

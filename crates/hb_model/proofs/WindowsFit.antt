@@ -26,7 +26,8 @@ goes_within g m before l bytes rest stands is =
       rest = rest;
       first = is;
       fit =
-          data_fits Client (moves l before) (tellings l before) (recv l (entries before)) (sent l (entries before)) (m.links l).conn one.stands
+          data_fits Client (moves l before) (tellings l before) (recv l (entries before)) (sent l (entries before))
+          (m.links l).conn one.stands
           (length bytes);
     }
 

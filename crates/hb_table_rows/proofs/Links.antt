@@ -31,7 +31,8 @@ follows old held r outcome t held_is outcome_is were =
     (old, record { response = r; held_is = held_is; changed_is = ap (λ o. o.changed) outcome_is }, were)
 
 pub is_settled : (old held : Resources) (r : Response) → held ≡ after_response old r → IsTrue held.settled
-is_settled old held r held_is = subst (λ held. IsTrue held.settled) (sym held_is) (settles (after_resources (after_removals (begun old) r.kind r.removed) r.kind r.resources) r.kind)
+is_settled old held r held_is = subst (λ held. IsTrue held.settled) (sym held_is)
+    (settles (after_resources (after_removals (begun old) r.kind r.removed) r.kind r.resources) r.kind)
 
 not_there : (e : Entry) → None ≡ Some e → ⊥
 not_there e is = absurd cc

@@ -8,6 +8,7 @@ use Rattle.hb_cli.proofs.answer.print_rows.Given as goal
 -- the lines so far were printed whole, and with those of the rows to come they are all
 abbrev pub invariant-loop-row : goal.invariant-loop-row
 invariant-loop-row g l = (front : List ℕ)
-    × WritesAll (use_of (g.K.Sink.written l.initial.out) (g.K.Sink.written l.out) (g.K.Sink.faults l.initial.out) (g.K.Sink.faults l.out)) front
+    × WritesAll
+    (use_of (g.K.Sink.written l.initial.out) (g.K.Sink.written l.out) (g.K.Sink.faults l.initial.out) (g.K.Sink.faults l.out)) front
     × (front ++ flat_map row_text (rows_left l.rows) ≡ flat_map row_text (rows l.held))
     × (g.K.Sink.faults l.initial.out ≤ g.K.Sink.faults l.out)

@@ -39,7 +39,8 @@ loop-turn-preserved g c =
       tried = λ still. turned.tried still at.idle;
       kept = λ config carries. turned.keeps at.idle at.tried config (at.kept config carries);
       reckoned = λ config carries stated had.
-          subst (λ (o : Option ServeEnd). TurnedTo o (asked stated (c.loop-turn._turn + 1)) c.turn.new.ticks (turns_kept c.turn.new.moved (c.loop-turn._turn + 1))
+          subst (λ (o : Option ServeEnd). TurnedTo o (asked stated (c.loop-turn._turn + 1)) c.turn.new.ticks
+          (turns_kept c.turn.new.moved (c.loop-turn._turn + 1))
           c.turn.new.run (g.W.World.trace c.turn.new.world)) c.in-None.is
           (turned.turned config at.idle at.tried (at.kept config carries) (asked stated c.loop-turn._turn) c.loop-turn._turn
           (at.reckoned config carries stated had));
@@ -50,5 +51,6 @@ loop-turn-preserved g c =
 
 pub returns-clause-finished : goal.returns-clause-finished
 returns-clause-finished g c = λ config carries stated had.
-    spent_finishes (asked stated c.loop-turn._turn) c.loop-turn.ticks _ _ _ c.args.most _ (search rules) (kept_turns c.loop-turn.moved c.loop-turn._turn c.args.most (search rules))
+    spent_finishes (asked stated c.loop-turn._turn) c.loop-turn.ticks _ _ _ c.args.most _ (search rules)
+    (kept_turns c.loop-turn.moved c.loop-turn._turn c.args.most (search rules))
     (c.loop-turn.invariant.reckoned config carries stated had)

@@ -11,5 +11,6 @@ invariant-loop-name l =
     record {
       can : (goal.iterator-loop-name).can_next l.rest;
       ends : (goal.iterator-loop-name).is_finite l.rest;
-      left : list_any (λ e. stands_for l.workload e.1 || stands_for l.workload (get l.self.policies e.0)) l.rest ≡ had_policy l.self l.workload;
+      left : list_any (λ e. stands_for l.workload e.1 || stands_for l.workload (get l.self.policies e.0)) l.rest
+          ≡ had_policy l.self l.workload;
     }

@@ -13,7 +13,8 @@ pub returns-in_err-names : goal.returns-in_err-names
 unfolding service_at
 returns-in_err-names c =
     let h = c.args.self.now in
-    let all = subst (λ m. AreNamesAt m (number_of c.args.ip) None) (ap (λ (s : Resources). s.addresses) c.self.view_is) c.in_err-names.ensures in
+    let all = subst (λ m. AreNamesAt m (number_of c.args.ip) None)
+    (ap (λ (s : Resources). s.addresses) c.self.view_is) c.in_err-names.ensures in
     ap (option_map found_service_as) c.from_residual.ensures
     ∙ is_least_by service_in (serves_at h.network c.args.ip) h.addresses None (no_service_named h.addresses h.network c.args.ip all)
 

@@ -12,7 +12,8 @@ returns-in_default c =
     let k = c.args.number in
     let none = sym (ap (λ m. map.get m k) c.self.view_is)
     ∙ get_made_by nat_cmp_total map.nat_cmp-IsAntisymmetric c.self.inside.items.entries k ∙ sym c.in_default.ensures.value in
-    ap (λ m. map.from_entries m.entries) c.get_mut.follows.holds-at-none ∙ c.self.view_is ∙ sym (nothing_less c.args.self.now k c.args.name.now none)
+    ap (λ m. map.from_entries m.entries) c.get_mut.follows.holds-at-none ∙ c.self.view_is
+    ∙ sym (nothing_less c.args.self.now k c.args.name.now none)
 
 pub returns-then-len-eq0 : goal.returns-then-len-eq0
 returns-then-len-eq0 c =

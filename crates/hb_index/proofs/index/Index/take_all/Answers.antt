@@ -18,7 +18,8 @@ loop-number-preserved c =
     elim c.if-not-is_among.branch [
       | then-not-is_among w ↦ w.self-is ∙ w.take.ensures
           ∙ sym (ap (λ b. cond b c.loop-number.self (without_name c.loop-number.self n name)) (sym w.if-not-is_among.ensures))
-      | else-not-is_among w ↦ w.self-is ∙ sym (ap (λ b. cond b c.loop-number.self (without_name c.loop-number.self n name)) (sym w.if-not-is_among.ensures))
+      | else-not-is_among w ↦ w.self-is
+          ∙ sym (ap (λ b. cond b c.loop-number.self (without_name c.loop-number.self n name)) (sym w.if-not-is_among.ensures))
     ] in
     step ∙ ap (λ m. cond (is_among kept n) m (without_name m n name)) c.loop-number.invariant
     ∙ sym (without_one_more c.args.self.now name (take i ns) kept n) ∙ ap (λ ks. without_all c.args.self.now name ks kept) (sym more)
