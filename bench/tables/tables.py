@@ -32,7 +32,7 @@ WHOLE = [
     ("loop_rows.py", "hb_loop_rows", "rows.rt"),
     ("replay_rows.py", "hb_replay_rows", "rows.rt"),
 ]
-PARTS = [("frame_vectors.py", "hb_http2_rows", "frame_vectors.rt")]
+PARTS = [("frame_vectors.py", "hb_http2_rows", "frame_vectors.rt"), ("verdict_rows.py", "hb_table_rows", "requests.rt")]
 
 
 def printed_by(script):
