@@ -20,8 +20,8 @@ use Rattle.hb_cli.specs.declared.input.InputWhy.{InputWhy}
 use Rattle.hb_cli.specs.declared.input.InputWhy.TheVariants as why
 use Rattle.hb_cli.specs.declared.input.Refused.{Refused as Refusal}
 use Rattle.hb_cli.specs.declared.input.Refused.TheVariants.{Message, Line as BadLine}
-use Rattle.hb_cli.specs.declared.judge.Judged.{Judged}
-use Rattle.hb_cli.specs.declared.judge.Judged.TheVariants.{Admitted, Unknown, Denied}
+use Rattle.hb_table.specs.declared.judgement.Judged.{Judged}
+use Rattle.hb_table.specs.declared.judgement.Judged.TheVariants.{Admitted, Unknown, Denied}
 use Rattle.hb_cli.specs.declared.stop.Stop.{Stop}
 use Rattle.hb_cli.specs.declared.stop.Stop.TheVariants.{Words, TooLong, Refused, ReadFault, NoMemory}
 use Rattle.hb_cli.specs.Input.{longest_input, Leaves, left_by}

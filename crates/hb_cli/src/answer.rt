@@ -11,12 +11,12 @@ ghost use Rattle.hb_cli.specs.Run.{answer_line, shown};
 ghost use Rattle.hb_cli.specs.declared.answer.Printed.TheVariants as printing;
 
 use crate::input::Left;
-use crate::judge::Judged;
 use crate::telling::tell;
 use hb_base::{Sink, put_all};
 use hb_held::Held;
 use hb_lines::row_line;
 use hb_replay::{ReplayEnd, Replayed};
+use hb_table::Judged;
 use std::alloc::Global;
 
 /// The answer of a command: of `check`, of `show`, or of `replay`.
@@ -35,16 +35,14 @@ pub enum Printed {
     NoMemory,
 }
 
-impl Judged {
-    /// What `check` prints.
-    fn line(self) -> &'static [u8]
-        ensures { result.now ≡ answer_line self }
-    {
-        match self {
-            Judged::Admitted => b"allow\n",
-            Judged::Denied => b"deny\n",
-            Judged::Unknown => b"unknown\n",
-        }
+/// What `check` prints.
+fn line_of(judged: Judged) -> &'static [u8]
+    ensures { result.now ≡ answer_line judged }
+{
+    match judged {
+        Judged::Admitted => b"allow\n",
+        Judged::Denied => b"deny\n",
+        Judged::Unknown => b"unknown\n",
     }
 }
 
@@ -99,7 +97,7 @@ pub fn print<K: Sink>(alloc: Global, answer: &Answer, out: &mut K) -> Printed
     ensures made { IsMade answer.now → result ≢ printing.NoMemory }
 {
     match answer {
-        Answer::Judged(judged) => print_text(out, judged.line()),
+        Answer::Judged(judged) => print_text(out, line_of(*judged)),
         Answer::Left(left) => print_left(alloc, left, out),
         Answer::Replayed(replayed) => print_text(out, replayed.report.as_slice()),
     }

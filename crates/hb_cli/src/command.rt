@@ -25,11 +25,11 @@ ghost use Rattle.hb_cli.specs.declared.stop.Stop.TheVariants.{NoMemory};
 
 use crate::answer::{Answer, Printed, end, print};
 use crate::input::{Refused, read_input};
-use crate::judge::{Judged, judge};
 use crate::stop::Stop;
 use crate::telling::tell;
 use hb_base::{Bytes, Or, ReadStop, Sink, Source, Text, read_all};
 use hb_replay::replay;
+use hb_table::{Judged, judge};
 use hb_words::{Check, Command, Replay, read_words};
 use hb_world::ScriptWorld;
 use std::alloc::{AllocError, Global};

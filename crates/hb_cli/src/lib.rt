@@ -4,7 +4,6 @@
 mod answer;
 mod command;
 mod input;
-mod judge;
 mod stop;
 mod telling;
 
