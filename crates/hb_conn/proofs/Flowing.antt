@@ -5,12 +5,11 @@ use Rattle.std.specs.FinMap.{get}
 use Rattle.std.proofs.lemmas.Int.{ints}
 use Rattle.hb_map.specs.Keyed.{written}
 use Rattle.hb_map.proofs.Laws.{written_here}
-use Rattle.hb_windows.specs.Sending.{largest}
+use Rattle.hb_frames.specs.Numbers.{flow_control_error, largest}
 use Rattle.hb_windows.specs.declared.overrun.Overrun.{Overrun}
 use Rattle.hb_flow.specs.Windows.{Windows, counted, taken}
 use Rattle.hb_flow.specs.Flows.{Flows, TakesOn, GrantsOn, changed_by, taking_by}
 use Rattle.hb_flow.specs.Sizes.{unbegun_on}
-use Rattle.hb_conn.specs.Numbers.{flow_control_error}
 use Rattle.hb_conn.specs.Faults.{broken}
 use Rattle.hb_conn.specs.Windows.{stream_grows, unbegun}
 use Rattle.hb_conn.specs.declared.machine.Core.{Core}

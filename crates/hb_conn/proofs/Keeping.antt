@@ -12,7 +12,8 @@ use Rattle.hb_outgoing.specs.Waiting.{Waiting, room_of, spelled, put}
 use Rattle.hb_owed.specs.declared.due.Due.{Due}
 use Rattle.hb_owed.specs.declared.due.Due.TheVariants as due
 use Rattle.hb_owed.specs.Dues.{Debt, clear}
-use Rattle.hb_owed.specs.Debts.{Debts, largest, opened, changed, changed_by, closed, shut, is_done_by, dues, dues_on, dues_by}
+use Rattle.hb_owed.specs.Debts.{Debts, opened, changed, changed_by, closed, shut, is_done_by, dues, dues_on, dues_by}
+use Rattle.hb_frames.specs.Numbers.{largest}
 use Rattle.hb_owed.specs.Frames.{frame_of, size_of}
 use Rattle.hb_owed.proofs.Walks.{nothing_due, settled_elsewhere}
 use Rattle.hb_owed.proofs.Payments.{room_pays_all}

@@ -12,7 +12,7 @@ use Rattle.hb_flow.specs.Flows.{fresh as fresh_flows}
 use Rattle.hb_blocks.specs.Assembly.{fresh as fresh_blocks}
 use Rattle.hb_hpack.specs.declared.spelling.Spelling.TheVariants.{Plain}
 use Rattle.hb_outgoing.specs.Waiting.{Waiting, nothing, opened, put}
-use Rattle.hb_conn.specs.Numbers.{settings_kind, protocol_error}
+use Rattle.hb_frames.specs.Numbers.{settings_kind, first_frame_size, protocol_error}
 use Rattle.hb_conn.specs.Frames.{frame}
 use Rattle.hb_conn.specs.Faults.{faulted}
 use Rattle.hb_conn.specs.Outcome.{Gives, is_silent}
@@ -56,7 +56,7 @@ fresh_core role out = record {
   owed = empty;
   encoder = record { spelling = Plain; started = false };
   blocks = fresh_blocks;
-  peer = record { frame_size = 16384; streams = 4294967295 };
+  peer = record { frame_size = first_frame_size; streams = 4294967295 };
   settled = false;
   over = false;
 }
@@ -64,7 +64,7 @@ fresh_core role out = record {
 abbrev pub fresh : Role → Bool → Waiting → Connection
 fresh role client out = record {
   preface = start client;
-  receiver = record { reader = record { max = 16384; held = []; at = 0; last = [] }; core = fresh_core role out };
+  receiver = record { reader = record { max = first_frame_size; held = []; at = 0; last = [] }; core = fresh_core role out };
   ended = None;
 }
 

@@ -8,7 +8,7 @@ use Rattle.hb_streams.specs.declared.step.Step.TheVariants as step
 use Rattle.hb_streams.specs.declared.fault.StreamFault.{StreamFault}
 use Rattle.hb_flow.specs.Windows.{Windows, due_of}
 use Rattle.hb_flow.specs.Flows.{took, took_on, owed, owed_on, paid, paid_on, due_on}
-use Rattle.hb_conn.specs.Numbers.{data_kind, protocol_error, flow_control_error}
+use Rattle.hb_frames.specs.Numbers.{data_kind, protocol_error, flow_control_error}
 use Rattle.hb_conn.specs.Frames.{sent, window_update}
 use Rattle.hb_conn.specs.Owing.{with_update}
 use Rattle.hb_conn.specs.Faults.{faulted, broken, refused, released}

@@ -3,7 +3,7 @@ use Rattle.std.specs.Prelude.{ℕ, Bool, true, ◌||◌, if◌then◌else◌, po
 use Rattle.std.specs.FinMap.{empty}
 use Rattle.hb_base.specs.declared.scope.Scope.{Scope}
 use Rattle.hb_base.specs.declared.scope.Scope.TheVariants.{Connection, Stream}
-use Rattle.hb_windows.specs.Sending.{largest}
+use Rattle.hb_frames.specs.Numbers.{largest}
 use Rattle.hb_streams.specs.Sides.{sides_of}
 use Rattle.hb_streams.specs.States.{States, state_of, last_of_peer}
 use Rattle.hb_streams.specs.Moves.{reset}

@@ -3,7 +3,7 @@ use Rattle.std.specs.Prelude.{ℕ, ◌/◌, ◌%◌, List, [], ◌++◌}
 use Rattle.hb_frames.specs.Octets.{four}
 use Rattle.hb_frames.specs.RawFrame.{RawFrame}
 use Rattle.hb_outgoing.specs.Waiting.{put}
-use Rattle.hb_conn.specs.Numbers.{settings_kind, ping_kind, goaway_kind, window_update_kind, ack_flag}
+use Rattle.hb_frames.specs.Numbers.{settings_kind, ping_kind, goaway_kind, window_update_kind, ack_flag}
 use Rattle.hb_conn.specs.declared.machine.Core.{Core}
 
 -- a number in four octets

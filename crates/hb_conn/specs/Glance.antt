@@ -5,7 +5,8 @@ use Rattle.hb_frames.specs.RawFrame.{RawFrame, raw_at}
 use Rattle.hb_frames.specs.Refusals.{is_ack, increment_of}
 use Rattle.hb_frames.specs.Reading.{Reading, first_of}
 use Rattle.hb_frames.specs.declared.refusal.Refusal.{Refusal}
-use Rattle.hb_conn.specs.Numbers.{data_kind, headers_kind, rst_stream_kind, settings_kind, ping_kind, goaway_kind, window_update_kind, continuation_kind, end_stream_flag, end_headers_flag}
+use Rattle.hb_frames.specs.Numbers.{data_kind, headers_kind, rst_stream_kind, settings_kind, ping_kind, goaway_kind}
+use Rattle.hb_frames.specs.Numbers.{window_update_kind, continuation_kind, end_stream_flag, end_headers_flag, largest}
 use Rattle.hb_conn.specs.declared.glance.Glance.{Glance}
 use Rattle.hb_conn.specs.declared.glance.Glance.TheVariants.{Nothing, Data, Headers, Reset, Settings, Ping, GoAway, Window, Continuation, Other, Refused}
 
@@ -40,11 +41,11 @@ glance_of r = glance_by r (first_of r.max r.held)
 
 -- the number of a stream has 31 bits
 abbrev pub IsInRange : Glance → Type 0
-IsInRange (Data stream counted end) = stream ≤ 2147483647
-IsInRange (Headers stream end whole) = stream ≤ 2147483647
-IsInRange (Reset stream code) = stream ≤ 2147483647
-IsInRange (Window stream increment) = stream ≤ 2147483647
-IsInRange (Continuation stream whole) = stream ≤ 2147483647
+IsInRange (Data stream counted end) = stream ≤ largest
+IsInRange (Headers stream end whole) = stream ≤ largest
+IsInRange (Reset stream code) = stream ≤ largest
+IsInRange (Window stream increment) = stream ≤ largest
+IsInRange (Continuation stream whole) = stream ≤ largest
 IsInRange _ = ⊤
 
 -- with a frame, which has nine octets at least, less is held than before

@@ -1,7 +1,7 @@
 -- What each frame makes of a connection: the first row of refusals that applies, or what the frame does.
 use Rattle.std.specs.Prelude.{ℕ, Bool, true, false, List, length}
 use Rattle.hb_blocks.specs.Assembly.{begun, continued}
-use Rattle.hb_conn.specs.Numbers.{protocol_error}
+use Rattle.hb_frames.specs.Numbers.{protocol_error}
 use Rattle.hb_conn.specs.Data.{on_data}
 use Rattle.hb_conn.specs.Windows.{on_window}
 use Rattle.hb_conn.specs.Resets.{on_reset}

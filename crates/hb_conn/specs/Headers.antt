@@ -14,7 +14,7 @@ use Rattle.hb_blocks.specs.Outcome.{Makes}
 use Rattle.hb_blocks.specs.Faults.{code_of}
 use Rattle.hb_blocks.specs.declared.fault.BlockFault.{BlockFault}
 use Rattle.hb_blocks.specs.declared.whole.Whole.{Whole}
-use Rattle.hb_conn.specs.Numbers.{headers_kind}
+use Rattle.hb_frames.specs.Numbers.{headers_kind}
 use Rattle.hb_conn.specs.Faults.{faulted, refused, released}
 use Rattle.hb_conn.specs.Outcome.{Outcome, outcome, Gives, Does}
 use Rattle.hb_conn.specs.declared.machine.Core.{Core}

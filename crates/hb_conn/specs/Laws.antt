@@ -1,7 +1,8 @@
 -- What is owed, and the room of the output.
 use Rattle.std.specs.Prelude.{◌≡◌, ◌≤◌, ℕ, []}
 use Rattle.hb_outgoing.specs.Waiting.{room_of}
-use Rattle.hb_owed.specs.Debts.{largest, dues}
+use Rattle.hb_owed.specs.Debts.{dues}
+use Rattle.hb_frames.specs.Numbers.{largest}
 use Rattle.hb_owed.specs.declared.due.Due.{Due}
 use Rattle.hb_owed.specs.declared.status.Status.{Status}
 use Rattle.hb_conn.specs.Owing.{with_due, wrote}

@@ -9,7 +9,6 @@ pub mod Handling
 pub mod Headers
 pub mod Laws
 pub mod Loan
-pub mod Numbers
 pub mod Observed
 pub mod Opening
 pub mod Outcome

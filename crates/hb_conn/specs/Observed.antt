@@ -7,12 +7,12 @@ use Rattle.hb_hpack.specs.declared.header.HeaderList.{HeaderList}
 use Rattle.hb_frames.specs.RawFrame.{RawFrame}
 use Rattle.hb_streams.specs.Answers.{number_of}
 use Rattle.hb_streams.specs.Sides.{sides_of, IsActive}
-use Rattle.hb_streams.specs.States.{state_of}
+use Rattle.hb_streams.specs.States.{States, state_of}
 use Rattle.hb_streams.specs.declared.fault.OpenFault.{OpenFault}
 use Rattle.hb_streams.specs.declared.role.Role.{Role}
 use Rattle.hb_streams.specs.declared.sides.Sides.{Sides}
 use Rattle.hb_flow.specs.Flows as flows
-use Rattle.hb_outgoing.specs.Waiting.{octets_of, room_of}
+use Rattle.hb_outgoing.specs.Waiting.{Waiting, octets_of, room_of}
 use Rattle.hb_outgoing.specs.Written.{begun_by}
 use Rattle.hb_owed.specs.Debts.{dues}
 use Rattle.hb_owed.specs.declared.due.Due.{Due}
@@ -31,17 +31,21 @@ use Rattle.hb_conn.specs.declared.found.Found.{Found}
 use Rattle.hb_conn.specs.declared.found.Found.TheVariants as found
 use Rattle.hb_conn.specs.declared.glance.Glance.TheVariants.{Nothing}
 
--- the octets that wait to be written
+-- what waits to be written: what is left of the frames begun, and the frames that haven't begun
+abbrev pub outgoing : Connection → Waiting
+outgoing c = c.receiver.core.out
+
+-- its octets
 abbrev pub output : Connection → List ℕ
-output c = octets_of c.receiver.core.out
+output c = octets_of (outgoing c)
 
 -- how many octets more the output has room for
 abbrev pub room : Connection → ℕ
-room c = room_of c.receiver.core.out
+room c = room_of (outgoing c)
 
 -- the frames that begin with a write of n octets: those whose first octet is among them
 abbrev pub frames_begun : ℕ → Connection → List RawFrame
-frames_begun n c = begun_by n c.receiver.core.out
+frames_begun n c = begun_by n (outgoing c)
 
 -- the frames of streams that are owed, since the output lacked room
 abbrev pub owed : Connection → List (ℕ × Due)
@@ -83,13 +87,17 @@ chunk_of c _ = []
 abbrev pub header_list : Connection → HeaderList
 header_list c = c.receiver.core.blocks.headers
 
+-- the streams (RFC 9113 section 5.1)
+abbrev pub streams : Connection → States
+streams c = c.receiver.core.streams
+
 -- which end of the connection this is
 abbrev pub role : Connection → Role
-role c = c.receiver.core.streams.role
+role c = (streams c).role
 
--- which sides of a stream are open (RFC 9113 section 5.1)
+-- which sides of a stream are open
 abbrev pub sides : Connection → ℕ → Sides
-sides c stream = sides_of (state_of c.receiver.core.streams stream)
+sides c stream = sides_of (state_of (streams c) stream)
 
 -- this end's side of it is
 abbrev pub own_side_open : Connection → ℕ → Bool
@@ -97,15 +105,15 @@ own_side_open c stream = (sides c stream).own
 
 -- one of them is
 abbrev pub IsActiveOn : Connection → ℕ → Type 0
-IsActiveOn c stream = IsActive (state_of c.receiver.core.streams stream)
+IsActiveOn c stream = IsActive (state_of (streams c) stream)
 
 -- how many streams are open or half-closed
 abbrev pub streams_open : Connection → ℕ
-streams_open c = len c.receiver.core.streams.active
+streams_open c = len (streams c).active
 
 -- the number of the stream that this end would open next, or why there is none (RFC 9113 sections 5.1.1 and 5.1.2)
 abbrev pub next_stream : Connection → Result ℕ OpenFault
-next_stream c = number_of c.receiver.core.streams c.receiver.core.peer.streams
+next_stream c = number_of (streams c) c.receiver.core.peer.streams
 
 -- the octets that came on a stream and aren't used up
 abbrev pub creditable : Connection → ℕ → ℕ

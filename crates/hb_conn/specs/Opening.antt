@@ -1,5 +1,5 @@
 -- How a client opens a stream (RFC 9113 sections 5.1.1 and 8.5).
-use Rattle.std.specs.Prelude.{◌≡◌, ℕ, Bool, if◌then◌else◌, List, Result, Ok, Err}
+use Rattle.std.specs.Prelude.{◌≡◌, ℕ, ◌+◌, Bool, if◌then◌else◌, List, Result, Ok, Err}
 use Rattle.hb_base.specs.declared.or.Or.{Or}
 use Rattle.hb_base.specs.declared.or.Or.TheVariants as or
 use Rattle.hb_hpack.specs.Encoding.{block_of, going}
@@ -8,7 +8,7 @@ use Rattle.hb_frames.specs.RawFrame.{RawFrame}
 use Rattle.hb_streams.specs.Answers.{number_of}
 use Rattle.hb_streams.specs.Moves.{after, begins}
 use Rattle.hb_streams.specs.declared.fault.OpenFault.{OpenFault}
-use Rattle.hb_conn.specs.Numbers.{headers_kind}
+use Rattle.hb_frames.specs.Numbers.{headers_kind, end_stream_flag, end_headers_flag}
 use Rattle.hb_conn.specs.Frames.{frame, sent}
 use Rattle.hb_conn.specs.Headers.{registered}
 use Rattle.hb_conn.specs.Ending.{own_ended}
@@ -20,7 +20,7 @@ begun c stream = registered (record c { streams = after c.streams (begins c.peer
 
 -- HEADERS with END_HEADERS, and END_STREAM where this end ends its side at once
 abbrev pub headers_frame : ℕ → Bool → List ℕ → RawFrame
-headers_frame stream end block = frame headers_kind (if end then 5 else 4) stream block
+headers_frame stream end block = frame headers_kind (if end then end_headers_flag + end_stream_flag else end_headers_flag) stream block
 
 -- the headers are put, their block in one frame
 abbrev pub headers_put : Core → ℕ → List Header → Bool → Core

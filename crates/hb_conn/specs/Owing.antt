@@ -3,7 +3,8 @@ use Rattle.std.specs.Prelude.{ℕ, ◌-◌, ◌&&◌, nat_le, Bool, if◌then◌
 use Rattle.hb_outgoing.specs.Waiting.{put, room_of}
 use Rattle.hb_outgoing.specs.Written.{written}
 use Rattle.hb_owed.specs.Dues.{is_nil}
-use Rattle.hb_owed.specs.Debts.{Debts, largest, changed, with_status, with_credit, with_end, with_reset, dues_on, credit_on}
+use Rattle.hb_owed.specs.Debts.{Debts, changed, with_status, with_credit, with_end, with_reset, dues_on, credit_on}
+use Rattle.hb_frames.specs.Numbers.{largest}
 use Rattle.hb_owed.specs.Frames.{frame_of, behind, size_of}
 use Rattle.hb_owed.specs.Paid.{Payment, paid}
 use Rattle.hb_owed.specs.declared.due.Due.{Due}

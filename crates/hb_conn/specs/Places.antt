@@ -1,7 +1,7 @@
 -- Frames that stand where they may not (RFC 9113 sections 3.4 and 6.10).
 use Rattle.std.specs.Prelude.{◌==◌, ◌&&◌, ◌||◌, not, Bool, true, false, bit_and, Option, Some, None}
 use Rattle.hb_blocks.specs.declared.whole.Opening.{Opening}
-use Rattle.hb_conn.specs.Numbers.{settings_kind, ack_flag}
+use Rattle.hb_frames.specs.Numbers.{settings_kind, ack_flag}
 use Rattle.hb_conn.specs.declared.machine.Core.{Core}
 use Rattle.hb_conn.specs.declared.glance.Glance.{Glance}
 use Rattle.hb_conn.specs.declared.glance.Glance.TheVariants.{Settings, Continuation, Refused}

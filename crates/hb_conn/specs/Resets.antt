@@ -5,7 +5,7 @@ use Rattle.hb_streams.specs.Moves.{after, receives}
 use Rattle.hb_streams.specs.declared.step.Step.{Step}
 use Rattle.hb_streams.specs.declared.step.Step.TheVariants as step
 use Rattle.hb_streams.specs.declared.fault.StreamFault.{StreamFault}
-use Rattle.hb_conn.specs.Numbers.{rst_stream_kind}
+use Rattle.hb_frames.specs.Numbers.{rst_stream_kind}
 use Rattle.hb_conn.specs.Faults.{refused, given_up}
 use Rattle.hb_conn.specs.Outcome.{Outcome, outcome}
 use Rattle.hb_conn.specs.declared.machine.Core.{Core}

@@ -1,13 +1,13 @@
 -- SETTINGS (RFC 9113 sections 6.5 and 6.9.2).
 use Rattle.std.specs.Prelude.{◌≡◌, ◌⊎◌, ℕ, ◌≤◌, ◌<◌, ◌==◌, ◌&&◌, Bool, true, false, if◌then◌else◌, List, [], ◌∷◌, Ok, Err}
 use Rattle.std.specs.List.{list_any}
-use Rattle.hb_windows.specs.Sending.{largest}
+use Rattle.hb_frames.specs.Numbers.{enable_push, max_concurrent_streams, initial_window_size, max_frame_size}
+use Rattle.hb_frames.specs.Numbers.{protocol_error, flow_control_error, largest}
 use Rattle.hb_windows.specs.declared.overrun.Overrun.{Overrun}
 use Rattle.hb_frames.specs.Refusals.{settings}
 use Rattle.hb_streams.specs.declared.role.Role.{Role}
 use Rattle.hb_streams.specs.declared.role.Role.TheVariants.{Server, Client}
 use Rattle.hb_flow.specs.Sizes.{Resizes, resized}
-use Rattle.hb_conn.specs.Numbers.{enable_push, max_concurrent_streams, initial_window_size, max_frame_size, protocol_error, flow_control_error}
 use Rattle.hb_conn.specs.Frames.{sent, settings_ack}
 use Rattle.hb_conn.specs.Faults.{faulted}
 use Rattle.hb_conn.specs.Windows.{unbegun}

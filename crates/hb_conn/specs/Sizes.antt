@@ -1,7 +1,7 @@
 -- The initial size of windows, while the settings of one frame are applied (RFC 9113 section 6.9.2).
 use Rattle.std.specs.Prelude.{ℕ, ◌≤◌, ℤ, pos, ◌≤ℤ◌, int_lt, not, Bool, true, false, IfSome, Option, Some, None}
 use Rattle.std.specs.FinMap.{get}
-use Rattle.hb_windows.specs.Sending.{largest}
+use Rattle.hb_frames.specs.Numbers.{largest}
 use Rattle.hb_flow.specs.Sizes.{Fits, resized, unbegun_on}
 use Rattle.hb_conn.specs.Windows.{unbegun}
 use Rattle.hb_conn.specs.declared.machine.Core.{Core}

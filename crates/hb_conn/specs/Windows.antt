@@ -1,7 +1,7 @@
 -- WINDOW_UPDATE (RFC 9113 section 6.9).
 use Rattle.std.specs.Prelude.{ℕ, ◌==◌, pos, ◌+ℤ◌, int_lt, if◌then◌else◌, Option, Some, None, Result, Ok, Err}
 use Rattle.std.specs.FinMap.{get}
-use Rattle.hb_windows.specs.Sending.{largest}
+use Rattle.hb_frames.specs.Numbers.{window_update_kind, protocol_error, flow_control_error, largest}
 use Rattle.hb_streams.specs.Answers.{answer_of}
 use Rattle.hb_streams.specs.declared.step.Step.{Step}
 use Rattle.hb_streams.specs.declared.step.Step.TheVariants as step
@@ -11,7 +11,6 @@ use Rattle.hb_flow.specs.Flows.{granted, granted_on}
 use Rattle.hb_flow.specs.Sizes.{unbegun_on}
 use Rattle.hb_outgoing.specs.Selected.{first_data}
 use Rattle.hb_outgoing.specs.declared.unbegun.Unbegun.{Unbegun}
-use Rattle.hb_conn.specs.Numbers.{window_update_kind, protocol_error, flow_control_error}
 use Rattle.hb_conn.specs.Faults.{faulted, broken, refused}
 use Rattle.hb_conn.specs.Outcome.{Outcome, outcome}
 use Rattle.hb_conn.specs.declared.machine.Core.{Core}

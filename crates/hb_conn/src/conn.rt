@@ -12,7 +12,6 @@ ghost use Rattle.hb_conn.specs.Observed.{KeepsWhatCame, wrote, Opens, data_put, 
 use crate::found::Found;
 use crate::happening::Happening;
 use crate::machine::{Core, Peer};
-use crate::numbers::{FIRST_FRAME_SIZE, PROTOCOL_ERROR, SETTINGS};
 use crate::plain_encoder::PlainEncoder;
 use crate::preface::{PREFACE, Preface};
 use crate::receiver::Receiver;
@@ -20,6 +19,7 @@ use hb_base::{List, NoMemory, Or};
 use hb_blocks::Blocks;
 use hb_flow::Flow;
 use hb_frames::FrameReader;
+use hb_frames::numbers::{FIRST_FRAME_SIZE, PROTOCOL_ERROR, SETTINGS};
 use hb_hpack::Header;
 use hb_outgoing::Outgoing;
 use hb_owed::Owed;

@@ -9,8 +9,8 @@ ghost use Rattle.hb_conn.specs.Outcome.{Does};
 
 use crate::found::Found;
 use crate::machine::Core;
-use crate::numbers::{DATA, FLOW_CONTROL_ERROR, PROTOCOL_ERROR};
 use hb_base::{NoMemory, Or};
+use hb_frames::numbers::{DATA, FLOW_CONTROL_ERROR, PROTOCOL_ERROR};
 use hb_streams::{Step, StreamFault};
 
 fn is_of_idle(answer: Result<Step, StreamFault>) -> bool

@@ -6,23 +6,11 @@ ghost use Rattle.hb_conn.specs.Frames.{word, sent, settings_ack, ping_ack, goawa
 ghost use Rattle.hb_conn.specs.Data.{updated};
 
 use crate::machine::Core;
-use crate::numbers::{ACK, GOAWAY, PING, SETTINGS, WINDOW_UPDATE};
-
-/// A number in four octets, the most significant first.
-#[tactic(auto, unfolding(crate::specs::Frames::word))]
-fn word(n: u32) -> [u8; 4]
-    ensures value { result ≡ word n }
-    ensures size { length (word n) ≡ 4 }
-{
-    [
-        (n / 0x100_0000) as u8,
-        (n / 0x1_0000 % 0x100) as u8,
-        (n / 0x100 % 0x100) as u8,
-        (n % 0x100) as u8,
-    ]
-}
+use hb_frames::numbers::{ACK_FLAG, GOAWAY, PING, SETTINGS, WINDOW_UPDATE};
+use hb_frames::octets::word;
 
 /// Two numbers, the first in front.
+#[tactic(auto, unfolding(crate::specs::Frames::word))]
 fn words(first: u32, second: u32) -> [u8; 8]
     ensures value { result ≡ word first ++ word second }
     ensures size { length (word first ++ word second) ≡ 8 }
@@ -34,6 +22,7 @@ fn words(first: u32, second: u32) -> [u8; 8]
 
 impl Core {
     /// Puts WINDOW_UPDATE of the connection, where there is an increment.
+    #[tactic(auto, unfolding(crate::specs::Frames::word))]
     pub(crate) fn put_update(&mut self, increment: Option<u32>)
         requires room { length (octets_of self.old.out) + 13 ≤ size }
         ensures after { self.new ≡ updated self.old increment }
@@ -59,13 +48,13 @@ impl Core {
             (value / 0x1_0000_0000) as u32,
             (value % 0x1_0000_0000) as u32,
         );
-        self.out.put_frame(PING, ACK, 0, &payload);
+        self.out.put_frame(PING, ACK_FLAG, 0, &payload);
     }
 
     pub(crate) fn put_settings_ack(&mut self)
         requires room { length (octets_of self.old.out) + 9 ≤ size }
         ensures { self.new ≡ sent self.old settings_ack }
     {
-        self.out.put_frame(SETTINGS, ACK, 0, &[]);
+        self.out.put_frame(SETTINGS, ACK_FLAG, 0, &[]);
     }
 }

@@ -1,12 +1,13 @@
 //! What a frame is beside its octets.
 
 ghost use Rattle.std.specs.Prelude.{◌≡◌, ◌≤◌, ◌+◌, length};
+ghost use Rattle.hb_frames.specs.Numbers.{largest};
 ghost use Rattle.hb_frames.specs.RawFrame.{RawFrame};
 ghost use Rattle.hb_frames.specs.Bodies.{IsFrame};
 ghost use Rattle.hb_frames.specs.Reading.{asked};
 ghost use Rattle.hb_conn.specs.Glance.{has_flag, glance_at, glance_of, IsInRange, Falls};
 
-use crate::numbers::{ACK, END_HEADERS, END_STREAM};
+use hb_frames::numbers::{ACK_FLAG, END_HEADERS_FLAG, END_STREAM_FLAG};
 use hb_frames::{Body, Frame, FrameReader};
 
 /// A frame without the octets of its content, which its reader lends.
@@ -60,14 +61,14 @@ pub enum Glance {
 
 /// The frame without its octets.
 fn glance_at(frame: Frame<'_>) -> Glance
-    requires { frame.stream ≤ 2147483647 }
+    requires { frame.stream ≤ largest }
     ensures value { (f : RawFrame) → IsFrame f frame.entry → result ≡ glance_at f }
     ensures in_range { IsInRange result }
 {
     let stream = frame.stream;
-    let ack = frame.flags & ACK != 0;
-    let end = frame.flags & END_STREAM != 0;
-    let whole = frame.flags & END_HEADERS != 0;
+    let ack = frame.flags & ACK_FLAG != 0;
+    let end = frame.flags & END_STREAM_FLAG != 0;
+    let whole = frame.flags & END_HEADERS_FLAG != 0;
     match frame.body {
         Body::Payload { counted, .. } => Glance::Data {
             stream,

@@ -9,8 +9,8 @@ ghost use Rattle.hb_conn.specs.Handling.{Handles, Answers};
 use crate::found::Found;
 use crate::glance::Glance;
 use crate::machine::Core;
-use crate::numbers::{ACK, PROTOCOL_ERROR, SETTINGS};
 use hb_base::NoMemory;
+use hb_frames::numbers::{ACK_FLAG, PROTOCOL_ERROR, SETTINGS};
 
 impl Glance {
     fn is_too_long(self) -> bool
@@ -28,7 +28,7 @@ impl Glance {
     {
         match self {
             Glance::Settings { ack } => !ack,
-            Glance::Refused { kind, flags, .. } => kind == SETTINGS && flags & ACK == 0,
+            Glance::Refused { kind, flags, .. } => kind == SETTINGS && flags & ACK_FLAG == 0,
             _ => false,
         }
     }

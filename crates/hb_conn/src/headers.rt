@@ -1,6 +1,7 @@
 //! HEADERS and CONTINUATION (RFC 9113 sections 4.3, 6.2 and 6.10).
 
 ghost use Rattle.std.specs.Prelude.{◌≡◌, ◌+◌, ◌≤◌, length, Some, None, IfOk, IfSome, OnOk};
+ghost use Rattle.hb_frames.specs.Numbers.{largest};
 ghost use Rattle.hb_blocks.specs.Assembly.{begun as block_begun, continued, stream_of};
 ghost use Rattle.hb_outgoing.specs.Waiting.{octets_of, size};
 ghost use Rattle.hb_conn.specs.Headers.{registered, headed, on_whole, DoesBlock, Tells};
@@ -8,15 +9,15 @@ ghost use Rattle.hb_conn.specs.Outcome.{Does};
 
 use crate::found::Found;
 use crate::machine::Core;
-use crate::numbers::HEADERS;
 use hb_base::{NoMemory, Or};
 use hb_blocks::{BlockFault, Whole};
+use hb_frames::numbers::HEADERS;
 use hb_streams::Step;
 
 impl Core {
     /// Gives a new stream its windows, and a record of what is owed on it.
     pub(crate) fn register(&mut self, stream: u32) -> Result<(), NoMemory>
-        requires { stream ≤ 2147483647 }
+        requires { stream ≤ largest }
         ensures { OnOk result (self.new ≡ registered self.old stream) }
     {
         self.flow.open(stream)?;
@@ -35,7 +36,7 @@ impl Core {
 
     fn on_whole(&mut self, stream: u32, end: bool) -> Result<Found, NoMemory>
         requires room { length (octets_of self.old.out) + 17 ≤ size }
-        requires in_range { stream ≤ 2147483647 }
+        requires in_range { stream ≤ largest }
         ensures { Does (on_whole self.old stream end) self.new result }
     {
         match self.streams.answer(HEADERS, stream) {
@@ -60,7 +61,7 @@ impl Core {
     /// What is told of a fragment of a header block.
     fn tell_block(&mut self, told: Result<Option<Whole>, Or<BlockFault>>) -> Result<Found, NoMemory>
         requires room { length (octets_of self.old.out) + 17 ≤ size }
-        requires in_range { IfOk told (λ found. IfSome found (λ block. block.stream ≤ 2147483647)) }
+        requires in_range { IfOk told (λ found. IfSome found (λ block. block.stream ≤ largest)) }
         ensures { Tells self.old told self.new result }
     {
         match told {
@@ -80,7 +81,7 @@ impl Core {
         whole: bool,
     ) -> Result<Found, NoMemory>
         requires room { length (octets_of self.old.out) + 17 ≤ size }
-        requires in_range { stream ≤ 2147483647 }
+        requires in_range { stream ≤ largest }
         requires closed { self.old.blocks.opening ≡ None }
         ensures { IfOk result (DoesBlock (block_begun stream end fragment.now whole) self.old self.new) }
     {
@@ -96,7 +97,7 @@ impl Core {
         whole: bool,
     ) -> Result<Found, NoMemory>
         requires room { length (octets_of self.old.out) + 17 ≤ size }
-        requires in_range { stream ≤ 2147483647 }
+        requires in_range { stream ≤ largest }
         requires open { stream_of self.old.blocks.opening ≡ Some stream }
         ensures { IfOk result (DoesBlock (continued self.old.blocks fragment.now whole) self.old self.new) }
     {

@@ -15,7 +15,6 @@ mod happening;
 mod headers;
 pub mod laws;
 mod machine;
-mod numbers;
 mod opening;
 mod owing;
 mod payload;

@@ -2,6 +2,7 @@
 
 ghost use Rattle.std.specs.Prelude.{◌≡◌, ◌+◌, ◌≤◌, length, IfOk, OnOk, IsTrue};
 ghost use Rattle.hb_hpack.specs.Table.{total};
+ghost use Rattle.hb_frames.specs.Numbers.{largest};
 ghost use Rattle.hb_outgoing.specs.Waiting.{octets_of, size};
 ghost use Rattle.hb_streams.specs.Sides.{sides_of};
 ghost use Rattle.hb_streams.specs.States.{state_of};
@@ -9,8 +10,8 @@ ghost use Rattle.hb_streams.specs.declared.role.Role.TheVariants.{Client};
 ghost use Rattle.hb_conn.specs.Opening.{begun, headers_put, opened_with, Opens};
 
 use crate::machine::Core;
-use crate::numbers::{END_HEADERS, END_STREAM, HEADERS};
 use hb_base::{List, NoMemory, Or};
+use hb_frames::numbers::{END_HEADERS_FLAG, END_STREAM_FLAG, HEADERS};
 use hb_hpack::Header;
 use hb_streams::OpenFault;
 use std::alloc::Global;
@@ -21,7 +22,7 @@ impl Core {
     fn begin(&mut self) -> Result<u32, Or<OpenFault>>
         requires { self.old.streams.role ≡ Client }
         ensures told { Opens self.old (begun self.old) self.new result }
-        ensures in_range { IfOk result (λ stream. stream ≤ 2147483647) }
+        ensures in_range { IfOk result (λ stream. stream ≤ largest) }
         ensures open { IfOk result (λ stream. IsTrue (sides_of (state_of self.new.streams stream)).own) }
         ensures out { OnOk result (self.new.out ≡ self.old.out) }
     {
@@ -39,14 +40,14 @@ impl Core {
     ) -> Result<(), NoMemory>
         requires room { length (octets_of self.old.out) + 1024 ≤ size }
         requires headers { total headers.now ≤ 900 }
-        requires in_range { stream ≤ 2147483647 }
+        requires in_range { stream ≤ largest }
         ensures { OnOk result (self.new ≡ headers_put self.old stream headers.now end) }
     {
         let block = self.encoder.block(alloc, headers)?;
         let flags = if end {
-            END_HEADERS + END_STREAM
+            END_HEADERS_FLAG + END_STREAM_FLAG
         } else {
-            END_HEADERS
+            END_HEADERS_FLAG
         };
         self.out.put_frame(HEADERS, flags, stream, block.as_slice());
         Ok(())

@@ -6,14 +6,14 @@ ghost use Rattle.hb_owed.specs.Dues.{IsDue};
 ghost use Rattle.hb_conn.specs.Owing.{goes_at_once, put_later, with_due, with_update, owed_paid, wrote};
 
 use crate::machine::Core;
-use crate::numbers::{LARGEST_STREAM, LARGEST_WINDOW};
+use hb_frames::numbers::LARGEST;
 use hb_owed::Due;
 
 impl Core {
     fn goes_at_once(&self, stream: u32, due: Due) -> bool
         ensures { result ≡ goes_at_once self.now stream due }
     {
-        stream <= LARGEST_STREAM && !self.owed.owes(stream) && due.size() <= self.out.room()
+        stream <= LARGEST && !self.owed.owes(stream) && due.size() <= self.out.room()
     }
 
     fn owe(&mut self, stream: u32, due: Due)
@@ -23,7 +23,7 @@ impl Core {
         match due {
             Due::Status(status) => self.owed.owe_status(stream, status.number, status.end),
             Due::Credit(n) => {
-                if n <= LARGEST_WINDOW - self.owed.credit_owed(stream) {
+                if n <= LARGEST - self.owed.credit_owed(stream) {
                     self.owed.owe_credit(stream, n);
                 }
             }

@@ -1,19 +1,23 @@
 //! DATA with payload that this end puts (RFC 9113 sections 6.1 and 6.9).
 
 ghost use Rattle.std.specs.Prelude.{◌≡◌, ◌≤◌, ◌<◌, length};
+ghost use Rattle.hb_frames.specs.Numbers.{largest};
 ghost use Rattle.hb_outgoing.specs.Waiting.{octets_of};
 ghost use Rattle.hb_flow.specs.Flows.{sendable};
-ghost use Rattle.hb_conn.specs.Payload.{allowed, count_put, data_put};
+ghost use Rattle.hb_conn.specs.Payload.{most_payload, allowed, count_put, data_put};
 
 use crate::machine::Core;
-use crate::numbers::{DATA, LARGEST_STREAM, MOST_PAYLOAD};
+use hb_frames::numbers::{DATA, LARGEST};
+
+/// The longest payload of DATA that is put, also where the peer takes longer ones.
+const MOST_PAYLOAD: u32 = 16_384;
 
 impl Core {
     /// How many octets one DATA frame may have.
     fn allowed(&self, stream: u32) -> u32
         ensures value { result ≡ allowed self.now stream }
         ensures windows { result ≤ sendable self.now.flow stream }
-        ensures most { result ≤ 16384 }
+        ensures most { result ≤ most_payload }
     {
         let size = self.peer.frame_size.min(MOST_PAYLOAD);
         self.flow.sendable(stream).min(size)
@@ -23,11 +27,11 @@ impl Core {
         ensures value { result ≡ count_put self.now stream bytes.now }
         ensures within { result ≤ length bytes.now }
         ensures windows { result ≤ sendable self.now.flow stream }
-        ensures most { result ≤ 16384 }
+        ensures most { result ≤ most_payload }
         ensures room { 0 < result → length (octets_of self.now.out) ≡ 0 }
-        ensures in_range { 0 < result → stream ≤ 2147483647 }
+        ensures in_range { 0 < result → stream ≤ largest }
     {
-        if self.over || stream > LARGEST_STREAM || !self.out.is_empty() {
+        if self.over || stream > LARGEST || !self.out.is_empty() {
             return 0;
         }
         let allowed = self.allowed(stream);

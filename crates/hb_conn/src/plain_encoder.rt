@@ -4,7 +4,7 @@ ghost use Rattle.std.specs.Prelude.{◌≡◌, ◌≤◌, ◌+◌, length, false
 ghost use Rattle.hb_hpack.specs.Table.{total};
 ghost use Rattle.hb_hpack.specs.Encoding.{block_of, going};
 ghost use Rattle.hb_outgoing.specs.Waiting.{put, room_of};
-ghost use Rattle.hb_owed.specs.Debts.{largest};
+ghost use Rattle.hb_frames.specs.Numbers.{largest};
 ghost use Rattle.hb_owed.specs.Dues.{IsDue};
 ghost use Rattle.hb_owed.specs.Frames.{frame_of, behind, size_of};
 ghost use Rattle.hb_owed.specs.Paid.{paid};

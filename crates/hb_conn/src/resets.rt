@@ -7,8 +7,8 @@ ghost use Rattle.hb_conn.specs.Outcome.{Does};
 
 use crate::found::Found;
 use crate::machine::Core;
-use crate::numbers::RST_STREAM;
 use hb_base::{NoMemory, Or};
+use hb_frames::numbers::RST_STREAM;
 use hb_streams::Step;
 
 impl Core {

@@ -10,11 +10,12 @@ ghost use Rattle.hb_conn.specs.Outcome.{Gives};
 
 use crate::found::Found;
 use crate::machine::Core;
-use crate::numbers::{
-    ENABLE_PUSH, FLOW_CONTROL_ERROR, LARGEST_WINDOW, MAX_CONCURRENT_STREAMS, MAX_FRAME_SIZE,
+use crate::sizes::NOTHING_KNOWN;
+use hb_frames::numbers::{
+    ENABLE_PUSH, FLOW_CONTROL_ERROR, LARGEST, MAX_CONCURRENT_STREAMS, MAX_FRAME_SIZE,
     PROTOCOL_ERROR,
 };
-use crate::sizes::NOTHING_KNOWN;
+use hb_frames::octets::word_at;
 use hb_streams::Role;
 
 /// The identifier and the value of the first setting.
@@ -24,11 +25,7 @@ fn first_setting(pairs: &[u8]) -> (u32, u32)
         ≡ (slice_index pairs.now 0 * 256 + slice_index pairs.now 1, four_at pairs.now 2) }
 {
     let identifier = pairs[0] as u32 * 0x100 + pairs[1] as u32;
-    let value = pairs[2] as u32 * 0x100_0000
-        + pairs[3] as u32 * 0x1_0000
-        + pairs[4] as u32 * 0x100
-        + pairs[5] as u32;
-    (identifier, value)
+    (identifier, word_at(pairs, 2))
 }
 
 fn has_push(pairs: &[u8]) -> bool
@@ -60,7 +57,7 @@ impl Core {
         ensures after { Resized self.old initial self.new result }
         ensures out { self.new.out ≡ self.old.out }
     {
-        if initial > LARGEST_WINDOW {
+        if initial > LARGEST {
             return false;
         }
         let unbegun = self.unbegun();

@@ -6,7 +6,7 @@ ghost use Rattle.hb_conn.specs.Settings.{Applies, Resized};
 ghost use Rattle.hb_conn.specs.Sizes.{allows, sized, FitsAll, AreKnown, Postpones};
 
 use crate::machine::Core;
-use crate::numbers::INITIAL_WINDOW_SIZE;
+use hb_frames::numbers::INITIAL_WINDOW_SIZE;
 
 /// What is known of the initial size.
 #[derive(Clone, Copy)]

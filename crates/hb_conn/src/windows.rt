@@ -9,7 +9,7 @@ ghost use Rattle.std.specs.FinMap.{get};
 
 use crate::found::Found;
 use crate::machine::Core;
-use crate::numbers::{FLOW_CONTROL_ERROR, PROTOCOL_ERROR, WINDOW_UPDATE};
+use hb_frames::numbers::{FLOW_CONTROL_ERROR, PROTOCOL_ERROR, WINDOW_UPDATE};
 use hb_outgoing::Unbegun;
 use hb_streams::Step;
 

@@ -8,7 +8,7 @@ use Rattle.std.proofs.lemmas.Bool.{cases_eq}
 use Rattle.std.specs.FinMap.{get, same_map, nat_cmp-IsAntisymmetric}
 use Rattle.std.specs.Int.{int_min}
 use Rattle.hb_map.specs.Keyed.{IsFirstFrom}
-use Rattle.hb_windows.specs.Sending.{largest}
+use Rattle.hb_frames.specs.Numbers.{largest}
 use Rattle.hb_flow.specs.Windows.{Windows}
 use Rattle.hb_flow.specs.Flows.{Flows}
 use Rattle.hb_flow.specs.Sizes.{Fits, with_size, all_with_size, resized, limit_by, limit_on, unbegun_on, IsSizeLimit}

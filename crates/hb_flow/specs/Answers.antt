@@ -1,6 +1,6 @@
 use Rattle.std.specs.Prelude.{◌≡◌, ℕ, ◌≤◌, ◌<◌, ℤ, pos, ◌+ℤ◌, ◌≤ℤ◌, ◌<ℤ◌, Result, Ok, Err}
 use Rattle.hb_windows.specs.declared.overrun.Overrun.{Overrun}
-use Rattle.hb_windows.specs.Sending.{largest}
+use Rattle.hb_frames.specs.Numbers.{largest}
 
 module _ {S : Type 0} where
   -- a window that holds so much goes up by so much, and what was old is `next`; it is refused, and nothing changes,

@@ -1,7 +1,8 @@
 use Rattle.std.specs.Prelude.{⊤, ◌≡◌, ◌⊎◌, ℕ, ◌+◌, ◌==◌, if◌then◌else◌, ℤ, pos, ◌+ℤ◌, ◌-ℤ◌, ◌≤ℤ◌, ◌<ℤ◌, is_some, map, Option, Some, None, Result, Ok, Err}
 use Rattle.std.specs.Ordering.{nat_cmp}
 use Rattle.std.specs.FinMap.{FinMap, get, entries, from_entries}
-use Rattle.hb_windows.specs.Sending.{Sending, largest}
+use Rattle.hb_windows.specs.Sending.{Sending}
+use Rattle.hb_frames.specs.Numbers.{largest}
 use Rattle.hb_windows.specs.declared.overrun.Overrun.{Overrun}
 use Rattle.hb_flow.specs.Windows.{Windows, counted, sized}
 use Rattle.hb_flow.specs.Answers.{Rises}

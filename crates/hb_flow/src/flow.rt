@@ -2,7 +2,7 @@
 
 ghost use Rattle.std.specs.Prelude.{◌≡◌, ◌≤◌, ◌<◌, pos, ◌+ℤ◌, ◌≤ℤ◌, IfSome, OnOk, OnErr};
 ghost use Rattle.std.specs.FinMap.{get};
-ghost use Rattle.hb_windows.specs.Sending.{largest};
+ghost use Rattle.hb_frames.specs.Numbers.{largest};
 ghost use Rattle.hb_flow.specs.Windows.{counted, due_of};
 ghost use Rattle.hb_flow.specs.Flows.{fresh, opened, closed, sendable, spent, given_back, granted, took, owed, owed_on};
 ghost use Rattle.hb_flow.specs.Flows.{paid, paid_on, due_on, creditable, GrantsOn, TakesOn};
@@ -13,13 +13,11 @@ ghost use Rattle.hb_map.specs.Keyed.{IsFirstFrom};
 use crate::stream_windows::{FIRST_SIZE, StreamWindows};
 use crate::window;
 use hb_base::NoMemory;
+use hb_frames::numbers::LARGEST;
 use hb_map::ById;
 use hb_windows::{Overrun, SendWindow, TakeWindow};
 use std::alloc::Global;
 use std::marker::Model;
-
-/// The largest size of a window (RFC 9113 section 6.9.2).
-const LARGEST: i64 = 2_147_483_647;
 
 /// The windows of one connection and of its streams.
 #[derive(Drop)]
@@ -32,7 +30,7 @@ pub struct Flow {
 
 impl Model for Flow {
     ghost use Rattle.std.specs.Prelude.{◌≤◌};
-    ghost use Rattle.hb_windows.specs.Sending.{largest};
+    ghost use Rattle.hb_frames.specs.Numbers.{largest};
     ghost use Rattle.hb_windows.specs.contracts.send_window.SendWindow.{the_row as sending_row};
     ghost use Rattle.hb_windows.specs.contracts.take_window.TakeWindow.{the_row as taking_row};
     ghost use Rattle.hb_flow.specs.contracts.stream_windows.StreamWindows.{the_row as windows_row};
@@ -163,7 +161,7 @@ impl Flow {
     pub fn size_limit(&self, unbegun_stream: u32, unbegun: u32) -> i64
         ensures { IsSizeLimit self.now unbegun_stream unbegun result }
     {
-        let mut limit = LARGEST;
+        let mut limit = LARGEST as i64;
         let mut next = self.first_behind(None);
         while let Some(stream) = next {
             let on_stream = self.limit_on(stream, unbegun_on(unbegun_stream, unbegun, stream));
@@ -179,7 +177,7 @@ impl Flow {
     {
         match self.streams.get(stream) {
             Some(windows) => windows.size_limit(unbegun),
-            None => LARGEST,
+            None => LARGEST as i64,
         }
     }
 

@@ -1,7 +1,7 @@
 //! The windows of one stream.
 
 ghost use Rattle.std.specs.Prelude.{◌≡◌, ◌≤◌, ◌+◌, pos, ◌+ℤ◌, ◌-ℤ◌, ◌≤ℤ◌};
-ghost use Rattle.hb_windows.specs.Sending.{largest};
+ghost use Rattle.hb_frames.specs.Numbers.{largest};
 ghost use Rattle.hb_flow.specs.Windows.{room, counted, less, more, sized, taken, owing, due_of, paid_of};
 ghost use Rattle.hb_flow.specs.Flows.{new_windows};
 ghost use Rattle.hb_flow.specs.Sizes.{size_limit};
@@ -25,7 +25,7 @@ const _: () = prove!(size_of::<StreamWindows>() == 20);
 
 impl Model for StreamWindows {
     ghost use Rattle.std.specs.Prelude.{◌≤◌, ◌+◌};
-    ghost use Rattle.hb_windows.specs.Sending.{largest};
+    ghost use Rattle.hb_frames.specs.Numbers.{largest};
     ghost use Rattle.hb_flow.specs.Windows.{Windows};
 
     ghost Value = { Windows };

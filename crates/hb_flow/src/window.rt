@@ -1,15 +1,13 @@
 //! Changes of one window.
 
 ghost use Rattle.std.specs.Prelude.{◌≡◌, ◌≤◌, pos, ◌+ℤ◌, ◌-ℤ◌, ◌≤ℤ◌, ◌<ℤ◌, IfOk, IfErr};
-ghost use Rattle.hb_windows.specs.Sending.{largest};
+ghost use Rattle.hb_frames.specs.Numbers.{largest};
 ghost use Rattle.hb_flow.specs.Windows.{room, counted, less, more, sized};
 ghost use Rattle.hb_flow.specs.Sizes.{size_limit};
 ghost use Rattle.hb_flow.specs.Answers.{Rises};
 
+use hb_frames::numbers::LARGEST;
 use hb_windows::{Overrun, SendWindow};
-
-/// The largest content of a window (RFC 9113 section 6.9.1).
-const LARGEST: i64 = 2_147_483_647;
 
 /// The octets that a window lets go.
 pub fn room_of(window: &SendWindow) -> u32
@@ -59,7 +57,7 @@ pub fn resize(window: &mut SendWindow, old: u32, new: u32, unbegun: u32) -> Resu
 pub fn size_limit(window: &SendWindow, unbegun: u32) -> i64
     ensures { result ≡ size_limit window.now unbegun }
 {
-    LARGEST - (window.held() + unbegun as i64 - window.size() as i64)
+    LARGEST as i64 - (window.held() + unbegun as i64 - window.size() as i64)
 }
 
 /// That a sum doesn't exceed the largest content.
@@ -71,7 +69,7 @@ fn within(held: i64, by: i64) -> Result<(), Overrun>
     ensures ok { IfOk result (λ _. (held +ℤ by) ≤ℤ pos largest) }
     ensures err { IfErr result (λ e. (pos largest <ℤ (held +ℤ by)) × (e ≡ record { held = held; asked = by })) }
 {
-    if held + by > LARGEST {
+    if held + by > LARGEST as i64 {
         return Err(Overrun { held, asked: by });
     }
     Ok(())

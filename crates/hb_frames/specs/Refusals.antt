@@ -5,7 +5,7 @@ use Rattle.hb_frames.specs.Octets.{four_at}
 use Rattle.hb_frames.specs.RawFrame.{RawFrame}
 use Rattle.hb_frames.specs.Numbers.{data_kind, headers_kind, priority_kind, rst_stream_kind, settings_kind, push_promise_kind}
 use Rattle.hb_frames.specs.Numbers.{ping_kind, goaway_kind, window_update_kind, padded_flag, priority_flag, ack_flag}
-use Rattle.hb_frames.specs.Numbers.{enable_push, max_frame_size, protocol_error, frame_size_error}
+use Rattle.hb_frames.specs.Numbers.{enable_push, max_frame_size, first_frame_size, largest_frame_size, protocol_error, frame_size_error}
 use Rattle.hb_frames.specs.declared.refusal.Refusal.{Refusal}
 
 -- the first of two refusals
@@ -83,7 +83,9 @@ settings _ = []
 
 -- ENABLE_PUSH is at most 1, and MAX_FRAME_SIZE between 2^14 and 2^24 - 1 (RFC 9113 section 6.5.2)
 abbrev pub is_refused_setting : ℕ × ℕ → Bool
-is_refused_setting s = (s.0 == enable_push && nat_lt 1 s.1) || (s.0 == max_frame_size && (nat_lt s.1 16384 || nat_lt 16777215 s.1))
+is_refused_setting s =
+    (s.0 == enable_push && nat_lt 1 s.1)
+    || (s.0 == max_frame_size && (nat_lt s.1 first_frame_size || nat_lt largest_frame_size s.1))
 
 -- a WINDOW_UPDATE's increment, without its reserved bit (RFC 9113 section 6.9)
 abbrev pub increment_of : RawFrame → ℕ

@@ -5,11 +5,12 @@ ghost use Rattle.hb_frames.specs.FrameOf.{frame_of};
 ghost use Rattle.hb_frames.specs.Bodies.{Shows, Pads};
 ghost use Rattle.hb_frames.specs.Shapes.{IsShaped};
 
-use crate::head::{Head, word_at};
-use crate::kind::{
+use crate::head::Head;
+use crate::numbers::{
     CONTINUATION, DATA, GOAWAY, HEADERS, PING, PRIORITY, PUSH_PROMISE, RST_STREAM, SETTINGS,
     WINDOW_UPDATE,
 };
+use crate::octets::word_at;
 use crate::refusal::{front_len, padding_len};
 
 /// The payload of a frame by its type (RFC 9113 section 6).

@@ -8,6 +8,7 @@ ghost use Rattle.hb_frames.specs.Bodies.{IsFrame};
 
 use crate::body::{Body, body_of};
 use crate::head::{HEADER, Head};
+use crate::numbers::FRAME_SIZE_ERROR;
 use crate::refusal::{Refusal, first_refusal};
 
 /// A frame (RFC 9113 section 4.1). Its type is that of its body.
@@ -19,7 +20,10 @@ pub struct Frame<'a> {
 }
 
 /// A length above the reader's maximum.
-const TOO_LONG: Refusal = Refusal { code: 6, row: 2 };
+const TOO_LONG: Refusal = Refusal {
+    code: FRAME_SIZE_ERROR,
+    row: 2,
+};
 
 /// The octets of the frame that the bytes begin with, or None where no whole one stands there.
 pub(crate) fn first_frame(bytes: &[u8], max: u32) -> Result<Option<usize>, Refusal>

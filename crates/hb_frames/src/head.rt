@@ -1,8 +1,9 @@
 //! The nine octets in front of a payload.
 
-ghost use Rattle.std.specs.Prelude.{◌≡◌, ◌+◌, ◌<◌, ◌≤◌, length};
-ghost use Rattle.hb_frames.specs.Octets.{three_at, four_at};
+ghost use Rattle.std.specs.Prelude.{◌≡◌, ◌≤◌, length};
 ghost use Rattle.hb_frames.specs.RawFrame.{raw_at, size_at};
+
+use crate::octets::word_at;
 
 /// The octets of a header (RFC 9113 section 4.1).
 pub(crate) const HEADER: usize = 9;
@@ -32,15 +33,4 @@ impl Head {
             stream: word_at(bytes, 5) % 0x8000_0000,
         }
     }
-}
-
-/// The number that four octets spell, the most significant first.
-pub(crate) fn word_at(bytes: &[u8], at: usize) -> u32
-    requires { at + 4 ≤ length bytes.now }
-    ensures { result ≡ four_at bytes.now at }
-{
-    bytes[at] as u32 * 0x100_0000
-        + bytes[at + 1] as u32 * 0x1_0000
-        + bytes[at + 2] as u32 * 0x100
-        + bytes[at + 3] as u32
 }

@@ -1,9 +1,11 @@
 //! Frames on their way out.
 
 ghost use Rattle.std.specs.Prelude.{◌≡◌, ◌+◌, ◌-◌, ◌≤◌, ◌++◌, [], length, take, drop, IfOk};
+ghost use Rattle.hb_frames.specs.Numbers.{largest, largest_frame_size};
 ghost use Rattle.hb_frames.specs.RawFrame.{spelling};
 
 use crate::buffer::Buffer;
+use crate::octets::word;
 use hb_base::NoMemory;
 use std::alloc::Global;
 use std::marker::Model;
@@ -44,24 +46,25 @@ impl Output {
     /// Appends a frame (RFC 9113 section 4.1), its reserved bit unset.
     pub fn put_frame(&mut self, kind: u8, flags: u8, stream: u32, payload: &[u8])
         requires room { length self.old.items + (9 + length payload.now) ≤ self.old.size }
-        requires short { length payload.now ≤ 16777215 }
-        requires in_range { stream ≤ 2147483647 }
+        requires short { length payload.now ≤ largest_frame_size }
+        requires in_range { stream ≤ largest }
         ensures { self.new ≡ record self.old {
           items = self.old.items
               ++ spelling (record { kind = kind; flags = flags; stream = stream; payload = payload.now });
         } }
     {
         let size = payload.len();
+        let [first, second, third, fourth] = word(stream);
         let head = [
             (size / 0x1_0000) as u8,
             (size / 0x100 % 0x100) as u8,
             (size % 0x100) as u8,
             kind,
             flags,
-            (stream / 0x100_0000) as u8,
-            (stream / 0x1_0000 % 0x100) as u8,
-            (stream / 0x100 % 0x100) as u8,
-            (stream % 0x100) as u8,
+            first,
+            second,
+            third,
+            fourth,
         ];
         self.buffer.append(&head);
         self.buffer.append(payload);

@@ -10,7 +10,7 @@ use crate::buffer::Buffer;
 use crate::fault::FrameFault;
 use crate::frame::{Frame, first_frame, frame_at};
 use crate::head::{HEADER, Head};
-use crate::kind::{CONTINUATION, SETTINGS};
+use crate::numbers::{CONTINUATION, SETTINGS};
 use crate::refusal::{front_len, has_content, padding_len};
 use hb_base::{NoMemory, Scope};
 use std::alloc::Global;

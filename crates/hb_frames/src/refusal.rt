@@ -9,11 +9,13 @@ ghost use Rattle.hb_frames.specs.Shapes.{PaddingFits, NumbersFit, IsShaped};
 ghost use Rattle.hb_frames.specs.Octets.{four_at};
 ghost use Rattle.std.specs.List.{list_any};
 
-use crate::head::{Head, word_at};
-use crate::kind::{
-    ACK_FLAG, DATA, GOAWAY, HEADERS, PADDED_FLAG, PING, PRIORITY, PRIORITY_FLAG, PUSH_PROMISE,
-    RST_STREAM, SETTINGS, WINDOW_UPDATE,
+use crate::head::Head;
+use crate::numbers::{
+    ACK_FLAG, DATA, ENABLE_PUSH, FIRST_FRAME_SIZE, FRAME_SIZE_ERROR, GOAWAY, HEADERS,
+    LARGEST_FRAME_SIZE, MAX_FRAME_SIZE, PADDED_FLAG, PING, PRIORITY, PRIORITY_FLAG, PROTOCOL_ERROR,
+    PUSH_PROMISE, RST_STREAM, SETTINGS, WINDOW_UPDATE,
 };
+use crate::octets::word_at;
 
 /// An error code (RFC 9113 section 7) and the row of the refusal table that gives it.
 #[derive(Clone, Copy)]
@@ -21,14 +23,6 @@ pub struct Refusal {
     pub code: u32,
     pub row: u32,
 }
-
-const PROTOCOL_ERROR: u32 = 1;
-
-const FRAME_SIZE_ERROR: u32 = 6;
-
-const ENABLE_PUSH: u32 = 2;
-
-const MAX_FRAME_SIZE: u32 = 5;
 
 /// DATA, HEADERS, PRIORITY and RST_STREAM belong to a stream, SETTINGS, PING and GOAWAY to the
 /// connection; PUSH_PROMISE is never allowed.
@@ -155,7 +149,7 @@ fn is_refused_setting(settings: &[u8]) -> bool
     let value = word_at(settings, 2);
     match identifier {
         ENABLE_PUSH => value > 1,
-        MAX_FRAME_SIZE => value < 0x4000 || value > 0xff_ffff,
+        MAX_FRAME_SIZE => value < FIRST_FRAME_SIZE || value > LARGEST_FRAME_SIZE,
         _ => false,
     }
 }

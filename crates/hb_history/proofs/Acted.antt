@@ -17,7 +17,7 @@ use Rattle.hb_outgoing.specs.Waiting.{octets_of}
 use Rattle.hb_outgoing.specs.Written.{written}
 use Rattle.hb_owed.specs.declared.due.Due.TheVariants as due
 use Rattle.hb_owed.specs.declared.status.Status.{Status}
-use Rattle.hb_conn.specs.Numbers.{protocol_error}
+use Rattle.hb_frames.specs.Numbers.{protocol_error}
 use Rattle.hb_conn.specs.Glance.{glance_at}
 use Rattle.hb_conn.specs.Owing.{with_due}
 use Rattle.hb_conn.specs.Ending.{own_ended, status_put, end_put}

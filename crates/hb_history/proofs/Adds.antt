@@ -122,7 +122,7 @@ act_adds role points given came written c m core told act after stands =
     (subst (Holds c.receiver.reader c.receiver.reader) (sym s.gets) (held_same c.receiver.reader c.receiver.reader refl)) refl
     (silent_last points given m told c.ended s.silent stands.told)
 
-written_rest : (c : Core) (n : ℕ) → (owing.wrote c n).out.rest ≡ (out_written n c.out).rest
+pub written_rest : (c : Core) (n : ℕ) → (owing.wrote c n).out.rest ≡ (out_written n c.out).rest
 written_rest c n =
     let r = (out_written n c.out).rest in
     payment_keeps (OfOut (λ w. w.rest ≡ r)) (out_keeps (λ w. w.rest ≡ r) (rest_keeps r)) calm (record c { out = out_written n c.out }) refl

@@ -4,7 +4,7 @@ use Rattle.std.specs.FinMap.{get}
 use Rattle.std.proofs.lemmas.Bool.{cond_both, cases_eq}
 use Rattle.hb_streams.specs.Answers.{data_answer, headers_answer, answer_of}
 use Rattle.hb_streams.specs.Moves.{receives, after, after_answer, peer_ended, peer_side_ended, closed}
-use Rattle.hb_streams.specs.Numbers.{data_kind, headers_kind, rst_stream_kind, refused_stream}
+use Rattle.hb_frames.specs.Numbers.{data_kind, headers_kind, rst_stream_kind, refused_stream}
 use Rattle.hb_streams.specs.Sides.{sides_of, state_with}
 use Rattle.hb_streams.specs.States.{States, state_of, state_by, state_of_others, is_full}
 use Rattle.hb_streams.specs.declared.role.Role.{Role}

@@ -9,7 +9,8 @@ use Rattle.std.proofs.lemmas.List.Elements.{filter-append}
 use Rattle.std.proofs.lemmas.Grind.{flat_map-append}
 use Rattle.hb_frames.specs.RawFrame.{RawFrame}
 use Rattle.hb_frames.specs.Frames.{AreOctets}
-use Rattle.hb_frames.specs.Numbers.{data_kind, settings_kind, ping_kind}
+use Rattle.hb_frames.specs.Numbers.{data_kind, settings_kind, ping_kind, max_concurrent_streams}
+use Rattle.hb_frames.specs.Numbers.{initial_window_size, max_frame_size, protocol_error}
 use Rattle.hb_frames.specs.Octets.{four, four_at}
 use Rattle.hb_frames.specs.Refusals.{is_ack, settings}
 use Rattle.hb_frames.specs.Bodies.{lent_of}
@@ -22,7 +23,6 @@ use Rattle.hb_outgoing.specs.Written.{begun_by, written}
 use Rattle.hb_outgoing.specs.Selected.{is_meant, is_data_of, is_kept}
 use Rattle.hb_outgoing.proofs.Sent.{begun_and_left}
 use Rattle.hb_owed.specs.Debts.{closed as owed_closed}
-use Rattle.hb_conn.specs.Numbers.{protocol_error, initial_window_size, max_concurrent_streams, max_frame_size}
 use Rattle.hb_conn.specs.Frames.{word, frame, sent, settings_ack, ping_ack}
 use Rattle.hb_conn.specs.Ping.{on_ping}
 use Rattle.hb_conn.specs.Faults.{faulted, is_active}

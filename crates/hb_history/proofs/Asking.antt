@@ -11,7 +11,8 @@ use Rattle.hb_conn.specs.Faults.{faulted as fault_of, released, broken, refused 
 use Rattle.hb_conn.specs.Frames.{word, frame, sent, window_update, settings_ack, ping_ack}
 use Rattle.hb_conn.specs.Handling.{does, Answers, HandlesBy, Handles}
 use Rattle.hb_conn.specs.Headers.{headed, headers_answered, block_told, DoesBlock}
-use Rattle.hb_conn.specs.Numbers.{data_kind, headers_kind, protocol_error, flow_control_error, rst_stream_kind, window_update_kind, max_concurrent_streams, max_frame_size, initial_window_size}
+use Rattle.hb_frames.specs.Numbers.{data_kind, headers_kind, rst_stream_kind, window_update_kind, max_concurrent_streams}
+use Rattle.hb_frames.specs.Numbers.{initial_window_size, max_frame_size, protocol_error, flow_control_error, largest}
 use Rattle.hb_conn.specs.Opening.{opened_with}
 use Rattle.hb_conn.specs.Outcome.{Outcome, outcome, Gives}
 use Rattle.hb_conn.specs.Owing as owing
@@ -53,7 +54,7 @@ use Rattle.hb_outgoing.proofs.Views.{put_is_long}
 use Rattle.hb_outgoing.specs.Selected.{is_kept}
 use Rattle.hb_outgoing.specs.Waiting.{Waiting, room_of, put}
 use Rattle.hb_outgoing.specs.Written.{begun_by, written}
-use Rattle.hb_owed.specs.Debts.{Debts, largest, credit_on, dues, dues_on, dues_by}
+use Rattle.hb_owed.specs.Debts.{Debts, credit_on, dues, dues_on, dues_by}
 use Rattle.hb_owed.specs.Debts.{closed as owed_closed, credit_by as credit_by_debt}
 use Rattle.hb_owed.specs.Dues.{clear, is_nil}
 use Rattle.hb_owed.specs.Frames.{credit_frame}

@@ -6,10 +6,9 @@ use Rattle.std.proofs.lemmas.Bool.{false≢true}
 use Rattle.std.proofs.lemmas.Bool.Decides.{nat_tests}
 use Rattle.std.proofs.lemmas.List.{append_assoc, append-nil, length-take-le}
 use Rattle.hb_frames.specs.RawFrame.{RawFrame}
-use Rattle.hb_frames.specs.Numbers.{window_update_kind}
+use Rattle.hb_frames.specs.Numbers.{data_kind, window_update_kind, protocol_error, largest}
 use Rattle.hb_frames.specs.Refusals.{increment_of}
 use Rattle.hb_frames.specs.Bodies.{lent_of}
-use Rattle.hb_windows.specs.Sending.{largest}
 use Rattle.hb_streams.specs.Numbers.{is_even}
 use Rattle.hb_streams.specs.Resets.{is_among}
 use Rattle.hb_streams.specs.States.{States, state_of, state_by}
@@ -24,9 +23,7 @@ use Rattle.hb_flow.specs.Sizes.{Fits}
 use Rattle.hb_outgoing.specs.Waiting.{octets_of}
 use Rattle.hb_outgoing.specs.Written.{begun_by, written}
 use Rattle.hb_outgoing.specs.Selected.{has_data}
-use Rattle.hb_owed.specs.Debts.{largest as largest_stream}
 use Rattle.hb_owed.specs.Debts.{closed as owed_closed}
-use Rattle.hb_conn.specs.Numbers.{data_kind, protocol_error}
 use Rattle.hb_conn.specs.Frames.{frame, sent}
 use Rattle.hb_conn.specs.Faults.{faulted, is_active}
 use Rattle.hb_conn.specs.Glance.{glance_at}
@@ -122,7 +119,7 @@ length_by false false b n x y is = omega (arith, is)
 pub put_length : (c : Core) (s : ℕ) (bytes : List ℕ) → length (take (count_put c s bytes) bytes) ≡ count_put c s bytes
 put_length c s bytes =
     length-take-le (count_put c s bytes) bytes
-    (length_by c.over (nat_le s largest_stream) (length (octets_of c.out) == 0) (count_put c s bytes) (length bytes) (allowed c s) refl)
+    (length_by c.over (nat_le s largest) (length (octets_of c.out) == 0) (count_put c s bytes) (length bytes) (allowed c s) refl)
 
 has_window : (f : Flows) (o : Option Windows) (n : ℕ) → (n == 0) ≡ false → n ≤ sendable_by f o → is_some o ≡ true
 has_window f None n some within = absurd (false≢true (sym some ∙ grind (arith, nat_tests, within)))

@@ -10,7 +10,7 @@ use Rattle.hb_frames.specs.Reading.{Reading, first_of, space_of, fed, asked, aft
 use Rattle.hb_frames.specs.declared.refusal.Refusal.{Refusal}
 use Rattle.hb_frames.proofs.Runs.{first_some, tested_none}
 use Rattle.hb_frames.proofs.Faults.{same_size}
-use Rattle.hb_conn.specs.Numbers.{protocol_error}
+use Rattle.hb_frames.specs.Numbers.{protocol_error}
 use Rattle.hb_conn.specs.Glance.{glance_by, glance_of}
 use Rattle.hb_conn.specs.Outcome.{Gives}
 use Rattle.hb_conn.specs.Faults.{faulted}

@@ -5,7 +5,7 @@ use Rattle.hb_frames.specs.Reading.{Reading, first_of, asked, after_frame}
 use Rattle.hb_frames.specs.declared.refusal.Refusal.{Refusal}
 use Rattle.hb_frames.proofs.Runs.{first_some}
 use Rattle.hb_outgoing.specs.Waiting.{room_of}
-use Rattle.hb_conn.specs.Numbers.{protocol_error}
+use Rattle.hb_frames.specs.Numbers.{protocol_error}
 use Rattle.hb_conn.specs.Glance.{glance_by, glance_of}
 use Rattle.hb_conn.specs.Handling.{Handles}
 use Rattle.hb_conn.specs.Laws.{IsCaughtUp}

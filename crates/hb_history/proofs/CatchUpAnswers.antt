@@ -12,7 +12,8 @@ use Rattle.hb_outgoing.proofs.Views.{filter_is_short}
 use Rattle.hb_streams.specs.States.{last_of_peer}
 use Rattle.hb_owed.specs.declared.due.Due.{Due}
 use Rattle.hb_owed.specs.declared.due.Due.TheVariants as due
-use Rattle.hb_owed.specs.Debts.{largest, dues, dues_by}
+use Rattle.hb_owed.specs.Debts.{dues, dues_by}
+use Rattle.hb_frames.specs.Numbers.{largest}
 use Rattle.hb_owed.specs.Frames.{frame_of}
 use Rattle.hb_owed.specs.Paid.{Payment, with_put, paid}
 use Rattle.hb_owed.proofs.Walks.{nothing_due}

@@ -4,7 +4,8 @@ use Rattle.std.specs.Prelude.{◌==◌, ◌/◌, ◌%◌, nat_lt, pos, ◌+ℤ�
 use Rattle.std.proofs.Common.{length-append}
 use Rattle.std.specs.FinMap.{get}
 use Rattle.hb_outgoing.specs.Waiting.{room_of}
-use Rattle.hb_windows.specs.Sending.{largest as largest_window}
+use Rattle.hb_frames.specs.Numbers.{data_kind, headers_kind, rst_stream_kind, window_update_kind, max_concurrent_streams}
+use Rattle.hb_frames.specs.Numbers.{initial_window_size, max_frame_size, protocol_error, flow_control_error, largest}
 use Rattle.hb_streams.specs.Answers.{answer_of}
 use Rattle.hb_streams.specs.declared.step.Step.{Step}
 use Rattle.hb_streams.specs.declared.step.Step.TheVariants as step
@@ -17,8 +18,7 @@ use Rattle.hb_blocks.specs.Assembly.{Progress, begun as block_begun, continued a
 use Rattle.hb_blocks.specs.declared.fault.BlockFault.{BlockFault}
 use Rattle.hb_blocks.specs.declared.whole.Whole.{Whole}
 use Rattle.hb_blocks.specs.Faults.{code_of}
-use Rattle.hb_owed.specs.Debts.{largest, dues}
-use Rattle.hb_conn.specs.Numbers.{data_kind, rst_stream_kind, window_update_kind, headers_kind, max_concurrent_streams, max_frame_size, initial_window_size, protocol_error, flow_control_error}
+use Rattle.hb_owed.specs.Debts.{dues}
 use Rattle.hb_conn.specs.Frames.{word, window_update, ping_ack, settings_ack}
 use Rattle.hb_conn.specs.Faults.{faulted, broken}
 use Rattle.hb_conn.specs.Outcome.{Outcome, Gives}
@@ -106,14 +106,14 @@ data_costs c s counted size end number room clear =
 
 grows_costs : (c : Core) (n : ℕ) → dues c.owed ≡ [] → Costs 13 c (connection_grows c n).core
 grows_costs c n clear =
-    told_by 13 (int_lt (pos largest_window) (counted c.flow.sending (unbegun c).size +ℤ pos n)) c _ _ (ends 13 c flow_control_error)
+    told_by 13 (int_lt (pos largest) (counted c.flow.sending (unbegun c).size +ℤ pos n)) c _ _ (ends 13 c flow_control_error)
     (costs 0 13 c _ (stays c _ refl refl clear) (omega arith))
 
 stream_grows_costs : (o : Option Windows) (c : Core) (s n : ℕ) → 30 ≤ room_of c.out → dues c.owed ≡ []
     → Costs 13 c (stream_grows c s n o).core
 stream_grows_costs None c s n room clear = quiet 13 c clear
 stream_grows_costs (Some w) c s n room clear =
-    told_by 13 (int_lt (pos largest_window) (counted w.sending (unbegun_on (unbegun c).stream (unbegun c).size s) +ℤ pos n)) c _ _
+    told_by 13 (int_lt (pos largest) (counted w.sending (unbegun_on (unbegun c).stream (unbegun c).size s) +ℤ pos n)) c _ _
     (breaks c s flow_control_error room clear) (costs 0 13 c _ (stays c _ refl refl clear) (omega arith))
 
 window_answered_costs : (answer : Result Step StreamFault) (c : Core) (s n : ℕ) → 30 ≤ room_of c.out → dues c.owed ≡ []

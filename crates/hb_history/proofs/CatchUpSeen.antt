@@ -6,7 +6,8 @@ use Rattle.hb_frames.specs.RawFrame.{RawFrame, raw_at}
 use Rattle.hb_frames.specs.Reading.{Reading, first_of}
 use Rattle.hb_frames.specs.declared.refusal.Refusal.{Refusal}
 use Rattle.hb_outgoing.specs.Waiting.{room_of}
-use Rattle.hb_conn.specs.Numbers.{data_kind, headers_kind, rst_stream_kind, settings_kind, ping_kind, goaway_kind, window_update_kind, continuation_kind}
+use Rattle.hb_frames.specs.Numbers.{data_kind, headers_kind, rst_stream_kind, settings_kind, ping_kind}
+use Rattle.hb_frames.specs.Numbers.{goaway_kind, window_update_kind, continuation_kind}
 use Rattle.hb_conn.specs.Glance.{glance_at, glance_at_others, glance_by, glance_of, IsInRange}
 use Rattle.hb_conn.specs.Receiving.{pauses}
 use Rattle.hb_conn.specs.declared.machine.Core.{Core}

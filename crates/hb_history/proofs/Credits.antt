@@ -8,10 +8,9 @@ use Rattle.hb_frames.specs.Reading.{Reading, first_of, unless_refused, too_long,
 use Rattle.hb_frames.specs.Reading.{space_of as reader_space}
 use Rattle.hb_frames.specs.declared.refusal.Refusal.{Refusal}
 use Rattle.hb_frames.proofs.Runs.{first_some}
-use Rattle.hb_owed.specs.Debts.{largest}
+use Rattle.hb_frames.specs.Numbers.{protocol_error, largest}
 use Rattle.hb_streams.specs.Sides.{sides_of}
 use Rattle.hb_streams.specs.States.{state_of}
-use Rattle.hb_conn.specs.Numbers.{protocol_error}
 use Rattle.hb_conn.specs.Glance.{glance_by}
 use Rattle.hb_conn.specs.Outcome.{Gives}
 use Rattle.hb_conn.specs.Faults.{faulted}

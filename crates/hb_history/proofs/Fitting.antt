@@ -18,8 +18,7 @@ use Rattle.hb_flow.specs.Flows.{Flows, sendable, sendable_by, spent}
 use Rattle.hb_outgoing.specs.Waiting.{Waiting, octets_of, room_of}
 use Rattle.hb_outgoing.specs.Written.{begun_in, begun_by, written}
 use Rattle.hb_outgoing.specs.Selected.{has_data, data_size, is_kept}
-use Rattle.hb_owed.specs.Debts.{largest}
-use Rattle.hb_conn.specs.Numbers.{data_kind}
+use Rattle.hb_frames.specs.Numbers.{data_kind, largest}
 use Rattle.hb_conn.specs.Frames.{frame, sent}
 use Rattle.hb_conn.specs.Payload.{count_put, data_put}
 use Rattle.hb_conn.specs.declared.machine.Core.{Core}

@@ -14,9 +14,8 @@ use Rattle.hb_flow.specs.Laws.{IsWhole}
 use Rattle.hb_flow.proofs.Taking.{connection_takes, stream_takes}
 use Rattle.hb_outgoing.specs.Waiting.{octets_of}
 use Rattle.hb_outgoing.specs.Selected.{data_size}
-use Rattle.hb_owed.specs.Debts.{largest}
+use Rattle.hb_frames.specs.Numbers.{data_kind, largest}
 use Rattle.hb_owed.specs.Debts.{closed as owed_closed}
-use Rattle.hb_conn.specs.Numbers.{data_kind}
 use Rattle.hb_conn.specs.Frames.{frame, sent}
 use Rattle.hb_conn.specs.Faults.{faulted, is_active}
 use Rattle.hb_conn.specs.Payload.{count_put}

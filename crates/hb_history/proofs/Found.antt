@@ -5,7 +5,7 @@ use Rattle.hb_conn.specs.Connection.{Connection, Finds, FindsWhile, FindsOf, Fin
 use Rattle.hb_conn.specs.Faults.{faulted}
 use Rattle.hb_conn.specs.Glance.{glance_of}
 use Rattle.hb_conn.specs.Handling.{Handles}
-use Rattle.hb_conn.specs.Numbers.{protocol_error}
+use Rattle.hb_frames.specs.Numbers.{protocol_error}
 use Rattle.hb_conn.specs.Outcome.{Gives}
 use Rattle.hb_conn.specs.Preface.{is_whole}
 use Rattle.hb_conn.specs.Receiving.{pauses, Passes, Ends, waits, lacks, tells, Receives}

@@ -5,9 +5,9 @@ use Rattle.std.proofs.lemmas.Bool.{false≢true, cases_eq, eq-eqb, ne_eqb}
 use Rattle.std.proofs.lemmas.Int.{ints}
 use Rattle.std.proofs.lemmas.List.Sums.{sum_by_push}
 use Rattle.hb_frames.specs.RawFrame.{RawFrame}
-use Rattle.hb_frames.specs.Numbers.{window_update_kind}
+use Rattle.hb_frames.specs.Numbers.{window_update_kind, largest}
 use Rattle.hb_frames.specs.Refusals.{increment_of}
-use Rattle.hb_windows.specs.Sending.{Sending, largest}
+use Rattle.hb_windows.specs.Sending.{Sending}
 use Rattle.hb_flow.specs.Windows.{Windows, more}
 use Rattle.hb_flow.specs.Flows.{Flows, granted, granted_on, sending_by}
 use Rattle.hb_flow.proofs.Changes.{still_sending, still_initial, was, same_some}

@@ -7,7 +7,7 @@ use Rattle.hb_frames.specs.Bodies.{lent_of}
 use Rattle.hb_frames.specs.Reading.{Reading, after_frame, first_of}
 use Rattle.hb_frames.specs.declared.refusal.Refusal.{Refusal}
 use Rattle.hb_frames.proofs.FrameLists.{in_front}
-use Rattle.hb_conn.specs.Numbers.{protocol_error}
+use Rattle.hb_frames.specs.Numbers.{protocol_error}
 use Rattle.hb_conn.specs.Connection.{Connection, ended_by}
 use Rattle.hb_conn.specs.Faults.{faulted}
 use Rattle.hb_conn.specs.Glance.{glance_by}

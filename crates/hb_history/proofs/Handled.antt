@@ -6,8 +6,8 @@ use Rattle.std.proofs.lemmas.Bool.{false≢true}
 use Rattle.std.proofs.lemmas.Bool.Decides.{nat_tests}
 use Rattle.std.proofs.lemmas.Int.{ints}
 use Rattle.hb_frames.specs.Refusals.{settings}
-use Rattle.hb_windows.specs.Sending.{largest}
-use Rattle.hb_streams.specs.Numbers.{data_kind, headers_kind, rst_stream_kind, window_update_kind}
+use Rattle.hb_frames.specs.Numbers.{data_kind, headers_kind, rst_stream_kind, window_update_kind, max_concurrent_streams}
+use Rattle.hb_frames.specs.Numbers.{initial_window_size, max_frame_size, protocol_error, largest}
 use Rattle.hb_streams.specs.Sides.{both_open, sides_of}
 use Rattle.hb_streams.specs.States.{States, state_of}
 use Rattle.hb_streams.specs.Answers.{answer_of, control_answer}
@@ -26,7 +26,6 @@ use Rattle.hb_blocks.specs.Assembly.{Progress}
 use Rattle.hb_blocks.specs.declared.fault.BlockFault.{BlockFault}
 use Rattle.hb_blocks.specs.declared.whole.Whole.{Whole}
 use Rattle.hb_conn.proofs.Flowing.{data_is_kept}
-use Rattle.hb_conn.specs.Numbers.{initial_window_size, max_concurrent_streams, max_frame_size, protocol_error}
 use Rattle.hb_conn.specs.Frames.{settings_ack, ping_ack}
 use Rattle.hb_conn.specs.Ping.{on_ping}
 use Rattle.hb_conn.specs.Faults.{faulted, is_active, broken, released}

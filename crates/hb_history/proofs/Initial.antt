@@ -2,7 +2,7 @@
 use Rattle.std.proofs.Common.{◌≡◌, ℕ, ◌==◌, ◌&&◌, not, Bool, true, false, cond, List, [], ◌∷◌, ◌++◌, take, fold, Some, refl, ap, sym, ◌∙◌, subst}
 use Rattle.std.proofs.lemmas.Bool.{false≢true}
 use Rattle.hb_frames.specs.RawFrame.{RawFrame}
-use Rattle.hb_frames.specs.Numbers.{settings_kind}
+use Rattle.hb_frames.specs.Numbers.{data_kind, settings_kind, max_concurrent_streams, initial_window_size, max_frame_size, protocol_error}
 use Rattle.hb_frames.specs.Refusals.{is_ack, settings}
 use Rattle.hb_frames.specs.Bodies.{lent_of}
 use Rattle.hb_streams.specs.declared.role.Role.{Role}
@@ -13,7 +13,6 @@ use Rattle.hb_flow.proofs.Changes.{still_initial}
 use Rattle.hb_outgoing.specs.Selected.{data_size}
 use Rattle.hb_outgoing.specs.Written.{written}
 use Rattle.hb_owed.specs.Debts.{closed as owed_closed}
-use Rattle.hb_conn.specs.Numbers.{data_kind, protocol_error, initial_window_size, max_concurrent_streams, max_frame_size}
 use Rattle.hb_conn.specs.Frames.{frame, sent}
 use Rattle.hb_conn.specs.Faults.{faulted, is_active}
 use Rattle.hb_conn.specs.Glance.{glance_at}

@@ -8,7 +8,9 @@ use Rattle.std.proofs.lemmas.Bool.Decides.{nat_tests}
 use Rattle.hb_base.specs.declared.scope.Scope.{Scope}
 use Rattle.hb_base.specs.declared.scope.Scope.TheVariants as scope
 use Rattle.hb_frames.specs.RawFrame.{RawFrame, raw_at}
-use Rattle.hb_frames.specs.Numbers.{settings_kind, enable_push}
+use Rattle.hb_frames.specs.Numbers.{data_kind, headers_kind, rst_stream_kind, settings_kind, window_update_kind}
+use Rattle.hb_frames.specs.Numbers.{enable_push, max_concurrent_streams, initial_window_size, max_frame_size, protocol_error}
+use Rattle.hb_frames.specs.Numbers.{flow_control_error, refused_stream}
 use Rattle.hb_frames.specs.Bodies.{lent_of}
 use Rattle.hb_frames.specs.Refusals.{settings, is_refused_setting, refuses, first_refusal, stream_refusal, padding_refusal, size_refusal, value_refusal, ◌else◌}
 use Rattle.hb_frames.specs.Reading.{Reading, asked, after_frame, first_of}
@@ -19,7 +21,6 @@ use Rattle.hb_map.proofs.Laws.{put_here, put_elsewhere, removed_elsewhere}
 use Rattle.hb_streams.specs.Answers.{answer_of}
 use Rattle.hb_streams.specs.States.{States}
 use Rattle.hb_streams.specs.Moves.{after, receives, after_answer, peer_ended, peer_side_ended, begun, closed, refused as stream_refused}
-use Rattle.hb_streams.specs.Numbers.{rst_stream_kind, refused_stream}
 use Rattle.hb_streams.specs.Sides.{both_open}
 use Rattle.hb_streams.specs.declared.sides.Sides.{Sides}
 use Rattle.hb_streams.specs.declared.step.Step.{Step}
@@ -44,7 +45,6 @@ use Rattle.hb_conn.specs.Places.{is_misplaced}
 use Rattle.hb_conn.specs.Resets.{reset_answered}
 use Rattle.hb_conn.specs.Settings.{noted, Resized, AppliesBy, AppliesAll, Then, applied, SettlesBy, DoesSettings}
 use Rattle.hb_conn.specs.Frames.{sent, ping_ack}
-use Rattle.hb_conn.specs.Numbers.{data_kind, headers_kind, window_update_kind, protocol_error, flow_control_error, max_concurrent_streams, max_frame_size, initial_window_size}
 use Rattle.hb_conn.specs.Windows.{connection_grows, stream_grows, stream_answered, on_window}
 use Rattle.hb_conn.specs.declared.machine.Core.{Core}
 use Rattle.hb_conn.specs.declared.machine.Peer.{Peer}

@@ -15,6 +15,7 @@ pub mod CatchUpDues
 pub mod CatchUpHandlers
 pub mod CatchUpResets
 pub mod CatchUpSeen
+pub mod Connections
 pub mod CreditExamples
 pub mod Crediting
 pub mod Credits

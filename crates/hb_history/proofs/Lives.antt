@@ -28,7 +28,7 @@ use Rattle.hb_owed.specs.Debts.{Debts, shut}
 use Rattle.hb_owed.specs.Debts.{closed as owed_closed}
 use Rattle.hb_owed.specs.Moves.{is_open}
 use Rattle.hb_owed.proofs.Walks.{settled_elsewhere}
-use Rattle.hb_conn.specs.Numbers.{data_kind}
+use Rattle.hb_frames.specs.Numbers.{data_kind}
 use Rattle.hb_conn.specs.Frames.{frame, sent}
 use Rattle.hb_conn.specs.Faults.{faulted, is_active}
 use Rattle.hb_conn.specs.Payload.{count_put}

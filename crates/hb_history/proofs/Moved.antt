@@ -4,7 +4,8 @@ use Rattle.std.specs.FinMap.{get}
 use Rattle.std.proofs.lemmas.Bool.{false≢true}
 use Rattle.hb_map.specs.Keyed.{written}
 use Rattle.hb_map.proofs.Laws.{removed_here, removed_elsewhere, written_elsewhere, written_where_none}
-use Rattle.hb_streams.specs.Numbers.{data_kind, headers_kind, rst_stream_kind, refused_stream, is_even}
+use Rattle.hb_streams.specs.Numbers.{is_even}
+use Rattle.hb_frames.specs.Numbers.{data_kind, headers_kind, rst_stream_kind, refused_stream}
 use Rattle.hb_streams.specs.Resets.{is_among}
 use Rattle.hb_streams.specs.Sides.{sides_of}
 use Rattle.hb_streams.specs.States.{States, state_of, state_by, state_of_others}

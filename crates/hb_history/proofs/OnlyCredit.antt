@@ -6,7 +6,9 @@ use Rattle.std.proofs.lemmas.Bool.Decides.{nat_tests}
 use Rattle.std.proofs.lemmas.List.{append-nil}
 use Rattle.hb_map.proofs.Laws.{written_here}
 use Rattle.hb_owed.specs.Dues.{Debt, is_nil, dues_of, without}
-use Rattle.hb_owed.specs.Debts.{Debts, largest, changed, changed_by, settled, struck, with_credit, credit_on, credit_by, is_done_by, dues, dues_on, dues_by}
+use Rattle.hb_owed.specs.Debts.{Debts, changed, changed_by, settled, struck, with_credit}
+use Rattle.hb_owed.specs.Debts.{credit_on, credit_by, is_done_by, dues, dues_on, dues_by}
+use Rattle.hb_frames.specs.Numbers.{largest}
 use Rattle.hb_owed.specs.declared.due.Due.{Due}
 use Rattle.hb_owed.specs.declared.due.Due.TheVariants as due
 use Rattle.hb_owed.proofs.Walks.{on, dues_step, dues_up_to, nothing_from, changed_elsewhere}

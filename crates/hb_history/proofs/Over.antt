@@ -31,7 +31,8 @@ use Rattle.hb_conn.specs.Places.{is_misplaced}
 use Rattle.hb_conn.specs.Resets.{peer_reset, reset_answered}
 use Rattle.hb_conn.specs.Settings.{noted, Resized, AppliesBy, AppliesAll, Then, applied, SettlesBy, DoesSettings}
 use Rattle.hb_conn.specs.Frames.{sent, ping_ack}
-use Rattle.hb_conn.specs.Numbers.{data_kind, window_update_kind, protocol_error, flow_control_error, max_concurrent_streams, max_frame_size, initial_window_size}
+use Rattle.hb_frames.specs.Numbers.{data_kind, window_update_kind, max_concurrent_streams, initial_window_size}
+use Rattle.hb_frames.specs.Numbers.{max_frame_size, protocol_error, flow_control_error}
 use Rattle.hb_conn.specs.Windows.{connection_grows, stream_grows, stream_answered, on_window}
 use Rattle.hb_conn.specs.declared.machine.Core.{Core}
 use Rattle.hb_conn.specs.declared.found.Found.{Found}

@@ -6,7 +6,8 @@ use Rattle.hb_windows.specs.Taking.{Taking}
 use Rattle.hb_flow.specs.Windows.{worth_granting}
 use Rattle.hb_outgoing.specs.Selected.{data_size}
 use Rattle.hb_owed.specs.Debts.{credit_on}
-use Rattle.hb_conn.specs.declared.machine.Core.{Core}
+use Rattle.hb_conn.specs.Connection.{Connection, core_of}
+use Rattle.hb_conn.specs.Observed.{outgoing}
 use Rattle.hb_history.specs.Points.{Point, frames_got}
 use Rattle.hb_history.specs.History.{happenings}
 use Rattle.hb_history.specs.OwnFrames.{Stage, first_stream}
@@ -22,11 +23,12 @@ whole t a i h = (omega (arith, h.all, h.sum), omega (arith, h.all, h.sum, h.shor
 one : (t : Taking) (b i c : ℕ) → c ≡ 0 → t.owed < worth_granting → OfStream t b i c 0 → IsGrantedAgain i b
 one t b i c none short h = (omega (arith, h.all, h.sum, none, h.kept), omega (arith, h.all, h.sum, none, h.kept, short))
 
-grants_again : (points : List Point) (begun : List RawFrame) (c : Core)
+grants_again : (points : List Point) (begun : List RawFrame) (conn : Connection)
     → Goes begun (data_size None (frames_got points)) (data_size (Some first_stream) (frames_got points)) (kept points)
-    (list_any is_left (happenings points)) c
-    → GrantsAgain points (begun ++ c.out.queue) c
-grants_again points begun c h =
+    (list_any is_left (happenings points)) (core_of conn)
+    → GrantsAgain points (begun ++ (outgoing conn).queue) conn
+grants_again points begun conn h =
+    let c = core_of conn in
     let w = h.3.1.windows in
     record {
       connection = whole c.flow.taking (data_size None (frames_got points)) _ h.3.0;
@@ -42,6 +44,6 @@ grants_again points begun c h =
 
 pub own_credits : OwnCredits
 own_credits points given came written c stands is =
-    grants_again points stands.begun c.receiver.core
-    (subst (λ (st : Stage). At (happenings points) (frames_got points) (kept points) st stands.begun c.receiver.core) is
-    (all_at points stands.begun c.receiver.core stands.begins))
+    grants_again points stands.begun c
+    (subst (λ (st : Stage). At (happenings points) (frames_got points) (kept points) st stands.begun (core_of c)) is
+    (all_at points stands.begun (core_of c) stands.begins))

@@ -4,7 +4,7 @@ use Rattle.std.specs.FinMap.{get}
 use Rattle.hb_blocks.specs.Assembly.{Assembly}
 use Rattle.hb_frames.specs.RawFrame.{RawFrame}
 use Rattle.hb_hpack.specs.Encoding.{Writing}
-use Rattle.hb_windows.specs.Sending.{largest}
+use Rattle.hb_frames.specs.Numbers.{largest}
 use Rattle.hb_streams.specs.States.{States}
 use Rattle.hb_streams.specs.Moves.{Move as StreamMove, after, begun}
 use Rattle.hb_streams.specs.declared.sides.Sides.{Sides}

@@ -8,7 +8,9 @@ use Rattle.hb_map.proofs.Laws.{removed_elsewhere, written_here, written_elsewher
 use Rattle.hb_owed.specs.declared.due.Due.{Due}
 use Rattle.hb_owed.specs.declared.due.Due.TheVariants as due
 use Rattle.hb_owed.specs.Dues.{Debt, is_nil, dues_of}
-use Rattle.hb_owed.specs.Debts.{Debts, largest, changed, changed_by, settled, taken_back, is_done_by, with_status, with_credit, with_end, with_reset, without_end, credit_on}
+use Rattle.hb_owed.specs.Debts.{Debts, changed, changed_by, settled, taken_back, is_done_by}
+use Rattle.hb_owed.specs.Debts.{with_status, with_credit, with_end, with_reset, without_end, credit_on}
+use Rattle.hb_frames.specs.Numbers.{largest}
 use Rattle.hb_owed.specs.Moves.{is_open}
 use Rattle.hb_owed.specs.Paid.{Payment, paid}
 use Rattle.hb_owed.proofs.Records.{keeps_records}

@@ -4,7 +4,7 @@ use Rattle.std.specs.Ordering.{nat_cmp}
 use Rattle.std.specs.FinMap.{empty, get, get-empty}
 use Rattle.std.proofs.lemmas.Bool.{false≢true, ne_eqb}
 use Rattle.std.proofs.lemmas.Int.{ints}
-use Rattle.hb_windows.specs.Sending.{largest}
+use Rattle.hb_frames.specs.Numbers.{data_kind, largest}
 use Rattle.hb_streams.specs.declared.role.Role.{Role}
 use Rattle.hb_streams.specs.declared.role.Role.TheVariants.{Server, Client}
 use Rattle.hb_flow.specs.Windows.{Windows}
@@ -14,7 +14,6 @@ use Rattle.hb_flow.proofs.Taking.{never_beyond}
 use Rattle.hb_outgoing.specs.Selected.{data_size}
 use Rattle.hb_conn.specs.Connection.{Connection}
 use Rattle.hb_conn.specs.Frames.{frame, sent}
-use Rattle.hb_conn.specs.Numbers.{data_kind}
 use Rattle.hb_conn.specs.Payload.{count_put}
 use Rattle.hb_conn.specs.Windows.{unbegun}
 use Rattle.hb_conn.specs.declared.machine.Core.{Core}

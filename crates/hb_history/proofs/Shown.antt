@@ -7,10 +7,9 @@ use Rattle.std.proofs.lemmas.List.{nil_from_length}
 use Rattle.hb_frames.specs.RawFrame.{RawFrame}
 use Rattle.hb_outgoing.specs.Waiting.{Waiting, octets_of, put}
 use Rattle.hb_outgoing.specs.Selected.{taken_back, all_taken_back}
-use Rattle.hb_owed.specs.Debts.{largest}
+use Rattle.hb_frames.specs.Numbers.{data_kind, largest}
 use Rattle.hb_owed.specs.Debts.{closed as owed_closed}
 use Rattle.hb_flow.specs.Flows.{closed, spent}
-use Rattle.hb_conn.specs.Numbers.{data_kind}
 use Rattle.hb_conn.specs.Frames.{frame, sent}
 use Rattle.hb_conn.specs.Faults.{faulted, is_active}
 use Rattle.hb_conn.specs.Payload.{allowed, count_put}

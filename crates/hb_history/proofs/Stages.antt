@@ -7,7 +7,7 @@ use Rattle.std.proofs.lemmas.Bool.Decides.{nat_tests}
 use Rattle.std.proofs.lemmas.List.{append_assoc, append-nil, length-take}
 use Rattle.std.proofs.lemmas.List.Folds.{list_any-append}
 use Rattle.hb_frames.specs.RawFrame.{RawFrame}
-use Rattle.hb_frames.specs.Numbers.{data_kind}
+use Rattle.hb_frames.specs.Numbers.{data_kind, protocol_error}
 use Rattle.hb_frames.specs.Bodies.{content_of, lent_of}
 use Rattle.hb_frames.specs.Refusals.{front_len, padding_len}
 use Rattle.hb_hpack.specs.declared.header.Header.{Header}
@@ -20,7 +20,6 @@ use Rattle.hb_conn.specs.Connection.{fresh_client, ended_by}
 use Rattle.hb_conn.specs.Credit.{credit}
 use Rattle.hb_conn.specs.Glance.{glance_at, has_flag}
 use Rattle.hb_conn.specs.Handling.{HandlesBy, Handles}
-use Rattle.hb_conn.specs.Numbers.{protocol_error}
 use Rattle.hb_conn.specs.Opening.{opened_with}
 use Rattle.hb_conn.specs.Faults.{faulted as fault_of}
 use Rattle.hb_conn.specs.Outcome.{is_silent, Gives}

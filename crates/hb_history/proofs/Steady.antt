@@ -14,10 +14,9 @@ use Rattle.hb_streams.specs.declared.sides.Sides.{Sides}
 use Rattle.hb_streams.specs.declared.role.Role.TheVariants.{Client}
 use Rattle.hb_flow.specs.Flows.{spent}
 use Rattle.hb_outgoing.specs.Waiting.{Waiting, octets_of, put}
-use Rattle.hb_owed.specs.Debts.{largest}
+use Rattle.hb_frames.specs.Numbers.{data_kind, protocol_error, largest}
 use Rattle.hb_conn.specs.Connection.{Connection, Finds, FindsWhile, FindsOf, FindsAfter, FindsBy, core_of, fresh_client, taken, space_of, left_of}
 use Rattle.hb_conn.specs.Frames.{frame, sent}
-use Rattle.hb_conn.specs.Numbers.{data_kind, protocol_error}
 use Rattle.hb_conn.specs.Observed.{room, is_over, is_paused, octets_held, NoneIsWhole, IsLookedAt, OwesNoneWithRoom, next_stream, count_put, wrote, opened, data_put, credited}
 use Rattle.hb_conn.specs.Opening.{begun}
 use Rattle.hb_conn.specs.Payload as payload

@@ -6,8 +6,8 @@ use Rattle.std.proofs.lemmas.Bool.{false≢true, cases_eq, eq-eqb, ne_eqb}
 use Rattle.std.proofs.lemmas.Int.{ints}
 use Rattle.hb_map.proofs.Laws.{put_here, put_elsewhere, removed_here}
 use Rattle.hb_frames.specs.RawFrame.{RawFrame}
-use Rattle.hb_frames.specs.Numbers.{data_kind}
-use Rattle.hb_windows.specs.Sending.{Sending, largest}
+use Rattle.hb_frames.specs.Numbers.{data_kind, largest}
+use Rattle.hb_windows.specs.Sending.{Sending}
 use Rattle.hb_flow.specs.Windows.{Windows, less, more, counted}
 use Rattle.hb_flow.specs.Flows.{Flows, changed, opened, closed, spent, granted, sending_by, new_windows}
 use Rattle.hb_flow.specs.Sizes.{resized, Fits}

@@ -1,6 +1,6 @@
 -- Where the output has room, nothing is owed, whatever the peer sends.
 use Rattle.std.specs.Prelude.{⊤, ◌≡◌, ◌≤◌, ℕ, false, List, [], ◌∷◌}
-use Rattle.hb_owed.specs.Debts.{largest}
+use Rattle.hb_frames.specs.Numbers.{largest}
 use Rattle.hb_streams.specs.declared.role.Role.{Role}
 use Rattle.hb_conn.specs.Glance.{IsInRange}
 use Rattle.hb_conn.specs.Handling.{Handles}

@@ -1,7 +1,7 @@
 -- DATA fits both windows where it begins (RFC 9113 sections 6.9 and 6.9.2).
 use Rattle.std.specs.Prelude.{⊤, ◌≡◌, ℕ, ◌+◌, ◌≤◌, ◌==◌, ◌&&◌, not, Bool, true, fold, filter, List, [], ◌∷◌, ◌++◌, length, take, Some, None}
 use Rattle.hb_frames.specs.RawFrame.{RawFrame}
-use Rattle.hb_frames.specs.Numbers.{settings_kind}
+use Rattle.hb_frames.specs.Numbers.{settings_kind, first_frame_size}
 use Rattle.hb_frames.specs.Refusals.{is_ack}
 use Rattle.hb_streams.specs.declared.role.Role.{Role}
 use Rattle.hb_flow.specs.Windows.{first_size}
@@ -34,7 +34,7 @@ initial_size front got = fold size_with first_size (acknowledged front got)
 -- payload; with the DATA in front it is within what the peer granted on the connection, and on its stream, where the
 -- SETTINGS count that are acknowledged in front of it
 pub record FitsWindows (f : RawFrame) (front got : List RawFrame) : Type 0 where
-  pub size : length f.payload ≤ 16384
+  pub size : length f.payload ≤ first_frame_size
   pub connection : data_size None front + length f.payload ≤ first_size + increments 0 got
   pub stream : data_size (Some f.stream) front + length f.payload ≤ initial_size front got + increments f.stream got
 

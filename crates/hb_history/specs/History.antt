@@ -10,9 +10,10 @@ use Rattle.hb_outgoing.specs.Laws.{Shows}
 use Rattle.hb_conn.specs.Preface.{octets}
 use Rattle.hb_conn.specs.Outcome.{is_silent}
 use Rattle.hb_conn.specs.Connection.{Connection, fresh_server, fresh_client, core_of, ended_by}
+use Rattle.hb_conn.specs.Observed.{outgoing}
 use Rattle.hb_conn.specs.declared.found.Found.{Found}
 use Rattle.hb_conn.specs.declared.found.Found.TheVariants as found
-use Rattle.hb_history.specs.Points.{Point, Runs, RunsWith, frames_got}
+use Rattle.hb_history.specs.Points.{Point, After, Runs, RunsWith, frames_got}
 
 -- before anything happened
 abbrev pub fresh : Role → Connection
@@ -31,6 +32,14 @@ awaited Client = []
 -- these points lead from one connection to another one
 abbrev pub Leads : Connection → List Point → Connection → Type 0
 Leads c points d = Runs (core_of c) points (core_of d)
+
+-- and these frames begin
+abbrev pub LeadsWith : Connection → List Point → List RawFrame → Connection → Type 0
+LeadsWith c points begun d = RunsWith (core_of c) points begun (core_of d)
+
+-- so does one move, of which this is told
+abbrev pub Becomes : Connection → Point → Connection → Type 0
+Becomes c p d = After (core_of c) p.move (core_of d) p.told
 
 -- a stream that the peer ended, told behind its last octets
 abbrev pub ends_in : Option ℕ → List Found
@@ -64,13 +73,13 @@ pub record Came (role : Role) (frames : List RawFrame) (taken : List ℕ) (c : C
 -- that were written.
 pub record StandsFor (role : Role) (points : List Point) (given : List Found) (taken written : List ℕ) (c : Connection) : Type 0 where
   -- its points lead to it
-  pub runs : Runs (fresh role).receiver.core points c.receiver.core
+  pub runs : Leads (fresh role) points c
   -- what came are the frames looked at, and what is held
   pub came : Came role (frames_got points) taken c
   -- what was given are the happenings, but for an end that is still to be told
   pub told : happenings points ≡ given ++ ends_in c.ended
   -- these frames have begun
   pub begun : List RawFrame
-  pub begins : RunsWith (fresh role).receiver.core points begun c.receiver.core
+  pub begins : LeadsWith (fresh role) points begun c
   -- what was written, and what waits of the frames begun, are the opening and these frames
-  pub shows : Shows (opening role) written begun c.receiver.core.out
+  pub shows : Shows (opening role) written begun (outgoing c)

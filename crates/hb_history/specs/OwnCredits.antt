@@ -7,9 +7,8 @@ use Rattle.hb_frames.specs.Bodies.{lent_of}
 use Rattle.hb_streams.specs.declared.role.Role.TheVariants.{Client}
 use Rattle.hb_flow.specs.Windows.{Windows, worth_granting}
 use Rattle.hb_outgoing.specs.Selected.{data_size}
-use Rattle.hb_outgoing.specs.Waiting.{room_of}
-use Rattle.hb_conn.specs.Connection.{Connection}
-use Rattle.hb_conn.specs.declared.machine.Core.{Core}
+use Rattle.hb_conn.specs.Connection.{Connection, core_of}
+use Rattle.hb_conn.specs.Observed.{outgoing, room}
 use Rattle.hb_conn.specs.declared.found.Found.{Found}
 use Rattle.hb_conn.specs.declared.found.Found.TheVariants as found
 use Rattle.hb_history.specs.Points.{Move, got, credited, Point, frames_got}
@@ -41,16 +40,16 @@ is_left _ = false
 
 -- By these frames what came is granted again on the connection; and on the stream, once all that was handed out is used up and
 -- there is room for a frame, unless the peer ended the stream
-pub record GrantsAgain (points : List Point) (frames : List RawFrame) (c : Core) : Type 0 where
+pub record GrantsAgain (points : List Point) (frames : List RawFrame) (c : Connection) : Type 0 where
   pub connection : IsGrantedAgain (increments 0 frames) (data_size None (frames_got points))
   pub windows : Windows
-  pub has : get c.flow.streams first_stream ≡ Some windows
+  pub has : get (core_of c).flow.streams first_stream ≡ Some windows
   pub kept_is : windows.taking.kept ≡ kept points
-  pub stream : list_any is_left (happenings points) ≡ false → kept points ≡ 0 → 17 ≤ room_of c.out
+  pub stream : list_any is_left (happenings points) ≡ false → kept points ≡ 0 → 17 ≤ room c
       → IsGrantedAgain (increments first_stream frames) (data_size (Some first_stream) (frames_got points))
 
 -- so it is after every history of such a client whose stream goes on, by the frames that began and those that wait
 abbrev pub OwnCredits : Type 0
 OwnCredits = (points : List Point) (given : List Found) (came written : List ℕ) (c : Connection)
     → (stands : StandsFor Client points given came written c) → stage points ≡ asks
-    → GrantsAgain points (stands.begun ++ c.receiver.core.out.queue) c.receiver.core
+    → GrantsAgain points (stands.begun ++ (outgoing c).queue) c

@@ -10,7 +10,7 @@ use Rattle.hb_outgoing.specs.Waiting.{octets_of}
 use Rattle.hb_outgoing.specs.Written.{begun_by}
 use Rattle.hb_flow.specs.Flows.{creditable}
 use Rattle.hb_owed.specs.declared.status.Status.{Status}
-use Rattle.hb_conn.specs.Numbers.{protocol_error}
+use Rattle.hb_frames.specs.Numbers.{protocol_error}
 use Rattle.hb_conn.specs.Glance.{glance_at}
 use Rattle.hb_conn.specs.Handling.{Handles}
 use Rattle.hb_conn.specs.Receiving.{pauses}

@@ -3,9 +3,8 @@ use Rattle.std.specs.Prelude.{◌≡◌, ℕ, ◌+◌, ◌≤◌, ◌<◌, ◌==
 use Rattle.std.specs.List.{sum_by}
 use Rattle.std.specs.FinMap.{get}
 use Rattle.hb_frames.specs.RawFrame.{RawFrame}
-use Rattle.hb_frames.specs.Numbers.{window_update_kind, settings_kind}
+use Rattle.hb_frames.specs.Numbers.{settings_kind, window_update_kind, initial_window_size, largest}
 use Rattle.hb_frames.specs.Refusals.{is_ack, increment_of, settings}
-use Rattle.hb_windows.specs.Sending.{largest}
 use Rattle.hb_streams.specs.declared.role.Role.{Role}
 use Rattle.hb_flow.specs.Windows.{Windows, first_size, counted}
 use Rattle.hb_flow.specs.Flows.{granted}
@@ -15,7 +14,6 @@ use Rattle.hb_conn.specs.Connection.{Connection}
 use Rattle.hb_conn.specs.Faults.{regained}
 use Rattle.hb_conn.specs.Payload.{count_put, data_put}
 use Rattle.hb_conn.specs.Windows.{unbegun}
-use Rattle.hb_conn.specs.Numbers.{initial_window_size}
 use Rattle.hb_conn.specs.declared.machine.Core.{Core}
 use Rattle.hb_conn.specs.declared.found.Found.{Found}
 use Rattle.hb_history.specs.Points.{Point, frames_got}

@@ -6,6 +6,7 @@ use Rattle.hb_streams.specs.declared.role.Role.{Role}
 use Rattle.hb_outgoing.specs.Waiting.{Waiting}
 use Rattle.hb_outgoing.specs.Selected.{has_data}
 use Rattle.hb_conn.specs.Connection.{Connection}
+use Rattle.hb_conn.specs.Observed.{outgoing}
 use Rattle.hb_conn.specs.declared.found.Found.{Found}
 use Rattle.hb_history.specs.Points.{Point}
 use Rattle.hb_history.specs.History.{StandsFor}
@@ -21,4 +22,4 @@ IsFirst w = IsFirstBy w.rest w.queue
 -- so it is after every history
 abbrev pub DataStandsFirst : Type 0
 DataStandsFirst = (role : Role) (points : List Point) (given : List Found) (came written : List ℕ) (c : Connection)
-    → StandsFor role points given came written c → IsFirst c.receiver.core.out
+    → StandsFor role points given came written c → IsFirst (outgoing c)

@@ -7,9 +7,8 @@ use Rattle.hb_frames.specs.RawFrame.{RawFrame}
 use Rattle.hb_streams.specs.declared.role.Role.TheVariants.{Client}
 use Rattle.hb_outgoing.specs.Selected.{data_size}
 use Rattle.hb_outgoing.specs.Waiting.{spelled as out_spelled}
-use Rattle.hb_conn.specs.Connection.{Connection, core_of}
-use Rattle.hb_conn.specs.declared.machine.Core.{Core}
-use Rattle.hb_conn.specs.Observed.{output, is_over, octets_held, own_side_open, sendable, count_put}
+use Rattle.hb_conn.specs.Connection.{Connection}
+use Rattle.hb_conn.specs.Observed.{outgoing, output, is_over, octets_held, own_side_open, sendable, count_put}
 use Rattle.hb_history.specs.Answered.{is_answer}
 use Rattle.hb_history.specs.OwnCredits.{is_left, IsGrantedAgain, GrantsAgain}
 use Rattle.hb_history.specs.OwnFrames.{stage}
@@ -85,16 +84,16 @@ module _ (g : NodeConfig) (m : Machine) (points : List Point) (l : ℕ) (stands 
     shows = asked.shows;
   }
 
-  abbrev c : Core
-  c = core_of x.conn
+  abbrev queue : List RawFrame
+  queue = (outgoing x.conn).queue
 
   -- what is granted again by these frames
-  credits : x.phase ≡ live → GrantsAgain (moves l points) (asked.begun ++ c.out.queue) c
+  credits : x.phase ≡ live → GrantsAgain (moves l points) (asked.begun ++ queue) x.conn
   credits alive =
       own_credits (moves l points) (tellings l points) octets_came octets_went x.conn history
       (subst (λ (q : Phase). Suits q (stage (moves l points))) alive (all_suited g m points stands l))
 
-  by_begun : c.out.queue ≡ [] → (n size : ℕ) → IsGrantedAgain (increments n (asked.begun ++ c.out.queue)) size
+  by_begun : queue ≡ [] → (n size : ℕ) → IsGrantedAgain (increments n (asked.begun ++ queue)) size
       → IsGrantedAgain (increments n asked.begun) size
   by_begun none n size again =
       subst (λ (fs : List RawFrame). IsGrantedAgain (increments n fs) size)
@@ -111,13 +110,13 @@ module _ (g : NodeConfig) (m : Machine) (points : List Point) (l : ℕ) (stands 
 pub put_all : RunsPutAll
 put_all g m points l stands lives calm empty =
     let x = m.links l in
-    let c = core_of x.conn in
+    let out = outgoing x.conn in
     let a = all_asked g m points stands l in
     let one = all_one g m points stands l in
     let going : IsGoing x.phase = subst IsGoing (sym lives) tt in
     let still = a.goes going in
     let sends = all_sending g m points stands l going in
-    let none = none_waits c.out empty in
+    let none = none_waits out empty in
     let rest_is = a.follows.2 (tt, still, ap is_some sends.0.1) in
     let keeps = all_keep g m points stands l going in
     let all_told : happenings (moves l points) ≡ tellings l points =
@@ -131,7 +130,7 @@ put_all g m points l stands lives calm empty =
       };
       gone = a.begun;
       went = sym (append-nil (sent l (entries points)))
-          ∙ ap (λ (xs : List ℕ). sent l (entries points) ++ xs) (sym (rest_none c.out.rest (out_spelled c.out.queue) empty))
+          ∙ ap (λ (xs : List ℕ). sent l (entries points) ++ xs) (sym (rest_none out.rest (out_spelled out.queue) empty))
           ∙ a.shows;
       answers = ap (filter is_answer) (sym (append-nil a.begun) ∙ ap (λ (fs : List RawFrame). a.begun ++ fs) (sym none))
           ∙ answers_are_those Client (moves l points) (tellings l points) (recv l (entries points)) (sent l (entries points)) x.conn

@@ -10,17 +10,17 @@ use Rattle.hb_base.specs.declared.door.Why.TheVariants as whys
 use Rattle.hb_base.specs.declared.target.Target.{Target}
 use Rattle.hb_held.specs.Held.{Resources}
 use Rattle.hb_streams.specs.declared.role.Role.TheVariants.{Client}
-use Rattle.hb_conn.specs.Connection.{Connection, count_of, fresh_client, core_of, with_core}
+use Rattle.hb_conn.specs.Connection.{Connection, count_of, fresh_client}
 use Rattle.hb_conn.specs.Connection as conn
-use Rattle.hb_conn.specs.Observed.{output, creditable, opened, data_put, credited}
+use Rattle.hb_conn.specs.Observed.{output, creditable, opened, credited}
 use Rattle.hb_conn.specs.declared.found.Found.{Found}
-use Rattle.hb_conn.specs.declared.found.Found.TheVariants.{Silent}
 use Rattle.hb_history.specs.Points as history
 use Rattle.hb_history.specs.History.{StandsFor as ConnStandsFor}
 use Rattle.hb_history.specs.Calls.{in_list}
 use Rattle.hb_history.proofs.Called.{nothing_stands}
 use Rattle.hb_history.proofs.Fed.{take_adds}
-use Rattle.hb_history.proofs.Adds.{act_adds, write_adds}
+use Rattle.hb_history.proofs.Adds.{write_adds}
+use Rattle.hb_history.proofs.Connections.{acts_add}
 use Rattle.hb_history.proofs.Looking.{looks_add}
 use Rattle.hb_history.proofs.Steady.{first_stream}
 use Rattle.hb_world.specs.Trace.{came_on, went_on, recv, sent}
@@ -163,19 +163,19 @@ module _ (g : NodeConfig) (m : Machine) (points : List Point) (unborn : AreUnbor
       let p = entry (e.Dialled k to whys.Discovery) in
       let none = (unborn k above).none in
       let move = history.opened stream (headers_of to) false in
-      let core = core_of (opened fresh_client stream (headers_of to) false) in
-      let begun = act_adds Client [] [] [] [] fresh_client move core Silent tt (first_stream, (refl, refl)) (nothing_stands Client) in
+      let new = opened fresh_client stream (headers_of to) false in
+      let begun = acts_add Client [] [] [] [] fresh_client new move (tt, (first_stream, (refl, refl)), refl) (nothing_stands Client) in
       changed p k (λ l. dialled g.id to m.held)
       (silent p k (dialled g.id to m.held) (act move) [] [] (on_itself k (act move)) refl refl refl
       (subst (λ ts. ConnStandsFor Client (moves k points ++ act move) ts (recv k (entries points) ++ []) (sent k (entries points) ++ [])
-      (with_core fresh_client core))
+      new)
       (sym none.tells)
       (subst (λ ps. ConnStandsFor Client (ps ++ act move) [] (recv k (entries points) ++ []) (sent k (entries points) ++ [])
-      (with_core fresh_client core))
+      new)
       (sym none.moves)
-      (subst (λ bs. ConnStandsFor Client (act move) [] (bs ++ []) (sent k (entries points) ++ []) (with_core fresh_client core))
+      (subst (λ bs. ConnStandsFor Client (act move) [] (bs ++ []) (sent k (entries points) ++ []) new)
       (sym none.came)
-      (subst (λ bs. ConnStandsFor Client (act move) [] [] (bs ++ []) (with_core fresh_client core)) (sym none.went) begun)))))
+      (subst (λ bs. ConnStandsFor Client (act move) [] [] (bs ++ []) new) (sym none.went) begun)))))
       (λ l apart. passes_dial g l k to whys.Discovery apart)
 
   came_one : (k : ℕ) (bytes : List ℕ) → MayCome g m (e.Came k bytes)
@@ -284,21 +284,22 @@ module _ (g : NodeConfig) (m : Machine) (points : List Point) (unborn : AreUnbor
       (λ l apart. record { moves = refl; came = refl; went = refl; tells = refl; response = refl; request = λ held. refl })
   point_one (used k n) next steps =
       let c = (m.links k).conn in
-      let core = core_of (credited c stream n) in
+      let move = history.credited stream n in
       let within : n ≤ creditable c stream = omega (arith, steps.1.counted) in
       linked (used k n) k next _ _ steps.2 (λ l. refl)
-      (inner (used k n) k _ (act (history.credited stream n)) (on_itself k (act (history.credited stream n))) refl refl refl
-      (act_adds Client (moves k points) (tellings k points) (recv k (entries points)) (sent k (entries points)) c
-      (history.credited stream n) core Silent
-      tt (within, (refl, refl)) (one k).stands))
+      (inner (used k n) k _ (act move) (on_itself k (act move)) refl refl refl
+      (acts_add Client (moves k points) (tellings k points) (recv k (entries points)) (sent k (entries points)) c
+      (credited c stream n) move (tt, (within, (refl, refl)), refl) (one k).stands))
       (λ l apart. passes_used g l k n apart)
   point_one (put k bytes) n steps =
       let c = (m.links k).conn in
       let x = put_requests (m.links k) in
+      let move = history.put stream (m.links k).waiting in
       linked (put k bytes) k n _ x steps.3 (λ l. refl)
-      (inner (put k bytes) k x (act (history.put stream bytes)) (on_itself k (act (history.put stream bytes))) refl refl refl
-      (act_adds Client (moves k points) (tellings k points) (recv k (entries points)) (sent k (entries points)) c (history.put stream bytes)
-      (core_of x.conn) Silent tt (ap (λ bs. core_of (data_put c stream bs)) (sym steps.1), refl) (one k).stands))
+      (inner (put k bytes) k x (act move)
+      (on_itself k (act (history.put stream bytes)) ∙ ap (λ (bs : List ℕ). act (history.put stream bs)) steps.1) refl refl refl
+      (acts_add Client (moves k points) (tellings k points) (recv k (entries points)) (sent k (entries points)) c x.conn move
+      (tt, (refl, refl), refl) (one k).stands))
       (λ l apart. passes_put g l k bytes apart)
   point_one (stopped cause) n steps =
       subst (λ (y : Machine). AreAllOne y (points ++ stopped cause ∷ [])) (sym steps.1)

@@ -8,7 +8,8 @@ use Rattle.hb_base.specs.declared.door.Why.{Why}
 use Rattle.hb_base.specs.declared.door.Why.TheVariants as whys
 use Rattle.hb_base.specs.declared.target.Target.{Target}
 use Rattle.hb_hpack.specs.declared.header.Header.{Header}
-use Rattle.hb_conn.specs.Connection.{core_of, ended_by}
+use Rattle.hb_conn.specs.Connection.{ended_by}
+use Rattle.hb_conn.specs.Observed.{outgoing}
 use Rattle.hb_conn.specs.Outcome.{is_silent}
 use Rattle.hb_conn.specs.declared.found.Found.{Found}
 use Rattle.hb_conn.specs.declared.found.Found.TheVariants as found
@@ -318,7 +319,7 @@ send_own_frames g m points stands l control =
     let asks = suits_asks (m.links l).phase (stage (moves l points)) (all_suited g m points stands l) in
     record {
       begun = one.begun;
-      owed = (core_of c).out.rest;
+      owed = (outgoing c).rest;
       went = one.shows;
       own = own_frames (moves l points) _ _ _ c one asks;
     }

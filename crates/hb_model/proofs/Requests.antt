@@ -15,21 +15,24 @@ use Rattle.hb_streams.proofs.Follows.{highest_stays}
 use Rattle.hb_outgoing.specs.Selected.{has_data, is_data_of, is_kept, all_taken_back}
 use Rattle.hb_outgoing.specs.Written.{begun_by, written}
 use Rattle.hb_outgoing.proofs.Sent.{begun_and_left}
-use Rattle.hb_flow.specs.Flows.{closed, spent, creditable}
+use Rattle.hb_flow.specs.Flows.{closed, spent}
 use Rattle.hb_owed.specs.Debts.{closed as owed_closed}
-use Rattle.hb_conn.specs.Credit.{credit}
+use Rattle.hb_conn.specs.Connection.{Connection}
 use Rattle.hb_conn.specs.Frames.{frame, sent}
-use Rattle.hb_conn.specs.Owing.{wrote}
-use Rattle.hb_conn.specs.Payload.{count_put, data_put}
+use Rattle.hb_conn.specs.Observed.{outgoing, streams, is_over, frames_begun, creditable, count_put, wrote, data_put, credited}
+use Rattle.hb_conn.specs.Owing.{wrote as wrote_by}
+use Rattle.hb_conn.specs.Payload as payload
 use Rattle.hb_conn.specs.Faults.{faulted, is_active}
 use Rattle.hb_conn.specs.declared.machine.Core.{Core}
 use Rattle.hb_conn.specs.declared.found.Found.{Found}
-use Rattle.hb_history.specs.Points.{Move, Point, After, Runs}
+use Rattle.hb_history.specs.Points.{Move, Point, After}
+use Rattle.hb_history.specs.History.{Leads}
 use Rattle.hb_history.specs.Calls.{IsLook, AreLooks}
 use Rattle.hb_history.specs.Waits.{IsFirstBy, IsFirst}
 use Rattle.hb_history.proofs.Parts.{Amid, calm, amid, ending, gone, Keeps, PutsAck, Resizes, MovesOn}
 use Rattle.hb_history.proofs.Handled.{Grows, window_keeps}
 use Rattle.hb_history.proofs.Acted.{look_keeps, credit_keeps}
+use Rattle.hb_history.proofs.Connections.{of_core, looks_keep}
 use Rattle.hb_history.proofs.Kept.{payment_keeps}
 use Rattle.hb_history.proofs.Shown.{out_puts}
 use Rattle.hb_history.proofs.First.{first_keeps, first_puts, first_acks, first_written}
@@ -253,6 +256,15 @@ module _ (begun : List RawFrame) (all waiting : List ℕ) where
     ignored = λ some live why. h;
   }
 
+-- and so of a connection between moves
+abbrev pub IsGoingOn : Connection → Type 0
+IsGoingOn c = Spared calm × (is_over c ≡ false) × (is_some (get (streams c).active stream) ≡ true)
+
+abbrev pub AsksOn : List RawFrame → List ℕ → List ℕ → Connection → Type 0
+AsksOn begun all waiting c =
+    IsFirst (outgoing c) × Moved Client (streams c) × (stream ≤ (streams c).highest)
+    × Follows begun all waiting (IsGoingOn c) (outgoing c).queue
+
 -- a look keeps it
 look_asks : (begun : List RawFrame) (all waiting : List ℕ) (c : Core) (m : Move) (new : Core) (told : Found) → IsLook m
     → After c m new told → Asks begun all waiting calm c → Asks begun all waiting calm new
@@ -262,25 +274,21 @@ look_asks begun all waiting c m new told look after h =
     look_keeps P k (asks_resize begun all waiting) (asks_ack begun all waiting) c m new told look h
     (λ s n. window_keeps P k c s n (asks_grow begun all waiting c s n h)) after
 
-pub looks_ask : (begun : List RawFrame) (all waiting : List ℕ) (ps : List Point) (c d : Core) → AreLooks ps → Runs c ps d
-    → Asks begun all waiting calm c → Asks begun all waiting calm d
-looks_ask begun all waiting [] c d looks runs h = subst (Asks begun all waiting calm) (sym runs) h
-looks_ask begun all waiting (p ∷ []) c d looks runs h =
-    subst (Asks begun all waiting calm) (sym runs.2) (look_asks begun all waiting c p.move runs.0 p.told looks runs.1 h)
-looks_ask begun all waiting (p ∷ q ∷ ps) c d looks runs h =
-    looks_ask begun all waiting (q ∷ ps) runs.0 d looks.2 runs.2
-    (look_asks begun all waiting c p.move runs.0 p.told looks.0 runs.1 h)
+pub looks_ask : (begun : List RawFrame) (all waiting : List ℕ) (ps : List Point) (c d : Connection) → AreLooks ps → Leads c ps d
+    → AsksOn begun all waiting c → AsksOn begun all waiting d
+looks_ask begun all waiting ps c d looks leads h =
+    looks_keep (Asks begun all waiting calm) (look_asks begun all waiting) ps c d looks leads h
 
 -- octets are used up
-pub credit_asks : (begun : List RawFrame) (all waiting : List ℕ) (c : Core) (n : ℕ) → n ≤ creditable c.flow stream
-    → Asks begun all waiting calm c → Asks begun all waiting calm (credit c stream n)
+pub credit_asks : (begun : List RawFrame) (all waiting : List ℕ) (c : Connection) (n : ℕ) → n ≤ creditable c stream
+    → AsksOn begun all waiting c → AsksOn begun all waiting (credited c stream n)
 credit_asks begun all waiting c n within h =
-    credit_keeps (Asks begun all waiting) (asks_keep begun all waiting) c stream n within h
+    of_core (λ (k : Core). credit_keeps (Asks begun all waiting) (asks_keep begun all waiting) k stream n) c within h
 
 -- frames begin
-pub write_asks : (begun : List RawFrame) (all waiting : List ℕ) (c : Core) (n : ℕ) → Asks begun all waiting calm c
-    → Asks (begun ++ begun_by n c.out) all waiting calm (wrote c n)
-write_asks begun all waiting c n h =
+writes_by : (begun : List RawFrame) (all waiting : List ℕ) (n : ℕ) (c : Core) → Asks begun all waiting calm c
+    → Asks (begun ++ begun_by n c.out) all waiting calm (wrote_by c n)
+writes_by begun all waiting n c h =
     let fs = begun ++ begun_by n c.out in
     let old = record c { out = written n c.out } in
     let same : payloads (begun ++ c.out.queue) ≡ payloads (fs ++ (written n c.out).queue) =
@@ -289,16 +297,20 @@ write_asks begun all waiting c n h =
     payment_keeps (Asks fs all waiting) (asks_keep fs all waiting) calm old
     (first_written c.out n h.0, h.1, h.2, (h.3.0, h.3.1 ∙ ap (λ (xs : List ℕ). xs ++ h.3.0) same, h.3.2))
 
+pub write_asks : (begun : List RawFrame) (all waiting : List ℕ) (c : Connection) (n : ℕ) → AsksOn begun all waiting c
+    → AsksOn (begun ++ frames_begun n c) all waiting (wrote c n)
+write_asks begun all waiting c n h = of_core (writes_by begun all waiting n) c h
+
 -- more is to be sent
-pub more_asks : (begun : List RawFrame) (all waiting more : List ℕ) (c : Core) → Asks begun all waiting calm c
-    → Asks begun (all ++ more) (waiting ++ more) calm c
+pub more_asks : (begun : List RawFrame) (all waiting more : List ℕ) (c : Connection) → AsksOn begun all waiting c
+    → AsksOn begun (all ++ more) (waiting ++ more) c
 more_asks begun all waiting more c h = (
   h.0,
   h.1,
   h.2,
   (
     h.3.0 ++ more,
-    ap (λ (xs : List ℕ). xs ++ more) h.3.1 ∙ append_assoc (payloads (begun ++ c.out.queue)) h.3.0 more,
+    ap (λ (xs : List ℕ). xs ++ more) h.3.1 ∙ append_assoc (payloads (begun ++ (outgoing c).queue)) h.3.0 more,
     λ o. ap (λ (xs : List ℕ). xs ++ more) (h.3.2 o),
   ),
 )
@@ -324,8 +336,13 @@ put_by begun all waiting c n false some on first h =
       ),
     )
 
-pub put_asks : (begun : List RawFrame) (all waiting : List ℕ) (c : Core) → (count_put c stream waiting == 0) ≡ false → GoesOn calm c
-    → Asks begun all waiting calm c → Asks begun all (drop (count_put c stream waiting) waiting) calm (data_put c stream waiting)
-put_asks begun all waiting c some on h =
-    put_by begun all waiting c (count_put c stream waiting) (count_put c stream waiting == 0) some on
+puts_by : (begun : List RawFrame) (all waiting : List ℕ) (c : Core) → (payload.count_put c stream waiting == 0) ≡ false → GoesOn calm c
+    → Asks begun all waiting calm c
+    → Asks begun all (drop (payload.count_put c stream waiting) waiting) calm (payload.data_put c stream waiting)
+puts_by begun all waiting c some on h =
+    put_by begun all waiting c (payload.count_put c stream waiting) (payload.count_put c stream waiting == 0) some on
     (out_puts IsFirst first_puts c stream waiting h.0) h
+
+pub put_asks : (begun : List RawFrame) (all waiting : List ℕ) (c : Connection) → (count_put c stream waiting == 0) ≡ false → IsGoingOn c
+    → AsksOn begun all waiting c → AsksOn begun all (drop (count_put c stream waiting) waiting) (data_put c stream waiting)
+put_asks begun all waiting c some on h = of_core (puts_by begun all waiting) c some on h

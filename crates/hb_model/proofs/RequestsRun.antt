@@ -11,41 +11,26 @@ use Rattle.hb_base.specs.declared.door.Why.{Why}
 use Rattle.hb_base.specs.declared.door.Why.TheVariants as whys
 use Rattle.hb_base.specs.declared.target.Target.{Target}
 use Rattle.hb_frames.specs.RawFrame.{RawFrame}
-use Rattle.hb_hpack.specs.Encoding.{block_of}
-use Rattle.hb_hpack.specs.declared.header.Header.{Header}
 use Rattle.hb_grpc.specs.Message.{spelling}
 use Rattle.hb_held.specs.Held.{nothing_held}
-use Rattle.hb_streams.specs.Answers.{number_of}
-use Rattle.hb_streams.specs.Moves.{after_number, begins as begins_next}
-use Rattle.hb_streams.specs.Sides.{sides_of}
-use Rattle.hb_streams.specs.States.{state_of}
 use Rattle.hb_streams.specs.declared.role.Role.TheVariants.{Client}
-use Rattle.hb_outgoing.specs.Waiting.{Waiting, octets_of}
-use Rattle.hb_outgoing.specs.Written.{begun_by, written}
+use Rattle.hb_outgoing.specs.Waiting.{Waiting}
 use Rattle.hb_outgoing.specs.Laws.{Shows}
 use Rattle.hb_outgoing.proofs.Sent.{write_begins}
 use Rattle.hb_conn.specs.Preface.{octets}
-use Rattle.hb_conn.specs.Connection.{Connection, Finds, fresh_client, core_of}
-use Rattle.hb_conn.specs.Credit.{credit}
-use Rattle.hb_conn.specs.Observed.{output, is_over}
-use Rattle.hb_conn.specs.Opening.{begun, headers_frame, opened_with}
-use Rattle.hb_conn.specs.Owing as owing
-use Rattle.hb_conn.specs.Payload.{count_put, data_put}
-use Rattle.hb_conn.specs.declared.machine.Core.{Core}
+use Rattle.hb_conn.specs.Connection.{Connection, Finds, fresh_client, taken}
+use Rattle.hb_conn.specs.Observed as connection
+use Rattle.hb_conn.specs.Observed.{outgoing, output, streams, sides, own_side_open, is_over}
+use Rattle.hb_conn.specs.Observed.{frames_begun, creditable, credited, count_put, data_put}
 use Rattle.hb_conn.specs.declared.found.Found.{Found}
 use Rattle.hb_conn.specs.declared.found.Found.TheVariants as found
-use Rattle.hb_flow.specs.Flows.{creditable}
 use Rattle.hb_history.specs.Points as history
-use Rattle.hb_history.specs.Points.{RunsWith}
+use Rattle.hb_history.specs.History.{LeadsWith}
 use Rattle.hb_history.specs.Waits.{IsFirst}
-use Rattle.hb_history.proofs.Parts.{calm}
-use Rattle.hb_history.proofs.Kept.{payment_keeps}
-use Rattle.hb_history.proofs.Shown.{OfOut, out_keeps, rest_keeps}
-use Rattle.hb_history.proofs.Looks.{act_rest}
-use Rattle.hb_history.proofs.First.{first_keeps, first_new}
-use Rattle.hb_history.proofs.Lives.{Moved, moved_on, active_some}
-use Rattle.hb_history.proofs.Runs.{begins_more, begins_one}
-use Rattle.hb_history.proofs.Looking.{looks_begin_none, looks_rest}
+use Rattle.hb_history.proofs.Connections.{leads_more, leads_one, looks_lead, looks_leave, act_leaves}
+use Rattle.hb_history.proofs.Connections.{wrote_leaves, first_out, first_moved, first_highest}
+use Rattle.hb_history.proofs.First.{first_new}
+use Rattle.hb_history.proofs.Lives.{Moved, active_some}
 use Rattle.hb_history.proofs.Steady.{not_over, put_over, credited_over, wrote_over, first_stream}
 use Rattle.hb_world.specs.Trace.{went_on, sent}
 use Rattle.hb_world.specs.declared.entry.Entry.{Entry}
@@ -63,7 +48,7 @@ use Rattle.hb_model.proofs.Open.{live_changes, open_changes}
 use Rattle.hb_model.proofs.Unborn.{AreUnborn, are_unborn, born_closing, Passes, passes_looked, passes_applied, passes_used, passes_put, passes_dial, passes_came, passes_went}
 use Rattle.hb_model.proofs.MessagesRun.{held_is}
 use Rattle.hb_model.proofs.ConnectionsRun.{on_itself, itself_alone, quiet_passes}
-use Rattle.hb_model.proofs.Requests.{payloads, Follows, GoesOn, Asks, looks_ask, credit_asks, write_asks, more_asks, put_asks}
+use Rattle.hb_model.proofs.Requests.{payloads, Follows, IsGoingOn, AsksOn, looks_ask, credit_asks, write_asks, more_asks, put_asks}
 
 -- a link that goes on
 abbrev pub IsGoing : Phase → Type 0
@@ -72,18 +57,18 @@ IsGoing live = Unit {0}
 IsGoing _ = ⊥
 
 -- what was asked on a link, and what of it went and waits
-pub record IsAsked (g : NodeConfig) (points : List Point) (l : ℕ) (phase : Phase) (waiting : List ℕ) (c : Core) : Type 0 where
+pub record IsAsked (g : NodeConfig) (points : List Point) (l : ℕ) (phase : Phase) (waiting : List ℕ) (c : Connection) : Type 0 where
   pub begun : List RawFrame
-  pub begins : RunsWith (core_of fresh_client) (moves l points) begun c
-  pub shows : Shows octets (sent l (entries points)) begun c.out
-  pub first : IsFirst c.out
-  pub moved : Moved Client c.streams
-  pub started : IsBorn phase → stream ≤ c.streams.highest
-  pub follows : Follows begun (spelled (requests g l points)) waiting (GoesOn calm c) c.out.queue
-  pub goes : IsGoing phase → c.over ≡ false
+  pub begins : LeadsWith fresh_client (moves l points) begun c
+  pub shows : Shows octets (sent l (entries points)) begun (outgoing c)
+  pub first : IsFirst (outgoing c)
+  pub moved : Moved Client (streams c)
+  pub started : IsBorn phase → stream ≤ (streams c).highest
+  pub follows : Follows begun (spelled (requests g l points)) waiting (IsGoingOn c) (outgoing c).queue
+  pub goes : IsGoing phase → is_over c ≡ false
 
 abbrev pub IsAskedOn : NodeConfig → List Point → ℕ → Discovery → Type 0
-IsAskedOn g points l x = IsAsked g points l x.phase x.waiting (core_of x.conn)
+IsAskedOn g points l x = IsAsked g points l x.phase x.waiting x.conn
 
 abbrev pub AreAsked : NodeConfig → Machine → List Point → Type 0
 AreAsked g m points = (l : ℕ) → IsAskedOn g points l (m.links l)
@@ -93,12 +78,19 @@ spelled_more [] ns = refl
 spelled_more (m ∷ ms) ns =
     ap (λ (xs : List ℕ). spelling m ++ xs) (spelled_more ms ns) ∙ sym (append_assoc (spelling m) (spelled ms) (spelled ns))
 
--- the output of a new connection that opened its stream
-first_out : (headers : List Header) → IsFirst (opened_with (core_of fresh_client) stream headers false).out
-first_out headers =
-    let core = core_of fresh_client in
-    first_keeps.puts core.out (headers_frame stream false (block_of (begun core stream).encoder headers)) (refl, refl)
-    (first_new Client)
+-- octets that are taken change nothing of it
+taken_asked : (g : NodeConfig) (points : List Point) (l : ℕ) (phase : Phase) (waiting : List ℕ) (c : Connection) (bytes : List ℕ)
+    → IsAsked g points l phase waiting c → IsAsked g points l phase waiting (taken c bytes)
+taken_asked g points l phase waiting c bytes a = record {
+  begun = a.begun;
+  begins = a.begins;
+  shows = a.shows;
+  first = a.first;
+  moved = a.moved;
+  started = a.started;
+  follows = a.follows;
+  goes = a.goes;
+}
 
 -- a run that ends
 was_born : (why : Cause) (p : Phase) → IsBorn (stopped_for why p) → IsBorn p
@@ -125,13 +117,13 @@ some_go false n some = absurd (omega (arith, some))
 module _ (g : NodeConfig) (m : Machine) (points : List Point) (unborn : AreUnborn g m points) (hold : m.held ≡ held g points)
     (asked : AreAsked g m points) where
   -- with a point by which these octets go on a link, and these requests are made
-  grown : (p : Point) (l : ℕ) (phase : Phase) (waiting : List ℕ) (c : Core) (begun : List RawFrame) (bytes more : List ℕ)
+  grown : (p : Point) (l : ℕ) (phase : Phase) (waiting : List ℕ) (c : Connection) (begun : List RawFrame) (bytes more : List ℕ)
       → flat_map (went_on l) (entry_in p) ≡ bytes → spelled (request_in g m.held l p) ≡ more
-      → RunsWith (core_of fresh_client) (moves l points ++ moves_in l p) begun c
-      → Shows octets (sent l (entries points) ++ bytes) begun c.out → IsFirst c.out → Moved Client c.streams
-      → (IsBorn phase → stream ≤ c.streams.highest)
-      → Follows begun (spelled (requests g l points) ++ more) waiting (GoesOn calm c) c.out.queue
-      → (IsGoing phase → c.over ≡ false) → IsAsked g (points ++ p ∷ []) l phase waiting c
+      → LeadsWith fresh_client (moves l points ++ moves_in l p) begun c
+      → Shows octets (sent l (entries points) ++ bytes) begun (outgoing c) → IsFirst (outgoing c) → Moved Client (streams c)
+      → (IsBorn phase → stream ≤ (streams c).highest)
+      → Follows begun (spelled (requests g l points) ++ more) waiting (IsGoingOn c) (outgoing c).queue
+      → (IsGoing phase → is_over c ≡ false) → IsAsked g (points ++ p ∷ []) l phase waiting c
   grown p l phase waiting c begun bytes more goes asks runs shows first moved started follows going =
       let all : spelled (requests g l points) ++ more ≡ spelled (requests g l (points ++ p ∷ [])) =
       ap (λ (xs : List ℕ). spelled (requests g l points) ++ xs) (sym asks ∙ ap (λ h. spelled (request_in g h l p)) hold)
@@ -139,47 +131,45 @@ module _ (g : NodeConfig) (m : Machine) (points : List Point) (unborn : AreUnbor
       ∙ ap spelled (sym (requests_more g (nothing_held g.network g.node) l points p)) in
       record {
         begun = begun;
-        begins = subst (λ (qs : List history.Point). RunsWith (core_of fresh_client) qs begun c)
+        begins = subst (λ (qs : List history.Point). LeadsWith fresh_client qs begun c)
             (sym (one_more (moves_in l) points p)) runs;
-        shows = subst (λ (bs : List ℕ). Shows octets bs begun c.out)
+        shows = subst (λ (bs : List ℕ). Shows octets bs begun (outgoing c))
             (ap (λ (bs : List ℕ). sent l (entries points) ++ bs) (sym goes) ∙ sym (entries_more (went_on l) points p)) shows;
         first = first;
         moved = moved;
         started = started;
-        follows = subst (λ (xs : List ℕ). Follows begun xs waiting (GoesOn calm c) c.out.queue) all follows;
+        follows = subst (λ (xs : List ℕ). Follows begun xs waiting (IsGoingOn c) (outgoing c).queue) all follows;
         goes = going;
       }
 
   -- one by which these moves are made, with which these frames begin
-  runs_on : (p : Point) (l : ℕ) (ps : List history.Point) (gs : List RawFrame) (c : Core) → moves_in l p ≡ ps
-      → RunsWith (core_of (m.links l).conn) ps gs c
-      → RunsWith (core_of fresh_client) (moves l points ++ moves_in l p) ((asked l).begun ++ gs) c
+  runs_on : (p : Point) (l : ℕ) (ps : List history.Point) (gs : List RawFrame) (c : Connection) → moves_in l p ≡ ps
+      → LeadsWith (m.links l).conn ps gs c
+      → LeadsWith fresh_client (moves l points ++ moves_in l p) ((asked l).begun ++ gs) c
   runs_on p l ps gs c are runs =
-      subst (λ (qs : List history.Point). RunsWith (core_of fresh_client) (moves l points ++ qs) ((asked l).begun ++ gs) c)
-      (sym are)
-      (begins_more (moves l points) ps (core_of fresh_client) (core_of (m.links l).conn) c (asked l).begun gs
-      (asked l).begins runs)
+      subst (λ (qs : List history.Point). LeadsWith fresh_client (moves l points ++ qs) ((asked l).begun ++ gs) c) (sym are)
+      (leads_more (moves l points) ps fresh_client (m.links l).conn c (asked l).begun gs (asked l).begins runs)
 
-  runs_still : (p : Point) (l : ℕ) (ps : List history.Point) (c : Core) → moves_in l p ≡ ps
-      → RunsWith (core_of (m.links l).conn) ps [] c
-      → RunsWith (core_of fresh_client) (moves l points ++ moves_in l p) (asked l).begun c
+  runs_still : (p : Point) (l : ℕ) (ps : List history.Point) (c : Connection) → moves_in l p ≡ ps
+      → LeadsWith (m.links l).conn ps [] c
+      → LeadsWith fresh_client (moves l points ++ moves_in l p) (asked l).begun c
   runs_still p l ps c are runs =
-      subst (λ (fs : List RawFrame). RunsWith (core_of fresh_client) (moves l points ++ moves_in l p) fs c)
+      subst (λ (fs : List RawFrame). LeadsWith fresh_client (moves l points ++ moves_in l p) fs c)
       (append-nil (asked l).begun) (runs_on p l ps [] c are runs)
 
   -- one by which nothing of the output changes
   kept : (p : Point) (l : ℕ) (phase : Phase) → moves_in l p ≡ [] → flat_map (went_on l) (entry_in p) ≡ []
       → spelled (request_in g m.held l p) ≡ []
       → (IsBorn phase → IsBorn (m.links l).phase) → (IsGoing phase → is_over (m.links l).conn ≡ false)
-      → IsAsked g (points ++ p ∷ []) l phase (m.links l).waiting (core_of (m.links l).conn)
+      → IsAsked g (points ++ p ∷ []) l phase (m.links l).waiting (m.links l).conn
   kept p l phase none goes asks born going =
       let a = asked l in
-      let c = core_of (m.links l).conn in
+      let c = (m.links l).conn in
       let w = (m.links l).waiting in
       grown p l phase w c a.begun [] [] goes asks (runs_still p l [] c none (refl, refl))
-      (subst (λ (bs : List ℕ). Shows octets bs a.begun c.out) (sym (append-nil (sent l (entries points)))) a.shows)
+      (subst (λ (bs : List ℕ). Shows octets bs a.begun (outgoing c)) (sym (append-nil (sent l (entries points)))) a.shows)
       a.first a.moved (λ b. a.started (born b))
-      (subst (λ (xs : List ℕ). Follows a.begun xs w (GoesOn calm c) c.out.queue)
+      (subst (λ (xs : List ℕ). Follows a.begun xs w (IsGoingOn c) (outgoing c).queue)
       (sym (append-nil (spelled (requests g l points)))) a.follows)
       going
 
@@ -208,48 +198,46 @@ module _ (g : NodeConfig) (m : Machine) (points : List Point) (unborn : AreUnbor
   born_asked k to above =
       let p = entry (e.Dialled k to whys.Discovery) in
       let x = dialled g.id to m.held in
-      let c = core_of x.conn in
       let none = (unborn k above).none in
       let first_bytes = spelled (first_requests g.id m.held) in
       let asks : spelled (request_in g m.held k p) ≡ first_bytes = ap spelled (on_itself k (first_requests g.id m.held)) in
-      let old = core_of fresh_client in
       let move = history.opened stream (headers_of to) false in
       changed p k (λ l. x)
-      (grown p k dialling x.waiting c [] [] first_bytes refl asks
-      (subst (λ (qs : List history.Point). RunsWith old qs [] c)
+      (grown p k dialling x.waiting x.conn [] [] first_bytes refl asks
+      (subst (λ (qs : List history.Point). LeadsWith fresh_client qs [] x.conn)
       (ap (λ (qs : List history.Point). qs ++ moves_in k p) (sym none.moves))
-      (subst (λ (qs : List history.Point). RunsWith old qs [] c) (sym (on_itself k (act move)))
-      (begins_one (history.point move found.Silent) old c [] refl (first_stream, (refl, refl)))))
+      (subst (λ (qs : List history.Point). LeadsWith fresh_client qs [] x.conn) (sym (on_itself k (act move)))
+      (leads_one (history.point move found.Silent) fresh_client x.conn [] refl (first_stream, (refl, refl)))))
       (ap (λ (bs : List ℕ). (bs ++ []) ++ octets) none.went)
-      (first_out (headers_of to))
-      (moved_on Client old.streams c.streams (begins_next old.peer.streams) refl ([], refl))
-      (λ b. let up : (after_number old.streams (number_of old.streams old.peer.streams)).highest ≡ stream =
-      ap (λ r. (after_number old.streams r).highest) first_stream in omega (arith, up))
+      (first_out stream (headers_of to))
+      (first_moved stream (headers_of to))
+      (λ b. omega (arith, first_highest stream (headers_of to)))
       (first_bytes, ap (λ (ms : List (List ℕ)). spelled ms ++ first_bytes) none.requests, λ o. refl)
       (λ i. refl))
       (λ l apart. passes_dial g l k to whys.Discovery apart)
 
   -- what is kept by all that is made of a connection is so with a point
-  made : (p : Point) (l : ℕ) (phase : Phase) (waiting : List ℕ) (c : Core) (begun : List RawFrame) (bytes more : List ℕ)
+  made : (p : Point) (l : ℕ) (phase : Phase) (waiting : List ℕ) (c : Connection) (begun : List RawFrame) (bytes more : List ℕ)
       → flat_map (went_on l) (entry_in p) ≡ bytes → spelled (request_in g m.held l p) ≡ more
-      → RunsWith (core_of fresh_client) (moves l points ++ moves_in l p) begun c
-      → Shows octets (sent l (entries points) ++ bytes) begun c.out
-      → Asks begun (spelled (requests g l points) ++ more) waiting calm c → (IsGoing phase → c.over ≡ false)
+      → LeadsWith fresh_client (moves l points ++ moves_in l p) begun c
+      → Shows octets (sent l (entries points) ++ bytes) begun (outgoing c)
+      → AsksOn begun (spelled (requests g l points) ++ more) waiting c → (IsGoing phase → is_over c ≡ false)
       → IsAsked g (points ++ p ∷ []) l phase waiting c
   made p l phase waiting c begun bytes more goes asks runs shows h going =
       grown p l phase waiting c begun bytes more goes asks runs shows h.0 h.1 (λ b. h.2) h.3 going
 
   asks_of : (l : ℕ) → IsBorn (m.links l).phase
-      → Asks (asked l).begun (spelled (requests g l points)) (m.links l).waiting calm (core_of (m.links l).conn)
+      → AsksOn (asked l).begun (spelled (requests g l points)) (m.links l).waiting (m.links l).conn
   asks_of l born = ((asked l).first, (asked l).moved, (asked l).started born, (asked l).follows)
 
-  with_none : (l : ℕ) (begun : List RawFrame) (waiting : List ℕ) (c : Core) → Asks begun (spelled (requests g l points)) waiting calm c
-      → Asks begun (spelled (requests g l points) ++ []) waiting calm c
+  with_none : (l : ℕ) (begun : List RawFrame) (waiting : List ℕ) (c : Connection)
+      → AsksOn begun (spelled (requests g l points)) waiting c
+      → AsksOn begun (spelled (requests g l points) ++ []) waiting c
   with_none l begun waiting c h =
-      subst (λ (xs : List ℕ). Asks begun xs waiting calm c) (sym (append-nil (spelled (requests g l points)))) h
+      subst (λ (xs : List ℕ). AsksOn begun xs waiting c) (sym (append-nil (spelled (requests g l points)))) h
 
   -- what was begun waits on
-  shows_on : (l : ℕ) (w : Waiting) → w.rest ≡ (core_of (m.links l).conn).out.rest
+  shows_on : (l : ℕ) (w : Waiting) → w.rest ≡ (outgoing (m.links l).conn).rest
       → Shows octets (sent l (entries points) ++ []) (asked l).begun w
   shows_on l w same =
       ap₂ (λ (xs ys : List ℕ). xs ++ ys) (append-nil (sent l (entries points))) same ∙ (asked l).shows
@@ -262,24 +250,21 @@ module _ (g : NodeConfig) (m : Machine) (points : List Point) (unborn : AreUnbor
       let p = entry (e.Went k bytes) in
       let a = asked k in
       let x = m.links k in
-      let c = core_of x.conn in
+      let c = x.conn in
       let n = length bytes in
-      let within : n ≤ length (octets_of c.out) = omega (arith, ap length is, length-append bytes rest) in
-      let all : take n (octets_of c.out) ≡ bytes = ap (take n) is ∙ take-append_seam bytes rest in
-      let left = (written n c.out).rest in
-      let same : (owing.wrote c n).out.rest ≡ left = payment_keeps (OfOut (λ w. w.rest ≡ left))
-      (out_keeps (λ w. w.rest ≡ left) (rest_keeps left)) calm (record c { out = written n c.out }) refl in
-      let shown = (write_begins octets (sent k (entries points)) a.begun c.out n within a.shows).0 in
+      let within : n ≤ length (output c) = omega (arith, ap length is, length-append bytes rest) in
+      let all : take n (output c) ≡ bytes = ap (take n) is ∙ take-append_seam bytes rest in
+      let shown = (write_begins octets (sent k (entries points)) a.begun (outgoing c) n within a.shows).0 in
       changed p k (λ l. while_open (wrote n) (m.links l))
       (subst (IsAskedOn g (points ++ p ∷ []) k) (sym (open_changes (wrote n) m k opened))
-      (made p k (went x.phase) x.waiting (owing.wrote c n) (a.begun ++ begun_by n c.out) bytes [] (itself_alone k bytes) refl
-      (runs_on p k (act (history.wrote n)) (begun_by n c.out) (owing.wrote c n) (on_itself k (act (history.wrote n)))
-      (begins_one (history.point (history.wrote n) found.Silent) c (owing.wrote c n) (begun_by n c.out) refl
+      (made p k (went x.phase) x.waiting (connection.wrote c n) (a.begun ++ frames_begun n c) bytes [] (itself_alone k bytes) refl
+      (runs_on p k (act (history.wrote n)) (frames_begun n c) (connection.wrote c n) (on_itself k (act (history.wrote n)))
+      (leads_one (history.point (history.wrote n) found.Silent) c (connection.wrote c n) (frames_begun n c) refl
       (within, (refl, refl))))
-      (ap₂ (λ (bs xs : List ℕ). (sent k (entries points) ++ bs) ++ xs) (sym all) same ∙ shown)
-      (with_none k (a.begun ++ begun_by n c.out) x.waiting (owing.wrote c n)
+      (ap₂ (λ (bs xs : List ℕ). (sent k (entries points) ++ bs) ++ xs) (sym all) (wrote_leaves c n) ∙ shown)
+      (with_none k (a.begun ++ frames_begun n c) x.waiting (connection.wrote c n)
       (write_asks a.begun (spelled (requests g k points)) x.waiting c n (asks_of k born)))
-      (λ i. wrote_over x.conn n ∙ going i)))
+      (λ i. wrote_over c n ∙ going i)))
       (λ l apart. passes_went g l k bytes apart)
 
   -- all links stay
@@ -299,9 +284,11 @@ module _ (g : NodeConfig) (m : Machine) (points : List Point) (unborn : AreUnbor
       phase_changes (e.Opened k) k opened (subst IsBorn (sym may.1) tt) (λ i. (asked k).goes (subst IsGoing (sym may.1) tt))
       (λ l. quiet_passes g l (e.Opened k) tt)
   entry_asked (e.Came k bytes) may =
-      changed (entry (e.Came k bytes)) k (λ l. while_open (came bytes) (m.links l))
-      (subst (IsAskedOn g (points ++ entry (e.Came k bytes) ∷ []) k) (sym (live_changes (came bytes) (m.links k) may.0.1))
-      (kept (entry (e.Came k bytes)) k (m.links k).phase refl refl refl (λ b. b) (asked k).goes))
+      let p = entry (e.Came k bytes) in
+      let x = m.links k in
+      changed p k (λ l. while_open (came bytes) (m.links l))
+      (subst (IsAskedOn g (points ++ p ∷ []) k) (sym (live_changes (came bytes) x may.0.1))
+      (taken_asked g (points ++ p ∷ []) k x.phase x.waiting x.conn bytes (kept p k x.phase refl refl refl (λ b. b) (asked k).goes)))
       (λ l apart. passes_came g l k bytes apart)
   entry_asked (e.Ended k) may =
       phase_changes (e.Ended k) k ended (subst IsBorn (sym may.0.1) tt) (λ i. live_over k may.0.1) (λ l. quiet_passes g l (e.Ended k) tt)
@@ -351,27 +338,27 @@ module _ (g : NodeConfig) (m : Machine) (points : List Point) (unborn : AreUnbor
       let p = looked k ps told headers in
       let x = m.links k in
       let look = steps.2 in
-      let core = core_of steps.1 in
-      let why = end_by x.answered (headers_read steps.1) told in
-      linked p k n _ (on_found told steps.1 x) steps.4 (λ l. refl)
-      (made p k (phase_by x.phase why) x.waiting core (asked k).begun [] [] refl refl
-      (runs_still p k ps core (on_itself k ps) (looks_begin_none ps (core_of x.conn) core look.looks look.runs))
-      (shows_on k core.out (looks_rest ps (core_of x.conn) core look.looks look.runs))
-      (with_none k (asked k).begun x.waiting core
-      (looks_ask (asked k).begun (spelled (requests g k points)) x.waiting ps (core_of x.conn) core look.looks look.runs
+      let new = steps.1 in
+      let why = end_by x.answered (headers_read new) told in
+      linked p k n _ (on_found told new x) steps.4 (λ l. refl)
+      (made p k (phase_by x.phase why) x.waiting new (asked k).begun [] [] refl refl
+      (runs_still p k ps new (on_itself k ps) (looks_lead ps x.conn new look.looks look.runs))
+      (shows_on k (outgoing new) (looks_leave ps x.conn new look.looks look.runs))
+      (with_none k (asked k).begun x.waiting new
+      (looks_ask (asked k).begun (spelled (requests g k points)) x.waiting ps x.conn new look.looks look.runs
       (asks_of k (subst IsBorn (sym steps.0) tt))))
-      (look_over k told steps.1 why steps.0 (λ code is. ap (end_by x.answered (headers_read steps.1)) is) look.finds))
+      (look_over k told new why steps.0 (λ code is. ap (end_by x.answered (headers_read new)) is) look.finds))
       (λ l apart. passes_looked g l k ps told headers apart)
   point_asked (applied k r) n steps =
       let p = applied k r in
       let x = m.links k in
       let answer = answer_to m.held r in
-      let c = core_of x.conn in
+      let c = x.conn in
       linked p k n _ _ steps.3 (λ l. refl)
       (made p k x.phase (x.waiting ++ spelling answer) c (asked k).begun [] (spelling answer) refl
       (ap spelled (on_itself k (answer ∷ [])) ∙ append-nil (spelling answer))
       (runs_still p k [] c refl (refl, refl))
-      (shows_on k c.out refl)
+      (shows_on k (outgoing c) refl)
       (more_asks (asked k).begun (spelled (requests g k points)) x.waiting (spelling answer) c
       (asks_of k (subst IsBorn (sym steps.0) tt)))
       (asked k).goes)
@@ -383,40 +370,41 @@ module _ (g : NodeConfig) (m : Machine) (points : List Point) (unborn : AreUnbor
   point_asked (used k n) next steps =
       let p = used k n in
       let x = m.links k in
-      let c = core_of x.conn in
-      let core = credit c stream n in
-      let within : n ≤ creditable c.flow stream = omega (arith, steps.1.counted) in
+      let c = x.conn in
+      let new = credited c stream n in
+      let move = history.credited stream n in
+      let within : n ≤ creditable c stream = omega (arith, steps.1.counted) in
       linked p k next _ _ steps.2 (λ l. refl)
-      (made p k x.phase x.waiting core (asked k).begun [] [] refl refl
-      (runs_still p k (act (history.credited stream n)) core (on_itself k (act (history.credited stream n)))
-      (begins_one (history.point (history.credited stream n) found.Silent) c core [] refl (within, (refl, refl))))
-      (shows_on k core.out (act_rest c (history.credited stream n) core found.Silent tt (within, (refl, refl))))
-      (with_none k (asked k).begun x.waiting core
+      (made p k x.phase x.waiting new (asked k).begun [] [] refl refl
+      (runs_still p k (act move) new (on_itself k (act move))
+      (leads_one (history.point move found.Silent) c new [] refl (within, (refl, refl))))
+      (shows_on k (outgoing new) (act_leaves c new (history.point move found.Silent) tt (within, (refl, refl))))
+      (with_none k (asked k).begun x.waiting new
       (credit_asks (asked k).begun (spelled (requests g k points)) x.waiting c n within (asks_of k (subst IsBorn (sym steps.0) tt))))
-      (λ i. credited_over x.conn stream n ∙ (asked k).goes i))
+      (λ i. credited_over c stream n ∙ (asked k).goes i))
       (λ l apart. passes_used g l k n apart)
   point_asked (put k bytes) n steps =
       let p = put k bytes in
       let x = m.links k in
-      let c = core_of x.conn in
+      let c = x.conn in
       let count = count_put c stream x.waiting in
-      let core = data_put c stream x.waiting in
-      let go = some_go (sides_of (state_of c.streams stream)).own count steps.2 in
+      let new = data_put c stream x.waiting in
+      let move = history.put stream x.waiting in
+      let go = some_go (own_side_open c stream) count steps.2 in
       let some : (count == 0) ≡ false = grind (arith, nat_tests, go.1) in
       let size : sendable x ≡ count = ap (λ b. if b then count else 0) go.0 in
-      let active = active_some c.streams stream
-      (ap (λ b. b || (sides_of (state_of c.streams stream)).peer) go.0) in
+      let active = active_some (streams c) stream (ap (λ b. b || (sides c stream).peer) go.0) in
       linked p k n _ (put_requests x) steps.3 (λ l. refl)
-      (made p k x.phase (drop (sendable x) x.waiting) core (asked k).begun [] [] refl refl
-      (runs_still p k (act (history.put stream x.waiting)) core
+      (made p k x.phase (drop (sendable x) x.waiting) new (asked k).begun [] [] refl refl
+      (runs_still p k (act move) new
       (on_itself k (act (history.put stream bytes)) ∙ ap (λ (bs : List ℕ). act (history.put stream bs)) steps.1)
-      (begins_one (history.point (history.put stream x.waiting) found.Silent) c core [] refl (refl, refl)))
-      (shows_on k core.out (act_rest c (history.put stream x.waiting) core found.Silent tt (refl, refl)))
-      (with_none k (asked k).begun (drop (sendable x) x.waiting) core
-      (subst (λ i. Asks (asked k).begun (spelled (requests g k points)) (drop i x.waiting) calm core) (sym size)
+      (leads_one (history.point move found.Silent) c new [] refl (refl, refl)))
+      (shows_on k (outgoing new) (act_leaves c new (history.point move found.Silent) tt (refl, refl)))
+      (with_none k (asked k).begun (drop (sendable x) x.waiting) new
+      (subst (λ i. AsksOn (asked k).begun (spelled (requests g k points)) (drop i x.waiting) new) (sym size)
       (put_asks (asked k).begun (spelled (requests g k points)) x.waiting c some (tt, live_over k steps.0, active)
       (asks_of k (subst IsBorn (sym steps.0) tt)))))
-      (λ i. put_over x.conn stream x.waiting ∙ live_over k steps.0))
+      (λ i. put_over c stream x.waiting ∙ live_over k steps.0))
       (λ l apart. passes_put g l k bytes apart)
   point_asked (stopped why) n steps =
       subst (λ (y : Machine). AreAsked g y (points ++ stopped why ∷ [])) (sym steps.1)
@@ -446,13 +434,13 @@ all_asked g n more (goes_on {m = m} {points = points} before p steps grows) =
 pub obey_requests : RunsObeyRequests
 obey_requests g m points stands l control =
     let a = all_asked g m points stands l in
-    let c = core_of (m.links l).conn in
+    let out = outgoing (m.links l).conn in
     record {
       begun = a.begun;
-      owed = c.out.rest;
+      owed = out.rest;
       went = a.shows;
-      rest = payloads c.out.queue ++ a.follows.0;
+      rest = payloads out.queue ++ a.follows.0;
       front = a.follows.1
-          ∙ ap (λ (xs : List ℕ). xs ++ a.follows.0) (flat_map-append payload_of a.begun c.out.queue)
-          ∙ append_assoc (payloads a.begun) (payloads c.out.queue) a.follows.0;
+          ∙ ap (λ (xs : List ℕ). xs ++ a.follows.0) (flat_map-append payload_of a.begun out.queue)
+          ∙ append_assoc (payloads a.begun) (payloads out.queue) a.follows.0;
     }

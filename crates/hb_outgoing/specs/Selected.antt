@@ -1,7 +1,7 @@
 use Rattle.std.specs.Prelude.{◌≡◌, ℕ, ◌<◌, List, [], ◌∷◌, length, Bool, true, false, not, ◌&&◌, ◌||◌, ◌==◌, bit_and, Option, Some, None, if◌then◌else◌}
 use Rattle.std.specs.List.{filter, list_any, sum_by}
 use Rattle.hb_frames.specs.RawFrame.{RawFrame}
-use Rattle.hb_frames.specs.Numbers.{data_kind, headers_kind}
+use Rattle.hb_frames.specs.Numbers.{data_kind, headers_kind, end_stream_flag}
 use Rattle.hb_outgoing.specs.declared.head.Head.{Head}
 use Rattle.hb_outgoing.specs.declared.unbegun.Unbegun.{Unbegun}
 use Rattle.hb_outgoing.specs.Waiting.{Waiting, head_of}
@@ -37,11 +37,7 @@ payload_size f = length f.payload
 abbrev pub data_size : Option ℕ → List RawFrame → ℕ
 data_size stream queue = sum_by payload_size (filter (is_data_of stream) queue)
 
--- the flag of DATA and HEADERS that ends a stream (RFC 9113 sections 6.1 and 6.2)
-abbrev pub end_stream_flag : ℕ
-end_stream_flag = 1
-
--- a frame that ends the stream
+-- a frame that ends the stream (RFC 9113 sections 6.1 and 6.2)
 abbrev pub ends : ℕ → Head → Bool
 ends stream h = (h.kind == data_kind || h.kind == headers_kind) && h.stream == stream && not (bit_and h.flags end_stream_flag == 0)
 

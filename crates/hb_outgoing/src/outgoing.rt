@@ -1,6 +1,7 @@
 //! The octets and frames that wait to be written.
 
 ghost use Rattle.std.specs.Prelude.{◌≡◌, ◌+◌, ◌≤◌, ◌==◌, length, Some, IfOk};
+ghost use Rattle.hb_frames.specs.Numbers.{largest};
 ghost use Rattle.hb_outgoing.specs.Waiting.{octets_of, room_of, nothing, opened, put, size};
 ghost use Rattle.hb_outgoing.specs.Written.{written};
 ghost use Rattle.hb_outgoing.specs.Selected.{without, taken_back, all_taken_back, data_size, first_data, end_waits};
@@ -109,7 +110,7 @@ impl Outgoing {
     /// Puts a frame behind all others (RFC 9113 section 4.1), its reserved bit unset.
     pub fn put_frame(&mut self, kind: u8, flags: u8, stream: u32, payload: &[u8])
         requires room { length (octets_of self.old) + (9 + length payload.now) ≤ size }
-        requires in_range { stream ≤ 2147483647 }
+        requires in_range { stream ≤ largest }
         ensures after { self.new
             ≡ put (record { kind = kind; flags = flags; stream = stream; payload = payload.now }) self.old }
         ensures grows { length (octets_of self.new) ≡ length (octets_of self.old) + (9 + length payload.now) }

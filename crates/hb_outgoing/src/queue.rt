@@ -12,15 +12,11 @@ ghost use Rattle.hb_outgoing.specs.Selected.{is_meant, is_kept, data_size, frame
 use crate::head::Head;
 use crate::unbegun::Unbegun;
 use hb_frames::Output;
+use hb_frames::numbers::{DATA, END_STREAM_FLAG, HEADERS};
+use hb_frames::octets::word_at;
 
 /// The octets of a frame's header (RFC 9113 section 4.1).
 const HEADER: usize = 9;
-
-const DATA: u8 = 0;
-
-const HEADERS: u8 = 1;
-
-const END_STREAM: u8 = 1;
 
 /// A frame's head, and the octets of its payload.
 #[derive(Clone, Copy)]
@@ -38,14 +34,10 @@ fn first_frame(bytes: &[u8]) -> Queued
     ensures size { result.size ≡ size_at bytes.now }
 {
     let size = bytes[0] as u32 * 0x1_0000 + bytes[1] as u32 * 0x100 + bytes[2] as u32;
-    let word = bytes[5] as u32 * 0x100_0000
-        + bytes[6] as u32 * 0x1_0000
-        + bytes[7] as u32 * 0x100
-        + bytes[8] as u32;
     let head = Head {
         kind: bytes[3],
         flags: bytes[4],
-        stream: word % 0x8000_0000,
+        stream: word_at(bytes, 5) % 0x8000_0000,
     };
     Queued { head, size }
 }
@@ -138,7 +130,7 @@ pub(crate) fn ends(stream: u32, head: Head) -> bool
 {
     (head.kind == DATA || head.kind == HEADERS)
         && head.stream == stream
-        && head.flags & END_STREAM != 0
+        && head.flags & END_STREAM_FLAG != 0
 }
 
 /// One of the frames from a place on ends the stream.

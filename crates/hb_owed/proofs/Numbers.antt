@@ -6,7 +6,8 @@ use Rattle.std.proofs.lemmas.Bool.{false≢true, cases_eq}
 use Rattle.hb_map.specs.Keyed.{written, IsFirstFrom}
 use Rattle.hb_map.proofs.Laws.{put_elsewhere, removed_here, removed_elsewhere}
 use Rattle.hb_owed.specs.Dues.{Debt}
-use Rattle.hb_owed.specs.Debts.{Debts, AreNumbered, largest}
+use Rattle.hb_owed.specs.Debts.{Debts, AreNumbered}
+use Rattle.hb_frames.specs.Numbers.{largest}
 
 pub none_of : {T : Type 0} (o : Option T) → is_some o ≡ false → o ≡ None
 none_of None h = refl

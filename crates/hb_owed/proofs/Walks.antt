@@ -15,7 +15,8 @@ use Rattle.hb_owed.specs.declared.due.Due.TheVariants as due
 use Rattle.hb_owed.specs.declared.status.Status.{Status}
 use Rattle.hb_owed.specs.Dues.{Debt, dues_of, first, is_nil, is_done, without}
 use Rattle.std.proofs.lemmas.Bool.Decides.{nat_tests}
-use Rattle.hb_owed.specs.Debts.{Debts, largest, changed, changed_by, settled, struck, is_done_by, dues_on, dues_by, tagged, dues, IsFirstDue}
+use Rattle.hb_owed.specs.Debts.{Debts, changed, changed_by, settled, struck, is_done_by, dues_on, dues_by, tagged, dues, IsFirstDue}
+use Rattle.hb_frames.specs.Numbers.{largest}
 use Rattle.hb_outgoing.specs.Waiting.{Waiting, room_of}
 use Rattle.hb_hpack.specs.Encoding.{Writing}
 use Rattle.hb_owed.specs.Frames.{size_of}

@@ -2,6 +2,7 @@ use Rattle.std.specs.Prelude.{◌≡◌, ℕ, ◌+◌, ◌≤◌, ◌<◌, Bool,
 use Rattle.std.specs.List.{flat_map}
 use Rattle.std.specs.Ordering.{nat_cmp}
 use Rattle.std.specs.FinMap.{FinMap, entries, get, insert, remove}
+use Rattle.hb_frames.specs.Numbers.{largest}
 use Rattle.hb_map.specs.Keyed.{written}
 use Rattle.hb_owed.specs.declared.due.Due.{Due}
 use Rattle.hb_owed.specs.declared.status.Status.{Status}
@@ -10,10 +11,6 @@ use Rattle.hb_owed.specs.Dues.{Debt, clear, dues_of, first, ends, is_done, witho
 -- what is owed on each stream that has a record
 abbrev pub Debts : Type 0
 Debts = FinMap nat_cmp Debt
-
--- the largest number of a stream (RFC 9113 section 5.1.1), and the largest increment (section 6.9)
-abbrev pub largest : ℕ
-largest = 2147483647
 
 -- streams have numbers of 31 bits
 unfoldable pub AreNumbered : Debts → Type 0

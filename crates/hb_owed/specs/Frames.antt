@@ -1,7 +1,7 @@
-use Rattle.std.specs.Prelude.{ℕ, [], ◌++◌, if◌then◌else◌}
+use Rattle.std.specs.Prelude.{ℕ, ◌+◌, [], ◌++◌, if◌then◌else◌}
 use Rattle.hb_frames.specs.RawFrame.{RawFrame}
 use Rattle.hb_frames.specs.Octets.{four}
-use Rattle.hb_frames.specs.Numbers.{data_kind, headers_kind, rst_stream_kind, window_update_kind}
+use Rattle.hb_frames.specs.Numbers.{data_kind, headers_kind, rst_stream_kind, window_update_kind, end_stream_flag, end_headers_flag}
 use Rattle.hb_hpack.specs.Encoding.{Writing, opening, header_of, status_header, going}
 use Rattle.hb_hpack.specs.declared.spelling.Spelling.TheVariants.{Plain}
 use Rattle.hb_owed.specs.declared.due.Due.{Due}
@@ -13,7 +13,7 @@ use Rattle.hb_owed.specs.declared.status.Status.{Status}
 abbrev pub status_frame : Writing → ℕ → Status → RawFrame
 status_frame w s status = record {
   kind = headers_kind;
-  flags = if status.end then 5 else 4;
+  flags = if status.end then end_headers_flag + end_stream_flag else end_headers_flag;
   stream = s;
   payload = opening w.started ++ header_of Plain (status_header status.number);
 }
@@ -24,7 +24,7 @@ credit_frame s n = record { kind = window_update_kind; flags = 0; stream = s; pa
 
 -- an empty DATA frame with END_STREAM (RFC 9113 section 6.1)
 abbrev pub end_frame : ℕ → RawFrame
-end_frame s = record { kind = data_kind; flags = 1; stream = s; payload = [] }
+end_frame s = record { kind = data_kind; flags = end_stream_flag; stream = s; payload = [] }
 
 -- RST_STREAM (RFC 9113 section 6.4)
 abbrev pub reset_frame : ℕ → ℕ → RawFrame

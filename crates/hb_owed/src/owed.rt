@@ -4,7 +4,8 @@ ghost use Rattle.std.specs.Prelude.{◌≡◌, ◌+◌, ◌≤◌, ◌<◌, IfSo
 ghost use Rattle.std.specs.FinMap.{empty, get};
 ghost use Rattle.hb_map.specs.Keyed.{IsFirstFrom};
 ghost use Rattle.hb_owed.specs.Dues.{without, first, is_nil, IsDue};
-ghost use Rattle.hb_owed.specs.Debts.{largest, opened, changed, settled, closed, taken_back, struck};
+ghost use Rattle.hb_owed.specs.Debts.{opened, changed, settled, closed, taken_back, struck};
+ghost use Rattle.hb_frames.specs.Numbers.{largest};
 ghost use Rattle.hb_owed.specs.Debts.{with_status, with_credit, with_end, with_reset, without_end, shut, is_done_by};
 ghost use Rattle.hb_owed.specs.Debts.{dues_on, end_on, ends_on, credit_on, dues, IsFirstDue, behind};
 ghost use Rattle.hb_owed.specs.Paid.{paid};

@@ -3,39 +3,18 @@
 ghost use Rattle.std.specs.Prelude.{◌≡◌, ◌≤◌};
 ghost use Rattle.hb_outgoing.specs.Waiting.{put, room_of};
 ghost use Rattle.hb_owed.specs.Dues.{IsStatus, IsDue};
-ghost use Rattle.hb_owed.specs.Debts.{largest};
+ghost use Rattle.hb_frames.specs.Numbers.{largest};
 ghost use Rattle.hb_owed.specs.Frames.{frame_of, status_frame, behind, size_of};
-ghost use Rattle.hb_frames.specs.Octets.{four};
 ghost use Rattle.hb_hpack.specs.Encoding.{going};
 
 use crate::due::Due;
 use crate::status::Status;
+use hb_frames::numbers::{
+    DATA, END_HEADERS_FLAG, END_STREAM_FLAG, HEADERS, RST_STREAM, WINDOW_UPDATE,
+};
+use hb_frames::octets::word;
 use hb_hpack::Encoder;
 use hb_outgoing::Outgoing;
-
-const DATA: u8 = 0;
-
-const HEADERS: u8 = 1;
-
-const RST_STREAM: u8 = 3;
-
-const WINDOW_UPDATE: u8 = 8;
-
-const END_STREAM: u8 = 1;
-
-const END_HEADERS: u8 = 4;
-
-/// A number in four octets, the most significant first.
-fn word(n: u32) -> [u8; 4]
-    ensures { result ≡ four n }
-{
-    [
-        (n / 0x100_0000) as u8,
-        (n / 0x1_0000 % 0x100) as u8,
-        (n / 0x100 % 0x100) as u8,
-        (n % 0x100) as u8,
-    ]
-}
 
 /// Puts the HEADERS of a status.
 fn put_status(stream: u32, status: Status, out: &mut Outgoing, encoder: &mut Encoder)
@@ -48,9 +27,9 @@ fn put_status(stream: u32, status: Status, out: &mut Outgoing, encoder: &mut Enc
     let mut block = [0u8; 8];
     let size = encoder.put_status_block(status.number, &mut block);
     let flags = if status.end {
-        END_HEADERS + END_STREAM
+        END_HEADERS_FLAG + END_STREAM_FLAG
     } else {
-        END_HEADERS
+        END_HEADERS_FLAG
     };
     // a block's length is within the array, which its contract doesn't say
     out.put_frame(HEADERS, flags, stream, &block[..size.min(8)]);
@@ -67,7 +46,7 @@ pub fn put_due(stream: u32, due: Due, out: &mut Outgoing, encoder: &mut Encoder)
     match due {
         Due::Status(status) => put_status(stream, status, out, encoder),
         Due::Credit(n) => out.put_frame(WINDOW_UPDATE, 0, stream, &word(n)),
-        Due::End => out.put_frame(DATA, END_STREAM, stream, &[]),
+        Due::End => out.put_frame(DATA, END_STREAM_FLAG, stream, &[]),
         Due::Reset(code) => out.put_frame(RST_STREAM, 0, stream, &word(code)),
     }
 }

@@ -2,7 +2,8 @@
 
 ghost use Rattle.std.specs.Prelude.{◌≡◌, ◌+◌, ◌≤◌, IfSome};
 ghost use Rattle.hb_owed.specs.Dues.{clear, dues_of, first, ends, is_done, without, IsStatus, IsDue};
-ghost use Rattle.hb_owed.specs.Debts.{largest, with_status, with_credit, with_end, with_reset, without_end, shut};
+ghost use Rattle.hb_owed.specs.Debts.{with_status, with_credit, with_end, with_reset, without_end, shut};
+ghost use Rattle.hb_frames.specs.Numbers.{largest};
 
 use crate::due::Due;
 use crate::status::Status;
@@ -25,7 +26,7 @@ const _: () = prove!(size_of::<StreamDebt>() == 20);
 impl Model for StreamDebt {
     ghost use Rattle.std.specs.Prelude.{◌≤◌, IfSome};
     ghost use Rattle.hb_owed.specs.Dues.{Debt, IsStatus};
-    ghost use Rattle.hb_owed.specs.Debts.{largest};
+    ghost use Rattle.hb_frames.specs.Numbers.{largest};
 
     ghost Value = { Debt };
 

@@ -3,7 +3,8 @@ use Rattle.std.proofs.Common.{◌≡◌, ℕ, ◌<◌, Bool, true, false, cond, 
 use Rattle.std.specs.Prelude.{◌&&◌}
 use Rattle.std.specs.FinMap.{get}
 use Rattle.std.proofs.lemmas.Bool.{false≢true, ltb-true}
-use Rattle.hb_streams.specs.Numbers.{refused_stream, protocol_error, is_even}
+use Rattle.hb_streams.specs.Numbers.{is_even}
+use Rattle.hb_frames.specs.Numbers.{protocol_error, refused_stream}
 use Rattle.hb_streams.specs.Resets.{is_among}
 use Rattle.hb_streams.specs.Sides.{state_with}
 use Rattle.hb_streams.specs.States.{States, state_of, state_by, is_full}

@@ -3,7 +3,8 @@ use Rattle.std.proofs.Common.{◌≡◌, ℕ, ◌%◌, ◌≤◌, ◌<◌, Bool,
 use Rattle.std.specs.FinMap.{get}
 use Rattle.std.proofs.lemmas.Bool.{ne_eqb}
 use Rattle.hb_map.specs.Keyed.{written}
-use Rattle.hb_streams.specs.Numbers.{refused_stream, is_even, next_odd, rst_stream_kind, data_kind, headers_kind}
+use Rattle.hb_streams.specs.Numbers.{is_even, next_odd}
+use Rattle.hb_frames.specs.Numbers.{data_kind, headers_kind, rst_stream_kind, refused_stream}
 use Rattle.hb_streams.specs.Sides.{both_open}
 use Rattle.hb_streams.specs.States.{States}
 use Rattle.hb_streams.specs.Answers.{answer_of}

@@ -5,7 +5,8 @@ use Rattle.std.specs.FinMap.{get, len, len-empty}
 use Rattle.std.specs.Ordering.{nat_cmp}
 use Rattle.std.proofs.lemmas.Bool.{leb-false}
 use Rattle.hb_map.specs.Keyed.{written}
-use Rattle.hb_streams.specs.Numbers.{refused_stream, next_odd, rst_stream_kind, data_kind, headers_kind}
+use Rattle.hb_streams.specs.Numbers.{next_odd}
+use Rattle.hb_frames.specs.Numbers.{data_kind, headers_kind, rst_stream_kind, refused_stream}
 use Rattle.hb_streams.specs.Sides.{both_open}
 use Rattle.hb_streams.specs.States.{States, fresh, is_full}
 use Rattle.hb_streams.specs.Answers.{answer_of}

@@ -1,8 +1,9 @@
 use Rattle.std.specs.Prelude.{ℕ, Bool, ◌==◌, ◌||◌, nat_lt, nat_le, if◌then◌else◌, Result, Ok, Err}
 use Rattle.std.specs.FinMap.{len}
 use Rattle.hb_base.specs.declared.scope.Scope.TheVariants.{Connection, Stream}
-use Rattle.hb_streams.specs.Numbers.{data_kind, headers_kind, rst_stream_kind, window_update_kind}
-use Rattle.hb_streams.specs.Numbers.{protocol_error, stream_closed, refused_stream, is_even, next_odd, largest_stream}
+use Rattle.hb_frames.specs.Numbers.{data_kind, headers_kind, rst_stream_kind, window_update_kind, protocol_error}
+use Rattle.hb_frames.specs.Numbers.{stream_closed, refused_stream, largest}
+use Rattle.hb_streams.specs.Numbers.{is_even, next_odd}
 use Rattle.hb_streams.specs.States.{States, state_of, is_full}
 use Rattle.hb_streams.specs.declared.role.Role.{Role}
 use Rattle.hb_streams.specs.declared.role.Role.TheVariants.{Server, Client}
@@ -77,5 +78,5 @@ answer_of s kind n =
 abbrev pub number_of : States → ℕ → Result ℕ OpenFault
 number_of s limit =
     if nat_le limit (len s.active) || is_full s then Err Full
-    else if nat_lt largest_stream (next_odd s.highest) then Err Spent
+    else if nat_lt largest (next_odd s.highest) then Err Spent
     else Ok (next_odd s.highest)

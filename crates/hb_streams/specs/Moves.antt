@@ -2,7 +2,7 @@ use Rattle.std.specs.Prelude.{ℕ, Bool, false, not, ◌==◌, ◌&&◌, ◌||�
 use Rattle.std.specs.Prelude.{Option, Some, None, Result, Ok, Err}
 use Rattle.std.specs.FinMap.{get, insert, remove}
 use Rattle.hb_map.specs.Keyed.{written}
-use Rattle.hb_streams.specs.Numbers.{data_kind, headers_kind, rst_stream_kind, refused_stream}
+use Rattle.hb_frames.specs.Numbers.{data_kind, headers_kind, rst_stream_kind, refused_stream}
 use Rattle.hb_streams.specs.Resets.{with_reset}
 use Rattle.hb_streams.specs.Sides.{both_open}
 use Rattle.hb_streams.specs.States.{States, fresh}

@@ -5,11 +5,11 @@ ghost use Rattle.hb_streams.specs.Answers.{connection_error, stream_error, data_
 ghost use Rattle.hb_streams.specs.Answers.{headers_answer, control_answer};
 
 use crate::fault::StreamFault;
-use crate::numbers::{PROTOCOL_ERROR, REFUSED_STREAM, STREAM_CLOSED};
 use crate::role::Role;
 use crate::state::State;
 use crate::step::Step;
 use hb_base::Scope;
+use hb_frames::numbers::{PROTOCOL_ERROR, REFUSED_STREAM, STREAM_CLOSED};
 
 fn connection_error(code: u32) -> Result<Step, StreamFault>
     ensures { result ≡ connection_error code }

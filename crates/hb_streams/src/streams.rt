@@ -12,15 +12,14 @@ ghost use Rattle.hb_streams.specs.Calls.{Makes};
 
 use crate::answer::{on_control, on_data, on_headers};
 use crate::fault::{OpenFault, StreamFault};
-use crate::numbers::{
-    DATA, HEADERS, LARGEST_STREAM, MOST_ACTIVE, REFUSED_STREAM, RST_STREAM, WINDOW_UPDATE,
-};
+use crate::numbers::MOST_ACTIVE;
 use crate::resets::Resets;
 use crate::role::Role;
 use crate::sides::Sides;
 use crate::state::State;
 use crate::step::Step;
 use hb_base::{NoMemory, Or};
+use hb_frames::numbers::{DATA, HEADERS, LARGEST, REFUSED_STREAM, RST_STREAM, WINDOW_UPDATE};
 use hb_map::ById;
 use std::alloc::Global;
 use std::marker::Model;
@@ -218,7 +217,7 @@ impl Streams {
         if self.active.len() >= limit as usize || self.is_full() {
             return Err(OpenFault::Full);
         }
-        if self.highest >= LARGEST_STREAM {
+        if self.highest >= LARGEST {
             return Err(OpenFault::Spent);
         }
         Ok(self.highest + 1 + self.highest % 2)

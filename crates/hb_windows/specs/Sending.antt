@@ -1,9 +1,6 @@
 use Rattle.std.specs.Prelude.{◌≡◌, ℕ, ℤ, pos, ◌+ℤ◌, ◌≤ℤ◌, ◌<ℤ◌, Result, Ok, Err}
+use Rattle.hb_frames.specs.Numbers.{largest}
 use Rattle.hb_windows.specs.declared.overrun.Overrun.{Overrun}
-
--- the largest size and the largest content of a window, 2^31 - 1 (RFC 9113 section 6.9.1)
-abbrev pub largest : ℕ
-largest = 2147483647
 
 -- what may still be sent, and the initial size that it counts from (RFC 9113 section 6.9.2)
 pub record Sending : Type 0 where

@@ -1,11 +1,10 @@
 ghost use Rattle.std.specs.Prelude.{◌≡◌, ◌≤◌, pos, ◌+ℤ◌, ◌-ℤ◌, ◌≤ℤ◌, ◌<ℤ◌, IfOk, IfErr};
-ghost use Rattle.hb_windows.specs.Sending.{largest, Moves};
+ghost use Rattle.hb_windows.specs.Sending.{Moves};
+ghost use Rattle.hb_frames.specs.Numbers.{largest};
 
 use crate::overrun::Overrun;
+use hb_frames::numbers::LARGEST;
 use std::marker::Model;
-
-/// The largest size and the largest content of a window (RFC 9113 section 6.9.1).
-const LARGEST: i64 = 2_147_483_647;
 
 /// The octets of DATA that this end may still send on a stream or a connection (RFC 9113 sections 5.2
 /// and 6.9). A change of the peer's initial window size may take it below zero.
@@ -17,7 +16,8 @@ pub struct SendWindow {
 
 impl Model for SendWindow {
     ghost use Rattle.std.specs.Prelude.{◌≤◌, pos, ◌+ℤ◌, ◌≤ℤ◌};
-    ghost use Rattle.hb_windows.specs.Sending.{Sending, largest};
+    ghost use Rattle.hb_windows.specs.Sending.{Sending};
+    ghost use Rattle.hb_frames.specs.Numbers.{largest};
 
     ghost Value = { Sending };
 
@@ -108,7 +108,7 @@ fn moved(held: i32, by: i64) -> Result<i32, Overrun>
 {
     let held = i64::from(held);
     let sum = held + by;
-    if sum > LARGEST {
+    if sum > i64::from(LARGEST) {
         return Err(Overrun { held, asked: by });
     }
     Ok(sum as i32)

@@ -1,6 +1,6 @@
 ghost use Rattle.std.specs.Prelude.{◌≡◌, ◌≤◌, ◌+◌, ◌-◌, IfSome};
 ghost use Rattle.hb_windows.specs.Taking.{Takes, PaysBack};
-ghost use Rattle.hb_windows.specs.Sending.{largest};
+ghost use Rattle.hb_frames.specs.Numbers.{largest};
 
 use crate::overrun::Overrun;
 use std::marker::Model;
@@ -20,7 +20,7 @@ pub struct TakeWindow {
 impl Model for TakeWindow {
     ghost use Rattle.std.specs.Prelude.{◌≤◌, ◌+◌};
     ghost use Rattle.hb_windows.specs.Taking.{Taking};
-    ghost use Rattle.hb_windows.specs.Sending.{largest};
+    ghost use Rattle.hb_frames.specs.Numbers.{largest};
 
     ghost Value = { Taking };
 

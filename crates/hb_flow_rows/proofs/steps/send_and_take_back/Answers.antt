@@ -1,6 +1,6 @@
 use Rattle.std.proofs.Common.{rules, pos, ◌+ℤ◌, ◌≤ℤ◌, IfSome, sym, subst}
 use Rattle.std.specs.FinMap.{get}
-use Rattle.hb_windows.specs.Sending.{largest}
+use Rattle.hb_frames.specs.Numbers.{largest}
 use Rattle.hb_flow.specs.Flows.{Flows}
 use Rattle.hb_flow.proofs.Changes.{room_to_give_back}
 use Rattle.hb_flow_rows.proofs.steps.send_and_take_back.Goals as goal
