@@ -1,4 +1,5 @@
 pub mod Known
+pub mod Places
 pub mod Queues
 pub mod Sent
 pub mod Views

@@ -9,13 +9,13 @@ use Rattle.std.proofs.lemmas.List.{take-append-le, drop-append-le, length-take-l
 use Rattle.std.proofs.lemmas.Grind.{flat_map-append}
 use Rattle.std.proofs.Math.Seq.{take-append_seam, drop-append_seam}
 use Rattle.hb_frames.specs.RawFrame.{RawFrame, Fits, spelling}
-use Rattle.hb_frames.proofs.Records.{bounded}
+use Rattle.hb_frames.proofs.Records.{bounded, raw}
 use Rattle.hb_outgoing.specs.declared.head.Head.{Head}
 use Rattle.hb_outgoing.specs.Waiting.{Waiting, spelled, octets_of, nothing, opened, put}
 use Rattle.hb_outgoing.specs.Queue.{frames_of, AllFit, AreWhole}
 use Rattle.hb_outgoing.specs.Written.{begun_in, begun_by, last_head, while_waits, rest_after, written}
 use Rattle.hb_outgoing.specs.Selected.{is_kept, without, taken_back, all_taken_back}
-use Rattle.hb_outgoing.proofs.Queues.{no_frames, whole_none, whole_spelled, frames_spelled, grown, spelling_len}
+use Rattle.hb_outgoing.proofs.Queues.{no_frames, whole_none, whole_spelled, frames_spelled, grown, octets_are, spelling_len}
 
 abbrev pub waiting : List ℕ → Option Head → List RawFrame → Waiting
 waiting rest begun queue = record { rest = rest; begun = begun; queue = queue }
@@ -52,6 +52,13 @@ opening_waits bytes small =
       inside = record { small = small; within = omega arith; whole = subst AreWhole (sym none) whole_none };
       seen = same_waiting _ _ _ _ _ _ (take_all (length bytes) bytes (omega arith)) refl (ap frames_of none ∙ no_frames);
     }
+
+-- behind nothing the payload of a frame whose header is dropped stands alone
+pub opening_alone : (items : List ℕ) (rest : ℕ) (bytes : List ℕ) → AreWhole (drop rest items)
+    → length (take rest items ++ spelled (frames_of (drop rest items))) ≡ 0 → drop 9 (items ++ spelling (raw 0 0 0 bytes)) ≡ bytes
+opening_alone items rest bytes whole empty =
+    let len : length items ≤ 0 = omega (arith, empty, ap length (octets_are items rest whole)) in
+    ap (λ (xs : List ℕ). drop 9 (xs ++ spelling (raw 0 0 0 bytes))) (drop_all 0 items len)
 
 pub frame_is_put : (items : List ℕ) (rest : ℕ) (begun : Option Head) (f : RawFrame) → Inside items rest → Fits f
     → length items + (9 + length f.payload) ≤ 32768 → Becomes (items ++ spelling f) rest begun (put f (view items rest begun))

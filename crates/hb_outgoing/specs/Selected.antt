@@ -1,4 +1,5 @@
-use Rattle.std.specs.Prelude.{◌≡◌, ℕ, ◌<◌, List, [], ◌∷◌, length, Bool, true, false, not, ◌&&◌, ◌||◌, ◌==◌, bit_and, Option, Some, None, if◌then◌else◌}
+use Rattle.std.specs.Prelude.{ℕ, List, [], ◌∷◌, length, Option, Some, None}
+use Rattle.std.specs.Prelude.{Bool, true, false, not, ◌&&◌, ◌||◌, ◌==◌, bit_and, if◌then◌else◌}
 use Rattle.std.specs.List.{filter, list_any, sum_by}
 use Rattle.hb_frames.specs.RawFrame.{RawFrame}
 use Rattle.hb_frames.specs.Numbers.{data_kind, headers_kind, end_stream_flag}
@@ -61,8 +62,10 @@ abbrev pub first_data : List RawFrame → Option Unbegun
 first_data [] = None
 first_data (f ∷ fs) = if has_data f then Some (record { stream = f.stream; size = length f.payload }) else first_data fs
 
--- What is kept of the DATA frames of a queue: where none with payload waits there is none, and none is of a stream with a
--- number greater than the newest
-pub record KnowsData (waits : Bool) (newest : ℕ) (queue : List RawFrame) : Type 0 where
-  pub none : waits ≡ false → list_any has_data queue ≡ false
-  pub older : (stream : ℕ) → newest < stream → list_any (is_data_of (Some stream)) queue ≡ false
+-- 1 where a frame is DATA, by its type
+abbrev pub counted : ℕ → ℕ
+counted kind = if kind == data_kind then 1 else 0
+
+-- how many DATA frames there are
+abbrev pub data_count : List RawFrame → ℕ
+data_count queue = sum_by (λ f. counted f.kind) queue

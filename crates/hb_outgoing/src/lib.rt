@@ -2,6 +2,7 @@
 //! of which no octet was written can be taken back, and a frame that has begun is finished.
 #![tactic(auto)]
 
+mod data_streams;
 mod head;
 pub mod laws;
 mod outgoing;

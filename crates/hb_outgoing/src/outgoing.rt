@@ -6,9 +6,11 @@ ghost use Rattle.hb_outgoing.specs.Waiting.{octets_of, room_of, nothing, opened,
 ghost use Rattle.hb_outgoing.specs.Written.{written};
 ghost use Rattle.hb_outgoing.specs.Selected.{without, taken_back, all_taken_back, data_size, first_data, end_waits};
 
+use crate::data_streams::DataStreams;
 use crate::head::Head;
 use crate::queue::{
-    any_ends, begin, ends, first_data, newest_with, still_waits, take_data, waits_with, while_waits,
+    any_ends, begin, count_of, ends, first_data, from_with, still_waits, take_data, waits_with,
+    while_waits,
 };
 use crate::unbegun::Unbegun;
 use hb_base::NoMemory;
@@ -31,15 +33,19 @@ pub struct Outgoing {
     begun: Option<Head>,
     /// Not set: no DATA frame with payload waits of which no octet was written.
     data_waits: bool,
-    /// The greatest stream of which a DATA frame was put.
-    newest: u32,
+    /// How many DATA frames wait of which no octet was written.
+    count: usize,
+    /// In front of this place none of them stands.
+    from: usize,
+    /// The streams of which they may be.
+    streams: DataStreams,
 }
 
 impl Model for Outgoing {
     ghost use Rattle.std.specs.Prelude.{◌≡◌, ◌≤◌, length, take, drop};
     ghost use Rattle.hb_outgoing.specs.Waiting.{Waiting};
     ghost use Rattle.hb_outgoing.specs.Queue.{frames_of, AreWhole};
-    ghost use Rattle.hb_outgoing.specs.Selected.{KnowsData};
+    ghost use Rattle.hb_outgoing.specs.Known.{KnowsData, NoDataBefore};
 
     ghost Value = { Waiting };
 
@@ -52,7 +58,8 @@ impl Model for Outgoing {
     ghost invariant = { λ o.
         (o.output.size ≡ 32777) × (length o.output.items ≤ 32768) × (o.rest ≤ length o.output.items)
         × AreWhole (drop o.rest o.output.items)
-        × KnowsData o.data_waits o.newest (frames_of (drop o.rest o.output.items)) };
+        × KnowsData o.data_waits o.count o.streams (frames_of (drop o.rest o.output.items))
+        × NoDataBefore o.output.items o.rest o.from };
 }
 
 impl Outgoing {
@@ -63,12 +70,15 @@ impl Outgoing {
         ensures { IfOk result (λ o. o ≡ nothing) }
     {
         let output = Output::new(alloc, SIZE + HEADER)?;
+        let streams = DataStreams::new(alloc)?;
         Ok(Outgoing {
             output,
             rest: 0,
             begun: None,
             data_waits: false,
-            newest: 0,
+            count: 0,
+            from: 0,
+            streams,
         })
     }
 
@@ -105,6 +115,8 @@ impl Outgoing {
         self.output.drop_front(HEADER);
         self.rest = bytes.len();
         self.begun = None;
+        self.count = 0;
+        self.from = bytes.len();
     }
 
     /// Puts a frame behind all others (RFC 9113 section 4.1), its reserved bit unset.
@@ -115,9 +127,12 @@ impl Outgoing {
             ≡ put (record { kind = kind; flags = flags; stream = stream; payload = payload.now }) self.old }
         ensures grows { length (octets_of self.new) ≡ length (octets_of self.old) + (9 + length payload.now) }
     {
+        self.from = from_with(self.from, self.count, self.output.front().len());
         self.output.put_frame(kind, flags, stream, payload);
         self.data_waits = waits_with(self.data_waits, kind, payload.len());
-        self.newest = newest_with(self.newest, kind, stream);
+        self.streams.forget(self.count);
+        self.streams.note(kind, stream);
+        self.count += count_of(kind);
     }
 
     /// Removes the first `n` octets, which were written. A frame whose first octet is among them has begun.
@@ -125,9 +140,11 @@ impl Outgoing {
         requires { n ≤ length (octets_of self.old) }
         ensures { self.new ≡ written n self.old }
     {
-        let (end, head) = begin(self.output.front(), self.rest, self.begun, n);
+        let (end, head, begun) = begin(self.output.front(), self.rest, self.begun, n);
         self.output.drop_front(n);
         self.rest = end - n;
+        self.from = self.from.max(end) - n;
+        self.count -= begun;
         self.begun = while_waits(self.rest, head);
         self.look_for_data();
     }
@@ -139,7 +156,7 @@ impl Outgoing {
         ensures left { self.new ≡ taken_back stream self.old }
         ensures shorter { length (octets_of self.new) ≤ length (octets_of self.old) }
     {
-        if stream > self.newest {
+        if !self.streams.may_be(stream) {
             return 0;
         }
         self.take(Some(stream))
@@ -158,7 +175,8 @@ impl Outgoing {
         ensures value { result ≡ data_size stream self.old.queue }
         ensures left { self.new ≡ without stream self.old }
     {
-        let taken = take_data(&mut self.output, self.rest, stream);
+        let (taken, left) = take_data(&mut self.output, self.from, self.count, stream);
+        self.count = left;
         self.look_for_data();
         taken
     }

@@ -7,7 +7,7 @@ ghost use Rattle.hb_frames.specs.RawFrame.{raw_at, spelling, size_at};
 ghost use Rattle.hb_outgoing.specs.Waiting.{spelled, head_of};
 ghost use Rattle.hb_outgoing.specs.Queue.{frames_of, AreWhole, IsPlaced};
 ghost use Rattle.hb_outgoing.specs.Written.{begun_in, last_head};
-ghost use Rattle.hb_outgoing.specs.Selected.{is_meant, is_kept, data_size, frame_ends, ends, first_data};
+ghost use Rattle.hb_outgoing.specs.Selected.{is_meant, is_kept, data_size, counted, data_count, frame_ends, ends, first_data};
 
 use crate::head::Head;
 use crate::unbegun::Unbegun;
@@ -52,13 +52,21 @@ fn frame_at(bytes: &[u8], at: usize) -> Queued
     first_frame(&bytes[at..])
 }
 
-/// Where the last frame ends that begins before the first `n` octets are written, and its head.
+/// 1 where the frame is DATA.
+pub(crate) fn count_of(kind: u8) -> usize
+    ensures { result ≡ counted kind }
+{
+    usize::from(kind == DATA)
+}
+
+/// Where the last frame ends that begins before the first `n` octets are written, its head, and how many of those
+/// that begin are DATA.
 pub(crate) fn begin(
     bytes: &[u8],
     rest: usize,
     begun: Option<Head>,
     n: usize,
-) -> (usize, Option<Head>)
+) -> (usize, Option<Head>, usize)
     requires fits { n ≤ length bytes.now }
     requires order { rest ≤ length bytes.now }
     requires whole { AreWhole (drop rest bytes.now) }
@@ -70,15 +78,18 @@ pub(crate) fn begin(
     ensures queue { frames_of (drop result.0 bytes.now)
         ≡ drop (length (begun_in (n - rest) (frames_of (drop rest bytes.now)))) (frames_of (drop rest bytes.now)) }
     ensures head { result.1 ≡ last_head begun (begun_in (n - rest) (frames_of (drop rest bytes.now))) }
+    ensures count { result.2 ≡ data_count (begun_in (n - rest) (frames_of (drop rest bytes.now))) }
 {
     let mut end = rest;
     let mut head = begun;
+    let mut count = 0;
     while end < n {
         let next = frame_at(bytes, end);
         head = Some(next.head);
+        count += count_of(next.head.kind);
         end += HEADER + next.size as usize;
     }
-    (end, head)
+    (end, head, count)
 }
 
 /// What is begun where so many octets of it wait.
@@ -88,40 +99,52 @@ pub(crate) fn while_waits(rest: usize, begun: Option<Head>) -> Option<Head>
     if rest == 0 { None } else { begun }
 }
 
-/// The stream is the one that is meant; None: all are.
-fn is_meant(meant: Option<u32>, stream: u32) -> bool
-    ensures { result ≡ is_meant meant stream }
+/// It is a DATA frame of the stream; None: of any.
+fn is_data_of(stream: Option<u32>, head: Head) -> bool
+    ensures { result ≡ (head.kind == data_kind && is_meant stream head.stream) }
 {
-    match meant {
-        None => true,
-        Some(one) => stream == one,
-    }
+    head.kind == DATA
+        && match stream {
+            None => true,
+            Some(one) => head.stream == one,
+        }
 }
 
-/// Takes the stream's DATA frames from a place on out, None: those of all streams, and says how many octets of
-/// payload they had.
-pub(crate) fn take_data(output: &mut Output, from: usize, stream: Option<u32>) -> u32
+/// Takes the stream's DATA frames out, None: those of all streams. So many DATA frames stand from a place on. Says how
+/// many octets of payload they had, and how many DATA frames are left.
+pub(crate) fn take_data(
+    output: &mut Output,
+    from: usize,
+    count: usize,
+    stream: Option<u32>,
+) -> (u32, usize)
     requires order { from ≤ length output.old.items }
     requires small { length output.old.items ≤ 32768 }
     requires whole { AreWhole (drop from output.old.items) }
-    ensures value { result ≡ data_size stream (frames_of (drop from output.old.items)) }
+    requires counted { count ≡ data_count (frames_of (drop from output.old.items)) }
+    ensures value { result.0 ≡ data_size stream (frames_of (drop from output.old.items)) }
+    ensures count { result.1 ≡ data_count (filter (is_kept stream) (frames_of (drop from output.old.items))) }
     ensures left { output.new ≡ record output.old {
       items = take from output.old.items ++ spelled (filter (is_kept stream) (frames_of (drop from output.old.items)));
     } }
 {
     let mut at = from;
+    let mut ahead = count;
     let mut taken = 0;
-    while at < output.front().len() {
+    let mut kept = 0;
+    while ahead > 0 {
         let next = frame_at(output.front(), at);
         let end = HEADER + next.size as usize;
-        if next.head.kind == DATA && is_meant(stream, next.head.stream) {
+        ahead -= count_of(next.head.kind);
+        if is_data_of(stream, next.head) {
             output.cut(at, end);
             taken += next.size;
         } else {
+            kept += count_of(next.head.kind);
             at += end;
         }
     }
-    taken
+    (taken, kept)
 }
 
 /// The frame ends the stream (RFC 9113 sections 6.1 and 6.2).
@@ -177,16 +200,11 @@ pub(crate) fn waits_with(waits: bool, kind: u8, size: usize) -> bool
     waits || (kind == DATA && size != 0)
 }
 
-/// The greatest stream of DATA once a frame is put.
-pub(crate) fn newest_with(newest: u32, kind: u8, stream: u32) -> u32
-    ensures grows { newest ≤ result }
-    ensures data { kind ≡ data_kind → stream ≤ result }
+/// From where on DATA waits, once a frame is put at the end.
+pub(crate) fn from_with(from: usize, count: usize, end: usize) -> usize
+    ensures { result ≡ (if count == 0 then end else from) }
 {
-    if kind == DATA {
-        newest.max(stream)
-    } else {
-        newest
-    }
+    if count == 0 { end } else { from }
 }
 
 /// A DATA frame with payload still waits from a place on.

@@ -11,4 +11,4 @@ invariant_of-self c =
     let self = c.self.inside in
     let is = c.still_waits-self-inside.ensures
     ∙ ap (λ (xs : List ℕ). self.data_waits && is_some (first_data (frames_of (drop self.rest xs)))) c.front.ensures in
-    (inv.0, inv.1, inv.2, inv.3, knows_still self.data_waits c.still_waits-self-inside.result self.newest _ inv.4 is)
+    (inv.0, inv.1, inv.2, inv.3, knows_still self.data_waits c.still_waits-self-inside.result self.count self.streams _ inv.4 is, inv.5)
