@@ -1,6 +1,6 @@
 -- DATA with payload stands in front of all that waits.
 use Rattle.std.proofs.Common.{◌≡◌, ℕ, zero, suc, ◌-◌, Bool, true, false, cond, List, [], ◌∷◌, ◌++◌, length, drop, Some, None, refl, ap, sym, ◌∙◌, arith, length-append}
-use Rattle.std.specs.List.{AllByRecursion, filter}
+use Rattle.std.specs.List.{filter}
 use Rattle.std.proofs.lemmas.Bool.{false≢true}
 use Rattle.std.proofs.lemmas.List.{nil_from_length, drop_all}
 use Rattle.hb_frames.specs.RawFrame.{RawFrame, spelling}
@@ -14,38 +14,21 @@ use Rattle.hb_conn.specs.declared.machine.Core.{Core}
 use Rattle.hb_history.specs.Points.{Point, Runs}
 use Rattle.hb_history.specs.History.{fresh}
 use Rattle.hb_history.specs.Waits.{IsFirstBy, IsFirst, DataStandsFirst}
+use Rattle.hb_history.proofs.NoneOf.{NoneOf, none_more, none_left, none_filtered}
 use Rattle.hb_history.proofs.Parts.{PutsAck}
 use Rattle.hb_history.proofs.Shown.{KeepsOut, PutsOut, OfOut, out_keeps, out_puts, out_resizes, out_grows}
 use Rattle.hb_history.proofs.Acted.{runs_keep}
 
 abbrev pub NoData : List RawFrame → Type 0
-NoData fs = AllByRecursion (λ g. has_data g ≡ false) fs
+NoData fs = NoneOf has_data fs
 
 none_first : (rest : List ℕ) (fs : List RawFrame) → NoData fs → IsFirstBy rest fs
 none_first rest [] none = tt
 none_first rest (f ∷ fs) none = (λ some. absurd (false≢true (sym none.0 ∙ some)), none.1)
 
-none_more : (fs : List RawFrame) (f : RawFrame) → NoData fs → has_data f ≡ false → NoData (fs ++ f ∷ [])
-none_more [] f none is = (is, tt)
-none_more (g ∷ fs) f none is = (none.0, none_more fs f none.1 is)
-
-pub none_left : (n : ℕ) (fs : List RawFrame) → NoData fs → NoData (drop n fs)
-none_left zero [] none = tt
-none_left zero (f ∷ fs) none = none
-none_left (suc n) [] none = tt
-none_left (suc n) (f ∷ fs) none = none_left n fs none.1
-
-pub none_filtered : (p : RawFrame → Bool) (fs : List RawFrame) → NoData fs → NoData (filter p fs)
-none_filtered p [] none = tt
-none_filtered p (f ∷ fs) none = by (p f) (none_filtered p fs none.1)
-  where
-    by : (b : Bool) → NoData (filter p fs) → NoData (cond b (f ∷ filter p fs) (filter p fs))
-    by true rest = (none.0, rest)
-    by false rest = rest
-
 put_by : (rest : List ℕ) (fs : List RawFrame) (f : RawFrame) → has_data f ≡ false → IsFirstBy rest fs → IsFirstBy rest (fs ++ f ∷ [])
 put_by rest [] f none first = none_first rest (f ∷ []) (none, tt)
-put_by rest (g ∷ fs) f none first = (first.0, none_more fs f first.1 none)
+put_by rest (g ∷ fs) f none first = (first.0, none_more has_data fs f first.1 none)
 
 -- where no octet waits no frame does
 pub none_waits : (w : Waiting) → octets_of w ≡ [] → w.queue ≡ []
@@ -70,7 +53,7 @@ data_by rest (g ∷ fs) f none =
 
 filtered_by : (p : RawFrame → Bool) (rest : List ℕ) (fs : List RawFrame) → IsFirstBy rest fs → IsFirstBy rest (filter p fs)
 filtered_by p rest [] first = tt
-filtered_by p rest (f ∷ fs) first = by (p f) (none_filtered p fs first.1)
+filtered_by p rest (f ∷ fs) first = by (p f) (none_filtered has_data p fs first.1)
   where
     by : (b : Bool) → NoData (filter p fs) → IsFirstBy rest (cond b (f ∷ filter p fs) (filter p fs))
     by true none = (first.0, none)
@@ -82,7 +65,8 @@ written_by rest n zero [] first = tt
 written_by rest n zero (f ∷ fs) first =
     (λ some. ap (λ (xs : List ℕ). drop n (xs ++ [])) (first.0 some) ∙ drop_all n [] (omega arith), first.1)
 written_by rest n (suc m) [] first = tt
-written_by rest n (suc m) (f ∷ fs) first = none_first _ _ (none_left (length (begun_in (suc m - length (spelling f)) fs)) fs first.1)
+written_by rest n (suc m) (f ∷ fs) first =
+    none_first _ _ (none_left has_data (length (begun_in (suc m - length (spelling f)) fs)) fs first.1)
 
 pub first_keeps : KeepsOut IsFirst
 first_keeps = record {

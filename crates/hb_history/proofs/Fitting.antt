@@ -35,7 +35,8 @@ use Rattle.hb_history.proofs.Kept as kept
 use Rattle.hb_history.proofs.Handled.{window_keeps}
 use Rattle.hb_history.proofs.Acted.{act_keeps, look_keeps}
 use Rattle.hb_history.proofs.Shown.{KeepsOut, OfOut, out_keeps, out_puts, out_resizes, out_grows, none_behind, nothing_waits}
-use Rattle.hb_history.proofs.First.{NoData, none_left, none_filtered, first_keeps, first_puts, first_acks, first_written, first_new, none_waits}
+use Rattle.hb_history.proofs.NoneOf.{none_left, none_filtered}
+use Rattle.hb_history.proofs.First.{NoData, first_keeps, first_puts, first_acks, first_written, first_new, none_waits}
 use Rattle.hb_history.proofs.Runs.{begins_split}
 use Rattle.hb_history.proofs.Flowed.{put_within}
 use Rattle.hb_history.proofs.Grants.{granted_more}
@@ -71,7 +72,7 @@ head_filtered p rest frames begun (f ∷ fs) first fits = by (p f)
   where
     by : (b : Bool) → HeadFits frames begun (cond b (f ∷ filter p fs) (filter p fs))
     by true = fits
-    by false = head_none frames begun (filter p fs) (none_filtered p fs first.1)
+    by false = head_none frames begun (filter p fs) (none_filtered has_data p fs first.1)
 
 -- a frame that stands alone
 head_alone : (frames begun fs : List RawFrame) (f : RawFrame) → fs ≡ [] → FitsWindows f begun frames
@@ -86,7 +87,7 @@ head_written zero rest frames begun (f ∷ fs) first fits =
     subst (λ (bs : List RawFrame). HeadFits frames bs (f ∷ fs)) (sym (append-nil begun)) fits
 head_written (suc m) rest frames begun [] first fits = tt
 head_written (suc m) rest frames begun (f ∷ fs) first fits =
-    head_none frames _ _ (none_left (length (begun_in (suc m - length (spelling f)) fs)) fs first.1)
+    head_none frames _ _ (none_left has_data (length (begun_in (suc m - length (spelling f)) fs)) fs first.1)
 
 -- of the frames that begin
 

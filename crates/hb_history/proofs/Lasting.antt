@@ -396,7 +396,7 @@ module _ (n : ℕ) where
 
   lasting : Holds Lasts
   lasting = record {
-    same = λ c new told is. inr (stays c new (ap parts is));
+    same = λ c new told still is. inr (stays c new (ap parts is));
     on = lasts_on;
     handled = λ r c new told is. handles_by (is_misplaced c (glance_of r)) c (glance_of r) (asked r).last new told
         (fine_front r (first_of r.max r.held) refl) is;

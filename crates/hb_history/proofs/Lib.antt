@@ -30,8 +30,8 @@ pub mod Front
 pub mod Glanced
 pub mod Granted
 pub mod Grants
-pub mod Handled
 pub mod Handed
+pub mod Handled
 pub mod Initial
 pub mod Kept
 pub mod Lasting
@@ -40,6 +40,7 @@ pub mod Looked
 pub mod Looking
 pub mod Looks
 pub mod Moved
+pub mod NoneOf
 pub mod OnlyCredit
 pub mod Over
 pub mod OwnCredits
@@ -54,3 +55,4 @@ pub mod Shown
 pub mod Stages
 pub mod Steady
 pub mod Sums
+pub mod TakenBack

@@ -254,7 +254,7 @@ rises_on c mid new told (inr why) next = absurd (let never = why.1 in cc)
 
 rising : Holds Rises
 rising = record {
-  same = λ c new told is. inl (ap (λ (x : Core). x.over) is);
+  same = λ c new told still is. inl (ap (λ (x : Core). x.over) is);
   on = rises_on;
   handled = λ r c new told is. handled_over c (glance_of r) (asked r).last new told is;
   faults = λ c new code told is. given c _ new told (fault c c code) is;

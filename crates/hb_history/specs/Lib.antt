@@ -11,5 +11,6 @@ pub mod OwnExamples
 pub mod OwnFrames
 pub mod Points
 pub mod Sending
+pub mod TakenBack
 pub mod Taking
 pub mod Waits

@@ -2,6 +2,7 @@
 
 ghost use Rattle.hb_history.specs.Calls.{Begins, TakeAdds, NextAdds, ActAdds, WriteAdds, CallsStand, AnyCut, SameFrames};
 ghost use Rattle.hb_history.specs.Waits.{DataStandsFirst};
+ghost use Rattle.hb_history.specs.TakenBack.{EndsTakeBack, KeptIsRefused, KeptByErrorIsRefused, KeptByFaultIsRefused, OthersMayWait};
 ghost use Rattle.hb_history.specs.Live.{LiveStreams, StreamsMove, WindowsMove};
 ghost use Rattle.hb_history.specs.Taking.{TakingIsWhole};
 ghost use Rattle.hb_history.specs.Sending.{ConnectionSends, StreamsSend, WindowsFit, AllIsGivenBack, InitialIsLast};
@@ -36,6 +37,16 @@ pub fn any_calls()
 /// At most one DATA frame with payload waits to be written, and nothing stands in front of it.
 pub fn data_stands_first()
     ensures { DataStandsFirst }
+{}
+
+/// Behind a reset by the peer or an error of a stream no DATA with payload of it waits to begin, and behind an error of the
+/// connection none at all (RFC 9113 sections 5.4 and 6.4). An output in which some does is refused, but for an end of another stream.
+pub fn ends_take_data_back()
+    ensures takes { EndsTakeBack }
+    ensures kept { KeptIsRefused }
+    ensures kept_by_error { KeptByErrorIsRefused }
+    ensures kept_by_fault { KeptByFaultIsRefused }
+    ensures others { OthersMayWait }
 {}
 
 /// Unless a connection error was told, a stream has windows exactly where it is open or half-closed, and then a record of

@@ -4,9 +4,9 @@ ghost use Rattle.std.specs.Prelude.{◌≡◌, ◌≤◌, ◌<◌, ℕ, IfOk, If
 ghost use Rattle.hb_frames.specs.Numbers.{data_kind};
 ghost use Rattle.hb_outgoing.specs.Streams.{no_streams, may_be};
 
-use hb_frames::numbers::DATA;
 use circular_buffer::HeapCircularBuffer;
 use hb_base::NoMemory;
+use hb_frames::numbers::DATA;
 use std::alloc::Global;
 use std::marker::Model;
 
@@ -33,6 +33,9 @@ impl Model for DataStreams {
 }
 
 impl DataStreams {
+    /// No streams. Takes the memory for all that may be kept.
+    ///
+    /// Errors: `NoMemory`.
     pub fn new(alloc: Global) -> Result<DataStreams, NoMemory>
         ensures { IfOk result (λ s. s ≡ no_streams) }
     {

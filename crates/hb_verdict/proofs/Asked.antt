@@ -36,7 +36,8 @@ tunnel : (method : Option (List ℕ)) → is_tunnel method ≡ true → method �
 tunnel None is = absurd cc
 tunnel (Some method) is = ap Some ((bytes_eq-Decides method (codes "CONNECT")).0 is)
 
-at_once : (here : Bool) (target other : Target) → cond here (Connect target) (Refused 400) ≡ Connect other → (here ≡ true) × (target ≡ other)
+at_once : (here : Bool) (target other : Target) → cond here (Connect target) (Refused 400) ≡ Connect other
+    → (here ≡ true) × (target ≡ other)
 at_once true target other is = (refl, cc)
 at_once false target other is = absurd cc
 

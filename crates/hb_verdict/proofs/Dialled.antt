@@ -37,5 +37,6 @@ only_where_it_may (Connect wanted) h peer full target is =
 
 pub all_that_it_may : DialsAllThatItMay
 all_that_it_may request h peer full target may =
-    ap (λ r. verdict r h peer full) may.asked ∙ ap (λ b. cond (not b) (Status 503) (dial_judged (judged h peer target) target full)) may.told
+    ap (λ r. verdict r h peer full) may.asked
+    ∙ ap (λ b. cond (not b) (Status 503) (dial_judged (judged h peer target) target full)) may.told
     ∙ ap (λ j. dial_judged j target full) may.admitted ∙ ap (dial_judged Admitted target) may.left

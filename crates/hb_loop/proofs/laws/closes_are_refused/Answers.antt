@@ -6,5 +6,6 @@ returns c = record {
   healthy = closes_healthy;
   for_another = closes_for_another;
   ended = keeps_ended;
-  broken = keeps_broken; goaway = hears_no_goaway;
+  broken = keeps_broken;
+  goaway = hears_no_goaway;
 }

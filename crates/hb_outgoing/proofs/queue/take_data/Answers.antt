@@ -22,7 +22,8 @@ overflow_add-taken c =
     let test = subst (λ (xs : List ℕ). is_data_of stream (raw_at (drop at xs)) ≡ true) seen test_seen in
     let small : c.loop-ahead.taken + size ≤ 32768 =
     taken_fits stream c.args.output.now.items now c.args.from at c.loop-ahead.ahead (at + (9 + size))
-    c.loop-ahead.taken c.loop-ahead.kept size (raw_at (drop at now)) c.loop-ahead.invariant.takes placed.stands test placed.size_is c.requires.whole c.requires.small in
+    c.loop-ahead.taken c.loop-ahead.kept size (raw_at (drop at now)) c.loop-ahead.invariant.takes placed.stands test placed.size_is
+    c.requires.whole c.requires.small in
     omega (arith, small)
 
 pub frame_at-next-requires-clause-more : goal.frame_at-next-requires-clause-more
