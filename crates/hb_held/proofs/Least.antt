@@ -1,68 +1,15 @@
 -- Of values in the order of their names the first is the one of the smallest name.
-use Rattle.std.proofs.Common.{◌≡◌, ℕ, Bool, true, false, cond, List, [], ◌∷◌, Option, Some, None, refl, ap, sym, ◌∙◌, T}
-use Rattle.std.specs.Prelude.{◌&&◌, filter}
+use Rattle.std.proofs.Common.{◌≡◌, ℕ, Bool, true, false, cond, List, [], ◌∷◌, Option, Some, None, refl, ap, sym, ◌∙◌}
+use Rattle.std.specs.Prelude.{filter}
 use Rattle.std.specs.List.{filter_map, cons_option}
 use Rattle.std.specs.Option.{option_map}
-use Rattle.std.specs.Ordering.{nat_cmp, is_lt, ordering_reverse}
-use Rattle.std.specs.declared.cmp.Ordering.{Ordering}
-use Rattle.std.specs.declared.cmp.Ordering.TheVariants.{Less, Equal, Greater}
-use Rattle.std.specs.Cmp.Lexicographic.{slice_cmp, nat_list_cmp_total}
-use Rattle.std.specs.FinMap.{is_sorted, entries, entries_sorted}
-use Rattle.std.specs.FinMap.Entries.{below_all}
-use Rattle.hb_index.specs.Named.{Named, AllBehind, Rise}
+use Rattle.hb_index.specs.Named.{AllBehind, Rise}
+use Rattle.hb_index.proofs.Rising.{rise_filter, reversed}
 use Rattle.hb_held.specs.Lookup.{lesser, least}
-
-abbrev pub by_bytes : List ℕ → List ℕ → Ordering
-by_bytes = slice_cmp nat_cmp
 
 abbrev pub first : {X : Type 0} → List X → Option X
 first [] = None
 first (x ∷ xs) = Some x
-
-less : (o : Ordering) → T (is_lt o) → o ≡ Less
-less Less p = refl
-less Equal p = absurd p
-less Greater p = absurd p
-
-left : (a b : Bool) → T (a && b) → T a
-left true b p = tt
-left false b p = p
-
-right : (a b : Bool) → T (a && b) → T b
-right true b p = p
-right false b p = absurd p
-
-behind_all : {X : Type 0} (k : List ℕ) (es : List (List ℕ × X)) → T (below_all by_bytes k es) → AllBehind k es
-behind_all k [] p = tt
-behind_all k (e ∷ es) p = (less _ (left _ _ p), behind_all k es (right _ _ p))
-
-rise_all : {X : Type 0} (es : List (List ℕ × X)) → T (is_sorted by_bytes es) → Rise es
-rise_all [] p = tt
-rise_all (e ∷ es) p = (behind_all e.0 es (left _ _ p), rise_all es (right _ _ p))
-
--- the entries of a map rise
-pub entries_rise : {X : Type 0} (m : Named X) → Rise (entries m)
-entries_rise m = rise_all (entries m) (entries_sorted m)
-
-module _ {X : Type 0} (p : List ℕ × X → Bool) where
-  behind_filter : (k : List ℕ) (es : List (List ℕ × X)) → AllBehind k es → AllBehind k (filter p es)
-  behind_filter k [] h = tt
-  behind_filter k (e ∷ es) h =
-      elim (p e) as (λ b. AllBehind k (cond b (e ∷ filter p es) (filter p es))) [
-        | true ↦ (h.0, behind_filter k es h.1)
-        | false ↦ behind_filter k es h.1
-      ]
-
-  pub rise_filter : (es : List (List ℕ × X)) → Rise es → Rise (filter p es)
-  rise_filter [] h = tt
-  rise_filter (e ∷ es) h =
-      elim (p e) as (λ b. Rise (cond b (e ∷ filter p es) (filter p es))) [
-        | true ↦ (behind_filter e.0 es h.0, rise_filter es h.1)
-        | false ↦ rise_filter es h.1
-      ]
-
-pub reversed : (a b : List ℕ) → by_bytes a b ≡ Less → is_lt (by_bytes b a) ≡ false
-reversed a b h = ap is_lt (nat_list_cmp_total.antisymm b a ∙ ap ordering_reverse h)
 
 lesser_first : {X : Type 0} (e : List ℕ × X) (es : List (List ℕ × X)) → AllBehind e.0 es → lesser e (first es) ≡ e
 lesser_first e [] h = refl

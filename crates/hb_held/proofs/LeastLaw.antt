@@ -6,16 +6,16 @@ use Rattle.std.specs.declared.cmp.Ordering.TheVariants.{Less, Equal, Greater}
 use Rattle.std.specs.Cmp.Lexicographic.{nat_list_cmp_total}
 use Rattle.hb_base.specs.declared.ip.Ip.{Ip}
 use Rattle.hb_index.specs.Named.{Named, AllBehind, Rise}
-use Rattle.hb_index.proofs.Entries.{differ, equal}
-use Rattle.hb_index.proofs.Undone.{is_there}
+use Rattle.hb_index.proofs.Entries.{by_bytes, differ, equal}
+use Rattle.hb_index.proofs.Rising.{entries_rise, rise_filter, same, later_is_greater}
 use Rattle.hb_records.specs.declared.address.AddressRecord.{AddressRecord}
 use Rattle.hb_records.specs.declared.workload.Workload.{Workload}
 use Rattle.hb_held.specs.declared.versioned.Versioned.{Versioned}
 use Rattle.hb_held.specs.Held.{Resources}
 use Rattle.hb_held.specs.Lookup.{workload_in, has_address, workload_at, least, found_by, kept_if}
 use Rattle.hb_held.specs.Laws.{IsLeastAt, LeastIsFound}
-use Rattle.hb_held.proofs.Least.{by_bytes, first, entries_rise, rise_named, rise_filter, first_is_least, reversed}
-use Rattle.hb_held.proofs.Searches.{passing, HasAtMost, found_behind, found_is_held, none_is_smaller, same}
+use Rattle.hb_held.proofs.Least.{first, rise_named, first_is_least}
+use Rattle.hb_held.proofs.Searches.{passing, HasAtMost, found_is_held, none_is_smaller}
 
 pub no : {P : Type 0} (b : Bool) → b ≡ true → b ≡ false → P
 no true p q = absurd cc
@@ -34,11 +34,6 @@ nothing x e = absurd cc
 
 there : {X : Type 0} (o : Option X) (x : X) → o ≡ Some x → is_some o ≡ true
 there o x e = ap is_some e
-
-later_is_greater : {U : Type 0} (k : List ℕ) (rest : List (List ℕ × U)) (name : List ℕ) → AllBehind k rest
-    → is_some (find by_bytes name rest) ≡ true → is_lt (by_bytes name k) ≡ false
-later_is_greater k rest name behind is =
-    let held = is_there (find by_bytes name rest) is in reversed k name (found_behind k rest name held.0 behind held.1)
 
 module _ {X : Type 0} (g : Versioned AddressRecord → Option X) (p : X → Bool) (m : Named (Versioned AddressRecord)) where
   -- under a name a value is found that passes

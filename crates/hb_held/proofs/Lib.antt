@@ -1,7 +1,7 @@
-pub mod Alike
+pub mod Addressed
+pub mod Asked
 pub mod Folds
 pub mod InParts
-pub mod Indexed
 pub mod Least
 pub mod LeastLaw
 pub mod Searches

@@ -3,41 +3,17 @@ use Rattle.std.proofs.Common.{◌≡◌, ℕ, Bool, true, false, cond, List, [],
 use Rattle.std.specs.Prelude.{filter}
 use Rattle.std.specs.List.{filter_map, cons_option}
 use Rattle.std.specs.Option.{option_map}
-use Rattle.std.specs.Ordering.{is_lt, is_eq, eq_by_cmp, ordering_reverse}
-use Rattle.std.specs.declared.cmp.Ordering.TheVariants.{Less}
+use Rattle.std.specs.Ordering.{is_lt, is_eq, eq_by_cmp}
 use Rattle.std.specs.Cmp.{tied_itself}
 use Rattle.std.specs.Cmp.Lexicographic.{nat_list_cmp_total}
 use Rattle.std.specs.FinMap.{find}
 use Rattle.hb_index.specs.Named.{AllBehind, Rise}
-use Rattle.hb_held.proofs.Least.{by_bytes, first, named_by, reversed}
-use Rattle.hb_index.proofs.Entries.{differ, equal}
-
-pub same : {A : Type 0} (x y : A) → Some x ≡ Some y → x ≡ y
-same x y e = cc
+use Rattle.hb_index.proofs.Entries.{by_bytes, equal}
+use Rattle.hb_index.proofs.Rising.{same, found_behind, found_later, reversed}
+use Rattle.hb_held.proofs.Least.{first, named_by}
 
 no_value : {A P : Type 0} (x : A) → None ≡ Some x → P
 no_value x e = absurd cc
-
--- a name that is found behind k stands behind k
-pub found_behind : {A : Type 0} (k : List ℕ) (es : List (List ℕ × A)) (q : List ℕ) (v : A) → AllBehind k es → find by_bytes q es ≡ Some v
-    → by_bytes k q ≡ Less
-found_behind k [] q v h is = no_value v is
-found_behind k (e ∷ es) q v h is =
-    elim (eq_by_cmp by_bytes q e.0) as (λ b. eq_by_cmp by_bytes q e.0 ≡ b → cond b (Some e.1) (find by_bytes q es) ≡ Some v
-    → by_bytes k q ≡ Less) [
-      | true ↦ λ tie _. ap (by_bytes k) (differ q e.0 (equal _ tie)) ∙ h.0
-      | false ↦ λ _ there. found_behind k es q v h.1 there
-    ] refl is
-
-apart : (k q : List ℕ) → by_bytes k q ≡ Less → eq_by_cmp by_bytes q k ≡ false
-apart k q h = ap is_eq (nat_list_cmp_total.antisymm q k ∙ ap ordering_reverse h)
-
--- a name found behind the first entry is found among all
-pub found_later : {A : Type 0} (e : List ℕ × A) (es : List (List ℕ × A)) (q : List ℕ) (v : A) → AllBehind e.0 es
-    → find by_bytes q es ≡ Some v
-    → find by_bytes q (e ∷ es) ≡ Some v
-found_later e es q v h is =
-    ap (λ b. cond b (Some e.1) (find by_bytes q es)) (apart e.0 q (found_behind e.0 es q v h is)) ∙ is
 
 module _ {A X : Type 0} (g : A → Option X) (p : X → Bool) where
   -- the values that g makes and that pass

@@ -7,10 +7,9 @@ use Rattle.std.specs.Cmp.{tied_itself}
 use Rattle.std.specs.Cmp.Lexicographic.{nat_list_cmp_total}
 use Rattle.std.specs.FinMap.{find, entries, get, get-entries}
 use Rattle.hb_index.specs.Named.{Named, Rise}
-use Rattle.hb_index.proofs.Entries.{differ, equal}
+use Rattle.hb_index.proofs.Entries.{by_bytes, differ, equal}
+use Rattle.hb_index.proofs.Rising.{entries_rise, same, found_later}
 use Rattle.hb_index.proofs.Undone.{or_left, or_right}
-use Rattle.hb_held.proofs.Least.{by_bytes, entries_rise}
-use Rattle.hb_held.proofs.Searches.{same, found_later}
 
 module _ {X : Type 0} (p : List ℕ × X → Bool) where
   any_found : (es : List (List ℕ × X)) (k : List ℕ) (v : X) → find by_bytes k es ≡ Some v → p (k, v) ≡ true → list_any p es ≡ true

@@ -21,9 +21,8 @@ use Rattle.hb_held.specs.Lookup.{workload_of, workload_at, known}
 use Rattle.hb_held.specs.Policies.{is_for, policies_in, policies_for}
 use Rattle.hb_held.specs.Laws.{IsAt, IsLeastAt, UntouchedStays}
 use Rattle.hb_held.specs.Touched.{is_workload_changed, is_policy_changed, is_touched_in, touched, precedes, is_at, had_address, had_smaller, stands_for, had_policy, touched_from}
-use Rattle.hb_held.proofs.Alike.{passed, passing_alike}
-use Rattle.hb_index.proofs.Entries.{differ}
-use Rattle.hb_held.proofs.Least.{by_bytes}
+use Rattle.hb_index.proofs.Alike.{passed, passing_alike}
+use Rattle.hb_index.proofs.Entries.{by_bytes, differ}
 use Rattle.hb_held.proofs.LeastLaw.{no, one_least, least_found}
 use Rattle.hb_index.proofs.Undone.{is_there, or_left, or_right, and_left, and_right, both, unchanged, changed}
 use Rattle.hb_held.proofs.Somewhere.{any_held, held_any}

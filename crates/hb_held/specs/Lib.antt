@@ -1,8 +1,9 @@
-pub mod Addresses
+pub mod Asked
 pub mod Endpoints
 pub mod Held
 pub mod Laws
 pub mod Lookup
+pub mod Numbers
 pub mod Outcome
 pub mod Policies
 pub mod Rows

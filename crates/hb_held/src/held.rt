@@ -5,12 +5,11 @@ ghost use Rattle.hb_base.specs.Outcome.{Merges};
 ghost use Rattle.hb_held.specs.Held.{nothing_held, count, holds, fits, begun, without, with_came};
 ghost use Rattle.hb_held.specs.Outcome.{refusing, with_read_address, with_read_policy, with_record, with_resource};
 
-use crate::addresses::Addresses;
 use crate::outcome::RefusedWhy;
 use crate::versioned::Versioned;
 use hb_base::{NoMemory, Or, Text};
 use hb_disco::{Kind, Resource};
-use hb_index::Kept;
+use hb_index::Indexed;
 use hb_records::{AddressRecord, Authorization, RecordFault, read_address, read_authorization};
 use std::alloc::Global;
 use std::marker::Model;
@@ -21,8 +20,8 @@ use std::marker::Model;
 pub struct Held {
     pub(crate) network: Text,
     pub(crate) node: Text,
-    pub(crate) addresses: Addresses,
-    pub(crate) policies: Kept<Versioned<Authorization>>,
+    pub(crate) addresses: Indexed<Versioned<AddressRecord>>,
+    pub(crate) policies: Indexed<Versioned<Authorization>>,
     addresses_came: bool,
     policies_came: bool,
     settled: bool,
@@ -72,8 +71,8 @@ impl Held {
         Held {
             network,
             node,
-            addresses: Addresses::new(alloc),
-            policies: Kept::new(alloc),
+            addresses: Indexed::new(alloc),
+            policies: Indexed::new(alloc),
             addresses_came: false,
             policies_came: false,
             settled: true,
@@ -84,7 +83,7 @@ impl Held {
     pub fn count(&self) -> usize
         ensures { result ≡ count self.now }
     {
-        self.addresses.now().len() + self.policies.now.len()
+        self.addresses.now().len() + self.policies.now().len()
     }
 
     /// A resource of this kind and name is held.
@@ -93,7 +92,7 @@ impl Held {
     {
         match kind {
             Kind::Address => self.addresses.now().contains(name),
-            Kind::Authorization => self.policies.now.contains(name),
+            Kind::Authorization => self.policies.now().contains(name),
         }
     }
 

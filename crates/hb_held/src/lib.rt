@@ -1,7 +1,6 @@
 //! The resources of the mesh that a node holds: what responses leave, and look-ups.
 #![tactic(auto)]
 
-mod addresses;
 mod apply;
 mod endpoints;
 mod found;
@@ -9,6 +8,7 @@ mod held;
 mod joined;
 mod laws;
 mod lookup;
+mod numbers;
 mod outcome;
 mod policies;
 mod rows;

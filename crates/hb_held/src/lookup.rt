@@ -4,12 +4,16 @@ ghost use Rattle.std.specs.Prelude.{◌≡◌};
 ghost use Rattle.std.specs.List.{list_any};
 ghost use Rattle.std.specs.FinMap.{get};
 ghost use Rattle.std.specs.Option.{option_copied, option_map};
+ghost use Rattle.hb_index.specs.Indexed.{AreNamesAt};
+ghost use Rattle.hb_held.specs.Numbers.{number_of, address_numbers};
 ghost use Rattle.hb_held.specs.Lookup.{ip_eq, has_address, is_address, serves_at};
 ghost use Rattle.hb_held.specs.Lookup.{workload_at, known, service_at, found_as, found_service_as, workload_in, service_in, found_by};
 
 use crate::found::{Found, FoundService};
 use crate::held::Held;
+use crate::numbers::number_of;
 use hb_base::{Ip, List, Text};
+use hb_index::ByName;
 use hb_records::{AddressRecord, NetworkAddress, Service, Workload};
 
 fn is_same_ip(a: Ip, b: Ip) -> bool
@@ -56,6 +60,13 @@ fn serves_at(network: &Text, ip: Ip, service: &Service) -> bool
 }
 
 impl Held {
+    /// The names of the records with the address, of any network; `None` where there are none.
+    fn names_at(&self, ip: Ip) -> Option<&ByName<()>>
+        ensures { AreNamesAt address_numbers self.now.addresses (number_of ip) (option_copied result) }
+    {
+        self.addresses.names_at(number_of(ip))
+    }
+
     /// The workload under a name, where it is of this network and has the address.
     fn workload_with(&self, ip: Ip, name: &Text) -> Option<&Workload>
         ensures { option_copied result
@@ -89,7 +100,7 @@ impl Held {
     pub fn workload_at(&self, ip: Ip) -> Option<Found<'_>>
         ensures { option_map found_as result ≡ workload_at self.now ip }
     {
-        let names = self.addresses.names_at(ip)?;
+        let names = self.names_at(ip)?;
         let mut rest = names.iter();
         while let Some((name, _)) = rest.next() {
             if let Some(workload) = self.workload_with(ip, name) {
@@ -117,7 +128,7 @@ impl Held {
     pub fn service_at(&self, ip: Ip) -> Option<FoundService<'_>>
         ensures { option_map found_service_as result ≡ service_at self.now ip }
     {
-        let names = self.addresses.names_at(ip)?;
+        let names = self.names_at(ip)?;
         let mut rest = names.iter();
         while let Some((name, _)) = rest.next() {
             if let Some(service) = self.service_with(ip, name) {

@@ -88,7 +88,7 @@ impl Held {
     {
         Rows {
             addresses: self.addresses.now().iter(),
-            policies: self.policies.now.iter(),
+            policies: self.policies.now().iter(),
         }
     }
 
@@ -113,7 +113,7 @@ impl Held {
     {
         match kind {
             Kind::Address => versions_in(alloc, self.addresses.now()),
-            Kind::Authorization => versions_in(alloc, &self.policies.now),
+            Kind::Authorization => versions_in(alloc, self.policies.now()),
         }
     }
 }

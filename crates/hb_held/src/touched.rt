@@ -63,10 +63,10 @@ impl Held {
     fn had_policy(&self, workload: &Workload) -> bool
         ensures { result ≡ had_policy self.now workload.now }
     {
-        let mut rest = self.policies.past.iter();
+        let mut rest = self.policies.past().iter();
         while let Some((name, stood)) = rest.next() {
             if stands_for(workload, stood.as_ref())
-                || stands_for(workload, self.policies.now.get(name))
+                || stands_for(workload, self.policies.now().get(name))
             {
                 return true;
             }

@@ -1,3 +1,4 @@
 pub mod Index
+pub mod Indexed
 pub mod Kept
 pub mod Named

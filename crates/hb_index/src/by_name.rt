@@ -7,7 +7,9 @@ ghost use Rattle.std.specs.List.Sorted.{IsStrictlySortedBy};
 ghost use Rattle.std.specs.Map.{keys_of};
 ghost use Rattle.std.specs.Option.{option_copied};
 ghost use Rattle.std.specs.Ordering.{nat_cmp};
+ghost use Rattle.std.specs.Range.Bound.{bound_map};
 ghost use Rattle.std.specs.FinMap as map;
+ghost use Rattle.hb_index.specs.Named.{start_behind, IsFirstBehind};
 
 use hb_base::{NoMemory, Text};
 use std::alloc::Global;
@@ -15,6 +17,7 @@ use std::collections::BTreeMap;
 use std::collections::btree_map::Iter;
 use std::marker::Model;
 use std::mem;
+use std::ops::Bound;
 
 /// Values under names, one at most under each. Contracts see the finite map from the names to the values.
 #[derive(Drop)]
@@ -32,6 +35,16 @@ impl<T> Model for ByName<T> {
     ghost coded = { code (coded_list coded_ℕ) T.code };
 
     ghost view = { λ m. from_entries m.items.entries };
+}
+
+/// Where the names behind this one start, or all names.
+fn start_behind(name: Option<&Text>) -> Bound<&Text>
+    ensures { bound_map (λ n. n.now) result ≡ start_behind (option_copied name.entry) }
+{
+    match name {
+        Some(name) => Bound::Excluded(name),
+        None => Bound::Unbounded,
+    }
 }
 
 impl<T> ByName<T> {
@@ -64,6 +77,17 @@ impl<T> ByName<T> {
         ensures { option_copied result ≡ map.get self.now name.now }
     {
         self.items.get(name)
+    }
+
+    /// The first name behind this one, by bytes, or the first of all; `None` where there is none.
+    pub fn first_behind(&self, name: Option<&Text>) -> Option<&Text>
+        ensures { IsFirstBehind (map.contains_key self.now) (option_copied name.entry) (option_copied result) }
+    {
+        let mut rest = self.items.range((start_behind(name), Bound::Unbounded));
+        match rest.next() {
+            Some((first, _)) => Some(first),
+            None => None,
+        }
     }
 
     /// The names and their values, by the names' bytes.

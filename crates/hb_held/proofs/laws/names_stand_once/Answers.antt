@@ -1,4 +1,4 @@
-use Rattle.hb_held.proofs.Least.{entries_rise}
+use Rattle.hb_index.proofs.Rising.{entries_rise}
 use Rattle.hb_held.proofs.laws.names_stand_once.Goals as goal
 
 pub returns : goal.returns

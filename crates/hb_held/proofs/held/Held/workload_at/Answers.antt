@@ -1,11 +1,9 @@
 use Rattle.std.proofs.Common.{ℕ, List, Some, None, ap, sym, subst, ◌∙◌}
 use Rattle.std.specs.Option.{option_map}
 use Rattle.hb_index.specs.Named.{Rise}
-use Rattle.hb_held.specs.Addresses.{number_of, AreNamesAt}
-use Rattle.hb_held.specs.Held.{Resources}
+use Rattle.hb_index.proofs.Rising.{entries_rise}
 use Rattle.hb_held.specs.Lookup.{workload_in, has_address, workload_at, found_as}
-use Rattle.hb_held.proofs.Indexed.{workloads_named, no_workload_named}
-use Rattle.hb_held.proofs.Least.{entries_rise}
+use Rattle.hb_held.proofs.Addressed.{workloads_named, no_workload_named}
 use Rattle.hb_held.proofs.LeastLaw.{MissesNone, is_least_by, none_left, passed_over, first_found}
 use Rattle.hb_held.proofs.held.Held.workload_at.Goals as goal
 
@@ -13,23 +11,20 @@ pub returns-in_err-names : goal.returns-in_err-names
 unfolding workload_at
 returns-in_err-names c =
     let h = c.args.self.now in
-    let all = subst (λ m. AreNamesAt m (number_of c.args.ip) None)
-    (ap (λ (s : Resources). s.addresses) c.self.view_is) c.in_err-names.ensures in
     ap (option_map found_as) c.from_residual.ensures
-    ∙ is_least_by workload_in (has_address h.network c.args.ip) h.addresses None (no_workload_named h.addresses h.network c.args.ip all)
+    ∙ is_least_by workload_in (has_address h.network c.args.ip) h.addresses None
+    (no_workload_named h.addresses h.network c.args.ip c.in_err-names.ensures)
 
 pub loop-name-init : goal.loop-name-init
 loop-name-init c =
     let h = c.args.self.now in
     let names = c.in_ok-names.names.now in
-    let all = subst (λ m. AreNamesAt m (number_of c.args.ip) (Some names)) (ap (λ (s : Resources). s.addresses) c.self.view_is)
-    c.in_ok-names.ensures in
     record {
       can = tt;
       ends = tt;
       rises = subst Rise (sym c.iter-rest.ensures.rest) (entries_rise names);
       all = subst (MissesNone workload_in (has_address h.network c.args.ip) h.addresses) (sym c.iter-rest.ensures.rest)
-          (workloads_named h.addresses h.network c.args.ip names all);
+          (workloads_named h.addresses h.network c.args.ip names c.in_ok-names.ensures);
     }
 
 pub returns-in-Some-workload_with : goal.returns-in-Some-workload_with

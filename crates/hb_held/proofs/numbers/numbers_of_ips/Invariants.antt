@@ -1,7 +1,7 @@
 use Rattle.std.proofs.Common.{◌≡◌, take}
 use Rattle.std.specs.Prelude.{map}
-use Rattle.hb_held.specs.Addresses.{number_of}
-use Rattle.hb_held.proofs.addresses.numbers_of_ips.Given as goal
+use Rattle.hb_held.specs.Numbers.{number_of}
+use Rattle.hb_held.proofs.numbers.numbers_of_ips.Given as goal
 
 -- the numbers so far
 abbrev pub invariant-loop-ip : goal.invariant-loop-ip

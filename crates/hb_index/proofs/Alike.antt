@@ -7,8 +7,8 @@ use Rattle.std.specs.Cmp.Lexicographic.{nat_list_cmp_total}
 use Rattle.std.specs.FinMap.{find, entries, get, from_sorted, is_sorted, get-entries, entries-from_sorted, get-from_sorted, same_map}
 use Rattle.std.specs.FinMap.Entries.{below_all}
 use Rattle.hb_index.specs.Named.{Named, AllBehind, Rise}
-use Rattle.hb_index.proofs.Entries.{differ, equal}
-use Rattle.hb_held.proofs.Least.{by_bytes, entries_rise, rise_filter}
+use Rattle.hb_index.proofs.Entries.{by_bytes, differ, equal}
+use Rattle.hb_index.proofs.Rising.{entries_rise, rise_filter}
 
 both_hold : (a b : Bool) → T a → T b → T (a && b)
 both_hold true b p q = q
@@ -44,7 +44,7 @@ module _ {X : Type 0} (p : List ℕ × X → Bool) where
   passed q None = None
   passed q (Some v) = cond (p (q, v)) (Some v) None
 
-  find_filter : (es : List (List ℕ × X)) (q : List ℕ) → Rise es → find by_bytes q (filter p es) ≡ passed q (find by_bytes q es)
+  pub find_filter : (es : List (List ℕ × X)) (q : List ℕ) → Rise es → find by_bytes q (filter p es) ≡ passed q (find by_bytes q es)
   find_filter [] q h = refl
   find_filter (e ∷ es) q h =
       elim (eq_by_cmp by_bytes q e.0) as (λ b. eq_by_cmp by_bytes q e.0 ≡ b
