@@ -31,6 +31,7 @@ pub mod Granted
 pub mod Grants
 pub mod Handled
 pub mod Handed
+pub mod Heard
 pub mod Initial
 pub mod Kept
 pub mod Lasting
