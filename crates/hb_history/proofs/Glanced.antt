@@ -3,7 +3,7 @@ use Rattle.std.proofs.Common.{◌≡◌, ℕ, ◌+◌, ◌*◌, ◌%◌, ◌==�
 use Rattle.std.proofs.lemmas.Bool.{false≢true}
 use Rattle.std.proofs.lemmas.Bool.Decides.{nat_tests}
 use Rattle.hb_frames.specs.RawFrame.{RawFrame}
-use Rattle.hb_frames.specs.Numbers.{data_kind, settings_kind, ping_kind, window_update_kind}
+use Rattle.hb_frames.specs.Numbers.{data_kind, headers_kind, rst_stream_kind, settings_kind, ping_kind, window_update_kind}
 use Rattle.hb_frames.specs.Octets.{four_at}
 use Rattle.hb_frames.specs.Refusals.{is_ack, increment_of}
 use Rattle.hb_frames.specs.Bodies.{content_of, lent_of}
@@ -42,6 +42,13 @@ ping_is f test = let kind : f.kind ≡ 6 = grind (arith, nat_tests, test) in ap 
 pub data_are : (f : RawFrame) → (f.kind == data_kind) ≡ true
     → (glance_at f ≡ glance.Data f.stream (length f.payload) (has_flag f 1)) × (lent_of f ≡ content_of f)
 data_are f test = let kind : f.kind ≡ 0 = grind (arith, nat_tests, test) in (ap (glance_with f) kind, ap (lent_with f) kind)
+
+pub headers_are : (f : RawFrame) → (f.kind == headers_kind) ≡ true
+    → glance_at f ≡ glance.Headers f.stream (has_flag f 1) (has_flag f 4)
+headers_are f test = let kind : f.kind ≡ 1 = grind (arith, nat_tests, test) in ap (glance_with f) kind
+
+pub reset_is : (f : RawFrame) → (f.kind == rst_stream_kind) ≡ true → glance_at f ≡ glance.Reset f.stream (four_at f.payload 0)
+reset_is f test = let kind : f.kind ≡ 3 = grind (arith, nat_tests, test) in ap (glance_with f) kind
 
 -- a test that fails of what a frame of each type is glanced at fails of all frames
 module _ (q : Glance → Bool) where

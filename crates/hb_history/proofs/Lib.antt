@@ -32,6 +32,7 @@ pub mod Granted
 pub mod Grants
 pub mod Handed
 pub mod Handled
+pub mod Heard
 pub mod Initial
 pub mod Kept
 pub mod Lasting

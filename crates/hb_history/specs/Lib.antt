@@ -4,6 +4,7 @@ pub mod Calls
 pub mod CatchUp
 pub mod CreditExamples
 pub mod Fits
+pub mod Heard
 pub mod History
 pub mod Live
 pub mod OwnCredits

@@ -13,6 +13,7 @@ ghost use Rattle.hb_history.specs.Fits.{DataFits, DataFitsEverywhere};
 ghost use Rattle.hb_history.specs.Answered.{AnswersAreThose, PingsAreEchoed};
 ghost use Rattle.hb_history.specs.OwnFrames.{OwnFrames};
 ghost use Rattle.hb_history.specs.OwnCredits.{OwnCredits};
+ghost use Rattle.hb_history.specs.Heard.{FramesAreHeard, NoneEndedIt};
 ghost use Rattle.hb_history.specs.CreditExamples.{NoneIsTooFew, OnAnotherIsTooFew, MoreIsTooMuch, AllIsEnough, LessMayWait};
 ghost use Rattle.hb_history.specs.OwnExamples.{NoMoreHeaders, NoEnd, NoOtherStream, NoReset, NoEndAtOnce, NoGoodbye, NoGoodbyeOfStream, NothingBehind, GoodFrames};
 
@@ -149,6 +150,14 @@ pub fn own_frames_may_go()
 /// a frame, unless the peer ended the stream (RFC 9113 section 6.9).
 pub fn own_credits_go()
     ensures { OwnCredits }
+{}
+
+/// As long as the stream of such a client goes on, and its peer hasn't ended it, something is told of each RST_STREAM, DATA and
+/// whole HEADERS of the stream; and none of these that came is RST_STREAM or has END_STREAM (RFC 9113 sections 5.1, 6.1, 6.2
+/// and 6.4).
+pub fn ends_are_heard()
+    ensures heard { FramesAreHeard }
+    ensures unended { NoneEndedIt }
 {}
 
 /// 32,768 octets that came and aren't granted again are too many, also where as many are granted elsewhere; and no more is

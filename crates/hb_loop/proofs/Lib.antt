@@ -11,5 +11,6 @@ pub mod Trying
 pub mod Waiting
 pub mod Turning
 pub mod Refusing
+pub mod Hearing
 pub mod RefusedTraces
 pub mod GoodRun

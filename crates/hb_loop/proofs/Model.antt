@@ -27,6 +27,7 @@ use Rattle.hb_model.specs.Frames.{FrameLaw}
 use Rattle.hb_model.specs.Messages.{MessagesLaw}
 use Rattle.hb_model.specs.Requests.{RequestLaw}
 use Rattle.hb_model.proofs.Places.{at_fronts}
+use Rattle.hb_model.proofs.Heard.{hear_all}
 use Rattle.hb_model.proofs.Inner.{obey_inner, look_at_all}
 use Rattle.hb_model.proofs.MessagesRun.{obey_messages}
 use Rattle.hb_model.proofs.MessagesAtOnce.{applied_at_once}
@@ -197,6 +198,7 @@ lawful_run g m points trace stands settled is = record {
   dials = subst (DialLaw g) is (dials_when_due g m points stands);
   inner = obey_inner g m points stands;
   looked = look_at_all g m points stands;
+  heard = hear_all g m points stands;
   ends = ends_are_first g m points stands;
   messages = at_fronts g MessagesLaw (obey_messages g) m points stands;
   at_once = applied_at_once g m points stands;

@@ -6,14 +6,6 @@ use Rattle.std.proofs.lemmas.List.Concat.{flat_map-append}
 use Rattle.std.proofs.lemmas.List.Folds.{list_any-append}
 use Rattle.hb_base.specs.declared.cause.Cause.{Cause}
 use Rattle.hb_base.specs.declared.cause.Cause.TheVariants as cause
-use Rattle.hb_conn.specs.Connection.{core_of}
-use Rattle.hb_conn.specs.Faults.{faulted}
-use Rattle.hb_conn.specs.Handling.{HandlesBy}
-use Rattle.hb_conn.specs.Places.{is_misplaced}
-use Rattle.hb_conn.specs.declared.found.Found.TheVariants.{Silent}
-use Rattle.hb_conn.specs.declared.glance.Glance.TheVariants.{GoAway}
-use Rattle.hb_conn.specs.declared.machine.Core.{Core}
-use Rattle.hb_frames.specs.Bodies.{lent_of}
 use Rattle.hb_frames.specs.Frames.{AreFrames}
 use Rattle.hb_frames.specs.RawFrame.{RawFrame, Spells}
 use Rattle.hb_history.specs.Points as history
@@ -23,12 +15,12 @@ use Rattle.hb_world.specs.declared.entry.Entry.TheVariants as e
 use Rattle.hb_world.specs.declared.entry.Way.TheVariants as way
 use Rattle.hb_model.specs.declared.config.NodeConfig.{NodeConfig}
 use Rattle.hb_model.specs.Calls.{is_control_of, is_opened_of}
-use Rattle.hb_model.specs.Point.{Point, entry, looked, applied, entries, moves, moves_in}
+use Rattle.hb_model.specs.Point.{Point, entry, applied, entries, moves, moves_in}
 use Rattle.hb_model.proofs.Places.{split}
 use Rattle.hb_loop.specs.Ends.{IsEndedBy, end_by}
 use Rattle.hb_loop.specs.declared.turns.ServeEnd.TheVariants as ends
 use Rattle.hb_loop.specs.Lawful.{Lawful}
-use Rattle.hb_loop.specs.Refused.{dials, fails, opens, waits, waits_tick, waits_stop, balks, settings_octets, NeverDials, DialsNoMore, DialsTwice, DialsAnother, ClosesHealthy, ClosesForAnother, KeepsEnded, KeepsBroken, goaway, HearsNoGoaway, LooksAtNothing, WritesNothing, AsksNothing, AppliesForged, ListensUnasked, AcceptsUnasked, ReadsUnopened, ReadsBehindEnd, ReadsBehindClose, WritesUnopened, FinishesOpened, WaitsPastTurns, LeavesOpen, ClosesForLack, StopsUnasked}
+use Rattle.hb_loop.specs.Refused.{dials, fails, opens, waits, waits_tick, waits_stop, balks, settings_octets, NeverDials, DialsNoMore, DialsTwice, DialsAnother, ClosesHealthy, ClosesForAnother, KeepsEnded, KeepsBroken, LooksAtNothing, WritesNothing, AsksNothing, AppliesForged, ListensUnasked, AcceptsUnasked, ReadsUnopened, ReadsBehindEnd, ReadsBehindClose, WritesUnopened, FinishesOpened, WaitsPastTurns, LeavesOpen, ClosesForLack, StopsUnasked}
 use Rattle.hb_loop.specs.Settled.{IsSettled, asleep}
 use Rattle.hb_loop.proofs.Refusing.{IsTold, brings_end, ended_stays, not_stopped, steps_at, no_stop_before, stop_is, unended}
 
@@ -87,21 +79,6 @@ keeps_ended g h = keeps g _ (dials g ∷ opens ∷ e.Ended 1 ∷ []) [] h refl r
 pub keeps_broken : KeepsBroken
 keeps_broken g h = keeps g _ (dials g ∷ e.Broke 1 ∷ []) [] h refl refl refl refl
 
--- whatever a connection is, it tells of a GOAWAY
-heard : (b : Bool) (c new : Core) (bytes : List ℕ) → HandlesBy b c (GoAway 0) bytes new Silent → ⊥
-unfolding faulted
-heard true c new bytes gives = absurd (let told = gives.1 in cc)
-heard false c new bytes gives = absurd (let told = gives.1 in cc)
-
-silent_goaway : (c new : Core) → history.After c (history.got goaway) new Silent → ⊥
-silent_goaway c new looks = heard (is_misplaced c (GoAway 0)) c new (lent_of goaway) looks.1
-
-pub hears_no_goaway : HearsNoGoaway
-hears_no_goaway g trace l headers before after h are =
-    let step = steps_at g trace h before after (looked l (history.point (history.got goaway) Silent ∷ []) Silent headers) are in
-    let look = step.2.2 in
-    silent_goaway (core_of (step.0.links l).conn) look.runs.0 look.runs.1
-
 -- idleness
 
 empty_append : (xs ys : List RawFrame) → xs ++ ys ≡ [] → xs ≡ []
@@ -115,10 +92,10 @@ no_frames l points front rest are none =
     (sym (flat_map-append history.got_by (moves l front) (moves l rest))
     ∙ ap history.frames_got (sym (flat_map-append (moves_in l) front rest) ∙ ap (moves l) (sym are)) ∙ none)
 
-settings : RawFrame
+unfoldable pub settings : RawFrame
 settings = record { kind = 4; flags = 0; stream = 0; payload = [] }
 
-spells_settings : Spells settings settings_octets
+pub spells_settings : Spells settings settings_octets
 unfolding settings
 spells_settings = record {
   fits = record { kind = omega arith; flags = omega arith; stream = omega arith; size = omega arith };

@@ -228,10 +228,17 @@ comes g T h before after x are =
     at_entries g (Comes g) (λ m points y run may. record { machine = m; run = run; may = may }) h.machine h.points h.run before x after are
 
 -- at each point of its run a machine makes a step to another
+pub record Goes (g : NodeConfig) (before : List Point) (p : Point) : Type 0 where
+  pub machine : Machine
+  pub next : Machine
+  pub run : StandsFor g machine before
+  pub steps : Steps g machine p next
+
 pub steps_at : (g : NodeConfig) (T : List Entry) (h : Lawful g T) (before after : List Point) (p : Point)
-    → h.points ≡ before ++ p ∷ after → (m n : Machine) × Steps g m p n
+    → h.points ≡ before ++ p ∷ after → Goes g before p
 steps_at g T h before after p are =
-    at_points g (λ ps q. (m n : Machine) × Steps g m q n) (λ m n ps q run steps. (m, n, steps)) h.machine h.points h.run before p after are
+    at_points g (Goes g) (λ m n ps q run steps. record { machine = m; next = n; run = run; steps = steps }) h.machine h.points h.run
+    before p after are
 
 -- in front of a wait the run wasn't stopped
 pub not_stopped : (g : NodeConfig) (T : List Entry) (h : Lawful g T) (before after : List Point) (ready : _) (how : _)

@@ -9,7 +9,7 @@ use Rattle.hb_model.specs.Runs.{StandsFor}
 use Rattle.hb_model.specs.Calls.{CallsLaw, AtFronts}
 use Rattle.hb_model.specs.Dials.{DialLaw}
 use Rattle.hb_model.specs.Ends.{EndLaw}
-use Rattle.hb_model.specs.Inner.{InnerLaw, LookedAtLaw}
+use Rattle.hb_model.specs.Inner.{InnerLaw, LookedAtLaw, HeardLaw}
 use Rattle.hb_model.specs.Messages.{MessagesLaw, AppliedAtOnceLaw}
 use Rattle.hb_model.specs.Connections.{ConnectionLaw}
 use Rattle.hb_model.specs.Requests.{RequestLaw}
@@ -31,6 +31,7 @@ pub record Lawful (g : NodeConfig) (trace : List Entry) : Type 0 where
   pub ends : EndLaw points
   pub inner : InnerLaw points
   pub looked : LookedAtLaw points
+  pub heard : HeardLaw points
   pub messages : AtFronts MessagesLaw points
   pub at_once : AppliedAtOnceLaw points
   pub connections : AtFronts ConnectionLaw points

@@ -1,22 +1,26 @@
 -- Small traces that no run leaves, and one that a run does: what the laws refuse, and that they let work go on.
-use Rattle.std.specs.Prelude.{◌≡◌, ℕ, true, List, [], ◌∷◌, ◌++◌, None}
+use Rattle.std.specs.Prelude.{◌≡◌, ℕ, true, false, List, [], ◌∷◌, ◌++◌, Some, None}
 use Rattle.hb_base.specs.declared.cause.Cause.TheVariants as cause
 use Rattle.hb_base.specs.declared.door.Door.TheVariants as door
 use Rattle.hb_base.specs.declared.door.Why.TheVariants as whys
 use Rattle.hb_base.specs.declared.target.Target.{Target}
 use Rattle.hb_disco.specs.declared.response.Response.{Response}
+use Rattle.hb_world.specs.Trace.{recv, lives}
 use Rattle.hb_world.specs.declared.entry.Entry.{Entry}
 use Rattle.hb_world.specs.declared.entry.Entry.TheVariants as e
 use Rattle.hb_world.specs.declared.entry.ReadyItem.TheVariants as item
 use Rattle.hb_world.specs.declared.entry.Way.{Way}
 use Rattle.hb_world.specs.declared.entry.Way.TheVariants as way
 use Rattle.hb_world.specs.declared.entry.Woken.TheVariants as woken
-use Rattle.hb_conn.specs.declared.found.Found.TheVariants.{Silent}
+use Rattle.hb_conn.specs.declared.found.Found.TheVariants.{Silent, Opened}
 use Rattle.hb_frames.specs.RawFrame.{RawFrame}
+use Rattle.hb_history.specs.Points as history
 use Rattle.hb_history.specs.Points.{got, point, frames_got}
 use Rattle.hb_hpack.specs.declared.header.Header.{Header}
 use Rattle.hb_model.specs.declared.config.NodeConfig.{NodeConfig}
-use Rattle.hb_model.specs.Point.{Point, looked, applied, moves}
+use Rattle.hb_model.specs.Calls.{Was, is_opened_of, IsControl}
+use Rattle.hb_model.specs.Discovery.{status_of}
+use Rattle.hb_model.specs.Point.{Point, entry, looked, applied, entries, moves, tellings}
 use Rattle.hb_loop.specs.declared.turns.ServeEnd.{ServeEnd}
 use Rattle.hb_loop.specs.declared.turns.ServeEnd.TheVariants as ends
 use Rattle.hb_loop.specs.Lawful.{Lawful, IsServed}
@@ -98,14 +102,52 @@ AppliesForged =
     (g : NodeConfig) (l : ℕ) (r : Response) (before after : List Point) → (h : Lawful g (fails g ∷ waits ∷ []))
     → h.points ≡ before ++ applied l r ∷ after → ⊥
 
--- a GOAWAY that takes no stream is looked at, and nothing is told of it
-abbrev pub goaway : RawFrame
-goaway = record { kind = 7; flags = 0; stream = 0; payload = 0 ∷ 0 ∷ 0 ∷ 0 ∷ 0 ∷ 0 ∷ 0 ∷ 0 ∷ [] }
-
-abbrev pub HearsNoGoaway : Type 0
-HearsNoGoaway =
+-- a frame that ends a link is looked at, and nothing is told of it
+abbrev pub HearsNothingOf : RawFrame → Type 0
+HearsNothingOf f =
     (g : NodeConfig) (trace : List Entry) (l : ℕ) (headers : List Header) (before after : List Point) → (h : Lawful g trace)
-    → h.points ≡ before ++ looked l (point (got goaway) Silent ∷ []) Silent headers ∷ after → ⊥
+    → h.points ≡ before ++ looked l (point (got f) Silent ∷ []) Silent headers ∷ after → ⊥
+
+-- a GOAWAY that takes no stream, a RST_STREAM of the stream, HEADERS of it whose one header is `:status` with 404 (RFC 7541
+-- Appendix A), DATA and HEADERS of it with END_STREAM
+abbrev pub HearsNoGoaway : Type 0
+HearsNoGoaway = HearsNothingOf (record { kind = 7; flags = 0; stream = 0; payload = 0 ∷ 0 ∷ 0 ∷ 0 ∷ 0 ∷ 0 ∷ 0 ∷ 0 ∷ [] })
+
+abbrev pub HearsNoReset : Type 0
+HearsNoReset = (code : List ℕ) → HearsNothingOf (record { kind = 3; flags = 0; stream = 1; payload = code })
+
+abbrev pub HearsNoNotFound : Type 0
+HearsNoNotFound = HearsNothingOf (record { kind = 1; flags = 4; stream = 1; payload = 141 ∷ [] })
+
+abbrev pub HearsNoEnd : Type 0
+HearsNoEnd = (bytes : List ℕ) → HearsNothingOf (record { kind = 0; flags = 1; stream = 1; payload = bytes })
+
+abbrev pub HearsNoEndOfHeaders : Type 0
+HearsNoEndOfHeaders = (block : List ℕ) → HearsNothingOf (record { kind = 1; flags = 5; stream = 1; payload = block })
+
+-- SETTINGS came and these octets, and the link is kept over the next wait, whatever else the proxy did
+abbrev pub KeepsAfter : List ℕ → Type 0
+KeepsAfter octets =
+    (g : NodeConfig) (before after : List Entry) → Lawful g (before ++ waits ∷ after) → IsControl 1 before → lives 1 before ≡ true
+    → Was (is_opened_of 1) before → recv 1 before ≡ settings_octets ++ octets → ⊥
+
+-- a RST_STREAM of the stream, an empty DATA frame of it with END_STREAM, and HEADERS with END_STREAM and `:status` 200
+abbrev pub KeepsReset : Type 0
+KeepsReset = KeepsAfter (0 ∷ 0 ∷ 4 ∷ 3 ∷ 0 ∷ 0 ∷ 0 ∷ 0 ∷ 1 ∷ 0 ∷ 0 ∷ 0 ∷ 8 ∷ [])
+
+abbrev pub KeepsEndOfStream : Type 0
+KeepsEndOfStream = KeepsAfter (0 ∷ 0 ∷ 0 ∷ 0 ∷ 1 ∷ 0 ∷ 0 ∷ 0 ∷ 1 ∷ [])
+
+abbrev pub KeepsEndAtOnce : Type 0
+KeepsEndAtOnce = KeepsAfter (0 ∷ 0 ∷ 1 ∷ 1 ∷ 5 ∷ 0 ∷ 0 ∷ 0 ∷ 1 ∷ 136 ∷ [])
+
+-- the first that is told of a link are headers with a status 404, and it is kept over the next wait
+abbrev pub KeepsNotFound : Type 0
+KeepsNotFound =
+    (g : NodeConfig) (trace : List Entry) (l : ℕ) (looks : List history.Point) (headers : List Header) (before between after : List Point)
+    → (h : Lawful g trace)
+    → h.points ≡ before ++ looked l looks (Opened 1 false) headers ∷ (between ++ entry waits ∷ after) → tellings l before ≡ []
+    → status_of headers ≡ Some 404 → lives l (entries (before ++ looked l looks (Opened 1 false) headers ∷ between)) ≡ true → ⊥
 
 -- calls where none may be made: a listen at a door that nobody gave, an accept, a read before a link is open, behind its end and
 -- behind its close, a write before it is open, a finish of one that is open; none of them moves anything

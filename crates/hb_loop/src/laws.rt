@@ -1,7 +1,9 @@
 //! What the laws of a trace refuse: small wrong traces, and a good one. Each is the contract of a function that does nothing.
 
 ghost use Rattle.hb_loop.specs.Refused.{NeverDials, DialsNoMore, DialsTwice, DialsAnother, ClosesHealthy, ClosesForAnother, KeepsEnded};
-ghost use Rattle.hb_loop.specs.Refused.{KeepsBroken, HearsNoGoaway, LooksAtNothing, WritesNothing, AsksNothing, AppliesForged};
+ghost use Rattle.hb_loop.specs.Refused.{HearsNoGoaway, HearsNoReset, HearsNoNotFound, HearsNoEnd, HearsNoEndOfHeaders};
+ghost use Rattle.hb_loop.specs.Refused.{KeepsReset, KeepsEndOfStream, KeepsEndAtOnce, KeepsNotFound};
+ghost use Rattle.hb_loop.specs.Refused.{KeepsBroken, LooksAtNothing, WritesNothing, AsksNothing, AppliesForged};
 ghost use Rattle.hb_loop.specs.Refused.{ListensUnasked, AcceptsUnasked, ReadsUnopened, ReadsBehindEnd, ReadsBehindClose, WritesUnopened};
 ghost use Rattle.hb_loop.specs.Refused.{FinishesOpened, WaitsPastTurns, LeavesOpen, ClosesForLack, StopsUnasked, GoodRunIsServed};
 
@@ -14,14 +16,26 @@ pub fn dials_are_refused()
     ensures another { DialsAnother }
 {}
 
-/// Nor one in which a healthy link is closed, or one that ended or broke is kept; nor one in which a GOAWAY is looked at and
-/// nothing told of it.
+/// Nor one in which a healthy link is closed, or one that ended or broke is kept.
 pub fn closes_are_refused()
     ensures healthy { ClosesHealthy }
     ensures for_another { ClosesForAnother }
     ensures ended { KeepsEnded }
     ensures broken { KeepsBroken }
+{}
+
+/// Nor one in which a frame that ends a link is looked at and nothing is told of it: a GOAWAY that takes no stream, a RST_STREAM,
+/// HEADERS with status 404, END_STREAM. Nor one in which a link that such a frame ended is kept over the next wait.
+pub fn deafness_is_refused()
     ensures goaway { HearsNoGoaway }
+    ensures reset { HearsNoReset }
+    ensures not_found { HearsNoNotFound }
+    ensures end { HearsNoEnd }
+    ensures end_of_headers { HearsNoEndOfHeaders }
+    ensures keeps_reset { KeepsReset }
+    ensures keeps_end { KeepsEndOfStream }
+    ensures keeps_end_at_once { KeepsEndAtOnce }
+    ensures keeps_not_found { KeepsNotFound }
 {}
 
 /// Nor one in which bytes that came aren't looked at, what is owed isn't written, a link isn't asked whether it is open, or a

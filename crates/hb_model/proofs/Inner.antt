@@ -13,7 +13,7 @@ use Rattle.hb_model.specs.Point.{Point, entry, looked, applied, refused, used, p
 use Rattle.hb_model.specs.Calls.{Was, is_opened_of}
 use Rattle.hb_model.specs.Inner.{GoesOn, is_stop, InnerMayStand, IsLookedAt, AllLookedAt}
 use Rattle.hb_model.specs.Laws.{RunsObeyInner, RunsLookAtAll}
-use Rattle.hb_model.specs.Runs.{Steps, StandsFor, begins, goes_on, IsQuiet, IsCalmBy}
+use Rattle.hb_model.specs.Runs.{Steps, StandsFor, begins, goes_on, IsCalm, IsQuiet, IsCalmBy}
 use Rattle.hb_model.proofs.AtOnce.{OfEach, at_once}
 use Rattle.hb_model.proofs.Births.{plain}
 use Rattle.hb_model.proofs.Places.{at_points, at_entries}
@@ -68,31 +68,35 @@ pub obey_inner : RunsObeyInner
 obey_inner g m points stands =
     at_points g InnerMayStand (λ k n before p runs steps. inner_stands g k n before p runs steps) m points stands
 
--- all that came on a link is looked at while all is quiet
-looked_at : (g : NodeConfig) (m : Machine) (points : List Point) → StandsFor g m points → IsQuiet m
-    → OfEach points (λ l. Was (is_opened_of l) (entries points) → IsLookedAt points l)
+-- while all is quiet a link that lives, is open and hasn't ended is live, and nothing more happens on it by itself
+pub calm_at : (g : NodeConfig) (m : Machine) (points : List Point) → StandsFor g m points → IsQuiet m
+    → OfEach points (λ l. Was (is_opened_of l) (entries points) → ((m.links l).phase ≡ live) × IsCalm (m.links l))
 unfolding Fits
-looked_at g m points stands quiet l control living none was =
+calm_at g m points stands quiet l control living none was =
     by (m.links l).phase refl (seen l points) ((lived g m points stands).fits l) living was
   where
     by : (phase : Phase) → (m.links l).phase ≡ phase → (s : Said) → Fits phase s → (s.born && not s.closed) ≡ true
-        → s.opened ≡ true → IsLookedAt points l
+        → s.opened ≡ true → ((m.links l).phase ≡ live) × IsCalm (m.links l)
     by unborn is s fits living was = absurd (let gone : s.opened ≡ false = rw fits refl in both_ways _ gone was)
     by dialling is s fits living was = absurd (let gone : s.opened ≡ false = rw fits refl in both_ways _ gone was)
-    by live is s fits living was =
-        let calm = subst (λ (p : Phase). IsCalmBy p (m.links l)) is (quiet.calm l) in
-        let conn = (m.links l).conn in
-        record {
-          held = octets_held conn;
-          came = record {
-            joined = (all_one g m points stands l).stands.came.frames_are;
-            partial = held_partial conn calm.looked_at.1;
-          };
-        }
+    by live is s fits living was = (is, subst (λ (p : Phase). IsCalmBy p (m.links l)) is (quiet.calm l))
     by (faulted code) is s fits living was = absurd (subst (λ (p : Phase). IsCalmBy p (m.links l)) is (quiet.calm l))
     by (ending why) is s fits living was = absurd (subst (λ (p : Phase). IsCalmBy p (m.links l)) is (quiet.calm l))
     by closed is s fits living was =
         absurd (let gone : (s.born && not s.closed) ≡ false = rw fits (and-false s.born) in both_ways _ gone living)
+
+-- then all that came on it is looked at
+looked_at : (g : NodeConfig) (m : Machine) (points : List Point) → StandsFor g m points → IsQuiet m
+    → OfEach points (λ l. Was (is_opened_of l) (entries points) → IsLookedAt points l)
+looked_at g m points stands quiet l control living none was =
+    let conn = (m.links l).conn in
+    record {
+      held = octets_held conn;
+      came = record {
+        joined = (all_one g m points stands l).stands.came.frames_are;
+        partial = held_partial conn (calm_at g m points stands quiet l control living none was).1.looked_at.1;
+      };
+    }
 
 pub look_at_all : RunsLookAtAll
 look_at_all g m points stands =

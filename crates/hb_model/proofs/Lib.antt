@@ -23,5 +23,6 @@ pub mod Inner
 pub mod RequestsRun
 pub mod SendingRun
 pub mod CreditsRun
+pub mod Heard
 pub mod AllPut
 pub mod WindowsFit

@@ -1,7 +1,8 @@
--- What the proxy looks at and does by itself between two entries, and that it looks at all that came.
+-- What the proxy looks at and does by itself between two entries, and that it looks at all that came and hears what ends a link.
 use Rattle.std.specs.Prelude.{⊤, ◌≡◌, ℕ, Bool, true, false, List, None}
 use Rattle.std.specs.List.{list_any}
 use Rattle.hb_frames.specs.Frames.{AreFrames}
+use Rattle.hb_history.specs.Heard.{ends_stream}
 use Rattle.hb_history.specs.Points.{frames_got}
 use Rattle.hb_world.specs.Trace.{recv, lives}
 use Rattle.hb_world.specs.declared.entry.Entry.{Entry}
@@ -46,3 +47,12 @@ AllLookedAt before e =
 
 abbrev pub LookedAtLaw : List Point → Type 0
 LookedAtLaw points = AtEntry AllLookedAt points
+
+-- no frame that came on a link ended its stream: of each that does it is told
+abbrev pub AllHeard : List Point → Entry → Type 0
+AllHeard before e =
+    (l : ℕ) → IsControl l (entries before) → lives l (entries before) ≡ true → end_of l before ≡ None
+    → Was (is_opened_of l) (entries before) → list_any ends_stream (frames_got (moves l before)) ≡ false
+
+abbrev pub HeardLaw : List Point → Type 0
+HeardLaw points = AtEntry AllHeard points

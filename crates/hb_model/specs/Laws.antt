@@ -14,7 +14,7 @@ use Rattle.hb_model.specs.Connections.{ConnectionLaw}
 use Rattle.hb_model.specs.Windows.{WindowLaw}
 use Rattle.hb_model.specs.Requests.{RequestLaw}
 use Rattle.hb_model.specs.Messages.{held, MessagesLaw, AppliedAtOnceLaw}
-use Rattle.hb_model.specs.Inner.{InnerLaw, LookedAtLaw}
+use Rattle.hb_model.specs.Inner.{InnerLaw, LookedAtLaw, HeardLaw}
 use Rattle.hb_model.specs.Frames.{FrameLaw}
 
 -- the calls on links are in order
@@ -64,6 +64,10 @@ RunsObeyInner = (g : NodeConfig) (m : Machine) (points : List Point) → StandsF
 -- at each entry all that came is looked at
 abbrev pub RunsLookAtAll : Type 0
 RunsLookAtAll = (g : NodeConfig) (m : Machine) (points : List Point) → StandsFor g m points → LookedAtLaw points
+
+-- and no frame that came ended the stream of a link that goes on
+abbrev pub RunsHearAll : Type 0
+RunsHearAll = (g : NodeConfig) (m : Machine) (points : List Point) → StandsFor g m points → HeardLaw points
 
 -- where nothing waits to be written on a link that lives, and nothing more happens on it by itself, all is put
 abbrev pub RunsPutAll : Type 0

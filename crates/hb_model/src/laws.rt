@@ -1,7 +1,7 @@
 //! Laws over every run of the machine. Each is the contract of a function that does nothing.
 
 ghost use Rattle.hb_model.specs.Laws.{RunsObeyCalls, RunsObeyDials, RunsObeyEnds, RunsHold, RunsObeyMessages, RunsApplyAtOnce, RunsObeyConnections, RunsObeyRequests};
-ghost use Rattle.hb_model.specs.Laws.{RunsObeyWindows, RunsPutAll, RunsObeyInner, RunsLookAtAll, RunsSendOwnFrames};
+ghost use Rattle.hb_model.specs.Laws.{RunsObeyWindows, RunsPutAll, RunsObeyInner, RunsLookAtAll, RunsHearAll, RunsSendOwnFrames};
 
 /// The calls on each link stand in order: it is dialled and opened once, then read up to its end and written, and closed once.
 pub fn calls_are_in_order()
@@ -28,10 +28,11 @@ pub fn messages_are_applied()
 {}
 
 /// Nothing is looked at, applied, refused, used up or put on a link but while it is open and goes on; and at each entry every
-/// whole frame that came on a link that goes on is among the frames looked at.
+/// whole frame that came on a link that goes on is among the frames looked at, and none of them ended its stream.
 pub fn all_is_looked_at()
     ensures inner { RunsObeyInner }
     ensures looked { RunsLookAtAll }
+    ensures heard { RunsHearAll }
 {}
 
 /// The connection of each link stands for the link's moves, the bytes that came on it and those that went.
