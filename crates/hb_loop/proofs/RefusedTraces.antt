@@ -1,5 +1,5 @@
 -- Small wrong traces are refused.
-use Rattle.std.proofs.Common.{◌≡◌, ℕ, ◌≤◌, Bool, true, false, ◌||◌, List, [], ◌∷◌, ◌++◌, Some, None, refl, ap, sym, ◌∙◌, subst, ⊎_elim, arith}
+use Rattle.std.proofs.Common.{◌≡◌, ℕ, ◌≤◌, Bool, true, ◌||◌, List, [], ◌∷◌, ◌++◌, Some, None, refl, ap, sym, ◌∙◌, subst, ⊎_elim, arith}
 use Rattle.std.specs.List.{list_any}
 use Rattle.std.proofs.lemmas.Bool.{false≢true}
 use Rattle.std.proofs.lemmas.List.Concat.{flat_map-append}
@@ -22,7 +22,7 @@ use Rattle.hb_loop.specs.declared.turns.ServeEnd.TheVariants as ends
 use Rattle.hb_loop.specs.Lawful.{Lawful}
 use Rattle.hb_loop.specs.Refused.{dials, fails, opens, waits, waits_tick, waits_stop, balks, settings_octets, NeverDials, DialsNoMore, DialsTwice, DialsAnother, ClosesHealthy, ClosesForAnother, KeepsEnded, KeepsBroken, LooksAtNothing, WritesNothing, AsksNothing, AppliesForged, ListensUnasked, AcceptsUnasked, ReadsUnopened, ReadsBehindEnd, ReadsBehindClose, WritesUnopened, FinishesOpened, WaitsPastTurns, LeavesOpen, ClosesForLack, StopsUnasked}
 use Rattle.hb_loop.specs.Settled.{IsSettled, asleep}
-use Rattle.hb_loop.proofs.Refusing.{IsTold, brings_end, ended_stays, not_stopped, steps_at, no_stop_before, stop_is, unended}
+use Rattle.hb_loop.proofs.Refusing.{IsTold, brings_end, ended_stays, not_stopped, no_stop_before, stop_is, unended}
 
 -- dials
 
