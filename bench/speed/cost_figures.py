@@ -4,8 +4,8 @@ on the same octets. Ends with status 1 where a row costs more than its goal, or 
 
 usage: bench/speed/cost_figures.py PROGRAM NGHTTP2
 
-Each program is run with the names of two files and a word, and prints how many octets of the second it took. A figure is
-the difference of two runs: with the second file's octets, and without. Copies are made by vectors: the C library's other
+Each program is run with the names of two files, a word and a number, and prints how many octets of the second it took. A
+figure is the difference of two runs: with the second file's octets, and without. Copies are made by vectors: the C library's other
 way is one instruction, which is counted once for each octet.
 """
 import os
@@ -42,6 +42,11 @@ def opened(streams):
 
 def filled(frames):
     return frame(PING, 0, 0, bytes(8)) * frames
+
+
+def mixed(streams, frames):
+    """Streams, and frames behind each."""
+    return b"".join(frame(HEADERS, END_HEADERS, 2 * n + 1, GET) + filled(frames) for n in range(streams))
 
 
 def again(piece, size=MEGABYTE):
@@ -90,7 +95,15 @@ UPDATE = frame(WINDOW_UPDATE, 0, 0, word(1))
 UPDATE_ONE = frame(WINDOW_UPDATE, 0, 199, word(1))
 OVERFLOW = frame(WINDOW_UPDATE, 0, 1, word(2_147_483_647))
 CLOSED = frame(RST_STREAM, 0, 1, word(8))
-# what is measured, the octets in front, the octets, whether the peer reads, how many times nghttp2's figure at most
+
+
+def resets(streams):
+    return b"".join(frame(RST_STREAM, 0, 2 * n + 1, word(8)) for n in range(streams))
+
+
+NONE = 4_294_967_295
+# what is measured, the octets in front, the octets, whether the peer reads, how many times nghttp2's figure at most, and
+# the first stream that is answered with a status and ended as soon as it opens, where any is
 ROWS = [
     ("SETTINGS of 2,730 initial sizes, 100 streams", opened(100), again(PAIRS), True, 10),
     ("the same size again, 100 streams", opened(100), again(SAME), True, 10),
@@ -111,6 +124,14 @@ ROWS = [
     ("PRIORITY", b"", again(frame(PRIORITY, 0, 1, bytes([0, 0, 0, 3, 16]))), True, 3),
     ("CONTINUATION", b"", numbered(continued, 1), True, 3),
     ("indexes of a large entry", entry(1), numbered(bomb, 3), True, 3),
+    ("HEADERS and RST_STREAM of streams that were ended", b"", numbered(reset, 1), True, 3, 1),
+    ("the same, 99 streams", opened(99), numbered(reset, 199), True, 3, 199),
+    ("99 resets, an END_STREAM of the 100th waits", opened(100) + filled(1_820), resets(99), False, 5, 199),
+    ("99 resets, an END_STREAM of the 100th waits behind", filled(1_820) + opened(100), resets(99), False, 5, 199),
+    # each takes back a frame that this end put, and there are no more such resets than such frames
+    ("100 resets, an END_STREAM of each waits in front", opened(100) + filled(1_700), resets(100), False, 30, 1),
+    ("100 resets, an END_STREAM of each waits behind", filled(1_700) + opened(100), resets(100), False, 15, 1),
+    ("100 resets, an END_STREAM of each among PINGs", mixed(100, 17), resets(100), False, 100, 1),
 ]
 
 
@@ -124,27 +145,28 @@ def instructions(folder, program, words):
     return total, int(done.stdout.split()[0])
 
 
-def cost(folder, program, setup, octets, reads):
+def cost(folder, program, setup, octets, reads, answered):
     (folder / "setup").write_bytes(PREFACE + frame(SETTINGS, 0, 0) + setup)
     (folder / "octets").write_bytes(octets)
-    word = "read" if reads else "stalled"
-    alone, _ = instructions(folder, program, [word, "alone"])
-    total, taken = instructions(folder, program, [word])
+    words = ["read" if reads else "stalled", str(answered)]
+    alone, _ = instructions(folder, program, words + ["alone"])
+    total, taken = instructions(folder, program, words)
     return total - alone, taken
 
 
 def main():
     missed = False
-    print(f"{'':50} {'ours':>9} {'nghttp2':>9}   millions of instructions for 1 MB")
+    print(f"{'':50} {'ours':>9} {'nghttp2':>9}   millions of instructions for 1 MB, or for the resets")
     with tempfile.TemporaryDirectory() as name:
         folder = Path(name)
-        for what, setup, octets, reads, most in ROWS:
-            ours, taken = cost(folder, sys.argv[1], setup, octets, reads)
-            theirs, theirs_taken = cost(folder, sys.argv[2], setup, octets, reads)
+        for what, setup, octets, reads, most, *answered in ROWS:
+            way = (setup, octets, reads, *(answered or [NONE]))
+            ours, taken = cost(folder, sys.argv[1], *way)
+            theirs, theirs_taken = cost(folder, sys.argv[2], *way)
             much = ours > most * theirs
             missed = missed or much or taken < len(octets)
             print(
-                f"{what:50} {ours / 1e6:9,.1f} {theirs / 1e6:9,.1f}   {ours / theirs:.2f} times, at most {most}"
+                f"{what:50} {ours / 1e6:9,.2f} {theirs / 1e6:9,.2f}   {ours / theirs:.2f} times, at most {most}"
                 + (" MORE THAN THAT" if much else "")
                 + (f"; took {taken:,} of {len(octets):,}" if taken < len(octets) else "")
                 + (f"; nghttp2 took {theirs_taken:,}" if theirs_taken < len(octets) else ""),

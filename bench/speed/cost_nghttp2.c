@@ -5,6 +5,7 @@
 #include <string.h>
 
 static int open_streams;
+static unsigned long answered;
 
 static void check(int64_t result) {
     if (result < 0) {
@@ -31,6 +32,22 @@ static int on_close(nghttp2_session *s, int32_t stream, uint32_t code, void *use
     return 0;
 }
 
+static ssize_t nothing(nghttp2_session *s, int32_t stream, uint8_t *out, size_t n, uint32_t *flags, nghttp2_data_source *from,
+                       void *user) {
+    (void)s, (void)stream, (void)out, (void)n, (void)from, (void)user;
+    *flags |= NGHTTP2_DATA_FLAG_EOF;
+    return 0;
+}
+
+static int on_frame(nghttp2_session *s, const nghttp2_frame *f, void *user) {
+    (void)user;
+    if (f->hd.type != NGHTTP2_HEADERS || (unsigned long)f->hd.stream_id < answered) return 0;
+    nghttp2_nv status = {(uint8_t *)":status", (uint8_t *)"200", 7, 3, NGHTTP2_NV_FLAG_NONE};
+    nghttp2_data_provider end = {{0}, nothing};
+    check(nghttp2_submit_response(s, f->hd.stream_id, &status, 1, &end));
+    return 0;
+}
+
 static nghttp2_session *server(void) {
     nghttp2_session_callbacks *c;
     nghttp2_option *o;
@@ -38,6 +55,7 @@ static nghttp2_session *server(void) {
     check(nghttp2_session_callbacks_new(&c));
     nghttp2_session_callbacks_set_on_data_chunk_recv_callback(c, on_chunk);
     nghttp2_session_callbacks_set_on_begin_headers_callback(c, on_begin);
+    nghttp2_session_callbacks_set_on_frame_recv_callback(c, on_frame);
     nghttp2_session_callbacks_set_on_stream_close_callback(c, on_close);
     check(nghttp2_option_new(&o));
     nghttp2_option_set_no_auto_window_update(o, 1);
@@ -88,12 +106,13 @@ static uint8_t *all(const char *name, size_t *size) {
 
 int main(int argc, char **argv) {
     size_t first, second;
-    if (argc < 4) return 1;
+    if (argc < 5) return 1;
     uint8_t *setup = all(argv[1], &first), *octets = all(argv[2], &second);
     int reads = !strcmp(argv[3], "read");
+    answered = strtoul(argv[4], NULL, 10);
     nghttp2_session *s = server();
     feed(s, setup, first, reads);
-    size_t taken = argc > 4 ? 0 : feed(s, octets, second, reads);
+    size_t taken = argc > 5 ? 0 : feed(s, octets, second, reads);
     printf("%zu\t%d\n", taken, open_streams);
     return 0;
 }

@@ -35,6 +35,45 @@ fn many_frames_wait(rt: HostRuntime) {
     assert!(rt; outgoing.is_empty());
 }
 
+/// The empty DATA frame that ends stream 2 n + 1.
+fn put_end(outgoing: &mut Outgoing, n: u32) {
+    if outgoing.room() >= 9 && n < 1_000 {
+        outgoing.put_frame(0, 1, 2 * n + 1, &[]);
+    }
+}
+
+/// Of 400 streams that end behind an acknowledgement each, the first half lies in front of 1,800 more of these. All are
+/// reset, the lowest first; the first end was written, and none of the streams in between has any.
+#[test]
+fn many_ends_are_taken_back(rt: HostRuntime) {
+    let mut outgoing = Outgoing::new(rt.alloc()).expect(&rt, "memory");
+    for n in 0..200 {
+        put(&rt, &mut outgoing, ACKNOWLEDGED);
+        put_end(&mut outgoing, 2 * n);
+    }
+    for _ in 0..1_800 {
+        put(&rt, &mut outgoing, ACKNOWLEDGED);
+    }
+    for n in 200..400 {
+        put(&rt, &mut outgoing, ACKNOWLEDGED);
+        put_end(&mut outgoing, 2 * n);
+    }
+    assert_last(&rt, &outgoing, 2_600 * 9, 61);
+    wrote(&rt, &mut outgoing, 19);
+    for n in 0..400 {
+        let stream = 4 * n + 1;
+        let before = outgoing.front().len();
+        assert!(rt; outgoing.end_waits(stream) == (n > 0));
+        assert!(rt; outgoing.take_back(stream) == 0);
+        let gone = if n > 0 { 9 } else { 0 };
+        assert!(rt; outgoing.front().len() + gone == before);
+        assert!(rt; !outgoing.end_waits(stream));
+        assert!(rt; outgoing.take_back(stream + 2) == 0);
+        assert!(rt; outgoing.front().len() + gone == before);
+    }
+    assert_last(&rt, &outgoing, 2_198 * 9 + 8, 0);
+}
+
 /// Two DATA frames of 16,384 octets fill it to the last octet, also once others were written.
 #[test]
 fn the_last_octet_is_put(rt: HostRuntime) {
