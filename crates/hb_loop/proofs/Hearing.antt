@@ -6,7 +6,6 @@ use Rattle.std.proofs.lemmas.List.{append-nil, append_assoc}
 use Rattle.std.proofs.lemmas.List.Concat.{flat_map-append}
 use Rattle.std.proofs.lemmas.List.Folds.{list_any-append}
 use Rattle.hb_base.specs.declared.cause.Cause.{Cause}
-use Rattle.hb_conn.specs.Connection.{core_of}
 use Rattle.hb_conn.specs.Faults.{faulted}
 use Rattle.hb_conn.specs.Handling.{HandlesBy}
 use Rattle.hb_conn.specs.Places.{is_misplaced}
@@ -21,6 +20,7 @@ use Rattle.hb_hpack.specs.declared.header.Header.{Header}
 use Rattle.hb_history.specs.Calls.{in_list}
 use Rattle.hb_history.specs.Heard.{is_heard, ends_stream}
 use Rattle.hb_history.specs.Points as history
+use Rattle.hb_history.proofs.Connections.{of_core}
 use Rattle.hb_world.specs.Trace.{lives, recv}
 use Rattle.hb_model.specs.Calls.{is_control_of, is_opened_of}
 use Rattle.hb_model.specs.Discovery.{status_of, end_by_headers, answered_by}
@@ -38,12 +38,14 @@ unfolding faulted
 goaway_told true c new last bytes gives = absurd (let told = gives.1 in cc)
 goaway_told false c new last bytes gives = absurd (let told = gives.1 in cc)
 
+silent_goaway : (c new : Core) (bytes : List ℕ) → HandlesBy (is_misplaced c (GoAway 0)) c (GoAway 0) bytes new found.Silent → ⊥
+silent_goaway c new bytes handles = goaway_told (is_misplaced c (GoAway 0)) c new 0 bytes handles
+
 pub hears_no_goaway : HearsNoGoaway
 hears_no_goaway g trace l headers before after h are =
     let at = steps_at g trace h before after _ are in
-    let c = core_of (at.machine.links l).conn in
-    let look = at.steps.2.runs.1 in
-    goaway_told (is_misplaced c (GoAway 0)) c at.steps.2.runs.0 0 _ look.1
+    let look = at.steps.2.runs in
+    of_core silent_goaway (at.machine.links l).conn look.0 _ look.1.1
 
 -- while a stream goes on it tells of each frame of it
 hears : (f : RawFrame) → is_heard f ≡ true → HearsNothingOf f
