@@ -16,7 +16,7 @@ use Rattle.hb_conn.specs.Faults.{faulted as fault_of}
 use Rattle.hb_conn.specs.Glance.{glance_at, has_flag}
 use Rattle.hb_conn.specs.Handling.{HandlesBy, Handles}
 use Rattle.hb_conn.specs.Headers.{headers_answered, block_told, with_memory}
-use Rattle.hb_conn.specs.Numbers.{protocol_error, flow_control_error, data_kind, headers_kind, rst_stream_kind, end_stream_flag, end_headers_flag}
+use Rattle.hb_frames.specs.Numbers.{protocol_error, flow_control_error, data_kind, headers_kind, rst_stream_kind, end_stream_flag, end_headers_flag}
 use Rattle.hb_conn.specs.Outcome.{Outcome, Gives}
 use Rattle.hb_conn.specs.Resets.{reset_answered, on_reset}
 use Rattle.hb_conn.specs.declared.found.Found.{Found}

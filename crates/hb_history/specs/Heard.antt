@@ -1,12 +1,11 @@
 -- Of frames of a client's stream something is told, and of those that end it that it ended (RFC 9113 sections 5.1, 6.1, 6.2 and 6.4).
 use Rattle.std.specs.Prelude.{◌≡◌, ℕ, ◌==◌, ◌&&◌, ◌||◌, Bool, false, List, ◌∷◌, ◌++◌}
 use Rattle.std.specs.List.{list_any}
-use Rattle.hb_frames.specs.Numbers.{data_kind, headers_kind, rst_stream_kind}
+use Rattle.hb_frames.specs.Numbers.{data_kind, headers_kind, rst_stream_kind, end_stream_flag, end_headers_flag}
 use Rattle.hb_frames.specs.RawFrame.{RawFrame}
 use Rattle.hb_streams.specs.declared.role.Role.TheVariants.{Client}
 use Rattle.hb_conn.specs.Connection.{Connection}
 use Rattle.hb_conn.specs.Glance.{has_flag}
-use Rattle.hb_conn.specs.Numbers.{end_stream_flag, end_headers_flag}
 use Rattle.hb_conn.specs.declared.found.Found.{Found}
 use Rattle.hb_conn.specs.declared.found.Found.TheVariants.{Silent}
 use Rattle.hb_history.specs.History.{StandsFor, happenings}
