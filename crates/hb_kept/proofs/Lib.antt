@@ -1,6 +1,7 @@
 pub mod Acts
 pub mod All
 pub mod DataWaits
+pub mod Examples
 pub mod Handled
 pub mod Kept
 pub mod Looks

@@ -1,5 +1,6 @@
 pub mod Acts
 pub mod DataWaits
+pub mod Examples
 pub mod Kept
 pub mod Looks
 pub mod Opened

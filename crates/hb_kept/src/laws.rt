@@ -5,6 +5,8 @@ ghost use Rattle.hb_kept.specs.Looks.{FoundByLooks};
 ghost use Rattle.hb_kept.specs.Acts.{OpensKept, WritesKept, PutsKept, UsesKept, AnswersKept, EndsKept, ResetsKept};
 ghost use Rattle.hb_kept.specs.Shut.{WaitingShuts, FrameShuts, PutShuts, OpeningShuts, ResetShuts};
 ghost use Rattle.hb_kept.specs.Shut.{StayingStaysShut, PutStaysShut, UseStaysShut, AnswerStaysShut, EndStaysShut};
+ghost use Rattle.hb_kept.specs.Examples.{FaultedIsRefused, NoOctetIsRefused, FewHaveRoom, MoreIsRefused, NewIsShut};
+ghost use Rattle.hb_kept.specs.Examples.{WriteIsRefused, OpenIsRefused};
 ghost use Rattle.hb_kept.specs.Opened.{WaitsOnUsed, OpenedIsUnused, UsedIsRefused, OtherMayOpen};
 ghost use Rattle.hb_kept.specs.DataWaits.{WaitsWithinMore, WaitsWithout, FindsWithin, WritesWithin, OpensWithin, UsesWithin};
 ghost use Rattle.hb_kept.specs.Sides.{WriteLeavesAll, PutLeavesAll, UseLeavesAll, AnswerEndsSide, EndEndsSide, ResetEndsBoth};
@@ -107,4 +109,17 @@ pub fn acts_leave_sides()
 pub fn found_sides()
     ensures finds { FindsSides }
     ensures opened { OpenedIsOpen }
+{}
+
+/// A connection of which an error was told isn't kept, nor one that holds what is no octet. Of 640 octets of room 64 octets leave enough
+/// for all that they may need, and 65 don't. A write behind which DATA goes doesn't leave its stream shut, though a new connection is;
+/// and a stream with an open side didn't end on both.
+pub fn others_are_refused()
+    ensures fault { FaultedIsRefused }
+    ensures octet { NoOctetIsRefused }
+    ensures room { FewHaveRoom }
+    ensures more { MoreIsRefused }
+    ensures new { NewIsShut }
+    ensures write { WriteIsRefused }
+    ensures side { OpenIsRefused }
 {}
