@@ -7,7 +7,7 @@ top=$(cd "$(dirname "$0")/../.." && pwd)
 copy=$(mktemp -d)
 trap 'rm -rf "$copy"' EXIT
 crates="hb_base hb_wire hb_message hb_records hb_disco hb_grpc hb_held hb_hpack hb_frames hb_windows hb_map hb_streams hb_flow \
-    hb_outgoing hb_blocks hb_owed hb_conn hb_history hb_world hb_model hb_node"
+    hb_outgoing hb_blocks hb_owed hb_conn hb_history hb_kept hb_world hb_model hb_node"
 mkdir "$copy/crates"
 for crate in $crates; do
     cp -a "$top/crates/$crate" "$copy/crates/"

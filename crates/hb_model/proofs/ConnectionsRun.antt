@@ -269,7 +269,7 @@ module _ (g : NodeConfig) (m : Machine) (points : List Point) (unborn : AreUnbor
       (with_none k (moves k points ++ ps) (recv k (entries points)) (sent k (entries points)) (tellings k points ++ in_list told) steps.1
       (looks_add Client (moves k points) ps (tellings k points) (recv k (entries points)) (sent k (entries points))
       (m.links k).conn steps.1 told
-      (one k).stands look.finds look.looks look.runs look.frames look.tells)))
+      (one k).stands look.found.finds look.found.looks look.found.runs look.found.frames look.found.tells)))
       (λ l apart. passes_looked g l k ps told headers apart)
   point_one (applied k r) n steps =
       linked (applied k r) k n _ _ steps.3 (λ l. refl)

@@ -215,8 +215,8 @@ module _ (g : NodeConfig) (m : Machine) (points : List Point) (unborn : AreUnbor
             ∙ ap₂ (λ a b. a || b) old.0 (goes_unended x.answered read told goes),
         omega (
           arith,
-          looks_keep (kept (moves k points)) ps look.looks,
-          ap (λ (xs : List ℕ). length xs) look.hands_out,
+          looks_keep (kept (moves k points)) ps look.found.looks,
+          ap (λ (xs : List ℕ). length xs) look.found.hands_out,
           old.1,
           look.empty_handed.1,
         ),

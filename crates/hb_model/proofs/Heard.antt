@@ -68,7 +68,7 @@ silent_unheard g m n points l f headers stands steps =
     let p = looked l (history.point (history.got f) Silent ∷ []) Silent headers in
     let look = steps.2 in
     let c = (m.links l).conn in
-    let finds = subst (λ (b : Bool). FindsWhile b c steps.1 Silent) look.runs.1.0 look.finds in
+    let finds = subst (λ (b : Bool). FindsWhile b c steps.1 Silent) look.found.runs.1.0 look.found.finds in
     let more = goes_on stands p steps refl in
     let one = (all_one g n (points ++ p ∷ []) more l).stands in
     frames_are_heard (moves l (points ++ p ∷ [])) _ _ _ (n.links l).conn one (moves l points) [] f

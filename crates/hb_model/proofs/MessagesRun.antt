@@ -161,7 +161,7 @@ module _ (g : NodeConfig) (m : Machine) (points : List Point) (unborn : AreUnbor
       let x = m.links k in
       linked (looked k ps told headers) k n _ (on_found told steps.1 x) steps.4 (λ l. refl)
       (grown (looked k ps told headers) k x.framing (chunk_of steps.1 told) (chunk_of steps.1 told) []
-      (ap (flat_map data_in) (on_itself k ps) ∙ look.hands_out) refl
+      (ap (flat_map data_in) (on_itself k ps) ∙ look.found.hands_out) refl
       (subst (AreRead x.framing (chunk_of steps.1 told) (data_came k points ++ chunk_of steps.1 told))
       (sym (append-nil (responses k points)))
       (chunk_read x.framing (data_came k points) x.chunk (chunk_of steps.1 told) (responses k points) look.empty_handed.0 (read k))))

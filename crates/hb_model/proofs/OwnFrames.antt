@@ -278,10 +278,10 @@ module _ (g : NodeConfig) (m : Machine) (points : List Point) (unborn_are : AreU
       linked p k n _ (on_found told steps.1 x) steps.4 (λ l. refl)
       (grown p k (phase_by x.phase (end_by x.answered read told)) ps (on_itself k ps)
       (subst (Suits (phase_by x.phase (end_by x.answered read told)))
-      (sym (ap (λ (s : Stage). fold stage_after s ps) asking ∙ looks_stage ps look.looks))
+      (sym (ap (λ (s : Stage). fold stage_after s ps) asking ∙ looks_stage ps look.found.looks))
       (subst (λ (q : Phase). Suits q (told_stage (last_told ps))) (sym phase)
       (looked_by x.answered read told x.conn.ended steps.1.ended (last_told ps)
-      (ap (λ (ts : List Found). ends_in x.conn.ended ++ ts) (sym (looks_tell ps look.looks)) ∙ look.tells)))))
+      (ap (λ (ts : List Found). ends_in x.conn.ended ++ ts) (sym (looks_tell ps look.found.looks)) ∙ look.found.tells)))))
       (λ l apart. passes_looked g l k ps told headers apart)
   point_suits (applied k r) n steps =
       linked (applied k r) k n _ _ steps.3 (λ l. refl) (grown (applied k r) k (m.links k).phase [] refl (suited k))

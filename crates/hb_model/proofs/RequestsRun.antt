@@ -342,12 +342,12 @@ module _ (g : NodeConfig) (m : Machine) (points : List Point) (unborn : AreUnbor
       let why = end_by x.answered (headers_read new) told in
       linked p k n _ (on_found told new x) steps.4 (λ l. refl)
       (made p k (phase_by x.phase why) x.waiting new (asked k).begun [] [] refl refl
-      (runs_still p k ps new (on_itself k ps) (looks_lead ps x.conn new look.looks look.runs))
-      (shows_on k (outgoing new) (looks_leave ps x.conn new look.looks look.runs))
+      (runs_still p k ps new (on_itself k ps) (looks_lead ps x.conn new look.found.looks look.found.runs))
+      (shows_on k (outgoing new) (looks_leave ps x.conn new look.found.looks look.found.runs))
       (with_none k (asked k).begun x.waiting new
-      (looks_ask (asked k).begun (spelled (requests g k points)) x.waiting ps x.conn new look.looks look.runs
+      (looks_ask (asked k).begun (spelled (requests g k points)) x.waiting ps x.conn new look.found.looks look.found.runs
       (asks_of k (subst IsBorn (sym steps.0) tt))))
-      (look_over k told new why steps.0 (λ code is. ap (end_by x.answered (headers_read new)) is) look.finds))
+      (look_over k told new why steps.0 (λ code is. ap (end_by x.answered (headers_read new)) is) look.found.finds))
       (λ l apart. passes_looked g l k ps told headers apart)
   point_asked (applied k r) n steps =
       let p = applied k r in

@@ -114,7 +114,7 @@ module _ (g : NodeConfig) (m : Machine) (sends : AreSending m) where
   point_sends (looked k ps told headers) n steps =
       let x = m.links k in
       linked k n _ (on_found told steps.1 x) steps.4 (λ l. refl)
-      (λ going. finds_last stream x.conn steps.1 told steps.2.finds
+      (λ going. finds_last stream x.conn steps.1 told steps.2.found.finds
       (going_on x.answered (headers_read steps.1) told x.phase going) (sends k (subst IsGoing (sym steps.0) tt)))
   point_sends (applied k r) n steps =
       let x = m.links k in

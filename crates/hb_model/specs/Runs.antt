@@ -1,6 +1,5 @@
 -- Which points may come next, and what a run of the machine stands for.
-use Rattle.std.specs.Prelude.{⊤, ◌≡◌, ◌⊎◌, ℕ, ◌-◌, ◌/◌, ◌<◌, ◌≤◌, Bool, true, false, List, [], ◌∷◌, ◌++◌, length, min, Option, Some, None, Ok, Err}
-use Rattle.std.specs.List.{flat_map}
+use Rattle.std.specs.Prelude.{⊤, ◌≡◌, ◌⊎◌, ℕ, ◌<◌, ◌≤◌, Bool, true, false, List, [], ◌∷◌, ◌++◌, length, Option, Some, None, Ok, Err}
 use Rattle.hb_base.specs.declared.cause.Cause.{Cause}
 use Rattle.hb_base.specs.declared.cause.Cause.TheVariants as cause
 use Rattle.hb_base.specs.declared.door.Why.TheVariants as whys
@@ -9,14 +8,14 @@ use Rattle.hb_grpc.specs.declared.fault.GrpcFault.{GrpcFault}
 use Rattle.hb_disco.specs.Response.{response_of}
 use Rattle.hb_disco.specs.declared.response.Response.{Response}
 use Rattle.hb_disco.specs.declared.response.ResponseFault.{ResponseFault}
-use Rattle.hb_conn.specs.Connection.{Connection, Finds, space_of}
+use Rattle.hb_conn.specs.Connection.{Connection}
 use Rattle.hb_conn.specs.Observed as connection
-use Rattle.hb_conn.specs.Observed.{room, octets_held, IsLookedAt}
+use Rattle.hb_conn.specs.Observed.{IsLookedAt}
 use Rattle.hb_conn.specs.declared.found.Found.{Found}
-use Rattle.hb_frames.specs.Frames.{Joins, AreOctets}
+use Rattle.hb_frames.specs.Frames.{AreOctets}
 use Rattle.hb_history.specs.Points as history
-use Rattle.hb_history.specs.History.{Leads, happenings, ends_in}
-use Rattle.hb_history.specs.Calls.{in_list, AreLooks}
+use Rattle.hb_kept.specs.Kept as kept
+use Rattle.hb_kept.specs.Looks as looks
 use Rattle.hb_world.specs.declared.entry.Entry.{Entry}
 use Rattle.hb_world.specs.declared.entry.Entry.TheVariants as e
 use Rattle.hb_world.specs.declared.entry.Way.{Way}
@@ -24,14 +23,14 @@ use Rattle.hb_world.specs.declared.entry.Way.TheVariants as way
 use Rattle.hb_model.specs.declared.act.Act.{Act}
 use Rattle.hb_model.specs.declared.act.Act.TheVariants as act
 use Rattle.hb_model.specs.declared.config.NodeConfig.{NodeConfig}
-use Rattle.hb_model.specs.Discovery.{Discovery, Phase, dialling, live, faulted, ending, closing, put_requests, sendable, usable, chunk_of, on_found, headers_read, ends_for}
+use Rattle.hb_model.specs.Discovery.{Discovery, Phase, dialling, live, faulted, ending, closing, put_requests, sendable, usable, on_found, headers_read, ends_for}
 use Rattle.hb_model.specs.Machine.{Machine, fresh, entered, with_link, with_response, with_used, with_stop}
-use Rattle.hb_model.specs.Point.{Point, entry, looked, applied, refused, used, put, stopped, data_in}
+use Rattle.hb_model.specs.Point.{Point, entry, looked, applied, refused, used, put, stopped}
 
 -- how many bytes may be read: so many that every answer to them has room, with what is granted again of the DATA that they
 -- hand out, and that the connection takes
 abbrev pub wants_of : Discovery → ℕ
-wants_of x = min ((room x.conn - 320) / 5) (space_of x.conn)
+wants_of x = kept.wants_of x.conn
 
 abbrev pub wanted_by : Phase → Discovery → ℕ
 wanted_by live x = wants_of x
@@ -119,16 +118,7 @@ MayCome g m _ = ⊥
 -- frames of the link are looked at: what a connection finds next, and the points that lead to it
 pub record IsLook (x : Discovery) (points : List history.Point) (told : Found) (conn : Connection) : Type 0 where
   pub empty_handed : IsEmptyHanded x
-  pub finds : Finds x.conn conn told
-  -- these points are looks, of which the last alone tells anything, and lead to what the connection is then
-  pub looks : AreLooks points
-  pub runs : Leads x.conn points conn
-  -- they have the frames that were held and aren't any more
-  pub frames : Joins (history.frames_got points) (octets_held conn) (octets_held x.conn)
-  -- an end that was still to be told, and what they tell, are what is told, and an end that is still to be told
-  pub tells : ends_in x.conn.ended ++ happenings points ≡ in_list told ++ ends_in conn.ended
-  -- the octets of DATA that they hand out are those that the connection hands out
-  pub hands_out : flat_map data_in points ≡ chunk_of conn told
+  pub found : looks.IsLook x.conn points told conn
 
 -- the DATA in hand and what is held of a message make a message with n octets more, and it is a response
 pub record IsResponse (x : Discovery) (r : Response) (n : ℕ) : Type 0 where

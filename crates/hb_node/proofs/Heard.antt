@@ -1,5 +1,5 @@
 -- What is heard of a link's connection leads on.
-use Rattle.std.proofs.Common.{◌≡◌, ◌⊎◌, inl, inr, ℕ, ◌<◌, ◌||◌, not, Bool, true, false, List, [], ◌∷◌, length, min, Option, Some, None, refl, ap, ap₂, sym, ◌∙◌, subst, if◌then◌else◌, nat_lt, arith}
+use Rattle.std.proofs.Common.{◌≡◌, ℕ, ◌<◌, ◌||◌, not, Bool, true, false, List, [], ◌∷◌, length, min, Option, Some, None, refl, ap, ap₂, sym, ◌∙◌, subst, if◌then◌else◌, nat_lt, arith}
 use Rattle.std.proofs.lemmas.Bool.{false≢true}
 use Rattle.std.proofs.lemmas.Bool.Decides.{nat_tests}
 use Rattle.hb_base.specs.declared.cause.Cause.{Cause}
@@ -9,14 +9,17 @@ use Rattle.hb_held.specs.Held.{Resources}
 use Rattle.hb_hpack.specs.declared.header.Header.{Header}
 use Rattle.hb_hpack.specs.declared.header.HeaderList.{HeaderList}
 use Rattle.hb_conn.specs.Connection.{Connection, Finds, LeavesLess, left_of}
-use Rattle.hb_conn.specs.Observed.{is_over, data_told, creditable, IsLookedAt}
+use Rattle.hb_conn.specs.Observed.{data_told, creditable, IsLookedAt}
 use Rattle.hb_conn.specs.Outcome.{is_silent}
 use Rattle.hb_conn.specs.Loan.{Shows}
 use Rattle.hb_conn.specs.declared.found.Found.{Found}
 use Rattle.hb_conn.specs.declared.found.Found.TheVariants as found
 use Rattle.hb_conn.specs.declared.happening.Happening.{Happening}
 use Rattle.hb_conn.specs.declared.happening.Happening.TheVariants as happening
-use Rattle.hb_history.proofs.Steady.{not_over, credited_leaves}
+use Rattle.hb_history.proofs.Steady.{credited_leaves}
+use Rattle.hb_kept.specs.Kept as kept
+use Rattle.hb_kept.specs.Looks as looks
+use Rattle.hb_kept.proofs.Looks.{looks as found_by_looks}
 use Rattle.hb_model.specs.Discovery.{Discovery, Phase, live, faulted, ending, stream, status_of, is_accepted, end_by_headers, end_by, answered_by, phase_by, chunk_of, headers_read, on_found, credited, usable}
 use Rattle.hb_model.specs.Point.{looked}
 use Rattle.hb_node.specs.declared.inbox.Inbox.{Inbox}
@@ -28,8 +31,7 @@ use Rattle.hb_node.specs.Phases.{phase_of, is_live, end_for}
 use Rattle.hb_node.specs.Inbox.{TakesAll, HearsData, Hears, ends, heard_of, data_heard}
 use Rattle.hb_node.specs.Leads.{Leads, stays, goes}
 use Rattle.hb_node.specs.Links.{part_of, credited_by, used_up, settled, Agrees, Goes, Fares, FaresBy, FaresOn}
-use Rattle.hb_node.proofs.Looked.{Looked, look_of_next}
-use Rattle.hb_node.proofs.Kept.{look_fares, look_fares_plain, look_rests}
+use Rattle.hb_node.proofs.Looked.{link_looks}
 use Rattle.hb_node.proofs.Led.{leads_on, with_box, state, HasTaken, taken_leads, agrees_same}
 
 pub live_is : (s : Stage) → is_live s ≡ true → phase_of s ≡ live
@@ -104,27 +106,19 @@ module _ (held new_held : Resources) (k : Link) (c : Connection) (heard : Heard)
   x_lives : x.phase ≡ live
   x_lives = live_is k.phase lives
 
-  look_leads : (told : Found) → Looked x told c → Leads k.number (state held x) (state held (on_found told c x))
+  look_leads : (told : Found) → looks.Looked x.conn told c → Leads k.number (state held x) (state held (on_found told c x))
   look_leads told l =
-      goes (looked k.number l.points told (headers_read c)) x_lives (refl, c, l.look, refl, refl) (stays refl)
+      goes (looked k.number l.points told (headers_read c)) x_lives (refl, c, link_looks x c told (refl, refl) l, refl, refl) (stays refl)
 
-  -- where the link goes on no connection error was told
-  no_fault : (told : Found) → phase_by x.phase (end_by k.answered (headers_read c) told) ≡ live
-      → (is_over c ≡ false) ⊎ ((code : ℕ) × (told ≡ found.Fault code)) → is_over c ≡ false
-  no_fault told still (inl not) = not
-  no_fault told still (inr (code, is)) =
-      absurd (faulted_dead code (ap (λ f. phase_by x.phase (end_by k.answered (headers_read c) f)) (sym is) ∙ still))
-
-  goes_on : (told : Found) → Fares x → Finds k.conn c told → (on_found told c x).phase ≡ live → is_over c ≡ false
-  goes_on told fares finds still = no_fault told still (not_over k.conn c told fares.kept.goes_on finds)
-
-  chunk_goes_on : (s : ℕ) (end : Bool) → Fares x → Finds k.conn c (found.Chunk s end) → is_over c ≡ false
-  chunk_goes_on s end fares finds = no_fault (found.Chunk s end) x_lives (not_over k.conn c (found.Chunk s end) fares.kept.goes_on finds)
+  -- where the link goes on its connection fares on
+  fares_still : (told : Found) → looks.FaresBehind told c → (on_found told c x).phase ≡ live → kept.Fares c
+  fares_still (found.Fault code) fares still = absurd (faulted_dead code still)
+  fares_still told fares still = fares
 
   plain : (told : Found) → Finds k.conn c told → IsTold k.answered c told heard → new_held ≡ held → b ≡ k.inbox
       → Goes k.number held x new_held (part_of next)
   plain told finds t held_is box_is fares =
-      let l = look_of_next x c told (refl, refl) fares.kept.octets finds in
+      let l = found_by_looks x.conn c told fares finds in
       let y = on_found told c x in
       let is : y ≡ part_of next =
       same_part y next (ap (phase_by (phase_of k.phase)) (sym t.end) ∙ sym (phase_of_end k.phase heard.end))
@@ -137,7 +131,7 @@ module _ (held new_held : Resources) (k : Link) (c : Connection) (heard : Heard)
         leads = subst (λ (h : Resources). Leads k.number (state held x) (state h y)) (sym held_is) (look_leads told l);
         agrees = agrees_same y (part_of next) is;
         so = fares_by (end_by k.answered (headers_read c) told) y (ap (λ p. phase_by p (end_by k.answered (headers_read c) told)) x_lives)
-            (λ still. look_fares_plain x c told fares finds (goes_on told fares finds still) l.octets y refl);
+            (λ still. fares_still told l.fares still);
       }
 
   -- DATA
@@ -146,7 +140,7 @@ module _ (held new_held : Resources) (k : Link) (c : Connection) (heard : Heard)
       → TakesAll held k.inbox (byte ∷ bytes) whole new_held b → Goes k.number held x new_held (part_of next)
   data_whole s end true byte bytes data_is finds is takes fares =
       let told = found.Chunk s end in
-      let l = look_of_next x c told (refl, refl) fares.kept.octets finds in
+      let l = found_by_looks x.conn c told fares finds in
       let z = with_box k.inbox (byte ∷ bytes) (record x { conn = c; counted = length (byte ∷ bytes) }) in
       let there : on_found told c x ≡ z =
       ap (λ (xs : List ℕ). with_box k.inbox xs (record x { conn = c; counted = length xs })) (sym data_is) in
@@ -165,11 +159,11 @@ module _ (held new_held : Resources) (k : Link) (c : Connection) (heard : Heard)
         leads = leads_on k.number (state held x) (state held z) (state new_held y) first more;
         agrees = agrees_same y (part_of next) same;
         so = fares_by None y x_lives
-            (λ still. look_fares x c told fares finds (chunk_goes_on s end fares finds) (length (byte ∷ bytes)) l.octets y refl);
+            (λ still. l.uses stream (min (length (byte ∷ bytes)) (creditable c stream)) (omega arith));
       }
   data_whole s end false byte bytes data_is finds is takes fares =
       let told = found.Chunk s end in
-      let l = look_of_next x c told (refl, refl) fares.kept.octets finds in
+      let l = found_by_looks x.conn c told fares finds in
       let z = with_box k.inbox (byte ∷ bytes) (record x { conn = c; counted = length (byte ∷ bytes) }) in
       let there : on_found told c x ≡ z =
       ap (λ (xs : List ℕ). with_box k.inbox xs (record x { conn = c; counted = length xs })) (sym data_is) in
@@ -311,7 +305,7 @@ silent_rests held new_held k c heard b None finds shown hears fares =
     let lives = is_live (end_for k.phase heard.end) in
     let same : credited_by lives heard.counted c ≡ c =
     ap (λ n. credited_by lives n c) (ap (λ (v : Heard). v.counted) hears.0) ∙ credited_none lives c in
-    subst IsLookedAt (sym same) (look_rests (part_of k) c fares finds)
+    subst IsLookedAt (sym same) (found_by_looks k.conn c found.Silent fares finds).rests
 silent_rests held new_held k c heard b (Some h) finds shown hears fares = absurd shown
 
 -- where nothing more is told all was looked at

@@ -1,10 +1,9 @@
 -- A link of the node, in the words of the machine.
 use Rattle.std.specs.Prelude.{⊤, ◌≡◌, ℕ, nat_lt, ◌||◌, Bool, true, false, [], min, if◌then◌else◌}
-use Rattle.hb_frames.specs.Frames.{AreOctets}
 use Rattle.hb_held.specs.Held.{Resources}
 use Rattle.hb_conn.specs.Connection.{Connection}
-use Rattle.hb_conn.specs.Observed.{output, is_over, octets_held, IsLookedAt, OwesNoneWithRoom, creditable, credited}
-use Rattle.hb_history.specs.Budget.{WaitsForPreface, HasRoom}
+use Rattle.hb_conn.specs.Observed.{output, IsLookedAt, creditable, credited}
+use Rattle.hb_kept.specs.Kept as kept
 use Rattle.hb_model.specs.Discovery.{Discovery, Phase, dialling, live, faulted, ending, stream, put_requests, sendable, wrote}
 use Rattle.hb_model.specs.Runs.{IsCalm}
 use Rattle.hb_node.specs.declared.inbox.Heard.{Heard}
@@ -67,18 +66,12 @@ pub record Agrees (x y : Discovery) : Type 0 where
   pub phase : x.phase ≡ y.phase
   pub rest : AgreesBy y.phase x y
 
--- what holds of the part of a link that isn't to be closed: octets are held of the next frame; nothing is owed where there is
--- room; in front of a whole preface no frame is held; no connection error was told
-pub record IsKept (x : Discovery) : Type 0 where
-  pub octets : AreOctets (octets_held x.conn)
-  pub caught_up : OwesNoneWithRoom x.conn
-  pub preface : WaitsForPreface x.conn
-  pub goes_on : is_over x.conn ≡ false
+-- the connection of a link that isn't to be closed is kept, and between two looks it has room
+abbrev pub IsKept : Discovery → Type 0
+IsKept x = kept.IsKept x.conn
 
--- so it is between two looks
-pub record Fares (x : Discovery) : Type 0 where
-  pub kept : IsKept x
-  pub has_room : HasRoom x.conn
+abbrev pub Fares : Discovery → Type 0
+Fares x = kept.Fares x.conn
 
 -- so it is between two calls, while a link isn't to be closed: nothing more happens by itself either
 abbrev pub SteadyBy : Phase → Discovery → Type 0
