@@ -1,0 +1,6 @@
+pub mod Grown
+pub mod Histories
+pub mod Refusing
+pub mod Runs
+pub mod Updating
+pub mod WindowsRun

@@ -1,0 +1,14 @@
+-- What every run of an inbound link obeys.
+use Rattle.std.specs.Prelude.{ℕ, List}
+use Rattle.hb_held.specs.Held.{Resources}
+use Rattle.hb_inbound.specs.Connections.{ConnectionLaw, WindowLaw}
+use Rattle.hb_inbound.specs.Part.{Part}
+use Rattle.hb_inbound.specs.Runs.{Local, StandsFor}
+
+-- the link's connection is one history
+abbrev pub RunsObeyConnections : Type 0
+RunsObeyConnections = (l : ℕ) (start : Resources) (a : Local) (parts : List Part) → StandsFor l start a parts → ConnectionLaw parts
+
+-- DATA fits both windows where it begins
+abbrev pub RunsObeyWindows : Type 0
+RunsObeyWindows = (l : ℕ) (start : Resources) (a : Local) (parts : List Part) → StandsFor l start a parts → WindowLaw parts

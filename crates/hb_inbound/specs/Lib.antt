@@ -1,0 +1,14 @@
+pub mod Access
+pub mod Calm
+pub mod Connections
+pub mod Ends
+pub mod Inbound
+pub mod Laws
+pub mod Look
+pub mod Part
+pub mod Refused
+pub mod Relay
+pub mod Runs
+pub mod Sides
+pub mod Tunnel
+pub mod Verdicts

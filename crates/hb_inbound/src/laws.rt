@@ -1,0 +1,36 @@
+//! Small steps that no run of an inbound link takes, and what an update does. Each is the contract of a function that does nothing.
+
+ghost use Rattle.hb_inbound.specs.Refused.{DialsUnasked, AcceptsUnopened, WritesUnopened, ShutsEarly, EndsEarly, WritesRevoked};
+ghost use Rattle.hb_inbound.specs.Laws.{RunsObeyConnections, RunsObeyWindows};
+ghost use Rattle.hb_inbound.specs.Refused.{PutsRevoked, KeepsAdmitted, KeepsPlaceless, EndsOthers};
+
+/// Nothing is dialled that wasn't asked for, 200 isn't put nor are bytes written before the upstream is open, and no way ends
+/// while a byte waits on it.
+pub fn early_steps_are_refused()
+    ensures dials { DialsUnasked }
+    ensures accepts { AcceptsUnopened }
+    ensures writes { WritesUnopened }
+    ensures shuts { ShutsEarly }
+    ensures ends { EndsEarly }
+{}
+
+/// Behind an update that no longer admits a live tunnel no byte is written to its upstream, and no DATA is put.
+pub fn revoked_tunnels_are_silent()
+    ensures writes { WritesRevoked }
+    ensures puts { PutsRevoked }
+{}
+
+/// An update ends exactly the tunnels, pending or live, that are no longer admitted.
+pub fn updates_end_exactly()
+    ensures admitted { KeepsAdmitted }
+    ensures placeless { KeepsPlaceless }
+    ensures others { EndsOthers }
+{}
+
+/// A link's connection is one history of its bytes: what was looked at, told and done leads to it, the frames looked at are those of
+/// the bytes that came behind the front header, and what went is the frames that have begun. Each DATA frame with payload fits both
+/// windows where it begins (RFC 9113 sections 5.2 and 6.9).
+pub fn connections_are_histories()
+    ensures connections { RunsObeyConnections }
+    ensures windows { RunsObeyWindows }
+{}
