@@ -1,0 +1,13 @@
+pub mod Acts
+pub mod All
+pub mod DataWaits
+pub mod Handled
+pub mod Kept
+pub mod Looks
+pub mod Opened
+pub mod Resets
+pub mod Roles
+pub mod Shut
+pub mod Sides
+pub mod SidesAt
+pub mod Used

@@ -1,0 +1,274 @@
+-- Behind a stream that a client opened no DATA of it waits.
+use Rattle.std.proofs.Common.{◌≡◌, ℕ, ◌<◌, ◌≤◌, ◌==◌, ◌&&◌, not, Bool, true, false, cond, List, Option, Some, None, Result, Ok, Err, refl, ap, sym, ◌∙◌, subst, arith}
+use Rattle.std.specs.FinMap.{get}
+use Rattle.std.proofs.lemmas.Bool.{false≢true}
+use Rattle.std.proofs.lemmas.Bool.Decides.{nat_tests}
+use Rattle.hb_base.specs.declared.scope.Scope.{Scope}
+use Rattle.hb_base.specs.declared.scope.Scope.TheVariants as scope
+use Rattle.hb_frames.specs.Numbers.{data_kind, headers_kind, window_update_kind, protocol_error, refused_stream, flow_control_error}
+use Rattle.hb_frames.specs.RawFrame.{RawFrame}
+use Rattle.hb_frames.specs.Reading.{asked}
+use Rattle.hb_streams.specs.Answers.{answer_of, headers_answer, connection_error, stream_error}
+use Rattle.hb_streams.specs.Moves.{after_answer}
+use Rattle.hb_streams.specs.Numbers.{is_even}
+use Rattle.hb_streams.specs.Sides.{both_open}
+use Rattle.hb_streams.specs.States.{States, state_of, is_full}
+use Rattle.hb_streams.specs.declared.fault.StreamFault.{StreamFault}
+use Rattle.hb_streams.specs.declared.role.Role.{Role}
+use Rattle.hb_streams.specs.declared.role.Role.TheVariants.{Server}
+use Rattle.hb_streams.specs.declared.state.State.{State}
+use Rattle.hb_streams.specs.declared.state.State.TheVariants as state
+use Rattle.hb_streams.specs.declared.step.Step.{Step}
+use Rattle.hb_streams.specs.declared.step.Step.TheVariants as step
+use Rattle.hb_streams.proofs.Begins.{uses_number, number_is_above}
+use Rattle.hb_flow.specs.Windows.{Windows}
+use Rattle.hb_flow.specs.Flows.{granted, granted_on}
+use Rattle.hb_outgoing.specs.Selected.{has_data}
+use Rattle.hb_blocks.specs.Assembly.{Progress}
+use Rattle.hb_blocks.specs.declared.fault.BlockFault.{BlockFault}
+use Rattle.hb_blocks.specs.declared.whole.Whole.{Whole}
+use Rattle.hb_conn.specs.Connection.{Connection, Finds, core_of}
+use Rattle.hb_conn.specs.Data.{used, padded, continued, data_goes, data_answered, is_of_idle, on_data}
+use Rattle.hb_conn.specs.Faults.{faulted, refused, refused_by, broken}
+use Rattle.hb_conn.specs.Frames.{sent, ping_ack}
+use Rattle.hb_conn.specs.Glance.{glance_of}
+use Rattle.hb_conn.specs.Handling.{does, Answers, HandlesBy}
+use Rattle.hb_conn.specs.Headers.{headers_answered, block_told, DoesBlock}
+use Rattle.hb_conn.specs.Observed.{outgoing}
+use Rattle.hb_conn.specs.Outcome.{Outcome, outcome, Gives}
+use Rattle.hb_conn.specs.Places.{is_misplaced}
+use Rattle.hb_conn.specs.Resets.{reset_answered}
+use Rattle.hb_conn.specs.Settings.{applied, SettlesBy, DoesSettings}
+use Rattle.hb_conn.specs.Windows.{connection_grows, stream_grows, stream_answered, on_window}
+use Rattle.hb_conn.specs.declared.found.Found.{Found}
+use Rattle.hb_conn.specs.declared.found.Found.TheVariants as found
+use Rattle.hb_conn.specs.declared.glance.Glance.{Glance}
+use Rattle.hb_conn.specs.declared.glance.Glance.TheVariants as glance
+use Rattle.hb_conn.specs.declared.machine.Core.{Core}
+use Rattle.hb_history.specs.History.{fresh, StandsFor}
+use Rattle.hb_history.specs.Points.{Point}
+use Rattle.hb_history.specs.TakenBack.{has_data_on, NoneWaitsOn}
+use Rattle.hb_history.proofs.Found.{IsStill, Holds, finds_so}
+use Rattle.hb_history.proofs.Kept as kept
+use Rattle.hb_history.proofs.Parts.{calm}
+use Rattle.hb_kept.specs.Sides.{IsOpenBehind, OpenedIsOpen}
+use Rattle.hb_kept.specs.Opened.{AreUpTo, IsUnused, OpenedIsUnused, UsedIsRefused, OtherMayOpen}
+use Rattle.hb_kept.proofs.All.{Each, each_so}
+use Rattle.hb_kept.proofs.Handled.{frame_keeps}
+use Rattle.hb_kept.proofs.Roles.{role_is}
+use Rattle.hb_kept.proofs.SidesAt.{sides_at, begins}
+use Rattle.hb_kept.proofs.Used.{Used, used_keeps, used_acks, used_resize, used_grow, used_new, used_runs}
+
+-- no DATA waits on a stream above all that were used
+apart_by : (some on : Bool) → (some ≡ true → on ≡ false) → (some && on) ≡ false
+apart_by true on apart = apart refl
+apart_by false on apart = refl
+
+apart : (s highest : ℕ) (f : RawFrame) → highest < s → (has_data f ≡ true → f.stream ≤ highest) → has_data_on s f ≡ false
+apart s highest f above up =
+    apart_by (has_data f) (f.stream == s) (λ some. let low = up some in grind (arith, nat_tests, low, above))
+
+none_above : (s highest : ℕ) (fs : List RawFrame) → highest < s → AreUpTo highest fs
+    → Each (λ f. has_data_on s f ≡ false) fs
+none_above s highest fs above up =
+    each_so (λ f. has_data f ≡ true → f.stream ≤ highest) (λ f. has_data_on s f ≡ false) (λ f low. apart s highest f above low) fs up
+
+-- HEADERS to a server begin a stream, or go on none
+begins_by : (even full : Bool) (n : ℕ)
+    → cond even (connection_error protocol_error) (cond full (stream_error n refused_stream) (Ok step.New)) ≡ Ok step.Goes → ⊥
+begins_by true full n is = cc
+begins_by false true n is = cc
+begins_by false false n is = cc
+
+never_goes : (full : Bool) (n : ℕ) (st : State) → headers_answer Server full n st ≡ Ok step.Goes → ⊥
+never_goes full n state.Idle is = begins_by (is_even n) full n is
+never_goes full n state.Open is = cc
+never_goes full n state.HalfClosedLocal is = cc
+never_goes full n state.HalfClosedRemote is = cc
+never_goes full n state.Closed is = cc
+never_goes full n state.Reset is = cc
+
+-- of a stream that is told to be opened no DATA waits, and its sides are open
+abbrev IsNew : Found → Core → Type 0
+IsNew (found.Opened s end) c = NoneWaitsOn s c.out × (sides_at c.streams s ≡ record { own = true; peer = not end })
+IsNew _ c = Unit {0}
+
+abbrev OutcomeNew : Outcome → Type 0
+OutcomeNew o = IsNew o.found o.core
+
+given : (o : Outcome) (new : Core) (told : Found) → OutcomeNew o → Gives o new told → IsNew told new
+given o new told unused is =
+    subst (λ t. IsNew t new) (sym is.1) (subst (λ (c : Core). IsNew o.found c) (sym is.0) unused)
+
+either : (b : Bool) (o p : Outcome) → OutcomeNew o → OutcomeNew p → OutcomeNew (cond b o p)
+either true o p first second = first
+either false o p first second = second
+
+fault : (c : Core) (code : ℕ) → OutcomeNew (faulted c code)
+unfolding faulted
+fault c code = tt
+
+refusal : (c : Core) (why : StreamFault) → OutcomeNew (refused c why)
+refusal c why = by why.scope
+  where
+    by : (reach : Scope) → OutcomeNew (refused_by c reach why.code)
+    by scope.Connection = fault c why.code
+    by (scope.Stream s) = tt
+
+headers_unused : (c : Core) (s : ℕ) (end : Bool) (r : Result Step StreamFault) → answer_of c.streams headers_kind s ≡ r
+    → Used Server calm c → OutcomeNew (headers_answered c s end r)
+headers_unused c s end (Ok step.New) is h =
+    let above = (number_is_above c.streams headers_kind s (ap uses_number is)).1 in
+    let becomes = ap (after_answer c.streams headers_kind s end) is in (
+      none_above s c.streams.highest c.out.queue above h.1,
+      ap (λ (t : States). sides_at t s) becomes ∙ (begins c.streams s (record both_open { peer = not end })).here,
+    )
+headers_unused c s end (Ok step.Goes) is h =
+    absurd (never_goes (is_full c.streams) s (state_of c.streams s)
+    (subst (λ (r : Role). headers_answer r (is_full c.streams) s (state_of c.streams s) ≡ Ok step.Goes)
+    (role_is Server c.streams h.0.0) is))
+headers_unused c s end (Ok step.Ignored) is h = tt
+headers_unused c s end (Err why) is h = refusal _ why
+
+block_unused : (c : Core) (told : Result (Option Whole) BlockFault) → Used Server calm c → OutcomeNew (block_told c told)
+block_unused c (Ok None) h = tt
+block_unused c (Ok (Some whole)) h =
+    headers_unused c whole.stream whole.end_stream (answer_of c.streams headers_kind whole.stream) refl h
+block_unused c (Err why) h = fault c _
+
+does_block : (progress : Progress) (c new : Core) (told : Found) → Used Server calm c → DoesBlock progress c new told
+    → IsNew told new
+does_block progress c new told h does =
+    given (block_told (record c { blocks = does.0 }) does.1) new told (block_unused (record c { blocks = does.0 }) does.1 h) does.3
+
+-- no other frame opens a stream
+
+data_by : (c : Core) (s k size : ℕ) (end : Bool) (o : Option Windows) → OutcomeNew (data_goes c s k size end o)
+data_by c s k size end None = tt
+data_by c s k size end (Some w) =
+    either _ (broken c s flow_control_error) (outcome (continued (padded c s k size) s end) (found.Chunk s end)) tt tt
+
+data_answers : (c : Core) (s k size : ℕ) (end : Bool) (r : Result Step StreamFault) → OutcomeNew (data_answered c s k size end r)
+data_answers c s k size end (Ok step.Goes) = data_by c s k size end (get c.flow.streams s)
+data_answers c s k size end (Ok step.New) = tt
+data_answers c s k size end (Ok step.Ignored) = tt
+data_answers c s k size end (Err why) = refusal c why
+
+data_unused : (c : Core) (s k size : ℕ) (end : Bool) → OutcomeNew (on_data c s k size end)
+data_unused c s k size end =
+    let r = answer_of c.streams data_kind s in
+    let goes = data_answered (used c k) s k size end r in
+    either (is_of_idle r) (faulted c protocol_error) (cond _ (faulted c flow_control_error) goes) (fault c protocol_error)
+    (either _ (faulted c flow_control_error) goes (fault c flow_control_error) (data_answers (used c k) s k size end r))
+
+reset_answers : (c : Core) (s code : ℕ) (r : Result Step StreamFault) → OutcomeNew (reset_answered c s code r)
+reset_answers c s code (Ok step.Goes) = tt
+reset_answers c s code (Ok step.New) = tt
+reset_answers c s code (Ok step.Ignored) = tt
+reset_answers c s code (Err why) = refusal c why
+
+window_grows : (c : Core) (s k : ℕ) (o : Option Windows) → OutcomeNew (stream_grows c s k o)
+window_grows c s k None = tt
+window_grows c s k (Some w) =
+    either _ (broken c s flow_control_error) (outcome (record c { flow = granted_on c.flow s k }) found.Silent) tt tt
+
+window_answers : (c : Core) (s k : ℕ) (r : Result Step StreamFault) → OutcomeNew (stream_answered c s k r)
+window_answers c s k (Ok step.Goes) =
+    either (k == 0) (broken c s protocol_error) (stream_grows c s k (get c.flow.streams s)) tt (window_grows c s k (get c.flow.streams s))
+window_answers c s k (Ok step.New) = tt
+window_answers c s k (Ok step.Ignored) = tt
+window_answers c s k (Err why) = refusal c why
+
+window_unused : (c : Core) (s k : ℕ) → OutcomeNew (on_window c s k)
+window_unused c s k =
+    let r = answer_of c.streams window_update_kind s in
+    either (s == 0) (connection_grows c k) (stream_answered c s k r)
+    (either _ (faulted c flow_control_error) (outcome (record c { flow = granted c.flow k }) found.Silent) (fault c flow_control_error) tt)
+    (window_answers c s k r)
+
+applied_unused : (c : Core) (fits : Bool) → OutcomeNew (applied c fits)
+applied_unused c true = tt
+applied_unused c false = fault c _
+
+settings_by : (b : Bool) (c : Core) (pairs : List (ℕ × ℕ)) (new : Core) (told : Found) → SettlesBy b c pairs new told
+    → IsNew told new
+settings_by true c pairs new told is = given _ new told (fault c _) is
+settings_by false c pairs new told is = given _ new told (applied_unused is.0 is.1) is.3
+
+settings_unused : (ack : Bool) (c : Core) (payload : List ℕ) (new : Core) (told : Found) → DoesSettings ack c payload new told
+    → IsNew told new
+settings_unused true c payload new told is = given (outcome c found.Silent) new told tt is
+settings_unused false c payload new told is = settings_by _ c _ new told is
+
+answers_unused : (c : Core) (g : Glance) (bytes : List ℕ) (new : Core) (told : Found) → Used Server calm c → Answers c g bytes new told
+    → IsNew told new
+answers_unused c glance.Nothing bytes new told h is = given _ new told tt is
+answers_unused c (glance.Data s k end) bytes new told h is = given _ new told (data_unused c s k _ end) is
+answers_unused c (glance.Headers s end whole) bytes new told h is = does_block _ c new told h is
+answers_unused c (glance.Reset s code) bytes new told h is = given _ new told (reset_answers c s code _) is
+answers_unused c (glance.Settings ack) bytes new told h is = settings_unused ack c bytes new told is
+answers_unused c (glance.Ping ack value) bytes new told h is =
+    given (does c (glance.Ping ack value) bytes) new told
+    (either ack (outcome c found.Silent) (outcome (sent c (ping_ack value)) found.Silent) tt tt) is
+answers_unused c (glance.GoAway last) bytes new told h is = given _ new told tt is
+answers_unused c (glance.Window s k) bytes new told h is = given _ new told (window_unused c s k) is
+answers_unused c (glance.Continuation s whole) bytes new told h is = does_block _ c new told h is
+answers_unused c glance.Other bytes new told h is = given _ new told tt is
+answers_unused c (glance.Refused code row kind flags) bytes new told h is = given _ new told (fault c code) is
+
+handles_by : (b : Bool) (c : Core) (g : Glance) (bytes : List ℕ) (new : Core) (told : Found) → Used Server calm c
+    → HandlesBy b c g bytes new told → IsNew told new
+handles_by true c g bytes new told h is = given _ new told (fault c _) is
+handles_by false c g bytes new told h is = answers_unused c g bytes new told h is
+
+-- where nothing is told of a frame there is nothing to show
+still : (told : Found) (c : Core) → IsStill told → IsNew told c
+still (found.Opened s end) c is = absurd is
+still told c is = tt
+
+-- of all that is found
+abbrev Opens : Core → Core → Found → Type 0
+Opens c new told = Used Server calm c → Used Server calm new × IsNew told new
+
+opening : Holds Opens
+opening = record {
+  same = λ c new told quiet is h. (subst (Used Server calm) (sym is) h, still told new quiet);
+  on = λ c mid new told first then h. then (first h).0;
+  handled = λ r c new told is h. (
+    frame_keeps (Used Server) (used_keeps Server) (used_resize Server) (used_acks Server) (used_grow Server) c (glance_of r)
+        (asked r).last new told h is,
+    handles_by (is_misplaced c (glance_of r)) c (glance_of r) (asked r).last new told h is,
+  );
+  faults = λ c new code told is h. (
+    subst (Used Server calm) (sym is.0) (kept.faulted_keeps (Used Server) (used_keeps Server) calm c code h),
+    given (faulted c code) new told (fault c code) is,
+  );
+}
+
+opened : (points : List Point) (given : List Found) (came written : List ℕ) (c d : Connection) (told : Found)
+    → StandsFor Server points given came written c → Finds c d told → IsNew told (core_of d)
+opened points given came written c d told stands finds =
+    let had = used_runs Server points (fresh Server).receiver.core (core_of c) (used_new Server) stands.runs in
+    (finds_so Opens opening c d told finds had).1
+
+unused_by : (told : Found) (d : Connection) → IsNew told (core_of d) → IsUnused told (outgoing d)
+unused_by (found.Opened s end) d new = new.0
+unused_by told d new = tt
+
+pub opened_is_unused : OpenedIsUnused
+opened_is_unused points given came written c d told stands finds =
+    unused_by told d (opened points given came written c d told stands finds)
+
+open_by : (told : Found) (d : Connection) → IsNew told (core_of d) → IsOpenBehind told d
+open_by (found.Opened s end) d new = new.1
+open_by told d new = tt
+
+pub opened_is_open : OpenedIsOpen
+opened_is_open points given came written c d told stands finds =
+    open_by told d (opened points given came written c d told stands finds)
+
+pub used_is_refused : UsedIsRefused
+used_is_refused end none = absurd (false≢true (sym none.0))
+
+pub other_may_open : OtherMayOpen
+other_may_open end = (refl, tt)
