@@ -35,7 +35,7 @@ use Rattle.hb_world.specs.declared.entry.Way.TheVariants as way
 use Rattle.hb_inbound.specs.Calm.{longest_front, wants, wants_by, output, output_by}
 use Rattle.hb_inbound.specs.Inbound.{Inbound, Phase, unborn, arriving, fronting, serving, faulted, closing, closed, told_of, on_found, came, came_by, went, went_by, ended_by, broken_by, with_phase, at_stream, lacking, stops_by, stopped_for, fronted_by, rejudged}
 use Rattle.hb_inbound.specs.Laws.{RunsObeyConnections}
-use Rattle.hb_inbound.specs.Look.{IsLook}
+use Rattle.hb_kept.specs.Looks.{IsLook}
 use Rattle.hb_inbound.specs.Part.{Part, entry, up, welcomed, crowded, lacked, misfronted, looked, decided, accepted, refused, reset, left, done, put, finished, credited, applied, stopped, act, moves_by, moves_in, moves, telling, tellings}
 use Rattle.hb_inbound.specs.Part as part
 use Rattle.hb_inbound.specs.Runs.{Local, MayCome, entered, Steps, StandsFor, begins, goes_on, refused_on, with_link, with_tunnel, tunnel_for, put_down, verdict_note}
@@ -408,7 +408,7 @@ module _ (a : Local) (parts : List Part) (keeps : Keeps parts a.link) where
             (subst (λ (bs : List ℕ). ConnStandsFor Server (moves parts ++ ps) (tellings parts ++ in_list told) (conn_came parts) bs c)
             (sym (append-nil (link_went parts)))
             (looks_add Server (moves parts) ps (tellings parts) (conn_came parts) (link_went parts) a.link.conn c told
-            keeps.one.stands look.finds look.looks look.leads look.frames look.tells)));
+            keeps.one.stands look.finds look.looks look.runs look.frames look.tells)));
         front = found_front told headers bytes p y (record { came = refl; front = λ size. refl }) is
             (subst (λ (ph : Phase). FrontBy ph parts a.link) is keeps.front);
       }

@@ -1,14 +1,15 @@
 -- How much of a link may be read and written, when nothing more happens on it by itself, and which calls are due.
-use Rattle.std.specs.Prelude.{⊤, ◌≡◌, ◌⊎◌, ℕ, ◌-◌, ◌/◌, ◌<◌, ◌==◌, ◌&&◌, ◌||◌, not, Bool, true, false, List, [], length, min, Option, Some, None, if◌then◌else◌}
+use Rattle.std.specs.Prelude.{⊤, ◌≡◌, ◌⊎◌, ℕ, ◌-◌, ◌<◌, ◌==◌, ◌&&◌, ◌||◌, not, Bool, true, false, List, [], length, Option, Some, None, if◌then◌else◌}
 use Rattle.std.specs.List.{list_any}
 use Rattle.hb_base.specs.declared.cause.Cause.{Cause}
 use Rattle.hb_base.specs.declared.cause.Cause.TheVariants as cause
-use Rattle.hb_conn.specs.Connection.{Connection, space_of}
+use Rattle.hb_conn.specs.Connection.{Connection}
 use Rattle.hb_conn.specs.Observed as connection
-use Rattle.hb_conn.specs.Observed.{outgoing, room, IsLookedAt, count_put, end_waits}
+use Rattle.hb_conn.specs.Observed.{outgoing, IsLookedAt, count_put, end_waits}
 use Rattle.hb_front.specs.Reading.{IsAnswer, More}
 use Rattle.hb_frames.specs.Numbers.{data_kind}
 use Rattle.hb_history.specs.TakenBack.{has_data_on}
+use Rattle.hb_kept.specs.Kept.{wants_of}
 use Rattle.hb_outgoing.specs.declared.head.Head.{Head}
 use Rattle.hb_tunnel.specs.Tunnel.{down_size}
 use Rattle.hb_tunnel.specs.Way.{is_done}
@@ -21,18 +22,10 @@ use Rattle.hb_inbound.specs.Tunnel.{Tunnel, Stage, due, live, over, is_failed, i
 abbrev pub longest_front : ℕ
 longest_front = 4112
 
--- the room of an output that the answers to what is read may not need, and how much of the rest the answers to one octet may take,
--- with what is granted again of DATA
-abbrev pub spare_room : ℕ
-spare_room = 320
-
-abbrev pub answer_size : ℕ
-answer_size = 5
-
 -- of an unwhole header as much as the longest has; of a connection so many octets that every answer to them has room
 abbrev pub wants_by : Phase → Inbound → ℕ
 wants_by fronting x = longest_front - length x.front
-wants_by serving x = min ((room x.conn - spare_room) / answer_size) (space_of x.conn)
+wants_by serving x = wants_of x.conn
 wants_by _ x = 0
 
 abbrev pub wants : Inbound → ℕ

@@ -1,10 +1,10 @@
 pub mod Access
+pub mod Block
 pub mod Calm
 pub mod Connections
 pub mod Ends
 pub mod Inbound
 pub mod Laws
-pub mod Look
 pub mod Part
 pub mod Refused
 pub mod Relay

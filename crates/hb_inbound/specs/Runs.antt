@@ -23,6 +23,7 @@ use Rattle.hb_held.specs.Outcome.{after_response}
 use Rattle.hb_history.specs.Points as history
 use Rattle.hb_hpack.specs.declared.header.Header.{Header}
 use Rattle.hb_hpack.specs.declared.header.HeaderList.{HeaderList}
+use Rattle.hb_kept.specs.Looks.{IsLook}
 use Rattle.hb_tunnel.specs.Way.{after, takes}
 use Rattle.hb_verdict.specs.Fields.{value_of, is_connect, is_malformed}
 use Rattle.hb_verdict.specs.Request.{request_of}
@@ -34,7 +35,7 @@ use Rattle.hb_world.specs.declared.entry.Entry.TheVariants as e
 use Rattle.hb_world.specs.declared.entry.Way.TheVariants as way
 use Rattle.hb_inbound.specs.Calm.{wants, output, up_wants, may_end, is_done_on, IsAnswered, IsCalm, IsQuiet, IsNextFailed, IsNextEnded, close_due}
 use Rattle.hb_inbound.specs.Inbound.{Inbound, Phase, unborn, arriving, fronting, serving, faulted, closing, closed, no_link, with_phase, at_stream, fronted_by, came, went, link_ended, link_broke, on_found, rejudged, lacking, stopped_for}
-use Rattle.hb_inbound.specs.Look.{IsLook, HoldsBlock}
+use Rattle.hb_inbound.specs.Block.{HoldsBlock}
 use Rattle.hb_inbound.specs.Part.{Part, entry, up, welcomed, crowded, lacked, misfronted, looked, decided, accepted, refused, reset, left, done, put, finished, credited, applied, stopped}
 use Rattle.hb_inbound.specs.Part as part
 use Rattle.hb_inbound.specs.Tunnel.{Tunnel, Stage, requested, refusing, malformed, due, opening, accepting, live, failed, ended, over, gone, no_tunnel, at_stage, asked, left_with, up_entered, may_shut}
