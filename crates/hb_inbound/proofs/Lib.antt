@@ -1,3 +1,5 @@
+pub mod Admitted
+pub mod AdmittedRun
 pub mod Grown
 pub mod Histories
 pub mod Refusing
