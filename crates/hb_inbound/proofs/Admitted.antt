@@ -89,6 +89,13 @@ none_in why gone = refl
 pub placeless : {A : Type 0} (b : Bool) → b ≡ false → b ≡ true → A
 placeless b none some = absurd (false≢true (sym none ∙ some))
 
+-- what holds of a tunnel that changes, and of each other one as it was
+pub at_one : (s : ℕ) (change : Tunnel → Tunnel) (x : Inbound) (P : ℕ → Tunnel → Type 0) → P s (change (x.tunnels s))
+    → ((k : ℕ) → (k == s) ≡ false → P k (x.tunnels k)) → (k : ℕ) → P k ((at_stream s change x).tunnels k)
+at_one s change x P here others k =
+    cond_both (k == s) (change (x.tunnels k)) (x.tunnels k) (P k)
+    (λ is. subst (λ (j : ℕ). P j (change (x.tunnels j))) (sym (eqb-true k s is)) here) (others k)
+
 module _ (start : Resources) (parts : List Part) where
   pub held_stays : (p : Part) (h : Resources) → LeavesHeld p → held start parts ≡ h → held start (parts ++ p ∷ []) ≡ h
   held_stays p h same is = fold_one held_by start parts p ∙ same (held start parts) ∙ is
@@ -166,13 +173,6 @@ module _ (start : Resources) (parts : List Part) where
   ends_on p a phase why leaves knows admits =
       moves_on p a (ends_with phase why a.link) leaves refl knows (λ s. refl)
       (λ s is. placeless (takes_place (ends_by why (a.link.tunnels s).stage)) (none_in why (a.link.tunnels s).stage) is) admits
-
-  -- of one tunnel
-  pub at_one : (s : ℕ) (change : Tunnel → Tunnel) (x : Inbound) (P : ℕ → Tunnel → Type 0) → P s (change (x.tunnels s))
-      → ((k : ℕ) → (k == s) ≡ false → P k (x.tunnels k)) → (k : ℕ) → P k ((at_stream s change x).tunnels k)
-  at_one s change x P here others k =
-      cond_both (k == s) (change (x.tunnels k)) (x.tunnels k) (P k)
-      (λ is. subst (λ (j : ℕ). P j (change (x.tunnels j))) (sym (eqb-true k s is)) here) (others k)
 
   -- one tunnel changes that isn't unasked before, or isn't in one of the first phases
   pub one_on : (p : Part) (a : Local) (y : Inbound) (s : ℕ) (change : Tunnel → Tunnel) → Leaves_all p

@@ -35,11 +35,8 @@ use Rattle.hb_inbound.specs.Runs.{Local, MayCome, UpMayCome, entered, Steps, Sta
 use Rattle.hb_inbound.specs.Sides.{held, held_by, peer_of, peer_by, target_of, target_by, dialled_to, identity_told}
 use Rattle.hb_inbound.specs.Tunnel.{Tunnel, Stage, unasked, requested, refusing, malformed, due, opening, accepting, live, failed, ended, over, gone, takes_place, at_stage, asked, ends_by, ends_for, left_with, up_entered, came_up, peer_ended, requested_with}
 use Rattle.hb_inbound.proofs.Grown.{fold_one}
+use Rattle.hb_inbound.proofs.Stages.{left_none, refused_next, reset_next, left_next, refuses_asked, resets_asked, leaves_asked}
 use Rattle.hb_inbound.proofs.Admitted.{IsIn, Tells, AreUnasked, KnowsBy, Admits, Leaves_all, none_in, placeless, held_stays, peer_stays, target_stays, tells_on, knows_on, moves_on, stays_on, same_on, ends_on, at_one, one_on}
-
--- where a tunnel's stream has got what it gets, no place is left
-left_none : (why : Cause) (t : Tunnel) → takes_place (left_with why t).stage ≡ false
-left_none why t = cond_both (t.up == 0) gone (over why) (λ stage. takes_place stage ≡ false) (λ is. refl) (λ is. refl)
 
 -- a tunnel without a place is told of no one
 none_told : (h : Resources) (peer : Peer) (parts : List Part) (s : ℕ) (t : Tunnel) → takes_place t.stage ≡ false → Tells h peer parts s t
@@ -170,7 +167,7 @@ module _ (start : Resources) (a : Local) (parts : List Part) (admits : Admits st
       record {
         holds = held_stays start parts p a.held (λ h. refl) admits.holds;
         knows = subst (λ (ph : Phase). KnowsBy ph (parts ++ p ∷ []) y) (sym is) (peer_stays start parts p (λ w. refl) ∙ knows);
-        each = at_one start parts s (λ t. requested_with headers end) (record a.link { conn = c }) (λ k t. Tells a.held a.link.peer (parts ++ p ∷ []) k t)
+        each = at_one s (λ t. requested_with headers end) (record a.link { conn = c }) (λ k t. Tells a.held a.link.peer (parts ++ p ∷ []) k t)
             (none_told a.held a.link.peer (parts ++ p ∷ []) s (requested_with headers end) refl)
             (λ k apart. tells_on start parts p a.held a.link.peer k (a.link.tunnels k) (a.link.tunnels k) (λ w. refl) (λ t. refl) refl (λ some. some) (admits.each k));
       }
@@ -234,7 +231,7 @@ module _ (start : Resources) (a : Local) (parts : List Part) (admits : Admits st
       record {
         holds = held_stays start parts p a.held (λ h. refl) admits.holds;
         knows = subst (λ (ph : Phase). KnowsBy ph (parts ++ p ∷ []) y) (sym is) (peer_stays start parts p (λ w. refl) ∙ peer_known is);
-        each = at_one start parts s (λ t. tunnel_for answer headers end) a.link (λ k t. Tells a.held a.link.peer (parts ++ p ∷ []) k t)
+        each = at_one s (λ t. tunnel_for answer headers end) a.link (λ k t. Tells a.held a.link.peer (parts ++ p ∷ []) k t)
             (decided_here s full answer headers end is answers)
             (λ k apart. tells_on start parts p a.held a.link.peer k (a.link.tunnels k) (a.link.tunnels k) (λ w. refl)
             (λ t. ap (λ (b : Bool). cond b (dialled_to t answer) t) (swapped k s apart)) refl (λ some. some) (admits.each k));
@@ -242,56 +239,6 @@ module _ (start : Resources) (a : Local) (parts : List Part) (admits : Admits st
     where
       swapped : (k s : ℕ) → (k == s) ≡ false → (s == k) ≡ false
       swapped k s apart = ne_eqb s k (λ is. false≢true (sym apart ∙ eq-eqb k s (sym is)))
-
-  -- a tunnel that got what it gets has no place
-  refused_next : (l s n : ℕ) (stage : Stage) (made : Note) (next : Tunnel) → Refuses l s a.link stage n made next
-      → (takes_place next.stage ≡ false) × (next.target ≡ (a.link.tunnels s).target)
-  refused_next l s n (refusing status target) made next is = (ap (λ (t : Tunnel). takes_place t.stage) is.2, ap (λ (t : Tunnel). t.target) is.2)
-  refused_next l s n (failed why) made next is =
-      (ap (λ (t : Tunnel). takes_place t.stage) is.3 ∙ left_none why (a.link.tunnels s), ap (λ (t : Tunnel). t.target) is.3)
-  refused_next l s n unasked made next is = absurd is
-  refused_next l s n (requested headers end) made next is = absurd is
-  refused_next l s n malformed made next is = absurd is
-  refused_next l s n due made next is = absurd is
-  refused_next l s n opening made next is = absurd is
-  refused_next l s n accepting made next is = absurd is
-  refused_next l s n live made next is = absurd is
-  refused_next l s n (ended why) made next is = absurd is
-  refused_next l s n (over why) made next is = absurd is
-  refused_next l s n gone made next is = absurd is
-
-  reset_next : (l s n : ℕ) (stage : Stage) (made : Note) (next : Tunnel) → Resets l s a.link stage n made next
-      → (takes_place next.stage ≡ false) × (next.target ≡ (a.link.tunnels s).target)
-  reset_next l s n malformed made next is = (ap (λ (t : Tunnel). takes_place t.stage) is.2, ap (λ (t : Tunnel). t.target) is.2)
-  reset_next l s n (ended why) made next is =
-      (ap (λ (t : Tunnel). takes_place t.stage) is.3 ∙ left_none why (a.link.tunnels s), ap (λ (t : Tunnel). t.target) is.3)
-  reset_next l s n unasked made next is = absurd is
-  reset_next l s n (requested headers end) made next is = absurd is
-  reset_next l s n (refusing status target) made next is = absurd is
-  reset_next l s n due made next is = absurd is
-  reset_next l s n opening made next is = absurd is
-  reset_next l s n accepting made next is = absurd is
-  reset_next l s n live made next is = absurd is
-  reset_next l s n (failed why) made next is = absurd is
-  reset_next l s n (over why) made next is = absurd is
-  reset_next l s n gone made next is = absurd is
-
-  left_next : (l s : ℕ) (stage : Stage) (made : Option Note) (next : Tunnel) → Leaves l s a.link stage made next
-      → (takes_place next.stage ≡ false) × (next.target ≡ (a.link.tunnels s).target)
-  left_next l s (failed why) made next is =
-      (ap (λ (t : Tunnel). takes_place t.stage) is.3 ∙ left_none why (a.link.tunnels s), ap (λ (t : Tunnel). t.target) is.3)
-  left_next l s (ended why) made next is =
-      (ap (λ (t : Tunnel). takes_place t.stage) is.3 ∙ left_none why (a.link.tunnels s), ap (λ (t : Tunnel). t.target) is.3)
-  left_next l s unasked made next is = absurd is
-  left_next l s (requested headers end) made next is = absurd is
-  left_next l s (refusing status target) made next is = absurd is
-  left_next l s malformed made next is = absurd is
-  left_next l s due made next is = absurd is
-  left_next l s opening made next is = absurd is
-  left_next l s accepting made next is = absurd is
-  left_next l s live made next is = absurd is
-  left_next l s (over why) made next is = absurd is
-  left_next l s gone made next is = absurd is
 
   -- the tunnel of one stream is this now, on a link that serves, or that nothing was asked of
   pub now_admits : (p : Part) (s : ℕ) (next : Tunnel) (c : Connection) → Leaves_all p
@@ -319,48 +266,6 @@ module _ (start : Resources) (a : Local) (parts : List Part) (admits : Admits st
       → (cond (takes_place t.stage) (judged_by (judged h a.link.peer t.target) t) t).stage ≡ unasked
   unasked_stays h t is =
       ap (λ (b : Bool). (cond b (judged_by (judged h a.link.peer t.target) t) t).stage) (ap takes_place is) ∙ is
-
-  refuses_asked : (l s n : ℕ) (stage : Stage) (made : Note) (next : Tunnel) → Refuses l s a.link stage n made next → unasked ≡ stage → ⊥
-  refuses_asked l s n unasked made next refuses is = refuses
-  refuses_asked l s n (requested headers end) made next refuses is = cc
-  refuses_asked l s n (refusing status target) made next refuses is = cc
-  refuses_asked l s n malformed made next refuses is = cc
-  refuses_asked l s n due made next refuses is = cc
-  refuses_asked l s n opening made next refuses is = cc
-  refuses_asked l s n accepting made next refuses is = cc
-  refuses_asked l s n live made next refuses is = cc
-  refuses_asked l s n (failed why) made next refuses is = cc
-  refuses_asked l s n (ended why) made next refuses is = cc
-  refuses_asked l s n (over why) made next refuses is = cc
-  refuses_asked l s n gone made next refuses is = cc
-
-  resets_asked : (l s n : ℕ) (stage : Stage) (made : Note) (next : Tunnel) → Resets l s a.link stage n made next → unasked ≡ stage → ⊥
-  resets_asked l s n unasked made next resets is = resets
-  resets_asked l s n (requested headers end) made next resets is = cc
-  resets_asked l s n (refusing status target) made next resets is = cc
-  resets_asked l s n malformed made next resets is = cc
-  resets_asked l s n due made next resets is = cc
-  resets_asked l s n opening made next resets is = cc
-  resets_asked l s n accepting made next resets is = cc
-  resets_asked l s n live made next resets is = cc
-  resets_asked l s n (failed why) made next resets is = cc
-  resets_asked l s n (ended why) made next resets is = cc
-  resets_asked l s n (over why) made next resets is = cc
-  resets_asked l s n gone made next resets is = cc
-
-  leaves_asked : (l s : ℕ) (stage : Stage) (made : Option Note) (next : Tunnel) → Leaves l s a.link stage made next → unasked ≡ stage → ⊥
-  leaves_asked l s unasked made next leaves is = leaves
-  leaves_asked l s (requested headers end) made next leaves is = cc
-  leaves_asked l s (refusing status target) made next leaves is = cc
-  leaves_asked l s malformed made next leaves is = cc
-  leaves_asked l s due made next leaves is = cc
-  leaves_asked l s opening made next leaves is = cc
-  leaves_asked l s accepting made next leaves is = cc
-  leaves_asked l s live made next leaves is = cc
-  leaves_asked l s (failed why) made next leaves is = cc
-  leaves_asked l s (ended why) made next leaves is = cc
-  leaves_asked l s (over why) made next leaves is = cc
-  leaves_asked l s gone made next leaves is = cc
 
   to : (p : Part) (b : Local) (y : Inbound) → b ≡ with_link y a → Admits start (parts ++ p ∷ []) (with_link y a)
       → Admits start (parts ++ p ∷ []) b
@@ -416,25 +321,25 @@ module _ (start : Resources) (a : Local) (parts : List Part) (admits : Admits st
       (record { held = λ h. refl; peer = λ w. refl; targets = λ k t. refl })
       (λ none. (let both = sym none ∙ steps.1 in cc)) refl (λ some. ap takes_place steps.1))
   step_admits l (refused s status resets made) b steps =
-      let next = refused_next l s status (a.link.tunnels s).stage made steps.1 steps.2 in
+      let next = refused_next a.link l s status (a.link.tunnels s).stage made steps.1 steps.2 in
       to _ b _ steps.4
       (now_admits (refused s status resets made) s steps.1 _
       (record { held = λ h. refl; peer = λ w. refl; targets = λ k t. refl })
-      (λ none. refuses_asked l s status (a.link.tunnels s).stage made steps.1 steps.2 (sym none)) next.1
+      (λ none. refuses_asked a.link l s status (a.link.tunnels s).stage made steps.1 steps.2 (sym none)) next.1
       (no_place (a.link.tunnels s).stage (takes_place (steps.1).stage) next.0))
   step_admits l (reset s code made) b steps =
-      let next = reset_next l s code (a.link.tunnels s).stage made steps.1 steps.2 in
+      let next = reset_next a.link l s code (a.link.tunnels s).stage made steps.1 steps.2 in
       to _ b _ steps.3
       (now_admits (reset s code made) s steps.1 _
       (record { held = λ h. refl; peer = λ w. refl; targets = λ k t. refl })
-      (λ none. resets_asked l s code (a.link.tunnels s).stage made steps.1 steps.2 (sym none)) next.1
+      (λ none. resets_asked a.link l s code (a.link.tunnels s).stage made steps.1 steps.2 (sym none)) next.1
       (no_place (a.link.tunnels s).stage (takes_place (steps.1).stage) next.0))
   step_admits l (left s made) b steps =
-      let next = left_next l s (a.link.tunnels s).stage made steps.0 steps.1 in
+      let next = left_next a.link l s (a.link.tunnels s).stage made steps.0 steps.1 in
       to _ b _ steps.2
       (now_admits (left s made) s steps.0 _
       (record { held = λ h. refl; peer = λ w. refl; targets = λ k t. refl })
-      (λ none. leaves_asked l s (a.link.tunnels s).stage made steps.0 steps.1 (sym none)) next.1
+      (λ none. leaves_asked a.link l s (a.link.tunnels s).stage made steps.0 steps.1 (sym none)) next.1
       (no_place (a.link.tunnels s).stage (takes_place (steps.0).stage) next.0))
   step_admits l (done s made) b steps =
       to _ b _ steps.3
@@ -466,8 +371,10 @@ module _ (start : Resources) (a : Local) (parts : List Part) (admits : Admits st
         each = λ s.
             let t = a.link.tunnels s in
             judged_one h a.link.peer (parts ++ p ∷ []) s t (takes_place t.stage) (judged h a.link.peer t.target) refl refl
-            (λ some. (peer_stays start parts p (λ w. refl) ∙ (admits.each s some).peer_is,
-            target_stays start parts s p (λ k. refl) ∙ (admits.each s some).target_is));
+            (λ some. (
+              peer_stays start parts p (λ w. refl) ∙ (admits.each s some).peer_is,
+              target_stays start parts s p (λ k. refl) ∙ (admits.each s some).target_is,
+            ));
       })
   step_admits l (stopped why) b steps =
       to _ b (stopped_for why a.link) steps

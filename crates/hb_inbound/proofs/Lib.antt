@@ -1,8 +1,12 @@
+pub mod AccessRun
 pub mod Admitted
 pub mod AdmittedRun
 pub mod Grown
 pub mod Histories
 pub mod Refusing
 pub mod Runs
+pub mod Stages
 pub mod Updating
+pub mod Waiting
+pub mod WaitingRun
 pub mod WindowsRun

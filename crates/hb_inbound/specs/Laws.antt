@@ -1,6 +1,7 @@
 -- What every run of an inbound link obeys.
 use Rattle.std.specs.Prelude.{ℕ, List}
 use Rattle.hb_held.specs.Held.{Resources}
+use Rattle.hb_inbound.specs.Access.{AccessLaw}
 use Rattle.hb_inbound.specs.Connections.{ConnectionLaw, WindowLaw}
 use Rattle.hb_inbound.specs.Part.{Part}
 use Rattle.hb_inbound.specs.Runs.{Local, StandsFor}
@@ -12,3 +13,7 @@ RunsObeyConnections = (l : ℕ) (start : Resources) (a : Local) (parts : List Pa
 -- DATA fits both windows where it begins
 abbrev pub RunsObeyWindows : Type 0
 RunsObeyWindows = (l : ℕ) (start : Resources) (a : Local) (parts : List Part) → StandsFor l start a parts → WindowLaw parts
+
+-- no byte goes to an upstream and no DATA frame begins unless what is held then admits the tunnel's peer
+abbrev pub RunsAdmit : Type 0
+RunsAdmit = (l : ℕ) (start : Resources) (a : Local) (parts : List Part) → StandsFor l start a parts → AccessLaw start parts

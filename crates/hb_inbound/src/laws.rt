@@ -1,7 +1,7 @@
 //! Small steps that no run of an inbound link takes, and what an update does. Each is the contract of a function that does nothing.
 
 ghost use Rattle.hb_inbound.specs.Refused.{DialsUnasked, AcceptsUnopened, WritesUnopened, ShutsEarly, EndsEarly, WritesRevoked};
-ghost use Rattle.hb_inbound.specs.Laws.{RunsObeyConnections, RunsObeyWindows};
+ghost use Rattle.hb_inbound.specs.Laws.{RunsAdmit, RunsObeyConnections, RunsObeyWindows};
 ghost use Rattle.hb_inbound.specs.Refused.{PutsRevoked, KeepsAdmitted, KeepsPlaceless, EndsOthers};
 
 /// Nothing is dialled that wasn't asked for, 200 isn't put nor are bytes written before the upstream is open, and no way ends
@@ -33,4 +33,10 @@ pub fn updates_end_exactly()
 pub fn connections_are_histories()
     ensures connections { RunsObeyConnections }
     ensures windows { RunsObeyWindows }
+{}
+
+/// No byte is written to an upstream, and no DATA frame with payload begins on the link, unless the resources held then admit the
+/// tunnel's peer at its target.
+pub fn peers_are_admitted()
+    ensures { RunsAdmit }
 {}
