@@ -1,8 +1,11 @@
 pub mod AccessRun
 pub mod Admitted
 pub mod AdmittedRun
+pub mod EndsRun
 pub mod Grown
 pub mod Histories
+pub mod Life
+pub mod LifeRun
 pub mod Refusing
 pub mod Runs
 pub mod Stages
