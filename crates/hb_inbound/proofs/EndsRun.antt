@@ -67,6 +67,7 @@ module _ (opens_new : OpensNew) where
       where
         never : {A : Type 0} (other : Life) → life start s before ≡ other → (life.ended why ≡ other → ⊥) → A
         never other is apart = absurd (apart (sym ended_so ∙ is))
+
         by : (stage : Stage) → (a.link.tunnels s).stage ≡ stage → is_unanswered stage ≡ false → IsIdleBy stage (a.link.tunnels s)
             → SaysBy stage (life start s before) (up_of s before) (a.link.tunnels s) → up_of s before ≡ 0
         by unasked is calm idle says = says.up

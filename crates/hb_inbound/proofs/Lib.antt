@@ -6,6 +6,7 @@ pub mod Grown
 pub mod Histories
 pub mod Life
 pub mod LifeRun
+pub mod RefusedRuns
 pub mod Refusing
 pub mod Runs
 pub mod Stages

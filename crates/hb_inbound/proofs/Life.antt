@@ -125,16 +125,20 @@ judged_say h peer how u t known_peer told = by t.stage refl
   where
     kept : (how : Life) (is : Life) → how ≡ is → ends_at h known_peer is ≡ is → ends_at h known_peer how ≡ is
     kept how is same stays = ap (ends_at h known_peer) same ∙ stays
+
     quiet : (who : Option Peer) → ends_at h who none ≡ none
     quiet None = refl
     quiet (Some who) = refl
+
     past : (who : Option Peer) (why : Cause) → ends_at h who (life.ended why) ≡ life.ended why
     past None why = refl
     past (Some who) why = refl
+
     one : (j : Judged) (how_is : Life) → SaysOf how_is u t → SaysOf (ends_judged j how_is) u (judged_by j t)
     one Admitted how_is says = says
     one Unknown how_is says = ends_say cause.Revoked how_is u t says
     one Denied how_is says = ends_say cause.Revoked how_is u t says
+
     by : (stage : Stage) → t.stage ≡ stage → SaysBy stage how u t
         → SaysOf (ends_at h known_peer how) u (cond (takes_place t.stage) (judged_by (judged h peer t.target) t) t)
     by unasked is says =

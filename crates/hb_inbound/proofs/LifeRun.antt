@@ -361,9 +361,10 @@ module _ (start : Resources) (a : Local) (parts : List Part) (all : SaysAll star
   found_says ps (found.Fault code) headers bytes c is first =
       let p = looked ps (found.Fault code) headers in
       next_says p (told_of (found.Fault code) headers bytes (record a.link { conn = c }))
-      (λ s. ends_say (cause.ConnFault code) (life start s parts) (up_of s parts) (a.link.tunnels s) (all.each s))
-      ((λ s. none_in (cause.ConnFault code) (a.link.tunnels s).stage),
-      list_any-append is_fault parts (p ∷ []) ∙ or_true (list_any is_fault parts))
+      (λ s. ends_say (cause.ConnFault code) (life start s parts) (up_of s parts) (a.link.tunnels s) (all.each s)) (
+        (λ s. none_in (cause.ConnFault code) (a.link.tunnels s).stage),
+        list_any-append is_fault parts (p ∷ []) ∙ or_true (list_any is_fault parts),
+      )
     where
       or_true : (b : Bool) → (b || true) ≡ true
       or_true true = refl

@@ -7,6 +7,7 @@ pub mod Inbound
 pub mod Laws
 pub mod Part
 pub mod Refused
+pub mod RefusedRuns
 pub mod Relay
 pub mod Runs
 pub mod Sides

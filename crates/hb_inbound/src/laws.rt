@@ -2,6 +2,8 @@
 
 ghost use Rattle.hb_inbound.specs.Refused.{DialsUnasked, AcceptsUnopened, WritesUnopened, ShutsEarly, EndsEarly, WritesRevoked};
 ghost use Rattle.hb_inbound.specs.Laws.{RunsAdmit, RunsObeyConnections, RunsObeyWindows};
+ghost use Rattle.hb_inbound.specs.RefusedRuns.{WritesBehind, GoesOnBehind, PutsBehind, ReadsBehind, ClosesForAnother, ClosesAdmitted};
+ghost use Rattle.hb_inbound.specs.RefusedRuns.{DialsUnbidden, GoesOnAdmitted, ClosesRevoked};
 ghost use Rattle.hb_inbound.specs.Refused.{PutsRevoked, KeepsAdmitted, KeepsPlaceless, EndsOthers};
 
 /// Nothing is dialled that wasn't asked for, 200 isn't put nor are bytes written before the upstream is open, and no way ends
@@ -39,4 +41,23 @@ pub fn connections_are_histories()
 /// tunnel's peer at its target.
 pub fn peers_are_admitted()
     ensures { RunsAdmit }
+{}
+
+/// Behind an update that no longer admits a tunnel's peer no byte may go to its upstream, no DATA be put, and no byte of the link be
+/// read before the upstream is closed, for that cause alone. A tunnel that is still admitted isn't closed, and nothing is dialled
+/// that nothing asked for.
+pub fn revoked_runs_are_refused()
+    ensures writes { WritesBehind }
+    ensures goes_on { GoesOnBehind }
+    ensures puts { PutsBehind }
+    ensures reads { ReadsBehind }
+    ensures another_cause { ClosesForAnother }
+    ensures closes { ClosesAdmitted }
+    ensures dials { DialsUnbidden }
+{}
+
+/// A byte may go behind an update that still admits the peer, and a tunnel that is revoked is closed.
+pub fn good_runs_may_go()
+    ensures goes_on { GoesOnAdmitted }
+    ensures closes { ClosesRevoked }
 {}
