@@ -1,0 +1,16 @@
+pub mod AccessRun
+pub mod Admitted
+pub mod AdmittedRun
+pub mod EndsRun
+pub mod Grown
+pub mod Histories
+pub mod Life
+pub mod LifeRun
+pub mod RefusedRuns
+pub mod Refusing
+pub mod Runs
+pub mod Stages
+pub mod Updating
+pub mod Waiting
+pub mod WaitingRun
+pub mod WindowsRun

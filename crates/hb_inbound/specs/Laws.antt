@@ -1,0 +1,24 @@
+-- What every run of an inbound link obeys.
+use Rattle.std.specs.Prelude.{ℕ, List}
+use Rattle.hb_held.specs.Held.{Resources}
+use Rattle.hb_inbound.specs.Access.{AccessLaw}
+use Rattle.hb_inbound.specs.Connections.{ConnectionLaw, WindowLaw}
+use Rattle.hb_inbound.specs.Ends.{EndLaw}
+use Rattle.hb_inbound.specs.Part.{Part}
+use Rattle.hb_inbound.specs.Runs.{Local, StandsFor}
+
+-- the link's connection is one history
+abbrev pub RunsObeyConnections : Type 0
+RunsObeyConnections = (l : ℕ) (start : Resources) (a : Local) (parts : List Part) → StandsFor l start a parts → ConnectionLaw parts
+
+-- DATA fits both windows where it begins
+abbrev pub RunsObeyWindows : Type 0
+RunsObeyWindows = (l : ℕ) (start : Resources) (a : Local) (parts : List Part) → StandsFor l start a parts → WindowLaw parts
+
+-- no byte goes to an upstream and no DATA frame begins unless what is held then admits the tunnel's peer
+abbrev pub RunsAdmit : Type 0
+RunsAdmit = (l : ℕ) (start : Resources) (a : Local) (parts : List Part) → StandsFor l start a parts → AccessLaw start parts
+
+-- each tunnel ends for the first cause that applies, and nothing is done for it afterwards but its close
+abbrev pub RunsEnd : Type 0
+RunsEnd = (l : ℕ) (start : Resources) (a : Local) (parts : List Part) → StandsFor l start a parts → EndLaw start parts

@@ -1,0 +1,15 @@
+pub mod Access
+pub mod Block
+pub mod Calm
+pub mod Connections
+pub mod Ends
+pub mod Inbound
+pub mod Laws
+pub mod Part
+pub mod Refused
+pub mod RefusedRuns
+pub mod Relay
+pub mod Runs
+pub mod Sides
+pub mod Tunnel
+pub mod Verdicts

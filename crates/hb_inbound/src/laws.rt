@@ -1,0 +1,63 @@
+//! Small steps that no run of an inbound link takes, and what an update does. Each is the contract of a function that does nothing.
+
+ghost use Rattle.hb_inbound.specs.Refused.{DialsUnasked, AcceptsUnopened, WritesUnopened, ShutsEarly, EndsEarly, WritesRevoked};
+ghost use Rattle.hb_inbound.specs.Laws.{RunsAdmit, RunsObeyConnections, RunsObeyWindows};
+ghost use Rattle.hb_inbound.specs.RefusedRuns.{WritesBehind, GoesOnBehind, PutsBehind, ReadsBehind, ClosesForAnother, ClosesAdmitted};
+ghost use Rattle.hb_inbound.specs.RefusedRuns.{DialsUnbidden, GoesOnAdmitted, ClosesRevoked};
+ghost use Rattle.hb_inbound.specs.Refused.{PutsRevoked, KeepsAdmitted, KeepsPlaceless, EndsOthers};
+
+/// Nothing is dialled that wasn't asked for, 200 isn't put nor are bytes written before the upstream is open, and no way ends
+/// while a byte waits on it.
+pub fn early_steps_are_refused()
+    ensures dials { DialsUnasked }
+    ensures accepts { AcceptsUnopened }
+    ensures writes { WritesUnopened }
+    ensures shuts { ShutsEarly }
+    ensures ends { EndsEarly }
+{}
+
+/// Behind an update that no longer admits a live tunnel no byte is written to its upstream, and no DATA is put.
+pub fn revoked_tunnels_are_silent()
+    ensures writes { WritesRevoked }
+    ensures puts { PutsRevoked }
+{}
+
+/// An update ends exactly the tunnels, pending or live, that are no longer admitted.
+pub fn updates_end_exactly()
+    ensures admitted { KeepsAdmitted }
+    ensures placeless { KeepsPlaceless }
+    ensures others { EndsOthers }
+{}
+
+/// A link's connection is one history of its bytes: what was looked at, told and done leads to it, the frames looked at are those of
+/// the bytes that came behind the front header, and what went is the frames that have begun. Each DATA frame with payload fits both
+/// windows where it begins (RFC 9113 sections 5.2 and 6.9).
+pub fn connections_are_histories()
+    ensures connections { RunsObeyConnections }
+    ensures windows { RunsObeyWindows }
+{}
+
+/// No byte is written to an upstream, and no DATA frame with payload begins on the link, unless the resources held then admit the
+/// tunnel's peer at its target.
+pub fn peers_are_admitted()
+    ensures { RunsAdmit }
+{}
+
+/// Behind an update that no longer admits a tunnel's peer no byte may go to its upstream, no DATA be put, and no byte of the link be
+/// read before the upstream is closed, for that cause alone. A tunnel that is still admitted isn't closed, and nothing is dialled
+/// that nothing asked for.
+pub fn revoked_runs_are_refused()
+    ensures writes { WritesBehind }
+    ensures goes_on { GoesOnBehind }
+    ensures puts { PutsBehind }
+    ensures reads { ReadsBehind }
+    ensures another_cause { ClosesForAnother }
+    ensures closes { ClosesAdmitted }
+    ensures dials { DialsUnbidden }
+{}
+
+/// A byte may go behind an update that still admits the peer, and a tunnel that is revoked is closed.
+pub fn good_runs_may_go()
+    ensures goes_on { GoesOnAdmitted }
+    ensures closes { ClosesRevoked }
+{}
