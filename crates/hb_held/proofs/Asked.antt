@@ -1,6 +1,6 @@
 -- What a workload asks for, over the index.
 use Rattle.std.proofs.Common.{◌≡◌, ℕ, Bool, true, false, cond, List, [], ◌∷◌, ◌++◌, Option, Some, None, is_some, refl, ap, sym, ◌∙◌, subst, eq-eqb}
-use Rattle.std.specs.Prelude.{◌==◌, ◌||◌, filter, map}
+use Rattle.std.specs.Prelude.{◌||◌, filter, map}
 use Rattle.std.specs.List.{list_any}
 use Rattle.std.specs.Ordering.{is_lt, ordering_reverse}
 use Rattle.std.specs.declared.cmp.Ordering.{Ordering}
@@ -13,7 +13,7 @@ use Rattle.hb_index.specs.Index.{is_among}
 use Rattle.hb_index.specs.Indexed.{numbers_in, has_number}
 use Rattle.hb_index.specs.Named.{Named, is_behind, IsFirstBehind}
 use Rattle.hb_index.proofs.Alike.{passed}
-use Rattle.hb_index.proofs.Behind.{behind, left, none_left, passed_over, next_left}
+use Rattle.hb_index.proofs.Behind.{behind, none_left, passed_over, next_left}
 use Rattle.hb_index.proofs.Entries.{by_bytes, differ}
 use Rattle.hb_index.proofs.Rising.{same}
 use Rattle.hb_index.proofs.Undone.{never, or_left, or_right}
@@ -41,6 +41,14 @@ any_more p (y ∷ xs) x =
     elim (p y) as (λ b. (b || list_any p (xs ++ x ∷ [])) ≡ ((b || list_any p xs) || p x)) [
       | true ↦ refl
       | false ↦ any_more p xs x
+    ]
+
+pub any_of_both : {X : Type 0} (p : X → Bool) (xs ys : List X) → list_any p (xs ++ ys) ≡ (list_any p xs || list_any p ys)
+any_of_both p [] ys = refl
+any_of_both p (x ∷ xs) ys =
+    elim (p x) as (λ b. (b || list_any p (xs ++ ys)) ≡ ((b || list_any p xs) || list_any p ys)) [
+      | true ↦ refl
+      | false ↦ any_of_both p xs ys
     ]
 
 either_is : (a b : Bool) → (a || b) ≡ true → (P : Type 0) → (a ≡ true → P) → (b ≡ true → P) → P

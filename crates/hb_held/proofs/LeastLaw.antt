@@ -5,7 +5,7 @@ use Rattle.std.specs.Ordering.{is_lt, eq_by_cmp, ordering_reverse}
 use Rattle.std.specs.declared.cmp.Ordering.TheVariants.{Less, Equal, Greater}
 use Rattle.std.specs.Cmp.Lexicographic.{nat_list_cmp_total}
 use Rattle.hb_base.specs.declared.ip.Ip.{Ip}
-use Rattle.hb_index.specs.Named.{Named, AllBehind, Rise}
+use Rattle.hb_index.specs.Named.{Named, Rise}
 use Rattle.hb_index.proofs.Entries.{by_bytes, differ, equal}
 use Rattle.hb_index.proofs.Rising.{entries_rise, rise_filter, same, later_is_greater}
 use Rattle.hb_records.specs.declared.address.AddressRecord.{AddressRecord}

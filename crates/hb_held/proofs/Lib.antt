@@ -1,9 +1,11 @@
 pub mod Addressed
 pub mod Asked
+pub mod Before
 pub mod Folds
 pub mod InParts
 pub mod Least
 pub mod LeastLaw
 pub mod Searches
+pub mod Served
 pub mod Somewhere
 pub mod TouchedLaw

@@ -2,14 +2,17 @@
 use Rattle.std.specs.Prelude.{◌≡◌, ℕ, true, false, List, Option, Some, None}
 use Rattle.std.specs.Cmp.Lexicographic.{slice_cmp}
 use Rattle.std.specs.Ordering.{nat_cmp, is_lt}
-use Rattle.std.specs.FinMap.{get, entries}
+use Rattle.std.specs.FinMap.{get, insert, entries}
 use Rattle.hb_base.specs.declared.ip.Ip.{Ip}
 use Rattle.hb_records.specs.declared.workload.Workload.{Workload}
 use Rattle.hb_held.specs.declared.versioned.Versioned.{Versioned}
 use Rattle.hb_records.specs.declared.address.AddressRecord.{AddressRecord}
-use Rattle.hb_index.specs.Named.{Rise}
+use Rattle.hb_index.specs.Kept.{undone}
+use Rattle.hb_index.specs.Named.{Named, Rise}
+use Rattle.hb_disco.specs.declared.response.Response.{Response}
 use Rattle.hb_held.specs.Held.{Resources, before}
 use Rattle.hb_held.specs.Lookup.{workload_of, has_address, workload_at, known}
+use Rattle.hb_held.specs.Outcome.{after_response}
 use Rattle.hb_held.specs.Policies.{policies_for}
 use Rattle.hb_held.specs.Touched.{touched}
 
@@ -38,3 +41,30 @@ UntouchedStays =
     (h : Resources) (ip : Ip) → touched h ip ≡ false
     → (known h ip ≡ known (before h) ip)
     × ((e : List ℕ × Workload) → known h ip ≡ Some e → policies_for h e.1 ≡ policies_for (before h) e.1)
+
+-- what was held before a response, by the notes of what it changed, is what was held
+abbrev pub NotesGiveBack : Type 0
+NotesGiveBack =
+    (h : Resources) (r : Response)
+    → ((before (after_response h r)).addresses ≡ h.addresses) × ((before (after_response h r)).policies ≡ h.policies)
+
+-- at an address that a response doesn't touch the same workload is known as before it, and the same policies are for it
+abbrev pub UntouchedByResponse : Type 0
+UntouchedByResponse =
+    (h : Resources) (r : Response) (ip : Ip) → touched (after_response h r) ip ≡ false
+    → (known (after_response h r) ip ≡ known h ip)
+    × ((e : List ℕ × Workload) → known (after_response h r) ip ≡ Some e
+    → policies_for (after_response h r) e.1 ≡ policies_for h e.1)
+
+-- notes of what stood under a name give it back: with them, a map in which a value was put is undone as before
+abbrev pub GivesBack : (Named (Option ℕ) → List ℕ → Option ℕ → Named (Option ℕ)) → Type 0
+GivesBack noted_so =
+    (m : Named ℕ) (past : Named (Option ℕ)) (name : List ℕ) (v : ℕ)
+    → undone (insert m name v) (noted_so past name (get m name)) ≡ undone m past
+
+-- wrong notes: the latest one counts, and none is made
+abbrev pub latest_note : Named (Option ℕ) → List ℕ → Option ℕ → Named (Option ℕ)
+latest_note past name stood = insert past name stood
+
+abbrev pub no_note : Named (Option ℕ) → List ℕ → Option ℕ → Named (Option ℕ)
+no_note past name stood = past

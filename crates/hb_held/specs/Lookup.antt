@@ -16,7 +16,6 @@ use Rattle.hb_records.specs.declared.workload.Workload.{Workload}
 use Rattle.hb_held.specs.declared.versioned.Versioned.{Versioned}
 use Rattle.hb_held.specs.declared.found.Found.{Found}
 use Rattle.hb_held.specs.declared.found.FoundService.{FoundService}
-use Rattle.hb_held.specs.declared.workloads.Workloads.{Workloads}
 use Rattle.hb_held.specs.Held.{Resources}
 
 -- the workload of an address record, and the service
@@ -104,7 +103,3 @@ found_as f = (f.name.now, f.workload.now)
 
 abbrev pub found_service_as : FoundService → List ℕ × Service
 found_service_as f = (f.name.now, f.service.now)
-
--- the workloads that an iterator has still to give
-abbrev pub workloads_left : Workloads → List (List ℕ × Workload)
-workloads_left s = filter_map named_workload s.rest

@@ -1,6 +1,8 @@
 //! Laws about the definitions that the contracts cite. Each is the contract of a function that does nothing.
 
-ghost use Rattle.hb_held.specs.Laws.{LeastIsFound, NamesStandOnce, UntouchedStays};
+ghost use Rattle.hb_index.specs.Kept.{note};
+ghost use Rattle.hb_held.specs.Laws.{LeastIsFound, NamesStandOnce, UntouchedStays, NotesGiveBack, UntouchedByResponse};
+ghost use Rattle.hb_held.specs.Laws.{GivesBack, latest_note, no_note};
 
 /// The workload found at an address is held, is of this network and has the address, and no other such workload has a
 /// smaller name; none is found only where there is none.
@@ -17,4 +19,22 @@ pub fn names_stand_once()
 /// for it: a judgement of it stays.
 pub fn untouched_stays()
     ensures { UntouchedStays }
+{}
+
+/// What is held after a response, with the notes of what it changed put back, is what was held before it.
+pub fn notes_give_back()
+    ensures { NotesGiveBack }
+{}
+
+/// At an address that a response doesn't touch the same workload is known after it as before it, and the same policies
+/// are for it.
+pub fn untouched_by_response()
+    ensures { UntouchedByResponse }
+{}
+
+/// The first note of a name gives back what stood there; a note that is written over doesn't, nor does none.
+pub fn first_notes_give_back()
+    ensures first { GivesBack note }
+    ensures latest { GivesBack latest_note → ⊥ }
+    ensures none { GivesBack no_note → ⊥ }
 {}

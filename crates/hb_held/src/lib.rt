@@ -14,12 +14,14 @@ mod policies;
 mod rows;
 mod touched;
 mod versioned;
-mod workloads;
 
 pub use endpoints::Endpoints;
 pub use found::{Found, FoundService};
 pub use held::Held;
-pub use laws::{least_is_found, names_stand_once, untouched_stays};
+pub use laws::{
+    first_notes_give_back, least_is_found, names_stand_once, notes_give_back,
+    untouched_by_response, untouched_stays,
+};
 pub use outcome::{Changed, Outcome, Refusal, RefusedWhy};
 pub use policies::Policies;
 pub use rows::{HeldRecord, HeldRow, Rows};

@@ -1,13 +1,14 @@
 //! The numbers by which records are found.
 
-ghost use Rattle.std.specs.Prelude.{◌≡◌, ◌<◌, ◌^◌, map, IfOk};
-ghost use Rattle.hb_held.specs.Numbers.{number_of, numbers_of, with_byte, with_bytes, text_number};
+ghost use Rattle.std.specs.Prelude.{◌≡◌, ◌++◌, map, IfOk, OnOk};
+ghost use Rattle.hb_held.specs.Numbers.{number_of, with_byte, with_bytes, text_number, service_number};
+ghost use Rattle.hb_held.specs.Endpoints.{joined};
 ghost use Rattle.hb_held.specs.Policies.{policy_key};
 
 use crate::versioned::Versioned;
 use hb_base::{Ip, List, NoMemory};
 use hb_index::Numbered;
-use hb_records::{AddressRecord, Authorization, NetworkAddress, Reach};
+use hb_records::{AddressRecord, Authorization, NetworkAddress, Reach, ServicePorts, Workload};
 use std::alloc::Global;
 
 const MULTIPLIER: u64 = 1_099_511_628_211;
@@ -48,7 +49,17 @@ pub(crate) fn text_number(text: &[u8]) -> u128
     u128::from(with_bytes(START, text))
 }
 
-/// The number of the key by which workloads ask for a policy, which isn't joined for it.
+/// The number of a namespace and a name, joined by a slash; they aren't joined for it.
+pub(crate) fn joined_number(namespace: &[u8], name: &[u8]) -> u128
+    ensures { result ≡ text_number (joined namespace.now name.now) }
+{
+    let first = with_bytes(START, namespace);
+    let front = with_bytes(first, b"/");
+    let whole = with_bytes(front, name);
+    u128::from(whole)
+}
+
+/// The number of the key by which workloads ask for a policy.
 fn policy_number(policy: &Authorization) -> u128
     ensures { result ≡ text_number (policy_key policy.now) }
 {
@@ -56,10 +67,7 @@ fn policy_number(policy: &Authorization) -> u128
     match policy.scope {
         Reach::Global => text_number(b""),
         Reach::Namespace => text_number(namespace),
-        Reach::Selector => {
-            let front = with_bytes(with_bytes(START, namespace), b"/");
-            u128::from(with_bytes(front, policy.name.as_slice()))
-        }
+        Reach::Selector => joined_number(namespace, policy.name.as_slice()),
     }
 }
 
@@ -83,6 +91,24 @@ fn numbers_of_addresses(alloc: Global, addresses: &[NetworkAddress]) -> Result<L
     Ok(numbers)
 }
 
+/// Adds the numbers of the keys of these services.
+fn add_services(numbers: &mut List<u128>, services: &[ServicePorts]) -> Result<(), NoMemory>
+    ensures { OnOk result (numbers.new ≡ numbers.old ++ map service_number services.now) }
+{
+    for service in services {
+        numbers.push(text_number(service.key.as_slice()))?;
+    }
+    Ok(())
+}
+
+fn numbers_of_workload(alloc: Global, workload: &Workload) -> Result<List<u128>, NoMemory>
+    ensures { IfOk result (λ l. l ≡ map number_of workload.now.addresses ++ map service_number workload.now.services) }
+{
+    let mut numbers = numbers_of_ips(alloc, workload.addresses.as_slice())?;
+    add_services(&mut numbers, workload.services.as_slice())?;
+    Ok(numbers)
+}
+
 impl Numbered for Versioned<AddressRecord> {
     ghost use Rattle.hb_held.specs.Numbers.{address_numbers};
 
@@ -90,9 +116,7 @@ impl Numbered for Versioned<AddressRecord> {
 
     fn list_numbers(&self, alloc: Global) -> Result<List<u128>, NoMemory> {
         match &self.content {
-            AddressRecord::Workload(workload) => {
-                numbers_of_ips(alloc, workload.addresses.as_slice())
-            }
+            AddressRecord::Workload(workload) => numbers_of_workload(alloc, workload),
             AddressRecord::Service(service) => {
                 numbers_of_addresses(alloc, service.addresses.as_slice())
             }

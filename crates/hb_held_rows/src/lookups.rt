@@ -58,6 +58,21 @@ a w1:w,net=net,serves=a/ => endpoints a - = w1
 a w1:w,net=net,serves=x/y,serves=a/b,serves=z/b => endpoints a b = w1
 a w1:w,net=other,serves=a/b w2:w,serves=a/b => endpoints a b = none
 a w1:w,net=net,serves=a/b w0:s,ns=a,at=net/0a000007 | a ~w1 => endpoints a b = none
+# Workloads that serve a service come, go, move, become services; a key that stands twice; keys that are swapped.
+a w1:w,net=net,serves=a/b w2:w,net=net,serves=a/b | a ~w1 => endpoints a b = w2
+a w1:w,net=net,serves=a/b w2:w,net=net,serves=a/b | a ~w1 ~w2 => endpoints a b = none
+a w1:w,net=net,serves=a/b w2:w,net=net,serves=a/b | a ~w1 | a w1:w,net=net,serves=a/b => endpoints a b = w1 w2
+a w1:w,net=net,serves=a/b w2:w,net=net,serves=a/b | a w1:w,net=net => endpoints a b = w2
+a w1:w,net=net,serves=a/b | a w1:w,net=net,serves=a/c => endpoints a c = w1
+a w1:w,net=net,serves=a/b | a w1:s,at=net/0a000007 => endpoints a b = none
+a w1:w,net=net,serves=a/b,serves=a/c | a w1:w,net=net,serves=a/c => endpoints a b = none
+a w1:w,net=net,serves=a/b,serves=a/c | a w1:w,net=net,serves=a/c => endpoints a c = w1
+a w1:w,net=net,serves=a/b,serves=a/b => endpoints a b = w1
+a w1:w,net=net,serves=b/a w2:w,net=net,serves=a/b => endpoints a b = w2
+a w1:w,net=net,serves=a/b w1:w,net=other,serves=a/b => endpoints a b = none
+a w1:w,net=other,serves=a/b | a w1:w,net=net,serves=a/b => endpoints a b = w1
+a w1:w,net=net,serves=a/b | a w1:x,hex=0b => endpoints a b = w1
+a w3:w,net=net,serves=a/b w1:w,net=net,serves=a/b,ip=0a000007 w2:w,net=other,serves=a/b => endpoints a b = w1 w3
 # Policies for the workload of an address: of the three scopes, by name, each once.
 a w:w,net=net,ip=0a000007,ns=a | z g:p,name=x,ns=c n:p,name=y,ns=a,namespace m:p,name=v,ns=b,namespace => policies 10.0.0.7 = c/x a/y
 a w:w,net=net,ip=0a000007,asks=a/p | z r1:p,name=p,ns=a,selector r2:p,name=q,ns=a,selector => policies 10.0.0.7 = a/p

@@ -55,7 +55,8 @@ impl DataStreams {
 
     /// Forgets all streams where no DATA frame waits.
     pub fn forget(&mut self, count: usize)
-        ensures { 0 < count → self.new ≡ self.old }
+        ensures none { count ≡ 0 → self.new ≡ no_streams }
+        ensures stays { 0 < count → self.new ≡ self.old }
     {
         if count == 0 {
             self.last.clear();

@@ -1,4 +1,4 @@
-use Rattle.std.proofs.Common.{◌≡◌, ◌<◌, ◌∷◌, Some, length, sym, ◌∙◌, subst, arith}
+use Rattle.std.proofs.Common.{◌<◌, Some, length, sym, ◌∙◌, subst, arith}
 use Rattle.std.specs.Option.{option_copied}
 use Rattle.hb_index.proofs.Behind.{shorter}
 use Rattle.hb_held.proofs.Asked.{behind_for, is_next, not_for, none_for, asked_is_held}

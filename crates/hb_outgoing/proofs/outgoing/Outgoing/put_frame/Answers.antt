@@ -43,7 +43,7 @@ invariant_of-self c =
     let after = c.note.new.self in
     let fs = frames_of (drop rest items) in
     let kept = c.forget.new.self in
-    let forgotten = knows_forgotten c.self.inside.data_waits c.self.inside.count c.self.inside.streams kept fs inv.4 c.forget.ensures in
+    let forgotten = knows_forgotten c.self.inside.data_waits c.self.inside.count c.self.inside.streams kept fs inv.4 c.forget.ensures.stays in
     let notes : Notes kept after f = record { stays = c.note.ensures.stays; noted = c.note.ensures.noted } in
     let knows : KnowsData waits count after (frames_of (drop rest items) ++ f ∷ []) =
     knows_put c.self.inside.data_waits waits c.self.inside.count count kept after fs f forgotten

@@ -1,0 +1,5 @@
+//! Tests of calls that may want memory, small enough to be tried with each allocation failing in turn.
+#![tactic(auto)]
+
+#[cfg(test)]
+mod held;
