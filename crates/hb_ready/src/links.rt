@@ -1,5 +1,5 @@
 //! The links that live, and the list of those that are to be tried.
-#![tactic(auto, unfolding(crate::specs::Registry::kept))]
+#![tactic(auto, unfolding(crate::specs::Registry::kept, crate::specs::Registry::HasRoom))]
 
 ghost use Rattle.std.specs.Prelude.{◌≡◌, ◌≤◌, ℕ, ◌+◌, ◌==◌, ◌∷◌, ◌++◌, [], true, false, not, if◌then◌else◌, drop, length, Some, None, IsSome, IfOk, IfSome, OnOk, OnErr, IfNone, nat_eq, slice_get};
 ghost use Rattle.std.specs.HashMap.{get, hash_map_len};
@@ -15,7 +15,7 @@ use std::collections::{HashMap, VecDeque};
 /// The links that live, by their numbers, and a list of numbers. A number that stands on the list is that of a link that is to be
 /// tried, or that lived when it was put there.
 ///
-/// Only a birth takes memory: it takes the list's room for every link that lives.
+/// `reserve` alone takes memory: for one more link, and for the list's room for every link that lives.
 #[derive(Drop)]
 pub struct Links {
     places: HashMap<u64, Place>,
@@ -42,7 +42,7 @@ impl Links {
     ghost use Rattle.hb_world.specs.declared.entry.Way.TheVariants as way;
     ghost use Rattle.hb_ready.specs.Sight.{fresh, awake};
     ghost use Rattle.hb_ready.specs.Kept.{Follows, IsKept, KeepsList, Lists, rotated};
-    ghost use Rattle.hb_ready.specs.Registry.{kept};
+    ghost use Rattle.hb_ready.specs.Registry.{kept, HasRoom};
 
     /// None.
     pub fn new(alloc: Global) -> Links
@@ -81,16 +81,25 @@ impl Links {
         }
     }
 
-    /// A link is born. It stands at the list's end.
+    /// Takes the memory for one more link.
     ///
-    /// Errors: `NoMemory`, and then nothing changes.
-    pub fn born(&mut self, link: u64, is_open: bool) -> Result<(), NoMemory>
-        ensures links { OnOk result ((l : ℕ) → (kept self.new).links l ≡ (if link == l then Some (fresh is_open) else (kept self.old).links l)) }
-        ensures listed { OnOk result ((kept self.new).listed ≡ (kept self.old).listed ++ link ∷ []) }
-        ensures err { OnErr result (IsKept (kept self.old) (kept self.new)) }
+    /// Errors: `NoMemory`.
+    pub fn reserve(&mut self) -> Result<(), NoMemory>
+        ensures same { IsKept (kept self.old) (kept self.new) }
+        ensures room { OnOk result (HasRoom self.new) }
     {
         let room = self.places.len() + 2;
+        self.places.reserve(1)?;
         self.list.reserve(room)?;
+        Ok(())
+    }
+
+    /// A link is born. It stands at the list's end.
+    pub fn born(&mut self, link: u64, is_open: bool)
+        requires { HasRoom self.old }
+        ensures links { (l : ℕ) → (kept self.new).links l ≡ (if link == l then Some (fresh is_open) else (kept self.old).links l) }
+        ensures listed { (kept self.new).listed ≡ (kept self.old).listed ++ link ∷ [] }
+    {
         let link_now = Link {
             is_open,
             finish_sleeps: false,
@@ -101,9 +110,11 @@ impl Links {
             link: link_now,
             is_listed: true,
         };
-        self.places.insert(link, place)?;
+        match self.places.insert(link, place) {
+            Ok(_) => {}
+            Err(_) => unreachable!(),
+        }
         self.list.push_back_reserved(link);
-        Ok(())
     }
 
     /// A finish told that the link is open.
