@@ -117,10 +117,11 @@ impl Links {
         self.list.push_back_reserved(link);
     }
 
-    /// A finish told that the link is open.
+    /// A finish told that the link is open. It stands on the list.
     pub fn opened(&mut self, link: u64)
         ensures follows { Follows (kept self.old) (kept self.new) (e.Opened link) }
-        ensures stays { KeepsList (kept self.old) (kept self.new) }
+        ensures lists { Lists (kept self.old) (kept self.new) link }
+        ensures count { (kept self.new).count ≡ (kept self.old).count }
     {
         if let Some(known) = self.get(link) {
             let now = Link {
@@ -129,6 +130,7 @@ impl Links {
                 ..known
             };
             self.set(link, now);
+            self.list(link);
         }
     }
 

@@ -1,0 +1,5 @@
+pub mod Ends
+pub mod May
+pub mod Settled
+pub mod Shown
+pub mod Stands
