@@ -111,3 +111,7 @@ is_fault_by (Some end) = is_fault end
 abbrev pub is_fault_of_turn : {E : Type 0} → Result (Option ServeEnd) E → Bool
 is_fault_of_turn (Ok end) = is_fault_by end
 is_fault_of_turn (Err why) = false
+
+abbrev pub end_of : {E : Type 0} → Result ServeEnd E → ServeEnd
+end_of (Ok end) = end
+end_of (Err why) = ends.NoMemory

@@ -1,6 +1,7 @@
 //! The calls that are due.
 
-ghost use Rattle.std.specs.Prelude.{◌≡◌, ◌<◌, ◌≤◌, ◌+◌, true, false, None, Some, IfOk, OnOk, List, [], length};
+ghost use Rattle.std.specs.Prelude.{◌≡◌, ◌<◌, ◌≤◌, ◌+◌, true, false, None, Some, IfOk, OnOk, List, [], length, if◌then◌else◌};
+ghost use Rattle.std.specs.Option.{is_some};
 ghost use Rattle.hb_world.specs.declared.entry.Entry.{Entry};
 ghost use Rattle.hb_base.specs.declared.door.Door.{Door};
 ghost use Rattle.hb_base.specs.declared.door.Why.{Why};
@@ -32,6 +33,8 @@ fn lacked(cause: Cause) -> bool
 pub(crate) fn forget(records: &mut Records, link: u64, cause: Cause)
     ensures tracks { Tracks records.old records.new (e.Closed link cause) }
     ensures listed { (kept records.new.links).listed ≡ (kept records.old.links).listed }
+    ensures count { (kept records.new.links).count + (if is_some ((kept records.old.links).links link) then 1 else 0)
+        ≡ (kept records.old.links).count }
 {
     records.links.closed(link);
     if lacked(cause) {

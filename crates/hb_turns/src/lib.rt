@@ -8,7 +8,11 @@ mod node;
 mod round;
 mod run;
 mod served;
+mod service;
+mod turns;
+mod waits;
 
 pub use act::Act;
 pub use node::Node;
 pub use served::ServeEnd;
+pub use service::serve;

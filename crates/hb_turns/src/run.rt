@@ -17,6 +17,7 @@ pub struct Records {
 }
 
 /// The node, what the loop knows, and room for what is read.
+#[derive(Drop)]
 pub struct Run<N> {
     pub node: N,
     pub records: Records,
