@@ -1,0 +1,277 @@
+-- What is known, behind one more entry.
+use Rattle.std.proofs.Common.{◌≡◌, ◌⊎◌, ◌≤◌, ◌<◌, ℕ, ◌+◌, ◌||◌, ◌&&◌, not, Bool, true, false, if◌then◌else◌, cond, List, [], ◌∷◌, ◌++◌, Option, Some, None, Result, Ok, Err, IfSome, IfOk, refl, ap, sym, ◌∙◌, subst, add-zero}
+use Rattle.std.specs.Prelude.{⊤}
+use Rattle.std.specs.Option.{option_map}
+use Rattle.std.proofs.lemmas.List.{append-nil}
+use Rattle.hb_base.specs.declared.cause.Cause.{Cause}
+use Rattle.hb_base.specs.declared.door.Door.{Door}
+use Rattle.hb_base.specs.declared.door.Why.{Why}
+use Rattle.hb_world.specs.declared.entry.Way.TheVariants as way
+use Rattle.hb_base.specs.declared.target.Target.{Target}
+use Rattle.hb_turns.specs.declared.act.Act.TheVariants as act
+use Rattle.hb_world.specs.Calls.{with_entries, with_closed, with_shut, close_entries, shut_entries}
+use Rattle.hb_world.specs.Trace.{births, is_birth, lives, was_shut, same_door}
+use Rattle.hb_world.specs.declared.entry.Entry.{Entry}
+use Rattle.hb_world.specs.declared.entry.Entry.TheVariants as e
+use Rattle.hb_world.proofs.TraceLemmas.{AtEach-grows, any-grows, births-grow}
+use Rattle.hb_ready.specs.Awake.{IsAwake}
+use Rattle.hb_ready.specs.Kept.{link_behind, IsKept}
+use Rattle.hb_ready.specs.Registry.{kept}
+use Rattle.hb_ready.specs.declared.doors.Asked.{Asked}
+use Rattle.hb_world.specs.Answers.{HasNextNumber}
+use Rattle.hb_world.specs.declared.world.Born.TheVariants.{New}
+use Rattle.hb_ready.specs.Numbers.{Numbers}
+use Rattle.hb_ready.specs.Sight.{known, sight, asked_behind, asked_at, is_open, asleep}
+use Rattle.hb_ready.specs.declared.link.Link.{Link}
+use Rattle.hb_ready.proofs.Sights.{known-grows, asked-grows, numbered-grows}
+use Rattle.hb_turns.specs.Ends.{was_wanting, is_close_for_lack}
+use Rattle.hb_turns.specs.Settled.{SettledAt}
+use Rattle.hb_turns.specs.Shown.{Shown, Tells, MayCome}
+use Rattle.hb_turns.specs.Stands.{Obeys, Stands, Tracks, Left, births_behind}
+use Rattle.hb_turns.specs.declared.run.Records.{Records}
+use Rattle.hb_turns.specs.declared.run.Run.{Run}
+
+-- an entry may come there, for the loop's laws
+pub record Comes {N : Type 0} (stands : N → List Entry → Type 0) (shown : N → Shown) (trace : List Entry) (x : Entry) : Type 0 where
+  pub numbers : Numbers trace x
+  pub awake : IsAwake trace x
+  pub settled : SettledAt stands shown trace x
+
+pub obeys-grows : {N : Type 0} (stands : N → List Entry → Type 0) (shown : N → Shown) (old new : Records) (trace : List Entry)
+    (x : Entry) → Comes stands shown trace x → Tracks old new x → Obeys stands shown old trace → Obeys stands shown new (trace ++ x ∷ [])
+obeys-grows stands shown old new trace x comes tracks o = record {
+  links = λ l. tracks.links l ∙ ap (λ (k : Option Link). link_behind l k x) (o.links l)
+      ∙ sym (known-grows l trace x o.numbered comes.numbers);
+  doors = λ d. tracks.doors d ∙ ap (λ (b : Bool). asked_behind d b x) (o.doors d) ∙ sym (asked-grows d trace x);
+  numbered = numbered-grows trace x o.numbered comes.numbers;
+  births_are = tracks.births_are ∙ born old.births trace x o.births_are comes.numbers ∙ sym (births-grow trace x);
+  wanting_is = tracks.wanting_is ∙ either (is_close_for_lack x) old.wanting
+      ∙ ap (λ (b : Bool). b || is_close_for_lack x) o.wanting_is ∙ sym (any-grows is_close_for_lack trace x);
+  awake = AtEach-grows IsAwake trace x o.awake comes.awake;
+  settled = AtEach-grows (SettledAt stands shown) trace x o.settled comes.settled;
+}
+  where
+    either : (a b : Bool) → (a || b) ≡ (b || a)
+    either true true = refl
+    either true false = refl
+    either false true = refl
+    either false false = refl
+
+    more : (n m : ℕ) → n ≡ m → n ≡ m + 0
+    more n m is = is ∙ sym (add-zero m)
+
+    born : (n : ℕ) (trace : List Entry) (x : Entry) → n ≡ births trace → Numbers trace x
+        → births_behind n x ≡ births trace + (if is_birth x then 1 else 0)
+    born n trace (e.Accepted l door) is next = next
+    born n trace (e.Dialled l to why) is next = next
+    born n trace (e.DialFailed to why) is next = more n (births trace) is
+    born n trace (e.Opened l) is next = more n (births trace) is
+    born n trace (e.Came l bytes) is next = more n (births trace) is
+    born n trace (e.Ended l) is next = more n (births trace) is
+    born n trace (e.Broke l) is next = more n (births trace) is
+    born n trace (e.Went l bytes) is next = more n (births trace) is
+    born n trace (e.Balked w) is next = more n (births trace) is
+    born n trace (e.Shut l) is next = more n (births trace) is
+    born n trace (e.Closed l cause) is next = more n (births trace) is
+    born n trace e.Tick is next = more n (births trace) is
+    born n trace (e.Wait ready how) is next = more n (births trace) is
+
+-- where the trace is told
+pub on : (P Q : List Entry → Type 0) (xs : List Entry) (before behind : Option (List Entry)) → behind ≡ with_entries xs before
+    → ((trace : List Entry) → P trace → Q (trace ++ xs)) → IfSome before P → IfSome behind Q
+on P Q xs None behind is each had = subst (λ (o : Option (List Entry)). IfSome o Q) (sym is) tt
+on P Q xs (Some trace) behind is each had = subst (λ (o : Option (List Entry)). IfSome o Q) (sym is) (each trace had)
+
+-- no entry was told
+pub same : (P Q : List Entry → Type 0) (before behind : Option (List Entry)) → behind ≡ with_entries [] before
+    → ((trace : List Entry) → P trace → Q trace) → IfSome before P → IfSome behind Q
+same P Q before behind is each =
+    on P Q [] before behind is (λ trace had. subst Q (sym (append-nil trace)) (each trace had))
+
+-- a link that is known lives, and is what the trace tells
+pub known_lives : (l : ℕ) (trace : List Entry) (k : Link) → known l trace ≡ Some k → (lives l trace ≡ true) × (sight l trace ≡ k)
+known_lives l trace k is = by (lives l trace) refl is
+  where
+    by : (b : Bool) → lives l trace ≡ b → (if b then Some (sight l trace) else None) ≡ Some k → (lives l trace ≡ true) × (sight l trace ≡ k)
+    by true alive is = (alive, cc)
+    by false dead is = absurd cc
+
+pub each : (P Q : List Entry → Type 0) (told : Option (List Entry)) → ((trace : List Entry) → P trace → Q trace) → IfSome told P
+    → IfSome told Q
+each P Q None all had = tt
+each P Q (Some trace) all had = all trace had
+
+-- the call told an entry, the records follow it, and the node was told
+pub moved : {N : Type 0} (stands : N → List Entry → Type 0) (shown : N → Shown) (old new : Run N) (x : Entry)
+    (P : List Entry → Type 0) (before behind : Option (List Entry)) → behind ≡ with_entries (x ∷ []) before
+    → Tells stands shown x old.node new.node → Tracks old.records new.records x
+    → ((trace : List Entry) → P trace → Stands stands shown old trace × MayCome (shown old.node) trace x × Comes stands shown trace x)
+    → IfSome before P → IfSome behind (Stands stands shown new)
+moved stands shown old new x P before behind adds tells tracks comes had =
+    on P (Stands stands shown new) (x ∷ []) before behind adds
+    (λ trace s. let may = comes trace s in
+    record {
+      node = tells trace may.0.node may.1;
+      obeys = obeys-grows stands shown old.records new.records trace x may.2 tracks may.0.obeys;
+    }) had
+
+-- and the node had no memory
+pub lacked : {N : Type 0} (stands : N → List Entry → Type 0) (shown : N → Shown) (old : Run N) (new : Records) (x : Entry)
+    (P : List Entry → Type 0) (before behind : Option (List Entry)) → behind ≡ with_entries (x ∷ []) before → Tracks old.records new x
+    → ((trace : List Entry) → P trace → Stands stands shown old trace × MayCome (shown old.node) trace x × Comes stands shown trace x)
+    → IfSome before P → IfSome behind (Obeys stands shown new)
+lacked stands shown old new x P before behind adds tracks comes had =
+    on P (Obeys stands shown new) (x ∷ []) before behind adds
+    (λ trace s. let may = comes trace s in obeys-grows stands shown old.records new trace x may.2 tracks may.0.obeys) had
+
+-- so it is left where memory lacked
+pub left : {A E N : Type 0} (stands : N → List Entry → Type 0) (shown : N → Shown) (r : Result A E) (run : Run N)
+    (told : Option (List Entry)) → IfOk r (λ x. ⊥) → IfSome told (Obeys stands shown run.records)
+    → IfSome told (Left stands shown r run)
+left stands shown (Ok x) run told none had = absurd none
+left stands shown (Err why) run told none had = had
+
+-- room was taken for a birth
+pub reserved : {N : Type 0} (stands : N → List Entry → Type 0) (shown : N → Shown) (old new : Run N) (told : Option (List Entry))
+    → new.node ≡ old.node → new.records.asked ≡ old.records.asked → new.records.births ≡ old.records.births
+    → new.records.wanting ≡ old.records.wanting → IsKept (kept old.records.links) (kept new.records.links)
+    → IfSome told (Stands stands shown old) → IfSome told (Stands stands shown new)
+reserved stands shown old new told node doors births_are wanting_is is had =
+    each (Stands stands shown old) (Stands stands shown new) told
+    (λ trace s. record {
+      node = subst (λ n. stands n trace) (sym node) s.node;
+      obeys = record {
+        links = λ l. is.links l ∙ s.obeys.links l;
+        doors = λ d. ap (λ (a : Asked). asked_at a d) doors ∙ s.obeys.doors d;
+        numbered = s.obeys.numbered;
+        births_are = births_are ∙ s.obeys.births_are;
+        wanting_is = wanting_is ∙ s.obeys.wanting_is;
+        awake = s.obeys.awake;
+        settled = s.obeys.settled;
+      };
+    }) had
+
+-- a link that is born has the next number
+pub numbered_too : (P : List Entry → Type 0) (told : Option (List Entry)) (l : ℕ) → HasNextNumber told (New l) → IfSome told P
+    → IfSome told (λ trace. P trace × (l ≡ births trace + 1))
+numbered_too P None l next had = tt
+numbered_too P (Some trace) l next had = (had, next)
+
+-- no entry was told, since the world had no memory
+pub untold : {N : Type 0} (stands : N → List Entry → Type 0) (shown : N → Shown) (old : Run N)
+    (before behind : Option (List Entry)) → behind ≡ with_entries [] before
+    → IfSome before (Stands stands shown old) → IfSome behind (Obeys stands shown old.records)
+untold stands shown old before behind adds had =
+    same (Stands stands shown old) (Obeys stands shown old.records) before behind adds (λ trace s. s.obeys) had
+
+-- a link that lives is closed, or shut
+pub on_close : (P Q : List Entry → Type 0) (l : ℕ) (cause : Cause) (before behind : Option (List Entry))
+    → behind ≡ with_closed l cause before → ((trace : List Entry) → P trace → (lives l trace ≡ true) × Q (trace ++ e.Closed l cause ∷ []))
+    → IfSome before P → IfSome behind Q
+on_close P Q l cause None behind is all had = subst (λ (o : Option (List Entry)). IfSome o Q) (sym is) tt
+on_close P Q l cause (Some trace) behind is all had =
+    let it = all trace had in
+    subst (λ (o : Option (List Entry)). IfSome o Q) (sym is)
+    (subst (λ (b : Bool). Q (trace ++ (if b then e.Closed l cause ∷ [] else []))) (sym it.0) it.1)
+
+pub on_shut : (P Q : List Entry → Type 0) (l : ℕ) (before behind : Option (List Entry))
+    → behind ≡ with_shut l before
+    → ((trace : List Entry) → P trace → (lives l trace ≡ true) × (was_shut l trace ≡ false) × Q (trace ++ e.Shut l ∷ []))
+    → IfSome before P → IfSome behind Q
+on_shut P Q l None behind is all had = subst (λ (o : Option (List Entry)). IfSome o Q) (sym is) tt
+on_shut P Q l (Some trace) behind is all had =
+    let it = all trace had in
+    subst (λ (o : Option (List Entry)). IfSome o Q) (sym is)
+    (subst (λ (b : Bool). Q (trace ++ (if b && not (was_shut l trace) then e.Shut l ∷ [] else []))) (sym it.0)
+    (subst (λ (b : Bool). Q (trace ++ (if true && not b then e.Shut l ∷ [] else []))) (sym it.1) it.2))
+
+-- what is known of links and doors stays behind such an entry
+abbrev pub IsPlain : Entry → Type 0
+IsPlain (e.DialFailed to why) = ⊤
+IsPlain (e.Broke l) = ⊤
+IsPlain (e.Shut l) = ⊤
+IsPlain e.Tick = ⊤
+IsPlain _ = ⊥
+
+still : (o : Option Link) → o ≡ option_map (λ (k : Link). k) o
+still None = refl
+still (Some k) = refl
+
+pub unmoved : (r : Records) (x : Entry) → IsPlain x → Tracks r r x
+unmoved r (e.DialFailed to why) plain = record { links = λ l. still _; doors = λ d. refl; births_are = refl; wanting_is = refl }
+unmoved r (e.Broke l) plain = record { links = λ l. still _; doors = λ d. refl; births_are = refl; wanting_is = refl }
+unmoved r (e.Shut l) plain = record { links = λ l. still _; doors = λ d. refl; births_are = refl; wanting_is = refl }
+unmoved r e.Tick plain = record { links = λ l. still _; doors = λ d. refl; births_are = refl; wanting_is = refl }
+unmoved r _ plain = absurd plain
+
+-- what was asked for a dial
+pub dial_comes : {N : Type 0} (stands : N → List Entry → Type 0) (shown : N → Shown) (run : Run N) (to : Target) (why : Why) (l : ℕ)
+    → (shown run.node).due ≡ Some (act.Dial to why) → (trace : List Entry)
+    → Stands stands shown run trace × (l ≡ births trace + 1)
+    → Stands stands shown run trace × MayCome (shown run.node) trace (e.Dialled l to why) × Comes stands shown trace (e.Dialled l to why)
+dial_comes stands shown run to why l due trace had =
+    (had.0, (due, had.1), record { numbers = had.1; awake = tt; settled = tt })
+
+pub dial_fails : {N : Type 0} (stands : N → List Entry → Type 0) (shown : N → Shown) (run : Run N) (to : Target) (why : Why)
+    → (shown run.node).due ≡ Some (act.Dial to why) → (trace : List Entry) → Stands stands shown run trace
+    → Stands stands shown run trace × MayCome (shown run.node) trace (e.DialFailed to why) × Comes stands shown trace (e.DialFailed to why)
+dial_fails stands shown run to why due trace had = (had, due, record { numbers = tt; awake = tt; settled = tt })
+
+-- what is known of a link that lives is so
+pub known_so : {N : Type 0} (stands : N → List Entry → Type 0) (shown : N → Shown) (run : Run N) (l : ℕ) (k : Link) (trace : List Entry)
+    → (kept run.records.links).links l ≡ Some k → Stands stands shown run trace → (lives l trace ≡ true) × (sight l trace ≡ k)
+known_so stands shown run l k trace is s = known_lives l trace k (sym (s.obeys.links l) ∙ is)
+
+-- a call that moved nothing, or a wait: the node isn't told
+pub rested : {N : Type 0} (stands : N → List Entry → Type 0) (shown : N → Shown) (old new : Run N) (x : Entry)
+    (P : List Entry → Type 0) (before behind : Option (List Entry)) → behind ≡ with_entries (x ∷ []) before
+    → new.node ≡ old.node → ((trace : List Entry) → MayCome (shown old.node) trace x → stands old.node trace → stands old.node (trace ++ x ∷ []))
+    → Tracks old.records new.records x
+    → ((trace : List Entry) → P trace → Stands stands shown old trace × MayCome (shown old.node) trace x × Comes stands shown trace x)
+    → IfSome before P → IfSome behind (Stands stands shown new)
+rested stands shown old new x P before behind adds node rests tracks comes had =
+    on P (Stands stands shown new) (x ∷ []) before behind adds
+    (λ trace s. let may = comes trace s in
+    record {
+      node = subst (λ n. stands n (trace ++ x ∷ [])) (sym node) (rests trace may.1 may.0.node);
+      obeys = obeys-grows stands shown old.records new.records trace x may.2 tracks may.0.obeys;
+    }) had
+
+-- the buffer alone changed
+pub same_run : {N : Type 0} (stands : N → List Entry → Type 0) (shown : N → Shown) (old new : Run N) (told : Option (List Entry))
+    → new.node ≡ old.node → new.records ≡ old.records → IfSome told (Stands stands shown old) → IfSome told (Stands stands shown new)
+same_run stands shown old new told node records had =
+    each (Stands stands shown old) (Stands stands shown new) told
+    (λ trace s. record {
+      node = subst (λ n. stands n trace) (sym node) s.node;
+      obeys = subst (λ (r : Records). Obeys stands shown r trace) (sym records) s.obeys;
+    }) had
+
+-- a wait named the door, so an accept may be made at it
+pub accept_comes : {N : Type 0} (stands : N → List Entry → Type 0) (shown : N → Shown) (run : Run N) (door : Door) (l : ℕ)
+    → (shown run.node).due ≡ None → asked_at run.records.asked door ≡ true → (trace : List Entry)
+    → Stands stands shown run trace × (l ≡ births trace + 1)
+    → Stands stands shown run trace × MayCome (shown run.node) trace (e.Accepted l door) × Comes stands shown trace (e.Accepted l door)
+accept_comes stands shown run door l due is trace had =
+    (had.0, (due, had.1), record { numbers = had.1; awake = sym (had.0.obeys.doors door) ∙ is; settled = tt })
+
+pub accept_balks : {N : Type 0} (stands : N → List Entry → Type 0) (shown : N → Shown) (run : Run N) (door : Door)
+    → (shown run.node).due ≡ None → asked_at run.records.asked door ≡ true → (trace : List Entry) → Stands stands shown run trace
+    → Stands stands shown run trace × MayCome (shown run.node) trace (e.Balked (way.Accept door))
+    × Comes stands shown trace (e.Balked (way.Accept door))
+accept_balks stands shown run door due is trace s =
+    (s, due, record { numbers = tt; awake = sym (s.obeys.doors door) ∙ is; settled = tt })
+
+pub accept_tracks : (r : Records) (now : Asked) (door : Door)
+    → ((d : Door) → asked_at now d ≡ (if same_door door d then false else asked_at r.asked d))
+    → Tracks r (record r { asked = now }) (e.Balked (way.Accept door))
+accept_tracks r now door sets = record {
+  links = λ l. still _;
+  doors = λ d. sets d ∙ off (same_door door d) (asked_at r.asked d);
+  births_are = refl;
+  wanting_is = refl;
+}
+  where
+    off : (b a : Bool) → (if b then false else a) ≡ (not b && a)
+    off true a = refl
+    off false a = refl

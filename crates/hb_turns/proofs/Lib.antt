@@ -1,0 +1,5 @@
+pub mod Holding
+pub mod Serving
+pub mod Waking
+pub mod Watching
+pub mod Ways

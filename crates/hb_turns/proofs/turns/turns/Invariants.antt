@@ -1,0 +1,15 @@
+use Rattle.std.specs.Prelude.{◌≡◌, IfSome}
+use Rattle.hb_turns.specs.Stands.{Stands, Watched, IsIdle}
+use Rattle.hb_turns.proofs.turns.turns.Given as goal
+
+-- between two turns nothing is due, the run is kept, and its links watched
+abbrev pub invariant-loop-turn : goal.invariant-loop-turn
+invariant-loop-turn g l = record {
+  idle : IsIdle (g.N.Node.shown l.run.node);
+  watched : Watched g.N.Node.shown l.fn.run → Watched g.N.Node.shown l.run;
+  kept : Watched g.N.Node.shown l.fn.run
+      → IfSome (g.W.World.trace l.fn.world) (Stands g.N.Node.stands g.N.Node.shown l.fn.run)
+      → IfSome (g.W.World.trace l.world) (Stands g.N.Node.stands g.N.Node.shown l.run);
+  faults : g.W.World.faults l.world ≡ g.W.World.faults l.fn.world;
+  follows : g.W.World.script l.world ≡ g.W.World.script l.fn.world;
+}

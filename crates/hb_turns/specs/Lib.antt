@@ -1,0 +1,7 @@
+pub mod Ends
+pub mod May
+pub mod Served
+pub mod Settled
+pub mod Shown
+pub mod Stands
+pub mod Woken

@@ -1,0 +1,66 @@
+-- What the loop holds, and the trace that it stands for.
+use Rattle.std.specs.Prelude.{⊤, ◌≡◌, ◌⊎◌, ℕ, ◌+◌, ◌||◌, Bool, true, false, if◌then◌else◌, List, [], ◌∷◌, ◌++◌, Option, Some, None, IfSome, Result, Ok, Err}
+use Rattle.hb_base.specs.declared.door.Door.{Door}
+use Rattle.hb_world.specs.Trace.{births}
+use Rattle.hb_world.specs.declared.entry.Entry.TheVariants as e
+use Rattle.hb_world.specs.declared.entry.Entry.{Entry}
+use Rattle.hb_ready.specs.Awake.{AwakeLaw}
+use Rattle.hb_ready.specs.Kept.{Kept, Follows, has}
+use Rattle.hb_ready.specs.Numbers.{Numbered}
+use Rattle.hb_ready.specs.Registry.{kept}
+use Rattle.hb_ready.specs.Sight.{known, asked, asked_at, asked_behind}
+use Rattle.hb_turns.specs.Ends.{was_wanting, is_close_for_lack}
+use Rattle.hb_turns.specs.Settled.{Rests, SettledLaw}
+use Rattle.hb_turns.specs.Shown.{Shown}
+use Rattle.hb_turns.specs.declared.run.Records.{Records}
+use Rattle.hb_turns.specs.declared.run.Run.{Run}
+
+-- what is known is what a trace tells, and the trace obeys the laws
+pub record Obeys {N : Type 0} (stands : N → List Entry → Type 0) (shown : N → Shown) (r : Records) (trace : List Entry) : Type 0 where
+  pub links : (l : ℕ) → (kept r.links).links l ≡ known l trace
+  pub doors : (d : Door) → asked_at r.asked d ≡ asked d trace
+  pub numbered : Numbered trace
+  pub births_are : r.births ≡ births trace
+  pub wanting_is : r.wanting ≡ was_wanting trace
+  pub awake : AwakeLaw trace
+  pub settled : SettledLaw stands shown trace
+
+-- and the node stands for the trace
+pub record Stands {N : Type 0} (stands : N → List Entry → Type 0) (shown : N → Shown) (run : Run N) (trace : List Entry) : Type 0 where
+  pub node : stands run.node trace
+  pub obeys : Obeys stands shown run.records trace
+
+-- the number of the link that was born last
+abbrev pub births_behind : ℕ → Entry → ℕ
+births_behind n (e.Accepted l door) = l
+births_behind n (e.Dialled l to why) = l
+births_behind n _ = n
+
+-- what is known follows an entry
+pub record Tracks (old new : Records) (x : Entry) : Type 0 where
+  pub links : Follows (kept old.links) (kept new.links) x
+  pub doors : (d : Door) → asked_at new.asked d ≡ asked_behind d (asked_at old.asked d) x
+  pub births_are : new.births ≡ births_behind old.births x
+  pub wanting_is : new.wanting ≡ (is_close_for_lack x || old.wanting)
+
+-- where memory lacked, the node stands for no trace
+abbrev pub Left : {A E N : Type 0} → (N → List Entry → Type 0) → (N → Shown) → Result A E → Run N → List Entry → Type 0
+Left stands shown (Ok x) run trace = Stands stands shown run trace
+Left stands shown (Err why) run trace = Obeys stands shown run.records trace
+
+-- where the world tells its trace, what stood for it stands for it again
+abbrev pub Keeps : {A E N : Type 0} → (N → List Entry → Type 0) → (N → Shown) → Result A E → Run N → Option (List Entry) → Run N
+    → Option (List Entry) → Type 0
+Keeps stands shown result old before new behind = IfSome before (Stands stands shown old) → IfSome behind (Left stands shown result new)
+
+-- nothing is due, and no link stirred that the loop wasn't told
+pub record IsIdle (s : Shown) : Type 0 where
+  pub due : s.due ≡ None
+  pub stirred : s.stirred ≡ []
+
+-- each link is on the list, or it stirred and the loop wasn't told, or it rests
+abbrev pub WatchedBy : Kept → Shown → Type 0
+WatchedBy k s = (l : ℕ) → (has k.listed l ≡ true) ⊎ ((has s.stirred l ≡ true) ⊎ Rests (k.links l) l s)
+
+abbrev pub Watched : {N : Type 0} → (N → Shown) → Run N → Type 0
+Watched shown run = WatchedBy (kept run.records.links) (shown run.node)

@@ -1,0 +1,162 @@
+//! The calls that are due.
+
+ghost use Rattle.std.specs.Prelude.{◌≡◌, ◌<◌, ◌≤◌, ◌+◌, true, false, None, Some, IfOk, OnOk, List, [], length, if◌then◌else◌};
+ghost use Rattle.std.specs.Option.{is_some};
+ghost use Rattle.hb_world.specs.declared.entry.Entry.{Entry};
+ghost use Rattle.hb_base.specs.declared.door.Door.{Door};
+ghost use Rattle.hb_base.specs.declared.door.Why.{Why};
+ghost use Rattle.hb_base.specs.declared.target.Target.{Target};
+ghost use Rattle.hb_world.specs.declared.entry.Entry.TheVariants as e;
+ghost use Rattle.hb_ready.specs.Registry.{kept, HasRoom};
+ghost use Rattle.hb_turns.specs.declared.act.Act.TheVariants as act;
+ghost use Rattle.hb_turns.specs.Ends.{is_lack};
+ghost use Rattle.hb_turns.specs.Stands.{Keeps, Watched, WatchedBy, Tracks, Stands, IsIdle};
+ghost use Rattle.hb_turns.specs.Shown.{Shown};
+
+use crate::act::Act;
+use crate::node::Node;
+use crate::run::{Records, Run};
+use hb_base::{Cause, NoMemory, Target, Why};
+use hb_world::{Born, World};
+
+/// Memory lacked.
+fn lacked(cause: Cause) -> bool
+    ensures { result ≡ is_lack cause }
+{
+    match cause {
+        Cause::NoMemory => true,
+        _ => false,
+    }
+}
+
+/// A link is closed.
+pub(crate) fn forget(records: &mut Records, link: u64, cause: Cause)
+    ensures tracks { Tracks records.old records.new (e.Closed link cause) }
+    ensures listed { (kept records.new.links).listed ≡ (kept records.old.links).listed }
+    ensures count { (kept records.new.links).count + (if is_some ((kept records.old.links).links link) then 1 else 0)
+        ≡ (kept records.old.links).count }
+{
+    records.links.closed(link);
+    if lacked(cause) {
+        records.wanting = true;
+    }
+}
+
+/// A link is born, and is to be tried.
+pub(crate) fn enter(records: &mut Records, link: u64, is_open: bool)
+    requires { HasRoom records.old.links }
+    ensures accepted { (door : Door) → is_open ≡ true → Tracks records.old records.new (e.Accepted link door) }
+    ensures dialled { (to : Target) (why : Why) → is_open ≡ false → Tracks records.old records.new (e.Dialled link to why) }
+    ensures watched { (s : Shown) → WatchedBy (kept records.old.links) s → WatchedBy (kept records.new.links) s }
+{
+    records.births = link;
+    records.links.born(link, is_open);
+}
+
+/// Dials, and tells the node what came of it.
+fn dial<W: World, N: Node>(
+    run: &mut Run<N>,
+    world: &mut W,
+    to: Target,
+    why: Why,
+) -> Result<(), NoMemory>
+    ensures keeps { (N.shown run.old.node).due ≡ Some (act.Dial to why) → Keeps N.stands N.shown result run.old (W.trace world.old) run.new (W.trace world.new) }
+    ensures watched { OnOk result (Watched N.shown run.old → Watched N.shown run.new) }
+    ensures weight { OnOk result ((N.shown run.new.node).weight ≤ (N.shown run.old.node).weight + 1) }
+    ensures faults { W.faults world.new ≡ W.faults world.old }
+    ensures follows { W.script world.new ≡ W.script world.old }
+{
+    run.records.links.reserve()?;
+    match world.dial(to, why) {
+        Born::New(link) => {
+            enter(&mut run.records, link, false);
+            run.node.dialled(why, Some(link))?;
+            Ok(())
+        }
+        Born::Failed => {
+            run.node.dialled(why, None)?;
+            Ok(())
+        }
+        Born::Balked => unreachable!(),
+        Born::NoMemory => Err(NoMemory),
+    }
+}
+
+/// Makes the call that is due, and says whether one was.
+fn make_act<W: World, N: Node>(run: &mut Run<N>, world: &mut W) -> Result<bool, NoMemory>
+    ensures keeps { Keeps N.stands N.shown result run.old (W.trace world.old) run.new (W.trace world.new) }
+    ensures watched { OnOk result (Watched N.shown run.old → Watched N.shown run.new) }
+    ensures due { IfOk result (λ made. made ≡ false → (N.shown run.new.node).due ≡ None) }
+    ensures less { IfOk result (λ made. made ≡ true → (N.shown run.new.node).weight < (N.shown run.old.node).weight) }
+    ensures faults { W.faults world.new ≡ W.faults world.old }
+    ensures follows { W.script world.new ≡ W.script world.old }
+{
+    match run.node.next_act() {
+        None => Ok(false),
+        Some(Act::Close { link, cause }) => {
+            world.close(link, cause);
+            forget(&mut run.records, link, cause);
+            Ok(true)
+        }
+        Some(Act::Shut { link }) => {
+            world.shut(link);
+            Ok(true)
+        }
+        Some(Act::Dial { to, why }) => {
+            dial(run, world, to, why)?;
+            Ok(true)
+        }
+    }
+}
+
+/// Makes all calls that are due.
+fn make_acts<W: World, N: Node>(run: &mut Run<N>, world: &mut W) -> Result<(), NoMemory>
+    ensures keeps { Keeps N.stands N.shown result run.old (W.trace world.old) run.new (W.trace world.new) }
+    ensures watched { OnOk result (Watched N.shown run.old → Watched N.shown run.new) }
+    ensures due { OnOk result ((N.shown run.new.node).due ≡ None) }
+    ensures faults { W.faults world.new ≡ W.faults world.old }
+    ensures follows { W.script world.new ≡ W.script world.old }
+{
+    while make_act(run, world)? {}
+    Ok(())
+}
+
+/// Puts the next link that stirred on the list, and says whether there was one.
+fn hear<N: Node>(run: &mut Run<N>) -> bool
+    ensures keeps { (trace : List Entry) → Stands N.stands N.shown run.old trace → Stands N.stands N.shown run.new trace }
+    ensures watched { Watched N.shown run.old → Watched N.shown run.new }
+    ensures due { (N.shown run.new.node).due ≡ (N.shown run.old.node).due }
+    ensures heard { result ≡ false → (N.shown run.new.node).stirred ≡ [] }
+    ensures less { result ≡ true → length (N.shown run.new.node).stirred < length (N.shown run.old.node).stirred }
+{
+    match run.node.next_stirred() {
+        None => false,
+        Some(link) => {
+            run.records.links.list(link);
+            true
+        }
+    }
+}
+
+/// Puts each link that stirred on the list.
+fn hear_all<N: Node>(run: &mut Run<N>)
+    ensures keeps { (trace : List Entry) → Stands N.stands N.shown run.old trace → Stands N.stands N.shown run.new trace }
+    ensures watched { Watched N.shown run.old → Watched N.shown run.new }
+    ensures due { (N.shown run.new.node).due ≡ (N.shown run.old.node).due }
+    ensures heard { (N.shown run.new.node).stirred ≡ [] }
+{
+    while hear(run) {}
+}
+
+/// Behind something that moved: makes the calls that are due, and puts each link that stirred on the list.
+pub(crate) fn carry<W: World, N: Node>(run: &mut Run<N>, world: &mut W) -> Result<(), NoMemory>
+    ensures keeps { Keeps N.stands N.shown result run.old (W.trace world.old) run.new (W.trace world.new) }
+    ensures watched { OnOk result (Watched N.shown run.old → Watched N.shown run.new) }
+    ensures idle { OnOk result (IsIdle (N.shown run.new.node)) }
+    ensures faults { W.faults world.new ≡ W.faults world.old }
+    ensures follows { W.script world.new ≡ W.script world.old }
+{
+    make_acts(run, world)?;
+    hear_all(run);
+    Ok(())
+}

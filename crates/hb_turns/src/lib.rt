@@ -1,0 +1,18 @@
+//! The event loop over many links and three doors, for every world and every node.
+#![tactic(auto)]
+
+mod act;
+mod acts;
+mod link;
+mod node;
+mod round;
+mod run;
+mod served;
+mod service;
+mod turns;
+mod waits;
+
+pub use act::Act;
+pub use node::Node;
+pub use served::ServeEnd;
+pub use service::serve;

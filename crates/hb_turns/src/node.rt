@@ -1,0 +1,100 @@
+//! What the event loop needs of a node.
+
+use crate::act::Act;
+use hb_base::{Door, NoMemory, Why};
+
+/// A node: it is told what the calls of a world did, and says which calls are due. A node stores no trace; it stands for each trace
+/// that it may have been told.
+///
+/// `NoMemory` means that the run ends: the node then stands for no trace, and is told nothing more.
+pub trait Node {
+    ghost use Rattle.std.specs.Prelude.{◌≡◌, ◌≤◌, ◌<◌, ◌+◌, ◌++◌, [], ◌∷◌, ℕ, List, length, take, OnOk, IfOk, IfNone, Some};
+    ghost use Rattle.std.specs.Option.{option_to_list};
+    ghost use Rattle.hb_base.specs.declared.target.Target.{Target};
+    ghost use Rattle.hb_world.specs.declared.entry.Entry.{Entry};
+    ghost use Rattle.hb_world.specs.declared.entry.Entry.TheVariants as e;
+    ghost use Rattle.hb_world.specs.declared.entry.Way.{Way};
+    ghost use Rattle.hb_world.specs.declared.entry.ReadyItem.{ReadyItem};
+    ghost use Rattle.hb_world.specs.declared.entry.Woken.{Woken};
+    ghost use Rattle.hb_turns.specs.declared.act.Act.TheVariants as act;
+    ghost use Rattle.hb_turns.specs.Shown.{Shown, Stirs, IsSame, Tells, StandsAs, Acts, act_weight, dial_entry, MovesNothing};
+
+    /// The traces that it stands for.
+    ghost stands: { Self → List Entry → Type 0 };
+
+    /// What the loop sees of it.
+    ghost shown: { Self → Shown };
+
+    /// A link was accepted at a door.
+    fn accepted(&mut self, link: u64, door: Door) -> Result<(), NoMemory>
+        ensures tells { OnOk result (Tells stands shown (e.Accepted link door) self.old self.new) }
+        ensures stirs { OnOk result (Stirs (shown self.old) (shown self.new)) };
+
+    /// What came of the dial that is due: a link, or none.
+    fn dialled(&mut self, why: Why, link: Option<u64>) -> Result<(), NoMemory>
+        ensures tells { OnOk result ((to : Target) → Tells stands shown (dial_entry to why link) self.old self.new) }
+        ensures stirs { OnOk result (Stirs (shown self.old) (shown self.new)) }
+        ensures weight { OnOk result ((shown self.new).weight ≤ (shown self.old).weight + 1) };
+
+    /// A dialled link is open.
+    fn opened(&mut self, link: u64) -> Result<(), NoMemory>
+        ensures tells { OnOk result (Tells stands shown (e.Opened link) self.old self.new) }
+        ensures stirs { OnOk result (Stirs (shown self.old) (shown self.new)) };
+
+    /// How many bytes may be read on a link now.
+    fn wants(&self, link: u64) -> usize
+        ensures { result ≡ (shown self.now).wants link };
+
+    /// These bytes were read on a link.
+    fn take_bytes(&mut self, link: u64, bytes: &[u8]) -> Result<(), NoMemory>
+        requires { length bytes.now ≤ (shown self.old).wants link }
+        ensures tells { OnOk result (Tells stands shown (e.Came link bytes.now) self.old self.new) }
+        ensures stirs { OnOk result (Stirs (shown self.old) (shown self.new)) };
+
+    /// The link's peer sends no more.
+    fn ended(&mut self, link: u64)
+        ensures tells { Tells stands shown (e.Ended link) self.old self.new }
+        ensures stirs { Stirs (shown self.old) (shown self.new) };
+
+    /// A call on the link failed.
+    fn broke(&mut self, link: u64)
+        ensures tells { Tells stands shown (e.Broke link) self.old self.new }
+        ensures stirs { Stirs (shown self.old) (shown self.new) };
+
+    /// Time passed.
+    fn tick(&mut self)
+        ensures tells { Tells stands shown e.Tick self.old self.new }
+        ensures stirs { Stirs (shown self.old) (shown self.new) };
+
+    /// The bytes that are to be written on a link now.
+    fn output(&self, link: u64) -> &[u8]
+        ensures { result.now ≡ (shown self.now).output link };
+
+    /// So many of the bytes that were to be written on the link are.
+    fn wrote(&mut self, link: u64, n: usize)
+        requires { n ≤ length ((shown self.old).output link) }
+        ensures tells { Tells stands shown (e.Went link (take n ((shown self.old).output link))) self.old self.new }
+        ensures stirs { Stirs (shown self.old) (shown self.new) };
+
+    /// Whether one write on the link goes before the acts that are due: a GOAWAY waits on it, and its close is due behind that.
+    fn last_words(&self, link: u64) -> bool
+        ensures { result ≡ (shown self.now).last_words link };
+
+    /// The next call that is due. `None` exactly where none is.
+    fn next_act(&mut self) -> Option<Act>
+        ensures due { result ≡ (shown self.old).due }
+        ensures acts { Acts stands shown result self.old self.new }
+        ensures stirs { Stirs (shown self.old) (shown self.new) }
+        ensures none { IfNone result (IsSame (shown self.old) (shown self.new)) }
+        ensures weight { (shown self.new).weight + act_weight result ≤ (shown self.old).weight };
+
+    /// The next link on which more may be read or is to be written than before. `None` exactly where none stirred that wasn't told.
+    fn next_stirred(&mut self) -> Option<u64>
+        ensures head { (shown self.old).stirred ≡ option_to_list result ++ (shown self.new).stirred }
+        ensures none { IfNone result ((shown self.old).stirred ≡ []) }
+        ensures same { IsSame (shown self.old) (shown self.new) }
+        ensures stands { StandsAs stands self.old self.new };
+
+    /// A call that moved nothing, or a wait, is told to no node: where no act is due, it stands for the trace with that entry too.
+    ghost rests: { (n : Self) → (trace : List Entry) → (x : Entry) → MovesNothing (shown n) trace x → stands n trace → stands n (trace ++ x ∷ []) };
+}

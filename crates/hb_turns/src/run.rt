@@ -1,0 +1,25 @@
+//! A run of the event loop, as it stands between two calls.
+
+use hb_ready::{Asked, Links};
+
+/// The most bytes of one read.
+pub(crate) const MOST_READ: usize = 16_393;
+
+/// What the loop knows of links and doors, and what it counts.
+#[derive(Drop)]
+pub struct Records {
+    pub links: Links,
+    pub asked: Asked,
+    /// How many links were born.
+    pub births: u64,
+    /// A link was closed for want of memory.
+    pub wanting: bool,
+}
+
+/// The node, what the loop knows, and room for what is read.
+#[derive(Drop)]
+pub struct Run<N> {
+    pub node: N,
+    pub records: Records,
+    pub buffer: Vec<u8>,
+}

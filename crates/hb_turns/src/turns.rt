@@ -1,0 +1,67 @@
+//! Turns: a round where something is to be tried, else a wait.
+
+ghost use Rattle.std.specs.Prelude.{◌≡◌, false, OnOk};
+ghost use Rattle.hb_base.specs.Count.{Counts};
+ghost use Rattle.hb_turns.specs.Ends.{is_fault, is_fault_of_turn, end_of};
+ghost use Rattle.hb_turns.specs.Stands.{Keeps, Watched, IsIdle};
+ghost use Rattle.hb_turns.specs.Woken.{IsQuiet};
+
+use crate::acts::carry;
+use crate::node::Node;
+use crate::round::round;
+use crate::run::{Records, Run};
+use crate::served::ServeEnd;
+use crate::waits::wait;
+use hb_base::NoMemory;
+use hb_world::{Ready, World};
+
+/// Whether a link stands on the list, or an accept may give a link at a door.
+fn has_work(records: &Records) -> bool
+    ensures { result ≡ false → IsQuiet records.now }
+{
+    match records.links.front() {
+        Some(_) => true,
+        None => records.asked.inbound | records.asked.outbound | records.asked.plain,
+    }
+}
+
+/// A turn. The end, where it ends the run.
+fn turn<W: World, N: Node>(
+    run: &mut Run<N>,
+    world: &mut W,
+    ready: &mut Ready,
+) -> Result<Option<ServeEnd>, NoMemory>
+    ensures keeps { IsIdle (N.shown run.old.node) → Watched N.shown run.old
+        → Keeps N.stands N.shown result run.old (W.trace world.old) run.new (W.trace world.new) }
+    ensures watched { OnOk result (Watched N.shown run.old → Watched N.shown run.new) }
+    ensures idle { OnOk result (IsIdle (N.shown run.old.node) → IsIdle (N.shown run.new.node)) }
+    ensures faults { Counts (W.faults world.old) (W.faults world.new) (is_fault_of_turn result) }
+    ensures follows { W.script world.new ≡ W.script world.old }
+{
+    if has_work(&run.records) {
+        let _ = round(run, world)?;
+        return Ok(None);
+    }
+    wait(run, world, ready)
+}
+
+/// All turns.
+pub(crate) fn turns<W: World, N: Node>(
+    run: &mut Run<N>,
+    world: &mut W,
+    ready: &mut Ready,
+    most: u64,
+) -> Result<ServeEnd, NoMemory>
+    ensures keeps { Watched N.shown run.old → Keeps N.stands N.shown result run.old (W.trace world.old) run.new (W.trace world.new) }
+    ensures faults { Counts (W.faults world.old) (W.faults world.new) (is_fault (end_of result)) }
+    ensures follows { W.script world.new ≡ W.script world.old }
+{
+    carry(run, world)?;
+    for _turn in 0..most {
+        match turn(run, world, ready)? {
+            Some(end) => return Ok(end),
+            None => {}
+        }
+    }
+    Ok(ServeEnd::TurnsSpent)
+}
