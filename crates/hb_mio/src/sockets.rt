@@ -90,6 +90,7 @@ impl Sockets {
         }
     }
 
+    /// Whether a link is open; one that doesn't live balks.
     pub fn finish(&mut self, link: u64) -> Finished
         ensures counts { Counts (faults_at self.old.by_number link) (faults_at self.new.by_number link) (finish_failed result) }
         ensures later { faults_at self.old.by_number link ≤ faults_at self.new.by_number link }
@@ -101,6 +102,7 @@ impl Sockets {
         }
     }
 
+    /// Reads some bytes to the buffer's front; a link that doesn't live balks.
     pub fn read(&mut self, link: u64, into: &mut [u8]) -> Read
         requires { 0 < length into.old }
         ensures within { ReadsWithin into.new result }
@@ -114,6 +116,7 @@ impl Sockets {
         }
     }
 
+    /// Writes some bytes from the buffer's front; a link that doesn't live balks.
     pub fn write(&mut self, link: u64, from: &[u8]) -> Wrote
         requires { 0 < length from.now }
         ensures within { WritesWithin from.now result }
@@ -127,6 +130,7 @@ impl Sockets {
         }
     }
 
+    /// Writes no more to a link that lives.
     pub fn shut(&mut self, link: u64)
         ensures same { SameFaults self.old.by_number self.new.by_number }
     {
