@@ -176,11 +176,12 @@ pub trait World {
         ensures births { birth_faults self.new ≡ birth_faults self.old }
         ensures whole { faults self.new ≡ faults self.old };
 
-    /// Ends the link. It takes no memory, and does nothing to a link that doesn't live.
+    /// Ends the link. It takes no memory, and does nothing to a link that doesn't live. Of the link that it closed a world may
+    /// forget how often calls failed.
     fn close(&mut self, link: u64, cause: Cause)
         ensures follows { script self.new ≡ script self.old }
         ensures adds { trace self.new ≡ with_closed link cause (trace self.old) }
-        ensures links { (l : ℕ) → link_faults self.new l ≡ link_faults self.old l }
+        ensures others { (l : ℕ) → ¬ (l ≡ link) → link_faults self.new l ≡ link_faults self.old l }
         ensures births { birth_faults self.new ≡ birth_faults self.old }
         ensures whole { faults self.new ≡ faults self.old };
 

@@ -1,0 +1,22 @@
+-- How often calls on links failed, as a table of sockets by their numbers keeps it.
+use Rattle.std.specs.Prelude.{◌≡◌, ◌≢◌, ℕ, nat_eq, Option, Some, None}
+use Rattle.std.specs.HashMap.{get, HashMap}
+use Rattle.hb_mio.specs.declared.socket.Socket.{Socket}
+
+-- a link that doesn't live has no count
+abbrev pub faults_of : Option Socket → ℕ
+faults_of None = 0
+faults_of (Some socket) = socket.faults
+
+module _ {S : Type 0} where
+  -- how often a finish, read or write of this link failed
+  abbrev pub faults_at : HashMap ℕ Socket S → ℕ → ℕ
+  faults_at sockets link = faults_of (get nat_eq sockets link)
+
+  -- no count changed
+  abbrev pub SameFaults : HashMap ℕ Socket S → HashMap ℕ Socket S → Type 0
+  SameFaults before after = (l : ℕ) → faults_at after l ≡ faults_at before l
+
+  -- no count changed but this link's
+  abbrev pub OthersSame : ℕ → HashMap ℕ Socket S → HashMap ℕ Socket S → Type 0
+  OthersSame link before after = (l : ℕ) → l ≢ link → faults_at after l ≡ faults_at before l

@@ -1,0 +1,228 @@
+//! The world of real sockets.
+
+ghost use Rattle.std.specs.Prelude.{◌≡◌, ◌<◌, ◌≤◌, OnErr, true};
+ghost use Rattle.std.specs.HashMap.{spare};
+ghost use Rattle.hb_base.specs.Count.{Counts};
+ghost use Rattle.hb_mio.specs.Faults.{SameFaults};
+ghost use Rattle.hb_mio.specs.Stuck.{stuck_at};
+ghost use Rattle.hb_world.specs.Answers.{birth_failed};
+
+use crate::doors::{Doors, address_of};
+use crate::sockets::Sockets;
+use crate::watch::{Watch, begin};
+use hb_base::{Cause, Door, Or, Target, Why};
+use hb_world::{Born, Finished, Listened, Read, Ready, Waited, World, Wrote};
+use mio::net::TcpStream;
+use std::alloc::Global;
+use std::io::{self, ErrorKind};
+use std::net::Net;
+use std::time::Clock;
+
+/// The real sockets of TCP. It tells no trace.
+///
+/// Of the system's events it takes each once: a link is registered both ways at its birth, and never again. A read behind one that
+/// didn't fill its buffer balks without a call of the system, until the next event, unless the last one told that the peer sends
+/// no more; and so does a finish without an event. A wait answers Tick once a second has passed since the last one, with what is
+/// ready, and never Stop. A door whose accept failed is named at the next tick, since no event tells again of what waits there.
+/// A call that a signal interrupted is made again, up to 16 times. No memory is taken after the first listen, dial or wait, but
+/// for the table of links, and for that before a connection is accepted or begun.
+#[derive(Drop)]
+pub struct MioWorld<R: Net + Clock + Drop> {
+    alloc: Global,
+    net: R,
+    /// Made at the first listen, dial or wait.
+    watch: Option<Watch>,
+    doors: Doors,
+    sockets: Sockets,
+    birth_faults: u64,
+    faults: u64,
+}
+
+impl<R: Net + Clock + Drop> MioWorld<R> {
+    /// The world as it stands before any call. It asks the system nothing.
+    pub fn new(alloc: Global, net: R) -> MioWorld<R> {
+        MioWorld {
+            alloc,
+            net,
+            watch: None,
+            doors: Doors::closed(),
+            sockets: Sockets::new(alloc),
+            birth_faults: 0,
+            faults: 0,
+        }
+    }
+
+    /// Begins to listen.
+    fn open(&mut self, at: Target, door: Door) -> Result<(), Or<io::Error>>
+        ensures births { self.new.birth_faults ≡ self.old.birth_faults }
+        ensures whole { self.new.faults ≡ self.old.faults }
+        ensures links { SameFaults self.old.sockets.by_number self.new.sockets.by_number }
+    {
+        begin(&mut self.watch, self.alloc, &self.net)?;
+        let Some(watch) = &self.watch else {
+            unreachable!()
+        };
+        self.doors
+            .open(&self.net, watch.registry(), at, door)
+            .map_err(Or::Fault)
+    }
+
+    /// A connection for which room was taken, as a link.
+    fn bear(&mut self, stream: TcpStream) -> io::Result<u64>
+        requires { 0 < spare self.old.sockets.by_number }
+        ensures births { self.new.birth_faults ≡ self.old.birth_faults }
+        ensures whole { self.new.faults ≡ self.old.faults }
+        ensures links { SameFaults self.old.sockets.by_number self.new.sockets.by_number }
+    {
+        match &self.watch {
+            Some(watch) => self.sockets.bear(watch.registry(), stream),
+            None => Err(io::Error::from(ErrorKind::NotFound)),
+        }
+    }
+
+    /// The next connection at a door, as a link.
+    fn welcome(&mut self, door: Door) -> Result<Option<u64>, Or<io::Error>>
+        ensures births { self.new.birth_faults ≡ self.old.birth_faults }
+        ensures whole { self.new.faults ≡ self.old.faults }
+        ensures links { SameFaults self.old.sockets.by_number self.new.sockets.by_number }
+    {
+        self.sockets.reserve()?;
+        let Some(stream) = self.doors.accept(door).map_err(Or::Fault)? else {
+            return Ok(None);
+        };
+        let link = self.bear(stream).map_err(Or::Fault)?;
+        Ok(Some(link))
+    }
+
+    /// The next connection at a door, as a link. A door where that failed is named by the next tick.
+    fn accept_at(&mut self, door: Door) -> Result<Option<u64>, Or<io::Error>>
+        ensures births { self.new.birth_faults ≡ self.old.birth_faults }
+        ensures whole { self.new.faults ≡ self.old.faults }
+        ensures links { SameFaults self.old.sockets.by_number self.new.sockets.by_number }
+        ensures stuck { OnErr result (stuck_at door self.new.doors ≡ true) }
+    {
+        let born = self.welcome(door);
+        if born.is_err() {
+            self.doors.set_stuck(door, true);
+        }
+        born
+    }
+
+    /// A connection that is begun, as a link.
+    fn connect(&mut self, to: Target) -> Result<u64, Or<io::Error>>
+        ensures births { self.new.birth_faults ≡ self.old.birth_faults }
+        ensures whole { self.new.faults ≡ self.old.faults }
+        ensures links { SameFaults self.old.sockets.by_number self.new.sockets.by_number }
+    {
+        begin(&mut self.watch, self.alloc, &self.net)?;
+        self.sockets.reserve()?;
+        let stream = TcpStream::connect(&self.net, address_of(to)).map_err(Or::Fault)?;
+        self.bear(stream).map_err(Or::Fault)
+    }
+
+    /// Waits, and adds what is ready. Tells whether a tick is due.
+    fn look(&mut self, ready: &mut Ready) -> Result<bool, Or<io::Error>>
+        ensures births { self.new.birth_faults ≡ self.old.birth_faults }
+        ensures whole { self.new.faults ≡ self.old.faults }
+        ensures links { SameFaults self.old.sockets.by_number self.new.sockets.by_number }
+    {
+        begin(&mut self.watch, self.alloc, &self.net)?;
+        let Some(watch) = &mut self.watch else {
+            unreachable!()
+        };
+        watch
+            .wait(&self.net, &mut self.doors, &mut self.sockets, ready)
+            .map_err(Or::Fault)
+    }
+}
+
+/// What a birth answers; one that failed is counted.
+fn birth(count: &mut u64, born: Result<Option<u64>, Or<io::Error>>) -> Born
+    ensures counts { Counts count.old count.new (birth_failed result) }
+    ensures later { count.old ≤ count.new }
+{
+    match born {
+        Ok(Some(link)) => Born::New(link),
+        Ok(None) => Born::Balked,
+        Err(Or::NoMemory) => Born::NoMemory,
+        Err(Or::Fault(_)) => {
+            *count = count.saturating_add(1);
+            Born::Failed
+        }
+    }
+}
+
+impl<R: Net + Clock + Drop> World for MioWorld<R> {
+    ghost use Rattle.std.specs.Prelude.{None};
+    ghost use Rattle.hb_mio.specs.Faults.{faults_at};
+
+    ghost trace = { λ w. None };
+
+    ghost script = { λ w. None };
+
+    ghost link_faults = { λ w l. faults_at w.sockets.by_number l };
+
+    ghost birth_faults = { λ w. w.birth_faults };
+
+    ghost faults = { λ w. w.faults };
+
+    fn listen(&mut self, at: Target, door: Door) -> Listened {
+        match self.open(at, door) {
+            Ok(()) => Listened::Listening,
+            Err(Or::NoMemory) => Listened::NoMemory,
+            Err(Or::Fault(_)) => {
+                self.faults = self.faults.saturating_add(1);
+                Listened::Failed
+            }
+        }
+    }
+
+    fn accept(&mut self, door: Door) -> Born {
+        let born = self.accept_at(door);
+        birth(&mut self.birth_faults, born)
+    }
+
+    fn dial(&mut self, to: Target, _why: Why) -> Born {
+        match self.connect(to) {
+            Ok(link) => Born::New(link),
+            Err(Or::NoMemory) => Born::NoMemory,
+            Err(Or::Fault(_)) => {
+                self.birth_faults = self.birth_faults.saturating_add(1);
+                Born::Failed
+            }
+        }
+    }
+
+    fn finish(&mut self, link: u64) -> Finished {
+        self.sockets.finish(link)
+    }
+
+    fn read(&mut self, link: u64, into: &mut [u8]) -> Read {
+        self.sockets.read(link, into)
+    }
+
+    fn write(&mut self, link: u64, from: &[u8]) -> Wrote {
+        self.sockets.write(link, from)
+    }
+
+    fn shut(&mut self, link: u64) {
+        self.sockets.shut(link);
+    }
+
+    fn close(&mut self, link: u64, _cause: Cause) {
+        self.sockets.close(link);
+    }
+
+    fn wait(&mut self, ready: &mut Ready) -> Waited {
+        ready.clear();
+        match self.look(ready) {
+            Ok(true) => Waited::Tick,
+            Ok(false) => Waited::Woke,
+            Err(_) => {
+                ready.clear();
+                self.faults = self.faults.saturating_add(1);
+                Waited::Failed
+            }
+        }
+    }
+}
