@@ -230,7 +230,7 @@ impl Links {
         self.list.len()
     }
 
-    /// The number at the list's front.
+    /// The number at the list's front; `None` where the list is empty.
     pub fn front(&self) -> Option<u64>
         ensures some { IfSome result (λ l. (kept self.now).listed ≡ l ∷ drop 1 (kept self.now).listed) }
         ensures none { IfNone result ((kept self.now).listed ≡ []) }

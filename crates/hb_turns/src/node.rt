@@ -26,17 +26,23 @@ pub trait Node {
     ghost shown: { Self → Shown };
 
     /// A link was accepted at a door.
+    ///
+    /// Errors: `NoMemory`, behind which the run ends.
     fn accepted(&mut self, link: u64, door: Door) -> Result<(), NoMemory>
         ensures tells { OnOk result (Tells stands shown (e.Accepted link door) self.old self.new) }
         ensures stirs { OnOk result (Stirs (shown self.old) (shown self.new)) };
 
     /// What came of the dial that is due: a link, or none.
+    ///
+    /// Errors: `NoMemory`, behind which the run ends.
     fn dialled(&mut self, why: Why, link: Option<u64>) -> Result<(), NoMemory>
         ensures tells { OnOk result ((to : Target) → Tells stands shown (dial_entry to why link) self.old self.new) }
         ensures stirs { OnOk result (Stirs (shown self.old) (shown self.new)) }
         ensures weight { OnOk result ((shown self.new).weight ≤ (shown self.old).weight + 1) };
 
     /// A dialled link is open.
+    ///
+    /// Errors: `NoMemory`, behind which the run ends.
     fn opened(&mut self, link: u64) -> Result<(), NoMemory>
         ensures tells { OnOk result (Tells stands shown (e.Opened link) self.old self.new) }
         ensures stirs { OnOk result (Stirs (shown self.old) (shown self.new)) };
@@ -46,6 +52,8 @@ pub trait Node {
         ensures { result ≡ (shown self.now).wants link };
 
     /// These bytes were read on a link.
+    ///
+    /// Errors: `NoMemory`, behind which the run ends.
     fn take_bytes(&mut self, link: u64, bytes: &[u8]) -> Result<(), NoMemory>
         requires { length bytes.now ≤ (shown self.old).wants link }
         ensures tells { OnOk result (Tells stands shown (e.Came link bytes.now) self.old self.new) }
