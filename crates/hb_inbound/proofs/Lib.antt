@@ -4,6 +4,9 @@ pub mod AdmittedRun
 pub mod Grown
 pub mod Histories
 pub mod Refusing
+pub mod RelayUp
+pub mod Relaying
+pub mod RelaysRun
 pub mod Runs
 pub mod Stages
 pub mod Updating

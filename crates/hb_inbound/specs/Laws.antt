@@ -4,6 +4,7 @@ use Rattle.hb_held.specs.Held.{Resources}
 use Rattle.hb_inbound.specs.Access.{AccessLaw}
 use Rattle.hb_inbound.specs.Connections.{ConnectionLaw, WindowLaw}
 use Rattle.hb_inbound.specs.Part.{Part}
+use Rattle.hb_inbound.specs.Relay.{RelayUpLaw}
 use Rattle.hb_inbound.specs.Runs.{Local, StandsFor}
 
 -- the link's connection is one history
@@ -17,3 +18,7 @@ RunsObeyWindows = (l : ℕ) (start : Resources) (a : Local) (parts : List Part) 
 -- no byte goes to an upstream and no DATA frame begins unless what is held then admits the tunnel's peer
 abbrev pub RunsAdmit : Type 0
 RunsAdmit = (l : ℕ) (start : Resources) (a : Local) (parts : List Part) → StandsFor l start a parts → AccessLaw start parts
+
+-- what is written to an upstream is a front of the DATA that came on its stream
+abbrev pub RunsRelayUp : Type 0
+RunsRelayUp = (l : ℕ) (start : Resources) (a : Local) (parts : List Part) → StandsFor l start a parts → RelayUpLaw parts

@@ -1,7 +1,7 @@
 //! Small steps that no run of an inbound link takes, and what an update does. Each is the contract of a function that does nothing.
 
 ghost use Rattle.hb_inbound.specs.Refused.{DialsUnasked, AcceptsUnopened, WritesUnopened, ShutsEarly, EndsEarly, WritesRevoked};
-ghost use Rattle.hb_inbound.specs.Laws.{RunsAdmit, RunsObeyConnections, RunsObeyWindows};
+ghost use Rattle.hb_inbound.specs.Laws.{RunsAdmit, RunsObeyConnections, RunsObeyWindows, RunsRelayUp};
 ghost use Rattle.hb_inbound.specs.Refused.{PutsRevoked, KeepsAdmitted, KeepsPlaceless, EndsOthers};
 
 /// Nothing is dialled that wasn't asked for, 200 isn't put nor are bytes written before the upstream is open, and no way ends
@@ -39,4 +39,10 @@ pub fn connections_are_histories()
 /// tunnel's peer at its target.
 pub fn peers_are_admitted()
     ensures { RunsAdmit }
+{}
+
+/// The bytes written to an upstream are a front of the DATA that came on its stream, and none are written, nor is DATA put, before
+/// 200 is. The upstream is shut behind the end of the peer's side alone, once all that came is written.
+pub fn bytes_are_relayed()
+    ensures { RunsRelayUp }
 {}
