@@ -14,13 +14,17 @@ use Rattle.hb_inbound.specs.Ends.{Life, none, pending, lives, life, Lives, IsPen
 use Rattle.hb_inbound.specs.Ends as life
 use Rattle.hb_inbound.specs.Inbound.{Phase, faulted}
 use Rattle.hb_inbound.specs.Laws.{RunsEnd}
-use Rattle.hb_inbound.specs.Part.{Part, entry, up, welcomed, crowded, lacked, fronted, misfronted, looked, decided, accepted, refused, reset, left, done, put, finished, credited, applied, stopped}
+use Rattle.hb_kept.proofs.Opened.{told_are_numbered}
+use Rattle.hb_inbound.specs.Sides.{conn_came, link_went}
+use Rattle.hb_inbound.specs.Part.{moves, tellings, Part, entry, up, welcomed, crowded, lacked, fronted, misfronted, looked, decided, accepted, refused, reset, left, done, put, finished, credited, applied, stopped}
 use Rattle.hb_inbound.specs.Runs.{Local, MayCome, UpMayCome, Steps, StandsFor, begins, goes_on}
 use Rattle.hb_inbound.specs.Tunnel.{Stage, unasked, requested, refusing, malformed, due, opening, accepting, live, failed, ended, over, gone, is_unanswered}
 use Rattle.hb_inbound.proofs.AdmittedRun.{all_admit}
 use Rattle.hb_inbound.proofs.Grown.{at_parts}
 use Rattle.hb_inbound.proofs.Life.{Says, SaysBy, SaysOf}
 use Rattle.hb_inbound.proofs.LifeRun.{SaysAll, LateBy, step_says}
+use Rattle.hb_inbound.proofs.RelaysRun.{all_relay}
+use Rattle.hb_inbound.proofs.Runs.{all_keep}
 
 -- a request comes only on a stream on which nothing was asked for before
 abbrev pub OpensNew : Type 0
@@ -157,3 +161,13 @@ module _ (opens_new : OpensNew) where
 
   pub end_with : RunsEnd
   end_with l start a parts stands = at_parts l start (EndsAt start) (next l start) a parts stands
+
+-- no stream is opened twice
+new_streams : OpensNew
+new_streams l start a parts stands s end d finds =
+    let number = told_are_numbered (moves parts) (tellings parts) (conn_came parts) (link_went parts) a.link.conn d (found.Opened s end)
+    (all_keep l start a parts stands).one.stands finds in
+    ((all_relay l start a parts stands s).new number.0).0
+
+pub end : RunsEnd
+end = end_with new_streams

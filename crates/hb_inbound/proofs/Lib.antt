@@ -8,6 +8,9 @@ pub mod Life
 pub mod LifeRun
 pub mod RefusedRuns
 pub mod Refusing
+pub mod RelayUp
+pub mod Relaying
+pub mod RelaysRun
 pub mod Runs
 pub mod Stages
 pub mod Updating

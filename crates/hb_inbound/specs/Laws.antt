@@ -5,6 +5,7 @@ use Rattle.hb_inbound.specs.Access.{AccessLaw}
 use Rattle.hb_inbound.specs.Connections.{ConnectionLaw, WindowLaw}
 use Rattle.hb_inbound.specs.Ends.{EndLaw}
 use Rattle.hb_inbound.specs.Part.{Part}
+use Rattle.hb_inbound.specs.Relay.{RelayUpLaw}
 use Rattle.hb_inbound.specs.Runs.{Local, StandsFor}
 
 -- the link's connection is one history
@@ -22,3 +23,7 @@ RunsAdmit = (l : ℕ) (start : Resources) (a : Local) (parts : List Part) → St
 -- each tunnel ends for the first cause that applies, and nothing is done for it afterwards but its close
 abbrev pub RunsEnd : Type 0
 RunsEnd = (l : ℕ) (start : Resources) (a : Local) (parts : List Part) → StandsFor l start a parts → EndLaw start parts
+
+-- what is written to an upstream is a front of the DATA that came on its stream
+abbrev pub RunsRelayUp : Type 0
+RunsRelayUp = (l : ℕ) (start : Resources) (a : Local) (parts : List Part) → StandsFor l start a parts → RelayUpLaw parts

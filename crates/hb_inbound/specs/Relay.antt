@@ -43,13 +43,21 @@ UpMayGo s before (e.Went u bytes) = Was (is_accept s) before
 UpMayGo s before (e.Shut u) = ShutsBehind before s
 UpMayGo s before _ = ⊤
 
-abbrev pub MayGo : List Part → Part → Type 0
-MayGo before (up s e) = UpMayGo s before e
-MayGo before (put s bytes) = Was (is_accept s) before
-MayGo before (finished s) = EndsBehind before s
-MayGo before _ = ⊤
+abbrev pub MayGoUp : List Part → Part → Type 0
+MayGoUp before (up s e) = UpMayGo s before e
+MayGoUp before (put s bytes) = Was (is_accept s) before
+MayGoUp before _ = ⊤
 
-pub record RelayLaw (parts : List Part) : Type 0 where
+-- END_STREAM is put only behind all that came from the upstream
+abbrev pub MayEnd : List Part → Part → Type 0
+MayEnd before (finished s) = EndsBehind before s
+MayEnd before _ = ⊤
+
+-- the way up of each tunnel, and where bytes may go; the way down
+pub record RelayUpLaw (parts : List Part) : Type 0 where
   pub ups : (s : ℕ) → RelaysUp parts s
+  pub places : AtEach MayGoUp parts
+
+pub record RelayDownLaw (parts : List Part) : Type 0 where
   pub downs : (s : ℕ) → RelaysDown parts s
-  pub places : AtEach MayGo parts
+  pub places : AtEach MayEnd parts

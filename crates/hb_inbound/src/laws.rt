@@ -1,7 +1,7 @@
 //! Small steps that no run of an inbound link takes, and what an update does. Each is the contract of a function that does nothing.
 
 ghost use Rattle.hb_inbound.specs.Refused.{DialsUnasked, AcceptsUnopened, WritesUnopened, ShutsEarly, EndsEarly, WritesRevoked};
-ghost use Rattle.hb_inbound.specs.Laws.{RunsAdmit, RunsObeyConnections, RunsObeyWindows};
+ghost use Rattle.hb_inbound.specs.Laws.{RunsAdmit, RunsEnd, RunsObeyConnections, RunsObeyWindows, RunsRelayUp};
 ghost use Rattle.hb_inbound.specs.RefusedRuns.{WritesBehind, GoesOnBehind, PutsBehind, ReadsBehind, ClosesForAnother, ClosesAdmitted};
 ghost use Rattle.hb_inbound.specs.RefusedRuns.{DialsUnbidden, GoesOnAdmitted, ClosesRevoked};
 ghost use Rattle.hb_inbound.specs.Refused.{PutsRevoked, KeepsAdmitted, KeepsPlaceless, EndsOthers};
@@ -41,6 +41,18 @@ pub fn connections_are_histories()
 /// tunnel's peer at its target.
 pub fn peers_are_admitted()
     ensures { RunsAdmit }
+{}
+
+/// A tunnel ends for the first cause that applies, by an update exactly where that no longer admits its peer. Behind its end nothing
+/// of it stands but the close of its upstream, for that cause, and no byte of the link is read before.
+pub fn tunnels_end_once()
+    ensures { RunsEnd }
+{}
+
+/// The bytes written to an upstream are a front of the DATA that came on its stream, and none are written, nor is DATA put, before
+/// 200 is. The upstream is shut behind the end of the peer's side alone, once all that came is written.
+pub fn bytes_are_relayed()
+    ensures { RunsRelayUp }
 {}
 
 /// Behind an update that no longer admits a tunnel's peer no byte may go to its upstream, no DATA be put, and no byte of the link be

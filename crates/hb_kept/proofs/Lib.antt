@@ -7,6 +7,7 @@ pub mod Kept
 pub mod Looks
 pub mod Opened
 pub mod Resets
+pub mod Rises
 pub mod Roles
 pub mod Shut
 pub mod Sides

@@ -1,6 +1,7 @@
 -- Behind a stream that a client opened no DATA of it waits.
-use Rattle.std.proofs.Common.{◌≡◌, ℕ, ◌<◌, ◌≤◌, ◌==◌, ◌&&◌, not, Bool, true, false, cond, List, Option, Some, None, Result, Ok, Err, refl, ap, sym, ◌∙◌, subst, arith}
+use Rattle.std.proofs.Common.{◌≡◌, ℕ, ◌<◌, ◌≤◌, ◌==◌, ◌&&◌, ◌||◌, not, Bool, true, false, cond, List, Option, Some, None, is_some, Result, Ok, Err, refl, ap, sym, ◌∙◌, subst, arith}
 use Rattle.std.specs.FinMap.{get}
+use Rattle.std.specs.Prelude.{nat_lt}
 use Rattle.std.proofs.lemmas.Bool.{false≢true}
 use Rattle.std.proofs.lemmas.Bool.Decides.{nat_tests}
 use Rattle.hb_base.specs.declared.scope.Scope.{Scope}
@@ -8,19 +9,22 @@ use Rattle.hb_base.specs.declared.scope.Scope.TheVariants as scope
 use Rattle.hb_frames.specs.Numbers.{data_kind, headers_kind, window_update_kind, protocol_error, refused_stream, flow_control_error}
 use Rattle.hb_frames.specs.RawFrame.{RawFrame}
 use Rattle.hb_frames.specs.Reading.{asked}
-use Rattle.hb_streams.specs.Answers.{answer_of, headers_answer, connection_error, stream_error}
-use Rattle.hb_streams.specs.Moves.{after_answer}
+use Rattle.hb_streams.specs.Answers.{answer_of, data_answer, headers_answer, connection_error, stream_error}
+use Rattle.hb_streams.specs.Moves.{after, after_answer, receives}
 use Rattle.hb_streams.specs.Numbers.{is_even}
+use Rattle.hb_streams.specs.Resets.{is_among}
 use Rattle.hb_streams.specs.Sides.{both_open}
-use Rattle.hb_streams.specs.States.{States, state_of, is_full}
+use Rattle.hb_streams.specs.States.{States, state_of, state_by, state_of_others, is_full}
 use Rattle.hb_streams.specs.declared.fault.StreamFault.{StreamFault}
 use Rattle.hb_streams.specs.declared.role.Role.{Role}
 use Rattle.hb_streams.specs.declared.role.Role.TheVariants.{Server}
+use Rattle.hb_streams.specs.declared.sides.Sides.{Sides}
 use Rattle.hb_streams.specs.declared.state.State.{State}
 use Rattle.hb_streams.specs.declared.state.State.TheVariants as state
 use Rattle.hb_streams.specs.declared.step.Step.{Step}
 use Rattle.hb_streams.specs.declared.step.Step.TheVariants as step
 use Rattle.hb_streams.proofs.Begins.{uses_number, number_is_above}
+use Rattle.hb_streams.proofs.Follows.{highest_stays}
 use Rattle.hb_flow.specs.Windows.{Windows}
 use Rattle.hb_flow.specs.Flows.{granted, granted_on}
 use Rattle.hb_outgoing.specs.Selected.{has_data}
@@ -50,12 +54,16 @@ use Rattle.hb_history.specs.Points.{Point}
 use Rattle.hb_history.specs.TakenBack.{has_data_on, NoneWaitsOn}
 use Rattle.hb_history.proofs.Found.{IsStill, Holds, finds_so}
 use Rattle.hb_history.proofs.Kept as kept
+use Rattle.hb_history.proofs.Lives.{Moved, used_some}
 use Rattle.hb_history.proofs.Parts.{calm}
+use Rattle.hb_kept.specs.Numbers.{IsNumbered, ToldAreNumbered}
 use Rattle.hb_kept.specs.Sides.{IsOpenBehind, OpenedIsOpen}
 use Rattle.hb_kept.specs.Opened.{AreUpTo, IsUnused, OpenedIsUnused, UsedIsRefused, OtherMayOpen}
 use Rattle.hb_kept.proofs.All.{Each, each_so}
 use Rattle.hb_kept.proofs.Handled.{frame_keeps}
+use Rattle.hb_kept.proofs.Rises.{frame_rises, fault_rises}
 use Rattle.hb_kept.proofs.Roles.{role_is}
+use Rattle.hb_kept.proofs.Sides.{updated_streams, released_streams, credited_streams}
 use Rattle.hb_kept.proofs.SidesAt.{sides_at, begins}
 use Rattle.hb_kept.proofs.Used.{Used, used_keeps, used_acks, used_resize, used_grow, used_new, used_runs}
 
@@ -88,184 +96,245 @@ never_goes full n state.HalfClosedRemote is = cc
 never_goes full n state.Closed is = cc
 never_goes full n state.Reset is = cc
 
--- of a stream that is told to be opened no DATA waits, and its sides are open
-abbrev IsNew : Found → Core → Type 0
-IsNew (found.Opened s end) c = NoneWaitsOn s c.out × (sides_at c.streams s ≡ record { own = true; peer = not end })
-IsNew _ c = Unit {0}
+-- DATA goes to an active stream alone, which was used
+none_goes : (n : ℕ) (even above among : Bool) → data_answer n (cond (even || above) state.Idle (cond among state.Reset state.Closed)) ≡ Ok step.Goes
+    → false ≡ true
+none_goes n true above among is = absurd (cc)
+none_goes n false true among is = absurd (cc)
+none_goes n false false true is = absurd (cc)
+none_goes n false false false is = absurd (cc)
 
-abbrev OutcomeNew : Outcome → Type 0
-OutcomeNew o = IsNew o.found o.core
+active_by : (s : States) (n : ℕ) (o : Option Sides) → get s.active n ≡ o → data_answer n (state_by o (state_of_others s n)) ≡ Ok step.Goes
+    → is_some o ≡ true
+active_by s n None is goes = none_goes n (is_even n) (nat_lt s.highest n) (is_among s.resets n) goes
+active_by s n (Some w) is goes = refl
 
-given : (o : Outcome) (new : Core) (told : Found) → OutcomeNew o → Gives o new told → IsNew told new
-given o new told unused is =
-    subst (λ t. IsNew t new) (sym is.1) (subst (λ (c : Core). IsNew o.found c) (sym is.0) unused)
+goes_used : (s : States) (n : ℕ) → Moved Server s → answer_of s data_kind n ≡ Ok step.Goes → n ≤ s.highest
+goes_used s n moved goes = (used_some Server s n moved (active_by s n (get s.active n) refl goes)).2.1
 
-either : (b : Bool) (o p : Outcome) → OutcomeNew o → OutcomeNew p → OutcomeNew (cond b o p)
-either true o p first second = first
-either false o p first second = second
+continued_rises : (c : Core) (s : ℕ) (end : Bool) → c.streams.highest ≤ (continued c s end).streams.highest
+continued_rises c s true =
+    subst (λ (t : States). c.streams.highest ≤ t.highest)
+    (sym (released_streams (record c { streams = after c.streams (receives data_kind s true) }) s))
+    (highest_stays c.streams (receives data_kind s true))
+continued_rises c s false = subst (λ (t : States). c.streams.highest ≤ t.highest) (sym (credited_streams c s)) (omega arith)
 
-fault : (c : Core) (code : ℕ) → OutcomeNew (faulted c code)
-unfolding faulted
-fault c code = tt
+goes_on : (c : Core) (s : ℕ) (end : Bool) → s ≤ c.streams.highest → s ≤ (continued c s end).streams.highest
+goes_on c s end was = let more = continued_rises c s end in omega (arith, was, more)
 
-refusal : (c : Core) (why : StreamFault) → OutcomeNew (refused c why)
-refusal c why = by why.scope
-  where
-    by : (reach : Scope) → OutcomeNew (refused_by c reach why.code)
-    by scope.Connection = fault c why.code
-    by (scope.Stream s) = tt
+module _ (low : ℕ) where
+  -- of a stream that is told to be opened no DATA waits, its sides are open, and it is the highest now and above all before; one of
+  -- which DATA is told was used
+  abbrev IsNew : Found → Core → Type 0
+  IsNew (found.Opened s end) c =
+      NoneWaitsOn s c.out × (sides_at c.streams s ≡ record { own = true; peer = not end }) × (low < s) × (c.streams.highest ≡ s)
+  IsNew (found.Chunk s end) c = s ≤ c.streams.highest
+  IsNew _ c = Unit {0}
 
-headers_unused : (c : Core) (s : ℕ) (end : Bool) (r : Result Step StreamFault) → answer_of c.streams headers_kind s ≡ r
-    → Used Server calm c → OutcomeNew (headers_answered c s end r)
-headers_unused c s end (Ok step.New) is h =
-    let above = (number_is_above c.streams headers_kind s (ap uses_number is)).1 in
-    let becomes = ap (after_answer c.streams headers_kind s end) is in (
-      none_above s c.streams.highest c.out.queue above h.1,
-      ap (λ (t : States). sides_at t s) becomes ∙ (begins c.streams s (record both_open { peer = not end })).here,
-    )
-headers_unused c s end (Ok step.Goes) is h =
-    absurd (never_goes (is_full c.streams) s (state_of c.streams s)
-    (subst (λ (r : Role). headers_answer r (is_full c.streams) s (state_of c.streams s) ≡ Ok step.Goes)
-    (role_is Server c.streams h.0.0) is))
-headers_unused c s end (Ok step.Ignored) is h = tt
-headers_unused c s end (Err why) is h = refusal _ why
+  -- what is had in front of a frame
+  abbrev Had : Core → Type 0
+  Had c = Used Server calm c × (low ≤ c.streams.highest)
 
-block_unused : (c : Core) (told : Result (Option Whole) BlockFault) → Used Server calm c → OutcomeNew (block_told c told)
-block_unused c (Ok None) h = tt
-block_unused c (Ok (Some whole)) h =
-    headers_unused c whole.stream whole.end_stream (answer_of c.streams headers_kind whole.stream) refl h
-block_unused c (Err why) h = fault c _
+  abbrev OutcomeNew : Outcome → Type 0
+  OutcomeNew o = IsNew o.found o.core
 
-does_block : (progress : Progress) (c new : Core) (told : Found) → Used Server calm c → DoesBlock progress c new told
-    → IsNew told new
-does_block progress c new told h does =
-    given (block_told (record c { blocks = does.0 }) does.1) new told (block_unused (record c { blocks = does.0 }) does.1 h) does.3
+  given : (o : Outcome) (new : Core) (told : Found) → OutcomeNew o → Gives o new told → IsNew told new
+  given o new told unused is =
+      subst (λ t. IsNew t new) (sym is.1) (subst (λ (c : Core). IsNew o.found c) (sym is.0) unused)
 
--- no other frame opens a stream
+  either : (b : Bool) (o p : Outcome) → OutcomeNew o → OutcomeNew p → OutcomeNew (cond b o p)
+  either true o p first second = first
+  either false o p first second = second
 
-data_by : (c : Core) (s k size : ℕ) (end : Bool) (o : Option Windows) → OutcomeNew (data_goes c s k size end o)
-data_by c s k size end None = tt
-data_by c s k size end (Some w) =
-    either _ (broken c s flow_control_error) (outcome (continued (padded c s k size) s end) (found.Chunk s end)) tt tt
+  fault : (c : Core) (code : ℕ) → OutcomeNew (faulted c code)
+  unfolding faulted
+  fault c code = tt
 
-data_answers : (c : Core) (s k size : ℕ) (end : Bool) (r : Result Step StreamFault) → OutcomeNew (data_answered c s k size end r)
-data_answers c s k size end (Ok step.Goes) = data_by c s k size end (get c.flow.streams s)
-data_answers c s k size end (Ok step.New) = tt
-data_answers c s k size end (Ok step.Ignored) = tt
-data_answers c s k size end (Err why) = refusal c why
+  refusal : (c : Core) (why : StreamFault) → OutcomeNew (refused c why)
+  refusal c why = by why.scope
+    where
+      by : (reach : Scope) → OutcomeNew (refused_by c reach why.code)
+      by scope.Connection = fault c why.code
+      by (scope.Stream s) = tt
 
-data_unused : (c : Core) (s k size : ℕ) (end : Bool) → OutcomeNew (on_data c s k size end)
-data_unused c s k size end =
-    let r = answer_of c.streams data_kind s in
-    let goes = data_answered (used c k) s k size end r in
-    either (is_of_idle r) (faulted c protocol_error) (cond _ (faulted c flow_control_error) goes) (fault c protocol_error)
-    (either _ (faulted c flow_control_error) goes (fault c flow_control_error) (data_answers (used c k) s k size end r))
+  headers_unused : (c : Core) (s : ℕ) (end : Bool) (r : Result Step StreamFault) → answer_of c.streams headers_kind s ≡ r
+      → Had c → OutcomeNew (headers_answered c s end r)
+  headers_unused c s end (Ok step.New) is h =
+      let above = (number_is_above c.streams headers_kind s (ap uses_number is)).1 in
+      let becomes = ap (after_answer c.streams headers_kind s end) is in (
+        none_above s c.streams.highest c.out.queue above h.0.1,
+        ap (λ (t : States). sides_at t s) becomes ∙ (begins c.streams s (record both_open { peer = not end })).here,
+        omega (arith, above, h.1),
+        ap (λ (t : States). t.highest) becomes,
+      )
+  headers_unused c s end (Ok step.Goes) is h =
+      absurd (never_goes (is_full c.streams) s (state_of c.streams s)
+      (subst (λ (r : Role). headers_answer r (is_full c.streams) s (state_of c.streams s) ≡ Ok step.Goes)
+      (role_is Server c.streams h.0.0.0) is))
+  headers_unused c s end (Ok step.Ignored) is h = tt
+  headers_unused c s end (Err why) is h = refusal _ why
 
-reset_answers : (c : Core) (s code : ℕ) (r : Result Step StreamFault) → OutcomeNew (reset_answered c s code r)
-reset_answers c s code (Ok step.Goes) = tt
-reset_answers c s code (Ok step.New) = tt
-reset_answers c s code (Ok step.Ignored) = tt
-reset_answers c s code (Err why) = refusal c why
+  block_unused : (c : Core) (told : Result (Option Whole) BlockFault) → Had c → OutcomeNew (block_told c told)
+  block_unused c (Ok None) h = tt
+  block_unused c (Ok (Some whole)) h =
+      headers_unused c whole.stream whole.end_stream (answer_of c.streams headers_kind whole.stream) refl h
+  block_unused c (Err why) h = fault c _
 
-window_grows : (c : Core) (s k : ℕ) (o : Option Windows) → OutcomeNew (stream_grows c s k o)
-window_grows c s k None = tt
-window_grows c s k (Some w) =
-    either _ (broken c s flow_control_error) (outcome (record c { flow = granted_on c.flow s k }) found.Silent) tt tt
+  does_block : (progress : Progress) (c new : Core) (told : Found) → Had c → DoesBlock progress c new told
+      → IsNew told new
+  does_block progress c new told h does =
+      given (block_told (record c { blocks = does.0 }) does.1) new told (block_unused (record c { blocks = does.0 }) does.1 h) does.3
 
-window_answers : (c : Core) (s k : ℕ) (r : Result Step StreamFault) → OutcomeNew (stream_answered c s k r)
-window_answers c s k (Ok step.Goes) =
-    either (k == 0) (broken c s protocol_error) (stream_grows c s k (get c.flow.streams s)) tt (window_grows c s k (get c.flow.streams s))
-window_answers c s k (Ok step.New) = tt
-window_answers c s k (Ok step.Ignored) = tt
-window_answers c s k (Err why) = refusal c why
+  -- no other frame opens a stream
 
-window_unused : (c : Core) (s k : ℕ) → OutcomeNew (on_window c s k)
-window_unused c s k =
-    let r = answer_of c.streams window_update_kind s in
-    either (s == 0) (connection_grows c k) (stream_answered c s k r)
-    (either _ (faulted c flow_control_error) (outcome (record c { flow = granted c.flow k }) found.Silent) (fault c flow_control_error) tt)
-    (window_answers c s k r)
+  data_by : (c : Core) (s k size : ℕ) (end : Bool) (o : Option Windows) → s ≤ c.streams.highest → OutcomeNew (data_goes c s k size end o)
+  data_by c s k size end None low_enough = goes_on c s end low_enough
+  data_by c s k size end (Some w) low_enough =
+      either _ (broken c s flow_control_error) (outcome (continued (padded c s k size) s end) (found.Chunk s end)) tt
+      (goes_on (padded c s k size) s end low_enough)
 
-applied_unused : (c : Core) (fits : Bool) → OutcomeNew (applied c fits)
-applied_unused c true = tt
-applied_unused c false = fault c _
+  data_answers : (c : Core) (s k size : ℕ) (end : Bool) (r : Result Step StreamFault) → (r ≡ Ok step.Goes → s ≤ c.streams.highest)
+      → OutcomeNew (data_answered c s k size end r)
+  data_answers c s k size end (Ok step.Goes) was = data_by c s k size end (get c.flow.streams s) (was refl)
+  data_answers c s k size end (Ok step.New) was = tt
+  data_answers c s k size end (Ok step.Ignored) was = tt
+  data_answers c s k size end (Err why) was = refusal c why
 
-settings_by : (b : Bool) (c : Core) (pairs : List (ℕ × ℕ)) (new : Core) (told : Found) → SettlesBy b c pairs new told
-    → IsNew told new
-settings_by true c pairs new told is = given _ new told (fault c _) is
-settings_by false c pairs new told is = given _ new told (applied_unused is.0 is.1) is.3
+  data_unused : (c : Core) (s k size : ℕ) (end : Bool) → Had c → OutcomeNew (on_data c s k size end)
+  data_unused c s k size end h =
+      let r = answer_of c.streams data_kind s in
+      let goes = data_answered (used c k) s k size end r in
+      let same : (used c k).streams ≡ c.streams = updated_streams _ _ in
+      let was : (r ≡ Ok step.Goes → s ≤ (used c k).streams.highest) =
+      λ is. subst (λ (t : States). s ≤ t.highest) (sym same) (goes_used c.streams s h.0.0.0 is) in
+      either (is_of_idle r) (faulted c protocol_error) (cond _ (faulted c flow_control_error) goes) (fault c protocol_error)
+      (either _ (faulted c flow_control_error) goes (fault c flow_control_error) (data_answers (used c k) s k size end r was))
 
-settings_unused : (ack : Bool) (c : Core) (payload : List ℕ) (new : Core) (told : Found) → DoesSettings ack c payload new told
-    → IsNew told new
-settings_unused true c payload new told is = given (outcome c found.Silent) new told tt is
-settings_unused false c payload new told is = settings_by _ c _ new told is
+  reset_answers : (c : Core) (s code : ℕ) (r : Result Step StreamFault) → OutcomeNew (reset_answered c s code r)
+  reset_answers c s code (Ok step.Goes) = tt
+  reset_answers c s code (Ok step.New) = tt
+  reset_answers c s code (Ok step.Ignored) = tt
+  reset_answers c s code (Err why) = refusal c why
 
-answers_unused : (c : Core) (g : Glance) (bytes : List ℕ) (new : Core) (told : Found) → Used Server calm c → Answers c g bytes new told
-    → IsNew told new
-answers_unused c glance.Nothing bytes new told h is = given _ new told tt is
-answers_unused c (glance.Data s k end) bytes new told h is = given _ new told (data_unused c s k _ end) is
-answers_unused c (glance.Headers s end whole) bytes new told h is = does_block _ c new told h is
-answers_unused c (glance.Reset s code) bytes new told h is = given _ new told (reset_answers c s code _) is
-answers_unused c (glance.Settings ack) bytes new told h is = settings_unused ack c bytes new told is
-answers_unused c (glance.Ping ack value) bytes new told h is =
-    given (does c (glance.Ping ack value) bytes) new told
-    (either ack (outcome c found.Silent) (outcome (sent c (ping_ack value)) found.Silent) tt tt) is
-answers_unused c (glance.GoAway last) bytes new told h is = given _ new told tt is
-answers_unused c (glance.Window s k) bytes new told h is = given _ new told (window_unused c s k) is
-answers_unused c (glance.Continuation s whole) bytes new told h is = does_block _ c new told h is
-answers_unused c glance.Other bytes new told h is = given _ new told tt is
-answers_unused c (glance.Refused code row kind flags) bytes new told h is = given _ new told (fault c code) is
+  window_grows : (c : Core) (s k : ℕ) (o : Option Windows) → OutcomeNew (stream_grows c s k o)
+  window_grows c s k None = tt
+  window_grows c s k (Some w) =
+      either _ (broken c s flow_control_error) (outcome (record c { flow = granted_on c.flow s k }) found.Silent) tt tt
 
-handles_by : (b : Bool) (c : Core) (g : Glance) (bytes : List ℕ) (new : Core) (told : Found) → Used Server calm c
-    → HandlesBy b c g bytes new told → IsNew told new
-handles_by true c g bytes new told h is = given _ new told (fault c _) is
-handles_by false c g bytes new told h is = answers_unused c g bytes new told h is
+  window_answers : (c : Core) (s k : ℕ) (r : Result Step StreamFault) → OutcomeNew (stream_answered c s k r)
+  window_answers c s k (Ok step.Goes) =
+      either (k == 0) (broken c s protocol_error) (stream_grows c s k (get c.flow.streams s)) tt (window_grows c s k (get c.flow.streams s))
+  window_answers c s k (Ok step.New) = tt
+  window_answers c s k (Ok step.Ignored) = tt
+  window_answers c s k (Err why) = refusal c why
 
--- where nothing is told of a frame there is nothing to show
-still : (told : Found) (c : Core) → IsStill told → IsNew told c
-still (found.Opened s end) c is = absurd is
-still told c is = tt
+  window_unused : (c : Core) (s k : ℕ) → OutcomeNew (on_window c s k)
+  window_unused c s k =
+      let r = answer_of c.streams window_update_kind s in
+      either (s == 0) (connection_grows c k) (stream_answered c s k r)
+      (either _ (faulted c flow_control_error) (outcome (record c { flow = granted c.flow k }) found.Silent) (fault c flow_control_error) tt)
+      (window_answers c s k r)
 
--- of all that is found
-abbrev Opens : Core → Core → Found → Type 0
-Opens c new told = Used Server calm c → Used Server calm new × IsNew told new
+  applied_unused : (c : Core) (fits : Bool) → OutcomeNew (applied c fits)
+  applied_unused c true = tt
+  applied_unused c false = fault c _
 
-opening : Holds Opens
-opening = record {
-  same = λ c new told quiet is h. (subst (Used Server calm) (sym is) h, still told new quiet);
-  on = λ c mid new told first then h. then (first h).0;
-  handled = λ r c new told is h. (
-    frame_keeps (Used Server) (used_keeps Server) (used_resize Server) (used_acks Server) (used_grow Server) c (glance_of r)
-        (asked r).last new told h is,
-    handles_by (is_misplaced c (glance_of r)) c (glance_of r) (asked r).last new told h is,
-  );
-  faults = λ c new code told is h. (
-    subst (Used Server calm) (sym is.0) (kept.faulted_keeps (Used Server) (used_keeps Server) calm c code h),
-    given (faulted c code) new told (fault c code) is,
-  );
-}
+  settings_by : (b : Bool) (c : Core) (pairs : List (ℕ × ℕ)) (new : Core) (told : Found) → SettlesBy b c pairs new told
+      → IsNew told new
+  settings_by true c pairs new told is = given _ new told (fault c _) is
+  settings_by false c pairs new told is = given _ new told (applied_unused is.0 is.1) is.3
+
+  settings_unused : (ack : Bool) (c : Core) (payload : List ℕ) (new : Core) (told : Found) → DoesSettings ack c payload new told
+      → IsNew told new
+  settings_unused true c payload new told is = given (outcome c found.Silent) new told tt is
+  settings_unused false c payload new told is = settings_by _ c _ new told is
+
+  answers_unused : (c : Core) (g : Glance) (bytes : List ℕ) (new : Core) (told : Found) → Had c → Answers c g bytes new told
+      → IsNew told new
+  answers_unused c glance.Nothing bytes new told h is = given _ new told tt is
+  answers_unused c (glance.Data s k end) bytes new told h is = given _ new told (data_unused c s k _ end h) is
+  answers_unused c (glance.Headers s end whole) bytes new told h is = does_block _ c new told h is
+  answers_unused c (glance.Reset s code) bytes new told h is = given _ new told (reset_answers c s code _) is
+  answers_unused c (glance.Settings ack) bytes new told h is = settings_unused ack c bytes new told is
+  answers_unused c (glance.Ping ack value) bytes new told h is =
+      given (does c (glance.Ping ack value) bytes) new told
+      (either ack (outcome c found.Silent) (outcome (sent c (ping_ack value)) found.Silent) tt tt) is
+  answers_unused c (glance.GoAway last) bytes new told h is = given _ new told tt is
+  answers_unused c (glance.Window s k) bytes new told h is = given _ new told (window_unused c s k) is
+  answers_unused c (glance.Continuation s whole) bytes new told h is = does_block _ c new told h is
+  answers_unused c glance.Other bytes new told h is = given _ new told tt is
+  answers_unused c (glance.Refused code row kind flags) bytes new told h is = given _ new told (fault c code) is
+
+  handles_by : (b : Bool) (c : Core) (g : Glance) (bytes : List ℕ) (new : Core) (told : Found) → Had c
+      → HandlesBy b c g bytes new told → IsNew told new
+  handles_by true c g bytes new told h is = given _ new told (fault c _) is
+  handles_by false c g bytes new told h is = answers_unused c g bytes new told h is
+
+  -- where nothing is told of a frame there is nothing to show
+  still : (told : Found) (c : Core) → IsStill told → IsNew told c
+  still (found.Opened s end) c is = absurd is
+  still (found.Chunk s end) c is = absurd is
+  still told c is = tt
+
+  -- of all that is found
+  abbrev Opens : Core → Core → Found → Type 0
+  Opens c new told = Had c → Had new × IsNew told new
+
+  opening : Holds Opens
+  opening = record {
+    same = λ c new told quiet is h. (subst Had (sym is) h, still told new quiet);
+    on = λ c mid new told first then h. then (first h).0;
+    handled = λ r c new told is h. (
+      (
+        frame_keeps (Used Server) (used_keeps Server) (used_resize Server) (used_acks Server) (used_grow Server) c (glance_of r)
+            (asked r).last new told h.0 is,
+        frame_rises low c (glance_of r) (asked r).last new told h.1 is,
+      ),
+      handles_by (is_misplaced c (glance_of r)) c (glance_of r) (asked r).last new told h is,
+    );
+    faults = λ c new code told is h. (
+      subst Had (sym is.0)
+          (kept.faulted_keeps (Used Server) (used_keeps Server) calm c code h.0, fault_rises low c code h.1),
+      given (faulted c code) new told (fault c code) is,
+    );
+  }
 
 opened : (points : List Point) (given : List Found) (came written : List ℕ) (c d : Connection) (told : Found)
-    → StandsFor Server points given came written c → Finds c d told → IsNew told (core_of d)
+    → StandsFor Server points given came written c → Finds c d told → IsNew (core_of c).streams.highest told (core_of d)
 opened points given came written c d told stands finds =
+    let low = (core_of c).streams.highest in
     let had = used_runs Server points (fresh Server).receiver.core (core_of c) (used_new Server) stands.runs in
-    (finds_so Opens opening c d told finds had).1
+    (finds_so (Opens low) (opening low) c d told finds (had, omega arith)).1
 
-unused_by : (told : Found) (d : Connection) → IsNew told (core_of d) → IsUnused told (outgoing d)
-unused_by (found.Opened s end) d new = new.0
-unused_by told d new = tt
+unused_by : (low : ℕ) (told : Found) (d : Connection) → IsNew low told (core_of d) → IsUnused told (outgoing d)
+unused_by low (found.Opened s end) d new = new.0
+unused_by low told d new = tt
 
 pub opened_is_unused : OpenedIsUnused
 opened_is_unused points given came written c d told stands finds =
-    unused_by told d (opened points given came written c d told stands finds)
+    unused_by (core_of c).streams.highest told d (opened points given came written c d told stands finds)
 
-open_by : (told : Found) (d : Connection) → IsNew told (core_of d) → IsOpenBehind told d
-open_by (found.Opened s end) d new = new.1
-open_by told d new = tt
+open_by : (low : ℕ) (told : Found) (d : Connection) → IsNew low told (core_of d) → IsOpenBehind told d
+open_by low (found.Opened s end) d new = new.1
+open_by low told d new = tt
 
 pub opened_is_open : OpenedIsOpen
 opened_is_open points given came written c d told stands finds =
-    open_by told d (opened points given came written c d told stands finds)
+    open_by (core_of c).streams.highest told d (opened points given came written c d told stands finds)
+
+numbered_by : (told : Found) (c d : Connection) → IsNew (core_of c).streams.highest told (core_of d) → IsNumbered told c d
+numbered_by (found.Opened s end) c d new = (new.2, new.3)
+numbered_by (found.Chunk s end) c d new = new
+numbered_by found.Silent c d new = tt
+numbered_by (found.Ended s) c d new = tt
+numbered_by (found.Reset s code) c d new = tt
+numbered_by (found.Broken s code) c d new = tt
+numbered_by (found.GoneAway last) c d new = tt
+numbered_by (found.Fault code) c d new = tt
+
+pub told_are_numbered : ToldAreNumbered
+told_are_numbered points given came written c d told stands finds =
+    numbered_by told c d (opened points given came written c d told stands finds)
 
 pub used_is_refused : UsedIsRefused
 used_is_refused end none = absurd (false≢true (sym none.0))

@@ -55,18 +55,18 @@ use Rattle.hb_kept.proofs.SidesAt.{sides_at, Changes, Others, All, all_same, at_
 paid_streams : (c : Core) → (owed_paid c).streams ≡ c.streams
 paid_streams c = ap (λ p. p.0) (paid_parts c)
 
-released_streams : (c : Core) (s : ℕ) → (released c s).streams ≡ c.streams
+pub released_streams : (c : Core) (s : ℕ) → (released c s).streams ≡ c.streams
 released_streams c s = cond_both (is_active c.streams s) c _ (λ (x : Core). x.streams ≡ c.streams) (λ is. refl) (λ is. refl)
 
 update_streams : (c : Core) (s : ℕ) (o : Option ℕ) → (with_update c s o).streams ≡ c.streams
 update_streams c s None = refl
 update_streams c s (Some n) = due_streams c s (due.Credit n)
 
-updated_streams : (c : Core) (o : Option ℕ) → (updated c o).streams ≡ c.streams
+pub updated_streams : (c : Core) (o : Option ℕ) → (updated c o).streams ≡ c.streams
 updated_streams c None = refl
 updated_streams c (Some n) = refl
 
-credited_streams : (c : Core) (s : ℕ) → (credited_on c s).streams ≡ c.streams
+pub credited_streams : (c : Core) (s : ℕ) → (credited_on c s).streams ≡ c.streams
 credited_streams c s = update_streams (record c { flow = paid_on c.flow s }) s (due_on c.flow s)
 
 pub write_leaves_all : WriteLeavesAll

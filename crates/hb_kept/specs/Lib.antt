@@ -3,6 +3,7 @@ pub mod DataWaits
 pub mod Examples
 pub mod Kept
 pub mod Looks
+pub mod Numbers
 pub mod Opened
 pub mod Shut
 pub mod Sides

@@ -8,6 +8,7 @@ ghost use Rattle.hb_kept.specs.Shut.{StayingStaysShut, PutStaysShut, UseStaysShu
 ghost use Rattle.hb_kept.specs.Examples.{FaultedIsRefused, NoOctetIsRefused, FewHaveRoom, MoreIsRefused, NewIsShut};
 ghost use Rattle.hb_kept.specs.Examples.{WriteIsRefused, OpenIsRefused};
 ghost use Rattle.hb_kept.specs.Opened.{WaitsOnUsed, OpenedIsUnused, UsedIsRefused, OtherMayOpen};
+ghost use Rattle.hb_kept.specs.Numbers.{PointsRaise, WritesLeave, ToldAreNumbered, UsedOpensNot, HigherMayOpen};
 ghost use Rattle.hb_kept.specs.DataWaits.{WaitsWithinMore, WaitsWithout, FindsWithin, WritesWithin, OpensWithin, UsesWithin};
 ghost use Rattle.hb_kept.specs.Sides.{WriteLeavesAll, PutLeavesAll, UseLeavesAll, AnswerEndsSide, EndEndsSide, ResetEndsBoth};
 ghost use Rattle.hb_kept.specs.Sides.{FindsSides, OpenedIsOpen};
@@ -66,6 +67,17 @@ pub fn opened_streams_are_unused()
     ensures opened { OpenedIsUnused }
     ensures refused { UsedIsRefused }
     ensures other { OtherMayOpen }
+{}
+
+/// The highest number of a stream that was used doesn't fall by whatever happens. A stream that a server is told to be opened is above
+/// all that were used, and the highest behind it, so none is opened twice; DATA is told only of a stream that was used (RFC 9113
+/// section 5.1.1). A stream that was used is refused; a higher one isn't.
+pub fn streams_open_once()
+    ensures raise { PointsRaise }
+    ensures writes { WritesLeave }
+    ensures told { ToldAreNumbered }
+    ensures used { UsedOpensNot }
+    ensures higher { HigherMayOpen }
 {}
 
 /// Where all DATA with payload that waits is of a set of streams, it is so behind whatever is found, without the stream that a reset or
