@@ -34,13 +34,16 @@ none_lives l trace none = by (lives l trace) refl none
     by false dead is = dead
 
 pub is_served : {N : Type 0} (stands : N → List Entry → Type 0) (shown : N → Shown) (r : Records) (told : Option (List Entry))
-    → ((l : ℕ) → (kept r.links).links l ≡ None) → IfSome told (Obeys stands shown r) → IfSome told (IsServed stands shown)
+    → ((l : ℕ) → (kept r.links).links l ≡ None) → IfSome told (Obeys stands shown r)
+    → IfSome told (IsServed stands shown r.births r.wanting)
 is_served stands shown r told none had =
-    each (Obeys stands shown r) (IsServed stands shown) told
+    each (Obeys stands shown r) (IsServed stands shown r.births r.wanting) told
     (λ trace o. record {
       awake = o.awake;
       settled = o.settled;
       closed = λ l. none_lives l trace (sym (o.links l) ∙ none l);
+      links_are = o.births_are;
+      wanting_is = o.wanting_is;
     }) had
 
 nothing_at : (P : List Entry → Entry → Type 0) → AtEach P []
@@ -70,10 +73,10 @@ watched_fresh shown run fresh l =
     inr (inr (subst (λ (o : Option Link). Rests o l (shown run.node)) (sym (fresh.links l)) tt))
 
 pub nothing_served : {N : Type 0} (stands : N → List Entry → Type 0) (shown : N → Shown) (told : Option (List Entry)) → told ≡ Some []
-    → IfSome told (IsServed stands shown)
+    → IfSome told (IsServed stands shown 0 false)
 nothing_served stands shown told is =
-    subst (λ (o : Option (List Entry)). IfSome o (IsServed stands shown)) (sym is)
-    (record { awake = nothing_at IsAwake; settled = nothing_at (SettledAt stands shown); closed = λ l. refl })
+    subst (λ (o : Option (List Entry)). IfSome o (IsServed stands shown 0 false)) (sym is)
+    (record { awake = nothing_at IsAwake; settled = nothing_at (SettledAt stands shown); closed = λ l. refl; links_are = refl; wanting_is = refl })
 
 pub fewer : (o : Option Link) (n m : ℕ) → IsSome o → n + (if is_some o then 1 else 0) ≡ m → n < m
 fewer None n m some is = absurd (false≢true some)

@@ -1,5 +1,6 @@
 pub mod Ends
 pub mod May
+pub mod Refused
 pub mod Served
 pub mod Settled
 pub mod Shown

@@ -3,6 +3,7 @@
 
 mod act;
 mod acts;
+pub mod laws;
 mod link;
 mod node;
 mod round;
@@ -14,5 +15,5 @@ mod waits;
 
 pub use act::Act;
 pub use node::Node;
-pub use served::ServeEnd;
+pub use served::{ServeEnd, Served, Totals};
 pub use service::serve;

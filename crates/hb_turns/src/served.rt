@@ -1,4 +1,4 @@
-//! How a run ended.
+//! How a run ended, and what it did.
 
 /// How a run ended.
 #[derive(Clone, Copy)]
@@ -9,4 +9,20 @@ pub enum ServeEnd {
     WorldFault,
     TurnsSpent,
     NoMemory,
+}
+
+/// What a run did, in numbers.
+#[derive(Clone, Copy)]
+pub struct Totals {
+    /// The links that were born.
+    pub links: u64,
+}
+
+/// A run that ended.
+#[derive(Clone, Copy)]
+pub struct Served {
+    pub end: ServeEnd,
+    pub totals: Totals,
+    /// A link was closed for want of memory.
+    pub wanting: bool,
 }

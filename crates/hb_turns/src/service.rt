@@ -10,7 +10,7 @@ ghost use Rattle.hb_turns.specs.Stands.{Obeys, Stands, Watched};
 use crate::acts::forget;
 use crate::node::Node;
 use crate::run::{MOST_READ, Records, Run};
-use crate::served::ServeEnd;
+use crate::served::{ServeEnd, Served, Totals};
 use crate::turns::turns;
 use hb_base::{Cause, NoMemory};
 use hb_ready::{Asked, Links};
@@ -122,19 +122,30 @@ fn begin<N: Node + Drop>(alloc: Global, node: N) -> Result<(Run<N>, Ready), NoMe
 
 /// Runs a node over a world, for so many turns at most, until a wait tells a stop or fails, the turns are spent, or memory lacks.
 /// Then each link is closed. Where the world tells its trace, and no call was made on it before, the trace obeys the awake law and
-/// the settled law, and no link lives.
-pub fn serve<W: World, N: Node + Drop>(alloc: Global, node: N, most: u64, world: &mut W) -> ServeEnd
+/// the settled law, no link lives, and it says how many links were born, and whether one was closed for want of memory.
+pub fn serve<W: World, N: Node + Drop>(alloc: Global, node: N, most: u64, world: &mut W) -> Served
     requires { N.stands node [] }
-    ensures served { W.trace world.old ≡ Some [] → IfSome (W.trace world.new) (IsServed N.stands N.shown) }
-    ensures faults { Counts (W.faults world.old) (W.faults world.new) (is_fault result) }
+    ensures served { W.trace world.old ≡ Some [] → IfSome (W.trace world.new) (IsServed N.stands N.shown result.totals.links result.wanting) }
+    ensures faults { Counts (W.faults world.old) (W.faults world.new) (is_fault result.end) }
     ensures follows { W.script world.new ≡ W.script world.old }
 {
     match begin(alloc, node) {
         Ok((run, ready)) => {
             let mut run = run;
             let mut ready = ready;
-            serve_run(&mut run, world, &mut ready, most)
+            let end = serve_run(&mut run, world, &mut ready, most);
+            Served {
+                end,
+                totals: Totals {
+                    links: run.records.births,
+                },
+                wanting: run.records.wanting,
+            }
         }
-        Err(_) => ServeEnd::NoMemory,
+        Err(_) => Served {
+            end: ServeEnd::NoMemory,
+            totals: Totals { links: 0 },
+            wanting: false,
+        },
     }
 }

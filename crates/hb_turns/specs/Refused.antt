@@ -1,0 +1,45 @@
+-- Small traces that the settled law refuses, and one that obeys it.
+use Rattle.std.specs.Prelude.{◌≡◌, ℕ, List, [], ◌∷◌, None}
+use Rattle.hb_base.specs.declared.door.Door.TheVariants.{Inbound}
+use Rattle.hb_base.specs.declared.door.Why.{Why}
+use Rattle.hb_base.specs.declared.target.Target.{Target}
+use Rattle.hb_world.specs.declared.entry.Entry.{Entry}
+use Rattle.hb_world.specs.declared.entry.Entry.TheVariants as e
+use Rattle.hb_world.specs.declared.entry.ReadyItem.TheVariants as item
+use Rattle.hb_world.specs.declared.entry.Way.TheVariants as way
+use Rattle.hb_world.specs.declared.entry.Woken.TheVariants as woken
+use Rattle.hb_turns.specs.Settled.{SettledLaw}
+use Rattle.hb_turns.specs.Shown.{Shown}
+
+-- a wait that names nothing
+abbrev pub waits : Entry
+waits = e.Wait [] woken.Woke
+
+module _ {N : Type 0} (stands : N → List Entry → Type 0) (shown : N → Shown) where
+  -- a wait while an act is due
+  abbrev pub WaitsOverDue : Type 0
+  WaitsOverDue = ((n : N) → (shown n).due ≡ None → ⊥) → SettledLaw stands shown (waits ∷ []) → ⊥
+
+  -- a wait while more may be read on a link that is awake
+  abbrev pub WaitsOverReadable : Type 0
+  WaitsOverReadable = (to : Target) (why : Why) → ((n : N) → (shown n).wants 1 ≡ 0 → ⊥)
+      → SettledLaw stands shown (e.Dialled 1 to why ∷ e.Opened 1 ∷ waits ∷ []) → ⊥
+
+  -- a wait while bytes are to be written on a link that is awake
+  abbrev pub WaitsOverUnwritten : Type 0
+  WaitsOverUnwritten = (to : Target) (why : Why) → ((n : N) → (shown n).output 1 ≡ [] → ⊥)
+      → SettledLaw stands shown (e.Dialled 1 to why ∷ e.Opened 1 ∷ waits ∷ []) → ⊥
+
+  -- a wait though a link wasn't asked whether it is open
+  abbrev pub WaitsUnasked : Type 0
+  WaitsUnasked = (to : Target) (why : Why) → SettledLaw stands shown (e.Dialled 1 to why ∷ waits ∷ []) → ⊥
+
+  -- a wait though no accept was tried at a door that a wait named
+  abbrev pub WaitsUnaccepted : Type 0
+  WaitsUnaccepted = SettledLaw stands shown (e.Wait (item.Door Inbound ∷ []) woken.Woke ∷ waits ∷ []) → ⊥
+
+  -- a wait once a link that isn't open balked
+  abbrev pub GoodTraceIsSettled : Type 0
+  GoodTraceIsSettled = (to : Target) (why : Why) (n : N) → (shown n).due ≡ None
+      → stands n (e.Dialled 1 to why ∷ e.Balked (way.Finish 1) ∷ [])
+      → SettledLaw stands shown (e.Dialled 1 to why ∷ e.Balked (way.Finish 1) ∷ waits ∷ [])
