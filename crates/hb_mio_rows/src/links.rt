@@ -123,7 +123,7 @@ fn much_is_written_in_parts(rt: HostRuntime) -> Result<(), Fail> {
     Ok(())
 }
 
-/// A link to which its other end writes five octets and then closes, before the world looks.
+/// A link to which its other end writes five octets and then closes, before the world waits.
 fn ended_behind_five(
     world: &mut Real,
     ready: &mut Ready,
@@ -133,6 +133,8 @@ fn ended_behind_five(
     let mut peer = peer;
     io::Write::write_all(&mut peer, b"hello")?;
     drop(peer);
+    // This takes the one event that tells the end.
+    let _ = world.wait(ready);
     Ok(hear(world, ready, link, 1000))
 }
 
