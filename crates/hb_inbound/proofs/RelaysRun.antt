@@ -1,14 +1,13 @@
 -- What comes on a stream goes up, or waits, in every run of a link.
-use Rattle.std.proofs.Common.{◌≡◌, ◌⊎◌, inl, inr, ℕ, ◌<◌, ◌≤◌, ◌==◌, ◌&&◌, Bool, true, false, cond, List, [], ◌∷◌, ◌++◌, length, drop, Option, Some, None, refl, ap, sym, ◌∙◌, subst, arith}
+use Rattle.std.proofs.Common.{◌≡◌, ℕ, ◌≤◌, ◌==◌, ◌&&◌, Bool, true, false, cond, List, [], ◌∷◌, ◌++◌, length, drop, Option, refl, ap, sym, ◌∙◌, subst, arith}
 use Rattle.std.specs.List.{flat_map}
-use Rattle.std.proofs.lemmas.Bool.{false≢true, cond_both, eqb-true, eq-eqb, ne_eqb}
-use Rattle.std.proofs.lemmas.Bool.Decides.{nat_tests}
-use Rattle.std.proofs.lemmas.List.{append-nil, nil_from_length}
+use Rattle.std.proofs.lemmas.Bool.{false≢true, cond_both, eq-eqb, ne_eqb}
+use Rattle.std.proofs.lemmas.List.{append-nil}
 use Rattle.std.proofs.Math.Seq.{drop-append_seam}
 use Rattle.hb_base.specs.declared.cause.Cause.{Cause}
 use Rattle.hb_base.specs.declared.cause.Cause.TheVariants as cause
 use Rattle.hb_base.specs.declared.note.Note.{Note}
-use Rattle.hb_conn.specs.Connection.{Connection, core_of, fresh_server, taken}
+use Rattle.hb_conn.specs.Connection.{Connection, core_of, fresh_server}
 use Rattle.hb_conn.specs.Observed as observed
 use Rattle.hb_conn.specs.Observed.{chunk_of, creditable, status_put, end_put, data_put, aborted}
 use Rattle.hb_conn.specs.declared.found.Found.{Found}
@@ -31,17 +30,16 @@ use Rattle.hb_verdict.specs.declared.verdict.Verdict.{Verdict}
 use Rattle.hb_verdict.specs.declared.verdict.Verdict.TheVariants.{Status, Reset, Dial}
 use Rattle.hb_world.specs.declared.entry.Entry.{Entry}
 use Rattle.hb_world.specs.declared.entry.Entry.TheVariants as e
-use Rattle.hb_world.specs.declared.entry.Way.TheVariants as way
-use Rattle.hb_inbound.specs.Inbound.{Inbound, Phase, unborn, arriving, fronting, serving, faulted, closing, closed, at_stream, came_by, ended_by, broken_by, told_of, on_found, judged_by, with_phase, lacking, fronted_by, rejudged, stopped_for}
+use Rattle.hb_inbound.specs.Inbound.{Inbound, Phase, unborn, arriving, fronting, serving, faulted, closing, closed, at_stream, came_by, ended_by, broken_by, on_found, judged_by, with_phase, lacking, fronted_by, rejudged, stopped_for}
 use Rattle.hb_inbound.specs.Part.{Part, entry, up, welcomed, crowded, lacked, misfronted, looked, decided, accepted, refused, reset, left, done, put, finished, credited, applied, stopped, act, moves_in, moves, tellings}
 use Rattle.hb_inbound.specs.Part as part
-use Rattle.hb_inbound.specs.Runs.{Local, MayCome, UpMayCome, entered, Steps, StandsFor, begins, goes_on, with_link, with_tunnel, tunnel_for, put_down, Refuses, Resets, Leaves, refused_on}
+use Rattle.hb_inbound.specs.Runs.{Local, MayCome, UpMayCome, entered, Steps, StandsFor, begins, goes_on, with_link, tunnel_for, put_down, Refuses, Resets, Leaves, refused_on}
 use Rattle.hb_inbound.specs.Sides.{data_by, stream_came, up_went_in, up_went, is_accept, is_peer_end, conn_came, link_went}
 use Rattle.hb_inbound.specs.Sides as sides
-use Rattle.hb_inbound.specs.Tunnel.{Tunnel, Stage, unasked, requested, refusing, malformed, due, opening, accepting, live, failed, ended, over, gone, is_live, is_unanswered, takes_place, at_stage, asked, ends_by, ends_for, left_with, up_entered, came_up, peer_ended, requested_with}
+use Rattle.hb_inbound.specs.Tunnel.{Tunnel, Stage, unasked, requested, refusing, malformed, due, opening, accepting, live, failed, ended, over, gone, is_live, is_unanswered, takes_place, at_stage, asked, ends_for, left_with, up_entered, came_up, peer_ended, requested_with}
 use Rattle.hb_inbound.proofs.Admitted.{at_one}
 use Rattle.hb_inbound.proofs.Runs.{Keeps, FrontBy, all_keep}
-use Rattle.hb_inbound.proofs.Relaying.{told_on, told_data, is_asked, comes_ended, Relays, was_more, was_now, grows, Follows, same_stage, later, ends_follow, left_follows, Alike, quiet}
+use Rattle.hb_inbound.proofs.Relaying.{told_on, told_data, is_asked, comes_ended, Relays, was_more, was_now, grows, same_stage, later, ends_follow, left_follows, Alike, quiet}
 
 still : (n : ℕ) → n ≤ n
 still n = omega arith
@@ -279,99 +277,99 @@ module _ (l : ℕ) (start : Resources) (a : Local) (parts : List Part) (keeps : 
   -- WHAT IS TOLD
 
   module _ (ps : List history.Point) (headers : HeaderList) (d : Connection) (calm : (s : ℕ) → is_unanswered (a.link.tunnels s).stage ≡ false)
-      where
-    abbrev Looks : Found → Type 0
-    Looks told = IsLook a.link.conn ps told d
+    where
+      abbrev Looks : Found → Type 0
+      Looks told = IsLook a.link.conn ps told d
 
-    rises : (told : Found) → Looks told → highest_used a.link.conn ≤ highest_used d
-    rises told look = points_raise a.link.conn d ps look.runs
+      rises : (told : Found) → Looks told → highest_used a.link.conn ≤ highest_used d
+      rises told look = points_raise a.link.conn d ps look.runs
 
-    comes : (told : Found) → Looks told → (k : ℕ) → flat_map (data_by k) ps ≡ told_on k told (chunk_of d told)
-    comes told look k = told_data k a.link.conn d ps told look.looks look.tells look.hands_out
+      comes : (told : Found) → Looks told → (k : ℕ) → flat_map (data_by k) ps ≡ told_on k told (chunk_of d told)
+      comes told look k = told_data k a.link.conn d ps told look.looks look.tells look.hands_out
 
-    numbered : (told : Found) → Looks told → IsNumbered told a.link.conn d
-    numbered told look =
-        told_are_numbered (moves parts) (tellings parts) (conn_came parts) (link_went parts) a.link.conn d told keeps.one.stands look.finds
+      numbered : (told : Found) → Looks told → IsNumbered told a.link.conn d
+      numbered told look =
+          told_are_numbered (moves parts) (tellings parts) (conn_came parts) (link_went parts) a.link.conn d told keeps.one.stands look.finds
 
-    asks_not : {A : Type 0} (s : ℕ) → is_asked (a.link.tunnels s).stage ≡ true → A
-    asks_not s asks = absurd (false≢true (sym (not_asked (a.link.tunnels s).stage (calm s)) ∙ asks))
+      asks_not : {A : Type 0} (s : ℕ) → is_asked (a.link.tunnels s).stage ≡ true → A
+      asks_not s asks = absurd (false≢true (sym (not_asked (a.link.tunnels s).stage (calm s)) ∙ asks))
 
-    opened_here : (s : ℕ) (end : Bool) → Looks (found.Opened s end)
-        → Relays (parts ++ looked ps (found.Opened s end) headers ∷ []) d s (requested_with headers end)
-    opened_here s end look =
-        let told = found.Opened s end in
-        let p = looked ps told headers in
-        let t = a.link.tunnels s in
-        let number = numbered told look in
-        let none : t.ways.up.held ≡ [] =
-        none_behind (up_went s parts) t.ways.up.held (sym ((relays s).new number.0).1 ∙ (relays s).front) in
-        grows parts p a.link.conn d s t (requested_with headers end) [] [] (comes told look s) refl
-        (append-nil t.ways.up.held ∙ none) (rises told look)
-        (λ above. absurd (let same = number.1 in omega (arith, same, above)))
-        (λ asks. refl) (λ now. absurd (false≢true now)) (λ now. absurd (false≢true now))
-        (λ now. was_now (is_peer_end s) parts p (ap (λ (b : Bool). b && end) (eq-eqb s s refl) ∙ now)) (relays s)
+      opened_here : (s : ℕ) (end : Bool) → Looks (found.Opened s end)
+          → Relays (parts ++ looked ps (found.Opened s end) headers ∷ []) d s (requested_with headers end)
+      opened_here s end look =
+          let told = found.Opened s end in
+          let p = looked ps told headers in
+          let t = a.link.tunnels s in
+          let number = numbered told look in
+          let none : t.ways.up.held ≡ [] =
+          none_behind (up_went s parts) t.ways.up.held (sym ((relays s).new number.0).1 ∙ (relays s).front) in
+          grows parts p a.link.conn d s t (requested_with headers end) [] [] (comes told look s) refl
+          (append-nil t.ways.up.held ∙ none) (rises told look)
+          (λ above. absurd (let same = number.1 in omega (arith, same, above)))
+          (λ asks. refl) (λ now. absurd (false≢true now)) (λ now. absurd (false≢true now))
+          (λ now. was_now (is_peer_end s) parts p (ap (λ (b : Bool). b && end) (eq-eqb s s refl) ∙ now)) (relays s)
 
-    chunk_here : (s : ℕ) (end : Bool) → Looks (found.Chunk s end)
-        → Relays (parts ++ looked ps (found.Chunk s end) headers ∷ []) d s (came_up (chunk_of d (found.Chunk s end)) (a.link.tunnels s))
-    chunk_here s end look =
-        let told = found.Chunk s end in
-        let p = looked ps told headers in
-        let t = a.link.tunnels s in
-        let bytes = chunk_of d told in
-        let number = numbered told look in
-        grows parts p a.link.conn d s t (came_up bytes t) bytes []
-        (comes told look s ∙ ap (λ (b : Bool). cond b bytes []) (eq-eqb s s refl)) refl refl (rises told look)
-        (λ above. absurd (let low = number in omega (arith, low, above)))
-        (λ asks. asks_not s asks)
-        (λ now. was_more (is_accept s) parts p ((relays s).lives now))
-        (λ now. was_more (is_peer_end s) parts p ((relays s).ends now))
-        (λ now. was_more (is_peer_end s) parts p ((relays s).asked now)) (relays s)
+      chunk_here : (s : ℕ) (end : Bool) → Looks (found.Chunk s end)
+          → Relays (parts ++ looked ps (found.Chunk s end) headers ∷ []) d s (came_up (chunk_of d (found.Chunk s end)) (a.link.tunnels s))
+      chunk_here s end look =
+          let told = found.Chunk s end in
+          let p = looked ps told headers in
+          let t = a.link.tunnels s in
+          let bytes = chunk_of d told in
+          let number = numbered told look in
+          grows parts p a.link.conn d s t (came_up bytes t) bytes []
+          (comes told look s ∙ ap (λ (b : Bool). cond b bytes []) (eq-eqb s s refl)) refl refl (rises told look)
+          (λ above. absurd (let low = number in omega (arith, low, above)))
+          (λ asks. asks_not s asks)
+          (λ now. was_more (is_accept s) parts p ((relays s).lives now))
+          (λ now. was_more (is_peer_end s) parts p ((relays s).ends now))
+          (λ now. was_more (is_peer_end s) parts p ((relays s).asked now)) (relays s)
 
-    ended_here : (s : ℕ) → Looks (found.Ended s)
-        → Relays (parts ++ looked ps (found.Ended s) headers ∷ []) d s (peer_ended (a.link.tunnels s))
-    ended_here s look =
-        let told = found.Ended s in
-        let p = looked ps told headers in
-        let t = a.link.tunnels s in
-        let up = rises told look in
-        grows parts p a.link.conn d s t (peer_ended t) [] [] (comes told look s) refl (append-nil t.ways.up.held) up
-        (λ above. (((relays s).new (omega (arith, up, above))).0, refl))
-        (λ asks. asks_not s asks)
-        (λ now. was_more (is_accept s) parts p ((relays s).lives now))
-        (λ now. was_now (is_peer_end s) parts p (eq-eqb s s refl))
-        (λ now. was_more (is_peer_end s) parts p ((relays s).asked now)) (relays s)
+      ended_here : (s : ℕ) → Looks (found.Ended s)
+          → Relays (parts ++ looked ps (found.Ended s) headers ∷ []) d s (peer_ended (a.link.tunnels s))
+      ended_here s look =
+          let told = found.Ended s in
+          let p = looked ps told headers in
+          let t = a.link.tunnels s in
+          let up = rises told look in
+          grows parts p a.link.conn d s t (peer_ended t) [] [] (comes told look s) refl (append-nil t.ways.up.held) up
+          (λ above. (((relays s).new (omega (arith, up, above))).0, refl))
+          (λ asks. asks_not s asks)
+          (λ now. was_more (is_accept s) parts p ((relays s).lives now))
+          (λ now. was_now (is_peer_end s) parts p (eq-eqb s s refl))
+          (λ now. was_more (is_peer_end s) parts p ((relays s).asked now)) (relays s)
 
-    found_now : (told : Found) → Looks told → let y = on_found told headers d a.link in
-        (s : ℕ) → Relays (parts ++ looked ps told headers ∷ []) y.conn s (y.tunnels s)
-    found_now found.Silent look =
-        all_quiet (looked ps found.Silent headers) (record a.link { conn = d }) (comes found.Silent look, λ s. refl) (rises found.Silent look)
-        (λ s. same_tunnel (a.link.tunnels s))
-    found_now (found.Opened s end) look =
-        one_changes (looked ps (found.Opened s end) headers) s (λ t. requested_with headers end) d (comes (found.Opened s end) look, λ k. refl)
-        (rises (found.Opened s end) look) (opened_here s end look)
-    found_now (found.Chunk s end) look =
-        let told = found.Chunk s end in
-        let bytes = chunk_of d told in
-        at_one s (came_up bytes) a.link (λ k t. Relays (parts ++ looked ps told headers ∷ []) d k t) (chunk_here s end look)
-        (λ k apart. quiet parts (looked ps told headers) a.link.conn d k (a.link.tunnels k) (a.link.tunnels k)
-        (comes told look k ∙ ap (λ (b : Bool). cond b bytes []) (swapped k s apart)) refl (rises told look)
-        (same_tunnel (a.link.tunnels k)) (relays k))
-    found_now (found.Ended s) look =
-        one_changes (looked ps (found.Ended s) headers) s peer_ended d (comes (found.Ended s) look, λ k. refl) (rises (found.Ended s) look)
-        (ended_here s look)
-    found_now (found.Reset s code) look =
-        one_quiet (looked ps (found.Reset s code) headers) s (ends_for (cause.PeerReset code)) d (comes (found.Reset s code) look, λ k. refl)
-        (rises (found.Reset s code) look) (ends_alike (cause.PeerReset code) (a.link.tunnels s))
-    found_now (found.Broken s code) look =
-        one_quiet (looked ps (found.Broken s code) headers) s (ends_for (cause.StreamFault code)) d
-        (comes (found.Broken s code) look, λ k. refl) (rises (found.Broken s code) look)
-        (ends_alike (cause.StreamFault code) (a.link.tunnels s))
-    found_now (found.GoneAway last) look =
-        all_quiet (looked ps (found.GoneAway last) headers) (record a.link { conn = d }) (comes (found.GoneAway last) look, λ s. refl)
-        (rises (found.GoneAway last) look) (λ s. same_tunnel (a.link.tunnels s))
-    found_now (found.Fault code) look =
-        all_quiet (looked ps (found.Fault code) headers) (on_found (found.Fault code) headers d a.link)
-        (comes (found.Fault code) look, λ s. refl) (rises (found.Fault code) look) (λ s. ends_alike (cause.ConnFault code) (a.link.tunnels s))
+      found_now : (told : Found) → Looks told → let y = on_found told headers d a.link in
+          (s : ℕ) → Relays (parts ++ looked ps told headers ∷ []) y.conn s (y.tunnels s)
+      found_now found.Silent look =
+          all_quiet (looked ps found.Silent headers) (record a.link { conn = d }) (comes found.Silent look, λ s. refl) (rises found.Silent look)
+          (λ s. same_tunnel (a.link.tunnels s))
+      found_now (found.Opened s end) look =
+          one_changes (looked ps (found.Opened s end) headers) s (λ t. requested_with headers end) d (comes (found.Opened s end) look, λ k. refl)
+          (rises (found.Opened s end) look) (opened_here s end look)
+      found_now (found.Chunk s end) look =
+          let told = found.Chunk s end in
+          let bytes = chunk_of d told in
+          at_one s (came_up bytes) a.link (λ k t. Relays (parts ++ looked ps told headers ∷ []) d k t) (chunk_here s end look)
+          (λ k apart. quiet parts (looked ps told headers) a.link.conn d k (a.link.tunnels k) (a.link.tunnels k)
+          (comes told look k ∙ ap (λ (b : Bool). cond b bytes []) (swapped k s apart)) refl (rises told look)
+          (same_tunnel (a.link.tunnels k)) (relays k))
+      found_now (found.Ended s) look =
+          one_changes (looked ps (found.Ended s) headers) s peer_ended d (comes (found.Ended s) look, λ k. refl) (rises (found.Ended s) look)
+          (ended_here s look)
+      found_now (found.Reset s code) look =
+          one_quiet (looked ps (found.Reset s code) headers) s (ends_for (cause.PeerReset code)) d (comes (found.Reset s code) look, λ k. refl)
+          (rises (found.Reset s code) look) (ends_alike (cause.PeerReset code) (a.link.tunnels s))
+      found_now (found.Broken s code) look =
+          one_quiet (looked ps (found.Broken s code) headers) s (ends_for (cause.StreamFault code)) d
+          (comes (found.Broken s code) look, λ k. refl) (rises (found.Broken s code) look)
+          (ends_alike (cause.StreamFault code) (a.link.tunnels s))
+      found_now (found.GoneAway last) look =
+          all_quiet (looked ps (found.GoneAway last) headers) (record a.link { conn = d }) (comes (found.GoneAway last) look, λ s. refl)
+          (rises (found.GoneAway last) look) (λ s. same_tunnel (a.link.tunnels s))
+      found_now (found.Fault code) look =
+          all_quiet (looked ps (found.Fault code) headers) (on_found (found.Fault code) headers d a.link)
+          (comes (found.Fault code) look, λ s. refl) (rises (found.Fault code) look) (λ s. ends_alike (cause.ConnFault code) (a.link.tunnels s))
 
   -- ANSWERS
 
