@@ -4,6 +4,7 @@ pub mod AdmittedRun
 pub mod Grown
 pub mod Histories
 pub mod Refusing
+pub mod RelayRefused
 pub mod RelayUp
 pub mod Relaying
 pub mod RelaysRun

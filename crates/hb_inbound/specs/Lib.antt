@@ -8,6 +8,7 @@ pub mod Laws
 pub mod Part
 pub mod Refused
 pub mod Relay
+pub mod RelayRefused
 pub mod Runs
 pub mod Sides
 pub mod Tunnel

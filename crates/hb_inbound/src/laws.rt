@@ -2,6 +2,7 @@
 
 ghost use Rattle.hb_inbound.specs.Refused.{DialsUnasked, AcceptsUnopened, WritesUnopened, ShutsEarly, EndsEarly, WritesRevoked};
 ghost use Rattle.hb_inbound.specs.Laws.{RunsAdmit, RunsObeyConnections, RunsObeyWindows, RunsRelayUp};
+ghost use Rattle.hb_inbound.specs.RelayRefused.{InventsByte, WritesFront};
 ghost use Rattle.hb_inbound.specs.Refused.{PutsRevoked, KeepsAdmitted, KeepsPlaceless, EndsOthers};
 
 /// Nothing is dialled that wasn't asked for, 200 isn't put nor are bytes written before the upstream is open, and no way ends
@@ -45,4 +46,10 @@ pub fn peers_are_admitted()
 /// 200 is. The upstream is shut behind the end of the peer's side alone, once all that came is written.
 pub fn bytes_are_relayed()
     ensures { RunsRelayUp }
+{}
+
+/// A byte that is written to an upstream where none came is refused; the first of two that came isn't.
+pub fn invented_bytes_are_refused()
+    ensures invents { InventsByte }
+    ensures front { WritesFront }
 {}
