@@ -8,6 +8,7 @@ pub mod Life
 pub mod LifeRun
 pub mod RefusedRuns
 pub mod Refusing
+pub mod RelayRefused
 pub mod RelayUp
 pub mod Relaying
 pub mod RelaysRun

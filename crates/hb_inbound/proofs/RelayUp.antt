@@ -12,9 +12,9 @@ use Rattle.hb_world.specs.declared.entry.Entry.{Entry}
 use Rattle.hb_world.specs.declared.entry.Entry.TheVariants as e
 use Rattle.hb_inbound.specs.Laws.{RunsRelayUp}
 use Rattle.hb_inbound.specs.Part.{Part, entry, up, welcomed, crowded, lacked, fronted, misfronted, looked, decided, accepted, refused, reset, left, done, put, finished, credited, applied, stopped, moves, tellings}
-use Rattle.hb_inbound.specs.Relay.{RelaysUp, ShutsBehind, UpMayGo, MayGoUp}
+use Rattle.hb_inbound.specs.Relay.{ShutsBehind, UpMayGo, MayGoUp}
 use Rattle.hb_inbound.specs.Runs.{Local, UpMayCome, Steps, StandsFor}
-use Rattle.hb_inbound.specs.Sides.{stream_came, up_went, conn_came, link_went}
+use Rattle.hb_inbound.specs.Sides.{up_went, conn_came, link_went}
 use Rattle.hb_inbound.specs.Tunnel.{unasked, is_live}
 use Rattle.hb_inbound.proofs.Grown.{at_parts}
 use Rattle.hb_inbound.proofs.RelaysRun.{all_relay}

@@ -1,5 +1,5 @@
 -- What every run of a link keeps of the bytes that come on its streams and go to upstreams.
-use Rattle.std.proofs.Common.{◌≡◌, ℕ, ◌<◌, ◌≤◌, ◌==◌, ◌||◌, Bool, true, false, cond, List, [], ◌∷◌, ◌++◌, Option, Some, None, refl, ap, sym, ◌∙◌, subst, arith}
+use Rattle.std.proofs.Common.{◌≡◌, ℕ, ◌<◌, ◌≤◌, ◌==◌, ◌||◌, Bool, true, false, cond, List, [], ◌∷◌, ◌++◌, Option, Some, None, refl, ap, sym, ◌∙◌, arith}
 use Rattle.std.specs.List.{flat_map, list_any}
 use Rattle.std.proofs.lemmas.Bool.{false≢true, cond_both}
 use Rattle.std.proofs.lemmas.Grind.{flat_map-append}
@@ -18,7 +18,7 @@ use Rattle.hb_history.specs.Points.{data_of, data_in}
 use Rattle.hb_kept.specs.Numbers.{highest_used}
 use Rattle.hb_inbound.specs.Part.{Part, moves_in, moves}
 use Rattle.hb_inbound.specs.Sides.{data_told, data_by, stream_came, up_went_in, up_went, is_accept, is_peer_end, Was}
-use Rattle.hb_inbound.specs.Tunnel.{Tunnel, Stage, unasked, requested, refusing, malformed, due, opening, accepting, live, failed, ended, over, gone, is_live, ends_by, ends_for, left_with}
+use Rattle.hb_inbound.specs.Tunnel.{Tunnel, Stage, unasked, requested, refusing, malformed, due, opening, accepting, live, failed, ended, over, gone, is_live, ends_by, left_with}
 use Rattle.hb_inbound.proofs.Grown.{one_more}
 
 -- THE OCTETS OF DATA THAT ARE TOLD

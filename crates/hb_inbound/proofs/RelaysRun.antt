@@ -1,14 +1,13 @@
 -- What comes on a stream goes up, or waits, in every run of a link.
-use Rattle.std.proofs.Common.{◌≡◌, ◌⊎◌, inl, inr, ℕ, ◌<◌, ◌≤◌, ◌==◌, ◌&&◌, Bool, true, false, cond, List, [], ◌∷◌, ◌++◌, length, drop, Option, Some, None, refl, ap, sym, ◌∙◌, subst, arith}
+use Rattle.std.proofs.Common.{◌≡◌, ℕ, ◌≤◌, ◌==◌, ◌&&◌, Bool, true, false, cond, List, [], ◌∷◌, ◌++◌, length, drop, Option, refl, ap, sym, ◌∙◌, subst, arith}
 use Rattle.std.specs.List.{flat_map}
-use Rattle.std.proofs.lemmas.Bool.{false≢true, cond_both, eqb-true, eq-eqb, ne_eqb}
-use Rattle.std.proofs.lemmas.Bool.Decides.{nat_tests}
-use Rattle.std.proofs.lemmas.List.{append-nil, nil_from_length}
+use Rattle.std.proofs.lemmas.Bool.{false≢true, cond_both, eq-eqb, ne_eqb}
+use Rattle.std.proofs.lemmas.List.{append-nil}
 use Rattle.std.proofs.Math.Seq.{drop-append_seam}
 use Rattle.hb_base.specs.declared.cause.Cause.{Cause}
 use Rattle.hb_base.specs.declared.cause.Cause.TheVariants as cause
 use Rattle.hb_base.specs.declared.note.Note.{Note}
-use Rattle.hb_conn.specs.Connection.{Connection, core_of, fresh_server, taken}
+use Rattle.hb_conn.specs.Connection.{Connection, core_of, fresh_server}
 use Rattle.hb_conn.specs.Observed as observed
 use Rattle.hb_conn.specs.Observed.{chunk_of, creditable, status_put, end_put, data_put, aborted}
 use Rattle.hb_conn.specs.declared.found.Found.{Found}
@@ -31,17 +30,16 @@ use Rattle.hb_verdict.specs.declared.verdict.Verdict.{Verdict}
 use Rattle.hb_verdict.specs.declared.verdict.Verdict.TheVariants.{Status, Reset, Dial}
 use Rattle.hb_world.specs.declared.entry.Entry.{Entry}
 use Rattle.hb_world.specs.declared.entry.Entry.TheVariants as e
-use Rattle.hb_world.specs.declared.entry.Way.TheVariants as way
-use Rattle.hb_inbound.specs.Inbound.{Inbound, Phase, unborn, arriving, fronting, serving, faulted, closing, closed, at_stream, came_by, ended_by, broken_by, told_of, on_found, judged_by, with_phase, lacking, fronted_by, rejudged, stopped_for}
+use Rattle.hb_inbound.specs.Inbound.{Inbound, Phase, unborn, arriving, fronting, serving, faulted, closing, closed, at_stream, came_by, ended_by, broken_by, on_found, judged_by, with_phase, lacking, fronted_by, rejudged, stopped_for}
 use Rattle.hb_inbound.specs.Part.{Part, entry, up, welcomed, crowded, lacked, misfronted, looked, decided, accepted, refused, reset, left, done, put, finished, credited, applied, stopped, act, moves_in, moves, tellings}
 use Rattle.hb_inbound.specs.Part as part
-use Rattle.hb_inbound.specs.Runs.{Local, MayCome, UpMayCome, entered, Steps, StandsFor, begins, goes_on, with_link, with_tunnel, tunnel_for, put_down, Refuses, Resets, Leaves, refused_on}
+use Rattle.hb_inbound.specs.Runs.{Local, MayCome, UpMayCome, entered, Steps, StandsFor, begins, goes_on, with_link, tunnel_for, put_down, Refuses, Resets, Leaves, refused_on}
 use Rattle.hb_inbound.specs.Sides.{data_by, stream_came, up_went_in, up_went, is_accept, is_peer_end, conn_came, link_went}
 use Rattle.hb_inbound.specs.Sides as sides
-use Rattle.hb_inbound.specs.Tunnel.{Tunnel, Stage, unasked, requested, refusing, malformed, due, opening, accepting, live, failed, ended, over, gone, is_live, is_unanswered, takes_place, at_stage, asked, ends_by, ends_for, left_with, up_entered, came_up, peer_ended, requested_with}
+use Rattle.hb_inbound.specs.Tunnel.{Tunnel, Stage, unasked, requested, refusing, malformed, due, opening, accepting, live, failed, ended, over, gone, is_live, is_unanswered, takes_place, at_stage, asked, ends_for, left_with, up_entered, came_up, peer_ended, requested_with}
 use Rattle.hb_inbound.proofs.Admitted.{at_one}
 use Rattle.hb_inbound.proofs.Runs.{Keeps, FrontBy, all_keep}
-use Rattle.hb_inbound.proofs.Relaying.{told_on, told_data, is_asked, comes_ended, Relays, was_more, was_now, grows, Follows, same_stage, later, ends_follow, left_follows, Alike, quiet}
+use Rattle.hb_inbound.proofs.Relaying.{told_on, told_data, is_asked, comes_ended, Relays, was_more, was_now, grows, same_stage, later, ends_follow, left_follows, Alike, quiet}
 
 still : (n : ℕ) → n ≤ n
 still n = omega arith

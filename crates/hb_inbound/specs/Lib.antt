@@ -9,6 +9,7 @@ pub mod Part
 pub mod Refused
 pub mod RefusedRuns
 pub mod Relay
+pub mod RelayRefused
 pub mod Runs
 pub mod Sides
 pub mod Tunnel

@@ -1,5 +1,5 @@
 -- The relay law: what is written to each side of a tunnel is a front of what came from the other.
-use Rattle.std.specs.Prelude.{⊤, ◌≡◌, ℕ, List, [], ◌++◌}
+use Rattle.std.specs.Prelude.{⊤, ◌≡◌, ℕ, List, ◌++◌}
 use Rattle.std.specs.List.{flat_map}
 use Rattle.hb_frames.specs.RawFrame.{RawFrame}
 use Rattle.hb_outgoing.specs.Waiting.{spelled}

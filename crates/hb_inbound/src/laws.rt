@@ -4,6 +4,7 @@ ghost use Rattle.hb_inbound.specs.Refused.{DialsUnasked, AcceptsUnopened, Writes
 ghost use Rattle.hb_inbound.specs.Laws.{RunsAdmit, RunsEnd, RunsObeyConnections, RunsObeyWindows, RunsRelayUp};
 ghost use Rattle.hb_inbound.specs.RefusedRuns.{WritesBehind, GoesOnBehind, PutsBehind, ReadsBehind, ClosesForAnother, ClosesAdmitted};
 ghost use Rattle.hb_inbound.specs.RefusedRuns.{DialsUnbidden, GoesOnAdmitted, ClosesRevoked};
+ghost use Rattle.hb_inbound.specs.RelayRefused.{InventsByte, WritesFront};
 ghost use Rattle.hb_inbound.specs.Refused.{PutsRevoked, KeepsAdmitted, KeepsPlaceless, EndsOthers};
 
 /// Nothing is dialled that wasn't asked for, 200 isn't put nor are bytes written before the upstream is open, and no way ends
@@ -72,4 +73,10 @@ pub fn revoked_runs_are_refused()
 pub fn good_runs_may_go()
     ensures goes_on { GoesOnAdmitted }
     ensures closes { ClosesRevoked }
+{}
+
+/// A byte that is written to an upstream where none came is refused; the first of two that came isn't.
+pub fn invented_bytes_are_refused()
+    ensures invents { InventsByte }
+    ensures front { WritesFront }
 {}

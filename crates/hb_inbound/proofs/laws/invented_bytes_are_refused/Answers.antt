@@ -1,0 +1,5 @@
+use Rattle.hb_inbound.proofs.RelayRefused.{invents_byte, writes_front}
+use Rattle.hb_inbound.proofs.laws.invented_bytes_are_refused.Goals as goal
+
+pub returns : goal.returns
+returns c = record { invents = invents_byte; front = writes_front }
