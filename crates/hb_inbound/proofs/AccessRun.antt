@@ -1,5 +1,5 @@
 -- No byte goes to an upstream and no DATA frame begins unless what is held then admits the tunnel's peer, in every run of a link.
-use Rattle.std.proofs.Common.{◌≡◌, ◌⊎◌, inl, inr, ℕ, zero, suc, ◌-◌, ◌==◌, ◌&&◌, not, Bool, true, false, List, [], ◌∷◌, ◌++◌, length, refl, ap, sym, ◌∙◌, subst}
+use Rattle.std.proofs.Common.{◌≡◌, inl, inr, ℕ, zero, suc, ◌-◌, ◌&&◌, not, Bool, true, false, List, [], ◌∷◌, ◌++◌, length, refl, ap, sym, ◌∙◌, subst}
 use Rattle.std.specs.List.{AllByRecursion}
 use Rattle.std.proofs.lemmas.Bool.{false≢true}
 use Rattle.hb_conn.specs.Observed as observed
@@ -8,24 +8,21 @@ use Rattle.hb_frames.specs.RawFrame.{RawFrame, spelling}
 use Rattle.hb_held.specs.Held.{Resources}
 use Rattle.hb_kept.specs.DataWaits.{StreamSet, no_stream, WaitsWithin}
 use Rattle.hb_outgoing.specs.Selected.{has_data}
-use Rattle.hb_outgoing.specs.Written.{begun_in, begun_by}
+use Rattle.hb_outgoing.specs.Written.{begun_in}
 use Rattle.hb_table.specs.Judgement.{judged}
-use Rattle.hb_table.specs.declared.judgement.Judged.{Judged}
-use Rattle.hb_table.specs.declared.judgement.Judged.TheVariants.{Admitted}
 use Rattle.hb_world.specs.declared.entry.Entry.{Entry}
 use Rattle.hb_world.specs.declared.entry.Entry.TheVariants as e
 use Rattle.hb_inbound.specs.Access.{IsAdmitted, GoesAdmitted, UpIsAdmitted, LinkIsAdmitted, AccessAt}
-use Rattle.hb_inbound.specs.Calm.{IsAnswered, output, output_by}
+use Rattle.hb_inbound.specs.Calm.{output, output_by}
 use Rattle.hb_inbound.specs.Inbound.{Phase, serving, faulted}
 use Rattle.hb_inbound.specs.Laws.{RunsAdmit}
 use Rattle.hb_inbound.specs.Part.{Part, entry, up, welcomed, crowded, lacked, fronted, misfronted, looked, decided, accepted, refused, reset, left, done, put, finished, credited, applied, stopped}
 use Rattle.hb_inbound.specs.Runs.{Local, MayCome, UpMayCome, Steps, StandsFor}
-use Rattle.hb_inbound.specs.Sides.{held}
 use Rattle.hb_inbound.specs.Tunnel.{Stage, unasked, requested, refusing, malformed, due, opening, accepting, live, failed, ended, over, gone, takes_place, is_unanswered}
 use Rattle.hb_inbound.proofs.AdmittedRun.{all_admit}
 use Rattle.hb_inbound.proofs.Grown.{at_parts}
 use Rattle.hb_inbound.proofs.Runs.{all_keep}
-use Rattle.hb_inbound.proofs.Waiting.{holds_data, may_wait, set_of, WaitsIn}
+use Rattle.hb_inbound.proofs.Waiting.{holds_data, set_of, WaitsIn}
 use Rattle.hb_inbound.proofs.WaitingRun.{all_wait}
 
 -- what holds of each frame that waits holds of those that begin

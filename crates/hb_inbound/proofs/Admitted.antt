@@ -1,33 +1,17 @@
 -- What every run of a link keeps of who is admitted.
-use Rattle.std.proofs.Common.{◌≡◌, ◌⊎◌, inl, inr, ℕ, ◌==◌, ◌&&◌, Bool, true, false, if◌then◌else◌, List, [], ◌∷◌, ◌++◌, Option, Some, None, refl, ap, sym, ◌∙◌, subst}
-use Rattle.std.proofs.lemmas.Bool.{false≢true, cond_both, eqb-true, eq-eqb, ne_eqb}
-use Rattle.hb_base.specs.IdentityText.{identity_of}
+use Rattle.std.proofs.Common.{◌≡◌, ℕ, ◌==◌, Bool, true, false, List, [], ◌∷◌, ◌++◌, Option, Some, None, refl, ap, sym, ◌∙◌, subst}
+use Rattle.std.proofs.lemmas.Bool.{false≢true, cond_both, eqb-true}
 use Rattle.hb_base.specs.declared.cause.Cause.{Cause}
-use Rattle.hb_base.specs.declared.identity.Identity.{Identity}
 use Rattle.hb_base.specs.declared.peer.Peer.{Peer}
 use Rattle.hb_base.specs.declared.target.Target.{Target}
-use Rattle.hb_conn.specs.declared.found.Found.{Found}
-use Rattle.hb_conn.specs.declared.found.Found.TheVariants as found
-use Rattle.hb_front.specs.Reading.{Seen}
 use Rattle.hb_held.specs.Held.{Resources}
-use Rattle.hb_held.specs.Outcome.{after_response}
-use Rattle.hb_hpack.specs.declared.header.HeaderList.{HeaderList}
 use Rattle.hb_table.specs.Judgement.{judged}
-use Rattle.hb_table.specs.declared.judgement.Judged.{Judged}
-use Rattle.hb_table.specs.declared.judgement.Judged.TheVariants.{Admitted, Unknown, Denied}
-use Rattle.hb_verdict.specs.Request.{request_of}
-use Rattle.hb_verdict.specs.declared.verdict.Verdict.{Verdict}
-use Rattle.hb_verdict.specs.declared.verdict.Verdict.TheVariants.{Status, Reset, Dial}
-use Rattle.hb_verdict.proofs.Dialled.{only_where_it_may}
-use Rattle.hb_world.specs.declared.entry.Entry.{Entry}
-use Rattle.hb_world.specs.declared.entry.Entry.TheVariants as e
-use Rattle.hb_world.specs.declared.entry.Way.TheVariants as way
-use Rattle.hb_inbound.specs.Inbound.{Inbound, Phase, unborn, arriving, fronting, serving, faulted, closing, closed, with_phase, at_stream, all_tunnels, ends_with, came_by, came, went_by, went, with_begun, ended_by, broken_by, told_of, on_found, judged_by, rejudged, lacking, stops_by, stopped_for, fronted_by}
-use Rattle.hb_inbound.specs.Part.{Part, entry, up, welcomed, crowded, lacked, misfronted, looked, decided, accepted, refused, reset, left, done, put, finished, credited, applied, stopped}
-use Rattle.hb_inbound.specs.Part as part
-use Rattle.hb_inbound.specs.Runs.{Local, MayCome, UpMayCome, entered, Steps, StandsFor, begins, goes_on, with_link, with_tunnel, Identifies, IsAnswerTo, tunnel_for, Refuses, Resets, Leaves, IsAt, verdict_on}
-use Rattle.hb_inbound.specs.Sides.{held, held_by, peer_of, peer_by, target_of, target_by, identity_told}
-use Rattle.hb_inbound.specs.Tunnel.{Tunnel, Stage, unasked, requested, refusing, malformed, due, opening, accepting, live, failed, ended, over, gone, takes_place, at_stage, asked, ends_by, ends_for, left_with, up_entered, came_up, peer_ended, requested_with}
+use Rattle.hb_table.specs.declared.judgement.Judged.TheVariants.{Admitted}
+use Rattle.hb_inbound.specs.Inbound.{Inbound, Phase, unborn, arriving, fronting, serving, faulted, closing, closed, at_stream, ends_with}
+use Rattle.hb_inbound.specs.Part.{Part}
+use Rattle.hb_inbound.specs.Runs.{Local, with_link}
+use Rattle.hb_inbound.specs.Sides.{held, held_by, peer_of, peer_by, target_of, target_by}
+use Rattle.hb_inbound.specs.Tunnel.{Tunnel, Stage, unasked, requested, refusing, malformed, due, opening, accepting, live, failed, ended, over, gone, takes_place, ends_by}
 use Rattle.hb_inbound.proofs.Grown.{fold_one}
 
 -- a tunnel that has a place is admitted by what is held, at the target that it was dialled for, and its peer is the one that the

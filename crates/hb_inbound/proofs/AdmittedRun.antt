@@ -1,18 +1,15 @@
 -- Who is admitted, part by part.
-use Rattle.std.proofs.Common.{◌≡◌, ◌⊎◌, inl, inr, ℕ, ◌==◌, ◌&&◌, Bool, true, false, cond, length, if◌then◌else◌, List, [], ◌∷◌, ◌++◌, Option, Some, None, refl, ap, sym, ◌∙◌, subst}
-use Rattle.std.proofs.lemmas.Bool.{false≢true, cond_both, eqb-true, eq-eqb, ne_eqb}
-use Rattle.hb_base.specs.IdentityText.{identity_of}
-use Rattle.hb_base.specs.declared.cause.Cause.{Cause}
+use Rattle.std.proofs.Common.{◌≡◌, inl, inr, ℕ, ◌==◌, Bool, true, false, cond, length, List, [], ◌∷◌, ◌++◌, Option, Some, None, refl, ap, sym, ◌∙◌, subst}
+use Rattle.std.proofs.lemmas.Bool.{false≢true, eq-eqb, ne_eqb}
 use Rattle.hb_base.specs.declared.cause.Cause.TheVariants as cause
 use Rattle.hb_base.specs.declared.identity.Identity.{Identity}
 use Rattle.hb_base.specs.declared.peer.Peer.{Peer}
 use Rattle.hb_base.specs.declared.target.Target.{Target}
 use Rattle.hb_conn.specs.Connection.{Connection}
-use Rattle.hb_conn.specs.Observed.{header_list, chunk_of}
+use Rattle.hb_conn.specs.Observed.{chunk_of}
 use Rattle.hb_conn.specs.declared.found.Found.{Found}
 use Rattle.hb_conn.specs.declared.found.Found.TheVariants as found
 use Rattle.hb_front.specs.Faults.{number_of}
-use Rattle.hb_front.specs.Reading.{Seen}
 use Rattle.hb_held.specs.Held.{Resources}
 use Rattle.hb_held.specs.Outcome.{after_response}
 use Rattle.hb_history.specs.Points as history
@@ -27,16 +24,15 @@ use Rattle.hb_verdict.proofs.Dialled.{only_where_it_may}
 use Rattle.hb_world.specs.declared.entry.Entry.{Entry}
 use Rattle.hb_world.specs.declared.entry.Entry.TheVariants as e
 use Rattle.hb_world.specs.declared.entry.Way.TheVariants as way
-use Rattle.hb_base.specs.declared.note.Note.{Note}
-use Rattle.hb_inbound.specs.Inbound.{Inbound, Phase, unborn, arriving, fronting, serving, faulted, closing, closed, with_phase, at_stream, came_by, came, went_by, went, ended_by, broken_by, told_of, on_found, judged_by, rejudged, lacking, stops_by, stopped_for, fronted_by, ends_with}
+use Rattle.hb_inbound.specs.Inbound.{Inbound, Phase, unborn, arriving, fronting, serving, faulted, closing, closed, with_phase, at_stream, came_by, came, went_by, went, ended_by, broken_by, told_of, on_found, judged_by, rejudged, lacking, stops_by, stopped_for, ends_with}
 use Rattle.hb_inbound.specs.Part.{Part, entry, up, welcomed, crowded, lacked, misfronted, looked, decided, accepted, refused, reset, left, done, put, finished, credited, applied, stopped}
 use Rattle.hb_inbound.specs.Part as part
-use Rattle.hb_inbound.specs.Runs.{Local, MayCome, UpMayCome, entered, Steps, StandsFor, begins, goes_on, with_link, with_tunnel, Identifies, IsAnswerTo, tunnel_for, put_down, Refuses, Resets, Leaves, verdict_on, refused_on}
-use Rattle.hb_inbound.specs.Sides.{held, held_by, peer_of, peer_by, target_of, target_by, dialled_to, identity_told}
-use Rattle.hb_inbound.specs.Tunnel.{Tunnel, Stage, unasked, requested, refusing, malformed, due, opening, accepting, live, failed, ended, over, gone, takes_place, at_stage, asked, ends_by, ends_for, left_with, up_entered, came_up, peer_ended, requested_with}
+use Rattle.hb_inbound.specs.Runs.{Local, MayCome, UpMayCome, entered, Steps, StandsFor, begins, goes_on, with_link, with_tunnel, Identifies, IsAnswerTo, tunnel_for, put_down}
+use Rattle.hb_inbound.specs.Sides.{held_by, peer_of, peer_by, target_of, target_by, dialled_to, identity_told}
+use Rattle.hb_inbound.specs.Tunnel.{Tunnel, Stage, unasked, due, opening, live, over, takes_place, at_stage, asked, ends_by, ends_for, left_with, up_entered, came_up, peer_ended, requested_with}
 use Rattle.hb_inbound.proofs.Grown.{fold_one}
 use Rattle.hb_inbound.proofs.Stages.{left_none, refused_next, reset_next, left_next, refuses_asked, resets_asked, leaves_asked}
-use Rattle.hb_inbound.proofs.Admitted.{IsIn, Tells, AreUnasked, KnowsBy, Admits, Leaves_all, none_in, placeless, held_stays, peer_stays, target_stays, tells_on, knows_on, moves_on, stays_on, same_on, ends_on, at_one, one_on}
+use Rattle.hb_inbound.proofs.Admitted.{Tells, KnowsBy, Admits, Leaves_all, none_in, placeless, held_stays, peer_stays, target_stays, tells_on, knows_on, moves_on, same_on, ends_on, at_one, one_on}
 
 -- a tunnel without a place is told of no one
 none_told : (h : Resources) (peer : Peer) (parts : List Part) (s : ℕ) (t : Tunnel) → takes_place t.stage ≡ false → Tells h peer parts s t

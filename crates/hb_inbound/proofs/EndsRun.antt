@@ -1,7 +1,6 @@
 -- Each tunnel ends for the first cause that applies, in every run of a link.
-use Rattle.std.proofs.Common.{◌≡◌, ◌⊎◌, inl, inr, ℕ, ◌==◌, Bool, true, false, List, [], ◌∷◌, ◌++◌, refl, ap, sym, ◌∙◌, subst}
+use Rattle.std.proofs.Common.{◌≡◌, inl, inr, ℕ, Bool, false, List, [], refl, sym, ◌∙◌, subst}
 use Rattle.std.proofs.lemmas.Bool.{false≢true}
-use Rattle.hb_base.specs.declared.cause.Cause.{Cause}
 use Rattle.hb_base.specs.declared.target.Target.{Target}
 use Rattle.hb_conn.specs.Connection.{Connection, Finds}
 use Rattle.hb_conn.specs.declared.found.Found.TheVariants as found
@@ -21,7 +20,7 @@ use Rattle.hb_inbound.specs.Runs.{Local, MayCome, UpMayCome, Steps, StandsFor, b
 use Rattle.hb_inbound.specs.Tunnel.{Stage, unasked, requested, refusing, malformed, due, opening, accepting, live, failed, ended, over, gone, is_unanswered}
 use Rattle.hb_inbound.proofs.AdmittedRun.{all_admit}
 use Rattle.hb_inbound.proofs.Grown.{at_parts}
-use Rattle.hb_inbound.proofs.Life.{Says, SaysBy, SaysOf}
+use Rattle.hb_inbound.proofs.Life.{SaysBy}
 use Rattle.hb_inbound.proofs.LifeRun.{SaysAll, LateBy, step_says}
 use Rattle.hb_inbound.proofs.RelaysRun.{all_relay}
 use Rattle.hb_inbound.proofs.Runs.{all_keep}

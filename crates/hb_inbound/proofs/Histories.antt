@@ -1,25 +1,11 @@
 -- The connection of every run of a link.
-use Rattle.std.proofs.Common.{◌≡◌, ◌⊎◌, inl, inr, ℕ, ◌<◌, ◌≤◌, ◌+◌, Bool, true, false, List, [], ◌∷◌, ◌++◌, length, take, drop, Option, Some, None, refl, ap, sym, ◌∙◌, subst, arith, length-append}
-use Rattle.std.proofs.lemmas.List.{append-nil, append_assoc, take_all}
-use Rattle.std.proofs.Math.Seq.{take-append_seam}
-use Rattle.hb_base.specs.declared.cause.Cause.TheVariants as cause
-use Rattle.hb_conn.specs.Connection.{Connection, count_of, fresh_server}
-use Rattle.hb_conn.specs.Connection as conn
-use Rattle.hb_conn.specs.Observed as observed
-use Rattle.hb_conn.specs.Observed.{creditable, status_put, end_put, data_put, aborted}
+use Rattle.std.proofs.Common.{◌≡◌, ℕ, List, [], ◌∷◌, ◌++◌, Option, None, ap, sym, ◌∙◌, subst}
+use Rattle.std.proofs.lemmas.List.{append-nil}
+use Rattle.hb_conn.specs.Connection.{Connection}
 use Rattle.hb_conn.specs.declared.found.Found.{Found}
-use Rattle.hb_conn.specs.declared.found.Found.TheVariants as found
-use Rattle.hb_held.specs.Held.{Resources}
 use Rattle.hb_history.specs.Points as history
 use Rattle.hb_history.specs.History.{StandsFor as ConnStandsFor}
-use Rattle.hb_history.specs.Calls.{in_list}
-use Rattle.hb_history.proofs.Called.{nothing_stands}
-use Rattle.hb_history.proofs.Fed.{take_adds}
-use Rattle.hb_history.proofs.Adds.{write_adds}
-use Rattle.hb_history.proofs.Connections.{acts_add}
-use Rattle.hb_history.proofs.Looking.{looks_add}
 use Rattle.hb_streams.specs.declared.role.Role.TheVariants.{Server}
-use Rattle.hb_inbound.specs.Inbound.{Inbound}
 use Rattle.hb_inbound.specs.Part.{Part, moves_in, moves, telling, tellings}
 use Rattle.hb_inbound.specs.Sides.{came_in, went_in, link_came, link_went, front_by, front_size, behind_front, conn_came}
 use Rattle.hb_inbound.proofs.Grown.{one_more, fold_one}

@@ -1,12 +1,11 @@
 -- How far each tunnel is, part by part.
-use Rattle.std.proofs.Common.{◌≡◌, ◌⊎◌, inl, inr, ℕ, ◌==◌, ◌&&◌, ◌||◌, not, Bool, true, false, cond, length, List, [], ◌∷◌, ◌++◌, Option, Some, None, refl, ap, sym, ◌∙◌, subst}
+use Rattle.std.proofs.Common.{◌≡◌, inl, inr, ℕ, ◌==◌, ◌||◌, Bool, true, false, cond, length, List, [], ◌∷◌, ◌++◌, Option, Some, None, refl, ap, sym, ◌∙◌, subst}
 use Rattle.std.specs.List.{list_any}
-use Rattle.std.proofs.lemmas.Bool.{false≢true, cond_both, eqb-true, eq-eqb, ne_eqb}
+use Rattle.std.proofs.lemmas.Bool.{false≢true}
 use Rattle.std.proofs.lemmas.List.Folds.{list_any-append}
 use Rattle.hb_base.specs.declared.cause.Cause.{Cause}
 use Rattle.hb_base.specs.declared.cause.Cause.TheVariants as cause
 use Rattle.hb_base.specs.declared.note.Note.{Note}
-use Rattle.hb_base.specs.declared.peer.Peer.{Peer}
 use Rattle.hb_base.specs.declared.target.Target.{Target}
 use Rattle.hb_conn.specs.Connection.{Connection, Finds}
 use Rattle.hb_conn.specs.Observed.{chunk_of}
@@ -21,11 +20,9 @@ use Rattle.hb_verdict.specs.declared.verdict.Verdict.{Verdict}
 use Rattle.hb_verdict.specs.declared.verdict.Verdict.TheVariants.{Status, Reset, Dial}
 use Rattle.hb_world.specs.declared.entry.Entry.{Entry}
 use Rattle.hb_world.specs.declared.entry.Entry.TheVariants as e
-use Rattle.hb_world.specs.declared.entry.Way.TheVariants as way
 use Rattle.hb_inbound.specs.Calm.{close_due}
-use Rattle.hb_inbound.specs.Ends.{Life, none, pending, lives, life, life_by, ends, ends_at, ends_told, ends_up, ends_entry, begins, accepts, up_of, up_by, up_in, is_fault, is_fault_told}
-use Rattle.hb_inbound.specs.Ends as life
-use Rattle.hb_inbound.specs.Inbound.{Inbound, Phase, unborn, arriving, fronting, serving, faulted, closing, closed, with_phase, at_stream, came, came_by, went, went_by, ended_by, broken_by, told_of, on_found, judged_by, rejudged, lacking, stops_by, stopped_for, ends_with}
+use Rattle.hb_inbound.specs.Ends.{Life, pending, lives, life, life_by, ends, ends_at, ends_up, begins, accepts, up_of, up_by, up_in, is_fault}
+use Rattle.hb_inbound.specs.Inbound.{Inbound, Phase, unborn, arriving, fronting, serving, faulted, closing, closed, with_phase, at_stream, came, came_by, went, went_by, ended_by, broken_by, told_of, on_found, judged_by, rejudged, lacking, stops_by, stopped_for}
 use Rattle.hb_inbound.specs.Part.{Part, entry, up, welcomed, crowded, lacked, misfronted, looked, decided, accepted, refused, reset, left, done, put, finished, credited, applied, stopped}
 use Rattle.hb_inbound.specs.Part as part
 use Rattle.hb_inbound.specs.Runs.{Local, MayCome, UpMayCome, entered, Steps, with_link, with_tunnel, tunnel_for, Refuses, Resets, Leaves}
@@ -33,7 +30,7 @@ use Rattle.hb_inbound.specs.Sides.{held, held_by, peer_of, Was}
 use Rattle.hb_inbound.specs.Tunnel.{Tunnel, Stage, unasked, requested, refusing, malformed, due, opening, accepting, live, failed, ended, over, gone, at_stage, asked, ends_by, ends_for, left_with, takes_place, up_entered, came_up, peer_ended, requested_with}
 use Rattle.hb_inbound.proofs.Admitted.{Admits, AreUnasked, KnowsBy, at_one, none_in}
 use Rattle.hb_inbound.proofs.Stages.{refused_next, reset_next, left_next}
-use Rattle.hb_inbound.proofs.Life.{life_one, up_one, IsPast, Says, SaysBy, SaysOf, ends_say, left_say, say_at, say_on, judged_say}
+use Rattle.hb_inbound.proofs.Life.{life_one, up_one, SaysBy, SaysOf, ends_say, left_say, say_at, say_on, judged_say}
 
 -- a tunnel whose stage, upstream and target stay says the same
 same_say : (how : Life) (u : ℕ) (t new : Tunnel) → new.stage ≡ t.stage → new.up ≡ t.up → new.target ≡ t.target → SaysOf how u t

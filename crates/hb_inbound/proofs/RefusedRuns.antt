@@ -1,7 +1,6 @@
 -- What the laws make of small runs.
-use Rattle.std.proofs.Common.{◌≡◌, ◌≢◌, ◌⊎◌, inl, inr, ℕ, List, [], ◌∷◌, ◌++◌, refl, ap, sym, ◌∙◌, subst, Option, Some, arith}
+use Rattle.std.proofs.Common.{◌≡◌, ◌≢◌, List, [], ◌∷◌, ◌++◌, refl, ap, sym, ◌∙◌, subst, Some, arith}
 use Rattle.std.proofs.lemmas.List.{append-nil, append_assoc}
-use Rattle.hb_base.specs.declared.cause.Cause.{Cause}
 use Rattle.hb_base.specs.declared.cause.Cause.TheVariants as cause
 use Rattle.hb_base.specs.declared.door.Why.TheVariants as whys
 use Rattle.hb_base.specs.declared.peer.Peer.{Peer}
@@ -18,7 +17,7 @@ use Rattle.hb_world.specs.declared.entry.Entry.TheVariants as e
 use Rattle.hb_inbound.specs.Ends.{Life, pending, lives, life, ends_judged, Lives, EndsAt}
 use Rattle.hb_inbound.specs.Ends as life
 use Rattle.hb_inbound.specs.Access.{AccessAt}
-use Rattle.hb_inbound.specs.Part.{Part, entry, up, fronted, put, applied}
+use Rattle.hb_inbound.specs.Part.{Part, entry, up, fronted, put}
 use Rattle.hb_inbound.specs.Sides.{AtEach}
 use Rattle.hb_inbound.specs.RefusedRuns.{peer_in, lived, IsRevoked, WritesBehind, GoesOnBehind, PutsBehind, ReadsBehind, ClosesForAnother, ClosesAdmitted, DialsUnbidden, GoesOnAdmitted, ClosesRevoked}
 

@@ -1,17 +1,15 @@
 -- Of which tunnels DATA waits to be written, in every run of a link: of those that live, and of those that ended whose streams are still
 -- to be reset.
-use Rattle.std.proofs.Common.{◌≡◌, ◌≢◌, ◌⊎◌, inl, inr, ℕ, ◌<◌, ◌-◌, ◌==◌, ◌&&◌, ◌||◌, not, Bool, true, false, cond, if◌then◌else◌, List, [], ◌∷◌, ◌++◌, length, Option, Some, None, is_some, refl, ap, sym, ◌∙◌, subst, arith}
-use Rattle.std.proofs.lemmas.Bool.{false≢true, cond_both, eqb-true, eq-eqb, ne_eqb}
+use Rattle.std.proofs.Common.{◌≡◌, ℕ, ◌&&◌, not, Bool, true, false, is_some, ap, sym, ◌∙◌, subst}
 use Rattle.hb_base.specs.declared.cause.Cause.{Cause}
-use Rattle.hb_base.specs.declared.cause.Cause.TheVariants as cause
 use Rattle.hb_conn.specs.Connection.{Connection}
-use Rattle.hb_conn.specs.Observed.{outgoing, own_side_open, sides}
-use Rattle.hb_kept.specs.DataWaits.{StreamSet, no_stream, with_stream, without_stream, WaitsWithin}
+use Rattle.hb_conn.specs.Observed.{outgoing, own_side_open}
+use Rattle.hb_kept.specs.DataWaits.{StreamSet, no_stream, WaitsWithin}
 use Rattle.hb_kept.proofs.DataWaits.{within_more}
 use Rattle.hb_tunnel.specs.Way.{is_done}
 use Rattle.hb_inbound.specs.Inbound.{Inbound, Phase, unborn, arriving, fronting, serving, faulted, closing, closed, at_stream}
 use Rattle.hb_inbound.specs.Runs.{end_code}
-use Rattle.hb_inbound.specs.Tunnel.{Tunnel, Stage, unasked, requested, refusing, malformed, due, opening, accepting, live, failed, ended, over, gone}
+use Rattle.hb_inbound.specs.Tunnel.{Tunnel, Stage, unasked, requested, due, opening, accepting, live, ended}
 use Rattle.hb_inbound.proofs.Admitted.{at_one}
 
 abbrev pub has_code : Cause → Bool

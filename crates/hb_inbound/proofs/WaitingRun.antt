@@ -1,14 +1,13 @@
 -- Of which tunnels DATA waits to be written, part by part.
-use Rattle.std.proofs.Common.{◌≡◌, ◌≢◌, ◌⊎◌, inl, inr, ℕ, ◌<◌, ◌≤◌, ◌-◌, ◌==◌, ◌&&◌, ◌||◌, not, Bool, true, false, cond, if◌then◌else◌, List, [], ◌∷◌, ◌++◌, length, min, Option, Some, None, is_some, refl, ap, sym, ◌∙◌, subst, arith}
+use Rattle.std.proofs.Common.{◌≡◌, ◌≢◌, inl, inr, ℕ, ◌<◌, ◌-◌, ◌==◌, ◌&&◌, ◌||◌, not, Bool, true, false, cond, List, [], ◌∷◌, length, min, Option, None, is_some, refl, ap, sym, ◌∙◌, subst, arith}
 use Rattle.std.specs.Prelude.{nat_le}
 use Rattle.std.specs.List.{list_any, AllByRecursion}
-use Rattle.std.proofs.lemmas.Bool.{false≢true, cond_both, eqb-true, eq-eqb, ne_eqb}
+use Rattle.std.proofs.lemmas.Bool.{false≢true, cond_both, eqb-true, eq-eqb}
 use Rattle.std.proofs.lemmas.Bool.Decides.{nat_tests}
 use Rattle.std.proofs.lemmas.List.{nil_from_length}
 use Rattle.hb_base.specs.declared.cause.Cause.{Cause}
 use Rattle.hb_base.specs.declared.cause.Cause.TheVariants as cause
 use Rattle.hb_base.specs.declared.note.Note.{Note}
-use Rattle.hb_base.specs.declared.target.Target.{Target}
 use Rattle.hb_conn.specs.Connection.{Connection, fresh_server, taken}
 use Rattle.hb_conn.specs.Observed as observed
 use Rattle.hb_conn.specs.Observed.{outgoing, own_side_open, sides, chunk_of, count_put, data_put, status_put, end_put, aborted}
@@ -21,7 +20,7 @@ use Rattle.hb_held.specs.Outcome.{after_response}
 use Rattle.hb_history.specs.Points as history
 use Rattle.hb_history.specs.TakenBack.{has_data_on, NoneWaitsOn}
 use Rattle.hb_hpack.specs.declared.header.HeaderList.{HeaderList}
-use Rattle.hb_kept.specs.DataWaits.{StreamSet, no_stream, with_stream, without_stream, set_behind, WaitsWithin}
+use Rattle.hb_kept.specs.DataWaits.{StreamSet, with_stream, without_stream, WaitsWithin}
 use Rattle.hb_kept.specs.Looks.{IsLook}
 use Rattle.hb_kept.specs.Sides.{peer_ends, own_ends}
 use Rattle.hb_kept.proofs.DataWaits.{within_more, waits_without, finds_within_set, writes_within, uses_within, answers_within, ends_within, puts_within, resets_within}
@@ -32,20 +31,20 @@ use Rattle.hb_streams.specs.declared.sides.Sides.{Sides}
 use Rattle.hb_table.specs.Judgement.{judged}
 use Rattle.hb_table.specs.declared.judgement.Judged.{Judged}
 use Rattle.hb_table.specs.declared.judgement.Judged.TheVariants.{Admitted, Unknown, Denied}
-use Rattle.hb_tunnel.specs.Way.{is_done, after, takes}
+use Rattle.hb_tunnel.specs.Way.{is_done}
 use Rattle.hb_verdict.specs.declared.verdict.Verdict.{Verdict}
 use Rattle.hb_verdict.specs.declared.verdict.Verdict.TheVariants.{Status, Reset, Dial}
 use Rattle.hb_world.specs.declared.entry.Entry.{Entry}
 use Rattle.hb_world.specs.declared.entry.Entry.TheVariants as e
 use Rattle.hb_world.specs.declared.entry.Way.TheVariants as way
 use Rattle.hb_inbound.specs.Calm.{up_wants, may_end, data_waits, is_done_on, IsAnswered}
-use Rattle.hb_inbound.specs.Inbound.{Inbound, Phase, unborn, arriving, fronting, serving, faulted, closing, closed, with_phase, at_stream, came, came_by, went, went_by, with_begun, ended_by, broken_by, told_of, on_found, judged_by, rejudged, lacking, stops_by, stopped_for, fronted_by, ends_with}
+use Rattle.hb_inbound.specs.Inbound.{Inbound, Phase, unborn, arriving, fronting, serving, faulted, closing, closed, with_phase, at_stream, came, came_by, went, went_by, with_begun, ended_by, broken_by, told_of, on_found, judged_by, rejudged, lacking, stops_by, stopped_for}
 use Rattle.hb_inbound.specs.Part.{Part, entry, up, welcomed, crowded, lacked, misfronted, looked, decided, accepted, refused, reset, left, done, put, finished, credited, applied, stopped}
 use Rattle.hb_inbound.specs.Part as part
 use Rattle.hb_inbound.specs.Runs.{Local, MayCome, UpMayCome, entered, Steps, StandsFor, begins, goes_on, with_link, with_tunnel, tunnel_for, put_down, Refuses, Resets, Leaves, refused_on, end_code, code_due, is_serving}
-use Rattle.hb_inbound.specs.Tunnel.{Tunnel, Stage, unasked, requested, refusing, malformed, due, opening, accepting, live, failed, ended, over, gone, takes_place, is_unanswered, at_stage, asked, ends_by, ends_for, left_with, up_entered, came_up, peer_ended, requested_with}
+use Rattle.hb_inbound.specs.Tunnel.{Tunnel, Stage, unasked, requested, refusing, malformed, due, opening, accepting, live, failed, ended, over, gone, takes_place, is_unanswered, at_stage, ends_by, ends_for, left_with, up_entered, came_up, peer_ended, requested_with}
 use Rattle.hb_inbound.proofs.Admitted.{at_one}
-use Rattle.hb_inbound.proofs.Stages.{refuses_asked, resets_asked, leaves_asked}
+use Rattle.hb_inbound.proofs.Stages.{leaves_asked}
 use Rattle.hb_inbound.proofs.Runs.{Keeps, all_keep}
 use Rattle.hb_inbound.proofs.Waiting.{has_code, holds_data, may_wait, set_of, speaks, is_before, Fits, Serves, IsNew, WaitsIn, IsGentle, gentle_fits, gentle_same, serves_on, waits_on, one_waits}
 

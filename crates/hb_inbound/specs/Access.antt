@@ -1,11 +1,10 @@
 -- The access law: no byte goes to an upstream and no DATA frame begins unless the resources held then admit the tunnel's peer.
-use Rattle.std.specs.Prelude.{⊤, ◌≡◌, ℕ, true, List, ◌++◌, length, Option, Some, None}
+use Rattle.std.specs.Prelude.{⊤, ◌≡◌, ℕ, true, List, ◌++◌, length, Some}
 use Rattle.std.specs.List.{AllByRecursion}
 use Rattle.hb_base.specs.declared.peer.Peer.{Peer}
 use Rattle.hb_base.specs.declared.target.Target.{Target}
 use Rattle.hb_conn.specs.Connection.{Connection}
 use Rattle.hb_conn.specs.Observed.{output, frames_begun}
-use Rattle.hb_frames.specs.RawFrame.{RawFrame}
 use Rattle.hb_held.specs.Held.{Resources}
 use Rattle.hb_history.specs.History.{StandsFor}
 use Rattle.hb_outgoing.specs.Selected.{has_data}

@@ -1,13 +1,12 @@
 -- Bytes that are written to an upstream and didn't come on its stream, and bytes that did.
-use Rattle.std.specs.Prelude.{◌≡◌, ℕ, false, List, [], ◌∷◌}
-use Rattle.hb_conn.specs.declared.found.Found.{Found}
+use Rattle.std.specs.Prelude.{◌≡◌, ℕ, false, [], ◌∷◌}
 use Rattle.hb_conn.specs.declared.found.Found.TheVariants as found
 use Rattle.hb_frames.specs.Bodies.{lent_of}
 use Rattle.hb_frames.specs.RawFrame.{RawFrame}
 use Rattle.hb_history.specs.Points as history
 use Rattle.hb_hpack.specs.declared.header.HeaderList.{HeaderList}
 use Rattle.hb_world.specs.declared.entry.Entry.TheVariants as e
-use Rattle.hb_inbound.specs.Part.{Part, up, looked}
+use Rattle.hb_inbound.specs.Part.{up, looked}
 use Rattle.hb_inbound.specs.Relay.{RelaysUp}
 
 -- a byte is written where none came

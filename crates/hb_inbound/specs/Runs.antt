@@ -1,5 +1,5 @@
 -- Which part may come next, and what it makes of the link.
-use Rattle.std.specs.Prelude.{⊤, ◌≡◌, ◌≢◌, ◌⊎◌, ℕ, ◌^◌, ◌-◌, ◌<◌, ◌≤◌, ◌==◌, ◌&&◌, ◌||◌, Bool, true, false, List, [], ◌∷◌, ◌++◌, length, min, drop, Option, Some, None, Result, Ok, Err, nat_lt, codes, if◌then◌else◌}
+use Rattle.std.specs.Prelude.{⊤, ◌≡◌, ◌≢◌, ◌⊎◌, ℕ, ◌^◌, ◌-◌, ◌<◌, ◌≤◌, ◌&&◌, ◌||◌, Bool, true, false, List, [], ◌∷◌, ◌++◌, length, min, drop, Option, Some, None, Result, Ok, Err, nat_lt, codes, if◌then◌else◌}
 use Rattle.hb_base.specs.IdentityText.{identity_of}
 use Rattle.hb_base.specs.TargetText.{target_of}
 use Rattle.hb_base.specs.declared.cause.Cause.{Cause}
@@ -14,14 +14,11 @@ use Rattle.hb_base.specs.declared.target.Target.{Target}
 use Rattle.hb_conn.specs.Connection.{Connection}
 use Rattle.hb_conn.specs.Observed as connection
 use Rattle.hb_conn.specs.Observed.{own_side_open, sides, octets_held, header_list, creditable, count_put, data_put, status_put, end_put, aborted}
-use Rattle.hb_conn.specs.declared.found.Found.{Found}
 use Rattle.hb_frames.specs.Frames.{AreOctets}
 use Rattle.hb_front.specs.Faults.{number_of}
 use Rattle.hb_front.specs.Reading.{Seen, IsAnswer, Whole, Fault}
 use Rattle.hb_held.specs.Held.{Resources}
 use Rattle.hb_held.specs.Outcome.{after_response}
-use Rattle.hb_history.specs.Points as history
-use Rattle.hb_hpack.specs.declared.header.Header.{Header}
 use Rattle.hb_hpack.specs.declared.header.HeaderList.{HeaderList}
 use Rattle.hb_kept.specs.Looks.{IsLook}
 use Rattle.hb_tunnel.specs.Way.{after, takes}

@@ -10,7 +10,6 @@ use Rattle.hb_conn.specs.declared.found.Found.TheVariants as found
 use Rattle.hb_frames.specs.Bodies.{lent_of}
 use Rattle.hb_frames.specs.Numbers.{data_kind}
 use Rattle.hb_frames.specs.RawFrame.{RawFrame}
-use Rattle.hb_front.specs.Reading.{Seen}
 use Rattle.hb_held.specs.Held.{Resources}
 use Rattle.hb_held.specs.Outcome.{after_response}
 use Rattle.hb_history.specs.Points as history

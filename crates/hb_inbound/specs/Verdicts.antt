@@ -1,5 +1,5 @@
 -- The verdict law: each request gets the first answer that applies, by what is held, and each answer is put at its point.
-use Rattle.std.specs.Prelude.{⊤, ◌≡◌, ◌⊎◌, ℕ, ◌==◌, Bool, true, false, if◌then◌else◌, fold, List, ◌++◌, Option, Some, None}
+use Rattle.std.specs.Prelude.{⊤, ◌≡◌, ◌⊎◌, ℕ, ◌==◌, Bool, if◌then◌else◌, fold, List, Option, Some, None}
 use Rattle.hb_base.specs.declared.cause.Cause.TheVariants as cause
 use Rattle.hb_base.specs.declared.ip.Ip.{Ip}
 use Rattle.hb_base.specs.declared.peer.Peer.{Peer}
