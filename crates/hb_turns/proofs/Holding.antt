@@ -1,5 +1,5 @@
 -- What is known, behind one more entry.
-use Rattle.std.proofs.Common.{◌≡◌, ◌⊎◌, ◌≤◌, ◌<◌, ℕ, ◌+◌, ◌||◌, ◌&&◌, not, Bool, true, false, if◌then◌else◌, cond, List, [], ◌∷◌, ◌++◌, Option, Some, None, Result, Ok, Err, IfSome, IfOk, refl, ap, sym, ◌∙◌, subst, add-zero}
+use Rattle.std.proofs.Common.{◌≡◌, ℕ, ◌+◌, ◌||◌, ◌&&◌, not, Bool, true, false, if◌then◌else◌, List, [], ◌∷◌, ◌++◌, Option, Some, None, Result, Ok, Err, IfSome, IfOk, refl, ap, sym, ◌∙◌, subst, add-zero}
 use Rattle.std.specs.Prelude.{⊤}
 use Rattle.std.specs.Option.{option_map}
 use Rattle.std.proofs.lemmas.List.{append-nil}
@@ -9,7 +9,7 @@ use Rattle.hb_base.specs.declared.door.Why.{Why}
 use Rattle.hb_world.specs.declared.entry.Way.TheVariants as way
 use Rattle.hb_base.specs.declared.target.Target.{Target}
 use Rattle.hb_turns.specs.declared.act.Act.TheVariants as act
-use Rattle.hb_world.specs.Calls.{with_entries, with_closed, with_shut, close_entries, shut_entries}
+use Rattle.hb_world.specs.Calls.{with_entries, with_closed, with_shut}
 use Rattle.hb_world.specs.Trace.{births, is_birth, lives, was_shut, same_door}
 use Rattle.hb_world.specs.declared.entry.Entry.{Entry}
 use Rattle.hb_world.specs.declared.entry.Entry.TheVariants as e
@@ -21,10 +21,10 @@ use Rattle.hb_ready.specs.declared.doors.Asked.{Asked}
 use Rattle.hb_world.specs.Answers.{HasNextNumber}
 use Rattle.hb_world.specs.declared.world.Born.TheVariants.{New}
 use Rattle.hb_ready.specs.Numbers.{Numbers}
-use Rattle.hb_ready.specs.Sight.{known, sight, asked_behind, asked_at, is_open, asleep}
+use Rattle.hb_ready.specs.Sight.{known, sight, asked_behind, asked_at}
 use Rattle.hb_ready.specs.declared.link.Link.{Link}
 use Rattle.hb_ready.proofs.Sights.{known-grows, asked-grows, numbered-grows}
-use Rattle.hb_turns.specs.Ends.{was_wanting, is_close_for_lack}
+use Rattle.hb_turns.specs.Ends.{is_close_for_lack}
 use Rattle.hb_turns.specs.Settled.{SettledAt}
 use Rattle.hb_turns.specs.Shown.{Shown, Tells, MayCome}
 use Rattle.hb_turns.specs.Stands.{Obeys, Stands, Tracks, Left, births_behind}

@@ -1,7 +1,6 @@
 -- What a wait named is awake, and listed.
 use Rattle.std.proofs.Common.{◌≡◌, ◌⊎◌, ℕ, ◌==◌, ◌||◌, Bool, true, false, if◌then◌else◌, List, [], ◌∷◌, ◌++◌, Option, Some, None, IfSome, refl, ap, sym, ◌∙◌, subst, inl, inr, ⊎_elim}
 use Rattle.std.specs.Option.{option_map, is_some}
-use Rattle.std.specs.List.{list_any}
 use Rattle.std.proofs.lemmas.Bool.{eqb-true}
 use Rattle.hb_base.specs.declared.door.Door.{Door}
 use Rattle.hb_base.specs.declared.door.Door.TheVariants.{Inbound, Outbound, Plain}

@@ -1,5 +1,5 @@
 -- What may come of a call on a link whose way is awake.
-use Rattle.std.proofs.Common.{◌≡◌, ◌⊎◌, ◌≤◌, ◌<◌, ℕ, ◌==◌, Bool, true, false, not, if◌then◌else◌, List, [], ◌∷◌, ◌++◌, length, take, Option, Some, None, IfSome, refl, ap, sym, ◌∙◌, subst, inl, inr, arith}
+use Rattle.std.proofs.Common.{◌≡◌, ◌≤◌, ◌<◌, ℕ, ◌==◌, Bool, true, false, if◌then◌else◌, List, length, take, Option, Some, None, refl, ap, sym, ◌∙◌, subst, inl, inr, arith}
 use Rattle.std.specs.Option.{option_map}
 use Rattle.std.proofs.lemmas.Bool.{eqb-true}
 use Rattle.std.proofs.lemmas.List.{length-take}
@@ -9,11 +9,11 @@ use Rattle.hb_world.specs.declared.entry.Entry.TheVariants as e
 use Rattle.hb_world.specs.declared.entry.Way.TheVariants as way
 use Rattle.hb_ready.specs.Awake.{BreaksAwake}
 use Rattle.hb_ready.specs.Registry.{kept}
-use Rattle.hb_ready.specs.Sight.{known, sight, is_open, asleep, with_read, with_write}
+use Rattle.hb_ready.specs.Sight.{known, is_open, asleep, with_read, with_write}
 use Rattle.hb_ready.specs.declared.link.Link.{Link}
 use Rattle.hb_turns.specs.May.{MayFinish, MayRead, MayWrite}
 use Rattle.hb_turns.specs.Shown.{Shown, MayCome}
-use Rattle.hb_turns.specs.Stands.{Obeys, Stands, Tracks}
+use Rattle.hb_turns.specs.Stands.{Stands, Tracks}
 use Rattle.hb_turns.specs.declared.run.Records.{Records}
 use Rattle.hb_turns.specs.declared.run.Run.{Run}
 use Rattle.hb_turns.proofs.Holding.{Comes, known_lives}

@@ -1,5 +1,5 @@
 -- Small traces that the settled law refuses, and one that obeys it.
-use Rattle.std.specs.Prelude.{◌≡◌, ℕ, List, [], ◌∷◌, None}
+use Rattle.std.specs.Prelude.{◌≡◌, List, [], ◌∷◌, None}
 use Rattle.hb_base.specs.declared.door.Door.TheVariants.{Inbound}
 use Rattle.hb_base.specs.declared.door.Why.{Why}
 use Rattle.hb_base.specs.declared.target.Target.{Target}

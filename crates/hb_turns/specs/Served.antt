@@ -1,5 +1,5 @@
 -- What holds of the trace of a run that is over.
-use Rattle.std.specs.Prelude.{◌≡◌, ℕ, Bool, false, List, Option, None}
+use Rattle.std.specs.Prelude.{◌≡◌, ℕ, Bool, false, List, None}
 use Rattle.hb_base.specs.declared.door.Door.{Door}
 use Rattle.hb_world.specs.Trace.{births, lives}
 use Rattle.hb_world.specs.declared.entry.Entry.{Entry}

@@ -1,5 +1,5 @@
 -- What the loop holds, and the trace that it stands for.
-use Rattle.std.specs.Prelude.{⊤, ◌≡◌, ◌⊎◌, ℕ, ◌+◌, ◌||◌, Bool, true, false, if◌then◌else◌, List, [], ◌∷◌, ◌++◌, Option, Some, None, IfSome, Result, Ok, Err}
+use Rattle.std.specs.Prelude.{◌≡◌, ◌⊎◌, ℕ, ◌||◌, true, List, [], Option, None, IfSome, Result, Ok, Err}
 use Rattle.hb_base.specs.declared.door.Door.{Door}
 use Rattle.hb_world.specs.Trace.{births}
 use Rattle.hb_world.specs.declared.entry.Entry.TheVariants as e

@@ -1,5 +1,4 @@
-use Rattle.std.proofs.Common.{List, [], ◌∷◌, refl, inl}
-use Rattle.hb_world.specs.declared.entry.Entry.{Entry}
+use Rattle.std.proofs.Common.{[], ◌∷◌, refl, inl}
 use Rattle.hb_world.specs.Trace.{AtEach}
 use Rattle.hb_world.proofs.TraceLemmas.{AtEach-grows}
 use Rattle.hb_ready.specs.Awake.{IsAwake}

@@ -1,10 +1,8 @@
-use Rattle.std.proofs.Common.{◌≡◌, ℕ, ◌+◌, List, Some, None, refl, rules, IfSome}
+use Rattle.std.proofs.Common.{◌≡◌, ◌+◌, refl, rules}
 use Rattle.hb_world.specs.Trace.{births}
-use Rattle.hb_world.specs.declared.entry.Entry.{Entry}
 use Rattle.hb_world.specs.declared.entry.Entry.TheVariants as e
 use Rattle.hb_turns.specs.Stands.{Stands}
-use Rattle.hb_turns.specs.declared.run.Run.{Run}
-use Rattle.hb_turns.proofs.Holding.{each, moved, lacked, left, untold, reserved, numbered_too, dial_comes, dial_fails, unmoved}
+use Rattle.hb_turns.proofs.Holding.{moved, lacked, left, untold, reserved, numbered_too, dial_comes, dial_fails, unmoved}
 use Rattle.hb_turns.proofs.acts.dial.Goals as goal
 
 pub returns-in_ok-dialled-in-New-clause-keeps : goal.returns-in_ok-dialled-in-New-clause-keeps

@@ -1,11 +1,10 @@
-use Rattle.std.proofs.Common.{rules, ◌≡◌, Some, None, subst, sym, refl, List, ap}
-use Rattle.hb_world.specs.declared.entry.Entry.{Entry}
+use Rattle.std.proofs.Common.{rules, Some, subst}
 use Rattle.hb_world.specs.declared.entry.Entry.TheVariants as e
 use Rattle.hb_turns.specs.declared.act.Act.{Act}
 use Rattle.hb_turns.specs.declared.act.Act.TheVariants as act
 use Rattle.hb_ready.specs.Registry.{kept}
 use Rattle.hb_turns.specs.Shown.{Acts}
-use Rattle.hb_turns.specs.Stands.{Stands, Tracks}
+use Rattle.hb_turns.specs.Stands.{Stands}
 use Rattle.hb_turns.proofs.Holding.{left, each, on_close, on_shut, obeys-grows, unmoved}
 use Rattle.hb_turns.proofs.Watching.{watched-stirs, watched-closed}
 use Rattle.hb_turns.proofs.acts.make_act.Goals as goal

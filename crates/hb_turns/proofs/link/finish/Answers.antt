@@ -1,12 +1,10 @@
-use Rattle.std.proofs.Common.{◌≡◌, ◌<◌, ◌≤◌, ℕ, List, [], true, false, refl, rules, IfSome, take, length, ◌∷◌, ◌∙◌, sym, ap, subst, min, arith}
-use Rattle.hb_world.specs.declared.entry.Entry.{Entry}
+use Rattle.std.proofs.Common.{refl, rules}
 use Rattle.hb_world.specs.declared.entry.Entry.TheVariants as e
 use Rattle.hb_world.specs.declared.entry.Way.TheVariants as way
 use Rattle.hb_ready.specs.Registry.{kept}
-use Rattle.hb_turns.specs.May.{MayFinish, MayRead, MayWrite}
-use Rattle.hb_turns.specs.Stands.{Stands, Tracks}
-use Rattle.hb_turns.specs.declared.run.Run.{Run}
-use Rattle.hb_turns.proofs.Holding.{moved, lacked, left, untold, unmoved, rested, same_run}
+use Rattle.hb_turns.specs.May.{MayFinish}
+use Rattle.hb_turns.specs.Stands.{Stands}
+use Rattle.hb_turns.proofs.Holding.{moved, lacked, left, untold, unmoved, rested}
 use Rattle.hb_turns.proofs.Watching.{watched-stirs, watched-finish, watched-opened}
 use Rattle.hb_turns.proofs.Ways.{opened_comes, finish_balks, finish_breaks}
 use Rattle.hb_turns.proofs.link.finish.Goals as goal

@@ -1,11 +1,9 @@
-use Rattle.std.proofs.Common.{◌≡◌, ℕ, ◌+◌, List, true, false, refl, rules, IfSome, sym, ◌∙◌}
+use Rattle.std.proofs.Common.{◌≡◌, ◌+◌, true, refl, rules, sym, ◌∙◌}
 use Rattle.hb_world.specs.Trace.{births}
-use Rattle.hb_world.specs.declared.entry.Entry.{Entry}
 use Rattle.hb_world.specs.declared.entry.Entry.TheVariants as e
 use Rattle.hb_world.specs.declared.entry.Way.TheVariants as way
 use Rattle.hb_ready.specs.Sight.{asked_at}
 use Rattle.hb_turns.specs.Stands.{Stands}
-use Rattle.hb_turns.specs.declared.run.Run.{Run}
 use Rattle.hb_turns.proofs.Holding.{moved, lacked, left, untold, rested, reserved, numbered_too, accept_comes, accept_balks, accept_tracks}
 use Rattle.hb_turns.proofs.round.accept.Goals as goal
 

@@ -1,4 +1,3 @@
-use Rattle.std.proofs.Common.{◌≡◌, false}
 use Rattle.hb_ready.specs.Registry.{kept}
 use Rattle.hb_turns.proofs.Watching.{watched-rotated, watched-popped}
 use Rattle.hb_turns.proofs.round.settle.Goals as goal

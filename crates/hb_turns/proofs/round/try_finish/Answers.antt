@@ -1,5 +1,4 @@
-use Rattle.std.proofs.Common.{◌≡◌, true, false, refl, rules, IfSome, subst, sym}
-use Rattle.hb_turns.specs.Stands.{Stands, IsIdle}
+use Rattle.std.proofs.Common.{rules}
 use Rattle.hb_turns.proofs.Holding.{left}
 use Rattle.hb_turns.proofs.round.try_finish.Goals as goal
 

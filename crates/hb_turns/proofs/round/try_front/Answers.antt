@@ -1,5 +1,5 @@
-use Rattle.std.proofs.Common.{rules, IfSome, subst, sym}
-use Rattle.hb_turns.specs.Stands.{Stands, IsIdle}
+use Rattle.std.proofs.Common.{rules}
+use Rattle.hb_turns.specs.Stands.{Stands}
 use Rattle.hb_turns.proofs.Holding.{left, each}
 use Rattle.hb_turns.proofs.round.try_front.Goals as goal
 

@@ -1,4 +1,3 @@
-use Rattle.std.proofs.Common.{◌≡◌}
 use Rattle.hb_world.specs.declared.entry.Entry.TheVariants as e
 use Rattle.hb_turns.specs.Stands.{Obeys}
 use Rattle.hb_turns.proofs.Holding.{on_close, obeys-grows}

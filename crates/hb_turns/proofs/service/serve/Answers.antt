@@ -1,4 +1,4 @@
-use Rattle.std.proofs.Common.{◌≡◌, sym, subst, []}
+use Rattle.std.proofs.Common.{sym, subst, []}
 use Rattle.hb_turns.proofs.Serving.{is_served, begins, watched_fresh, nothing_served}
 use Rattle.hb_turns.proofs.service.serve.Goals as goal
 

@@ -1,5 +1,3 @@
-use Rattle.std.proofs.Common.{rules}
-use Rattle.hb_turns.proofs.Holding.{left}
 use Rattle.hb_turns.proofs.turns.turn.Goals as goal
 
 pub returns-clause-keeps : goal.returns-clause-keeps

@@ -1,8 +1,7 @@
-use Rattle.std.proofs.Common.{◌≡◌, Option, None, Some, rules, subst, ◌∙◌}
+use Rattle.std.proofs.Common.{Option, subst, ◌∙◌}
 use Rattle.hb_base.specs.Count.{Counts}
 use Rattle.hb_turns.specs.Ends.{is_fault_by}
 use Rattle.hb_turns.specs.declared.served.ServeEnd.{ServeEnd}
-use Rattle.hb_turns.proofs.Holding.{left}
 use Rattle.hb_turns.proofs.turns.turns.Goals as goal
 
 pub loop-turn-preserved : goal.loop-turn-preserved

@@ -1,16 +1,8 @@
-use Rattle.std.proofs.Common.{◌≡◌, List, [], ◌∷◌, ◌++◌, refl, rules, IfSome, subst, sym, ap, ◌∙◌}
-use Rattle.hb_world.specs.declared.entry.Entry.{Entry}
-use Rattle.hb_world.specs.declared.entry.Entry.TheVariants as e
-use Rattle.hb_world.specs.declared.entry.ReadyItem.{ReadyItem}
-use Rattle.hb_world.specs.declared.entry.Woken.TheVariants as woken
-use Rattle.hb_world.specs.Calls.{with_entries}
-use Rattle.hb_ready.specs.Registry.{kept}
-use Rattle.hb_turns.specs.Stands.{Stands, Tracks, WatchedBy, IsIdle}
-use Rattle.hb_turns.specs.Woken.{Wakes, Ticked}
-use Rattle.hb_turns.proofs.Holding.{left, untold, rested, each, moved}
-use Rattle.hb_turns.proofs.Waking.{wakes-tracks, wait_comes, wait_ticks}
+use Rattle.std.proofs.Common.{refl}
+use Rattle.hb_turns.specs.Stands.{Stands}
+use Rattle.hb_turns.specs.Woken.{Ticked}
+use Rattle.hb_turns.proofs.Holding.{each}
 use Rattle.hb_turns.proofs.Waking.{tick_told}
-use Rattle.hb_turns.proofs.Watching.{watched-stirs}
 use Rattle.hb_turns.proofs.waits.tick.Goals as goal
 
 pub returns-clause-keeps : goal.returns-clause-keeps

@@ -1,13 +1,10 @@
-use Rattle.std.proofs.Common.{◌≡◌, List, [], ◌∷◌, ◌++◌, refl, rules, IfSome, subst, sym, ap, ◌∙◌}
-use Rattle.hb_world.specs.declared.entry.Entry.{Entry}
+use Rattle.std.proofs.Common.{List, refl, rules, subst}
 use Rattle.hb_world.specs.declared.entry.Entry.TheVariants as e
 use Rattle.hb_world.specs.declared.entry.ReadyItem.{ReadyItem}
 use Rattle.hb_world.specs.declared.entry.Woken.TheVariants as woken
-use Rattle.hb_world.specs.Calls.{with_entries}
-use Rattle.hb_ready.specs.Registry.{kept}
-use Rattle.hb_turns.specs.Stands.{Stands, Tracks, WatchedBy, IsIdle}
-use Rattle.hb_turns.specs.Woken.{Wakes, Ticked}
-use Rattle.hb_turns.proofs.Holding.{left, untold, rested, each, moved}
+use Rattle.hb_turns.specs.Stands.{Stands}
+use Rattle.hb_turns.specs.Woken.{Wakes}
+use Rattle.hb_turns.proofs.Holding.{left, untold, rested}
 use Rattle.hb_turns.proofs.Waking.{wakes-tracks, wait_comes, wait_ticks}
 use Rattle.hb_turns.proofs.waits.wait.Goals as goal
 

@@ -1,4 +1,4 @@
-use Rattle.std.proofs.Common.{◌≡◌, ◌≤◌, ℕ, ◌+◌, ◌==◌, List, [], ◌∷◌, ◌++◌, Option, true, arith, nat_eq, subst, sym, refl}
+use Rattle.std.proofs.Common.{◌≡◌, ℕ, ◌==◌, List, Option, true, arith, nat_eq, subst, sym, refl}
 use Rattle.std.specs.HashMap.{get}
 use Rattle.std.proofs.lemmas.Map.Entries.{sum_by_puts_entry}
 use Rattle.hb_ready.specs.Kept.{is_marked, has, off_list}

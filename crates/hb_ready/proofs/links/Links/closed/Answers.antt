@@ -1,6 +1,6 @@
-use Rattle.std.proofs.Common.{◌≡◌, ◌≤◌, ℕ, ◌+◌, ◌==◌, Option, true, arith, nat_eq, subst, sym, refl}
+use Rattle.std.proofs.Common.{◌≡◌, ◌==◌, Option, true, arith, nat_eq, subst}
 use Rattle.std.specs.HashMap.{get}
-use Rattle.hb_ready.specs.Kept.{is_marked, off_list, all_off_list}
+use Rattle.hb_ready.specs.Kept.{is_marked}
 use Rattle.hb_ready.specs.declared.link.Place.{Place}
 use Rattle.hb_ready.proofs.Lists.{off-removed, marked_without}
 use Rattle.hb_ready.proofs.links.Links.closed.Goals as goal

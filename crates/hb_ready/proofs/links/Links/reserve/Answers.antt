@@ -1,7 +1,6 @@
-use Rattle.std.proofs.Common.{◌≡◌, ◌≤◌, ℕ, ◌+◌, List, Option, true, arith, nat_eq, subst, sym}
-use Rattle.std.specs.HashMap.{get}
+use Rattle.std.proofs.Common.{◌≡◌, ℕ, List, Option, true, arith, subst, sym}
 use Rattle.std.proofs.lemmas.Map.Entries.{sum_by_values_permutation}
-use Rattle.hb_ready.specs.Kept.{is_marked, has, off_list, all_off_list}
+use Rattle.hb_ready.specs.Kept.{is_marked, has, off_list}
 use Rattle.hb_ready.specs.declared.link.Place.{Place}
 use Rattle.hb_ready.proofs.links.Links.reserve.Goals as goal
 
