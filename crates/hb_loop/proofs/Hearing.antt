@@ -44,7 +44,7 @@ silent_goaway c new bytes handles = goaway_told (is_misplaced c (GoAway 0)) c ne
 pub hears_no_goaway : HearsNoGoaway
 hears_no_goaway g trace l headers before after h are =
     let at = steps_at g trace h before after _ are in
-    let look = at.steps.2.runs in
+    let look = at.steps.2.found.runs in
     of_core silent_goaway (at.machine.links l).conn look.0 _ look.1.1
 
 -- while a stream goes on it tells of each frame of it
