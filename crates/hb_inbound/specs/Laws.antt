@@ -5,7 +5,7 @@ use Rattle.hb_inbound.specs.Access.{AccessLaw}
 use Rattle.hb_inbound.specs.Connections.{ConnectionLaw, WindowLaw}
 use Rattle.hb_inbound.specs.Ends.{EndLaw}
 use Rattle.hb_inbound.specs.Part.{Part}
-use Rattle.hb_inbound.specs.Relay.{RelayUpLaw}
+use Rattle.hb_inbound.specs.Relay.{RelayUpLaw, RelayDownLaw}
 use Rattle.hb_inbound.specs.Runs.{Local, StandsFor}
 
 -- the link's connection is one history
@@ -27,3 +27,7 @@ RunsEnd = (l : ℕ) (start : Resources) (a : Local) (parts : List Part) → Stan
 -- what is written to an upstream is a front of the DATA that came on its stream
 abbrev pub RunsRelayUp : Type 0
 RunsRelayUp = (l : ℕ) (start : Resources) (a : Local) (parts : List Part) → StandsFor l start a parts → RelayUpLaw parts
+
+-- the DATA that goes on a stream is a front of what came from its upstream
+abbrev pub RunsRelayDown : Type 0
+RunsRelayDown = (l : ℕ) (start : Resources) (a : Local) (parts : List Part) → StandsFor l start a parts → RelayDownLaw parts

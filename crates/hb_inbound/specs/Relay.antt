@@ -1,12 +1,12 @@
 -- The relay law: what is written to each side of a tunnel is a front of what came from the other.
 use Rattle.std.specs.Prelude.{⊤, ◌≡◌, ℕ, List, ◌++◌}
-use Rattle.std.specs.List.{flat_map}
 use Rattle.hb_frames.specs.RawFrame.{RawFrame}
+use Rattle.hb_kept.specs.Payloads.{payloads}
 use Rattle.hb_outgoing.specs.Waiting.{spelled}
 use Rattle.hb_world.specs.declared.entry.Entry.{Entry}
 use Rattle.hb_world.specs.declared.entry.Entry.TheVariants as e
 use Rattle.hb_inbound.specs.Part.{Part, up, finished, put}
-use Rattle.hb_inbound.specs.Sides.{link_went, up_came, up_went, stream_came, payload_on, is_peer_end, is_up_end, is_accept, Was, AtEach}
+use Rattle.hb_inbound.specs.Sides.{link_went, up_came, up_went, stream_came, is_peer_end, is_up_end, is_accept, Was, AtEach}
 
 -- the bytes written to a tunnel's upstream are a front of the DATA that came on its stream
 pub record RelaysUp (parts : List Part) (s : ℕ) : Type 0 where
@@ -20,7 +20,7 @@ pub record RelaysDown (parts : List Part) (s : ℕ) : Type 0 where
   pub owed : List ℕ
   pub sent : link_went parts ++ owed ≡ spelled begun
   pub rest : List ℕ
-  pub front : up_came s parts ≡ flat_map (payload_on s) begun ++ rest
+  pub front : up_came s parts ≡ payloads s begun ++ rest
 
 -- the upstream is shut behind the end of the peer's side, once all that came on the stream is written
 pub record ShutsBehind (before : List Part) (s : ℕ) : Type 0 where
@@ -32,10 +32,10 @@ pub record ShutsBehind (before : List Part) (s : ℕ) : Type 0 where
 pub record EndsBehind (before : List Part) (s : ℕ) : Type 0 where
   pub accepted : Was (is_accept s) before
   pub ended : Was (is_up_end s) before
-  pub begun : List RawFrame
-  pub owed : List ℕ
-  pub sent : link_went before ++ owed ≡ spelled begun
-  pub whole : up_came s before ≡ flat_map (payload_on s) begun
+  pub frames : List RawFrame
+  pub part : List ℕ
+  pub sent : link_went before ≡ spelled frames ++ part
+  pub whole : up_came s before ≡ payloads s frames
 
 -- bytes go to an upstream, and DATA is put, only behind 200
 abbrev pub UpMayGo : ℕ → List Part → Entry → Type 0

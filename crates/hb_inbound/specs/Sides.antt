@@ -8,8 +8,6 @@ use Rattle.hb_base.specs.declared.target.Target.{Target}
 use Rattle.hb_conn.specs.declared.found.Found.{Found}
 use Rattle.hb_conn.specs.declared.found.Found.TheVariants as found
 use Rattle.hb_frames.specs.Bodies.{lent_of}
-use Rattle.hb_frames.specs.Numbers.{data_kind}
-use Rattle.hb_frames.specs.RawFrame.{RawFrame}
 use Rattle.hb_held.specs.Held.{Resources}
 use Rattle.hb_held.specs.Outcome.{after_response}
 use Rattle.hb_history.specs.Points as history
@@ -70,10 +68,6 @@ data_by s p = data_told s p.move p.told
 
 abbrev pub stream_came : ℕ → List Part → List ℕ
 stream_came s parts = flat_map (data_by s) (moves parts)
-
--- the payload of a DATA frame of a stream
-abbrev pub payload_on : ℕ → RawFrame → List ℕ
-payload_on s f = if f.kind == data_kind && f.stream == s then f.payload else []
 
 -- ENDS OF SIDES
 

@@ -1,10 +1,10 @@
 //! Small steps that no run of an inbound link takes, and what an update does. Each is the contract of a function that does nothing.
 
 ghost use Rattle.hb_inbound.specs.Refused.{DialsUnasked, AcceptsUnopened, WritesUnopened, ShutsEarly, EndsEarly, WritesRevoked};
-ghost use Rattle.hb_inbound.specs.Laws.{RunsAdmit, RunsEnd, RunsObeyConnections, RunsObeyWindows, RunsRelayUp};
+ghost use Rattle.hb_inbound.specs.Laws.{RunsAdmit, RunsEnd, RunsObeyConnections, RunsObeyWindows, RunsRelayDown, RunsRelayUp};
 ghost use Rattle.hb_inbound.specs.RefusedRuns.{WritesBehind, GoesOnBehind, PutsBehind, ReadsBehind, ClosesForAnother, ClosesAdmitted};
 ghost use Rattle.hb_inbound.specs.RefusedRuns.{DialsUnbidden, GoesOnAdmitted, ClosesRevoked};
-ghost use Rattle.hb_inbound.specs.RelayRefused.{InventsByte, WritesFront};
+ghost use Rattle.hb_inbound.specs.RelayRefused.{InventsByte, WritesFront, InventsDown, GoesDown, EndsWaiting};
 ghost use Rattle.hb_inbound.specs.Refused.{PutsRevoked, KeepsAdmitted, KeepsPlaceless, EndsOthers};
 
 /// Nothing is dialled that wasn't asked for, 200 isn't put nor are bytes written before the upstream is open, and no way ends
@@ -51,9 +51,11 @@ pub fn tunnels_end_once()
 {}
 
 /// The bytes written to an upstream are a front of the DATA that came on its stream, and none are written, nor is DATA put, before
-/// 200 is. The upstream is shut behind the end of the peer's side alone, once all that came is written.
+/// 200 is. The upstream is shut behind the end of the peer's side alone, once all that came is written. The DATA that goes on the
+/// stream is a front of what came from the upstream, and END_STREAM is put behind the upstream's end alone, once all that went.
 pub fn bytes_are_relayed()
-    ensures { RunsRelayUp }
+    ensures up { RunsRelayUp }
+    ensures down { RunsRelayDown }
 {}
 
 /// Behind an update that no longer admits a tunnel's peer no byte may go to its upstream, no DATA be put, and no byte of the link be
@@ -75,8 +77,12 @@ pub fn good_runs_may_go()
     ensures closes { ClosesRevoked }
 {}
 
-/// A byte that is written to an upstream where none came is refused; the first of two that came isn't.
+/// A byte that is written to an upstream, or goes on a stream, where none came is refused; the first of two that came isn't. Nor may the
+/// stream end while a byte that came is still to go.
 pub fn invented_bytes_are_refused()
     ensures invents { InventsByte }
     ensures front { WritesFront }
+    ensures invents_down { InventsDown }
+    ensures front_down { GoesDown }
+    ensures ends { EndsWaiting }
 {}

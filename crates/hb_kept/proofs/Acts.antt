@@ -35,18 +35,21 @@ released_over c s = cond_both (is_active c.streams s) c _ (λ (x : Core). x.over
 cancelled_over : (c : Core) (s : ℕ) → (cancelled c s).over ≡ c.over
 cancelled_over c s = cond_both (is_active c.streams s) _ c (λ (x : Core). x.over ≡ c.over) (λ is. refl) (λ is. refl)
 
-aborted_over : (c : Core) (s code : ℕ) → (aborted c s code).over ≡ c.over
+pub aborted_over : (c : Core) (s code : ℕ) → (aborted c s code).over ≡ c.over
 unfolding aborted
 aborted_over c s code = paid_over _ ∙ released_over _ s ∙ due_over (withdrawn (cancelled c s) s) s _ ∙ cancelled_over c s
 
 ended_over : (c : Core) (s : ℕ) → (own_ended c s).over ≡ c.over
 ended_over c s = released_over _ s
 
-status_over : (c : Core) (s : ℕ) (status : Status) → (status_put c s status).over ≡ c.over
+pub status_over : (c : Core) (s : ℕ) (status : Status) → (status_put c s status).over ≡ c.over
 status_over c s status =
     let put = with_due c s (due.Status status) in
     cond_both status.end (own_ended put s) put (λ (x : Core). x.over ≡ c.over)
     (λ is. ended_over put s ∙ due_over c s (due.Status status)) (λ is. due_over c s (due.Status status))
+
+pub end_over : (c : Core) (s : ℕ) → (end_put c s).over ≡ c.over
+end_over c s = ended_over (with_due c s due.End) s ∙ due_over c s due.End
 
 opened_over : (c : Core) (s : ℕ) (headers : List Header) (end : Bool) → (opened_with c s headers end).over ≡ c.over
 opened_over c s headers true = ended_over (headers_put (begun c s) s headers true) s
@@ -98,7 +101,7 @@ answers_kept c s status number kept =
 pub ends_kept : EndsKept
 ends_kept c s number kept =
     acted c (points.ended s) (end_put (core_of c) s) tt number (refl, refl)
-    (ended_over (with_due (core_of c) s due.End) s ∙ due_over (core_of c) s due.End) kept
+    (end_over (core_of c) s) kept
 
 pub resets_kept : ResetsKept
 resets_kept c s code kept =

@@ -1,11 +1,13 @@
 pub mod Acts
 pub mod All
+pub mod Begun
 pub mod DataWaits
 pub mod Examples
 pub mod Handled
 pub mod Kept
 pub mod Looks
 pub mod Opened
+pub mod Payloads
 pub mod Resets
 pub mod Rises
 pub mod Roles

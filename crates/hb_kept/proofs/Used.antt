@@ -48,7 +48,7 @@ fault_by c code each =
     let f = goaway (last_of_peer c.streams) code in
     each_more (UpTo high) _ f (each_filtered (UpTo high) (is_kept None) c.out.queue each) (no_data high f refl)
 
-has_window : (f : Flows) (o : Option Windows) (n : ℕ) → (n == 0) ≡ false → n ≤ sendable_by f o → is_some o ≡ true
+pub has_window : (f : Flows) (o : Option Windows) (n : ℕ) → (n == 0) ≡ false → n ≤ sendable_by f o → is_some o ≡ true
 has_window f None n some within = absurd (false≢true (sym some ∙ grind (arith, nat_tests, within)))
 has_window f (Some w) n some within = refl
 

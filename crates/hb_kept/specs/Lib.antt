@@ -5,5 +5,6 @@ pub mod Kept
 pub mod Looks
 pub mod Numbers
 pub mod Opened
+pub mod Payloads
 pub mod Shut
 pub mod Sides

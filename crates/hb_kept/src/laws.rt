@@ -9,6 +9,8 @@ ghost use Rattle.hb_kept.specs.Examples.{FaultedIsRefused, NoOctetIsRefused, Few
 ghost use Rattle.hb_kept.specs.Examples.{WriteIsRefused, OpenIsRefused};
 ghost use Rattle.hb_kept.specs.Opened.{WaitsOnUsed, OpenedIsUnused, UsedIsRefused, OtherMayOpen};
 ghost use Rattle.hb_kept.specs.Numbers.{PointsRaise, WritesLeave, ToldAreNumbered, UsedOpensNot, HigherMayOpen};
+ghost use Rattle.hb_kept.specs.Payloads.{LooksFollow, WritesFollow, UsesFollow, AnswersFollow, EndsFollow, ResetsFollow};
+ghost use Rattle.hb_kept.specs.Payloads.{OthersFollow, PutsFollow, MoreFollows, InventedIsRefused, LostIsRefused, BothMayWait};
 ghost use Rattle.hb_kept.specs.DataWaits.{WaitsWithinMore, WaitsWithout, FindsWithin, WritesWithin, OpensWithin, UsesWithin};
 ghost use Rattle.hb_kept.specs.Sides.{WriteLeavesAll, PutLeavesAll, UseLeavesAll, AnswerEndsSide, EndEndsSide, ResetEndsBoth};
 ghost use Rattle.hb_kept.specs.Sides.{FindsSides, OpenedIsOpen};
@@ -121,6 +123,24 @@ pub fn acts_leave_sides()
 pub fn found_sides()
     ensures finds { FindsSides }
     ensures opened { OpenedIsOpen }
+{}
+
+/// The payload of the DATA of a stream that has begun, and that waits to begin, is a front of all that is to be sent on it, whatever
+/// is found, written or done on any stream; while the stream goes on, what is behind waits to be put (RFC 9113 section 6.1). An octet
+/// that wasn't to be sent is refused, and so is one that is lost; two that wait to be put aren't.
+pub fn payloads_follow()
+    ensures looks { LooksFollow }
+    ensures writes { WritesFollow }
+    ensures uses { UsesFollow }
+    ensures answers { AnswersFollow }
+    ensures ends { EndsFollow }
+    ensures resets { ResetsFollow }
+    ensures others { OthersFollow }
+    ensures puts { PutsFollow }
+    ensures more { MoreFollows }
+    ensures invented { InventedIsRefused }
+    ensures lost { LostIsRefused }
+    ensures both { BothMayWait }
 {}
 
 /// A connection of which an error was told isn't kept, nor one that holds what is no octet. Of 640 octets of room 64 octets leave enough
