@@ -1,8 +1,8 @@
 -- What is left of the frames begun is the end of the last one, in front of whose end its head is kept.
-use Rattle.std.proofs.Common.{◌≡◌, ◌⊎◌, inl, inr, ⊎_elim, ℕ, zero, suc, ◌-◌, ◌<◌, ◌≤◌, Bool, true, false, List, [], ◌∷◌, ◌++◌, length, take, drop, Option, Some, None, refl, ap, ap₂, sym, ◌∙◌, subst, arith, length-append}
+use Rattle.std.proofs.Common.{◌≡◌, ◌⊎◌, inl, inr, ℕ, zero, suc, ◌-◌, ◌≤◌, Bool, true, false, List, [], ◌∷◌, ◌++◌, length, take, drop, Option, Some, refl, ap, sym, ◌∙◌, subst, arith, length-append}
 use Rattle.std.specs.Prelude.{nat_le}
 use Rattle.std.proofs.lemmas.Bool.Decides.{nat_tests}
-use Rattle.std.proofs.lemmas.List.{append_assoc, append-nil, take-append-drop, drop_all, drop-append-le}
+use Rattle.std.proofs.lemmas.List.{append_assoc, append-nil, take-append-drop, drop_all}
 use Rattle.std.proofs.Math.Seq.{take-append_seam}
 use Rattle.hb_frames.specs.RawFrame.{RawFrame, spelling}
 use Rattle.hb_outgoing.specs.declared.head.Head.{Head}

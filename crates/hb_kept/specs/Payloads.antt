@@ -4,7 +4,7 @@ use Rattle.std.specs.FinMap.{get}
 use Rattle.std.specs.List.{flat_map}
 use Rattle.hb_frames.specs.Numbers.{data_kind}
 use Rattle.hb_frames.specs.RawFrame.{RawFrame}
-use Rattle.hb_outgoing.specs.Waiting.{Waiting, nothing}
+use Rattle.hb_outgoing.specs.Waiting.{nothing}
 use Rattle.hb_owed.specs.declared.status.Status.{Status}
 use Rattle.hb_streams.specs.declared.role.Role.{Role}
 use Rattle.hb_conn.specs.Connection.{Connection}

@@ -20,6 +20,7 @@ use Rattle.hb_history.proofs.CanSend.{CanSend, side_is_open, used_up}
 use Rattle.hb_history.proofs.First.{none_waits}
 use Rattle.hb_history.proofs.OwnCredits.{own_credits}
 use Rattle.hb_history.proofs.Steady.{held_partial}
+use Rattle.hb_kept.specs.Payloads.{payloads}
 use Rattle.hb_world.specs.Trace.{recv, sent}
 use Rattle.hb_model.specs.declared.config.NodeConfig.{NodeConfig}
 use Rattle.hb_model.specs.Discovery.{Discovery, Phase, live, stream}
@@ -31,7 +32,6 @@ use Rattle.hb_model.specs.Runs.{StandsFor}
 use Rattle.hb_model.proofs.ConnectionsRun.{IsOne, all_one}
 use Rattle.hb_model.proofs.CreditsRun.{all_keep}
 use Rattle.hb_model.proofs.OwnFrames.{Suits, all_suited}
-use Rattle.hb_model.proofs.Requests.{payloads}
 use Rattle.hb_model.proofs.RequestsRun.{IsGoing, IsAskedOn, all_asked}
 use Rattle.hb_model.proofs.SendingRun.{all_sending}
 
@@ -117,7 +117,7 @@ put_all g m points l stands lives calm empty =
     let still = a.goes going in
     let sends = all_sending g m points stands l going in
     let none = none_waits out empty in
-    let rest_is = a.follows.2 (tt, still, ap is_some sends.0.1) in
+    let rest_is = a.follows.goes (still, ap is_some sends.0.1) in
     let keeps = all_keep g m points stands l going in
     let all_told : happenings (moves l points) ≡ tellings l points =
     one.stands.told ∙ ap (λ o. tellings l points ++ ends_in o) calm.looked_at.0 ∙ append-nil (tellings l points) in
@@ -135,11 +135,11 @@ put_all g m points l stands lives calm empty =
       answers = ap (filter is_answer) (sym (append-nil a.begun) ∙ ap (λ (fs : List RawFrame). a.begun ++ fs) (sym none))
           ∙ answers_are_those Client (moves l points) (tellings l points) (recv l (entries points)) (sent l (entries points)) x.conn
           (history g m points l stands) still;
-      rest = a.follows.0;
-      front = a.follows.1
-          ∙ ap (λ (fs : List RawFrame). payloads fs ++ a.follows.0)
+      rest = a.follows.rest;
+      front = a.follows.front
+          ∙ ap (λ (fs : List RawFrame). payloads stream fs ++ a.follows.rest)
           (ap (λ (fs : List RawFrame). a.begun ++ fs) none ∙ append-nil a.begun);
-      waits = waits_so g m points l stands a.follows.0 rest_is sends still empty
+      waits = waits_so g m points l stands a.follows.rest rest_is sends still empty
           (none_put x.conn x.waiting (own_side_open x.conn stream) still empty calm.all_put);
       connection_credit = by_begun g m points l stands none 0 (data_size None (frames_got (moves l points)))
           (credits g m points l stands lives).connection;

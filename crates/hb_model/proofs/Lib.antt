@@ -18,7 +18,6 @@ pub mod MessagesRun
 pub mod AtOnce
 pub mod MessagesAtOnce
 pub mod ConnectionsRun
-pub mod Requests
 pub mod Inner
 pub mod RequestsRun
 pub mod SendingRun

@@ -1,7 +1,6 @@
 -- The requests of every run.
-use Rattle.std.proofs.Common.{◌≡◌, ◌⊎◌, inl, inr, ℕ, ◌≤◌, ◌<◌, ◌==◌, ◌||◌, Bool, true, false, if◌then◌else◌, List, [], ◌∷◌, ◌++◌, length, take, drop, Option, Some, refl, ap, ap₂, sym, ◌∙◌, subst, arith, length-append}
+use Rattle.std.proofs.Common.{◌≡◌, ◌⊎◌, inl, inr, ℕ, ◌≤◌, ◌<◌, ◌==◌, Bool, true, false, if◌then◌else◌, List, [], ◌∷◌, ◌++◌, length, take, drop, Option, Some, refl, ap, ap₂, sym, ◌∙◌, subst, arith, length-append}
 use Rattle.std.specs.List.{flat_map}
-use Rattle.std.proofs.lemmas.Bool.Decides.{nat_tests}
 use Rattle.std.proofs.lemmas.List.{append_assoc, append-nil}
 use Rattle.std.proofs.lemmas.Grind.{flat_map-append}
 use Rattle.std.proofs.Math.Seq.{take-append_seam}
@@ -18,37 +17,37 @@ use Rattle.hb_outgoing.specs.Waiting.{Waiting}
 use Rattle.hb_outgoing.specs.Laws.{Shows}
 use Rattle.hb_outgoing.proofs.Sent.{write_begins}
 use Rattle.hb_conn.specs.Preface.{octets}
-use Rattle.hb_conn.specs.Connection.{Connection, Finds, fresh_client, taken}
+use Rattle.hb_conn.specs.Connection.{Connection, Finds, core_of, fresh_client, taken}
 use Rattle.hb_conn.specs.Observed as connection
 use Rattle.hb_conn.specs.Observed.{outgoing, output, streams, sides, own_side_open, is_over}
 use Rattle.hb_conn.specs.Observed.{frames_begun, creditable, credited, count_put, data_put}
 use Rattle.hb_conn.specs.declared.found.Found.{Found}
 use Rattle.hb_conn.specs.declared.found.Found.TheVariants as found
 use Rattle.hb_history.specs.Points as history
-use Rattle.hb_history.specs.History.{LeadsWith}
-use Rattle.hb_history.specs.Waits.{IsFirst}
+use Rattle.hb_history.specs.History.{LeadsWith, Becomes}
 use Rattle.hb_history.proofs.Connections.{leads_more, leads_one, looks_lead, looks_leave, act_leaves}
-use Rattle.hb_history.proofs.Connections.{wrote_leaves, first_out, first_moved, first_highest}
-use Rattle.hb_history.proofs.First.{first_new}
-use Rattle.hb_history.proofs.Lives.{Moved, active_some}
+use Rattle.hb_history.proofs.Connections.{wrote_leaves, first_highest}
 use Rattle.hb_history.proofs.Steady.{not_over, put_over, credited_over, wrote_over, first_stream}
-use Rattle.hb_world.specs.Trace.{went_on, sent}
+use Rattle.hb_kept.specs.Numbers.{highest_used}
+use Rattle.hb_kept.specs.Payloads.{payload_on, payloads, Follows}
+use Rattle.hb_kept.proofs.Payloads.{looks_follow, writes_follow, uses_follow, puts_follow, more_follows}
+use Rattle.hb_kept.proofs.Rises.{points_raise}
+use Rattle.hb_world.specs.Trace.{went_on, recv, sent}
 use Rattle.hb_world.specs.declared.entry.Entry.{Entry}
 use Rattle.hb_world.specs.declared.entry.Entry.TheVariants as e
 use Rattle.hb_model.specs.declared.config.NodeConfig.{NodeConfig}
 use Rattle.hb_model.specs.Discovery.{Discovery, Phase, unborn, dialling, live, faulted, ending, closed, opened, ended, broken, went, stopped_for, phase_by, end_by, headers_read, stream, headers_of, first_requests, answer_to, spelled, no_link, dialled, came, wrote, on_found, ends_for, put_requests, sendable}
 use Rattle.hb_model.specs.Machine.{Machine, while_open, entered, with_phase}
 use Rattle.hb_model.specs.Messages.{held}
-use Rattle.hb_model.specs.Point.{Point, entry, looked, applied, refused, used, put, stopped, entry_in, entries, moves_in, moves, act}
-use Rattle.hb_model.specs.Requests.{request_in, requests, payload_of}
+use Rattle.hb_model.specs.Point.{Point, entry, looked, applied, refused, used, put, stopped, entry_in, entries, moves_in, moves, act, tellings}
+use Rattle.hb_model.specs.Requests.{request_in, requests}
 use Rattle.hb_model.specs.Runs.{output_by, MayCome, Steps, StandsFor, begins, goes_on, IsFaulted}
 use Rattle.hb_model.specs.Laws.{RunsObeyRequests}
 use Rattle.hb_model.proofs.Grown.{one_more, entries_more, requests_more, of_all, IsBorn}
 use Rattle.hb_model.proofs.Open.{live_changes, open_changes}
 use Rattle.hb_model.proofs.Unborn.{AreUnborn, are_unborn, born_closing, Passes, passes_looked, passes_applied, passes_used, passes_put, passes_dial, passes_came, passes_went}
 use Rattle.hb_model.proofs.MessagesRun.{held_is}
-use Rattle.hb_model.proofs.ConnectionsRun.{on_itself, itself_alone, quiet_passes}
-use Rattle.hb_model.proofs.Requests.{payloads, Follows, IsGoingOn, AsksOn, looks_ask, credit_asks, write_asks, more_asks, put_asks}
+use Rattle.hb_model.proofs.ConnectionsRun.{AreAllOne, on_itself, itself_alone, quiet_passes, all_one}
 
 -- a link that goes on
 abbrev pub IsGoing : Phase → Type 0
@@ -61,10 +60,8 @@ pub record IsAsked (g : NodeConfig) (points : List Point) (l : ℕ) (phase : Pha
   pub begun : List RawFrame
   pub begins : LeadsWith fresh_client (moves l points) begun c
   pub shows : Shows octets (sent l (entries points)) begun (outgoing c)
-  pub first : IsFirst (outgoing c)
-  pub moved : Moved Client (streams c)
-  pub started : IsBorn phase → stream ≤ (streams c).highest
-  pub follows : Follows begun (spelled (requests g l points)) waiting (IsGoingOn c) (outgoing c).queue
+  pub started : IsBorn phase → stream ≤ highest_used c
+  pub follows : Follows stream begun (spelled (requests g l points)) waiting c
   pub goes : IsGoing phase → is_over c ≡ false
 
 abbrev pub IsAskedOn : NodeConfig → List Point → ℕ → Discovery → Type 0
@@ -85,10 +82,13 @@ taken_asked g points l phase waiting c bytes a = record {
   begun = a.begun;
   begins = a.begins;
   shows = a.shows;
-  first = a.first;
-  moved = a.moved;
   started = a.started;
-  follows = a.follows;
+  follows = record {
+    rest = a.follows.rest;
+    front = a.follows.front;
+    goes = λ on. a.follows.goes on;
+    unused = λ above. a.follows.unused above;
+  };
   goes = a.goes;
 }
 
@@ -115,16 +115,15 @@ some_go true n some = (refl, some)
 some_go false n some = absurd (omega (arith, some))
 
 module _ (g : NodeConfig) (m : Machine) (points : List Point) (unborn : AreUnborn g m points) (hold : m.held ≡ held g points)
-    (asked : AreAsked g m points) where
+    (one : AreAllOne m points) (asked : AreAsked g m points) where
   -- with a point by which these octets go on a link, and these requests are made
   grown : (p : Point) (l : ℕ) (phase : Phase) (waiting : List ℕ) (c : Connection) (begun : List RawFrame) (bytes more : List ℕ)
       → flat_map (went_on l) (entry_in p) ≡ bytes → spelled (request_in g m.held l p) ≡ more
       → LeadsWith fresh_client (moves l points ++ moves_in l p) begun c
-      → Shows octets (sent l (entries points) ++ bytes) begun (outgoing c) → IsFirst (outgoing c) → Moved Client (streams c)
-      → (IsBorn phase → stream ≤ (streams c).highest)
-      → Follows begun (spelled (requests g l points) ++ more) waiting (IsGoingOn c) (outgoing c).queue
+      → Shows octets (sent l (entries points) ++ bytes) begun (outgoing c) → (IsBorn phase → stream ≤ highest_used c)
+      → Follows stream begun (spelled (requests g l points) ++ more) waiting c
       → (IsGoing phase → is_over c ≡ false) → IsAsked g (points ++ p ∷ []) l phase waiting c
-  grown p l phase waiting c begun bytes more goes asks runs shows first moved started follows going =
+  grown p l phase waiting c begun bytes more goes asks runs shows started follows going =
       let all : spelled (requests g l points) ++ more ≡ spelled (requests g l (points ++ p ∷ [])) =
       ap (λ (xs : List ℕ). spelled (requests g l points) ++ xs) (sym asks ∙ ap (λ h. spelled (request_in g h l p)) hold)
       ∙ sym (spelled_more (requests g l points) (request_in g (held g points) l p))
@@ -135,10 +134,8 @@ module _ (g : NodeConfig) (m : Machine) (points : List Point) (unborn : AreUnbor
             (sym (one_more (moves_in l) points p)) runs;
         shows = subst (λ (bs : List ℕ). Shows octets bs begun (outgoing c))
             (ap (λ (bs : List ℕ). sent l (entries points) ++ bs) (sym goes) ∙ sym (entries_more (went_on l) points p)) shows;
-        first = first;
-        moved = moved;
         started = started;
-        follows = subst (λ (xs : List ℕ). Follows begun xs waiting (IsGoingOn c) (outgoing c).queue) all follows;
+        follows = subst (λ (xs : List ℕ). Follows stream begun xs waiting c) all follows;
         goes = going;
       }
 
@@ -168,9 +165,8 @@ module _ (g : NodeConfig) (m : Machine) (points : List Point) (unborn : AreUnbor
       let w = (m.links l).waiting in
       grown p l phase w c a.begun [] [] goes asks (runs_still p l [] c none (refl, refl))
       (subst (λ (bs : List ℕ). Shows octets bs a.begun (outgoing c)) (sym (append-nil (sent l (entries points)))) a.shows)
-      a.first a.moved (λ b. a.started (born b))
-      (subst (λ (xs : List ℕ). Follows a.begun xs w (IsGoingOn c) (outgoing c).queue)
-      (sym (append-nil (spelled (requests g l points)))) a.follows)
+      (λ b. a.started (born b))
+      (subst (λ (xs : List ℕ). Follows stream a.begun xs w c) (sym (append-nil (spelled (requests g l points)))) a.follows)
       going
 
   elsewhere : (p : Point) (l : ℕ) → Passes g l p → IsAskedOn g (points ++ p ∷ []) l (m.links l)
@@ -209,10 +205,13 @@ module _ (g : NodeConfig) (m : Machine) (points : List Point) (unborn : AreUnbor
       (subst (λ (qs : List history.Point). LeadsWith fresh_client qs [] x.conn) (sym (on_itself k (act move)))
       (leads_one (history.point move found.Silent) fresh_client x.conn [] refl (first_stream, (refl, refl)))))
       (ap (λ (bs : List ℕ). (bs ++ []) ++ octets) none.went)
-      (first_out stream (headers_of to))
-      (first_moved stream (headers_of to))
       (λ b. omega (arith, first_highest stream (headers_of to)))
-      (first_bytes, ap (λ (ms : List (List ℕ)). spelled ms ++ first_bytes) none.requests, λ o. refl)
+      (record {
+        rest = first_bytes;
+        front = ap (λ (ms : List (List ℕ)). spelled ms ++ first_bytes) none.requests;
+        goes = λ on. refl;
+        unused = λ above. absurd (let high = first_highest stream (headers_of to) in omega (arith, high, above));
+      })
       (λ i. refl))
       (λ l apart. passes_dial g l k to whys.Discovery apart)
 
@@ -221,20 +220,22 @@ module _ (g : NodeConfig) (m : Machine) (points : List Point) (unborn : AreUnbor
       → flat_map (went_on l) (entry_in p) ≡ bytes → spelled (request_in g m.held l p) ≡ more
       → LeadsWith fresh_client (moves l points ++ moves_in l p) begun c
       → Shows octets (sent l (entries points) ++ bytes) begun (outgoing c)
-      → AsksOn begun (spelled (requests g l points) ++ more) waiting c → (IsGoing phase → is_over c ≡ false)
+      → IsBorn (m.links l).phase → highest_used (m.links l).conn ≤ highest_used c
+      → Follows stream begun (spelled (requests g l points) ++ more) waiting c → (IsGoing phase → is_over c ≡ false)
       → IsAsked g (points ++ p ∷ []) l phase waiting c
-  made p l phase waiting c begun bytes more goes asks runs shows h going =
-      grown p l phase waiting c begun bytes more goes asks runs shows h.0 h.1 (λ b. h.2) h.3 going
-
-  asks_of : (l : ℕ) → IsBorn (m.links l).phase
-      → AsksOn (asked l).begun (spelled (requests g l points)) (m.links l).waiting (m.links l).conn
-  asks_of l born = ((asked l).first, (asked l).moved, (asked l).started born, (asked l).follows)
+  made p l phase waiting c begun bytes more goes asks runs shows born raised follows going =
+      let used = (asked l).started born in
+      grown p l phase waiting c begun bytes more goes asks runs shows (λ b. omega (arith, used, raised)) follows going
 
   with_none : (l : ℕ) (begun : List RawFrame) (waiting : List ℕ) (c : Connection)
-      → AsksOn begun (spelled (requests g l points)) waiting c
-      → AsksOn begun (spelled (requests g l points) ++ []) waiting c
-  with_none l begun waiting c h =
-      subst (λ (xs : List ℕ). AsksOn begun xs waiting c) (sym (append-nil (spelled (requests g l points)))) h
+      → Follows stream begun (spelled (requests g l points)) waiting c
+      → Follows stream begun (spelled (requests g l points) ++ []) waiting c
+  with_none l begun waiting c follows =
+      subst (λ (xs : List ℕ). Follows stream begun xs waiting c) (sym (append-nil (spelled (requests g l points)))) follows
+
+  -- no number of a stream falls with one move
+  raised : (l : ℕ) (p : history.Point) (d : Connection) → Becomes (m.links l).conn p d → highest_used (m.links l).conn ≤ highest_used d
+  raised l p d becomes = points_raise (m.links l).conn d (p ∷ []) (core_of d, becomes, refl)
 
   -- what was begun waits on
   shows_on : (l : ℕ) (w : Waiting) → w.rest ≡ (outgoing (m.links l).conn).rest
@@ -262,8 +263,10 @@ module _ (g : NodeConfig) (m : Machine) (points : List Point) (unborn : AreUnbor
       (leads_one (history.point (history.wrote n) found.Silent) c (connection.wrote c n) (frames_begun n c) refl
       (within, (refl, refl))))
       (ap₂ (λ (bs xs : List ℕ). (sent k (entries points) ++ bs) ++ xs) (sym all) (wrote_leaves c n) ∙ shown)
+      born (raised k (history.point (history.wrote n) found.Silent) (connection.wrote c n) (within, (refl, refl)))
       (with_none k (a.begun ++ frames_begun n c) x.waiting (connection.wrote c n)
-      (write_asks a.begun (spelled (requests g k points)) x.waiting c n (asks_of k born)))
+      (writes_follow Client (moves k points) (tellings k points) (recv k (entries points)) (sent k (entries points)) c (one k).stands
+      stream n a.begun (spelled (requests g k points)) x.waiting a.follows))
       (λ i. wrote_over c n ∙ going i)))
       (λ l apart. passes_went g l k bytes apart)
 
@@ -344,9 +347,10 @@ module _ (g : NodeConfig) (m : Machine) (points : List Point) (unborn : AreUnbor
       (made p k (phase_by x.phase why) x.waiting new (asked k).begun [] [] refl refl
       (runs_still p k ps new (on_itself k ps) (looks_lead ps x.conn new look.found.looks look.found.runs))
       (shows_on k (outgoing new) (looks_leave ps x.conn new look.found.looks look.found.runs))
+      (subst IsBorn (sym steps.0) tt) (points_raise x.conn new ps look.found.runs)
       (with_none k (asked k).begun x.waiting new
-      (looks_ask (asked k).begun (spelled (requests g k points)) x.waiting ps x.conn new look.found.looks look.found.runs
-      (asks_of k (subst IsBorn (sym steps.0) tt))))
+      (looks_follow Client (moves k points) (tellings k points) (recv k (entries points)) (sent k (entries points)) x.conn (one k).stands
+      new ps told look.found stream (asked k).begun (spelled (requests g k points)) x.waiting (asked k).follows))
       (look_over k told new why steps.0 (λ code is. ap (end_by x.answered (headers_read new)) is) look.found.finds))
       (λ l apart. passes_looked g l k ps told headers apart)
   point_asked (applied k r) n steps =
@@ -359,8 +363,9 @@ module _ (g : NodeConfig) (m : Machine) (points : List Point) (unborn : AreUnbor
       (ap spelled (on_itself k (answer ∷ [])) ∙ append-nil (spelling answer))
       (runs_still p k [] c refl (refl, refl))
       (shows_on k (outgoing c) refl)
-      (more_asks (asked k).begun (spelled (requests g k points)) x.waiting (spelling answer) c
-      (asks_of k (subst IsBorn (sym steps.0) tt)))
+      (subst IsBorn (sym steps.0) tt) (omega arith)
+      (more_follows stream (asked k).begun (spelled (requests g k points)) x.waiting (spelling answer) c
+      ((asked k).started (subst IsBorn (sym steps.0) tt)) (asked k).follows)
       (asked k).goes)
       (λ l apart. passes_applied g l k r apart)
   point_asked (refused k) n steps =
@@ -379,8 +384,10 @@ module _ (g : NodeConfig) (m : Machine) (points : List Point) (unborn : AreUnbor
       (runs_still p k (act move) new (on_itself k (act move))
       (leads_one (history.point move found.Silent) c new [] refl (within, (refl, refl))))
       (shows_on k (outgoing new) (act_leaves c new (history.point move found.Silent) tt (within, (refl, refl))))
+      (subst IsBorn (sym steps.0) tt) (raised k (history.point move found.Silent) new (within, (refl, refl)))
       (with_none k (asked k).begun x.waiting new
-      (credit_asks (asked k).begun (spelled (requests g k points)) x.waiting c n within (asks_of k (subst IsBorn (sym steps.0) tt))))
+      (uses_follow Client (moves k points) (tellings k points) (recv k (entries points)) (sent k (entries points)) c (one k).stands
+      stream n within stream (asked k).begun (spelled (requests g k points)) x.waiting (asked k).follows))
       (λ i. credited_over c stream n ∙ (asked k).goes i))
       (λ l apart. passes_used g l k n apart)
   point_asked (put k bytes) n steps =
@@ -391,19 +398,18 @@ module _ (g : NodeConfig) (m : Machine) (points : List Point) (unborn : AreUnbor
       let new = data_put c stream x.waiting in
       let move = history.put stream x.waiting in
       let go = some_go (own_side_open c stream) count steps.2 in
-      let some : (count == 0) ≡ false = grind (arith, nat_tests, go.1) in
       let size : sendable x ≡ count = ap (λ b. if b then count else 0) go.0 in
-      let active = active_some (streams c) stream (ap (λ b. b || (sides c stream).peer) go.0) in
       linked p k n _ (put_requests x) steps.3 (λ l. refl)
       (made p k x.phase (drop (sendable x) x.waiting) new (asked k).begun [] [] refl refl
       (runs_still p k (act move) new
       (on_itself k (act (history.put stream bytes)) ∙ ap (λ (bs : List ℕ). act (history.put stream bs)) steps.1)
       (leads_one (history.point move found.Silent) c new [] refl (refl, refl)))
       (shows_on k (outgoing new) (act_leaves c new (history.point move found.Silent) tt (refl, refl)))
+      (subst IsBorn (sym steps.0) tt) (raised k (history.point move found.Silent) new (refl, refl))
       (with_none k (asked k).begun (drop (sendable x) x.waiting) new
-      (subst (λ i. AsksOn (asked k).begun (spelled (requests g k points)) (drop i x.waiting) new) (sym size)
-      (put_asks (asked k).begun (spelled (requests g k points)) x.waiting c some (tt, live_over k steps.0, active)
-      (asks_of k (subst IsBorn (sym steps.0) tt)))))
+      (subst (λ i. Follows stream (asked k).begun (spelled (requests g k points)) (drop i x.waiting) new) (sym size)
+      (puts_follow Client (moves k points) (tellings k points) (recv k (entries points)) (sent k (entries points)) c (one k).stands
+      stream (asked k).begun (spelled (requests g k points)) x.waiting go.1 (asked k).follows)))
       (λ i. put_over c stream x.waiting ∙ live_over k steps.0))
       (λ l apart. passes_put g l k bytes apart)
   point_asked (stopped why) n steps =
@@ -416,10 +422,8 @@ begins_asked g l = record {
   begun = [];
   begins = (refl, refl);
   shows = refl;
-  first = first_new Client;
-  moved = ([], refl);
   started = λ born. absurd born;
-  follows = ([], refl, λ o. refl);
+  follows = record { rest = []; front = refl; goes = λ on. refl; unused = λ above. (refl, refl) };
   goes = λ goes. absurd goes;
 }
 
@@ -429,7 +433,8 @@ all_asked g m points (begins is none) = λ l.
     (subst (λ (x : Machine). IsAskedOn g [] l (x.links l)) (sym is) (begins_asked g l))
 all_asked g n more (goes_on {m = m} {points = points} before p steps grows) =
     subst (AreAsked g n) (sym grows)
-    (point_asked g m points (are_unborn g m points before) (held_is g m points before) (all_asked g m points before) p n steps)
+    (point_asked g m points (are_unborn g m points before) (held_is g m points before) (all_one g m points before)
+    (all_asked g m points before) p n steps)
 
 pub obey_requests : RunsObeyRequests
 obey_requests g m points stands l control =
@@ -439,8 +444,8 @@ obey_requests g m points stands l control =
       begun = a.begun;
       owed = out.rest;
       went = a.shows;
-      rest = payloads out.queue ++ a.follows.0;
-      front = a.follows.1
-          ∙ ap (λ (xs : List ℕ). xs ++ a.follows.0) (flat_map-append payload_of a.begun out.queue)
-          ∙ append_assoc (payloads a.begun) (payloads out.queue) a.follows.0;
+      rest = payloads stream out.queue ++ a.follows.rest;
+      front = a.follows.front
+          ∙ ap (λ (xs : List ℕ). xs ++ a.follows.rest) (flat_map-append (payload_on stream) a.begun out.queue)
+          ∙ append_assoc (payloads stream a.begun) (payloads stream out.queue) a.follows.rest;
     }

@@ -10,11 +10,12 @@ use Rattle.hb_conn.specs.Preface.{octets}
 use Rattle.hb_history.specs.Answered.{answer_to, is_answer}
 use Rattle.hb_history.specs.OwnCredits.{IsGrantedAgain}
 use Rattle.hb_history.specs.Sending.{increments, size_with}
+use Rattle.hb_kept.specs.Payloads.{payloads}
 use Rattle.hb_world.specs.Trace.{recv, sent}
 use Rattle.hb_model.specs.declared.config.NodeConfig.{NodeConfig}
 use Rattle.hb_model.specs.Discovery.{stream, spelled}
 use Rattle.hb_model.specs.Point.{Point, entries}
-use Rattle.hb_model.specs.Requests.{requests, payload_of}
+use Rattle.hb_model.specs.Requests.{requests}
 
 -- A window is used up, by the frames that went and those that came: what the peer granted on the connection, or on the stream,
 -- is no more than the payload of the DATA frames that went. A stream's window begins with the size that the peer set last
@@ -35,7 +36,7 @@ pub record IsAllPut (g : NodeConfig) (points : List Point) (l : ℕ) : Type 0 wh
   pub went : sent l (entries points) ≡ octets ++ outgoing.spelled gone
   pub answers : filter is_answer gone ≡ flat_map answer_to got
   pub rest : List ℕ
-  pub front : spelled (requests g l points) ≡ flat_map payload_of gone ++ rest
+  pub front : spelled (requests g l points) ≡ payloads stream gone ++ rest
   pub waits : (rest ≡ []) ⊎ IsUsedUp gone got
   pub connection_credit : IsGrantedAgain (increments 0 gone) (data_size None got)
   pub stream_credit : IsGrantedAgain (increments stream gone) (data_size (Some stream) got)

@@ -1,13 +1,12 @@
 -- The requests to the control plane.
-use Rattle.std.specs.Prelude.{◌≡◌, ℕ, ◌==◌, ◌&&◌, if◌then◌else◌, List, [], ◌∷◌, ◌++◌}
-use Rattle.std.specs.List.{flat_map}
+use Rattle.std.specs.Prelude.{◌≡◌, ℕ, ◌==◌, if◌then◌else◌, List, [], ◌∷◌, ◌++◌}
 use Rattle.hb_frames.specs.RawFrame.{RawFrame}
-use Rattle.hb_frames.specs.Numbers.{data_kind}
 use Rattle.hb_base.specs.declared.door.Why.{Why}
 use Rattle.hb_base.specs.declared.door.Why.TheVariants as whys
 use Rattle.hb_held.specs.Held.{Resources, nothing_held}
 use Rattle.hb_conn.specs.Preface.{octets}
 use Rattle.hb_outgoing.specs.Waiting as outgoing
+use Rattle.hb_kept.specs.Payloads.{payloads}
 use Rattle.hb_world.specs.Trace.{sent}
 use Rattle.hb_world.specs.declared.entry.Entry.TheVariants as e
 use Rattle.hb_model.specs.declared.config.NodeConfig.{NodeConfig}
@@ -36,10 +35,6 @@ requests_from g held l (p ∷ points) = request_in g held l p ++ requests_from g
 abbrev pub requests : NodeConfig → ℕ → List Point → List (List ℕ)
 requests g l points = requests_from g (nothing_held g.network g.node) l points
 
--- the payload of a DATA frame of the link's stream
-abbrev pub payload_of : RawFrame → List ℕ
-payload_of f = if f.kind == data_kind && f.stream == stream then f.payload else []
-
 -- What went on a link is, after the opening, frames, of which the last may be in part; the DATA in them is a front of the
 -- requests, each in the spelling of a message
 pub record AreRequests (g : NodeConfig) (points : List Point) (l : ℕ) : Type 0 where
@@ -47,7 +42,7 @@ pub record AreRequests (g : NodeConfig) (points : List Point) (l : ℕ) : Type 0
   pub owed : List ℕ
   pub went : sent l (entries points) ++ owed ≡ octets ++ outgoing.spelled begun
   pub rest : List ℕ
-  pub front : spelled (requests g l points) ≡ flat_map payload_of begun ++ rest
+  pub front : spelled (requests g l points) ≡ payloads stream begun ++ rest
 
 -- so it is of each link to the control plane
 abbrev pub RequestLaw : NodeConfig → List Point → Type 0
