@@ -42,9 +42,9 @@ module _ (opens_new : OpensNew) where
       (λ s end d finds. opens_new l start a parts before s end d finds) steps)
 
   module _ (l : ℕ) (start : Resources) (a : Local) (before : List Part) (stands : StandsFor l start a before) where
-    at_stage : (s : ℕ) (stage : Stage) → (a.link.tunnels s).stage ≡ stage
+    pub said_at : (s : ℕ) (stage : Stage) → (a.link.tunnels s).stage ≡ stage
         → SaysBy stage (life start s before) (up_of s before) (a.link.tunnels s)
-    at_stage s stage is =
+    said_at s stage is =
         subst (λ (st : Stage). SaysBy st (life start s before) (up_of s before) (a.link.tunnels s)) is
         ((all_say l start a before stands).each s)
 
@@ -55,13 +55,13 @@ module _ (opens_new : OpensNew) where
     is_live how target is = subst Lives (sym is) tt
 
     live_at : (s : ℕ) → (a.link.tunnels s).stage ≡ live → Lives (life start s before)
-    live_at s is = is_live (life start s before) (a.link.tunnels s).target (at_stage s live is).life
+    live_at s is = is_live (life start s before) (a.link.tunnels s).target (said_at s live is).life
 
     opening_at : (s : ℕ) → (a.link.tunnels s).stage ≡ opening → IsPending (life start s before)
-    opening_at s is = is_pending (life start s before) (a.link.tunnels s).target (at_stage s opening is).life
+    opening_at s is = is_pending (life start s before) (a.link.tunnels s).target (said_at s opening is).life
 
     due_at : (s : ℕ) → (a.link.tunnels s).stage ≡ due → IsPending (life start s before)
-    due_at s is = is_pending (life start s before) (a.link.tunnels s).target (at_stage s due is).0.life
+    due_at s is = is_pending (life start s before) (a.link.tunnels s).target (said_at s due is).0.life
 
     -- where all is quiet every tunnel that ended has no upstream that isn't closed
     quiet_closed : IsQuiet a.link → EndedAreClosed start before
@@ -124,7 +124,7 @@ module _ (opens_new : OpensNew) where
     up_stands s (e.Ended u) may = live_at s may.0.1
     up_stands s (e.Went u bytes) may = live_at s may.0.1
     up_stands s (e.Shut u) may = live_at s may.1
-    up_stands s (e.Closed u why) may = (at_stage s (over why) may.1).life
+    up_stands s (e.Closed u why) may = (said_at s (over why) may.1).life
     up_stands s (e.Broke u) (inl may) = inl (opening_at s may.1)
     up_stands s (e.Broke u) (inr may) = inr (live_at s may.1)
     up_stands s (e.Balked (way.Finish u)) may = inl (opening_at s may.1)
@@ -162,7 +162,7 @@ module _ (opens_new : OpensNew) where
   end_with l start a parts stands = at_parts l start (EndsAt start) (next l start) a parts stands
 
 -- no stream is opened twice
-new_streams : OpensNew
+pub new_streams : OpensNew
 new_streams l start a parts stands s end d finds =
     let number = told_are_numbered (moves parts) (tellings parts) (conn_came parts) (link_went parts) a.link.conn d (found.Opened s end)
     (all_keep l start a parts stands).one.stands finds in

@@ -19,6 +19,7 @@ pub mod Sending
 pub mod SendsRun
 pub mod Stages
 pub mod Updating
+pub mod VerdictRun
 pub mod Waiting
 pub mod WaitingRun
 pub mod WindowsRun

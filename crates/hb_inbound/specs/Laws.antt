@@ -7,6 +7,7 @@ use Rattle.hb_inbound.specs.Ends.{EndLaw}
 use Rattle.hb_inbound.specs.Part.{Part}
 use Rattle.hb_inbound.specs.Relay.{RelayUpLaw, RelayDownLaw}
 use Rattle.hb_inbound.specs.Runs.{Local, StandsFor}
+use Rattle.hb_inbound.specs.Verdicts.{VerdictLaw}
 
 -- the link's connection is one history
 abbrev pub RunsObeyConnections : Type 0
@@ -31,3 +32,7 @@ RunsRelayUp = (l : ℕ) (start : Resources) (a : Local) (parts : List Part) → 
 -- the DATA that goes on a stream is a front of what came from its upstream
 abbrev pub RunsRelayDown : Type 0
 RunsRelayDown = (l : ℕ) (start : Resources) (a : Local) (parts : List Part) → StandsFor l start a parts → RelayDownLaw parts
+
+-- each request gets the first answer that applies, and each answer is put at its point
+abbrev pub RunsAnswer : Type 0
+RunsAnswer = (l : ℕ) (start : Resources) (a : Local) (parts : List Part) → StandsFor l start a parts → VerdictLaw start parts

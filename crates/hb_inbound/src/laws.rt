@@ -1,7 +1,7 @@
 //! Small steps that no run of an inbound link takes, and what an update does. Each is the contract of a function that does nothing.
 
 ghost use Rattle.hb_inbound.specs.Refused.{DialsUnasked, AcceptsUnopened, WritesUnopened, ShutsEarly, EndsEarly, WritesRevoked};
-ghost use Rattle.hb_inbound.specs.Laws.{RunsAdmit, RunsEnd, RunsObeyConnections, RunsObeyWindows, RunsRelayDown, RunsRelayUp};
+ghost use Rattle.hb_inbound.specs.Laws.{RunsAdmit, RunsAnswer, RunsEnd, RunsObeyConnections, RunsObeyWindows, RunsRelayDown, RunsRelayUp};
 ghost use Rattle.hb_inbound.specs.RefusedRuns.{WritesBehind, GoesOnBehind, PutsBehind, ReadsBehind, ClosesForAnother, ClosesAdmitted};
 ghost use Rattle.hb_inbound.specs.RefusedRuns.{DialsUnbidden, GoesOnAdmitted, ClosesRevoked};
 ghost use Rattle.hb_inbound.specs.RelayRefused.{InventsByte, WritesFront, InventsDown, GoesDown, EndsWaiting};
@@ -42,6 +42,12 @@ pub fn connections_are_histories()
 /// tunnel's peer at its target.
 pub fn peers_are_admitted()
     ensures { RunsAdmit }
+{}
+
+/// Each request is answered with the first answer that applies, by the resources held then: it is reset or refused, or its target is
+/// dialled and 200 is put once that is open (RFC 9113 section 8.5). Each answer is put before anything more is looked at on the link.
+pub fn requests_are_answered()
+    ensures { RunsAnswer }
 {}
 
 /// A tunnel ends for the first cause that applies, by an update exactly where that no longer admits its peer. Behind its end nothing
