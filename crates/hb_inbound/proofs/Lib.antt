@@ -20,6 +20,7 @@ pub mod SendsRun
 pub mod Stages
 pub mod Updating
 pub mod VerdictRun
+pub mod VerdictsRefused
 pub mod Waiting
 pub mod WaitingRun
 pub mod WindowsRun

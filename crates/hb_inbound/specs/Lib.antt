@@ -14,3 +14,4 @@ pub mod Runs
 pub mod Sides
 pub mod Tunnel
 pub mod Verdicts
+pub mod VerdictsRefused

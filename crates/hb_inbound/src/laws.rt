@@ -5,6 +5,8 @@ ghost use Rattle.hb_inbound.specs.Laws.{RunsAdmit, RunsAnswer, RunsEnd, RunsObey
 ghost use Rattle.hb_inbound.specs.RefusedRuns.{WritesBehind, GoesOnBehind, PutsBehind, ReadsBehind, ClosesForAnother, ClosesAdmitted};
 ghost use Rattle.hb_inbound.specs.RefusedRuns.{DialsUnbidden, GoesOnAdmitted, ClosesRevoked};
 ghost use Rattle.hb_inbound.specs.RelayRefused.{InventsByte, WritesFront, InventsDown, GoesDown, EndsWaiting};
+ghost use Rattle.hb_inbound.specs.VerdictsRefused.{DecidesUnasked, AcceptsUnasked, RefusesUnasked, ResetsUnasked};
+ghost use Rattle.hb_inbound.specs.VerdictsRefused.{LooksFirst, AcceptsEarly, RequestMayCome};
 ghost use Rattle.hb_inbound.specs.Refused.{PutsRevoked, KeepsAdmitted, KeepsPlaceless, EndsOthers};
 
 /// Nothing is dialled that wasn't asked for, 200 isn't put nor are bytes written before the upstream is open, and no way ends
@@ -91,4 +93,16 @@ pub fn invented_bytes_are_refused()
     ensures invents_down { InventsDown }
     ensures front_down { GoesDown }
     ensures ends { EndsWaiting }
+{}
+
+/// Nothing is decided, accepted, refused or reset that nothing asked for, 200 isn't put in front of the upstream's opening, and no more is
+/// looked at while a request waits for its answer. A request may come.
+pub fn unasked_answers_are_refused()
+    ensures decides { DecidesUnasked }
+    ensures accepts { AcceptsUnasked }
+    ensures refuses { RefusesUnasked }
+    ensures resets { ResetsUnasked }
+    ensures looks { LooksFirst }
+    ensures early { AcceptsEarly }
+    ensures comes { RequestMayCome }
 {}
