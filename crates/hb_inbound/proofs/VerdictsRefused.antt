@@ -1,8 +1,6 @@
 -- Answers that the law of verdicts refuses, and a request that may come, proved.
-use Rattle.std.proofs.Common.{◌≡◌, inl, inr, ℕ, Bool, List, [], ◌∷◌, ◌++◌, refl, sym, ◌∙◌, subst}
+use Rattle.std.proofs.Common.{◌≡◌, inl, inr, List, [], ◌∷◌, ◌++◌, refl, subst}
 use Rattle.hb_conn.specs.declared.found.Found.TheVariants as found
-use Rattle.hb_held.specs.Held.{Resources}
-use Rattle.hb_hpack.specs.declared.header.HeaderList.{HeaderList}
 use Rattle.hb_verdict.specs.declared.verdict.Verdict.{Verdict}
 use Rattle.hb_verdict.specs.declared.verdict.Verdict.TheVariants.{Status, Reset, Dial}
 use Rattle.hb_inbound.specs.Part.{Part, looked, decided, accepted, refused, reset}
