@@ -317,7 +317,7 @@ by_told : (n : ℕ) (first told : Found) (c d : Connection) → (n ≡ length (c
     → On n first (core_of c) (core_of d) → CreditableBehind told c d
 by_told n first (found.Chunk k end) c d size same is =
     let comes = subst (λ i. Comes i k (core_of c) (core_of d)) size (chunk_by n k end first (core_of c) (core_of d) same is) in
-    record { fits = comes.fits; here = comes.here; others = comes.others }
+    record { was = comes.was; fits = comes.fits; here = comes.here; others = comes.others }
 by_told n first (found.Opened k end) c d size same is = opened_by n k end first (core_of c) (core_of d) same is
 by_told n first (found.Fault code) c d size same is = tt
 by_told n first found.Silent c d size same is = unmarked n first (core_of c) (core_of d) same is
@@ -372,7 +372,8 @@ pub none_added_is_refused : NoneAddedIsRefused
 none_added_is_refused k c peer none adds = absurd (omega (arith, adds.here peer, none))
 
 pub all_may_come : AllMayCome
-all_may_come k c d none closed others = record {
+all_may_come k c d was none closed others = record {
+  was = was;
   fits = omega (arith, none);
   here = λ peer. absurd (false≢true (sym closed ∙ peer));
   others = others;

@@ -23,8 +23,10 @@ LeavesCreditable c d = (stream : ℕ) → IsCreditable stream (creditable c stre
 abbrev pub LeavesOthersCreditable : ℕ → Connection → Connection → Type 0
 LeavesOthersCreditable stream c d = (other : ℕ) → other ≢ stream → IsCreditable other (creditable c other) d
 
--- the octets of DATA that are handed out are added to them, and all together fit the window, also where the DATA ends the peer's side
+-- The octets of DATA that are handed out are added to them, and all together fit the window, also where the DATA ends the peer's side,
+-- which was open before
 pub record AddsTo (stream n : ℕ) (c d : Connection) : Type 0 where
+  pub was : (sides c stream).peer ≡ true
   pub fits : creditable c stream + n ≤ first_size
   pub here : IsCreditable stream (creditable c stream + n) d
   pub others : LeavesOthersCreditable stream c d
@@ -73,5 +75,5 @@ NoneAddedIsRefused = (stream : ℕ) (c : Connection) → (sides c stream).peer �
 
 -- where none waits a whole window may come
 abbrev pub AllMayCome : Type 0
-AllMayCome = (stream : ℕ) (c d : Connection) → creditable c stream ≡ 0 → (sides d stream).peer ≡ false → LeavesOthersCreditable stream c d
-    → AddsTo stream 65535 c d
+AllMayCome = (stream : ℕ) (c d : Connection) → (sides c stream).peer ≡ true → creditable c stream ≡ 0 → (sides d stream).peer ≡ false
+    → LeavesOthersCreditable stream c d → AddsTo stream 65535 c d
