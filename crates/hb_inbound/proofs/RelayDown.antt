@@ -7,7 +7,7 @@ use Rattle.std.proofs.lemmas.Grind.{flat_map-append}
 use Rattle.std.proofs.lemmas.List.{append-nil, append_assoc, nil_from_length}
 use Rattle.hb_conn.specs.Observed.{outgoing, streams, sides}
 use Rattle.hb_frames.specs.Numbers.{data_kind}
-use Rattle.hb_frames.specs.RawFrame.{RawFrame, spelling}
+use Rattle.hb_frames.specs.RawFrame.{RawFrame}
 use Rattle.hb_held.specs.Held.{Resources}
 use Rattle.hb_history.specs.TakenBack.{has_data_on}
 use Rattle.hb_history.proofs.Lives.{active_some}
