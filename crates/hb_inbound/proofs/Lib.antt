@@ -1,12 +1,14 @@
 pub mod AccessRun
 pub mod Admitted
 pub mod AdmittedRun
+pub mod DialsRun
 pub mod EndsRun
 pub mod Grown
 pub mod Histories
 pub mod Left
 pub mod Life
 pub mod LifeRun
+pub mod RefusedEnds
 pub mod RefusedRuns
 pub mod Refusing
 pub mod RelayDown

@@ -3,6 +3,7 @@ use Rattle.std.specs.Prelude.{ℕ, List}
 use Rattle.hb_held.specs.Held.{Resources}
 use Rattle.hb_inbound.specs.Access.{AccessLaw}
 use Rattle.hb_inbound.specs.Connections.{ConnectionLaw, WindowLaw}
+use Rattle.hb_inbound.specs.Dials.{DialLaw}
 use Rattle.hb_inbound.specs.Ends.{EndLaw}
 use Rattle.hb_inbound.specs.Part.{Part}
 use Rattle.hb_inbound.specs.Relay.{RelayUpLaw, RelayDownLaw}
@@ -25,6 +26,10 @@ RunsAdmit = (l : ℕ) (start : Resources) (a : Local) (parts : List Part) → St
 -- each tunnel ends for the first cause that applies, and nothing is done for it afterwards but its close
 abbrev pub RunsEnd : Type 0
 RunsEnd = (l : ℕ) (start : Resources) (a : Local) (parts : List Part) → StandsFor l start a parts → EndLaw start parts
+
+-- each dial goes to the target that was asked for, and none is left out
+abbrev pub RunsDial : Type 0
+RunsDial = (l : ℕ) (start : Resources) (a : Local) (parts : List Part) → StandsFor l start a parts → DialLaw start parts
 
 -- what is written to an upstream is a front of the DATA that came on its stream
 abbrev pub RunsRelayUp : Type 0

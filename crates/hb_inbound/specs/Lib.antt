@@ -2,11 +2,13 @@ pub mod Access
 pub mod Block
 pub mod Calm
 pub mod Connections
+pub mod Dials
 pub mod Ends
 pub mod Inbound
 pub mod Laws
 pub mod Part
 pub mod Refused
+pub mod RefusedEnds
 pub mod RefusedRuns
 pub mod Relay
 pub mod RelayRefused

@@ -2,13 +2,16 @@
 
 ghost use Rattle.hb_inbound.specs.Refused.{DialsUnasked, AcceptsUnopened, WritesUnopened, ShutsEarly, EndsEarly, WritesRevoked};
 ghost use Rattle.hb_inbound.specs.Laws.{RunsAdmit, RunsAnswer, RunsEnd, RunsObeyConnections, RunsObeyWindows, RunsRelayDown, RunsRelayUp};
-ghost use Rattle.hb_inbound.specs.Laws.{RunsFitRings};
+ghost use Rattle.hb_inbound.specs.Dials.{DialsElsewhere, LeavesOutDial, DialsTwice, DialsForAnother, DialMayGo};
+ghost use Rattle.hb_inbound.specs.Laws.{RunsDial, RunsFitRings};
 ghost use Rattle.hb_inbound.specs.Rings.{ComesBeyond, WindowMayCome};
 ghost use Rattle.hb_inbound.specs.RefusedRuns.{WritesBehind, GoesOnBehind, PutsBehind, ReadsBehind, ClosesForAnother, ClosesAdmitted};
 ghost use Rattle.hb_inbound.specs.RefusedRuns.{DialsUnbidden, GoesOnAdmitted, ClosesRevoked};
+ghost use Rattle.hb_inbound.specs.RefusedEnds.{FinishesBehind, DialsBehind, OpensBehind, ClosesUnended, ShutsPending, LosesByte};
 ghost use Rattle.hb_inbound.specs.RelayRefused.{InventsByte, WritesFront, InventsDown, GoesDown, EndsWaiting};
 ghost use Rattle.hb_inbound.specs.VerdictsRefused.{DecidesUnasked, AcceptsUnasked, RefusesUnasked, ResetsUnasked};
 ghost use Rattle.hb_inbound.specs.VerdictsRefused.{LooksFirst, AcceptsEarly, RequestMayCome};
+ghost use Rattle.hb_inbound.specs.VerdictsRefused.{RefusesKnown, RefusesByThePast, DialsAnother};
 ghost use Rattle.hb_inbound.specs.Refused.{PutsRevoked, KeepsAdmitted, KeepsPlaceless, EndsOthers};
 
 /// Nothing is dialled that wasn't asked for, 200 isn't put nor are bytes written before the upstream is open, and no way ends
@@ -32,6 +35,28 @@ pub fn updates_end_exactly()
     ensures admitted { KeepsAdmitted }
     ensures placeless { KeepsPlaceless }
     ensures others { EndsOthers }
+{}
+
+/// Behind an update that no longer admits the peer of a tunnel its stream isn't ended, and a pending one isn't dialled, nor is its upstream
+/// opened. An upstream isn't closed while nothing ended its tunnel, nor shut in front of 200, and no byte is left out in the middle.
+pub fn careless_ends_are_refused()
+    ensures finishes { FinishesBehind }
+    ensures dials { DialsBehind }
+    ensures opens { OpensBehind }
+    ensures closes { ClosesUnended }
+    ensures shuts { ShutsPending }
+    ensures loses { LosesByte }
+{}
+
+/// Each dial goes to the target that its request was answered with, for its stream, once, and before anything is read or written on the
+/// link or on an upstream. A dial elsewhere, a second one, one for another stream and one that is left out are refused.
+pub fn targets_are_dialled()
+    ensures runs { RunsDial }
+    ensures elsewhere { DialsElsewhere }
+    ensures left_out { LeavesOutDial }
+    ensures twice { DialsTwice }
+    ensures another { DialsForAnother }
+    ensures good { DialMayGo }
 {}
 
 /// What waits on each way of a tunnel fits its ring: on the way up no more than the window of its stream, with what isn't given back to
@@ -115,4 +140,12 @@ pub fn unasked_answers_are_refused()
     ensures looks { LooksFirst }
     ensures early { AcceptsEarly }
     ensures comes { RequestMayCome }
+{}
+
+/// A request that is to be dialled by what is held at its point isn't refused, neither as if its target weren't known nor by a policy that
+/// was held before and no longer is, and no other target is dialled for it.
+pub fn wrong_verdicts_are_refused()
+    ensures known { RefusesKnown }
+    ensures past { RefusesByThePast }
+    ensures another { DialsAnother }
 {}
