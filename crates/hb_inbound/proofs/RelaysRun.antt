@@ -1,5 +1,5 @@
 -- What comes on a stream goes up, or waits, in every run of a link.
-use Rattle.std.proofs.Common.{◌≡◌, ℕ, ◌≤◌, ◌==◌, ◌&&◌, Bool, true, false, cond, List, [], ◌∷◌, ◌++◌, length, drop, Option, refl, ap, sym, ◌∙◌, subst, arith}
+use Rattle.std.proofs.Common.{◌≡◌, ℕ, ◌+◌, ◌≤◌, ◌==◌, ◌&&◌, Bool, true, false, cond, List, [], ◌∷◌, ◌++◌, length, drop, Option, refl, ap, sym, ◌∙◌, subst, arith}
 use Rattle.std.specs.List.{flat_map}
 use Rattle.std.proofs.lemmas.Bool.{false≢true, cond_both, eq-eqb, ne_eqb}
 use Rattle.std.proofs.lemmas.List.{append-nil}
@@ -39,7 +39,7 @@ use Rattle.hb_inbound.specs.Sides as sides
 use Rattle.hb_inbound.specs.Tunnel.{Tunnel, Stage, unasked, requested, refusing, malformed, due, opening, accepting, live, failed, ended, over, gone, is_live, is_unanswered, takes_place, at_stage, asked, ends_for, left_with, up_entered, came_up, peer_ended, requested_with}
 use Rattle.hb_inbound.proofs.Admitted.{at_one}
 use Rattle.hb_inbound.proofs.Runs.{Keeps, FrontBy, all_keep}
-use Rattle.hb_inbound.proofs.Relaying.{told_on, told_data, is_asked, comes_ended, Relays, was_more, was_now, grows, same_stage, later, ends_follow, left_follows, Alike, quiet}
+use Rattle.hb_inbound.proofs.Relaying.{told_on, told_data, is_asked, comes_ended, Relays, none_in, was_more, was_now, grows, same_stage, later, ends_follow, left_follows, Alike, quiet}
 
 still : (n : ℕ) → n ≤ n
 still n = omega arith
@@ -48,16 +48,16 @@ swapped : (k s : ℕ) → (k == s) ≡ false → (s == k) ≡ false
 swapped k s apart = ne_eqb s k (λ is. false≢true (sym apart ∙ eq-eqb k s (sym is)))
 
 same_tunnel : (t : Tunnel) → Alike t t
-same_tunnel t = record { way = refl; stage = same_stage t.stage }
+same_tunnel t = record { way = refl; went = refl; stage = same_stage t.stage }
 
 ends_alike : (why : Cause) (t : Tunnel) → Alike t (ends_for why t)
-ends_alike why t = record { way = refl; stage = ends_follow why t.stage }
+ends_alike why t = record { way = refl; went = refl; stage = ends_follow why t.stage }
 
 gone_alike : (t : Tunnel) → (t.stage ≡ unasked → ⊥) → Alike t (at_stage gone t)
-gone_alike t some = record { way = refl; stage = later t.stage gone some refl refl refl }
+gone_alike t some = record { way = refl; went = refl; stage = later t.stage gone some refl refl refl }
 
 left_alike : (why : Cause) (t : Tunnel) → (t.stage ≡ unasked → ⊥) → Alike t (left_with why t)
-left_alike why t some = record { way = refl; stage = left_follows why t some }
+left_alike why t some = record { way = refl; went = refl; stage = left_follows why t some }
 
 refuses_alike : (x : Inbound) (l s n : ℕ) (stage : Stage) (made : Note) (next : Tunnel) → (x.tunnels s).stage ≡ stage
     → Refuses l s x stage n made next → Alike (x.tunnels s) next
@@ -125,9 +125,9 @@ not_asked (ended why) calm = refl
 not_asked (over why) calm = refl
 not_asked gone calm = refl
 
-none_behind : (went held : List ℕ) → [] ≡ went ++ held → held ≡ []
-none_behind [] held is = sym is
-none_behind (x ∷ xs) held is = absurd (cc)
+-- with none more it is the same number
+none_more : (n : ℕ) → n ≡ n + 0
+none_more n = omega arith
 
 module _ (l : ℕ) (start : Resources) (a : Local) (parts : List Part) (keeps : Keeps parts a.link)
     (relays : (s : ℕ) → Relays parts a.link.conn s (a.link.tunnels s)) where
@@ -212,7 +212,7 @@ module _ (l : ℕ) (start : Resources) (a : Local) (parts : List Part) (keeps : 
       all_quiet (entry (e.Went k bytes)) (entered (e.Went k bytes) a.link) (λ s. refl, λ s. refl)
       (subst (λ (t : States). highest_used a.link.conn ≤ t.highest) (sym (writes_leave a.link.conn (length bytes)))
       (still (highest_used a.link.conn)))
-      (λ s. record { way = refl; stage = same_stage (a.link.tunnels s).stage })
+      (λ s. record { way = refl; went = refl; stage = same_stage (a.link.tunnels s).stage })
   entry_now (e.Broke k) may = broken_now (entry (e.Broke k)) (λ s. refl, λ s. refl) a.link.phase
   entry_now (e.Closed k why) may =
       calm_quiet (entry (e.Closed k why)) (entered (e.Closed k why) a.link) (λ s. refl, λ s. refl) refl (λ s. same_tunnel (a.link.tunnels s))
@@ -248,6 +248,7 @@ module _ (l : ℕ) (start : Resources) (a : Local) (parts : List Part) (keeps : 
       ∙ ap (λ (xs : List ℕ). bytes ++ xs) (sym (ap (drop (length bytes)) is ∙ drop-append_seam bytes rest)))
       (still (highest_used a.link.conn)) (λ above. (((relays k).new above).0, refl))
       (λ asks. absurd (false≢true (sym (ap is_asked lives) ∙ asks)))
+      (ap (λ (n : ℕ). n + length bytes) (relays k).counts)
       (λ now. was_more (is_accept k) parts p ((relays k).lives now))
       (λ now. was_more (is_peer_end k) parts p ((relays k).ends now))
       (λ now. was_more (is_peer_end k) parts p ((relays k).asked now)) (relays k))
@@ -257,16 +258,16 @@ module _ (l : ℕ) (start : Resources) (a : Local) (parts : List Part) (keeps : 
   up_now : (k : ℕ) (z : Entry) → UpMayCome l k a.link (a.link.tunnels k) z → UpNow k z
   up_now k (e.Dialled u to why) may =
       up_quiet k (e.Dialled u to why) refl
-      (record { way = refl; stage = later (a.link.tunnels k).stage opening (λ none. (let both = sym none ∙ may.1 in cc)) refl refl refl })
+      (record { way = refl; went = refl; stage = later (a.link.tunnels k).stage opening (λ none. (let both = sym none ∙ may.1 in cc)) refl refl refl })
   up_now k (e.DialFailed to why) may = up_quiet k (e.DialFailed to why) refl (ends_alike cause.UpFault (a.link.tunnels k))
   up_now k (e.Opened u) may =
       up_quiet k (e.Opened u) refl
-      (record { way = refl; stage = later (a.link.tunnels k).stage accepting (λ none. (let both = sym none ∙ may.1 in cc)) refl refl refl })
-  up_now k (e.Came u bytes) may = up_quiet k (e.Came u bytes) refl (record { way = refl; stage = same_stage (a.link.tunnels k).stage })
-  up_now k (e.Ended u) may = up_quiet k (e.Ended u) refl (record { way = refl; stage = same_stage (a.link.tunnels k).stage })
+      (record { way = refl; went = refl; stage = later (a.link.tunnels k).stage accepting (λ none. (let both = sym none ∙ may.1 in cc)) refl refl refl })
+  up_now k (e.Came u bytes) may = up_quiet k (e.Came u bytes) refl (record { way = refl; went = refl; stage = same_stage (a.link.tunnels k).stage })
+  up_now k (e.Ended u) may = up_quiet k (e.Ended u) refl (record { way = refl; went = refl; stage = same_stage (a.link.tunnels k).stage })
   up_now k (e.Went u bytes) may = up_went_now k u bytes may.2.0 may.0.1 may.2.1
   up_now k (e.Broke u) may = up_quiet k (e.Broke u) refl (ends_alike cause.UpFault (a.link.tunnels k))
-  up_now k (e.Shut u) may = up_quiet k (e.Shut u) refl (record { way = refl; stage = same_stage (a.link.tunnels k).stage })
+  up_now k (e.Shut u) may = up_quiet k (e.Shut u) refl (record { way = refl; went = refl; stage = same_stage (a.link.tunnels k).stage })
   up_now k (e.Closed u why) may =
       up_quiet k (e.Closed u why) refl (gone_alike (a.link.tunnels k) (λ none. (let both = sym none ∙ may.1 in cc)))
   up_now k (e.Balked w) may = up_quiet k (e.Balked w) refl (same_tunnel (a.link.tunnels k))
@@ -301,12 +302,12 @@ module _ (l : ℕ) (start : Resources) (a : Local) (parts : List Part) (keeps : 
           let p = looked ps told headers in
           let t = a.link.tunnels s in
           let number = numbered told look in
-          let none : t.ways.up.held ≡ [] =
-          none_behind (up_went s parts) t.ways.up.held (sym ((relays s).new number.0).1 ∙ (relays s).front) in
+          let none = none_in (up_went s parts) t.ways.up.held (sym ((relays s).new number.0).1 ∙ (relays s).front) in
           grows parts p a.link.conn d s t (requested_with headers end) [] [] (comes told look s) refl
-          (append-nil t.ways.up.held ∙ none) (rises told look)
+          (append-nil t.ways.up.held ∙ none.0) (rises told look)
           (λ above. absurd (let same = number.1 in omega (arith, same, above)))
-          (λ asks. refl) (λ now. absurd (false≢true now)) (λ now. absurd (false≢true now))
+          (λ asks. (refl, append-nil (up_went s parts) ∙ none.1)) (sym (ap length none.1) ∙ none_more (length (up_went s parts)))
+          (λ now. absurd (false≢true now)) (λ now. absurd (false≢true now))
           (λ now. was_now (is_peer_end s) parts p (ap (λ (b : Bool). b && end) (eq-eqb s s refl) ∙ now)) (relays s)
 
       chunk_here : (s : ℕ) (end : Bool) → Looks (found.Chunk s end)
@@ -320,7 +321,7 @@ module _ (l : ℕ) (start : Resources) (a : Local) (parts : List Part) (keeps : 
           grows parts p a.link.conn d s t (came_up bytes t) bytes []
           (comes told look s ∙ ap (λ (b : Bool). cond b bytes []) (eq-eqb s s refl)) refl refl (rises told look)
           (λ above. absurd (let low = number in omega (arith, low, above)))
-          (λ asks. asks_not s asks)
+          (λ asks. asks_not s asks) ((relays s).counts ∙ none_more (length (up_went s parts)))
           (λ now. was_more (is_accept s) parts p ((relays s).lives now))
           (λ now. was_more (is_peer_end s) parts p ((relays s).ends now))
           (λ now. was_more (is_peer_end s) parts p ((relays s).asked now)) (relays s)
@@ -334,7 +335,7 @@ module _ (l : ℕ) (start : Resources) (a : Local) (parts : List Part) (keeps : 
           let up = rises told look in
           grows parts p a.link.conn d s t (peer_ended t) [] [] (comes told look s) refl (append-nil t.ways.up.held) up
           (λ above. (((relays s).new (omega (arith, up, above))).0, refl))
-          (λ asks. asks_not s asks)
+          (λ asks. asks_not s asks) ((relays s).counts ∙ none_more (length (up_went s parts)))
           (λ now. was_more (is_accept s) parts p ((relays s).lives now))
           (λ now. was_now (is_peer_end s) parts p (eq-eqb s s refl))
           (λ now. was_more (is_peer_end s) parts p ((relays s).asked now)) (relays s)
@@ -382,25 +383,27 @@ module _ (l : ℕ) (start : Resources) (a : Local) (parts : List Part) (keeps : 
       (still (highest_used a.link.conn)) (here answer end is)
     where
       made : (p : Part) (end : Bool) (new : Tunnel) → (a.link.tunnels s).stage ≡ requested headers end → flat_map (data_by s) (moves_in p) ≡ []
-          → up_went_in s p ≡ [] → new.ways.up.held ≡ [] → is_live new.stage ≡ false → comes_ended new.stage ≡ false
+          → up_went_in s p ≡ [] → new.ways.up.held ≡ [] → new.went_up ≡ 0 → is_live new.stage ≡ false → comes_ended new.stage ≡ false
           → (new.ways.up.has_ended ≡ true → end ≡ true) → Relays (parts ++ p ∷ []) a.link.conn s new
-      made p end new is came went none lives asked ends =
+      made p end new is came went none zero lives asked ends =
           let t = a.link.tunnels s in
+          let early = (relays s).early (ap is_asked is) in
           grows parts p a.link.conn a.link.conn s t new [] [] came went
-          (append-nil t.ways.up.held ∙ (relays s).early (ap is_asked is) ∙ sym none) (still (highest_used a.link.conn))
+          (append-nil t.ways.up.held ∙ early.0 ∙ sym none) (still (highest_used a.link.conn))
           (λ above. absurd (let both = sym ((relays s).new above).0 ∙ is in cc))
-          (λ asks. none) (λ now. absurd (false≢true (sym lives ∙ now)))
+          (λ asks. (none, append-nil (up_went s parts) ∙ early.1))
+          (zero ∙ sym (ap length early.1) ∙ none_more (length (up_went s parts))) (λ now. absurd (false≢true (sym lives ∙ now)))
           (λ now. was_more (is_peer_end s) parts p ((relays s).asked (ap comes_ended is ∙ ends now)))
           (λ now. absurd (false≢true (sym asked ∙ now))) (relays s)
 
       here : (answer : Verdict) (end : Bool) → (a.link.tunnels s).stage ≡ requested headers end
           → Relays (parts ++ decided s full answer ∷ []) a.link.conn s (tunnel_for answer headers end)
       here (Status status) end is =
-          made (decided s full (Status status)) end _ is refl refl refl refl refl (λ now. absurd (false≢true now))
-      here Reset end is = made (decided s full Reset) end _ is refl refl refl refl refl (λ now. absurd (false≢true now))
-      here (Dial target) true is = made (decided s full (Dial target)) true _ is refl refl refl refl refl (λ now. refl)
+          made (decided s full (Status status)) end _ is refl refl refl refl refl refl (λ now. absurd (false≢true now))
+      here Reset end is = made (decided s full Reset) end _ is refl refl refl refl refl refl (λ now. absurd (false≢true now))
+      here (Dial target) true is = made (decided s full (Dial target)) true _ is refl refl refl refl refl refl (λ now. refl)
       here (Dial target) false is =
-          made (decided s full (Dial target)) false _ is refl refl refl refl refl (λ now. absurd (false≢true now))
+          made (decided s full (Dial target)) false _ is refl refl refl refl refl refl (λ now. absurd (false≢true now))
 
   accepted_now : (s : ℕ) (made : Note) → (a.link.tunnels s).stage ≡ accepting
       → let d = status_put a.link.conn s (record { number = 200; end = false }) in
@@ -413,7 +416,7 @@ module _ (l : ℕ) (start : Resources) (a : Local) (parts : List Part) (keeps : 
       one_changes p s (λ t. at_stage live (a.link.tunnels s)) d (λ k. refl, λ k. refl) up
       (grows parts p a.link.conn d s t (at_stage live t) [] [] refl refl (append-nil t.ways.up.held) up
       (λ above. absurd (let both = sym ((relays s).new (omega (arith, up, above))).0 ∙ is in cc))
-      (λ asks. absurd (false≢true asks)) (λ now. was_now (is_accept s) parts p (eq-eqb s s refl))
+      (λ asks. absurd (false≢true asks)) ((relays s).counts ∙ none_more (length (up_went s parts))) (λ now. was_now (is_accept s) parts p (eq-eqb s s refl))
       (λ now. was_more (is_peer_end s) parts p ((relays s).ends now)) (λ now. absurd (false≢true now)) (relays s))
 
   refusal_raises : (s status : ℕ) (resets : Bool) → highest_used a.link.conn ≤ highest_used (refused_on s status resets a.link.conn)
@@ -483,18 +486,18 @@ module _ (l : ℕ) (start : Resources) (a : Local) (parts : List Part) (keeps : 
       let d = data_put a.link.conn s bytes in
       to (put s bytes) b _ steps.3
       (one_quiet (put s bytes) s (λ t. put_down a.link.conn s (a.link.tunnels s)) d (λ k. refl, λ k. refl) (raised (history.put s bytes) d (tt, (refl, refl), refl))
-      (record { way = refl; stage = same_stage (a.link.tunnels s).stage }))
+      (record { way = refl; went = refl; stage = same_stage (a.link.tunnels s).stage }))
   step_relays (finished s) b steps =
       let d = end_put a.link.conn s in
       to (finished s) b _ steps.2
       (one_quiet (finished s) s (λ t. record (a.link.tunnels s) { end_put = true }) d (λ k. refl, λ k. refl) (raised (history.ended s) d (tt, (refl, refl), refl))
-      (record { way = refl; stage = same_stage (a.link.tunnels s).stage }))
+      (record { way = refl; went = refl; stage = same_stage (a.link.tunnels s).stage }))
   step_relays (credited s n) b steps =
       let d = observed.credited a.link.conn s n in
       let within : n ≤ creditable a.link.conn s = omega (arith, steps.2) in
       to (credited s n) b _ steps.3
       (one_quiet (credited s n) s (λ t. record (a.link.tunnels s) { owed = 0 }) d (λ k. refl, λ k. refl) (raised (history.credited s n) d (tt, (within, (refl, refl)), refl))
-      (record { way = refl; stage = same_stage (a.link.tunnels s).stage }))
+      (record { way = refl; went = refl; stage = same_stage (a.link.tunnels s).stage }))
   step_relays (applied r) b steps =
       let h = after_response a.held r in
       subst (λ (c : Local). (s : ℕ) → Relays (parts ++ applied r ∷ []) c.link.conn s (c.link.tunnels s)) (sym steps)
@@ -512,7 +515,8 @@ all_relay l start a parts (begins is none) =
     (λ s. record {
       front = refl;
       new = λ above. (refl, refl);
-      early = λ asks. refl;
+      early = λ asks. (refl, refl);
+      counts = refl;
       lives = λ now. absurd (false≢true now);
       ends = λ now. absurd (false≢true now);
       asked = λ now. absurd (false≢true now);
