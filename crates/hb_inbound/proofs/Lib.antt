@@ -1,6 +1,8 @@
 pub mod AccessRun
 pub mod Admitted
 pub mod AdmittedRun
+pub mod ClosesRefused
+pub mod ClosesRun
 pub mod EndsRun
 pub mod Grown
 pub mod Histories

@@ -186,7 +186,7 @@ module _ (start : Resources) (a : Local) (parts : List Part) (all : SaysAll star
   went_late k bytes closed late = λ s. late s
 
   -- behind a close no tunnel has a place: none had one in front of it
-  close_late : (phase : Phase) → LateBy phase parts a.link → (why : Cause) → close_due phase ≡ Some why
+  pub close_late : (phase : Phase) → LateBy phase parts a.link → (why : Cause) → close_due phase ≡ Some why
       → (s : ℕ) → takes_place (a.link.tunnels s).stage ≡ false
   close_late (faulted code) late why is = late.0
   close_late (closing cause) late why is = late

@@ -1,6 +1,8 @@
 pub mod Access
 pub mod Block
 pub mod Calm
+pub mod Closes
+pub mod ClosesRefused
 pub mod Connections
 pub mod Ends
 pub mod Inbound

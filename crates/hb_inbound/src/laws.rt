@@ -1,8 +1,10 @@
 //! Small steps that no run of an inbound link takes, and what an update does. Each is the contract of a function that does nothing.
 
 ghost use Rattle.hb_inbound.specs.Refused.{DialsUnasked, AcceptsUnopened, WritesUnopened, ShutsEarly, EndsEarly, WritesRevoked};
-ghost use Rattle.hb_inbound.specs.Laws.{RunsAdmit, RunsAnswer, RunsEnd, RunsObeyConnections, RunsObeyWindows, RunsRelayDown, RunsRelayUp};
-ghost use Rattle.hb_inbound.specs.Laws.{RunsFitRings};
+ghost use Rattle.hb_inbound.specs.Laws.{RunsAdmit, RunsAnswer, RunsClose, RunsEnd, RunsObeyConnections, RunsObeyWindows};
+ghost use Rattle.hb_inbound.specs.Laws.{RunsFitRings, RunsRelayDown, RunsRelayUp};
+ghost use Rattle.hb_inbound.specs.ClosesRefused.{ClosesHealthy, ClosesForSecond, ClosesBroken, ReadsEnded, LooksStopped, WritesTwice};
+ghost use Rattle.hb_inbound.specs.ClosesRefused.{ClosesTwice, TurnsAwayLate, ClosesMisfronted, WritesOnce};
 ghost use Rattle.hb_inbound.specs.Rings.{ComesBeyond, WindowMayCome};
 ghost use Rattle.hb_inbound.specs.RefusedRuns.{WritesBehind, GoesOnBehind, PutsBehind, ReadsBehind, ClosesForAnother, ClosesAdmitted};
 ghost use Rattle.hb_inbound.specs.RefusedRuns.{DialsUnbidden, GoesOnAdmitted, ClosesRevoked};
@@ -115,4 +117,25 @@ pub fn unasked_answers_are_refused()
     ensures looks { LooksFirst }
     ensures early { AcceptsEarly }
     ensures comes { RequestMayCome }
+{}
+
+/// The link is closed for the first cause that ended it: its front header, its peer's end, a break, a connection error, want of memory or
+/// of a place, the run's stop. Behind it nothing is read or looked at on the link, nothing is put, and it is closed once.
+pub fn links_close_once()
+    ensures { RunsClose }
+{}
+
+/// A healthy link isn't closed, nor one that ended for another cause than the first, nor one twice; none is turned away once it was taken
+/// in. Behind its end it isn't read, looked at or written, but once behind a connection error.
+pub fn early_closes_are_refused()
+    ensures healthy { ClosesHealthy }
+    ensures second { ClosesForSecond }
+    ensures another { ClosesBroken }
+    ensures reads { ReadsEnded }
+    ensures looks { LooksStopped }
+    ensures writes { WritesTwice }
+    ensures twice { ClosesTwice }
+    ensures late { TurnsAwayLate }
+    ensures misfronted { ClosesMisfronted }
+    ensures once { WritesOnce }
 {}
