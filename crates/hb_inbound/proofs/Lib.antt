@@ -9,6 +9,9 @@ pub mod Histories
 pub mod Left
 pub mod Life
 pub mod LifeRun
+pub mod NotesRefused
+pub mod NotesRun
+pub mod Noting
 pub mod RefusedRuns
 pub mod Refusing
 pub mod RelayDown

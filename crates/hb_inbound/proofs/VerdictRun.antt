@@ -418,7 +418,7 @@ gets_nothing (ended why) owed calm is = absurd (false≢true (sym calm))
 gets_nothing (over why) owed calm is = is
 gets_nothing gone owed calm is = is
 
-up_answered : (l s : ℕ) (x : Inbound) (t : Tunnel) (z : Entry) → UpMayCome l s x t z → IsAnswered x
+pub up_answered : (l s : ℕ) (x : Inbound) (t : Tunnel) (z : Entry) → UpMayCome l s x t z → IsAnswered x
 up_answered l s x t (e.Dialled u to why) may = may.0.answered
 up_answered l s x t (e.DialFailed to why) may = may.0.answered
 up_answered l s x t (e.Opened u) may = may.0.calm.answered

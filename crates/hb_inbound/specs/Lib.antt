@@ -7,6 +7,8 @@ pub mod Connections
 pub mod Ends
 pub mod Inbound
 pub mod Laws
+pub mod Notes
+pub mod NotesRefused
 pub mod Part
 pub mod Refused
 pub mod RefusedRuns

@@ -1,10 +1,12 @@
 //! Small steps that no run of an inbound link takes, and what an update does. Each is the contract of a function that does nothing.
 
 ghost use Rattle.hb_inbound.specs.Refused.{DialsUnasked, AcceptsUnopened, WritesUnopened, ShutsEarly, EndsEarly, WritesRevoked};
-ghost use Rattle.hb_inbound.specs.Laws.{RunsAdmit, RunsAnswer, RunsClose, RunsEnd, RunsObeyConnections, RunsObeyWindows};
+ghost use Rattle.hb_inbound.specs.Laws.{RunsAdmit, RunsAnswer, RunsClose, RunsEnd, RunsNote, RunsObeyConnections, RunsObeyWindows};
 ghost use Rattle.hb_inbound.specs.Laws.{RunsFitRings, RunsRelayDown, RunsRelayUp};
 ghost use Rattle.hb_inbound.specs.ClosesRefused.{ClosesHealthy, ClosesForSecond, ClosesBroken, ReadsEnded, LooksStopped, WritesTwice};
 ghost use Rattle.hb_inbound.specs.ClosesRefused.{ClosesTwice, TurnsAwayLate, ClosesMisfronted, WritesOnce};
+ghost use Rattle.hb_inbound.specs.NotesRefused.{NotesUnasked, NotesOther, NotesElsewhere, EndsUnaccepted, EndsAlive, EndsTwice};
+ghost use Rattle.hb_inbound.specs.NotesRefused.{CountsNoneUp, CountsNoneDown, ReadsUnnoted, ClosesUnnoted, EndsUnnoted, NotesBoth};
 ghost use Rattle.hb_inbound.specs.Rings.{ComesBeyond, WindowMayCome};
 ghost use Rattle.hb_inbound.specs.RefusedRuns.{WritesBehind, GoesOnBehind, PutsBehind, ReadsBehind, ClosesForAnother, ClosesAdmitted};
 ghost use Rattle.hb_inbound.specs.RefusedRuns.{DialsUnbidden, GoesOnAdmitted, ClosesRevoked};
@@ -125,6 +127,12 @@ pub fn links_close_once()
     ensures { RunsClose }
 {}
 
+/// Of each request there is one note at its answer, with its status, peer and target, and of each tunnel that lived one at its end, with
+/// the first cause and what truly went each way; of a tunnel that ended while it was pending and got no status there is none.
+pub fn notes_are_told()
+    ensures { RunsNote }
+{}
+
 /// A healthy link isn't closed, nor one that ended for another cause than the first, nor one twice; none is turned away once it was taken
 /// in. Behind its end it isn't read, looked at or written, but once behind a connection error.
 pub fn early_closes_are_refused()
@@ -138,4 +146,21 @@ pub fn early_closes_are_refused()
     ensures late { TurnsAwayLate }
     ensures misfronted { ClosesMisfronted }
     ensures once { WritesOnce }
+{}
+
+/// A note that nothing asked for is refused, one with another status or target, an end that didn't come yet, never comes or is noted
+/// already, and a count that leaves out what went; so is a run that goes on without the note of an end.
+pub fn wrong_notes_are_refused()
+    ensures unasked { NotesUnasked }
+    ensures other { NotesOther }
+    ensures elsewhere { NotesElsewhere }
+    ensures unaccepted { EndsUnaccepted }
+    ensures alive { EndsAlive }
+    ensures twice { EndsTwice }
+    ensures up { CountsNoneUp }
+    ensures down { CountsNoneDown }
+    ensures reads { ReadsUnnoted }
+    ensures closes { ClosesUnnoted }
+    ensures unnoted { EndsUnnoted }
+    ensures both { NotesBoth }
 {}
