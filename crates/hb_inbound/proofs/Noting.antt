@@ -1,7 +1,7 @@
 -- What is still to be noted of a stream, by how far its tunnel is.
 use Rattle.std.proofs.Common.{◌≡◌, inl, inr, ℕ, ◌==◌, ◌||◌, not, Bool, true, false, cond, List, [], ◌∷◌, ◌++◌, Option, Some, None, Result, Ok, Err, refl, ap, sym, ◌∙◌, subst}
 use Rattle.std.specs.Prelude.{nat_lt, codes}
-use Rattle.std.proofs.lemmas.Bool.{false≢true, eq-eqb, ne_eqb}
+use Rattle.std.proofs.lemmas.Bool.{eq-eqb}
 use Rattle.hb_base.specs.TargetText.{target_of}
 use Rattle.hb_base.specs.declared.cause.Cause.{Cause}
 use Rattle.hb_base.specs.declared.cause.Cause.TheVariants as cause
@@ -34,7 +34,7 @@ use Rattle.hb_inbound.specs.Notes.{Noting, no_note, answer, end_of_it, noting_by
 use Rattle.hb_inbound.specs.Part.{Part, entry, up, welcomed, crowded, lacked, fronted, misfronted, looked, decided, accepted, refused, reset, left, done, put, finished, credited, applied, stopped}
 use Rattle.hb_inbound.specs.Runs.{Local, MayCome, UpMayCome, entered, Steps, StandsFor, begins, goes_on, IsAnswerTo, target_named, target_in, target_or_none, tunnel_for, put_down}
 use Rattle.hb_inbound.specs.Tunnel.{Tunnel, Stage, unasked, requested, refusing, malformed, due, opening, accepting, live, failed, ended, over, gone, takes_place, at_stage, ends_by, ends_for, left_with, up_entered, came_up, peer_ended, requested_with}
-use Rattle.hb_inbound.proofs.Admitted.{at_one}
+use Rattle.hb_inbound.proofs.Admitted.{at_one, swapped}
 use Rattle.hb_inbound.proofs.Grown.{fold_one}
 use Rattle.hb_inbound.proofs.Left.{IsLeft, left_so, refuses_left, resets_left, leaves_left}
 
@@ -157,9 +157,6 @@ judged_note true Denied t noting is = ends_note cause.Revoked t noting is
 
 left_note : (old new : Tunnel) → IsLeft old new → Noted no_note new
 left_note old new is = left_so (Noted no_note) old new refl (λ why. refl) is
-
-swapped : (k s : ℕ) → (k == s) ≡ false → (s == k) ≡ false
-swapped k s apart = ne_eqb s k (λ is. false≢true (sym apart ∙ eq-eqb k s (sym is)))
 
 module _ (l : ℕ) (a : Local) (parts : List Part) (noted : AreNotedSo parts a.link.tunnels) where
   abbrev Now : Part → (ℕ → Tunnel) → Type 0

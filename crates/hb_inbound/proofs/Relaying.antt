@@ -1,7 +1,7 @@
 -- What every run of a link keeps of the bytes that come on its streams and go to upstreams.
-use Rattle.std.proofs.Common.{◌≡◌, ℕ, ◌+◌, ◌<◌, ◌≤◌, ◌==◌, ◌||◌, Bool, true, false, cond, List, [], ◌∷◌, ◌++◌, length, Option, Some, None, refl, ap, sym, ◌∙◌, arith, length-append}
+use Rattle.std.proofs.Common.{◌≡◌, ℕ, ◌+◌, ◌<◌, ◌≤◌, ◌==◌, Bool, true, false, cond, List, [], ◌∷◌, ◌++◌, length, Option, Some, None, refl, ap, sym, ◌∙◌, arith, length-append}
 use Rattle.std.specs.List.{flat_map, list_any}
-use Rattle.std.proofs.lemmas.Bool.{false≢true, cond_both}
+use Rattle.std.proofs.lemmas.Bool.{false≢true, cond_both, or_left, or_right}
 use Rattle.std.proofs.lemmas.Grind.{flat_map-append}
 use Rattle.std.proofs.lemmas.List.{append-nil, append_assoc}
 use Rattle.std.proofs.lemmas.List.Folds.{list_any-append}
@@ -142,14 +142,6 @@ pub record Relays (parts : List Part) (c : Connection) (s : ℕ) (t : Tunnel) : 
 pub none_in : (went held : List ℕ) → [] ≡ went ++ held → (held ≡ []) × (went ≡ [])
 none_in [] held is = (sym is, refl)
 none_in (x ∷ xs) held is = absurd (cc)
-
-or_left : (b c : Bool) → b ≡ true → (b || c) ≡ true
-or_left true c is = refl
-or_left false c is = absurd (false≢true is)
-
-or_right : (b c : Bool) → c ≡ true → (b || c) ≡ true
-or_right true c is = refl
-or_right false c is = is
 
 pub was_more : (is : Part → Bool) (parts : List Part) (p : Part) → Was is parts → Was is (parts ++ p ∷ [])
 was_more is parts p was = list_any-append is parts (p ∷ []) ∙ or_left (list_any is parts) (list_any is (p ∷ [])) was

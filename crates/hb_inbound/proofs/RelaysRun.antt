@@ -1,7 +1,7 @@
 -- What comes on a stream goes up, or waits, in every run of a link.
 use Rattle.std.proofs.Common.{◌≡◌, ℕ, ◌+◌, ◌≤◌, ◌==◌, ◌&&◌, Bool, true, false, cond, List, [], ◌∷◌, ◌++◌, length, drop, Option, refl, ap, sym, ◌∙◌, subst, arith}
 use Rattle.std.specs.List.{flat_map}
-use Rattle.std.proofs.lemmas.Bool.{false≢true, cond_both, eq-eqb, ne_eqb}
+use Rattle.std.proofs.lemmas.Bool.{false≢true, cond_both, eq-eqb}
 use Rattle.std.proofs.lemmas.List.{append-nil}
 use Rattle.std.proofs.Math.Seq.{drop-append_seam}
 use Rattle.hb_base.specs.declared.cause.Cause.{Cause}
@@ -37,15 +37,12 @@ use Rattle.hb_inbound.specs.Runs.{Local, MayCome, UpMayCome, entered, Steps, Sta
 use Rattle.hb_inbound.specs.Sides.{data_by, stream_came, up_went_in, up_went, is_accept, is_peer_end, conn_came, link_went}
 use Rattle.hb_inbound.specs.Sides as sides
 use Rattle.hb_inbound.specs.Tunnel.{Tunnel, Stage, unasked, requested, refusing, malformed, due, opening, accepting, live, failed, ended, over, gone, is_live, is_unanswered, takes_place, at_stage, asked, ends_for, left_with, up_entered, came_up, peer_ended, requested_with}
-use Rattle.hb_inbound.proofs.Admitted.{at_one}
+use Rattle.hb_inbound.proofs.Admitted.{at_one, swapped}
 use Rattle.hb_inbound.proofs.Runs.{Keeps, FrontBy, all_keep}
 use Rattle.hb_inbound.proofs.Relaying.{told_on, told_data, is_asked, comes_ended, Relays, none_in, was_more, was_now, grows, same_stage, later, ends_follow, left_follows, Alike, quiet}
 
 still : (n : ℕ) → n ≤ n
 still n = omega arith
-
-swapped : (k s : ℕ) → (k == s) ≡ false → (s == k) ≡ false
-swapped k s apart = ne_eqb s k (λ is. false≢true (sym apart ∙ eq-eqb k s (sym is)))
 
 same_tunnel : (t : Tunnel) → Alike t t
 same_tunnel t = record { way = refl; went = refl; stage = same_stage t.stage }

@@ -1,6 +1,6 @@
 -- What comes from an upstream goes on its stream, or waits, in every run of a link.
 use Rattle.std.proofs.Common.{◌≡◌, ◌⊎◌, inl, inr, ℕ, ◌<◌, ◌≤◌, ◌==◌, ◌&&◌, Bool, true, false, cond, List, [], ◌∷◌, ◌++◌, length, take, drop, Option, refl, ap, ap₂, sym, ◌∙◌, subst, arith, length-append}
-use Rattle.std.proofs.lemmas.Bool.{false≢true, cond_both, eq-eqb, ne_eqb}
+use Rattle.std.proofs.lemmas.Bool.{false≢true, cond_both, eq-eqb}
 use Rattle.std.proofs.lemmas.List.{append-nil}
 use Rattle.std.proofs.Math.Seq.{take-append_seam}
 use Rattle.hb_base.specs.declared.cause.Cause.{Cause}
@@ -48,7 +48,7 @@ use Rattle.hb_inbound.specs.Runs.{Local, MayCome, UpMayCome, IsWritable, entered
 use Rattle.hb_inbound.specs.Sides.{went_in, link_went, conn_came, up_came_in, up_came, is_up_end}
 use Rattle.hb_inbound.specs.Sides as sides
 use Rattle.hb_inbound.specs.Tunnel.{Tunnel, requested, live, takes_place, at_stage, ends_for, left_with, up_entered, came_up, peer_ended, requested_with}
-use Rattle.hb_inbound.proofs.Admitted.{at_one}
+use Rattle.hb_inbound.proofs.Admitted.{at_one, swapped}
 use Rattle.hb_inbound.proofs.Grown.{one_more}
 use Rattle.hb_inbound.proofs.Left.{IsLeft, left_so, refuses_left, resets_left, leaves_left}
 use Rattle.hb_inbound.proofs.Relaying.{Relays, was_more, was_now}
@@ -95,9 +95,6 @@ pub record AllSend (parts : List Part) (x : Inbound) : Type 0 where
   pub ends : EndsBegun begun (outgoing x.conn)
   pub goes : GoesBy x.phase x.conn
   pub sends : (s : ℕ) → Sends parts begun x.conn s (x.tunnels s)
-
-swapped : (k s : ℕ) → (k == s) ≡ false → (s == k) ≡ false
-swapped k s apart = ne_eqb s k (λ is. false≢true (sym apart ∙ eq-eqb k s (sym is)))
 
 same_down : (t : Tunnel) → AlikeDown t t
 same_down t = record { way = refl; went = refl; stage = λ early. early }

@@ -1,6 +1,6 @@
 -- Each request gets the first answer that applies, and each answer is put at its point, in every run of a link.
 use Rattle.std.proofs.Common.{◌≡◌, ◌⊎◌, inl, inr, ℕ, ◌==◌, ◌&&◌, ◌||◌, Bool, true, false, cond, List, [], ◌∷◌, ◌++◌, drop, Option, Some, None, refl, ap, sym, ◌∙◌, subst}
-use Rattle.std.proofs.lemmas.Bool.{false≢true, eq-eqb, ne_eqb}
+use Rattle.std.proofs.lemmas.Bool.{false≢true, eq-eqb}
 use Rattle.hb_base.specs.declared.cause.Cause.{Cause}
 use Rattle.hb_base.specs.declared.cause.Cause.TheVariants as cause
 use Rattle.hb_base.specs.declared.ip.Ip.{Ip}
@@ -34,7 +34,7 @@ use Rattle.hb_inbound.specs.Part as part
 use Rattle.hb_inbound.specs.Runs.{Local, MayCome, UpMayCome, entered, Steps, StandsFor, begins, goes_on, with_link, with_tunnel, tunnel_for, put_down, Refuses, Resets, failure_status, end_code, is_serving}
 use Rattle.hb_inbound.specs.Tunnel.{Tunnel, Stage, unasked, requested, refusing, malformed, due, opening, accepting, live, failed, ended, over, gone, is_unanswered, takes_place, at_stage, ends_by, ends_for, left_with, up_entered, came_up, peer_ended, requested_with}
 use Rattle.hb_inbound.specs.Verdicts.{Due, nothing, answer, refusal, protocol_error, acceptance, due_by, due_of, due_entry, due_answer, destination_by, destination_of, IsAsked, IsStatus, IsReset, AllGot, VerdictAt}
-use Rattle.hb_inbound.proofs.Admitted.{KnowsBy, at_one}
+use Rattle.hb_inbound.proofs.Admitted.{KnowsBy, at_one, swapped}
 use Rattle.hb_inbound.proofs.AdmittedRun.{all_admit}
 use Rattle.hb_inbound.proofs.EndsRun.{said_at, new_streams}
 use Rattle.hb_inbound.proofs.Grown.{fold_one, at_parts}
@@ -82,9 +82,6 @@ judged_owe true Denied t owed is = ends_owe cause.Revoked t.stage owed is
 
 left_owes : (old new : Tunnel) → IsLeft old new → OwesBy new.stage nothing
 left_owes old new is = left_so (λ (t : Tunnel). OwesBy t.stage nothing) old new refl (λ why. refl) is
-
-swapped : (k s : ℕ) → (k == s) ≡ false → (s == k) ≡ false
-swapped k s apart = ne_eqb s k (λ is. false≢true (sym apart ∙ eq-eqb k s (sym is)))
 
 -- the destination of a link stays, in whatever phase
 to_stays : (phase : Phase) (parts : List Part) (p : Part) (x y : Inbound) → ((to : Option Ip) → destination_by to p ≡ to)

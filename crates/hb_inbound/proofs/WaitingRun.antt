@@ -2,7 +2,7 @@
 use Rattle.std.proofs.Common.{◌≡◌, ◌≢◌, inl, inr, ℕ, ◌<◌, ◌-◌, ◌==◌, ◌&&◌, ◌||◌, not, Bool, true, false, cond, List, [], ◌∷◌, length, min, Option, None, is_some, refl, ap, sym, ◌∙◌, subst, arith}
 use Rattle.std.specs.Prelude.{nat_le}
 use Rattle.std.specs.List.{list_any, AllByRecursion}
-use Rattle.std.proofs.lemmas.Bool.{false≢true, cond_both, eqb-true, eq-eqb}
+use Rattle.std.proofs.lemmas.Bool.{false≢true, cond_both, eqb-true, eq-eqb, and_parts, not-true, or_parts}
 use Rattle.std.proofs.lemmas.Bool.Decides.{nat_tests}
 use Rattle.std.proofs.lemmas.List.{nil_from_length}
 use Rattle.hb_base.specs.declared.cause.Cause.{Cause}
@@ -440,18 +440,6 @@ apart_of s k set is = by (k == s) is
 itself_out : (s : ℕ) (set : StreamSet) → (without_stream s set) s ≡ true → ⊥
 itself_out s set is = false≢true (sym (ap (λ (b : Bool). not b && set s) (eq-eqb s s refl)) ∙ is)
 
-last_of : (b c : Bool) → (b && c) ≡ true → c ≡ true
-last_of true c is = is
-last_of false c is = absurd (false≢true is)
-
-first_of : (b c : Bool) → (b && c) ≡ true → b ≡ true
-first_of true c is = refl
-first_of false c is = absurd (false≢true is)
-
-off : (b : Bool) → not b ≡ true → b ≡ false
-off true is = absurd (false≢true is)
-off false is = refl
-
 -- no DATA of the stream is among the frames that wait
 none_listed : (s : ℕ) (fs : List RawFrame) → list_any (has_data_on s) fs ≡ false → AllByRecursion (λ f. has_data_on s f ≡ false) fs
 none_listed s [] none = tt
@@ -462,10 +450,6 @@ none_listed s (f ∷ fs) none = by (has_data_on s f) refl none (λ rest. none_li
         → AllByRecursion (λ g. has_data_on s g ≡ false) (f ∷ fs)
     by true is some more = absurd (false≢true (sym some))
     by false is rest more = (is, more rest)
-
-first_off : (b c : Bool) → (b || c) ≡ false → b ≡ false
-first_off true c is = absurd (false≢true (sym is))
-first_off false c is = refl
 
 -- where there is nothing to put, nothing is put
 none_of : (b c : Bool) (n : ℕ) → cond b 0 (cond c (min 0 n) 0) ≡ 0
@@ -497,8 +481,8 @@ module _ (l : ℕ) (a : Local) (parts : List Part) (keeps : Keeps parts a.link) 
       outside (failed why) is on serves leave some = no_wait (a.link.tunnels s) (ap holds_data is) some
       outside (ended why) is on serves leave some =
           let t = a.link.tunnels s in
-          let open_end = off t.end_put (first_of (not t.end_put) (holds_data t.stage) some) in
-          let code : has_code why ≡ true = sym (ap holds_data is) ∙ last_of (not t.end_put) (holds_data t.stage) some in
+          let open_end = not-true t.end_put (and_parts (not t.end_put) (holds_data t.stage) some).0 in
+          let code : has_code why ≡ true = sym (ap holds_data is) ∙ (and_parts (not t.end_put) (holds_data t.stage) some).1 in
           let own = (serves.each s).own (ap speaks is ∙ code) open_end in
           coded why code (due_is why on own ∙ leave.1)
         where
@@ -671,7 +655,7 @@ module _ (l : ℕ) (a : Local) (parts : List Part) (keeps : Keeps parts a.link) 
       by true now =
           let t = a.link.tunnels s in
           let done = ((serves_at is).each s).spent now in
-          let empty : (length t.ways.down.held == 0) ≡ true = last_of t.ways.down.has_ended (length t.ways.down.held == 0) done in
+          let empty : (length t.ways.down.held == 0) ≡ true = (and_parts t.ways.down.has_ended (length t.ways.down.held == 0) done).1 in
           let none : bytes ≡ [] = held ∙ nil_from_length t.ways.down.held (grind (arith, nat_tests, empty)) in
           let zero_put = none_put a.link.conn s in
           let more : 0 < count_put a.link.conn s [] = subst (λ (bs : List ℕ). 0 < count_put a.link.conn s bs) none some in
@@ -714,9 +698,9 @@ module _ (l : ℕ) (a : Local) (parts : List Part) (keeps : Keeps parts a.link) 
       let y = with_tunnel s new d a.link in
       let sided = end_ends_side a.link.conn s in
       let parts_of = is_done t.ways.down && not t.end_put in
-      let done = first_of (is_done t.ways.down) (not t.end_put) (first_of parts_of (not (data_waits a.link.conn s)) may) in
-      let silent = off (data_waits a.link.conn s) (last_of parts_of (not (data_waits a.link.conn s)) may) in
-      let none = none_listed s (outgoing a.link.conn).queue (first_off (list_any (has_data_on s) (outgoing a.link.conn).queue) _ silent) in
+      let done = (and_parts (is_done t.ways.down) (not t.end_put) (and_parts parts_of (not (data_waits a.link.conn s)) may).0).0 in
+      let silent = not-true (data_waits a.link.conn s) (and_parts parts_of (not (data_waits a.link.conn s)) may).1 in
+      let none = none_listed s (outgoing a.link.conn).queue (or_parts (list_any (has_data_on s) (outgoing a.link.conn).queue) _ silent).0 in
       record {
         each = at_one s (λ old. new) a.link (λ k now. Fits d k now)
             (record {
@@ -745,7 +729,7 @@ module _ (l : ℕ) (a : Local) (parts : List Part) (keeps : Keeps parts a.link) 
       let t = a.link.tunnels s in
       let y = at_stream s (left_with cause.Done) a.link in
       let before = is_done t.ways.up && is_done t.ways.down && t.end_put in
-      let ended = last_of (is_done t.ways.up && is_done t.ways.down) t.end_put (first_of before _ all) in
+      let ended = (and_parts (is_done t.ways.up && is_done t.ways.down) t.end_put (and_parts before _ all).0).1 in
       shut_serves a.link y a.link.conn s (left_with cause.Done t) (set_of a.link) refl
       (same_at s (left_with cause.Done) a.link) (serves_at is).waits (ended_no_wait t ended) (λ k apart some. some) (λ k apart. refl)
       (left_shut cause.Done t) (serves_at is)
