@@ -31,7 +31,7 @@ use Rattle.hb_inbound.specs.Runs.{Local, MayCome, UpMayCome, entered, Steps, Sta
 use Rattle.hb_inbound.specs.Sides.{held_by, peer_of, peer_by, target_of, target_by, dialled_to, identity_told}
 use Rattle.hb_inbound.specs.Tunnel.{Tunnel, Stage, unasked, due, opening, live, over, takes_place, at_stage, asked, ends_by, ends_for, left_with, up_entered, came_up, peer_ended, requested_with}
 use Rattle.hb_inbound.proofs.Grown.{fold_one}
-use Rattle.hb_inbound.proofs.Stages.{left_none, refused_next, reset_next, left_next, refuses_asked, resets_asked, leaves_asked}
+use Rattle.hb_inbound.proofs.Left.{left_placeless, refuses_left, resets_left, leaves_left, refuses_asked, resets_asked, leaves_asked}
 use Rattle.hb_inbound.proofs.Admitted.{Tells, KnowsBy, Admits, Leaves_all, none_in, placeless, held_stays, peer_stays, target_stays, tells_on, knows_on, moves_on, same_on, ends_on, at_one, one_on}
 
 -- a tunnel without a place is told of no one
@@ -317,32 +317,36 @@ module _ (start : Resources) (a : Local) (parts : List Part) (admits : Admits st
       (record { held = λ h. refl; peer = λ w. refl; targets = λ k t. refl })
       (λ none. (let both = sym none ∙ steps.1 in cc)) refl (λ some. ap takes_place steps.1))
   step_admits l (refused s status resets made) b steps =
-      let next = refused_next a.link l s status (a.link.tunnels s).stage made steps.1 steps.2 in
+      let next =
+      left_placeless (a.link.tunnels s) steps.1 (refuses_left a.link l s status (a.link.tunnels s).stage made steps.1 steps.2) in
       to _ b _ steps.4
       (now_admits (refused s status resets made) s steps.1 _
       (record { held = λ h. refl; peer = λ w. refl; targets = λ k t. refl })
-      (λ none. refuses_asked a.link l s status (a.link.tunnels s).stage made steps.1 steps.2 (sym none)) next.1
+      (refuses_asked a.link l s status (a.link.tunnels s).stage made steps.1 steps.2) next.1
       (no_place (a.link.tunnels s).stage (takes_place (steps.1).stage) next.0))
   step_admits l (reset s code made) b steps =
-      let next = reset_next a.link l s code (a.link.tunnels s).stage made steps.1 steps.2 in
+      let next =
+      left_placeless (a.link.tunnels s) steps.1 (resets_left a.link l s code (a.link.tunnels s).stage made steps.1 steps.2) in
       to _ b _ steps.3
       (now_admits (reset s code made) s steps.1 _
       (record { held = λ h. refl; peer = λ w. refl; targets = λ k t. refl })
-      (λ none. resets_asked a.link l s code (a.link.tunnels s).stage made steps.1 steps.2 (sym none)) next.1
+      (resets_asked a.link l s code (a.link.tunnels s).stage made steps.1 steps.2) next.1
       (no_place (a.link.tunnels s).stage (takes_place (steps.1).stage) next.0))
   step_admits l (left s made) b steps =
-      let next = left_next a.link l s (a.link.tunnels s).stage made steps.0 steps.1 in
+      let next =
+      left_placeless (a.link.tunnels s) steps.0 (leaves_left a.link l s 0 (a.link.tunnels s).stage made steps.0 steps.1) in
       to _ b _ steps.2
       (now_admits (left s made) s steps.0 _
       (record { held = λ h. refl; peer = λ w. refl; targets = λ k t. refl })
-      (λ none. leaves_asked a.link l s (a.link.tunnels s).stage made steps.0 steps.1 (sym none)) next.1
+      (leaves_asked a.link l s 0 (a.link.tunnels s).stage made steps.0 steps.1) next.1
       (no_place (a.link.tunnels s).stage (takes_place (steps.0).stage) next.0))
   step_admits l (done s made) b steps =
       to _ b _ steps.3
       (one_on start parts (done s made) a (at_stream s (left_with cause.Done) a.link) s (left_with cause.Done)
       (record { held = λ h. refl; peer = λ w. refl; targets = λ k t. refl }) refl refl refl
       (λ none. (let both = sym none ∙ steps.0.2 in cc)) refl
-      (no_place (a.link.tunnels s).stage (takes_place (left_with cause.Done (a.link.tunnels s)).stage) (left_none cause.Done (a.link.tunnels s)))
+      (no_place (a.link.tunnels s).stage (takes_place (left_with cause.Done (a.link.tunnels s)).stage)
+      (left_placeless (a.link.tunnels s) (left_with cause.Done (a.link.tunnels s)) (inr (cause.Done, refl))).0)
       admits)
   step_admits l (put s bytes) b steps =
       to _ b _ steps.3

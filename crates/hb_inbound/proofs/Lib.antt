@@ -23,7 +23,6 @@ pub mod RingsRun
 pub mod Runs
 pub mod Sending
 pub mod SendsRun
-pub mod Stages
 pub mod Updating
 pub mod VerdictRun
 pub mod VerdictsRefused

@@ -29,7 +29,7 @@ use Rattle.hb_inbound.specs.Runs.{Local, MayCome, UpMayCome, entered, Steps, wit
 use Rattle.hb_inbound.specs.Sides.{held, held_by, peer_of, Was}
 use Rattle.hb_inbound.specs.Tunnel.{Tunnel, Stage, unasked, requested, refusing, malformed, due, opening, accepting, live, failed, ended, over, gone, at_stage, asked, ends_by, ends_for, left_with, takes_place, up_entered, came_up, peer_ended, requested_with}
 use Rattle.hb_inbound.proofs.Admitted.{Admits, AreUnasked, KnowsBy, at_one, none_in}
-use Rattle.hb_inbound.proofs.Stages.{refused_next, reset_next, left_next}
+use Rattle.hb_inbound.proofs.Left.{left_placeless, refuses_left, resets_left, leaves_left}
 use Rattle.hb_inbound.proofs.Life.{life_one, up_one, SaysBy, SaysOf, ends_say, left_say, say_at, say_on, judged_say}
 
 -- a tunnel whose stage, upstream and target stay says the same
@@ -566,17 +566,20 @@ module _ (start : Resources) (a : Local) (parts : List Part) (all : SaysAll star
       to_says _ b _ steps.4
       (now_says (refused k status resets made) k steps.1 _ (λ s h u. (refl, refl))
       (refused_here l k status (a.link.tunnels k).stage refl made steps.1 steps.2)
-      (λ none_had. (refused_next a.link l k status (a.link.tunnels k).stage made steps.1 steps.2).0))
+      (λ none_had.
+      (left_placeless (a.link.tunnels k) steps.1 (refuses_left a.link l k status (a.link.tunnels k).stage made steps.1 steps.2)).0))
   step_says l (reset k code made) b admits opens steps =
       to_says _ b _ steps.3
       (now_says (reset k code made) k steps.1 _ (λ s h u. (refl, refl))
       (reset_here l k code (a.link.tunnels k).stage refl made steps.1 steps.2)
-      (λ none_had. (reset_next a.link l k code (a.link.tunnels k).stage made steps.1 steps.2).0))
+      (λ none_had.
+      (left_placeless (a.link.tunnels k) steps.1 (resets_left a.link l k code (a.link.tunnels k).stage made steps.1 steps.2)).0))
   step_says l (left k made) b admits opens steps =
       to_says _ b _ steps.2
       (now_says (left k made) k steps.0 _ (λ s h u. (refl, refl))
       (left_here l k (a.link.tunnels k).stage refl made steps.0 steps.1)
-      (λ none_had. (left_next a.link l k (a.link.tunnels k).stage made steps.0 steps.1).0))
+      (λ none_had.
+      (left_placeless (a.link.tunnels k) steps.0 (leaves_left a.link l k 0 (a.link.tunnels k).stage made steps.0 steps.1)).0))
   step_says l (done k made) b admits opens steps = to_says _ b _ steps.3 (done_says k made steps.0.0 steps.0.2)
   step_says l (put k bytes) b admits opens steps =
       to_says _ b _ steps.3

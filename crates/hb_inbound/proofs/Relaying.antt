@@ -18,7 +18,7 @@ use Rattle.hb_history.specs.Points.{data_of, data_in}
 use Rattle.hb_kept.specs.Numbers.{highest_used}
 use Rattle.hb_inbound.specs.Part.{Part, moves_in, moves}
 use Rattle.hb_inbound.specs.Sides.{data_told, data_by, stream_came, up_went_in, up_went, is_accept, is_peer_end, Was}
-use Rattle.hb_inbound.specs.Tunnel.{Tunnel, Stage, unasked, requested, refusing, malformed, due, opening, accepting, live, failed, ended, over, gone, is_live, ends_by, left_with}
+use Rattle.hb_inbound.specs.Tunnel.{Tunnel, Stage, unasked, requested, refusing, malformed, due, opening, accepting, live, failed, ended, over, gone, is_live, ends_by}
 use Rattle.hb_inbound.proofs.Grown.{one_more}
 
 -- THE OCTETS OF DATA THAT ARE TOLD
@@ -219,11 +219,6 @@ ends_follow why (failed cause) = same_stage (failed cause)
 ends_follow why (ended cause) = same_stage (ended cause)
 ends_follow why (over cause) = same_stage (over cause)
 ends_follow why gone = same_stage gone
-
-pub left_follows : (why : Cause) (t : Tunnel) → (t.stage ≡ unasked → ⊥) → Follows t.stage (left_with why t).stage
-left_follows why t some =
-    cond_both (t.up == 0) gone (over why) (λ (stage : Stage). Follows t.stage stage) (λ is. later t.stage gone some refl refl refl)
-    (λ is. later t.stage (over why) some refl refl refl)
 
 -- a tunnel whose way up and count are the same, and whose stage begins nothing
 pub record Alike (old new : Tunnel) : Type 0 where

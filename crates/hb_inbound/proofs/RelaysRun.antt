@@ -1,5 +1,5 @@
 -- What comes on a stream goes up, or waits, in every run of a link.
-use Rattle.std.proofs.Common.{◌≡◌, ℕ, ◌+◌, ◌≤◌, ◌==◌, ◌&&◌, Bool, true, false, cond, List, [], ◌∷◌, ◌++◌, length, drop, Option, refl, ap, sym, ◌∙◌, subst, arith}
+use Rattle.std.proofs.Common.{◌≡◌, inr, ℕ, ◌+◌, ◌≤◌, ◌==◌, ◌&&◌, Bool, true, false, cond, List, [], ◌∷◌, ◌++◌, length, drop, refl, ap, sym, ◌∙◌, subst, arith}
 use Rattle.std.specs.List.{flat_map}
 use Rattle.std.proofs.lemmas.Bool.{false≢true, cond_both, eq-eqb}
 use Rattle.std.proofs.lemmas.List.{append-nil}
@@ -33,13 +33,14 @@ use Rattle.hb_world.specs.declared.entry.Entry.TheVariants as e
 use Rattle.hb_inbound.specs.Inbound.{Inbound, Phase, unborn, arriving, fronting, serving, faulted, closing, closed, at_stream, came_by, ended_by, broken_by, on_found, judged_by, with_phase, lacking, fronted_by, rejudged, stopped_for}
 use Rattle.hb_inbound.specs.Part.{Part, entry, up, welcomed, crowded, lacked, misfronted, looked, decided, accepted, refused, reset, left, done, put, finished, credited, applied, stopped, act, moves_in, moves, tellings}
 use Rattle.hb_inbound.specs.Part as part
-use Rattle.hb_inbound.specs.Runs.{Local, MayCome, UpMayCome, entered, Steps, StandsFor, begins, goes_on, with_link, tunnel_for, put_down, Refuses, Resets, Leaves, refused_on}
+use Rattle.hb_inbound.specs.Runs.{Local, MayCome, UpMayCome, entered, Steps, StandsFor, begins, goes_on, with_link, tunnel_for, put_down, refused_on}
 use Rattle.hb_inbound.specs.Sides.{data_by, stream_came, up_went_in, up_went, is_accept, is_peer_end, conn_came, link_went}
 use Rattle.hb_inbound.specs.Sides as sides
 use Rattle.hb_inbound.specs.Tunnel.{Tunnel, Stage, unasked, requested, refusing, malformed, due, opening, accepting, live, failed, ended, over, gone, is_live, is_unanswered, takes_place, at_stage, asked, ends_for, left_with, up_entered, came_up, peer_ended, requested_with}
 use Rattle.hb_inbound.proofs.Admitted.{at_one, swapped}
+use Rattle.hb_inbound.proofs.Left.{IsLeft, left_so, refuses_left, resets_left, leaves_left, refuses_asked, resets_asked, leaves_asked}
 use Rattle.hb_inbound.proofs.Runs.{Keeps, FrontBy, all_keep}
-use Rattle.hb_inbound.proofs.Relaying.{told_on, told_data, is_asked, comes_ended, Relays, none_in, was_more, was_now, grows, same_stage, later, ends_follow, left_follows, Alike, quiet}
+use Rattle.hb_inbound.proofs.Relaying.{told_on, told_data, is_asked, comes_ended, Relays, none_in, was_more, was_now, grows, same_stage, later, ends_follow, Alike, quiet}
 
 still : (n : ℕ) → n ≤ n
 still n = omega arith
@@ -53,59 +54,10 @@ ends_alike why t = record { way = refl; went = refl; stage = ends_follow why t.s
 gone_alike : (t : Tunnel) → (t.stage ≡ unasked → ⊥) → Alike t (at_stage gone t)
 gone_alike t some = record { way = refl; went = refl; stage = later t.stage gone some refl refl refl }
 
-left_alike : (why : Cause) (t : Tunnel) → (t.stage ≡ unasked → ⊥) → Alike t (left_with why t)
-left_alike why t some = record { way = refl; went = refl; stage = left_follows why t some }
-
-refuses_alike : (x : Inbound) (l s n : ℕ) (stage : Stage) (made : Note) (next : Tunnel) → (x.tunnels s).stage ≡ stage
-    → Refuses l s x stage n made next → Alike (x.tunnels s) next
-refuses_alike x l s n (refusing status target) made next at is =
-    subst (Alike (x.tunnels s)) (sym is.2) (gone_alike (x.tunnels s) (λ none. (let both = sym none ∙ at in cc)))
-refuses_alike x l s n (failed why) made next at is =
-    subst (Alike (x.tunnels s)) (sym is.3) (left_alike why (x.tunnels s) (λ none. (let both = sym none ∙ at in cc)))
-refuses_alike x l s n unasked made next at is = absurd is
-refuses_alike x l s n (requested headers end) made next at is = absurd is
-refuses_alike x l s n malformed made next at is = absurd is
-refuses_alike x l s n due made next at is = absurd is
-refuses_alike x l s n opening made next at is = absurd is
-refuses_alike x l s n accepting made next at is = absurd is
-refuses_alike x l s n live made next at is = absurd is
-refuses_alike x l s n (ended why) made next at is = absurd is
-refuses_alike x l s n (over why) made next at is = absurd is
-refuses_alike x l s n gone made next at is = absurd is
-
-resets_alike : (x : Inbound) (l s n : ℕ) (stage : Stage) (made : Note) (next : Tunnel) → (x.tunnels s).stage ≡ stage
-    → Resets l s x stage n made next → Alike (x.tunnels s) next
-resets_alike x l s n malformed made next at is =
-    subst (Alike (x.tunnels s)) (sym is.2) (gone_alike (x.tunnels s) (λ none. (let both = sym none ∙ at in cc)))
-resets_alike x l s n (ended why) made next at is =
-    subst (Alike (x.tunnels s)) (sym is.3) (left_alike why (x.tunnels s) (λ none. (let both = sym none ∙ at in cc)))
-resets_alike x l s n unasked made next at is = absurd is
-resets_alike x l s n (requested headers end) made next at is = absurd is
-resets_alike x l s n (refusing status target) made next at is = absurd is
-resets_alike x l s n due made next at is = absurd is
-resets_alike x l s n opening made next at is = absurd is
-resets_alike x l s n accepting made next at is = absurd is
-resets_alike x l s n live made next at is = absurd is
-resets_alike x l s n (failed why) made next at is = absurd is
-resets_alike x l s n (over why) made next at is = absurd is
-resets_alike x l s n gone made next at is = absurd is
-
-leaves_alike : (x : Inbound) (l s : ℕ) (stage : Stage) (made : Option Note) (next : Tunnel) → (x.tunnels s).stage ≡ stage
-    → Leaves l s x stage made next → Alike (x.tunnels s) next
-leaves_alike x l s (failed why) made next at is =
-    subst (Alike (x.tunnels s)) (sym is.3) (left_alike why (x.tunnels s) (λ none. (let both = sym none ∙ at in cc)))
-leaves_alike x l s (ended why) made next at is =
-    subst (Alike (x.tunnels s)) (sym is.3) (left_alike why (x.tunnels s) (λ none. (let both = sym none ∙ at in cc)))
-leaves_alike x l s unasked made next at is = absurd is
-leaves_alike x l s (requested headers end) made next at is = absurd is
-leaves_alike x l s (refusing status target) made next at is = absurd is
-leaves_alike x l s malformed made next at is = absurd is
-leaves_alike x l s due made next at is = absurd is
-leaves_alike x l s opening made next at is = absurd is
-leaves_alike x l s accepting made next at is = absurd is
-leaves_alike x l s live made next at is = absurd is
-leaves_alike x l s (over why) made next at is = absurd is
-leaves_alike x l s gone made next at is = absurd is
+left_alike : (old new : Tunnel) → (old.stage ≡ unasked → ⊥) → IsLeft old new → Alike old new
+left_alike old new some is =
+    left_so (Alike old) old new (gone_alike old some)
+    (λ why. record { way = refl; went = refl; stage = later old.stage (over why) some refl refl refl }) is
 
 -- an answered tunnel is no request
 not_asked : (stage : Stage) → is_unanswered stage ≡ false → is_asked stage ≡ false
@@ -465,20 +417,24 @@ module _ (l : ℕ) (start : Resources) (a : Local) (parts : List Part) (keeps : 
       to (refused s status resets made) b _ steps.4
       (one_quiet (refused s status resets made) s (λ t. steps.1) (refused_on s status resets a.link.conn)
       (refusal_brings s status resets made, λ k. refl) (refusal_raises s status resets)
-      (refuses_alike a.link l s status (a.link.tunnels s).stage made steps.1 refl steps.2))
+      (left_alike (a.link.tunnels s) steps.1 (refuses_asked a.link l s status (a.link.tunnels s).stage made steps.1 steps.2)
+      (refuses_left a.link l s status (a.link.tunnels s).stage made steps.1 steps.2)))
   step_relays (reset s code made) b steps =
       to (reset s code made) b _ steps.3
       (one_quiet (reset s code made) s (λ t. steps.1) (aborted a.link.conn s code) (λ k. refl, λ k. refl)
       (raised (history.reset s code) (aborted a.link.conn s code) (tt, (refl, refl), refl))
-      (resets_alike a.link l s code (a.link.tunnels s).stage made steps.1 refl steps.2))
+      (left_alike (a.link.tunnels s) steps.1 (resets_asked a.link l s code (a.link.tunnels s).stage made steps.1 steps.2)
+      (resets_left a.link l s code (a.link.tunnels s).stage made steps.1 steps.2)))
   step_relays (left s made) b steps =
       to (left s made) b _ steps.2
       (one_quiet (left s made) s (λ t. steps.0) a.link.conn (λ k. refl, λ k. refl) (still (highest_used a.link.conn))
-      (leaves_alike a.link l s (a.link.tunnels s).stage made steps.0 refl steps.1))
+      (left_alike (a.link.tunnels s) steps.0 (leaves_asked a.link l s 0 (a.link.tunnels s).stage made steps.0 steps.1)
+      (leaves_left a.link l s 0 (a.link.tunnels s).stage made steps.0 steps.1)))
   step_relays (done s made) b steps =
       to (done s made) b _ steps.3
       (one_quiet (done s made) s (left_with cause.Done) a.link.conn (λ k. refl, λ k. refl) (still (highest_used a.link.conn))
-      (left_alike cause.Done (a.link.tunnels s) (λ none. (let both = sym none ∙ steps.0.2 in cc))))
+      (left_alike (a.link.tunnels s) (left_with cause.Done (a.link.tunnels s)) (λ none. (let both = sym none ∙ steps.0.2 in cc))
+      (inr (cause.Done, refl))))
   step_relays (put s bytes) b steps =
       let d = data_put a.link.conn s bytes in
       to (put s bytes) b _ steps.3

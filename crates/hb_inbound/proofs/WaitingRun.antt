@@ -2,7 +2,7 @@
 use Rattle.std.proofs.Common.{◌≡◌, ◌≢◌, inl, inr, ℕ, ◌<◌, ◌-◌, ◌==◌, ◌&&◌, ◌||◌, not, Bool, true, false, cond, List, [], ◌∷◌, length, min, Option, None, is_some, refl, ap, sym, ◌∙◌, subst, arith}
 use Rattle.std.specs.Prelude.{nat_le}
 use Rattle.std.specs.List.{list_any, AllByRecursion}
-use Rattle.std.proofs.lemmas.Bool.{false≢true, cond_both, eqb-true, eq-eqb, and_parts, not-true, or_parts}
+use Rattle.std.proofs.lemmas.Bool.{false≢true, eqb-true, eq-eqb, and_parts, not-true, or_parts}
 use Rattle.std.proofs.lemmas.Bool.Decides.{nat_tests}
 use Rattle.std.proofs.lemmas.List.{nil_from_length}
 use Rattle.hb_base.specs.declared.cause.Cause.{Cause}
@@ -44,7 +44,7 @@ use Rattle.hb_inbound.specs.Part as part
 use Rattle.hb_inbound.specs.Runs.{Local, MayCome, UpMayCome, entered, Steps, StandsFor, begins, goes_on, with_link, with_tunnel, tunnel_for, put_down, Refuses, Resets, Leaves, refused_on, end_code, code_due, is_serving}
 use Rattle.hb_inbound.specs.Tunnel.{Tunnel, Stage, unasked, requested, refusing, malformed, due, opening, accepting, live, failed, ended, over, gone, takes_place, is_unanswered, at_stage, ends_by, ends_for, left_with, up_entered, came_up, peer_ended, requested_with}
 use Rattle.hb_inbound.proofs.Admitted.{at_one}
-use Rattle.hb_inbound.proofs.Stages.{leaves_asked}
+use Rattle.hb_inbound.proofs.Left.{IsLeft, left_so, refuses_left, resets_left, leaves_left, leaves_asked}
 use Rattle.hb_inbound.proofs.Runs.{Keeps, all_keep}
 use Rattle.hb_inbound.proofs.Waiting.{has_code, holds_data, may_wait, set_of, speaks, is_before, Fits, Serves, IsNew, WaitsIn, IsGentle, gentle_fits, gentle_same, serves_on, waits_on, one_waits}
 
@@ -372,17 +372,10 @@ pub record IsShut (old new : Tunnel) : Type 0 where
   pub same : new.end_put ≡ old.end_put
   pub ways : new.ways ≡ old.ways
 
-left_shut : (why : Cause) (t : Tunnel) → IsShut t (left_with why t)
-left_shut why t = record {
-  quiet = cond_both (t.up == 0) gone (over why) (λ stage. speaks stage ≡ false) (λ is. refl) (λ is. refl);
-  holds = cond_both (t.up == 0) gone (over why) (λ stage. holds_data stage ≡ false) (λ is. refl) (λ is. refl);
-  late = cond_both (t.up == 0) gone (over why) (λ stage. is_before stage ≡ false) (λ is. refl) (λ is. refl);
-  same = refl;
-  ways = refl;
-}
-
-gone_shut : (t : Tunnel) → IsShut t (at_stage gone t)
-gone_shut t = record { quiet = refl; holds = refl; late = refl; same = refl; ways = refl }
+left_shut : (old new : Tunnel) → IsLeft old new → IsShut old new
+left_shut old new is =
+    left_so (IsShut old) old new (record { quiet = refl; holds = refl; late = refl; same = refl; ways = refl })
+    (λ why. record { quiet = refl; holds = refl; late = refl; same = refl; ways = refl }) is
 
 same_at : (s : ℕ) (change : Tunnel → Tunnel) (x : Inbound) (k : ℕ)
     → (at_stream s change x).tunnels k ≡ (at_stream s (λ t. change (x.tunnels s)) x).tunnels k
@@ -474,7 +467,7 @@ module _ (l : ℕ) (a : Local) (parts : List Part) (keeps : Keeps parts a.link) 
   left_waits s made next leaves = by a.link.phase refl waits
     where
       early : ((k : ℕ) → IsNew (a.link.tunnels k)) → ⊥
-      early new = leaves_asked a.link l s (a.link.tunnels s).stage made next leaves (sym (new s).0)
+      early new = leaves_asked a.link l s 0 (a.link.tunnels s).stage made next leaves (new s).0
 
       outside : (stage : Stage) → (a.link.tunnels s).stage ≡ stage → a.link.phase ≡ serving → Serves a.link
           → Leaves l s a.link stage made next → may_wait (a.link.tunnels s) ≡ true → ⊥
@@ -506,20 +499,6 @@ module _ (l : ℕ) (a : Local) (parts : List Part) (keeps : Keeps parts a.link) 
       outside (over why) is on serves leave some = leave
       outside gone is on serves leave some = leave
 
-      shut : (stage : Stage) → Leaves l s a.link stage made next → IsShut (a.link.tunnels s) next
-      shut (failed why) leave = subst (IsShut (a.link.tunnels s)) (sym leave.3) (left_shut why (a.link.tunnels s))
-      shut (ended why) leave = subst (IsShut (a.link.tunnels s)) (sym leave.3) (left_shut why (a.link.tunnels s))
-      shut unasked leave = absurd leave
-      shut (requested headers end) leave = absurd leave
-      shut (refusing status target) leave = absurd leave
-      shut malformed leave = absurd leave
-      shut due leave = absurd leave
-      shut opening leave = absurd leave
-      shut accepting leave = absurd leave
-      shut live leave = absurd leave
-      shut (over why) leave = absurd leave
-      shut gone leave = absurd leave
-
       by : (phase : Phase) → a.link.phase ≡ phase → WaitsIn phase a.link → WaitsIn phase (with_tunnel s next a.link.conn a.link)
       by unborn is new = absurd (early new)
       by arriving is new = absurd (early new)
@@ -527,7 +506,7 @@ module _ (l : ℕ) (a : Local) (parts : List Part) (keeps : Keeps parts a.link) 
       by serving is serves =
           shut_serves a.link (with_tunnel s next a.link.conn a.link) a.link.conn s next (set_of a.link) refl (λ k. refl) serves.waits
           (outside (a.link.tunnels s).stage refl is serves leaves) (λ k apart some. some) (λ k apart. refl)
-          (shut (a.link.tunnels s).stage leaves) serves
+          (left_shut (a.link.tunnels s) next (leaves_left a.link l s 0 (a.link.tunnels s).stage made next leaves)) serves
       by (faulted code) is none = none
       by (closing why) is none = tt
       by closed is none = tt
@@ -553,20 +532,6 @@ module _ (l : ℕ) (a : Local) (parts : List Part) (keeps : Keeps parts a.link) 
       outside (over why) is refuse some = refuse
       outside gone is refuse some = refuse
 
-      shut : (stage : Stage) → Refuses l s a.link stage status made next → IsShut (a.link.tunnels s) next
-      shut (refusing n target) refuse = subst (IsShut (a.link.tunnels s)) (sym refuse.2) (gone_shut (a.link.tunnels s))
-      shut (failed why) refuse = subst (IsShut (a.link.tunnels s)) (sym refuse.3) (left_shut why (a.link.tunnels s))
-      shut unasked refuse = absurd refuse
-      shut (requested headers end) refuse = absurd refuse
-      shut malformed refuse = absurd refuse
-      shut due refuse = absurd refuse
-      shut opening refuse = absurd refuse
-      shut accepting refuse = absurd refuse
-      shut live refuse = absurd refuse
-      shut (ended why) refuse = absurd refuse
-      shut (over why) refuse = absurd refuse
-      shut gone refuse = absurd refuse
-
       by : (b : Bool) → Serves (with_tunnel s next (refused_on s status b a.link.conn) a.link)
       by false =
           let d = status_put a.link.conn s (record { number = status; end = true }) in
@@ -574,7 +539,7 @@ module _ (l : ℕ) (a : Local) (parts : List Part) (keeps : Keeps parts a.link) 
           (answers_within (set_of a.link) a.link.conn s (record { number = status; end = true }) (serves_at is).waits)
           (outside (a.link.tunnels s).stage refl refuses) (λ k apart some. some)
           (answer_ends_side a.link.conn s (record { number = status; end = true })).others
-          (shut (a.link.tunnels s).stage refuses) (serves_at is)
+          (left_shut (a.link.tunnels s) next (refuses_left a.link l s status (a.link.tunnels s).stage made next refuses)) (serves_at is)
       by true =
           let c = status_put a.link.conn s (record { number = status; end = true }) in
           let d = aborted c s 0 in
@@ -584,7 +549,7 @@ module _ (l : ℕ) (a : Local) (parts : List Part) (keeps : Keeps parts a.link) 
           (itself_out s (set_of a.link)) (λ k apart some. apart_of s k (set_of a.link) some)
           (λ k other. (reset_ends_both c s 0).others k other
           ∙ (answer_ends_side a.link.conn s (record { number = status; end = true })).others k other)
-          (shut (a.link.tunnels s).stage refuses) (serves_at is)
+          (left_shut (a.link.tunnels s) next (refuses_left a.link l s status (a.link.tunnels s).stage made next refuses)) (serves_at is)
 
   reset_waits : (s code : ℕ) (made : Note) (next : Tunnel) → a.link.phase ≡ serving
       → Resets l s a.link (a.link.tunnels s).stage code made next
@@ -594,21 +559,8 @@ module _ (l : ℕ) (a : Local) (parts : List Part) (keeps : Keeps parts a.link) 
       shut_serves a.link (with_tunnel s next d a.link) d s next (without_stream s (set_of a.link)) refl (λ k. refl)
       (resets_within (set_of a.link) a.link.conn s code (serves_at is).waits)
       (itself_out s (set_of a.link)) (λ k apart some. apart_of s k (set_of a.link) some)
-      (reset_ends_both a.link.conn s code).others (shut (a.link.tunnels s).stage resets) (serves_at is)
-    where
-      shut : (stage : Stage) → Resets l s a.link stage code made next → IsShut (a.link.tunnels s) next
-      shut malformed asks = subst (IsShut (a.link.tunnels s)) (sym asks.2) (gone_shut (a.link.tunnels s))
-      shut (ended why) asks = subst (IsShut (a.link.tunnels s)) (sym asks.3) (left_shut why (a.link.tunnels s))
-      shut unasked asks = absurd asks
-      shut (requested headers end) asks = absurd asks
-      shut (refusing n target) asks = absurd asks
-      shut due asks = absurd asks
-      shut opening asks = absurd asks
-      shut accepting asks = absurd asks
-      shut live asks = absurd asks
-      shut (failed why) asks = absurd asks
-      shut (over why) asks = absurd asks
-      shut gone asks = absurd asks
+      (reset_ends_both a.link.conn s code).others
+      (left_shut (a.link.tunnels s) next (resets_left a.link l s code (a.link.tunnels s).stage made next resets)) (serves_at is)
 
   -- 200 is put, and octets are used up: no side ends, and no tunnel needs more
   own_at : (s : ℕ) (d : Connection) → sides d s ≡ sides a.link.conn s → ((k : ℕ) → k ≢ s → sides d k ≡ sides a.link.conn k)
@@ -732,7 +684,7 @@ module _ (l : ℕ) (a : Local) (parts : List Part) (keeps : Keeps parts a.link) 
       let ended = (and_parts (is_done t.ways.up && is_done t.ways.down) t.end_put (and_parts before _ all).0).1 in
       shut_serves a.link y a.link.conn s (left_with cause.Done t) (set_of a.link) refl
       (same_at s (left_with cause.Done) a.link) (serves_at is).waits (ended_no_wait t ended) (λ k apart some. some) (λ k apart. refl)
-      (left_shut cause.Done t) (serves_at is)
+      (left_shut t (left_with cause.Done t) (inr (cause.Done, refl))) (serves_at is)
 
   -- a request is answered
   decided_waits : (s : ℕ) (answer : Verdict) (headers : HeaderList) (end : Bool) → a.link.phase ≡ serving
