@@ -12,11 +12,13 @@ abbrev pub IsLeft : Tunnel → Tunnel → Type 0
 IsLeft old new = (new ≡ at_stage gone old) ⊎ ((why : Cause) × (new ≡ left_with why old))
 
 -- what holds with any stage that it may have holds of it
-pub left_so : (P : Tunnel → Type 0) (old new : Tunnel) → P (at_stage gone old) → ((why : Cause) → P (at_stage (over why) old)) → IsLeft old new
+pub left_so : (P : Tunnel → Type 0) (old new : Tunnel) → P (at_stage gone old) → ((why : Cause) → P (at_stage (over why) old))
+    → IsLeft old new
     → P new
 left_so P old new at_gone at_over is =
     ⊎_elim (λ h. subst P (sym h) at_gone)
-    (λ h. subst P (sym h.1) (cond_both (old.up == 0) gone (over h.0) (λ stage. P (at_stage stage old)) (λ is. at_gone) (λ is. at_over h.0))) is
+    (λ h. subst P (sym h.1) (cond_both (old.up == 0) gone (over h.0) (λ stage. P (at_stage stage old)) (λ is. at_gone) (λ is. at_over h.0)))
+    is
 
 -- it has no place, and its target stays
 pub left_placeless : (old new : Tunnel) → IsLeft old new → (takes_place new.stage ≡ false) × (new.target ≡ old.target)

@@ -86,7 +86,8 @@ module _ (l : ℕ) (start : Resources) (a : Local) (before : List Part) (stands 
       let relays = all_relay l start a before stands s in
       let parts_of = is_done t.ways.down && not t.end_put in
       let done = (and_parts (is_done t.ways.down) (not t.end_put) (and_parts parts_of (not (data_waits c s)) may).0).0 in
-      let open_end = not-true t.end_put ((and_parts (is_done t.ways.down) (not t.end_put) (and_parts parts_of (not (data_waits c s)) may).0).1) in
+      let open_end = not-true t.end_put
+      ((and_parts (is_done t.ways.down) (not t.end_put) (and_parts parts_of (not (data_waits c s)) may).0).1) in
       let silent = not-true (data_waits c s) (and_parts parts_of (not (data_waits c s)) may).1 in
       let none = none_waits s (outgoing c).queue (or_parts (list_any (has_data_on s) (outgoing c).queue) _ silent).0 in
       let serves : Serves a.link = subst (λ (ph : Phase). WaitsIn ph a.link) is.0 (all_wait l start a before stands) in
@@ -94,7 +95,8 @@ module _ (l : ℕ) (start : Resources) (a : Local) (before : List Part) (stands 
       let goes = subst (λ (ph : Phase). GoesBy ph c) is.0 all.goes in
       let active = active_some (streams c) s (ap (λ b. b || (sides c s).peer) own) in
       let held : t.ways.down.held ≡ [] =
-      nil_from_length t.ways.down.held (grind (arith, nat_tests, (and_parts t.ways.down.has_ended (length t.ways.down.held == 0) done).1)) in
+      nil_from_length t.ways.down.held (grind (arith, nat_tests, (and_parts t.ways.down.has_ended (length t.ways.down.held == 0) done).1))
+      in
       let went = whole_went s (link_went before) all.begun (outgoing c).rest (outgoing c).begun
       (or_parts (list_any (has_data_on s) (outgoing c).queue) _ silent).1 all.shows all.ends in
       let rest : sends.follows.rest ≡ [] = sends.follows.goes (goes, active) ∙ held in

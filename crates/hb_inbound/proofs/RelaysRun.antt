@@ -95,7 +95,8 @@ module _ (l : ℕ) (start : Resources) (a : Local) (parts : List Part) (keeps : 
   calm_quiet : (p : Part) (y : Inbound) → Brings p → y.conn ≡ a.link.conn
       → ((s : ℕ) → Alike (a.link.tunnels s) (y.tunnels s)) → (s : ℕ) → Relays (parts ++ p ∷ []) y.conn s (y.tunnels s)
   calm_quiet p y brings same alike =
-      all_quiet p y brings (subst (λ (c : Connection). highest_used a.link.conn ≤ highest_used c) (sym same) (still (highest_used a.link.conn)))
+      all_quiet p y brings (subst (λ (c : Connection). highest_used a.link.conn ≤ highest_used c) (sym same)
+      (still (highest_used a.link.conn)))
       alike
 
   -- one tunnel changes
@@ -128,8 +129,10 @@ module _ (l : ℕ) (start : Resources) (a : Local) (parts : List Part) (keeps : 
   came_now k bytes serving =
       all_quiet (entry (e.Came k bytes)) (came_by serving bytes a.link) (λ s. refl, λ s. refl) (still (highest_used a.link.conn))
       (λ s. same_tunnel (a.link.tunnels s))
-  came_now k bytes (faulted code) = calm_quiet (entry (e.Came k bytes)) a.link (λ s. refl, λ s. refl) refl (λ s. same_tunnel (a.link.tunnels s))
-  came_now k bytes (closing why) = calm_quiet (entry (e.Came k bytes)) a.link (λ s. refl, λ s. refl) refl (λ s. same_tunnel (a.link.tunnels s))
+  came_now k bytes (faulted code) = calm_quiet (entry (e.Came k bytes)) a.link (λ s. refl, λ s. refl) refl
+      (λ s. same_tunnel (a.link.tunnels s))
+  came_now k bytes (closing why) = calm_quiet (entry (e.Came k bytes)) a.link (λ s. refl, λ s. refl) refl
+      (λ s. same_tunnel (a.link.tunnels s))
   came_now k bytes closed = calm_quiet (entry (e.Came k bytes)) a.link (λ s. refl, λ s. refl) refl (λ s. same_tunnel (a.link.tunnels s))
 
   ended_now : (p : Part) → Brings p → (phase : Phase) → let y = ended_by phase a.link in
@@ -152,9 +155,11 @@ module _ (l : ℕ) (start : Resources) (a : Local) (parts : List Part) (keeps : 
   broken_now p brings (closing why) = calm_quiet p a.link brings refl (λ s. same_tunnel (a.link.tunnels s))
   broken_now p brings closed = calm_quiet p a.link brings refl (λ s. same_tunnel (a.link.tunnels s))
 
-  entry_now : (z : Entry) → MayCome l a.link z → (s : ℕ) → Relays (parts ++ entry z ∷ []) (entered z a.link).conn s ((entered z a.link).tunnels s)
+  entry_now : (z : Entry) → MayCome l a.link z → (s : ℕ)
+      → Relays (parts ++ entry z ∷ []) (entered z a.link).conn s ((entered z a.link).tunnels s)
   entry_now (e.Accepted k d) may =
-      calm_quiet (entry (e.Accepted k d)) (entered (e.Accepted k d) a.link) (λ s. refl, λ s. refl) refl (λ s. same_tunnel (a.link.tunnels s))
+      calm_quiet (entry (e.Accepted k d)) (entered (e.Accepted k d) a.link) (λ s. refl, λ s. refl) refl
+      (λ s. same_tunnel (a.link.tunnels s))
   entry_now (e.Came k bytes) may = came_now k bytes a.link.phase
   entry_now (e.Ended k) may = ended_now (entry (e.Ended k)) (λ s. refl, λ s. refl) a.link.phase
   entry_now (e.Went k bytes) may =
@@ -164,7 +169,8 @@ module _ (l : ℕ) (start : Resources) (a : Local) (parts : List Part) (keeps : 
       (λ s. record { way = refl; went = refl; stage = same_stage (a.link.tunnels s).stage })
   entry_now (e.Broke k) may = broken_now (entry (e.Broke k)) (λ s. refl, λ s. refl) a.link.phase
   entry_now (e.Closed k why) may =
-      calm_quiet (entry (e.Closed k why)) (entered (e.Closed k why) a.link) (λ s. refl, λ s. refl) refl (λ s. same_tunnel (a.link.tunnels s))
+      calm_quiet (entry (e.Closed k why)) (entered (e.Closed k why) a.link) (λ s. refl, λ s. refl) refl
+      (λ s. same_tunnel (a.link.tunnels s))
   entry_now (e.Balked w) may =
       calm_quiet (entry (e.Balked w)) a.link (λ s. refl, λ s. refl) refl (λ s. same_tunnel (a.link.tunnels s))
   entry_now (e.Dialled k to why) may = absurd may
@@ -202,17 +208,29 @@ module _ (l : ℕ) (start : Resources) (a : Local) (parts : List Part) (keeps : 
       (λ now. was_more (is_peer_end k) parts p ((relays k).ends now))
       (λ now. was_more (is_peer_end k) parts p ((relays k).asked now)) (relays k))
       (λ s apart. quiet parts p a.link.conn a.link.conn s (a.link.tunnels s) (a.link.tunnels s) refl
-      (ap (λ (b : Bool). cond b bytes []) (swapped s k apart)) (still (highest_used a.link.conn)) (same_tunnel (a.link.tunnels s)) (relays s))
+      (ap (λ (b : Bool). cond b bytes []) (swapped s k apart)) (still (highest_used a.link.conn)) (same_tunnel (a.link.tunnels s))
+      (relays s))
 
   up_now : (k : ℕ) (z : Entry) → UpMayCome l k a.link (a.link.tunnels k) z → UpNow k z
   up_now k (e.Dialled u to why) may =
       up_quiet k (e.Dialled u to why) refl
-      (record { way = refl; went = refl; stage = later (a.link.tunnels k).stage opening (λ none. (let both = sym none ∙ may.1 in cc)) refl refl refl })
+      (record {
+        way = refl;
+        went = refl;
+        stage = later (a.link.tunnels k).stage opening (λ none. (let both = sym none ∙ may.1 in cc))
+            refl refl refl;
+      })
   up_now k (e.DialFailed to why) may = up_quiet k (e.DialFailed to why) refl (ends_alike cause.UpFault (a.link.tunnels k))
   up_now k (e.Opened u) may =
       up_quiet k (e.Opened u) refl
-      (record { way = refl; went = refl; stage = later (a.link.tunnels k).stage accepting (λ none. (let both = sym none ∙ may.1 in cc)) refl refl refl })
-  up_now k (e.Came u bytes) may = up_quiet k (e.Came u bytes) refl (record { way = refl; went = refl; stage = same_stage (a.link.tunnels k).stage })
+      (record {
+        way = refl;
+        went = refl;
+        stage = later (a.link.tunnels k).stage accepting (λ none. (let both = sym none ∙ may.1 in cc))
+            refl refl refl;
+      })
+  up_now k (e.Came u bytes) may = up_quiet k (e.Came u bytes) refl
+      (record { way = refl; went = refl; stage = same_stage (a.link.tunnels k).stage })
   up_now k (e.Ended u) may = up_quiet k (e.Ended u) refl (record { way = refl; went = refl; stage = same_stage (a.link.tunnels k).stage })
   up_now k (e.Went u bytes) may = up_went_now k u bytes may.2.0 may.0.1 may.2.1
   up_now k (e.Broke u) may = up_quiet k (e.Broke u) refl (ends_alike cause.UpFault (a.link.tunnels k))
@@ -226,7 +244,8 @@ module _ (l : ℕ) (start : Resources) (a : Local) (parts : List Part) (keeps : 
 
   -- WHAT IS TOLD
 
-  module _ (ps : List history.Point) (headers : HeaderList) (d : Connection) (calm : (s : ℕ) → is_unanswered (a.link.tunnels s).stage ≡ false)
+  module _ (ps : List history.Point) (headers : HeaderList) (d : Connection)
+      (calm : (s : ℕ) → is_unanswered (a.link.tunnels s).stage ≡ false)
     where
       abbrev Looks : Found → Type 0
       Looks told = IsLook a.link.conn ps told d
@@ -239,7 +258,8 @@ module _ (l : ℕ) (start : Resources) (a : Local) (parts : List Part) (keeps : 
 
       numbered : (told : Found) → Looks told → IsNumbered told a.link.conn d
       numbered told look =
-          told_are_numbered (moves parts) (tellings parts) (conn_came parts) (link_went parts) a.link.conn d told keeps.one.stands look.finds
+          told_are_numbered (moves parts) (tellings parts) (conn_came parts) (link_went parts) a.link.conn d told keeps.one.stands
+          look.finds
 
       asks_not : {A : Type 0} (s : ℕ) → is_asked (a.link.tunnels s).stage ≡ true → A
       asks_not s asks = absurd (false≢true (sym (not_asked (a.link.tunnels s).stage (calm s)) ∙ asks))
@@ -292,10 +312,12 @@ module _ (l : ℕ) (start : Resources) (a : Local) (parts : List Part) (keeps : 
       found_now : (told : Found) → Looks told → let y = on_found told headers d a.link in
           (s : ℕ) → Relays (parts ++ looked ps told headers ∷ []) y.conn s (y.tunnels s)
       found_now found.Silent look =
-          all_quiet (looked ps found.Silent headers) (record a.link { conn = d }) (comes found.Silent look, λ s. refl) (rises found.Silent look)
+          all_quiet (looked ps found.Silent headers) (record a.link { conn = d }) (comes found.Silent look, λ s. refl)
+          (rises found.Silent look)
           (λ s. same_tunnel (a.link.tunnels s))
       found_now (found.Opened s end) look =
-          one_changes (looked ps (found.Opened s end) headers) s (λ t. requested_with headers end) d (comes (found.Opened s end) look, λ k. refl)
+          one_changes (looked ps (found.Opened s end) headers) s (λ t. requested_with headers end) d
+          (comes (found.Opened s end) look, λ k. refl)
           (rises (found.Opened s end) look) (opened_here s end look)
       found_now (found.Chunk s end) look =
           let told = found.Chunk s end in
@@ -305,10 +327,12 @@ module _ (l : ℕ) (start : Resources) (a : Local) (parts : List Part) (keeps : 
           (comes told look k ∙ ap (λ (b : Bool). cond b bytes []) (swapped k s apart)) refl (rises told look)
           (same_tunnel (a.link.tunnels k)) (relays k))
       found_now (found.Ended s) look =
-          one_changes (looked ps (found.Ended s) headers) s peer_ended d (comes (found.Ended s) look, λ k. refl) (rises (found.Ended s) look)
+          one_changes (looked ps (found.Ended s) headers) s peer_ended d (comes (found.Ended s) look, λ k. refl)
+          (rises (found.Ended s) look)
           (ended_here s look)
       found_now (found.Reset s code) look =
-          one_quiet (looked ps (found.Reset s code) headers) s (ends_for (cause.PeerReset code)) d (comes (found.Reset s code) look, λ k. refl)
+          one_quiet (looked ps (found.Reset s code) headers) s (ends_for (cause.PeerReset code)) d
+          (comes (found.Reset s code) look, λ k. refl)
           (rises (found.Reset s code) look) (ends_alike (cause.PeerReset code) (a.link.tunnels s))
       found_now (found.Broken s code) look =
           one_quiet (looked ps (found.Broken s code) headers) s (ends_for (cause.StreamFault code)) d
@@ -319,7 +343,8 @@ module _ (l : ℕ) (start : Resources) (a : Local) (parts : List Part) (keeps : 
           (rises (found.GoneAway last) look) (λ s. same_tunnel (a.link.tunnels s))
       found_now (found.Fault code) look =
           all_quiet (looked ps (found.Fault code) headers) (on_found (found.Fault code) headers d a.link)
-          (comes (found.Fault code) look, λ s. refl) (rises (found.Fault code) look) (λ s. ends_alike (cause.ConnFault code) (a.link.tunnels s))
+          (comes (found.Fault code) look, λ s. refl) (rises (found.Fault code) look)
+          (λ s. ends_alike (cause.ConnFault code) (a.link.tunnels s))
 
   -- ANSWERS
 
@@ -331,7 +356,8 @@ module _ (l : ℕ) (start : Resources) (a : Local) (parts : List Part) (keeps : 
       one_changes (decided s full answer) s (λ t. tunnel_for answer headers end) a.link.conn (λ k. refl, λ k. refl)
       (still (highest_used a.link.conn)) (here answer end is)
     where
-      made : (p : Part) (end : Bool) (new : Tunnel) → (a.link.tunnels s).stage ≡ requested headers end → flat_map (data_by s) (moves_in p) ≡ []
+      made : (p : Part) (end : Bool) (new : Tunnel) → (a.link.tunnels s).stage ≡ requested headers end → flat_map (data_by s) (moves_in p)
+          ≡ []
           → up_went_in s p ≡ [] → new.ways.up.held ≡ [] → new.went_up ≡ 0 → is_live new.stage ≡ false → comes_ended new.stage ≡ false
           → (new.ways.up.has_ended ≡ true → end ≡ true) → Relays (parts ++ p ∷ []) a.link.conn s new
       made p end new is came went none zero lives asked ends =
@@ -365,12 +391,14 @@ module _ (l : ℕ) (start : Resources) (a : Local) (parts : List Part) (keeps : 
       one_changes p s (λ t. at_stage live (a.link.tunnels s)) d (λ k. refl, λ k. refl) up
       (grows parts p a.link.conn d s t (at_stage live t) [] [] refl refl (append-nil t.ways.up.held) up
       (λ above. absurd (let both = sym ((relays s).new (omega (arith, up, above))).0 ∙ is in cc))
-      (λ asks. absurd (false≢true asks)) ((relays s).counts ∙ none_more (length (up_went s parts))) (λ now. was_now (is_accept s) parts p (eq-eqb s s refl))
+      (λ asks. absurd (false≢true asks)) ((relays s).counts ∙ none_more (length (up_went s parts)))
+      (λ now. was_now (is_accept s) parts p (eq-eqb s s refl))
       (λ now. was_more (is_peer_end s) parts p ((relays s).ends now)) (λ now. absurd (false≢true now)) (relays s))
 
   refusal_raises : (s status : ℕ) (resets : Bool) → highest_used a.link.conn ≤ highest_used (refused_on s status resets a.link.conn)
   refusal_raises s status false =
-      raised (history.answered s (record { number = status; end = true })) (status_put a.link.conn s (record { number = status; end = true })) (tt, (refl, refl), refl)
+      raised (history.answered s (record { number = status; end = true }))
+      (status_put a.link.conn s (record { number = status; end = true })) (tt, (refl, refl), refl)
   refusal_raises s status true =
       let c = status_put a.link.conn s (record { number = status; end = true }) in
       let d = aborted c s 0 in
@@ -378,7 +406,8 @@ module _ (l : ℕ) (start : Resources) (a : Local) (parts : List Part) (keeps : 
       let second = points_raise c d (act (history.reset s 0)) (core_of d, (refl, refl), refl) in
       omega (arith, first, second)
 
-  refusal_brings : (s status : ℕ) (resets : Bool) (made : Note) (k : ℕ) → flat_map (data_by k) (moves_in (refused s status resets made)) ≡ []
+  refusal_brings : (s status : ℕ) (resets : Bool) (made : Note) (k : ℕ) → flat_map (data_by k) (moves_in (refused s status resets made))
+      ≡ []
   refusal_brings s status true made k = refl
   refusal_brings s status false made k = refl
 
@@ -396,11 +425,14 @@ module _ (l : ℕ) (start : Resources) (a : Local) (parts : List Part) (keeps : 
   step_relays (entry z) b steps = to (entry z) b (entered z a.link) steps.1 (entry_now z steps.0)
   step_relays (up k z) b steps = to (up k z) b (at_stream k (up_entered z) a.link) steps.1 (up_now k z steps.0)
   step_relays welcomed b steps =
-      to welcomed b _ steps.1 (calm_quiet welcomed (with_phase fronting a.link) (λ s. refl, λ s. refl) refl (λ s. same_tunnel (a.link.tunnels s)))
+      to welcomed b _ steps.1
+      (calm_quiet welcomed (with_phase fronting a.link) (λ s. refl, λ s. refl) refl (λ s. same_tunnel (a.link.tunnels s)))
   step_relays crowded b steps =
-      to crowded b _ steps.1 (calm_quiet crowded (with_phase (closing cause.NoRoom) a.link) (λ s. refl, λ s. refl) refl (λ s. same_tunnel (a.link.tunnels s)))
+      to crowded b _ steps.1
+      (calm_quiet crowded (with_phase (closing cause.NoRoom) a.link) (λ s. refl, λ s. refl) refl (λ s. same_tunnel (a.link.tunnels s)))
   step_relays lacked b steps =
-      to lacked b _ steps.1 (calm_quiet lacked (lacking a.link) (λ s. refl, λ s. refl) refl (λ s. ends_alike cause.NoMemory (a.link.tunnels s)))
+      to lacked b _ steps.1
+      (calm_quiet lacked (lacking a.link) (λ s. refl, λ s. refl) refl (λ s. ends_alike cause.NoMemory (a.link.tunnels s)))
   step_relays (part.fronted seen) b steps =
       let front = subst (λ (ph : Phase). FrontBy ph parts a.link) steps.0 keeps.front in
       to (part.fronted seen) b _ steps.4
@@ -408,7 +440,9 @@ module _ (l : ℕ) (start : Resources) (a : Local) (parts : List Part) (keeps : 
       (subst (λ (c : Connection). highest_used c ≤ highest_used fresh_server) (sym front.0.conn) (still (highest_used fresh_server)))
       (λ s. same_tunnel (a.link.tunnels s)))
   step_relays (misfronted fault) b steps =
-      to (misfronted fault) b _ steps.2 (calm_quiet (misfronted fault) (with_phase (closing (cause.FrontFault (number_of fault))) a.link) (λ s. refl, λ s. refl) refl (λ s. same_tunnel (a.link.tunnels s)))
+      to (misfronted fault) b _ steps.2
+      (calm_quiet (misfronted fault) (with_phase (closing (cause.FrontFault (number_of fault))) a.link) (λ s. refl, λ s. refl) refl
+      (λ s. same_tunnel (a.link.tunnels s)))
   step_relays (looked ps told headers) b steps =
       to (looked ps told headers) b (on_found told headers steps.2 a.link) steps.5 (found_now ps headers steps.2 steps.1 told steps.3)
   step_relays (decided s full answer) b steps = to (decided s full answer) b _ steps.5 (decided_now s full answer steps.1 steps.2 steps.3)
@@ -438,18 +472,21 @@ module _ (l : ℕ) (start : Resources) (a : Local) (parts : List Part) (keeps : 
   step_relays (put s bytes) b steps =
       let d = data_put a.link.conn s bytes in
       to (put s bytes) b _ steps.3
-      (one_quiet (put s bytes) s (λ t. put_down a.link.conn s (a.link.tunnels s)) d (λ k. refl, λ k. refl) (raised (history.put s bytes) d (tt, (refl, refl), refl))
+      (one_quiet (put s bytes) s (λ t. put_down a.link.conn s (a.link.tunnels s)) d (λ k. refl, λ k. refl)
+      (raised (history.put s bytes) d (tt, (refl, refl), refl))
       (record { way = refl; went = refl; stage = same_stage (a.link.tunnels s).stage }))
   step_relays (finished s) b steps =
       let d = end_put a.link.conn s in
       to (finished s) b _ steps.2
-      (one_quiet (finished s) s (λ t. record (a.link.tunnels s) { end_put = true }) d (λ k. refl, λ k. refl) (raised (history.ended s) d (tt, (refl, refl), refl))
+      (one_quiet (finished s) s (λ t. record (a.link.tunnels s) { end_put = true }) d (λ k. refl, λ k. refl)
+      (raised (history.ended s) d (tt, (refl, refl), refl))
       (record { way = refl; went = refl; stage = same_stage (a.link.tunnels s).stage }))
   step_relays (credited s n) b steps =
       let d = observed.credited a.link.conn s n in
       let within : n ≤ creditable a.link.conn s = omega (arith, steps.2) in
       to (credited s n) b _ steps.3
-      (one_quiet (credited s n) s (λ t. record (a.link.tunnels s) { owed = 0 }) d (λ k. refl, λ k. refl) (raised (history.credited s n) d (tt, (within, (refl, refl)), refl))
+      (one_quiet (credited s n) s (λ t. record (a.link.tunnels s) { owed = 0 }) d (λ k. refl, λ k. refl)
+      (raised (history.credited s n) d (tt, (within, (refl, refl)), refl))
       (record { way = refl; went = refl; stage = same_stage (a.link.tunnels s).stage }))
   step_relays (applied r) b steps =
       let h = after_response a.held r in
@@ -457,7 +494,8 @@ module _ (l : ℕ) (start : Resources) (a : Local) (parts : List Part) (keeps : 
       (calm_quiet (applied r) (rejudged h a.link) (λ s. refl, λ s. refl) refl
       (λ s. judged_alike (takes_place (a.link.tunnels s).stage) (judged h a.link.peer (a.link.tunnels s).target) (a.link.tunnels s)))
   step_relays (stopped why) b steps =
-      to (stopped why) b _ steps (calm_quiet (stopped why) (stopped_for why a.link) (λ s. refl, λ s. refl) refl (λ s. ends_alike why (a.link.tunnels s)))
+      to (stopped why) b _ steps
+      (calm_quiet (stopped why) (stopped_for why a.link) (λ s. refl, λ s. refl) refl (λ s. ends_alike why (a.link.tunnels s)))
 
 -- so it is of every run
 pub all_relay : (l : ℕ) (start : Resources) (a : Local) (parts : List Part) → StandsFor l start a parts

@@ -65,7 +65,8 @@ size_of s (f ∷ fs) = by (f.kind == data_kind && f.stream == s) (size_of s fs)
         → sum_by payload_size (cond b (f ∷ filter (is_data_of (Some s)) fs) (filter (is_data_of (Some s)) fs))
         ≡ length (cond b f.payload [] ++ payloads s fs)
     by true rest =
-        sum_by-cons payload_size f (filter (is_data_of (Some s)) fs) ∙ ap (λ (n : ℕ). length f.payload + n) rest ∙ sym (length-append f.payload (payloads s fs))
+        sum_by-cons payload_size f (filter (is_data_of (Some s)) fs) ∙ ap (λ (n : ℕ). length f.payload + n) rest
+        ∙ sym (length-append f.payload (payloads s fs))
     by false rest = rest
 
 -- with a part that brings none

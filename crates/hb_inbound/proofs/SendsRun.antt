@@ -124,7 +124,8 @@ module _ (l : ℕ) (start : Resources) (a : Local) (parts : List Part) (keeps : 
 
   -- what is left of the frames begun stays
   abbrev LeavesBegun : Connection → Type 1
-  LeavesBegun d = (Q : List ℕ → Option Head → Type 0) → Q (outgoing a.link.conn).rest (outgoing a.link.conn).begun → Q (outgoing d).rest (outgoing d).begun
+  LeavesBegun d = (Q : List ℕ → Option Head → Type 0) → Q (outgoing a.link.conn).rest (outgoing a.link.conn).begun
+      → Q (outgoing d).rest (outgoing d).begun
 
   shows_on : (p : Part) (d : Connection) → went_in p ≡ [] → LeavesBegun d
       → Shows [] (link_went (parts ++ p ∷ [])) all.begun (outgoing d)
@@ -207,14 +208,16 @@ module _ (l : ℕ) (start : Resources) (a : Local) (parts : List Part) (keeps : 
   came_now k bytes serving is =
       all_quiet (entry (e.Came k bytes)) (came_by serving bytes a.link) (refl, λ s. refl) (λ Q h. h) (came_stays bytes)
       (goes_with a.link.phase (taken a.link.conn bytes) (over_at is)) (λ s. same_down (a.link.tunnels s))
-  came_now k bytes unborn is = calm_quiet (entry (e.Came k bytes)) a.link (refl, λ s. refl) refl all.goes (λ s. same_down (a.link.tunnels s))
+  came_now k bytes unborn is = calm_quiet (entry (e.Came k bytes)) a.link (refl, λ s. refl) refl all.goes
+      (λ s. same_down (a.link.tunnels s))
   came_now k bytes arriving is =
       calm_quiet (entry (e.Came k bytes)) a.link (refl, λ s. refl) refl all.goes (λ s. same_down (a.link.tunnels s))
   came_now k bytes (faulted code) is =
       calm_quiet (entry (e.Came k bytes)) a.link (refl, λ s. refl) refl all.goes (λ s. same_down (a.link.tunnels s))
   came_now k bytes (closing why) is =
       calm_quiet (entry (e.Came k bytes)) a.link (refl, λ s. refl) refl all.goes (λ s. same_down (a.link.tunnels s))
-  came_now k bytes closed is = calm_quiet (entry (e.Came k bytes)) a.link (refl, λ s. refl) refl all.goes (λ s. same_down (a.link.tunnels s))
+  came_now k bytes closed is = calm_quiet (entry (e.Came k bytes)) a.link (refl, λ s. refl) refl all.goes
+      (λ s. same_down (a.link.tunnels s))
 
   ended_now : (p : Part) → BringsNone p → (phase : Phase) → AllSend (parts ++ p ∷ []) (ended_by phase a.link)
   ended_now p brings fronting = calm_quiet p (ended_by fronting a.link) brings refl tt (λ s. same_down (a.link.tunnels s))
@@ -339,7 +342,8 @@ module _ (l : ℕ) (start : Resources) (a : Local) (parts : List Part) (keeps : 
     Looks told = IsLook a.link.conn ps told d
 
     stay : (told : Found) → Looks told → Stays a.link.conn d
-    stay told look = looks_follow Server (moves parts) (tellings parts) (conn_came parts) (link_went parts) a.link.conn stands d ps told look
+    stay told look = looks_follow Server (moves parts) (tellings parts) (conn_came parts) (link_went parts) a.link.conn stands d ps told
+        look
 
     rests : (told : Found) → Looks told → LeavesBegun d
     rests told look Q h = found_leaves Q a.link.conn d told look.finds h
@@ -395,7 +399,8 @@ module _ (l : ℕ) (start : Resources) (a : Local) (parts : List Part) (keeps : 
         one_told (found.Broken s code) s (ends_for (cause.StreamFault code)) (λ code is. cc) look
         (ends_down (cause.StreamFault code) (a.link.tunnels s))
     found_now (found.GoneAway last) look =
-        all_quiet (looked ps (found.GoneAway last) headers) (record a.link { conn = d }) (refl, λ s. refl) (rests (found.GoneAway last) look)
+        all_quiet (looked ps (found.GoneAway last) headers) (record a.link { conn = d }) (refl, λ s. refl)
+        (rests (found.GoneAway last) look)
         (stay (found.GoneAway last) look) (goes_by (found.GoneAway last) (λ code is. cc) look) (λ s. same_down (a.link.tunnels s))
     found_now (found.Fault code) look =
         all_quiet (looked ps (found.Fault code) headers) (on_found (found.Fault code) headers d a.link) (refl, λ s. refl)
@@ -442,8 +447,10 @@ module _ (l : ℕ) (start : Resources) (a : Local) (parts : List Part) (keeps : 
   refusal_stays s status true = λ k begun xs w h.
       let c = status_put a.link.conn s (record { number = status; end = true }) in
       let m = history.answered s (record { number = status; end = true }) in
-      let after = acts_add Server (moves parts) (tellings parts) (conn_came parts) (link_went parts) a.link.conn c m (tt, (refl, refl), refl) stands in
-      resets_follow Server (moves parts ++ history.point m found.Silent ∷ []) (tellings parts) (conn_came parts) (link_went parts) c after s 0
+      let after = acts_add Server (moves parts) (tellings parts) (conn_came parts) (link_went parts) a.link.conn c m
+      (tt, (refl, refl), refl) stands in
+      resets_follow Server (moves parts ++ history.point m found.Silent ∷ []) (tellings parts) (conn_came parts) (link_went parts) c after s
+      0
       k begun xs w (answers s status true k begun xs w h)
 
   refusal_rests : (s status : ℕ) (resets : Bool) → LeavesBegun (refused_on s status resets a.link.conn)

@@ -143,7 +143,8 @@ up_gentle l s x (e.Dialled u to why) may =
     let t = x.tunnels s in (
       record {
         own = λ speaks_now open_now. (ap speaks may.1, open_now);
-        waits = λ some. absurd (false≢true (sym (none_of t.end_put) ∙ sym (ap (λ (st : Stage). not t.end_put && holds_data st) may.1) ∙ some));
+        waits = λ some. absurd
+            (false≢true (sym (none_of t.end_put) ∙ sym (ap (λ (st : Stage). not t.end_put && holds_data st) may.1) ∙ some));
         spent = λ was. was;
         early = λ was now. was (ap is_before may.1);
       },
@@ -156,8 +157,11 @@ up_gentle l s x (e.Dialled u to why) may =
 up_gentle l s x (e.DialFailed to why) may = (end_gentle cause.UpFault (x.tunnels s) refl, λ none. (let both = sym none ∙ may.1 in cc))
 up_gentle l s x (e.Opened u) may =
     let t = x.tunnels s in
-    let gentle = stage_gentle t opening accepting may.1 (λ b. refl) (λ b. absurd (false≢true b)) (λ b. refl) in
-    (record { own = gentle.own; waits = gentle.waits; spent = gentle.spent; early = gentle.early }, λ none. (let both = sym none ∙ may.1 in cc))
+    let gentle = stage_gentle t opening accepting may.1 (λ b. refl) (λ b. absurd (false≢true b)) (λ b. refl) in (
+      record { own = gentle.own; waits = gentle.waits; spent = gentle.spent; early = gentle.early },
+      λ none.
+          (let both = sym none ∙ may.1 in cc),
+    )
 up_gentle l s x (e.Came u bytes) may =
     let t = x.tunnels s in
     (adds_gentle t (up_entered (e.Came u bytes) t) (omega (arith, may.2, may.3)) refl refl, λ none. (let both = sym none ∙ may.0.1 in cc))
@@ -409,7 +413,8 @@ shut_serves x y d s next set conn tunnel waits outside others sided shut serves 
       waits = subst (λ (c : Connection). WaitsWithin (set_of y) (outgoing c)) (sym conn)
           (within_more set (set_of y) (outgoing d)
           (λ k some. ap may_wait (tunnel k)
-          ∙ at_one s (λ t. next) x (λ j t. set j ≡ true → may_wait t ≡ true) (λ is. absurd (outside is)) (λ j apart is. others j apart is) k some)
+          ∙ at_one s (λ t. next) x (λ j t. set j ≡ true → may_wait t ≡ true) (λ is. absurd (outside is)) (λ j apart is. others j apart is) k
+          some)
           waits);
     }
 
@@ -574,7 +579,8 @@ module _ (l : ℕ) (a : Local) (parts : List Part) (keeps : Keeps parts a.link) 
 
   one_gentle : (s : ℕ) (new : Tunnel) → IsGentle (a.link.tunnels s) new → (d : Connection) → (k : ℕ)
       → IsGentle (a.link.tunnels k) ((with_tunnel s new d a.link).tunnels k)
-  one_gentle s new gentle d = at_one s (λ t. new) a.link (λ k t. IsGentle (a.link.tunnels k) t) gentle (λ k apart. gentle_same (a.link.tunnels k))
+  one_gentle s new gentle d = at_one s (λ t. new) a.link (λ k t. IsGentle (a.link.tunnels k) t) gentle
+      (λ k apart. gentle_same (a.link.tunnels k))
 
   accepted_waits : (s : ℕ) → a.link.phase ≡ serving → (a.link.tunnels s).stage ≡ accepting
       → Serves (with_tunnel s (at_stage live (a.link.tunnels s)) (status_put a.link.conn s (record { number = 200; end = false })) a.link)
