@@ -57,7 +57,8 @@ puts_behind start seen target note r bytes not law =
 
 pub reads_behind : ReadsBehind
 reads_behind start seen target note r bytes not law =
-    let open_yet : 3 ≡ 0 = last (EndsAt start) (lived seen target note r) (entry (e.Came 2 bytes)) law 1 cause.Revoked (revoked start seen target note r not) in
+    let open_yet : 3 ≡ 0 = last (EndsAt start) (lived seen target note r) (entry (e.Came 2 bytes)) law 1 cause.Revoked
+    (revoked start seen target note r not) in
     absurd (omega (arith, open_yet))
 
 pub closes_for_another : ClosesForAnother

@@ -1,11 +1,15 @@
 pub mod Access
 pub mod Block
 pub mod Calm
+pub mod Closes
+pub mod ClosesRefused
 pub mod Connections
 pub mod Dials
 pub mod Ends
 pub mod Inbound
 pub mod Laws
+pub mod Notes
+pub mod NotesRefused
 pub mod Part
 pub mod Refused
 pub mod RefusedEnds

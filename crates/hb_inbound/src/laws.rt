@@ -1,9 +1,13 @@
 //! Small steps that no run of an inbound link takes, and what an update does. Each is the contract of a function that does nothing.
 
 ghost use Rattle.hb_inbound.specs.Refused.{DialsUnasked, AcceptsUnopened, WritesUnopened, ShutsEarly, EndsEarly, WritesRevoked};
-ghost use Rattle.hb_inbound.specs.Laws.{RunsAdmit, RunsAnswer, RunsEnd, RunsObeyConnections, RunsObeyWindows, RunsRelayDown, RunsRelayUp};
+ghost use Rattle.hb_inbound.specs.Laws.{RunsAdmit, RunsAnswer, RunsClose, RunsDial, RunsEnd, RunsNote, RunsObeyConnections, RunsObeyWindows};
+ghost use Rattle.hb_inbound.specs.Laws.{RunsFitRings, RunsRelayDown, RunsRelayUp};
 ghost use Rattle.hb_inbound.specs.Dials.{DialsElsewhere, LeavesOutDial, DialsTwice, DialsForAnother, DialMayGo};
-ghost use Rattle.hb_inbound.specs.Laws.{RunsDial, RunsFitRings};
+ghost use Rattle.hb_inbound.specs.ClosesRefused.{ClosesHealthy, ClosesForSecond, ClosesBroken, ReadsEnded, LooksStopped, WritesTwice};
+ghost use Rattle.hb_inbound.specs.ClosesRefused.{ClosesTwice, TurnsAwayLate, ClosesMisfronted, WritesOnce};
+ghost use Rattle.hb_inbound.specs.NotesRefused.{NotesUnasked, NotesOther, NotesElsewhere, EndsUnaccepted, EndsAlive, EndsTwice};
+ghost use Rattle.hb_inbound.specs.NotesRefused.{CountsNoneUp, CountsNoneDown, ReadsUnnoted, ClosesUnnoted, EndsUnnoted, NotesBoth};
 ghost use Rattle.hb_inbound.specs.Rings.{ComesBeyond, WindowMayCome};
 ghost use Rattle.hb_inbound.specs.RefusedRuns.{WritesBehind, GoesOnBehind, PutsBehind, ReadsBehind, ClosesForAnother, ClosesAdmitted};
 ghost use Rattle.hb_inbound.specs.RefusedRuns.{DialsUnbidden, GoesOnAdmitted, ClosesRevoked};
@@ -148,4 +152,48 @@ pub fn wrong_verdicts_are_refused()
     ensures known { RefusesKnown }
     ensures past { RefusesByThePast }
     ensures another { DialsAnother }
+{}
+
+/// The link is closed for the first cause that ended it: its front header, its peer's end, a break, a connection error, want of memory or
+/// of a place, the run's stop. Behind it nothing is read or looked at on the link, nothing is put, and it is closed once.
+pub fn links_close_once()
+    ensures { RunsClose }
+{}
+
+/// Of each request there is one note at its answer, with its status, peer and target, and of each tunnel that lived one at its end, with
+/// the first cause and what truly went each way; of a tunnel that ended while it was pending and got no status there is none.
+pub fn notes_are_told()
+    ensures { RunsNote }
+{}
+
+/// A healthy link isn't closed, nor one that ended for another cause than the first, nor one twice; none is turned away once it was taken
+/// in. Behind its end it isn't read, looked at or written, but once behind a connection error.
+pub fn early_closes_are_refused()
+    ensures healthy { ClosesHealthy }
+    ensures second { ClosesForSecond }
+    ensures another { ClosesBroken }
+    ensures reads { ReadsEnded }
+    ensures looks { LooksStopped }
+    ensures writes { WritesTwice }
+    ensures twice { ClosesTwice }
+    ensures late { TurnsAwayLate }
+    ensures misfronted { ClosesMisfronted }
+    ensures once { WritesOnce }
+{}
+
+/// A note that nothing asked for is refused, one with another status or target, an end that didn't come yet, never comes or is noted
+/// already, and a count that leaves out what went; so is a run that goes on without the note of an end.
+pub fn wrong_notes_are_refused()
+    ensures unasked { NotesUnasked }
+    ensures other { NotesOther }
+    ensures elsewhere { NotesElsewhere }
+    ensures unaccepted { EndsUnaccepted }
+    ensures alive { EndsAlive }
+    ensures twice { EndsTwice }
+    ensures up { CountsNoneUp }
+    ensures down { CountsNoneDown }
+    ensures reads { ReadsUnnoted }
+    ensures closes { ClosesUnnoted }
+    ensures unnoted { EndsUnnoted }
+    ensures both { NotesBoth }
 {}
