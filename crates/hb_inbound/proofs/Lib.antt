@@ -31,3 +31,4 @@ pub mod VerdictsRefused
 pub mod Waiting
 pub mod WaitingRun
 pub mod WindowsRun
+pub mod Whole

@@ -22,3 +22,4 @@ pub mod Sides
 pub mod Tunnel
 pub mod Verdicts
 pub mod VerdictsRefused
+pub mod Whole

@@ -9,6 +9,7 @@ ghost use Rattle.hb_inbound.specs.ClosesRefused.{ClosesDone, ClosesTwice, TurnsA
 ghost use Rattle.hb_inbound.specs.NotesRefused.{NotesUnasked, NotesOther, NotesElsewhere, EndsUnaccepted, EndsAlive, EndsTwice};
 ghost use Rattle.hb_inbound.specs.NotesRefused.{CountsNoneUp, CountsNoneDown, ReadsUnnoted, ClosesUnnoted, EndsUnnoted};
 ghost use Rattle.hb_inbound.specs.NotesRefused.{LeavesStanding, NotesBoth};
+ghost use Rattle.hb_inbound.specs.Whole.{LifeMayGo};
 ghost use Rattle.hb_inbound.specs.Rings.{ComesBeyond, WindowMayCome};
 ghost use Rattle.hb_inbound.specs.RefusedRuns.{WritesBehind, GoesOnBehind, PutsBehind, ReadsBehind, ClosesForAnother, ClosesAdmitted};
 ghost use Rattle.hb_inbound.specs.RefusedRuns.{DialsUnbidden, GoesOnAdmitted, ClosesRevoked};
@@ -200,4 +201,10 @@ pub fn wrong_notes_are_refused()
     ensures unnoted { EndsUnnoted }
     ensures standing { LeavesStanding }
     ensures both { NotesBoth }
+{}
+
+/// The whole life of a tunnel may go, with an update between two of its bytes: it is asked for, dialled, opened and accepted, a byte goes, a
+/// response is applied that still admits its peer, another byte goes, both sides end, and it is done.
+pub fn a_whole_life_may_go()
+    ensures { LifeMayGo }
 {}
