@@ -1,0 +1,74 @@
+-- What every run of the whole proxy obeys.
+use Rattle.std.specs.Prelude.{◌≡◌, ℕ, List}
+use Rattle.hb_held.specs.Held.{Resources, nothing_held}
+use Rattle.hb_inbound.specs.Connections.{ConnectionLaw, WindowLaw}
+use Rattle.hb_inbound.specs.Ends.{EndLaw}
+use Rattle.hb_inbound.specs.Part.{Part}
+use Rattle.hb_inbound.specs.Runs as inbound
+use Rattle.hb_inbound.specs.Sides as inbound_sides
+use Rattle.hb_inbound.specs.Verdicts.{VerdictLaw}
+use Rattle.hb_model.specs.Messages as messages
+use Rattle.hb_model.specs.Runs as model
+use Rattle.hb_model.specs.declared.config.NodeConfig.{NodeConfig}
+use Rattle.hb_proxy.specs.Access.{AccessLaw}
+use Rattle.hb_proxy.specs.Machine.{Machine, local}
+use Rattle.hb_proxy.specs.Owners.{OwnLaw, NumberLaw, UpstreamLaw}
+use Rattle.hb_proxy.specs.Points.{Point, entries, control_of, parts_of}
+use Rattle.hb_proxy.specs.Relay.{RelayLaw}
+use Rattle.hb_proxy.specs.Runs.{StandsFor}
+use Rattle.hb_proxy.specs.Sides.{SideLaw}
+
+-- what is held at the start
+abbrev pub at_start : NodeConfig → Resources
+at_start g = nothing_held g.network g.node
+
+-- THE PARTS
+
+-- the control plane's points are a run of its machine, and each inbound link's parts one of the link's, with what that holds
+abbrev pub ControlRuns : Type 0
+ControlRuns = (g : NodeConfig) (x : Machine) (points : List Point) → StandsFor g x points
+    → model.StandsFor g x.control (control_of points)
+
+abbrev pub LinksRun : Type 0
+LinksRun = (g : NodeConfig) (x : Machine) (points : List Point) (l : ℕ) → StandsFor g x points
+    → inbound.StandsFor l (at_start g) (local x l) (parts_of l points)
+
+-- so what is held at an inbound link is what the control plane's responses make
+abbrev pub LinksHold : Type 0
+LinksHold = (g : NodeConfig) (x : Machine) (points : List Point) (l : ℕ) → StandsFor g x points
+    → inbound_sides.held (at_start g) (parts_of l points) ≡ messages.held g (control_of points)
+
+-- WHOSE A LINK IS
+
+-- each entry stands on a link of its own part, links are numbered in the order of births, each upstream is of a stream of its own
+abbrev pub RunsOwn : Type 0
+RunsOwn = (g : NodeConfig) (x : Machine) (points : List Point) → StandsFor g x points → OwnLaw points
+
+abbrev pub RunsNumber : Type 0
+RunsNumber = (g : NodeConfig) (x : Machine) (points : List Point) → StandsFor g x points → NumberLaw (entries points)
+
+abbrev pub RunsDialOnce : Type 0
+RunsDialOnce = (g : NodeConfig) (x : Machine) (points : List Point) → StandsFor g x points → UpstreamLaw (entries points)
+
+-- so the bytes of a link are the same in the trace and in its part
+abbrev pub RunsShareSides : Type 0
+RunsShareSides = (g : NodeConfig) (x : Machine) (points : List Point) → StandsFor g x points → SideLaw points
+
+-- WHAT IS SAID OF INBOUND LINKS
+
+abbrev pub RunsAdmit : Type 0
+RunsAdmit = (g : NodeConfig) (x : Machine) (points : List Point) → StandsFor g x points → AccessLaw g points
+
+abbrev pub RunsRelay : Type 0
+RunsRelay = (g : NodeConfig) (x : Machine) (points : List Point) → StandsFor g x points → RelayLaw points
+
+-- the laws of one inbound link
+pub record LinkLaws (start : Resources) (parts : List Part) : Type 0 where
+  pub connection : ConnectionLaw parts
+  pub windows : WindowLaw parts
+  pub ends : EndLaw start parts
+  pub verdicts : VerdictLaw start parts
+
+abbrev pub RunsObeyLinks : Type 0
+RunsObeyLinks = (g : NodeConfig) (x : Machine) (points : List Point) (l : ℕ) → StandsFor g x points
+    → LinkLaws (at_start g) (parts_of l points)

@@ -1,0 +1,9 @@
+pub mod Access
+pub mod Laws
+pub mod Machine
+pub mod Owners
+pub mod Points
+pub mod Refused
+pub mod Relay
+pub mod Runs
+pub mod Sides
