@@ -1,1 +1,13 @@
+pub mod Access
+pub mod Control
+pub mod ControlBorn
+pub mod Links
+pub mod Own
+pub mod Owned
+pub mod Places
 pub mod Projection
+pub mod Refusing
+pub mod Relay
+pub mod Sides
+pub mod Stays
+pub mod Stopped

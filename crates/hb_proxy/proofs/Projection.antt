@@ -1,6 +1,6 @@
 -- Each run of the whole is, for the control plane and for each inbound link, a run of its own machine.
-use Rattle.std.proofs.Common.{◌≡◌, ℕ, ◌==◌, Bool, true, false, List, [], ◌∷◌, ◌++◌, fold, refl, ap, sym, ◌∙◌, subst, cond}
-use Rattle.std.proofs.lemmas.Bool.{cond_both, eqb-true}
+use Rattle.std.proofs.Common.{◌≡◌, ℕ, ◌==◌, Bool, true, false, List, [], ◌∷◌, ◌++◌, refl, ap, sym, ◌∙◌, subst, cond, arith}
+use Rattle.std.proofs.lemmas.Bool.{eqb-true}
 use Rattle.std.proofs.lemmas.List.{append-nil}
 use Rattle.std.proofs.lemmas.Grind.{flat_map-append}
 use Rattle.std.specs.List.{flat_map}
@@ -10,18 +10,16 @@ use Rattle.hb_inbound.specs.Part as part
 use Rattle.hb_inbound.specs.Part.{Part}
 use Rattle.hb_inbound.specs.Runs as inbound
 use Rattle.hb_inbound.specs.Runs.{Local}
-use Rattle.hb_inbound.specs.Sides as inbound_sides
 use Rattle.hb_model.specs.Machine as control
-use Rattle.hb_model.specs.Messages as messages
 use Rattle.hb_model.specs.Point as point
 use Rattle.hb_model.specs.Runs as model
 use Rattle.hb_inbound.proofs.AdmittedRun.{all_admit}
 use Rattle.hb_model.proofs.MessagesRun.{held_is}
 use Rattle.hb_model.specs.declared.config.NodeConfig.{NodeConfig}
 use Rattle.hb_proxy.specs.Laws.{at_start, ControlRuns, LinksRun, LinksHold}
-use Rattle.hb_proxy.specs.Machine.{Machine, fresh, local, with_control, with_part}
-use Rattle.hb_proxy.specs.Points.{Point, of_control, of_link, control_in, control_of, seen, part_in, parts_of}
-use Rattle.hb_proxy.specs.Runs.{Steps, StandsFor, begins, goes_on}
+use Rattle.hb_proxy.specs.Machine.{Machine, local, with_control, with_part}
+use Rattle.hb_proxy.specs.Points.{Point, of_control, of_link, control_in, control_of, part_in, parts_of}
+use Rattle.hb_proxy.specs.Runs.{Steps, begins, goes_on}
 
 pub one_more : {X A : Type 0} (f : X → List A) (xs : List X) (x : X) → flat_map f (xs ++ x ∷ []) ≡ flat_map f xs ++ f x
 one_more f xs x = flat_map-append f xs (x ∷ []) ∙ ap (λ ys. flat_map f xs ++ ys) (append-nil (f x))
@@ -51,7 +49,7 @@ control_runs g y more (goes_on {x = x} {points = points} stands p steps are) =
 
 module _ (g : NodeConfig) (x : Machine) (points : List Point) (l : ℕ)
     (stands : inbound.StandsFor l (at_start g) (local x l) (parts_of l points)) where
-  Goes : Machine → Point → Type 0
+  abbrev Goes : Machine → Point → Type 0
   Goes y p = inbound.StandsFor l (at_start g) (local y l) (parts_of l (points ++ p ∷ []))
 
   -- it sees one part more, or none
@@ -73,26 +71,26 @@ module _ (g : NodeConfig) (x : Machine) (points : List Point) (l : ℕ)
   control_seen : (q : point.Point) (next : control.Machine) → model.Steps g x.control q next
       → Goes (with_control q next x) (of_control q)
   control_seen (point.entry e) next steps =
-      sees_none (of_control (point.entry e)) _ refl
+      sees_none (of_control (point.entry e)) (with_control (point.entry e) next x) refl
       (holds (point.entry e) next (ap (λ (m : control.Machine). m.held) steps.1))
   control_seen (point.looked k ps told headers) next steps =
-      sees_none (of_control (point.looked k ps told headers)) _ refl
+      sees_none (of_control (point.looked k ps told headers)) (with_control (point.looked k ps told headers) next x) refl
       (holds (point.looked k ps told headers) next (ap (λ (m : control.Machine). m.held) steps.4))
   control_seen (point.applied k r) next steps =
-      sees (of_control (point.applied k r)) _ (part.applied r) refl
+      sees (of_control (point.applied k r)) (with_control (point.applied k r) next x) (part.applied r) refl
       (ap (λ (h : Resources). record { held = h; link = (with_control (point.applied k r) next x).inbound l })
       (ap (λ (m : control.Machine). m.held) steps.3))
   control_seen (point.refused k) next steps =
-      sees_none (of_control (point.refused k)) _ refl
+      sees_none (of_control (point.refused k)) (with_control (point.refused k) next x) refl
       (holds (point.refused k) next (ap (λ (m : control.Machine). m.held) steps.2))
   control_seen (point.used k n) next steps =
-      sees_none (of_control (point.used k n)) _ refl
+      sees_none (of_control (point.used k n)) (with_control (point.used k n) next x) refl
       (holds (point.used k n) next (ap (λ (m : control.Machine). m.held) steps.2))
   control_seen (point.put k bytes) next steps =
-      sees_none (of_control (point.put k bytes)) _ refl
+      sees_none (of_control (point.put k bytes)) (with_control (point.put k bytes) next x) refl
       (holds (point.put k bytes) next (ap (λ (m : control.Machine). m.held) steps.3))
   control_seen (point.stopped why) next steps =
-      sees (of_control (point.stopped why)) _ (part.stopped why) refl
+      sees (of_control (point.stopped why)) (with_control (point.stopped why) next x) (part.stopped why) refl
       (ap (λ (h : Resources). record { held = h; link = (with_control (point.stopped why) next x).inbound l })
       (ap (λ (m : control.Machine). m.held) steps.1))
 
@@ -102,13 +100,13 @@ module _ (g : NodeConfig) (x : Machine) (points : List Point) (l : ℕ)
     where
       by : (same : Bool) → (k == l) ≡ same → Goes (with_part k p next x) (of_link k p)
       by false is =
-          sees_none (of_link k p) _ (ap (λ (b : Bool). cond b (p ∷ []) []) is)
+          sees_none (of_link k p) (with_part k p next x) (ap (λ (b : Bool). cond b (p ∷ []) []) is)
           (ap (λ (b : Bool). record { held = x.control.held; link = cond b next (x.inbound l) }) (other l k is))
         where
           other : (a b : ℕ) → (b == a) ≡ false → (a == b) ≡ false
           other a b is = grind (arith, is)
       by true is =
-          sees (of_link k p) _ p (ap (λ (b : Bool). cond b (p ∷ []) []) is)
+          sees (of_link k p) (with_part k p next x) p (ap (λ (b : Bool). cond b (p ∷ []) []) is)
           (let same : k ≡ l = eqb-true k l is in
           subst (λ (j : ℕ). inbound.Steps j (local x j) p (local (with_part k p next x) j)) same
           (subst (λ (a : Local). inbound.Steps k (local x k) p a)

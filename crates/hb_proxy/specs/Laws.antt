@@ -11,6 +11,7 @@ use Rattle.hb_model.specs.Messages as messages
 use Rattle.hb_model.specs.Runs as model
 use Rattle.hb_model.specs.declared.config.NodeConfig.{NodeConfig}
 use Rattle.hb_proxy.specs.Access.{AccessLaw}
+use Rattle.hb_proxy.specs.Control.{EntryLaws, ControlLaws}
 use Rattle.hb_proxy.specs.Machine.{Machine, local}
 use Rattle.hb_proxy.specs.Owners.{OwnLaw, NumberLaw, UpstreamLaw}
 use Rattle.hb_proxy.specs.Points.{Point, entries, control_of, parts_of}
@@ -72,3 +73,13 @@ pub record LinkLaws (start : Resources) (parts : List Part) : Type 0 where
 abbrev pub RunsObeyLinks : Type 0
 RunsObeyLinks = (g : NodeConfig) (x : Machine) (points : List Point) (l : ℕ) → StandsFor g x points
     → LinkLaws (at_start g) (parts_of l points)
+
+-- WHAT IS SAID OF THE CONTROL PLANE
+
+-- at each entry of the trace, of whatever part
+abbrev pub RunsObeyEntries : Type 0
+RunsObeyEntries = (g : NodeConfig) (x : Machine) (points : List Point) → StandsFor g x points → EntryLaws points
+
+-- and of its own points
+abbrev pub RunsObeyControl : Type 0
+RunsObeyControl = (g : NodeConfig) (x : Machine) (points : List Point) → StandsFor g x points → ControlLaws g (control_of points)

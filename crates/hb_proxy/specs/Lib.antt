@@ -1,4 +1,5 @@
 pub mod Access
+pub mod Control
 pub mod Laws
 pub mod Machine
 pub mod Owners

@@ -1,5 +1,5 @@
 -- Small steps that no run of the whole proxy takes, small runs that its laws refuse, and some that may go.
-use Rattle.std.specs.Prelude.{⊥, ◌≡◌, ◌≢◌, ℕ, false, List, [], ◌∷◌, ◌++◌}
+use Rattle.std.specs.Prelude.{◌≡◌, ◌≢◌, ℕ, false, List, [], ◌∷◌, ◌++◌}
 use Rattle.hb_base.specs.declared.door.Door.TheVariants as door
 use Rattle.hb_base.specs.declared.door.Why.TheVariants as whys
 use Rattle.hb_base.specs.declared.note.Note.{Note}
@@ -13,7 +13,6 @@ use Rattle.hb_inbound.specs.RefusedRuns.{IsRevoked, StaysIn}
 use Rattle.hb_model.specs.Point as point
 use Rattle.hb_model.specs.declared.config.NodeConfig.{NodeConfig}
 use Rattle.hb_verdict.specs.declared.verdict.Verdict.TheVariants.{Dial}
-use Rattle.hb_world.specs.declared.entry.Entry.{Entry}
 use Rattle.hb_world.specs.declared.entry.Entry.TheVariants as e
 use Rattle.hb_proxy.specs.Access.{AccessLaw}
 use Rattle.hb_proxy.specs.Laws.{at_start}

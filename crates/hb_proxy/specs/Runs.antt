@@ -1,5 +1,5 @@
 -- Which point of the whole proxy may come next, and what a run of it is.
-use Rattle.std.specs.Prelude.{⊤, ⊥, ◌≡◌, ◌≢◌, ℕ, ◌+◌, ◌||◌, Bool, true, false, List, [], ◌∷◌, ◌++◌}
+use Rattle.std.specs.Prelude.{⊤, ◌≡◌, ◌≢◌, ℕ, ◌+◌, ◌||◌, Bool, true, false, List, [], ◌∷◌, ◌++◌}
 use Rattle.hb_inbound.specs.Calm.{IsCalm, IsQuiet}
 use Rattle.hb_inbound.specs.Inbound as link
 use Rattle.hb_inbound.specs.Inbound.{Inbound}

@@ -2,7 +2,6 @@
 use Rattle.std.specs.Prelude.{◌≡◌, ◌≢◌, ℕ, List, [], ◌∷◌, ◌++◌}
 use Rattle.hb_inbound.specs.Part.{Part}
 use Rattle.hb_inbound.specs.Sides.{link_came, link_went, up_came, up_went}
-use Rattle.hb_model.specs.Calls.{IsControl}
 use Rattle.hb_model.specs.Point as model
 use Rattle.hb_world.specs.Trace.{recv, sent}
 use Rattle.hb_proxy.specs.Owners.{owner, control_plane, inbound_link, upstream_of}

@@ -1,6 +1,9 @@
 //! Laws over every run of the whole proxy. Each is the contract of a function that does nothing.
 
-ghost use Rattle.hb_proxy.specs.Laws.{ControlRuns, LinksRun, LinksHold};
+ghost use Rattle.hb_proxy.specs.Laws.{ControlRuns, LinksRun, LinksHold, RunsOwn, RunsNumber, RunsDialOnce, RunsShareSides};
+ghost use Rattle.hb_proxy.specs.Laws.{RunsAdmit, RunsRelay, RunsObeyLinks, RunsObeyEntries, RunsObeyControl};
+ghost use Rattle.hb_proxy.specs.Refused.{ComesUnborn, ReadsUnborn, ReadsAnothers, BornTwice, BornAgain, SeesAlone, SeeAll};
+ghost use Rattle.hb_proxy.specs.Refused.{AnswersAnother, AnswersControl, WritesBehind, GoesOnAdmitted, RunMayGo};
 
 /// The points of the control plane are a run of its machine, and what happens to each inbound link is a run of that link's, with the
 /// resources that the control plane holds.
@@ -8,4 +11,60 @@ pub fn parts_are_runs()
     ensures control { ControlRuns }
     ensures links { LinksRun }
     ensures held { LinksHold }
+{}
+
+/// Each entry stands on a link of its own part, links are numbered in the order of births, and each upstream is of a stream of its own.
+/// So the bytes that came and went on a link are the same in the trace and in the link's part.
+pub fn links_have_owners()
+    ensures own { RunsOwn }
+    ensures numbers { RunsNumber }
+    ensures upstreams { RunsDialOnce }
+    ensures sides { RunsShareSides }
+{}
+
+/// No byte goes to an upstream, and no DATA frame with payload begins on an inbound link, unless the resources held then, by the control
+/// plane's responses, admit the tunnel's peer at its target.
+pub fn peers_are_admitted()
+    ensures { RunsAdmit }
+{}
+
+/// The bytes that went to an upstream are a front of the DATA that came on its stream, and the DATA that went on the stream is a front of
+/// what came from the upstream. Bytes go and sides end only where they may.
+pub fn bytes_are_relayed()
+    ensures { RunsRelay }
+{}
+
+/// Each inbound link's connection is one history, its DATA fits the windows, its tunnels end for the first cause that applies, and its
+/// requests get the answers that are due.
+pub fn links_obey()
+    ensures { RunsObeyLinks }
+{}
+
+/// At each entry of the trace, of whatever part, no link to the control plane has ended that isn't closed, but for the one write behind
+/// a connection error and closes; every response that came is applied, and every frame that came is looked at, and none of them ended
+/// the link's stream. The control plane's points obey the laws of its machine.
+pub fn control_plane_obeys()
+    ensures entries { RunsObeyEntries }
+    ensures own { RunsObeyControl }
+{}
+
+/// Nothing comes on a link that nobody bore, or that is another part's; no number is born twice; no link sees an update that another
+/// doesn't see; no dial is answered to another part; and no byte goes to an upstream behind an update that no longer admits the peer.
+pub fn wrong_runs_are_refused()
+    ensures comes { ComesUnborn }
+    ensures unborn { ReadsUnborn }
+    ensures anothers { ReadsAnothers }
+    ensures twice { BornTwice }
+    ensures again { BornAgain }
+    ensures alone { SeesAlone }
+    ensures together { SeeAll }
+    ensures another { AnswersAnother }
+    ensures control { AnswersControl }
+    ensures writes { WritesBehind }
+{}
+
+/// A link may be accepted behind the dial of the control plane, and a byte may go behind an update that still admits the peer.
+pub fn good_runs_may_go()
+    ensures run { RunMayGo }
+    ensures goes_on { GoesOnAdmitted }
 {}

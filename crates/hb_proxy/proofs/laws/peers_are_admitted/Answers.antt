@@ -1,0 +1,5 @@
+use Rattle.hb_proxy.proofs.Access.{runs_admit}
+use Rattle.hb_proxy.proofs.laws.peers_are_admitted.Goals as goal
+
+pub returns : goal.returns
+returns c = runs_admit

@@ -1,0 +1,16 @@
+use Rattle.hb_proxy.proofs.Refusing.{comes_unborn, reads_unborn, reads_anothers, born_twice, born_again, sees_alone, see_all, answers_another, answers_control, writes_behind}
+use Rattle.hb_proxy.proofs.laws.wrong_runs_are_refused.Goals as goal
+
+pub returns : goal.returns
+returns c = record {
+  comes = comes_unborn;
+  unborn = reads_unborn;
+  anothers = reads_anothers;
+  twice = born_twice;
+  again = born_again;
+  alone = sees_alone;
+  together = see_all;
+  another = answers_another;
+  control = answers_control;
+  writes = writes_behind;
+}
