@@ -90,7 +90,7 @@ any_in_front : (xs ys : List Found) → list_any is_fault xs ≡ true → list_a
 any_in_front xs ys any = list_any-append is_fault xs ys ∙ ap (λ p. p || list_any is_fault ys) any
 
 -- the octets of DATA without padding are no more than with it
-content_fits : (f : RawFrame) → length (content_of f) ≤ length f.payload
+pub content_fits : (f : RawFrame) → length (content_of f) ≤ length f.payload
 content_fits f =
     let all = length f.payload - padding_len f in
     omega (arith, length-take (all - front_len f) (drop (front_len f) f.payload), length-drop (front_len f) f.payload)

@@ -14,6 +14,7 @@ pub mod RelayRefused
 pub mod RelayUp
 pub mod Relaying
 pub mod RelaysRun
+pub mod RingsRun
 pub mod Runs
 pub mod Sending
 pub mod SendsRun

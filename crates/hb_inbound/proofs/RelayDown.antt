@@ -7,12 +7,12 @@ use Rattle.std.proofs.lemmas.Grind.{flat_map-append}
 use Rattle.std.proofs.lemmas.List.{append-nil, append_assoc, nil_from_length}
 use Rattle.hb_conn.specs.Observed.{outgoing, streams, sides}
 use Rattle.hb_frames.specs.Numbers.{data_kind}
-use Rattle.hb_frames.specs.RawFrame.{RawFrame, spelling}
+use Rattle.hb_frames.specs.RawFrame.{RawFrame}
 use Rattle.hb_held.specs.Held.{Resources}
 use Rattle.hb_history.specs.TakenBack.{has_data_on}
 use Rattle.hb_history.proofs.Lives.{active_some}
 use Rattle.hb_kept.specs.Payloads.{payload_on, payloads}
-use Rattle.hb_kept.proofs.Begun.{EndsIn, same_front}
+use Rattle.hb_kept.proofs.Begun.{EndsIn, last_went, have_begun}
 use Rattle.hb_outgoing.specs.declared.head.Head.{Head}
 use Rattle.hb_outgoing.specs.Laws.{Shows}
 use Rattle.hb_outgoing.specs.Waiting.{spelled}
@@ -89,10 +89,7 @@ whole_went s went begun rest head none shows (inl empty) = record {
 whole_went s went begun rest head none shows (inr is) = record {
   frames = is.before;
   part = is.part;
-  sent = same_front went (spelled is.before ++ is.part) rest
-      (shows ∙ ap spelled is.last ∙ flat_map-append spelling is.before (is.frame ∷ [])
-      ∙ ap (λ (xs : List ℕ). spelled is.before ++ xs) (append-nil (spelling is.frame) ∙ is.end)
-      ∙ sym (append_assoc (spelled is.before) is.part rest));
+  sent = last_went went rest begun head is shows;
   all = ap (payloads s) is.last ∙ flat_map-append (payload_on s) is.before (is.frame ∷ [])
       ∙ ap (λ (xs : List ℕ). payloads s is.before ++ xs)
       (append-nil (payload_on s is.frame) ∙ no_payload s is.frame (sym (ap (is_data_on s) is.head_is) ∙ none))
@@ -165,8 +162,7 @@ relay_down l start a parts stands =
           let follows = (all.sends s).follows in
           record {
             begun = all.begun;
-            owed = (outgoing a.link.conn).rest;
-            sent = all.shows;
+            began = have_begun (link_went parts) (outgoing a.link.conn).rest all.begun (outgoing a.link.conn).begun all.shows all.ends;
             rest = payloads s queue ++ follows.rest;
             front = follows.front
                 ∙ ap (λ (xs : List ℕ). xs ++ follows.rest) (flat_map-append (payload_on s) all.begun queue)

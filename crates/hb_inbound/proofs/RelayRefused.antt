@@ -1,11 +1,12 @@
 -- Bytes that are written to an upstream and didn't come on its stream, and bytes that did.
-use Rattle.std.proofs.Common.{◌≡◌, ℕ, ◌/◌, ◌%◌, ◌==◌, ◌&&◌, Bool, cond, List, [], ◌∷◌, ◌++◌, length, refl, ap, ap₂, sym, ◌∙◌, subst, arith}
+use Rattle.std.proofs.Common.{◌≡◌, inl, ℕ, ◌/◌, ◌%◌, ◌==◌, ◌&&◌, Bool, cond, List, [], ◌∷◌, ◌++◌, length, refl, ap, ap₂, sym, ◌∙◌, subst, arith}
 use Rattle.std.proofs.lemmas.Bool.{eq-eqb}
 use Rattle.std.proofs.lemmas.List.{append-nil}
 use Rattle.hb_frames.specs.Bodies.{lent_of}
 use Rattle.hb_frames.specs.Numbers.{data_kind}
 use Rattle.hb_frames.specs.RawFrame.{RawFrame, spelling}
 use Rattle.hb_kept.specs.Payloads.{payloads}
+use Rattle.hb_kept.proofs.Begun.{left_of}
 use Rattle.hb_outgoing.specs.Waiting.{spelled}
 use Rattle.hb_inbound.specs.RelayRefused.{InventsByte, WritesFront, one_octet, InventsDown, GoesDown, EndsWaiting}
 use Rattle.hb_inbound.specs.Sides.{link_went, up_came}
@@ -47,10 +48,12 @@ invents (f ∷ begun) owed rest sent front =
     (omega (arith, high, middle, low)) front
 
 pub invents_down : InventsDown
-invents_down l is = invents is.begun is.owed is.rest is.sent is.front
+invents_down l is =
+    let left = left_of (spelling one_octet) is.begun is.began in
+    invents is.begun left.owed is.rest left.sent is.front
 
 pub goes_down : GoesDown
-goes_down l u second = record { begun = one_octet ∷ []; owed = []; sent = refl; rest = second ∷ []; front = refl }
+goes_down l u second = record { begun = one_octet ∷ []; began = inl refl; rest = second ∷ []; front = refl }
 
 none_went : (frames : List RawFrame) (part : List ℕ) (byte : ℕ) → [] ≡ spelled frames ++ part → byte ∷ [] ≡ payloads 1 frames → ⊥
 none_went [] part byte sent whole = cc

@@ -6,6 +6,7 @@ use Rattle.hb_inbound.specs.Connections.{ConnectionLaw, WindowLaw}
 use Rattle.hb_inbound.specs.Ends.{EndLaw}
 use Rattle.hb_inbound.specs.Part.{Part}
 use Rattle.hb_inbound.specs.Relay.{RelayUpLaw, RelayDownLaw}
+use Rattle.hb_inbound.specs.Rings.{FitsRings, RingLaw}
 use Rattle.hb_inbound.specs.Runs.{Local, StandsFor}
 use Rattle.hb_inbound.specs.Verdicts.{VerdictLaw}
 
@@ -32,6 +33,11 @@ RunsRelayUp = (l : ℕ) (start : Resources) (a : Local) (parts : List Part) → 
 -- the DATA that goes on a stream is a front of what came from its upstream
 abbrev pub RunsRelayDown : Type 0
 RunsRelayDown = (l : ℕ) (start : Resources) (a : Local) (parts : List Part) → StandsFor l start a parts → RelayDownLaw parts
+
+-- what waits on each way of a tunnel fits its ring, and of what came on a stream all is written but for a window at most
+abbrev pub RunsFitRings : Type 0
+RunsFitRings = (l : ℕ) (start : Resources) (a : Local) (parts : List Part) → StandsFor l start a parts
+    → ((s : ℕ) → FitsRings (a.link.tunnels s)) × RingLaw parts
 
 -- each request gets the first answer that applies, and each answer is put at its point
 abbrev pub RunsAnswer : Type 0

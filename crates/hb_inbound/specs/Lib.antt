@@ -10,6 +10,7 @@ pub mod Refused
 pub mod RefusedRuns
 pub mod Relay
 pub mod RelayRefused
+pub mod Rings
 pub mod Runs
 pub mod Sides
 pub mod Tunnel

@@ -1,7 +1,7 @@
 -- The relay law: what is written to each side of a tunnel is a front of what came from the other.
 use Rattle.std.specs.Prelude.{⊤, ◌≡◌, ℕ, List, ◌++◌}
 use Rattle.hb_frames.specs.RawFrame.{RawFrame}
-use Rattle.hb_kept.specs.Payloads.{payloads}
+use Rattle.hb_kept.specs.Payloads.{Began, payloads}
 use Rattle.hb_outgoing.specs.Waiting.{spelled}
 use Rattle.hb_world.specs.declared.entry.Entry.{Entry}
 use Rattle.hb_world.specs.declared.entry.Entry.TheVariants as e
@@ -13,12 +13,11 @@ pub record RelaysUp (parts : List Part) (s : ℕ) : Type 0 where
   pub rest : List ℕ
   pub front : stream_came s parts ≡ up_went s parts ++ rest
 
--- What went on the link is frames, of which the last may be in part; the DATA of the stream in them, the last frame counted whole,
--- is a front of the bytes that came from the upstream
+-- What went on the link is frames that have begun, of which the last may be in part; the DATA of the stream in them, the last frame
+-- counted whole, is a front of the bytes that came from the upstream
 pub record RelaysDown (parts : List Part) (s : ℕ) : Type 0 where
   pub begun : List RawFrame
-  pub owed : List ℕ
-  pub sent : link_went parts ++ owed ≡ spelled begun
+  pub began : Began (link_went parts) begun
   pub rest : List ℕ
   pub front : up_came s parts ≡ payloads s begun ++ rest
 

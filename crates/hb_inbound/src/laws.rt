@@ -2,6 +2,8 @@
 
 ghost use Rattle.hb_inbound.specs.Refused.{DialsUnasked, AcceptsUnopened, WritesUnopened, ShutsEarly, EndsEarly, WritesRevoked};
 ghost use Rattle.hb_inbound.specs.Laws.{RunsAdmit, RunsAnswer, RunsEnd, RunsObeyConnections, RunsObeyWindows, RunsRelayDown, RunsRelayUp};
+ghost use Rattle.hb_inbound.specs.Laws.{RunsFitRings};
+ghost use Rattle.hb_inbound.specs.Rings.{ComesBeyond, WindowMayCome};
 ghost use Rattle.hb_inbound.specs.RefusedRuns.{WritesBehind, GoesOnBehind, PutsBehind, ReadsBehind, ClosesForAnother, ClosesAdmitted};
 ghost use Rattle.hb_inbound.specs.RefusedRuns.{DialsUnbidden, GoesOnAdmitted, ClosesRevoked};
 ghost use Rattle.hb_inbound.specs.RelayRefused.{InventsByte, WritesFront, InventsDown, GoesDown, EndsWaiting};
@@ -30,6 +32,14 @@ pub fn updates_end_exactly()
     ensures admitted { KeepsAdmitted }
     ensures placeless { KeepsPlaceless }
     ensures others { EndsOthers }
+{}
+
+/// What waits on each way of a tunnel fits its ring: on the way up no more than the window of its stream, with what isn't given back to
+/// it yet (RFC 9113 section 6.9.2). An octet beyond that is refused, and a whole window may wait.
+pub fn rings_are_never_overrun()
+    ensures runs { RunsFitRings }
+    ensures beyond { ComesBeyond }
+    ensures window { WindowMayCome }
 {}
 
 /// A link's connection is one history of its bytes: what was looked at, told and done leads to it, the frames looked at are those of

@@ -1,8 +1,9 @@
 -- What is left of the frames begun is the end of the last one, in front of whose end its head is kept.
-use Rattle.std.proofs.Common.{◌≡◌, ◌⊎◌, inl, inr, ℕ, zero, suc, ◌-◌, ◌≤◌, Bool, true, false, List, [], ◌∷◌, ◌++◌, length, take, drop, Option, Some, refl, ap, sym, ◌∙◌, subst, arith, length-append}
+use Rattle.std.proofs.Common.{◌≡◌, ◌⊎◌, inl, inr, ℕ, zero, suc, ◌-◌, ◌<◌, ◌≤◌, Bool, true, false, List, [], ◌∷◌, ◌++◌, length, take, drop, Option, Some, refl, ap, sym, ◌∙◌, subst, arith, length-append}
 use Rattle.std.specs.Prelude.{nat_le}
 use Rattle.std.proofs.lemmas.Bool.Decides.{nat_tests}
-use Rattle.std.proofs.lemmas.List.{append_assoc, append-nil, take-append-drop, drop_all}
+use Rattle.std.proofs.lemmas.List.{append_assoc, append-nil, take-append-drop, length-take-le, drop_all}
+use Rattle.std.proofs.lemmas.Grind.{flat_map-append}
 use Rattle.std.proofs.Math.Seq.{take-append_seam}
 use Rattle.hb_frames.specs.RawFrame.{RawFrame, spelling}
 use Rattle.hb_outgoing.specs.declared.head.Head.{Head}
@@ -19,6 +20,7 @@ use Rattle.hb_history.proofs.Acted.{act_keeps}
 use Rattle.hb_history.proofs.Kept as kept
 use Rattle.hb_history.proofs.Parts.{calm, PutsAck}
 use Rattle.hb_history.proofs.Shown.{KeepsOut, OfOut, PutsOut, out_keeps, out_puts}
+use Rattle.hb_kept.specs.Payloads.{Began, UnbegunIsRefused, FirstOctetBegins}
 use Rattle.hb_kept.proofs.DataWaits.{found_keeps}
 
 -- a frame is the last of these, with this head, and the octets are its end
@@ -28,6 +30,7 @@ pub record IsLast (begun : List RawFrame) (rest : List ℕ) (head : Option Head)
   pub last : begun ≡ before ++ frame ∷ []
   pub head_is : head ≡ Some (head_of frame)
   pub part : List ℕ
+  pub some : 0 < length part
   pub end : spelling frame ≡ part ++ rest
 
 abbrev pub EndsIn : List RawFrame → List ℕ → Option Head → Type 0
@@ -36,7 +39,8 @@ EndsIn begun rest head = (rest ≡ []) ⊎ IsLast begun rest head
 abbrev pub EndsBegun : List RawFrame → Waiting → Type 0
 EndsBegun begun w = EndsIn begun w.rest w.begun
 
-more_behind : (f : RawFrame) (begun : List RawFrame) (rest : List ℕ) (head : Option Head) → EndsIn begun rest head → EndsIn (f ∷ begun) rest head
+more_behind : (f : RawFrame) (begun : List RawFrame) (rest : List ℕ) (head : Option Head) → EndsIn begun rest head
+    → EndsIn (f ∷ begun) rest head
 more_behind f begun rest head (inl none) = inl none
 more_behind f begun rest head (inr is) = inr (record {
   before = f ∷ is.before;
@@ -44,10 +48,12 @@ more_behind f begun rest head (inr is) = inr (record {
   last = ap (λ (fs : List RawFrame). f ∷ fs) is.last;
   head_is = is.head_is;
   part = is.part;
+  some = is.some;
   end = is.end;
 })
 
-begun_behind : (front begun : List RawFrame) (rest : List ℕ) (head : Option Head) → EndsIn begun rest head → EndsIn (front ++ begun) rest head
+begun_behind : (front begun : List RawFrame) (rest : List ℕ) (head : Option Head) → EndsIn begun rest head
+    → EndsIn (front ++ begun) rest head
 begun_behind [] begun rest head is = is
 begun_behind (f ∷ front) begun rest head is = more_behind f (front ++ begun) rest head (begun_behind front begun rest head is)
 
@@ -61,14 +67,15 @@ drop_behind (suc n) (x ∷ xs) ys within =
     ∙ ap (λ (m : ℕ). drop m ys) (let is : n - length xs ≡ suc n - length (x ∷ xs) = omega arith in is)
 
 -- the frames of a queue that begin with n octets
-first_ends : (f : RawFrame) (n : ℕ) (head : Option Head) → n ≤ length (spelling f)
+first_ends : (f : RawFrame) (n : ℕ) (head : Option Head) → 0 < n → n ≤ length (spelling f)
     → EndsIn (f ∷ []) (drop n (spelling f ++ [])) (last_head head (f ∷ []))
-first_ends f n head within = inr (record {
+first_ends f n head some within = inr (record {
   before = [];
   frame = f;
   last = refl;
   head_is = refl;
   part = take n (spelling f);
+  some = omega (arith, some, length-take-le n (spelling f) within);
   end = sym (take-append-drop n (spelling f)) ∙ ap (λ (xs : List ℕ). take n (spelling f) ++ drop n xs) (sym (append-nil (spelling f)));
 })
 
@@ -90,7 +97,7 @@ begun_ends (suc n) (f ∷ queue) head =
         let within : suc n ≤ length (spelling f) = grind (arith, nat_tests, is) in
         let none : less ≡ 0 = omega (arith, within) in
         subst (λ (m : ℕ). EndsIn (f ∷ begun_in m queue) (drop (suc n) (spelling f ++ spelled (begun_in m queue)))
-        (last_head (Some (head_of f)) (begun_in m queue))) (sym none) (first_ends f (suc n) head within)
+        (last_head (Some (head_of f)) (begun_in m queue))) (sym none) (first_ends f (suc n) head (omega arith) within)
     by false is later =
         let behind : length (spelling f) ≤ suc n = grind (arith, nat_tests, is) in
         subst (λ (xs : List ℕ). EndsIn (f ∷ begun_in less queue) xs (last_head (Some (head_of f)) (begun_in less queue)))
@@ -98,7 +105,8 @@ begun_ends (suc n) (f ∷ queue) head =
         (more_behind f (begun_in less queue) _ _ later)
 
 -- a head is kept while octets of its frame wait
-while_ends : (begun : List RawFrame) (rest : List ℕ) (head : Option Head) → EndsIn begun rest head → EndsIn begun rest (while_waits rest head)
+while_ends : (begun : List RawFrame) (rest : List ℕ) (head : Option Head) → EndsIn begun rest head
+    → EndsIn begun rest (while_waits rest head)
 while_ends begun [] head is = inl refl
 while_ends begun (x ∷ rest) head is = is
 
@@ -112,7 +120,9 @@ fewer_ends n begun rest head (inr is) = inr (record {
   last = is.last;
   head_is = is.head_is;
   part = is.part ++ take n rest;
-  end = is.end ∙ ap (λ (xs : List ℕ). is.part ++ xs) (sym (take-append-drop n rest)) ∙ sym (append_assoc is.part (take n rest) (drop n rest));
+  some = omega (arith, is.some, length-append is.part (take n rest));
+  end =
+      is.end ∙ ap (λ (xs : List ℕ). is.part ++ xs) (sym (take-append-drop n rest)) ∙ sym (append_assoc is.part (take n rest) (drop n rest));
 })
 
 -- so it is behind a write
@@ -143,6 +153,66 @@ pub same_front : (xs ys zs : List ℕ) → xs ++ zs ≡ ys ++ zs → xs ≡ ys
 same_front xs ys zs is =
     let size : length xs ≡ length ys = omega (arith, ap length is, length-append xs zs, length-append ys zs) in
     sym (take-append_seam xs zs) ∙ ap (take (length xs)) is ∙ ap (λ (n : ℕ). take n (ys ++ zs)) size ∙ take-append_seam ys zs
+
+-- of frames of which only the end of the last is left, these have begun
+spelled_last : (before : List RawFrame) (frame : RawFrame) → spelled (before ++ frame ∷ []) ≡ spelled before ++ spelling frame
+spelled_last before frame =
+    flat_map-append spelling before (frame ∷ []) ∙ ap (λ (xs : List ℕ). spelled before ++ xs) (append-nil (spelling frame))
+
+pub last_went : (went rest : List ℕ) (begun : List RawFrame) (head : Option Head) (is : IsLast begun rest head)
+    → went ++ rest ≡ spelled begun → went ≡ spelled is.before ++ is.part
+last_went went rest begun head is sent =
+    same_front went (spelled is.before ++ is.part) rest
+    (sent ∙ ap spelled is.last ∙ spelled_last is.before is.frame ∙ ap (λ (xs : List ℕ). spelled is.before ++ xs) is.end
+    ∙ sym (append_assoc (spelled is.before) is.part rest))
+
+pub have_begun : (went rest : List ℕ) (begun : List RawFrame) (head : Option Head) → went ++ rest ≡ spelled begun → EndsIn begun rest head
+    → Began went begun
+have_begun went rest begun head sent (inl none) =
+    inl (sym (append-nil went) ∙ ap (λ (xs : List ℕ). went ++ xs) (sym none) ∙ sent)
+have_begun went rest begun head sent (inr is) = inr (record {
+  whole = is.before;
+  last = is.frame;
+  begun_are = is.last;
+  part = is.part;
+  some = is.some;
+  rest = rest;
+  last_is = is.end;
+  went_are = last_went went rest begun head is sent;
+})
+
+pub unbegun_is_refused : UnbegunIsRefused
+unbegun_is_refused f (inl whole) = cc
+unbegun_is_refused f (inr is) = by is.whole is.begun_are is.went_are
+  where
+    by : (whole : List RawFrame) → f ∷ [] ≡ whole ++ is.last ∷ [] → [] ≡ spelled whole ++ is.part → ⊥
+    by [] begun went = absurd (omega (arith, is.some, ap (λ (xs : List ℕ). length xs) went))
+    by (g ∷ whole) begun went = cc
+
+pub first_octet_begins : FirstOctetBegins
+first_octet_begins f = inr (record {
+  whole = [];
+  last = f;
+  begun_are = refl;
+  part = take 1 (spelling f);
+  some = omega arith;
+  rest = drop 1 (spelling f);
+  last_is = sym (take-append-drop 1 (spelling f));
+  went_are = refl;
+})
+
+-- what is left of the frames that have begun
+pub record IsLeft (went : List ℕ) (begun : List RawFrame) : Type 0 where
+  pub owed : List ℕ
+  pub sent : went ++ owed ≡ spelled begun
+
+pub left_of : (went : List ℕ) (begun : List RawFrame) → Began went begun → IsLeft went begun
+left_of went begun (inl whole) = record { owed = []; sent = append-nil went ∙ whole }
+left_of went begun (inr is) = record {
+  owed = is.rest;
+  sent = ap (λ (xs : List ℕ). xs ++ is.rest) is.went_are ∙ append_assoc (spelled is.whole) is.part is.rest
+      ∙ ap (λ (xs : List ℕ). spelled is.whole ++ xs) (sym is.last_is) ∙ sym (spelled_last is.whole is.last) ∙ sym (ap spelled is.begun_are);
+}
 
 -- what is left of the frames begun changes by writes alone
 

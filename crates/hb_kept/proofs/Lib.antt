@@ -1,6 +1,8 @@
 pub mod Acts
 pub mod All
 pub mod Begun
+pub mod Creditable
+pub mod CreditableRuns
 pub mod DataWaits
 pub mod Examples
 pub mod Handled

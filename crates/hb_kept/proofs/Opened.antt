@@ -97,14 +97,16 @@ never_goes full n state.Closed is = cc
 never_goes full n state.Reset is = cc
 
 -- DATA goes to an active stream alone, which was used
-none_goes : (n : ℕ) (even above among : Bool) → data_answer n (cond (even || above) state.Idle (cond among state.Reset state.Closed)) ≡ Ok step.Goes
+none_goes : (n : ℕ) (even above among : Bool)
+    → data_answer n (cond (even || above) state.Idle (cond among state.Reset state.Closed)) ≡ Ok step.Goes
     → false ≡ true
 none_goes n true above among is = absurd (cc)
 none_goes n false true among is = absurd (cc)
 none_goes n false false true is = absurd (cc)
 none_goes n false false false is = absurd (cc)
 
-active_by : (s : States) (n : ℕ) (o : Option Sides) → get s.active n ≡ o → data_answer n (state_by o (state_of_others s n)) ≡ Ok step.Goes
+pub active_by : (s : States) (n : ℕ) (o : Option Sides) → get s.active n ≡ o
+    → data_answer n (state_by o (state_of_others s n)) ≡ Ok step.Goes
     → is_some o ≡ true
 active_by s n None is goes = none_goes n (is_even n) (nat_lt s.highest n) (is_among s.resets n) goes
 active_by s n (Some w) is goes = refl
@@ -303,7 +305,7 @@ opened : (points : List Point) (given : List Found) (came written : List ℕ) (c
     → StandsFor Server points given came written c → Finds c d told → IsNew (core_of c).streams.highest told (core_of d)
 opened points given came written c d told stands finds =
     let low = (core_of c).streams.highest in
-    let had = used_runs Server points (fresh Server).receiver.core (core_of c) (used_new Server) stands.runs in
+    let had = used_runs Server points (core_of (fresh Server)) (core_of c) (used_new Server) stands.runs in
     (finds_so (Opens low) (opening low) c d told finds (had, omega arith)).1
 
 unused_by : (low : ℕ) (told : Found) (d : Connection) → IsNew low told (core_of d) → IsUnused told (outgoing d)

@@ -146,7 +146,8 @@ module _ (role : Role) (stream : ℕ) where
       IsFirst c.out × Moved role c.streams × Unused all waiting c.streams.highest × FollowsBy begun all waiting (Going a c) c.out.queue
 
   module _ (begun : List RawFrame) (all waiting : List ℕ) where
-    less : (on off : Type 0) (queue : List RawFrame) → (off → on) → FollowsBy begun all waiting on queue → FollowsBy begun all waiting off queue
+    less : (on off : Type 0) (queue : List RawFrame) → (off → on) → FollowsBy begun all waiting on queue
+        → FollowsBy begun all waiting off queue
     less on off queue still h = (h.0, h.1, λ o. h.2 (still o))
 
     pushed : (on : Type 0) (queue : List RawFrame) (f : RawFrame) → has_data f ≡ false → FollowsBy begun all waiting on queue
@@ -227,7 +228,8 @@ module _ (role : Role) (stream : ℕ) where
     )
 
     -- a stream begins: this one, of which there was nothing to be sent, or another one
-    begun_by_stream : (s : ℕ) (c : Core) (sides : Sides) → c.streams.highest < s → Asks begun all waiting calm c → (s ≡ stream) ⊎ (s ≢ stream)
+    begun_by_stream : (s : ℕ) (c : Core) (sides : Sides) → c.streams.highest < s → Asks begun all waiting calm c
+        → (s ≡ stream) ⊎ (s ≢ stream)
         → FollowsBy begun all waiting (Going calm (registered (record c { streams = stream_begun c.streams s sides }) s)) c.out.queue
     begun_by_stream s c sides above h (inl same) =
         let none = h.2 (subst (λ (n : ℕ). c.streams.highest < n) same above) in

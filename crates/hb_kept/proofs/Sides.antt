@@ -52,7 +52,7 @@ use Rattle.hb_kept.proofs.SidesAt.{sides_at, Changes, Others, All, all_same, at_
 
 -- what leaves the streams
 
-paid_streams : (c : Core) → (owed_paid c).streams ≡ c.streams
+pub paid_streams : (c : Core) → (owed_paid c).streams ≡ c.streams
 paid_streams c = ap (λ p. p.0) (paid_parts c)
 
 pub released_streams : (c : Core) (s : ℕ) → (released c s).streams ≡ c.streams
@@ -135,7 +135,7 @@ reset_ends_both c s code =
 
 -- what is found
 
-abbrev On : Found → States → States → Type 0
+abbrev pub On : Found → States → States → Type 0
 On (found.Opened s end) old new = Others s old new
 On (found.Chunk s end) old new = Changes s (peer_ends end (sides_at old s)) old new
 On (found.Reset s code) old new = Changes s neither old new
@@ -144,7 +144,7 @@ On (found.Fault code) old new = Unit {0}
 On told old new = All old new
 
 -- behind what left all sides
-on_from : (told : Found) (old mid new : States) → All old mid → On told mid new → On told old new
+pub on_from : (told : Found) (old mid new : States) → All old mid → On told mid new → On told old new
 on_from (found.Opened s end) old mid new first then = λ m apart. then m apart ∙ first m
 on_from (found.Chunk s end) old mid new first then = record {
   here = then.here ∙ ap (peer_ends end) (first s);
@@ -357,7 +357,7 @@ answers_on c (glance.Continuation s whole) bytes new told is = does_block _ c ne
 answers_on c glance.Other bytes new told is = given c.streams _ new told (nothing c.streams) is
 answers_on c (glance.Refused code row kind flags) bytes new told is = given c.streams _ new told (fault c.streams c code) is
 
-handles_on : (b : Bool) (c : Core) (g : Glance) (bytes : List ℕ) (new : Core) (told : Found) → HandlesBy b c g bytes new told
+pub handles_on : (b : Bool) (c : Core) (g : Glance) (bytes : List ℕ) (new : Core) (told : Found) → HandlesBy b c g bytes new told
     → On told c.streams new.streams
 handles_on true c g bytes new told is = given c.streams _ new told (fault c.streams c _) is
 handles_on false c g bytes new told is = answers_on c g bytes new told is

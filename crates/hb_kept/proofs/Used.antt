@@ -13,6 +13,7 @@ use Rattle.hb_flow.specs.Windows.{Windows}
 use Rattle.hb_flow.specs.Flows.{Flows, spent, sendable_by}
 use Rattle.hb_outgoing.specs.Written.{begun_by, written}
 use Rattle.hb_outgoing.specs.Selected.{has_data, is_kept}
+use Rattle.hb_conn.specs.Connection.{core_of}
 use Rattle.hb_conn.specs.Faults.{faulted, is_active}
 use Rattle.hb_conn.specs.Frames.{frame, goaway, sent}
 use Rattle.hb_conn.specs.Payload.{count_put}
@@ -132,10 +133,10 @@ module _ (role : Role) where
   used_runs points c new h runs =
       runs_keep Used used_keeps used_puts used_resize used_acks used_grow (λ d n within h. used_written d n h) points c new h runs
 
-pub used_new : (role : Role) → Used role calm (fresh role).receiver.core
+pub used_new : (role : Role) → Used role calm (core_of (fresh role))
 used_new Server = (lives_new Server, (λ some. absurd (false≢true some), tt))
 used_new Client = (lives_new Client, (λ some. absurd (false≢true some), tt))
 
 pub waits_on_used : WaitsOnUsed
 waits_on_used role points given came written c stands =
-    (used_runs role points (fresh role).receiver.core c.receiver.core (used_new role) stands.runs).1
+    (used_runs role points (core_of (fresh role)) (core_of c) (used_new role) stands.runs).1

@@ -1,4 +1,5 @@
 pub mod Acts
+pub mod Creditable
 pub mod DataWaits
 pub mod Examples
 pub mod Kept

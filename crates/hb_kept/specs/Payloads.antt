@@ -1,10 +1,10 @@
 -- The DATA of a stream that this end puts: what of it has begun, what waits to begin, and what is still to be put.
-use Rattle.std.specs.Prelude.{◌≡◌, ◌≢◌, ℕ, ◌<◌, ◌≤◌, ◌==◌, ◌&&◌, true, false, if◌then◌else◌, List, ◌∷◌, [], ◌++◌, drop, is_some}
+use Rattle.std.specs.Prelude.{◌≡◌, ◌≢◌, ◌⊎◌, ℕ, ◌<◌, ◌≤◌, ◌==◌, ◌&&◌, true, false, if◌then◌else◌, List, ◌∷◌, [], ◌++◌, length, take, drop, is_some}
 use Rattle.std.specs.FinMap.{get}
 use Rattle.std.specs.List.{flat_map}
 use Rattle.hb_frames.specs.Numbers.{data_kind}
-use Rattle.hb_frames.specs.RawFrame.{RawFrame}
-use Rattle.hb_outgoing.specs.Waiting.{nothing}
+use Rattle.hb_frames.specs.RawFrame.{RawFrame, spelling}
+use Rattle.hb_outgoing.specs.Waiting.{nothing, spelled}
 use Rattle.hb_owed.specs.declared.status.Status.{Status}
 use Rattle.hb_streams.specs.declared.role.Role.{Role}
 use Rattle.hb_conn.specs.Connection.{Connection}
@@ -21,6 +21,28 @@ payload_on stream f = if f.kind == data_kind && f.stream == stream then f.payloa
 
 abbrev pub payloads : ℕ → List RawFrame → List ℕ
 payloads stream frames = flat_map (payload_on stream) frames
+
+-- the octets that went are whole frames and the first octets of one more, one octet at least
+pub record InPart (went : List ℕ) (begun : List RawFrame) : Type 0 where
+  pub whole : List RawFrame
+  pub last : RawFrame
+  pub begun_are : begun ≡ whole ++ last ∷ []
+  pub part : List ℕ
+  pub some : 0 < length part
+  pub rest : List ℕ
+  pub last_is : spelling last ≡ part ++ rest
+  pub went_are : went ≡ spelled whole ++ part
+
+-- these are the frames that have begun with the octets that went: an octet of each of them went, and of no other
+abbrev pub Began : List ℕ → List RawFrame → Type 0
+Began went begun = (went ≡ spelled begun) ⊎ InPart went begun
+
+-- a frame of which no octet went hasn't begun; one has with its first octet
+abbrev pub UnbegunIsRefused : Type 0
+UnbegunIsRefused = (f : RawFrame) → Began [] (f ∷ []) → ⊥
+
+abbrev pub FirstOctetBegins : Type 0
+FirstOctetBegins = (f : RawFrame) → Began (take 1 (spelling f)) (f ∷ [])
 
 -- the stream goes on: no connection error was told, and it is open or half-closed
 abbrev pub GoesOn : ℕ → Connection → Type 0

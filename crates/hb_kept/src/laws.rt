@@ -3,6 +3,9 @@
 ghost use Rattle.hb_kept.specs.Kept.{NewIsKept, TakenFares, WantedFares, SomeAreWanted};
 ghost use Rattle.hb_kept.specs.Looks.{FoundByLooks};
 ghost use Rattle.hb_kept.specs.Acts.{OpensKept, WritesKept, PutsKept, UsesKept, AnswersKept, EndsKept, ResetsKept};
+ghost use Rattle.hb_kept.specs.Creditable.{LooksAdd, WritesLeaveCreditable, PutsLeaveCreditable, AnswersLeaveCreditable};
+ghost use Rattle.hb_kept.specs.Creditable.{EndsLeaveCreditable, ResetsLeaveCreditable, UsesTake};
+ghost use Rattle.hb_kept.specs.Creditable.{BeyondIsRefused, NoneAddedIsRefused, AllMayCome};
 ghost use Rattle.hb_kept.specs.Shut.{WaitingShuts, FrameShuts, PutShuts, OpeningShuts, ResetShuts};
 ghost use Rattle.hb_kept.specs.Shut.{StayingStaysShut, PutStaysShut, UseStaysShut, AnswerStaysShut, EndStaysShut};
 ghost use Rattle.hb_kept.specs.Examples.{FaultedIsRefused, NoOctetIsRefused, FewHaveRoom, MoreIsRefused, NewIsShut};
@@ -10,6 +13,7 @@ ghost use Rattle.hb_kept.specs.Examples.{WriteIsRefused, OpenIsRefused};
 ghost use Rattle.hb_kept.specs.Opened.{WaitsOnUsed, OpenedIsUnused, UsedIsRefused, OtherMayOpen};
 ghost use Rattle.hb_kept.specs.Numbers.{PointsRaise, WritesLeave, ToldAreNumbered, UsedOpensNot, HigherMayOpen};
 ghost use Rattle.hb_kept.specs.Payloads.{LooksFollow, WritesFollow, UsesFollow, AnswersFollow, EndsFollow, ResetsFollow};
+ghost use Rattle.hb_kept.specs.Payloads.{UnbegunIsRefused, FirstOctetBegins};
 ghost use Rattle.hb_kept.specs.Payloads.{OthersFollow, PutsFollow, MoreFollows, InventedIsRefused, LostIsRefused, BothMayWait};
 ghost use Rattle.hb_kept.specs.DataWaits.{WaitsWithinMore, WaitsWithout, FindsWithin, WritesWithin, OpensWithin, UsesWithin};
 ghost use Rattle.hb_kept.specs.Sides.{WriteLeavesAll, PutLeavesAll, UseLeavesAll, AnswerEndsSide, EndEndsSide, ResetEndsBoth};
@@ -141,6 +145,28 @@ pub fn payloads_follow()
     ensures invented { InventedIsRefused }
     ensures lost { LostIsRefused }
     ensures both { BothMayWait }
+{}
+
+/// The octets of DATA that came on a stream and aren't used up grow by those that are handed out, which fit the stream's window; they
+/// fall by those that are used up, and stay behind all else, while the peer's side is open (RFC 9113 section 6.9.1). An octet beyond
+/// the window is refused, and so is one that isn't added; a whole window may come.
+pub fn octets_fit_the_window()
+    ensures looks { LooksAdd }
+    ensures writes { WritesLeaveCreditable }
+    ensures puts { PutsLeaveCreditable }
+    ensures answers { AnswersLeaveCreditable }
+    ensures ends { EndsLeaveCreditable }
+    ensures resets { ResetsLeaveCreditable }
+    ensures uses { UsesTake }
+    ensures beyond { BeyondIsRefused }
+    ensures lost { NoneAddedIsRefused }
+    ensures all { AllMayCome }
+{}
+
+/// A frame of which no octet went hasn't begun, and one has with its first octet.
+pub fn frames_begin()
+    ensures none { UnbegunIsRefused }
+    ensures first { FirstOctetBegins }
 {}
 
 /// A connection of which an error was told isn't kept, nor one that holds what is no octet. Of 640 octets of room 64 octets leave enough
