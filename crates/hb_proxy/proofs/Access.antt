@@ -1,11 +1,9 @@
 -- No byte goes to an upstream and no DATA frame begins on an inbound link, unless what is held then admits the tunnel's peer.
 use Rattle.std.proofs.Common.{◌≡◌, ℕ, true, List, [], ◌∷◌, ◌++◌, length, refl, ap, sym, ◌∙◌, subst}
-use Rattle.std.specs.List.{AllByRecursion}
 use Rattle.hb_conn.specs.Observed.{frames_begun}
-use Rattle.hb_frames.specs.RawFrame.{RawFrame}
 use Rattle.hb_held.specs.Held.{Resources}
 use Rattle.hb_history.specs.History as history
-use Rattle.hb_inbound.proofs.AccessRun.{admit}
+use Rattle.hb_inbound.proofs.AccessRun.{each_so, admit}
 use Rattle.hb_inbound.specs.Access as inbound
 use Rattle.hb_inbound.specs.Part as part
 use Rattle.hb_inbound.specs.Part.{Part, moves, tellings}
@@ -18,7 +16,8 @@ use Rattle.hb_table.specs.Judgement.{judged}
 use Rattle.hb_world.specs.declared.entry.Entry.{Entry}
 use Rattle.hb_world.specs.declared.entry.Entry.TheVariants as e
 use Rattle.hb_proxy.specs.Access.{IsAdmitted, came_behind, GoesAdmitted, UpIsAdmitted, LinkIsAdmitted, AccessAt}
-use Rattle.hb_proxy.specs.Laws.{at_start, RunsAdmit}
+use Rattle.hb_proxy.specs.Held.{at_start}
+use Rattle.hb_proxy.specs.Laws.{RunsAdmit}
 use Rattle.hb_proxy.specs.Machine.{Machine, local}
 use Rattle.hb_proxy.specs.Owners.{owner, PartStands}
 use Rattle.hb_proxy.specs.Points.{Point, of_control, of_link, entries, parts_of}
@@ -29,10 +28,6 @@ use Rattle.hb_proxy.proofs.Owned.{all_owned}
 use Rattle.hb_proxy.proofs.Places.{at_points, at_last}
 use Rattle.hb_proxy.proofs.Projection.{links_run, links_hold}
 use Rattle.hb_proxy.proofs.Sides.{runs_share}
-
-each_so : (P Q : RawFrame → Type 0) → ((f : RawFrame) → P f → Q f) → (fs : List RawFrame) → AllByRecursion P fs → AllByRecursion Q fs
-each_so P Q so [] each = tt
-each_so P Q so (f ∷ fs) each = (so f each.0, each_so P Q so fs each.1)
 
 module _ (g : NodeConfig) (x : Machine) (before : List Point) (stands : StandsFor g x before) (l : ℕ) where
   is_admitted : (s : ℕ) → inbound.IsAdmitted (at_start g) (parts_of l before) s → IsAdmitted g before l s

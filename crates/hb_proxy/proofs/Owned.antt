@@ -25,7 +25,7 @@ use Rattle.hb_model.proofs.Grown.{IsBorn}
 use Rattle.hb_world.specs.Trace.{is_birth}
 use Rattle.hb_world.specs.declared.entry.Entry.{Entry}
 use Rattle.hb_world.specs.declared.entry.Entry.TheVariants as e
-use Rattle.hb_proxy.specs.Laws.{at_start}
+use Rattle.hb_proxy.specs.Held.{at_start}
 use Rattle.hb_proxy.specs.Machine.{Machine, fresh, local, seen_by, with_control, with_part, born_after, born_by}
 use Rattle.hb_proxy.specs.Owners.{Owner, nobody, control_plane, inbound_link, upstream_of, at_door, dialled_for, owner_by, owner}
 use Rattle.hb_proxy.specs.Points.{Point, of_control, of_link, entry_in, entries, control_of, parts_of}

@@ -16,7 +16,8 @@ use Rattle.hb_model.specs.Runs as model
 use Rattle.hb_inbound.proofs.AdmittedRun.{all_admit}
 use Rattle.hb_model.proofs.MessagesRun.{held_is}
 use Rattle.hb_model.specs.declared.config.NodeConfig.{NodeConfig}
-use Rattle.hb_proxy.specs.Laws.{at_start, ControlRuns, LinksRun, LinksHold}
+use Rattle.hb_proxy.specs.Held.{at_start}
+use Rattle.hb_proxy.specs.Laws.{ControlRuns, LinksRun, LinksHold}
 use Rattle.hb_proxy.specs.Machine.{Machine, local, with_control, with_part}
 use Rattle.hb_proxy.specs.Points.{Point, of_control, of_link, control_in, control_of, part_in, parts_of}
 use Rattle.hb_proxy.specs.Runs.{Steps, begins, goes_on}

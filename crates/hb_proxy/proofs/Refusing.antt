@@ -18,7 +18,7 @@ use Rattle.hb_model.specs.Runs.{IsCalmBy}
 use Rattle.hb_table.specs.Judgement.{judged}
 use Rattle.hb_world.specs.declared.entry.Entry.TheVariants as e
 use Rattle.hb_proxy.specs.Access.{AccessAt}
-use Rattle.hb_proxy.specs.Laws.{at_start}
+use Rattle.hb_proxy.specs.Held.{at_start}
 use Rattle.hb_proxy.specs.Machine.{Machine, fresh, with_control, with_part}
 use Rattle.hb_proxy.specs.Owners.{nobody, control_plane, inbound_link}
 use Rattle.hb_proxy.specs.Points.{Point, of_control, of_link}

@@ -1,11 +1,13 @@
 -- What goes to each side of a tunnel is a front of what came from the other, in every run of the whole.
-use Rattle.std.proofs.Common.{◌≡◌, ◌≢◌, ℕ, List, [], ◌∷◌, ◌++◌, refl, ap, sym, ◌∙◌}
+use Rattle.std.proofs.Common.{◌≡◌, ◌≢◌, ℕ, List, [], ◌∷◌, ◌++◌, refl, ap, sym, ◌∙◌, subst}
 use Rattle.hb_inbound.proofs.RelayDown.{relay_down}
 use Rattle.hb_inbound.proofs.RelayUp.{relay_up}
 use Rattle.hb_inbound.specs.Relay as inbound
 use Rattle.hb_inbound.specs.Relay.{MayGoUp, MayEnd}
+use Rattle.hb_kept.specs.Payloads.{Began}
 use Rattle.hb_model.specs.declared.config.NodeConfig.{NodeConfig}
-use Rattle.hb_proxy.specs.Laws.{at_start, RunsRelay}
+use Rattle.hb_proxy.specs.Held.{at_start}
+use Rattle.hb_proxy.specs.Laws.{RunsRelay}
 use Rattle.hb_proxy.specs.Machine.{Machine, local}
 use Rattle.hb_proxy.specs.Owners.{owner, inbound_link, upstream_of}
 use Rattle.hb_proxy.specs.Points.{Point, entries, parts_of}
@@ -40,8 +42,7 @@ module _ (g : NodeConfig) (x : Machine) (points : List Point) (stands : StandsFo
       let link = (runs_share g x points stands).link l ((all_owned g x points stands).over l s u is) in
       record {
         begun = law.begun;
-        owed = law.owed;
-        sent = ap (λ bytes. bytes ++ law.owed) link.went ∙ law.sent;
+        began = subst (λ (bytes : List ℕ). Began bytes law.begun) (sym link.went) law.began;
         rest = law.rest;
         front = side.came ∙ law.front;
       }
@@ -53,8 +54,7 @@ module _ (g : NodeConfig) (x : Machine) (points : List Point) (stands : StandsFo
       let link = (runs_share g x points stands).link l is in
       record {
         begun = law.begun;
-        owed = law.owed;
-        sent = ap (λ bytes. bytes ++ law.owed) link.went ∙ law.sent;
+        began = subst (λ (bytes : List ℕ). Began bytes law.begun) (sym link.went) law.began;
         none = front_empty _ law.rest (sym law.front ∙ side.came);
       }
 

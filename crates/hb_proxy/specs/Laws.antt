@@ -1,9 +1,10 @@
 -- What every run of the whole proxy obeys.
 use Rattle.std.specs.Prelude.{◌≡◌, ℕ, List}
-use Rattle.hb_held.specs.Held.{Resources, nothing_held}
+use Rattle.hb_held.specs.Held.{Resources}
 use Rattle.hb_inbound.specs.Connections.{ConnectionLaw, WindowLaw}
-use Rattle.hb_inbound.specs.Ends.{EndLaw}
+use Rattle.hb_inbound.specs.Ends as inbound_ends
 use Rattle.hb_inbound.specs.Part.{Part}
+use Rattle.hb_inbound.specs.Rings.{RingLaw}
 use Rattle.hb_inbound.specs.Runs as inbound
 use Rattle.hb_inbound.specs.Sides as inbound_sides
 use Rattle.hb_inbound.specs.Verdicts.{VerdictLaw}
@@ -12,16 +13,14 @@ use Rattle.hb_model.specs.Runs as model
 use Rattle.hb_model.specs.declared.config.NodeConfig.{NodeConfig}
 use Rattle.hb_proxy.specs.Access.{AccessLaw}
 use Rattle.hb_proxy.specs.Control.{EntryLaws, ControlLaws}
+use Rattle.hb_proxy.specs.Ends.{EndLaw}
+use Rattle.hb_proxy.specs.Held.{at_start}
 use Rattle.hb_proxy.specs.Machine.{Machine, local}
 use Rattle.hb_proxy.specs.Owners.{OwnLaw, NumberLaw, UpstreamLaw}
 use Rattle.hb_proxy.specs.Points.{Point, entries, control_of, parts_of}
 use Rattle.hb_proxy.specs.Relay.{RelayLaw}
 use Rattle.hb_proxy.specs.Runs.{StandsFor}
 use Rattle.hb_proxy.specs.Sides.{SideLaw}
-
--- what is held at the start
-abbrev pub at_start : NodeConfig → Resources
-at_start g = nothing_held g.network g.node
 
 -- THE PARTS
 
@@ -63,11 +62,15 @@ RunsAdmit = (g : NodeConfig) (x : Machine) (points : List Point) → StandsFor g
 abbrev pub RunsRelay : Type 0
 RunsRelay = (g : NodeConfig) (x : Machine) (points : List Point) → StandsFor g x points → RelayLaw points
 
+abbrev pub RunsEnd : Type 0
+RunsEnd = (g : NodeConfig) (x : Machine) (points : List Point) → StandsFor g x points → EndLaw g points
+
 -- the laws of one inbound link
 pub record LinkLaws (start : Resources) (parts : List Part) : Type 0 where
   pub connection : ConnectionLaw parts
   pub windows : WindowLaw parts
-  pub ends : EndLaw start parts
+  pub rings : RingLaw parts
+  pub ends : inbound_ends.EndLaw start parts
   pub verdicts : VerdictLaw start parts
 
 abbrev pub RunsObeyLinks : Type 0

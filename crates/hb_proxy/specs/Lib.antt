@@ -1,5 +1,7 @@
 pub mod Access
 pub mod Control
+pub mod Ends
+pub mod Held
 pub mod Laws
 pub mod Machine
 pub mod Owners

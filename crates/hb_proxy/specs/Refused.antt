@@ -15,7 +15,7 @@ use Rattle.hb_model.specs.declared.config.NodeConfig.{NodeConfig}
 use Rattle.hb_verdict.specs.declared.verdict.Verdict.TheVariants.{Dial}
 use Rattle.hb_world.specs.declared.entry.Entry.TheVariants as e
 use Rattle.hb_proxy.specs.Access.{AccessLaw}
-use Rattle.hb_proxy.specs.Laws.{at_start}
+use Rattle.hb_proxy.specs.Held.{at_start}
 use Rattle.hb_proxy.specs.Machine.{Machine}
 use Rattle.hb_proxy.specs.Owners.{OwnLaw, NumberLaw}
 use Rattle.hb_proxy.specs.Points.{Point, of_control, of_link}

@@ -3,8 +3,7 @@ use Rattle.std.specs.Prelude.{◌≡◌, ◌≢◌, ℕ, List, [], ◌++◌}
 use Rattle.hb_frames.specs.RawFrame.{RawFrame}
 use Rattle.hb_inbound.specs.Relay.{MayGoUp, MayEnd}
 use Rattle.hb_inbound.specs.Sides.{stream_came}
-use Rattle.hb_kept.specs.Payloads.{payloads}
-use Rattle.hb_outgoing.specs.Waiting.{spelled}
+use Rattle.hb_kept.specs.Payloads.{Began, payloads}
 use Rattle.hb_world.specs.Trace.{recv, sent}
 use Rattle.hb_proxy.specs.Owners.{owner, inbound_link, upstream_of}
 use Rattle.hb_proxy.specs.Points.{Point, entries, parts_of}
@@ -15,20 +14,18 @@ pub record RelaysUp (points : List Point) (l s u : ℕ) : Type 0 where
   pub rest : List ℕ
   pub front : stream_came s (parts_of l points) ≡ sent u (entries points) ++ rest
 
--- What went on the link is frames, of which the last may be in part; the DATA of the stream in them, the last frame counted whole, is a
--- front of the bytes that came from its upstream u
+-- What went on the link is frames that have begun, of which the last may be in part; the DATA of the stream in them, the last frame
+-- counted whole, is a front of the bytes that came from its upstream u
 pub record RelaysDown (points : List Point) (l s u : ℕ) : Type 0 where
   pub begun : List RawFrame
-  pub owed : List ℕ
-  pub sent : sent l (entries points) ++ owed ≡ spelled begun
+  pub began : Began (sent l (entries points)) begun
   pub rest : List ℕ
   pub front : recv u (entries points) ≡ payloads s begun ++ rest
 
 -- on a stream without an upstream no DATA goes
 pub record SendsNone (points : List Point) (l s : ℕ) : Type 0 where
   pub begun : List RawFrame
-  pub owed : List ℕ
-  pub sent : sent l (entries points) ++ owed ≡ spelled begun
+  pub began : Began (sent l (entries points)) begun
   pub none : payloads s begun ≡ []
 
 -- so it is of each upstream, and of each inbound link; and bytes go, and a side ends, only where they may

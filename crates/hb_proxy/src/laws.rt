@@ -1,7 +1,7 @@
 //! Laws over every run of the whole proxy. Each is the contract of a function that does nothing.
 
 ghost use Rattle.hb_proxy.specs.Laws.{ControlRuns, LinksRun, LinksHold, RunsOwn, RunsNumber, RunsDialOnce, RunsShareSides};
-ghost use Rattle.hb_proxy.specs.Laws.{RunsAdmit, RunsRelay, RunsObeyLinks, RunsObeyEntries, RunsObeyControl};
+ghost use Rattle.hb_proxy.specs.Laws.{RunsAdmit, RunsRelay, RunsEnd, RunsObeyLinks, RunsObeyEntries, RunsObeyControl};
 ghost use Rattle.hb_proxy.specs.Refused.{ComesUnborn, ReadsUnborn, ReadsAnothers, BornTwice, BornAgain, SeesAlone, SeeAll};
 ghost use Rattle.hb_proxy.specs.Refused.{AnswersAnother, AnswersControl, WritesBehind, GoesOnAdmitted, RunMayGo};
 
@@ -34,7 +34,13 @@ pub fn bytes_are_relayed()
     ensures { RunsRelay }
 {}
 
-/// Each inbound link's connection is one history, its DATA fits the windows, its tunnels end for the first cause that applies, and its
+/// A tunnel that ended, of whatever link, has no upstream that isn't closed where a link is accepted or open, where bytes or an end come
+/// on any link, at a tick and a wait, and where bytes of a tunnel go; but for the one write behind a connection error.
+pub fn ends_go_first()
+    ensures { RunsEnd }
+{}
+
+/// Each inbound link's connection is one history, its DATA fits the windows and the rings, its tunnels end for the first cause that applies, and its
 /// requests get the answers that are due.
 pub fn links_obey()
     ensures { RunsObeyLinks }
