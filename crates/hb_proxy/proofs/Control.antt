@@ -69,7 +69,7 @@ module _ (g : NodeConfig) (m : control.Machine) (points : List point.Point) (sta
       by closed calm held going = false≢true held
 
   -- while the run goes on a tick may come: what the laws say there holds here
-  ticked : m.over ≡ false → model.StandsFor g (control.entered g e.Tick m) (points ++ point.entry e.Tick ∷ [])
+  pub ticked : m.over ≡ false → model.StandsFor g (control.entered g e.Tick m) (points ++ point.entry e.Tick ∷ [])
   ticked goes =
       model.goes_on stands (point.entry e.Tick) (record { no_dial = rests.no_dial; goes = goes; calm = rests.calm }, refl) refl
 

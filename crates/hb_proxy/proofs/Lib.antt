@@ -1,6 +1,7 @@
 pub mod Access
 pub mod Control
 pub mod ControlBorn
+pub mod Dials
 pub mod Ends
 pub mod Links
 pub mod Own

@@ -2,6 +2,7 @@
 use Rattle.std.proofs.Common.{◌≡◌, ℕ, ◌==◌, List, [], ◌∷◌, ◌++◌, Some, refl, ap, sym, ◌∙◌, subst, arith}
 use Rattle.std.proofs.lemmas.Bool.{cond_both, false≢true}
 use Rattle.std.proofs.lemmas.List.{append-nil, append_assoc}
+use Rattle.hb_base.specs.declared.cause.Cause.TheVariants as cause
 use Rattle.hb_base.specs.declared.door.Door.TheVariants as door
 use Rattle.hb_base.specs.declared.door.Why.TheVariants as whys
 use Rattle.hb_base.specs.declared.peer.Peer.{Peer}
@@ -10,6 +11,7 @@ use Rattle.hb_inbound.specs.Calm.{IsCalm, IsQuiet}
 use Rattle.hb_inbound.specs.Inbound.{no_link, arriving, fronting, with_phase}
 use Rattle.hb_inbound.specs.Part as part
 use Rattle.hb_inbound.specs.Part.{Part}
+use Rattle.hb_inbound.proofs.RefusedRuns.{revoked}
 use Rattle.hb_inbound.specs.RefusedRuns.{peer_in}
 use Rattle.hb_model.specs.Discovery as discovery
 use Rattle.hb_model.specs.Machine as control
@@ -22,7 +24,8 @@ use Rattle.hb_proxy.specs.Held.{at_start}
 use Rattle.hb_proxy.specs.Machine.{Machine, fresh, with_control, with_part}
 use Rattle.hb_proxy.specs.Owners.{nobody, control_plane, inbound_link}
 use Rattle.hb_proxy.specs.Points.{Point, of_control, of_link}
-use Rattle.hb_proxy.specs.Refused.{ComesUnborn, ReadsUnborn, ReadsAnothers, BornTwice, BornAgain, SeesAlone, SeeAll, AnswersAnother, AnswersControl, lived, WritesBehind, GoesOnAdmitted, RunMayGo}
+use Rattle.hb_proxy.specs.Refused.{ComesUnborn, ReadsUnborn, ReadsAnothers, BornTwice, BornAgain, SeesAlone, SeeAll, AnswersAnother, AnswersControl}
+use Rattle.hb_proxy.specs.Refused.{lived, WritesBehind, ReadsBehind, TicksBehind, InventsByte, GoesOnAdmitted, RunMayGo}
 use Rattle.hb_proxy.specs.Runs.{ControlRests, StandsFor, begins, goes_on}
 use Rattle.hb_proxy.proofs.Stays.{is_born, may_born}
 
@@ -66,6 +69,21 @@ writes_behind g to seen target note r bytes not law =
     let same_target : target ≡ at.target = (let told : Some target ≡ Some at.target = at.target_is in cc) in
     not (ap (λ (p : Peer). judged (after_response (at_start g) r) p target) same_peer
     ∙ ap (judged (after_response (at_start g) r) at.peer) same_target ∙ at.admitted)
+
+pub reads_behind : ReadsBehind
+reads_behind g to seen target note r bytes not law =
+    let at = law (lived to seen target note r) (of_link 4 (part.entry (e.Came 4 bytes))) [] refl in
+    let open_yet : 3 ≡ 0 = at.0 2 1 cause.Revoked (revoked (at_start g) seen target note r not) in absurd (omega (arith, open_yet))
+
+pub ticks_behind : TicksBehind
+ticks_behind g to seen target note r not law =
+    let at = law (lived to seen target note r) (of_control (point.entry e.Tick)) [] refl in
+    let open_yet : 3 ≡ 0 = at 2 1 cause.Revoked (revoked (at_start g) seen target note r not) in absurd (omega (arith, open_yet))
+
+pub invents_byte : InventsByte
+invents_byte to seen target note r byte law =
+    let up = law.ups 2 1 3 refl in
+    let none : [] ≡ byte ∷ up.rest = up.front in cc
 
 -- a law at each part of a run, one place after another
 Places : (List Point → ℕ → Part → Type 0) → List Point → List Point → Type 0

@@ -13,6 +13,7 @@ use Rattle.hb_model.specs.Runs as model
 use Rattle.hb_model.specs.declared.config.NodeConfig.{NodeConfig}
 use Rattle.hb_proxy.specs.Access.{AccessLaw}
 use Rattle.hb_proxy.specs.Control.{EntryLaws, ControlLaws}
+use Rattle.hb_proxy.specs.Dials.{DialLaw}
 use Rattle.hb_proxy.specs.Ends.{EndLaw}
 use Rattle.hb_proxy.specs.Held.{at_start}
 use Rattle.hb_proxy.specs.Machine.{Machine, local}
@@ -78,6 +79,10 @@ RunsObeyLinks = (g : NodeConfig) (x : Machine) (points : List Point) (l : ℕ) �
     → LinkLaws (at_start g) (parts_of l points)
 
 -- WHAT IS SAID OF THE CONTROL PLANE
+
+-- it is dialled exactly when it is due
+abbrev pub RunsDial : Type 0
+RunsDial = (g : NodeConfig) (x : Machine) (points : List Point) → StandsFor g x points → DialLaw g points
 
 -- at each entry of the trace, of whatever part
 abbrev pub RunsObeyEntries : Type 0

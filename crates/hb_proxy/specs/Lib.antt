@@ -1,5 +1,6 @@
 pub mod Access
 pub mod Control
+pub mod Dials
 pub mod Ends
 pub mod Held
 pub mod Laws

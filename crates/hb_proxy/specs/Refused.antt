@@ -15,10 +15,12 @@ use Rattle.hb_model.specs.declared.config.NodeConfig.{NodeConfig}
 use Rattle.hb_verdict.specs.declared.verdict.Verdict.TheVariants.{Dial}
 use Rattle.hb_world.specs.declared.entry.Entry.TheVariants as e
 use Rattle.hb_proxy.specs.Access.{AccessLaw}
+use Rattle.hb_proxy.specs.Ends.{EndLaw}
 use Rattle.hb_proxy.specs.Held.{at_start}
 use Rattle.hb_proxy.specs.Machine.{Machine}
 use Rattle.hb_proxy.specs.Owners.{OwnLaw, NumberLaw}
 use Rattle.hb_proxy.specs.Points.{Point, of_control, of_link}
+use Rattle.hb_proxy.specs.Relay.{RelayLaw}
 use Rattle.hb_proxy.specs.Runs.{Steps, StandsFor}
 
 -- AN ENTRY ON A LINK THAT NOBODY BORE
@@ -84,6 +86,20 @@ abbrev pub GoesOnAdmitted : Type 0
 GoesOnAdmitted = (g : NodeConfig) (to : Target) (seen : Seen) (target : Target) (note : Note) (r : Response) (bytes : List ℕ)
     → StaysIn (at_start g) seen target r
     → AccessLaw g (lived to seen target note r ++ of_link 2 (part.up 1 (e.Went 3 bytes)) ∷ [])
+
+-- while the upstream of that tunnel isn't closed, bytes come on another link, or a tick
+abbrev pub ReadsBehind : Type 0
+ReadsBehind = (g : NodeConfig) (to : Target) (seen : Seen) (target : Target) (note : Note) (r : Response) (bytes : List ℕ)
+    → IsRevoked (at_start g) seen target r → EndLaw g (lived to seen target note r ++ of_link 4 (part.entry (e.Came 4 bytes)) ∷ []) → ⊥
+
+abbrev pub TicksBehind : Type 0
+TicksBehind = (g : NodeConfig) (to : Target) (seen : Seen) (target : Target) (note : Note) (r : Response)
+    → IsRevoked (at_start g) seen target r → EndLaw g (lived to seen target note r ++ of_control (point.entry e.Tick) ∷ []) → ⊥
+
+-- a byte goes to the upstream that didn't come on the stream
+abbrev pub InventsByte : Type 0
+InventsByte = (to : Target) (seen : Seen) (target : Target) (note : Note) (r : Response) (byte : ℕ)
+    → RelayLaw (lived to seen target note r ++ of_link 2 (part.up 1 (e.Went 3 (byte ∷ []))) ∷ []) → ⊥
 
 -- A RUN
 

@@ -1,9 +1,9 @@
 //! Laws over every run of the whole proxy. Each is the contract of a function that does nothing.
 
 ghost use Rattle.hb_proxy.specs.Laws.{ControlRuns, LinksRun, LinksHold, RunsOwn, RunsNumber, RunsDialOnce, RunsShareSides};
-ghost use Rattle.hb_proxy.specs.Laws.{RunsAdmit, RunsRelay, RunsEnd, RunsObeyLinks, RunsObeyEntries, RunsObeyControl};
+ghost use Rattle.hb_proxy.specs.Laws.{RunsAdmit, RunsRelay, RunsEnd, RunsObeyLinks, RunsDial, RunsObeyEntries, RunsObeyControl};
 ghost use Rattle.hb_proxy.specs.Refused.{ComesUnborn, ReadsUnborn, ReadsAnothers, BornTwice, BornAgain, SeesAlone, SeeAll};
-ghost use Rattle.hb_proxy.specs.Refused.{AnswersAnother, AnswersControl, WritesBehind, GoesOnAdmitted, RunMayGo};
+ghost use Rattle.hb_proxy.specs.Refused.{AnswersAnother, AnswersControl, WritesBehind, ReadsBehind, TicksBehind, InventsByte, GoesOnAdmitted, RunMayGo};
 
 /// The points of the control plane are a run of its machine, and what happens to each inbound link is a run of that link's, with the
 /// resources that the control plane holds.
@@ -48,14 +48,17 @@ pub fn links_obey()
 
 /// At each entry of the trace, of whatever part, no link to the control plane has ended that isn't closed, but for the one write behind
 /// a connection error and closes; every response that came is applied, and every frame that came is looked at, and none of them ended
-/// the link's stream. The control plane's points obey the laws of its machine.
+/// the link's stream. While the run goes on the control plane is dialled exactly when it is due, and behind its end never. The control
+/// plane's points obey the laws of its machine.
 pub fn control_plane_obeys()
+    ensures dials { RunsDial }
     ensures entries { RunsObeyEntries }
     ensures own { RunsObeyControl }
 {}
 
 /// Nothing comes on a link that nobody bore, or that is another part's; no number is born twice; no link sees an update that another
-/// doesn't see; no dial is answered to another part; and no byte goes to an upstream behind an update that no longer admits the peer.
+/// doesn't see; no dial is answered to another part. Behind an update that no longer admits the peer no byte goes to the upstream, and
+/// nothing comes on another link, nor a tick, before that is closed. No byte goes to an upstream that didn't come.
 pub fn wrong_runs_are_refused()
     ensures comes { ComesUnborn }
     ensures unborn { ReadsUnborn }
@@ -67,6 +70,9 @@ pub fn wrong_runs_are_refused()
     ensures another { AnswersAnother }
     ensures control { AnswersControl }
     ensures writes { WritesBehind }
+    ensures reads { ReadsBehind }
+    ensures ticks { TicksBehind }
+    ensures invents { InventsByte }
 {}
 
 /// A link may be accepted behind the dial of the control plane, and a byte may go behind an update that still admits the peer.
