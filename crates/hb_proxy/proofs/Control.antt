@@ -102,7 +102,7 @@ module _ (g : NodeConfig) (m : control.Machine) (points : List point.Point) (sta
       (λ goes. hear_all g _ _ (ticked goes) points e.Tick [] refl)
 
 -- a link to the control plane is born
-control_is_born : (g : NodeConfig) (m : control.Machine) (points : List point.Point) → model.StandsFor g m points → (l : ℕ)
+pub control_is_born : (g : NodeConfig) (m : control.Machine) (points : List point.Point) → model.StandsFor g m points → (l : ℕ)
     → IsControl l (point.entries points) → IsBorn (m.links l).phase
 unfolding Fits
 control_is_born g m points stands l is = by (m.links l).phase ((lived g m points stands).fits l) (sym (plain g m points stands l).control ∙ is)

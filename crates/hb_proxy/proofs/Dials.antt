@@ -11,6 +11,7 @@ use Rattle.hb_inbound.specs.Part as part
 use Rattle.hb_inbound.specs.Part.{Part}
 use Rattle.hb_inbound.specs.Runs as inbound
 use Rattle.hb_inbound.specs.Runs.{MayCome, UpMayCome}
+use Rattle.hb_model.proofs.Grown.{one_more}
 use Rattle.hb_model.proofs.DialsDue.{runs_on, dials_when_due}
 use Rattle.hb_model.proofs.Inner.{over_is}
 use Rattle.hb_model.specs.Dials.{Dialling, dialling_after, at_start, dialling, DialMayStand}
@@ -32,7 +33,7 @@ use Rattle.hb_proxy.proofs.Control.{ticked}
 use Rattle.hb_proxy.proofs.Own.{own_at}
 use Rattle.hb_proxy.proofs.Owned.{whose_in, whose_one, all_owned, owner_grows}
 use Rattle.hb_proxy.proofs.Places.{at_points, short}
-use Rattle.hb_proxy.proofs.Projection.{one_more, control_runs}
+use Rattle.hb_proxy.proofs.Projection.{control_runs}
 
 -- a close of another link leaves the link that lives
 without_same : (k : ℕ) (o : Option ℕ) → (o ≡ Some k → ⊥) → without k o ≡ o

@@ -80,10 +80,12 @@ module _ (g : NodeConfig) (x : Machine) (before : List Point) (stands : StandsFo
   control_ends _ guard = tt
 
   link_ends : (l : ℕ) (z : Entry) → MayCome l (x.inbound l) z → LinkMayCome x l z → MoreComes g before z × LinkGoes g before l z
-  link_ends l (e.Accepted k d) may guard =
-      (all_closed l (e.Accepted k d) guard refl
-      (unborn_quiet (parts_of l before) (x.inbound l) may.1
-      (all_admit l (at_start g) (local x l) (parts_of l before) (links_run g x before l stands)).knows), tt)
+  link_ends l (e.Accepted k d) may guard = (
+    all_closed l (e.Accepted k d) guard refl
+        (unborn_quiet (parts_of l before) (x.inbound l) may.1
+        (all_admit l (at_start g) (local x l) (parts_of l before) (links_run g x before l stands)).knows),
+    tt,
+  )
   link_ends l (e.Came k bytes) may guard =
       (all_closed l (e.Came k bytes) guard refl (⊎_elim (λ h. h.0) (λ h. h.0) may.1.0), tt)
   link_ends l (e.Ended k) may guard = (all_closed l (e.Ended k) guard refl (⊎_elim (λ h. h.0) (λ h. h.0) may.1.0), tt)

@@ -3,6 +3,7 @@ pub mod Control
 pub mod ControlBorn
 pub mod Dials
 pub mod Ends
+pub mod Known
 pub mod Links
 pub mod Own
 pub mod Owned

@@ -7,6 +7,7 @@ use Rattle.hb_inbound.specs.Part.{Part}
 use Rattle.hb_inbound.specs.Runs as runs
 use Rattle.hb_inbound.specs.Runs.{MayCome, UpMayCome}
 use Rattle.hb_inbound.specs.Tunnel.{Tunnel, Stage, opening, live, over}
+use Rattle.hb_model.proofs.Grown.{one_more}
 use Rattle.hb_model.specs.Point as point
 use Rattle.hb_model.specs.Runs as model
 use Rattle.hb_model.specs.declared.config.NodeConfig.{NodeConfig}
@@ -23,7 +24,6 @@ use Rattle.hb_proxy.specs.Runs.{BirthMayCome, Steps, StandsFor, begins, goes_on}
 use Rattle.hb_proxy.proofs.ControlBorn.{control_born}
 use Rattle.hb_proxy.proofs.Owned.{Owned, whose_in, all_owned}
 use Rattle.hb_proxy.proofs.Places.{at_points, at_trace, short, birth_of}
-use Rattle.hb_proxy.proofs.Projection.{one_more}
 use Rattle.hb_proxy.proofs.Stays.{OwnsBy, Owns, may_born}
 
 -- what holds of the link that an entry stands on, where it stands on one

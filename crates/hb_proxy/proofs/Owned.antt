@@ -21,7 +21,7 @@ use Rattle.hb_model.specs.Machine as control
 use Rattle.hb_model.specs.Point as point
 use Rattle.hb_model.specs.Runs as model
 use Rattle.hb_model.specs.declared.config.NodeConfig.{NodeConfig}
-use Rattle.hb_model.proofs.Grown.{IsBorn}
+use Rattle.hb_model.proofs.Grown.{IsBorn, one_more}
 use Rattle.hb_world.specs.Trace.{is_birth}
 use Rattle.hb_world.specs.declared.entry.Entry.{Entry}
 use Rattle.hb_world.specs.declared.entry.Entry.TheVariants as e
@@ -32,7 +32,7 @@ use Rattle.hb_proxy.specs.Points.{Point, of_control, of_link, entry_in, entries,
 use Rattle.hb_proxy.specs.Runs.{BirthMayCome, ControlGuard, LinkGuard, Steps, StandsFor, begins, goes_on}
 use Rattle.hb_proxy.proofs.ControlBorn.{control_stays}
 use Rattle.hb_proxy.proofs.Places.{short, birth_of}
-use Rattle.hb_proxy.proofs.Projection.{one_more, control_runs, links_run}
+use Rattle.hb_proxy.proofs.Projection.{control_runs, links_run}
 use Rattle.hb_proxy.proofs.Stays.{IsNone, OwnsBy, Owns, is_born, LinkStays, same_link, applied_stays, stopped_stays, step_stays}
 
 -- each number that is above the last birth is nobody's; each link that is born is its part's, as is each tunnel's upstream; and an

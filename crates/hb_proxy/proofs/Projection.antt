@@ -2,8 +2,6 @@
 use Rattle.std.proofs.Common.{◌≡◌, ℕ, ◌==◌, Bool, true, false, List, [], ◌∷◌, ◌++◌, refl, ap, sym, ◌∙◌, subst, cond, arith}
 use Rattle.std.proofs.lemmas.Bool.{eqb-true}
 use Rattle.std.proofs.lemmas.List.{append-nil}
-use Rattle.std.proofs.lemmas.Grind.{flat_map-append}
-use Rattle.std.specs.List.{flat_map}
 use Rattle.hb_held.specs.Held.{Resources}
 use Rattle.hb_inbound.specs.Inbound.{Inbound}
 use Rattle.hb_inbound.specs.Part as part
@@ -14,6 +12,7 @@ use Rattle.hb_model.specs.Machine as control
 use Rattle.hb_model.specs.Point as point
 use Rattle.hb_model.specs.Runs as model
 use Rattle.hb_inbound.proofs.AdmittedRun.{all_admit}
+use Rattle.hb_model.proofs.Grown.{one_more}
 use Rattle.hb_model.proofs.MessagesRun.{held_is}
 use Rattle.hb_model.specs.declared.config.NodeConfig.{NodeConfig}
 use Rattle.hb_proxy.specs.Held.{at_start}
@@ -21,9 +20,6 @@ use Rattle.hb_proxy.specs.Laws.{ControlRuns, LinksRun, LinksHold}
 use Rattle.hb_proxy.specs.Machine.{Machine, local, with_control, with_part}
 use Rattle.hb_proxy.specs.Points.{Point, of_control, of_link, control_in, control_of, part_in, parts_of}
 use Rattle.hb_proxy.specs.Runs.{Steps, begins, goes_on}
-
-pub one_more : {X A : Type 0} (f : X → List A) (xs : List X) (x : X) → flat_map f (xs ++ x ∷ []) ≡ flat_map f xs ++ f x
-one_more f xs x = flat_map-append f xs (x ∷ []) ∙ ap (λ ys. flat_map f xs ++ ys) (append-nil (f x))
 
 -- THE CONTROL PLANE
 

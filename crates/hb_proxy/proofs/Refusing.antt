@@ -1,5 +1,5 @@
 -- What steps and laws of the whole refuse, and what may go.
-use Rattle.std.proofs.Common.{◌≡◌, ℕ, ◌==◌, List, [], ◌∷◌, ◌++◌, Some, refl, ap, sym, ◌∙◌, subst, arith}
+use Rattle.std.proofs.Common.{◌≡◌, ℕ, ◌==◌, List, [], ◌∷◌, ◌++◌, Some, None, refl, ap, sym, ◌∙◌, subst, arith, true, false}
 use Rattle.std.proofs.lemmas.Bool.{cond_both, false≢true}
 use Rattle.std.proofs.lemmas.List.{append-nil, append_assoc}
 use Rattle.hb_base.specs.declared.cause.Cause.TheVariants as cause
@@ -25,8 +25,14 @@ use Rattle.hb_proxy.specs.Machine.{Machine, fresh, with_control, with_part}
 use Rattle.hb_proxy.specs.Owners.{nobody, control_plane, inbound_link}
 use Rattle.hb_proxy.specs.Points.{Point, of_control, of_link}
 use Rattle.hb_proxy.specs.Refused.{ComesUnborn, ReadsUnborn, ReadsAnothers, BornTwice, BornAgain, SeesAlone, SeeAll, AnswersAnother, AnswersControl}
-use Rattle.hb_proxy.specs.Refused.{lived, WritesBehind, ReadsBehind, TicksBehind, InventsByte, GoesOnAdmitted, RunMayGo}
+use Rattle.hb_proxy.specs.Refused.{lived, WritesBehind, ReadsBehind, TicksBehind, InventsByte, AcceptsFirst, ReadsEnded, GoesOnAdmitted, begun, RunMayGo, RunIsLawful}
 use Rattle.hb_proxy.specs.Runs.{ControlRests, StandsFor, begins, goes_on}
+use Rattle.hb_proxy.proofs.Access.{runs_admit}
+use Rattle.hb_proxy.proofs.Control.{obey_entries}
+use Rattle.hb_proxy.proofs.Dials.{runs_dial}
+use Rattle.hb_proxy.proofs.Ends.{runs_end}
+use Rattle.hb_proxy.proofs.Own.{runs_own, runs_number}
+use Rattle.hb_proxy.proofs.Relay.{runs_relay}
 use Rattle.hb_proxy.proofs.Stays.{is_born, may_born}
 
 pub comes_unborn : ComesUnborn
@@ -84,6 +90,17 @@ pub invents_byte : InventsByte
 invents_byte to seen target note r byte law =
     let up = law.ups 2 1 3 refl in
     let none : [] ≡ byte ∷ up.rest = up.front in cc
+
+pub accepts_first : AcceptsFirst
+accepts_first g law =
+    let none : true ≡ false = law [] (of_link 1 (part.entry (e.Accepted 1 door.Inbound))) [] refl (e.Accepted 1 door.Inbound) refl in cc
+
+pub reads_ended : ReadsEnded
+reads_ended to bytes law =
+    let before = of_control (point.entry (e.Dialled 1 to whys.Discovery)) ∷ of_link 2 (part.entry (e.Accepted 2 door.Inbound))
+    ∷ of_control (point.entry (e.Ended 1)) ∷ [] in
+    let none : Some cause.Broken ≡ None =
+    law.ends before (of_link 2 (part.entry (e.Came 2 bytes))) (e.Came 2 bytes) [] refl refl 1 refl refl in cc
 
 -- a law at each part of a run, one place after another
 Places : (List Point → ℕ → Part → Type 0) → List Point → List Point → Type 0
@@ -166,3 +183,17 @@ run_may_go g =
     goes_on dialled (of_link 2 (part.entry accept))
     (link, ((refl, refl, refl), refl), record { birth = (refl, refl); control = rests; others = λ k apart. quiet }, refl) refl in
     (z, goes_on accepted (of_link 2 part.welcomed) (with_phase fronting link, (refl, refl), tt, refl) refl)
+
+pub run_is_lawful : RunIsLawful
+run_is_lawful g =
+    let x = (run_may_go g).0 in
+    let runs = (run_may_go g).1 in
+    let points = begun g.discovery in (
+      runs_own g x points runs,
+      runs_number g x points runs,
+      runs_dial g x points runs,
+      runs_end g x points runs,
+      runs_admit g x points runs,
+      runs_relay g x points runs,
+      obey_entries g x points runs,
+    )

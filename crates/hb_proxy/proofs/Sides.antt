@@ -6,6 +6,7 @@ use Rattle.std.specs.List.{flat_map}
 use Rattle.hb_inbound.specs.Part as part
 use Rattle.hb_inbound.specs.Part.{Part}
 use Rattle.hb_inbound.specs.Sides.{came_by, went_by, came_in, went_in, up_came_in, up_went_in}
+use Rattle.hb_model.proofs.Grown.{one_more}
 use Rattle.hb_model.specs.Point as point
 use Rattle.hb_model.specs.declared.config.NodeConfig.{NodeConfig}
 use Rattle.hb_world.specs.Trace.{came_on, went_on, recv, sent}
@@ -16,9 +17,9 @@ use Rattle.hb_proxy.specs.Machine.{Machine}
 use Rattle.hb_proxy.specs.Owners.{Owner, nobody, control_plane, inbound_link, upstream_of, link_of, OwnAt}
 use Rattle.hb_proxy.specs.Points.{Point, of_control, of_link, entry_in, entries, control_in, control_of, part_in, parts_of}
 use Rattle.hb_proxy.specs.Runs.{StandsFor, begins, goes_on}
+use Rattle.hb_proxy.proofs.Known.{are_known}
 use Rattle.hb_proxy.proofs.Own.{own_at}
 use Rattle.hb_proxy.proofs.Owned.{Owned, whose_in, all_owned, owner_grows}
-use Rattle.hb_proxy.proofs.Projection.{one_more}
 
 -- bytes, where this is their owner
 abbrev pick_control : Owner → List ℕ → List ℕ
@@ -411,6 +412,7 @@ runs_share g x points stands =
     let c = all_share came_on came_by came_in up_came_in came g x points stands in
     let w = all_share went_on went_by went_in up_went_in went g x points stands in
     record {
+      known = are_known g x points stands;
       control = λ l is. record {
         came = sym (c.controls l ∙ ap (λ o. pick_control o (recv l (entries points))) is);
         went = sym (w.controls l ∙ ap (λ o. pick_control o (sent l (entries points))) is);

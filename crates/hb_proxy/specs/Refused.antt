@@ -15,11 +15,13 @@ use Rattle.hb_model.specs.declared.config.NodeConfig.{NodeConfig}
 use Rattle.hb_verdict.specs.declared.verdict.Verdict.TheVariants.{Dial}
 use Rattle.hb_world.specs.declared.entry.Entry.TheVariants as e
 use Rattle.hb_proxy.specs.Access.{AccessLaw}
+use Rattle.hb_proxy.specs.Control.{EntryLaws}
+use Rattle.hb_proxy.specs.Dials.{DialLaw}
 use Rattle.hb_proxy.specs.Ends.{EndLaw}
 use Rattle.hb_proxy.specs.Held.{at_start}
 use Rattle.hb_proxy.specs.Machine.{Machine}
 use Rattle.hb_proxy.specs.Owners.{OwnLaw, NumberLaw}
-use Rattle.hb_proxy.specs.Points.{Point, of_control, of_link}
+use Rattle.hb_proxy.specs.Points.{Point, of_control, of_link, entries}
 use Rattle.hb_proxy.specs.Relay.{RelayLaw}
 use Rattle.hb_proxy.specs.Runs.{Steps, StandsFor}
 
@@ -101,6 +103,18 @@ abbrev pub InventsByte : Type 0
 InventsByte = (to : Target) (seen : Seen) (target : Target) (note : Note) (r : Response) (byte : ℕ)
     → RelayLaw (lived to seen target note r ++ of_link 2 (part.up 1 (e.Went 3 (byte ∷ []))) ∷ []) → ⊥
 
+-- A DIAL THAT IS DUE, AND AN END
+
+-- a link is accepted before the control plane is dialled
+abbrev pub AcceptsFirst : Type 0
+AcceptsFirst = (g : NodeConfig) → DialLaw g (of_link 1 (part.entry (e.Accepted 1 door.Inbound)) ∷ []) → ⊥
+
+-- an inbound link is read while a link to the control plane that ended isn't closed
+abbrev pub ReadsEnded : Type 0
+ReadsEnded = (to : Target) (bytes : List ℕ)
+    → EntryLaws (of_control (point.entry (e.Dialled 1 to whys.Discovery)) ∷ of_link 2 (part.entry (e.Accepted 2 door.Inbound))
+    ∷ of_control (point.entry (e.Ended 1)) ∷ of_link 2 (part.entry (e.Came 2 bytes)) ∷ []) → ⊥
+
 -- A RUN
 
 -- the control plane is dialled, and a link is accepted and taken in
@@ -111,3 +125,8 @@ begun to =
 
 abbrev pub RunMayGo : Type 0
 RunMayGo = (g : NodeConfig) → (x : Machine) × StandsFor g x (begun g.discovery)
+
+-- so the laws let it
+abbrev pub RunIsLawful : Type 0
+RunIsLawful = (g : NodeConfig) → let points = begun g.discovery in
+    OwnLaw points × NumberLaw (entries points) × DialLaw g points × EndLaw g points × AccessLaw g points × RelayLaw points × EntryLaws points

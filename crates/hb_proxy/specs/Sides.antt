@@ -2,6 +2,7 @@
 use Rattle.std.specs.Prelude.{◌≡◌, ◌≢◌, ℕ, List, [], ◌∷◌, ◌++◌}
 use Rattle.hb_inbound.specs.Part.{Part}
 use Rattle.hb_inbound.specs.Sides.{link_came, link_went, up_came, up_went}
+use Rattle.hb_model.specs.Calls.{IsControl}
 use Rattle.hb_model.specs.Point as model
 use Rattle.hb_world.specs.Trace.{recv, sent}
 use Rattle.hb_proxy.specs.Owners.{owner, control_plane, inbound_link, upstream_of}
@@ -27,7 +28,13 @@ pub record NoSide (points : List Point) (l s : ℕ) : Type 0 where
   pub came : up_came s (parts_of l points) ≡ []
   pub went : up_went s (parts_of l points) ≡ []
 
+-- a link that the trace tells to be one to the control plane is one by its owner, and by the control plane's points
+pub record IsKnown (points : List Point) (l : ℕ) : Type 0 where
+  pub owned : owner l (entries points) ≡ control_plane
+  pub told : IsControl l (model.entries (control_of points))
+
 pub record SideLaw (points : List Point) : Type 0 where
+  pub known : (l : ℕ) → IsControl l (entries points) → IsKnown points l
   pub control : (l : ℕ) → owner l (entries points) ≡ control_plane → ControlSide points l
   pub link : (l : ℕ) → owner l (entries points) ≡ inbound_link → LinkSide points l
   pub up : (l s u : ℕ) → owner u (entries points) ≡ upstream_of l s → UpSide points l s u

@@ -4,6 +4,7 @@ ghost use Rattle.hb_proxy.specs.Laws.{ControlRuns, LinksRun, LinksHold, RunsOwn,
 ghost use Rattle.hb_proxy.specs.Laws.{RunsAdmit, RunsRelay, RunsEnd, RunsObeyLinks, RunsDial, RunsObeyEntries, RunsObeyControl};
 ghost use Rattle.hb_proxy.specs.Refused.{ComesUnborn, ReadsUnborn, ReadsAnothers, BornTwice, BornAgain, SeesAlone, SeeAll};
 ghost use Rattle.hb_proxy.specs.Refused.{AnswersAnother, AnswersControl, WritesBehind, ReadsBehind, TicksBehind, InventsByte, GoesOnAdmitted, RunMayGo};
+ghost use Rattle.hb_proxy.specs.Refused.{AcceptsFirst, ReadsEnded, RunIsLawful};
 
 /// The points of the control plane are a run of its machine, and what happens to each inbound link is a run of that link's, with the
 /// resources that the control plane holds.
@@ -59,6 +60,7 @@ pub fn control_plane_obeys()
 /// Nothing comes on a link that nobody bore, or that is another part's; no number is born twice; no link sees an update that another
 /// doesn't see; no dial is answered to another part. Behind an update that no longer admits the peer no byte goes to the upstream, and
 /// nothing comes on another link, nor a tick, before that is closed. No byte goes to an upstream that didn't come.
+/// No link is accepted before the control plane is dialled, and none is read while a link to it that ended isn't closed.
 pub fn wrong_runs_are_refused()
     ensures comes { ComesUnborn }
     ensures unborn { ReadsUnborn }
@@ -73,10 +75,13 @@ pub fn wrong_runs_are_refused()
     ensures reads { ReadsBehind }
     ensures ticks { TicksBehind }
     ensures invents { InventsByte }
+    ensures accepts { AcceptsFirst }
+    ensures ended { ReadsEnded }
 {}
 
 /// A link may be accepted behind the dial of the control plane, and a byte may go behind an update that still admits the peer.
 pub fn good_runs_may_go()
     ensures run { RunMayGo }
+    ensures lawful { RunIsLawful }
     ensures goes_on { GoesOnAdmitted }
 {}

@@ -1,4 +1,4 @@
-use Rattle.hb_proxy.proofs.Refusing.{comes_unborn, reads_unborn, reads_anothers, born_twice, born_again, sees_alone, see_all, answers_another, answers_control, writes_behind, reads_behind, ticks_behind, invents_byte}
+use Rattle.hb_proxy.proofs.Refusing.{comes_unborn, reads_unborn, reads_anothers, born_twice, born_again, sees_alone, see_all, answers_another, answers_control, writes_behind, reads_behind, ticks_behind, invents_byte, accepts_first, reads_ended}
 use Rattle.hb_proxy.proofs.laws.wrong_runs_are_refused.Goals as goal
 
 pub returns : goal.returns
@@ -16,4 +16,6 @@ returns c = record {
   reads = reads_behind;
   ticks = ticks_behind;
   invents = invents_byte;
+  accepts = accepts_first;
+  ended = reads_ended;
 }
