@@ -1,7 +1,7 @@
 -- No byte goes to an upstream and no DATA frame begins unless what is held then admits the tunnel's peer, in every run of a link.
-use Rattle.std.proofs.Common.{◌≡◌, inl, inr, ℕ, zero, suc, ◌-◌, ◌&&◌, not, Bool, true, false, List, [], ◌∷◌, ◌++◌, length, refl, ap, sym, ◌∙◌, subst}
+use Rattle.std.proofs.Common.{◌≡◌, inl, inr, ℕ, zero, suc, ◌-◌, not, true, false, List, [], ◌∷◌, ◌++◌, length, refl, ap, sym, ◌∙◌, subst}
 use Rattle.std.specs.List.{AllByRecursion}
-use Rattle.std.proofs.lemmas.Bool.{false≢true}
+use Rattle.std.proofs.lemmas.Bool.{false≢true, and_parts}
 use Rattle.hb_conn.specs.Observed as observed
 use Rattle.hb_conn.specs.Observed.{outgoing, frames_begun}
 use Rattle.hb_frames.specs.RawFrame.{RawFrame, spelling}
@@ -50,10 +50,6 @@ placed (ended why) calm some = absurd (false≢true (sym calm))
 placed (over why) calm some = some
 placed gone calm some = some
 
-last_of : (b c : Bool) → (b && c) ≡ true → c ≡ true
-last_of true c is = is
-last_of false c is = absurd (false≢true is)
-
 module _ (l : ℕ) (start : Resources) (a : Local) (before : List Part) (stands : StandsFor l start a before) where
   admitted : (s : ℕ) → takes_place (a.link.tunnels s).stage ≡ true → IsAdmitted start before s
   admitted s place =
@@ -88,7 +84,7 @@ module _ (l : ℕ) (start : Resources) (a : Local) (before : List Part) (stands 
       let serves = subst (λ (ph : Phase). WaitsIn ph a.link) quiet.1 (all_wait l start a before stands) in
       goes_by bytes rest.0 (set_of a.link) (output_at serving bytes rest.0 quiet.1 rest.1) serves.waits
       (λ s wait. placed (a.link.tunnels s).stage (quiet.0.calm.answered s)
-      (last_of (not (a.link.tunnels s).end_put) (holds_data (a.link.tunnels s).stage) wait))
+      (and_parts (not (a.link.tunnels s).end_put) (holds_data (a.link.tunnels s).stage) wait).1)
   link_goes (e.Went k bytes) (is, inr fault, some, rest) =
       let none = subst (λ (ph : Phase). WaitsIn ph a.link) fault.2 (all_wait l start a before stands) in
       goes_by bytes rest.0 no_stream (output_at (faulted fault.1) bytes rest.0 fault.2 rest.1) none

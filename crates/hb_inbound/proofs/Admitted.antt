@@ -1,6 +1,6 @@
 -- What every run of a link keeps of who is admitted.
 use Rattle.std.proofs.Common.{◌≡◌, ℕ, ◌==◌, Bool, true, false, List, [], ◌∷◌, ◌++◌, Option, Some, None, refl, ap, sym, ◌∙◌, subst}
-use Rattle.std.proofs.lemmas.Bool.{false≢true, cond_both, eqb-true}
+use Rattle.std.proofs.lemmas.Bool.{false≢true, cond_both, eqb-true, eq-eqb, ne_eqb}
 use Rattle.hb_base.specs.declared.cause.Cause.{Cause}
 use Rattle.hb_base.specs.declared.peer.Peer.{Peer}
 use Rattle.hb_base.specs.declared.target.Target.{Target}
@@ -72,6 +72,10 @@ none_in why gone = refl
 
 pub placeless : {A : Type 0} (b : Bool) → b ≡ false → b ≡ true → A
 placeless b none some = absurd (false≢true (sym none ∙ some))
+
+-- two numbers that differ, the other way round
+pub swapped : (k s : ℕ) → (k == s) ≡ false → (s == k) ≡ false
+swapped k s apart = ne_eqb s k (λ is. false≢true (sym apart ∙ eq-eqb k s (sym is)))
 
 -- what holds of a tunnel that changes, and of each other one as it was
 pub at_one : (s : ℕ) (change : Tunnel → Tunnel) (x : Inbound) (P : ℕ → Tunnel → Type 0) → P s (change (x.tunnels s))

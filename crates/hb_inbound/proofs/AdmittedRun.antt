@@ -31,7 +31,7 @@ use Rattle.hb_inbound.specs.Runs.{Local, MayCome, UpMayCome, entered, Steps, Sta
 use Rattle.hb_inbound.specs.Sides.{held_by, peer_of, peer_by, target_of, target_by, dialled_to, identity_told}
 use Rattle.hb_inbound.specs.Tunnel.{Tunnel, Stage, unasked, due, opening, live, over, takes_place, at_stage, asked, ends_by, ends_for, left_with, up_entered, came_up, peer_ended, requested_with}
 use Rattle.hb_inbound.proofs.Grown.{fold_one}
-use Rattle.hb_inbound.proofs.Stages.{left_none, refused_next, reset_next, left_next, refuses_asked, resets_asked, leaves_asked}
+use Rattle.hb_inbound.proofs.Left.{left_placeless, refuses_left, resets_left, leaves_left, refuses_asked, resets_asked, leaves_asked}
 use Rattle.hb_inbound.proofs.Admitted.{Tells, KnowsBy, Admits, Leaves_all, none_in, placeless, held_stays, peer_stays, target_stays, tells_on, knows_on, moves_on, same_on, ends_on, at_one, one_on}
 
 -- a tunnel without a place is told of no one
@@ -155,7 +155,8 @@ module _ (start : Resources) (a : Local) (parts : List Part) (admits : Admits st
   found_admits : (ps : List history.Point) (told : Found) (headers : HeaderList) (bytes : List ℕ) (c : Connection) → a.link.phase ≡ serving
       → Admits start (parts ++ looked ps told headers ∷ []) (with_link (told_of told headers bytes (record a.link { conn = c })) a)
   found_admits ps found.Silent headers bytes c is =
-      same_on start parts (looked ps found.Silent headers) a (record a.link { conn = c }) (told_leaves ps found.Silent headers) refl refl refl admits
+      same_on start parts (looked ps found.Silent headers) a (record a.link { conn = c }) (told_leaves ps found.Silent headers) refl refl
+      refl admits
   found_admits ps (found.Opened s end) headers bytes c is =
       let p = looked ps (found.Opened s end) headers in
       let y = told_of (found.Opened s end) headers bytes (record a.link { conn = c }) in
@@ -163,32 +164,41 @@ module _ (start : Resources) (a : Local) (parts : List Part) (admits : Admits st
       record {
         holds = held_stays start parts p a.held (λ h. refl) admits.holds;
         knows = subst (λ (ph : Phase). KnowsBy ph (parts ++ p ∷ []) y) (sym is) (peer_stays start parts p (λ w. refl) ∙ knows);
-        each = at_one s (λ t. requested_with headers end) (record a.link { conn = c }) (λ k t. Tells a.held a.link.peer (parts ++ p ∷ []) k t)
+        each = at_one s (λ t. requested_with headers end) (record a.link { conn = c })
+            (λ k t. Tells a.held a.link.peer (parts ++ p ∷ []) k t)
             (none_told a.held a.link.peer (parts ++ p ∷ []) s (requested_with headers end) refl)
-            (λ k apart. tells_on start parts p a.held a.link.peer k (a.link.tunnels k) (a.link.tunnels k) (λ w. refl) (λ t. refl) refl (λ some. some) (admits.each k));
+            (λ k apart. tells_on start parts p a.held a.link.peer k (a.link.tunnels k) (a.link.tunnels k) (λ w. refl) (λ t. refl) refl
+            (λ some. some) (admits.each k));
       }
   found_admits ps (found.Chunk s end) headers bytes c is =
-      one_on start parts (looked ps (found.Chunk s end) headers) a (told_of (found.Chunk s end) headers bytes (record a.link { conn = c })) s
+      one_on start parts (looked ps (found.Chunk s end) headers) a (told_of (found.Chunk s end) headers bytes (record a.link { conn = c }))
+      s
       (came_up bytes) (told_leaves ps (found.Chunk s end) headers) refl refl refl (λ none. none) refl (λ some. some) admits
   found_admits ps (found.Ended s) headers bytes c is =
       one_on start parts (looked ps (found.Ended s) headers) a (told_of (found.Ended s) headers bytes (record a.link { conn = c })) s
       peer_ended (told_leaves ps (found.Ended s) headers) refl refl refl (λ none. none) refl (λ some. some) admits
   found_admits ps (found.Reset s code) headers bytes c is =
-      one_on start parts (looked ps (found.Reset s code) headers) a (told_of (found.Reset s code) headers bytes (record a.link { conn = c })) s
+      one_on start parts (looked ps (found.Reset s code) headers) a
+      (told_of (found.Reset s code) headers bytes (record a.link { conn = c })) s
       (ends_for (cause.PeerReset code)) (told_leaves ps (found.Reset s code) headers) refl refl refl
       (λ none. ap (ends_by (cause.PeerReset code)) none) refl
-      (λ some. placeless (takes_place (ends_by (cause.PeerReset code) (a.link.tunnels s).stage)) (none_in (cause.PeerReset code) (a.link.tunnels s).stage) some) admits
+      (λ some. placeless (takes_place (ends_by (cause.PeerReset code) (a.link.tunnels s).stage))
+      (none_in (cause.PeerReset code) (a.link.tunnels s).stage) some) admits
   found_admits ps (found.Broken s code) headers bytes c is =
-      one_on start parts (looked ps (found.Broken s code) headers) a (told_of (found.Broken s code) headers bytes (record a.link { conn = c })) s
+      one_on start parts (looked ps (found.Broken s code) headers) a
+      (told_of (found.Broken s code) headers bytes (record a.link { conn = c })) s
       (ends_for (cause.StreamFault code)) (told_leaves ps (found.Broken s code) headers) refl refl refl
       (λ none. ap (ends_by (cause.StreamFault code)) none) refl
-      (λ some. placeless (takes_place (ends_by (cause.StreamFault code) (a.link.tunnels s).stage)) (none_in (cause.StreamFault code) (a.link.tunnels s).stage) some) admits
+      (λ some. placeless (takes_place (ends_by (cause.StreamFault code) (a.link.tunnels s).stage))
+      (none_in (cause.StreamFault code) (a.link.tunnels s).stage) some) admits
   found_admits ps (found.GoneAway last) headers bytes c is =
-      same_on start parts (looked ps (found.GoneAway last) headers) a (record a.link { conn = c }) (told_leaves ps (found.GoneAway last) headers) refl refl refl admits
+      same_on start parts (looked ps (found.GoneAway last) headers) a (record a.link { conn = c })
+      (told_leaves ps (found.GoneAway last) headers) refl refl refl admits
   found_admits ps (found.Fault code) headers bytes c is =
       moves_on start parts (looked ps (found.Fault code) headers) a (told_of (found.Fault code) headers bytes (record a.link { conn = c }))
       (told_leaves ps (found.Fault code) headers) refl tt (λ s. refl)
-      (λ s some. placeless (takes_place (ends_by (cause.ConnFault code) (a.link.tunnels s).stage)) (none_in (cause.ConnFault code) (a.link.tunnels s).stage) some) admits
+      (λ s some. placeless (takes_place (ends_by (cause.ConnFault code) (a.link.tunnels s).stage))
+      (none_in (cause.ConnFault code) (a.link.tunnels s).stage) some) admits
 
   -- the answer to a request: a dial only where the peer is admitted
   answered_dial : (headers : HeaderList) (full : Bool) (target : Target) → IsAnswerTo a headers full (Dial target)
@@ -242,7 +252,8 @@ module _ (start : Resources) (a : Local) (parts : List Part) (admits : Admits st
       → (takes_place next.stage ≡ true → takes_place (a.link.tunnels s).stage ≡ true)
       → Admits start (parts ++ p ∷ []) (with_link (with_tunnel s next c a.link) a)
   now_admits p s next c leaves asked target place =
-      one_on start parts p a (with_tunnel s next c a.link) s (λ t. next) leaves refl refl refl (λ none. absurd (asked none)) target place admits
+      one_on start parts p a (with_tunnel s next c a.link) s (λ t. next) leaves refl refl refl (λ none. absurd (asked none)) target place
+      admits
 
   no_place : (stage : Stage) → (b : Bool) → b ≡ false → b ≡ true → takes_place stage ≡ true
   no_place stage b none some = absurd (false≢true (sym none ∙ some))
@@ -255,8 +266,10 @@ module _ (start : Resources) (a : Local) (parts : List Part) (admits : Admits st
   judged_one h peer parts_now s t false j place is known = λ some. absurd (false≢true (sym place ∙ some))
   judged_one h peer parts_now s t true Admitted place is known = λ some.
       record { peer_is = (known refl).0; target_is = (known refl).1; admitted = is }
-  judged_one h peer parts_now s t true Unknown place is known = λ some. placeless (takes_place (ends_by cause.Revoked t.stage)) (none_in cause.Revoked t.stage) some
-  judged_one h peer parts_now s t true Denied place is known = λ some. placeless (takes_place (ends_by cause.Revoked t.stage)) (none_in cause.Revoked t.stage) some
+  judged_one h peer parts_now s t true Unknown place is known = λ some. placeless (takes_place (ends_by cause.Revoked t.stage))
+      (none_in cause.Revoked t.stage) some
+  judged_one h peer parts_now s t true Denied place is known = λ some. placeless (takes_place (ends_by cause.Revoked t.stage))
+      (none_in cause.Revoked t.stage) some
 
   unasked_stays : (h : Resources) (t : Tunnel) → t.stage ≡ unasked
       → (cond (takes_place t.stage) (judged_by (judged h a.link.peer t.target) t) t).stage ≡ unasked
@@ -281,7 +294,8 @@ module _ (start : Resources) (a : Local) (parts : List Part) (admits : Admits st
       (subst (λ (ph : Phase). KnowsBy ph parts a.link) steps.0 admits.knows))
   step_admits l crowded b steps =
       to _ b (with_phase (closing cause.NoRoom) a.link) steps.1
-      (same_tunnels crowded (with_phase (closing cause.NoRoom) a.link) (record { held = λ h. refl; peer = λ w. refl; targets = λ s t. refl })
+      (same_tunnels crowded (with_phase (closing cause.NoRoom) a.link)
+      (record { held = λ h. refl; peer = λ w. refl; targets = λ s t. refl })
       refl refl tt)
   step_admits l lacked b steps =
       to _ b (lacking a.link) steps.1
@@ -317,32 +331,36 @@ module _ (start : Resources) (a : Local) (parts : List Part) (admits : Admits st
       (record { held = λ h. refl; peer = λ w. refl; targets = λ k t. refl })
       (λ none. (let both = sym none ∙ steps.1 in cc)) refl (λ some. ap takes_place steps.1))
   step_admits l (refused s status resets made) b steps =
-      let next = refused_next a.link l s status (a.link.tunnels s).stage made steps.1 steps.2 in
+      let next =
+      left_placeless (a.link.tunnels s) steps.1 (refuses_left a.link l s status (a.link.tunnels s).stage made steps.1 steps.2) in
       to _ b _ steps.4
       (now_admits (refused s status resets made) s steps.1 _
       (record { held = λ h. refl; peer = λ w. refl; targets = λ k t. refl })
-      (λ none. refuses_asked a.link l s status (a.link.tunnels s).stage made steps.1 steps.2 (sym none)) next.1
+      (refuses_asked a.link l s status (a.link.tunnels s).stage made steps.1 steps.2) next.1
       (no_place (a.link.tunnels s).stage (takes_place (steps.1).stage) next.0))
   step_admits l (reset s code made) b steps =
-      let next = reset_next a.link l s code (a.link.tunnels s).stage made steps.1 steps.2 in
+      let next =
+      left_placeless (a.link.tunnels s) steps.1 (resets_left a.link l s code (a.link.tunnels s).stage made steps.1 steps.2) in
       to _ b _ steps.3
       (now_admits (reset s code made) s steps.1 _
       (record { held = λ h. refl; peer = λ w. refl; targets = λ k t. refl })
-      (λ none. resets_asked a.link l s code (a.link.tunnels s).stage made steps.1 steps.2 (sym none)) next.1
+      (resets_asked a.link l s code (a.link.tunnels s).stage made steps.1 steps.2) next.1
       (no_place (a.link.tunnels s).stage (takes_place (steps.1).stage) next.0))
   step_admits l (left s made) b steps =
-      let next = left_next a.link l s (a.link.tunnels s).stage made steps.0 steps.1 in
+      let next =
+      left_placeless (a.link.tunnels s) steps.0 (leaves_left a.link l s 0 (a.link.tunnels s).stage made steps.0 steps.1) in
       to _ b _ steps.2
       (now_admits (left s made) s steps.0 _
       (record { held = λ h. refl; peer = λ w. refl; targets = λ k t. refl })
-      (λ none. leaves_asked a.link l s (a.link.tunnels s).stage made steps.0 steps.1 (sym none)) next.1
+      (leaves_asked a.link l s 0 (a.link.tunnels s).stage made steps.0 steps.1) next.1
       (no_place (a.link.tunnels s).stage (takes_place (steps.0).stage) next.0))
   step_admits l (done s made) b steps =
       to _ b _ steps.3
       (one_on start parts (done s made) a (at_stream s (left_with cause.Done) a.link) s (left_with cause.Done)
       (record { held = λ h. refl; peer = λ w. refl; targets = λ k t. refl }) refl refl refl
       (λ none. (let both = sym none ∙ steps.0.2 in cc)) refl
-      (no_place (a.link.tunnels s).stage (takes_place (left_with cause.Done (a.link.tunnels s)).stage) (left_none cause.Done (a.link.tunnels s)))
+      (no_place (a.link.tunnels s).stage (takes_place (left_with cause.Done (a.link.tunnels s)).stage)
+      (left_placeless (a.link.tunnels s) (left_with cause.Done (a.link.tunnels s)) (inr (cause.Done, refl))).0)
       admits)
   step_admits l (put s bytes) b steps =
       to _ b _ steps.3

@@ -1,12 +1,19 @@
 pub mod AccessRun
 pub mod Admitted
 pub mod AdmittedRun
+pub mod ClosesRefused
+pub mod ClosesRun
+pub mod DialsRun
 pub mod EndsRun
 pub mod Grown
 pub mod Histories
 pub mod Left
 pub mod Life
 pub mod LifeRun
+pub mod NotesRefused
+pub mod NotesRun
+pub mod Noting
+pub mod RefusedEnds
 pub mod RefusedRuns
 pub mod Refusing
 pub mod RelayDown
@@ -18,7 +25,6 @@ pub mod RingsRun
 pub mod Runs
 pub mod Sending
 pub mod SendsRun
-pub mod Stages
 pub mod Updating
 pub mod VerdictRun
 pub mod VerdictsRefused

@@ -31,7 +31,8 @@ pub life_one : (start : Resources) (s : ℕ) (parts : List Part) (p : Part)
 life_one start s parts p =
     let k = known start s parts in
     ap (λ (j : Known). j.life) (fold_one (known_by s) (record { held = start; peer = None; life = none }) parts p)
-    ∙ ap (λ (h : Resources). life_by (held_by h p) k.peer s k.life p) (held_known s (record { held = start; peer = None; life = none }) parts)
+    ∙ ap (λ (h : Resources). life_by (held_by h p) k.peer s k.life p)
+    (held_known s (record { held = start; peer = None; life = none }) parts)
     ∙ ap (λ (who : Option Peer). life_by (held_by (held start parts) p) who s k.life p)
     (peer_known s (record { held = start; peer = None; life = none }) parts)
 
@@ -141,61 +142,82 @@ judged_say h peer how u t known_peer told = by t.stage refl
     by : (stage : Stage) → t.stage ≡ stage → SaysBy stage how u t
         → SaysOf (ends_at h known_peer how) u (cond (takes_place t.stage) (judged_by (judged h peer t.target) t) t)
     by unasked is says =
-        subst (λ (st : Stage). SaysOf (ends_at h known_peer how) u (cond (takes_place st) (judged_by (judged h peer t.target) t) t)) (sym is)
+        subst (λ (st : Stage). SaysOf (ends_at h known_peer how) u (cond (takes_place st) (judged_by (judged h peer t.target) t) t))
+        (sym is)
         (subst (λ (st : Stage). SaysBy st (ends_at h known_peer how) u t) (sym is)
         (record { life = kept how none says.life (quiet known_peer); up = says.up }))
     by (requested headers end) is says =
-        subst (λ (st : Stage). SaysOf (ends_at h known_peer how) u (cond (takes_place st) (judged_by (judged h peer t.target) t) t)) (sym is)
+        subst (λ (st : Stage). SaysOf (ends_at h known_peer how) u (cond (takes_place st) (judged_by (judged h peer t.target) t) t))
+        (sym is)
         (subst (λ (st : Stage). SaysBy st (ends_at h known_peer how) u t) (sym is)
         (record { life = kept how none says.life (quiet known_peer); up = says.up }))
     by (refusing status target) is says =
-        subst (λ (st : Stage). SaysOf (ends_at h known_peer how) u (cond (takes_place st) (judged_by (judged h peer t.target) t) t)) (sym is)
+        subst (λ (st : Stage). SaysOf (ends_at h known_peer how) u (cond (takes_place st) (judged_by (judged h peer t.target) t) t))
+        (sym is)
         (subst (λ (st : Stage). SaysBy st (ends_at h known_peer how) u t) (sym is)
         (record { life = kept how none says.life (quiet known_peer); up = says.up }))
     by malformed is says =
-        subst (λ (st : Stage). SaysOf (ends_at h known_peer how) u (cond (takes_place st) (judged_by (judged h peer t.target) t) t)) (sym is)
+        subst (λ (st : Stage). SaysOf (ends_at h known_peer how) u (cond (takes_place st) (judged_by (judged h peer t.target) t) t))
+        (sym is)
         (subst (λ (st : Stage). SaysBy st (ends_at h known_peer how) u t) (sym is)
         (record { life = kept how none says.life (quiet known_peer); up = says.up }))
     by (failed why) is says =
-        subst (λ (st : Stage). SaysOf (ends_at h known_peer how) u (cond (takes_place st) (judged_by (judged h peer t.target) t) t)) (sym is)
+        subst (λ (st : Stage). SaysOf (ends_at h known_peer how) u (cond (takes_place st) (judged_by (judged h peer t.target) t) t))
+        (sym is)
         (subst (λ (st : Stage). SaysBy st (ends_at h known_peer how) u t) (sym is)
         (record { life = kept how (life.ended why) says.life (past known_peer why); up = says.up }))
     by (ended why) is says =
-        subst (λ (st : Stage). SaysOf (ends_at h known_peer how) u (cond (takes_place st) (judged_by (judged h peer t.target) t) t)) (sym is)
+        subst (λ (st : Stage). SaysOf (ends_at h known_peer how) u (cond (takes_place st) (judged_by (judged h peer t.target) t) t))
+        (sym is)
         (subst (λ (st : Stage). SaysBy st (ends_at h known_peer how) u t) (sym is)
         (record { life = kept how (life.ended why) says.life (past known_peer why); up = says.up }))
     by (over why) is says =
-        subst (λ (st : Stage). SaysOf (ends_at h known_peer how) u (cond (takes_place st) (judged_by (judged h peer t.target) t) t)) (sym is)
+        subst (λ (st : Stage). SaysOf (ends_at h known_peer how) u (cond (takes_place st) (judged_by (judged h peer t.target) t) t))
+        (sym is)
         (subst (λ (st : Stage). SaysBy st (ends_at h known_peer how) u t) (sym is)
         (record { life = kept how (life.ended why) says.life (past known_peer why); up = says.up }))
     by gone is (inl never, closed) =
-        subst (λ (st : Stage). SaysOf (ends_at h known_peer how) u (cond (takes_place st) (judged_by (judged h peer t.target) t) t)) (sym is)
+        subst (λ (st : Stage). SaysOf (ends_at h known_peer how) u (cond (takes_place st) (judged_by (judged h peer t.target) t) t))
+        (sym is)
         (subst (λ (st : Stage). SaysBy st (ends_at h known_peer how) u t) (sym is) (inl (kept how none never (quiet known_peer)), closed))
     by gone is (inr (why, ago), closed) =
-        subst (λ (st : Stage). SaysOf (ends_at h known_peer how) u (cond (takes_place st) (judged_by (judged h peer t.target) t) t)) (sym is)
+        subst (λ (st : Stage). SaysOf (ends_at h known_peer how) u (cond (takes_place st) (judged_by (judged h peer t.target) t) t))
+        (sym is)
         (subst (λ (st : Stage). SaysBy st (ends_at h known_peer how) u t) (sym is)
         (inr (why, kept how (life.ended why) ago (past known_peer why)), closed))
     by due is says =
         subst (λ (who : Option Peer). SaysOf (ends_at h who how) u (cond (takes_place t.stage) (judged_by (judged h peer t.target) t) t))
         (sym (told (ap takes_place is)))
-        (subst (λ (how_is : Life). SaysOf (ends_at h (Some peer) how_is) u (cond (takes_place t.stage) (judged_by (judged h peer t.target) t) t)) (sym says.0.life)
-        (subst (λ (b : Bool). SaysOf (ends_judged (judged h peer t.target) (pending t.target)) u (cond b (judged_by (judged h peer t.target) t) t)) (sym (ap takes_place is))
-        (one (judged h peer t.target) (pending t.target) (subst (λ (st : Stage). SaysBy st (pending t.target) u t) (sym is) (record { life = refl; up = says.0.up }, says.1)))))
+        (subst (λ (how_is : Life). SaysOf (ends_at h (Some peer) how_is) u
+        (cond (takes_place t.stage) (judged_by (judged h peer t.target) t) t)) (sym says.0.life)
+        (subst (λ (b : Bool). SaysOf (ends_judged (judged h peer t.target) (pending t.target)) u
+        (cond b (judged_by (judged h peer t.target) t) t)) (sym (ap takes_place is))
+        (one (judged h peer t.target) (pending t.target)
+        (subst (λ (st : Stage). SaysBy st (pending t.target) u t) (sym is) (record { life = refl; up = says.0.up }, says.1)))))
     by opening is says =
         subst (λ (who : Option Peer). SaysOf (ends_at h who how) u (cond (takes_place t.stage) (judged_by (judged h peer t.target) t) t))
         (sym (told (ap takes_place is)))
-        (subst (λ (how_is : Life). SaysOf (ends_at h (Some peer) how_is) u (cond (takes_place t.stage) (judged_by (judged h peer t.target) t) t)) (sym says.life)
-        (subst (λ (b : Bool). SaysOf (ends_judged (judged h peer t.target) (pending t.target)) u (cond b (judged_by (judged h peer t.target) t) t)) (sym (ap takes_place is))
-        (one (judged h peer t.target) (pending t.target) (subst (λ (st : Stage). SaysBy st (pending t.target) u t) (sym is) (record { life = refl; up = says.up })))))
+        (subst (λ (how_is : Life). SaysOf (ends_at h (Some peer) how_is) u
+        (cond (takes_place t.stage) (judged_by (judged h peer t.target) t) t)) (sym says.life)
+        (subst (λ (b : Bool). SaysOf (ends_judged (judged h peer t.target) (pending t.target)) u
+        (cond b (judged_by (judged h peer t.target) t) t)) (sym (ap takes_place is))
+        (one (judged h peer t.target) (pending t.target)
+        (subst (λ (st : Stage). SaysBy st (pending t.target) u t) (sym is) (record { life = refl; up = says.up })))))
     by accepting is says =
         subst (λ (who : Option Peer). SaysOf (ends_at h who how) u (cond (takes_place t.stage) (judged_by (judged h peer t.target) t) t))
         (sym (told (ap takes_place is)))
-        (subst (λ (how_is : Life). SaysOf (ends_at h (Some peer) how_is) u (cond (takes_place t.stage) (judged_by (judged h peer t.target) t) t)) (sym says.life)
-        (subst (λ (b : Bool). SaysOf (ends_judged (judged h peer t.target) (pending t.target)) u (cond b (judged_by (judged h peer t.target) t) t)) (sym (ap takes_place is))
-        (one (judged h peer t.target) (pending t.target) (subst (λ (st : Stage). SaysBy st (pending t.target) u t) (sym is) (record { life = refl; up = says.up })))))
+        (subst (λ (how_is : Life). SaysOf (ends_at h (Some peer) how_is) u
+        (cond (takes_place t.stage) (judged_by (judged h peer t.target) t) t)) (sym says.life)
+        (subst (λ (b : Bool). SaysOf (ends_judged (judged h peer t.target) (pending t.target)) u
+        (cond b (judged_by (judged h peer t.target) t) t)) (sym (ap takes_place is))
+        (one (judged h peer t.target) (pending t.target)
+        (subst (λ (st : Stage). SaysBy st (pending t.target) u t) (sym is) (record { life = refl; up = says.up })))))
     by live is says =
         subst (λ (who : Option Peer). SaysOf (ends_at h who how) u (cond (takes_place t.stage) (judged_by (judged h peer t.target) t) t))
         (sym (told (ap takes_place is)))
-        (subst (λ (how_is : Life). SaysOf (ends_at h (Some peer) how_is) u (cond (takes_place t.stage) (judged_by (judged h peer t.target) t) t)) (sym says.life)
-        (subst (λ (b : Bool). SaysOf (ends_judged (judged h peer t.target) (lives t.target)) u (cond b (judged_by (judged h peer t.target) t) t)) (sym (ap takes_place is))
-        (one (judged h peer t.target) (lives t.target) (subst (λ (st : Stage). SaysBy st (lives t.target) u t) (sym is) (record { life = refl; up = says.up })))))
+        (subst (λ (how_is : Life). SaysOf (ends_at h (Some peer) how_is) u
+        (cond (takes_place t.stage) (judged_by (judged h peer t.target) t) t)) (sym says.life)
+        (subst (λ (b : Bool). SaysOf (ends_judged (judged h peer t.target) (lives t.target)) u
+        (cond b (judged_by (judged h peer t.target) t) t)) (sym (ap takes_place is))
+        (one (judged h peer t.target) (lives t.target)
+        (subst (λ (st : Stage). SaysBy st (lives t.target) u t) (sym is) (record { life = refl; up = says.up })))))

@@ -29,7 +29,7 @@ use Rattle.hb_inbound.specs.Runs.{Local, MayCome, UpMayCome, entered, Steps, wit
 use Rattle.hb_inbound.specs.Sides.{held, held_by, peer_of, Was}
 use Rattle.hb_inbound.specs.Tunnel.{Tunnel, Stage, unasked, requested, refusing, malformed, due, opening, accepting, live, failed, ended, over, gone, at_stage, asked, ends_by, ends_for, left_with, takes_place, up_entered, came_up, peer_ended, requested_with}
 use Rattle.hb_inbound.proofs.Admitted.{Admits, AreUnasked, KnowsBy, at_one, none_in}
-use Rattle.hb_inbound.proofs.Stages.{refused_next, reset_next, left_next}
+use Rattle.hb_inbound.proofs.Left.{left_placeless, refuses_left, resets_left, leaves_left}
 use Rattle.hb_inbound.proofs.Life.{life_one, up_one, SaysBy, SaysOf, ends_say, left_say, say_at, say_on, judged_say}
 
 -- a tunnel whose stage, upstream and target stay says the same
@@ -99,7 +99,8 @@ late_on closed parts p x y kept late = λ s. kept s (late s)
 module _ (start : Resources) (a : Local) (parts : List Part) (all : SaysAll start parts a) where
   -- the words behind a part
   next_says : (p : Part) (y : Inbound)
-      → ((s : ℕ) → SaysOf (life_by (held_by (held start parts) p) (peer_of parts) s (life start s parts) p) (up_in s (up_of s parts) p) (y.tunnels s))
+      → ((s : ℕ) → SaysOf (life_by (held_by (held start parts) p) (peer_of parts) s (life start s parts) p) (up_in s (up_of s parts) p)
+      (y.tunnels s))
       → LateBy y.phase (parts ++ p ∷ []) y → SaysAll start (parts ++ p ∷ []) (with_link y a)
   next_says p y each late = record {
     each = λ s.
@@ -120,7 +121,8 @@ module _ (start : Resources) (a : Local) (parts : List Part) (all : SaysAll star
       late
 
   late_same : (p : Part) (y : Inbound) → y.phase ≡ a.link.phase
-      → ((s : ℕ) → takes_place (a.link.tunnels s).stage ≡ false → takes_place (y.tunnels s).stage ≡ false) → LateBy y.phase (parts ++ p ∷ []) y
+      → ((s : ℕ) → takes_place (a.link.tunnels s).stage ≡ false → takes_place (y.tunnels s).stage ≡ false)
+      → LateBy y.phase (parts ++ p ∷ []) y
   late_same p y phase kept =
       subst (λ (ph : Phase). LateBy ph (parts ++ p ∷ []) y) (sym phase) (late_on a.link.phase parts p a.link y kept all.late)
 
@@ -186,7 +188,7 @@ module _ (start : Resources) (a : Local) (parts : List Part) (all : SaysAll star
   went_late k bytes closed late = λ s. late s
 
   -- behind a close no tunnel has a place: none had one in front of it
-  close_late : (phase : Phase) → LateBy phase parts a.link → (why : Cause) → close_due phase ≡ Some why
+  pub close_late : (phase : Phase) → LateBy phase parts a.link → (why : Cause) → close_due phase ≡ Some why
       → (s : ℕ) → takes_place (a.link.tunnels s).stage ≡ false
   close_late (faulted code) late why is = late.0
   close_late (closing cause) late why is = late
@@ -196,7 +198,8 @@ module _ (start : Resources) (a : Local) (parts : List Part) (all : SaysAll star
   close_late serving late why is = absurd (let no : None ≡ Some why = is in cc)
   close_late closed late why is = absurd (let no : None ≡ Some why = is in cc)
 
-  entry_says : (l : ℕ) (z : Entry) → Admits start parts a → MayCome l a.link z → SaysAll start (parts ++ entry z ∷ []) (with_link (entered z a.link) a)
+  entry_says : (l : ℕ) (z : Entry) → Admits start parts a → MayCome l a.link z
+      → SaysAll start (parts ++ entry z ∷ []) (with_link (entered z a.link) a)
   entry_says l (e.Accepted k d) admits may =
       same_says (entry (e.Accepted k d)) (with_phase arriving a.link) (λ s how_is u. (refl, refl)) refl tt
   entry_says l (e.Came k bytes) admits may =
@@ -211,7 +214,8 @@ module _ (start : Resources) (a : Local) (parts : List Part) (all : SaysAll star
       (ended_serving k)
   entry_says l (e.Went k bytes) admits may =
       next_says (entry (e.Went k bytes)) (went (length bytes) a.link)
-      (λ s. same_say (life start s parts) (up_of s parts) (a.link.tunnels s) ((went (length bytes) a.link).tunnels s) refl refl refl (all.each s))
+      (λ s. same_say (life start s parts) (up_of s parts) (a.link.tunnels s) ((went (length bytes) a.link).tunnels s) refl refl refl
+      (all.each s))
       (went_late k bytes a.link.phase all.late)
   entry_says l (e.Broke k) admits (is, inl quiet) =
       subst (λ (ph : Phase). SaysAll start (parts ++ entry (e.Broke k) ∷ []) (with_link (broken_by ph a.link) a)) (sym quiet.1)
@@ -226,7 +230,8 @@ module _ (start : Resources) (a : Local) (parts : List Part) (all : SaysAll star
       same_says (entry (e.Closed k why)) (with_phase closed a.link) (λ s how_is u. (refl, refl)) refl
       (close_late a.link.phase all.late why may.2)
   entry_says l (e.Balked w) admits may =
-      same_says (entry (e.Balked w)) a.link (λ s how_is u. (refl, refl)) refl (late_same (entry (e.Balked w)) a.link refl (λ s none_had. none_had))
+      same_says (entry (e.Balked w)) a.link (λ s how_is u. (refl, refl)) refl
+      (late_same (entry (e.Balked w)) a.link refl (λ s none_had. none_had))
   entry_says l (e.Dialled k to why) admits may = absurd may
   entry_says l (e.DialFailed to why) admits may = absurd may
   entry_says l (e.Opened k) admits may = absurd may
@@ -281,10 +286,12 @@ module _ (start : Resources) (a : Local) (parts : List Part) (all : SaysAll star
   no_new_place l k (e.Wait ready why) may none_had = absurd may
 
   -- one tunnel changes, and gets no place that it didn't have
-  one_place : (k : ℕ) (change : Tunnel → Tunnel) → (takes_place (a.link.tunnels k).stage ≡ false → takes_place (change (a.link.tunnels k)).stage ≡ false)
+  one_place : (k : ℕ) (change : Tunnel → Tunnel)
+      → (takes_place (a.link.tunnels k).stage ≡ false → takes_place (change (a.link.tunnels k)).stage ≡ false)
       → (s : ℕ) → takes_place (a.link.tunnels s).stage ≡ false → takes_place ((at_stream k change a.link).tunnels s).stage ≡ false
   one_place k change here =
-      at_one k change a.link (λ j t. takes_place (a.link.tunnels j).stage ≡ false → takes_place t.stage ≡ false) here (λ j apart none_had. none_had)
+      at_one k change a.link (λ j t. takes_place (a.link.tunnels j).stage ≡ false → takes_place t.stage ≡ false) here
+      (λ j apart none_had. none_had)
 
   up_says : (l k : ℕ) (z : Entry) → UpMayCome l k a.link (a.link.tunnels k) z
       → SaysAll start (parts ++ up k z ∷ []) (with_link (at_stream k (up_entered z) a.link) a)
@@ -304,7 +311,8 @@ module _ (start : Resources) (a : Local) (parts : List Part) (all : SaysAll star
   IsFirst _ = Unit {0}
 
   cut_says : (k : ℕ) (why : Cause) (s : ℕ)
-      → SaysOf (cond (k == s) (ends why (life start s parts)) (life start s parts)) (up_of s parts) ((at_stream k (ends_for why) a.link).tunnels s)
+      → SaysOf (cond (k == s) (ends why (life start s parts)) (life start s parts)) (up_of s parts)
+      ((at_stream k (ends_for why) a.link).tunnels s)
   cut_says k why s =
       say_on s k (ends_for why) a.link (ends why (life start s parts)) (life start s parts) (up_of s parts)
       (λ is. ends_say why (life start s parts) (up_of s parts) (a.link.tunnels s) (all.each s)) (all.each s)
@@ -488,9 +496,11 @@ module _ (start : Resources) (a : Local) (parts : List Part) (all : SaysAll star
       let y = at_stream k (left_with cause.Done) a.link in
       next_says (done k made) y
       (λ s. say_on s k (left_with cause.Done) a.link (ends cause.Done (life start s parts)) (life start s parts) (up_of s parts)
-      (λ same. subst (λ (j : ℕ). SaysOf (ends cause.Done (life start j parts)) (up_of j parts) (left_with cause.Done (a.link.tunnels j))) (sym same)
+      (λ same. subst (λ (j : ℕ). SaysOf (ends cause.Done (life start j parts)) (up_of j parts) (left_with cause.Done (a.link.tunnels j)))
+      (sym same)
       (let says = at_stage_says k live is in
-      left_say cause.Done (ends cause.Done (life start k parts)) (up_of k parts) (a.link.tunnels k) (ap (ends cause.Done) says.life) says.up))
+      left_say cause.Done (ends cause.Done (life start k parts)) (up_of k parts) (a.link.tunnels k) (ap (ends cause.Done) says.life)
+      says.up))
       (all.each s))
       (serving_late (done k made) y refl serves)
 
@@ -517,7 +527,8 @@ module _ (start : Resources) (a : Local) (parts : List Part) (all : SaysAll star
 
   judged_place : (h : Resources) (t : Tunnel) → takes_place t.stage ≡ false
       → takes_place (cond (takes_place t.stage) (judged_by (judged h a.link.peer t.target) t) t).stage ≡ false
-  judged_place h t none_had = ap (λ (b : Bool). takes_place (cond b (judged_by (judged h a.link.peer t.target) t) t).stage) none_had ∙ none_had
+  judged_place h t none_had = ap (λ (b : Bool). takes_place (cond b (judged_by (judged h a.link.peer t.target) t) t).stage) none_had
+      ∙ none_had
 
   to_says : (p : Part) (b : Local) (y : Inbound) → b ≡ with_link y a → SaysAll start (parts ++ p ∷ []) (with_link y a)
       → SaysAll start (parts ++ p ∷ []) b
@@ -566,17 +577,20 @@ module _ (start : Resources) (a : Local) (parts : List Part) (all : SaysAll star
       to_says _ b _ steps.4
       (now_says (refused k status resets made) k steps.1 _ (λ s h u. (refl, refl))
       (refused_here l k status (a.link.tunnels k).stage refl made steps.1 steps.2)
-      (λ none_had. (refused_next a.link l k status (a.link.tunnels k).stage made steps.1 steps.2).0))
+      (λ none_had.
+      (left_placeless (a.link.tunnels k) steps.1 (refuses_left a.link l k status (a.link.tunnels k).stage made steps.1 steps.2)).0))
   step_says l (reset k code made) b admits opens steps =
       to_says _ b _ steps.3
       (now_says (reset k code made) k steps.1 _ (λ s h u. (refl, refl))
       (reset_here l k code (a.link.tunnels k).stage refl made steps.1 steps.2)
-      (λ none_had. (reset_next a.link l k code (a.link.tunnels k).stage made steps.1 steps.2).0))
+      (λ none_had.
+      (left_placeless (a.link.tunnels k) steps.1 (resets_left a.link l k code (a.link.tunnels k).stage made steps.1 steps.2)).0))
   step_says l (left k made) b admits opens steps =
       to_says _ b _ steps.2
       (now_says (left k made) k steps.0 _ (λ s h u. (refl, refl))
       (left_here l k (a.link.tunnels k).stage refl made steps.0 steps.1)
-      (λ none_had. (left_next a.link l k (a.link.tunnels k).stage made steps.0 steps.1).0))
+      (λ none_had.
+      (left_placeless (a.link.tunnels k) steps.0 (leaves_left a.link l k 0 (a.link.tunnels k).stage made steps.0 steps.1)).0))
   step_says l (done k made) b admits opens steps = to_says _ b _ steps.3 (done_says k made steps.0.0 steps.0.2)
   step_says l (put k bytes) b admits opens steps =
       to_says _ b _ steps.3
@@ -602,7 +616,8 @@ module _ (start : Resources) (a : Local) (parts : List Part) (all : SaysAll star
             subst (λ (m : Life). SaysOf m (up_of s (parts ++ p ∷ [])) (y.tunnels s))
             (sym (life_one start s parts p ∙ ap (λ (g : Resources). ends_at g (peer_of parts) (life start s parts)) held_is))
             (subst (λ (u : ℕ). SaysOf (ends_at h (peer_of parts) (life start s parts)) u (y.tunnels s)) (sym (up_one s parts p))
-            (judged_say h a.link.peer (life start s parts) (up_of s parts) t (peer_of parts) (λ some. (admits.each s some).peer_is) (all.each s)));
+            (judged_say h a.link.peer (life start s parts) (up_of s parts) t (peer_of parts) (λ some. (admits.each s some).peer_is)
+            (all.each s)));
         late = late_same p y refl (λ s none_had. judged_place h (a.link.tunnels s) none_had);
       })
   step_says l (stopped why) b admits opens steps =

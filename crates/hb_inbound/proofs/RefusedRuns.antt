@@ -36,7 +36,7 @@ pub stays : (start : Resources) (seen : Seen) (target : Target) (note : Note) (r
 stays start seen target note r is = ap (λ (j : Judged). ends_judged j (lives target)) is
 
 -- the law at the last place
-last : (P : List Part → Part → Type 0) (before : List Part) (p : Part) → AtEach P (before ++ p ∷ []) → P before p
+pub last : (P : List Part → Part → Type 0) (before : List Part) (p : Part) → AtEach P (before ++ p ∷ []) → P before p
 last P before p each = each before p [] refl
 
 pub writes_behind : WritesBehind
@@ -57,7 +57,8 @@ puts_behind start seen target note r bytes not law =
 
 pub reads_behind : ReadsBehind
 reads_behind start seen target note r bytes not law =
-    let open_yet : 3 ≡ 0 = last (EndsAt start) (lived seen target note r) (entry (e.Came 2 bytes)) law 1 cause.Revoked (revoked start seen target note r not) in
+    let open_yet : 3 ≡ 0 = last (EndsAt start) (lived seen target note r) (entry (e.Came 2 bytes)) law 1 cause.Revoked
+    (revoked start seen target note r not) in
     absurd (omega (arith, open_yet))
 
 pub closes_for_another : ClosesForAnother
@@ -75,11 +76,11 @@ dials_unbidden start seen target law =
     last (EndsAt start) (fronted seen ∷ []) (up 1 (e.Dialled 3 target (whys.Upstream 2 1))) law
 
 -- a law at each place of a run, one place after another
-Places : (List Part → Part → Type 0) → List Part → List Part → Type 0
+unfoldable pub Places : (List Part → Part → Type 0) → List Part → List Part → Type 0
 Places P before [] = Unit {0}
 Places P before (p ∷ parts) = P before p × Places P (before ++ p ∷ []) parts
 
-places : (P : List Part → Part → Type 0) (before parts : List Part) → Places P before parts
+pub places : (P : List Part → Part → Type 0) (before parts : List Part) → Places P before parts
     → (front : List Part) (p : Part) (behind : List Part) → parts ≡ front ++ p ∷ behind → P (before ++ front) p
 unfolding Places
 places P before [] each [] p behind are = absurd (let no_more : [] ≡ p ∷ behind = are in cc)

@@ -1,7 +1,7 @@
 -- The relay law of the way down, in every run of a link.
 use Rattle.std.proofs.Common.{◌≡◌, inl, inr, ℕ, ◌==◌, ◌&&◌, ◌||◌, not, Bool, true, false, cond, List, [], ◌∷◌, ◌++◌, length, Option, refl, ap, ap₂, sym, ◌∙◌, subst, arith}
 use Rattle.std.specs.List.{list_any}
-use Rattle.std.proofs.lemmas.Bool.{false≢true}
+use Rattle.std.proofs.lemmas.Bool.{false≢true, and_parts, not-true, or_parts}
 use Rattle.std.proofs.lemmas.Bool.Decides.{nat_tests}
 use Rattle.std.proofs.lemmas.Grind.{flat_map-append}
 use Rattle.std.proofs.lemmas.List.{append-nil, append_assoc, nil_from_length}
@@ -31,26 +31,6 @@ use Rattle.hb_inbound.proofs.SendsRun.{AllSend, GoesBy, all_send}
 use Rattle.hb_inbound.proofs.Waiting.{Serves, WaitsIn, speaks}
 use Rattle.hb_inbound.proofs.WaitingRun.{all_wait}
 
-first_of : (b c : Bool) → (b && c) ≡ true → b ≡ true
-first_of true c is = refl
-first_of false c is = absurd (false≢true is)
-
-last_of : (b c : Bool) → (b && c) ≡ true → c ≡ true
-last_of true c is = is
-last_of false c is = absurd (false≢true is)
-
-off : (b : Bool) → not b ≡ true → b ≡ false
-off true is = absurd (false≢true is)
-off false is = refl
-
-first_off : (b c : Bool) → (b || c) ≡ false → b ≡ false
-first_off true c is = absurd (false≢true (sym is))
-first_off false c is = refl
-
-last_off : (b c : Bool) → (b || c) ≡ false → c ≡ false
-last_off true c is = absurd (false≢true (sym is))
-last_off false c is = is
-
 -- where no DATA of the stream waits no payload does
 none_by : (kind on : Bool) (xs : List ℕ) → ((kind && not (length xs == 0)) && on) ≡ false → cond (kind && on) xs [] ≡ []
 none_by true true xs none = empty (length xs == 0) refl none
@@ -65,8 +45,8 @@ none_waits : (s : ℕ) (fs : List RawFrame) → list_any (has_data_on s) fs ≡ 
 none_waits s [] none = refl
 none_waits s (f ∷ fs) none =
     ap₂ (λ (xs ys : List ℕ). xs ++ ys)
-    (none_by (f.kind == data_kind) (f.stream == s) f.payload (first_off (has_data_on s f) (list_any (has_data_on s) fs) none))
-    (none_waits s fs (last_off (has_data_on s f) (list_any (has_data_on s) fs) none))
+    (none_by (f.kind == data_kind) (f.stream == s) f.payload (or_parts (has_data_on s f) (list_any (has_data_on s) fs) none).0)
+    (none_waits s fs (or_parts (has_data_on s f) (list_any (has_data_on s) fs) none).1)
 
 -- the frames of which all octets went have all DATA of the stream, where none of it is left of the last one
 record Whole (s : ℕ) (went : List ℕ) (begun : List RawFrame) : Type 0 where
@@ -105,22 +85,24 @@ module _ (l : ℕ) (start : Resources) (a : Local) (before : List Part) (stands 
       let sends = all.sends s in
       let relays = all_relay l start a before stands s in
       let parts_of = is_done t.ways.down && not t.end_put in
-      let done = first_of (is_done t.ways.down) (not t.end_put) (first_of parts_of (not (data_waits c s)) may) in
-      let open_end = off t.end_put (last_of (is_done t.ways.down) (not t.end_put) (first_of parts_of (not (data_waits c s)) may)) in
-      let silent = off (data_waits c s) (last_of parts_of (not (data_waits c s)) may) in
-      let none = none_waits s (outgoing c).queue (first_off (list_any (has_data_on s) (outgoing c).queue) _ silent) in
+      let done = (and_parts (is_done t.ways.down) (not t.end_put) (and_parts parts_of (not (data_waits c s)) may).0).0 in
+      let open_end = not-true t.end_put
+      ((and_parts (is_done t.ways.down) (not t.end_put) (and_parts parts_of (not (data_waits c s)) may).0).1) in
+      let silent = not-true (data_waits c s) (and_parts parts_of (not (data_waits c s)) may).1 in
+      let none = none_waits s (outgoing c).queue (or_parts (list_any (has_data_on s) (outgoing c).queue) _ silent).0 in
       let serves : Serves a.link = subst (λ (ph : Phase). WaitsIn ph a.link) is.0 (all_wait l start a before stands) in
       let own = (serves.each s).own (ap speaks is.2) open_end in
       let goes = subst (λ (ph : Phase). GoesBy ph c) is.0 all.goes in
       let active = active_some (streams c) s (ap (λ b. b || (sides c s).peer) own) in
       let held : t.ways.down.held ≡ [] =
-      nil_from_length t.ways.down.held (grind (arith, nat_tests, last_of t.ways.down.has_ended (length t.ways.down.held == 0) done)) in
+      nil_from_length t.ways.down.held (grind (arith, nat_tests, (and_parts t.ways.down.has_ended (length t.ways.down.held == 0) done).1))
+      in
       let went = whole_went s (link_went before) all.begun (outgoing c).rest (outgoing c).begun
-      (last_off (list_any (has_data_on s) (outgoing c).queue) _ silent) all.shows all.ends in
+      (or_parts (list_any (has_data_on s) (outgoing c).queue) _ silent).1 all.shows all.ends in
       let rest : sends.follows.rest ≡ [] = sends.follows.goes (goes, active) ∙ held in
       record {
         accepted = relays.lives (ap is_live is.2);
-        ended = sends.ended (first_of t.ways.down.has_ended (length t.ways.down.held == 0) done);
+        ended = sends.ended (and_parts t.ways.down.has_ended (length t.ways.down.held == 0) done).0;
         frames = went.frames;
         part = went.part;
         sent = went.sent;

@@ -32,7 +32,7 @@ is_one kind stream (x ∷ payload) more rest zero one size is =
     absurd (let all : [] ≡ (x ∷ payload ++ more) ++ rest = is
     ∙ ap₂ (λ (k s : ℕ). (cond (k == data_kind && s == 1) (x ∷ payload) [] ++ more) ++ rest) zero one in cc)
 
-invents : (begun : List RawFrame) (owed rest : List ℕ) → spelling one_octet ++ owed ≡ spelled begun → [] ≡ payloads 1 begun ++ rest → ⊥
+pub invents : (begun : List RawFrame) (owed rest : List ℕ) → spelling one_octet ++ owed ≡ spelled begun → [] ≡ payloads 1 begun ++ rest → ⊥
 invents [] owed rest sent front = absurd (cc)
 invents (f ∷ begun) owed rest sent front =
     let n = length f.payload in

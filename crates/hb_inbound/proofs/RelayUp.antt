@@ -1,6 +1,6 @@
 -- The relay law of the way up, and that no stream is opened twice, in every run of a link.
-use Rattle.std.proofs.Common.{◌≡◌, ℕ, ◌==◌, ◌&&◌, Bool, true, false, List, [], ◌++◌, length, refl, ap, sym, ◌∙◌, arith}
-use Rattle.std.proofs.lemmas.Bool.{false≢true}
+use Rattle.std.proofs.Common.{◌≡◌, ℕ, ◌==◌, ◌&&◌, Bool, true, List, [], ◌++◌, length, ap, sym, ◌∙◌, arith}
+use Rattle.std.proofs.lemmas.Bool.{and_parts}
 use Rattle.std.proofs.lemmas.Bool.Decides.{nat_tests}
 use Rattle.std.proofs.lemmas.List.{append-nil, nil_from_length}
 use Rattle.hb_conn.specs.declared.found.Found.TheVariants as found
@@ -20,14 +20,6 @@ use Rattle.hb_inbound.proofs.Grown.{at_parts}
 use Rattle.hb_inbound.proofs.RelaysRun.{all_relay}
 use Rattle.hb_inbound.proofs.Runs.{all_keep}
 
-first_of : (b c : Bool) → (b && c) ≡ true → b ≡ true
-first_of true c is = refl
-first_of false c is = absurd (false≢true is)
-
-second_of : (b c : Bool) → (b && c) ≡ true → c ≡ true
-second_of true c is = is
-second_of false c is = absurd (false≢true is)
-
 -- where a stream is told to be opened nothing was asked for on it
 pub opens_new : (l : ℕ) (start : Resources) (a b : Local) (parts : List Part) (ps : List history.Point) (s : ℕ) (end : Bool)
     (headers : HeaderList) → StandsFor l start a parts → Steps l a (looked ps (found.Opened s end) headers) b
@@ -43,17 +35,17 @@ module _ (l : ℕ) (start : Resources) (a : Local) (before : List Part) (stands 
   shuts s lives done_up =
       let t = a.link.tunnels s in
       let relays = all_relay l start a before stands s in
-      let none = second_of t.ways.up.has_ended (length t.ways.up.held == 0) done_up in
+      let none = (and_parts t.ways.up.has_ended (length t.ways.up.held == 0) done_up).1 in
       let empty : t.ways.up.held ≡ [] = nil_from_length t.ways.up.held (grind (arith, nat_tests, none)) in
       record {
         accepted = relays.lives lives;
-        ended = relays.ends (first_of t.ways.up.has_ended (length t.ways.up.held == 0) done_up);
+        ended = relays.ends (and_parts t.ways.up.has_ended (length t.ways.up.held == 0) done_up).0;
         whole = sym (relays.front ∙ ap (λ (xs : List ℕ). up_went s before ++ xs) empty ∙ append-nil (up_went s before));
       }
 
   up_goes : (s : ℕ) (z : Entry) → UpMayCome l s a.link (a.link.tunnels s) z → UpMayGo s before z
   up_goes s (e.Went u bytes) may = (all_relay l start a before stands s).lives (ap is_live may.0.1)
-  up_goes s (e.Shut u) may = shuts s (ap is_live may.1) (first_of _ _ may.3)
+  up_goes s (e.Shut u) may = shuts s (ap is_live may.1) (and_parts _ _ may.3).0
   up_goes s (e.Accepted k d) may = tt
   up_goes s (e.Dialled k to why) may = tt
   up_goes s (e.DialFailed to why) may = tt

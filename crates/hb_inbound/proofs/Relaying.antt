@@ -1,7 +1,7 @@
 -- What every run of a link keeps of the bytes that come on its streams and go to upstreams.
-use Rattle.std.proofs.Common.{◌≡◌, ℕ, ◌<◌, ◌≤◌, ◌==◌, ◌||◌, Bool, true, false, cond, List, [], ◌∷◌, ◌++◌, Option, Some, None, refl, ap, sym, ◌∙◌, arith}
+use Rattle.std.proofs.Common.{◌≡◌, ℕ, ◌+◌, ◌<◌, ◌≤◌, ◌==◌, Bool, true, false, cond, List, [], ◌∷◌, ◌++◌, length, Option, Some, None, refl, ap, sym, ◌∙◌, arith, length-append}
 use Rattle.std.specs.List.{flat_map, list_any}
-use Rattle.std.proofs.lemmas.Bool.{false≢true, cond_both}
+use Rattle.std.proofs.lemmas.Bool.{false≢true, cond_both, or_left, or_right}
 use Rattle.std.proofs.lemmas.Grind.{flat_map-append}
 use Rattle.std.proofs.lemmas.List.{append-nil, append_assoc}
 use Rattle.std.proofs.lemmas.List.Folds.{list_any-append}
@@ -18,7 +18,7 @@ use Rattle.hb_history.specs.Points.{data_of, data_in}
 use Rattle.hb_kept.specs.Numbers.{highest_used}
 use Rattle.hb_inbound.specs.Part.{Part, moves_in, moves}
 use Rattle.hb_inbound.specs.Sides.{data_told, data_by, stream_came, up_went_in, up_went, is_accept, is_peer_end, Was}
-use Rattle.hb_inbound.specs.Tunnel.{Tunnel, Stage, unasked, requested, refusing, malformed, due, opening, accepting, live, failed, ended, over, gone, is_live, ends_by, left_with}
+use Rattle.hb_inbound.specs.Tunnel.{Tunnel, Stage, unasked, requested, refusing, malformed, due, opening, accepting, live, failed, ended, over, gone, is_live, ends_by}
 use Rattle.hb_inbound.proofs.Grown.{one_more}
 
 -- THE OCTETS OF DATA THAT ARE TOLD
@@ -127,22 +127,21 @@ comes_ended (requested headers end) = end
 comes_ended _ = false
 
 -- What came on the stream went up, or waits. On a stream that wasn't used nothing was asked for and nothing came; nothing came yet
--- where the request isn't answered. A tunnel that lives was accepted, and its peer's side ended where its way up did
+-- where the request isn't answered. What went is counted. A tunnel that lives was accepted, and its peer's side ended where its way
+-- up did
 pub record Relays (parts : List Part) (c : Connection) (s : ℕ) (t : Tunnel) : Type 0 where
   pub front : stream_came s parts ≡ up_went s parts ++ t.ways.up.held
   pub new : highest_used c < s → (t.stage ≡ unasked) × (stream_came s parts ≡ [])
-  pub early : is_asked t.stage ≡ true → t.ways.up.held ≡ []
+  pub early : is_asked t.stage ≡ true → (t.ways.up.held ≡ []) × (up_went s parts ≡ [])
+  pub counts : t.went_up ≡ length (up_went s parts)
   pub lives : is_live t.stage ≡ true → Was (is_accept s) parts
   pub ends : t.ways.up.has_ended ≡ true → Was (is_peer_end s) parts
   pub asked : comes_ended t.stage ≡ true → Was (is_peer_end s) parts
 
-or_left : (b c : Bool) → b ≡ true → (b || c) ≡ true
-or_left true c is = refl
-or_left false c is = absurd (false≢true is)
-
-or_right : (b c : Bool) → c ≡ true → (b || c) ≡ true
-or_right true c is = refl
-or_right false c is = is
+-- where nothing came nothing went, and nothing waits
+pub none_in : (went held : List ℕ) → [] ≡ went ++ held → (held ≡ []) × (went ≡ [])
+none_in [] held is = (sym is, refl)
+none_in (x ∷ xs) held is = absurd (cc)
 
 pub was_more : (is : Part → Bool) (parts : List Part) (p : Part) → Was is parts → Was is (parts ++ p ∷ [])
 was_more is parts p was = list_any-append is parts (p ∷ []) ∙ or_left (list_any is parts) (list_any is (p ∷ [])) was
@@ -151,7 +150,8 @@ pub was_now : (is : Part → Bool) (parts : List Part) (p : Part) → is p ≡ t
 was_now is parts p now =
     list_any-append is parts (p ∷ []) ∙ or_right (list_any is parts) (list_any is (p ∷ [])) (or_left (is p) false now)
 
-came_more : (s : ℕ) (parts : List Part) (p : Part) → stream_came s (parts ++ p ∷ []) ≡ stream_came s parts ++ flat_map (data_by s) (moves_in p)
+came_more : (s : ℕ) (parts : List Part) (p : Part)
+    → stream_came s (parts ++ p ∷ []) ≡ stream_came s parts ++ flat_map (data_by s) (moves_in p)
 came_more s parts p =
     ap (flat_map (data_by s)) (one_more moves_in parts p) ∙ flat_map-append (data_by s) (moves parts) (moves_in p)
 
@@ -159,11 +159,12 @@ came_more s parts p =
 pub grows : (parts : List Part) (p : Part) (c d : Connection) (s : ℕ) (old new : Tunnel) (comes goes : List ℕ)
     → flat_map (data_by s) (moves_in p) ≡ comes → up_went_in s p ≡ goes → old.ways.up.held ++ comes ≡ goes ++ new.ways.up.held
     → highest_used c ≤ highest_used d → (highest_used d < s → (new.stage ≡ unasked) × (comes ≡ []))
-    → (is_asked new.stage ≡ true → new.ways.up.held ≡ []) → (is_live new.stage ≡ true → Was (is_accept s) (parts ++ p ∷ []))
+    → (is_asked new.stage ≡ true → (new.ways.up.held ≡ []) × (up_went s parts ++ goes ≡ []))
+    → new.went_up ≡ length (up_went s parts) + length goes → (is_live new.stage ≡ true → Was (is_accept s) (parts ++ p ∷ []))
     → (new.ways.up.has_ended ≡ true → Was (is_peer_end s) (parts ++ p ∷ []))
     → (comes_ended new.stage ≡ true → Was (is_peer_end s) (parts ++ p ∷ []))
     → Relays parts c s old → Relays (parts ++ p ∷ []) d s new
-grows parts p c d s old new comes goes came went held rises unused early lives ends asked is =
+grows parts p c d s old new comes goes came went held rises unused early counts lives ends asked is =
     let came_now : stream_came s (parts ++ p ∷ []) ≡ stream_came s parts ++ comes =
     came_more s parts p ∙ ap (λ (xs : List ℕ). stream_came s parts ++ xs) came in
     let went_now : up_went s (parts ++ p ∷ []) ≡ up_went s parts ++ goes =
@@ -176,7 +177,8 @@ grows parts p c d s old new comes goes came went held rises unused early lives e
         (unused above).0,
         came_now ∙ ap (λ (xs : List ℕ). xs ++ comes) (is.new (omega (arith, rises, above))).1 ∙ (unused above).1,
       );
-      early = early;
+      early = λ asks. ((early asks).0, went_now ∙ (early asks).1);
+      counts = counts ∙ sym (ap length went_now ∙ length-append (up_went s parts) goes);
       lives = lives;
       ends = ends;
       asked = asked;
@@ -218,14 +220,10 @@ ends_follow why (ended cause) = same_stage (ended cause)
 ends_follow why (over cause) = same_stage (over cause)
 ends_follow why gone = same_stage gone
 
-pub left_follows : (why : Cause) (t : Tunnel) → (t.stage ≡ unasked → ⊥) → Follows t.stage (left_with why t).stage
-left_follows why t some =
-    cond_both (t.up == 0) gone (over why) (λ (stage : Stage). Follows t.stage stage) (λ is. later t.stage gone some refl refl refl)
-    (λ is. later t.stage (over why) some refl refl refl)
-
--- a tunnel whose way up is the same, and whose stage begins nothing
+-- a tunnel whose way up and count are the same, and whose stage begins nothing
 pub record Alike (old new : Tunnel) : Type 0 where
   pub way : new.ways.up ≡ old.ways.up
+  pub went : new.went_up ≡ old.went_up
   pub stage : Follows old.stage new.stage
 
 pub quiet : (parts : List Part) (p : Part) (c d : Connection) (s : ℕ) (old new : Tunnel) → flat_map (data_by s) (moves_in p) ≡ []
@@ -233,7 +231,11 @@ pub quiet : (parts : List Part) (p : Part) (c d : Connection) (s : ℕ) (old new
 quiet parts p c d s old new came went rises alike is =
     grows parts p c d s old new [] [] came went (append-nil old.ways.up.held ∙ ap (λ w. w.held) (sym alike.way)) rises
     (λ above. (alike.stage.unasked (is.new (omega (arith, rises, above))).0, refl))
-    (λ asks. ap (λ w. w.held) alike.way ∙ is.early (alike.stage.asks asks))
+    (λ asks. (
+      ap (λ w. w.held) alike.way ∙ (is.early (alike.stage.asks asks)).0,
+      append-nil (up_went s parts) ∙ (is.early (alike.stage.asks asks)).1,
+    ))
+    (alike.went ∙ is.counts ∙ (let same : length (up_went s parts) ≡ length (up_went s parts) + 0 = omega arith in same))
     (λ lives. was_more (is_accept s) parts p (is.lives (alike.stage.lives lives)))
     (λ ends. was_more (is_peer_end s) parts p (is.ends (sym (ap (λ w. w.has_ended) alike.way) ∙ ends)))
     (λ asked. was_more (is_peer_end s) parts p (is.asked (alike.stage.ends asked))) is

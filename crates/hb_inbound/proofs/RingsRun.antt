@@ -67,7 +67,8 @@ ends_size why t = record { up = omega arith; down = omega arith }
 
 left_size : (old new : Tunnel) → IsLeft old new → Smaller old new
 left_size old new is =
-    left_so (Smaller old) old new (record { up = omega arith; down = omega arith }) (λ why. record { up = omega arith; down = omega arith }) is
+    left_so (Smaller old) old new (record { up = omega arith; down = omega arith }) (λ why. record { up = omega arith; down = omega arith })
+    is
 
 judged_size : (b : Bool) (j : Judged) (t : Tunnel) → Smaller t (cond b (judged_by j t) t)
 judged_size false j t = same_size t
@@ -251,7 +252,8 @@ module _ (l : ℕ) (start : Resources) (a : Local) (parts : List Part) (keeps : 
   entry_fits (e.Came k bytes) may = came_fits bytes a.link.phase
   entry_fits (e.Ended k) may = ended_fits a.link.phase
   entry_fits (e.Went k bytes) may =
-      quiet (entered (e.Went k bytes) a.link) (served ph) (write_follows c (length bytes)) (λ s. record { up = omega arith; down = omega arith })
+      quiet (entered (e.Went k bytes) a.link) (served ph) (write_follows c (length bytes))
+      (λ s. record { up = omega arith; down = omega arith })
   entry_fits (e.Broke k) may = broken_fits a.link.phase
   entry_fits (e.Closed k why) may = calm (entered (e.Closed k why) a.link) (λ is. absurd (cc)) refl same
   entry_fits (e.Balked w) may = fits
@@ -418,7 +420,8 @@ module _ (l : ℕ) (start : Resources) (a : Local) (parts : List Part) (keeps : 
           ap (λ (w : Sides). w.peer)
           (inactive_neither (streams fresh_server) s (no_sides s (streams fresh_server) (get-empty nat_cmp s)))
   step_fits (misfronted fault) b steps =
-      to (misfronted fault) b _ steps.2 (calm (with_phase (closing (cause.FrontFault (number_of fault))) a.link) (λ is. absurd (cc)) refl same)
+      to (misfronted fault) b _ steps.2
+      (calm (with_phase (closing (cause.FrontFault (number_of fault))) a.link) (λ is. absurd (cc)) refl same)
   step_fits (looked ps told headers) b steps =
       to (looked ps told headers) b (on_found told headers steps.2 a.link) steps.5 (found_fits ps headers steps.2 steps.0 told steps.3)
   step_fits (decided s full answer) b steps =

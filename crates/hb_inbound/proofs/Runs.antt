@@ -93,7 +93,8 @@ module _ (parts : List Part) where
   fresh_stays : (p : Part) (c d : Connection) → IsPlain p → d ≡ c → IsFresh parts c → IsFresh (parts ++ p ∷ []) d
   fresh_stays p c d plain same fresh = record {
     front = size_stays p plain.front ∙ fresh.front;
-    moved = one_more moves_in parts p ∙ ap (λ (ps : List history.Point). moves parts ++ ps) plain.moves ∙ append-nil (moves parts) ∙ fresh.moved;
+    moved = one_more moves_in parts p ∙ ap (λ (ps : List history.Point). moves parts ++ ps) plain.moves ∙ append-nil (moves parts)
+        ∙ fresh.moved;
     told = one_more telling parts p ∙ ap (λ (ts : List Found). tellings parts ++ ts) plain.tells ∙ append-nil (tellings parts) ∙ fresh.told;
     sent = one_more went_in parts p ∙ ap (λ (bs : List ℕ). link_went parts ++ bs) plain.went ∙ append-nil (link_went parts) ∙ fresh.sent;
     conn = same ∙ fresh.conn;
@@ -237,7 +238,8 @@ module _ (a : Local) (parts : List Part) (keeps : Keeps parts a.link) where
       })
 
   -- bytes go
-  bytes_went : (k : ℕ) (bytes rest : List ℕ) → FrontBy (went_by a.link.phase) (parts ++ entry (e.Went k bytes) ∷ []) (went (length bytes) a.link)
+  bytes_went : (k : ℕ) (bytes rest : List ℕ) → FrontBy (went_by a.link.phase) (parts ++ entry (e.Went k bytes) ∷ [])
+      (went (length bytes) a.link)
       → observed.output a.link.conn ≡ bytes ++ rest
       → Keeps (parts ++ entry (e.Went k bytes) ∷ []) (went (length bytes) a.link)
   bytes_went k bytes rest front is =
@@ -316,11 +318,14 @@ module _ (a : Local) (parts : List Part) (keeps : Keeps parts a.link) where
       ends_late (entry (e.Broke k)) (faulted fault.1) (λ ph. broken_by ph a.link) (plain_entry (e.Broke k) refl refl refl) fault.2
       (λ ph. broken_conn ph a.link) tt
   entry_keeps l (e.Closed k why) may =
-      late_keeps parts (entry (e.Closed k why)) a.link (with_phase closed a.link) (plain_entry (e.Closed k why) refl refl refl) refl tt keeps
+      late_keeps parts (entry (e.Closed k why)) a.link (with_phase closed a.link) (plain_entry (e.Closed k why) refl refl refl) refl tt
+      keeps
   entry_keeps l (e.Balked (way.Read k)) may =
-      plain_keeps parts (entry (e.Balked (way.Read k))) a.link a.link (plain_entry (e.Balked (way.Read k)) refl refl refl) refl refl refl keeps
+      plain_keeps parts (entry (e.Balked (way.Read k))) a.link a.link (plain_entry (e.Balked (way.Read k)) refl refl refl) refl refl refl
+      keeps
   entry_keeps l (e.Balked (way.Write k)) may =
-      plain_keeps parts (entry (e.Balked (way.Write k))) a.link a.link (plain_entry (e.Balked (way.Write k)) refl refl refl) refl refl refl keeps
+      plain_keeps parts (entry (e.Balked (way.Write k))) a.link a.link (plain_entry (e.Balked (way.Write k)) refl refl refl) refl refl refl
+      keeps
   entry_keeps l (e.Balked (way.Listen d at listening)) may = absurd may
   entry_keeps l (e.Balked (way.Accept d)) may = absurd may
   entry_keeps l (e.Balked (way.Finish k)) may = absurd may
@@ -482,7 +487,8 @@ module _ (a : Local) (parts : List Part) (keeps : Keeps parts a.link) where
   step_keeps l (entry x) b steps = to _ b (entered x a.link) steps.1 (entry_keeps l x steps.0)
   step_keeps l (up s x) b steps =
       to _ b (at_stream s (up_entered x) a.link) steps.1
-      (tunnel_keeps (up s x) (at_stream s (up_entered x) a.link) (record { moves = refl; tells = refl; came = refl; front = λ n. refl; went = refl })
+      (tunnel_keeps (up s x) (at_stream s (up_entered x) a.link)
+      (record { moves = refl; tells = refl; came = refl; front = λ n. refl; went = refl })
       refl refl refl)
   step_keeps l welcomed b steps =
       let y = with_phase fronting a.link in

@@ -1,6 +1,6 @@
 -- What comes from an upstream goes on its stream, or waits, in every run of a link.
 use Rattle.std.proofs.Common.{◌≡◌, ◌⊎◌, inl, inr, ℕ, ◌<◌, ◌≤◌, ◌==◌, ◌&&◌, Bool, true, false, cond, List, [], ◌∷◌, ◌++◌, length, take, drop, Option, refl, ap, ap₂, sym, ◌∙◌, subst, arith, length-append}
-use Rattle.std.proofs.lemmas.Bool.{false≢true, cond_both, eq-eqb, ne_eqb}
+use Rattle.std.proofs.lemmas.Bool.{false≢true, cond_both, eq-eqb}
 use Rattle.std.proofs.lemmas.List.{append-nil}
 use Rattle.std.proofs.Math.Seq.{take-append_seam}
 use Rattle.hb_base.specs.declared.cause.Cause.{Cause}
@@ -48,13 +48,13 @@ use Rattle.hb_inbound.specs.Runs.{Local, MayCome, UpMayCome, IsWritable, entered
 use Rattle.hb_inbound.specs.Sides.{went_in, link_went, conn_came, up_came_in, up_came, is_up_end}
 use Rattle.hb_inbound.specs.Sides as sides
 use Rattle.hb_inbound.specs.Tunnel.{Tunnel, requested, live, takes_place, at_stage, ends_for, left_with, up_entered, came_up, peer_ended, requested_with}
-use Rattle.hb_inbound.proofs.Admitted.{at_one}
+use Rattle.hb_inbound.proofs.Admitted.{at_one, swapped}
 use Rattle.hb_inbound.proofs.Grown.{one_more}
 use Rattle.hb_inbound.proofs.Left.{IsLeft, left_so, refuses_left, resets_left, leaves_left}
 use Rattle.hb_inbound.proofs.Relaying.{Relays, was_more, was_now}
 use Rattle.hb_inbound.proofs.RelaysRun.{all_relay}
 use Rattle.hb_inbound.proofs.Runs.{Keeps, FrontBy, all_keep}
-use Rattle.hb_inbound.proofs.Sending.{is_early, Sends, sends_on, AlikeDown, quiet_down, ends_early, reached}
+use Rattle.hb_inbound.proofs.Sending.{is_early, Sends, sends_on, AlikeDown, quiet_down, begins_down, none_begun, ends_early, reached}
 
 -- no connection error was told where the link serves
 abbrev pub GoesBy : Phase → Connection → Type 0
@@ -96,19 +96,16 @@ pub record AllSend (parts : List Part) (x : Inbound) : Type 0 where
   pub goes : GoesBy x.phase x.conn
   pub sends : (s : ℕ) → Sends parts begun x.conn s (x.tunnels s)
 
-swapped : (k s : ℕ) → (k == s) ≡ false → (s == k) ≡ false
-swapped k s apart = ne_eqb s k (λ is. false≢true (sym apart ∙ eq-eqb k s (sym is)))
-
 same_down : (t : Tunnel) → AlikeDown t t
-same_down t = record { way = refl; stage = λ early. early }
+same_down t = record { way = refl; went = refl; stage = λ early. early }
 
 ends_down : (why : Cause) (t : Tunnel) → AlikeDown t (ends_for why t)
-ends_down why t = record { way = refl; stage = ends_early why t.stage }
+ends_down why t = record { way = refl; went = refl; stage = ends_early why t.stage }
 
 left_down : (old new : Tunnel) → IsLeft old new → AlikeDown old new
 left_down old new is =
-    left_so (AlikeDown old) old new (record { way = refl; stage = λ early. absurd (false≢true early) })
-    (λ why. record { way = refl; stage = λ early. absurd (false≢true early) }) is
+    left_so (AlikeDown old) old new (record { way = refl; went = refl; stage = λ early. absurd (false≢true early) })
+    (λ why. record { way = refl; went = refl; stage = λ early. absurd (false≢true early) }) is
 
 judged_down : (b : Bool) (j : Judged) (t : Tunnel) → AlikeDown t (cond b (judged_by j t) t)
 judged_down false j t = same_down t
@@ -127,7 +124,8 @@ module _ (l : ℕ) (start : Resources) (a : Local) (parts : List Part) (keeps : 
 
   -- what is left of the frames begun stays
   abbrev LeavesBegun : Connection → Type 1
-  LeavesBegun d = (Q : List ℕ → Option Head → Type 0) → Q (outgoing a.link.conn).rest (outgoing a.link.conn).begun → Q (outgoing d).rest (outgoing d).begun
+  LeavesBegun d = (Q : List ℕ → Option Head → Type 0) → Q (outgoing a.link.conn).rest (outgoing a.link.conn).begun
+      → Q (outgoing d).rest (outgoing d).begun
 
   shows_on : (p : Part) (d : Connection) → went_in p ≡ [] → LeavesBegun d
       → Shows [] (link_went (parts ++ p ∷ [])) all.begun (outgoing d)
@@ -145,7 +143,7 @@ module _ (l : ℕ) (start : Resources) (a : Local) (parts : List Part) (keeps : 
     ends = rest (EndsIn all.begun) all.ends;
     goes = goes;
     sends = λ s.
-        quiet_down parts p all.begun all.begun a.link.conn y.conn s (a.link.tunnels s) (y.tunnels s) (brings.1 s) (stays s all.begun)
+        quiet_down parts p all.begun a.link.conn y.conn s (a.link.tunnels s) (y.tunnels s) (brings.1 s) (stays s all.begun)
         (alike s) (all.sends s);
   }
 
@@ -167,7 +165,7 @@ module _ (l : ℕ) (start : Resources) (a : Local) (parts : List Part) (keeps : 
       → (k : ℕ) → Sends (parts ++ p ∷ []) all.begun d k ((at_stream s change a.link).tunnels k)
   one_sends p s change d none stays here =
       at_one s change a.link (λ k t. Sends (parts ++ p ∷ []) all.begun d k t) here
-      (λ k apart. quiet_down parts p all.begun all.begun a.link.conn d k (a.link.tunnels k) (a.link.tunnels k) (none k apart)
+      (λ k apart. quiet_down parts p all.begun a.link.conn d k (a.link.tunnels k) (a.link.tunnels k) (none k apart)
       (stays k apart) (same_down (a.link.tunnels k)) (all.sends k))
 
   one_quiet : (p : Part) (s : ℕ) (change : Tunnel → Tunnel) (d : Connection) → ((k : ℕ) → up_came_in k p ≡ []) → Stays a.link.conn d
@@ -175,7 +173,7 @@ module _ (l : ℕ) (start : Resources) (a : Local) (parts : List Part) (keeps : 
       → (k : ℕ) → Sends (parts ++ p ∷ []) all.begun d k ((at_stream s change a.link).tunnels k)
   one_quiet p s change d none stays alike =
       one_sends p s change d (λ k apart. none k) (λ k apart. stays k all.begun)
-      (quiet_down parts p all.begun all.begun a.link.conn d s (a.link.tunnels s) (change (a.link.tunnels s)) (none s) (stays s all.begun)
+      (quiet_down parts p all.begun a.link.conn d s (a.link.tunnels s) (change (a.link.tunnels s)) (none s) (stays s all.begun)
       alike (all.sends s))
 
   now : (p : Part) (y : Inbound) → went_in p ≡ [] → LeavesBegun y.conn → GoesBy y.phase y.conn
@@ -210,14 +208,16 @@ module _ (l : ℕ) (start : Resources) (a : Local) (parts : List Part) (keeps : 
   came_now k bytes serving is =
       all_quiet (entry (e.Came k bytes)) (came_by serving bytes a.link) (refl, λ s. refl) (λ Q h. h) (came_stays bytes)
       (goes_with a.link.phase (taken a.link.conn bytes) (over_at is)) (λ s. same_down (a.link.tunnels s))
-  came_now k bytes unborn is = calm_quiet (entry (e.Came k bytes)) a.link (refl, λ s. refl) refl all.goes (λ s. same_down (a.link.tunnels s))
+  came_now k bytes unborn is = calm_quiet (entry (e.Came k bytes)) a.link (refl, λ s. refl) refl all.goes
+      (λ s. same_down (a.link.tunnels s))
   came_now k bytes arriving is =
       calm_quiet (entry (e.Came k bytes)) a.link (refl, λ s. refl) refl all.goes (λ s. same_down (a.link.tunnels s))
   came_now k bytes (faulted code) is =
       calm_quiet (entry (e.Came k bytes)) a.link (refl, λ s. refl) refl all.goes (λ s. same_down (a.link.tunnels s))
   came_now k bytes (closing why) is =
       calm_quiet (entry (e.Came k bytes)) a.link (refl, λ s. refl) refl all.goes (λ s. same_down (a.link.tunnels s))
-  came_now k bytes closed is = calm_quiet (entry (e.Came k bytes)) a.link (refl, λ s. refl) refl all.goes (λ s. same_down (a.link.tunnels s))
+  came_now k bytes closed is = calm_quiet (entry (e.Came k bytes)) a.link (refl, λ s. refl) refl all.goes
+      (λ s. same_down (a.link.tunnels s))
 
   ended_now : (p : Part) → BringsNone p → (phase : Phase) → AllSend (parts ++ p ∷ []) (ended_by phase a.link)
   ended_now p brings fronting = calm_quiet p (ended_by fronting a.link) brings refl tt (λ s. same_down (a.link.tunnels s))
@@ -254,9 +254,11 @@ module _ (l : ℕ) (start : Resources) (a : Local) (parts : List Part) (keeps : 
         ends = wrote_ends all.begun c n all.ends;
         goes = went_goes a.link.phase c (observed.wrote c n) (wrote_over c n) all.goes;
         sends = λ s.
-            quiet_down parts p all.begun (all.begun ++ frames_begun n c) c (observed.wrote c n) s (a.link.tunnels s) _ refl
-            (writes_follow Server (moves parts) (tellings parts) (conn_came parts) (link_went parts) c stands s n all.begun)
-            (record { way = refl; stage = λ early. early }) (all.sends s);
+            let follows =
+            writes_follow Server (moves parts) (tellings parts) (conn_came parts) (link_went parts) c stands s n all.begun (up_came s parts)
+            (a.link.tunnels s).ways.down.held (all.sends s).follows in
+            begins_down parts p all.begun (frames_begun n c) (observed.wrote c n) s (a.link.tunnels s) _ refl follows refl refl refl c
+            (all.sends s);
       }
 
   entry_now : (z : Entry) → MayCome l a.link z → AllSend (parts ++ entry z ∷ []) (entered z a.link)
@@ -298,7 +300,7 @@ module _ (l : ℕ) (start : Resources) (a : Local) (parts : List Part) (keeps : 
       (one_sends p k (up_entered z) c (λ j apart. ap (λ (b : Bool). cond b bytes []) (swapped j k apart)) (λ j apart xs w h. h)
       (sends_on parts p all.begun c k (up_entered z t) bytes (ap (λ (b : Bool). cond b bytes []) (eq-eqb k k refl))
       (more_follows k all.begun (up_came k parts) t.ways.down.held bytes c used (all.sends k).follows)
-      (λ early. absurd (false≢true (sym (ap is_early lives) ∙ early)))
+      (λ early. absurd (false≢true (sym (ap is_early lives) ∙ early))) (all.sends k).counts
       (λ ends. was_more (is_up_end k) parts p ((all.sends k).ended ends))))
 
   up_ended_now : (k u : ℕ) → UpNow k (e.Ended u)
@@ -313,21 +315,21 @@ module _ (l : ℕ) (start : Resources) (a : Local) (parts : List Part) (keeps : 
       (one_sends p k (up_entered z) c (λ j apart. none j) (λ j apart xs w h. h)
       (sends_on parts p all.begun c k (up_entered z t) [] (none k)
       (subst (λ (xs : List ℕ). Follows k all.begun xs t.ways.down.held c) (sym (append-nil (up_came k parts))) (all.sends k).follows)
-      (all.sends k).early
+      (λ early. (((all.sends k).early early).0, append-nil (up_came k parts) ∙ ((all.sends k).early early).1)) (all.sends k).counts
       (λ ends. was_now (is_up_end k) parts p (ap (λ (b : Bool). b && true) (eq-eqb k k refl)))))
 
   up_now : (k : ℕ) (z : Entry) → UpMayCome l k a.link (a.link.tunnels k) z → UpNow k z
   up_now k (e.Dialled u to why) may =
-      up_quiet k (e.Dialled u to why) refl (record { way = refl; stage = λ early. absurd (false≢true early) })
+      up_quiet k (e.Dialled u to why) refl (record { way = refl; went = refl; stage = λ early. absurd (false≢true early) })
   up_now k (e.DialFailed to why) may = up_quiet k (e.DialFailed to why) refl (ends_down cause.UpFault (a.link.tunnels k))
-  up_now k (e.Opened u) may = up_quiet k (e.Opened u) refl (record { way = refl; stage = λ early. absurd (false≢true early) })
+  up_now k (e.Opened u) may = up_quiet k (e.Opened u) refl (record { way = refl; went = refl; stage = λ early. absurd (false≢true early) })
   up_now k (e.Came u bytes) may = up_came_now k u bytes may.0.1
   up_now k (e.Ended u) may = up_ended_now k u
-  up_now k (e.Went u bytes) may = up_quiet k (e.Went u bytes) refl (record { way = refl; stage = λ early. early })
+  up_now k (e.Went u bytes) may = up_quiet k (e.Went u bytes) refl (record { way = refl; went = refl; stage = λ early. early })
   up_now k (e.Broke u) may = up_quiet k (e.Broke u) refl (ends_down cause.UpFault (a.link.tunnels k))
-  up_now k (e.Shut u) may = up_quiet k (e.Shut u) refl (record { way = refl; stage = λ early. early })
+  up_now k (e.Shut u) may = up_quiet k (e.Shut u) refl (record { way = refl; went = refl; stage = λ early. early })
   up_now k (e.Closed u why) may =
-      up_quiet k (e.Closed u why) refl (record { way = refl; stage = λ early. absurd (false≢true early) })
+      up_quiet k (e.Closed u why) refl (record { way = refl; went = refl; stage = λ early. absurd (false≢true early) })
   up_now k (e.Balked w) may = up_quiet k (e.Balked w) refl (same_down (a.link.tunnels k))
   up_now k (e.Accepted j d) may = absurd may
   up_now k e.Tick may = absurd may
@@ -340,7 +342,8 @@ module _ (l : ℕ) (start : Resources) (a : Local) (parts : List Part) (keeps : 
     Looks told = IsLook a.link.conn ps told d
 
     stay : (told : Found) → Looks told → Stays a.link.conn d
-    stay told look = looks_follow Server (moves parts) (tellings parts) (conn_came parts) (link_went parts) a.link.conn stands d ps told look
+    stay told look = looks_follow Server (moves parts) (tellings parts) (conn_came parts) (link_went parts) a.link.conn stands d ps told
+        look
 
     rests : (told : Found) → Looks told → LeavesBegun d
     rests told look Q h = found_leaves Q a.link.conn d told look.finds h
@@ -366,12 +369,14 @@ module _ (l : ℕ) (start : Resources) (a : Local) (parts : List Part) (keeps : 
         let t = a.link.tunnels s in
         let number : IsNumbered told a.link.conn d =
         told_are_numbered (moves parts) (tellings parts) (conn_came parts) (link_went parts) a.link.conn d told stands look.finds in
-        let none : t.ways.down.held ≡ [] = (all.sends s).early (ap is_early ((relays s).new number.0).0) in
+        let none = (all.sends s).early (ap is_early ((relays s).new number.0).0) in
         sends_on parts (looked ps told headers) all.begun d s (requested_with headers end) [] refl
-        (subst (λ (w : List ℕ). Follows s all.begun (up_came s parts ++ []) w d) none
+        (subst (λ (w : List ℕ). Follows s all.begun (up_came s parts ++ []) w d) none.0
         (subst (λ (xs : List ℕ). Follows s all.begun xs t.ways.down.held d) (sym (append-nil (up_came s parts)))
         (stay told look s all.begun (up_came s parts) t.ways.down.held (all.sends s).follows)))
-        (λ early. refl) (λ ends. absurd (false≢true ends))
+        (λ early. (refl, append-nil (up_came s parts) ∙ none.1))
+        (none_begun s all.begun (up_came s parts) t.ways.down.held a.link.conn none.1 (all.sends s).follows)
+        (λ ends. absurd (false≢true ends))
 
     found_now : (told : Found) → Looks told → AllSend (parts ++ looked ps told headers ∷ []) (on_found told headers d a.link)
     found_now found.Silent look =
@@ -383,9 +388,10 @@ module _ (l : ℕ) (start : Resources) (a : Local) (parts : List Part) (keeps : 
         (one_sends (looked ps told headers) s (λ t. requested_with headers end) d (λ k apart. refl) (λ k apart. stay told look k all.begun)
         (opened_here s end look))
     found_now (found.Chunk s end) look =
-        one_told (found.Chunk s end) s (came_up (chunk_of d (found.Chunk s end))) (λ code is. cc) look (record { way = refl; stage = λ early. early })
+        one_told (found.Chunk s end) s (came_up (chunk_of d (found.Chunk s end))) (λ code is. cc) look
+        (record { way = refl; went = refl; stage = λ early. early })
     found_now (found.Ended s) look =
-        one_told (found.Ended s) s peer_ended (λ code is. cc) look (record { way = refl; stage = λ early. early })
+        one_told (found.Ended s) s peer_ended (λ code is. cc) look (record { way = refl; went = refl; stage = λ early. early })
     found_now (found.Reset s code) look =
         one_told (found.Reset s code) s (ends_for (cause.PeerReset code)) (λ code is. cc) look
         (ends_down (cause.PeerReset code) (a.link.tunnels s))
@@ -393,7 +399,8 @@ module _ (l : ℕ) (start : Resources) (a : Local) (parts : List Part) (keeps : 
         one_told (found.Broken s code) s (ends_for (cause.StreamFault code)) (λ code is. cc) look
         (ends_down (cause.StreamFault code) (a.link.tunnels s))
     found_now (found.GoneAway last) look =
-        all_quiet (looked ps (found.GoneAway last) headers) (record a.link { conn = d }) (refl, λ s. refl) (rests (found.GoneAway last) look)
+        all_quiet (looked ps (found.GoneAway last) headers) (record a.link { conn = d }) (refl, λ s. refl)
+        (rests (found.GoneAway last) look)
         (stay (found.GoneAway last) look) (goes_by (found.GoneAway last) (λ code is. cc) look) (λ s. same_down (a.link.tunnels s))
     found_now (found.Fault code) look =
         all_quiet (looked ps (found.Fault code) headers) (on_found (found.Fault code) headers d a.link) (refl, λ s. refl)
@@ -409,23 +416,26 @@ module _ (l : ℕ) (start : Resources) (a : Local) (parts : List Part) (keeps : 
       now p (at_stream s (λ t. tunnel_for answer headers end) a.link) refl leaves_same all.goes
       (one_sends p s (λ t. tunnel_for answer headers end) a.link.conn (λ k apart. refl) (λ k apart xs w h. h) (here answer end))
     where
-      made : (p : Part) (new : Tunnel) → up_came_in s p ≡ [] → new.ways.down ≡ empty_way → Sends (parts ++ p ∷ []) all.begun a.link.conn s new
-      made p new none empty =
+      made : (p : Part) (new : Tunnel) → up_came_in s p ≡ [] → new.ways.down ≡ empty_way → new.went_down ≡ 0
+          → Sends (parts ++ p ∷ []) all.begun a.link.conn s new
+      made p new none empty zero =
           let t = a.link.tunnels s in
+          let early = (all.sends s).early (ap is_early is) in
           sends_on parts p all.begun a.link.conn s new [] none
           (subst (λ (w : List ℕ). Follows s all.begun (up_came s parts ++ []) w a.link.conn)
-          ((all.sends s).early (ap is_early is) ∙ sym (ap (λ (w : Way). w.held) empty))
+          (early.0 ∙ sym (ap (λ (w : Way). w.held) empty))
           (subst (λ (xs : List ℕ). Follows s all.begun xs t.ways.down.held a.link.conn) (sym (append-nil (up_came s parts)))
           (all.sends s).follows))
-          (λ early. ap (λ (w : Way). w.held) empty)
+          (λ now. (ap (λ (w : Way). w.held) empty, append-nil (up_came s parts) ∙ early.1))
+          (zero ∙ none_begun s all.begun (up_came s parts) t.ways.down.held a.link.conn early.1 (all.sends s).follows)
           (λ ends. absurd (false≢true (sym (ap (λ (w : Way). w.has_ended) empty) ∙ ends)))
 
       here : (answer : Verdict) (end : Bool)
           → Sends (parts ++ decided s full answer ∷ []) all.begun a.link.conn s (tunnel_for answer headers end)
-      here (Status status) end = made (decided s full (Status status)) _ refl refl
-      here Reset end = made (decided s full Reset) _ refl refl
-      here (Dial target) true = made (decided s full (Dial target)) _ refl refl
-      here (Dial target) false = made (decided s full (Dial target)) _ refl refl
+      here (Status status) end = made (decided s full (Status status)) _ refl refl refl
+      here Reset end = made (decided s full Reset) _ refl refl refl
+      here (Dial target) true = made (decided s full (Dial target)) _ refl refl refl
+      here (Dial target) false = made (decided s full (Dial target)) _ refl refl refl
 
   answers : (s status : ℕ) (end : Bool) → Stays a.link.conn (status_put a.link.conn s (record { number = status; end = end }))
   answers s status end =
@@ -437,8 +447,10 @@ module _ (l : ℕ) (start : Resources) (a : Local) (parts : List Part) (keeps : 
   refusal_stays s status true = λ k begun xs w h.
       let c = status_put a.link.conn s (record { number = status; end = true }) in
       let m = history.answered s (record { number = status; end = true }) in
-      let after = acts_add Server (moves parts) (tellings parts) (conn_came parts) (link_went parts) a.link.conn c m (tt, (refl, refl), refl) stands in
-      resets_follow Server (moves parts ++ history.point m found.Silent ∷ []) (tellings parts) (conn_came parts) (link_went parts) c after s 0
+      let after = acts_add Server (moves parts) (tellings parts) (conn_came parts) (link_went parts) a.link.conn c m
+      (tt, (refl, refl), refl) stands in
+      resets_follow Server (moves parts ++ history.point m found.Silent ∷ []) (tellings parts) (conn_came parts) (link_went parts) c after s
+      0
       k begun xs w (answers s status true k begun xs w h)
 
   refusal_rests : (s status : ℕ) (resets : Bool) → LeavesBegun (refused_on s status resets a.link.conn)
@@ -477,7 +489,7 @@ module _ (l : ℕ) (start : Resources) (a : Local) (parts : List Part) (keeps : 
       (λ same. false≢true (sym apart ∙ eq-eqb k s (sym same))) all.begun)
       (sends_on parts p all.begun d s new [] refl
       (subst (λ (xs : List ℕ). Follows s all.begun xs new.ways.down.held d) (sym (append-nil (up_came s parts))) base)
-      (λ early. absurd (false≢true (sym (ap is_early lives) ∙ early)))
+      (λ early. absurd (false≢true (sym (ap is_early lives) ∙ early))) (all.sends s).counts
       (λ ends. was_more (is_up_end s) parts p ((all.sends s).ended ends))))
 
   to : (p : Part) (b : Local) (y : Inbound) → b ≡ with_link y a → AllSend (parts ++ p ∷ []) y → AllSend (parts ++ p ∷ []) b.link
@@ -523,7 +535,7 @@ module _ (l : ℕ) (start : Resources) (a : Local) (parts : List Part) (keeps : 
       (leaves (history.answered s (record { number = 200; end = false })) d (tt, (refl, refl), refl))
       (goes_with a.link.phase d (status_over (core_of a.link.conn) s (record { number = 200; end = false }) ∙ over_at steps.0))
       (one_quiet p s (λ old. at_stage live (a.link.tunnels s)) d (λ k. refl) (answers s 200 false)
-      (record { way = refl; stage = λ early. absurd (false≢true early) })))
+      (record { way = refl; went = refl; stage = λ early. absurd (false≢true early) })))
   step_sends (refused s status resets made) b steps =
       let p = refused s status resets made in
       let d = refused_on s status resets a.link.conn in
@@ -563,7 +575,7 @@ module _ (l : ℕ) (start : Resources) (a : Local) (parts : List Part) (keeps : 
       (goes_with a.link.phase d (end_over (core_of a.link.conn) s ∙ over_at steps.0.0))
       (one_quiet p s (λ old. new) d (λ k. refl)
       (ends_follow Server (moves parts) (tellings parts) (conn_came parts) (link_went parts) a.link.conn stands s)
-      (record { way = refl; stage = λ early. early })))
+      (record { way = refl; went = refl; stage = λ early. early })))
   step_sends (credited s n) b steps =
       let p = credited s n in
       let d = observed.credited a.link.conn s n in
@@ -574,7 +586,7 @@ module _ (l : ℕ) (start : Resources) (a : Local) (parts : List Part) (keeps : 
       (goes_with a.link.phase d (credited_over a.link.conn s n ∙ over_at steps.0.0))
       (one_quiet p s (λ old. new) d (λ k. refl)
       (uses_follow Server (moves parts) (tellings parts) (conn_came parts) (link_went parts) a.link.conn stands s n within)
-      (record { way = refl; stage = λ early. early })))
+      (record { way = refl; went = refl; stage = λ early. early })))
   step_sends (applied r) b steps =
       let h = after_response a.held r in
       subst (λ (c : Local). AllSend (parts ++ applied r ∷ []) c.link) (sym steps)
@@ -597,7 +609,8 @@ all_send l start a parts (begins is none) =
       goes = tt;
       sends = λ s. record {
         follows = record { rest = []; front = refl; goes = λ on. refl; unused = λ above. (refl, refl) };
-        early = λ early. refl;
+        early = λ early. (refl, refl);
+        counts = refl;
         ended = λ ends. absurd (false≢true ends);
       };
     }))

@@ -1,6 +1,6 @@
 -- Each request gets the first answer that applies, and each answer is put at its point, in every run of a link.
 use Rattle.std.proofs.Common.{◌≡◌, ◌⊎◌, inl, inr, ℕ, ◌==◌, ◌&&◌, ◌||◌, Bool, true, false, cond, List, [], ◌∷◌, ◌++◌, drop, Option, Some, None, refl, ap, sym, ◌∙◌, subst}
-use Rattle.std.proofs.lemmas.Bool.{false≢true, eq-eqb, ne_eqb}
+use Rattle.std.proofs.lemmas.Bool.{false≢true, eq-eqb}
 use Rattle.hb_base.specs.declared.cause.Cause.{Cause}
 use Rattle.hb_base.specs.declared.cause.Cause.TheVariants as cause
 use Rattle.hb_base.specs.declared.ip.Ip.{Ip}
@@ -34,7 +34,7 @@ use Rattle.hb_inbound.specs.Part as part
 use Rattle.hb_inbound.specs.Runs.{Local, MayCome, UpMayCome, entered, Steps, StandsFor, begins, goes_on, with_link, with_tunnel, tunnel_for, put_down, Refuses, Resets, failure_status, end_code, is_serving}
 use Rattle.hb_inbound.specs.Tunnel.{Tunnel, Stage, unasked, requested, refusing, malformed, due, opening, accepting, live, failed, ended, over, gone, is_unanswered, takes_place, at_stage, ends_by, ends_for, left_with, up_entered, came_up, peer_ended, requested_with}
 use Rattle.hb_inbound.specs.Verdicts.{Due, nothing, answer, refusal, protocol_error, acceptance, due_by, due_of, due_entry, due_answer, destination_by, destination_of, IsAsked, IsStatus, IsReset, AllGot, VerdictAt}
-use Rattle.hb_inbound.proofs.Admitted.{KnowsBy, at_one}
+use Rattle.hb_inbound.proofs.Admitted.{KnowsBy, at_one, swapped}
 use Rattle.hb_inbound.proofs.AdmittedRun.{all_admit}
 use Rattle.hb_inbound.proofs.EndsRun.{said_at, new_streams}
 use Rattle.hb_inbound.proofs.Grown.{fold_one, at_parts}
@@ -83,9 +83,6 @@ judged_owe true Denied t owed is = ends_owe cause.Revoked t.stage owed is
 left_owes : (old new : Tunnel) → IsLeft old new → OwesBy new.stage nothing
 left_owes old new is = left_so (λ (t : Tunnel). OwesBy t.stage nothing) old new refl (λ why. refl) is
 
-swapped : (k s : ℕ) → (k == s) ≡ false → (s == k) ≡ false
-swapped k s apart = ne_eqb s k (λ is. false≢true (sym apart ∙ eq-eqb k s (sym is)))
-
 -- the destination of a link stays, in whatever phase
 to_stays : (phase : Phase) (parts : List Part) (p : Part) (x y : Inbound) → ((to : Option Ip) → destination_by to p ≡ to)
     → y.destination ≡ x.destination → ToBy phase parts x → ToBy phase (parts ++ p ∷ []) y
@@ -131,7 +128,8 @@ module _ (l : ℕ) (a : Local) (parts : List Part) (owes : Owes parts a.link) wh
   abbrev LeavesTo : Part → Type 0
   LeavesTo p = (to : Option Ip) → destination_by to p ≡ to
 
-  quiet : (p : Part) (y : Inbound) → SaysNone p → ((s : ℕ) (owed : Due) → OwesBy (a.link.tunnels s).stage owed → OwesBy (y.tunnels s).stage owed)
+  quiet : (p : Part) (y : Inbound) → SaysNone p
+      → ((s : ℕ) (owed : Due) → OwesBy (a.link.tunnels s).stage owed → OwesBy (y.tunnels s).stage owed)
       → ToBy y.phase (parts ++ p ∷ []) y → Owes (parts ++ p ∷ []) y
   quiet p y none stays to = record {
     each = λ s. subst (OwesBy (y.tunnels s).stage) (sym (due_one s p ∙ none s (due_of s parts))) (stays s (due_of s parts) (owes.each s));
@@ -141,21 +139,25 @@ module _ (l : ℕ) (a : Local) (parts : List Part) (owes : Owes parts a.link) wh
   other : (p : Part) (s : ℕ) → due_by s (due_of s parts) p ≡ due_of s parts → OwesBy (a.link.tunnels s).stage (due_of s (parts ++ p ∷ []))
   other p s none = subst (OwesBy (a.link.tunnels s).stage) (sym (due_one s p ∙ none)) (owes.each s)
 
-  one : (p : Part) (k : ℕ) (change : Tunnel → Tunnel) (gets : Due → Due) → ((s : ℕ) (owed : Due) → due_by s owed p ≡ cond (k == s) (gets owed) owed)
+  one : (p : Part) (k : ℕ) (change : Tunnel → Tunnel) (gets : Due → Due)
+      → ((s : ℕ) (owed : Due) → due_by s owed p ≡ cond (k == s) (gets owed) owed)
       → OwesBy (change (a.link.tunnels k)).stage (gets (due_of k parts))
       → (s : ℕ) → OwesBy ((at_stream k change a.link).tunnels s).stage (due_of s (parts ++ p ∷ []))
   one p k change gets says here =
       at_one k change a.link (λ s t. OwesBy t.stage (due_of s (parts ++ p ∷ [])))
       (subst (OwesBy (change (a.link.tunnels k)).stage)
-      (sym (due_one k p ∙ says k (due_of k parts) ∙ ap (λ (b : Bool). cond b (gets (due_of k parts)) (due_of k parts)) (eq-eqb k k refl))) here)
-      (λ s apart. other p s (says s (due_of s parts) ∙ ap (λ (b : Bool). cond b (gets (due_of s parts)) (due_of s parts)) (swapped s k apart)))
+      (sym (due_one k p ∙ says k (due_of k parts) ∙ ap (λ (b : Bool). cond b (gets (due_of k parts)) (due_of k parts)) (eq-eqb k k refl)))
+      here)
+      (λ s apart. other p s
+      (says s (due_of s parts) ∙ ap (λ (b : Bool). cond b (gets (due_of s parts)) (due_of s parts)) (swapped s k apart)))
 
   one_quiet : (p : Part) (k : ℕ) (change : Tunnel → Tunnel) → SaysNone p
       → ((owed : Due) → OwesBy (a.link.tunnels k).stage owed → OwesBy (change (a.link.tunnels k)).stage owed)
       → (s : ℕ) → OwesBy ((at_stream k change a.link).tunnels s).stage (due_of s (parts ++ p ∷ []))
   one_quiet p k change none stays =
       at_one k change a.link (λ s t. OwesBy t.stage (due_of s (parts ++ p ∷ [])))
-      (subst (OwesBy (change (a.link.tunnels k)).stage) (sym (due_one k p ∙ none k (due_of k parts))) (stays (due_of k parts) (owes.each k)))
+      (subst (OwesBy (change (a.link.tunnels k)).stage) (sym (due_one k p ∙ none k (due_of k parts)))
+      (stays (due_of k parts) (owes.each k)))
       (λ s apart. other p s (none s (due_of s parts)))
 
   same_to : (p : Part) (y : Inbound) → LeavesTo p → y.destination ≡ a.link.destination → ToBy a.link.phase (parts ++ p ∷ []) y
@@ -175,7 +177,8 @@ module _ (l : ℕ) (a : Local) (parts : List Part) (owes : Owes parts a.link) wh
   came_owes : (k : ℕ) (bytes : List ℕ) (phase : Phase) → Owes (parts ++ entry (e.Came k bytes) ∷ []) (came_by phase bytes a.link)
   came_owes k bytes fronting =
       let p = entry (e.Came k bytes) in
-      quiet p (came_by fronting bytes a.link) (λ s owed. refl) (λ s owed is. is) (same_to p (came_by fronting bytes a.link) (λ to. refl) refl)
+      quiet p (came_by fronting bytes a.link) (λ s owed. refl) (λ s owed is. is)
+      (same_to p (came_by fronting bytes a.link) (λ to. refl) refl)
   came_owes k bytes serving =
       let p = entry (e.Came k bytes) in
       quiet p (came_by serving bytes a.link) (λ s owed. refl) (λ s owed is. is) (same_to p (came_by serving bytes a.link) (λ to. refl) refl)
@@ -275,7 +278,8 @@ module _ (l : ℕ) (a : Local) (parts : List Part) (owes : Owes parts a.link) wh
           each = one p k (λ t. requested_with headers end) (λ owed. answer headers) (λ s owed. refl) refl;
           to = same_to p y (λ to. refl) refl;
         }
-    found_owes (found.Chunk k end) = one_told (found.Chunk k end) k (came_up (chunk_of d (found.Chunk k end))) (λ s owed. refl) (λ owed is. is)
+    found_owes (found.Chunk k end) = one_told (found.Chunk k end) k (came_up (chunk_of d (found.Chunk k end))) (λ s owed. refl)
+        (λ owed is. is)
     found_owes (found.Ended k) = one_told (found.Ended k) k peer_ended (λ s owed. refl) (λ owed is. is)
     found_owes (found.Reset k code) =
         one_told (found.Reset k code) k (ends_for (cause.PeerReset code)) (λ s owed. refl)
@@ -287,7 +291,8 @@ module _ (l : ℕ) (a : Local) (parts : List Part) (owes : Owes parts a.link) wh
         let p = looked ps (found.GoneAway last) headers in
         quiet p (record a.link { conn = d }) (λ s owed. refl) (λ s owed is. is) (same_to p (record a.link { conn = d }) (λ to. refl) refl)
     found_owes (found.Fault code) =
-        all_end (looked ps (found.Fault code) headers) (cause.ConnFault code) (on_found (found.Fault code) headers d a.link) (λ s owed. refl)
+        all_end (looked ps (found.Fault code) headers) (cause.ConnFault code) (on_found (found.Fault code) headers d a.link)
+        (λ s owed. refl)
         (λ s. refl) tt
 
   -- ANSWERS
@@ -386,7 +391,8 @@ module _ (l : ℕ) (a : Local) (parts : List Part) (owes : Owes parts a.link) wh
       let h = after_response a.held r in
       subst (λ (c : Local). Owes (parts ++ p ∷ []) c.link) (sym steps)
       (quiet p (rejudged h a.link) (λ s owed. refl)
-      (λ s owed is. judged_owe (takes_place (a.link.tunnels s).stage) (judged h a.link.peer (a.link.tunnels s).target) (a.link.tunnels s) owed is)
+      (λ s owed is. judged_owe (takes_place (a.link.tunnels s).stage) (judged h a.link.peer (a.link.tunnels s).target) (a.link.tunnels s)
+      owed is)
       (same_to p (rejudged h a.link) (λ to. refl) refl))
   step_owes (stopped why) b steps =
       turn (stopped why) b (stopped_for why a.link) steps
@@ -418,7 +424,7 @@ gets_nothing (ended why) owed calm is = absurd (false≢true (sym calm))
 gets_nothing (over why) owed calm is = is
 gets_nothing gone owed calm is = is
 
-up_answered : (l s : ℕ) (x : Inbound) (t : Tunnel) (z : Entry) → UpMayCome l s x t z → IsAnswered x
+pub up_answered : (l s : ℕ) (x : Inbound) (t : Tunnel) (z : Entry) → UpMayCome l s x t z → IsAnswered x
 up_answered l s x t (e.Dialled u to why) may = may.0.answered
 up_answered l s x t (e.DialFailed to why) may = may.0.answered
 up_answered l s x t (e.Opened u) may = may.0.calm.answered
@@ -541,7 +547,8 @@ module _ (l : ℕ) (start : Resources) (a : Local) (before : List Part) (stands 
           destination_is = to;
           is = subst
               (λ (h : Resources). (given ≡ verdict (request_of steps.1 a.link.destination) h a.link.peer full)
-              ⊎ ((target : Target) × (verdict (request_of steps.1 a.link.destination) h a.link.peer full ≡ Dial target) × (given ≡ Status 500)))
+              ⊎ ((target : Target) × (verdict (request_of steps.1 a.link.destination) h a.link.peer full ≡ Dial target)
+              × (given ≡ Status 500)))
               (sym admits.holds) steps.4;
         },
       )

@@ -2,7 +2,7 @@
 use Rattle.std.proofs.Common.{◌≡◌, ◌≢◌, inl, inr, ℕ, ◌<◌, ◌-◌, ◌==◌, ◌&&◌, ◌||◌, not, Bool, true, false, cond, List, [], ◌∷◌, length, min, Option, None, is_some, refl, ap, sym, ◌∙◌, subst, arith}
 use Rattle.std.specs.Prelude.{nat_le}
 use Rattle.std.specs.List.{list_any, AllByRecursion}
-use Rattle.std.proofs.lemmas.Bool.{false≢true, cond_both, eqb-true, eq-eqb}
+use Rattle.std.proofs.lemmas.Bool.{false≢true, eqb-true, eq-eqb, and_parts, not-true, or_parts}
 use Rattle.std.proofs.lemmas.Bool.Decides.{nat_tests}
 use Rattle.std.proofs.lemmas.List.{nil_from_length}
 use Rattle.hb_base.specs.declared.cause.Cause.{Cause}
@@ -44,7 +44,7 @@ use Rattle.hb_inbound.specs.Part as part
 use Rattle.hb_inbound.specs.Runs.{Local, MayCome, UpMayCome, entered, Steps, StandsFor, begins, goes_on, with_link, with_tunnel, tunnel_for, put_down, Refuses, Resets, Leaves, refused_on, end_code, code_due, is_serving}
 use Rattle.hb_inbound.specs.Tunnel.{Tunnel, Stage, unasked, requested, refusing, malformed, due, opening, accepting, live, failed, ended, over, gone, takes_place, is_unanswered, at_stage, ends_by, ends_for, left_with, up_entered, came_up, peer_ended, requested_with}
 use Rattle.hb_inbound.proofs.Admitted.{at_one}
-use Rattle.hb_inbound.proofs.Stages.{leaves_asked}
+use Rattle.hb_inbound.proofs.Left.{IsLeft, left_so, refuses_left, resets_left, leaves_left, leaves_asked}
 use Rattle.hb_inbound.proofs.Runs.{Keeps, all_keep}
 use Rattle.hb_inbound.proofs.Waiting.{has_code, holds_data, may_wait, set_of, speaks, is_before, Fits, Serves, IsNew, WaitsIn, IsGentle, gentle_fits, gentle_same, serves_on, waits_on, one_waits}
 
@@ -143,7 +143,8 @@ up_gentle l s x (e.Dialled u to why) may =
     let t = x.tunnels s in (
       record {
         own = λ speaks_now open_now. (ap speaks may.1, open_now);
-        waits = λ some. absurd (false≢true (sym (none_of t.end_put) ∙ sym (ap (λ (st : Stage). not t.end_put && holds_data st) may.1) ∙ some));
+        waits = λ some. absurd
+            (false≢true (sym (none_of t.end_put) ∙ sym (ap (λ (st : Stage). not t.end_put && holds_data st) may.1) ∙ some));
         spent = λ was. was;
         early = λ was now. was (ap is_before may.1);
       },
@@ -156,8 +157,11 @@ up_gentle l s x (e.Dialled u to why) may =
 up_gentle l s x (e.DialFailed to why) may = (end_gentle cause.UpFault (x.tunnels s) refl, λ none. (let both = sym none ∙ may.1 in cc))
 up_gentle l s x (e.Opened u) may =
     let t = x.tunnels s in
-    let gentle = stage_gentle t opening accepting may.1 (λ b. refl) (λ b. absurd (false≢true b)) (λ b. refl) in
-    (record { own = gentle.own; waits = gentle.waits; spent = gentle.spent; early = gentle.early }, λ none. (let both = sym none ∙ may.1 in cc))
+    let gentle = stage_gentle t opening accepting may.1 (λ b. refl) (λ b. absurd (false≢true b)) (λ b. refl) in (
+      record { own = gentle.own; waits = gentle.waits; spent = gentle.spent; early = gentle.early },
+      λ none.
+          (let both = sym none ∙ may.1 in cc),
+    )
 up_gentle l s x (e.Came u bytes) may =
     let t = x.tunnels s in
     (adds_gentle t (up_entered (e.Came u bytes) t) (omega (arith, may.2, may.3)) refl refl, λ none. (let both = sym none ∙ may.0.1 in cc))
@@ -372,17 +376,10 @@ pub record IsShut (old new : Tunnel) : Type 0 where
   pub same : new.end_put ≡ old.end_put
   pub ways : new.ways ≡ old.ways
 
-left_shut : (why : Cause) (t : Tunnel) → IsShut t (left_with why t)
-left_shut why t = record {
-  quiet = cond_both (t.up == 0) gone (over why) (λ stage. speaks stage ≡ false) (λ is. refl) (λ is. refl);
-  holds = cond_both (t.up == 0) gone (over why) (λ stage. holds_data stage ≡ false) (λ is. refl) (λ is. refl);
-  late = cond_both (t.up == 0) gone (over why) (λ stage. is_before stage ≡ false) (λ is. refl) (λ is. refl);
-  same = refl;
-  ways = refl;
-}
-
-gone_shut : (t : Tunnel) → IsShut t (at_stage gone t)
-gone_shut t = record { quiet = refl; holds = refl; late = refl; same = refl; ways = refl }
+left_shut : (old new : Tunnel) → IsLeft old new → IsShut old new
+left_shut old new is =
+    left_so (IsShut old) old new (record { quiet = refl; holds = refl; late = refl; same = refl; ways = refl })
+    (λ why. record { quiet = refl; holds = refl; late = refl; same = refl; ways = refl }) is
 
 same_at : (s : ℕ) (change : Tunnel → Tunnel) (x : Inbound) (k : ℕ)
     → (at_stream s change x).tunnels k ≡ (at_stream s (λ t. change (x.tunnels s)) x).tunnels k
@@ -416,7 +413,8 @@ shut_serves x y d s next set conn tunnel waits outside others sided shut serves 
       waits = subst (λ (c : Connection). WaitsWithin (set_of y) (outgoing c)) (sym conn)
           (within_more set (set_of y) (outgoing d)
           (λ k some. ap may_wait (tunnel k)
-          ∙ at_one s (λ t. next) x (λ j t. set j ≡ true → may_wait t ≡ true) (λ is. absurd (outside is)) (λ j apart is. others j apart is) k some)
+          ∙ at_one s (λ t. next) x (λ j t. set j ≡ true → may_wait t ≡ true) (λ is. absurd (outside is)) (λ j apart is. others j apart is) k
+          some)
           waits);
     }
 
@@ -440,18 +438,6 @@ apart_of s k set is = by (k == s) is
 itself_out : (s : ℕ) (set : StreamSet) → (without_stream s set) s ≡ true → ⊥
 itself_out s set is = false≢true (sym (ap (λ (b : Bool). not b && set s) (eq-eqb s s refl)) ∙ is)
 
-last_of : (b c : Bool) → (b && c) ≡ true → c ≡ true
-last_of true c is = is
-last_of false c is = absurd (false≢true is)
-
-first_of : (b c : Bool) → (b && c) ≡ true → b ≡ true
-first_of true c is = refl
-first_of false c is = absurd (false≢true is)
-
-off : (b : Bool) → not b ≡ true → b ≡ false
-off true is = absurd (false≢true is)
-off false is = refl
-
 -- no DATA of the stream is among the frames that wait
 none_listed : (s : ℕ) (fs : List RawFrame) → list_any (has_data_on s) fs ≡ false → AllByRecursion (λ f. has_data_on s f ≡ false) fs
 none_listed s [] none = tt
@@ -462,10 +448,6 @@ none_listed s (f ∷ fs) none = by (has_data_on s f) refl none (λ rest. none_li
         → AllByRecursion (λ g. has_data_on s g ≡ false) (f ∷ fs)
     by true is some more = absurd (false≢true (sym some))
     by false is rest more = (is, more rest)
-
-first_off : (b c : Bool) → (b || c) ≡ false → b ≡ false
-first_off true c is = absurd (false≢true (sym is))
-first_off false c is = refl
 
 -- where there is nothing to put, nothing is put
 none_of : (b c : Bool) (n : ℕ) → cond b 0 (cond c (min 0 n) 0) ≡ 0
@@ -490,15 +472,15 @@ module _ (l : ℕ) (a : Local) (parts : List Part) (keeps : Keeps parts a.link) 
   left_waits s made next leaves = by a.link.phase refl waits
     where
       early : ((k : ℕ) → IsNew (a.link.tunnels k)) → ⊥
-      early new = leaves_asked a.link l s (a.link.tunnels s).stage made next leaves (sym (new s).0)
+      early new = leaves_asked a.link l s 0 (a.link.tunnels s).stage made next leaves (new s).0
 
       outside : (stage : Stage) → (a.link.tunnels s).stage ≡ stage → a.link.phase ≡ serving → Serves a.link
           → Leaves l s a.link stage made next → may_wait (a.link.tunnels s) ≡ true → ⊥
       outside (failed why) is on serves leave some = no_wait (a.link.tunnels s) (ap holds_data is) some
       outside (ended why) is on serves leave some =
           let t = a.link.tunnels s in
-          let open_end = off t.end_put (first_of (not t.end_put) (holds_data t.stage) some) in
-          let code : has_code why ≡ true = sym (ap holds_data is) ∙ last_of (not t.end_put) (holds_data t.stage) some in
+          let open_end = not-true t.end_put (and_parts (not t.end_put) (holds_data t.stage) some).0 in
+          let code : has_code why ≡ true = sym (ap holds_data is) ∙ (and_parts (not t.end_put) (holds_data t.stage) some).1 in
           let own = (serves.each s).own (ap speaks is ∙ code) open_end in
           coded why code (due_is why on own ∙ leave.1)
         where
@@ -522,20 +504,6 @@ module _ (l : ℕ) (a : Local) (parts : List Part) (keeps : Keeps parts a.link) 
       outside (over why) is on serves leave some = leave
       outside gone is on serves leave some = leave
 
-      shut : (stage : Stage) → Leaves l s a.link stage made next → IsShut (a.link.tunnels s) next
-      shut (failed why) leave = subst (IsShut (a.link.tunnels s)) (sym leave.3) (left_shut why (a.link.tunnels s))
-      shut (ended why) leave = subst (IsShut (a.link.tunnels s)) (sym leave.3) (left_shut why (a.link.tunnels s))
-      shut unasked leave = absurd leave
-      shut (requested headers end) leave = absurd leave
-      shut (refusing status target) leave = absurd leave
-      shut malformed leave = absurd leave
-      shut due leave = absurd leave
-      shut opening leave = absurd leave
-      shut accepting leave = absurd leave
-      shut live leave = absurd leave
-      shut (over why) leave = absurd leave
-      shut gone leave = absurd leave
-
       by : (phase : Phase) → a.link.phase ≡ phase → WaitsIn phase a.link → WaitsIn phase (with_tunnel s next a.link.conn a.link)
       by unborn is new = absurd (early new)
       by arriving is new = absurd (early new)
@@ -543,7 +511,7 @@ module _ (l : ℕ) (a : Local) (parts : List Part) (keeps : Keeps parts a.link) 
       by serving is serves =
           shut_serves a.link (with_tunnel s next a.link.conn a.link) a.link.conn s next (set_of a.link) refl (λ k. refl) serves.waits
           (outside (a.link.tunnels s).stage refl is serves leaves) (λ k apart some. some) (λ k apart. refl)
-          (shut (a.link.tunnels s).stage leaves) serves
+          (left_shut (a.link.tunnels s) next (leaves_left a.link l s 0 (a.link.tunnels s).stage made next leaves)) serves
       by (faulted code) is none = none
       by (closing why) is none = tt
       by closed is none = tt
@@ -569,20 +537,6 @@ module _ (l : ℕ) (a : Local) (parts : List Part) (keeps : Keeps parts a.link) 
       outside (over why) is refuse some = refuse
       outside gone is refuse some = refuse
 
-      shut : (stage : Stage) → Refuses l s a.link stage status made next → IsShut (a.link.tunnels s) next
-      shut (refusing n target) refuse = subst (IsShut (a.link.tunnels s)) (sym refuse.2) (gone_shut (a.link.tunnels s))
-      shut (failed why) refuse = subst (IsShut (a.link.tunnels s)) (sym refuse.3) (left_shut why (a.link.tunnels s))
-      shut unasked refuse = absurd refuse
-      shut (requested headers end) refuse = absurd refuse
-      shut malformed refuse = absurd refuse
-      shut due refuse = absurd refuse
-      shut opening refuse = absurd refuse
-      shut accepting refuse = absurd refuse
-      shut live refuse = absurd refuse
-      shut (ended why) refuse = absurd refuse
-      shut (over why) refuse = absurd refuse
-      shut gone refuse = absurd refuse
-
       by : (b : Bool) → Serves (with_tunnel s next (refused_on s status b a.link.conn) a.link)
       by false =
           let d = status_put a.link.conn s (record { number = status; end = true }) in
@@ -590,7 +544,7 @@ module _ (l : ℕ) (a : Local) (parts : List Part) (keeps : Keeps parts a.link) 
           (answers_within (set_of a.link) a.link.conn s (record { number = status; end = true }) (serves_at is).waits)
           (outside (a.link.tunnels s).stage refl refuses) (λ k apart some. some)
           (answer_ends_side a.link.conn s (record { number = status; end = true })).others
-          (shut (a.link.tunnels s).stage refuses) (serves_at is)
+          (left_shut (a.link.tunnels s) next (refuses_left a.link l s status (a.link.tunnels s).stage made next refuses)) (serves_at is)
       by true =
           let c = status_put a.link.conn s (record { number = status; end = true }) in
           let d = aborted c s 0 in
@@ -600,7 +554,7 @@ module _ (l : ℕ) (a : Local) (parts : List Part) (keeps : Keeps parts a.link) 
           (itself_out s (set_of a.link)) (λ k apart some. apart_of s k (set_of a.link) some)
           (λ k other. (reset_ends_both c s 0).others k other
           ∙ (answer_ends_side a.link.conn s (record { number = status; end = true })).others k other)
-          (shut (a.link.tunnels s).stage refuses) (serves_at is)
+          (left_shut (a.link.tunnels s) next (refuses_left a.link l s status (a.link.tunnels s).stage made next refuses)) (serves_at is)
 
   reset_waits : (s code : ℕ) (made : Note) (next : Tunnel) → a.link.phase ≡ serving
       → Resets l s a.link (a.link.tunnels s).stage code made next
@@ -610,21 +564,8 @@ module _ (l : ℕ) (a : Local) (parts : List Part) (keeps : Keeps parts a.link) 
       shut_serves a.link (with_tunnel s next d a.link) d s next (without_stream s (set_of a.link)) refl (λ k. refl)
       (resets_within (set_of a.link) a.link.conn s code (serves_at is).waits)
       (itself_out s (set_of a.link)) (λ k apart some. apart_of s k (set_of a.link) some)
-      (reset_ends_both a.link.conn s code).others (shut (a.link.tunnels s).stage resets) (serves_at is)
-    where
-      shut : (stage : Stage) → Resets l s a.link stage code made next → IsShut (a.link.tunnels s) next
-      shut malformed asks = subst (IsShut (a.link.tunnels s)) (sym asks.2) (gone_shut (a.link.tunnels s))
-      shut (ended why) asks = subst (IsShut (a.link.tunnels s)) (sym asks.3) (left_shut why (a.link.tunnels s))
-      shut unasked asks = absurd asks
-      shut (requested headers end) asks = absurd asks
-      shut (refusing n target) asks = absurd asks
-      shut due asks = absurd asks
-      shut opening asks = absurd asks
-      shut accepting asks = absurd asks
-      shut live asks = absurd asks
-      shut (failed why) asks = absurd asks
-      shut (over why) asks = absurd asks
-      shut gone asks = absurd asks
+      (reset_ends_both a.link.conn s code).others
+      (left_shut (a.link.tunnels s) next (resets_left a.link l s code (a.link.tunnels s).stage made next resets)) (serves_at is)
 
   -- 200 is put, and octets are used up: no side ends, and no tunnel needs more
   own_at : (s : ℕ) (d : Connection) → sides d s ≡ sides a.link.conn s → ((k : ℕ) → k ≢ s → sides d k ≡ sides a.link.conn k)
@@ -638,7 +579,8 @@ module _ (l : ℕ) (a : Local) (parts : List Part) (keeps : Keeps parts a.link) 
 
   one_gentle : (s : ℕ) (new : Tunnel) → IsGentle (a.link.tunnels s) new → (d : Connection) → (k : ℕ)
       → IsGentle (a.link.tunnels k) ((with_tunnel s new d a.link).tunnels k)
-  one_gentle s new gentle d = at_one s (λ t. new) a.link (λ k t. IsGentle (a.link.tunnels k) t) gentle (λ k apart. gentle_same (a.link.tunnels k))
+  one_gentle s new gentle d = at_one s (λ t. new) a.link (λ k t. IsGentle (a.link.tunnels k) t) gentle
+      (λ k apart. gentle_same (a.link.tunnels k))
 
   accepted_waits : (s : ℕ) → a.link.phase ≡ serving → (a.link.tunnels s).stage ≡ accepting
       → Serves (with_tunnel s (at_stage live (a.link.tunnels s)) (status_put a.link.conn s (record { number = 200; end = false })) a.link)
@@ -671,7 +613,7 @@ module _ (l : ℕ) (a : Local) (parts : List Part) (keeps : Keeps parts a.link) 
       by true now =
           let t = a.link.tunnels s in
           let done = ((serves_at is).each s).spent now in
-          let empty : (length t.ways.down.held == 0) ≡ true = last_of t.ways.down.has_ended (length t.ways.down.held == 0) done in
+          let empty : (length t.ways.down.held == 0) ≡ true = (and_parts t.ways.down.has_ended (length t.ways.down.held == 0) done).1 in
           let none : bytes ≡ [] = held ∙ nil_from_length t.ways.down.held (grind (arith, nat_tests, empty)) in
           let zero_put = none_put a.link.conn s in
           let more : 0 < count_put a.link.conn s [] = subst (λ (bs : List ℕ). 0 < count_put a.link.conn s bs) none some in
@@ -714,9 +656,9 @@ module _ (l : ℕ) (a : Local) (parts : List Part) (keeps : Keeps parts a.link) 
       let y = with_tunnel s new d a.link in
       let sided = end_ends_side a.link.conn s in
       let parts_of = is_done t.ways.down && not t.end_put in
-      let done = first_of (is_done t.ways.down) (not t.end_put) (first_of parts_of (not (data_waits a.link.conn s)) may) in
-      let silent = off (data_waits a.link.conn s) (last_of parts_of (not (data_waits a.link.conn s)) may) in
-      let none = none_listed s (outgoing a.link.conn).queue (first_off (list_any (has_data_on s) (outgoing a.link.conn).queue) _ silent) in
+      let done = (and_parts (is_done t.ways.down) (not t.end_put) (and_parts parts_of (not (data_waits a.link.conn s)) may).0).0 in
+      let silent = not-true (data_waits a.link.conn s) (and_parts parts_of (not (data_waits a.link.conn s)) may).1 in
+      let none = none_listed s (outgoing a.link.conn).queue (or_parts (list_any (has_data_on s) (outgoing a.link.conn).queue) _ silent).0 in
       record {
         each = at_one s (λ old. new) a.link (λ k now. Fits d k now)
             (record {
@@ -745,10 +687,10 @@ module _ (l : ℕ) (a : Local) (parts : List Part) (keeps : Keeps parts a.link) 
       let t = a.link.tunnels s in
       let y = at_stream s (left_with cause.Done) a.link in
       let before = is_done t.ways.up && is_done t.ways.down && t.end_put in
-      let ended = last_of (is_done t.ways.up && is_done t.ways.down) t.end_put (first_of before _ all) in
+      let ended = (and_parts (is_done t.ways.up && is_done t.ways.down) t.end_put (and_parts before _ all).0).1 in
       shut_serves a.link y a.link.conn s (left_with cause.Done t) (set_of a.link) refl
       (same_at s (left_with cause.Done) a.link) (serves_at is).waits (ended_no_wait t ended) (λ k apart some. some) (λ k apart. refl)
-      (left_shut cause.Done t) (serves_at is)
+      (left_shut t (left_with cause.Done t) (inr (cause.Done, refl))) (serves_at is)
 
   -- a request is answered
   decided_waits : (s : ℕ) (answer : Verdict) (headers : HeaderList) (end : Bool) → a.link.phase ≡ serving

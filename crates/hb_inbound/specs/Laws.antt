@@ -2,8 +2,11 @@
 use Rattle.std.specs.Prelude.{ℕ, List}
 use Rattle.hb_held.specs.Held.{Resources}
 use Rattle.hb_inbound.specs.Access.{AccessLaw}
+use Rattle.hb_inbound.specs.Closes.{CloseLaw}
 use Rattle.hb_inbound.specs.Connections.{ConnectionLaw, WindowLaw}
+use Rattle.hb_inbound.specs.Dials.{DialLaw}
 use Rattle.hb_inbound.specs.Ends.{EndLaw}
+use Rattle.hb_inbound.specs.Notes.{NoteLaw}
 use Rattle.hb_inbound.specs.Part.{Part}
 use Rattle.hb_inbound.specs.Relay.{RelayUpLaw, RelayDownLaw}
 use Rattle.hb_inbound.specs.Rings.{FitsRings, RingLaw}
@@ -26,6 +29,10 @@ RunsAdmit = (l : ℕ) (start : Resources) (a : Local) (parts : List Part) → St
 abbrev pub RunsEnd : Type 0
 RunsEnd = (l : ℕ) (start : Resources) (a : Local) (parts : List Part) → StandsFor l start a parts → EndLaw start parts
 
+-- each dial goes to the target that was asked for, and none is left out
+abbrev pub RunsDial : Type 0
+RunsDial = (l : ℕ) (start : Resources) (a : Local) (parts : List Part) → StandsFor l start a parts → DialLaw start parts
+
 -- what is written to an upstream is a front of the DATA that came on its stream
 abbrev pub RunsRelayUp : Type 0
 RunsRelayUp = (l : ℕ) (start : Resources) (a : Local) (parts : List Part) → StandsFor l start a parts → RelayUpLaw parts
@@ -42,3 +49,11 @@ RunsFitRings = (l : ℕ) (start : Resources) (a : Local) (parts : List Part) →
 -- each request gets the first answer that applies, and each answer is put at its point
 abbrev pub RunsAnswer : Type 0
 RunsAnswer = (l : ℕ) (start : Resources) (a : Local) (parts : List Part) → StandsFor l start a parts → VerdictLaw start parts
+
+-- the link is closed for the first cause that ended it, behind which nothing more is read, looked at or put
+abbrev pub RunsClose : Type 0
+RunsClose = (l : ℕ) (start : Resources) (a : Local) (parts : List Part) → StandsFor l start a parts → CloseLaw parts
+
+-- each answer and each end of a live tunnel has its note
+abbrev pub RunsNote : Type 0
+RunsNote = (l : ℕ) (start : Resources) (a : Local) (parts : List Part) → StandsFor l start a parts → NoteLaw start l parts

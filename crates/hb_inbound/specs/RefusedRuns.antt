@@ -74,7 +74,8 @@ DialsUnbidden = (start : Resources) (seen : Seen) (target : Target)
 abbrev pub GoesOnAdmitted : Type 0
 GoesOnAdmitted = (start : Resources) (seen : Seen) (target : Target) (note : Note) (r : Response) (bytes : List ℕ)
     → StaysIn start seen target r
-    → EndLaw start (lived seen target note r ++ up 1 (e.Went 3 bytes) ∷ []) × AccessLaw start (lived seen target note r ++ up 1 (e.Went 3 bytes) ∷ [])
+    → EndLaw start (lived seen target note r ++ up 1 (e.Went 3 bytes) ∷ []) × AccessLaw start
+    (lived seen target note r ++ up 1 (e.Went 3 bytes) ∷ [])
 
 -- and the close of a tunnel that is revoked
 abbrev pub ClosesRevoked : Type 0

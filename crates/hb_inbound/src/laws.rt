@@ -1,14 +1,21 @@
 //! Small steps that no run of an inbound link takes, and what an update does. Each is the contract of a function that does nothing.
 
 ghost use Rattle.hb_inbound.specs.Refused.{DialsUnasked, AcceptsUnopened, WritesUnopened, ShutsEarly, EndsEarly, WritesRevoked};
-ghost use Rattle.hb_inbound.specs.Laws.{RunsAdmit, RunsAnswer, RunsEnd, RunsObeyConnections, RunsObeyWindows, RunsRelayDown, RunsRelayUp};
-ghost use Rattle.hb_inbound.specs.Laws.{RunsFitRings};
+ghost use Rattle.hb_inbound.specs.Laws.{RunsAdmit, RunsAnswer, RunsClose, RunsDial, RunsEnd, RunsNote, RunsObeyConnections, RunsObeyWindows};
+ghost use Rattle.hb_inbound.specs.Laws.{RunsFitRings, RunsRelayDown, RunsRelayUp};
+ghost use Rattle.hb_inbound.specs.Dials.{DialsElsewhere, LeavesOutDial, DialsTwice, DialsForAnother, DialMayGo};
+ghost use Rattle.hb_inbound.specs.ClosesRefused.{ClosesHealthy, ClosesForSecond, ClosesBroken, ReadsEnded, LooksStopped, WritesTwice};
+ghost use Rattle.hb_inbound.specs.ClosesRefused.{ClosesTwice, TurnsAwayLate, ClosesMisfronted, WritesOnce};
+ghost use Rattle.hb_inbound.specs.NotesRefused.{NotesUnasked, NotesOther, NotesElsewhere, EndsUnaccepted, EndsAlive, EndsTwice};
+ghost use Rattle.hb_inbound.specs.NotesRefused.{CountsNoneUp, CountsNoneDown, ReadsUnnoted, ClosesUnnoted, EndsUnnoted, NotesBoth};
 ghost use Rattle.hb_inbound.specs.Rings.{ComesBeyond, WindowMayCome};
 ghost use Rattle.hb_inbound.specs.RefusedRuns.{WritesBehind, GoesOnBehind, PutsBehind, ReadsBehind, ClosesForAnother, ClosesAdmitted};
 ghost use Rattle.hb_inbound.specs.RefusedRuns.{DialsUnbidden, GoesOnAdmitted, ClosesRevoked};
+ghost use Rattle.hb_inbound.specs.RefusedEnds.{FinishesBehind, DialsBehind, OpensBehind, ClosesUnended, ShutsPending, LosesByte};
 ghost use Rattle.hb_inbound.specs.RelayRefused.{InventsByte, WritesFront, InventsDown, GoesDown, EndsWaiting};
 ghost use Rattle.hb_inbound.specs.VerdictsRefused.{DecidesUnasked, AcceptsUnasked, RefusesUnasked, ResetsUnasked};
 ghost use Rattle.hb_inbound.specs.VerdictsRefused.{LooksFirst, AcceptsEarly, RequestMayCome};
+ghost use Rattle.hb_inbound.specs.VerdictsRefused.{RefusesKnown, RefusesByThePast, DialsAnother};
 ghost use Rattle.hb_inbound.specs.Refused.{PutsRevoked, KeepsAdmitted, KeepsPlaceless, EndsOthers};
 
 /// Nothing is dialled that wasn't asked for, 200 isn't put nor are bytes written before the upstream is open, and no way ends
@@ -32,6 +39,28 @@ pub fn updates_end_exactly()
     ensures admitted { KeepsAdmitted }
     ensures placeless { KeepsPlaceless }
     ensures others { EndsOthers }
+{}
+
+/// Behind an update that no longer admits the peer of a tunnel its stream isn't ended, and a pending one isn't dialled, nor is its upstream
+/// opened. An upstream isn't closed while nothing ended its tunnel, nor shut in front of 200, and no byte is left out in the middle.
+pub fn careless_ends_are_refused()
+    ensures finishes { FinishesBehind }
+    ensures dials { DialsBehind }
+    ensures opens { OpensBehind }
+    ensures closes { ClosesUnended }
+    ensures shuts { ShutsPending }
+    ensures loses { LosesByte }
+{}
+
+/// Each dial goes to the target that its request was answered with, for its stream, once, and before anything is read or written on the
+/// link or on an upstream. A dial elsewhere, a second one, one for another stream and one that is left out are refused.
+pub fn targets_are_dialled()
+    ensures runs { RunsDial }
+    ensures elsewhere { DialsElsewhere }
+    ensures left_out { LeavesOutDial }
+    ensures twice { DialsTwice }
+    ensures another { DialsForAnother }
+    ensures good { DialMayGo }
 {}
 
 /// What waits on each way of a tunnel fits its ring: on the way up no more than the window of its stream, with what isn't given back to
@@ -115,4 +144,56 @@ pub fn unasked_answers_are_refused()
     ensures looks { LooksFirst }
     ensures early { AcceptsEarly }
     ensures comes { RequestMayCome }
+{}
+
+/// A request that is to be dialled by what is held at its point isn't refused, neither as if its target weren't known nor by a policy that
+/// was held before and no longer is, and no other target is dialled for it.
+pub fn wrong_verdicts_are_refused()
+    ensures known { RefusesKnown }
+    ensures past { RefusesByThePast }
+    ensures another { DialsAnother }
+{}
+
+/// The link is closed for the first cause that ended it: its front header, its peer's end, a break, a connection error, want of memory or
+/// of a place, the run's stop. Behind it nothing is read or looked at on the link, nothing is put, and it is closed once.
+pub fn links_close_once()
+    ensures { RunsClose }
+{}
+
+/// Of each request there is one note at its answer, with its status, peer and target, and of each tunnel that lived one at its end, with
+/// the first cause and what truly went each way; of a tunnel that ended while it was pending and got no status there is none.
+pub fn notes_are_told()
+    ensures { RunsNote }
+{}
+
+/// A healthy link isn't closed, nor one that ended for another cause than the first, nor one twice; none is turned away once it was taken
+/// in. Behind its end it isn't read, looked at or written, but once behind a connection error.
+pub fn early_closes_are_refused()
+    ensures healthy { ClosesHealthy }
+    ensures second { ClosesForSecond }
+    ensures another { ClosesBroken }
+    ensures reads { ReadsEnded }
+    ensures looks { LooksStopped }
+    ensures writes { WritesTwice }
+    ensures twice { ClosesTwice }
+    ensures late { TurnsAwayLate }
+    ensures misfronted { ClosesMisfronted }
+    ensures once { WritesOnce }
+{}
+
+/// A note that nothing asked for is refused, one with another status or target, an end that didn't come yet, never comes or is noted
+/// already, and a count that leaves out what went; so is a run that goes on without the note of an end.
+pub fn wrong_notes_are_refused()
+    ensures unasked { NotesUnasked }
+    ensures other { NotesOther }
+    ensures elsewhere { NotesElsewhere }
+    ensures unaccepted { EndsUnaccepted }
+    ensures alive { EndsAlive }
+    ensures twice { EndsTwice }
+    ensures up { CountsNoneUp }
+    ensures down { CountsNoneDown }
+    ensures reads { ReadsUnnoted }
+    ensures closes { ClosesUnnoted }
+    ensures unnoted { EndsUnnoted }
+    ensures both { NotesBoth }
 {}
