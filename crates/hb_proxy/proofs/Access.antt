@@ -43,7 +43,8 @@ module _ (g : NodeConfig) (x : Machine) (before : List Point) (stands : StandsFo
       → GoesAdmitted g before l bytes
   goes_admitted bytes side goes = record {
     conn = goes.conn;
-    stands = subst (λ (bs : List ℕ). history.StandsFor Server (moves (parts_of l before)) (tellings (parts_of l before)) (came_behind l before) bs goes.conn)
+    stands = subst (λ (bs : List ℕ).
+        history.StandsFor Server (moves (parts_of l before)) (tellings (parts_of l before)) (came_behind l before) bs goes.conn)
         (sym side.went)
         (subst (λ (bs : List ℕ). history.StandsFor Server (moves (parts_of l before)) (tellings (parts_of l before))
         (behind_front (front_size (parts_of l before)) bs) (sides.link_went (parts_of l before)) goes.conn) (sym side.came) goes.stands);

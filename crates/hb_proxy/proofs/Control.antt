@@ -46,7 +46,8 @@ use Rattle.hb_proxy.proofs.Stopped.{is_going, over_rests}
 
 -- WHERE THE CONTROL PLANE RESTS
 
-module _ (g : NodeConfig) (m : control.Machine) (points : List point.Point) (stands : model.StandsFor g m points) (rests : ControlRests m) where
+module _ (g : NodeConfig) (m : control.Machine) (points : List point.Point) (stands : model.StandsFor g m points)
+    (rests : ControlRests m) where
   held_where : (l : ℕ) → lives l (point.entries points) ≡ true → is_held (m.links l).phase ≡ true
   held_where l living = by (is_held (m.links l).phase) refl
     where
@@ -105,7 +106,8 @@ module _ (g : NodeConfig) (m : control.Machine) (points : List point.Point) (sta
 pub control_is_born : (g : NodeConfig) (m : control.Machine) (points : List point.Point) → model.StandsFor g m points → (l : ℕ)
     → IsControl l (point.entries points) → IsBorn (m.links l).phase
 unfolding Fits
-control_is_born g m points stands l is = by (m.links l).phase ((lived g m points stands).fits l) (sym (plain g m points stands l).control ∙ is)
+control_is_born g m points stands l is =
+    by (m.links l).phase ((lived g m points stands).fits l) (sym (plain g m points stands l).control ∙ is)
   where
     by : (phase : Phase) → Fits phase (seen l points) → (seen l points).born ≡ true → IsBorn phase
     by unborn fits born = absurd (false≢true (sym (ap (λ (s : Said). s.born) fits) ∙ born))
@@ -133,8 +135,8 @@ ends_at points _ none apart = none
 -- a law of the control plane's entries is one at each entry, where it holds at those of other parts
 module _ (P : List point.Point → Entry → Type 0)
     (law : (g : NodeConfig) (m : control.Machine) (points : List point.Point) → model.StandsFor g m points → AtEntry P points)
-    (elsewhere : (g : NodeConfig) (x : Machine) (before : List Point) (l : ℕ) (p : Part) (z : Entry) → StandsFor g x before → ControlRests x.control
-    → part.entry_in p ≡ z ∷ [] → PartStands (entries before) l p → P (control_of before) z) where
+    (elsewhere : (g : NodeConfig) (x : Machine) (before : List Point) (l : ℕ) (p : Part) (z : Entry) → StandsFor g x before
+    → ControlRests x.control → part.entry_in p ≡ z ∷ [] → PartStands (entries before) l p → P (control_of before) z) where
   AtIt : List Point → Point → Type 0
   AtIt before p = (z : Entry) → entry_in p ≡ z ∷ [] → P (control_of before) z
 
@@ -164,12 +166,14 @@ other_part : (g : NodeConfig) (x : Machine) (before : List Point) → StandsFor 
     → IsControl k (point.entries (control_of before)) → ⊥
 other_part g x before stands l (part.entry en) z is own k on control =
     let same : en ≡ z = cc in
-    let mine = (all_owned g x before stands).control k (control_is_born g x.control (control_of before) (control_runs g x before stands) k control) in
+    let mine = (all_owned g x before stands).control k
+    (control_is_born g x.control (control_of before) (control_runs g x before stands) k control) in
     let theirs = subst (λ (o : Option ℕ). IfSome o (λ j. (j ≡ l) × (owner j (entries before) ≡ inbound_link))) (ap link_of same ∙ on) own in
     (let no : control_plane ≡ inbound_link = sym mine ∙ theirs.1 in cc)
 other_part g x before stands l (part.up s en) z is own k on control =
     let same : en ≡ z = cc in
-    let mine = (all_owned g x before stands).control k (control_is_born g x.control (control_of before) (control_runs g x before stands) k control) in
+    let mine = (all_owned g x before stands).control k
+    (control_is_born g x.control (control_of before) (control_runs g x before stands) k control) in
     let theirs = subst (λ (o : Option ℕ). IfSome o (λ j. owner j (entries before) ≡ upstream_of l s)) (ap link_of same ∙ on) own in
     (let no : control_plane ≡ upstream_of l s = sym mine ∙ theirs in cc)
 other_part g x before stands l _ z is own k on control = absurd cc
@@ -181,11 +185,14 @@ obey_entries g x points stands = record {
       (rests_none_ended g x.control (control_of before) (control_runs g x before stands) rests)
       (other_part g x before stands l p z is own)) g x points stands;
   applied = at_all AllMayBeApplied applied_at_once
-      (λ g x before l p z stands rests is own. rests_applied g x.control (control_of before) (control_runs g x before stands) rests) g x points stands;
+      (λ g x before l p z stands rests is own.
+      rests_applied g x.control (control_of before) (control_runs g x before stands) rests) g x points stands;
   looked = at_all AllLookedAt look_at_all
-      (λ g x before l p z stands rests is own. rests_looked g x.control (control_of before) (control_runs g x before stands) rests) g x points stands;
+      (λ g x before l p z stands rests is own.
+      rests_looked g x.control (control_of before) (control_runs g x before stands) rests) g x points stands;
   heard = at_all AllHeard hear_all
-      (λ g x before l p z stands rests is own. rests_heard g x.control (control_of before) (control_runs g x before stands) rests) g x points stands;
+      (λ g x before l p z stands rests is own.
+      rests_heard g x.control (control_of before) (control_runs g x before stands) rests) g x points stands;
 }
 
 pub obey_control : RunsObeyControl

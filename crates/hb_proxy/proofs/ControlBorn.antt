@@ -34,9 +34,12 @@ module _ (g : NodeConfig) (m : Machine) where
   open_born l is = ⊎_elim (λ h. born_in _ live h tt) (λ h. born_in _ (faulted h.0) h.1 tt) is
 
   pub control_born : (z : Entry) → MayCome g m z → (l : ℕ) → link_of z ≡ Some l → IsBorn (m.links l).phase
-  control_born (e.Opened k) may l is = (let same : k ≡ l = cc in subst (λ (j : ℕ). IsBorn (m.links j).phase) same (born_in _ dialling may.1 tt))
-  control_born (e.Came k bytes) may l is = (let same : k ≡ l = cc in subst (λ (j : ℕ). IsBorn (m.links j).phase) same (born_in _ live may.0.1 tt))
-  control_born (e.Ended k) may l is = (let same : k ≡ l = cc in subst (λ (j : ℕ). IsBorn (m.links j).phase) same (born_in _ live may.0.1 tt))
+  control_born (e.Opened k) may l is =
+      let same : k ≡ l = cc in subst (λ (j : ℕ). IsBorn (m.links j).phase) same (born_in _ dialling may.1 tt)
+  control_born (e.Came k bytes) may l is =
+      let same : k ≡ l = cc in subst (λ (j : ℕ). IsBorn (m.links j).phase) same (born_in _ live may.0.1 tt)
+  control_born (e.Ended k) may l is =
+      let same : k ≡ l = cc in subst (λ (j : ℕ). IsBorn (m.links j).phase) same (born_in _ live may.0.1 tt)
   control_born (e.Broke k) may l is =
       let same : k ≡ l = cc in
       subst (λ (j : ℕ). IsBorn (m.links j).phase) same
@@ -65,7 +68,8 @@ module _ (g : NodeConfig) (m : Machine) where
   control_born (e.Wait ready how) may l is = absurd cc
 
 -- a point that is no birth bears no link
-born_next : (k : ℕ) (x y : Discovery) (p : Point) → list_any is_birth (entry_in p) ≡ false → Becomes k x y p → IsBorn y.phase → IsBorn x.phase
+born_next : (k : ℕ) (x y : Discovery) (p : Point) → list_any is_birth (entry_in p) ≡ false → Becomes k x y p → IsBorn y.phase
+    → IsBorn x.phase
 born_next k x y p none (stays silent now same) born = subst IsBorn now born
 born_next k x y p none (is_born to why is at now first) born =
     absurd (false≢true (sym none ∙ ap (λ (q : Point). list_any is_birth (entry_in q)) is))

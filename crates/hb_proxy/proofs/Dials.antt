@@ -43,7 +43,8 @@ without_same k (Some j) apart = ap (λ b. cond b None (Some j)) (ne_eqb k j (λ 
 without_some : (l k : ℕ) (o : Option ℕ) → without l o ≡ Some k → o ≡ Some k
 without_some l k None is = is
 without_some l k (Some j) is =
-    cond_both (l == j) None (Some j) (λ v. v ≡ Some k → Some j ≡ Some k) (λ same none. absurd (let no : None ≡ Some k = none in cc)) (λ apart h. h) is
+    cond_both (l == j) None (Some j) (λ v. v ≡ Some k → Some j ≡ Some k)
+    (λ same none. absurd (let no : None ≡ Some k = none in cc)) (λ apart h. h) is
 
 -- the link that a trace has dialled to the control plane and not closed is one to it
 after_known : (old new : ℕ → Owner) (d : Dialling) (z : Entry) → ((k : ℕ) → d.control ≡ Some k → old k ≡ control_plane)
@@ -72,7 +73,8 @@ known g y more (goes_on {x = x} {points = points} stands p steps are) =
   where
     grows : (k : ℕ) → owner k (entries points) ≡ control_plane → owner k (entries (points ++ p ∷ [])) ≡ control_plane
     grows k mine =
-        ⊎_elim (λ none. absurd (let no : nobody ≡ control_plane = sym none ∙ mine in cc)) (λ same. same ∙ mine) (owner_grows g x points stands p y steps k)
+        ⊎_elim (λ none. absurd (let no : nobody ≡ control_plane = sym none ∙ mine in cc)) (λ same. same ∙ mine)
+        (owner_grows g x points stands p y steps k)
 
     birth : (z : Entry) → entry_in p ≡ z ∷ [] → (l : ℕ) (to : Target) → z ≡ e.Dialled l to whys.Discovery
         → owner l (entries (points ++ p ∷ [])) ≡ control_plane
@@ -190,7 +192,8 @@ part_late l x _ next steps z is = absurd cc
 -- while it goes on none is due where an entry of another part stands
 part_undue : (g : NodeConfig) (before : List Entry) → (dialling before).due ≡ false → (l : ℕ) (x : Machine) (p : Part) (next : _)
     → inbound.Steps l (local x l) p next → (z : Entry) → part.entry_in p ≡ z ∷ [] → DialMayStand g before z
-part_undue g before none l x (part.entry en) next steps z is = (let same : en ≡ z = cc in subst (DialMayStand g before) same (by en steps.0))
+part_undue g before none l x (part.entry en) next steps z is =
+    (let same : en ≡ z = cc in subst (DialMayStand g before) same (by en steps.0))
   where
     by : (en : Entry) → MayCome l (x.inbound l) en → DialMayStand g before en
     by (e.Dialled k to why) may = absurd may
@@ -201,7 +204,8 @@ part_undue g before none l x (part.entry en) next steps z is = (let same : en �
     by (e.Balked (way.Read k)) may = none
     by (e.Balked (way.Write k)) may = none
     by _ may = none
-part_undue g before none l x (part.up s en) next steps z is = (let same : en ≡ z = cc in subst (DialMayStand g before) same (by en steps.0))
+part_undue g before none l x (part.up s en) next steps z is =
+    (let same : en ≡ z = cc in subst (DialMayStand g before) same (by en steps.0))
   where
     by : (en : Entry) → UpMayCome l s (x.inbound l) ((x.inbound l).tunnels s) en → DialMayStand g before en
     by (e.Dialled u to why) may = subst (λ (w : Why). DialMayStand g before (e.Dialled u to w)) (sym may.4) none

@@ -40,7 +40,8 @@ kinds g x points (begins is none) n =
     ap (λ (ps : List Point). list_any (is_control_of n) (entries ps)) none
     ∙ sym (ap (λ (ps : List Point). list_any (is_control_of n) (point.entries (control_of ps))) none)
 kinds g y more (goes_on {x = x} {points = points} stands p steps are) n =
-    subst (λ (ps : List Point). list_any (is_control_of n) (entries ps) ≡ list_any (is_control_of n) (point.entries (control_of ps))) (sym are)
+    subst (λ (ps : List Point). list_any (is_control_of n) (entries ps) ≡ list_any (is_control_of n) (point.entries (control_of ps)))
+    (sym are)
     (ap (list_any (is_control_of n)) (one_more entry_in points p) ∙ list_any-append (is_control_of n) (entries points) (entry_in p)
     ∙ by p steps (kinds g x points stands n))
   where

@@ -66,7 +66,8 @@ alike_owned x y whose owned alike = record {
 
 -- A BIRTH
 
-module _ (x y : Machine) (whose : ℕ → Owner) (owned : Owned x whose) (k : ℕ) (next : k ≡ x.born + 1) (w : Owner) (is_born_now : y.born ≡ k) where
+module _ (x y : Machine) (whose : ℕ → Owner) (owned : Owned x whose) (k : ℕ) (next : k ≡ x.born + 1) (w : Owner)
+    (is_born_now : y.born ≡ k) where
   -- whose each link is then
   abbrev then : ℕ → Owner
   then n = cond (k == n) w (whose n)
@@ -97,7 +98,8 @@ module _ (x y : Machine) (whose : ℕ → Owner) (owned : Owned x whose) (k : �
       → ((l s : ℕ) → w ≡ upstream_of l s → whose l ≡ inbound_link)
       → Owned y then
   born_owned control link up alone over = record {
-    unborn = λ n above. there n (λ same. omega (arith, above, is_born_now, same)) ∙ owned.unborn n (omega (arith, above, is_born_now, next));
+    unborn = λ n above. there n (λ same. omega (arith, above, is_born_now, same))
+        ∙ owned.unborn n (omega (arith, above, is_born_now, next));
     none = there 0 (λ same. omega (arith, same, next)) ∙ owned.none;
     control = λ n born. ⊎_elim (λ h. here n h.0 ∙ h.1) (λ old. kept n control_plane (λ same. cc) (owned.control n old)) (control n born);
     link = λ l born. ⊎_elim (λ h. here l h.0 ∙ h.1) (λ old. kept l inbound_link (λ same. cc) (owned.link l old)) (link l born);
@@ -189,7 +191,8 @@ module _ (g : NodeConfig) (x : Machine) (whose : ℕ → Owner) (owned : Owned x
       let is_next : next ≡ inbound.with_phase inbound.arriving (x.inbound l) = ap (λ (c : runs.Local). c.link) steps.1 in
       born_owned x y whose owned k number w refl
       (λ n was. inr was)
-      (λ j. cond_both (j == l) next (x.inbound j) (λ z. is_born z.phase ≡ true → ((k ≡ j) × (w ≡ inbound_link)) ⊎ (is_born (x.inbound j).phase ≡ true))
+      (λ j. cond_both (j == l) next (x.inbound j)
+      (λ z. is_born z.phase ≡ true → ((k ≡ j) × (w ≡ inbound_link)) ⊎ (is_born (x.inbound j).phase ≡ true))
       (λ is now. inl (steps.0.0 ∙ sym (eqb-true j l is), mine)) (λ apart was. inr was))
       (λ j s. cond_both (j == l) next (x.inbound j) (λ z. Owns (λ n. behind (e.Accepted k d) n) j s (z.tunnels s))
       (λ is. subst (λ (z : Inbound). Owns (λ n. behind (e.Accepted k d) n) j s (z.tunnels s)) (sym is_next)
@@ -217,7 +220,8 @@ module _ (g : NodeConfig) (x : Machine) (whose : ℕ → Owner) (owned : Owned x
       let here_now : behind z u ≡ upstream_of l s = here x y whose owned u number w refl u refl ∙ mine in
       born_owned x y whose owned u number w refl
       (λ n was. inr was)
-      (λ j. cond_both (j == l) next (x.inbound j) (λ v. is_born v.phase ≡ true → ((u ≡ j) × (w ≡ inbound_link)) ⊎ (is_born (x.inbound j).phase ≡ true))
+      (λ j. cond_both (j == l) next (x.inbound j)
+      (λ v. is_born v.phase ≡ true → ((u ≡ j) × (w ≡ inbound_link)) ⊎ (is_born (x.inbound j).phase ≡ true))
       (λ is now. inr (subst (λ (i : ℕ). is_born (x.inbound i).phase ≡ true) (sym (eqb-true j l is)) lives)) (λ apart was. inr was))
       (λ j t. cond_both (j == l) next (x.inbound j) (λ v. Owns (behind z) j t (v.tunnels t))
       (λ is. subst (λ (i : ℕ). Owns (behind z) i t (next.tunnels t)) (sym (eqb-true j l is))
@@ -267,7 +271,8 @@ born_all (z ∷ es) none born =
     let both = neither (is_birth z) (list_any is_birth es) none in
     ap (λ (b : ℕ). born_after b es) (born_same z both.0 born) ∙ born_all es both.1 born
 
-module _ (g : NodeConfig) (x : Machine) (points : List Point) (stands : StandsFor g x points) (whose : ℕ → Owner) (owned : Owned x whose) where
+module _ (g : NodeConfig) (x : Machine) (points : List Point) (stands : StandsFor g x points) (whose : ℕ → Owner)
+    (owned : Owned x whose) where
   seen_stays : (q : point.Point) (l : ℕ) → LinkStays l (x.inbound l) (seen_by x.control.held q (x.inbound l))
   seen_stays (point.applied k r) l = applied_stays l (after_response x.control.held r) (x.inbound l)
   seen_stays (point.stopped why) l = stopped_stays l why (x.inbound l)

@@ -124,12 +124,14 @@ places P before (of_control y ∷ points) each (q ∷ front) l p behind are =
     let same : of_control y ≡ q = cc in
     let rest : points ≡ front ++ of_link l p ∷ behind = cc in
     subst (λ (ps : List Point). P ps l p) (append_assoc before (q ∷ []) front)
-    (subst (λ (z : Point). P ((before ++ z ∷ []) ++ front) l p) same (places P (before ++ of_control y ∷ []) points each front l p behind rest))
+    (subst (λ (z : Point). P ((before ++ z ∷ []) ++ front) l p) same
+    (places P (before ++ of_control y ∷ []) points each front l p behind rest))
 places P before (of_link k y ∷ points) each (q ∷ front) l p behind are =
     let same : of_link k y ≡ q = cc in
     let rest : points ≡ front ++ of_link l p ∷ behind = cc in
     subst (λ (ps : List Point). P ps l p) (append_assoc before (q ∷ []) front)
-    (subst (λ (z : Point). P ((before ++ z ∷ []) ++ front) l p) same (places P (before ++ of_link k y ∷ []) points each.1 front l p behind rest))
+    (subst (λ (z : Point). P ((before ++ z ∷ []) ++ front) l p) same
+    (places P (before ++ of_link k y ∷ []) points each.1 front l p behind rest))
 
 pub goes_on_admitted : GoesOnAdmitted
 unfolding Places

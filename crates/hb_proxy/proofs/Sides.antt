@@ -308,11 +308,14 @@ module _ (on : ℕ → Entry → List ℕ) (by : Entry → List ℕ) (link_in : 
       (λ apart. refl))
   none_shares whose (of_link l p) none =
       nothing_shared whose (of_link l p) (λ n. refl) (λ n. refl)
-      (λ n. cond_both (l == n) (p ∷ []) [] (λ ps. flat_map link_in ps ≡ []) (λ same. ap (λ b. b ++ []) (way.link_other p refl)) (λ apart. refl))
-      (λ j s. cond_both (l == j) (p ∷ []) [] (λ ps. flat_map (up_in s) ps ≡ []) (λ same. ap (λ b. b ++ []) (way.up_other s p refl)) (λ apart. refl))
+      (λ n. cond_both (l == n) (p ∷ []) [] (λ ps. flat_map link_in ps ≡ []) (λ same. ap (λ b. b ++ []) (way.link_other p refl))
+      (λ apart. refl))
+      (λ j s. cond_both (l == j) (p ∷ []) [] (λ ps. flat_map (up_in s) ps ≡ []) (λ same. ap (λ b. b ++ []) (way.up_other s p refl))
+      (λ apart. refl))
 
   -- every point, where its entry stands on a link of its own
-  point_shares : (before : List Point) (x : Machine) → Owned x (whose_in before) → (p : Point) → OwnAt before p → SharesAt (whose_in before) p
+  point_shares : (before : List Point) (x : Machine) → Owned x (whose_in before) → (p : Point) → OwnAt before p
+      → SharesAt (whose_in before) p
   point_shares before x owned (of_control (point.entry z)) own = by_link (link_of z) refl own
     where
       by_link : (o : Option ℕ) → link_of z ≡ o → IfSome o (λ l. whose_in before l ≡ control_plane)
@@ -349,8 +352,8 @@ module _ (on : ℕ → Entry → List ℕ) (by : Entry → List ℕ) (link_in : 
   abbrev IsOnce : (ℕ → Owner) → Type 0
   IsOnce whose = (l s u v : ℕ) → whose u ≡ upstream_of l s → whose v ≡ upstream_of l s → u ≡ v
 
-  module _ (old new : ℕ → Owner) (points : List Point) (p : Point) (so_far : SharesIn old points) (now : SharesAt old p) (grows : Grows old new)
-      (once : IsOnce new) where
+  module _ (old new : ℕ → Owner) (points : List Point) (p : Point) (so_far : SharesIn old points) (now : SharesAt old p)
+      (grows : Grows old new) (once : IsOnce new) where
     all_more : (n : ℕ) → flat_map (on n) (entries (points ++ p ∷ [])) ≡ flat_map (on n) (entries points) ++ told n p
     all_more n = ap (flat_map (on n)) (one_more entry_in points p) ∙ flat_map-append (on n) (entries points) (entry_in p)
 
@@ -383,8 +386,11 @@ module _ (on : ℕ → Entry → List ℕ) (by : Entry → List ℕ) (link_in : 
           ∙ picked pick_control picks_control n _ _ (so_far.controls n) (now.controls n);
       links = λ n. ap (flat_map link_in) (one_more (part_in n) points p) ∙ flat_map-append link_in (parts_of n points) (part_in n p)
           ∙ picked pick_link picks_link n _ _ (so_far.links n) (now.links n);
-      ups = λ l s u is. ⊎_elim (λ none. up_none l s (newly l s u is none) ∙ sym (all_more u ∙ ap₂ (λ a b. a ++ b) (so_far.nobodys u none) (now.nobodys u none)))
-          (λ same. up_more l s ∙ ap₂ (λ a b. a ++ b) (so_far.ups l s u (sym same ∙ is)) (now.ups l s u (sym same ∙ is)) ∙ sym (all_more u)) (grows u);
+      ups = λ l s u is. ⊎_elim
+          (λ none. up_none l s (newly l s u is none)
+          ∙ sym (all_more u ∙ ap₂ (λ a b. a ++ b) (so_far.nobodys u none) (now.nobodys u none)))
+          (λ same. up_more l s ∙ ap₂ (λ a b. a ++ b) (so_far.ups l s u (sym same ∙ is)) (now.ups l s u (sym same ∙ is))
+          ∙ sym (all_more u)) (grows u);
       no_up = λ l s none. up_none l s (λ u is. none u (stays (upstream_of l s) (λ same. cc) u is));
       nobodys = λ n is. all_more n ∙ ⊎_elim (λ none. ap₂ (λ a b. a ++ b) (so_far.nobodys n none) (now.nobodys n none))
           (λ same. ap₂ (λ a b. a ++ b) (so_far.nobodys n (sym same ∙ is)) (now.nobodys n (sym same ∙ is))) (grows n);

@@ -276,10 +276,12 @@ module _ (l : ℕ) (start : Resources) (a : Local) (parts : List Part) (stands :
       → (bytes : List ℕ) (conn : Connection) → LinkStays l a.link (told_of told headers bytes (record a.link { conn = conn }))
   told_stays ps (found.Opened s end) headers b steps bytes conn =
       let new = new_streams l start a parts stands s end steps.2 steps.3.finds in
-      one_stays s (λ t. requested_with headers end) (told_of (found.Opened s end) headers bytes (record a.link { conn = conn })) refl (λ k. refl)
+      one_stays s (λ t. requested_with headers end) (told_of (found.Opened s end) headers bytes (record a.link { conn = conn })) refl
+      (λ k. refl)
       (λ whose old. ((subst (λ (stage : Stage). OwnsBy stage whose l s (a.link.tunnels s).up) new old).0, refl))
   told_stays ps (found.Chunk s end) headers b steps bytes conn =
-      one_stays s (came_up bytes) (told_of (found.Chunk s end) headers bytes (record a.link { conn = conn })) refl (λ k. refl) (λ whose old. old)
+      one_stays s (came_up bytes) (told_of (found.Chunk s end) headers bytes (record a.link { conn = conn })) refl (λ k. refl)
+      (λ whose old. old)
   told_stays ps (found.Ended s) headers b steps bytes conn =
       one_stays s peer_ended (told_of (found.Ended s) headers bytes (record a.link { conn = conn })) refl (λ k. refl) (λ whose old. old)
   told_stays ps (found.Reset s code) headers b steps bytes conn =

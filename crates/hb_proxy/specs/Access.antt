@@ -39,7 +39,8 @@ came_behind l points = behind_front (front_size (parts_of l points)) (recv l (en
 -- that came behind the front header and went; and each DATA frame with payload that begins with them is of a tunnel that is admitted
 pub record GoesAdmitted (g : NodeConfig) (before : List Point) (l : ℕ) (bytes : List ℕ) : Type 0 where
   pub conn : Connection
-  pub stands : StandsFor Server (moves (parts_of l before)) (tellings (parts_of l before)) (came_behind l before) (sent l (entries before)) conn
+  pub stands : StandsFor Server (moves (parts_of l before)) (tellings (parts_of l before)) (came_behind l before)
+      (sent l (entries before)) conn
   pub rest : List ℕ
   pub first : output conn ≡ bytes ++ rest
   pub admitted : AllByRecursion (λ f. has_data f ≡ true → IsAdmitted g before l f.stream) (frames_begun (length bytes) conn)

@@ -1,8 +1,11 @@
 -- What every run of the whole proxy obeys.
 use Rattle.std.specs.Prelude.{◌≡◌, ℕ, List}
 use Rattle.hb_held.specs.Held.{Resources}
+use Rattle.hb_inbound.specs.Closes.{CloseLaw}
 use Rattle.hb_inbound.specs.Connections.{ConnectionLaw, WindowLaw}
+use Rattle.hb_inbound.specs.Dials as inbound_dials
 use Rattle.hb_inbound.specs.Ends as inbound_ends
+use Rattle.hb_inbound.specs.Notes.{NoteLaw}
 use Rattle.hb_inbound.specs.Part.{Part}
 use Rattle.hb_inbound.specs.Rings.{RingLaw}
 use Rattle.hb_inbound.specs.Runs as inbound
@@ -67,16 +70,19 @@ abbrev pub RunsEnd : Type 0
 RunsEnd = (g : NodeConfig) (x : Machine) (points : List Point) → StandsFor g x points → EndLaw g points
 
 -- the laws of one inbound link
-pub record LinkLaws (start : Resources) (parts : List Part) : Type 0 where
+pub record LinkLaws (start : Resources) (l : ℕ) (parts : List Part) : Type 0 where
   pub connection : ConnectionLaw parts
   pub windows : WindowLaw parts
   pub rings : RingLaw parts
   pub ends : inbound_ends.EndLaw start parts
+  pub closes : CloseLaw parts
   pub verdicts : VerdictLaw start parts
+  pub dials : inbound_dials.DialLaw start parts
+  pub notes : NoteLaw start l parts
 
 abbrev pub RunsObeyLinks : Type 0
 RunsObeyLinks = (g : NodeConfig) (x : Machine) (points : List Point) (l : ℕ) → StandsFor g x points
-    → LinkLaws (at_start g) (parts_of l points)
+    → LinkLaws (at_start g) l (parts_of l points)
 
 -- WHAT IS SAID OF THE CONTROL PLANE
 

@@ -129,4 +129,5 @@ RunMayGo = (g : NodeConfig) → (x : Machine) × StandsFor g x (begun g.discover
 -- so the laws let it
 abbrev pub RunIsLawful : Type 0
 RunIsLawful = (g : NodeConfig) → let points = begun g.discovery in
-    OwnLaw points × NumberLaw (entries points) × DialLaw g points × EndLaw g points × AccessLaw g points × RelayLaw points × EntryLaws points
+    OwnLaw points × NumberLaw (entries points) × DialLaw g points × EndLaw g points × AccessLaw g points × RelayLaw points
+    × EntryLaws points

@@ -3,8 +3,8 @@
 ghost use Rattle.hb_proxy.specs.Laws.{ControlRuns, LinksRun, LinksHold, RunsOwn, RunsNumber, RunsDialOnce, RunsShareSides};
 ghost use Rattle.hb_proxy.specs.Laws.{RunsAdmit, RunsRelay, RunsEnd, RunsObeyLinks, RunsDial, RunsObeyEntries, RunsObeyControl};
 ghost use Rattle.hb_proxy.specs.Refused.{ComesUnborn, ReadsUnborn, ReadsAnothers, BornTwice, BornAgain, SeesAlone, SeeAll};
-ghost use Rattle.hb_proxy.specs.Refused.{AnswersAnother, AnswersControl, WritesBehind, ReadsBehind, TicksBehind, InventsByte, GoesOnAdmitted, RunMayGo};
-ghost use Rattle.hb_proxy.specs.Refused.{AcceptsFirst, ReadsEnded, RunIsLawful};
+ghost use Rattle.hb_proxy.specs.Refused.{AnswersAnother, AnswersControl, WritesBehind, ReadsBehind, TicksBehind, InventsByte};
+ghost use Rattle.hb_proxy.specs.Refused.{AcceptsFirst, ReadsEnded, GoesOnAdmitted, RunMayGo, RunIsLawful};
 
 /// The points of the control plane are a run of its machine, and what happens to each inbound link is a run of that link's, with the
 /// resources that the control plane holds.
@@ -41,8 +41,8 @@ pub fn ends_go_first()
     ensures { RunsEnd }
 {}
 
-/// Each inbound link's connection is one history, its DATA fits the windows and the rings, its tunnels end for the first cause that applies, and its
-/// requests get the answers that are due.
+/// Each inbound link's connection is one history, and its DATA fits the windows and the rings. Its tunnels and the link itself end for the
+/// first cause that applies; its requests get the answers and the dials that are due; and each answer and end has its note.
 pub fn links_obey()
     ensures { RunsObeyLinks }
 {}
