@@ -3,8 +3,9 @@ use Rattle.std.proofs.Common.{◌≡◌, inl, ℕ, Bool, true, false, List, [], 
 use Rattle.std.proofs.lemmas.Bool.{both_ways, false≢true}
 use Rattle.hb_inbound.specs.Part as part
 use Rattle.hb_inbound.specs.Part.{Part}
+use Rattle.hb_model.proofs.AllPut.{put_all}
 use Rattle.hb_model.proofs.Births.{plain}
-use Rattle.hb_model.proofs.CallsLives.{lived}
+use Rattle.hb_model.proofs.CallsLives.{lived, calls_in_order}
 use Rattle.hb_model.proofs.CallsPhases.{Fits}
 use Rattle.hb_model.proofs.CallsSaid.{Said, seen}
 use Rattle.hb_model.proofs.DialsHeld.{is_held, other-rests}
@@ -33,7 +34,7 @@ use Rattle.hb_world.specs.declared.entry.Entry.{Entry}
 use Rattle.hb_world.specs.declared.entry.Entry.TheVariants as e
 use Rattle.hb_world.specs.declared.entry.Way.TheVariants as way
 use Rattle.hb_proxy.specs.Control.{AtEntries}
-use Rattle.hb_proxy.specs.Laws.{RunsObeyEntries, RunsObeyControl}
+use Rattle.hb_proxy.specs.Laws.{RunsObeyEntries, RunsObeyControl, RunsPutAll}
 use Rattle.hb_proxy.specs.Machine.{Machine}
 use Rattle.hb_proxy.specs.Owners.{control_plane, inbound_link, upstream_of, owner, link_of, PartStands}
 use Rattle.hb_proxy.specs.Points.{Point, of_control, of_link, entry_in, entries, control_of}
@@ -199,6 +200,7 @@ pub obey_control : RunsObeyControl
 obey_control g x points stands =
     let runs = control_runs g x points stands in
     record {
+      calls = calls_in_order g x.control (control_of points) runs;
       inner = obey_inner g x.control (control_of points) runs;
       messages = obey_messages g x.control (control_of points) runs;
       connections = obey_connections g x.control (control_of points) runs;
@@ -206,3 +208,7 @@ obey_control g x points stands =
       frames = send_own_frames g x.control (control_of points) runs;
       windows = obey_windows g x.control (control_of points) runs;
     }
+
+pub puts_all : RunsPutAll
+puts_all g x points l stands alive calm none =
+    put_all g x.control (control_of points) l (control_runs g x points stands) alive calm none

@@ -16,7 +16,7 @@ use Rattle.hb_model.proofs.Grown.{one_more}
 use Rattle.hb_model.proofs.MessagesRun.{held_is}
 use Rattle.hb_model.specs.declared.config.NodeConfig.{NodeConfig}
 use Rattle.hb_proxy.specs.Held.{at_start}
-use Rattle.hb_proxy.specs.Laws.{ControlRuns, LinksRun, LinksHold}
+use Rattle.hb_proxy.specs.Laws.{ControlRuns, ControlHolds, LinksRun, LinksHold}
 use Rattle.hb_proxy.specs.Machine.{Machine, local, with_control, with_part}
 use Rattle.hb_proxy.specs.Points.{Point, of_control, of_link, control_in, control_of, part_in, parts_of}
 use Rattle.hb_proxy.specs.Runs.{Steps, begins, goes_on}
@@ -125,8 +125,11 @@ links_run g y more l (goes_on {x = x} {points = points} stands p steps are) =
     subst (λ (ps : List Point). inbound.StandsFor l (at_start g) (local y l) (parts_of l ps)) (sym are)
     (link_goes g x points l (links_run g x points l stands) p y steps)
 
+pub control_holds : ControlHolds
+control_holds g x points stands = held_is g x.control (control_of points) (control_runs g x points stands)
+
 -- what is held there is what the control plane's responses make
 pub links_hold : LinksHold
 links_hold g x points l stands =
     (all_admit l (at_start g) (local x l) (parts_of l points) (links_run g x points l stands)).holds
-    ∙ held_is g x.control (control_of points) (control_runs g x points stands)
+    ∙ control_holds g x points stands

@@ -1,5 +1,6 @@
 -- The laws of the links to the control plane, said at each entry of the whole trace.
 use Rattle.std.specs.Prelude.{◌≡◌, List, [], ◌∷◌, ◌++◌}
+use Rattle.hb_model.specs.Calls.{CallsLaw}
 use Rattle.hb_model.specs.Connections.{ConnectionLaw}
 use Rattle.hb_model.specs.Ends.{EndMayStand}
 use Rattle.hb_model.specs.Frames.{FrameLaw}
@@ -28,6 +29,7 @@ pub record EntryLaws (points : List Point) : Type 0 where
 
 -- what is said of the control plane's points, by whose bytes are those of the trace
 pub record ControlLaws (g : NodeConfig) (points : List model.Point) : Type 0 where
+  pub calls : CallsLaw (model.entries points)
   pub inner : InnerLaw points
   pub messages : MessagesLaw points
   pub connections : ConnectionLaw points

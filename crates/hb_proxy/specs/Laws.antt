@@ -1,5 +1,5 @@
 -- What every run of the whole proxy obeys.
-use Rattle.std.specs.Prelude.{◌≡◌, ℕ, List}
+use Rattle.std.specs.Prelude.{◌≡◌, ℕ, List, []}
 use Rattle.hb_held.specs.Held.{Resources}
 use Rattle.hb_inbound.specs.Closes.{CloseLaw}
 use Rattle.hb_inbound.specs.Connections.{ConnectionLaw, WindowLaw}
@@ -11,7 +11,10 @@ use Rattle.hb_inbound.specs.Rings.{RingLaw}
 use Rattle.hb_inbound.specs.Runs as inbound
 use Rattle.hb_inbound.specs.Sides as inbound_sides
 use Rattle.hb_inbound.specs.Verdicts.{VerdictLaw}
+use Rattle.hb_conn.specs.Observed.{output}
+use Rattle.hb_model.specs.Discovery.{live}
 use Rattle.hb_model.specs.Messages as messages
+use Rattle.hb_model.specs.Puts.{IsAllPut}
 use Rattle.hb_model.specs.Runs as model
 use Rattle.hb_model.specs.declared.config.NodeConfig.{NodeConfig}
 use Rattle.hb_proxy.specs.Access.{AccessLaw}
@@ -37,7 +40,11 @@ abbrev pub LinksRun : Type 0
 LinksRun = (g : NodeConfig) (x : Machine) (points : List Point) (l : ℕ) → StandsFor g x points
     → inbound.StandsFor l (at_start g) (local x l) (parts_of l points)
 
--- so what is held at an inbound link is what the control plane's responses make
+-- so what is held, by the control plane and at each inbound link, is what the control plane's responses make
+abbrev pub ControlHolds : Type 0
+ControlHolds = (g : NodeConfig) (x : Machine) (points : List Point) → StandsFor g x points
+    → x.control.held ≡ messages.held g (control_of points)
+
 abbrev pub LinksHold : Type 0
 LinksHold = (g : NodeConfig) (x : Machine) (points : List Point) (l : ℕ) → StandsFor g x points
     → inbound_sides.held (at_start g) (parts_of l points) ≡ messages.held g (control_of points)
@@ -97,3 +104,8 @@ RunsObeyEntries = (g : NodeConfig) (x : Machine) (points : List Point) → Stand
 -- and of its own points
 abbrev pub RunsObeyControl : Type 0
 RunsObeyControl = (g : NodeConfig) (x : Machine) (points : List Point) → StandsFor g x points → ControlLaws g (control_of points)
+
+-- where nothing waits on a link to it that lives, and nothing more happens on it by itself, all is put
+abbrev pub RunsPutAll : Type 0
+RunsPutAll = (g : NodeConfig) (x : Machine) (points : List Point) (l : ℕ) → StandsFor g x points → (x.control.links l).phase ≡ live
+    → model.IsCalm (x.control.links l) → output (x.control.links l).conn ≡ [] → IsAllPut g (control_of points) l

@@ -1,17 +1,18 @@
 //! Laws over every run of the whole proxy. Each is the contract of a function that does nothing.
 
-ghost use Rattle.hb_proxy.specs.Laws.{ControlRuns, LinksRun, LinksHold, RunsOwn, RunsNumber, RunsDialOnce, RunsShareSides};
-ghost use Rattle.hb_proxy.specs.Laws.{RunsAdmit, RunsRelay, RunsEnd, RunsObeyLinks, RunsDial, RunsObeyEntries, RunsObeyControl};
+ghost use Rattle.hb_proxy.specs.Laws.{ControlRuns, LinksRun, ControlHolds, LinksHold, RunsOwn, RunsNumber, RunsDialOnce, RunsShareSides};
+ghost use Rattle.hb_proxy.specs.Laws.{RunsAdmit, RunsRelay, RunsEnd, RunsObeyLinks, RunsDial, RunsObeyEntries, RunsObeyControl, RunsPutAll};
 ghost use Rattle.hb_proxy.specs.Refused.{ComesUnborn, ReadsUnborn, ReadsAnothers, BornTwice, BornAgain, SeesAlone, SeeAll};
 ghost use Rattle.hb_proxy.specs.Refused.{AnswersAnother, AnswersControl, WritesBehind, ReadsBehind, TicksBehind, InventsByte};
 ghost use Rattle.hb_proxy.specs.Refused.{AcceptsFirst, ReadsEnded, GoesOnAdmitted, RunMayGo, RunIsLawful};
 
 /// The points of the control plane are a run of its machine, and what happens to each inbound link is a run of that link's, with the
-/// resources that the control plane holds.
+/// resources that the control plane holds: those of its responses.
 pub fn parts_are_runs()
     ensures control { ControlRuns }
     ensures links { LinksRun }
-    ensures held { LinksHold }
+    ensures held { ControlHolds }
+    ensures shared { LinksHold }
 {}
 
 /// Each entry stands on a link of its own part, links are numbered in the order of births, and each upstream is of a stream of its own.
@@ -50,11 +51,12 @@ pub fn links_obey()
 /// At each entry of the trace, of whatever part, no link to the control plane has ended that isn't closed, but for the one write behind
 /// a connection error and closes; every response that came is applied, and every frame that came is looked at, and none of them ended
 /// the link's stream. While the run goes on the control plane is dialled exactly when it is due, and behind its end never. The control
-/// plane's points obey the laws of its machine.
+/// plane's points obey the laws of its machine, and where nothing waits on a link to it all that is due is put.
 pub fn control_plane_obeys()
     ensures dials { RunsDial }
     ensures entries { RunsObeyEntries }
     ensures own { RunsObeyControl }
+    ensures put { RunsPutAll }
 {}
 
 /// Nothing comes on a link that nobody bore, or that is another part's; no number is born twice; no link sees an update that another
