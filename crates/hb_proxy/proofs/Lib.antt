@@ -4,6 +4,7 @@ pub mod ControlBorn
 pub mod Dials
 pub mod Ends
 pub mod Known
+pub mod Leads
 pub mod Links
 pub mod Own
 pub mod Owned

@@ -4,6 +4,7 @@ pub mod Dials
 pub mod Ends
 pub mod Held
 pub mod Laws
+pub mod Leads
 pub mod Machine
 pub mod Owners
 pub mod Points

@@ -2,6 +2,7 @@
 
 ghost use Rattle.hb_proxy.specs.Laws.{ControlRuns, LinksRun, ControlHolds, LinksHold, RunsOwn, RunsNumber, RunsDialOnce, RunsShareSides};
 ghost use Rattle.hb_proxy.specs.Laws.{RunsAdmit, RunsRelay, RunsEnd, RunsObeyLinks, RunsDial, RunsObeyEntries, RunsObeyControl, RunsPutAll};
+ghost use Rattle.hb_proxy.specs.Leads.{LinksLead, LinksStep};
 ghost use Rattle.hb_proxy.specs.Refused.{ComesUnborn, ReadsUnborn, ReadsAnothers, BornTwice, BornAgain, SeesAlone, SeeAll};
 ghost use Rattle.hb_proxy.specs.Refused.{AnswersAnother, AnswersControl, WritesBehind, ReadsBehind, TicksBehind, InventsByte};
 ghost use Rattle.hb_proxy.specs.Refused.{AcceptsFirst, ReadsEnded, GoesOnAdmitted, RunMayGo, RunIsLawful};
@@ -13,6 +14,13 @@ pub fn parts_are_runs()
     ensures links { LinksRun }
     ensures held { ControlHolds }
     ensures shared { LinksHold }
+{}
+
+/// What follows by itself on an inbound link, and a part of it that the whole lets come, is a run of the whole, in which no other part
+/// changes: so whoever follows the machine of one link follows that of the whole.
+pub fn links_lead()
+    ensures step { LinksStep }
+    ensures lead { LinksLead }
 {}
 
 /// Each entry stands on a link of its own part, links are numbered in the order of births, and each upstream is of a stream of its own.
