@@ -29,7 +29,7 @@ use Rattle.hb_proxy.proofs.Places.{at_points}
 use Rattle.hb_proxy.proofs.Projection.{links_run}
 
 -- a link that is quiet has told of no connection error
-unfaulted : (phase : Phase) → close_due phase ≡ None → is_link_faulted phase ≡ false
+pub unfaulted : (phase : Phase) → close_due phase ≡ None → is_link_faulted phase ≡ false
 unfaulted (faulted code) none = absurd (let no : Some (cause.ConnFault code) ≡ None = none in cc)
 unfaulted unborn none = refl
 unfaulted arriving none = refl
@@ -51,12 +51,12 @@ unborn_quiet parts x is knows =
       idle = λ s. subst (λ (stage : Stage). IsIdleBy stage (x.tunnels s)) (sym (none s)) tt;
     }
 
+pub lets_quiet : (first : Bool) (y : Inbound) → first ≡ false → Lets first y → IsQuiet y
+lets_quiet first y is lets = subst (λ (b : Bool). Lets b y) is lets
+
 module _ (g : NodeConfig) (x : Machine) (before : List Point) (stands : StandsFor g x before) where
   closed_of : ((l : ℕ) → IsQuiet (x.inbound l)) → AllClosed g before
   closed_of quiet l = quiet_closed new_streams l (at_start g) (local x l) (parts_of l before) (links_run g x before l stands) (quiet l)
-
-  lets_quiet : (first : Bool) (y : Inbound) → first ≡ false → Lets first y → IsQuiet y
-  lets_quiet first y is lets = subst (λ (b : Bool). Lets b y) is lets
 
   -- an entry of a link that is quiet, and that doesn't go first, comes while all are
   all_closed : (l : ℕ) (z : Entry) → LinkMayCome x l z → is_act z ≡ false → IsQuiet (x.inbound l) → AllClosed g before

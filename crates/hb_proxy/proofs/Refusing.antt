@@ -1,5 +1,5 @@
 -- What steps and laws of the whole refuse, and what may go.
-use Rattle.std.proofs.Common.{◌≡◌, ℕ, ◌==◌, List, [], ◌∷◌, ◌++◌, Some, None, refl, ap, sym, ◌∙◌, subst, arith, true, false}
+use Rattle.std.proofs.Common.{◌≡◌, ℕ, ◌==◌, List, [], ◌∷◌, ◌++◌, Some, None, refl, ap, sym, ◌∙◌, subst, arith, true, false, ◌||◌, Bool, ⊎_elim}
 use Rattle.std.proofs.lemmas.Bool.{cond_both, false≢true}
 use Rattle.std.proofs.lemmas.List.{append-nil, append_assoc}
 use Rattle.hb_base.specs.declared.cause.Cause.TheVariants as cause
@@ -7,7 +7,7 @@ use Rattle.hb_base.specs.declared.door.Door.TheVariants as door
 use Rattle.hb_base.specs.declared.door.Why.TheVariants as whys
 use Rattle.hb_base.specs.declared.peer.Peer.{Peer}
 use Rattle.hb_held.specs.Outcome.{after_response}
-use Rattle.hb_inbound.specs.Calm.{IsCalm, IsQuiet}
+use Rattle.hb_inbound.specs.Calm.{IsCalm, IsQuiet, close_due}
 use Rattle.hb_inbound.specs.Inbound.{no_link, arriving, fronting, with_phase}
 use Rattle.hb_inbound.specs.Part as part
 use Rattle.hb_inbound.specs.Part.{Part}
@@ -25,12 +25,12 @@ use Rattle.hb_proxy.specs.Machine.{Machine, fresh, with_control, with_part}
 use Rattle.hb_proxy.specs.Owners.{nobody, control_plane, inbound_link}
 use Rattle.hb_proxy.specs.Points.{Point, of_control, of_link}
 use Rattle.hb_proxy.specs.Refused.{ComesUnborn, ReadsUnborn, ReadsAnothers, BornTwice, BornAgain, SeesAlone, SeeAll, AnswersAnother, AnswersControl}
-use Rattle.hb_proxy.specs.Refused.{lived, WritesBehind, ReadsBehind, TicksBehind, InventsByte, AcceptsFirst, ReadsEnded, GoesOnAdmitted, begun, RunMayGo, RunIsLawful}
-use Rattle.hb_proxy.specs.Runs.{ControlRests, StandsFor, begins, goes_on}
+use Rattle.hb_proxy.specs.Refused.{lived, WritesBehind, ReadsBehind, TicksBehind, InventsByte, DialsTwice, ComesWhileDue, DialsWhileDue, AcceptsBehindEnd, AcceptsFirst, ReadsEnded, GoesOnAdmitted, begun, RunMayGo, RunIsLawful}
+use Rattle.hb_proxy.specs.Runs.{link_first, ControlRests, StandsFor, begins, goes_on}
 use Rattle.hb_proxy.proofs.Access.{runs_admit}
 use Rattle.hb_proxy.proofs.Control.{obey_entries}
 use Rattle.hb_proxy.proofs.Dials.{runs_dial}
-use Rattle.hb_proxy.proofs.Ends.{runs_end}
+use Rattle.hb_proxy.proofs.Ends.{unfaulted, lets_quiet, runs_end}
 use Rattle.hb_proxy.proofs.Own.{runs_own, runs_number}
 use Rattle.hb_proxy.proofs.Relay.{runs_relay}
 use Rattle.hb_proxy.proofs.Stays.{is_born, may_born}
@@ -67,6 +67,22 @@ answers_another g x y l s u k to apart steps =
 
 pub answers_control : AnswersControl
 answers_control g x y l s u to steps = (let asked : whys.Upstream l s ≡ whys.Discovery = steps.1.0.3 in cc)
+
+pub dials_twice : DialsTwice
+dials_twice to law = (let same : 3 ≡ 4 = law 2 1 3 4 refl refl in absurd (omega (arith, same)))
+
+pub comes_while_due : ComesWhileDue
+comes_while_due g x y l k why bytes apart due steps =
+    let quiet = lets_quiet (link_first (x.inbound l).phase (e.Came l bytes)) (x.inbound k)
+    (ap (λ (b : Bool). b || false) (⊎_elim (λ h. unfaulted (x.inbound l).phase h.0.no_close) (λ h. unfaulted (x.inbound l).phase h.0.no_close)
+    steps.1.0.1.0)) (steps.2.others k apart) in
+    let none : Some why ≡ None = sym (ap close_due due) ∙ quiet.no_close in cc
+
+pub dials_while_due : DialsWhileDue
+dials_while_due g x y l s u to due steps = false≢true (sym steps.2.control.no_dial ∙ due)
+
+pub accepts_behind_end : AcceptsBehindEnd
+accepts_behind_end g x y l over steps = false≢true (sym steps.2.birth.1 ∙ over)
 
 pub writes_behind : WritesBehind
 writes_behind g to seen target note r bytes not law =

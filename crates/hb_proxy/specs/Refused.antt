@@ -1,5 +1,6 @@
 -- Small steps that no run of the whole proxy takes, small runs that its laws refuse, and some that may go.
-use Rattle.std.specs.Prelude.{◌≡◌, ◌≢◌, ℕ, false, List, [], ◌∷◌, ◌++◌}
+use Rattle.std.specs.Prelude.{◌≡◌, ◌≢◌, ℕ, true, false, List, [], ◌∷◌, ◌++◌}
+use Rattle.hb_base.specs.declared.cause.Cause.{Cause}
 use Rattle.hb_base.specs.declared.door.Door.TheVariants as door
 use Rattle.hb_base.specs.declared.door.Why.TheVariants as whys
 use Rattle.hb_base.specs.declared.note.Note.{Note}
@@ -7,7 +8,7 @@ use Rattle.hb_base.specs.declared.target.Target.{Target}
 use Rattle.hb_disco.specs.declared.response.Response.{Response}
 use Rattle.hb_front.specs.Reading.{Seen}
 use Rattle.hb_held.specs.Outcome.{after_response}
-use Rattle.hb_inbound.specs.Inbound.{unborn, rejudged}
+use Rattle.hb_inbound.specs.Inbound.{unborn, closing, rejudged}
 use Rattle.hb_inbound.specs.Part as part
 use Rattle.hb_inbound.specs.RefusedRuns.{IsRevoked, StaysIn}
 use Rattle.hb_model.specs.Point as point
@@ -20,7 +21,7 @@ use Rattle.hb_proxy.specs.Dials.{DialLaw}
 use Rattle.hb_proxy.specs.Ends.{EndLaw}
 use Rattle.hb_proxy.specs.Held.{at_start}
 use Rattle.hb_proxy.specs.Machine.{Machine}
-use Rattle.hb_proxy.specs.Owners.{OwnLaw, NumberLaw}
+use Rattle.hb_proxy.specs.Owners.{OwnLaw, NumberLaw, UpstreamLaw}
 use Rattle.hb_proxy.specs.Points.{Point, of_control, of_link, entries}
 use Rattle.hb_proxy.specs.Relay.{RelayLaw}
 use Rattle.hb_proxy.specs.Runs.{Steps, StandsFor}
@@ -67,6 +68,26 @@ AnswersAnother = (g : NodeConfig) (x y : Machine) (l s u k : ℕ) (to : Target)
 abbrev pub AnswersControl : Type 0
 AnswersControl = (g : NodeConfig) (x y : Machine) (l s u : ℕ) (to : Target)
     → Steps g x (of_control (point.entry (e.Dialled u to (whys.Upstream l s)))) y → ⊥
+
+abbrev pub DialsTwice : Type 0
+DialsTwice = (to : Target)
+    → UpstreamLaw (e.Dialled 3 to (whys.Upstream 2 1) ∷ e.Dialled 4 to (whys.Upstream 2 1) ∷ []) → ⊥
+
+-- AN ENTRY IN FRONT OF WHAT IS DUE ELSEWHERE
+
+-- bytes come on a link while another one is to be closed; an upstream is dialled while a dial of the control plane is due; a link is
+-- accepted behind the end of the run
+abbrev pub ComesWhileDue : Type 0
+ComesWhileDue = (g : NodeConfig) (x y : Machine) (l k : ℕ) (why : Cause) (bytes : List ℕ)
+    → k ≢ l → (x.inbound k).phase ≡ closing why → Steps g x (of_link l (part.entry (e.Came l bytes))) y → ⊥
+
+abbrev pub DialsWhileDue : Type 0
+DialsWhileDue = (g : NodeConfig) (x y : Machine) (l s u : ℕ) (to : Target)
+    → x.control.dials ≡ true → Steps g x (of_link l (part.up s (e.Dialled u to (whys.Upstream l s)))) y → ⊥
+
+abbrev pub AcceptsBehindEnd : Type 0
+AcceptsBehindEnd = (g : NodeConfig) (x y : Machine) (l : ℕ)
+    → x.control.over ≡ true → Steps g x (of_link l (part.entry (e.Accepted l door.Inbound))) y → ⊥
 
 -- A BYTE BEHIND AN UPDATE
 

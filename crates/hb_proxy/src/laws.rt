@@ -5,6 +5,7 @@ ghost use Rattle.hb_proxy.specs.Laws.{RunsAdmit, RunsRelay, RunsEnd, RunsObeyLin
 ghost use Rattle.hb_proxy.specs.Leads.{LinksLead, LinksStep};
 ghost use Rattle.hb_proxy.specs.Refused.{ComesUnborn, ReadsUnborn, ReadsAnothers, BornTwice, BornAgain, SeesAlone, SeeAll};
 ghost use Rattle.hb_proxy.specs.Refused.{AnswersAnother, AnswersControl, WritesBehind, ReadsBehind, TicksBehind, InventsByte};
+ghost use Rattle.hb_proxy.specs.Refused.{DialsTwice, ComesWhileDue, DialsWhileDue, AcceptsBehindEnd};
 ghost use Rattle.hb_proxy.specs.Refused.{AcceptsFirst, ReadsEnded, GoesOnAdmitted, RunMayGo, RunIsLawful};
 
 /// The points of the control plane are a run of its machine, and what happens to each inbound link is a run of that link's, with the
@@ -68,7 +69,8 @@ pub fn control_plane_obeys()
 {}
 
 /// Nothing comes on a link that nobody bore, or that is another part's; no number is born twice; no link sees an update that another
-/// doesn't see; no dial is answered to another part. Behind an update that no longer admits the peer no byte goes to the upstream, and
+/// doesn't see; no dial is answered to another part, and none is made twice for one stream. Nothing comes on a link while another one is to
+/// be closed, no upstream is dialled while the control plane is to be, and no link is accepted behind the end of the run. Behind an update that no longer admits the peer no byte goes to the upstream, and
 /// nothing comes on another link, nor a tick, before that is closed. No byte goes to an upstream that didn't come.
 /// No link is accepted before the control plane is dialled, and none is read while a link to it that ended isn't closed.
 pub fn wrong_runs_are_refused()
@@ -81,6 +83,10 @@ pub fn wrong_runs_are_refused()
     ensures together { SeeAll }
     ensures another { AnswersAnother }
     ensures control { AnswersControl }
+    ensures dialled { DialsTwice }
+    ensures due { ComesWhileDue }
+    ensures dial { DialsWhileDue }
+    ensures late { AcceptsBehindEnd }
     ensures writes { WritesBehind }
     ensures reads { ReadsBehind }
     ensures ticks { TicksBehind }
