@@ -1,5 +1,6 @@
 -- Notes that the law refuses, and a run whose notes it lets, proved.
-use Rattle.std.proofs.Common.{◌≡◌, inl, ℕ, ◌==◌, Bool, true, false, cond, [], ◌∷◌, ◌++◌, length, Some, None, refl, sym, ◌∙◌, arith}
+use Rattle.std.proofs.Common.{◌≡◌, inl, inr, ℕ, ◌==◌, Bool, true, false, cond, [], ◌∷◌, ◌++◌, length, Some, None, refl, ap, sym, ◌∙◌, arith}
+use Rattle.std.proofs.lemmas.Bool.{false≢true}
 use Rattle.std.proofs.lemmas.List.{append-nil, nil_from_length}
 use Rattle.hb_base.specs.declared.cause.Cause.{Cause}
 use Rattle.hb_base.specs.declared.cause.Cause.TheVariants as cause
@@ -10,12 +11,12 @@ use Rattle.hb_kept.specs.Payloads.{payloads}
 use Rattle.hb_kept.proofs.Begun.{left_of}
 use Rattle.hb_world.specs.declared.entry.Entry.TheVariants as e
 use Rattle.hb_inbound.specs.Ends.{none, pending, accepts, life, ended}
-use Rattle.hb_inbound.specs.Notes.{no_note, answer, end_of_it, NotesAt}
-use Rattle.hb_inbound.specs.NotesRefused.{asked_on, answer_note, accepted_on, NotesUnasked, NotesOther, NotesElsewhere, EndsUnaccepted, EndsAlive, EndsTwice, CountsNoneUp, CountsNoneDown, ReadsUnnoted, ClosesUnnoted, EndsUnnoted, NotesBoth}
+use Rattle.hb_inbound.specs.Notes.{no_note, answer, end_of_it, PutsNoStatus, NotesAt}
+use Rattle.hb_inbound.specs.NotesRefused.{asked_on, answer_note, accepted_on, NotesUnasked, NotesOther, NotesElsewhere, EndsUnaccepted, EndsAlive, EndsTwice, CountsNoneUp, CountsNoneDown, ReadsUnnoted, ClosesUnnoted, EndsUnnoted, failed_on, LeavesStanding, NotesBoth}
 use Rattle.hb_inbound.specs.Part.{entry, up, accepted, refused, left, done}
 use Rattle.hb_inbound.specs.RefusedRuns.{peer_in}
 use Rattle.hb_inbound.specs.RelayRefused.{one_octet}
-use Rattle.hb_inbound.specs.Runs.{counted, target_named}
+use Rattle.hb_inbound.specs.Runs.{counted, failure_status, target_named}
 use Rattle.hb_inbound.specs.Sides.{link_went}
 use Rattle.hb_inbound.proofs.RefusedRuns.{last, Places, places}
 use Rattle.hb_inbound.proofs.RelayRefused.{invents}
@@ -90,6 +91,18 @@ pub ends_unnoted : EndsUnnoted
 ends_unnoted start seen headers target law =
     let at = last (NotesAt start 2) (accepted_on seen headers target ++ up 1 (e.Broke 3) ∷ []) (left 1 None) law in
     let failed_so : false ≡ true = at.2 in cc
+
+pub leaves_standing : LeavesStanding
+leaves_standing start seen points headers target standing law =
+    let before = failed_on seen points headers target in
+    let at = last (NotesAt start 2) before (left 1 None) law in
+    let same : cause.UpFault ≡ at.0 = (let both : ended cause.UpFault ≡ ended at.0 = at.1 in cc) in
+    by at.0 same at.3
+  where
+    by : (why : Cause) → cause.UpFault ≡ why → PutsNoStatus (failed_on seen points headers target) 1 why → ⊥
+    by why same (inl none_due) = let none_left = ap failure_status same ∙ none_due in cc
+    by why same (inr (inl idle)) = idle refl
+    by why same (inr (inr (now, shut))) = false≢true (sym shut ∙ standing now)
 
 alive_on : (b : Bool) (target : Target) (why : Cause)
     → cond b (accepts (cond b (pending target) none)) (cond b (pending target) none) ≡ ended why → ⊥

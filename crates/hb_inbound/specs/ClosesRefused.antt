@@ -1,8 +1,9 @@
 -- Closes of a link that the law refuses, and two that it lets.
-use Rattle.std.specs.Prelude.{◌≢◌, ℕ, List, [], ◌∷◌, ◌++◌}
+use Rattle.std.specs.Prelude.{◌≡◌, ◌≢◌, ℕ, ◌==◌, false, List, [], ◌∷◌, ◌++◌}
 use Rattle.hb_base.specs.declared.cause.Cause.{Cause}
 use Rattle.hb_base.specs.declared.cause.Cause.TheVariants as cause
 use Rattle.hb_base.specs.declared.door.Door.TheVariants as door
+use Rattle.hb_conn.specs.Observed.{streams_open}
 use Rattle.hb_conn.specs.declared.found.Found.{Found}
 use Rattle.hb_conn.specs.declared.found.Found.TheVariants as found
 use Rattle.hb_front.specs.Faults.{number_of}
@@ -12,6 +13,8 @@ use Rattle.hb_history.specs.Points as history
 use Rattle.hb_hpack.specs.declared.header.HeaderList.{HeaderList}
 use Rattle.hb_world.specs.declared.entry.Entry.TheVariants as e
 use Rattle.hb_inbound.specs.Closes.{CloseLaw}
+use Rattle.hb_inbound.specs.Connections.{IsOneHistory}
+use Rattle.hb_inbound.specs.Ends.{is_fault_told}
 use Rattle.hb_inbound.specs.Part.{Part, entry, welcomed, crowded, fronted, misfronted, looked, stopped}
 
 -- link 2 is accepted, and its front header is whole
@@ -31,6 +34,15 @@ ClosesForSecond = (fault : FrontFault) (why : Cause) → cause.FrontFault (numbe
 
 abbrev pub ClosesBroken : Type 0
 ClosesBroken = (seen : Seen) → CloseLaw (served seen ++ entry (e.Ended 2) ∷ entry (e.Closed 2 cause.Broken) ∷ []) → ⊥
+
+-- a stream is open where its peer sends no more, and it is closed as done
+abbrev pub looked_on : Seen → List history.Point → Found → HeaderList → List Part
+looked_on seen points told headers = served seen ++ looked points told headers ∷ entry (e.Ended 2) ∷ []
+
+abbrev pub ClosesDone : Type 0
+ClosesDone = (seen : Seen) (points : List history.Point) (told : Found) (headers : HeaderList)
+    → ((now : IsOneHistory (looked_on seen points told headers)) → (streams_open now.conn == 0) ≡ false)
+    → is_fault_told told ≡ false → CloseLaw (looked_on seen points told headers ++ entry (e.Closed 2 cause.Done) ∷ []) → ⊥
 
 -- it is read behind its peer's end, looked at behind the run's stop, written twice behind a connection error, closed twice
 abbrev pub ReadsEnded : Type 0

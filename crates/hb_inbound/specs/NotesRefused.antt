@@ -1,16 +1,21 @@
 -- Notes that the law refuses, and a run whose notes it lets.
-use Rattle.std.specs.Prelude.{◌≢◌, ℕ, Bool, false, List, [], ◌∷◌, ◌++◌, Option, Some, None}
+use Rattle.std.specs.Prelude.{◌≡◌, ◌≢◌, ℕ, Bool, true, false, List, [], ◌∷◌, ◌++◌, Option, Some, None}
 use Rattle.hb_base.specs.declared.cause.Cause.TheVariants as cause
+use Rattle.hb_base.specs.declared.door.Why.TheVariants as whys
 use Rattle.hb_base.specs.declared.note.Note.{Note}
 use Rattle.hb_base.specs.declared.note.Note.TheVariants as note
 use Rattle.hb_base.specs.declared.target.Target.{Target}
+use Rattle.hb_conn.specs.Observed.{own_side_open}
 use Rattle.hb_conn.specs.declared.found.Found.TheVariants as found
 use Rattle.hb_front.specs.Reading.{Seen}
 use Rattle.hb_frames.specs.RawFrame.{spelling}
 use Rattle.hb_held.specs.Held.{Resources}
+use Rattle.hb_history.specs.Points as history
 use Rattle.hb_hpack.specs.declared.header.HeaderList.{HeaderList}
 use Rattle.hb_verdict.specs.declared.verdict.Verdict.TheVariants.{Dial}
 use Rattle.hb_world.specs.declared.entry.Entry.TheVariants as e
+use Rattle.hb_inbound.specs.ClosesRefused.{served}
+use Rattle.hb_inbound.specs.Connections.{IsOneHistory}
 use Rattle.hb_inbound.specs.Notes.{NoteLaw}
 use Rattle.hb_inbound.specs.Part.{Part, entry, up, fronted, looked, decided, accepted, refused, left, done}
 use Rattle.hb_inbound.specs.RefusedRuns.{peer_in}
@@ -76,6 +81,17 @@ ClosesUnnoted = (start : Resources) (seen : Seen) (headers : HeaderList) (target
 abbrev pub EndsUnnoted : Type 0
 EndsUnnoted = (start : Resources) (seen : Seen) (headers : HeaderList) (target : Target)
     → NoteLaw start 2 (accepted_on seen headers target ++ up 1 (e.Broke 3) ∷ left 1 None ∷ []) → ⊥
+
+-- a pending tunnel's upstream fails while the link serves and its stream stands, and 502 is left out
+abbrev pub failed_on : Seen → List history.Point → HeaderList → Target → List Part
+failed_on seen points headers target =
+    served seen ++ looked points (found.Opened 1 false) headers ∷ decided 1 false (Dial target)
+    ∷ up 1 (e.DialFailed target (whys.Upstream 2 1)) ∷ []
+
+abbrev pub LeavesStanding : Type 0
+LeavesStanding = (start : Resources) (seen : Seen) (points : List history.Point) (headers : HeaderList) (target : Target)
+    → ((now : IsOneHistory (failed_on seen points headers target)) → own_side_open now.conn 1 ≡ true)
+    → NoteLaw start 2 (failed_on seen points headers target ++ left 1 None ∷ []) → ⊥
 
 -- a byte is written, and both are noted
 abbrev pub NotesBoth : Type 0

@@ -5,9 +5,10 @@ ghost use Rattle.hb_inbound.specs.Laws.{RunsAdmit, RunsAnswer, RunsClose, RunsDi
 ghost use Rattle.hb_inbound.specs.Laws.{RunsFitRings, RunsRelayDown, RunsRelayUp};
 ghost use Rattle.hb_inbound.specs.Dials.{DialsElsewhere, LeavesOutDial, DialsTwice, DialsForAnother, DialMayGo};
 ghost use Rattle.hb_inbound.specs.ClosesRefused.{ClosesHealthy, ClosesForSecond, ClosesBroken, ReadsEnded, LooksStopped, WritesTwice};
-ghost use Rattle.hb_inbound.specs.ClosesRefused.{ClosesTwice, TurnsAwayLate, ClosesMisfronted, WritesOnce};
+ghost use Rattle.hb_inbound.specs.ClosesRefused.{ClosesDone, ClosesTwice, TurnsAwayLate, ClosesMisfronted, WritesOnce};
 ghost use Rattle.hb_inbound.specs.NotesRefused.{NotesUnasked, NotesOther, NotesElsewhere, EndsUnaccepted, EndsAlive, EndsTwice};
-ghost use Rattle.hb_inbound.specs.NotesRefused.{CountsNoneUp, CountsNoneDown, ReadsUnnoted, ClosesUnnoted, EndsUnnoted, NotesBoth};
+ghost use Rattle.hb_inbound.specs.NotesRefused.{CountsNoneUp, CountsNoneDown, ReadsUnnoted, ClosesUnnoted, EndsUnnoted};
+ghost use Rattle.hb_inbound.specs.NotesRefused.{LeavesStanding, NotesBoth};
 ghost use Rattle.hb_inbound.specs.Rings.{ComesBeyond, WindowMayCome};
 ghost use Rattle.hb_inbound.specs.RefusedRuns.{WritesBehind, GoesOnBehind, PutsBehind, ReadsBehind, ClosesForAnother, ClosesAdmitted};
 ghost use Rattle.hb_inbound.specs.RefusedRuns.{DialsUnbidden, GoesOnAdmitted, ClosesRevoked};
@@ -172,6 +173,7 @@ pub fn early_closes_are_refused()
     ensures healthy { ClosesHealthy }
     ensures second { ClosesForSecond }
     ensures another { ClosesBroken }
+    ensures done { ClosesDone }
     ensures reads { ReadsEnded }
     ensures looks { LooksStopped }
     ensures writes { WritesTwice }
@@ -182,7 +184,8 @@ pub fn early_closes_are_refused()
 {}
 
 /// A note that nothing asked for is refused, one with another status or target, an end that didn't come yet, never comes or is noted
-/// already, and a count that leaves out what went; so is a run that goes on without the note of an end.
+/// already, and a count that leaves out what went; so is a run that goes on without the note of an end, or
+/// leaves out the 502 of a stream that stands.
 pub fn wrong_notes_are_refused()
     ensures unasked { NotesUnasked }
     ensures other { NotesOther }
@@ -195,5 +198,6 @@ pub fn wrong_notes_are_refused()
     ensures reads { ReadsUnnoted }
     ensures closes { ClosesUnnoted }
     ensures unnoted { EndsUnnoted }
+    ensures standing { LeavesStanding }
     ensures both { NotesBoth }
 {}

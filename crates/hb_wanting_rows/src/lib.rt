@@ -3,3 +3,5 @@
 
 #[cfg(test)]
 mod held;
+#[cfg(test)]
+mod tunnels;

@@ -1,4 +1,4 @@
-use Rattle.hb_inbound.proofs.NotesRefused.{notes_unasked, notes_other, notes_elsewhere, ends_unaccepted, ends_alive, ends_twice, counts_none_up, counts_none_down, reads_unnoted, closes_unnoted, ends_unnoted, notes_both}
+use Rattle.hb_inbound.proofs.NotesRefused.{notes_unasked, notes_other, notes_elsewhere, ends_unaccepted, ends_alive, ends_twice, counts_none_up, counts_none_down, reads_unnoted, closes_unnoted, ends_unnoted, leaves_standing, notes_both}
 use Rattle.hb_inbound.proofs.laws.wrong_notes_are_refused.Goals as goal
 
 pub returns : goal.returns
@@ -14,5 +14,6 @@ returns c = record {
   reads = reads_unnoted;
   closes = closes_unnoted;
   unnoted = ends_unnoted;
+  standing = leaves_standing;
   both = notes_both;
 }
