@@ -75,7 +75,8 @@ links_lead g x points l (p ∷ parts) b stands (inner, mid, steps, leads) =
     (subst (λ (c : Local). Leads l c parts b) (sym one.reached) leads) in
     record {
       y = rest.y;
-      stands = subst (λ (ps : List Point). StandsFor g rest.y ps) (append_assoc points (of_link l p ∷ []) (map (of_link l) parts)) rest.stands;
+      stands = subst (λ (ps : List Point). StandsFor g rest.y ps)
+          (append_assoc points (of_link l p ∷ []) (map (of_link l) parts)) rest.stands;
       reached = rest.reached;
       others = λ k apart. rest.others k apart ∙ one.others k apart;
       control = rest.control ∙ one.control;

@@ -74,7 +74,8 @@ dials_twice to law = (let same : 3 ≡ 4 = law 2 1 3 4 refl refl in absurd (omeg
 pub comes_while_due : ComesWhileDue
 comes_while_due g x y l k why bytes apart due steps =
     let quiet = lets_quiet (link_first (x.inbound l).phase (e.Came l bytes)) (x.inbound k)
-    (ap (λ (b : Bool). b || false) (⊎_elim (λ h. unfaulted (x.inbound l).phase h.0.no_close) (λ h. unfaulted (x.inbound l).phase h.0.no_close)
+    (ap (λ (b : Bool). b || false) (⊎_elim (λ h. unfaulted (x.inbound l).phase h.0.no_close)
+    (λ h. unfaulted (x.inbound l).phase h.0.no_close)
     steps.1.0.1.0)) (steps.2.others k apart) in
     let none : Some why ≡ None = sym (ap close_due due) ∙ quiet.no_close in cc
 

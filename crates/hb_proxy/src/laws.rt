@@ -68,31 +68,38 @@ pub fn control_plane_obeys()
     ensures put { RunsPutAll }
 {}
 
-/// Nothing comes on a link that nobody bore, or that is another part's; no number is born twice; no link sees an update that another
-/// doesn't see; no dial is answered to another part, and none is made twice for one stream. Nothing comes on a link while another one is to
-/// be closed, no upstream is dialled while the control plane is to be, and no link is accepted behind the end of the run. Behind an update that no longer admits the peer no byte goes to the upstream, and
-/// nothing comes on another link, nor a tick, before that is closed. No byte goes to an upstream that didn't come.
-/// No link is accepted before the control plane is dialled, and none is read while a link to it that ended isn't closed.
-pub fn wrong_runs_are_refused()
+/// Nothing comes on a link that nobody bore, or that is another part's; no number is born twice; no dial is answered to another part, and
+/// none is made twice for one stream.
+pub fn links_of_others_are_refused()
     ensures comes { ComesUnborn }
     ensures unborn { ReadsUnborn }
     ensures anothers { ReadsAnothers }
     ensures twice { BornTwice }
     ensures again { BornAgain }
-    ensures alone { SeesAlone }
-    ensures together { SeeAll }
     ensures another { AnswersAnother }
     ensures control { AnswersControl }
     ensures dialled { DialsTwice }
+{}
+
+/// Nothing comes on a link while another one is to be closed, or one to the control plane; no link is accepted and no upstream dialled
+/// while the control plane is to be dialled, and no link is accepted behind the end of the run.
+pub fn early_entries_are_refused()
     ensures due { ComesWhileDue }
+    ensures ended { ReadsEnded }
+    ensures accepts { AcceptsFirst }
     ensures dial { DialsWhileDue }
     ensures late { AcceptsBehindEnd }
+{}
+
+/// Every link sees an update, and none sees one alone. Behind one that no longer admits a tunnel's peer no byte goes to its upstream, and
+/// nothing comes on another link, nor a tick, before that is closed. No byte goes to an upstream that didn't come.
+pub fn revoked_tunnels_are_silent()
+    ensures together { SeeAll }
+    ensures alone { SeesAlone }
     ensures writes { WritesBehind }
     ensures reads { ReadsBehind }
     ensures ticks { TicksBehind }
     ensures invents { InventsByte }
-    ensures accepts { AcceptsFirst }
-    ensures ended { ReadsEnded }
 {}
 
 /// A link may be accepted behind the dial of the control plane, and a byte may go behind an update that still admits the peer.
