@@ -1,4 +1,5 @@
 pub mod Access
+pub mod AccessEntries
 pub mod Control
 pub mod ControlBorn
 pub mod Dials

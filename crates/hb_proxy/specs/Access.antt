@@ -1,6 +1,6 @@
 -- The access law over the whole trace: no byte goes to an upstream and no DATA frame begins on an inbound link, unless the resources
 -- held then admit the tunnel's peer.
-use Rattle.std.specs.Prelude.{⊤, ◌≡◌, ℕ, true, List, ◌++◌, length, Some}
+use Rattle.std.specs.Prelude.{⊤, ◌≡◌, ℕ, true, List, [], ◌∷◌, ◌++◌, length, Some}
 use Rattle.std.specs.List.{AllByRecursion}
 use Rattle.hb_base.specs.declared.peer.Peer.{Peer}
 use Rattle.hb_base.specs.declared.target.Target.{Target}
@@ -19,7 +19,8 @@ use Rattle.hb_table.specs.declared.judgement.Judged.TheVariants.{Admitted}
 use Rattle.hb_world.specs.Trace.{recv, sent}
 use Rattle.hb_world.specs.declared.entry.Entry.{Entry}
 use Rattle.hb_world.specs.declared.entry.Entry.TheVariants as e
-use Rattle.hb_proxy.specs.Points.{Point, entries, control_of, parts_of}
+use Rattle.hb_proxy.specs.Owners.{owner, inbound_link, upstream_of, link_of, AtEach}
+use Rattle.hb_proxy.specs.Points.{Point, entry_in, entries, control_of, parts_of}
 use Rattle.hb_proxy.specs.Sides.{AtParts}
 
 -- the resources held behind these points, by the control plane's responses, admit the peer that the link's front header told, at the
@@ -60,3 +61,12 @@ AccessAt g before l _ = ⊤
 
 abbrev pub AccessLaw : NodeConfig → List Point → Type 0
 AccessLaw g points = AtParts (AccessAt g) points
+
+-- the same, by the link that an entry of the trace stands on: an upstream, or an inbound link
+abbrev pub EntryIsAdmitted : NodeConfig → List Point → Entry → Type 0
+EntryIsAdmitted g before z = (u : ℕ) → link_of z ≡ Some u
+    → ((l s : ℕ) → owner u (entries before) ≡ upstream_of l s → UpIsAdmitted g before l s z)
+    × (owner u (entries before) ≡ inbound_link → LinkIsAdmitted g before u z)
+
+abbrev pub EntryLaw : NodeConfig → List Point → Type 0
+EntryLaw g points = AtEach (λ before p. (z : Entry) → entry_in p ≡ z ∷ [] → EntryIsAdmitted g before z) points

@@ -17,7 +17,7 @@ use Rattle.hb_model.specs.Messages as messages
 use Rattle.hb_model.specs.Puts.{IsAllPut}
 use Rattle.hb_model.specs.Runs as model
 use Rattle.hb_model.specs.declared.config.NodeConfig.{NodeConfig}
-use Rattle.hb_proxy.specs.Access.{AccessLaw}
+use Rattle.hb_proxy.specs.Access.{AccessLaw, EntryLaw}
 use Rattle.hb_proxy.specs.Control.{EntryLaws, ControlLaws}
 use Rattle.hb_proxy.specs.Dials.{DialLaw}
 use Rattle.hb_proxy.specs.Ends.{EndLaw}
@@ -69,6 +69,9 @@ RunsShareSides = (g : NodeConfig) (x : Machine) (points : List Point) → Stands
 
 abbrev pub RunsAdmit : Type 0
 RunsAdmit = (g : NodeConfig) (x : Machine) (points : List Point) → StandsFor g x points → AccessLaw g points
+
+abbrev pub RunsAdmitEntries : Type 0
+RunsAdmitEntries = (g : NodeConfig) (x : Machine) (points : List Point) → StandsFor g x points → EntryLaw g points
 
 abbrev pub RunsRelay : Type 0
 RunsRelay = (g : NodeConfig) (x : Machine) (points : List Point) → StandsFor g x points → RelayLaw points

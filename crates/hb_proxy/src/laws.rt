@@ -1,7 +1,8 @@
 //! Laws over every run of the whole proxy. Each is the contract of a function that does nothing.
 
 ghost use Rattle.hb_proxy.specs.Laws.{ControlRuns, LinksRun, ControlHolds, LinksHold, RunsOwn, RunsNumber, RunsDialOnce, RunsShareSides};
-ghost use Rattle.hb_proxy.specs.Laws.{RunsAdmit, RunsRelay, RunsEnd, RunsObeyLinks, RunsDial, RunsObeyEntries, RunsObeyControl, RunsPutAll};
+ghost use Rattle.hb_proxy.specs.Laws.{RunsAdmit, RunsAdmitEntries, RunsRelay, RunsEnd, RunsObeyLinks};
+ghost use Rattle.hb_proxy.specs.Laws.{RunsDial, RunsObeyEntries, RunsObeyControl, RunsPutAll};
 ghost use Rattle.hb_proxy.specs.Leads.{LinksLead, LinksStep};
 ghost use Rattle.hb_proxy.specs.Refused.{ComesUnborn, ReadsUnborn, ReadsAnothers, BornTwice, BornAgain, SeesAlone, SeeAll};
 ghost use Rattle.hb_proxy.specs.Refused.{AnswersAnother, AnswersControl, WritesBehind, ReadsBehind, TicksBehind, InventsByte};
@@ -34,9 +35,11 @@ pub fn links_have_owners()
 {}
 
 /// No byte goes to an upstream, and no DATA frame with payload begins on an inbound link, unless the resources held then, by the control
-/// plane's responses, admit the tunnel's peer at its target.
+/// plane's responses, admit the tunnel's peer at its target: so it is of each part, and of each entry of the trace by the link
+/// that it stands on.
 pub fn peers_are_admitted()
-    ensures { RunsAdmit }
+    ensures parts { RunsAdmit }
+    ensures entries { RunsAdmitEntries }
 {}
 
 /// The bytes that went to an upstream are a front of the DATA that came on its stream, and the DATA that went on the stream is a front of
