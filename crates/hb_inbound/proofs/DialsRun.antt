@@ -22,7 +22,7 @@ use Rattle.hb_world.specs.declared.entry.Entry.{Entry}
 use Rattle.hb_world.specs.declared.entry.Entry.TheVariants as e
 use Rattle.hb_world.specs.declared.entry.Way.TheVariants as way
 use Rattle.hb_inbound.specs.Calm.{IsQuiet, IsIdleBy}
-use Rattle.hb_inbound.specs.Dials.{IsDial, AllDialled, DialledOrFaulted, LinkDials, UpDials, DialsAt, DialsElsewhere, LeavesOutDial, DialsTwice, DialsForAnother, DialMayGo, asked_for}
+use Rattle.hb_inbound.specs.Dials.{IsDial, AllDialled, UpDials, DialsAt, DialsElsewhere, LeavesOutDial, DialsTwice, DialsForAnother, DialMayGo, asked_for}
 use Rattle.hb_inbound.specs.Ends.{Life, none, pending, lives, life, up_of, is_fault}
 use Rattle.hb_inbound.specs.Ends as life
 use Rattle.hb_inbound.specs.Inbound.{Inbound, Phase, unborn, arriving, fronting, serving, faulted, closing, closed, at_stream, came_by, ended_by, broken_by, on_found, judged_by}
@@ -32,11 +32,10 @@ use Rattle.hb_inbound.specs.Part as part
 use Rattle.hb_inbound.specs.Runs.{Local, MayCome, UpMayCome, entered, Steps, StandsFor, begins, goes_on, with_link, tunnel_for, put_down}
 use Rattle.hb_inbound.specs.Tunnel.{Tunnel, Stage, unasked, requested, refusing, malformed, due, opening, accepting, live, failed, ended, over, gone, at_stage, ends_by, ends_for, left_with, takes_place, up_entered, came_up, peer_ended, requested_with, is_unanswered}
 use Rattle.hb_inbound.proofs.Admitted.{at_one}
-use Rattle.hb_inbound.proofs.EndsRun.{all_say, new_streams}
+use Rattle.hb_inbound.proofs.EndsRun.{new_streams, said_at, where_quiet}
 use Rattle.hb_inbound.proofs.Grown.{at_parts}
 use Rattle.hb_inbound.proofs.Left.{IsLeft, left_so, refuses_left, resets_left, leaves_left}
 use Rattle.hb_inbound.proofs.Life.{SaysBy}
-use Rattle.hb_inbound.proofs.LifeRun.{LateBy}
 use Rattle.hb_inbound.proofs.RefusedRuns.{last, Places, places}
 
 -- EACH UPSTREAM HAS A NUMBER
@@ -183,15 +182,20 @@ module _ (l : ℕ) (a : Local) (all : (s : ℕ) → Dialled (a.link.tunnels s)) 
       (one s (λ t. at_stage live (a.link.tunnels s)) (subst (λ (stage : Stage). HasUp stage (a.link.tunnels s).up) steps.1 (all s)))
   step_has (refused s status resets made) b steps =
       to b _ steps.4
-      (one s (λ t. steps.1) (left_keeps (a.link.tunnels s) steps.1 (refuses_left a.link l s status (a.link.tunnels s).stage made steps.1 steps.2)))
+      (one s (λ t. steps.1)
+      (left_keeps (a.link.tunnels s) steps.1 (refuses_left a.link l s status (a.link.tunnels s).stage made steps.1 steps.2)))
   step_has (reset s code made) b steps =
       to b _ steps.3
-      (one s (λ t. steps.1) (left_keeps (a.link.tunnels s) steps.1 (resets_left a.link l s code (a.link.tunnels s).stage made steps.1 steps.2)))
+      (one s (λ t. steps.1)
+      (left_keeps (a.link.tunnels s) steps.1 (resets_left a.link l s code (a.link.tunnels s).stage made steps.1 steps.2)))
   step_has (left s made) b steps =
       to b _ steps.2
-      (one s (λ t. steps.0) (left_keeps (a.link.tunnels s) steps.0 (leaves_left a.link l s 0 (a.link.tunnels s).stage made steps.0 steps.1)))
+      (one s (λ t. steps.0)
+      (left_keeps (a.link.tunnels s) steps.0 (leaves_left a.link l s 0 (a.link.tunnels s).stage made steps.0 steps.1)))
   step_has (done s made) b steps =
-      to b _ steps.3 (one s (left_with cause.Done) (left_keeps (a.link.tunnels s) (left_with cause.Done (a.link.tunnels s)) (inr (cause.Done, refl))))
+      to b _ steps.3
+      (one s (left_with cause.Done)
+      (left_keeps (a.link.tunnels s) (left_with cause.Done (a.link.tunnels s)) (inr (cause.Done, refl))))
   step_has (put s bytes) b steps = to b _ steps.3 (one s (λ t. put_down a.link.conn s (a.link.tunnels s)) (all s))
   step_has (finished s) b steps = to b _ steps.2 (one s (λ t. record (a.link.tunnels s) { end_put = true }) (all s))
   step_has (credited s n) b steps = to b _ steps.3 (one s (λ t. record (a.link.tunnels s) { owed = 0 }) (all s))
@@ -208,16 +212,11 @@ all_have l start b more (goes_on {a = a} {parts = parts} before p steps is) = st
 -- THE LAW
 
 module _ (l : ℕ) (start : Resources) (a : Local) (before : List Part) (stands : StandsFor l start a before) where
-  said_at : (s : ℕ) (stage : Stage) → (a.link.tunnels s).stage ≡ stage
-      → SaysBy stage (life start s before) (up_of s before) (a.link.tunnels s)
-  said_at s stage is =
-      subst (λ (st : Stage). SaysBy st (life start s before) (up_of s before) (a.link.tunnels s)) is
-      ((all_say new_streams l start a before stands).each s)
-
   -- where all is quiet none waits for its dial
   quiet_dialled : IsQuiet a.link → AllDialled start before
   quiet_dialled quiet s target pends zero_up =
-      by (a.link.tunnels s).stage refl (quiet.calm.answered s) (quiet.idle s) (said_at s (a.link.tunnels s).stage refl)
+      by (a.link.tunnels s).stage refl (quiet.calm.answered s) (quiet.idle s)
+      (said_at new_streams l start a before stands s (a.link.tunnels s).stage refl)
       (all_have l start a before stands s)
     where
       never : (other : Life) → life start s before ≡ other → (pending target ≡ other → ⊥) → ⊥
@@ -239,40 +238,10 @@ module _ (l : ℕ) (start : Resources) (a : Local) (before : List Part) (stands 
       by gone is calm idle (inl past, left_up) has = never _ past (λ same. cc)
       by gone is calm idle (inr (why, past), left_up) has = never _ past (λ same. cc)
 
-  faulted_told : (code : ℕ) → a.link.phase ≡ faulted code → DialledOrFaulted start before
-  faulted_told code is =
-      inr (subst (λ (ph : Phase). LateBy ph before a.link) is (all_say new_streams l start a before stands).late).1
-
-  link_dials : (x : Entry) → MayCome l a.link x → LinkDials start before x
-  link_dials (e.Came k bytes) (is, (inl quiet, wanted), octets, some, most) = quiet_dialled quiet.0
-  link_dials (e.Came k bytes) (is, (inr quiet, wanted), octets, some, most) = quiet_dialled quiet.0
-  link_dials (e.Ended k) (is, (inl quiet, wanted)) = quiet_dialled quiet.0
-  link_dials (e.Ended k) (is, (inr quiet, wanted)) = quiet_dialled quiet.0
-  link_dials (e.Went k bytes) (is, inl quiet, some, rest) = inl (quiet_dialled quiet.0)
-  link_dials (e.Went k bytes) (is, inr fault, some, rest) = faulted_told fault.1 fault.2
-  link_dials (e.Broke k) (is, inl quiet) = inl (quiet_dialled quiet.0)
-  link_dials (e.Broke k) (is, inr (inl quiet)) = inl (quiet_dialled quiet.0)
-  link_dials (e.Broke k) (is, inr (inr fault)) = faulted_told fault.1 fault.2
-  link_dials (e.Balked (way.Read k)) (is, (inl quiet, wanted)) = inl (quiet_dialled quiet.0)
-  link_dials (e.Balked (way.Read k)) (is, (inr quiet, wanted)) = inl (quiet_dialled quiet.0)
-  link_dials (e.Balked (way.Write k)) (is, inl quiet, some) = inl (quiet_dialled quiet.0)
-  link_dials (e.Balked (way.Write k)) (is, inr fault, some) = faulted_told fault.1 fault.2
-  link_dials (e.Balked (way.Listen d at listening)) may = absurd may
-  link_dials (e.Balked (way.Accept d)) may = absurd may
-  link_dials (e.Balked (way.Finish k)) may = absurd may
-  link_dials (e.Accepted k d) may = tt
-  link_dials (e.Closed k why) may = tt
-  link_dials (e.Dialled k to why) may = tt
-  link_dials (e.DialFailed to why) may = tt
-  link_dials (e.Opened k) may = tt
-  link_dials (e.Shut k) may = tt
-  link_dials e.Tick may = tt
-  link_dials (e.Wait ready how) may = tt
-
   is_dial : (s : ℕ) (to : Target) (why : Why) → (a.link.tunnels s).stage ≡ due → to ≡ (a.link.tunnels s).target
       → why ≡ whys.Upstream l s → IsDial start before s to why
   is_dial s to why at target reason =
-      let says = said_at s due at in
+      let says = said_at new_streams l start a before stands s due at in
       record { pends = says.0.life ∙ ap pending (sym target); undialled = says.0.up; link = l; why_is = reason }
 
   up_dials : (s : ℕ) (x : Entry) → UpMayCome l s a.link (a.link.tunnels s) x → UpDials start before s x
@@ -297,7 +266,8 @@ module _ (l : ℕ) (start : Resources) (a : Local) (before : List Part) (stands 
 
 next : (l : ℕ) (start : Resources) (a b : Local) (before : List Part) (p : Part) → StandsFor l start a before → Steps l a p b
     → DialsAt start before p
-next l start a b before (entry x) stands steps = link_dials l start a before stands x steps.0
+next l start a b before (entry x) stands steps =
+    where_quiet new_streams l start a before stands (AllDialled start before) (quiet_dialled l start a before stands) x steps.0
 next l start a b before (up s x) stands steps = up_dials l start a before stands s x steps.0
 next l start a b before (put s bytes) stands steps = tt
 next l start a b before (finished s) stands steps = tt

@@ -1,5 +1,5 @@
 -- Each tunnel ends for the first cause that applies, in every run of a link.
-use Rattle.std.proofs.Common.{◌≡◌, inl, inr, ℕ, Bool, false, List, [], refl, sym, ◌∙◌, subst}
+use Rattle.std.proofs.Common.{◌≡◌, ◌⊎◌, inl, inr, ℕ, Bool, false, List, [], refl, sym, ◌∙◌, subst}
 use Rattle.std.proofs.lemmas.Bool.{false≢true}
 use Rattle.hb_base.specs.declared.target.Target.{Target}
 use Rattle.hb_conn.specs.Connection.{Connection, Finds}
@@ -9,12 +9,12 @@ use Rattle.hb_world.specs.declared.entry.Entry.{Entry}
 use Rattle.hb_world.specs.declared.entry.Entry.TheVariants as e
 use Rattle.hb_world.specs.declared.entry.Way.TheVariants as way
 use Rattle.hb_inbound.specs.Calm.{IsQuiet, IsIdleBy}
-use Rattle.hb_inbound.specs.Ends.{Life, none, pending, lives, life, Lives, IsPending, UpMayStand, up_of, EndedAreClosed, ClosedOrFaulted, LinkMayStand, EndsAt}
+use Rattle.hb_inbound.specs.Ends.{Life, none, pending, lives, life, Lives, IsPending, UpMayStand, up_of, EndedAreClosed, is_fault, WhereQuiet, EndsAt}
 use Rattle.hb_inbound.specs.Ends as life
 use Rattle.hb_inbound.specs.Inbound.{Phase, faulted}
 use Rattle.hb_inbound.specs.Laws.{RunsEnd}
 use Rattle.hb_kept.proofs.Opened.{told_are_numbered}
-use Rattle.hb_inbound.specs.Sides.{conn_came, link_went}
+use Rattle.hb_inbound.specs.Sides.{conn_came, link_went, Was}
 use Rattle.hb_inbound.specs.Part.{moves, tellings, Part, entry, up, welcomed, crowded, lacked, fronted, misfronted, looked, decided, accepted, refused, reset, left, done, put, finished, credited, applied, stopped}
 use Rattle.hb_inbound.specs.Runs.{Local, MayCome, UpMayCome, Steps, StandsFor, begins, goes_on}
 use Rattle.hb_inbound.specs.Tunnel.{Stage, unasked, requested, refusing, malformed, due, opening, accepting, live, failed, ended, over, gone, is_unanswered}
@@ -86,35 +86,39 @@ module _ (opens_new : OpensNew) where
         by (over cause) is calm idle says = absurd idle
         by gone is calm idle says = says.1
 
-    faulted_told : (code : ℕ) → a.link.phase ≡ faulted code → ClosedOrFaulted start before
-    faulted_told code is =
-        inr (subst (λ (ph : Phase). LateBy ph before a.link) is (all_say l start a before stands).late).1
+    -- what holds where all is quiet holds where something comes or goes on the link
+    pub where_quiet : (Q : Type 0) → (IsQuiet a.link → Q) → (x : Entry) → MayCome l a.link x → WhereQuiet Q before x
+    where_quiet Q holds = stands_at
+      where
+        faulted_told : (code : ℕ) → a.link.phase ≡ faulted code → Q ⊎ Was is_fault before
+        faulted_told code is =
+            inr (subst (λ (ph : Phase). LateBy ph before a.link) is (all_say l start a before stands).late).1
 
-    link_stands : (x : Entry) → MayCome l a.link x → LinkMayStand start before x
-    link_stands (e.Came k bytes) (is, (inl quiet, wanted), octets, some, most) = quiet_closed quiet.0
-    link_stands (e.Came k bytes) (is, (inr quiet, wanted), octets, some, most) = quiet_closed quiet.0
-    link_stands (e.Ended k) (is, (inl quiet, wanted)) = quiet_closed quiet.0
-    link_stands (e.Ended k) (is, (inr quiet, wanted)) = quiet_closed quiet.0
-    link_stands (e.Went k bytes) (is, inl quiet, some, rest) = inl (quiet_closed quiet.0)
-    link_stands (e.Went k bytes) (is, inr fault, some, rest) = faulted_told fault.1 fault.2
-    link_stands (e.Broke k) (is, inl quiet) = inl (quiet_closed quiet.0)
-    link_stands (e.Broke k) (is, inr (inl quiet)) = inl (quiet_closed quiet.0)
-    link_stands (e.Broke k) (is, inr (inr fault)) = faulted_told fault.1 fault.2
-    link_stands (e.Balked (way.Read k)) (is, (inl quiet, wanted)) = inl (quiet_closed quiet.0)
-    link_stands (e.Balked (way.Read k)) (is, (inr quiet, wanted)) = inl (quiet_closed quiet.0)
-    link_stands (e.Balked (way.Write k)) (is, inl quiet, some) = inl (quiet_closed quiet.0)
-    link_stands (e.Balked (way.Write k)) (is, inr fault, some) = faulted_told fault.1 fault.2
-    link_stands (e.Balked (way.Listen d at listening)) may = absurd may
-    link_stands (e.Balked (way.Accept d)) may = absurd may
-    link_stands (e.Balked (way.Finish k)) may = absurd may
-    link_stands (e.Accepted k d) may = tt
-    link_stands (e.Closed k why) may = tt
-    link_stands (e.Dialled k to why) may = tt
-    link_stands (e.DialFailed to why) may = tt
-    link_stands (e.Opened k) may = tt
-    link_stands (e.Shut k) may = tt
-    link_stands e.Tick may = tt
-    link_stands (e.Wait ready how) may = tt
+        stands_at : (x : Entry) → MayCome l a.link x → WhereQuiet Q before x
+        stands_at (e.Came k bytes) (is, (inl quiet, wanted), octets, some, most) = holds quiet.0
+        stands_at (e.Came k bytes) (is, (inr quiet, wanted), octets, some, most) = holds quiet.0
+        stands_at (e.Ended k) (is, (inl quiet, wanted)) = holds quiet.0
+        stands_at (e.Ended k) (is, (inr quiet, wanted)) = holds quiet.0
+        stands_at (e.Went k bytes) (is, inl quiet, some, rest) = inl (holds quiet.0)
+        stands_at (e.Went k bytes) (is, inr fault, some, rest) = faulted_told fault.1 fault.2
+        stands_at (e.Broke k) (is, inl quiet) = inl (holds quiet.0)
+        stands_at (e.Broke k) (is, inr (inl quiet)) = inl (holds quiet.0)
+        stands_at (e.Broke k) (is, inr (inr fault)) = faulted_told fault.1 fault.2
+        stands_at (e.Balked (way.Read k)) (is, (inl quiet, wanted)) = inl (holds quiet.0)
+        stands_at (e.Balked (way.Read k)) (is, (inr quiet, wanted)) = inl (holds quiet.0)
+        stands_at (e.Balked (way.Write k)) (is, inl quiet, some) = inl (holds quiet.0)
+        stands_at (e.Balked (way.Write k)) (is, inr fault, some) = faulted_told fault.1 fault.2
+        stands_at (e.Balked (way.Listen d at listening)) may = absurd may
+        stands_at (e.Balked (way.Accept d)) may = absurd may
+        stands_at (e.Balked (way.Finish k)) may = absurd may
+        stands_at (e.Accepted k d) may = tt
+        stands_at (e.Closed k why) may = tt
+        stands_at (e.Dialled k to why) may = tt
+        stands_at (e.DialFailed to why) may = tt
+        stands_at (e.Opened k) may = tt
+        stands_at (e.Shut k) may = tt
+        stands_at e.Tick may = tt
+        stands_at (e.Wait ready how) may = tt
 
     up_stands : (s : ℕ) (x : Entry) → UpMayCome l s a.link (a.link.tunnels s) x → UpMayStand (life start s before) x
     up_stands s (e.Dialled u to why) may = due_at s may.1
@@ -138,7 +142,8 @@ module _ (opens_new : OpensNew) where
 
   next : (l : ℕ) (start : Resources) (a b : Local) (before : List Part) (p : Part) → StandsFor l start a before → Steps l a p b
       → EndsAt start before p
-  next l start a b before (entry x) stands steps = link_stands l start a before stands x steps.0
+  next l start a b before (entry x) stands steps =
+      where_quiet l start a before stands (EndedAreClosed start before) (quiet_closed l start a before stands) x steps.0
   next l start a b before (up s x) stands steps = up_stands l start a before stands s x steps.0
   next l start a b before (put s bytes) stands steps = live_at l start a before stands s steps.0.2
   next l start a b before (finished s) stands steps = live_at l start a before stands s steps.0.2

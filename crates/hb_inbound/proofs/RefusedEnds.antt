@@ -62,6 +62,7 @@ shuts_pending start seen target law = last (EndsAt start) (pended seen target) (
 pub loses_byte : LosesByte
 loses_byte s u first second third f headers is apart relays =
     let front : lent_of f ++ [] ≡ ((first ∷ third ∷ []) ++ []) ++ relays.rest =
-    subst (λ (b : Bool). cond b (lent_of f) [] ++ [] ≡ (cond b (first ∷ third ∷ []) [] ++ []) ++ relays.rest) (eq-eqb s s refl) relays.front in
+    subst (λ (b : Bool). cond b (lent_of f) [] ++ [] ≡ (cond b (first ∷ third ∷ []) [] ++ []) ++ relays.rest)
+    (eq-eqb s s refl) relays.front in
     let all : first ∷ second ∷ third ∷ [] ≡ first ∷ third ∷ relays.rest = sym is ∙ sym (append-nil (lent_of f)) ∙ front in
     apart (cc)

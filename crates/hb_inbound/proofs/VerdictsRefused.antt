@@ -89,19 +89,22 @@ pub refuses_known : RefusesKnown
 refuses_known start seen end full headers target status is other law =
     let before = requested_behind seen [] end headers in
     refused_by target status other
-    (asked_so start seen before headers full target (Status status) refl refl is (last (VerdictAt start) before (decided 1 full (Status status)) law) refl)
+    (asked_so start seen before headers full target (Status status) refl refl is
+    (last (VerdictAt start) before (decided 1 full (Status status)) law) refl)
 
 pub refuses_by_the_past : RefusesByThePast
 refuses_by_the_past start seen r end full headers target status is other law =
     let before = requested_behind seen (r ∷ []) end headers in
     refused_by target status other
-    (asked_so start seen before headers full target (Status status) refl refl is (last (VerdictAt start) before (decided 1 full (Status status)) law) refl)
+    (asked_so start seen before headers full target (Status status) refl refl is
+    (last (VerdictAt start) before (decided 1 full (Status status)) law) refl)
 
 pub dials_another : DialsAnother
 dials_another start seen end full headers target other is apart law =
     let before = requested_behind seen [] end headers in
     dialled_by target other apart
-    (asked_so start seen before headers full target (Dial other) refl refl is (last (VerdictAt start) before (decided 1 full (Dial other)) law) refl)
+    (asked_so start seen before headers full target (Dial other) refl refl is
+    (last (VerdictAt start) before (decided 1 full (Dial other)) law) refl)
 
 none_behind : (bs : List Part) (p : Part) (behind : List Part) → [] ≡ bs ++ p ∷ behind → ⊥
 none_behind [] p behind is = cc

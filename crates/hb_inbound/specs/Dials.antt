@@ -1,5 +1,5 @@
 -- The dials of tunnels: each to the target that its request was answered with, once, and before anything else is read or written.
-use Rattle.std.specs.Prelude.{⊤, ◌≡◌, ◌≢◌, ◌⊎◌, ℕ, false, List, [], ◌∷◌, ◌++◌}
+use Rattle.std.specs.Prelude.{⊤, ◌≡◌, ◌≢◌, ℕ, false, List, [], ◌∷◌, ◌++◌}
 use Rattle.hb_base.specs.declared.door.Why.{Why}
 use Rattle.hb_base.specs.declared.door.Why.TheVariants as whys
 use Rattle.hb_base.specs.declared.target.Target.{Target}
@@ -8,9 +8,9 @@ use Rattle.hb_held.specs.Held.{Resources}
 use Rattle.hb_verdict.specs.declared.verdict.Verdict.TheVariants.{Dial}
 use Rattle.hb_world.specs.declared.entry.Entry.{Entry}
 use Rattle.hb_world.specs.declared.entry.Entry.TheVariants as e
-use Rattle.hb_inbound.specs.Ends.{pending, life, up_of, is_fault}
+use Rattle.hb_inbound.specs.Ends.{pending, life, up_of, WhereQuiet}
 use Rattle.hb_inbound.specs.Part.{Part, entry, up, fronted, decided}
-use Rattle.hb_inbound.specs.Sides.{Was, AtEach}
+use Rattle.hb_inbound.specs.Sides.{AtEach}
 
 -- a pending tunnel of which no upstream was dialled yet is dialled now, to its target, for its stream
 pub record IsDial (start : Resources) (before : List Part) (s : ℕ) (to : Target) (why : Why) : Type 0 where
@@ -23,18 +23,7 @@ pub record IsDial (start : Resources) (before : List Part) (s : ℕ) (to : Targe
 abbrev pub AllDialled : Resources → List Part → Type 0
 AllDialled start before = (s : ℕ) (to : Target) → life start s before ≡ pending to → up_of s before ≢ 0
 
--- so it is where something comes or goes on the link, but for the one write behind a connection error, and on an upstream
-abbrev pub DialledOrFaulted : Resources → List Part → Type 0
-DialledOrFaulted start before = AllDialled start before ⊎ Was is_fault before
-
-abbrev pub LinkDials : Resources → List Part → Entry → Type 0
-LinkDials start before (e.Came l bytes) = AllDialled start before
-LinkDials start before (e.Ended l) = AllDialled start before
-LinkDials start before (e.Went l bytes) = DialledOrFaulted start before
-LinkDials start before (e.Broke l) = DialledOrFaulted start before
-LinkDials start before (e.Balked way) = DialledOrFaulted start before
-LinkDials start before _ = ⊤
-
+-- so it is where something comes or goes on an upstream
 abbrev pub UpDials : Resources → List Part → ℕ → Entry → Type 0
 UpDials start before s (e.Dialled u to why) = IsDial start before s to why
 UpDials start before s (e.DialFailed to why) = IsDial start before s to why
@@ -43,7 +32,7 @@ UpDials start before s (e.Closed u why) = ⊤
 UpDials start before s _ = AllDialled start before
 
 abbrev pub DialsAt : Resources → List Part → Part → Type 0
-DialsAt start before (entry e) = LinkDials start before e
+DialsAt start before (entry e) = WhereQuiet (AllDialled start before) before e
 DialsAt start before (up s e) = UpDials start before s e
 DialsAt start before _ = ⊤
 
@@ -66,7 +55,8 @@ LeavesOutDial = (start : Resources) (seen : Seen) (target : Target) (bytes : Lis
 
 abbrev pub DialsTwice : Type 0
 DialsTwice = (start : Resources) (seen : Seen) (target : Target)
-    → DialLaw start (asked_for seen target ++ up 1 (e.Dialled 3 target (whys.Upstream 2 1)) ∷ up 1 (e.Dialled 4 target (whys.Upstream 2 1)) ∷ [])
+    → DialLaw start
+    (asked_for seen target ++ up 1 (e.Dialled 3 target (whys.Upstream 2 1)) ∷ up 1 (e.Dialled 4 target (whys.Upstream 2 1)) ∷ [])
     → ⊥
 
 abbrev pub DialsForAnother : Type 0

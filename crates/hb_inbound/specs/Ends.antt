@@ -150,20 +150,17 @@ abbrev pub is_fault : Part → Bool
 is_fault (looked points told headers) = is_fault_told told
 is_fault _ = false
 
--- behind one what waits may be written first
-abbrev pub ClosedOrFaulted : Resources → List Part → Type 0
-ClosedOrFaulted start before = EndedAreClosed start before ⊎ Was is_fault before
-
-abbrev pub LinkMayStand : Resources → List Part → Entry → Type 0
-LinkMayStand start before (e.Came l bytes) = EndedAreClosed start before
-LinkMayStand start before (e.Ended l) = EndedAreClosed start before
-LinkMayStand start before (e.Went l bytes) = ClosedOrFaulted start before
-LinkMayStand start before (e.Broke l) = ClosedOrFaulted start before
-LinkMayStand start before (e.Balked way) = ClosedOrFaulted start before
-LinkMayStand start before _ = ⊤
+-- what holds where something comes or goes on the link; behind a connection error what waits may be written first
+abbrev pub WhereQuiet : Type 0 → List Part → Entry → Type 0
+WhereQuiet Q before (e.Came l bytes) = Q
+WhereQuiet Q before (e.Ended l) = Q
+WhereQuiet Q before (e.Went l bytes) = Q ⊎ Was is_fault before
+WhereQuiet Q before (e.Broke l) = Q ⊎ Was is_fault before
+WhereQuiet Q before (e.Balked way) = Q ⊎ Was is_fault before
+WhereQuiet Q before _ = ⊤
 
 abbrev pub EndsAt : Resources → List Part → Part → Type 0
-EndsAt start before (entry e) = LinkMayStand start before e
+EndsAt start before (entry e) = WhereQuiet (EndedAreClosed start before) before e
 EndsAt start before (up s e) = UpMayStand (life start s before) e
 EndsAt start before (put s bytes) = Lives (life start s before)
 EndsAt start before (finished s) = Lives (life start s before)

@@ -1,8 +1,8 @@
 //! Small steps that no run of an inbound link takes, and what an update does. Each is the contract of a function that does nothing.
 
 ghost use Rattle.hb_inbound.specs.Refused.{DialsUnasked, AcceptsUnopened, WritesUnopened, ShutsEarly, EndsEarly, WritesRevoked};
-ghost use Rattle.hb_inbound.specs.Laws.{RunsAdmit, RunsAnswer, RunsClose, RunsDial, RunsEnd, RunsNote, RunsObeyConnections, RunsObeyWindows};
-ghost use Rattle.hb_inbound.specs.Laws.{RunsFitRings, RunsRelayDown, RunsRelayUp};
+ghost use Rattle.hb_inbound.specs.Laws.{RunsAdmit, RunsAnswer, RunsClose, RunsDial, RunsEnd, RunsFitRings, RunsNote};
+ghost use Rattle.hb_inbound.specs.Laws.{RunsObeyConnections, RunsObeyWindows, RunsRelayDown, RunsRelayUp};
 ghost use Rattle.hb_inbound.specs.Dials.{DialsElsewhere, LeavesOutDial, DialsTwice, DialsForAnother, DialMayGo};
 ghost use Rattle.hb_inbound.specs.ClosesRefused.{ClosesHealthy, ClosesForSecond, ClosesBroken, ReadsEnded, LooksStopped, WritesTwice};
 ghost use Rattle.hb_inbound.specs.ClosesRefused.{ClosesDone, ClosesTwice, TurnsAwayLate, ClosesMisfronted, WritesOnce};
