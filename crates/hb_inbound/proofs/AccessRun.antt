@@ -31,7 +31,7 @@ each_begun P zero queue each = tt
 each_begun P (suc n) [] each = tt
 each_begun P (suc n) (f ∷ queue) each = (each.0, each_begun P (suc n - length (spelling f)) queue each.1)
 
-each_so : (P Q : RawFrame → Type 0) → ((f : RawFrame) → P f → Q f) → (fs : List RawFrame) → AllByRecursion P fs → AllByRecursion Q fs
+pub each_so : (P Q : RawFrame → Type 0) → ((f : RawFrame) → P f → Q f) → (fs : List RawFrame) → AllByRecursion P fs → AllByRecursion Q fs
 each_so P Q so [] each = tt
 each_so P Q so (f ∷ fs) each = (so f each.0, each_so P Q so fs each.1)
 

@@ -64,7 +64,7 @@ module _ (opens_new : OpensNew) where
     due_at s is = is_pending (life start s before) (a.link.tunnels s).target (said_at s due is).0.life
 
     -- where all is quiet every tunnel that ended has no upstream that isn't closed
-    quiet_closed : IsQuiet a.link → EndedAreClosed start before
+    pub quiet_closed : IsQuiet a.link → EndedAreClosed start before
     quiet_closed quiet s why ended_so =
         by (a.link.tunnels s).stage refl (quiet.calm.answered s) (quiet.idle s) ((all_say l start a before stands).each s)
       where

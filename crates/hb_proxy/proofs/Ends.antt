@@ -1,0 +1,123 @@
+-- A tunnel that ended has no upstream that isn't closed where anything more comes, in every run of the whole.
+use Rattle.std.proofs.Common.{◌≡◌, inl, inr, ⊎_elim, ℕ, ◌||◌, Bool, false, List, Some, None, refl, ap, ap₂, sym, subst}
+use Rattle.std.proofs.lemmas.Bool.{cases_eq}
+use Rattle.hb_base.specs.declared.cause.Cause.TheVariants as cause
+use Rattle.hb_inbound.proofs.Admitted.{KnowsBy}
+use Rattle.hb_inbound.proofs.AdmittedRun.{all_admit}
+use Rattle.hb_inbound.proofs.EndsRun.{all_say, new_streams, quiet_closed}
+use Rattle.hb_inbound.proofs.LifeRun.{LateBy}
+use Rattle.hb_inbound.specs.Calm.{IsQuiet, IsIdleBy}
+use Rattle.hb_inbound.specs.Ends.{is_fault}
+use Rattle.hb_inbound.specs.Inbound.{Inbound, Phase, unborn, arriving, fronting, serving, faulted, closing, closed}
+use Rattle.hb_inbound.specs.Calm.{RestsIn, close_due}
+use Rattle.hb_inbound.specs.Part as part
+use Rattle.hb_inbound.specs.Part.{Part}
+use Rattle.hb_inbound.specs.Runs.{MayCome, UpMayCome}
+use Rattle.hb_inbound.specs.Sides.{Was}
+use Rattle.hb_inbound.specs.Tunnel.{Stage, is_unanswered}
+use Rattle.hb_model.specs.Point as point
+use Rattle.hb_model.specs.declared.config.NodeConfig.{NodeConfig}
+use Rattle.hb_world.specs.declared.entry.Entry.{Entry}
+use Rattle.hb_world.specs.declared.entry.Entry.TheVariants as e
+use Rattle.hb_proxy.specs.Ends.{AllClosed, MoreComes, LinkGoes, UpGoes, EndsAt}
+use Rattle.hb_proxy.specs.Held.{at_start}
+use Rattle.hb_proxy.specs.Laws.{RunsEnd}
+use Rattle.hb_proxy.specs.Machine.{Machine, local}
+use Rattle.hb_proxy.specs.Points.{Point, of_control, of_link, parts_of}
+use Rattle.hb_proxy.specs.Runs.{is_act, is_link_faulted, link_first, Lets, ControlMayCome, LinkMayCome, Steps, StandsFor}
+use Rattle.hb_proxy.proofs.Places.{at_points}
+use Rattle.hb_proxy.proofs.Projection.{links_run}
+
+-- a link that is quiet has told of no connection error
+pub unfaulted : (phase : Phase) → close_due phase ≡ None → is_link_faulted phase ≡ false
+unfaulted (faulted code) none = absurd (let no : Some (cause.ConnFault code) ≡ None = none in cc)
+unfaulted unborn none = refl
+unfaulted arriving none = refl
+unfaulted fronting none = refl
+unfaulted serving none = refl
+unfaulted (closing why) none = refl
+unfaulted closed none = refl
+
+-- one that isn't born is quiet
+unborn_quiet : (parts : List Part) (x : Inbound) → x.phase ≡ unborn → KnowsBy x.phase parts x → IsQuiet x
+unborn_quiet parts x is knows =
+    let none = subst (λ (ph : Phase). KnowsBy ph parts x) is knows in
+    record {
+      calm = record {
+        answered = λ s. ap is_unanswered (none s);
+        rests = subst (λ (ph : Phase). RestsIn ph x) (sym is) tt;
+      };
+      no_close = ap close_due is;
+      idle = λ s. subst (λ (stage : Stage). IsIdleBy stage (x.tunnels s)) (sym (none s)) tt;
+    }
+
+pub lets_quiet : (first : Bool) (y : Inbound) → first ≡ false → Lets first y → IsQuiet y
+lets_quiet first y is lets = subst (λ (b : Bool). Lets b y) is lets
+
+module _ (g : NodeConfig) (x : Machine) (before : List Point) (stands : StandsFor g x before) where
+  closed_of : ((l : ℕ) → IsQuiet (x.inbound l)) → AllClosed g before
+  closed_of quiet l = quiet_closed new_streams l (at_start g) (local x l) (parts_of l before) (links_run g x before l stands) (quiet l)
+
+  -- an entry of a link that is quiet, and that doesn't go first, comes while all are
+  all_closed : (l : ℕ) (z : Entry) → LinkMayCome x l z → is_act z ≡ false → IsQuiet (x.inbound l) → AllClosed g before
+  all_closed l z guard late quiet = closed_of each
+    where
+      first : link_first (x.inbound l).phase z ≡ false
+      first = ap₂ (λ (a b : Bool). a || b) (unfaulted (x.inbound l).phase quiet.no_close) late
+
+      each : (k : ℕ) → IsQuiet (x.inbound k)
+      each k =
+          ⊎_elim (λ (same : k ≡ l). subst (λ (j : ℕ). IsQuiet (x.inbound j)) (sym same) quiet)
+          (λ apart. lets_quiet (link_first (x.inbound l).phase z) (x.inbound k) first (guard.others k apart)) (cases_eq k l)
+
+  control_ends : (z : Entry) → ControlMayCome x z → MoreComes g before z
+  control_ends (e.Accepted k d) guard = closed_of guard.links
+  control_ends (e.Opened k) guard = closed_of guard.links
+  control_ends (e.Came k bytes) guard = closed_of guard.links
+  control_ends (e.Ended k) guard = closed_of guard.links
+  control_ends e.Tick guard = closed_of guard.links
+  control_ends (e.Wait ready how) guard = closed_of guard.links
+  control_ends _ guard = tt
+
+  link_ends : (l : ℕ) (z : Entry) → MayCome l (x.inbound l) z → LinkMayCome x l z → MoreComes g before z × LinkGoes g before l z
+  link_ends l (e.Accepted k d) may guard = (
+    all_closed l (e.Accepted k d) guard refl
+        (unborn_quiet (parts_of l before) (x.inbound l) may.1
+        (all_admit l (at_start g) (local x l) (parts_of l before) (links_run g x before l stands)).knows),
+    tt,
+  )
+  link_ends l (e.Came k bytes) may guard =
+      (all_closed l (e.Came k bytes) guard refl (⊎_elim (λ h. h.0) (λ h. h.0) may.1.0), tt)
+  link_ends l (e.Ended k) may guard = (all_closed l (e.Ended k) guard refl (⊎_elim (λ h. h.0) (λ h. h.0) may.1.0), tt)
+  link_ends l (e.Went k bytes) may guard =
+      (tt, ⊎_elim (λ h. inl (all_closed l (e.Went k bytes) guard refl h.0)) (λ h. inr (faulted_told h.1 h.2)) may.1)
+    where
+      faulted_told : (code : ℕ) → (x.inbound l).phase ≡ faulted code → Was is_fault (parts_of l before)
+      faulted_told code is =
+          (subst (λ (ph : Phase). LateBy ph (parts_of l before) (x.inbound l)) is
+          (all_say new_streams l (at_start g) (local x l) (parts_of l before) (links_run g x before l stands)).late).1
+  link_ends l (e.Opened k) may guard = absurd may
+  link_ends l e.Tick may guard = absurd may
+  link_ends l (e.Wait ready how) may guard = absurd may
+  link_ends l _ may guard = (tt, tt)
+
+  up_ends : (l s : ℕ) (z : Entry) → UpMayCome l s (x.inbound l) ((x.inbound l).tunnels s) z → LinkMayCome x l z
+      → MoreComes g before z × UpGoes g before z
+  up_ends l s (e.Accepted k d) may guard = absurd may
+  up_ends l s (e.Opened u) may guard = (all_closed l (e.Opened u) guard refl may.0, tt)
+  up_ends l s (e.Came u bytes) may guard = (all_closed l (e.Came u bytes) guard refl may.0.0, tt)
+  up_ends l s (e.Ended u) may guard = (all_closed l (e.Ended u) guard refl may.0.0, tt)
+  up_ends l s (e.Went u bytes) may guard = (tt, all_closed l (e.Went u bytes) guard refl may.0.0)
+  up_ends l s e.Tick may guard = absurd may
+  up_ends l s (e.Wait ready how) may guard = absurd may
+  up_ends l s _ may guard = (tt, tt)
+
+next : (g : NodeConfig) (x y : Machine) (before : List Point) (p : Point) → StandsFor g x before → Steps g x p y → EndsAt g before p
+next g x y before (of_control (point.entry z)) stands steps = control_ends g x before stands z steps.2
+next g x y before (of_control _) stands steps = tt
+next g x y before (of_link l (part.entry z)) stands steps = link_ends g x before stands l z steps.1.0 steps.2
+next g x y before (of_link l (part.up s z)) stands steps = up_ends g x before stands l s z steps.1.0 steps.2
+next g x y before (of_link l _) stands steps = tt
+
+pub runs_end : RunsEnd
+runs_end g x points stands = at_points g (EndsAt g) (next g) x points stands

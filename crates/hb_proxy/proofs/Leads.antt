@@ -1,0 +1,83 @@
+-- What a link does by itself is a run of the whole.
+use Rattle.std.proofs.Common.{◌≡◌, ℕ, cond, List, [], ◌∷◌, ◌++◌, map, refl, ap, sym, ◌∙◌, subst}
+use Rattle.std.proofs.lemmas.Bool.{eq-eqb, ne_eqb}
+use Rattle.std.proofs.lemmas.List.{append_assoc, append-nil}
+use Rattle.hb_inbound.specs.Inbound.{Inbound}
+use Rattle.hb_inbound.specs.Part as part
+use Rattle.hb_inbound.specs.Part.{Part}
+use Rattle.hb_inbound.specs.Runs.{Local, with_link}
+use Rattle.hb_inbound.specs.Runs as inbound
+use Rattle.hb_proxy.specs.Leads.{IsInner, Leads, LinksLead, LinksStep}
+use Rattle.hb_proxy.specs.Machine.{Machine, local, with_part}
+use Rattle.hb_proxy.specs.Points.{Point, of_link}
+use Rattle.hb_proxy.specs.Runs.{LinkGuard, StandsFor, goes_on}
+
+-- a part that isn't an update leaves what is held
+module _ (a b : Local) where
+  turned : (y : Inbound) → b ≡ with_link y a → b ≡ with_link b.link a
+  turned y is = is ∙ ap (λ (z : Inbound). with_link z a) (sym (ap (λ (c : Local). c.link) is))
+
+  holds : (x : Machine) (l : ℕ) (p : Part) → LinkGuard x l p → inbound.Steps l a p b → b ≡ with_link b.link a
+  holds x l (part.entry z) guard steps = turned _ steps.1
+  holds x l (part.up s z) guard steps = turned _ steps.1
+  holds x l part.welcomed guard steps = turned _ steps.1
+  holds x l part.crowded guard steps = turned _ steps.1
+  holds x l part.lacked guard steps = turned _ steps.1
+  holds x l (part.fronted seen) guard steps = turned _ steps.4
+  holds x l (part.misfronted fault) guard steps = turned _ steps.2
+  holds x l (part.looked ps told headers) guard steps = turned _ steps.5
+  holds x l (part.decided s full given) guard steps = turned _ steps.5
+  holds x l (part.accepted s made) guard steps = turned _ steps.3
+  holds x l (part.refused s status resets made) guard steps = turned _ steps.4
+  holds x l (part.reset s code made) guard steps = turned _ steps.3
+  holds x l (part.left s made) guard steps = turned _ steps.2
+  holds x l (part.done s made) guard steps = turned _ steps.3
+  holds x l (part.put s bytes) guard steps = turned _ steps.3
+  holds x l (part.finished s) guard steps = turned _ steps.2
+  holds x l (part.credited s n) guard steps = turned _ steps.3
+  holds x l (part.applied r) guard steps = absurd guard
+  holds x l (part.stopped why) guard steps = absurd guard
+
+pub links_step : LinksStep
+links_step g x points l p b stands guard steps =
+    let is = holds (local x l) b x l p guard steps in
+    record {
+      y = with_part l p b.link x;
+      stands = goes_on stands p_at
+          (b.link, subst (λ (c : Local). inbound.Steps l (local x l) p c) is steps, guard, refl) refl;
+      reached = ap (λ (t : _). record { held = x.control.held; link = cond t b.link (x.inbound l) }) (eq-eqb l l refl) ∙ sym is;
+      others = λ k apart. ap (λ (t : _). cond t b.link (x.inbound k)) (ne_eqb k l apart);
+      control = refl;
+    }
+  where
+    p_at : Point
+    p_at = of_link l p
+
+-- a part that is no entry may come wherever its link lets it
+inner_guard : (x : Machine) (l : ℕ) (p : Part) → IsInner p → LinkGuard x l p
+inner_guard x l (part.entry z) inner = absurd inner
+inner_guard x l (part.up s z) inner = absurd inner
+inner_guard x l (part.applied r) inner = absurd inner
+inner_guard x l (part.stopped why) inner = absurd inner
+inner_guard x l _ inner = tt
+
+pub links_lead : LinksLead
+links_lead g x points l [] b stands leads = record {
+  y = x;
+  stands = subst (λ (ps : List Point). StandsFor g x ps) (sym (append-nil points)) stands;
+  reached = sym leads;
+  others = λ k apart. refl;
+  control = refl;
+}
+links_lead g x points l (p ∷ parts) b stands (inner, mid, steps, leads) =
+    let one = links_step g x points l p mid stands (inner_guard x l p inner) steps in
+    let rest = links_lead g one.y (points ++ of_link l p ∷ []) l parts b one.stands
+    (subst (λ (c : Local). Leads l c parts b) (sym one.reached) leads) in
+    record {
+      y = rest.y;
+      stands = subst (λ (ps : List Point). StandsFor g rest.y ps)
+          (append_assoc points (of_link l p ∷ []) (map (of_link l) parts)) rest.stands;
+      reached = rest.reached;
+      others = λ k apart. rest.others k apart ∙ one.others k apart;
+      control = rest.control ∙ one.control;
+    }

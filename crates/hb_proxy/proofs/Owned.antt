@@ -1,0 +1,387 @@
+-- Whose each link is, in every run of the whole.
+use Rattle.std.proofs.Common.{◌≡◌, ◌≢◌, ◌⊎◌, inl, inr, ⊎_elim, ℕ, ◌+◌, ◌<◌, ◌==◌, ◌||◌, Bool, true, false, cond, List, [], ◌∷◌, ◌++◌, fold, refl, ap, ap₂, sym, ◌∙◌, subst, arith}
+use mathlib.Core.Path.{fun_ext}
+use Rattle.std.proofs.lemmas.Grind.{fold-append}
+use Rattle.std.proofs.lemmas.Bool.{cond_both, false≢true, eqb-true, eq-eqb, false_from_ne_true}
+use Rattle.std.specs.List.{list_any}
+use Rattle.hb_base.specs.declared.door.Door.{Door}
+use Rattle.hb_base.specs.declared.door.Why.{Why}
+use Rattle.hb_base.specs.declared.target.Target.{Target}
+use Rattle.hb_inbound.specs.Inbound as inbound
+use Rattle.hb_inbound.specs.Inbound.{Inbound, at_stream}
+use Rattle.hb_inbound.specs.Part as part
+use Rattle.hb_inbound.specs.Part.{Part}
+use Rattle.hb_inbound.specs.Runs as runs
+use Rattle.hb_inbound.specs.Tunnel as tunnel
+use Rattle.hb_inbound.specs.Tunnel.{Tunnel, Stage, up_entered}
+use Rattle.hb_held.specs.Outcome.{after_response}
+use Rattle.hb_inbound.proofs.Admitted.{KnowsBy, at_one}
+use Rattle.hb_inbound.proofs.AdmittedRun.{all_admit}
+use Rattle.hb_model.specs.Machine as control
+use Rattle.hb_model.specs.Point as point
+use Rattle.hb_model.specs.Runs as model
+use Rattle.hb_model.specs.declared.config.NodeConfig.{NodeConfig}
+use Rattle.hb_model.proofs.Grown.{IsBorn, one_more}
+use Rattle.hb_world.specs.Trace.{is_birth}
+use Rattle.hb_world.specs.declared.entry.Entry.{Entry}
+use Rattle.hb_world.specs.declared.entry.Entry.TheVariants as e
+use Rattle.hb_proxy.specs.Held.{at_start}
+use Rattle.hb_proxy.specs.Machine.{Machine, fresh, local, seen_by, with_control, with_part, born_after, born_by}
+use Rattle.hb_proxy.specs.Owners.{Owner, nobody, control_plane, inbound_link, upstream_of, at_door, dialled_for, owner_by, owner}
+use Rattle.hb_proxy.specs.Points.{Point, of_control, of_link, entry_in, entries, control_of, parts_of}
+use Rattle.hb_proxy.specs.Runs.{BirthMayCome, ControlGuard, LinkGuard, Steps, StandsFor, begins, goes_on}
+use Rattle.hb_proxy.proofs.ControlBorn.{control_stays}
+use Rattle.hb_proxy.proofs.Places.{short, birth_of}
+use Rattle.hb_proxy.proofs.Projection.{control_runs, links_run}
+use Rattle.hb_proxy.proofs.Stays.{IsNone, OwnsBy, Owns, is_born, LinkStays, same_link, applied_stays, stopped_stays, step_stays}
+
+-- each number that is above the last birth is nobody's; each link that is born is its part's, as is each tunnel's upstream; and an
+-- upstream is of one stream, of a link that was accepted
+pub record Owned (x : Machine) (whose : ℕ → Owner) : Type 0 where
+  pub unborn : (n : ℕ) → x.born < n → whose n ≡ nobody
+  pub none : whose 0 ≡ nobody
+  pub control : (n : ℕ) → IsBorn (x.control.links n).phase → whose n ≡ control_plane
+  pub link : (l : ℕ) → is_born (x.inbound l).phase ≡ true → whose l ≡ inbound_link
+  pub up : (l s : ℕ) → Owns whose l s ((x.inbound l).tunnels s)
+  pub one : (l s u v : ℕ) → whose u ≡ upstream_of l s → whose v ≡ upstream_of l s → u ≡ v
+  pub over : (l s u : ℕ) → whose u ≡ upstream_of l s → whose l ≡ inbound_link
+
+-- NO BIRTH
+
+pub record Alike (x y : Machine) : Type 0 where
+  pub born : y.born ≡ x.born
+  pub control : (n : ℕ) → IsBorn (y.control.links n).phase → IsBorn (x.control.links n).phase
+  pub links : (l : ℕ) → LinkStays l (x.inbound l) (y.inbound l)
+
+alike_owned : (x y : Machine) (whose : ℕ → Owner) → Owned x whose → Alike x y → Owned y whose
+alike_owned x y whose owned alike = record {
+  unborn = λ n above. owned.unborn n (subst (λ (b : ℕ). b < n) alike.born above);
+  none = owned.none;
+  control = λ n born. owned.control n (alike.control n born);
+  link = λ l born. owned.link l ((alike.links l).born born);
+  up = λ l s. (alike.links l).tunnels s whose (owned.up l s);
+  one = owned.one;
+  over = owned.over;
+}
+
+-- A BIRTH
+
+module _ (x y : Machine) (whose : ℕ → Owner) (owned : Owned x whose) (k : ℕ) (next : k ≡ x.born + 1) (w : Owner)
+    (is_born_now : y.born ≡ k) where
+  -- whose each link is then
+  abbrev then : ℕ → Owner
+  then n = cond (k == n) w (whose n)
+
+  new_is : whose k ≡ nobody
+  new_is = owned.unborn k (omega (arith, next))
+
+  here : (n : ℕ) → k ≡ n → then n ≡ w
+  here n is = ap (λ (b : Bool). cond b w (whose n)) (eq-eqb k n is)
+
+  there : (n : ℕ) → (k ≡ n → ⊥) → then n ≡ whose n
+  there n apart = ap (λ (b : Bool). cond b w (whose n)) (false_from_ne_true (k == n) (λ is. apart (eqb-true k n is)))
+
+  -- what is somebody's stays so
+  kept : (n : ℕ) (o : Owner) → (nobody ≡ o → ⊥) → whose n ≡ o → then n ≡ o
+  kept n o some is = there n (λ same. some (sym new_is ∙ ap whose same ∙ is)) ∙ is
+
+  -- whose a link is now it was before, or it is the new one
+  was : (n : ℕ) (o : Owner) → then n ≡ o → ((k ≡ n) × (w ≡ o)) ⊎ (whose n ≡ o)
+  was n o =
+      cond_both (k == n) w (whose n) (λ z. z ≡ o → ((k ≡ n) × (w ≡ o)) ⊎ (whose n ≡ o))
+      (λ same is. inl (eqb-true k n same, is)) (λ apart is. inr is)
+
+  born_owned : ((n : ℕ) → IsBorn (y.control.links n).phase → ((k ≡ n) × (w ≡ control_plane)) ⊎ IsBorn (x.control.links n).phase)
+      → ((l : ℕ) → is_born (y.inbound l).phase ≡ true → ((k ≡ l) × (w ≡ inbound_link)) ⊎ (is_born (x.inbound l).phase ≡ true))
+      → ((l s : ℕ) → Owns then l s ((y.inbound l).tunnels s))
+      → ((l s v : ℕ) → w ≡ upstream_of l s → whose v ≢ upstream_of l s)
+      → ((l s : ℕ) → w ≡ upstream_of l s → whose l ≡ inbound_link)
+      → Owned y then
+  born_owned control link up alone over = record {
+    unborn = λ n above. there n (λ same. omega (arith, above, is_born_now, same))
+        ∙ owned.unborn n (omega (arith, above, is_born_now, next));
+    none = there 0 (λ same. omega (arith, same, next)) ∙ owned.none;
+    control = λ n born. ⊎_elim (λ h. here n h.0 ∙ h.1) (λ old. kept n control_plane (λ same. cc) (owned.control n old)) (control n born);
+    link = λ l born. ⊎_elim (λ h. here l h.0 ∙ h.1) (λ old. kept l inbound_link (λ same. cc) (owned.link l old)) (link l born);
+    up = up;
+    one = λ l s u v is other. one l s u v (was u (upstream_of l s) is) (was v (upstream_of l s) other);
+    over = λ l s u is. kept l inbound_link (λ same. cc)
+        (⊎_elim (λ h. over l s h.1) (λ old. owned.over l s u old) (was u (upstream_of l s) is));
+  }
+    where
+      one : (l s u v : ℕ) → ((k ≡ u) × (w ≡ upstream_of l s)) ⊎ (whose u ≡ upstream_of l s)
+          → ((k ≡ v) × (w ≡ upstream_of l s)) ⊎ (whose v ≡ upstream_of l s) → u ≡ v
+      one l s u v (inl a) (inl b) = sym a.0 ∙ b.0
+      one l s u v (inl a) (inr b) = absurd (alone l s v a.1 b)
+      one l s u v (inr a) (inl b) = absurd (alone l s u b.1 a)
+      one l s u v (inr a) (inr b) = owned.one l s u v a b
+
+  -- a tunnel has the upstream that it had, where the new link is no upstream of its stream
+  keeps_up : (l s : ℕ) (t : Tunnel) → (w ≢ upstream_of l s) → Owns whose l s t → Owns then l s t
+  keeps_up l s t other is = by t.stage is
+    where
+      no_more : IsNone whose l s → IsNone then l s
+      no_more none u now = ⊎_elim (λ h. other h.1) (λ old. none u old) (was u (upstream_of l s) now)
+
+      stays_mine : whose t.up ≡ upstream_of l s → then t.up ≡ upstream_of l s
+      stays_mine mine = kept t.up (upstream_of l s) (λ same. cc) mine
+
+      weak : (t.up ≡ 0) ⊎ (whose t.up ≡ upstream_of l s) → (t.up ≡ 0) ⊎ (then t.up ≡ upstream_of l s)
+      weak (inl zero_up) = inl zero_up
+      weak (inr mine) = inr (stays_mine mine)
+
+      by : (stage : Stage) → OwnsBy stage whose l s t.up → OwnsBy stage then l s t.up
+      by tunnel.unasked is = (no_more is.0, is.1)
+      by (tunnel.requested headers end) is = (no_more is.0, is.1)
+      by tunnel.due is = (no_more is.0, is.1)
+      by (tunnel.refusing status target) is = weak is
+      by tunnel.malformed is = weak is
+      by (tunnel.failed why) is = weak is
+      by tunnel.gone is = weak is
+      by tunnel.opening is = stays_mine is
+      by tunnel.accepting is = stays_mine is
+      by tunnel.live is = stays_mine is
+      by (tunnel.ended why) is = stays_mine is
+      by (tunnel.over why) is = stays_mine is
+
+-- THE BIRTHS
+
+-- a tunnel is due on a link that is born alone
+due_born : (parts : List Part) (x : Inbound) (s : ℕ) (phase : inbound.Phase) → KnowsBy phase parts x → (x.tunnels s).stage ≡ tunnel.due
+    → is_born phase ≡ true
+due_born parts x s inbound.unborn knows is = absurd (let no : tunnel.unasked ≡ tunnel.due = sym (knows s) ∙ is in cc)
+due_born parts x s inbound.arriving knows is = refl
+due_born parts x s inbound.fronting knows is = refl
+due_born parts x s inbound.serving knows is = refl
+due_born parts x s (inbound.faulted code) knows is = refl
+due_born parts x s (inbound.closing why) knows is = refl
+due_born parts x s inbound.closed knows is = refl
+
+module _ (g : NodeConfig) (x : Machine) (whose : ℕ → Owner) (owned : Owned x whose) where
+  -- whose each link is behind an entry
+  abbrev behind : Entry → ℕ → Owner
+  behind z n = owner_by n (whose n) z
+
+  control_dialled : (k : ℕ) (to : Target) (why : Why) (m : control.Machine) → model.Steps g x.control (point.entry (e.Dialled k to why)) m
+      → k ≡ x.born + 1 → Owned (with_control (point.entry (e.Dialled k to why)) m x) (behind (e.Dialled k to why))
+  control_dialled k to why m steps next =
+      let w = dialled_for why in
+      let mine : w ≡ control_plane = ap dialled_for steps.0.3 in
+      let y = with_control (point.entry (e.Dialled k to why)) m x in
+      let no_up : (l s : ℕ) → w ≢ upstream_of l s = λ l s is. (let no : control_plane ≡ upstream_of l s = sym mine ∙ is in cc) in
+      born_owned x y whose owned k next w refl
+      (λ n. subst (λ (c : control.Machine). IsBorn (c.links n).phase → ((k ≡ n) × (w ≡ control_plane)) ⊎ IsBorn (x.control.links n).phase)
+      (sym steps.1)
+      (cond_both (k == n) (control.dialled_for g.id to x.control.held why (x.control.links n)) (x.control.links n)
+      (λ d. IsBorn d.phase → ((k ≡ n) × (w ≡ control_plane)) ⊎ IsBorn (x.control.links n).phase)
+      (λ is now. inl (eqb-true k n is, mine)) (λ apart was. inr was)))
+      (λ l was. inr was)
+      (λ l s. keeps_up x y whose owned k next w refl l s ((x.inbound l).tunnels s) (no_up l s) (owned.up l s))
+      (λ l s v is. absurd (no_up l s is))
+      (λ l s is. absurd (no_up l s is))
+
+  link_accepted : (l k : ℕ) (d : Door) (next : Inbound)
+      → runs.Steps l (local x l) (part.entry (e.Accepted k d)) (runs.with_link next (local x l))
+      → k ≡ x.born + 1 → Owned (with_part l (part.entry (e.Accepted k d)) next x) (behind (e.Accepted k d))
+  link_accepted l k d next steps number =
+      let w = at_door d in
+      let mine : w ≡ inbound_link = ap at_door steps.0.2 in
+      let y = with_part l (part.entry (e.Accepted k d)) next x in
+      let no_up : (j s : ℕ) → w ≢ upstream_of j s = λ j s is. (let no : inbound_link ≡ upstream_of j s = sym mine ∙ is in cc) in
+      let is_next : next ≡ inbound.with_phase inbound.arriving (x.inbound l) = ap (λ (c : runs.Local). c.link) steps.1 in
+      born_owned x y whose owned k number w refl
+      (λ n was. inr was)
+      (λ j. cond_both (j == l) next (x.inbound j)
+      (λ z. is_born z.phase ≡ true → ((k ≡ j) × (w ≡ inbound_link)) ⊎ (is_born (x.inbound j).phase ≡ true))
+      (λ is now. inl (steps.0.0 ∙ sym (eqb-true j l is), mine)) (λ apart was. inr was))
+      (λ j s. cond_both (j == l) next (x.inbound j) (λ z. Owns (λ n. behind (e.Accepted k d) n) j s (z.tunnels s))
+      (λ is. subst (λ (z : Inbound). Owns (λ n. behind (e.Accepted k d) n) j s (z.tunnels s)) (sym is_next)
+      (subst (λ (i : ℕ). Owns (λ n. behind (e.Accepted k d) n) j s ((x.inbound i).tunnels s)) (eqb-true j l is)
+      (keeps_up x y whose owned k number w refl j s ((x.inbound j).tunnels s) (no_up j s) (owned.up j s))))
+      (λ apart. keeps_up x y whose owned k number w refl j s ((x.inbound j).tunnels s) (no_up j s) (owned.up j s)))
+      (λ j s v is. absurd (no_up j s is))
+      (λ j s is. absurd (no_up j s is))
+
+  up_dialled : (l s u : ℕ) (to : Target) (why : Why) (next : Inbound)
+      → runs.Steps l (local x l) (part.up s (e.Dialled u to why)) (runs.with_link next (local x l))
+      → is_born (x.inbound l).phase ≡ true → u ≡ x.born + 1
+      → Owned (with_part l (part.up s (e.Dialled u to why)) next x) (behind (e.Dialled u to why))
+  up_dialled l s u to why next steps lives number =
+      let z = e.Dialled u to why in
+      let w = dialled_for why in
+      let mine : w ≡ upstream_of l s = ap dialled_for steps.0.4 in
+      let y = with_part l (part.up s z) next x in
+      let is_next : next ≡ at_stream s (up_entered z) (x.inbound l) = ap (λ (c : runs.Local). c.link) steps.1 in
+      let same : (j t : ℕ) → w ≡ upstream_of j t → (l ≡ j) × (s ≡ t) =
+      λ j t is. (let both : upstream_of l s ≡ upstream_of j t = sym mine ∙ is in ((let a : l ≡ j = cc in a), (let b : s ≡ t = cc in b))) in
+      let due = subst (λ (stage : Stage). OwnsBy stage whose l s ((x.inbound l).tunnels s).up) steps.0.1 (owned.up l s) in
+      let keeps : (j t : ℕ) → (w ≢ upstream_of j t) → Owns (behind z) j t ((x.inbound j).tunnels t) =
+      λ j t other. keeps_up x y whose owned u number w refl j t ((x.inbound j).tunnels t) other (owned.up j t) in
+      let here_now : behind z u ≡ upstream_of l s = here x y whose owned u number w refl u refl ∙ mine in
+      born_owned x y whose owned u number w refl
+      (λ n was. inr was)
+      (λ j. cond_both (j == l) next (x.inbound j)
+      (λ v. is_born v.phase ≡ true → ((u ≡ j) × (w ≡ inbound_link)) ⊎ (is_born (x.inbound j).phase ≡ true))
+      (λ is now. inr (subst (λ (i : ℕ). is_born (x.inbound i).phase ≡ true) (sym (eqb-true j l is)) lives)) (λ apart was. inr was))
+      (λ j t. cond_both (j == l) next (x.inbound j) (λ v. Owns (behind z) j t (v.tunnels t))
+      (λ is. subst (λ (i : ℕ). Owns (behind z) i t (next.tunnels t)) (sym (eqb-true j l is))
+      (subst (λ (v : Inbound). Owns (behind z) l t (v.tunnels t)) (sym is_next)
+      (at_one s (up_entered z) (x.inbound l) (λ k v. Owns (behind z) l k v) here_now
+      (λ k apart. keeps l k (λ is. absurd (false≢true (sym apart ∙ eq-eqb k s (sym (same l k is).1))))) t)))
+      (λ apart. keeps j t (λ is. absurd (false≢true (sym apart ∙ eq-eqb j l (sym (same j t is).0))))))
+      (λ j t v is now. due.0 v (now ∙ ap₂ upstream_of (sym (same j t is).0) (sym (same j t is).1)))
+      (λ j t is. owned.link j (subst (λ (i : ℕ). is_born (x.inbound i).phase ≡ true) (same j t is).0 lives))
+
+-- EVERY POINT
+
+-- what a point tells of births
+pub whose_one : (points : List Point) (p : Point) (n : ℕ)
+    → owner n (entries (points ++ p ∷ [])) ≡ fold (owner_by n) (owner n (entries points)) (entry_in p)
+whose_one points p n =
+    ap (λ (t : List Entry). owner n t) (one_more entry_in points p) ∙ fold-append (owner_by n) nobody (entries points) (entry_in p)
+
+-- whose each link is behind a point
+abbrev pub after : Point → (ℕ → Owner) → ℕ → Owner
+after p whose n = fold (owner_by n) (whose n) (entry_in p)
+
+-- an entry that is no birth leaves each link its owner, and the number of the last birth
+unborn_by : (z : Entry) → is_birth z ≡ false → (n : ℕ) (o : Owner) → owner_by n o z ≡ o
+unborn_by (e.Accepted k d) none n o = absurd (false≢true (sym none))
+unborn_by (e.Dialled k to why) none n o = absurd (false≢true (sym none))
+unborn_by _ none n o = refl
+
+born_same : (z : Entry) → is_birth z ≡ false → (born : ℕ) → born_by born z ≡ born
+born_same (e.Accepted k d) none born = absurd (false≢true (sym none))
+born_same (e.Dialled k to why) none born = absurd (false≢true (sym none))
+born_same _ none born = refl
+
+neither : (b c : Bool) → (b || c) ≡ false → (b ≡ false) × (c ≡ false)
+neither true c is = absurd (false≢true (sym is))
+neither false c is = (refl, is)
+
+unborn_all : (es : List Entry) → list_any is_birth es ≡ false → (n : ℕ) (o : Owner) → fold (owner_by n) o es ≡ o
+unborn_all [] none n o = refl
+unborn_all (z ∷ es) none n o =
+    let both = neither (is_birth z) (list_any is_birth es) none in
+    ap (λ (v : Owner). fold (owner_by n) v es) (unborn_by z both.0 n o) ∙ unborn_all es both.1 n o
+
+born_all : (es : List Entry) → list_any is_birth es ≡ false → (born : ℕ) → born_after born es ≡ born
+born_all [] none born = refl
+born_all (z ∷ es) none born =
+    let both = neither (is_birth z) (list_any is_birth es) none in
+    ap (λ (b : ℕ). born_after b es) (born_same z both.0 born) ∙ born_all es both.1 born
+
+module _ (g : NodeConfig) (x : Machine) (points : List Point) (stands : StandsFor g x points) (whose : ℕ → Owner)
+    (owned : Owned x whose) where
+  seen_stays : (q : point.Point) (l : ℕ) → LinkStays l (x.inbound l) (seen_by x.control.held q (x.inbound l))
+  seen_stays (point.applied k r) l = applied_stays l (after_response x.control.held r) (x.inbound l)
+  seen_stays (point.stopped why) l = stopped_stays l why (x.inbound l)
+  seen_stays _ l = same_link l (x.inbound l)
+
+  quiet : (p : Point) (y : Machine) → list_any is_birth (entry_in p) ≡ false → Alike x y → Owned y (after p whose)
+  quiet p y none alike =
+      subst (Owned y) (sym (fun_ext (λ n. unborn_all (entry_in p) none n (whose n)))) (alike_owned x y whose owned alike)
+
+  control_quiet : (q : point.Point) (m : control.Machine) → model.Steps g x.control q m → list_any is_birth (point.entry_in q) ≡ false
+      → Owned (with_control q m x) (after (of_control q) whose)
+  control_quiet q m steps none = quiet (of_control q) (with_control q m x) none (record {
+    born = born_all (point.entry_in q) none x.born;
+    control = control_stays g x.control m (control_of points) q (control_runs g x points stands) steps none;
+    links = seen_stays q;
+  })
+
+  link_quiet : (l : ℕ) (p : Part) (next : Inbound) → runs.Steps l (local x l) p (runs.with_link next (local x l))
+      → list_any is_birth (part.entry_in p) ≡ false → Owned (with_part l p next x) (after (of_link l p) whose)
+  link_quiet l p next steps none = quiet (of_link l p) (with_part l p next x) none (record {
+    born = born_all (part.entry_in p) none x.born;
+    control = λ n was. was;
+    links = λ j. cond_both (j == l) next (x.inbound j) (λ z. LinkStays j (x.inbound j) z)
+        (λ is. subst (λ (i : ℕ). LinkStays i (x.inbound i) next) (sym (eqb-true j l is))
+        (step_stays l (at_start g) (local x l) (parts_of l points) (links_run g x points l stands) p
+        (runs.with_link next (local x l)) steps none)) (λ apart. same_link j (x.inbound j));
+  })
+
+  control_entry : (z : Entry) (m : control.Machine) → model.Steps g x.control (point.entry z) m → BirthMayCome x z
+      → Owned (with_control (point.entry z) m x) (after (of_control (point.entry z)) whose)
+  control_entry (e.Accepted k d) m steps birth = absurd steps.0
+  control_entry (e.Dialled k to why) m steps birth = control_dialled g x whose owned k to why m steps birth
+  control_entry z m steps birth = control_quiet (point.entry z) m steps refl
+
+  control_owned : (q : point.Point) (m : control.Machine) → model.Steps g x.control q m → ControlGuard x q
+      → Owned (with_control q m x) (after (of_control q) whose)
+  control_owned (point.entry z) m steps guard = control_entry z m steps guard.birth
+  control_owned q m steps guard = control_quiet q m steps refl
+
+  link_entry : (l : ℕ) (z : Entry) (next : Inbound) → runs.Steps l (local x l) (part.entry z) (runs.with_link next (local x l))
+      → BirthMayCome x z → Owned (with_part l (part.entry z) next x) (after (of_link l (part.entry z)) whose)
+  link_entry l (e.Accepted k d) next steps birth = link_accepted g x whose owned l k d next steps birth.0
+  link_entry l (e.Dialled k to why) next steps birth = absurd steps.0
+  link_entry l z next steps birth = link_quiet l (part.entry z) next steps refl
+
+  up_entry : (l s : ℕ) (z : Entry) (next : Inbound) → runs.Steps l (local x l) (part.up s z) (runs.with_link next (local x l))
+      → BirthMayCome x z → Owned (with_part l (part.up s z) next x) (after (of_link l (part.up s z)) whose)
+  up_entry l s (e.Accepted k d) next steps birth = absurd steps.0
+  up_entry l s (e.Dialled u to why) next steps birth =
+      up_dialled g x whose owned l s u to why next steps
+      (due_born (parts_of l points) (x.inbound l) s (x.inbound l).phase
+      (all_admit l (at_start g) (local x l) (parts_of l points) (links_run g x points l stands)).knows steps.0.1) birth
+  up_entry l s z next steps birth = link_quiet l (part.up s z) next steps refl
+
+  link_owned : (l : ℕ) (p : Part) (next : Inbound) → runs.Steps l (local x l) p (runs.with_link next (local x l)) → LinkGuard x l p
+      → Owned (with_part l p next x) (after (of_link l p) whose)
+  link_owned l (part.entry z) next steps guard = link_entry l z next steps guard.birth
+  link_owned l (part.up s z) next steps guard = up_entry l s z next steps guard.birth
+  link_owned l p next steps guard = link_quiet l p next steps refl
+
+  step_owned : (p : Point) (y : Machine) → Steps g x p y → Owned y (after p whose)
+  step_owned (of_control q) y steps =
+      subst (λ (z : Machine). Owned z (after (of_control q) whose)) (sym steps.3) (control_owned q steps.0 steps.1 steps.2)
+  step_owned (of_link l p) y steps =
+      subst (λ (z : Machine). Owned z (after (of_link l p) whose)) (sym steps.3) (link_owned l p steps.0 steps.1 steps.2)
+
+-- so it is in every run
+abbrev pub whose_in : List Point → ℕ → Owner
+whose_in points n = owner n (entries points)
+
+fresh_owned : (g : NodeConfig) → Owned (fresh g) (λ n. nobody)
+fresh_owned g = record {
+  unborn = λ n above. refl;
+  none = refl;
+  control = λ n born. absurd born;
+  link = λ l born. absurd (false≢true born);
+  up = λ l s. (λ u is. cc, refl);
+  one = λ l s u v is other. absurd cc;
+  over = λ l s u is. absurd cc;
+}
+
+pub all_owned : (g : NodeConfig) (x : Machine) (points : List Point) → StandsFor g x points → Owned x (whose_in points)
+all_owned g x points (begins is empty) =
+    subst (λ (ps : List Point). Owned x (whose_in ps)) (sym empty)
+    (subst (λ (z : Machine). Owned z (λ n. nobody)) (sym is) (fresh_owned g))
+all_owned g y more (goes_on {x = x} {points = points} stands p steps are) =
+    subst (λ (ps : List Point). Owned y (whose_in ps)) (sym are)
+    (subst (Owned y) (sym (fun_ext (λ n. whose_one points p n)))
+    (step_owned g x points stands (whose_in points) (all_owned g x points stands) p y steps))
+
+-- a link that is somebody's stays so
+pub owner_grows : (g : NodeConfig) (x : Machine) (points : List Point) → StandsFor g x points → (p : Point) (y : Machine) → Steps g x p y
+    → (n : ℕ) → (whose_in points n ≡ nobody) ⊎ (whose_in (points ++ p ∷ []) n ≡ whose_in points n)
+owner_grows g x points stands p y steps n =
+    ⊎_elim (λ none. inr (whose_one points p n ∙ ap (λ (es : List Entry). fold (owner_by n) (whose_in points n) es) none))
+    (λ h. ⊎_elim inl (λ same. inr (whose_one points p n ∙ ap (λ (es : List Entry). fold (owner_by n) (whose_in points n) es) h.1 ∙ same))
+    (by h.0 (birth_of g x y p steps h.0 h.1)))
+    (short p)
+  where
+    owned : Owned x (whose_in points)
+    owned = all_owned g x points stands
+
+    new_one : (k : ℕ) (w : Owner) → k ≡ x.born + 1
+        → (whose_in points n ≡ nobody) ⊎ (cond (k == n) w (whose_in points n) ≡ whose_in points n)
+    new_one k w is =
+        cond_both (k == n) w (whose_in points n) (λ o. (whose_in points n ≡ nobody) ⊎ (o ≡ whose_in points n))
+        (λ same. inl (owned.unborn n (let here = eqb-true k n same in omega (arith, is, here)))) (λ apart. inr refl)
+
+    by : (z : Entry) → BirthMayCome x z → (whose_in points n ≡ nobody) ⊎ (owner_by n (whose_in points n) z ≡ whose_in points n)
+    by (e.Accepted k d) may = new_one k (at_door d) may.0
+    by (e.Dialled k to why) may = new_one k (dialled_for why) may
+    by _ may = inr refl

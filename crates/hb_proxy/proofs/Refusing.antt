@@ -1,0 +1,218 @@
+-- What steps and laws of the whole refuse, and what may go.
+use Rattle.std.proofs.Common.{◌≡◌, ℕ, ◌==◌, List, [], ◌∷◌, ◌++◌, Some, None, refl, ap, sym, ◌∙◌, subst, arith, true, false, ◌||◌, Bool, ⊎_elim}
+use Rattle.std.proofs.lemmas.Bool.{cond_both, false≢true}
+use Rattle.std.proofs.lemmas.List.{append-nil, append_assoc}
+use Rattle.hb_base.specs.declared.cause.Cause.TheVariants as cause
+use Rattle.hb_base.specs.declared.door.Door.TheVariants as door
+use Rattle.hb_base.specs.declared.door.Why.TheVariants as whys
+use Rattle.hb_base.specs.declared.peer.Peer.{Peer}
+use Rattle.hb_held.specs.Outcome.{after_response}
+use Rattle.hb_inbound.specs.Calm.{IsCalm, IsQuiet, close_due}
+use Rattle.hb_inbound.specs.Inbound.{no_link, arriving, fronting, with_phase}
+use Rattle.hb_inbound.specs.Part as part
+use Rattle.hb_inbound.specs.Part.{Part}
+use Rattle.hb_inbound.proofs.RefusedRuns.{revoked}
+use Rattle.hb_inbound.specs.RefusedRuns.{peer_in}
+use Rattle.hb_model.specs.Discovery as discovery
+use Rattle.hb_model.specs.Machine as control
+use Rattle.hb_model.specs.Point as point
+use Rattle.hb_model.specs.Runs.{IsCalmBy}
+use Rattle.hb_table.specs.Judgement.{judged}
+use Rattle.hb_world.specs.declared.entry.Entry.TheVariants as e
+use Rattle.hb_proxy.specs.Access.{AccessAt}
+use Rattle.hb_proxy.specs.Held.{at_start}
+use Rattle.hb_proxy.specs.Machine.{Machine, fresh, with_control, with_part}
+use Rattle.hb_proxy.specs.Owners.{nobody, control_plane, inbound_link}
+use Rattle.hb_proxy.specs.Points.{Point, of_control, of_link}
+use Rattle.hb_proxy.specs.Refused.{ComesUnborn, ReadsUnborn, ReadsAnothers, BornTwice, BornAgain, SeesAlone, SeeAll, AnswersAnother, AnswersControl}
+use Rattle.hb_proxy.specs.Refused.{lived, WritesBehind, ReadsBehind, TicksBehind, InventsByte, DialsTwice, ComesWhileDue, DialsWhileDue, AcceptsBehindEnd, AcceptsFirst, ReadsEnded, GoesOnAdmitted, begun, RunMayGo, RunIsLawful}
+use Rattle.hb_proxy.specs.Runs.{link_first, ControlRests, StandsFor, begins, goes_on}
+use Rattle.hb_proxy.proofs.Access.{runs_admit}
+use Rattle.hb_proxy.proofs.Control.{obey_entries}
+use Rattle.hb_proxy.proofs.Dials.{runs_dial}
+use Rattle.hb_proxy.proofs.Ends.{unfaulted, lets_quiet, runs_end}
+use Rattle.hb_proxy.proofs.Own.{runs_own, runs_number}
+use Rattle.hb_proxy.proofs.Relay.{runs_relay}
+use Rattle.hb_proxy.proofs.Stays.{is_born, may_born}
+
+pub comes_unborn : ComesUnborn
+comes_unborn g x y l bytes is steps =
+    false≢true (sym (ap is_born is) ∙ may_born l (x.inbound l) (e.Came l bytes) steps.1.0 refl)
+
+pub reads_unborn : ReadsUnborn
+reads_unborn bytes law =
+    let mine : nobody ≡ control_plane = law [] (of_control (point.entry (e.Came 1 bytes))) [] refl in cc
+
+pub reads_anothers : ReadsAnothers
+reads_anothers to bytes law =
+    let dialled = of_control (point.entry (e.Dialled 1 to whys.Discovery)) in
+    let mine : control_plane ≡ inbound_link = (law (dialled ∷ []) (of_link 1 (part.entry (e.Came 1 bytes))) [] refl).1 in cc
+
+pub born_twice : BornTwice
+born_twice to law =
+    let number : 1 ≡ 2 = law (e.Dialled 1 to whys.Discovery ∷ []) (e.Accepted 1 door.Inbound) [] refl in absurd (omega (arith, number))
+
+pub born_again : BornAgain
+born_again g x y l to is steps = absurd (omega (arith, is, steps.2.birth))
+
+pub sees_alone : SeesAlone
+sees_alone g x y l r steps = steps.2
+
+pub see_all : SeeAll
+see_all g x y k l r steps = ap (λ (z : Machine). z.inbound l) steps.3
+
+pub answers_another : AnswersAnother
+answers_another g x y l s u k to apart steps =
+    let asked : whys.Upstream k s ≡ whys.Upstream l s = steps.1.0.4 in apart (let same : k ≡ l = cc in same)
+
+pub answers_control : AnswersControl
+answers_control g x y l s u to steps = (let asked : whys.Upstream l s ≡ whys.Discovery = steps.1.0.3 in cc)
+
+pub dials_twice : DialsTwice
+dials_twice to law = (let same : 3 ≡ 4 = law 2 1 3 4 refl refl in absurd (omega (arith, same)))
+
+pub comes_while_due : ComesWhileDue
+comes_while_due g x y l k why bytes apart due steps =
+    let quiet = lets_quiet (link_first (x.inbound l).phase (e.Came l bytes)) (x.inbound k)
+    (ap (λ (b : Bool). b || false) (⊎_elim (λ h. unfaulted (x.inbound l).phase h.0.no_close)
+    (λ h. unfaulted (x.inbound l).phase h.0.no_close)
+    steps.1.0.1.0)) (steps.2.others k apart) in
+    let none : Some why ≡ None = sym (ap close_due due) ∙ quiet.no_close in cc
+
+pub dials_while_due : DialsWhileDue
+dials_while_due g x y l s u to due steps = false≢true (sym steps.2.control.no_dial ∙ due)
+
+pub accepts_behind_end : AcceptsBehindEnd
+accepts_behind_end g x y l over steps = false≢true (sym steps.2.birth.1 ∙ over)
+
+pub writes_behind : WritesBehind
+writes_behind g to seen target note r bytes not law =
+    let at = law (lived to seen target note r) 2 (part.up 1 (e.Went 3 bytes)) [] refl in
+    let same_peer : peer_in seen ≡ at.peer = (let told : Some (peer_in seen) ≡ Some at.peer = at.peer_is in cc) in
+    let same_target : target ≡ at.target = (let told : Some target ≡ Some at.target = at.target_is in cc) in
+    not (ap (λ (p : Peer). judged (after_response (at_start g) r) p target) same_peer
+    ∙ ap (judged (after_response (at_start g) r) at.peer) same_target ∙ at.admitted)
+
+pub reads_behind : ReadsBehind
+reads_behind g to seen target note r bytes not law =
+    let at = law (lived to seen target note r) (of_link 4 (part.entry (e.Came 4 bytes))) [] refl in
+    let open_yet : 3 ≡ 0 = at.0 2 1 cause.Revoked (revoked (at_start g) seen target note r not) in absurd (omega (arith, open_yet))
+
+pub ticks_behind : TicksBehind
+ticks_behind g to seen target note r not law =
+    let at = law (lived to seen target note r) (of_control (point.entry e.Tick)) [] refl in
+    let open_yet : 3 ≡ 0 = at 2 1 cause.Revoked (revoked (at_start g) seen target note r not) in absurd (omega (arith, open_yet))
+
+pub invents_byte : InventsByte
+invents_byte to seen target note r byte law =
+    let up = law.ups 2 1 3 refl in
+    let none : [] ≡ byte ∷ up.rest = up.front in cc
+
+pub accepts_first : AcceptsFirst
+accepts_first g law =
+    let none : true ≡ false = law [] (of_link 1 (part.entry (e.Accepted 1 door.Inbound))) [] refl (e.Accepted 1 door.Inbound) refl in cc
+
+pub reads_ended : ReadsEnded
+reads_ended to bytes law =
+    let before = of_control (point.entry (e.Dialled 1 to whys.Discovery)) ∷ of_link 2 (part.entry (e.Accepted 2 door.Inbound))
+    ∷ of_control (point.entry (e.Ended 1)) ∷ [] in
+    let none : Some cause.Broken ≡ None =
+    law.ends before (of_link 2 (part.entry (e.Came 2 bytes))) (e.Came 2 bytes) [] refl refl 1 refl refl in cc
+
+-- a law at each part of a run, one place after another
+Places : (List Point → ℕ → Part → Type 0) → List Point → List Point → Type 0
+Places P before [] = Unit {0}
+Places P before (of_control q ∷ points) = Places P (before ++ of_control q ∷ []) points
+Places P before (of_link l p ∷ points) = P before l p × Places P (before ++ of_link l p ∷ []) points
+
+places : (P : List Point → ℕ → Part → Type 0) (before points : List Point) → Places P before points
+    → (front : List Point) (l : ℕ) (p : Part) (behind : List Point) → points ≡ front ++ of_link l p ∷ behind → P (before ++ front) l p
+unfolding Places
+places P before [] each [] l p behind are = absurd (let no_more : [] ≡ of_link l p ∷ behind = are in cc)
+places P before [] each (q ∷ front) l p behind are = absurd (let no_more : [] ≡ q ∷ (front ++ of_link l p ∷ behind) = are in cc)
+places P before (of_control q ∷ points) each [] l p behind are = absurd (let same : of_control q ≡ of_link l p = cc in cc)
+places P before (of_link k y ∷ points) each [] l p behind are =
+    let same : of_link k y ≡ of_link l p = cc in
+    let same_link : k ≡ l = cc in
+    let same_part : y ≡ p = cc in
+    subst (λ (ps : List Point). P ps l p) (sym (append-nil before))
+    (subst (λ (j : ℕ). P before j p) same_link (subst (λ (z : Part). P before k z) same_part each.0))
+places P before (of_control y ∷ points) each (q ∷ front) l p behind are =
+    let same : of_control y ≡ q = cc in
+    let rest : points ≡ front ++ of_link l p ∷ behind = cc in
+    subst (λ (ps : List Point). P ps l p) (append_assoc before (q ∷ []) front)
+    (subst (λ (z : Point). P ((before ++ z ∷ []) ++ front) l p) same
+    (places P (before ++ of_control y ∷ []) points each front l p behind rest))
+places P before (of_link k y ∷ points) each (q ∷ front) l p behind are =
+    let same : of_link k y ≡ q = cc in
+    let rest : points ≡ front ++ of_link l p ∷ behind = cc in
+    subst (λ (ps : List Point). P ps l p) (append_assoc before (q ∷ []) front)
+    (subst (λ (z : Point). P ((before ++ z ∷ []) ++ front) l p) same
+    (places P (before ++ of_link k y ∷ []) points each.1 front l p behind rest))
+
+pub goes_on_admitted : GoesOnAdmitted
+unfolding Places
+goes_on_admitted g to seen target note r bytes is =
+    places (AccessAt g) [] (lived to seen target note r ++ of_link 2 (part.up 1 (e.Went 3 bytes)) ∷ []) (
+      tt,
+      (
+        tt,
+        (
+          tt,
+          (
+            tt,
+            (
+              tt,
+              (
+                tt,
+                (record { peer = peer_in seen; target = target; peer_is = refl; target_is = refl; admitted = is }, tt),
+              ),
+            ),
+          ),
+        ),
+      ),
+    )
+
+-- A RUN
+
+calm : IsCalm no_link
+calm = record { answered = λ s. refl; rests = tt }
+
+quiet : IsQuiet no_link
+quiet = record { calm = calm; no_close = refl; idle = λ s. tt }
+
+pub run_may_go : RunMayGo
+run_may_go g =
+    let dial = e.Dialled 1 g.discovery whys.Discovery in
+    let accept = e.Accepted 2 door.Inbound in
+    let m = control.entered g dial (control.fresh g) in
+    let x = with_control (point.entry dial) m (fresh g) in
+    let link = with_phase arriving no_link in
+    let y = with_part 2 (part.entry accept) link x in
+    let z = with_part 2 part.welcomed (with_phase fronting link) y in
+    let dialled : StandsFor g x (of_control (point.entry dial) ∷ []) =
+    goes_on (begins refl refl) (of_control (point.entry dial))
+    (m, ((refl, omega arith, refl, refl), refl), record { birth = refl; links = λ l. calm }, refl) refl in
+    let rests : ControlRests m = record {
+      no_dial = refl;
+      calm = λ l. cond_both (1 == l) (discovery.dialled g.id g.discovery (control.fresh g).held) discovery.no_link
+          (λ d. IsCalmBy d.phase d) (λ is. tt) (λ is. tt);
+    } in
+    let accepted : StandsFor g y (of_control (point.entry dial) ∷ of_link 2 (part.entry accept) ∷ []) =
+    goes_on dialled (of_link 2 (part.entry accept))
+    (link, ((refl, refl, refl), refl), record { birth = (refl, refl); control = rests; others = λ k apart. quiet }, refl) refl in
+    (z, goes_on accepted (of_link 2 part.welcomed) (with_phase fronting link, (refl, refl), tt, refl) refl)
+
+pub run_is_lawful : RunIsLawful
+run_is_lawful g =
+    let x = (run_may_go g).0 in
+    let runs = (run_may_go g).1 in
+    let points = begun g.discovery in (
+      runs_own g x points runs,
+      runs_number g x points runs,
+      runs_dial g x points runs,
+      runs_end g x points runs,
+      runs_admit g x points runs,
+      runs_relay g x points runs,
+      obey_entries g x points runs,
+    )

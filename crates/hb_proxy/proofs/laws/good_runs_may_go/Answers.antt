@@ -1,0 +1,5 @@
+use Rattle.hb_proxy.proofs.Refusing.{run_may_go, run_is_lawful, goes_on_admitted}
+use Rattle.hb_proxy.proofs.laws.good_runs_may_go.Goals as goal
+
+pub returns : goal.returns
+returns c = record { run = run_may_go; lawful = run_is_lawful; goes_on = goes_on_admitted }

@@ -1,0 +1,114 @@
+-- What every run of the whole proxy obeys.
+use Rattle.std.specs.Prelude.{◌≡◌, ℕ, List, []}
+use Rattle.hb_held.specs.Held.{Resources}
+use Rattle.hb_inbound.specs.Closes.{CloseLaw}
+use Rattle.hb_inbound.specs.Connections.{ConnectionLaw, WindowLaw}
+use Rattle.hb_inbound.specs.Dials as inbound_dials
+use Rattle.hb_inbound.specs.Ends as inbound_ends
+use Rattle.hb_inbound.specs.Notes.{NoteLaw}
+use Rattle.hb_inbound.specs.Part.{Part}
+use Rattle.hb_inbound.specs.Rings.{RingLaw}
+use Rattle.hb_inbound.specs.Runs as inbound
+use Rattle.hb_inbound.specs.Sides as inbound_sides
+use Rattle.hb_inbound.specs.Verdicts.{VerdictLaw}
+use Rattle.hb_conn.specs.Observed.{output}
+use Rattle.hb_model.specs.Discovery.{live}
+use Rattle.hb_model.specs.Messages as messages
+use Rattle.hb_model.specs.Puts.{IsAllPut}
+use Rattle.hb_model.specs.Runs as model
+use Rattle.hb_model.specs.declared.config.NodeConfig.{NodeConfig}
+use Rattle.hb_proxy.specs.Access.{AccessLaw, EntryLaw}
+use Rattle.hb_proxy.specs.Control.{EntryLaws, ControlLaws}
+use Rattle.hb_proxy.specs.Dials.{DialLaw}
+use Rattle.hb_proxy.specs.Ends.{EndLaw}
+use Rattle.hb_proxy.specs.Held.{at_start}
+use Rattle.hb_proxy.specs.Machine.{Machine, local}
+use Rattle.hb_proxy.specs.Owners.{OwnLaw, NumberLaw, UpstreamLaw}
+use Rattle.hb_proxy.specs.Points.{Point, entries, control_of, parts_of}
+use Rattle.hb_proxy.specs.Relay.{RelayLaw}
+use Rattle.hb_proxy.specs.Runs.{StandsFor}
+use Rattle.hb_proxy.specs.Sides.{SideLaw}
+
+-- THE PARTS
+
+-- the control plane's points are a run of its machine, and each inbound link's parts one of the link's, with what that holds
+abbrev pub ControlRuns : Type 0
+ControlRuns = (g : NodeConfig) (x : Machine) (points : List Point) → StandsFor g x points
+    → model.StandsFor g x.control (control_of points)
+
+abbrev pub LinksRun : Type 0
+LinksRun = (g : NodeConfig) (x : Machine) (points : List Point) (l : ℕ) → StandsFor g x points
+    → inbound.StandsFor l (at_start g) (local x l) (parts_of l points)
+
+-- so what is held, by the control plane and at each inbound link, is what the control plane's responses make
+abbrev pub ControlHolds : Type 0
+ControlHolds = (g : NodeConfig) (x : Machine) (points : List Point) → StandsFor g x points
+    → x.control.held ≡ messages.held g (control_of points)
+
+abbrev pub LinksHold : Type 0
+LinksHold = (g : NodeConfig) (x : Machine) (points : List Point) (l : ℕ) → StandsFor g x points
+    → inbound_sides.held (at_start g) (parts_of l points) ≡ messages.held g (control_of points)
+
+-- WHOSE A LINK IS
+
+-- each entry stands on a link of its own part, links are numbered in the order of births, each upstream is of a stream of its own
+abbrev pub RunsOwn : Type 0
+RunsOwn = (g : NodeConfig) (x : Machine) (points : List Point) → StandsFor g x points → OwnLaw points
+
+abbrev pub RunsNumber : Type 0
+RunsNumber = (g : NodeConfig) (x : Machine) (points : List Point) → StandsFor g x points → NumberLaw (entries points)
+
+abbrev pub RunsDialOnce : Type 0
+RunsDialOnce = (g : NodeConfig) (x : Machine) (points : List Point) → StandsFor g x points → UpstreamLaw (entries points)
+
+-- so the bytes of a link are the same in the trace and in its part
+abbrev pub RunsShareSides : Type 0
+RunsShareSides = (g : NodeConfig) (x : Machine) (points : List Point) → StandsFor g x points → SideLaw points
+
+-- WHAT IS SAID OF INBOUND LINKS
+
+abbrev pub RunsAdmit : Type 0
+RunsAdmit = (g : NodeConfig) (x : Machine) (points : List Point) → StandsFor g x points → AccessLaw g points
+
+abbrev pub RunsAdmitEntries : Type 0
+RunsAdmitEntries = (g : NodeConfig) (x : Machine) (points : List Point) → StandsFor g x points → EntryLaw g points
+
+abbrev pub RunsRelay : Type 0
+RunsRelay = (g : NodeConfig) (x : Machine) (points : List Point) → StandsFor g x points → RelayLaw points
+
+abbrev pub RunsEnd : Type 0
+RunsEnd = (g : NodeConfig) (x : Machine) (points : List Point) → StandsFor g x points → EndLaw g points
+
+-- the laws of one inbound link
+pub record LinkLaws (start : Resources) (l : ℕ) (parts : List Part) : Type 0 where
+  pub connection : ConnectionLaw parts
+  pub windows : WindowLaw parts
+  pub rings : RingLaw parts
+  pub ends : inbound_ends.EndLaw start parts
+  pub closes : CloseLaw parts
+  pub verdicts : VerdictLaw start parts
+  pub dials : inbound_dials.DialLaw start parts
+  pub notes : NoteLaw start l parts
+
+abbrev pub RunsObeyLinks : Type 0
+RunsObeyLinks = (g : NodeConfig) (x : Machine) (points : List Point) (l : ℕ) → StandsFor g x points
+    → LinkLaws (at_start g) l (parts_of l points)
+
+-- WHAT IS SAID OF THE CONTROL PLANE
+
+-- it is dialled exactly when it is due
+abbrev pub RunsDial : Type 0
+RunsDial = (g : NodeConfig) (x : Machine) (points : List Point) → StandsFor g x points → DialLaw g points
+
+-- at each entry of the trace, of whatever part
+abbrev pub RunsObeyEntries : Type 0
+RunsObeyEntries = (g : NodeConfig) (x : Machine) (points : List Point) → StandsFor g x points → EntryLaws points
+
+-- and of its own points
+abbrev pub RunsObeyControl : Type 0
+RunsObeyControl = (g : NodeConfig) (x : Machine) (points : List Point) → StandsFor g x points → ControlLaws g (control_of points)
+
+-- where nothing waits on a link to it that lives, and nothing more happens on it by itself, all is put
+abbrev pub RunsPutAll : Type 0
+RunsPutAll = (g : NodeConfig) (x : Machine) (points : List Point) (l : ℕ) → StandsFor g x points → (x.control.links l).phase ≡ live
+    → model.IsCalm (x.control.links l) → output (x.control.links l).conn ≡ [] → IsAllPut g (control_of points) l

@@ -1,0 +1,14 @@
+pub mod Access
+pub mod Control
+pub mod Dials
+pub mod Ends
+pub mod Held
+pub mod Laws
+pub mod Leads
+pub mod Machine
+pub mod Owners
+pub mod Points
+pub mod Refused
+pub mod Relay
+pub mod Runs
+pub mod Sides

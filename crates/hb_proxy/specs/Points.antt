@@ -1,0 +1,43 @@
+-- The points of a run of the whole proxy, in order: each is of the control plane, or of one inbound link with its tunnels.
+use Rattle.std.specs.Prelude.{ℕ, ◌==◌, if◌then◌else◌, List, [], ◌∷◌}
+use Rattle.std.specs.List.{flat_map}
+use Rattle.hb_inbound.specs.Part as part
+use Rattle.hb_inbound.specs.Part.{Part}
+use Rattle.hb_model.specs.Point as model
+use Rattle.hb_world.specs.declared.entry.Entry.{Entry}
+
+pub data Point : Type 0 where
+  -- a point of the links to the control plane; also an entry of no link, as a tick, and the end of the run
+  of_control : model.Point → Point
+  -- this happens to the inbound link of this number
+  of_link : (link : ℕ) → Part → Point
+
+-- the trace of a run
+abbrev pub entry_in : Point → List Entry
+entry_in (of_control q) = model.entry_in q
+entry_in (of_link l p) = part.entry_in p
+
+abbrev pub entries : List Point → List Entry
+entries points = flat_map entry_in points
+
+-- the control plane's points
+abbrev pub control_in : Point → List model.Point
+control_in (of_control q) = q ∷ []
+control_in (of_link l p) = []
+
+abbrev pub control_of : List Point → List model.Point
+control_of points = flat_map control_in points
+
+-- what every inbound link sees of them: a response that is applied, and the end of the run
+abbrev pub seen : model.Point → List Part
+seen (model.applied l r) = part.applied r ∷ []
+seen (model.stopped cause) = part.stopped cause ∷ []
+seen _ = []
+
+-- what happens to an inbound link
+abbrev pub part_in : ℕ → Point → List Part
+part_in link (of_control q) = seen q
+part_in link (of_link l p) = if l == link then p ∷ [] else []
+
+abbrev pub parts_of : ℕ → List Point → List Part
+parts_of link points = flat_map (part_in link) points

@@ -1,0 +1,38 @@
+-- The relay law over the whole trace: what is written to each side of a tunnel is a front of what came from the other.
+use Rattle.std.specs.Prelude.{◌≡◌, ◌≢◌, ℕ, List, [], ◌++◌}
+use Rattle.hb_frames.specs.RawFrame.{RawFrame}
+use Rattle.hb_inbound.specs.Relay.{MayGoUp, MayEnd}
+use Rattle.hb_inbound.specs.Sides.{stream_came}
+use Rattle.hb_kept.specs.Payloads.{Began, payloads}
+use Rattle.hb_world.specs.Trace.{recv, sent}
+use Rattle.hb_proxy.specs.Owners.{owner, inbound_link, upstream_of}
+use Rattle.hb_proxy.specs.Points.{Point, entries, parts_of}
+use Rattle.hb_proxy.specs.Sides.{AtParts}
+
+-- the bytes that went to the upstream u of a stream are a front of the DATA that came on the stream
+pub record RelaysUp (points : List Point) (l s u : ℕ) : Type 0 where
+  pub rest : List ℕ
+  pub front : stream_came s (parts_of l points) ≡ sent u (entries points) ++ rest
+
+-- What went on the link is frames that have begun, of which the last may be in part; the DATA of the stream in them, the last frame
+-- counted whole, is a front of the bytes that came from its upstream u
+pub record RelaysDown (points : List Point) (l s u : ℕ) : Type 0 where
+  pub begun : List RawFrame
+  pub began : Began (sent l (entries points)) begun
+  pub rest : List ℕ
+  pub front : recv u (entries points) ≡ payloads s begun ++ rest
+
+-- on a stream without an upstream no DATA goes
+pub record SendsNone (points : List Point) (l s : ℕ) : Type 0 where
+  pub begun : List RawFrame
+  pub began : Began (sent l (entries points)) begun
+  pub none : payloads s begun ≡ []
+
+-- so it is of each upstream, and of each inbound link; and bytes go, and a side ends, only where they may
+pub record RelayLaw (points : List Point) : Type 0 where
+  pub ups : (l s u : ℕ) → owner u (entries points) ≡ upstream_of l s → RelaysUp points l s u
+  pub downs : (l s u : ℕ) → owner u (entries points) ≡ upstream_of l s → RelaysDown points l s u
+  pub none : (l s : ℕ) → owner l (entries points) ≡ inbound_link → ((u : ℕ) → owner u (entries points) ≢ upstream_of l s)
+      → SendsNone points l s
+  pub goes : AtParts (λ before l p. MayGoUp (parts_of l before) p) points
+  pub ends : AtParts (λ before l p. MayEnd (parts_of l before) p) points

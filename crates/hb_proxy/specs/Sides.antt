@@ -1,0 +1,45 @@
+-- What the trace says of a link is what the link's part says of it.
+use Rattle.std.specs.Prelude.{◌≡◌, ◌≢◌, ℕ, List, [], ◌∷◌, ◌++◌}
+use Rattle.hb_inbound.specs.Part.{Part}
+use Rattle.hb_inbound.specs.Sides.{link_came, link_went, up_came, up_went}
+use Rattle.hb_model.specs.Calls.{IsControl}
+use Rattle.hb_model.specs.Point as model
+use Rattle.hb_world.specs.Trace.{recv, sent}
+use Rattle.hb_proxy.specs.Owners.{owner, control_plane, inbound_link, upstream_of}
+use Rattle.hb_proxy.specs.Points.{Point, of_link, entries, control_of, parts_of}
+
+-- the bytes that came and went on a link to the control plane are those of the control plane's points
+pub record ControlSide (points : List Point) (l : ℕ) : Type 0 where
+  pub came : recv l (entries points) ≡ recv l (model.entries (control_of points))
+  pub went : sent l (entries points) ≡ sent l (model.entries (control_of points))
+
+-- those on an inbound link are those of its part
+pub record LinkSide (points : List Point) (l : ℕ) : Type 0 where
+  pub came : recv l (entries points) ≡ link_came (parts_of l points)
+  pub went : sent l (entries points) ≡ link_went (parts_of l points)
+
+-- and those on the upstream of a stream of it
+pub record UpSide (points : List Point) (l s u : ℕ) : Type 0 where
+  pub came : recv u (entries points) ≡ up_came s (parts_of l points)
+  pub went : sent u (entries points) ≡ up_went s (parts_of l points)
+
+-- a stream without an upstream has no such bytes
+pub record NoSide (points : List Point) (l s : ℕ) : Type 0 where
+  pub came : up_came s (parts_of l points) ≡ []
+  pub went : up_went s (parts_of l points) ≡ []
+
+-- a link that the trace tells to be one to the control plane is one by its owner, and by the control plane's points
+pub record IsKnown (points : List Point) (l : ℕ) : Type 0 where
+  pub owned : owner l (entries points) ≡ control_plane
+  pub told : IsControl l (model.entries (control_of points))
+
+pub record SideLaw (points : List Point) : Type 0 where
+  pub known : (l : ℕ) → IsControl l (entries points) → IsKnown points l
+  pub control : (l : ℕ) → owner l (entries points) ≡ control_plane → ControlSide points l
+  pub link : (l : ℕ) → owner l (entries points) ≡ inbound_link → LinkSide points l
+  pub up : (l s u : ℕ) → owner u (entries points) ≡ upstream_of l s → UpSide points l s u
+  pub none : (l s : ℕ) → ((u : ℕ) → owner u (entries points) ≢ upstream_of l s) → NoSide points l s
+
+-- at each part of an inbound link: what holds of the points before it, of the link, and of the part there
+abbrev pub AtParts : (List Point → ℕ → Part → Type 0) → List Point → Type 0
+AtParts P points = (before : List Point) (l : ℕ) (p : Part) (behind : List Point) → points ≡ before ++ of_link l p ∷ behind → P before l p
