@@ -1,6 +1,7 @@
 -- What steps and laws of the whole refuse, and what may go.
 use Rattle.std.proofs.Common.{◌≡◌, ℕ, ◌==◌, List, [], ◌∷◌, ◌++◌, Some, None, refl, ap, sym, ◌∙◌, subst, arith, true, false, ◌||◌, Bool, ⊎_elim}
 use Rattle.std.proofs.lemmas.Bool.{cond_both, false≢true}
+use Rattle.hb_inbound.specs.Tunnel.{is_unanswered}
 use Rattle.std.proofs.lemmas.List.{append-nil, append_assoc}
 use Rattle.hb_base.specs.declared.cause.Cause.TheVariants as cause
 use Rattle.hb_base.specs.declared.door.Door.TheVariants as door
@@ -25,7 +26,7 @@ use Rattle.hb_proxy.specs.Machine.{Machine, fresh, with_control, with_part}
 use Rattle.hb_proxy.specs.Owners.{nobody, control_plane, inbound_link}
 use Rattle.hb_proxy.specs.Points.{Point, of_control, of_link}
 use Rattle.hb_proxy.specs.Refused.{ComesUnborn, ReadsUnborn, ReadsAnothers, BornTwice, BornAgain, SeesAlone, SeeAll, AnswersAnother, AnswersControl}
-use Rattle.hb_proxy.specs.Refused.{lived, WritesBehind, ReadsBehind, TicksBehind, InventsByte, DialsTwice, ComesWhileDue, DialsWhileDue, AcceptsBehindEnd, AcceptsFirst, ReadsEnded, GoesOnAdmitted, begun, RunMayGo, RunIsLawful}
+use Rattle.hb_proxy.specs.Refused.{lived, WritesBehind, ReadsBehind, TicksBehind, InventsByte, DialsTwice, ComesWhileDue, DialsWhileDue, AcceptsBehindEnd, StopsUnanswered, AcceptsFirst, ReadsEnded, GoesOnAdmitted, begun, RunMayGo, RunIsLawful}
 use Rattle.hb_proxy.specs.Runs.{link_first, ControlRests, StandsFor, begins, goes_on}
 use Rattle.hb_proxy.proofs.Access.{runs_admit}
 use Rattle.hb_proxy.proofs.Control.{obey_entries}
@@ -81,6 +82,10 @@ comes_while_due g x y l k why bytes apart due steps =
 
 pub dials_while_due : DialsWhileDue
 dials_while_due g x y l s u to due steps = false≢true (sym steps.2.control.no_dial ∙ due)
+
+pub stops_unanswered : StopsUnanswered
+stops_unanswered g x y l s why headers end is steps =
+    absurd (false≢true (sym (steps.2 l s) ∙ ap is_unanswered is))
 
 pub accepts_behind_end : AcceptsBehindEnd
 accepts_behind_end g x y l over steps = false≢true (sym steps.2.birth.1 ∙ over)

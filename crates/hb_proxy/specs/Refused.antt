@@ -1,5 +1,5 @@
 -- Small steps that no run of the whole proxy takes, small runs that its laws refuse, and some that may go.
-use Rattle.std.specs.Prelude.{◌≡◌, ◌≢◌, ℕ, true, false, List, [], ◌∷◌, ◌++◌}
+use Rattle.std.specs.Prelude.{◌≡◌, ◌≢◌, ℕ, Bool, true, false, List, [], ◌∷◌, ◌++◌}
 use Rattle.hb_base.specs.declared.cause.Cause.{Cause}
 use Rattle.hb_base.specs.declared.door.Door.TheVariants as door
 use Rattle.hb_base.specs.declared.door.Why.TheVariants as whys
@@ -8,9 +8,11 @@ use Rattle.hb_base.specs.declared.target.Target.{Target}
 use Rattle.hb_disco.specs.declared.response.Response.{Response}
 use Rattle.hb_front.specs.Reading.{Seen}
 use Rattle.hb_held.specs.Outcome.{after_response}
+use Rattle.hb_hpack.specs.declared.header.HeaderList.{HeaderList}
 use Rattle.hb_inbound.specs.Inbound.{unborn, closing, rejudged}
 use Rattle.hb_inbound.specs.Part as part
 use Rattle.hb_inbound.specs.RefusedRuns.{IsRevoked, StaysIn}
+use Rattle.hb_inbound.specs.Tunnel.{requested}
 use Rattle.hb_model.specs.Point as point
 use Rattle.hb_model.specs.declared.config.NodeConfig.{NodeConfig}
 use Rattle.hb_verdict.specs.declared.verdict.Verdict.TheVariants.{Dial}
@@ -84,6 +86,11 @@ ComesWhileDue = (g : NodeConfig) (x y : Machine) (l k : ℕ) (why : Cause) (byte
 abbrev pub DialsWhileDue : Type 0
 DialsWhileDue = (g : NodeConfig) (x y : Machine) (l s u : ℕ) (to : Target)
     → x.control.dials ≡ true → Steps g x (of_link l (part.up s (e.Dialled u to (whys.Upstream l s)))) y → ⊥
+
+-- the run is stopped while a request waits for its answer
+abbrev pub StopsUnanswered : Type 0
+StopsUnanswered = (g : NodeConfig) (x y : Machine) (l s : ℕ) (why : Cause) (headers : HeaderList) (end : Bool)
+    → ((x.inbound l).tunnels s).stage ≡ requested headers end → Steps g x (of_control (point.stopped why)) y → ⊥
 
 abbrev pub AcceptsBehindEnd : Type 0
 AcceptsBehindEnd = (g : NodeConfig) (x y : Machine) (l : ℕ)

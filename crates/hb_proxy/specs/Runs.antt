@@ -1,6 +1,6 @@
 -- Which point of the whole proxy may come next, and what a run of it is.
 use Rattle.std.specs.Prelude.{⊤, ◌≡◌, ◌≢◌, ℕ, ◌+◌, ◌||◌, Bool, true, false, List, [], ◌∷◌, ◌++◌}
-use Rattle.hb_inbound.specs.Calm.{IsCalm, IsQuiet}
+use Rattle.hb_inbound.specs.Calm.{IsAnswered, IsCalm, IsQuiet}
 use Rattle.hb_inbound.specs.Inbound as link
 use Rattle.hb_inbound.specs.Inbound.{Inbound}
 use Rattle.hb_inbound.specs.Part as part
@@ -77,8 +77,10 @@ pub record LinkMayCome (x : Machine) (l : ℕ) (entry : Entry) : Type 0 where
   pub control : ControlRests x.control
   pub others : (k : ℕ) → k ≢ l → Lets (link_first (x.inbound l).phase entry) (x.inbound k)
 
+-- the run is stopped only where every request, opening and end of a tunnel got what it gets
 abbrev pub ControlGuard : Machine → point.Point → Type 0
 ControlGuard x (point.entry e) = ControlMayCome x e
+ControlGuard x (point.stopped cause) = (l : ℕ) → IsAnswered (x.inbound l)
 ControlGuard x _ = ⊤
 
 -- responses are applied and the run is stopped for all links at once

@@ -6,7 +6,7 @@ ghost use Rattle.hb_proxy.specs.Laws.{RunsDial, RunsObeyEntries, RunsObeyControl
 ghost use Rattle.hb_proxy.specs.Leads.{LinksLead, LinksStep};
 ghost use Rattle.hb_proxy.specs.Refused.{ComesUnborn, ReadsUnborn, ReadsAnothers, BornTwice, BornAgain, SeesAlone, SeeAll};
 ghost use Rattle.hb_proxy.specs.Refused.{AnswersAnother, AnswersControl, WritesBehind, ReadsBehind, TicksBehind, InventsByte};
-ghost use Rattle.hb_proxy.specs.Refused.{DialsTwice, ComesWhileDue, DialsWhileDue, AcceptsBehindEnd};
+ghost use Rattle.hb_proxy.specs.Refused.{DialsTwice, ComesWhileDue, DialsWhileDue, AcceptsBehindEnd, StopsUnanswered};
 ghost use Rattle.hb_proxy.specs.Refused.{AcceptsFirst, ReadsEnded, GoesOnAdmitted, RunMayGo, RunIsLawful};
 
 /// The points of the control plane are a run of its machine, and what happens to each inbound link is a run of that link's, with the
@@ -85,13 +85,15 @@ pub fn links_of_others_are_refused()
 {}
 
 /// Nothing comes on a link while another one is to be closed, or one to the control plane; no link is accepted and no upstream dialled
-/// while the control plane is to be dialled, and no link is accepted behind the end of the run.
+/// while the control plane is to be dialled, and no link is accepted behind the end of the run, which isn't stopped while a request waits
+/// for its answer.
 pub fn early_entries_are_refused()
     ensures due { ComesWhileDue }
     ensures ended { ReadsEnded }
     ensures accepts { AcceptsFirst }
     ensures dial { DialsWhileDue }
     ensures late { AcceptsBehindEnd }
+    ensures stops { StopsUnanswered }
 {}
 
 /// Every link sees an update, and none sees one alone. Behind one that no longer admits a tunnel's peer no byte goes to its upstream, and
