@@ -1,0 +1,10 @@
+pub mod Begun
+pub mod Coming
+pub mod Dialling
+pub mod Living
+pub mod Loads
+pub mod Moving
+pub mod Opening
+pub mod Shown
+pub mod Waits
+pub mod Writing

@@ -1,0 +1,83 @@
+//! An inbound link.
+
+ghost use Rattle.std.specs.Prelude.{◌≡◌, IfOk};
+ghost use Rattle.hb_link.specs.Calls.{Begins, Wants, Puts};
+ghost use Rattle.hb_link.specs.Observed.{wants_on, output_on};
+
+use crate::front::Front;
+use crate::phase::Phase;
+use crate::tunnel::Tunnel;
+use hb_base::{Ip, NoMemory, Peer};
+use hb_conn::Conn;
+use hb_slots::Slots;
+use std::alloc::Global;
+
+/// The room of the output that the answers to what is read may not need.
+const SPARE: usize = 320;
+
+/// How much of the room the answers to an octet that is read may take, with what is granted again of DATA.
+const ANSWERS: usize = 5;
+
+/// An inbound link that was taken in.
+#[derive(Drop)]
+pub struct Link {
+    pub(crate) alloc: Global,
+    pub(crate) number: u64,
+    pub(crate) phase: Phase,
+    pub(crate) front: Front,
+    /// What the front header told: who the peer is, and which address it meant.
+    pub(crate) peer: Peer,
+    pub(crate) destination: Ip,
+    pub(crate) conn: Conn,
+    /// The tunnels under their streams.
+    pub(crate) tunnels: Slots<Tunnel>,
+}
+
+impl Link {
+    /// A link that was accepted: its front header is to come.
+    ///
+    /// Errors: `NoMemory`; a link of which nothing is kept is to be closed for that cause.
+    pub fn accepted(alloc: Global, number: u64) -> Result<Link, NoMemory>
+        ensures begins { IfOk result (λ link. Begins number link) }
+        ensures number { IfOk result (λ link. link.number ≡ number) }
+    {
+        Ok(Link {
+            alloc,
+            number,
+            phase: Phase::Fronting,
+            front: Front::new(alloc)?,
+            peer: Peer {
+                ip: Ip::V4(0),
+                identity: None,
+            },
+            destination: Ip::V4(0),
+            conn: Conn::server(alloc)?,
+            tunnels: Slots::new(alloc),
+        })
+    }
+
+    /// How many bytes may be read now.
+    pub fn wants(&self) -> usize
+        ensures value { result ≡ wants_on self.now }
+        ensures machine { Wants self.now result }
+    {
+        match self.phase {
+            Phase::Fronting => self.front.room(),
+            Phase::Serving => {
+                (self.conn.room().saturating_sub(SPARE) / ANSWERS).min(self.conn.space())
+            }
+            _ => 0,
+        }
+    }
+
+    /// What may be written now.
+    pub fn output(&self) -> &[u8]
+        ensures value { result.now ≡ output_on self.now }
+        ensures machine { Puts self.now result.now }
+    {
+        match self.phase {
+            Phase::Serving | Phase::Faulted(_) => self.conn.output(),
+            _ => b"",
+        }
+    }
+}
