@@ -1,4 +1,8 @@
+pub mod Adding
+pub mod Counting
+pub mod Closing
 pub mod Holding
+pub mod Listening
 pub mod Serving
 pub mod Waking
 pub mod Watching

@@ -1,5 +1,8 @@
 pub mod Ends
+pub mod Listens
 pub mod May
+pub mod Notes
+pub mod Reckons
 pub mod Refused
 pub mod Served
 pub mod Settled

@@ -4,81 +4,112 @@ ghost use Rattle.std.specs.Prelude.{◌≡◌, ◌∷◌, ◌++◌, [], true, fa
 ghost use Rattle.hb_world.specs.declared.entry.Entry.{Entry};
 ghost use Rattle.hb_ready.specs.Registry.{kept};
 ghost use Rattle.hb_ready.specs.Kept.{rotated};
+ghost use Rattle.hb_turns.specs.Reckons.{Adds, moved_by};
 ghost use Rattle.hb_turns.specs.Settled.{Rests};
 ghost use Rattle.hb_turns.specs.Stands.{Keeps, Watched, IsIdle, Stands};
 
 use crate::acts::{carry, enter};
-use crate::link::{finish, read, write};
+use crate::link::{finish, read_last, write};
 use crate::node::Node;
 use crate::run::Run;
 use hb_base::{Door, NoMemory};
 use hb_world::{Born, World};
 
-/// Asks whether a link is open, and does what is due behind it. Says whether anything moved.
-fn try_finish<W: World, N: Node>(
+/// A call at a door or on a link.
+#[derive(Clone, Copy)]
+enum Call {
+    Accept(Door),
+    Finish(u64),
+    Read(u64),
+    Write(u64),
+}
+
+/// A door that a wait named accepts at most one link. Says whether it did.
+fn accept<W: World, N: Node>(run: &mut Run<N>, world: &mut W, door: Door) -> Result<bool, NoMemory>
+    ensures keeps { IsIdle (N.shown run.old.node) → Keeps N.stands N.shown result run.old (W.trace world.old) run.new (W.trace world.new) }
+    ensures watched { OnOk result (Watched N.shown run.old → Watched N.shown run.new) }
+    ensures still { IfOk result (λ moved. moved ≡ false → run.new.node ≡ run.old.node) }
+    ensures adds { Adds (moved_by result) (W.trace world.old) (W.trace world.new) }
+    ensures faults { W.faults world.new ≡ W.faults world.old }
+    ensures follows { W.script world.new ≡ W.script world.old }
+{
+    if !run.records.asked.at(door) {
+        return Ok(false);
+    }
+    run.records.links.reserve()?;
+    match world.accept(door) {
+        Born::New(link) => {
+            enter(&mut run.records, link, true);
+            run.node.accepted(link, door)?;
+            Ok(true)
+        }
+        Born::Balked => {
+            run.records.asked.set(door, false);
+            Ok(false)
+        }
+        Born::Failed => {
+            run.records.asked.set(door, false);
+            Ok(false)
+        }
+        Born::NoMemory => Err(NoMemory),
+    }
+}
+
+/// Makes a call. Says whether anything moved.
+fn make_call<W: World, N: Node>(
     run: &mut Run<N>,
     world: &mut W,
-    link: u64,
+    call: Call,
+) -> Result<bool, NoMemory>
+    ensures keeps { IsIdle (N.shown run.old.node) → Keeps N.stands N.shown result run.old (W.trace world.old) run.new (W.trace world.new) }
+    ensures watched { OnOk result (Watched N.shown run.old → Watched N.shown run.new) }
+    ensures still { IfOk result (λ moved. moved ≡ false → run.new.node ≡ run.old.node) }
+    ensures adds { Adds (moved_by result) (W.trace world.old) (W.trace world.new) }
+    ensures faults { W.faults world.new ≡ W.faults world.old }
+    ensures follows { W.script world.new ≡ W.script world.old }
+{
+    match call {
+        Call::Accept(door) => accept(run, world, door),
+        Call::Finish(link) => finish(run, world, link),
+        Call::Read(link) => read_last(run, world, link),
+        Call::Write(link) => write(run, world, link),
+    }
+}
+
+/// Makes a call, and does what is due behind it. Says whether anything moved.
+fn try_call<W: World, N: Node>(
+    run: &mut Run<N>,
+    world: &mut W,
+    call: Call,
 ) -> Result<bool, NoMemory>
     ensures keeps { IsIdle (N.shown run.old.node) → Keeps N.stands N.shown result run.old (W.trace world.old) run.new (W.trace world.new) }
     ensures watched { OnOk result (Watched N.shown run.old → Watched N.shown run.new) }
     ensures idle { OnOk result (IsIdle (N.shown run.old.node) → IsIdle (N.shown run.new.node)) }
+    ensures adds { Adds (moved_by result) (W.trace world.old) (W.trace world.new) }
     ensures faults { W.faults world.new ≡ W.faults world.old }
     ensures follows { W.script world.new ≡ W.script world.old }
 {
-    let moved = finish(run, world, link)?;
-    if moved {
-        carry(run, world)?;
+    let moved = make_call(run, world, call)?;
+    if !moved {
+        return Ok(false);
     }
-    Ok(moved)
+    carry(run, world)?;
+    Ok(true)
 }
 
-/// Reads, and does what is due behind it. Says whether anything moved.
-fn try_read<W: World, N: Node>(run: &mut Run<N>, world: &mut W, link: u64) -> Result<bool, NoMemory>
-    ensures keeps { IsIdle (N.shown run.old.node) → Keeps N.stands N.shown result run.old (W.trace world.old) run.new (W.trace world.new) }
-    ensures watched { OnOk result (Watched N.shown run.old → Watched N.shown run.new) }
-    ensures idle { OnOk result (IsIdle (N.shown run.old.node) → IsIdle (N.shown run.new.node)) }
-    ensures faults { W.faults world.new ≡ W.faults world.old }
-    ensures follows { W.script world.new ≡ W.script world.old }
-{
-    let moved = read(run, world, link)?;
-    if moved {
-        carry(run, world)?;
-    }
-    Ok(moved)
-}
-
-/// Writes, and does what is due behind it. Says whether anything moved.
-fn try_write<W: World, N: Node>(
-    run: &mut Run<N>,
-    world: &mut W,
-    link: u64,
-) -> Result<bool, NoMemory>
-    ensures keeps { IsIdle (N.shown run.old.node) → Keeps N.stands N.shown result run.old (W.trace world.old) run.new (W.trace world.new) }
-    ensures watched { OnOk result (Watched N.shown run.old → Watched N.shown run.new) }
-    ensures idle { OnOk result (IsIdle (N.shown run.old.node) → IsIdle (N.shown run.new.node)) }
-    ensures faults { W.faults world.new ≡ W.faults world.old }
-    ensures follows { W.script world.new ≡ W.script world.old }
-{
-    let moved = write(run, world, link)?;
-    if moved {
-        carry(run, world)?;
-    }
-    Ok(moved)
-}
-
-/// A link is tried: at most one finish, one read and two writes. Says whether anything moved.
+/// A link is tried: at most one finish, one read and two writes, and behind the read its last words. Says whether anything moved.
 fn try_link<W: World, N: Node>(run: &mut Run<N>, world: &mut W, link: u64) -> Result<bool, NoMemory>
     ensures keeps { IsIdle (N.shown run.old.node) → Keeps N.stands N.shown result run.old (W.trace world.old) run.new (W.trace world.new) }
     ensures watched { OnOk result (Watched N.shown run.old → Watched N.shown run.new) }
     ensures idle { OnOk result (IsIdle (N.shown run.old.node) → IsIdle (N.shown run.new.node)) }
+    ensures adds { Adds (moved_by result) (W.trace world.old) (W.trace world.new) }
     ensures faults { W.faults world.new ≡ W.faults world.old }
     ensures follows { W.script world.new ≡ W.script world.old }
 {
-    let opened = try_finish(run, world, link)?;
-    let came = try_read(run, world, link)?;
-    let went = try_write(run, world, link)?;
-    let more = try_write(run, world, link)?;
+    let opened = try_call(run, world, Call::Finish(link))?;
+    let came = try_call(run, world, Call::Read(link))?;
+    let went = try_call(run, world, Call::Write(link))?;
+    let more = try_call(run, world, Call::Write(link))?;
     Ok(opened | came | went | more)
 }
 
@@ -121,6 +152,7 @@ fn try_front<W: World, N: Node>(run: &mut Run<N>, world: &mut W) -> Result<bool,
     ensures keeps { IsIdle (N.shown run.old.node) → Keeps N.stands N.shown result run.old (W.trace world.old) run.new (W.trace world.new) }
     ensures watched { OnOk result (Watched N.shown run.old → Watched N.shown run.new) }
     ensures idle { OnOk result (IsIdle (N.shown run.old.node) → IsIdle (N.shown run.new.node)) }
+    ensures adds { Adds (moved_by result) (W.trace world.old) (W.trace world.new) }
     ensures faults { W.faults world.new ≡ W.faults world.old }
     ensures follows { W.script world.new ≡ W.script world.old }
 {
@@ -137,6 +169,7 @@ fn try_links<W: World, N: Node>(run: &mut Run<N>, world: &mut W) -> Result<bool,
     ensures keeps { IsIdle (N.shown run.old.node) → Keeps N.stands N.shown result run.old (W.trace world.old) run.new (W.trace world.new) }
     ensures watched { OnOk result (Watched N.shown run.old → Watched N.shown run.new) }
     ensures idle { OnOk result (IsIdle (N.shown run.old.node) → IsIdle (N.shown run.new.node)) }
+    ensures adds { Adds (moved_by result) (W.trace world.old) (W.trace world.new) }
     ensures faults { W.faults world.new ≡ W.faults world.old }
     ensures follows { W.script world.new ≡ W.script world.old }
 {
@@ -148,66 +181,18 @@ fn try_links<W: World, N: Node>(run: &mut Run<N>, world: &mut W) -> Result<bool,
     Ok(moved)
 }
 
-/// A door that a wait named accepts at most one link. Says whether it did.
-fn accept<W: World, N: Node>(run: &mut Run<N>, world: &mut W, door: Door) -> Result<bool, NoMemory>
-    ensures keeps { IsIdle (N.shown run.old.node) → Keeps N.stands N.shown result run.old (W.trace world.old) run.new (W.trace world.new) }
-    ensures watched { OnOk result (Watched N.shown run.old → Watched N.shown run.new) }
-    ensures still { IfOk result (λ moved. moved ≡ false → run.new.node ≡ run.old.node) }
-    ensures faults { W.faults world.new ≡ W.faults world.old }
-    ensures follows { W.script world.new ≡ W.script world.old }
-{
-    if !run.records.asked.at(door) {
-        return Ok(false);
-    }
-    run.records.links.reserve()?;
-    match world.accept(door) {
-        Born::New(link) => {
-            enter(&mut run.records, link, true);
-            run.node.accepted(link, door)?;
-            Ok(true)
-        }
-        Born::Balked => {
-            run.records.asked.set(door, false);
-            Ok(false)
-        }
-        Born::Failed => {
-            run.records.asked.set(door, false);
-            Ok(false)
-        }
-        Born::NoMemory => Err(NoMemory),
-    }
-}
-
-/// A door is tried, and what is due behind it is done. Says whether anything moved.
-fn try_door<W: World, N: Node>(
-    run: &mut Run<N>,
-    world: &mut W,
-    door: Door,
-) -> Result<bool, NoMemory>
-    ensures keeps { IsIdle (N.shown run.old.node) → Keeps N.stands N.shown result run.old (W.trace world.old) run.new (W.trace world.new) }
-    ensures watched { OnOk result (Watched N.shown run.old → Watched N.shown run.new) }
-    ensures idle { OnOk result (IsIdle (N.shown run.old.node) → IsIdle (N.shown run.new.node)) }
-    ensures faults { W.faults world.new ≡ W.faults world.old }
-    ensures follows { W.script world.new ≡ W.script world.old }
-{
-    let moved = accept(run, world, door)?;
-    if moved {
-        carry(run, world)?;
-    }
-    Ok(moved)
-}
-
 /// A round. Says whether anything moved.
 pub(crate) fn round<W: World, N: Node>(run: &mut Run<N>, world: &mut W) -> Result<bool, NoMemory>
     ensures keeps { IsIdle (N.shown run.old.node) → Keeps N.stands N.shown result run.old (W.trace world.old) run.new (W.trace world.new) }
     ensures watched { OnOk result (Watched N.shown run.old → Watched N.shown run.new) }
     ensures idle { OnOk result (IsIdle (N.shown run.old.node) → IsIdle (N.shown run.new.node)) }
+    ensures adds { Adds (moved_by result) (W.trace world.old) (W.trace world.new) }
     ensures faults { W.faults world.new ≡ W.faults world.old }
     ensures follows { W.script world.new ≡ W.script world.old }
 {
-    let inbound = try_door(run, world, Door::Inbound)?;
-    let outbound = try_door(run, world, Door::Outbound)?;
-    let plain = try_door(run, world, Door::Plain)?;
+    let inbound = try_call(run, world, Call::Accept(Door::Inbound))?;
+    let outbound = try_call(run, world, Call::Accept(Door::Outbound))?;
+    let plain = try_call(run, world, Call::Accept(Door::Plain))?;
     let tried = try_links(run, world)?;
     Ok(inbound | outbound | plain | tried)
 }
