@@ -3,6 +3,7 @@ pub mod Counting
 pub mod Closing
 pub mod Holding
 pub mod Listening
+pub mod Refusing
 pub mod Serving
 pub mod Waking
 pub mod Watching

@@ -42,7 +42,7 @@ none_lives l trace none = by (lives l trace) refl none
     by true alive is = absurd cc
     by false dead is = dead
 
-nothing_at : (P : List Entry → Entry → Type 0) → AtEach P []
+pub nothing_at : (P : List Entry → Entry → Type 0) → AtEach P []
 nothing_at P [] x after is = absurd cc
 nothing_at P (b ∷ bs) x after is = absurd cc
 

@@ -4,6 +4,7 @@ pub mod May
 pub mod Notes
 pub mod Reckons
 pub mod Refused
+pub mod RefusedRuns
 pub mod Served
 pub mod Settled
 pub mod Shown
