@@ -96,7 +96,8 @@ adds_then a before mid behind first second =
     or-false false = refl
 
 -- where memory lacked
-pub adds_err : {E : Type 0} (r : Result Bool E) (a : Bool) (before behind : Option (List Entry)) → IfOk r (λ moved. ⊥) → Adds a before behind
+pub adds_err : {E : Type 0} (r : Result Bool E) (a : Bool) (before behind : Option (List Entry)) → IfOk r (λ moved. ⊥)
+    → Adds a before behind
     → Adds (moved_by r) before behind
 adds_err (Ok moved) a before behind none had = absurd none
 adds_err (Err why) a before behind none had = adds_less a before behind had
@@ -114,7 +115,12 @@ adds_close l cause before behind is =
     by : (o : Option (List Entry)) → behind ≡ with_closed l cause o → Adds false o behind
     by None is = record { more = []; grows = is; plain = refl; moves_some = λ moved. absurd cc }
     by (Some trace) is =
-        record { more = if lives l trace then e.Closed l cause ∷ [] else []; grows = is; plain = one (lives l trace); moves_some = λ moved. absurd cc }
+        record {
+          more = if lives l trace then e.Closed l cause ∷ [] else [];
+          grows = is;
+          plain = one (lives l trace);
+          moves_some = λ moved. absurd cc;
+        }
 
 -- a link is shut
 pub adds_shut : (l : ℕ) (before behind : Option (List Entry)) → behind ≡ with_shut l before → Adds false before behind

@@ -1,5 +1,5 @@
 -- The end of a run.
-use Rattle.std.proofs.Common.{◌≡◌, ℕ, true, false, List, [], ◌∷◌, ◌++◌, Option, Some, None, Result, Ok, Err, IfSome, IsSome, OnOk, is_err, refl, sym, ◌∙◌, subst}
+use Rattle.std.proofs.Common.{◌≡◌, ℕ, Bool, true, false, List, [], ◌∷◌, ◌++◌, Option, Some, None, Result, Ok, Err, IfSome, IsSome, OnOk, is_err, refl, sym, ◌∙◌, subst}
 use Rattle.std.specs.List.{All}
 use Rattle.hb_base.specs.declared.cause.Cause.{Cause}
 use Rattle.hb_base.specs.declared.note.Note.{Note}
@@ -16,11 +16,16 @@ use Rattle.hb_turns.specs.Shown.{Shown, StandsForNone}
 use Rattle.hb_turns.specs.Stands.{Obeys, Stands, StandsAlone, Left, Tracks}
 use Rattle.hb_turns.specs.declared.run.Records.{Records}
 use Rattle.hb_turns.specs.declared.run.Run.{Run}
+use Rattle.hb_turns.specs.declared.served.Served.{Served}
 use Rattle.hb_turns.specs.declared.served.ServeEnd.{ServeEnd}
 use Rattle.hb_turns.specs.declared.served.ServeEnd.TheVariants as ends
 use Rattle.hb_turns.specs.declared.words.ServeWords.{ServeWords}
 use Rattle.hb_turns.proofs.Holding.{each, on_close, obeys-grows}
 use Rattle.hb_turns.proofs.Serving.{none_lives, some_lives}
+
+-- what is told of a run
+abbrev pub outcome : ServeEnd → Records → Bool → Served
+outcome end r unkept = record { end = end; totals = record { links = r.births }; wanting = r.wanting; unkept = unkept }
 
 module _ {N : Type 0} (stands : List Note → N → List Entry → Type 0) (shown : N → Shown) where
   -- a link is closed that lives
@@ -151,10 +156,10 @@ module _ {N : Type 0} (stands : List Note → N → List Entry → Type 0) (show
       → ((l : ℕ) → (kept new.records.links).links l ≡ None)
       → OnOk b (IfSome before (Stands stands shown run) → IfSome behind (HoldsNotes stands shown new.keep))
       → IfSome behind (IsServed stands shown words
-      (record { end = end_of r; totals = record { links = new.records.births }; wanting = new.records.wanting; unkept = is_err b }) new.keep)
+      (outcome (end_of r) new.records (is_err b)) new.keep)
   is_served words r b run new None behind left_so finishes closes obeys none notes =
       subst (λ (o : Option (List Entry)). IfSome o (IsServed stands shown words
-      (record { end = end_of r; totals = record { links = new.records.births }; wanting = new.records.wanting; unkept = is_err b }) new.keep))
+      (outcome (end_of r) new.records (is_err b)) new.keep))
       (sym closes.grows) tt
   is_served words r b run new (Some trace) behind left_so finishes closes obeys none notes =
       by behind closes.grows obeys notes
@@ -162,7 +167,7 @@ module _ {N : Type 0} (stands : List Note → N → List Entry → Type 0) (show
       by : (told : Option (List Entry)) → told ≡ Some (trace ++ closes.more) → IfSome told (Obeys stands shown new.records)
           → OnOk b (IfSome (Some trace) (Stands stands shown run) → IfSome told (HoldsNotes stands shown new.keep))
           → IfSome told (IsServed stands shown words
-          (record { end = end_of r; totals = record { links = new.records.births }; wanting = new.records.wanting; unkept = is_err b }) new.keep)
+          (outcome (end_of r) new.records (is_err b)) new.keep)
       by None is o notes = tt
       by (Some full) is o notes = record {
         awake = o.awake;

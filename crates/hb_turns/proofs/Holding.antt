@@ -34,7 +34,8 @@ use Rattle.hb_turns.specs.declared.run.Records.{Records}
 use Rattle.hb_turns.specs.declared.run.Run.{Run}
 
 -- an entry may come there, for the loop's laws
-pub record Comes {N : Type 0} (stands : List Note → N → List Entry → Type 0) (shown : N → Shown) (trace : List Entry) (x : Entry) : Type 0 where
+pub record Comes {N : Type 0} (stands : List Note → N → List Entry → Type 0) (shown : N → Shown) (trace : List Entry)
+    (x : Entry) : Type 0 where
   pub numbers : Numbers trace x
   pub awake : IsAwake trace x
   pub settled : SettledAt stands shown trace x
@@ -140,7 +141,8 @@ left stands shown (Ok x) run told none had = absurd none
 left stands shown (Err why) run told none had = had
 
 -- room was taken for a birth
-pub reserved : {N : Type 0} (stands : List Note → N → List Entry → Type 0) (shown : N → Shown) (old new : Run N) (told : Option (List Entry))
+pub reserved : {N : Type 0} (stands : List Note → N → List Entry → Type 0) (shown : N → Shown) (old new : Run N)
+    (told : Option (List Entry))
     → new.node ≡ old.node → new.keep ≡ old.keep → new.records.asked ≡ old.records.asked → new.records.births ≡ old.records.births
     → new.records.wanting ≡ old.records.wanting → IsKept (kept old.records.links) (kept new.records.links)
     → IfSome told (Stands stands shown old) → IfSome told (Stands stands shown new)
@@ -215,7 +217,8 @@ unmoved r e.Tick plain = record { links = λ l. still _; doors = λ d. refl; bir
 unmoved r _ plain = absurd plain
 
 -- what was asked for a dial
-pub dial_comes : {N : Type 0} (stands : List Note → N → List Entry → Type 0) (shown : N → Shown) (run : Run N) (to : Target) (why : Why) (l : ℕ)
+pub dial_comes : {N : Type 0} (stands : List Note → N → List Entry → Type 0) (shown : N → Shown) (run : Run N) (to : Target) (why : Why)
+    (l : ℕ)
     → (shown run.node).due ≡ Some (act.Dial to why) → (trace : List Entry)
     → Stands stands shown run trace × (l ≡ births trace + 1)
     → Stands stands shown run trace × MayCome (shown run.node) trace (e.Dialled l to why) × Comes stands shown trace (e.Dialled l to why)
@@ -228,7 +231,8 @@ pub dial_fails : {N : Type 0} (stands : List Note → N → List Entry → Type 
 dial_fails stands shown run to why due trace had = (had, due, record { numbers = tt; awake = tt; settled = tt })
 
 -- what is known of a link that lives is so
-pub known_so : {N : Type 0} (stands : List Note → N → List Entry → Type 0) (shown : N → Shown) (run : Run N) (l : ℕ) (k : Link) (trace : List Entry)
+pub known_so : {N : Type 0} (stands : List Note → N → List Entry → Type 0) (shown : N → Shown) (run : Run N) (l : ℕ) (k : Link)
+    (trace : List Entry)
     → (kept run.records.links).links l ≡ Some k → Stands stands shown run trace → (lives l trace ≡ true) × (sight l trace ≡ k)
 known_so stands shown run l k trace is s = known_lives l trace k (sym (s.obeys.links l) ∙ is)
 
@@ -252,7 +256,8 @@ rested stands shown old new x P before behind adds node keep rests tracks comes 
     }) had
 
 -- the buffer alone changed
-pub same_run : {N : Type 0} (stands : List Note → N → List Entry → Type 0) (shown : N → Shown) (old new : Run N) (told : Option (List Entry))
+pub same_run : {N : Type 0} (stands : List Note → N → List Entry → Type 0) (shown : N → Shown) (old new : Run N)
+    (told : Option (List Entry))
     → new.node ≡ old.node → new.records ≡ old.records → new.keep ≡ old.keep → IfSome told (Stands stands shown old)
     → IfSome told (Stands stands shown new)
 same_run stands shown old new told node records keep had =

@@ -80,7 +80,8 @@ watched_fresh shown run fresh l =
     inr (inr (subst (λ (o : Option Link). Rests o l (shown run.node)) (sym (fresh.links l)) tt))
 
 -- memory lacked before anything happened
-pub nothing_served : {N : Type 0} (stands : List Note → N → List Entry → Type 0) (shown : N → Shown) (words : ServeWords) (keep : Option (List Note))
+pub nothing_served : {N : Type 0} (stands : List Note → N → List Entry → Type 0) (shown : N → Shown) (words : ServeWords)
+    (keep : Option (List Note))
     (told : Option (List Entry)) → told ≡ Some []
     → IfSome told (IsServed stands shown words
     (record { end = ends.NoMemory; totals = record { links = 0 }; wanting = false; unkept = false }) keep)

@@ -76,7 +76,8 @@ wakes-more old mid new items x first last = record {
 }
 
 -- a link was named
-named : (b : Bool) (o : Option Link) → (if b then option_map awake o else o) ≡ option_map (λ (k : Link). if b || false then awake k else k) o
+named : (b : Bool) (o : Option Link)
+    → (if b then option_map awake o else o) ≡ option_map (λ (k : Link). if b || false then awake k else k) o
 named true o = refl
 named false o = plain o
 
@@ -131,7 +132,8 @@ nothing : (xs : List ℕ) (l : ℕ) → xs ≡ [] → has xs l ≡ true → ⊥
 nothing xs l none is = absurd (let no : false ≡ true = subst (λ (ys : List ℕ). has ys l ≡ true) none is in cc)
 
 -- nothing is due, and nothing is to be tried: a wait may come
-pub wait_comes : {N : Type 0} (stands : List Note → N → List Entry → Type 0) (shown : N → Shown) (run : Run N) (items : List ReadyItem) (how : Woken)
+pub wait_comes : {N : Type 0} (stands : List Note → N → List Entry → Type 0) (shown : N → Shown) (run : Run N) (items : List ReadyItem)
+    (how : Woken)
     → IsIdle (shown run.node) → IsQuiet run.records → Watched shown run → (trace : List Entry) → Stands stands shown run trace
     → Stands stands shown run trace × MayCome (shown run.node) trace (e.Wait items how) × Comes stands shown trace (e.Wait items how)
 wait_comes stands shown run items how idle quiet watched trace s = (
@@ -171,7 +173,8 @@ wait_ticks stands shown old new items before behind adds node keep rests tracks 
       trace_is = sym (append_assoc trace (e.Wait items woken.Tick ∷ []) (e.Tick ∷ []));
       stands_for = record {
         notes = may.0.notes;
-        node = subst (λ n. stands may.0.notes n (trace ++ e.Wait items woken.Tick ∷ [])) (sym node) (rests may.0.notes trace may.1 may.0.node);
+        node = subst (λ n. stands may.0.notes n (trace ++ e.Wait items woken.Tick ∷ [])) (sym node)
+            (rests may.0.notes trace may.1 may.0.node);
         kept_are = held_still old new may.0.notes keep may.0.kept_are;
         obeys = obeys-grows stands shown old.records new.records trace (e.Wait items woken.Tick) may.2 tracks may.0.obeys;
       };
@@ -179,7 +182,8 @@ wait_ticks stands shown old new items before behind adds node keep rests tracks 
 
 -- the node is told of a tick
 pub tick_told : {N : Type 0} (stands : List Note → N → List Entry → Type 0) (shown : N → Shown) (old new : Run N)
-    → Tells stands shown e.Tick old.node new.node → new.records ≡ old.records → new.keep ≡ old.keep → (shown old.node).due ≡ None → (trace : List Entry)
+    → Tells stands shown e.Tick old.node new.node → new.records ≡ old.records → new.keep ≡ old.keep → (shown old.node).due ≡ None
+    → (trace : List Entry)
     → Ticked stands shown old trace → Stands stands shown new trace
 tick_told stands shown old new tells records keep due trace t =
     subst (λ (xs : List Entry). Stands stands shown new xs) (sym t.trace_is)

@@ -70,7 +70,8 @@ module _ {N : Type 0} (stands : List Note → N → List Entry → Type 0) (show
         )
 
   module _ (may : MayRead ((kept run.records.links).links l)) where
-    pub came_comes : (bytes : List ℕ) → 0 < length bytes → length bytes ≤ (shown run.node).wants l → ComesTo stands shown run (e.Came l bytes)
+    pub came_comes : (bytes : List ℕ) → 0 < length bytes → length bytes ≤ (shown run.node).wants l
+        → ComesTo stands shown run (e.Came l bytes)
     came_comes bytes some few trace s =
         let it = read_facts l trace _ (s.obeys.links l) may in
         (s, (due, it.0, it.1, some, few), record { numbers = tt; awake = it.2; settled = tt })
@@ -100,7 +101,8 @@ module _ {N : Type 0} (stands : List Note → N → List Entry → Type 0) (show
 module _ {N : Type 0} (stands : List Note → N → List Entry → Type 0) (shown : N → Shown) (run : Run N) (l : ℕ)
     (due : ((shown run.node).due ≡ None) ⊎ ((shown run.node).last_words l ≡ true))
     (may : MayWrite ((kept run.records.links).links l)) where
-  pub went_comes : (n : ℕ) → 0 < n → n ≤ length ((shown run.node).output l) → ComesTo stands shown run (e.Went l (take n ((shown run.node).output l)))
+  pub went_comes : (n : ℕ) → 0 < n → n ≤ length ((shown run.node).output l)
+      → ComesTo stands shown run (e.Went l (take n ((shown run.node).output l)))
   went_comes n some few trace s =
       let it = write_facts l trace _ (s.obeys.links l) may in
       (s, (due, it.0, it.1, n, some, few, refl), record { numbers = tt; awake = it.2; settled = tt })

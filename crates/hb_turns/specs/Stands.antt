@@ -18,7 +18,8 @@ use Rattle.hb_turns.specs.declared.run.Records.{Records}
 use Rattle.hb_turns.specs.declared.run.Run.{Run}
 
 -- what is known is what a trace tells, and the trace obeys the laws
-pub record Obeys {N : Type 0} (stands : List Note → N → List Entry → Type 0) (shown : N → Shown) (r : Records) (trace : List Entry) : Type 0 where
+pub record Obeys {N : Type 0} (stands : List Note → N → List Entry → Type 0) (shown : N → Shown) (r : Records)
+    (trace : List Entry) : Type 0 where
   pub links : (l : ℕ) → (kept r.links).links l ≡ known l trace
   pub doors : (d : Door) → asked_at r.asked d ≡ asked d trace
   pub numbered : Numbered trace
@@ -28,14 +29,16 @@ pub record Obeys {N : Type 0} (stands : List Note → N → List Entry → Type 
   pub settled : SettledLaw stands shown trace
 
 -- and the node stands for the trace, once the notes were taken that are kept, where notes are
-pub record Stands {N : Type 0} (stands : List Note → N → List Entry → Type 0) (shown : N → Shown) (run : Run N) (trace : List Entry) : Type 0 where
+pub record Stands {N : Type 0} (stands : List Note → N → List Entry → Type 0) (shown : N → Shown) (run : Run N)
+    (trace : List Entry) : Type 0 where
   pub notes : List Note
   pub node : stands notes run.node trace
   pub kept_are : Holds run.keep notes
   pub obeys : Obeys stands shown run.records trace
 
 -- and no link lives
-pub record StandsAlone {N : Type 0} (stands : List Note → N → List Entry → Type 0) (shown : N → Shown) (run : Run N) (trace : List Entry) : Type 0 where
+pub record StandsAlone {N : Type 0} (stands : List Note → N → List Entry → Type 0) (shown : N → Shown) (run : Run N)
+    (trace : List Entry) : Type 0 where
   pub stands_for : Stands stands shown run trace
   pub none : (l : ℕ) → lives l trace ≡ false
 

@@ -61,7 +61,8 @@ fn dial<W: World, N: Node>(
     to: Target,
     why: Why,
 ) -> Result<(), NoMemory>
-    ensures keeps { (N.shown run.old.node).due ≡ Some (act.Dial to why) → Keeps N.stands N.shown result run.old (W.trace world.old) run.new (W.trace world.new) }
+    ensures keeps { (N.shown run.old.node).due ≡ Some (act.Dial to why)
+        → Keeps N.stands N.shown result run.old (W.trace world.old) run.new (W.trace world.new) }
     ensures watched { OnOk result (Watched N.shown run.old → Watched N.shown run.new) }
     ensures weight { OnOk result ((N.shown run.new.node).weight ≤ (N.shown run.old.node).weight + 1) }
     ensures adds { Adds false (W.trace world.old) (W.trace world.new) }

@@ -20,7 +20,8 @@ fn close_due<W: World, N: Node>(run: &mut Run<N>, world: &mut W, cause: Cause) -
     ensures ends_for { (N.shown run.new.node).ends_for ≡ Some cause }
     ensures obeys { IfSome (W.trace world.old) (Obeys N.stands N.shown run.old.records)
         → IfSome (W.trace world.new) (Obeys N.stands N.shown run.new.records) }
-    ensures keeps { IfSome (W.trace world.old) (Stands N.stands N.shown run.old) → IfSome (W.trace world.new) (Stands N.stands N.shown run.new) }
+    ensures keeps { IfSome (W.trace world.old) (Stands N.stands N.shown run.old)
+        → IfSome (W.trace world.new) (Stands N.stands N.shown run.new) }
     ensures closes { Closes cause (W.trace world.old) (W.trace world.new) }
     ensures none { result ≡ false → StandsForNone N.stands run.new.node }
     ensures less { result ≡ true → (N.shown run.new.node).weight < (N.shown run.old.node).weight }

@@ -154,7 +154,8 @@ pub(crate) fn write<W: World, N: Node>(
     world: &mut W,
     link: u64,
 ) -> Result<bool, NoMemory>
-    ensures keeps { ((N.shown run.old.node).due ≡ None) ⊎ ((N.shown run.old.node).last_words link ≡ true) → Keeps N.stands N.shown result run.old (W.trace world.old) run.new (W.trace world.new) }
+    ensures keeps { ((N.shown run.old.node).due ≡ None) ⊎ ((N.shown run.old.node).last_words link ≡ true)
+        → Keeps N.stands N.shown result run.old (W.trace world.old) run.new (W.trace world.new) }
     ensures watched { OnOk result (Watched N.shown run.old → Watched N.shown run.new) }
     ensures still { IfOk result (λ moved. moved ≡ false → run.new.node ≡ run.old.node) }
     ensures adds { Adds (moved_by result) (W.trace world.old) (W.trace world.new) }

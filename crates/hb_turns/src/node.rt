@@ -106,7 +106,8 @@ pub trait Node {
         ensures none { IfNone result ((shown self.old).noted ≡ []) }
         ensures same { IsSame (shown self.old) (shown self.new) }
         ensures stirred { (shown self.new).stirred ≡ (shown self.old).stirred }
-        ensures takes { (notes : List Note) (trace : List Entry) → stands notes self.old trace → stands (notes ++ option_to_list result) self.new trace };
+        ensures takes { (notes : List Note) (trace : List Entry) → stands notes self.old trace
+            → stands (notes ++ option_to_list result) self.new trace };
 
     /// The run ends: from now on each act closes a link, for this cause, until none lives.
     fn stop(&mut self, cause: Cause)
@@ -121,7 +122,8 @@ pub trait Node {
         ensures noted { (shown self.new).noted ≡ (shown self.old).noted }
         ensures stands { StandsAs stands self.old self.new };
 
-    /// A call that moved nothing, or a wait, is told to no node: where no act is due, it stands for the trace with that entry too; so it does behind a listen, where there were
-    /// listens alone.
-    ghost rests: { (notes : List Note) → (n : Self) → (trace : List Entry) → (x : Entry) → MovesNothing (shown n) trace x → stands notes n trace → stands notes n (trace ++ x ∷ []) };
+    /// A call that moved nothing, or a wait, is told to no node: where no act is due, it stands for the trace with that entry too. So
+    /// it does with a listen, behind listens alone.
+    ghost rests: { (notes : List Note) → (n : Self) → (trace : List Entry) → (x : Entry) → MovesNothing (shown n) trace x
+        → stands notes n trace → stands notes n (trace ++ x ∷ []) };
 }

@@ -30,7 +30,8 @@ fn run_on<W: World, N: Node>(
 ) -> Result<ServeEnd, NoMemory>
     ensures keeps { Watched N.shown run.old → IfSome (W.trace world.old) (Begins N.stands N.shown run.old [])
         → IfSome (W.trace world.new) (Left N.stands N.shown result run.new) }
-    ensures finishes { IfSome (W.trace world.old) (Begins N.stands N.shown run.old []) → IfSome (W.trace world.new) (Finishes words (end_of result)) }
+    ensures finishes { IfSome (W.trace world.old) (Begins N.stands N.shown run.old [])
+        → IfSome (W.trace world.new) (Finishes words (end_of result)) }
     ensures faults { Counts (W.faults world.old) (W.faults world.new) (is_fault (end_of result)) }
     ensures follows { W.script world.new ≡ W.script world.old }
 {
