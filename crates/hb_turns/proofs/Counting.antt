@@ -1,5 +1,5 @@
 -- What is counted of a run, behind calls, waits and ticks, and at its end.
-use Rattle.std.proofs.Common.{◌≡◌, ℕ, ◌+◌, ◌-◌, ◌≤◌, ◌<◌, ◌==◌, Bool, true, false, ◌&&◌, ◌||◌, not, cond, if◌then◌else◌, List, [], ◌∷◌, ◌++◌, map, Option, Some, None, Result, Ok, Err, IfOk, IfSome, refl, ap, sym, ◌∙◌, subst, arith, append_assoc, zero-add}
+use Rattle.std.proofs.Common.{◌≡◌, ℕ, ◌+◌, ◌-◌, ◌≤◌, ◌<◌, ◌==◌, Bool, true, false, ◌&&◌, ◌||◌, not, cond, if◌then◌else◌, List, [], ◌∷◌, ◌++◌, map, Option, Some, None, Result, Ok, Err, IfOk, IfSome, refl, ap, sym, ◌∙◌, subst, inl, inr, arith, append_assoc, zero-add}
 use Rattle.std.specs.Prelude.{count_by}
 use Rattle.std.specs.List.{list_all}
 use Rattle.std.proofs.lemmas.List.{append-nil}
@@ -16,7 +16,9 @@ use Rattle.hb_world.specs.declared.entry.Woken.TheVariants as woken
 use Rattle.hb_world.proofs.TraceLemmas.{AtEach-grows, any-grows}
 use Rattle.hb_turns.specs.Ends.{is_tick, ticks, are_spent, end_by_wait, end_by, is_move, is_wait, waits, moves, end_of}
 use Rattle.hb_turns.specs.Listens.{DoorAt, given, listen_at, Listened, BeginsWith}
-use Rattle.hb_turns.specs.Reckons.{is_plain, Adds, one_less, is_spent, AreLeft, Reckons, Finishes, Turned, IsBehindTick}
+use Rattle.hb_turns.specs.Reckons.{is_plain, Adds, one_less, is_spent, AreLeft, Paid, Reckons, Finishes, Turned, IsBehindTick}
+use Rattle.hb_turns.specs.Woken.{IsQuiet}
+use Rattle.hb_turns.specs.declared.run.Records.{Records}
 use Rattle.hb_turns.specs.declared.served.ServeEnd.{ServeEnd}
 use Rattle.hb_turns.specs.declared.served.ServeEnd.TheVariants as ends
 use Rattle.hb_turns.specs.declared.words.ServeWords.{ServeWords}
@@ -133,10 +135,6 @@ reckons_all words left n w trace (x ∷ more) plain r =
 abbrev pub turns_after : Bool → ℕ → ℕ
 turns_after moved n = if moved then n + 1 else n
 
-pub enough_turns : (moved : Bool) (n : ℕ) → n ≤ turns_after moved n
-enough_turns true n = omega arith
-enough_turns false n = omega arith
-
 -- calls that are no waits
 pub reckons_adds : (words : ServeWords) (left : Option ℕ) (n w : ℕ) (moved : Bool) (before behind : Option (List Entry))
     → Adds moved before behind → IfSome before (Reckons words left n w) → IfSome behind (Reckons words left (turns_after moved n) w)
@@ -221,11 +219,13 @@ wait_ends words left n w ready how end before behind adds is within =
       begins = begins (given words.doors) ends.Stopped _ (listened_on (given words.doors) trace (e.Wait ready how) refl r.listened);
       ends_as = record { before = trace; last = e.Wait ready how; trace_is = refl; runs_on = r.runs_on; ends = is };
       few_waits = few trace r.few_waits;
+      spends = tt;
     }
     by ends.WorldFault is trace r = record {
       begins = begins (given words.doors) ends.WorldFault _ (listened_on (given words.doors) trace (e.Wait ready how) refl r.listened);
       ends_as = record { before = trace; last = e.Wait ready how; trace_is = refl; runs_on = r.runs_on; ends = is };
       few_waits = few trace r.few_waits;
+      spends = tt;
     }
 
 -- a tick more
@@ -279,6 +279,7 @@ tick_stops words left n w trace last within at =
       begins = begins (given words.doors) ends.Stopped _ (listened_on (given words.doors) at.before e.Tick refl r.listened);
       ends_as = record { before = at.before; last = e.Tick; trace_is = refl; runs_on = r.runs_on; ends = rw spent refl };
       few_waits = rw (count-grows is_wait at.before e.Tick) (omega (arith, few, within));
+      spends = tt;
     })
 
 pub tick_ends : (words : ServeWords) (left : Option ℕ) (n w : ℕ) (told : Option (List Entry)) → is_spent (one_less left) ≡ true
@@ -296,16 +297,18 @@ lack_finishes words left n w told within =
       begins = begins (given words.doors) ends.NoMemory trace r.listened;
       ends_as = r.runs_on;
       few_waits = (let few = r.few_waits in omega (arith, few, within));
+      spends = tt;
     })
 
 pub spent_finishes : (words : ServeWords) (left : Option ℕ) (n w : ℕ) (told : Option (List Entry)) → w ≤ words.turns
-    → IfSome told (Reckons words left n w) → IfSome told (Finishes words ends.TurnsSpent)
-spent_finishes words left n w told within =
+    → words.turns ≤ n + 1 → IfSome told (Reckons words left n w) → IfSome told (Finishes words ends.TurnsSpent)
+spent_finishes words left n w told within most =
     each (Reckons words left n w) (Finishes words ends.TurnsSpent) told
     (λ trace r. record {
       begins = begins (given words.doors) ends.TurnsSpent trace r.listened;
       ends_as = r.runs_on;
       few_waits = (let few = r.few_waits in omega (arith, few, within));
+      spends = (let least = r.turns in omega (arith, most, least));
     })
 
 -- a run ends where its waits are as many as its turns allow
@@ -319,14 +322,32 @@ pub ends_so : (words : ServeWords) (end : ServeEnd) (w : ℕ) (told : Option (Li
 ends_so words end w None within had = tt
 ends_so words end w (Some trace) within had = had within
 
--- with fewer turns
-pub turned_fewer : {E : Type 0} (r : Result (Option ServeEnd) E) (words : ServeWords) (left : Option ℕ) (n m w : ℕ)
-    (told : Option (List Entry)) → n ≤ m → IfSome told (Turned r words left m w) → IfSome told (Turned r words left n w)
-turned_fewer (Ok None) words left n m w told fewer had =
-    each (Reckons words left m w) (Reckons words left n w) told
-    (λ trace r. reckons_fewer words left n m w w trace fewer (omega arith) r) had
-turned_fewer (Ok (Some end)) words left n m w told fewer had = had
-turned_fewer (Err why) words left n m w told fewer had = had
+-- a turn is paid for by what moved in it, or by the wait
+pub paid_round : (moved : Bool) (t n : ℕ) (r new : Records) → (IsQuiet r → ⊥) → (moved ≡ false → IsQuiet new) → Paid t n r
+    → Paid (t + 1) (turns_after moved n) new
+paid_round true t n r new work quiet (inl enough) = inl (omega (arith, enough))
+paid_round true t n r new work quiet (inr rest) = absurd (work rest.1)
+paid_round false t n r new work quiet (inl enough) = inr (omega (arith, enough), quiet refl)
+paid_round false t n r new work quiet (inr rest) = absurd (work rest.1)
+
+pub paid_wait : (t n : ℕ) (r new : Records) → Paid t n r → Paid (t + 1) (n + 2) new
+paid_wait t n r new (inl enough) = inl (omega (arith, enough))
+paid_wait t n r new (inr rest) = inl (let most = rest.0 in omega (arith, most))
+
+pub paid_all : (t n : ℕ) (r : Records) → Paid t n r → t ≤ n + 1
+paid_all t n r (inl enough) = omega (arith, enough)
+paid_all t n r (inr rest) = rest.0
+
+pub paid_on : (t m : ℕ) (r : Records) (end : Option ServeEnd) → end ≡ None → (end ≡ None → Paid t m r) → Paid t m r
+paid_on t m r end none paid = paid none
+
+pub no_ok : {A E : Type 0} (r : Result A E) (P : A → Type 0) → IfOk r (λ x. ⊥) → IfOk r P
+no_ok (Ok x) P none = absurd none
+no_ok (Err why) P none = tt
+
+pub all_ok : {A E : Type 0} (r : Result A E) (P : A → Type 0) → ((x : A) → P x) → IfOk r P
+all_ok (Ok x) P all = all x
+all_ok (Err why) P all = tt
 
 -- memory lacked in a turn, or in all
 pub lack_turns : {E : Type 0} (r : Result (Option ServeEnd) E) (words : ServeWords) (left : Option ℕ) (n w : ℕ) (told : Option (List Entry))

@@ -4,6 +4,7 @@ pub mod Closing
 pub mod Holding
 pub mod Listening
 pub mod Refusing
+pub mod Resting
 pub mod Serving
 pub mod Waking
 pub mod Watching

@@ -197,6 +197,7 @@ fault_finishes words trace f =
       };
       few_waits = (let none = no_waits f.made in
           rw (count-grows is_wait (map (listen_at true) f.made) (listen_at false f.at)) (omega (arith, none)));
+      spends = tt;
     })
 
 pub lack_finishes_listens : (words : ServeWords) (trace : List Entry) → StopsAt (given words.doors) trace
@@ -213,6 +214,7 @@ lack_finishes_listens words trace s =
       };
       ends_as = listens_run words.ticks s.made;
       few_waits = (let none = no_waits s.made in omega (arith, none));
+      spends = tt;
     })
   where
     by : (left : List DoorAt) → LeavesDoors ends.NoMemory left []

@@ -5,6 +5,7 @@ pub mod Notes
 pub mod Reckons
 pub mod Refused
 pub mod RefusedRuns
+pub mod Rested
 pub mod Served
 pub mod Settled
 pub mod Shown

@@ -1,5 +1,5 @@
 -- What calls add to a trace, and what is counted of a run.
-use Rattle.std.specs.Prelude.{⊤, ◌≡◌, ◌≤◌, ◌<◌, ℕ, ◌+◌, ◌-◌, ◌*◌, ◌==◌, Bool, true, false, List, [], ◌∷◌, ◌++◌, Option, Some, None, map, Result, Ok, Err}
+use Rattle.std.specs.Prelude.{⊤, ◌≡◌, ◌⊎◌, ◌≤◌, ◌<◌, ℕ, ◌+◌, ◌-◌, ◌*◌, ◌==◌, Bool, true, false, List, [], ◌∷◌, ◌++◌, Option, Some, None, map, Result, Ok, Err}
 use Rattle.std.specs.List.{All, list_all}
 use Rattle.hb_base.specs.declared.cause.Cause.{Cause}
 use Rattle.hb_base.specs.declared.note.Note.{Note}
@@ -11,6 +11,8 @@ use Rattle.hb_turns.specs.Ends.{ClosesFor, RunsOn, EndsAs, ticks, waits, moves}
 use Rattle.hb_turns.specs.Listens.{DoorAt, given, listen_at, Listened, BeginsWith}
 use Rattle.hb_turns.specs.Shown.{Shown}
 use Rattle.hb_turns.specs.Stands.{Obeys, Stands}
+use Rattle.hb_turns.specs.Woken.{IsQuiet}
+use Rattle.hb_turns.specs.declared.run.Records.{Records}
 use Rattle.hb_turns.specs.declared.run.Run.{Run}
 use Rattle.hb_turns.specs.declared.words.ServeWords.{ServeWords}
 use Rattle.hb_turns.specs.declared.served.ServeEnd.{ServeEnd}
@@ -93,11 +95,21 @@ pub record Reckons (words : ServeWords) (left : Option ℕ) (n w : ℕ) (trace :
   pub turns : n ≤ moves trace + 2 * waits trace
   pub few_waits : waits trace ≤ w
 
+-- Where the turns are spent, each of them is a wait, or the round in front of one, or something moved in it, but the last
+abbrev pub SpendsTurns : ℕ → ServeEnd → List Entry → Type 0
+SpendsTurns turns ends.TurnsSpent trace = turns ≤ moves trace + 2 * waits trace + 1
+SpendsTurns turns _ trace = ⊤
+
+-- of t turns each has its entries, of which there are enough for n, or all but the last, behind which nothing is to be tried
+abbrev pub Paid : ℕ → ℕ → Records → Type 0
+Paid t n r = (t ≤ n) ⊎ ((t ≤ n + 1) × IsQuiet r)
+
 -- the run is to end so
 pub record Finishes (words : ServeWords) (end : ServeEnd) (trace : List Entry) : Type 0 where
   pub begins : BeginsWith (given words.doors) end trace
   pub ends_as : EndsAs words.ticks end trace
   pub few_waits : waits trace ≤ words.turns
+  pub spends : SpendsTurns words.turns end trace
 
 -- how a turn left the run: it goes on, or it is to end
 abbrev pub TurnedTo : Option ServeEnd → ServeWords → Option ℕ → ℕ → ℕ → List Entry → Type 0

@@ -29,7 +29,10 @@ asks_doors inbound outbound =
 abbrev pub stopped : ℕ → Served
 stopped links = record { end = ends.Stopped; totals = record { links = links }; wanting = false; unkept = false }
 
--- a wait that tells a stop
+-- a wait that names nothing, and one that tells a stop
+abbrev pub waits : Entry
+waits = e.Wait [] woken.Woke
+
 abbrev pub waits_stop : Entry
 waits_stop = e.Wait [] woken.Stop
 
@@ -65,6 +68,11 @@ module _ {N : Type 0} (stands : List Note → N → List Entry → Type 0) (show
   -- more waits than turns
   abbrev pub WaitsPastTurns : Type 0
   WaitsPastTurns = Refuses (asks 0 None) (waits_stop ∷ [])
+
+  -- its turns are said to be spent, and it made fewer
+  abbrev pub GivesUp : Type 0
+  GivesUp = (to : Target) (why : Why) (links : ℕ) (keep : Option (List Note))
+      → IsServed stands shown (asks 9 None) (record (stopped links) { end = ends.TurnsSpent }) keep (e.DialFailed to why ∷ waits ∷ []) → ⊥
 
   -- one tick more than were stated
   abbrev pub TicksOnceMore : Type 0

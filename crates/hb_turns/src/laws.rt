@@ -2,7 +2,7 @@
 //! a function that does nothing.
 
 ghost use Rattle.hb_turns.specs.Refused.{WaitsOverDue, WaitsOverReadable, WaitsOverUnwritten, WaitsUnasked, WaitsUnaccepted, GoodTraceIsSettled};
-ghost use Rattle.hb_turns.specs.RefusedRuns.{StopsUnasked, LeavesOpen, ClosesForLack, GoesOnBehind, WaitsPastTurns, TicksOnceMore};
+ghost use Rattle.hb_turns.specs.RefusedRuns.{StopsUnasked, LeavesOpen, ClosesForLack, GoesOnBehind, WaitsPastTurns, GivesUp, TicksOnceMore};
 ghost use Rattle.hb_turns.specs.RefusedRuns.{ListensNowhere, ListensUnasked, ListensInAnotherOrder, LosesNotes, GoodRunIsServed};
 
 use crate::node::Node;
@@ -21,14 +21,15 @@ pub fn a_good_trace_is_settled<N: Node>()
     ensures { GoodTraceIsSettled N.stands N.shown }
 {}
 
-/// No run is over that stops unasked, leaves a link open, closes one for another cause, goes on behind its end, or waits or ticks more
-/// often than was stated.
+/// No run is over that stops unasked, leaves a link open, closes one for another cause, goes on behind its end, waits or ticks more
+/// often than was stated, or gives up before its turns are spent.
 pub fn wrong_ends_are_refused<N: Node>()
     ensures unasked { StopsUnasked N.stands N.shown }
     ensures left_open { LeavesOpen N.stands N.shown }
     ensures lack { ClosesForLack N.stands N.shown }
     ensures behind { GoesOnBehind N.stands N.shown }
     ensures turns { WaitsPastTurns N.stands N.shown }
+    ensures gives_up { GivesUp N.stands N.shown }
     ensures ticks { TicksOnceMore N.stands N.shown }
 {}
 

@@ -5,6 +5,7 @@ ghost use Rattle.hb_world.specs.Answers.{ReadsWithin};
 ghost use Rattle.hb_ready.specs.Registry.{kept};
 ghost use Rattle.hb_turns.specs.May.{MayFinish, MayRead, MayWrite};
 ghost use Rattle.hb_world.specs.Calls.{with_entries, read_entries};
+ghost use Rattle.hb_turns.specs.Rested.{IsCalm, FinishRests, ReadRests, WriteRests, MayNotRead, MayNotWrite};
 ghost use Rattle.hb_turns.specs.Reckons.{Adds, moved_by};
 ghost use Rattle.hb_turns.specs.Stands.{Keeps, Watched, IsIdle};
 
@@ -16,7 +17,8 @@ use hb_world::{Finished, Read, World, Wrote};
 
 /// Whether it may be asked whether a link is open.
 fn may_finish(links: &Links, link: u64) -> bool
-    ensures { result ≡ true → MayFinish ((kept links.now).links link) }
+    ensures may { result ≡ true → MayFinish ((kept links.now).links link) }
+    ensures rests { result ≡ false → FinishRests ((kept links.now).links link) }
 {
     match links.get(link) {
         None => false,
@@ -26,7 +28,8 @@ fn may_finish(links: &Links, link: u64) -> bool
 
 /// Whether a read may be made on a link.
 fn may_read(links: &Links, link: u64) -> bool
-    ensures { result ≡ true → MayRead ((kept links.now).links link) }
+    ensures may { result ≡ true → MayRead ((kept links.now).links link) }
+    ensures rests { result ≡ false → MayNotRead ((kept links.now).links link) }
 {
     match links.get(link) {
         None => false,
@@ -36,7 +39,8 @@ fn may_read(links: &Links, link: u64) -> bool
 
 /// Whether a write may be made on a link.
 fn may_write(links: &Links, link: u64) -> bool
-    ensures { result ≡ true → MayWrite ((kept links.now).links link) }
+    ensures may { result ≡ true → MayWrite ((kept links.now).links link) }
+    ensures rests { result ≡ false → MayNotWrite ((kept links.now).links link) }
 {
     match links.get(link) {
         None => false,
@@ -53,6 +57,7 @@ pub(crate) fn finish<W: World, N: Node>(
     ensures keeps { IsIdle (N.shown run.old.node) → Keeps N.stands N.shown result run.old (W.trace world.old) run.new (W.trace world.new) }
     ensures watched { OnOk result (Watched N.shown run.old → Watched N.shown run.new) }
     ensures still { IfOk result (λ moved. moved ≡ false → run.new.node ≡ run.old.node) }
+    ensures rests { IfOk result (λ moved. moved ≡ false → IsCalm run.old run.new × FinishRests ((kept run.new.records.links).links link)) }
     ensures adds { Adds (moved_by result) (W.trace world.old) (W.trace world.new) }
     ensures faults { W.faults world.new ≡ W.faults world.old }
     ensures follows { W.script world.new ≡ W.script world.old }
@@ -111,6 +116,8 @@ fn read<W: World, N: Node>(run: &mut Run<N>, world: &mut W, link: u64) -> Result
     ensures keeps { IsIdle (N.shown run.old.node) → Keeps N.stands N.shown result run.old (W.trace world.old) run.new (W.trace world.new) }
     ensures watched { OnOk result (Watched N.shown run.old → Watched N.shown run.new) }
     ensures still { IfOk result (λ moved. moved ≡ false → run.new.node ≡ run.old.node) }
+    ensures rests { IfOk result (λ moved. moved ≡ false → IsCalm run.old run.new
+        × ReadRests ((kept run.new.records.links).links link) link (N.shown run.new.node)) }
     ensures adds { Adds (moved_by result) (W.trace world.old) (W.trace world.new) }
     ensures faults { W.faults world.new ≡ W.faults world.old }
     ensures follows { W.script world.new ≡ W.script world.old }
@@ -158,6 +165,8 @@ pub(crate) fn write<W: World, N: Node>(
         → Keeps N.stands N.shown result run.old (W.trace world.old) run.new (W.trace world.new) }
     ensures watched { OnOk result (Watched N.shown run.old → Watched N.shown run.new) }
     ensures still { IfOk result (λ moved. moved ≡ false → run.new.node ≡ run.old.node) }
+    ensures rests { IfOk result (λ moved. moved ≡ false → IsCalm run.old run.new
+        × WriteRests ((kept run.new.records.links).links link) link (N.shown run.new.node)) }
     ensures adds { Adds (moved_by result) (W.trace world.old) (W.trace world.new) }
     ensures faults { W.faults world.new ≡ W.faults world.old }
     ensures follows { W.script world.new ≡ W.script world.old }
@@ -195,6 +204,8 @@ pub(crate) fn read_last<W: World, N: Node>(
     ensures keeps { IsIdle (N.shown run.old.node) → Keeps N.stands N.shown result run.old (W.trace world.old) run.new (W.trace world.new) }
     ensures watched { OnOk result (Watched N.shown run.old → Watched N.shown run.new) }
     ensures still { IfOk result (λ moved. moved ≡ false → run.new.node ≡ run.old.node) }
+    ensures rests { IfOk result (λ moved. moved ≡ false → IsCalm run.old run.new
+        × ReadRests ((kept run.new.records.links).links link) link (N.shown run.new.node)) }
     ensures adds { Adds (moved_by result) (W.trace world.old) (W.trace world.new) }
     ensures faults { W.faults world.new ≡ W.faults world.old }
     ensures follows { W.script world.new ≡ W.script world.old }

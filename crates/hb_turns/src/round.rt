@@ -1,11 +1,14 @@
 //! A round: each door that a wait named accepts at most one link, and each link on the list is tried once.
 
-ghost use Rattle.std.specs.Prelude.{◌≡◌, ◌∷◌, ◌++◌, [], true, false, drop, Some, None, IfSome, IfOk, OnOk, List};
+ghost use Rattle.std.specs.Prelude.{◌≡◌, ℕ, ◌∷◌, ◌++◌, [], true, false, drop, length, Some, None, IfSome, IfOk, OnOk, List};
 ghost use Rattle.hb_world.specs.declared.entry.Entry.{Entry};
 ghost use Rattle.hb_ready.specs.Registry.{kept};
 ghost use Rattle.hb_ready.specs.Kept.{rotated};
 ghost use Rattle.hb_turns.specs.Reckons.{Adds, moved_by};
+ghost use Rattle.hb_ready.specs.Sight.{asked_at};
+ghost use Rattle.hb_turns.specs.Rested.{IsCalm, IsDropped, CallRests};
 ghost use Rattle.hb_turns.specs.Settled.{Rests};
+ghost use Rattle.hb_turns.specs.Woken.{IsQuiet};
 ghost use Rattle.hb_turns.specs.Stands.{Keeps, Watched, IsIdle, Stands};
 
 use crate::acts::{carry, enter};
@@ -29,6 +32,7 @@ fn accept<W: World, N: Node>(run: &mut Run<N>, world: &mut W, door: Door) -> Res
     ensures keeps { IsIdle (N.shown run.old.node) → Keeps N.stands N.shown result run.old (W.trace world.old) run.new (W.trace world.new) }
     ensures watched { OnOk result (Watched N.shown run.old → Watched N.shown run.new) }
     ensures still { IfOk result (λ moved. moved ≡ false → run.new.node ≡ run.old.node) }
+    ensures rests { IfOk result (λ moved. moved ≡ false → IsCalm run.old run.new × (asked_at run.new.records.asked door ≡ false)) }
     ensures adds { Adds (moved_by result) (W.trace world.old) (W.trace world.new) }
     ensures faults { W.faults world.new ≡ W.faults world.old }
     ensures follows { W.script world.new ≡ W.script world.old }
@@ -64,6 +68,7 @@ fn make_call<W: World, N: Node>(
     ensures keeps { IsIdle (N.shown run.old.node) → Keeps N.stands N.shown result run.old (W.trace world.old) run.new (W.trace world.new) }
     ensures watched { OnOk result (Watched N.shown run.old → Watched N.shown run.new) }
     ensures still { IfOk result (λ moved. moved ≡ false → run.new.node ≡ run.old.node) }
+    ensures rests { IfOk result (λ moved. moved ≡ false → IsCalm run.old run.new × CallRests N.shown call run.new) }
     ensures adds { Adds (moved_by result) (W.trace world.old) (W.trace world.new) }
     ensures faults { W.faults world.new ≡ W.faults world.old }
     ensures follows { W.script world.new ≡ W.script world.old }
@@ -85,6 +90,7 @@ fn try_call<W: World, N: Node>(
     ensures keeps { IsIdle (N.shown run.old.node) → Keeps N.stands N.shown result run.old (W.trace world.old) run.new (W.trace world.new) }
     ensures watched { OnOk result (Watched N.shown run.old → Watched N.shown run.new) }
     ensures idle { OnOk result (IsIdle (N.shown run.old.node) → IsIdle (N.shown run.new.node)) }
+    ensures rests { IfOk result (λ moved. moved ≡ false → IsCalm run.old run.new × CallRests N.shown call run.new) }
     ensures adds { Adds (moved_by result) (W.trace world.old) (W.trace world.new) }
     ensures faults { W.faults world.new ≡ W.faults world.old }
     ensures follows { W.script world.new ≡ W.script world.old }
@@ -102,6 +108,8 @@ fn try_link<W: World, N: Node>(run: &mut Run<N>, world: &mut W, link: u64) -> Re
     ensures keeps { IsIdle (N.shown run.old.node) → Keeps N.stands N.shown result run.old (W.trace world.old) run.new (W.trace world.new) }
     ensures watched { OnOk result (Watched N.shown run.old → Watched N.shown run.new) }
     ensures idle { OnOk result (IsIdle (N.shown run.old.node) → IsIdle (N.shown run.new.node)) }
+    ensures rests { IfOk result (λ moved. moved ≡ false → IsCalm run.old run.new
+        × Rests ((kept run.new.records.links).links link) link (N.shown run.new.node)) }
     ensures adds { Adds (moved_by result) (W.trace world.old) (W.trace world.new) }
     ensures faults { W.faults world.new ≡ W.faults world.old }
     ensures follows { W.script world.new ≡ W.script world.old }
@@ -115,7 +123,8 @@ fn try_link<W: World, N: Node>(run: &mut Run<N>, world: &mut W, link: u64) -> Re
 
 /// Whether a try of the link may move something: it lives, a way is awake, and there is something to do.
 fn is_worth<N: Node>(run: &Run<N>, link: u64) -> bool
-    ensures { result ≡ false → Rests ((kept run.now.records.links).links link) link (N.shown run.now.node) }
+    ensures rests { result ≡ false → Rests ((kept run.now.records.links).links link) link (N.shown run.now.node) }
+    ensures worth { result ≡ true → Rests ((kept run.now.records.links).links link) link (N.shown run.now.node) → ⊥ }
 {
     match run.records.links.get(link) {
         None => false,
@@ -135,6 +144,10 @@ fn is_worth<N: Node>(run: &Run<N>, link: u64) -> bool
 fn settle<N: Node>(run: &mut Run<N>)
     ensures keeps { (trace : List Entry) → Stands N.stands N.shown run.old trace → Stands N.stands N.shown run.new trace }
     ensures watched { Watched N.shown run.old → Watched N.shown run.new }
+    ensures pops { (l : ℕ) → (kept run.old.records.links).listed ≡ l ∷ drop 1 (kept run.old.records.links).listed
+        → Rests ((kept run.old.records.links).links l) l (N.shown run.old.node) → IsDropped 1 run.old run.new }
+    ensures asked { run.new.records.asked ≡ run.old.records.asked }
+    ensures empty { (kept run.old.records.links).listed ≡ [] → (kept run.new.records.links).listed ≡ [] }
     ensures node { run.new.node ≡ run.old.node }
 {
     let Some(link) = run.records.links.front() else {
@@ -152,6 +165,7 @@ fn try_front<W: World, N: Node>(run: &mut Run<N>, world: &mut W) -> Result<bool,
     ensures keeps { IsIdle (N.shown run.old.node) → Keeps N.stands N.shown result run.old (W.trace world.old) run.new (W.trace world.new) }
     ensures watched { OnOk result (Watched N.shown run.old → Watched N.shown run.new) }
     ensures idle { OnOk result (IsIdle (N.shown run.old.node) → IsIdle (N.shown run.new.node)) }
+    ensures rests { IfOk result (λ moved. moved ≡ false → IsDropped 1 run.old run.new) }
     ensures adds { Adds (moved_by result) (W.trace world.old) (W.trace world.new) }
     ensures faults { W.faults world.new ≡ W.faults world.old }
     ensures follows { W.script world.new ≡ W.script world.old }
@@ -169,6 +183,7 @@ fn try_links<W: World, N: Node>(run: &mut Run<N>, world: &mut W) -> Result<bool,
     ensures keeps { IsIdle (N.shown run.old.node) → Keeps N.stands N.shown result run.old (W.trace world.old) run.new (W.trace world.new) }
     ensures watched { OnOk result (Watched N.shown run.old → Watched N.shown run.new) }
     ensures idle { OnOk result (IsIdle (N.shown run.old.node) → IsIdle (N.shown run.new.node)) }
+    ensures rests { IfOk result (λ moved. moved ≡ false → IsDropped (length (kept run.old.records.links).listed) run.old run.new) }
     ensures adds { Adds (moved_by result) (W.trace world.old) (W.trace world.new) }
     ensures faults { W.faults world.new ≡ W.faults world.old }
     ensures follows { W.script world.new ≡ W.script world.old }
@@ -186,6 +201,7 @@ pub(crate) fn round<W: World, N: Node>(run: &mut Run<N>, world: &mut W) -> Resul
     ensures keeps { IsIdle (N.shown run.old.node) → Keeps N.stands N.shown result run.old (W.trace world.old) run.new (W.trace world.new) }
     ensures watched { OnOk result (Watched N.shown run.old → Watched N.shown run.new) }
     ensures idle { OnOk result (IsIdle (N.shown run.old.node) → IsIdle (N.shown run.new.node)) }
+    ensures rests { IfOk result (λ moved. moved ≡ false → IsQuiet run.new.records) }
     ensures adds { Adds (moved_by result) (W.trace world.old) (W.trace world.new) }
     ensures faults { W.faults world.new ≡ W.faults world.old }
     ensures follows { W.script world.new ≡ W.script world.old }

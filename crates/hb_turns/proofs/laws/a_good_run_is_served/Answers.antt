@@ -84,6 +84,7 @@ returns g c = λ at to why notes more n m k due starts waits ends none.
             ends = refl;
           };
           few_waits = omega arith;
+          spends = tt;
         };
         stood_for = (notes, m, waits);
         closes = All-cons (ClosesFor cause.Stopped) (e.Closed 1 cause.Stopped) [] refl (All-nil (ClosesFor cause.Stopped));

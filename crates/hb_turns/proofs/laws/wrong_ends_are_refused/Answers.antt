@@ -1,4 +1,4 @@
-use Rattle.std.proofs.Common.{◌≡◌, ◌≤◌, true, false, Some, None, List, [], ◌∷◌, ◌++◌, refl, sym, subst, arith}
+use Rattle.std.proofs.Common.{◌≡◌, ◌≤◌, true, false, Some, None, List, [], ◌∷◌, ◌++◌, refl, sym, subst, ◌+◌, ◌*◌, arith}
 use Rattle.std.specs.List.{All}
 use Rattle.std.proofs.lemmas.List.Elements.{All-head}
 use Rattle.hb_base.specs.declared.cause.Cause.TheVariants as cause
@@ -7,8 +7,9 @@ use Rattle.hb_base.specs.declared.target.Target.{Target}
 use Rattle.hb_world.specs.declared.entry.Entry.{Entry}
 use Rattle.hb_world.specs.declared.entry.Entry.TheVariants as e
 use Rattle.hb_world.specs.declared.entry.Woken.TheVariants as woken
-use Rattle.hb_turns.specs.Ends.{ClosesFor, RunsOn, end_by, waits}
-use Rattle.hb_turns.specs.RefusedRuns.{asks, waits_stop}
+use Rattle.std.specs.Prelude.{count_by}
+use Rattle.hb_turns.specs.Ends.{ClosesFor, RunsOn, end_by, is_wait, moves, waits as waits_in}
+use Rattle.hb_turns.specs.RefusedRuns.{asks, waits, waits_stop}
 use Rattle.hb_turns.specs.declared.served.ServeEnd.TheVariants as ends
 use Rattle.hb_turns.proofs.Refusing.{stops_amid, ends_not, no_end}
 use Rattle.hb_turns.proofs.laws.wrong_ends_are_refused.Goals as goal
@@ -61,10 +62,10 @@ returns-clause-behind g c = λ to why links keep served.
     let s = stops_amid g.N.Node.stands (asks 9 None) _ served.over in
     more to why s.before s.last s.behind s.trace_is s.ended s.closes
 
-past : (b : List Entry) (l : Entry) (c : List Entry) → waits_stop ∷ [] ≡ b ++ l ∷ c → waits (b ++ l ∷ []) ≤ 0 → ⊥
+past : (b : List Entry) (l : Entry) (c : List Entry) → waits_stop ∷ [] ≡ b ++ l ∷ c → waits_in (b ++ l ∷ []) ≤ 0 → ⊥
 past [] l c is few =
     let it : waits_stop ≡ l = cc in
-    let one : waits (waits_stop ∷ []) ≤ 0 = subst (λ (x : Entry). waits (x ∷ []) ≤ 0) (sym it) few in
+    let one : waits_in (waits_stop ∷ []) ≤ 0 = subst (λ (x : Entry). waits_in (x ∷ []) ≤ 0) (sym it) few in
     omega (arith, one)
 past (x ∷ []) l c is few = absurd cc
 past (x ∷ y ∷ b) l c is few = absurd cc
@@ -94,3 +95,24 @@ pub returns-clause-ticks : goal.returns-clause-ticks
 returns-clause-ticks g c = λ links keep served.
     let s = stops_amid g.N.Node.stands (asks 9 (Some 1)) _ served.over in
     once_more s.before s.last s.behind s.trace_is s.runs_on s.ended s.closes
+
+few_turns : (to : Target) (why : Why) (b c : List Entry) → e.DialFailed to why ∷ waits ∷ [] ≡ b ++ c
+    → 9 ≤ moves b + 2 * (count_by is_wait b) + 1 → ⊥
+few_turns to why [] c is spends = omega (arith, spends)
+few_turns to why (x ∷ []) c is spends =
+    let first : e.DialFailed to why ≡ x = cc in
+    let so : 9 ≤ moves (e.DialFailed to why ∷ []) + 2 * (count_by is_wait (e.DialFailed to why ∷ [])) + 1 =
+    subst (λ (z : Entry). 9 ≤ moves (z ∷ []) + 2 * (count_by is_wait (z ∷ [])) + 1) (sym first) spends in
+    omega (arith, so)
+few_turns to why (x ∷ y ∷ []) c is spends =
+    let first : e.DialFailed to why ≡ x = cc in
+    let second : waits ≡ y = cc in
+    let so : 9 ≤ moves (e.DialFailed to why ∷ waits ∷ []) + 2 * (count_by is_wait (e.DialFailed to why ∷ waits ∷ [])) + 1 =
+    subst (λ (z : Entry). 9 ≤ moves (z ∷ waits ∷ []) + 2 * (count_by is_wait (z ∷ waits ∷ [])) + 1) (sym first)
+    (subst (λ (z : Entry). 9 ≤ moves (x ∷ z ∷ []) + 2 * (count_by is_wait (x ∷ z ∷ [])) + 1) (sym second) spends) in
+    omega (arith, so)
+few_turns to why (x ∷ y ∷ z ∷ b) c is spends = absurd cc
+
+pub returns-clause-gives_up : goal.returns-clause-gives_up
+returns-clause-gives_up g c = λ to why links keep served.
+    let o = served.over in few_turns to why o.before o.behind o.trace_is o.finishes.spends

@@ -15,7 +15,7 @@ use Rattle.hb_turns.proofs.link.read.Goals as goal
 pub returns-in-End-clause-keeps : goal.returns-in-End-clause-keeps
 returns-in-End-clause-keeps g c = λ idle had.
     let may : MayRead ((kept c.args.run.now.records.links).links c.args.link) =
-    c.may_read.ensures c.if-not-may_read.false in
+    c.may_read.ensures.may c.if-not-may_read.false in
     let mid = c.read_into.new.run in
     let may_mid : MayRead ((kept mid.records.links).links c.args.link) =
     subst (λ (r : Records). MayRead ((kept r.links).links c.args.link)) (sym c.read_into.ensures.records) may in
@@ -30,7 +30,7 @@ returns-in-End-clause-keeps g c = λ idle had.
 pub returns-in-Balked-clause-keeps : goal.returns-in-Balked-clause-keeps
 returns-in-Balked-clause-keeps g c = λ idle had.
     let may : MayRead ((kept c.args.run.now.records.links).links c.args.link) =
-    c.may_read.ensures c.if-not-may_read.false in
+    c.may_read.ensures.may c.if-not-may_read.false in
     let mid = c.read_into.new.run in
     let may_mid : MayRead ((kept mid.records.links).links c.args.link) =
     subst (λ (r : Records). MayRead ((kept r.links).links c.args.link)) (sym c.read_into.ensures.records) may in
@@ -45,7 +45,7 @@ returns-in-Balked-clause-keeps g c = λ idle had.
 pub returns-in-Failed-clause-keeps : goal.returns-in-Failed-clause-keeps
 returns-in-Failed-clause-keeps g c = λ idle had.
     let may : MayRead ((kept c.args.run.now.records.links).links c.args.link) =
-    c.may_read.ensures c.if-not-may_read.false in
+    c.may_read.ensures.may c.if-not-may_read.false in
     let mid = c.read_into.new.run in
     let may_mid : MayRead ((kept mid.records.links).links c.args.link) =
     subst (λ (r : Records). MayRead ((kept r.links).links c.args.link)) (sym c.read_into.ensures.records) may in
@@ -65,7 +65,7 @@ returns-in-NoMemory-clause-keeps g c = λ idle had.
 pub returns-in_ok-take_bytes-in-Got-clause-keeps : goal.returns-in_ok-take_bytes-in-Got-clause-keeps
 returns-in_ok-take_bytes-in-Got-clause-keeps g c = λ idle had.
     let may : MayRead ((kept c.args.run.now.records.links).links c.args.link) =
-    c.may_read.ensures c.if-not-may_read.false in
+    c.may_read.ensures.may c.if-not-may_read.false in
     let mid = c.read_into.new.run in
     let may_mid : MayRead ((kept mid.records.links).links c.args.link) =
     subst (λ (r : Records). MayRead ((kept r.links).links c.args.link)) (sym c.read_into.ensures.records) may in
@@ -88,7 +88,7 @@ returns-in_ok-take_bytes-in-Got-clause-keeps g c = λ idle had.
 pub returns-in_err-take_bytes-in-Got-clause-keeps : goal.returns-in_err-take_bytes-in-Got-clause-keeps
 returns-in_err-take_bytes-in-Got-clause-keeps g c = λ idle had.
     let may : MayRead ((kept c.args.run.now.records.links).links c.args.link) =
-    c.may_read.ensures c.if-not-may_read.false in
+    c.may_read.ensures.may c.if-not-may_read.false in
     let mid = c.read_into.new.run in
     let may_mid : MayRead ((kept mid.records.links).links c.args.link) =
     subst (λ (r : Records). MayRead ((kept r.links).links c.args.link)) (sym c.read_into.ensures.records) may in

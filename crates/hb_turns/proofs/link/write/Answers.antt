@@ -13,7 +13,7 @@ use Rattle.hb_turns.proofs.link.write.Goals as goal
 pub returns-in-Took-clause-keeps : goal.returns-in-Took-clause-keeps
 returns-in-Took-clause-keeps g c = λ due had.
     let may : MayWrite ((kept c.args.run.now.records.links).links c.args.link) =
-    c.may_write.ensures c.if-not-may_write.false in
+    c.may_write.ensures.may c.if-not-may_write.false in
     let adds = subst (λ (bs : List ℕ). g.W.World.trace c.write.new.self ≡ with_entries (e.Went c.args.link (take c.in-Took.n bs) ∷ []) (g.W.World.trace c.args.world.now))
     c.output-output.ensures c.in-Took.ensures.adds in
     let few : c.in-Took.n ≤ length ((g.N.Node.shown c.args.run.now.node).output c.args.link) = subst (λ (bs : List ℕ). c.in-Took.n ≤ length bs) c.output-output.ensures c.in-Took.ensures.within.1 in
@@ -30,7 +30,7 @@ returns-in-Took-clause-watched g c =
 pub returns-in-Balked-clause-keeps : goal.returns-in-Balked-clause-keeps
 returns-in-Balked-clause-keeps g c = λ due had.
     let may : MayWrite ((kept c.args.run.now.records.links).links c.args.link) =
-    c.may_write.ensures c.if-not-may_write.false in
+    c.may_write.ensures.may c.if-not-may_write.false in
     rested g.N.Node.stands g.N.Node.shown c.args.run.now
     (record c.args.run.now { records = record c.args.run.now.records { links = c.write_balked.new.self } })
     (e.Balked (way.Write c.args.link)) (Stands g.N.Node.stands g.N.Node.shown c.args.run.now) (g.W.World.trace c.args.world.now) _ c.in-Balked.ensures.adds refl refl
@@ -45,7 +45,7 @@ returns-in-Balked-clause-watched g c =
 pub returns-in-Failed-clause-keeps : goal.returns-in-Failed-clause-keeps
 returns-in-Failed-clause-keeps g c = λ due had.
     let may : MayWrite ((kept c.args.run.now.records.links).links c.args.link) =
-    c.may_write.ensures c.if-not-may_write.false in
+    c.may_write.ensures.may c.if-not-may_write.false in
     moved g.N.Node.stands g.N.Node.shown c.args.run.now (record c.args.run.now { node = c.broke.new.self })
     (e.Broke c.args.link) (Stands g.N.Node.stands g.N.Node.shown c.args.run.now) (g.W.World.trace c.args.world.now) _ c.in-Failed.ensures.adds refl
     c.broke.ensures.tells (unmoved c.args.run.now.records (e.Broke c.args.link) tt)

@@ -1,5 +1,6 @@
-use Rattle.std.proofs.Common.{refl, rules, ◌∙◌}
+use Rattle.std.proofs.Common.{arith, refl, rules, ◌∙◌}
 use Rattle.hb_turns.proofs.Adding.{adds_err, adds_none, adds_or, adds_then}
+use Rattle.hb_turns.proofs.Resting.{dropped_none, dropped_more, dropped_so, neither}
 use Rattle.hb_turns.proofs.Holding.{left}
 use Rattle.hb_turns.proofs.round.try_links.Goals as goal
 
@@ -9,6 +10,7 @@ loop-try-init g c = record {
   watched = λ watched. watched;
   idle = λ idle. idle;
   adds = adds_none _;
+  rests = λ still. dropped_none _;
   faults = refl;
   follows = refl;
 }
@@ -22,6 +24,7 @@ loop-try-preserved g c =
       watched = λ watched. here.watched (at.watched watched);
       idle = λ idle. here.idle (at.idle idle);
       adds = adds_or _ _ _ _ _ at.adds here.adds;
+      rests = λ still. let each = neither _ _ still in dropped_more _ _ _ _ (at.rests each.1) (here.rests each.0);
       faults = here.faults ∙ at.faults;
       follows = here.follows ∙ at.follows;
     }
@@ -39,3 +42,7 @@ returns-in_err-here-clause-adds g c =
 
 pub returns-clause-adds : goal.returns-clause-adds
 returns-clause-adds g c = c.loop-try.invariant.adds
+
+pub returns-clause-rests : goal.returns-clause-rests
+returns-clause-rests g c = λ still.
+    dropped_so _ _ _ _ (omega (arith, c.loop-try-test.false, c.loop-try.auto._try-end)) (c.loop-try.invariant.rests still)

@@ -1,5 +1,5 @@
-use Rattle.std.specs.Prelude.{◌≡◌, IfSome}
-use Rattle.hb_turns.specs.Reckons.{Reckons}
+use Rattle.std.specs.Prelude.{◌≡◌, ℕ, IfSome}
+use Rattle.hb_turns.specs.Reckons.{Paid, Reckons}
 use Rattle.hb_turns.specs.Stands.{Stands, Watched, IsIdle}
 use Rattle.hb_turns.specs.declared.words.ServeWords.{ServeWords}
 use Rattle.hb_turns.proofs.turns.turns.Given as goal
@@ -12,8 +12,9 @@ invariant-loop-turn g l = record {
   kept : Watched g.N.Node.shown l.fn.run
       → IfSome (g.W.World.trace l.fn.world) (Stands g.N.Node.stands g.N.Node.shown l.fn.run)
       → IfSome (g.W.World.trace l.world) (Stands g.N.Node.stands g.N.Node.shown l.run);
-  reckoned : (words : ServeWords) → IfSome (g.W.World.trace l.fn.world) (Reckons words l.fn.ticks 0 0)
-      → IfSome (g.W.World.trace l.world) (Reckons words l.ticks 0 l._turn);
+  reckoned : (n : ℕ) × (Paid l._turn n l.run.records)
+      × ((words : ServeWords) → IfSome (g.W.World.trace l.fn.world) (Reckons words l.fn.ticks 0 0)
+      → IfSome (g.W.World.trace l.world) (Reckons words l.ticks n l._turn));
   faults : g.W.World.faults l.world ≡ g.W.World.faults l.fn.world;
   follows : g.W.World.script l.world ≡ g.W.World.script l.fn.world;
 }
