@@ -25,20 +25,6 @@ none_more (Some trace) = ap (λ (es : List Entry). Some es) (sym (append-nil tra
 pub adds_none : (o : Option (List Entry)) → Adds false o o
 adds_none o = adds_nothing o o (none_more o)
 
--- one entry was told
-pub adds_entry : (x : Entry) (before behind : Option (List Entry)) → behind ≡ with_entries (x ∷ []) before → is_plain x ≡ true
-    → Adds (is_move x) before behind
-adds_entry x before behind is plain = record {
-  more = x ∷ [];
-  grows = is;
-  plain = rw plain refl;
-  moves_some = λ moved. some (is_move x) moved;
-}
-  where
-    some : (b : Bool) → b ≡ true → 0 < (0 + cond b 1 0)
-    some true is = omega arith
-    some false is = absurd cc
-
 pub adds_less : (b : Bool) (before behind : Option (List Entry)) → Adds b before behind → Adds false before behind
 adds_less b before behind a = record { more = a.more; grows = a.grows; plain = a.plain; moves_some = λ moved. absurd cc }
 

@@ -59,17 +59,6 @@ module _ {N : Type 0} (stands : List Note → N → List Entry → Type 0) (show
         },
       ))
 
-  -- a link that the loop doesn't know doesn't live
-  pub unknown_closed : (run : Run N) (node : N) (l : ℕ) (told : Option (List Entry)) → (kept run.records.links).links l ≡ None
-      → ((notes : List Note) (trace : List Entry) → stands notes run.node trace → lives l trace ≡ true)
-      → IfSome told (Stands stands shown run) → IfSome told (Stands stands shown (record run { node = node }))
-  unknown_closed run node l told unknown acts =
-      each (Stands stands shown run) (Stands stands shown (record run { node = node })) told
-      (λ trace s. absurd
-      (let dead : lives l trace ≡ false = none_lives l trace (sym (s.obeys.links l) ∙ unknown) in
-      let alive : lives l trace ≡ true = acts s.notes trace s.node in
-      cc))
-
   -- the node stands for what it stood for
   pub stands_as : (run : Run N) (node : N) (told : Option (List Entry))
       → ((notes : List Note) (trace : List Entry) → stands notes run.node trace → stands notes node trace)

@@ -16,14 +16,14 @@ use Rattle.hb_turns.specs.Ends.{end_of, end_by, RunsOn, ticks, waits, is_tick, i
 use Rattle.hb_turns.specs.Listens.{DoorAt, given, listen_at, LeavesDoors}
 use Rattle.hb_turns.specs.Reckons.{Begins, Begun, FailsAt, StopsAt, AreLeft, Reckons, Finishes}
 use Rattle.hb_turns.specs.Shown.{Shown, MayCome}
-use Rattle.hb_turns.specs.Stands.{Obeys, Stands, Left, Tracks}
+use Rattle.hb_turns.specs.Stands.{Obeys, Stands, Tracks}
 use Rattle.hb_turns.specs.declared.run.Records.{Records}
 use Rattle.hb_turns.specs.declared.run.Run.{Run}
 use Rattle.hb_turns.specs.declared.served.ServeEnd.{ServeEnd}
 use Rattle.hb_turns.specs.declared.served.ServeEnd.TheVariants as ends
 use Rattle.hb_turns.specs.declared.words.ServeWords.{ServeWords}
 use Rattle.hb_turns.proofs.Counting.{count-cons, count-grows}
-use Rattle.hb_turns.proofs.Holding.{on, each, same, obeys-grows, held_still, still}
+use Rattle.hb_turns.proofs.Holding.{on, each, obeys-grows, held_still, still}
 
 all_listens : (made : List DoorAt) → list_all is_listen (map (listen_at true) made) ≡ true
 all_listens [] = refl
@@ -103,30 +103,6 @@ module _ {N : Type 0} (stands : List Note → N → List Entry → Type 0) (show
           trace_is = ap (λ (es : List Entry). es ++ listen_at false d ∷ []) had.listens;
         },
       ))
-
-  -- memory lacked for it
-  pub listen_lacks : (run : Run N) (made more : List DoorAt) (before behind : Option (List Entry)) → behind ≡ with_entries [] before
-      → IfSome before (Begins stands shown run made)
-      → IfSome behind (λ trace. Obeys stands shown run.records trace × StopsAt (made ++ more) trace)
-  listen_lacks run made more before behind adds =
-      same (Begins stands shown run made) (λ trace. Obeys stands shown run.records trace × StopsAt (made ++ more) trace) before behind adds
-      (λ trace had. (had.stands_for.obeys, record { made = made; left = more; doors_are = refl; trace_is = had.listens }))
-
-  -- no door was given
-  pub not_given : (run : Run N) (made : List DoorAt) (told : Option (List Entry)) → IfSome told (Begins stands shown run made)
-      → IfSome told (Begins stands shown run (made ++ []))
-  not_given run made told had =
-      subst (λ (ds : List DoorAt). IfSome told (Begins stands shown run ds)) (sym (append-nil made)) had
-
--- more doors are left
-pub fails_more : (doors more : List DoorAt) (trace : List Entry) → FailsAt doors trace → FailsAt (doors ++ more) trace
-fails_more doors more trace f = record {
-  made = f.made;
-  at = f.at;
-  left = f.left ++ more;
-  doors_are = ap (λ (ds : List DoorAt). ds ++ more) f.doors_are ∙ append_assoc f.made (f.at ∷ f.left) more;
-  trace_is = f.trace_is;
-}
 
 pub stops_more : (doors more : List DoorAt) (trace : List Entry) → StopsAt doors trace → StopsAt (doors ++ more) trace
 stops_more doors more trace s = record {
@@ -222,15 +198,6 @@ lack_finishes_listens words trace s =
     by (d ∷ left) = refl
 
 module _ {N : Type 0} (stands : List Note → N → List Entry → Type 0) (shown : N → Shown) where
-  -- more doors are left, where a listen failed or memory lacked
-  pub begun_fails : (end : ServeEnd) (run : Run N) (doors more : List DoorAt) (told : Option (List Entry))
-      → IfSome told (λ trace. (end ≡ ends.WorldFault) × Stands stands shown run trace × FailsAt doors trace)
-      → IfSome told (λ trace. (end ≡ ends.WorldFault) × Stands stands shown run trace × FailsAt (doors ++ more) trace)
-  begun_fails end run doors more told =
-      each (λ trace. (end ≡ ends.WorldFault) × Stands stands shown run trace × FailsAt doors trace)
-      (λ trace. (end ≡ ends.WorldFault) × Stands stands shown run trace × FailsAt (doors ++ more) trace) told
-      (λ trace had. (had.0, had.1, fails_more doors more trace had.2))
-
   pub begun_lacks : {E : Type 0} (r : Result (Option ServeEnd) E) (run : Run N) (doors more : List DoorAt) (told : Option (List Entry))
       → IfOk r (λ x. ⊥) → IfSome told (λ trace. Obeys stands shown run.records trace × StopsAt doors trace)
       → IfSome told (Begun stands shown r run (doors ++ more))
@@ -255,25 +222,6 @@ module _ {N : Type 0} (stands : List Note → N → List Entry → Type 0) (show
   lacks_finishes (Err why) run words told none had =
       each (λ trace. Obeys stands shown run.records trace × StopsAt (given words.doors) trace) (Finishes words ends.NoMemory) told
       (λ trace had. lack_finishes_listens words trace had.1) had
-
-  pub lacks_left : {A E : Type 0} (r : Result A E) (run : Run N) (doors : List DoorAt) (told : Option (List Entry)) → IfOk r (λ x. ⊥)
-      → IfSome told (λ trace. Obeys stands shown run.records trace × StopsAt doors trace) → IfSome told (Left stands shown r run)
-  lacks_left (Ok x) run doors told none had = absurd none
-  lacks_left (Err why) run doors told none had =
-      each (λ trace. Obeys stands shown run.records trace × StopsAt doors trace) (Obeys stands shown run.records) told
-      (λ trace had. had.0) had
-
-  pub begun_left : (end : ServeEnd) (run : Run N) (doors : List DoorAt) (told : Option (List Entry))
-      → IfSome told (λ trace. (end ≡ ends.WorldFault) × Stands stands shown run trace × FailsAt doors trace)
-      → IfSome told (Stands stands shown run)
-  begun_left end run doors told =
-      each (λ trace. (end ≡ ends.WorldFault) × Stands stands shown run trace × FailsAt doors trace) (Stands stands shown run) told
-      (λ trace had. had.1)
-
-  pub begins_stands : (run : Run N) (doors : List DoorAt) (told : Option (List Entry)) → IfSome told (Begins stands shown run doors)
-      → IfSome told (Stands stands shown run)
-  begins_stands run doors told =
-      each (Begins stands shown run doors) (Stands stands shown run) told (λ trace had. had.stands_for)
 
   -- what a listen that was made answers
   pub begun_more : (o : Option ServeEnd) (run : Run N) (doors : List DoorAt) (told : Option (List Entry)) → o ≡ None
