@@ -11,6 +11,7 @@ use Rattle.hb_base.specs.declared.target.Target.{Target}
 use Rattle.hb_turns.specs.declared.act.Act.TheVariants as act
 use Rattle.hb_world.specs.Calls.{with_entries, with_closed, with_shut}
 use Rattle.hb_world.specs.Trace.{births, is_birth, lives, was_shut, same_door}
+use Rattle.hb_base.specs.declared.note.Note.{Note}
 use Rattle.hb_world.specs.declared.entry.Entry.{Entry}
 use Rattle.hb_world.specs.declared.entry.Entry.TheVariants as e
 use Rattle.hb_world.proofs.TraceLemmas.{AtEach-grows, any-grows, births-grow}
@@ -25,6 +26,7 @@ use Rattle.hb_ready.specs.Sight.{known, sight, asked_behind, asked_at}
 use Rattle.hb_ready.specs.declared.link.Link.{Link}
 use Rattle.hb_ready.proofs.Sights.{known-grows, asked-grows, numbered-grows}
 use Rattle.hb_turns.specs.Ends.{is_close_for_lack}
+use Rattle.hb_turns.specs.Notes.{Holds}
 use Rattle.hb_turns.specs.Settled.{SettledAt}
 use Rattle.hb_turns.specs.Shown.{Shown, Tells, MayCome}
 use Rattle.hb_turns.specs.Stands.{Obeys, Stands, Tracks, Left, births_behind}
@@ -32,12 +34,13 @@ use Rattle.hb_turns.specs.declared.run.Records.{Records}
 use Rattle.hb_turns.specs.declared.run.Run.{Run}
 
 -- an entry may come there, for the loop's laws
-pub record Comes {N : Type 0} (stands : N → List Entry → Type 0) (shown : N → Shown) (trace : List Entry) (x : Entry) : Type 0 where
+pub record Comes {N : Type 0} (stands : List Note → N → List Entry → Type 0) (shown : N → Shown) (trace : List Entry)
+    (x : Entry) : Type 0 where
   pub numbers : Numbers trace x
   pub awake : IsAwake trace x
   pub settled : SettledAt stands shown trace x
 
-pub obeys-grows : {N : Type 0} (stands : N → List Entry → Type 0) (shown : N → Shown) (old new : Records) (trace : List Entry)
+pub obeys-grows : {N : Type 0} (stands : List Note → N → List Entry → Type 0) (shown : N → Shown) (old new : Records) (trace : List Entry)
     (x : Entry) → Comes stands shown trace x → Tracks old new x → Obeys stands shown old trace → Obeys stands shown new (trace ++ x ∷ [])
 obeys-grows stands shown old new trace x comes tracks o = record {
   links = λ l. tracks.links l ∙ ap (λ (k : Option Link). link_behind l k x) (o.links l)
@@ -101,22 +104,28 @@ pub each : (P Q : List Entry → Type 0) (told : Option (List Entry)) → ((trac
 each P Q None all had = tt
 each P Q (Some trace) all had = all trace had
 
+-- what is kept is the same
+pub held_still : {N : Type 0} (old new : Run N) (notes : List Note) → new.keep ≡ old.keep → Holds old.keep notes → Holds new.keep notes
+held_still old new notes same holds = subst (λ (k : Option (List Note)). Holds k notes) (sym same) holds
+
 -- the call told an entry, the records follow it, and the node was told
-pub moved : {N : Type 0} (stands : N → List Entry → Type 0) (shown : N → Shown) (old new : Run N) (x : Entry)
-    (P : List Entry → Type 0) (before behind : Option (List Entry)) → behind ≡ with_entries (x ∷ []) before
+pub moved : {N : Type 0} (stands : List Note → N → List Entry → Type 0) (shown : N → Shown) (old new : Run N) (x : Entry)
+    (P : List Entry → Type 0) (before behind : Option (List Entry)) → behind ≡ with_entries (x ∷ []) before → new.keep ≡ old.keep
     → Tells stands shown x old.node new.node → Tracks old.records new.records x
     → ((trace : List Entry) → P trace → Stands stands shown old trace × MayCome (shown old.node) trace x × Comes stands shown trace x)
     → IfSome before P → IfSome behind (Stands stands shown new)
-moved stands shown old new x P before behind adds tells tracks comes had =
+moved stands shown old new x P before behind adds keep tells tracks comes had =
     on P (Stands stands shown new) (x ∷ []) before behind adds
     (λ trace s. let may = comes trace s in
     record {
-      node = tells trace may.0.node may.1;
+      notes = may.0.notes;
+      node = tells may.0.notes trace may.0.node may.1;
+      kept_are = held_still old new may.0.notes keep may.0.kept_are;
       obeys = obeys-grows stands shown old.records new.records trace x may.2 tracks may.0.obeys;
     }) had
 
 -- and the node had no memory
-pub lacked : {N : Type 0} (stands : N → List Entry → Type 0) (shown : N → Shown) (old : Run N) (new : Records) (x : Entry)
+pub lacked : {N : Type 0} (stands : List Note → N → List Entry → Type 0) (shown : N → Shown) (old : Run N) (new : Records) (x : Entry)
     (P : List Entry → Type 0) (before behind : Option (List Entry)) → behind ≡ with_entries (x ∷ []) before → Tracks old.records new x
     → ((trace : List Entry) → P trace → Stands stands shown old trace × MayCome (shown old.node) trace x × Comes stands shown trace x)
     → IfSome before P → IfSome behind (Obeys stands shown new)
@@ -125,21 +134,24 @@ lacked stands shown old new x P before behind adds tracks comes had =
     (λ trace s. let may = comes trace s in obeys-grows stands shown old.records new trace x may.2 tracks may.0.obeys) had
 
 -- so it is left where memory lacked
-pub left : {A E N : Type 0} (stands : N → List Entry → Type 0) (shown : N → Shown) (r : Result A E) (run : Run N)
+pub left : {A E N : Type 0} (stands : List Note → N → List Entry → Type 0) (shown : N → Shown) (r : Result A E) (run : Run N)
     (told : Option (List Entry)) → IfOk r (λ x. ⊥) → IfSome told (Obeys stands shown run.records)
     → IfSome told (Left stands shown r run)
 left stands shown (Ok x) run told none had = absurd none
 left stands shown (Err why) run told none had = had
 
 -- room was taken for a birth
-pub reserved : {N : Type 0} (stands : N → List Entry → Type 0) (shown : N → Shown) (old new : Run N) (told : Option (List Entry))
-    → new.node ≡ old.node → new.records.asked ≡ old.records.asked → new.records.births ≡ old.records.births
+pub reserved : {N : Type 0} (stands : List Note → N → List Entry → Type 0) (shown : N → Shown) (old new : Run N)
+    (told : Option (List Entry))
+    → new.node ≡ old.node → new.keep ≡ old.keep → new.records.asked ≡ old.records.asked → new.records.births ≡ old.records.births
     → new.records.wanting ≡ old.records.wanting → IsKept (kept old.records.links) (kept new.records.links)
     → IfSome told (Stands stands shown old) → IfSome told (Stands stands shown new)
-reserved stands shown old new told node doors births_are wanting_is is had =
+reserved stands shown old new told node keep doors births_are wanting_is is had =
     each (Stands stands shown old) (Stands stands shown new) told
     (λ trace s. record {
-      node = subst (λ n. stands n trace) (sym node) s.node;
+      notes = s.notes;
+      node = subst (λ n. stands s.notes n trace) (sym node) s.node;
+      kept_are = held_still old new s.notes keep s.kept_are;
       obeys = record {
         links = λ l. is.links l ∙ s.obeys.links l;
         doors = λ d. ap (λ (a : Asked). asked_at a d) doors ∙ s.obeys.doors d;
@@ -158,7 +170,7 @@ numbered_too P None l next had = tt
 numbered_too P (Some trace) l next had = (had, next)
 
 -- no entry was told, since the world had no memory
-pub untold : {N : Type 0} (stands : N → List Entry → Type 0) (shown : N → Shown) (old : Run N)
+pub untold : {N : Type 0} (stands : List Note → N → List Entry → Type 0) (shown : N → Shown) (old : Run N)
     (before behind : Option (List Entry)) → behind ≡ with_entries [] before
     → IfSome before (Stands stands shown old) → IfSome behind (Obeys stands shown old.records)
 untold stands shown old before behind adds had =
@@ -193,7 +205,7 @@ IsPlain (e.Shut l) = ⊤
 IsPlain e.Tick = ⊤
 IsPlain _ = ⊥
 
-still : (o : Option Link) → o ≡ option_map (λ (k : Link). k) o
+pub still : (o : Option Link) → o ≡ option_map (λ (k : Link). k) o
 still None = refl
 still (Some k) = refl
 
@@ -205,57 +217,67 @@ unmoved r e.Tick plain = record { links = λ l. still _; doors = λ d. refl; bir
 unmoved r _ plain = absurd plain
 
 -- what was asked for a dial
-pub dial_comes : {N : Type 0} (stands : N → List Entry → Type 0) (shown : N → Shown) (run : Run N) (to : Target) (why : Why) (l : ℕ)
+pub dial_comes : {N : Type 0} (stands : List Note → N → List Entry → Type 0) (shown : N → Shown) (run : Run N) (to : Target) (why : Why)
+    (l : ℕ)
     → (shown run.node).due ≡ Some (act.Dial to why) → (trace : List Entry)
     → Stands stands shown run trace × (l ≡ births trace + 1)
     → Stands stands shown run trace × MayCome (shown run.node) trace (e.Dialled l to why) × Comes stands shown trace (e.Dialled l to why)
 dial_comes stands shown run to why l due trace had =
     (had.0, (due, had.1), record { numbers = had.1; awake = tt; settled = tt })
 
-pub dial_fails : {N : Type 0} (stands : N → List Entry → Type 0) (shown : N → Shown) (run : Run N) (to : Target) (why : Why)
+pub dial_fails : {N : Type 0} (stands : List Note → N → List Entry → Type 0) (shown : N → Shown) (run : Run N) (to : Target) (why : Why)
     → (shown run.node).due ≡ Some (act.Dial to why) → (trace : List Entry) → Stands stands shown run trace
     → Stands stands shown run trace × MayCome (shown run.node) trace (e.DialFailed to why) × Comes stands shown trace (e.DialFailed to why)
 dial_fails stands shown run to why due trace had = (had, due, record { numbers = tt; awake = tt; settled = tt })
 
 -- what is known of a link that lives is so
-pub known_so : {N : Type 0} (stands : N → List Entry → Type 0) (shown : N → Shown) (run : Run N) (l : ℕ) (k : Link) (trace : List Entry)
+pub known_so : {N : Type 0} (stands : List Note → N → List Entry → Type 0) (shown : N → Shown) (run : Run N) (l : ℕ) (k : Link)
+    (trace : List Entry)
     → (kept run.records.links).links l ≡ Some k → Stands stands shown run trace → (lives l trace ≡ true) × (sight l trace ≡ k)
 known_so stands shown run l k trace is s = known_lives l trace k (sym (s.obeys.links l) ∙ is)
 
 -- a call that moved nothing, or a wait: the node isn't told
-pub rested : {N : Type 0} (stands : N → List Entry → Type 0) (shown : N → Shown) (old new : Run N) (x : Entry)
+pub rested : {N : Type 0} (stands : List Note → N → List Entry → Type 0) (shown : N → Shown) (old new : Run N) (x : Entry)
     (P : List Entry → Type 0) (before behind : Option (List Entry)) → behind ≡ with_entries (x ∷ []) before
-    → new.node ≡ old.node → ((trace : List Entry) → MayCome (shown old.node) trace x → stands old.node trace → stands old.node (trace ++ x ∷ []))
+    → new.node ≡ old.node → new.keep ≡ old.keep
+    → ((notes : List Note) (trace : List Entry) → MayCome (shown old.node) trace x → stands notes old.node trace
+    → stands notes old.node (trace ++ x ∷ []))
     → Tracks old.records new.records x
     → ((trace : List Entry) → P trace → Stands stands shown old trace × MayCome (shown old.node) trace x × Comes stands shown trace x)
     → IfSome before P → IfSome behind (Stands stands shown new)
-rested stands shown old new x P before behind adds node rests tracks comes had =
+rested stands shown old new x P before behind adds node keep rests tracks comes had =
     on P (Stands stands shown new) (x ∷ []) before behind adds
     (λ trace s. let may = comes trace s in
     record {
-      node = subst (λ n. stands n (trace ++ x ∷ [])) (sym node) (rests trace may.1 may.0.node);
+      notes = may.0.notes;
+      node = subst (λ n. stands may.0.notes n (trace ++ x ∷ [])) (sym node) (rests may.0.notes trace may.1 may.0.node);
+      kept_are = held_still old new may.0.notes keep may.0.kept_are;
       obeys = obeys-grows stands shown old.records new.records trace x may.2 tracks may.0.obeys;
     }) had
 
 -- the buffer alone changed
-pub same_run : {N : Type 0} (stands : N → List Entry → Type 0) (shown : N → Shown) (old new : Run N) (told : Option (List Entry))
-    → new.node ≡ old.node → new.records ≡ old.records → IfSome told (Stands stands shown old) → IfSome told (Stands stands shown new)
-same_run stands shown old new told node records had =
+pub same_run : {N : Type 0} (stands : List Note → N → List Entry → Type 0) (shown : N → Shown) (old new : Run N)
+    (told : Option (List Entry))
+    → new.node ≡ old.node → new.records ≡ old.records → new.keep ≡ old.keep → IfSome told (Stands stands shown old)
+    → IfSome told (Stands stands shown new)
+same_run stands shown old new told node records keep had =
     each (Stands stands shown old) (Stands stands shown new) told
     (λ trace s. record {
-      node = subst (λ n. stands n trace) (sym node) s.node;
+      notes = s.notes;
+      node = subst (λ n. stands s.notes n trace) (sym node) s.node;
+      kept_are = held_still old new s.notes keep s.kept_are;
       obeys = subst (λ (r : Records). Obeys stands shown r trace) (sym records) s.obeys;
     }) had
 
 -- a wait named the door, so an accept may be made at it
-pub accept_comes : {N : Type 0} (stands : N → List Entry → Type 0) (shown : N → Shown) (run : Run N) (door : Door) (l : ℕ)
+pub accept_comes : {N : Type 0} (stands : List Note → N → List Entry → Type 0) (shown : N → Shown) (run : Run N) (door : Door) (l : ℕ)
     → (shown run.node).due ≡ None → asked_at run.records.asked door ≡ true → (trace : List Entry)
     → Stands stands shown run trace × (l ≡ births trace + 1)
     → Stands stands shown run trace × MayCome (shown run.node) trace (e.Accepted l door) × Comes stands shown trace (e.Accepted l door)
 accept_comes stands shown run door l due is trace had =
     (had.0, (due, had.1), record { numbers = had.1; awake = sym (had.0.obeys.doors door) ∙ is; settled = tt })
 
-pub accept_balks : {N : Type 0} (stands : N → List Entry → Type 0) (shown : N → Shown) (run : Run N) (door : Door)
+pub accept_balks : {N : Type 0} (stands : List Note → N → List Entry → Type 0) (shown : N → Shown) (run : Run N) (door : Door)
     → (shown run.node).due ≡ None → asked_at run.records.asked door ≡ true → (trace : List Entry) → Stands stands shown run trace
     → Stands stands shown run trace × MayCome (shown run.node) trace (e.Balked (way.Accept door))
     × Comes stands shown trace (e.Balked (way.Accept door))

@@ -1,4 +1,10 @@
+pub mod Adding
+pub mod Counting
+pub mod Closing
 pub mod Holding
+pub mod Listening
+pub mod Refusing
+pub mod Resting
 pub mod Serving
 pub mod Waking
 pub mod Watching

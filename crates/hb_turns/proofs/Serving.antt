@@ -1,8 +1,10 @@
 -- A run from its start to its end.
-use Rattle.std.proofs.Common.{◌≡◌, ◌<◌, ℕ, ◌+◌, Bool, true, false, if◌then◌else◌, List, [], ◌∷◌, Option, Some, None, IfSome, IsSome, refl, sym, ◌∙◌, subst, inr, arith}
-use Rattle.std.specs.Option.{is_some}
+use Rattle.std.proofs.Common.{◌≡◌, ℕ, Bool, true, false, if◌then◌else◌, List, [], ◌∷◌, Option, Some, None, IfSome, IsSome, refl, sym, ◌∙◌, subst, inr}
+use Rattle.std.specs.Option.{option_map}
+use Rattle.std.proofs.lemmas.List.Elements.{All-nil}
 use Rattle.std.proofs.lemmas.Bool.{false≢true}
 use Rattle.hb_world.specs.Trace.{lives, AtEach}
+use Rattle.hb_base.specs.declared.note.Note.{Note}
 use Rattle.hb_world.specs.declared.entry.Entry.{Entry}
 use Rattle.hb_ready.specs.Awake.{IsAwake}
 use Rattle.hb_ready.specs.Registry.{kept}
@@ -11,13 +13,20 @@ use Rattle.hb_ready.specs.declared.link.Link.{Link}
 use Rattle.hb_turns.specs.Served.{IsServed, IsFresh}
 use Rattle.hb_turns.specs.Settled.{SettledAt, Rests}
 use Rattle.hb_turns.specs.Shown.{Shown}
-use Rattle.hb_turns.specs.Stands.{Obeys, Stands, Watched}
+use Rattle.hb_turns.specs.Stands.{Obeys, Watched}
 use Rattle.hb_turns.specs.declared.run.Records.{Records}
 use Rattle.hb_turns.specs.declared.run.Run.{Run}
-use Rattle.hb_turns.proofs.Holding.{known_lives, each}
+use Rattle.hb_turns.specs.Ends.{ClosesFor, cause_at}
+use Rattle.hb_turns.specs.Listens.{given}
+use Rattle.hb_turns.specs.Notes.{Holds}
+use Rattle.hb_turns.specs.Reckons.{Begins}
+use Rattle.hb_turns.specs.declared.served.ServeEnd.TheVariants as ends
+use Rattle.hb_turns.specs.declared.words.ServeWords.{ServeWords}
+use Rattle.hb_turns.proofs.Holding.{known_lives}
+use Rattle.hb_turns.proofs.Listening.{lack_finishes_listens}
 
 -- a link that is known lives
-pub some_lives : {N : Type 0} (stands : N → List Entry → Type 0) (shown : N → Shown) (r : Records) (l : ℕ) (trace : List Entry)
+pub some_lives : {N : Type 0} (stands : List Note → N → List Entry → Type 0) (shown : N → Shown) (r : Records) (l : ℕ) (trace : List Entry)
     → IsSome ((kept r.links).links l) → Obeys stands shown r trace → lives l trace ≡ true
 some_lives stands shown r l trace some o = by ((kept r.links).links l) refl some
   where
@@ -26,58 +35,72 @@ some_lives stands shown r l trace some o = by ((kept r.links).links l) refl some
     by (Some k) is some = (known_lives l trace k (sym (o.links l) ∙ is)).0
 
 -- where none is known, none lives
-none_lives : (l : ℕ) (trace : List Entry) → known l trace ≡ None → lives l trace ≡ false
+pub none_lives : (l : ℕ) (trace : List Entry) → known l trace ≡ None → lives l trace ≡ false
 none_lives l trace none = by (lives l trace) refl none
   where
     by : (b : Bool) → lives l trace ≡ b → (if b then Some (sight l trace) else None) ≡ None → lives l trace ≡ false
     by true alive is = absurd cc
     by false dead is = dead
 
-pub is_served : {N : Type 0} (stands : N → List Entry → Type 0) (shown : N → Shown) (r : Records) (told : Option (List Entry))
-    → ((l : ℕ) → (kept r.links).links l ≡ None) → IfSome told (Obeys stands shown r)
-    → IfSome told (IsServed stands shown r.births r.wanting)
-is_served stands shown r told none had =
-    each (Obeys stands shown r) (IsServed stands shown r.births r.wanting) told
-    (λ trace o. record {
-      awake = o.awake;
-      settled = o.settled;
-      closed = λ l. none_lives l trace (sym (o.links l) ∙ none l);
-      links_are = o.births_are;
-      wanting_is = o.wanting_is;
-    }) had
-
-nothing_at : (P : List Entry → Entry → Type 0) → AtEach P []
+pub nothing_at : (P : List Entry → Entry → Type 0) → AtEach P []
 nothing_at P [] x after is = absurd cc
 nothing_at P (b ∷ bs) x after is = absurd cc
 
+-- an emptied keep holds no note
+nothing_held : (k : Option (List Note)) → Holds (option_map (λ (notes : List Note). []) k) []
+nothing_held None = tt
+nothing_held (Some notes) = refl
+
 -- before anything happened
-pub begins : {N : Type 0} (stands : N → List Entry → Type 0) (shown : N → Shown) (run : Run N) (told : Option (List Entry))
-    → IsFresh run.records → stands run.node [] → told ≡ Some [] → IfSome told (Stands stands shown run)
-begins stands shown run told fresh stands_for is =
-    subst (λ (o : Option (List Entry)). IfSome o (Stands stands shown run)) (sym is)
+pub begins : {N : Type 0} (stands : List Note → N → List Entry → Type 0) (shown : N → Shown) (run : Run N) (keep : Option (List Note))
+    (told : Option (List Entry)) → IsFresh run.records → run.keep ≡ option_map (λ (notes : List Note). []) keep → stands [] run.node []
+    → told ≡ Some [] → IfSome told (Begins stands shown run [])
+begins stands shown run keep told fresh keeps stands_for is =
+    subst (λ (o : Option (List Entry)). IfSome o (Begins stands shown run [])) (sym is)
     (record {
-      node = stands_for;
-      obeys = record {
-        links = fresh.links;
-        doors = fresh.doors;
-        numbered = λ l above. (refl, refl);
-        births_are = fresh.births;
-        wanting_is = fresh.wanting;
-        awake = nothing_at IsAwake;
-        settled = nothing_at (SettledAt stands shown);
+      stands_for = record {
+        notes = [];
+        node = stands_for;
+        kept_are = subst (λ (k : Option (List Note)). Holds k []) (sym keeps) (nothing_held keep);
+        obeys = record {
+          links = fresh.links;
+          doors = fresh.doors;
+          numbered = λ l above. (refl, refl);
+          births_are = fresh.births;
+          wanting_is = fresh.wanting;
+          awake = nothing_at IsAwake;
+          settled = nothing_at (SettledAt stands shown);
+        };
       };
+      listens = refl;
     })
 
 pub watched_fresh : {N : Type 0} (shown : N → Shown) (run : Run N) → IsFresh run.records → Watched shown run
 watched_fresh shown run fresh l =
     inr (inr (subst (λ (o : Option Link). Rests o l (shown run.node)) (sym (fresh.links l)) tt))
 
-pub nothing_served : {N : Type 0} (stands : N → List Entry → Type 0) (shown : N → Shown) (told : Option (List Entry)) → told ≡ Some []
-    → IfSome told (IsServed stands shown 0 false)
-nothing_served stands shown told is =
-    subst (λ (o : Option (List Entry)). IfSome o (IsServed stands shown 0 false)) (sym is)
-    (record { awake = nothing_at IsAwake; settled = nothing_at (SettledAt stands shown); closed = λ l. refl; links_are = refl; wanting_is = refl })
-
-pub fewer : (o : Option Link) (n m : ℕ) → IsSome o → n + (if is_some o then 1 else 0) ≡ m → n < m
-fewer None n m some is = absurd (false≢true some)
-fewer (Some k) n m some is = omega arith
+-- memory lacked before anything happened
+pub nothing_served : {N : Type 0} (stands : List Note → N → List Entry → Type 0) (shown : N → Shown) (words : ServeWords)
+    (keep : Option (List Note))
+    (told : Option (List Entry)) → told ≡ Some []
+    → IfSome told (IsServed stands shown words
+    (record { end = ends.NoMemory; totals = record { links = 0 }; wanting = false; unkept = false }) keep)
+nothing_served stands shown words keep told is =
+    subst (λ (o : Option (List Entry)). IfSome o (IsServed stands shown words
+    (record { end = ends.NoMemory; totals = record { links = 0 }; wanting = false; unkept = false }) keep)) (sym is)
+    (record {
+      awake = nothing_at IsAwake;
+      settled = nothing_at (SettledAt stands shown);
+      closed = λ l. refl;
+      over = record {
+        before = [];
+        behind = [];
+        trace_is = refl;
+        finishes = lack_finishes_listens words [] (record { made = []; left = given words.doors; doors_are = refl; trace_is = refl });
+        stood_for = tt;
+        closes = All-nil (ClosesFor (cause_at ends.NoMemory));
+      };
+      links_are = refl;
+      wanting_is = refl;
+      noted = λ other kept. absurd (other refl);
+    })

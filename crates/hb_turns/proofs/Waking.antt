@@ -8,6 +8,7 @@ use Rattle.hb_world.specs.declared.entry.ReadyItem.{ReadyItem}
 use Rattle.hb_world.specs.declared.entry.ReadyItem.TheVariants as item
 use Rattle.hb_world.specs.declared.entry.Woken.{Woken}
 use Rattle.hb_world.specs.declared.entry.Woken.TheVariants as woken
+use Rattle.hb_base.specs.declared.note.Note.{Note}
 use Rattle.hb_world.specs.declared.entry.Entry.{Entry}
 use Rattle.hb_world.specs.Calls.{with_entries}
 use Rattle.std.proofs.lemmas.List.{append_assoc}
@@ -25,7 +26,7 @@ use Rattle.hb_turns.specs.Shown.{Shown, MayCome, Tells}
 use Rattle.hb_turns.specs.Stands.{Stands, Tracks, Watched, WatchedBy, IsIdle}
 use Rattle.hb_turns.specs.Woken.{Wakes, IsQuiet, Ticked}
 use Rattle.hb_turns.specs.declared.run.Run.{Run}
-use Rattle.hb_turns.proofs.Holding.{Comes, on, obeys-grows, unmoved}
+use Rattle.hb_turns.proofs.Holding.{Comes, on, obeys-grows, unmoved, held_still}
 use Rattle.hb_turns.specs.declared.run.Records.{Records}
 use Rattle.hb_turns.proofs.Watching.{watched-links, lists-more, lists-it}
 
@@ -75,7 +76,8 @@ wakes-more old mid new items x first last = record {
 }
 
 -- a link was named
-named : (b : Bool) (o : Option Link) → (if b then option_map awake o else o) ≡ option_map (λ (k : Link). if b || false then awake k else k) o
+named : (b : Bool) (o : Option Link)
+    → (if b then option_map awake o else o) ≡ option_map (λ (k : Link). if b || false then awake k else k) o
 named true o = refl
 named false o = plain o
 
@@ -130,7 +132,8 @@ nothing : (xs : List ℕ) (l : ℕ) → xs ≡ [] → has xs l ≡ true → ⊥
 nothing xs l none is = absurd (let no : false ≡ true = subst (λ (ys : List ℕ). has ys l ≡ true) none is in cc)
 
 -- nothing is due, and nothing is to be tried: a wait may come
-pub wait_comes : {N : Type 0} (stands : N → List Entry → Type 0) (shown : N → Shown) (run : Run N) (items : List ReadyItem) (how : Woken)
+pub wait_comes : {N : Type 0} (stands : List Note → N → List Entry → Type 0) (shown : N → Shown) (run : Run N) (items : List ReadyItem)
+    (how : Woken)
     → IsIdle (shown run.node) → IsQuiet run.records → Watched shown run → (trace : List Entry) → Stands stands shown run trace
     → Stands stands shown run trace × MayCome (shown run.node) trace (e.Wait items how) × Comes stands shown trace (e.Wait items how)
 wait_comes stands shown run items how idle quiet watched trace s = (
@@ -140,6 +143,7 @@ wait_comes stands shown run items how idle quiet watched trace s = (
     numbers = tt;
     awake = tt;
     settled = record {
+      notes = s.notes;
       node = run.node;
       stands_for = s.node;
       idle = idle.due;
@@ -152,34 +156,41 @@ wait_comes stands shown run items how idle quiet watched trace s = (
 )
 
 -- a wait told a tick
-pub wait_ticks : {N : Type 0} (stands : N → List Entry → Type 0) (shown : N → Shown) (old new : Run N) (items : List ReadyItem)
+pub wait_ticks : {N : Type 0} (stands : List Note → N → List Entry → Type 0) (shown : N → Shown) (old new : Run N) (items : List ReadyItem)
     (before behind : Option (List Entry)) → behind ≡ with_entries (e.Wait items woken.Tick ∷ e.Tick ∷ []) before → new.node ≡ old.node
-    → ((trace : List Entry) → MayCome (shown old.node) trace (e.Wait items woken.Tick) → stands old.node trace
-    → stands old.node (trace ++ e.Wait items woken.Tick ∷ []))
+    → new.keep ≡ old.keep
+    → ((notes : List Note) (trace : List Entry) → MayCome (shown old.node) trace (e.Wait items woken.Tick) → stands notes old.node trace
+    → stands notes old.node (trace ++ e.Wait items woken.Tick ∷ []))
     → Tracks old.records new.records (e.Wait items woken.Tick)
     → ((trace : List Entry) → Stands stands shown old trace → Stands stands shown old trace
     × MayCome (shown old.node) trace (e.Wait items woken.Tick) × Comes stands shown trace (e.Wait items woken.Tick))
     → IfSome before (Stands stands shown old) → IfSome behind (Ticked stands shown new)
-wait_ticks stands shown old new items before behind adds node rests tracks comes had =
+wait_ticks stands shown old new items before behind adds node keep rests tracks comes had =
     on (Stands stands shown old) (Ticked stands shown new) (e.Wait items woken.Tick ∷ e.Tick ∷ []) before behind adds
     (λ trace s. let may = comes trace s in
     record {
       before = trace ++ e.Wait items woken.Tick ∷ [];
       trace_is = sym (append_assoc trace (e.Wait items woken.Tick ∷ []) (e.Tick ∷ []));
       stands_for = record {
-        node = subst (λ n. stands n (trace ++ e.Wait items woken.Tick ∷ [])) (sym node) (rests trace may.1 may.0.node);
+        notes = may.0.notes;
+        node = subst (λ n. stands may.0.notes n (trace ++ e.Wait items woken.Tick ∷ [])) (sym node)
+            (rests may.0.notes trace may.1 may.0.node);
+        kept_are = held_still old new may.0.notes keep may.0.kept_are;
         obeys = obeys-grows stands shown old.records new.records trace (e.Wait items woken.Tick) may.2 tracks may.0.obeys;
       };
     }) had
 
 -- the node is told of a tick
-pub tick_told : {N : Type 0} (stands : N → List Entry → Type 0) (shown : N → Shown) (old new : Run N)
-    → Tells stands shown e.Tick old.node new.node → new.records ≡ old.records → (shown old.node).due ≡ None → (trace : List Entry)
+pub tick_told : {N : Type 0} (stands : List Note → N → List Entry → Type 0) (shown : N → Shown) (old new : Run N)
+    → Tells stands shown e.Tick old.node new.node → new.records ≡ old.records → new.keep ≡ old.keep → (shown old.node).due ≡ None
+    → (trace : List Entry)
     → Ticked stands shown old trace → Stands stands shown new trace
-tick_told stands shown old new tells records due trace t =
+tick_told stands shown old new tells records keep due trace t =
     subst (λ (xs : List Entry). Stands stands shown new xs) (sym t.trace_is)
     (record {
-      node = tells t.before t.stands_for.node due;
+      notes = t.stands_for.notes;
+      node = tells t.stands_for.notes t.before t.stands_for.node due;
+      kept_are = held_still old new t.stands_for.notes keep t.stands_for.kept_are;
       obeys = obeys-grows stands shown old.records new.records t.before e.Tick (record { numbers = tt; awake = tt; settled = tt })
           (subst (λ (r : Records). Tracks old.records r e.Tick) (sym records) (unmoved old.records e.Tick tt)) t.stands_for.obeys;
     })

@@ -1,9 +1,10 @@
 -- What may come of a call on a link whose way is awake.
-use Rattle.std.proofs.Common.{◌≡◌, ◌≤◌, ◌<◌, ℕ, ◌==◌, Bool, true, false, if◌then◌else◌, List, length, take, Option, Some, None, refl, ap, sym, ◌∙◌, subst, inl, inr, arith}
+use Rattle.std.proofs.Common.{◌≡◌, ◌⊎◌, ◌≤◌, ◌<◌, ℕ, ◌==◌, Bool, true, false, if◌then◌else◌, List, length, take, Option, Some, None, refl, ap, sym, ◌∙◌, subst, inl, inr, arith}
 use Rattle.std.specs.Option.{option_map}
 use Rattle.std.proofs.lemmas.Bool.{eqb-true}
 use Rattle.std.proofs.lemmas.List.{length-take}
 use Rattle.hb_world.specs.Trace.{lives}
+use Rattle.hb_base.specs.declared.note.Note.{Note}
 use Rattle.hb_world.specs.declared.entry.Entry.{Entry}
 use Rattle.hb_world.specs.declared.entry.Entry.TheVariants as e
 use Rattle.hb_world.specs.declared.entry.Way.TheVariants as way
@@ -39,24 +40,24 @@ write_facts l trace (Some k) is may =
     let it = known_lives l trace k (sym is) in
     (it.0, ap (λ (k : Link). k.is_open) it.1 ∙ may.0, ap (λ (k : Link). k.write_sleeps) it.1 ∙ may.1)
 
-module _ {N : Type 0} (stands : N → List Entry → Type 0) (shown : N → Shown) (run : Run N) (l : ℕ)
-    (due : (shown run.node).due ≡ None) where
-  -- an entry comes behind a trace that the run stands for
-  abbrev pub ComesTo : Entry → Type 0
-  ComesTo x = (trace : List Entry) → Stands stands shown run trace
-      → Stands stands shown run trace × MayCome (shown run.node) trace x × Comes stands shown trace x
+-- an entry comes behind a trace that the run stands for
+abbrev pub ComesTo : {N : Type 0} → (List Note → N → List Entry → Type 0) → (N → Shown) → Run N → Entry → Type 0
+ComesTo stands shown run x = (trace : List Entry) → Stands stands shown run trace
+    → Stands stands shown run trace × MayCome (shown run.node) trace x × Comes stands shown trace x
 
+module _ {N : Type 0} (stands : List Note → N → List Entry → Type 0) (shown : N → Shown) (run : Run N) (l : ℕ)
+    (due : (shown run.node).due ≡ None) where
   module _ (may : MayFinish ((kept run.records.links).links l)) where
-    pub opened_comes : ComesTo (e.Opened l)
+    pub opened_comes : ComesTo stands shown run (e.Opened l)
     opened_comes trace s =
         let it = finish_facts l trace _ (s.obeys.links l) may in
         (s, (due, it.0, it.1), record { numbers = tt; awake = it.2; settled = tt })
 
-    pub finish_balks : ComesTo (e.Balked (way.Finish l))
+    pub finish_balks : ComesTo stands shown run (e.Balked (way.Finish l))
     finish_balks trace s =
         let it = finish_facts l trace _ (s.obeys.links l) may in (s, due, record { numbers = tt; awake = it.2; settled = tt })
 
-    pub finish_breaks : ComesTo (e.Broke l)
+    pub finish_breaks : ComesTo stands shown run (e.Broke l)
     finish_breaks trace s =
         let it = finish_facts l trace _ (s.obeys.links l) may in (
           s,
@@ -69,21 +70,22 @@ module _ {N : Type 0} (stands : N → List Entry → Type 0) (shown : N → Show
         )
 
   module _ (may : MayRead ((kept run.records.links).links l)) where
-    pub came_comes : (bytes : List ℕ) → 0 < length bytes → length bytes ≤ (shown run.node).wants l → ComesTo (e.Came l bytes)
+    pub came_comes : (bytes : List ℕ) → 0 < length bytes → length bytes ≤ (shown run.node).wants l
+        → ComesTo stands shown run (e.Came l bytes)
     came_comes bytes some few trace s =
         let it = read_facts l trace _ (s.obeys.links l) may in
         (s, (due, it.0, it.1, some, few), record { numbers = tt; awake = it.2; settled = tt })
 
-    pub ended_comes : 0 < (shown run.node).wants l → ComesTo (e.Ended l)
+    pub ended_comes : 0 < (shown run.node).wants l → ComesTo stands shown run (e.Ended l)
     ended_comes some trace s =
         let it = read_facts l trace _ (s.obeys.links l) may in
         (s, (due, it.0, it.1, some), record { numbers = tt; awake = it.2; settled = tt })
 
-    pub read_balks : ComesTo (e.Balked (way.Read l))
+    pub read_balks : ComesTo stands shown run (e.Balked (way.Read l))
     read_balks trace s =
         let it = read_facts l trace _ (s.obeys.links l) may in (s, due, record { numbers = tt; awake = it.2; settled = tt })
 
-    pub read_breaks : ComesTo (e.Broke l)
+    pub read_breaks : ComesTo stands shown run (e.Broke l)
     read_breaks trace s =
         let it = read_facts l trace _ (s.obeys.links l) may in (
           s,
@@ -95,27 +97,31 @@ module _ {N : Type 0} (stands : N → List Entry → Type 0) (shown : N → Show
           },
         )
 
-  module _ (may : MayWrite ((kept run.records.links).links l)) where
-    pub went_comes : (n : ℕ) → 0 < n → n ≤ length ((shown run.node).output l) → ComesTo (e.Went l (take n ((shown run.node).output l)))
-    went_comes n some few trace s =
-        let it = write_facts l trace _ (s.obeys.links l) may in
-        (s, (inl due, it.0, it.1, n, some, few, refl), record { numbers = tt; awake = it.2; settled = tt })
+-- where no act is due, or the link's last words go before
+module _ {N : Type 0} (stands : List Note → N → List Entry → Type 0) (shown : N → Shown) (run : Run N) (l : ℕ)
+    (due : ((shown run.node).due ≡ None) ⊎ ((shown run.node).last_words l ≡ true))
+    (may : MayWrite ((kept run.records.links).links l)) where
+  pub went_comes : (n : ℕ) → 0 < n → n ≤ length ((shown run.node).output l)
+      → ComesTo stands shown run (e.Went l (take n ((shown run.node).output l)))
+  went_comes n some few trace s =
+      let it = write_facts l trace _ (s.obeys.links l) may in
+      (s, (due, it.0, it.1, n, some, few, refl), record { numbers = tt; awake = it.2; settled = tt })
 
-    pub write_balks : ComesTo (e.Balked (way.Write l))
-    write_balks trace s =
-        let it = write_facts l trace _ (s.obeys.links l) may in (s, inl due, record { numbers = tt; awake = it.2; settled = tt })
+  pub write_balks : ComesTo stands shown run (e.Balked (way.Write l))
+  write_balks trace s =
+      let it = write_facts l trace _ (s.obeys.links l) may in (s, due, record { numbers = tt; awake = it.2; settled = tt })
 
-    pub write_breaks : ComesTo (e.Broke l)
-    write_breaks trace s =
-        let it = write_facts l trace _ (s.obeys.links l) may in (
-          s,
-          (inl due, it.0),
-          record {
-            numbers = tt;
-            awake = subst (λ (b : Bool). BreaksAwake b l trace) (sym it.1) (inr it.2);
-            settled = tt;
-          },
-        )
+  pub write_breaks : ComesTo stands shown run (e.Broke l)
+  write_breaks trace s =
+      let it = write_facts l trace _ (s.obeys.links l) may in (
+        s,
+        (due, it.0),
+        record {
+          numbers = tt;
+          awake = subst (λ (b : Bool). BreaksAwake b l trace) (sym it.1) (inr it.2);
+          settled = tt;
+        },
+      )
 
 -- a way that was awake is so behind a call that moved something
 read_awake : (n q : ℕ) (b : Bool) → (n == q) ≡ b → (o : Option Link) → (n ≡ q → MayRead o)

@@ -1,10 +1,12 @@
--- How a run ended, and how many turns it took, as its trace tells it.
-use Rattle.std.specs.Prelude.{⊤, ◌≡◌, ◌≤◌, ℕ, ◌+◌, ◌-◌, ◌*◌, ◌==◌, Bool, true, false, if◌then◌else◌, List, ◌∷◌, ◌++◌, Option, Some, None, Result, Ok, Err, count_by}
-use Rattle.std.specs.List.{list_all, list_any}
+-- How a run ended, as its trace tells it.
+use Rattle.std.specs.Prelude.{◌≡◌, ℕ, ◌+◌, ◌-◌, ◌==◌, Bool, true, false, if◌then◌else◌, List, [], ◌∷◌, ◌++◌, Option, Some, None, Result, Ok, Err, count_by}
+use Rattle.std.specs.List.{list_any}
 use Rattle.hb_base.specs.declared.cause.Cause.{Cause}
 use Rattle.hb_base.specs.declared.cause.Cause.TheVariants.{NoMemory, Stopped}
 use Rattle.hb_world.specs.declared.entry.Entry.{Entry}
 use Rattle.hb_world.specs.declared.entry.Entry.TheVariants as e
+use Rattle.hb_world.specs.declared.entry.Way.{Way}
+use Rattle.hb_world.specs.declared.entry.Way.TheVariants as way
 use Rattle.hb_world.specs.declared.entry.Woken.{Woken}
 use Rattle.hb_world.specs.declared.entry.Woken.TheVariants as woken
 use Rattle.hb_world.specs.Trace.{AtEach}
@@ -30,34 +32,35 @@ end_by_wait woken.Stop = Some ends.Stopped
 end_by_wait woken.Failed = Some ends.WorldFault
 end_by_wait _ = None
 
--- how an entry behind these ends the run, if it does: a wait told a stop or failed, or this is the last of the stated ticks
+-- how a call that moved nothing ends the run, if it does: a listen that failed
+abbrev pub end_by_way : Way → Option ServeEnd
+end_by_way (way.Listen door at listening) = if listening then None else Some ends.WorldFault
+end_by_way _ = None
+
+-- how an entry behind these ends the run, if it does: a listen failed, a wait told a stop or failed, or this is the last of the
+-- stated ticks
 abbrev pub end_by : Option ℕ → List Entry → Entry → Option ServeEnd
 end_by stated before (e.Wait ready how) = end_by_wait how
 end_by stated before e.Tick = if are_spent stated (ticks before + 1) then Some ends.Stopped else None
+end_by stated before (e.Balked w) = end_by_way w
 end_by stated before _ = None
 
 -- no entry ends the run
 abbrev pub RunsOn : Option ℕ → List Entry → Type 0
 RunsOn stated trace = AtEach (λ before e. end_by stated before e ≡ None) trace
 
-abbrev pub is_close : Entry → Bool
-is_close (e.Closed link cause) = true
-is_close _ = false
-
--- one entry ended the run so; none before it did, and behind it links are closed, and nothing else is done
-pub record IsEndedBy (stated : Option ℕ) (end : ServeEnd) (trace : List Entry) : Type 0 where
+-- the last of these entries ends the run so, and none before it does
+pub record LastEnds (stated : Option ℕ) (end : ServeEnd) (trace : List Entry) : Type 0 where
   pub before : List Entry
   pub last : Entry
-  pub behind : List Entry
-  pub trace_is : trace ≡ before ++ last ∷ behind
+  pub trace_is : trace ≡ before ++ last ∷ []
   pub runs_on : RunsOn stated before
   pub ends : end_by stated before last ≡ Some end
-  pub closes : list_all is_close behind ≡ true
 
--- A run that stopped, or whose world failed, was ended so by an entry. Where its turns are spent or memory lacked none ended it.
+-- A run that stopped, or whose world failed, was ended so by its last entry. Where its turns are spent or memory lacked none ended it
 abbrev pub EndsAs : Option ℕ → ServeEnd → List Entry → Type 0
-EndsAs stated ends.Stopped trace = IsEndedBy stated ends.Stopped trace
-EndsAs stated ends.WorldFault trace = IsEndedBy stated ends.WorldFault trace
+EndsAs stated ends.Stopped trace = LastEnds stated ends.Stopped trace
+EndsAs stated ends.WorldFault trace = LastEnds stated ends.WorldFault trace
 EndsAs stated ends.TurnsSpent trace = RunsOn stated trace
 EndsAs stated ends.NoMemory trace = RunsOn stated trace
 
@@ -65,6 +68,11 @@ EndsAs stated ends.NoMemory trace = RunsOn stated trace
 abbrev pub cause_at : ServeEnd → Cause
 cause_at ends.NoMemory = NoMemory
 cause_at _ = Stopped
+
+-- the entry closes a link for this cause
+abbrev pub ClosesFor : Cause → Entry → Type 0
+ClosesFor cause (e.Closed link why) = why ≡ cause
+ClosesFor cause _ = ⊥
 
 abbrev pub is_fault : ServeEnd → Bool
 is_fault ends.WorldFault = true
@@ -85,11 +93,6 @@ waits trace = count_by is_wait trace
 
 abbrev pub moves : List Entry → ℕ
 moves trace = count_by is_move trace
-
--- Where the turns are spent, each of them is a wait, or the round in front of one, or something moved in it, but the last
-abbrev pub SpendsTurns : ℕ → ServeEnd → List Entry → Type 0
-SpendsTurns turns ends.TurnsSpent trace = turns ≤ moves trace + 2 * waits trace + 1
-SpendsTurns turns _ trace = ⊤
 
 abbrev pub is_lack : Cause → Bool
 is_lack NoMemory = true

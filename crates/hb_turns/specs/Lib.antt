@@ -1,6 +1,11 @@
 pub mod Ends
+pub mod Listens
 pub mod May
+pub mod Notes
+pub mod Reckons
 pub mod Refused
+pub mod RefusedRuns
+pub mod Rested
 pub mod Served
 pub mod Settled
 pub mod Shown

@@ -3,6 +3,7 @@ use Rattle.std.specs.Prelude.{◌≡◌, List, [], ◌∷◌, None}
 use Rattle.hb_base.specs.declared.door.Door.TheVariants.{Inbound}
 use Rattle.hb_base.specs.declared.door.Why.{Why}
 use Rattle.hb_base.specs.declared.target.Target.{Target}
+use Rattle.hb_base.specs.declared.note.Note.{Note}
 use Rattle.hb_world.specs.declared.entry.Entry.{Entry}
 use Rattle.hb_world.specs.declared.entry.Entry.TheVariants as e
 use Rattle.hb_world.specs.declared.entry.ReadyItem.TheVariants as item
@@ -15,7 +16,7 @@ use Rattle.hb_turns.specs.Shown.{Shown}
 abbrev pub waits : Entry
 waits = e.Wait [] woken.Woke
 
-module _ {N : Type 0} (stands : N → List Entry → Type 0) (shown : N → Shown) where
+module _ {N : Type 0} (stands : List Note → N → List Entry → Type 0) (shown : N → Shown) where
   -- a wait while an act is due
   abbrev pub WaitsOverDue : Type 0
   WaitsOverDue = ((n : N) → (shown n).due ≡ None → ⊥) → SettledLaw stands shown (waits ∷ []) → ⊥
@@ -40,6 +41,6 @@ module _ {N : Type 0} (stands : N → List Entry → Type 0) (shown : N → Show
 
   -- a wait once a link that isn't open balked
   abbrev pub GoodTraceIsSettled : Type 0
-  GoodTraceIsSettled = (to : Target) (why : Why) (n : N) → (shown n).due ≡ None
-      → stands n (e.Dialled 1 to why ∷ e.Balked (way.Finish 1) ∷ [])
+  GoodTraceIsSettled = (to : Target) (why : Why) (notes : List Note) (n : N) → (shown n).due ≡ None
+      → stands notes n (e.Dialled 1 to why ∷ e.Balked (way.Finish 1) ∷ [])
       → SettledLaw stands shown (e.Dialled 1 to why ∷ e.Balked (way.Finish 1) ∷ waits ∷ [])

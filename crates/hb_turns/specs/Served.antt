@@ -1,25 +1,51 @@
 -- What holds of the trace of a run that is over.
-use Rattle.std.specs.Prelude.{◌≡◌, ℕ, Bool, false, List, None}
+use Rattle.std.specs.Prelude.{⊤, ◌≡◌, ℕ, false, List, ◌++◌, Option, None}
+use Rattle.std.specs.List.{All}
 use Rattle.hb_base.specs.declared.door.Door.{Door}
+use Rattle.hb_base.specs.declared.note.Note.{Note}
 use Rattle.hb_world.specs.Trace.{births, lives}
 use Rattle.hb_world.specs.declared.entry.Entry.{Entry}
 use Rattle.hb_ready.specs.Awake.{AwakeLaw}
 use Rattle.hb_ready.specs.Registry.{kept}
 use Rattle.hb_ready.specs.Sight.{asked_at}
-use Rattle.hb_turns.specs.Ends.{was_wanting}
+use Rattle.hb_turns.specs.Ends.{ClosesFor, cause_at, was_wanting}
+use Rattle.hb_turns.specs.Notes.{HoldsNotes}
+use Rattle.hb_turns.specs.Reckons.{Finishes}
 use Rattle.hb_turns.specs.Settled.{SettledLaw}
 use Rattle.hb_turns.specs.Shown.{Shown}
 use Rattle.hb_turns.specs.declared.run.Records.{Records}
+use Rattle.hb_turns.specs.declared.served.Served.{Served}
+use Rattle.hb_turns.specs.declared.served.ServeEnd.{ServeEnd}
+use Rattle.hb_turns.specs.declared.served.ServeEnd.TheVariants as ends
+use Rattle.hb_turns.specs.declared.words.ServeWords.{ServeWords}
 
--- its trace obeys the awake law and the settled law, at its end no link lives, so many links were born, and one was closed for want of
--- memory or none
-pub record IsServed {N : Type 0} (stands : N → List Entry → Type 0) (shown : N → Shown) (links : ℕ) (wanting : Bool)
-    (trace : List Entry) : Type 0 where
+-- a node stands for the trace, unless memory lacked
+abbrev pub IsStoodFor : {N : Type 0} → (List Note → N → List Entry → Type 0) → ServeEnd → List Entry → Type 0
+IsStoodFor stands ends.NoMemory trace = ⊤
+IsStoodFor {N} stands _ trace = (notes : List Note) × (n : N) × stands notes n trace
+
+-- The run ended so with the first of the entries, for which a node stands. The others close links for the cause of that end
+pub record IsOver {N : Type 0} (stands : List Note → N → List Entry → Type 0) (words : ServeWords) (end : ServeEnd) (trace : List Entry)
+    : Type 0 where
+  pub before : List Entry
+  pub behind : List Entry
+  pub trace_is : trace ≡ before ++ behind
+  pub finishes : Finishes words end before
+  pub stood_for : IsStoodFor stands end before
+  pub closes : All (ClosesFor (cause_at end)) behind
+
+-- A run that is over, of a node that was asked for this: its trace obeys the awake law and the settled law, at its end no link lives;
+-- it says how the run ended, how many links were born, and whether one was closed for want of memory; and the notes that are kept are
+-- all that there are of it, unless memory lacked
+pub record IsServed {N : Type 0} (stands : List Note → N → List Entry → Type 0) (shown : N → Shown) (words : ServeWords) (served : Served)
+    (keep : Option (List Note)) (trace : List Entry) : Type 0 where
   pub awake : AwakeLaw trace
   pub settled : SettledLaw stands shown trace
   pub closed : (l : ℕ) → lives l trace ≡ false
-  pub links_are : links ≡ births trace
-  pub wanting_is : wanting ≡ was_wanting trace
+  pub over : IsOver stands words served.end trace
+  pub links_are : served.totals.links ≡ births trace
+  pub wanting_is : served.wanting ≡ was_wanting trace
+  pub noted : (served.end ≡ ends.NoMemory → ⊥) → served.unkept ≡ false → HoldsNotes stands shown keep trace
 
 -- nothing is known
 pub record IsFresh (r : Records) : Type 0 where

@@ -1,6 +1,7 @@
 -- The settled law: in front of a wait nothing is left to be done but what sleeps.
 use Rattle.std.specs.Prelude.{⊤, ◌≡◌, ◌⊎◌, ℕ, Bool, true, false, List, [], Option, Some, None}
 use Rattle.hb_base.specs.declared.door.Door.{Door}
+use Rattle.hb_base.specs.declared.note.Note.{Note}
 use Rattle.hb_world.specs.declared.entry.Entry.{Entry}
 use Rattle.hb_world.specs.declared.entry.Entry.TheVariants as e
 use Rattle.hb_world.specs.Trace.{AtEach}
@@ -19,18 +20,19 @@ abbrev pub Rests : Option Link → ℕ → Shown → Type 0
 Rests None l s = ⊤
 Rests (Some k) l s = RestsBy k.is_open k l s
 
--- A node stands for these entries of which no act is due; no accept may give a link at a door, and each link that lives rests
-pub record IsSettled {N : Type 0} (stands : N → List Entry → Type 0) (shown : N → Shown) (trace : List Entry) : Type 0 where
+-- A node stands for these entries, of which no act is due; no accept may give a link at a door, and each link that lives rests
+pub record IsSettled {N : Type 0} (stands : List Note → N → List Entry → Type 0) (shown : N → Shown) (trace : List Entry) : Type 0 where
+  pub notes : List Note
   pub node : N
-  pub stands_for : stands node trace
+  pub stands_for : stands notes node trace
   pub idle : (shown node).due ≡ None
   pub doors : (d : Door) → asked d trace ≡ false
   pub links : (l : ℕ) → Rests (known l trace) l (shown node)
 
-abbrev pub SettledAt : {N : Type 0} → (N → List Entry → Type 0) → (N → Shown) → List Entry → Entry → Type 0
+abbrev pub SettledAt : {N : Type 0} → (List Note → N → List Entry → Type 0) → (N → Shown) → List Entry → Entry → Type 0
 SettledAt stands shown before (e.Wait ready how) = IsSettled stands shown before
 SettledAt stands shown before _ = ⊤
 
 -- at each wait
-abbrev pub SettledLaw : {N : Type 0} → (N → List Entry → Type 0) → (N → Shown) → List Entry → Type 0
+abbrev pub SettledLaw : {N : Type 0} → (List Note → N → List Entry → Type 0) → (N → Shown) → List Entry → Type 0
 SettledLaw stands shown trace = AtEach (SettledAt stands shown) trace

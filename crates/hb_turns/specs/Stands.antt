@@ -1,14 +1,16 @@
 -- What the loop holds, and the trace that it stands for.
-use Rattle.std.specs.Prelude.{◌≡◌, ◌⊎◌, ℕ, ◌||◌, true, List, [], Option, None, IfSome, Result, Ok, Err}
+use Rattle.std.specs.Prelude.{◌≡◌, ◌⊎◌, ℕ, ◌||◌, true, false, List, [], Option, None, IfSome, Result, Ok, Err}
 use Rattle.hb_base.specs.declared.door.Door.{Door}
-use Rattle.hb_world.specs.Trace.{births}
+use Rattle.hb_world.specs.Trace.{births, lives}
 use Rattle.hb_world.specs.declared.entry.Entry.TheVariants as e
+use Rattle.hb_base.specs.declared.note.Note.{Note}
 use Rattle.hb_world.specs.declared.entry.Entry.{Entry}
 use Rattle.hb_ready.specs.Awake.{AwakeLaw}
 use Rattle.hb_ready.specs.Kept.{Kept, Follows, has}
 use Rattle.hb_ready.specs.Numbers.{Numbered}
 use Rattle.hb_ready.specs.Registry.{kept}
 use Rattle.hb_ready.specs.Sight.{known, asked, asked_at, asked_behind}
+use Rattle.hb_turns.specs.Notes.{Holds}
 use Rattle.hb_turns.specs.Ends.{was_wanting, is_close_for_lack}
 use Rattle.hb_turns.specs.Settled.{Rests, SettledLaw}
 use Rattle.hb_turns.specs.Shown.{Shown}
@@ -16,7 +18,8 @@ use Rattle.hb_turns.specs.declared.run.Records.{Records}
 use Rattle.hb_turns.specs.declared.run.Run.{Run}
 
 -- what is known is what a trace tells, and the trace obeys the laws
-pub record Obeys {N : Type 0} (stands : N → List Entry → Type 0) (shown : N → Shown) (r : Records) (trace : List Entry) : Type 0 where
+pub record Obeys {N : Type 0} (stands : List Note → N → List Entry → Type 0) (shown : N → Shown) (r : Records)
+    (trace : List Entry) : Type 0 where
   pub links : (l : ℕ) → (kept r.links).links l ≡ known l trace
   pub doors : (d : Door) → asked_at r.asked d ≡ asked d trace
   pub numbered : Numbered trace
@@ -25,10 +28,19 @@ pub record Obeys {N : Type 0} (stands : N → List Entry → Type 0) (shown : N 
   pub awake : AwakeLaw trace
   pub settled : SettledLaw stands shown trace
 
--- and the node stands for the trace
-pub record Stands {N : Type 0} (stands : N → List Entry → Type 0) (shown : N → Shown) (run : Run N) (trace : List Entry) : Type 0 where
-  pub node : stands run.node trace
+-- and the node stands for the trace, once the notes were taken that are kept, where notes are
+pub record Stands {N : Type 0} (stands : List Note → N → List Entry → Type 0) (shown : N → Shown) (run : Run N)
+    (trace : List Entry) : Type 0 where
+  pub notes : List Note
+  pub node : stands notes run.node trace
+  pub kept_are : Holds run.keep notes
   pub obeys : Obeys stands shown run.records trace
+
+-- and no link lives
+pub record StandsAlone {N : Type 0} (stands : List Note → N → List Entry → Type 0) (shown : N → Shown) (run : Run N)
+    (trace : List Entry) : Type 0 where
+  pub stands_for : Stands stands shown run trace
+  pub none : (l : ℕ) → lives l trace ≡ false
 
 -- the number of the link that was born last
 abbrev pub births_behind : ℕ → Entry → ℕ
@@ -44,19 +56,20 @@ pub record Tracks (old new : Records) (x : Entry) : Type 0 where
   pub wanting_is : new.wanting ≡ (is_close_for_lack x || old.wanting)
 
 -- where memory lacked, the node stands for no trace
-abbrev pub Left : {A E N : Type 0} → (N → List Entry → Type 0) → (N → Shown) → Result A E → Run N → List Entry → Type 0
+abbrev pub Left : {A E N : Type 0} → (List Note → N → List Entry → Type 0) → (N → Shown) → Result A E → Run N → List Entry → Type 0
 Left stands shown (Ok x) run trace = Stands stands shown run trace
 Left stands shown (Err why) run trace = Obeys stands shown run.records trace
 
 -- where the world tells its trace, what stood for it stands for it again
-abbrev pub Keeps : {A E N : Type 0} → (N → List Entry → Type 0) → (N → Shown) → Result A E → Run N → Option (List Entry) → Run N
+abbrev pub Keeps : {A E N : Type 0} → (List Note → N → List Entry → Type 0) → (N → Shown) → Result A E → Run N → Option (List Entry) → Run N
     → Option (List Entry) → Type 0
 Keeps stands shown result old before new behind = IfSome before (Stands stands shown old) → IfSome behind (Left stands shown result new)
 
--- nothing is due, and no link stirred that the loop wasn't told
+-- nothing is due, no link stirred that the loop wasn't told, and each note was taken
 pub record IsIdle (s : Shown) : Type 0 where
   pub due : s.due ≡ None
   pub stirred : s.stirred ≡ []
+  pub noted : s.noted ≡ []
 
 -- each link is on the list, or it stirred and the loop wasn't told, or it rests
 abbrev pub WatchedBy : Kept → Shown → Type 0

@@ -1,5 +1,6 @@
 -- What a wait wakes.
 use Rattle.std.specs.Prelude.{◌≡◌, ℕ, ◌||◌, false, if◌then◌else◌, List, [], ◌∷◌, ◌++◌}
+use Rattle.hb_base.specs.declared.note.Note.{Note}
 use Rattle.hb_world.specs.declared.entry.Entry.{Entry}
 use Rattle.hb_world.specs.declared.entry.Entry.TheVariants.{Tick}
 use Rattle.std.specs.Option.{option_map}
@@ -26,7 +27,8 @@ abbrev pub IsQuiet : Records → Type 0
 IsQuiet r = ((kept r.links).listed ≡ []) × ((d : Door) → asked_at r.asked d ≡ false)
 
 -- a trace whose last entry is a tick, which the node wasn't told
-pub record Ticked {N : Type 0} (stands : N → List Entry → Type 0) (shown : N → Shown) (run : Run N) (trace : List Entry) : Type 0 where
+pub record Ticked {N : Type 0} (stands : List Note → N → List Entry → Type 0) (shown : N → Shown) (run : Run N)
+    (trace : List Entry) : Type 0 where
   pub before : List Entry
   pub trace_is : trace ≡ before ++ Tick ∷ []
   pub stands_for : Stands stands shown run before

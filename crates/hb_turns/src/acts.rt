@@ -10,7 +10,8 @@ ghost use Rattle.hb_world.specs.declared.entry.Entry.TheVariants as e;
 ghost use Rattle.hb_ready.specs.Registry.{kept, HasRoom};
 ghost use Rattle.hb_turns.specs.declared.act.Act.TheVariants as act;
 ghost use Rattle.hb_turns.specs.Ends.{is_lack};
-ghost use Rattle.hb_turns.specs.Stands.{Keeps, Watched, WatchedBy, Tracks, Stands, IsIdle};
+ghost use Rattle.hb_turns.specs.Reckons.{Adds};
+ghost use Rattle.hb_turns.specs.Stands.{Keeps, Left, Watched, WatchedBy, Tracks, Stands, IsIdle};
 ghost use Rattle.hb_turns.specs.Shown.{Shown};
 
 use crate::act::Act;
@@ -60,9 +61,11 @@ fn dial<W: World, N: Node>(
     to: Target,
     why: Why,
 ) -> Result<(), NoMemory>
-    ensures keeps { (N.shown run.old.node).due ≡ Some (act.Dial to why) → Keeps N.stands N.shown result run.old (W.trace world.old) run.new (W.trace world.new) }
+    ensures keeps { (N.shown run.old.node).due ≡ Some (act.Dial to why)
+        → Keeps N.stands N.shown result run.old (W.trace world.old) run.new (W.trace world.new) }
     ensures watched { OnOk result (Watched N.shown run.old → Watched N.shown run.new) }
     ensures weight { OnOk result ((N.shown run.new.node).weight ≤ (N.shown run.old.node).weight + 1) }
+    ensures adds { Adds false (W.trace world.old) (W.trace world.new) }
     ensures faults { W.faults world.new ≡ W.faults world.old }
     ensures follows { W.script world.new ≡ W.script world.old }
 {
@@ -88,6 +91,7 @@ fn make_act<W: World, N: Node>(run: &mut Run<N>, world: &mut W) -> Result<bool, 
     ensures watched { OnOk result (Watched N.shown run.old → Watched N.shown run.new) }
     ensures due { IfOk result (λ made. made ≡ false → (N.shown run.new.node).due ≡ None) }
     ensures less { IfOk result (λ made. made ≡ true → (N.shown run.new.node).weight < (N.shown run.old.node).weight) }
+    ensures adds { Adds false (W.trace world.old) (W.trace world.new) }
     ensures faults { W.faults world.new ≡ W.faults world.old }
     ensures follows { W.script world.new ≡ W.script world.old }
 {
@@ -114,10 +118,45 @@ fn make_acts<W: World, N: Node>(run: &mut Run<N>, world: &mut W) -> Result<(), N
     ensures keeps { Keeps N.stands N.shown result run.old (W.trace world.old) run.new (W.trace world.new) }
     ensures watched { OnOk result (Watched N.shown run.old → Watched N.shown run.new) }
     ensures due { OnOk result ((N.shown run.new.node).due ≡ None) }
+    ensures adds { Adds false (W.trace world.old) (W.trace world.new) }
     ensures faults { W.faults world.new ≡ W.faults world.old }
     ensures follows { W.script world.new ≡ W.script world.old }
 {
     while make_act(run, world)? {}
+    Ok(())
+}
+
+/// Takes the next note, and says whether there was one.
+///
+/// Errors: `NoMemory`, and then the note is lost.
+fn take_note<N: Node>(run: &mut Run<N>) -> Result<bool, NoMemory>
+    ensures keeps { (trace : List Entry) → Stands N.stands N.shown run.old trace → Left N.stands N.shown result run.new trace }
+    ensures watched { OnOk result (Watched N.shown run.old → Watched N.shown run.new) }
+    ensures due { (N.shown run.new.node).due ≡ (N.shown run.old.node).due }
+    ensures taken { IfOk result (λ took. took ≡ false → (N.shown run.new.node).noted ≡ []) }
+    ensures less { IfOk result (λ took. took ≡ true → length (N.shown run.new.node).noted < length (N.shown run.old.node).noted) }
+    ensures records { run.new.records ≡ run.old.records }
+{
+    match run.node.next_note() {
+        None => Ok(false),
+        Some(note) => {
+            run.keep.add(note)?;
+            Ok(true)
+        }
+    }
+}
+
+/// Takes each note.
+///
+/// Errors: `NoMemory`, and then a note is lost.
+pub(crate) fn take_notes<N: Node>(run: &mut Run<N>) -> Result<(), NoMemory>
+    ensures keeps { (trace : List Entry) → Stands N.stands N.shown run.old trace → Left N.stands N.shown result run.new trace }
+    ensures watched { OnOk result (Watched N.shown run.old → Watched N.shown run.new) }
+    ensures due { (N.shown run.new.node).due ≡ (N.shown run.old.node).due }
+    ensures taken { OnOk result ((N.shown run.new.node).noted ≡ []) }
+    ensures records { run.new.records ≡ run.old.records }
+{
+    while take_note(run)? {}
     Ok(())
 }
 
@@ -126,6 +165,7 @@ fn hear<N: Node>(run: &mut Run<N>) -> bool
     ensures keeps { (trace : List Entry) → Stands N.stands N.shown run.old trace → Stands N.stands N.shown run.new trace }
     ensures watched { Watched N.shown run.old → Watched N.shown run.new }
     ensures due { (N.shown run.new.node).due ≡ (N.shown run.old.node).due }
+    ensures noted { (N.shown run.new.node).noted ≡ (N.shown run.old.node).noted }
     ensures heard { result ≡ false → (N.shown run.new.node).stirred ≡ [] }
     ensures less { result ≡ true → length (N.shown run.new.node).stirred < length (N.shown run.old.node).stirred }
 {
@@ -143,20 +183,23 @@ fn hear_all<N: Node>(run: &mut Run<N>)
     ensures keeps { (trace : List Entry) → Stands N.stands N.shown run.old trace → Stands N.stands N.shown run.new trace }
     ensures watched { Watched N.shown run.old → Watched N.shown run.new }
     ensures due { (N.shown run.new.node).due ≡ (N.shown run.old.node).due }
+    ensures noted { (N.shown run.new.node).noted ≡ (N.shown run.old.node).noted }
     ensures heard { (N.shown run.new.node).stirred ≡ [] }
 {
     while hear(run) {}
 }
 
-/// Behind something that moved: makes the calls that are due, and puts each link that stirred on the list.
+/// Behind something that moved: makes the calls that are due, takes each note, and puts each link that stirred on the list.
 pub(crate) fn carry<W: World, N: Node>(run: &mut Run<N>, world: &mut W) -> Result<(), NoMemory>
     ensures keeps { Keeps N.stands N.shown result run.old (W.trace world.old) run.new (W.trace world.new) }
     ensures watched { OnOk result (Watched N.shown run.old → Watched N.shown run.new) }
     ensures idle { OnOk result (IsIdle (N.shown run.new.node)) }
+    ensures adds { Adds false (W.trace world.old) (W.trace world.new) }
     ensures faults { W.faults world.new ≡ W.faults world.old }
     ensures follows { W.script world.new ≡ W.script world.old }
 {
     make_acts(run, world)?;
+    take_notes(run)?;
     hear_all(run);
     Ok(())
 }

@@ -1,7 +1,9 @@
-//! What the settled law refuses, of whatever node: small wrong traces, and a good one. Each is the contract of a function that does
-//! nothing.
+//! What the settled law and the record of a run refuse, of whatever node: small wrong traces, and good ones. Each is the contract of
+//! a function that does nothing.
 
 ghost use Rattle.hb_turns.specs.Refused.{WaitsOverDue, WaitsOverReadable, WaitsOverUnwritten, WaitsUnasked, WaitsUnaccepted, GoodTraceIsSettled};
+ghost use Rattle.hb_turns.specs.RefusedRuns.{StopsUnasked, LeavesOpen, ClosesForLack, GoesOnBehind, WaitsPastTurns, GivesUp, TicksOnceMore};
+ghost use Rattle.hb_turns.specs.RefusedRuns.{ListensNowhere, ListensUnasked, ListensInAnotherOrder, LosesNotes, GoodRunIsServed};
 
 use crate::node::Node;
 
@@ -17,4 +19,33 @@ pub fn hurried_waits_are_refused<N: Node>()
 /// A trace obeys it in which a wait stands once the link that lives balked.
 pub fn a_good_trace_is_settled<N: Node>()
     ensures { GoodTraceIsSettled N.stands N.shown }
+{}
+
+/// No run is over that stops unasked, leaves a link open, closes one for another cause, goes on behind its end, waits or ticks more
+/// often than was stated, or gives up before its turns are spent.
+pub fn wrong_ends_are_refused<N: Node>()
+    ensures unasked { StopsUnasked N.stands N.shown }
+    ensures left_open { LeavesOpen N.stands N.shown }
+    ensures lack { ClosesForLack N.stands N.shown }
+    ensures behind { GoesOnBehind N.stands N.shown }
+    ensures turns { WaitsPastTurns N.stands N.shown }
+    ensures gives_up { GivesUp N.stands N.shown }
+    ensures ticks { TicksOnceMore N.stands N.shown }
+{}
+
+/// Nor one that listens at other doors than were given, or in another order.
+pub fn wrong_listens_are_refused<N: Node>()
+    ensures nowhere { ListensNowhere N.stands N.shown }
+    ensures unasked { ListensUnasked N.stands N.shown }
+    ensures order { ListensInAnotherOrder N.stands N.shown }
+{}
+
+/// Nor one whose notes aren't those that are kept.
+pub fn lost_notes_are_refused<N: Node>()
+    ensures { LosesNotes N.stands N.shown }
+{}
+
+/// A run is over that listens at a door, dials a link, is told a stop, and closes the link.
+pub fn a_good_run_is_served<N: Node>()
+    ensures { GoodRunIsServed N.stands N.shown }
 {}

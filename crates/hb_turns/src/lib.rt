@@ -3,8 +3,11 @@
 
 mod act;
 mod acts;
+mod ending;
+mod keep;
 pub mod laws;
 mod link;
+mod listens;
 mod node;
 mod round;
 mod run;
@@ -12,8 +15,11 @@ mod served;
 mod service;
 mod turns;
 mod waits;
+mod words;
 
 pub use act::Act;
+pub use keep::Keep;
 pub use node::Node;
 pub use served::{ServeEnd, Served, Totals};
 pub use service::serve;
+pub use words::{Doors, ServeWords};

@@ -1,10 +1,12 @@
 //! One call on a link: it is made where its way is awake and there is something to do, and the node is told what it did.
 
-ghost use Rattle.std.specs.Prelude.{◌≡◌, ◌<◌, ◌≤◌, true, false, length, take, IfOk, OnOk};
+ghost use Rattle.std.specs.Prelude.{◌≡◌, ◌⊎◌, ◌<◌, ◌≤◌, true, false, length, take, None, IfOk, OnOk};
 ghost use Rattle.hb_world.specs.Answers.{ReadsWithin};
 ghost use Rattle.hb_ready.specs.Registry.{kept};
 ghost use Rattle.hb_turns.specs.May.{MayFinish, MayRead, MayWrite};
 ghost use Rattle.hb_world.specs.Calls.{with_entries, read_entries};
+ghost use Rattle.hb_turns.specs.Rested.{IsCalm, FinishRests, ReadRests, WriteRests, MayNotRead, MayNotWrite};
+ghost use Rattle.hb_turns.specs.Reckons.{Adds, moved_by};
 ghost use Rattle.hb_turns.specs.Stands.{Keeps, Watched, IsIdle};
 
 use crate::node::Node;
@@ -15,7 +17,8 @@ use hb_world::{Finished, Read, World, Wrote};
 
 /// Whether it may be asked whether a link is open.
 fn may_finish(links: &Links, link: u64) -> bool
-    ensures { result ≡ true → MayFinish ((kept links.now).links link) }
+    ensures may { result ≡ true → MayFinish ((kept links.now).links link) }
+    ensures rests { result ≡ false → FinishRests ((kept links.now).links link) }
 {
     match links.get(link) {
         None => false,
@@ -25,7 +28,8 @@ fn may_finish(links: &Links, link: u64) -> bool
 
 /// Whether a read may be made on a link.
 fn may_read(links: &Links, link: u64) -> bool
-    ensures { result ≡ true → MayRead ((kept links.now).links link) }
+    ensures may { result ≡ true → MayRead ((kept links.now).links link) }
+    ensures rests { result ≡ false → MayNotRead ((kept links.now).links link) }
 {
     match links.get(link) {
         None => false,
@@ -35,7 +39,8 @@ fn may_read(links: &Links, link: u64) -> bool
 
 /// Whether a write may be made on a link.
 fn may_write(links: &Links, link: u64) -> bool
-    ensures { result ≡ true → MayWrite ((kept links.now).links link) }
+    ensures may { result ≡ true → MayWrite ((kept links.now).links link) }
+    ensures rests { result ≡ false → MayNotWrite ((kept links.now).links link) }
 {
     match links.get(link) {
         None => false,
@@ -52,6 +57,8 @@ pub(crate) fn finish<W: World, N: Node>(
     ensures keeps { IsIdle (N.shown run.old.node) → Keeps N.stands N.shown result run.old (W.trace world.old) run.new (W.trace world.new) }
     ensures watched { OnOk result (Watched N.shown run.old → Watched N.shown run.new) }
     ensures still { IfOk result (λ moved. moved ≡ false → run.new.node ≡ run.old.node) }
+    ensures rests { IfOk result (λ moved. moved ≡ false → IsCalm run.old run.new × FinishRests ((kept run.new.records.links).links link)) }
+    ensures adds { Adds (moved_by result) (W.trace world.old) (W.trace world.new) }
     ensures faults { W.faults world.new ≡ W.faults world.old }
     ensures follows { W.script world.new ≡ W.script world.old }
 {
@@ -97,6 +104,7 @@ fn read_into<W: World, N>(run: &mut Run<N>, world: &mut W, link: u64, most: usiz
     ensures within { ReadsWithin (take most run.new.buffer.items) result }
     ensures node { run.new.node ≡ run.old.node }
     ensures records { run.new.records ≡ run.old.records }
+    ensures keep { run.new.keep ≡ run.old.keep }
     ensures faults { W.faults world.new ≡ W.faults world.old }
     ensures follows { W.script world.new ≡ W.script world.old }
 {
@@ -104,14 +112,13 @@ fn read_into<W: World, N>(run: &mut Run<N>, world: &mut W, link: u64, most: usiz
 }
 
 /// Reads what the node wants. Says whether anything moved.
-pub(crate) fn read<W: World, N: Node>(
-    run: &mut Run<N>,
-    world: &mut W,
-    link: u64,
-) -> Result<bool, NoMemory>
+fn read<W: World, N: Node>(run: &mut Run<N>, world: &mut W, link: u64) -> Result<bool, NoMemory>
     ensures keeps { IsIdle (N.shown run.old.node) → Keeps N.stands N.shown result run.old (W.trace world.old) run.new (W.trace world.new) }
     ensures watched { OnOk result (Watched N.shown run.old → Watched N.shown run.new) }
     ensures still { IfOk result (λ moved. moved ≡ false → run.new.node ≡ run.old.node) }
+    ensures rests { IfOk result (λ moved. moved ≡ false → IsCalm run.old run.new
+        × ReadRests ((kept run.new.records.links).links link) link (N.shown run.new.node)) }
+    ensures adds { Adds (moved_by result) (W.trace world.old) (W.trace world.new) }
     ensures faults { W.faults world.new ≡ W.faults world.old }
     ensures follows { W.script world.new ≡ W.script world.old }
 {
@@ -154,9 +161,13 @@ pub(crate) fn write<W: World, N: Node>(
     world: &mut W,
     link: u64,
 ) -> Result<bool, NoMemory>
-    ensures keeps { IsIdle (N.shown run.old.node) → Keeps N.stands N.shown result run.old (W.trace world.old) run.new (W.trace world.new) }
+    ensures keeps { ((N.shown run.old.node).due ≡ None) ⊎ ((N.shown run.old.node).last_words link ≡ true)
+        → Keeps N.stands N.shown result run.old (W.trace world.old) run.new (W.trace world.new) }
     ensures watched { OnOk result (Watched N.shown run.old → Watched N.shown run.new) }
     ensures still { IfOk result (λ moved. moved ≡ false → run.new.node ≡ run.old.node) }
+    ensures rests { IfOk result (λ moved. moved ≡ false → IsCalm run.old run.new
+        × WriteRests ((kept run.new.records.links).links link) link (N.shown run.new.node)) }
+    ensures adds { Adds (moved_by result) (W.trace world.old) (W.trace world.new) }
     ensures faults { W.faults world.new ≡ W.faults world.old }
     ensures follows { W.script world.new ≡ W.script world.old }
 {
@@ -182,4 +193,30 @@ pub(crate) fn write<W: World, N: Node>(
         }
         Wrote::NoMemory => Err(NoMemory),
     }
+}
+
+/// Reads what the node wants, and writes the link's last words, where the read makes some. Says whether anything moved.
+pub(crate) fn read_last<W: World, N: Node>(
+    run: &mut Run<N>,
+    world: &mut W,
+    link: u64,
+) -> Result<bool, NoMemory>
+    ensures keeps { IsIdle (N.shown run.old.node) → Keeps N.stands N.shown result run.old (W.trace world.old) run.new (W.trace world.new) }
+    ensures watched { OnOk result (Watched N.shown run.old → Watched N.shown run.new) }
+    ensures still { IfOk result (λ moved. moved ≡ false → run.new.node ≡ run.old.node) }
+    ensures rests { IfOk result (λ moved. moved ≡ false → IsCalm run.old run.new
+        × ReadRests ((kept run.new.records.links).links link) link (N.shown run.new.node)) }
+    ensures adds { Adds (moved_by result) (W.trace world.old) (W.trace world.new) }
+    ensures faults { W.faults world.new ≡ W.faults world.old }
+    ensures follows { W.script world.new ≡ W.script world.old }
+{
+    let came = read(run, world, link)?;
+    if !came {
+        return Ok(false);
+    }
+    if !run.node.last_words(link) {
+        return Ok(true);
+    }
+    let _ = write(run, world, link)?;
+    Ok(true)
 }

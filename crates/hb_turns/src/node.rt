@@ -1,15 +1,16 @@
 //! What the event loop needs of a node.
 
 use crate::act::Act;
-use hb_base::{Door, NoMemory, Why};
+use hb_base::{Cause, Door, NoMemory, Note, Why};
 
 /// A node: it is told what the calls of a world did, and says which calls are due. A node stores no trace; it stands for each trace
 /// that it may have been told.
 ///
-/// `NoMemory` means that the run ends: the node then stands for no trace, and is told nothing more.
+/// `NoMemory` means that the run ends: the node then stands for no trace, and is told nothing more but that.
 pub trait Node {
-    ghost use Rattle.std.specs.Prelude.{◌≡◌, ◌≤◌, ◌<◌, ◌+◌, ◌++◌, [], ◌∷◌, ℕ, List, length, take, OnOk, IfOk, IfNone, Some};
+    ghost use Rattle.std.specs.Prelude.{◌≡◌, ◌≤◌, ◌<◌, ◌+◌, ◌++◌, [], ◌∷◌, ℕ, List, length, take, OnOk, IfOk, IfNone, IfSome, Some};
     ghost use Rattle.std.specs.Option.{option_to_list};
+    ghost use Rattle.hb_base.specs.declared.note.Note.{Note};
     ghost use Rattle.hb_base.specs.declared.target.Target.{Target};
     ghost use Rattle.hb_world.specs.declared.entry.Entry.{Entry};
     ghost use Rattle.hb_world.specs.declared.entry.Entry.TheVariants as e;
@@ -17,10 +18,10 @@ pub trait Node {
     ghost use Rattle.hb_world.specs.declared.entry.ReadyItem.{ReadyItem};
     ghost use Rattle.hb_world.specs.declared.entry.Woken.{Woken};
     ghost use Rattle.hb_turns.specs.declared.act.Act.TheVariants as act;
-    ghost use Rattle.hb_turns.specs.Shown.{Shown, Stirs, IsSame, Tells, StandsAs, Acts, act_weight, dial_entry, MovesNothing};
+    ghost use Rattle.hb_turns.specs.Shown.{Shown, Stirs, IsSame, Tells, StandsAs, StandsForNone, Acts, ActsFor, act_weight, dial_entry, MovesNothing};
 
-    /// The traces that it stands for.
-    ghost stands: { Self → List Entry → Type 0 };
+    /// The traces that it stands for, once these notes of them were taken.
+    ghost stands: { List Note → Self → List Entry → Type 0 };
 
     /// What the loop sees of it.
     ghost shown: { Self → Shown };
@@ -94,15 +95,35 @@ pub trait Node {
         ensures acts { Acts stands shown result self.old self.new }
         ensures stirs { Stirs (shown self.old) (shown self.new) }
         ensures none { IfNone result (IsSame (shown self.old) (shown self.new)) }
-        ensures weight { (shown self.new).weight + act_weight result ≤ (shown self.old).weight };
+        ensures weight { (shown self.new).weight + act_weight result ≤ (shown self.old).weight }
+        ensures ends_for { (shown self.new).ends_for ≡ (shown self.old).ends_for }
+        ensures closes { ActsFor (shown self.old).ends_for result }
+        ensures all { IfNone result (IfSome (shown self.old).ends_for (λ cause. StandsForNone stands self.new)) };
+
+    /// The next note. `None` exactly where each was taken.
+    fn next_note(&mut self) -> Option<Note>
+        ensures head { (shown self.old).noted ≡ option_to_list result ++ (shown self.new).noted }
+        ensures none { IfNone result ((shown self.old).noted ≡ []) }
+        ensures same { IsSame (shown self.old) (shown self.new) }
+        ensures stirred { (shown self.new).stirred ≡ (shown self.old).stirred }
+        ensures takes { (notes : List Note) (trace : List Entry) → stands notes self.old trace
+            → stands (notes ++ option_to_list result) self.new trace };
+
+    /// The run ends: from now on each act closes a link, for this cause, until none lives.
+    fn stop(&mut self, cause: Cause)
+        ensures ends_for { (shown self.new).ends_for ≡ Some cause }
+        ensures stands { StandsAs stands self.old self.new };
 
     /// The next link on which more may be read or is to be written than before. `None` exactly where none stirred that wasn't told.
     fn next_stirred(&mut self) -> Option<u64>
         ensures head { (shown self.old).stirred ≡ option_to_list result ++ (shown self.new).stirred }
         ensures none { IfNone result ((shown self.old).stirred ≡ []) }
         ensures same { IsSame (shown self.old) (shown self.new) }
+        ensures noted { (shown self.new).noted ≡ (shown self.old).noted }
         ensures stands { StandsAs stands self.old self.new };
 
-    /// A call that moved nothing, or a wait, is told to no node: where no act is due, it stands for the trace with that entry too.
-    ghost rests: { (n : Self) → (trace : List Entry) → (x : Entry) → MovesNothing (shown n) trace x → stands n trace → stands n (trace ++ x ∷ []) };
+    /// A call that moved nothing, or a wait, is told to no node: where no act is due, it stands for the trace with that entry too. So
+    /// it does with a listen, behind listens alone.
+    ghost rests: { (notes : List Note) → (n : Self) → (trace : List Entry) → (x : Entry) → MovesNothing (shown n) trace x
+        → stands notes n trace → stands notes n (trace ++ x ∷ []) };
 }

@@ -1,151 +1,30 @@
 //! A round: each door that a wait named accepts at most one link, and each link on the list is tried once.
 
-ghost use Rattle.std.specs.Prelude.{◌≡◌, ◌∷◌, ◌++◌, [], true, false, drop, Some, None, IfSome, IfOk, OnOk, List};
+ghost use Rattle.std.specs.Prelude.{◌≡◌, ℕ, ◌∷◌, ◌++◌, [], true, false, drop, length, Some, None, IfSome, IfOk, OnOk, List};
 ghost use Rattle.hb_world.specs.declared.entry.Entry.{Entry};
 ghost use Rattle.hb_ready.specs.Registry.{kept};
 ghost use Rattle.hb_ready.specs.Kept.{rotated};
+ghost use Rattle.hb_turns.specs.Reckons.{Adds, moved_by};
+ghost use Rattle.hb_ready.specs.Sight.{asked_at};
+ghost use Rattle.hb_turns.specs.Rested.{IsCalm, IsDropped, CallRests};
 ghost use Rattle.hb_turns.specs.Settled.{Rests};
+ghost use Rattle.hb_turns.specs.Woken.{IsQuiet};
 ghost use Rattle.hb_turns.specs.Stands.{Keeps, Watched, IsIdle, Stands};
 
 use crate::acts::{carry, enter};
-use crate::link::{finish, read, write};
+use crate::link::{finish, read_last, write};
 use crate::node::Node;
 use crate::run::Run;
 use hb_base::{Door, NoMemory};
 use hb_world::{Born, World};
 
-/// Asks whether a link is open, and does what is due behind it. Says whether anything moved.
-fn try_finish<W: World, N: Node>(
-    run: &mut Run<N>,
-    world: &mut W,
-    link: u64,
-) -> Result<bool, NoMemory>
-    ensures keeps { IsIdle (N.shown run.old.node) → Keeps N.stands N.shown result run.old (W.trace world.old) run.new (W.trace world.new) }
-    ensures watched { OnOk result (Watched N.shown run.old → Watched N.shown run.new) }
-    ensures idle { OnOk result (IsIdle (N.shown run.old.node) → IsIdle (N.shown run.new.node)) }
-    ensures faults { W.faults world.new ≡ W.faults world.old }
-    ensures follows { W.script world.new ≡ W.script world.old }
-{
-    let moved = finish(run, world, link)?;
-    if moved {
-        carry(run, world)?;
-    }
-    Ok(moved)
-}
-
-/// Reads, and does what is due behind it. Says whether anything moved.
-fn try_read<W: World, N: Node>(run: &mut Run<N>, world: &mut W, link: u64) -> Result<bool, NoMemory>
-    ensures keeps { IsIdle (N.shown run.old.node) → Keeps N.stands N.shown result run.old (W.trace world.old) run.new (W.trace world.new) }
-    ensures watched { OnOk result (Watched N.shown run.old → Watched N.shown run.new) }
-    ensures idle { OnOk result (IsIdle (N.shown run.old.node) → IsIdle (N.shown run.new.node)) }
-    ensures faults { W.faults world.new ≡ W.faults world.old }
-    ensures follows { W.script world.new ≡ W.script world.old }
-{
-    let moved = read(run, world, link)?;
-    if moved {
-        carry(run, world)?;
-    }
-    Ok(moved)
-}
-
-/// Writes, and does what is due behind it. Says whether anything moved.
-fn try_write<W: World, N: Node>(
-    run: &mut Run<N>,
-    world: &mut W,
-    link: u64,
-) -> Result<bool, NoMemory>
-    ensures keeps { IsIdle (N.shown run.old.node) → Keeps N.stands N.shown result run.old (W.trace world.old) run.new (W.trace world.new) }
-    ensures watched { OnOk result (Watched N.shown run.old → Watched N.shown run.new) }
-    ensures idle { OnOk result (IsIdle (N.shown run.old.node) → IsIdle (N.shown run.new.node)) }
-    ensures faults { W.faults world.new ≡ W.faults world.old }
-    ensures follows { W.script world.new ≡ W.script world.old }
-{
-    let moved = write(run, world, link)?;
-    if moved {
-        carry(run, world)?;
-    }
-    Ok(moved)
-}
-
-/// A link is tried: at most one finish, one read and two writes. Says whether anything moved.
-fn try_link<W: World, N: Node>(run: &mut Run<N>, world: &mut W, link: u64) -> Result<bool, NoMemory>
-    ensures keeps { IsIdle (N.shown run.old.node) → Keeps N.stands N.shown result run.old (W.trace world.old) run.new (W.trace world.new) }
-    ensures watched { OnOk result (Watched N.shown run.old → Watched N.shown run.new) }
-    ensures idle { OnOk result (IsIdle (N.shown run.old.node) → IsIdle (N.shown run.new.node)) }
-    ensures faults { W.faults world.new ≡ W.faults world.old }
-    ensures follows { W.script world.new ≡ W.script world.old }
-{
-    let opened = try_finish(run, world, link)?;
-    let came = try_read(run, world, link)?;
-    let went = try_write(run, world, link)?;
-    let more = try_write(run, world, link)?;
-    Ok(opened | came | went | more)
-}
-
-/// Whether a try of the link may move something: it lives, a way is awake, and there is something to do.
-fn is_worth<N: Node>(run: &Run<N>, link: u64) -> bool
-    ensures { result ≡ false → Rests ((kept run.now.records.links).links link) link (N.shown run.now.node) }
-{
-    match run.records.links.get(link) {
-        None => false,
-        Some(known) => {
-            if !known.is_open {
-                return !known.finish_sleeps;
-            }
-            if !known.read_sleeps & (run.node.wants(link) > 0) {
-                return true;
-            }
-            !known.write_sleeps & !run.node.output(link).is_empty()
-        }
-    }
-}
-
-/// The number at the list's front goes to its end, where its link is worth another try, or leaves the list.
-fn settle<N: Node>(run: &mut Run<N>)
-    ensures keeps { (trace : List Entry) → Stands N.stands N.shown run.old trace → Stands N.stands N.shown run.new trace }
-    ensures watched { Watched N.shown run.old → Watched N.shown run.new }
-    ensures node { run.new.node ≡ run.old.node }
-{
-    let Some(link) = run.records.links.front() else {
-        return;
-    };
-    if is_worth(run, link) {
-        run.records.links.rotate();
-    } else {
-        run.records.links.pop();
-    }
-}
-
-/// The link at the list's front is tried. Says whether anything moved.
-fn try_front<W: World, N: Node>(run: &mut Run<N>, world: &mut W) -> Result<bool, NoMemory>
-    ensures keeps { IsIdle (N.shown run.old.node) → Keeps N.stands N.shown result run.old (W.trace world.old) run.new (W.trace world.new) }
-    ensures watched { OnOk result (Watched N.shown run.old → Watched N.shown run.new) }
-    ensures idle { OnOk result (IsIdle (N.shown run.old.node) → IsIdle (N.shown run.new.node)) }
-    ensures faults { W.faults world.new ≡ W.faults world.old }
-    ensures follows { W.script world.new ≡ W.script world.old }
-{
-    let Some(link) = run.records.links.front() else {
-        return Ok(false);
-    };
-    let moved = try_link(run, world, link)?;
-    settle(run);
-    Ok(moved)
-}
-
-/// Each link on the list is tried once. Says whether anything moved.
-fn try_links<W: World, N: Node>(run: &mut Run<N>, world: &mut W) -> Result<bool, NoMemory>
-    ensures keeps { IsIdle (N.shown run.old.node) → Keeps N.stands N.shown result run.old (W.trace world.old) run.new (W.trace world.new) }
-    ensures watched { OnOk result (Watched N.shown run.old → Watched N.shown run.new) }
-    ensures idle { OnOk result (IsIdle (N.shown run.old.node) → IsIdle (N.shown run.new.node)) }
-    ensures faults { W.faults world.new ≡ W.faults world.old }
-    ensures follows { W.script world.new ≡ W.script world.old }
-{
-    let mut moved = false;
-    for _try in 0..run.records.links.len() {
-        let here = try_front(run, world)?;
-        moved = here | moved;
-    }
-    Ok(moved)
+/// A call at a door or on a link.
+#[derive(Clone, Copy)]
+enum Call {
+    Accept(Door),
+    Finish(u64),
+    Read(u64),
+    Write(u64),
 }
 
 /// A door that a wait named accepts at most one link. Says whether it did.
@@ -153,6 +32,8 @@ fn accept<W: World, N: Node>(run: &mut Run<N>, world: &mut W, door: Door) -> Res
     ensures keeps { IsIdle (N.shown run.old.node) → Keeps N.stands N.shown result run.old (W.trace world.old) run.new (W.trace world.new) }
     ensures watched { OnOk result (Watched N.shown run.old → Watched N.shown run.new) }
     ensures still { IfOk result (λ moved. moved ≡ false → run.new.node ≡ run.old.node) }
+    ensures rests { IfOk result (λ moved. moved ≡ false → IsCalm run.old run.new × (asked_at run.new.records.asked door ≡ false)) }
+    ensures adds { Adds (moved_by result) (W.trace world.old) (W.trace world.new) }
     ensures faults { W.faults world.new ≡ W.faults world.old }
     ensures follows { W.script world.new ≡ W.script world.old }
 {
@@ -178,21 +59,139 @@ fn accept<W: World, N: Node>(run: &mut Run<N>, world: &mut W, door: Door) -> Res
     }
 }
 
-/// A door is tried, and what is due behind it is done. Says whether anything moved.
-fn try_door<W: World, N: Node>(
+/// Makes a call. Says whether anything moved.
+fn make_call<W: World, N: Node>(
     run: &mut Run<N>,
     world: &mut W,
-    door: Door,
+    call: Call,
+) -> Result<bool, NoMemory>
+    ensures keeps { IsIdle (N.shown run.old.node) → Keeps N.stands N.shown result run.old (W.trace world.old) run.new (W.trace world.new) }
+    ensures watched { OnOk result (Watched N.shown run.old → Watched N.shown run.new) }
+    ensures still { IfOk result (λ moved. moved ≡ false → run.new.node ≡ run.old.node) }
+    ensures rests { IfOk result (λ moved. moved ≡ false → IsCalm run.old run.new × CallRests N.shown call run.new) }
+    ensures adds { Adds (moved_by result) (W.trace world.old) (W.trace world.new) }
+    ensures faults { W.faults world.new ≡ W.faults world.old }
+    ensures follows { W.script world.new ≡ W.script world.old }
+{
+    match call {
+        Call::Accept(door) => accept(run, world, door),
+        Call::Finish(link) => finish(run, world, link),
+        Call::Read(link) => read_last(run, world, link),
+        Call::Write(link) => write(run, world, link),
+    }
+}
+
+/// Makes a call, and does what is due behind it. Says whether anything moved.
+fn try_call<W: World, N: Node>(
+    run: &mut Run<N>,
+    world: &mut W,
+    call: Call,
 ) -> Result<bool, NoMemory>
     ensures keeps { IsIdle (N.shown run.old.node) → Keeps N.stands N.shown result run.old (W.trace world.old) run.new (W.trace world.new) }
     ensures watched { OnOk result (Watched N.shown run.old → Watched N.shown run.new) }
     ensures idle { OnOk result (IsIdle (N.shown run.old.node) → IsIdle (N.shown run.new.node)) }
+    ensures rests { IfOk result (λ moved. moved ≡ false → IsCalm run.old run.new × CallRests N.shown call run.new) }
+    ensures adds { Adds (moved_by result) (W.trace world.old) (W.trace world.new) }
     ensures faults { W.faults world.new ≡ W.faults world.old }
     ensures follows { W.script world.new ≡ W.script world.old }
 {
-    let moved = accept(run, world, door)?;
-    if moved {
-        carry(run, world)?;
+    let moved = make_call(run, world, call)?;
+    if !moved {
+        return Ok(false);
+    }
+    carry(run, world)?;
+    Ok(true)
+}
+
+/// A link is tried: at most one finish, one read and two writes, and behind the read its last words. Says whether anything moved.
+fn try_link<W: World, N: Node>(run: &mut Run<N>, world: &mut W, link: u64) -> Result<bool, NoMemory>
+    ensures keeps { IsIdle (N.shown run.old.node) → Keeps N.stands N.shown result run.old (W.trace world.old) run.new (W.trace world.new) }
+    ensures watched { OnOk result (Watched N.shown run.old → Watched N.shown run.new) }
+    ensures idle { OnOk result (IsIdle (N.shown run.old.node) → IsIdle (N.shown run.new.node)) }
+    ensures rests { IfOk result (λ moved. moved ≡ false → IsCalm run.old run.new
+        × Rests ((kept run.new.records.links).links link) link (N.shown run.new.node)) }
+    ensures adds { Adds (moved_by result) (W.trace world.old) (W.trace world.new) }
+    ensures faults { W.faults world.new ≡ W.faults world.old }
+    ensures follows { W.script world.new ≡ W.script world.old }
+{
+    let opened = try_call(run, world, Call::Finish(link))?;
+    let came = try_call(run, world, Call::Read(link))?;
+    let went = try_call(run, world, Call::Write(link))?;
+    let more = try_call(run, world, Call::Write(link))?;
+    Ok(opened | came | went | more)
+}
+
+/// Whether a try of the link may move something: it lives, a way is awake, and there is something to do.
+fn is_worth<N: Node>(run: &Run<N>, link: u64) -> bool
+    ensures rests { result ≡ false → Rests ((kept run.now.records.links).links link) link (N.shown run.now.node) }
+    ensures worth { result ≡ true → Rests ((kept run.now.records.links).links link) link (N.shown run.now.node) → ⊥ }
+{
+    match run.records.links.get(link) {
+        None => false,
+        Some(known) => {
+            if !known.is_open {
+                return !known.finish_sleeps;
+            }
+            if !known.read_sleeps & (run.node.wants(link) > 0) {
+                return true;
+            }
+            !known.write_sleeps & !run.node.output(link).is_empty()
+        }
+    }
+}
+
+/// The number at the list's front goes to its end, where its link is worth another try, or leaves the list.
+fn settle<N: Node>(run: &mut Run<N>)
+    ensures keeps { (trace : List Entry) → Stands N.stands N.shown run.old trace → Stands N.stands N.shown run.new trace }
+    ensures watched { Watched N.shown run.old → Watched N.shown run.new }
+    ensures pops { (l : ℕ) → (kept run.old.records.links).listed ≡ l ∷ drop 1 (kept run.old.records.links).listed
+        → Rests ((kept run.old.records.links).links l) l (N.shown run.old.node) → IsDropped 1 run.old run.new }
+    ensures asked { run.new.records.asked ≡ run.old.records.asked }
+    ensures empty { (kept run.old.records.links).listed ≡ [] → (kept run.new.records.links).listed ≡ [] }
+    ensures node { run.new.node ≡ run.old.node }
+{
+    let Some(link) = run.records.links.front() else {
+        return;
+    };
+    if is_worth(run, link) {
+        run.records.links.rotate();
+    } else {
+        run.records.links.pop();
+    }
+}
+
+/// The link at the list's front is tried. Says whether anything moved.
+fn try_front<W: World, N: Node>(run: &mut Run<N>, world: &mut W) -> Result<bool, NoMemory>
+    ensures keeps { IsIdle (N.shown run.old.node) → Keeps N.stands N.shown result run.old (W.trace world.old) run.new (W.trace world.new) }
+    ensures watched { OnOk result (Watched N.shown run.old → Watched N.shown run.new) }
+    ensures idle { OnOk result (IsIdle (N.shown run.old.node) → IsIdle (N.shown run.new.node)) }
+    ensures rests { IfOk result (λ moved. moved ≡ false → IsDropped 1 run.old run.new) }
+    ensures adds { Adds (moved_by result) (W.trace world.old) (W.trace world.new) }
+    ensures faults { W.faults world.new ≡ W.faults world.old }
+    ensures follows { W.script world.new ≡ W.script world.old }
+{
+    let Some(link) = run.records.links.front() else {
+        return Ok(false);
+    };
+    let moved = try_link(run, world, link)?;
+    settle(run);
+    Ok(moved)
+}
+
+/// Each link on the list is tried once. Says whether anything moved.
+fn try_links<W: World, N: Node>(run: &mut Run<N>, world: &mut W) -> Result<bool, NoMemory>
+    ensures keeps { IsIdle (N.shown run.old.node) → Keeps N.stands N.shown result run.old (W.trace world.old) run.new (W.trace world.new) }
+    ensures watched { OnOk result (Watched N.shown run.old → Watched N.shown run.new) }
+    ensures idle { OnOk result (IsIdle (N.shown run.old.node) → IsIdle (N.shown run.new.node)) }
+    ensures rests { IfOk result (λ moved. moved ≡ false → IsDropped (length (kept run.old.records.links).listed) run.old run.new) }
+    ensures adds { Adds (moved_by result) (W.trace world.old) (W.trace world.new) }
+    ensures faults { W.faults world.new ≡ W.faults world.old }
+    ensures follows { W.script world.new ≡ W.script world.old }
+{
+    let mut moved = false;
+    for _try in 0..run.records.links.len() {
+        let here = try_front(run, world)?;
+        moved = here | moved;
     }
     Ok(moved)
 }
@@ -202,12 +201,14 @@ pub(crate) fn round<W: World, N: Node>(run: &mut Run<N>, world: &mut W) -> Resul
     ensures keeps { IsIdle (N.shown run.old.node) → Keeps N.stands N.shown result run.old (W.trace world.old) run.new (W.trace world.new) }
     ensures watched { OnOk result (Watched N.shown run.old → Watched N.shown run.new) }
     ensures idle { OnOk result (IsIdle (N.shown run.old.node) → IsIdle (N.shown run.new.node)) }
+    ensures rests { IfOk result (λ moved. moved ≡ false → IsQuiet run.new.records) }
+    ensures adds { Adds (moved_by result) (W.trace world.old) (W.trace world.new) }
     ensures faults { W.faults world.new ≡ W.faults world.old }
     ensures follows { W.script world.new ≡ W.script world.old }
 {
-    let inbound = try_door(run, world, Door::Inbound)?;
-    let outbound = try_door(run, world, Door::Outbound)?;
-    let plain = try_door(run, world, Door::Plain)?;
+    let inbound = try_call(run, world, Call::Accept(Door::Inbound))?;
+    let outbound = try_call(run, world, Call::Accept(Door::Outbound))?;
+    let plain = try_call(run, world, Call::Accept(Door::Plain))?;
     let tried = try_links(run, world)?;
     Ok(inbound | outbound | plain | tried)
 }

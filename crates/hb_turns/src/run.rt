@@ -1,5 +1,6 @@
 //! A run of the event loop, as it stands between two calls.
 
+use crate::keep::Keep;
 use hb_ready::{Asked, Links};
 
 /// The most bytes of one read.
@@ -16,10 +17,11 @@ pub struct Records {
     pub wanting: bool,
 }
 
-/// The node, what the loop knows, and room for what is read.
+/// The node, what the loop knows, the notes that were taken, and room for what is read.
 #[derive(Drop)]
 pub struct Run<N> {
     pub node: N,
     pub records: Records,
+    pub keep: Keep,
     pub buffer: Vec<u8>,
 }

@@ -25,4 +25,6 @@ pub struct Served {
     pub totals: Totals,
     /// A link was closed for want of memory.
     pub wanting: bool,
+    /// Memory lacked for a note that the run's end made.
+    pub unkept: bool,
 }

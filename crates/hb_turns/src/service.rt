@@ -1,50 +1,45 @@
 //! A run of the event loop, from its start to its end.
 
-ghost use Rattle.std.specs.Prelude.{◌≡◌, ◌<◌, ℕ, [], true, false, None, Some, IfOk, IfSome};
+ghost use Rattle.std.specs.Prelude.{◌≡◌, [], Some, None, IfOk, IfSome};
+ghost use Rattle.std.specs.Option.{option_map};
 ghost use Rattle.hb_base.specs.Count.{Counts};
-ghost use Rattle.hb_ready.specs.Registry.{kept};
-ghost use Rattle.hb_turns.specs.Ends.{cause_at, is_fault};
+ghost use Rattle.hb_turns.specs.Ends.{cause_at, is_fault, end_of};
+ghost use Rattle.hb_turns.specs.Reckons.{Begins, Finishes};
 ghost use Rattle.hb_turns.specs.Served.{IsServed, IsFresh};
-ghost use Rattle.hb_turns.specs.Stands.{Obeys, Stands, Watched};
+ghost use Rattle.hb_turns.specs.Stands.{Left, Watched};
 
-use crate::acts::forget;
+use crate::ending::end_run;
+use crate::keep::Keep;
+use crate::listens::listen;
 use crate::node::Node;
 use crate::run::{MOST_READ, Records, Run};
 use crate::served::{ServeEnd, Served, Totals};
 use crate::turns::turns;
+use crate::words::ServeWords;
 use hb_base::{Cause, NoMemory};
 use hb_ready::{Asked, Links};
 use hb_world::{Ready, World};
 use std::alloc::Global;
 
-/// Closes a link that lives, and says whether one did.
-fn close_one<W: World, N: Node>(run: &mut Run<N>, world: &mut W, cause: Cause) -> bool
-    ensures keeps { IfSome (W.trace world.old) (Obeys N.stands N.shown run.old.records)
-        → IfSome (W.trace world.new) (Obeys N.stands N.shown run.new.records) }
-    ensures none { result ≡ false → (l : ℕ) → (kept run.new.records.links).links l ≡ None }
-    ensures less { result ≡ true → (kept run.new.records.links).count < (kept run.old.records.links).count }
-    ensures faults { W.faults world.new ≡ W.faults world.old }
+/// The listens, and all turns.
+fn run_on<W: World, N: Node>(
+    run: &mut Run<N>,
+    world: &mut W,
+    ready: &mut Ready,
+    words: ServeWords,
+) -> Result<ServeEnd, NoMemory>
+    ensures keeps { Watched N.shown run.old → IfSome (W.trace world.old) (Begins N.stands N.shown run.old [])
+        → IfSome (W.trace world.new) (Left N.stands N.shown result run.new) }
+    ensures finishes { IfSome (W.trace world.old) (Begins N.stands N.shown run.old [])
+        → IfSome (W.trace world.new) (Finishes words (end_of result)) }
+    ensures faults { Counts (W.faults world.old) (W.faults world.new) (is_fault (end_of result)) }
     ensures follows { W.script world.new ≡ W.script world.old }
 {
-    match run.records.links.any() {
-        None => false,
-        Some(link) => {
-            world.close(link, cause);
-            forget(&mut run.records, link, cause);
-            true
-        }
+    match listen(run, world, words.doors)? {
+        Some(end) => return Ok(end),
+        None => {}
     }
-}
-
-/// Closes each link that lives.
-fn close_all<W: World, N: Node>(run: &mut Run<N>, world: &mut W, cause: Cause)
-    ensures keeps { IfSome (W.trace world.old) (Obeys N.stands N.shown run.old.records)
-        → IfSome (W.trace world.new) (Obeys N.stands N.shown run.new.records) }
-    ensures none { (l : ℕ) → (kept run.new.records.links).links l ≡ None }
-    ensures faults { W.faults world.new ≡ W.faults world.old }
-    ensures follows { W.script world.new ≡ W.script world.old }
-{
-    while close_one(run, world, cause) {}
+    turns(run, world, ready, words.turns, words.ticks)
 }
 
 /// The cause for which links are closed that live at the run's end.
@@ -57,28 +52,37 @@ fn cause_at(end: ServeEnd) -> Cause
     }
 }
 
-/// All turns, and the run's end.
+/// How a run is to end; where memory lacked, so.
+fn end_of(ended: Result<ServeEnd, NoMemory>) -> ServeEnd
+    ensures { result ≡ end_of ended }
+{
+    match ended {
+        Ok(end) => end,
+        Err(_) => ServeEnd::NoMemory,
+    }
+}
+
+/// The listens, all turns, and the run's end.
 fn serve_run<W: World, N: Node>(
     run: &mut Run<N>,
     world: &mut W,
     ready: &mut Ready,
-    most: u64,
-) -> ServeEnd
-    ensures keeps { Watched N.shown run.old → IfSome (W.trace world.old) (Stands N.stands N.shown run.old)
-        → IfSome (W.trace world.new) (Obeys N.stands N.shown run.new.records) }
-    ensures none { (l : ℕ) → (kept run.new.records.links).links l ≡ None }
-    ensures faults { Counts (W.faults world.old) (W.faults world.new) (is_fault result) }
+    words: ServeWords,
+) -> Served
+    ensures served { Watched N.shown run.old → IfSome (W.trace world.old) (Begins N.stands N.shown run.old [])
+        → IfSome (W.trace world.new) (IsServed N.stands N.shown words result run.new.keep) }
+    ensures faults { Counts (W.faults world.old) (W.faults world.new) (is_fault result.end) }
     ensures follows { W.script world.new ≡ W.script world.old }
 {
-    match turns(run, world, ready, most) {
-        Ok(end) => {
-            close_all(run, world, cause_at(end));
-            end
-        }
-        Err(_) => {
-            close_all(run, world, Cause::NoMemory);
-            ServeEnd::NoMemory
-        }
+    let end = end_of(run_on(run, world, ready, words));
+    let noted = end_run(run, world, cause_at(end));
+    Served {
+        end,
+        totals: Totals {
+            links: run.records.births,
+        },
+        wanting: run.records.wanting,
+        unkept: noted.is_err(),
     }
 }
 
@@ -106,8 +110,9 @@ fn read_buffer(alloc: Global) -> Result<Vec<u8>, NoMemory> {
 /// Before anything happened.
 ///
 /// Errors: `NoMemory`, and then the node is dropped.
-fn begin<N: Node + Drop>(alloc: Global, node: N) -> Result<(Run<N>, Ready), NoMemory>
+fn begin<N: Node + Drop>(alloc: Global, node: N, keep: Keep) -> Result<(Run<N>, Ready), NoMemory>
     ensures node { IfOk result (λ begun. begun.0.node ≡ node) }
+    ensures keep { IfOk result (λ begun. begun.0.keep ≡ keep) }
     ensures fresh { IfOk result (λ begun. IsFresh begun.0.records) }
 {
     let buffer = read_buffer(alloc)?;
@@ -115,37 +120,41 @@ fn begin<N: Node + Drop>(alloc: Global, node: N) -> Result<(Run<N>, Ready), NoMe
     let run = Run {
         node,
         records: fresh_records(alloc),
+        keep,
         buffer,
     };
     Ok((run, ready))
 }
 
-/// Runs a node over a world, for so many turns at most, until a wait tells a stop or fails, the turns are spent, or memory lacks.
-/// Then each link is closed. Where the world tells its trace, and no call was made on it before, the trace obeys the awake law and
-/// the settled law, no link lives, and it says how many links were born, and whether one was closed for want of memory.
-pub fn serve<W: World, N: Node + Drop>(alloc: Global, node: N, most: u64, world: &mut W) -> Served
-    requires { N.stands node [] }
-    ensures served { W.trace world.old ≡ Some [] → IfSome (W.trace world.new) (IsServed N.stands N.shown result.totals.links result.wanting) }
+/// Runs a node over a world: it listens at the doors, then goes on until a listen or a wait fails, a wait tells a stop, the ticks
+/// passed or the turns are spent, or memory lacks. Then the node is told, each link is closed, and the last notes are taken. The keep
+/// holds the notes of this run alone. Where the world tells its trace, and no call was made on it before, the trace is that of a run
+/// that is over.
+pub fn serve<W: World, N: Node + Drop>(
+    alloc: Global,
+    node: N,
+    words: ServeWords,
+    keep: &mut Keep,
+    world: &mut W,
+) -> Served
+    requires { N.stands [] node [] }
+    ensures served { W.trace world.old ≡ Some [] → IfSome (W.trace world.new) (IsServed N.stands N.shown words result keep.new) }
     ensures faults { Counts (W.faults world.old) (W.faults world.new) (is_fault result.end) }
     ensures follows { W.script world.new ≡ W.script world.old }
 {
-    match begin(alloc, node) {
+    match begin(alloc, node, keep.emptied(alloc)) {
         Ok((run, ready)) => {
             let mut run = run;
             let mut ready = ready;
-            let end = serve_run(&mut run, world, &mut ready, most);
-            Served {
-                end,
-                totals: Totals {
-                    links: run.records.births,
-                },
-                wanting: run.records.wanting,
-            }
+            let served = serve_run(&mut run, world, &mut ready, words);
+            *keep = run.keep;
+            served
         }
         Err(_) => Served {
             end: ServeEnd::NoMemory,
             totals: Totals { links: 0 },
             wanting: false,
+            unkept: false,
         },
     }
 }

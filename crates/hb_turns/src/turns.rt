@@ -1,9 +1,11 @@
 //! Turns: a round where something is to be tried, else a wait.
 
-ghost use Rattle.std.specs.Prelude.{◌≡◌, false, OnOk};
+ghost use Rattle.std.specs.Prelude.{◌≡◌, ℕ, ◌+◌, true, false, None, IfOk, IfSome, OnOk};
 ghost use Rattle.hb_base.specs.Count.{Counts};
 ghost use Rattle.hb_turns.specs.Ends.{is_fault, is_fault_of_turn, end_of};
+ghost use Rattle.hb_turns.specs.Reckons.{Paid, Reckons, Turned, Finishes};
 ghost use Rattle.hb_turns.specs.Stands.{Keeps, Watched, IsIdle};
+ghost use Rattle.hb_turns.specs.declared.words.ServeWords.{ServeWords};
 ghost use Rattle.hb_turns.specs.Woken.{IsQuiet};
 
 use crate::acts::carry;
@@ -17,7 +19,8 @@ use hb_world::{Ready, World};
 
 /// Whether a link stands on the list, or an accept may give a link at a door.
 fn has_work(records: &Records) -> bool
-    ensures { result ≡ false → IsQuiet records.now }
+    ensures quiet { result ≡ false → IsQuiet records.now }
+    ensures work { result ≡ true → IsQuiet records.now → ⊥ }
 {
     match records.links.front() {
         Some(_) => true,
@@ -30,11 +33,16 @@ fn turn<W: World, N: Node>(
     run: &mut Run<N>,
     world: &mut W,
     ready: &mut Ready,
+    ticks: &mut Option<u64>,
 ) -> Result<Option<ServeEnd>, NoMemory>
     ensures keeps { IsIdle (N.shown run.old.node) → Watched N.shown run.old
         → Keeps N.stands N.shown result run.old (W.trace world.old) run.new (W.trace world.new) }
     ensures watched { OnOk result (Watched N.shown run.old → Watched N.shown run.new) }
-    ensures idle { OnOk result (IsIdle (N.shown run.old.node) → IsIdle (N.shown run.new.node)) }
+    ensures idle { IfOk result (λ end. end ≡ None → IsIdle (N.shown run.old.node) → IsIdle (N.shown run.new.node)) }
+    ensures turned { (t n : ℕ) → Paid t n run.old.records → (m : ℕ)
+        × (IfOk result (λ end. end ≡ None → Paid (t + 1) m run.new.records))
+        × ((words : ServeWords) (w : ℕ) → IfSome (W.trace world.old) (Reckons words ticks.old n w)
+        → IfSome (W.trace world.new) (Turned result words ticks.new m (w + 1))) }
     ensures faults { Counts (W.faults world.old) (W.faults world.new) (is_fault_of_turn result) }
     ensures follows { W.script world.new ≡ W.script world.old }
 {
@@ -42,7 +50,7 @@ fn turn<W: World, N: Node>(
         let _ = round(run, world)?;
         return Ok(None);
     }
-    wait(run, world, ready)
+    wait(run, world, ready, ticks)
 }
 
 /// All turns.
@@ -51,14 +59,18 @@ pub(crate) fn turns<W: World, N: Node>(
     world: &mut W,
     ready: &mut Ready,
     most: u64,
+    ticks: Option<u64>,
 ) -> Result<ServeEnd, NoMemory>
     ensures keeps { Watched N.shown run.old → Keeps N.stands N.shown result run.old (W.trace world.old) run.new (W.trace world.new) }
+    ensures finishes { (words : ServeWords) → words.turns ≡ most → IfSome (W.trace world.old) (Reckons words ticks 0 0)
+        → IfSome (W.trace world.new) (Finishes words (end_of result)) }
     ensures faults { Counts (W.faults world.old) (W.faults world.new) (is_fault (end_of result)) }
     ensures follows { W.script world.new ≡ W.script world.old }
 {
     carry(run, world)?;
+    let mut ticks = ticks;
     for _turn in 0..most {
-        match turn(run, world, ready)? {
+        match turn(run, world, ready, &mut ticks)? {
             Some(end) => return Ok(end),
             None => {}
         }

@@ -1,12 +1,14 @@
 //! A wait, and what it named.
 
-ghost use Rattle.std.specs.Prelude.{◌≡◌, ◌∷◌, [], None, IfSome, OnOk};
+ghost use Rattle.std.specs.Prelude.{◌≡◌, ◌∷◌, ℕ, ◌+◌, [], false, None, IfOk, IfSome, OnOk};
 ghost use Rattle.hb_base.specs.Count.{Counts};
 ghost use Rattle.hb_ready.specs.Registry.{kept};
+ghost use Rattle.hb_turns.specs.Reckons.{Reckons, Turned, IsBehindTick, one_less, is_spent};
 ghost use Rattle.hb_turns.specs.Stands.{Keeps, Left, Watched, WatchedBy, IsIdle};
 ghost use Rattle.hb_turns.specs.Woken.{Wakes, IsQuiet, Ticked};
 ghost use Rattle.hb_turns.specs.Ends.{is_fault_of_turn};
 ghost use Rattle.hb_turns.specs.Shown.{Shown};
+ghost use Rattle.hb_turns.specs.declared.words.ServeWords.{ServeWords};
 
 use crate::acts::carry;
 use crate::node::Node;
@@ -36,17 +38,42 @@ fn wake(records: &mut Records, items: &[ReadyItem])
     }
 }
 
-/// Time passed: the node is told, and what is due behind it is done.
-fn tick<W: World, N: Node>(run: &mut Run<N>, world: &mut W) -> Result<(), NoMemory>
+/// Counts a tick down, and says whether it is the last.
+fn is_last(ticks: &mut Option<u64>) -> bool
+    ensures left { ticks.new ≡ one_less ticks.old }
+    ensures last { result ≡ is_spent ticks.new }
+{
+    match ticks {
+        None => false,
+        Some(left) => {
+            *left = left.saturating_sub(1);
+            *left == 0
+        }
+    }
+}
+
+/// Time passed: the node is told, and what is due behind it is done. The end, where this was the last tick, behind which nothing is.
+fn tick<W: World, N: Node>(
+    run: &mut Run<N>,
+    world: &mut W,
+    ticks: &mut Option<u64>,
+) -> Result<Option<ServeEnd>, NoMemory>
     ensures keeps { (N.shown run.old.node).due ≡ None → IfSome (W.trace world.old) (Ticked N.stands N.shown run.old)
         → IfSome (W.trace world.new) (Left N.stands N.shown result run.new) }
     ensures watched { OnOk result (Watched N.shown run.old → Watched N.shown run.new) }
-    ensures idle { OnOk result (IsIdle (N.shown run.new.node)) }
+    ensures idle { IfOk result (λ end. end ≡ None → IsIdle (N.shown run.new.node)) }
+    ensures turned { (words : ServeWords) (n w : ℕ) → IfSome (W.trace world.old) (IsBehindTick words ticks.old n w)
+        → IfSome (W.trace world.new) (Turned result words ticks.new n w) }
     ensures faults { W.faults world.new ≡ W.faults world.old }
     ensures follows { W.script world.new ≡ W.script world.old }
+    ensures stops { is_fault_of_turn result ≡ false }
 {
     run.node.tick();
-    carry(run, world)
+    if is_last(ticks) {
+        return Ok(Some(ServeEnd::Stopped));
+    }
+    carry(run, world)?;
+    Ok(None)
 }
 
 /// A wait, and what it told done. The end, where it ends the run.
@@ -54,11 +81,14 @@ pub(crate) fn wait<W: World, N: Node>(
     run: &mut Run<N>,
     world: &mut W,
     ready: &mut Ready,
+    ticks: &mut Option<u64>,
 ) -> Result<Option<ServeEnd>, NoMemory>
     ensures keeps { IsIdle (N.shown run.old.node) → IsQuiet run.old.records → Watched N.shown run.old
         → Keeps N.stands N.shown result run.old (W.trace world.old) run.new (W.trace world.new) }
     ensures watched { OnOk result (Watched N.shown run.old → Watched N.shown run.new) }
-    ensures idle { OnOk result (IsIdle (N.shown run.old.node) → IsIdle (N.shown run.new.node)) }
+    ensures idle { IfOk result (λ end. end ≡ None → IsIdle (N.shown run.old.node) → IsIdle (N.shown run.new.node)) }
+    ensures turned { (words : ServeWords) (n w : ℕ) → IfSome (W.trace world.old) (Reckons words ticks.old n w)
+        → IfSome (W.trace world.new) (Turned result words ticks.new (n + 2) (w + 1)) }
     ensures faults { Counts (W.faults world.old) (W.faults world.new) (is_fault_of_turn result) }
     ensures follows { W.script world.new ≡ W.script world.old }
 {
@@ -69,8 +99,7 @@ pub(crate) fn wait<W: World, N: Node>(
         }
         Waited::Tick => {
             wake(&mut run.records, ready.items());
-            tick(run, world)?;
-            Ok(None)
+            tick(run, world, ticks)
         }
         Waited::Stop => {
             wake(&mut run.records, ready.items());

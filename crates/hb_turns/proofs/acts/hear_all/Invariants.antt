@@ -10,6 +10,7 @@ invariant-loop g l = record {
       → Stands g.N.Node.stands g.N.Node.shown l.run trace;
   watched : Watched g.N.Node.shown l.initial.run → Watched g.N.Node.shown l.run;
   due : (g.N.Node.shown l.run.node).due ≡ (g.N.Node.shown l.initial.run.node).due;
+  noted : (g.N.Node.shown l.run.node).noted ≡ (g.N.Node.shown l.initial.run.node).noted;
 }
 
 abbrev pub decreases-loop : goal.decreases-loop

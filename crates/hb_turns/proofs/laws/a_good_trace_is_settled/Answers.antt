@@ -22,12 +22,13 @@ rests true l s = refl
 rests false l s = tt
 
 pub returns : goal.returns
-returns g c = λ to why n due stands_for.
+returns g c = λ to why notes n due stands_for.
     let P = SettledAt g.N.Node.stands g.N.Node.shown in
     AtEach-grows P (e.Dialled 1 to why ∷ e.Balked (way.Finish 1) ∷ []) waits
     (AtEach-grows P (e.Dialled 1 to why ∷ []) (e.Balked (way.Finish 1))
     (AtEach-grows P [] (e.Dialled 1 to why) (nothing P) tt) tt)
     (record {
+      notes = notes;
       node = n;
       stands_for = stands_for;
       idle = due;

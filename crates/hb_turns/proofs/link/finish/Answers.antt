@@ -12,17 +12,17 @@ use Rattle.hb_turns.proofs.link.finish.Goals as goal
 pub returns-in_ok-opened-in-Opened-clause-keeps : goal.returns-in_ok-opened-in-Opened-clause-keeps
 returns-in_ok-opened-in-Opened-clause-keeps g c = λ idle had.
     let may : MayFinish ((kept c.args.run.now.records.links).links c.args.link) =
-    c.may_finish.ensures c.if-not-may_finish.false in
+    c.may_finish.ensures.may c.if-not-may_finish.false in
     moved g.N.Node.stands g.N.Node.shown c.args.run.now
     (record c.args.run.now { node = c.opened-in-Opened.new.self; records = record c.args.run.now.records { links = c.opened.new.self } })
-    (e.Opened c.args.link) (Stands g.N.Node.stands g.N.Node.shown c.args.run.now) (g.W.World.trace c.args.world.now) _ c.in-Opened.ensures.adds
+    (e.Opened c.args.link) (Stands g.N.Node.stands g.N.Node.shown c.args.run.now) (g.W.World.trace c.args.world.now) _ c.in-Opened.ensures.adds refl
     (c.in_ok-opened-in-Opened.ensures {u = tt}).tells (record { links = c.opened.ensures.follows; doors = λ d. refl; births_are = refl; wanting_is = refl })
     (opened_comes g.N.Node.stands g.N.Node.shown c.args.run.now c.args.link idle.due may) had
 
 pub returns-in_err-opened-in-Opened-clause-keeps : goal.returns-in_err-opened-in-Opened-clause-keeps
 returns-in_err-opened-in-Opened-clause-keeps g c = λ idle had.
     let may : MayFinish ((kept c.args.run.now.records.links).links c.args.link) =
-    c.may_finish.ensures c.if-not-may_finish.false in
+    c.may_finish.ensures.may c.if-not-may_finish.false in
     left g.N.Node.stands g.N.Node.shown c.from_residual.result _ _ (search rules)
     (lacked g.N.Node.stands g.N.Node.shown c.args.run.now (record c.args.run.now.records { links = c.opened.new.self })
     (e.Opened c.args.link) (Stands g.N.Node.stands g.N.Node.shown c.args.run.now) (g.W.World.trace c.args.world.now) _ c.in-Opened.ensures.adds (record { links = c.opened.ensures.follows; doors = λ d. refl; births_are = refl; wanting_is = refl })
@@ -38,11 +38,11 @@ returns-in_ok-opened-in-Opened-clause-watched g c = λ watched.
 pub returns-in-Balked-clause-keeps : goal.returns-in-Balked-clause-keeps
 returns-in-Balked-clause-keeps g c = λ idle had.
     let may : MayFinish ((kept c.args.run.now.records.links).links c.args.link) =
-    c.may_finish.ensures c.if-not-may_finish.false in
+    c.may_finish.ensures.may c.if-not-may_finish.false in
     rested g.N.Node.stands g.N.Node.shown c.args.run.now
     (record c.args.run.now { records = record c.args.run.now.records { links = c.finish_balked.new.self } })
-    (e.Balked (way.Finish c.args.link)) (Stands g.N.Node.stands g.N.Node.shown c.args.run.now) (g.W.World.trace c.args.world.now) _ c.in-Balked.ensures.adds refl
-    (λ trace. g.met.N.Node.rests c.args.run.now.node trace (e.Balked (way.Finish c.args.link))) (record { links = c.finish_balked.ensures.follows; doors = λ d. refl; births_are = refl; wanting_is = refl })
+    (e.Balked (way.Finish c.args.link)) (Stands g.N.Node.stands g.N.Node.shown c.args.run.now) (g.W.World.trace c.args.world.now) _ c.in-Balked.ensures.adds refl refl
+    (λ notes trace. g.met.N.Node.rests notes c.args.run.now.node trace (e.Balked (way.Finish c.args.link))) (record { links = c.finish_balked.ensures.follows; doors = λ d. refl; births_are = refl; wanting_is = refl })
     (finish_balks g.N.Node.stands g.N.Node.shown c.args.run.now c.args.link idle.due may) had
 
 pub returns-in-Balked-clause-watched : goal.returns-in-Balked-clause-watched
@@ -53,9 +53,9 @@ returns-in-Balked-clause-watched g c =
 pub returns-in-Failed-clause-keeps : goal.returns-in-Failed-clause-keeps
 returns-in-Failed-clause-keeps g c = λ idle had.
     let may : MayFinish ((kept c.args.run.now.records.links).links c.args.link) =
-    c.may_finish.ensures c.if-not-may_finish.false in
+    c.may_finish.ensures.may c.if-not-may_finish.false in
     moved g.N.Node.stands g.N.Node.shown c.args.run.now (record c.args.run.now { node = c.broke.new.self })
-    (e.Broke c.args.link) (Stands g.N.Node.stands g.N.Node.shown c.args.run.now) (g.W.World.trace c.args.world.now) _ c.in-Failed.ensures.adds
+    (e.Broke c.args.link) (Stands g.N.Node.stands g.N.Node.shown c.args.run.now) (g.W.World.trace c.args.world.now) _ c.in-Failed.ensures.adds refl
     c.broke.ensures.tells (unmoved c.args.run.now.records (e.Broke c.args.link) tt)
     (finish_breaks g.N.Node.stands g.N.Node.shown c.args.run.now c.args.link idle.due may) had
 

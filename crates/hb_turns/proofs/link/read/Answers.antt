@@ -15,44 +15,44 @@ use Rattle.hb_turns.proofs.link.read.Goals as goal
 pub returns-in-End-clause-keeps : goal.returns-in-End-clause-keeps
 returns-in-End-clause-keeps g c = λ idle had.
     let may : MayRead ((kept c.args.run.now.records.links).links c.args.link) =
-    c.may_read.ensures c.if-not-may_read.false in
+    c.may_read.ensures.may c.if-not-may_read.false in
     let mid = c.read_into.new.run in
     let may_mid : MayRead ((kept mid.records.links).links c.args.link) =
     subst (λ (r : Records). MayRead ((kept r.links).links c.args.link)) (sym c.read_into.ensures.records) may in
     let due : (g.N.Node.shown mid.node).due ≡ None = ap (λ n. (g.N.Node.shown n).due) c.read_into.ensures.node ∙ idle.due in
     let had_mid = same_run g.N.Node.stands g.N.Node.shown c.args.run.now mid (g.W.World.trace c.args.world.now) c.read_into.ensures.node
-    c.read_into.ensures.records had in
+    c.read_into.ensures.records c.read_into.ensures.keep had in
     let some : 0 < (g.N.Node.shown mid.node).wants c.args.link = search rules in
-    moved g.N.Node.stands g.N.Node.shown mid (record mid { node = c.ended.new.self }) (e.Ended c.args.link) (Stands g.N.Node.stands g.N.Node.shown mid) (g.W.World.trace c.args.world.now) _ c.in-End.ensures.adds
+    moved g.N.Node.stands g.N.Node.shown mid (record mid { node = c.ended.new.self }) (e.Ended c.args.link) (Stands g.N.Node.stands g.N.Node.shown mid) (g.W.World.trace c.args.world.now) _ c.in-End.ensures.adds refl
     c.ended.ensures.tells (ended_tracks mid.records c.args.link may_mid)
     (ended_comes g.N.Node.stands g.N.Node.shown mid c.args.link due may_mid some) had_mid
 
 pub returns-in-Balked-clause-keeps : goal.returns-in-Balked-clause-keeps
 returns-in-Balked-clause-keeps g c = λ idle had.
     let may : MayRead ((kept c.args.run.now.records.links).links c.args.link) =
-    c.may_read.ensures c.if-not-may_read.false in
+    c.may_read.ensures.may c.if-not-may_read.false in
     let mid = c.read_into.new.run in
     let may_mid : MayRead ((kept mid.records.links).links c.args.link) =
     subst (λ (r : Records). MayRead ((kept r.links).links c.args.link)) (sym c.read_into.ensures.records) may in
     let due : (g.N.Node.shown mid.node).due ≡ None = ap (λ n. (g.N.Node.shown n).due) c.read_into.ensures.node ∙ idle.due in
     let had_mid = same_run g.N.Node.stands g.N.Node.shown c.args.run.now mid (g.W.World.trace c.args.world.now) c.read_into.ensures.node
-    c.read_into.ensures.records had in
+    c.read_into.ensures.records c.read_into.ensures.keep had in
     rested g.N.Node.stands g.N.Node.shown mid (record mid { records = record mid.records { links = c.read_balked.new.self } })
-    (e.Balked (way.Read c.args.link)) (Stands g.N.Node.stands g.N.Node.shown mid) (g.W.World.trace c.args.world.now) _ c.in-Balked.ensures.adds refl
-    (λ trace. g.met.N.Node.rests mid.node trace (e.Balked (way.Read c.args.link))) (record { links = c.read_balked.ensures.follows; doors = λ d. refl; births_are = refl; wanting_is = refl })
+    (e.Balked (way.Read c.args.link)) (Stands g.N.Node.stands g.N.Node.shown mid) (g.W.World.trace c.args.world.now) _ c.in-Balked.ensures.adds refl refl
+    (λ notes trace. g.met.N.Node.rests notes mid.node trace (e.Balked (way.Read c.args.link))) (record { links = c.read_balked.ensures.follows; doors = λ d. refl; births_are = refl; wanting_is = refl })
     (read_balks g.N.Node.stands g.N.Node.shown mid c.args.link due may_mid) had_mid
 
 pub returns-in-Failed-clause-keeps : goal.returns-in-Failed-clause-keeps
 returns-in-Failed-clause-keeps g c = λ idle had.
     let may : MayRead ((kept c.args.run.now.records.links).links c.args.link) =
-    c.may_read.ensures c.if-not-may_read.false in
+    c.may_read.ensures.may c.if-not-may_read.false in
     let mid = c.read_into.new.run in
     let may_mid : MayRead ((kept mid.records.links).links c.args.link) =
     subst (λ (r : Records). MayRead ((kept r.links).links c.args.link)) (sym c.read_into.ensures.records) may in
     let due : (g.N.Node.shown mid.node).due ≡ None = ap (λ n. (g.N.Node.shown n).due) c.read_into.ensures.node ∙ idle.due in
     let had_mid = same_run g.N.Node.stands g.N.Node.shown c.args.run.now mid (g.W.World.trace c.args.world.now) c.read_into.ensures.node
-    c.read_into.ensures.records had in
-    moved g.N.Node.stands g.N.Node.shown mid (record mid { node = c.broke.new.self }) (e.Broke c.args.link) (Stands g.N.Node.stands g.N.Node.shown mid) (g.W.World.trace c.args.world.now) _ c.in-Failed.ensures.adds
+    c.read_into.ensures.records c.read_into.ensures.keep had in
+    moved g.N.Node.stands g.N.Node.shown mid (record mid { node = c.broke.new.self }) (e.Broke c.args.link) (Stands g.N.Node.stands g.N.Node.shown mid) (g.W.World.trace c.args.world.now) _ c.in-Failed.ensures.adds refl
     c.broke.ensures.tells (unmoved mid.records (e.Broke c.args.link) tt)
     (read_breaks g.N.Node.stands g.N.Node.shown mid c.args.link due may_mid) had_mid
 
@@ -60,18 +60,18 @@ pub returns-in-NoMemory-clause-keeps : goal.returns-in-NoMemory-clause-keeps
 returns-in-NoMemory-clause-keeps g c = λ idle had.
     untold g.N.Node.stands g.N.Node.shown c.read_into.new.run (g.W.World.trace c.args.world.now) _ c.in-NoMemory.ensures.adds
     (same_run g.N.Node.stands g.N.Node.shown c.args.run.now c.read_into.new.run (g.W.World.trace c.args.world.now)
-    c.read_into.ensures.node c.read_into.ensures.records had)
+    c.read_into.ensures.node c.read_into.ensures.records c.read_into.ensures.keep had)
 
 pub returns-in_ok-take_bytes-in-Got-clause-keeps : goal.returns-in_ok-take_bytes-in-Got-clause-keeps
 returns-in_ok-take_bytes-in-Got-clause-keeps g c = λ idle had.
     let may : MayRead ((kept c.args.run.now.records.links).links c.args.link) =
-    c.may_read.ensures c.if-not-may_read.false in
+    c.may_read.ensures.may c.if-not-may_read.false in
     let mid = c.read_into.new.run in
     let may_mid : MayRead ((kept mid.records.links).links c.args.link) =
     subst (λ (r : Records). MayRead ((kept r.links).links c.args.link)) (sym c.read_into.ensures.records) may in
     let due : (g.N.Node.shown mid.node).due ≡ None = ap (λ n. (g.N.Node.shown n).due) c.read_into.ensures.node ∙ idle.due in
     let had_mid = same_run g.N.Node.stands g.N.Node.shown c.args.run.now mid (g.W.World.trace c.args.world.now) c.read_into.ensures.node
-    c.read_into.ensures.records had in
+    c.read_into.ensures.records c.read_into.ensures.keep had in
     let within : c.min-most.result ≤ c.wants-wanted.result = search rules in
     let wanted : c.wants-wanted.result ≡ (g.N.Node.shown mid.node).wants c.args.link =
     c.wants-wanted.ensures ∙ ap (λ n. (g.N.Node.shown n).wants c.args.link) (sym c.read_into.ensures.node) in
@@ -80,7 +80,7 @@ returns-in_ok-take_bytes-in-Got-clause-keeps g c = λ idle had.
     subst (λ (w : ℕ). length (take c.in-Got.n mid.buffer.items) ≤ w) wanted
     (got_few c.in-Got.n c.min-most.result c.wants-wanted.result mid.buffer.items c.in-Got.ensures.within.1 within) in
     moved g.N.Node.stands g.N.Node.shown mid (record mid { node = c.take_bytes.new.self }) (e.Came c.args.link (take c.in-Got.n mid.buffer.items)) (Stands g.N.Node.stands g.N.Node.shown mid)
-    (g.W.World.trace c.args.world.now) _ c.in-Got.ensures.adds
+    (g.W.World.trace c.args.world.now) _ c.in-Got.ensures.adds refl
     (subst (λ (bs : List ℕ). Tells g.N.Node.stands g.N.Node.shown (e.Came c.args.link (take c.in-Got.n bs)) mid.node c.take_bytes.new.self)
     c.deref.ensures.value (c.in_ok-take_bytes-in-Got.ensures {u = tt}).tells)
     (came_tracks mid.records c.args.link _ may_mid) (came_comes g.N.Node.stands g.N.Node.shown mid c.args.link due may_mid _ some few) had_mid
@@ -88,13 +88,13 @@ returns-in_ok-take_bytes-in-Got-clause-keeps g c = λ idle had.
 pub returns-in_err-take_bytes-in-Got-clause-keeps : goal.returns-in_err-take_bytes-in-Got-clause-keeps
 returns-in_err-take_bytes-in-Got-clause-keeps g c = λ idle had.
     let may : MayRead ((kept c.args.run.now.records.links).links c.args.link) =
-    c.may_read.ensures c.if-not-may_read.false in
+    c.may_read.ensures.may c.if-not-may_read.false in
     let mid = c.read_into.new.run in
     let may_mid : MayRead ((kept mid.records.links).links c.args.link) =
     subst (λ (r : Records). MayRead ((kept r.links).links c.args.link)) (sym c.read_into.ensures.records) may in
     let due : (g.N.Node.shown mid.node).due ≡ None = ap (λ n. (g.N.Node.shown n).due) c.read_into.ensures.node ∙ idle.due in
     let had_mid = same_run g.N.Node.stands g.N.Node.shown c.args.run.now mid (g.W.World.trace c.args.world.now) c.read_into.ensures.node
-    c.read_into.ensures.records had in
+    c.read_into.ensures.records c.read_into.ensures.keep had in
     let within : c.min-most.result ≤ c.wants-wanted.result = search rules in
     let wanted : c.wants-wanted.result ≡ (g.N.Node.shown mid.node).wants c.args.link =
     c.wants-wanted.ensures ∙ ap (λ n. (g.N.Node.shown n).wants c.args.link) (sym c.read_into.ensures.node) in

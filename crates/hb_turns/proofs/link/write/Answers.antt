@@ -11,16 +11,16 @@ use Rattle.hb_turns.proofs.Ways.{went_comes, went_tracks, write_balks, write_bre
 use Rattle.hb_turns.proofs.link.write.Goals as goal
 
 pub returns-in-Took-clause-keeps : goal.returns-in-Took-clause-keeps
-returns-in-Took-clause-keeps g c = λ idle had.
+returns-in-Took-clause-keeps g c = λ due had.
     let may : MayWrite ((kept c.args.run.now.records.links).links c.args.link) =
-    c.may_write.ensures c.if-not-may_write.false in
+    c.may_write.ensures.may c.if-not-may_write.false in
     let adds = subst (λ (bs : List ℕ). g.W.World.trace c.write.new.self ≡ with_entries (e.Went c.args.link (take c.in-Took.n bs) ∷ []) (g.W.World.trace c.args.world.now))
     c.output-output.ensures c.in-Took.ensures.adds in
     let few : c.in-Took.n ≤ length ((g.N.Node.shown c.args.run.now.node).output c.args.link) = subst (λ (bs : List ℕ). c.in-Took.n ≤ length bs) c.output-output.ensures c.in-Took.ensures.within.1 in
     moved g.N.Node.stands g.N.Node.shown c.args.run.now (record c.args.run.now { node = c.wrote.new.self })
-    (e.Went c.args.link (take c.in-Took.n ((g.N.Node.shown c.args.run.now.node).output c.args.link))) (Stands g.N.Node.stands g.N.Node.shown c.args.run.now) (g.W.World.trace c.args.world.now) _ adds
+    (e.Went c.args.link (take c.in-Took.n ((g.N.Node.shown c.args.run.now.node).output c.args.link))) (Stands g.N.Node.stands g.N.Node.shown c.args.run.now) (g.W.World.trace c.args.world.now) _ adds refl
     c.wrote.ensures.tells (went_tracks c.args.run.now.records c.args.link _ may)
-    (went_comes g.N.Node.stands g.N.Node.shown c.args.run.now c.args.link idle.due may c.in-Took.n c.in-Took.ensures.within.0 few) had
+    (went_comes g.N.Node.stands g.N.Node.shown c.args.run.now c.args.link due may c.in-Took.n c.in-Took.ensures.within.0 few) had
 
 pub returns-in-Took-clause-watched : goal.returns-in-Took-clause-watched
 returns-in-Took-clause-watched g c =
@@ -28,14 +28,14 @@ returns-in-Took-clause-watched g c =
     c.wrote.ensures.stirs
 
 pub returns-in-Balked-clause-keeps : goal.returns-in-Balked-clause-keeps
-returns-in-Balked-clause-keeps g c = λ idle had.
+returns-in-Balked-clause-keeps g c = λ due had.
     let may : MayWrite ((kept c.args.run.now.records.links).links c.args.link) =
-    c.may_write.ensures c.if-not-may_write.false in
+    c.may_write.ensures.may c.if-not-may_write.false in
     rested g.N.Node.stands g.N.Node.shown c.args.run.now
     (record c.args.run.now { records = record c.args.run.now.records { links = c.write_balked.new.self } })
-    (e.Balked (way.Write c.args.link)) (Stands g.N.Node.stands g.N.Node.shown c.args.run.now) (g.W.World.trace c.args.world.now) _ c.in-Balked.ensures.adds refl
-    (λ trace. g.met.N.Node.rests c.args.run.now.node trace (e.Balked (way.Write c.args.link))) (record { links = c.write_balked.ensures.follows; doors = λ d. refl; births_are = refl; wanting_is = refl })
-    (write_balks g.N.Node.stands g.N.Node.shown c.args.run.now c.args.link idle.due may) had
+    (e.Balked (way.Write c.args.link)) (Stands g.N.Node.stands g.N.Node.shown c.args.run.now) (g.W.World.trace c.args.world.now) _ c.in-Balked.ensures.adds refl refl
+    (λ notes trace. g.met.N.Node.rests notes c.args.run.now.node trace (e.Balked (way.Write c.args.link))) (record { links = c.write_balked.ensures.follows; doors = λ d. refl; births_are = refl; wanting_is = refl })
+    (write_balks g.N.Node.stands g.N.Node.shown c.args.run.now c.args.link due may) had
 
 pub returns-in-Balked-clause-watched : goal.returns-in-Balked-clause-watched
 returns-in-Balked-clause-watched g c =
@@ -43,13 +43,13 @@ returns-in-Balked-clause-watched g c =
     c.write_balked.ensures.follows c.write_balked.ensures.stays.listed
 
 pub returns-in-Failed-clause-keeps : goal.returns-in-Failed-clause-keeps
-returns-in-Failed-clause-keeps g c = λ idle had.
+returns-in-Failed-clause-keeps g c = λ due had.
     let may : MayWrite ((kept c.args.run.now.records.links).links c.args.link) =
-    c.may_write.ensures c.if-not-may_write.false in
+    c.may_write.ensures.may c.if-not-may_write.false in
     moved g.N.Node.stands g.N.Node.shown c.args.run.now (record c.args.run.now { node = c.broke.new.self })
-    (e.Broke c.args.link) (Stands g.N.Node.stands g.N.Node.shown c.args.run.now) (g.W.World.trace c.args.world.now) _ c.in-Failed.ensures.adds
+    (e.Broke c.args.link) (Stands g.N.Node.stands g.N.Node.shown c.args.run.now) (g.W.World.trace c.args.world.now) _ c.in-Failed.ensures.adds refl
     c.broke.ensures.tells (unmoved c.args.run.now.records (e.Broke c.args.link) tt)
-    (write_breaks g.N.Node.stands g.N.Node.shown c.args.run.now c.args.link idle.due may) had
+    (write_breaks g.N.Node.stands g.N.Node.shown c.args.run.now c.args.link due may) had
 
 pub returns-in-Failed-clause-watched : goal.returns-in-Failed-clause-watched
 returns-in-Failed-clause-watched g c =
@@ -57,4 +57,4 @@ returns-in-Failed-clause-watched g c =
     c.broke.ensures.stirs
 
 pub returns-in-NoMemory-clause-keeps : goal.returns-in-NoMemory-clause-keeps
-returns-in-NoMemory-clause-keeps g c = λ idle had. untold g.N.Node.stands g.N.Node.shown c.args.run.now (g.W.World.trace c.args.world.now) _ c.in-NoMemory.ensures.adds had
+returns-in-NoMemory-clause-keeps g c = λ due had. untold g.N.Node.stands g.N.Node.shown c.args.run.now (g.W.World.trace c.args.world.now) _ c.in-NoMemory.ensures.adds had

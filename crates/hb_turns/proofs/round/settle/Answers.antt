@@ -10,4 +10,4 @@ returns-then-is_worth-clause-watched g c =
 pub returns-else-is_worth-clause-watched : goal.returns-else-is_worth-clause-watched
 returns-else-is_worth-clause-watched g c =
     watched-popped (kept c.args.run.now.records.links) (kept c.pop.new.self) (g.N.Node.shown c.args.run.now.node) c.in-Some.link
-    c.pop.ensures.links c.in-Some.ensures.some c.pop.ensures.listed (c.is_worth.ensures c.if-is_worth.false)
+    c.pop.ensures.links c.in-Some.ensures.some c.pop.ensures.listed (c.is_worth.ensures.rests c.if-is_worth.false)

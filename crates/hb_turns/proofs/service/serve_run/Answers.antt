@@ -1,13 +1,26 @@
-use Rattle.hb_turns.specs.Stands.{Stands, Obeys}
-use Rattle.hb_turns.proofs.Holding.{each}
+use Rattle.std.proofs.Common.{Bool, IfSome, ◌∙◌, ap, is_err, subst, sym}
+use Rattle.hb_base.specs.declared.cause.Cause.{Cause}
+use Rattle.hb_turns.specs.Ends.{cause_at}
+use Rattle.hb_turns.specs.Reckons.{Closes}
+use Rattle.hb_turns.specs.Served.{IsServed}
+use Rattle.hb_turns.specs.declared.served.ServeEnd.{ServeEnd}
+use Rattle.hb_turns.proofs.Closing.{is_served, left_obeys}
 use Rattle.hb_turns.proofs.service.serve_run.Goals as goal
 
-pub returns-in-Ok-clause-keeps : goal.returns-in-Ok-clause-keeps
-returns-in-Ok-clause-keeps g c = λ watched had.
-    c.close_all.ensures.keeps
-    (each (Stands g.N.Node.stands g.N.Node.shown c.turns.new.run) (Obeys g.N.Node.stands g.N.Node.shown c.turns.new.run.records) (g.W.World.trace c.turns.new.world) (λ trace s. s.obeys)
-    ((c.in-Ok.ensures {u = tt}).keeps watched had))
-
-pub returns-in-Err-clause-keeps : goal.returns-in-Err-clause-keeps
-returns-in-Err-clause-keeps g c = λ watched had.
-    c.close_all-in-Err.ensures.keeps ((c.in-Err.ensures {u = tt}).keeps watched had)
+pub returns-clause-served : goal.returns-clause-served
+returns-clause-served g c = λ watched had.
+    let new = c.end_run-noted.new.run in
+    let left_so = c.run_on.ensures.keeps watched had in
+    let cause_is = c.cause_at.ensures ∙ ap cause_at c.end_of-end.ensures in
+    let closes = subst (λ (why : Cause). Closes why (g.W.World.trace c.run_on.new.world) (g.W.World.trace c.end_run-noted.new.world)) cause_is
+    c.end_run-noted.ensures.closes in
+    let served = is_served g.N.Node.stands g.N.Node.shown c.args.words c.run_on.result c.end_run-noted.result c.run_on.new.run new
+    (g.W.World.trace c.run_on.new.world) (g.W.World.trace c.end_run-noted.new.world) left_so (c.run_on.ensures.finishes had) closes
+    (c.end_run-noted.ensures.obeys (left_obeys g.N.Node.stands g.N.Node.shown c.run_on.result c.run_on.new.run _ left_so))
+    c.end_run-noted.ensures.none c.end_run-noted.ensures.noted in
+    subst (λ (b : Bool). IfSome (g.W.World.trace c.end_run-noted.new.world) (IsServed g.N.Node.stands g.N.Node.shown c.args.words
+    (record { end = c.end_of-end.result; totals = record { links = new.records.births }; wanting = new.records.wanting; unkept = b }) new.keep))
+    (sym c.is_err.ensures.value)
+    (subst (λ (end : ServeEnd). IfSome (g.W.World.trace c.end_run-noted.new.world) (IsServed g.N.Node.stands g.N.Node.shown c.args.words
+    (record { end = end; totals = record { links = new.records.births }; wanting = new.records.wanting; unkept = is_err c.end_run-noted.result }) new.keep))
+    (sym c.end_of-end.ensures) served)

@@ -1,18 +1,70 @@
-use Rattle.std.proofs.Common.{Option, subst, ◌∙◌}
+use Rattle.std.proofs.Common.{◌+◌, Option, IfSome, inl, subst, ◌∙◌, rules, arith}
 use Rattle.hb_base.specs.Count.{Counts}
 use Rattle.hb_turns.specs.Ends.{is_fault_by}
+use Rattle.hb_turns.specs.Reckons.{TurnedTo}
 use Rattle.hb_turns.specs.declared.served.ServeEnd.{ServeEnd}
+use Rattle.hb_turns.specs.declared.served.ServeEnd.TheVariants as ends
+use Rattle.hb_turns.proofs.Counting.{reckons_adds, lack_finishes, lack_ends, spent_finishes, ends_so, paid_on, paid_all}
 use Rattle.hb_turns.proofs.turns.turns.Goals as goal
+
+pub loop-turn-init : goal.loop-turn-init
+loop-turn-init g c =
+    let carried = c.in_ok-carry.ensures {u = tt} in
+    record {
+      idle = carried.idle;
+      watched = carried.watched;
+      kept = λ watched had. carried.keeps had;
+      reckoned = (0, inl (omega arith), λ words had. reckons_adds words c.args.ticks 0 0 _ _ _ carried.adds had);
+      faults = carried.faults;
+      follows = carried.follows;
+    }
 
 pub loop-turn-preserved : goal.loop-turn-preserved
 loop-turn-preserved g c =
     let at = c.loop-turn.invariant in
     let turned = c.in_ok-end.ensures {u = tt} in
+    let made = turned.turned c.loop-turn._turn at.reckoned.0 at.reckoned.1 in
     record {
-      idle = turned.idle at.idle;
+      idle = turned.idle c.in-None.is at.idle;
       watched = λ watched. turned.watched (at.watched watched);
       kept = λ watched had. turned.keeps at.idle (at.watched watched) (at.kept watched had);
+      reckoned = (
+        made.0,
+        paid_on (c.loop-turn._turn + 1) made.0 c.turn.new.run.records c.in_ok-end.field-0 c.in-None.is made.1,
+        λ words had.
+            subst (λ (o : Option ServeEnd). IfSome (g.W.World.trace c.turn.new.world)
+            (TurnedTo o words c.turn.new.ticks made.0 (c.loop-turn._turn + 1)))
+            c.in-None.is (made.2 words c.loop-turn._turn (at.reckoned.2 words had)),
+      );
       faults = subst (λ (o : Option ServeEnd). Counts (g.W.World.faults c.loop-turn.world) (g.W.World.faults c.turn.new.world)
           (is_fault_by o)) c.in-None.is turned.faults ∙ at.faults;
       follows = turned.follows ∙ at.follows;
     }
+
+pub returns-in_err-carry-clause-finishes : goal.returns-in_err-carry-clause-finishes
+returns-in_err-carry-clause-finishes g c = λ words turns_are had.
+    lack_ends c.from_residual.result words _ (search rules)
+    (lack_finishes words c.args.ticks 0 0 _ (omega arith)
+    (reckons_adds words c.args.ticks 0 0 _ _ _ (c.in_err-carry.ensures {u = tt}).adds had))
+
+pub returns-in_err-end-clause-finishes : goal.returns-in_err-end-clause-finishes
+returns-in_err-end-clause-finishes g c = λ words turns_are had.
+    let at = c.loop-turn.invariant in
+    lack_ends c.from_residual-in_err-end.result words _ (search rules)
+    (ends_so words ends.NoMemory (c.loop-turn._turn + 1) _ (omega (arith, c.loop-turn-test.true, turns_are))
+    (((c.in_err-end.ensures {u = tt}).turned c.loop-turn._turn at.reckoned.0 at.reckoned.1).2 words c.loop-turn._turn (at.reckoned.2 words had)))
+
+pub returns-in-Some-clause-finishes : goal.returns-in-Some-clause-finishes
+returns-in-Some-clause-finishes g c = λ words turns_are had.
+    let at = c.loop-turn.invariant in
+    let made = (c.in_ok-end.ensures {u = tt}).turned c.loop-turn._turn at.reckoned.0 at.reckoned.1 in
+    ends_so words c.in-Some.end (c.loop-turn._turn + 1) _ (omega (arith, c.loop-turn-test.true, turns_are))
+    (subst (λ (o : Option ServeEnd). IfSome (g.W.World.trace c.turn.new.world) (TurnedTo o words c.turn.new.ticks made.0 (c.loop-turn._turn + 1)))
+    c.in-Some.is (made.2 words c.loop-turn._turn (at.reckoned.2 words had)))
+
+pub returns-clause-finishes : goal.returns-clause-finishes
+returns-clause-finishes g c = λ words turns_are had.
+    let at = c.loop-turn.invariant.reckoned in
+    let paid = paid_all c.loop-turn._turn at.0 c.loop-turn.run.records at.1 in
+    spent_finishes words c.loop-turn.ticks at.0 c.loop-turn._turn _ (omega (arith, c.loop-turn.auto._turn-end, turns_are))
+    (omega (arith, paid, c.loop-turn-test.false, turns_are)) (at.2 words had)

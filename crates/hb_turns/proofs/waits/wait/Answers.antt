@@ -1,10 +1,13 @@
-use Rattle.std.proofs.Common.{List, refl, rules, subst}
+use Rattle.std.proofs.Common.{◌+◌, List, refl, subst, arith}
 use Rattle.hb_world.specs.declared.entry.Entry.TheVariants as e
 use Rattle.hb_world.specs.declared.entry.ReadyItem.{ReadyItem}
 use Rattle.hb_world.specs.declared.entry.Woken.TheVariants as woken
 use Rattle.hb_turns.specs.Stands.{Stands}
 use Rattle.hb_turns.specs.Woken.{Wakes}
-use Rattle.hb_turns.proofs.Holding.{left, untold, rested}
+use Rattle.hb_turns.specs.Reckons.{Reckons}
+use Rattle.hb_turns.specs.declared.served.ServeEnd.TheVariants as ends
+use Rattle.hb_turns.proofs.Counting.{wait_on, tick_behind, wait_ends, lack_finishes, reckons_fewer, ends_within, no_fault}
+use Rattle.hb_turns.proofs.Holding.{same, untold, rested}
 use Rattle.hb_turns.proofs.Waking.{wakes-tracks, wait_comes, wait_ticks}
 use Rattle.hb_turns.proofs.waits.wait.Goals as goal
 
@@ -13,8 +16,8 @@ returns-in-Woke-clause-keeps g c = λ idle quiet watched had.
     let wakes : Wakes c.args.run.now.records c.wake.new.records c.wait.new.ready =
     subst (λ (xs : List ReadyItem). Wakes c.args.run.now.records c.wake.new.records xs) c.items.ensures.items c.wake.ensures.wakes in
     rested g.N.Node.stands g.N.Node.shown c.args.run.now (record c.args.run.now { records = c.wake.new.records })
-    (e.Wait c.wait.new.ready woken.Woke) (Stands g.N.Node.stands g.N.Node.shown c.args.run.now) (g.W.World.trace c.args.world.now) _ c.in-Woke.ensures.adds refl
-    (λ trace. g.met.N.Node.rests c.args.run.now.node trace (e.Wait c.wait.new.ready woken.Woke))
+    (e.Wait c.wait.new.ready woken.Woke) (Stands g.N.Node.stands g.N.Node.shown c.args.run.now) (g.W.World.trace c.args.world.now) _ c.in-Woke.ensures.adds refl refl
+    (λ notes trace. g.met.N.Node.rests notes c.args.run.now.node trace (e.Wait c.wait.new.ready woken.Woke))
     (wakes-tracks c.args.run.now.records c.wake.new.records c.wait.new.ready woken.Woke wakes)
     (wait_comes g.N.Node.stands g.N.Node.shown c.args.run.now c.wait.new.ready woken.Woke idle quiet watched) had
 
@@ -23,8 +26,8 @@ returns-in-Stop-clause-keeps g c = λ idle quiet watched had.
     let wakes : Wakes c.args.run.now.records c.wake-in-Stop.new.records c.wait.new.ready =
     subst (λ (xs : List ReadyItem). Wakes c.args.run.now.records c.wake-in-Stop.new.records xs) c.items-in-Stop.ensures.items c.wake-in-Stop.ensures.wakes in
     rested g.N.Node.stands g.N.Node.shown c.args.run.now (record c.args.run.now { records = c.wake-in-Stop.new.records })
-    (e.Wait c.wait.new.ready woken.Stop) (Stands g.N.Node.stands g.N.Node.shown c.args.run.now) (g.W.World.trace c.args.world.now) _ c.in-Stop.ensures.adds refl
-    (λ trace. g.met.N.Node.rests c.args.run.now.node trace (e.Wait c.wait.new.ready woken.Stop))
+    (e.Wait c.wait.new.ready woken.Stop) (Stands g.N.Node.stands g.N.Node.shown c.args.run.now) (g.W.World.trace c.args.world.now) _ c.in-Stop.ensures.adds refl refl
+    (λ notes trace. g.met.N.Node.rests notes c.args.run.now.node trace (e.Wait c.wait.new.ready woken.Stop))
     (wakes-tracks c.args.run.now.records c.wake-in-Stop.new.records c.wait.new.ready woken.Stop wakes)
     (wait_comes g.N.Node.stands g.N.Node.shown c.args.run.now c.wait.new.ready woken.Stop idle quiet watched) had
 
@@ -33,36 +36,53 @@ returns-in-Failed-clause-keeps g c = λ idle quiet watched had.
     let wakes : Wakes c.args.run.now.records c.wake-in-Failed.new.records c.wait.new.ready =
     subst (λ (xs : List ReadyItem). Wakes c.args.run.now.records c.wake-in-Failed.new.records xs) c.items-in-Failed.ensures.items c.wake-in-Failed.ensures.wakes in
     rested g.N.Node.stands g.N.Node.shown c.args.run.now (record c.args.run.now { records = c.wake-in-Failed.new.records })
-    (e.Wait c.wait.new.ready woken.Failed) (Stands g.N.Node.stands g.N.Node.shown c.args.run.now) (g.W.World.trace c.args.world.now) _ c.in-Failed.ensures.adds refl
-    (λ trace. g.met.N.Node.rests c.args.run.now.node trace (e.Wait c.wait.new.ready woken.Failed))
+    (e.Wait c.wait.new.ready woken.Failed) (Stands g.N.Node.stands g.N.Node.shown c.args.run.now) (g.W.World.trace c.args.world.now) _ c.in-Failed.ensures.adds refl refl
+    (λ notes trace. g.met.N.Node.rests notes c.args.run.now.node trace (e.Wait c.wait.new.ready woken.Failed))
     (wakes-tracks c.args.run.now.records c.wake-in-Failed.new.records c.wait.new.ready woken.Failed wakes)
     (wait_comes g.N.Node.stands g.N.Node.shown c.args.run.now c.wait.new.ready woken.Failed idle quiet watched) had
 
-pub returns-in_ok-tick-in-Tick-clause-keeps : goal.returns-in_ok-tick-in-Tick-clause-keeps
-returns-in_ok-tick-in-Tick-clause-keeps g c = λ idle quiet watched had.
+pub returns-in-Tick-clause-keeps : goal.returns-in-Tick-clause-keeps
+returns-in-Tick-clause-keeps g c = λ idle quiet watched had.
     let wakes : Wakes c.args.run.now.records c.wake-in-Tick.new.records c.wait.new.ready =
     subst (λ (xs : List ReadyItem). Wakes c.args.run.now.records c.wake-in-Tick.new.records xs) c.items-in-Tick.ensures.items
     c.wake-in-Tick.ensures.wakes in
     let ticked = wait_ticks g.N.Node.stands g.N.Node.shown c.args.run.now (record c.args.run.now { records = c.wake-in-Tick.new.records })
-    c.wait.new.ready (g.W.World.trace c.args.world.now) (g.W.World.trace c.wait.new.self) c.in-Tick.ensures.adds refl
-    (λ trace. g.met.N.Node.rests c.args.run.now.node trace (e.Wait c.wait.new.ready woken.Tick))
+    c.wait.new.ready (g.W.World.trace c.args.world.now) (g.W.World.trace c.wait.new.self) c.in-Tick.ensures.adds refl refl
+    (λ notes trace. g.met.N.Node.rests notes c.args.run.now.node trace (e.Wait c.wait.new.ready woken.Tick))
     (wakes-tracks c.args.run.now.records c.wake-in-Tick.new.records c.wait.new.ready woken.Tick wakes)
     (wait_comes g.N.Node.stands g.N.Node.shown c.args.run.now c.wait.new.ready woken.Tick idle quiet watched) had in
-    (c.in_ok-tick-in-Tick.ensures {u = tt}).keeps idle.due ticked
-
-pub returns-in_err-tick-in-Tick-clause-keeps : goal.returns-in_err-tick-in-Tick-clause-keeps
-returns-in_err-tick-in-Tick-clause-keeps g c = λ idle quiet watched had.
-    let wakes : Wakes c.args.run.now.records c.wake-in-Tick.new.records c.wait.new.ready =
-    subst (λ (xs : List ReadyItem). Wakes c.args.run.now.records c.wake-in-Tick.new.records xs) c.items-in-Tick.ensures.items
-    c.wake-in-Tick.ensures.wakes in
-    let ticked = wait_ticks g.N.Node.stands g.N.Node.shown c.args.run.now (record c.args.run.now { records = c.wake-in-Tick.new.records })
-    c.wait.new.ready (g.W.World.trace c.args.world.now) (g.W.World.trace c.wait.new.self) c.in-Tick.ensures.adds refl
-    (λ trace. g.met.N.Node.rests c.args.run.now.node trace (e.Wait c.wait.new.ready woken.Tick))
-    (wakes-tracks c.args.run.now.records c.wake-in-Tick.new.records c.wait.new.ready woken.Tick wakes)
-    (wait_comes g.N.Node.stands g.N.Node.shown c.args.run.now c.wait.new.ready woken.Tick idle quiet watched) had in
-    left g.N.Node.stands g.N.Node.shown c.from_residual.result c.tick.new.run _ (search rules)
-    ((c.in_err-tick-in-Tick.ensures {u = tt}).keeps idle.due ticked)
+    c.tick.ensures.keeps idle.due ticked
 
 pub returns-in-NoMemory-clause-keeps : goal.returns-in-NoMemory-clause-keeps
 returns-in-NoMemory-clause-keeps g c = λ idle quiet watched had.
     untold g.N.Node.stands g.N.Node.shown c.args.run.now (g.W.World.trace c.args.world.now) _ c.in-NoMemory.ensures.adds had
+
+pub returns-in-Woke-clause-turned : goal.returns-in-Woke-clause-turned
+returns-in-Woke-clause-turned g c = λ words n w.
+    wait_on words c.args.ticks.now n w c.wait.new.ready woken.Woke _ _ c.in-Woke.ensures.adds refl
+
+pub returns-in-Tick-clause-turned : goal.returns-in-Tick-clause-turned
+returns-in-Tick-clause-turned g c = λ words n w had.
+    c.tick.ensures.turned words (n + 2) (w + 1)
+    (tick_behind words c.args.ticks.now n w c.wait.new.ready _ _ c.in-Tick.ensures.adds had)
+
+pub returns-in-Tick-clause-faults : goal.returns-in-Tick-clause-faults
+returns-in-Tick-clause-faults g c = no_fault _ _ _ _ c.tick.ensures.stops c.tick.ensures.faults c.in-Tick.ensures.counts
+
+pub returns-in-Stop-clause-turned : goal.returns-in-Stop-clause-turned
+returns-in-Stop-clause-turned g c = λ words n w had.
+    ends_within words ends.Stopped (w + 1) _
+    (λ within. wait_ends words c.args.ticks.now n w c.wait.new.ready woken.Stop ends.Stopped _ _ c.in-Stop.ensures.adds refl within had)
+
+pub returns-in-Failed-clause-turned : goal.returns-in-Failed-clause-turned
+returns-in-Failed-clause-turned g c = λ words n w had.
+    ends_within words ends.WorldFault (w + 1) _
+    (λ within. wait_ends words c.args.ticks.now n w c.wait.new.ready woken.Failed ends.WorldFault _ _ c.in-Failed.ensures.adds refl within had)
+
+pub returns-in-NoMemory-clause-turned : goal.returns-in-NoMemory-clause-turned
+returns-in-NoMemory-clause-turned g c = λ words n w had.
+    ends_within words ends.NoMemory (w + 1) _
+    (λ within. lack_finishes words c.args.ticks.now n (w + 1) _ within
+    (same (Reckons words c.args.ticks.now n w) (Reckons words c.args.ticks.now n (w + 1)) (g.W.World.trace c.args.world.now) _
+    c.in-NoMemory.ensures.adds
+    (λ trace r. reckons_fewer words c.args.ticks.now n n w (w + 1) trace (omega arith) (omega arith) r) had))

@@ -1,0 +1,170 @@
+-- The end of a run.
+use Rattle.std.proofs.Common.{◌≡◌, ℕ, Bool, true, false, List, [], ◌∷◌, ◌++◌, Option, Some, None, Result, Ok, Err, IfSome, IsSome, OnOk, is_err, refl, sym, ◌∙◌, subst}
+use Rattle.std.specs.List.{All}
+use Rattle.hb_base.specs.declared.cause.Cause.{Cause}
+use Rattle.hb_base.specs.declared.note.Note.{Note}
+use Rattle.hb_world.specs.Calls.{with_closed}
+use Rattle.hb_world.specs.Trace.{lives}
+use Rattle.hb_world.specs.declared.entry.Entry.{Entry}
+use Rattle.hb_world.specs.declared.entry.Entry.TheVariants as e
+use Rattle.hb_ready.specs.Registry.{kept}
+use Rattle.hb_turns.specs.Ends.{ClosesFor, cause_at, end_of}
+use Rattle.hb_turns.specs.Notes.{Holds, HoldsNotes}
+use Rattle.hb_turns.specs.Reckons.{Closes, Finishes}
+use Rattle.hb_turns.specs.Served.{IsStoodFor, IsOver, IsServed}
+use Rattle.hb_turns.specs.Shown.{Shown, StandsForNone}
+use Rattle.hb_turns.specs.Stands.{Obeys, Stands, StandsAlone, Left, Tracks}
+use Rattle.hb_turns.specs.declared.run.Records.{Records}
+use Rattle.hb_turns.specs.declared.run.Run.{Run}
+use Rattle.hb_turns.specs.declared.served.Served.{Served}
+use Rattle.hb_turns.specs.declared.served.ServeEnd.{ServeEnd}
+use Rattle.hb_turns.specs.declared.served.ServeEnd.TheVariants as ends
+use Rattle.hb_turns.specs.declared.words.ServeWords.{ServeWords}
+use Rattle.hb_turns.proofs.Holding.{each, on_close, obeys-grows}
+use Rattle.hb_turns.proofs.Serving.{none_lives, some_lives}
+
+-- what is told of a run
+abbrev pub outcome : ServeEnd → Records → Bool → Served
+outcome end r unkept = record { end = end; totals = record { links = r.births }; wanting = r.wanting; unkept = unkept }
+
+module _ {N : Type 0} (stands : List Note → N → List Entry → Type 0) (shown : N → Shown) where
+  -- a link is closed that lives
+  pub obeys_closed : (r new : Records) (l : ℕ) (cause : Cause) (before behind : Option (List Entry)) → behind ≡ with_closed l cause before
+      → IsSome ((kept r.links).links l) → Tracks r new (e.Closed l cause) → IfSome before (Obeys stands shown r)
+      → IfSome behind (Obeys stands shown new)
+  obeys_closed r new l cause before behind adds some tracks =
+      on_close (Obeys stands shown r) (Obeys stands shown new) l cause before behind adds
+      (λ trace o. let alive = some_lives stands shown r l trace some o in (
+        alive,
+        obeys-grows stands shown r new trace (e.Closed l cause) (record { numbers = alive; awake = tt; settled = tt }) tracks o,
+      ))
+
+  -- as the node says that it is to be
+  pub stands_closed : (run : Run N) (node : N) (new : Records) (l : ℕ) (cause : Cause) (before behind : Option (List Entry))
+      → behind ≡ with_closed l cause before
+      → ((notes : List Note) (trace : List Entry) → stands notes run.node trace
+      → (lives l trace ≡ true) × stands notes node (trace ++ e.Closed l cause ∷ []))
+      → Tracks run.records new (e.Closed l cause) → IfSome before (Stands stands shown run)
+      → IfSome behind (Stands stands shown (record run { node = node; records = new }))
+  stands_closed run node new l cause before behind adds acts tracks =
+      on_close (Stands stands shown run) (Stands stands shown (record run { node = node; records = new })) l cause before behind adds
+      (λ trace s. let it = acts s.notes trace s.node in (
+        it.0,
+        record {
+          notes = s.notes;
+          node = it.1;
+          kept_are = s.kept_are;
+          obeys = obeys-grows stands shown run.records new trace (e.Closed l cause) (record { numbers = it.0; awake = tt; settled = tt })
+              tracks s.obeys;
+        },
+      ))
+
+  -- the node stands for what it stood for
+  pub stands_as : (run : Run N) (node : N) (told : Option (List Entry))
+      → ((notes : List Note) (trace : List Entry) → stands notes run.node trace → stands notes node trace)
+      → IfSome told (Stands stands shown run) → IfSome told (Stands stands shown (record run { node = node }))
+  stands_as run node told as_before =
+      each (Stands stands shown run) (Stands stands shown (record run { node = node })) told
+      (λ trace s. record { notes = s.notes; node = as_before s.notes trace s.node; kept_are = s.kept_are; obeys = s.obeys })
+
+  -- each close that was due is made
+  pub stands_alone : (run : Run N) (told : Option (List Entry)) → StandsForNone stands run.node → IfSome told (Stands stands shown run)
+      → IfSome told (StandsAlone stands shown run)
+  stands_alone run told none =
+      each (Stands stands shown run) (StandsAlone stands shown run) told
+      (λ trace s. record { stands_for = s; none = none s.notes trace s.node })
+
+  -- then the loop closes none by itself
+  pub alone_closed : (run new : Run N) (l : ℕ) (cause : Cause) (before behind : Option (List Entry)) → behind ≡ with_closed l cause before
+      → IsSome ((kept run.records.links).links l) → IfSome before (StandsAlone stands shown run)
+      → IfSome behind (StandsAlone stands shown new)
+  alone_closed run new l cause before behind adds some =
+      on_close (StandsAlone stands shown run) (StandsAlone stands shown new) l cause before behind adds
+      (λ trace a. absurd
+      (let dead = a.none l in
+      let alive : lives l trace ≡ true = some_lives stands shown run.records l trace some a.stands_for.obeys in
+      cc))
+
+  -- each note was taken
+  holds : (k : Option (List Note)) (notes : List Note) (n : N) (trace : List Entry) → Holds k notes → (shown n).noted ≡ []
+      → stands notes n trace → HoldsNotes stands shown k trace
+  holds None notes n trace are none had = tt
+  holds (Some taken) notes n trace are none had =
+      record { node = n; stands_for = subst (λ (ns : List Note). stands ns n trace) (sym are) had; none_waits = none }
+
+  pub notes_held : {A E : Type 0} (r : Result A E) (mid new : Run N) (first behind : Option (List Entry))
+      → (IfSome first (Stands stands shown mid) → IfSome behind (Left stands shown r new))
+      → OnOk r ((shown new.node).noted ≡ [])
+      → OnOk r (IfSome first (Stands stands shown mid) → IfSome behind (HoldsNotes stands shown new.keep))
+  notes_held (Ok x) mid new first behind so none =
+      λ had. each (Stands stands shown new) (HoldsNotes stands shown new.keep) behind
+      (λ trace s. holds new.keep s.notes new.node trace s.kept_are none s.node) (so had)
+  notes_held (Err why) mid new first behind so none = tt
+
+  stood : (end : ServeEnd) (notes : List Note) (n : N) (trace : List Entry) → stands notes n trace → IsStoodFor stands end trace
+  stood ends.Stopped notes n trace had = (notes, n, had)
+  stood ends.WorldFault notes n trace had = (notes, n, had)
+  stood ends.TurnsSpent notes n trace had = (notes, n, had)
+  stood ends.NoMemory notes n trace had = tt
+
+  stood_or : {E : Type 0} (r : Result ServeEnd E) (run : Run N) (trace : List Entry) → Left stands shown r run trace
+      → IsStoodFor stands (end_of r) trace
+  stood_or (Ok end) run trace s = stood end s.notes run.node trace s.node
+  stood_or (Err why) run trace o = tt
+
+  -- where memory lacked too
+  pub left_obeys : {A E : Type 0} (r : Result A E) (run : Run N) (told : Option (List Entry)) → IfSome told (Left stands shown r run)
+      → IfSome told (Obeys stands shown run.records)
+  left_obeys (Ok x) run told had = each (Stands stands shown run) (Obeys stands shown run.records) told (λ trace s. s.obeys) had
+  left_obeys (Err why) run told had = had
+
+  -- the closes at the end are those of a run that is over
+  over : (words : ServeWords) (end : ServeEnd) (more trace : List Entry) → Finishes words end trace → IsStoodFor stands end trace
+      → All (ClosesFor (cause_at end)) more → IsOver stands words end (trace ++ more)
+  over words end more trace finishes stood_for closes = record {
+    before = trace;
+    behind = more;
+    trace_is = refl;
+    finishes = finishes;
+    stood_for = stood_for;
+    closes = closes;
+  }
+
+  noted_or : {A E F : Type 0} (r : Result ServeEnd E) (b : Result A F) (run new : Run N) (trace : List Entry) (told : Option (List Entry))
+      → Left stands shown r run trace
+      → OnOk b (IfSome (Some trace) (Stands stands shown run) → IfSome told (HoldsNotes stands shown new.keep))
+      → (end_of r ≡ ends.NoMemory → ⊥) → is_err b ≡ false → IfSome told (HoldsNotes stands shown new.keep)
+  noted_or (Ok end) (Ok x) run new trace told s notes other kept = notes s
+  noted_or (Ok end) (Err why) run new trace told s notes other kept = absurd cc
+  noted_or (Err why) b run new trace told o notes other kept = absurd (other refl)
+
+  -- a run that is over
+  pub is_served : {A E F : Type 0} (words : ServeWords) (r : Result ServeEnd E) (b : Result A F) (run new : Run N)
+      (before behind : Option (List Entry)) → IfSome before (Left stands shown r run) → IfSome before (Finishes words (end_of r))
+      → Closes (cause_at (end_of r)) before behind → IfSome behind (Obeys stands shown new.records)
+      → ((l : ℕ) → (kept new.records.links).links l ≡ None)
+      → OnOk b (IfSome before (Stands stands shown run) → IfSome behind (HoldsNotes stands shown new.keep))
+      → IfSome behind (IsServed stands shown words
+      (outcome (end_of r) new.records (is_err b)) new.keep)
+  is_served words r b run new None behind left_so finishes closes obeys none notes =
+      subst (λ (o : Option (List Entry)). IfSome o (IsServed stands shown words
+      (outcome (end_of r) new.records (is_err b)) new.keep))
+      (sym closes.grows) tt
+  is_served words r b run new (Some trace) behind left_so finishes closes obeys none notes =
+      by behind closes.grows obeys notes
+    where
+      by : (told : Option (List Entry)) → told ≡ Some (trace ++ closes.more) → IfSome told (Obeys stands shown new.records)
+          → OnOk b (IfSome (Some trace) (Stands stands shown run) → IfSome told (HoldsNotes stands shown new.keep))
+          → IfSome told (IsServed stands shown words
+          (outcome (end_of r) new.records (is_err b)) new.keep)
+      by None is o notes = tt
+      by (Some full) is o notes = record {
+        awake = o.awake;
+        settled = o.settled;
+        closed = λ l. none_lives l full (sym (o.links l) ∙ none l);
+        over = subst (λ (es : List Entry). IsOver stands words (end_of r) es) (let same : full ≡ trace ++ closes.more = cc in sym same)
+            (over words (end_of r) closes.more trace finishes (stood_or r run trace left_so) closes.closes);
+        links_are = o.births_are;
+        wanting_is = o.wanting_is;
+        noted = noted_or r b run new trace (Some full) left_so notes;
+      }

@@ -1,0 +1,102 @@
+-- Small traces that no run leaves, and one that a run does.
+use Rattle.std.specs.Prelude.{◌≡◌, ℕ, false, true, List, [], ◌∷◌, Option, Some, None}
+use Rattle.hb_base.specs.declared.cause.Cause.TheVariants as cause
+use Rattle.hb_base.specs.declared.door.Door.TheVariants.{Inbound, Outbound}
+use Rattle.hb_base.specs.declared.door.Why.{Why}
+use Rattle.hb_base.specs.declared.note.Note.{Note}
+use Rattle.hb_base.specs.declared.target.Target.{Target}
+use Rattle.hb_world.specs.declared.entry.Entry.{Entry}
+use Rattle.hb_world.specs.declared.entry.Entry.TheVariants as e
+use Rattle.hb_world.specs.declared.entry.Way.TheVariants as way
+use Rattle.hb_world.specs.declared.entry.Woken.TheVariants as woken
+use Rattle.hb_turns.specs.Listens.{listen_at}
+use Rattle.hb_turns.specs.Served.{IsServed}
+use Rattle.hb_turns.specs.Shown.{Shown}
+use Rattle.hb_turns.specs.declared.served.Served.{Served}
+use Rattle.hb_turns.specs.declared.served.ServeEnd.TheVariants as ends
+use Rattle.hb_turns.specs.declared.words.ServeWords.{ServeWords}
+
+-- no door is given, and so many turns and ticks are stated
+abbrev pub asks : ℕ → Option ℕ → ServeWords
+asks turns ticks = record { doors = record { inbound = None; outbound = None; plain = None }; turns = turns; ticks = ticks }
+
+-- these doors are given
+abbrev pub asks_doors : Option Target → Option Target → ServeWords
+asks_doors inbound outbound =
+    record { doors = record { inbound = inbound; outbound = outbound; plain = None }; turns = 9; ticks = None }
+
+-- a run that stopped, of so many links
+abbrev pub stopped : ℕ → Served
+stopped links = record { end = ends.Stopped; totals = record { links = links }; wanting = false; unkept = false }
+
+-- a wait that names nothing, and one that tells a stop
+abbrev pub waits : Entry
+waits = e.Wait [] woken.Woke
+
+abbrev pub waits_stop : Entry
+waits_stop = e.Wait [] woken.Stop
+
+-- a run that listens at a door and dials a link, stops, and closes it
+abbrev pub good_start : Target → Target → Why → List Entry
+good_start at to why = listen_at true (Inbound, at) ∷ e.Dialled 1 to why ∷ e.Balked (way.Finish 1) ∷ []
+
+abbrev pub good_run : Target → Target → Why → List Entry
+good_run at to why =
+    listen_at true (Inbound, at) ∷ e.Dialled 1 to why ∷ e.Balked (way.Finish 1) ∷ waits_stop ∷ e.Closed 1 cause.Stopped ∷ []
+
+module _ {N : Type 0} (stands : List Note → N → List Entry → Type 0) (shown : N → Shown) where
+  abbrev pub Refuses : ServeWords → List Entry → Type 0
+  Refuses words trace = (links : ℕ) (keep : Option (List Note)) → IsServed stands shown words (stopped links) keep trace → ⊥
+
+  -- it stops though nothing told it to
+  abbrev pub StopsUnasked : Type 0
+  StopsUnasked = (to : Target) (why : Why) → Refuses (asks 9 None) (e.DialFailed to why ∷ [])
+
+  -- a link is left open
+  abbrev pub LeavesOpen : Type 0
+  LeavesOpen = (to : Target) (why : Why) → Refuses (asks 9 None) (e.Dialled 1 to why ∷ waits_stop ∷ [])
+
+  -- a link is closed as if memory lacked
+  abbrev pub ClosesForLack : Type 0
+  ClosesForLack = (to : Target) (why : Why)
+      → Refuses (asks 9 None) (e.Dialled 1 to why ∷ waits_stop ∷ e.Closed 1 cause.NoMemory ∷ [])
+
+  -- a call is made behind the end
+  abbrev pub GoesOnBehind : Type 0
+  GoesOnBehind = (to : Target) (why : Why) → Refuses (asks 9 None) (waits_stop ∷ e.DialFailed to why ∷ [])
+
+  -- more waits than turns
+  abbrev pub WaitsPastTurns : Type 0
+  WaitsPastTurns = Refuses (asks 0 None) (waits_stop ∷ [])
+
+  -- its turns are said to be spent, and it made fewer
+  abbrev pub GivesUp : Type 0
+  GivesUp = (to : Target) (why : Why) (links : ℕ) (keep : Option (List Note))
+      → IsServed stands shown (asks 9 None) (record (stopped links) { end = ends.TurnsSpent }) keep (e.DialFailed to why ∷ waits ∷ []) → ⊥
+
+  -- one tick more than were stated
+  abbrev pub TicksOnceMore : Type 0
+  TicksOnceMore = Refuses (asks 9 (Some 1)) (e.Wait [] woken.Tick ∷ e.Tick ∷ waits_stop ∷ [])
+
+  -- no listen at a door that is given; one at a door that isn't; the doors in another order
+  abbrev pub ListensNowhere : Type 0
+  ListensNowhere = (at : Target) → Refuses (asks_doors (Some at) None) (waits_stop ∷ [])
+
+  abbrev pub ListensUnasked : Type 0
+  ListensUnasked = (at : Target) → Refuses (asks 9 None) (listen_at true (Inbound, at) ∷ waits_stop ∷ [])
+
+  abbrev pub ListensInAnotherOrder : Type 0
+  ListensInAnotherOrder = (at to : Target)
+      → Refuses (asks_doors (Some at) (Some to)) (listen_at true (Outbound, to) ∷ listen_at true (Inbound, at) ∷ waits_stop ∷ [])
+
+  -- notes are kept, and they aren't those of the trace
+  abbrev pub LosesNotes : Type 0
+  LosesNotes = (words : ServeWords) (links : ℕ) (notes : List Note) (trace : List Entry)
+      → ((n : N) → stands notes n trace → (shown n).noted ≡ [] → ⊥) → IsServed stands shown words (stopped links) (Some notes) trace → ⊥
+
+  abbrev pub GoodRunIsServed : Type 0
+  GoodRunIsServed = (at to : Target) (why : Why) (notes more : List Note) (n m k : N) → (shown n).due ≡ None
+      → stands notes n (good_start at to why)
+      → stands notes m (listen_at true (Inbound, at) ∷ e.Dialled 1 to why ∷ e.Balked (way.Finish 1) ∷ waits_stop ∷ [])
+      → stands more k (good_run at to why) → (shown k).noted ≡ []
+      → IsServed stands shown (asks_doors (Some at) None) (stopped 1) (Some more) (good_run at to why)
