@@ -1,5 +1,5 @@
 -- One end of a connection as others see it: what its calls tell, and what each call leaves. Who stands above names only these.
-use Rattle.std.specs.Prelude.{◌≡◌, ℕ, Bool, List, [], None, Result}
+use Rattle.std.specs.Prelude.{◌≡◌, ℕ, Bool, List, [], Option, None, Result}
 use Rattle.std.specs.FinMap.{len}
 use Rattle.hb_base.specs.declared.or.Or.{Or}
 use Rattle.hb_hpack.specs.declared.header.Header.{Header}
@@ -12,6 +12,9 @@ use Rattle.hb_streams.specs.declared.fault.OpenFault.{OpenFault}
 use Rattle.hb_streams.specs.declared.role.Role.{Role}
 use Rattle.hb_streams.specs.declared.sides.Sides.{Sides}
 use Rattle.hb_flow.specs.Flows as flows
+use Rattle.hb_outgoing.specs.Selected as selected
+use Rattle.hb_outgoing.specs.Selected.{first_data}
+use Rattle.hb_outgoing.specs.declared.unbegun.Unbegun.{Unbegun}
 use Rattle.hb_outgoing.specs.Waiting.{Waiting, octets_of, room_of}
 use Rattle.hb_outgoing.specs.Written.{begun_by}
 use Rattle.hb_owed.specs.Debts.{dues}
@@ -127,6 +130,14 @@ sendable c stream = payload.allowed c.receiver.core stream
 -- how many of these octets are put in one DATA frame: none while the output holds any, nor behind a connection error
 abbrev pub count_put : Connection → ℕ → List ℕ → ℕ
 count_put c stream bytes = payload.count_put c.receiver.core stream bytes
+
+-- the first DATA frame with payload that waits and of which no octet was written
+abbrev pub data_unbegun : Connection → Option Unbegun
+data_unbegun c = first_data (outgoing c).queue
+
+-- of a DATA frame of the stream octets were written, and octets wait
+abbrev pub data_begun : Connection → ℕ → Bool
+data_begun c stream = selected.data_begun stream (outgoing c).begun
 
 -- a frame of the stream with END_STREAM is owed, or has an octet in the output
 abbrev pub end_waits : Connection → ℕ → Bool

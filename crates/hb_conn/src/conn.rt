@@ -6,7 +6,7 @@ ghost use Rattle.hb_hpack.specs.Table.{total};
 ghost use Rattle.hb_streams.specs.declared.role.Role.TheVariants.{Client};
 ghost use Rattle.hb_conn.specs.Connection.{fresh_core, fresh_server, fresh_client, space_of, count_of, taken, Finds, LeavesLess};
 ghost use Rattle.hb_conn.specs.Loan.{EndsTold};
-ghost use Rattle.hb_conn.specs.Observed.{output, room, role, sides, own_side_open, IsActiveOn, streams_open, creditable, count_put, end_waits};
+ghost use Rattle.hb_conn.specs.Observed.{output, room, role, sides, own_side_open, IsActiveOn, streams_open, creditable, count_put, data_unbegun, data_begun, end_waits};
 ghost use Rattle.hb_conn.specs.Observed.{KeepsWhatCame, wrote, Opens, data_put, credited, status_put, end_put, aborted};
 
 use crate::found::Found;
@@ -21,7 +21,7 @@ use hb_flow::Flow;
 use hb_frames::FrameReader;
 use hb_frames::numbers::{FIRST_FRAME_SIZE, PROTOCOL_ERROR, SETTINGS};
 use hb_hpack::Header;
-use hb_outgoing::Outgoing;
+use hb_outgoing::{Outgoing, Unbegun};
 use hb_owed::Owed;
 use hb_streams::{OpenFault, Role, Sides, Streams};
 use std::alloc::Global;
@@ -276,6 +276,20 @@ impl Conn {
         ensures { result ≡ role self.now }
     {
         self.receiver.core.streams.role()
+    }
+
+    /// The first DATA frame with payload that waits and of which no octet was written. `None` where no such frame waits.
+    pub fn unbegun(&self) -> Option<Unbegun>
+        ensures { result ≡ data_unbegun self.now }
+    {
+        self.receiver.core.out.unbegun()
+    }
+
+    /// Of a DATA frame of the stream octets were written, and octets wait.
+    pub fn data_begun(&self, stream: u32) -> bool
+        ensures { result ≡ data_begun self.now stream }
+    {
+        self.receiver.core.out.data_begun(stream)
     }
 
     /// A frame of the stream with END_STREAM is owed, or has an octet in the output.

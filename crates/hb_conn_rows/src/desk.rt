@@ -70,6 +70,19 @@ impl Desk {
         acts::wrote(rt, &mut self.conn, want.len());
     }
 
+    /// DATA of the stream waits and hasn't begun, is begun in part, or is neither.
+    fn data(&self, rt: &impl Abort, row: &str, stream: u32, want: &str) {
+        let unbegun = match self.conn.unbegun() {
+            Some(first) => first.stream == stream,
+            None => false,
+        };
+        let begun = self.conn.data_begun(stream);
+        assert!(rt;
+            unbegun == (want == "unbegun") && begun == (want == "begun"),
+            "{row}: data {stream}"
+        );
+    }
+
     /// A call on a stream, or a question and its answer.
     fn act(&mut self, rt: &impl Abort, row: &str, call: &str, stream: u32, rest: &str) {
         match call {
@@ -78,6 +91,7 @@ impl Desk {
             "reset" => acts::reset(rt, &mut self.conn, stream, number_of(rt, rest)),
             "credit" => acts::credit(rt, &mut self.conn, stream, number_of(rt, rest)),
             "some" => self.some(rt, row, stream, rest),
+            "data" => self.data(rt, row, stream, rest),
             "ends" => assert!(rt;
                 self.conn.end_waits(stream) == (rest == "yes"),
                 "{row}: ends {stream}"

@@ -18,6 +18,7 @@ a reset behind a status: server; peer 3; status 1 401 end; reset 1 0; ends 1 yes
     sent 000006010500000001200803343031 00000403000000000100000000
 DATA: server; peer 3; some 1 5 5; sent 0000050000000000016161616161
 no octets: server; peer 3; some 1 0 0; sent
+DATA begins: server; peer 3; data 1 no; some 1 5 5; data 1 unbegun; data 3 no; wrote 1; data 1 begun; data 3 no; wrote 13; data 1 no
 one DATA frame waits: server; peer 5; some 1 5 5; some 1 5 0; some 3 5 0; wrote 13; some 3 1 0; wrote 1; some 3 1 1; \
     sent 00000100000000000361
 nothing else waits in front: server; peer 3; status 1 200; some 1 5 0; sent 0000020104000000012088; some 1 1 1; sent 00000100000000000161

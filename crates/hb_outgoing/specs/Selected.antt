@@ -57,6 +57,11 @@ end_waits stream w = begun_ends stream w.begun || list_any (frame_ends stream) w
 abbrev pub has_data : RawFrame → Bool
 has_data f = f.kind == data_kind && not (length f.payload == 0)
 
+-- the frame in part is DATA of the stream
+abbrev pub data_begun : ℕ → Option Head → Bool
+data_begun stream None = false
+data_begun stream (Some h) = h.kind == data_kind && h.stream == stream
+
 -- the first DATA frame with payload
 abbrev pub first_data : List RawFrame → Option Unbegun
 first_data [] = None

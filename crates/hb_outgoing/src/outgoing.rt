@@ -4,7 +4,7 @@ ghost use Rattle.std.specs.Prelude.{◌≡◌, ◌+◌, ◌≤◌, ◌==◌, len
 ghost use Rattle.hb_frames.specs.Numbers.{largest};
 ghost use Rattle.hb_outgoing.specs.Waiting.{octets_of, room_of, nothing, opened, put, size};
 ghost use Rattle.hb_outgoing.specs.Written.{written};
-ghost use Rattle.hb_outgoing.specs.Selected.{without, taken_back, all_taken_back, data_size, first_data, end_waits};
+ghost use Rattle.hb_outgoing.specs.Selected.{without, taken_back, all_taken_back, data_size, first_data, data_begun, end_waits};
 
 use crate::data_streams::DataStreams;
 use crate::head::Head;
@@ -15,6 +15,7 @@ use crate::queue::{
 use crate::unbegun::Unbegun;
 use hb_base::NoMemory;
 use hb_frames::Output;
+use hb_frames::numbers::DATA;
 use std::alloc::Global;
 use std::marker::Model;
 
@@ -196,6 +197,16 @@ impl Outgoing {
             return None;
         }
         first_data(self.output.front(), self.rest)
+    }
+
+    /// Of a DATA frame of the stream octets were written, and octets wait.
+    pub fn data_begun(&self, stream: u32) -> bool
+        ensures { result ≡ data_begun stream self.now.begun }
+    {
+        match self.begun {
+            None => false,
+            Some(head) => head.kind == DATA && head.stream == stream,
+        }
     }
 
     /// An octet of a DATA or HEADERS frame waits that ends the stream (END_STREAM; RFC 9113 section 5.1).

@@ -9,7 +9,8 @@ use std::process::Abort;
 const ROWS: &str = "\
 nothing waits: waits; room 32768; unbegun 0 0; ends 0 no; back 1 0; wrote 0; waits
 a DATA frame is taken back whole: put 000003000000000001616263; unbegun 1 3; back 1 3; waits; room 32768
-one octet is written: put 000003000000000001616263; wrote 1; unbegun 0 0; back 1 0; waits 0003000000000001616263; room 32757
+one octet is written: put 000003000000000001616263; begun 1 no; wrote 1; unbegun 0 0; begun 1 yes; begun 3 no; back 1 0; \
+    waits 0003000000000001616263; room 32757
 in the middle of a header: put 00000100000000000161; put 00000100000000000362; wrote 14; back 3 0; waits 000000000362
 at the end of a header: put 00000100000000000362; wrote 9; back 3 0; waits 62
 in the middle of a payload: put 000003000000000003626364; put 00000100000000000365; wrote 10; back 3 1; waits 6364
@@ -25,8 +26,9 @@ HEADERS stay: put 00000101050000000182; put 00000100000000000161; back 1 1; wait
 RST_STREAM stays: put 00000100000000000561; put 00000403000000000500000008; back 5 1; waits 00000403000000000500000008
 the end of a stream without payload: put 000000000100000005; ends 5 yes; ends 7 no; unbegun 0 0; back 5 0; ends 5 no; waits
 behind one without payload: put 000000000100000005; put 0000020000000000077879; unbegun 7 2; ends 7 no
-a begun end: put 0000020001000000016162; wrote 10; ends 1 yes; ends 3 no; back 1 0; ends 1 yes; wrote 1; ends 1 no; waits
-HEADERS that don't end: put 00000101040000000182; ends 1 no; wrote 3; ends 1 no
+a begun end: put 0000020001000000016162; wrote 10; ends 1 yes; ends 3 no; back 1 0; ends 1 yes; begun 1 yes; wrote 1; ends 1 no; \
+    begun 1 no; waits
+HEADERS that don't end: put 00000101040000000182; ends 1 no; wrote 3; ends 1 no; begun 1 no
 HEADERS that end, begun: put 00000101050000000182; wrote 3; ends 1 yes; wrote 7; ends 1 no
 another type's flag: put 0000080601000000003132333435363738; ends 0 no; put 00000109010000000182; ends 1 no
 a padded end: put 000003000900000009016100; ends 9 yes; put 00000300080000000b016100; ends 11 no

@@ -60,6 +60,13 @@ fn ends(rt: &impl Abort, outgoing: &Outgoing, row: &str, words: &str) {
     assert!(rt; waits == (answer == "yes"), "{row}: ends {words}");
 }
 
+/// The frame in part is DATA of this stream, or not.
+fn begun(rt: &impl Abort, outgoing: &Outgoing, row: &str, words: &str) {
+    let (stream, answer) = cut(words);
+    let begun = outgoing.data_begun(number_of(rt, stream));
+    assert!(rt; begun == (answer == "yes"), "{row}: begun {words}");
+}
+
 fn room(rt: &impl Abort, outgoing: &Outgoing, row: &str, number: &str) {
     let room = outgoing.room();
     assert!(rt;
@@ -87,6 +94,7 @@ pub fn step(rt: &impl Abort, alloc: Global, outgoing: &mut Outgoing, row: &str, 
         "back" => back(rt, outgoing, row, rest),
         "all" => outgoing.take_back_all(),
         "unbegun" => unbegun(rt, outgoing, row, rest),
+        "begun" => begun(rt, outgoing, row, rest),
         "ends" => ends(rt, outgoing, row, rest),
         "room" => room(rt, outgoing, row, rest),
         _ => {

@@ -1,3 +1,4 @@
 pub mod Laws
+pub mod Lending
 pub mod Tunnel
 pub mod Way

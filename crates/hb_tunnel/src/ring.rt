@@ -1,7 +1,9 @@
 //! One way of a tunnel.
 
 ghost use Rattle.std.specs.Prelude.{◌≡◌, ◌+◌, ◌≤◌, [], ◌++◌, length, drop, false, IfOk};
+ghost use Rattle.std.specs.Borrow.{sem};
 ghost use Rattle.circular_buffer.specs.Buffer.{buffer};
+ghost use Rattle.hb_tunnel.specs.Lending.{lends_bytes};
 ghost use Rattle.hb_tunnel.specs.Way.{way_of, is_done, IsFront};
 
 use circular_buffer::HeapCircularBuffer;
@@ -50,6 +52,14 @@ impl Ring {
     {
         let (front, wrapped) = self.bytes.as_slices();
         if front.is_empty() { wrapped } else { front }
+    }
+
+    /// All bytes that wait, in one piece: those of a ring that wraps are moved.
+    pub fn all(&mut self) -> &mut [u8]
+        ensures* writes_back { sem 𝓛 (lends_bytes self.entry result) }
+        ensures value { result.now ≡ self.old.bytes.items }
+    {
+        self.bytes.make_contiguous()
     }
 
     /// Takes the first `count` bytes away.

@@ -1,6 +1,8 @@
 //! Both ways of a tunnel.
 
 ghost use Rattle.std.specs.Prelude.{◌≡◌, ◌&&◌, ◌+◌, ◌≤◌, length, true, IfOk, IsFalse};
+ghost use Rattle.std.specs.Borrow.{sem};
+ghost use Rattle.hb_tunnel.specs.Lending.{lends_down};
 ghost use Rattle.hb_tunnel.specs.Way.{pushes, takes, ends, after, is_done, IsFront};
 ghost use Rattle.hb_tunnel.specs.Tunnel.{dialling, up_size, down_size, phase_of};
 
@@ -157,6 +159,14 @@ impl Tunnel {
         self.down.head()
     }
 
+    /// All bytes that wait on the way down, in one piece. A caller that only reads them leaves the tunnel as it was.
+    pub fn all_down(&mut self) -> &mut [u8]
+        ensures* writes_back { sem 𝓛 (lends_down self.entry result) }
+        ensures value { result.now ≡ self.old.down.held }
+    {
+        self.down.all()
+    }
+
     /// The first `count` bytes that waited on the way down were put.
     pub fn took_down(&mut self, count: usize)
         requires { count ≤ length self.old.down.held }
@@ -170,6 +180,13 @@ impl Tunnel {
         ensures { self.new ≡ record self.old { down = after self.old.down ends } }
     {
         self.down.has_ended = true;
+    }
+
+    /// The way down has ended, and no byte waits on it.
+    pub fn down_done(&self) -> bool
+        ensures { result ≡ is_done self.now.down }
+    {
+        self.down.is_done()
     }
 
     /// END_STREAM may be put on the stream: the upstream is open, the way down has ended, and all its bytes were put.

@@ -94,3 +94,25 @@ fn bytes_go_down_in_order_round_the_ring(rt: HostRuntime) {
     }
     assert!(rt; came > 150_000 && taken == came && tunnel.room_down() == 16_384);
 }
+
+#[test]
+fn bytes_go_down_in_one_piece_round_the_ring(rt: HostRuntime) {
+    let mut tunnel = Tunnel::new(rt.alloc()).ok().expect(&rt, "memory");
+    let mut came: usize = 0;
+    let mut taken: usize = 0;
+    for _ in 0..20 {
+        let bytes = piece(&rt, rt.alloc(), came, tunnel.room_down().min(9_000));
+        came = came.saturating_add(bytes.len());
+        push_down(&rt, &mut tunnel, &bytes);
+        let held = tunnel.all_down();
+        assert!(rt; is_from(held, taken) && taken.saturating_add(held.len()) == came);
+        let count = held.len().min(7_000);
+        tunnel.took_down(count);
+        taken = taken.saturating_add(count);
+    }
+    tunnel.end_down();
+    assert!(rt; came > 140_000 && !tunnel.down_done());
+    let rest = tunnel.all_down().len();
+    tunnel.took_down(rest);
+    assert!(rt; tunnel.down_done());
+}
