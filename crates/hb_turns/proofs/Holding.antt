@@ -8,7 +8,7 @@ use Rattle.hb_base.specs.declared.door.Door.{Door}
 use Rattle.hb_base.specs.declared.door.Why.{Why}
 use Rattle.hb_world.specs.declared.entry.Way.TheVariants as way
 use Rattle.hb_base.specs.declared.target.Target.{Target}
-use Rattle.hb_turns.specs.declared.act.Act.TheVariants as act
+use Rattle.hb_world.specs.declared.act.Act.TheVariants as act
 use Rattle.hb_world.specs.Calls.{with_entries, with_closed, with_shut}
 use Rattle.hb_world.specs.Trace.{births, is_birth, lives, was_shut, same_door}
 use Rattle.hb_base.specs.declared.note.Note.{Note}

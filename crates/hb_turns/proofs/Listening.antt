@@ -113,6 +113,16 @@ stops_more doors more trace s = record {
 }
 
 -- each of these entries is a listen
+-- nor does it matter behind a listen that failed which doors are left
+pub fails_more : (doors more : List DoorAt) (trace : List Entry) → FailsAt doors trace → FailsAt (doors ++ more) trace
+fails_more doors more trace f = record {
+  made = f.made;
+  at = f.at;
+  left = f.left ++ more;
+  doors_are = ap (λ (ds : List DoorAt). ds ++ more) f.doors_are ∙ append_assoc f.made (f.at ∷ f.left) more;
+  trace_is = f.trace_is;
+}
+
 one_listen : (made : List DoorAt) (before : List Entry) (x : Entry) (after : List Entry) → map (listen_at true) made ≡ before ++ x ∷ after
     → (d : DoorAt) × (x ≡ listen_at true d)
 one_listen [] [] x after is = absurd cc
@@ -236,3 +246,12 @@ module _ {N : Type 0} (stands : List Note → N → List Entry → Type 0) (show
   begun_end (Some e) end run doors told is had =
       subst (λ (x : ServeEnd). IfSome told (λ trace. (x ≡ ends.WorldFault) × Stands stands shown run trace × FailsAt doors trace))
       (let same : e ≡ end = cc in same) had
+
+  -- and so it ends, whichever doors are left
+  pub begun_fails : (o : Option ServeEnd) (end : ServeEnd) (run : Run N) (doors more : List DoorAt) (told : Option (List Entry))
+      → o ≡ Some end → IfSome told (Begun {E = AllocError} stands shown (Ok o) run doors)
+      → IfSome told (λ trace. (end ≡ ends.WorldFault) × Stands stands shown run trace × FailsAt (doors ++ more) trace)
+  begun_fails o end run doors more told is had =
+      each (λ trace. (end ≡ ends.WorldFault) × Stands stands shown run trace × FailsAt doors trace)
+      (λ trace. (end ≡ ends.WorldFault) × Stands stands shown run trace × FailsAt (doors ++ more) trace) told
+      (λ trace f. (f.0, f.1, fails_more doors more trace f.2)) (begun_end o end run doors told is had)

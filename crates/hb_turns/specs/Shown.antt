@@ -12,8 +12,8 @@ use Rattle.hb_world.specs.declared.entry.Entry.TheVariants as e
 use Rattle.hb_world.specs.declared.entry.Way.TheVariants as way
 use Rattle.hb_ready.specs.Kept.{has}
 use Rattle.hb_ready.specs.Sight.{is_open}
-use Rattle.hb_turns.specs.declared.act.Act.{Act}
-use Rattle.hb_turns.specs.declared.act.Act.TheVariants as act
+use Rattle.hb_world.specs.declared.act.Act.{Act}
+use Rattle.hb_world.specs.declared.act.Act.TheVariants as act
 
 -- How many bytes may be read on a link, the bytes that are to be written on it, whether a write goes before the acts that are due,
 -- the act that is due, the links that stirred and weren't told, in order, the notes that wait to be taken, in order, the cause for

@@ -8,17 +8,16 @@ ghost use Rattle.hb_base.specs.declared.door.Why.{Why};
 ghost use Rattle.hb_base.specs.declared.target.Target.{Target};
 ghost use Rattle.hb_world.specs.declared.entry.Entry.TheVariants as e;
 ghost use Rattle.hb_ready.specs.Registry.{kept, HasRoom};
-ghost use Rattle.hb_turns.specs.declared.act.Act.TheVariants as act;
+ghost use Rattle.hb_world.specs.declared.act.Act.TheVariants as act;
 ghost use Rattle.hb_turns.specs.Ends.{is_lack};
 ghost use Rattle.hb_turns.specs.Reckons.{Adds};
 ghost use Rattle.hb_turns.specs.Stands.{Keeps, Left, Watched, WatchedBy, Tracks, Stands, IsIdle};
 ghost use Rattle.hb_turns.specs.Shown.{Shown};
 
-use crate::act::Act;
 use crate::node::Node;
 use crate::run::{Records, Run};
 use hb_base::{Cause, NoMemory, Target, Why};
-use hb_world::{Born, World};
+use hb_world::{Act, Born, World};
 
 /// Memory lacked.
 fn lacked(cause: Cause) -> bool
@@ -137,7 +136,7 @@ fn take_note<N: Node>(run: &mut Run<N>) -> Result<bool, NoMemory>
     ensures less { IfOk result (λ took. took ≡ true → length (N.shown run.new.node).noted < length (N.shown run.old.node).noted) }
     ensures records { run.new.records ≡ run.old.records }
 {
-    match run.node.next_note() {
+    match run.node.next_note()? {
         None => Ok(false),
         Some(note) => {
             run.keep.add(note)?;

@@ -7,12 +7,11 @@ ghost use Rattle.hb_turns.specs.Reckons.{Closes};
 ghost use Rattle.hb_turns.specs.Shown.{StandsForNone};
 ghost use Rattle.hb_turns.specs.Stands.{Obeys, Stands, StandsAlone};
 
-use crate::act::Act;
 use crate::acts::{forget, take_notes};
 use crate::node::Node;
 use crate::run::Run;
 use hb_base::{Cause, NoMemory};
-use hb_world::World;
+use hb_world::{Act, World};
 
 /// Makes the close that is due, and says whether one was. Of a link that doesn't live nothing is done.
 fn close_due<W: World, N: Node>(run: &mut Run<N>, world: &mut W, cause: Cause) -> bool

@@ -1,7 +1,6 @@
 //! The event loop over many links and three doors, for every world and every node.
 #![tactic(auto)]
 
-mod act;
 mod acts;
 mod ending;
 mod keep;
@@ -17,7 +16,6 @@ mod turns;
 mod waits;
 mod words;
 
-pub use act::Act;
 pub use keep::Keep;
 pub use node::Node;
 pub use served::{ServeEnd, Served, Totals};

@@ -1,7 +1,7 @@
 //! What the event loop needs of a node.
 
-use crate::act::Act;
 use hb_base::{Cause, Door, NoMemory, Note, Why};
+use hb_world::Act;
 
 /// A node: it is told what the calls of a world did, and says which calls are due. A node stores no trace; it stands for each trace
 /// that it may have been told.
@@ -17,7 +17,7 @@ pub trait Node {
     ghost use Rattle.hb_world.specs.declared.entry.Way.{Way};
     ghost use Rattle.hb_world.specs.declared.entry.ReadyItem.{ReadyItem};
     ghost use Rattle.hb_world.specs.declared.entry.Woken.{Woken};
-    ghost use Rattle.hb_turns.specs.declared.act.Act.TheVariants as act;
+    ghost use Rattle.hb_world.specs.declared.act.Act.TheVariants as act;
     ghost use Rattle.hb_turns.specs.Shown.{Shown, Stirs, IsSame, Tells, StandsAs, StandsForNone, Acts, ActsFor, act_weight, dial_entry, MovesNothing};
 
     /// The traces that it stands for, once these notes of them were taken.
@@ -101,13 +101,15 @@ pub trait Node {
         ensures all { IfNone result (IfSome (shown self.old).ends_for (λ cause. StandsForNone stands self.new)) };
 
     /// The next note. `None` exactly where each was taken.
-    fn next_note(&mut self) -> Option<Note>
-        ensures head { (shown self.old).noted ≡ option_to_list result ++ (shown self.new).noted }
-        ensures none { IfNone result ((shown self.old).noted ≡ []) }
+    ///
+    /// Errors: `NoMemory`, behind which the run ends: a note was lost.
+    fn next_note(&mut self) -> Result<Option<Note>, NoMemory>
+        ensures head { IfOk result (λ note. (shown self.old).noted ≡ option_to_list note ++ (shown self.new).noted) }
+        ensures none { IfOk result (λ note. IfNone note ((shown self.old).noted ≡ [])) }
         ensures same { IsSame (shown self.old) (shown self.new) }
         ensures stirred { (shown self.new).stirred ≡ (shown self.old).stirred }
-        ensures takes { (notes : List Note) (trace : List Entry) → stands notes self.old trace
-            → stands (notes ++ option_to_list result) self.new trace };
+        ensures takes { IfOk result (λ note. (notes : List Note) (trace : List Entry) → stands notes self.old trace
+            → stands (notes ++ option_to_list note) self.new trace) };
 
     /// The run ends: from now on each act closes a link, for this cause, until none lives.
     fn stop(&mut self, cause: Cause)

@@ -2,6 +2,7 @@
 //! script's lines.
 #![tactic(auto)]
 
+mod act;
 mod doors;
 mod entry;
 mod journal;
@@ -17,6 +18,7 @@ mod trace;
 mod turn;
 mod world;
 
+pub use act::Act;
 pub use entry::{Entry, ReadyItem, Way, Woken};
 pub use laws::{a_script_allows_nothing_done, a_trace_grows};
 pub use line::Line;

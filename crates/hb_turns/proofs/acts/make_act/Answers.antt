@@ -1,7 +1,7 @@
 use Rattle.std.proofs.Common.{rules, Some, subst}
 use Rattle.hb_world.specs.declared.entry.Entry.TheVariants as e
-use Rattle.hb_turns.specs.declared.act.Act.{Act}
-use Rattle.hb_turns.specs.declared.act.Act.TheVariants as act
+use Rattle.hb_world.specs.declared.act.Act.{Act}
+use Rattle.hb_world.specs.declared.act.Act.TheVariants as act
 use Rattle.hb_ready.specs.Registry.{kept}
 use Rattle.hb_turns.specs.Shown.{Acts}
 use Rattle.hb_turns.specs.Stands.{Stands}

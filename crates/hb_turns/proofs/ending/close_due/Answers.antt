@@ -2,8 +2,8 @@ use Rattle.std.proofs.Common.{Option, IsSome, Some, rules, subst}
 use Rattle.hb_base.specs.declared.cause.Cause.{Cause}
 use Rattle.hb_ready.specs.Registry.{kept}
 use Rattle.hb_turns.specs.Shown.{Acts, ActsFor}
-use Rattle.hb_turns.specs.declared.act.Act.{Act}
-use Rattle.hb_turns.specs.declared.act.Act.TheVariants as act
+use Rattle.hb_world.specs.declared.act.Act.{Act}
+use Rattle.hb_world.specs.declared.act.Act.TheVariants as act
 use Rattle.hb_turns.proofs.Adding.{closes_one}
 use Rattle.hb_turns.proofs.Closing.{obeys_closed, stands_closed}
 use Rattle.hb_turns.proofs.ending.close_due.Goals as goal

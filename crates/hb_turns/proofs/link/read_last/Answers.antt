@@ -1,5 +1,6 @@
-use Rattle.std.proofs.Common.{true, rules}
+use Rattle.std.proofs.Common.{true, inr, rules}
 use Rattle.hb_turns.proofs.Adding.{adds_err, adds_less, adds_then, adds_true}
+use Rattle.hb_turns.proofs.Holding.{left}
 use Rattle.hb_turns.proofs.link.read_last.Goals as goal
 
 pub returns-in_err-write-clause-adds : goal.returns-in_err-write-clause-adds
@@ -12,3 +13,16 @@ pub returns-clause-adds : goal.returns-clause-adds
 returns-clause-adds g c =
     adds_then true _ _ _ (adds_true c.in_ok-came.came _ _ c.if-not-came.false (c.in_ok-came.ensures {u = tt}).adds)
     (adds_less _ _ _ (c.in_ok-write.ensures {u = tt}).adds)
+
+pub returns-clause-keeps : goal.returns-clause-keeps
+returns-clause-keeps g c = λ idle had.
+    (c.in_ok-write.ensures {u = tt}).keeps (inr (search rules)) ((c.in_ok-came.ensures {u = tt}).keeps idle had)
+
+pub returns-clause-watched : goal.returns-clause-watched
+returns-clause-watched g c = λ watched.
+    (c.in_ok-write.ensures {u = tt}).watched ((c.in_ok-came.ensures {u = tt}).watched watched)
+
+pub returns-in_err-write-clause-keeps : goal.returns-in_err-write-clause-keeps
+returns-in_err-write-clause-keeps g c = λ idle had.
+    left g.N.Node.stands g.N.Node.shown c.from_residual-in_err-write.result c.write.new.run _ (search rules)
+    ((c.in_err-write.ensures {u = tt}).keeps (inr (search rules)) ((c.in_ok-came.ensures {u = tt}).keeps idle had))

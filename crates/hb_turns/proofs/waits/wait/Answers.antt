@@ -6,7 +6,7 @@ use Rattle.hb_turns.specs.Stands.{Stands}
 use Rattle.hb_turns.specs.Woken.{Wakes}
 use Rattle.hb_turns.specs.Reckons.{Reckons}
 use Rattle.hb_turns.specs.declared.served.ServeEnd.TheVariants as ends
-use Rattle.hb_turns.proofs.Counting.{wait_on, tick_behind, wait_ends, lack_finishes, reckons_fewer, ends_within, no_fault}
+use Rattle.hb_turns.proofs.Counting.{wait_on, tick_behind, wait_ends, lack_finishes, reckons_fewer, ends_within, no_fault, each_ok, on_ok}
 use Rattle.hb_turns.proofs.Holding.{same, untold, rested}
 use Rattle.hb_turns.proofs.Waking.{wakes-tracks, wait_comes, wait_ticks}
 use Rattle.hb_turns.proofs.waits.wait.Goals as goal
@@ -86,3 +86,40 @@ returns-in-NoMemory-clause-turned g c = λ words n w had.
     (same (Reckons words c.args.ticks.now n w) (Reckons words c.args.ticks.now n (w + 1)) (g.W.World.trace c.args.world.now) _
     c.in-NoMemory.ensures.adds
     (λ trace r. reckons_fewer words c.args.ticks.now n n w (w + 1) trace (omega arith) (omega arith) r) had))
+
+pub returns-in-Woke-clause-watched : goal.returns-in-Woke-clause-watched
+returns-in-Woke-clause-watched g c = λ watched. c.wake.ensures.watched _ watched
+
+pub returns-in-Woke-clause-idle : goal.returns-in-Woke-clause-idle
+returns-in-Woke-clause-idle g c = λ is idle. idle
+
+pub returns-in-Woke-clause-faults : goal.returns-in-Woke-clause-faults
+returns-in-Woke-clause-faults g c = c.in-Woke.ensures.counts
+
+pub returns-in-Stop-clause-watched : goal.returns-in-Stop-clause-watched
+returns-in-Stop-clause-watched g c = λ watched. c.wake-in-Stop.ensures.watched _ watched
+
+pub returns-in-Stop-clause-idle : goal.returns-in-Stop-clause-idle
+returns-in-Stop-clause-idle g c = λ is idle. idle
+
+pub returns-in-Stop-clause-faults : goal.returns-in-Stop-clause-faults
+returns-in-Stop-clause-faults g c = c.in-Stop.ensures.counts
+
+pub returns-in-Failed-clause-watched : goal.returns-in-Failed-clause-watched
+returns-in-Failed-clause-watched g c = λ watched. c.wake-in-Failed.ensures.watched _ watched
+
+pub returns-in-Failed-clause-idle : goal.returns-in-Failed-clause-idle
+returns-in-Failed-clause-idle g c = λ is idle. idle
+
+pub returns-in-Failed-clause-faults : goal.returns-in-Failed-clause-faults
+returns-in-Failed-clause-faults g c = c.in-Failed.ensures.counts
+
+pub returns-in-Tick-clause-watched : goal.returns-in-Tick-clause-watched
+returns-in-Tick-clause-watched g c =
+    on_ok c.tick.result _ _ (λ so watched. so (c.wake-in-Tick.ensures.watched _ watched)) c.tick.ensures.watched
+
+pub returns-in-Tick-clause-idle : goal.returns-in-Tick-clause-idle
+returns-in-Tick-clause-idle g c = each_ok c.tick.result _ _ (λ end so is idle. so is) c.tick.ensures.idle
+
+pub returns-in-NoMemory-clause-faults : goal.returns-in-NoMemory-clause-faults
+returns-in-NoMemory-clause-faults g c = c.in-NoMemory.ensures.counts
