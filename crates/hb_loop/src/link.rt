@@ -13,6 +13,7 @@ ghost use Rattle.hb_loop.specs.Stands.{Keeps, Hears, IsIdle};
 use crate::acts::give_up;
 use crate::run::{Known, Run};
 use hb_base::NoMemory;
+use hb_node::NoJudge;
 use hb_world::{Finished, Read, World, Wrote};
 
 /// Asks whether the link is open. Says whether anything moved.
@@ -66,7 +67,7 @@ fn came<W: World>(run: &mut Run, world: &mut W, link: u64, n: usize) -> Result<b
     ensures follows { W.script world.new ≡ W.script world.old }
     ensures moved { IfOk result (λ moved. moved ≡ true) }
 {
-    match run.node.take_bytes(link, &run.buffer[..n]) {
+    match run.node.take_bytes(link, &run.buffer[..n], &mut NoJudge) {
         Ok(()) => Ok(true),
         Err(_) => Err(give_up(run, world, link)),
     }

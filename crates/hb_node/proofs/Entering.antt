@@ -14,10 +14,11 @@ use Rattle.hb_model.proofs.Open.{live_changes, open_changes}
 use Rattle.hb_node.specs.declared.link.Link.{Link}
 use Rattle.hb_node.specs.declared.phase.Phase.{Phase as Stage}
 use Rattle.hb_node.specs.declared.phase.Phase.TheVariants as stage
+use Rattle.hb_node.specs.Judging.{Judges, Seen, seen}
 use Rattle.hb_node.specs.Phases.{phase_of, is_live}
 use Rattle.hb_node.specs.Leads.{Leads, stays}
 use Rattle.hb_node.specs.Links.{part_of, with_puts, put_by, wrote_by, Agrees, AgreesBy, GoesTo, IsKept, Fares, SteadyBy, IsSteady, Settles}
-use Rattle.hb_node.specs.State.{State, IsGone, ShowsLink, Shows, Reaches, Enters, Goes}
+use Rattle.hb_node.specs.State.{State, IsGone, ShowsLink, Shows, Reaches, Enters, ReachesJudged, EntersJudged, Goes}
 use Rattle.hb_node.proofs.Led.{state, agrees_same, puts_lead}
 use Rattle.hb_node.proofs.Lifted.{at_same, at_other, lift}
 use Rattle.hb_node.proofs.Kept.{came_fares, puts_steady, wrote_kept}
@@ -62,20 +63,53 @@ module _ (g : NodeConfig) (m : Machine) (l : ℕ) (gone : IsGone (m.links l).pha
   none_comes entry here may = absurd here
 
 -- nor on one that the node doesn't have, whatever it does then
-elsewhere_enters : (entry : Entry) (l : ℕ) (old new : State) → IsOn entry l → IsElsewhere old.link l → new.config ≡ old.config
-    → Enters entry old new
-elsewhere_enters entry l old new here elsewhere config =
+elsewhere_judged : {J : Type 0} (judges : Judges J) (entry : Entry) (l : ℕ) (old new : State) (before after : J) → IsOn entry l
+    → IsElsewhere old.link l → new.config ≡ old.config → EntersJudged judges entry old new before after
+elsewhere_judged judges entry l old new before after here elsewhere config =
     (config, λ m shows may. absurd (none_comes old.config m l (gone_elsewhere old.link m l elsewhere shows.link) entry here may))
+
+pub none_judged : {J : Type 0} (judges : Judges J) (entry : Entry) (l : ℕ) (old new : State) (before after : J) → IsOn entry l
+    → old.link ≡ None → new.config ≡ old.config → EntersJudged judges entry old new before after
+none_judged judges entry l old new before after here none config =
+    elsewhere_judged judges entry l old new before after here (subst (λ o. IsElsewhere o l) (sym none) tt) config
+
+pub other_judged : {J : Type 0} (judges : Judges J) (entry : Entry) (l : ℕ) (old new : State) (before after : J) (k : Link)
+    → IsOn entry l → old.link ≡ Some k → (k.number ≡ l → ⊥) → new.config ≡ old.config
+    → EntersJudged judges entry old new before after
+other_judged judges entry l old new before after k here there differs config =
+    elsewhere_judged judges entry l old new before after here
+    (subst (λ o. IsElsewhere o l) (sym there) (λ same. differs (sym same))) config
+
+-- nobody is shown anything
+abbrev pub nobody : Judges ⊤
+nobody before held after = ⊤
+
+abbrev pub alone : Resources → Seen ⊤
+alone held = seen held tt
+
+-- what is so with someone who is shown what is held is so without
+pub enters_so : {J : Type 0} (judges : Judges J) (entry : Entry) (old new : State) (before after : J)
+    → EntersJudged judges entry old new before after → Enters entry old new
+enters_so judges entry old new before after enters = (
+  enters.0,
+  λ m shows may.
+      let r = enters.1 m shows may in
+      record { points = r.points; machine = r.machine; inner = r.inner; shows = r.shows },
+)
 
 pub none_enters : (entry : Entry) (l : ℕ) (old new : State) → IsOn entry l → old.link ≡ None → new.config ≡ old.config
     → Enters entry old new
 none_enters entry l old new here none config =
-    elsewhere_enters entry l old new here (subst (λ o. IsElsewhere o l) (sym none) tt) config
+    enters_so nobody entry old new tt tt (none_judged nobody entry l old new tt tt here none config)
 
 pub other_enters : (entry : Entry) (l : ℕ) (old new : State) (k : Link) → IsOn entry l → old.link ≡ Some k → (k.number ≡ l → ⊥)
     → new.config ≡ old.config → Enters entry old new
 other_enters entry l old new k here there differs config =
-    elsewhere_enters entry l old new here (subst (λ o. IsElsewhere o l) (sym there) (λ same. differs (sym same))) config
+    enters_so nobody entry old new tt tt (other_judged nobody entry l old new tt tt k here there differs config)
+
+-- points of the link lead on, and nobody is shown what is held
+abbrev pub GoesAlone : ℕ → Resources → Discovery → Resources → Discovery → Type 0
+GoesAlone l held x new_held y = GoesTo nobody IsSteady l (alone held) x (alone new_held) y
 
 -- the node keeps all but what it holds and its link, which keeps its number
 pub record Keeps (old new : State) (k next : Link) : Type 0 where
@@ -106,20 +140,23 @@ module _ (old new : State) (k next : Link) (all : Keeps old new k next) (m : Mac
   its_link = subst (λ o. ShowsLink o m) all.there shows.link
 
   -- where the link goes on so, the node shows what becomes of the machine
-  pub link_reaches : (change : Discovery → Discovery)
-      → GoesTo IsSteady k.number old.held (change (m.links k.number)) new.held (part_of next) → Reaches (changed k.number change m) new
-  link_reaches change g =
+  pub link_judged : {J : Type 0} (judges : Judges J) (before after : J) (change : Discovery → Discovery)
+      → GoesTo judges IsSteady k.number (seen old.held before) (change (m.links k.number)) (seen new.held after) (part_of next)
+      → ReachesJudged judges (changed k.number change m) new before after
+  link_judged judges before after change g =
       let s = its_link in
       let m1 = changed k.number change m in
       let here : m1.links k.number ≡ change (m.links k.number) = at_same k.number change (m.links k.number) in
-      let a = state old.held (change (m.links k.number)) in
-      let t = lift new.config k.number m1 a (state new.held g.part)
-      (ap (λ h. state h (change (m.links k.number))) (sym shows.held) ∙ ap (λ (x : Discovery). state m.held x) (sym here)) g.leads in
+      let a = state (seen old.held before) (change (m.links k.number)) in
+      let t = lift judges new.config k.number m1 before a (state (seen new.held after) g.part)
+      (ap (λ h. state (seen h before) (change (m.links k.number))) (sym shows.held)
+      ∙ ap (λ (x : Discovery). state (seen m.held before) x) (sym here)) g.leads in
       let d = t.differs in
       record {
         points = t.points;
         machine = t.machine;
         inner = t.inner;
+        judged = t.judged;
         shows = record {
           held = d.held;
           dials = d.dials ∙ shows.dials ∙ sym all.dials;
@@ -138,6 +175,12 @@ module _ (old new : State) (k next : Link) (all : Keeps old new k next) (m : Mac
         };
       }
 
+  pub link_reaches : (change : Discovery → Discovery)
+      → GoesAlone k.number old.held (change (m.links k.number)) new.held (part_of next) → Reaches (changed k.number change m) new
+  link_reaches change g =
+      let r = link_judged nobody tt tt change g in
+      record { points = r.points; machine = r.machine; inner = r.inner; shows = r.shows }
+
   -- a link that lives is the machine's
   pub is_part : (p : Phase) → (m.links k.number).phase ≡ p → AgreesBy p (m.links k.number) (part_of k)
   is_part p is = subst (λ (q : Phase). AgreesBy q (m.links k.number) (part_of k)) (sym its_link.2.phase ∙ is) its_link.2.rest
@@ -147,10 +190,10 @@ module _ (old new : State) (k next : Link) (all : Keeps old new k next) (m : Mac
 
   -- a link that is to be closed goes on as any
   ends_so : (c : Cause) (x y : Discovery) → new.held ≡ old.held → x.phase ≡ ending c → y.phase ≡ ending c
-      → GoesTo IsSteady k.number old.held x new.held y
+      → GoesAlone k.number old.held x new.held y
   ends_so c x y held x_ends y_ends = record {
     part = x;
-    leads = subst (λ (h : Resources). Leads k.number (state old.held x) (state h x)) (sym held) (stays refl);
+    leads = subst (λ (h : Resources). Leads nobody k.number (state (alone old.held) x) (state (alone h) x)) (sym held) (stays refl);
     agrees = record { phase = x_ends ∙ sym y_ends; rest = subst (λ (p : Phase). AgreesBy p x y) (sym y_ends) tt };
     so = subst (λ (p : Phase). SteadyBy p x) (sym x_ends) tt;
   }
@@ -158,7 +201,7 @@ module _ (old new : State) (k next : Link) (all : Keeps old new k next) (m : Mac
   -- its phase alone changes, and it is to be closed then
   pub phase_ends : (change : Phase → Phase) (p : Phase) (c : Cause) → new.held ≡ old.held → phase_of next.phase ≡ change (phase_of k.phase)
       → (m.links k.number).phase ≡ p → change p ≡ ending c
-      → GoesTo IsSteady k.number old.held (with_phase change (m.links k.number)) new.held (part_of next)
+      → GoesAlone k.number old.held (with_phase change (m.links k.number)) new.held (part_of next)
   phase_ends change p c held phase is to =
       ends_so c (with_phase change (m.links k.number)) (part_of next) held (ap change is ∙ to)
       (phase ∙ ap change (sym its_link.2.phase ∙ is) ∙ to)
@@ -179,7 +222,7 @@ opened_enters old new k next all held part = (
       link_reaches old new k next all m shows (with_phase opened)
       (record {
         part = y;
-        leads = subst (λ (h : Resources). Leads k.number (state old.held y) (state h y)) (sym held) (stays refl);
+        leads = subst (λ (h : Resources). Leads nobody k.number (state (alone old.held) y) (state (alone h) y)) (sym held) (stays refl);
         agrees = agrees_same y (part_of next) (ap (λ (v : Discovery). with_phase opened v) is ∙ sym part);
         so = subst (λ (p : Phase). SteadyBy p y) (sym (ap opened may.1)) (kept, calm);
       }),
@@ -202,7 +245,7 @@ broke_enters old new k next all held phase = (
   all.config,
   λ m shows may.
       let so : (p : Phase) (c : Cause) → (m.links k.number).phase ≡ p → broken p ≡ ending c
-      → GoesTo IsSteady k.number old.held (with_phase broken (m.links k.number)) new.held (part_of next) =
+      → GoesAlone k.number old.held (with_phase broken (m.links k.number)) new.held (part_of next) =
       λ p c is to. phase_ends old new k next all m shows broken p c held phase is to in
       link_reaches old new k next all m shows (with_phase broken)
       (⊎_elim (λ quiet. so dialling cause.Broken quiet.1 refl)
@@ -211,9 +254,12 @@ broke_enters old new k next all held phase = (
 )
 
 -- bytes came
-pub came_enters : (old new : State) (k next : Link) (b : List ℕ) → Keeps old new k next
-    → (is_live k.phase ≡ true → Settles k.number old.held (came b (part_of k)) new.held (part_of next)) → Enters (e.Came k.number b) old new
-came_enters old new k next b all settles = (
+pub came_enters : {J : Type 0} (judges : Judges J) (old new : State) (before after : J) (k next : Link) (b : List ℕ)
+    → Keeps old new k next
+    → (is_live k.phase ≡ true
+    → Settles judges k.number (seen old.held before) (came b (part_of k)) (seen new.held after) (part_of next))
+    → EntersJudged judges (e.Came k.number b) old new before after
+came_enters judges old new before after k next b all settles = (
   all.config,
   λ m shows may.
       let lives = may.0.1 in
@@ -222,9 +268,11 @@ came_enters old new k next b all settles = (
       let s = steady old new k next all m shows live lives in
       let few : length b ≤ wants_of x = subst (λ (p : Phase). length b ≤ wanted_by p x) lives may.3 in
       let fares : Fares (came b x) = came_fares x b s.0 s.1 may.1 may.2 few in
-      link_reaches old new k next all m shows (while_open (came b))
-      (subst (λ (v : Discovery). GoesTo IsSteady k.number old.held v new.held (part_of next)) (sym (live_changes (came b) x lives))
-      (subst (λ (v : Discovery). GoesTo IsSteady k.number old.held (came b v) new.held (part_of next)) (sym is)
+      link_judged old new k next all m shows judges before after (while_open (came b))
+      (subst (λ (v : Discovery). GoesTo judges IsSteady k.number (seen old.held before) v (seen new.held after) (part_of next))
+      (sym (live_changes (came b) x lives))
+      (subst (λ (v : Discovery). GoesTo judges IsSteady k.number (seen old.held before) (came b v) (seen new.held after) (part_of next))
+      (sym is)
       (settles (live_back k.phase (ap (λ (v : Discovery). v.phase) (sym is) ∙ lives))
       (subst (λ (v : Discovery). Fares (came b v)) is fares)))),
 )
@@ -236,7 +284,7 @@ puts_phase false x = refl
 
 -- bytes of a link that lives went
 live_goes : (l : ℕ) (held new_held : Resources) (x y : Discovery) (n : ℕ) → new_held ≡ held → x.phase ≡ live → IsKept x → IsCalm x
-    → y ≡ with_puts (wrote n x) → GoesTo IsSteady l held (wrote n x) new_held y
+    → y ≡ with_puts (wrote n x) → GoesAlone l held (wrote n x) new_held y
 live_goes l held new_held x y n held_is lives kept calm is =
     let w = wrote n x in
     let p = with_puts w in
@@ -245,7 +293,8 @@ live_goes l held new_held x y n held_is lives kept calm is =
     let now = puts_steady w was.0 was.1 calm.empty_handed.0 calm.empty_handed.1 in
     record {
       part = p;
-      leads = subst (λ (h : Resources). Leads l (state held w) (state h p)) (sym held_is) (puts_lead l held w w_lives);
+      leads = subst (λ (h : Resources). Leads nobody l (state (alone held) w) (state (alone h) p)) (sym held_is)
+          (puts_lead nobody l (alone held) w w_lives);
       agrees = agrees_same p y (sym is);
       so = subst (λ (q : Phase). SteadyBy q p) (sym (puts_phase (nat_lt 0 (sendable w)) w ∙ w_lives)) now;
     }
@@ -267,7 +316,7 @@ went_enters old new k next n all held part bytes many = (
   λ m shows may.
       let x = m.links k.number in
       let s = its_link old new k next all m shows in
-      let goes : GoesTo IsSteady k.number old.held (wrote n x) new.held (part_of next) =
+      let goes : GoesAlone k.number old.held (wrote n x) new.held (part_of next) =
       ⊎_elim
       (λ quiet.
       let is : x ≡ part_of k = is_part old new k next all m shows live quiet.1 in
@@ -280,7 +329,7 @@ went_enters old new k next n all held part bytes many = (
       (ap (λ (v : Discovery). v.phase) (part ∙ went_faulted k.phase n fault.0 (part_of k) phase) ∙ ap went phase))
       may.0 in
       link_reaches old new k next all m shows (while_open (wrote (length bytes)))
-      (subst (λ (v : Discovery). GoesTo IsSteady k.number old.held v new.held (part_of next))
+      (subst (λ (v : Discovery). GoesAlone k.number old.held v new.held (part_of next))
       (sym (open_changes (wrote (length bytes)) m k.number (⊎_elim (λ quiet. inl quiet.1) (λ fault. inr fault) may.0)))
-      (subst (λ i. GoesTo IsSteady k.number old.held (wrote i x) new.held (part_of next)) (sym many) goes)),
+      (subst (λ i. GoesAlone k.number old.held (wrote i x) new.held (part_of next)) (sym many) goes)),
 )

@@ -5,7 +5,6 @@ use Rattle.std.proofs.lemmas.Bool.Decides.{nat_tests}
 use Rattle.hb_base.specs.declared.cause.Cause.{Cause}
 use Rattle.hb_base.specs.declared.cause.Cause.TheVariants as cause
 use Rattle.hb_grpc.specs.Reading.{Framing}
-use Rattle.hb_held.specs.Held.{Resources}
 use Rattle.hb_hpack.specs.declared.header.Header.{Header}
 use Rattle.hb_hpack.specs.declared.header.HeaderList.{HeaderList}
 use Rattle.hb_conn.specs.Connection.{Connection, Finds, LeavesLess, left_of}
@@ -27,6 +26,7 @@ use Rattle.hb_node.specs.declared.inbox.Heard.{Heard}
 use Rattle.hb_node.specs.declared.link.Link.{Link}
 use Rattle.hb_node.specs.declared.phase.Phase.{Phase as Stage}
 use Rattle.hb_node.specs.declared.phase.Phase.TheVariants as stage
+use Rattle.hb_node.specs.Judging.{Judges, Seen}
 use Rattle.hb_node.specs.Phases.{phase_of, is_live, end_for}
 use Rattle.hb_node.specs.Inbox.{TakesAll, HearsData, Hears, ends, heard_of, data_heard}
 use Rattle.hb_node.specs.Leads.{Leads, stays, goes}
@@ -95,7 +95,8 @@ record IsTold (answered : Bool) (c : Connection) (told : Found) (heard : Heard) 
   counted : heard.counted ≡ 0
   chunk : chunk_of c told ≡ []
 
-module _ (held new_held : Resources) (k : Link) (c : Connection) (heard : Heard) (b : Inbox) (lives : is_live k.phase ≡ true) where
+module _ {J : Type 0} (judges : Judges J) (held new_held : Seen J) (k : Link) (c : Connection) (heard : Heard) (b : Inbox)
+    (lives : is_live k.phase ≡ true) where
   -- the link behind it
   abbrev next : Link
   next = settled heard (record k { conn = c; inbox = b })
@@ -106,7 +107,7 @@ module _ (held new_held : Resources) (k : Link) (c : Connection) (heard : Heard)
   x_lives : x.phase ≡ live
   x_lives = live_is k.phase lives
 
-  look_leads : (told : Found) → looks.Looked x.conn told c → Leads k.number (state held x) (state held (on_found told c x))
+  look_leads : (told : Found) → looks.Looked x.conn told c → Leads judges k.number (state held x) (state held (on_found told c x))
   look_leads told l =
       goes (looked k.number l.points told (headers_read c)) x_lives (refl, c, link_looks x c told (refl, refl) l, refl, refl) (stays refl)
 
@@ -116,7 +117,7 @@ module _ (held new_held : Resources) (k : Link) (c : Connection) (heard : Heard)
   fares_still told fares still = fares
 
   plain : (told : Found) → Finds k.conn c told → IsTold k.answered c told heard → new_held ≡ held → b ≡ k.inbox
-      → Goes k.number held x new_held (part_of next)
+      → Goes judges k.number held x new_held (part_of next)
   plain told finds t held_is box_is fares =
       let l = found_by_looks x.conn c told fares finds in
       let y = on_found told c x in
@@ -128,7 +129,7 @@ module _ (held new_held : Resources) (k : Link) (c : Connection) (heard : Heard)
       (ap (λ (i : Inbox). i.framer) (sym box_is)) (ap (λ (i : Inbox). i.waiting) (sym box_is)) in
       record {
         part = y;
-        leads = subst (λ (h : Resources). Leads k.number (state held x) (state h y)) (sym held_is) (look_leads told l);
+        leads = subst (λ (h : Seen J). Leads judges k.number (state held x) (state h y)) (sym held_is) (look_leads told l);
         agrees = agrees_same y (part_of next) is;
         so = fares_by (end_by k.answered (headers_read c) told) y (ap (λ p. phase_by p (end_by k.answered (headers_read c) told)) x_lives)
             (λ still. fares_still told l.fares still);
@@ -137,7 +138,7 @@ module _ (held new_held : Resources) (k : Link) (c : Connection) (heard : Heard)
   -- DATA
   data_whole : (s : ℕ) (end whole : Bool) (byte : ℕ) (bytes : List ℕ) → byte ∷ bytes ≡ data_told c
       → Finds k.conn c (found.Chunk s end) → heard ≡ data_heard (byte ∷ bytes) whole
-      → TakesAll held k.inbox (byte ∷ bytes) whole new_held b → Goes k.number held x new_held (part_of next)
+      → TakesAll judges held k.inbox (byte ∷ bytes) whole new_held b → Goes judges k.number held x new_held (part_of next)
   data_whole s end true byte bytes data_is finds is takes fares =
       let told = found.Chunk s end in
       let l = found_by_looks x.conn c told fares finds in
@@ -146,9 +147,9 @@ module _ (held new_held : Resources) (k : Link) (c : Connection) (heard : Heard)
       ap (λ (xs : List ℕ). with_box k.inbox xs (record x { conn = c; counted = length xs })) (sym data_is) in
       let y = credited (usable z) (with_box b [] z) in
       let some : 0 < length (byte ∷ bytes) = omega arith in
-      let more : HasTaken k.number (state held z) z true new_held b =
-      taken_leads k.number z held new_held k.inbox b (byte ∷ bytes) true x_lives some takes in
-      let first = subst (λ (v : Discovery). Leads k.number (state held x) (state held v)) there (look_leads told l) in
+      let more : HasTaken judges k.number (state held z) z true new_held b =
+      taken_leads judges k.number z held new_held k.inbox b (byte ∷ bytes) true x_lives some takes in
+      let first = subst (λ (v : Discovery). Leads judges k.number (state held x) (state held v)) there (look_leads told l) in
       let same : y ≡ part_of next =
       subst (λ (h : Heard). y ≡ part_of (settled h (record k { conn = c; inbox = b }))) (sym is)
       (same_part y (settled (data_heard (byte ∷ bytes) true) (record k { conn = c; inbox = b })) refl
@@ -156,7 +157,7 @@ module _ (held new_held : Resources) (k : Link) (c : Connection) (heard : Heard)
       (sym (or_false k.answered)) refl refl refl refl) in
       record {
         part = y;
-        leads = leads_on k.number (state held x) (state held z) (state new_held y) first more;
+        leads = leads_on judges k.number (state held x) (state held z) (state new_held y) first more;
         agrees = agrees_same y (part_of next) same;
         so = fares_by None y x_lives
             (λ still. l.uses stream (min (length (byte ∷ bytes)) (creditable c stream)) (omega arith));
@@ -168,20 +169,20 @@ module _ (held new_held : Resources) (k : Link) (c : Connection) (heard : Heard)
       let there : on_found told c x ≡ z =
       ap (λ (xs : List ℕ). with_box k.inbox xs (record x { conn = c; counted = length xs })) (sym data_is) in
       let some : 0 < length (byte ∷ bytes) = omega arith in
-      let more : HasTaken k.number (state held z) z false new_held b =
-      taken_leads k.number z held new_held k.inbox b (byte ∷ bytes) false x_lives some takes in
-      let first = subst (λ (v : Discovery). Leads k.number (state held x) (state held v)) there (look_leads told l) in
+      let more : HasTaken judges k.number (state held z) z false new_held b =
+      taken_leads judges k.number z held new_held k.inbox b (byte ∷ bytes) false x_lives some takes in
+      let first = subst (λ (v : Discovery). Leads judges k.number (state held x) (state held v)) there (look_leads told l) in
       let refused = settled (data_heard (byte ∷ bytes) false) (record k { conn = c; inbox = b }) in
       record {
         part = more.0;
-        leads = leads_on k.number (state held x) (state held z) (state new_held more.0) first more.1;
+        leads = leads_on judges k.number (state held x) (state held z) (state new_held more.0) first more.1;
         agrees = subst (λ (h : Heard). Agrees more.0 (part_of (settled h (record k { conn = c; inbox = b })))) (sym is)
             (record { phase = more.2; rest = tt });
         so = fares_by (Some cause.Discovery) more.0 more.2 (λ lives. absurd (ending_dead cause.Discovery (sym more.2 ∙ lives)));
       }
 
   data_heard_of : (s : ℕ) (end : Bool) (bytes : List ℕ) → bytes ≡ data_told c → Finds k.conn c (found.Chunk s end)
-      → HearsData held k.inbox bytes heard new_held b → Goes k.number held x new_held (part_of next)
+      → HearsData judges held k.inbox bytes heard new_held b → Goes judges k.number held x new_held (part_of next)
   data_heard_of s end [] is finds h =
       plain (found.Chunk s end) finds
       (record {
@@ -201,8 +202,8 @@ module _ (held new_held : Resources) (k : Link) (c : Connection) (heard : Heard)
       → (e : Option Cause) → e ≡ end_by k.answered (headers_read c) told → IsTold k.answered c told (ends e)
   ended told chunk answered e is = record { end = is; accepted = or_false k.answered ∙ sym answered; counted = refl; chunk = chunk }
 
-  heard_by : (told : Found) (h : Option Happening) → Finds k.conn c told → Shows c told h → Hears held k.inbox k.answered h heard new_held b
-      → Goes k.number held x new_held (part_of next)
+  heard_by : (told : Found) (h : Option Happening) → Finds k.conn c told → Shows c told h
+      → Hears judges held k.inbox k.answered h heard new_held b → Goes judges k.number held x new_held (part_of next)
   heard_by found.Silent None finds shown (is, held_is, box_is) =
       plain found.Silent finds
       (told_of found.Silent None is (record { end = refl; accepted = or_false k.answered; counted = refl; chunk = refl })) held_is box_is
@@ -242,32 +243,37 @@ module _ (held new_held : Resources) (k : Link) (c : Connection) (heard : Heard)
       held_is box_is
   heard_by told h finds shown hears = absurd shown
 
-pub look_goes : (held new_held : Resources) (k : Link) (c : Connection) (heard : Heard) (b : Inbox) (told : Found) (h : Option Happening)
-    → is_live k.phase ≡ true → Finds k.conn c told → Shows c told h → Hears held k.inbox k.answered h heard new_held b
-    → Goes k.number held (part_of k) new_held (part_of (settled heard (record k { conn = c; inbox = b })))
-look_goes held new_held k c heard b told h lives finds shown hears =
-    heard_by held new_held k c heard b lives told h finds shown hears
+pub look_goes : {J : Type 0} (judges : Judges J) (held new_held : Seen J) (k : Link) (c : Connection) (heard : Heard) (b : Inbox)
+    (told : Found) (h : Option Happening)
+    → is_live k.phase ≡ true → Finds k.conn c told → Shows c told h → Hears judges held k.inbox k.answered h heard new_held b
+    → Goes judges k.number held (part_of k) new_held (part_of (settled heard (record k { conn = c; inbox = b })))
+look_goes judges held new_held k c heard b told h lives finds shown hears =
+    heard_by judges held new_held k c heard b lives told h finds shown hears
 
 -- more may be told exactly where something was
-data_more : (held new_held : Resources) (box b : Inbox) (heard : Heard) (bytes : List ℕ) → HearsData held box bytes heard new_held b
+data_more : {J : Type 0} (judges : Judges J) (held new_held : Seen J) (box b : Inbox) (heard : Heard) (bytes : List ℕ)
+    → HearsData judges held box bytes heard new_held b
     → heard.more ≡ true
-data_more held new_held box b heard [] hears = ap (λ (v : Heard). v.more) hears.0
-data_more held new_held box b heard (byte ∷ bytes) hears = ap (λ (v : Heard). v.more) hears.2
+data_more judges held new_held box b heard [] hears = ap (λ (v : Heard). v.more) hears.0
+data_more judges held new_held box b heard (byte ∷ bytes) hears = ap (λ (v : Heard). v.more) hears.2
 
-more_told : (held new_held : Resources) (k : Link) (c : Connection) (heard : Heard) (b : Inbox) (told : Found) (h : Option Happening)
-    → Shows c told h → Hears held k.inbox k.answered h heard new_held b → heard.more ≡ not (is_silent told)
-more_told held new_held k c heard b found.Silent None shown hears = ap (λ (v : Heard). v.more) hears.0
-more_told held new_held k c heard b (found.Opened s end) (Some (happening.Opened of headers last)) shown hears =
+more_told : {J : Type 0} (judges : Judges J) (held new_held : Seen J) (k : Link) (c : Connection) (heard : Heard) (b : Inbox)
+    (told : Found) (h : Option Happening)
+    → Shows c told h → Hears judges held k.inbox k.answered h heard new_held b → heard.more ≡ not (is_silent told)
+more_told judges held new_held k c heard b found.Silent None shown hears = ap (λ (v : Heard). v.more) hears.0
+more_told judges held new_held k c heard b (found.Opened s end) (Some (happening.Opened of headers last)) shown hears =
     ap (λ (v : Heard). v.more) hears.0
-more_told held new_held k c heard b (found.Chunk s end) (Some (happening.Chunk of bytes)) shown hears =
-    data_more held new_held k.inbox b heard bytes.now hears
-more_told held new_held k c heard b (found.Ended s) (Some (happening.Ended of)) shown hears = ap (λ (v : Heard). v.more) hears.0
-more_told held new_held k c heard b (found.Reset s code) (Some (happening.Reset of why)) shown hears = ap (λ (v : Heard). v.more) hears.0
-more_told held new_held k c heard b (found.Broken s code) (Some (happening.Broken of why)) shown hears =
+more_told judges held new_held k c heard b (found.Chunk s end) (Some (happening.Chunk of bytes)) shown hears =
+    data_more judges held new_held k.inbox b heard bytes.now hears
+more_told judges held new_held k c heard b (found.Ended s) (Some (happening.Ended of)) shown hears = ap (λ (v : Heard). v.more) hears.0
+more_told judges held new_held k c heard b (found.Reset s code) (Some (happening.Reset of why)) shown hears =
     ap (λ (v : Heard). v.more) hears.0
-more_told held new_held k c heard b (found.GoneAway last) (Some (happening.GoneAway of)) shown hears = ap (λ (v : Heard). v.more) hears.0
-more_told held new_held k c heard b (found.Fault code) (Some (happening.Fault why)) shown hears = ap (λ (v : Heard). v.more) hears.0
-more_told held new_held k c heard b told h shown hears = absurd shown
+more_told judges held new_held k c heard b (found.Broken s code) (Some (happening.Broken of why)) shown hears =
+    ap (λ (v : Heard). v.more) hears.0
+more_told judges held new_held k c heard b (found.GoneAway last) (Some (happening.GoneAway of)) shown hears =
+    ap (λ (v : Heard). v.more) hears.0
+more_told judges held new_held k c heard b (found.Fault code) (Some (happening.Fault why)) shown hears = ap (λ (v : Heard). v.more) hears.0
+more_told judges held new_held k c heard b told h shown hears = absurd shown
 
 not_true : (b : Bool) → not b ≡ true → b ≡ false
 not_true true is = absurd (false≢true is)
@@ -291,28 +297,32 @@ credited_left true n c = by (nat_lt 0 n)
         credited_leaves c stream (min n (creditable c stream))
     by false = refl
 
-pub look_falls : (held new_held : Resources) (k : Link) (c : Connection) (heard : Heard) (b : Inbox) (told : Found) (h : Option Happening)
-    → Shows c told h → LeavesLess k.conn c told → Hears held k.inbox k.answered h heard new_held b → heard.more ≡ true
+pub look_falls : {J : Type 0} (judges : Judges J) (held new_held : Seen J) (k : Link) (c : Connection) (heard : Heard) (b : Inbox)
+    (told : Found) (h : Option Happening)
+    → Shows c told h → LeavesLess k.conn c told → Hears judges held k.inbox k.answered h heard new_held b → heard.more ≡ true
     → left_of (settled heard (record k { conn = c; inbox = b })).conn < left_of k.conn
-look_falls held new_held k c heard b told h shown less hears more =
-    let loud = not_true (is_silent told) (sym (more_told held new_held k c heard b told h shown hears) ∙ more) in
+look_falls judges held new_held k c heard b told h shown less hears more =
+    let loud = not_true (is_silent told) (sym (more_told judges held new_held k c heard b told h shown hears) ∙ more) in
     rw (credited_left (is_live (end_for k.phase heard.end)) heard.counted c) (less loud)
 
-silent_rests : (held new_held : Resources) (k : Link) (c : Connection) (heard : Heard) (b : Inbox) (h : Option Happening)
-    → Finds k.conn c found.Silent → Shows c found.Silent h → Hears held k.inbox k.answered h heard new_held b → Fares (part_of k)
+silent_rests : {J : Type 0} (judges : Judges J) (held new_held : Seen J) (k : Link) (c : Connection) (heard : Heard) (b : Inbox)
+    (h : Option Happening)
+    → Finds k.conn c found.Silent → Shows c found.Silent h → Hears judges held k.inbox k.answered h heard new_held b → Fares (part_of k)
     → IsLookedAt (settled heard (record k { conn = c; inbox = b })).conn
-silent_rests held new_held k c heard b None finds shown hears fares =
+silent_rests judges held new_held k c heard b None finds shown hears fares =
     let lives = is_live (end_for k.phase heard.end) in
     let same : credited_by lives heard.counted c ≡ c =
     ap (λ n. credited_by lives n c) (ap (λ (v : Heard). v.counted) hears.0) ∙ credited_none lives c in
     subst IsLookedAt (sym same) (found_by_looks k.conn c found.Silent fares finds).rests
-silent_rests held new_held k c heard b (Some h) finds shown hears fares = absurd shown
+silent_rests judges held new_held k c heard b (Some h) finds shown hears fares = absurd shown
 
 -- where nothing more is told all was looked at
-pub look_is_last : (held new_held : Resources) (k : Link) (c : Connection) (heard : Heard) (b : Inbox) (told : Found) (h : Option Happening)
-    → Finds k.conn c told → Shows c told h → Hears held k.inbox k.answered h heard new_held b → heard.more ≡ false → Fares (part_of k)
+pub look_is_last : {J : Type 0} (judges : Judges J) (held new_held : Seen J) (k : Link) (c : Connection) (heard : Heard) (b : Inbox)
+    (told : Found) (h : Option Happening)
+    → Finds k.conn c told → Shows c told h → Hears judges held k.inbox k.answered h heard new_held b → heard.more ≡ false
+    → Fares (part_of k)
     → IsLookedAt (settled heard (record k { conn = c; inbox = b })).conn
-look_is_last held new_held k c heard b told h finds shown hears none fares =
-    let silent = silent_is told (not_false (is_silent told) (sym (more_told held new_held k c heard b told h shown hears) ∙ none)) in
-    silent_rests held new_held k c heard b h (subst (λ (f : Found). Finds k.conn c f) silent finds)
+look_is_last judges held new_held k c heard b told h finds shown hears none fares =
+    let silent = silent_is told (not_false (is_silent told) (sym (more_told judges held new_held k c heard b told h shown hears) ∙ none)) in
+    silent_rests judges held new_held k c heard b h (subst (λ (f : Found). Finds k.conn c f) silent finds)
     (subst (λ (f : Found). Shows c f h) silent shown) hears fares

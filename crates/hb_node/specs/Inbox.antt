@@ -11,12 +11,12 @@ use Rattle.hb_disco.specs.Response.{response_of}
 use Rattle.hb_disco.specs.declared.response.Response.{Response}
 use Rattle.hb_disco.specs.declared.response.ResponseFault.{ResponseFault}
 use Rattle.hb_held.specs.Held.{Resources}
-use Rattle.hb_held.specs.Outcome.{after_response}
 use Rattle.hb_hpack.specs.declared.header.Header.{Header}
 use Rattle.hb_conn.specs.declared.happening.Happening.{Happening}
 use Rattle.hb_conn.specs.declared.happening.Happening.TheVariants.{Opened, Chunk, Ended, Reset, Broken, GoneAway, Fault}
 use Rattle.hb_model.specs.Discovery.{stream, status_of, is_accepted, end_by_headers, answer_to}
 use Rattle.hb_node.specs.declared.inbox.Inbox.{Inbox}
+use Rattle.hb_node.specs.Judging.{Judges, Seen, Applies}
 use Rattle.hb_node.specs.declared.inbox.Heard.{Heard}
 use Rattle.hb_node.specs.declared.inbox.Front.{Front}
 use Rattle.hb_node.specs.declared.inbox.Front.TheVariants.{Applied, Refused, Lacking}
@@ -33,11 +33,11 @@ abbrev pub with_answer : Resources → Response → Inbox → Inbox
 with_answer held r box = record box { waiting = box.waiting ++ spelling (answer_to held r) }
 
 -- a message is a response, which is applied and answered, or it is none
-abbrev pub TakesMessage : Resources → Inbox → List ℕ → Bool → Resources → Inbox → Type 0
-TakesMessage held box message true new_held new_box =
-    (r : Response) × (response_of message ≡ Ok r) × (new_held ≡ after_response held r) × (new_box ≡ with_answer held r box)
-TakesMessage held box message false new_held new_box =
-    (fault : ResponseFault) × (response_of message ≡ Err fault) × (new_held ≡ held)
+abbrev pub TakesMessage : {J : Type 0} → Judges J → Seen J → Inbox → List ℕ → Bool → Seen J → Inbox → Type 0
+TakesMessage judges before box message true after new_box =
+    (r : Response) × (response_of message ≡ Ok r) × Applies judges r before after × (new_box ≡ with_answer before.held r box)
+TakesMessage judges before box message false after new_box =
+    (fault : ResponseFault) × (response_of message ≡ Err fault) × (after ≡ before)
 
 -- DATA was fed
 abbrev pub with_fed : List ℕ → Inbox → Inbox
@@ -50,13 +50,13 @@ pub data Refuses (f : Framing) (chunk : List ℕ) : Type 0 where
   no_message : (fault : GrpcFault) → answer f chunk ≡ Err fault → Refuses f chunk
 
 -- what stands in front of DATA: a response, which is applied and answered; what is refused; or a part of a message
-abbrev pub TakesFront : Resources → Inbox → List ℕ → Front → Resources → Inbox → Type 0
-TakesFront held box chunk (Applied n) new_held new_box =
+abbrev pub TakesFront : {J : Type 0} → Judges J → Seen J → Inbox → List ℕ → Front → Seen J → Inbox → Type 0
+TakesFront judges before box chunk (Applied n) after new_box =
     (message : List ℕ) × (answer box.framer chunk ≡ Ok (record { taken = n; message = Some message }))
-    × TakesMessage held (with_fed chunk box) message true new_held new_box
-TakesFront held box chunk Refused new_held new_box = Refuses box.framer chunk × (new_held ≡ held)
-TakesFront held box chunk Lacking new_held new_box =
-    (answer box.framer chunk ≡ Ok (record { taken = length chunk; message = None })) × (new_held ≡ held)
+    × TakesMessage judges before (with_fed chunk box) message true after new_box
+TakesFront judges before box chunk Refused after new_box = Refuses box.framer chunk × (after ≡ before)
+TakesFront judges before box chunk Lacking after new_box =
+    (answer box.framer chunk ≡ Ok (record { taken = length chunk; message = None })) × (after ≡ before)
     × (new_box ≡ with_fed chunk box)
 
 -- a response has no more bytes than there are
@@ -65,15 +65,16 @@ IsWithin (Applied n) chunk = n ≤ length chunk
 IsWithin _ chunk = ⊤
 
 -- the messages of DATA are taken one after another, up to one that is refused, or to a part of one
-pub data TakesAll : Resources → Inbox → List ℕ → Bool → Resources → Inbox → Type 0 where
-  lacks : {held new_held : Resources} {box new_box : Inbox} {chunk : List ℕ} {whole : Bool}
-      → TakesFront held box chunk Lacking new_held new_box → whole ≡ true → TakesAll held box chunk whole new_held new_box
-  refuses : {held new_held : Resources} {box new_box : Inbox} {chunk : List ℕ} {whole : Bool}
-      → TakesFront held box chunk Refused new_held new_box → whole ≡ false → TakesAll held box chunk whole new_held new_box
-  applies : {held new_held : Resources} {box new_box : Inbox} {chunk : List ℕ} {whole : Bool}
-      → (n : ℕ) (mid_held : Resources) (mid_box : Inbox)
-      → TakesFront held box chunk (Applied n) mid_held mid_box → TakesAll mid_held mid_box (drop n chunk) whole new_held new_box
-      → TakesAll held box chunk whole new_held new_box
+pub data TakesAll {J : Type 0} (judges : Judges J) : Seen J → Inbox → List ℕ → Bool → Seen J → Inbox → Type 0 where
+  lacks : {before after : Seen J} {box new_box : Inbox} {chunk : List ℕ} {whole : Bool}
+      → TakesFront judges before box chunk Lacking after new_box → whole ≡ true → TakesAll judges before box chunk whole after new_box
+  refuses : {before after : Seen J} {box new_box : Inbox} {chunk : List ℕ} {whole : Bool}
+      → TakesFront judges before box chunk Refused after new_box → whole ≡ false → TakesAll judges before box chunk whole after new_box
+  applies : {before after : Seen J} {box new_box : Inbox} {chunk : List ℕ} {whole : Bool}
+      → (n : ℕ) (mid : Seen J) (mid_box : Inbox)
+      → TakesFront judges before box chunk (Applied n) mid mid_box
+      → TakesAll judges mid mid_box (drop n chunk) whole after new_box
+      → TakesAll judges before box chunk whole after new_box
 
 -- a link ends, or goes on
 abbrev pub ends : Option Cause → Heard
@@ -104,12 +105,12 @@ abbrev pub data_heard : List ℕ → Bool → Heard
 data_heard chunk whole =
     record { more = true; accepted = false; end = if whole then None else Some cause.Discovery; counted = length chunk }
 
-abbrev pub HearsData : Resources → Inbox → List ℕ → Heard → Resources → Inbox → Type 0
-HearsData held box [] heard new_held new_box = (heard ≡ ends None) × (new_held ≡ held) × (new_box ≡ box)
-HearsData held box (b ∷ bytes) heard new_held new_box =
-    (whole : Bool) × TakesAll held box (b ∷ bytes) whole new_held new_box × (heard ≡ data_heard (b ∷ bytes) whole)
+abbrev pub HearsData : {J : Type 0} → Judges J → Seen J → Inbox → List ℕ → Heard → Seen J → Inbox → Type 0
+HearsData judges before box [] heard after new_box = (heard ≡ ends None) × (after ≡ before) × (new_box ≡ box)
+HearsData judges before box (b ∷ bytes) heard after new_box =
+    (whole : Bool) × TakesAll judges before box (b ∷ bytes) whole after new_box × (heard ≡ data_heard (b ∷ bytes) whole)
 
 -- DATA is taken, and of all else is heard what it is
-abbrev pub Hears : Resources → Inbox → Bool → Option Happening → Heard → Resources → Inbox → Type 0
-Hears held box answered (Some (Chunk s bytes)) heard new_held new_box = HearsData held box bytes.now heard new_held new_box
-Hears held box answered told heard new_held new_box = (heard ≡ heard_of answered told) × (new_held ≡ held) × (new_box ≡ box)
+abbrev pub Hears : {J : Type 0} → Judges J → Seen J → Inbox → Bool → Option Happening → Heard → Seen J → Inbox → Type 0
+Hears judges before box answered (Some (Chunk s bytes)) heard after new_box = HearsData judges before box bytes.now heard after new_box
+Hears judges before box answered told heard after new_box = (heard ≡ heard_of answered told) × (after ≡ before) × (new_box ≡ box)

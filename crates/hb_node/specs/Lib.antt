@@ -1,4 +1,5 @@
 pub mod Inbox
+pub mod Judging
 pub mod Laws
 pub mod Leads
 pub mod Links

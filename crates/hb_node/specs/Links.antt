@@ -1,6 +1,5 @@
 -- A link of the node, in the words of the machine.
 use Rattle.std.specs.Prelude.{⊤, ◌≡◌, ℕ, nat_lt, ◌||◌, Bool, true, false, [], min, if◌then◌else◌}
-use Rattle.hb_held.specs.Held.{Resources}
 use Rattle.hb_conn.specs.Connection.{Connection}
 use Rattle.hb_conn.specs.Observed.{output, IsLookedAt, creditable, credited}
 use Rattle.hb_kept.specs.Kept as kept
@@ -11,6 +10,7 @@ use Rattle.hb_node.specs.declared.link.Link.{Link}
 use Rattle.hb_node.specs.declared.phase.Phase.{Phase as Stage}
 use Rattle.hb_node.specs.declared.phase.Phase.TheVariants as stage
 use Rattle.hb_node.specs.Phases.{phase_of, is_live, end_for}
+use Rattle.hb_node.specs.Judging.{Judges, Seen}
 use Rattle.hb_node.specs.Leads.{Leads}
 
 -- its part: between two calls no DATA is in hand
@@ -83,10 +83,10 @@ abbrev pub IsSteady : Discovery → Type 0
 IsSteady x = SteadyBy x.phase x
 
 -- points of the link lead from one part to one that agrees with another, and of which this holds
-pub record GoesTo (P : Discovery → Type 0) (l : ℕ) (held : Resources) (x : Discovery) (new_held : Resources) (y : Discovery)
-    : Type 0 where
+pub record GoesTo {J : Type 0} (judges : Judges J) (P : Discovery → Type 0) (l : ℕ) (before : Seen J) (x : Discovery)
+    (after : Seen J) (y : Discovery) : Type 0 where
   pub part : Discovery
-  pub leads : Leads l (record { held = held; part = x }) (record { held = new_held; part = part })
+  pub leads : Leads judges l (record { seen = before; part = x }) (record { seen = after; part = part })
   pub agrees : Agrees part y
   pub so : P part
 
@@ -100,12 +100,12 @@ FaresBy _ x = ⊥
 abbrev pub FaresOn : Discovery → Type 0
 FaresOn x = FaresBy x.phase x
 
-abbrev pub Goes : ℕ → Resources → Discovery → Resources → Discovery → Type 0
-Goes l held x new_held y = Fares x → GoesTo FaresOn l held x new_held y
+abbrev pub Goes : {J : Type 0} → Judges J → ℕ → Seen J → Discovery → Seen J → Discovery → Type 0
+Goes judges l before x after y = Fares x → GoesTo judges FaresOn l before x after y
 
 -- where nothing more is told all was looked at
 abbrev pub Rests : Discovery → Stage → Connection → Type 0
 Rests x p c = Fares x → is_live p ≡ true → IsLookedAt c
 
-abbrev pub Settles : ℕ → Resources → Discovery → Resources → Discovery → Type 0
-Settles l held x new_held y = Fares x → GoesTo IsSteady l held x new_held y
+abbrev pub Settles : {J : Type 0} → Judges J → ℕ → Seen J → Discovery → Seen J → Discovery → Type 0
+Settles judges l before x after y = Fares x → GoesTo judges IsSteady l before x after y

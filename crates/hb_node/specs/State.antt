@@ -14,6 +14,7 @@ use Rattle.hb_model.specs.Machine.{Machine, entered, with_stop}
 use Rattle.hb_model.specs.Point.{Point, entry, stopped}
 use Rattle.hb_model.specs.Runs.{MayCome, Steps, due, due_by, wants, wanted_by, output, output_by}
 use Rattle.hb_node.specs.declared.link.Link.{Link}
+use Rattle.hb_node.specs.Judging.{Judges, held_behind, Judged}
 use Rattle.hb_node.specs.Phases.{phase_of}
 use Rattle.hb_node.specs.Links.{part_of, Agrees, IsSteady}
 
@@ -101,6 +102,20 @@ pub record Reaches (m : Machine) (s : State) : Type 0 where
 abbrev pub Enters : Entry → State → State → Type 0
 Enters came old new =
     (new.config ≡ old.config) × ((m : Machine) → Shows old m → MayCome old.config m came → Reaches (entered old.config came m) new)
+
+-- so they do, and someone is shown what is held behind each response that they apply, one after another
+pub record ReachesJudged {J : Type 0} (judges : Judges J) (m : Machine) (s : State) (before after : J) : Type 0 where
+  pub points : List Point
+  pub machine : Machine
+  pub inner : Inner s.config m points machine
+  pub shows : Shows s machine
+  pub judged : Judged judges (held_behind m.held points) before after
+
+-- an entry comes, and so does what follows behind it
+abbrev pub EntersJudged : {J : Type 0} → Judges J → Entry → State → State → J → J → Type 0
+EntersJudged judges came old new before after =
+    (new.config ≡ old.config)
+    × ((m : Machine) → Shows old m → MayCome old.config m came → ReachesJudged judges (entered old.config came m) new before after)
 
 -- the answer to a dial: the link's number, none where it failed
 abbrev pub Answers : Why → Option ℕ → State → State → Type 0

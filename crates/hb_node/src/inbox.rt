@@ -3,8 +3,10 @@
 ghost use Rattle.std.specs.Prelude.{◌≡◌, ◌≤◌, [], length, drop, IfOk, IfSome};
 ghost use Rattle.hb_grpc.specs.Reading.{fed};
 ghost use Rattle.hb_model.specs.Discovery.{end_by_headers, longest_message};
+ghost use Rattle.hb_node.specs.Judging.{seen};
 ghost use Rattle.hb_node.specs.Inbox.{TellsNext, TakesMessage, TakesFront, IsWithin, TakesAll, HearsData, Hears, ends, heard_of, headers_heard};
 
+use crate::judge::Judge;
 use crate::queue::Queue;
 use crate::requests::add_answer;
 use crate::status::status_of;
@@ -130,18 +132,21 @@ impl Inbox {
         }
     }
 
-    /// Applies a message, if it is a response, and answers it.
-    fn take_message(
+    /// Applies a message, if it is a response, shows what is held then, and answers it.
+    fn take_message<J: Judge>(
         &mut self,
         alloc: Global,
         held: &mut Held,
+        judge: &mut J,
         message: &[u8],
     ) -> Result<bool, NoMemory>
-        ensures { IfOk result (λ took. TakesMessage held.old self.old message.now took held.new self.new) }
+        ensures { IfOk result (λ took. TakesMessage J.judges (seen held.old judge.old) self.old message.now took
+            (seen held.new judge.new) self.new) }
     {
         match read_response(alloc, message) {
             Ok(response) => {
                 let outcome = held.apply(alloc, &response)?;
+                judge.applied(held);
                 add_answer(alloc, &response, &outcome, &mut self.waiting)?;
                 Ok(true)
             }
@@ -151,18 +156,20 @@ impl Inbox {
     }
 
     /// Takes the message in front of DATA.
-    fn take_front(
+    fn take_front<J: Judge>(
         &mut self,
         alloc: Global,
         held: &mut Held,
+        judge: &mut J,
         chunk: &[u8],
     ) -> Result<Front, NoMemory>
-        ensures told { IfOk result (λ front. TakesFront held.old self.old chunk.now front held.new self.new) }
+        ensures told { IfOk result (λ front. TakesFront J.judges (seen held.old judge.old) self.old chunk.now front
+            (seen held.new judge.new) self.new) }
         ensures within { IfOk result (λ front. IsWithin front chunk.now) }
     {
         match next_message(&mut self.framer, chunk) {
             Ok(Some((taken, message))) => {
-                if self.take_message(alloc, held, message.as_slice())? {
+                if self.take_message(alloc, held, judge, message.as_slice())? {
                     Ok(Front::Applied(taken))
                 } else {
                     Ok(Front::Refused)
@@ -175,12 +182,19 @@ impl Inbox {
     }
 
     /// Takes all messages of DATA; false where one is refused.
-    fn take_chunk(&mut self, alloc: Global, held: &mut Held, chunk: &[u8]) -> Result<bool, NoMemory>
-        ensures { IfOk result (λ whole. TakesAll held.old self.old chunk.now whole held.new self.new) }
+    fn take_chunk<J: Judge>(
+        &mut self,
+        alloc: Global,
+        held: &mut Held,
+        judge: &mut J,
+        chunk: &[u8],
+    ) -> Result<bool, NoMemory>
+        ensures { IfOk result (λ whole. TakesAll J.judges (seen held.old judge.old) self.old chunk.now whole
+            (seen held.new judge.new) self.new) }
     {
         let mut left = chunk;
         loop {
-            match self.take_front(alloc, held, left)? {
+            match self.take_front(alloc, held, judge, left)? {
                 Front::Applied(taken) => left = behind(left, taken),
                 Front::Refused => return Ok(false),
                 Front::Lacking => return Ok(true),
@@ -188,18 +202,20 @@ impl Inbox {
         }
     }
 
-    fn hear_chunk(
+    fn hear_chunk<J: Judge>(
         &mut self,
         alloc: Global,
         held: &mut Held,
+        judge: &mut J,
         chunk: &[u8],
     ) -> Result<Heard, NoMemory>
-        ensures { IfOk result (λ heard. HearsData held.old self.old chunk.now heard held.new self.new) }
+        ensures { IfOk result (λ heard. HearsData J.judges (seen held.old judge.old) self.old chunk.now heard
+            (seen held.new judge.new) self.new) }
     {
         if chunk.is_empty() {
             return Ok(Heard::end(None));
         }
-        let whole = self.take_chunk(alloc, held, chunk)?;
+        let whole = self.take_chunk(alloc, held, judge, chunk)?;
         Ok(Heard {
             counted: chunk.len(),
             ..Heard::end(if whole { None } else { Some(Cause::Discovery) })
@@ -209,14 +225,16 @@ impl Inbox {
     /// What is told of a connection: DATA is taken, and a message that it completes applied to what is held.
     ///
     /// Errors: `NoMemory`, after which the inbox isn't used again.
-    pub fn hear(
+    pub fn hear<J: Judge>(
         &mut self,
         alloc: Global,
         held: &mut Held,
+        judge: &mut J,
         answered: bool,
         told: Option<Happening<'_>>,
     ) -> Result<Heard, NoMemory>
-        ensures { IfOk result (λ heard. Hears held.old self.old answered told.entry heard held.new self.new) }
+        ensures { IfOk result (λ heard. Hears J.judges (seen held.old judge.old) self.old answered told.entry heard
+            (seen held.new judge.new) self.new) }
     {
         match told {
             None => Ok(Heard {
@@ -226,7 +244,7 @@ impl Inbox {
             Some(Happening::Opened { headers, end, .. }) => {
                 Ok(Heard::headers(answered, headers.kept.as_slice(), end))
             }
-            Some(Happening::Chunk { bytes, .. }) => self.hear_chunk(alloc, held, bytes),
+            Some(Happening::Chunk { bytes, .. }) => self.hear_chunk(alloc, held, judge, bytes),
             Some(Happening::Ended { .. } | Happening::Reset { .. } | Happening::Broken { .. }) => {
                 Ok(Heard::end(Some(Cause::Discovery)))
             }

@@ -4,6 +4,7 @@
 
 mod headers;
 mod inbox;
+mod judge;
 mod laws;
 mod link;
 mod node;
@@ -12,5 +13,6 @@ mod queue;
 mod requests;
 mod status;
 
+pub use judge::{Judge, NoJudge};
 pub use laws::{all_is_put, balks_pass, reads_where_room, rests_where_none_is_due};
 pub use node::Node;

@@ -3,6 +3,7 @@
 ghost use Rattle.std.specs.Prelude.{◌≡◌, ◌≤◌, ◌<◌, length, true, false, IfOk};
 ghost use Rattle.hb_model.specs.Discovery.{dialled, came};
 ghost use Rattle.hb_model.specs.Runs.{wanted_by, output_by};
+ghost use Rattle.hb_node.specs.Judging.{seen};
 ghost use Rattle.hb_node.specs.Phases.{phase_of, is_live};
 ghost use Rattle.hb_node.specs.Links.{part_of, with_puts, used_up, wrote_by, put_by, settled, Goes, Rests, Settles};
 ghost use Rattle.hb_conn.specs.Connection.{fresh_client, left_of};
@@ -11,6 +12,7 @@ ghost use Rattle.hb_model.specs.Discovery.{stream, headers_of};
 
 use crate::headers::headers_of;
 use crate::inbox::{Heard, Inbox, STREAM};
+use crate::judge::Judge;
 use crate::phase::Phase;
 use crate::requests::add_first_requests;
 use hb_base::{Cause, NoMemory, Or, Target};
@@ -127,16 +129,22 @@ impl Link {
     }
 
     /// Looks at what happens next, and says whether more may.
-    fn look(&mut self, alloc: Global, held: &mut Held) -> Result<bool, NoMemory>
+    fn look<J: Judge>(
+        &mut self,
+        alloc: Global,
+        held: &mut Held,
+        judge: &mut J,
+    ) -> Result<bool, NoMemory>
         requires { is_live self.old.phase ≡ true }
-        ensures goes { IfOk result (λ _. Goes self.old.number held.old (part_of self.old) held.new (part_of self.new)) }
+        ensures goes { IfOk result (λ _. Goes J.judges self.old.number (seen held.old judge.old) (part_of self.old)
+            (seen held.new judge.new) (part_of self.new)) }
         ensures rests { IfOk result (λ more. more ≡ false → Rests (part_of self.old) self.new.phase self.new.conn) }
         ensures number { IfOk result (λ _. self.new.number ≡ self.old.number) }
         ensures live { IfOk result (λ more. more ≡ true → is_live self.new.phase ≡ true) }
         ensures falls { IfOk result (λ more. more ≡ true → left_of self.new.conn < left_of self.old.conn) }
     {
         let told = self.conn.next_happening()?;
-        let heard = self.inbox.hear(alloc, held, self.answered, told)?;
+        let heard = self.inbox.hear(alloc, held, judge, self.answered, told)?;
         self.settle(heard);
         let live = self.phase.is_live();
         Ok(heard.more && live)
@@ -155,17 +163,24 @@ impl Link {
     /// Takes bytes that came, and looks at all that they complete.
     ///
     /// Errors: `NoMemory`, after which the link isn't used again.
-    pub fn take(&mut self, alloc: Global, held: &mut Held, b: &[u8]) -> Result<(), NoMemory>
+    pub fn take<J: Judge>(
+        &mut self,
+        alloc: Global,
+        held: &mut Held,
+        judge: &mut J,
+        b: &[u8],
+    ) -> Result<(), NoMemory>
         ensures live { is_live self.old.phase ≡ true
-            → IfOk result (λ _. Settles self.old.number held.old (came b.now (part_of self.old)) held.new (part_of self.new)) }
-        ensures idle { is_live self.old.phase ≡ false → (self.new ≡ self.old) × (held.new ≡ held.old) }
+            → IfOk result (λ _. Settles J.judges self.old.number (seen held.old judge.old) (came b.now (part_of self.old))
+            (seen held.new judge.new) (part_of self.new)) }
+        ensures idle { is_live self.old.phase ≡ false → (self.new ≡ self.old) × (held.new ≡ held.old) × (judge.new ≡ judge.old) }
         ensures number { IfOk result (λ _. self.new.number ≡ self.old.number) }
     {
         if !self.phase.is_live() {
             return Ok(());
         }
         self.conn.take(b);
-        while self.look(alloc, held)? {}
+        while self.look(alloc, held, judge)? {}
         self.send();
         Ok(())
     }

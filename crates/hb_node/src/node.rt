@@ -4,8 +4,9 @@ ghost use Rattle.std.specs.Prelude.{◌≡◌, ◌≤◌, length, is_none, IfOk}
 ghost use Rattle.hb_held.specs.Held.{nothing_held};
 ghost use Rattle.hb_model.specs.Machine.{fresh};
 ghost use Rattle.hb_world.specs.declared.entry.Entry.TheVariants as e;
-ghost use Rattle.hb_node.specs.State.{fresh_state, wants_on, output_on, due_of, after_act, Shows, Enters, Answers, NoneIsDue, Goes, Acts, Wants, Puts, Stops};
+ghost use Rattle.hb_node.specs.State.{fresh_state, wants_on, output_on, due_of, after_act, Shows, Enters, EntersJudged, Answers, NoneIsDue, Goes, Acts, Wants, Puts, Stops};
 
+use crate::judge::Judge;
 use crate::link::Link;
 use hb_base::{Cause, NoMemory, Why};
 use hb_held::Held;
@@ -100,15 +101,22 @@ impl Node {
         }
     }
 
-    /// These bytes came on the link, at most as many as it wants.
+    /// These bytes came on the link, at most as many as it wants. Behind each response that they complete the judge is shown
+    /// what is held then.
     ///
     /// Errors: `NoMemory`, after which only `stop` and `next_act` are called.
-    pub fn take_bytes(&mut self, link: u64, b: &[u8]) -> Result<(), NoMemory>
-        ensures { IfOk result (λ _. Enters (e.Came link b.now) self.old self.new) }
+    pub fn take_bytes<J: Judge>(
+        &mut self,
+        link: u64,
+        b: &[u8],
+        judge: &mut J,
+    ) -> Result<(), NoMemory>
+        ensures judged { IfOk result (λ _. EntersJudged J.judges (e.Came link b.now) self.old self.new judge.old judge.new) }
+        ensures enters { IfOk result (λ _. Enters (e.Came link b.now) self.old self.new) }
     {
         if let Some(l) = &mut self.link {
             if l.number == link {
-                return l.take(self.alloc, &mut self.held, b);
+                return l.take(self.alloc, &mut self.held, judge, b);
             }
         }
         Ok(())

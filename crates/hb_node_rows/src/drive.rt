@@ -3,7 +3,7 @@
 use crate::octets::{cut, octets_of};
 use hb_base::{Cause, Target, Text, Why, read_target};
 use hb_model::{Act, NodeConfig};
-use hb_node::Node;
+use hb_node::{NoJudge, Node};
 use std::alloc::Global;
 use std::process::Abort;
 
@@ -84,7 +84,10 @@ impl Drive {
                 .min(left.len());
             assert!(rt; size > 0, "row {row}: nothing is wanted");
             let (piece, behind) = left.split_at(size);
-            self.node.take_bytes(link, piece).ok().expect(rt, "memory");
+            self.node
+                .take_bytes(link, piece, &mut NoJudge)
+                .ok()
+                .expect(rt, "memory");
             left = behind;
         }
     }

@@ -9,7 +9,7 @@ returns-in-Ok-clause-hears g c = λ config told.
     let bytes = take c.args.n c.args.run.now.buffer.items in
     let enters : Enters (e.Came c.args.link bytes) c.args.run.now.node c.take_bytes.new.self =
     subst (λ (bs : List ℕ). Enters (e.Came c.args.link (take c.args.n bs)) c.args.run.now.node c.take_bytes.new.self)
-    c.deref.ensures.value (c.in-Ok.ensures {u = tt}) in
+    c.deref.ensures.value (c.in-Ok.ensures {u = tt}).enters in
     hears_bytes config c.args.run.now.node c.take_bytes.new.self c.args.run.now.known c.args.link bytes _ enters told
 
 pub returns-in-Err-clause-hears : goal.returns-in-Err-clause-hears
