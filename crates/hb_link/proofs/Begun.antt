@@ -25,7 +25,7 @@ nothing_came : IsAnswer [] More
 nothing_came = (refl, omega arith)
 
 -- a link with nothing shows one that was taken in
-shows_new : (k : Link) (x : Inbound) → k.phase ≡ Fronting → k.front ≡ [] → k.conn ≡ fresh_server → k.tunnels ≡ empty
+pub shows_new : (k : Link) (x : Inbound) → k.phase ≡ Fronting → k.front ≡ [] → k.conn ≡ fresh_server → k.tunnels ≡ empty
     → x.phase ≡ m.fronting → x.front ≡ [] → ((s : ℕ) → (x.tunnels s).stage ≡ t.unasked) → Shows k x
 shows_new k x phase front conn tunnels is_phase is_front unasked = record {
   phase = is_phase ∙ ap phase_of (sym phase);

@@ -7,7 +7,7 @@ use Rattle.hb_inbound.specs.Inbound.{Inbound}
 use Rattle.hb_link.specs.declared.link.Link.{Link}
 use Rattle.hb_link.specs.declared.tunnel.Tunnel.{Tunnel}
 use Rattle.hb_link.specs.Load.{load_below, HasLoad}
-use Rattle.hb_link.specs.Shows.{Shows}
+use Rattle.hb_link.specs.Shows.{ShowsTunnels}
 use Rattle.hb_link.specs.Tunnels.{has_place}
 use Rattle.hb_link.proofs.Moving.{Map}
 use Rattle.hb_link.proofs.Shown.{place_tunnel}
@@ -71,11 +71,11 @@ module _ (tunnels : Map) where
   fewer stream None fits none = omega arith
   fewer stream (Some next) fits is = omega (arith, is.0)
 
-module _ (k : Link) (x : Inbound) (shows : Shows k x) where
+module _ (k : Link) (x : Inbound) (shows : ShowsTunnels k x) where
   same_below : (n : ℕ) → load_below n x ≡ places_below n k.tunnels
   same_below zero = refl
   same_below (suc n) =
-      let here = ap one_if (place_tunnel (get k.tunnels n) (x.tunnels n) (shows.tunnels n)) in
+      let here = ap one_if (place_tunnel (get k.tunnels n) (x.tunnels n) (shows n)) in
       let front = same_below n in omega (arith, here, front)
 
   some_place : (o : Option Tunnel) → has_place o ≡ true → IsSome o
@@ -85,6 +85,6 @@ module _ (k : Link) (x : Inbound) (shows : Shows k x) where
   pub has_load : (n : ℕ) → ((q : ℕ) → IsSome (get k.tunnels q) → q < 2 ^ 32) → n ≡ places_below (2 ^ 32) k.tunnels → HasLoad x n
   has_load n narrow is = record {
     bound = 2 ^ 32;
-    below = λ s has. narrow s (some_place (get k.tunnels s) (place_tunnel (get k.tunnels s) (x.tunnels s) (shows.tunnels s) ∙ has));
+    below = λ s has. narrow s (some_place (get k.tunnels s) (place_tunnel (get k.tunnels s) (x.tunnels s) (shows s) ∙ has));
     count = same_below (2 ^ 32) ∙ sym is;
   }

@@ -42,7 +42,7 @@ here_at : (stage : t.Stage) (k : Tunnel) (x : Machine) → ShowsAt stage k x →
 here_at (t.over why) k x shown there = nowhere x (t.over why) refl shown.0 there
 here_at stage k x shown there = shown
 
-here : (o : Option Tunnel) (x : Machine) → ShowsTunnel o x → is_here x.stage ≡ true → Here o x
+pub here : (o : Option Tunnel) (x : Machine) → ShowsTunnel o x → is_here x.stage ≡ true → Here o x
 here None x shown there =
     ⊎_elim (λ (is : x.stage ≡ t.unasked). nowhere x t.unasked refl is there)
     (λ (is : x.stage ≡ t.gone). nowhere x t.gone refl is there) shown

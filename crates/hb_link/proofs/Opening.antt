@@ -39,7 +39,7 @@ abbrev pub ok : Status
 ok = record { number = 200; end = false }
 
 -- of no bytes none goes
-nothing_goes : (c : Connection) (s : ℕ) → count_put c s [] ≡ 0
+pub nothing_goes : (c : Connection) (s : ℕ) → count_put c s [] ≡ 0
 nothing_goes c s = by (core_of c).over (nat_le s largest && length (octets_of (core_of c).out) == 0)
   where
     by : (over number : Bool) → cond over 0 (cond number (min 0 (payload.allowed (core_of c) s)) 0) ≡ 0

@@ -1,5 +1,5 @@
 -- What a link that shows a machine says of it.
-use Rattle.std.proofs.Common.{◌≡◌, ⊎_elim, false, Option, Some, None, refl, ap, sym, ◌∙◌}
+use Rattle.std.proofs.Common.{◌≡◌, ⊎_elim, Bool, false, Option, Some, None, refl, ap, sym, ◌∙◌}
 use Rattle.hb_base.specs.declared.cause.Cause.{Cause}
 use Rattle.hb_inbound.specs.Tunnel as t
 use Rattle.hb_inbound.specs.Tunnel.{Tunnel as Machine, takes_place}
@@ -50,3 +50,19 @@ place_tunnel o x shown =
     has_as_seen o
     ∙ seen_tunnel (λ stage y. takes_place stage) false
     (record { unasked = λ y. refl; gone = λ y. refl; over = λ why y. refl; told = λ stage y. refl }) o x shown
+
+-- a tunnel of the code is at such a stage, which the machine's is too
+abbrev pub is_at : (t.Stage → Bool) → Option Tunnel → Bool
+is_at is None = false
+is_at is (Some k) = is (stage_of k.stage)
+
+at_as_seen : (is : t.Stage → Bool) (o : Option Tunnel) → is_at is o ≡ seen (λ stage x. is stage) false o
+at_as_seen is None = refl
+at_as_seen is (Some k) = refl
+
+pub stage_tunnel : (is : t.Stage → Bool) → is t.unasked ≡ false → is t.gone ≡ false → ((why : Cause) → is (t.over why) ≡ false)
+    → (o : Option Tunnel) (x : Machine) → ShowsTunnel o x → is_at is o ≡ is x.stage
+stage_tunnel is unasked gone over o x shown =
+    at_as_seen is o
+    ∙ seen_tunnel (λ stage y. is stage) false
+    (record { unasked = λ y. unasked; gone = λ y. gone; over = λ why y. over why; told = λ stage y. refl }) o x shown

@@ -4,12 +4,13 @@ use Rattle.std.proofs.lemmas.Bool.{false≢true, cond_both, cases_eq}
 use Rattle.std.proofs.lemmas.List.Folds.{list_any-append}
 use Rattle.std.specs.List.{list_any}
 use Rattle.std.specs.Prelude.{nat_le}
-use Rattle.std.specs.FinMap.{get}
+use Rattle.std.specs.FinMap.{get, remove}
 use Rattle.hb_conn.specs.Connection.{Connection, core_of}
 use Rattle.hb_conn.specs.Credit.{used_on}
 use Rattle.hb_conn.specs.Data.{credited_on}
-use Rattle.hb_conn.specs.Ending.{end_waits_on}
-use Rattle.hb_conn.specs.Observed.{data_put, credited, status_put, end_waits}
+use Rattle.hb_conn.specs.Ending.{end_waits_on, own_ended}
+use Rattle.hb_conn.specs.Faults.{is_active}
+use Rattle.hb_conn.specs.Observed.{data_put, credited, status_put, end_put, end_waits}
 use Rattle.hb_conn.specs.Owing.{also, goes_at_once, put_now, put_later, with_due, with_update}
 use Rattle.hb_conn.specs.Payload as payload
 use Rattle.hb_conn.specs.declared.machine.Core.{Core}
@@ -18,16 +19,17 @@ use Rattle.hb_frames.specs.Numbers.{largest}
 use Rattle.hb_frames.specs.RawFrame.{RawFrame}
 use Rattle.hb_history.specs.TakenBack.{has_data_on}
 use Rattle.hb_kept.specs.Shut.{StaysShut}
-use Rattle.hb_kept.proofs.Shut.{use_stays_shut, answer_stays_shut, put_stays_shut}
-use Rattle.hb_map.proofs.Laws.{written_here, written_elsewhere}
+use Rattle.hb_kept.proofs.Shut.{use_stays_shut, answer_stays_shut, end_stays_shut, put_stays_shut}
+use Rattle.hb_map.proofs.Laws.{written_here, written_elsewhere, removed_elsewhere}
 use Rattle.hb_outgoing.specs.Selected.{begun_ends, frame_ends}
 use Rattle.hb_outgoing.specs.Waiting.{put}
-use Rattle.hb_owed.specs.Debts.{Debts, changed, changed_by, ends_by, ends_on, with_credit, credit_on}
+use Rattle.hb_owed.specs.Debts.{Debts, changed, changed_by, closed, shut, is_done_by, ends_by, ends_on, with_credit, credit_on}
 use Rattle.hb_owed.specs.Dues.{Debt}
 use Rattle.hb_owed.specs.Frames.{frame_of}
 use Rattle.hb_owed.specs.declared.due.Due.{Due}
 use Rattle.hb_owed.specs.declared.due.Due.TheVariants as due
 use Rattle.hb_owed.specs.declared.status.Status.{Status}
+use Rattle.hb_streams.specs.Moves.{after, sends_end}
 use Rattle.hb_streams.specs.Sides.{sides_of}
 use Rattle.hb_streams.specs.States.{state_of}
 use Rattle.hb_tunnel.specs.Way.{is_done}
@@ -163,6 +165,36 @@ accept_holds c s number j apart =
     let status : Status = record { number = number; end = false } in
     let grows = due_grows j k s (due.Status status) (ap ends_by (also_other k.owed s j (due.Status status) apart)) in
     record { shut = answer_stays_shut j c s status; data_waits = grows.data_grows; end_waits = grows.ends_grow }
+
+-- the end of this end's side: what is owed on another stream stays
+closed_other : (m : Debts) (s j : ℕ) → j ≢ s → get (closed m s) j ≡ get m j
+closed_other m s j apart =
+    let shuts = changed m s shut in
+    cond_both (is_done_by (get shuts s)) (remove shuts s) shuts (λ (k : Debts). get k j ≡ get m j)
+    (λ is. removed_elsewhere shuts s j apart ∙ changed_other m s j shut apart) (λ is. changed_other m s j shut apart)
+
+ended_grows : (j : ℕ) (c : Core) (s : ℕ) → j ≢ s → Grows j c (own_ended c s)
+ended_grows j c s apart =
+    let ended : Core = record c { streams = after c.streams (sends_end s) } in
+    cond_both (is_active ended.streams s) ended _ (λ (x : Core). Grows j c x) (λ is. same_grows j c ended refl refl)
+    (λ is. record {
+      data_grows = λ waits. waits;
+      ends_grow = λ waits.
+          ap (λ (o : Option Debt). (begun_ends j c.out.begun || list_any (frame_ends j) c.out.queue) || ends_by o)
+          (closed_other c.owed s j apart) ∙ waits;
+    })
+
+pub end_holds : (c : Connection) (s j : ℕ) → j ≢ s → Holds c (end_put c s) j
+end_holds c s j apart =
+    let k = core_of c in
+    let put = with_due k s due.End in
+    let grows = on_with j k put (own_ended put s) (due_grows j k s due.End (ap ends_by (also_other k.owed s j due.End apart)))
+    (ended_grows j put s apart) in
+    record { shut = end_stays_shut j c s; data_waits = grows.data_grows; end_waits = grows.ends_grow }
+
+-- nothing happened
+pub same_holds : (c : Connection) (j : ℕ) → Holds c c j
+same_holds c j = record { shut = λ bytes none. none; data_waits = λ is. is; end_waits = λ is. is }
 
 -- a tunnel rests on
 off_still : (a p q : Bool) → (p ≡ true → q ≡ true) → (a && not p) ≡ false → (a && not q) ≡ false

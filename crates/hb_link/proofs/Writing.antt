@@ -29,7 +29,7 @@ use Rattle.hb_link.proofs.Moving.{link_with, machine_with, answered_at, Only, on
 use Rattle.hb_link.proofs.Waits.{Holds, use_holds, live_still, rests_still}
 
 -- a count that stops grows by what is added to it
-counted_more : (old n : ℕ) → counted (old + n) ≡ min (counted old + n) (2 ^ 64 - 1)
+pub counted_more : (old n : ℕ) → counted (old + n) ≡ min (counted old + n) (2 ^ 64 - 1)
 counted_more old n = omega arith
 
 -- the code's tunnel behind it

@@ -1,19 +1,23 @@
 -- What each call of a link is to the machine.
 use Rattle.std.specs.Prelude.{⊤, ◌≡◌, ℕ, ◌<◌, Bool, true, List, [], length}
+use Rattle.hb_base.specs.declared.cause.Cause.{Cause}
 use Rattle.hb_base.specs.declared.door.Door.TheVariants as door
 use Rattle.hb_base.specs.declared.note.Note.{Note}
+use Rattle.hb_disco.specs.declared.response.Response.{Response}
 use Rattle.hb_held.specs.Held.{Resources}
+use Rattle.hb_held.specs.Outcome.{after_response}
 use Rattle.hb_world.specs.declared.entry.Entry.{Entry}
 use Rattle.hb_world.specs.declared.entry.Entry.TheVariants as e
 use Rattle.hb_inbound.specs.Calm.{wants_by, output_by}
 use Rattle.hb_inbound.specs.Inbound.{Inbound, faulted}
-use Rattle.hb_inbound.specs.Part.{Part, entry, up}
+use Rattle.hb_inbound.specs.Part.{Part, entry, up, applied, stopped}
 use Rattle.hb_inbound.specs.Runs.{Local, Steps, StandsFor}
 use Rattle.hb_link.specs.declared.link.Link.{Link}
+use Rattle.hb_link.specs.Counting.{CountsPlaces}
 use Rattle.hb_link.specs.Load.{HasLoad}
 use Rattle.hb_link.specs.Observed.{up_wants_by, up_held_by}
 use Rattle.hb_link.specs.Reaches.{Reaches, Meets, unguarded}
-use Rattle.hb_link.specs.Shows.{Shows}
+use Rattle.hb_link.specs.Shows.{Shows, ShowsTunnels}
 
 -- ENTRIES
 
@@ -21,9 +25,29 @@ use Rattle.hb_link.specs.Shows.{Shows}
 abbrev pub UpEnters : ℕ → Entry → Link → List Note → Link → List Note → Type 0
 UpEnters s x old told new now = Meets unguarded (λ a. ⊤) (up s x) old told new now
 
+-- one of the link, and the end of the run
+abbrev pub Enters : Entry → Link → List Note → Link → List Note → Type 0
+Enters x old told new now = Meets unguarded (λ a. ⊤) (entry x) old told new now
+
+abbrev pub Stops : Cause → Link → List Note → Link → List Note → Type 0
+Stops cause old told new now = Meets unguarded (λ a. ⊤) (stopped cause) old told new now
+
 -- some bytes of so many went
+abbrev pub Goes : ℕ → Link → List Note → Link → List Note → Type 0
+Goes n old told new now = (bytes : List ℕ) → length bytes ≡ n → Enters (e.Went old.number bytes) old told new now
+
 abbrev pub UpGoes : ℕ → ℕ → Link → List Note → Link → List Note → Type 0
 UpGoes s n old told new now = (u : ℕ) (bytes : List ℕ) → length bytes ≡ n → UpEnters s (e.Went u bytes) old told new now
+
+-- bytes came, while this was held
+abbrev pub Takes : Resources → (others limit : ℕ) → List ℕ → Link → List Note → Link → List Note → Type 0
+Takes held others limit bytes old told new now =
+    Meets (CountsPlaces others limit) (λ a. a.held ≡ held) (entry (e.Came old.number bytes)) old told new now
+
+-- a response made this of what was held
+abbrev pub Updates : Resources → Link → List Note → Link → List Note → Type 0
+Updates held old told new now =
+    (r : Response) → Meets unguarded (λ a. held ≡ after_response a.held r) (applied r) old told new now
 
 -- a link is born
 abbrev pub Begins : ℕ → Link → Type 0
@@ -47,7 +71,7 @@ UpHolds k s held = (x : Inbound) → Shows k x → held ≡ up_held_by (x.tunnel
 
 -- how many of its tunnels take a place
 abbrev pub Loads : Link → ℕ → Type 0
-Loads k n = (x : Inbound) → Shows k x → HasLoad x n
+Loads k n = (x : Inbound) → ShowsTunnels k x → HasLoad x n
 
 -- a connection error was told, and what waits may be written before the acts that are due
 abbrev pub IsLastWord : Inbound → Type 0

@@ -16,6 +16,10 @@ ShowsBy serving k x = (x.conn ≡ k.conn) × IsKept x.conn × (x.peer ≡ k.peer
 ShowsBy (faulted code) k x = x.conn ≡ k.conn
 ShowsBy _ k x = ⊤
 
+-- each tunnel is the machine's
+abbrev pub ShowsTunnels : Link → Inbound → Type 0
+ShowsTunnels k x = (s : ℕ) → ShowsTunnel (get k.tunnels s) (x.tunnels s)
+
 -- between two calls: nothing more happens by itself
 pub record Shows (k : Link) (x : Inbound) : Type 0 where
   pub phase : x.phase ≡ phase_of k.phase

@@ -1,6 +1,6 @@
 //! The bytes of a front header that isn't whole.
 
-ghost use Rattle.std.specs.Prelude.{◌≡◌, ◌+◌, [], length, IfOk};
+ghost use Rattle.std.specs.Prelude.{◌≡◌, ◌+◌, ◌-◌, ◌≤◌, [], ◌++◌, length, IfOk};
 ghost use Rattle.hb_inbound.specs.Calm.{longest_front};
 
 use hb_base::NoMemory;
@@ -44,5 +44,22 @@ impl Front {
         ensures { result + length self.now ≡ longest_front }
     {
         LONGEST - self.came
+    }
+
+    /// These bytes came.
+    pub fn push(&mut self, b: &[u8])
+        requires { length b.now ≤ longest_front - length self.old }
+        ensures { self.new ≡ self.old ++ b.now }
+    {
+        let end = self.came + b.len();
+        self.bytes[self.came..end].copy_from_slice(b);
+        self.came = end;
+    }
+
+    /// The bytes that came.
+    pub fn bytes(&self) -> &[u8]
+        ensures { result.now ≡ self.now }
+    {
+        &self.bytes[..self.came]
     }
 }

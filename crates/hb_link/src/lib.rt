@@ -2,12 +2,29 @@
 //! hb_inbound: for each run of the link that it showed, it shows the run with what it was told, and what follows from that by itself.
 #![tactic(auto)]
 
+mod acts;
+mod answering;
+mod asking;
+mod ends;
 mod front;
+mod fronting;
+mod going;
+mod hearing;
+pub mod laws;
+mod leaving;
 mod link;
+mod looking;
+mod marking;
+mod naming;
 mod notes;
 mod own;
 mod phase;
+mod putting;
+mod refusing;
+mod settling;
+mod taking;
 mod tunnel;
+mod update;
 mod upstream;
 
 pub use link::Link;

@@ -1,7 +1,10 @@
 //! How far a link is.
 
 ghost use Rattle.std.specs.Prelude.{◌≡◌};
+ghost use Rattle.hb_inbound.specs.Calm.{close_due};
+ghost use Rattle.hb_inbound.specs.Inbound.{stops_by};
 ghost use Rattle.hb_link.specs.Observed.{serves_in};
+ghost use Rattle.hb_link.specs.Tunnels.{phase_of};
 
 use hb_base::Cause;
 
@@ -25,5 +28,26 @@ impl Phase {
         ensures { result ≡ serves_in self }
     {
         matches!(self, Phase::Serving)
+    }
+
+    /// How far a link is behind the end of the run, for a cause: it is to be closed, where it isn't already.
+    pub fn stopped(self, cause: Cause) -> Phase
+        ensures { phase_of result ≡ stops_by cause (phase_of self) }
+    {
+        match self {
+            Phase::Fronting | Phase::Serving => Phase::Closing(cause),
+            phase => phase,
+        }
+    }
+
+    /// Why it is to be closed. `None` where it isn't.
+    pub fn close_due(self) -> Option<Cause>
+        ensures { result ≡ close_due (phase_of self) }
+    {
+        match self {
+            Phase::Closing(cause) => Some(cause),
+            Phase::Faulted(code) => Some(Cause::ConnFault(code)),
+            _ => None,
+        }
     }
 }

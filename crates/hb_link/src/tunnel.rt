@@ -4,11 +4,18 @@ ghost use Rattle.std.specs.Prelude.{◌≡◌};
 ghost use Rattle.hb_tunnel.specs.Way.{IsFront};
 ghost use Rattle.hb_inbound.specs.Calm.{is_done_on};
 ghost use Rattle.hb_link.specs.Tunnels.{opened_on, tunnel_of};
+ghost use Rattle.hb_link.specs.Looking.{came_here};
 ghost use Rattle.hb_link.specs.Observed.{wants_of_up, held_of_up};
+ghost use Rattle.hb_inbound.specs.Tunnel.{may_shut};
+ghost use Rattle.hb_link.specs.Acting.{act_here};
+ghost use Rattle.hb_link.specs.Marking.{ended_stage, ended_tunnel, down_ended_tunnel, judged_tunnel};
 
-use hb_base::{Cause, Target};
+use hb_base::{Cause, Peer, Target, Why};
 use hb_conn::Conn;
-use hb_tunnel::{Phase as Way, Tunnel as Ways};
+use hb_held::Held;
+use hb_table::{Judged, judge};
+use hb_tunnel::{Phase as Way, Tunnel as Ways, UP_SIZE};
+use hb_world::Act;
 
 /// How far a tunnel is.
 #[derive(Clone, Copy)]
@@ -25,6 +32,19 @@ pub enum Stage {
     Ended(Cause),
     /// Its upstream is to be closed for this cause.
     Over(Cause),
+}
+
+impl Stage {
+    /// How far a tunnel is behind its end for a cause. The first end counts.
+    fn ends_for(self, cause: Cause) -> Stage
+        ensures { result ≡ ended_stage cause self }
+    {
+        match self {
+            Stage::Due | Stage::Opening => Stage::Failed(cause),
+            Stage::Live => Stage::Ended(cause),
+            stage => stage,
+        }
+    }
 }
 
 /// A tunnel on a stream of the link.
@@ -55,6 +75,39 @@ impl Tunnel {
         }
     }
 
+    /// It ends for a cause, where it has a place. The first end counts.
+    pub fn end_for(&mut self, cause: Cause)
+        ensures { self.new ≡ ended_tunnel cause self.old }
+    {
+        self.stage = self.stage.ends_for(cause);
+    }
+
+    /// Its upstream sends no more.
+    pub fn end_down(&mut self)
+        ensures { self.new ≡ down_ended_tunnel self.old }
+    {
+        self.ways.end_down();
+    }
+
+    /// It ends where its peer is no longer admitted.
+    pub fn judge(&mut self, held: &Held, peer: &Peer)
+        ensures { self.new ≡ judged_tunnel held.now peer.now self.old }
+    {
+        match judge(held, peer, self.target) {
+            Judged::Admitted => {}
+            _ => self.end_for(Cause::Revoked),
+        }
+    }
+
+    /// These bytes came of the peer. Where they don't fit, or it had ended its side, nothing of them is kept.
+    pub fn came_up(&mut self, bytes: &[u8])
+        ensures { self.new ≡ came_here bytes.now self.old }
+    {
+        if !self.ways.up_ended() && bytes.len() <= self.ways.room_up() {
+            self.ways.push_up(bytes);
+        }
+    }
+
     /// How many bytes may be read of its upstream now.
     pub fn up_wants(&self) -> usize
         ensures { result ≡ wants_of_up self.now }
@@ -79,6 +132,32 @@ impl Tunnel {
             Stage::Live => self.ways.head_up(),
             _ => b"",
         }
+    }
+
+    /// The act that is due of it, on this stream of this link: its dial, the shut of its upstream, or that one's close. `None` where
+    /// none is due.
+    pub fn act(&self, link: u64, stream: u32) -> Option<Act>
+        ensures { result ≡ act_here link stream self.now }
+    {
+        match self.stage {
+            Stage::Due => Some(Act::Dial {
+                to: self.target,
+                why: Why::Upstream { link, stream },
+            }),
+            Stage::Live if self.may_shut() => Some(Act::Shut { link: self.up }),
+            Stage::Over(cause) => Some(Act::Close {
+                link: self.up,
+                cause,
+            }),
+            _ => None,
+        }
+    }
+
+    /// The sending side of its upstream may be shut: the peer has ended the stream, and all that it sent is written.
+    fn may_shut(&self) -> bool
+        ensures { result ≡ may_shut (tunnel_of self.now) }
+    {
+        self.ways.up_ended() && self.ways.room_up() == UP_SIZE && !self.shut
     }
 
     /// Both sides of it ended, and all went through: also this end's END_STREAM, whole.

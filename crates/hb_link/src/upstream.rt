@@ -94,6 +94,32 @@ impl Link {
             None => b"",
         }
     }
+
+    /// The dial of a stream's target failed.
+    pub fn dial_failed<N: Notes>(&mut self, stream: u32, notes: &mut N)
+        ensures { (to : Target) (why : Why)
+            → UpEnters stream (e.DialFailed to why) self.old (N.told notes.old) self.new (N.told notes.new) }
+    {
+        self.end_tunnel(stream, Cause::UpFault);
+        self.settle(notes);
+    }
+
+    /// It sends no more.
+    pub fn up_ended<N: Notes>(&mut self, stream: u32, notes: &mut N)
+        ensures { (u : ℕ) → UpEnters stream (e.Ended u) self.old (N.told notes.old) self.new (N.told notes.new) }
+    {
+        self.end_down(stream);
+        self.settle(notes);
+    }
+
+    /// It failed to open, or a call on it failed.
+    pub fn up_broke<N: Notes>(&mut self, stream: u32, notes: &mut N)
+        ensures { (u : ℕ) → UpEnters stream (e.Broke u) self.old (N.told notes.old) self.new (N.told notes.new) }
+    {
+        self.end_tunnel(stream, Cause::UpFault);
+        self.settle(notes);
+    }
+
     /// The first `n` bytes that waited were written to it. They are given back to the stream's window.
     pub fn up_wrote<N: Notes>(&mut self, stream: u32, n: usize, notes: &mut N)
         requires { n ≤ length (up_held_on self.old stream) }

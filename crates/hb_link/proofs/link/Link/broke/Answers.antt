@@ -1,0 +1,13 @@
+use Rattle.std.specs.Prelude.{⊤}
+use Rattle.hb_world.specs.declared.entry.Entry.TheVariants as e
+use Rattle.hb_inbound.specs.Part.{entry}
+use Rattle.hb_link.proofs.Settles.{meets_settled}
+use Rattle.hb_link.proofs.link.Link.broke.Goals as goal
+
+pub returns : goal.returns
+returns g c =
+    let k = c.args.self.now in
+    let n = c.mark_broken.new.self in
+    meets_settled (λ a. ⊤) (entry (e.Broke c.args.self.now.number)) k n c.settle.new.self
+    (g.N.Notes.told c.args.notes.now) (g.N.Notes.told c.settle.new.notes)
+    (c.mark_broken.ensures) c.settle.ensures

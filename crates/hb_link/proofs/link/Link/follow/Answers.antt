@@ -1,0 +1,40 @@
+use Rattle.std.proofs.Common.{◌≡◌, sym, subst}
+use Rattle.hb_link.specs.declared.hearing.Heard.{Heard}
+use Rattle.hb_link.specs.Looking.{HasHeard}
+use Rattle.hb_link.specs.Settling.{MayPut, MayLook, Settles}
+use Rattle.hb_link.proofs.Settles.{stays}
+use Rattle.hb_link.proofs.link.Link.follow.Goals as goal
+
+pub returns-in-Nothing-clause-settles : goal.returns-in-Nothing-clause-settles
+returns-in-Nothing-clause-settles g c =
+    let k = c.args.self.now in
+    let told = g.N.Notes.told c.args.notes.now in
+    subst (λ (h : Heard). Settles c.args.others c.args.limit (λ held. held ≡ c.args.held.now) (HasHeard h) MayPut k told k told)
+    (sym c.in-Nothing.is)
+    (stays c.args.others c.args.limit (λ held. held ≡ c.args.held.now) MayPut MayPut k told (λ x is. is))
+
+pub returns-in-Fault-clause-settles : goal.returns-in-Fault-clause-settles
+returns-in-Fault-clause-settles g c =
+    subst (λ (h : Heard). Settles c.args.others c.args.limit (λ held. held ≡ c.args.held.now) (HasHeard h) MayPut c.args.self.now
+    (g.N.Notes.told c.args.notes.now) c.fail.new.self (g.N.Notes.told c.fail.new.notes)) (sym c.in-Fault.is)
+    (λ start before a stands holds is. c.fail.ensures c.args.others c.args.limit start before a stands tt is)
+
+pub returns-in-Done-clause-settles : goal.returns-in-Done-clause-settles
+returns-in-Done-clause-settles g c =
+    let k = c.args.self.now in
+    let told = g.N.Notes.told c.args.notes.now in
+    subst (λ (h : Heard). Settles c.args.others c.args.limit (λ held. held ≡ c.args.held.now) (HasHeard h) MayLook k told k told)
+    (sym c.in-Done.is)
+    (stays c.args.others c.args.limit (λ held. held ≡ c.args.held.now) MayLook MayLook k told (λ x is. is))
+
+pub returns-in-Request-clause-settles : goal.returns-in-Request-clause-settles
+returns-in-Request-clause-settles g c =
+    subst (λ (h : Heard). Settles c.args.others c.args.limit (λ held. held ≡ c.args.held.now) (HasHeard h) MayLook c.args.self.now
+    (g.N.Notes.told c.args.notes.now) c.answer_request.new.self (g.N.Notes.told c.answer_request.new.notes)) (sym c.in-Request.is)
+    c.answer_request.ensures.settles
+
+pub returns-in-Left-clause-settles : goal.returns-in-Left-clause-settles
+returns-in-Left-clause-settles g c =
+    subst (λ (h : Heard). Settles c.args.others c.args.limit (λ held. held ≡ c.args.held.now) (HasHeard h) MayLook c.args.self.now
+    (g.N.Notes.told c.args.notes.now) c.end_alone.new.self (g.N.Notes.told c.end_alone.new.notes)) (sym c.in-Left.is)
+    (λ start before a stands holds is. c.end_alone.ensures.settles c.args.others c.args.limit start before a stands tt is)

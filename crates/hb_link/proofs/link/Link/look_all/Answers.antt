@@ -1,0 +1,44 @@
+use Rattle.std.proofs.Common.{rules, ◌≡◌, Bool, false, subst}
+use Rattle.hb_link.specs.Fronting.{HasCome}
+use Rattle.hb_link.specs.Looking.{Looked}
+use Rattle.hb_link.specs.Observed.{serves_in}
+use Rattle.hb_link.specs.Settling.{MayPut, MayLook, Settles}
+use Rattle.hb_link.proofs.Come.{rests, looks_first, settles_from}
+use Rattle.hb_link.proofs.Settles.{stays, settles_then}
+use Rattle.hb_link.proofs.link.Link.look_all.Goals as goal
+
+pub returns-then-not-is_serving : goal.returns-then-not-is_serving
+returns-then-not-is_serving g c =
+    let k = c.args.self.now in
+    let told = g.N.Notes.told c.args.notes.now in
+    let off : serves_in k.phase ≡ false = search rules in
+    settles_from c.args.others c.args.limit (λ h. h ≡ c.args.held.now) (λ n x. HasCome x.phase n x) MayPut MayPut k k told told
+    (λ x come. rests k x off come)
+    (stays c.args.others c.args.limit (λ h. h ≡ c.args.held.now) MayPut MayPut k told (λ x is. is))
+
+pub loop-init : goal.loop-init
+loop-init g c =
+    stays c.args.others c.args.limit (λ h. h ≡ c.args.held.now) MayLook MayLook c.args.self.now (g.N.Notes.told c.args.notes.now)
+    (λ x is. is)
+
+pub loop-preserved : goal.loop-preserved
+loop-preserved g c =
+    let told = g.N.Notes.told c.loop.notes in
+    let now = g.N.Notes.told c.look.new.notes in
+    settles_then c.args.others c.args.limit (λ h. h ≡ c.args.held.now) MayLook MayLook MayLook c.args.self.now c.loop.self c.look.new.self
+    (g.N.Notes.told c.args.notes.now) told now c.loop.invariant
+    (subst (λ (b : Bool). Settles c.args.others c.args.limit (λ h. h ≡ c.args.held.now) MayLook (Looked b) c.loop.self told c.look.new.self
+    now) c.if-branch.true c.in_ok-look.ensures.settles)
+
+pub returns : goal.returns
+returns g c =
+    let k = c.args.self.now in
+    let first = g.N.Notes.told c.args.notes.now in
+    let told = g.N.Notes.told c.loop.notes in
+    let now = g.N.Notes.told c.look.new.notes in
+    let last = subst (λ (b : Bool). Settles c.args.others c.args.limit (λ h. h ≡ c.args.held.now) MayLook (Looked b) c.loop.self told
+    c.look.new.self now) c.if-branch.false c.in_ok-look.ensures.settles in
+    settles_from c.args.others c.args.limit (λ h. h ≡ c.args.held.now) (λ n x. HasCome x.phase n x) MayLook MayPut k c.look.new.self first
+    now (λ x come. looks_first k x (search rules) come)
+    (settles_then c.args.others c.args.limit (λ h. h ≡ c.args.held.now) MayLook MayLook MayPut k c.loop.self c.look.new.self first told now
+    c.loop.invariant last)

@@ -1,0 +1,53 @@
+use Rattle.std.proofs.Common.{rules, ◌≡◌, ◌+◌, true, false, subst}
+use Rattle.std.specs.Prelude.{⊤, ℕ, Option, None}
+use Rattle.hb_link.specs.Observed.{serves_in}
+use Rattle.hb_link.specs.Putting.{PutsBelow}
+use Rattle.hb_link.specs.Settling.{MayPut, AlwaysSettles}
+use Rattle.hb_link.specs.Shows.{Shows}
+use Rattle.hb_link.proofs.Loads.{place_of}
+use Rattle.hb_link.proofs.PutsOn.{not_served, begins, advance, ends}
+use Rattle.hb_link.proofs.Settles.{settles_then, stays}
+use Rattle.hb_link.proofs.link.Link.put_all.Goals as goal
+
+pub returns-then-not-is_serving : goal.returns-then-not-is_serving
+returns-then-not-is_serving g c = λ others limit.
+    let k = c.args.self.now in
+    let never : serves_in k.phase ≡ false = search rules in
+    stays others limit (λ held. ⊤) MayPut Shows k (g.N.Notes.told c.args.notes.now) (not_served k never)
+
+pub loop-from-init : goal.loop-from-init
+loop-from-init g c = λ others limit.
+    let k = c.args.self.now in
+    let serves : serves_in k.phase ≡ true = search rules in
+    let first = c.first_from-from.result in
+    stays others limit (λ held. ⊤) MayPut (PutsBelow (place_of first)) k (g.N.Notes.told c.args.notes.now)
+    (begins k serves first c.first_from-from.ensures.first)
+
+pub loop-from-preserved : goal.loop-from-preserved
+loop-from-preserved g c = λ others limit.
+    let k = c.args.self.now in
+    let mid = c.loop-from.self in
+    let next = c.put_on.new.self in
+    let s = c.in-Some.stream in
+    let told = g.N.Notes.told c.args.notes.now in
+    let before = g.N.Notes.told c.loop-from.notes in
+    let behind = g.N.Notes.told c.put_on.new.notes in
+    let to = c.first_behind-from.result in
+    let reached = subst (λ (from : Option ℕ). AlwaysSettles MayPut (PutsBelow (place_of from)) k told mid before) c.in-Some.is
+    c.loop-from.invariant in
+    settles_then others limit (λ held. ⊤) MayPut (PutsBelow (s + 1)) (PutsBelow (place_of to)) k next next told behind behind
+    (settles_then others limit (λ held. ⊤) MayPut (PutsBelow s) (PutsBelow (s + 1)) k mid next told before behind (reached others limit)
+    (c.put_on.ensures others limit))
+    (stays others limit (λ held. ⊤) (PutsBelow (s + 1)) (PutsBelow (place_of to)) next behind
+    (advance next (s + 1) to c.first_behind-from.ensures))
+
+pub returns : goal.returns
+returns g c = λ others limit.
+    let k = c.args.self.now in
+    let last = c.loop-from.self in
+    let told = g.N.Notes.told c.args.notes.now in
+    let now = g.N.Notes.told c.loop-from.notes in
+    let reached = subst (λ (from : Option ℕ). AlwaysSettles MayPut (PutsBelow (place_of from)) k told last now) c.in_default.is
+    c.loop-from.invariant in
+    settles_then others limit (λ held. ⊤) MayPut (PutsBelow (place_of None)) Shows k last last told now now (reached others limit)
+    (stays others limit (λ held. ⊤) (PutsBelow (place_of None)) Shows last now (ends last))

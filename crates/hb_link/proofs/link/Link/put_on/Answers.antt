@@ -1,0 +1,96 @@
+use Rattle.std.proofs.Common.{rules, ◌≡◌, ◌+◌, [], ◌∷◌, ◌++◌, is_some, List, sym, ap, ap₂, subst, ◌∙◌, true, false}
+use Rattle.std.specs.Prelude.{⊤}
+use Rattle.std.specs.FinMap.{insert}
+use Rattle.hb_base.specs.declared.cause.Cause.TheVariants as cause
+use Rattle.hb_base.specs.declared.note.Note.{Note}
+use Rattle.hb_base.specs.declared.note.Note.TheVariants as note
+use Rattle.hb_conn.specs.Connection.{Connection}
+use Rattle.hb_inbound.specs.Calm.{is_done_on}
+use Rattle.hb_map.proofs.Laws.{written_where_some}
+use Rattle.hb_link.specs.declared.tunnel.Stage.TheVariants.{Over}
+use Rattle.hb_link.specs.declared.tunnel.Tunnel.{Tunnel}
+use Rattle.hb_link.specs.Putting.{bytes_put, conn_bytes, end_counted, conn_finished, lives_in, PutsBelow}
+use Rattle.hb_link.specs.Settling.{AlwaysSettles, Settles}
+use Rattle.hb_link.specs.Tunnels.{tunnel_of}
+use Rattle.hb_link.proofs.Maps.{put_same}
+use Rattle.hb_link.proofs.Moving.{Map, link_with}
+use Rattle.hb_link.proofs.PutsOn.{none_on, other_on, some_on, last_on, is_live_here}
+use Rattle.hb_link.proofs.Settles.{stays}
+use Rattle.hb_link.proofs.link.Link.put_on.Goals as goal
+
+pub returns-in_default : goal.returns-in_default
+returns-in_default g c = λ others limit.
+    let k = c.args.self.now in
+    let s = c.args.stream in
+    let told = g.N.Notes.told c.args.notes.now in
+    subst (λ (tunnels : Map). Settles others limit (λ held. ⊤) (PutsBelow s) (PutsBelow (s + 1)) k told (link_with k.conn tunnels k) told)
+    (sym c.at.follows.holds-at-none)
+    (stays others limit (λ held. ⊤) (PutsBelow s) (PutsBelow (s + 1)) k told (none_on k s c.in_default.ensures.none))
+
+pub returns-then-not-lives : goal.returns-then-not-lives
+returns-then-not-lives g c = λ others limit.
+    let k = c.args.self.now in
+    let s = c.args.stream in
+    let old = c.in-Some.tunnel.now in
+    let told = g.N.Notes.told c.args.notes.now in
+    let never : lives_in old.stage ≡ false = search rules in
+    let is = c.at.follows.holds old ∙ written_where_some k.tunnels s old (ap is_some c.in-Some.ensures.value)
+    ∙ put_same k.tunnels s old c.in-Some.ensures.value in
+    subst (λ (tunnels : Map). Settles others limit (λ held. ⊤) (PutsBelow s) (PutsBelow (s + 1)) k told (link_with k.conn tunnels k) told)
+    (sym is)
+    (stays others limit (λ held. ⊤) (PutsBelow s) (PutsBelow (s + 1)) k told (other_on k s old c.in-Some.ensures.value never))
+
+pub returns-then-is_done : goal.returns-then-is_done
+returns-then-is_done g c =
+    let k = c.args.self.now in
+    let s = c.args.stream in
+    let old = c.in-Some.tunnel.now in
+    let told = g.N.Notes.told c.args.notes.now in
+    let one = bytes_put k.conn s old in
+    let mid = conn_bytes k.conn s old in
+    let two = end_counted mid s one in
+    let two_is : c.finish.new.self ≡ two =
+    c.finish.ensures.tunnel
+    ∙ ap₂ (λ (d : Connection) (w : Tunnel). end_counted d s w) c.put_bytes.ensures.conn c.put_bytes.ensures.tunnel in
+    let conn_is : c.finish.new.conn ≡ conn_finished mid s one =
+    c.finish.ensures.conn
+    ∙ ap₂ (λ (d : Connection) (w : Tunnel). conn_finished d s w) c.put_bytes.ensures.conn c.put_bytes.ensures.tunnel in
+    let test = sym (c.is_done.ensures ∙ ap₂ (λ (d : Connection) (w : Tunnel). is_done_on d s (tunnel_of w)) conn_is two_is) in
+    let live = is_live_here old.stage (let lives : lives_in old.stage ≡ true = search rules in lives) in
+    let new : Tunnel = record c.finish.new.self { stage = Over cause.Done } in
+    let is = c.at.follows.holds new ∙ written_where_some k.tunnels s new (ap is_some c.in-Some.ensures.value)
+    ∙ ap (λ (w : Tunnel). insert k.tunnels s (record w { stage = Over cause.Done })) two_is in
+    let made : told ++ note.End k.number s cause.Done two.went_up two.went_down ∷ [] ≡ g.N.Notes.told c.end.new.self =
+    sym (c.end.ensures ∙ ap (λ (w : Tunnel). told ++ note.End k.number s cause.Done w.went_up w.went_down ∷ []) two_is) in
+    subst (λ (tunnels : Map). AlwaysSettles (PutsBelow s) (PutsBelow (s + 1)) k told (link_with c.finish.new.conn tunnels k)
+    (g.N.Notes.told c.end.new.self)) (sym is)
+    (subst (λ (d : Connection). AlwaysSettles (PutsBelow s) (PutsBelow (s + 1)) k told
+    (link_with d (insert k.tunnels s (record two { stage = Over cause.Done })) k) (g.N.Notes.told c.end.new.self)) (sym conn_is)
+    (subst (λ (now : List Note). AlwaysSettles (PutsBelow s) (PutsBelow (s + 1)) k told
+    (link_with (conn_finished mid s one) (insert k.tunnels s (record two { stage = Over cause.Done })) k) now) made
+    (last_on k s old told c.in-Some.ensures.value live (test ∙ c.if-is_done.true))))
+
+pub returns-else-is_done : goal.returns-else-is_done
+returns-else-is_done g c =
+    let k = c.args.self.now in
+    let s = c.args.stream in
+    let old = c.in-Some.tunnel.now in
+    let told = g.N.Notes.told c.args.notes.now in
+    let one = bytes_put k.conn s old in
+    let mid = conn_bytes k.conn s old in
+    let two = end_counted mid s one in
+    let two_is : c.finish.new.self ≡ two =
+    c.finish.ensures.tunnel
+    ∙ ap₂ (λ (d : Connection) (w : Tunnel). end_counted d s w) c.put_bytes.ensures.conn c.put_bytes.ensures.tunnel in
+    let conn_is : c.finish.new.conn ≡ conn_finished mid s one =
+    c.finish.ensures.conn
+    ∙ ap₂ (λ (d : Connection) (w : Tunnel). conn_finished d s w) c.put_bytes.ensures.conn c.put_bytes.ensures.tunnel in
+    let test = sym (c.is_done.ensures ∙ ap₂ (λ (d : Connection) (w : Tunnel). is_done_on d s (tunnel_of w)) conn_is two_is) in
+    let live = is_live_here old.stage (let lives : lives_in old.stage ≡ true = search rules in lives) in
+    let is = c.at.follows.holds c.finish.new.self
+    ∙ written_where_some k.tunnels s c.finish.new.self (ap is_some c.in-Some.ensures.value)
+    ∙ ap (λ (w : Tunnel). insert k.tunnels s w) two_is in
+    subst (λ (tunnels : Map). AlwaysSettles (PutsBelow s) (PutsBelow (s + 1)) k told (link_with c.finish.new.conn tunnels k) told) (sym is)
+    (subst (λ (d : Connection). AlwaysSettles (PutsBelow s) (PutsBelow (s + 1)) k told (link_with d (insert k.tunnels s two) k) told)
+    (sym conn_is)
+    (some_on k s old told c.in-Some.ensures.value live (test ∙ c.if-is_done.false)))

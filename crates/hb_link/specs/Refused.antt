@@ -1,0 +1,57 @@
+-- Links that code may not show, and what may not follow by itself; a new link may be shown.
+use Rattle.std.specs.Prelude.{◌≡◌, ◌≢◌, ℕ, ◌<◌, List, [], ◌∷◌, ◌++◌, Some, None}
+use Rattle.std.specs.FinMap.{get, empty}
+use Rattle.hb_base.specs.declared.cause.Cause.{Cause}
+use Rattle.hb_base.specs.declared.note.Note.{Note}
+use Rattle.hb_base.specs.declared.note.Note.TheVariants as note
+use Rattle.hb_conn.specs.Connection.{fresh_server}
+use Rattle.hb_conn.specs.Observed.{count_put}
+use Rattle.hb_inbound.specs.Inbound as m
+use Rattle.hb_inbound.specs.Inbound.{Inbound, no_link, with_phase}
+use Rattle.hb_inbound.specs.Runs.{Local}
+use Rattle.hb_inbound.specs.Tunnel as t
+use Rattle.hb_link.specs.declared.link.Link.{Link}
+use Rattle.hb_link.specs.declared.phase.Phase.TheVariants.{Fronting}
+use Rattle.hb_link.specs.declared.tunnel.Stage.TheVariants.{Live}
+use Rattle.hb_link.specs.declared.tunnel.Tunnel.{Tunnel}
+use Rattle.hb_link.specs.Reaches.{Follows, unguarded}
+use Rattle.hb_link.specs.Settling.{Agrees, GotAll}
+use Rattle.hb_link.specs.Shows.{Shows}
+
+-- the code has no tunnel where the machine's lives, or one that lives where that is to be dialled
+abbrev pub KeepsNone : Type 0
+KeepsNone = (k : Link) (x : Inbound) (s : ℕ) → get k.tunnels s ≡ None → (x.tunnels s).stage ≡ t.live → Agrees k x → ⊥
+
+abbrev pub LivesEarly : Type 0
+LivesEarly = (k : Link) (x : Inbound) (s : ℕ) (old : Tunnel) → get k.tunnels s ≡ Some old → old.stage ≡ Live
+    → (x.tunnels s).stage ≡ t.due → Agrees k x → ⊥
+
+-- another connection, while the link serves
+abbrev pub HasAnother : Type 0
+HasAnother = (k : Link) (x : Inbound) → x.phase ≡ m.serving → x.conn ≢ k.conn → Agrees k x → ⊥
+
+-- bytes of a tunnel that lives could still be put; a tunnel that failed, or ended, hasn't got what it gets
+abbrev pub PutsLater : Type 0
+PutsLater = (k : Link) (x : Inbound) (s : ℕ) → x.phase ≡ m.serving → (x.tunnels s).stage ≡ t.live
+    → 0 < count_put x.conn s (x.tunnels s).ways.down.held → Shows k x → ⊥
+
+abbrev pub AnswersLater : Type 0
+AnswersLater = (k : Link) (x : Inbound) (s : ℕ) (why : Cause) → (x.tunnels s).stage ≡ t.failed why → Shows k x → ⊥
+
+abbrev pub GetsLater : Type 0
+GetsLater = (k : Link) (x : Inbound) (s : ℕ) (why : Cause) → (x.tunnels s).stage ≡ t.ended why → GotAll k x → ⊥
+
+-- a tunnel ended: all get what they get, and no note is told; or that of another one on a higher stream is told first
+abbrev pub TellsNone : Type 0
+TellsNone = (l : ℕ) (a : Local) (k : Link) (told : List Note) (s : ℕ) (why : Cause) → (a.link.tunnels s).stage ≡ t.ended why
+    → Follows unguarded GotAll l a k told told → ⊥
+
+abbrev pub TellsHigherFirst : Type 0
+TellsHigherFirst = (l : ℕ) (a : Local) (k : Link) (told rest : List Note) (s j : ℕ)
+    (why second : Cause) (up down : ℕ) → s < j → (a.link.tunnels s).stage ≡ t.ended why
+    → Follows unguarded Agrees l a k told (told ++ note.End l j second up down ∷ rest) → ⊥
+
+-- a link that was taken in just now, of which nothing is known, may be shown by one without bytes and tunnels
+abbrev pub NewIsShown : Type 0
+NewIsShown = (k : Link) → k.phase ≡ Fronting → k.front ≡ [] → k.conn ≡ fresh_server → k.tunnels ≡ empty
+    → Shows k (with_phase m.fronting no_link)

@@ -1,0 +1,27 @@
+//! Links that code may not show, what may not follow by itself, and a link that may be shown. Each is the contract of a function that
+//! does nothing.
+
+ghost use Rattle.hb_link.specs.Refused.{KeepsNone, LivesEarly, HasAnother, PutsLater, AnswersLater, GetsLater};
+ghost use Rattle.hb_link.specs.Refused.{TellsNone, TellsHigherFirst, NewIsShown};
+
+/// A link has a tunnel for each that lives, at its stage, and the same connection while it serves. Between two calls nothing more could
+/// be put, and each tunnel that ended got what its stream gets.
+pub fn other_links_are_not_shown()
+    ensures none { KeepsNone }
+    ensures early { LivesEarly }
+    ensures another { HasAnother }
+    ensures puts { PutsLater }
+    ensures answers { AnswersLater }
+    ensures gets { GetsLater }
+{}
+
+/// The end of a tunnel is told, and of two those of the lower stream first.
+pub fn ends_are_told_in_order()
+    ensures none { TellsNone }
+    ensures order { TellsHigherFirst }
+{}
+
+/// A link that was taken in just now is shown by one without bytes and tunnels.
+pub fn a_new_link_is_shown()
+    ensures { NewIsShown }
+{}

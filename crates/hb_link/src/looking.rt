@@ -1,0 +1,90 @@
+//! All that came on the connection is looked at.
+
+ghost use Rattle.std.specs.Prelude.{◌≡◌, ◌<◌, true, IfOk, OnOk};
+ghost use Rattle.hb_link.specs.Fronting.{HasCome};
+ghost use Rattle.hb_link.specs.Looking.{left_to_look, FaultsFor, HasHeard, IsFitting, Looked, goes_on};
+ghost use Rattle.hb_link.specs.Settling.{MayPut, MayLook, AlwaysSettles, Settles};
+
+use crate::hearing::{Heard, hear};
+use crate::link::Link;
+use crate::notes::Notes;
+use crate::phase::Phase;
+use hb_base::{Cause, NoMemory};
+use hb_held::Held;
+
+impl Link {
+    /// A connection error was told: all tunnels end.
+    fn fail<N: Notes>(&mut self, code: u32, notes: &mut N)
+        ensures { AlwaysSettles (FaultsFor code) MayPut self.old (N.told notes.old) self.new (N.told notes.new) }
+    {
+        self.end_with(Phase::Faulted(code), Cause::ConnFault(code));
+        self.answer_all(notes);
+    }
+
+    /// Does what was heard, and says whether more may be told.
+    fn follow<N: Notes>(
+        &mut self,
+        held: &Held,
+        others: usize,
+        limit: usize,
+        heard: Heard,
+        notes: &mut N,
+    ) -> bool
+        requires { IsFitting heard }
+        ensures settles { Settles others limit (λ h. h ≡ held.now) (HasHeard heard) (Looked result) self.old (N.told notes.old) self.new
+            (N.told notes.new) }
+        ensures more { result ≡ goes_on heard }
+        ensures left { result ≡ true → left_to_look self.new.conn ≡ left_to_look self.old.conn }
+    {
+        match heard {
+            Heard::Nothing => return false,
+            Heard::Done => {}
+            Heard::Request(asked) => self.answer_request(held, others, limit, asked, notes),
+            Heard::Left { stream, cause } => self.end_alone(stream, cause, notes),
+            Heard::Fault { code } => {
+                self.fail(code, notes);
+                return false;
+            }
+        }
+        true
+    }
+
+    /// Looks at what happens next, and says whether more may.
+    ///
+    /// Errors: `NoMemory`, behind which the run ends.
+    pub(crate) fn look<N: Notes>(
+        &mut self,
+        held: &Held,
+        others: usize,
+        limit: usize,
+        notes: &mut N,
+    ) -> Result<bool, NoMemory>
+        ensures settles { IfOk result (λ more.
+            Settles others limit (λ h. h ≡ held.now) MayLook (Looked more) self.old (N.told notes.old) self.new (N.told notes.new)) }
+        ensures falls { IfOk result (λ more. more ≡ true → left_to_look self.new.conn < left_to_look self.old.conn) }
+    {
+        let told = self.conn.next_happening()?;
+        let heard = hear(&mut self.tunnels, self.destination, told);
+        Ok(self.follow(held, others, limit, heard, notes))
+    }
+
+    /// Looks at all that came, where it is a connection.
+    ///
+    /// Errors: `NoMemory`, behind which the run ends.
+    pub(crate) fn look_all<N: Notes>(
+        &mut self,
+        held: &Held,
+        others: usize,
+        limit: usize,
+        notes: &mut N,
+    ) -> Result<(), NoMemory>
+        ensures { OnOk result (Settles others limit (λ h. h ≡ held.now) (λ k x. HasCome x.phase k x) MayPut self.old
+            (N.told notes.old) self.new (N.told notes.new)) }
+    {
+        if !self.phase.is_serving() {
+            return Ok(());
+        }
+        while self.look(held, others, limit, notes)? {}
+        Ok(())
+    }
+}

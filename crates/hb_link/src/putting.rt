@@ -1,0 +1,105 @@
+//! What may be put on the streams of tunnels that live.
+
+ghost use Rattle.std.specs.Prelude.{◌≡◌, ◌+◌};
+ghost use Rattle.hb_link.specs.Putting.{bytes_put, conn_bytes, data_seen, may_finish, end_counted, conn_finished, lives_in, PutsBelow};
+ghost use Rattle.hb_link.specs.Settling.{MayPut, AlwaysSettles};
+ghost use Rattle.hb_link.specs.Shows.{Shows};
+
+use crate::link::Link;
+use crate::notes::Notes;
+use crate::tunnel::{Stage, Tunnel};
+use hb_base::Cause;
+use hb_conn::Conn;
+
+/// DATA with payload of the stream waits to be written.
+fn data_waits(conn: &Conn, stream: u32) -> bool
+    ensures { result ≡ data_seen conn.now stream }
+{
+    let unbegun = match conn.unbegun() {
+        Some(first) => first.stream == stream,
+        None => false,
+    };
+    unbegun || conn.data_begun(stream)
+}
+
+impl Tunnel {
+    /// It lives.
+    fn lives(&self) -> bool
+        ensures { result ≡ lives_in self.now.stage }
+    {
+        matches!(self.stage, Stage::Live)
+    }
+
+    /// Puts as many of the bytes that wait in one DATA frame as may go.
+    fn put_bytes(&mut self, conn: &mut Conn, stream: u32)
+        ensures tunnel { self.new ≡ bytes_put conn.old stream self.old }
+        ensures conn { conn.new ≡ conn_bytes conn.old stream self.old }
+    {
+        if conn.output().is_empty() && conn.sides(stream).own {
+            let n = conn.put_some(stream, self.ways.all_down());
+            self.ways.took_down(n);
+        }
+    }
+
+    /// END_STREAM may go: all that came of the upstream has gone.
+    fn may_finish(&self, conn: &Conn, stream: u32) -> bool
+        ensures { result ≡ may_finish conn.now stream self.now }
+    {
+        self.ways.down_done()
+            && !self.end_put
+            && conn.sides(stream).own
+            && !data_waits(conn, stream)
+    }
+
+    /// Puts END_STREAM where it may go.
+    fn finish(&mut self, conn: &mut Conn, stream: u32)
+        ensures tunnel { self.new ≡ end_counted conn.old stream self.old }
+        ensures conn { conn.new ≡ conn_finished conn.old stream self.old }
+    {
+        if self.may_finish(conn, stream) {
+            conn.put_end(stream);
+            self.end_put = true;
+        }
+    }
+}
+
+impl Link {
+    /// What may be put of the tunnel on the stream, and it is over where both sides ended and all went through.
+    fn put_on<N: Notes>(&mut self, stream: u32, notes: &mut N)
+        ensures { AlwaysSettles (PutsBelow stream) (PutsBelow (stream + 1)) self.old (N.told notes.old) self.new (N.told notes.new) }
+    {
+        let Some(tunnel) = self.tunnels.at(stream) else {
+            return;
+        };
+        if !tunnel.lives() {
+            return;
+        }
+        tunnel.put_bytes(&mut self.conn, stream);
+        tunnel.finish(&mut self.conn, stream);
+        if tunnel.is_done(&self.conn, stream) {
+            tunnel.stage = Stage::Over(Cause::Done);
+            notes.end(
+                self.number,
+                stream,
+                Cause::Done,
+                tunnel.went_up,
+                tunnel.went_down,
+            );
+        }
+    }
+
+    /// By rising stream, as many of the bytes that wait go in DATA as may, END_STREAM goes where it may, and a tunnel is over of which
+    /// both sides ended and all went through.
+    pub(crate) fn put_all<N: Notes>(&mut self, notes: &mut N)
+        ensures { AlwaysSettles MayPut Shows self.old (N.told notes.old) self.new (N.told notes.new) }
+    {
+        if !self.phase.is_serving() {
+            return;
+        }
+        let mut from = self.tunnels.first_from(0);
+        while let Some(stream) = from {
+            self.put_on(stream, notes);
+            from = self.tunnels.first_behind(stream);
+        }
+    }
+}
