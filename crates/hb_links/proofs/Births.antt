@@ -1,0 +1,64 @@
+-- A link is accepted, and the dial of an upstream is answered.
+use Rattle.std.specs.Prelude.{⊤}
+use Rattle.std.proofs.Common.{◌≡◌, inl, ℕ, ◌<◌, ◌^◌, List, [], Option, Some, None, is_some, refl, ap, sym, ◌∙◌, subst, arith}
+use Rattle.std.proofs.lemmas.Bool.{false≢true}
+use Rattle.std.specs.FinMap.{get, insert}
+use Rattle.hb_base.specs.declared.door.Door.TheVariants as door
+use Rattle.hb_base.specs.declared.door.Why.{Why}
+use Rattle.hb_base.specs.declared.note.Note.{Note}
+use Rattle.hb_base.specs.declared.target.Target.{Target}
+use Rattle.hb_inbound.specs.Inbound.{no_link}
+use Rattle.hb_inbound.specs.Part as part
+use Rattle.hb_inbound.specs.Runs.{with_link}
+use Rattle.hb_inbound.specs.Tunnel as t
+use Rattle.hb_link.specs.Calls as calls
+use Rattle.hb_link.specs.Reaches as link
+use Rattle.hb_link.specs.declared.link.Link.{Link}
+use Rattle.hb_proxy.proofs.Projection.{links_run}
+use Rattle.hb_proxy.specs.Held.{at_start}
+use Rattle.hb_proxy.specs.Machine.{local}
+use Rattle.hb_proxy.specs.Points.{parts_of}
+use Rattle.hb_world.specs.declared.entry.Entry.TheVariants as e
+use Rattle.hb_links.specs.declared.links.Links.{Links}
+use Rattle.hb_links.specs.Busy.{touched}
+use Rattle.hb_links.specs.Calls.{Begins, Dials, DialFails}
+use Rattle.hb_links.specs.Places.{up_by, place}
+use Rattle.hb_links.specs.Shows.{ShowsAll, ShowsLink}
+use Rattle.hb_links.proofs.Indexing.{born, is_new}
+use Rattle.hb_links.proofs.Showing.{links_with, reaches, leaves_index, lifts, lifts_with}
+
+pub begins : (k : Links) (n : ℕ) (new : Link) → n < 2 ^ 64 → calls.Begins n new → new.number ≡ n
+    → Begins n k (touched n (links_with (insert k.links n new) k.ups k))
+begins k n new narrow starts number g x y points stands shows holds steps =
+    reaches link.unguarded g k n (part.entry (e.Accepted n door.Inbound)) new k.ups [] [] x y points stands shows steps number narrow
+    (starts (at_start g) (parts_of n points) (local x n) (with_link steps.0 (local x n)) (links_run g x points n stands) steps.1)
+    (leaves_index k.ups x.inbound n (part.entry (e.Accepted n door.Inbound)) tt shows.index)
+
+pub dials : (k : Links) (l s u : ℕ) (old new : Link) → get k.links l ≡ Some old
+    → ((to : Target) (why : Why) → calls.UpEnters s (e.Dialled u to why) old [] new [])
+    → Dials l s u k (touched l (links_with (insert k.links l new) (insert k.ups u (place l s)) k))
+dials k l s u old new is enters to why =
+    lifts_with link.unguarded (λ a. ⊤) k l old new (insert k.ups u (place l s)) [] [] (λ i. part.up s (e.Dialled u to why)) is
+    (λ g x y points stands shows steps z others ups.
+    born x.inbound z l s u others ups k.ups shows.index steps.1.0.2.0
+    (ap (λ (stage : t.Stage). up_by stage ((x.inbound l).tunnels s)) steps.1.0.1)
+    (is_new g x points stands u steps.2.birth))
+    (enters to why)
+
+pub fails : (k : Links) (l s : ℕ) (old new : Link) (told now : List Note) → get k.links l ≡ Some old
+    → ((to : Target) (why : Why) → calls.UpEnters s (e.DialFailed to why) old told new now)
+    → DialFails l s k told (touched l (links_with (insert k.links l new) k.ups k)) now
+fails k l s old new told now is enters to why =
+    lifts link.unguarded (λ a. ⊤) k l old new told now (λ i. part.up s (e.DialFailed to why)) is (λ u. refl) (enters to why)
+
+-- none stand for no birth
+pub none_shown : (k : Links) → ((l : ℕ) → get k.links l ≡ None) → ((u : ℕ) → get k.ups u ≡ None) → ShowsAll k (λ l. no_link)
+none_shown k links ups = record {
+  links = λ l. subst (λ (o : Option Link). ShowsLink l o no_link) (sym (links l)) (tt, λ s. inl refl);
+  index = record {
+    found = λ l s u joins. absurd (let some = joins.0 in let is = joins.1 in omega (arith, some, is));
+    joined = λ u at found. absurd (let both : None ≡ Some at = sym (ups u) ∙ found in cc);
+  };
+  numbered = λ l some. absurd (let no = sym (ap is_some (links l)) ∙ some in false≢true no);
+  idle = λ l none. record { no_close = refl; idle = λ s. tt };
+}

@@ -1,0 +1,11 @@
+pub mod Acting
+pub mod Due
+pub mod Entering
+pub mod Indexing
+pub mod Births
+pub mod Lifted
+pub mod Showing
+pub mod Sweeping
+pub mod Telling
+pub mod Ups
+pub mod Walking

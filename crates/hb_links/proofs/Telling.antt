@@ -1,0 +1,203 @@
+-- A response that is applied, and the end of the run, are told to all links.
+use Rattle.std.specs.Prelude.{⊤}
+use Rattle.std.proofs.Common.{◌≡◌, ⊎_elim, inl, inr, ℕ, Bool, false, cond, List, Option, Some, None, is_some, IsSome, refl, ap, sym, ◌∙◌, subst}
+use Rattle.std.proofs.lemmas.Bool.{false≢true}
+use Rattle.std.specs.FinMap.{get, insert}
+use Rattle.hb_base.specs.declared.cause.Cause.{Cause}
+use Rattle.hb_base.specs.declared.note.Note.{Note}
+use Rattle.hb_disco.specs.declared.response.Response.{Response}
+use Rattle.hb_held.specs.Held.{Resources}
+use Rattle.hb_held.specs.Outcome.{after_response}
+use Rattle.hb_inbound.specs.Inbound as m
+use Rattle.hb_inbound.specs.Inbound.{Inbound, rejudged, stopped_for, stops_by, judged_by}
+use Rattle.hb_inbound.specs.Part as part
+use Rattle.hb_inbound.specs.Tunnel as t
+use Rattle.hb_inbound.specs.Tunnel.{Tunnel, takes_place, ends_by, ends_for}
+use Rattle.hb_link.specs.Calls as calls
+use Rattle.hb_link.specs.Tunnels.{ShowsTunnel}
+use Rattle.hb_link.specs.declared.link.Link.{Link}
+use Rattle.hb_map.proofs.Laws.{written_where_some}
+use Rattle.hb_map.specs.Keyed.{IsFirstFrom, written}
+use Rattle.std.specs.Option.{option_map}
+use Rattle.hb_model.specs.Machine as control
+use Rattle.hb_model.specs.Point as point
+use Rattle.hb_model.specs.declared.config.NodeConfig.{NodeConfig}
+use Rattle.hb_proxy.specs.Machine.{Machine, local}
+use Rattle.hb_proxy.specs.Points.{of_control}
+use Rattle.hb_proxy.specs.Runs.{Steps}
+use Rattle.hb_table.specs.Judgement.{judged}
+use Rattle.hb_links.specs.declared.links.Links.{Links}
+use Rattle.hb_links.specs.Calls.{Updates, Stops}
+use Rattle.hb_links.specs.Reaches.{Meets, unguarded}
+use Rattle.hb_links.specs.Shows.{IsAway, ShowsLink}
+use Rattle.hb_links.specs.Walks.{IsNext, Telling, TellsBy}
+use Rattle.hb_links.proofs.Showing.{Map}
+use Rattle.hb_links.proofs.Sweeping.{AllSee, Swept, starts, goes, ends}
+
+-- only links change
+abbrev pub IsTold : Links → Links → Type 0
+IsTold k n = n ≡ record k { links = n.links }
+
+-- the walk is at a link
+abbrev pub IsOn : Option ℕ → Map → Type 0
+IsOn None links = ⊤
+IsOn (Some n) links = IsSome (get links n)
+
+first_on : (links : Map) (first : Option ℕ) → IsFirstFrom links 0 first → IsOn first links
+first_on links None is = tt
+first_on links (Some n) is = is.1
+
+next_on : (links : Map) (n : ℕ) (next : Option ℕ) → IsNext links n next → IsOn next links
+next_on links n None is = tt
+next_on links n (Some m) (inl is) = is.1
+next_on links n (Some m) (inr is) = absurd (let none = is.0 in cc)
+
+abbrev pub held_by : Resources → Response → Machine → Type 0
+held_by held r x = held ≡ after_response x.control.held r
+
+abbrev pub Applies : Resources → Links → Links → Option ℕ → List Note → List Note → Type 0
+Applies held k n from told now =
+    IsTold k n × IsOn from n.links
+    × ((l : ℕ) (r : Response) → Swept (held_by held r) (point.applied l r) (part.applied r) k n.links from told now)
+
+abbrev pub Stopping : Cause → Links → Links → Option ℕ → List Note → List Note → Type 0
+Stopping cause k n from told now =
+    IsTold k n × IsOn from n.links × Swept (λ x. ⊤) (point.stopped cause) (part.stopped cause) k n.links from told now
+
+-- A TUNNEL THAT ISN'T THERE
+
+placeless : (x : Tunnel) → ShowsTunnel None x → takes_place x.stage ≡ false
+placeless x shown = ⊎_elim (λ (is : x.stage ≡ t.unasked). ap takes_place is) (λ (is : x.stage ≡ t.gone). ap takes_place is) shown
+
+away_judged : (held : Resources) (l : ℕ) (x : Inbound) → ShowsLink l None x → ShowsLink l None (rejudged held x)
+away_judged held l x shown = (
+  shown.0,
+  λ s. subst (ShowsTunnel None)
+      (sym (ap (λ (b : Bool). cond b (judged_by (judged held x.peer (x.tunnels s).target) (x.tunnels s)) (x.tunnels s))
+      (placeless (x.tunnels s) (shown.1 s)))) (shown.1 s),
+)
+
+away_by : (cause : Cause) (phase : m.Phase) → IsAway phase → IsAway (stops_by cause phase)
+away_by cause m.unborn is = tt
+away_by cause m.closed is = tt
+away_by cause m.arriving is = absurd is
+away_by cause m.fronting is = absurd is
+away_by cause m.serving is = absurd is
+away_by cause (m.faulted code) is = absurd is
+away_by cause (m.closing why) is = absurd is
+
+away_stopped : (cause : Cause) (l : ℕ) (x : Inbound) → ShowsLink l None x → ShowsLink l None (stopped_for cause x)
+away_stopped cause l x shown = (
+  away_by cause x.phase shown.0,
+  λ s. ⊎_elim (λ (is : (x.tunnels s).stage ≡ t.unasked). inl (ap (ends_by cause) is))
+      (λ (is : (x.tunnels s).stage ≡ t.gone). inr (ap (ends_by cause) is)) (shown.1 s),
+)
+
+-- WHAT ALL SEE
+
+applied_seen : (l : ℕ) (r : Response) (g : NodeConfig) (x y : Machine) → Steps g x (of_control (point.applied l r)) y
+    → AllSee g x y (point.applied l r) (part.applied r)
+applied_seen l r g x y steps = record {
+  sees = refl;
+  leaves = tt;
+  steps = λ k. ap (λ (w : Machine). local w k) steps.3
+      ∙ ap (λ (h : Resources). record { held = h; link = rejudged (after_response x.control.held r) (x.inbound k) })
+      (ap (λ (n : control.Machine). n.held) steps.1.3);
+  away = λ k shown. subst (λ (w : Machine). ShowsLink k None (w.inbound k)) (sym steps.3)
+      (away_judged (after_response x.control.held r) k (x.inbound k) shown);
+}
+
+stopped_seen : (cause : Cause) (g : NodeConfig) (x y : Machine) → Steps g x (of_control (point.stopped cause)) y
+    → AllSee g x y (point.stopped cause) (part.stopped cause)
+stopped_seen cause g x y steps = record {
+  sees = refl;
+  leaves = tt;
+  steps = λ k. ap (λ (w : Machine). local w k) steps.3
+      ∙ ap (λ (h : Resources). record { held = h; link = stopped_for cause (x.inbound k) })
+      (ap (λ (n : control.Machine). n.held) steps.1.1);
+  away = λ k shown. subst (λ (w : Machine). ShowsLink k None (w.inbound k)) (sym steps.3)
+      (away_stopped cause k (x.inbound k) shown);
+}
+
+-- ONE AFTER ANOTHER
+
+pub applied_starts : (held : Resources) (k : Links) (first : Option ℕ) (told : List Note) → IsFirstFrom k.links 0 first
+    → Applies held k k first told told
+applied_starts held k first told is = (
+  refl,
+  first_on k.links first is,
+  λ l r. starts (held_by held r) (point.applied l r) (part.applied r) k first told (λ g x y holds steps. applied_seen l r g x y steps) is,
+)
+
+pub applied_goes : (held : Resources) (k a b : Links) (n : ℕ) (next : Option ℕ) (told now then : List Note)
+    → Applies held k a (Some n) told now → TellsBy (calls.Updates held) (get a.links n) n a now b then → IsNext b.links n next
+    → Applies held k b next told then
+applied_goes held k a b n next told now then applies tells next_is = by (get a.links n) refl tells
+  where
+    one : (old new : Link) → get a.links n ≡ Some old → calls.Updates held old now new then
+        → IsNext (insert a.links n new) n next → Applies held k (record a { links = insert a.links n new }) next told then
+    one old new is updates next_here = (
+      ap (λ (w : Links). record w { links = insert a.links n new }) applies.0,
+      next_on (insert a.links n new) n next next_here,
+      λ l r. goes (held_by held r) (λ c. held ≡ after_response c.held r) (point.applied l r) (part.applied r) k a.links n old new next
+          told now then (λ x i holds. holds) (applies.2 l r) is (updates r) next_here,
+    )
+
+    by : (o : Option Link) → get a.links n ≡ o → TellsBy (calls.Updates held) o n a now b then → Applies held k b next told then
+    by None none told_so = absurd (let some = sym (ap is_some none) ∙ applies.1 in false≢true some)
+    by (Some old) is told_so =
+        subst (λ (w : Links). Applies held k w next told then) (sym told_so.2)
+        (one old told_so.0 is told_so.1 (subst (λ (w : Links). IsNext w.links n next) told_so.2 next_is))
+
+pub applied_ends : (held : Resources) (k a : Links) (told now : List Note) → Applies held k a None told now
+    → Updates held k told (record a { from = Some 0 }) now
+applied_ends held k a told now applies l r =
+    subst (λ (w : Links). Meets unguarded (held_by held r) (of_control (point.applied l r)) k told w now)
+    (sym (ap (λ (w : Links). record w { from = Some 0 }) applies.0))
+    (ends (held_by held r) (point.applied l r) (part.applied r) k a.links told now (applies.2 l r))
+
+pub stopped_starts : (cause : Cause) (k : Links) (first : Option ℕ) (told : List Note) → IsFirstFrom k.links 0 first
+    → Stopping cause k k first told told
+stopped_starts cause k first told is = (
+  refl,
+  first_on k.links first is,
+  starts (λ x. ⊤) (point.stopped cause) (part.stopped cause) k first told (λ g x y holds steps. stopped_seen cause g x y steps) is,
+)
+
+pub stopped_goes : (cause : Cause) (k a b : Links) (n : ℕ) (next : Option ℕ) (told now then : List Note)
+    → Stopping cause k a (Some n) told now → TellsBy (calls.Stops cause) (get a.links n) n a now b then → IsNext b.links n next
+    → Stopping cause k b next told then
+stopped_goes cause k a b n next told now then so_far tells next_is = by (get a.links n) refl tells
+  where
+    one : (old new : Link) → get a.links n ≡ Some old → calls.Stops cause old now new then
+        → IsNext (insert a.links n new) n next → Stopping cause k (record a { links = insert a.links n new }) next told then
+    one old new is stops next_here = (
+      ap (λ (w : Links). record w { links = insert a.links n new }) so_far.0,
+      next_on (insert a.links n new) n next next_here,
+      goes (λ x. ⊤) (λ c. ⊤) (point.stopped cause) (part.stopped cause) k a.links n old new next told now then (λ x i holds. tt) so_far.2
+          is stops next_here,
+    )
+
+    by : (o : Option Link) → get a.links n ≡ o → TellsBy (calls.Stops cause) o n a now b then → Stopping cause k b next told then
+    by None none told_so = absurd (let some = sym (ap is_some none) ∙ so_far.1 in false≢true some)
+    by (Some old) is told_so =
+        subst (λ (w : Links). Stopping cause k w next told then) (sym told_so.2)
+        (one old told_so.0 is told_so.1 (subst (λ (w : Links). IsNext w.links n next) told_so.2 next_is))
+
+pub stopped_ends : (cause : Cause) (k a : Links) (told now : List Note) → Stopping cause k a None told now
+    → Stops cause k told (record a { from = Some 0 }) now
+stopped_ends cause k a told now so_far =
+    subst (λ (w : Links). Stops cause k told w now) (sym (ap (λ (w : Links). record w { from = Some 0 }) so_far.0))
+    (ends (λ x. ⊤) (point.stopped cause) (part.stopped cause) k a.links told now so_far.2)
+
+-- the first of all, as the map gives it
+pub first_is : (links : Map) (first : Option ℕ) → IsFirstFrom links 0 (option_map (λ n. n) first) → IsFirstFrom links 0 first
+first_is links None is = is
+first_is links (Some n) is = is
+
+-- one is told
+pub told_one : (R : Telling) (k : Links) (links : Map) (n : ℕ) (old new : Link) (told now : List Note) → get k.links n ≡ Some old
+    → links ≡ written k.links n new → R old told new now → TellsBy R (get k.links n) n k told (record k { links = links }) now
+told_one R k links n old new told now is links_is does =
+    subst (λ (o : Option Link). TellsBy R o n k told (record k { links = links }) now) (sym is)
+    (new, does, ap (λ (m : Map). record k { links = m }) (links_is ∙ written_where_some k.links n new (ap is_some is)))

@@ -1,0 +1,20 @@
+use Rattle.std.proofs.Common.{sym, subst}
+use Rattle.hb_links.specs.declared.links.Links.{Links}
+use Rattle.hb_links.specs.Calls.{DialFails}
+use Rattle.hb_links.proofs.Births.{fails}
+use Rattle.hb_links.proofs.Entering.{changed}
+use Rattle.hb_links.proofs.links.Links.dial_failed.Goals as goal
+
+pub returns : goal.returns
+returns g c =
+    let k = c.args.self.now in
+    let l = c.args.link in
+    let s = c.args.stream in
+    let old = c.in-Some.at.now in
+    let new = c.dial_failed.new.self in
+    let is = c.in-Some.ensures.value in
+    let told = g.N.Notes.told c.args.notes.now in
+    let now = g.N.Notes.told c.dial_failed.new.notes in
+    subst (λ (m : Links). DialFails l s k told m now)
+    (sym (changed k c.touch.new.self _ l old new c.touch.ensures (c.at.follows.holds new) is))
+    (fails k l s old new told now is c.dial_failed.ensures)

@@ -1,0 +1,26 @@
+use Rattle.std.proofs.Common.{rules, ◌≡◌, Some, None, refl}
+use Rattle.std.specs.FinMap.{get}
+use Rattle.hb_world.specs.declared.entry.Entry.TheVariants as e
+use Rattle.hb_links.proofs.Entering.{up_told, own_told}
+use Rattle.hb_links.proofs.links.Links.ended.Goals as goal
+
+pub returns-in-Some-at : goal.returns-in-Some-at
+returns-in-Some-at g c =
+    let k = c.args.self.now in
+    let n = c.args.number in
+    let at = c.in-Some.place in
+    let new = c.up_ended.new.self in
+    let found : get k.ups n ≡ Some at = search rules in
+    up_told k c.touch.new.self _ n (e.Ended n) at c.in-Some-at.link.now new (g.N.Notes.told c.args.notes.now)
+    (g.N.Notes.told c.up_ended.new.notes) c.touch.ensures (c.at.follows.holds new) found c.in-Some-at.ensures.value (λ u. refl)
+    (c.up_ended.ensures n)
+
+pub returns-in-Some-at-2 : goal.returns-in-Some-at-2
+returns-in-Some-at-2 g c =
+    let k = c.args.self.now in
+    let n = c.args.number in
+    let new = c.ended.new.self in
+    let none : get k.ups n ≡ None = search rules in
+    own_told k c.touch-in-None.new.self _ n (λ i. e.Ended i) c.in-Some-at-2.link.now new (g.N.Notes.told c.args.notes.now)
+    (g.N.Notes.told c.ended.new.notes) c.touch-in-None.ensures (c.at-in-None.follows.holds new) none c.in-Some-at-2.ensures.value
+    c.ended.ensures

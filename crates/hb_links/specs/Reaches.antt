@@ -1,0 +1,61 @@
+-- What a call of the code is to the machine of the whole.
+use Rattle.std.specs.Prelude.{⊤, ◌≡◌, List, [], ◌∷◌, ◌++◌}
+use Rattle.std.specs.List.{flat_map}
+use Rattle.hb_base.specs.declared.note.Note.{Note}
+use Rattle.hb_inbound.specs.Part as part
+use Rattle.hb_link.specs.Reaches as link
+use Rattle.hb_model.specs.declared.config.NodeConfig.{NodeConfig}
+use Rattle.hb_proxy.specs.Machine.{Machine, local}
+use Rattle.hb_proxy.specs.Points.{Point, of_control, of_link}
+use Rattle.hb_proxy.specs.Runs.{Steps, StandsFor}
+use Rattle.hb_links.specs.declared.links.Links.{Links}
+use Rattle.hb_links.specs.Shows.{ShowsAll}
+
+-- a point that follows by itself on a link
+abbrev pub IsInner : Point → Type 0
+IsInner (of_control q) = ⊥
+IsInner (of_link l p) = link.IsInner p
+
+-- of which more may be said, by the machine in front of it; also of the link's alone
+abbrev pub Guard : Type 1
+Guard = Machine → Point → Type 0
+
+abbrev pub on_links : link.Guard → Guard
+on_links G x (of_control q) = ⊤
+on_links G x (of_link l p) = G (local x l) p
+
+abbrev pub unguarded : Guard
+unguarded = on_links link.unguarded
+
+-- such points lead from one machine to another, one after another
+abbrev pub Leads : Guard → NodeConfig → Machine → List Point → Machine → Type 0
+Leads G g x [] y = y ≡ x
+Leads G g x (p ∷ more) y = IsInner p × G x p × (mid : Machine) × Steps g x p mid × Leads G g mid more y
+
+-- the notes that are made
+abbrev pub note_in : Point → List Note
+note_in (of_control q) = []
+note_in (of_link l p) = part.note_in p
+
+abbrev pub notes : List Point → List Note
+notes points = flat_map note_in points
+
+-- They lead to a machine of which this holds, and their notes are told in order
+pub record Follows (G : Guard) (Q : Links → Machine → Type 0) (g : NodeConfig) (x : Machine) (k : Links) (told now : List Note)
+    : Type 0 where
+  pub more : List Point
+  pub reached : Machine
+  pub leads : Leads G g x more reached
+  pub shows : Q k reached
+  pub noted : now ≡ told ++ notes more
+
+-- to one whose inbound links the code shows
+abbrev pub Shown : Links → Machine → Type 0
+Shown k x = ShowsAll k x.inbound
+
+-- The code is told a point. For each run of the whole whose links it showed, and behind which the point may come, it shows afterwards
+-- those of the run with that point, and with what follows from it by itself
+abbrev pub Meets : Guard → (Machine → Type 0) → Point → Links → List Note → Links → List Note → Type 0
+Meets G P p old told new now =
+    (g : NodeConfig) (x y : Machine) (points : List Point) → StandsFor g x points → ShowsAll old x.inbound → P x → Steps g x p y
+    → Follows G Shown g y new told now

@@ -1,0 +1,92 @@
+//! The calls of the world that are due.
+
+ghost use Rattle.std.specs.Prelude.{◌≡◌, None};
+ghost use Rattle.hb_links.specs.Acts.{Acts};
+ghost use Rattle.hb_links.specs.Walks.{ActsOf, GoesTo, Skips, closed_by, finished};
+
+use crate::links::Links;
+use hb_world::Act;
+
+impl Links {
+    /// A link was closed for the one of this number, which may be its own, or an upstream's.
+    fn leave(&mut self, number: u64, closed: u64)
+        ensures { self.new ≡ closed_by number closed self.old }
+    {
+        if closed == number {
+            self.links.remove(number);
+        } else {
+            self.ups.remove(closed);
+        }
+    }
+
+    /// An act of the link of this number was given.
+    fn finish(&mut self, number: u64, act: Act)
+        ensures { self.new ≡ finished number act self.old }
+    {
+        if let Act::Close { link, .. } = act {
+            self.leave(number, link);
+        }
+        self.touch(number);
+    }
+
+    /// The act that is due of the link of this number.
+    fn act_of(&mut self, number: u64) -> Option<Act>
+        ensures { ActsOf number result self.old self.new }
+    {
+        let Some(link) = self.links.at(number) else {
+            return None;
+        };
+        let Some(act) = link.next_act() else {
+            return None;
+        };
+        self.finish(number, act);
+        Some(act)
+    }
+
+    /// The next link that may have an act due, beside the one that was touched last.
+    fn next_from(&mut self) -> Option<u64>
+        ensures { GoesTo result self.old self.new }
+    {
+        self.from = match self.from {
+            Some(from) => self.links.first_from(from),
+            None => None,
+        };
+        self.from
+    }
+
+    /// No act is due of this one.
+    fn skip(&mut self, number: u64)
+        ensures { Skips number self.old self.new }
+    {
+        self.from = number.checked_add(1);
+    }
+
+    /// The act that is due, where no link was touched last.
+    fn walk(&mut self) -> Option<Act>
+        requires { self.old.busy ≡ None }
+        ensures { Acts result self.old self.new }
+    {
+        while let Some(number) = self.next_from() {
+            if let Some(act) = self.act_of(number) {
+                return Some(act);
+            }
+            self.skip(number);
+        }
+        None
+    }
+
+    /// The call that is due, `None` where none is. A shut or a close counts as done from now on; a dial stays due until its answer is
+    /// told.
+    pub fn next_act(&mut self) -> Option<Act>
+        ensures { Acts result self.old self.new }
+    {
+        let Some(number) = self.busy else {
+            return self.walk();
+        };
+        let Some(act) = self.act_of(number) else {
+            self.busy = None;
+            return self.walk();
+        };
+        Some(act)
+    }
+}
