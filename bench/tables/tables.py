@@ -29,6 +29,7 @@ WHOLE = [
     ("request_rows.py", "hb_disco_rows", "written.rt"),
     ("lines_rows.py", "hb_lines_rows", "told.rt"),
     ("node_rows.py", "hb_node_rows", "rows.rt"),
+    ("link_rows.py", "hb_link_rows", "rows.rt"),
     ("loop_rows.py", "hb_loop_rows", "rows.rt"),
     ("replay_rows.py", "hb_replay_rows", "rows.rt"),
 ]
