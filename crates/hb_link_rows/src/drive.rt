@@ -63,7 +63,7 @@ fn frames_in(rt: &impl Abort, alloc: Global, octets: &[u8]) -> Vec<Frame> {
 }
 
 /// A link, what is held beside it, the places of tunnels, and how what comes and goes is cut: not at all where `chance` is 0, into single
-/// octets where it is 1, else at random.
+/// octets where it is 1 (of more than 2,000 the front in pieces of 997), else at random.
 #[derive(Drop)]
 pub struct Drive<'a, R: Abort> {
     link: Link,
@@ -97,6 +97,7 @@ impl<'a, R: Abort> Drive<'a, R> {
     fn piece(&mut self, most: usize) -> usize {
         match self.chance {
             0 => most,
+            1 if most > 2_000 => 997,
             1 => most.min(1),
             chance => {
                 self.chance = chance.wrapping_mul(1_664_525).wrapping_add(1_013_904_223) | 3;
