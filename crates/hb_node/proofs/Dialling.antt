@@ -9,7 +9,7 @@ use Rattle.hb_model.specs.Discovery.{Discovery, dialled}
 use Rattle.hb_model.specs.Machine.{Machine, entered}
 use Rattle.hb_node.specs.declared.link.Link.{Link}
 use Rattle.hb_node.specs.Links.{part_of, Agrees, IsSteady}
-use Rattle.hb_node.specs.State.{State, IsGone, ShowsLink, Shows, Reaches, Enters, Answers}
+use Rattle.hb_node.specs.State.{State, IsGone, ShowsLink, Shows, ReachesAlone, EntersAlone, Answers}
 use Rattle.hb_node.proofs.Led.{agrees_same}
 use Rattle.hb_node.proofs.Lifted.{at_same, at_other}
 use Rattle.hb_node.proofs.Kept.{dialled_steady}
@@ -24,12 +24,12 @@ no_link_there None m dials shows = refl
 no_link_there (Some k) m dials shows = absurd (false≢true (sym shows.1 ∙ dials))
 
 -- the node shows the machine itself
-shown : (m : Machine) (s : State) → Shows s m → Reaches m s
-shown m s shows = record { points = []; machine = m; inner = refl; shows = shows }
+shown : (m : Machine) (s : State) → Shows s m → ReachesAlone m s
+shown m s shows = record { points = []; machine = m; inner = refl; shows = shows; alone = refl }
 
 -- a dial failed
 pub failed_enters : (old new : State) → new ≡ record old { dials = false }
-    → Enters (e.DialFailed old.config.discovery whys.Discovery) old new
+    → EntersAlone (e.DialFailed old.config.discovery whys.Discovery) old new
 failed_enters old new is = (
   ap (λ (s : State). s.config) is,
   λ m shows may.
@@ -48,7 +48,7 @@ failed_enters old new is = (
 -- a dial gave a link
 pub dialled_enters : (l : ℕ) (old new : State) (next : Link) → new ≡ record old { dials = false; link = Some next } → next.number ≡ l
     → part_of next ≡ dialled old.config.id old.config.discovery old.held
-    → Enters (e.Dialled l old.config.discovery whys.Discovery) old new
+    → EntersAlone (e.Dialled l old.config.discovery whys.Discovery) old new
 dialled_enters l old new next is number part = (
   ap (λ (s : State). s.config) is,
   λ m shows may.
@@ -90,7 +90,7 @@ tick_dials : (o : Option Link) (m : Machine) → ShowsLink o m → is_none m.cur
 tick_dials None m shows = ap is_none shows.0
 tick_dials (Some k) m shows = ap is_none shows.0
 
-pub tick_enters : (old new : State) → new ≡ record old { dials = is_none old.link } → Enters e.Tick old new
+pub tick_enters : (old new : State) → new ≡ record old { dials = is_none old.link } → EntersAlone e.Tick old new
 tick_enters old new is = (
   ap (λ (s : State). s.config) is,
   λ m shows may.

@@ -1,6 +1,6 @@
 -- What a node shows behind an entry of its link.
 use Rattle.std.proofs.Common.{◌≡◌, ◌≢◌, ◌≤◌, ℕ, Bool, true, false, List, length, Option, Some, None, refl, ap, sym, ◌∙◌, subst, inl, inr, ⊎_elim, nat_lt, if◌then◌else◌}
-use Rattle.std.specs.Prelude.{⊤}
+use Rattle.std.specs.Prelude.{⊤, [], ◌∷◌}
 use Rattle.hb_base.specs.declared.cause.Cause.{Cause}
 use Rattle.hb_base.specs.declared.cause.Cause.TheVariants as cause
 use Rattle.hb_held.specs.Held.{Resources}
@@ -8,17 +8,17 @@ use Rattle.hb_world.specs.declared.entry.Entry.{Entry}
 use Rattle.hb_world.specs.declared.entry.Entry.TheVariants as e
 use Rattle.hb_model.specs.declared.config.NodeConfig.{NodeConfig}
 use Rattle.hb_model.specs.Discovery.{Discovery, Phase, dialling, live, faulted, ending, opened, ended, broken, went, came, wrote, put_requests, sendable}
-use Rattle.hb_model.specs.Machine.{Machine, at, with_phase, while_open}
+use Rattle.hb_model.specs.Machine.{Machine, at, entered, with_phase, while_open}
 use Rattle.hb_model.specs.Runs.{MayCome, IsCalm, wants_of, wanted_by}
 use Rattle.hb_model.proofs.Open.{live_changes, open_changes}
 use Rattle.hb_node.specs.declared.link.Link.{Link}
 use Rattle.hb_node.specs.declared.phase.Phase.{Phase as Stage}
 use Rattle.hb_node.specs.declared.phase.Phase.TheVariants as stage
-use Rattle.hb_node.specs.Judging.{Judges, Seen, seen}
+use Rattle.hb_node.specs.Judging.{Judges, Judged, Seen, seen, held_behind}
 use Rattle.hb_node.specs.Phases.{phase_of, is_live}
 use Rattle.hb_node.specs.Leads.{Leads, stays}
 use Rattle.hb_node.specs.Links.{part_of, with_puts, put_by, wrote_by, Agrees, AgreesBy, GoesTo, IsKept, Fares, SteadyBy, IsSteady, Settles}
-use Rattle.hb_node.specs.State.{State, IsGone, ShowsLink, Shows, Reaches, Enters, ReachesJudged, EntersJudged, Goes}
+use Rattle.hb_node.specs.State.{State, IsGone, ShowsLink, Shows, Reaches, ReachesAlone, Enters, EntersAlone, ReachesJudged, EntersJudged, Goes}
 use Rattle.hb_node.proofs.Led.{state, agrees_same, puts_lead}
 use Rattle.hb_node.proofs.Lifted.{at_same, at_other, lift}
 use Rattle.hb_node.proofs.Kept.{came_fares, puts_steady, wrote_kept}
@@ -82,7 +82,11 @@ other_judged judges entry l old new before after k here there differs config =
 
 -- nobody is shown anything
 abbrev pub nobody : Judges ⊤
-nobody before held after = ⊤
+nobody before held after = ⊥
+
+none_shown : (held : List Resources) → Judged nobody held tt tt → held ≡ []
+none_shown [] judged = refl
+none_shown (h ∷ held) judged = absurd judged.1
 
 abbrev pub alone : Resources → Seen ⊤
 alone held = seen held tt
@@ -97,15 +101,40 @@ enters_so judges entry old new before after enters = (
       record { points = r.points; machine = r.machine; inner = r.inner; shows = r.shows },
 )
 
+-- what is so where nobody is shown anything is so alone
+alone_of : (m : Machine) (s : State) → ReachesJudged nobody m s tt tt → ReachesAlone m s
+alone_of m s r = record {
+  points = r.points;
+  machine = r.machine;
+  inner = r.inner;
+  shows = r.shows;
+  alone = none_shown (held_behind m.held r.points) r.judged;
+}
+
+enters_alone : (entry : Entry) (old new : State) → EntersJudged nobody entry old new tt tt → EntersAlone entry old new
+enters_alone entry old new enters = (
+  enters.0,
+  λ m shows may. alone_of (entered old.config entry m) new (enters.1 m shows may),
+)
+
 pub none_enters : (entry : Entry) (l : ℕ) (old new : State) → IsOn entry l → old.link ≡ None → new.config ≡ old.config
-    → Enters entry old new
+    → EntersAlone entry old new
 none_enters entry l old new here none config =
-    enters_so nobody entry old new tt tt (none_judged nobody entry l old new tt tt here none config)
+    enters_alone entry old new (none_judged nobody entry l old new tt tt here none config)
 
 pub other_enters : (entry : Entry) (l : ℕ) (old new : State) (k : Link) → IsOn entry l → old.link ≡ Some k → (k.number ≡ l → ⊥)
-    → new.config ≡ old.config → Enters entry old new
+    → new.config ≡ old.config → EntersAlone entry old new
 other_enters entry l old new k here there differs config =
-    enters_so nobody entry old new tt tt (other_judged nobody entry l old new tt tt k here there differs config)
+    enters_alone entry old new (other_judged nobody entry l old new tt tt k here there differs config)
+
+-- and without a word of that
+pub weaker : (entry : Entry) (old new : State) → EntersAlone entry old new → Enters entry old new
+weaker entry old new enters = (
+  enters.0,
+  λ m shows may.
+      let r = enters.1 m shows may in
+      record { points = r.points; machine = r.machine; inner = r.inner; shows = r.shows },
+)
 
 -- points of the link lead on, and nobody is shown what is held
 abbrev pub GoesAlone : ℕ → Resources → Discovery → Resources → Discovery → Type 0
@@ -176,10 +205,8 @@ module _ (old new : State) (k next : Link) (all : Keeps old new k next) (m : Mac
       }
 
   pub link_reaches : (change : Discovery → Discovery)
-      → GoesAlone k.number old.held (change (m.links k.number)) new.held (part_of next) → Reaches (changed k.number change m) new
-  link_reaches change g =
-      let r = link_judged nobody tt tt change g in
-      record { points = r.points; machine = r.machine; inner = r.inner; shows = r.shows }
+      → GoesAlone k.number old.held (change (m.links k.number)) new.held (part_of next) → ReachesAlone (changed k.number change m) new
+  link_reaches change g = alone_of (changed k.number change m) new (link_judged nobody tt tt change g)
 
   -- a link that lives is the machine's
   pub is_part : (p : Phase) → (m.links k.number).phase ≡ p → AgreesBy p (m.links k.number) (part_of k)
@@ -208,7 +235,7 @@ module _ (old new : State) (k next : Link) (all : Keeps old new k next) (m : Mac
 
 -- a link is open
 pub opened_enters : (old new : State) (k next : Link) → Keeps old new k next → new.held ≡ old.held
-    → part_of next ≡ with_phase opened (part_of k) → Enters (e.Opened k.number) old new
+    → part_of next ≡ with_phase opened (part_of k) → EntersAlone (e.Opened k.number) old new
 opened_enters old new k next all held part = (
   all.config,
   λ m shows may.
@@ -230,7 +257,7 @@ opened_enters old new k next all held part = (
 
 -- its peer sends no more
 pub ended_enters : (old new : State) (k next : Link) → Keeps old new k next → new.held ≡ old.held
-    → phase_of next.phase ≡ ended (phase_of k.phase) → Enters (e.Ended k.number) old new
+    → phase_of next.phase ≡ ended (phase_of k.phase) → EntersAlone (e.Ended k.number) old new
 ended_enters old new k next all held phase = (
   all.config,
   λ m shows may.
@@ -240,7 +267,7 @@ ended_enters old new k next all held phase = (
 
 -- a call on it failed
 pub broke_enters : (old new : State) (k next : Link) → Keeps old new k next → new.held ≡ old.held
-    → phase_of next.phase ≡ broken (phase_of k.phase) → Enters (e.Broke k.number) old new
+    → phase_of next.phase ≡ broken (phase_of k.phase) → EntersAlone (e.Broke k.number) old new
 broke_enters old new k next all held phase = (
   all.config,
   λ m shows may.

@@ -17,6 +17,11 @@ abbrev pub is_live : Phase → Bool
 is_live Live = true
 is_live _ = false
 
+-- a connection error was told, and what waits may be written once
+abbrev pub is_faulted : Phase → Bool
+is_faulted (Faulted code) = true
+is_faulted _ = false
+
 -- the link ends for this cause, if any
 abbrev pub end_for : Phase → Option Cause → Phase
 end_for p None = p

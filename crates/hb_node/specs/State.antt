@@ -15,7 +15,7 @@ use Rattle.hb_model.specs.Point.{Point, entry, stopped}
 use Rattle.hb_model.specs.Runs.{MayCome, Steps, due, due_by, wants, wanted_by, output, output_by}
 use Rattle.hb_node.specs.declared.link.Link.{Link}
 use Rattle.hb_node.specs.Judging.{Judges, held_behind, Judged}
-use Rattle.hb_node.specs.Phases.{phase_of}
+use Rattle.hb_node.specs.Phases.{phase_of, is_faulted}
 use Rattle.hb_node.specs.Links.{part_of, Agrees, IsSteady}
 
 -- what a node is told of itself, what it holds, whether a dial is due, whether the run ends, and the link that lives
@@ -43,6 +43,11 @@ output_on (Some k) l = if k.number == l then output_by (phase_of k.phase) (part_
 abbrev pub number_of : Option Link → Option ℕ
 number_of None = None
 number_of (Some k) = Some k.number
+
+-- a write on the link goes before its close
+abbrev pub says_last : Option Link → Bool
+says_last None = false
+says_last (Some k) = is_faulted k.phase
 
 abbrev pub closing_of : Option Link → Option Cause
 closing_of None = None
@@ -103,6 +108,18 @@ abbrev pub Enters : Entry → State → State → Type 0
 Enters came old new =
     (new.config ≡ old.config) × ((m : Machine) → Shows old m → MayCome old.config m came → Reaches (entered old.config came m) new)
 
+-- so they do, and apply no response
+pub record ReachesAlone (m : Machine) (s : State) : Type 0 where
+  pub points : List Point
+  pub machine : Machine
+  pub inner : Inner s.config m points machine
+  pub shows : Shows s machine
+  pub alone : held_behind m.held points ≡ []
+
+abbrev pub EntersAlone : Entry → State → State → Type 0
+EntersAlone came old new =
+    (new.config ≡ old.config) × ((m : Machine) → Shows old m → MayCome old.config m came → ReachesAlone (entered old.config came m) new)
+
 -- so they do, and someone is shown what is held behind each response that they apply, one after another
 pub record ReachesJudged {J : Type 0} (judges : Judges J) (m : Machine) (s : State) (before after : J) : Type 0 where
   pub points : List Point
@@ -119,8 +136,8 @@ EntersJudged judges came old new before after =
 
 -- the answer to a dial: the link's number, none where it failed
 abbrev pub Answers : Why → Option ℕ → State → State → Type 0
-Answers why None old new = Enters (e.DialFailed old.config.discovery why) old new
-Answers why (Some l) old new = Enters (e.Dialled l old.config.discovery why) old new
+Answers why None old new = EntersAlone (e.DialFailed old.config.discovery why) old new
+Answers why (Some l) old new = EntersAlone (e.Dialled l old.config.discovery why) old new
 
 -- behind the answer to a dial of the control plane nothing is due, unless a link was to be closed
 abbrev pub NoneIsDue : Why → State → State → Type 0
@@ -129,7 +146,7 @@ NoneIsDue _ old new = ⊤
 
 -- some bytes of so many went
 abbrev pub Goes : ℕ → ℕ → State → State → Type 0
-Goes l n old new = (bytes : List ℕ) → length bytes ≡ n → Enters (e.Went l bytes) old new
+Goes l n old new = (bytes : List ℕ) → length bytes ≡ n → EntersAlone (e.Went l bytes) old new
 
 -- the call of the world that is due in each machine that a node shows; a link that is to be closed counts as closed then
 abbrev pub Closes : Option Act → State → State → Type 0

@@ -4,7 +4,7 @@ ghost use Rattle.std.specs.Prelude.{◌≡◌, ◌≤◌, length, is_none, IfOk}
 ghost use Rattle.hb_held.specs.Held.{nothing_held};
 ghost use Rattle.hb_model.specs.Machine.{fresh};
 ghost use Rattle.hb_world.specs.declared.entry.Entry.TheVariants as e;
-ghost use Rattle.hb_node.specs.State.{fresh_state, wants_on, output_on, due_of, after_act, Shows, Enters, EntersJudged, Answers, NoneIsDue, Goes, Acts, Wants, Puts, Stops};
+ghost use Rattle.hb_node.specs.State.{fresh_state, wants_on, output_on, number_of, says_last, due_of, after_act, Shows, Enters, EntersAlone, EntersJudged, Answers, NoneIsDue, Goes, Acts, Wants, Puts, Stops};
 
 use crate::judge::Judge;
 use crate::link::Link;
@@ -61,6 +61,44 @@ impl Node {
         })
     }
 
+    /// The resources held.
+    pub fn held(&self) -> &Held
+        ensures { result.now ≡ self.now.held }
+    {
+        &self.held
+    }
+
+    /// The number of the link to the control plane that lives.
+    pub fn number(&self) -> Option<u64>
+        ensures { result ≡ number_of self.now.link }
+    {
+        match &self.link {
+            Some(l) => Some(l.number),
+            None => None,
+        }
+    }
+
+    /// Whether a write on that link goes before its close: a connection error was told on it.
+    pub fn last_words(&self) -> bool
+        ensures { result ≡ says_last self.now.link }
+    {
+        match &self.link {
+            Some(l) => l.phase.is_faulted(),
+            None => false,
+        }
+    }
+
+    /// Whether no call of the world is due.
+    pub fn is_idle(&self) -> bool
+        ensures { result ≡ is_none (due_of self.now) }
+    {
+        let closes = match &self.link {
+            Some(l) => l.phase.closing().is_some(),
+            None => false,
+        };
+        !closes & !self.dials
+    }
+
     /// The dial that was due gave this link; `None`: it failed.
     ///
     /// Errors: `NoMemory`, after which only `stop` and `next_act` are called.
@@ -81,7 +119,7 @@ impl Node {
 
     /// The link is open.
     pub fn opened(&mut self, link: u64)
-        ensures { Enters (e.Opened link) self.old self.new }
+        ensures { EntersAlone (e.Opened link) self.old self.new }
     {
         if let Some(l) = &mut self.link {
             if l.number == link {
@@ -124,7 +162,7 @@ impl Node {
 
     /// The link's peer sends no more.
     pub fn ended(&mut self, link: u64)
-        ensures { Enters (e.Ended link) self.old self.new }
+        ensures { EntersAlone (e.Ended link) self.old self.new }
     {
         if let Some(l) = &mut self.link {
             if l.number == link {
@@ -135,7 +173,7 @@ impl Node {
 
     /// A call on the link failed.
     pub fn broke(&mut self, link: u64)
-        ensures { Enters (e.Broke link) self.old self.new }
+        ensures { EntersAlone (e.Broke link) self.old self.new }
     {
         if let Some(l) = &mut self.link {
             if l.number == link {
@@ -147,7 +185,7 @@ impl Node {
     /// Time passed: the control plane is dialled again where no link to it lives.
     pub fn tick(&mut self)
         ensures state { self.new ≡ record self.old { dials = is_none self.old.link } }
-        ensures enters { Enters e.Tick self.old self.new }
+        ensures enters { EntersAlone e.Tick self.old self.new }
     {
         self.dials = self.link.is_none();
     }

@@ -2,7 +2,7 @@
 
 ghost use Rattle.std.specs.Prelude.{◌≡◌};
 ghost use Rattle.hb_model.specs.Discovery.{opened, ended, broken, went, stopped_for, closing};
-ghost use Rattle.hb_node.specs.Phases.{phase_of, is_live, end_for};
+ghost use Rattle.hb_node.specs.Phases.{phase_of, is_live, is_faulted, end_for};
 
 use hb_base::Cause;
 
@@ -26,6 +26,16 @@ impl Phase {
     {
         match self {
             Phase::Live => true,
+            _ => false,
+        }
+    }
+
+    /// Whether a connection error was told, and what waits may be written once.
+    pub fn is_faulted(self) -> bool
+        ensures { result ≡ is_faulted self }
+    {
+        match self {
+            Phase::Faulted(_) => true,
             _ => false,
         }
     }

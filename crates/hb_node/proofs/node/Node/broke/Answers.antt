@@ -1,7 +1,7 @@
 use Rattle.std.proofs.Common.{◌≡◌, Some, refl, ap, sym, ◌∙◌, subst}
 use Rattle.hb_world.specs.declared.entry.Entry.TheVariants as e
 use Rattle.hb_node.specs.contracts.node.Node.{the_view}
-use Rattle.hb_node.specs.State.{State, Enters}
+use Rattle.hb_node.specs.State.{State, EntersAlone}
 use Rattle.hb_node.proofs.Entering.{keeps, none_enters, other_enters, broke_enters}
 use Rattle.hb_node.proofs.node.Node.broke.Goals as goal
 use Rattle.hb_node.proofs.node.Node.broke.Goals.{in-Some+then-l-link, in-Some+else-l-link, in_default}
@@ -18,7 +18,7 @@ returns c =
           let next = record k { phase = w.broken-l.result } in
           let is : new ≡ record old { link = Some next } =
           ap the_view w.self-inside-is ∙ ap (λ (s : State). record s { link = Some next }) c.self.view_is in
-          subst (λ l. Enters (e.Broke l) old new) w.if-l-link.true
+          subst (λ l. EntersAlone (e.Broke l) old new) w.if-l-link.true
           (broke_enters old new k next (keeps old new k next old.held (sym link_is ∙ w.in-Some.is) is refl)
           (ap (λ (s : State). s.held) is) w.broken-l.ensures)
       | in-Some+else-l-link w ↦
