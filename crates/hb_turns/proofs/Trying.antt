@@ -1,5 +1,5 @@
 -- Tries, one behind another.
-use Rattle.std.proofs.Common.{◌≡◌, Bool, true, false, ◌||◌, List, Option, Result, Ok, Err, IfOk, sym, subst}
+use Rattle.std.proofs.Common.{◌≡◌, Bool, false, ◌||◌, List, Option, Result, Ok, Err, IfOk, sym, subst}
 use Rattle.hb_base.specs.declared.note.Note.{Note}
 use Rattle.hb_world.specs.declared.entry.Entry.{Entry}
 use Rattle.hb_turns.specs.Reckons.{Tried}

@@ -1,4 +1,3 @@
-use Rattle.std.proofs.Common.{◌∙◌}
 use Rattle.hb_ready.specs.Registry.{kept}
 use Rattle.hb_turns.proofs.Watching.{watched-rotated, watched-popped}
 use Rattle.hb_turns.proofs.Holding.{relisted}

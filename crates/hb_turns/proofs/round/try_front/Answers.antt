@@ -1,6 +1,4 @@
 use Rattle.std.proofs.Common.{rules}
-use Rattle.hb_turns.specs.Stands.{Stands}
-use Rattle.hb_turns.proofs.Holding.{each}
 use Rattle.hb_turns.proofs.Trying.{lacked_first, tried_settled}
 use Rattle.hb_turns.proofs.round.try_front.Goals as goal
 
