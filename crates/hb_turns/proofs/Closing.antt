@@ -12,8 +12,8 @@ use Rattle.hb_turns.specs.Ends.{ClosesFor, cause_at, end_of}
 use Rattle.hb_turns.specs.Notes.{Holds, HoldsNotes}
 use Rattle.hb_turns.specs.Reckons.{Closes, Finishes}
 use Rattle.hb_turns.specs.Served.{IsStoodFor, IsOver, IsServed}
-use Rattle.hb_turns.specs.Shown.{Shown, StandsForNone}
-use Rattle.hb_turns.specs.Stands.{Obeys, Stands, StandsAlone, Left, Tracks}
+use Rattle.hb_turns.specs.Shown.{Shown, Stirs, Stops, StandsForNone}
+use Rattle.hb_turns.specs.Stands.{Obeys, Matches, Stands, StandsAlone, Left, Tracks}
 use Rattle.hb_turns.specs.declared.run.Records.{Records}
 use Rattle.hb_turns.specs.declared.run.Run.{Run}
 use Rattle.hb_turns.specs.declared.served.Served.{Served}
@@ -40,39 +40,50 @@ module _ {N : Type 0} (stands : List Note → N → List Entry → Type 0) (show
       ))
 
   -- as the node says that it is to be
-  pub stands_closed : (run : Run N) (node : N) (new : Records) (l : ℕ) (cause : Cause) (before behind : Option (List Entry))
+  pub matches_closed : (run : Run N) (node : N) (new : Records) (l : ℕ) (cause : Cause) (before behind : Option (List Entry))
       → behind ≡ with_closed l cause before
       → ((notes : List Note) (trace : List Entry) → stands notes run.node trace
-      → (lives l trace ≡ true) × stands notes node (trace ++ e.Closed l cause ∷ []))
-      → Tracks run.records new (e.Closed l cause) → IfSome before (Stands stands shown run)
-      → IfSome behind (Stands stands shown (record run { node = node; records = new }))
-  stands_closed run node new l cause before behind adds acts tracks =
-      on_close (Stands stands shown run) (Stands stands shown (record run { node = node; records = new })) l cause before behind adds
-      (λ trace s. let it = acts s.notes trace s.node in (
+      → (lives l trace ≡ true) × stands notes node (trace ++ e.Closed l cause ∷ [])
+      × Stirs (trace ++ e.Closed l cause ∷ []) (shown run.node) (shown node))
+      → Tracks run.records new (e.Closed l cause) → IfSome before (Matches stands shown run)
+      → IfSome behind (Matches stands shown (record run { node = node; records = new }))
+  matches_closed run node new l cause before behind adds acts tracks =
+      on_close (Matches stands shown run) (Matches stands shown (record run { node = node; records = new })) l cause before behind adds
+      (λ trace m. let it = acts m.notes trace m.node in (
         it.0,
         record {
-          notes = s.notes;
+          notes = m.notes;
           node = it.1;
-          kept_are = s.kept_are;
+          kept_are = m.kept_are;
           obeys = obeys-grows stands shown run.records new trace (e.Closed l cause) (record { numbers = it.0; awake = tt; settled = tt })
-              tracks s.obeys;
+              tracks m.obeys;
         },
       ))
 
-  -- the node stands for what it stood for
-  pub stands_as : (run : Run N) (node : N) (told : Option (List Entry))
-      → ((notes : List Note) (trace : List Entry) → stands notes run.node trace → stands notes node trace)
-      → IfSome told (Stands stands shown run) → IfSome told (Stands stands shown (record run { node = node }))
-  stands_as run node told as_before =
-      each (Stands stands shown run) (Stands stands shown (record run { node = node })) told
-      (λ trace s. record { notes = s.notes; node = as_before s.notes trace s.node; kept_are = s.kept_are; obeys = s.obeys })
+  -- no act is left: the node stands for what it stood for
+  pub matches_acts : (run : Run N) (node : N) (told : Option (List Entry))
+      → ((notes : List Note) (trace : List Entry) → stands notes run.node trace
+      → stands notes node trace × Stirs trace (shown run.node) (shown node))
+      → IfSome told (Matches stands shown run) → IfSome told (Matches stands shown (record run { node = node }))
+  matches_acts run node told acts =
+      each (Matches stands shown run) (Matches stands shown (record run { node = node })) told
+      (λ trace m. record { notes = m.notes; node = (acts m.notes trace m.node).0; kept_are = m.kept_are; obeys = m.obeys })
+
+  -- the run is to end, and no close was due
+  pub matches_stopped : (run : Run N) (node : N) (told : Option (List Entry)) → Stops stands shown run.node node
+      → (shown run.node).none_closes ≡ true → IfSome told (Stands stands shown run)
+      → IfSome told (Matches stands shown (record run { node = node }))
+  matches_stopped run node told stops none =
+      each (Stands stands shown run) (Matches stands shown (record run { node = node })) told
+      (λ trace s. let m = s.matches in
+      record { notes = m.notes; node = stops s.going none m.notes trace m.node; kept_are = m.kept_are; obeys = m.obeys })
 
   -- each close that was due is made
-  pub stands_alone : (run : Run N) (told : Option (List Entry)) → StandsForNone stands run.node → IfSome told (Stands stands shown run)
+  pub stands_alone : (run : Run N) (told : Option (List Entry)) → StandsForNone stands run.node → IfSome told (Matches stands shown run)
       → IfSome told (StandsAlone stands shown run)
   stands_alone run told none =
-      each (Stands stands shown run) (StandsAlone stands shown run) told
-      (λ trace s. record { stands_for = s; none = none s.notes trace s.node })
+      each (Matches stands shown run) (StandsAlone stands shown run) told
+      (λ trace m. record { matches = m; none = none m.notes trace m.node })
 
   -- then the loop closes none by itself
   pub alone_closed : (run new : Run N) (l : ℕ) (cause : Cause) (before behind : Option (List Entry)) → behind ≡ with_closed l cause before
@@ -82,7 +93,7 @@ module _ {N : Type 0} (stands : List Note → N → List Entry → Type 0) (show
       on_close (StandsAlone stands shown run) (StandsAlone stands shown new) l cause before behind adds
       (λ trace a. absurd
       (let dead = a.none l in
-      let alive : lives l trace ≡ true = some_lives stands shown run.records l trace some a.stands_for.obeys in
+      let alive : lives l trace ≡ true = some_lives stands shown run.records l trace some a.matches.obeys in
       cc))
 
   -- each note was taken
@@ -92,14 +103,15 @@ module _ {N : Type 0} (stands : List Note → N → List Entry → Type 0) (show
   holds (Some taken) notes n trace are none had =
       record { node = n; stands_for = subst (λ (ns : List Note). stands ns n trace) (sym are) had; none_waits = none }
 
-  pub notes_held : {A E : Type 0} (r : Result A E) (mid new : Run N) (first behind : Option (List Entry))
-      → (IfSome first (Stands stands shown mid) → IfSome behind (Left stands shown r new))
+  -- where the closes that were due are made, and each note is taken
+  pub notes_held : {A E : Type 0} (r : Result A E) (mid new : Run N) (told : Option (List Entry))
+      → ((trace : List Entry) → Matches stands shown mid trace → OnOk r (Matches stands shown new trace))
       → OnOk r ((shown new.node).noted ≡ [])
-      → OnOk r (IfSome first (Stands stands shown mid) → IfSome behind (HoldsNotes stands shown new.keep))
-  notes_held (Ok x) mid new first behind so none =
-      λ had. each (Stands stands shown new) (HoldsNotes stands shown new.keep) behind
-      (λ trace s. holds new.keep s.notes new.node trace s.kept_are none s.node) (so had)
-  notes_held (Err why) mid new first behind so none = tt
+      → OnOk r (IfSome told (StandsAlone stands shown mid) → IfSome told (HoldsNotes stands shown new.keep))
+  notes_held (Ok x) mid new told so none =
+      each (StandsAlone stands shown mid) (HoldsNotes stands shown new.keep) told
+      (λ trace a. let m = so trace a.matches in holds new.keep m.notes new.node trace m.kept_are none m.node)
+  notes_held (Err why) mid new told so none = tt
 
   stood : (end : ServeEnd) (notes : List Note) (n : N) (trace : List Entry) → stands notes n trace → IsStoodFor stands end trace
   stood ends.Stopped notes n trace had = (notes, n, had)
@@ -109,13 +121,13 @@ module _ {N : Type 0} (stands : List Note → N → List Entry → Type 0) (show
 
   stood_or : {E : Type 0} (r : Result ServeEnd E) (run : Run N) (trace : List Entry) → Left stands shown r run trace
       → IsStoodFor stands (end_of r) trace
-  stood_or (Ok end) run trace s = stood end s.notes run.node trace s.node
+  stood_or (Ok end) run trace s = stood end s.matches.notes run.node trace s.matches.node
   stood_or (Err why) run trace o = tt
 
   -- where memory lacked too
   pub left_obeys : {A E : Type 0} (r : Result A E) (run : Run N) (told : Option (List Entry)) → IfSome told (Left stands shown r run)
       → IfSome told (Obeys stands shown run.records)
-  left_obeys (Ok x) run told had = each (Stands stands shown run) (Obeys stands shown run.records) told (λ trace s. s.obeys) had
+  left_obeys (Ok x) run told had = each (Stands stands shown run) (Obeys stands shown run.records) told (λ trace s. s.matches.obeys) had
   left_obeys (Err why) run told had = had
 
   -- the closes at the end are those of a run that is over
@@ -131,30 +143,33 @@ module _ {N : Type 0} (stands : List Note → N → List Entry → Type 0) (show
   }
 
   noted_or : {A E F : Type 0} (r : Result ServeEnd E) (b : Result A F) (run new : Run N) (trace : List Entry) (told : Option (List Entry))
-      → Left stands shown r run trace
-      → OnOk b (IfSome (Some trace) (Stands stands shown run) → IfSome told (HoldsNotes stands shown new.keep))
+      → Left stands shown r run trace → OnOk r ((shown run.node).none_closes ≡ true)
+      → OnOk b ((shown run.node).none_closes ≡ true → IfSome (Some trace) (Stands stands shown run)
+      → IfSome told (HoldsNotes stands shown new.keep))
       → (end_of r ≡ ends.NoMemory → ⊥) → is_err b ≡ false → IfSome told (HoldsNotes stands shown new.keep)
-  noted_or (Ok end) (Ok x) run new trace told s notes other kept = notes s
-  noted_or (Ok end) (Err why) run new trace told s notes other kept = absurd cc
-  noted_or (Err why) b run new trace told o notes other kept = absurd (other refl)
+  noted_or (Ok end) (Ok x) run new trace told s closes notes other kept = notes closes s
+  noted_or (Ok end) (Err why) run new trace told s closes notes other kept = absurd cc
+  noted_or (Err why) b run new trace told o closes notes other kept = absurd (other refl)
 
   -- a run that is over
   pub is_served : {A E F : Type 0} (words : ServeWords) (r : Result ServeEnd E) (b : Result A F) (run new : Run N)
       (before behind : Option (List Entry)) → IfSome before (Left stands shown r run) → IfSome before (Finishes words (end_of r))
       → Closes (cause_at (end_of r)) before behind → IfSome behind (Obeys stands shown new.records)
-      → ((l : ℕ) → (kept new.records.links).links l ≡ None)
-      → OnOk b (IfSome before (Stands stands shown run) → IfSome behind (HoldsNotes stands shown new.keep))
+      → ((l : ℕ) → (kept new.records.links).links l ≡ None) → OnOk r ((shown run.node).none_closes ≡ true)
+      → OnOk b ((shown run.node).none_closes ≡ true → IfSome before (Stands stands shown run)
+      → IfSome behind (HoldsNotes stands shown new.keep))
       → IfSome behind (IsServed stands shown words
       (outcome (end_of r) new.records (is_err b)) new.keep)
-  is_served words r b run new None behind left_so finishes closes obeys none notes =
+  is_served words r b run new None behind left_so finishes closes obeys none none_closes notes =
       subst (λ (o : Option (List Entry)). IfSome o (IsServed stands shown words
       (outcome (end_of r) new.records (is_err b)) new.keep))
       (sym closes.grows) tt
-  is_served words r b run new (Some trace) behind left_so finishes closes obeys none notes =
+  is_served words r b run new (Some trace) behind left_so finishes closes obeys none none_closes notes =
       by behind closes.grows obeys notes
     where
       by : (told : Option (List Entry)) → told ≡ Some (trace ++ closes.more) → IfSome told (Obeys stands shown new.records)
-          → OnOk b (IfSome (Some trace) (Stands stands shown run) → IfSome told (HoldsNotes stands shown new.keep))
+          → OnOk b ((shown run.node).none_closes ≡ true → IfSome (Some trace) (Stands stands shown run)
+          → IfSome told (HoldsNotes stands shown new.keep))
           → IfSome told (IsServed stands shown words
           (outcome (end_of r) new.records (is_err b)) new.keep)
       by None is o notes = tt
@@ -166,5 +181,5 @@ module _ {N : Type 0} (stands : List Note → N → List Entry → Type 0) (show
             (over words (end_of r) closes.more trace finishes (stood_or r run trace left_so) closes.closes);
         links_are = o.births_are;
         wanting_is = o.wanting_is;
-        noted = noted_or r b run new trace (Some full) left_so notes;
+        noted = noted_or r b run new trace (Some full) left_so none_closes notes;
       }

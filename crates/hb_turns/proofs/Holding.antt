@@ -1,5 +1,5 @@
 -- What is known, behind one more entry.
-use Rattle.std.proofs.Common.{◌≡◌, ℕ, ◌+◌, ◌||◌, ◌&&◌, not, Bool, true, false, if◌then◌else◌, List, [], ◌∷◌, ◌++◌, Option, Some, None, Result, Ok, Err, IfSome, IfOk, refl, ap, sym, ◌∙◌, subst, add-zero}
+use Rattle.std.proofs.Common.{◌≡◌, ℕ, ◌+◌, ◌||◌, ◌&&◌, not, Bool, true, false, if◌then◌else◌, List, [], ◌∷◌, ◌++◌, Option, Some, None, Result, Ok, Err, IfSome, IfOk, refl, ap, sym, ◌∙◌, subst, inl, add-zero}
 use Rattle.std.specs.Prelude.{⊤}
 use Rattle.std.specs.Option.{option_map}
 use Rattle.std.proofs.lemmas.List.{append-nil}
@@ -8,7 +8,6 @@ use Rattle.hb_base.specs.declared.door.Door.{Door}
 use Rattle.hb_base.specs.declared.door.Why.{Why}
 use Rattle.hb_world.specs.declared.entry.Way.TheVariants as way
 use Rattle.hb_base.specs.declared.target.Target.{Target}
-use Rattle.hb_world.specs.declared.act.Act.TheVariants as act
 use Rattle.hb_world.specs.Calls.{with_entries, with_closed, with_shut}
 use Rattle.hb_world.specs.Trace.{births, is_birth, lives, was_shut, same_door}
 use Rattle.hb_base.specs.declared.note.Note.{Note}
@@ -24,14 +23,16 @@ use Rattle.hb_world.specs.declared.world.Born.TheVariants.{New}
 use Rattle.hb_ready.specs.Numbers.{Numbers}
 use Rattle.hb_ready.specs.Sight.{known, sight, asked_behind, asked_at}
 use Rattle.hb_ready.specs.declared.link.Link.{Link}
+use Rattle.hb_ready.specs.declared.links.Links.{Links}
 use Rattle.hb_ready.proofs.Sights.{known-grows, asked-grows, numbered-grows}
 use Rattle.hb_turns.specs.Ends.{is_close_for_lack}
 use Rattle.hb_turns.specs.Notes.{Holds}
 use Rattle.hb_turns.specs.Settled.{SettledAt}
-use Rattle.hb_turns.specs.Shown.{Shown, Tells, MayCome}
-use Rattle.hb_turns.specs.Stands.{Obeys, Stands, Tracks, Left, births_behind}
+use Rattle.hb_turns.specs.Shown.{Shown, Stirs, IsSame, Tells, MayCome}
+use Rattle.hb_turns.specs.Stands.{Obeys, Matches, Stands, Tracks, Left, Watched, WatchedBy, births_behind}
 use Rattle.hb_turns.specs.declared.run.Records.{Records}
 use Rattle.hb_turns.specs.declared.run.Run.{Run}
+use Rattle.hb_turns.proofs.Watching.{watched-stirs, watched-kept, watched-noted}
 
 -- an entry may come there, for the loop's laws
 pub record Comes {N : Type 0} (stands : List Note → N → List Entry → Type 0) (shown : N → Shown) (trace : List Entry)
@@ -108,21 +109,58 @@ each P Q (Some trace) all had = all trace had
 pub held_still : {N : Type 0} (old new : Run N) (notes : List Note) → new.keep ≡ old.keep → Holds old.keep notes → Holds new.keep notes
 held_still old new notes same holds = subst (λ (k : Option (List Note)). Holds k notes) (sym same) holds
 
+-- what stirred is the same
+pub stirs_none : (trace : List Entry) (s : Shown) → Stirs trace s s
+stirs_none trace s =
+    record { kept = λ l alive is. is; reads = λ l alive none. inl none; writes = λ l alive none. inl none; ends_for = refl }
+
+-- one more entry: the records follow it, and so does the node
+pub stands-grows : {N : Type 0} (stands : List Note → N → List Entry → Type 0) (shown : N → Shown) (old new : Run N) (x : Entry)
+    (trace : List Entry) (s : Stands stands shown old trace) → Comes stands shown trace x → Tracks old.records new.records x
+    → (Watched shown old → WatchedBy (kept new.records.links) (shown old.node)) → new.keep ≡ old.keep
+    → stands s.matches.notes new.node (trace ++ x ∷ []) × Stirs (trace ++ x ∷ []) (shown old.node) (shown new.node)
+    → Stands stands shown new (trace ++ x ∷ [])
+stands-grows stands shown old new x trace s comes tracks watch keep told =
+    let obeys = obeys-grows stands shown old.records new.records trace x comes tracks s.matches.obeys in
+    record {
+      matches = record {
+        notes = s.matches.notes;
+        node = told.0;
+        kept_are = held_still old new s.matches.notes keep s.matches.kept_are;
+        obeys = obeys;
+      };
+      watched = watched-stirs (kept new.records.links) (trace ++ x ∷ []) (shown old.node) (shown new.node) obeys.links told.1
+          (watch s.watched);
+      going = told.1.ends_for ∙ s.going;
+    }
+
+-- no entry: the node gave no act, or a dial
+pub stands-acts : {N : Type 0} (stands : List Note → N → List Entry → Type 0) (shown : N → Shown) (run : Run N) (node : N)
+    (told : Option (List Entry))
+    → ((notes : List Note) (trace : List Entry) → stands notes run.node trace
+    → stands notes node trace × Stirs trace (shown run.node) (shown node))
+    → IfSome told (Stands stands shown run) → IfSome told (Stands stands shown (record run { node = node }))
+stands-acts stands shown run node told acts had =
+    each (Stands stands shown run) (Stands stands shown (record run { node = node })) told
+    (λ trace s. let it = acts s.matches.notes trace s.matches.node in
+    record {
+      matches = record { notes = s.matches.notes; node = it.0; kept_are = s.matches.kept_are; obeys = s.matches.obeys };
+      watched = watched-stirs (kept run.records.links) trace (shown run.node) (shown node) s.matches.obeys.links it.1 s.watched;
+      going = it.1.ends_for ∙ s.going;
+    }) had
+
 -- the call told an entry, the records follow it, and the node was told
 pub moved : {N : Type 0} (stands : List Note → N → List Entry → Type 0) (shown : N → Shown) (old new : Run N) (x : Entry)
     (P : List Entry → Type 0) (before behind : Option (List Entry)) → behind ≡ with_entries (x ∷ []) before → new.keep ≡ old.keep
     → Tells stands shown x old.node new.node → Tracks old.records new.records x
+    → (Watched shown old → WatchedBy (kept new.records.links) (shown old.node))
     → ((trace : List Entry) → P trace → Stands stands shown old trace × MayCome (shown old.node) trace x × Comes stands shown trace x)
     → IfSome before P → IfSome behind (Stands stands shown new)
-moved stands shown old new x P before behind adds keep tells tracks comes had =
+moved stands shown old new x P before behind adds keep tells tracks watch comes had =
     on P (Stands stands shown new) (x ∷ []) before behind adds
-    (λ trace s. let may = comes trace s in
-    record {
-      notes = may.0.notes;
-      node = tells may.0.notes trace may.0.node may.1;
-      kept_are = held_still old new may.0.notes keep may.0.kept_are;
-      obeys = obeys-grows stands shown old.records new.records trace x may.2 tracks may.0.obeys;
-    }) had
+    (λ trace p. let may = comes trace p in
+    stands-grows stands shown old new x trace may.0 may.2 tracks watch keep
+    (tells may.0.matches.notes trace may.0.matches.node may.1)) had
 
 -- and the node had no memory
 pub lacked : {N : Type 0} (stands : List Note → N → List Entry → Type 0) (shown : N → Shown) (old : Run N) (new : Records) (x : Entry)
@@ -131,7 +169,7 @@ pub lacked : {N : Type 0} (stands : List Note → N → List Entry → Type 0) (
     → IfSome before P → IfSome behind (Obeys stands shown new)
 lacked stands shown old new x P before behind adds tracks comes had =
     on P (Obeys stands shown new) (x ∷ []) before behind adds
-    (λ trace s. let may = comes trace s in obeys-grows stands shown old.records new trace x may.2 tracks may.0.obeys) had
+    (λ trace p. let may = comes trace p in obeys-grows stands shown old.records new trace x may.2 tracks may.0.matches.obeys) had
 
 -- so it is left where memory lacked
 pub left : {A E N : Type 0} (stands : List Note → N → List Entry → Type 0) (shown : N → Shown) (r : Result A E) (run : Run N)
@@ -140,28 +178,69 @@ pub left : {A E N : Type 0} (stands : List Note → N → List Entry → Type 0)
 left stands shown (Ok x) run told none had = absurd none
 left stands shown (Err why) run told none had = had
 
--- room was taken for a birth
-pub reserved : {N : Type 0} (stands : List Note → N → List Entry → Type 0) (shown : N → Shown) (old new : Run N)
-    (told : Option (List Entry))
-    → new.node ≡ old.node → new.keep ≡ old.keep → new.records.asked ≡ old.records.asked → new.records.births ≡ old.records.births
-    → new.records.wanting ≡ old.records.wanting → IsKept (kept old.records.links) (kept new.records.links)
-    → IfSome told (Stands stands shown old) → IfSome told (Stands stands shown new)
-reserved stands shown old new told node keep doors births_are wanting_is is had =
-    each (Stands stands shown old) (Stands stands shown new) told
-    (λ trace s. record {
-      notes = s.notes;
-      node = subst (λ n. stands s.notes n trace) (sym node) s.node;
-      kept_are = held_still old new s.notes keep s.kept_are;
-      obeys = record {
-        links = λ l. is.links l ∙ s.obeys.links l;
-        doors = λ d. ap (λ (a : Asked). asked_at a d) doors ∙ s.obeys.doors d;
-        numbered = s.obeys.numbered;
-        births_are = births_are ∙ s.obeys.births_are;
-        wanting_is = wanting_is ∙ s.obeys.wanting_is;
-        awake = s.obeys.awake;
-        settled = s.obeys.settled;
+-- the list changed alone
+pub relisted : {N : Type 0} (stands : List Note → N → List Entry → Type 0) (shown : N → Shown) (run : Run N) (links : Links)
+    → ((l : ℕ) → (kept links).links l ≡ (kept run.records.links).links l)
+    → (Watched shown run → WatchedBy (kept links) (shown run.node)) → (trace : List Entry) → Stands stands shown run trace
+    → Stands stands shown (record run { records = record run.records { links = links } }) trace
+relisted stands shown run links same watch trace s =
+    let o = s.matches.obeys in
+    record {
+      matches = record {
+        notes = s.matches.notes;
+        node = s.matches.node;
+        kept_are = s.matches.kept_are;
+        obeys = record {
+          links = λ l. same l ∙ o.links l;
+          doors = o.doors;
+          numbered = o.numbered;
+          births_are = o.births_are;
+          wanting_is = o.wanting_is;
+          awake = o.awake;
+          settled = o.settled;
+        };
       };
-    }) had
+      watched = watch s.watched;
+      going = s.going;
+    }
+
+-- room was taken for a birth
+pub reserved : {N : Type 0} (stands : List Note → N → List Entry → Type 0) (shown : N → Shown) (run : Run N) (links : Links)
+    (told : Option (List Entry)) → IsKept (kept run.records.links) (kept links) → IfSome told (Stands stands shown run)
+    → IfSome told (Stands stands shown (record run { records = record run.records { links = links } }))
+reserved stands shown run links told is had =
+    each (Stands stands shown run) (Stands stands shown (record run { records = record run.records { links = links } })) told
+    (relisted stands shown run links is.links (watched-kept (kept run.records.links) (kept links) (shown run.node) is)) had
+
+-- what is known is what is told
+pub obeyed : {N : Type 0} (stands : List Note → N → List Entry → Type 0) (shown : N → Shown) (run : Run N) (told : Option (List Entry))
+    → IfSome told (Stands stands shown run) → IfSome told (Obeys stands shown run.records)
+obeyed stands shown run told had = each (Stands stands shown run) (Obeys stands shown run.records) told (λ trace s. s.matches.obeys) had
+
+-- notes were taken
+pub stands-noted : {N : Type 0} (stands : List Note → N → List Entry → Type 0) (shown : N → Shown) (old new : Run N) (trace : List Entry)
+    → new.records ≡ old.records → IsSame (shown old.node) (shown new.node)
+    → ((l : ℕ) → (shown new.node).stirs l ≡ (shown old.node).stirs l) → Stands stands shown old trace → Matches stands shown new trace
+    → Stands stands shown new trace
+stands-noted stands shown old new trace records same stirs s matches = record {
+  matches = matches;
+  watched = subst (λ (r : Records). WatchedBy (kept r.links) (shown new.node)) (sym records)
+      (watched-noted (kept old.records.links) (shown old.node) (shown new.node) same stirs s.watched);
+  going = same.ends_for ∙ s.going;
+}
+
+-- the same is to be done, twice
+pub same_both : (r s t : Shown) → IsSame r s → IsSame s t → IsSame r t
+same_both r s t first second = record {
+  wants = λ l. second.wants l ∙ first.wants l;
+  output = λ l. second.output l ∙ first.output l;
+  idle = second.idle ∙ first.idle;
+  none_closes = second.none_closes ∙ first.none_closes;
+  ends_for = second.ends_for ∙ first.ends_for;
+}
+
+pub same_none : (s : Shown) → IsSame s s
+same_none s = record { wants = λ l. refl; output = λ l. refl; idle = refl; none_closes = refl; ends_for = refl }
 
 -- a link that is born has the next number
 pub numbered_too : (P : List Entry → Type 0) (told : Option (List Entry)) (l : ℕ) → HasNextNumber told (New l) → IfSome told P
@@ -174,7 +253,7 @@ pub untold : {N : Type 0} (stands : List Note → N → List Entry → Type 0) (
     (before behind : Option (List Entry)) → behind ≡ with_entries [] before
     → IfSome before (Stands stands shown old) → IfSome behind (Obeys stands shown old.records)
 untold stands shown old before behind adds had =
-    same (Stands stands shown old) (Obeys stands shown old.records) before behind adds (λ trace s. s.obeys) had
+    same (Stands stands shown old) (Obeys stands shown old.records) before behind adds (λ trace s. s.matches.obeys) had
 
 -- a link that lives is closed, or shut
 pub on_close : (P Q : List Entry → Type 0) (l : ℕ) (cause : Cause) (before behind : Option (List Entry))
@@ -219,22 +298,16 @@ unmoved r _ plain = absurd plain
 -- what was asked for a dial
 pub dial_comes : {N : Type 0} (stands : List Note → N → List Entry → Type 0) (shown : N → Shown) (run : Run N) (to : Target) (why : Why)
     (l : ℕ)
-    → (shown run.node).due ≡ Some (act.Dial to why) → (trace : List Entry)
+    → (shown run.node).dials ≡ Some (to, why) → (trace : List Entry)
     → Stands stands shown run trace × (l ≡ births trace + 1)
     → Stands stands shown run trace × MayCome (shown run.node) trace (e.Dialled l to why) × Comes stands shown trace (e.Dialled l to why)
-dial_comes stands shown run to why l due trace had =
-    (had.0, (due, had.1), record { numbers = had.1; awake = tt; settled = tt })
+dial_comes stands shown run to why l dials trace had =
+    (had.0, (dials, had.1), record { numbers = had.1; awake = tt; settled = tt })
 
 pub dial_fails : {N : Type 0} (stands : List Note → N → List Entry → Type 0) (shown : N → Shown) (run : Run N) (to : Target) (why : Why)
-    → (shown run.node).due ≡ Some (act.Dial to why) → (trace : List Entry) → Stands stands shown run trace
+    → (shown run.node).dials ≡ Some (to, why) → (trace : List Entry) → Stands stands shown run trace
     → Stands stands shown run trace × MayCome (shown run.node) trace (e.DialFailed to why) × Comes stands shown trace (e.DialFailed to why)
-dial_fails stands shown run to why due trace had = (had, due, record { numbers = tt; awake = tt; settled = tt })
-
--- what is known of a link that lives is so
-pub known_so : {N : Type 0} (stands : List Note → N → List Entry → Type 0) (shown : N → Shown) (run : Run N) (l : ℕ) (k : Link)
-    (trace : List Entry)
-    → (kept run.records.links).links l ≡ Some k → Stands stands shown run trace → (lives l trace ≡ true) × (sight l trace ≡ k)
-known_so stands shown run l k trace is s = known_lives l trace k (sym (s.obeys.links l) ∙ is)
+dial_fails stands shown run to why dials trace had = (had, dials, record { numbers = tt; awake = tt; settled = tt })
 
 -- a call that moved nothing, or a wait: the node isn't told
 pub rested : {N : Type 0} (stands : List Note → N → List Entry → Type 0) (shown : N → Shown) (old new : Run N) (x : Entry)
@@ -243,17 +316,15 @@ pub rested : {N : Type 0} (stands : List Note → N → List Entry → Type 0) (
     → ((notes : List Note) (trace : List Entry) → MayCome (shown old.node) trace x → stands notes old.node trace
     → stands notes old.node (trace ++ x ∷ []))
     → Tracks old.records new.records x
+    → (Watched shown old → WatchedBy (kept new.records.links) (shown old.node))
     → ((trace : List Entry) → P trace → Stands stands shown old trace × MayCome (shown old.node) trace x × Comes stands shown trace x)
     → IfSome before P → IfSome behind (Stands stands shown new)
-rested stands shown old new x P before behind adds node keep rests tracks comes had =
+rested stands shown old new x P before behind adds node keep rests tracks watch comes had =
     on P (Stands stands shown new) (x ∷ []) before behind adds
-    (λ trace s. let may = comes trace s in
-    record {
-      notes = may.0.notes;
-      node = subst (λ n. stands may.0.notes n (trace ++ x ∷ [])) (sym node) (rests may.0.notes trace may.1 may.0.node);
-      kept_are = held_still old new may.0.notes keep may.0.kept_are;
-      obeys = obeys-grows stands shown old.records new.records trace x may.2 tracks may.0.obeys;
-    }) had
+    (λ trace p. let may = comes trace p in
+    stands-grows stands shown old new x trace may.0 may.2 tracks watch keep
+    (subst (λ n. stands may.0.matches.notes n (trace ++ x ∷ []) × Stirs (trace ++ x ∷ []) (shown old.node) (shown n)) (sym node)
+    (rests may.0.matches.notes trace may.1 may.0.matches.node, stirs_none (trace ++ x ∷ []) (shown old.node)))) had
 
 -- the buffer alone changed
 pub same_run : {N : Type 0} (stands : List Note → N → List Entry → Type 0) (shown : N → Shown) (old new : Run N)
@@ -263,26 +334,31 @@ pub same_run : {N : Type 0} (stands : List Note → N → List Entry → Type 0)
 same_run stands shown old new told node records keep had =
     each (Stands stands shown old) (Stands stands shown new) told
     (λ trace s. record {
-      notes = s.notes;
-      node = subst (λ n. stands s.notes n trace) (sym node) s.node;
-      kept_are = held_still old new s.notes keep s.kept_are;
-      obeys = subst (λ (r : Records). Obeys stands shown r trace) (sym records) s.obeys;
+      matches = record {
+        notes = s.matches.notes;
+        node = subst (λ n. stands s.matches.notes n trace) (sym node) s.matches.node;
+        kept_are = held_still old new s.matches.notes keep s.matches.kept_are;
+        obeys = subst (λ (r : Records). Obeys stands shown r trace) (sym records) s.matches.obeys;
+      };
+      watched = subst (λ (r : Records). WatchedBy (kept r.links) (shown new.node)) (sym records)
+          (subst (λ n. WatchedBy (kept old.records.links) (shown n)) (sym node) s.watched);
+      going = ap (λ n. (shown n).ends_for) node ∙ s.going;
     }) had
 
 -- a wait named the door, so an accept may be made at it
 pub accept_comes : {N : Type 0} (stands : List Note → N → List Entry → Type 0) (shown : N → Shown) (run : Run N) (door : Door) (l : ℕ)
-    → (shown run.node).due ≡ None → asked_at run.records.asked door ≡ true → (trace : List Entry)
+    → (shown run.node).idle ≡ true → asked_at run.records.asked door ≡ true → (trace : List Entry)
     → Stands stands shown run trace × (l ≡ births trace + 1)
     → Stands stands shown run trace × MayCome (shown run.node) trace (e.Accepted l door) × Comes stands shown trace (e.Accepted l door)
-accept_comes stands shown run door l due is trace had =
-    (had.0, (due, had.1), record { numbers = had.1; awake = sym (had.0.obeys.doors door) ∙ is; settled = tt })
+accept_comes stands shown run door l idle is trace had =
+    (had.0, ((had.0.going, idle), had.1), record { numbers = had.1; awake = sym (had.0.matches.obeys.doors door) ∙ is; settled = tt })
 
 pub accept_balks : {N : Type 0} (stands : List Note → N → List Entry → Type 0) (shown : N → Shown) (run : Run N) (door : Door)
-    → (shown run.node).due ≡ None → asked_at run.records.asked door ≡ true → (trace : List Entry) → Stands stands shown run trace
+    → (shown run.node).idle ≡ true → asked_at run.records.asked door ≡ true → (trace : List Entry) → Stands stands shown run trace
     → Stands stands shown run trace × MayCome (shown run.node) trace (e.Balked (way.Accept door))
     × Comes stands shown trace (e.Balked (way.Accept door))
-accept_balks stands shown run door due is trace s =
-    (s, due, record { numbers = tt; awake = sym (s.obeys.doors door) ∙ is; settled = tt })
+accept_balks stands shown run door idle is trace s =
+    (s, (s.going, idle), record { numbers = tt; awake = sym (s.matches.obeys.doors door) ∙ is; settled = tt })
 
 pub accept_tracks : (r : Records) (now : Asked) (door : Door)
     → ((d : Door) → asked_at now d ≡ (if same_door door d then false else asked_at r.asked d))

@@ -10,20 +10,21 @@ use Rattle.hb_world.specs.Calls.{with_entries}
 use Rattle.hb_world.specs.ScriptAnswers.{is_listen}
 use Rattle.hb_world.specs.Trace.{same_door}
 use Rattle.hb_world.specs.declared.entry.Entry.{Entry}
+use Rattle.hb_ready.specs.Registry.{kept}
 use Rattle.hb_ready.specs.Sight.{asked_at}
 use Rattle.hb_ready.specs.declared.doors.Asked.{Asked}
 use Rattle.hb_turns.specs.Ends.{end_of, end_by, RunsOn, ticks, waits, is_tick, is_wait}
 use Rattle.hb_turns.specs.Listens.{DoorAt, given, listen_at, LeavesDoors}
 use Rattle.hb_turns.specs.Reckons.{Begins, Begun, FailsAt, StopsAt, AreLeft, Reckons, Finishes}
 use Rattle.hb_turns.specs.Shown.{Shown, MayCome}
-use Rattle.hb_turns.specs.Stands.{Obeys, Stands, Tracks}
+use Rattle.hb_turns.specs.Stands.{Obeys, Stands, Tracks, Watched, WatchedBy}
 use Rattle.hb_turns.specs.declared.run.Records.{Records}
 use Rattle.hb_turns.specs.declared.run.Run.{Run}
 use Rattle.hb_turns.specs.declared.served.ServeEnd.{ServeEnd}
 use Rattle.hb_turns.specs.declared.served.ServeEnd.TheVariants as ends
 use Rattle.hb_turns.specs.declared.words.ServeWords.{ServeWords}
 use Rattle.hb_turns.proofs.Counting.{count-cons, count-grows}
-use Rattle.hb_turns.proofs.Holding.{on, each, obeys-grows, held_still, still}
+use Rattle.hb_turns.proofs.Holding.{on, each, rested, still}
 
 all_listens : (made : List DoorAt) → list_all is_listen (map (listen_at true) made) ≡ true
 all_listens [] = refl
@@ -54,30 +55,30 @@ module _ {N : Type 0} (stands : List Note → N → List Entry → Type 0) (show
       → new.keep ≡ old.keep
       → ((notes : List Note) (trace : List Entry) → MayCome (shown old.node) trace (listen_at b d) → stands notes old.node trace
       → stands notes old.node (trace ++ listen_at b d ∷ []))
-      → Tracks old.records new.records (listen_at b d) → Begins stands shown old made trace
-      → Stands stands shown new (trace ++ listen_at b d ∷ [])
-  listen_stands old new made b d trace node keep rests tracks had =
-      let s = had.stands_for in
-      record {
-        notes = s.notes;
-        node = subst (λ n. stands s.notes n (trace ++ listen_at b d ∷ [])) (sym node)
-            (rests s.notes trace (ap (λ (es : List Entry). list_all is_listen es) had.listens ∙ all_listens made) s.node);
-        kept_are = held_still old new s.notes keep s.kept_are;
-        obeys = obeys-grows stands shown old.records new.records trace (listen_at b d) (record { numbers = tt; awake = tt; settled = tt })
-            tracks s.obeys;
-      }
+      → Tracks old.records new.records (listen_at b d) → (Watched shown old → WatchedBy (kept new.records.links) (shown old.node))
+      → Begins stands shown old made trace → Stands stands shown new (trace ++ listen_at b d ∷ [])
+  listen_stands old new made b d trace node keep rests tracks watch had =
+      rested stands shown old new (listen_at b d) (Begins stands shown old made) (Some trace) (Some (trace ++ listen_at b d ∷ [])) refl node
+      keep rests tracks watch
+      (λ trace begins. (
+        begins.stands_for,
+        ap (λ (es : List Entry). list_all is_listen es) begins.listens ∙ all_listens made,
+        record { numbers = tt; awake = tt; settled = tt },
+      ))
+      had
 
   -- and the door listens
   pub listens_on : (old new : Run N) (made : List DoorAt) (d : DoorAt) (before behind : Option (List Entry))
       → behind ≡ with_entries (listen_at true d ∷ []) before → new.node ≡ old.node → new.keep ≡ old.keep
       → ((notes : List Note) (trace : List Entry) → MayCome (shown old.node) trace (listen_at true d) → stands notes old.node trace
       → stands notes old.node (trace ++ listen_at true d ∷ []))
-      → Tracks old.records new.records (listen_at true d) → IfSome before (Begins stands shown old made)
+      → Tracks old.records new.records (listen_at true d) → (Watched shown old → WatchedBy (kept new.records.links) (shown old.node))
+      → IfSome before (Begins stands shown old made)
       → IfSome behind (Begins stands shown new (made ++ d ∷ []))
-  listens_on old new made d before behind adds node keep rests tracks =
+  listens_on old new made d before behind adds node keep rests tracks watch =
       on (Begins stands shown old made) (Begins stands shown new (made ++ d ∷ [])) (listen_at true d ∷ []) before behind adds
       (λ trace had. record {
-        stands_for = listen_stands old new made true d trace node keep rests tracks had;
+        stands_for = listen_stands old new made true d trace node keep rests tracks watch had;
         listens = ap (λ (es : List Entry). es ++ listen_at true d ∷ []) had.listens ∙ map_more made d;
       })
 
@@ -86,15 +87,16 @@ module _ {N : Type 0} (stands : List Note → N → List Entry → Type 0) (show
       → behind ≡ with_entries (listen_at false d ∷ []) before → new.node ≡ old.node → new.keep ≡ old.keep
       → ((notes : List Note) (trace : List Entry) → MayCome (shown old.node) trace (listen_at false d) → stands notes old.node trace
       → stands notes old.node (trace ++ listen_at false d ∷ []))
-      → Tracks old.records new.records (listen_at false d) → IfSome before (Begins stands shown old made)
+      → Tracks old.records new.records (listen_at false d) → (Watched shown old → WatchedBy (kept new.records.links) (shown old.node))
+      → IfSome before (Begins stands shown old made)
       → IfSome behind (λ trace. (ends.WorldFault ≡ ends.WorldFault) × Stands stands shown new trace × FailsAt (made ++ d ∷ []) trace)
-  listen_fails old new made d before behind adds node keep rests tracks =
+  listen_fails old new made d before behind adds node keep rests tracks watch =
       on (Begins stands shown old made)
       (λ trace. (ends.WorldFault ≡ ends.WorldFault) × Stands stands shown new trace × FailsAt (made ++ d ∷ []) trace)
       (listen_at false d ∷ []) before behind adds
       (λ trace had. (
         refl,
-        listen_stands old new made false d trace node keep rests tracks had,
+        listen_stands old new made false d trace node keep rests tracks watch had,
         record {
           made = made;
           at = d;

@@ -10,7 +10,7 @@ use Rattle.hb_ready.specs.Awake.{IsAwake}
 use Rattle.hb_ready.specs.Registry.{kept}
 use Rattle.hb_ready.specs.Sight.{known, sight}
 use Rattle.hb_ready.specs.declared.link.Link.{Link}
-use Rattle.hb_turns.specs.Served.{IsServed, IsFresh}
+use Rattle.hb_turns.specs.Served.{IsServed, IsFresh, IsFreshNode}
 use Rattle.hb_turns.specs.Settled.{SettledAt, Rests}
 use Rattle.hb_turns.specs.Shown.{Shown}
 use Rattle.hb_turns.specs.Stands.{Obeys, Watched}
@@ -51,33 +51,37 @@ nothing_held : (k : Option (List Note)) → Holds (option_map (λ (notes : List 
 nothing_held None = tt
 nothing_held (Some notes) = refl
 
+watched_fresh : {N : Type 0} (shown : N → Shown) (run : Run N) → IsFresh run.records → Watched shown run
+watched_fresh shown run fresh l =
+    inr (inr (subst (λ (o : Option Link). Rests o l (shown run.node)) (sym (fresh.links l)) tt))
+
 -- before anything happened
 pub begins : {N : Type 0} (stands : List Note → N → List Entry → Type 0) (shown : N → Shown) (run : Run N) (keep : Option (List Note))
     (told : Option (List Entry)) → IsFresh run.records → run.keep ≡ option_map (λ (notes : List Note). []) keep → stands [] run.node []
-    → told ≡ Some [] → IfSome told (Begins stands shown run [])
-begins stands shown run keep told fresh keeps stands_for is =
+    → IsFreshNode (shown run.node) → told ≡ Some [] → IfSome told (Begins stands shown run [])
+begins stands shown run keep told fresh keeps stands_for node is =
     subst (λ (o : Option (List Entry)). IfSome o (Begins stands shown run [])) (sym is)
     (record {
       stands_for = record {
-        notes = [];
-        node = stands_for;
-        kept_are = subst (λ (k : Option (List Note)). Holds k []) (sym keeps) (nothing_held keep);
-        obeys = record {
-          links = fresh.links;
-          doors = fresh.doors;
-          numbered = λ l above. (refl, refl);
-          births_are = fresh.births;
-          wanting_is = fresh.wanting;
-          awake = nothing_at IsAwake;
-          settled = nothing_at (SettledAt stands shown);
+        matches = record {
+          notes = [];
+          node = stands_for;
+          kept_are = subst (λ (k : Option (List Note)). Holds k []) (sym keeps) (nothing_held keep);
+          obeys = record {
+            links = fresh.links;
+            doors = fresh.doors;
+            numbered = λ l above. (refl, refl);
+            births_are = fresh.births;
+            wanting_is = fresh.wanting;
+            awake = nothing_at IsAwake;
+            settled = nothing_at (SettledAt stands shown);
+          };
         };
+        watched = watched_fresh shown run fresh;
+        going = node.going;
       };
       listens = refl;
     })
-
-pub watched_fresh : {N : Type 0} (shown : N → Shown) (run : Run N) → IsFresh run.records → Watched shown run
-watched_fresh shown run fresh l =
-    inr (inr (subst (λ (o : Option Link). Rests o l (shown run.node)) (sym (fresh.links l)) tt))
 
 -- memory lacked before anything happened
 pub nothing_served : {N : Type 0} (stands : List Note → N → List Entry → Type 0) (shown : N → Shown) (words : ServeWords)

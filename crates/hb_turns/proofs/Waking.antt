@@ -26,7 +26,7 @@ use Rattle.hb_turns.specs.Shown.{Shown, MayCome, Tells}
 use Rattle.hb_turns.specs.Stands.{Stands, Tracks, Watched, WatchedBy, IsIdle}
 use Rattle.hb_turns.specs.Woken.{Wakes, IsQuiet, Ticked}
 use Rattle.hb_turns.specs.declared.run.Run.{Run}
-use Rattle.hb_turns.proofs.Holding.{Comes, on, obeys-grows, unmoved, held_still}
+use Rattle.hb_turns.proofs.Holding.{Comes, on, rested, stands-grows, unmoved}
 use Rattle.hb_turns.specs.declared.run.Records.{Records}
 use Rattle.hb_turns.proofs.Watching.{watched-links, lists-more, lists-it}
 
@@ -131,26 +131,29 @@ watched-woken k n s link is lists =
 nothing : (xs : List ℕ) (l : ℕ) → xs ≡ [] → has xs l ≡ true → ⊥
 nothing xs l none is = absurd (let no : false ≡ true = subst (λ (ys : List ℕ). has ys l ≡ true) none is in cc)
 
+neither : (b : Bool) → b ≡ false → b ≡ true → ⊥
+neither b none is = cc
+
 -- nothing is due, and nothing is to be tried: a wait may come
 pub wait_comes : {N : Type 0} (stands : List Note → N → List Entry → Type 0) (shown : N → Shown) (run : Run N) (items : List ReadyItem)
     (how : Woken)
-    → IsIdle (shown run.node) → IsQuiet run.records → Watched shown run → (trace : List Entry) → Stands stands shown run trace
+    → IsIdle (shown run.node) → IsQuiet run.records → (trace : List Entry) → Stands stands shown run trace
     → Stands stands shown run trace × MayCome (shown run.node) trace (e.Wait items how) × Comes stands shown trace (e.Wait items how)
-wait_comes stands shown run items how idle quiet watched trace s = (
+wait_comes stands shown run items how idle quiet trace s = (
   s,
-  idle.due,
+  (s.going, idle.idle),
   record {
     numbers = tt;
     awake = tt;
     settled = record {
-      notes = s.notes;
+      notes = s.matches.notes;
       node = run.node;
-      stands_for = s.node;
-      idle = idle.due;
-      doors = λ d. sym (s.obeys.doors d) ∙ quiet.1 d;
-      links = λ l. subst (λ (o : Option Link). Rests o l (shown run.node)) (s.obeys.links l)
+      stands_for = s.matches.node;
+      idle = idle.idle;
+      doors = λ d. sym (s.matches.obeys.doors d) ∙ quiet.1 d;
+      links = λ l. subst (λ (o : Option Link). Rests o l (shown run.node)) (s.matches.obeys.links l)
           (⊎_elim (λ listed. absurd (nothing (kept run.records.links).listed l quiet.0 listed))
-          (λ more. ⊎_elim (λ stirred. absurd (nothing (shown run.node).stirred l idle.stirred stirred)) (λ rests. rests) more) (watched l));
+          (λ more. ⊎_elim (λ stirred. absurd (neither _ (idle.stirs l) stirred)) (λ rests. rests) more) (s.watched l));
     };
   },
 )
@@ -162,38 +165,29 @@ pub wait_ticks : {N : Type 0} (stands : List Note → N → List Entry → Type 
     → ((notes : List Note) (trace : List Entry) → MayCome (shown old.node) trace (e.Wait items woken.Tick) → stands notes old.node trace
     → stands notes old.node (trace ++ e.Wait items woken.Tick ∷ []))
     → Tracks old.records new.records (e.Wait items woken.Tick)
+    → (Watched shown old → WatchedBy (kept new.records.links) (shown old.node))
     → ((trace : List Entry) → Stands stands shown old trace → Stands stands shown old trace
     × MayCome (shown old.node) trace (e.Wait items woken.Tick) × Comes stands shown trace (e.Wait items woken.Tick))
     → IfSome before (Stands stands shown old) → IfSome behind (Ticked stands shown new)
-wait_ticks stands shown old new items before behind adds node keep rests tracks comes had =
+wait_ticks stands shown old new items before behind adds node keep rests tracks watch comes had =
     on (Stands stands shown old) (Ticked stands shown new) (e.Wait items woken.Tick ∷ e.Tick ∷ []) before behind adds
-    (λ trace s. let may = comes trace s in
-    record {
+    (λ trace s. record {
       before = trace ++ e.Wait items woken.Tick ∷ [];
       trace_is = sym (append_assoc trace (e.Wait items woken.Tick ∷ []) (e.Tick ∷ []));
-      stands_for = record {
-        notes = may.0.notes;
-        node = subst (λ n. stands may.0.notes n (trace ++ e.Wait items woken.Tick ∷ [])) (sym node)
-            (rests may.0.notes trace may.1 may.0.node);
-        kept_are = held_still old new may.0.notes keep may.0.kept_are;
-        obeys = obeys-grows stands shown old.records new.records trace (e.Wait items woken.Tick) may.2 tracks may.0.obeys;
-      };
+      stands_for = rested stands shown old new (e.Wait items woken.Tick) (Stands stands shown old) (Some trace)
+          (Some (trace ++ e.Wait items woken.Tick ∷ [])) refl node keep rests tracks watch comes s;
     }) had
 
 -- the node is told of a tick
-pub tick_told : {N : Type 0} (stands : List Note → N → List Entry → Type 0) (shown : N → Shown) (old new : Run N)
-    → Tells stands shown e.Tick old.node new.node → new.records ≡ old.records → new.keep ≡ old.keep → (shown old.node).due ≡ None
-    → (trace : List Entry)
-    → Ticked stands shown old trace → Stands stands shown new trace
-tick_told stands shown old new tells records keep due trace t =
-    subst (λ (xs : List Entry). Stands stands shown new xs) (sym t.trace_is)
-    (record {
-      notes = t.stands_for.notes;
-      node = tells t.stands_for.notes t.before t.stands_for.node due;
-      kept_are = held_still old new t.stands_for.notes keep t.stands_for.kept_are;
-      obeys = obeys-grows stands shown old.records new.records t.before e.Tick (record { numbers = tt; awake = tt; settled = tt })
-          (subst (λ (r : Records). Tracks old.records r e.Tick) (sym records) (unmoved old.records e.Tick tt)) t.stands_for.obeys;
-    })
+pub tick_told : {N : Type 0} (stands : List Note → N → List Entry → Type 0) (shown : N → Shown) (run : Run N) (node : N)
+    → Tells stands shown e.Tick run.node node → (shown run.node).idle ≡ true → (trace : List Entry) → Ticked stands shown run trace
+    → Stands stands shown (record run { node = node }) trace
+tick_told stands shown run node tells idle trace t =
+    let s = t.stands_for in
+    subst (λ (xs : List Entry). Stands stands shown (record run { node = node }) xs) (sym t.trace_is)
+    (stands-grows stands shown run (record run { node = node }) e.Tick t.before s (record { numbers = tt; awake = tt; settled = tt })
+    (unmoved run.records e.Tick tt) (λ watched. watched) refl
+    (tells s.matches.notes t.before s.matches.node (s.going, idle)))
 
 both : (a b : Bool) → (a || b) ≡ false → (a ≡ false) × (b ≡ false)
 both false b is = (refl, is)

@@ -3,41 +3,62 @@ use Rattle.std.proofs.Common.{◌≡◌, ◌⊎◌, ℕ, drop, ◌==◌, ◌||�
 use Rattle.std.specs.Option.{is_some, option_map}
 use Rattle.std.proofs.lemmas.Bool.{eqb-true}
 use Rattle.hb_base.specs.declared.cause.Cause.{Cause}
+use Rattle.hb_world.specs.Trace.{lives}
+use Rattle.hb_world.specs.declared.entry.Entry.{Entry}
 use Rattle.hb_world.specs.declared.entry.Entry.TheVariants as e
 use Rattle.hb_world.specs.declared.entry.Way.TheVariants as way
-use Rattle.hb_ready.specs.Kept.{Kept, Follows, Lists, has, rotated, link_behind}
-use Rattle.hb_ready.specs.Sight.{with_open}
+use Rattle.hb_ready.specs.Kept.{Kept, Follows, IsKept, Lists, has, rotated, link_behind}
+use Rattle.hb_ready.specs.Sight.{known, sight, with_open}
 use Rattle.hb_ready.specs.declared.link.Link.{Link}
 use Rattle.hb_ready.proofs.Lists.{has-more, has-end}
 use Rattle.hb_turns.specs.Settled.{Rests, RestsBy}
-use Rattle.hb_turns.specs.Shown.{Shown, Stirs, IsSame}
+use Rattle.hb_turns.specs.Shown.{Shown, Stirs, Hears, IsSame}
 use Rattle.hb_turns.specs.Stands.{WatchedBy}
 
-rests_by-stirs : (b : Bool) (k : Link) (l : ℕ) (s t : Shown) → Stirs s t → RestsBy b k l s
-    → (has t.stirred l ≡ true) ⊎ RestsBy b k l t
-rests_by-stirs false k l s t stirs rests = inr rests
-rests_by-stirs true k l s t stirs rests =
+rests_by-stirs : (b : Bool) (k : Link) (l : ℕ) (trace : List Entry) (s t : Shown) → Stirs trace s t → lives l trace ≡ true → RestsBy b k l s
+    → (t.stirs l ≡ true) ⊎ RestsBy b k l t
+rests_by-stirs false k l trace s t stirs alive rests = inr rests
+rests_by-stirs true k l trace s t stirs alive rests =
     ⊎_elim (λ stirred. inl stirred)
     (λ reads. ⊎_elim (λ stirred. inl stirred) (λ writes. inr (reads, writes)) writes_now) reads_now
   where
-    reads_now : (has t.stirred l ≡ true) ⊎ ((k.read_sleeps ≡ true) ⊎ (t.wants l ≡ 0))
+    reads_now : (t.stirs l ≡ true) ⊎ ((k.read_sleeps ≡ true) ⊎ (t.wants l ≡ 0))
     reads_now =
-        ⊎_elim (λ slept. inr (inl slept)) (λ none. ⊎_elim (λ still. inr (inr still)) (λ stirred. inl stirred) (stirs.reads l none)) rests.0
+        ⊎_elim (λ slept. inr (inl slept))
+        (λ none. ⊎_elim (λ still. inr (inr still)) (λ stirred. inl stirred) (stirs.reads l alive none)) rests.0
 
-    writes_now : (has t.stirred l ≡ true) ⊎ ((k.write_sleeps ≡ true) ⊎ (t.output l ≡ []))
+    writes_now : (t.stirs l ≡ true) ⊎ ((k.write_sleeps ≡ true) ⊎ (t.output l ≡ []))
     writes_now =
-        ⊎_elim (λ slept. inr (inl slept)) (λ none. ⊎_elim (λ still. inr (inr still)) (λ stirred. inl stirred) (stirs.writes l none)) rests.1
+        ⊎_elim (λ slept. inr (inl slept))
+        (λ none. ⊎_elim (λ still. inr (inr still)) (λ stirred. inl stirred) (stirs.writes l alive none)) rests.1
 
-rests-stirs : (o : Option Link) (l : ℕ) (s t : Shown) → Stirs s t → Rests o l s → (has t.stirred l ≡ true) ⊎ Rests o l t
-rests-stirs None l s t stirs rests = inr tt
-rests-stirs (Some k) l s t stirs rests = rests_by-stirs k.is_open k l s t stirs rests
+rests-stirs : (o : Option Link) (l : ℕ) (trace : List Entry) (s t : Shown) → Stirs trace s t → lives l trace ≡ true → Rests o l s
+    → (t.stirs l ≡ true) ⊎ Rests o l t
+rests-stirs None l trace s t stirs alive rests = inr tt
+rests-stirs (Some k) l trace s t stirs alive rests = rests_by-stirs k.is_open k l trace s t stirs alive rests
+
+-- a link that doesn't live rests
+dead_rests : (o : Option Link) (l : ℕ) (trace : List Entry) (s : Shown) → o ≡ known l trace → lives l trace ≡ false → Rests o l s
+dead_rests o l trace s is dead =
+    subst (λ (k : Option Link). Rests k l s)
+    (sym (is ∙ ap (λ (b : Bool). if b then Some (sight l trace) else None) dead)) tt
+
+alive_some : (o : Option Link) (l : ℕ) (trace : List Entry) → o ≡ known l trace → lives l trace ≡ true → is_some o ≡ true
+alive_some o l trace is alive =
+    ap is_some (is ∙ ap (λ (b : Bool). if b then Some (sight l trace) else None) alive)
 
 -- the node was told of something, or gave an act
-pub watched-stirs : (k : Kept) (s t : Shown) → Stirs s t → WatchedBy k s → WatchedBy k t
-watched-stirs k s t stirs watched l =
-    ⊎_elim (λ listed. inl listed)
-    (λ more. inr (⊎_elim (λ stirred. inl (stirs.kept l stirred)) (λ rests. rests-stirs (k.links l) l s t stirs rests) more))
-    (watched l)
+pub watched-stirs : (k : Kept) (trace : List Entry) (s t : Shown) → ((l : ℕ) → k.links l ≡ known l trace) → Stirs trace s t → WatchedBy k s
+    → WatchedBy k t
+watched-stirs k trace s t known_are stirs watched l =
+    by (lives l trace) refl
+  where
+    by : (b : Bool) → lives l trace ≡ b → (has k.listed l ≡ true) ⊎ ((t.stirs l ≡ true) ⊎ Rests (k.links l) l t)
+    by true alive =
+        ⊎_elim (λ listed. inl listed)
+        (λ more. inr (⊎_elim (λ stirred. inl (stirs.kept l alive stirred))
+        (λ rests. rests-stirs (k.links l) l trace s t stirs alive rests) more)) (watched l)
+    by false dead = inr (inr (dead_rests (k.links l) l trace t (known_are l) dead))
 
 -- what rested still does
 pub watched-links : (k n : Kept) (s : Shown) → ((l : ℕ) → has k.listed l ≡ true → has n.listed l ≡ true)
@@ -146,29 +167,52 @@ rests-same None l s t same rests = tt
 rests-same (Some k) l s t same rests = rests_by-same k.is_open k l s t same rests
 
 -- a link that stirred was told, and listed
-pub watched-heard : (k n : Kept) (s t : Shown) (link : ℕ) → s.stirred ≡ link ∷ t.stirred → IsSame s t
-    → ((l : ℕ) → n.links l ≡ k.links l) → Lists k n link → WatchedBy k s → WatchedBy n t
-watched-heard k n s t link stirred same links lists watched l =
-    ⊎_elim (λ listed. inl (lists-more k n link l lists listed))
-    (λ more. ⊎_elim (λ stirs. told (link == l) refl (subst (λ (xs : List ℕ). has xs l ≡ true) stirred stirs))
-    (λ rests. inr (inr (still rests))) more) (watched l)
+pub watched-heard : (k n : Kept) (trace : List Entry) (s t : Shown) (link : ℕ) → ((l : ℕ) → k.links l ≡ known l trace)
+    → Hears trace (Some link) s t → IsSame s t → ((l : ℕ) → n.links l ≡ k.links l) → Lists k n link → WatchedBy k s → WatchedBy n t
+watched-heard k n trace s t link known_are hears same links lists watched l =
+    by (lives l trace) refl
   where
-    still : Rests (k.links l) l s → Rests (n.links l) l t
-    still rests = subst (λ (o : Option Link). Rests o l t) (sym (links l)) (rests-same (k.links l) l s t same rests)
+    here : link ≡ l → lives l trace ≡ true → has n.listed l ≡ true
+    here at alive =
+        subst (λ (j : ℕ). has n.listed j ≡ true) at
+        (lists-it k n link lists
+        (subst (λ (j : ℕ). is_some (k.links j) ≡ true) (sym at) (alive_some (k.links l) l trace (known_are l) alive)))
 
-    here : (o : Option Link) → k.links link ≡ o → link ≡ l → (has n.listed l ≡ true) ⊎ Rests o l t
-    here None is at = inr tt
-    here (Some known) is at = inl (subst (λ (j : ℕ). has n.listed j ≡ true) at (lists-it k n link lists (ap is_some is)))
+    by : (b : Bool) → lives l trace ≡ b → (has n.listed l ≡ true) ⊎ ((t.stirs l ≡ true) ⊎ Rests (n.links l) l t)
+    by true alive =
+        ⊎_elim (λ listed. inl (lists-more k n link l lists listed))
+        (λ more. ⊎_elim
+        (λ stirred. ⊎_elim (λ still. inr (inl still)) (λ told. inl (here (let same_link : link ≡ l = cc in same_link) alive))
+        (hears.kept l alive stirred))
+        (λ rests. inr (inr (subst (λ (o : Option Link). Rests o l t) (sym (links l)) (rests-same (k.links l) l s t same rests)))) more)
+        (watched l)
+    by false dead = inr (inr (dead_rests (n.links l) l trace t (links l ∙ known_are l) dead))
 
-    told : (b : Bool) → (link == l) ≡ b → (b || has t.stirred l) ≡ true
-        → (has n.listed l ≡ true) ⊎ ((has t.stirred l ≡ true) ⊎ Rests (n.links l) l t)
-    told false other stirs = inr (inl stirs)
-    told true at stirs =
-        let same_link = eqb-true link l at in
+-- no link that lives stirred
+pub watched-unheard : (k : Kept) (trace : List Entry) (s t : Shown) → ((l : ℕ) → k.links l ≡ known l trace) → Hears trace None s t
+    → IsSame s t → WatchedBy k s → WatchedBy k t
+watched-unheard k trace s t known_are hears same watched l =
+    by (lives l trace) refl
+  where
+    by : (b : Bool) → lives l trace ≡ b → (has k.listed l ≡ true) ⊎ ((t.stirs l ≡ true) ⊎ Rests (k.links l) l t)
+    by true alive =
         ⊎_elim (λ listed. inl listed)
-        (λ rests. inr (inr (subst (λ (o : Option Link). Rests o l t)
-        (sym (links l ∙ ap (λ (j : ℕ). k.links j) (sym same_link))) rests)))
-        (here (k.links link) refl same_link)
+        (λ more. ⊎_elim
+        (λ stirred. ⊎_elim (λ still. inr (inl still)) (λ told. absurd cc) (hears.kept l alive stirred))
+        (λ rests. inr (inr (rests-same (k.links l) l s t same rests))) more) (watched l)
+    by false dead = inr (inr (dead_rests (k.links l) l trace t (known_are l) dead))
+
+-- a note was taken
+pub watched-noted : (k : Kept) (s t : Shown) → IsSame s t → ((l : ℕ) → t.stirs l ≡ s.stirs l) → WatchedBy k s → WatchedBy k t
+watched-noted k s t same stirs watched l =
+    ⊎_elim (λ listed. inl listed)
+    (λ more. inr (⊎_elim (λ stirred. inl (stirs l ∙ stirred)) (λ rests. inr (rests-same (k.links l) l s t same rests)) more)) (watched l)
+
+-- room was taken for a birth
+pub watched-kept : (k n : Kept) (s : Shown) → IsKept k n → WatchedBy k s → WatchedBy n s
+watched-kept k n s is =
+    watched-links k n s (same_list k n is.listed)
+    (λ l rests. inr (subst (λ (o : Option Link). Rests o l s) (sym (is.links l)) rests))
 
 -- a link is open, and listed
 pub watched-opened : (k n : Kept) (s : Shown) (link : ℕ) → Follows k n (e.Opened link) → Lists k n link → WatchedBy k s → WatchedBy n s
@@ -213,7 +257,7 @@ watched-popped k n s link same front rest rests watched l =
     (watched l)
   where
     by : (b : Bool) → (link == l) ≡ b → (b || has (drop 1 k.listed) l) ≡ true
-        → (has n.listed l ≡ true) ⊎ ((has s.stirred l ≡ true) ⊎ Rests (n.links l) l s)
+        → (has n.listed l ≡ true) ⊎ ((s.stirs l ≡ true) ⊎ Rests (n.links l) l s)
     by false other is = inl (subst (λ (xs : List ℕ). has xs l ≡ true) (sym rest) is)
     by true at is =
         inr (inr (subst (λ (o : Option Link). Rests o l s) (sym (same l))

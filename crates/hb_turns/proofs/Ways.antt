@@ -1,8 +1,8 @@
 -- What may come of a call on a link whose way is awake.
-use Rattle.std.proofs.Common.{◌≡◌, ◌⊎◌, ◌≤◌, ◌<◌, ℕ, ◌==◌, Bool, true, false, if◌then◌else◌, List, length, take, Option, Some, None, refl, ap, sym, ◌∙◌, subst, inl, inr, arith}
+use Rattle.std.proofs.Common.{◌≡◌, ◌⊎◌, ◌≤◌, ◌<◌, ℕ, ◌==◌, Bool, true, false, if◌then◌else◌, List, length, take, Option, Some, None, refl, ap, sym, ◌∙◌, subst, inl, inr, arith, length-append}
 use Rattle.std.specs.Option.{option_map}
 use Rattle.std.proofs.lemmas.Bool.{eqb-true}
-use Rattle.std.proofs.lemmas.List.{length-take}
+use Rattle.std.proofs.lemmas.List.{length-take, take-append-le}
 use Rattle.hb_world.specs.Trace.{lives}
 use Rattle.hb_base.specs.declared.note.Note.{Note}
 use Rattle.hb_world.specs.declared.entry.Entry.{Entry}
@@ -13,7 +13,7 @@ use Rattle.hb_ready.specs.Registry.{kept}
 use Rattle.hb_ready.specs.Sight.{known, is_open, asleep, with_read, with_write}
 use Rattle.hb_ready.specs.declared.link.Link.{Link}
 use Rattle.hb_turns.specs.May.{MayFinish, MayRead, MayWrite}
-use Rattle.hb_turns.specs.Shown.{Shown, MayCome}
+use Rattle.hb_turns.specs.Shown.{Shown, IsFront, MayCome}
 use Rattle.hb_turns.specs.Stands.{Stands, Tracks}
 use Rattle.hb_turns.specs.declared.run.Records.{Records}
 use Rattle.hb_turns.specs.declared.run.Run.{Run}
@@ -46,22 +46,23 @@ ComesTo stands shown run x = (trace : List Entry) → Stands stands shown run tr
     → Stands stands shown run trace × MayCome (shown run.node) trace x × Comes stands shown trace x
 
 module _ {N : Type 0} (stands : List Note → N → List Entry → Type 0) (shown : N → Shown) (run : Run N) (l : ℕ)
-    (due : (shown run.node).due ≡ None) where
+    (idle : (shown run.node).idle ≡ true) where
   module _ (may : MayFinish ((kept run.records.links).links l)) where
     pub opened_comes : ComesTo stands shown run (e.Opened l)
     opened_comes trace s =
-        let it = finish_facts l trace _ (s.obeys.links l) may in
-        (s, (due, it.0, it.1), record { numbers = tt; awake = it.2; settled = tt })
+        let it = finish_facts l trace _ (s.matches.obeys.links l) may in
+        (s, ((s.going, idle), (it.0, it.1)), record { numbers = tt; awake = it.2; settled = tt })
 
     pub finish_balks : ComesTo stands shown run (e.Balked (way.Finish l))
     finish_balks trace s =
-        let it = finish_facts l trace _ (s.obeys.links l) may in (s, due, record { numbers = tt; awake = it.2; settled = tt })
+        let it = finish_facts l trace _ (s.matches.obeys.links l) may in
+        (s, ((s.going, idle), (it.0, it.1)), record { numbers = tt; awake = it.2; settled = tt })
 
     pub finish_breaks : ComesTo stands shown run (e.Broke l)
     finish_breaks trace s =
-        let it = finish_facts l trace _ (s.obeys.links l) may in (
+        let it = finish_facts l trace _ (s.matches.obeys.links l) may in (
           s,
-          (inl due, it.0),
+          ((s.going, inl idle), it.0),
           record {
             numbers = tt;
             awake = subst (λ (b : Bool). BreaksAwake b l trace) (sym it.1) it.2;
@@ -73,23 +74,24 @@ module _ {N : Type 0} (stands : List Note → N → List Entry → Type 0) (show
     pub came_comes : (bytes : List ℕ) → 0 < length bytes → length bytes ≤ (shown run.node).wants l
         → ComesTo stands shown run (e.Came l bytes)
     came_comes bytes some few trace s =
-        let it = read_facts l trace _ (s.obeys.links l) may in
-        (s, (due, it.0, it.1, some, few), record { numbers = tt; awake = it.2; settled = tt })
+        let it = read_facts l trace _ (s.matches.obeys.links l) may in
+        (s, ((s.going, idle), (it.0, it.1), some, few), record { numbers = tt; awake = it.2; settled = tt })
 
     pub ended_comes : 0 < (shown run.node).wants l → ComesTo stands shown run (e.Ended l)
     ended_comes some trace s =
-        let it = read_facts l trace _ (s.obeys.links l) may in
-        (s, (due, it.0, it.1, some), record { numbers = tt; awake = it.2; settled = tt })
+        let it = read_facts l trace _ (s.matches.obeys.links l) may in
+        (s, ((s.going, idle), (it.0, it.1), some), record { numbers = tt; awake = it.2; settled = tt })
 
-    pub read_balks : ComesTo stands shown run (e.Balked (way.Read l))
-    read_balks trace s =
-        let it = read_facts l trace _ (s.obeys.links l) may in (s, due, record { numbers = tt; awake = it.2; settled = tt })
+    pub read_balks : 0 < (shown run.node).wants l → ComesTo stands shown run (e.Balked (way.Read l))
+    read_balks some trace s =
+        let it = read_facts l trace _ (s.matches.obeys.links l) may in
+        (s, ((s.going, idle), (it.0, it.1), some), record { numbers = tt; awake = it.2; settled = tt })
 
     pub read_breaks : ComesTo stands shown run (e.Broke l)
     read_breaks trace s =
-        let it = read_facts l trace _ (s.obeys.links l) may in (
+        let it = read_facts l trace _ (s.matches.obeys.links l) may in (
           s,
-          (inl due, it.0),
+          ((s.going, inl idle), it.0),
           record {
             numbers = tt;
             awake = subst (λ (b : Bool). BreaksAwake b l trace) (sym it.1) (inl it.2);
@@ -99,23 +101,24 @@ module _ {N : Type 0} (stands : List Note → N → List Entry → Type 0) (show
 
 -- where no act is due, or the link's last words go before
 module _ {N : Type 0} (stands : List Note → N → List Entry → Type 0) (shown : N → Shown) (run : Run N) (l : ℕ)
-    (due : ((shown run.node).due ≡ None) ⊎ ((shown run.node).last_words l ≡ true))
+    (first : ((shown run.node).idle ≡ true) ⊎ ((shown run.node).last_words l ≡ true))
     (may : MayWrite ((kept run.records.links).links l)) where
   pub went_comes : (n : ℕ) → 0 < n → n ≤ length ((shown run.node).output l)
       → ComesTo stands shown run (e.Went l (take n ((shown run.node).output l)))
   went_comes n some few trace s =
-      let it = write_facts l trace _ (s.obeys.links l) may in
-      (s, (due, it.0, it.1, n, some, few, refl), record { numbers = tt; awake = it.2; settled = tt })
+      let it = write_facts l trace _ (s.matches.obeys.links l) may in
+      (s, ((s.going, first), (it.0, it.1), n, some, few, refl), record { numbers = tt; awake = it.2; settled = tt })
 
-  pub write_balks : ComesTo stands shown run (e.Balked (way.Write l))
-  write_balks trace s =
-      let it = write_facts l trace _ (s.obeys.links l) may in (s, due, record { numbers = tt; awake = it.2; settled = tt })
+  pub write_balks : 0 < length ((shown run.node).output l) → ComesTo stands shown run (e.Balked (way.Write l))
+  write_balks some trace s =
+      let it = write_facts l trace _ (s.matches.obeys.links l) may in
+      (s, ((s.going, first), (it.0, it.1), some), record { numbers = tt; awake = it.2; settled = tt })
 
   pub write_breaks : ComesTo stands shown run (e.Broke l)
   write_breaks trace s =
-      let it = write_facts l trace _ (s.obeys.links l) may in (
+      let it = write_facts l trace _ (s.matches.obeys.links l) may in (
         s,
-        (due, it.0),
+        ((s.going, first), it.0),
         record {
           numbers = tt;
           awake = subst (λ (b : Bool). BreaksAwake b l trace) (sym it.1) (inr it.2);
@@ -173,3 +176,13 @@ got_some n most items some few =
 pub got_few : (n most w : ℕ) (items : List ℕ) → n ≤ length (take most items) → most ≤ w → length (take n items) ≤ w
 got_few n most w items few within =
     let all = length-take n items in let part = length-take most items in omega arith
+
+-- so many bytes of the part in front are as many of the whole
+pub front_taken : (n : ℕ) (part output : List ℕ) → IsFront part output → n ≤ length part → take n part ≡ take n output
+front_taken n part output is few =
+    sym (ap (λ (bs : List ℕ). take n bs) is.front ∙ take-append-le n part is.rest few)
+
+pub front_fits : (n : ℕ) (part output : List ℕ) → IsFront part output → n ≤ length part → n ≤ length output
+front_fits n part output is few =
+    subst (λ (bs : List ℕ). n ≤ length bs) (sym is.front)
+    (rw (length-append part is.rest) (omega (arith, few)))

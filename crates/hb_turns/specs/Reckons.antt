@@ -1,5 +1,5 @@
 -- What calls add to a trace, and what is counted of a run.
-use Rattle.std.specs.Prelude.{⊤, ◌≡◌, ◌⊎◌, ◌≤◌, ◌<◌, ℕ, ◌+◌, ◌-◌, ◌*◌, ◌==◌, Bool, true, false, List, [], ◌∷◌, ◌++◌, Option, Some, None, map, Result, Ok, Err}
+use Rattle.std.specs.Prelude.{⊤, ◌≡◌, ◌⊎◌, ◌≤◌, ◌<◌, ℕ, ◌+◌, ◌-◌, ◌*◌, ◌==◌, Bool, true, false, List, [], ◌∷◌, ◌++◌, Option, Some, None, map, Result, Ok, Err, OnOk}
 use Rattle.std.specs.List.{All, list_all}
 use Rattle.hb_base.specs.declared.cause.Cause.{Cause}
 use Rattle.hb_base.specs.declared.note.Note.{Note}
@@ -10,7 +10,7 @@ use Rattle.hb_world.specs.declared.entry.Way.TheVariants as way
 use Rattle.hb_turns.specs.Ends.{ClosesFor, RunsOn, EndsAs, ticks, waits, moves}
 use Rattle.hb_turns.specs.Listens.{DoorAt, given, listen_at, Listened, BeginsWith}
 use Rattle.hb_turns.specs.Shown.{Shown}
-use Rattle.hb_turns.specs.Stands.{Obeys, Stands}
+use Rattle.hb_turns.specs.Stands.{Obeys, Stands, Keeps, IsIdle}
 use Rattle.hb_turns.specs.Woken.{IsQuiet}
 use Rattle.hb_turns.specs.declared.run.Records.{Records}
 use Rattle.hb_turns.specs.declared.run.Run.{Run}
@@ -42,6 +42,14 @@ pub record Closes (cause : Cause) (before behind : Option (List Entry)) : Type 0
 abbrev pub moved_by : {E : Type 0} → Result Bool E → Bool
 moved_by (Ok moved) = moved
 moved_by (Err why) = false
+
+-- What tries leave that begin where nothing is due: what stood for the trace stands for it again, nothing is due again, and entries were
+-- added
+pub record Tried {E N : Type 0} (stands : List Note → N → List Entry → Type 0) (shown : N → Shown) (result : Result Bool E) (old : Run N)
+    (before : Option (List Entry)) (new : Run N) (behind : Option (List Entry)) : Type 0 where
+  pub keeps : IsIdle (shown old.node) → Keeps stands shown result old before new behind
+  pub idle : OnOk result (IsIdle (shown old.node) → IsIdle (shown new.node))
+  pub adds : Adds (moved_by result) before behind
 
 -- one tick less, of which so many are to come
 abbrev pub one_less : Option ℕ → Option ℕ

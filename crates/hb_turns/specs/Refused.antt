@@ -1,5 +1,5 @@
 -- Small traces that the settled law refuses, and one that obeys it.
-use Rattle.std.specs.Prelude.{◌≡◌, List, [], ◌∷◌, None}
+use Rattle.std.specs.Prelude.{◌≡◌, true, List, [], ◌∷◌}
 use Rattle.hb_base.specs.declared.door.Door.TheVariants.{Inbound}
 use Rattle.hb_base.specs.declared.door.Why.{Why}
 use Rattle.hb_base.specs.declared.target.Target.{Target}
@@ -19,7 +19,7 @@ waits = e.Wait [] woken.Woke
 module _ {N : Type 0} (stands : List Note → N → List Entry → Type 0) (shown : N → Shown) where
   -- a wait while an act is due
   abbrev pub WaitsOverDue : Type 0
-  WaitsOverDue = ((n : N) → (shown n).due ≡ None → ⊥) → SettledLaw stands shown (waits ∷ []) → ⊥
+  WaitsOverDue = ((n : N) → (shown n).idle ≡ true → ⊥) → SettledLaw stands shown (waits ∷ []) → ⊥
 
   -- a wait while more may be read on a link that is awake
   abbrev pub WaitsOverReadable : Type 0
@@ -41,6 +41,6 @@ module _ {N : Type 0} (stands : List Note → N → List Entry → Type 0) (show
 
   -- a wait once a link that isn't open balked
   abbrev pub GoodTraceIsSettled : Type 0
-  GoodTraceIsSettled = (to : Target) (why : Why) (notes : List Note) (n : N) → (shown n).due ≡ None
+  GoodTraceIsSettled = (to : Target) (why : Why) (notes : List Note) (n : N) → (shown n).idle ≡ true
       → stands notes n (e.Dialled 1 to why ∷ e.Balked (way.Finish 1) ∷ [])
       → SettledLaw stands shown (e.Dialled 1 to why ∷ e.Balked (way.Finish 1) ∷ waits ∷ [])

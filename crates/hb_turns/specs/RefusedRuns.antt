@@ -95,7 +95,7 @@ module _ {N : Type 0} (stands : List Note → N → List Entry → Type 0) (show
       → ((n : N) → stands notes n trace → (shown n).noted ≡ [] → ⊥) → IsServed stands shown words (stopped links) (Some notes) trace → ⊥
 
   abbrev pub GoodRunIsServed : Type 0
-  GoodRunIsServed = (at to : Target) (why : Why) (notes more : List Note) (n m k : N) → (shown n).due ≡ None
+  GoodRunIsServed = (at to : Target) (why : Why) (notes more : List Note) (n m k : N) → (shown n).idle ≡ true
       → stands notes n (good_start at to why)
       → stands notes m (listen_at true (Inbound, at) ∷ e.Dialled 1 to why ∷ e.Balked (way.Finish 1) ∷ waits_stop ∷ [])
       → stands more k (good_run at to why) → (shown k).noted ≡ []

@@ -1,5 +1,5 @@
 -- What holds of the trace of a run that is over.
-use Rattle.std.specs.Prelude.{⊤, ◌≡◌, ℕ, false, List, ◌++◌, Option, None}
+use Rattle.std.specs.Prelude.{⊤, ◌≡◌, ℕ, true, false, List, ◌++◌, Option, None}
 use Rattle.std.specs.List.{All}
 use Rattle.hb_base.specs.declared.door.Door.{Door}
 use Rattle.hb_base.specs.declared.note.Note.{Note}
@@ -46,6 +46,11 @@ pub record IsServed {N : Type 0} (stands : List Note → N → List Entry → Ty
   pub links_are : served.totals.links ≡ births trace
   pub wanting_is : served.wanting ≡ was_wanting trace
   pub noted : (served.end ≡ ends.NoMemory → ⊥) → served.unkept ≡ false → HoldsNotes stands shown keep trace
+
+-- a node before anything happened: no shut and no close is due, and the run isn't to end
+pub record IsFreshNode (s : Shown) : Type 0 where
+  pub going : s.ends_for ≡ None
+  pub none_closes : s.none_closes ≡ true
 
 -- nothing is known
 pub record IsFresh (r : Records) : Type 0 where

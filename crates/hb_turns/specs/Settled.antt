@@ -25,7 +25,7 @@ pub record IsSettled {N : Type 0} (stands : List Note → N → List Entry → T
   pub notes : List Note
   pub node : N
   pub stands_for : stands notes node trace
-  pub idle : (shown node).due ≡ None
+  pub idle : (shown node).idle ≡ true
   pub doors : (d : Door) → asked d trace ≡ false
   pub links : (l : ℕ) → Rests (known l trace) l (shown node)
 

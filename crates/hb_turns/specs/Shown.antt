@@ -10,77 +10,110 @@ use Rattle.hb_world.specs.Trace.{births, lives, was_shut}
 use Rattle.hb_world.specs.declared.entry.Entry.{Entry}
 use Rattle.hb_world.specs.declared.entry.Entry.TheVariants as e
 use Rattle.hb_world.specs.declared.entry.Way.TheVariants as way
-use Rattle.hb_ready.specs.Kept.{has}
 use Rattle.hb_ready.specs.Sight.{is_open}
 use Rattle.hb_world.specs.declared.act.Act.{Act}
 use Rattle.hb_world.specs.declared.act.Act.TheVariants as act
 
--- How many bytes may be read on a link, the bytes that are to be written on it, whether a write goes before the acts that are due,
--- the act that is due, the links that stirred and weren't told, in order, the notes that wait to be taken, in order, the cause for
--- which links are closed once the run is to end, and a number that falls with each act
 pub record Shown : Type 0 where
+  -- how many bytes may be read on a link, and the bytes that are to be written on it
   pub wants : ℕ → ℕ
   pub output : ℕ → List ℕ
+  -- a write on the link goes before the acts that are due
   pub last_words : ℕ → Bool
-  pub due : Option Act
-  pub stirred : List ℕ
+  -- no act is due; none is but a dial
+  pub idle : Bool
+  pub none_closes : Bool
+  -- the dial that was given, until its answer is told
+  pub dials : Option (Target × Why)
+  -- the link stirred, and that wasn't told
+  pub stirs : ℕ → Bool
+  -- the notes that wait to be taken, in order
   pub noted : List Note
+  -- the cause for which links are closed, once the run is to end
   pub ends_for : Option Cause
-  pub weight : ℕ
 
--- the link has something to be read, or to be written, where it hadn't before: it stirred
-pub record Stirs (old new : Shown) : Type 0 where
-  pub kept : (l : ℕ) → has old.stirred l ≡ true → has new.stirred l ≡ true
-  pub reads : (l : ℕ) → old.wants l ≡ 0 → (new.wants l ≡ 0) ⊎ (has new.stirred l ≡ true)
-  pub writes : (l : ℕ) → old.output l ≡ [] → (new.output l ≡ []) ⊎ (has new.stirred l ≡ true)
+-- Of each link that lives behind a trace: where it has something to be read, or to be written, and had nothing before, it stirred; and
+-- one that stirred still does. The run is to end where it was to
+pub record Stirs (trace : List Entry) (old new : Shown) : Type 0 where
+  pub kept : (l : ℕ) → lives l trace ≡ true → old.stirs l ≡ true → new.stirs l ≡ true
+  pub reads : (l : ℕ) → lives l trace ≡ true → old.wants l ≡ 0 → (new.wants l ≡ 0) ⊎ (new.stirs l ≡ true)
+  pub writes : (l : ℕ) → lives l trace ≡ true → old.output l ≡ [] → (new.output l ≡ []) ⊎ (new.stirs l ≡ true)
+  pub ends_for : new.ends_for ≡ old.ends_for
 
 -- the same is to be done
 pub record IsSame (old new : Shown) : Type 0 where
   pub wants : (l : ℕ) → new.wants l ≡ old.wants l
   pub output : (l : ℕ) → new.output l ≡ old.output l
-  pub due : new.due ≡ old.due
-  pub weight : new.weight ≡ old.weight
+  pub idle : new.idle ≡ old.idle
+  pub none_closes : new.none_closes ≡ old.none_closes
+  pub ends_for : new.ends_for ≡ old.ends_for
+
+-- a link that stirred was told, or none that lives behind the trace is left that did
+pub record Hears (trace : List Entry) (told : Option ℕ) (old new : Shown) : Type 0 where
+  pub kept : (l : ℕ) → lives l trace ≡ true → old.stirs l ≡ true → (new.stirs l ≡ true) ⊎ (told ≡ Some l)
+
+-- a part of the bytes that are to be written, with the first; none only where none is
+pub record IsFront (part output : List ℕ) : Type 0 where
+  pub rest : List ℕ
+  pub front : output ≡ part ++ rest
+  pub some : length part ≡ 0 → output ≡ []
+
+-- the run goes on, and no act is due; or a write on this link goes before
+abbrev pub IsFree : Shown → Type 0
+IsFree s = (s.ends_for ≡ None) × (s.idle ≡ true)
+
+abbrev pub MayWrite : Shown → ℕ → Type 0
+MayWrite s l = (s.ends_for ≡ None) × ((s.idle ≡ true) ⊎ (s.last_words l ≡ true))
+
+-- a link that lives is open, or isn't
+abbrev pub LivesOpen : Bool → ℕ → List Entry → Type 0
+LivesOpen opens l before = (lives l before ≡ true) × (is_open l before ≡ opens)
 
 -- Behind these entries the node allows this one. All but the answers to acts, and the one write that goes before them, come only
--- where no act is due; a listen comes only behind listens
+-- where no act is due, and a call that moved nothing only where it may be made; a listen comes only behind listens
 abbrev pub MayCome : Shown → List Entry → Entry → Type 0
-MayCome s before (e.Accepted l door) = (s.due ≡ None) × (l ≡ births before + 1)
-MayCome s before (e.Dialled l to why) = (s.due ≡ Some (act.Dial to why)) × (l ≡ births before + 1)
-MayCome s before (e.DialFailed to why) = s.due ≡ Some (act.Dial to why)
-MayCome s before (e.Opened l) = (s.due ≡ None) × (lives l before ≡ true) × (is_open l before ≡ false)
-MayCome s before (e.Came l bytes) =
-    (s.due ≡ None) × (lives l before ≡ true) × (is_open l before ≡ true) × (0 < length bytes) × (length bytes ≤ s.wants l)
-MayCome s before (e.Ended l) = (s.due ≡ None) × (lives l before ≡ true) × (is_open l before ≡ true) × (0 < s.wants l)
-MayCome s before (e.Broke l) = ((s.due ≡ None) ⊎ (s.last_words l ≡ true)) × (lives l before ≡ true)
-MayCome s before (e.Went l bytes) = ((s.due ≡ None) ⊎ (s.last_words l ≡ true)) × (lives l before ≡ true) × (is_open l before ≡ true)
-    × (n : ℕ) × (0 < n) × (n ≤ length (s.output l)) × (bytes ≡ take n (s.output l))
-MayCome s before (e.Balked (way.Write l)) = (s.due ≡ None) ⊎ (s.last_words l ≡ true)
+MayCome s before (e.Accepted l door) = IsFree s × (l ≡ births before + 1)
+MayCome s before (e.Dialled l to why) = (s.dials ≡ Some (to, why)) × (l ≡ births before + 1)
+MayCome s before (e.DialFailed to why) = s.dials ≡ Some (to, why)
+MayCome s before (e.Opened l) = IsFree s × LivesOpen false l before
+MayCome s before (e.Came l bytes) = IsFree s × LivesOpen true l before × (0 < length bytes) × (length bytes ≤ s.wants l)
+MayCome s before (e.Ended l) = IsFree s × LivesOpen true l before × (0 < s.wants l)
+MayCome s before (e.Broke l) = MayWrite s l × (lives l before ≡ true)
+MayCome s before (e.Went l bytes) =
+    MayWrite s l × LivesOpen true l before × (n : ℕ) × (0 < n) × (n ≤ length (s.output l)) × (bytes ≡ take n (s.output l))
+MayCome s before (e.Balked (way.Finish l)) = IsFree s × LivesOpen false l before
+MayCome s before (e.Balked (way.Read l)) = IsFree s × LivesOpen true l before × (0 < s.wants l)
+MayCome s before (e.Balked (way.Write l)) = MayWrite s l × LivesOpen true l before × (0 < length (s.output l))
 MayCome s before (e.Balked (way.Listen door at listening)) = list_all is_listen before ≡ true
-MayCome s before (e.Balked w) = s.due ≡ None
-MayCome s before (e.Wait ready how) = s.due ≡ None
-MayCome s before e.Tick = s.due ≡ None
+MayCome s before (e.Balked (way.Accept door)) = IsFree s
+MayCome s before (e.Wait ready how) = IsFree s
+MayCome s before e.Tick = IsFree s
 MayCome s before (e.Shut l) = (lives l before ≡ true) × (was_shut l before ≡ false)
 MayCome s before (e.Closed l cause) = lives l before ≡ true
 
--- A node that was told this entry: for each trace that it stood for, it stands for that trace with the entry at its end, where the
--- entry may come there, and the same notes were taken
+-- A node that was told this entry: for each trace that it stood for, and at whose end the entry may come, it stands for that trace with
+-- the entry, the same notes were taken, and what may be done now stirred
 abbrev pub Tells : {N : Type 0} → (List Note → N → List Entry → Type 0) → (N → Shown) → Entry → N → N → Type 0
 Tells stands shown x old new = (notes : List Note) (trace : List Entry) → stands notes old trace → MayCome (shown old) trace x
-    → stands notes new (trace ++ x ∷ [])
+    → stands notes new (trace ++ x ∷ []) × Stirs (trace ++ x ∷ []) (shown old) (shown new)
 
 -- a node that stands for the traces that it stood for
 abbrev pub StandsAs : {N : Type 0} → (List Note → N → List Entry → Type 0) → N → N → Type 0
 StandsAs stands old new = (notes : List Note) (trace : List Entry) → stands notes old trace → stands notes new trace
 
--- An act that a node gave. A Shut or a Close is one that may be made, and the node stands for it already; a dial is due until the
--- node is told what came of it
+-- An act that a node gave. A Shut or a Close is one that may be made, and the node stands for it already; a dial waits for its answer
 abbrev pub Acts : {N : Type 0} → (List Note → N → List Entry → Type 0) → (N → Shown) → Option Act → N → N → Type 0
-Acts stands shown None old new = StandsAs stands old new
-Acts stands shown (Some (act.Dial to why)) old new = StandsAs stands old new × ((shown new).due ≡ Some (act.Dial to why))
+Acts stands shown None old new = (notes : List Note) (trace : List Entry) → stands notes old trace
+    → stands notes new trace × Stirs trace (shown old) (shown new)
+Acts stands shown (Some (act.Dial to why)) old new =
+    ((shown new).dials ≡ Some (to, why))
+    × ((notes : List Note) (trace : List Entry) → stands notes old trace → stands notes new trace × Stirs trace (shown old) (shown new))
 Acts stands shown (Some (act.Shut l)) old new = (notes : List Note) (trace : List Entry) → stands notes old trace
     → (lives l trace ≡ true) × (was_shut l trace ≡ false) × stands notes new (trace ++ e.Shut l ∷ [])
+    × Stirs (trace ++ e.Shut l ∷ []) (shown old) (shown new)
 Acts stands shown (Some (act.Close l cause)) old new = (notes : List Note) (trace : List Entry) → stands notes old trace
     → (lives l trace ≡ true) × stands notes new (trace ++ e.Closed l cause ∷ [])
+    × Stirs (trace ++ e.Closed l cause ∷ []) (shown old) (shown new)
 
 -- once the run is to end each act closes a link for the cause of that end
 abbrev pub ActsFor : Option Cause → Option Act → Type 0
@@ -93,12 +126,9 @@ ActsFor (Some cause) (Some _) = ⊥
 abbrev pub StandsForNone : {N : Type 0} → (List Note → N → List Entry → Type 0) → N → Type 0
 StandsForNone stands n = (notes : List Note) (trace : List Entry) → stands notes n trace → (l : ℕ) → lives l trace ≡ false
 
--- what an act takes off the weight
-abbrev pub act_weight : Option Act → ℕ
-act_weight None = 0
-act_weight (Some (act.Dial to why)) = 2
-act_weight (Some (act.Shut l)) = 1
-act_weight (Some (act.Close l cause)) = 1
+-- the run is to end: where no shut and no close was due, the node stands for the traces that it stood for
+abbrev pub Stops : {N : Type 0} → (List Note → N → List Entry → Type 0) → (N → Shown) → N → N → Type 0
+Stops stands shown old new = (shown old).ends_for ≡ None → (shown old).none_closes ≡ true → StandsAs stands old new
 
 -- what came of a dial
 abbrev pub dial_entry : Target → Why → Option ℕ → Entry

@@ -29,17 +29,31 @@ pub record Obeys {N : Type 0} (stands : List Note → N → List Entry → Type 
   pub settled : SettledLaw stands shown trace
 
 -- and the node stands for the trace, once the notes were taken that are kept, where notes are
-pub record Stands {N : Type 0} (stands : List Note → N → List Entry → Type 0) (shown : N → Shown) (run : Run N)
+pub record Matches {N : Type 0} (stands : List Note → N → List Entry → Type 0) (shown : N → Shown) (run : Run N)
     (trace : List Entry) : Type 0 where
   pub notes : List Note
   pub node : stands notes run.node trace
   pub kept_are : Holds run.keep notes
   pub obeys : Obeys stands shown run.records trace
 
--- and no link lives
+-- each link is on the list, or it stirred and the loop wasn't told, or it rests
+abbrev pub WatchedBy : Kept → Shown → Type 0
+WatchedBy k s = (l : ℕ) → (has k.listed l ≡ true) ⊎ ((s.stirs l ≡ true) ⊎ Rests (k.links l) l s)
+
+abbrev pub Watched : {N : Type 0} → (N → Shown) → Run N → Type 0
+Watched shown run = WatchedBy (kept run.records.links) (shown run.node)
+
+-- and the run goes on, with its links watched
+pub record Stands {N : Type 0} (stands : List Note → N → List Entry → Type 0) (shown : N → Shown) (run : Run N)
+    (trace : List Entry) : Type 0 where
+  pub matches : Matches stands shown run trace
+  pub watched : Watched shown run
+  pub going : (shown run.node).ends_for ≡ None
+
+-- what is known and the node match the trace, and no link lives
 pub record StandsAlone {N : Type 0} (stands : List Note → N → List Entry → Type 0) (shown : N → Shown) (run : Run N)
     (trace : List Entry) : Type 0 where
-  pub stands_for : Stands stands shown run trace
+  pub matches : Matches stands shown run trace
   pub none : (l : ℕ) → lives l trace ≡ false
 
 -- the number of the link that was born last
@@ -67,13 +81,7 @@ Keeps stands shown result old before new behind = IfSome before (Stands stands s
 
 -- nothing is due, no link stirred that the loop wasn't told, and each note was taken
 pub record IsIdle (s : Shown) : Type 0 where
-  pub due : s.due ≡ None
-  pub stirred : s.stirred ≡ []
+  pub idle : s.idle ≡ true
+  pub none_closes : s.none_closes ≡ true
+  pub stirs : (l : ℕ) → s.stirs l ≡ false
   pub noted : s.noted ≡ []
-
--- each link is on the list, or it stirred and the loop wasn't told, or it rests
-abbrev pub WatchedBy : Kept → Shown → Type 0
-WatchedBy k s = (l : ℕ) → (has k.listed l ≡ true) ⊎ ((has s.stirred l ≡ true) ⊎ Rests (k.links l) l s)
-
-abbrev pub Watched : {N : Type 0} → (N → Shown) → Run N → Type 0
-Watched shown run = WatchedBy (kept run.records.links) (shown run.node)

@@ -1,6 +1,6 @@
 //! The calls that are due.
 
-ghost use Rattle.std.specs.Prelude.{◌≡◌, ◌<◌, ◌≤◌, ◌+◌, true, false, None, Some, IfOk, OnOk, List, [], length, if◌then◌else◌};
+ghost use Rattle.std.specs.Prelude.{◌≡◌, ◌<◌, ◌+◌, ℕ, true, false, Some, IfOk, OnOk, List, [], length, if◌then◌else◌};
 ghost use Rattle.std.specs.Option.{is_some};
 ghost use Rattle.hb_world.specs.declared.entry.Entry.{Entry};
 ghost use Rattle.hb_base.specs.declared.door.Door.{Door};
@@ -8,11 +8,10 @@ ghost use Rattle.hb_base.specs.declared.door.Why.{Why};
 ghost use Rattle.hb_base.specs.declared.target.Target.{Target};
 ghost use Rattle.hb_world.specs.declared.entry.Entry.TheVariants as e;
 ghost use Rattle.hb_ready.specs.Registry.{kept, HasRoom};
-ghost use Rattle.hb_world.specs.declared.act.Act.TheVariants as act;
 ghost use Rattle.hb_turns.specs.Ends.{is_lack};
 ghost use Rattle.hb_turns.specs.Reckons.{Adds};
-ghost use Rattle.hb_turns.specs.Stands.{Keeps, Left, Watched, WatchedBy, Tracks, Stands, IsIdle};
-ghost use Rattle.hb_turns.specs.Shown.{Shown};
+ghost use Rattle.hb_turns.specs.Stands.{Keeps, Left, WatchedBy, Tracks, Matches, Stands, IsIdle};
+ghost use Rattle.hb_turns.specs.Shown.{Shown, IsSame};
 
 use crate::node::Node;
 use crate::run::{Records, Run};
@@ -60,10 +59,8 @@ fn dial<W: World, N: Node>(
     to: Target,
     why: Why,
 ) -> Result<(), NoMemory>
-    ensures keeps { (N.shown run.old.node).due ≡ Some (act.Dial to why)
+    ensures keeps { (N.shown run.old.node).dials ≡ Some (to, why)
         → Keeps N.stands N.shown result run.old (W.trace world.old) run.new (W.trace world.new) }
-    ensures watched { OnOk result (Watched N.shown run.old → Watched N.shown run.new) }
-    ensures weight { OnOk result ((N.shown run.new.node).weight ≤ (N.shown run.old.node).weight + 1) }
     ensures adds { Adds false (W.trace world.old) (W.trace world.new) }
     ensures faults { W.faults world.new ≡ W.faults world.old }
     ensures follows { W.script world.new ≡ W.script world.old }
@@ -87,9 +84,7 @@ fn dial<W: World, N: Node>(
 /// Makes the call that is due, and says whether one was.
 fn make_act<W: World, N: Node>(run: &mut Run<N>, world: &mut W) -> Result<bool, NoMemory>
     ensures keeps { Keeps N.stands N.shown result run.old (W.trace world.old) run.new (W.trace world.new) }
-    ensures watched { OnOk result (Watched N.shown run.old → Watched N.shown run.new) }
-    ensures due { IfOk result (λ made. made ≡ false → (N.shown run.new.node).due ≡ None) }
-    ensures less { IfOk result (λ made. made ≡ true → (N.shown run.new.node).weight < (N.shown run.old.node).weight) }
+    ensures idle { IfOk result (λ made. made ≡ false → (N.shown run.new.node).idle ≡ true × (N.shown run.new.node).none_closes ≡ true) }
     ensures adds { Adds false (W.trace world.old) (W.trace world.new) }
     ensures faults { W.faults world.new ≡ W.faults world.old }
     ensures follows { W.script world.new ≡ W.script world.old }
@@ -113,25 +108,30 @@ fn make_act<W: World, N: Node>(run: &mut Run<N>, world: &mut W) -> Result<bool, 
 }
 
 /// Makes all calls that are due.
+///
+/// Errors: `NoMemory`, also behind 2^64 - 1 acts in a row.
 fn make_acts<W: World, N: Node>(run: &mut Run<N>, world: &mut W) -> Result<(), NoMemory>
     ensures keeps { Keeps N.stands N.shown result run.old (W.trace world.old) run.new (W.trace world.new) }
-    ensures watched { OnOk result (Watched N.shown run.old → Watched N.shown run.new) }
-    ensures due { OnOk result ((N.shown run.new.node).due ≡ None) }
+    ensures idle { OnOk result ((N.shown run.new.node).idle ≡ true × (N.shown run.new.node).none_closes ≡ true) }
     ensures adds { Adds false (W.trace world.old) (W.trace world.new) }
     ensures faults { W.faults world.new ≡ W.faults world.old }
     ensures follows { W.script world.new ≡ W.script world.old }
 {
-    while make_act(run, world)? {}
-    Ok(())
+    for _act in 0..u64::MAX {
+        if !make_act(run, world)? {
+            return Ok(());
+        }
+    }
+    Err(NoMemory)
 }
 
 /// Takes the next note, and says whether there was one.
 ///
 /// Errors: `NoMemory`, and then the note is lost.
 fn take_note<N: Node>(run: &mut Run<N>) -> Result<bool, NoMemory>
-    ensures keeps { (trace : List Entry) → Stands N.stands N.shown run.old trace → Left N.stands N.shown result run.new trace }
-    ensures watched { OnOk result (Watched N.shown run.old → Watched N.shown run.new) }
-    ensures due { (N.shown run.new.node).due ≡ (N.shown run.old.node).due }
+    ensures keeps { (trace : List Entry) → Matches N.stands N.shown run.old trace → OnOk result (Matches N.stands N.shown run.new trace) }
+    ensures same { IsSame (N.shown run.old.node) (N.shown run.new.node) }
+    ensures stirs { (l : ℕ) → (N.shown run.new.node).stirs l ≡ (N.shown run.old.node).stirs l }
     ensures taken { IfOk result (λ took. took ≡ false → (N.shown run.new.node).noted ≡ []) }
     ensures less { IfOk result (λ took. took ≡ true → length (N.shown run.new.node).noted < length (N.shown run.old.node).noted) }
     ensures records { run.new.records ≡ run.old.records }
@@ -149,9 +149,9 @@ fn take_note<N: Node>(run: &mut Run<N>) -> Result<bool, NoMemory>
 ///
 /// Errors: `NoMemory`, and then a note is lost.
 pub(crate) fn take_notes<N: Node>(run: &mut Run<N>) -> Result<(), NoMemory>
-    ensures keeps { (trace : List Entry) → Stands N.stands N.shown run.old trace → Left N.stands N.shown result run.new trace }
-    ensures watched { OnOk result (Watched N.shown run.old → Watched N.shown run.new) }
-    ensures due { (N.shown run.new.node).due ≡ (N.shown run.old.node).due }
+    ensures keeps { (trace : List Entry) → Matches N.stands N.shown run.old trace → OnOk result (Matches N.stands N.shown run.new trace) }
+    ensures same { IsSame (N.shown run.old.node) (N.shown run.new.node) }
+    ensures stirs { (l : ℕ) → (N.shown run.new.node).stirs l ≡ (N.shown run.old.node).stirs l }
     ensures taken { OnOk result ((N.shown run.new.node).noted ≡ []) }
     ensures records { run.new.records ≡ run.old.records }
 {
@@ -162,11 +162,9 @@ pub(crate) fn take_notes<N: Node>(run: &mut Run<N>) -> Result<(), NoMemory>
 /// Puts the next link that stirred on the list, and says whether there was one.
 fn hear<N: Node>(run: &mut Run<N>) -> bool
     ensures keeps { (trace : List Entry) → Stands N.stands N.shown run.old trace → Stands N.stands N.shown run.new trace }
-    ensures watched { Watched N.shown run.old → Watched N.shown run.new }
-    ensures due { (N.shown run.new.node).due ≡ (N.shown run.old.node).due }
+    ensures same { IsSame (N.shown run.old.node) (N.shown run.new.node) }
     ensures noted { (N.shown run.new.node).noted ≡ (N.shown run.old.node).noted }
-    ensures heard { result ≡ false → (N.shown run.new.node).stirred ≡ [] }
-    ensures less { result ≡ true → length (N.shown run.new.node).stirred < length (N.shown run.old.node).stirred }
+    ensures heard { result ≡ false → (l : ℕ) → (N.shown run.new.node).stirs l ≡ false }
 {
     match run.node.next_stirred() {
         None => false,
@@ -178,20 +176,25 @@ fn hear<N: Node>(run: &mut Run<N>) -> bool
 }
 
 /// Puts each link that stirred on the list.
-fn hear_all<N: Node>(run: &mut Run<N>)
-    ensures keeps { (trace : List Entry) → Stands N.stands N.shown run.old trace → Stands N.stands N.shown run.new trace }
-    ensures watched { Watched N.shown run.old → Watched N.shown run.new }
-    ensures due { (N.shown run.new.node).due ≡ (N.shown run.old.node).due }
+///
+/// Errors: `NoMemory`, behind 2^64 - 1 of them in a row.
+fn hear_all<N: Node>(run: &mut Run<N>) -> Result<(), NoMemory>
+    ensures keeps { (trace : List Entry) → Stands N.stands N.shown run.old trace → Left N.stands N.shown result run.new trace }
+    ensures same { IsSame (N.shown run.old.node) (N.shown run.new.node) }
     ensures noted { (N.shown run.new.node).noted ≡ (N.shown run.old.node).noted }
-    ensures heard { (N.shown run.new.node).stirred ≡ [] }
+    ensures heard { OnOk result ((l : ℕ) → (N.shown run.new.node).stirs l ≡ false) }
 {
-    while hear(run) {}
+    for _told in 0..u64::MAX {
+        if !hear(run) {
+            return Ok(());
+        }
+    }
+    Err(NoMemory)
 }
 
 /// Behind something that moved: makes the calls that are due, takes each note, and puts each link that stirred on the list.
 pub(crate) fn carry<W: World, N: Node>(run: &mut Run<N>, world: &mut W) -> Result<(), NoMemory>
     ensures keeps { Keeps N.stands N.shown result run.old (W.trace world.old) run.new (W.trace world.new) }
-    ensures watched { OnOk result (Watched N.shown run.old → Watched N.shown run.new) }
     ensures idle { OnOk result (IsIdle (N.shown run.new.node)) }
     ensures adds { Adds false (W.trace world.old) (W.trace world.new) }
     ensures faults { W.faults world.new ≡ W.faults world.old }
@@ -199,6 +202,5 @@ pub(crate) fn carry<W: World, N: Node>(run: &mut Run<N>, world: &mut W) -> Resul
 {
     make_acts(run, world)?;
     take_notes(run)?;
-    hear_all(run);
-    Ok(())
+    hear_all(run)
 }

@@ -5,7 +5,7 @@ ghost use Rattle.hb_ready.specs.Registry.{kept};
 ghost use Rattle.hb_turns.specs.Notes.{HoldsNotes};
 ghost use Rattle.hb_turns.specs.Reckons.{Closes};
 ghost use Rattle.hb_turns.specs.Shown.{StandsForNone};
-ghost use Rattle.hb_turns.specs.Stands.{Obeys, Stands, StandsAlone};
+ghost use Rattle.hb_turns.specs.Stands.{Obeys, Matches, Stands, StandsAlone};
 
 use crate::acts::{forget, take_notes};
 use crate::node::Node;
@@ -19,11 +19,10 @@ fn close_due<W: World, N: Node>(run: &mut Run<N>, world: &mut W, cause: Cause) -
     ensures ends_for { (N.shown run.new.node).ends_for ≡ Some cause }
     ensures obeys { IfSome (W.trace world.old) (Obeys N.stands N.shown run.old.records)
         → IfSome (W.trace world.new) (Obeys N.stands N.shown run.new.records) }
-    ensures keeps { IfSome (W.trace world.old) (Stands N.stands N.shown run.old)
-        → IfSome (W.trace world.new) (Stands N.stands N.shown run.new) }
+    ensures keeps { IfSome (W.trace world.old) (Matches N.stands N.shown run.old)
+        → IfSome (W.trace world.new) (Matches N.stands N.shown run.new) }
     ensures closes { Closes cause (W.trace world.old) (W.trace world.new) }
     ensures none { result ≡ false → StandsForNone N.stands run.new.node }
-    ensures less { result ≡ true → (N.shown run.new.node).weight < (N.shown run.old.node).weight }
     ensures faults { W.faults world.new ≡ W.faults world.old }
     ensures follows { W.script world.new ≡ W.script world.old }
 {
@@ -43,17 +42,28 @@ fn close_due<W: World, N: Node>(run: &mut Run<N>, world: &mut W, cause: Cause) -
 }
 
 /// Makes each close that is due.
-fn close_dues<W: World, N: Node>(run: &mut Run<N>, world: &mut W, cause: Cause)
+///
+/// Errors: `NoMemory`, behind 2^64 - 1 of them in a row.
+fn close_dues<W: World, N: Node>(
+    run: &mut Run<N>,
+    world: &mut W,
+    cause: Cause,
+) -> Result<(), NoMemory>
     requires { (N.shown run.old.node).ends_for ≡ Some cause }
     ensures obeys { IfSome (W.trace world.old) (Obeys N.stands N.shown run.old.records)
         → IfSome (W.trace world.new) (Obeys N.stands N.shown run.new.records) }
-    ensures alone { IfSome (W.trace world.old) (Stands N.stands N.shown run.old)
-        → IfSome (W.trace world.new) (StandsAlone N.stands N.shown run.new) }
+    ensures alone { OnOk result (IfSome (W.trace world.old) (Matches N.stands N.shown run.old)
+        → IfSome (W.trace world.new) (StandsAlone N.stands N.shown run.new)) }
     ensures closes { Closes cause (W.trace world.old) (W.trace world.new) }
     ensures faults { W.faults world.new ≡ W.faults world.old }
     ensures follows { W.script world.new ≡ W.script world.old }
 {
-    while close_due(run, world, cause) {}
+    for _close in 0..u64::MAX {
+        if !close_due(run, world, cause) {
+            return Ok(());
+        }
+    }
+    Err(NoMemory)
 }
 
 /// Closes a link that lives, and says whether one did.
@@ -95,7 +105,7 @@ fn close_all<W: World, N: Node>(run: &mut Run<N>, world: &mut W, cause: Cause)
 /// The run ends: the node is told, the closes are made that are due, a link that the node doesn't hold is closed, and each note is
 /// taken.
 ///
-/// Errors: `NoMemory`, and then a note is lost.
+/// Errors: `NoMemory`, and then a note is lost; also behind 2^64 - 1 closes in a row that were due.
 pub(crate) fn end_run<W: World, N: Node>(
     run: &mut Run<N>,
     world: &mut W,
@@ -103,7 +113,7 @@ pub(crate) fn end_run<W: World, N: Node>(
 ) -> Result<(), NoMemory>
     ensures obeys { IfSome (W.trace world.old) (Obeys N.stands N.shown run.old.records)
         → IfSome (W.trace world.new) (Obeys N.stands N.shown run.new.records) }
-    ensures noted { OnOk result (IfSome (W.trace world.old) (Stands N.stands N.shown run.old)
+    ensures noted { OnOk result ((N.shown run.old.node).none_closes ≡ true → IfSome (W.trace world.old) (Stands N.stands N.shown run.old)
         → IfSome (W.trace world.new) (HoldsNotes N.stands N.shown run.new.keep)) }
     ensures closes { Closes cause (W.trace world.old) (W.trace world.new) }
     ensures none { (l : ℕ) → (kept run.new.records.links).links l ≡ None }
@@ -111,7 +121,8 @@ pub(crate) fn end_run<W: World, N: Node>(
     ensures follows { W.script world.new ≡ W.script world.old }
 {
     run.node.stop(cause);
-    close_dues(run, world, cause);
+    let made = close_dues(run, world, cause);
     close_all(run, world, cause);
+    made?;
     take_notes(run)
 }

@@ -1,13 +1,13 @@
 //! One call on a link: it is made where its way is awake and there is something to do, and the node is told what it did.
 
-ghost use Rattle.std.specs.Prelude.{◌≡◌, ◌⊎◌, ◌<◌, ◌≤◌, true, false, length, take, None, IfOk, OnOk};
+ghost use Rattle.std.specs.Prelude.{◌≡◌, ◌⊎◌, ◌<◌, ◌≤◌, true, false, length, take, IfOk};
 ghost use Rattle.hb_world.specs.Answers.{ReadsWithin};
 ghost use Rattle.hb_ready.specs.Registry.{kept};
 ghost use Rattle.hb_turns.specs.May.{MayFinish, MayRead, MayWrite};
 ghost use Rattle.hb_world.specs.Calls.{with_entries, read_entries};
 ghost use Rattle.hb_turns.specs.Rested.{IsCalm, FinishRests, ReadRests, WriteRests, MayNotRead, MayNotWrite};
 ghost use Rattle.hb_turns.specs.Reckons.{Adds, moved_by};
-ghost use Rattle.hb_turns.specs.Stands.{Keeps, Watched, IsIdle};
+ghost use Rattle.hb_turns.specs.Stands.{Keeps, IsIdle};
 
 use crate::node::Node;
 use crate::run::Run;
@@ -55,7 +55,6 @@ pub(crate) fn finish<W: World, N: Node>(
     link: u64,
 ) -> Result<bool, NoMemory>
     ensures keeps { IsIdle (N.shown run.old.node) → Keeps N.stands N.shown result run.old (W.trace world.old) run.new (W.trace world.new) }
-    ensures watched { OnOk result (Watched N.shown run.old → Watched N.shown run.new) }
     ensures still { IfOk result (λ moved. moved ≡ false → run.new.node ≡ run.old.node) }
     ensures rests { IfOk result (λ moved. moved ≡ false → IsCalm run.old run.new × FinishRests ((kept run.new.records.links).links link)) }
     ensures adds { Adds (moved_by result) (W.trace world.old) (W.trace world.new) }
@@ -114,7 +113,6 @@ fn read_into<W: World, N>(run: &mut Run<N>, world: &mut W, link: u64, most: usiz
 /// Reads what the node wants. Says whether anything moved.
 fn read<W: World, N: Node>(run: &mut Run<N>, world: &mut W, link: u64) -> Result<bool, NoMemory>
     ensures keeps { IsIdle (N.shown run.old.node) → Keeps N.stands N.shown result run.old (W.trace world.old) run.new (W.trace world.new) }
-    ensures watched { OnOk result (Watched N.shown run.old → Watched N.shown run.new) }
     ensures still { IfOk result (λ moved. moved ≡ false → run.new.node ≡ run.old.node) }
     ensures rests { IfOk result (λ moved. moved ≡ false → IsCalm run.old run.new
         × ReadRests ((kept run.new.records.links).links link) link (N.shown run.new.node)) }
@@ -161,9 +159,8 @@ pub(crate) fn write<W: World, N: Node>(
     world: &mut W,
     link: u64,
 ) -> Result<bool, NoMemory>
-    ensures keeps { ((N.shown run.old.node).due ≡ None) ⊎ ((N.shown run.old.node).last_words link ≡ true)
+    ensures keeps { ((N.shown run.old.node).idle ≡ true) ⊎ ((N.shown run.old.node).last_words link ≡ true)
         → Keeps N.stands N.shown result run.old (W.trace world.old) run.new (W.trace world.new) }
-    ensures watched { OnOk result (Watched N.shown run.old → Watched N.shown run.new) }
     ensures still { IfOk result (λ moved. moved ≡ false → run.new.node ≡ run.old.node) }
     ensures rests { IfOk result (λ moved. moved ≡ false → IsCalm run.old run.new
         × WriteRests ((kept run.new.records.links).links link) link (N.shown run.new.node)) }
@@ -202,7 +199,6 @@ pub(crate) fn read_last<W: World, N: Node>(
     link: u64,
 ) -> Result<bool, NoMemory>
     ensures keeps { IsIdle (N.shown run.old.node) → Keeps N.stands N.shown result run.old (W.trace world.old) run.new (W.trace world.new) }
-    ensures watched { OnOk result (Watched N.shown run.old → Watched N.shown run.new) }
     ensures still { IfOk result (λ moved. moved ≡ false → run.new.node ≡ run.old.node) }
     ensures rests { IfOk result (λ moved. moved ≡ false → IsCalm run.old run.new
         × ReadRests ((kept run.new.records.links).links link) link (N.shown run.new.node)) }

@@ -1,15 +1,15 @@
 //! A round: each door that a wait named accepts at most one link, and each link on the list is tried once.
 
-ghost use Rattle.std.specs.Prelude.{◌≡◌, ℕ, ◌∷◌, ◌++◌, [], true, false, drop, length, Some, None, IfSome, IfOk, OnOk, List};
+ghost use Rattle.std.specs.Prelude.{◌≡◌, ℕ, ◌∷◌, ◌++◌, [], true, false, drop, length, IfOk, List};
 ghost use Rattle.hb_world.specs.declared.entry.Entry.{Entry};
 ghost use Rattle.hb_ready.specs.Registry.{kept};
 ghost use Rattle.hb_ready.specs.Kept.{rotated};
-ghost use Rattle.hb_turns.specs.Reckons.{Adds, moved_by};
+ghost use Rattle.hb_turns.specs.Reckons.{Adds, moved_by, Tried};
 ghost use Rattle.hb_ready.specs.Sight.{asked_at};
 ghost use Rattle.hb_turns.specs.Rested.{IsCalm, IsDropped, CallRests};
 ghost use Rattle.hb_turns.specs.Settled.{Rests};
 ghost use Rattle.hb_turns.specs.Woken.{IsQuiet};
-ghost use Rattle.hb_turns.specs.Stands.{Keeps, Watched, IsIdle, Stands};
+ghost use Rattle.hb_turns.specs.Stands.{Keeps, IsIdle, Stands};
 
 use crate::acts::{carry, enter};
 use crate::link::{finish, read_last, write};
@@ -30,7 +30,6 @@ enum Call {
 /// A door that a wait named accepts at most one link. Says whether it did.
 fn accept<W: World, N: Node>(run: &mut Run<N>, world: &mut W, door: Door) -> Result<bool, NoMemory>
     ensures keeps { IsIdle (N.shown run.old.node) → Keeps N.stands N.shown result run.old (W.trace world.old) run.new (W.trace world.new) }
-    ensures watched { OnOk result (Watched N.shown run.old → Watched N.shown run.new) }
     ensures still { IfOk result (λ moved. moved ≡ false → run.new.node ≡ run.old.node) }
     ensures rests { IfOk result (λ moved. moved ≡ false → IsCalm run.old run.new × (asked_at run.new.records.asked door ≡ false)) }
     ensures adds { Adds (moved_by result) (W.trace world.old) (W.trace world.new) }
@@ -66,7 +65,6 @@ fn make_call<W: World, N: Node>(
     call: Call,
 ) -> Result<bool, NoMemory>
     ensures keeps { IsIdle (N.shown run.old.node) → Keeps N.stands N.shown result run.old (W.trace world.old) run.new (W.trace world.new) }
-    ensures watched { OnOk result (Watched N.shown run.old → Watched N.shown run.new) }
     ensures still { IfOk result (λ moved. moved ≡ false → run.new.node ≡ run.old.node) }
     ensures rests { IfOk result (λ moved. moved ≡ false → IsCalm run.old run.new × CallRests N.shown call run.new) }
     ensures adds { Adds (moved_by result) (W.trace world.old) (W.trace world.new) }
@@ -87,11 +85,8 @@ fn try_call<W: World, N: Node>(
     world: &mut W,
     call: Call,
 ) -> Result<bool, NoMemory>
-    ensures keeps { IsIdle (N.shown run.old.node) → Keeps N.stands N.shown result run.old (W.trace world.old) run.new (W.trace world.new) }
-    ensures watched { OnOk result (Watched N.shown run.old → Watched N.shown run.new) }
-    ensures idle { OnOk result (IsIdle (N.shown run.old.node) → IsIdle (N.shown run.new.node)) }
+    ensures tried { Tried N.stands N.shown result run.old (W.trace world.old) run.new (W.trace world.new) }
     ensures rests { IfOk result (λ moved. moved ≡ false → IsCalm run.old run.new × CallRests N.shown call run.new) }
-    ensures adds { Adds (moved_by result) (W.trace world.old) (W.trace world.new) }
     ensures faults { W.faults world.new ≡ W.faults world.old }
     ensures follows { W.script world.new ≡ W.script world.old }
 {
@@ -105,12 +100,9 @@ fn try_call<W: World, N: Node>(
 
 /// A link is tried: at most one finish, one read and two writes, and behind the read its last words. Says whether anything moved.
 fn try_link<W: World, N: Node>(run: &mut Run<N>, world: &mut W, link: u64) -> Result<bool, NoMemory>
-    ensures keeps { IsIdle (N.shown run.old.node) → Keeps N.stands N.shown result run.old (W.trace world.old) run.new (W.trace world.new) }
-    ensures watched { OnOk result (Watched N.shown run.old → Watched N.shown run.new) }
-    ensures idle { OnOk result (IsIdle (N.shown run.old.node) → IsIdle (N.shown run.new.node)) }
+    ensures tried { Tried N.stands N.shown result run.old (W.trace world.old) run.new (W.trace world.new) }
     ensures rests { IfOk result (λ moved. moved ≡ false → IsCalm run.old run.new
         × Rests ((kept run.new.records.links).links link) link (N.shown run.new.node)) }
-    ensures adds { Adds (moved_by result) (W.trace world.old) (W.trace world.new) }
     ensures faults { W.faults world.new ≡ W.faults world.old }
     ensures follows { W.script world.new ≡ W.script world.old }
 {
@@ -143,7 +135,6 @@ fn is_worth<N: Node>(run: &Run<N>, link: u64) -> bool
 /// The number at the list's front goes to its end, where its link is worth another try, or leaves the list.
 fn settle<N: Node>(run: &mut Run<N>)
     ensures keeps { (trace : List Entry) → Stands N.stands N.shown run.old trace → Stands N.stands N.shown run.new trace }
-    ensures watched { Watched N.shown run.old → Watched N.shown run.new }
     ensures pops { (l : ℕ) → (kept run.old.records.links).listed ≡ l ∷ drop 1 (kept run.old.records.links).listed
         → Rests ((kept run.old.records.links).links l) l (N.shown run.old.node) → IsDropped 1 run.old run.new }
     ensures asked { run.new.records.asked ≡ run.old.records.asked }
@@ -162,11 +153,8 @@ fn settle<N: Node>(run: &mut Run<N>)
 
 /// The link at the list's front is tried. Says whether anything moved.
 fn try_front<W: World, N: Node>(run: &mut Run<N>, world: &mut W) -> Result<bool, NoMemory>
-    ensures keeps { IsIdle (N.shown run.old.node) → Keeps N.stands N.shown result run.old (W.trace world.old) run.new (W.trace world.new) }
-    ensures watched { OnOk result (Watched N.shown run.old → Watched N.shown run.new) }
-    ensures idle { OnOk result (IsIdle (N.shown run.old.node) → IsIdle (N.shown run.new.node)) }
+    ensures tried { Tried N.stands N.shown result run.old (W.trace world.old) run.new (W.trace world.new) }
     ensures rests { IfOk result (λ moved. moved ≡ false → IsDropped 1 run.old run.new) }
-    ensures adds { Adds (moved_by result) (W.trace world.old) (W.trace world.new) }
     ensures faults { W.faults world.new ≡ W.faults world.old }
     ensures follows { W.script world.new ≡ W.script world.old }
 {
@@ -180,11 +168,8 @@ fn try_front<W: World, N: Node>(run: &mut Run<N>, world: &mut W) -> Result<bool,
 
 /// Each link on the list is tried once. Says whether anything moved.
 fn try_links<W: World, N: Node>(run: &mut Run<N>, world: &mut W) -> Result<bool, NoMemory>
-    ensures keeps { IsIdle (N.shown run.old.node) → Keeps N.stands N.shown result run.old (W.trace world.old) run.new (W.trace world.new) }
-    ensures watched { OnOk result (Watched N.shown run.old → Watched N.shown run.new) }
-    ensures idle { OnOk result (IsIdle (N.shown run.old.node) → IsIdle (N.shown run.new.node)) }
+    ensures tried { Tried N.stands N.shown result run.old (W.trace world.old) run.new (W.trace world.new) }
     ensures rests { IfOk result (λ moved. moved ≡ false → IsDropped (length (kept run.old.records.links).listed) run.old run.new) }
-    ensures adds { Adds (moved_by result) (W.trace world.old) (W.trace world.new) }
     ensures faults { W.faults world.new ≡ W.faults world.old }
     ensures follows { W.script world.new ≡ W.script world.old }
 {
@@ -198,11 +183,8 @@ fn try_links<W: World, N: Node>(run: &mut Run<N>, world: &mut W) -> Result<bool,
 
 /// A round. Says whether anything moved.
 pub(crate) fn round<W: World, N: Node>(run: &mut Run<N>, world: &mut W) -> Result<bool, NoMemory>
-    ensures keeps { IsIdle (N.shown run.old.node) → Keeps N.stands N.shown result run.old (W.trace world.old) run.new (W.trace world.new) }
-    ensures watched { OnOk result (Watched N.shown run.old → Watched N.shown run.new) }
-    ensures idle { OnOk result (IsIdle (N.shown run.old.node) → IsIdle (N.shown run.new.node)) }
+    ensures tried { Tried N.stands N.shown result run.old (W.trace world.old) run.new (W.trace world.new) }
     ensures rests { IfOk result (λ moved. moved ≡ false → IsQuiet run.new.records) }
-    ensures adds { Adds (moved_by result) (W.trace world.old) (W.trace world.new) }
     ensures faults { W.faults world.new ≡ W.faults world.old }
     ensures follows { W.script world.new ≡ W.script world.old }
 {

@@ -25,6 +25,6 @@ pub struct Served {
     pub totals: Totals,
     /// A link was closed for want of memory.
     pub wanting: bool,
-    /// Memory lacked for a note that the run's end made.
+    /// Memory lacked for a note that the run's end made, or 2^64 - 1 closes were due in a row.
     pub unkept: bool,
 }

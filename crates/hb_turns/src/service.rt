@@ -1,12 +1,12 @@
 //! A run of the event loop, from its start to its end.
 
-ghost use Rattle.std.specs.Prelude.{◌≡◌, [], Some, None, IfOk, IfSome};
+ghost use Rattle.std.specs.Prelude.{◌≡◌, [], true, Some, IfOk, IfSome, OnOk};
 ghost use Rattle.std.specs.Option.{option_map};
 ghost use Rattle.hb_base.specs.Count.{Counts};
 ghost use Rattle.hb_turns.specs.Ends.{cause_at, is_fault, end_of};
 ghost use Rattle.hb_turns.specs.Reckons.{Begins, Finishes};
-ghost use Rattle.hb_turns.specs.Served.{IsServed, IsFresh};
-ghost use Rattle.hb_turns.specs.Stands.{Left, Watched};
+ghost use Rattle.hb_turns.specs.Served.{IsServed, IsFresh, IsFreshNode};
+ghost use Rattle.hb_turns.specs.Stands.{Left};
 
 use crate::ending::end_run;
 use crate::keep::Keep;
@@ -28,8 +28,9 @@ fn run_on<W: World, N: Node>(
     ready: &mut Ready,
     words: ServeWords,
 ) -> Result<ServeEnd, NoMemory>
-    ensures keeps { Watched N.shown run.old → IfSome (W.trace world.old) (Begins N.stands N.shown run.old [])
+    ensures keeps { IfSome (W.trace world.old) (Begins N.stands N.shown run.old [])
         → IfSome (W.trace world.new) (Left N.stands N.shown result run.new) }
+    ensures closes { OnOk result ((N.shown run.old.node).none_closes ≡ true → (N.shown run.new.node).none_closes ≡ true) }
     ensures finishes { IfSome (W.trace world.old) (Begins N.stands N.shown run.old [])
         → IfSome (W.trace world.new) (Finishes words (end_of result)) }
     ensures faults { Counts (W.faults world.old) (W.faults world.new) (is_fault (end_of result)) }
@@ -69,7 +70,7 @@ fn serve_run<W: World, N: Node>(
     ready: &mut Ready,
     words: ServeWords,
 ) -> Served
-    ensures served { Watched N.shown run.old → IfSome (W.trace world.old) (Begins N.stands N.shown run.old [])
+    ensures served { (N.shown run.old.node).none_closes ≡ true → IfSome (W.trace world.old) (Begins N.stands N.shown run.old [])
         → IfSome (W.trace world.new) (IsServed N.stands N.shown words result run.new.keep) }
     ensures faults { Counts (W.faults world.old) (W.faults world.new) (is_fault result.end) }
     ensures follows { W.script world.new ≡ W.script world.old }
@@ -137,7 +138,8 @@ pub fn serve<W: World, N: Node + Drop>(
     keep: &mut Keep,
     world: &mut W,
 ) -> Served
-    requires { N.stands [] node [] }
+    requires stands { N.stands [] node [] }
+    requires fresh { IsFreshNode (N.shown node) }
     ensures served { W.trace world.old ≡ Some [] → IfSome (W.trace world.new) (IsServed N.stands N.shown words result keep.new) }
     ensures faults { Counts (W.faults world.old) (W.faults world.new) (is_fault result.end) }
     ensures follows { W.script world.new ≡ W.script world.old }

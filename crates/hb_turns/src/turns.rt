@@ -4,7 +4,7 @@ ghost use Rattle.std.specs.Prelude.{◌≡◌, ℕ, ◌+◌, true, false, None, 
 ghost use Rattle.hb_base.specs.Count.{Counts};
 ghost use Rattle.hb_turns.specs.Ends.{is_fault, is_fault_of_turn, end_of};
 ghost use Rattle.hb_turns.specs.Reckons.{Paid, Reckons, Turned, Finishes};
-ghost use Rattle.hb_turns.specs.Stands.{Keeps, Watched, IsIdle};
+ghost use Rattle.hb_turns.specs.Stands.{Keeps, IsIdle};
 ghost use Rattle.hb_turns.specs.declared.words.ServeWords.{ServeWords};
 ghost use Rattle.hb_turns.specs.Woken.{IsQuiet};
 
@@ -35,10 +35,10 @@ fn turn<W: World, N: Node>(
     ready: &mut Ready,
     ticks: &mut Option<u64>,
 ) -> Result<Option<ServeEnd>, NoMemory>
-    ensures keeps { IsIdle (N.shown run.old.node) → Watched N.shown run.old
+    ensures keeps { IsIdle (N.shown run.old.node)
         → Keeps N.stands N.shown result run.old (W.trace world.old) run.new (W.trace world.new) }
-    ensures watched { OnOk result (Watched N.shown run.old → Watched N.shown run.new) }
     ensures idle { IfOk result (λ end. end ≡ None → IsIdle (N.shown run.old.node) → IsIdle (N.shown run.new.node)) }
+    ensures closes { OnOk result (IsIdle (N.shown run.old.node) → (N.shown run.new.node).none_closes ≡ true) }
     ensures turned { (t n : ℕ) → Paid t n run.old.records → (m : ℕ)
         × (IfOk result (λ end. end ≡ None → Paid (t + 1) m run.new.records))
         × ((words : ServeWords) (w : ℕ) → IfSome (W.trace world.old) (Reckons words ticks.old n w)
@@ -61,7 +61,8 @@ pub(crate) fn turns<W: World, N: Node>(
     most: u64,
     ticks: Option<u64>,
 ) -> Result<ServeEnd, NoMemory>
-    ensures keeps { Watched N.shown run.old → Keeps N.stands N.shown result run.old (W.trace world.old) run.new (W.trace world.new) }
+    ensures keeps { Keeps N.stands N.shown result run.old (W.trace world.old) run.new (W.trace world.new) }
+    ensures closes { OnOk result ((N.shown run.new.node).none_closes ≡ true) }
     ensures finishes { (words : ServeWords) → words.turns ≡ most → IfSome (W.trace world.old) (Reckons words ticks 0 0)
         → IfSome (W.trace world.new) (Finishes words (end_of result)) }
     ensures faults { Counts (W.faults world.old) (W.faults world.new) (is_fault (end_of result)) }

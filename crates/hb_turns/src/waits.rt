@@ -1,10 +1,10 @@
 //! A wait, and what it named.
 
-ghost use Rattle.std.specs.Prelude.{◌≡◌, ◌∷◌, ℕ, ◌+◌, [], false, None, IfOk, IfSome, OnOk};
+ghost use Rattle.std.specs.Prelude.{◌≡◌, ◌∷◌, ℕ, ◌+◌, [], true, false, None, IfOk, IfSome, OnOk};
 ghost use Rattle.hb_base.specs.Count.{Counts};
 ghost use Rattle.hb_ready.specs.Registry.{kept};
 ghost use Rattle.hb_turns.specs.Reckons.{Reckons, Turned, IsBehindTick, one_less, is_spent};
-ghost use Rattle.hb_turns.specs.Stands.{Keeps, Left, Watched, WatchedBy, IsIdle};
+ghost use Rattle.hb_turns.specs.Stands.{Keeps, Left, WatchedBy, IsIdle};
 ghost use Rattle.hb_turns.specs.Woken.{Wakes, IsQuiet, Ticked};
 ghost use Rattle.hb_turns.specs.Ends.{is_fault_of_turn};
 ghost use Rattle.hb_turns.specs.Shown.{Shown};
@@ -58,10 +58,10 @@ fn tick<W: World, N: Node>(
     world: &mut W,
     ticks: &mut Option<u64>,
 ) -> Result<Option<ServeEnd>, NoMemory>
-    ensures keeps { (N.shown run.old.node).due ≡ None → IfSome (W.trace world.old) (Ticked N.stands N.shown run.old)
+    ensures keeps { (N.shown run.old.node).idle ≡ true → IfSome (W.trace world.old) (Ticked N.stands N.shown run.old)
         → IfSome (W.trace world.new) (Left N.stands N.shown result run.new) }
-    ensures watched { OnOk result (Watched N.shown run.old → Watched N.shown run.new) }
     ensures idle { IfOk result (λ end. end ≡ None → IsIdle (N.shown run.new.node)) }
+    ensures closes { OnOk result ((N.shown run.old.node).none_closes ≡ true → (N.shown run.new.node).none_closes ≡ true) }
     ensures turned { (words : ServeWords) (n w : ℕ) → IfSome (W.trace world.old) (IsBehindTick words ticks.old n w)
         → IfSome (W.trace world.new) (Turned result words ticks.new n w) }
     ensures faults { W.faults world.new ≡ W.faults world.old }
@@ -83,10 +83,10 @@ pub(crate) fn wait<W: World, N: Node>(
     ready: &mut Ready,
     ticks: &mut Option<u64>,
 ) -> Result<Option<ServeEnd>, NoMemory>
-    ensures keeps { IsIdle (N.shown run.old.node) → IsQuiet run.old.records → Watched N.shown run.old
+    ensures keeps { IsIdle (N.shown run.old.node) → IsQuiet run.old.records
         → Keeps N.stands N.shown result run.old (W.trace world.old) run.new (W.trace world.new) }
-    ensures watched { OnOk result (Watched N.shown run.old → Watched N.shown run.new) }
     ensures idle { IfOk result (λ end. end ≡ None → IsIdle (N.shown run.old.node) → IsIdle (N.shown run.new.node)) }
+    ensures closes { OnOk result (IsIdle (N.shown run.old.node) → (N.shown run.new.node).none_closes ≡ true) }
     ensures turned { (words : ServeWords) (n w : ℕ) → IfSome (W.trace world.old) (Reckons words ticks.old n w)
         → IfSome (W.trace world.new) (Turned result words ticks.new (n + 2) (w + 1)) }
     ensures faults { Counts (W.faults world.old) (W.faults world.new) (is_fault_of_turn result) }

@@ -1,15 +1,16 @@
-use Rattle.std.specs.Prelude.{◌≡◌, List, length}
+use Rattle.std.specs.Prelude.{◌≡◌, ℕ, List, length}
 use Rattle.hb_world.specs.declared.entry.Entry.{Entry}
-use Rattle.hb_turns.specs.Stands.{Stands, Watched}
+use Rattle.hb_turns.specs.Shown.{IsSame}
+use Rattle.hb_turns.specs.Stands.{Matches}
 use Rattle.hb_turns.proofs.acts.take_notes.Given as goal
 
--- the run is kept, and its links watched
+-- what matched a trace does, and the same is to be done
 abbrev pub invariant-loop : goal.invariant-loop
 invariant-loop g l = record {
-  kept : (trace : List Entry) → Stands g.N.Node.stands g.N.Node.shown l.initial.run trace
-      → Stands g.N.Node.stands g.N.Node.shown l.run trace;
-  watched : Watched g.N.Node.shown l.initial.run → Watched g.N.Node.shown l.run;
-  due : (g.N.Node.shown l.run.node).due ≡ (g.N.Node.shown l.initial.run.node).due;
+  kept : (trace : List Entry) → Matches g.N.Node.stands g.N.Node.shown l.initial.run trace
+      → Matches g.N.Node.stands g.N.Node.shown l.run trace;
+  same : IsSame (g.N.Node.shown l.initial.run.node) (g.N.Node.shown l.run.node);
+  stirs : (link : ℕ) → (g.N.Node.shown l.run.node).stirs link ≡ (g.N.Node.shown l.initial.run.node).stirs link;
   records : l.run.records ≡ l.initial.run.records;
 }
 

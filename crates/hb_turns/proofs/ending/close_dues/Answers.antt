@@ -1,10 +1,10 @@
-use Rattle.std.proofs.Common.{refl, ◌∙◌}
+use Rattle.std.proofs.Common.{refl, rules, ◌∙◌}
 use Rattle.hb_turns.proofs.Adding.{closes_none, closes_both}
 use Rattle.hb_turns.proofs.Closing.{stands_alone}
 use Rattle.hb_turns.proofs.ending.close_dues.Goals as goal
 
-pub loop-cause-init : goal.loop-cause-init
-loop-cause-init g c = record {
+pub loop-close-init : goal.loop-close-init
+loop-close-init g c = record {
   ends_for = c.requires;
   obeys = λ had. had;
   keeps = λ had. had;
@@ -13,9 +13,9 @@ loop-cause-init g c = record {
   follows = refl;
 }
 
-pub loop-cause-preserved : goal.loop-cause-preserved
-loop-cause-preserved g c =
-    let at = c.loop-cause.invariant in
+pub loop-close-preserved : goal.loop-close-preserved
+loop-close-preserved g c =
+    let at = c.loop-close.invariant in
     let made = c.close_due.ensures in
     record {
       ends_for = made.ends_for;
@@ -26,10 +26,10 @@ loop-cause-preserved g c =
       follows = made.follows ∙ at.follows;
     }
 
-pub returns-clause-closes : goal.returns-clause-closes
-returns-clause-closes g c = closes_both _ _ _ _ c.loop-cause.invariant.closes c.close_due.ensures.closes
+pub returns-then-not-close_due-clause-closes : goal.returns-then-not-close_due-clause-closes
+returns-then-not-close_due-clause-closes g c = closes_both _ _ _ _ c.loop-close.invariant.closes c.close_due.ensures.closes
 
-pub returns-clause-alone : goal.returns-clause-alone
-returns-clause-alone g c = λ had.
-    stands_alone g.N.Node.stands g.N.Node.shown c.close_due.new.run _ (c.close_due.ensures.none c.loop-cause-test.false)
-    (c.close_due.ensures.keeps (c.loop-cause.invariant.keeps had))
+pub returns-then-not-close_due-clause-alone : goal.returns-then-not-close_due-clause-alone
+returns-then-not-close_due-clause-alone g c = λ had.
+    stands_alone g.N.Node.stands g.N.Node.shown c.close_due.new.run _ (c.close_due.ensures.none (search rules))
+    (c.close_due.ensures.keeps (c.loop-close.invariant.keeps had))

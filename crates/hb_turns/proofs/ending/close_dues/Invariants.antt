@@ -1,20 +1,17 @@
 use Rattle.std.specs.Prelude.{◌≡◌, Some, IfSome}
 use Rattle.hb_turns.specs.Reckons.{Closes}
-use Rattle.hb_turns.specs.Stands.{Obeys, Stands}
+use Rattle.hb_turns.specs.Stands.{Obeys, Matches}
 use Rattle.hb_turns.proofs.ending.close_dues.Given as goal
 
 -- links were closed for this cause alone
-abbrev pub invariant-loop-cause : goal.invariant-loop-cause
-invariant-loop-cause g l = record {
-  ends_for : (g.N.Node.shown l.run.node).ends_for ≡ Some l.cause;
-  obeys : IfSome (g.W.World.trace l.initial.world) (Obeys g.N.Node.stands g.N.Node.shown l.initial.run.records)
+abbrev pub invariant-loop-close : goal.invariant-loop-close
+invariant-loop-close g l = record {
+  ends_for : (g.N.Node.shown l.run.node).ends_for ≡ Some l.fn.cause;
+  obeys : IfSome (g.W.World.trace l.fn.world) (Obeys g.N.Node.stands g.N.Node.shown l.fn.run.records)
       → IfSome (g.W.World.trace l.world) (Obeys g.N.Node.stands g.N.Node.shown l.run.records);
-  keeps : IfSome (g.W.World.trace l.initial.world) (Stands g.N.Node.stands g.N.Node.shown l.initial.run)
-      → IfSome (g.W.World.trace l.world) (Stands g.N.Node.stands g.N.Node.shown l.run);
-  closes : Closes l.cause (g.W.World.trace l.initial.world) (g.W.World.trace l.world);
-  faults : g.W.World.faults l.world ≡ g.W.World.faults l.initial.world;
-  follows : g.W.World.script l.world ≡ g.W.World.script l.initial.world;
+  keeps : IfSome (g.W.World.trace l.fn.world) (Matches g.N.Node.stands g.N.Node.shown l.fn.run)
+      → IfSome (g.W.World.trace l.world) (Matches g.N.Node.stands g.N.Node.shown l.run);
+  closes : Closes l.fn.cause (g.W.World.trace l.fn.world) (g.W.World.trace l.world);
+  faults : g.W.World.faults l.world ≡ g.W.World.faults l.fn.world;
+  follows : g.W.World.script l.world ≡ g.W.World.script l.fn.world;
 }
-
-abbrev pub decreases-loop-cause : goal.decreases-loop-cause
-decreases-loop-cause g l = (g.N.Node.shown l.run.node).weight

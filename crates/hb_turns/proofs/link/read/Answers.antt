@@ -1,14 +1,13 @@
-use Rattle.std.proofs.Common.{◌≡◌, ◌<◌, ◌≤◌, ℕ, List, refl, rules, take, length, ◌∙◌, sym, ap, subst}
+use Rattle.std.proofs.Common.{◌≡◌, ◌<◌, ◌≤◌, ℕ, true, List, refl, rules, take, length, ◌∙◌, sym, ap, subst}
 use Rattle.hb_world.specs.declared.entry.Entry.TheVariants as e
 use Rattle.hb_world.specs.declared.entry.Way.TheVariants as way
 use Rattle.hb_ready.specs.Registry.{kept}
 use Rattle.hb_turns.specs.May.{MayRead}
-use Rattle.hb_turns.specs.Stands.{Stands, WatchedBy}
+use Rattle.hb_turns.specs.Stands.{Stands}
 use Rattle.hb_turns.specs.Shown.{Tells}
 use Rattle.hb_turns.proofs.Holding.{moved, lacked, left, untold, unmoved, rested, same_run}
 use Rattle.hb_turns.specs.declared.run.Records.{Records}
-use Rattle.std.specs.Prelude.{None}
-use Rattle.hb_turns.proofs.Watching.{watched-stirs, watched-read}
+use Rattle.hb_turns.proofs.Watching.{watched-read}
 use Rattle.hb_turns.proofs.Ways.{got_some, got_few, came_comes, came_tracks, ended_comes, ended_tracks, read_balks, read_breaks}
 use Rattle.hb_turns.proofs.link.read.Goals as goal
 
@@ -19,13 +18,13 @@ returns-in-End-clause-keeps g c = λ idle had.
     let mid = c.read_into.new.run in
     let may_mid : MayRead ((kept mid.records.links).links c.args.link) =
     subst (λ (r : Records). MayRead ((kept r.links).links c.args.link)) (sym c.read_into.ensures.records) may in
-    let due : (g.N.Node.shown mid.node).due ≡ None = ap (λ n. (g.N.Node.shown n).due) c.read_into.ensures.node ∙ idle.due in
+    let now : (g.N.Node.shown mid.node).idle ≡ true = ap (λ n. (g.N.Node.shown n).idle) c.read_into.ensures.node ∙ idle.idle in
     let had_mid = same_run g.N.Node.stands g.N.Node.shown c.args.run.now mid (g.W.World.trace c.args.world.now) c.read_into.ensures.node
     c.read_into.ensures.records c.read_into.ensures.keep had in
     let some : 0 < (g.N.Node.shown mid.node).wants c.args.link = search rules in
     moved g.N.Node.stands g.N.Node.shown mid (record mid { node = c.ended.new.self }) (e.Ended c.args.link) (Stands g.N.Node.stands g.N.Node.shown mid) (g.W.World.trace c.args.world.now) _ c.in-End.ensures.adds refl
-    c.ended.ensures.tells (ended_tracks mid.records c.args.link may_mid)
-    (ended_comes g.N.Node.stands g.N.Node.shown mid c.args.link due may_mid some) had_mid
+    c.ended.ensures (ended_tracks mid.records c.args.link may_mid) (λ watched. watched)
+    (ended_comes g.N.Node.stands g.N.Node.shown mid c.args.link now may_mid some) had_mid
 
 pub returns-in-Balked-clause-keeps : goal.returns-in-Balked-clause-keeps
 returns-in-Balked-clause-keeps g c = λ idle had.
@@ -34,13 +33,15 @@ returns-in-Balked-clause-keeps g c = λ idle had.
     let mid = c.read_into.new.run in
     let may_mid : MayRead ((kept mid.records.links).links c.args.link) =
     subst (λ (r : Records). MayRead ((kept r.links).links c.args.link)) (sym c.read_into.ensures.records) may in
-    let due : (g.N.Node.shown mid.node).due ≡ None = ap (λ n. (g.N.Node.shown n).due) c.read_into.ensures.node ∙ idle.due in
+    let now : (g.N.Node.shown mid.node).idle ≡ true = ap (λ n. (g.N.Node.shown n).idle) c.read_into.ensures.node ∙ idle.idle in
     let had_mid = same_run g.N.Node.stands g.N.Node.shown c.args.run.now mid (g.W.World.trace c.args.world.now) c.read_into.ensures.node
     c.read_into.ensures.records c.read_into.ensures.keep had in
     rested g.N.Node.stands g.N.Node.shown mid (record mid { records = record mid.records { links = c.read_balked.new.self } })
     (e.Balked (way.Read c.args.link)) (Stands g.N.Node.stands g.N.Node.shown mid) (g.W.World.trace c.args.world.now) _ c.in-Balked.ensures.adds refl refl
     (λ notes trace. g.met.N.Node.rests notes mid.node trace (e.Balked (way.Read c.args.link))) (record { links = c.read_balked.ensures.follows; doors = λ d. refl; births_are = refl; wanting_is = refl })
-    (read_balks g.N.Node.stands g.N.Node.shown mid c.args.link due may_mid) had_mid
+    (watched-read (kept mid.records.links) (kept c.read_balked.new.self) (g.N.Node.shown mid.node) c.args.link
+    c.read_balked.ensures.follows c.read_balked.ensures.stays.listed)
+    (read_balks g.N.Node.stands g.N.Node.shown mid c.args.link now may_mid (search rules)) had_mid
 
 pub returns-in-Failed-clause-keeps : goal.returns-in-Failed-clause-keeps
 returns-in-Failed-clause-keeps g c = λ idle had.
@@ -49,12 +50,12 @@ returns-in-Failed-clause-keeps g c = λ idle had.
     let mid = c.read_into.new.run in
     let may_mid : MayRead ((kept mid.records.links).links c.args.link) =
     subst (λ (r : Records). MayRead ((kept r.links).links c.args.link)) (sym c.read_into.ensures.records) may in
-    let due : (g.N.Node.shown mid.node).due ≡ None = ap (λ n. (g.N.Node.shown n).due) c.read_into.ensures.node ∙ idle.due in
+    let now : (g.N.Node.shown mid.node).idle ≡ true = ap (λ n. (g.N.Node.shown n).idle) c.read_into.ensures.node ∙ idle.idle in
     let had_mid = same_run g.N.Node.stands g.N.Node.shown c.args.run.now mid (g.W.World.trace c.args.world.now) c.read_into.ensures.node
     c.read_into.ensures.records c.read_into.ensures.keep had in
     moved g.N.Node.stands g.N.Node.shown mid (record mid { node = c.broke.new.self }) (e.Broke c.args.link) (Stands g.N.Node.stands g.N.Node.shown mid) (g.W.World.trace c.args.world.now) _ c.in-Failed.ensures.adds refl
-    c.broke.ensures.tells (unmoved mid.records (e.Broke c.args.link) tt)
-    (read_breaks g.N.Node.stands g.N.Node.shown mid c.args.link due may_mid) had_mid
+    c.broke.ensures (unmoved mid.records (e.Broke c.args.link) tt) (λ watched. watched)
+    (read_breaks g.N.Node.stands g.N.Node.shown mid c.args.link now may_mid) had_mid
 
 pub returns-in-NoMemory-clause-keeps : goal.returns-in-NoMemory-clause-keeps
 returns-in-NoMemory-clause-keeps g c = λ idle had.
@@ -69,7 +70,7 @@ returns-in_ok-take_bytes-in-Got-clause-keeps g c = λ idle had.
     let mid = c.read_into.new.run in
     let may_mid : MayRead ((kept mid.records.links).links c.args.link) =
     subst (λ (r : Records). MayRead ((kept r.links).links c.args.link)) (sym c.read_into.ensures.records) may in
-    let due : (g.N.Node.shown mid.node).due ≡ None = ap (λ n. (g.N.Node.shown n).due) c.read_into.ensures.node ∙ idle.due in
+    let now : (g.N.Node.shown mid.node).idle ≡ true = ap (λ n. (g.N.Node.shown n).idle) c.read_into.ensures.node ∙ idle.idle in
     let had_mid = same_run g.N.Node.stands g.N.Node.shown c.args.run.now mid (g.W.World.trace c.args.world.now) c.read_into.ensures.node
     c.read_into.ensures.records c.read_into.ensures.keep had in
     let within : c.min-most.result ≤ c.wants-wanted.result = search rules in
@@ -82,8 +83,8 @@ returns-in_ok-take_bytes-in-Got-clause-keeps g c = λ idle had.
     moved g.N.Node.stands g.N.Node.shown mid (record mid { node = c.take_bytes.new.self }) (e.Came c.args.link (take c.in-Got.n mid.buffer.items)) (Stands g.N.Node.stands g.N.Node.shown mid)
     (g.W.World.trace c.args.world.now) _ c.in-Got.ensures.adds refl
     (subst (λ (bs : List ℕ). Tells g.N.Node.stands g.N.Node.shown (e.Came c.args.link (take c.in-Got.n bs)) mid.node c.take_bytes.new.self)
-    c.deref.ensures.value (c.in_ok-take_bytes-in-Got.ensures {u = tt}).tells)
-    (came_tracks mid.records c.args.link _ may_mid) (came_comes g.N.Node.stands g.N.Node.shown mid c.args.link due may_mid _ some few) had_mid
+    c.deref.ensures.value (c.in_ok-take_bytes-in-Got.ensures {u = tt}))
+    (came_tracks mid.records c.args.link _ may_mid) (λ watched. watched) (came_comes g.N.Node.stands g.N.Node.shown mid c.args.link now may_mid _ some few) had_mid
 
 pub returns-in_err-take_bytes-in-Got-clause-keeps : goal.returns-in_err-take_bytes-in-Got-clause-keeps
 returns-in_err-take_bytes-in-Got-clause-keeps g c = λ idle had.
@@ -92,7 +93,7 @@ returns-in_err-take_bytes-in-Got-clause-keeps g c = λ idle had.
     let mid = c.read_into.new.run in
     let may_mid : MayRead ((kept mid.records.links).links c.args.link) =
     subst (λ (r : Records). MayRead ((kept r.links).links c.args.link)) (sym c.read_into.ensures.records) may in
-    let due : (g.N.Node.shown mid.node).due ≡ None = ap (λ n. (g.N.Node.shown n).due) c.read_into.ensures.node ∙ idle.due in
+    let now : (g.N.Node.shown mid.node).idle ≡ true = ap (λ n. (g.N.Node.shown n).idle) c.read_into.ensures.node ∙ idle.idle in
     let had_mid = same_run g.N.Node.stands g.N.Node.shown c.args.run.now mid (g.W.World.trace c.args.world.now) c.read_into.ensures.node
     c.read_into.ensures.records c.read_into.ensures.keep had in
     let within : c.min-most.result ≤ c.wants-wanted.result = search rules in
@@ -105,32 +106,4 @@ returns-in_err-take_bytes-in-Got-clause-keeps g c = λ idle had.
     left g.N.Node.stands g.N.Node.shown c.from_residual.result _ _ (search rules)
     (lacked g.N.Node.stands g.N.Node.shown mid mid.records (e.Came c.args.link (take c.in-Got.n mid.buffer.items)) (Stands g.N.Node.stands g.N.Node.shown mid)
     (g.W.World.trace c.args.world.now) _ c.in-Got.ensures.adds
-    (came_tracks mid.records c.args.link _ may_mid) (came_comes g.N.Node.stands g.N.Node.shown mid c.args.link due may_mid _ some few) had_mid)
-
-pub returns-in_ok-take_bytes-in-Got-clause-watched : goal.returns-in_ok-take_bytes-in-Got-clause-watched
-returns-in_ok-take_bytes-in-Got-clause-watched g c = λ watched.
-    watched-stirs (kept c.read_into.new.run.records.links) (g.N.Node.shown c.read_into.new.run.node) (g.N.Node.shown c.take_bytes.new.self)
-    (c.in_ok-take_bytes-in-Got.ensures {u = tt}).stirs
-    (subst (λ (r : Records). WatchedBy (kept r.links) (g.N.Node.shown c.read_into.new.run.node)) (sym c.read_into.ensures.records)
-    (subst (λ n. WatchedBy (kept c.args.run.now.records.links) (g.N.Node.shown n)) (sym c.read_into.ensures.node) watched))
-
-pub returns-in-End-clause-watched : goal.returns-in-End-clause-watched
-returns-in-End-clause-watched g c = λ watched.
-    watched-stirs (kept c.read_into.new.run.records.links) (g.N.Node.shown c.read_into.new.run.node) (g.N.Node.shown c.ended.new.self)
-    c.ended.ensures.stirs
-    (subst (λ (r : Records). WatchedBy (kept r.links) (g.N.Node.shown c.read_into.new.run.node)) (sym c.read_into.ensures.records)
-    (subst (λ n. WatchedBy (kept c.args.run.now.records.links) (g.N.Node.shown n)) (sym c.read_into.ensures.node) watched))
-
-pub returns-in-Failed-clause-watched : goal.returns-in-Failed-clause-watched
-returns-in-Failed-clause-watched g c = λ watched.
-    watched-stirs (kept c.read_into.new.run.records.links) (g.N.Node.shown c.read_into.new.run.node) (g.N.Node.shown c.broke.new.self)
-    c.broke.ensures.stirs
-    (subst (λ (r : Records). WatchedBy (kept r.links) (g.N.Node.shown c.read_into.new.run.node)) (sym c.read_into.ensures.records)
-    (subst (λ n. WatchedBy (kept c.args.run.now.records.links) (g.N.Node.shown n)) (sym c.read_into.ensures.node) watched))
-
-pub returns-in-Balked-clause-watched : goal.returns-in-Balked-clause-watched
-returns-in-Balked-clause-watched g c = λ watched.
-    watched-read (kept c.read_into.new.run.records.links) (kept c.read_balked.new.self) (g.N.Node.shown c.read_into.new.run.node) c.args.link
-    c.read_balked.ensures.follows c.read_balked.ensures.stays.listed
-    (subst (λ (r : Records). WatchedBy (kept r.links) (g.N.Node.shown c.read_into.new.run.node)) (sym c.read_into.ensures.records)
-    (subst (λ n. WatchedBy (kept c.args.run.now.records.links) (g.N.Node.shown n)) (sym c.read_into.ensures.node) watched))
+    (came_tracks mid.records c.args.link _ may_mid) (came_comes g.N.Node.stands g.N.Node.shown mid c.args.link now may_mid _ some few) had_mid)

@@ -18,10 +18,6 @@ pub returns-clause-keeps : goal.returns-clause-keeps
 returns-clause-keeps g c = λ idle had.
     (c.in_ok-write.ensures {u = tt}).keeps (inr (search rules)) ((c.in_ok-came.ensures {u = tt}).keeps idle had)
 
-pub returns-clause-watched : goal.returns-clause-watched
-returns-clause-watched g c = λ watched.
-    (c.in_ok-write.ensures {u = tt}).watched ((c.in_ok-came.ensures {u = tt}).watched watched)
-
 pub returns-in_err-write-clause-keeps : goal.returns-in_err-write-clause-keeps
 returns-in_err-write-clause-keeps g c = λ idle had.
     left g.N.Node.stands g.N.Node.shown c.from_residual-in_err-write.result c.write.new.run _ (search rules)

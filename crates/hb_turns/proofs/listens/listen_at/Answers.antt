@@ -15,7 +15,7 @@ returns-in-Listening-clause-begun g c = λ made had.
     (Begins g.N.Node.stands g.N.Node.shown new (made ++ given_at c.args.door o))) (sym c.in-Some.is)
     (listens_on g.N.Node.stands g.N.Node.shown run new made (c.args.door, c.in-Some.at) _ _ c.in-Listening.ensures.adds refl refl
     (λ notes trace. g.met.N.Node.rests notes run.node trace (listen_at true (c.args.door, c.in-Some.at)))
-    (listen_tracks run.records c.set.new.self c.args.door c.in-Some.at true c.set.ensures) had)
+    (listen_tracks run.records c.set.new.self c.args.door c.in-Some.at true c.set.ensures) (λ watched. watched) had)
 
 pub returns-in-Failed-clause-begun : goal.returns-in-Failed-clause-begun
 returns-in-Failed-clause-begun g c = λ made had.
@@ -26,4 +26,4 @@ returns-in-Failed-clause-begun g c = λ made had.
     × FailsAt (made ++ given_at c.args.door o) trace)) (sym c.in-Some.is)
     (listen_fails g.N.Node.stands g.N.Node.shown run new made (c.args.door, c.in-Some.at) _ _ c.in-Failed.ensures.adds refl refl
     (λ notes trace. g.met.N.Node.rests notes run.node trace (listen_at false (c.args.door, c.in-Some.at)))
-    (listen_tracks run.records c.set-in-Failed.new.self c.args.door c.in-Some.at false c.set-in-Failed.ensures) had)
+    (listen_tracks run.records c.set-in-Failed.new.self c.args.door c.in-Some.at false c.set-in-Failed.ensures) (λ watched. watched) had)

@@ -1,14 +1,35 @@
 use Rattle.std.proofs.Common.{true, rules}
-use Rattle.hb_turns.proofs.Adding.{adds_err, adds_then, adds_true}
+use Rattle.hb_turns.proofs.Adding.{adds_then, adds_true, adds_err}
+use Rattle.hb_turns.proofs.Holding.{left}
 use Rattle.hb_turns.proofs.round.try_call.Goals as goal
 
-pub returns-in_err-carry-clause-adds : goal.returns-in_err-carry-clause-adds
-returns-in_err-carry-clause-adds g c =
-    adds_err c.from_residual-in_err-carry.result true _ _ (search rules)
-    (adds_then true _ _ _ (adds_true c.in_ok-moved.moved _ _ c.if-not-moved.false (c.in_ok-moved.ensures {u = tt}).adds)
-    (c.in_err-carry.ensures {u = tt}).adds)
+pub returns-in_err-moved-clause-tried : goal.returns-in_err-moved-clause-tried
+returns-in_err-moved-clause-tried g c =
+    let made = c.in_err-moved.ensures {u = tt} in
+    record {
+      keeps = λ idle had. left g.N.Node.stands g.N.Node.shown c.from_residual.result c.make_call.new.run _ (search rules) (made.keeps idle had);
+      idle = search rules;
+      adds = adds_err c.from_residual.result _ _ _ (search rules) made.adds;
+    }
 
-pub returns-clause-adds : goal.returns-clause-adds
-returns-clause-adds g c =
-    adds_then true _ _ _ (adds_true c.in_ok-moved.moved _ _ c.if-not-moved.false (c.in_ok-moved.ensures {u = tt}).adds)
-    (c.in_ok-carry.ensures {u = tt}).adds
+pub returns-in_err-carry-clause-tried : goal.returns-in_err-carry-clause-tried
+returns-in_err-carry-clause-tried g c =
+    let made = c.in_ok-moved.ensures {u = tt} in
+    let carried = c.in_err-carry.ensures {u = tt} in
+    record {
+      keeps = λ idle had. left g.N.Node.stands g.N.Node.shown c.from_residual-in_err-carry.result c.carry.new.run _ (search rules)
+          (carried.keeps (made.keeps idle had));
+      idle = search rules;
+      adds = adds_err c.from_residual-in_err-carry.result true _ _ (search rules)
+          (adds_then true _ _ _ (adds_true c.in_ok-moved.moved _ _ c.if-not-moved.false made.adds) carried.adds);
+    }
+
+pub returns-clause-tried : goal.returns-clause-tried
+returns-clause-tried g c =
+    let made = c.in_ok-moved.ensures {u = tt} in
+    let carried = c.in_ok-carry.ensures {u = tt} in
+    record {
+      keeps = λ idle had. carried.keeps (made.keeps idle had);
+      idle = λ idle. carried.idle;
+      adds = adds_then true _ _ _ (adds_true c.in_ok-moved.moved _ _ c.if-not-moved.false made.adds) carried.adds;
+    }

@@ -1,18 +1,14 @@
-use Rattle.std.specs.Prelude.{◌≡◌, false, IfSome}
-use Rattle.hb_turns.specs.Reckons.{Adds}
+use Rattle.std.specs.Prelude.{◌≡◌, false, Ok}
+use Rattle.std.specs.declared.alloc.AllocError.{AllocError}
+use Rattle.hb_turns.specs.Reckons.{Tried}
 use Rattle.hb_turns.specs.Rested.{IsDropped}
-use Rattle.hb_turns.specs.Stands.{Stands, Watched, IsIdle}
 use Rattle.hb_turns.proofs.round.try_links.Given as goal
 
--- between two tries nothing is due, the run is kept, and its links watched
+-- the tries so far
 abbrev pub invariant-loop-try : goal.invariant-loop-try
 invariant-loop-try g l = record {
-  kept : IsIdle (g.N.Node.shown l.fn.run.node)
-      → IfSome (g.W.World.trace l.fn.world) (Stands g.N.Node.stands g.N.Node.shown l.fn.run)
-      → IfSome (g.W.World.trace l.world) (Stands g.N.Node.stands g.N.Node.shown l.run);
-  watched : Watched g.N.Node.shown l.fn.run → Watched g.N.Node.shown l.run;
-  idle : IsIdle (g.N.Node.shown l.fn.run.node) → IsIdle (g.N.Node.shown l.run.node);
-  adds : Adds l.moved (g.W.World.trace l.fn.world) (g.W.World.trace l.world);
+  tried : Tried {E = AllocError} g.N.Node.stands g.N.Node.shown (Ok l.moved) l.fn.run (g.W.World.trace l.fn.world) l.run
+      (g.W.World.trace l.world);
   rests : l.moved ≡ false → IsDropped l._try l.fn.run l.run;
   faults : g.W.World.faults l.world ≡ g.W.World.faults l.fn.world;
   follows : g.W.World.script l.world ≡ g.W.World.script l.fn.world;

@@ -12,8 +12,7 @@ loop-turn-init g c =
     let carried = c.in_ok-carry.ensures {u = tt} in
     record {
       idle = carried.idle;
-      watched = carried.watched;
-      kept = λ watched had. carried.keeps had;
+      kept = λ had. carried.keeps had;
       reckoned = (0, inl (omega arith), λ words had. reckons_adds words c.args.ticks 0 0 _ _ _ carried.adds had);
       faults = carried.faults;
       follows = carried.follows;
@@ -26,8 +25,7 @@ loop-turn-preserved g c =
     let made = turned.turned c.loop-turn._turn at.reckoned.0 at.reckoned.1 in
     record {
       idle = turned.idle c.in-None.is at.idle;
-      watched = λ watched. turned.watched (at.watched watched);
-      kept = λ watched had. turned.keeps at.idle (at.watched watched) (at.kept watched had);
+      kept = λ had. turned.keeps at.idle (at.kept had);
       reckoned = (
         made.0,
         paid_on (c.loop-turn._turn + 1) made.0 c.turn.new.run.records c.in_ok-end.field-0 c.in-None.is made.1,
@@ -68,3 +66,9 @@ returns-clause-finishes g c = λ words turns_are had.
     let paid = paid_all c.loop-turn._turn at.0 c.loop-turn.run.records at.1 in
     spent_finishes words c.loop-turn.ticks at.0 c.loop-turn._turn _ (omega (arith, c.loop-turn.auto._turn-end, turns_are))
     (omega (arith, paid, c.loop-turn-test.false, turns_are)) (at.2 words had)
+
+pub returns-in-Some-clause-closes : goal.returns-in-Some-clause-closes
+returns-in-Some-clause-closes g c = (c.in_ok-end.ensures {u = tt}).closes c.loop-turn.invariant.idle
+
+pub returns-clause-closes : goal.returns-clause-closes
+returns-clause-closes g c = c.loop-turn.invariant.idle.none_closes

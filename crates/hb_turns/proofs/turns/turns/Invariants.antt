@@ -1,16 +1,14 @@
 use Rattle.std.specs.Prelude.{◌≡◌, ℕ, IfSome}
 use Rattle.hb_turns.specs.Reckons.{Paid, Reckons}
-use Rattle.hb_turns.specs.Stands.{Stands, Watched, IsIdle}
+use Rattle.hb_turns.specs.Stands.{Stands, IsIdle}
 use Rattle.hb_turns.specs.declared.words.ServeWords.{ServeWords}
 use Rattle.hb_turns.proofs.turns.turns.Given as goal
 
--- between two turns nothing is due, the run is kept, its links watched, and no more waits were made than turns
+-- between two turns nothing is due, the run is kept, and no more waits were made than turns
 abbrev pub invariant-loop-turn : goal.invariant-loop-turn
 invariant-loop-turn g l = record {
   idle : IsIdle (g.N.Node.shown l.run.node);
-  watched : Watched g.N.Node.shown l.fn.run → Watched g.N.Node.shown l.run;
-  kept : Watched g.N.Node.shown l.fn.run
-      → IfSome (g.W.World.trace l.fn.world) (Stands g.N.Node.stands g.N.Node.shown l.fn.run)
+  kept : IfSome (g.W.World.trace l.fn.world) (Stands g.N.Node.stands g.N.Node.shown l.fn.run)
       → IfSome (g.W.World.trace l.world) (Stands g.N.Node.stands g.N.Node.shown l.run);
   reckoned : (n : ℕ) × (Paid l._turn n l.run.records)
       × ((words : ServeWords) → IfSome (g.W.World.trace l.fn.world) (Reckons words l.fn.ticks 0 0)

@@ -1,4 +1,4 @@
-use Rattle.std.proofs.Common.{ℕ, Option, IfSome, refl, rules, sym, subst}
+use Rattle.std.proofs.Common.{ℕ, Option, IfSome, rules, sym, subst}
 use Rattle.hb_turns.specs.Reckons.{Reckons, one_less}
 use Rattle.hb_turns.specs.Stands.{Stands}
 use Rattle.hb_turns.specs.Woken.{Ticked}
@@ -9,25 +9,25 @@ use Rattle.hb_turns.proofs.Waking.{tick_told}
 use Rattle.hb_turns.proofs.waits.tick.Goals as goal
 
 pub returns-then-is_last-clause-keeps : goal.returns-then-is_last-clause-keeps
-returns-then-is_last-clause-keeps g c = λ due had.
+returns-then-is_last-clause-keeps g c = λ idle had.
     each (Ticked g.N.Node.stands g.N.Node.shown c.args.run.now) (Stands g.N.Node.stands g.N.Node.shown (record c.args.run.now { node = c.tick.new.self }))
     (g.W.World.trace c.args.world.now)
-    (tick_told g.N.Node.stands g.N.Node.shown c.args.run.now (record c.args.run.now { node = c.tick.new.self }) c.tick.ensures.tells refl refl due) had
+    (tick_told g.N.Node.stands g.N.Node.shown c.args.run.now c.tick.new.self c.tick.ensures.tells idle) had
 
 pub returns-clause-keeps : goal.returns-clause-keeps
-returns-clause-keeps g c = λ due had.
+returns-clause-keeps g c = λ idle had.
     (c.in_ok-carry.ensures {u = tt}).keeps
     (each (Ticked g.N.Node.stands g.N.Node.shown c.args.run.now) (Stands g.N.Node.stands g.N.Node.shown (record c.args.run.now { node = c.tick.new.self }))
     (g.W.World.trace c.args.world.now)
-    (tick_told g.N.Node.stands g.N.Node.shown c.args.run.now (record c.args.run.now { node = c.tick.new.self }) c.tick.ensures.tells refl refl due) had)
+    (tick_told g.N.Node.stands g.N.Node.shown c.args.run.now c.tick.new.self c.tick.ensures.tells idle) had)
 
 pub returns-in_err-carry-clause-keeps : goal.returns-in_err-carry-clause-keeps
-returns-in_err-carry-clause-keeps g c = λ due had.
+returns-in_err-carry-clause-keeps g c = λ idle had.
     left g.N.Node.stands g.N.Node.shown c.from_residual.result c.carry.new.run _ (search rules)
     ((c.in_err-carry.ensures {u = tt}).keeps
     (each (Ticked g.N.Node.stands g.N.Node.shown c.args.run.now) (Stands g.N.Node.stands g.N.Node.shown (record c.args.run.now { node = c.tick.new.self }))
     (g.W.World.trace c.args.world.now)
-    (tick_told g.N.Node.stands g.N.Node.shown c.args.run.now (record c.args.run.now { node = c.tick.new.self }) c.tick.ensures.tells refl refl due) had))
+    (tick_told g.N.Node.stands g.N.Node.shown c.args.run.now c.tick.new.self c.tick.ensures.tells idle) had))
 
 pub returns-then-is_last-clause-turned : goal.returns-then-is_last-clause-turned
 returns-then-is_last-clause-turned g c = λ words n w had.

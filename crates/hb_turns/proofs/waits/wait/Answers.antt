@@ -12,37 +12,40 @@ use Rattle.hb_turns.proofs.Waking.{wakes-tracks, wait_comes, wait_ticks}
 use Rattle.hb_turns.proofs.waits.wait.Goals as goal
 
 pub returns-in-Woke-clause-keeps : goal.returns-in-Woke-clause-keeps
-returns-in-Woke-clause-keeps g c = λ idle quiet watched had.
+returns-in-Woke-clause-keeps g c = λ idle quiet had.
     let wakes : Wakes c.args.run.now.records c.wake.new.records c.wait.new.ready =
     subst (λ (xs : List ReadyItem). Wakes c.args.run.now.records c.wake.new.records xs) c.items.ensures.items c.wake.ensures.wakes in
     rested g.N.Node.stands g.N.Node.shown c.args.run.now (record c.args.run.now { records = c.wake.new.records })
     (e.Wait c.wait.new.ready woken.Woke) (Stands g.N.Node.stands g.N.Node.shown c.args.run.now) (g.W.World.trace c.args.world.now) _ c.in-Woke.ensures.adds refl refl
     (λ notes trace. g.met.N.Node.rests notes c.args.run.now.node trace (e.Wait c.wait.new.ready woken.Woke))
     (wakes-tracks c.args.run.now.records c.wake.new.records c.wait.new.ready woken.Woke wakes)
-    (wait_comes g.N.Node.stands g.N.Node.shown c.args.run.now c.wait.new.ready woken.Woke idle quiet watched) had
+    (c.wake.ensures.watched (g.N.Node.shown c.args.run.now.node))
+    (wait_comes g.N.Node.stands g.N.Node.shown c.args.run.now c.wait.new.ready woken.Woke idle quiet) had
 
 pub returns-in-Stop-clause-keeps : goal.returns-in-Stop-clause-keeps
-returns-in-Stop-clause-keeps g c = λ idle quiet watched had.
+returns-in-Stop-clause-keeps g c = λ idle quiet had.
     let wakes : Wakes c.args.run.now.records c.wake-in-Stop.new.records c.wait.new.ready =
     subst (λ (xs : List ReadyItem). Wakes c.args.run.now.records c.wake-in-Stop.new.records xs) c.items-in-Stop.ensures.items c.wake-in-Stop.ensures.wakes in
     rested g.N.Node.stands g.N.Node.shown c.args.run.now (record c.args.run.now { records = c.wake-in-Stop.new.records })
     (e.Wait c.wait.new.ready woken.Stop) (Stands g.N.Node.stands g.N.Node.shown c.args.run.now) (g.W.World.trace c.args.world.now) _ c.in-Stop.ensures.adds refl refl
     (λ notes trace. g.met.N.Node.rests notes c.args.run.now.node trace (e.Wait c.wait.new.ready woken.Stop))
     (wakes-tracks c.args.run.now.records c.wake-in-Stop.new.records c.wait.new.ready woken.Stop wakes)
-    (wait_comes g.N.Node.stands g.N.Node.shown c.args.run.now c.wait.new.ready woken.Stop idle quiet watched) had
+    (c.wake-in-Stop.ensures.watched (g.N.Node.shown c.args.run.now.node))
+    (wait_comes g.N.Node.stands g.N.Node.shown c.args.run.now c.wait.new.ready woken.Stop idle quiet) had
 
 pub returns-in-Failed-clause-keeps : goal.returns-in-Failed-clause-keeps
-returns-in-Failed-clause-keeps g c = λ idle quiet watched had.
+returns-in-Failed-clause-keeps g c = λ idle quiet had.
     let wakes : Wakes c.args.run.now.records c.wake-in-Failed.new.records c.wait.new.ready =
     subst (λ (xs : List ReadyItem). Wakes c.args.run.now.records c.wake-in-Failed.new.records xs) c.items-in-Failed.ensures.items c.wake-in-Failed.ensures.wakes in
     rested g.N.Node.stands g.N.Node.shown c.args.run.now (record c.args.run.now { records = c.wake-in-Failed.new.records })
     (e.Wait c.wait.new.ready woken.Failed) (Stands g.N.Node.stands g.N.Node.shown c.args.run.now) (g.W.World.trace c.args.world.now) _ c.in-Failed.ensures.adds refl refl
     (λ notes trace. g.met.N.Node.rests notes c.args.run.now.node trace (e.Wait c.wait.new.ready woken.Failed))
     (wakes-tracks c.args.run.now.records c.wake-in-Failed.new.records c.wait.new.ready woken.Failed wakes)
-    (wait_comes g.N.Node.stands g.N.Node.shown c.args.run.now c.wait.new.ready woken.Failed idle quiet watched) had
+    (c.wake-in-Failed.ensures.watched (g.N.Node.shown c.args.run.now.node))
+    (wait_comes g.N.Node.stands g.N.Node.shown c.args.run.now c.wait.new.ready woken.Failed idle quiet) had
 
 pub returns-in-Tick-clause-keeps : goal.returns-in-Tick-clause-keeps
-returns-in-Tick-clause-keeps g c = λ idle quiet watched had.
+returns-in-Tick-clause-keeps g c = λ idle quiet had.
     let wakes : Wakes c.args.run.now.records c.wake-in-Tick.new.records c.wait.new.ready =
     subst (λ (xs : List ReadyItem). Wakes c.args.run.now.records c.wake-in-Tick.new.records xs) c.items-in-Tick.ensures.items
     c.wake-in-Tick.ensures.wakes in
@@ -50,11 +53,12 @@ returns-in-Tick-clause-keeps g c = λ idle quiet watched had.
     c.wait.new.ready (g.W.World.trace c.args.world.now) (g.W.World.trace c.wait.new.self) c.in-Tick.ensures.adds refl refl
     (λ notes trace. g.met.N.Node.rests notes c.args.run.now.node trace (e.Wait c.wait.new.ready woken.Tick))
     (wakes-tracks c.args.run.now.records c.wake-in-Tick.new.records c.wait.new.ready woken.Tick wakes)
-    (wait_comes g.N.Node.stands g.N.Node.shown c.args.run.now c.wait.new.ready woken.Tick idle quiet watched) had in
-    c.tick.ensures.keeps idle.due ticked
+    (c.wake-in-Tick.ensures.watched (g.N.Node.shown c.args.run.now.node))
+    (wait_comes g.N.Node.stands g.N.Node.shown c.args.run.now c.wait.new.ready woken.Tick idle quiet) had in
+    c.tick.ensures.keeps idle.idle ticked
 
 pub returns-in-NoMemory-clause-keeps : goal.returns-in-NoMemory-clause-keeps
-returns-in-NoMemory-clause-keeps g c = λ idle quiet watched had.
+returns-in-NoMemory-clause-keeps g c = λ idle quiet had.
     untold g.N.Node.stands g.N.Node.shown c.args.run.now (g.W.World.trace c.args.world.now) _ c.in-NoMemory.ensures.adds had
 
 pub returns-in-Woke-clause-turned : goal.returns-in-Woke-clause-turned
@@ -87,17 +91,11 @@ returns-in-NoMemory-clause-turned g c = λ words n w had.
     c.in-NoMemory.ensures.adds
     (λ trace r. reckons_fewer words c.args.ticks.now n n w (w + 1) trace (omega arith) (omega arith) r) had))
 
-pub returns-in-Woke-clause-watched : goal.returns-in-Woke-clause-watched
-returns-in-Woke-clause-watched g c = λ watched. c.wake.ensures.watched _ watched
-
 pub returns-in-Woke-clause-idle : goal.returns-in-Woke-clause-idle
 returns-in-Woke-clause-idle g c = λ is idle. idle
 
 pub returns-in-Woke-clause-faults : goal.returns-in-Woke-clause-faults
 returns-in-Woke-clause-faults g c = c.in-Woke.ensures.counts
-
-pub returns-in-Stop-clause-watched : goal.returns-in-Stop-clause-watched
-returns-in-Stop-clause-watched g c = λ watched. c.wake-in-Stop.ensures.watched _ watched
 
 pub returns-in-Stop-clause-idle : goal.returns-in-Stop-clause-idle
 returns-in-Stop-clause-idle g c = λ is idle. idle
@@ -105,21 +103,26 @@ returns-in-Stop-clause-idle g c = λ is idle. idle
 pub returns-in-Stop-clause-faults : goal.returns-in-Stop-clause-faults
 returns-in-Stop-clause-faults g c = c.in-Stop.ensures.counts
 
-pub returns-in-Failed-clause-watched : goal.returns-in-Failed-clause-watched
-returns-in-Failed-clause-watched g c = λ watched. c.wake-in-Failed.ensures.watched _ watched
-
 pub returns-in-Failed-clause-idle : goal.returns-in-Failed-clause-idle
 returns-in-Failed-clause-idle g c = λ is idle. idle
 
 pub returns-in-Failed-clause-faults : goal.returns-in-Failed-clause-faults
 returns-in-Failed-clause-faults g c = c.in-Failed.ensures.counts
 
-pub returns-in-Tick-clause-watched : goal.returns-in-Tick-clause-watched
-returns-in-Tick-clause-watched g c =
-    on_ok c.tick.result _ _ (λ so watched. so (c.wake-in-Tick.ensures.watched _ watched)) c.tick.ensures.watched
-
 pub returns-in-Tick-clause-idle : goal.returns-in-Tick-clause-idle
 returns-in-Tick-clause-idle g c = each_ok c.tick.result _ _ (λ end so is idle. so is) c.tick.ensures.idle
 
 pub returns-in-NoMemory-clause-faults : goal.returns-in-NoMemory-clause-faults
 returns-in-NoMemory-clause-faults g c = c.in-NoMemory.ensures.counts
+
+pub returns-in-Woke-clause-closes : goal.returns-in-Woke-clause-closes
+returns-in-Woke-clause-closes g c = λ idle. idle.none_closes
+
+pub returns-in-Stop-clause-closes : goal.returns-in-Stop-clause-closes
+returns-in-Stop-clause-closes g c = λ idle. idle.none_closes
+
+pub returns-in-Failed-clause-closes : goal.returns-in-Failed-clause-closes
+returns-in-Failed-clause-closes g c = λ idle. idle.none_closes
+
+pub returns-in-Tick-clause-closes : goal.returns-in-Tick-clause-closes
+returns-in-Tick-clause-closes g c = on_ok c.tick.result _ _ (λ so idle. so idle.none_closes) c.tick.ensures.closes
