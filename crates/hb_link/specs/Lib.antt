@@ -9,6 +9,7 @@ pub mod Going
 pub mod Load
 pub mod Looking
 pub mod Marking
+pub mod Noted
 pub mod Observed
 pub mod Putting
 pub mod Reaches
