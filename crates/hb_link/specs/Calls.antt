@@ -9,7 +9,7 @@ use Rattle.hb_world.specs.declared.entry.Entry.{Entry}
 use Rattle.hb_world.specs.declared.entry.Entry.TheVariants as e
 use Rattle.hb_inbound.specs.Calm.{wants_by, output_by}
 use Rattle.hb_inbound.specs.Inbound.{Inbound, faulted}
-use Rattle.hb_inbound.specs.Part.{Part, entry, up, applied, stopped}
+use Rattle.hb_inbound.specs.Part.{Part, entry, up, crowded, applied, stopped}
 use Rattle.hb_inbound.specs.Runs.{Local, Steps, StandsFor}
 use Rattle.hb_link.specs.declared.link.Link.{Link}
 use Rattle.hb_link.specs.Counting.{CountsPlaces}
@@ -53,6 +53,11 @@ Updates held old told new now =
 abbrev pub Begins : ℕ → Link → Type 0
 Begins l k = (start : Resources) (before : List Part) (a b : Local) → StandsFor l start a before
     → Steps l a (entry (e.Accepted l door.Inbound)) b → Reaches unguarded l b k (Some []) (Some [])
+
+-- a link is born where as many are open as may be: it is turned away
+abbrev pub TurnsAway : ℕ → Link → Type 0
+TurnsAway l k = (start : Resources) (before : List Part) (a b : Local) → StandsFor l start a before
+    → Steps l a (entry (e.Accepted l door.Inbound)) b → (c : Local) × Steps l b crowded c × Shows k c.link
 
 -- OBSERVATIONS OF THE MACHINES
 

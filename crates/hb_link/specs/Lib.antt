@@ -4,6 +4,7 @@ pub mod Answering
 pub mod Asking
 pub mod Calls
 pub mod Counting
+pub mod Fresh
 pub mod Fronting
 pub mod Going
 pub mod Load
