@@ -1,5 +1,5 @@
 -- A tunnel that ends for a cause for which its stream gets nothing.
-use Rattle.std.proofs.Common.{◌≡◌, ◌⊎◌, inr, ⊎_elim, ℕ, ◌<◌, ◌≤◌, ◌==◌, ◌&&◌, ◌||◌, is_some, IsSome, Bool, true, false, cond, List, [], ◌∷◌, ◌++◌, Option, Some, None, refl, ap, sym, ◌∙◌, subst, arith}
+use Rattle.std.proofs.Common.{◌≡◌, ◌⊎◌, inr, ⊎_elim, ℕ, ◌<◌, ◌≤◌, ◌==◌, ◌&&◌, ◌||◌, is_some, IsSome, Bool, true, false, cond, List, [], ◌∷◌, Option, Some, None, refl, ap, sym, ◌∙◌, subst, arith}
 use Rattle.std.proofs.lemmas.Bool.{false≢true, eqb-false, eqb-true, cond_both}
 use Rattle.std.proofs.lemmas.Bool.Decides.{nat_tests}
 use Rattle.std.proofs.lemmas.List.{append-nil}
@@ -24,12 +24,14 @@ use Rattle.hb_link.specs.declared.tunnel.Stage.TheVariants.{Due, Opening, Live, 
 use Rattle.hb_link.specs.declared.tunnel.Tunnel.{Tunnel}
 use Rattle.hb_link.specs.Counting.{CountsPlaces}
 use Rattle.hb_link.specs.Looking.{EndsFor, IsMute, changed_at, over_for, left_at}
+use Rattle.hb_link.specs.Noted.{Told, Takes}
 use Rattle.hb_link.specs.Reaches.{Guard, Follows}
 use Rattle.hb_link.specs.Settling.{MayLook}
 use Rattle.hb_link.specs.Shows.{ShowsBy}
 use Rattle.hb_link.specs.Tunnels.{stage_of, tunnel_of, as_told, place_in, has_place, ShowsAt, ShowsTunnel}
 use Rattle.hb_link.proofs.Changed.{changed_here, changed_elsewhere}
 use Rattle.hb_link.proofs.Moving.{Map, link_with, machine_with, Only, only_one, only_again, at_only}
+use Rattle.hb_link.proofs.Noted.{takes_none}
 use Rattle.hb_link.proofs.Shown.{place_tunnel}
 
 -- WHERE NOTHING ENDS
@@ -96,7 +98,7 @@ module _ (tunnels : Map) (s : ℕ) (why : Cause) (old : Tunnel) (is : get tunnel
       by true at = subst (λ (i : ℕ). i ≤ largest) (sym (eqb-true j s at)) (each s (ap is_some is))
       by false at = each j (subst (λ (o : Option Tunnel). IsSome o) (left_others j at) some)
 
-module _ (others limit : ℕ) (k : Link) (s : ℕ) (why : Cause) (mute : IsMute why) (told : List Note) (start : Resources)
+module _ (others limit : ℕ) (k : Link) (s : ℕ) (why : Cause) (mute : IsMute why) (told : Told) (start : Resources)
     (before : List Part) (a : Local) (stands : StandsFor k.number start a before) (ends : EndsFor s why k a.link) where
   abbrev G : Guard
   G = CountsPlaces others limit
@@ -154,7 +156,7 @@ module _ (others limit : ℕ) (k : Link) (s : ℕ) (why : Cause) (mute : IsMute 
         reached = here;
         leads = refl;
         shows = may;
-        noted = sym (append-nil told);
+        noted = takes_none told;
       })
 
   -- the one that was there is left
@@ -178,13 +180,14 @@ module _ (others limit : ℕ) (k : Link) (s : ℕ) (why : Cause) (mute : IsMute 
         (left_others k.tunnels s why old is) (left_shown k.tunnels s why old is (z.tunnels s) up_is) (left_answered why (z.tunnels s))
         (left_numbered k.tunnels s why old is ends.may.agrees.numbered)
 
-    leaves : Leaves k.number s z (z.tunnels s).stage made next → Follows G MayLook k.number a new told (told ++ note_if made)
-    leaves may_leave = subst (λ (b : Local). Follows G MayLook k.number b new told (told ++ note_if made)) (sym same) (record {
+    leaves : Leaves k.number s z (z.tunnels s).stage made next → (now : Told) → Takes told (note_if made) now
+        → Follows G MayLook k.number a new told now
+    leaves may_leave now took = subst (λ (b : Local). Follows G MayLook k.number b new told now) (sym same) (record {
       parts = left s made ∷ [];
       reached = with_link last here;
       leads = (tt, tt, with_link last here, (next, may_leave, refl), refl);
       shows = may;
-      noted = ap (λ (ns : List Note). told ++ ns) (sym (append-nil (note_if made)));
+      noted = subst (λ (ns : List Note). Takes told ns now) (sym (append-nil (note_if made))) took;
     })
 
   -- the others are answered
@@ -197,26 +200,24 @@ module _ (others limit : ℕ) (k : Link) (s : ℕ) (why : Cause) (mute : IsMute 
       → Follows G MayLook k.number a (link_with k.conn (left_at s why old.up k.tunnels) k) told told
   pending_left old is told_at failed =
       let stage = ap (λ (v : Machine). v.stage) only.this ∙ failed in
-      subst (λ (ns : List Note). Follows G MayLook k.number a (link_with k.conn (left_at s why old.up k.tunnels) k) told ns)
-      (append-nil told)
-      (leaves old is told_at None
+      leaves old is told_at None
       (subst (λ (st : t.Stage). Leaves k.number s z st None (left_with why (z.tunnels s))) (sym stage) (
         (λ j below. others_failed j (below_apart j s below)),
         none_due (is_serving z.phase && own_side_open z.conn s) _ mute.0,
         refl,
         refl,
-      )))
+      ))
+      told (takes_none told)
 
   -- it was live
-  live_left : (old : Tunnel) → get k.tunnels s ≡ Some old → as_told at ≡ tunnel_of old → ends_by why at.stage ≡ t.ended why
-      → Follows G MayLook k.number a (link_with k.conn (left_at s why old.up k.tunnels) k) told
-      (told ++ note.End k.number s why old.went_up old.went_down ∷ [])
-  live_left old is told_at ended =
+  live_left : (old : Tunnel) → get k.tunnels s ≡ Some old → as_told at ≡ tunnel_of old → ends_by why at.stage ≡ t.ended why → (now : Told)
+      → Takes told (note.End k.number s why old.went_up old.went_down ∷ []) now
+      → Follows G MayLook k.number a (link_with k.conn (left_at s why old.up k.tunnels) k) told now
+  live_left old is told_at ended now took =
       let stage = ap (λ (v : Machine). v.stage) only.this ∙ ended in
       let says : end_note k.number s why (z.tunnels s) ≡ note.End k.number s why old.went_up old.went_down =
       ap (end_note k.number s why) only.this ∙ ap (λ (v : Machine). note.End k.number s why v.went_up v.went_down) told_at in
-      subst (λ (n : Note). Follows G MayLook k.number a (link_with k.conn (left_at s why old.up k.tunnels) k) told (told ++ n ∷ [])) says
-      (leaves old is told_at (Some (end_note k.number s why (z.tunnels s)))
+      leaves old is told_at (Some (end_note k.number s why (z.tunnels s)))
       (subst (λ (st : t.Stage). Leaves k.number s z st (Some (end_note k.number s why (z.tunnels s))) (left_with why (z.tunnels s)))
       (sym stage) (
         (
@@ -229,7 +230,8 @@ module _ (others limit : ℕ) (k : Link) (s : ℕ) (why : Cause) (mute : IsMute 
         none_due (is_serving z.phase && ((sides z.conn s).own || (sides z.conn s).peer)) _ mute.1,
         refl,
         refl,
-      )))
+      ))
+      now (subst (λ (n : Note). Takes told (n ∷ []) now) (sym says) took)
 
   -- what the code finds
   finds_at : (old : Tunnel) (stage : Stage) → get k.tunnels s ≡ Some old → old.stage ≡ stage → place_in stage ≡ true
@@ -262,11 +264,10 @@ module _ (others limit : ℕ) (k : Link) (s : ℕ) (why : Cause) (mute : IsMute 
       let told_at = finds_at old Opening is opening refl in pending_left old is told_at (ends_at old Opening opening told_at))
       stage)
 
-  pub live_ends : (old : Tunnel) (tunnels : Map) (now : List Note) → get k.tunnels s ≡ Some old → old.stage ≡ Live
-      → tunnels ≡ left_at s why old.up k.tunnels → now ≡ told ++ note.End k.number s why old.went_up old.went_down ∷ []
+  pub live_ends : (old : Tunnel) (tunnels : Map) (now : Told) → get k.tunnels s ≡ Some old → old.stage ≡ Live
+      → tunnels ≡ left_at s why old.up k.tunnels → Takes told (note.End k.number s why old.went_up old.went_down ∷ []) now
       → Follows G MayLook k.number a (link_with k.conn tunnels k) told now
-  live_ends old tunnels now is live changed noted =
+  live_ends old tunnels now is live changed took =
       let told_at = finds_at old Live is live refl in
       subst (λ (map : Map). Follows G MayLook k.number a (link_with k.conn map k) told now) (sym changed)
-      (subst (λ (ns : List Note). Follows G MayLook k.number a (link_with k.conn (left_at s why old.up k.tunnels) k) told ns) (sym noted)
-      (live_left old is told_at (ends_at old Live live told_at)))
+      (live_left old is told_at (ends_at old Live live told_at) now took)

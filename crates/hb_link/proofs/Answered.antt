@@ -1,7 +1,6 @@
 -- What the stream of a tunnel gets that ended.
 use Rattle.std.proofs.Common.{◌≡◌, ℕ, ◌+◌, ◌≤◌, ◌&&◌, ◌||◌, Bool, true, false, cond, is_some, List, [], ◌∷◌, ◌++◌, Option, Some, None, refl, ap, ap₂, sym, ◌∙◌, subst}
 use Rattle.std.proofs.lemmas.Bool.{false≢true}
-use Rattle.std.proofs.lemmas.List.{append-nil}
 use Rattle.std.specs.FinMap.{get}
 use Rattle.hb_base.specs.declared.cause.Cause.{Cause}
 use Rattle.hb_base.specs.declared.note.Note.{Note}
@@ -28,6 +27,7 @@ use Rattle.hb_link.specs.declared.tunnel.Stage.TheVariants.{Failed, Ended}
 use Rattle.hb_link.specs.declared.tunnel.Tunnel.{Tunnel}
 use Rattle.hb_link.specs.Answering.{status_of_end, code_of_end, left_of, NoneIs, GotFailed, GotEnded}
 use Rattle.hb_link.specs.Counting.{CountsPlaces}
+use Rattle.hb_link.specs.Noted.{Told, Takes}
 use Rattle.hb_link.specs.Observed.{serves_in}
 use Rattle.hb_link.specs.Reaches.{Follows}
 use Rattle.hb_link.specs.Settling.{Agrees}
@@ -35,6 +35,7 @@ use Rattle.hb_link.specs.Shows.{ShowsBy}
 use Rattle.hb_link.specs.Tunnels.{phase_of, stage_of, tunnel_of, as_told, ShowsAt, ShowsTunnel}
 use Rattle.hb_link.proofs.Leaves.{StaysBy, same_stays, agrees_left, none_left, one_left}
 use Rattle.hb_link.proofs.Moving.{Map, link_with}
+use Rattle.hb_link.proofs.Noted.{takes_none}
 
 -- the link serves, and of its connection this holds: in code as in the machine
 module _ (k : Link) (x : Inbound) (agrees : Agrees k x) (g : Connection → Bool) where
@@ -98,7 +99,7 @@ module _ (k : Link) (x : Inbound) (agrees : Agrees k x) (s : ℕ) (old : Tunnel)
   pub told_ended : old.stage ≡ Ended why → as_told (x.tunnels s) ≡ tunnel_of old
   told_ended at = (subst (λ (stage : Stage). ShowsAt (stage_of stage) old (x.tunnels s)) at shown_here).0
 
-module _ (others limit : ℕ) (a : Local) (k : Link) (s : ℕ) (old : Tunnel) (is : get k.tunnels s ≡ Some old) (why : Cause) (told : List Note)
+module _ (others limit : ℕ) (a : Local) (k : Link) (s : ℕ) (old : Tunnel) (is : get k.tunnels s ≡ Some old) (why : Cause) (told : Told)
     (agrees : Agrees k a.link) (telling : as_told (a.link.tunnels s) ≡ tunnel_of old) where
   abbrev x : Inbound
   x = a.link
@@ -112,7 +113,7 @@ module _ (others limit : ℕ) (a : Local) (k : Link) (s : ℕ) (old : Tunnel) (i
   abbrev left : Map
   left = left_of old why k.tunnels s
 
-  abbrev Reached : (Link → Inbound → Type 0) → Connection → List Note → Type 0
+  abbrev Reached : (Link → Inbound → Type 0) → Connection → Told → Type 0
   Reached Q c now = Follows (CountsPlaces others limit) Q k.number a (link_with c left k) told now
 
   abbrev with_conn : Connection → Local
@@ -129,11 +130,11 @@ module _ (others limit : ℕ) (a : Local) (k : Link) (s : ℕ) (old : Tunnel) (i
       failed = one_left is_failed refl x s why refl d failed;
     }
 
-    pub failed_put : (n : ℕ) → status_of_end k s why ≡ Some n
+    pub failed_put : (n : ℕ) → status_of_end k s why ≡ Some n → (now : Told)
+        → Takes told (note.Verdict k.number s n k.peer (Some old.target) ∷ []) now
         → Follows (CountsPlaces others limit) (GotFailed (Some (s + 1))) k.number a
-        (link_with (refused_on s n (sides k.conn s).peer k.conn) (left_of old why k.tunnels s) k)
-        told (told ++ note.Verdict k.number s n k.peer (Some old.target) ∷ [])
-    failed_put n due =
+        (link_with (refused_on s n (sides k.conn s).peer k.conn) (left_of old why k.tunnels s) k) told now
+    failed_put n due now took =
         let serving = gives_serving k x agrees (λ (c : Connection). own_side_open c s) (failure_status why) n due in
         let way = subst (λ (phase : m.Phase). ShowsBy phase k x) serving agrees.way in
         let d = refused_on s n (sides x.conn s).peer x.conn in
@@ -163,7 +164,7 @@ module _ (others limit : ℕ) (a : Local) (k : Link) (s : ℕ) (old : Tunnel) (i
                 ap (λ (c : Connection). refused_on s n (sides c s).peer c) way.0,
                 refused_kept x.conn s n (sides x.conn s).peer (agrees.numbered s (ap is_some is)) way.1,
               ));
-          noted = refl;
+          noted = took;
         }
 
     pub failed_left : status_of_end k s why ≡ None
@@ -185,7 +186,7 @@ module _ (others limit : ℕ) (a : Local) (k : Link) (s : ℕ) (old : Tunnel) (i
         refl,
       );
       shows = got_failed k.conn x.conn (same_stays x.phase k x agrees.way);
-      noted = sym (append-nil told);
+      noted = takes_none told;
     }
 
   -- one that ended
@@ -203,11 +204,10 @@ module _ (others limit : ℕ) (a : Local) (k : Link) (s : ℕ) (old : Tunnel) (i
     made_is : made ≡ end_note k.number s why at
     made_is = sym (ap (λ (z : Machine). note.End k.number s why z.went_up z.went_down) telling)
 
-    pub ended_put : (n : ℕ) → code_of_end k s why ≡ Some n
+    pub ended_put : (n : ℕ) → code_of_end k s why ≡ Some n → (now : Told) → Takes told (made ∷ []) now
         → Follows (CountsPlaces others limit) (GotEnded (Some (s + 1))) k.number a
-        (link_with (aborted k.conn s n) (left_of old why k.tunnels s) k) told
-        (told ++ note.End k.number s why old.went_up old.went_down ∷ [])
-    ended_put n due =
+        (link_with (aborted k.conn s n) (left_of old why k.tunnels s) k) told now
+    ended_put n due now took =
         let serving =
         gives_serving k x agrees (λ (c : Connection). (sides c s).own || (sides c s).peer) (end_code why) n due in
         let way = subst (λ (phase : m.Phase). ShowsBy phase k x) serving agrees.way in
@@ -231,13 +231,13 @@ module _ (others limit : ℕ) (a : Local) (k : Link) (s : ℕ) (old : Tunnel) (i
           shows = got_ended (aborted k.conn s n) d
               (subst (λ (phase : m.Phase). StaysBy k x (aborted k.conn s n) d phase) (sym serving)
               (ap (λ (c : Connection). aborted c s n) way.0, resets_kept x.conn s n way.1));
-          noted = refl;
+          noted = took;
         }
 
-    pub ended_left : code_of_end k s why ≡ None
+    pub ended_left : code_of_end k s why ≡ None → (now : Told) → Takes told (made ∷ []) now
         → Follows (CountsPlaces others limit) (GotEnded (Some (s + 1))) k.number a (link_with k.conn (left_of old why k.tunnels s) k)
-        told (told ++ note.End k.number s why old.went_up old.went_down ∷ [])
-    ended_left due = record {
+        told now
+    ended_left due now took = record {
       parts = part.left s (Some made) ∷ [];
       reached = with_conn x.conn;
       leads = (
@@ -253,5 +253,5 @@ module _ (others limit : ℕ) (a : Local) (k : Link) (s : ℕ) (old : Tunnel) (i
         refl,
       );
       shows = got_ended k.conn x.conn (same_stays x.phase k x agrees.way);
-      noted = refl;
+      noted = took;
     }

@@ -1,5 +1,5 @@
 -- How a request is answered.
-use Rattle.std.proofs.Common.{◌≡◌, inr, ℕ, zero, suc, ◌+◌, ◌-◌, ◌<◌, ◌≤◌, ◌==◌, not, Bool, true, false, cond, is_some, IsSome, if◌then◌else◌, List, [], ◌∷◌, ◌++◌, Option, Some, None, refl, ap, ap₂, sym, ◌∙◌, subst, arith}
+use Rattle.std.proofs.Common.{◌≡◌, inr, ℕ, zero, suc, ◌+◌, ◌-◌, ◌<◌, ◌≤◌, ◌==◌, not, Bool, true, false, cond, is_some, IsSome, if◌then◌else◌, List, [], ◌∷◌, Option, Some, None, refl, ap, ap₂, sym, ◌∙◌, subst, arith}
 use Rattle.std.proofs.lemmas.Bool.{eqb-false, eqb-true}
 use Rattle.std.proofs.lemmas.Bool.Decides.{nat_tests}
 use Rattle.std.proofs.lemmas.List.{append-nil}
@@ -40,12 +40,14 @@ use Rattle.hb_link.specs.declared.tunnel.Tunnel.{Tunnel}
 use Rattle.hb_link.specs.Asking.{due_to, FindsFull, HasSpare, IsAnswerable, IsRequested}
 use Rattle.hb_link.specs.Counting.{CountsPlaces}
 use Rattle.hb_link.specs.Load.{load_below, HasLoad}
+use Rattle.hb_link.specs.Noted.{Told, Takes}
 use Rattle.hb_link.specs.Reaches.{Guard, IsInner, Follows}
 use Rattle.hb_link.specs.Settling.{MayLook}
 use Rattle.hb_link.specs.Shows.{ShowsBy}
 use Rattle.hb_link.specs.Tunnels.{stage_of, ShowsAt, ShowsTunnel}
 use Rattle.hb_link.proofs.Living.{serving_waits}
 use Rattle.hb_link.proofs.Moving.{Map, link_with, Only, only_one, only_again, at_only}
+use Rattle.hb_link.proofs.Noted.{takes_none}
 use Rattle.hb_link.proofs.Refusals.{refused_fares, reset_fares}
 
 -- PLACES
@@ -102,7 +104,7 @@ numbered_with tunnels s new each number j some = by (j == s) refl
 
 -- A REQUEST THAT WAITS FOR ITS ANSWER
 
-module _ (others limit : ℕ) (q : Asked) (k : Link) (told : List Note) (start : Resources) (before : List Part) (a : Local)
+module _ (others limit : ℕ) (q : Asked) (k : Link) (told : Told) (start : Resources) (before : List Part) (a : Local)
     (stands : StandsFor k.number start a before) (ask : IsRequested q k a.link) where
   abbrev G : Guard
   G = CountsPlaces others limit
@@ -176,20 +178,20 @@ module _ (others limit : ℕ) (q : Asked) (k : Link) (told : List Note) (start :
       reached = next;
       leads = (tt, guard, next, step, refl);
       shows = may;
-      noted = sym (append-nil told);
+      noted = takes_none told;
     })
 
     -- or a refusal or a reset follows
     two_parts : (n : Link) (p : Part) (last : Inbound) (notes : List Note) → IsInner p → G next p
-        → Steps k.number next p (with_link last next) → note_in p ≡ notes → MayLook n last
-        → Follows G MayLook k.number a n told (told ++ notes)
-    two_parts n p last notes inner holds behind noted may =
-        subst (λ (b : Local). Follows G MayLook k.number b n told (told ++ notes)) (sym same) (record {
+        → Steps k.number next p (with_link last next) → note_in p ≡ notes → MayLook n last → (now : Told)
+        → Takes told notes now → Follows G MayLook k.number a n told now
+    two_parts n p last notes inner holds behind noted may now took =
+        subst (λ (b : Local). Follows G MayLook k.number b n told now) (sym same) (record {
           parts = decided s full answer ∷ p ∷ [];
           reached = with_link last next;
           leads = (tt, guard, next, step, (inner, holds, with_link last next, behind, refl));
           shows = may;
-          noted = ap (λ (ns : List Note). told ++ ns) (sym noted ∙ sym (append-nil (note_in p)));
+          noted = subst (λ (ns : List Note). Takes told ns now) (sym noted ∙ sym (append-nil (note_in p))) took;
         })
 
     -- of the machine's tunnel nothing is left, with another connection that fares
@@ -244,9 +246,9 @@ module _ (others limit : ℕ) (q : Asked) (k : Link) (told : List Note) (start :
 
   -- a refusal is put
   pub refused_looks : (full : Bool) (counts : FindsFull others limit k full) (n : ℕ) (is : IsAnswerTo here ask.headers full (Status n))
-      → 100 ≤ n → n < 1000 → Follows G MayLook k.number a (link_with (refused_on s n (sides k.conn s).peer k.conn) k.tunnels k) told
-      (told ++ note.Verdict k.number s n k.peer q.target ∷ [])
-  refused_looks full counts n is low high =
+      → 100 ≤ n → n < 1000 → (now : Told) → Takes told (note.Verdict k.number s n k.peer q.target ∷ []) now
+      → Follows G MayLook k.number a (link_with (refused_on s n (sides k.conn s).peer k.conn) k.tunnels k) told now
+  refused_looks full counts n is low high now took =
       let x2 = w full counts (Status n) is in
       let gone = at_stage t.gone (x2.tunnels s) in
       let resets = (sides y.conn s).peer in
@@ -258,9 +260,7 @@ module _ (others limit : ℕ) (q : Asked) (k : Link) (told : List Note) (start :
       ap (λ (c : Connection). refused_on s n (sides c s).peer c) way.0 in
       let says : put ≡ note.Verdict k.number s n k.peer q.target =
       ap₂ (λ (p : Peer) (o : Option Target). note.Verdict k.number s n p o) way.2 (sym ask.target) in
-      subst (λ (v : Note). Follows G MayLook k.number a (link_with (refused_on s n (sides k.conn s).peer k.conn) k.tunnels k) told
-      (told ++ v ∷ [])) says
-      (two_parts full counts (Status n) is (link_with (refused_on s n (sides k.conn s).peer k.conn) k.tunnels k)
+      two_parts full counts (Status n) is (link_with (refused_on s n (sides k.conn s).peer k.conn) k.tunnels k)
       (refused s n resets put) last (put ∷ []) tt tt (
         ask.may.serving,
         gone,
@@ -270,22 +270,21 @@ module _ (others limit : ℕ) (q : Asked) (k : Link) (told : List Note) (start :
       )
       refl
       (gone_looks full counts (Status n) is (refused_on s n (sides k.conn s).peer k.conn) d gone refl conn
-      (refused_fares y.conn s n resets ask.number low high spare_here ask.may.fares.kept)))
+      (refused_fares y.conn s n resets ask.number low high spare_here ask.may.fares.kept))
+      now (subst (λ (v : Note). Takes told (v ∷ []) now) (sym says) took)
 
   -- the stream is reset
-  pub reset_looks : (full : Bool) (counts : FindsFull others limit k full) (is : IsAnswerTo here ask.headers full Reset)
-      → Follows G MayLook k.number a (link_with (aborted k.conn s 1) k.tunnels k) told
-      (told ++ note.Verdict k.number s 0 k.peer None ∷ [])
-  reset_looks full counts is =
+  pub reset_looks : (full : Bool) (counts : FindsFull others limit k full) (is : IsAnswerTo here ask.headers full Reset) → (now : Told)
+      → Takes told (note.Verdict k.number s 0 k.peer None ∷ []) now
+      → Follows G MayLook k.number a (link_with (aborted k.conn s 1) k.tunnels k) told now
+  reset_looks full counts is now took =
       let x2 = w full counts Reset is in
       let gone = at_stage t.gone (x2.tunnels s) in
       let d = aborted y.conn s 1 in
       let put = note.Verdict k.number s 0 y.peer None in
       let stage = ap (λ (v : Machine). v.stage) (only_made full counts Reset is).this in
       let last = with_tunnel s gone d x2 in
-      subst (λ (p : Peer). Follows G MayLook k.number a (link_with (aborted k.conn s 1) k.tunnels k) told
-      (told ++ note.Verdict k.number s 0 p None ∷ [])) way.2
-      (two_parts full counts Reset is (link_with (aborted k.conn s 1) k.tunnels k) (reset s 1 put) last (put ∷ []) tt tt (
+      two_parts full counts Reset is (link_with (aborted k.conn s 1) k.tunnels k) (reset s 1 put) last (put ∷ []) tt tt (
         ask.may.serving,
         gone,
         subst (λ (st : t.Stage). Resets k.number s x2 st 1 put gone) (sym stage) (refl, refl, refl),
@@ -293,7 +292,8 @@ module _ (others limit : ℕ) (q : Asked) (k : Link) (told : List Note) (start :
       )
       refl
       (gone_looks full counts Reset is (aborted k.conn s 1) d gone refl (ap (λ (c : Connection). aborted c s 1) way.0)
-      (reset_fares y.conn s 1 ask.number spare_here ask.may.fares.kept)))
+      (reset_fares y.conn s 1 ask.number spare_here ask.may.fares.kept))
+      now (subst (λ (p : Peer). Takes told (note.Verdict k.number s 0 p None ∷ []) now) (sym way.2) took)
 
   -- the answer by what is held
   pub answers : (held : Resources) (full : Bool) → a.held ≡ held → verdict q.request held k.peer full ≡ verdict_on here ask.headers full
@@ -358,12 +358,10 @@ verdict_fits Malformed held peer full n fits is = absurd (cc)
 verdict_fits (Connect target) held peer full n fits is =
     dial_fits (not (synced held)) (judged held peer target) target full n is
 
--- the same link, and the same notes
-pub goes_as : (k : Link) {guard : Guard} {a : Local} {m n : Link} {told now later : List Note} → n ≡ m → later ≡ now
-    → m.number ≡ k.number → Follows guard MayLook k.number a m told now
-    → (n.number ≡ k.number) × Follows guard MayLook k.number a n told later
-goes_as k {guard = guard} {a = a} {n = n} {told = told} {now = now} equal noted number follows = (
+-- the same link
+pub goes_as : (k : Link) {guard : Guard} {a : Local} {m n : Link} {told now : Told} → n ≡ m → m.number ≡ k.number
+    → Follows guard MayLook k.number a m told now → (n.number ≡ k.number) × Follows guard MayLook k.number a n told now
+goes_as k {guard = guard} {a = a} {n = n} {told = told} {now = now} equal number follows = (
   ap (λ (l : Link). l.number) equal ∙ number,
-  subst (λ (ns : List Note). Follows guard MayLook k.number a n told ns) (sym noted)
-      (subst (λ (l : Link). Follows guard MayLook k.number a l told now) (sym equal) follows),
+  subst (λ (l : Link). Follows guard MayLook k.number a l told now) (sym equal) follows,
 )

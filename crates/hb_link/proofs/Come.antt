@@ -1,12 +1,9 @@
 -- Bytes that come on a link.
 use Rattle.std.proofs.Common.{◌≡◌, inl, inr, ℕ, ◌+◌, ◌-◌, ◌≤◌, true, false, List, [], ◌∷◌, ◌++◌, length, drop, Option, None, refl, ap, ap₂, sym, ◌∙◌, subst, arith, length-drop}
 use Rattle.std.proofs.lemmas.Bool.{false≢true}
-use Rattle.std.proofs.lemmas.List.{append_assoc, append-nil}
-use Rattle.std.proofs.lemmas.List.Concat.{flat_map-append}
 use Rattle.std.specs.FinMap.{get}
 use Rattle.hb_base.specs.declared.cause.Cause.TheVariants as cause
 use Rattle.hb_base.specs.declared.identity.Identity.{Identity}
-use Rattle.hb_base.specs.declared.note.Note.{Note}
 use Rattle.hb_conn.specs.Connection.{Connection, fresh_server, taken}
 use Rattle.hb_conn.specs.Observed.{room}
 use Rattle.hb_frames.proofs.Runs.{octets_drop}
@@ -22,7 +19,7 @@ use Rattle.hb_world.specs.declared.entry.Entry.TheVariants as e
 use Rattle.hb_inbound.specs.Calm.{wants_by, longest_front, RestsIn}
 use Rattle.hb_inbound.specs.Inbound as m
 use Rattle.hb_inbound.specs.Inbound.{Inbound, came_by, with_phase, lacking, fronted_by}
-use Rattle.hb_inbound.specs.Part.{Part, entry, lacked, fronted, misfronted, notes, note_in}
+use Rattle.hb_inbound.specs.Part.{Part, entry, lacked, fronted, misfronted, note_in}
 use Rattle.hb_inbound.specs.Runs.{Local, StandsFor, goes_on, MayCome, Steps, Identifies, Lacks, with_link}
 use Rattle.hb_inbound.specs.Tunnel as t
 use Rattle.hb_inbound.specs.Tunnel.{ends_by, is_unanswered}
@@ -35,6 +32,7 @@ use Rattle.hb_link.specs.declared.phase.Phase.TheVariants.{Fronting, Serving, Fa
 use Rattle.hb_link.specs.Calls.{Takes}
 use Rattle.hb_link.specs.Counting.{CountsPlaces}
 use Rattle.hb_link.specs.Fronting.{Fronts, TakesFront, HasCome, begun_with}
+use Rattle.hb_link.specs.Noted.{Told}
 use Rattle.hb_link.specs.Observed.{serves_in}
 use Rattle.hb_link.specs.Reaches.{Guard, IsInner, Leads, Follows}
 use Rattle.hb_link.specs.Settling.{MayPut, MayLook, LookedIn, Settles}
@@ -42,6 +40,7 @@ use Rattle.hb_link.specs.Shows.{Shows, ShowsBy}
 use Rattle.hb_link.specs.Tunnels.{phase_of, ShowsTunnel}
 use Rattle.hb_link.proofs.Asked.{none_there}
 use Rattle.hb_link.proofs.Living.{is_serving}
+use Rattle.hb_link.proofs.Noted.{takes_none, takes_quiet, parts_then}
 use Rattle.hb_link.proofs.Settles.{agrees, leads_append, leads_hold, stands_behind}
 
 -- BEFORE THE LOOKS
@@ -83,7 +82,7 @@ looks_first k x on come = by x.phase refl come
     by m.closed is come = absurd (let never = sym is ∙ come.agrees.phase ∙ serving_code k.phase on in cc)
 
 -- where one condition gives another, what settles from that does from this
-pub settles_from : (others limit : ℕ) (H : Resources → Type 0) (P Q R : Link → Inbound → Type 0) (k n : Link) (told now : List Note)
+pub settles_from : (others limit : ℕ) (H : Resources → Type 0) (P Q R : Link → Inbound → Type 0) (k n : Link) (told now : Told)
     → ((x : Inbound) → P k x → Q k x) → Settles others limit H Q R k told n now → Settles others limit H P R k told n now
 settles_from others limit H P Q R k n told now gives settles start before a stands holds is =
     settles start before a stands holds (gives a.link is)
@@ -97,7 +96,7 @@ fresh_room = refl
 fresh_fares : (bytes : List ℕ) → AreOctets bytes → length bytes ≤ longest_front → Fares (taken fresh_server bytes)
 fresh_fares bytes octets few = taken_fares fresh_server bytes (new_is_kept Server) (refl, refl) octets (omega (arith, few, fresh_room))
 
-module _ (others limit : ℕ) (held : Resources) (k : Link) (bytes : List ℕ) (told : List Note) (start : Resources)
+module _ (others limit : ℕ) (held : Resources) (k : Link) (bytes : List ℕ) (told : Told) (start : Resources)
     (before : List Part) (a : Local) (stands : StandsFor k.number start a before) (shows : Shows k a.link)
     (may : MayCome k.number a.link (e.Came k.number bytes)) where
   abbrev G : Guard
@@ -140,7 +139,7 @@ module _ (others limit : ℕ) (held : Resources) (k : Link) (bytes : List ℕ) (
       let come : HasCome y.phase n y = subst (λ (phase : m.Phase). HasCome phase n y) (sym serving) looks in
       subst (λ (phase : m.Phase). Follows G (λ n y. HasCome y.phase n y) k.number (with_link (came_by phase bytes x) a) n told told)
       (sym serving)
-      (record { parts = []; reached = with_link y a; leads = refl; shows = come; noted = sym (append-nil told) })
+      (record { parts = []; reached = with_link y a; leads = refl; shows = come; noted = takes_none told })
 
   -- they come of a front header
   module _ (is : k.phase ≡ Fronting) where
@@ -190,7 +189,7 @@ module _ (others limit : ℕ) (held : Resources) (k : Link) (bytes : List ℕ) (
       reached = with_link z here;
       leads = (inner, guard, with_link z here, step, refl);
       shows = come;
-      noted = sym (ap (λ (ns : List Note). told ++ (ns ++ [])) quiet ∙ append-nil told);
+      noted = takes_quiet told p quiet;
     }
 
     more : IsAnswer k1.front More → Follows G Come k.number here k1 told told
@@ -209,7 +208,7 @@ module _ (others limit : ℕ) (held : Resources) (k : Link) (bytes : List ℕ) (
         looked = subst (λ (phase : m.Phase). LookedIn phase y) (sym fronting)
             (subst (λ (bs : List ℕ). IsAnswer bs More) (sym front_is) answer);
       });
-      noted = sym (append-nil told);
+      noted = takes_none told;
     }
 
     -- the header is at fault, or memory is wanting
@@ -295,7 +294,7 @@ module _ (others limit : ℕ) (held : Resources) (k : Link) (bytes : List ℕ) (
         subst (λ (w : Local). Follows G Come k.number w n told told) (sym same) (by_answer n takes.0 takes.1 takes.2)
 
   -- and what follows then
-  then_settles : (mid new : Link) (now : List Note) → a.held ≡ held → mid.number ≡ k.number
+  then_settles : (mid new : Link) (now : Told) → a.held ≡ held → mid.number ≡ k.number
       → Follows G (λ n y. HasCome y.phase n y) k.number b mid told told
       → Settles others limit (λ h. h ≡ held) (λ n y. HasCome y.phase n y) Shows mid told new now
       → (new.number ≡ k.number) × Follows G Shows k.number b new told now
@@ -312,9 +311,7 @@ module _ (others limit : ℕ) (held : Resources) (k : Link) (bytes : List ℕ) (
           leads = leads_append G k.number b first.reached last.reached first.parts last.parts first.leads
               (subst (λ (i : ℕ). Leads G i first.reached last.parts last.reached) number last.leads);
           shows = last.shows;
-          noted = last.noted ∙ ap (λ (ns : List Note). ns ++ notes last.parts) first.noted
-              ∙ append_assoc told (notes first.parts) (notes last.parts)
-              ∙ ap (λ (ns : List Note). told ++ ns) (sym (flat_map-append note_in first.parts last.parts));
+          noted = parts_then told told now first.parts last.parts first.noted last.noted;
         },
       )
 
@@ -326,7 +323,7 @@ same_number k n (Fault why) fronts = ap (λ (l : Link). l.number) fronts
 same_number k n (Whole seen) (inl lack) = ap (λ (l : Link). l.number) lack
 same_number k n (Whole seen) (inr (identity, tells, begins)) = ap (λ (l : Link). l.number) begins
 
-module _ (others limit : ℕ) (held : Resources) (k mid new : Link) (bytes : List ℕ) (told now : List Note)
+module _ (others limit : ℕ) (held : Resources) (k mid new : Link) (bytes : List ℕ) (told now : Told)
     (settles : Settles others limit (λ h. h ≡ held) (λ n y. HasCome y.phase n y) Shows mid told new now) where
   pub takes_served : k.phase ≡ Serving → mid ≡ record k { conn = taken k.conn bytes } → Takes held others limit bytes k told new now
   takes_served is same start before a b stands shows holds step =

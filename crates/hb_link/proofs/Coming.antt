@@ -1,5 +1,5 @@
 -- Bytes that come from an upstream.
-use Rattle.std.proofs.Common.{◌≡◌, ℕ, ◌+◌, ◌-◌, ◌<◌, ◌≤◌, ◌==◌, ◌&&◌, not, Bool, true, false, cond, min, List, [], ◌∷◌, ◌++◌, length, drop, Some, refl, ap, ap₂, sym, ◌∙◌, subst, arith, length-append, if◌then◌else◌}
+use Rattle.std.proofs.Common.{◌≡◌, ℕ, ◌+◌, ◌-◌, ◌<◌, ◌≤◌, ◌==◌, ◌&&◌, not, Bool, true, false, cond, min, List, [], ◌∷◌, ◌++◌, length, drop, Some, refl, ap, ap₂, sym, ◌∙◌, subst, arith, length-append, if◌then◌else◌, inr}
 use Rattle.std.proofs.lemmas.Bool.{false≢true}
 use Rattle.std.proofs.lemmas.Bool.Decides.{nat_tests}
 use Rattle.std.proofs.lemmas.List.{nil_from_length}
@@ -183,8 +183,8 @@ module _ (l : ℕ) (a : Local) (k : Link) (shows : Shows k a.link) (s u : ℕ) (
 
     some_goes : Reaches unguarded l (with_link y a)
         (link_with (data_put k.conn s bytes)
-        (insert k.tunnels s (here_with (old.ways.down.held ++ drop (count_put k.conn s bytes) bytes))) k) []
-        []
+        (insert k.tunnels s (here_with (old.ways.down.held ++ drop (count_put k.conn s bytes) bytes))) k) (Some [])
+        (Some [])
     some_goes = record {
       parts = put s now.ways.down.held ∷ [];
       reached = with_link (with_tunnel s next d y) a;
@@ -203,13 +203,13 @@ module _ (l : ℕ) (a : Local) (k : Link) (shows : Shows k a.link) (s u : ℕ) (
           (ap is_unanswered stage_now) (ap₂ (λ (c : Connection) (h : List ℕ). data_put c s h) lives.way.0 held_now)
           (puts_kept x.conn s now.ways.down.held lives.way.1) lives.rest.0 next_rests
           (λ j apart. rests_still x.conn d j (x.tunnels j) (put_holds x.conn s now.ways.down.held j) (lives.rest.1 j));
-      noted = refl;
+      noted = inr refl;
     }
 
   -- where none waited as many go as may
   first_by : (b : Bool) → (count_put k.conn s bytes == 0) ≡ b → old.ways.down.held ≡ [] → Reaches unguarded l (with_link y a)
       (link_with (data_put k.conn s bytes)
-      (insert k.tunnels s (here_with (old.ways.down.held ++ drop (count_put k.conn s bytes) bytes))) k) [] []
+      (insert k.tunnels s (here_with (old.ways.down.held ++ drop (count_put k.conn s bytes) bytes))) k) (Some []) (Some [])
   first_by false test none_held = some_goes none_held (let n = count_put k.conn s bytes in grind (arith, nat_tests, test))
   first_by true test none_held =
       let none : count_put k.conn s bytes ≡ 0 = grind (arith, nat_tests, test) in
@@ -217,15 +217,15 @@ module _ (l : ℕ) (a : Local) (k : Link) (shows : Shows k a.link) (s u : ℕ) (
       let left : count_put x.conn s (at.ways.down.held ++ bytes) ≡ 0 =
       ap₂ (λ (c : Connection) (h : List ℕ). count_put c s (h ++ bytes)) lives.way.0 (held_is ∙ none_held) ∙ none in
       subst (λ (c : Connection). Reaches unguarded l (with_link y a)
-      (link_with c (insert k.tunnels s (here_with (old.ways.down.held ++ drop (count_put k.conn s bytes) bytes))) k) [] []) (sym same)
+      (link_with c (insert k.tunnels s (here_with (old.ways.down.held ++ drop (count_put k.conn s bytes) bytes))) k) (Some []) (Some [])) (sym same)
       (subst (λ (n : ℕ). Reaches unguarded l (with_link y a)
-      (link_with k.conn (insert k.tunnels s (here_with (old.ways.down.held ++ drop n bytes))) k) [] []) (sym none)
-      (record { parts = []; reached = with_link y a; leads = refl; shows = none_goes left; noted = refl }))
+      (link_with k.conn (insert k.tunnels s (here_with (old.ways.down.held ++ drop n bytes))) k) (Some []) (Some [])) (sym none)
+      (record { parts = []; reached = with_link y a; leads = refl; shows = none_goes left; noted = inr refl }))
 
   -- as many as may go at once, the others wait
   goes_by : (g : Bool) → g ≡ ((length old.ways.down.held == 0) && own_side_open k.conn s) → Reaches unguarded l (with_link y a)
       (link_with (conn_first g k.conn s bytes)
-      (insert k.tunnels s (here_with (old.ways.down.held ++ drop (count_first g k.conn s bytes) bytes))) k) [] []
+      (insert k.tunnels s (here_with (old.ways.down.held ++ drop (count_first g k.conn s bytes) bytes))) k) (Some []) (Some [])
   goes_by true is_g = first_by (count_put k.conn s bytes == 0) refl
       (let left = left_true (length old.ways.down.held == 0) (own_side_open k.conn s) (sym is_g) in
       nil_from_length old.ways.down.held (grind (arith, nat_tests, left)))
@@ -240,20 +240,20 @@ module _ (l : ℕ) (a : Local) (k : Link) (shows : Shows k a.link) (s u : ℕ) (
         reached = with_link y a;
         leads = refl;
         shows = none_goes (none_more x.conn s at.ways.down.held bytes held_some lives.rests.none_goes);
-        noted = refl;
+        noted = inr refl;
       }
 
 pub came : (k : Link) (s u : ℕ) (bytes : List ℕ) (old : Tunnel) (g : Bool) → get k.tunnels s ≡ Some old
     → (k.phase ≡ Serving → g ≡ ((length old.ways.down.held == 0) && own_side_open k.conn s))
-    → UpEnters s (e.Came u bytes) k []
+    → UpEnters s (e.Came u bytes) k (Some [])
     (link_with (conn_first g k.conn s bytes)
-    (insert k.tunnels s (with_down_here (old.ways.down.held ++ drop (count_first g k.conn s bytes) bytes) old)) k) []
+    (insert k.tunnels s (with_down_here (old.ways.down.held ++ drop (count_first g k.conn s bytes) bytes) old)) k) (Some [])
 came k s u bytes old g is goes start before a b stands shows _ step =
     let l = lives start before a k s old stands shows is step.0.0.1 in (
       refl,
       subst (λ (z : Local). Reaches unguarded k.number z
           (link_with (conn_first g k.conn s bytes)
-          (insert k.tunnels s (with_down_here (old.ways.down.held ++ drop (count_first g k.conn s bytes) bytes) old)) k) [] [])
+          (insert k.tunnels s (with_down_here (old.ways.down.held ++ drop (count_first g k.conn s bytes) bytes) old)) k) (Some []) (Some []))
           (sym step.1)
           (goes_by k.number a k shows s u bytes old l step.0 g (goes (is_serving k.phase (sym shows.phase ∙ l.serving)))),
     )

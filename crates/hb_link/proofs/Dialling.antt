@@ -1,5 +1,5 @@
 -- The answers to the dials of upstreams.
-use Rattle.std.proofs.Common.{◌≡◌, ℕ, [], Some, is_some, refl, ap, sym, subst}
+use Rattle.std.proofs.Common.{◌≡◌, ℕ, [], Some, is_some, refl, ap, sym, subst, inr}
 use Rattle.std.specs.FinMap.{get, insert}
 use Rattle.hb_base.specs.declared.door.Why.{Why}
 use Rattle.hb_base.specs.declared.target.Target.{Target}
@@ -17,7 +17,7 @@ use Rattle.hb_link.proofs.Moving.{finds, is_here, link_with, at_rest}
 
 module _ (k : Link) (s u : ℕ) (to : Target) (why : Why) where
   pub dialled : (old : Tunnel) → get k.tunnels s ≡ Some old
-      → UpEnters s (e.Dialled u to why) k [] (link_with k.conn (insert k.tunnels s (record old { stage = Opening; up = u })) k) []
+      → UpEnters s (e.Dialled u to why) k (Some []) (link_with k.conn (insert k.tunnels s (record old { stage = Opening; up = u })) k) (Some [])
   dialled old is start before a b stands shows _ step =
       let x = a.link in
       let found = finds k s x old shows is (ap is_here step.0.1) in
@@ -34,6 +34,6 @@ module _ (k : Link) (s u : ℕ) (to : Target) (why : Why) where
                 (step.0.2.0, subst (λ (at : t.Stage). IsSound at old) step.0.1 found.sound),
               )
               refl tt);
-          noted = refl;
+          noted = inr refl;
         },
       )

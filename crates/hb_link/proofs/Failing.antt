@@ -3,7 +3,6 @@ use Rattle.std.proofs.Common.{◌≡◌, inl, inr, ⊎_elim, ℕ, IsSome, List, 
 use Rattle.std.specs.FinMap.{get}
 use Rattle.hb_base.specs.declared.cause.Cause.{Cause}
 use Rattle.hb_base.specs.declared.cause.Cause.TheVariants as cause
-use Rattle.hb_base.specs.declared.note.Note.{Note}
 use Rattle.hb_inbound.specs.Inbound as m
 use Rattle.hb_inbound.specs.Inbound.{Inbound, ends_with}
 use Rattle.hb_inbound.specs.Runs.{StandsFor}
@@ -17,6 +16,7 @@ use Rattle.hb_link.specs.declared.tunnel.Tunnel.{Tunnel}
 use Rattle.hb_link.specs.Counting.{CountsPlaces}
 use Rattle.hb_link.specs.Looking.{FaultsFor}
 use Rattle.hb_link.specs.Marking.{ended_stage, ended_tunnel, ended_here, EndsWith}
+use Rattle.hb_link.specs.Noted.{Told}
 use Rattle.hb_link.specs.Reaches.{Leads}
 use Rattle.hb_link.specs.Settling.{Agrees, GotAll, MayPut, LookedIn, AlwaysSettles, KeepsCame}
 use Rattle.hb_link.specs.Tunnels.{phase_of, stage_of, tunnel_of, as_told, ShowsAt, ShowsTunnel}
@@ -78,7 +78,7 @@ module _ (code : ℕ) (k mid : Link) (ends : EndsWith (Faulted code) (cause.Conn
       got.agrees.phase ∙ ap phase_of (ap (λ (l : Link). l.phase) keeps.link ∙ phase_is) in
       record { agrees = got.agrees; answered = got.answered; looked = subst (λ (phase : m.Phase). LookedIn phase x) (sym is) tt }
 
-  pub fails : (new : Link) (told now : List Note) → AlwaysSettles Agrees GotAll mid told new now → KeepsCame mid new
+  pub fails : (new : Link) (told now : Told) → AlwaysSettles Agrees GotAll mid told new now → KeepsCame mid new
       → AlwaysSettles (FaultsFor code) MayPut k told new now
   fails new told now settles keeps others limit start before a stands holds faults =
       let number : mid.number ≡ k.number = ap (λ (l : Link). l.number) ends.link in

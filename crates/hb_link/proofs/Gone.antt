@@ -3,12 +3,10 @@ use Rattle.std.proofs.Common.{◌≡◌, ◌≢◌, ℕ, zero, suc, ◌+◌, ◌
 use Rattle.std.specs.Prelude.{⊤}
 use Rattle.std.proofs.lemmas.Bool.{false≢true, eqb-true}
 use Rattle.std.proofs.lemmas.Bool.Decides.{nat_tests}
-use Rattle.std.proofs.lemmas.List.{append-nil}
 use Rattle.std.proofs.lemmas.List.Sums.{sum_by-cons}
 use Rattle.std.specs.List.{filter, sum_by, AllByRecursion}
 use Rattle.std.specs.FinMap.{get, insert}
 use Rattle.hb_base.specs.declared.cause.Cause.TheVariants as cause
-use Rattle.hb_base.specs.declared.note.Note.{Note}
 use Rattle.hb_conn.specs.Connection.{Connection}
 use Rattle.hb_conn.specs.Observed.{outgoing, data_unbegun, frames_begun, wrote}
 use Rattle.hb_frames.specs.Numbers.{data_kind, largest}
@@ -40,11 +38,13 @@ use Rattle.hb_link.specs.declared.phase.Phase.TheVariants.{Serving, Faulted, Clo
 use Rattle.hb_link.specs.declared.tunnel.Tunnel.{Tunnel}
 use Rattle.hb_link.specs.Calls.{Enters}
 use Rattle.hb_link.specs.Going.{counts_down, counted_for, begun_counted}
+use Rattle.hb_link.specs.Noted.{Told}
 use Rattle.hb_link.specs.Reaches.{Reaches, unguarded}
 use Rattle.hb_link.specs.Settling.{IsMarked, LookedIn}
 use Rattle.hb_link.specs.Shows.{Shows, ShowsBy}
 use Rattle.hb_link.specs.Tunnels.{phase_of, stage_of, as_told, IsSound, ShowsAt, ShowsTunnel}
 use Rattle.hb_link.proofs.Moving.{link_with, Map, numbered_at}
+use Rattle.hb_link.proofs.Noted.{takes_none}
 use Rattle.hb_link.proofs.Writing.{counted_more}
 
 -- HOW MUCH DATA BEGINS
@@ -262,7 +262,7 @@ module _ (k : Link) (bytes : List ℕ) where
         (marks_gone start before a b stands shows step (shows.phase ∙ ap phase_of is)),
   )
 
-  pub went_last : (told : List Note) (code : ℕ) → k.phase ≡ Faulted code
+  pub went_last : (told : Told) (code : ℕ) → k.phase ≡ Faulted code
       → Enters (e.Went k.number bytes) k told (record k { phase = Closing (cause.ConnFault code) }) told
   went_last told code is start before a b stands shows _ step = (
     refl,
@@ -272,6 +272,6 @@ module _ (k : Link) (bytes : List ℕ) where
           reached = record a { link = went n a.link };
           leads = refl;
           shows = shows_last start before a b stands shows step code is;
-          noted = sym (append-nil told);
+          noted = takes_none told;
         }),
   )

@@ -1,13 +1,11 @@
 -- What is told of a link's connection leads its machine to what is heard.
 use Rattle.std.proofs.Common.{◌≡◌, ⊎_elim, ℕ, ◌+◌, ◌<◌, ◌≤◌, ◌||◌, not, Bool, true, false, cond, List, [], ◌∷◌, ◌++◌, length, Option, Some, None, Result, Ok, Err, refl, ap, ap₂, sym, ◌∙◌, subst, arith, length-append}
 use Rattle.std.proofs.lemmas.Bool.{false≢true}
-use Rattle.std.proofs.lemmas.List.{append-nil}
 use Rattle.std.specs.FinMap.{get}
 use Rattle.std.specs.Prelude.{nat_lt, codes}
 use Rattle.hb_base.specs.TargetText.{target_of}
 use Rattle.hb_base.specs.declared.cause.Cause.TheVariants as cause
 use Rattle.hb_base.specs.declared.ip.Ip.{Ip}
-use Rattle.hb_base.specs.declared.note.Note.{Note}
 use Rattle.hb_base.specs.declared.target.BadTarget.{BadTarget}
 use Rattle.hb_base.specs.declared.target.Target.{Target}
 use Rattle.hb_conn.specs.Connection.{Connection, Finds, LeavesLess}
@@ -47,11 +45,13 @@ use Rattle.hb_link.specs.declared.tunnel.Tunnel.{Tunnel}
 use Rattle.hb_link.specs.Asking.{named_by}
 use Rattle.hb_link.specs.Counting.{CountsPlaces}
 use Rattle.hb_link.specs.Looking.{changed_at, came_here, up_ended_here, left_to_look, heard_of, tunnels_heard, goes_on, HasHeard, Looked}
+use Rattle.hb_link.specs.Noted.{Told}
 use Rattle.hb_link.specs.Reaches.{Guard, Follows}
 use Rattle.hb_link.specs.Settling.{MayPut, MayLook, LookedIn, Settles}
 use Rattle.hb_link.specs.Shows.{ShowsBy}
 use Rattle.hb_link.proofs.Changed.{changed_looks, looks_with, came_shown, ended_shown}
 use Rattle.hb_link.proofs.Moving.{Map, link_with, machine_with, only_one}
+use Rattle.hb_link.proofs.Noted.{takes_none}
 use Rattle.hb_link.proofs.Room.{opened_fits}
 use Rattle.hb_link.proofs.Settles.{settles_then}
 use Rattle.hb_link.proofs.UpEnds.{ups_go}
@@ -114,7 +114,7 @@ heard_falls to c d told h finds shown less more =
 
 -- WHAT IS HEARD
 
-module _ (others limit : ℕ) (k : Link) (c : Connection) (note : List Note) (start : Resources) (before : List Part) (a : Local)
+module _ (others limit : ℕ) (k : Link) (c : Connection) (note : Told) (start : Resources) (before : List Part) (a : Local)
     (stands : StandsFor k.number start a before) (may : MayLook k a.link) where
   abbrev x : Inbound
   x = a.link
@@ -151,7 +151,7 @@ module _ (others limit : ℕ) (k : Link) (c : Connection) (note : List Note) (st
       refl,
     );
     shows = so;
-    noted = sym (append-nil note);
+    noted = takes_none note;
   }
 
   looks_on : Fares c → MayLook k1 y
@@ -251,7 +251,7 @@ module _ (others limit : ℕ) (k : Link) (c : Connection) (note : List Note) (st
       })
   heard_by told h finds shown = absurd shown
 
-pub heard_settles : (others limit : ℕ) (H : Resources → Type 0) (k : Link) (c : Connection) (note : List Note) (told : Found)
+pub heard_settles : (others limit : ℕ) (H : Resources → Type 0) (k : Link) (c : Connection) (note : Told) (told : Found)
     (h : Option Happening) → Finds k.conn c told → Tells c told h
     → Settles others limit H MayLook (HasHeard (heard_of k.destination h)) k note (link_with c (tunnels_heard h k.tunnels) k) note
 heard_settles others limit H k c note told h finds shown start before a stands holds may =
@@ -261,7 +261,7 @@ heard_settles others limit H k c note told h finds shown start before a stands h
 
 module _ (k : Link) (c : Connection) (tunnels : Map) (what : Heard) (told : Found) (h : Option Happening) (finds : Finds k.conn c told)
     (tells : Tells c told h) (is : what ≡ heard_of k.destination h) where
-  pub look_settles : (others limit : ℕ) (H : Resources → Type 0) (more : Bool) (new : Link) (note now : List Note)
+  pub look_settles : (others limit : ℕ) (H : Resources → Type 0) (more : Bool) (new : Link) (note now : Told)
       → tunnels ≡ tunnels_heard h k.tunnels
       → Settles others limit H (HasHeard what) (Looked more) (link_with c tunnels k) note new now
       → Settles others limit H MayLook (Looked more) k note new now

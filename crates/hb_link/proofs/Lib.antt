@@ -19,6 +19,7 @@ pub mod Maps
 pub mod Marked
 pub mod Moving
 pub mod NotShown
+pub mod Noted
 pub mod Opening
 pub mod Puts
 pub mod PutsOn
@@ -30,4 +31,5 @@ pub mod Shown
 pub mod Turns
 pub mod UpEnds
 pub mod Waits
+pub mod Walked
 pub mod Writing

@@ -6,7 +6,7 @@ use Rattle.hb_map.specs.Keyed.{IsFirstFrom}
 use Rattle.hb_inbound.specs.Inbound.{Inbound}
 use Rattle.hb_link.specs.declared.link.Link.{Link}
 use Rattle.hb_link.specs.declared.tunnel.Tunnel.{Tunnel}
-use Rattle.hb_link.specs.Load.{load_below, HasLoad}
+use Rattle.hb_link.specs.Load.{load_below, HasLoad, places_below, places_on}
 use Rattle.hb_link.specs.Shows.{ShowsTunnels}
 use Rattle.hb_link.specs.Tunnels.{has_place}
 use Rattle.hb_link.proofs.Moving.{Map}
@@ -15,11 +15,6 @@ use Rattle.hb_link.proofs.Shown.{place_tunnel}
 -- one place, or none
 abbrev pub one_if : Bool → ℕ
 one_if b = if b then 1 else 0
-
--- places on the streams below a number
-abbrev pub places_below : ℕ → Map → ℕ
-places_below zero tunnels = 0
-places_below (suc n) tunnels = places_below n tunnels + one_if (has_place (get tunnels n))
 
 -- where the walk stands: behind all streams at its end
 abbrev pub place_of : Option ℕ → ℕ
@@ -88,3 +83,8 @@ module _ (k : Link) (x : Inbound) (shows : ShowsTunnels k x) where
     below = λ s has. narrow s (some_place (get k.tunnels s) (place_tunnel (get k.tunnels s) (x.tunnels s) (shows s) ∙ has));
     count = same_below (2 ^ 32) ∙ sym is;
   }
+
+-- so many are on the link
+pub all_places : (k : Link) (n : ℕ) → n ≡ places_below (2 ^ 32) k.tunnels → n ≡ places_on k
+unfolding places_on
+all_places k n is = is

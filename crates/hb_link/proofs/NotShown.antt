@@ -18,10 +18,11 @@ use Rattle.hb_inbound.proofs.Admitted.{at_one}
 use Rattle.hb_link.specs.declared.tunnel.Stage.{Stage}
 use Rattle.hb_link.specs.declared.tunnel.Tunnel.{Tunnel}
 use Rattle.hb_link.specs.Reaches.{Guard, IsInner, Leads, unguarded}
-use Rattle.hb_link.specs.Refused.{KeepsNone, LivesEarly, HasAnother, PutsLater, AnswersLater, GetsLater, TellsNone, TellsHigherFirst, NewIsShown}
+use Rattle.hb_link.specs.Refused.{KeepsNone, LivesEarly, HasAnother, PutsLater, AnswersLater, GetsLater, TellsNone, TellsHigherFirst, TellsTwice, TellsBehindLost, NewIsShown}
 use Rattle.hb_link.specs.Shows.{ShowsBy}
 use Rattle.hb_link.specs.Tunnels.{stage_of, ShowsAt, ShowsTunnel}
 use Rattle.hb_link.proofs.Begun.{shows_new}
+use Rattle.hb_link.proofs.Noted.{told_so}
 
 pub keeps_none : KeepsNone
 keeps_none k x s none live agrees =
@@ -204,7 +205,8 @@ stays_ended G l a b (p ∷ parts) s why is none ended =
 pub tells_none : TellsNone
 tells_none l a k told s why ended follows =
     let none : notes follows.parts ≡ [] =
-    append_cancel_left told (notes follows.parts) [] (sym follows.noted ∙ sym (append-nil told)) in
+    append_cancel_left told (notes follows.parts) []
+    (sym (told_so told told (notes follows.parts) follows.noted) ∙ sym (append-nil told)) in
     gets_later k follows.reached.link s why (stays_ended unguarded l a follows.reached follows.parts s why follows.leads none ended) follows.shows
 
 first_note : (G : Guard) (l : ℕ) (a b : Local) (parts : List Part) (s j : ℕ) (why second : Cause) (up down : ℕ) (rest : List Note)
@@ -223,4 +225,12 @@ first_note G l a b (p ∷ parts) s j why second up down rest less is ended made 
 pub tells_higher_first : TellsHigherFirst
 tells_higher_first l a k told rest s j why second up down less ended follows =
     first_note unguarded l a follows.reached follows.parts s j why second up down rest less follows.leads ended
-    (append_cancel_left told (notes follows.parts) (note.End l j second up down ∷ rest) (sym follows.noted))
+    (append_cancel_left told (notes follows.parts) (note.End l j second up down ∷ rest)
+    (sym (told_so told (told ++ note.End l j second up down ∷ rest) (notes follows.parts) follows.noted)))
+
+pub tells_twice : TellsTwice
+tells_twice told n takes =
+    let both = append_cancel_left told (n ∷ n ∷ []) (n ∷ []) (told_so told (told ++ n ∷ n ∷ []) (n ∷ []) takes) in cc both
+
+pub tells_behind_lost : TellsBehindLost
+tells_behind_lost more now takes = cc takes

@@ -3,7 +3,6 @@ use Rattle.std.proofs.Common.{◌≡◌, ℕ, ◌==◌, ◌&&◌, Bool, true, fa
 use Rattle.std.proofs.lemmas.Bool.{false≢true, eqb-false}
 use Rattle.std.specs.Prelude.{nat_le}
 use Rattle.std.specs.FinMap.{get, insert}
-use Rattle.hb_base.specs.declared.note.Note.{Note}
 use Rattle.hb_base.specs.declared.note.Note.TheVariants as note
 use Rattle.hb_base.specs.declared.peer.Peer.{Peer}
 use Rattle.hb_base.specs.declared.target.Target.{Target}
@@ -27,6 +26,7 @@ use Rattle.hb_inbound.proofs.Waiting.{speaks, is_before}
 use Rattle.hb_link.specs.declared.link.Link.{Link}
 use Rattle.hb_link.specs.declared.tunnel.Tunnel.{Tunnel}
 use Rattle.hb_link.specs.Calls.{UpEnters}
+use Rattle.hb_link.specs.Noted.{Told, Takes}
 use Rattle.hb_link.specs.Reaches.{Reaches, unguarded}
 use Rattle.hb_link.specs.Shows.{ShowsBy}
 use Rattle.hb_link.specs.Tunnels.{as_told, opened_on, IsSound}
@@ -47,7 +47,7 @@ nothing_goes c s = by (core_of c).over (nat_le s largest && length (octets_of (c
     by false true = omega arith
     by false false = refl
 
-module _ (k : Link) (s u : ℕ) (told : List Note) where
+module _ (k : Link) (s u : ℕ) (told : Told) where
   -- this end's side of the stream is open
   pub not_opened : own_side_open k.conn s ≡ false → UpEnters s (e.Opened u) k told k told
   not_opened shut start before a b stands shows _ step =
@@ -58,10 +58,10 @@ module _ (k : Link) (s u : ℕ) (told : List Note) where
       let own = fits.own (ap speaks step.0.1) (fits.early (ap is_before step.0.1)) in
       absurd (false≢true (sym shut ∙ sym (ap (λ (c : Connection). own_side_open c s) way.0) ∙ own))
 
-  pub opened : (old : Tunnel) → get k.tunnels s ≡ Some old → UpEnters s (e.Opened u) k told
-      (link_with (status_put k.conn s ok) (insert k.tunnels s (opened_on old)) k)
-      (told ++ note.Verdict k.number s 200 k.peer (Some old.target) ∷ [])
-  opened old is start before a b stands shows _ step =
+  pub opened : (old : Tunnel) → get k.tunnels s ≡ Some old → (later : Told)
+      → Takes told (note.Verdict k.number s 200 k.peer (Some old.target) ∷ []) later
+      → UpEnters s (e.Opened u) k told (link_with (status_put k.conn s ok) (insert k.tunnels s (opened_on old)) k) later
+  opened old is later took start before a b stands shows _ step =
       let x = a.link in
       let at = x.tunnels s in
       let serving = it_serves k.number start a before stands s (ap takes_place step.0.1) in
@@ -86,7 +86,7 @@ module _ (k : Link) (s u : ℕ) (told : List Note) where
       (sym (ap (λ (v : Machine). v.target) now_is ∙ ap (λ (v : Machine). v.target) found.told)) in (
         refl,
         subst (λ (w : Local). Reaches unguarded k.number w
-            (link_with (status_put k.conn s ok) (insert k.tunnels s (opened_on old)) k) told (told ++ made ∷ [])) (sym step.1)
+            (link_with (status_put k.conn s ok) (insert k.tunnels s (opened_on old)) k) told later) (sym step.1)
             (record {
               parts = accepted s made ∷ [];
               reached = with_link z a;
@@ -100,6 +100,6 @@ module _ (k : Link) (s u : ℕ) (told : List Note) where
                   refl (ap (λ (c : Connection). status_put c s ok) way.0)
                   (answers_kept x.conn s ok (shows.numbered s (ap is_some is)) way.1) rest.0 rests
                   (λ j apart. rests_still x.conn d j (x.tunnels j) (accept_holds x.conn s 200 j (eqb-false j s apart)) (rest.1 j));
-              noted = refl;
+              noted = took;
             }),
       )

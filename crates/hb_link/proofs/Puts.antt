@@ -3,7 +3,7 @@ use Rattle.std.proofs.Common.{◌≡◌, ℕ, ◌+◌, ◌<◌, ◌≤◌, ◌==
 use Rattle.std.specs.Prelude.{⊤}
 use Rattle.std.proofs.lemmas.Bool.{false≢true, eqb-false, eqb-true}
 use Rattle.std.proofs.lemmas.Bool.Decides.{nat_tests}
-use Rattle.std.proofs.lemmas.List.{append-nil, nil_from_length}
+use Rattle.std.proofs.lemmas.List.{nil_from_length}
 use Rattle.std.specs.List.{list_any}
 use Rattle.std.specs.FinMap.{get, insert}
 use Rattle.hb_base.specs.declared.cause.Cause.TheVariants as cause
@@ -40,6 +40,7 @@ use Rattle.hb_link.specs.declared.link.Link.{Link}
 use Rattle.hb_link.specs.declared.tunnel.Stage.TheVariants.{Over}
 use Rattle.hb_link.specs.declared.tunnel.Tunnel.{Tunnel}
 use Rattle.hb_link.specs.Counting.{CountsPlaces}
+use Rattle.hb_link.specs.Noted.{Told, Takes}
 use Rattle.hb_link.specs.Putting.{count_first, conn_first, may_put, bytes_put, conn_bytes, is_unbegun_on, data_seen, may_finish, end_counted, conn_finished, PutsBelow}
 use Rattle.hb_link.specs.Reaches.{IsInner, Follows}
 use Rattle.hb_link.specs.Settling.{MayPut, LookedIn, Settles}
@@ -48,6 +49,7 @@ use Rattle.hb_link.specs.Tunnels.{stage_of, tunnel_of, as_told, ShowsAt, ShowsTu
 use Rattle.hb_link.proofs.Living.{serving_waits, shows_live}
 use Rattle.hb_link.proofs.Maps.{put_same}
 use Rattle.hb_link.proofs.Moving.{link_with, machine_with, Map, Only, only_one, at_only, numbered_at}
+use Rattle.hb_link.proofs.Noted.{takes_none}
 use Rattle.hb_link.proofs.Opening.{nothing_goes}
 use Rattle.hb_link.proofs.Waits.{Holds, put_holds, end_holds, same_holds, rests_still}
 use Rattle.hb_map.proofs.Laws.{put_here, put_elsewhere}
@@ -131,11 +133,11 @@ EndPut c s at = BytesPut c s at × (may_end c s at ≡ false)
 
 -- the tunnel on the stream changes, and the connection; or neither does
 module _ (others limit : ℕ) (k : Link) (s : ℕ) (old : Tunnel) (is : get k.tunnels s ≡ Some old)
-    (Q : Connection → ℕ → Machine → Type 0) (a : Local) (below : PutsBelow s k a.link) (told : List Note) where
+    (Q : Connection → ℕ → Machine → Type 0) (a : Local) (below : PutsBelow s k a.link) (told : Told) where
   abbrev x : Inbound
   x = a.link
 
-  abbrev LeadsTo : Link → List Note → Type 0
+  abbrev LeadsTo : Link → Told → Type 0
   LeadsTo new now = (new.number ≡ k.number) × Follows (CountsPlaces others limit) (PutsAt Q s) k.number a new told now
 
   module _ (knows : Known k x) (new : Tunnel) (c d : Connection) (next : Machine) (tunnels : ℕ → Machine) where
@@ -165,11 +167,11 @@ module _ (others limit : ℕ) (k : Link) (s : ℕ) (old : Tunnel) (is : get k.tu
           subst (Rests d j) (sym (only.others j apart)) (rests_still x.conn d j (x.tunnels j) (holds j apart) (below.below j less));
     }
 
-    one_part : (p : Part) → IsInner p → CountsPlaces others limit a p
+    one_part : (p : Part) (now : Told) → Takes told (notes (p ∷ [])) now → IsInner p → CountsPlaces others limit a p
         → Steps k.number a p (with_link (machine_with d tunnels x) a) → Only s x.tunnels next tunnels → ShowsTunnel (Some new) next
         → is_unanswered next.stage ≡ false → d ≡ c → IsKept d → IsLookedAt d → ((j : ℕ) → (j == s) ≡ false → Holds x.conn d j)
-        → Q d s next → LeadsTo (link_with c (insert k.tunnels s new) k) (told ++ notes (p ∷ []))
-    one_part p inner counts step only shown answered conn kept looked holds here = (
+        → Q d s next → LeadsTo (link_with c (insert k.tunnels s new) k) now
+    one_part p now took inner counts step only shown answered conn kept looked holds here = (
       refl,
       record {
         parts = p ∷ [];
@@ -179,7 +181,7 @@ module _ (others limit : ℕ) (k : Link) (s : ℕ) (old : Tunnel) (is : get k.tu
           before = puts_below only shown answered conn kept looked holds;
           here = subst (Q d s) (sym only.this) here;
         };
-        noted = refl;
+        noted = took;
       },
     )
 
@@ -196,7 +198,7 @@ module _ (others limit : ℕ) (k : Link) (s : ℕ) (old : Tunnel) (is : get k.tu
           reached = a;
           leads = refl;
           shows = record { before = below; here = here };
-          noted = sym (append-nil told);
+          noted = takes_none told;
         },
       )
 
@@ -263,7 +265,7 @@ module _ (others limit : ℕ) (k : Link) (s : ℕ) (old : Tunnel) (is : get k.tu
   abbrev held_here : List ℕ
   held_here = old.ways.down.held
 
-  module _ (a : Local) (below : PutsBelow s k a.link) (knows : Known k a.link) (told : List Note) where
+  module _ (a : Local) (below : PutsBelow s k a.link) (knows : Known k a.link) (told : Told) where
     abbrev at : Machine
     at = a.link.tunnels s
 
@@ -294,19 +296,15 @@ module _ (others limit : ℕ) (k : Link) (s : ℕ) (old : Tunnel) (is : get k.tu
         let d = data_put a.link.conn s at.ways.down.held in
         let next_told : as_told next ≡ tunnel_of (taken_here (count_put k.conn s held_here) old) =
         ap (λ (i : ℕ). taken i (as_told at)) count_is ∙ ap (taken (count_put k.conn s held_here)) lives.told in
-        subst (λ (now : List Note). (k.number ≡ k.number)
-        × Follows (CountsPlaces others limit) (PutsAt BytesPut s) k.number a
-        (link_with (data_put k.conn s held_here) (insert k.tunnels s (taken_here (count_put k.conn s held_here) old)) k) told now)
-        (append-nil told)
-        (one_part others limit k s old is BytesPut a below told knows (taken_here (count_put k.conn s held_here) old)
+        one_part others limit k s old is BytesPut a below told knows (taken_here (count_put k.conn s held_here) old)
         (data_put k.conn s held_here) d next
-        (with_tunnel s next d a.link).tunnels (part.put s at.ways.down.held) tt tt
+        (with_tunnel s next d a.link).tunnels (part.put s at.ways.down.held) told (takes_none told) tt tt
         (is_live_on a.link below, refl, some_here, refl) (only_one s (λ old. next) a.link)
         (shows_live old (taken_here (count_put k.conn s held_here) old) next stage lives.has_up refl refl next_told)
         (ap is_unanswered lives.live) (ap₂ (λ (c : Connection) (bytes : List ℕ). data_put c s bytes) knows.way.0 held_is)
         (puts_kept a.link.conn s at.ways.down.held knows.way.1) knows.looked
         (λ j apart. put_holds a.link.conn s at.ways.down.held j)
-        (put_shuts a.link.conn s at.ways.down.held some_here s next.ways.down.held))
+        (put_shuts a.link.conn s at.ways.down.held some_here s next.ways.down.held)
 
     bytes_open : (b : Bool) → (count_put k.conn s held_here == 0) ≡ b
         → BytesTo (data_put k.conn s held_here) (count_put k.conn s held_here)
@@ -319,7 +317,7 @@ module _ (others limit : ℕ) (k : Link) (s : ℕ) (old : Tunnel) (is : get k.tu
     bytes_by true may = bytes_open (count_put k.conn s held_here == 0) refl
     bytes_by false shut = bytes_none k.conn 0 refl refl (none_shut a.link below knows shut)
 
-  pub bytes_settles : (told : List Note)
+  pub bytes_settles : (told : Told)
       → Settles others limit (λ held. ⊤) (PutsBelow s) (PutsAt BytesPut s) k told
       (link_with (conn_bytes k.conn s old) (insert k.tunnels s (bytes_put k.conn s old)) k) told
   bytes_settles told start before a stands holds below =
@@ -333,7 +331,7 @@ module _ (others limit : ℕ) (k : Link) (s : ℕ) (old : Tunnel) (is : get k.tu
   same_end true false own waits seen same open_still =
       ap not (sym same) ∙ sym (ap (λ (b : Bool). b && not seen) (open_still refl))
 
-  module _ (a : Local) (below : PutsBelow s k a.link) (knows : Known k a.link) (told : List Note)
+  module _ (a : Local) (below : PutsBelow s k a.link) (knows : Known k a.link) (told : Told)
       (none : BytesPut a.link.conn s (a.link.tunnels s)) where
     abbrev ending : Machine
     ending = a.link.tunnels s
@@ -357,18 +355,15 @@ module _ (others limit : ℕ) (k : Link) (s : ℕ) (old : Tunnel) (is : get k.tu
     end_some may =
         let next : Machine = record ending { end_put = true } in
         let d = end_put a.link.conn s in
-        subst (λ (now : List Note). (k.number ≡ k.number)
-        × Follows (CountsPlaces others limit) (PutsAt EndPut s) k.number a
-        (link_with (end_put k.conn s) (insert k.tunnels s (record old { end_put = true })) k) told now) (append-nil told)
-        (one_part others limit k s old is EndPut a below told knows (record old { end_put = true }) (end_put k.conn s) d next
-        (with_tunnel s next d a.link).tunnels (part.finished s) tt tt
+        one_part others limit k s old is EndPut a below told knows (record old { end_put = true }) (end_put k.conn s) d next
+        (with_tunnel s next d a.link).tunnels (part.finished s) told (takes_none told) tt tt
         (is_live_on a.link below, may_is ∙ may, refl) (only_one s (λ old. next) a.link)
         (shows_live old (record old { end_put = true }) next stage ending_lives.has_up refl refl
         (ap (λ (at : Machine). record at { end_put = true }) ending_lives.told))
         (ap is_unanswered ending_lives.live) (ap (λ (c : Connection). end_put c s) knows.way.0)
         (ends_kept a.link.conn s (number a.link below) knows.way.1) knows.looked
         (λ j apart. end_holds a.link.conn s j (eqb-false j s apart))
-        (end_stays_shut s a.link.conn s ending.ways.down.held none, put_ended (is_done ending.ways.down) (data_waits d s)))
+        (end_stays_shut s a.link.conn s ending.ways.down.held none, put_ended (is_done ending.ways.down) (data_waits d s))
       where
         put_ended : (ended waits : Bool) → ((ended && false) && not waits) ≡ false
         put_ended false waits = refl
@@ -379,7 +374,7 @@ module _ (others limit : ℕ) (k : Link) (s : ℕ) (old : Tunnel) (is : get k.tu
     end_by true may = end_some may
     end_by false never = no_part others limit k s old is EndPut a below told old k.conn refl refl (none, may_is ∙ never)
 
-  pub end_settles : (told : List Note)
+  pub end_settles : (told : Told)
       → Settles others limit (λ held. ⊤) (PutsAt BytesPut s) (PutsAt EndPut s) k told
       (link_with (conn_finished k.conn s old) (insert k.tunnels s (end_counted k.conn s old)) k) told
   end_settles told start before a stands holds at =
@@ -401,10 +396,11 @@ module _ (others limit : ℕ) (k : Link) (s : ℕ) (old : Tunnel) (is : get k.tu
   abbrev pub over_here : Tunnel
   over_here = record old { stage = Over cause.Done }
 
-  pub done_settles : (told : List Note) → is_done_on k.conn s (tunnel_of old) ≡ true
+  pub done_settles : (told later : Told) → Takes told (note.End k.number s cause.Done old.went_up old.went_down ∷ []) later
+      → is_done_on k.conn s (tunnel_of old) ≡ true
       → Settles others limit (λ held. ⊤) (PutsAt EndPut s) (PutsAt Rests s) k told (link_with k.conn (insert k.tunnels s over_here) k)
-      (told ++ note.End k.number s cause.Done old.went_up old.went_down ∷ [])
-  done_settles told all_done start before a stands holds at =
+      later
+  done_settles told later took all_done start before a stands holds at =
       let lives = lives_at a.link at.before in
       let knows = known start before a k stands at.before.may at.before.serves in
       let now = a.link.tunnels s in
@@ -417,7 +413,7 @@ module _ (others limit : ℕ) (k : Link) (s : ℕ) (old : Tunnel) (is : get k.tu
       sym (ap₂ (λ (i j : ℕ). note.End k.number s cause.Done i j) (ap (λ (y : Machine). y.went_up) lives.told)
       (ap (λ (y : Machine). y.went_down) lives.told)) in
       one_part others limit k s old is Rests a at.before told knows over_here k.conn a.link.conn (left_with cause.Done now) last.tunnels
-      (part.done s made) tt tt (
+      (part.done s made) later took tt tt (
         is_live_on a.link at.before,
         ap₂ (λ (c : Connection) (y : Machine). is_done_on c s y) knows.way.0 lives.told ∙ all_done,
         made_is,

@@ -5,7 +5,6 @@ use Rattle.std.proofs.lemmas.Bool.Decides.{nat_tests}
 use Rattle.std.specs.Prelude.{⊤, nat_lt}
 use Rattle.std.specs.FinMap.{get, insert}
 use Rattle.hb_base.specs.declared.cause.Cause.TheVariants as cause
-use Rattle.hb_base.specs.declared.note.Note.{Note}
 use Rattle.hb_base.specs.declared.note.Note.TheVariants as note
 use Rattle.hb_conn.specs.Connection.{Connection}
 use Rattle.hb_frames.specs.Numbers.{largest}
@@ -22,6 +21,7 @@ use Rattle.hb_link.specs.declared.phase.Phase.TheVariants.{Fronting, Serving, Fa
 use Rattle.hb_link.specs.declared.tunnel.Stage.{Stage}
 use Rattle.hb_link.specs.declared.tunnel.Stage.TheVariants.{Due, Opening, Live, Failed, Ended, Over}
 use Rattle.hb_link.specs.declared.tunnel.Tunnel.{Tunnel}
+use Rattle.hb_link.specs.Noted.{Told, Takes}
 use Rattle.hb_link.specs.Observed.{serves_in}
 use Rattle.hb_link.specs.Putting.{bytes_put, conn_bytes, end_counted, conn_finished, may_finish, lives_in, PutsBelow}
 use Rattle.hb_link.specs.Settling.{MayPut, LookedIn, AlwaysSettles, Settles}
@@ -83,7 +83,7 @@ module _ (k : Link) (s : ℕ) where
       (not_live old.stage never))
 
 -- bytes, then the end
-module _ (k : Link) (s : ℕ) (old : Tunnel) (told : List Note) (is : get k.tunnels s ≡ Some old) (live : stage_of old.stage ≡ t.live) where
+module _ (k : Link) (s : ℕ) (old : Tunnel) (told : Told) (is : get k.tunnels s ≡ Some old) (live : stage_of old.stage ≡ t.live) where
   abbrev one : Tunnel
   one = bytes_put k.conn s old
 
@@ -130,17 +130,15 @@ module _ (k : Link) (s : ℕ) (old : Tunnel) (told : List Note) (is : get k.tunn
   abbrev link_last : Link
   link_last = link_with conn_two (insert k.tunnels s last) k
 
-  abbrev now : List Note
-  now = told ++ note.End k.number s cause.Done two.went_up two.went_down ∷ []
-
-  pub last_on : is_done_on conn_two s (tunnel_of two) ≡ true → AlwaysSettles (PutsBelow s) (PutsBelow (s + 1)) k told link_last now
-  last_on all_done others limit =
+  pub last_on : (now : Told) → Takes told (note.End k.number s cause.Done two.went_up two.went_down ∷ []) now
+      → is_done_on conn_two s (tunnel_of two) ≡ true → AlwaysSettles (PutsBelow s) (PutsBelow (s + 1)) k told link_last now
+  last_on now took all_done others limit =
       settles_then others limit (λ held. ⊤) (PutsBelow s) (PutsAt Rests s) (PutsBelow (s + 1)) k link_last link_last told now now
       (settles_then others limit (λ held. ⊤) (PutsBelow s) (PutsAt EndPut s) (PutsAt Rests s) k link_two link_last told told now
       (both_settle others limit)
       (subst (λ (tunnels : Map). Settles others limit (λ held. ⊤) (PutsAt EndPut s) (PutsAt Rests s) link_two told
       (link_with conn_two tunnels k) now) (put_twice k.tunnels s last two)
-      (done_settles others limit link_two s two (put_here k.tunnels s two) live_two told all_done)))
+      (done_settles others limit link_two s two (put_here k.tunnels s two) live_two told now took all_done)))
       (stays others limit (λ held. ⊤) (PutsAt Rests s) (PutsBelow (s + 1)) link_last now
       (λ x at. rests_below s link_last x at.before at.here))
 

@@ -1,12 +1,12 @@
 -- Behind a stream that is opened there is room for its refusal.
 use Rattle.std.proofs.Common.{◌≡◌, ℕ, ◌+◌, ◌*◌, ◌≤◌, Bool, true, false, cond, List, [], ◌∷◌, length, Option, Some, None, Result, Ok, Err, refl, ap, sym, ◌∙◌, subst, arith, length-drop}
 use Rattle.std.proofs.lemmas.Bool.{false≢true}
-use Rattle.hb_conn.specs.Connection.{Connection, Finds, FindsWhile, FindsOf, FindsAfter, FindsBy}
+use Rattle.hb_conn.specs.Connection.{Connection, core_of, Finds, FindsWhile, FindsOf, FindsAfter, FindsBy}
 use Rattle.hb_conn.specs.Glance.{glance_by, glance_of}
 use Rattle.hb_conn.specs.Faults.{faulted}
 use Rattle.hb_conn.specs.Handling.{HandlesBy, Handles}
 use Rattle.hb_conn.specs.Laws.{IsCaughtUp}
-use Rattle.hb_conn.specs.Observed.{room, is_over}
+use Rattle.hb_conn.specs.Observed.{room, is_over, is_paused}
 use Rattle.hb_conn.specs.Outcome.{Gives}
 use Rattle.hb_conn.specs.Places.{is_misplaced}
 use Rattle.hb_conn.specs.Preface.{is_whole}
@@ -144,7 +144,7 @@ never_faults c new s code end gives = absurd (let never = gives.1 in cc)
 
 opens_by : (s : ℕ) (end same : Bool) (c d : Connection) → FindsBy same c d (found.Opened s end) → Opens s c.receiver d.receiver
 opens_by s end true c d finds = receives s end finds.0.through c.receiver finds.0.last d.receiver finds.0.passes finds.0.ends
-opens_by s end false c d finds = never_faults c.receiver.core d.receiver.core s protocol_error end finds.0
+opens_by s end false c d finds = never_faults (core_of c) (core_of d) s protocol_error end finds.0
 
 opens_after : (s : ℕ) (end whole : Bool) (c d : Connection) → FindsAfter whole c d (found.Opened s end) → Opens s c.receiver d.receiver
 opens_after s end true c d finds = opens_by s end c.preface.same c d finds
@@ -163,7 +163,7 @@ opens_while s end false c d finds = opens_of s end c.ended c d finds
 pub opened_fits : (c d : Connection) (s : ℕ) (end : Bool) → Fares c → Finds c d (found.Opened s end) → is_over d ≡ false
     → (s ≤ largest) × HasSpare d
 opened_fits c d s end fares finds over =
-    let opens = opens_while s end (pauses c.receiver.core) c d finds in
+    let opens = opens_while s end (is_paused c) c d finds in
     (opens.number, omega (arith, opens.leaves fares.kept.caught_up over, fares.has_room))
 
 -- no frame tells an end: only one that was told of before is
@@ -178,14 +178,14 @@ unfolding faulted
 fault_ends c new s code gives = let never = gives.1 in cc
 
 pub end_was_told : (c d : Connection) (s : ℕ) → Finds c d (found.Ended s) → (c.ended ≡ Some s) × (d ≡ record c { ended = None })
-end_was_told c d s finds = by (pauses c.receiver.core) finds
+end_was_told c d s finds = by (is_paused c) finds
   where
     same_end : (k : ℕ) → found.Ended s ≡ found.Ended k → k ≡ s
     same_end k is = cc
 
     first : (same : Bool) → FindsBy same c d (found.Ended s) → ⊥
     first true finds = ends_last s finds.0.last d.receiver finds.0.ends
-    first false finds = fault_ends c.receiver.core d.receiver.core s protocol_error finds.0
+    first false finds = fault_ends (core_of c) (core_of d) s protocol_error finds.0
 
     after : (whole : Bool) → FindsAfter whole c d (found.Ended s) → ⊥
     after true finds = first c.preface.same finds

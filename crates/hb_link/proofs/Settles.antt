@@ -1,8 +1,6 @@
 -- Links on which something is still to happen by itself.
 use Rattle.std.proofs.Common.{◌≡◌, ℕ, List, [], ◌∷◌, ◌++◌, refl, ap, sym, ◌∙◌, subst}
 use Rattle.std.proofs.lemmas.List.{append_assoc, append-nil}
-use Rattle.std.proofs.lemmas.List.Concat.{flat_map-append}
-use Rattle.hb_base.specs.declared.note.Note.{Note}
 use Rattle.hb_conn.specs.Observed.{IsLookedAt}
 use Rattle.hb_front.specs.Reading.{IsAnswer, More}
 use Rattle.hb_held.specs.Held.{Resources}
@@ -10,14 +8,16 @@ use Rattle.hb_inbound.specs.Calm.{IsCalm}
 use Rattle.hb_inbound.specs.Inbound as m
 use Rattle.hb_inbound.specs.Inbound.{Inbound}
 use Rattle.hb_inbound.specs.Part as part
-use Rattle.hb_inbound.specs.Part.{Part, notes, note_in}
+use Rattle.hb_inbound.specs.Part.{Part}
 use Rattle.hb_inbound.specs.Runs.{Local, Steps, StandsFor, goes_on}
 use Rattle.hb_link.specs.declared.link.Link.{Link}
 use Rattle.hb_link.specs.Counting.{CountsPlaces}
+use Rattle.hb_link.specs.Noted.{Told}
 use Rattle.hb_link.specs.Reaches.{Guard, IsInner, Leads, Meets, unguarded}
 use Rattle.hb_link.specs.Settling.{Agrees, IsMarked, GotAll, MayPut, LookedIn, Settles, AlwaysSettles, KeepsCame}
 use Rattle.hb_link.specs.Shows.{Shows, ShowsBy}
 use Rattle.hb_link.specs.Tunnels.{phase_of}
+use Rattle.hb_link.proofs.Noted.{takes_none, parts_then}
 
 -- one that is shown agrees, and one that agrees and on which nothing more happens by itself is shown
 pub agrees : (k : Link) (x : Inbound) → Shows k x → Agrees k x
@@ -79,15 +79,15 @@ leads_hold G l a b [] is = ap (λ (w : Local). w.held) is
 leads_hold G l a b (p ∷ parts) is = leads_hold G l is.2 b parts is.4 ∙ step_holds l a p is.2 is.0 is.3
 
 -- nothing follows, where the one condition gives the other; and what follows in two parts
-pub stays : (others limit : ℕ) (H : Resources → Type 0) (P Q : Link → Inbound → Type 0) (k : Link) (told : List Note)
+pub stays : (others limit : ℕ) (H : Resources → Type 0) (P Q : Link → Inbound → Type 0) (k : Link) (told : Told)
     → ((x : Inbound) → P k x → Q k x) → Settles others limit H P Q k told k told
 stays others limit H P Q k told gives start before a stands holds is = (
   refl,
-  record { parts = []; reached = a; leads = refl; shows = gives a.link is; noted = sym (append-nil told) },
+  record { parts = []; reached = a; leads = refl; shows = gives a.link is; noted = takes_none told },
 )
 
 pub settles_then : (others limit : ℕ) (H : Resources → Type 0) (P Q R : Link → Inbound → Type 0) (k m n : Link)
-    (told mid now : List Note) → Settles others limit H P Q k told m mid → Settles others limit H Q R m mid n now
+    (told mid now : Told) → Settles others limit H P Q k told m mid → Settles others limit H Q R m mid n now
     → Settles others limit H P R k told n now
 settles_then others limit H P Q R k m n told mid now first behind start before a stands holds is =
     let G = CountsPlaces others limit in
@@ -105,14 +105,12 @@ settles_then others limit H P Q R k m n told mid now first behind start before a
         leads = leads_append G k.number a step.reached last.reached step.parts last.parts step.leads
             (subst (λ (i : ℕ). Leads G i step.reached last.parts last.reached) one.0 last.leads);
         shows = last.shows;
-        noted = last.noted ∙ ap (λ (w : List Note). w ++ notes last.parts) step.noted
-            ∙ append_assoc told (notes step.parts) (notes last.parts)
-            ∙ ap (λ (w : List Note). told ++ w) (sym (flat_map-append note_in step.parts last.parts));
+        noted = parts_then told mid now step.parts last.parts step.noted last.noted;
       },
     )
 
 -- A call that is told a part and then lets all follow by itself meets the machine, where its own step leaves a link that is marked
-pub meets_settled : (P : Local → Type 0) (p : Part) (old mid new : Link) (told now : List Note)
+pub meets_settled : (P : Local → Type 0) (p : Part) (old mid new : Link) (told now : Told)
     → ((start : Resources) (before : List Part) (a b : Local) → StandsFor old.number start a before → Shows old a.link → P a
     → Steps old.number a p b → (mid.number ≡ old.number) × IsMarked mid b.link) → AlwaysSettles IsMarked Shows mid told new now
     → Meets unguarded P p old told new now
@@ -150,7 +148,7 @@ module _ (k n : Link) (keeps : KeepsCame k n) (x y : Inbound) where
       subst (λ (phase : m.Phase). LookedIn phase y) (sym same)
       (looked_by x.phase before.way (subst (λ (phase : m.Phase). ShowsBy phase n y) same now.way) looked)
 
-pub marked_settles : (k n : Link) (told now : List Note) → AlwaysSettles Agrees GotAll k told n now → KeepsCame k n
+pub marked_settles : (k n : Link) (told now : Told) → AlwaysSettles Agrees GotAll k told n now → KeepsCame k n
     → AlwaysSettles IsMarked MayPut k told n now
 marked_settles k n told now settles keeps others limit start before a stands holds marked =
     let got = settles others limit start before a stands holds marked.agrees in

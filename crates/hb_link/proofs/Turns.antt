@@ -6,7 +6,7 @@ use Rattle.std.specs.FinMap.{get}
 use Rattle.hb_base.specs.declared.cause.Cause.{Cause}
 use Rattle.hb_base.specs.declared.note.Note.{Note}
 use Rattle.hb_base.specs.declared.note.Note.TheVariants as note
-use Rattle.hb_conn.specs.Connection.{Connection}
+use Rattle.hb_conn.specs.Connection.{Connection, core_of, with_core}
 use Rattle.hb_conn.specs.Observed.{sides, aborted}
 use Rattle.hb_map.specs.Keyed.{IsFirstFrom}
 use Rattle.hb_inbound.specs.Inbound.{Inbound}
@@ -18,6 +18,7 @@ use Rattle.hb_link.specs.declared.tunnel.Stage.{Stage}
 use Rattle.hb_link.specs.declared.tunnel.Stage.TheVariants.{Due, Opening, Live, Failed, Ended, Over}
 use Rattle.hb_link.specs.declared.tunnel.Tunnel.{Tunnel}
 use Rattle.hb_link.specs.Answering.{status_of_end, code_of_end, left_by, left_at, NoneIs, GotFailed, GotEnded, Gives}
+use Rattle.hb_link.specs.Noted.{Told, Takes}
 use Rattle.hb_link.specs.Settling.{Agrees, GotAll, KeepsCame}
 use Rattle.hb_link.specs.Tunnels.{stage_of}
 use Rattle.hb_link.proofs.Answered.{refused_came, told_failed, told_ended, failed_put, failed_left, ended_put, ended_left}
@@ -29,10 +30,10 @@ use Rattle.hb_link.proofs.Shown.{is_at, stage_tunnel}
 came_then : (k m n : Link) → KeepsCame k m → KeepsCame m n → KeepsCame k n
 came_then k m n first behind = record {
   link = behind.link ∙ ap (λ (l : Link). record l { conn = n.conn; tunnels = n.tunnels }) first.link;
-  came = behind.came ∙ ap (λ (c : Connection). record c { receiver = record c.receiver { core = n.conn.receiver.core } }) first.came;
+  came = behind.came ∙ ap (λ (c : Connection). with_core c (core_of n.conn)) first.came;
 }
 
-pub gives_then : (P Q R : Link → Inbound → Type 0) (k m n : Link) (told mid now : List Note) → Gives P Q k told m mid
+pub gives_then : (P Q R : Link → Inbound → Type 0) (k m n : Link) (told mid now : Told) → Gives P Q k told m mid
     → Gives Q R m mid n now → Gives P R k told n now
 gives_then P Q R k m n told mid now first behind = record {
   settles = λ others limit.
@@ -41,7 +42,7 @@ gives_then P Q R k m n told mid now first behind = record {
 }
 
 -- nothing is done where the one condition gives the other
-pub gives_same : (P Q : Link → Inbound → Type 0) (k : Link) (told : List Note) → ((x : Inbound) → P k x → Q k x) → Gives P Q k told k told
+pub gives_same : (P Q : Link → Inbound → Type 0) (k : Link) (told : Told) → ((x : Inbound) → P k x → Q k x) → Gives P Q k told k told
 gives_same P Q k told gives = record {
   settles = λ others limit. stays others limit (λ held. ⊤) P Q k told gives;
   came = record { link = refl; came = refl };
@@ -92,7 +93,7 @@ other_ended (Over why) other = refl
 
 -- TUNNELS THAT FAILED
 
-pub failed_begin : (k : Link) (told : List Note) (next : Option ℕ) → IsFirstFrom k.tunnels 0 next
+pub failed_begin : (k : Link) (told : Told) (next : Option ℕ) → IsFirstFrom k.tunnels 0 next
     → Gives Agrees (GotFailed next) k told k told
 failed_begin k told next first =
     gives_same Agrees (GotFailed next) k told (λ x agrees.
@@ -101,7 +102,7 @@ failed_begin k told next first =
       failed = none_between is_failed refl refl (λ why. refl) k x agrees 0 next first (λ j below. absurd (omega (arith, below)));
     })
 
-pub failed_next : (k : Link) (told : List Note) (n : ℕ) (next : Option ℕ) → IsFirstFrom k.tunnels n next
+pub failed_next : (k : Link) (told : Told) (n : ℕ) (next : Option ℕ) → IsFirstFrom k.tunnels n next
     → Gives (GotFailed (Some n)) (GotFailed next) k told k told
 failed_next k told n next first =
     gives_same (GotFailed (Some n)) (GotFailed next) k told (λ x got.
@@ -110,7 +111,7 @@ failed_next k told n next first =
       failed = none_between is_failed refl refl (λ why. refl) k x got.agrees n next first got.failed;
     })
 
-module _ (k : Link) (s : ℕ) (told : List Note) where
+module _ (k : Link) (s : ℕ) (told : Told) where
   -- another one
   pub not_failed : is_at is_failed (get k.tunnels s) ≡ false → Gives (GotFailed (Some s)) (GotFailed (Some (s + 1))) k told k told
   not_failed not =
@@ -124,19 +125,19 @@ module _ (k : Link) (s : ℕ) (told : List Note) where
     left_is : left_at why k.tunnels s ≡ left_by (Some old) why k.tunnels s
     left_is = ap (λ (o : Option Tunnel). left_by o why k.tunnels s) is
 
-    pub fails_put : (n : ℕ) → status_of_end k s why ≡ Some n → Gives (GotFailed (Some s)) (GotFailed (Some (s + 1))) k told
-        (link_with (refused_on s n (sides k.conn s).peer k.conn) (left_at why k.tunnels s) k)
-        (told ++ note.Verdict k.number s n k.peer (Some old.target) ∷ [])
-    fails_put n due =
+    pub fails_put : (n : ℕ) → status_of_end k s why ≡ Some n → (now : Told)
+        → Takes told (note.Verdict k.number s n k.peer (Some old.target) ∷ []) now
+        → Gives (GotFailed (Some s)) (GotFailed (Some (s + 1))) k told
+        (link_with (refused_on s n (sides k.conn s).peer k.conn) (left_at why k.tunnels s) k) now
+    fails_put n due now took =
         subst (λ (tunnels : Map). Gives (GotFailed (Some s)) (GotFailed (Some (s + 1))) k told
-        (link_with (refused_on s n (sides k.conn s).peer k.conn) tunnels k)
-        (told ++ note.Verdict k.number s n k.peer (Some old.target) ∷ [])) (sym left_is)
+        (link_with (refused_on s n (sides k.conn s).peer k.conn) tunnels k) now) (sym left_is)
         (record {
           settles = λ others limit start before a stands _ got.
               let telling = told_failed k a.link got.agrees s old is why stage in (
                 refl,
                 failed_put others limit a k s old is why told got.agrees telling
-                    (ap (λ (z : t.Tunnel). z.stage) telling ∙ ap stage_of stage) got.failed n due,
+                    (ap (λ (z : t.Tunnel). z.stage) telling ∙ ap stage_of stage) got.failed n due now took,
               );
           came = record { link = refl; came = refused_came k.conn s n (sides k.conn s).peer };
         })
@@ -158,7 +159,7 @@ module _ (k : Link) (s : ℕ) (told : List Note) where
 
 -- TUNNELS THAT ENDED
 
-pub ended_begin : (k : Link) (told : List Note) (next : Option ℕ) → IsFirstFrom k.tunnels 0 next
+pub ended_begin : (k : Link) (told : Told) (next : Option ℕ) → IsFirstFrom k.tunnels 0 next
     → Gives (GotFailed None) (GotEnded next) k told k told
 ended_begin k told next first =
     gives_same (GotFailed None) (GotEnded next) k told (λ x got.
@@ -168,7 +169,7 @@ ended_begin k told next first =
       ended = none_between is_ended refl refl (λ why. refl) k x got.agrees 0 next first (λ j below. absurd (omega (arith, below)));
     })
 
-pub ended_next : (k : Link) (told : List Note) (n : ℕ) (next : Option ℕ) → IsFirstFrom k.tunnels n next
+pub ended_next : (k : Link) (told : Told) (n : ℕ) (next : Option ℕ) → IsFirstFrom k.tunnels n next
     → Gives (GotEnded (Some n)) (GotEnded next) k told k told
 ended_next k told n next first =
     gives_same (GotEnded (Some n)) (GotEnded next) k told (λ x got.
@@ -178,7 +179,7 @@ ended_next k told n next first =
       ended = none_between is_ended refl refl (λ why. refl) k x got.agrees n next first got.ended;
     })
 
-module _ (k : Link) (s : ℕ) (told : List Note) where
+module _ (k : Link) (s : ℕ) (told : Told) where
   pub not_ended : is_at is_ended (get k.tunnels s) ≡ false → Gives (GotEnded (Some s)) (GotEnded (Some (s + 1))) k told k told
   not_ended not =
       gives_same (GotEnded (Some s)) (GotEnded (Some (s + 1))) k told (λ x got.
@@ -189,40 +190,38 @@ module _ (k : Link) (s : ℕ) (told : List Note) where
       })
 
   module _ (old : Tunnel) (why : Cause) (is : get k.tunnels s ≡ Some old) (stage : old.stage ≡ Ended why) where
-    abbrev noted : List Note
-    noted = told ++ note.End k.number s why old.went_up old.went_down ∷ []
+    abbrev made : Note
+    made = note.End k.number s why old.went_up old.went_down
 
     ended_is : left_at why k.tunnels s ≡ left_by (Some old) why k.tunnels s
     ended_is = ap (λ (o : Option Tunnel). left_by o why k.tunnels s) is
 
-    pub ends_put : (n : ℕ) → code_of_end k s why ≡ Some n → Gives (GotEnded (Some s)) (GotEnded (Some (s + 1))) k told
-        (link_with (aborted k.conn s n) (left_at why k.tunnels s) k)
-        (told ++ note.End k.number s why old.went_up old.went_down ∷ [])
-    ends_put n due =
+    pub ends_put : (n : ℕ) → code_of_end k s why ≡ Some n → (now : Told) → Takes told (made ∷ []) now
+        → Gives (GotEnded (Some s)) (GotEnded (Some (s + 1))) k told (link_with (aborted k.conn s n) (left_at why k.tunnels s) k) now
+    ends_put n due now took =
         subst (λ (tunnels : Map). Gives (GotEnded (Some s)) (GotEnded (Some (s + 1))) k told
-        (link_with (aborted k.conn s n) tunnels k) noted) (sym ended_is)
+        (link_with (aborted k.conn s n) tunnels k) now) (sym ended_is)
         (record {
           settles = λ others limit start before a stands _ got.
               let telling = told_ended k a.link got.agrees s old is why stage in (
                 refl,
                 ended_put others limit a k s old is why told got.agrees telling
-                    (ap (λ (z : t.Tunnel). z.stage) telling ∙ ap stage_of stage) got.failed got.ended n due,
+                    (ap (λ (z : t.Tunnel). z.stage) telling ∙ ap stage_of stage) got.failed got.ended n due now took,
               );
           came = record { link = refl; came = refl };
         })
 
-    pub ends_left : code_of_end k s why ≡ None → Gives (GotEnded (Some s)) (GotEnded (Some (s + 1))) k told
-        (link_with k.conn (left_at why k.tunnels s) k)
-        (told ++ note.End k.number s why old.went_up old.went_down ∷ [])
-    ends_left due =
-        subst (λ (tunnels : Map). Gives (GotEnded (Some s)) (GotEnded (Some (s + 1))) k told (link_with k.conn tunnels k) noted)
+    pub ends_left : code_of_end k s why ≡ None → (now : Told) → Takes told (made ∷ []) now
+        → Gives (GotEnded (Some s)) (GotEnded (Some (s + 1))) k told (link_with k.conn (left_at why k.tunnels s) k) now
+    ends_left due now took =
+        subst (λ (tunnels : Map). Gives (GotEnded (Some s)) (GotEnded (Some (s + 1))) k told (link_with k.conn tunnels k) now)
         (sym ended_is)
         (record {
           settles = λ others limit start before a stands _ got.
               let telling = told_ended k a.link got.agrees s old is why stage in (
                 refl,
                 ended_left others limit a k s old is why told got.agrees telling
-                    (ap (λ (z : t.Tunnel). z.stage) telling ∙ ap stage_of stage) got.failed got.ended due,
+                    (ap (λ (z : t.Tunnel). z.stage) telling ∙ ap stage_of stage) got.failed got.ended due now took,
               );
           came = record { link = refl; came = refl };
         })
@@ -254,7 +253,7 @@ all_got k x got = record {
       (stage_tunnel is_ended refl refl (λ why. refl) o (x.tunnels s) shows ∙ got.ended s tt);
 }
 
-pub all_give : (k m n : Link) (told mid now : List Note) → Gives Agrees (GotFailed None) k told m mid
+pub all_give : (k m n : Link) (told mid now : Told) → Gives Agrees (GotFailed None) k told m mid
     → Gives (GotFailed None) (GotEnded None) m mid n now → Gives Agrees GotAll k told n now
 all_give k m n told mid now first behind =
     gives_then Agrees (GotEnded None) GotAll k n n told now now

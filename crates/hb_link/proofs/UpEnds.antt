@@ -5,13 +5,12 @@ use Rattle.std.specs.FinMap.{get-empty}
 use Rattle.std.specs.Ordering.{nat_cmp}
 use Rattle.hb_base.specs.declared.cause.Cause.{Cause}
 use Rattle.hb_base.specs.declared.cause.Cause.TheVariants as cause
-use Rattle.hb_conn.specs.Connection.{Connection, Finds, FindsWhile, FindsOf, FindsAfter, FindsBy, ended_by as ended_with, fresh_server}
+use Rattle.hb_conn.specs.Connection.{Connection, core_of, Finds, FindsWhile, FindsOf, FindsAfter, FindsBy, ended_by as ended_with, fresh_server}
 use Rattle.hb_conn.specs.Faults.{faulted as fails}
 use Rattle.hb_conn.specs.Observed as observed
-use Rattle.hb_conn.specs.Observed.{sides, streams, chunk_of, status_put, end_put, data_put, aborted}
+use Rattle.hb_conn.specs.Observed.{sides, streams, chunk_of, is_paused, status_put, end_put, data_put, aborted}
 use Rattle.hb_conn.specs.Outcome.{Gives}
 use Rattle.hb_conn.specs.Preface.{is_whole}
-use Rattle.hb_conn.specs.Receiving.{pauses}
 use Rattle.hb_conn.specs.declared.found.Found.{Found}
 use Rattle.hb_conn.specs.declared.found.Found.TheVariants as found
 use Rattle.hb_conn.specs.declared.machine.Core.{Core}
@@ -161,11 +160,11 @@ unfolding Rattle.hb_conn.specs.Faults.faulted
 fault_told c new code told gives = gives.1
 
 ended_behind : (c d : Connection) (told : Found) → Finds c d told → Ended told c d
-ended_behind c d told finds = by (pauses c.receiver.core) finds
+ended_behind c d told finds = by (is_paused c) finds
   where
     first : (same : Bool) → FindsBy same c d told → Ended told c d
     first true finds = inr (inr (inl finds.2))
-    first false finds = inr (inr (inr (protocol_error, fault_told c.receiver.core d.receiver.core protocol_error told finds.0)))
+    first false finds = inr (inr (inr (protocol_error, fault_told (core_of c) (core_of d) protocol_error told finds.0)))
 
     after : (whole : Bool) → FindsAfter whole c d told → Ended told c d
     after true finds = first c.preface.same finds

@@ -1,10 +1,8 @@
 -- Bytes that were written to an upstream.
 use Rattle.std.proofs.Common.{◌≡◌, ℕ, ◌+◌, ◌-◌, ◌^◌, ◌<◌, ◌==◌, Bool, true, false, cond, min, List, [], ◌∷◌, ◌++◌, length, Some, refl, ap, ap₂, sym, ◌∙◌, subst, arith}
-use Rattle.std.proofs.lemmas.List.{append-nil}
 use Rattle.std.proofs.lemmas.Bool.Decides.{nat_tests}
 use Rattle.std.specs.FinMap.{get, insert}
 use Rattle.hb_base.specs.declared.cause.Cause.TheVariants as cause
-use Rattle.hb_base.specs.declared.note.Note.{Note}
 use Rattle.hb_base.specs.declared.note.Note.TheVariants as note
 use Rattle.hb_conn.specs.Connection.{Connection}
 use Rattle.hb_conn.specs.Observed.{creditable, credited, count_put}
@@ -21,11 +19,13 @@ use Rattle.hb_link.specs.declared.link.Link.{Link}
 use Rattle.hb_link.specs.declared.tunnel.Stage.TheVariants.{Over}
 use Rattle.hb_link.specs.declared.tunnel.Tunnel.{Tunnel}
 use Rattle.hb_link.specs.Calls.{UpEnters}
+use Rattle.hb_link.specs.Noted.{Told, Takes}
 use Rattle.hb_link.specs.Reaches.{Reaches, unguarded}
 use Rattle.hb_link.specs.Shows.{Shows}
 use Rattle.hb_link.specs.Tunnels.{tunnel_of, as_told, ShowsTunnel}
 use Rattle.hb_link.proofs.Living.{Lives, lives, shows_live}
 use Rattle.hb_link.proofs.Moving.{link_with, machine_with, answered_at, Only, only_one, only_again, at_only, serves_on}
+use Rattle.hb_link.proofs.Noted.{takes_none}
 use Rattle.hb_link.proofs.Waits.{Holds, use_holds, live_still, rests_still}
 
 -- a count that stops grows by what is added to it
@@ -146,7 +146,7 @@ module _ (a : Local) (k : Link) (shows : Shows k a.link) (s u : ℕ) (bytes : Li
         not_done = open_still;
       })
 
-  wrote_on : (told : List Note) → done_now ≡ false
+  wrote_on : (told : Told) → done_now ≡ false
       → Reaches unguarded k.number (with_link y a) (link_with c (insert k.tunnels s (wrote_here n old)) k) told told
   wrote_on told open_still = record {
     parts = credits s given ∷ [];
@@ -155,7 +155,7 @@ module _ (a : Local) (k : Link) (shows : Shows k a.link) (s u : ℕ) (bytes : Li
     shows = with_shown (wrote_here n old) next first.tunnels only_first
         (shows_live old (wrote_here n old) next lives.stage lives.has_up refl refl next_told) (ap is_unanswered stage_now)
         (rests_now open_still);
-    noted = sym (append-nil told);
+    noted = takes_none told;
   }
 
   -- all went through, and it is over
@@ -176,10 +176,10 @@ module _ (a : Local) (k : Link) (shows : Shows k a.link) (s u : ℕ) (bytes : Li
       ∙ ap₂ (λ (i j : ℕ). note.End k.number s cause.Done i j) (ap (λ (z : Machine). z.went_up) next_told)
       (ap (λ (z : Machine). z.went_down) next_told))
 
-  wrote_last : (told : List Note) → done_now ≡ true
-      → Reaches unguarded k.number (with_link y a) (link_with c (insert k.tunnels s (over_at n old)) k) told
-      (told ++ note.End k.number s cause.Done (wrote_here n old).went_up old.went_down ∷ [])
-  wrote_last told all_done =
+  wrote_last : (told later : Told) → Takes told (note.End k.number s cause.Done (wrote_here n old).went_up old.went_down ∷ []) later
+      → done_now ≡ true
+      → Reaches unguarded k.number (with_link y a) (link_with c (insert k.tunnels s (over_at n old)) k) told later
+  wrote_last told later took all_done =
       let last = at_stream s (left_with cause.Done) first in
       record {
         parts = credits s given ∷ done s (note.End k.number s cause.Done (wrote_here n old).went_up old.went_down) ∷ [];
@@ -210,13 +210,13 @@ module _ (a : Local) (k : Link) (shows : Shows k a.link) (s u : ℕ) (bytes : Li
         shows = with_shown (over_at n old) (left_with cause.Done next) last.tunnels
             (only_again s x.tunnels next first (left_with cause.Done) only_first) (over_stage, up_is) (ap is_unanswered over_stage)
             (subst (λ (stage : t.Stage). RestsBy stage d s (left_with cause.Done next)) (sym over_stage) tt);
-        noted = refl;
+        noted = took;
       }
 
   done_is : done_now ≡ is_done_on c s (tunnel_of (wrote_here n old))
   done_is = ap₂ (λ (to : Connection) (z : Machine). is_done_on to s z) conn_is next_told
 
-module _ (k : Link) (s : ℕ) (old : Tunnel) (told : List Note) (is : get k.tunnels s ≡ Some old) (u : ℕ) (bytes : List ℕ) where
+module _ (k : Link) (s : ℕ) (old : Tunnel) (told : Told) (is : get k.tunnels s ≡ Some old) (u : ℕ) (bytes : List ℕ) where
   abbrev size : ℕ
   size = length bytes
 
@@ -230,14 +230,14 @@ module _ (k : Link) (s : ℕ) (old : Tunnel) (told : List Note) (is : get k.tunn
             (wrote_on a k shows s u bytes old l step.0 told (done_is a k shows s u bytes old l step.0 ∙ open_still)),
       )
 
-  pub wrote_all : is_done_on (credit_back s size k.conn) s (tunnel_of (wrote_here size old)) ≡ true
-      → UpEnters s (e.Went u bytes) k told (link_with (credit_back s size k.conn) (insert k.tunnels s (over_at size old)) k)
-      (told ++ note.End k.number s cause.Done (wrote_here size old).went_up old.went_down ∷ [])
-  wrote_all all_done start before a b stands shows _ step =
+  pub wrote_all : (later : Told) → Takes told (note.End k.number s cause.Done (wrote_here size old).went_up old.went_down ∷ []) later
+      → is_done_on (credit_back s size k.conn) s (tunnel_of (wrote_here size old)) ≡ true
+      → UpEnters s (e.Went u bytes) k told (link_with (credit_back s size k.conn) (insert k.tunnels s (over_at size old)) k) later
+  wrote_all later took all_done start before a b stands shows _ step =
       let l = lives start before a k s old stands shows is step.0.0.1 in (
         refl,
         subst (λ (z : Local). Reaches unguarded k.number z
-            (link_with (credit_back s size k.conn) (insert k.tunnels s (over_at size old)) k) told
-            (told ++ note.End k.number s cause.Done (wrote_here size old).went_up old.went_down ∷ [])) (sym step.1)
-            (wrote_last a k shows s u bytes old l step.0 told (done_is a k shows s u bytes old l step.0 ∙ all_done)),
+            (link_with (credit_back s size k.conn) (insert k.tunnels s (over_at size old)) k) told later)
+            (sym step.1)
+            (wrote_last a k shows s u bytes old l step.0 told later took (done_is a k shows s u bytes old l step.0 ∙ all_done)),
       )

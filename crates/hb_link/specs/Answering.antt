@@ -3,7 +3,6 @@ use Rattle.std.specs.Prelude.{⊤, ◌≡◌, ℕ, ◌<◌, ◌==◌, ◌&&◌, 
 use Rattle.std.specs.FinMap.{FinMap, get, insert, remove}
 use Rattle.std.specs.Ordering.{nat_cmp}
 use Rattle.hb_base.specs.declared.cause.Cause.{Cause}
-use Rattle.hb_base.specs.declared.note.Note.{Note}
 use Rattle.hb_conn.specs.Observed.{own_side_open, sides}
 use Rattle.hb_inbound.specs.Inbound.{Inbound}
 use Rattle.hb_inbound.specs.Runs.{failure_status, end_code}
@@ -11,6 +10,7 @@ use Rattle.hb_inbound.specs.Tunnel.{Stage, is_failed, is_ended}
 use Rattle.hb_link.specs.declared.link.Link.{Link}
 use Rattle.hb_link.specs.declared.tunnel.Stage.TheVariants.{Over}
 use Rattle.hb_link.specs.declared.tunnel.Tunnel.{Tunnel}
+use Rattle.hb_link.specs.Noted.{Told}
 use Rattle.hb_link.specs.Observed.{serves_in}
 use Rattle.hb_link.specs.Settling.{Agrees, AlwaysSettles, KeepsCame}
 
@@ -53,6 +53,6 @@ pub record GotEnded (to : Option ℕ) (k : Link) (x : Inbound) : Type 0 where
   pub ended : NoneIs is_ended to x
 
 -- parts that follow by themselves lead from the one to the other, and what came stays
-pub record Gives (P Q : Link → Inbound → Type 0) (old : Link) (told : List Note) (new : Link) (now : List Note) : Type 0 where
+pub record Gives (P Q : Link → Inbound → Type 0) (old : Link) (told : Told) (new : Link) (now : Told) : Type 0 where
   pub settles : AlwaysSettles P Q old told new now
   pub came : KeepsCame old new

@@ -1,8 +1,7 @@
 -- What each call of a link is to the machine.
-use Rattle.std.specs.Prelude.{⊤, ◌≡◌, ℕ, ◌<◌, Bool, true, List, [], length}
+use Rattle.std.specs.Prelude.{⊤, ◌≡◌, ℕ, ◌<◌, Bool, true, List, [], length, Some}
 use Rattle.hb_base.specs.declared.cause.Cause.{Cause}
 use Rattle.hb_base.specs.declared.door.Door.TheVariants as door
-use Rattle.hb_base.specs.declared.note.Note.{Note}
 use Rattle.hb_disco.specs.declared.response.Response.{Response}
 use Rattle.hb_held.specs.Held.{Resources}
 use Rattle.hb_held.specs.Outcome.{after_response}
@@ -10,11 +9,12 @@ use Rattle.hb_world.specs.declared.entry.Entry.{Entry}
 use Rattle.hb_world.specs.declared.entry.Entry.TheVariants as e
 use Rattle.hb_inbound.specs.Calm.{wants_by, output_by}
 use Rattle.hb_inbound.specs.Inbound.{Inbound, faulted}
-use Rattle.hb_inbound.specs.Part.{Part, entry, up, applied, stopped}
+use Rattle.hb_inbound.specs.Part.{Part, entry, up, crowded, applied, stopped}
 use Rattle.hb_inbound.specs.Runs.{Local, Steps, StandsFor}
 use Rattle.hb_link.specs.declared.link.Link.{Link}
 use Rattle.hb_link.specs.Counting.{CountsPlaces}
 use Rattle.hb_link.specs.Load.{HasLoad}
+use Rattle.hb_link.specs.Noted.{Told}
 use Rattle.hb_link.specs.Observed.{up_wants_by, up_held_by}
 use Rattle.hb_link.specs.Reaches.{Reaches, Meets, unguarded}
 use Rattle.hb_link.specs.Shows.{Shows, ShowsTunnels}
@@ -22,37 +22,42 @@ use Rattle.hb_link.specs.Shows.{Shows, ShowsTunnels}
 -- ENTRIES
 
 -- an entry of the upstream of a stream
-abbrev pub UpEnters : ℕ → Entry → Link → List Note → Link → List Note → Type 0
+abbrev pub UpEnters : ℕ → Entry → Link → Told → Link → Told → Type 0
 UpEnters s x old told new now = Meets unguarded (λ a. ⊤) (up s x) old told new now
 
 -- one of the link, and the end of the run
-abbrev pub Enters : Entry → Link → List Note → Link → List Note → Type 0
+abbrev pub Enters : Entry → Link → Told → Link → Told → Type 0
 Enters x old told new now = Meets unguarded (λ a. ⊤) (entry x) old told new now
 
-abbrev pub Stops : Cause → Link → List Note → Link → List Note → Type 0
+abbrev pub Stops : Cause → Link → Told → Link → Told → Type 0
 Stops cause old told new now = Meets unguarded (λ a. ⊤) (stopped cause) old told new now
 
 -- some bytes of so many went
-abbrev pub Goes : ℕ → Link → List Note → Link → List Note → Type 0
+abbrev pub Goes : ℕ → Link → Told → Link → Told → Type 0
 Goes n old told new now = (bytes : List ℕ) → length bytes ≡ n → Enters (e.Went old.number bytes) old told new now
 
-abbrev pub UpGoes : ℕ → ℕ → Link → List Note → Link → List Note → Type 0
+abbrev pub UpGoes : ℕ → ℕ → Link → Told → Link → Told → Type 0
 UpGoes s n old told new now = (u : ℕ) (bytes : List ℕ) → length bytes ≡ n → UpEnters s (e.Went u bytes) old told new now
 
 -- bytes came, while this was held
-abbrev pub Takes : Resources → (others limit : ℕ) → List ℕ → Link → List Note → Link → List Note → Type 0
+abbrev pub Takes : Resources → (others limit : ℕ) → List ℕ → Link → Told → Link → Told → Type 0
 Takes held others limit bytes old told new now =
     Meets (CountsPlaces others limit) (λ a. a.held ≡ held) (entry (e.Came old.number bytes)) old told new now
 
 -- a response made this of what was held
-abbrev pub Updates : Resources → Link → List Note → Link → List Note → Type 0
+abbrev pub Updates : Resources → Link → Told → Link → Told → Type 0
 Updates held old told new now =
     (r : Response) → Meets unguarded (λ a. held ≡ after_response a.held r) (applied r) old told new now
 
--- a link is born
+-- a link is born, and makes no note
 abbrev pub Begins : ℕ → Link → Type 0
 Begins l k = (start : Resources) (before : List Part) (a b : Local) → StandsFor l start a before
-    → Steps l a (entry (e.Accepted l door.Inbound)) b → Reaches unguarded l b k [] []
+    → Steps l a (entry (e.Accepted l door.Inbound)) b → Reaches unguarded l b k (Some []) (Some [])
+
+-- a link is born where as many are open as may be: it is turned away
+abbrev pub TurnsAway : ℕ → Link → Type 0
+TurnsAway l k = (start : Resources) (before : List Part) (a b : Local) → StandsFor l start a before
+    → Steps l a (entry (e.Accepted l door.Inbound)) b → (c : Local) × Steps l b crowded c × Shows k c.link
 
 -- OBSERVATIONS OF THE MACHINES
 

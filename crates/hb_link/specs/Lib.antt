@@ -4,11 +4,13 @@ pub mod Answering
 pub mod Asking
 pub mod Calls
 pub mod Counting
+pub mod Fresh
 pub mod Fronting
 pub mod Going
 pub mod Load
 pub mod Looking
 pub mod Marking
+pub mod Noted
 pub mod Observed
 pub mod Putting
 pub mod Reaches

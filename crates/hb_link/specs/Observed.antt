@@ -1,5 +1,5 @@
 -- What the owner of a link sees of it.
-use Rattle.std.specs.Prelude.{ℕ, ◌-◌, ◌==◌, not, Bool, true, false, List, [], length, Option, Some, None}
+use Rattle.std.specs.Prelude.{◌≡◌, ℕ, ◌-◌, ◌<◌, ◌≤◌, ◌==◌, not, Bool, true, false, List, [], length, Option, Some, None}
 use Rattle.std.specs.FinMap.{get}
 use Rattle.hb_conn.specs.Observed as connection
 use Rattle.hb_kept.specs.Kept.{wants_of}
@@ -69,3 +69,17 @@ up_wants_on k s = up_wants_in (get k.tunnels s)
 
 abbrev pub up_held_on : Link → ℕ → List ℕ
 up_held_on k s = up_held_in (get k.tunnels s)
+
+-- the number of the upstream of a tunnel, 0 where it has none
+abbrev pub up_in : Option Tunnel → ℕ
+up_in None = 0
+up_in (Some k) = k.up
+
+abbrev pub up_on : Link → ℕ → ℕ
+up_on k s = up_in (get k.tunnels s)
+
+-- the first stream from a number on whose tunnel has an upstream, and the number of that
+abbrev pub IsNextUp : Link → ℕ → Option (ℕ × ℕ) → Type 0
+IsNextUp k from None = (s : ℕ) → from ≤ s → up_on k s ≡ 0
+IsNextUp k from (Some next) =
+    (from ≤ next.0) × (0 < next.1) × (up_on k next.0 ≡ next.1) × ((s : ℕ) → from ≤ s → s < next.0 → up_on k s ≡ 0)

@@ -14,6 +14,7 @@ use Rattle.hb_link.specs.declared.link.Link.{Link}
 use Rattle.hb_link.specs.declared.phase.Phase.TheVariants.{Fronting}
 use Rattle.hb_link.specs.declared.tunnel.Stage.TheVariants.{Live}
 use Rattle.hb_link.specs.declared.tunnel.Tunnel.{Tunnel}
+use Rattle.hb_link.specs.Noted.{Takes}
 use Rattle.hb_link.specs.Reaches.{Follows, unguarded}
 use Rattle.hb_link.specs.Settling.{Agrees, GotAll}
 use Rattle.hb_link.specs.Shows.{Shows}
@@ -44,12 +45,19 @@ GetsLater = (k : Link) (x : Inbound) (s : ℕ) (why : Cause) → (x.tunnels s).s
 -- a tunnel ended: all get what they get, and no note is told; or that of another one on a higher stream is told first
 abbrev pub TellsNone : Type 0
 TellsNone = (l : ℕ) (a : Local) (k : Link) (told : List Note) (s : ℕ) (why : Cause) → (a.link.tunnels s).stage ≡ t.ended why
-    → Follows unguarded GotAll l a k told told → ⊥
+    → Follows unguarded GotAll l a k (Some told) (Some told) → ⊥
 
 abbrev pub TellsHigherFirst : Type 0
 TellsHigherFirst = (l : ℕ) (a : Local) (k : Link) (told rest : List Note) (s j : ℕ)
     (why second : Cause) (up down : ℕ) → s < j → (a.link.tunnels s).stage ≡ t.ended why
-    → Follows unguarded Agrees l a k told (told ++ note.End l j second up down ∷ rest) → ⊥
+    → Follows unguarded Agrees l a k (Some told) (Some (told ++ note.End l j second up down ∷ rest)) → ⊥
+
+-- a note is told twice; or one is told behind one that was lost
+abbrev pub TellsTwice : Type 0
+TellsTwice = (told : List Note) (n : Note) → Takes (Some told) (n ∷ []) (Some (told ++ n ∷ n ∷ [])) → ⊥
+
+abbrev pub TellsBehindLost : Type 0
+TellsBehindLost = (more now : List Note) → Takes None more (Some now) → ⊥
 
 -- a link that was taken in just now, of which nothing is known, may be shown by one without bytes and tunnels
 abbrev pub NewIsShown : Type 0

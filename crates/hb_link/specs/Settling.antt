@@ -1,7 +1,6 @@
 -- What follows by itself behind what a link is told: what its tunnels get, and what may be put then.
 use Rattle.std.specs.Prelude.{⊤, ◌≡◌, ℕ, ◌≤◌, IsSome, List}
 use Rattle.std.specs.FinMap.{get}
-use Rattle.hb_base.specs.declared.note.Note.{Note}
 use Rattle.hb_conn.specs.Observed.{IsLookedAt, KeepsWhatCame}
 use Rattle.hb_frames.specs.Numbers.{largest}
 use Rattle.hb_front.specs.Reading.{IsAnswer, More}
@@ -13,6 +12,7 @@ use Rattle.hb_inbound.specs.Part.{Part}
 use Rattle.hb_inbound.specs.Runs.{Local, StandsFor}
 use Rattle.hb_link.specs.declared.link.Link.{Link}
 use Rattle.hb_link.specs.Counting.{CountsPlaces}
+use Rattle.hb_link.specs.Noted.{Told}
 use Rattle.hb_link.specs.Reaches.{Follows}
 use Rattle.hb_link.specs.Shows.{ShowsBy}
 use Rattle.hb_link.specs.Tunnels.{phase_of, ShowsTunnel}
@@ -55,14 +55,14 @@ pub record MayLook (k : Link) (x : Inbound) : Type 0 where
   pub fares : Fares x.conn
 
 -- The code is told nothing. For each run of which P holds, parts that follow by themselves lead to one of which Q holds
-abbrev pub Settles : (others limit : ℕ) → (Resources → Type 0) → (P Q : Link → Inbound → Type 0) → Link → List Note → Link → List Note
+abbrev pub Settles : (others limit : ℕ) → (Resources → Type 0) → (P Q : Link → Inbound → Type 0) → Link → Told → Link → Told
     → Type 0
 Settles others limit H P Q old told new now =
     (start : Resources) (before : List Part) (a : Local) → StandsFor old.number start a before → H a.held → P old a.link
     → (new.number ≡ old.number) × Follows (CountsPlaces others limit) Q old.number a new told now
 
 -- whatever is held, and however many places are taken
-abbrev pub AlwaysSettles : (P Q : Link → Inbound → Type 0) → Link → List Note → Link → List Note → Type 0
+abbrev pub AlwaysSettles : (P Q : Link → Inbound → Type 0) → Link → Told → Link → Told → Type 0
 AlwaysSettles P Q old told new now = (others limit : ℕ) → Settles others limit (λ held. ⊤) P Q old told new now
 
 -- what came stays: of the link only its connection and its tunnels change, and of the connection nothing of what came

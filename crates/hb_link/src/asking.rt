@@ -1,12 +1,13 @@
 //! How requests are answered.
 
-ghost use Rattle.std.specs.Prelude.{◌≡◌, ◌≤◌, ◌<◌, ◌∷◌, ◌++◌, [], None, IsTrue, OnOk, OnErr};
+ghost use Rattle.std.specs.Prelude.{◌≡◌, ◌≤◌, ◌<◌, ◌∷◌, [], None, IsTrue, OnOk, OnErr};
 ghost use Rattle.std.specs.FinMap.{get, insert};
 ghost use Rattle.hb_base.specs.declared.note.Note.TheVariants as note;
 ghost use Rattle.hb_conn.specs.Observed.{own_side_open, sides, aborted};
 ghost use Rattle.hb_inbound.specs.Runs.{refused_on};
 ghost use Rattle.hb_link.specs.Asking.{due_to, FindsFull, IsAnswerable, IsRequested};
 ghost use Rattle.hb_link.specs.Looking.{left_to_look};
+ghost use Rattle.hb_link.specs.Noted.{Takes};
 ghost use Rattle.hb_link.specs.Settling.{MayLook, Settles};
 
 use crate::link::Link;
@@ -63,8 +64,8 @@ impl Link {
         ensures link { self.new ≡ record self.old {
           conn = refused_on asked.stream status (sides self.old.conn asked.stream).peer self.old.conn;
         } }
-        ensures told { N.told notes.new
-            ≡ N.told notes.old ++ note.Verdict self.old.number asked.stream status self.old.peer asked.target ∷ [] }
+        ensures told { Takes (N.told notes.old) (note.Verdict self.old.number asked.stream status self.old.peer asked.target ∷ [])
+            (N.told notes.new) }
     {
         refuse(&mut self.conn, asked.stream, status);
         notes.verdict(self.number, asked.stream, status, &self.peer, asked.target);
@@ -74,7 +75,7 @@ impl Link {
     fn reset_request<N: Notes>(&mut self, stream: u32, notes: &mut N)
         requires open { IsTrue (own_side_open self.old.conn stream) }
         ensures link { self.new ≡ record self.old { conn = aborted self.old.conn stream 1 } }
-        ensures told { N.told notes.new ≡ N.told notes.old ++ note.Verdict self.old.number stream 0 self.old.peer None ∷ [] }
+        ensures told { Takes (N.told notes.old) (note.Verdict self.old.number stream 0 self.old.peer None ∷ []) (N.told notes.new) }
     {
         self.conn.put_reset(stream, 1);
         notes.verdict(self.number, stream, 0, &self.peer, None);

@@ -2,7 +2,7 @@
 //! does nothing.
 
 ghost use Rattle.hb_link.specs.Refused.{KeepsNone, LivesEarly, HasAnother, PutsLater, AnswersLater, GetsLater};
-ghost use Rattle.hb_link.specs.Refused.{TellsNone, TellsHigherFirst, NewIsShown};
+ghost use Rattle.hb_link.specs.Refused.{TellsNone, TellsHigherFirst, TellsTwice, TellsBehindLost, NewIsShown};
 
 /// A link has a tunnel for each that lives, at its stage, and the same connection while it serves. Between two calls nothing more could
 /// be put, and each tunnel that ended got what its stream gets.
@@ -19,6 +19,12 @@ pub fn other_links_are_not_shown()
 pub fn ends_are_told_in_order()
     ensures none { TellsNone }
     ensures order { TellsHigherFirst }
+{}
+
+/// A note is told once, and none is told behind one that was lost.
+pub fn notes_are_told_once()
+    ensures twice { TellsTwice }
+    ensures behind { TellsBehindLost }
 {}
 
 /// A link that was taken in just now is shown by one without bytes and tunnels.

@@ -25,6 +25,7 @@ mod settling;
 mod taking;
 mod tunnel;
 mod update;
+mod ups;
 mod upstream;
 
 pub use link::Link;

@@ -1,13 +1,14 @@
 //! An inbound link.
 
 ghost use Rattle.std.specs.Prelude.{◌≡◌, IfOk};
-ghost use Rattle.hb_link.specs.Calls.{Begins, Wants, Puts};
+ghost use Rattle.hb_link.specs.Calls.{Begins, TurnsAway, Wants, Puts};
+ghost use Rattle.hb_link.specs.Fresh.{IsFresh};
 ghost use Rattle.hb_link.specs.Observed.{wants_on, output_on};
 
 use crate::front::Front;
 use crate::phase::Phase;
 use crate::tunnel::Tunnel;
-use hb_base::{Ip, NoMemory, Peer};
+use hb_base::{Cause, Ip, NoMemory, Peer};
 use hb_conn::Conn;
 use hb_slots::Slots;
 use std::alloc::Global;
@@ -34,17 +35,16 @@ pub struct Link {
 }
 
 impl Link {
-    /// A link that was accepted: its front header is to come.
+    /// A link in this phase of which nothing came.
     ///
-    /// Errors: `NoMemory`; a link of which nothing is kept is to be closed for that cause.
-    pub fn accepted(alloc: Global, number: u64) -> Result<Link, NoMemory>
-        ensures begins { IfOk result (λ link. Begins number link) }
-        ensures number { IfOk result (λ link. link.number ≡ number) }
+    /// Errors: `NoMemory`.
+    fn fresh(alloc: Global, number: u64, phase: Phase) -> Result<Link, NoMemory>
+        ensures { IfOk result (λ link. IsFresh number phase link) }
     {
         Ok(Link {
             alloc,
             number,
-            phase: Phase::Fronting,
+            phase,
             front: Front::new(alloc)?,
             peer: Peer {
                 ip: Ip::V4(0),
@@ -54,6 +54,26 @@ impl Link {
             conn: Conn::server(alloc)?,
             tunnels: Slots::new(alloc),
         })
+    }
+
+    /// A link that was accepted: its front header is to come.
+    ///
+    /// Errors: `NoMemory`; a link of which nothing is kept is to be closed for that cause.
+    pub fn accepted(alloc: Global, number: u64) -> Result<Link, NoMemory>
+        ensures begins { IfOk result (λ link. Begins number link) }
+        ensures number { IfOk result (λ link. link.number ≡ number) }
+    {
+        Link::fresh(alloc, number, Phase::Fronting)
+    }
+
+    /// A link that was accepted where as many are open as may be: it is to be closed for that cause.
+    ///
+    /// Errors: `NoMemory`, as of one that is taken in.
+    pub fn turned_away(alloc: Global, number: u64) -> Result<Link, NoMemory>
+        ensures turns { IfOk result (λ link. TurnsAway number link) }
+        ensures number { IfOk result (λ link. link.number ≡ number) }
+    {
+        Link::fresh(alloc, number, Phase::Closing(Cause::NoRoom))
     }
 
     /// How many bytes may be read now.

@@ -3,6 +3,7 @@
 ghost use Rattle.std.specs.Prelude.{◌≡◌};
 ghost use Rattle.std.specs.FinMap.{get};
 ghost use Rattle.hb_link.specs.Calls.{Loads, LastWords};
+ghost use Rattle.hb_link.specs.Load.{places_on};
 ghost use Rattle.hb_link.specs.Observed.{says_last};
 ghost use Rattle.hb_link.specs.Tunnels.{has_place};
 
@@ -37,7 +38,8 @@ impl Link {
 
     /// How many of its tunnels take a place.
     pub fn load(&self) -> usize
-        ensures { Loads self.now result }
+        ensures value { result ≡ places_on self.now }
+        ensures machine { Loads self.now result }
     {
         let mut count = 0;
         let mut from = self.tunnels.first_from(0);

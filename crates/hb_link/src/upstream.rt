@@ -1,6 +1,6 @@
 //! What comes and goes on the upstream of a stream.
 
-ghost use Rattle.std.specs.Prelude.{◌≡◌, ◌≤◌, ◌&&◌, ℕ, [], length};
+ghost use Rattle.std.specs.Prelude.{◌≡◌, ◌≤◌, ◌&&◌, ℕ, [], length, Some};
 ghost use Rattle.hb_base.specs.declared.door.Why.{Why};
 ghost use Rattle.hb_base.specs.declared.target.Target.{Target};
 ghost use Rattle.hb_world.specs.declared.entry.Entry.TheVariants as e;
@@ -32,7 +32,7 @@ fn put_first(conn: &mut Conn, may: bool, stream: u32, b: &[u8]) -> usize
 impl Link {
     /// The dial of a stream's target gave this link.
     pub fn dialled(&mut self, stream: u32, link: u64)
-        ensures { (to : Target) (why : Why) → UpEnters stream (e.Dialled link to why) self.old [] self.new [] }
+        ensures { (to : Target) (why : Why) → UpEnters stream (e.Dialled link to why) self.old (Some []) self.new (Some []) }
     {
         let Some(tunnel) = self.tunnels.at(stream) else {
             return;
@@ -70,7 +70,7 @@ impl Link {
     /// These bytes came from it.
     pub fn up_bytes(&mut self, stream: u32, b: &[u8])
         requires { length b.now ≤ up_wants_on self.old stream }
-        ensures { (u : ℕ) → UpEnters stream (e.Came u b.now) self.old [] self.new [] }
+        ensures { (u : ℕ) → UpEnters stream (e.Came u b.now) self.old (Some []) self.new (Some []) }
     {
         if b.is_empty() {
             return;

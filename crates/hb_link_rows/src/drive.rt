@@ -65,17 +65,17 @@ fn frames_in(rt: &impl Abort, alloc: Global, octets: &[u8]) -> Vec<Frame> {
 /// A link, what is held beside it, the places of tunnels, and how what comes and goes is cut: not at all where `chance` is 0, into single
 /// octets where it is 1 (of more than 2,000 the front in pieces of 997), else at random.
 #[derive(Drop)]
-pub struct Drive<'a, R: Abort> {
+pub struct Drive {
     link: Link,
     held: Held,
     others: usize,
     limit: usize,
-    told: Told<'a, R>,
+    told: Told,
     chance: u32,
 }
 
-impl<'a, R: Abort> Drive<'a, R> {
-    pub fn new(rt: &'a R, alloc: Global, chance: u32) -> Drive<'a, R> {
+impl Drive {
+    pub fn new(rt: &impl Abort, alloc: Global, chance: u32) -> Drive {
         let network = text_of(rt, alloc, b"");
         let node = text_of(rt, alloc, b"n1");
         Drive {
@@ -84,9 +84,9 @@ impl<'a, R: Abort> Drive<'a, R> {
             others: 0,
             limit: 4096,
             told: Told {
-                rt,
                 alloc,
                 notes: Vec::new(alloc),
+                lost: false,
                 at: 0,
             },
             chance,
@@ -265,6 +265,7 @@ impl<'a, R: Abort> Drive<'a, R> {
     pub fn finish(&mut self, rt: &impl Abort, row: u32) {
         let notes = self.told.notes.len();
         assert!(rt; notes == self.told.at, "row {row}: {notes} notes");
+        assert!(rt; !self.told.lost, "row {row}: a note was lost");
     }
 
     fn update(&mut self, rt: &impl Abort, alloc: Global, octets: &[u8]) {

@@ -1,21 +1,37 @@
 //! The notes that a link makes.
 
+ghost use Rattle.std.specs.Prelude.{◌∷◌, []};
+ghost use Rattle.hb_link.specs.Noted.{Takes};
+ghost use Rattle.hb_link_rows.specs.Kept.{kept};
+
 use hb_base::{Cause, Note, Peer, Target};
 use hb_link::Notes;
 use std::alloc::Global;
-use std::process::Abort;
 
 /// All notes, in order; of those in front of `at` the words were asked for.
 #[derive(Drop)]
-pub struct Told<'a, R: Abort> {
-    pub rt: &'a R,
+pub struct Told {
     pub alloc: Global,
     pub notes: Vec<Note>,
+    /// Memory was wanting for a note.
+    pub lost: bool,
     pub at: usize,
 }
 
-impl<'a, R: Abort> Notes for Told<'a, R> {
-    ghost told = { λ t. t.notes.items };
+impl Told {
+    fn keep(&mut self, note: Note)
+        ensures { Takes (kept self.old.lost self.old.notes.items) (note ∷ []) (kept self.new.lost self.new.notes.items) }
+    {
+        if self.notes.push(note).is_err() {
+            self.lost = true;
+        }
+    }
+}
+
+impl Notes for Told {
+    ghost use Rattle.hb_link_rows.specs.Kept.{kept};
+
+    ghost told = { λ t. kept t.lost t.notes.items };
 
     fn verdict(
         &mut self,
@@ -25,25 +41,25 @@ impl<'a, R: Abort> Notes for Told<'a, R> {
         peer: &Peer,
         target: Option<Target>,
     ) {
-        let peer = peer.copy(self.alloc).ok().expect(self.rt, "memory");
-        let note = Note::Verdict {
-            link,
-            stream,
-            status,
-            peer,
-            target,
-        };
-        self.notes.push(note).ok().expect(self.rt, "memory");
+        match peer.copy(self.alloc) {
+            Ok(peer) => self.keep(Note::Verdict {
+                link,
+                stream,
+                status,
+                peer,
+                target,
+            }),
+            Err(_) => self.lost = true,
+        }
     }
 
     fn end(&mut self, link: u64, stream: u32, cause: Cause, up: u64, down: u64) {
-        let note = Note::End {
+        self.keep(Note::End {
             link,
             stream,
             cause,
             up,
             down,
-        };
-        self.notes.push(note).ok().expect(self.rt, "memory");
+        });
     }
 }

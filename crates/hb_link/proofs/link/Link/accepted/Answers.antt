@@ -1,6 +1,9 @@
-use Rattle.std.proofs.Common.{rules}
-use Rattle.hb_link.proofs.Begun.{begins}
+use Rattle.hb_link.specs.Calls.{Begins}
+use Rattle.hb_link.specs.Fresh.{IsFresh}
+use Rattle.hb_link.specs.declared.phase.Phase.TheVariants.{Fronting}
+use Rattle.hb_link.proofs.Begun.{begins, of_value}
 use Rattle.hb_link.proofs.link.Link.accepted.Goals as goal
 
 pub returns-clause-begins : goal.returns-clause-begins
-returns-clause-begins c = begins c.args.number _ (search rules) (search rules) (search rules) (search rules)
+returns-clause-begins c =
+    of_value (IsFresh c.args.number Fronting) (Begins c.args.number) c.fresh.result (begins c.args.number) c.fresh.ensures

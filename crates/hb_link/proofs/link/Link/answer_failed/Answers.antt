@@ -1,13 +1,11 @@
-use Rattle.std.proofs.Common.{◌≡◌, ◌+◌, ◌∷◌, [], ◌++◌, Some, List, sym, ap, subst, ◌∙◌}
+use Rattle.std.proofs.Common.{◌≡◌, ◌+◌, ◌∷◌, [], Some, sym, ap, subst, ◌∙◌}
 use Rattle.std.specs.Option.{option_copied}
-use Rattle.hb_base.specs.declared.note.Note.{Note}
 use Rattle.hb_base.specs.declared.note.Note.TheVariants as note
 use Rattle.hb_conn.specs.Connection.{Connection}
-use Rattle.hb_conn.specs.Observed.{sides}
-use Rattle.hb_inbound.specs.Runs.{refused_on}
 use Rattle.hb_inbound.specs.Tunnel.{is_failed}
 use Rattle.hb_link.specs.declared.link.Link.{Link}
 use Rattle.hb_link.specs.Answering.{left_at, GotFailed, Gives}
+use Rattle.hb_link.specs.Noted.{Told, Takes}
 use Rattle.hb_link.proofs.Moving.{link_with}
 use Rattle.hb_link.proofs.Shown.{is_at}
 use Rattle.hb_link.proofs.Turns.{not_failed, other_failed, fails_put, fails_left}
@@ -40,18 +38,16 @@ returns g c =
           let due = sym c.status_of_end.ensures.value ∙ w.in-Some-status_of_end.is in
           let after = c.leave.ensures ∙ ap (λ (m : Link). record m { tunnels = left_at why m.tunnels s }) w.self-is
           ∙ ap (λ (d : Connection). link_with d (left_at why k.tunnels s) k) w.refuse.ensures in
-          let noted : now ≡ told ++ note.Verdict k.number s n k.peer (Some old.target) ∷ [] =
-          ap g.N.Notes.told w.notes-is ∙ w.verdict.ensures in
+          let took = subst (λ (t : Told). Takes told (note.Verdict k.number s n k.peer (Some old.target) ∷ []) t)
+          (sym (ap g.N.Notes.told w.notes-is)) w.verdict.ensures in
           subst (λ (m : Link). Gives (GotFailed (Some s)) (GotFailed (Some (s + 1))) k told m now) (sym after)
-          (subst (λ (w : List Note). Gives (GotFailed (Some s)) (GotFailed (Some (s + 1))) k told
-          (link_with (refused_on s n (sides k.conn s).peer k.conn) (left_at why k.tunnels s) k) w) (sym noted)
-          (fails_put k s told old why is c.in-Failed.is n due))
+          (fails_put k s told old why is c.in-Failed.is n due now took)
       | in_default-status_of_end w ↦
           let due = sym c.status_of_end.ensures.value ∙ w.in_default-status_of_end.is in
           let after = c.leave.ensures ∙ ap (λ (m : Link). record m { tunnels = left_at why m.tunnels s }) w.self-is in
           let noted : now ≡ told = ap g.N.Notes.told w.notes-is in
           subst (λ (m : Link). Gives (GotFailed (Some s)) (GotFailed (Some (s + 1))) k told m now) (sym after)
-          (subst (λ (w : List Note). Gives (GotFailed (Some s)) (GotFailed (Some (s + 1))) k told
+          (subst (λ (w : Told). Gives (GotFailed (Some s)) (GotFailed (Some (s + 1))) k told
           (link_with k.conn (left_at why k.tunnels s) k) w) (sym noted)
           (fails_left k s told old why is c.in-Failed.is due))
     ]

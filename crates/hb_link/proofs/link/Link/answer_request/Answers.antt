@@ -23,10 +23,10 @@ returns-in-Status-clause-settles g c = λ start before a stands holds ask.
     let full = c.is_full-full.result in
     let said = sym c.verdict_on.ensures ∙ c.in-Status.is in
     let fits = verdict_fits c.args.asked.request c.args.held.now k.peer full c.in-Status.status c.requires said in
-    goes_as k c.refuse_request.ensures.link c.refuse_request.ensures.told refl
+    goes_as k c.refuse_request.ensures.link refl
     (refused_looks c.args.others c.args.limit c.args.asked k told start before a stands ask full c.is_full-full.ensures c.in-Status.status
     (inl (sym said ∙ answers c.args.others c.args.limit c.args.asked k told start before a stands ask c.args.held.now full holds))
-    fits.0 fits.1)
+    fits.0 fits.1 (g.N.Notes.told c.refuse_request.new.notes) c.refuse_request.ensures.told)
 
 pub returns-in-Reset-clause-settles : goal.returns-in-Reset-clause-settles
 returns-in-Reset-clause-settles g c = λ start before a stands holds ask.
@@ -34,9 +34,10 @@ returns-in-Reset-clause-settles g c = λ start before a stands holds ask.
     let told = g.N.Notes.told c.args.notes.now in
     let full = c.is_full-full.result in
     let said = sym c.verdict_on.ensures ∙ c.in-Reset.is in
-    goes_as k c.reset_request.ensures.link c.reset_request.ensures.told refl
+    goes_as k c.reset_request.ensures.link refl
     (reset_looks c.args.others c.args.limit c.args.asked k told start before a stands ask full c.is_full-full.ensures
-    (inl (sym said ∙ answers c.args.others c.args.limit c.args.asked k told start before a stands ask c.args.held.now full holds)))
+    (inl (sym said ∙ answers c.args.others c.args.limit c.args.asked k told start before a stands ask c.args.held.now full holds))
+    (g.N.Notes.told c.reset_request.new.notes) c.reset_request.ensures.told)
 
 pub returns-then-is_err-clause-settles : goal.returns-then-is_err-clause-settles
 returns-then-is_err-clause-settles g c = λ start before a stands holds ask.
@@ -45,14 +46,15 @@ returns-then-is_err-clause-settles g c = λ start before a stands holds ask.
     let full = c.is_full-full.result in
     let said = sym c.verdict_on.ensures ∙ c.in-Dial.is in
     let same : c.add_tunnel.new.self ≡ k = search rules in
-    goes_as k (rw same at c.refuse_request-then-is_err.ensures.link) (rw same at c.refuse_request-then-is_err.ensures.told) refl
+    goes_as k (rw same at c.refuse_request-then-is_err.ensures.link) refl
     (refused_looks c.args.others c.args.limit c.args.asked k told start before a stands ask full c.is_full-full.ensures 500
     (inr (
       c.in-Dial.target,
       sym (answers c.args.others c.args.limit c.args.asked k told start before a stands ask c.args.held.now full holds) ∙ said,
       refl,
     ))
-    (omega arith) (omega arith))
+    (omega arith) (omega arith) (g.N.Notes.told c.refuse_request-then-is_err.new.notes)
+    (rw same at c.refuse_request-then-is_err.ensures.told))
 
 pub returns-else-is_err-clause-settles : goal.returns-else-is_err-clause-settles
 returns-else-is_err-clause-settles g c = λ start before a stands holds ask.
@@ -62,6 +64,6 @@ returns-else-is_err-clause-settles g c = λ start before a stands holds ask.
     let said = sym c.verdict_on.ensures ∙ c.in-Dial.is in
     let link : c.add_tunnel.new.self
     ≡ link_with k.conn (insert k.tunnels c.args.asked.stream (due_to c.in-Dial.target c.args.asked.end)) k = search rules in
-    goes_as k link refl refl
+    goes_as k link refl
     (due_looks c.args.others c.args.limit c.args.asked k told start before a stands ask full c.is_full-full.ensures c.in-Dial.target
     (inl (sym said ∙ answers c.args.others c.args.limit c.args.asked k told start before a stands ask c.args.held.now full holds)))

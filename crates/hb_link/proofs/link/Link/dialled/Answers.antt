@@ -1,4 +1,4 @@
-use Rattle.std.proofs.Common.{[], is_some, sym, ap, subst, ◌∙◌}
+use Rattle.std.proofs.Common.{[], Some, is_some, sym, ap, subst, ◌∙◌}
 use Rattle.hb_map.proofs.Laws.{written_where_some}
 use Rattle.hb_world.specs.declared.entry.Entry.TheVariants as e
 use Rattle.hb_link.specs.Calls.{UpEnters}
@@ -13,5 +13,5 @@ returns c = λ to why.
     let old = c.in-Some.tunnel.now in
     let is = c.at.follows.holds (record old { stage = Opening; up = c.args.link })
     ∙ written_where_some k.tunnels c.args.stream (record old { stage = Opening; up = c.args.link }) (ap is_some c.in-Some.ensures.value) in
-    subst (λ (tunnels : Map). UpEnters c.args.stream (e.Dialled c.args.link to why) k [] (link_with k.conn tunnels k) []) (sym is)
+    subst (λ (tunnels : Map). UpEnters c.args.stream (e.Dialled c.args.link to why) k (Some []) (link_with k.conn tunnels k) (Some [])) (sym is)
     (dialled k c.args.stream c.args.link to why old c.in-Some.ensures.value)

@@ -1,5 +1,6 @@
 use Rattle.std.proofs.Common.{rules, ◌≡◌, ◌+◌, ◌<◌, ◌^◌, Option, ap, ◌∙◌, arith}
-use Rattle.hb_link.proofs.Loads.{begins, goes_on, few, has_load, one_if, places_below, place_of}
+use Rattle.hb_link.specs.Load.{places_below}
+use Rattle.hb_link.proofs.Loads.{begins, goes_on, few, has_load, all_places, one_if, place_of}
 use Rattle.hb_link.proofs.link.Link.load.Goals as goal
 use Rattle.hb_link.proofs.link.Link.load.Goals.{then-takes_place, else-takes_place}
 
@@ -25,7 +26,12 @@ loop-from-preserved c =
     (c.loop-from.invariant ∙ ap (λ (o : Option _). places_below (place_of o) c.args.self.now.tunnels) c.in-Some.is)
     c.first_behind-from.ensures
 
-pub returns : goal.returns
-returns c = λ x shows.
+pub returns-clause-value : goal.returns-clause-value
+returns-clause-value c =
+    all_places c.args.self.now c.loop-from.count
+    (c.loop-from.invariant ∙ ap (λ (o : Option _). places_below (place_of o) c.args.self.now.tunnels) c.in_default.is)
+
+pub returns-clause-machine : goal.returns-clause-machine
+returns-clause-machine c = λ x shows.
     has_load c.args.self.now x shows c.loop-from.count c.first_from-from.ensures.numbers
     (c.loop-from.invariant ∙ ap (λ (o : Option _). places_below (place_of o) c.args.self.now.tunnels) c.in_default.is)

@@ -1,5 +1,6 @@
 use Rattle.std.proofs.Common.{◌≡◌}
-use Rattle.hb_link.proofs.Loads.{places_below, place_of, left_from}
+use Rattle.hb_link.specs.Load.{places_below}
+use Rattle.hb_link.proofs.Loads.{place_of, left_from}
 use Rattle.hb_link.proofs.link.Link.load.Given as goal
 
 -- the places in front of the stream are counted

@@ -1,14 +1,14 @@
-use Rattle.std.proofs.Common.{rules, ◌≡◌, ◌+◌, [], ◌∷◌, ◌++◌, is_some, List, sym, ap, ap₂, subst, ◌∙◌, true, false}
+use Rattle.std.proofs.Common.{rules, ◌≡◌, ◌+◌, [], ◌∷◌, is_some, sym, ap, ap₂, subst, ◌∙◌, true, false}
 use Rattle.std.specs.Prelude.{⊤}
 use Rattle.std.specs.FinMap.{insert}
 use Rattle.hb_base.specs.declared.cause.Cause.TheVariants as cause
-use Rattle.hb_base.specs.declared.note.Note.{Note}
 use Rattle.hb_base.specs.declared.note.Note.TheVariants as note
 use Rattle.hb_conn.specs.Connection.{Connection}
 use Rattle.hb_inbound.specs.Calm.{is_done_on}
 use Rattle.hb_map.proofs.Laws.{written_where_some}
 use Rattle.hb_link.specs.declared.tunnel.Stage.TheVariants.{Over}
 use Rattle.hb_link.specs.declared.tunnel.Tunnel.{Tunnel}
+use Rattle.hb_link.specs.Noted.{Takes}
 use Rattle.hb_link.specs.Putting.{bytes_put, conn_bytes, end_counted, conn_finished, lives_in, PutsBelow}
 use Rattle.hb_link.specs.Settling.{AlwaysSettles, Settles}
 use Rattle.hb_link.specs.Tunnels.{tunnel_of}
@@ -60,15 +60,12 @@ returns-then-is_done g c =
     let new : Tunnel = record c.finish.new.self { stage = Over cause.Done } in
     let is = c.at.follows.holds new ∙ written_where_some k.tunnels s new (ap is_some c.in-Some.ensures.value)
     ∙ ap (λ (w : Tunnel). insert k.tunnels s (record w { stage = Over cause.Done })) two_is in
-    let made : told ++ note.End k.number s cause.Done two.went_up two.went_down ∷ [] ≡ g.N.Notes.told c.end.new.self =
-    sym (c.end.ensures ∙ ap (λ (w : Tunnel). told ++ note.End k.number s cause.Done w.went_up w.went_down ∷ []) two_is) in
-    subst (λ (tunnels : Map). AlwaysSettles (PutsBelow s) (PutsBelow (s + 1)) k told (link_with c.finish.new.conn tunnels k)
-    (g.N.Notes.told c.end.new.self)) (sym is)
+    let now = g.N.Notes.told c.end.new.self in
+    let took = subst (λ (w : Tunnel). Takes told (note.End k.number s cause.Done w.went_up w.went_down ∷ []) now) two_is c.end.ensures in
+    subst (λ (tunnels : Map). AlwaysSettles (PutsBelow s) (PutsBelow (s + 1)) k told (link_with c.finish.new.conn tunnels k) now) (sym is)
     (subst (λ (d : Connection). AlwaysSettles (PutsBelow s) (PutsBelow (s + 1)) k told
-    (link_with d (insert k.tunnels s (record two { stage = Over cause.Done })) k) (g.N.Notes.told c.end.new.self)) (sym conn_is)
-    (subst (λ (now : List Note). AlwaysSettles (PutsBelow s) (PutsBelow (s + 1)) k told
-    (link_with (conn_finished mid s one) (insert k.tunnels s (record two { stage = Over cause.Done })) k) now) made
-    (last_on k s old told c.in-Some.ensures.value live (test ∙ c.if-is_done.true))))
+    (link_with d (insert k.tunnels s (record two { stage = Over cause.Done })) k) now) (sym conn_is)
+    (last_on k s old told c.in-Some.ensures.value live now took (test ∙ c.if-is_done.true)))
 
 pub returns-else-is_done : goal.returns-else-is_done
 returns-else-is_done g c =

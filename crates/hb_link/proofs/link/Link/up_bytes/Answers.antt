@@ -1,4 +1,4 @@
-use Rattle.std.proofs.Common.{◌≡◌, ◌==◌, ◌&&◌, ℕ, ◌+◌, ◌-◌, List, [], ◌++◌, length, drop, take, is_some, sym, ap, subst, ◌∙◌, arith, length-drop}
+use Rattle.std.proofs.Common.{◌≡◌, ◌==◌, ◌&&◌, ℕ, ◌+◌, ◌-◌, List, [], ◌++◌, length, drop, take, Some, is_some, sym, ap, subst, ◌∙◌, arith, length-drop}
 use Rattle.std.proofs.lemmas.Bool.{false≢true}
 use Rattle.std.proofs.lemmas.Bool.Decides.{nat_tests}
 use Rattle.std.proofs.lemmas.List.{take_all}
@@ -45,7 +45,7 @@ returns c = λ u.
     ∙ ap (λ (bs : List ℕ). with_down_here (old.ways.down.held ++ bs) old) slice in
     let is = c.at.follows.holds new ∙ written_where_some k.tunnels s new (ap is_some c.in-Some.ensures.value)
     ∙ ap (λ (t : Tunnel). insert k.tunnels s t) tunnel in
-    subst (λ (tunnels : Map). UpEnters s (e.Came u bytes) k [] (link_with c.put_first-n.new.conn tunnels k) []) (sym is)
-    (subst (λ (d : Connection). UpEnters s (e.Came u bytes) k []
-    (link_with d (insert k.tunnels s (with_down_here (old.ways.down.held ++ drop n bytes) old)) k) []) (sym c.put_first-n.ensures.after)
+    subst (λ (tunnels : Map). UpEnters s (e.Came u bytes) k (Some []) (link_with c.put_first-n.new.conn tunnels k) (Some [])) (sym is)
+    (subst (λ (d : Connection). UpEnters s (e.Came u bytes) k (Some [])
+    (link_with d (insert k.tunnels s (with_down_here (old.ways.down.held ++ drop n bytes) old)) k) (Some [])) (sym c.put_first-n.ensures.after)
     (came k s u bytes old g c.in-Some.ensures.value (λ is_serving. ap (λ b. b && own_side_open k.conn s) (may_is is_serving))))

@@ -1,16 +1,16 @@
-use Rattle.std.proofs.Common.{rules, ◌≡◌, [], ◌∷◌, ◌++◌, is_some, List, Some, sym, ap, subst, ◌∙◌, false}
+use Rattle.std.proofs.Common.{rules, ◌≡◌, [], ◌∷◌, is_some, Some, sym, ap, subst, ◌∙◌, false}
 use Rattle.std.specs.FinMap.{insert}
-use Rattle.hb_base.specs.declared.note.Note.{Note}
 use Rattle.hb_base.specs.declared.note.Note.TheVariants as note
 use Rattle.hb_conn.specs.Connection.{Connection}
-use Rattle.hb_conn.specs.Observed.{own_side_open, status_put}
+use Rattle.hb_conn.specs.Observed.{own_side_open}
 use Rattle.hb_map.proofs.Laws.{written_where_some}
 use Rattle.hb_world.specs.declared.entry.Entry.TheVariants as e
 use Rattle.hb_link.specs.declared.tunnel.Tunnel.{Tunnel}
 use Rattle.hb_link.specs.Calls.{UpEnters}
+use Rattle.hb_link.specs.Noted.{Takes}
 use Rattle.hb_link.specs.Tunnels.{opened_on}
 use Rattle.hb_link.proofs.Moving.{Map, link_with}
-use Rattle.hb_link.proofs.Opening.{ok, opened, not_opened}
+use Rattle.hb_link.proofs.Opening.{opened, not_opened}
 use Rattle.hb_link.proofs.link.Link.up_opened.Goals as goal
 
 pub returns : goal.returns
@@ -21,15 +21,12 @@ returns g c = λ u.
     let told = g.N.Notes.told c.args.notes.now in
     let is = c.at.follows.holds c.open.new.self ∙ written_where_some k.tunnels s c.open.new.self (ap is_some c.in-Some.ensures.value)
     ∙ ap (λ (t : Tunnel). insert k.tunnels s t) c.open.ensures in
-    let made : told ++ note.Verdict k.number s 200 k.peer (Some old.target) ∷ [] ≡ g.N.Notes.told c.verdict.new.self =
-    sym (c.verdict.ensures ∙ ap (λ (t : Tunnel). told ++ note.Verdict k.number s 200 k.peer (Some t.target) ∷ []) c.open.ensures) in
-    let noted = subst (λ (now : List Note). UpEnters s (e.Opened u) k told
-    (link_with (status_put k.conn s ok) (insert k.tunnels s (opened_on old)) k) now) made (opened k s u told old c.in-Some.ensures.value) in
-    subst (λ (tunnels : Map). UpEnters s (e.Opened u) k told (link_with c.put_status.new.self tunnels k)
-    (g.N.Notes.told c.verdict.new.self))
-    (sym is)
-    (subst (λ (d : Connection). UpEnters s (e.Opened u) k told (link_with d (insert k.tunnels s (opened_on old)) k)
-    (g.N.Notes.told c.verdict.new.self)) (sym c.put_status.ensures) noted)
+    let now = g.N.Notes.told c.verdict.new.self in
+    let took = subst (λ (t : Tunnel). Takes told (note.Verdict k.number s 200 k.peer (Some t.target) ∷ []) now) c.open.ensures
+    c.verdict.ensures in
+    subst (λ (tunnels : Map). UpEnters s (e.Opened u) k told (link_with c.put_status.new.self tunnels k) now) (sym is)
+    (subst (λ (d : Connection). UpEnters s (e.Opened u) k told (link_with d (insert k.tunnels s (opened_on old)) k) now)
+    (sym c.put_status.ensures) (opened k s u told old c.in-Some.ensures.value now took))
 
 pub returns-then-not-sides : goal.returns-then-not-sides
 returns-then-not-sides g c = λ u.

@@ -1,7 +1,6 @@
-use Rattle.std.proofs.Common.{◌≡◌, min, ℕ, List, [], ◌∷◌, ◌++◌, is_some, sym, ap, ap₂, subst, ◌∙◌, true, false}
+use Rattle.std.proofs.Common.{◌≡◌, min, ℕ, [], ◌∷◌, is_some, sym, ap, ap₂, subst, ◌∙◌, true, false}
 use Rattle.std.specs.FinMap.{insert}
 use Rattle.hb_base.specs.declared.cause.Cause.TheVariants as cause
-use Rattle.hb_base.specs.declared.note.Note.{Note}
 use Rattle.hb_base.specs.declared.note.Note.TheVariants as note
 use Rattle.hb_conn.specs.Connection.{Connection}
 use Rattle.hb_conn.specs.Observed.{credited}
@@ -12,6 +11,7 @@ use Rattle.hb_world.specs.declared.entry.Entry.TheVariants as e
 use Rattle.hb_link.specs.declared.tunnel.Stage.TheVariants.{Over}
 use Rattle.hb_link.specs.declared.tunnel.Tunnel.{Tunnel}
 use Rattle.hb_link.specs.Calls.{UpEnters}
+use Rattle.hb_link.specs.Noted.{Takes}
 use Rattle.hb_link.specs.Tunnels.{tunnel_of}
 use Rattle.hb_link.proofs.Moving.{Map, link_with}
 use Rattle.hb_link.proofs.Writing.{wrote_here, over_at, credit_back, wrote_some, wrote_all}
@@ -33,21 +33,18 @@ returns-then-is_done g c = λ u bytes size.
     let new : Tunnel = record base { stage = Over cause.Done } in
     let is = c.at.follows.holds new ∙ written_where_some k.tunnels s new (ap is_some c.in-Some.ensures.value)
     ∙ ap (λ (t : Tunnel). insert k.tunnels s (record t { stage = Over cause.Done })) base_is in
-    let made : told ++ note.End k.number s cause.Done (wrote_here n old).went_up old.went_down ∷ [] ≡ g.N.Notes.told c.end.new.self =
-    sym (c.end.ensures
-    ∙ ap (λ (t : Tunnel). told ++ note.End k.number s cause.Done t.went_up t.went_down ∷ []) base_is) in
-    let ends = wrote_all k s old told c.in-Some.ensures.value u bytes
+    let now = g.N.Notes.told c.end.new.self in
+    let took = subst (λ (t : Tunnel). Takes told (note.End k.number s cause.Done t.went_up t.went_down ∷ []) now) base_is
+    c.end.ensures in
+    let ends = wrote_all k s old told c.in-Some.ensures.value u bytes now
+    (subst (λ (i : ℕ). Takes told (note.End k.number s cause.Done (wrote_here i old).went_up old.went_down ∷ []) now) (sym size) took)
     (subst (λ (i : ℕ). is_done_on (credit_back s i k.conn) s (tunnel_of (wrote_here i old)) ≡ true) (sym size)
     (test ∙ c.if-is_done.true)) in
     let at_size = subst (λ (i : ℕ). UpEnters s (e.Went u bytes) k told
-    (link_with (credit_back s i k.conn) (insert k.tunnels s (over_at i old)) k)
-    (told ++ note.End k.number s cause.Done (wrote_here i old).went_up old.went_down ∷ [])) size ends in
-    let noted = subst (λ (now : List Note). UpEnters s (e.Went u bytes) k told
-    (link_with (credit_back s n k.conn) (insert k.tunnels s (over_at n old)) k) now) made at_size in
-    subst (λ (tunnels : Map). UpEnters s (e.Went u bytes) k told (link_with c.credit.new.self tunnels k)
-    (g.N.Notes.told c.end.new.self)) (sym is)
-    (subst (λ (d : Connection). UpEnters s (e.Went u bytes) k told (link_with d (insert k.tunnels s (over_at n old)) k)
-    (g.N.Notes.told c.end.new.self)) (sym conn_is) noted)
+    (link_with (credit_back s i k.conn) (insert k.tunnels s (over_at i old)) k) now) size ends in
+    subst (λ (tunnels : Map). UpEnters s (e.Went u bytes) k told (link_with c.credit.new.self tunnels k) now) (sym is)
+    (subst (λ (d : Connection). UpEnters s (e.Went u bytes) k told (link_with d (insert k.tunnels s (over_at n old)) k) now)
+    (sym conn_is) at_size)
 
 pub returns-else-is_done : goal.returns-else-is_done
 returns-else-is_done g c = λ u bytes size.
