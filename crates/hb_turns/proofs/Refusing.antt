@@ -7,6 +7,7 @@ use Rattle.hb_world.specs.declared.entry.Entry.{Entry}
 use Rattle.hb_turns.specs.Ends.{ClosesFor, RunsOn, end_by, waits}
 use Rattle.hb_turns.specs.Listens.{given, BeginsWith}
 use Rattle.hb_turns.specs.Served.{IsOver}
+use Rattle.hb_turns.specs.Shown.{Shown}
 use Rattle.hb_turns.specs.declared.served.ServeEnd.{ServeEnd}
 use Rattle.hb_turns.specs.declared.served.ServeEnd.TheVariants as ends
 use Rattle.hb_turns.specs.declared.words.ServeWords.{ServeWords}
@@ -23,9 +24,9 @@ pub record StopsAmid (words : ServeWords) (trace : List Entry) : Type 0 where
   pub few_waits : waits (before ++ last ∷ []) ≤ words.turns
   pub begins : BeginsWith (given words.doors) ends.Stopped (before ++ last ∷ [])
 
-pub stops_amid : {N : Type 0} (stands : List Note → N → List Entry → Type 0) (words : ServeWords) (trace : List Entry)
-    → IsOver stands words ends.Stopped trace → StopsAmid words trace
-stops_amid stands words trace o =
+pub stops_amid : {N : Type 0} (stands : List Note → N → List Entry → Type 0) (shown : N → Shown) (words : ServeWords) (trace : List Entry)
+    → IsOver stands shown words ends.Stopped trace → StopsAmid words trace
+stops_amid stands shown words trace o =
     let l = o.finishes.ends_as in
     record {
       before = l.before;
