@@ -25,7 +25,8 @@ abbrev pub IsStoodFor : {N : Type 0} → (List Note → N → List Entry → Typ
 IsStoodFor stands shown ends.NoMemory trace = StoodLast stands shown trace
 IsStoodFor {N} stands shown _ trace = (notes : List Note) × (n : N) × stands notes n trace
 
--- The run ended so with the first of the entries, for which a node stands. The others close links for the cause of that end
+-- The run ended so with the first of the entries, for which a node stands (where memory lacked, for them or for all but the last). The
+-- others close links for the cause of that end
 pub record IsOver {N : Type 0} (stands : List Note → N → List Entry → Type 0) (shown : N → Shown) (words : ServeWords) (end : ServeEnd)
     (trace : List Entry) : Type 0 where
   pub before : List Entry

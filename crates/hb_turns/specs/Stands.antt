@@ -70,7 +70,7 @@ pub record Tracks (old new : Records) (x : Entry) : Type 0 where
   pub births_are : new.births ≡ births_behind old.births x
   pub wanting_is : new.wanting ≡ (is_close_for_lack x || old.wanting)
 
--- A node stands for the trace, or for all but its last entry, which it allows there: it was told that, and had no memory for it
+-- a node stands for the trace, or for all but its last entry, which it allows behind them
 pub record StoodLast {N : Type 0} (stands : List Note → N → List Entry → Type 0) (shown : N → Shown) (trace : List Entry) : Type 0 where
   pub front : List Entry
   pub last : Option Entry
