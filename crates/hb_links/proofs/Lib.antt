@@ -1,10 +1,12 @@
 pub mod Acting
 pub mod Due
 pub mod Entering
+pub mod Hearing
 pub mod Indexing
 pub mod Births
 pub mod Lifted
 pub mod Showing
+pub mod Stirs
 pub mod Sweeping
 pub mod Telling
 pub mod Ups

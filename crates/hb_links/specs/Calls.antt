@@ -4,7 +4,6 @@ use Rattle.std.specs.FinMap.{get}
 use Rattle.hb_base.specs.declared.cause.Cause.{Cause}
 use Rattle.hb_base.specs.declared.door.Door.TheVariants as door
 use Rattle.hb_base.specs.declared.door.Why.{Why}
-use Rattle.hb_base.specs.declared.note.Note.{Note}
 use Rattle.hb_base.specs.declared.target.Target.{Target}
 use Rattle.hb_disco.specs.declared.response.Response.{Response}
 use Rattle.hb_held.specs.Held.{Resources}
@@ -15,6 +14,7 @@ use Rattle.hb_inbound.specs.Part as part
 use Rattle.hb_inbound.specs.Part.{Part}
 use Rattle.hb_link.specs.Calls.{IsLastWord}
 use Rattle.hb_link.specs.Counting.{CountsPlaces}
+use Rattle.hb_link.specs.Noted.{Told}
 use Rattle.hb_link.specs.Observed.{wants_on, output_on, up_wants_on, up_held_on, up_wants_by, up_held_by, says_last}
 use Rattle.hb_link.specs.declared.link.Link.{Link}
 use Rattle.hb_model.specs.Point as point
@@ -37,11 +37,11 @@ point_by None None n x = None
 abbrev pub point_for : Links → ℕ → Entry → Option Point
 point_for k n x = point_by (get k.ups n) (get k.links n) n x
 
-abbrev pub Enters : ℕ → Entry → Links → List Note → Links → List Note → Type 0
+abbrev pub Enters : ℕ → Entry → Links → Told → Links → Told → Type 0
 Enters n x old told new now = (p : Point) → point_for old n x ≡ Some p → Meets unguarded (λ m. ⊤) p old told new now
 
 -- some bytes of so many went
-abbrev pub Goes : (n count : ℕ) → Links → List Note → Links → List Note → Type 0
+abbrev pub Goes : (n count : ℕ) → Links → Told → Links → Told → Type 0
 Goes n count old told new now = (bytes : List ℕ) → length bytes ≡ count → Enters n (e.Went n bytes) old told new now
 
 -- of a request on a link that is read it is said how many places were taken
@@ -50,31 +50,31 @@ counting others limit (of_link l (part.entry x)) = on_links (CountsPlaces others
 counting others limit p = unguarded
 
 -- bytes came, while this was held
-abbrev pub Takes : Resources → (others limit : ℕ) → ℕ → List ℕ → Links → List Note → Links → List Note → Type 0
+abbrev pub Takes : Resources → (others limit : ℕ) → ℕ → List ℕ → Links → Told → Links → Told → Type 0
 Takes held others limit n bytes old told new now =
     (p : Point) → point_for old n (e.Came n bytes) ≡ Some p
     → Meets (counting others limit p) (λ m. m.control.held ≡ held) p old told new now
 
--- a link is accepted
+-- a link is accepted, and no note is made
 abbrev pub Begins : ℕ → Links → Links → Type 0
-Begins n old new = Meets unguarded (λ m. ⊤) (of_link n (part.entry (e.Accepted n door.Inbound))) old [] new []
+Begins n old new = Meets unguarded (λ m. ⊤) (of_link n (part.entry (e.Accepted n door.Inbound))) old (Some []) new (Some [])
 
 -- the dial for the tunnel on a stream of a link gave the link u, or none
 abbrev pub Dials : (l s u : ℕ) → Links → Links → Type 0
 Dials l s u old new =
-    (to : Target) (why : Why) → Meets unguarded (λ m. ⊤) (of_link l (part.up s (e.Dialled u to why))) old [] new []
+    (to : Target) (why : Why) → Meets unguarded (λ m. ⊤) (of_link l (part.up s (e.Dialled u to why))) old (Some []) new (Some [])
 
-abbrev pub DialFails : (l s : ℕ) → Links → List Note → Links → List Note → Type 0
+abbrev pub DialFails : (l s : ℕ) → Links → Told → Links → Told → Type 0
 DialFails l s old told new now =
     (to : Target) (why : Why) → Meets unguarded (λ m. ⊤) (of_link l (part.up s (e.DialFailed to why))) old told new now
 
 -- a response on a link to the control plane is applied, which makes this of what was held
-abbrev pub Updates : Resources → Links → List Note → Links → List Note → Type 0
+abbrev pub Updates : Resources → Links → Told → Links → Told → Type 0
 Updates held old told new now =
     (l : ℕ) (r : Response) → Meets unguarded (λ m. held ≡ after_response m.control.held r) (of_control (point.applied l r)) old told new now
 
 -- the run ends
-abbrev pub Stops : Cause → Links → List Note → Links → List Note → Type 0
+abbrev pub Stops : Cause → Links → Told → Links → Told → Type 0
 Stops cause old told new now = Meets unguarded (λ m. ⊤) (of_control (point.stopped cause)) old told new now
 
 -- OBSERVATIONS OF THE CODE, AND OF THE MACHINES

@@ -4,4 +4,5 @@ pub mod Calls
 pub mod Places
 pub mod Reaches
 pub mod Shows
+pub mod Stirring
 pub mod Walks

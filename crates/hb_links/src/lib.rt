@@ -6,9 +6,11 @@
 mod acts;
 mod dials;
 mod entries;
+mod family;
 mod known;
 mod links;
 mod place;
+mod stirring;
 mod updates;
 
 pub use links::Links;
