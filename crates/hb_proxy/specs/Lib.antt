@@ -1,6 +1,7 @@
 pub mod Access
 pub mod Control
 pub mod Dials
+pub mod Doors
 pub mod Ends
 pub mod Held
 pub mod Laws
@@ -11,4 +12,7 @@ pub mod Points
 pub mod Refused
 pub mod Relay
 pub mod Runs
+pub mod Seen
+pub mod SeenRefused
 pub mod Sides
+pub mod Ups

@@ -4,6 +4,9 @@ ghost use Rattle.hb_proxy.specs.Laws.{ControlRuns, LinksRun, ControlHolds, Links
 ghost use Rattle.hb_proxy.specs.Laws.{RunsAdmit, RunsAdmitEntries, RunsRelay, RunsEnd, RunsObeyLinks};
 ghost use Rattle.hb_proxy.specs.Laws.{RunsDial, RunsObeyEntries, RunsObeyControl, RunsPutAll};
 ghost use Rattle.hb_proxy.specs.Leads.{LinksLead, LinksStep};
+ghost use Rattle.hb_proxy.specs.Seen.{RunsAreSeen};
+ghost use Rattle.hb_proxy.specs.SeenRefused.{UpUnborn, ShutUntold, OpenUnheard, KeepsClosed, HasNone};
+ghost use Rattle.hb_proxy.specs.Doors.{DoorsTellNone};
 ghost use Rattle.hb_proxy.specs.Refused.{ComesUnborn, ReadsUnborn, ReadsAnothers, BornTwice, BornAgain, SeesAlone, SeeAll};
 ghost use Rattle.hb_proxy.specs.Refused.{AnswersAnother, AnswersControl, WritesBehind, ReadsBehind, TicksBehind, InventsByte};
 ghost use Rattle.hb_proxy.specs.Refused.{DialsTwice, ComesWhileDue, DialsWhileDue, AcceptsBehindEnd, StopsUnanswered};
@@ -32,6 +35,17 @@ pub fn links_have_owners()
     ensures numbers { RunsNumber }
     ensures upstreams { RunsDialOnce }
     ensures sides { RunsShareSides }
+{}
+
+/// A link to the control plane, an inbound link and the upstream of a tunnel, each that is born and not closed in the machine, lives
+/// behind the trace, and is open and was shut as the machine says; each link that lives is one of these, of one part alone.
+pub fn links_are_seen()
+    ensures { RunsAreSeen }
+{}
+
+/// A listen, and an accept that gave no link, tell of no link: without them a trace says the same of each.
+pub fn doors_tell_of_no_link()
+    ensures { DoorsTellNone }
 {}
 
 /// No byte goes to an upstream, and no DATA frame with payload begins on an inbound link, unless the resources held then, by the control
@@ -105,6 +119,16 @@ pub fn revoked_tunnels_are_silent()
     ensures reads { ReadsBehind }
     ensures ticks { TicksBehind }
     ensures invents { InventsByte }
+{}
+
+/// No machine has a live tunnel whose upstream the trace never bore, nor a shut one whose upstream it never shut, nor one that is to be
+/// opened where its upstream is open; nor a link that was closed; and none is without a link that lives.
+pub fn other_links_are_refused()
+    ensures unborn { UpUnborn }
+    ensures shut { ShutUntold }
+    ensures opened { OpenUnheard }
+    ensures closed { KeepsClosed }
+    ensures lives { HasNone }
 {}
 
 /// A link may be accepted behind the dial of the control plane, and a byte may go behind an update that still admits the peer.
