@@ -12,11 +12,12 @@ use Rattle.hb_link.specs.Tunnels.{stage_of, ShowsAt, ShowsTunnel}
 use Rattle.hb_link.specs.declared.link.Link.{Link}
 use Rattle.hb_link.specs.declared.tunnel.Tunnel.{Tunnel}
 use Rattle.hb_map.specs.Keyed.{IsFirstFrom}
+use Rattle.hb_proxy.specs.Ups.{Joins, up_by, up_now}
 use Rattle.hb_links.specs.declared.family.Family.{Family}
 use Rattle.hb_links.specs.declared.links.Links.{Links}
 use Rattle.hb_links.specs.declared.place.Place.{Place}
 use Rattle.hb_links.specs.Busy.{is_from}
-use Rattle.hb_links.specs.Places.{Joins, up_by, up_now, place}
+use Rattle.hb_links.specs.Places.{place}
 use Rattle.hb_links.specs.Shows.{ShowsAll, ShowsLink}
 use Rattle.hb_links.specs.Stirring.{owner_of, is_left, in_family, stirs_at, IsPresent, Hears, OnlyHears}
 use Rattle.hb_links.proofs.Indexing.{up_is}

@@ -13,8 +13,9 @@ use Rattle.hb_proxy.specs.Machine.{Machine}
 use Rattle.hb_proxy.specs.Owners.{nobody, upstream_of}
 use Rattle.hb_proxy.specs.Points.{Point}
 use Rattle.hb_proxy.specs.Runs.{StandsFor}
+use Rattle.hb_proxy.specs.Ups.{up_now, up_by, Joins}
 use Rattle.hb_links.specs.declared.place.Place.{Place}
-use Rattle.hb_links.specs.Places.{up_now, up_by, Joins, place}
+use Rattle.hb_links.specs.Places.{place}
 use Rattle.hb_links.specs.Shows.{IsIndex}
 use Rattle.hb_links.proofs.Showing.{Index}
 

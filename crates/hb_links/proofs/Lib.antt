@@ -5,6 +5,7 @@ pub mod Hearing
 pub mod Indexing
 pub mod Births
 pub mod Lifted
+pub mod NotShown
 pub mod Showing
 pub mod Stirs
 pub mod Sweeping

@@ -22,10 +22,10 @@ use Rattle.hb_proxy.specs.Held.{at_start}
 use Rattle.hb_proxy.specs.Machine.{Machine, local}
 use Rattle.hb_proxy.specs.Points.{Point, of_link, parts_of}
 use Rattle.hb_proxy.specs.Runs.{Steps, StandsFor}
+use Rattle.hb_proxy.specs.Ups.{up_now}
 use Rattle.hb_links.specs.declared.links.Links.{Links}
 use Rattle.hb_links.specs.declared.place.Place.{Place}
 use Rattle.hb_links.specs.Busy.{touched}
-use Rattle.hb_links.specs.Places.{up_now}
 use Rattle.hb_links.specs.Reaches.{Follows, Meets, Shown, on_links}
 use Rattle.hb_links.specs.Shows.{IsIndex, ShowsAll, ShowsLink}
 use Rattle.hb_links.proofs.Due.{due_then}

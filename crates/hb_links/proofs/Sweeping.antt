@@ -29,9 +29,9 @@ use Rattle.hb_proxy.specs.Held.{at_start}
 use Rattle.hb_proxy.specs.Machine.{Machine, local}
 use Rattle.hb_proxy.specs.Points.{Point, of_control, of_link, part_in, parts_of, seen}
 use Rattle.hb_proxy.specs.Runs.{Steps, StandsFor, goes_on}
+use Rattle.hb_proxy.specs.Ups.{up_now}
 use Rattle.hb_links.specs.declared.links.Links.{Links}
 use Rattle.hb_links.specs.Busy.{is_at}
-use Rattle.hb_links.specs.Places.{up_now}
 use Rattle.hb_links.specs.Reaches.{Guard, Leads, Meets, unguarded, notes, note_in}
 use Rattle.hb_links.specs.Shows.{ShowsAll, ShowsLink}
 use Rattle.hb_links.specs.Walks.{IsNext}

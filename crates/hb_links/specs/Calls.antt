@@ -1,6 +1,6 @@
 -- What each call of all links is to the machine.
 use Rattle.std.specs.Prelude.{⊤, ◌≡◌, ℕ, Bool, true, false, List, [], length, Option, Some, None}
-use Rattle.std.specs.FinMap.{get}
+use Rattle.std.specs.FinMap.{get, len}
 use Rattle.hb_base.specs.declared.cause.Cause.{Cause}
 use Rattle.hb_base.specs.declared.door.Door.TheVariants as door
 use Rattle.hb_base.specs.declared.door.Why.{Why}
@@ -18,7 +18,10 @@ use Rattle.hb_link.specs.Noted.{Told}
 use Rattle.hb_link.specs.Observed.{wants_on, output_on, up_wants_on, up_held_on, up_wants_by, up_held_by, says_last}
 use Rattle.hb_link.specs.declared.link.Link.{Link}
 use Rattle.hb_model.specs.Point as point
+use Rattle.hb_model.specs.declared.config.NodeConfig.{NodeConfig}
+use Rattle.hb_proxy.specs.Machine.{Machine}
 use Rattle.hb_proxy.specs.Points.{Point, of_control, of_link}
+use Rattle.hb_proxy.specs.Runs.{Steps, StandsFor}
 use Rattle.hb_world.specs.declared.entry.Entry.{Entry}
 use Rattle.hb_world.specs.declared.entry.Entry.TheVariants as e
 use Rattle.hb_links.specs.declared.links.Links.{Links}
@@ -58,6 +61,13 @@ Takes held others limit n bytes old told new now =
 -- a link is accepted, and no note is made
 abbrev pub Begins : ℕ → Links → Links → Type 0
 Begins n old new = Meets unguarded (λ m. ⊤) (of_link n (part.entry (e.Accepted n door.Inbound))) old (Some []) new (Some [])
+
+-- a link is accepted where as many are open as may be: behind its birth it is turned away
+abbrev pub TurnsAway : ℕ → Links → Links → Type 0
+TurnsAway n old new =
+    (g : NodeConfig) (x y : Machine) (points : List Point) → StandsFor g x points → ShowsAll old x.inbound
+    → Steps g x (of_link n (part.entry (e.Accepted n door.Inbound))) y
+    → (z : Machine) × Steps g y (of_link n part.crowded) z × ShowsAll new z.inbound
 
 -- the dial for the tunnel on a stream of a link gave the link u, or none
 abbrev pub Dials : (l s u : ℕ) → Links → Links → Type 0
@@ -124,6 +134,10 @@ machine_held f (Some at) n = up_held_by ((f at.link).tunnels at.stream).stage ((
 
 abbrev pub Holds : Links → ℕ → List ℕ → Type 0
 Holds k n bytes = (f : ℕ → Inbound) → ShowsAll k f → bytes ≡ machine_held f (get k.ups n) n
+
+-- how many inbound links are kept
+abbrev pub count_of : Links → ℕ
+count_of k = len k.links
 
 -- what waits on an inbound link may be written before the acts that are due
 abbrev pub last_at : Option Link → Bool

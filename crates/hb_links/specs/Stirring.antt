@@ -2,6 +2,7 @@
 use Rattle.std.specs.Prelude.{◌≡◌, ◌≢◌, ◌⊎◌, ℕ, ◌==◌, ◌&&◌, ◌||◌, Bool, true, false, nat_le, [], Option, Some, None}
 use Rattle.std.specs.FinMap.{get}
 use Rattle.hb_inbound.specs.Inbound.{Inbound}
+use Rattle.hb_proxy.specs.Ups.{Joins}
 use Rattle.hb_world.specs.declared.act.Act.{Act}
 use Rattle.hb_world.specs.declared.act.Act.TheVariants as act
 use Rattle.hb_links.specs.declared.family.Family.{Family}
@@ -9,7 +10,6 @@ use Rattle.hb_links.specs.declared.links.Links.{Links}
 use Rattle.hb_links.specs.declared.place.Place.{Place}
 use Rattle.hb_links.specs.Busy.{is_from}
 use Rattle.hb_links.specs.Calls.{wants_of, held_of}
-use Rattle.hb_links.specs.Places.{Joins}
 use Rattle.hb_links.specs.Shows.{IsAway, ShowsAll}
 
 -- the link whose upstream a number is, else the number itself

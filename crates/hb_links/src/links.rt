@@ -3,7 +3,7 @@
 ghost use Rattle.std.specs.Prelude.{◌≡◌, OnOk};
 ghost use Rattle.hb_inbound.specs.Inbound.{no_link};
 ghost use Rattle.hb_links.specs.Busy.{touched, made_due, stirred, is_idle};
-ghost use Rattle.hb_links.specs.Calls.{Begins};
+ghost use Rattle.hb_links.specs.Calls.{Begins, TurnsAway, count_of};
 ghost use Rattle.hb_links.specs.Shows.{ShowsAll};
 ghost use Rattle.hb_links.specs.Stirring.{Stirs};
 
@@ -110,5 +110,25 @@ impl Links {
         self.links.put(number, link)?;
         self.touch(number);
         Ok(())
+    }
+
+    /// A link was accepted where as many are open as may be: it is to be closed for that cause.
+    ///
+    /// Errors: `NoMemory`, behind which the run ends.
+    pub fn turned_away(&mut self, number: u64) -> Result<(), NoMemory>
+        ensures meets { OnOk result (TurnsAway number self.old self.new) }
+        ensures stirs { OnOk result (Stirs self.old self.new) }
+    {
+        let link = Link::turned_away(self.alloc, number)?;
+        self.links.put(number, link)?;
+        self.touch(number);
+        Ok(())
+    }
+
+    /// How many inbound links are kept: each from its birth until its close was given.
+    pub fn len(&self) -> usize
+        ensures { result ≡ count_of self.now }
+    {
+        self.links.len()
     }
 }
