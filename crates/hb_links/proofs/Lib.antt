@@ -1,11 +1,16 @@
 pub mod Acting
 pub mod Due
 pub mod Entering
+pub mod Hearing
 pub mod Indexing
 pub mod Births
 pub mod Lifted
+pub mod Limits
+pub mod NotShown
 pub mod Showing
+pub mod Stirs
 pub mod Sweeping
 pub mod Telling
+pub mod Totals
 pub mod Ups
 pub mod Walking

@@ -1,7 +1,10 @@
 pub mod Acts
 pub mod Busy
 pub mod Calls
+pub mod Load
 pub mod Places
 pub mod Reaches
+pub mod Refused
 pub mod Shows
+pub mod Stirring
 pub mod Walks
