@@ -1,0 +1,5 @@
+pub mod Acting
+pub mod Judged
+pub mod Queue
+pub mod Sight
+pub mod Stands
