@@ -19,6 +19,7 @@ use Rattle.hb_model.specs.Runs.{due_by}
 use Rattle.hb_model.proofs.CallsSaid.{eqb-self}
 use Rattle.hb_node.specs.declared.link.Link.{Link}
 use Rattle.hb_node.specs.State.{State, ShowsLink, Answers, due_of}
+use Rattle.hb_node.proofs.Entering.{weaker}
 use Rattle.hb_loop.specs.declared.run.Known.{Known}
 use Rattle.hb_loop.specs.declared.run.Run.{Run}
 use Rattle.hb_loop.specs.Stands.{Knows, Carries, IsOver, Falls, Leaves, Lasts, GoesOn, Tells}
@@ -93,7 +94,8 @@ pub hears_birth : (g : NodeConfig) (old new : State) (known : Option Known) (why
     → Answers why (Some l) old new → IfSome told (Tells g old known (e.Dialled l old.config.discovery why))
     → Carries g new (Some (record { number = l; is_open = false })) told
 hears_birth g old new known why l told answers =
-    hear g old new known (Some (record { number = l; is_open = false })) (e.Dialled l old.config.discovery why) told answers
+    hear g old new known (Some (record { number = l; is_open = false })) (e.Dialled l old.config.discovery why) told
+    (weaker (e.Dialled l old.config.discovery why) old new answers)
     (λ m n shows may knows keeps. knows_inner (Some (record { number = l; is_open = false })) _ n
     (knows_dialled g m l old.config.discovery why may.3) keeps)
 
@@ -165,5 +167,6 @@ failed_leaves {E} g r old run to why told after is adds answers carries = by_res
 
     by_result : (r : Result Unit E) → IfOk r (λ x. Answers why None old run.node) → Leaves r g run after
     by_result (Ok x) answers =
-        hear g old run.node run.known run.known (e.DialFailed old.config.discovery why) after answers knows tells
+        hear g old run.node run.known run.known (e.DialFailed old.config.discovery why) after
+        (weaker (e.DialFailed old.config.discovery why) old run.node answers) knows tells
     by_result (Err lack) answers = falls_so g old run old.config.discovery why after is_due.dials tells

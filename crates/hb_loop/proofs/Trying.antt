@@ -20,11 +20,12 @@ use Rattle.hb_model.specs.Point.{entry}
 use Rattle.hb_model.specs.Runs.{IsCalmBy, IsQuiet, IsQuietAt, IsFaulted, MayBalk, due_by, wanted_by, output, output_by}
 use Rattle.hb_node.specs.declared.link.Link.{Link}
 use Rattle.hb_node.specs.Phases.{phase_of}
-use Rattle.hb_node.specs.State.{State, ShowsLink, IsGone, Enters, Goes, Wants, Puts, due_of, number_of, closing_of}
+use Rattle.hb_node.specs.State.{State, ShowsLink, IsGone, Enters, EntersAlone, Goes, Wants, Puts, due_of, number_of, closing_of}
 use Rattle.hb_loop.specs.declared.run.Known.{Known}
 use Rattle.hb_loop.specs.Stands.{IsInPhase, Knows, Stands, Carries, GoesOn, Lasts, Tells}
 use Rattle.hb_loop.proofs.Settling.{settled_entry}
 use Rattle.hb_loop.proofs.Known.{knows_inner, knows_came, knows_went, knows_ended, knows_broke, knows_tick, knows_balked, knows_wait, knows_opened}
+use Rattle.hb_node.proofs.Entering.{weaker}
 use Rattle.hb_loop.proofs.Carried.{MayBehind, SettlesBehind, tell, hear, carry, run_on, trace_on, if_told, rests, balks, waits}
 
 -- where no call is due all is quiet
@@ -89,24 +90,24 @@ finishes g node known l trace idle is s =
 
 -- a finish tells that the link is open, or that it broke
 pub finish_opens : (g : NodeConfig) (old new : State) (known : Option Known) (l : ℕ) (told after : Option (List Entry))
-    → after ≡ with_entries (e.Opened l ∷ []) told → Enters (e.Opened l) old new → due_of old ≡ None
+    → after ≡ with_entries (e.Opened l ∷ []) told → EntersAlone (e.Opened l) old new → due_of old ≡ None
     → known ≡ Some (record { number = l; is_open = false }) → Carries g old known told
     → Carries g new (Some (record { number = l; is_open = true })) after
 finish_opens g old new known l told after adds enters idle is =
-    carry g old new known (Some (record { number = l; is_open = true })) (e.Opened l) told after adds enters
+    carry g old new known (Some (record { number = l; is_open = true })) (e.Opened l) told after adds (weaker (e.Opened l) old new enters)
     (λ trace same s. ((finishes g old known l trace idle is s).1, tt)) (λ trace same s. tt)
     (λ m n shows may knows keeps. knows_inner (Some (record { number = l; is_open = true })) _ n
     (knows_opened g m l (subst (λ (o : Option Known). Knows o m) is knows).0 may.1) keeps)
 
 broke_so : (g : NodeConfig) (old new : State) (known : Option Known) (l : ℕ) (told after : Option (List Entry))
-    → after ≡ with_entries (e.Broke l ∷ []) told → Enters (e.Broke l) old new → MayBehind g old known (e.Broke l) told
+    → after ≡ with_entries (e.Broke l ∷ []) told → EntersAlone (e.Broke l) old new → MayBehind g old known (e.Broke l) told
     → Carries g old known told → Carries g new known after
 broke_so g old new known l told after adds enters may =
-    carry g old new known known (e.Broke l) told after adds enters may (λ trace same s. tt)
+    carry g old new known known (e.Broke l) told after adds (weaker (e.Broke l) old new enters) may (λ trace same s. tt)
     (λ m n shows may knows keeps. knows_inner known _ n (knows_broke g known m l knows) keeps)
 
 pub finish_breaks : (g : NodeConfig) (old new : State) (known : Option Known) (l : ℕ) (told after : Option (List Entry))
-    → after ≡ with_entries (e.Broke l ∷ []) told → Enters (e.Broke l) old new → due_of old ≡ None
+    → after ≡ with_entries (e.Broke l ∷ []) told → EntersAlone (e.Broke l) old new → due_of old ≡ None
     → known ≡ Some (record { number = l; is_open = false }) → Carries g old known told → Carries g new known after
 finish_breaks g old new known l told after adds enters idle is =
     broke_so g old new known l told after adds enters (λ trace same s. (inl (finishes g old known l trace idle is s).1, tt))
@@ -160,7 +161,7 @@ pub write_goes : (g : NodeConfig) (old new : State) (known : Option Known) (l n 
     → Carries g old known told → Carries g new known after
 write_goes g old new known l n bytes told after adds goes puts some most =
     let size : length (take n bytes) ≡ n = length-take-le n bytes most in
-    carry g old new known known (e.Went l (take n bytes)) told after adds (goes (take n bytes) size)
+    carry g old new known known (e.Went l (take n bytes)) told after adds (weaker (e.Went l (take n bytes)) old new (goes (take n bytes) size))
     (λ trace same s. (
       (
         may_write g old known l bytes trace puts (omega (arith, some, most)) s,
@@ -172,7 +173,7 @@ write_goes g old new known l n bytes told after adds goes puts some most =
     (λ m n shows may knows keeps. knows_inner known _ n (knows_went g known m l _ knows) keeps)
 
 pub write_breaks : (g : NodeConfig) (old new : State) (known : Option Known) (l : ℕ) (bytes : List ℕ) (told after : Option (List Entry))
-    → after ≡ with_entries (e.Broke l ∷ []) told → Enters (e.Broke l) old new → Puts old l bytes → 0 < length bytes
+    → after ≡ with_entries (e.Broke l ∷ []) told → EntersAlone (e.Broke l) old new → Puts old l bytes → 0 < length bytes
     → Carries g old known told → Carries g new known after
 write_breaks g old new known l bytes told after adds enters puts some =
     broke_so g old new known l told after adds enters (λ trace same s. (inr (may_write g old known l bytes trace puts some s), tt))
@@ -272,10 +273,10 @@ lasts_bytes g node known l bytes told =
     if_told (Tells g node known (e.Came l bytes)) (Lasts g l) told (lasts_read g node known l bytes)
 
 pub read_ends : (g : NodeConfig) (old new : State) (known : Option Known) (l most : ℕ) (told after : Option (List Entry))
-    → after ≡ with_entries (e.Ended l ∷ []) told → Enters (e.Ended l) old new → Wants old l most → 0 < most
+    → after ≡ with_entries (e.Ended l ∷ []) told → EntersAlone (e.Ended l) old new → Wants old l most → 0 < most
     → Carries g old known told → Carries g new known after
 read_ends g old new known l most told after adds enters wanted some =
-    carry g old new known known (e.Ended l) told after adds enters
+    carry g old new known known (e.Ended l) told after adds (weaker (e.Ended l) old new enters)
     (λ trace same s. (
       (
         may_read g old known l most trace wanted some s,
@@ -286,7 +287,7 @@ read_ends g old new known l most told after adds enters wanted some =
     (λ m n shows may knows keeps. knows_inner known _ n (knows_ended g known m l knows) keeps)
 
 pub read_breaks : (g : NodeConfig) (old new : State) (known : Option Known) (l most : ℕ) (told after : Option (List Entry))
-    → after ≡ with_entries (e.Broke l ∷ []) told → Enters (e.Broke l) old new → Wants old l most → 0 < most
+    → after ≡ with_entries (e.Broke l ∷ []) told → EntersAlone (e.Broke l) old new → Wants old l most → 0 < most
     → Carries g old known told → Carries g new known after
 read_breaks g old new known l most told after adds enters wanted some =
     broke_so g old new known l told after adds enters
@@ -310,8 +311,8 @@ tick_tells g node known ready how (Some trace) after adds idle settles carries =
     (λ more same s. (quiet_where g node known more idle s, tt)) (λ trace same s. tt)
     (waited g node known ready how (Some trace) (Some (trace ++ e.Wait ready how ∷ [])) refl idle settles carries)
 
-pub hears_tick : (g : NodeConfig) (old new : State) (known : Option Known) (told : Option (List Entry)) → Enters e.Tick old new
+pub hears_tick : (g : NodeConfig) (old new : State) (known : Option Known) (told : Option (List Entry)) → EntersAlone e.Tick old new
     → IfSome told (Tells g old known e.Tick) → Carries g new known told
 hears_tick g old new known told enters =
-    hear g old new known known e.Tick told enters
+    hear g old new known known e.Tick told (weaker e.Tick old new enters)
     (λ m n shows may knows keeps. knows_inner known _ n (knows_tick g known m knows) keeps)
