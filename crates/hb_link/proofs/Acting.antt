@@ -1,6 +1,6 @@
 -- The acts that are due.
-use Rattle.std.proofs.Common.{◌≡◌, ⊎_elim, inl, inr, ℕ, ◌+◌, ◌<◌, ◌≤◌, ◌^◌, ◌==◌, Bool, true, false, is_some, IsSome, Option, Some, None, if◌then◌else◌, refl, ap, sym, ◌∙◌, subst, arith}
-use Rattle.std.proofs.lemmas.Bool.{false≢true, eqb-false, ne_eqb, cases_lt, cases_eq}
+use Rattle.std.proofs.Common.{◌≡◌, ⊎_elim, inl, inr, ℕ, ◌<◌, ◌==◌, Bool, true, false, is_some, IsSome, Option, Some, None, if◌then◌else◌, refl, ap, sym, ◌∙◌, subst, arith}
+use Rattle.std.proofs.lemmas.Bool.{false≢true, eqb-false, ne_eqb, cases_eq}
 use Rattle.std.specs.FinMap.{get, remove}
 use Rattle.hb_base.specs.declared.cause.Cause.{Cause}
 use Rattle.hb_base.specs.declared.door.Why.{Why}
@@ -28,7 +28,6 @@ use Rattle.hb_link.specs.Acts.{Acts, IsFirst}
 use Rattle.hb_link.specs.Shows.{Shows, ShowsBy}
 use Rattle.hb_link.specs.Tunnels.{phase_of, stage_of, tunnel_of, as_told, IsSound, ShowsAt, ShowsTunnel}
 use Rattle.hb_link.proofs.Living.{it_serves, shows_live}
-use Rattle.hb_link.proofs.Loads.{place_of}
 use Rattle.hb_link.proofs.Moving.{Map, WayBy, here, is_here, shown}
 
 -- WHAT IS DUE OF THE CODE'S TUNNEL IS DUE OF THE MACHINE'S

@@ -1,5 +1,5 @@
 -- Bytes that come on a link.
-use Rattle.std.proofs.Common.{◌≡◌, inl, inr, ℕ, ◌+◌, ◌-◌, ◌≤◌, true, false, List, [], ◌∷◌, ◌++◌, length, drop, Option, None, refl, ap, ap₂, sym, ◌∙◌, subst, arith, length-drop}
+use Rattle.std.proofs.Common.{◌≡◌, inl, inr, ℕ, ◌≤◌, true, false, List, [], ◌∷◌, ◌++◌, length, drop, Option, None, refl, ap, ap₂, sym, ◌∙◌, subst, arith, length-drop}
 use Rattle.std.proofs.lemmas.Bool.{false≢true}
 use Rattle.std.specs.FinMap.{get}
 use Rattle.hb_base.specs.declared.cause.Cause.TheVariants as cause
@@ -41,7 +41,7 @@ use Rattle.hb_link.specs.Tunnels.{phase_of, ShowsTunnel}
 use Rattle.hb_link.proofs.Asked.{none_there}
 use Rattle.hb_link.proofs.Living.{is_serving}
 use Rattle.hb_link.proofs.Noted.{takes_none, takes_quiet, parts_then}
-use Rattle.hb_link.proofs.Settles.{agrees, leads_append, leads_hold, stands_behind}
+use Rattle.hb_link.proofs.Settles.{leads_append, leads_hold, stands_behind}
 
 -- BEFORE THE LOOKS
 

@@ -1,5 +1,5 @@
 -- Entries and updates that end tunnels, or the link.
-use Rattle.std.proofs.Common.{◌≡◌, ℕ, ◌==◌, if◌then◌else◌, List, refl, ap, true, sym, ◌∙◌, subst}
+use Rattle.std.proofs.Common.{◌≡◌, ℕ, ◌==◌, if◌then◌else◌, refl, ap, true, sym, ◌∙◌, subst}
 use Rattle.std.specs.Prelude.{⊤}
 use Rattle.std.specs.FinMap.{get}
 use Rattle.hb_base.specs.declared.cause.Cause.{Cause}
@@ -12,22 +12,20 @@ use Rattle.hb_disco.specs.declared.response.Response.{Response}
 use Rattle.hb_held.specs.Held.{Resources}
 use Rattle.hb_held.specs.Outcome.{after_response}
 use Rattle.hb_world.specs.declared.entry.Entry.TheVariants as e
-use Rattle.hb_inbound.specs.Calm.{RestsIn}
 use Rattle.hb_inbound.specs.Inbound as m
 use Rattle.hb_inbound.specs.Inbound.{Inbound, broken_by, ended_by, ends_with, rejudged, stops_by, stopped_for, with_phase}
-use Rattle.hb_inbound.specs.Part.{Part, entry, up, applied, stopped}
-use Rattle.hb_inbound.specs.Runs.{Local, Steps, StandsFor}
+use Rattle.hb_inbound.specs.Part.{entry, up, applied, stopped}
+use Rattle.hb_inbound.specs.Runs.{Local}
 use Rattle.hb_inbound.specs.Tunnel.{ends_for, up_ended, takes_place}
 use Rattle.hb_link.specs.declared.link.Link.{Link}
 use Rattle.hb_link.specs.declared.phase.Phase.{Phase}
 use Rattle.hb_link.specs.declared.phase.Phase.TheVariants.{Fronting, Serving, Faulted, Closing, Closed}
 use Rattle.hb_link.specs.Marking.{ended_tunnel, judged_tunnel, down_ended_tunnel, ChangesAt, EndsWith, Marks}
 use Rattle.hb_link.specs.Settling.{IsMarked, LookedIn}
-use Rattle.hb_link.specs.Shows.{Shows, ShowsBy}
+use Rattle.hb_link.specs.Shows.{ShowsBy}
 use Rattle.hb_link.specs.Tunnels.{phase_of}
 use Rattle.hb_link.proofs.Living.{it_serves}
 use Rattle.hb_link.proofs.Marked.{ChangesEach, ends_shown, down_ended_shown, judged_shown, marked_at, marked_each, marked_still, ended_marked}
-use Rattle.hb_link.proofs.Moving.{Map}
 use Rattle.hb_link.proofs.Settles.{agrees}
 
 -- what is marked of the code's link, for a run of the link in front of it

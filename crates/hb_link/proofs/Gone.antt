@@ -33,7 +33,6 @@ use Rattle.hb_inbound.proofs.Runs.{all_keep}
 use Rattle.hb_inbound.proofs.Waiting.{WaitsIn}
 use Rattle.hb_inbound.proofs.WaitingRun.{all_wait}
 use Rattle.hb_link.specs.declared.link.Link.{Link}
-use Rattle.hb_link.specs.declared.phase.Phase.{Phase}
 use Rattle.hb_link.specs.declared.phase.Phase.TheVariants.{Serving, Faulted, Closing}
 use Rattle.hb_link.specs.declared.tunnel.Tunnel.{Tunnel}
 use Rattle.hb_link.specs.Calls.{Enters}

@@ -41,7 +41,6 @@ use Rattle.hb_inbound.proofs.Runs.{all_keep}
 use Rattle.hb_link.specs.declared.hearing.Heard.{Heard}
 use Rattle.hb_link.specs.declared.hearing.Heard.TheVariants as heard
 use Rattle.hb_link.specs.declared.link.Link.{Link}
-use Rattle.hb_link.specs.declared.tunnel.Tunnel.{Tunnel}
 use Rattle.hb_link.specs.Asking.{named_by}
 use Rattle.hb_link.specs.Counting.{CountsPlaces}
 use Rattle.hb_link.specs.Looking.{changed_at, came_here, up_ended_here, left_to_look, heard_of, tunnels_heard, goes_on, HasHeard, Looked}

@@ -1,6 +1,6 @@
 -- Tunnels that end, before their streams get what they get.
-use Rattle.std.proofs.Common.{◌≡◌, ⊎_elim, inl, inr, ℕ, ◌+◌, ◌≤◌, ◌<◌, ◌^◌, Bool, true, false, is_some, IsSome, Option, Some, None, if◌then◌else◌, refl, ap, sym, ◌∙◌, subst, arith}
-use Rattle.std.proofs.lemmas.Bool.{false≢true, eqb-false, cases_lt, cases_eq}
+use Rattle.std.proofs.Common.{◌≡◌, ⊎_elim, inl, inr, ℕ, ◌≤◌, ◌<◌, Bool, true, false, is_some, IsSome, Option, Some, None, if◌then◌else◌, refl, ap, sym, ◌∙◌, subst}
+use Rattle.std.proofs.lemmas.Bool.{false≢true, eqb-false, cases_eq}
 use Rattle.std.specs.Option.{option_map}
 use Rattle.std.specs.FinMap.{get}
 use Rattle.hb_base.specs.declared.cause.Cause.{Cause}
@@ -8,7 +8,7 @@ use Rattle.hb_base.specs.declared.cause.Cause.TheVariants as cause
 use Rattle.hb_base.specs.declared.peer.Peer.{Peer}
 use Rattle.hb_base.specs.declared.target.Target.{Target}
 use Rattle.hb_held.specs.Held.{Resources}
-use Rattle.hb_map.specs.Keyed.{IsFirstFrom, written}
+use Rattle.hb_map.specs.Keyed.{written}
 use Rattle.hb_map.proofs.Laws.{written_here, written_elsewhere}
 use Rattle.hb_table.specs.Judgement.{judged}
 use Rattle.hb_table.specs.declared.judgement.Judged.{Judged}
@@ -29,7 +29,6 @@ use Rattle.hb_link.specs.Settling.{Agrees, IsMarked, LookedIn}
 use Rattle.hb_link.specs.Shows.{Shows, ShowsBy}
 use Rattle.hb_link.specs.Tunnels.{phase_of, stage_of, ShowsAt, ShowsTunnel, has_place, place_in, IsSound}
 use Rattle.hb_link.proofs.Living.{shows_live}
-use Rattle.hb_link.proofs.Loads.{place_of}
 use Rattle.hb_link.proofs.Moving.{Map, here, is_here}
 use Rattle.hb_link.proofs.Settles.{agrees}
 use Rattle.hb_link.proofs.Shown.{place_tunnel}

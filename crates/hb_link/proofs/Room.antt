@@ -6,7 +6,7 @@ use Rattle.hb_conn.specs.Glance.{glance_by, glance_of}
 use Rattle.hb_conn.specs.Faults.{faulted}
 use Rattle.hb_conn.specs.Handling.{HandlesBy, Handles}
 use Rattle.hb_conn.specs.Laws.{IsCaughtUp}
-use Rattle.hb_conn.specs.Observed.{room, is_over, is_paused}
+use Rattle.hb_conn.specs.Observed.{is_over, is_paused}
 use Rattle.hb_conn.specs.Outcome.{Gives}
 use Rattle.hb_conn.specs.Places.{is_misplaced}
 use Rattle.hb_conn.specs.Preface.{is_whole}

@@ -1,7 +1,6 @@
 -- When all places of tunnels are taken for a request.
 use Rattle.std.specs.Prelude.{⊤, ◌≡◌, ℕ, ◌+◌, nat_le}
-use Rattle.hb_inbound.specs.Part.{Part, decided}
-use Rattle.hb_inbound.specs.Runs.{Local}
+use Rattle.hb_inbound.specs.Part.{decided}
 use Rattle.hb_link.specs.Load.{HasLoad}
 use Rattle.hb_link.specs.Reaches.{Guard}
 

@@ -1,4 +1,4 @@
-use Rattle.std.proofs.Common.{rules, ◌≡◌, ◌≤◌, length, ap, sym, ◌∙◌, subst}
+use Rattle.std.proofs.Common.{◌≡◌, ◌≤◌, length, ap, sym, ◌∙◌, subst}
 use Rattle.hb_conn.specs.Connection.{Connection}
 use Rattle.hb_link.specs.Fronting.{HasCome, TakesFront}
 use Rattle.hb_link.specs.Observed.{wants_in}
