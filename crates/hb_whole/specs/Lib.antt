@@ -1,0 +1,4 @@
+pub mod Judged
+pub mod Queue
+pub mod Sight
+pub mod Stands

@@ -1,0 +1,83 @@
+-- The traces that the whole proxy stands for.
+use Rattle.std.specs.Prelude.{⊤, ⊥, ◌≡◌, ◌⊎◌, ℕ, true, false, List, ◌++◌, Option, Some, None}
+use Rattle.hb_base.specs.declared.cause.Cause.{Cause}
+use Rattle.hb_base.specs.declared.door.Why.{Why}
+use Rattle.hb_base.specs.declared.door.Why.TheVariants as whys
+use Rattle.hb_base.specs.declared.note.Note.{Note}
+use Rattle.hb_base.specs.declared.target.Target.{Target}
+use Rattle.hb_inbound.specs.Inbound as inbound
+use Rattle.hb_inbound.specs.Inbound.{Inbound}
+use Rattle.hb_inbound.specs.Tunnel as t
+use Rattle.hb_links.specs.Reaches.{notes as notes_of}
+use Rattle.hb_links.specs.Shows.{ShowsAll}
+use Rattle.hb_model.specs.Discovery as discovery
+use Rattle.hb_model.specs.declared.config.NodeConfig.{NodeConfig}
+use Rattle.hb_node.specs.State.{Shows}
+use Rattle.hb_proxy.specs.Doors.{without_doors}
+use Rattle.hb_proxy.specs.Machine.{Machine}
+use Rattle.hb_proxy.specs.Points.{Point, entries}
+use Rattle.hb_proxy.specs.Runs.{ControlRests, StandsFor}
+use Rattle.hb_world.specs.declared.entry.Entry.{Entry}
+use Rattle.hb_whole.specs.Queue.{told}
+use Rattle.hb_whole.specs.declared.proxy.Proxy.{Proxy}
+
+-- all notes of a run are those that were taken, and those that wait; nothing is known once one was lost
+abbrev pub AreNotes : List Note → Option (List Note) → List Point → Type 0
+AreNotes taken None points = ⊤
+AreNotes taken (Some waiting) points = notes_of points ≡ taken ++ waiting
+
+-- a dial is due, of the control plane, or of a tunnel's target while the control plane rests
+abbrev pub DialIsDue : NodeConfig → Machine → Target → Why → Type 0
+DialIsDue g x to whys.Discovery = (x.control.dials ≡ true) × (to ≡ g.discovery)
+DialIsDue g x to (whys.Upstream l s) =
+    ControlRests x.control × (((x.inbound l).tunnels s).stage ≡ t.due) × (to ≡ ((x.inbound l).tunnels s).target)
+DialIsDue g x to _ = ⊥
+
+abbrev pub MayBeDialled : NodeConfig → Machine → Option (Target × Why) → Type 0
+MayBeDialled g x None = ⊤
+MayBeDialled g x (Some dial) = DialIsDue g x dial.0 dial.1
+
+-- behind the end of the run, for a cause: a link is closed, or is to be for this cause; nothing is left of a tunnel, or its upstream is
+-- to be closed for this cause
+abbrev pub ControlEnds : Cause → discovery.Phase → Type 0
+ControlEnds cause discovery.unborn = ⊤
+ControlEnds cause discovery.closed = ⊤
+ControlEnds cause (discovery.ending why) = why ≡ cause
+ControlEnds cause _ = ⊥
+
+abbrev pub LinkEnds : Cause → inbound.Phase → Type 0
+LinkEnds cause inbound.unborn = ⊤
+LinkEnds cause inbound.closed = ⊤
+LinkEnds cause (inbound.closing why) = why ≡ cause
+LinkEnds cause _ = ⊥
+
+abbrev pub TunnelEnds : Cause → t.Stage → Type 0
+TunnelEnds cause t.unasked = ⊤
+TunnelEnds cause t.gone = ⊤
+TunnelEnds cause (t.failed why) = why ≡ cause
+TunnelEnds cause (t.ended why) = why ≡ cause
+TunnelEnds cause (t.over why) = why ≡ cause
+TunnelEnds cause _ = ⊥
+
+pub record Ends (cause : Cause) (x : Machine) : Type 0 where
+  pub control : (l : ℕ) → ControlEnds cause (x.control.links l).phase
+  pub links : (l : ℕ) → LinkEnds cause (x.inbound l).phase
+  pub tunnels : (l s : ℕ) → TunnelEnds cause ((x.inbound l).tunnels s).stage
+
+-- the run goes on, or has ended for a cause
+abbrev pub EndsBy : Option Cause → Machine → Type 0
+EndsBy None x = x.control.over ≡ false
+EndsBy (Some cause) x = (x.control.over ≡ true) × Ends cause x
+
+-- The proxy stands for a trace, of whose notes these were taken: a run of the machine leads to one that the code shows, whose entries are
+-- the trace but for the calls at doors that gave no link
+pub record Stands (taken : List Note) (p : Proxy) (trace : List Entry) : Type 0 where
+  pub machine : Machine
+  pub points : List Point
+  pub run : StandsFor p.control.config machine points
+  pub trace_is : without_doors trace ≡ entries points
+  pub control : Shows p.control machine.control
+  pub links : ShowsAll p.side.links machine.inbound
+  pub noted : AreNotes taken (told p.side.notes) points
+  pub dial : MayBeDialled p.control.config machine p.dials
+  pub ends : EndsBy p.ends_for machine
