@@ -31,6 +31,7 @@ use Rattle.hb_proxy.specs.Machine.{Machine, local, with_part}
 use Rattle.hb_proxy.specs.Owners.{nobody, inbound_link, upstream_of}
 use Rattle.hb_proxy.specs.Points.{Point, parts_of}
 use Rattle.hb_proxy.specs.Runs.{BirthMayCome, ControlRests, LinkGuard, LinkMayCome, Lets, StandsFor, is_act, is_link_faulted, link_first}
+use Rattle.hb_proxy.specs.Ups.{up_by, up_now, Joins}
 use Rattle.hb_world.specs.declared.act.Act.{Act}
 use Rattle.hb_world.specs.declared.act.Act.TheVariants as act
 use Rattle.hb_world.specs.declared.entry.Entry.{Entry}
@@ -38,7 +39,6 @@ use Rattle.hb_world.specs.declared.entry.Entry.TheVariants as e
 use Rattle.hb_links.specs.declared.links.Links.{Links}
 use Rattle.hb_links.specs.Acts.{Acts, ActsOn, Does}
 use Rattle.hb_links.specs.Busy.{touched}
-use Rattle.hb_links.specs.Places.{up_by, up_now, Joins}
 use Rattle.hb_links.specs.Shows.{IsAway, ShowsAll, ShowsLink}
 use Rattle.hb_links.specs.Walks.{closed_by, finished}
 use Rattle.hb_links.proofs.Indexing.{closed, owner_is}

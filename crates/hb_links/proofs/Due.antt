@@ -1,11 +1,14 @@
 -- A link that is touched may have an act due, and the others as before.
-use Rattle.std.proofs.Common.{◌≡◌, ◌≢◌, ◌==◌, ◌||◌, ℕ, Bool, true, false, cond, nat_le, min, Option, Some, None, refl, ap, sym, ◌∙◌, arith}
-use Rattle.std.proofs.lemmas.Bool.{or_parts, or_from, eqb-false, eqb-true, leb-false, lt-leb}
+use Rattle.std.proofs.Common.{◌≡◌, ◌≢◌, ◌==◌, ◌||◌, ◌&&◌, not, ℕ, Bool, true, false, cond, nat_le, min, Option, Some, None, is_some, refl, ap, sym, ◌∙◌, arith}
+use Rattle.std.proofs.lemmas.Bool.{or_parts, or_from, eqb-false, eqb-true, leb-false, lt-leb, false≢true}
+use Rattle.hb_inbound.specs.Inbound.{Inbound}
+use Rattle.hb_link.specs.Acts.{NoneIsDue}
 use Rattle.hb_links.specs.declared.links.Links.{Links}
-use Rattle.hb_links.specs.Busy.{is_at, is_from, may_be_due, busy_after, least, from_after, touched}
+use Rattle.hb_links.specs.Busy.{is_at, is_from, may_be_due, is_idle, busy_after, least, from_after, touched}
+use Rattle.hb_links.specs.Shows.{ShowsAll}
 
 -- a number is below the least of two
-below_least : (from : Option ℕ) (l m : ℕ) → nat_le (least from l) m ≡ false → (m ≢ l) × (is_from from m ≡ false)
+pub below_least : (from : Option ℕ) (l m : ℕ) → nat_le (least from l) m ≡ false → (m ≢ l) × (is_from from m ≡ false)
 below_least None l m is = let below = leb-false l m is in (λ same. omega (arith, below, same), refl)
 below_least (Some n) l m is =
     let below = leb-false (min n l) m is in
@@ -30,3 +33,12 @@ due_by (Some n) from l m is = by (n == l) refl
 
 pub due_then : (k : Links) (l m : ℕ) → may_be_due (touched l k) m ≡ false → (m ≢ l) × (may_be_due k m ≡ false)
 due_then k l m is = due_by k.busy k.from l m is
+
+-- where none may have one, none has
+idle_by : (busy from : Option ℕ) (l : ℕ) → (not (is_some busy) && not (is_some from)) ≡ true → (is_at busy l || is_from from l) ≡ false
+idle_by None None l is = refl
+idle_by None (Some n) l is = absurd (false≢true is)
+idle_by (Some n) from l is = absurd (false≢true is)
+
+pub none_is_due : (k : Links) (f : ℕ → Inbound) → is_idle k ≡ true → ShowsAll k f → (l : ℕ) → NoneIsDue (f l)
+none_is_due k f is shows l = shows.idle l (idle_by k.busy k.from l is)

@@ -1,15 +1,15 @@
 -- An entry on the link of a number is told to that link, or to the one whose upstream it is.
 use Rattle.std.specs.Prelude.{⊤}
-use Rattle.std.proofs.Common.{◌≡◌, ℕ, List, [], ◌++◌, Option, Some, None, is_some, refl, ap, sym, ◌∙◌, subst}
-use Rattle.std.proofs.lemmas.List.{append-nil}
+use Rattle.std.proofs.Common.{◌≡◌, ℕ, List, [], Option, Some, None, is_some, refl, ap, sym, ◌∙◌, subst}
 use Rattle.std.specs.FinMap.{get, insert}
-use Rattle.hb_base.specs.declared.note.Note.{Note}
 use Rattle.hb_inbound.specs.Part as part
-use Rattle.hb_inbound.specs.Part.{Part}
+use Rattle.hb_inbound.specs.Part.{Part, notes}
 use Rattle.hb_held.specs.Held.{Resources}
 use Rattle.hb_inbound.specs.Runs.{Local}
 use Rattle.hb_link.specs.Calls as calls
 use Rattle.hb_link.specs.Counting.{CountsPlaces}
+use Rattle.hb_link.proofs.Noted.{makes_none}
+use Rattle.hb_link.specs.Noted.{Told}
 use Rattle.hb_link.specs.Reaches as link
 use Rattle.hb_link.specs.declared.link.Link.{Link}
 use Rattle.hb_proxy.specs.Points.{Point, of_link}
@@ -49,7 +49,7 @@ module _ (k : Links) (n : ℕ) (z : Entry) (q : Point) (is : point_for k n z ≡
       cc
 
 -- of a tunnel whose upstream it is; of a link
-pub up_enters : (k : Links) (n : ℕ) (z : Entry) (at : Place) (old new : Link) (told now : List Note) → get k.ups n ≡ Some at
+pub up_enters : (k : Links) (n : ℕ) (z : Entry) (at : Place) (old new : Link) (told now : Told) → get k.ups n ≡ Some at
     → get k.links at.link ≡ Some old → LeavesUp (part.up at.stream z) → calls.UpEnters at.stream z old told new now
     → Enters n z k told (touched at.link (links_with (insert k.links at.link new) k.ups k)) now
 up_enters k n z at old new told now found is leaves enters q point =
@@ -57,7 +57,7 @@ up_enters k n z at old new told now found is leaves enters q point =
     (sym (up_point k n z q point at found))
     (lifts link.unguarded (λ a. ⊤) k at.link old new told now (λ i. part.up at.stream z) is leaves enters)
 
-pub own_enters : (k : Links) (n : ℕ) (z : ℕ → Entry) (old new : Link) (told now : List Note) → get k.ups n ≡ None
+pub own_enters : (k : Links) (n : ℕ) (z : ℕ → Entry) (old new : Link) (told now : Told) → get k.ups n ≡ None
     → get k.links n ≡ Some old → calls.Enters (z old.number) old told new now
     → Enters n (z n) k told (touched n (links_with (insert k.links n new) k.ups k)) now
 own_enters k n z old new told now none is enters q point =
@@ -71,7 +71,7 @@ pub changed : (k n : Links) (links : Map) (l : ℕ) (old new : Link) → n ≡ t
 changed k n links l old new n_is links_is is =
     n_is ∙ ap (λ (m : Map). touched l (links_with m k.ups k)) (links_is ∙ written_where_some k.links l new (ap is_some is))
 
-pub up_told : (k n : Links) (links : Map) (u : ℕ) (z : Entry) (at : Place) (old new : Link) (told now : List Note)
+pub up_told : (k n : Links) (links : Map) (u : ℕ) (z : Entry) (at : Place) (old new : Link) (told now : Told)
     → n ≡ touched at.link (links_with links k.ups k) → links ≡ written k.links at.link new → get k.ups u ≡ Some at
     → get k.links at.link ≡ Some old → LeavesUp (part.up at.stream z) → calls.UpEnters at.stream z old told new now
     → Enters u z k told n now
@@ -79,7 +79,7 @@ up_told k n links u z at old new told now n_is links_is found is leaves enters =
     subst (λ (m : Links). Enters u z k told m now) (sym (changed k n links at.link old new n_is links_is is))
     (up_enters k u z at old new told now found is leaves enters)
 
-pub own_told : (k n : Links) (links : Map) (l : ℕ) (z : ℕ → Entry) (old new : Link) (told now : List Note)
+pub own_told : (k n : Links) (links : Map) (l : ℕ) (z : ℕ → Entry) (old new : Link) (told now : Told)
     → n ≡ touched l (links_with links k.ups k) → links ≡ written k.links l new → get k.ups l ≡ None
     → get k.links l ≡ Some old → calls.Enters (z old.number) old told new now → Enters l (z l) k told n now
 own_told k n links l z old new told now n_is links_is none is enters =
@@ -87,7 +87,7 @@ own_told k n links l z old new told now n_is links_is none is enters =
     (own_enters k l z old new told now none is enters)
 
 -- bytes that came on an upstream make no note
-quiet : (G : link.Guard) (P : Local → Type 0) (p : Part) (old new : Link) (told : List Note) → link.Meets G P p old [] new []
+quiet : (G : link.Guard) (P : Local → Type 0) (p : Part) (old new : Link) (told : Told) → link.Meets G P p old (Some []) new (Some [])
     → link.Meets G P p old told new told
 quiet G P p old new told meets start before a b stands shows holds step =
     let one = meets start before a b stands shows holds step in (
@@ -97,14 +97,14 @@ quiet G P p old new told meets start before a b stands shows holds step =
         reached = one.1.reached;
         leads = one.1.leads;
         shows = one.1.shows;
-        noted = sym (append-nil told) ∙ ap (λ (w : List Note). told ++ w) one.1.noted;
+        noted = makes_none (notes one.1.parts) one.1.noted told;
       },
     )
 
 -- bytes came on the link of a number
-pub up_takes : (k n : Links) (links : Map) (u : ℕ) (bytes : List ℕ) (at : Place) (old new : Link) (told : List Note)
+pub up_takes : (k n : Links) (links : Map) (u : ℕ) (bytes : List ℕ) (at : Place) (old new : Link) (told : Told)
     (held : Resources) (others limit : ℕ) → n ≡ touched at.link (links_with links k.ups k) → links ≡ written k.links at.link new
-    → get k.ups u ≡ Some at → get k.links at.link ≡ Some old → calls.UpEnters at.stream (e.Came u bytes) old [] new []
+    → get k.ups u ≡ Some at → get k.links at.link ≡ Some old → calls.UpEnters at.stream (e.Came u bytes) old (Some []) new (Some [])
     → Takes held others limit u bytes k told n told
 up_takes k n links u bytes at old new told held others limit n_is links_is found is enters q point =
     subst (λ (w : Point). Meets (counting others limit w) (λ m. m.control.held ≡ held) w k told n told)
@@ -116,7 +116,7 @@ up_takes k n links u bytes at old new told held others limit n_is links_is found
     (quiet link.unguarded (λ a. ⊤) (part.up at.stream (e.Came u bytes)) old new told enters))
     g x y points stands shows tt steps)
 
-pub own_takes : (k n : Links) (links : Map) (l : ℕ) (bytes : List ℕ) (old new : Link) (told now : List Note) (held : Resources)
+pub own_takes : (k n : Links) (links : Map) (l : ℕ) (bytes : List ℕ) (old new : Link) (told now : Told) (held : Resources)
     (others limit : ℕ) → n ≡ touched l (links_with links k.ups k) → links ≡ written k.links l new → get k.ups l ≡ None
     → get k.links l ≡ Some old → calls.Takes held others limit bytes old told new now → Takes held others limit l bytes k told n now
 own_takes k n links l bytes old new told now held others limit n_is links_is none is enters q point =
@@ -128,7 +128,7 @@ own_takes k n links l bytes old new told now held others limit n_is links_is non
     (lifts (CountsPlaces others limit) (λ a. a.held ≡ held) k l old new told now (λ i. part.entry (e.Came i bytes)) is tt enters))
 
 -- an upstream alone opens
-pub none_opens : (k m : Links) (n : ℕ) (told now : List Note) → get k.ups n ≡ None → Enters n (e.Opened n) k told m now
+pub none_opens : (k m : Links) (n : ℕ) (told now : Told) → get k.ups n ≡ None → Enters n (e.Opened n) k told m now
 none_opens k m n told now none q point = by (get k.links n) refl
   where
     by : (o : Option Link) → get k.links n ≡ o → Meets unguarded (λ x. ⊤) q k told m now

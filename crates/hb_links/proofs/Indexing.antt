@@ -13,12 +13,13 @@ use Rattle.hb_proxy.specs.Machine.{Machine}
 use Rattle.hb_proxy.specs.Owners.{nobody, upstream_of}
 use Rattle.hb_proxy.specs.Points.{Point}
 use Rattle.hb_proxy.specs.Runs.{StandsFor}
+use Rattle.hb_proxy.specs.Ups.{up_now, up_by, Joins}
 use Rattle.hb_links.specs.declared.place.Place.{Place}
-use Rattle.hb_links.specs.Places.{up_now, up_by, Joins, place}
+use Rattle.hb_links.specs.Places.{place}
 use Rattle.hb_links.specs.Shows.{IsIndex}
 use Rattle.hb_links.proofs.Showing.{Index}
 
-up_is : (stage : Stage) (x : Tunnel) (u : ℕ) → 0 < u → up_by stage x ≡ u → x.up ≡ u
+pub up_is : (stage : Stage) (x : Tunnel) (u : ℕ) → 0 < u → up_by stage x ≡ u → x.up ≡ u
 up_is t.unasked x u some is = absurd (omega (arith, some, is))
 up_is (t.requested headers end) x u some is = absurd (omega (arith, some, is))
 up_is (t.refusing status target) x u some is = absurd (omega (arith, some, is))

@@ -1,10 +1,13 @@
 pub mod Acting
 pub mod Due
 pub mod Entering
+pub mod Hearing
 pub mod Indexing
 pub mod Births
 pub mod Lifted
+pub mod NotShown
 pub mod Showing
+pub mod Stirs
 pub mod Sweeping
 pub mod Telling
 pub mod Ups

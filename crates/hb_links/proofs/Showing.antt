@@ -1,5 +1,5 @@
 -- A call of one link is a call of all links.
-use Rattle.std.proofs.Common.{◌≡◌, ◌≢◌, ⊎_elim, ℕ, ◌<◌, ◌^◌, List, ◌++◌, map, Option, Some, is_some, ap, sym, ◌∙◌, subst}
+use Rattle.std.proofs.Common.{◌≡◌, ◌≢◌, ⊎_elim, ℕ, ◌<◌, ◌^◌, List, map, Option, Some, is_some, ap, sym, ◌∙◌, subst}
 use Rattle.std.proofs.lemmas.Bool.{cases_eq}
 use Rattle.std.specs.FinMap.{FinMap, get, insert}
 use Rattle.std.specs.Ordering.{nat_cmp}
@@ -9,21 +9,23 @@ use Rattle.hb_inbound.specs.Inbound.{Inbound}
 use Rattle.hb_inbound.specs.Part.{Part}
 use Rattle.hb_inbound.specs.Runs as inbound
 use Rattle.hb_inbound.specs.Runs.{Local, with_link}
+use Rattle.hb_link.specs.Noted.{Told, Takes}
 use Rattle.hb_link.specs.Reaches as link
 use Rattle.hb_link.specs.Acts.{NoneIsDue}
 use Rattle.hb_link.specs.Shows.{Shows}
 use Rattle.hb_link.specs.declared.link.Link.{Link}
-use Rattle.hb_map.proofs.Laws.{put_here, put_elsewhere}
+use Rattle.hb_map.proofs.Laws.{put_here, put_elsewhere, written_where_some}
+use Rattle.hb_map.specs.Keyed.{written}
 use Rattle.hb_model.specs.declared.config.NodeConfig.{NodeConfig}
 use Rattle.hb_proxy.proofs.Projection.{links_run}
 use Rattle.hb_proxy.specs.Held.{at_start}
 use Rattle.hb_proxy.specs.Machine.{Machine, local}
 use Rattle.hb_proxy.specs.Points.{Point, of_link, parts_of}
 use Rattle.hb_proxy.specs.Runs.{Steps, StandsFor}
+use Rattle.hb_proxy.specs.Ups.{up_now}
 use Rattle.hb_links.specs.declared.links.Links.{Links}
 use Rattle.hb_links.specs.declared.place.Place.{Place}
 use Rattle.hb_links.specs.Busy.{touched}
-use Rattle.hb_links.specs.Places.{up_now}
 use Rattle.hb_links.specs.Reaches.{Follows, Meets, Shown, on_links}
 use Rattle.hb_links.specs.Shows.{IsIndex, ShowsAll, ShowsLink}
 use Rattle.hb_links.proofs.Due.{due_then}
@@ -39,6 +41,15 @@ Map = FinMap nat_cmp Link
 -- with other links and upstreams
 abbrev pub links_with : Map → Index → Links → Links
 links_with links ups k = record k { links = links; ups = ups }
+
+-- a link in the place of itself
+pub written_same : (k : Links) (links : Map) (l : ℕ) (old new : Link) → get k.links l ≡ Some old → new ≡ old
+    → links ≡ written k.links l new → (j : ℕ) → get links j ≡ get k.links j
+written_same k links l old new is same links_is j =
+    ap (λ (m : Map). get m j) (links_is ∙ written_where_some k.links l new (ap is_some is)) ∙ ⊎_elim
+    (λ at. subst (λ (i : ℕ). get (insert k.links l new) i ≡ get k.links i) (sym at)
+    (put_here k.links l new ∙ ap Some same ∙ sym is))
+    (λ apart. put_elsewhere k.links l new j apart) (cases_eq j l)
 
 -- the index of upstreams where a part came on the link l, and with it what follows from it by itself
 abbrev pub Indexes : Index → (ℕ → Inbound) → ℕ → Part → Type 0
@@ -84,7 +95,7 @@ module _ (k : Links) (l : ℕ) (p : Part) (links : Map) (here : Option Link) (up
 
 -- Of a run whose links the code showed, and behind which a part of a link comes: where the code of that link reaches one with what
 -- follows, the code of all links does so with it in the place of the old one
-module _ (G : link.Guard) (g : NodeConfig) (k : Links) (l : ℕ) (p : Part) (new : Link) (ups : Index) (told now : List Note)
+module _ (G : link.Guard) (g : NodeConfig) (k : Links) (l : ℕ) (p : Part) (new : Link) (ups : Index) (told now : Told)
     (x y : Machine) (points : List Point) (stands : StandsFor g x points) (shows : ShowsAll k x.inbound)
     (steps : Steps g x (of_link l p) y) where
   behind : local y l ≡ with_link steps.0 (local x l)
@@ -111,11 +122,11 @@ module _ (G : link.Guard) (g : NodeConfig) (k : Links) (l : ℕ) (p : Part) (new
             ∙ ups_then G l start (local x l) (with_link steps.0 (local x l)) last.reached (parts_of l points) p last.parts
             (links_run g x points l stands) steps.1 last.leads s)
             index;
-        noted = last.noted ∙ ap (λ (w : List Note). told ++ w) (sym (notes_of l last.parts));
+        noted = subst (λ (made : List Note). Takes told made now) (sym (notes_of l last.parts)) last.noted;
       }
 
 -- a call of a link that the code has, with another index of upstreams; or with the same, where it isn't the birth or the close of one
-pub lifts_with : (G : link.Guard) (P : Local → Type 0) (k : Links) (l : ℕ) (old new : Link) (ups : Index) (told now : List Note)
+pub lifts_with : (G : link.Guard) (P : Local → Type 0) (k : Links) (l : ℕ) (old new : Link) (ups : Index) (told now : Told)
     (p : ℕ → Part) → get k.links l ≡ Some old
     → ((g : NodeConfig) (x y : Machine) (points : List Point) → StandsFor g x points → ShowsAll k x.inbound
     → Steps g x (of_link l (p l)) y → Indexes ups x.inbound l (p l))
@@ -132,7 +143,7 @@ lifts_with G P k l old new ups told now p is index meets g x y points stands sho
     (subst (λ (i : ℕ). link.Reaches G i (with_link steps.0 (local x l)) new told now) number one.1)
     (index g x y points stands shows steps)
 
-pub lifts : (G : link.Guard) (P : Local → Type 0) (k : Links) (l : ℕ) (old new : Link) (told now : List Note) (p : ℕ → Part)
+pub lifts : (G : link.Guard) (P : Local → Type 0) (k : Links) (l : ℕ) (old new : Link) (told now : Told) (p : ℕ → Part)
     → get k.links l ≡ Some old → LeavesUp (p l) → link.Meets G P (p old.number) old told new now
     → Meets (on_links G) (λ m. P (local m l)) (of_link l (p l)) k told (touched l (links_with (insert k.links l new) k.ups k)) now
 lifts G P k l old new told now p is leaves meets =

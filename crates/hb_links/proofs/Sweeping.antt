@@ -15,6 +15,8 @@ use Rattle.hb_inbound.specs.Part as part
 use Rattle.hb_inbound.specs.Part.{Part}
 use Rattle.hb_inbound.specs.Runs as inbound
 use Rattle.hb_inbound.specs.Runs.{Local}
+use Rattle.hb_link.proofs.Noted.{takes_none, takes_then}
+use Rattle.hb_link.specs.Noted.{Told, Takes}
 use Rattle.hb_link.specs.Reaches as link
 use Rattle.hb_link.specs.Shows.{Shows}
 use Rattle.hb_link.specs.declared.link.Link.{Link}
@@ -27,9 +29,9 @@ use Rattle.hb_proxy.specs.Held.{at_start}
 use Rattle.hb_proxy.specs.Machine.{Machine, local}
 use Rattle.hb_proxy.specs.Points.{Point, of_control, of_link, part_in, parts_of, seen}
 use Rattle.hb_proxy.specs.Runs.{Steps, StandsFor, goes_on}
+use Rattle.hb_proxy.specs.Ups.{up_now}
 use Rattle.hb_links.specs.declared.links.Links.{Links}
 use Rattle.hb_links.specs.Busy.{is_at}
-use Rattle.hb_links.specs.Places.{up_now}
 use Rattle.hb_links.specs.Reaches.{Guard, Leads, Meets, unguarded, notes, note_in}
 use Rattle.hb_links.specs.Shows.{ShowsAll, ShowsLink}
 use Rattle.hb_links.specs.Walks.{IsNext}
@@ -83,7 +85,7 @@ IsFrom None l = ⊥
 IsFrom (Some n) l = n ≤ l
 
 -- the links in front of it were told, and the others are to be
-pub record Sweeps (g : NodeConfig) (y : Machine) (old links : Map) (from : Option ℕ) (told now : List Note) : Type 0 where
+pub record Sweeps (g : NodeConfig) (y : Machine) (old links : Map) (from : Option ℕ) (told now : Told) : Type 0 where
   pub more : List Point
   pub reached : Machine
   pub leads : Leads unguarded g y more reached
@@ -92,7 +94,7 @@ pub record Sweeps (g : NodeConfig) (y : Machine) (old links : Map) (from : Optio
   pub link : (l : ℕ) → IsFrom from l → get links l ≡ get old l
   pub same : (l : ℕ) → IsFrom from l → reached.inbound l ≡ y.inbound l
   pub there : (l : ℕ) → IsSome (get links l) → IsSome (get old l)
-  pub noted : now ≡ told ++ notes more
+  pub noted : Takes told (notes more) now
 
 -- what a point of the control plane makes of each link is this part of it
 pub record AllSee (g : NodeConfig) (x y : Machine) (q : point.Point) (p : Part) : Type 0 where
@@ -103,7 +105,7 @@ pub record AllSee (g : NodeConfig) (x y : Machine) (q : point.Point) (p : Part) 
   pub away : (l : ℕ) → ShowsLink l None (x.inbound l) → ShowsLink l None (y.inbound l)
 
 -- so far the code meets the machine
-abbrev pub Swept : (P : Machine → Type 0) → point.Point → Part → Links → Map → Option ℕ → List Note → List Note → Type 0
+abbrev pub Swept : (P : Machine → Type 0) → point.Point → Part → Links → Map → Option ℕ → Told → Told → Type 0
 Swept P q p k links from told now =
     (g : NodeConfig) (x y : Machine) (points : List Point) → StandsFor g x points → ShowsAll k x.inbound → P x
     → Steps g x (of_control q) y → AllSee g x y q p × Sweeps g y k.links links from told now
@@ -114,7 +116,7 @@ gone_by o l z w none shown away =
     subst (λ (i : Option Link). ShowsLink l i w) (sym none) (away (subst (λ (i : Option Link). ShowsLink l i z) none shown))
 
 -- where no link is in front of the first one nothing is to be told
-pub starts : (P : Machine → Type 0) (q : point.Point) (p : Part) (k : Links) (first : Option ℕ) (told : List Note)
+pub starts : (P : Machine → Type 0) (q : point.Point) (p : Part) (k : Links) (first : Option ℕ) (told : Told)
     → ((g : NodeConfig) (x y : Machine) → P x → Steps g x (of_control q) y → AllSee g x y q p) → IsFirstFrom k.links 0 first
     → Swept P q p k k.links first told told
 starts P q p k first told sees is g x y points stands shows holds steps =
@@ -129,7 +131,7 @@ starts P q p k first told sees is g x y points stands shows holds steps =
         link = λ l from. refl;
         same = λ l from. refl;
         there = λ l some. some;
-        noted = sym (append-nil told);
+        noted = takes_none told;
       },
     )
   where
@@ -155,7 +157,7 @@ module _ (links : Map) (n : ℕ) (narrow : (l : ℕ) → IsSome (get links l) �
 
 -- one more is told
 pub goes : (P : Machine → Type 0) (Q : Local → Type 0) (q : point.Point) (p : Part) (k : Links) (links : Map) (n : ℕ) (old new : Link)
-    (next : Option ℕ) (told now then : List Note) → ((x : Machine) (l : ℕ) → P x → Q (local x l))
+    (next : Option ℕ) (told now then : Told) → ((x : Machine) (l : ℕ) → P x → Q (local x l))
     → Swept P q p k links (Some n) told now → get links n ≡ Some old → link.Meets link.unguarded Q p old now new then
     → IsNext (insert links n new) n next → Swept P q p k (insert links n new) next told then
 goes P Q q p k links n old new next told now then gives swept is meets next_is g x y points stands shows holds steps =
@@ -210,10 +212,10 @@ goes P Q q p k links n old new next told now then gives swept is meets next_is g
         same = λ l from. (let more_than = above l from in
             more.others l (λ same. omega (arith, same, more_than)) ∙ so_far.same l (omega (arith, more_than)));
         there = old_there;
-        noted = last.noted ∙ ap (λ (v : List Note). v ++ part.notes last.parts) so_far.noted
-            ∙ append_assoc told (notes so_far.more) (part.notes last.parts)
-            ∙ ap (λ (v : List Note). told ++ v) (ap (λ (v : List Note). notes so_far.more ++ v) (sym (notes_of n last.parts))
-            ∙ sym (flat_map-append note_in so_far.more (map (of_link n) last.parts)));
+        noted = subst (λ (made : List Note). Takes told made then)
+            (ap (λ (made : List Note). notes so_far.more ++ made) (sym (notes_of n last.parts))
+            ∙ sym (flat_map-append note_in so_far.more (map (of_link n) last.parts)))
+            (takes_then told now then (notes so_far.more) (part.notes last.parts) so_far.noted last.noted);
       },
     )
   where
@@ -221,8 +223,8 @@ goes P Q q p k links n old new next told now then gives swept is meets next_is g
     parted l apart = ⊎_elim (λ same. absurd (apart same)) (λ either. either) (cases_order l n)
 
 -- all were told
-pub ends : (P : Machine → Type 0) (q : point.Point) (p : Part) (k : Links) (links : Map) (told now : List Note)
-    → Swept P q p k links None told now → Meets unguarded P (of_control q) k told (record k { links = links; from = Some 0 }) now
+pub ends : (P : Machine → Type 0) (q : point.Point) (p : Part) (k : Links) (links : Map) (told now : Told)
+    → Swept P q p k links None told now → Meets unguarded P (of_control q) k told (record k { links = links; from = Some 0; stirs_from = Some 0 }) now
 ends P q p k links told now swept g x y points stands shows holds steps =
     let both = swept g x y points stands shows holds steps in
     let see = both.0 in

@@ -1,10 +1,9 @@
 -- A response that is applied, and the end of the run, are told to all links.
 use Rattle.std.specs.Prelude.{⊤}
-use Rattle.std.proofs.Common.{◌≡◌, ⊎_elim, inl, inr, ℕ, Bool, false, cond, List, Option, Some, None, is_some, IsSome, refl, ap, sym, ◌∙◌, subst}
+use Rattle.std.proofs.Common.{◌≡◌, ⊎_elim, inl, inr, ℕ, Bool, false, cond, Option, Some, None, is_some, IsSome, refl, ap, sym, ◌∙◌, subst}
 use Rattle.std.proofs.lemmas.Bool.{false≢true}
 use Rattle.std.specs.FinMap.{get, insert}
 use Rattle.hb_base.specs.declared.cause.Cause.{Cause}
-use Rattle.hb_base.specs.declared.note.Note.{Note}
 use Rattle.hb_disco.specs.declared.response.Response.{Response}
 use Rattle.hb_held.specs.Held.{Resources}
 use Rattle.hb_held.specs.Outcome.{after_response}
@@ -14,6 +13,7 @@ use Rattle.hb_inbound.specs.Part as part
 use Rattle.hb_inbound.specs.Tunnel as t
 use Rattle.hb_inbound.specs.Tunnel.{Tunnel, takes_place, ends_by, ends_for}
 use Rattle.hb_link.specs.Calls as calls
+use Rattle.hb_link.specs.Noted.{Told}
 use Rattle.hb_link.specs.Tunnels.{ShowsTunnel}
 use Rattle.hb_link.specs.declared.link.Link.{Link}
 use Rattle.hb_map.proofs.Laws.{written_where_some}
@@ -55,12 +55,12 @@ next_on links n (Some m) (inr is) = absurd (let none = is.0 in cc)
 abbrev pub held_by : Resources → Response → Machine → Type 0
 held_by held r x = held ≡ after_response x.control.held r
 
-abbrev pub Applies : Resources → Links → Links → Option ℕ → List Note → List Note → Type 0
+abbrev pub Applies : Resources → Links → Links → Option ℕ → Told → Told → Type 0
 Applies held k n from told now =
     IsTold k n × IsOn from n.links
     × ((l : ℕ) (r : Response) → Swept (held_by held r) (point.applied l r) (part.applied r) k n.links from told now)
 
-abbrev pub Stopping : Cause → Links → Links → Option ℕ → List Note → List Note → Type 0
+abbrev pub Stopping : Cause → Links → Links → Option ℕ → Told → Told → Type 0
 Stopping cause k n from told now =
     IsTold k n × IsOn from n.links × Swept (λ x. ⊤) (point.stopped cause) (part.stopped cause) k n.links from told now
 
@@ -121,7 +121,7 @@ stopped_seen cause g x y steps = record {
 
 -- ONE AFTER ANOTHER
 
-pub applied_starts : (held : Resources) (k : Links) (first : Option ℕ) (told : List Note) → IsFirstFrom k.links 0 first
+pub applied_starts : (held : Resources) (k : Links) (first : Option ℕ) (told : Told) → IsFirstFrom k.links 0 first
     → Applies held k k first told told
 applied_starts held k first told is = (
   refl,
@@ -129,7 +129,7 @@ applied_starts held k first told is = (
   λ l r. starts (held_by held r) (point.applied l r) (part.applied r) k first told (λ g x y holds steps. applied_seen l r g x y steps) is,
 )
 
-pub applied_goes : (held : Resources) (k a b : Links) (n : ℕ) (next : Option ℕ) (told now then : List Note)
+pub applied_goes : (held : Resources) (k a b : Links) (n : ℕ) (next : Option ℕ) (told now then : Told)
     → Applies held k a (Some n) told now → TellsBy (calls.Updates held) (get a.links n) n a now b then → IsNext b.links n next
     → Applies held k b next told then
 applied_goes held k a b n next told now then applies tells next_is = by (get a.links n) refl tells
@@ -149,14 +149,14 @@ applied_goes held k a b n next told now then applies tells next_is = by (get a.l
         subst (λ (w : Links). Applies held k w next told then) (sym told_so.2)
         (one old told_so.0 is told_so.1 (subst (λ (w : Links). IsNext w.links n next) told_so.2 next_is))
 
-pub applied_ends : (held : Resources) (k a : Links) (told now : List Note) → Applies held k a None told now
-    → Updates held k told (record a { from = Some 0 }) now
+pub applied_ends : (held : Resources) (k a : Links) (told now : Told) → Applies held k a None told now
+    → Updates held k told (record a { from = Some 0; stirs_from = Some 0 }) now
 applied_ends held k a told now applies l r =
     subst (λ (w : Links). Meets unguarded (held_by held r) (of_control (point.applied l r)) k told w now)
-    (sym (ap (λ (w : Links). record w { from = Some 0 }) applies.0))
+    (sym (ap (λ (w : Links). record w { from = Some 0; stirs_from = Some 0 }) applies.0))
     (ends (held_by held r) (point.applied l r) (part.applied r) k a.links told now (applies.2 l r))
 
-pub stopped_starts : (cause : Cause) (k : Links) (first : Option ℕ) (told : List Note) → IsFirstFrom k.links 0 first
+pub stopped_starts : (cause : Cause) (k : Links) (first : Option ℕ) (told : Told) → IsFirstFrom k.links 0 first
     → Stopping cause k k first told told
 stopped_starts cause k first told is = (
   refl,
@@ -164,7 +164,7 @@ stopped_starts cause k first told is = (
   starts (λ x. ⊤) (point.stopped cause) (part.stopped cause) k first told (λ g x y holds steps. stopped_seen cause g x y steps) is,
 )
 
-pub stopped_goes : (cause : Cause) (k a b : Links) (n : ℕ) (next : Option ℕ) (told now then : List Note)
+pub stopped_goes : (cause : Cause) (k a b : Links) (n : ℕ) (next : Option ℕ) (told now then : Told)
     → Stopping cause k a (Some n) told now → TellsBy (calls.Stops cause) (get a.links n) n a now b then → IsNext b.links n next
     → Stopping cause k b next told then
 stopped_goes cause k a b n next told now then so_far tells next_is = by (get a.links n) refl tells
@@ -184,10 +184,10 @@ stopped_goes cause k a b n next told now then so_far tells next_is = by (get a.l
         subst (λ (w : Links). Stopping cause k w next told then) (sym told_so.2)
         (one old told_so.0 is told_so.1 (subst (λ (w : Links). IsNext w.links n next) told_so.2 next_is))
 
-pub stopped_ends : (cause : Cause) (k a : Links) (told now : List Note) → Stopping cause k a None told now
-    → Stops cause k told (record a { from = Some 0 }) now
+pub stopped_ends : (cause : Cause) (k a : Links) (told now : Told) → Stopping cause k a None told now
+    → Stops cause k told (record a { from = Some 0; stirs_from = Some 0 }) now
 stopped_ends cause k a told now so_far =
-    subst (λ (w : Links). Stops cause k told w now) (sym (ap (λ (w : Links). record w { from = Some 0 }) so_far.0))
+    subst (λ (w : Links). Stops cause k told w now) (sym (ap (λ (w : Links). record w { from = Some 0; stirs_from = Some 0 }) so_far.0))
     (ends (λ x. ⊤) (point.stopped cause) (part.stopped cause) k a.links told now so_far.2)
 
 -- the first of all, as the map gives it
@@ -196,7 +196,7 @@ first_is links None is = is
 first_is links (Some n) is = is
 
 -- one is told
-pub told_one : (R : Telling) (k : Links) (links : Map) (n : ℕ) (old new : Link) (told now : List Note) → get k.links n ≡ Some old
+pub told_one : (R : Telling) (k : Links) (links : Map) (n : ℕ) (old new : Link) (told now : Told) → get k.links n ≡ Some old
     → links ≡ written k.links n new → R old told new now → TellsBy R (get k.links n) n k told (record k { links = links }) now
 told_one R k links n old new told now is links_is does =
     subst (λ (o : Option Link). TellsBy R o n k told (record k { links = links }) now) (sym is)

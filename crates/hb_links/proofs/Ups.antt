@@ -12,7 +12,7 @@ use Rattle.hb_inbound.proofs.EndsRun.{all_say, new_streams}
 use Rattle.hb_inbound.proofs.Life.{SaysBy, up_one}
 use Rattle.hb_link.specs.Reaches.{Guard, IsInner, Leads}
 use Rattle.hb_link.proofs.Settles.{stands_behind}
-use Rattle.hb_links.specs.Places.{up_by, up_now}
+use Rattle.hb_proxy.specs.Ups.{up_by, up_now}
 
 says_up : (stage : Stage) (how : Life) (u : ℕ) (t : Tunnel) → SaysBy stage how u t → u ≡ up_by stage t
 says_up unasked how u t says = says.up

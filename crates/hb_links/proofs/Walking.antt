@@ -1,13 +1,13 @@
 -- The walk over links that may have an act due.
 use Rattle.std.proofs.Common.{◌≡◌, ◌≢◌, ⊎_elim, ℕ, ◌<◌, ◌^◌, Bool, true, false, Option, Some, None, is_some, nat_le, refl, ap, sym, ◌∙◌, subst, arith}
 use Rattle.std.proofs.lemmas.Bool.{cases_eq, cases_lt, or_from, or_parts, ne_eqb, leb-false, leb-true, lt-leb, false≢true}
-use Rattle.std.specs.FinMap.{get, insert}
+use Rattle.std.specs.FinMap.{get}
 use Rattle.hb_inbound.specs.Inbound.{Inbound}
 use Rattle.hb_inbound.specs.Runs as inbound
 use Rattle.hb_link.specs.Acts as link
 use Rattle.hb_link.specs.Acts.{NoneIsDue}
 use Rattle.hb_link.specs.declared.link.Link.{Link}
-use Rattle.hb_map.proofs.Laws.{put_here, put_elsewhere, written_where_some}
+use Rattle.hb_map.proofs.Laws.{written_where_some}
 use Rattle.hb_map.specs.Keyed.{written}
 use Rattle.hb_proxy.proofs.Projection.{links_run}
 use Rattle.hb_proxy.specs.Held.{at_start}
@@ -20,7 +20,7 @@ use Rattle.hb_links.specs.Busy.{is_at, is_from, may_be_due}
 use Rattle.hb_links.specs.Shows.{IsIndex, ShowsAll, ShowsLink}
 use Rattle.hb_links.specs.Walks.{ActsOf, KeepsShowing, GoesTo, IsFirstOn, IsBehind, Skips, finished}
 use Rattle.hb_links.proofs.Acting.{acts_on, away_idle}
-use Rattle.hb_links.proofs.Showing.{Map, links_with}
+use Rattle.hb_links.proofs.Showing.{Map, links_with, written_same}
 
 -- other links are known to have no act due, and the same ones and their index stand
 pub calmer : (k n : Links) (f : ℕ → Inbound) → ShowsAll k f → ((l : ℕ) → get n.links l ≡ get k.links l) → n.ups ≡ k.ups
@@ -50,14 +50,8 @@ none_acts k links l old new is links_is it = (
       shown.1),
 )
   where
-    after : links ≡ insert k.links l new
-    after = links_is ∙ written_where_some k.links l new (ap is_some is)
-
     same : (j : ℕ) → get links j ≡ get k.links j
-    same j = ap (λ (m : Map). get m j) after ∙ ⊎_elim
-        (λ at. subst (λ (i : ℕ). get (insert k.links l new) i ≡ get k.links i) (sym at)
-        (put_here k.links l new ∙ ap Some it.0 ∙ sym is))
-        (λ apart. put_elsewhere k.links l new j apart) (cases_eq j l)
+    same = written_same k links l old new is it.0 links_is
 
 pub some_acts : (k n : Links) (links : Map) (l : ℕ) (old new : Link) (due : Act) → get k.links l ≡ Some old
     → links ≡ written k.links l new → n ≡ finished l due (record k { links = links }) → new.number ≡ old.number

@@ -1,5 +1,6 @@
 -- Which links may have an act due.
-use Rattle.std.specs.Prelude.{ℕ, ◌==◌, ◌||◌, Bool, false, nat_le, min, if◌then◌else◌, Option, Some, None}
+use Rattle.std.specs.Prelude.{ℕ, ◌==◌, ◌||◌, ◌&&◌, not, Bool, false, nat_le, min, if◌then◌else◌, is_some, Option, Some, None}
+use Rattle.hb_links.specs.declared.family.Family.{Family}
 use Rattle.hb_links.specs.declared.links.Links.{Links}
 
 -- the one that was touched last, and those from a number on
@@ -14,7 +15,13 @@ is_from (Some n) l = nat_le n l
 abbrev pub may_be_due : Links → ℕ → Bool
 may_be_due k l = is_at k.busy l || is_from k.from l
 
--- a link is touched
+-- no link may
+abbrev pub is_idle : Links → Bool
+is_idle k = not (is_some k.busy) && not (is_some k.from)
+
+-- A LINK IS TOUCHED
+
+-- it may have an act due: the one that was touched last, or from its number on
 abbrev pub busy_after : Option ℕ → ℕ → Option ℕ
 busy_after None l = Some l
 busy_after (Some n) l = Some n
@@ -27,5 +34,23 @@ abbrev pub from_after : (busy from : Option ℕ) → ℕ → Option ℕ
 from_after None from l = from
 from_after (Some n) from l = if n == l then from else Some (least from l)
 
+abbrev pub made_due : ℕ → Links → Links
+made_due l k = record k { busy = busy_after k.busy l; from = from_after k.busy k.from l }
+
+-- it is to be told, with all its upstreams: as the family that is told next, or from its number on
+abbrev pub whole : ℕ → Family
+whole l = record { link = l; next = None }
+
+abbrev pub stirs_after : Option Family → ℕ → Option Family
+stirs_after None l = Some (whole l)
+stirs_after (Some f) l = if f.link == l then Some (whole l) else Some f
+
+abbrev pub stirs_from_after : Option Family → (from : Option ℕ) → ℕ → Option ℕ
+stirs_from_after None from l = from
+stirs_from_after (Some f) from l = if f.link == l then from else Some (least from l)
+
+abbrev pub stirred : ℕ → Links → Links
+stirred l k = record k { stirs = stirs_after k.stirs l; stirs_from = stirs_from_after k.stirs k.stirs_from l }
+
 abbrev pub touched : ℕ → Links → Links
-touched l k = record k { busy = busy_after k.busy l; from = from_after k.busy k.from l }
+touched l k = stirred l (made_due l k)

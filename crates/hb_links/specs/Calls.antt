@@ -1,10 +1,9 @@
 -- What each call of all links is to the machine.
 use Rattle.std.specs.Prelude.{⊤, ◌≡◌, ℕ, Bool, true, false, List, [], length, Option, Some, None}
-use Rattle.std.specs.FinMap.{get}
+use Rattle.std.specs.FinMap.{get, len}
 use Rattle.hb_base.specs.declared.cause.Cause.{Cause}
 use Rattle.hb_base.specs.declared.door.Door.TheVariants as door
 use Rattle.hb_base.specs.declared.door.Why.{Why}
-use Rattle.hb_base.specs.declared.note.Note.{Note}
 use Rattle.hb_base.specs.declared.target.Target.{Target}
 use Rattle.hb_disco.specs.declared.response.Response.{Response}
 use Rattle.hb_held.specs.Held.{Resources}
@@ -15,10 +14,14 @@ use Rattle.hb_inbound.specs.Part as part
 use Rattle.hb_inbound.specs.Part.{Part}
 use Rattle.hb_link.specs.Calls.{IsLastWord}
 use Rattle.hb_link.specs.Counting.{CountsPlaces}
+use Rattle.hb_link.specs.Noted.{Told}
 use Rattle.hb_link.specs.Observed.{wants_on, output_on, up_wants_on, up_held_on, up_wants_by, up_held_by, says_last}
 use Rattle.hb_link.specs.declared.link.Link.{Link}
 use Rattle.hb_model.specs.Point as point
+use Rattle.hb_model.specs.declared.config.NodeConfig.{NodeConfig}
+use Rattle.hb_proxy.specs.Machine.{Machine}
 use Rattle.hb_proxy.specs.Points.{Point, of_control, of_link}
+use Rattle.hb_proxy.specs.Runs.{Steps, StandsFor}
 use Rattle.hb_world.specs.declared.entry.Entry.{Entry}
 use Rattle.hb_world.specs.declared.entry.Entry.TheVariants as e
 use Rattle.hb_links.specs.declared.links.Links.{Links}
@@ -37,11 +40,11 @@ point_by None None n x = None
 abbrev pub point_for : Links → ℕ → Entry → Option Point
 point_for k n x = point_by (get k.ups n) (get k.links n) n x
 
-abbrev pub Enters : ℕ → Entry → Links → List Note → Links → List Note → Type 0
+abbrev pub Enters : ℕ → Entry → Links → Told → Links → Told → Type 0
 Enters n x old told new now = (p : Point) → point_for old n x ≡ Some p → Meets unguarded (λ m. ⊤) p old told new now
 
 -- some bytes of so many went
-abbrev pub Goes : (n count : ℕ) → Links → List Note → Links → List Note → Type 0
+abbrev pub Goes : (n count : ℕ) → Links → Told → Links → Told → Type 0
 Goes n count old told new now = (bytes : List ℕ) → length bytes ≡ count → Enters n (e.Went n bytes) old told new now
 
 -- of a request on a link that is read it is said how many places were taken
@@ -50,31 +53,38 @@ counting others limit (of_link l (part.entry x)) = on_links (CountsPlaces others
 counting others limit p = unguarded
 
 -- bytes came, while this was held
-abbrev pub Takes : Resources → (others limit : ℕ) → ℕ → List ℕ → Links → List Note → Links → List Note → Type 0
+abbrev pub Takes : Resources → (others limit : ℕ) → ℕ → List ℕ → Links → Told → Links → Told → Type 0
 Takes held others limit n bytes old told new now =
     (p : Point) → point_for old n (e.Came n bytes) ≡ Some p
     → Meets (counting others limit p) (λ m. m.control.held ≡ held) p old told new now
 
--- a link is accepted
+-- a link is accepted, and no note is made
 abbrev pub Begins : ℕ → Links → Links → Type 0
-Begins n old new = Meets unguarded (λ m. ⊤) (of_link n (part.entry (e.Accepted n door.Inbound))) old [] new []
+Begins n old new = Meets unguarded (λ m. ⊤) (of_link n (part.entry (e.Accepted n door.Inbound))) old (Some []) new (Some [])
+
+-- a link is accepted where as many are open as may be: behind its birth it is turned away
+abbrev pub TurnsAway : ℕ → Links → Links → Type 0
+TurnsAway n old new =
+    (g : NodeConfig) (x y : Machine) (points : List Point) → StandsFor g x points → ShowsAll old x.inbound
+    → Steps g x (of_link n (part.entry (e.Accepted n door.Inbound))) y
+    → (z : Machine) × Steps g y (of_link n part.crowded) z × ShowsAll new z.inbound
 
 -- the dial for the tunnel on a stream of a link gave the link u, or none
 abbrev pub Dials : (l s u : ℕ) → Links → Links → Type 0
 Dials l s u old new =
-    (to : Target) (why : Why) → Meets unguarded (λ m. ⊤) (of_link l (part.up s (e.Dialled u to why))) old [] new []
+    (to : Target) (why : Why) → Meets unguarded (λ m. ⊤) (of_link l (part.up s (e.Dialled u to why))) old (Some []) new (Some [])
 
-abbrev pub DialFails : (l s : ℕ) → Links → List Note → Links → List Note → Type 0
+abbrev pub DialFails : (l s : ℕ) → Links → Told → Links → Told → Type 0
 DialFails l s old told new now =
     (to : Target) (why : Why) → Meets unguarded (λ m. ⊤) (of_link l (part.up s (e.DialFailed to why))) old told new now
 
 -- a response on a link to the control plane is applied, which makes this of what was held
-abbrev pub Updates : Resources → Links → List Note → Links → List Note → Type 0
+abbrev pub Updates : Resources → Links → Told → Links → Told → Type 0
 Updates held old told new now =
     (l : ℕ) (r : Response) → Meets unguarded (λ m. held ≡ after_response m.control.held r) (of_control (point.applied l r)) old told new now
 
 -- the run ends
-abbrev pub Stops : Cause → Links → List Note → Links → List Note → Type 0
+abbrev pub Stops : Cause → Links → Told → Links → Told → Type 0
 Stops cause old told new now = Meets unguarded (λ m. ⊤) (of_control (point.stopped cause)) old told new now
 
 -- OBSERVATIONS OF THE CODE, AND OF THE MACHINES
@@ -124,6 +134,10 @@ machine_held f (Some at) n = up_held_by ((f at.link).tunnels at.stream).stage ((
 
 abbrev pub Holds : Links → ℕ → List ℕ → Type 0
 Holds k n bytes = (f : ℕ → Inbound) → ShowsAll k f → bytes ≡ machine_held f (get k.ups n) n
+
+-- how many inbound links are kept
+abbrev pub count_of : Links → ℕ
+count_of k = len k.links
 
 -- what waits on an inbound link may be written before the acts that are due
 abbrev pub last_at : Option Link → Bool

@@ -3,5 +3,7 @@ pub mod Busy
 pub mod Calls
 pub mod Places
 pub mod Reaches
+pub mod Refused
 pub mod Shows
+pub mod Stirring
 pub mod Walks

@@ -1,6 +1,5 @@
 -- Which tunnel an upstream is of.
 use Rattle.std.specs.Prelude.{ℕ}
-pub use Rattle.hb_proxy.specs.Ups.{up_by, up_now, Joins}
 use Rattle.hb_links.specs.declared.place.Place.{Place}
 
 -- the tunnel on a stream of a link

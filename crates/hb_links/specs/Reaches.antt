@@ -1,8 +1,9 @@
 -- What a call of the code is to the machine of the whole.
-use Rattle.std.specs.Prelude.{⊤, ◌≡◌, List, [], ◌∷◌, ◌++◌}
+use Rattle.std.specs.Prelude.{⊤, ◌≡◌, List, [], ◌∷◌}
 use Rattle.std.specs.List.{flat_map}
 use Rattle.hb_base.specs.declared.note.Note.{Note}
 use Rattle.hb_inbound.specs.Part as part
+use Rattle.hb_link.specs.Noted.{Told, Takes}
 use Rattle.hb_link.specs.Reaches as link
 use Rattle.hb_model.specs.declared.config.NodeConfig.{NodeConfig}
 use Rattle.hb_proxy.specs.Machine.{Machine, local}
@@ -40,14 +41,14 @@ note_in (of_link l p) = part.note_in p
 abbrev pub notes : List Point → List Note
 notes points = flat_map note_in points
 
--- They lead to a machine of which this holds, and their notes are told in order
-pub record Follows (G : Guard) (Q : Links → Machine → Type 0) (g : NodeConfig) (x : Machine) (k : Links) (told now : List Note)
+-- They lead to a machine of which this holds, and their notes are taken in order, or one is lost
+pub record Follows (G : Guard) (Q : Links → Machine → Type 0) (g : NodeConfig) (x : Machine) (k : Links) (told now : Told)
     : Type 0 where
   pub more : List Point
   pub reached : Machine
   pub leads : Leads G g x more reached
   pub shows : Q k reached
-  pub noted : now ≡ told ++ notes more
+  pub noted : Takes told (notes more) now
 
 -- to one whose inbound links the code shows
 abbrev pub Shown : Links → Machine → Type 0
@@ -55,7 +56,7 @@ Shown k x = ShowsAll k x.inbound
 
 -- The code is told a point. For each run of the whole whose links it showed, and behind which the point may come, it shows afterwards
 -- those of the run with that point, and with what follows from it by itself
-abbrev pub Meets : Guard → (Machine → Type 0) → Point → Links → List Note → Links → List Note → Type 0
+abbrev pub Meets : Guard → (Machine → Type 0) → Point → Links → Told → Links → Told → Type 0
 Meets G P p old told new now =
     (g : NodeConfig) (x y : Machine) (points : List Point) → StandsFor g x points → ShowsAll old x.inbound → P x → Steps g x p y
     → Follows G Shown g y new told now

@@ -7,10 +7,11 @@ use Rattle.hb_link.specs.Acts.{NoneIsDue}
 use Rattle.hb_link.specs.Shows.{Shows}
 use Rattle.hb_link.specs.Tunnels.{ShowsTunnel}
 use Rattle.hb_link.specs.declared.link.Link.{Link}
+use Rattle.hb_proxy.specs.Ups.{Joins}
 use Rattle.hb_links.specs.declared.links.Links.{Links}
 use Rattle.hb_links.specs.declared.place.Place.{Place}
 use Rattle.hb_links.specs.Busy.{may_be_due}
-use Rattle.hb_links.specs.Places.{Joins, place}
+use Rattle.hb_links.specs.Places.{place}
 
 -- it isn't there
 abbrev pub IsAway : Phase → Type 0

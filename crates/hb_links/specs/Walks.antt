@@ -2,10 +2,10 @@
 use Rattle.std.specs.Prelude.{◌≡◌, ◌⊎◌, ℕ, ◌+◌, ◌==◌, ◌≤◌, ◌^◌, List, Option, Some, None, if◌then◌else◌}
 use Rattle.std.specs.FinMap.{FinMap, insert, remove}
 use Rattle.std.specs.Ordering.{nat_cmp}
-use Rattle.hb_base.specs.declared.note.Note.{Note}
 use Rattle.hb_map.specs.Keyed.{IsFirstFrom}
 use Rattle.hb_link.specs.declared.link.Link.{Link}
 use Rattle.hb_link.specs.Acts.{NoneIsDue}
+use Rattle.hb_link.specs.Noted.{Told}
 use Rattle.hb_links.specs.declared.links.Links.{Links}
 use Rattle.hb_links.specs.Acts.{Acts}
 use Rattle.hb_links.specs.Busy.{touched}
@@ -23,10 +23,10 @@ IsNext links n next = IsFirstFrom links (n + 1) next ⊎ ((next ≡ None) × (2 
 
 -- what is told to a link, and makes this of it, with these notes
 abbrev pub Telling : Type 1
-Telling = Link → List Note → Link → List Note → Type 0
+Telling = Link → Told → Link → Told → Type 0
 
 -- it is told to the one of a number, where there is one
-abbrev pub TellsBy : Telling → Option Link → ℕ → Links → List Note → Links → List Note → Type 0
+abbrev pub TellsBy : Telling → Option Link → ℕ → Links → Told → Links → Told → Type 0
 TellsBy R None n k told m now = (m ≡ k) × (now ≡ told)
 TellsBy R (Some old) n k told m now = (new : Link) × R old told new now × (m ≡ record k { links = insert k.links n new })
 

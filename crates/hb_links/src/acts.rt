@@ -1,7 +1,9 @@
 //! The calls of the world that are due.
 
-ghost use Rattle.std.specs.Prelude.{◌≡◌, None};
+ghost use Rattle.std.specs.Prelude.{◌≡◌, true, None, IfNone};
 ghost use Rattle.hb_links.specs.Acts.{Acts};
+ghost use Rattle.hb_links.specs.Busy.{is_idle};
+ghost use Rattle.hb_links.specs.Stirring.{StirsBut, closed_in};
 ghost use Rattle.hb_links.specs.Walks.{ActsOf, GoesTo, Skips, closed_by, finished};
 
 use crate::links::Links;
@@ -31,7 +33,8 @@ impl Links {
 
     /// The act that is due of the link of this number.
     fn act_of(&mut self, number: u64) -> Option<Act>
-        ensures { ActsOf number result self.old self.new }
+        ensures acts { ActsOf number result self.old self.new }
+        ensures stirs { StirsBut (closed_in result) self.old self.new }
     {
         let Some(link) = self.links.at(number) else {
             return None;
@@ -64,7 +67,9 @@ impl Links {
     /// The act that is due, where no link was touched last.
     fn walk(&mut self) -> Option<Act>
         requires { self.old.busy ≡ None }
-        ensures { Acts result self.old self.new }
+        ensures acts { Acts result self.old self.new }
+        ensures none { IfNone result (is_idle self.new ≡ true) }
+        ensures stirs { StirsBut (closed_in result) self.old self.new }
     {
         while let Some(number) = self.next_from() {
             if let Some(act) = self.act_of(number) {
@@ -78,7 +83,9 @@ impl Links {
     /// The call that is due, `None` where none is. A shut or a close counts as done from now on; a dial stays due until its answer is
     /// told.
     pub fn next_act(&mut self) -> Option<Act>
-        ensures { Acts result self.old self.new }
+        ensures acts { Acts result self.old self.new }
+        ensures none { IfNone result (is_idle self.new ≡ true) }
+        ensures stirs { StirsBut (closed_in result) self.old self.new }
     {
         let Some(number) = self.busy else {
             return self.walk();

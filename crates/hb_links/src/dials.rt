@@ -2,6 +2,7 @@
 
 ghost use Rattle.std.specs.Prelude.{OnOk};
 ghost use Rattle.hb_links.specs.Calls.{Dials, DialFails};
+ghost use Rattle.hb_links.specs.Stirring.{Stirs};
 
 use crate::links::Links;
 use crate::place::Place;
@@ -13,10 +14,12 @@ impl Links {
     ///
     /// Errors: `NoMemory`, behind which the run ends.
     pub fn dialled(&mut self, link: u64, stream: u32, number: u64) -> Result<(), NoMemory>
-        ensures { OnOk result (Dials link stream number self.old self.new) }
+        ensures meets { OnOk result (Dials link stream number self.old self.new) }
+        ensures stirs { OnOk result (Stirs self.old self.new) }
     {
         self.ups.put(number, Place { link, stream })?;
         let Some(at) = self.links.at(link) else {
+            self.touch(link);
             return Ok(());
         };
         at.dialled(stream, number);
@@ -26,7 +29,8 @@ impl Links {
 
     /// It gave none.
     pub fn dial_failed<N: Notes>(&mut self, link: u64, stream: u32, notes: &mut N)
-        ensures { DialFails link stream self.old (N.told notes.old) self.new (N.told notes.new) }
+        ensures meets { DialFails link stream self.old (N.told notes.old) self.new (N.told notes.new) }
+        ensures stirs { Stirs self.old self.new }
     {
         let Some(at) = self.links.at(link) else {
             return;

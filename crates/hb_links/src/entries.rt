@@ -3,6 +3,7 @@
 ghost use Rattle.std.specs.Prelude.{◌≡◌, ◌≤◌, length, OnOk};
 ghost use Rattle.hb_world.specs.declared.entry.Entry.TheVariants as e;
 ghost use Rattle.hb_links.specs.Calls.{Enters, Goes, Takes, wants_of, held_of};
+ghost use Rattle.hb_links.specs.Stirring.{Stirs};
 
 use crate::links::Links;
 use hb_base::NoMemory;
@@ -12,7 +13,8 @@ use hb_link::Notes;
 impl Links {
     /// The upstream of this number is open.
     pub fn opened<N: Notes>(&mut self, number: u64, notes: &mut N)
-        ensures { Enters number (e.Opened number) self.old (N.told notes.old) self.new (N.told notes.new) }
+        ensures meets { Enters number (e.Opened number) self.old (N.told notes.old) self.new (N.told notes.new) }
+        ensures stirs { Stirs self.old self.new }
     {
         let Some(place) = self.ups.get(number).copied() else {
             return;
@@ -37,7 +39,8 @@ impl Links {
         notes: &mut N,
     ) -> Result<(), NoMemory>
         requires { length b.now ≤ wants_of self.old number }
-        ensures { OnOk result (Takes held.now others limit number b.now self.old (N.told notes.old) self.new (N.told notes.new)) }
+        ensures meets { OnOk result (Takes held.now others limit number b.now self.old (N.told notes.old) self.new (N.told notes.new)) }
+        ensures stirs { OnOk result (Stirs self.old self.new) }
     {
         match self.ups.get(number).copied() {
             Some(place) => {
@@ -60,7 +63,8 @@ impl Links {
 
     /// The peer of the link of this number sends no more.
     pub fn ended<N: Notes>(&mut self, number: u64, notes: &mut N)
-        ensures { Enters number (e.Ended number) self.old (N.told notes.old) self.new (N.told notes.new) }
+        ensures meets { Enters number (e.Ended number) self.old (N.told notes.old) self.new (N.told notes.new) }
+        ensures stirs { Stirs self.old self.new }
     {
         match self.ups.get(number).copied() {
             Some(place) => {
@@ -82,7 +86,8 @@ impl Links {
 
     /// A call on the link of this number failed.
     pub fn broke<N: Notes>(&mut self, number: u64, notes: &mut N)
-        ensures { Enters number (e.Broke number) self.old (N.told notes.old) self.new (N.told notes.new) }
+        ensures meets { Enters number (e.Broke number) self.old (N.told notes.old) self.new (N.told notes.new) }
+        ensures stirs { Stirs self.old self.new }
     {
         match self.ups.get(number).copied() {
             Some(place) => {
@@ -105,7 +110,8 @@ impl Links {
     /// The first `count` bytes that waited were written.
     pub fn wrote<N: Notes>(&mut self, number: u64, count: usize, notes: &mut N)
         requires { count ≤ length (held_of self.old number) }
-        ensures { Goes number count self.old (N.told notes.old) self.new (N.told notes.new) }
+        ensures meets { Goes number count self.old (N.told notes.old) self.new (N.told notes.new) }
+        ensures stirs { Stirs self.old self.new }
     {
         match self.ups.get(number).copied() {
             Some(place) => {

@@ -1,8 +1,9 @@
 //! What is known of the links.
 
 ghost use Rattle.std.specs.Prelude.{◌≡◌};
+ghost use Rattle.std.specs.FinMap.{get};
 ghost use Rattle.hb_tunnel.specs.Way.{IsFront};
-ghost use Rattle.hb_links.specs.Calls.{Wants, Holds, LastWords, wants_of, held_of};
+ghost use Rattle.hb_links.specs.Calls.{Wants, Holds, LastWords, wants_of, held_of, last_at};
 
 use crate::links::Links;
 
@@ -43,7 +44,8 @@ impl Links {
 
     /// Whether what waits on it may be written before the acts that are due: a connection error was told on it.
     pub fn last_words(&self, number: u64) -> bool
-        ensures { LastWords self.now number result }
+        ensures value { result ≡ last_at (get self.now.links number) }
+        ensures machine { LastWords self.now number result }
     {
         match self.links.get(number) {
             Some(link) => link.last_words(),

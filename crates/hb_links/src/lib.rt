@@ -6,9 +6,13 @@
 mod acts;
 mod dials;
 mod entries;
+mod family;
 mod known;
+mod laws;
 mod links;
 mod place;
+mod stirring;
 mod updates;
 
+pub use laws::{a_link_is_not_forgotten, other_links_are_not_shown};
 pub use links::Links;

@@ -2,10 +2,12 @@
 
 ghost use Rattle.std.specs.Prelude.{◌≡◌, OnOk};
 ghost use Rattle.hb_inbound.specs.Inbound.{no_link};
-ghost use Rattle.hb_links.specs.Busy.{touched};
-ghost use Rattle.hb_links.specs.Calls.{Begins};
+ghost use Rattle.hb_links.specs.Busy.{touched, made_due, stirred, is_idle};
+ghost use Rattle.hb_links.specs.Calls.{Begins, TurnsAway, count_of};
 ghost use Rattle.hb_links.specs.Shows.{ShowsAll};
+ghost use Rattle.hb_links.specs.Stirring.{Stirs};
 
+use crate::family::Family;
 use crate::place::Place;
 use hb_base::NoMemory;
 use hb_link::Link;
@@ -23,6 +25,10 @@ pub struct Links {
     pub(crate) busy: Option<u64>,
     /// From this number on further links may have an act due.
     pub(crate) from: Option<u64>,
+    /// Of this link and its upstreams more may be read, or is to be written, than when they were told last: they are told first.
+    pub(crate) stirs: Option<Family>,
+    /// So it is of all links from this number on, and of their upstreams.
+    pub(crate) stirs_from: Option<u64>,
 }
 
 impl Links {
@@ -36,12 +42,14 @@ impl Links {
             ups: ById::new(alloc),
             busy: None,
             from: None,
+            stirs: None,
+            stirs_from: None,
         }
     }
 
     /// This link may have an act due from now on.
-    pub(crate) fn touch(&mut self, link: u64)
-        ensures { self.new ≡ touched link self.old }
+    fn make_due(&mut self, link: u64)
+        ensures { self.new ≡ made_due link self.old }
     {
         match self.busy {
             None => self.busy = Some(link),
@@ -56,15 +64,71 @@ impl Links {
         }
     }
 
+    /// It and its upstreams are to be told.
+    fn stir(&mut self, link: u64)
+        ensures { self.new ≡ stirred link self.old }
+    {
+        let whole = Family { link, next: None };
+        match self.stirs {
+            None => self.stirs = Some(whole),
+            Some(family) => {
+                if family.link == link {
+                    self.stirs = Some(whole);
+                } else {
+                    self.stirs_from = match self.stirs_from {
+                        None => Some(link),
+                        Some(from) => Some(from.min(link)),
+                    };
+                }
+            }
+        }
+    }
+
+    /// This link was told something.
+    pub(crate) fn touch(&mut self, link: u64)
+        ensures { self.new ≡ touched link self.old }
+    {
+        self.make_due(link);
+        self.stir(link);
+    }
+
+    /// No link has an act due.
+    pub fn is_idle(&self) -> bool
+        ensures { result ≡ is_idle self.now }
+    {
+        self.busy.is_none() && self.from.is_none()
+    }
+
     /// A link was accepted.
     ///
     /// Errors: `NoMemory`, behind which the run ends.
     pub fn accepted(&mut self, number: u64) -> Result<(), NoMemory>
-        ensures { OnOk result (Begins number self.old self.new) }
+        ensures meets { OnOk result (Begins number self.old self.new) }
+        ensures stirs { OnOk result (Stirs self.old self.new) }
     {
         let link = Link::accepted(self.alloc, number)?;
         self.links.put(number, link)?;
         self.touch(number);
         Ok(())
+    }
+
+    /// A link was accepted where as many are open as may be: it is to be closed for that cause.
+    ///
+    /// Errors: `NoMemory`, behind which the run ends.
+    pub fn turned_away(&mut self, number: u64) -> Result<(), NoMemory>
+        ensures meets { OnOk result (TurnsAway number self.old self.new) }
+        ensures stirs { OnOk result (Stirs self.old self.new) }
+    {
+        let link = Link::turned_away(self.alloc, number)?;
+        self.links.put(number, link)?;
+        self.touch(number);
+        Ok(())
+    }
+
+    /// How many inbound links are kept: each from its birth until its close was given.
+    pub fn len(&self) -> usize
+        ensures { result ≡ count_of self.now }
+    {
+        self.links.len()
     }
 }

@@ -4,6 +4,7 @@ ghost use Rattle.std.specs.Prelude.{◌+◌};
 ghost use Rattle.std.specs.FinMap.{get};
 ghost use Rattle.hb_link.specs.Calls.{Updates as Judges, Stops};
 ghost use Rattle.hb_links.specs.Calls.{Updates, Stops as AllStop};
+ghost use Rattle.hb_links.specs.Stirring.{Stirs};
 ghost use Rattle.hb_links.specs.Walks.{IsNext, TellsBy};
 
 use crate::links::Links;
@@ -45,7 +46,8 @@ impl Links {
 
     /// A response was applied, which made this of what is held: each tunnel of each link that is no longer admitted ends.
     pub fn applied<N: Notes>(&mut self, held: &Held, notes: &mut N)
-        ensures { Updates held.now self.old (N.told notes.old) self.new (N.told notes.new) }
+        ensures meets { Updates held.now self.old (N.told notes.old) self.new (N.told notes.new) }
+        ensures stirs { Stirs self.old self.new }
     {
         let mut from = self.links.first_from(0);
         while let Some(number) = from {
@@ -53,11 +55,13 @@ impl Links {
             from = first_behind(&self.links, number);
         }
         self.from = Some(0);
+        self.stirs_from = Some(0);
     }
 
     /// The run ends for this cause: each link does, and each of its tunnels.
     pub fn stopped<N: Notes>(&mut self, cause: Cause, notes: &mut N)
-        ensures { AllStop cause self.old (N.told notes.old) self.new (N.told notes.new) }
+        ensures meets { AllStop cause self.old (N.told notes.old) self.new (N.told notes.new) }
+        ensures stirs { Stirs self.old self.new }
     {
         let mut from = self.links.first_from(0);
         while let Some(number) = from {
@@ -65,5 +69,6 @@ impl Links {
             from = first_behind(&self.links, number);
         }
         self.from = Some(0);
+        self.stirs_from = Some(0);
     }
 }

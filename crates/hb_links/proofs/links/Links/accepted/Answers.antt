@@ -4,13 +4,18 @@ use Rattle.hb_links.specs.Busy.{touched}
 use Rattle.hb_links.specs.Calls.{Begins}
 use Rattle.hb_links.proofs.Births.{begins}
 use Rattle.hb_links.proofs.Showing.{Map, links_with}
+use Rattle.hb_links.proofs.Stirs.{put_stirs}
 use Rattle.hb_links.proofs.links.Links.accepted.Goals as goal
 
-pub returns : goal.returns
-returns c =
+pub returns-clause-meets : goal.returns-clause-meets
+returns-clause-meets c =
     let k = c.args.self.now in
     let n = c.args.number in
     let narrow : n < 2 ^ 64 = search rules in
     subst (λ (m : Links). Begins n k m)
     (sym (c.touch.ensures ∙ ap (λ (links : Map). touched n (links_with links k.ups k)) c.in_ok-put.ensures.ok))
     (begins k n c.in_ok-link.link narrow c.in_ok-link.ensures.begins c.in_ok-link.ensures.number)
+
+pub returns-clause-stirs : goal.returns-clause-stirs
+returns-clause-stirs c =
+    put_stirs c.args.self.now c.touch.new.self _ c.args.number c.in_ok-link.link c.touch.ensures c.in_ok-put.ensures.ok

@@ -1,4 +1,5 @@
-use Rattle.std.proofs.Common.{Option, subst}
+use Rattle.std.proofs.Common.{Option, refl, subst}
+use Rattle.hb_links.proofs.Stirs.{all_stir}
 use Rattle.hb_links.proofs.Telling.{Applies, applied_starts, applied_goes, applied_ends, first_is}
 use Rattle.hb_links.proofs.links.Links.applied.Goals as goal
 
@@ -15,8 +16,11 @@ loop-from-preserved g c =
     (g.N.Notes.told c.loop-from.notes)) c.in-Some.is c.loop-from.invariant)
     c.judge_at.ensures c.first_behind-from.ensures
 
-pub returns : goal.returns
-returns g c =
+pub returns-clause-meets : goal.returns-clause-meets
+returns-clause-meets g c =
     applied_ends c.args.held.now c.args.self.now c.loop-from.self (g.N.Notes.told c.args.notes.now) (g.N.Notes.told c.loop-from.notes)
     (subst (λ (from : Option _). Applies c.args.held.now c.args.self.now c.loop-from.self from (g.N.Notes.told c.args.notes.now)
     (g.N.Notes.told c.loop-from.notes)) c.in_default.is c.loop-from.invariant)
+
+pub returns-clause-stirs : goal.returns-clause-stirs
+returns-clause-stirs g c = all_stir c.args.self.now _ refl

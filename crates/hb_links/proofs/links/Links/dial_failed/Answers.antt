@@ -3,10 +3,11 @@ use Rattle.hb_links.specs.declared.links.Links.{Links}
 use Rattle.hb_links.specs.Calls.{DialFails}
 use Rattle.hb_links.proofs.Births.{fails}
 use Rattle.hb_links.proofs.Entering.{changed}
+use Rattle.hb_links.proofs.Stirs.{told_stirs}
 use Rattle.hb_links.proofs.links.Links.dial_failed.Goals as goal
 
-pub returns : goal.returns
-returns g c =
+pub returns-clause-meets : goal.returns-clause-meets
+returns-clause-meets g c =
     let k = c.args.self.now in
     let l = c.args.link in
     let s = c.args.stream in
@@ -18,3 +19,7 @@ returns g c =
     subst (λ (m : Links). DialFails l s k told m now)
     (sym (changed k c.touch.new.self _ l old new c.touch.ensures (c.at.follows.holds new) is))
     (fails k l s old new told now is c.dial_failed.ensures)
+
+pub returns-clause-stirs : goal.returns-clause-stirs
+returns-clause-stirs g c =
+    told_stirs c.args.self.now c.touch.new.self _ (c.args.link) c.dial_failed.new.self c.touch.ensures (c.at.follows.holds c.dial_failed.new.self)

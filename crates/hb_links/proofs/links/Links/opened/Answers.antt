@@ -2,15 +2,16 @@ use Rattle.std.proofs.Common.{rules, ◌≡◌, Some, None, refl}
 use Rattle.std.specs.FinMap.{get}
 use Rattle.hb_world.specs.declared.entry.Entry.TheVariants as e
 use Rattle.hb_links.proofs.Entering.{up_told, none_opens}
+use Rattle.hb_links.proofs.Stirs.{told_stirs}
 use Rattle.hb_links.proofs.links.Links.opened.Goals as goal
 
-pub returns-in_default : goal.returns-in_default
-returns-in_default g c =
+pub returns-in_default-clause-meets : goal.returns-in_default-clause-meets
+returns-in_default-clause-meets g c =
     let none : get c.args.self.now.ups c.args.number ≡ None = search rules in
     none_opens c.args.self.now _ c.args.number _ _ none
 
-pub returns : goal.returns
-returns g c =
+pub returns-clause-meets : goal.returns-clause-meets
+returns-clause-meets g c =
     let k = c.args.self.now in
     let n = c.args.number in
     let at = c.in-Some.place in
@@ -19,3 +20,7 @@ returns g c =
     up_told k c.touch.new.self _ n (e.Opened n) at c.in-Some-at.link.now new (g.N.Notes.told c.args.notes.now)
     (g.N.Notes.told c.up_opened.new.notes) c.touch.ensures (c.at.follows.holds new) found c.in-Some-at.ensures.value (λ u. refl)
     (c.up_opened.ensures n)
+
+pub returns-clause-stirs : goal.returns-clause-stirs
+returns-clause-stirs g c =
+    told_stirs c.args.self.now c.touch.new.self _ (c.in-Some.place.link) c.up_opened.new.self c.touch.ensures (c.at.follows.holds c.up_opened.new.self)

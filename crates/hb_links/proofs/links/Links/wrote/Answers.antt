@@ -2,10 +2,11 @@ use Rattle.std.proofs.Common.{rules, ◌≡◌, Some, None, refl}
 use Rattle.std.specs.FinMap.{get}
 use Rattle.hb_world.specs.declared.entry.Entry.TheVariants as e
 use Rattle.hb_links.proofs.Entering.{up_told, own_told}
+use Rattle.hb_links.proofs.Stirs.{told_stirs}
 use Rattle.hb_links.proofs.links.Links.wrote.Goals as goal
 
-pub returns-in-Some-at : goal.returns-in-Some-at
-returns-in-Some-at g c = λ bytes size.
+pub returns-in-Some-at-clause-meets : goal.returns-in-Some-at-clause-meets
+returns-in-Some-at-clause-meets g c = λ bytes size.
     let k = c.args.self.now in
     let n = c.args.number in
     let at = c.in-Some.place in
@@ -15,8 +16,8 @@ returns-in-Some-at g c = λ bytes size.
     (g.N.Notes.told c.up_wrote.new.notes) c.touch.ensures (c.at.follows.holds new) found c.in-Some-at.ensures.value (λ u. refl)
     (c.up_wrote.ensures n bytes size)
 
-pub returns-in-Some-at-2 : goal.returns-in-Some-at-2
-returns-in-Some-at-2 g c = λ bytes size.
+pub returns-in-Some-at-2-clause-meets : goal.returns-in-Some-at-2-clause-meets
+returns-in-Some-at-2-clause-meets g c = λ bytes size.
     let k = c.args.self.now in
     let n = c.args.number in
     let new = c.wrote.new.self in
@@ -24,3 +25,11 @@ returns-in-Some-at-2 g c = λ bytes size.
     own_told k c.touch-in-None.new.self _ n (λ i. e.Went i bytes) c.in-Some-at-2.link.now new (g.N.Notes.told c.args.notes.now)
     (g.N.Notes.told c.wrote.new.notes) c.touch-in-None.ensures (c.at-in-None.follows.holds new) none c.in-Some-at-2.ensures.value
     (c.wrote.ensures bytes size)
+
+pub returns-in-Some-at-clause-stirs : goal.returns-in-Some-at-clause-stirs
+returns-in-Some-at-clause-stirs g c =
+    told_stirs c.args.self.now c.touch.new.self _ (c.in-Some.place.link) c.up_wrote.new.self c.touch.ensures (c.at.follows.holds c.up_wrote.new.self)
+
+pub returns-in-Some-at-2-clause-stirs : goal.returns-in-Some-at-2-clause-stirs
+returns-in-Some-at-2-clause-stirs g c =
+    told_stirs c.args.self.now c.touch-in-None.new.self _ (c.args.number) c.wrote.new.self c.touch-in-None.ensures (c.at-in-None.follows.holds c.wrote.new.self)
