@@ -13,14 +13,14 @@ use Rattle.hb_turns.specs.Notes.{Holds, HoldsNotes}
 use Rattle.hb_turns.specs.Reckons.{Closes, Finishes}
 use Rattle.hb_turns.specs.Served.{IsStoodFor, IsOver, IsServed}
 use Rattle.hb_turns.specs.Shown.{Shown, Stirs, Stops, StandsForNone}
-use Rattle.hb_turns.specs.Stands.{Obeys, Matches, Stands, StandsAlone, Left, Tracks}
+use Rattle.hb_turns.specs.Stands.{Obeys, Matches, Stands, StandsAlone, Lacks, Left, Tracks}
 use Rattle.hb_turns.specs.declared.run.Records.{Records}
 use Rattle.hb_turns.specs.declared.run.Run.{Run}
 use Rattle.hb_turns.specs.declared.served.Served.{Served}
 use Rattle.hb_turns.specs.declared.served.ServeEnd.{ServeEnd}
 use Rattle.hb_turns.specs.declared.served.ServeEnd.TheVariants as ends
 use Rattle.hb_turns.specs.declared.words.ServeWords.{ServeWords}
-use Rattle.hb_turns.proofs.Holding.{each, on_close, obeys-grows}
+use Rattle.hb_turns.proofs.Holding.{each, on_close, obeys-grows, stood_whole}
 use Rattle.hb_turns.proofs.Serving.{none_lives, some_lives}
 
 -- what is told of a run
@@ -113,26 +113,26 @@ module _ {N : Type 0} (stands : List Note → N → List Entry → Type 0) (show
       (λ trace a. let m = so trace a.matches in holds new.keep m.notes new.node trace m.kept_are none m.node)
   notes_held (Err why) mid new told so none = tt
 
-  stood : (end : ServeEnd) (notes : List Note) (n : N) (trace : List Entry) → stands notes n trace → IsStoodFor stands end trace
+  stood : (end : ServeEnd) (notes : List Note) (n : N) (trace : List Entry) → stands notes n trace → IsStoodFor stands shown end trace
   stood ends.Stopped notes n trace had = (notes, n, had)
   stood ends.WorldFault notes n trace had = (notes, n, had)
   stood ends.TurnsSpent notes n trace had = (notes, n, had)
-  stood ends.NoMemory notes n trace had = tt
+  stood ends.NoMemory notes n trace had = stood_whole stands shown notes n trace had
 
   stood_or : {E : Type 0} (r : Result ServeEnd E) (run : Run N) (trace : List Entry) → Left stands shown r run trace
-      → IsStoodFor stands (end_of r) trace
+      → IsStoodFor stands shown (end_of r) trace
   stood_or (Ok end) run trace s = stood end s.matches.notes run.node trace s.matches.node
-  stood_or (Err why) run trace o = tt
+  stood_or (Err why) run trace lacks = lacks.1
 
   -- where memory lacked too
   pub left_obeys : {A E : Type 0} (r : Result A E) (run : Run N) (told : Option (List Entry)) → IfSome told (Left stands shown r run)
       → IfSome told (Obeys stands shown run.records)
   left_obeys (Ok x) run told had = each (Stands stands shown run) (Obeys stands shown run.records) told (λ trace s. s.matches.obeys) had
-  left_obeys (Err why) run told had = had
+  left_obeys (Err why) run told had = each (Lacks stands shown run.records) (Obeys stands shown run.records) told (λ trace lacks. lacks.0) had
 
   -- the closes at the end are those of a run that is over
-  over : (words : ServeWords) (end : ServeEnd) (more trace : List Entry) → Finishes words end trace → IsStoodFor stands end trace
-      → All (ClosesFor (cause_at end)) more → IsOver stands words end (trace ++ more)
+  over : (words : ServeWords) (end : ServeEnd) (more trace : List Entry) → Finishes words end trace → IsStoodFor stands shown end trace
+      → All (ClosesFor (cause_at end)) more → IsOver stands shown words end (trace ++ more)
   over words end more trace finishes stood_for closes = record {
     before = trace;
     behind = more;
@@ -149,7 +149,7 @@ module _ {N : Type 0} (stands : List Note → N → List Entry → Type 0) (show
       → (end_of r ≡ ends.NoMemory → ⊥) → is_err b ≡ false → IfSome told (HoldsNotes stands shown new.keep)
   noted_or (Ok end) (Ok x) run new trace told s closes notes other kept = notes closes s
   noted_or (Ok end) (Err why) run new trace told s closes notes other kept = absurd cc
-  noted_or (Err why) b run new trace told o closes notes other kept = absurd (other refl)
+  noted_or (Err why) b run new trace told lacks closes notes other kept = absurd (other refl)
 
   -- a run that is over
   pub is_served : {A E F : Type 0} (words : ServeWords) (r : Result ServeEnd E) (b : Result A F) (run new : Run N)
@@ -177,7 +177,7 @@ module _ {N : Type 0} (stands : List Note → N → List Entry → Type 0) (show
         awake = o.awake;
         settled = o.settled;
         closed = λ l. none_lives l full (sym (o.links l) ∙ none l);
-        over = subst (λ (es : List Entry). IsOver stands words (end_of r) es) (let same : full ≡ trace ++ closes.more = cc in sym same)
+        over = subst (λ (es : List Entry). IsOver stands shown words (end_of r) es) (let same : full ≡ trace ++ closes.more = cc in sym same)
             (over words (end_of r) closes.more trace finishes (stood_or r run trace left_so) closes.closes);
         links_are = o.births_are;
         wanting_is = o.wanting_is;

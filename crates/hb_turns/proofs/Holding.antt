@@ -29,7 +29,7 @@ use Rattle.hb_turns.specs.Ends.{is_close_for_lack}
 use Rattle.hb_turns.specs.Notes.{Holds}
 use Rattle.hb_turns.specs.Settled.{SettledAt}
 use Rattle.hb_turns.specs.Shown.{Shown, Stirs, IsSame, Tells, MayCome}
-use Rattle.hb_turns.specs.Stands.{Obeys, Matches, Stands, Tracks, Left, Watched, WatchedBy, births_behind}
+use Rattle.hb_turns.specs.Stands.{Obeys, Matches, Stands, StoodLast, Lacks, Tracks, Left, Watched, WatchedBy, births_behind}
 use Rattle.hb_turns.specs.declared.run.Records.{Records}
 use Rattle.hb_turns.specs.declared.run.Run.{Run}
 use Rattle.hb_turns.proofs.Watching.{watched-stirs, watched-kept, watched-noted}
@@ -162,18 +162,58 @@ moved stands shown old new x P before behind adds keep tells tracks watch comes 
     stands-grows stands shown old new x trace may.0 may.2 tracks watch keep
     (tells may.0.matches.notes trace may.0.matches.node may.1)) had
 
--- and the node had no memory
+-- a node stands for the trace
+pub stood_whole : {N : Type 0} (stands : List Note → N → List Entry → Type 0) (shown : N → Shown) (notes : List Note) (n : N)
+    (trace : List Entry) → stands notes n trace → StoodLast stands shown trace
+stood_whole stands shown notes n trace had = record {
+  front = trace;
+  last = None;
+  trace_is = sym (append-nil trace);
+  notes = notes;
+  node = n;
+  stands_for = had;
+  allows = tt;
+}
+
+-- or for all but the last entry
+pub stood_last : {N : Type 0} (stands : List Note → N → List Entry → Type 0) (shown : N → Shown) (notes : List Note) (n : N)
+    (trace : List Entry) (x : Entry) → stands notes n trace → MayCome (shown n) trace x → StoodLast stands shown (trace ++ x ∷ [])
+stood_last stands shown notes n trace x had may = record {
+  front = trace;
+  last = Some x;
+  trace_is = refl;
+  notes = notes;
+  node = n;
+  stands_for = had;
+  allows = may;
+}
+
+-- memory lacked where a run went on
+pub stands_lacks : {N : Type 0} (stands : List Note → N → List Entry → Type 0) (shown : N → Shown) (run : Run N) (trace : List Entry)
+    → Stands stands shown run trace → Lacks stands shown run.records trace
+stands_lacks stands shown run trace s =
+    let m = s.matches in (m.obeys, stood_whole stands shown m.notes run.node trace m.node)
+
+pub lacks_here : {N : Type 0} (stands : List Note → N → List Entry → Type 0) (shown : N → Shown) (run : Run N) (told : Option (List Entry))
+    → IfSome told (Stands stands shown run) → IfSome told (Lacks stands shown run.records)
+lacks_here stands shown run told had =
+    each (Stands stands shown run) (Lacks stands shown run.records) told (stands_lacks stands shown run) had
+
+-- the call told an entry, and the node had no memory
 pub lacked : {N : Type 0} (stands : List Note → N → List Entry → Type 0) (shown : N → Shown) (old : Run N) (new : Records) (x : Entry)
     (P : List Entry → Type 0) (before behind : Option (List Entry)) → behind ≡ with_entries (x ∷ []) before → Tracks old.records new x
     → ((trace : List Entry) → P trace → Stands stands shown old trace × MayCome (shown old.node) trace x × Comes stands shown trace x)
-    → IfSome before P → IfSome behind (Obeys stands shown new)
+    → IfSome before P → IfSome behind (Lacks stands shown new)
 lacked stands shown old new x P before behind adds tracks comes had =
-    on P (Obeys stands shown new) (x ∷ []) before behind adds
-    (λ trace p. let may = comes trace p in obeys-grows stands shown old.records new trace x may.2 tracks may.0.matches.obeys) had
+    on P (Lacks stands shown new) (x ∷ []) before behind adds
+    (λ trace p. let may = comes trace p in let m = may.0.matches in (
+      obeys-grows stands shown old.records new trace x may.2 tracks m.obeys,
+      stood_last stands shown m.notes old.node trace x m.node may.1,
+    )) had
 
 -- so it is left where memory lacked
 pub left : {A E N : Type 0} (stands : List Note → N → List Entry → Type 0) (shown : N → Shown) (r : Result A E) (run : Run N)
-    (told : Option (List Entry)) → IfOk r (λ x. ⊥) → IfSome told (Obeys stands shown run.records)
+    (told : Option (List Entry)) → IfOk r (λ x. ⊥) → IfSome told (Lacks stands shown run.records)
     → IfSome told (Left stands shown r run)
 left stands shown (Ok x) run told none had = absurd none
 left stands shown (Err why) run told none had = had
@@ -212,11 +252,6 @@ reserved stands shown run links told is had =
     each (Stands stands shown run) (Stands stands shown (record run { records = record run.records { links = links } })) told
     (relisted stands shown run links is.links (watched-kept (kept run.records.links) (kept links) (shown run.node) is)) had
 
--- what is known is what is told
-pub obeyed : {N : Type 0} (stands : List Note → N → List Entry → Type 0) (shown : N → Shown) (run : Run N) (told : Option (List Entry))
-    → IfSome told (Stands stands shown run) → IfSome told (Obeys stands shown run.records)
-obeyed stands shown run told had = each (Stands stands shown run) (Obeys stands shown run.records) told (λ trace s. s.matches.obeys) had
-
 -- notes were taken
 pub stands-noted : {N : Type 0} (stands : List Note → N → List Entry → Type 0) (shown : N → Shown) (old new : Run N) (trace : List Entry)
     → new.records ≡ old.records → IsSame (shown old.node) (shown new.node)
@@ -251,9 +286,9 @@ numbered_too P (Some trace) l next had = (had, next)
 -- no entry was told, since the world had no memory
 pub untold : {N : Type 0} (stands : List Note → N → List Entry → Type 0) (shown : N → Shown) (old : Run N)
     (before behind : Option (List Entry)) → behind ≡ with_entries [] before
-    → IfSome before (Stands stands shown old) → IfSome behind (Obeys stands shown old.records)
+    → IfSome before (Stands stands shown old) → IfSome behind (Lacks stands shown old.records)
 untold stands shown old before behind adds had =
-    same (Stands stands shown old) (Obeys stands shown old.records) before behind adds (λ trace s. s.matches.obeys) had
+    same (Stands stands shown old) (Lacks stands shown old.records) before behind adds (stands_lacks stands shown old) had
 
 -- a link that lives is closed, or shut
 pub on_close : (P Q : List Entry → Type 0) (l : ℕ) (cause : Cause) (before behind : Option (List Entry))

@@ -17,7 +17,7 @@ use Rattle.hb_turns.specs.Ends.{end_of, end_by, RunsOn, ticks, waits, is_tick, i
 use Rattle.hb_turns.specs.Listens.{DoorAt, given, listen_at, LeavesDoors}
 use Rattle.hb_turns.specs.Reckons.{Begins, Begun, FailsAt, StopsAt, AreLeft, Reckons, Finishes}
 use Rattle.hb_turns.specs.Shown.{Shown, MayCome}
-use Rattle.hb_turns.specs.Stands.{Obeys, Stands, Tracks, Watched, WatchedBy}
+use Rattle.hb_turns.specs.Stands.{Lacks, Stands, Tracks, Watched, WatchedBy}
 use Rattle.hb_turns.specs.declared.run.Records.{Records}
 use Rattle.hb_turns.specs.declared.run.Run.{Run}
 use Rattle.hb_turns.specs.declared.served.ServeEnd.{ServeEnd}
@@ -211,12 +211,12 @@ lack_finishes_listens words trace s =
 
 module _ {N : Type 0} (stands : List Note → N → List Entry → Type 0) (shown : N → Shown) where
   pub begun_lacks : {E : Type 0} (r : Result (Option ServeEnd) E) (run : Run N) (doors more : List DoorAt) (told : Option (List Entry))
-      → IfOk r (λ x. ⊥) → IfSome told (λ trace. Obeys stands shown run.records trace × StopsAt doors trace)
+      → IfOk r (λ x. ⊥) → IfSome told (λ trace. Lacks stands shown run.records trace × StopsAt doors trace)
       → IfSome told (Begun stands shown r run (doors ++ more))
   begun_lacks (Ok x) run doors more told none had = absurd none
   begun_lacks (Err why) run doors more told none had =
-      each (λ trace. Obeys stands shown run.records trace × StopsAt doors trace)
-      (λ trace. Obeys stands shown run.records trace × StopsAt (doors ++ more) trace) told
+      each (λ trace. Lacks stands shown run.records trace × StopsAt doors trace)
+      (λ trace. Lacks stands shown run.records trace × StopsAt (doors ++ more) trace) told
       (λ trace had. (had.0, stops_more doors more trace had.1)) had
 
   -- how a run begins is how it ends, where it ends there
@@ -228,11 +228,11 @@ module _ {N : Type 0} (stands : List Note → N → List Entry → Type 0) (show
       (λ trace had. subst (λ (e : ServeEnd). Finishes words e trace) (sym had.0) (fault_finishes words trace had.2))
 
   pub lacks_finishes : {E : Type 0} (r : Result ServeEnd E) (run : Run N) (words : ServeWords) (told : Option (List Entry))
-      → IfOk r (λ x. ⊥) → IfSome told (λ trace. Obeys stands shown run.records trace × StopsAt (given words.doors) trace)
+      → IfOk r (λ x. ⊥) → IfSome told (λ trace. Lacks stands shown run.records trace × StopsAt (given words.doors) trace)
       → IfSome told (Finishes words (end_of r))
   lacks_finishes (Ok x) run words told none had = absurd none
   lacks_finishes (Err why) run words told none had =
-      each (λ trace. Obeys stands shown run.records trace × StopsAt (given words.doors) trace) (Finishes words ends.NoMemory) told
+      each (λ trace. Lacks stands shown run.records trace × StopsAt (given words.doors) trace) (Finishes words ends.NoMemory) told
       (λ trace had. lack_finishes_listens words trace had.1) had
 
   -- what a listen that was made answers

@@ -10,7 +10,7 @@ use Rattle.hb_world.specs.declared.entry.Way.TheVariants as way
 use Rattle.hb_turns.specs.Ends.{ClosesFor, RunsOn, EndsAs, ticks, waits, moves}
 use Rattle.hb_turns.specs.Listens.{DoorAt, given, listen_at, Listened, BeginsWith}
 use Rattle.hb_turns.specs.Shown.{Shown}
-use Rattle.hb_turns.specs.Stands.{Obeys, Stands, Keeps, IsIdle}
+use Rattle.hb_turns.specs.Stands.{Lacks, Stands, Keeps, IsIdle}
 use Rattle.hb_turns.specs.Woken.{IsQuiet}
 use Rattle.hb_turns.specs.declared.run.Records.{Records}
 use Rattle.hb_turns.specs.declared.run.Run.{Run}
@@ -92,7 +92,7 @@ abbrev pub Begun : {E N : Type 0} → (List Note → N → List Entry → Type 0
     → List Entry → Type 0
 Begun stands shown (Ok None) run doors trace = Begins stands shown run doors trace
 Begun stands shown (Ok (Some end)) run doors trace = (end ≡ ends.WorldFault) × Stands stands shown run trace × FailsAt doors trace
-Begun stands shown (Err why) run doors trace = Obeys stands shown run.records trace × StopsAt doors trace
+Begun stands shown (Err why) run doors trace = Lacks stands shown run.records trace × StopsAt doors trace
 
 -- Each door that is given listens, no entry ended the run, so many of the stated ticks are to come, it has entries for n turns, and
 -- w waits at most

@@ -1,4 +1,4 @@
--- Small traces that no run leaves, and one that a run does.
+-- Small traces that no run leaves, and two that a run does.
 use Rattle.std.specs.Prelude.{◌≡◌, ℕ, false, true, List, [], ◌∷◌, Option, Some, None}
 use Rattle.hb_base.specs.declared.cause.Cause.TheVariants as cause
 use Rattle.hb_base.specs.declared.door.Door.TheVariants.{Inbound, Outbound}
@@ -11,7 +11,7 @@ use Rattle.hb_world.specs.declared.entry.Way.TheVariants as way
 use Rattle.hb_world.specs.declared.entry.Woken.TheVariants as woken
 use Rattle.hb_turns.specs.Listens.{listen_at}
 use Rattle.hb_turns.specs.Served.{IsServed}
-use Rattle.hb_turns.specs.Shown.{Shown}
+use Rattle.hb_turns.specs.Shown.{Shown, IsFree}
 use Rattle.hb_turns.specs.declared.served.Served.{Served}
 use Rattle.hb_turns.specs.declared.served.ServeEnd.TheVariants as ends
 use Rattle.hb_turns.specs.declared.words.ServeWords.{ServeWords}
@@ -29,6 +29,10 @@ asks_doors inbound outbound =
 abbrev pub stopped : ℕ → Served
 stopped links = record { end = ends.Stopped; totals = record { links = links }; wanting = false; unkept = false }
 
+-- a run that ended for want of memory, of so many links, of which one was closed for that
+abbrev pub lacked : ℕ → Served
+lacked links = record { end = ends.NoMemory; totals = record { links = links }; wanting = true; unkept = false }
+
 -- a wait that names nothing, and one that tells a stop
 abbrev pub waits : Entry
 waits = e.Wait [] woken.Woke
@@ -43,6 +47,13 @@ good_start at to why = listen_at true (Inbound, at) ∷ e.Dialled 1 to why ∷ e
 abbrev pub good_run : Target → Target → Why → List Entry
 good_run at to why =
     listen_at true (Inbound, at) ∷ e.Dialled 1 to why ∷ e.Balked (way.Finish 1) ∷ waits_stop ∷ e.Closed 1 cause.Stopped ∷ []
+
+-- a link is dialled, and closed for want of memory; or it opens before that
+abbrev pub lack_behind_dial : Target → Why → List Entry
+lack_behind_dial to why = e.Dialled 1 to why ∷ e.Closed 1 cause.NoMemory ∷ []
+
+abbrev pub lack_behind_open : Target → Why → List Entry
+lack_behind_open to why = e.Dialled 1 to why ∷ e.Opened 1 ∷ e.Closed 1 cause.NoMemory ∷ []
 
 module _ {N : Type 0} (stands : List Note → N → List Entry → Type 0) (shown : N → Shown) where
   abbrev pub Refuses : ServeWords → List Entry → Type 0
@@ -93,6 +104,26 @@ module _ {N : Type 0} (stands : List Note → N → List Entry → Type 0) (show
   abbrev pub LosesNotes : Type 0
   LosesNotes = (words : ServeWords) (links : ℕ) (notes : List Note) (trace : List Entry)
       → ((n : N) → stands notes n trace → (shown n).noted ≡ [] → ⊥) → IsServed stands shown words (stopped links) (Some notes) trace → ⊥
+
+  -- no node stands for a trace that begins with this entry
+  abbrev pub NoneBeginsWith : Entry → Type 0
+  NoneBeginsWith x = (notes : List Note) (n : N) (rest : List Entry) → stands notes n (x ∷ rest) → ⊥
+
+  -- memory lacked, and two entries stand behind all that a node stands for
+  abbrev pub LacksTwice : Type 0
+  LacksTwice = (to : Target) (why : Why) (links : ℕ) (keep : Option (List Note)) → NoneBeginsWith (e.Dialled 1 to why)
+      → IsServed stands shown (asks 9 None) (lacked links) keep (lack_behind_open to why) → ⊥
+
+  -- memory lacked at an entry that no node allows
+  abbrev pub LacksUnallowed : Type 0
+  LacksUnallowed = (to : Target) (why : Why) (links : ℕ) (keep : Option (List Note)) → NoneBeginsWith (e.Dialled 1 to why)
+      → ((notes : List Note) (n : N) → stands notes n [] → (shown n).dials ≡ Some (to, why) → ⊥)
+      → IsServed stands shown (asks 9 None) (lacked links) keep (lack_behind_dial to why) → ⊥
+
+  -- a node that stands for the dial lacks memory for what it is told next
+  abbrev pub LackIsServed : Type 0
+  LackIsServed = (to : Target) (why : Why) (notes : List Note) (n : N) (keep : Option (List Note)) → IsFree (shown n)
+      → stands notes n (e.Dialled 1 to why ∷ []) → IsServed stands shown (asks 9 None) (lacked 1) keep (lack_behind_open to why)
 
   abbrev pub GoodRunIsServed : Type 0
   GoodRunIsServed = (at to : Target) (why : Why) (notes more : List Note) (n m k : N) → (shown n).idle ≡ true

@@ -1,5 +1,5 @@
 -- What holds of the trace of a run that is over.
-use Rattle.std.specs.Prelude.{⊤, ◌≡◌, ℕ, true, false, List, ◌++◌, Option, None}
+use Rattle.std.specs.Prelude.{◌≡◌, ℕ, true, false, List, ◌++◌, Option, None}
 use Rattle.std.specs.List.{All}
 use Rattle.hb_base.specs.declared.door.Door.{Door}
 use Rattle.hb_base.specs.declared.note.Note.{Note}
@@ -13,25 +13,27 @@ use Rattle.hb_turns.specs.Notes.{HoldsNotes}
 use Rattle.hb_turns.specs.Reckons.{Finishes}
 use Rattle.hb_turns.specs.Settled.{SettledLaw}
 use Rattle.hb_turns.specs.Shown.{Shown}
+use Rattle.hb_turns.specs.Stands.{StoodLast}
 use Rattle.hb_turns.specs.declared.run.Records.{Records}
 use Rattle.hb_turns.specs.declared.served.Served.{Served}
 use Rattle.hb_turns.specs.declared.served.ServeEnd.{ServeEnd}
 use Rattle.hb_turns.specs.declared.served.ServeEnd.TheVariants as ends
 use Rattle.hb_turns.specs.declared.words.ServeWords.{ServeWords}
 
--- a node stands for the trace, unless memory lacked
-abbrev pub IsStoodFor : {N : Type 0} → (List Note → N → List Entry → Type 0) → ServeEnd → List Entry → Type 0
-IsStoodFor stands ends.NoMemory trace = ⊤
-IsStoodFor {N} stands _ trace = (notes : List Note) × (n : N) × stands notes n trace
+-- a node stands for the trace; where memory lacked, for it or for all but its last entry
+abbrev pub IsStoodFor : {N : Type 0} → (List Note → N → List Entry → Type 0) → (N → Shown) → ServeEnd → List Entry → Type 0
+IsStoodFor stands shown ends.NoMemory trace = StoodLast stands shown trace
+IsStoodFor {N} stands shown _ trace = (notes : List Note) × (n : N) × stands notes n trace
 
--- The run ended so with the first of the entries, for which a node stands. The others close links for the cause of that end
-pub record IsOver {N : Type 0} (stands : List Note → N → List Entry → Type 0) (words : ServeWords) (end : ServeEnd) (trace : List Entry)
-    : Type 0 where
+-- The run ended so with the first of the entries, for which a node stands (where memory lacked, for them or for all but the last). The
+-- others close links for the cause of that end
+pub record IsOver {N : Type 0} (stands : List Note → N → List Entry → Type 0) (shown : N → Shown) (words : ServeWords) (end : ServeEnd)
+    (trace : List Entry) : Type 0 where
   pub before : List Entry
   pub behind : List Entry
   pub trace_is : trace ≡ before ++ behind
   pub finishes : Finishes words end before
-  pub stood_for : IsStoodFor stands end before
+  pub stood_for : IsStoodFor stands shown end before
   pub closes : All (ClosesFor (cause_at end)) behind
 
 -- A run that is over, of a node that was asked for this: its trace obeys the awake law and the settled law, at its end no link lives;
@@ -42,7 +44,7 @@ pub record IsServed {N : Type 0} (stands : List Note → N → List Entry → Ty
   pub awake : AwakeLaw trace
   pub settled : SettledLaw stands shown trace
   pub closed : (l : ℕ) → lives l trace ≡ false
-  pub over : IsOver stands words served.end trace
+  pub over : IsOver stands shown words served.end trace
   pub links_are : served.totals.links ≡ births trace
   pub wanting_is : served.wanting ≡ was_wanting trace
   pub noted : (served.end ≡ ends.NoMemory → ⊥) → served.unkept ≡ false → HoldsNotes stands shown keep trace

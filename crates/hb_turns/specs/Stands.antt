@@ -1,5 +1,6 @@
 -- What the loop holds, and the trace that it stands for.
-use Rattle.std.specs.Prelude.{◌≡◌, ◌⊎◌, ℕ, ◌||◌, true, false, List, [], Option, None, IfSome, Result, Ok, Err}
+use Rattle.std.specs.Prelude.{◌≡◌, ◌⊎◌, ℕ, ◌||◌, true, false, List, [], ◌++◌, Option, None, IfSome, Result, Ok, Err}
+use Rattle.std.specs.Option.{option_to_list}
 use Rattle.hb_base.specs.declared.door.Door.{Door}
 use Rattle.hb_world.specs.Trace.{births, lives}
 use Rattle.hb_world.specs.declared.entry.Entry.TheVariants as e
@@ -13,7 +14,7 @@ use Rattle.hb_ready.specs.Sight.{known, asked, asked_at, asked_behind}
 use Rattle.hb_turns.specs.Notes.{Holds}
 use Rattle.hb_turns.specs.Ends.{was_wanting, is_close_for_lack}
 use Rattle.hb_turns.specs.Settled.{Rests, SettledLaw}
-use Rattle.hb_turns.specs.Shown.{Shown}
+use Rattle.hb_turns.specs.Shown.{Shown, MayCome}
 use Rattle.hb_turns.specs.declared.run.Records.{Records}
 use Rattle.hb_turns.specs.declared.run.Run.{Run}
 
@@ -69,10 +70,24 @@ pub record Tracks (old new : Records) (x : Entry) : Type 0 where
   pub births_are : new.births ≡ births_behind old.births x
   pub wanting_is : new.wanting ≡ (is_close_for_lack x || old.wanting)
 
--- where memory lacked, the node stands for no trace
+-- a node stands for the trace, or for all but its last entry, which it allows behind them
+pub record StoodLast {N : Type 0} (stands : List Note → N → List Entry → Type 0) (shown : N → Shown) (trace : List Entry) : Type 0 where
+  pub front : List Entry
+  pub last : Option Entry
+  pub trace_is : trace ≡ front ++ option_to_list last
+  pub notes : List Note
+  pub node : N
+  pub stands_for : stands notes node front
+  pub allows : IfSome last (MayCome (shown node) front)
+
+-- memory lacked: what is known is what the trace tells, and a node stood for it, or for all but its last entry
+abbrev pub Lacks : {N : Type 0} → (List Note → N → List Entry → Type 0) → (N → Shown) → Records → List Entry → Type 0
+Lacks stands shown r trace = Obeys stands shown r trace × StoodLast stands shown trace
+
+-- the run goes on, or memory lacked
 abbrev pub Left : {A E N : Type 0} → (List Note → N → List Entry → Type 0) → (N → Shown) → Result A E → Run N → List Entry → Type 0
 Left stands shown (Ok x) run trace = Stands stands shown run trace
-Left stands shown (Err why) run trace = Obeys stands shown run.records trace
+Left stands shown (Err why) run trace = Lacks stands shown run.records trace
 
 -- where the world tells its trace, what stood for it stands for it again
 abbrev pub Keeps : {A E N : Type 0} → (List Note → N → List Entry → Type 0) → (N → Shown) → Result A E → Run N → Option (List Entry) → Run N

@@ -4,6 +4,7 @@
 ghost use Rattle.hb_turns.specs.Refused.{WaitsOverDue, WaitsOverReadable, WaitsOverUnwritten, WaitsUnasked, WaitsUnaccepted, GoodTraceIsSettled};
 ghost use Rattle.hb_turns.specs.RefusedRuns.{StopsUnasked, LeavesOpen, ClosesForLack, GoesOnBehind, WaitsPastTurns, GivesUp, TicksOnceMore};
 ghost use Rattle.hb_turns.specs.RefusedRuns.{ListensNowhere, ListensUnasked, ListensInAnotherOrder, LosesNotes, GoodRunIsServed};
+ghost use Rattle.hb_turns.specs.RefusedRuns.{LacksTwice, LacksUnallowed, LackIsServed};
 
 use crate::node::Node;
 
@@ -43,6 +44,17 @@ pub fn wrong_listens_are_refused<N: Node>()
 /// Nor one whose notes aren't those that are kept.
 pub fn lost_notes_are_refused<N: Node>()
     ensures { LosesNotes N.stands N.shown }
+{}
+
+/// Nor one that ended for want of memory two entries behind all that a node stands for, or at an entry that none allows.
+pub fn unstood_lacks_are_refused<N: Node>()
+    ensures twice { LacksTwice N.stands N.shown }
+    ensures unallowed { LacksUnallowed N.stands N.shown }
+{}
+
+/// A run is over that dials a link, lacks memory once the link is open, and closes it.
+pub fn a_run_that_lacked_is_served<N: Node>()
+    ensures { LackIsServed N.stands N.shown }
 {}
 
 /// A run is over that listens at a door, dials a link, is told a stop, and closes the link.

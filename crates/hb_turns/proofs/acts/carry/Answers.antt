@@ -1,16 +1,17 @@
 use Rattle.std.proofs.Common.{◌∙◌, rules, sym, subst}
-use Rattle.hb_turns.specs.Stands.{Obeys, Stands, Left}
+use Rattle.hb_turns.specs.Stands.{Lacks, Stands, Left}
 use Rattle.hb_turns.specs.declared.run.Records.{Records}
 use Rattle.hb_turns.proofs.Counting.{on_ok}
-use Rattle.hb_turns.proofs.Holding.{each, left, stands-noted}
+use Rattle.hb_turns.proofs.Holding.{each, left, stands_lacks, stands-noted}
 use Rattle.hb_turns.proofs.acts.carry.Goals as goal
 
 pub returns-in_err-take_notes-clause-keeps : goal.returns-in_err-take_notes-clause-keeps
 returns-in_err-take_notes-clause-keeps g c = λ had.
     let mid = c.make_acts.new.run in
     left g.N.Node.stands g.N.Node.shown c.from_residual-in_err-take_notes.result c.take_notes.new.run _ (search rules)
-    (each (Stands g.N.Node.stands g.N.Node.shown mid) (Obeys g.N.Node.stands g.N.Node.shown c.take_notes.new.run.records) _
-    (λ trace s. subst (λ (r : Records). Obeys g.N.Node.stands g.N.Node.shown r trace) (sym c.take_notes.ensures.records) s.matches.obeys)
+    (each (Stands g.N.Node.stands g.N.Node.shown mid) (Lacks g.N.Node.stands g.N.Node.shown c.take_notes.new.run.records) _
+    (λ trace s. subst (λ (r : Records). Lacks g.N.Node.stands g.N.Node.shown r trace) (sym c.take_notes.ensures.records)
+    (stands_lacks g.N.Node.stands g.N.Node.shown mid trace s))
     ((c.in_ok-make_acts.ensures {u = tt}).keeps had))
 
 pub returns-clause-keeps : goal.returns-clause-keeps

@@ -1,5 +1,5 @@
 use Rattle.std.proofs.Common.{refl, ◌∙◌}
-use Rattle.hb_turns.proofs.Holding.{same_none, same_both}
+use Rattle.hb_turns.proofs.Holding.{same_none, same_both, stands_lacks}
 use Rattle.hb_turns.proofs.acts.hear_all.Goals as goal
 
 pub loop-told-init : goal.loop-told-init
@@ -16,7 +16,7 @@ loop-told-preserved g c =
     }
 
 pub returns-clause-keeps : goal.returns-clause-keeps
-returns-clause-keeps g c = λ trace s. (c.loop-told.invariant.kept trace s).matches.obeys
+returns-clause-keeps g c = λ trace s. stands_lacks g.N.Node.stands g.N.Node.shown c.loop-told.run trace (c.loop-told.invariant.kept trace s)
 
 pub returns-then-not-hear-clause-keeps : goal.returns-then-not-hear-clause-keeps
 returns-then-not-hear-clause-keeps g c = λ trace s. c.hear.ensures.keeps trace (c.loop-told.invariant.kept trace s)

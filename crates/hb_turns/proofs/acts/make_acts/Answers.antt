@@ -1,6 +1,6 @@
 use Rattle.std.proofs.Common.{false, refl, ◌∙◌}
 use Rattle.hb_turns.proofs.Adding.{adds_none, adds_both}
-use Rattle.hb_turns.proofs.Holding.{obeyed}
+use Rattle.hb_turns.proofs.Holding.{lacks_here}
 use Rattle.hb_turns.proofs.acts.make_acts.Goals as goal
 
 pub loop-act-init : goal.loop-act-init
@@ -27,7 +27,7 @@ returns-in_err-make_act-clause-adds g c =
     adds_both false false _ _ _ c.loop-act.invariant.adds (c.in_err-make_act.ensures {u = tt}).adds
 
 pub returns-clause-keeps : goal.returns-clause-keeps
-returns-clause-keeps g c = λ had. obeyed g.N.Node.stands g.N.Node.shown c.loop-act.run _ (c.loop-act.invariant.kept had)
+returns-clause-keeps g c = λ had. lacks_here g.N.Node.stands g.N.Node.shown c.loop-act.run _ (c.loop-act.invariant.kept had)
 
 pub returns-clause-adds : goal.returns-clause-adds
 returns-clause-adds g c = c.loop-act.invariant.adds

@@ -22,7 +22,7 @@ unasked to why (x ∷ y ∷ b) l c is at = absurd cc
 
 pub returns-clause-unasked : goal.returns-clause-unasked
 returns-clause-unasked g c = λ to why links keep served.
-    let s = stops_amid g.N.Node.stands (asks 9 None) _ served.over in unasked to why s.before s.last s.behind s.trace_is s.ended
+    let s = stops_amid g.N.Node.stands g.N.Node.shown (asks 9 None) _ served.over in unasked to why s.before s.last s.behind s.trace_is s.ended
 
 pub returns-clause-left_open : goal.returns-clause-left_open
 returns-clause-left_open g c = λ to why links keep served. let none : true ≡ false = served.closed 1 in absurd cc
@@ -43,7 +43,7 @@ lack to why (x ∷ y ∷ z ∷ v ∷ b) l c is at closes = absurd cc
 
 pub returns-clause-lack : goal.returns-clause-lack
 returns-clause-lack g c = λ to why links keep served.
-    let s = stops_amid g.N.Node.stands (asks 9 None) _ served.over in
+    let s = stops_amid g.N.Node.stands g.N.Node.shown (asks 9 None) _ served.over in
     lack to why s.before s.last s.behind s.trace_is s.ended s.closes
 
 more : (to : Target) (why : Why) (b : List Entry) (l : Entry) (c : List Entry)
@@ -59,7 +59,7 @@ more to why (x ∷ y ∷ z ∷ b) l c is at closes = absurd cc
 
 pub returns-clause-behind : goal.returns-clause-behind
 returns-clause-behind g c = λ to why links keep served.
-    let s = stops_amid g.N.Node.stands (asks 9 None) _ served.over in
+    let s = stops_amid g.N.Node.stands g.N.Node.shown (asks 9 None) _ served.over in
     more to why s.before s.last s.behind s.trace_is s.ended s.closes
 
 past : (b : List Entry) (l : Entry) (c : List Entry) → waits_stop ∷ [] ≡ b ++ l ∷ c → waits_in (b ++ l ∷ []) ≤ 0 → ⊥
@@ -72,7 +72,7 @@ past (x ∷ y ∷ b) l c is few = absurd cc
 
 pub returns-clause-turns : goal.returns-clause-turns
 returns-clause-turns g c = λ links keep served.
-    let s = stops_amid g.N.Node.stands (asks 0 None) _ served.over in past s.before s.last s.behind s.trace_is s.few_waits
+    let s = stops_amid g.N.Node.stands g.N.Node.shown (asks 0 None) _ served.over in past s.before s.last s.behind s.trace_is s.few_waits
 
 once_more : (b : List Entry) (l : Entry) (c : List Entry) → e.Wait [] woken.Tick ∷ e.Tick ∷ waits_stop ∷ [] ≡ b ++ l ∷ c
     → RunsOn (Some 1) b → end_by (Some 1) b l ≡ Some ends.Stopped → All (ClosesFor cause.Stopped) c → ⊥
@@ -93,7 +93,7 @@ once_more (x ∷ y ∷ z ∷ v ∷ b) l c is runs at closes = absurd cc
 
 pub returns-clause-ticks : goal.returns-clause-ticks
 returns-clause-ticks g c = λ links keep served.
-    let s = stops_amid g.N.Node.stands (asks 9 (Some 1)) _ served.over in
+    let s = stops_amid g.N.Node.stands g.N.Node.shown (asks 9 (Some 1)) _ served.over in
     once_more s.before s.last s.behind s.trace_is s.runs_on s.ended s.closes
 
 few_turns : (to : Target) (why : Why) (b c : List Entry) → e.DialFailed to why ∷ waits ∷ [] ≡ b ++ c
