@@ -1,7 +1,7 @@
 -- Which entries may come on the link to the control plane, where the event loop tells them.
-use Rattle.std.proofs.Common.{◌≡◌, ◌⊎◌, inl, inr, ⊎_elim, ℕ, ◌<◌, ◌≤◌, ◌==◌, Bool, true, false, if◌then◌else◌, List, ◌++◌, length, take, drop, Option, Some, None, refl, ap, sym, ◌∙◌, subst, arith}
+use Rattle.std.proofs.Common.{◌≡◌, ◌⊎◌, inl, inr, ⊎_elim, ℕ, ◌<◌, ◌≤◌, ◌==◌, Bool, true, false, if◌then◌else◌, List, [], ◌++◌, length, take, drop, Option, Some, None, refl, ap, sym, ◌∙◌, subst, arith}
 use Rattle.std.proofs.lemmas.Bool.{eqb-true}
-use Rattle.std.proofs.lemmas.List.{take-drop}
+use Rattle.std.proofs.lemmas.List.{take-append-drop}
 use Rattle.hb_frames.specs.Frames.{AreOctets}
 use Rattle.hb_inbound.specs.Calm.{IsQuiet}
 use Rattle.hb_links.proofs.Acting.{all_calm}
@@ -121,7 +121,7 @@ last_owned (Some k) x l shows is last =
 -- WHICH ENTRIES MAY COME
 
 -- nothing more happens by itself elsewhere
-free_control : (x : Machine) (z : Entry) → Free x → BirthMayCome x z → ControlMayCome x z
+pub free_control : (x : Machine) (z : Entry) → Free x → BirthMayCome x z → ControlMayCome x z
 free_control x z free birth = record {
   birth = birth;
   links = λ l. lets_all (goes_first x.control z) (x.inbound l) (free.links l);

@@ -60,7 +60,7 @@ goes_behind g points first n a b c silent noted goes = record {
   links = goes.links;
   silent = entries_more first goes.more ∙ ap (λ (zs : List Entry). zs ++ entries goes.more) silent ∙ goes.silent;
   noted = subst (λ (ns : List Note). Takes (told a.notes) ns (told c.notes)) (sym (notes_more first goes.more))
-      (takes_then (told a.notes) (notes first) (told b.notes) (notes goes.more) (told c.notes) noted goes.noted);
+      (takes_then (told a.notes) (told b.notes) (told c.notes) (notes first) (notes goes.more) noted goes.noted);
 }
 
 module _ (g : NodeConfig) where

@@ -26,13 +26,14 @@ use Rattle.hb_node.specs.declared.link.Link.{Link}
 use Rattle.hb_proxy.specs.Machine.{Machine}
 use Rattle.hb_proxy.specs.Runs.{ControlRests, Lets}
 use Rattle.hb_turns.specs.Shown.{IsFree}
+use Rattle.hb_world.specs.declared.entry.Entry.{Entry}
 use Rattle.hb_whole.specs.Sight.{shown_of, idle_by}
 use Rattle.hb_whole.specs.Stands.{Stands, EndsBy}
 use Rattle.hb_whole.specs.declared.proxy.Proxy.{Proxy}
 
 -- THE CONTROL PLANE
 
-none_of : {A : Type 0} (o : Option A) → is_none o ≡ true → o ≡ None
+pub none_of : {A : Type 0} (o : Option A) → is_none o ≡ true → o ≡ None
 none_of None is = refl
 none_of (Some a) is = absurd cc
 

@@ -2,7 +2,8 @@
 use Rattle.std.proofs.Common.{◌≡◌, Bool, true, false, not, cond, List, [], ◌∷◌, ◌++◌, Option, Some, None, refl, ap, sym, ◌∙◌, subst, inl, inr, ⊎_elim}
 use Rattle.std.specs.Prelude.{⊤}
 use Rattle.std.proofs.lemmas.Grind.{flat_map-append}
-use Rattle.std.proofs.lemmas.List.{append_assoc, append-nil, filter-append}
+use Rattle.std.proofs.lemmas.List.{append_assoc, append-nil}
+use Rattle.std.proofs.lemmas.List.Elements.{filter-append}
 use Rattle.hb_base.specs.declared.note.Note.{Note}
 use Rattle.hb_inbound.specs.Part as part
 use Rattle.hb_inbound.specs.Part.{Part}
@@ -94,8 +95,8 @@ notes_grow taken (Some waiting) new points more takes are =
 pub stood : (taken : List Note) (p q : Proxy) (trace : List Entry) (z : Entry) (s : Stands taken p trace) (y : Machine) (more : List Point)
     → q.control.config ≡ p.control.config → StandsFor p.control.config y (s.points ++ more) → is_at_door z ≡ false → entries more ≡ z ∷ []
     → Shows q.control y.control → ShowsAll q.side.links y.inbound → Takes (told p.side.notes) (notes more) (told q.side.notes)
-    → q.dials ≡ None → EndsBy q.ends_for y → Stands taken q (trace ++ z ∷ [])
-stood taken p q trace z s y more config run door one control links takes dials ends = record {
+    → q.dials ≡ None → EndsBy q.ends_for y → q.strange ≡ p.strange → Stands taken q (trace ++ z ∷ [])
+stood taken p q trace z s y more config run door one control links takes dials ends sound = record {
   machine = y;
   points = s.points ++ more;
   run = subst (λ (g : NodeConfig). StandsFor g y (s.points ++ more)) (sym config) run;
@@ -106,4 +107,5 @@ stood taken p q trace z s y more config run door one control links takes dials e
   noted = notes_grow taken (told p.side.notes) (told q.side.notes) s.points more takes s.noted;
   dial = subst (λ d. MayBeDialled q.control.config y d) (sym dials) tt;
   ends = ends;
+  sound = sound ∙ s.sound;
 }

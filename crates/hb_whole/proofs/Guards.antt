@@ -2,18 +2,18 @@
 use Rattle.std.proofs.Common.{◌≡◌, ◌≢◌, ◌⊎◌, inl, inr, ⊎_elim, ℕ, ◌<◌, ◌≤◌, ◌&&◌, Bool, true, false, is_none, List, [], ◌∷◌, ◌++◌, length, take, drop, Option, Some, None, refl, ap, sym, ◌∙◌, subst, arith}
 use Rattle.std.specs.Prelude.{⊤}
 use Rattle.std.proofs.lemmas.Bool.{and_parts}
-use Rattle.std.proofs.lemmas.List.{length-take, take-drop}
+use Rattle.std.proofs.lemmas.List.{length-take, take-append-drop}
 use Rattle.std.specs.FinMap.{get}
 use Rattle.hb_base.specs.declared.note.Note.{Note}
 use Rattle.hb_frames.specs.Frames.{AreOctets}
 use Rattle.hb_inbound.specs.Calm.{IsCalm, IsQuiet, close_due, output_by as written_by, up_wants}
 use Rattle.hb_inbound.specs.Inbound as m
-use Rattle.hb_inbound.specs.Inbound.{Inbound}
+use Rattle.hb_inbound.specs.Inbound.{Inbound, at_stream}
 use Rattle.hb_inbound.specs.Part as part
 use Rattle.hb_inbound.specs.Runs as inbound
 use Rattle.hb_inbound.specs.Runs.{IsQuietAt, IsReadable, IsWritable, IsFaulted}
 use Rattle.hb_inbound.specs.Tunnel as t
-use Rattle.hb_inbound.specs.Tunnel.{Stage}
+use Rattle.hb_inbound.specs.Tunnel.{Stage, up_entered}
 use Rattle.hb_link.specs.Calls.{IsLastWord}
 use Rattle.hb_link.specs.Observed.{up_wants_by, up_held_by}
 use Rattle.hb_links.proofs.Acting.{all_calm}
@@ -56,12 +56,11 @@ pub guarded_link : (p : Proxy) (x : Machine) (l : ℕ) (z : Entry)
     → ((z : Entry) → point_for p.side.links l z ≡ Some (of_link l (part.entry z)))
     → inbound.MayCome l (x.inbound l) z → LinkMayCome x l z → Guarded p x l z
 guarded_link p x l z found may guard =
-    let steps = link_steps p.control.config x l z may guard in
     record {
       point = of_link l (part.entry z);
       found = found z;
       next = with_part l (part.entry z) (inbound.entered z (x.inbound l)) x;
-      steps = steps;
+      steps = link_steps p.control.config x l z may guard;
       one = refl;
       no_note = refl;
       control = refl;
@@ -71,19 +70,18 @@ pub guarded_up : (p : Proxy) (x : Machine) (u l s : ℕ) (z : Entry)
     → ((z : Entry) → point_for p.side.links u z ≡ Some (of_link l (part.up s z)))
     → inbound.UpMayCome l s (x.inbound l) ((x.inbound l).tunnels s) z → LinkMayCome x l z → Guarded p x u z
 guarded_up p x u l s z found may guard =
-    let steps = up_steps p.control.config x l s z may guard in
     record {
       point = of_link l (part.up s z);
       found = found z;
-      next = with_part l (part.up s z) steps.0 x;
-      steps = steps;
+      next = with_part l (part.up s z) (at_stream s (up_entered z) (x.inbound l)) x;
+      steps = up_steps p.control.config x l s z may guard;
       one = refl;
       no_note = refl;
       control = refl;
     }
 
 not_both : (b : Bool) → b ≡ true → b ≡ false → ⊥
-not_both b yes no = absurd cc
+not_both b holds fails = absurd cc
 
 -- WHERE ALL IS QUIET
 
@@ -95,8 +93,8 @@ going_at : (x : Inbound) (s u : ℕ) → IsQuiet x → Joins (x.tunnels s) u →
 going_at x s u quiet joins =
     going_stage (x.tunnels s).stage (x.tunnels s) (subst (λ (n : ℕ). 0 < n) (sym joins.1) joins.0) (quiet.calm.answered s) (quiet.idle s)
 
-module _ (taken : List Note) (p : Proxy) (trace : List Entry) (s : Stands taken p trace) (l : ℕ) (no : owns p l ≡ false) where
-  x : Machine
+module _ (taken : List Note) (p : Proxy) (trace : List Entry) (s : Stands taken p trace) (l : ℕ) (other_one : owns p l ≡ false) where
+  abbrev pub x : Machine
   x = s.machine
 
   seen : Seen x (without_doors trace)
@@ -112,7 +110,7 @@ module _ (taken : List Note) (p : Proxy) (trace : List Entry) (s : Stands taken 
       closed = open_then trace l ∙ may.1.1
 
       by : Route p x l → Guarded p x l (e.Opened l)
-      by (to_control yes there) = absurd (not_both (owns p l) yes no)
+      by (to_control mine there) = absurd (not_both (owns p l) mine other_one)
       by (to_link other there none found) = absurd (not_both (is_open l (without_doors trace)) (seen.link l there).1 closed)
       by (to_up other k q joins at found) =
           let quiet = all.links k in
@@ -122,10 +120,10 @@ module _ (taken : List Note) (p : Proxy) (trace : List Entry) (s : Stands taken 
           (free_link x k (e.Opened l) all tt)
 
   wanted : wants_by (owns p l) p l ≡ links.wants_of p.side.links l
-  wanted = ap (λ (b : Bool). wants_by b p l) no
+  wanted = ap (λ (b : Bool). wants_by b p l) other_one
 
   held : output_by (owns p l) p l ≡ links.held_of p.side.links l
-  held = ap (λ (b : Bool). output_by b p l) no
+  held = ap (λ (b : Bool). output_by b p l) other_one
 
   -- bytes are read on it
   pub data Reads : Type 0 where
@@ -142,7 +140,7 @@ module _ (taken : List Note) (p : Proxy) (trace : List Entry) (s : Stands taken 
       some_here = subst (λ (n : ℕ). 0 < n) wanted some
 
       by : Route p x l → Reads
-      by (to_control yes there) = absurd (not_both (owns p l) yes no)
+      by (to_control mine there) = absurd (not_both (owns p l) mine other_one)
       by (to_link other there none found) =
           link_reads none found
           (quiet_at (x.inbound l) (all.links l) there,
@@ -213,7 +211,7 @@ module _ (taken : List Note) (p : Proxy) (trace : List Entry) (s : Stands taken 
       closed = open_then trace l ∙ may.1.1
 
       by : Route p x l → Guarded p x l (e.Balked (way.Finish l))
-      by (to_control yes there) = absurd (not_both (owns p l) yes no)
+      by (to_control mine there) = absurd (not_both (owns p l) mine other_one)
       by (to_link other there none found) = absurd (not_both (is_open l (without_doors trace)) (seen.link l there).1 closed)
       by (to_up other k q joins at found) =
           let quiet = all.links k in
@@ -232,7 +230,7 @@ module _ (taken : List Note) (p : Proxy) (trace : List Entry) (s : Stands taken 
         → ((z : Entry) → BirthMayCome x z → LinkMayCome x k z) → Writes
 
   free_writes : Free x → Route p x l → Writes
-  free_writes all (to_control yes there) = absurd (not_both (owns p l) yes no)
+  free_writes all (to_control mine there) = absurd (not_both (owns p l) mine other_one)
   free_writes all (to_link other there none found) =
       link_writes none found
       (⊎_elim (λ fronting. inl fronting) (λ serving. inr (inl serving)) (quiet_at (x.inbound l) (all.links l) there))
@@ -242,7 +240,7 @@ module _ (taken : List Note) (p : Proxy) (trace : List Entry) (s : Stands taken 
 
   -- its last words
   lasts : p.ends_for ≡ None → is_none (due_of p.control) ≡ true → IsLastWord (x.inbound l) → Route p x l → Writes
-  lasts going none words (to_control yes there) = absurd (not_both (owns p l) yes no)
+  lasts going none words (to_control mine there) = absurd (not_both (owns p l) mine other_one)
   lasts going none words (to_link other there none_up found) =
       link_writes none_up found (inr (inr (all_calm p.side.links x.inbound s.links l, words.0, words.1)))
       (λ z birth. record {
@@ -257,7 +255,7 @@ module _ (taken : List Note) (p : Proxy) (trace : List Entry) (s : Stands taken 
   pub writes : MayWrite (shown_of p) l → lives l trace ≡ true → Writes
   writes may alive =
       ⊎_elim (λ idle. free_writes (free taken p trace s (may.0, idle)) (route taken p trace s l alive))
-      (λ last. let parts = and_parts (is_none (due_of p.control)) _ (ap (λ (b : Bool). last_by b p l) (sym no) ∙ last) in
+      (λ last. let parts = and_parts (is_none (due_of p.control)) _ (ap (λ (b : Bool). last_by b p l) (sym other_one) ∙ last) in
       lasts may.0 parts.0 (last_link p.side.links x.inbound l s.links parts.1) (route taken p trace s l alive)) may.1
 
   pub broke_may : MayCome (shown_of p) trace (e.Broke l) → Guarded p x l (e.Broke l)
@@ -299,7 +297,7 @@ module _ (taken : List Note) (p : Proxy) (trace : List Entry) (s : Stands taken 
           subst (λ (bs : List ℕ). 0 < length bs) (sym bytes_are) (omega arith)
 
       whole : out ≡ bytes ++ drop n out
-      whole = sym (take-drop n out) ∙ ap (λ (bs : List ℕ). bs ++ drop n out) (sym bytes_are)
+      whole = sym (take-append-drop n out) ∙ ap (λ (bs : List ℕ). bs ++ drop n out) (sym bytes_are)
 
       waits : 0 < length out
       waits = let first : 0 < n = may.3 in let few = enough in omega arith

@@ -69,8 +69,8 @@ current_is None x l shows is = absurd cc
 current_is (Some k) x l shows is = shows.0 ∙ ap (λ (j : ℕ). Some j) (eqb-true k.number l is)
 
 by_false : (b : Bool) → (b ≡ true → ⊥) → b ≡ false
-by_false true no = absurd (no refl)
-by_false false no = refl
+by_false true never = absurd (never refl)
+by_false false never = refl
 
 -- one that isn't there isn't owned
 pub not_owned : (x : Machine) (zs : List Entry) (o : Option ControlLink) (l : ℕ) → Seen x zs → ShowsControl o x.control

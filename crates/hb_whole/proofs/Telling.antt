@@ -37,8 +37,8 @@ pub follows_stands : (taken : List Note) (p q : Proxy) (trace : List Entry) (z :
     (next : Machine) (G : Guard) → q.control.config ≡ p.control.config → Steps p.control.config s.machine point next
     → (follows : Follows G Shown p.control.config next q.side.links (told p.side.notes) (told q.side.notes))
     → is_at_door z ≡ false → entry_in point ≡ z ∷ [] → note_in point ≡ [] → Shows q.control next.control → q.dials ≡ None
-    → EndsBy q.ends_for follows.reached → Stands taken q (trace ++ z ∷ [])
-follows_stands taken p q trace z s point next G config steps follows door one none control dials ends =
+    → EndsBy q.ends_for follows.reached → q.strange ≡ p.strange → Stands taken q (trace ++ z ∷ [])
+follows_stands taken p q trace z s point next G config steps follows door one none control dials ends sound =
     stood taken p q trace z s follows.reached (point ∷ follows.more) config
     (subst (λ (ps : List Point). StandsFor p.control.config follows.reached ps) (append_assoc s.points (point ∷ []) follows.more)
     (stands_behind G p.control.config next follows.reached (s.points ++ point ∷ []) follows.more (goes_on s.run point steps refl)
@@ -48,7 +48,7 @@ follows_stands taken p q trace z s point next G config steps follows door one no
     (subst (λ (m : Control). Shows q.control m)
     (sym (inner_control G p.control.config next follows.reached follows.more follows.leads)) control)
     follows.shows
-    (subst (λ (ns : List Note). Takes (told p.side.notes) (ns ++ notes follows.more) (told q.side.notes)) (sym none) follows.noted) dials ends
+    (subst (λ (ns : List Note). Takes (told p.side.notes) (ns ++ notes follows.more) (told q.side.notes)) (sym none) follows.noted) dials ends sound
 
 -- an entry of a link or an upstream
 pub link_stands : (taken : List Note) (p : Proxy) (side : Side) (trace : List Entry) (z : Entry) (s : Stands taken p trace) (l : ℕ)
@@ -61,7 +61,7 @@ link_stands taken p side trace z s l G P going door at holds meets =
     (subst (λ (o : Option _). EndsBy o follows.reached) (sym going)
     (ap (λ (m : Control). m.over)
     (inner_control G p.control.config at.next follows.reached follows.more follows.leads ∙ at.control)
-    ∙ runs_on p s.machine s.ends going))
+    ∙ runs_on p s.machine s.ends going)) refl
 
 -- WHAT STIRRED
 

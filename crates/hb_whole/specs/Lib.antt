@@ -1,3 +1,4 @@
+pub mod Acting
 pub mod Judged
 pub mod Queue
 pub mod Sight

@@ -1,5 +1,5 @@
 -- The traces that the whole proxy stands for.
-use Rattle.std.specs.Prelude.{⊤, ⊥, ◌≡◌, ◌⊎◌, ℕ, true, false, List, ◌++◌, Option, Some, None}
+use Rattle.std.specs.Prelude.{⊤, ◌≡◌, ◌⊎◌, ℕ, true, false, List, ◌++◌, Option, Some, None}
 use Rattle.hb_base.specs.declared.cause.Cause.{Cause}
 use Rattle.hb_base.specs.declared.door.Why.{Why}
 use Rattle.hb_base.specs.declared.door.Why.TheVariants as whys
@@ -81,3 +81,4 @@ pub record Stands (taken : List Note) (p : Proxy) (trace : List Entry) : Type 0 
   pub noted : AreNotes taken (told p.side.notes) points
   pub dial : MayBeDialled p.control.config machine p.dials
   pub ends : EndsBy p.ends_for machine
+  pub sound : p.strange ≡ false

@@ -2,6 +2,7 @@
 
 ghost use Rattle.std.specs.Prelude.{◌≡◌, ◌++◌, [], Some, IfOk, IfNone};
 ghost use Rattle.std.specs.Option.{option_to_list};
+ghost use Rattle.hb_base.specs.declared.note.Note.TheVariants as note;
 ghost use Rattle.hb_whole.specs.Queue.{told, waiting, Adds};
 
 use hb_base::{Cause, NoMemory, Note, Peer, Target};

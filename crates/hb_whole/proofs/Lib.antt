@@ -1,0 +1,10 @@
+pub mod Growing
+pub mod Free
+pub mod Routes
+pub mod ControlMay
+pub mod LinkMay
+pub mod Guards
+pub mod Telling
+pub mod Controlling
+pub mod Heard
+pub mod Resting
