@@ -108,167 +108,169 @@ act_may_come k x l z shows rests is birth = record {
 
 -- WHAT AN ACT DOES
 
--- a part of a link comes, and nothing happens by itself behind it
-module _ (k : Links) (l : ℕ) (p : Part) (links : Map) (now : Option Link) (ups : Index) (g : NodeConfig) (x : Machine)
-    (points : List Point) (stands : StandsFor g x points) (shows : ShowsAll k x.inbound) (is : get links l ≡ now)
-    (same : (j : ℕ) → j ≢ l → get links j ≡ get k.links j) where
-  pub does : (b : Local) → inbound.Steps l (local x l) p b → b ≡ with_link b.link (local x l) → LinkGuard x l p → l < 2 ^ 64
-      → ShowsLink l now b.link → Indexes ups x.inbound l p → Does (touched l (links_with links ups k)) g x l p
-  does b step b_is guard narrow shown index =
-      let y = with_part l p b.link x in
-      let link_is : y.inbound l ≡ b.link = ap (λ (a : Local). a.link) (here x l p b.link) in
-      record {
-        y = y;
-        steps = (b.link, subst (inbound.Steps l (local x l) p) b_is step, guard, refl);
-        shows = shown_then k l p links now ups x shows is same y.inbound narrow
-            (subst (λ (w : Inbound). ShowsLink l now w) (sym link_is) shown)
-            (there x l p b.link)
-            (λ s. ap (λ (w : Inbound). up_now (w.tunnels s)) link_is
-            ∙ ups_then reaching.unguarded l (at_start g) (local x l) b b (parts_of l points) p [] (links_run g x points l stands)
-            step refl s)
-            index;
-      }
-
 turned : (y : Inbound) (a b : Local) → b ≡ with_link y a → b ≡ with_link b.link a
 turned y a b is = is ∙ ap (λ (z : Inbound). with_link z a) (sym (ap (λ (c : Local). c.link) is))
 
-module _ (k : Links) (l : ℕ) (old new : Link) (is : get k.links l ≡ Some old) (numbered : new.number ≡ old.number)
-    (g : NodeConfig) (x : Machine) (points : List Point) (stands : StandsFor g x points) (shows : ShowsAll k x.inbound)
-    (rests : ControlRests x.control) where
-  shown : ShowsLink l (Some old) (x.inbound l)
-  shown = subst (λ (o : Option Link). ShowsLink l o (x.inbound l)) is (shows.links l)
+-- where so many of its tunnels took a place before
+module _ (before : ℕ) where
+  -- a part of a link comes, and nothing happens by itself behind it
+  module _ (k : Links) (l : ℕ) (p : Part) (links : Map) (now : Option Link) (ups : Index) (g : NodeConfig) (x : Machine)
+      (points : List Point) (stands : StandsFor g x points) (shows : ShowsAll k x.inbound) (is : get links l ≡ now)
+      (same : (j : ℕ) → j ≢ l → get links j ≡ get k.links j) where
+    pub does : (b : Local) → inbound.Steps l (local x l) p b → b ≡ with_link b.link (local x l) → LinkGuard x l p → l < 2 ^ 64
+        → ShowsLink l now b.link → Indexes ups x.inbound l p → Does (touched l before (links_with links ups k)) g x l p
+    does b step b_is guard narrow shown index =
+        let y = with_part l p b.link x in
+        let link_is : y.inbound l ≡ b.link = ap (λ (a : Local). a.link) (here x l p b.link) in
+        record {
+          y = y;
+          steps = (b.link, subst (inbound.Steps l (local x l) p) b_is step, guard, refl);
+          shows = shown_then before k l p links now ups x shows is same y.inbound narrow
+              (subst (λ (w : Inbound). ShowsLink l now w) (sym link_is) shown)
+              (there x l p b.link)
+              (λ s. ap (λ (w : Inbound). up_now (w.tunnels s)) link_is
+              ∙ ups_then reaching.unguarded l (at_start g) (local x l) b b (parts_of l points) p [] (links_run g x points l stands)
+              step refl s)
+              index;
+        }
 
-  narrow : l < 2 ^ 64
-  narrow = shows.numbered l (ap is_some is)
+  module _ (k : Links) (l : ℕ) (old new : Link) (is : get k.links l ≡ Some old) (numbered : new.number ≡ old.number)
+      (g : NodeConfig) (x : Machine) (points : List Point) (stands : StandsFor g x points) (shows : ShowsAll k x.inbound)
+      (rests : ControlRests x.control) where
+    shown : ShowsLink l (Some old) (x.inbound l)
+    shown = subst (λ (o : Option Link). ShowsLink l o (x.inbound l)) is (shows.links l)
 
-  -- what the code does at the link's own number it does here
-  at_link : (p : Part) → link.Does p old new → (b : Local) × inbound.Steps l (local x l) p b × Shows new b.link
-  at_link p it =
-      let one = it (local x l) shown.1 in
-      (one.0, subst (λ (i : ℕ). inbound.Steps i (local x l) p one.0) shown.0 one.1, one.2)
+    narrow : l < 2 ^ 64
+    narrow = shows.numbered l (ap is_some is)
 
-  shut : (s u : ℕ) → link.Does (part.up s (e.Shut u)) old new
-      → Does (touched l (links_with (insert k.links l new) k.ups k)) g x l (part.up s (e.Shut u))
-  shut s u it =
-      let one = at_link (part.up s (e.Shut u)) it in
-      does k l (part.up s (e.Shut u)) (insert k.links l new) (Some new) k.ups g x points stands shows (put_here k.links l new)
-      (put_elsewhere k.links l new) one.0 one.1 (turned _ (local x l) one.0 one.1.1)
-      (act_may_come k x l (e.Shut u) shows rests refl tt) narrow (numbered ∙ shown.0, one.2)
-      (leaves_index k.ups x.inbound l (part.up s (e.Shut u)) (λ v. refl) shows.index)
+    -- what the code does at the link's own number it does here
+    at_link : (p : Part) → link.Does p old new → (b : Local) × inbound.Steps l (local x l) p b × Shows new b.link
+    at_link p it =
+        let one = it (local x l) shown.1 in
+        (one.0, subst (λ (i : ℕ). inbound.Steps i (local x l) p one.0) shown.0 one.1, one.2)
 
-  -- the upstream that is closed was the tunnel's
-  was_joined : (s u : ℕ) (cause : Cause) (b : Local) → inbound.Steps l (local x l) (part.up s (e.Closed u cause)) b
-      → Joins ((x.inbound l).tunnels s) u
-  was_joined s u cause b step =
-      let tunnel = (x.inbound l).tunnels s in
-      let is_up : up_now tunnel ≡ u = ap (λ (stage : t.Stage). up_by stage tunnel) step.0.1 ∙ step.0.2 in
-      (some_up tunnel.up step.0.2, is_up)
-    where
-      owned : whose_in points ((x.inbound l).tunnels s).up ≡ upstream_of l s
-      owned = subst (λ (stage : t.Stage). OwnsBy stage (whose_in points) l s ((x.inbound l).tunnels s).up) step.0.1
-          ((all_owned g x points stands).up l s)
+    shut : (s u : ℕ) → link.Does (part.up s (e.Shut u)) old new
+        → Does (touched l before (links_with (insert k.links l new) k.ups k)) g x l (part.up s (e.Shut u))
+    shut s u it =
+        let one = at_link (part.up s (e.Shut u)) it in
+        does k l (part.up s (e.Shut u)) (insert k.links l new) (Some new) k.ups g x points stands shows (put_here k.links l new)
+        (put_elsewhere k.links l new) one.0 one.1 (turned _ (local x l) one.0 one.1.1)
+        (act_may_come k x l (e.Shut u) shows rests refl tt) narrow (numbered ∙ shown.0, one.2)
+        (leaves_index k.ups x.inbound l (part.up s (e.Shut u)) (λ v. refl) shows.index)
 
-      some_up : (v : ℕ) → v ≡ u → 0 < u
-      some_up v v_is = by u refl
-        where
-          by : (w : ℕ) → u ≡ w → 0 < w
-          by zero none = absurd (let both : nobody ≡ upstream_of l s = sym (all_owned g x points stands).none
-              ∙ ap (whose_in points) (sym (step.0.2 ∙ none)) ∙ owned in cc)
-          by (suc w) some = omega arith
+    -- the upstream that is closed was the tunnel's
+    was_joined : (s u : ℕ) (cause : Cause) (b : Local) → inbound.Steps l (local x l) (part.up s (e.Closed u cause)) b
+        → Joins ((x.inbound l).tunnels s) u
+    was_joined s u cause b step =
+        let tunnel = (x.inbound l).tunnels s in
+        let is_up : up_now tunnel ≡ u = ap (λ (stage : t.Stage). up_by stage tunnel) step.0.1 ∙ step.0.2 in
+        (some_up tunnel.up step.0.2, is_up)
+      where
+        owned : whose_in points ((x.inbound l).tunnels s).up ≡ upstream_of l s
+        owned = subst (λ (stage : t.Stage). OwnsBy stage (whose_in points) l s ((x.inbound l).tunnels s).up) step.0.1
+            ((all_owned g x points stands).up l s)
 
-  close_up : (s u : ℕ) (cause : Cause) → link.Does (part.up s (e.Closed u cause)) old new
-      → Does (touched l (links_with (insert k.links l new) (remove k.ups u) k)) g x l (part.up s (e.Closed u cause))
-  close_up s u cause it =
-      let one = at_link (part.up s (e.Closed u cause)) it in
-      does k l (part.up s (e.Closed u cause)) (insert k.links l new) (Some new) (remove k.ups u) g x points stands shows
-      (put_here k.links l new) (put_elsewhere k.links l new) one.0 one.1 (turned _ (local x l) one.0 one.1.1)
-      (act_may_come k x l (e.Closed u cause) shows rests refl tt) narrow (numbered ∙ shown.0, one.2)
-      (λ z others ups. closed x.inbound z l s 0 others ups u refl (was_joined s u cause one.0 one.1) k.ups shows.index)
+        some_up : (v : ℕ) → v ≡ u → 0 < u
+        some_up v v_is = by u refl
+          where
+            by : (w : ℕ) → u ≡ w → 0 < w
+            by zero none = absurd (let both : nobody ≡ upstream_of l s = sym (all_owned g x points stands).none
+                ∙ ap (whose_in points) (sym (step.0.2 ∙ none)) ∙ owned in cc)
+            by (suc w) some = omega arith
 
-  close_own : (cause : Cause) → ((s : ℕ) → get new.tunnels s ≡ None) → link.Does (part.entry (e.Closed l cause)) old new
-      → Does (touched l (links_with (remove (insert k.links l new) l) k.ups k)) g x l (part.entry (e.Closed l cause))
-  close_own cause none it =
-      let one = at_link (part.entry (e.Closed l cause)) it in
-      let phase : one.0.link.phase ≡ m.closed = ap (λ (a : Local). a.link.phase) one.1.1 in
-      does k l (part.entry (e.Closed l cause)) (remove (insert k.links l new) l) None k.ups g x points stands shows
-      (removed_here (insert k.links l new) l)
-      (λ j apart. removed_elsewhere (insert k.links l new) l j apart ∙ put_elsewhere k.links l new j apart)
-      one.0 one.1 (turned _ (local x l) one.0 one.1.1)
-      (act_may_come k x l (e.Closed l cause) shows rests refl tt) narrow (
-        subst IsAway (sym phase) tt,
-        λ s. subst (λ (o : _). ShowsTunnel o (one.0.link.tunnels s)) (none s) (one.2.tunnels s),
-      )
-      (leaves_index k.ups x.inbound l (part.entry (e.Closed l cause)) tt shows.index)
+    close_up : (s u : ℕ) (cause : Cause) → link.Does (part.up s (e.Closed u cause)) old new
+        → Does (touched l before (links_with (insert k.links l new) (remove k.ups u) k)) g x l (part.up s (e.Closed u cause))
+    close_up s u cause it =
+        let one = at_link (part.up s (e.Closed u cause)) it in
+        does k l (part.up s (e.Closed u cause)) (insert k.links l new) (Some new) (remove k.ups u) g x points stands shows
+        (put_here k.links l new) (put_elsewhere k.links l new) one.0 one.1 (turned _ (local x l) one.0 one.1.1)
+        (act_may_come k x l (e.Closed u cause) shows rests refl tt) narrow (numbered ∙ shown.0, one.2)
+        (λ z others ups. closed x.inbound z l s 0 others ups u refl (was_joined s u cause one.0 one.1) k.ups shows.index)
 
-  -- a dial changes nothing
-  dials : new ≡ old → ShowsAll (touched l (links_with (insert k.links l new) k.ups k)) x.inbound
-  dials unchanged =
-      shown_then k l part.welcomed (insert k.links l new) (Some new) k.ups x shows (put_here k.links l new) (put_elsewhere k.links l new)
-      x.inbound narrow (subst (λ (w : Link). ShowsLink l (Some w) (x.inbound l)) (sym unchanged) shown) (λ j apart. refl) (λ s. refl)
-      (leaves_index k.ups x.inbound l part.welcomed tt shows.index)
+    close_own : (cause : Cause) → ((s : ℕ) → get new.tunnels s ≡ None) → link.Does (part.entry (e.Closed l cause)) old new
+        → Does (touched l before (links_with (remove (insert k.links l new) l) k.ups k)) g x l (part.entry (e.Closed l cause))
+    close_own cause none it =
+        let one = at_link (part.entry (e.Closed l cause)) it in
+        let phase : one.0.link.phase ≡ m.closed = ap (λ (a : Local). a.link.phase) one.1.1 in
+        does k l (part.entry (e.Closed l cause)) (remove (insert k.links l new) l) None k.ups g x points stands shows
+        (removed_here (insert k.links l new) l)
+        (λ j apart. removed_elsewhere (insert k.links l new) l j apart ∙ put_elsewhere k.links l new j apart)
+        one.0 one.1 (turned _ (local x l) one.0 one.1.1)
+        (act_may_come k x l (e.Closed l cause) shows rests refl tt) narrow (
+          subst IsAway (sym phase) tt,
+          λ s. subst (λ (o : _). ShowsTunnel o (one.0.link.tunnels s)) (none s) (one.2.tunnels s),
+        )
+        (leaves_index k.ups x.inbound l (part.entry (e.Closed l cause)) tt shows.index)
 
-  -- a link isn't the upstream of one of its tunnels
-  not_own : (s : ℕ) → Joins ((x.inbound l).tunnels s) l → ⊥
-  not_own s joins =
-      let own : whose_in points l ≡ inbound_link = (all_owned g x points stands).link l (born_by old.phase shown.1.phase) in
-      let both : inbound_link ≡ upstream_of l s = sym own ∙ owner_is g x points stands l s l joins in
-      cc
-    where
-      born_by : (phase : Phase) → (x.inbound l).phase ≡ phase_of phase → is_born (x.inbound l).phase ≡ true
-      born_by phases.Fronting at = ap is_born at
-      born_by phases.Serving at = ap is_born at
-      born_by (phases.Faulted code) at = ap is_born at
-      born_by (phases.Closing why) at = ap is_born at
-      born_by phases.Closed at = ap is_born at
+    -- a dial changes nothing
+    dials : new ≡ old → ShowsAll (touched l before (links_with (insert k.links l new) k.ups k)) x.inbound
+    dials unchanged =
+        shown_then before k l part.welcomed (insert k.links l new) (Some new) k.ups x shows (put_here k.links l new) (put_elsewhere k.links l new)
+        x.inbound narrow (subst (λ (w : Link). ShowsLink l (Some w) (x.inbound l)) (sym unchanged) shown) (λ j apart. refl) (λ s. refl)
+        (leaves_index k.ups x.inbound l part.welcomed tt shows.index)
 
-  abbrev After : Act → Links
-  After due = finished l due (links_with (insert k.links l new) k.ups k)
+    -- a link isn't the upstream of one of its tunnels
+    not_own : (s : ℕ) → Joins ((x.inbound l).tunnels s) l → ⊥
+    not_own s joins =
+        let own : whose_in points l ≡ inbound_link = (all_owned g x points stands).link l (born_by old.phase shown.1.phase) in
+        let both : inbound_link ≡ upstream_of l s = sym own ∙ owner_is g x points stands l s l joins in
+        cc
+      where
+        born_by : (phase : Phase) → (x.inbound l).phase ≡ phase_of phase → is_born (x.inbound l).phase ≡ true
+        born_by phases.Fronting at = ap is_born at
+        born_by phases.Serving at = ap is_born at
+        born_by (phases.Faulted code) at = ap is_born at
+        born_by (phases.Closing why) at = ap is_born at
+        born_by phases.Closed at = ap is_born at
 
-  closed_here : (u : ℕ) → u ≡ l
-      → closed_by l u (links_with (insert k.links l new) k.ups k) ≡ links_with (remove (insert k.links l new) l) k.ups k
-  closed_here u at =
-      ap (λ (b : Bool). cond b (links_with (remove (insert k.links l new) l) k.ups k)
-      (links_with (insert k.links l new) (remove k.ups u) k)) (eq-eqb u l at)
+    abbrev After : Act → Links
+    After due = finished l due before (links_with (insert k.links l new) k.ups k)
 
-  closed_there : (u : ℕ) → u ≢ l
-      → closed_by l u (links_with (insert k.links l new) k.ups k) ≡ links_with (insert k.links l new) (remove k.ups u) k
-  closed_there u apart =
-      ap (λ (b : Bool). cond b (links_with (remove (insert k.links l new) l) k.ups k)
-      (links_with (insert k.links l new) (remove k.ups u) k)) (ne_eqb u l apart)
+    closed_here : (u : ℕ) → u ≡ l
+        → closed_by l u (links_with (insert k.links l new) k.ups k) ≡ links_with (remove (insert k.links l new) l) k.ups k
+    closed_here u at =
+        ap (λ (b : Bool). cond b (links_with (remove (insert k.links l new) l) k.ups k)
+        (links_with (insert k.links l new) (remove k.ups u) k)) (eq-eqb u l at)
 
-  acts : (due : Act) → link.Acts (Some due) old new → ActsOn (Some due) (After due) g x
-  acts (act.Dial to why) it = (
-    dials it.0,
-    l,
-    it.1,
-    it.2 ∙ ap (λ (i : ℕ). whys.Upstream i it.1) shown.0,
-    (it.4 (x.inbound l) shown.1).0,
-    (it.4 (x.inbound l) shown.1).1,
-  )
-  acts (act.Shut u) it = (l, it.0, shut it.0 u it.2)
-  acts (act.Close u cause) it = ⊎_elim
-      (λ own. inl (close_at_own own.0 own.1 own.2))
-      (λ up. inr (l, up.0, close_at_up up.0 up.2)) it
-    where
-      close_at_own : u ≡ old.number → ((s : ℕ) → get new.tunnels s ≡ None) → link.Does (part.entry (e.Closed u cause)) old new
-          → Does (After (act.Close u cause)) g x u (part.entry (e.Closed u cause))
-      close_at_own at none does_so =
-          let here_is : u ≡ l = at ∙ shown.0 in
-          subst (λ (w : Links). Does (touched l w) g x u (part.entry (e.Closed u cause))) (sym (closed_here u here_is))
-          (subst (λ (i : ℕ). Does (touched l (links_with (remove (insert k.links l new) l) k.ups k)) g x i (part.entry (e.Closed i cause)))
-          (sym here_is)
-          (close_own cause none (subst (λ (i : ℕ). link.Does (part.entry (e.Closed i cause)) old new) here_is does_so)))
+    closed_there : (u : ℕ) → u ≢ l
+        → closed_by l u (links_with (insert k.links l new) k.ups k) ≡ links_with (insert k.links l new) (remove k.ups u) k
+    closed_there u apart =
+        ap (λ (b : Bool). cond b (links_with (remove (insert k.links l new) l) k.ups k)
+        (links_with (insert k.links l new) (remove k.ups u) k)) (ne_eqb u l apart)
 
-      close_at_up : (s : ℕ) → link.Does (part.up s (e.Closed u cause)) old new
-          → Does (After (act.Close u cause)) g x l (part.up s (e.Closed u cause))
-      close_at_up s does_so =
-          let one = at_link (part.up s (e.Closed u cause)) does_so in
-          let joins = was_joined s u cause one.0 one.1 in
-          subst (λ (w : Links). Does (touched l w) g x l (part.up s (e.Closed u cause)))
-          (sym (closed_there u (λ same. not_own s (subst (Joins ((x.inbound l).tunnels s)) same joins))))
-          (close_up s u cause does_so)
+    acts : (due : Act) → link.Acts (Some due) old new → ActsOn (Some due) (After due) g x
+    acts (act.Dial to why) it = (
+      dials it.0,
+      l,
+      it.1,
+      it.2 ∙ ap (λ (i : ℕ). whys.Upstream i it.1) shown.0,
+      (it.4 (x.inbound l) shown.1).0,
+      (it.4 (x.inbound l) shown.1).1,
+    )
+    acts (act.Shut u) it = (l, it.0, shut it.0 u it.2)
+    acts (act.Close u cause) it = ⊎_elim
+        (λ own. inl (close_at_own own.0 own.1 own.2))
+        (λ up. inr (l, up.0, close_at_up up.0 up.2)) it
+      where
+        close_at_own : u ≡ old.number → ((s : ℕ) → get new.tunnels s ≡ None) → link.Does (part.entry (e.Closed u cause)) old new
+            → Does (After (act.Close u cause)) g x u (part.entry (e.Closed u cause))
+        close_at_own at none does_so =
+            let here_is : u ≡ l = at ∙ shown.0 in
+            subst (λ (w : Links). Does (touched l before w) g x u (part.entry (e.Closed u cause))) (sym (closed_here u here_is))
+            (subst (λ (i : ℕ). Does (touched l before (links_with (remove (insert k.links l new) l) k.ups k)) g x i (part.entry (e.Closed i cause)))
+            (sym here_is)
+            (close_own cause none (subst (λ (i : ℕ). link.Does (part.entry (e.Closed i cause)) old new) here_is does_so)))
 
-pub acts_on : (k : Links) (l : ℕ) (old new : Link) (due : Act) → get k.links l ≡ Some old → new.number ≡ old.number
-    → link.Acts (Some due) old new → Acts (Some due) k (finished l due (links_with (insert k.links l new) k.ups k))
-acts_on k l old new due is numbered it g x points stands shows rests =
-    acts k l old new is numbered g x points stands shows rests due it
+        close_at_up : (s : ℕ) → link.Does (part.up s (e.Closed u cause)) old new
+            → Does (After (act.Close u cause)) g x l (part.up s (e.Closed u cause))
+        close_at_up s does_so =
+            let one = at_link (part.up s (e.Closed u cause)) does_so in
+            let joins = was_joined s u cause one.0 one.1 in
+            subst (λ (w : Links). Does (touched l before w) g x l (part.up s (e.Closed u cause)))
+            (sym (closed_there u (λ same. not_own s (subst (Joins ((x.inbound l).tunnels s)) same joins))))
+            (close_up s u cause does_so)
+
+  pub acts_on : (k : Links) (l : ℕ) (old new : Link) (due : Act) → get k.links l ≡ Some old → new.number ≡ old.number
+      → link.Acts (Some due) old new → Acts (Some due) k (finished l due before (links_with (insert k.links l new) k.ups k))
+  acts_on k l old new due is numbered it g x points stands shows rests =
+      acts k l old new is numbered g x points stands shows rests due it

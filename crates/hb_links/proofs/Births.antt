@@ -32,60 +32,62 @@ use Rattle.hb_links.proofs.Indexing.{born, is_new}
 use Rattle.hb_links.proofs.Lifted.{here, there}
 use Rattle.hb_links.proofs.Showing.{links_with, reaches, leaves_index, lifts, lifts_with, shown_then}
 
-pub begins : (k : Links) (n : ℕ) (new : Link) → n < 2 ^ 64 → calls.Begins n new → new.number ≡ n
-    → Begins n k (touched n (links_with (insert k.links n new) k.ups k))
-begins k n new narrow starts number g x y points stands shows holds steps =
-    reaches link.unguarded g k n (part.entry (e.Accepted n door.Inbound)) new k.ups (Some []) (Some []) x y points stands shows steps number narrow
-    (starts (at_start g) (parts_of n points) (local x n) (with_link steps.0 (local x n)) (links_run g x points n stands) steps.1)
-    (leaves_index k.ups x.inbound n (part.entry (e.Accepted n door.Inbound)) tt shows.index)
+-- where so many of its tunnels took a place before
+module _ (before : ℕ) where
+  pub begins : (k : Links) (n : ℕ) (new : Link) → n < 2 ^ 64 → calls.Begins n new → new.number ≡ n
+      → Begins n k (touched n before (links_with (insert k.links n new) k.ups k))
+  begins k n new narrow starts number g x y points stands shows holds steps =
+      reaches before link.unguarded g k n (part.entry (e.Accepted n door.Inbound)) new k.ups (Some []) (Some []) x y points stands shows steps number narrow
+      (starts (at_start g) (parts_of n points) (local x n) (with_link steps.0 (local x n)) (links_run g x points n stands) steps.1)
+      (leaves_index k.ups x.inbound n (part.entry (e.Accepted n door.Inbound)) tt shows.index)
 
--- a link is turned away
-pub turns : (k : Links) (n : ℕ) (new : Link) → n < 2 ^ 64 → calls.TurnsAway n new → new.number ≡ n
-    → TurnsAway n k (touched n (links_with (insert k.links n new) k.ups k))
-turns k n new narrow away number g x y points stands shows steps =
-    let a = local x n in
-    let b = with_link steps.0 a in
-    let came = part.entry (e.Accepted n door.Inbound) in
-    let behind : local y n ≡ b = ap (λ (w : Machine). local w n) steps.3 ∙ here x n came steps.0 in
-    let one = away (at_start g) (parts_of n points) a b (links_run g x points n stands) steps.1 in
-    let c = one.0 in
-    let c_is : c ≡ with_link c.link b = one.1.1 ∙ ap (λ (z : Inbound). with_link z b) (sym (ap (λ (d : Local). d.link) one.1.1)) in
-    let z = with_part n part.crowded c.link y in
-    let link_is : z.inbound n ≡ c.link = ap (λ (d : Local). d.link) (here y n part.crowded c.link) in (
-      z,
-      (
-        c.link,
-        subst (λ (d : Local). inbound.Steps n d part.crowded (with_link c.link d)) (sym behind)
-            (subst (λ (d : Local). inbound.Steps n b part.crowded d) c_is one.1),
-        tt,
-        refl,
-      ),
-      shown_then k n part.crowded (insert k.links n new) (Some new) k.ups x shows (put_here k.links n new) (put_elsewhere k.links n new)
-          z.inbound narrow (number, subst (Shows new) (sym link_is) one.2)
-          (λ m apart. there y n part.crowded c.link m apart ∙ ap (λ (w : Machine). w.inbound m) steps.3
-          ∙ there x n came steps.0 m apart)
-          (λ s. ap (λ (w : Inbound). up_now (w.tunnels s)) link_is
-          ∙ ap (λ (d : Local). up_now (d.link.tunnels s)) one.1.1
-          ∙ ap (λ (d : Local). up_now (d.link.tunnels s)) steps.1.1)
-          (leaves_index k.ups x.inbound n part.crowded tt shows.index),
-    )
+  -- a link is turned away
+  pub turns : (k : Links) (n : ℕ) (new : Link) → n < 2 ^ 64 → calls.TurnsAway n new → new.number ≡ n
+      → TurnsAway n k (touched n before (links_with (insert k.links n new) k.ups k))
+  turns k n new narrow away number g x y points stands shows steps =
+      let a = local x n in
+      let b = with_link steps.0 a in
+      let came = part.entry (e.Accepted n door.Inbound) in
+      let behind : local y n ≡ b = ap (λ (w : Machine). local w n) steps.3 ∙ here x n came steps.0 in
+      let one = away (at_start g) (parts_of n points) a b (links_run g x points n stands) steps.1 in
+      let c = one.0 in
+      let c_is : c ≡ with_link c.link b = one.1.1 ∙ ap (λ (z : Inbound). with_link z b) (sym (ap (λ (d : Local). d.link) one.1.1)) in
+      let z = with_part n part.crowded c.link y in
+      let link_is : z.inbound n ≡ c.link = ap (λ (d : Local). d.link) (here y n part.crowded c.link) in (
+        z,
+        (
+          c.link,
+          subst (λ (d : Local). inbound.Steps n d part.crowded (with_link c.link d)) (sym behind)
+              (subst (λ (d : Local). inbound.Steps n b part.crowded d) c_is one.1),
+          tt,
+          refl,
+        ),
+        shown_then before k n part.crowded (insert k.links n new) (Some new) k.ups x shows (put_here k.links n new) (put_elsewhere k.links n new)
+            z.inbound narrow (number, subst (Shows new) (sym link_is) one.2)
+            (λ m apart. there y n part.crowded c.link m apart ∙ ap (λ (w : Machine). w.inbound m) steps.3
+            ∙ there x n came steps.0 m apart)
+            (λ s. ap (λ (w : Inbound). up_now (w.tunnels s)) link_is
+            ∙ ap (λ (d : Local). up_now (d.link.tunnels s)) one.1.1
+            ∙ ap (λ (d : Local). up_now (d.link.tunnels s)) steps.1.1)
+            (leaves_index k.ups x.inbound n part.crowded tt shows.index),
+      )
 
-pub dials : (k : Links) (l s u : ℕ) (old new : Link) → get k.links l ≡ Some old
-    → ((to : Target) (why : Why) → calls.UpEnters s (e.Dialled u to why) old (Some []) new (Some []))
-    → Dials l s u k (touched l (links_with (insert k.links l new) (insert k.ups u (place l s)) k))
-dials k l s u old new is enters to why =
-    lifts_with link.unguarded (λ a. ⊤) k l old new (insert k.ups u (place l s)) (Some []) (Some []) (λ i. part.up s (e.Dialled u to why)) is
-    (λ g x y points stands shows steps z others ups.
-    born x.inbound z l s u others ups k.ups shows.index steps.1.0.2.0
-    (ap (λ (stage : t.Stage). up_by stage ((x.inbound l).tunnels s)) steps.1.0.1)
-    (is_new g x points stands u steps.2.birth))
-    (enters to why)
+  pub dials : (k : Links) (l s u : ℕ) (old new : Link) → get k.links l ≡ Some old
+      → ((to : Target) (why : Why) → calls.UpEnters s (e.Dialled u to why) old (Some []) new (Some []))
+      → Dials l s u k (touched l before (links_with (insert k.links l new) (insert k.ups u (place l s)) k))
+  dials k l s u old new is enters to why =
+      lifts_with before link.unguarded (λ a. ⊤) k l old new (insert k.ups u (place l s)) (Some []) (Some []) (λ i. part.up s (e.Dialled u to why)) is
+      (λ g x y points stands shows steps z others ups.
+      born x.inbound z l s u others ups k.ups shows.index steps.1.0.2.0
+      (ap (λ (stage : t.Stage). up_by stage ((x.inbound l).tunnels s)) steps.1.0.1)
+      (is_new g x points stands u steps.2.birth))
+      (enters to why)
 
-pub fails : (k : Links) (l s : ℕ) (old new : Link) (told now : Told) → get k.links l ≡ Some old
-    → ((to : Target) (why : Why) → calls.UpEnters s (e.DialFailed to why) old told new now)
-    → DialFails l s k told (touched l (links_with (insert k.links l new) k.ups k)) now
-fails k l s old new told now is enters to why =
-    lifts link.unguarded (λ a. ⊤) k l old new told now (λ i. part.up s (e.DialFailed to why)) is (λ u. refl) (enters to why)
+  pub fails : (k : Links) (l s : ℕ) (old new : Link) (told now : Told) → get k.links l ≡ Some old
+      → ((to : Target) (why : Why) → calls.UpEnters s (e.DialFailed to why) old told new now)
+      → DialFails l s k told (touched l before (links_with (insert k.links l new) k.ups k)) now
+  fails k l s old new told now is enters to why =
+      lifts before link.unguarded (λ a. ⊤) k l old new told now (λ i. part.up s (e.DialFailed to why)) is (λ u. refl) (enters to why)
 
 -- none stand for no birth
 pub none_shown : (k : Links) → ((l : ℕ) → get k.links l ≡ None) → ((u : ℕ) → get k.ups u ≡ None) → ShowsAll k (λ l. no_link)

@@ -31,8 +31,8 @@ due_by (Some n) from l m is = by (n == l) refl
         let below = below_least from l m parts.1 in
         (below.0, or_from (n == m) (is_from from m) parts.0 below.1)
 
-pub due_then : (k : Links) (l m : ℕ) → may_be_due (touched l k) m ≡ false → (m ≢ l) × (may_be_due k m ≡ false)
-due_then k l m is = due_by k.busy k.from l m is
+pub due_then : (k : Links) (l before m : ℕ) → may_be_due (touched l before k) m ≡ false → (m ≢ l) × (may_be_due k m ≡ false)
+due_then k l before m is = due_by k.busy k.from l m is
 
 -- where none may have one, none has
 idle_by : (busy from : Option ℕ) (l : ℕ) → (not (is_some busy) && not (is_some from)) ≡ true → (is_at busy l || is_from from l) ≡ false

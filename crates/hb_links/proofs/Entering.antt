@@ -48,44 +48,6 @@ module _ (k : Links) (n : ℕ) (z : Entry) (q : Point) (is : point_for k n z ≡
       ∙ ap (λ (o : Option Link). point_by None o n z) nothing) ∙ is in
       cc
 
--- of a tunnel whose upstream it is; of a link
-pub up_enters : (k : Links) (n : ℕ) (z : Entry) (at : Place) (old new : Link) (told now : Told) → get k.ups n ≡ Some at
-    → get k.links at.link ≡ Some old → LeavesUp (part.up at.stream z) → calls.UpEnters at.stream z old told new now
-    → Enters n z k told (touched at.link (links_with (insert k.links at.link new) k.ups k)) now
-up_enters k n z at old new told now found is leaves enters q point =
-    subst (λ (w : Point). Meets unguarded (λ m. ⊤) w k told (touched at.link (links_with (insert k.links at.link new) k.ups k)) now)
-    (sym (up_point k n z q point at found))
-    (lifts link.unguarded (λ a. ⊤) k at.link old new told now (λ i. part.up at.stream z) is leaves enters)
-
-pub own_enters : (k : Links) (n : ℕ) (z : ℕ → Entry) (old new : Link) (told now : Told) → get k.ups n ≡ None
-    → get k.links n ≡ Some old → calls.Enters (z old.number) old told new now
-    → Enters n (z n) k told (touched n (links_with (insert k.links n new) k.ups k)) now
-own_enters k n z old new told now none is enters q point =
-    subst (λ (w : Point). Meets unguarded (λ m. ⊤) w k told (touched n (links_with (insert k.links n new) k.ups k)) now)
-    (sym (own_point k n (z n) q point old none is))
-    (lifts link.unguarded (λ a. ⊤) k n old new told now (λ i. part.entry (z i)) is tt enters)
-
--- the same, as the code comes to it
-pub changed : (k n : Links) (links : Map) (l : ℕ) (old new : Link) → n ≡ touched l (links_with links k.ups k)
-    → links ≡ written k.links l new → get k.links l ≡ Some old → n ≡ touched l (links_with (insert k.links l new) k.ups k)
-changed k n links l old new n_is links_is is =
-    n_is ∙ ap (λ (m : Map). touched l (links_with m k.ups k)) (links_is ∙ written_where_some k.links l new (ap is_some is))
-
-pub up_told : (k n : Links) (links : Map) (u : ℕ) (z : Entry) (at : Place) (old new : Link) (told now : Told)
-    → n ≡ touched at.link (links_with links k.ups k) → links ≡ written k.links at.link new → get k.ups u ≡ Some at
-    → get k.links at.link ≡ Some old → LeavesUp (part.up at.stream z) → calls.UpEnters at.stream z old told new now
-    → Enters u z k told n now
-up_told k n links u z at old new told now n_is links_is found is leaves enters =
-    subst (λ (m : Links). Enters u z k told m now) (sym (changed k n links at.link old new n_is links_is is))
-    (up_enters k u z at old new told now found is leaves enters)
-
-pub own_told : (k n : Links) (links : Map) (l : ℕ) (z : ℕ → Entry) (old new : Link) (told now : Told)
-    → n ≡ touched l (links_with links k.ups k) → links ≡ written k.links l new → get k.ups l ≡ None
-    → get k.links l ≡ Some old → calls.Enters (z old.number) old told new now → Enters l (z l) k told n now
-own_told k n links l z old new told now n_is links_is none is enters =
-    subst (λ (m : Links). Enters l (z l) k told m now) (sym (changed k n links l old new n_is links_is is))
-    (own_enters k l z old new told now none is enters)
-
 -- bytes that came on an upstream make no note
 quiet : (G : link.Guard) (P : Local → Type 0) (p : Part) (old new : Link) (told : Told) → link.Meets G P p old (Some []) new (Some [])
     → link.Meets G P p old told new told
@@ -101,31 +63,71 @@ quiet G P p old new told meets start before a b stands shows holds step =
       },
     )
 
--- bytes came on the link of a number
-pub up_takes : (k n : Links) (links : Map) (u : ℕ) (bytes : List ℕ) (at : Place) (old new : Link) (told : Told)
-    (held : Resources) (others limit : ℕ) → n ≡ touched at.link (links_with links k.ups k) → links ≡ written k.links at.link new
-    → get k.ups u ≡ Some at → get k.links at.link ≡ Some old → calls.UpEnters at.stream (e.Came u bytes) old (Some []) new (Some [])
-    → Takes held others limit u bytes k told n told
-up_takes k n links u bytes at old new told held others limit n_is links_is found is enters q point =
-    subst (λ (w : Point). Meets (counting others limit w) (λ m. m.control.held ≡ held) w k told n told)
-    (sym (up_point k u (e.Came u bytes) q point at found))
-    (λ g x y points stands shows holds steps.
-    subst (λ (m : Links). Meets unguarded (λ x. ⊤) (of_link at.link (part.up at.stream (e.Came u bytes))) k told m told)
-    (sym (changed k n links at.link old new n_is links_is is))
-    (lifts link.unguarded (λ a. ⊤) k at.link old new told told (λ i. part.up at.stream (e.Came u bytes)) is (λ v. refl)
-    (quiet link.unguarded (λ a. ⊤) (part.up at.stream (e.Came u bytes)) old new told enters))
-    g x y points stands shows tt steps)
+-- where so many of its tunnels took a place before
+module _ (before : ℕ) where
+  -- of a tunnel whose upstream it is; of a link
+  pub up_enters : (k : Links) (n : ℕ) (z : Entry) (at : Place) (old new : Link) (told now : Told) → get k.ups n ≡ Some at
+      → get k.links at.link ≡ Some old → LeavesUp (part.up at.stream z) → calls.UpEnters at.stream z old told new now
+      → Enters n z k told (touched at.link before (links_with (insert k.links at.link new) k.ups k)) now
+  up_enters k n z at old new told now found is leaves enters q point =
+      subst (λ (w : Point). Meets unguarded (λ m. ⊤) w k told (touched at.link before (links_with (insert k.links at.link new) k.ups k)) now)
+      (sym (up_point k n z q point at found))
+      (lifts before link.unguarded (λ a. ⊤) k at.link old new told now (λ i. part.up at.stream z) is leaves enters)
 
-pub own_takes : (k n : Links) (links : Map) (l : ℕ) (bytes : List ℕ) (old new : Link) (told now : Told) (held : Resources)
-    (others limit : ℕ) → n ≡ touched l (links_with links k.ups k) → links ≡ written k.links l new → get k.ups l ≡ None
-    → get k.links l ≡ Some old → calls.Takes held others limit bytes old told new now → Takes held others limit l bytes k told n now
-own_takes k n links l bytes old new told now held others limit n_is links_is none is enters q point =
-    subst (λ (w : Point). Meets (counting others limit w) (λ m. m.control.held ≡ held) w k told n now)
-    (sym (own_point k l (e.Came l bytes) q point old none is))
-    (subst (λ (m : Links). Meets (on_links (CountsPlaces others limit)) (λ x. x.control.held ≡ held)
-    (of_link l (part.entry (e.Came l bytes))) k told m now)
-    (sym (changed k n links l old new n_is links_is is))
-    (lifts (CountsPlaces others limit) (λ a. a.held ≡ held) k l old new told now (λ i. part.entry (e.Came i bytes)) is tt enters))
+  pub own_enters : (k : Links) (n : ℕ) (z : ℕ → Entry) (old new : Link) (told now : Told) → get k.ups n ≡ None
+      → get k.links n ≡ Some old → calls.Enters (z old.number) old told new now
+      → Enters n (z n) k told (touched n before (links_with (insert k.links n new) k.ups k)) now
+  own_enters k n z old new told now none is enters q point =
+      subst (λ (w : Point). Meets unguarded (λ m. ⊤) w k told (touched n before (links_with (insert k.links n new) k.ups k)) now)
+      (sym (own_point k n (z n) q point old none is))
+      (lifts before link.unguarded (λ a. ⊤) k n old new told now (λ i. part.entry (z i)) is tt enters)
+
+  -- the same, as the code comes to it
+  pub changed : (k n : Links) (links : Map) (l : ℕ) (old new : Link) → n ≡ touched l before (links_with links k.ups k)
+      → links ≡ written k.links l new → get k.links l ≡ Some old → n ≡ touched l before (links_with (insert k.links l new) k.ups k)
+  changed k n links l old new n_is links_is is =
+      n_is ∙ ap (λ (m : Map). touched l before (links_with m k.ups k)) (links_is ∙ written_where_some k.links l new (ap is_some is))
+
+  pub up_told : (k n : Links) (links : Map) (u : ℕ) (z : Entry) (at : Place) (old new : Link) (told now : Told)
+      → n ≡ touched at.link before (links_with links k.ups k) → links ≡ written k.links at.link new → get k.ups u ≡ Some at
+      → get k.links at.link ≡ Some old → LeavesUp (part.up at.stream z) → calls.UpEnters at.stream z old told new now
+      → Enters u z k told n now
+  up_told k n links u z at old new told now n_is links_is found is leaves enters =
+      subst (λ (m : Links). Enters u z k told m now) (sym (changed k n links at.link old new n_is links_is is))
+      (up_enters k u z at old new told now found is leaves enters)
+
+  pub own_told : (k n : Links) (links : Map) (l : ℕ) (z : ℕ → Entry) (old new : Link) (told now : Told)
+      → n ≡ touched l before (links_with links k.ups k) → links ≡ written k.links l new → get k.ups l ≡ None
+      → get k.links l ≡ Some old → calls.Enters (z old.number) old told new now → Enters l (z l) k told n now
+  own_told k n links l z old new told now n_is links_is none is enters =
+      subst (λ (m : Links). Enters l (z l) k told m now) (sym (changed k n links l old new n_is links_is is))
+      (own_enters k l z old new told now none is enters)
+
+  -- bytes came on the link of a number
+  pub up_takes : (k n : Links) (links : Map) (u : ℕ) (bytes : List ℕ) (at : Place) (old new : Link) (told : Told)
+      (held : Resources) (others limit : ℕ) → n ≡ touched at.link before (links_with links k.ups k) → links ≡ written k.links at.link new
+      → get k.ups u ≡ Some at → get k.links at.link ≡ Some old → calls.UpEnters at.stream (e.Came u bytes) old (Some []) new (Some [])
+      → Takes held others limit u bytes k told n told
+  up_takes k n links u bytes at old new told held others limit n_is links_is found is enters q point =
+      subst (λ (w : Point). Meets (counting others limit w) (λ m. m.control.held ≡ held) w k told n told)
+      (sym (up_point k u (e.Came u bytes) q point at found))
+      (λ g x y points stands shows holds steps.
+      subst (λ (m : Links). Meets unguarded (λ x. ⊤) (of_link at.link (part.up at.stream (e.Came u bytes))) k told m told)
+      (sym (changed k n links at.link old new n_is links_is is))
+      (lifts before link.unguarded (λ a. ⊤) k at.link old new told told (λ i. part.up at.stream (e.Came u bytes)) is (λ v. refl)
+      (quiet link.unguarded (λ a. ⊤) (part.up at.stream (e.Came u bytes)) old new told enters))
+      g x y points stands shows tt steps)
+
+  pub own_takes : (k n : Links) (links : Map) (l : ℕ) (bytes : List ℕ) (old new : Link) (told now : Told) (held : Resources)
+      (others limit : ℕ) → n ≡ touched l before (links_with links k.ups k) → links ≡ written k.links l new → get k.ups l ≡ None
+      → get k.links l ≡ Some old → calls.Takes held others limit bytes old told new now → Takes held others limit l bytes k told n now
+  own_takes k n links l bytes old new told now held others limit n_is links_is none is enters q point =
+      subst (λ (w : Point). Meets (counting others limit w) (λ m. m.control.held ≡ held) w k told n now)
+      (sym (own_point k l (e.Came l bytes) q point old none is))
+      (subst (λ (m : Links). Meets (on_links (CountsPlaces others limit)) (λ x. x.control.held ≡ held)
+      (of_link l (part.entry (e.Came l bytes))) k told m now)
+      (sym (changed k n links l old new n_is links_is is))
+      (lifts before (CountsPlaces others limit) (λ a. a.held ≡ held) k l old new told now (λ i. part.entry (e.Came i bytes)) is tt enters))
 
 -- an upstream alone opens
 pub none_opens : (k m : Links) (n : ℕ) (told now : Told) → get k.ups n ≡ None → Enters n (e.Opened n) k told m now

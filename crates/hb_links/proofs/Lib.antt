@@ -5,10 +5,12 @@ pub mod Hearing
 pub mod Indexing
 pub mod Births
 pub mod Lifted
+pub mod Limits
 pub mod NotShown
 pub mod Showing
 pub mod Stirs
 pub mod Sweeping
 pub mod Telling
+pub mod Totals
 pub mod Ups
 pub mod Walking

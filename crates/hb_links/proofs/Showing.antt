@@ -73,79 +73,81 @@ leaves_index ups f l p leaves index z others ups_are =
     (λ apart. ap (λ (w : Inbound). up_now (w.tunnels s)) (others m apart)) (cases_eq m l))
     index
 
--- One link is changed, and with it the index: it is touched
-module _ (k : Links) (l : ℕ) (p : Part) (links : Map) (here : Option Link) (ups : Index) (x : Machine) (shows : ShowsAll k x.inbound)
-    (is : get links l ≡ here) (same : (m : ℕ) → m ≢ l → get links m ≡ get k.links m) where
-  pub shown_then : (z : ℕ → Inbound) → l < 2 ^ 64 → ShowsLink l here (z l) → ((m : ℕ) → m ≢ l → z m ≡ x.inbound m)
-      → ((s : ℕ) → up_now ((z l).tunnels s) ≡ up_in s (up_now ((x.inbound l).tunnels s)) p) → Indexes ups x.inbound l p
-      → ShowsAll (touched l (links_with links ups k)) z
-  shown_then z narrow shown others ups_are index = record {
-    links = λ m. ⊎_elim
-        (λ at. subst (λ (i : ℕ). ShowsLink i (get links i) (z i)) (sym at)
-        (subst (λ (o : Option Link). ShowsLink l o (z l)) (sym is) shown))
-        (λ apart. subst (λ (o : Option Link). ShowsLink m o (z m)) (sym (same m apart))
-        (subst (λ (w : Inbound). ShowsLink m (get k.links m) w) (sym (others m apart)) (shows.links m)))
-        (cases_eq m l);
-    index = index z others ups_are;
-    numbered = λ m there. ⊎_elim (λ at. subst (λ (i : ℕ). i < 2 ^ 64) (sym at) narrow)
-        (λ apart. shows.numbered m (sym (ap is_some (same m apart)) ∙ there)) (cases_eq m l);
-    idle = λ m none. (let was = due_then (links_with links ups k) l m none in
-        subst (λ (w : Inbound). NoneIsDue w) (sym (others m was.0)) (shows.idle m was.1));
-  }
+-- where so many of its tunnels took a place before
+module _ (before : ℕ) where
+  -- One link is changed, and with it the index: it is touched
+  module _ (k : Links) (l : ℕ) (p : Part) (links : Map) (here : Option Link) (ups : Index) (x : Machine) (shows : ShowsAll k x.inbound)
+      (is : get links l ≡ here) (same : (m : ℕ) → m ≢ l → get links m ≡ get k.links m) where
+    pub shown_then : (z : ℕ → Inbound) → l < 2 ^ 64 → ShowsLink l here (z l) → ((m : ℕ) → m ≢ l → z m ≡ x.inbound m)
+        → ((s : ℕ) → up_now ((z l).tunnels s) ≡ up_in s (up_now ((x.inbound l).tunnels s)) p) → Indexes ups x.inbound l p
+        → ShowsAll (touched l before (links_with links ups k)) z
+    shown_then z narrow shown others ups_are index = record {
+      links = λ m. ⊎_elim
+          (λ at. subst (λ (i : ℕ). ShowsLink i (get links i) (z i)) (sym at)
+          (subst (λ (o : Option Link). ShowsLink l o (z l)) (sym is) shown))
+          (λ apart. subst (λ (o : Option Link). ShowsLink m o (z m)) (sym (same m apart))
+          (subst (λ (w : Inbound). ShowsLink m (get k.links m) w) (sym (others m apart)) (shows.links m)))
+          (cases_eq m l);
+      index = index z others ups_are;
+      numbered = λ m there. ⊎_elim (λ at. subst (λ (i : ℕ). i < 2 ^ 64) (sym at) narrow)
+          (λ apart. shows.numbered m (sym (ap is_some (same m apart)) ∙ there)) (cases_eq m l);
+      idle = λ m none. (let was = due_then (links_with links ups k) l before m none in
+          subst (λ (w : Inbound). NoneIsDue w) (sym (others m was.0)) (shows.idle m was.1));
+    }
 
--- Of a run whose links the code showed, and behind which a part of a link comes: where the code of that link reaches one with what
--- follows, the code of all links does so with it in the place of the old one
-module _ (G : link.Guard) (g : NodeConfig) (k : Links) (l : ℕ) (p : Part) (new : Link) (ups : Index) (told now : Told)
-    (x y : Machine) (points : List Point) (stands : StandsFor g x points) (shows : ShowsAll k x.inbound)
-    (steps : Steps g x (of_link l p) y) where
-  behind : local y l ≡ with_link steps.0 (local x l)
-  behind = ap (λ (w : Machine). local w l) steps.3 ∙ here x l p steps.0
+  -- Of a run whose links the code showed, and behind which a part of a link comes: where the code of that link reaches one with what
+  -- follows, the code of all links does so with it in the place of the old one
+  module _ (G : link.Guard) (g : NodeConfig) (k : Links) (l : ℕ) (p : Part) (new : Link) (ups : Index) (told now : Told)
+      (x y : Machine) (points : List Point) (stands : StandsFor g x points) (shows : ShowsAll k x.inbound)
+      (steps : Steps g x (of_link l p) y) where
+    behind : local y l ≡ with_link steps.0 (local x l)
+    behind = ap (λ (w : Machine). local w l) steps.3 ∙ here x l p steps.0
 
-  apart_from : (m : ℕ) → m ≢ l → y.inbound m ≡ x.inbound m
-  apart_from m apart = ap (λ (w : Machine). w.inbound m) steps.3 ∙ there x l p steps.0 m apart
+    apart_from : (m : ℕ) → m ≢ l → y.inbound m ≡ x.inbound m
+    apart_from m apart = ap (λ (w : Machine). w.inbound m) steps.3 ∙ there x l p steps.0 m apart
 
-  pub reaches : new.number ≡ l → l < 2 ^ 64 → link.Reaches G l (with_link steps.0 (local x l)) new told now → Indexes ups x.inbound l p
-      → Follows (on_links G) Shown g y (touched l (links_with (insert k.links l new) ups k)) told now
-  reaches number narrow last index =
-      let start = at_start g in
-      let then = lifted G g l y last.parts last.reached
-      (subst (λ (c : Local). link.Leads G l c last.parts last.reached) (sym behind) last.leads) in
-      let z = then.y.inbound in
-      let link_is : z l ≡ last.reached.link = ap (λ (c : Local). c.link) then.here in
-      record {
-        more = map (of_link l) last.parts;
-        reached = then.y;
-        leads = then.leads;
-        shows = shown_then k l p (insert k.links l new) (Some new) ups x shows (put_here k.links l new) (put_elsewhere k.links l new)
-            z narrow (number, subst (Shows new) (sym link_is) last.shows) (λ m apart. then.others m apart ∙ apart_from m apart)
-            (λ s. ap (λ (w : Inbound). up_now (w.tunnels s)) link_is
-            ∙ ups_then G l start (local x l) (with_link steps.0 (local x l)) last.reached (parts_of l points) p last.parts
-            (links_run g x points l stands) steps.1 last.leads s)
-            index;
-        noted = subst (λ (made : List Note). Takes told made now) (sym (notes_of l last.parts)) last.noted;
-      }
+    pub reaches : new.number ≡ l → l < 2 ^ 64 → link.Reaches G l (with_link steps.0 (local x l)) new told now → Indexes ups x.inbound l p
+        → Follows (on_links G) Shown g y (touched l before (links_with (insert k.links l new) ups k)) told now
+    reaches number narrow last index =
+        let start = at_start g in
+        let then = lifted G g l y last.parts last.reached
+        (subst (λ (c : Local). link.Leads G l c last.parts last.reached) (sym behind) last.leads) in
+        let z = then.y.inbound in
+        let link_is : z l ≡ last.reached.link = ap (λ (c : Local). c.link) then.here in
+        record {
+          more = map (of_link l) last.parts;
+          reached = then.y;
+          leads = then.leads;
+          shows = shown_then k l p (insert k.links l new) (Some new) ups x shows (put_here k.links l new) (put_elsewhere k.links l new)
+              z narrow (number, subst (Shows new) (sym link_is) last.shows) (λ m apart. then.others m apart ∙ apart_from m apart)
+              (λ s. ap (λ (w : Inbound). up_now (w.tunnels s)) link_is
+              ∙ ups_then G l start (local x l) (with_link steps.0 (local x l)) last.reached (parts_of l points) p last.parts
+              (links_run g x points l stands) steps.1 last.leads s)
+              index;
+          noted = subst (λ (made : List Note). Takes told made now) (sym (notes_of l last.parts)) last.noted;
+        }
 
--- a call of a link that the code has, with another index of upstreams; or with the same, where it isn't the birth or the close of one
-pub lifts_with : (G : link.Guard) (P : Local → Type 0) (k : Links) (l : ℕ) (old new : Link) (ups : Index) (told now : Told)
-    (p : ℕ → Part) → get k.links l ≡ Some old
-    → ((g : NodeConfig) (x y : Machine) (points : List Point) → StandsFor g x points → ShowsAll k x.inbound
-    → Steps g x (of_link l (p l)) y → Indexes ups x.inbound l (p l))
-    → link.Meets G P (p old.number) old told new now
-    → Meets (on_links G) (λ m. P (local m l)) (of_link l (p l)) k told (touched l (links_with (insert k.links l new) ups k)) now
-lifts_with G P k l old new ups told now p is index meets g x y points stands shows holds steps =
-    let shown = subst (λ (o : Option Link). ShowsLink l o (x.inbound l)) is (shows.links l) in
-    let number = shown.0 in
-    let does = subst (λ (i : ℕ). link.Meets G P (p i) old told new now) number meets in
-    let one = does (at_start g) (parts_of l points) (local x l) (with_link steps.0 (local x l))
-    (subst (λ (i : ℕ). inbound.StandsFor i (at_start g) (local x l) (parts_of l points)) (sym number) (links_run g x points l stands))
-    shown.1 holds (subst (λ (i : ℕ). inbound.Steps i (local x l) (p l) (with_link steps.0 (local x l))) (sym number) steps.1) in
-    reaches G g k l (p l) new ups told now x y points stands shows steps (one.0 ∙ number) (shows.numbered l (ap is_some is))
-    (subst (λ (i : ℕ). link.Reaches G i (with_link steps.0 (local x l)) new told now) number one.1)
-    (index g x y points stands shows steps)
+  -- a call of a link that the code has, with another index of upstreams; or with the same, where it isn't the birth or the close of one
+  pub lifts_with : (G : link.Guard) (P : Local → Type 0) (k : Links) (l : ℕ) (old new : Link) (ups : Index) (told now : Told)
+      (p : ℕ → Part) → get k.links l ≡ Some old
+      → ((g : NodeConfig) (x y : Machine) (points : List Point) → StandsFor g x points → ShowsAll k x.inbound
+      → Steps g x (of_link l (p l)) y → Indexes ups x.inbound l (p l))
+      → link.Meets G P (p old.number) old told new now
+      → Meets (on_links G) (λ m. P (local m l)) (of_link l (p l)) k told (touched l before (links_with (insert k.links l new) ups k)) now
+  lifts_with G P k l old new ups told now p is index meets g x y points stands shows holds steps =
+      let shown = subst (λ (o : Option Link). ShowsLink l o (x.inbound l)) is (shows.links l) in
+      let number = shown.0 in
+      let does = subst (λ (i : ℕ). link.Meets G P (p i) old told new now) number meets in
+      let one = does (at_start g) (parts_of l points) (local x l) (with_link steps.0 (local x l))
+      (subst (λ (i : ℕ). inbound.StandsFor i (at_start g) (local x l) (parts_of l points)) (sym number) (links_run g x points l stands))
+      shown.1 holds (subst (λ (i : ℕ). inbound.Steps i (local x l) (p l) (with_link steps.0 (local x l))) (sym number) steps.1) in
+      reaches G g k l (p l) new ups told now x y points stands shows steps (one.0 ∙ number) (shows.numbered l (ap is_some is))
+      (subst (λ (i : ℕ). link.Reaches G i (with_link steps.0 (local x l)) new told now) number one.1)
+      (index g x y points stands shows steps)
 
-pub lifts : (G : link.Guard) (P : Local → Type 0) (k : Links) (l : ℕ) (old new : Link) (told now : Told) (p : ℕ → Part)
-    → get k.links l ≡ Some old → LeavesUp (p l) → link.Meets G P (p old.number) old told new now
-    → Meets (on_links G) (λ m. P (local m l)) (of_link l (p l)) k told (touched l (links_with (insert k.links l new) k.ups k)) now
-lifts G P k l old new told now p is leaves meets =
-    lifts_with G P k l old new k.ups told now p is
-    (λ g x y points stands shows steps. leaves_index k.ups x.inbound l (p l) leaves shows.index) meets
+  pub lifts : (G : link.Guard) (P : Local → Type 0) (k : Links) (l : ℕ) (old new : Link) (told now : Told) (p : ℕ → Part)
+      → get k.links l ≡ Some old → LeavesUp (p l) → link.Meets G P (p old.number) old told new now
+      → Meets (on_links G) (λ m. P (local m l)) (of_link l (p l)) k told (touched l before (links_with (insert k.links l new) k.ups k)) now
+  lifts G P k l old new told now p is leaves meets =
+      lifts_with G P k l old new k.ups told now p is
+      (λ g x y points stands shows steps. leaves_index k.ups x.inbound l (p l) leaves shows.index) meets

@@ -67,67 +67,69 @@ held_same : (k n : Links) (l i : ℕ) (at : Option Place) → ((j : ℕ) → j �
 held_same k n l i None same apart = ap output_in (same i apart)
 held_same k n l i (Some at) same apart = ap (up_held_in at.stream) (same at.link apart)
 
--- one link is changed, and with it the index of upstreams: it is touched
-module _ (k : Links) (l : ℕ) (links : Map) (ups : Index) (same : (j : ℕ) → j ≢ l → get links j ≡ get k.links j) where
-  abbrev After : Links
-  After = touched l (links_with links ups k)
+-- where so many of its tunnels took a place before
+module _ (before : ℕ) where
+  -- one link is changed, and with it the index of upstreams: it is touched
+  module _ (k : Links) (l : ℕ) (links : Map) (ups : Index) (same : (j : ℕ) → j ≢ l → get links j ≡ get k.links j) where
+    abbrev After : Links
+    After = touched l before (links_with links ups k)
 
-  pub touch_stirs : (n : ℕ) → (owner_of (get ups n) n ≢ l → get ups n ≡ get k.ups n) → StirsAt n k After
-  touch_stirs n stays = by (stirs_at After n) refl
+    pub touch_stirs : (n : ℕ) → (owner_of (get ups n) n ≢ l → get ups n ≡ get k.ups n) → StirsAt n k After
+    touch_stirs n stays = by (stirs_at After n) refl
+      where
+        by : (b : Bool) → stirs_at After n ≡ b → StirsAt n k After
+        by true is = record { kept = λ was. is; reads = λ was. inr is; writes = λ was. inr is }
+        by false is =
+            let apart = unstirred k.stirs k.stirs_from (get ups n) l n is in
+            let at = stays apart.0 in
+            record {
+              kept = λ was. absurd (false≢true (sym (subst (λ (at : Option Place). stirs_by k at n ≡ false) at apart.1) ∙ was));
+              reads = λ was. inl (wants_same k After l n (get ups n) same apart.0 ∙ ap (λ (at : Option Place). wants_at k at n) at ∙ was);
+              writes = λ was. inl (held_same k After l n (get ups n) same apart.0 ∙ ap (λ (at : Option Place). held_at k at n) at ∙ was);
+            }
+
+  -- with the same index
+  pub links_stir : (k : Links) (l : ℕ) (links : Map) → ((j : ℕ) → j ≢ l → get links j ≡ get k.links j)
+      → Stirs k (touched l before (links_with links k.ups k))
+  links_stir k l links same n = touch_stirs k l links k.ups same n (λ apart. refl)
+
+  pub told_stirs : (k n : Links) (links : Map) (l : ℕ) (new : Link) → n ≡ touched l before (links_with links k.ups k)
+      → links ≡ written k.links l new → Stirs k n
+  told_stirs k n links l new n_is links_is =
+      subst (λ (m : Links). Stirs k m) (sym n_is)
+      (links_stir k l links (λ j apart. ap (λ (m : Map). get m j) links_is ∙ written_elsewhere k.links l new j apart))
+
+  pub put_stirs : (k n : Links) (links : Map) (l : ℕ) (new : Link) → n ≡ touched l before (links_with links k.ups k)
+      → links ≡ insert k.links l new → Stirs k n
+  put_stirs k n links l new n_is links_is =
+      subst (λ (m : Links). Stirs k m) (sym n_is)
+      (links_stir k l links (λ j apart. ap (λ (m : Map). get m j) links_is ∙ put_elsewhere k.links l new j apart))
+
+  -- with an upstream more
+  pub born_stirs : (k n : Links) (links : Map) (ups : Index) (l s u : ℕ) → ((j : ℕ) → j ≢ l → get links j ≡ get k.links j)
+      → ups ≡ insert k.ups u (place l s) → n ≡ touched l before (links_with links ups k) → Stirs k n
+  born_stirs k n links ups l s u same ups_is n_is i =
+      subst (λ (m : Links). StirsAt i k m) (sym n_is) (touch_stirs k l links ups same i stays)
     where
-      by : (b : Bool) → stirs_at After n ≡ b → StirsAt n k After
-      by true is = record { kept = λ was. is; reads = λ was. inr is; writes = λ was. inr is }
-      by false is =
-          let apart = unstirred k.stirs k.stirs_from (get ups n) l n is in
-          let at = stays apart.0 in
-          record {
-            kept = λ was. absurd (false≢true (sym (subst (λ (at : Option Place). stirs_by k at n ≡ false) at apart.1) ∙ was));
-            reads = λ was. inl (wants_same k After l n (get ups n) same apart.0 ∙ ap (λ (at : Option Place). wants_at k at n) at ∙ was);
-            writes = λ was. inl (held_same k After l n (get ups n) same apart.0 ∙ ap (λ (at : Option Place). held_at k at n) at ∙ was);
-          }
+      stays : owner_of (get ups i) i ≢ l → get ups i ≡ get k.ups i
+      stays apart =
+          ⊎_elim
+          (λ here. absurd (apart (ap (λ (at : Option Place). owner_of at i)
+          (ap (λ (index : Index). get index i) ups_is ∙ ap (get (insert k.ups u (place l s))) here ∙ put_here k.ups u (place l s)))))
+          (λ there. ap (λ (index : Index). get index i) ups_is ∙ put_elsewhere k.ups u (place l s) i there) (cases_eq i u)
 
--- with the same index
-pub links_stir : (k : Links) (l : ℕ) (links : Map) → ((j : ℕ) → j ≢ l → get links j ≡ get k.links j)
-    → Stirs k (touched l (links_with links k.ups k))
-links_stir k l links same n = touch_stirs k l links k.ups same n (λ apart. refl)
-
-pub told_stirs : (k n : Links) (links : Map) (l : ℕ) (new : Link) → n ≡ touched l (links_with links k.ups k)
-    → links ≡ written k.links l new → Stirs k n
-told_stirs k n links l new n_is links_is =
-    subst (λ (m : Links). Stirs k m) (sym n_is)
-    (links_stir k l links (λ j apart. ap (λ (m : Map). get m j) links_is ∙ written_elsewhere k.links l new j apart))
-
-pub put_stirs : (k n : Links) (links : Map) (l : ℕ) (new : Link) → n ≡ touched l (links_with links k.ups k)
-    → links ≡ insert k.links l new → Stirs k n
-put_stirs k n links l new n_is links_is =
-    subst (λ (m : Links). Stirs k m) (sym n_is)
-    (links_stir k l links (λ j apart. ap (λ (m : Map). get m j) links_is ∙ put_elsewhere k.links l new j apart))
-
--- with an upstream more
-pub born_stirs : (k n : Links) (links : Map) (ups : Index) (l s u : ℕ) → ((j : ℕ) → j ≢ l → get links j ≡ get k.links j)
-    → ups ≡ insert k.ups u (place l s) → n ≡ touched l (links_with links ups k) → Stirs k n
-born_stirs k n links ups l s u same ups_is n_is i =
-    subst (λ (m : Links). StirsAt i k m) (sym n_is) (touch_stirs k l links ups same i stays)
-  where
-    stays : owner_of (get ups i) i ≢ l → get ups i ≡ get k.ups i
-    stays apart =
-        ⊎_elim
-        (λ here. absurd (apart (ap (λ (at : Option Place). owner_of at i)
-        (ap (λ (index : Index). get index i) ups_is ∙ ap (get (insert k.ups u (place l s))) here ∙ put_here k.ups u (place l s)))))
-        (λ there. ap (λ (index : Index). get index i) ups_is ∙ put_elsewhere k.ups u (place l s) i there) (cases_eq i u)
-
--- an act was given
-pub act_stirs : (k : Links) (l : ℕ) (due : Act) (links : Map) → ((j : ℕ) → j ≢ l → get links j ≡ get k.links j)
-    → StirsBut (closed_in (Some due)) k (finished l due (links_with links k.ups k))
-act_stirs k l (act.Dial to why) links same n apart = links_stir k l links same n
-act_stirs k l (act.Shut u) links same n apart = links_stir k l links same n
-act_stirs k l (act.Close u cause) links same n apart = by (u == l)
-  where
-    by : (b : Bool)
-        → StirsAt n k (touched l (cond b (links_with (remove links l) k.ups k) (links_with links (remove k.ups u) k)))
-    by true = links_stir k l (remove links l) (λ j other. removed_elsewhere links l j other ∙ same j other) n
-    by false = touch_stirs k l links (remove k.ups u) same n
-        (λ other. removed_elsewhere k.ups u n (λ is. apart (ap Some (sym is))))
+  -- an act was given
+  pub act_stirs : (k : Links) (l : ℕ) (due : Act) (links : Map) → ((j : ℕ) → j ≢ l → get links j ≡ get k.links j)
+      → StirsBut (closed_in (Some due)) k (finished l due before (links_with links k.ups k))
+  act_stirs k l (act.Dial to why) links same n apart = links_stir k l links same n
+  act_stirs k l (act.Shut u) links same n apart = links_stir k l links same n
+  act_stirs k l (act.Close u cause) links same n apart = by (u == l)
+    where
+      by : (b : Bool)
+          → StirsAt n k (touched l before (cond b (links_with (remove links l) k.ups k) (links_with links (remove k.ups u) k)))
+      by true = links_stir k l (remove links l) (λ j other. removed_elsewhere links l j other ∙ same j other) n
+      by false = touch_stirs k l links (remove k.ups u) same n
+          (λ other. removed_elsewhere k.ups u n (λ is. apart (ap Some (sym is))))
 
 -- NONE IS TOUCHED
 

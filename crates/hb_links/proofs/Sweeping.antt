@@ -223,9 +223,10 @@ goes P Q q p k links n old new next told now then gives swept is meets next_is g
     parted l apart = ⊎_elim (λ same. absurd (apart same)) (λ either. either) (cases_order l n)
 
 -- all were told
-pub ends : (P : Machine → Type 0) (q : point.Point) (p : Part) (k : Links) (links : Map) (told now : Told)
-    → Swept P q p k links None told now → Meets unguarded P (of_control q) k told (record k { links = links; from = Some 0; stirs_from = Some 0 }) now
-ends P q p k links told now swept g x y points stands shows holds steps =
+pub ends : (P : Machine → Type 0) (q : point.Point) (p : Part) (k : Links) (links : Map) (taken : ℕ) (told now : Told)
+    → Swept P q p k links None told now → Meets unguarded P (of_control q) k told
+    (record k { links = links; taken = taken; from = Some 0; stirs_from = Some 0 }) now
+ends P q p k links taken told now swept g x y points stands shows holds steps =
     let both = swept g x y points stands shows holds steps in
     let see = both.0 in
     let all = both.1 in

@@ -27,6 +27,7 @@ use Rattle.hb_proxy.specs.Points.{of_control}
 use Rattle.hb_proxy.specs.Runs.{Steps}
 use Rattle.hb_table.specs.Judgement.{judged}
 use Rattle.hb_links.specs.declared.links.Links.{Links}
+use Rattle.hb_links.specs.Busy.{counted}
 use Rattle.hb_links.specs.Calls.{Updates, Stops}
 use Rattle.hb_links.specs.Reaches.{Meets, unguarded}
 use Rattle.hb_links.specs.Shows.{IsAway, ShowsLink}
@@ -34,9 +35,9 @@ use Rattle.hb_links.specs.Walks.{IsNext, Telling, TellsBy}
 use Rattle.hb_links.proofs.Showing.{Map}
 use Rattle.hb_links.proofs.Sweeping.{AllSee, Swept, starts, goes, ends}
 
--- only links change
+-- only links change, and the count of places
 abbrev pub IsTold : Links → Links → Type 0
-IsTold k n = n ≡ record k { links = n.links }
+IsTold k n = n ≡ record k { links = n.links; taken = n.taken }
 
 -- the walk is at a link
 abbrev pub IsOn : Option ℕ → Map → Type 0
@@ -66,7 +67,7 @@ Stopping cause k n from told now =
 
 -- A TUNNEL THAT ISN'T THERE
 
-placeless : (x : Tunnel) → ShowsTunnel None x → takes_place x.stage ≡ false
+pub placeless : (x : Tunnel) → ShowsTunnel None x → takes_place x.stage ≡ false
 placeless x shown = ⊎_elim (λ (is : x.stage ≡ t.unasked). ap takes_place is) (λ (is : x.stage ≡ t.gone). ap takes_place is) shown
 
 away_judged : (held : Resources) (l : ℕ) (x : Inbound) → ShowsLink l None x → ShowsLink l None (rejudged held x)
@@ -135,9 +136,9 @@ pub applied_goes : (held : Resources) (k a b : Links) (n : ℕ) (next : Option �
 applied_goes held k a b n next told now then applies tells next_is = by (get a.links n) refl tells
   where
     one : (old new : Link) → get a.links n ≡ Some old → calls.Updates held old now new then
-        → IsNext (insert a.links n new) n next → Applies held k (record a { links = insert a.links n new }) next told then
+        → IsNext (insert a.links n new) n next → Applies held k (record a { links = insert a.links n new; taken = b.taken }) next told then
     one old new is updates next_here = (
-      ap (λ (w : Links). record w { links = insert a.links n new }) applies.0,
+      ap (λ (w : Links). record w { links = insert a.links n new; taken = b.taken }) applies.0,
       next_on (insert a.links n new) n next next_here,
       λ l r. goes (held_by held r) (λ c. held ≡ after_response c.held r) (point.applied l r) (part.applied r) k a.links n old new next
           told now then (λ x i holds. holds) (applies.2 l r) is (updates r) next_here,
@@ -154,7 +155,7 @@ pub applied_ends : (held : Resources) (k a : Links) (told now : Told) → Applie
 applied_ends held k a told now applies l r =
     subst (λ (w : Links). Meets unguarded (held_by held r) (of_control (point.applied l r)) k told w now)
     (sym (ap (λ (w : Links). record w { from = Some 0; stirs_from = Some 0 }) applies.0))
-    (ends (held_by held r) (point.applied l r) (part.applied r) k a.links told now (applies.2 l r))
+    (ends (held_by held r) (point.applied l r) (part.applied r) k a.links a.taken told now (applies.2 l r))
 
 pub stopped_starts : (cause : Cause) (k : Links) (first : Option ℕ) (told : Told) → IsFirstFrom k.links 0 first
     → Stopping cause k k first told told
@@ -170,9 +171,9 @@ pub stopped_goes : (cause : Cause) (k a b : Links) (n : ℕ) (next : Option ℕ)
 stopped_goes cause k a b n next told now then so_far tells next_is = by (get a.links n) refl tells
   where
     one : (old new : Link) → get a.links n ≡ Some old → calls.Stops cause old now new then
-        → IsNext (insert a.links n new) n next → Stopping cause k (record a { links = insert a.links n new }) next told then
+        → IsNext (insert a.links n new) n next → Stopping cause k (record a { links = insert a.links n new; taken = b.taken }) next told then
     one old new is stops next_here = (
-      ap (λ (w : Links). record w { links = insert a.links n new }) so_far.0,
+      ap (λ (w : Links). record w { links = insert a.links n new; taken = b.taken }) so_far.0,
       next_on (insert a.links n new) n next next_here,
       goes (λ x. ⊤) (λ c. ⊤) (point.stopped cause) (part.stopped cause) k a.links n old new next told now then (λ x i holds. tt) so_far.2
           is stops next_here,
@@ -188,7 +189,7 @@ pub stopped_ends : (cause : Cause) (k a : Links) (told now : Told) → Stopping 
     → Stops cause k told (record a { from = Some 0; stirs_from = Some 0 }) now
 stopped_ends cause k a told now so_far =
     subst (λ (w : Links). Stops cause k told w now) (sym (ap (λ (w : Links). record w { from = Some 0; stirs_from = Some 0 }) so_far.0))
-    (ends (λ x. ⊤) (point.stopped cause) (part.stopped cause) k a.links told now so_far.2)
+    (ends (λ x. ⊤) (point.stopped cause) (part.stopped cause) k a.links a.taken told now so_far.2)
 
 -- the first of all, as the map gives it
 pub first_is : (links : Map) (first : Option ℕ) → IsFirstFrom links 0 (option_map (λ n. n) first) → IsFirstFrom links 0 first
@@ -196,8 +197,15 @@ first_is links None is = is
 first_is links (Some n) is = is
 
 -- one is told
-pub told_one : (R : Telling) (k : Links) (links : Map) (n : ℕ) (old new : Link) (told now : Told) → get k.links n ≡ Some old
-    → links ≡ written k.links n new → R old told new now → TellsBy R (get k.links n) n k told (record k { links = links }) now
-told_one R k links n old new told now is links_is does =
-    subst (λ (o : Option Link). TellsBy R o n k told (record k { links = links }) now) (sym is)
-    (new, does, ap (λ (m : Map). record k { links = m }) (links_is ∙ written_where_some k.links n new (ap is_some is)))
+pub told_one : (R : Telling) (k m : Links) (links : Map) (n before : ℕ) (old new : Link) (told now : Told) → get k.links n ≡ Some old
+    → links ≡ written k.links n new → m ≡ counted n before (record k { links = links }) → R old told new now
+    → TellsBy R (get k.links n) n k told m now
+told_one R k m links n before old new told now is links_is m_is does =
+    subst (λ (o : Option Link). TellsBy R o n k told m now) (sym is) (
+      new,
+      does,
+      m_is
+          ∙ ap (λ (t : ℕ). record k { links = links; taken = t }) (sym (ap (λ (w : Links). w.taken) m_is))
+          ∙ ap (λ (map : Map). record k { links = map; taken = m.taken })
+          (links_is ∙ written_where_some k.links n new (ap is_some is)),
+    )

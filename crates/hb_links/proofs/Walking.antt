@@ -53,13 +53,13 @@ none_acts k links l old new is links_is it = (
     same : (j : ℕ) → get links j ≡ get k.links j
     same = written_same k links l old new is it.0 links_is
 
-pub some_acts : (k n : Links) (links : Map) (l : ℕ) (old new : Link) (due : Act) → get k.links l ≡ Some old
-    → links ≡ written k.links l new → n ≡ finished l due (record k { links = links }) → new.number ≡ old.number
+pub some_acts : (k n : Links) (links : Map) (l before : ℕ) (old new : Link) (due : Act) → get k.links l ≡ Some old
+    → links ≡ written k.links l new → n ≡ finished l due before (record k { links = links }) → new.number ≡ old.number
     → link.Acts (Some due) old new → Acts (Some due) k n
-some_acts k n links l old new due is links_is n_is numbered it =
+some_acts k n links l before old new due is links_is n_is numbered it =
     subst (λ (m : Links). Acts (Some due) k m)
-    (sym (n_is ∙ ap (λ (m : Map). finished l due (links_with m k.ups k)) (links_is ∙ written_where_some k.links l new (ap is_some is))))
-    (acts_on k l old new due is numbered it)
+    (sym (n_is ∙ ap (λ (m : Map). finished l due before (links_with m k.ups k)) (links_is ∙ written_where_some k.links l new (ap is_some is))))
+    (acts_on before k l old new due is numbered it)
 
 -- THE WALK
 

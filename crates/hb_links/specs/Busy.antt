@@ -1,7 +1,9 @@
 -- Which links may have an act due.
 use Rattle.std.specs.Prelude.{ℕ, ◌==◌, ◌||◌, ◌&&◌, not, Bool, false, nat_le, min, if◌then◌else◌, is_some, Option, Some, None}
+use Rattle.std.specs.FinMap.{get}
 use Rattle.hb_links.specs.declared.family.Family.{Family}
 use Rattle.hb_links.specs.declared.links.Links.{Links}
+use Rattle.hb_links.specs.Load.{places_in, recount}
 
 -- the one that was touched last, and those from a number on
 abbrev pub is_at : Option ℕ → ℕ → Bool
@@ -20,6 +22,10 @@ abbrev pub is_idle : Links → Bool
 is_idle k = not (is_some k.busy) && not (is_some k.from)
 
 -- A LINK IS TOUCHED
+
+-- its tunnels are counted anew, of which so many took a place before
+abbrev pub counted : (l before : ℕ) → Links → Links
+counted l before k = record k { taken = recount k.taken before (places_in (get k.links l)) }
 
 -- it may have an act due: the one that was touched last, or from its number on
 abbrev pub busy_after : Option ℕ → ℕ → Option ℕ
@@ -52,5 +58,5 @@ stirs_from_after (Some f) from l = if f.link == l then from else Some (least fro
 abbrev pub stirred : ℕ → Links → Links
 stirred l k = record k { stirs = stirs_after k.stirs l; stirs_from = stirs_from_after k.stirs k.stirs_from l }
 
-abbrev pub touched : ℕ → Links → Links
-touched l k = stirred l (made_due l k)
+abbrev pub touched : (l before : ℕ) → Links → Links
+touched l before k = stirred l (made_due l (counted l before k))

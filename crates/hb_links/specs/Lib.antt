@@ -1,6 +1,7 @@
 pub mod Acts
 pub mod Busy
 pub mod Calls
+pub mod Load
 pub mod Places
 pub mod Reaches
 pub mod Refused

@@ -28,7 +28,7 @@ Telling = Link → Told → Link → Told → Type 0
 -- it is told to the one of a number, where there is one
 abbrev pub TellsBy : Telling → Option Link → ℕ → Links → Told → Links → Told → Type 0
 TellsBy R None n k told m now = (m ≡ k) × (now ≡ told)
-TellsBy R (Some old) n k told m now = (new : Link) × R old told new now × (m ≡ record k { links = insert k.links n new })
+TellsBy R (Some old) n k told m now = (new : Link) × R old told new now × (m ≡ record k { links = insert k.links n new; taken = m.taken })
 
 -- ACTS
 
@@ -41,8 +41,8 @@ abbrev pub left_by : ℕ → Act → Links → Links
 left_by n (act.Close u cause) k = closed_by n u k
 left_by n due k = k
 
-abbrev pub finished : ℕ → Act → Links → Links
-finished n due k = touched n (left_by n due k)
+abbrev pub finished : ℕ → Act → (before : ℕ) → Links → Links
+finished n due before k = touched n before (left_by n due k)
 
 -- the links that were shown are shown still
 abbrev pub KeepsShowing : Links → Links → Type 0

@@ -3,6 +3,7 @@
 ghost use Rattle.std.specs.Prelude.{◌≡◌, true, None, IfNone};
 ghost use Rattle.hb_links.specs.Acts.{Acts};
 ghost use Rattle.hb_links.specs.Busy.{is_idle};
+ghost use Rattle.hb_links.specs.Load.{Recounts};
 ghost use Rattle.hb_links.specs.Stirring.{StirsBut, closed_in};
 ghost use Rattle.hb_links.specs.Walks.{ActsOf, GoesTo, Skips, closed_by, finished};
 
@@ -21,28 +22,30 @@ impl Links {
         }
     }
 
-    /// An act of the link of this number was given.
-    fn finish(&mut self, number: u64, act: Act)
-        ensures { self.new ≡ finished number act self.old }
+    /// An act of the link of this number was given. Before, so many of its tunnels took a place.
+    fn finish(&mut self, number: u64, act: Act, before: usize)
+        ensures { self.new ≡ finished number act before self.old }
     {
         if let Act::Close { link, .. } = act {
             self.leave(number, link);
         }
-        self.touch(number);
+        self.touch(number, before);
     }
 
     /// The act that is due of the link of this number.
     fn act_of(&mut self, number: u64) -> Option<Act>
         ensures acts { ActsOf number result self.old self.new }
         ensures stirs { StirsBut (closed_in result) self.old self.new }
+        ensures counts { Recounts self.old self.new }
     {
+        let before = self.places_at(number);
         let Some(link) = self.links.at(number) else {
             return None;
         };
         let Some(act) = link.next_act() else {
             return None;
         };
-        self.finish(number, act);
+        self.finish(number, act, before);
         Some(act)
     }
 
@@ -70,6 +73,7 @@ impl Links {
         ensures acts { Acts result self.old self.new }
         ensures none { IfNone result (is_idle self.new ≡ true) }
         ensures stirs { StirsBut (closed_in result) self.old self.new }
+        ensures counts { Recounts self.old self.new }
     {
         while let Some(number) = self.next_from() {
             if let Some(act) = self.act_of(number) {
@@ -86,6 +90,7 @@ impl Links {
         ensures acts { Acts result self.old self.new }
         ensures none { IfNone result (is_idle self.new ≡ true) }
         ensures stirs { StirsBut (closed_in result) self.old self.new }
+        ensures counts { Recounts self.old self.new }
     {
         let Some(number) = self.busy else {
             return self.walk();

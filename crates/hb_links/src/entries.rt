@@ -1,8 +1,9 @@
 //! What comes and goes on links that are open.
 
-ghost use Rattle.std.specs.Prelude.{◌≡◌, ◌≤◌, length, OnOk};
+ghost use Rattle.std.specs.Prelude.{◌≡◌, ◌≤◌, ◌-◌, ◌^◌, min, length, OnOk};
 ghost use Rattle.hb_world.specs.declared.entry.Entry.TheVariants as e;
 ghost use Rattle.hb_links.specs.Calls.{Enters, Goes, Takes, wants_of, held_of};
+ghost use Rattle.hb_links.specs.Load.{others_of, Recounts};
 ghost use Rattle.hb_links.specs.Stirring.{Stirs};
 
 use crate::links::Links;
@@ -10,52 +11,66 @@ use hb_base::NoMemory;
 use hb_held::Held;
 use hb_link::Notes;
 
+/// How many places the tunnels of other links take, where one link's take so many; as far as a limit may go.
+fn other_places(taken: u128, own: usize) -> usize
+    ensures { result ≡ min (taken - own) (2 ^ 64 - 1) }
+{
+    let others = taken.saturating_sub(own as u128);
+    usize::try_from(others).unwrap_or(usize::MAX)
+}
+
 impl Links {
     /// The upstream of this number is open.
     pub fn opened<N: Notes>(&mut self, number: u64, notes: &mut N)
         ensures meets { Enters number (e.Opened number) self.old (N.told notes.old) self.new (N.told notes.new) }
         ensures stirs { Stirs self.old self.new }
+        ensures counts { Recounts self.old self.new }
     {
         let Some(place) = self.ups.get(number).copied() else {
             return;
         };
+        let before = self.places_at(place.link);
         let Some(link) = self.links.at(place.link) else {
             return;
         };
         link.up_opened(place.stream, notes);
-        self.touch(place.link);
+        self.touch(place.link, before);
     }
 
-    /// These bytes were read, while this was held, and the tunnels of other links took so many places of all that there may be.
+    /// These bytes were read, while this was held. A request finds all places taken where `limit` tunnels of all links take one.
     ///
     /// Errors: `NoMemory`, behind which the run ends.
     pub fn took<N: Notes>(
         &mut self,
         number: u64,
         held: &Held,
-        others: usize,
         limit: usize,
         b: &[u8],
         notes: &mut N,
     ) -> Result<(), NoMemory>
         requires { length b.now ≤ wants_of self.old number }
-        ensures meets { OnOk result (Takes held.now others limit number b.now self.old (N.told notes.old) self.new (N.told notes.new)) }
+        ensures meets { OnOk result (Takes held.now (others_of self.old number) limit number b.now self.old (N.told notes.old) self.new
+            (N.told notes.new)) }
         ensures stirs { OnOk result (Stirs self.old self.new) }
+        ensures counts { OnOk result (Recounts self.old self.new) }
     {
         match self.ups.get(number).copied() {
             Some(place) => {
+                let before = self.places_at(place.link);
                 let Some(link) = self.links.at(place.link) else {
                     return Ok(());
                 };
                 link.up_bytes(place.stream, b);
-                self.touch(place.link);
+                self.touch(place.link, before);
             }
             None => {
+                let before = self.places_at(number);
+                let others = other_places(self.taken, before);
                 let Some(link) = self.links.at(number) else {
                     return Ok(());
                 };
                 link.take_bytes(held, others, limit, b, notes)?;
-                self.touch(number);
+                self.touch(number, before);
             }
         }
         Ok(())
@@ -65,21 +80,24 @@ impl Links {
     pub fn ended<N: Notes>(&mut self, number: u64, notes: &mut N)
         ensures meets { Enters number (e.Ended number) self.old (N.told notes.old) self.new (N.told notes.new) }
         ensures stirs { Stirs self.old self.new }
+        ensures counts { Recounts self.old self.new }
     {
         match self.ups.get(number).copied() {
             Some(place) => {
+                let before = self.places_at(place.link);
                 let Some(link) = self.links.at(place.link) else {
                     return;
                 };
                 link.up_ended(place.stream, notes);
-                self.touch(place.link);
+                self.touch(place.link, before);
             }
             None => {
+                let before = self.places_at(number);
                 let Some(link) = self.links.at(number) else {
                     return;
                 };
                 link.ended(notes);
-                self.touch(number);
+                self.touch(number, before);
             }
         }
     }
@@ -88,21 +106,24 @@ impl Links {
     pub fn broke<N: Notes>(&mut self, number: u64, notes: &mut N)
         ensures meets { Enters number (e.Broke number) self.old (N.told notes.old) self.new (N.told notes.new) }
         ensures stirs { Stirs self.old self.new }
+        ensures counts { Recounts self.old self.new }
     {
         match self.ups.get(number).copied() {
             Some(place) => {
+                let before = self.places_at(place.link);
                 let Some(link) = self.links.at(place.link) else {
                     return;
                 };
                 link.up_broke(place.stream, notes);
-                self.touch(place.link);
+                self.touch(place.link, before);
             }
             None => {
+                let before = self.places_at(number);
                 let Some(link) = self.links.at(number) else {
                     return;
                 };
                 link.broke(notes);
-                self.touch(number);
+                self.touch(number, before);
             }
         }
     }
@@ -112,21 +133,24 @@ impl Links {
         requires { count ≤ length (held_of self.old number) }
         ensures meets { Goes number count self.old (N.told notes.old) self.new (N.told notes.new) }
         ensures stirs { Stirs self.old self.new }
+        ensures counts { Recounts self.old self.new }
     {
         match self.ups.get(number).copied() {
             Some(place) => {
+                let before = self.places_at(place.link);
                 let Some(link) = self.links.at(place.link) else {
                     return;
                 };
                 link.up_wrote(place.stream, count, notes);
-                self.touch(place.link);
+                self.touch(place.link, before);
             }
             None => {
+                let before = self.places_at(number);
                 let Some(link) = self.links.at(number) else {
                     return;
                 };
                 link.wrote(count, notes);
-                self.touch(number);
+                self.touch(number, before);
             }
         }
     }

@@ -1,9 +1,11 @@
 //! All inbound links.
 
 ghost use Rattle.std.specs.Prelude.{◌≡◌, OnOk};
+ghost use Rattle.std.specs.FinMap.{get};
 ghost use Rattle.hb_inbound.specs.Inbound.{no_link};
-ghost use Rattle.hb_links.specs.Busy.{touched, made_due, stirred, is_idle};
+ghost use Rattle.hb_links.specs.Busy.{touched, counted, made_due, stirred, is_idle};
 ghost use Rattle.hb_links.specs.Calls.{Begins, TurnsAway, count_of};
+ghost use Rattle.hb_links.specs.Load.{places_in, recount, IsCounted, Recounts};
 ghost use Rattle.hb_links.specs.Shows.{ShowsAll};
 ghost use Rattle.hb_links.specs.Stirring.{Stirs};
 
@@ -13,6 +15,15 @@ use hb_base::NoMemory;
 use hb_link::Link;
 use hb_map::ById;
 use std::alloc::Global;
+
+/// The count of places, where those of one link became others.
+fn recounted(taken: u128, before: usize, behind: usize) -> u128
+    ensures { result ≡ recount taken before behind }
+{
+    taken
+        .saturating_sub(before as u128)
+        .saturating_add(behind as u128)
+}
 
 /// The inbound links of a node.
 #[derive(Drop)]
@@ -29,12 +40,15 @@ pub struct Links {
     pub(crate) stirs: Option<Family>,
     /// So it is of all links from this number on, and of their upstreams.
     pub(crate) stirs_from: Option<u64>,
+    /// How many tunnels of all links take a place. A link has fewer than 2^32, and fewer than 2^64 links are kept.
+    pub(crate) taken: u128,
 }
 
 impl Links {
     /// None: before each link's birth.
     pub fn new(alloc: Global) -> Links
-        ensures { ShowsAll result (λ l. no_link) }
+        ensures shows { ShowsAll result (λ l. no_link) }
+        ensures counted { IsCounted result }
     {
         Links {
             alloc,
@@ -44,7 +58,25 @@ impl Links {
             from: None,
             stirs: None,
             stirs_from: None,
+            taken: 0,
         }
+    }
+
+    /// How many tunnels of the link of this number take a place.
+    pub(crate) fn places_at(&self, number: u64) -> usize
+        ensures { result ≡ places_in (get self.now.links number) }
+    {
+        match self.links.get(number) {
+            Some(link) => link.load(),
+            None => 0,
+        }
+    }
+
+    /// The tunnels of this link are counted anew, of which so many took a place before.
+    pub(crate) fn count(&mut self, link: u64, before: usize)
+        ensures { self.new ≡ counted link before self.old }
+    {
+        self.taken = recounted(self.taken, before, self.places_at(link));
     }
 
     /// This link may have an act due from now on.
@@ -84,10 +116,11 @@ impl Links {
         }
     }
 
-    /// This link was told something.
-    pub(crate) fn touch(&mut self, link: u64)
-        ensures { self.new ≡ touched link self.old }
+    /// This link was told something. Before, so many of its tunnels took a place.
+    pub(crate) fn touch(&mut self, link: u64, before: usize)
+        ensures { self.new ≡ touched link before self.old }
     {
+        self.count(link, before);
         self.make_due(link);
         self.stir(link);
     }
@@ -105,10 +138,12 @@ impl Links {
     pub fn accepted(&mut self, number: u64) -> Result<(), NoMemory>
         ensures meets { OnOk result (Begins number self.old self.new) }
         ensures stirs { OnOk result (Stirs self.old self.new) }
+        ensures counts { OnOk result (Recounts self.old self.new) }
     {
         let link = Link::accepted(self.alloc, number)?;
+        let before = self.places_at(number);
         self.links.put(number, link)?;
-        self.touch(number);
+        self.touch(number, before);
         Ok(())
     }
 
@@ -118,10 +153,12 @@ impl Links {
     pub fn turned_away(&mut self, number: u64) -> Result<(), NoMemory>
         ensures meets { OnOk result (TurnsAway number self.old self.new) }
         ensures stirs { OnOk result (Stirs self.old self.new) }
+        ensures counts { OnOk result (Recounts self.old self.new) }
     {
         let link = Link::turned_away(self.alloc, number)?;
+        let before = self.places_at(number);
         self.links.put(number, link)?;
-        self.touch(number);
+        self.touch(number, before);
         Ok(())
     }
 

@@ -52,7 +52,7 @@ impl Links {
     }
 
     /// The number of a link on which more may be read, or is to be written, than when that was told last: of an inbound link, or of an
-    /// upstream of one. `None` exactly where none is left that wasn't told.
+    /// upstream of one. `None` where none is left that was not told.
     pub fn next_stirred(&mut self) -> Option<u64>
         ensures hears { Hears result self.old self.new }
         ensures none { IfNone result ((n : ℕ) → stirs_at self.new n ≡ false) }

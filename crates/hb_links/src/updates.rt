@@ -4,6 +4,7 @@ ghost use Rattle.std.specs.Prelude.{◌+◌};
 ghost use Rattle.std.specs.FinMap.{get};
 ghost use Rattle.hb_link.specs.Calls.{Updates as Judges, Stops};
 ghost use Rattle.hb_links.specs.Calls.{Updates, Stops as AllStop};
+ghost use Rattle.hb_links.specs.Load.{Recounts};
 ghost use Rattle.hb_links.specs.Stirring.{Stirs};
 ghost use Rattle.hb_links.specs.Walks.{IsNext, TellsBy};
 
@@ -26,28 +27,35 @@ pub(crate) fn first_behind(links: &ById<u64, Link>, number: u64) -> Option<u64>
 impl Links {
     /// What a response that was applied makes of the link of this number.
     fn judge_at<N: Notes>(&mut self, number: u64, held: &Held, notes: &mut N)
-        ensures { TellsBy (Judges held.now) (get self.old.links number) number self.old (N.told notes.old) self.new (N.told notes.new) }
+        ensures tells { TellsBy (Judges held.now) (get self.old.links number) number self.old (N.told notes.old) self.new (N.told notes.new) }
+        ensures counts { Recounts self.old self.new }
     {
+        let before = self.places_at(number);
         let Some(link) = self.links.at(number) else {
             return;
         };
         link.judge_all(held, notes);
+        self.count(number, before);
     }
 
     /// What the end of the run makes of it.
     fn stop_at<N: Notes>(&mut self, number: u64, cause: Cause, notes: &mut N)
-        ensures { TellsBy (Stops cause) (get self.old.links number) number self.old (N.told notes.old) self.new (N.told notes.new) }
+        ensures tells { TellsBy (Stops cause) (get self.old.links number) number self.old (N.told notes.old) self.new (N.told notes.new) }
+        ensures counts { Recounts self.old self.new }
     {
+        let before = self.places_at(number);
         let Some(link) = self.links.at(number) else {
             return;
         };
         link.stopped(cause, notes);
+        self.count(number, before);
     }
 
     /// A response was applied, which made this of what is held: each tunnel of each link that is no longer admitted ends.
     pub fn applied<N: Notes>(&mut self, held: &Held, notes: &mut N)
         ensures meets { Updates held.now self.old (N.told notes.old) self.new (N.told notes.new) }
         ensures stirs { Stirs self.old self.new }
+        ensures counts { Recounts self.old self.new }
     {
         let mut from = self.links.first_from(0);
         while let Some(number) = from {
@@ -62,6 +70,7 @@ impl Links {
     pub fn stopped<N: Notes>(&mut self, cause: Cause, notes: &mut N)
         ensures meets { AllStop cause self.old (N.told notes.old) self.new (N.told notes.new) }
         ensures stirs { Stirs self.old self.new }
+        ensures counts { Recounts self.old self.new }
     {
         let mut from = self.links.first_from(0);
         while let Some(number) = from {

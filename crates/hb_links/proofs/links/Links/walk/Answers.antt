@@ -1,7 +1,8 @@
 use Rattle.std.proofs.Common.{rules, ◌≡◌, Option, Some, None, refl, ap, sym, ◌∙◌, subst}
 use Rattle.hb_links.specs.declared.links.Links.{Links}
+use Rattle.hb_links.specs.Load.{IsCounted, Recounts}
 use Rattle.hb_links.specs.Stirring.{Stirs, StirsBut, closed_in}
-use Rattle.hb_links.specs.Walks.{ActsOf, GoesTo}
+use Rattle.hb_links.specs.Walks.{ActsOf, GoesTo, Skips}
 use Rattle.hb_links.proofs.Stirs.{same_stirs, stirs_all_then, stirs_but_then, any_stirs}
 use Rattle.hb_links.proofs.Walking.{keeps_then, acts_then, goes_keeps, skip_keeps}
 use Rattle.hb_links.proofs.links.Links.walk.Goals as goal
@@ -10,6 +11,12 @@ use Rattle.hb_links.proofs.links.Links.walk.Goals as goal
 goes_stirs : (a b : Links) (next : Option _) → GoesTo next a b → Stirs a b
 goes_stirs a b next goes =
     subst (λ (k : Links). Stirs a k) (sym goes.0) (same_stirs a (record a { from = next }) (λ j. refl) refl refl refl)
+
+goes_counts : (a b : Links) (next : Option _) → GoesTo next a b → Recounts a b
+goes_counts a b next goes all = subst (λ (k : Links). IsCounted k) (sym goes.0) all
+
+skip_counts : (a b : Links) (n : _) → Skips n a b → Recounts a b
+skip_counts a b n skips all = subst (λ (k : Links). IsCounted k) (sym skips.0) all
 
 pub returns-in-Some-act_of-clause-acts : goal.returns-in-Some-act_of-clause-acts
 returns-in-Some-act_of-clause-acts c =
@@ -51,9 +58,20 @@ loop-number-preserved c =
           (stirs_all_then mid asked last (any_stirs mid asked stirs)
           (subst (λ (k : Links). Stirs asked k) (sym c.skip.ensures.0)
           (same_stirs asked (record asked { from = last.from }) (λ j. refl) refl refl refl)))),
+      λ all. skip_counts asked last n c.skip.ensures
+          (c.act_of.ensures.counts (goes_counts old mid c.next_from.result c.next_from.ensures (c.loop-number.invariant.3 all))),
     )
 
 pub returns-clause-stirs : goal.returns-clause-stirs
 returns-clause-stirs c = λ n apart.
     stirs_all_then c.args.self.now c.loop-number.self c.next_from.new.self c.loop-number.invariant.2
     (goes_stirs c.loop-number.self c.next_from.new.self c.next_from.result c.next_from.ensures) n
+
+pub returns-in-Some-act_of-clause-counts : goal.returns-in-Some-act_of-clause-counts
+returns-in-Some-act_of-clause-counts c = λ all.
+    c.in-Some-act_of.ensures.counts
+    (goes_counts c.loop-number.self c.next_from.new.self c.next_from.result c.next_from.ensures (c.loop-number.invariant.3 all))
+
+pub returns-clause-counts : goal.returns-clause-counts
+returns-clause-counts c = λ all.
+    goes_counts c.loop-number.self c.next_from.new.self c.next_from.result c.next_from.ensures (c.loop-number.invariant.3 all)
