@@ -128,7 +128,8 @@ module _ {N : Type 0} (stands : List Note → N → List Entry → Type 0) (show
   pub left_obeys : {A E : Type 0} (r : Result A E) (run : Run N) (told : Option (List Entry)) → IfSome told (Left stands shown r run)
       → IfSome told (Obeys stands shown run.records)
   left_obeys (Ok x) run told had = each (Stands stands shown run) (Obeys stands shown run.records) told (λ trace s. s.matches.obeys) had
-  left_obeys (Err why) run told had = each (Lacks stands shown run.records) (Obeys stands shown run.records) told (λ trace lacks. lacks.0) had
+  left_obeys (Err why) run told had =
+      each (Lacks stands shown run.records) (Obeys stands shown run.records) told (λ trace lacks. lacks.0) had
 
   -- the closes at the end are those of a run that is over
   over : (words : ServeWords) (end : ServeEnd) (more trace : List Entry) → Finishes words end trace → IsStoodFor stands shown end trace
