@@ -68,7 +68,7 @@ impl Node {
         &self.held
     }
 
-    /// The number of the link to the control plane that lives.
+    /// The number of the link to the control plane that lives. `None`: none does.
     pub fn number(&self) -> Option<u64>
         ensures { result ≡ number_of self.now.link }
     {
