@@ -8,11 +8,12 @@ ghost use Rattle.hb_script.specs.Script.{lines};
 ghost use Rattle.hb_words.specs.AskedReplay.{replay_seen};
 ghost use Rattle.hb_replay.specs.Run.{config_of, serve_end, report_of, IsRun, DoneLawfully, Replays};
 
-use hb_base::{Bytes, List, NoMemory, Or, Text};
-use hb_loop::{ServeEnd, ServeWords, serve};
+use hb_base::{Bytes, List, NoMemory, Note, Or, Text};
 use hb_model::NodeConfig;
 use hb_report::{Flags, put_report, totals_of};
 use hb_script::{ScriptFault, read_script};
+use hb_serve::{ServeWords, serve};
+use hb_turns::{Keep, ServeEnd};
 use hb_words::Replay;
 use hb_world::{Entry, Line, ScriptWorld};
 use std::alloc::Global;
@@ -60,6 +61,7 @@ fn config_of(alloc: Global, words: &Replay<'_>) -> Result<NodeConfig, NoMemory>
 fn run_over(
     alloc: Global,
     words: &Replay<'_>,
+    keep: &mut Keep,
     script: &mut ScriptWorld,
 ) -> Result<ReplayEnd, NoMemory>
     requires { script.old.trace ≡ [] }
@@ -69,11 +71,13 @@ fn run_over(
 {
     let asked = ServeWords {
         config: config_of(alloc, words)?,
+        inbound: words.inbound,
+        tunnels: words.tunnels as usize,
         turns: words.turns,
         ticks: None,
     };
-    let served = serve(alloc, asked, script);
-    if served.wanting {
+    let served = serve(alloc, asked, keep, script);
+    if served.wanting | served.unkept {
         return Err(NoMemory);
     }
     match served.end {
@@ -84,17 +88,22 @@ fn run_over(
     }
 }
 
-/// The report of a run with this trace.
-fn report_of(alloc: Global, words: &Replay<'_>, trace: &[Entry]) -> Result<Vec<u8>, NoMemory>
+/// The report of a run with this trace and these notes.
+fn report_of(
+    alloc: Global,
+    words: &Replay<'_>,
+    trace: &[Entry],
+    notes: &[Note],
+) -> Result<Vec<u8>, NoMemory>
     ensures { IfOk result (λ text. text.items ≡ report_of (replay_seen words.now) trace.now) }
 {
     let flags = Flags {
         trace: words.trace,
         brief: words.brief,
     };
-    let totals = totals_of(alloc, trace)?;
+    let totals = totals_of(alloc, trace, notes)?;
     let mut text = Vec::new(alloc);
-    put_report(alloc, &flags, trace, &totals, &mut text)?;
+    put_report(alloc, &flags, trace, notes, &totals, &mut text)?;
     Ok(text)
 }
 
@@ -120,7 +129,8 @@ pub fn replay(
     ensures { Replays (replay_seen words.now) text script.new result }
 {
     script.load(lines_of(alloc, text)?)?;
-    let end = run_over(alloc, words, script)?;
-    let report = report_of(alloc, words, script.entries())?;
+    let mut keep = Keep::all(alloc);
+    let end = run_over(alloc, words, &mut keep, script)?;
+    let report = report_of(alloc, words, script.entries(), keep.notes())?;
     Ok(Replayed { end, report })
 }

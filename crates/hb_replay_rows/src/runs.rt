@@ -4,6 +4,7 @@ use crate::notation::{cut, spelled, text_of};
 use crate::rows::{
     REFUSED, ROWS_1, ROWS_2, ROWS_3, ROWS_4, ROWS_5, ROWS_6, ROWS_7, ROWS_8, ROWS_9, ROWS_10, USAGE,
 };
+use crate::tunnels::TUNNELS;
 use hb_base::{MemSink, MemSource};
 use hb_cli::run;
 use hb_world::ScriptWorld;
@@ -138,6 +139,11 @@ fn runs_of_the_ninth_table_end_as_the_formats_say(rt: HostRuntime) {
 #[test]
 fn runs_of_the_tenth_table_end_as_the_formats_say(rt: HostRuntime) {
     assert_table(&rt, ROWS_10);
+}
+
+#[test]
+fn runs_over_the_inbound_door_end_as_the_rules_say(rt: HostRuntime) {
+    assert_table(&rt, TUNNELS);
 }
 
 /// Words that aren't accepted, each ended by `|`, and why they aren't. The input is no script, and nothing is read of it.
