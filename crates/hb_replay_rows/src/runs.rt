@@ -7,6 +7,7 @@ use crate::rows::{
 use crate::tunnels::TUNNELS;
 use hb_base::{MemSink, MemSource};
 use hb_cli::run;
+use hb_turns::Keep;
 use hb_world::ScriptWorld;
 use std::alloc::Global;
 use std::process::Abort;
@@ -56,8 +57,17 @@ pub fn told_of(
     let mut source = MemSource::over(alloc, script, &[failing.take]).expect(rt, "memory");
     let mut out = MemSink::new(alloc, failing.room, &[failing.put]).expect(rt, "memory");
     let mut err = MemSink::new(alloc, ERR_ROOM, &[0]).expect(rt, "memory");
+    let mut keep = Keep::all(alloc);
     let mut world = ScriptWorld::new(alloc);
-    let status = run(alloc, words, &mut source, &mut out, &mut err, &mut world);
+    let status = run(
+        alloc,
+        words,
+        &mut source,
+        &mut out,
+        &mut err,
+        &mut keep,
+        &mut world,
+    );
     let output = text_of(out.as_slice());
     let error = text_of(err.as_slice());
     format!(in alloc; "{status}; {output}; {error}").expect(rt, "memory")

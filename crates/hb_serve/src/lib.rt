@@ -1,6 +1,7 @@
 //! A run of the whole proxy over a world, and what holds of its trace.
 #![tactic(auto)]
 
+mod asked;
 mod service;
 mod words;
 
