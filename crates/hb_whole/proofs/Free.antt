@@ -88,6 +88,13 @@ control_quiet s x shows none goes = record {
   calm = calm_of s.link x shows.link (none_closing s.config s.dials s.link none);
 }
 
+-- also behind the end of the run
+pub control_rests : (s : State) (x : Control) → Shows s x → due_of s ≡ None → ControlRests x
+control_rests s x shows none = record {
+  no_dial = shows.dials ∙ none_due s.config s.dials (number_of s.link) (closing_of s.link) none;
+  calm = calm_of s.link x shows.link (none_closing s.config s.dials s.link none);
+}
+
 pub rests_of : (x : Control) → model.IsQuiet x → ControlRests x
 rests_of x quiet = record { no_dial = quiet.no_dial; calm = quiet.calm }
 

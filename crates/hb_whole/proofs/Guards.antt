@@ -13,7 +13,7 @@ use Rattle.hb_inbound.specs.Part as part
 use Rattle.hb_inbound.specs.Runs as inbound
 use Rattle.hb_inbound.specs.Runs.{IsQuietAt, IsReadable, IsWritable, IsFaulted}
 use Rattle.hb_inbound.specs.Tunnel as t
-use Rattle.hb_inbound.specs.Tunnel.{Stage, up_entered}
+use Rattle.hb_inbound.specs.Tunnel.{Tunnel, Stage, up_entered}
 use Rattle.hb_link.specs.Calls.{IsLastWord}
 use Rattle.hb_link.specs.Observed.{up_wants_by, up_held_by}
 use Rattle.hb_links.proofs.Acting.{all_calm}
@@ -24,7 +24,7 @@ use Rattle.hb_links.specs.Reaches.{note_in}
 use Rattle.hb_model.specs.Runs as model
 use Rattle.hb_node.specs.State.{due_of}
 use Rattle.hb_proxy.specs.Doors.{without_doors}
-use Rattle.hb_proxy.specs.Machine.{Machine, with_part}
+use Rattle.hb_proxy.specs.Machine.{Machine, born_by, with_part}
 use Rattle.hb_proxy.specs.Points.{Point, of_link, entry_in}
 use Rattle.hb_proxy.specs.Runs.{BirthMayCome, LinkMayCome, Lets, Steps, link_first, is_link_faulted}
 use Rattle.hb_proxy.specs.Seen.{Seen, IsLinkThere, UpOpenBy}
@@ -39,6 +39,7 @@ use Rattle.hb_whole.specs.Sight.{owns, shown_of, wants_by, output_by, last_by}
 use Rattle.hb_whole.specs.Stands.{Stands}
 use Rattle.hb_whole.specs.declared.proxy.Proxy.{Proxy}
 use Rattle.hb_whole.proofs.Free.{Free, free, control_quiet, rests_of, goes_on, none_of}
+use Rattle.hb_whole.proofs.Still.{own_same, up_same}
 use Rattle.hb_whole.proofs.LinkMay.{open_phase, reads_phase, writes_phase, going_stage, opening_stage, live_wants, live_holds, is_at, free_link, link_steps, up_steps, wants_link, output_link, wants_up, holds_up, last_link}
 use Rattle.hb_whole.proofs.Routes.{Route, to_control, to_link, to_up, route, seen_of, open_then}
 
@@ -51,6 +52,8 @@ pub record Guarded (p : Proxy) (x : Machine) (l : ℕ) (z : Entry) : Type 0 wher
   pub one : entry_in point ≡ z ∷ []
   pub no_note : note_in point ≡ []
   pub control : next.control ≡ x.control
+  -- an entry that changes nothing leads nowhere else
+  pub same : ((y : Inbound) → inbound.entered z y ≡ y) → ((k : Tunnel) → up_entered z k ≡ k) → born_by x.born z ≡ x.born → next ≡ x
 
 pub guarded_link : (p : Proxy) (x : Machine) (l : ℕ) (z : Entry)
     → ((z : Entry) → point_for p.side.links l z ≡ Some (of_link l (part.entry z)))
@@ -64,6 +67,7 @@ guarded_link p x l z found may guard =
       one = refl;
       no_note = refl;
       control = refl;
+      same = λ own up born. own_same x l z (own (x.inbound l)) born;
     }
 
 pub guarded_up : (p : Proxy) (x : Machine) (u l s : ℕ) (z : Entry)
@@ -78,6 +82,7 @@ guarded_up p x u l s z found may guard =
       one = refl;
       no_note = refl;
       control = refl;
+      same = λ own up born. up_same x l s z up born;
     }
 
 not_both : (b : Bool) → b ≡ true → b ≡ false → ⊥

@@ -3,8 +3,10 @@ pub mod Free
 pub mod Routes
 pub mod ControlMay
 pub mod LinkMay
+pub mod Still
 pub mod Guards
 pub mod Telling
 pub mod Controlling
 pub mod Heard
 pub mod Resting
+pub mod Acting
