@@ -10,3 +10,4 @@ pub mod Controlling
 pub mod Heard
 pub mod Resting
 pub mod Acting
+pub mod Giving
