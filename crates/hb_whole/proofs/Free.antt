@@ -69,7 +69,7 @@ steady_calm m.live x none steady = steady.1
 steady_calm (m.faulted code) x none steady = absurd cc
 steady_calm (m.ending why) x none steady = absurd cc
 
-calm_of : (o : Option Link) (x : Control) → ShowsLink o x → closing_of o ≡ None → (l : ℕ) → IsCalmBy (x.links l).phase (x.links l)
+pub calm_of : (o : Option Link) (x : Control) → ShowsLink o x → closing_of o ≡ None → (l : ℕ) → IsCalmBy (x.links l).phase (x.links l)
 calm_of None x shows none l = gone_calm (x.links l).phase (x.links l) (shows.1 l)
 calm_of (Some k) x shows none l = by (cases_eq l k.number)
   where

@@ -1,6 +1,6 @@
 -- What an act that is given makes of the traces that the proxy stands for.
 use Rattle.std.proofs.Common.{◌≡◌, ◌≢◌, ◌⊎◌, inl, inr, ⊎_elim, ℕ, ◌<◌, ◌==◌, ◌&&◌, not, Bool, true, false, cond, List, [], ◌∷◌, ◌++◌, Option, Some, None, refl, ap, sym, ◌∙◌, subst, arith}
-use Rattle.std.proofs.lemmas.Bool.{and_parts, cases_eq, eqb-true, false≢true}
+use Rattle.std.proofs.lemmas.Bool.{and_parts, cases_eq}
 use Rattle.hb_base.specs.declared.cause.Cause.{Cause}
 use Rattle.hb_base.specs.declared.door.Why.{Why}
 use Rattle.hb_base.specs.declared.door.Why.TheVariants as whys
@@ -163,29 +163,31 @@ up_some x g points run l s u mine =
     let none : upstream_of l s ≡ nobody = sym mine ∙ ap (λ (n : ℕ). whose_in points n) zero ∙ (all_owned g x points run).none in absurd cc)
     (λ apart. omega (arith, apart)) (cases_eq u 0)
 
+-- a link that ends so is of a run that does
+pub ends_at : (c : Cause) (x : Machine) (l : ℕ) (p : Part) (next : Inbound) → LinkEnds c next.phase
+    → ((s : ℕ) → TunnelEnds c (next.tunnels s).stage) → Ends c x → Ends c (with_part l p next x)
+ends_at c x l p next phase tunnels is = record {
+  control = is.control;
+  links = λ k. by (k == l) k (is.links k);
+  tunnels = λ k s. by_tunnel (k == l) k s (is.tunnels k s);
+}
+  where
+    by : (b : Bool) (k : ℕ) → LinkEnds c (x.inbound k).phase → LinkEnds c (cond b next (x.inbound k)).phase
+    by true k so = phase
+    by false k so = so
+
+    by_tunnel : (b : Bool) (k s : ℕ) → TunnelEnds c ((x.inbound k).tunnels s).stage → TunnelEnds c ((cond b next (x.inbound k)).tunnels s).stage
+    by_tunnel true k s so = tunnels s
+    by_tunnel false k s so = so
+
 -- how the run ends stays so
 link_ends_at : (ends : Option Cause) (x : Machine) (l : ℕ) (p : Part) (next : Inbound)
     → ((c : Cause) → LinkEnds c (x.inbound l).phase → LinkEnds c next.phase)
     → ((c : Cause) (s : ℕ) → TunnelEnds c ((x.inbound l).tunnels s).stage → TunnelEnds c (next.tunnels s).stage)
     → EndsBy ends x → EndsBy ends (with_part l p next x)
 link_ends_at None x l p next phase tunnels is = is
-link_ends_at (Some c) x l p next phase tunnels is = (is.0, record {
-  control = is.1.control;
-  links = λ k. by (k == l) k refl (is.1.links k);
-  tunnels = λ k s. by_tunnel (k == l) k s refl (is.1.tunnels k s);
-})
-  where
-    here : (k : ℕ) → (k == l) ≡ true → k ≡ l
-    here k is = eqb-true k l is
-
-    by : (b : Bool) (k : ℕ) → (k == l) ≡ b → LinkEnds c (x.inbound k).phase → LinkEnds c (cond b next (x.inbound k)).phase
-    by true k at so = phase c (subst (λ (j : ℕ). LinkEnds c (x.inbound j).phase) (here k at) so)
-    by false k at so = so
-
-    by_tunnel : (b : Bool) (k s : ℕ) → (k == l) ≡ b → TunnelEnds c ((x.inbound k).tunnels s).stage
-        → TunnelEnds c ((cond b next (x.inbound k)).tunnels s).stage
-    by_tunnel true k s at so = tunnels c s (subst (λ (j : ℕ). TunnelEnds c ((x.inbound j).tunnels s).stage) (here k at) so)
-    by_tunnel false k s at so = so
+link_ends_at (Some c) x l p next phase tunnels is =
+    (is.0, ends_at c x l p next (phase c (is.1.links l)) (λ s. tunnels c s (is.1.tunnels l s)) is.1)
 
 -- one act of a link is done
 module _ (taken : List Note) (p : Proxy) (links_behind : Links) (trace : List Entry) (s : Stands taken p trace) (l : ℕ) (q : Part) (z : Entry)

@@ -11,3 +11,4 @@ pub mod Heard
 pub mod Resting
 pub mod Acting
 pub mod Giving
+pub mod Ending
