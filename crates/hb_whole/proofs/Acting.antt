@@ -110,11 +110,14 @@ closing_for (d.ending why) cause c is ends = let same : why ≡ cause = cc in sy
 closed_ends : (g : NodeConfig) (x : Machine) (l : ℕ) (cause : Cause) (ends : Option Cause) → EndsBy ends x
     → EndsBy ends (with_control (point.entry (e.Closed l cause)) (control.entered g (e.Closed l cause) x.control) x)
 closed_ends g x l cause None is = is
-closed_ends g x l cause (Some c) is = (is.0, record {
-  control = λ k. by (l == k) k (is.1.control k);
-  links = λ k. is.1.links k;
-  tunnels = λ k s. is.1.tunnels k s;
-})
+closed_ends g x l cause (Some c) is = (
+  is.0,
+  record {
+    control = λ k. by (l == k) k (is.1.control k);
+    links = λ k. is.1.links k;
+    tunnels = λ k s. is.1.tunnels k s;
+  },
+)
   where
     by : (b : Bool) (k : ℕ) → ControlEnds c (x.control.links k).phase
         → ControlEnds c (cond b (control.with_phase (λ p. d.closed) (x.control.links k)) (x.control.links k)).phase

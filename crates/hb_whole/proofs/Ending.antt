@@ -253,8 +253,12 @@ stops p n side c control_stops_so links_stop going none taken trace s = record {
     parts = and_parts _ _ (ap (λ (o : Option Cause). closes_by o p) (sym going) ∙ none)
 
     steps : Steps p.control.config x (of_control (point.stopped c)) y
-    steps = (control.with_stop c x.control, (runs_on p x s.ends going, refl),
-        λ l. (all_calm p.side.links x.inbound s.links l).answered, refl)
+    steps = (
+      control.with_stop c x.control,
+      (runs_on p x s.ends going, refl),
+      λ l. (all_calm p.side.links x.inbound s.links l).answered,
+      refl,
+    )
 
     follows : Follows unguarded Shown p.control.config y side.links (told p.side.notes) (told side.notes)
     follows = links_stop p.control.config x y s.points s.run s.links tt steps

@@ -125,13 +125,15 @@ control_gives p n (own.Close l cause) (Some c) is acts = λ taken trace s.
     )
 control_gives p n (own.Dial to why) None is acts =
     let same : record p { control = n } ≡ p = ap (λ (w : State). record p { control = w }) acts.2 in
-    subst (λ (w : Proxy). Acts Stands shown_of (Some (act.Dial to why)) p (given_behind None (act.Dial to why) w)) (sym same)
-    (refl, λ taken trace s.
-    let due = control_dials taken p trace s to why n acts in (
-      with_dial taken p trace s (Some (to, why))
-          (subst (λ (w : Why). DialIsDue p.control.config s.machine to w) (sym due.2) (due.0, due.1)),
-      act_stirs p p.side (Some (to, why)) p.strange trace (λ l alive. none_stirs p.side.links l),
-    ))
+    subst (λ (w : Proxy). Acts Stands shown_of (Some (act.Dial to why)) p (given_behind None (act.Dial to why) w)) (sym same) (
+      refl,
+      λ taken trace s.
+          let due = control_dials taken p trace s to why n acts in (
+            with_dial taken p trace s (Some (to, why))
+                (subst (λ (w : Why). DialIsDue p.control.config s.machine to w) (sym due.2) (due.0, due.1)),
+            act_stirs p p.side (Some (to, why)) p.strange trace (λ l alive. none_stirs p.side.links l),
+          ),
+    )
 control_gives p n (own.Dial to why) (Some c) is acts = λ taken trace s.
     absurd (no_dial_behind taken p trace s c is (control_dials taken p trace s to why n acts).0)
 
@@ -273,9 +275,10 @@ up_joins : (x : Machine) (g : NodeConfig) (points : List Point) → StandsFor g 
 up_joins x g points run l s u stage is up shape =
     let mine : whose_in points u ≡ upstream_of l s =
     shape.1 (whose_in points) u (subst (λ (v : ℕ). OwnsBy stage (whose_in points) l s v) up
-    (subst (λ (r : Stage). OwnsBy r (whose_in points) l s ((x.inbound l).tunnels s).up) is ((all_owned g x points run).up l s))) in
-    (up_some x g points run l s u mine,
-    ap (λ (r : Stage). up_by r ((x.inbound l).tunnels s)) is ∙ shape.0 ((x.inbound l).tunnels s) ∙ up)
+    (subst (λ (r : Stage). OwnsBy r (whose_in points) l s ((x.inbound l).tunnels s).up) is ((all_owned g x points run).up l s))) in (
+      up_some x g points run l s u mine,
+      ap (λ (r : Stage). up_by r ((x.inbound l).tunnels s)) is ∙ shape.0 ((x.inbound l).tunnels s) ∙ up,
+    )
 
 module _ (taken : List Note) (p : Proxy) (links_behind : Links) (trace : List Entry) (s : Stands taken p trace) (l k u : ℕ) where
   -- its close

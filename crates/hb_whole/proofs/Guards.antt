@@ -147,9 +147,10 @@ module _ (taken : List Note) (p : Proxy) (trace : List Entry) (s : Stands taken 
       by : Route p x l → Reads
       by (to_control mine there) = absurd (not_both (owns p l) mine other_one)
       by (to_link other there none found) =
-          link_reads none found
-          (quiet_at (x.inbound l) (all.links l) there,
-          subst (λ (n : ℕ). 0 < n) (wants_link p.side.links x.inbound s.links l none) some_here)
+          link_reads none found (
+            quiet_at (x.inbound l) (all.links l) there,
+            subst (λ (n : ℕ). 0 < n) (wants_link p.side.links x.inbound s.links l none) some_here,
+          )
       by (to_up other k q joins at found) =
           let more = subst (λ (n : ℕ). 0 < n) (wants_up p.side.links x.inbound s.links l k q at) some_here in
           let live = live_wants ((x.inbound k).tunnels q).stage ((x.inbound k).tunnels q) more in
@@ -170,15 +171,22 @@ module _ (taken : List Note) (p : Proxy) (trace : List Entry) (s : Stands taken 
 
       by : Reads → Guarded p x l (e.Came l bytes)
       by (link_reads none found readable) =
-          guarded_link p x l (e.Came l bytes) found
-          (refl, readable, octets, may.2,
-          subst (λ (n : ℕ). length bytes ≤ n) (wants_link p.side.links x.inbound s.links l none) (came_within bytes may.3))
+          guarded_link p x l (e.Came l bytes) found (
+            refl,
+            readable,
+            octets,
+            may.2,
+            subst (λ (n : ℕ). length bytes ≤ n) (wants_link p.side.links x.inbound s.links l none) (came_within bytes may.3),
+          )
           (free_link x l (e.Came l bytes) all tt)
       by (up_reads k q at found joins live some) =
-          guarded_up p x l k q (e.Came l bytes) found
-          (is_at (x.inbound k) q l t.live (all.links k) live (inr refl) joins, octets, may.2,
-          subst (λ (r : Stage). length bytes ≤ up_wants_by r ((x.inbound k).tunnels q)) live
-          (subst (λ (n : ℕ). length bytes ≤ n) (wants_up p.side.links x.inbound s.links l k q at) (came_within bytes may.3)))
+          guarded_up p x l k q (e.Came l bytes) found (
+            is_at (x.inbound k) q l t.live (all.links k) live (inr refl) joins,
+            octets,
+            may.2,
+            subst (λ (r : Stage). length bytes ≤ up_wants_by r ((x.inbound k).tunnels q)) live
+                (subst (λ (n : ℕ). length bytes ≤ n) (wants_up p.side.links x.inbound s.links l k q at) (came_within bytes may.3)),
+          )
           (free_link x k (e.Came l bytes) all tt)
 
   pub ended_may : MayCome (shown_of p) trace (e.Ended l) → Guarded p x l (e.Ended l)
@@ -316,9 +324,11 @@ module _ (taken : List Note) (p : Proxy) (trace : List Entry) (s : Stands taken 
       by (up_writes k q at found joins quiet going guard) =
           let same = holds_up p.side.links x.inbound s.links l k q at in
           let live = live_holds ((x.inbound k).tunnels q).stage ((x.inbound k).tunnels q) (subst (λ (bs : List ℕ). 0 < length bs) same waits) in
-          guarded_up p x l k q (e.Went l bytes) found
-          (is_at (x.inbound k) q l t.live quiet live (inr refl) joins, some,
-          (drop n out, sym (ap (λ (r : Stage). up_held_by r ((x.inbound k).tunnels q)) live) ∙ sym same ∙ whole))
+          guarded_up p x l k q (e.Went l bytes) found (
+            is_at (x.inbound k) q l t.live quiet live (inr refl) joins,
+            some,
+            (drop n out, sym (ap (λ (r : Stage). up_held_by r ((x.inbound k).tunnels q)) live) ∙ sym same ∙ whole),
+          )
           (guard (e.Went l bytes) tt)
 
   pub write_balks : MayCome (shown_of p) trace (e.Balked (way.Write l)) → Guarded p x l (e.Balked (way.Write l))
@@ -334,7 +344,8 @@ module _ (taken : List Note) (p : Proxy) (trace : List Entry) (s : Stands taken 
       by (up_writes k q at found joins quiet going guard) =
           let more = subst (λ (bs : List ℕ). 0 < length bs) (holds_up p.side.links x.inbound s.links l k q at) waits in
           let live = live_holds ((x.inbound k).tunnels q).stage ((x.inbound k).tunnels q) more in
-          guarded_up p x l k q (e.Balked (way.Write l)) found
-          (is_at (x.inbound k) q l t.live quiet live (inr refl) joins,
-          subst (λ (r : Stage). 0 < length (up_held_by r ((x.inbound k).tunnels q))) live more)
+          guarded_up p x l k q (e.Balked (way.Write l)) found (
+            is_at (x.inbound k) q l t.live quiet live (inr refl) joins,
+            subst (λ (r : Stage). 0 < length (up_held_by r ((x.inbound k).tunnels q))) live more,
+          )
           (guard (e.Balked (way.Write l)) tt)

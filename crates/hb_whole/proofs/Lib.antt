@@ -12,3 +12,9 @@ pub mod Resting
 pub mod Acting
 pub mod Giving
 pub mod Ending
+pub mod Born
+pub mod Births
+pub mod Outcomes
+pub mod Taking
+pub mod Given
+pub mod Starting

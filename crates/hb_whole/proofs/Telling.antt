@@ -103,13 +103,14 @@ pub side_stirs : (p : Proxy) (side : Side) (trace : List Entry)
 side_stirs p side trace stirs = act_stirs p side None p.strange trace stirs
 
 -- so the event loop's entry is told
-pub link_tells : (p : Proxy) (side : Side) (z : Entry) (l : ℕ) (G : Guard) (P : Machine → Type 0) → is_at_door z ≡ false
+pub link_tells : (p : Proxy) (side : Side) (z : Entry) (l : ℕ) (G : Point → Guard) (P : Machine → Type 0) → is_at_door z ≡ false
     → ((taken : List Note) (trace : List Entry) (s : Stands taken p trace) → shown.MayCome (shown_of p) trace z
     → (p.ends_for ≡ None) × Guarded p s.machine l z × P s.machine)
-    → ((point : Point) → point_for p.side.links l z ≡ Some point → Meets G P point p.side.links (told p.side.notes) side.links (told side.notes))
+    → ((point : Point) → point_for p.side.links l z ≡ Some point
+    → Meets (G point) P point p.side.links (told p.side.notes) side.links (told side.notes))
     → links.Stirs p.side.links side.links → Tells Stands shown_of z p (with_side side p)
 link_tells p side z l G P door guards meets stirs taken trace s may =
     let at = guards taken trace s may in (
-      link_stands taken p side trace z s l G P at.0 door at.1 at.2 (meets at.1.point at.1.found),
+      link_stands taken p side trace z s l (G at.1.point) P at.0 door at.1 at.2 (meets at.1.point at.1.found),
       side_stirs p side (trace ++ z ∷ []) (λ k alive. stirs k),
     )
