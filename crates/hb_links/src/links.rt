@@ -1,6 +1,6 @@
 //! All inbound links.
 
-ghost use Rattle.std.specs.Prelude.{◌≡◌, OnOk};
+ghost use Rattle.std.specs.Prelude.{true, ◌≡◌, OnOk};
 ghost use Rattle.std.specs.FinMap.{get};
 ghost use Rattle.hb_inbound.specs.Inbound.{no_link};
 ghost use Rattle.hb_links.specs.Busy.{touched, counted, made_due, stirred, is_idle};
@@ -49,6 +49,7 @@ impl Links {
     pub fn new(alloc: Global) -> Links
         ensures shows { ShowsAll result (λ l. no_link) }
         ensures counted { IsCounted result }
+        ensures idle { is_idle result ≡ true }
     {
         Links {
             alloc,

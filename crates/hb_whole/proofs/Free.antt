@@ -69,7 +69,7 @@ steady_calm m.live x none steady = steady.1
 steady_calm (m.faulted code) x none steady = absurd cc
 steady_calm (m.ending why) x none steady = absurd cc
 
-calm_of : (o : Option Link) (x : Control) → ShowsLink o x → closing_of o ≡ None → (l : ℕ) → IsCalmBy (x.links l).phase (x.links l)
+pub calm_of : (o : Option Link) (x : Control) → ShowsLink o x → closing_of o ≡ None → (l : ℕ) → IsCalmBy (x.links l).phase (x.links l)
 calm_of None x shows none l = gone_calm (x.links l).phase (x.links l) (shows.1 l)
 calm_of (Some k) x shows none l = by (cases_eq l k.number)
   where
@@ -85,6 +85,13 @@ pub control_quiet : (s : State) (x : Control) → Shows s x → due_of s ≡ Non
 control_quiet s x shows none goes = record {
   no_dial = shows.dials ∙ none_due s.config s.dials (number_of s.link) (closing_of s.link) none;
   goes = goes;
+  calm = calm_of s.link x shows.link (none_closing s.config s.dials s.link none);
+}
+
+-- also behind the end of the run
+pub control_rests : (s : State) (x : Control) → Shows s x → due_of s ≡ None → ControlRests x
+control_rests s x shows none = record {
+  no_dial = shows.dials ∙ none_due s.config s.dials (number_of s.link) (closing_of s.link) none;
   calm = calm_of s.link x shows.link (none_closing s.config s.dials s.link none);
 }
 

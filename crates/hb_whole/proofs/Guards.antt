@@ -13,7 +13,7 @@ use Rattle.hb_inbound.specs.Part as part
 use Rattle.hb_inbound.specs.Runs as inbound
 use Rattle.hb_inbound.specs.Runs.{IsQuietAt, IsReadable, IsWritable, IsFaulted}
 use Rattle.hb_inbound.specs.Tunnel as t
-use Rattle.hb_inbound.specs.Tunnel.{Stage, up_entered}
+use Rattle.hb_inbound.specs.Tunnel.{Tunnel, Stage, up_entered}
 use Rattle.hb_link.specs.Calls.{IsLastWord}
 use Rattle.hb_link.specs.Observed.{up_wants_by, up_held_by}
 use Rattle.hb_links.proofs.Acting.{all_calm}
@@ -24,7 +24,7 @@ use Rattle.hb_links.specs.Reaches.{note_in}
 use Rattle.hb_model.specs.Runs as model
 use Rattle.hb_node.specs.State.{due_of}
 use Rattle.hb_proxy.specs.Doors.{without_doors}
-use Rattle.hb_proxy.specs.Machine.{Machine, with_part}
+use Rattle.hb_proxy.specs.Machine.{Machine, born_by, with_part}
 use Rattle.hb_proxy.specs.Points.{Point, of_link, entry_in}
 use Rattle.hb_proxy.specs.Runs.{BirthMayCome, LinkMayCome, Lets, Steps, link_first, is_link_faulted}
 use Rattle.hb_proxy.specs.Seen.{Seen, IsLinkThere, UpOpenBy}
@@ -39,6 +39,7 @@ use Rattle.hb_whole.specs.Sight.{owns, shown_of, wants_by, output_by, last_by}
 use Rattle.hb_whole.specs.Stands.{Stands}
 use Rattle.hb_whole.specs.declared.proxy.Proxy.{Proxy}
 use Rattle.hb_whole.proofs.Free.{Free, free, control_quiet, rests_of, goes_on, none_of}
+use Rattle.hb_whole.proofs.Still.{own_same, up_same}
 use Rattle.hb_whole.proofs.LinkMay.{open_phase, reads_phase, writes_phase, going_stage, opening_stage, live_wants, live_holds, is_at, free_link, link_steps, up_steps, wants_link, output_link, wants_up, holds_up, last_link}
 use Rattle.hb_whole.proofs.Routes.{Route, to_control, to_link, to_up, route, seen_of, open_then}
 
@@ -51,6 +52,8 @@ pub record Guarded (p : Proxy) (x : Machine) (l : ℕ) (z : Entry) : Type 0 wher
   pub one : entry_in point ≡ z ∷ []
   pub no_note : note_in point ≡ []
   pub control : next.control ≡ x.control
+  -- an entry that changes nothing leads nowhere else
+  pub same : ((y : Inbound) → inbound.entered z y ≡ y) → ((k : Tunnel) → up_entered z k ≡ k) → born_by x.born z ≡ x.born → next ≡ x
 
 pub guarded_link : (p : Proxy) (x : Machine) (l : ℕ) (z : Entry)
     → ((z : Entry) → point_for p.side.links l z ≡ Some (of_link l (part.entry z)))
@@ -64,6 +67,7 @@ guarded_link p x l z found may guard =
       one = refl;
       no_note = refl;
       control = refl;
+      same = λ own up born. own_same x l z (own (x.inbound l)) born;
     }
 
 pub guarded_up : (p : Proxy) (x : Machine) (u l s : ℕ) (z : Entry)
@@ -78,6 +82,7 @@ guarded_up p x u l s z found may guard =
       one = refl;
       no_note = refl;
       control = refl;
+      same = λ own up born. up_same x l s z up born;
     }
 
 not_both : (b : Bool) → b ≡ true → b ≡ false → ⊥
@@ -142,9 +147,10 @@ module _ (taken : List Note) (p : Proxy) (trace : List Entry) (s : Stands taken 
       by : Route p x l → Reads
       by (to_control mine there) = absurd (not_both (owns p l) mine other_one)
       by (to_link other there none found) =
-          link_reads none found
-          (quiet_at (x.inbound l) (all.links l) there,
-          subst (λ (n : ℕ). 0 < n) (wants_link p.side.links x.inbound s.links l none) some_here)
+          link_reads none found (
+            quiet_at (x.inbound l) (all.links l) there,
+            subst (λ (n : ℕ). 0 < n) (wants_link p.side.links x.inbound s.links l none) some_here,
+          )
       by (to_up other k q joins at found) =
           let more = subst (λ (n : ℕ). 0 < n) (wants_up p.side.links x.inbound s.links l k q at) some_here in
           let live = live_wants ((x.inbound k).tunnels q).stage ((x.inbound k).tunnels q) more in
@@ -165,15 +171,22 @@ module _ (taken : List Note) (p : Proxy) (trace : List Entry) (s : Stands taken 
 
       by : Reads → Guarded p x l (e.Came l bytes)
       by (link_reads none found readable) =
-          guarded_link p x l (e.Came l bytes) found
-          (refl, readable, octets, may.2,
-          subst (λ (n : ℕ). length bytes ≤ n) (wants_link p.side.links x.inbound s.links l none) (came_within bytes may.3))
+          guarded_link p x l (e.Came l bytes) found (
+            refl,
+            readable,
+            octets,
+            may.2,
+            subst (λ (n : ℕ). length bytes ≤ n) (wants_link p.side.links x.inbound s.links l none) (came_within bytes may.3),
+          )
           (free_link x l (e.Came l bytes) all tt)
       by (up_reads k q at found joins live some) =
-          guarded_up p x l k q (e.Came l bytes) found
-          (is_at (x.inbound k) q l t.live (all.links k) live (inr refl) joins, octets, may.2,
-          subst (λ (r : Stage). length bytes ≤ up_wants_by r ((x.inbound k).tunnels q)) live
-          (subst (λ (n : ℕ). length bytes ≤ n) (wants_up p.side.links x.inbound s.links l k q at) (came_within bytes may.3)))
+          guarded_up p x l k q (e.Came l bytes) found (
+            is_at (x.inbound k) q l t.live (all.links k) live (inr refl) joins,
+            octets,
+            may.2,
+            subst (λ (r : Stage). length bytes ≤ up_wants_by r ((x.inbound k).tunnels q)) live
+                (subst (λ (n : ℕ). length bytes ≤ n) (wants_up p.side.links x.inbound s.links l k q at) (came_within bytes may.3)),
+          )
           (free_link x k (e.Came l bytes) all tt)
 
   pub ended_may : MayCome (shown_of p) trace (e.Ended l) → Guarded p x l (e.Ended l)
@@ -311,9 +324,11 @@ module _ (taken : List Note) (p : Proxy) (trace : List Entry) (s : Stands taken 
       by (up_writes k q at found joins quiet going guard) =
           let same = holds_up p.side.links x.inbound s.links l k q at in
           let live = live_holds ((x.inbound k).tunnels q).stage ((x.inbound k).tunnels q) (subst (λ (bs : List ℕ). 0 < length bs) same waits) in
-          guarded_up p x l k q (e.Went l bytes) found
-          (is_at (x.inbound k) q l t.live quiet live (inr refl) joins, some,
-          (drop n out, sym (ap (λ (r : Stage). up_held_by r ((x.inbound k).tunnels q)) live) ∙ sym same ∙ whole))
+          guarded_up p x l k q (e.Went l bytes) found (
+            is_at (x.inbound k) q l t.live quiet live (inr refl) joins,
+            some,
+            (drop n out, sym (ap (λ (r : Stage). up_held_by r ((x.inbound k).tunnels q)) live) ∙ sym same ∙ whole),
+          )
           (guard (e.Went l bytes) tt)
 
   pub write_balks : MayCome (shown_of p) trace (e.Balked (way.Write l)) → Guarded p x l (e.Balked (way.Write l))
@@ -329,7 +344,8 @@ module _ (taken : List Note) (p : Proxy) (trace : List Entry) (s : Stands taken 
       by (up_writes k q at found joins quiet going guard) =
           let more = subst (λ (bs : List ℕ). 0 < length bs) (holds_up p.side.links x.inbound s.links l k q at) waits in
           let live = live_holds ((x.inbound k).tunnels q).stage ((x.inbound k).tunnels q) more in
-          guarded_up p x l k q (e.Balked (way.Write l)) found
-          (is_at (x.inbound k) q l t.live quiet live (inr refl) joins,
-          subst (λ (r : Stage). 0 < length (up_held_by r ((x.inbound k).tunnels q))) live more)
+          guarded_up p x l k q (e.Balked (way.Write l)) found (
+            is_at (x.inbound k) q l t.live quiet live (inr refl) joins,
+            subst (λ (r : Stage). 0 < length (up_held_by r ((x.inbound k).tunnels q))) live more,
+          )
           (guard (e.Balked (way.Write l)) tt)

@@ -74,6 +74,12 @@ pub number_is : (o : Option Link) (x : Control) → ShowsLink o x → number_of 
 number_is None x shows = sym shows.0
 number_is (Some k) x shows = sym shows.0
 
+-- who was shown what is held stirs
+pub judged_stirs : (held : List Resources) (a b : Side) → Judged Judges held a b → links.Stirs a.links b.links
+judged_stirs [] a b judged = subst (λ (c : Side). links.Stirs a.links c.links) (sym judged) (none_stirs a.links)
+judged_stirs (h ∷ held) a b judged =
+    stirs_all_then a.links judged.0.links b.links judged.1.stirs (judged_stirs held judged.0 b judged.2)
+
 -- AN ENTRY
 
 pub record Entered (taken : List Note) (p : Proxy) (n : State) (side : Side) (trace : List Entry) (z : Entry) (s : Stands taken p trace)
@@ -81,6 +87,7 @@ pub record Entered (taken : List Note) (p : Proxy) (n : State) (side : Side) (tr
   pub stands : Stands taken (with_state n side p) (trace ++ z ∷ [])
   -- whose link is the machine's behind the entry
   pub number : number_of n.link ≡ current_after s.machine.control z
+  pub stirs : links.Stirs p.side.links side.links
 
 pub enters : (taken : List Note) (p : Proxy) (n : State) (side : Side) (trace : List Entry) (z : Entry) (s : Stands taken p trace)
     → s.machine.control.over ≡ false → p.ends_for ≡ None → is_at_door z ≡ false
@@ -105,6 +112,7 @@ enters taken p n side trace z s goes_so going door may guard told_so =
           (subst (λ (c : Control). Shows n c) (sym on.control) r.shows) on.links on.noted refl
           (subst (λ (o : Option _). EndsBy o on.machine) (sym going) (ap (λ (c : Control). c.over) on.control ∙ kept.0 ∙ goes_so)) refl;
       number = number_is n.link r.machine r.shows.link ∙ kept.1;
+      stirs = judged_stirs (held_behind m.held r.points) p.side side r.judged;
     }
 
 -- nobody was shown anything
@@ -123,11 +131,6 @@ judged_alone z p n enters = (
 )
 
 -- WHAT STIRRED
-
-pub judged_stirs : (held : List Resources) (a b : Side) → Judged Judges held a b → links.Stirs a.links b.links
-judged_stirs [] a b judged = subst (λ (c : Side). links.Stirs a.links c.links) (sym judged) (none_stirs a.links)
-judged_stirs (h ∷ held) a b judged =
-    stirs_all_then a.links judged.0.links b.links judged.1.stirs (judged_stirs held judged.0 b judged.2)
 
 state_stirs_at : (p : Proxy) (n : State) (side : Side) (l : ℕ) → (is_number (number_of n.link) l ≡ false → owns p l ≡ false)
     → links.StirsAt l p.side.links side.links
@@ -166,14 +169,14 @@ pub state_tells : (p : Proxy) (n : State) (side : Side) (z : Entry) → is_at_do
     → ((x : Control) → current_after x z ≡ x.current)
     → ((taken : List Note) (trace : List Entry) (s : Stands taken p trace) → MayCome (shown_of p) trace z
     → (p.ends_for ≡ None) × model.MayCome p.control.config s.machine.control z × ControlMayCome s.machine z)
-    → EntersJudged Judges z p.control n p.side side → links.Stirs p.side.links side.links → Tells Stands shown_of z p (with_state n side p)
-state_tells p n side z door same guards enters_so stirs taken trace s may =
+    → EntersJudged Judges z p.control n p.side side → Tells Stands shown_of z p (with_state n side p)
+state_tells p n side z door same guards enters_so taken trace s may =
     let at = guards taken trace s may in
     let did = enters taken p n side trace z s (runs_on p s.machine s.ends at.0) at.0 door at.1 at.2 enters_so in
     let number = did.number ∙ same s.machine.control ∙ sym (number_is p.control.link s.machine.control s.control.link) in (
       did.stands,
       state_stirs p n side (trace ++ z ∷ [])
-          (λ l none. ap (λ (o : Option ℕ). is_number o l) (sym number) ∙ none) stirs,
+          (λ l none. ap (λ (o : Option ℕ). is_number o l) (sym number) ∙ none) did.stirs,
     )
 
 -- WHICH MAY COME
@@ -199,15 +202,30 @@ module _ (taken : List Note) (p : Proxy) (trace : List Entry) (s : Stands taken 
 
   pub opened_may : MayCome (shown_of p) trace (e.Opened l) → Guarded (e.Opened l)
   opened_may may =
-      let all = free taken p trace s may.0 in
-      (may.0.0, (all.control, dialling_of (x.control.links l).phase (x.control.links l) (is_open l (without_doors trace)) there
-      (all.control.calm l) (seen.control_open l) (open_then trace l ∙ may.1.1)), free_control x (e.Opened l) all tt)
+      let all = free taken p trace s may.0 in (
+        may.0.0,
+        (
+          all.control,
+          dialling_of (x.control.links l).phase (x.control.links l) (is_open l (without_doors trace)) there
+              (all.control.calm l) (seen.control_open l) (open_then trace l ∙ may.1.1),
+        ),
+        free_control x (e.Opened l) all tt,
+      )
 
   pub finish_balks : MayCome (shown_of p) trace (e.Balked (way.Finish l)) → Guarded (e.Balked (way.Finish l))
   finish_balks may =
-      let all = free taken p trace s may.0 in
-      (may.0.0, (all.control.goes, (all.control, dialling_of (x.control.links l).phase (x.control.links l) (is_open l (without_doors trace)) there
-      (all.control.calm l) (seen.control_open l) (open_then trace l ∙ may.1.1))), free_control x (e.Balked (way.Finish l)) all tt)
+      let all = free taken p trace s may.0 in (
+        may.0.0,
+        (
+          all.control.goes,
+          (
+            all.control,
+            dialling_of (x.control.links l).phase (x.control.links l) (is_open l (without_doors trace)) there
+                (all.control.calm l) (seen.control_open l) (open_then trace l ∙ may.1.1),
+          ),
+        ),
+        free_control x (e.Balked (way.Finish l)) all tt,
+      )
 
   live : 0 < (shown_of p).wants l → (x.control.links l).phase ≡ d.live
   live some = live_of (x.control.links l).phase (x.control.links l) (subst (λ (n : ℕ). 0 < n) wanted some)
@@ -217,9 +235,11 @@ module _ (taken : List Note) (p : Proxy) (trace : List Entry) (s : Stands taken 
       let all = free taken p trace s may.0 in
       let some : 0 < length bytes = may.2 in
       let few : length bytes ≤ (shown_of p).wants l = may.3 in
-      let more : 0 < (shown_of p).wants l = omega arith in
-      (may.0.0, ((all.control, live more), octets, some, subst (λ (n : ℕ). length bytes ≤ n) wanted few),
-      free_control x (e.Came l bytes) all tt)
+      let more : 0 < (shown_of p).wants l = omega arith in (
+        may.0.0,
+        ((all.control, live more), octets, some, subst (λ (n : ℕ). length bytes ≤ n) wanted few),
+        free_control x (e.Came l bytes) all tt,
+      )
 
   pub ended_may : MayCome (shown_of p) trace (e.Ended l) → Guarded (e.Ended l)
   ended_may may =
@@ -228,9 +248,11 @@ module _ (taken : List Note) (p : Proxy) (trace : List Entry) (s : Stands taken 
 
   pub read_balks : MayCome (shown_of p) trace (e.Balked (way.Read l)) → Guarded (e.Balked (way.Read l))
   read_balks may =
-      let all = free taken p trace s may.0 in
-      (may.0.0, (all.control.goes, ((all.control, live may.2), subst (λ (n : ℕ). 0 < n) wanted may.2)),
-      free_control x (e.Balked (way.Read l)) all tt)
+      let all = free taken p trace s may.0 in (
+        may.0.0,
+        (all.control.goes, ((all.control, live may.2), subst (λ (n : ℕ). 0 < n) wanted may.2)),
+        free_control x (e.Balked (way.Read l)) all tt,
+      )
 
   -- a call that writes, or that fails, is made on it
   pub record Writes (z : Entry) : Type 0 where
@@ -285,9 +307,15 @@ module _ (taken : List Note) (p : Proxy) (trace : List Entry) (s : Stands taken 
       let are : bytes ≡ take n out = may.5 ∙ ap (λ (bs : List ℕ). take n bs) held in
       let long = length-take n out in
       let waits : 0 < length out = omega arith in
-      let some : 0 < length bytes = subst (λ (bs : List ℕ). 0 < length bs) (sym are) (omega arith) in
-      (may.0.0, (writable (e.Went l bytes) w waits, some,
-      (drop n out, sym (take-append-drop n out) ∙ ap (λ (bs : List ℕ). bs ++ drop n out) (sym are))), w.guard)
+      let some : 0 < length bytes = subst (λ (bs : List ℕ). 0 < length bs) (sym are) (omega arith) in (
+        may.0.0,
+        (
+          writable (e.Went l bytes) w waits,
+          some,
+          (drop n out, sym (take-append-drop n out) ∙ ap (λ (bs : List ℕ). bs ++ drop n out) (sym are)),
+        ),
+        w.guard,
+      )
 
   pub write_balks : MayCome (shown_of p) trace (e.Balked (way.Write l)) → Guarded (e.Balked (way.Write l))
   write_balks may =

@@ -1,7 +1,5 @@
 -- A call that moved nothing, and a wait, are told to no proxy: it stands for the trace with that entry too.
-use mathlib.Core.Path.{fun_ext}
 use Rattle.std.proofs.Common.{◌≡◌, ◌⊎◌, inl, inr, ⊎_elim, ℕ, ◌==◌, Bool, true, false, cond, List, [], ◌∷◌, ◌++◌, Option, Some, None, refl, ap, sym, ◌∙◌, subst}
-use Rattle.std.proofs.lemmas.Bool.{eqb-true}
 use Rattle.hb_base.specs.declared.note.Note.{Note}
 use Rattle.hb_inbound.specs.Inbound.{Inbound, at_stream}
 use Rattle.hb_inbound.specs.Part as part
@@ -83,49 +81,45 @@ control_still taken p trace z s door same whole may guard =
     (ap (λ (c : Control). with_control q c s.machine) same ∙ whole) door refl refl
 
 -- one on an inbound link, or on an upstream
-link_same : (l : ℕ) (x : Machine) (k : ℕ) → (if_here : Bool) → (k == l) ≡ if_here → cond if_here (x.inbound l) (x.inbound k) ≡ x.inbound k
-link_same l x k true here = ap (λ (j : ℕ). x.inbound j) (sym (eqb-true k l here))
-link_same l x k false here = refl
+link_still : (taken : List Note) (p : Proxy) (trace : List Entry) (z : Entry) (s : Stands taken p trace) (l : ℕ) → is_at_door z ≡ false
+    → ((y : Inbound) → inbound.entered z y ≡ y) → ((t : Tunnel) → up_entered z t ≡ t) → born_by s.machine.born z ≡ s.machine.born
+    → Guarded p s.machine l z → Stands taken p (trace ++ z ∷ [])
+link_still taken p trace z s l door own up born at =
+    still taken p trace z s at.point at.next at.steps (at.same own up born) door
+    (ap (λ (zs : List Entry). zs ++ []) at.one) (ap (λ (ns : List Note). ns ++ []) at.no_note)
 
-part_same : (x : Machine) (l : ℕ) (next : Inbound) → next ≡ x.inbound l → (λ k. cond (k == l) next (x.inbound k)) ≡ x.inbound
-part_same x l next same =
-    fun_ext (λ k. ap (λ (y : Inbound). cond (k == l) y (x.inbound k)) same ∙ link_same l x k (k == l) refl)
-
-tunnel_same : (b : Bool) (t : Tunnel) → cond b t t ≡ t
-tunnel_same true t = refl
-tunnel_same false t = refl
-
--- an entry that changes nothing on a link, and on an upstream
-own_same : (x : Machine) (l : ℕ) (z : Entry) → inbound.entered z (x.inbound l) ≡ x.inbound l → born_by x.born z ≡ x.born
-    → with_part l (part.entry z) (inbound.entered z (x.inbound l)) x ≡ x
-own_same x l z same born =
-    ap (λ (f : ℕ → Inbound). record x { born = born_by x.born z; inbound = f }) (part_same x l (inbound.entered z (x.inbound l)) same)
-    ∙ ap (λ (n : ℕ). record x { born = n }) born
-
-up_same : (x : Machine) (l s : ℕ) (z : Entry) → ((t : Tunnel) → up_entered z t ≡ t) → born_by x.born z ≡ x.born
-    → with_part l (part.up s z) (at_stream s (up_entered z) (x.inbound l)) x ≡ x
-up_same x l s z same born =
-    ap (λ (f : ℕ → Inbound). record x { born = born_by x.born z; inbound = f })
-    (part_same x l (at_stream s (up_entered z) (x.inbound l))
-    (ap (λ (f : ℕ → Tunnel). record (x.inbound l) { tunnels = f })
-    (fun_ext (λ k. ap (λ (t : Tunnel). cond (k == s) t ((x.inbound l).tunnels k)) (same ((x.inbound l).tunnels k))
-    ∙ tunnel_same (k == s) ((x.inbound l).tunnels k)))))
-    ∙ ap (λ (n : ℕ). record x { born = n }) born
-
--- THE CALLS
-
-module _ (taken : List Note) (p : Proxy) (trace : List Entry) (s : Stands taken p trace) where
-  free_of : (z : Entry) → MayCome (shown_of p) trace z → (MayCome (shown_of p) trace z → (shown_of p).ends_for ≡ None) → p.ends_for ≡ None
-  free_of z may going = going may
-
-  wait_stands : (z : Entry) → Free s.machine → is_at_door z ≡ false → entered p.control.config z s.machine.control ≡ s.machine.control
-      → with_control (point.entry z) s.machine.control s.machine ≡ s.machine
-      → model.MayCome p.control.config s.machine.control z → BirthMayCome s.machine z → Stands taken p (trace ++ z ∷ [])
-  wait_stands z all door same whole may birth =
-      control_still taken p trace z s door same whole may (free_control s.machine z all birth)
-
-  by_control : (z : Entry) → is_at_door z ≡ false → entered p.control.config z s.machine.control ≡ s.machine.control
-      → with_control (point.entry z) s.machine.control s.machine ≡ s.machine
-      → (p.ends_for ≡ None) × model.MayCome p.control.config s.machine.control z × ControlMayCome s.machine z
-      → Stands taken p (trace ++ z ∷ [])
-  by_control z door same whole at = control_still taken p trace z s door same whole at.1 at.2
+pub rests : (taken : List Note) (p : Proxy) (trace : List Entry) (z : Entry) → MovesNothing (shown_of p) trace z → Stands taken p trace
+    → Stands taken p (trace ++ z ∷ [])
+rests taken p trace (e.Balked (way.Listen door to listening)) may s = at_door taken p trace (e.Balked (way.Listen door to listening)) refl s
+rests taken p trace (e.Balked (way.Accept door)) may s = at_door taken p trace (e.Balked (way.Accept door)) refl s
+rests taken p trace (e.Balked (way.Finish l)) may s = by (owns p l) refl
+  where
+    by : (b : Bool) → owns p l ≡ b → Stands taken p (trace ++ e.Balked (way.Finish l) ∷ [])
+    by true mine =
+        let at = control.finish_balks taken p trace s l mine may in
+        control_still taken p trace (e.Balked (way.Finish l)) s refl refl refl at.1 at.2
+    by false other =
+        link_still taken p trace (e.Balked (way.Finish l)) s l refl (λ y. refl) (λ t. refl) refl
+        (link.finish_balks taken p trace s l other may)
+rests taken p trace (e.Balked (way.Read l)) may s = by (owns p l) refl
+  where
+    by : (b : Bool) → owns p l ≡ b → Stands taken p (trace ++ e.Balked (way.Read l) ∷ [])
+    by true mine =
+        let at = control.read_balks taken p trace s l mine may in
+        control_still taken p trace (e.Balked (way.Read l)) s refl refl refl at.1 at.2
+    by false other =
+        link_still taken p trace (e.Balked (way.Read l)) s l refl (λ y. refl) (λ t. refl) refl
+        (link.read_balks taken p trace s l other may)
+rests taken p trace (e.Balked (way.Write l)) may s = by (owns p l) refl
+  where
+    by : (b : Bool) → owns p l ≡ b → Stands taken p (trace ++ e.Balked (way.Write l) ∷ [])
+    by true mine =
+        let at = control.write_balks taken p trace s l mine may in
+        control_still taken p trace (e.Balked (way.Write l)) s refl refl refl at.1 at.2
+    by false other =
+        link_still taken p trace (e.Balked (way.Write l)) s l refl (λ y. refl) (λ t. refl) refl
+        (link.write_balks taken p trace s l other may)
+rests taken p trace (e.Wait ready how) may s =
+    let all = free taken p trace s may in
+    control_still taken p trace (e.Wait ready how) s refl refl refl all.control (free_control s.machine (e.Wait ready how) all tt)
+rests taken p trace z may s = absurd may

@@ -1,7 +1,9 @@
 -- An entry is told to the inbound links.
 use Rattle.std.proofs.Common.{◌≡◌, ◌⊎◌, inl, inr, ⊎_elim, ℕ, Bool, true, false, List, [], ◌∷◌, ◌++◌, Option, Some, None, refl, ap, sym, ◌∙◌, subst}
 use Rattle.std.proofs.lemmas.List.{append_assoc}
+use Rattle.hb_base.specs.declared.door.Why.{Why}
 use Rattle.hb_base.specs.declared.note.Note.{Note}
+use Rattle.hb_base.specs.declared.target.Target.{Target}
 use Rattle.hb_link.specs.Noted.{Takes}
 use Rattle.hb_links.proofs.Sweeping.{stands_behind}
 use Rattle.hb_links.specs.Calls.{point_for}
@@ -65,41 +67,50 @@ link_stands taken p side trace z s l G P going door at holds meets =
 
 -- WHAT STIRRED
 
-stirs_so : (p : Proxy) (side : Side) (trace : List Entry) (l : ℕ) → (lives l trace ≡ true → links.StirsAt l p.side.links side.links)
-    → lives l trace ≡ true
-    → ((shown_of p).stirs l ≡ true → (shown_of (with_side side p)).stirs l ≡ true)
-    × ((shown_of p).wants l ≡ 0 → ((shown_of (with_side side p)).wants l ≡ 0) ⊎ ((shown_of (with_side side p)).stirs l ≡ true))
-    × ((shown_of p).output l ≡ [] → ((shown_of (with_side side p)).output l ≡ []) ⊎ ((shown_of (with_side side p)).stirs l ≡ true))
-stirs_so p side trace l stirs alive = by (owns p l)
-  where
-    q : Proxy
-    q = with_side side p
+-- the links changed so, this dial waits for its answer, and an act came that can't be due or not
+abbrev pub with_act : Side → Option (Target × Why) → Bool → Proxy → Proxy
+with_act side dial strange p = record p { side = side; dials = dial; strange = strange }
 
-    by : (b : Bool)
-        → (stirs_by b p l ≡ true → stirs_by b q l ≡ true)
-        × (wants_by b p l ≡ 0 → (wants_by b q l ≡ 0) ⊎ (stirs_by b q l ≡ true))
-        × (output_by b p l ≡ [] → (output_by b q l ≡ []) ⊎ (stirs_by b q l ≡ true))
-    by true = (λ is. is, λ is. inl is, λ is. inl is)
-    by false = let at = stirs alive in (at.kept, at.reads, at.writes)
+module _ (p : Proxy) (side : Side) (dial : Option (Target × Why)) (strange : Bool) where
+  abbrev behind : Proxy
+  behind = with_act side dial strange p
+
+  stirs_so : (l : ℕ) → links.StirsAt l p.side.links side.links
+      → ((shown_of p).stirs l ≡ true → (shown_of behind).stirs l ≡ true)
+      × ((shown_of p).wants l ≡ 0 → ((shown_of behind).wants l ≡ 0) ⊎ ((shown_of behind).stirs l ≡ true))
+      × ((shown_of p).output l ≡ [] → ((shown_of behind).output l ≡ []) ⊎ ((shown_of behind).stirs l ≡ true))
+  stirs_so l at = by (owns p l)
+    where
+      by : (b : Bool)
+          → (stirs_by b p l ≡ true → stirs_by b behind l ≡ true)
+          × (wants_by b p l ≡ 0 → (wants_by b behind l ≡ 0) ⊎ (stirs_by b behind l ≡ true))
+          × (output_by b p l ≡ [] → (output_by b behind l ≡ []) ⊎ (stirs_by b behind l ≡ true))
+      by true = (λ is. is, λ is. inl is, λ is. inl is)
+      by false = (at.kept, at.reads, at.writes)
+
+  pub act_stirs : (trace : List Entry) → ((l : ℕ) → lives l trace ≡ true → links.StirsAt l p.side.links side.links)
+      → shown.Stirs trace (shown_of p) (shown_of behind)
+  act_stirs trace stirs = record {
+    kept = λ l alive. (stirs_so l (stirs l alive)).0;
+    reads = λ l alive. (stirs_so l (stirs l alive)).1;
+    writes = λ l alive. (stirs_so l (stirs l alive)).2;
+    ends_for = refl;
+  }
 
 pub side_stirs : (p : Proxy) (side : Side) (trace : List Entry)
     → ((l : ℕ) → lives l trace ≡ true → links.StirsAt l p.side.links side.links)
     → shown.Stirs trace (shown_of p) (shown_of (with_side side p))
-side_stirs p side trace stirs = record {
-  kept = λ l alive. (stirs_so p side trace l (stirs l) alive).0;
-  reads = λ l alive. (stirs_so p side trace l (stirs l) alive).1;
-  writes = λ l alive. (stirs_so p side trace l (stirs l) alive).2;
-  ends_for = refl;
-}
+side_stirs p side trace stirs = act_stirs p side None p.strange trace stirs
 
 -- so the event loop's entry is told
-pub link_tells : (p : Proxy) (side : Side) (z : Entry) (l : ℕ) (G : Guard) (P : Machine → Type 0) → is_at_door z ≡ false
+pub link_tells : (p : Proxy) (side : Side) (z : Entry) (l : ℕ) (G : Point → Guard) (P : Machine → Type 0) → is_at_door z ≡ false
     → ((taken : List Note) (trace : List Entry) (s : Stands taken p trace) → shown.MayCome (shown_of p) trace z
     → (p.ends_for ≡ None) × Guarded p s.machine l z × P s.machine)
-    → ((point : Point) → point_for p.side.links l z ≡ Some point → Meets G P point p.side.links (told p.side.notes) side.links (told side.notes))
+    → ((point : Point) → point_for p.side.links l z ≡ Some point
+    → Meets (G point) P point p.side.links (told p.side.notes) side.links (told side.notes))
     → links.Stirs p.side.links side.links → Tells Stands shown_of z p (with_side side p)
 link_tells p side z l G P door guards meets stirs taken trace s may =
     let at = guards taken trace s may in (
-      link_stands taken p side trace z s l G P at.0 door at.1 at.2 (meets at.1.point at.1.found),
+      link_stands taken p side trace z s l (G at.1.point) P at.0 door at.1 at.2 (meets at.1.point at.1.found),
       side_stirs p side (trace ++ z ∷ []) (λ k alive. stirs k),
     )

@@ -1,5 +1,5 @@
 -- What the event loop sees of the whole proxy.
-use Rattle.std.specs.Prelude.{◌≡◌, ℕ, ◌==◌, ◌&&◌, ◌||◌, Bool, true, false, is_none, List, Option, Some, None}
+use Rattle.std.specs.Prelude.{◌≡◌, ℕ, ◌==◌, ◌&&◌, ◌||◌, Bool, true, false, is_none, if◌then◌else◌, List, Option, Some, None}
 use Rattle.hb_base.specs.declared.cause.Cause.{Cause}
 use Rattle.std.specs.FinMap.{get}
 use Rattle.hb_turns.specs.Shown.{Shown}
@@ -17,6 +17,10 @@ is_number (Some k) l = k == l
 
 abbrev pub owns : Proxy → ℕ → Bool
 owns p l = is_number (number_of p.control.link) l
+
+-- it stirred, and that wasn't told
+abbrev pub own_told : Proxy → Option ℕ
+own_told p = if p.stirs then number_of p.control.link else None
 
 -- how many bytes may be read, and what is to be written, on the control plane's link or on another
 abbrev pub wants_by : Bool → Proxy → ℕ → ℕ

@@ -21,6 +21,10 @@ use Rattle.hb_world.specs.declared.entry.Entry.{Entry}
 use Rattle.hb_whole.specs.Queue.{told}
 use Rattle.hb_whole.specs.declared.proxy.Proxy.{Proxy}
 
+-- what the node is told of itself
+abbrev pub config_of : Proxy → NodeConfig
+config_of p = p.control.config
+
 -- all notes of a run are those that were taken, and those that wait; nothing is known once one was lost
 abbrev pub AreNotes : List Note → Option (List Note) → List Point → Type 0
 AreNotes taken None points = ⊤

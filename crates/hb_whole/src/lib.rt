@@ -6,4 +6,4 @@ mod proxy;
 mod queue;
 mod side;
 
-pub use proxy::Proxy;
+pub use proxy::{Limits, Proxy};

@@ -1,11 +1,17 @@
 //! The whole proxy.
 
-ghost use Rattle.std.specs.Prelude.{◌≡◌, [], IfOk};
+ghost use Rattle.std.specs.Prelude.{◌≡◌, ◌≤◌, ◌++◌, [], ℕ, List, length, take, true, false, OnOk, IfOk, IfNone, IfSome, Some};
+ghost use Rattle.std.specs.Option.{option_to_list};
+ghost use Rattle.hb_base.specs.declared.note.Note.{Note};
+ghost use Rattle.hb_base.specs.declared.target.Target.{Target};
+ghost use Rattle.hb_world.specs.declared.entry.Entry.{Entry};
+ghost use Rattle.hb_world.specs.declared.entry.Entry.TheVariants as e;
+ghost use Rattle.hb_turns.specs.Shown.{IsFront, IsSame, Hears, Tells, StandsForNone, Stops, Acts, ActsFor, dial_entry};
 ghost use Rattle.hb_frames.specs.Frames.{AreOctets};
 ghost use Rattle.hb_turns.specs.Served.{IsFreshNode};
 ghost use Rattle.hb_whole.specs.Acting.{dial_in, is_strange, given_by, act_of};
-ghost use Rattle.hb_whole.specs.Sight.{owns, shown_of};
-ghost use Rattle.hb_whole.specs.Stands.{Stands};
+ghost use Rattle.hb_whole.specs.Sight.{owns, own_told, shown_of};
+ghost use Rattle.hb_whole.specs.Stands.{Stands, config_of};
 
 use crate::queue::Queue;
 use crate::side::Side;
@@ -13,7 +19,6 @@ use hb_base::{Cause, Door, NoMemory, Note, Target, Why};
 use hb_links::Links;
 use hb_model::{Act as ControlAct, NodeConfig};
 use hb_node::Node as Control;
-use hb_turns::Node;
 use hb_world::Act;
 use std::alloc::{AllocError, Global};
 
@@ -64,6 +69,7 @@ impl Proxy {
     pub fn new(alloc: Global, config: NodeConfig, limits: Limits) -> Result<Proxy, NoMemory>
         ensures stands { IfOk result (λ proxy. Stands [] proxy []) }
         ensures fresh { IfOk result (λ proxy. IsFreshNode (shown_of proxy)) }
+        ensures config { IfOk result (λ proxy. config_of proxy ≡ config) }
     {
         let control = Control::new(alloc, config)?;
         Ok(Proxy {
@@ -90,6 +96,16 @@ impl Proxy {
         }
     }
 
+    /// The link to the control plane, where it stirred and that wasn't told. `None`: there is none.
+    fn next_own(&mut self) -> Option<u64>
+        ensures own { result ≡ own_told self.old }
+        ensures after { self.new ≡ record self.old { stirs = false } }
+    {
+        let stirs = self.stirs;
+        self.stirs = false;
+        if stirs { self.control.number() } else { None }
+    }
+
     /// An act that is due, as it is given: behind the end of the run a close, for that cause.
     fn give(&mut self, act: Act) -> Option<Act>
         ensures given { result ≡ given_by self.old.ends_for act }
@@ -113,3 +129,237 @@ impl Proxy {
     }
 }
 
+impl Proxy {
+    /// A link was accepted at a door.
+    ///
+    /// Errors: `NoMemory`, behind which the run ends; also at a door that isn't served.
+    pub fn accepted(&mut self, link: u64, door: Door) -> Result<(), NoMemory>
+        ensures tells { OnOk result (Tells Stands shown_of (e.Accepted link door) self.old self.new) }
+        ensures config { config_of self.new ≡ config_of self.old }
+    {
+        // No other door is served, so nothing is accepted there.
+        let Door::Inbound = door else {
+            return Err(AllocError);
+        };
+        self.dials = None;
+        if self.side.links.len() < self.limits.links {
+            self.side.links.accepted(link)
+        } else {
+            self.side.links.turned_away(link)
+        }
+    }
+
+    /// What came of the dial that was given: a link, or none.
+    ///
+    /// Errors: `NoMemory`, behind which the run ends.
+    pub fn dialled(&mut self, why: Why, link: Option<u64>) -> Result<(), NoMemory>
+        ensures tells { OnOk result ((to : Target) → Tells Stands shown_of (dial_entry to why link) self.old self.new) }
+        ensures config { OnOk result (config_of self.new ≡ config_of self.old) }
+    {
+        self.dials = None;
+        match why {
+            Why::Discovery => {
+                self.stirs = true;
+                self.control.dialled(why, link)
+            }
+            Why::Upstream { link: at, stream } => match link {
+                Some(number) => self.side.links.dialled(at, stream, number),
+                None => {
+                    self.side
+                        .links
+                        .dial_failed(at, stream, &mut self.side.notes);
+                    Ok(())
+                }
+            },
+            _ => Ok(()),
+        }
+    }
+
+    /// A dialled link is open.
+    pub fn opened(&mut self, link: u64)
+        ensures tells { Tells Stands shown_of (e.Opened link) self.old self.new }
+        ensures config { config_of self.new ≡ config_of self.old }
+    {
+        self.dials = None;
+        if self.owns(link) {
+            self.stirs = true;
+            self.control.opened(link);
+        } else {
+            self.side.links.opened(link, &mut self.side.notes);
+        }
+    }
+
+    /// How many bytes may be read on a link now.
+    pub fn wants(&self, link: u64) -> usize
+        ensures { result ≡ (shown_of self.now).wants link }
+    {
+        if self.owns(link) {
+            self.control.wants(link)
+        } else {
+            self.side.links.wants(link)
+        }
+    }
+
+    /// These bytes were read on a link.
+    ///
+    /// Errors: `NoMemory`, behind which the run ends.
+    pub fn take_bytes(&mut self, link: u64, bytes: &[u8]) -> Result<(), NoMemory>
+        requires { length bytes.now ≤ (shown_of self.old).wants link }
+        ensures tells { OnOk result (Tells Stands shown_of (e.Came link bytes.now) self.old self.new) }
+        ensures config { OnOk result (config_of self.new ≡ config_of self.old) }
+    {
+        are_octets(bytes);
+        self.dials = None;
+        if self.owns(link) {
+            self.stirs = true;
+            self.control.take_bytes(link, bytes, &mut self.side)
+        } else {
+            self.side.links.took(
+                link,
+                self.control.held(),
+                self.limits.tunnels,
+                bytes,
+                &mut self.side.notes,
+            )
+        }
+    }
+
+    /// The link's peer sends no more.
+    pub fn ended(&mut self, link: u64)
+        ensures tells { Tells Stands shown_of (e.Ended link) self.old self.new }
+        ensures config { config_of self.new ≡ config_of self.old }
+    {
+        self.dials = None;
+        if self.owns(link) {
+            self.stirs = true;
+            self.control.ended(link);
+        } else {
+            self.side.links.ended(link, &mut self.side.notes);
+        }
+    }
+
+    /// A call on the link failed.
+    pub fn broke(&mut self, link: u64)
+        ensures tells { Tells Stands shown_of (e.Broke link) self.old self.new }
+        ensures config { config_of self.new ≡ config_of self.old }
+    {
+        self.dials = None;
+        if self.owns(link) {
+            self.stirs = true;
+            self.control.broke(link);
+        } else {
+            self.side.links.broke(link, &mut self.side.notes);
+        }
+    }
+
+    /// Time passed. No shut and no close is due for that.
+    pub fn tick(&mut self)
+        ensures tells { Tells Stands shown_of e.Tick self.old self.new }
+        ensures closes { (shown_of self.new).none_closes ≡ (shown_of self.old).none_closes }
+        ensures config { config_of self.new ≡ config_of self.old }
+    {
+        self.dials = None;
+        self.stirs = true;
+        self.control.tick();
+    }
+
+    /// Bytes that are to be written on the link now: the first of them, and as many more as lie in one piece.
+    pub fn output(&self, link: u64) -> &[u8]
+        ensures { IsFront result.now ((shown_of self.now).output link) }
+    {
+        if self.owns(link) {
+            self.control.output(link)
+        } else {
+            self.side.links.output(link)
+        }
+    }
+
+    /// So many of the bytes that were to be written on the link are.
+    pub fn wrote(&mut self, link: u64, n: usize)
+        requires { n ≤ length ((shown_of self.old).output link) }
+        ensures tells { Tells Stands shown_of (e.Went link (take n ((shown_of self.old).output link))) self.old self.new }
+        ensures config { config_of self.new ≡ config_of self.old }
+    {
+        self.dials = None;
+        if self.owns(link) {
+            self.stirs = true;
+            self.control.wrote(link, n);
+        } else {
+            self.side.links.wrote(link, n, &mut self.side.notes);
+        }
+    }
+
+    /// Whether one write on the link goes before the acts that are due: a GOAWAY waits on it, and its close is due behind that.
+    pub fn last_words(&self, link: u64) -> bool
+        ensures { result ≡ (shown_of self.now).last_words link }
+    {
+        if self.owns(link) {
+            self.control.last_words()
+        } else {
+            self.control.is_idle() & self.side.links.last_words(link)
+        }
+    }
+
+    /// The next call that is due. `None` where none is. A shut or a close counts as done; a dial is to be answered next.
+    pub fn next_act(&mut self) -> Option<Act>
+        ensures acts { Acts Stands shown_of result self.old self.new }
+        ensures none { IfNone result ((shown_of self.new).idle ≡ true × (shown_of self.new).none_closes ≡ true) }
+        ensures ends_for { (shown_of self.new).ends_for ≡ (shown_of self.old).ends_for }
+        ensures closes { ActsFor (shown_of self.old).ends_for result }
+        ensures all { IfNone result (IfSome (shown_of self.old).ends_for (λ cause. StandsForNone Stands self.new)) }
+        ensures config { config_of self.new ≡ config_of self.old }
+    {
+        if let Some(act) = self.control.next_act() {
+            return self.give(act_of(act));
+        }
+        match self.side.links.next_act() {
+            Some(act) => self.give(act),
+            None => {
+                self.dials = None;
+                None
+            }
+        }
+    }
+
+    /// The next note. `None` exactly where each was taken.
+    ///
+    /// Errors: `NoMemory`, behind which the run ends: a note was lost.
+    pub fn next_note(&mut self) -> Result<Option<Note>, NoMemory>
+        ensures head { IfOk result (λ note. (shown_of self.old).noted ≡ option_to_list note ++ (shown_of self.new).noted) }
+        ensures none { IfOk result (λ note. IfNone note ((shown_of self.old).noted ≡ [])) }
+        ensures same { IsSame (shown_of self.old) (shown_of self.new) }
+        ensures stirs { (l : ℕ) → (shown_of self.new).stirs l ≡ (shown_of self.old).stirs l }
+        ensures takes { IfOk result (λ note. (notes : List Note) (trace : List Entry) → Stands notes self.old trace
+            → Stands (notes ++ option_to_list note) self.new trace) }
+        ensures config { config_of self.new ≡ config_of self.old }
+    {
+        self.side.notes.next()
+    }
+
+    /// The run ends: from now on each act closes a link, for this cause, until none lives.
+    pub fn stop(&mut self, cause: Cause)
+        ensures ends_for { (shown_of self.new).ends_for ≡ Some cause }
+        ensures stands { Stops Stands shown_of self.old self.new }
+        ensures config { config_of self.new ≡ config_of self.old }
+    {
+        self.dials = None;
+        self.ends_for = Some(cause);
+        self.control.stop(cause);
+        self.side.links.stopped(cause, &mut self.side.notes);
+    }
+
+    /// The next link on which more may be read or is to be written than before. `None` exactly where none stirred that wasn't told.
+    pub fn next_stirred(&mut self) -> Option<u64>
+        ensures hears { (notes : List Note) (trace : List Entry) → Stands notes self.old trace
+            → Stands notes self.new trace × Hears trace result (shown_of self.old) (shown_of self.new) }
+        ensures none { IfNone result ((l : ℕ) → (shown_of self.new).stirs l ≡ false) }
+        ensures same { IsSame (shown_of self.old) (shown_of self.new) }
+        ensures noted { (shown_of self.new).noted ≡ (shown_of self.old).noted }
+        ensures config { config_of self.new ≡ config_of self.old }
+    {
+        if let Some(number) = self.next_own() {
+            return Some(number);
+        }
+        self.side.links.next_stirred()
+    }
+}

@@ -1,0 +1,96 @@
+-- A new link's number is none that the control plane's machine has.
+use Rattle.std.proofs.Common.{◌≡◌, ℕ, ◌+◌, ◌≤◌, ◌<◌, List, [], ◌∷◌, refl, ap, sym, ◌∙◌, subst, arith}
+use Rattle.hb_inbound.specs.Part as part
+use Rattle.hb_inbound.specs.Part.{Part}
+use Rattle.hb_model.specs.Machine as control
+use Rattle.hb_model.specs.Machine.{Machine as Control}
+use Rattle.hb_model.specs.Point as point
+use Rattle.hb_model.specs.Point.{Point as Q}
+use Rattle.hb_model.specs.Runs as model
+use Rattle.hb_model.specs.declared.config.NodeConfig.{NodeConfig}
+use Rattle.hb_proxy.specs.Machine.{Machine, born_by, born_after, with_control, with_part}
+use Rattle.hb_proxy.specs.Points.{Point, of_control, of_link}
+use Rattle.hb_proxy.specs.Runs.{Steps, StandsFor, begins, goes_on, BirthMayCome, LinkMayCome, LinkGuard}
+use Rattle.hb_world.specs.declared.entry.Entry.{Entry}
+use Rattle.hb_world.specs.declared.entry.Entry.TheVariants as e
+
+-- an entry of the control plane
+entry_below : (x : Machine) (m : Control) (z : Entry) → m.born ≤ x.born → control.born_after m z ≤ born_by x.born z
+entry_below x m (e.Accepted l door) below = omega arith
+entry_below x m (e.Dialled l to why) below = omega arith
+entry_below x m (e.DialFailed to why) below = below
+entry_below x m (e.Opened l) below = below
+entry_below x m (e.Came l bytes) below = below
+entry_below x m (e.Ended l) below = below
+entry_below x m (e.Broke l) below = below
+entry_below x m (e.Went l bytes) below = below
+entry_below x m (e.Balked w) below = below
+entry_below x m (e.Shut l) below = below
+entry_below x m (e.Closed l cause) below = below
+entry_below x m e.Tick below = below
+entry_below x m (e.Wait ready how) below = below
+
+control_below : (g : NodeConfig) (x : Machine) (q : Q) (next : Control) → model.Steps g x.control q next → x.control.born ≤ x.born
+    → next.born ≤ born_after x.born (point.entry_in q)
+control_below g x (point.entry z) next steps below =
+    subst (λ (m : Control). m.born ≤ born_by x.born z) (sym steps.1) (entry_below x x.control z below)
+control_below g x (point.looked l ps said headers) next steps below = subst (λ (m : Control). m.born ≤ x.born) (sym steps.4) below
+control_below g x (point.applied l r) next steps below = subst (λ (m : Control). m.born ≤ x.born) (sym steps.3) below
+control_below g x (point.refused l) next steps below = subst (λ (m : Control). m.born ≤ x.born) (sym steps.2) below
+control_below g x (point.used l k) next steps below = subst (λ (m : Control). m.born ≤ x.born) (sym steps.2) below
+control_below g x (point.put l bytes) next steps below = subst (λ (m : Control). m.born ≤ x.born) (sym steps.3) below
+control_below g x (point.stopped why) next steps below = subst (λ (m : Control). m.born ≤ x.born) (sym steps.1) below
+
+-- an entry of a link numbers no link lower
+birth_above : (x : Machine) (z : Entry) → BirthMayCome x z → x.born ≤ born_by x.born z
+birth_above x (e.Accepted l door) birth = let next : l ≡ x.born + 1 = birth.0 in omega arith
+birth_above x (e.Dialled l to why) birth = omega (arith, birth)
+birth_above x (e.DialFailed to why) birth = omega arith
+birth_above x (e.Opened l) birth = omega arith
+birth_above x (e.Came l bytes) birth = omega arith
+birth_above x (e.Ended l) birth = omega arith
+birth_above x (e.Broke l) birth = omega arith
+birth_above x (e.Went l bytes) birth = omega arith
+birth_above x (e.Balked w) birth = omega arith
+birth_above x (e.Shut l) birth = omega arith
+birth_above x (e.Closed l cause) birth = omega arith
+birth_above x e.Tick birth = omega arith
+birth_above x (e.Wait ready how) birth = omega arith
+
+none_born : (n : ℕ) (zs : List Entry) → zs ≡ [] → n ≤ born_after n zs
+none_born n zs is = subst (λ (ys : List Entry). n ≤ born_after n ys) (sym is) (omega arith)
+
+link_above : (x : Machine) (l : ℕ) (p : Part) → LinkGuard x l p → x.born ≤ born_after x.born (part.entry_in p)
+link_above x l (part.entry z) guard = birth_above x z guard.birth
+link_above x l (part.up s z) guard = birth_above x z guard.birth
+link_above x l part.welcomed guard = none_born x.born [] refl
+link_above x l part.crowded guard = none_born x.born [] refl
+link_above x l part.lacked guard = none_born x.born [] refl
+link_above x l (part.fronted seen) guard = none_born x.born [] refl
+link_above x l (part.misfronted fault) guard = none_born x.born [] refl
+link_above x l (part.looked ps said headers) guard = none_born x.born [] refl
+link_above x l (part.decided s full given) guard = none_born x.born [] refl
+link_above x l (part.accepted s made) guard = none_born x.born [] refl
+link_above x l (part.refused s status resets made) guard = none_born x.born [] refl
+link_above x l (part.reset s code made) guard = none_born x.born [] refl
+link_above x l (part.left s made) guard = none_born x.born [] refl
+link_above x l (part.done s made) guard = none_born x.born [] refl
+link_above x l (part.put s bytes) guard = none_born x.born [] refl
+link_above x l (part.finished s) guard = none_born x.born [] refl
+link_above x l (part.credited s n) guard = none_born x.born [] refl
+link_above x l (part.applied r) guard = absurd guard
+link_above x l (part.stopped why) guard = absurd guard
+
+step_below : (g : NodeConfig) (x y : Machine) (p : Point) → Steps g x p y → x.control.born ≤ x.born → y.control.born ≤ y.born
+step_below g x y (of_control q) steps below =
+    subst (λ (w : Machine). w.control.born ≤ w.born) (sym steps.3) (control_below g x q steps.0 steps.1 below)
+step_below g x y (of_link l p) steps below =
+    let above = link_above x l p steps.2 in
+    let so : x.control.born ≤ born_after x.born (part.entry_in p) = omega (arith, above, below) in
+    subst (λ (w : Machine). w.control.born ≤ w.born) (sym steps.3) so
+
+-- the control plane's last link was no later than the last of all
+pub born_below : (g : NodeConfig) (x : Machine) (points : List Point) → StandsFor g x points → x.control.born ≤ x.born
+born_below g x points (begins is none) = subst (λ (w : Machine). w.control.born ≤ w.born) (sym is) (omega arith)
+born_below g x points (goes_on {x = before} {points = front} stands p steps grows) =
+    step_below g before x p steps (born_below g before front stands)

@@ -1,0 +1,276 @@
+-- The end of a run.
+use Rattle.std.proofs.Common.{◌≡◌, ◌⊎◌, inl, inr, ⊎_elim, ℕ, ◌<◌, ◌==◌, ◌&&◌, Bool, true, false, is_none, cond, List, [], ◌∷◌, ◌++◌, Option, Some, None, refl, ap, sym, ◌∙◌, subst, arith}
+use Rattle.std.proofs.lemmas.Bool.{and_parts}
+use Rattle.std.proofs.lemmas.List.{append_assoc, append-nil}
+use Rattle.hb_base.specs.declared.cause.Cause.{Cause}
+use Rattle.hb_base.specs.declared.note.Note.{Note}
+use Rattle.hb_inbound.specs.Calm.{IsIdleBy, close_due}
+use Rattle.hb_inbound.specs.Inbound as m
+use Rattle.hb_inbound.specs.Inbound.{Inbound}
+use Rattle.hb_inbound.specs.Part as part
+use Rattle.hb_inbound.specs.Part.{Part}
+use Rattle.hb_inbound.specs.Runs as inbound
+use Rattle.hb_inbound.specs.Runs.{Local, Lacks, Leaves}
+use Rattle.hb_inbound.specs.Tunnel as t
+use Rattle.hb_inbound.specs.Tunnel.{Tunnel, Stage, is_unanswered, left_with}
+use Rattle.hb_link.specs.Noted.{Takes}
+use Rattle.hb_link.specs.Reaches as link
+use Rattle.hb_links.proofs.Acting.{all_calm}
+use Rattle.hb_links.proofs.Due.{none_is_due}
+use Rattle.hb_links.proofs.Sweeping.{stands_behind}
+use Rattle.hb_links.specs.Busy as busy
+use Rattle.hb_links.specs.Calls as links
+use Rattle.hb_links.specs.Reaches.{Guard, Follows, Leads, Shown, notes, unguarded}
+use Rattle.hb_links.specs.declared.links.Links.{Links}
+use Rattle.hb_model.specs.Discovery as d
+use Rattle.hb_model.specs.Machine as control
+use Rattle.hb_model.specs.Machine.{Machine as Control}
+use Rattle.hb_model.specs.Point as point
+use Rattle.hb_model.specs.Runs.{IsCalmBy}
+use Rattle.hb_model.specs.declared.config.NodeConfig.{NodeConfig}
+use Rattle.hb_node.specs.State as node
+use Rattle.hb_node.specs.State.{State, Shows, due_of, closing_of}
+use Rattle.hb_proxy.specs.Doors.{without_doors}
+use Rattle.hb_proxy.specs.Machine.{Machine, local, with_control, with_part}
+use Rattle.hb_proxy.specs.Points.{Point, of_control, of_link, entries}
+use Rattle.hb_proxy.specs.Runs.{Steps, StandsFor, goes_on}
+use Rattle.hb_proxy.specs.Seen.{IsThere, IsLinkThere}
+use Rattle.hb_proxy.specs.Ups.{up_by}
+use Rattle.hb_turns.specs.Shown.{StandsForNone, Stops}
+use Rattle.hb_world.specs.Trace.{lives}
+use Rattle.hb_world.specs.declared.entry.Entry.{Entry}
+use Rattle.hb_whole.specs.Queue.{told}
+use Rattle.hb_whole.specs.Sight.{shown_of, closes_by}
+use Rattle.hb_whole.specs.Stands.{Stands, EndsBy, Ends, ControlEnds, LinkEnds, TunnelEnds}
+use Rattle.hb_whole.specs.declared.proxy.Proxy.{Proxy}
+use Rattle.hb_whole.specs.declared.side.Side.{Side}
+use Rattle.hb_whole.proofs.Free.{calm_of, control_rests, goes_on as runs_on, none_of}
+use Rattle.hb_whole.proofs.Giving.{ends_at}
+use Rattle.hb_whole.proofs.Growing.{inner_silent, inner_control, entries_more, notes_grow}
+use Rattle.hb_whole.proofs.Routes.{seen_of, lives_then}
+
+-- WHERE NO ACT IS DUE BEHIND THE END NO LINK LIVES
+
+control_gone : (c : Cause) (phase : d.Phase) (x : d.Discovery) → ControlEnds c phase → IsCalmBy phase x → IsThere phase → ⊥
+control_gone c d.unborn x ends calm there = there
+control_gone c d.closed x ends calm there = there
+control_gone c d.dialling x ends calm there = ends
+control_gone c d.live x ends calm there = ends
+control_gone c (d.faulted code) x ends calm there = ends
+control_gone c (d.ending why) x ends calm there = calm
+
+link_gone : (c : Cause) (phase : m.Phase) → LinkEnds c phase → close_due phase ≡ None → IsLinkThere phase → ⊥
+link_gone c m.unborn ends none there = there
+link_gone c m.closed ends none there = there
+link_gone c m.arriving ends none there = ends
+link_gone c m.fronting ends none there = ends
+link_gone c m.serving ends none there = ends
+link_gone c (m.faulted code) ends none there = ends
+link_gone c (m.closing why) ends none there = absurd cc
+
+up_gone : (c : Cause) (stage : Stage) (k : Tunnel) (u : ℕ) → TunnelEnds c stage → is_unanswered stage ≡ false → IsIdleBy stage k
+    → 0 < u → up_by stage k ≡ u → ⊥
+up_gone c t.unasked k u ends answered idle some is = absurd (omega arith)
+up_gone c t.gone k u ends answered idle some is = absurd (omega arith)
+up_gone c (t.failed why) k u ends answered idle some is = absurd cc
+up_gone c (t.ended why) k u ends answered idle some is = absurd cc
+up_gone c (t.over why) k u ends answered idle some is = idle
+up_gone c stage k u ends answered idle some is = absurd ends
+
+by_false : (b : Bool) → (b ≡ true → ⊥) → b ≡ false
+by_false true never = absurd (never refl)
+by_false false never = refl
+
+pub none_lives : (p : Proxy) (c : Cause) → p.ends_for ≡ Some c → due_of p.control ≡ None → busy.is_idle p.side.links ≡ true
+    → StandsForNone Stands p
+none_lives p c ends due idle taken trace s l = by_false (lives l trace) dead
+  where
+    so : Ends c s.machine
+    so = (subst (λ (o : Option Cause). EndsBy o s.machine) ends s.ends).1
+
+    dead : lives l trace ≡ true → ⊥
+    dead alive =
+        ⊎_elim (λ there. control_gone c (s.machine.control.links l).phase (s.machine.control.links l) (so.control l)
+        ((control_rests p.control s.machine.control s.control due).calm l) there)
+        (λ other. ⊎_elim (λ there. link_gone c (s.machine.inbound l).phase (so.links l)
+        (none_is_due p.side.links s.machine.inbound idle s.links l).no_close there)
+        (λ joins. up_gone c ((s.machine.inbound joins.0).tunnels joins.1).stage ((s.machine.inbound joins.0).tunnels joins.1) l
+        (so.tunnels joins.0 joins.1) ((all_calm p.side.links s.machine.inbound s.links joins.0).answered joins.1)
+        ((none_is_due p.side.links s.machine.inbound idle s.links joins.0).idle joins.1) joins.2.0 joins.2.1) other)
+        ((seen_of taken p trace s).has l (lives_then trace l ∙ alive))
+
+-- WHAT FOLLOWS BY ITSELF BEHIND THE END
+
+lacks_none : (c : Cause) (phase : m.Phase) (x : Inbound) → LinkEnds c phase → Lacks phase x → ⊥
+lacks_none c m.unborn x ends lacks = lacks
+lacks_none c m.closed x ends lacks = lacks
+lacks_none c m.arriving x ends lacks = ends
+lacks_none c m.fronting x ends lacks = ends
+lacks_none c m.serving x ends lacks = ends
+lacks_none c (m.faulted code) x ends lacks = ends
+lacks_none c (m.closing why) x ends lacks = lacks
+
+left_ends : (c why : Cause) (k : Tunnel) → why ≡ c → TunnelEnds c (left_with why k).stage
+left_ends c why k is = by (k.up == 0)
+  where
+    by : (b : Bool) → TunnelEnds c (cond b t.gone (t.over why))
+    by true = tt
+    by false = is
+
+leaves_end : (c : Cause) (l s : ℕ) (x : Inbound) (stage : Stage) (made : Option Note) (next : Tunnel) → Leaves l s x stage made next
+    → TunnelEnds c stage → TunnelEnds c next.stage
+leaves_end c l s x (t.failed why) made next leaves ends =
+    subst (λ (k : Tunnel). TunnelEnds c k.stage) (sym leaves.3) (left_ends c why (x.tunnels s) ends)
+leaves_end c l s x (t.ended why) made next leaves ends =
+    subst (λ (k : Tunnel). TunnelEnds c k.stage) (sym leaves.3) (left_ends c why (x.tunnels s) ends)
+leaves_end c l s x t.unasked made next leaves ends = absurd leaves
+leaves_end c l s x (t.requested headers end) made next leaves ends = absurd leaves
+leaves_end c l s x (t.refusing status target) made next leaves ends = absurd leaves
+leaves_end c l s x t.malformed made next leaves ends = absurd leaves
+leaves_end c l s x t.due made next leaves ends = absurd leaves
+leaves_end c l s x t.opening made next leaves ends = absurd leaves
+leaves_end c l s x t.accepting made next leaves ends = absurd leaves
+leaves_end c l s x t.live made next leaves ends = absurd leaves
+leaves_end c l s x (t.over why) made next leaves ends = absurd leaves
+leaves_end c l s x t.gone made next leaves ends = absurd leaves
+
+-- a link that ends so goes on ending so
+abbrev pub IsEnding : Cause → Inbound → Type 0
+IsEnding c x = LinkEnds c x.phase × ((s : ℕ) → TunnelEnds c (x.tunnels s).stage)
+
+module _ (c : Cause) (l : ℕ) (a b : Local) (ends : IsEnding c a.link) where
+  never : (phase : m.Phase) → a.link.phase ≡ phase → LinkEnds c phase
+  never phase is = subst (λ (q : m.Phase). LinkEnds c q) is ends.0
+
+  tunnel_left : (s k : ℕ) (next : Tunnel) → TunnelEnds c next.stage
+      → TunnelEnds c (cond (k == s) next (a.link.tunnels k)).stage
+  tunnel_left s k next so = by (k == s)
+    where
+      by : (b : Bool) → TunnelEnds c (cond b next (a.link.tunnels k)).stage
+      by true = so
+      by false = ends.1 k
+
+  step_ends : (p : Part) → link.IsInner p → inbound.Steps l a p b → IsEnding c b.link
+  step_ends (part.entry z) inner steps = absurd inner
+  step_ends (part.up s z) inner steps = absurd inner
+  step_ends part.welcomed inner steps = absurd (never m.arriving steps.0)
+  step_ends part.crowded inner steps = absurd inner
+  step_ends part.lacked inner steps = absurd (lacks_none c a.link.phase a.link ends.0 steps.0)
+  step_ends (part.fronted seen) inner steps = absurd (never m.fronting steps.0)
+  step_ends (part.misfronted fault) inner steps = absurd (never m.fronting steps.0)
+  step_ends (part.looked ps said headers) inner steps = absurd (never m.serving steps.0)
+  step_ends (part.decided s full given) inner steps = absurd (never m.serving steps.0)
+  step_ends (part.accepted s made) inner steps = absurd (never m.serving steps.0)
+  step_ends (part.refused s status resets made) inner steps = absurd (never m.serving steps.0)
+  step_ends (part.reset s code made) inner steps = absurd (never m.serving steps.0)
+  step_ends (part.left s made) inner steps =
+      subst (λ (w : Local). IsEnding c w.link) (sym steps.2)
+      (ends.0, λ k. tunnel_left s k steps.0 (leaves_end c l s a.link (a.link.tunnels s).stage made steps.0 steps.1 (ends.1 s)))
+  step_ends (part.done s made) inner steps = absurd (never m.serving steps.0.0)
+  step_ends (part.put s bytes) inner steps = absurd (never m.serving steps.0.0)
+  step_ends (part.finished s) inner steps = absurd (never m.serving steps.0.0)
+  step_ends (part.credited s n) inner steps = absurd (never m.serving steps.0.0)
+  step_ends (part.applied r) inner steps = absurd inner
+  step_ends (part.stopped why) inner steps = absurd inner
+
+inner_ends : (c : Cause) (G : Guard) (g : NodeConfig) (x y : Machine) (more : List Point) → Leads G g x more y → Ends c x → Ends c y
+inner_ends c G g x y [] is ends = subst (λ (w : Machine). Ends c w) (sym is) ends
+inner_ends c G g x y (of_control q ∷ more) is ends = absurd is.0
+inner_ends c G g x y (of_link l p ∷ more) is ends =
+    let next = is.3.0 in
+    let at = step_ends c l (local x l) (inbound.with_link next (local x l)) (ends.links l, λ s. ends.tunnels l s) p is.0 is.3.1 in
+    inner_ends c G g is.2 y more is.4
+    (subst (λ (w : Machine). Ends c w) (sym is.3.3) (ends_at c x l p next at.0 at.1 ends))
+
+-- THE RUN IS STOPPED
+
+control_stops : (c : Cause) (phase : d.Phase) (x : d.Discovery) → IsCalmBy phase x → ControlEnds c (d.stopped_for c phase)
+control_stops c d.unborn x calm = tt
+control_stops c d.closed x calm = tt
+control_stops c d.dialling x calm = refl
+control_stops c d.live x calm = refl
+control_stops c (d.faulted code) x calm = absurd calm
+control_stops c (d.ending why) x calm = absurd calm
+
+link_stops : (c : Cause) (phase : m.Phase) → close_due phase ≡ None → LinkEnds c (m.stops_by c phase)
+link_stops c m.unborn none = tt
+link_stops c m.closed none = tt
+link_stops c m.arriving none = refl
+link_stops c m.fronting none = refl
+link_stops c m.serving none = refl
+link_stops c (m.faulted code) none = absurd cc
+link_stops c (m.closing why) none = absurd cc
+
+tunnel_stops : (c : Cause) (stage : Stage) (k : Tunnel) → is_unanswered stage ≡ false → IsIdleBy stage k
+    → TunnelEnds c (t.ends_by c stage)
+tunnel_stops c t.unasked k answered idle = tt
+tunnel_stops c (t.requested headers end) k answered idle = absurd cc
+tunnel_stops c (t.refusing status target) k answered idle = absurd cc
+tunnel_stops c t.malformed k answered idle = absurd cc
+tunnel_stops c t.due k answered idle = refl
+tunnel_stops c t.opening k answered idle = refl
+tunnel_stops c t.accepting k answered idle = absurd cc
+tunnel_stops c t.live k answered idle = refl
+tunnel_stops c (t.failed why) k answered idle = absurd cc
+tunnel_stops c (t.ended why) k answered idle = absurd cc
+tunnel_stops c (t.over why) k answered idle = absurd idle
+tunnel_stops c t.gone k answered idle = tt
+
+-- the control plane and the links were told, and no dial waits for its answer
+abbrev pub with_stop : State → Side → Cause → Proxy → Proxy
+with_stop n side c p = record p { control = n; side = side; dials = None; ends_for = Some c }
+
+pub stops : (p : Proxy) (n : State) (side : Side) (c : Cause) → node.Stops c p.control n
+    → links.Stops c p.side.links (told p.side.notes) side.links (told side.notes) → Stops Stands shown_of p (with_stop n side c p)
+stops p n side c control_stops_so links_stop going none taken trace s = record {
+  machine = follows.reached;
+  points = s.points ++ of_control (point.stopped c) ∷ follows.more;
+  run = subst (λ (g : NodeConfig). StandsFor g follows.reached (s.points ++ of_control (point.stopped c) ∷ follows.more))
+      (sym control_stops_so.0)
+      (subst (λ (ps : List Point). StandsFor p.control.config follows.reached ps)
+      (append_assoc s.points (of_control (point.stopped c) ∷ []) follows.more)
+      (stands_behind unguarded p.control.config y follows.reached (s.points ++ of_control (point.stopped c) ∷ []) follows.more
+      (goes_on s.run (of_control (point.stopped c)) steps refl) follows.leads));
+  trace_is = s.trace_is ∙ sym (append-nil (entries s.points))
+      ∙ ap (λ (zs : List Entry). entries s.points ++ zs)
+      (sym (inner_silent unguarded p.control.config y follows.reached follows.more follows.leads))
+      ∙ sym (entries_more s.points (of_control (point.stopped c) ∷ follows.more));
+  control = subst (λ (w : Control). Shows n w) (sym control_is) (control_stops_so.1 x.control s.control);
+  links = follows.shows;
+  noted = notes_grow taken (told p.side.notes) (told side.notes) s.points (of_control (point.stopped c) ∷ follows.more) follows.noted s.noted;
+  dial = tt;
+  ends = (ap (λ (w : Control). w.over) control_is, inner_ends c unguarded p.control.config y follows.reached follows.more follows.leads ends_y);
+  sound = s.sound;
+}
+  where
+    x : Machine
+    x = s.machine
+
+    y : Machine
+    y = with_control (point.stopped c) (control.with_stop c x.control) x
+
+    parts : (is_none (closing_of p.control.link) ≡ true) × (busy.is_idle p.side.links ≡ true)
+    parts = and_parts _ _ (ap (λ (o : Option Cause). closes_by o p) (sym going) ∙ none)
+
+    steps : Steps p.control.config x (of_control (point.stopped c)) y
+    steps = (
+      control.with_stop c x.control,
+      (runs_on p x s.ends going, refl),
+      λ l. (all_calm p.side.links x.inbound s.links l).answered,
+      refl,
+    )
+
+    follows : Follows unguarded Shown p.control.config y side.links (told p.side.notes) (told side.notes)
+    follows = links_stop p.control.config x y s.points s.run s.links tt steps
+
+    control_is : follows.reached.control ≡ y.control
+    control_is = inner_control unguarded p.control.config y follows.reached follows.more follows.leads
+
+    ends_y : Ends c y
+    ends_y = record {
+      control = λ l. control_stops c (x.control.links l).phase (x.control.links l)
+          (calm_of p.control.link x.control s.control.link (none_of (closing_of p.control.link) parts.0) l);
+      links = λ l. link_stops c (x.inbound l).phase (none_is_due p.side.links x.inbound parts.1 s.links l).no_close;
+      tunnels = λ l k. tunnel_stops c ((x.inbound l).tunnels k).stage ((x.inbound l).tunnels k)
+          ((all_calm p.side.links x.inbound s.links l).answered k) ((none_is_due p.side.links x.inbound parts.1 s.links l).idle k);
+    }

@@ -1,0 +1,47 @@
+use Rattle.std.proofs.Common.{◌≡◌, Option, ℕ, refl, sym}
+use Rattle.hb_base.specs.declared.target.Target.{Target}
+use Rattle.hb_links.specs.Calls.{Dials}
+use Rattle.hb_links.specs.Stirring.{Stirs}
+use Rattle.hb_node.specs.State.{Answers}
+use Rattle.hb_turns.specs.Shown.{Tells, dial_entry}
+use Rattle.hb_whole.specs.Sight.{shown_of}
+use Rattle.hb_whole.specs.Stands.{Stands, config_of}
+use Rattle.hb_whole.proofs.Births.{answers_config, control_answers, up_answers, up_answers_none}
+use Rattle.hb_whole.proofs.Heard.{with_state}
+use Rattle.hb_whole.proofs.Outcomes.{if_ok, two_ok}
+use Rattle.hb_whole.proofs.Telling.{with_side}
+use Rattle.hb_whole.proofs.proxy.Proxy.dialled.Goals as goal
+
+pub returns-in-Discovery-clause-tells : goal.returns-in-Discovery-clause-tells
+returns-in-Discovery-clause-tells c =
+    let p = c.args.self.now in
+    let n = c.dialled.new.self in
+    if_ok c.dialled.result (Answers c.args.why c.args.link p.control n)
+    ((to : Target) → Tells Stands shown_of (dial_entry to c.args.why c.args.link) p (with_state n p.side p))
+    (λ answers. control_answers p n c.args.why c.args.link c.in-Discovery.is answers) c.dialled.ensures.machine
+
+pub returns-in-Discovery-clause-config : goal.returns-in-Discovery-clause-config
+returns-in-Discovery-clause-config c =
+    let p = c.args.self.now in
+    let n = c.dialled.new.self in
+    if_ok c.dialled.result (Answers c.args.why c.args.link p.control n) (config_of (with_state n p.side p) ≡ config_of p)
+    (λ answers. answers_config c.args.why c.args.link p.control n answers) c.dialled.ensures.machine
+
+pub returns-in-Some-clause-tells : goal.returns-in-Some-clause-tells
+returns-in-Some-clause-tells c =
+    let p = c.args.self.now in
+    let done = c.dialled-in-Some in
+    let new = done.new.self in
+    let l = c.in-Upstream.at in
+    let k = c.in-Upstream.stream in
+    two_ok done.result (Dials l k c.in-Some.number p.side.links new) (Stirs p.side.links new)
+    ((to : Target) → Tells Stands shown_of (dial_entry to c.args.why c.args.link) p (with_side (record p.side { links = new }) p))
+    (λ dials stirs. up_answers p new c.args.why c.args.link l k c.in-Some.number c.in-Upstream.is c.in-Some.is dials stirs)
+    done.ensures.meets done.ensures.stirs
+
+pub returns-in-None-clause-tells : goal.returns-in-None-clause-tells
+returns-in-None-clause-tells c =
+    let p = c.args.self.now in
+    let done = c.dial_failed in
+    up_answers_none p (record { links = done.new.self; notes = done.new.notes }) c.args.why c.args.link c.in-Upstream.at
+    c.in-Upstream.stream c.in-Upstream.is c.in-None.is done.ensures.meets done.ensures.stirs

@@ -1,0 +1,10 @@
+use Rattle.hb_whole.proofs.Ending.{stops}
+use Rattle.hb_whole.proofs.proxy.Proxy.stop.Goals as goal
+
+pub returns-clause-stands : goal.returns-clause-stands
+returns-clause-stands c =
+    stops c.args.self.now c.stop.new.self (record { links = c.stopped.new.self; notes = c.stopped.new.notes }) c.args.cause
+    c.stop.ensures c.stopped.ensures.meets
+
+pub returns-clause-config : goal.returns-clause-config
+returns-clause-config c = c.stop.ensures.0

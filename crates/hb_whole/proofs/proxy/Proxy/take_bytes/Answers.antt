@@ -1,0 +1,58 @@
+use Rattle.std.proofs.Common.{◌≡◌, List, ℕ, refl, ap, sym, ◌∙◌}
+use Rattle.hb_links.specs.Calls.{Takes, counting}
+use Rattle.hb_links.specs.Load.{others_of}
+use Rattle.hb_links.specs.Stirring.{Stirs}
+use Rattle.hb_node.specs.State.{EntersJudged}
+use Rattle.hb_proxy.specs.Machine.{Machine}
+use Rattle.hb_turns.specs.Shown.{Tells}
+use Rattle.hb_world.specs.declared.entry.Entry.TheVariants as e
+use Rattle.hb_whole.specs.Judged.{Judges}
+use Rattle.hb_whole.specs.Queue.{told}
+use Rattle.hb_whole.specs.Sight.{shown_of}
+use Rattle.hb_whole.specs.Stands.{Stands, config_of}
+use Rattle.hb_whole.specs.declared.side.Side.{Side}
+use Rattle.hb_whole.proofs.Guards as link
+use Rattle.hb_whole.proofs.Heard as control
+use Rattle.hb_whole.proofs.Heard.{with_state, state_tells}
+use Rattle.hb_whole.proofs.Outcomes.{if_ok, two_ok}
+use Rattle.hb_whole.proofs.Telling.{with_side, link_tells}
+use Rattle.hb_whole.proofs.proxy.Proxy.take_bytes.Goals as goal
+
+pub returns-then-owns-clause-tells : goal.returns-then-owns-clause-tells
+returns-then-owns-clause-tells c =
+    let p = c.args.self.now in
+    let l = c.args.link in
+    let bytes = c.args.bytes.now in
+    let mine = sym c.owns.ensures ∙ c.if-owns.true in
+    let n = c.take_bytes.new.self in
+    let side = c.take_bytes.new.judge in
+    if_ok c.take_bytes.result (EntersJudged Judges (e.Came l bytes) p.control n p.side side)
+    (Tells Stands shown_of (e.Came l bytes) p (with_state n side p))
+    (λ enters. state_tells p n side (e.Came l bytes) refl (λ x. refl)
+    (λ taken trace s may. control.came_may taken p trace s l mine bytes c.are_octets.ensures may) enters) c.take_bytes.ensures.judged
+
+pub returns-then-owns-clause-config : goal.returns-then-owns-clause-config
+returns-then-owns-clause-config c =
+    let p = c.args.self.now in
+    let n = c.take_bytes.new.self in
+    let side = c.take_bytes.new.judge in
+    if_ok c.take_bytes.result (EntersJudged Judges (e.Came c.args.link c.args.bytes.now) p.control n p.side side)
+    (config_of (with_state n side p) ≡ config_of p) (λ enters. enters.0) c.take_bytes.ensures.judged
+
+pub returns-else-owns-clause-tells : goal.returns-else-owns-clause-tells
+returns-else-owns-clause-tells c =
+    let p = c.args.self.now in
+    let l = c.args.link in
+    let bytes = c.args.bytes.now in
+    let other = sym c.owns.ensures ∙ c.if-owns.false in
+    let new = c.took.new.self in
+    let notes = c.took.new.notes in
+    let side : Side = record { links = new; notes = notes } in
+    let limit = c.args.self.now.limits.tunnels in
+    two_ok c.took.result
+    (Takes c.held.result.now (others_of p.side.links l) limit l bytes p.side.links (told p.side.notes) new (told notes))
+    (Stirs p.side.links new) (Tells Stands shown_of (e.Came l bytes) p (with_side side p))
+    (λ takes stirs. link_tells p side (e.Came l bytes) l (λ q. counting (others_of p.side.links l) limit q)
+    (λ x. x.control.held ≡ c.held.result.now) refl
+    (λ taken trace s may. (may.0.0, link.came_may taken p trace s l other bytes c.are_octets.ensures may, s.control.held ∙ sym c.held.ensures))
+    takes stirs) c.took.ensures.meets c.took.ensures.stirs
