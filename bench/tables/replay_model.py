@@ -22,11 +22,12 @@ USAGE = (" (usage: hbone check --node NODE [--network NETWORK] SOURCE IDENTITY T
          "[--turns COUNT] [--trace] [--brief])")
 
 # How much of an output's free room may be read at once (one part of so many), whether requests are put as soon as one is
-# there or behind all that came, whether a link that opens is read and written in the same round, and the order of a round.
-Choice = collections.namedtuple("Choice", "share eager goes_on order")
-USUAL = Choice(5, False, False, "rww")
-CHOICES = [Choice(share, eager, goes_on, order) for share in (5, 3) for eager in (False, True) for goes_on in (False, True)
-           for order in ("rww", "wrw", "wwr")]
+# there or behind all that came, whether a link that opens is read and written in the same round, the order of a round, and
+# whether a round is made only where a call may move something, or behind each one in which something moved.
+Choice = collections.namedtuple("Choice", "share eager goes_on order lists")
+USUAL = Choice(5, False, True, "rww", True)
+CHOICES = [Choice(share, eager, goes_on, order, lists) for share in (5, 3) for eager in (False, True) for goes_on in (False, True)
+           for order in ("rww", "wrw", "wwr") for lists in (False, True)]
 
 
 # Words
@@ -207,12 +208,15 @@ class World:
         self.births = self.failing = 0
         self.finishes, self.pieces, self.rooms = {}, collections.defaultdict(collections.deque), {}
         self.ended, self.broken = set(), set()
+        self.named = set()
         self.trace = []
 
     def wait(self):
+        self.named = set()
         while self.lines:
             line = self.lines.popleft()
             link = line.get("link")
+            self.named.update(line[key] for key in ("link", "open", "refuse", "end", "break") if key in line)
             if "open" in line or "refuse" in line:
                 [(word, link)] = line.items()
                 self.finishes[link] = word
@@ -897,17 +901,19 @@ class Run:
     def __init__(self, asked, world, choice, ticks=None):
         self.asked, self.world, self.choice, self.ticks = asked, world, choice, ticks
         self.held, self.link = {}, None
+        # whether a round is to be made, and the ways that balked since a wait named the link
+        self.is_tried, self.asleep = True, set()
 
     def run(self):
         self.dial()
         end = "turns spent"
-        is_moved = True
         for _ in range(min(self.asked.get("turns", 10**12), 10**7)):
-            if self.link and is_moved:
+            if self.link and self.is_tried:
                 is_moved = self.round()
+                self.is_tried = self.is_worth() if self.choice.lists else is_moved
                 continue
-            is_moved = True
             waited = self.world.wait()
+            self.wake()
             if waited == "tick" and self.ticks:
                 self.ticks -= 1
                 if not self.ticks:
@@ -925,6 +931,18 @@ class Run:
         number = self.world.dial(self.asked["discovery"])
         if number:
             self.link = Link(number, self.asked["id"], self.asked["discovery"], self.held, self.choice)
+            self.is_tried, self.asleep = True, set()
+
+    def wake(self):
+        if self.link and self.link.number in self.world.named:
+            self.is_tried, self.asleep = True, set()
+        self.is_tried |= not self.choice.lists
+
+    def is_worth(self):
+        """Whether a call on the link may move something."""
+        if not self.link or not self.link.is_open:
+            return self.link is not None and "finish" not in self.asleep
+        return "read" not in self.asleep and self.link.wants() > 0 or "write" not in self.asleep and len(self.link.output()) > 0
 
     def close(self, cause):
         self.world.close(self.link.number, cause)
@@ -941,6 +959,8 @@ class Run:
             self.link.is_open = True
             if self.choice.goes_on:
                 self.move()
+        else:
+            self.asleep.add("finish")
         return answer is not None
 
     def move(self):
@@ -955,6 +975,7 @@ class Run:
             return False
         came = self.world.read(self.link.number, self.link.wants())
         if came is None:
+            self.asleep.add("read")
             return False
         if came in ("end", "broke"):
             self.close("broken")
@@ -977,6 +998,8 @@ class Run:
             self.close("broken")
             return True
         self.link.wrote(went)
+        if not went:
+            self.asleep.add("write")
         return went > 0
 
 

@@ -9,9 +9,9 @@ use Rattle.std.specs.Result.{MatchResult}
 use Rattle.hb_base.specs.Count.{Rose, Counts, one_more}
 use Rattle.hb_cli.specs.declared.stop.Stop.{Stop}
 use Rattle.hb_cli.specs.declared.stop.Stop.TheVariants.{Words, NoMemory}
+use Rattle.hb_replay.specs.Run.{Done}
 use Rattle.hb_words.specs.declared.fault.WordsFault.{WordsFault}
 use Rattle.hb_words.specs.Words.{Command, checks, shows, replays, words_of}
-use Rattle.hb_world.specs.declared.entry.Entry.{Entry}
 use Rattle.hb_cli.specs.declared.answer.Answer.{Answer}
 use Rattle.hb_cli.specs.declared.answer.Answer.TheVariants.{Judged, Left, Replayed}
 use Rattle.hb_cli.specs.declared.answer.Printed.{Printed}
@@ -78,18 +78,18 @@ of_each : {X : Type 0} {Q : X → Type 0} (o : Option X) → ((x : X) → Q x) �
 of_each None q = tt
 of_each (Some x) q = q x
 
-words_outcome : (words : List (List ℕ)) (fault : WordsFault) (trace : List Entry) (input : List ℕ) → words_of words ≡ Err fault
-    → outcome_of words trace input ≡ Err (Words fault)
+words_outcome : (words : List (List ℕ)) (fault : WordsFault) (done : Done) (input : List ℕ) → words_of words ≡ Err fault
+    → outcome_of words done input ≡ Err (Words fault)
 unfolding outcome_of
-words_outcome words fault trace input e = rw e refl
+words_outcome words fault done input e = rw e refl
 
 -- an outcome that is told states its status
 pub is_stated : (t : Run) (status : ℕ) → EndsWith t status
-    → IfSome t.input.bytes (λ left. IsStated (status_of (outcome_of t.words t.trace left)) status)
+    → IfSome t.input.bytes (λ left. IsStated (status_of (outcome_of t.words t.done left)) status)
 is_stated t =
-    by_status t (λ s. IfSome t.input.bytes (λ left. IsStated (status_of (outcome_of t.words t.trace left)) s))
+    by_status t (λ s. IfSome t.input.bytes (λ left. IsStated (status_of (outcome_of t.words t.done left)) s))
     (λ a. IfSome_then t.input.bytes a.1.1 (λ left o. rw o (inl refl)))
-    (λ a. of_each t.input.bytes (λ left. rw (words_outcome t.words a.0 t.trace left a.1) (inl refl)))
+    (λ a. of_each t.input.bytes (λ left. rw (words_outcome t.words a.0 t.done left a.1) (inl refl)))
     (λ a. IfSome_then t.input.bytes a.2.1 (λ left o. rw o (inl (sym a.1))))
     (λ a. IfSome_then t.input.bytes a.1.1 (λ left o. rw o (inr (inr (inl (inl refl, refl))))))
     (λ a. IfSome_then t.input.bytes a.1.1 (λ left o. rw o (inr (inr (inl (inr (inl refl), refl))))))
@@ -132,16 +132,16 @@ answered_or_nine t stated status e (inr (inr (inl (inr (inr seven), is)))) zero 
 answered_or_nine t stated status e (inr (inr (inr nine))) zero no_reads no_puts = inr nine
 
 -- where 0 is stated and no count rose, the answer comes whole, or 9
-pub is_complete : (t : Run) (status : ℕ) → EndsWith t status → IfSome t.input.bytes (λ left. status_of (outcome_of t.words t.trace left) ≡ 0
+pub is_complete : (t : Run) (status : ℕ) → EndsWith t status → IfSome t.input.bytes (λ left. status_of (outcome_of t.words t.done left) ≡ 0
     → (Rose t.input.faults t.input.faults_after → ⊥) → (Rose t.out.faults t.out.faults_after → ⊥)
     → IsTrue (is_answered status) ⊎ (status ≡ 9))
 is_complete t status e =
     IfSome_then t.input.bytes (is_stated t status e) (λ left is. answered_or_nine t
-    (status_of (outcome_of t.words t.trace left)) status e is)
+    (status_of (outcome_of t.words t.done left)) status e is)
 
 -- what an answer says that is printed whole
 abbrev pub Whole : Run → Type 0
-Whole t = (text : List ℕ) × LooksAt t.words t.trace t.input (Ok text) × WritesAll t.out text
+Whole t = (text : List ℕ) × LooksAt t.words t.done t.input (Ok text) × WritesAll t.out text
 
 -- at 0, 4 and 5 the answer is printed whole
 pub is_whole : (t : Run) (status : ℕ) → EndsWith t status → IsTrue (is_answered status) → Whole t
@@ -164,20 +164,20 @@ is_quiet t = by_status t (λ s. is_answered s ≡ false → s ≢ 7 → s ≢ 9 
 
 -- where memory was wanting nothing is printed, or a part of what `show` prints
 pub in_part : (t : Run) → Wanting t → (t.out.bytes_after ≡ t.out.bytes) ⊎ ((text : List ℕ) × (words_of t.words ≡ Ok shows)
-    × IsAnOutcome t.words t.trace (Ok text) × IfSome t.input.bytes (λ left. outcome_of t.words t.trace left ≡ Ok text)
+    × IsAnOutcome t.words t.done (Ok text) × IfSome t.input.bytes (λ left. outcome_of t.words t.done left ≡ Ok text)
     × ((n : ℕ) × (n ≤ length text) × Appends t.out.bytes t.out.bytes_after (take n text)))
 in_part t w = ⊎_elim (λ (quiet : NoFault t.input × Untouched t.out). inl quiet.1.0)
     (λ (part : ShownInPart t). inr (part.0, part.1, part.2.2, part.2.1, part.3.0)) w.0
 
-told_at_three : (t : Run) (stop : Stop) (left : Option (List ℕ)) → IfSome left (λ input. outcome_of t.words t.trace input ≡ Err stop)
-    → Tells t.err (stop_line stop) → IfSome (told_line 3 t.words t.trace left) (λ text. Tells t.err text)
+told_at_three : (t : Run) (stop : Stop) (left : Option (List ℕ)) → IfSome left (λ input. outcome_of t.words t.done input ≡ Err stop)
+    → Tells t.err (stop_line stop) → IfSome (told_line 3 t.words t.done left) (λ text. Tells t.err text)
 told_at_three t stop None o l = tt
 told_at_three t stop (Some input) o l = rw o l
 
 -- the line of the status is told
-pub is_told : (t : Run) (status : ℕ) → EndsWith t status → IfSome (told_line status t.words t.trace t.input.bytes)
+pub is_told : (t : Run) (status : ℕ) → EndsWith t status → IfSome (told_line status t.words t.done t.input.bytes)
     (λ text. Tells t.err text)
-is_told t = by_status t (λ s. IfSome (told_line s t.words t.trace t.input.bytes) (λ text. Tells t.err text))
+is_told t = by_status t (λ s. IfSome (told_line s t.words t.done t.input.bytes) (λ text. Tells t.err text))
     (λ a. a.3) (λ a. rw a.1 a.4) (λ a. told_at_three t a.0 t.input.bytes a.2.1 a.4) (λ a. a.3) (λ a. a.3) (λ a. a.3) (λ a. a.3)
     (λ a. a.1)
 
@@ -189,7 +189,7 @@ shows_of (Err fault) l suits = absurd suits
 
 -- memory was wanting while an answer was printed: it is one of `show`
 pub wanting : (t : Run) (a : Answer) (p : Printed) (status : ℕ) → p ≡ Short → (IsMade a → p ≢ Short) → SuitsWords (words_of t.words) a
-    → LooksAt t.words t.trace t.input (Ok (answer_text a)) → Prints t.out (answer_text a) p → status ≡ 9 → Tells t.err (stop_line NoMemory)
+    → LooksAt t.words t.done t.input (Ok (answer_text a)) → Prints t.out (answer_text a) p → status ≡ 9 → Tells t.err (stop_line NoMemory)
     → EndsWith t status
 wanting t (Judged judged) p status short made suits looks prints nine told = absurd (made tt short)
 wanting t (Left l) p status short made suits looks prints nine told = rw nine (

@@ -1,20 +1,20 @@
 -- What a run leaves of the world of a script, from what it leaves at its status.
 use Rattle.std.proofs.Common.{◌≡◌, ℕ, List, [], Option, Result, Ok, Err, refl, subst, ap, ◌∙◌, inl, inr, ⊎_elim}
 use Rattle.std.specs.Prelude.{◌⊎◌}
+use Rattle.hb_replay.specs.Run.{RunState}
 use Rattle.hb_words.specs.declared.fault.WordsFault.{WordsFault}
 use Rattle.hb_words.specs.Replay.{Replay}
 use Rattle.hb_words.specs.Words.{Command, checks, shows, replays}
-use Rattle.hb_world.specs.WorldState.{ScriptState}
 use Rattle.hb_cli.specs.Replaying.{LeavesAt, WordsLeaveAt}
 
 -- what a replay leaves at one status
-pub left_at : (c : Result Command WordsFault) (r : Replay) (input : Option (List ℕ)) (before after : ScriptState) (status k : ℕ)
+pub left_at : (c : Result Command WordsFault) (r : Replay) (input : Option (List ℕ)) (before after : RunState) (status k : ℕ)
     → WordsLeaveAt c input before after status → c ≡ Ok (replays r) → status ≡ k → LeavesAt r input after k
 left_at c r input before after status k left is at =
     subst (LeavesAt r input after) at (subst (λ (d : Result Command WordsFault). WordsLeaveAt d input before after status) is left)
 
 -- 4 and 5 come of a replay alone
-pub replays_alone : (c : Result Command WordsFault) (input : Option (List ℕ)) (before after : ScriptState) (status : ℕ)
+pub replays_alone : (c : Result Command WordsFault) (input : Option (List ℕ)) (before after : RunState) (status : ℕ)
     → WordsLeaveAt c input before after status → (status ≡ 4) ⊎ (status ≡ 5) → (r : Replay) × (c ≡ Ok (replays r))
 replays_alone (Ok (checks q)) input before after status left is = absurd (⊎_elim (λ four. left.1 four) (λ five. left.2 five) is)
 replays_alone (Ok shows) input before after status left is = absurd (⊎_elim (λ four. left.1 four) (λ five. left.2 five) is)
@@ -22,24 +22,24 @@ replays_alone (Ok (replays r)) input before after status left is = (r, refl)
 replays_alone (Err fault) input before after status left is = absurd (⊎_elim (λ four. left.1 four) (λ five. left.2 five) is)
 
 -- no other command changes the script's world
-pub unchanged : (c : Result Command WordsFault) (input : Option (List ℕ)) (before after : ScriptState) (status : ℕ)
+pub unchanged : (c : Result Command WordsFault) (input : Option (List ℕ)) (before after : RunState) (status : ℕ)
     → WordsLeaveAt c input before after status → ((r : Replay) → c ≡ Ok (replays r) → ⊥) → after ≡ before
 unchanged (Ok (checks q)) input before after status left never = left.0
 unchanged (Ok shows) input before after status left never = left.0
 unchanged (Ok (replays r)) input before after status left never = absurd (never r refl)
 unchanged (Err fault) input before after status left never = left.0
 
-not_done : (c : Result Command WordsFault) (input : Option (List ℕ)) (before after : ScriptState) (status : ℕ)
-    → ((r : Replay) → LeavesAt r input after status → after.trace ≡ []) → before.trace ≡ []
-    → WordsLeaveAt c input before after status → after.trace ≡ []
-not_done (Ok (checks q)) input before after status quiet none left = ap (λ (w : ScriptState). w.trace) left.0 ∙ none
-not_done (Ok shows) input before after status quiet none left = ap (λ (w : ScriptState). w.trace) left.0 ∙ none
+not_done : (c : Result Command WordsFault) (input : Option (List ℕ)) (before after : RunState) (status : ℕ)
+    → ((r : Replay) → LeavesAt r input after status → after.script.trace ≡ []) → before.script.trace ≡ []
+    → WordsLeaveAt c input before after status → after.script.trace ≡ []
+not_done (Ok (checks q)) input before after status quiet none left = ap (λ (w : RunState). w.script.trace) left.0 ∙ none
+not_done (Ok shows) input before after status quiet none left = ap (λ (w : RunState). w.script.trace) left.0 ∙ none
 not_done (Ok (replays r)) input before after status quiet none left = quiet r left
-not_done (Err fault) input before after status quiet none left = ap (λ (w : ScriptState). w.trace) left.0 ∙ none
+not_done (Err fault) input before after status quiet none left = ap (λ (w : RunState). w.script.trace) left.0 ∙ none
 
 -- where there is no answer, want of memory aside, nothing was done
-pub nothing_done : (c : Result Command WordsFault) (input : Option (List ℕ)) (before after : ScriptState) (status : ℕ)
-    → before.trace ≡ [] → WordsLeaveAt c input before after status → (status ≡ 2) ⊎ (status ≡ 3) ⊎ (status ≡ 6) → after.trace ≡ []
+pub nothing_done : (c : Result Command WordsFault) (input : Option (List ℕ)) (before after : RunState) (status : ℕ)
+    → before.script.trace ≡ [] → WordsLeaveAt c input before after status → (status ≡ 2) ⊎ (status ≡ 3) ⊎ (status ≡ 6) → after.script.trace ≡ []
 nothing_done c input before after status none left (inl is) =
     not_done c input before after status (λ r at. subst (LeavesAt r input after) is at) none left
 nothing_done c input before after status none left (inr (inl is)) =

@@ -5,8 +5,8 @@ use Rattle.std.specs.Io.KnownBytes.{Appends}
 use Rattle.hb_base.specs.Count.{one_more}
 use Rattle.hb_cli.specs.declared.stop.Stop.{Stop}
 use Rattle.hb_cli.specs.declared.stop.Stop.TheVariants.{Words, TooLong, Refused, ReadFault, NoMemory}
+use Rattle.hb_replay.specs.Run.{Done}
 use Rattle.hb_words.specs.declared.fault.WordsFault.{WordsFault}
-use Rattle.hb_world.specs.declared.entry.Entry.{Entry}
 use Rattle.hb_words.specs.Words.{Command, shows, words_of}
 use Rattle.hb_cli.specs.declared.answer.Printed.{Printed}
 use Rattle.hb_cli.specs.declared.answer.Printed.TheVariants as printing
@@ -23,10 +23,10 @@ abbrev pub use_of : Option (List ℕ) → Option (List ℕ) → ℕ → ℕ → 
 use_of bytes bytes_after faults faults_after =
     record { bytes = bytes; bytes_after = bytes_after; faults = faults; faults_after = faults_after }
 
--- a run: its words, the trace that it leaves, and what it does with the input, the output and the error text
+-- a run: its words, the done that it leaves, and what it does with the input, the output and the error text
 pub record Run : Type 0 where
   pub words : List (List ℕ)
-  pub trace : List Entry
+  pub done : Done
   pub input : Use
   pub out : Use
   pub err : Use
@@ -63,34 +63,34 @@ abbrev pub Tells : Use → List ℕ → Type 0
 Tells u text = WritesLine u.bytes u.bytes_after u.faults u.faults_after text
 
 -- the words are accepted, and this is the outcome by the input, of which enough is read
-abbrev pub LooksAt : List (List ℕ) → List Entry → Use → Result (List ℕ) Stop → Type 0
-LooksAt words trace input o =
-    IsOk (words_of words) × IfSome input.bytes (λ left. outcome_of words trace left ≡ o) × IsAnOutcome words trace o
+abbrev pub LooksAt : List (List ℕ) → Done → Use → Result (List ℕ) Stop → Type 0
+LooksAt words done input o =
+    IsOk (words_of words) × IfSome input.bytes (λ left. outcome_of words done left ≡ o) × IsAnOutcome words done o
     × ReadsEnough input.bytes input.bytes_after × NoFault input
 
 -- this is what a command answers by the input, of which enough is read
-abbrev pub LooksFor : Command → List Entry → Use → Result (List ℕ) Stop → Type 0
-LooksFor c trace input o =
-    IfSome input.bytes (λ left. answer_after c trace left ≡ o) × ((some : List ℕ) × (answer_after c trace some ≡ o))
+abbrev pub LooksFor : Command → Done → Use → Result (List ℕ) Stop → Type 0
+LooksFor c done input o =
+    IfSome input.bytes (λ left. answer_after c done left ≡ o) × ((some : List ℕ) × (answer_after c done some ≡ o))
     × ReadsEnough input.bytes input.bytes_after × NoFault input
 
 -- What reading the input for a command comes to.
-abbrev pub FindsOut : Command → List Entry → Use → Result (List ℕ) Stop → Type 0
-FindsOut c trace input (Ok text) = LooksFor c trace input (Ok text)
-FindsOut c trace input (Err (Words fault)) = ⊥
-FindsOut c trace input (Err TooLong) = LooksFor c trace input (Err TooLong)
-FindsOut c trace input (Err (Refused refusal)) = LooksFor c trace input (Err (Refused refusal))
-FindsOut c trace input (Err ReadFault) = OneFault input
-FindsOut c trace input (Err NoMemory) = NoFault input
+abbrev pub FindsOut : Command → Done → Use → Result (List ℕ) Stop → Type 0
+FindsOut c done input (Ok text) = LooksFor c done input (Ok text)
+FindsOut c done input (Err (Words fault)) = ⊥
+FindsOut c done input (Err TooLong) = LooksFor c done input (Err TooLong)
+FindsOut c done input (Err (Refused refusal)) = LooksFor c done input (Err (Refused refusal))
+FindsOut c done input (Err ReadFault) = OneFault input
+FindsOut c done input (Err NoMemory) = NoFault input
 
 -- What reading the words and then the input comes to.
-abbrev pub ComesTo : List (List ℕ) → List Entry → Use → Result (List ℕ) Stop → Type 0
-ComesTo words trace input (Ok text) = LooksAt words trace input (Ok text)
-ComesTo words trace input (Err (Words fault)) = (words_of words ≡ Err fault) × Untouched input
-ComesTo words trace input (Err TooLong) = LooksAt words trace input (Err TooLong)
-ComesTo words trace input (Err (Refused refusal)) = LooksAt words trace input (Err (Refused refusal))
-ComesTo words trace input (Err ReadFault) = IsOk (words_of words) × OneFault input
-ComesTo words trace input (Err NoMemory) = NoFault input
+abbrev pub ComesTo : List (List ℕ) → Done → Use → Result (List ℕ) Stop → Type 0
+ComesTo words done input (Ok text) = LooksAt words done input (Ok text)
+ComesTo words done input (Err (Words fault)) = (words_of words ≡ Err fault) × Untouched input
+ComesTo words done input (Err TooLong) = LooksAt words done input (Err TooLong)
+ComesTo words done input (Err (Refused refusal)) = LooksAt words done input (Err (Refused refusal))
+ComesTo words done input (Err ReadFault) = IsOk (words_of words) × OneFault input
+ComesTo words done input (Err NoMemory) = NoFault input
 
 -- a line whose text isn't fixed, so that telling it takes memory
 abbrev pub takes_memory : Stop → Bool
@@ -108,7 +108,7 @@ GivesUp stop err status =
 
 -- 0, 4 and 5: the answer is printed whole, and how a replay ended is told
 abbrev pub Answered : Run → List ℕ → Type 0
-Answered t ending = (text : List ℕ) × LooksAt t.words t.trace t.input (Ok text) × WritesAll t.out text × Tells t.err ending
+Answered t ending = (text : List ℕ) × LooksAt t.words t.done t.input (Ok text) × WritesAll t.out text × Tells t.err ending
 
 -- 2: the words aren't accepted, and nothing is read
 abbrev pub WordsRefused : Run → Type 0
@@ -118,7 +118,7 @@ WordsRefused t = (fault : WordsFault) × (words_of t.words ≡ Err fault) × Unt
 -- 3: the input is too long, or one of its messages is refused
 abbrev pub InputRefused : Run → Type 0
 InputRefused t =
-    (stop : Stop) × (status_of (Err stop) ≡ 3) × LooksAt t.words t.trace t.input (Err stop) × Untouched t.out
+    (stop : Stop) × (status_of (Err stop) ≡ 3) × LooksAt t.words t.done t.input (Err stop) × Untouched t.out
     × Tells t.err (stop_line stop)
 
 -- 6: a take failed
@@ -128,11 +128,11 @@ Unread t = IsOk (words_of t.words) × OneFault t.input × Untouched t.out × Tel
 -- 7: a put failed, and the answer is printed in part
 abbrev pub Unwritten : Run → Type 0
 Unwritten t =
-    (text : List ℕ) × LooksAt t.words t.trace t.input (Ok text) × WritesPart t.out text × Tells t.err write_fault_line
+    (text : List ℕ) × LooksAt t.words t.done t.input (Ok text) × WritesPart t.out text × Tells t.err write_fault_line
 
 -- the answer of `show` is printed in part
 abbrev pub ShownInPart : Run → Type 0
-ShownInPart t = (text : List ℕ) × (words_of t.words ≡ Ok shows) × LooksAt t.words t.trace t.input (Ok text) × WritesSome t.out text
+ShownInPart t = (text : List ℕ) × (words_of t.words ≡ Ok shows) × LooksAt t.words t.done t.input (Ok text) × WritesSome t.out text
 
 -- 9: want of memory, before the answer or while it is shown
 abbrev pub Wanting : Run → Type 0

@@ -1,4 +1,4 @@
--- What the world of a script is left as: a replay runs over it, and no other command makes a call on it.
+-- What the world of a script and the notes are left as: a replay runs over that world, and no other command makes a call on it.
 use Rattle.std.specs.Prelude.{◌≡◌, ◌≢◌, ℕ, ◌==◌, List, [], Option, Some, IfSome, Result, Ok, Err}
 use Rattle.std.specs.Bool.{MatchBool}
 use Rattle.hb_base.specs.declared.or.Or.{Or}
@@ -7,10 +7,9 @@ use Rattle.hb_script.specs.Script.{lines}
 use Rattle.hb_words.specs.declared.fault.WordsFault.{WordsFault}
 use Rattle.hb_words.specs.Replay.{Replay}
 use Rattle.hb_words.specs.Words.{Command, replays}
-use Rattle.hb_world.specs.WorldState.{ScriptState}
 use Rattle.hb_replay.specs.declared.run.ReplayEnd.{ReplayEnd}
 use Rattle.hb_replay.specs.declared.run.ReplayEnd.TheVariants as ends
-use Rattle.hb_replay.specs.Run.{IsRun, DoneLawfully}
+use Rattle.hb_replay.specs.Run.{RunState, done_in, IsRun, DoneLawfully}
 use Rattle.hb_cli.specs.declared.answer.Answer.{Answer}
 use Rattle.hb_cli.specs.declared.answer.Answer.TheVariants.{Judged, Left, Replayed}
 use Rattle.hb_cli.specs.declared.input.Refused.{Refused}
@@ -20,36 +19,36 @@ use Rattle.hb_cli.specs.Ending.{Use, Tells}
 use Rattle.hb_cli.specs.Run.{world_fault_line, turns_spent_line}
 
 -- the lines of this input, where it is told, were run over, and the run ended so
-abbrev pub RunsTo : Replay → Option (List ℕ) → ScriptState → ReplayEnd → Type 0
-RunsTo r input world end = IfSome input (λ left. lines left ≡ Ok world.lines) × IsRun r end world.trace
+abbrev pub RunsTo : Replay → Option (List ℕ) → RunState → ReplayEnd → Type 0
+RunsTo r input world end = IfSome input (λ left. lines left ≡ Ok world.script.lines) × IsRun r end (done_in world)
 
 -- what an answer of a replay says of its script's world
-abbrev pub AnswersFrom : Replay → Option (List ℕ) → ScriptState → Answer → Type 0
+abbrev pub AnswersFrom : Replay → Option (List ℕ) → RunState → Answer → Type 0
 AnswersFrom r input world (Replayed told) = RunsTo r input world told.end
 AnswersFrom r input world _ = ⊥
 
 -- what a replay leaves: where it has no answer, want of memory aside, nothing was done
-abbrev pub Leaves : Replay → Option (List ℕ) → ScriptState → Result Answer Stop → Type 0
+abbrev pub Leaves : Replay → Option (List ℕ) → RunState → Result Answer Stop → Type 0
 Leaves r input world (Ok a) = AnswersFrom r input world a
-Leaves r input world (Err NoMemory) = DoneLawfully r world.trace
-Leaves r input world (Err _) = world.trace ≡ []
+Leaves r input world (Err NoMemory) = DoneLawfully r world.script.trace
+Leaves r input world (Err _) = world.script.trace ≡ []
 
 -- the same of an input that is there, and of a command by it
-abbrev pub LeavesOf : Replay → List ℕ → ScriptState → Result Answer (Or Refused) → Type 0
+abbrev pub LeavesOf : Replay → List ℕ → RunState → Result Answer (Or Refused) → Type 0
 LeavesOf r input world (Ok a) = AnswersFrom r (Some input) world a
-LeavesOf r input world (Err (Fault refusal)) = world.trace ≡ []
-LeavesOf r input world (Err Lacks) = DoneLawfully r world.trace
+LeavesOf r input world (Err (Fault refusal)) = world.script.trace ≡ []
+LeavesOf r input world (Err Lacks) = DoneLawfully r world.script.trace
 
-abbrev pub CommandLeaves : Command → List ℕ → ScriptState → ScriptState → Result Answer (Or Refused) → Type 0
+abbrev pub CommandLeaves : Command → List ℕ → RunState → RunState → Result Answer (Or Refused) → Type 0
 CommandLeaves (replays r) input before after result = LeavesOf r input after result
 CommandLeaves _ input before after result = after ≡ before
 
-abbrev pub LeavesBy : Command → Option (List ℕ) → ScriptState → ScriptState → Result Answer Stop → Type 0
+abbrev pub LeavesBy : Command → Option (List ℕ) → RunState → RunState → Result Answer Stop → Type 0
 LeavesBy (replays r) input before after result = Leaves r input after result
 LeavesBy _ input before after result = after ≡ before
 
 -- words that aren't accepted leave it as it was
-abbrev pub LeavesByWords : Result Command WordsFault → Option (List ℕ) → ScriptState → ScriptState → Result Answer Stop → Type 0
+abbrev pub LeavesByWords : Result Command WordsFault → Option (List ℕ) → RunState → RunState → Result Answer Stop → Type 0
 LeavesByWords (Ok c) input before after result = LeavesBy c input before after result
 LeavesByWords (Err fault) input before after result = after ≡ before
 
@@ -65,18 +64,18 @@ EndsAnswer (Left left) err status = (status ≡ 0) × Tells err []
 EndsAnswer (Replayed told) err status = EndsRun told.end err status
 
 -- What a replay leaves at each status.
-abbrev pub LeavesAt : Replay → Option (List ℕ) → ScriptState → ℕ → Type 0
+abbrev pub LeavesAt : Replay → Option (List ℕ) → RunState → ℕ → Type 0
 LeavesAt r input world status =
     MatchBool (status == 0) (RunsTo r input world ends.Stopped)
     (MatchBool (status == 4) (RunsTo r input world ends.WorldFault)
     (MatchBool (status == 5) (RunsTo r input world ends.TurnsSpent)
     (MatchBool (status == 7) ((end : ReplayEnd) × RunsTo r input world end)
-    (MatchBool (status == 9) (DoneLawfully r world.trace) (world.trace ≡ [])))))
+    (MatchBool (status == 9) (DoneLawfully r world.script.trace) (world.script.trace ≡ [])))))
 
-abbrev pub CommandLeavesAt : Command → Option (List ℕ) → ScriptState → ScriptState → ℕ → Type 0
+abbrev pub CommandLeavesAt : Command → Option (List ℕ) → RunState → RunState → ℕ → Type 0
 CommandLeavesAt (replays r) input before after status = LeavesAt r input after status
 CommandLeavesAt _ input before after status = (after ≡ before) × (status ≢ 4) × (status ≢ 5)
 
-abbrev pub WordsLeaveAt : Result Command WordsFault → Option (List ℕ) → ScriptState → ScriptState → ℕ → Type 0
+abbrev pub WordsLeaveAt : Result Command WordsFault → Option (List ℕ) → RunState → RunState → ℕ → Type 0
 WordsLeaveAt (Ok c) input before after status = CommandLeavesAt c input before after status
 WordsLeaveAt (Err fault) input before after status = (after ≡ before) × (status ≢ 4) × (status ≢ 5)

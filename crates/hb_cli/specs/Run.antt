@@ -6,13 +6,12 @@ use Rattle.std.specs.Option.{option_map}
 use Rattle.hb_base.specs.Count.{one_more}
 use Rattle.hb_held.specs.Rows.{rows}
 use Rattle.hb_lines.specs.Row.{row_text as held_text}
-use Rattle.hb_replay.specs.Run.{report_of}
+use Rattle.hb_replay.specs.Run.{Done, report_of}
 use Rattle.hb_script.specs.declared.fault.ScriptFault.{ScriptFault}
 use Rattle.hb_script.specs.declared.fault.ScriptWhy.{ScriptWhy}
 use Rattle.hb_script.specs.declared.fault.ScriptWhy.TheVariants as row
 use Rattle.hb_script.specs.Script.{lines}
 use Rattle.hb_wire.specs.Message.{and_then}
-use Rattle.hb_world.specs.declared.entry.Entry.{Entry}
 use Rattle.hb_words.specs.Fault.{fault_line}
 use Rattle.hb_words.specs.Words.{Command, checks, shows, replays, words_of}
 use Rattle.hb_words.specs.declared.fault.WordsFault.{WordsFault}
@@ -54,23 +53,23 @@ or_line (Ok x) = Ok x
 or_line (Err fault) = Err (BadLine fault)
 
 -- What a command prints by the resources that an input leaves, or the first of its messages that is refused. `replay` prints
--- the report of the trace that it left, where each row of its input is a line.
-abbrev pub printed_by : Command → List Entry → List ℕ → Result (List ℕ) Refusal
-printed_by (checks q) trace input = and_then (judged_by q input) (λ j. Ok (answer_line j))
-printed_by shows trace input = and_then (left_by true [] [] input) (λ l. Ok (shown l))
-printed_by (replays r) trace input = and_then (or_line (lines input)) (λ script. Ok (report_of r trace))
+-- the report of the done that it left, where each row of its input is a line.
+abbrev pub printed_by : Command → Done → List ℕ → Result (List ℕ) Refusal
+printed_by (checks q) done input = and_then (judged_by q input) (λ j. Ok (answer_line j))
+printed_by shows done input = and_then (left_by true [] [] input) (λ l. Ok (shown l))
+printed_by (replays r) done input = and_then (or_line (lines input)) (λ script. Ok (report_of r done))
 
 -- what a command prints after this input, or why it prints nothing
-unfoldable pub answer_after : Command → List Entry → List ℕ → Result (List ℕ) Stop
-answer_after c trace input = if nat_lt longest_input (length input) then Err TooLong else or_refused (printed_by c trace input)
+unfoldable pub answer_after : Command → Done → List ℕ → Result (List ℕ) Stop
+answer_after c done input = if nat_lt longest_input (length input) then Err TooLong else or_refused (printed_by c done input)
 
--- The outcome of these words and this input, and of the trace that was left: the words are looked at first, then the whole input.
-unfoldable pub outcome_of : List (List ℕ) → List Entry → List ℕ → Result (List ℕ) Stop
-outcome_of words trace input = and_then (or_words (words_of words)) (λ c. answer_after c trace input)
+-- The outcome of these words and this input, and of the done that was left: the words are looked at first, then the whole input.
+unfoldable pub outcome_of : List (List ℕ) → Done → List ℕ → Result (List ℕ) Stop
+outcome_of words done input = and_then (or_words (words_of words)) (λ c. answer_after c done input)
 
--- it is the outcome of the words, the trace and some input
-abbrev pub IsAnOutcome : List (List ℕ) → List Entry → Result (List ℕ) Stop → Type 0
-IsAnOutcome words trace o = (input : List ℕ) × (outcome_of words trace input ≡ o)
+-- it is the outcome of the words, the done and some input
+abbrev pub IsAnOutcome : List (List ℕ) → Done → Result (List ℕ) Stop → Type 0
+IsAnOutcome words done o = (input : List ℕ) × (outcome_of words done input ≡ o)
 
 -- the status of an outcome
 abbrev pub status_of : Result (List ℕ) Stop → ℕ
@@ -147,11 +146,11 @@ words_line (Ok c) = None
 words_line (Err fault) = Some (stop_line (Words fault))
 
 -- What is told at a status: of 3, where the input is told.
-abbrev pub told_line : ℕ → List (List ℕ) → List Entry → Option (List ℕ) → Option (List ℕ)
-told_line status words trace left =
+abbrev pub told_line : ℕ → List (List ℕ) → Done → Option (List ℕ) → Option (List ℕ)
+told_line status words done left =
     if status == 0 then Some []
     else (if status == 2 then words_line (words_of words)
-    else (if status == 3 then option_map (λ input. line_of (outcome_of words trace input)) left
+    else (if status == 3 then option_map (λ input. line_of (outcome_of words done input)) left
     else (if status == 4 then Some world_fault_line
     else (if status == 5 then Some turns_spent_line
     else (if status == 6 then Some (stop_line ReadFault)

@@ -6,7 +6,7 @@ ghost use Rattle.std.specs.Result.{MatchResult};
 ghost use Rattle.std.specs.String.{string_bytes};
 ghost use Rattle.hb_base.specs.Count.{Counts, Rose};
 ghost use Rattle.hb_base.specs.Outcome.{Answers};
-ghost use Rattle.hb_replay.specs.Run.{DoneLawfully};
+ghost use Rattle.hb_replay.specs.Run.{DoneLawfully, done_by, run_state};
 ghost use Rattle.hb_replay.specs.declared.run.ReplayEnd.{ReplayEnd as ReplayEnds};
 ghost use Rattle.hb_replay.specs.declared.run.ReplayEnd.TheVariants as ends;
 ghost use Rattle.hb_words.specs.Asked.{question, command_of};
@@ -30,6 +30,7 @@ use crate::telling::tell;
 use hb_base::{Bytes, Or, ReadStop, Sink, Source, Text, read_all};
 use hb_replay::replay;
 use hb_table::{Judged, judge};
+use hb_turns::Keep;
 use hb_words::{Check, Command, Replay, read_words};
 use hb_world::ScriptWorld;
 use std::alloc::{AllocError, Global};
@@ -65,15 +66,16 @@ fn replay_input(
     alloc: Global,
     words: &Replay<'_>,
     input: Bytes,
+    keep: &mut Keep,
     script: &mut ScriptWorld,
 ) -> Result<Answer, Or<Refused>>
     requires lines { script.old.lines ≡ [] }
     requires trace { script.old.trace ≡ [] }
-    ensures text { Answers (texts result) (printed_by (replays (replay_seen words.now)) script.new.trace input) }
+    ensures text { Answers (texts result) (printed_by (replays (replay_seen words.now)) (done_by script.new.trace keep.new) input) }
     ensures kind { IfOk result (λ a. Suits (replays (replay_seen words.now)) a) }
-    ensures leaves { LeavesOf (replay_seen words.now) input script.new result }
+    ensures leaves { LeavesOf (replay_seen words.now) input (run_state script.new keep.new) result }
 {
-    match replay(alloc, words, input, script) {
+    match replay(alloc, words, input, keep, script) {
         Ok(replayed) => Ok(Answer::Replayed(replayed)),
         Err(Or::Fault(fault)) => Err(Or::Fault(Refused::Line(fault))),
         Err(Or::NoMemory) => Err(Or::NoMemory),
@@ -85,13 +87,14 @@ fn answer(
     alloc: Global,
     command: &Command<'_>,
     input: Bytes,
+    keep: &mut Keep,
     script: &mut ScriptWorld,
 ) -> Result<Answer, Or<Refused>>
     requires lines { script.old.lines ≡ [] }
     requires trace { script.old.trace ≡ [] }
-    ensures text { Answers (texts result) (printed_by (command_of command.now) script.new.trace input) }
+    ensures text { Answers (texts result) (printed_by (command_of command.now) (done_by script.new.trace keep.new) input) }
     ensures kind { IfOk result (λ a. Suits (command_of command.now) a) }
-    ensures leaves { CommandLeaves (command_of command.now) input script.old script.new result }
+    ensures leaves { CommandLeaves (command_of command.now) input (run_state script.old keep.old) (run_state script.new keep.new) result }
 {
     match command {
         Command::Check(check) => {
@@ -102,7 +105,7 @@ fn answer(
             let left = read_input(alloc, unnamed, Text::empty(alloc), true, input.as_slice())?;
             Ok(Answer::Left(left))
         }
-        Command::Replay(words) => replay_input(alloc, words, input, script),
+        Command::Replay(words) => replay_input(alloc, words, input, keep, script),
     }
 }
 
@@ -111,14 +114,16 @@ fn find_out<S: Source>(
     alloc: Global,
     command: &Command<'_>,
     input: &mut S,
+    keep: &mut Keep,
     script: &mut ScriptWorld,
 ) -> Result<Answer, Stop>
     requires lines { script.old.lines ≡ [] }
     requires trace { script.old.trace ≡ [] }
-    ensures found { FindsOut (command_of command.now) script.new.trace
+    ensures found { FindsOut (command_of command.now) (done_by script.new.trace keep.new)
         (use_of (S.left input.old) (S.left input.new) (S.faults input.old) (S.faults input.new)) (found_texts result) }
     ensures kind { IfOk result (λ a. Suits (command_of command.now) a) }
-    ensures leaves { LeavesBy (command_of command.now) (S.left input.old) script.old script.new result }
+    ensures leaves { LeavesBy (command_of command.now) (S.left input.old) (run_state script.old keep.old)
+        (run_state script.new keep.new) result }
     ensures later { S.faults input.old ≤ S.faults input.new }
 {
     let bytes = match read_all(alloc, input, LONGEST_INPUT) {
@@ -127,7 +132,7 @@ fn find_out<S: Source>(
         Err(ReadStop::Failed) => return Err(Stop::ReadFault),
         Err(ReadStop::NoMemory) => return Err(Stop::NoMemory),
     };
-    match answer(alloc, command, bytes, script) {
+    match answer(alloc, command, bytes, keep, script) {
         Ok(answer) => Ok(answer),
         Err(Or::Fault(refused)) => Err(Stop::Refused(refused)),
         Err(Or::NoMemory) => Err(Stop::NoMemory),
@@ -139,18 +144,20 @@ fn outcome<S: Source>(
     alloc: Global,
     words: &[String],
     input: &mut S,
+    keep: &mut Keep,
     script: &mut ScriptWorld,
 ) -> Result<Answer, Stop>
     requires lines { script.old.lines ≡ [] }
     requires trace { script.old.trace ≡ [] }
-    ensures outcome { ComesTo (map string_bytes words.now) script.new.trace
+    ensures outcome { ComesTo (map string_bytes words.now) (done_by script.new.trace keep.new)
         (use_of (S.left input.old) (S.left input.new) (S.faults input.old) (S.faults input.new)) (found_texts result) }
     ensures kind { IfOk result (λ a. SuitsWords (words_of (map string_bytes words.now)) a) }
-    ensures leaves { LeavesByWords (words_of (map string_bytes words.now)) (S.left input.old) script.old script.new result }
+    ensures leaves { LeavesByWords (words_of (map string_bytes words.now)) (S.left input.old) (run_state script.old keep.old)
+        (run_state script.new keep.new) result }
     ensures later { S.faults input.old ≤ S.faults input.new }
 {
     match read_words(alloc, words) {
-        Ok(command) => find_out(alloc, &command, input, script),
+        Ok(command) => find_out(alloc, &command, input, keep, script),
         Err(Or::Fault(fault)) => Err(Stop::Words(fault)),
         Err(Or::NoMemory) => Err(Stop::NoMemory),
     }
@@ -192,23 +199,25 @@ fn conclude<S: Source, K: Sink, E: Sink>(
     input: &mut S,
     out: &mut K,
     err: &mut E,
+    keep: &mut Keep,
     script: &mut ScriptWorld,
 ) -> u8
     requires lines { script.old.lines ≡ [] }
     requires trace { script.old.trace ≡ [] }
     ensures ending { EndsWith (record {
       words = map string_bytes words.now;
-      trace = script.new.trace;
+      done = done_by script.new.trace keep.new;
       input = use_of (S.left input.old) (S.left input.new) (S.faults input.old) (S.faults input.new);
       out = use_of (K.written out.old) (K.written out.new) (K.faults out.old) (K.faults out.new);
       err = use_of (E.written err.old) (E.written err.new) (E.faults err.old) (E.faults err.new);
     }) result }
-    ensures leaves { WordsLeaveAt (words_of (map string_bytes words.now)) (S.left input.old) script.old script.new result }
+    ensures leaves { WordsLeaveAt (words_of (map string_bytes words.now)) (S.left input.old) (run_state script.old keep.old)
+        (run_state script.new keep.new) result }
     ensures later_input { S.faults input.old ≤ S.faults input.new }
     ensures later_out { K.faults out.old ≤ K.faults out.new }
     ensures later_err { E.faults err.old ≤ E.faults err.new }
 {
-    let answer = match outcome(alloc, words, input, script) {
+    let answer = match outcome(alloc, words, input, keep, script) {
         Ok(answer) => answer,
         Err(stop) => return give_up(alloc, stop, err),
     };
@@ -223,13 +232,15 @@ fn conclude<S: Source, K: Sink, E: Sink>(
 /// none to `err`; a fault of `err` changes no status. The statuses: 0 done, 2 words that aren't accepted,
 /// 3 an input that is refused, 4 a replay whose world failed, 5 one whose turns were spent, 6 a read that failed,
 /// 7 a write that failed, 9 want of memory. The words are looked at first, then the whole input is read, and then it
-/// is looked at. `script` is the world that `replay` runs over; nothing happened in it before.
+/// is looked at. `script` is the world that `replay` runs over; nothing happened in it before. `keep` has the notes of a
+/// replay behind it; where it keeps none, a replay ends with 9.
 pub fn run<S: Source, K: Sink, E: Sink>(
     alloc: Global,
     words: &[String],
     input: &mut S,
     out: &mut K,
     err: &mut E,
+    keep: &mut Keep,
     script: &mut ScriptWorld,
 ) -> u8
     requires no_lines { script.old.lines ≡ [] }
@@ -244,9 +255,9 @@ pub fn run<S: Source, K: Sink, E: Sink>(
     // Of an input that is told the status is the stated one: 3 exactly by the input, 0 with its answer; a replay that has an
     // answer may have ended otherwise than by a stop.
     ensures stated { IfSome (S.left input.old)
-        (λ left. IsStated (status_of (outcome_of (map string_bytes words.now) script.new.trace left)) result) }
+        (λ left. IsStated (status_of (outcome_of (map string_bytes words.now) (done_by script.new.trace keep.new) left)) result) }
     ensures complete { IfSome (S.left input.old)
-        (λ left. status_of (outcome_of (map string_bytes words.now) script.new.trace left) ≡ 0
+        (λ left. status_of (outcome_of (map string_bytes words.now) (done_by script.new.trace keep.new) left) ≡ 0
         → (Rose (S.faults input.old) (S.faults input.new) → ⊥) → (Rose (K.faults out.old) (K.faults out.new) → ⊥)
         → IsTrue (is_answered result) ⊎ (result ≡ 9)) }
 
@@ -260,56 +271,58 @@ pub fn run<S: Source, K: Sink, E: Sink>(
 
     // The answer, which is that of some input, and of the one that is told, is printed whole at 0, 4 and 5, and in part at 7.
     ensures printed { IsTrue (is_answered result) → (text : List ℕ)
-        × IsAnOutcome (map string_bytes words.now) script.new.trace (Ok text)
-        × IfSome (S.left input.old) (λ left. outcome_of (map string_bytes words.now) script.new.trace left ≡ Ok text)
+        × IsAnOutcome (map string_bytes words.now) (done_by script.new.trace keep.new) (Ok text)
+        × IfSome (S.left input.old) (λ left. outcome_of (map string_bytes words.now) (done_by script.new.trace keep.new) left ≡ Ok text)
         × Appends (K.written out.old) (K.written out.new) text }
-    ensures printed_part { result ≡ 7 → (text : List ℕ) × IsAnOutcome (map string_bytes words.now) script.new.trace (Ok text)
-        × IfSome (S.left input.old) (λ left. outcome_of (map string_bytes words.now) script.new.trace left ≡ Ok text)
+    ensures printed_part { result ≡ 7 → (text : List ℕ) × IsAnOutcome (map string_bytes words.now) (done_by script.new.trace keep.new) (Ok text)
+        × IfSome (S.left input.old) (λ left. outcome_of (map string_bytes words.now) (done_by script.new.trace keep.new) left ≡ Ok text)
         × ((n : ℕ) × (n < length text) × Appends (K.written out.old) (K.written out.new) (take n text)) }
 
     // At every other status nothing is printed; but where memory is wanting while `show` prints, a part is.
     ensures quiet { is_answered result ≡ false → result ≢ 7 → result ≢ 9 → K.written out.new ≡ K.written out.old }
     ensures printed_wanting { result ≡ 9 → (K.written out.new ≡ K.written out.old) ⊎ ((text : List ℕ)
         × (words_of (map string_bytes words.now) ≡ Ok shows)
-        × IsAnOutcome (map string_bytes words.now) script.new.trace (Ok text)
-        × IfSome (S.left input.old) (λ left. outcome_of (map string_bytes words.now) script.new.trace left ≡ Ok text)
+        × IsAnOutcome (map string_bytes words.now) (done_by script.new.trace keep.new) (Ok text)
+        × IfSome (S.left input.old) (λ left. outcome_of (map string_bytes words.now) (done_by script.new.trace keep.new) left ≡ Ok text)
         × ((n : ℕ) × (n ≤ length text) × Appends (K.written out.old) (K.written out.new) (take n text))) }
 
     // The line of the status is told, all of it, or a part where a put into err failed; its count counts just that.
-    ensures told { IfSome (told_line result (map string_bytes words.now) script.new.trace (S.left input.old))
+    ensures told { IfSome (told_line result (map string_bytes words.now) (done_by script.new.trace keep.new) (S.left input.old))
         (λ text. WritesLine (E.written err.old) (E.written err.new) (E.faults err.old) (E.faults err.new) text) }
 
     // Of status 3 it is the line of a refused input, told or not; of one that is told, of its outcome.
     ensures told_refusal { result ≡ 3 → (stop : Stop) × (status_of (Err stop) ≡ 3)
-        × IfSome (S.left input.old) (λ left. outcome_of (map string_bytes words.now) script.new.trace left ≡ Err stop)
+        × IfSome (S.left input.old) (λ left. outcome_of (map string_bytes words.now) (done_by script.new.trace keep.new) left ≡ Err stop)
         × WritesLine (E.written err.old) (E.written err.new) (E.faults err.old) (E.faults err.new) (stop_line stop) }
 
     // A replay ran over the lines of the input that is told, and left a trace that is lawful: at 0 a stop ended it, at 4 a wait
     // that failed, and at 5 its turns were spent; 7 comes behind any of these. At 9 what was done is lawful, and at 2, 3 and 6
     // nothing was done.
     ensures stopped { (r : Replays) → words_of (map string_bytes words.now) ≡ Ok (replays r) → result ≡ 0
-        → RunsTo r (S.left input.old) script.new ends.Stopped }
+        → RunsTo r (S.left input.old) (run_state script.new keep.new) ends.Stopped }
     ensures world_fault { (r : Replays) → words_of (map string_bytes words.now) ≡ Ok (replays r) → result ≡ 4
-        → RunsTo r (S.left input.old) script.new ends.WorldFault }
+        → RunsTo r (S.left input.old) (run_state script.new keep.new) ends.WorldFault }
     ensures turns_spent { (r : Replays) → words_of (map string_bytes words.now) ≡ Ok (replays r) → result ≡ 5
-        → RunsTo r (S.left input.old) script.new ends.TurnsSpent }
+        → RunsTo r (S.left input.old) (run_state script.new keep.new) ends.TurnsSpent }
     ensures unwritten { (r : Replays) → words_of (map string_bytes words.now) ≡ Ok (replays r) → result ≡ 7
-        → (end : ReplayEnds) × RunsTo r (S.left input.old) script.new end }
+        → (end : ReplayEnds) × RunsTo r (S.left input.old) (run_state script.new keep.new) end }
     ensures wanting { (r : Replays) → words_of (map string_bytes words.now) ≡ Ok (replays r) → result ≡ 9
         → DoneLawfully r script.new.trace }
     ensures nothing_done { (result ≡ 2) ⊎ (result ≡ 3) ⊎ (result ≡ 6) → script.new.trace ≡ [] }
 
-    // The script's lines allow the trace. 4 and 5 come of a replay alone, and no other command changes the script's world.
+    // The script's lines allow the trace. 4 and 5 come of a replay alone, and no other command changes the script's world or
+    // the notes.
     ensures allowed { Allowed script.new.lines script.new.trace }
     ensures replays_alone { (result ≡ 4) ⊎ (result ≡ 5)
         → (r : Replays) × (words_of (map string_bytes words.now) ≡ Ok (replays r)) }
-    ensures others { ((r : Replays) → words_of (map string_bytes words.now) ≡ Ok (replays r) → ⊥) → script.new ≡ script.old }
+    ensures others { ((r : Replays) → words_of (map string_bytes words.now) ≡ Ok (replays r) → ⊥)
+        → (script.new ≡ script.old) × (keep.new ≡ keep.old) }
 
     ensures later_input { S.faults input.old ≤ S.faults input.new }
     ensures later_out { K.faults out.old ≤ K.faults out.new }
     ensures later_err { E.faults err.old ≤ E.faults err.new }
 {
-    let status = conclude(alloc, words, input, out, err, script);
+    let status = conclude(alloc, words, input, out, err, keep, script);
     script.is_allowed();
     status
 }

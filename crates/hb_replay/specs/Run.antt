@@ -1,5 +1,6 @@
--- A run of the proxy over a script, as its trace tells it.
-use Rattle.std.specs.Prelude.{◌≡◌, ◌⊎◌, ℕ, false, List, [], None, Result, Ok, Err}
+-- A run of the proxy over a script, as its trace and its notes tell it.
+use Rattle.std.specs.Prelude.{◌≡◌, ◌⊎◌, ℕ, false, List, [], Option, None, Some, Result, Ok, Err}
+use Rattle.hb_base.specs.declared.note.Note.{Note}
 use Rattle.hb_base.specs.declared.or.Or.{Or}
 use Rattle.hb_base.specs.declared.or.Or.TheVariants.{Fault, NoMemory}
 use Rattle.hb_world.specs.declared.entry.Entry.{Entry}
@@ -7,10 +8,13 @@ use Rattle.hb_world.specs.WorldState.{ScriptState}
 use Rattle.hb_script.specs.declared.fault.ScriptFault.{ScriptFault}
 use Rattle.hb_script.specs.Script.{lines}
 use Rattle.hb_model.specs.declared.config.NodeConfig.{NodeConfig}
-use Rattle.hb_loop.specs.declared.turns.ServeEnd.{ServeEnd}
-use Rattle.hb_loop.specs.declared.turns.ServeEnd.TheVariants as ends
-use Rattle.hb_loop.specs.Ends.{was_wanting}
-use Rattle.hb_loop.specs.Lawful.{IsServed}
+use Rattle.hb_turns.specs.declared.served.Served.{Served}
+use Rattle.hb_turns.specs.declared.served.ServeEnd.{ServeEnd}
+use Rattle.hb_turns.specs.declared.served.ServeEnd.TheVariants as ends
+use Rattle.hb_turns.specs.Ends.{was_wanting}
+use Rattle.hb_turns.specs.Notes.{held}
+use Rattle.hb_serve.specs.Served.{IsServed, HasNotes}
+use Rattle.hb_serve.specs.declared.words.ServeWords.{ServeWords}
 use Rattle.hb_report.specs.Report.{report}
 use Rattle.hb_report.specs.Totals.{totals_of}
 use Rattle.hb_words.specs.Replay.{Replay}
@@ -18,31 +22,60 @@ use Rattle.hb_replay.specs.declared.run.ReplayEnd.{ReplayEnd}
 use Rattle.hb_replay.specs.declared.run.ReplayEnd.TheVariants as replays
 use Rattle.hb_replay.specs.declared.run.Replayed.{Replayed}
 
--- the node that is asked for
+-- the node that is asked for, and its run
 abbrev pub config_of : Replay → NodeConfig
 config_of r = record { id = r.id; discovery = r.discovery; network = r.network; node = r.node }
+
+abbrev pub words_of : Replay → ServeWords
+words_of r = record { config = config_of r; inbound = r.inbound; tunnels = r.tunnels; turns = r.turns; ticks = None }
+
+-- what was done: the trace, and the notes of it
+pub record Done : Type 0 where
+  pub trace : List Entry
+  pub notes : List Note
+
+abbrev pub done_with : List Entry → List Note → Done
+done_with trace notes = record { trace = trace; notes = notes }
+
+abbrev pub done_by : List Entry → Option (List Note) → Done
+done_by trace keep = done_with trace (held keep)
+
+-- the script's world, and the notes that are kept
+pub record RunState : Type 0 where
+  pub script : ScriptState
+  pub keep : Option (List Note)
+
+abbrev pub run_state : ScriptState → Option (List Note) → RunState
+run_state script keep = record { script = script; keep = keep }
+
+-- what was done in it
+abbrev pub done_in : RunState → Done
+done_in s = done_by s.script.trace s.keep
 
 abbrev pub serve_end : ReplayEnd → ServeEnd
 serve_end replays.Stopped = ends.Stopped
 serve_end replays.WorldFault = ends.WorldFault
 serve_end replays.TurnsSpent = ends.TurnsSpent
 
--- a run that is asked for so was served, left this trace and ended so, and memory never lacked
-pub record IsRun (r : Replay) (end : ReplayEnd) (trace : List Entry) : Type 0 where
-  pub served : IsServed (config_of r) None r.turns (serve_end end) trace
-  pub not_wanting : was_wanting trace ≡ false
+-- a run that is asked for so was served, did this and ended so, and memory never lacked: these are all its notes
+pub record IsRun (r : Replay) (end : ReplayEnd) (done : Done) : Type 0 where
+  pub told : Served
+  pub served : IsServed (words_of r) told (Some done.notes) done.trace
+  pub ends : told.end ≡ serve_end end
+  pub has_notes : HasNotes (config_of r) done.notes done.trace
+  pub not_wanting : was_wanting done.trace ≡ false
 
 -- what is told of it
-abbrev pub report_of : Replay → List Entry → List ℕ
-report_of r trace = report (record { trace = r.trace; brief = r.brief }) trace [] (totals_of trace [])
+abbrev pub report_of : Replay → Done → List ℕ
+report_of r done = report (record { trace = r.trace; brief = r.brief }) done.trace done.notes (totals_of done.trace done.notes)
 
 -- nothing was done, or a run was served, however it ended
 abbrev pub DoneLawfully : Replay → List Entry → Type 0
-DoneLawfully r trace = (trace ≡ []) ⊎ ((end : ServeEnd) × IsServed (config_of r) None r.turns end trace)
+DoneLawfully r trace = (trace ≡ []) ⊎ ((told : Served) × (keep : Option (List Note)) × IsServed (words_of r) told keep trace)
 
--- The script's world behind a replay of this text: its lines are the text's, and its trace is that of the run that is told
-abbrev pub Replays : Replay → List ℕ → ScriptState → Result Replayed (Or ScriptFault) → Type 0
-Replays r text world (Ok told) =
-    (lines text ≡ Ok world.lines) × IsRun r told.end world.trace × (told.report.items ≡ report_of r world.trace)
-Replays r text world (Err (Fault fault)) = (lines text ≡ Err fault) × (world.trace ≡ [])
-Replays r text world (Err NoMemory) = DoneLawfully r world.trace
+-- What a replay of this text leaves: the world's lines are the text's, and its trace and the notes are those of the run that is told
+abbrev pub Replays : Replay → List ℕ → RunState → Result Replayed (Or ScriptFault) → Type 0
+Replays r text left (Ok told) =
+    (lines text ≡ Ok left.script.lines) × IsRun r told.end (done_in left) × (told.report.items ≡ report_of r (done_in left))
+Replays r text left (Err (Fault fault)) = (lines text ≡ Err fault) × (left.script.trace ≡ [])
+Replays r text left (Err NoMemory) = DoneLawfully r left.script.trace

@@ -1,18 +1,17 @@
 //! The run, and what is told of it.
 
-ghost use Rattle.std.specs.Prelude.{◌≡◌, [], false, None, IfOk};
+ghost use Rattle.std.specs.Prelude.{◌≡◌, [], IfOk};
 ghost use Rattle.hb_base.specs.Outcome.{Answers};
-ghost use Rattle.hb_loop.specs.Ends.{was_wanting};
-ghost use Rattle.hb_loop.specs.Lawful.{IsServed};
 ghost use Rattle.hb_script.specs.Script.{lines};
 ghost use Rattle.hb_words.specs.AskedReplay.{replay_seen};
-ghost use Rattle.hb_replay.specs.Run.{config_of, serve_end, report_of, IsRun, DoneLawfully, Replays};
+ghost use Rattle.hb_replay.specs.Run.{config_of, words_of, done_by, done_with, report_of, run_state, IsRun, DoneLawfully, Replays};
 
-use hb_base::{Bytes, List, NoMemory, Or, Text};
-use hb_loop::{ServeEnd, ServeWords, serve};
+use hb_base::{Bytes, List, NoMemory, Note, Or, Text};
 use hb_model::NodeConfig;
 use hb_report::{Flags, put_report, totals_of};
 use hb_script::{ScriptFault, read_script};
+use hb_serve::{ServeWords, serve};
+use hb_turns::{Keep, ServeEnd};
 use hb_words::Replay;
 use hb_world::{Entry, Line, ScriptWorld};
 use std::alloc::Global;
@@ -56,24 +55,33 @@ fn config_of(alloc: Global, words: &Replay<'_>) -> Result<NodeConfig, NoMemory>
     })
 }
 
+/// What a run is asked for.
+fn words_of(alloc: Global, words: &Replay<'_>) -> Result<ServeWords, NoMemory>
+    ensures { IfOk result (λ asked. asked ≡ words_of (replay_seen words.now)) }
+{
+    Ok(ServeWords {
+        config: config_of(alloc, words)?,
+        inbound: words.inbound,
+        tunnels: words.tunnels as usize,
+        turns: words.turns,
+        ticks: None,
+    })
+}
+
 /// Runs the proxy over a script in which nothing happened yet.
 fn run_over(
     alloc: Global,
     words: &Replay<'_>,
+    keep: &mut Keep,
     script: &mut ScriptWorld,
 ) -> Result<ReplayEnd, NoMemory>
     requires { script.old.trace ≡ [] }
     ensures lines { script.new.lines ≡ script.old.lines }
     ensures lawful { DoneLawfully (replay_seen words.now) script.new.trace }
-    ensures runs { IfOk result (λ end. IsRun (replay_seen words.now) end script.new.trace) }
+    ensures runs { IfOk result (λ end. IsRun (replay_seen words.now) end (done_by script.new.trace keep.new)) }
 {
-    let asked = ServeWords {
-        config: config_of(alloc, words)?,
-        turns: words.turns,
-        ticks: None,
-    };
-    let served = serve(alloc, asked, script);
-    if served.wanting {
+    let served = serve(alloc, words_of(alloc, words)?, keep, script);
+    if served.wanting | served.unkept | !keep.keeps() {
         return Err(NoMemory);
     }
     match served.end {
@@ -84,17 +92,22 @@ fn run_over(
     }
 }
 
-/// The report of a run with this trace.
-fn report_of(alloc: Global, words: &Replay<'_>, trace: &[Entry]) -> Result<Vec<u8>, NoMemory>
-    ensures { IfOk result (λ text. text.items ≡ report_of (replay_seen words.now) trace.now) }
+/// The report of a run with this trace and these notes.
+fn report_of(
+    alloc: Global,
+    words: &Replay<'_>,
+    trace: &[Entry],
+    notes: &[Note],
+) -> Result<Vec<u8>, NoMemory>
+    ensures { IfOk result (λ text. text.items ≡ report_of (replay_seen words.now) (done_with trace.now notes.now)) }
 {
     let flags = Flags {
         trace: words.trace,
         brief: words.brief,
     };
-    let totals = totals_of(alloc, trace, &[])?;
+    let totals = totals_of(alloc, trace, notes)?;
     let mut text = Vec::new(alloc);
-    put_report(alloc, &flags, trace, &[], &totals, &mut text)?;
+    put_report(alloc, &flags, trace, notes, &totals, &mut text)?;
     Ok(text)
 }
 
@@ -105,22 +118,23 @@ fn lines_of(alloc: Global, text: Bytes) -> Result<List<Line>, Or<ScriptFault>>
     read_script(alloc, text.as_slice())
 }
 
-/// Runs the proxy over the script that a text spells, in whose world nothing happened yet.
+/// Runs the proxy over the script that a text spells, in whose world nothing happened yet. The notes of the run are left in `keep`.
 ///
 /// Errors: the fault of the first row that is no line, and then nothing is done; and `NoMemory`, and then nothing is
-/// done, or a run was served, whose links are all closed.
+/// done, or a run was served, whose links are all closed; so also where `keep` keeps no notes.
 pub fn replay(
     alloc: Global,
     words: &Replay<'_>,
     text: Bytes,
+    keep: &mut Keep,
     script: &mut ScriptWorld,
 ) -> Result<Replayed, Or<ScriptFault>>
     requires lines { script.old.lines ≡ [] }
     requires trace { script.old.trace ≡ [] }
-    ensures { Replays (replay_seen words.now) text script.new result }
+    ensures { Replays (replay_seen words.now) text (run_state script.new keep.new) result }
 {
     script.load(lines_of(alloc, text)?)?;
-    let end = run_over(alloc, words, script)?;
-    let report = report_of(alloc, words, script.entries())?;
+    let end = run_over(alloc, words, keep, script)?;
+    let report = report_of(alloc, words, script.entries(), keep.notes())?;
     Ok(Replayed { end, report })
 }

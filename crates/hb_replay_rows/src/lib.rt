@@ -12,3 +12,5 @@ mod notation;
 mod rows;
 #[cfg(test)]
 mod runs;
+#[cfg(test)]
+mod tunnels;

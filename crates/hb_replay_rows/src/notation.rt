@@ -1,6 +1,7 @@
 //! The notation of the tables.
 
 use crate::rows::PARTS;
+use crate::tunnels::TUNNEL_PARTS;
 use std::alloc::Global;
 use std::process::Abort;
 
@@ -18,15 +19,23 @@ fn number_of(rt: &impl Abort, text: &str) -> u32 {
     text.parse::<u32>().ok().expect(rt, "a number")
 }
 
-/// The text of a part; nothing where no part has the name.
-fn part_of(name: &str) -> &'static str {
-    for line in text_of(PARTS).lines() {
+/// The text of a part; None where none of these has the name.
+fn part_among(parts: &'static [u8], name: &str) -> Option<&'static str> {
+    for line in text_of(parts).lines() {
         let (other, text) = cut(line, " ");
         if other == name {
-            return text;
+            return Some(text);
         }
     }
-    ""
+    None
+}
+
+/// The text of a part; nothing where no part has the name.
+fn part_of(name: &str) -> &'static str {
+    match part_among(PARTS, name) {
+        Some(text) => text,
+        None => part_among(TUNNEL_PARTS, name).unwrap_or(""),
+    }
 }
 
 /// Appends a text in which a quote is written as `'` and a newline as `|`.

@@ -163,20 +163,20 @@ turns: 1; <usual> --trace --turns 1; <live><piece><m1><on1><wake>; 5; dialled 1 
 >0, sent 0, closed stopped<total1>; hbone: turns spent|\n\
 turns: 2; <usual> --trace --turns 2; <live><piece><m1><on1><wake>; 5; dialled 1 10.0.0.1:15010|closed 1 stopped|<link1\
 >0, sent 0, closed stopped<total1>; hbone: turns spent|\n\
-turns: 3; <usual> --trace --turns 3; <live><piece><m1><on1><wake>; 5; dialled 1 10.0.0.1:15010|opened 1|closed 1 stopp\
-ed|<link1>0, sent 0, closed stopped<total1>; hbone: turns spent|\n\
+turns: 3; <usual> --trace --turns 3; <live><piece><m1><on1><wake>; 5; <opened>closed 1 stopped|<link1>0, sent 311, clo\
+sed stopped<total1>; hbone: turns spent|\n\
 turns: 4; <usual> --trace --turns 4; <live><piece><m1><on1><wake>; 5; <opened>closed 1 stopped|<link1>0, sent 311, clo\
 sed stopped<total1>; hbone: turns spent|\n\
-turns: 5; <usual> --trace --turns 5; <live><piece><m1><on1><wake>; 5; <opened>closed 1 stopped|<link1>0, sent 311, clo\
+turns: 5; <usual> --trace --turns 5; <live><piece><m1><on1><wake>; 5; <lived>closed 1 stopped|<link1>19, sent 320, clo\
 sed stopped<total1>; hbone: turns spent|\n\
-turns: 6; <usual> --trace --turns 6; <live><piece><m1><on1><wake>; 5; <opened>closed 1 stopped|<link1>0, sent 311, clo\
+turns: 6; <usual> --trace --turns 6; <live><piece><m1><on1><wake>; 5; <lived>closed 1 stopped|<link1>19, sent 320, clo\
 sed stopped<total1>; hbone: turns spent|\n\
 turns: 7; <usual> --trace --turns 7; <live><piece><m1><on1><wake>; 5; <lived>closed 1 stopped|<link1>19, sent 320, clo\
 sed stopped<total1>; hbone: turns spent|\n\
-turns: 8; <usual> --trace --turns 8; <live><piece><m1><on1><wake>; 5; <lived>closed 1 stopped|<link1>19, sent 320, clo\
-sed stopped<total1>; hbone: turns spent|\n\
-turns: 10; <usual> --trace --turns 10; <live><piece><m1><on1><wake>; 5; <lived>came 1 <m1>|went 1 <ack_x1>|closed 1 st\
-opped|<link1>171, sent 382, closed stopped<total1>; hbone: turns spent|\n\
+turns: 8; <usual> --trace --turns 8; <live><piece><m1><on1><wake>; 5; <lived>came 1 <m1>|went 1 <ack_x1>|closed 1 stop\
+ped|<link1>171, sent 382, closed stopped<total1>; hbone: turns spent|\n\
+turns: 10; <usual> --trace --turns 10; <live><piece><m1><on1><wake>; 0; <lived>came 1 <m1>|went 1 <ack_x1>|closed 1 st\
+opped|<link1>171, sent 382, closed stopped<total1>; \n\
 the most turns; <usual> --turns 18446744073709551615; <live>; 0; <link1>19, sent 320, closed stopped<total1>; \n\
 a stop in the last turn; <usual> --turns 2; {'stop':true}|; 0; <link1>0, sent 0, closed stopped<total1>; \n\
 a fault in the last turn; <usual> --turns 2; {'fault':'wait'}|; 4; <link1>0, sent 0, closed stopped<total1>; hbone: wo\

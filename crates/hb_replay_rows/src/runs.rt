@@ -4,8 +4,10 @@ use crate::notation::{cut, spelled, text_of};
 use crate::rows::{
     REFUSED, ROWS_1, ROWS_2, ROWS_3, ROWS_4, ROWS_5, ROWS_6, ROWS_7, ROWS_8, ROWS_9, ROWS_10, USAGE,
 };
+use crate::tunnels::TUNNELS;
 use hb_base::{MemSink, MemSource};
 use hb_cli::run;
+use hb_turns::Keep;
 use hb_world::ScriptWorld;
 use std::alloc::Global;
 use std::process::Abort;
@@ -55,8 +57,17 @@ pub fn told_of(
     let mut source = MemSource::over(alloc, script, &[failing.take]).expect(rt, "memory");
     let mut out = MemSink::new(alloc, failing.room, &[failing.put]).expect(rt, "memory");
     let mut err = MemSink::new(alloc, ERR_ROOM, &[0]).expect(rt, "memory");
+    let mut keep = Keep::all(alloc);
     let mut world = ScriptWorld::new(alloc);
-    let status = run(alloc, words, &mut source, &mut out, &mut err, &mut world);
+    let status = run(
+        alloc,
+        words,
+        &mut source,
+        &mut out,
+        &mut err,
+        &mut keep,
+        &mut world,
+    );
     let output = text_of(out.as_slice());
     let error = text_of(err.as_slice());
     format!(in alloc; "{status}; {output}; {error}").expect(rt, "memory")
@@ -138,6 +149,11 @@ fn runs_of_the_ninth_table_end_as_the_formats_say(rt: HostRuntime) {
 #[test]
 fn runs_of_the_tenth_table_end_as_the_formats_say(rt: HostRuntime) {
     assert_table(&rt, ROWS_10);
+}
+
+#[test]
+fn runs_over_the_inbound_door_end_as_the_rules_say(rt: HostRuntime) {
+    assert_table(&rt, TUNNELS);
 }
 
 /// Words that aren't accepted, each ended by `|`, and why they aren't. The input is no script, and nothing is read of it.

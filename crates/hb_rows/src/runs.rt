@@ -6,6 +6,7 @@ use crate::messages::{
 };
 use hb_base::{MemSink, MemSource};
 use hb_cli::run;
+use hb_turns::Keep;
 use hb_world::ScriptWorld;
 use std::process::Abort;
 
@@ -138,6 +139,7 @@ fn run_over(
     let mut input = MemSource::over(alloc, bytes, &[failing.take]).expect(rt, "memory");
     let mut out = MemSink::new(alloc, failing.room, &[failing.put]).expect(rt, "memory");
     let mut err = MemSink::new(alloc, failing.err_room, &[failing.err_put]).expect(rt, "memory");
+    let mut keep = Keep::all(alloc);
     let mut script = ScriptWorld::new(alloc);
     let status = run(
         alloc,
@@ -145,6 +147,7 @@ fn run_over(
         &mut input,
         &mut out,
         &mut err,
+        &mut keep,
         &mut script,
     );
     told(rt, status, out.as_slice(), err.as_slice())

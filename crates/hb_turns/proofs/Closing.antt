@@ -113,15 +113,16 @@ module _ {N : Type 0} (stands : List Note → N → List Entry → Type 0) (show
       (λ trace a. let m = so trace a.matches in holds new.keep m.notes new.node trace m.kept_are none m.node)
   notes_held (Err why) mid new told so none = tt
 
-  stood : (end : ServeEnd) (notes : List Note) (n : N) (trace : List Entry) → stands notes n trace → IsStoodFor stands shown end trace
-  stood ends.Stopped notes n trace had = (notes, n, had)
-  stood ends.WorldFault notes n trace had = (notes, n, had)
-  stood ends.TurnsSpent notes n trace had = (notes, n, had)
-  stood ends.NoMemory notes n trace had = stood_whole stands shown notes n trace had
+  stood : (end : ServeEnd) (notes : List Note) (n : N) (trace : List Entry) → stands notes n trace → (shown n).ends_for ≡ None
+      → IsStoodFor stands shown end trace
+  stood ends.Stopped notes n trace had going = (notes, n, had, going)
+  stood ends.WorldFault notes n trace had going = (notes, n, had, going)
+  stood ends.TurnsSpent notes n trace had going = (notes, n, had, going)
+  stood ends.NoMemory notes n trace had going = stood_whole stands shown notes n trace had going
 
   stood_or : {E : Type 0} (r : Result ServeEnd E) (run : Run N) (trace : List Entry) → Left stands shown r run trace
       → IsStoodFor stands shown (end_of r) trace
-  stood_or (Ok end) run trace s = stood end s.matches.notes run.node trace s.matches.node
+  stood_or (Ok end) run trace s = stood end s.matches.notes run.node trace s.matches.node s.going
   stood_or (Err why) run trace lacks = lacks.1
 
   -- where memory lacked too

@@ -164,27 +164,30 @@ moved stands shown old new x P before behind adds keep tells tracks watch comes 
 
 -- a node stands for the trace
 pub stood_whole : {N : Type 0} (stands : List Note → N → List Entry → Type 0) (shown : N → Shown) (notes : List Note) (n : N)
-    (trace : List Entry) → stands notes n trace → StoodLast stands shown trace
-stood_whole stands shown notes n trace had = record {
+    (trace : List Entry) → stands notes n trace → (shown n).ends_for ≡ None → StoodLast stands shown trace
+stood_whole stands shown notes n trace had going = record {
   front = trace;
   last = None;
   trace_is = sym (append-nil trace);
   notes = notes;
   node = n;
   stands_for = had;
+  going = going;
   allows = tt;
 }
 
 -- or for all but the last entry
 pub stood_last : {N : Type 0} (stands : List Note → N → List Entry → Type 0) (shown : N → Shown) (notes : List Note) (n : N)
-    (trace : List Entry) (x : Entry) → stands notes n trace → MayCome (shown n) trace x → StoodLast stands shown (trace ++ x ∷ [])
-stood_last stands shown notes n trace x had may = record {
+    (trace : List Entry) (x : Entry) → stands notes n trace → (shown n).ends_for ≡ None → MayCome (shown n) trace x
+    → StoodLast stands shown (trace ++ x ∷ [])
+stood_last stands shown notes n trace x had going may = record {
   front = trace;
   last = Some x;
   trace_is = refl;
   notes = notes;
   node = n;
   stands_for = had;
+  going = going;
   allows = may;
 }
 
@@ -192,7 +195,7 @@ stood_last stands shown notes n trace x had may = record {
 pub stands_lacks : {N : Type 0} (stands : List Note → N → List Entry → Type 0) (shown : N → Shown) (run : Run N) (trace : List Entry)
     → Stands stands shown run trace → Lacks stands shown run.records trace
 stands_lacks stands shown run trace s =
-    let m = s.matches in (m.obeys, stood_whole stands shown m.notes run.node trace m.node)
+    let m = s.matches in (m.obeys, stood_whole stands shown m.notes run.node trace m.node s.going)
 
 pub lacks_here : {N : Type 0} (stands : List Note → N → List Entry → Type 0) (shown : N → Shown) (run : Run N) (told : Option (List Entry))
     → IfSome told (Stands stands shown run) → IfSome told (Lacks stands shown run.records)
@@ -208,7 +211,7 @@ lacked stands shown old new x P before behind adds tracks comes had =
     on P (Lacks stands shown new) (x ∷ []) before behind adds
     (λ trace p. let may = comes trace p in let m = may.0.matches in (
       obeys-grows stands shown old.records new trace x may.2 tracks m.obeys,
-      stood_last stands shown m.notes old.node trace x m.node may.1,
+      stood_last stands shown m.notes old.node trace x m.node may.0.going may.1,
     )) had
 
 -- so it is left where memory lacked

@@ -86,10 +86,10 @@ begins stands shown run keep told fresh keeps stands_for node is =
 -- memory lacked before anything happened
 pub nothing_served : {N : Type 0} (stands : List Note → N → List Entry → Type 0) (shown : N → Shown) (words : ServeWords)
     (keep : Option (List Note))
-    (n : N) (told : Option (List Entry)) → stands [] n [] → told ≡ Some []
+    (n : N) (told : Option (List Entry)) → stands [] n [] → (shown n).ends_for ≡ None → told ≡ Some []
     → IfSome told (IsServed stands shown words
     (record { end = ends.NoMemory; totals = record { links = 0 }; wanting = false; unkept = false }) keep)
-nothing_served stands shown words keep n told fresh is =
+nothing_served stands shown words keep n told fresh going is =
     subst (λ (o : Option (List Entry)). IfSome o (IsServed stands shown words
     (record { end = ends.NoMemory; totals = record { links = 0 }; wanting = false; unkept = false }) keep)) (sym is)
     (record {
@@ -101,7 +101,7 @@ nothing_served stands shown words keep n told fresh is =
         behind = [];
         trace_is = refl;
         finishes = lack_finishes_listens words [] (record { made = []; left = given words.doors; doors_are = refl; trace_is = refl });
-        stood_for = stood_whole stands shown [] n [] fresh;
+        stood_for = stood_whole stands shown [] n [] fresh going;
         closes = All-nil (ClosesFor (cause_at ends.NoMemory));
       };
       links_are = refl;

@@ -149,6 +149,7 @@ wait_comes stands shown run items how idle quiet trace s = (
       notes = s.matches.notes;
       node = run.node;
       stands_for = s.matches.node;
+      going = s.going;
       idle = idle.idle;
       doors = λ d. sym (s.matches.obeys.doors d) ∙ quiet.1 d;
       links = λ l. subst (λ (o : Option Link). Rests o l (shown run.node)) (s.matches.obeys.links l)

@@ -10,7 +10,7 @@ use Rattle.hb_world.specs.declared.entry.ReadyItem.TheVariants as item
 use Rattle.hb_world.specs.declared.entry.Way.TheVariants as way
 use Rattle.hb_world.specs.declared.entry.Woken.TheVariants as woken
 use Rattle.hb_turns.specs.Settled.{SettledLaw}
-use Rattle.hb_turns.specs.Shown.{Shown}
+use Rattle.hb_turns.specs.Shown.{Shown, IsFree}
 
 -- a wait that names nothing
 abbrev pub waits : Entry
@@ -41,6 +41,6 @@ module _ {N : Type 0} (stands : List Note → N → List Entry → Type 0) (show
 
   -- a wait once a link that isn't open balked
   abbrev pub GoodTraceIsSettled : Type 0
-  GoodTraceIsSettled = (to : Target) (why : Why) (notes : List Note) (n : N) → (shown n).idle ≡ true
+  GoodTraceIsSettled = (to : Target) (why : Why) (notes : List Note) (n : N) → IsFree (shown n)
       → stands notes n (e.Dialled 1 to why ∷ e.Balked (way.Finish 1) ∷ [])
       → SettledLaw stands shown (e.Dialled 1 to why ∷ e.Balked (way.Finish 1) ∷ waits ∷ [])

@@ -126,7 +126,7 @@ module _ {N : Type 0} (stands : List Note → N → List Entry → Type 0) (show
       → stands notes n (e.Dialled 1 to why ∷ []) → IsServed stands shown (asks 9 None) (lacked 1) keep (lack_behind_open to why)
 
   abbrev pub GoodRunIsServed : Type 0
-  GoodRunIsServed = (at to : Target) (why : Why) (notes more : List Note) (n m k : N) → (shown n).idle ≡ true
+  GoodRunIsServed = (at to : Target) (why : Why) (notes more : List Note) (n m k : N) → IsFree (shown n) → (shown m).ends_for ≡ None
       → stands notes n (good_start at to why)
       → stands notes m (listen_at true (Inbound, at) ∷ e.Dialled 1 to why ∷ e.Balked (way.Finish 1) ∷ waits_stop ∷ [])
       → stands more k (good_run at to why) → (shown k).noted ≡ []

@@ -20,10 +20,10 @@ use Rattle.hb_turns.specs.declared.served.ServeEnd.{ServeEnd}
 use Rattle.hb_turns.specs.declared.served.ServeEnd.TheVariants as ends
 use Rattle.hb_turns.specs.declared.words.ServeWords.{ServeWords}
 
--- a node stands for the trace; where memory lacked, for it or for all but its last entry
+-- a node whose run goes on stands for the trace; where memory lacked, for it or for all but its last entry
 abbrev pub IsStoodFor : {N : Type 0} → (List Note → N → List Entry → Type 0) → (N → Shown) → ServeEnd → List Entry → Type 0
 IsStoodFor stands shown ends.NoMemory trace = StoodLast stands shown trace
-IsStoodFor {N} stands shown _ trace = (notes : List Note) × (n : N) × stands notes n trace
+IsStoodFor {N} stands shown _ trace = (notes : List Note) × (n : N) × stands notes n trace × ((shown n).ends_for ≡ None)
 
 -- The run ended so with the first of the entries, for which a node stands (where memory lacked, for them or for all but the last). The
 -- others close links for the cause of that end

@@ -20,11 +20,12 @@ abbrev pub Rests : Option Link → ℕ → Shown → Type 0
 Rests None l s = ⊤
 Rests (Some k) l s = RestsBy k.is_open k l s
 
--- A node stands for these entries, of which no act is due; no accept may give a link at a door, and each link that lives rests
+-- A node whose run goes on stands for these entries, and no act is due; no accept may give a link at a door, and each link that lives rests
 pub record IsSettled {N : Type 0} (stands : List Note → N → List Entry → Type 0) (shown : N → Shown) (trace : List Entry) : Type 0 where
   pub notes : List Note
   pub node : N
   pub stands_for : stands notes node trace
+  pub going : (shown node).ends_for ≡ None
   pub idle : (shown node).idle ≡ true
   pub doors : (d : Door) → asked d trace ≡ false
   pub links : (l : ℕ) → Rests (known l trace) l (shown node)

@@ -70,7 +70,7 @@ pub record Tracks (old new : Records) (x : Entry) : Type 0 where
   pub births_are : new.births ≡ births_behind old.births x
   pub wanting_is : new.wanting ≡ (is_close_for_lack x || old.wanting)
 
--- a node stands for the trace, or for all but its last entry, which it allows behind them
+-- a node whose run goes on stands for the trace, or for all but its last entry, which it allows behind them
 pub record StoodLast {N : Type 0} (stands : List Note → N → List Entry → Type 0) (shown : N → Shown) (trace : List Entry) : Type 0 where
   pub front : List Entry
   pub last : Option Entry
@@ -78,6 +78,7 @@ pub record StoodLast {N : Type 0} (stands : List Note → N → List Entry → T
   pub notes : List Note
   pub node : N
   pub stands_for : stands notes node front
+  pub going : (shown node).ends_for ≡ None
   pub allows : IfSome last (MayCome (shown node) front)
 
 -- memory lacked: what is known is what the trace tells, and a node stood for it, or for all but its last entry

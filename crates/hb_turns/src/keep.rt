@@ -1,7 +1,7 @@
 //! The notes of a run, kept or not.
 
 ghost use Rattle.std.specs.Prelude.{◌≡◌, ◌++◌, ◌∷◌, [], Some, None, OnOk};
-ghost use Rattle.std.specs.Option.{option_map};
+ghost use Rattle.std.specs.Option.{is_some, option_map};
 ghost use Rattle.hb_turns.specs.Notes.{held};
 
 use hb_base::{List, NoMemory, Note};
@@ -48,6 +48,13 @@ impl Keep {
             None => Keep::none(),
             Some(_) => Keep::all(alloc),
         }
+    }
+
+    /// Whether it keeps notes.
+    pub fn keeps(&self) -> bool
+        ensures { result ≡ is_some self.now }
+    {
+        self.notes.is_some()
     }
 
     /// The notes that are kept, in order.

@@ -1,4 +1,5 @@
-use Rattle.std.proofs.Common.{refl}
+use Rattle.std.proofs.Common.{refl, ap}
+use Rattle.hb_replay.specs.Run.{RunState}
 use Rattle.hb_cli.proofs.Endings.{at, status_is_one, refused_is_two, is_stated, is_complete, reads_counted, puts_counted, is_whole, reads_enough, is_quiet, in_part, is_told}
 use Rattle.hb_cli.proofs.Scripts.{left_at, nothing_done, replays_alone, unchanged}
 use Rattle.hb_cli.proofs.command.run.Goals as goal
@@ -74,4 +75,6 @@ pub returns-clause-replays_alone : goal.returns-clause-replays_alone
 returns-clause-replays_alone g c = replays_alone _ _ _ _ c.conclude-status.result c.conclude-status.ensures.leaves
 
 pub returns-clause-others : goal.returns-clause-others
-returns-clause-others g c = unchanged _ _ _ _ c.conclude-status.result c.conclude-status.ensures.leaves
+returns-clause-others g c =
+    λ never. let same = unchanged _ _ _ _ c.conclude-status.result c.conclude-status.ensures.leaves never in
+    (ap (λ (s : RunState). s.script) same, ap (λ (s : RunState). s.keep) same)

@@ -45,7 +45,7 @@ five P v w x y z a b c d f =
     (AtEach-grows P (v ∷ w ∷ []) x (AtEach-grows P (v ∷ []) w (AtEach-grows P [] v (nothing_at P) a) b) c) d) f
 
 pub returns : goal.returns
-returns g c = λ at to why notes more n m k due starts waits ends none.
+returns g c = λ at to why notes more n m k free going starts waits ends none.
     let listens = listen_at true (Inbound, at) in
     let dials = e.Dialled 1 to why in
     let balks = e.Balked (way.Finish 1) in
@@ -57,7 +57,8 @@ returns g c = λ at to why notes more n m k due starts waits ends none.
             notes = notes;
             node = n;
             stands_for = starts;
-            idle = due;
+            going = free.0;
+            idle = free.1;
             doors = asks_none at to why;
             links = λ l. rests (1 == l) l (g.N.Node.shown n);
           }) tt;
@@ -86,7 +87,7 @@ returns g c = λ at to why notes more n m k due starts waits ends none.
           few_waits = omega arith;
           spends = tt;
         };
-        stood_for = (notes, m, waits);
+        stood_for = (notes, m, waits, going);
         closes = All-cons (ClosesFor cause.Stopped) (e.Closed 1 cause.Stopped) [] refl (All-nil (ClosesFor cause.Stopped));
       };
       links_are = refl;

@@ -22,7 +22,7 @@ rests true l s = refl
 rests false l s = tt
 
 pub returns : goal.returns
-returns g c = λ to why notes n due stands_for.
+returns g c = λ to why notes n free stands_for.
     let P = SettledAt g.N.Node.stands g.N.Node.shown in
     AtEach-grows P (e.Dialled 1 to why ∷ e.Balked (way.Finish 1) ∷ []) waits
     (AtEach-grows P (e.Dialled 1 to why ∷ []) (e.Balked (way.Finish 1))
@@ -31,7 +31,8 @@ returns g c = λ to why notes n due stands_for.
       notes = notes;
       node = n;
       stands_for = stands_for;
-      idle = due;
+      going = free.0;
+      idle = free.1;
       doors = λ d. refl;
       links = λ l. rests (1 == l) l (g.N.Node.shown n);
     })

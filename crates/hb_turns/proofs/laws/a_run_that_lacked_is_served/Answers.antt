@@ -39,7 +39,7 @@ returns g c = λ to why notes n keep free starts.
           few_waits = omega arith;
           spends = tt;
         };
-        stood_for = stood_last g.N.Node.stands g.N.Node.shown notes n (dials ∷ []) opens starts (free, (refl, refl));
+        stood_for = stood_last g.N.Node.stands g.N.Node.shown notes n (dials ∷ []) opens starts free.0 (free, (refl, refl));
         closes = All-cons (ClosesFor cause.NoMemory) closes [] refl (All-nil (ClosesFor cause.NoMemory));
       };
       links_are = refl;

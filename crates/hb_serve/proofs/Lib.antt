@@ -1,0 +1,4 @@
+mod Along
+pub mod Asking
+mod Laws
+mod Served

@@ -1,0 +1,67 @@
+-- What holds of a run of the proxy that is over.
+use Rattle.std.specs.Prelude.{⊤, ◌≡◌, ◌⊎◌, ℕ, false, List, [], ◌++◌, Option, None, Some}
+use Rattle.std.specs.Option.{option_to_list}
+use Rattle.hb_base.specs.declared.note.Note.{Note}
+use Rattle.hb_base.specs.declared.target.Target.{Target}
+use Rattle.hb_links.specs.Reaches.{notes as notes_of}
+use Rattle.hb_model.specs.declared.config.NodeConfig.{NodeConfig}
+use Rattle.hb_turns.specs.Served as turns
+use Rattle.hb_turns.specs.declared.served.Served.{Served}
+use Rattle.hb_turns.specs.declared.served.ServeEnd.{ServeEnd}
+use Rattle.hb_turns.specs.declared.served.ServeEnd.TheVariants as ends
+use Rattle.hb_turns.specs.declared.words.ServeWords.{ServeWords as LoopWords}
+use Rattle.hb_whole.specs.Sight.{shown_of}
+use Rattle.hb_whole.specs.Stands.{Stands, config_of}
+use Rattle.hb_whole.specs.declared.proxy.Proxy.{Proxy}
+use Rattle.hb_world.specs.declared.entry.Entry.{Entry}
+use Rattle.hb_serve.specs.Lawful.{Lawful}
+use Rattle.hb_serve.specs.declared.words.ServeWords.{ServeWords}
+
+-- the node that is asked for stands for a trace, of whose notes these were taken
+abbrev pub StandsAs : NodeConfig → List Note → Proxy → List Entry → Type 0
+StandsAs g taken p trace = Stands taken p trace × (config_of p ≡ g)
+
+-- what the event loop is asked for: the inbound door is given where it is told where that listens, and no other
+abbrev pub loop_words : Option Target → ℕ → Option ℕ → LoopWords
+loop_words inbound turns ticks = record {
+  doors = record { inbound = inbound; outbound = None; plain = None };
+  turns = turns;
+  ticks = ticks;
+}
+
+abbrev pub words_of : ServeWords → LoopWords
+words_of w = loop_words w.inbound w.turns w.ticks
+
+-- the entries are lawful; where memory lacked, all but at most the last are
+abbrev pub AreLawful : NodeConfig → ServeEnd → List Entry → Type 0
+AreLawful g ends.NoMemory trace = (front : List Entry) × (last : Option Entry) × (trace ≡ front ++ option_to_list last) × Lawful g front
+AreLawful g _ trace = Lawful g trace
+
+-- where notes are kept, all that was done is lawful, and they are all notes of it
+pub record HasNotes (g : NodeConfig) (notes : List Note) (trace : List Entry) : Type 0 where
+  pub lawful : Lawful g trace
+  pub notes_are : notes_of lawful.points ≡ notes
+
+abbrev pub AreNotes : NodeConfig → Option (List Note) → List Entry → Type 0
+AreNotes g None trace = ⊤
+AreNotes g (Some notes) trace = HasNotes g notes trace
+
+-- A run that is over, of a node that was asked for this
+pub record IsServed (words : ServeWords) (served : Served) (keep : Option (List Note)) (trace : List Entry) : Type 0 where
+  -- what the event loop says of it: the trace obeys the awake law and the settled law, at its end no link lives; how it ended, how many
+  -- links were born, and whether one was closed for want of memory
+  pub run : turns.IsServed (StandsAs words.config) shown_of (words_of words) served keep trace
+  -- in front of the closes at its end the trace is lawful
+  pub lawful : AreLawful words.config served.end run.over.before
+  -- unless memory lacked, the notes that are kept are all that there are
+  pub noted : (served.end ≡ ends.NoMemory → ⊥) → served.unkept ≡ false → AreNotes words.config keep trace
+
+-- memory lacked for the node, and nothing was done
+pub record LacksNode (served : Served) (trace : List Entry) : Type 0 where
+  pub end : served.end ≡ ends.NoMemory
+  pub links : served.totals.links ≡ 0
+  pub none : trace ≡ []
+
+-- a run was served, or nothing was done
+abbrev pub Serves : ServeWords → Served → Option (List Note) → List Entry → Type 0
+Serves words served keep trace = LacksNode served trace ⊎ IsServed words served keep trace

@@ -1,0 +1,9 @@
+//! A run of the whole proxy over a world, and what holds of its trace.
+#![tactic(auto)]
+
+mod asked;
+mod service;
+mod words;
+
+pub use service::serve;
+pub use words::ServeWords;

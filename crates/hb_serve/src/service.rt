@@ -1,0 +1,72 @@
+//! A run of the proxy, from its start to its end.
+
+ghost use Rattle.std.specs.Prelude.{◌≡◌, [], Some, IfSome};
+ghost use Rattle.hb_base.specs.Count.{Counts};
+ghost use Rattle.hb_turns.specs.Ends.{is_fault};
+ghost use Rattle.hb_serve.specs.Served.{loop_words, Serves};
+
+use crate::asked::{Asked, Given};
+use crate::words::ServeWords;
+use hb_base::Target;
+use hb_turns::{Doors, Keep, ServeEnd, ServeWords as LoopWords, Served, Totals, serve as run};
+use hb_whole::Limits;
+use hb_world::World;
+use std::alloc::Global;
+use std::marker::Brand;
+
+/// The most inbound links that may be open at a time.
+const MOST_LINKS: usize = 1024;
+
+/// What the event loop is asked for.
+fn loop_words(inbound: Option<Target>, turns: u64, ticks: Option<u64>) -> LoopWords
+    ensures { result ≡ loop_words inbound turns ticks }
+{
+    LoopWords {
+        doors: Doors {
+            inbound,
+            outbound: None,
+            plain: None,
+        },
+        turns,
+        ticks,
+    }
+}
+
+/// Runs the proxy that contracts know to be asked for so.
+fn serve_asked<G: Given, W: World>(
+    alloc: Global,
+    words: ServeWords,
+    keep: &mut Keep,
+    world: &mut W,
+) -> Served
+    requires { words.config ≡ G.config }
+    ensures served { W.trace world.old ≡ Some [] → IfSome (W.trace world.new) (Serves words result keep.new) }
+    ensures faults { Counts (W.faults world.old) (W.faults world.new) (is_fault result.end) }
+    ensures follows { W.script world.new ≡ W.script world.old }
+{
+    let limits = Limits {
+        links: MOST_LINKS,
+        tunnels: words.tunnels,
+    };
+    let asked = loop_words(words.inbound, words.turns, words.ticks);
+    match Asked::<G>::new(alloc, words.config, limits) {
+        Ok(node) => run(alloc, node, asked, keep, world),
+        Err(_) => Served {
+            end: ServeEnd::NoMemory,
+            totals: Totals { links: 0 },
+            wanting: false,
+            unkept: false,
+        },
+    }
+}
+
+/// Runs the proxy over a world: it listens at the inbound door, where that is given, then goes on until a listen or a wait fails, a wait
+/// tells a stop, the ticks passed or the turns are spent, or memory lacks. Then each link is closed. The keep holds the notes of this run
+/// alone. Where memory lacks for the proxy itself, nothing is done.
+pub fn serve<W: World>(alloc: Global, words: ServeWords, keep: &mut Keep, world: &mut W) -> Served
+    ensures served { W.trace world.old ≡ Some [] → IfSome (W.trace world.new) (Serves words result keep.new) }
+    ensures faults { Counts (W.faults world.old) (W.faults world.new) (is_fault result.end) }
+    ensures follows { W.script world.new ≡ W.script world.old }
+{
+    serve_asked::<Brand, W>(alloc, words, keep, world)
+}

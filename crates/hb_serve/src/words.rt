@@ -1,0 +1,18 @@
+//! What a run of the proxy is asked for.
+
+use hb_base::Target;
+use hb_model::NodeConfig;
+
+/// What a run of the proxy is asked for.
+#[derive(Drop)]
+pub struct ServeWords {
+    pub config: NodeConfig,
+    /// Where the inbound door listens; `None`: it isn't given.
+    pub inbound: Option<Target>,
+    /// The most tunnels at a time.
+    pub tunnels: usize,
+    /// The most turns.
+    pub turns: u64,
+    /// The tick that ends the run; `None`: no number of them does.
+    pub ticks: Option<u64>,
+}
