@@ -1,11 +1,10 @@
 -- What is said of a run of one node is said of the other that it has in it.
-use Rattle.std.proofs.Common.{◌≡◌, ◌⊎◌, ℕ, true, false, List, [], ◌∷◌, ◌++◌, Option, Some, None, refl}
+use Rattle.std.proofs.Common.{List, Option, Some, None}
 use Rattle.hb_base.specs.declared.note.Note.{Note}
-use Rattle.hb_turns.specs.Notes.{AreNotes, HoldsNotes}
+use Rattle.hb_turns.specs.Notes.{HoldsNotes}
 use Rattle.hb_turns.specs.Served.{IsStoodFor, IsOver, IsServed}
-use Rattle.hb_turns.specs.Settled.{IsSettled, SettledAt, SettledLaw}
+use Rattle.hb_turns.specs.Settled.{IsSettled, SettledAt}
 use Rattle.hb_turns.specs.Shown.{Shown}
-use Rattle.hb_turns.specs.Stands.{StoodLast}
 use Rattle.hb_turns.specs.declared.served.Served.{Served}
 use Rattle.hb_turns.specs.declared.served.ServeEnd.{ServeEnd}
 use Rattle.hb_turns.specs.declared.served.ServeEnd.TheVariants as ends
@@ -25,6 +24,7 @@ module _ {N M : Type 0} (f : N → M) (stands : List Note → M → List Entry �
     notes = s.notes;
     node = f s.node;
     stands_for = s.stands_for;
+    going = s.going;
     idle = s.idle;
     doors = s.doors;
     links = s.links;
@@ -42,11 +42,12 @@ module _ {N M : Type 0} (f : N → M) (stands : List Note → M → List Entry �
     notes = s.notes;
     node = f s.node;
     stands_for = s.stands_for;
+    going = s.going;
     allows = s.allows;
   }
-  stood_for ends.Stopped trace s = (s.0, f s.1, s.2)
-  stood_for ends.WorldFault trace s = (s.0, f s.1, s.2)
-  stood_for ends.TurnsSpent trace s = (s.0, f s.1, s.2)
+  stood_for ends.Stopped trace s = (s.0, f s.1, s.2, s.3)
+  stood_for ends.WorldFault trace s = (s.0, f s.1, s.2, s.3)
+  stood_for ends.TurnsSpent trace s = (s.0, f s.1, s.2, s.3)
 
   over : (words : ServeWords) (end : ServeEnd) (trace : List Entry) → IsOver of shown_in words end trace
       → IsOver stands shown words end trace

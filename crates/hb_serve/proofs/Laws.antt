@@ -1,8 +1,6 @@
 -- A run of the whole proxy obeys each law.
-use Rattle.std.proofs.Common.{◌≡◌, ◌⊎◌, inl, inr, ⊎_elim, ℕ, true, false, List, [], ◌∷◌, ◌++◌, Option, Some, None, refl, ap, sym, ◌∙◌, subst}
+use Rattle.std.proofs.Common.{◌≡◌, ◌⊎◌, inl, inr, ⊎_elim, List, [], ◌∷◌, ◌++◌, refl, sym, ◌∙◌, subst}
 use Rattle.std.proofs.lemmas.List.{append-nil}
-use Rattle.std.specs.Option.{option_to_list}
-use Rattle.hb_base.specs.declared.note.Note.{Note}
 use Rattle.hb_model.specs.declared.config.NodeConfig.{NodeConfig}
 use Rattle.hb_proxy.proofs.Access.{runs_admit}
 use Rattle.hb_proxy.proofs.AccessEntries.{admit_entries}
@@ -19,7 +17,7 @@ use Rattle.hb_proxy.specs.Machine.{Machine}
 use Rattle.hb_proxy.specs.Points.{Point, entries}
 use Rattle.hb_proxy.specs.Runs.{StandsFor, begins, goes_on}
 use Rattle.hb_world.specs.declared.entry.Entry.{Entry}
-use Rattle.hb_serve.specs.Lawful.{Lawful, Laws, AtFronts}
+use Rattle.hb_serve.specs.Lawful.{Lawful, Laws}
 
 -- a place of a longer list is its end, or a place of the list
 place_of : (xs : List Point) (p : Point) (before : List Point) (x : Point) (behind : List Point) → xs ++ p ∷ [] ≡ before ++ x ∷ behind

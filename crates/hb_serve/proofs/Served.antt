@@ -1,37 +1,48 @@
 -- What the event loop says of a run, and what follows of its trace.
-use Rattle.std.proofs.Common.{◌≡◌, ◌⊎◌, inr, ℕ, true, false, List, [], ◌∷◌, ◌++◌, Option, Some, None, refl, ap, sym, ◌∙◌, subst}
+use Rattle.std.proofs.Common.{◌≡◌, inr, List, [], ◌++◌, Option, Some, None, ap, sym, ◌∙◌, subst}
 use Rattle.std.proofs.lemmas.List.{append-nil}
+use Rattle.hb_base.specs.declared.cause.Cause.{Cause}
 use Rattle.hb_base.specs.declared.note.Note.{Note}
 use Rattle.hb_links.specs.Reaches.{notes as notes_of}
 use Rattle.hb_model.specs.declared.config.NodeConfig.{NodeConfig}
-use Rattle.hb_proxy.specs.Points.{Point}
+use Rattle.hb_model.proofs.Inner.{over_is}
+use Rattle.hb_proxy.proofs.Projection.{control_runs}
+use Rattle.hb_proxy.specs.Points.{Point, control_of}
 use Rattle.hb_turns.specs.Notes.{HoldsNotes}
 use Rattle.hb_turns.specs.Served as turns
 use Rattle.hb_turns.specs.declared.served.Served.{Served}
 use Rattle.hb_turns.specs.declared.served.ServeEnd.{ServeEnd}
 use Rattle.hb_turns.specs.declared.served.ServeEnd.TheVariants as ends
+use Rattle.hb_turns.specs.declared.words.ServeWords.{ServeWords as LoopWords}
 use Rattle.hb_whole.specs.Queue.{told, waiting_in}
 use Rattle.hb_whole.specs.Sight.{shown_of}
 use Rattle.hb_whole.specs.Stands as whole
 use Rattle.hb_whole.specs.declared.proxy.Proxy.{Proxy}
 use Rattle.hb_world.specs.declared.entry.Entry.{Entry}
-use Rattle.hb_serve.specs.Lawful.{Lawful}
-use Rattle.hb_serve.specs.Served.{StandsAs, AreLawful, AreNotes, HasNotes, IsServed, words_of}
+use Rattle.hb_serve.specs.Lawful.{GoesOn}
+use Rattle.hb_serve.specs.Served.{StandsAs, AreLawful, AreNotes, HasNotes, IsServed, Serves, words_of}
 use Rattle.hb_serve.specs.declared.words.ServeWords.{ServeWords}
 use Rattle.hb_serve.proofs.Laws.{run_is_lawful}
 
--- what a proxy stands for is lawful
-lawful : (g : NodeConfig) (taken : List Note) (p : Proxy) (trace : List Entry) → StandsAs g taken p trace → Lawful g trace
-lawful g taken p trace stands =
-    subst (λ (h : NodeConfig). Lawful h trace) stands.1
-    (run_is_lawful (whole.config_of p) stands.0.machine stands.0.points trace stands.0.run stands.0.trace_is)
+-- what a proxy stands for whose run goes on
+goes_on : (g : NodeConfig) (taken : List Note) (p : Proxy) (trace : List Entry) → StandsAs g taken p trace → p.ends_for ≡ None
+    → GoesOn g trace
+goes_on g taken p trace stands going =
+    let s = stands.0 in
+    subst (λ (h : NodeConfig). GoesOn h trace) stands.1
+    (record {
+      lawful = run_is_lawful (whole.config_of p) s.machine s.points trace s.run s.trace_is;
+      going = sym (over_is (whole.config_of p) s.machine.control (control_of s.points)
+          (control_runs (whole.config_of p) s.machine s.points s.run))
+          ∙ subst (λ (o : Option Cause). whole.EndsBy o s.machine) going s.ends;
+    })
 
 are_lawful : (g : NodeConfig) (end : ServeEnd) (trace : List Entry) → turns.IsStoodFor (StandsAs g) shown_of end trace
     → AreLawful g end trace
-are_lawful g ends.NoMemory trace s = (s.front, s.last, s.trace_is, lawful g s.notes s.node s.front s.stands_for)
-are_lawful g ends.Stopped trace s = lawful g s.0 s.1 trace s.2
-are_lawful g ends.WorldFault trace s = lawful g s.0 s.1 trace s.2
-are_lawful g ends.TurnsSpent trace s = lawful g s.0 s.1 trace s.2
+are_lawful g ends.NoMemory trace s = (s.front, s.last, s.trace_is, goes_on g s.notes s.node s.front s.stands_for s.going)
+are_lawful g ends.Stopped trace s = goes_on g s.0 s.1 trace s.2 s.3
+are_lawful g ends.WorldFault trace s = goes_on g s.0 s.1 trace s.2 s.3
+are_lawful g ends.TurnsSpent trace s = goes_on g s.0 s.1 trace s.2 s.3
 
 -- where none waits, those that were taken are all
 all_taken : (taken : List Note) (waits : Option (List Note)) (points : List Point) → whole.AreNotes taken waits points
@@ -53,10 +64,19 @@ are_notes : (g : NodeConfig) (keep : Option (List Note)) (trace : List Entry) �
 are_notes g None trace holds = tt
 are_notes g (Some notes) trace holds = has_notes g notes holds.node trace holds.stands_for holds.none_waits
 
-pub serves : (words : ServeWords) (served : Served) (keep : Option (List Note)) (trace : List Entry)
+serves : (words : ServeWords) (served : Served) (keep : Option (List Note)) (trace : List Entry)
     → turns.IsServed (StandsAs words.config) shown_of (words_of words) served keep trace → IsServed words served keep trace
 serves words served keep trace run = record {
   run = run;
   lawful = are_lawful words.config served.end run.over.before run.over.stood_for;
   noted = λ ends kept. are_notes words.config keep trace (run.noted ends kept);
 }
+
+-- of a node that is asked for this, and of what the event loop is asked for with it
+pub serves_so : (g : NodeConfig) (asked : LoopWords) (words : ServeWords) (served : Served) (keep : Option (List Note)) (trace : List Entry)
+    → words.config ≡ g → asked ≡ words_of words → turns.IsServed (StandsAs g) shown_of asked served keep trace
+    → Serves words served keep trace
+serves_so g asked words served keep trace config is run =
+    inr (serves words served keep trace
+    (subst (λ (h : NodeConfig). turns.IsServed (StandsAs h) shown_of (words_of words) served keep trace) (sym config)
+    (subst (λ (w : LoopWords). turns.IsServed (StandsAs g) shown_of w served keep trace) is run)))

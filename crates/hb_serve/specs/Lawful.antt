@@ -1,6 +1,8 @@
 -- What holds of the trace of a run of the whole proxy.
-use Rattle.std.specs.Prelude.{◌≡◌, ℕ, List, ◌++◌}
+use Rattle.std.specs.Prelude.{◌≡◌, ℕ, false, List, ◌++◌}
+use Rattle.std.specs.List.{list_any}
 use Rattle.hb_inbound.specs.Sides as inbound
+use Rattle.hb_model.specs.Inner.{is_stop}
 use Rattle.hb_model.specs.Messages as messages
 use Rattle.hb_model.specs.declared.config.NodeConfig.{NodeConfig}
 use Rattle.hb_proxy.specs.Access.{AccessLaw, EntryLaw}
@@ -62,3 +64,8 @@ pub record Lawful (g : NodeConfig) (trace : List Entry) : Type 0 where
   pub held : machine.control.held ≡ messages.held g (control_of points)
   -- and at each front of the run
   pub laws : AtFronts (Laws g) points
+
+-- so they do, and nothing stopped the run: its dials of the control plane aren't exempt
+pub record GoesOn (g : NodeConfig) (trace : List Entry) : Type 0 where
+  pub lawful : Lawful g trace
+  pub going : list_any is_stop (control_of lawful.points) ≡ false

@@ -14,7 +14,7 @@ use Rattle.hb_whole.specs.Sight.{shown_of}
 use Rattle.hb_whole.specs.Stands.{Stands, config_of}
 use Rattle.hb_whole.specs.declared.proxy.Proxy.{Proxy}
 use Rattle.hb_world.specs.declared.entry.Entry.{Entry}
-use Rattle.hb_serve.specs.Lawful.{Lawful}
+use Rattle.hb_serve.specs.Lawful.{Lawful, GoesOn}
 use Rattle.hb_serve.specs.declared.words.ServeWords.{ServeWords}
 
 -- the node that is asked for stands for a trace, of whose notes these were taken
@@ -32,10 +32,10 @@ loop_words inbound turns ticks = record {
 abbrev pub words_of : ServeWords → LoopWords
 words_of w = loop_words w.inbound w.turns w.ticks
 
--- the entries are lawful; where memory lacked, all but at most the last are
+-- a run that goes on left these entries; where memory lacked, all but at most the last
 abbrev pub AreLawful : NodeConfig → ServeEnd → List Entry → Type 0
-AreLawful g ends.NoMemory trace = (front : List Entry) × (last : Option Entry) × (trace ≡ front ++ option_to_list last) × Lawful g front
-AreLawful g _ trace = Lawful g trace
+AreLawful g ends.NoMemory trace = (front : List Entry) × (last : Option Entry) × (trace ≡ front ++ option_to_list last) × GoesOn g front
+AreLawful g _ trace = GoesOn g trace
 
 -- where notes are kept, all that was done is lawful, and they are all notes of it
 pub record HasNotes (g : NodeConfig) (notes : List Note) (trace : List Entry) : Type 0 where

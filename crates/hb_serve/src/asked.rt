@@ -50,6 +50,7 @@ impl<G: Given> Asked<G> {
 }
 
 impl<G: Given> Node for Asked<G> {
+    ghost use Rattle.hb_whole.proofs.Resting as whole;
     ghost use Rattle.hb_whole.specs.Sight.{shown_of};
     ghost use Rattle.hb_serve.specs.Served.{StandsAs};
 
@@ -66,7 +67,8 @@ impl<G: Given> Node for Asked<G> {
     }
 
     fn opened(&mut self, link: u64) -> Result<(), NoMemory> {
-        self.proxy.opened(link)
+        self.proxy.opened(link);
+        Ok(())
     }
 
     fn wants(&self, link: u64) -> usize {
@@ -117,5 +119,5 @@ impl<G: Given> Node for Asked<G> {
         self.proxy.next_stirred()
     }
 
-    ghost rests = { Rattle.hb_serve.proofs.Asking.rests };
+    ghost rests = { λ taken node trace x moves stands. (whole.rests taken node.proxy trace x moves stands.0, stands.1) };
 }

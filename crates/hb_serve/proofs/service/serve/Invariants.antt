@@ -1,4 +1,4 @@
 use Rattle.hb_serve.proofs.service.serve.Given as goal
 
 abbrev pub ghosts-serve_asked : goal.ghosts-serve_asked
-ghosts-serve_asked a = record { config = a.words.config }
+ghosts-serve_asked g a = record { config = a.words.config }

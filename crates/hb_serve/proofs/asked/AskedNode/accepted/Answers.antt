@@ -1,0 +1,8 @@
+use Rattle.std.specs.Prelude.{⊤}
+use Rattle.hb_serve.proofs.Asking.{tells_as, on_ok, always}
+use Rattle.hb_serve.proofs.asked.AskedNode.accepted.Goals as goal
+
+pub returns : goal.returns
+returns g c =
+    on_ok _ ⊤ _ c.accepted.result (λ tells always. tells_as g.G.Given.config _ _ _ tells c.accepted.ensures.config) c.accepted.ensures.tells
+    (always c.accepted.result tt)

@@ -1,0 +1,7 @@
+use Rattle.hb_serve.proofs.Asking.{tells_as, on_ok}
+use Rattle.hb_serve.proofs.asked.AskedNode.take_bytes.Goals as goal
+
+pub returns : goal.returns
+returns g c =
+    on_ok _ _ _ c.take_bytes.result (λ tells same. tells_as g.G.Given.config _ _ _ tells same) c.take_bytes.ensures.tells
+    c.take_bytes.ensures.config
