@@ -18,8 +18,8 @@ POLICY = "type.googleapis.com/istio.security.Authorization"
 PREFACE = b"PRI * HTTP/2.0\r\n\r\nSM\r\n\r\n"
 PATH = b"/envoy.service.discovery.v3.AggregatedDiscoveryService/DeltaAggregatedResources"
 USAGE = (" (usage: hbone check --node NODE [--network NETWORK] SOURCE IDENTITY TARGET, hbone show, or hbone replay "
-         "--node NODE --id ID --discovery TARGET [--network NETWORK] [--hbone-port PORT] [--tunnels COUNT] [--turns COUNT] "
-         "[--trace] [--brief])")
+         "--node NODE --id ID --discovery TARGET [--inbound TARGET] [--network NETWORK] [--hbone-port PORT] [--tunnels COUNT] "
+         "[--turns COUNT] [--trace] [--brief])")
 
 # How much of an output's free room may be read at once (one part of so many), whether requests are put as soon as one is
 # there or behind all that came, whether a link that opens is read and written in the same round, and the order of a round.
@@ -62,6 +62,7 @@ OPTIONS = {
     "node": (str, "empty or begins with a dash"),
     "id": (str, "empty or begins with a dash"),
     "discovery": (target_text, "neither IPv4:PORT nor [IPv6]:PORT"),
+    "inbound": (target_text, "neither IPv4:PORT nor [IPv6]:PORT"),
     "network": (str, "empty or begins with a dash"),
     "hbone-port": (number_up_to(65535), "no number from 1 to 65535"),
     "tunnels": (number_up_to(4096), "no number from 1 to 4096"),

@@ -223,6 +223,11 @@ def rows_of_runs():
             ("an IPv4 address mapped into IPv6", ["--node", "n1", "--id", "z1", "--discovery", "[::ffff:10.0.0.1]:15010",
                                                   "--trace"]),
             ("a port with leading zeros", ["--node", "n1", "--id", "z1", "--discovery", "255.255.255.255:00080", "--trace"]),
+            ("an inbound door", [*USUAL_WORDS, "--inbound", "0.0.0.0:15008"]),
+            ("an inbound door with an equals sign", [*USUAL_WORDS, "--inbound=[::]:15008", "--tunnels", "1"]),
+            ("an inbound door in front", ["--inbound", "[::1]:15008", *USUAL_WORDS, "--network=x", "--brief"]),
+            ("an inbound door between, at the control plane's address",
+             [*USUAL_WORDS[:4], f"--inbound={CONTROL}", "--brief", *USUAL_WORDS[4:]]),
             ("an id of equals signs", ["--node", "n1", "--id", "==", "--discovery", CONTROL, "--trace"])]:
         row(f"words: {name}", LIVE, words=words)
     row("a stop, and lines behind it", LIVE + [piece(data(M1)), STOP] + came(data(M2)), "--trace")
@@ -547,7 +552,8 @@ def rows_of_words():
         refused(*(word for pair in usual.items() if pair[0] != name for word in pair))
     refused()
     refused("--trace", "--brief")
-    for name, value in [*usual.items(), ("--network", "x"), ("--hbone-port", "1"), ("--tunnels", "1"), ("--turns", "1")]:
+    for name, value in [*usual.items(), ("--inbound", "0.0.0.0:15008"), ("--network", "x"), ("--hbone-port", "1"),
+                        ("--tunnels", "1"), ("--turns", "1")]:
         refused(*USUAL_WORDS, name, value, *[] if name in usual else [name, value])
         refused(*USUAL_WORDS, f"{name}={value}", *[] if name in usual else [name, value])
         rest = [word for pair in usual.items() if pair[0] != name for word in pair]
@@ -558,8 +564,8 @@ def rows_of_words():
     for flag in ("--trace", "--brief"):
         refused(*USUAL_WORDS, flag, flag)
         refused(flag, *USUAL_WORDS, flag)
-    for word in ("--", "-h", "--help", "-", "--trace=", "--trace=true", "--ticks", "--inbound", "--nod", "--Node", "-node=n1",
-                 "--ticks=1", "=n1"):
+    for word in ("--", "-h", "--help", "-", "--trace=", "--trace=true", "--ticks", "--inbounds", "--in", "--nod", "--Node",
+                 "-node=n1", "--ticks=1", "--Inbound=0.0.0.0:15008", "-inbound=0.0.0.0:15008", "=n1"):
         refused(*USUAL_WORDS, word)
     for word in ("trace", "n1", "", "help"):
         refused(*USUAL_WORDS, word)
@@ -568,6 +574,15 @@ def rows_of_words():
                   "a:1", "[::1]", "[::1]1", "::1:1", "[10.0.0.1]:1",
                   "[::1%1]:1", " 10.0.0.1:1"):
         refused(*USUAL_WORDS[:4], "--discovery", value)
+    for value in ("0.0.0.0", "10.0.0.1:0", "10.0.0.1:99999", "[::]", "::1:15008", "[0.0.0.0]:15008", ":15008", "15008", "inbound"):
+        refused(*USUAL_WORDS, "--inbound", value)
+        refused(f"--inbound={value}", *USUAL_WORDS)
+    door = ["--inbound", "0.0.0.0:15008"]
+    refused(*door, *USUAL_WORDS, "--inbound=[::1]:15008")
+    refused(*door, *USUAL_WORDS, "--inbound", "0.0.0.0")
+    refused(*door, *USUAL_WORDS, "--inbound")
+    refused(*USUAL_WORDS[:4], *door)
+    refused(*door, *door)
     for name, values in [("--hbone-port", ("0", "65536", "015008", "1x", "+1", "1.0", " 1", "99999999999999999999")),
                          ("--tunnels", ("0", "4097", "01", "x")),
                          ("--turns", ("0", "18446744073709551616", "007", "00", "1e3"))]:

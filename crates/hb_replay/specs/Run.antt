@@ -34,7 +34,7 @@ pub record IsRun (r : Replay) (end : ReplayEnd) (trace : List Entry) : Type 0 wh
 
 -- what is told of it
 abbrev pub report_of : Replay → List Entry → List ℕ
-report_of r trace = report (record { trace = r.trace; brief = r.brief }) (totals_of trace) trace
+report_of r trace = report (record { trace = r.trace; brief = r.brief }) trace [] (totals_of trace [])
 
 -- nothing was done, or a run was served, however it ended
 abbrev pub DoneLawfully : Replay → List Entry → Type 0

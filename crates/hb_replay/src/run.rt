@@ -92,9 +92,9 @@ fn report_of(alloc: Global, words: &Replay<'_>, trace: &[Entry]) -> Result<Vec<u
         trace: words.trace,
         brief: words.brief,
     };
-    let totals = totals_of(alloc, trace)?;
+    let totals = totals_of(alloc, trace, &[])?;
     let mut text = Vec::new(alloc);
-    put_report(alloc, &flags, trace, &totals, &mut text)?;
+    put_report(alloc, &flags, trace, &[], &totals, &mut text)?;
     Ok(text)
 }
 

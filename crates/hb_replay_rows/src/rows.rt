@@ -143,6 +143,13 @@ words: a port with leading zeros; --node n1 --id z1 --discovery 255.255.255.255:
 f76657279536572766963652f44656c7461416767726567617465645265736f757263657301123235352e3235352e3235352e3235353a383000027\
 46508747261696c6572730f10106170706c69636174696f6e2f67727063|went 1 <firsts>|came 1 <set><ok>|went 1 <ack>|closed 1 sto\
 pped|link 1 discovery 255.255.255.255:80: received 19, sent 324, closed stopped<total1>; \n\
+words: an inbound door; <usual> --inbound 0.0.0.0:15008; <live>; 0; <link1>19, sent 320, closed stopped<total1>; \n\
+words: an inbound door with an equals sign; <usual> --inbound=[::]:15008 --tunnels 1; <live>; 0; <link1>19, sent 320, \
+closed stopped<total1>; \n\
+words: an inbound door in front; --inbound [::1]:15008 <usual> --network=x --brief; <live>; 0; total: 1 links, 0 accep\
+ted, 0 revoked, 0 up, 0 down|; \n\
+words: an inbound door between, at the control plane's address; --node n1 --id z1 --inbound=10.0.0.1:15010 --brief --d\
+iscovery 10.0.0.1:15010; <live>; 0; total: 1 links, 0 accepted, 0 revoked, 0 up, 0 down|; \n\
 words: an id of equals signs; --node n1 --id == --discovery 10.0.0.1:15010 --trace; <live>; 0; <dialled1><opening>|wen\
 t 1 00007400000000000100000000320a040a023d3d122a<address>00000000380a040a023d3d1230<policy>|came 1 <set><ok>|went 1 <a\
 ck>|closed 1 stopped|<link1>19, sent 320, closed stopped<total1>; \n\
@@ -196,16 +203,16 @@ each link ends at once; <usual> --trace; {'link':1,'room':0}|{'link':2,'room':0}
 ck':true}|; 0; dialled 1 10.0.0.1:15010|opened 1|ended 1|closed 1 broken|tick|dialled 2 10.0.0.1:15010|opened 2|ended \
 2|closed 2 broken|tick|dialled 3 10.0.0.1:15010|closed 3 stopped|<link1>0, sent 0, closed broken|<link2>0, sent 0, clo\
 sed broken|<link3>0, sent 0, closed stopped<total3>; \n\
+";
+
+/// Runs.
+pub const ROWS_2: &[u8] = b"\
 ticks while a link lives; <usual> --trace; {'tick':true}|{'tick':true}|<open>{'tick':true}|<piece><set><ok><on1><wake>\
 {'tick':true}|; 0; dialled 1 10.0.0.1:15010|tick|tick|opened 1|went 1 <opening>|went 1 <firsts>|tick|came 1 <set><ok>|\
 went 1 <ack>|tick|closed 1 stopped|<link1>19, sent 320, closed stopped<total1>; \n\
 two dials fail; <usual> --trace; {'refuse':1}|{'nodial':2}|<wake>{'tick':true}|{'tick':true}|{'tick':true}|; 0; dialle\
 d 1 10.0.0.1:15010|broke 1|closed 1 broken|tick|dial failed 10.0.0.1:15010|tick|dial failed 10.0.0.1:15010|tick|dialle\
 d 2 10.0.0.1:15010|closed 2 stopped|<link1>0, sent 0, closed broken|<link2>0, sent 0, closed stopped<total2>; \n\
-";
-
-/// Runs.
-pub const ROWS_2: &[u8] = b"\
 dials fail as long as the farther line says; <usual> --trace; {'refuse':1}|{'nodial':3}|{'nodial':1}|<wake>{'tick':tru\
 e}|{'tick':true}|{'tick':true}|{'tick':true}|; 0; dialled 1 10.0.0.1:15010|broke 1|closed 1 broken|tick|dial failed 10\
 .0.0.1:15010|tick|dial failed 10.0.0.1:15010|tick|dial failed 10.0.0.1:15010|tick|dialled 2 10.0.0.1:15010|closed 2 st\
@@ -289,16 +296,16 @@ a status that is no number; <usual>; <open><piece><set><on1><wake><piece>0000050
 >; 0; <link1>23, sent 320, closed discovery|<link2>0, sent 311, closed stopped<total2>; \n\
 a signed status; <usual>; <open><piece><set><on1><wake><piece>00000501040000000108032b3230<on1><wake><again>; 0; <link\
 1>23, sent 320, closed discovery|<link2>0, sent 311, closed stopped<total2>; \n\
+";
+
+/// Runs.
+pub const ROWS_3: &[u8] = b"\
 the end beside the status; <usual>; <open><piece><set><on1><wake><piece>00000101050000000188<on1><wake><again>; 0; <li\
 nk1>19, sent 320, closed discovery|<link2>0, sent 311, closed stopped<total2>; \n\
 the end beside a status 100; <usual>; <open><piece><set><on1><wake><piece>0000050105000000010803313030<on1><wake><agai\
 n>; 0; <link1>23, sent 320, closed discovery|<link2>0, sent 311, closed stopped<total2>; \n\
 two statuses, 404 first; <usual>; <open><piece><set><on1><wake><piece>0000020104000000018d88<on1><wake><again>; 0; <li\
 nk1>20, sent 320, closed discovery|<link2>0, sent 311, closed stopped<total2>; \n\
-";
-
-/// Runs.
-pub const ROWS_3: &[u8] = b"\
 an end of the stream; <usual>; <open><piece><set><on1><wake><piece><ok>000000000100000001<on1><wake><again>; 0; <link1\
 >28, sent 320, closed discovery|<link2>0, sent 311, closed stopped<total2>; \n\
 a last message and the end; <usual>; <open><piece><set><on1><wake><piece><ok>0000a4000100000001000000009f12670a0131125\
@@ -377,16 +384,16 @@ a name is removed and added again; <usual> --trace; <live><piece><m1><on1><wake>
 e><again>; 0; <lived>came 1 <m1>|went 1 <ack_x1>|came 1 <m6>|went 1 <ack_x6>|broke 1|closed 1 broken|tick|<dialled2><o\
 pening>|went 2 <firsts_u1>|closed 2 stopped|<link1>327, sent 444, closed broken|<link2>0, sent 320, closed stopped<tot\
 al2>; \n\
+";
+
+/// Runs.
+pub const ROWS_4: &[u8] = b"\
 a name is removed; <usual> --trace; <base><piece>00003c0000000000010000000037222a<address>2a016e3202753132027532<on1><\
 wake>{'break':1}|<wake><again>; 0; <based>came 1 00003c0000000000010000000037222a<address>2a016e3202753132027532|went \
 1 000034000000000001000000002f122a<address>32016e|broke 1|closed 1 broken|tick|<dialled2><opening>|went 2 <firsts_ap>|\
 closed 2 stopped|<link1>413, sent 511, closed broken|<link2>0, sent 321, closed stopped<total2>; \n\
 a name of another kind is removed; <usual>; <base><piece>00003e00000000000100000000392230<policy>2a016e32027531<on1><w\
 ake>{'break':1}|<wake><again>; 0; <link1>415, sent 517, closed broken|<link2>0, sent 330, closed stopped<total2>; \n\
-";
-
-/// Runs.
-pub const ROWS_4: &[u8] = b"\
 names in the order of their octets; <usual> --trace; <live><piece>00019a000000000001000000019512390a02766212300a2a<add\
 ress>12020a001a016212390a02766112300a2a<address>12020a001a0161123b0a0376616212300a2a<address>12020a001a02616212390a027\
 64212300a2a<address>12020a001a0142123b0a0376c3a912300a2a<address>12020a001a02c3a912390a02767a12300a2a<address>12020a00\
@@ -457,6 +464,10 @@ e0a2a<address>12001a017a12380a013112300a2a<address>12020a001a0179222a<address>2a
 36122a<address>32016e3a050803120163|ended 1|closed 1 broken|tick|<dialled2><opening>|went 2 00008400000000000100000000\
 420a040a027a31122a<address>2a060a01611201312a060a017912013100000000380a040a027a311230<policy>|closed 2 stopped|<link1>\
 317, sent 388, closed broken|<link2>0, sent 327, closed stopped<total2>; \n\
+";
+
+/// Runs.
+pub const ROWS_5: &[u8] = b"\
 refused: a name that isn't UTF-8; <usual> --trace; <live><piece>00011d000000000001000000011812380a013112300a2a<address\
 >12020a001a0161123b0a013112330a2a<address>12050a030a01ff1a016312360a0131122e0a2a<address>12001a017a12380a013112300a2a<\
 address>12020a001a0179222a<address>2a016e<on1><wake>{'end':1}|<wake><again>; 0; <lived>came 1 00011d000000000001000000\
@@ -465,10 +476,6 @@ address>12020a001a0179222a<address>2a016e<on1><wake>{'end':1}|<wake><again>; 0; 
 s>32016e3a050803120163|ended 1|closed 1 broken|tick|<dialled2><opening>|went 2 00008400000000000100000000420a040a027a3\
 1122a<address>2a060a01611201312a060a017912013100000000380a040a027a311230<policy>|closed 2 stopped|<link1>313, sent 388\
 , closed broken|<link2>0, sent 327, closed stopped<total2>; \n\
-";
-
-/// Runs.
-pub const ROWS_5: &[u8] = b"\
 refused: a waypoint without a place; <usual> --trace; <live><piece>00011c000000000001000000011712380a013112300a2a<addr\
 ess>12020a001a0161123a0a013112320a2a<address>120412023a001a016312360a0131122e0a2a<address>12001a017a12380a013112300a2a\
 <address>12020a001a0179222a<address>2a016e<on1><wake>{'end':1}|<wake><again>; 0; <lived>came 1 00011c00000000000100000\
@@ -541,6 +548,10 @@ address>12210a1f0a037765621201611a040a00000728014a026e31820103612f70a2010275311a
 closed stopped<total1>; \n\
 two messages in two pieces of one wait; <usual> --trace; <live><piece><m1><on1><piece><m2><on1><wake>; 0; <based>close\
 d 1 stopped|<link1>344, sent 450, closed stopped<total1>; \n\
+";
+
+/// Runs.
+pub const ROWS_6: &[u8] = b"\
 padded DATA; <usual> --trace; <live><piece>000000000000000001<on1><wake><piece>00009300080000000103000000008a12580a013\
 1124f0a2a<address>12210a1f0a037765621201611a040a00000728014a026e31820103612f70a2010275311a027531222a<address>2a0278310\
 00000<on1><wake><piece>00000100080000000100<on1><wake>; 0; <lived>came 1 000000000000000001|came 1 0000930008000000010\
@@ -553,10 +564,6 @@ went 1 <ack>|came 1 000000010000000001|came 1 000000090000000001|came 1 00000109
 1>|closed 1 stopped|<link1>189, sent 382, closed stopped<total1>; \n\
 a header block of 32,768 bytes; <usual>; <live><piece>004000010000000001<16384*88>004000090400000001<16384*88><on1><wa\
 ke><piece><m1><on1><wake>; 0; <link1>32957, sent 382, closed stopped<total1>; \n\
-";
-
-/// Runs.
-pub const ROWS_6: &[u8] = b"\
 a padded header block with a priority; <usual> --trace; <open><piece><set><on1><wake><piece>000009012c0000000102000000\
 0000880101<on1><wake><piece><m1><on1><wake>; 0; <opened>came 1 <set>|went 1 <ack>|came 1 000009012c0000000102000000000\
 0880101|came 1 <m1>|went 1 <ack_x1>|closed 1 stopped|<link1>179, sent 382, closed stopped<total1>; \n\
@@ -631,6 +638,10 @@ SETTINGS of five bytes; <usual>; <live><piece><m1><on1><wake><piece>000005040000
 <link1>185, sent 399, closed conn fault 6|<link2>0, sent 320, closed stopped<total2>; \n\
 an acknowledgement that isn't empty; <usual>; <live><piece><m1><on1><wake><piece>000006040100000000000000000000<on1><w\
 ake><again>; 0; <link1>186, sent 399, closed conn fault 6|<link2>0, sent 320, closed stopped<total2>; \n\
+";
+
+/// Runs.
+pub const ROWS_7: &[u8] = b"\
 push is enabled; <usual>; <live><piece><m1><on1><wake><piece>000006040000000000000200000001<on1><wake><again>; 0; <lin\
 k1>186, sent 399, closed conn fault 1|<link2>0, sent 320, closed stopped<total2>; \n\
 push of 2; <usual>; <live><piece><m1><on1><wake><piece>000006040000000000000200000002<on1><wake><again>; 0; <link1>186\
@@ -644,10 +655,6 @@ a first window above the largest; <usual>; <live><piece><m1><on1><wake><piece>00
 a first window that takes the stream's above the largest; <usual>; <live><piece><m1><on1><wake><piece>0000040800000000\
 01000003e800000604000000000000047fffffff<on1><wake><again>; 0; <link1>199, sent 399, closed conn fault 3|<link2>0, sen\
 t 320, closed stopped<total2>; \n\
-";
-
-/// Runs.
-pub const ROWS_7: &[u8] = b"\
 a bad frame size behind a bad window; <usual>; <live><piece><m1><on1><wake><piece>00000c040000000000000480000000000500\
 000000<on1><wake><again>; 0; <link1>192, sent 399, closed conn fault 1|<link2>0, sent 320, closed stopped<total2>; \n\
 an increment of 0 on the connection; <usual>; <live><piece><m1><on1><wake><piece>00000408000000000000000000<on1><wake>\
@@ -724,6 +731,10 @@ nt 311, closed stopped<total2>; \n\
 a connection error in the midst of the requests; <usual>; {'link':1,'room':226}|<open><piece><set>00000706000000000000\
 000000000000<on1>{'link':1,'room':1000}|<wake><again>; 0; <link1>25, sent 337, closed conn fault 6|<link2>0, sent 311, \
 closed stopped<total2>; \n\
+";
+
+/// Runs.
+pub const ROWS_8: &[u8] = b"\
 a connection error in front of the opening; <usual> --trace; {'link':1,'room':0}|<open><piece>000007060000000000000000\
 00000000<on1><wake><again>; 0; dialled 1 10.0.0.1:15010|opened 1|came 1 00000706000000000000000000000000|closed 1 conn \
 fault 1|tick|<dialled2><opening>|went 2 <firsts>|closed 2 stopped|<link1>16, sent 0, closed conn fault 1|<link2>0, sen\
@@ -732,10 +743,6 @@ a window of ten octets; <usual> --trace; {'link':1,'room':0}|<open><piece>000006
 >{'link':1,'room':100000}|<wake>; 0; dialled 1 10.0.0.1:15010|opened 1|came 1 00000604000000000000040000000a<ok>|went \
 1 <opening><ack>|went 1 00000a00000000000100000000320a040a027a|closed 1 stopped|<link1>25, sent 214, closed stopped<to\
 tal1>; \n\
-";
-
-/// Runs.
-pub const ROWS_8: &[u8] = b"\
 a window that grows octet by octet; <usual> --trace; {'link':1,'room':0}|<open><piece>00000604000000000000040000000a<o\
 k><on1><wake>{'link':1,'room':100000}|<wake><piece>00000408000000000100000001<on1><wake><piece>00000408000000000100000\
 001<on1><wake><piece>00000408000000000100000001<on1><wake><piece>00000408000000000100000001<on1><wake><piece>000004080\
@@ -815,6 +822,10 @@ ult 3|<link2>0, sent 311, closed stopped<total2>; \n\
 windows up to the largest while the requests go; <usual>; {'link':1,'room':187}|<live><piece>0000040800000000017fff007\
 4<on1><wake><piece>0000040800000000007fff0074<on1><wake>{'link':1,'room':10000}|<wake>; 0; <link1>45, sent 320, closed \
 stopped<total1>; \n\
+";
+
+/// Runs.
+pub const ROWS_9: &[u8] = b"\
 the stream's window one above the largest while the requests go; <usual>; {'link':1,'room':187}|<live><piece>000004080\
 0000000017fff0075<on1><wake><again>; 0; <link1>32, sent 187, closed discovery|<link2>0, sent 311, closed stopped<total\
 2>; \n\
@@ -824,10 +835,6 @@ the stream's window grows, and the connection's doesn't; --node n1 --id <40000*z
 iece>00000408000000000100001388<on1><wake>; 0; <link1>32, sent 65766, closed stopped<total1>; \n\
 the connection's window grows, and the stream's doesn't; --node n1 --id <40000*z> --discovery 10.0.0.1:15010; <live><p\
 iece>00000408000000000000001388<on1><wake>; 0; <link1>32, sent 65766, closed stopped<total1>; \n\
-";
-
-/// Runs.
-pub const ROWS_9: &[u8] = b"\
 both windows grow, octet by octet; --node n1 --id <40000*z> --discovery 10.0.0.1:15010; <live><piece>00000408000000000\
 100001388<on1><wake><piece>00000408000000000000000001<on1><wake><piece>00000408000000000000000001<on1><wake><piece>000\
 00408000000000000000001<on1><wake><piece>00000408000000000000000001<on1><wake><piece>00000408000000000000000001<on1><w\
@@ -903,6 +910,10 @@ an opening that goes in parts; <usual> --trace; {'link':1,'room':10}|<open>{'lin
 e76332e41676772656761746564446973636f76657279536572766963652f44656c7461416767726567617465645265736f7572636573010e31302\
 e302e302e313a31353031300002746508747261696c6572730f10106170706c69636174696f6e2f67727063|went 1 <firsts>|closed 1 stopp\
 ed|<link1>0, sent 311, closed stopped<total1>; \n\
+";
+
+/// Runs.
+pub const ROWS_10: &[u8] = b"\
 no write for a turn; <usual>; <open>{'link':1,'room':0}|<piece><set><ok><on1><wake><piece><m1><on1><wake><piece><m2><o\
 n1><wake>{'link':1,'room':9}|<wake>{'link':1,'room':6}|<wake>{'link':1,'room':1000}|<wake>; 0; <link1>344, sent 441, c\
 losed stopped<total1>; \n\
@@ -911,10 +922,6 @@ an answer octet by octet; <usual> --trace; <live>{'link':1,'room':0}|<piece><m1>
 ':0}|<wake>{'link':1,'room':1000}|<wake>; 0; <lived>came 1 <m1>|went 1 00|went 1 00|went 1 35|went 1 00|went 1 00|went \
 1 000000010000000030122a<address>32027831|closed 1 stopped|<link1>171, sent 382, closed stopped<total1>; \n\
 an unreadable line: no JSON; <usual>; <wake>|{|{|; 3; ; hbone: line 3: not json|\n\
-";
-
-/// Runs.
-pub const ROWS_10: &[u8] = b"\
 an unreadable line: blanks; <usual>; <wake>| |{|; 3; ; hbone: line 3: not json|\n\
 an unreadable line: two values; <usual>; <wake>|{} {}|{|; 3; ; hbone: line 3: not json|\n\
 an unreadable line: no object; <usual>; <wake>|[]|{|; 3; ; hbone: line 3: not an object|\n\
@@ -953,6 +960,7 @@ pub const REFUSED: &[u8] = b"\
 --node|n1|--discovery|10.0.0.1:15010|\n\
 = --discovery is wanted behind replay\n\
 --node|n1|--id|z1|\n\
+--node|n1|--id|z1|--inbound|0.0.0.0:15008|\n\
 = --node stands twice\n\
 --node|n1|--id|z1|--discovery|10.0.0.1:15010|--node|n1|\n\
 --node|n1|--id|z1|--discovery|10.0.0.1:15010|--node=n1|\n\
@@ -1009,6 +1017,42 @@ pub const REFUSED: &[u8] = b"\
 --node|n1|--id|z1|--discovery|[10.0.0.1]:1|\n\
 --node|n1|--id|z1|--discovery|[::1%1]:1|\n\
 --node|n1|--id|z1|--discovery| 10.0.0.1:1|\n\
+= --inbound stands twice\n\
+--node|n1|--id|z1|--discovery|10.0.0.1:15010|--inbound|0.0.0.0:15008|--inbound|0.0.0.0:15008|\n\
+--node|n1|--id|z1|--discovery|10.0.0.1:15010|--inbound=0.0.0.0:15008|--inbound|0.0.0.0:15008|\n\
+--inbound|0.0.0.0:15008|--node|n1|--id|z1|--discovery|10.0.0.1:15010|--inbound=[::1]:15008|\n\
+--inbound|0.0.0.0:15008|--inbound|0.0.0.0:15008|\n\
+= --inbound has no value\n\
+--node|n1|--id|z1|--discovery|10.0.0.1:15010|--inbound|\n\
+--inbound|0.0.0.0:15008|--node|n1|--id|z1|--discovery|10.0.0.1:15010|--inbound|\n\
+= the value of --inbound is neither IPv4:PORT nor [IPv6]:PORT\n\
+--node|n1|--id|z1|--discovery|10.0.0.1:15010|--inbound||\n\
+--node|n1|--id|z1|--discovery|10.0.0.1:15010|--inbound=|\n\
+--node|n1|--id|z1|--discovery|10.0.0.1:15010|--inbound|-|\n\
+--node|n1|--id|z1|--discovery|10.0.0.1:15010|--inbound=-|\n\
+--node|n1|--id|z1|--discovery|10.0.0.1:15010|--inbound|-1|\n\
+--node|n1|--id|z1|--discovery|10.0.0.1:15010|--inbound=-1|\n\
+--node|n1|--id|z1|--discovery|10.0.0.1:15010|--inbound|--trace|\n\
+--node|n1|--id|z1|--discovery|10.0.0.1:15010|--inbound=--trace|\n\
+--node|n1|--id|z1|--discovery|10.0.0.1:15010|--inbound|0.0.0.0|\n\
+--inbound=0.0.0.0|--node|n1|--id|z1|--discovery|10.0.0.1:15010|\n\
+--node|n1|--id|z1|--discovery|10.0.0.1:15010|--inbound|10.0.0.1:0|\n\
+--inbound=10.0.0.1:0|--node|n1|--id|z1|--discovery|10.0.0.1:15010|\n\
+--node|n1|--id|z1|--discovery|10.0.0.1:15010|--inbound|10.0.0.1:99999|\n\
+--inbound=10.0.0.1:99999|--node|n1|--id|z1|--discovery|10.0.0.1:15010|\n\
+--node|n1|--id|z1|--discovery|10.0.0.1:15010|--inbound|[::]|\n\
+--inbound=[::]|--node|n1|--id|z1|--discovery|10.0.0.1:15010|\n\
+--node|n1|--id|z1|--discovery|10.0.0.1:15010|--inbound|::1:15008|\n\
+--inbound=::1:15008|--node|n1|--id|z1|--discovery|10.0.0.1:15010|\n\
+--node|n1|--id|z1|--discovery|10.0.0.1:15010|--inbound|[0.0.0.0]:15008|\n\
+--inbound=[0.0.0.0]:15008|--node|n1|--id|z1|--discovery|10.0.0.1:15010|\n\
+--node|n1|--id|z1|--discovery|10.0.0.1:15010|--inbound|:15008|\n\
+--inbound=:15008|--node|n1|--id|z1|--discovery|10.0.0.1:15010|\n\
+--node|n1|--id|z1|--discovery|10.0.0.1:15010|--inbound|15008|\n\
+--inbound=15008|--node|n1|--id|z1|--discovery|10.0.0.1:15010|\n\
+--node|n1|--id|z1|--discovery|10.0.0.1:15010|--inbound|inbound|\n\
+--inbound=inbound|--node|n1|--id|z1|--discovery|10.0.0.1:15010|\n\
+--inbound|0.0.0.0:15008|--node|n1|--id|z1|--discovery|10.0.0.1:15010|--inbound|0.0.0.0|\n\
 = --network stands twice\n\
 --node|n1|--id|z1|--discovery|10.0.0.1:15010|--network|x|--network|x|\n\
 --node|n1|--id|z1|--discovery|10.0.0.1:15010|--network=x|--network|x|\n\
@@ -1096,11 +1140,14 @@ pub const REFUSED: &[u8] = b"\
 --node|n1|--id|z1|--discovery|10.0.0.1:15010|--trace=|\n\
 --node|n1|--id|z1|--discovery|10.0.0.1:15010|--trace=true|\n\
 --node|n1|--id|z1|--discovery|10.0.0.1:15010|--ticks|\n\
---node|n1|--id|z1|--discovery|10.0.0.1:15010|--inbound|\n\
+--node|n1|--id|z1|--discovery|10.0.0.1:15010|--inbounds|\n\
+--node|n1|--id|z1|--discovery|10.0.0.1:15010|--in|\n\
 --node|n1|--id|z1|--discovery|10.0.0.1:15010|--nod|\n\
 --node|n1|--id|z1|--discovery|10.0.0.1:15010|--Node|\n\
 --node|n1|--id|z1|--discovery|10.0.0.1:15010|-node=n1|\n\
 --node|n1|--id|z1|--discovery|10.0.0.1:15010|--ticks=1|\n\
+--node|n1|--id|z1|--discovery|10.0.0.1:15010|--Inbound=0.0.0.0:15008|\n\
+--node|n1|--id|z1|--discovery|10.0.0.1:15010|-inbound=0.0.0.0:15008|\n\
 = replay takes options only\n\
 --node|n1|--id|z1|--discovery|10.0.0.1:15010|=n1|\n\
 --node|n1|--id|z1|--discovery|10.0.0.1:15010|trace|\n\
@@ -1116,6 +1163,6 @@ help|--node|n1|--id|z1|--discovery|10.0.0.1:15010|\n\
 /// The forms of accepted words, which are told behind each reason.
 pub const USAGE: &[u8] = b"\
 (usage: hbone check --node NODE [--network NETWORK] SOURCE IDENTITY TARGET, hbone show, or hbone replay --node NODE --\
-id ID --discovery TARGET [--network NETWORK] [--hbone-port PORT] [--tunnels COUNT] [--turns COUNT] [--trace] [--brief]\
-)\n\
+id ID --discovery TARGET [--inbound TARGET] [--network NETWORK] [--hbone-port PORT] [--tunnels COUNT] [--turns COUNT] \
+[--trace] [--brief])\n\
 ";

@@ -1,4 +1,5 @@
 pub mod Link
+pub mod Note
 pub mod Report
 pub mod Tallies
 pub mod Tally

@@ -1,8 +1,9 @@
-//! The report of a run: its trace as lines, a line for each link, and the total line.
+//! The report of a run: its trace as lines, a line for each link, a line for each note, and the total line.
 #![tactic(auto)]
 
 mod flags;
 mod link;
+mod note;
 mod report;
 mod tallies;
 mod totals;

@@ -7,9 +7,10 @@ ghost use Rattle.hb_report.specs.Report.{report, details, links_text};
 
 use crate::flags::Flags;
 use crate::link::put_links;
+use crate::note::put_notes;
 use crate::tallies::Tallies;
 use crate::totals::{Totals, total_text};
-use hb_base::NoMemory;
+use hb_base::{NoMemory, Note};
 use hb_script::put_entry;
 use hb_world::Entry;
 use std::alloc::Global;
@@ -32,8 +33,13 @@ fn put_link_lines(alloc: Global, trace: &[Entry], out: &mut Vec<u8>) -> Result<(
 }
 
 /// The lines in front of the total line.
-fn details(alloc: Global, flags: &Flags, trace: &[Entry]) -> Result<Vec<u8>, NoMemory>
-    ensures { IfOk result (λ text. text.items ≡ details flags.now trace.now) }
+fn details(
+    alloc: Global,
+    flags: &Flags,
+    trace: &[Entry],
+    notes: &[Note],
+) -> Result<Vec<u8>, NoMemory>
+    ensures { IfOk result (λ text. text.items ≡ details flags.now trace.now notes.now) }
 {
     let mut text = Vec::new(alloc);
     if flags.brief {
@@ -43,23 +49,25 @@ fn details(alloc: Global, flags: &Flags, trace: &[Entry]) -> Result<Vec<u8>, NoM
         put_trace(alloc, trace, &mut text)?;
     }
     put_link_lines(alloc, trace, &mut text)?;
+    put_notes(alloc, notes, &mut text)?;
     Ok(text)
 }
 
-/// Appends the report of a run with this trace.
+/// Appends the report of a run with this trace, these notes and these totals.
 ///
 /// Errors: `NoMemory`, and then nothing is appended.
 pub fn put_report(
     alloc: Global,
     flags: &Flags,
     trace: &[Entry],
+    notes: &[Note],
     totals: &Totals,
     out: &mut Vec<u8>,
 ) -> Result<(), NoMemory>
-    ensures ok { OnOk result (out.new.items ≡ out.old.items ++ report flags.now totals.now trace.now) }
+    ensures ok { OnOk result (out.new.items ≡ out.old.items ++ report flags.now trace.now notes.now totals.now) }
     ensures err { OnErr result (out.new.items ≡ out.old.items) }
 {
-    let mut text = details(alloc, flags, trace)?;
+    let mut text = details(alloc, flags, trace, notes)?;
     let total = total_text(alloc, totals)?;
     text.extend_from_slice(total.as_bytes())?;
     out.extend_from_slice(text.as_slice())

@@ -52,8 +52,8 @@ check|--node|n1|SOURCE|spiffe://none/ns/./sa/..|TARGET|; WORKLOAD; allow";
 /// The forms of accepted words, which each reason names.
 const USAGE: &str =
     "(usage: hbone check --node NODE [--network NETWORK] SOURCE IDENTITY TARGET, hbone show, \
-     or hbone replay --node NODE --id ID --discovery TARGET [--network NETWORK] [--hbone-port PORT] [--tunnels COUNT] \
-     [--turns COUNT] [--trace] [--brief])";
+     or hbone replay --node NODE --id ID --discovery TARGET [--inbound TARGET] [--network NETWORK] \
+     [--hbone-port PORT] [--tunnels COUNT] [--turns COUNT] [--trace] [--brief])";
 
 /// Words that aren't accepted, each ended by `|`; an empty line has none. A line that begins with `=` has the reason that
 /// is told of the next ones.
@@ -133,6 +133,7 @@ check|--node|n1|--net|x|SOURCE|IDENTITY|TARGET|
 check|--node|n1|--networks|x|SOURCE|IDENTITY|TARGET|
 check|--node|n1|--Network|x|SOURCE|IDENTITY|TARGET|
 check|--node|n1|--id|x|SOURCE|IDENTITY|TARGET|
+check|--node|n1|--inbound|0.0.0.0:15008|SOURCE|IDENTITY|TARGET|
 check|--node|n1|--network|x|--id|x|SOURCE|IDENTITY|TARGET|
 check|--node|n1|--network|x|--|SOURCE|IDENTITY|TARGET|
 check|--node|n1|--network|x|-h|

@@ -8,7 +8,7 @@ use Rattle.std.proofs.lemmas.List.Sums.{split_at_first, passes_at_first}
 use Rattle.std.proofs.lemmas.Slice.Eq.{bytes_eq-Decides}
 use Rattle.hb_base.specs.Parts.{cut_first}
 use Rattle.hb_words.specs.declared.settings.ReplayOption.{ReplayOption}
-use Rattle.hb_words.specs.declared.settings.ReplayOption.TheVariants.{Node, Id, Discovery, Network, HbonePort, Tunnels, Turns}
+use Rattle.hb_words.specs.declared.settings.ReplayOption.TheVariants.{Node, Id, Discovery, Inbound, Network, HbonePort, Tunnels, Turns}
 use Rattle.hb_words.specs.declared.settings.ReplayFlag.{ReplayFlag}
 use Rattle.hb_words.specs.declared.settings.ReplayFlag.TheVariants.{Trace, Brief}
 use Rattle.hb_words.specs.declared.replay_fault.ReplayFault.TheVariants.{NoOption}
@@ -21,6 +21,7 @@ unfolding said
 said_name Node = refl
 said_name Id = refl
 said_name Discovery = refl
+said_name Inbound = refl
 said_name Network = refl
 said_name HbonePort = refl
 said_name Tunnels = refl
@@ -39,6 +40,7 @@ unfolding said
 said_joined Node value = rw (within Node value) refl
 said_joined Id value = rw (within Id value) refl
 said_joined Discovery value = rw (within Discovery value) refl
+said_joined Inbound value = rw (within Inbound value) refl
 said_joined Network value = rw (within Network value) refl
 said_joined HbonePort value = rw (within HbonePort value) refl
 said_joined Tunnels value = rw (within Tunnels value) refl
@@ -70,8 +72,9 @@ module _ (word : List ℕ) where
 
   option_spelled : (name : ReplayOption) → option_named word ≡ Some name → word ≡ name_text name
   option_spelled name =
-      option_or name Node _ _ refl (option_or name Id _ _ refl (option_or name Discovery _ _ refl (option_or name Network _ _ refl
-      (option_or name HbonePort _ _ refl (option_or name Tunnels _ _ refl (option_or name Turns None _ refl (λ is. cc)))))))
+      option_or name Node _ _ refl (option_or name Id _ _ refl (option_or name Discovery _ _ refl (option_or name Inbound _ _ refl
+      (option_or name Network _ _ refl (option_or name HbonePort _ _ refl (option_or name Tunnels _ _ refl
+      (option_or name Turns None _ refl (λ is. cc))))))))
 
   flag_or : (name x : ReplayFlag) (rest : Option ReplayFlag) (same : Bool) → bytes_eq word (flag_text x) ≡ same
       → (rest ≡ Some name → word ≡ flag_text name) → (if same then Some x else rest) ≡ Some name → word ≡ flag_text name

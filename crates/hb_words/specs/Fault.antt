@@ -32,8 +32,8 @@ fault_text (faults.Replay fault) = replay_text fault
 -- the forms of accepted words
 abbrev pub usage : List ℕ
 usage = codes " (usage: hbone check --node NODE [--network NETWORK] SOURCE IDENTITY TARGET, hbone show,"
-    ++ codes " or hbone replay --node NODE --id ID --discovery TARGET [--network NETWORK]"
-    ++ codes " [--hbone-port PORT] [--tunnels COUNT] [--turns COUNT] [--trace] [--brief])"
+    ++ codes " or hbone replay --node NODE --id ID --discovery TARGET [--inbound TARGET]"
+    ++ codes " [--network NETWORK] [--hbone-port PORT] [--tunnels COUNT] [--turns COUNT] [--trace] [--brief])"
 
 -- the line, with the forms of accepted words
 abbrev pub fault_line : WordsFault → List ℕ

@@ -9,7 +9,7 @@ use Rattle.hb_base.specs.Parts.{cut_first}
 use Rattle.hb_base.specs.TargetText.{target_of}
 use Rattle.hb_wire.specs.Message.{and_then}
 use Rattle.hb_words.specs.declared.settings.ReplayOption.{ReplayOption}
-use Rattle.hb_words.specs.declared.settings.ReplayOption.TheVariants.{Node, Id, Discovery, Network, HbonePort, Tunnels, Turns}
+use Rattle.hb_words.specs.declared.settings.ReplayOption.TheVariants.{Node, Id, Discovery, Inbound, Network, HbonePort, Tunnels, Turns}
 use Rattle.hb_words.specs.declared.settings.ReplayFlag.{ReplayFlag}
 use Rattle.hb_words.specs.declared.settings.ReplayFlag.TheVariants.{Trace, Brief}
 use Rattle.hb_words.specs.declared.replay_fault.ReplayFault.{ReplayFault}
@@ -17,11 +17,13 @@ use Rattle.hb_words.specs.declared.replay_fault.ReplayFault.TheVariants.{NoOptio
 use Rattle.hb_words.specs.Number.{number_of}
 use Rattle.hb_words.specs.Word.{is_dashed, is_value}
 
--- what `replay` asks: who the node is, where its control plane is, the bounds of its run, and what is told of it
+-- what `replay` asks: who the node is, where its control plane is, where its inbound door listens if it has one, the bounds of its
+-- run, and what is told of it
 pub record Replay : Type 0 where
   pub node : List ℕ
   pub id : List ℕ
   pub discovery : Target
+  pub inbound : Option Target
   pub network : List ℕ
   pub hbone_port : ℕ
   pub tunnels : ℕ
@@ -34,6 +36,7 @@ pub record Settings : Type 0 where
   pub node : Option (List ℕ)
   pub id : Option (List ℕ)
   pub discovery : Option Target
+  pub inbound : Option Target
   pub network : Option (List ℕ)
   pub hbone_port : Option ℕ
   pub tunnels : Option ℕ
@@ -46,6 +49,7 @@ no_settings = record {
   node = None;
   id = None;
   discovery = None;
+  inbound = None;
   network = None;
   hbone_port = None;
   tunnels = None;
@@ -65,6 +69,7 @@ abbrev pub set_value : Settings → ReplayOption → List ℕ → Result Setting
 set_value s Node value = and_then (once Node s.node (Some value)) (λ v. Ok (record s { node = v }))
 set_value s Id value = and_then (once Id s.id (Some value)) (λ v. Ok (record s { id = v }))
 set_value s Discovery value = and_then (once Discovery s.discovery (result_ok (target_of value))) (λ v. Ok (record s { discovery = v }))
+set_value s Inbound value = and_then (once Inbound s.inbound (result_ok (target_of value))) (λ v. Ok (record s { inbound = v }))
 set_value s Network value = and_then (once Network s.network (Some value)) (λ v. Ok (record s { network = v }))
 set_value s HbonePort value = and_then (once HbonePort s.hbone_port (number_of 1 65535 value)) (λ v. Ok (record s { hbone_port = v }))
 set_value s Tunnels value = and_then (once Tunnels s.tunnels (number_of 1 4096 value)) (λ v. Ok (record s { tunnels = v }))
@@ -89,10 +94,11 @@ option_named name =
     if bytes_eq name (codes "--node") then Some Node
     else (if bytes_eq name (codes "--id") then Some Id
     else (if bytes_eq name (codes "--discovery") then Some Discovery
+    else (if bytes_eq name (codes "--inbound") then Some Inbound
     else (if bytes_eq name (codes "--network") then Some Network
     else (if bytes_eq name (codes "--hbone-port") then Some HbonePort
     else (if bytes_eq name (codes "--tunnels") then Some Tunnels
-    else (if bytes_eq name (codes "--turns") then Some Turns else None))))))
+    else (if bytes_eq name (codes "--turns") then Some Turns else None)))))))
 
 -- the flag of this name
 abbrev pub flag_named : List ℕ → Option ReplayFlag
@@ -164,6 +170,7 @@ asked_by s =
       node = node;
       id = id;
       discovery = discovery;
+      inbound = s.inbound;
       network = unwrap_or s.network [];
       hbone_port = unwrap_or s.hbone_port 15008;
       tunnels = unwrap_or s.tunnels 4096;

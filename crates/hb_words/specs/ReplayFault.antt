@@ -3,7 +3,7 @@ use Rattle.std.specs.Prelude.{ℕ, List, ◌++◌, codes}
 use Rattle.hb_words.specs.declared.replay_fault.ReplayFault.{ReplayFault}
 use Rattle.hb_words.specs.declared.replay_fault.ReplayFault.TheVariants.{NoOption, UnknownOption, Twice, FlagTwice, NoValue, BadValue, NoNode, NoId, NoDiscovery}
 use Rattle.hb_words.specs.declared.settings.ReplayOption.{ReplayOption}
-use Rattle.hb_words.specs.declared.settings.ReplayOption.TheVariants.{Node, Id, Discovery, Network, HbonePort, Tunnels, Turns}
+use Rattle.hb_words.specs.declared.settings.ReplayOption.TheVariants.{Node, Id, Discovery, Inbound, Network, HbonePort, Tunnels, Turns}
 use Rattle.hb_words.specs.declared.settings.ReplayFlag.{ReplayFlag}
 use Rattle.hb_words.specs.declared.settings.ReplayFlag.TheVariants.{Trace, Brief}
 
@@ -11,6 +11,7 @@ abbrev pub name_text : ReplayOption → List ℕ
 name_text Node = codes "--node"
 name_text Id = codes "--id"
 name_text Discovery = codes "--discovery"
+name_text Inbound = codes "--inbound"
 name_text Network = codes "--network"
 name_text HbonePort = codes "--hbone-port"
 name_text Tunnels = codes "--tunnels"
@@ -25,6 +26,7 @@ abbrev pub grammar_text : ReplayOption → List ℕ
 grammar_text Node = codes " is empty or begins with a dash"
 grammar_text Id = codes " is empty or begins with a dash"
 grammar_text Discovery = codes " is neither IPv4:PORT nor [IPv6]:PORT"
+grammar_text Inbound = codes " is neither IPv4:PORT nor [IPv6]:PORT"
 grammar_text Network = codes " is empty or begins with a dash"
 grammar_text HbonePort = codes " is no number from 1 to 65535"
 grammar_text Tunnels = codes " is no number from 1 to 4096"

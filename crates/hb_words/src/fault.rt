@@ -76,8 +76,8 @@ fn usage() -> &'static str
     ensures { result.now ≡ usage }
 {
     " (usage: hbone check --node NODE [--network NETWORK] SOURCE IDENTITY TARGET, hbone show, \
-     or hbone replay --node NODE --id ID --discovery TARGET [--network NETWORK] \
-     [--hbone-port PORT] [--tunnels COUNT] [--turns COUNT] [--trace] [--brief])"
+     or hbone replay --node NODE --id ID --discovery TARGET [--inbound TARGET] \
+     [--network NETWORK] [--hbone-port PORT] [--tunnels COUNT] [--turns COUNT] [--trace] [--brief])"
 }
 
 impl WordsFault {

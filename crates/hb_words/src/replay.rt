@@ -18,6 +18,8 @@ pub struct Replay<'a> {
     pub id: &'a str,
     /// The control plane.
     pub discovery: Target,
+    /// Where the inbound door listens. None: no door listens.
+    pub inbound: Option<Target>,
     /// Empty where it isn't named.
     pub network: &'a str,
     /// From 1 to 65,535.
@@ -96,6 +98,7 @@ fn asked_by<'a>(settings: Settings<'a>) -> Result<Replay<'a>, ReplayFault>
         node,
         id,
         discovery,
+        inbound: settings.inbound,
         network: settings.network.unwrap_or(""),
         hbone_port: settings.hbone_port.unwrap_or(15008),
         tunnels: settings.tunnels.unwrap_or(4096),

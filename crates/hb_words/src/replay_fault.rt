@@ -32,6 +32,7 @@ fn twice_text(name: ReplayOption) -> &'static str
         ReplayOption::Node => "--node stands twice",
         ReplayOption::Id => "--id stands twice",
         ReplayOption::Discovery => "--discovery stands twice",
+        ReplayOption::Inbound => "--inbound stands twice",
         ReplayOption::Network => "--network stands twice",
         ReplayOption::HbonePort => "--hbone-port stands twice",
         ReplayOption::Tunnels => "--tunnels stands twice",
@@ -55,6 +56,7 @@ fn no_value_text(name: ReplayOption) -> &'static str
         ReplayOption::Node => "--node has no value",
         ReplayOption::Id => "--id has no value",
         ReplayOption::Discovery => "--discovery has no value",
+        ReplayOption::Inbound => "--inbound has no value",
         ReplayOption::Network => "--network has no value",
         ReplayOption::HbonePort => "--hbone-port has no value",
         ReplayOption::Tunnels => "--tunnels has no value",
@@ -71,6 +73,7 @@ fn bad_value_text(name: ReplayOption) -> &'static str
         ReplayOption::Discovery => {
             "the value of --discovery is neither IPv4:PORT nor [IPv6]:PORT"
         }
+        ReplayOption::Inbound => "the value of --inbound is neither IPv4:PORT nor [IPv6]:PORT",
         ReplayOption::Network => "the value of --network is empty or begins with a dash",
         ReplayOption::HbonePort => "the value of --hbone-port is no number from 1 to 65535",
         ReplayOption::Tunnels => "the value of --tunnels is no number from 1 to 4096",

@@ -31,6 +31,9 @@ fn option_named(name: &str) -> Option<ReplayOption>
     if name == "--discovery" {
         return Some(ReplayOption::Discovery);
     }
+    if name == "--inbound" {
+        return Some(ReplayOption::Inbound);
+    }
     if name == "--network" {
         return Some(ReplayOption::Network);
     }

@@ -18,6 +18,7 @@ pub enum ReplayOption {
     Node,
     Id,
     Discovery,
+    Inbound,
     Network,
     HbonePort,
     Tunnels,
@@ -37,6 +38,7 @@ pub(crate) struct Settings<'a> {
     pub node: Option<&'a str>,
     pub id: Option<&'a str>,
     pub discovery: Option<Target>,
+    pub inbound: Option<Target>,
     pub network: Option<&'a str>,
     pub hbone_port: Option<u16>,
     pub tunnels: Option<u16>,
@@ -118,6 +120,7 @@ impl<'a> Settings<'a> {
             node: None,
             id: None,
             discovery: None,
+            inbound: None,
             network: None,
             hbone_port: None,
             tunnels: None,
@@ -142,6 +145,10 @@ impl<'a> Settings<'a> {
             },
             ReplayOption::Discovery => Settings {
                 discovery: once(name, self.discovery, address(value))?,
+                ..self
+            },
+            ReplayOption::Inbound => Settings {
+                inbound: once(name, self.inbound, address(value))?,
                 ..self
             },
             ReplayOption::Network => Settings {
