@@ -18,7 +18,8 @@ pub fn cut<'a>(text: &'a str, mark: &str) -> (&'a str, &'a str) {
     text.split_once(mark).unwrap_or((text, ""))
 }
 
-fn number_of(rt: &impl Abort, text: &str) -> u64 {
+/// A number of 64 bits.
+pub fn number_of(rt: &impl Abort, text: &str) -> u64 {
     text.parse::<u64>().ok().expect(rt, "a number")
 }
 
@@ -54,17 +55,37 @@ fn dialled(rt: &impl Abort, word: &str, link: u64, owner: &str) -> Entry {
     Entry::Dialled(link, ADDRESS, why)
 }
 
-fn cause_of(rt: &impl Abort, words: &str) -> Cause {
+fn numbered(rt: &impl Abort, words: &str) -> Cause {
+    let (word, number) = words.rsplit_once(" ").expect(rt, "a number");
+    let number = number.parse::<u32>().ok().expect(rt, "a number");
+    match word {
+        "peer reset" => Cause::PeerReset(number),
+        "up refused" => Cause::UpRefused(number),
+        "conn fault" => Cause::ConnFault(number),
+        "stream fault" => Cause::StreamFault(number),
+        "front fault" => Cause::FrontFault(number),
+        "refused" => Cause::Refused(number),
+        _ => {
+            assert!(rt; word == "no route", "no cause {words}");
+            Cause::NoRoute(number)
+        }
+    }
+}
+
+/// The cause of these words.
+pub fn cause_of(rt: &impl Abort, words: &str) -> Cause {
     match words {
         "done" => Cause::Done,
+        "peer gone" => Cause::PeerGone,
+        "up fault" => Cause::UpFault,
+        "gone away" => Cause::GoneAway,
         "revoked" => Cause::Revoked,
+        "no room" => Cause::NoRoom,
+        "discovery" => Cause::Discovery,
         "broken" => Cause::Broken,
-        "peer reset 8" => Cause::PeerReset(8),
-        "front fault 0" => Cause::FrontFault(0),
-        _ => {
-            assert!(rt; words == "stopped", "no cause {words}");
-            Cause::Stopped
-        }
+        "stopped" => Cause::Stopped,
+        "no memory" => Cause::NoMemory,
+        _ => numbered(rt, words),
     }
 }
 

@@ -1,7 +1,9 @@
-//! Reports of traces.
+//! Reports of traces without notes.
 
 use crate::entries::{cut, trace_of};
+use hb_base::Note;
 use hb_report::{Flags, Totals, put_report, totals_of};
+use hb_world::Entry;
 use std::alloc::Global;
 use std::process::Abort;
 
@@ -53,15 +55,27 @@ fn tell_octets(told: &mut String, octets: &[u8]) {
     }
 }
 
+/// The text of the report of a trace and its notes.
+pub fn report_text(
+    rt: &impl Abort,
+    alloc: Global,
+    flags: &str,
+    trace: &[Entry],
+    notes: &[Note],
+) -> String {
+    let totals = totals_of(alloc, trace, notes).expect(rt, "memory");
+    let mut out = Vec::new(alloc);
+    put_report(alloc, &flags_of(flags), trace, notes, &totals, &mut out).expect(rt, "memory");
+    let mut told = String::new(alloc);
+    tell_octets(&mut told, out.as_slice());
+    told
+}
+
 fn assert_row(rt: &impl Abort, alloc: Global, row: &str) {
     let (flags, rest) = cut(row, "; ");
     let (text, want) = cut(rest, "; ");
     let trace = trace_of(rt, alloc, text);
-    let totals = totals_of(alloc, trace.as_slice()).expect(rt, "memory");
-    let mut out = Vec::new(alloc);
-    put_report(alloc, &flags_of(flags), trace.as_slice(), &totals, &mut out).expect(rt, "memory");
-    let mut told = String::new(alloc);
-    tell_octets(&mut told, out.as_slice());
+    let told = report_text(rt, alloc, flags, trace.as_slice(), &[]);
     assert!(rt; told.as_str() == want, "{row} told {told}");
 }
 
@@ -88,6 +102,7 @@ fn a_report_stands_behind_what_was_there_and_has_the_totals_that_it_was_given(rt
         rt.alloc(),
         &flags_of("links"),
         trace.as_slice(),
+        &[],
         &totals,
         &mut out,
     )
