@@ -1,0 +1,22 @@
+-- What is left of audits once notes were told to each of them.
+use Rattle.std.specs.Prelude.{◌≡◌, List, [], ◌∷◌, length, Option}
+use Rattle.hb_base.specs.declared.note.Note.{Note}
+use Rattle.hb_audit.specs.declared.audit.Noted.{Noted}
+use Rattle.hb_audit.specs.declared.audit.Noted.TheVariants.{Kept, Failed, NoMemory}
+use Rattle.hb_audit.specs.Held.{followed_by}
+
+-- what the audits hold that are left once each was told this note and answered so: those that kept it, in their order
+abbrev pub left_after : List Noted → Note → List (Option (List Note)) → List (Option (List Note))
+left_after (Kept ∷ answers) n (held ∷ others) = followed_by n held ∷ left_after answers n others
+left_after (Failed ∷ answers) n (held ∷ others) = left_after answers n others
+left_after (NoMemory ∷ answers) n (held ∷ others) = left_after answers n others
+left_after _ n _ = []
+
+-- each audit was told this note and gave an answer, and those that kept it are left
+abbrev pub TellsOne : List (Option (List Note)) → List (Option (List Note)) → Note → Type 0
+TellsOne old new n = (answers : List Noted) × (length answers ≡ length old) × (new ≡ left_after answers n old)
+
+-- the notes were told one after the other, each to those that were left
+abbrev pub Tells : List (Option (List Note)) → List (Option (List Note)) → List Note → Type 0
+Tells old new [] = new ≡ old
+Tells old new (n ∷ notes) = (between : List (Option (List Note))) × TellsOne old between n × Tells between new notes

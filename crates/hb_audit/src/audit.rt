@@ -1,0 +1,34 @@
+//! What takes notes.
+
+use hb_base::Note;
+
+/// What an audit answers to a note.
+#[derive(Clone, Copy, Debug)]
+pub enum Noted {
+    /// The note is kept.
+    Kept,
+    /// The audit failed; the note is not kept.
+    Failed,
+    /// There was no memory for the note; it is not kept.
+    NoMemory,
+}
+
+/// What keeps the notes that it is told, and counts its faults.
+pub trait Audit: Drop {
+    ghost use Rattle.std.specs.Prelude.{◌≡◌, ◌≤◌, ℕ, List, Option};
+    ghost use Rattle.hb_base.specs.Count.{Counts};
+    ghost use Rattle.hb_base.specs.declared.note.Note.{Note};
+    ghost use Rattle.hb_audit.specs.Held.{held_after, has_failed};
+
+    /// The notes that it holds, in the order in which they came, where it tells them.
+    ghost notes: { Self → Option (List Note) };
+
+    /// How often it failed.
+    ghost faults: { Self → ℕ };
+
+    /// Takes a note.
+    fn note(&mut self, n: &Note) -> Noted
+        ensures held { notes self.new ≡ held_after (notes self.old) n.now result }
+        ensures later { faults self.old ≤ faults self.new }
+        ensures counts { Counts (faults self.old) (faults self.new) (has_failed result) };
+}

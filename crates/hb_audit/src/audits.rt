@@ -1,0 +1,67 @@
+//! Audits in a row, of which those that fail are dropped.
+
+ghost use Rattle.std.specs.Prelude.{◌≡◌, ◌+◌, [], length, map};
+ghost use Rattle.hb_audit.specs.Tells.{TellsOne};
+ghost use Rattle.hb_audit.specs.Held.{held_after};
+ghost use Rattle.hb_audit.specs.HeldBy.{held_by};
+
+use crate::audit::{Audit, Noted};
+use hb_base::Note;
+use std::alloc::Global;
+
+/// Audits to which each note is told, in order. Contracts see what each of them holds.
+#[derive(Drop)]
+pub struct Audits {
+    boxes: Vec<Box<dyn Audit>>,
+}
+
+/// Tells one audit a note.
+fn tell_one(audit: &mut Box<dyn Audit>, n: &Note) -> Noted
+    ensures { notes audit.new ≡ held_after (notes audit.old) n.now result }
+{
+    audit.note(n)
+}
+
+impl Audits {
+    /// These audits.
+    pub fn over(boxes: Vec<Box<dyn Audit>>) -> Audits
+        ensures { held_by (λ b. notes b) result ≡ map (λ b. notes b) boxes.items }
+    {
+        Audits { boxes }
+    }
+
+    /// No audit, which takes no memory.
+    pub fn none(alloc: Global) -> Audits
+        ensures { held_by (λ b. notes b) result ≡ [] }
+    {
+        Audits {
+            boxes: Vec::new(alloc),
+        }
+    }
+
+    /// How many audits there are.
+    pub fn len(&self) -> usize
+        ensures { result ≡ length (held_by (λ b. notes b) self.now) }
+    {
+        self.boxes.len()
+    }
+
+    /// Tells each audit a note. One that did not keep it is dropped; the others stay in their order. How many were dropped.
+    pub fn tell(&mut self, n: &Note) -> usize
+        ensures each { TellsOne (held_by (λ b. notes b) self.old) (held_by (λ b. notes b) self.new) n.now }
+        ensures dropped { length (held_by (λ b. notes b) self.new) + result ≡ length (held_by (λ b. notes b) self.old) }
+    {
+        let mut dropped = 0;
+        let mut at = 0;
+        while at < self.boxes.len() {
+            match tell_one(&mut self.boxes[at], n) {
+                Noted::Kept => at += 1,
+                Noted::Failed | Noted::NoMemory => {
+                    self.boxes.remove(at);
+                    dropped += 1;
+                }
+            }
+        }
+        dropped
+    }
+}
