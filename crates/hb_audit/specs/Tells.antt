@@ -1,5 +1,6 @@
 -- What is left of audits once notes were told to each of them.
-use Rattle.std.specs.Prelude.{◌≡◌, List, [], ◌∷◌, length, Option}
+use Rattle.std.specs.Prelude.{◌≡◌, List, [], ◌∷◌, length, map, Option}
+use Rattle.std.specs.List.{AllZip}
 use Rattle.hb_base.specs.declared.note.Note.{Note}
 use Rattle.hb_audit.specs.declared.audit.Noted.{Noted}
 use Rattle.hb_audit.specs.declared.audit.Noted.TheVariants.{Kept, Failed, NoMemory}
@@ -11,6 +12,11 @@ left_after (Kept ∷ answers) n (held ∷ others) = followed_by n held ∷ left_
 left_after (Failed ∷ answers) n (held ∷ others) = left_after answers n others
 left_after (NoMemory ∷ answers) n (held ∷ others) = left_after answers n others
 left_after _ n _ = []
+
+-- each audit was told this note and gave an answer that it may give, and those that kept it are left, which hold this now
+abbrev pub TellsOwn : {B : Type 0} → (B → Option (List Note)) → (B → Note → Noted → Type 0) → List B → List (Option (List Note)) → Note → Type 0
+TellsOwn notes may_answer audits left n =
+    (answers : List Noted) × AllZip (λ audit answer. may_answer audit n answer) audits answers × (left ≡ left_after answers n (map notes audits))
 
 -- each audit was told this note and gave an answer, and those that kept it are left
 abbrev pub TellsOne : List (Option (List Note)) → List (Option (List Note)) → Note → Type 0

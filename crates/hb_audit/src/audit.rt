@@ -18,6 +18,7 @@ pub trait Audit: Drop {
     ghost use Rattle.std.specs.Prelude.{◌≡◌, ◌≤◌, ℕ, List, Option};
     ghost use Rattle.hb_base.specs.Count.{Counts};
     ghost use Rattle.hb_base.specs.declared.note.Note.{Note};
+    ghost use Rattle.hb_audit.specs.declared.audit.Noted.{Noted};
     ghost use Rattle.hb_audit.specs.Held.{held_after, has_failed};
 
     /// The notes that it holds, in the order in which they came, where it tells them.
@@ -26,8 +27,12 @@ pub trait Audit: Drop {
     /// How often it failed.
     ghost faults: { Self → ℕ };
 
+    /// Which answers it may give to a note, as it stands.
+    ghost may_answer: { Self → Note → Noted → Type 0 };
+
     /// Takes a note.
     fn note(&mut self, n: &Note) -> Noted
+        ensures own { may_answer self.old n.now result }
         ensures held { notes self.new ≡ held_after (notes self.old) n.now result }
         ensures later { faults self.old ≤ faults self.new }
         ensures counts { Counts (faults self.old) (faults self.new) (has_failed result) };

@@ -3,7 +3,7 @@
 ghost use Rattle.std.specs.Prelude.{◌≡◌, ◌+◌, [], length, map};
 ghost use Rattle.hb_audit.specs.Tells.{TellsOne};
 ghost use Rattle.hb_audit.specs.Held.{held_after};
-ghost use Rattle.hb_audit.specs.HeldBy.{held_by};
+ghost use Rattle.hb_audit.specs.HeldBy.{held_by, TellsEach};
 
 use crate::audit::{Audit, Noted};
 use hb_base::Note;
@@ -17,7 +17,8 @@ pub struct Audits {
 
 /// Tells one audit a note.
 fn tell_one(audit: &mut Box<dyn Audit>, n: &Note) -> Noted
-    ensures { notes audit.new ≡ held_after (notes audit.old) n.now result }
+    ensures own { may_answer audit.old n.now result }
+    ensures held { notes audit.new ≡ held_after (notes audit.old) n.now result }
 {
     audit.note(n)
 }
@@ -48,7 +49,8 @@ impl Audits {
 
     /// Tells each audit a note. One that did not keep it is dropped; the others stay in their order. How many were dropped.
     pub fn tell(&mut self, n: &Note) -> usize
-        ensures each { TellsOne (held_by (λ b. notes b) self.old) (held_by (λ b. notes b) self.new) n.now }
+        ensures own { TellsEach (λ b. notes b) (λ b. may_answer b) self.old self.new n.now }
+        ensures one { TellsOne (held_by (λ b. notes b) self.old) (held_by (λ b. notes b) self.new) n.now }
         ensures dropped { length (held_by (λ b. notes b) self.new) + result ≡ length (held_by (λ b. notes b) self.old) }
     {
         let mut dropped = 0;
