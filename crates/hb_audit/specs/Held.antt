@@ -1,6 +1,6 @@
 -- What an audit holds once it was told a note.
-use Rattle.std.specs.Prelude.{Bool, true, false, List, [], ◌∷◌, ◌++◌, Option}
-use Rattle.std.specs.Option.{option_map}
+use Rattle.std.specs.Prelude.{ℕ, Bool, true, false, List, [], ◌∷◌, ◌++◌, Option, slice_get}
+use Rattle.std.specs.Option.{option_map, option_and_then}
 use Rattle.hb_base.specs.declared.note.Note.{Note}
 use Rattle.hb_audit.specs.declared.audit.Noted.{Noted}
 use Rattle.hb_audit.specs.declared.audit.Noted.TheVariants.{Kept, Failed, NoMemory}
@@ -20,3 +20,7 @@ abbrev pub has_failed : Noted → Bool
 has_failed Kept = false
 has_failed Failed = true
 has_failed NoMemory = false
+
+-- the note at a place, counted from 0, where an audit tells its notes
+abbrev pub note_at : Option (List Note) → ℕ → Option Note
+note_at held place = option_and_then (λ notes. slice_get notes place) held

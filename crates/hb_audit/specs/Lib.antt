@@ -1,3 +1,4 @@
 pub mod Held
-pub mod Tells
 pub mod HeldBy
+pub mod MemAudit
+pub mod Tells

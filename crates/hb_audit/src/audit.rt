@@ -15,11 +15,11 @@ pub enum Noted {
 
 /// What keeps the notes that it is told, and counts its faults.
 pub trait Audit: Drop {
-    ghost use Rattle.std.specs.Prelude.{◌≡◌, ◌≤◌, ℕ, List, Option};
+    ghost use Rattle.std.specs.Prelude.{◌≡◌, ◌≤◌, ◌↔◌, ℕ, List, Option, Some, IsTrue};
     ghost use Rattle.hb_base.specs.Count.{Counts};
     ghost use Rattle.hb_base.specs.declared.note.Note.{Note};
     ghost use Rattle.hb_audit.specs.declared.audit.Noted.{Noted};
-    ghost use Rattle.hb_audit.specs.Held.{held_after, has_failed};
+    ghost use Rattle.hb_audit.specs.Held.{held_after, has_failed, note_at};
 
     /// The notes that it holds, in the order in which they came, where it tells them.
     ghost notes: { Self → Option (List Note) };
@@ -36,4 +36,8 @@ pub trait Audit: Drop {
         ensures held { notes self.new ≡ held_after (notes self.old) n.now result }
         ensures later { faults self.old ≤ faults self.new }
         ensures counts { Counts (faults self.old) (faults self.new) (has_failed result) };
+
+    /// Whether it tells its notes and the one at this place, counted from 0, is `n`.
+    fn holds(&self, place: usize, n: &Note) -> bool
+        ensures { IsTrue result ↔ note_at (notes self.now) place ≡ Some n.now };
 }

@@ -1,8 +1,9 @@
 //! Audits in a row, of which those that fail are dropped.
 
-ghost use Rattle.std.specs.Prelude.{◌≡◌, ◌+◌, [], length, map};
+ghost use Rattle.std.specs.Prelude.{◌≡◌, ◌+◌, ◌↔◌, [], Some, IsTrue, length, map, slice_get};
+ghost use Rattle.std.specs.Option.{option_and_then};
 ghost use Rattle.hb_audit.specs.Tells.{TellsOne};
-ghost use Rattle.hb_audit.specs.Held.{held_after};
+ghost use Rattle.hb_audit.specs.Held.{held_after, note_at};
 ghost use Rattle.hb_audit.specs.HeldBy.{held_by, TellsEach};
 
 use crate::audit::{Audit, Noted};
@@ -21,6 +22,13 @@ fn tell_one(audit: &mut Box<dyn Audit>, n: &Note) -> Noted
     ensures held { notes audit.new ≡ held_after (notes audit.old) n.now result }
 {
     audit.note(n)
+}
+
+/// Whether an audit tells its notes and the one at a place is `n`.
+fn holds_at(audit: &Box<dyn Audit>, place: usize, n: &Note) -> bool
+    ensures { IsTrue result ↔ note_at (notes audit.now) place ≡ Some n.now }
+{
+    audit.holds(place, n)
 }
 
 impl Audits {
@@ -45,6 +53,17 @@ impl Audits {
         ensures { result ≡ length (held_by (λ b. notes b) self.now) }
     {
         self.boxes.len()
+    }
+
+    /// Whether the audit at place `which` tells its notes and the one at `place` is `n`, both counted from 0. False where there is
+    /// no such audit.
+    pub fn holds(&self, which: usize, place: usize, n: &Note) -> bool
+        ensures { IsTrue result ↔ option_and_then (λ held. note_at held place) (slice_get (held_by (λ b. notes b) self.now) which) ≡ Some n.now }
+    {
+        match self.boxes.get(which) {
+            Some(audit) => holds_at(audit, place, n),
+            None => false,
+        }
     }
 
     /// Tells each audit a note. One that did not keep it is dropped; the others stay in their order. How many were dropped.

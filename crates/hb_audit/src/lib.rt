@@ -3,6 +3,9 @@
 
 mod audit;
 mod audits;
+mod mem_audit;
+mod same;
 
 pub use audit::{Audit, Noted};
 pub use audits::Audits;
+pub use mem_audit::MemAudit;

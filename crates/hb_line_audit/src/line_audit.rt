@@ -57,4 +57,9 @@ impl<K: Sink + Drop> Audit for LineAudit<K> {
             Err(_) => Noted::Failed,
         }
     }
+
+    /// False: it tells no notes.
+    fn holds(&self, _place: usize, _n: &Note) -> bool {
+        false
+    }
 }
