@@ -1,1 +1,2 @@
+mod LeftLemmas
 pub mod TellsLemmas
