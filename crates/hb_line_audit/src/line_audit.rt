@@ -25,11 +25,18 @@ impl<K> Model for LineAudit<K> {
 }
 
 impl<K: Sink + Drop> LineAudit<K> {
-    /// An audit that writes into `sink`, in which nothing is written yet.
+    /// An audit that writes into `sink`.
     pub fn over(alloc: Global, sink: K) -> LineAudit<K>
         ensures { result ≡ sink }
     {
         LineAudit { sink, alloc }
+    }
+
+    /// The sink.
+    pub fn sink(&self) -> &K
+        ensures { result.now ≡ self.now }
+    {
+        &self.sink
     }
 }
 
