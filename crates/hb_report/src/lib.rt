@@ -9,5 +9,6 @@ mod tallies;
 mod totals;
 
 pub use flags::Flags;
+pub use note::line_of;
 pub use report::put_report;
 pub use totals::{Totals, totals_of};

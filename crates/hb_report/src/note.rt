@@ -87,7 +87,10 @@ fn end_text(
     format!(in alloc; "end {link}/{stream} {cause} up {up} down {down}\n")
 }
 
-fn line_of(alloc: Global, note: &Note) -> Result<Vec<u8>, NoMemory>
+/// The line of a note, with its newline.
+///
+/// Errors: `NoMemory`.
+pub fn line_of(alloc: Global, note: &Note) -> Result<Vec<u8>, NoMemory>
     ensures { IfOk result (λ line. line.items ≡ note_line note.now) }
 {
     match note {
