@@ -6,12 +6,14 @@ folder=$1
 shift
 mkdir -p "$folder"
 cd "$folder"
-[ -e ca.pem ] || openssl req -x509 -newkey ec -pkeyopt ec_paramgen_curve:P-256 -nodes -days 30 -subj '/O=example' -keyout ca.key -out ca.pem 2> /dev/null
+new="-newkey ec -pkeyopt ec_paramgen_curve:P-256 -nodes -subj /O=example"
+[ -e ca.pem ] || openssl req -x509 $new -days 30 -keyout ca.key -out ca.pem 2> /dev/null
 for pair in "$@"; do
     name=${pair%%=*}
-    openssl req -newkey ec -pkeyopt ec_paramgen_curve:P-256 -nodes -subj "/O=example" -keyout "$name.key" -out "$name.csr" 2> /dev/null
+    openssl req $new -keyout "$name.key" -out "$name.csr" 2> /dev/null
     printf 'subjectAltName=critical,URI:%s\n' "${pair#*=}" > "$name.ext"
-    openssl x509 -req -in "$name.csr" -CA ca.pem -CAkey ca.key -CAcreateserial -days 30 -extfile "$name.ext" -out "$name.pem" 2> /dev/null
+    openssl x509 -req -in "$name.csr" -CA ca.pem -CAkey ca.key -CAcreateserial -days 30 -extfile "$name.ext" \
+        -out "$name.pem" 2> /dev/null
     rm "$name.csr" "$name.ext"
     echo "$folder/$name.pem: ${pair#*=}"
 done

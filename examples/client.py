@@ -1,11 +1,12 @@
 #!/usr/bin/python3
 """The far end of a tunnel: opens one to a target through a front, and pipes standard input and output.
 
-usage: examples/client.py --cert FILE --key FILE --ca FILE HOST:PORT TARGET
+usage: examples/client.py --as FOLDER/NAME HOST:PORT TARGET
 
-It makes mutual TLS with the front at HOST:PORT, speaks HTTP/2 on it, and asks for a tunnel to TARGET by CONNECT (RFC 9113 section 8.5).
-What standard input gives goes up, and its end ends that side; what comes down is printed. It tells the answer on standard error, and ends
-with 0 where both sides ended, 1 where the tunnel was refused, 2 where it was reset, 3 where the connection ended before.
+It makes mutual TLS with the front at HOST:PORT, with the certificate NAME.pem that examples/certificates.sh made, speaks HTTP/2 on it, and
+asks for a tunnel to TARGET, an IP:PORT, by CONNECT (RFC 9113 section 8.5). What standard input gives goes up, and its end ends that side;
+what comes down is printed. It tells the answer on standard error, and ends with 0 where both sides ended, 1 where the tunnel was refused,
+2 where it was reset, 3 where the connection ended before.
 
 Needs Debian's python3-h2: run it with /usr/bin/python3.
 """
@@ -19,7 +20,7 @@ import h2.config
 import h2.connection
 import h2.events
 
-from front import add_tls_words, identity_of, split, tls
+from front import identity_of, split, tls
 
 STREAM = 1
 
@@ -108,7 +109,7 @@ async def run(words):
 
 def main():
     words = argparse.ArgumentParser(description=__doc__, formatter_class=argparse.RawDescriptionHelpFormatter)
-    add_tls_words(words)
+    words.add_argument("--as", dest="own", required=True)
     words.add_argument("at")
     words.add_argument("target")
     raise SystemExit(asyncio.run(run(words.parse_args())))

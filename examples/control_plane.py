@@ -142,10 +142,10 @@ def identity(message_bytes):
 class Plane:
     """A server at an address: `resources` has, of each type, the records by name; `waits` the nonces that no node has answered yet."""
 
-    def __init__(self, at, tell=print):
+    def __init__(self, at, tell=print, options=()):
         self.tell, self.lock = tell, threading.Condition()
         self.resources, self.streams, self.waits, self.refusals, self.sent = {kind: {} for kind in KINDS}, [], set(), [], 0
-        self.server = grpc.server(ThreadPoolExecutor(64), options=[("grpc.so_reuseport", 0)])
+        self.server = grpc.server(ThreadPoolExecutor(64), options=[("grpc.so_reuseport", 0), *options])
         handler = grpc.stream_stream_rpc_method_handler(self.stream, request_deserializer=identity, response_serializer=identity)
         self.server.add_generic_rpc_handlers((grpc.method_handlers_generic_handler(SERVICE, {METHOD: handler}),))
         if not self.server.add_insecure_port(at):
@@ -165,7 +165,7 @@ class Plane:
     def settled(self, seconds=10):
         """Whether each response was answered by then."""
         with self.lock:
-            return self.lock.wait_for(lambda: self.sent and not self.waits, seconds)
+            return self.lock.wait_for(lambda: self.sent >= len(KINDS) and not self.waits, seconds)
 
     def listen(self, requests, events):
         try:

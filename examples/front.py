@@ -1,11 +1,12 @@
 #!/usr/bin/python3
 """A front for hbone: ends mutual TLS, and writes the header that tells the peer in front of the bytes.
 
-usage: examples/front.py --cert FILE --key FILE --ca FILE [--idle SECONDS] [--connections COUNT] HOST:PORT PROXY_HOST:PROXY_PORT
+usage: examples/front.py --as FOLDER/NAME [--idle SECONDS] [--connections COUNT] HOST:PORT PROXY_HOST:PROXY_PORT
 
-It listens at HOST:PORT, takes the peer's identity from the one URI of its certificate, dials hbone's inbound door, and writes the header
-that docs/FORMATS.md describes under "The header before a connection": where the connection came from, where it went to, and the identity.
-Behind it bytes go both ways as they come. Where one side ends, the other one is ended; hbone closes a connection whose peer ended.
+It listens at HOST:PORT with the certificate NAME.pem and its key NAME.key, and takes peers whose certificate ca.pem beside them signed, as
+examples/certificates.sh makes them. It takes the peer's identity from the one URI of its certificate, dials hbone's inbound door, and
+writes the header that docs/FORMATS.md describes under "The header before a connection": where the connection came from, where it went to,
+and the identity. Behind it bytes go both ways as they come. Where one side ends, the other one is ended.
 
 hbone has no time limits, so the front has them: a handshake has 10 seconds, a connection on which nothing moved for --idle seconds (600)
 is ended, the kernel looks for peers that vanished (TCP keep-alive), and at most --connections (1000) are open.
@@ -15,6 +16,7 @@ A short example, and no more: Python's event loop and TLS carry some hundred MB 
 
 import argparse
 import asyncio
+import pathlib
 import socket
 import ssl
 import struct
@@ -126,15 +128,10 @@ def tls(words, side):
     context.minimum_version = ssl.TLSVersion.TLSv1_3
     context.check_hostname = False
     context.verify_mode = ssl.CERT_REQUIRED
-    context.load_cert_chain(words.cert, words.key)
-    context.load_verify_locations(words.ca)
+    context.load_cert_chain(f"{words.own}.pem", f"{words.own}.key")
+    context.load_verify_locations(pathlib.Path(words.own).with_name("ca.pem"))
     context.set_alpn_protocols(["h2"])
     return context
-
-
-def add_tls_words(words):
-    for name in ("--cert", "--key", "--ca"):
-        words.add_argument(name, required=True)
 
 
 async def serve(words):
@@ -148,7 +145,7 @@ async def serve(words):
 
 def main():
     words = argparse.ArgumentParser(description=__doc__, formatter_class=argparse.RawDescriptionHelpFormatter)
-    add_tls_words(words)
+    words.add_argument("--as", dest="own", required=True)
     words.add_argument("--idle", type=float, default=600)
     words.add_argument("--connections", type=int, default=1000)
     words.add_argument("at")

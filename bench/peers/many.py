@@ -1,10 +1,11 @@
 """Many streams, tunnels and connections, and few descriptors."""
 
+import time
+
 import h2.settings
 
-from case import NO_ERROR, REFUSED_STREAM, answer_of, calm, case, says
-from peers import HERE, Fault, Peer, echo, until, wanted
-
+from case import CANCEL, NO_ERROR, REFUSED_STREAM, answer_of, calm, case, says
+from peers import HERE, OTHER, Fault, Peer, echo, mesh, silent, until, wanted
 
 MOST_STREAMS = 100
 
@@ -41,6 +42,27 @@ def the_tunnels_that_may_be(room):
     peer.send(streams[0], b"", end=True)
     peer.pump(lambda: streams[0] in peer.ended, "END_STREAM")
     says(other, other.tunnel(up.port), b"hello")
+
+
+@case
+def the_4097th_tunnel(room):
+    """4,096 tunnels over 41 connections; the next gets 503. An update that refuses their peer resets all of them with CANCEL."""
+    room.start()
+    up = room.upstream(silent)
+    peers = [room.peer() for _ in range(41)]
+    for at, peer in enumerate(peers):
+        for _ in range(min(MOST_STREAMS, 4096 - at * MOST_STREAMS)):
+            peer.connect(f"{HERE}:{up.port}")
+        peer.pump(lambda: all(peer.answered(it) for it in peer.came), "answers", 60)
+    wanted("tunnels", sum(status == 200 for peer in peers for status in peer.status.values()), 4096)
+    wanted("the next", answer_of(peers[-1], peers[-1].connect(f"{HERE}:{up.port}")), (503, NO_ERROR))
+    begun = time.monotonic()
+    room.update(mesh(OTHER))
+    for peer in peers:
+        peer.pump(lambda: all(peer.closed(it) for it in peer.came), "resets", 60)
+    took = time.monotonic() - begun
+    wanted("resets", sum(code == CANCEL for peer in peers for code in peer.reset.values()), 4096)
+    return f"all reset within {took:.2f} s"
 
 
 @case

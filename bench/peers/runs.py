@@ -1,5 +1,6 @@
 """How a run ends."""
 
+import signal
 import socket
 import time
 
@@ -65,3 +66,16 @@ def a_signal(room):
     wanted("the status", room.proxy.end(), -15)
     wanted("what is told", room.proxy.told(), "")
     until("an end at the upstream", lambda: up.one().ended)
+
+
+@case
+def stopped_and_continued(room):
+    """SIGSTOP and SIGCONT, amid a wait: it goes on."""
+    room.start()
+    peer, up = room.peer(), room.upstream(echo)
+    stream = peer.tunnel(up.port)
+    for _ in range(3):
+        room.proxy.process.send_signal(signal.SIGSTOP)
+        time.sleep(0.2)
+        room.proxy.process.send_signal(signal.SIGCONT)
+        says(peer, stream, b"hello")
