@@ -82,9 +82,9 @@ def workload(name, namespace, ips, node, listed, *more):
     )
 
 
-def resource(type_url, name, value, more=b""):
-    """The field of a response with a resource of version 1, which has more fields."""
-    return span(2, span(1, "1") + span(2, span(1, type_url) + span(2, value)) + span(3, name) + more)
+def resource(type_url, name, value, more=b"", version="1"):
+    """The field of a response with a resource, which has more fields."""
+    return span(2, span(1, version) + span(2, span(1, type_url) + span(2, value)) + span(3, name) + more)
 
 
 def grpc(message):
@@ -104,8 +104,8 @@ def policies(*resources):
     return response(AUTHORIZATION, resources)
 
 
-def spans(message):
-    """The length-delimited fields of a message, by number; the last of a number counts."""
+def fields_of(message):
+    """The length-delimited fields of a message, each with its number, in order."""
 
     def varint_at(at):
         n = shift = 0
@@ -115,18 +115,22 @@ def spans(message):
             if message[at - 1] < 128:
                 return n, at
 
-    found, at = {}, 0
+    at = 0
     while at < len(message):
         tag, at = varint_at(at)
         if tag % 8 == 2:
             size, at = varint_at(at)
-            found[tag // 8] = message[at : at + size]
+            yield tag // 8, message[at : at + size]
             at += size
         elif tag % 8 == 0:
             _, at = varint_at(at)
         else:
             at += 8 if tag % 8 == 1 else 4
-    return found
+
+
+def spans(message):
+    """The length-delimited fields of a message, by number; the last of a number counts."""
+    return dict(fields_of(message))
 
 
 def shown(messages):

@@ -1,0 +1,81 @@
+"""How a run ends."""
+
+import signal
+import socket
+import time
+
+from case import case, payload, says
+from peers import HERE, OTHER, Proxy, echo, mesh, until, wanted
+
+
+@case
+def ticks(room):
+    """`--ticks 3` ends by itself in three seconds or so, with status 0 and the total line."""
+    room.control()
+    begun = time.monotonic()
+    room.serve("--ticks", "3")
+    wanted("the status", room.proxy.process.wait(10), 0)
+    took = time.monotonic() - begun
+    wanted("three seconds", 2.5 < took < 4, True)
+    wanted("the total line", room.proxy.told().splitlines()[-1:], ["total: 1 links, 0 accepted, 0 revoked, 0 up, 0 down"])
+
+
+@case
+def totals(room):
+    """The total line counts links, tunnels that were let in, those that were revoked, and the bytes both ways."""
+    room.control()
+    room.serve("--ticks", "4")
+    room.settle()
+    up, peer = room.upstream(echo), room.peer()
+    stream, other = peer.tunnel(up.port), peer.tunnel(up.port)
+    says(peer, stream, payload(1000))
+    says(peer, other, payload(500))
+    peer.send(stream, b"", end=True)
+    peer.pump(lambda: stream in peer.ended, "END_STREAM")
+    room.update(mesh(OTHER))
+    peer.pump(lambda: peer.closed(other), "a reset")
+    wanted("the status", room.proxy.process.wait(10), 0)
+    wanted("the total line", room.proxy.told().splitlines()[-1:], ["total: 4 links, 2 accepted, 1 revoked, 1500 up, 1500 down"])
+
+
+@case
+def turns(room):
+    """`--turns 5` ends with status 5 and the total line."""
+    room.control()
+    room.proxy = Proxy(room.program, room.discovery, ["--turns", "5"])
+    wanted("the status", room.proxy.process.wait(10), 5)
+    wanted("what is told", room.proxy.told().splitlines()[-1:], ["hbone: turns spent"])
+
+
+@case
+def a_port_that_is_taken(room):
+    """Status 4 where the door's port is taken."""
+    room.control()
+    with socket.create_server((HERE, 0)) as taken:
+        proxy = Proxy(room.program, room.discovery, inbound=taken.getsockname()[1])
+        wanted("the status", proxy.process.wait(10), 4)
+        wanted("what is told", proxy.told().splitlines()[-1:], ["hbone: world fault"])
+
+
+@case
+def a_signal(room):
+    """SIGTERM ends it at once, without a total line."""
+    room.start()
+    peer, up = room.peer(), room.upstream(echo)
+    says(peer, peer.tunnel(up.port), b"hello")
+    wanted("the status", room.proxy.end(), -15)
+    wanted("what is told", room.proxy.told(), "")
+    until("an end at the upstream", lambda: up.one().ended)
+
+
+@case
+def stopped_and_continued(room):
+    """SIGSTOP and SIGCONT, amid a wait: it goes on."""
+    room.start()
+    peer, up = room.peer(), room.upstream(echo)
+    stream = peer.tunnel(up.port)
+    for _ in range(3):
+        room.proxy.process.send_signal(signal.SIGSTOP)
+        time.sleep(0.2)
+        room.proxy.process.send_signal(signal.SIGCONT)
+        says(peer, stream, b"hello")
