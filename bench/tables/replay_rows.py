@@ -657,4 +657,5 @@ def main():
     table("USAGE", "The forms of accepted words, which are told behind each reason.", [model.USAGE[1:]])
 
 
-main()
+if __name__ == "__main__":
+    main()
