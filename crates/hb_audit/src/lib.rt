@@ -3,6 +3,7 @@
 
 mod audit;
 mod audits;
+mod boxed;
 mod laws;
 mod mem_audit;
 mod same;

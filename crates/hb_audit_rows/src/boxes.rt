@@ -24,7 +24,7 @@ fn audit(alloc: Global, number: u64, room: usize, fail: Option<u64>) -> MemAudit
 }
 
 /// Whether the audit at a place holds the note of its number, the four that were told, and no other.
-fn holds_all(audits: &Audits, which: usize, number: u64) -> bool {
+fn holds_all<A: Audit>(audits: &Audits<A>, which: usize, number: u64) -> bool {
     audits.holds(which, 0, &end(number))
         && audits.holds(which, 1, &end(1))
         && audits.holds(which, 2, &end(2))
@@ -32,6 +32,17 @@ fn holds_all(audits: &Audits, which: usize, number: u64) -> bool {
         && audits.holds(which, 4, &end(4))
         && !audits.holds(which, 5, &end(4))
         && !audits.holds(which, 0, &end(1))
+}
+
+/// Four notes are told; an audit is dropped at the call of number `at`.
+fn tell_four<A: Audit>(rt: &impl Abort, audits: &mut Audits<A>, at: u64) {
+    for link in 1..5u64 {
+        let dropped = audits.tell(&end(link));
+        assert!(rt;
+            dropped == usize::from(link + 1 == at),
+            "{dropped} dropped at {link}, not at {at}"
+        );
+    }
 }
 
 /// Of three audits, of numbers 10 to 12, the one of number `which` fails at its call of number `at`; the first call has told each its
@@ -45,13 +56,7 @@ fn fails_once(rt: &impl Abort, alloc: Global, which: u64, at: u64) {
         boxes.push(audit).ok().expect(rt, "memory");
     }
     let mut audits = Audits::over(boxes);
-    for link in 1..5u64 {
-        let dropped = audits.tell(&end(link));
-        assert!(rt;
-            dropped == usize::from(link + 1 == at),
-            "{which} fails at {at}: {dropped} at {link}"
-        );
-    }
+    tell_four(rt, &mut audits, at);
     let first = if which == 10 { 11 } else { 10 };
     let last = if which == 12 { 11 } else { 12 };
     assert!(rt;
@@ -100,9 +105,7 @@ fn an_audit_without_room_is_dropped(rt: HostRuntime) {
 
 #[test]
 fn no_audit_is_told_nothing(rt: HostRuntime) {
-    let mut audits = Audits::none(rt.alloc());
-    assert!(rt;
-        audits.tell(&end(1)) == 0 && audits.len() == 0,
-        "there is none"
-    );
+    let mut audits = Audits::<MemAudit>::none(rt.alloc());
+    tell_four(&rt, &mut audits, 6);
+    assert!(rt; audits.len() == 0, "there is none");
 }

@@ -6,13 +6,13 @@ use Rattle.hb_audit.proofs.audits.Audits.tell.Given as goal
 abbrev pub invariant-loop-at : goal.invariant-loop-at
 invariant-loop-at g l =
     record {
-      told : TellsOwn (λ b. (goal.Audit-dyn g (b.vtable, b.value)).notes b.value) (λ b. (goal.Audit-dyn g (b.vtable, b.value)).may_answer b.value)
-          (take (l.at + l.dropped) l.initial.self.boxes.items)
-          (map (λ b. (goal.Audit-dyn g (b.vtable, b.value)).notes b.value) (take l.at l.self.boxes.items)) l.n;
-      rest : drop l.at l.self.boxes.items ≡ drop (l.at + l.dropped) l.initial.self.boxes.items;
-      within : l.at ≤ length l.self.boxes.items;
-      all : length l.self.boxes.items + l.dropped ≡ length l.initial.self.boxes.items;
+      told : TellsOwn g.A.Audit.notes g.A.Audit.may_answer
+          (take (l.at + l.dropped) l.initial.self.audits.items)
+          (map g.A.Audit.notes (take l.at l.self.audits.items)) l.n;
+      rest : drop l.at l.self.audits.items ≡ drop (l.at + l.dropped) l.initial.self.audits.items;
+      within : l.at ≤ length l.self.audits.items;
+      all : length l.self.audits.items + l.dropped ≡ length l.initial.self.audits.items;
     }
 
 abbrev pub decreases-loop-at : goal.decreases-loop-at
-decreases-loop-at g l = length l.self.boxes.items - l.at
+decreases-loop-at g l = length l.self.audits.items - l.at
