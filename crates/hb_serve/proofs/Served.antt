@@ -8,17 +8,21 @@ use Rattle.hb_model.specs.declared.config.NodeConfig.{NodeConfig}
 use Rattle.hb_model.proofs.Inner.{over_is}
 use Rattle.hb_proxy.proofs.Projection.{control_runs}
 use Rattle.hb_proxy.specs.Points.{Point, control_of}
+use Rattle.hb_proxy.specs.Settled.{SettledAt, SettledIn, SettledLaw}
 use Rattle.hb_turns.specs.Served as turns
+use Rattle.hb_turns.specs.Settled as rests
 use Rattle.hb_turns.specs.declared.served.Served.{Served}
 use Rattle.hb_turns.specs.declared.served.ServeEnd.{ServeEnd}
 use Rattle.hb_turns.specs.declared.served.ServeEnd.TheVariants as ends
 use Rattle.hb_turns.specs.declared.served.Totals.{Totals}
 use Rattle.hb_turns.specs.declared.words.ServeWords.{ServeWords as LoopWords}
+use Rattle.hb_whole.proofs.Settling.{settled_in}
 use Rattle.hb_whole.specs.Queue.{told, waiting_in}
 use Rattle.hb_whole.specs.Sight.{shown_of}
 use Rattle.hb_whole.specs.Stands as whole
 use Rattle.hb_whole.specs.declared.proxy.Proxy.{Proxy}
 use Rattle.hb_world.specs.declared.entry.Entry.{Entry}
+use Rattle.hb_world.specs.declared.entry.Entry.TheVariants as e
 use Rattle.hb_serve.specs.Lawful.{GoesOn}
 use Rattle.hb_serve.specs.Served.{StandsAs, AreLawful, HasNotes, IsServed, IsTotalled, Serves, words_of}
 use Rattle.hb_serve.specs.declared.words.ServeWords.{ServeWords}
@@ -70,10 +74,21 @@ totalled g keep totals trace t =
       totals_are = t.totals_are;
     }
 
+-- at a wait
+settled_at : (g : NodeConfig) (before : List Entry) (z : Entry) → rests.SettledAt (StandsAs g) shown_of before z → SettledAt g before z
+settled_at g before (e.Wait ready how) s =
+    subst (λ (h : NodeConfig). SettledIn h before) s.stands_for.1
+    (settled_in s.notes s.node before s.stands_for.0 (s.going, s.idle) s.links s.doors)
+settled_at g before z s = tt
+
+settled : (g : NodeConfig) (trace : List Entry) → rests.SettledLaw (StandsAs g) shown_of trace → SettledLaw g trace
+settled g trace law before z after is = settled_at g before z (law before z after is)
+
 serves : (words : ServeWords) (served : Served) (keep : Option (List Note)) (trace : List Entry)
     → turns.IsServed (StandsAs words.config) shown_of (words_of words) served keep trace → IsServed words served keep trace
 serves words served keep trace run = record {
   run = run;
+  settled = settled words.config trace run.settled;
   lawful = are_lawful words.config served.end run.over.before run.over.stood_for;
   noted = λ ends kept. totalled words.config keep served.totals trace (run.noted ends kept);
 }

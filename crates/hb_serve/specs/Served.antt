@@ -5,6 +5,7 @@ use Rattle.hb_base.specs.declared.note.Note.{Note}
 use Rattle.hb_base.specs.declared.target.Target.{Target}
 use Rattle.hb_links.specs.Reaches.{notes as notes_of}
 use Rattle.hb_model.specs.declared.config.NodeConfig.{NodeConfig}
+use Rattle.hb_proxy.specs.Settled.{SettledLaw}
 use Rattle.hb_turns.specs.Notes.{Holds}
 use Rattle.hb_turns.specs.Served as turns
 use Rattle.hb_turns.specs.Totals.{totals_of, no_totals}
@@ -57,6 +58,8 @@ pub record IsServed (words : ServeWords) (served : Served) (keep : Option (List 
   -- what the event loop says of it: the trace obeys the awake law and the settled law, at its end no link lives; how it ended, how many
   -- links were born, how many dialled ones an update of the policies closed, and whether one was closed for want of memory
   pub run : turns.IsServed (StandsAs words.config) shown_of (words_of words) served keep trace
+  -- at each wait the machine is settled: nothing is left to be done but what sleeps
+  pub settled : SettledLaw words.config trace
   -- in front of the closes at its end the trace is lawful
   pub lawful : AreLawful words.config served.end run.over.before
   -- unless memory lacked, the notes that are kept are all that there are, and the totals are those of the trace and of all its notes
