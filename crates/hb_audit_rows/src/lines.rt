@@ -32,10 +32,17 @@ fn end(cause: Cause, up: u64, down: u64) -> Note {
     }
 }
 
+/// An audit over a sink that has room for so many bytes.
+fn audit(rt: &impl Abort, alloc: Global, room: usize) -> LineAudit<Drip> {
+    LineAudit::over(alloc, Drip::new(alloc, room))
+        .ok()
+        .expect(rt, "memory")
+}
+
 /// The line is written whole where the sink has room for it, and else as far as there is room.
 fn assert_line(rt: &impl Abort, alloc: Global, n: &Note, line: &str) {
     for room in 0..line.len() {
-        let mut audit = LineAudit::over(alloc, Drip::new(alloc, room));
+        let mut audit = audit(rt, alloc, room);
         assert!(rt;
             matches!(audit.note(n), Noted::Failed),
             "room for {room}: {line}"
@@ -45,7 +52,7 @@ fn assert_line(rt: &impl Abort, alloc: Global, n: &Note, line: &str) {
             "room for {room}: {line}"
         );
     }
-    let mut audit = LineAudit::over(alloc, Drip::new(alloc, line.len()));
+    let mut audit = audit(rt, alloc, line.len());
     assert!(rt; matches!(audit.note(n), Noted::Kept), "{line}");
     assert!(rt; audit.sink().as_slice() == line.as_bytes(), "{line}");
 }
@@ -80,10 +87,30 @@ fn ends_have_their_lines(rt: HostRuntime) {
 #[test]
 fn lines_follow_each_other(rt: HostRuntime) {
     let alloc = rt.alloc();
-    let mut audit = LineAudit::over(alloc, Drip::new(alloc, 200));
+    let mut audit = audit(&rt, alloc, 200);
     let _ = audit.note(&end(Cause::Revoked, 1, 2));
     let _ = audit.note(&end(Cause::Done, 3, 4));
     let line = "end 18446744073709551615/2147483647 revoked up 1 down 2\n\
 end 18446744073709551615/2147483647 done up 3 down 4\n";
     assert!(rt; audit.sink().as_slice() == line.as_bytes(), "two lines");
+}
+
+#[test]
+fn a_line_beyond_512_octets_is_written_whole(rt: HostRuntime) {
+    let alloc = rt.alloc();
+    let mut identity = String::from_str(alloc, "spiffe://td/ns/").expect(&rt, "memory");
+    for _ in 0..100u32 {
+        let _ = identity.push_str("longer");
+    }
+    let _ = identity.push_str("/sa/b");
+    let mut line = String::from_str(alloc, "verdict 3/1 503 ::1 td/ns/").expect(&rt, "memory");
+    for _ in 0..100u32 {
+        let _ = line.push_str("longer");
+    }
+    let _ = line.push_str("/sa/b -\n");
+    let words = ("::1", identity.as_str(), "");
+    let note = verdict(&rt, alloc, 503, words);
+    let mut audit = audit(&rt, alloc, 2000);
+    assert!(rt; matches!(audit.note(&note), Noted::Kept), "it is kept");
+    assert!(rt; audit.sink().as_slice() == line.as_bytes(), "it is whole");
 }

@@ -7,15 +7,19 @@ ghost use Rattle.hb_line_audit.specs.Line.{WritesLine};
 
 use hb_audit::{Audit, Noted};
 use hb_base::{NoMemory, Note, Sink, put_all};
-use hb_report::line_of;
+use hb_report::add_note;
 use std::alloc::Global;
 use std::marker::Model;
 
-/// Writes the line of each note into a sink, and tells no notes. It fails exactly where the sink does. Contracts see the sink.
+/// How many bytes a line may have for which no memory is taken.
+const LINE: usize = 512;
+
+/// Writes the line of each note into a sink, by one `put_all`, and tells no notes. It fails exactly where the sink does. A line of up
+/// to 512 bytes takes no memory; the memory that a longer one took is kept for the next. Contracts see the sink.
 #[derive(Drop)]
 pub struct LineAudit<K> {
     sink: K,
-    alloc: Global,
+    line: String,
 }
 
 impl<K> Model for LineAudit<K> {
@@ -25,11 +29,14 @@ impl<K> Model for LineAudit<K> {
 }
 
 impl<K: Sink + Drop> LineAudit<K> {
-    /// An audit that writes into `sink`.
-    pub fn over(alloc: Global, sink: K) -> LineAudit<K>
-        ensures { result ≡ sink }
+    /// An audit that writes into `sink`, with memory for a line.
+    ///
+    /// Errors: `NoMemory`, and then the sink is dropped.
+    pub fn over(alloc: Global, sink: K) -> Result<LineAudit<K>, NoMemory>
+        ensures { IfOk result (λ audit. audit ≡ sink) }
     {
-        LineAudit { sink, alloc }
+        let line = String::with_capacity(alloc, LINE)?;
+        Ok(LineAudit { sink, line })
     }
 
     /// The sink.
@@ -56,10 +63,11 @@ impl<K: Sink + Drop> Audit for LineAudit<K> {
         ensures counts { Counts (K.faults self.old) (K.faults self.new) (has_failed result) }
         ensures line { WritesLine (K.written self.old) (K.written self.new) n.now result }
     {
-        let Ok(line) = line_of(self.alloc, n) else {
+        self.line.clear();
+        if add_note(n, &mut self.line).is_err() {
             return Noted::NoMemory;
-        };
-        match put_all(&mut self.sink, line.as_slice()) {
+        }
+        match put_all(&mut self.sink, self.line.as_bytes()) {
             Ok(()) => Noted::Kept,
             Err(_) => Noted::Failed,
         }

@@ -9,6 +9,6 @@ mod tallies;
 mod totals;
 
 pub use flags::Flags;
-pub use note::line_of;
+pub use note::add_note;
 pub use report::put_report;
 pub use totals::{Totals, totals_of};
