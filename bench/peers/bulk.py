@@ -43,6 +43,17 @@ def each_stream_gets_on(room):
 
 
 @case
+def bytes_before_the_answer(room):
+    """A peer that sends 65,535 bytes and an end behind its request, before it is answered: all come back."""
+    room.start()
+    peer, up = room.peer().join(), room.upstream(echo)
+    stream = peer.connect(f"{HERE}:{up.port}")
+    peer.send(stream, payload(65_535), end=True)
+    peer.pump(lambda: stream in peer.ended, "END_STREAM")
+    wanted("what came back", (peer.status[stream], bytes(peer.came[stream]) == payload(65_535)), (200, True))
+
+
+@case
 def one_octet_at_a_time(room):
     """A peer that sends an octet a packet and reads one a call, its header too: the same bytes."""
     room.start()

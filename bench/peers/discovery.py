@@ -153,6 +153,38 @@ def a_bad_resource(room):
 
 
 @case
+def updates_that_leave_a_tunnel(room):
+    """200 updates that change other workloads and policies, amid bytes: no tunnel that stays admitted is touched."""
+    room.start()
+    up, peer = room.upstream(echo), room.peer()
+    stream = peer.tunnel(up.port)
+    for at in range(200):
+        room.plane.set(mesh(CALLER, f"{OTHER}{at}", workloads=[workload(f"10.0.0.{at}", f"w{at}")]))
+        says(peer, stream, payload(1000))
+    room.settle()
+    says(peer, stream, payload(1000))
+
+
+@case
+def a_response_that_is_cut(room):
+    """A control plane that ends amid a response of 5,000 workloads: nothing of it counts, and all of it once it comes whole."""
+    room.start()
+    up, peer = room.upstream(echo), room.peer()
+    stream = peer.tunnel(up.port)
+    more = [workload(f"10.1.{at >> 8}.{at & 255}", f"w{at}", policies=[]) for at in range(5000)]
+    resources = mesh(CALLER, workloads=[*more, workload("127.0.0.77", "last", policies=[])])
+    room.plane.set(resources)
+    until("the response", lambda: len(room.lines) == 3)
+    room.plane.stop()
+    says(peer, stream, b"hello")
+    room.control(resources)
+    room.settle()
+    says(peer, stream, b"hello")
+    far = room.peer(destination="127.0.0.77")
+    wanted("the answer of the last", answer_of(far, far.connect("127.0.0.77:1")), (502, NO_ERROR))
+
+
+@case
 def twenty_thousand_workloads(room):
     """A response of 20,000 workloads while bytes go both ways: no byte is lost, and the last of them is known."""
     room.start()
@@ -160,6 +192,7 @@ def twenty_thousand_workloads(room):
     stream = peer.tunnel(up.port)
     more = [workload(f"10.{at >> 16}.{at >> 8 & 255}.{at & 255}", f"w{at}", policies=[]) for at in range(1, 20_000)]
     more.append(workload("127.0.0.77", "last", policies=[]))
+    before = room.proxy.cpu()
     sender = threading.Thread(target=room.update, args=(mesh(CALLER, workloads=more),), daemon=True)
     sender.start()
     longest = 0
@@ -167,6 +200,7 @@ def twenty_thousand_workloads(room):
         begun = time.monotonic()
         says(peer, stream, payload(100_000))
         longest = max(longest, time.monotonic() - begun)
+    took = room.proxy.cpu() - before
     far = room.peer(destination="127.0.0.77")
     wanted("the answer of the last", answer_of(far, far.connect("127.0.0.77:1")), (502, NO_ERROR))
-    return f"longest round of 100,000 bytes {longest:.2f} s"
+    return f"longest round of 100,000 bytes {longest:.2f} s, processor time of all {took:.2f} s, memory {room.proxy.memory():.0f} MB"

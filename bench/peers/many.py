@@ -55,6 +55,7 @@ def the_4097th_tunnel(room):
             peer.connect(f"{HERE}:{up.port}")
         peer.pump(lambda: all(peer.answered(it) for it in peer.came), "answers", 60)
     wanted("tunnels", sum(status == 200 for peer in peers for status in peer.status.values()), 4096)
+    memory = room.proxy.memory()
     wanted("the next", answer_of(peers[-1], peers[-1].connect(f"{HERE}:{up.port}")), (503, NO_ERROR))
     begun = time.monotonic()
     room.update(mesh(OTHER))
@@ -62,7 +63,7 @@ def the_4097th_tunnel(room):
         peer.pump(lambda: all(peer.closed(it) for it in peer.came), "resets", 60)
     took = time.monotonic() - begun
     wanted("resets", sum(code == CANCEL for peer in peers for code in peer.reset.values()), 4096)
-    return f"all reset within {took:.2f} s"
+    return f"all reset within {took:.2f} s, memory of all tunnels {memory:.0f} MB"
 
 
 @case
@@ -80,9 +81,11 @@ def a_thousand_connections(room):
         peer.pump(lambda: len(peer.came[stream]) == len(b"%d" % id(peer)), "its own bytes", 30)
         wanted("its own bytes", bytes(peer.came[stream]), b"%d" % id(peer))
     wanted("descriptors", room.proxy.descriptors(), before + 2000)
+    memory = room.proxy.memory()
     for peer in peers:
         peer.close()
     until("all are closed", lambda: room.proxy.descriptors() == before)
+    return f"memory of all {memory:.0f} MB"
 
 
 def tries(room, up):

@@ -395,8 +395,8 @@ class Room:
         self.settle()
 
     def settle(self):
-        if not self.plane.settled():
-            raise Fault("the control plane's responses weren't answered within 10 s")
+        if not self.plane.settled(60):
+            raise Fault("the control plane's responses weren't answered within 60 s")
 
     def update(self, resources):
         """Sends other resources, until they are applied."""
