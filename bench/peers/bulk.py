@@ -27,7 +27,7 @@ def bulk_up_and_down(room):
 
 @case
 def each_stream_gets_on(room):
-    """8 streams whose upstreams send as fast as they may: while the first has 10 MB, each other one got something too."""
+    """8 streams whose upstreams send as fast as they may: of 10 MB each stream gets at least half of its part."""
     room.start()
 
     def pour(taken):
@@ -36,9 +36,9 @@ def each_stream_gets_on(room):
 
     peer, up = room.peer(), room.upstream(pour)
     streams = [peer.tunnel(up.port) for _ in range(8)]
-    peer.pump(lambda: max(len(peer.came[it]) for it in streams) > 10_000_000, "10 MB", 60)
-    least, most = (pick(len(peer.came[it]) for it in streams) for pick in (min, max))
-    if least * 10 < most:
+    peer.pump(lambda: sum(len(peer.came[it]) for it in streams) > 10_000_000, "10 MB", 60)
+    least = min(len(peer.came[it]) for it in streams)
+    if least < 10_000_000 // 16:
         raise Fault(f"bytes by stream: {[len(peer.came[it]) for it in streams]}")
 
 
