@@ -925,7 +925,7 @@ class Run:
     def run(self):
         self.dial()
         end = "turns spent"
-        for _ in range(min(self.asked.get("turns", 10**12), 10**7)):
+        for _ in range(min(self.asked.get("turns", 2**64 - 1), 10**7)):
             if self.link and self.is_tried:
                 is_moved = self.round()
                 self.is_tried = self.is_worth() if self.choice.lists else is_moved

@@ -180,7 +180,7 @@ run_by s =
       network = unwrap_or s.network [];
       hbone_port = unwrap_or s.hbone_port 15008;
       tunnels = unwrap_or s.tunnels 4096;
-      turns = unwrap_or s.turns 1000000000000;
+      turns = unwrap_or s.turns 18446744073709551615;
     }))))
 
 -- what the command asks of such a run

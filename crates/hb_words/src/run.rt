@@ -90,7 +90,7 @@ fn run_by<'a>(settings: Settings<'a>) -> Result<RunWords<'a>, RunFault>
         network: settings.network.unwrap_or(""),
         hbone_port: settings.hbone_port.unwrap_or(15008),
         tunnels: settings.tunnels.unwrap_or(4096),
-        turns: settings.turns.unwrap_or(1_000_000_000_000),
+        turns: settings.turns.unwrap_or(u64::MAX),
     })
 }
 
