@@ -53,7 +53,7 @@ fn serve_asked<G: Given, W: World>(
         Ok(node) => run(alloc, node, asked, keep, world),
         Err(_) => Served {
             end: ServeEnd::NoMemory,
-            totals: Totals { links: 0 },
+            totals: Totals::none(),
             wanting: false,
             unkept: false,
         },
