@@ -28,22 +28,27 @@ pub const NOTHING_FAILS: Failing = Failing {
 };
 
 /// The room of the error text.
-const ERR_ROOM: usize = 1024;
+pub const ERR_ROOM: usize = 1024;
 
 fn push_word(rt: &impl Abort, alloc: Global, words: &mut Vec<String>, word: &str) {
     let word = String::from_str(alloc, word).expect(rt, "memory");
     words.push(word).expect(rt, "memory");
 }
 
-/// The words of a program that is to replay, with blanks between those behind the command.
-pub fn replay_words(rt: &impl Abort, alloc: Global, text: &str) -> Vec<String> {
+/// The words of a program, with blanks between those behind the command.
+pub fn words_behind(rt: &impl Abort, alloc: Global, command: &str, text: &str) -> Vec<String> {
     let spelled = spelled(rt, alloc, text);
     let mut words = Vec::new(alloc);
-    push_word(rt, alloc, &mut words, "replay");
+    push_word(rt, alloc, &mut words, command);
     for word in text_of(spelled.as_slice()).split(' ') {
         push_word(rt, alloc, &mut words, word);
     }
     words
+}
+
+/// The words of a program that is to replay.
+pub fn replay_words(rt: &impl Abort, alloc: Global, text: &str) -> Vec<String> {
+    words_behind(rt, alloc, "replay", text)
 }
 
 /// A run over memory, some of whose calls fail: its status, its output and its error text, with `; ` between.
@@ -51,14 +56,15 @@ pub fn told_of(
     rt: &impl Abort,
     alloc: Global,
     words: &[String],
-    script: &[u8],
+    text: &[u8],
     failing: Failing,
 ) -> String {
-    let mut source = MemSource::over(alloc, script, &[failing.take]).expect(rt, "memory");
+    let mut source = MemSource::over(alloc, text, &[failing.take]).expect(rt, "memory");
     let mut out = MemSink::new(alloc, failing.room, &[failing.put]).expect(rt, "memory");
     let mut err = MemSink::new(alloc, ERR_ROOM, &[0]).expect(rt, "memory");
     let mut keep = Keep::all(alloc);
     let mut world = ScriptWorld::new(alloc);
+    let mut script = ScriptWorld::new(alloc);
     let status = run(
         alloc,
         words,
@@ -67,6 +73,7 @@ pub fn told_of(
         &mut err,
         &mut keep,
         &mut world,
+        &mut script,
     );
     let output = text_of(out.as_slice());
     let error = text_of(err.as_slice());
