@@ -23,10 +23,10 @@ use Rattle.hb_whole.specs.Stands as whole
 use Rattle.hb_whole.specs.declared.proxy.Proxy.{Proxy}
 use Rattle.hb_world.specs.declared.entry.Entry.{Entry}
 use Rattle.hb_world.specs.declared.entry.Entry.TheVariants as e
-use Rattle.hb_serve.specs.Lawful.{GoesOn}
+use Rattle.hb_laws.specs.Lawful.{GoesOn}
 use Rattle.hb_serve.specs.Served.{StandsAs, AreLawful, HasNotes, IsServed, IsTotalled, Serves, words_of}
 use Rattle.hb_serve.specs.declared.words.ServeWords.{ServeWords}
-use Rattle.hb_serve.proofs.Laws.{run_is_lawful}
+use Rattle.hb_laws.proofs.Runs.{run_is_lawful}
 
 -- what a proxy stands for whose run goes on
 goes_on : (g : NodeConfig) (taken : List Note) (p : Proxy) (trace : List Entry) → StandsAs g taken p trace → p.ends_for ≡ None

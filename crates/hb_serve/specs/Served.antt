@@ -18,7 +18,7 @@ use Rattle.hb_whole.specs.Sight.{shown_of}
 use Rattle.hb_whole.specs.Stands.{Stands, config_of}
 use Rattle.hb_whole.specs.declared.proxy.Proxy.{Proxy}
 use Rattle.hb_world.specs.declared.entry.Entry.{Entry}
-use Rattle.hb_serve.specs.Lawful.{Lawful, GoesOn}
+use Rattle.hb_laws.specs.Lawful.{Lawful, GoesOn}
 use Rattle.hb_serve.specs.declared.words.ServeWords.{ServeWords}
 
 -- the node that is asked for stands for a trace, of whose notes these were taken

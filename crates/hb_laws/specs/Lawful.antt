@@ -69,3 +69,8 @@ pub record Lawful (g : NodeConfig) (trace : List Entry) : Type 0 where
 pub record GoesOn (g : NodeConfig) (trace : List Entry) : Type 0 where
   pub lawful : Lawful g trace
   pub going : list_any is_stop (control_of lawful.points) ≡ false
+
+-- so is the trace of every run of the whole
+abbrev pub RunsAreLawful : Type 0
+RunsAreLawful = (g : NodeConfig) (x : Machine) (points : List Point) (trace : List Entry) → StandsFor g x points
+    → without_doors trace ≡ entries points → Lawful g trace
