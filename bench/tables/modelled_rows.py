@@ -141,7 +141,8 @@ def fronts():
 
 def verdicts():
     for name, to in [
-            ("no target", b"web:8080"), ("no port", b"10.0.0.7"), ("port 0", b"10.0.0.7:0"), ("a port above the largest", b"10.0.0.7:65536"),
+            ("no target", b"web:8080"), ("no port", b"10.0.0.7"), ("port 0", b"10.0.0.7:0"), ("a port above the largest",
+                b"10.0.0.7:65536"),
             ("no octet", b""), ("another address", b"10.0.0.9:8080"), ("an IPv6 address", b"[2001:db8::7]:8080"),
             ("IPv4 in brackets", b"[10.0.0.7]:8080"), ("a leading zero", b"10.0.0.07:8080")]:
         row(f"400: the authority is {name}", BASE + opened(ask(1, to)))
@@ -263,7 +264,8 @@ def stream_faults():
 def ends():
     dialled = [("before the upstream is open", PENDING), ("in a tunnel", LIVE),
                ("behind bytes each way", LIVE + woken(2, data(1, b"up")) + woken(3, b"down")),
-               ("behind the peer's end", LIVE + woken(2, data(1, b"up", True))), ("behind the upstream's end", LIVE + came(3, b"d") + on("end", 3)),
+               ("behind the peer's end", LIVE + woken(2, data(1, b"up", True))), ("behind the upstream's end", LIVE + came(3, b"d")
+                   + on("end", 3)),
                ("behind the peer's end, before the upstream is open", PENDING + woken(2, data(1, b"up", True))),
                ("with bytes that wait for the upstream", LIVE + room(3, 1) + woken(2, data(1, b"abc"))),
                ("with bytes that wait for the link", LIVE + room(2, 0) + woken(3, b"abc")),
@@ -298,16 +300,20 @@ def ends():
     row("the link ends with one of two tunnels", TWO + woken(2, reset(1, 8)) + on("end", 2))
     row("the link breaks behind bytes", TWO + woken(2, data(1, b"a") + data(3, b"b")) + on("break", 2))
     row("both ends in one wait", LIVE + came(2, data(1, b"up", True)) + came(3, b"down") + on("end", 3))
-    row("the peer's end with its request, and the upstream's", BASE + opened(ask(1, TO, True)) + on("open", 3) + came(3, b"ok") + on("end", 3))
+    row("the peer's end with its request, and the upstream's", BASE + opened(ask(1, TO, True)) + on("open", 3) + came(3, b"ok")
+        + on("end", 3))
     row("the peer's end octet by octet", LIVE + woken(2, *single(data(1, b"", True))) + on("end", 3))
-    row("bytes from the upstream behind the peer's end", LIVE + woken(2, data(1, b"", True)) + woken(3, b"a", b"b") + on("end", 3) + on("end", 2))
+    row("bytes from the upstream behind the peer's end", LIVE + woken(2, data(1, b"", True)) + woken(3, b"a", b"b") + on("end", 3)
+        + on("end", 2))
     row("bytes to the upstream behind its end", LIVE + on("end", 3) + woken(2, data(1, b"a"), data(1, b"b", True)) + on("end", 2))
     row("GOAWAY and PING of the peer", LIVE + woken(2, GOAWAY + PING) + woken(2, ask(3)))
 
 
 def windows():
-    row("bytes up, and what they took is granted again", LIVE + woken(2, data(1, bytes(16384))) + woken(2, data(1, bytes(16383)), data(1, b"a")))
-    row("as many bytes up as are granted, before the upstream is open", PENDING + woken(2, *[data(1, bytes(16384))] * 3, data(1, bytes(16383)))
+    row("bytes up, and what they took is granted again", LIVE + woken(2, data(1, bytes(16384)))
+        + woken(2, data(1, bytes(16383)), data(1, b"a")))
+    row("as many bytes up as are granted, before the upstream is open", PENDING
+        + woken(2, *[data(1, bytes(16384))] * 3, data(1, bytes(16383)))
         + on("open", 3))
     row("a byte more than the stream's window, before the upstream is open", PENDING
         + woken(2, *[data(1, bytes(16384))] * 3, data(1, bytes(16383)), data(1, b"a")))
@@ -332,16 +338,19 @@ def windows():
     row("revoked with bytes behind a small window", small + woken(3, b"abcdef") + woken(1, DENY))
     row("two tunnels and a small window each", BASE + ACCEPT + woken(2, FRONT + PREFACE + settings((4, 2)) + ask() + ask(3))
         + on("open", 3) + on("open", 4) + woken(3, b"abc") + woken(4, b"def") + woken(2, window(3, 1), window(1, 1)))
-    row("the window of the connection is used up", TWO + woken(2, window(1, 65535)) + woken(3, *[bytes(4096)] * 15, bytes(4095)) + woken(4, b"ab")
+    row("the window of the connection is used up", TWO + woken(2, window(1, 65535)) + woken(3, *[bytes(4096)] * 15, bytes(4095))
+        + woken(4, b"ab")
         + woken(2, window(0, 1), window(0, 1)))
-    row("a DATA frame of one tunnel waits, and another's bytes", TWO + room(2, 0) + woken(3, b"ab") + woken(4, b"cd") + room(2, 1000) + WAKE + "\n")
+    row("a DATA frame of one tunnel waits, and another's bytes", TWO + room(2, 0) + woken(3, b"ab") + woken(4, b"cd") + room(2, 1000)
+        + WAKE + "\n")
     row("a DATA frame that hasn't begun is taken back, and another's goes", TWO + room(2, 0) + woken(3, b"ab") + woken(4, b"cd")
         + woken(2, reset(1, 8)) + room(2, 1000) + WAKE + "\n")
     row("bytes taken back are no part of the window", small + room(2, 0) + woken(3, b"abc") + woken(2, window(1, 2**31 - 4)))
     row("bytes that have begun are", small + room(2, 1) + woken(3, b"abc") + woken(2, window(1, 2**31 - 4)) + room(2, 100) + WAKE + "\n")
     row("a full way down, and then room", LIVE + room(2, 0) + woken(3, *[bytes(4096)] * 9) + room(2, 100000) + WAKE + "\n")
     row("the link takes an octet at a time", LIVE + room(2, 0) + woken(3, b"ab") + (room(2, 1) + WAKE + "\n") * 12)
-    row("the upstream takes an octet at a time", LIVE + room(3, 0) + woken(2, data(1, b"abc", True)) + (room(3, 1) + WAKE + "\n") * 3 + on("end", 3))
+    row("the upstream takes an octet at a time", LIVE + room(3, 0) + woken(2, data(1, b"abc", True)) + (room(3, 1) + WAKE + "\n") * 3
+        + on("end", 3))
 
 
 def floods():
@@ -350,7 +359,8 @@ def floods():
     row("a flood of SETTINGS", LIVE + woken(2, settings((4, 1), (4, 70000)) * 40))
     row("a flood of DATA without octets", LIVE + woken(2, data(1) * 100, data(1, b"a")))
     row("a flood of small DATA", LIVE + woken(2, data(1, b"a") * 100))
-    row("a flood of requests that are reset", BASE + opened() + woken(2, b"".join(ask(n) + reset(n, 8) for n in range(1, 81, 2))) + woken(2, ask(81)))
+    row("a flood of requests that are reset", BASE + opened() + woken(2, b"".join(ask(n) + reset(n, 8) for n in range(1, 81, 2)))
+        + woken(2, ask(81)))
     row("a flood of requests that are refused", BASE + opened() + woken(2, b"".join(ask(n, b"x") for n in range(1, 41, 2))))
     row("a flood of PRIORITY and frames without a meaning", LIVE + woken(2, frame(2, 0, 9, bytes(5)) * 20 + frame(11, 255, 7, b"ab") * 20))
     row("a flood of increments", LIVE + woken(2, (window(0, 1) + window(1, 1)) * 40) + woken(3, b"a"))
@@ -386,7 +396,8 @@ def cut_runs():
     revoked = (BASE + opened(ask() + ask(3, b"10.0.0.7:9090")) + on("open", 3) + on("open", 4) + room(2, 59) + woken(3, bytes(100))
                + woken(1, tunnel_rows.UPDATE) + room(2, 1000) + WAKE + "\n" + woken(4, b"!"))
     streams = (TWO + woken(2, data(1, b"one") + data(3, b"three")) + woken(3, b"1") + woken(4, b"333")
-               + woken(2, padded(1, b"more", 3) + data(3, b"", True)) + on("end", 4) + on("end", 3) + woken(2, data(1, b"", True)) + on("end", 2))
+               + woken(2, padded(1, b"more", 3) + data(3, b"", True)) + on("end", 4) + on("end", 3) + woken(2, data(1, b"", True))
+                   + on("end", 2))
     resets = (LIVE + woken(2, data(1, b"ab")) + woken(3, b"xyz") + woken(2, data(1, b"cd"), reset(1, 8)) + woken(2, ask(3)) + on("open", 4)
               + woken(4, b"!"))
     return [("the whole life of a tunnel", life, []), ("a revocation", revoked, []), ("two streams", streams, []), ("a reset", resets, [])]
@@ -396,14 +407,17 @@ def updates():
     row("an update that admits it still", LIVE + woken(1, BACK) + woken(3, b"a"))
     row("an update that denies it, and one that doesn't any more", LIVE + woken(1, DENY, ALLOW) + woken(2, ask(3)) + on("open", 4))
     row("an update that takes the workload away", LIVE + woken(1, GONE))
-    row("an update that gives the workload to another node", LIVE + woken(1, workloads(("u1", workload("w", "a", [[10, 0, 0, 7]], "n2", [])))))
+    row("an update that gives the workload to another node", LIVE
+        + woken(1, workloads(("u1", workload("w", "a", [[10, 0, 0, 7]], "n2", [])))))
     row("an update with a smaller name at the address", LIVE + woken(1, workloads(("t", workload("w", "a", [[10, 0, 0, 7]], "n2", [])))))
     row("an update that takes away what allows it", LIVE + woken(1, policies(removed=["a/p"])) + woken(3, b"a"))
     row("two updates in one piece", LIVE + woken(1, DENY + ALLOW) + woken(2, ask(3)), "--brief")
-    row("an update octet by octet, and a byte between two", LIVE + woken(1, *single(GONE)[:30]) + woken(3, b"a") + woken(1, *single(GONE)[30:])
+    row("an update octet by octet, and a byte between two", LIVE + woken(1, *single(GONE)[:30]) + woken(3, b"a")
+        + woken(1, *single(GONE)[30:])
         + woken(3, b"b"))
     row("an update inside a frame that comes", LIVE + woken(2, data(1, b"abc")[:10]) + woken(1, DENY) + woken(2, data(1, b"abc")[10:]))
-    row("an update inside the header of the front", BASE + ACCEPT + woken(2, FRONT[:20]) + woken(1, DENY) + woken(2, FRONT[20:] + PREFACE + SET + ask()))
+    row("an update inside the header of the front", BASE + ACCEPT + woken(2, FRONT[:20]) + woken(1, DENY) + woken(2, FRONT[20:]
+        + PREFACE + SET + ask()))
     row("an update inside a header block", BASE + opened(frame(1, 0, 1, b"\x02\x07CONN")) + woken(1, DENY)
         + woken(2, frame(9, 4, 1, b"ECT\x01\x0d" + TO)))
     row("a policy of one port", TWO + woken(1, policies(("a/q", policy("a", "q", "NAMESPACE", "DENY", []) + bytes.fromhex(
@@ -440,7 +454,8 @@ def several():
     row("one place, which an update frees", LIVE + woken(1, DENY, ALLOW) + woken(2, ask(3)), "--tunnels", "1")
     row("one place, which a done tunnel frees", LIVE + woken(2, data(1, b"", True)) + on("end", 3) + woken(2, ask(3)), "--tunnels", "1")
     row("one place, and a link that ends frees it", LIVE + opened(link=4) + on("end", 2) + woken(4, ask()), "--tunnels", "1")
-    row("the table is full, and a policy denies", LIVE + woken(2, ask(3, b"10.0.0.7:9090")) + woken(1, DENY) + woken(2, ask(5)), "--tunnels", "1")
+    row("the table is full, and a policy denies", LIVE + woken(2, ask(3, b"10.0.0.7:9090")) + woken(1, DENY)
+        + woken(2, ask(5)), "--tunnels", "1")
     row("two links, one of which breaks HTTP/2", LIVE + opened(ask(), link=4) + on("open", 5) + woken(2, data(0)) + woken(5, b"a"))
     row("two tunnels, each with its end", TWO + woken(2, data(1, b"a", True) + data(3, b"b")) + on("end", 4) + on("end", 3)
         + woken(2, data(3, b"c", True)))
@@ -475,7 +490,6 @@ class Chance:
         world = tunnel_model.World(tunnel_model.model.read_script("".join(self.events).encode()))
         world.whys = {}
         run = tunnel_model.Run(tunnel_model.model.read_words(WORDS), world, tunnel_model.USUAL)
-        closed = run.stop
         run.stop = lambda: None
         run.run()
         return run, world
@@ -490,8 +504,10 @@ class Chance:
             self.streams[link] = last = last + 2
             return ask(last, pick([TO, TO, TO, b"10.0.0.7:9090", b"web:1"]), chance() < 0.15)
         return pick([
-            lambda: data(stream, content), lambda: data(stream, content), lambda: data(stream, content, True), lambda: padded(stream, content, 3),
-            lambda: reset(stream, pick([0, 8])), lambda: window(pick([0, stream]), pick([1, 5, 100])), lambda: settings((4, pick([0, 2, 9, 65535]))),
+            lambda: data(stream, content), lambda: data(stream, content), lambda: data(stream, content, True),
+                lambda: padded(stream, content, 3),
+            lambda: reset(stream, pick([0, 8])), lambda: window(pick([0, stream]), pick([1, 5, 100])),
+                lambda: settings((4, pick([0, 2, 9, 65535]))),
             lambda: PING, lambda: window(stream, 0), lambda: data(stream, content, True), lambda: ask(stream)])()
 
     def event(self):
@@ -499,7 +515,8 @@ class Chance:
         pick = self.random.choice
         ups, links = [number for number in run.ups if number in run.opened], list(run.inbound)
         waits = [number for number in run.ups if number not in run.opened]
-        kinds = ["accept"] * (1 if len(links) < 2 else 0) + ["frames"] * 8 * bool(links) + ["up"] * 5 * bool(ups) + ["finish"] * 8 * bool(waits)
+        kinds = ["accept"] * (1 if len(links) < 2 else 0) + ["frames"] * 8 * bool(links) + ["up"] * 5 * bool(ups)
+        kinds += ["finish"] * 8 * bool(waits)
         kinds += ["end up"] * 2 * bool(ups) + ["room"] * 2 * bool(links) + ["update", "tick"] + ["end link"] * bool(links)
         kind = pick(kinds)
         if kind == "accept":
@@ -603,7 +620,7 @@ def by_chance(known, wanted, seeds=400):
 
 # The table
 
-HEAD = """//! Runs of `hbone replay --inbound`. bench/tables/modelled_rows.py prints this file: a plain model of the pages gives each answer.
+HEAD = """//! Runs of `hbone replay --inbound`. bench/tables/modelled_rows.py prints this file: a plain model of the pages answers.
 //!
 //! The notation is that of the other runs; a name in angle brackets stands for its part below, or for one of theirs.
 """

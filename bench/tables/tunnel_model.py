@@ -14,13 +14,14 @@ import replay_model as model
 from replay_model import ADDRESS, POLICY, LARGEST, ConnFault, Ends, Fault, frame, pairs_of
 
 # Beside the choices of the control plane's link: the order of links in a round, how much of an upstream is read at once, whether
-# a write of a ring ends where its memory does, the order of an update's notes over links, and whether the stream behind the one
-# whose DATA was put last goes first.
-Choice = collections.namedtuple("Choice", [*model.Choice._fields, "backwards", "most", "wraps", "by_link", "fair"])
-USUAL = Choice(*model.USUAL, False, 16384, False, True, False)
+# a write of a ring ends where its memory does, the order of an update's notes over links, whether the stream behind the one whose
+# DATA was put last goes first, and how many octets a link may hold that aren't looked at.
+Choice = collections.namedtuple("Choice", [*model.Choice._fields, "backwards", "most", "wraps", "by_link", "fair", "holds"])
+USUAL = Choice(*model.USUAL, False, 16384, False, True, False, 16393)
 OTHERS = [
     USUAL._replace(share=3, order="wrw"), USUAL._replace(backwards=True), USUAL._replace(most=5000, goes_on=False, order="wwr"),
-    USUAL._replace(share=4), USUAL._replace(share=7, order="wwr"), USUAL._replace(wraps=True, eager=True, fair=True), USUAL._replace(by_link=False, backwards=True, order="wrw")]
+    USUAL._replace(share=4, holds=32768), USUAL._replace(share=7, order="wwr"), USUAL._replace(wraps=True, eager=True, fair=True),
+    USUAL._replace(by_link=False, backwards=True, order="wrw")]
 
 RINGS = {"up": 65535, "down": 16384}
 STATUS, GRANT, END, RESET = range(4)
@@ -446,7 +447,9 @@ class Inbound(Connection):
         self.front, self.peer, self.destination, self.cause, self.last_put = b"", None, None, None, 0
 
     def wants(self):
-        return 4112 - len(self.front) if self.peer is None else super().wants()
+        if self.peer is None:
+            return 4112 - len(self.front)
+        return min(super().wants(), self.choice.holds - len(self.came))
 
     def living(self):
         return [self.tunnels[number] for number in sorted(self.tunnels) if self.tunnels[number].cause is None]

@@ -154,35 +154,47 @@ fn assert_run_cut(rt: &impl Abort, alloc: Global, run: &str, cuts: Cuts) {
     assert_told(rt, alloc, name, told.as_str(), want);
 }
 
-/// A run of the table, by its place there, cut in many ways.
-fn assert_cuts_of(rt: &(impl Abort + AllocGlobal), place: usize) {
-    let run = text_of(CUT).lines().nth(place).unwrap_or("");
+/// A run of the table, cut in many ways.
+fn assert_run_in_pieces(rt: &impl Abort, alloc: Global, run: &str) {
     for way in 0..RUN_WAYS {
         let cuts = Cuts {
             every: 1 + way % 40,
             waits: way % 2 == 0,
             chance: way,
         };
-        assert_run_cut(rt, rt.alloc(), run, cuts);
+        assert_run_cut(rt, alloc, run, cuts);
     }
+}
+
+/// The runs of this name in the table, each cut in many ways.
+fn assert_cuts_of(rt: &(impl Abort + AllocGlobal), wanted: &str) {
+    let mut found = false;
+    for run in text_of(CUT).lines() {
+        let (name, _) = cut(run, "; ");
+        if name == wanted {
+            assert_run_in_pieces(rt, rt.alloc(), run);
+            found = true;
+        }
+    }
+    assert!(rt; found, "{wanted} is no run");
 }
 
 #[test]
 fn a_whole_life_cut_by_chance_leaves_the_report(rt: HostRuntime) {
-    assert_cuts_of(&rt, 0);
+    assert_cuts_of(&rt, "the whole life of a tunnel");
 }
 
 #[test]
 fn a_revocation_cut_by_chance_leaves_the_report(rt: HostRuntime) {
-    assert_cuts_of(&rt, 1);
+    assert_cuts_of(&rt, "a revocation");
 }
 
 #[test]
 fn two_streams_cut_by_chance_leave_the_report(rt: HostRuntime) {
-    assert_cuts_of(&rt, 2);
+    assert_cuts_of(&rt, "two streams");
 }
 
 #[test]
 fn a_reset_cut_by_chance_leaves_the_report(rt: HostRuntime) {
-    assert_cuts_of(&rt, 3);
+    assert_cuts_of(&rt, "a reset");
 }

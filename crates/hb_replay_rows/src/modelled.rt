@@ -1,4 +1,4 @@
-//! Runs of `hbone replay --inbound`. bench/tables/modelled_rows.py prints this file: a plain model of the pages gives each answer.
+//! Runs of `hbone replay --inbound`. bench/tables/modelled_rows.py prints this file: a plain model of the pages answers.
 //!
 //! The notation is that of the other runs; a name in angle brackets stands for its part below, or for one of theirs.
 
