@@ -33,6 +33,7 @@ WHOLE = [
     ("loop_rows.py", "hb_loop_rows", "rows.rt"),
     ("replay_rows.py", "hb_replay_rows", "rows.rt"),
     ("tunnel_rows.py", "hb_replay_rows", "tunnels.rt"),
+    ("modelled_rows.py", "hb_replay_rows", "modelled.rt"),
 ]
 PARTS = [("frame_vectors.py", "hb_http2_rows", "frame_vectors.rt"), ("verdict_rows.py", "hb_table_rows", "requests.rt")]
 

@@ -14,12 +14,14 @@ import replay_model as model
 from replay_model import ADDRESS, POLICY, LARGEST, ConnFault, Ends, Fault, frame, pairs_of
 
 # Beside the choices of the control plane's link: the order of links in a round, how much of an upstream is read at once, whether
-# a write of a ring ends where its memory does, and the order of an update's notes over links.
-Choice = collections.namedtuple("Choice", [*model.Choice._fields, "backwards", "most", "wraps", "by_link"])
-USUAL = Choice(*model.USUAL, False, 16384, False, True)
+# a write of a ring ends where its memory does, the order of an update's notes over links, whether the stream behind the one whose
+# DATA was put last goes first, and how many octets a link may hold that aren't looked at.
+Choice = collections.namedtuple("Choice", [*model.Choice._fields, "backwards", "most", "wraps", "by_link", "fair", "holds"])
+USUAL = Choice(*model.USUAL, False, 16384, False, True, False, 16393)
 OTHERS = [
     USUAL._replace(share=3, order="wrw"), USUAL._replace(backwards=True), USUAL._replace(most=5000, goes_on=False, order="wwr"),
-    USUAL._replace(wraps=True, eager=True), USUAL._replace(by_link=False, backwards=True, order="wrw")]
+    USUAL._replace(share=4, holds=32768), USUAL._replace(share=7, order="wwr"), USUAL._replace(wraps=True, eager=True, fair=True),
+    USUAL._replace(by_link=False, backwards=True, order="wrw")]
 
 RINGS = {"up": 65535, "down": 16384}
 STATUS, GRANT, END, RESET = range(4)
@@ -442,10 +444,12 @@ class Inbound(Connection):
     def __init__(self, number, run):
         super().__init__(run.choice)
         self.number, self.run, self.tunnels = number, run, {}
-        self.front, self.peer, self.destination, self.cause = b"", None, None, None
+        self.front, self.peer, self.destination, self.cause, self.last_put = b"", None, None, None, 0
 
     def wants(self):
-        return 4112 - len(self.front) if self.peer is None else super().wants()
+        if self.peer is None:
+            return 4112 - len(self.front)
+        return min(super().wants(), self.choice.holds - len(self.came))
 
     def living(self):
         return [self.tunnels[number] for number in sorted(self.tunnels) if self.tunnels[number].cause is None]
@@ -551,11 +555,15 @@ class Inbound(Connection):
 
     def settle(self):
         """What follows by itself: tunnels that are done, and what may be put, by rising stream."""
-        for tunnel in self.living() if self.cause is None else []:
+        living = self.living() if self.cause is None else []
+        if self.choice.fair:
+            living.sort(key=lambda tunnel: tunnel.stream <= self.last_put)
+        for tunnel in living:
             if tunnel.is_done():
                 self.end(tunnel, "done")
             elif tunnel.is_live() and not tunnel.is_end_put:
                 count = self.put_some(tunnel.stream, tunnel.rings["down"])
+                self.last_put = tunnel.stream if count else self.last_put
                 tunnel.rings["down"] = tunnel.rings["down"][count:]
                 if tunnel.is_up_ended and not tunnel.rings["down"] and not any(part.stream == tunnel.stream for part in self.parts
                                                                               if part.is_data):

@@ -7,6 +7,8 @@ mod cuts;
 #[cfg(test)]
 mod faults;
 #[cfg(test)]
+mod modelled;
+#[cfg(test)]
 mod notation;
 #[cfg(test)]
 mod rows;

@@ -1,5 +1,8 @@
 //! The runs of the tables.
 
+use crate::modelled::{
+    MODELLED_1, MODELLED_2, MODELLED_3, MODELLED_4, MODELLED_5, MODELLED_6, MODELLED_7, MODELLED_8,
+};
 use crate::notation::{cut, spelled, text_of};
 use crate::rows::{
     REFUSED, ROWS_1, ROWS_2, ROWS_3, ROWS_4, ROWS_5, ROWS_6, ROWS_7, ROWS_8, ROWS_9, ROWS_10, USAGE,
@@ -161,6 +164,46 @@ fn runs_of_the_tenth_table_end_as_the_formats_say(rt: HostRuntime) {
 #[test]
 fn runs_over_the_inbound_door_end_as_the_rules_say(rt: HostRuntime) {
     assert_table(&rt, TUNNELS);
+}
+
+#[test]
+fn runs_of_the_first_modelled_table_end_as_the_pages_say(rt: HostRuntime) {
+    assert_table(&rt, MODELLED_1);
+}
+
+#[test]
+fn runs_of_the_second_modelled_table_end_as_the_pages_say(rt: HostRuntime) {
+    assert_table(&rt, MODELLED_2);
+}
+
+#[test]
+fn runs_of_the_third_modelled_table_end_as_the_pages_say(rt: HostRuntime) {
+    assert_table(&rt, MODELLED_3);
+}
+
+#[test]
+fn runs_of_the_fourth_modelled_table_end_as_the_pages_say(rt: HostRuntime) {
+    assert_table(&rt, MODELLED_4);
+}
+
+#[test]
+fn runs_of_the_fifth_modelled_table_end_as_the_pages_say(rt: HostRuntime) {
+    assert_table(&rt, MODELLED_5);
+}
+
+#[test]
+fn runs_of_the_sixth_modelled_table_end_as_the_pages_say(rt: HostRuntime) {
+    assert_table(&rt, MODELLED_6);
+}
+
+#[test]
+fn runs_of_the_seventh_modelled_table_end_as_the_pages_say(rt: HostRuntime) {
+    assert_table(&rt, MODELLED_7);
+}
+
+#[test]
+fn runs_of_the_eighth_modelled_table_end_as_the_pages_say(rt: HostRuntime) {
+    assert_table(&rt, MODELLED_8);
 }
 
 /// Words that aren't accepted, each ended by `|`, and why they aren't. The input is no script, and nothing is read of it.
