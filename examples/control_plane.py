@@ -4,9 +4,10 @@
 usage: examples/control_plane.py [HOST:]PORT FILE
 
 It speaks Envoy's delta discovery over gRPC without TLS, with Istio's two types, as docs/FORMATS.md has them under Messages. FILE is YAML,
-as examples/mesh.yaml: the lists `workloads`, `services` and `policies`, whose members have the names of the fields there; an address is
-written as text, a prefix as ADDRESS/LENGTH, a choice by its name. The file is looked at once a second: save it, and each node is sent what
-changed. A file that can't be read changes nothing. A line is printed for each response, answer and fault.
+as examples/mesh.yaml: the lists `workloads`, `services` and `policies`, whose members have the names of the fields there, but for waypoints
+and the services of a workload. An address is written as text, a prefix as ADDRESS/LENGTH, a choice by its name. The file is looked at once
+a second: save it, and each node is sent what changed. A file that can't be read changes nothing. A line is printed for each response and
+for each that a node refused.
 
 Needs Debian's python3-grpcio and python3-yaml: run it with /usr/bin/python3.
 """
