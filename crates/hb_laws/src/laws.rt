@@ -1,8 +1,61 @@
-//! What holds of every run. It is the contract of a function that does nothing.
+//! What is lawful, and what isn't: small wrong traces, and good ones. Each is the contract of a function that does nothing.
 
 ghost use Rattle.hb_laws.specs.Lawful.{RunsAreLawful};
+ghost use Rattle.hb_laws.specs.Refused.{NeverDials, DialsNoMore, DialsTwice, DialsAnother};
+ghost use Rattle.hb_laws.specs.Refused.{ClosesHealthy, ClosesForAnother, ClosesForSecond};
+ghost use Rattle.hb_laws.specs.Refused.{KeepsEnded, KeepsBroken, LooksAtNothing, AppliesForged};
+ghost use Rattle.hb_laws.specs.RefusedHearing.{HearsNoGoaway, HearsNoReset, HearsNoNotFound, HearsNoEnd, HearsNoEndOfHeaders};
+ghost use Rattle.hb_laws.specs.RefusedHearing.{KeepsReset, KeepsEndOfStream, KeepsEndAtOnce, KeepsNotFound};
+ghost use Rattle.hb_laws.specs.Refused.{ReadsUnopened, ReadsBehindEnd, ReadsBehindClose, WritesUnopened, FinishesOpened};
 
 /// The trace of every run of the whole proxy is lawful.
 pub fn runs_are_lawful()
     ensures { RunsAreLawful }
+{}
+
+/// A trace isn't lawful in which the control plane isn't dialled at the start or behind a tick, is dialled beside a link to it
+/// that lives, or another target is dialled in its place.
+pub fn dials_are_refused()
+    ensures never { NeverDials }
+    ensures no_more { DialsNoMore }
+    ensures twice { DialsTwice }
+    ensures another { DialsAnother }
+{}
+
+/// Nor one in which a healthy link to it is closed, or one for another cause than the first, or one that ended or broke is kept.
+pub fn closes_are_refused()
+    ensures healthy { ClosesHealthy }
+    ensures for_another { ClosesForAnother }
+    ensures for_second { ClosesForSecond }
+    ensures ended { KeepsEnded }
+    ensures broken { KeepsBroken }
+{}
+
+/// Nor one in which a frame that ends such a link is looked at and nothing is told of it: a GOAWAY that takes no stream, a RST_STREAM,
+/// HEADERS with status 404, END_STREAM. Nor one in which a link that such a frame ended is kept over the next wait.
+pub fn deafness_is_refused()
+    ensures goaway { HearsNoGoaway }
+    ensures reset { HearsNoReset }
+    ensures not_found { HearsNoNotFound }
+    ensures end { HearsNoEnd }
+    ensures end_of_headers { HearsNoEndOfHeaders }
+    ensures keeps_reset { KeepsReset }
+    ensures keeps_end { KeepsEndOfStream }
+    ensures keeps_end_at_once { KeepsEndAtOnce }
+    ensures keeps_not_found { KeepsNotFound }
+{}
+
+/// Nor one in which bytes that came on such a link aren't looked at, or a response is applied that didn't come.
+pub fn idleness_is_refused()
+    ensures looks { LooksAtNothing }
+    ensures forged { AppliesForged }
+{}
+
+/// Nor one with a call on such a link where none may be made, even if it moved nothing.
+pub fn calls_are_refused()
+    ensures unopened { ReadsUnopened }
+    ensures behind_end { ReadsBehindEnd }
+    ensures behind_close { ReadsBehindClose }
+    ensures writes { WritesUnopened }
+    ensures finishes { FinishesOpened }
 {}
