@@ -4,6 +4,9 @@ ghost use Rattle.hb_laws.specs.Lawful.{RunsAreLawful};
 ghost use Rattle.hb_laws.specs.Refused.{NeverDials, DialsNoMore, DialsTwice, DialsAnother};
 ghost use Rattle.hb_laws.specs.Refused.{ClosesHealthy, ClosesForAnother, ClosesForSecond};
 ghost use Rattle.hb_laws.specs.Refused.{KeepsEnded, KeepsBroken, LooksAtNothing, AppliesForged};
+ghost use Rattle.hb_laws.specs.RefusedLinks.{ComesUnborn, GoesUnborn, BornTwice, AcceptsFirst, AcceptsElsewhere, DialsUpTwice};
+ghost use Rattle.hb_laws.specs.RefusedLinks.{ClosesLinkForSecond, ClosesHealthyLink};
+ghost use Rattle.hb_laws.specs.RefusedLinks.{GoesUnheld, SendsMore, InventsDown, ChangesDown};
 ghost use Rattle.hb_laws.specs.RefusedHearing.{HearsNoGoaway, HearsNoReset, HearsNoNotFound, HearsNoEnd, HearsNoEndOfHeaders};
 ghost use Rattle.hb_laws.specs.RefusedHearing.{KeepsReset, KeepsEndOfStream, KeepsEndAtOnce, KeepsNotFound};
 ghost use Rattle.hb_laws.specs.Refused.{ReadsUnopened, ReadsBehindEnd, ReadsBehindClose, WritesUnopened, FinishesOpened};
@@ -58,4 +61,30 @@ pub fn calls_are_refused()
     ensures behind_close { ReadsBehindClose }
     ensures writes { WritesUnopened }
     ensures finishes { FinishesOpened }
+{}
+
+/// Nor one in which bytes come or go on a link that nobody bore, a number is born twice, a link is accepted before the control plane is
+/// dialled or at another door than the inbound one, or two upstreams are dialled for one stream.
+pub fn births_are_refused()
+    ensures comes { ComesUnborn }
+    ensures goes { GoesUnborn }
+    ensures number { BornTwice }
+    ensures first { AcceptsFirst }
+    ensures elsewhere { AcceptsElsewhere }
+    ensures twice { DialsUpTwice }
+{}
+
+/// Nor one in which an inbound link is closed as one that broke, though no call on it failed: a healthy one, or one whose peer ended.
+pub fn closes_of_links_are_refused()
+    ensures healthy { ClosesHealthyLink }
+    ensures second { ClosesLinkForSecond }
+{}
+
+/// Nor one in which bytes go to an upstream though no response ever came, or more than came on its link; or in which DATA goes on a
+/// stream that isn't what came from its upstream.
+pub fn bytes_are_refused()
+    ensures unheld { GoesUnheld }
+    ensures more { SendsMore }
+    ensures invents { InventsDown }
+    ensures changes { ChangesDown }
 {}
