@@ -2,3 +2,4 @@ pub mod Lawful
 pub mod Refused
 pub mod RefusedHearing
 pub mod RefusedLinks
+pub mod RefusedTunnels

@@ -7,6 +7,8 @@ ghost use Rattle.hb_laws.specs.Refused.{KeepsEnded, KeepsBroken, LooksAtNothing,
 ghost use Rattle.hb_laws.specs.RefusedLinks.{ComesUnborn, GoesUnborn, BornTwice, AcceptsFirst, AcceptsElsewhere, DialsUpTwice};
 ghost use Rattle.hb_laws.specs.RefusedLinks.{ClosesLinkForSecond, ClosesHealthyLink};
 ghost use Rattle.hb_laws.specs.RefusedLinks.{GoesUnheld, SendsMore, InventsDown, ChangesDown};
+ghost use Rattle.hb_laws.specs.RefusedTunnels.{RefusedAt, GoesDenied, GoesUncome, DialsElsewhere, KeepsEndedUp, KeepsRevokedUp};
+ghost use Rattle.hb_laws.specs.RefusedTunnels.{ClosesUpForAnother, ClosesLiveUp};
 ghost use Rattle.hb_laws.specs.RefusedHearing.{HearsNoGoaway, HearsNoReset, HearsNoNotFound, HearsNoEnd, HearsNoEndOfHeaders};
 ghost use Rattle.hb_laws.specs.RefusedHearing.{KeepsReset, KeepsEndOfStream, KeepsEndAtOnce, KeepsNotFound};
 ghost use Rattle.hb_laws.specs.Refused.{ReadsUnopened, ReadsBehindEnd, ReadsBehindClose, WritesUnopened, FinishesOpened};
@@ -87,4 +89,18 @@ pub fn bytes_are_refused()
     ensures more { SendsMore }
     ensures invents { InventsDown }
     ensures changes { ChangesDown }
+{}
+
+/// No lawful trace has a place at which bytes go to an upstream though what is held then doesn't admit the peer, or bytes that didn't come
+/// on the stream; at which another target is dialled than the one that was asked for; at which the upstream of a tunnel that ended lives
+/// while the proxy waits, time passes or bytes come, also next behind an update that no longer admits the peer; or at which an upstream is
+/// closed for another cause than the first, or though its tunnel lives.
+pub fn places_are_refused()
+    ensures denied { RefusedAt GoesDenied }
+    ensures uncome { RefusedAt GoesUncome }
+    ensures elsewhere { RefusedAt DialsElsewhere }
+    ensures ended { RefusedAt KeepsEndedUp }
+    ensures revoked { RefusedAt KeepsRevokedUp }
+    ensures another { RefusedAt ClosesUpForAnother }
+    ensures live { RefusedAt ClosesLiveUp }
 {}
