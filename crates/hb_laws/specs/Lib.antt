@@ -1,3 +1,4 @@
+pub mod Good
 pub mod Lawful
 pub mod Refused
 pub mod RefusedHearing

@@ -9,6 +9,7 @@ ghost use Rattle.hb_laws.specs.RefusedLinks.{ClosesLinkForSecond, ClosesHealthyL
 ghost use Rattle.hb_laws.specs.RefusedLinks.{GoesUnheld, SendsMore, InventsDown, ChangesDown};
 ghost use Rattle.hb_laws.specs.RefusedTunnels.{RefusedAt, GoesDenied, GoesUncome, DialsElsewhere, KeepsEndedUp, KeepsRevokedUp};
 ghost use Rattle.hb_laws.specs.RefusedTunnels.{ClosesUpForAnother, ClosesLiveUp};
+ghost use Rattle.hb_laws.specs.Good.{GoodTraceIsLawful, GoodLinkIsLawful, GoodEndIsLawful};
 ghost use Rattle.hb_laws.specs.RefusedHearing.{HearsNoGoaway, HearsNoReset, HearsNoNotFound, HearsNoEnd, HearsNoEndOfHeaders};
 ghost use Rattle.hb_laws.specs.RefusedHearing.{KeepsReset, KeepsEndOfStream, KeepsEndAtOnce, KeepsNotFound};
 ghost use Rattle.hb_laws.specs.Refused.{ReadsUnopened, ReadsBehindEnd, ReadsBehindClose, WritesUnopened, FinishesOpened};
@@ -103,4 +104,13 @@ pub fn places_are_refused()
     ensures revoked { RefusedAt KeepsRevokedUp }
     ensures another { RefusedAt ClosesUpForAnother }
     ensures live { RefusedAt ClosesLiveUp }
+{}
+
+/// A trace is lawful in which a link to the control plane is dialled, breaks and is closed, and a dial fails at the next tick; one in
+/// which an inbound link begins with no front header and is closed for that; and one in which its header is whole, its peer sends no
+/// more, and it is closed as done.
+pub fn good_traces_are_lawful()
+    ensures control { GoodTraceIsLawful }
+    ensures link { GoodLinkIsLawful }
+    ensures end { GoodEndIsLawful }
 {}
