@@ -31,6 +31,9 @@ by_kind (Ok (replays r)) input served = input refl
 by_kind (Ok (serves s)) input served = served s refl
 by_kind (Err fault) input served = input refl
 
+pub asks_input : (c : Result Command WordsFault) (s : Serve) → IsTrue (takes_input c) → c ≡ Ok (serves s) → ⊥
+asks_input c s takes is = let never : IsTrue (takes_input (Ok (serves s))) = subst (λ d. IsTrue (takes_input d)) is takes in absurd (cc)
+
 same_fault : (e : ServeEnd) (end : ReplayEnd) → replay_end e ≡ Some end → is_fault e ≡ is_world_fault end
 same_fault turns.Stopped end is = let same : ends.Stopped ≡ end = cc in ap is_world_fault same
 same_fault turns.WorldFault end is = let same : ends.WorldFault ≡ end = cc in ap is_world_fault same

@@ -92,7 +92,7 @@ fn answer(
     keep: &mut Keep,
     script: &mut ScriptWorld,
 ) -> Result<Answer, Or<Refused>>
-    requires by_input { takes_input (Ok (command_of command.now)) ≡ true }
+    requires by_input { IsTrue (takes_input (Ok (command_of command.now))) }
     requires lines { script.old.lines ≡ [] }
     requires trace { script.old.trace ≡ [] }
     ensures text { Answers (texts result) (printed_by (command_of command.now) (done_by script.new.trace keep.new) input) }
@@ -121,7 +121,7 @@ fn find_out<S: Source>(
     keep: &mut Keep,
     script: &mut ScriptWorld,
 ) -> Result<Answer, Stop>
-    requires by_input { takes_input (Ok (command_of command.now)) ≡ true }
+    requires by_input { IsTrue (takes_input (Ok (command_of command.now))) }
     requires lines { script.old.lines ≡ [] }
     requires trace { script.old.trace ≡ [] }
     ensures found { ComesTo (Ok (command_of command.now)) (done_by script.new.trace keep.new)
@@ -183,7 +183,7 @@ fn conclude<S: Source, K: Sink, E: Sink>(
     keep: &mut Keep,
     script: &mut ScriptWorld,
 ) -> u8
-    requires by_input { takes_input (Ok (command_of command.now)) ≡ true }
+    requires by_input { IsTrue (takes_input (Ok (command_of command.now))) }
     requires lines { script.old.lines ≡ [] }
     requires trace { script.old.trace ≡ [] }
     ensures ending { EndsWith (record {
@@ -193,6 +193,7 @@ fn conclude<S: Source, K: Sink, E: Sink>(
       out = use_of (K.written out.old) (K.written out.new) (K.faults out.old) (K.faults out.new);
       err = use_of (E.written err.old) (E.written err.new) (E.faults err.old) (E.faults err.new);
     }) result }
+    ensures by_input { IsTrue (takes_input (Ok (command_of command.now))) }
     ensures leaves { CommandLeavesAt (command_of command.now) (S.left input.old) (run_state script.old keep.old)
         (run_state script.new keep.new) result }
     ensures later_input { S.faults input.old ≤ S.faults input.new }
@@ -223,7 +224,7 @@ fn obey<S: Source, K: Sink, E: Sink, W: World>(
 ) -> u8
     requires lines { script.old.lines ≡ [] }
     requires trace { script.old.trace ≡ [] }
-    ensures ending { takes_input (words_of (map string_bytes words.now)) ≡ true → EndsWith (record {
+    ensures ending { IsTrue (takes_input (words_of (map string_bytes words.now))) → EndsWith (record {
       asked = words_of (map string_bytes words.now);
       done = done_by script.new.trace keep.new;
       input = use_of (S.left input.old) (S.left input.new) (S.faults input.old) (S.faults input.new);
@@ -237,7 +238,7 @@ fn obey<S: Source, K: Sink, E: Sink, W: World>(
         (use_of (K.written out.old) (K.written out.new) (K.faults out.old) (K.faults out.new))
         (use_of (E.written err.old) (E.written err.new) (E.faults err.old) (E.faults err.new)) result }
     ensures unread { (s : Serves) → words_of (map string_bytes words.now) ≡ Ok (serves s) → input.new ≡ input.old }
-    ensures unused { takes_input (words_of (map string_bytes words.now)) ≡ true → world.new ≡ world.old }
+    ensures unused { IsTrue (takes_input (words_of (map string_bytes words.now))) → world.new ≡ world.old }
     ensures follows { W.script world.new ≡ W.script world.old }
     ensures later_input { S.faults input.old ≤ S.faults input.new }
     ensures later_out { K.faults out.old ≤ K.faults out.new }

@@ -23,7 +23,7 @@ pub returns-clause-refused_words : goal.returns-clause-refused_words
 returns-clause-refused_words g c =
     by_kind (words_of (map string_bytes c.args.words.now))
     (λ takes. refused_is_two _ c.obey-status.result (c.obey-status.ensures.ending takes))
-    (λ s is. λ refused. absurd (rw is at refused))
+    (λ s is. λ refused. let never = rw is at refused in absurd (cc))
 
 pub returns-clause-reads_nothing : goal.returns-clause-reads_nothing
 returns-clause-reads_nothing g c =
