@@ -21,11 +21,7 @@ use std::alloc::Global;
 /// Runs the proxy over a world. Its notes aren't kept.
 ///
 /// Errors: `NoMemory`, and then no call was made on the world.
-fn serve_over<W: World>(
-    alloc: Global,
-    words: &Serve<'_>,
-    world: &mut W,
-) -> Result<Served, NoMemory>
+fn serve_over<W: World>(alloc: Global, words: &Serve<'_>, world: &mut W) -> Result<Served, NoMemory>
     ensures worked { IfOk result (λ told. Worked (serve_seen words.now)
         (world_use (W.trace world.old) (W.trace world.new) (W.faults world.old) (W.faults world.new)) told) }
     ensures unused { IsErr result

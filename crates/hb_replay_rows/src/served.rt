@@ -36,7 +36,9 @@ one turn; <usual> --turns 1; ; 5; total: 1 links, 0 accepted, 0 revoked, 0 up, 0
 fn served(rt: &impl Abort, alloc: Global, words: &str, script: &str, failing: Failing) -> String {
     let words = words_behind(rt, alloc, "serve", words);
     let script = spelled(rt, alloc, script);
-    let lines = read_script(alloc, script.as_slice()).ok().expect(rt, "a script");
+    let lines = read_script(alloc, script.as_slice())
+        .ok()
+        .expect(rt, "a script");
     let mut world = ScriptWorld::over(alloc, lines).expect(rt, "memory");
     let mut source = MemSource::over(alloc, b"", &[failing.take]).expect(rt, "memory");
     let mut out = MemSink::new(alloc, failing.room, &[failing.put]).expect(rt, "memory");
@@ -96,5 +98,8 @@ fn an_output_without_room_has_the_first_of_the_total_line(rt: HostRuntime) {
         ..UNREADABLE
     };
     let told = served(&rt, rt.alloc(), "<usual>", "", failing);
-    assert!(&rt; told.as_str() == "7; total: 1; hbone: write fault\n", "{told}");
+    assert!(&rt;
+        told.as_str() == "7; total: 1; hbone: write fault\n",
+        "{told}"
+    );
 }

@@ -183,8 +183,7 @@ module _ (taken : List Note) (p : Proxy) (trace : List Entry) (s : Stands taken 
       live_so : Reads trace l (IsCrowded (x.control.links l).conn) × Writes trace l (connection.output (x.control.links l).conn ≡ [])
           × Writes trace l (IsAllPut p.control.config (control_of s.points) l)
       live_so =
-          let none = writes_map trace l none_waits (open_writes trace l (shown_of p) alive (rests l) opens) in
-          (
+          let none = writes_map trace l none_waits (open_writes trace l (shown_of p) alive (rests l) opens) in (
             reads_map trace l crowded_so (open_reads trace l (shown_of p) alive (rests l) opens),
             none,
             writes_map trace l (λ empty. puts_all p.control.config x s.points l s.run is calm_here empty) none,
@@ -228,16 +227,15 @@ module _ (taken : List Note) (p : Proxy) (trace : List Entry) (s : Stands taken 
       looked = (subst (λ (q : m.Phase). RestsIn q (x.inbound l)) is (all.links l).calm.rests).0
 
       serving_so : Reads trace l (IsCrowded (x.inbound l).conn) × Writes trace l (connection.output (x.inbound l).conn ≡ [])
-      serving_so =
-          (
-            reads_map trace l
-                (λ none. crowded (x.inbound l).conn (kept_of l (get p.side.links.links l) (x.inbound l) (s.links.links l) is) looked
-                (sym (ap (λ (q : m.Phase). wants_in q (x.inbound l)) is) ∙ sym link_wants_are ∙ none))
-                (open_reads trace l (shown_of p) link_alive (rests l) link_opens),
-            writes_map trace l
-                (λ none. sym (ap (λ (q : m.Phase). output_in q (x.inbound l)) is) ∙ sym link_output_is ∙ none)
-                (open_writes trace l (shown_of p) link_alive (rests l) link_opens),
-          )
+      serving_so = (
+        reads_map trace l
+            (λ none. crowded (x.inbound l).conn (kept_of l (get p.side.links.links l) (x.inbound l) (s.links.links l) is) looked
+            (sym (ap (λ (q : m.Phase). wants_in q (x.inbound l)) is) ∙ sym link_wants_are ∙ none))
+            (open_reads trace l (shown_of p) link_alive (rests l) link_opens),
+        writes_map trace l
+            (λ none. sym (ap (λ (q : m.Phase). output_in q (x.inbound l)) is) ∙ sym link_output_is ∙ none)
+            (open_writes trace l (shown_of p) link_alive (rests l) link_opens),
+      )
 
   links_so : (l : ℕ) → LinkSettledBy (x.inbound l).phase trace l (x.inbound l)
   links_so l =
@@ -277,8 +275,7 @@ module _ (taken : List Note) (p : Proxy) (trace : List Entry) (s : Stands taken 
     by_stage stage is (inr live) =
         let at : tunnel.stage ≡ t.live = is ∙ live in
         let opens : is_open u trace ≡ true = up_open t.live true at (λ told. told) in
-        subst (λ (r : Stage). UpSettledBy r trace u tunnel) (sym live)
-        (
+        subst (λ (r : Stage). UpSettledBy r trace u tunnel) (sym live) (
           reads_map trace u
               (λ none. ring_full (length tunnel.ways.down.held) tunnel.ways.down.has_ended
               (sym (ap (λ (r : Stage). up_wants_by r tunnel) at) ∙ sym up_wants_are ∙ none))
