@@ -25,6 +25,7 @@ use Rattle.hb_model.specs.Machine.{Machine as Control}
 use Rattle.hb_model.specs.Puts.{IsAllPut}
 use Rattle.hb_model.specs.Runs as model
 use Rattle.hb_model.specs.Runs.{IsCalmBy}
+use Rattle.hb_model.specs.declared.config.NodeConfig.{NodeConfig}
 use Rattle.hb_node.proofs.Resting.{reads as control_reads}
 use Rattle.hb_proxy.proofs.Control.{puts_all}
 use Rattle.hb_proxy.specs.Doors.{without_doors}
@@ -74,7 +75,7 @@ writes_map trace l f (inr none) = inr (f none)
 
 -- WHERE NOTHING MAY BE READ
 
-many_wait : (n wanted : ℕ) → wanted ≡ 0 → (325 ≤ 32768 - n → 0 < wanted) → 32000 < n
+many_wait : (n wanted : ℕ) → wanted ≡ 0 → (768 ≤ 32768 - n → 0 < wanted) → 32000 < n
 many_wait n wanted none reads =
     ⊎_elim (λ (few : n - 32000 ≡ 0). absurd (let some : 0 < wanted = reads (omega (arith, few)) in omega (arith, some, none)))
     (λ (many : 0 < n - 32000). omega (arith, many)) (eq-zero-or-pos (n - 32000))
