@@ -65,15 +65,7 @@ pub fn report_text(
     notes: &[Note],
 ) -> String {
     let mut out = Vec::new(alloc);
-    put_report(
-        alloc,
-        &flags_of(flags),
-        trace,
-        notes,
-        &Totals::none(),
-        &mut out,
-    )
-    .expect(rt, "memory");
+    put_report(alloc, &flags_of(flags), trace, notes, &NOTHING, &mut out).expect(rt, "memory");
     let mut told = String::new(alloc);
     tell_octets(&mut told, out.as_slice());
     told
@@ -94,6 +86,15 @@ fn traces_have_the_wanted_reports(rt: HostRuntime) {
         assert_row(&rt, alloc, row);
     }
 }
+
+/// The totals of a run that did nothing.
+const NOTHING: Totals = Totals {
+    links: 0,
+    accepted: 0,
+    revoked: 0,
+    up: 0,
+    down: 0,
+};
 
 /// Totals of which no two are the same.
 const TOTALS: Totals = Totals {
