@@ -46,6 +46,10 @@ def window(stream, n):
     return frame(8, 0, stream, n.to_bytes(4, "big"))
 
 
+def ping(flags=0):
+    return frame(6, flags, 0, b"12345678")
+
+
 def goaway(last, code):
     return frame(7, 0, 0, last.to_bytes(4, "big") + code.to_bytes(4, "big"))
 
@@ -365,6 +369,38 @@ def lives(r):
     r.payload(3, b"y")
 
 
+def turns(r):
+    """Each DATA frame is of the next stream that has bytes. What comes of the upstreams behind a PING waits for its answer to go."""
+    streams = {1: b"a", 3: b"b", 5: b"c"}
+    r.serving("three tunnels with more bytes than a frame takes, by turns")
+    for stream in streams:
+        r.tunnel(stream, 7 + stream)
+    r.came(window(0, 65536) + ping())
+    for stream, byte in streams.items():
+        r.upcame(stream, byte * 16384)
+    r.went(ping(1))
+    for more in [True, False]:
+        for stream, byte in streams.items():
+            if more:
+                r.upcame(stream, byte.upper() * 16384)
+            r.went(data(stream, (byte if more else byte.upper()) * 16384))
+    r.sent(b"")
+
+    r.serving("the turn passes over a stream that has no bytes")
+    for stream in streams:
+        r.tunnel(stream, 7 + stream)
+    r.upcame(1, b"x")
+    r.payload(1, b"x")
+    r.came(ping())
+    for stream in [1, 5]:
+        r.upcame(stream, streams[stream])
+    r.sent(ping(1) + data(5, b"c") + data(1, b"a"))
+    r.upcame(5, b"y")
+    for stream in [1, 3]:
+        r.upcame(stream, streams[stream])
+    r.sent(data(5, b"y") + data(1, b"a") + data(3, b"b"))
+
+
 def ends(r):
     r.serving("the dial fails")
     r.ask(1)
@@ -537,7 +573,7 @@ def many(r):
 
 def main():
     r = Rows()
-    for part in [fronts, refusals, lives, ends, updates, many]:
+    for part in [fronts, refusals, lives, turns, ends, updates, many]:
         part(r)
     text = "\n".join(r.lines)
     print("//! Runs of one inbound link. `bench/tables/link_rows.py` prints this file.\n")

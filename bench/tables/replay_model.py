@@ -17,9 +17,10 @@ ADDRESS = "type.googleapis.com/istio.workload.Address"
 POLICY = "type.googleapis.com/istio.security.Authorization"
 PREFACE = b"PRI * HTTP/2.0\r\n\r\nSM\r\n\r\n"
 PATH = b"/envoy.service.discovery.v3.AggregatedDiscoveryService/DeltaAggregatedResources"
-USAGE = (" (usage: hbone check --node NODE [--network NETWORK] SOURCE IDENTITY TARGET, hbone show, or hbone replay "
+USAGE = (" (usage: hbone check --node NODE [--network NETWORK] SOURCE IDENTITY TARGET, hbone show, hbone replay "
          "--node NODE --id ID --discovery TARGET [--inbound TARGET] [--network NETWORK] [--hbone-port PORT] [--tunnels COUNT] "
-         "[--turns COUNT] [--trace] [--brief])")
+         "[--turns COUNT] [--trace] [--brief], or hbone serve --node NODE --id ID --discovery TARGET [--inbound TARGET] "
+         "[--network NETWORK] [--hbone-port PORT] [--tunnels COUNT] [--turns COUNT] [--ticks COUNT])")
 
 # How much of an output's free room may be read at once (one part of so many), whether requests are put as soon as one is
 # there or behind all that came, whether a link that opens is read and written in the same round, the order of a round, and
@@ -208,6 +209,7 @@ class World:
         self.births = self.failing = 0
         self.finishes, self.pieces, self.rooms = {}, collections.defaultdict(collections.deque), {}
         self.ended, self.broken = set(), set()
+        self.waiting = collections.Counter()
         self.named = set()
         self.trace = []
 
@@ -228,6 +230,8 @@ class World:
                 self.broken.add(line["break"])
             elif "room" in line:
                 self.rooms[link] = line["room"]
+            elif "accept" in line:
+                self.waiting[line["accept"]] += 1
             elif "nodial" in line:
                 self.failing = max(self.failing, line["nodial"])
             elif "tick" in line:
@@ -482,6 +486,10 @@ def answer(url, nonce, refused):
     return put_message(put_text(2, url) + put_text(6, nonce) + detail)
 
 
+class Version(str):
+    """The version of a resource, with the record that came with it."""
+
+
 def apply(held, response):
     """The first refused name, or None."""
     url, refused = response[4], []
@@ -492,10 +500,11 @@ def apply(held, response):
         try:
             if not name or content.get(1, "") != url:
                 raise Fault("no name, or another type")
-            RECORDS[url].read(content.get(2, b""))
+            record = RECORDS[url].read(content.get(2, b""))
             if (url, name) not in held and len(held) == 65536:
                 raise Fault("full")
-            held[url, name] = resource.get(1, "")
+            held[url, name] = Version(resource.get(1, ""))
+            held[url, name].record = record
         except Fault:
             refused.append(name)
     return refused[0] if refused else None
@@ -592,9 +601,8 @@ class Hpack:
         name = self.entry(index)[0] if index else self.string()
         return name, self.string()
 
-    def read(self, block):
-        """The headers of a block, as many as 16,384 octets of list have room for."""
-        self.block, self.at, headers, size = block, 0, [], 0
+    def headers_of(self, block):
+        self.block, self.at, headers = block, 0, []
         while self.at < len(block):
             front = block[self.at]
             if front & 0xe0 == 0x20:
@@ -608,8 +616,12 @@ class Hpack:
             if front & 0xc0 == 0x40:
                 self.entries.insert(0, header)
                 self.evict()
-        kept = []
-        for header in headers:
+        return headers
+
+    def read(self, block):
+        """The headers of a block, as many as 16,384 octets of list have room for."""
+        kept, size = [], 0
+        for header in self.headers_of(block):
             size += len(header[0]) + len(header[1]) + 32
             if size > 16384:
                 break
@@ -670,6 +682,9 @@ class Part:
 
 class Link:
     """Its connection is a client's; stream 1 asks for resources."""
+
+    # the greatest value of setting 2 that its peer may send
+    most_push = 0
 
     def __init__(self, number, ident, authority, held, choice):
         self.number, self.held, self.choice = number, held, choice
@@ -769,8 +784,8 @@ class Link:
         elif kind == WINDOW:
             self.on_increment(stream, int.from_bytes(payload, "big") & LARGEST)
 
-    @staticmethod
-    def check(kind, flags, stream, payload):
+    @classmethod
+    def check(cls, kind, flags, stream, payload):
         """What a frame alone is refused for; what DATA and HEADERS have between their padding."""
         if stream == 0 and kind in (DATA, HEADERS, PRIORITY, RESET):
             raise ConnFault(1)
@@ -788,7 +803,7 @@ class Link:
             raise ConnFault(6)
         if kind == SETTINGS:
             for number, value in pairs_of(payload):
-                if number == 2 and value > 0 or number == 5 and not 16384 <= value <= 16777215:
+                if number == 2 and value > cls.most_push or number == 5 and not 16384 <= value <= 16777215:
                     raise ConnFault(1)
         return payload[front:len(payload) - padding]
 
@@ -864,6 +879,9 @@ class Link:
         if end:
             raise Ends("discovery")
 
+    def applied(self, url):
+        """A response of this kind was applied."""
+
     def on_message(self):
         """Applies one message, if it is whole."""
         if self.message and self.message[0]:
@@ -883,6 +901,7 @@ class Link:
         if response.get(4) not in RECORDS:
             raise Ends("discovery")
         refused = apply(self.held, response)
+        self.applied(response[4])
         self.queue += answer(response[4], response.get(5, ""), refused)
         return True
 
@@ -907,7 +926,7 @@ class Run:
     def run(self):
         self.dial()
         end = "turns spent"
-        for _ in range(min(self.asked.get("turns", 10**12), 10**7)):
+        for _ in range(min(self.asked.get("turns", 2**64 - 1), 10**7)):
             if self.link and self.is_tried:
                 is_moved = self.round()
                 self.is_tried = self.is_worth() if self.choice.lists else is_moved

@@ -5,13 +5,9 @@ bench/tables/replay_model.py, which knows the formats alone, gives the answers. 
 rules leave open, but where it counts turns.
 
     /usr/bin/python3 bench/tables/replay_rows.py > crates/hb_replay_rows/src/rows.rt
-    /usr/bin/python3 bench/tables/replay_rows.py --check        # the model against the traces of bench/tables/loop_rows.py
 """
 import json
-import os
 import re
-import sys
-import types
 
 import replay_model as model
 from replay_model import ADDRESS, CONTINUATION, DATA, GOAWAY, HEADERS, PING, POLICY, PRIORITY, PUSH, RESET, SETTINGS, WINDOW
@@ -620,29 +616,7 @@ def halves(lines, size=9000):
     yield part
 
 
-def check():
-    """The model against the traces of bench/tables/loop_rows.py, by every choice."""
-    decoder = types.ModuleType("hpack")
-    decoder.Decoder = type("Decoder", (),
-                           {"decode": lambda _, block: [(n.decode(), v.decode()) for n, v in model.Hpack().read(block)]})
-    sys.modules.setdefault("hpack", decoder)
-    out, sys.stdout = sys.stdout, open(os.devnull, "w")
-    import loop_rows
-    sys.stdout = out
-    for text in loop_rows.rows:
-        name, numbers, script, want = text.split("; ")
-        turns, ticks = map(int, numbers.split())
-        lines = model.read_script(script.replace("'", '"').replace("|", "\n").encode())
-        for choice in [model.USUAL] if turns < 100 else model.CHOICES:
-            world = model.World(lines)
-            end = model.Run({"discovery": CONTROL, "id": "z1", "turns": turns}, world, choice, ticks).run()
-            got = "".join(entry + "|" for entry in world.trace) + f"{end}, {world.births} links"
-            print("agrees" if got == want else f"DISAGREES ({choice}): {got}, not {want}", name, sep=": ")
-
-
 def main():
-    if sys.argv[1:] == ["--check"]:
-        return check()
     name_parts()
     for rows in (rows_of_runs, rows_of_turns, rows_of_births, rows_of_ends, rows_of_answers, rows_of_messages, rows_of_frames,
                  rows_of_faults,
@@ -657,4 +631,5 @@ def main():
     table("USAGE", "The forms of accepted words, which are told behind each reason.", [model.USAGE[1:]])
 
 
-main()
+if __name__ == "__main__":
+    main()

@@ -30,9 +30,9 @@ WHOLE = [
     ("lines_rows.py", "hb_lines_rows", "told.rt"),
     ("node_rows.py", "hb_node_rows", "rows.rt"),
     ("link_rows.py", "hb_link_rows", "rows.rt"),
-    ("loop_rows.py", "hb_loop_rows", "rows.rt"),
     ("replay_rows.py", "hb_replay_rows", "rows.rt"),
     ("tunnel_rows.py", "hb_replay_rows", "tunnels.rt"),
+    ("modelled_rows.py", "hb_replay_rows", "modelled.rt"),
 ]
 PARTS = [("frame_vectors.py", "hb_http2_rows", "frame_vectors.rt"), ("verdict_rows.py", "hb_table_rows", "requests.rt")]
 

@@ -314,4 +314,5 @@ def main():
     table("TUNNELS", "Runs.", ROWS)
 
 
-main()
+if __name__ == "__main__":
+    main()

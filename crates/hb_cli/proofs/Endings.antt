@@ -1,5 +1,5 @@
 -- What the way in which a run ends says of its status, its bytes and its counts.
-use Rattle.std.proofs.Common.{◌≡◌, ◌≢◌, ℕ, ◌≤◌, length, take, ◌==◌, Bool, true, false, List, [], Option, Some, None, Result, Ok, Err, refl, sym, subst, ◌∙◌, inl, inr, ⊎_elim, arith}
+use Rattle.std.proofs.Common.{◌≡◌, ◌≢◌, ℕ, ◌≤◌, length, take, ◌==◌, Bool, true, false, List, [], Option, Some, None, Result, Ok, Err, refl, sym, subst, ap, ◌∙◌, inl, inr, ⊎_elim, arith}
 use Rattle.std.proofs.lemmas.Bool.Decides.{nat_tests}
 use Rattle.std.proofs.lemmas.Option.{IfSome_then}
 use Rattle.std.specs.Bool.{MatchBool}
@@ -11,15 +11,15 @@ use Rattle.hb_cli.specs.declared.stop.Stop.{Stop}
 use Rattle.hb_cli.specs.declared.stop.Stop.TheVariants.{Words, NoMemory}
 use Rattle.hb_replay.specs.Run.{Done}
 use Rattle.hb_words.specs.declared.fault.WordsFault.{WordsFault}
-use Rattle.hb_words.specs.Words.{Command, checks, shows, replays, words_of}
+use Rattle.hb_words.specs.Command.{Command, checks, shows, replays, serves}
 use Rattle.hb_cli.specs.declared.answer.Answer.{Answer}
 use Rattle.hb_cli.specs.declared.answer.Answer.TheVariants.{Judged, Left, Replayed}
 use Rattle.hb_cli.specs.declared.answer.Printed.{Printed}
 use Rattle.hb_cli.specs.declared.answer.Printed.TheVariants.{NoMemory as Short}
-use Rattle.hb_cli.specs.Answer.{answer_text, IsMade, SuitsWords}
+use Rattle.hb_cli.specs.Answer.{answer_text, IsMade, Suits}
 use Rattle.hb_cli.specs.Input.{Leaves}
-use Rattle.hb_cli.specs.Run.{outcome_of, IsAnOutcome, status_of, stop_line, world_fault_line, turns_spent_line, ReadsEnough, is_status, is_answered}
-use Rattle.hb_cli.specs.Run.{IsStated, told_line}
+use Rattle.hb_cli.specs.Run.{outcome_by, IsOutcomeBy, status_of, stop_line, world_fault_line, turns_spent_line, ReadsEnough, is_status, is_answered}
+use Rattle.hb_cli.specs.Run.{IsStated, line_at}
 use Rattle.hb_cli.specs.Ending.{Use, Run, NoFault, Untouched, Tells, takes_memory, GivesUp, LooksAt, WritesAll, Prints, Answered, WordsRefused, InputRefused}
 use Rattle.hb_cli.specs.Ending.{Unread, Unwritten, ShownInPart, Wanting, EndsWith}
 
@@ -38,7 +38,7 @@ at t status k e h = subst (EndsWith t) h e
 equal : (n k : ℕ) → (n == k) ≡ true → n ≡ k
 equal n k e = grind (arith, nat_tests)
 
-pick : {A B C : Type 0} (n k : ℕ) (b : Bool) → (n == k) ≡ b → MatchBool b A B → (n ≡ k → A → C) → (B → C) → C
+pub pick : {A B C : Type 0} (n k : ℕ) (b : Bool) → (n == k) ≡ b → MatchBool b A B → (n ≡ k → A → C) → (B → C) → C
 pick n k true e h here behind = here (equal n k e) h
 pick n k false e h here behind = behind h
 
@@ -65,11 +65,11 @@ not_both (Ok x) p q = cc
 not_both (Err e) p q = cc
 
 -- where the words aren't accepted 2 comes, or 9
-pub refused_is_two : (t : Run) (status : ℕ) → EndsWith t status → IsErr (words_of t.words) → (status ≡ 2) ⊎ (status ≡ 9)
+pub refused_is_two : (t : Run) (status : ℕ) → EndsWith t status → IsErr (t.asked) → (status ≡ 2) ⊎ (status ≡ 9)
 refused_is_two t =
-    let never : (s : ℕ) → IsOk (words_of t.words) → IsErr (words_of t.words) → (s ≡ 2) ⊎ (s ≡ 9) =
-    λ s ok err. absurd (not_both (words_of t.words) ok err) in
-    by_status t (λ s. IsErr (words_of t.words) → (s ≡ 2) ⊎ (s ≡ 9))
+    let never : (s : ℕ) → IsOk (t.asked) → IsErr (t.asked) → (s ≡ 2) ⊎ (s ≡ 9) =
+    λ s ok err. absurd (not_both (t.asked) ok err) in
+    by_status t (λ s. IsErr (t.asked) → (s ≡ 2) ⊎ (s ≡ 9))
     (λ a. never 0 a.1.0) (λ a h. inl refl) (λ a. never 3 a.2.0) (λ a. never 4 a.1.0) (λ a. never 5 a.1.0) (λ a. never 6 a.0)
     (λ a. never 7 a.1.0) (λ a h. inr refl)
 
@@ -78,18 +78,17 @@ of_each : {X : Type 0} {Q : X → Type 0} (o : Option X) → ((x : X) → Q x) �
 of_each None q = tt
 of_each (Some x) q = q x
 
-words_outcome : (words : List (List ℕ)) (fault : WordsFault) (done : Done) (input : List ℕ) → words_of words ≡ Err fault
-    → outcome_of words done input ≡ Err (Words fault)
-unfolding outcome_of
-words_outcome words fault done input e = rw e refl
+words_outcome : (asked : Result Command WordsFault) (fault : WordsFault) (done : Done) (input : List ℕ) → asked ≡ Err fault
+    → outcome_by asked done input ≡ Err (Words fault)
+words_outcome asked fault done input e = rw e refl
 
 -- an outcome that is told states its status
 pub is_stated : (t : Run) (status : ℕ) → EndsWith t status
-    → IfSome t.input.bytes (λ left. IsStated (status_of (outcome_of t.words t.done left)) status)
+    → IfSome t.input.bytes (λ left. IsStated (status_of (outcome_by t.asked t.done left)) status)
 is_stated t =
-    by_status t (λ s. IfSome t.input.bytes (λ left. IsStated (status_of (outcome_of t.words t.done left)) s))
+    by_status t (λ s. IfSome t.input.bytes (λ left. IsStated (status_of (outcome_by t.asked t.done left)) s))
     (λ a. IfSome_then t.input.bytes a.1.1 (λ left o. rw o (inl refl)))
-    (λ a. of_each t.input.bytes (λ left. rw (words_outcome t.words a.0 t.done left a.1) (inl refl)))
+    (λ a. of_each t.input.bytes (λ left. rw (words_outcome t.asked a.0 t.done left a.1) (inl refl)))
     (λ a. IfSome_then t.input.bytes a.2.1 (λ left o. rw o (inl (sym a.1))))
     (λ a. IfSome_then t.input.bytes a.1.1 (λ left o. rw o (inr (inr (inl (inl refl, refl))))))
     (λ a. IfSome_then t.input.bytes a.1.1 (λ left o. rw o (inr (inr (inl (inr (inl refl), refl))))))
@@ -132,16 +131,16 @@ answered_or_nine t stated status e (inr (inr (inl (inr (inr seven), is)))) zero 
 answered_or_nine t stated status e (inr (inr (inr nine))) zero no_reads no_puts = inr nine
 
 -- where 0 is stated and no count rose, the answer comes whole, or 9
-pub is_complete : (t : Run) (status : ℕ) → EndsWith t status → IfSome t.input.bytes (λ left. status_of (outcome_of t.words t.done left) ≡ 0
+pub is_complete : (t : Run) (status : ℕ) → EndsWith t status → IfSome t.input.bytes (λ left. status_of (outcome_by t.asked t.done left) ≡ 0
     → (Rose t.input.faults t.input.faults_after → ⊥) → (Rose t.out.faults t.out.faults_after → ⊥)
     → IsTrue (is_answered status) ⊎ (status ≡ 9))
 is_complete t status e =
     IfSome_then t.input.bytes (is_stated t status e) (λ left is. answered_or_nine t
-    (status_of (outcome_of t.words t.done left)) status e is)
+    (status_of (outcome_by t.asked t.done left)) status e is)
 
 -- what an answer says that is printed whole
 abbrev pub Whole : Run → Type 0
-Whole t = (text : List ℕ) × LooksAt t.words t.done t.input (Ok text) × WritesAll t.out text
+Whole t = (text : List ℕ) × LooksAt t.asked t.done t.input (Ok text) × WritesAll t.out text
 
 -- at 0, 4 and 5 the answer is printed whole
 pub is_whole : (t : Run) (status : ℕ) → EndsWith t status → IsTrue (is_answered status) → Whole t
@@ -163,37 +162,37 @@ is_quiet t = by_status t (λ s. is_answered s ≡ false → s ≢ 7 → s ≢ 9 
     (λ a no n7 n9. a.2.0) (λ a no n7 n9. absurd (n7 refl)) (λ a no n7 n9. absurd (n9 refl))
 
 -- where memory was wanting nothing is printed, or a part of what `show` prints
-pub in_part : (t : Run) → Wanting t → (t.out.bytes_after ≡ t.out.bytes) ⊎ ((text : List ℕ) × (words_of t.words ≡ Ok shows)
-    × IsAnOutcome t.words t.done (Ok text) × IfSome t.input.bytes (λ left. outcome_of t.words t.done left ≡ Ok text)
+pub in_part : (t : Run) → Wanting t → (t.out.bytes_after ≡ t.out.bytes) ⊎ ((text : List ℕ) × (t.asked ≡ Ok shows)
+    × IsOutcomeBy t.asked t.done (Ok text) × IfSome t.input.bytes (λ left. outcome_by t.asked t.done left ≡ Ok text)
     × ((n : ℕ) × (n ≤ length text) × Appends t.out.bytes t.out.bytes_after (take n text)))
 in_part t w = ⊎_elim (λ (quiet : NoFault t.input × Untouched t.out). inl quiet.1.0)
     (λ (part : ShownInPart t). inr (part.0, part.1, part.2.2, part.2.1, part.3.0)) w.0
 
-told_at_three : (t : Run) (stop : Stop) (left : Option (List ℕ)) → IfSome left (λ input. outcome_of t.words t.done input ≡ Err stop)
-    → Tells t.err (stop_line stop) → IfSome (told_line 3 t.words t.done left) (λ text. Tells t.err text)
+told_at_three : (t : Run) (stop : Stop) (left : Option (List ℕ)) → IfSome left (λ input. outcome_by t.asked t.done input ≡ Err stop)
+    → Tells t.err (stop_line stop) → IfSome (line_at 3 t.asked t.done left) (λ text. Tells t.err text)
 told_at_three t stop None o l = tt
 told_at_three t stop (Some input) o l = rw o l
 
 -- the line of the status is told
-pub is_told : (t : Run) (status : ℕ) → EndsWith t status → IfSome (told_line status t.words t.done t.input.bytes)
+pub is_told : (t : Run) (status : ℕ) → EndsWith t status → IfSome (line_at status t.asked t.done t.input.bytes)
     (λ text. Tells t.err text)
-is_told t = by_status t (λ s. IfSome (told_line s t.words t.done t.input.bytes) (λ text. Tells t.err text))
+is_told t = by_status t (λ s. IfSome (line_at s t.asked t.done t.input.bytes) (λ text. Tells t.err text))
     (λ a. a.3) (λ a. rw a.1 a.4) (λ a. told_at_three t a.0 t.input.bytes a.2.1 a.4) (λ a. a.3) (λ a. a.3) (λ a. a.3) (λ a. a.3)
     (λ a. a.1)
 
-shows_of : (w : Result Command WordsFault) (l : Leaves) → SuitsWords w (Left l) → w ≡ Ok shows
-shows_of (Ok (checks q)) l suits = absurd suits
-shows_of (Ok shows) l suits = refl
-shows_of (Ok (replays r)) l suits = absurd suits
-shows_of (Err fault) l suits = absurd suits
+shows_of : (c : Command) (l : Leaves) → Suits c (Left l) → c ≡ shows
+shows_of (checks q) l suits = absurd suits
+shows_of shows l suits = refl
+shows_of (replays r) l suits = absurd suits
+shows_of (serves s) l suits = absurd suits
 
 -- memory was wanting while an answer was printed: it is one of `show`
-pub wanting : (t : Run) (a : Answer) (p : Printed) (status : ℕ) → p ≡ Short → (IsMade a → p ≢ Short) → SuitsWords (words_of t.words) a
-    → LooksAt t.words t.done t.input (Ok (answer_text a)) → Prints t.out (answer_text a) p → status ≡ 9 → Tells t.err (stop_line NoMemory)
-    → EndsWith t status
-wanting t (Judged judged) p status short made suits looks prints nine told = absurd (made tt short)
-wanting t (Left l) p status short made suits looks prints nine told = rw nine (
-  inr (answer_text (Left l), shows_of (words_of t.words) l suits, looks, subst (Prints t.out (answer_text (Left l))) short prints),
+pub wanting : (t : Run) (c : Command) (a : Answer) (p : Printed) (status : ℕ) → t.asked ≡ Ok c → p ≡ Short → (IsMade a → p ≢ Short)
+    → Suits c a → LooksAt t.asked t.done t.input (Ok (answer_text a)) → Prints t.out (answer_text a) p → status ≡ 9
+    → Tells t.err (stop_line NoMemory) → EndsWith t status
+wanting t c (Judged judged) p status asks short made suits looks prints nine told = absurd (made tt short)
+wanting t c (Left l) p status asks short made suits looks prints nine told = rw nine (
+  inr (answer_text (Left l), asks ∙ ap Ok (shows_of c l suits), looks, subst (Prints t.out (answer_text (Left l))) short prints),
   told,
 )
-wanting t (Replayed told) p status short made suits looks prints nine says = absurd (made tt short)
+wanting t c (Replayed told) p status asks short made suits looks prints nine says = absurd (made tt short)

@@ -1,5 +1,6 @@
-mod Endings
-mod Inputs
-mod Outcomes
-mod Printing
-mod Scripts
+pub mod Endings
+pub mod Inputs
+pub mod Outcomes
+pub mod Printing
+pub mod Scripts
+pub mod Serves

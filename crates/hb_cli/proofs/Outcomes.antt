@@ -1,23 +1,16 @@
--- The outcome of words and input, from what was read of them.
+-- The outcome of what is asked by an input, from what was read of it.
 use Rattle.std.proofs.Common.{◌≡◌, ℕ, ◌<◌, ◌≤◌, true, false, List, [], length, Some, Result, Ok, Err, refl, sym, ap, ◌∙◌, inl, inr, arith}
 use Rattle.std.specs.Prelude.{IfSome, nat_lt}
 use Rattle.std.specs.Io.KnownBytes.{Consumes}
 use Rattle.std.proofs.lemmas.Bool.Decides.{nat_tests}
 use Rattle.std.proofs.lemmas.Option.{IfSome_then}
 use Rattle.hb_replay.specs.Run.{Done}
-use Rattle.hb_words.specs.Words.{Command, words_of}
+use Rattle.hb_words.specs.Command.{Command}
 use Rattle.hb_cli.specs.declared.input.Refused.{Refused as Refusal}
-use Rattle.hb_cli.specs.declared.stop.Stop.{Stop}
-use Rattle.hb_cli.specs.declared.stop.Stop.TheVariants.{Words, TooLong, Refused, ReadFault, NoMemory}
+use Rattle.hb_cli.specs.declared.stop.Stop.TheVariants.{TooLong}
 use Rattle.hb_cli.specs.Input.{longest_input}
-use Rattle.hb_cli.specs.Run.{or_refused, printed_by, answer_after, outcome_of}
-use Rattle.hb_cli.specs.Ending.{Use, NoFault, LooksAt, LooksFor, FindsOut, ComesTo}
-
-outcome_is : (words : List (List ℕ)) (c : Command) (done : Done) (input : List ℕ) (o : Result (List ℕ) Stop) → words_of words ≡ Ok c
-    → answer_after c done input ≡ o
-    → outcome_of words done input ≡ o
-unfolding outcome_of
-outcome_is words c done input o e a = rw e a
+use Rattle.hb_cli.specs.Run.{or_refused, printed_by, answer_after}
+use Rattle.hb_cli.specs.Ending.{Use, NoFault, LooksAt}
 
 answer_is : (c : Command) (done : Done) (input : List ℕ) (r : Result (List ℕ) Refusal) → length input ≤ longest_input
     → printed_by c done input ≡ r
@@ -37,33 +30,14 @@ too_long_is c done input over = rw (passes (length input) over) refl where
 pub was_whole : (c : Command) (done : Done) (u : Use) (input : List ℕ) (r : Result (List ℕ) Refusal)
     → IfSome u.bytes (λ left. input ≡ left)
     → IfSome u.bytes (λ _. u.bytes_after ≡ Some []) → NoFault u → length input ≤ longest_input → printed_by c done input ≡ r
-    → LooksFor c done u (or_refused r)
+    → LooksAt (Ok c) done u (or_refused r)
 was_whole c done u input r same end good within a =
     let is = answer_is c done input r within a in
-    (IfSome_then u.bytes same (λ left eq. ap (answer_after c done) (sym eq) ∙ is), (input, is), inl end, good)
+    (refl, IfSome_then u.bytes same (λ left eq. ap (answer_after c done) (sym eq) ∙ is), (input, is), inl end, good)
 
 -- the input was read past its limit
 pub was_too_long : (c : Command) (done : Done) (u : Use) → IfSome u.bytes (λ left. longest_input < length left)
-    → (read : List ℕ) × (longest_input < length read) × Consumes u.bytes u.bytes_after read → NoFault u → LooksFor c done u (Err TooLong)
+    → (read : List ℕ) × (longest_input < length read) × Consumes u.bytes u.bytes_after read → NoFault u
+    → LooksAt (Ok c) done u (Err TooLong)
 was_too_long c done u over read good =
-    (IfSome_then u.bytes over (λ left lt. too_long_is c done left lt), (read.0, too_long_is c done read.0 read.1), inr read, good)
-
-looked : (words : List (List ℕ)) (c : Command) (done : Done) (u : Use) (o : Result (List ℕ) Stop) → words_of words ≡ Ok c
-    → LooksFor c done u o → LooksAt words done u o
-looked words c done u o e found = (
-  rw e refl,
-  IfSome_then u.bytes found.0 (λ left a. outcome_is words c done left o e a),
-  (found.1.0, outcome_is words c done found.1.0 o e found.1.1),
-  found.2,
-  found.3,
-)
-
--- the words were accepted, and the input was read for their command
-pub was_asked : (words : List (List ℕ)) (c : Command) (done : Done) (u : Use) (r : Result (List ℕ) Stop) → words_of words ≡ Ok c
-    → FindsOut c done u r → ComesTo words done u r
-was_asked words c done u (Ok answer) e found = looked words c done u (Ok answer) e found
-was_asked words c done u (Err (Words fault)) e found = absurd found
-was_asked words c done u (Err TooLong) e found = looked words c done u (Err TooLong) e found
-was_asked words c done u (Err (Refused refusal)) e found = looked words c done u (Err (Refused refusal)) e found
-was_asked words c done u (Err ReadFault) e found = (rw e refl, found)
-was_asked words c done u (Err NoMemory) e found = found
+    (refl, IfSome_then u.bytes over (λ left lt. too_long_is c done left lt), (read.0, too_long_is c done read.0 read.1), inr read, good)

@@ -1,11 +1,11 @@
 -- What a run leaves of the world of a script, from what it leaves at its status.
 use Rattle.std.proofs.Common.{◌≡◌, ℕ, List, [], Option, Result, Ok, Err, refl, subst, ap, ◌∙◌, inl, inr, ⊎_elim}
-use Rattle.std.specs.Prelude.{◌⊎◌}
+use Rattle.std.specs.Prelude.{◌⊎◌, IsTrue}
 use Rattle.hb_replay.specs.Run.{RunState}
 use Rattle.hb_words.specs.declared.fault.WordsFault.{WordsFault}
-use Rattle.hb_words.specs.Replay.{Replay}
-use Rattle.hb_words.specs.Words.{Command, checks, shows, replays}
+use Rattle.hb_words.specs.Command.{Command, Replay, checks, shows, replays, serves}
 use Rattle.hb_cli.specs.Replaying.{LeavesAt, WordsLeaveAt}
+use Rattle.hb_cli.specs.Run.{takes_input}
 
 -- what a replay leaves at one status
 pub left_at : (c : Result Command WordsFault) (r : Replay) (input : Option (List ℕ)) (before after : RunState) (status k : ℕ)
@@ -13,13 +13,14 @@ pub left_at : (c : Result Command WordsFault) (r : Replay) (input : Option (List
 left_at c r input before after status k left is at =
     subst (LeavesAt r input after) at (subst (λ (d : Result Command WordsFault). WordsLeaveAt d input before after status) is left)
 
--- 4 and 5 come of a replay alone
+-- of the commands that are answered by their input 4 and 5 come of a replay alone
 pub replays_alone : (c : Result Command WordsFault) (input : Option (List ℕ)) (before after : RunState) (status : ℕ)
-    → WordsLeaveAt c input before after status → (status ≡ 4) ⊎ (status ≡ 5) → (r : Replay) × (c ≡ Ok (replays r))
-replays_alone (Ok (checks q)) input before after status left is = absurd (⊎_elim (λ four. left.1 four) (λ five. left.2 five) is)
-replays_alone (Ok shows) input before after status left is = absurd (⊎_elim (λ four. left.1 four) (λ five. left.2 five) is)
-replays_alone (Ok (replays r)) input before after status left is = (r, refl)
-replays_alone (Err fault) input before after status left is = absurd (⊎_elim (λ four. left.1 four) (λ five. left.2 five) is)
+    → IsTrue (takes_input c) → WordsLeaveAt c input before after status → (status ≡ 4) ⊎ (status ≡ 5) → (r : Replay) × (c ≡ Ok (replays r))
+replays_alone (Ok (checks q)) input before after status takes left is = absurd (⊎_elim (λ four. left.1 four) (λ five. left.2 five) is)
+replays_alone (Ok shows) input before after status takes left is = absurd (⊎_elim (λ four. left.1 four) (λ five. left.2 five) is)
+replays_alone (Ok (replays r)) input before after status takes left is = (r, refl)
+replays_alone (Ok (serves s)) input before after status takes left is = absurd (cc)
+replays_alone (Err fault) input before after status takes left is = absurd (⊎_elim (λ four. left.1 four) (λ five. left.2 five) is)
 
 -- no other command changes the script's world
 pub unchanged : (c : Result Command WordsFault) (input : Option (List ℕ)) (before after : RunState) (status : ℕ)
@@ -27,6 +28,7 @@ pub unchanged : (c : Result Command WordsFault) (input : Option (List ℕ)) (bef
 unchanged (Ok (checks q)) input before after status left never = left.0
 unchanged (Ok shows) input before after status left never = left.0
 unchanged (Ok (replays r)) input before after status left never = absurd (never r refl)
+unchanged (Ok (serves s)) input before after status left never = left
 unchanged (Err fault) input before after status left never = left.0
 
 not_done : (c : Result Command WordsFault) (input : Option (List ℕ)) (before after : RunState) (status : ℕ)
@@ -35,6 +37,7 @@ not_done : (c : Result Command WordsFault) (input : Option (List ℕ)) (before a
 not_done (Ok (checks q)) input before after status quiet none left = ap (λ (w : RunState). w.script.trace) left.0 ∙ none
 not_done (Ok shows) input before after status quiet none left = ap (λ (w : RunState). w.script.trace) left.0 ∙ none
 not_done (Ok (replays r)) input before after status quiet none left = quiet r left
+not_done (Ok (serves s)) input before after status quiet none left = ap (λ (w : RunState). w.script.trace) left ∙ none
 not_done (Err fault) input before after status quiet none left = ap (λ (w : RunState). w.script.trace) left.0 ∙ none
 
 -- where there is no answer, want of memory aside, nothing was done

@@ -1,8 +1,7 @@
 -- What an answer prints.
 use Rattle.std.specs.Prelude.{⊤, ℕ, List, Result, Ok, Err}
 use Rattle.hb_base.specs.declared.or.Or.{Or}
-use Rattle.hb_words.specs.Words.{Command, checks, shows, replays}
-use Rattle.hb_words.specs.declared.fault.WordsFault.{WordsFault}
+use Rattle.hb_words.specs.Command.{Command, checks, shows, replays}
 use Rattle.hb_cli.specs.declared.input.Refused.{Refused}
 use Rattle.hb_cli.specs.declared.stop.Stop.{Stop}
 use Rattle.hb_cli.specs.declared.answer.Answer.{Answer}
@@ -34,7 +33,3 @@ Suits (checks q) (IsJudgement judged) = ⊤
 Suits shows (IsLeft left) = ⊤
 Suits (replays r) (IsReplayed told) = ⊤
 Suits _ _ = ⊥
-
-abbrev pub SuitsWords : Result Command WordsFault → Answer → Type 0
-SuitsWords (Ok c) a = Suits c a
-SuitsWords (Err fault) a = ⊥

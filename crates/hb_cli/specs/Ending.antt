@@ -7,10 +7,10 @@ use Rattle.hb_cli.specs.declared.stop.Stop.{Stop}
 use Rattle.hb_cli.specs.declared.stop.Stop.TheVariants.{Words, TooLong, Refused, ReadFault, NoMemory}
 use Rattle.hb_replay.specs.Run.{Done}
 use Rattle.hb_words.specs.declared.fault.WordsFault.{WordsFault}
-use Rattle.hb_words.specs.Words.{Command, shows, words_of}
+use Rattle.hb_words.specs.Command.{Command, shows}
 use Rattle.hb_cli.specs.declared.answer.Printed.{Printed}
 use Rattle.hb_cli.specs.declared.answer.Printed.TheVariants as printing
-use Rattle.hb_cli.specs.Run.{answer_after, outcome_of, IsAnOutcome, status_of, stop_line, write_fault_line, world_fault_line, turns_spent_line, WritesLine, ReadsEnough}
+use Rattle.hb_cli.specs.Run.{outcome_by, IsOutcomeBy, status_of, stop_line, write_fault_line, world_fault_line, turns_spent_line, WritesLine, ReadsEnough}
 
 -- what a run does with a source or a sink: its bytes and its count of faults, before and after
 pub record Use : Type 0 where
@@ -23,9 +23,9 @@ abbrev pub use_of : Option (List ℕ) → Option (List ℕ) → ℕ → ℕ → 
 use_of bytes bytes_after faults faults_after =
     record { bytes = bytes; bytes_after = bytes_after; faults = faults; faults_after = faults_after }
 
--- a run: its words, the done that it leaves, and what it does with the input, the output and the error text
+-- a run: what its words ask, the done that it leaves, and what it does with the input, the output and the error text
 pub record Run : Type 0 where
-  pub words : List (List ℕ)
+  pub asked : Result Command WordsFault
   pub done : Done
   pub input : Use
   pub out : Use
@@ -63,34 +63,19 @@ abbrev pub Tells : Use → List ℕ → Type 0
 Tells u text = WritesLine u.bytes u.bytes_after u.faults u.faults_after text
 
 -- the words are accepted, and this is the outcome by the input, of which enough is read
-abbrev pub LooksAt : List (List ℕ) → Done → Use → Result (List ℕ) Stop → Type 0
-LooksAt words done input o =
-    IsOk (words_of words) × IfSome input.bytes (λ left. outcome_of words done left ≡ o) × IsAnOutcome words done o
+abbrev pub LooksAt : Result Command WordsFault → Done → Use → Result (List ℕ) Stop → Type 0
+LooksAt asked done input o =
+    IsOk asked × IfSome input.bytes (λ left. outcome_by asked done left ≡ o) × IsOutcomeBy asked done o
     × ReadsEnough input.bytes input.bytes_after × NoFault input
-
--- this is what a command answers by the input, of which enough is read
-abbrev pub LooksFor : Command → Done → Use → Result (List ℕ) Stop → Type 0
-LooksFor c done input o =
-    IfSome input.bytes (λ left. answer_after c done left ≡ o) × ((some : List ℕ) × (answer_after c done some ≡ o))
-    × ReadsEnough input.bytes input.bytes_after × NoFault input
-
--- What reading the input for a command comes to.
-abbrev pub FindsOut : Command → Done → Use → Result (List ℕ) Stop → Type 0
-FindsOut c done input (Ok text) = LooksFor c done input (Ok text)
-FindsOut c done input (Err (Words fault)) = ⊥
-FindsOut c done input (Err TooLong) = LooksFor c done input (Err TooLong)
-FindsOut c done input (Err (Refused refusal)) = LooksFor c done input (Err (Refused refusal))
-FindsOut c done input (Err ReadFault) = OneFault input
-FindsOut c done input (Err NoMemory) = NoFault input
 
 -- What reading the words and then the input comes to.
-abbrev pub ComesTo : List (List ℕ) → Done → Use → Result (List ℕ) Stop → Type 0
-ComesTo words done input (Ok text) = LooksAt words done input (Ok text)
-ComesTo words done input (Err (Words fault)) = (words_of words ≡ Err fault) × Untouched input
-ComesTo words done input (Err TooLong) = LooksAt words done input (Err TooLong)
-ComesTo words done input (Err (Refused refusal)) = LooksAt words done input (Err (Refused refusal))
-ComesTo words done input (Err ReadFault) = IsOk (words_of words) × OneFault input
-ComesTo words done input (Err NoMemory) = NoFault input
+abbrev pub ComesTo : Result Command WordsFault → Done → Use → Result (List ℕ) Stop → Type 0
+ComesTo asked done input (Ok text) = LooksAt asked done input (Ok text)
+ComesTo asked done input (Err (Words fault)) = (asked ≡ Err fault) × Untouched input
+ComesTo asked done input (Err TooLong) = LooksAt asked done input (Err TooLong)
+ComesTo asked done input (Err (Refused refusal)) = LooksAt asked done input (Err (Refused refusal))
+ComesTo asked done input (Err ReadFault) = IsOk asked × OneFault input
+ComesTo asked done input (Err NoMemory) = NoFault input
 
 -- a line whose text isn't fixed, so that telling it takes memory
 abbrev pub takes_memory : Stop → Bool
@@ -108,31 +93,31 @@ GivesUp stop err status =
 
 -- 0, 4 and 5: the answer is printed whole, and how a replay ended is told
 abbrev pub Answered : Run → List ℕ → Type 0
-Answered t ending = (text : List ℕ) × LooksAt t.words t.done t.input (Ok text) × WritesAll t.out text × Tells t.err ending
+Answered t ending = (text : List ℕ) × LooksAt t.asked t.done t.input (Ok text) × WritesAll t.out text × Tells t.err ending
 
 -- 2: the words aren't accepted, and nothing is read
 abbrev pub WordsRefused : Run → Type 0
-WordsRefused t = (fault : WordsFault) × (words_of t.words ≡ Err fault) × Untouched t.input × Untouched t.out
+WordsRefused t = (fault : WordsFault) × (t.asked ≡ Err fault) × Untouched t.input × Untouched t.out
     × Tells t.err (stop_line (Words fault))
 
 -- 3: the input is too long, or one of its messages is refused
 abbrev pub InputRefused : Run → Type 0
 InputRefused t =
-    (stop : Stop) × (status_of (Err stop) ≡ 3) × LooksAt t.words t.done t.input (Err stop) × Untouched t.out
+    (stop : Stop) × (status_of (Err stop) ≡ 3) × LooksAt t.asked t.done t.input (Err stop) × Untouched t.out
     × Tells t.err (stop_line stop)
 
 -- 6: a take failed
 abbrev pub Unread : Run → Type 0
-Unread t = IsOk (words_of t.words) × OneFault t.input × Untouched t.out × Tells t.err (stop_line ReadFault)
+Unread t = IsOk (t.asked) × OneFault t.input × Untouched t.out × Tells t.err (stop_line ReadFault)
 
 -- 7: a put failed, and the answer is printed in part
 abbrev pub Unwritten : Run → Type 0
 Unwritten t =
-    (text : List ℕ) × LooksAt t.words t.done t.input (Ok text) × WritesPart t.out text × Tells t.err write_fault_line
+    (text : List ℕ) × LooksAt t.asked t.done t.input (Ok text) × WritesPart t.out text × Tells t.err write_fault_line
 
 -- the answer of `show` is printed in part
 abbrev pub ShownInPart : Run → Type 0
-ShownInPart t = (text : List ℕ) × (words_of t.words ≡ Ok shows) × LooksAt t.words t.done t.input (Ok text) × WritesSome t.out text
+ShownInPart t = (text : List ℕ) × (t.asked ≡ Ok shows) × LooksAt t.asked t.done t.input (Ok text) × WritesSome t.out text
 
 -- 9: want of memory, before the answer or while it is shown
 abbrev pub Wanting : Run → Type 0

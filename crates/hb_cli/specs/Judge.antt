@@ -1,7 +1,7 @@
 -- What `check` answers.
 use Rattle.std.specs.Prelude.{ℕ, false, List, Result, Ok}
 use Rattle.hb_wire.specs.Message.{and_then}
-use Rattle.hb_words.specs.Words.{Question}
+use Rattle.hb_words.specs.Command.{Question}
 use Rattle.hb_cli.specs.declared.input.Refused.{Refused}
 use Rattle.hb_cli.specs.Input.{left_by}
 use Rattle.hb_table.specs.declared.judgement.Judged.{Judged}

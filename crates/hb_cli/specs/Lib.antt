@@ -4,4 +4,5 @@ pub mod Input
 pub mod Judge
 pub mod Replaying
 pub mod Run
+pub mod Serving
 pub mod Taking

@@ -5,10 +5,9 @@ use Rattle.hb_base.specs.declared.or.Or.{Or}
 use Rattle.hb_base.specs.declared.or.Or.TheVariants.{Fault, NoMemory as Lacks}
 use Rattle.hb_script.specs.Script.{lines}
 use Rattle.hb_words.specs.declared.fault.WordsFault.{WordsFault}
-use Rattle.hb_words.specs.Replay.{Replay}
-use Rattle.hb_words.specs.Words.{Command, replays}
-use Rattle.hb_replay.specs.declared.run.ReplayEnd.{ReplayEnd}
-use Rattle.hb_replay.specs.declared.run.ReplayEnd.TheVariants as ends
+use Rattle.hb_words.specs.Command.{Command, Replay, replays, serves}
+use Rattle.hb_replay.specs.declared.end.ReplayEnd.{ReplayEnd}
+use Rattle.hb_replay.specs.declared.end.ReplayEnd.TheVariants as ends
 use Rattle.hb_replay.specs.Run.{RunState, done_in, IsRun, DoneLawfully}
 use Rattle.hb_cli.specs.declared.answer.Answer.{Answer}
 use Rattle.hb_cli.specs.declared.answer.Answer.TheVariants.{Judged, Left, Replayed}
@@ -47,11 +46,6 @@ abbrev pub LeavesBy : Command → Option (List ℕ) → RunState → RunState �
 LeavesBy (replays r) input before after result = Leaves r input after result
 LeavesBy _ input before after result = after ≡ before
 
--- words that aren't accepted leave it as it was
-abbrev pub LeavesByWords : Result Command WordsFault → Option (List ℕ) → RunState → RunState → Result Answer Stop → Type 0
-LeavesByWords (Ok c) input before after result = LeavesBy c input before after result
-LeavesByWords (Err fault) input before after result = after ≡ before
-
 -- the status of a run that ended so, and its line
 abbrev pub EndsRun : ReplayEnd → Use → ℕ → Type 0
 EndsRun ends.Stopped err status = (status ≡ 0) × Tells err []
@@ -74,8 +68,10 @@ LeavesAt r input world status =
 
 abbrev pub CommandLeavesAt : Command → Option (List ℕ) → RunState → RunState → ℕ → Type 0
 CommandLeavesAt (replays r) input before after status = LeavesAt r input after status
+CommandLeavesAt (serves s) input before after status = after ≡ before
 CommandLeavesAt _ input before after status = (after ≡ before) × (status ≢ 4) × (status ≢ 5)
 
+-- words that aren't accepted leave it as it was
 abbrev pub WordsLeaveAt : Result Command WordsFault → Option (List ℕ) → RunState → RunState → ℕ → Type 0
 WordsLeaveAt (Ok c) input before after status = CommandLeavesAt c input before after status
 WordsLeaveAt (Err fault) input before after status = (after ≡ before) × (status ≢ 4) × (status ≢ 5)

@@ -1,5 +1,5 @@
 -- What a command answers: its status, what it writes, and why.
-use Rattle.std.specs.Prelude.{◌≡◌, ℕ, ◌<◌, ◌==◌, Bool, true, ◌⊎◌, nat_lt, List, [], ◌∷◌, ◌++◌, length, take, Option, Some, None, IfSome, Result, Ok, Err, if◌then◌else◌, codes, decimal}
+use Rattle.std.specs.Prelude.{◌≡◌, ℕ, ◌<◌, ◌==◌, Bool, true, false, ◌⊎◌, nat_lt, List, [], ◌∷◌, ◌++◌, length, take, Option, Some, None, IfSome, Result, Ok, Err, if◌then◌else◌, codes, decimal}
 use Rattle.std.specs.Io.KnownBytes.{Appends, Consumes}
 use Rattle.std.specs.List.{list_any, flat_map}
 use Rattle.std.specs.Option.{option_map}
@@ -13,7 +13,8 @@ use Rattle.hb_script.specs.declared.fault.ScriptWhy.TheVariants as row
 use Rattle.hb_script.specs.Script.{lines}
 use Rattle.hb_wire.specs.Message.{and_then}
 use Rattle.hb_words.specs.Fault.{fault_line}
-use Rattle.hb_words.specs.Words.{Command, checks, shows, replays, words_of}
+use Rattle.hb_words.specs.Command.{Command, checks, shows, replays, serves}
+use Rattle.hb_words.specs.Words.{words_of}
 use Rattle.hb_words.specs.declared.fault.WordsFault.{WordsFault}
 use Rattle.hb_cli.specs.declared.input.InputWhy.{InputWhy}
 use Rattle.hb_cli.specs.declared.input.InputWhy.TheVariants as why
@@ -53,23 +54,38 @@ or_line (Ok x) = Ok x
 or_line (Err fault) = Err (BadLine fault)
 
 -- What a command prints by the resources that an input leaves, or the first of its messages that is refused. `replay` prints
--- the report of the done that it left, where each row of its input is a line.
+-- the report of the done that it left, where each row of its input is a line. `serve`, which reads no input, prints nothing by it.
 abbrev pub printed_by : Command → Done → List ℕ → Result (List ℕ) Refusal
 printed_by (checks q) done input = and_then (judged_by q input) (λ j. Ok (answer_line j))
 printed_by shows done input = and_then (left_by true [] [] input) (λ l. Ok (shown l))
 printed_by (replays r) done input = and_then (or_line (lines input)) (λ script. Ok (report_of r done))
+printed_by (serves s) done input = Ok []
 
 -- what a command prints after this input, or why it prints nothing
 unfoldable pub answer_after : Command → Done → List ℕ → Result (List ℕ) Stop
 answer_after c done input = if nat_lt longest_input (length input) then Err TooLong else or_refused (printed_by c done input)
 
+-- the outcome of what is asked by this input, and of the done that was left
+abbrev pub outcome_by : Result Command WordsFault → Done → List ℕ → Result (List ℕ) Stop
+outcome_by asked done input = and_then (or_words asked) (λ c. answer_after c done input)
+
 -- The outcome of these words and this input, and of the done that was left: the words are looked at first, then the whole input.
-unfoldable pub outcome_of : List (List ℕ) → Done → List ℕ → Result (List ℕ) Stop
-outcome_of words done input = and_then (or_words (words_of words)) (λ c. answer_after c done input)
+abbrev pub outcome_of : List (List ℕ) → Done → List ℕ → Result (List ℕ) Stop
+outcome_of words done input = outcome_by (words_of words) done input
+
+-- it is the outcome of what is asked, of the done and of some input
+abbrev pub IsOutcomeBy : Result Command WordsFault → Done → Result (List ℕ) Stop → Type 0
+IsOutcomeBy asked done o = (input : List ℕ) × (outcome_by asked done input ≡ o)
 
 -- it is the outcome of the words, the done and some input
 abbrev pub IsAnOutcome : List (List ℕ) → Done → Result (List ℕ) Stop → Type 0
-IsAnOutcome words done o = (input : List ℕ) × (outcome_of words done input ≡ o)
+IsAnOutcome words done o = IsOutcomeBy (words_of words) done o
+
+-- words that ask for `serve` read no input; of all others the outcome is by the input
+abbrev pub takes_input : Result Command WordsFault → Bool
+takes_input (Ok (serves s)) = false
+takes_input (Ok _) = true
+takes_input (Err fault) = true
 
 -- the status of an outcome
 abbrev pub status_of : Result (List ℕ) Stop → ℕ
@@ -106,7 +122,7 @@ stop_line NoMemory = line (codes "hbone: out of memory")
 abbrev pub write_fault_line : List ℕ
 write_fault_line = line (codes "hbone: write fault")
 
--- the lines of a replay whose world failed, and of one whose turns were spent
+-- the lines of a run whose world failed, and of one whose turns were spent
 abbrev pub world_fault_line : List ℕ
 world_fault_line = line (codes "hbone: world fault")
 
@@ -128,7 +144,7 @@ ReadsEnough before after =
 abbrev pub is_status : ℕ → Bool
 is_status status = list_any (λ s. s == status) (0 ∷ 2 ∷ 3 ∷ 4 ∷ 5 ∷ 6 ∷ 7 ∷ 9 ∷ [])
 
--- the statuses at which an answer is printed whole: 0, and those of a replay that no stop ended
+-- the statuses at which an answer is printed whole: 0, and those of a run of the proxy that no stop ended
 abbrev pub is_answered : ℕ → Bool
 is_answered status = list_any (λ s. s == status) (0 ∷ 4 ∷ 5 ∷ [])
 
@@ -146,13 +162,16 @@ words_line (Ok c) = None
 words_line (Err fault) = Some (stop_line (Words fault))
 
 -- What is told at a status: of 3, where the input is told.
-abbrev pub told_line : ℕ → List (List ℕ) → Done → Option (List ℕ) → Option (List ℕ)
-told_line status words done left =
+abbrev pub line_at : ℕ → Result Command WordsFault → Done → Option (List ℕ) → Option (List ℕ)
+line_at status asked done left =
     if status == 0 then Some []
-    else (if status == 2 then words_line (words_of words)
-    else (if status == 3 then option_map (λ input. line_of (outcome_of words done input)) left
+    else (if status == 2 then words_line asked
+    else (if status == 3 then option_map (λ input. line_of (outcome_by asked done input)) left
     else (if status == 4 then Some world_fault_line
     else (if status == 5 then Some turns_spent_line
     else (if status == 6 then Some (stop_line ReadFault)
     else (if status == 7 then Some write_fault_line
     else (if status == 9 then Some (stop_line NoMemory) else None)))))))
+
+abbrev pub told_line : ℕ → List (List ℕ) → Done → Option (List ℕ) → Option (List ℕ)
+told_line status words done left = line_at status (words_of words) done left

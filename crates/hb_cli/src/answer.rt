@@ -47,7 +47,7 @@ fn line_of(judged: Judged) -> &'static [u8]
 }
 
 /// Prints a text that is there whole.
-fn print_text<K: Sink>(out: &mut K, text: &[u8]) -> Printed
+pub fn print_text<K: Sink>(out: &mut K, text: &[u8]) -> Printed
     ensures printed { Prints (use_of (K.written out.old) (K.written out.new) (K.faults out.old) (K.faults out.new)) text.now result }
     ensures later { K.faults out.old ≤ K.faults out.new }
     ensures made { result ≢ printing.NoMemory }
@@ -103,8 +103,8 @@ pub fn print<K: Sink>(alloc: Global, answer: &Answer, out: &mut K) -> Printed
     }
 }
 
-/// Tells how a run ended, where no stop ended it. Gives the status.
-fn end_run<E: Sink>(end: ReplayEnd, err: &mut E) -> u8
+/// Tells how a run of the proxy ended, where no stop ended it. Gives the status.
+pub fn end_run<E: Sink>(end: ReplayEnd, err: &mut E) -> u8
     ensures ends { EndsRun end (use_of (E.written err.old) (E.written err.new) (E.faults err.old) (E.faults err.new)) result }
     ensures later { E.faults err.old ≤ E.faults err.new }
 {

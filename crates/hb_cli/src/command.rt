@@ -7,24 +7,26 @@ ghost use Rattle.std.specs.String.{string_bytes};
 ghost use Rattle.hb_base.specs.Count.{Counts, Rose};
 ghost use Rattle.hb_base.specs.Outcome.{Answers};
 ghost use Rattle.hb_replay.specs.Run.{DoneLawfully, done_by, run_state};
-ghost use Rattle.hb_replay.specs.declared.run.ReplayEnd.{ReplayEnd as ReplayEnds};
-ghost use Rattle.hb_replay.specs.declared.run.ReplayEnd.TheVariants as ends;
+ghost use Rattle.hb_replay.specs.declared.end.ReplayEnd.{ReplayEnd as ReplayEnds};
+ghost use Rattle.hb_replay.specs.declared.end.ReplayEnd.TheVariants as ends;
 ghost use Rattle.hb_words.specs.Asked.{question, command_of};
-ghost use Rattle.hb_words.specs.AskedReplay.{replay_seen};
-ghost use Rattle.hb_words.specs.Replay.{Replay as Replays};
-ghost use Rattle.hb_words.specs.Words.{shows, replays, words_of};
+ghost use Rattle.hb_words.specs.AskedRun.{replay_seen, serve_seen};
+ghost use Rattle.hb_words.specs.Command.{Replay as Replays, Serve as Serves, shows, replays, serves};
+ghost use Rattle.hb_words.specs.Words.{words_of};
 ghost use Rattle.hb_world.specs.Allowed.{Allowed};
-ghost use Rattle.hb_cli.specs.Answer.{texts, found_texts, Suits, SuitsWords};
-ghost use Rattle.hb_cli.specs.Ending.{FindsOut, ComesTo, EndsWith, GivesUp, use_of};
+ghost use Rattle.hb_cli.specs.Answer.{texts, found_texts, Suits};
+ghost use Rattle.hb_cli.specs.Ending.{ComesTo, EndsWith, GivesUp, use_of};
 ghost use Rattle.hb_cli.specs.Judge.{judged_by};
-ghost use Rattle.hb_cli.specs.Replaying.{LeavesOf, CommandLeaves, LeavesBy, LeavesByWords, WordsLeaveAt, RunsTo};
+ghost use Rattle.hb_cli.specs.Replaying.{LeavesOf, CommandLeaves, LeavesBy, CommandLeavesAt, WordsLeaveAt, RunsTo};
 ghost use Rattle.hb_cli.specs.Run.{IsAnOutcome, IsStated, ReadsEnough, WritesLine, printed_by, is_status, is_answered};
-ghost use Rattle.hb_cli.specs.Run.{outcome_of, status_of, stop_line, told_line};
+ghost use Rattle.hb_cli.specs.Run.{outcome_of, status_of, stop_line, takes_input, told_line};
+ghost use Rattle.hb_cli.specs.Serving.{ServesAt, world_use};
 ghost use Rattle.hb_cli.specs.declared.stop.Stop.{Stop};
 ghost use Rattle.hb_cli.specs.declared.stop.Stop.TheVariants.{NoMemory};
 
 use crate::answer::{Answer, Printed, end, print};
 use crate::input::{Refused, read_input};
+use crate::serving::serve_world;
 use crate::stop::Stop;
 use crate::telling::tell;
 use hb_base::{Bytes, Or, ReadStop, Sink, Source, Text, read_all};
@@ -32,7 +34,7 @@ use hb_replay::replay;
 use hb_table::{Judged, judge};
 use hb_turns::Keep;
 use hb_words::{Check, Command, Replay, read_words};
-use hb_world::ScriptWorld;
+use hb_world::{ScriptWorld, World};
 use std::alloc::{AllocError, Global};
 
 /// The most bytes of input.
@@ -90,6 +92,7 @@ fn answer(
     keep: &mut Keep,
     script: &mut ScriptWorld,
 ) -> Result<Answer, Or<Refused>>
+    requires by_input { IsTrue (takes_input (Ok (command_of command.now))) }
     requires lines { script.old.lines ≡ [] }
     requires trace { script.old.trace ≡ [] }
     ensures text { Answers (texts result) (printed_by (command_of command.now) (done_by script.new.trace keep.new) input) }
@@ -106,6 +109,7 @@ fn answer(
             Ok(Answer::Left(left))
         }
         Command::Replay(words) => replay_input(alloc, words, input, keep, script),
+        Command::Serve(_) => unreachable!(),
     }
 }
 
@@ -117,9 +121,10 @@ fn find_out<S: Source>(
     keep: &mut Keep,
     script: &mut ScriptWorld,
 ) -> Result<Answer, Stop>
+    requires by_input { IsTrue (takes_input (Ok (command_of command.now))) }
     requires lines { script.old.lines ≡ [] }
     requires trace { script.old.trace ≡ [] }
-    ensures found { FindsOut (command_of command.now) (done_by script.new.trace keep.new)
+    ensures found { ComesTo (Ok (command_of command.now)) (done_by script.new.trace keep.new)
         (use_of (S.left input.old) (S.left input.new) (S.faults input.old) (S.faults input.new)) (found_texts result) }
     ensures kind { IfOk result (λ a. Suits (command_of command.now) a) }
     ensures leaves { LeavesBy (command_of command.now) (S.left input.old) (run_state script.old keep.old)
@@ -135,30 +140,6 @@ fn find_out<S: Source>(
     match answer(alloc, command, bytes, keep, script) {
         Ok(answer) => Ok(answer),
         Err(Or::Fault(refused)) => Err(Stop::Refused(refused)),
-        Err(Or::NoMemory) => Err(Stop::NoMemory),
-    }
-}
-
-/// The answer to these words and this input. The words are looked at first, then the whole input is read.
-fn outcome<S: Source>(
-    alloc: Global,
-    words: &[String],
-    input: &mut S,
-    keep: &mut Keep,
-    script: &mut ScriptWorld,
-) -> Result<Answer, Stop>
-    requires lines { script.old.lines ≡ [] }
-    requires trace { script.old.trace ≡ [] }
-    ensures outcome { ComesTo (map string_bytes words.now) (done_by script.new.trace keep.new)
-        (use_of (S.left input.old) (S.left input.new) (S.faults input.old) (S.faults input.new)) (found_texts result) }
-    ensures kind { IfOk result (λ a. SuitsWords (words_of (map string_bytes words.now)) a) }
-    ensures leaves { LeavesByWords (words_of (map string_bytes words.now)) (S.left input.old) (run_state script.old keep.old)
-        (run_state script.new keep.new) result }
-    ensures later { S.faults input.old ≤ S.faults input.new }
-{
-    match read_words(alloc, words) {
-        Ok(command) => find_out(alloc, &command, input, keep, script),
-        Err(Or::Fault(fault)) => Err(Stop::Words(fault)),
         Err(Or::NoMemory) => Err(Stop::NoMemory),
     }
 }
@@ -192,32 +173,34 @@ fn give_up<E: Sink>(alloc: Global, stop: Stop, err: &mut E) -> u8
     }
 }
 
-/// A run, all of whose ways to end are one clause, and what it leaves of the script's world another.
+/// A command by its input, all of whose ways to end are one clause, and what it leaves of the script's world another.
 fn conclude<S: Source, K: Sink, E: Sink>(
     alloc: Global,
-    words: &[String],
+    command: &Command<'_>,
     input: &mut S,
     out: &mut K,
     err: &mut E,
     keep: &mut Keep,
     script: &mut ScriptWorld,
 ) -> u8
+    requires by_input { IsTrue (takes_input (Ok (command_of command.now))) }
     requires lines { script.old.lines ≡ [] }
     requires trace { script.old.trace ≡ [] }
     ensures ending { EndsWith (record {
-      words = map string_bytes words.now;
+      asked = Ok (command_of command.now);
       done = done_by script.new.trace keep.new;
       input = use_of (S.left input.old) (S.left input.new) (S.faults input.old) (S.faults input.new);
       out = use_of (K.written out.old) (K.written out.new) (K.faults out.old) (K.faults out.new);
       err = use_of (E.written err.old) (E.written err.new) (E.faults err.old) (E.faults err.new);
     }) result }
-    ensures leaves { WordsLeaveAt (words_of (map string_bytes words.now)) (S.left input.old) (run_state script.old keep.old)
+    ensures by_input { IsTrue (takes_input (Ok (command_of command.now))) }
+    ensures leaves { CommandLeavesAt (command_of command.now) (S.left input.old) (run_state script.old keep.old)
         (run_state script.new keep.new) result }
     ensures later_input { S.faults input.old ≤ S.faults input.new }
     ensures later_out { K.faults out.old ≤ K.faults out.new }
     ensures later_err { E.faults err.old ≤ E.faults err.new }
 {
-    let answer = match outcome(alloc, words, input, keep, script) {
+    let answer = match find_out(alloc, command, input, keep, script) {
         Ok(answer) => answer,
         Err(stop) => return give_up(alloc, stop, err),
     };
@@ -228,19 +211,62 @@ fn conclude<S: Source, K: Sink, E: Sink>(
     }
 }
 
-/// Runs a command: `words` are those behind the program's name. The answer goes to `out`, and why there is
-/// none to `err`; a fault of `err` changes no status. The statuses: 0 done, 2 words that aren't accepted,
-/// 3 an input that is refused, 4 a replay whose world failed, 5 one whose turns were spent, 6 a read that failed,
-/// 7 a write that failed, 9 want of memory. The words are looked at first, then the whole input is read, and then it
-/// is looked at. `script` is the world that `replay` runs over; nothing happened in it before. `keep` has the notes of a
-/// replay behind it; where it keeps none, a replay ends with 9.
-pub fn run<S: Source, K: Sink, E: Sink>(
+/// A run. The words are looked at first; then `serve` runs over the world, and any other command is answered by its input.
+fn obey<S: Source, K: Sink, E: Sink, W: World>(
     alloc: Global,
     words: &[String],
     input: &mut S,
     out: &mut K,
     err: &mut E,
     keep: &mut Keep,
+    world: &mut W,
+    script: &mut ScriptWorld,
+) -> u8
+    requires lines { script.old.lines ≡ [] }
+    requires trace { script.old.trace ≡ [] }
+    ensures ending { IsTrue (takes_input (words_of (map string_bytes words.now))) → EndsWith (record {
+      asked = words_of (map string_bytes words.now);
+      done = done_by script.new.trace keep.new;
+      input = use_of (S.left input.old) (S.left input.new) (S.faults input.old) (S.faults input.new);
+      out = use_of (K.written out.old) (K.written out.new) (K.faults out.old) (K.faults out.new);
+      err = use_of (E.written err.old) (E.written err.new) (E.faults err.old) (E.faults err.new);
+    }) result }
+    ensures leaves { WordsLeaveAt (words_of (map string_bytes words.now)) (S.left input.old) (run_state script.old keep.old)
+        (run_state script.new keep.new) result }
+    ensures serves { (s : Serves) → words_of (map string_bytes words.now) ≡ Ok (serves s) → ServesAt s
+        (world_use (W.trace world.old) (W.trace world.new) (W.faults world.old) (W.faults world.new))
+        (use_of (K.written out.old) (K.written out.new) (K.faults out.old) (K.faults out.new))
+        (use_of (E.written err.old) (E.written err.new) (E.faults err.old) (E.faults err.new)) result }
+    ensures unread { (s : Serves) → words_of (map string_bytes words.now) ≡ Ok (serves s) → input.new ≡ input.old }
+    ensures unused { IsTrue (takes_input (words_of (map string_bytes words.now))) → world.new ≡ world.old }
+    ensures follows { W.script world.new ≡ W.script world.old }
+    ensures later_input { S.faults input.old ≤ S.faults input.new }
+    ensures later_out { K.faults out.old ≤ K.faults out.new }
+    ensures later_err { E.faults err.old ≤ E.faults err.new }
+{
+    match read_words(alloc, words) {
+        Ok(Command::Serve(asked)) => serve_world(alloc, &asked, out, err, world),
+        Ok(command) => conclude(alloc, &command, input, out, err, keep, script),
+        Err(Or::Fault(fault)) => give_up(alloc, Stop::Words(fault), err),
+        Err(Or::NoMemory) => give_up(alloc, Stop::NoMemory, err),
+    }
+}
+
+/// Runs a command: `words` are those behind the program's name. The answer goes to `out`, and why there is
+/// none to `err`; a fault of `err` changes no status. The statuses: 0 done, 2 words that aren't accepted,
+/// 3 an input that is refused, 4 a run of the proxy whose world failed, 5 one whose turns were spent, 6 a read that
+/// failed, 7 a write that failed, 9 want of memory. The words are looked at first, then the whole input is read, and then
+/// it is looked at; `serve` reads none. `world` is the one that `serve` runs over, and `script` that of `replay`; nothing
+/// happened in it before. `keep` has the notes of a replay behind it; where it keeps none, a replay ends with 9. The
+/// notes of `serve` aren't kept.
+pub fn run<S: Source, K: Sink, E: Sink, W: World>(
+    alloc: Global,
+    words: &[String],
+    input: &mut S,
+    out: &mut K,
+    err: &mut E,
+    keep: &mut Keep,
+    world: &mut W,
     script: &mut ScriptWorld,
 ) -> u8
     requires no_lines { script.old.lines ≡ [] }
@@ -252,11 +278,11 @@ pub fn run<S: Source, K: Sink, E: Sink>(
     ensures refused_words { IsErr (words_of (map string_bytes words.now)) → (result ≡ 2) ⊎ (result ≡ 9) }
     ensures reads_nothing { result ≡ 2 → S.left input.new ≡ S.left input.old }
 
-    // Of an input that is told the status is the stated one: 3 exactly by the input, 0 with its answer; a replay that has an
-    // answer may have ended otherwise than by a stop.
-    ensures stated { IfSome (S.left input.old)
+    // But for `serve` a command is answered by its input. Of one that is told the status is the stated one: 3 exactly by the
+    // input, 0 with its answer; a replay that has an answer may have ended otherwise than by a stop.
+    ensures stated { IsTrue (takes_input (words_of (map string_bytes words.now))) → IfSome (S.left input.old)
         (λ left. IsStated (status_of (outcome_of (map string_bytes words.now) (done_by script.new.trace keep.new) left)) result) }
-    ensures complete { IfSome (S.left input.old)
+    ensures complete { IsTrue (takes_input (words_of (map string_bytes words.now))) → IfSome (S.left input.old)
         (λ left. status_of (outcome_of (map string_bytes words.now) (done_by script.new.trace keep.new) left) ≡ 0
         → (Rose (S.faults input.old) (S.faults input.new) → ⊥) → (Rose (K.faults out.old) (K.faults out.new) → ⊥)
         → IsTrue (is_answered result) ⊎ (result ≡ 9)) }
@@ -266,15 +292,15 @@ pub fn run<S: Source, K: Sink, E: Sink>(
     ensures write_fault { Counts (K.faults out.old) (K.faults out.new) (result == 7) }
 
     // The input is read to its end, or past its limit, before it is looked at.
-    ensures reads_enough { IsTrue (is_answered result) ⊎ (result ≡ 3) ⊎ (result ≡ 7)
+    ensures reads_enough { IsTrue (takes_input (words_of (map string_bytes words.now))) → IsTrue (is_answered result) ⊎ (result ≡ 3) ⊎ (result ≡ 7)
         → ReadsEnough (S.left input.old) (S.left input.new) }
 
     // The answer, which is that of some input, and of the one that is told, is printed whole at 0, 4 and 5, and in part at 7.
-    ensures printed { IsTrue (is_answered result) → (text : List ℕ)
+    ensures printed { IsTrue (takes_input (words_of (map string_bytes words.now))) → IsTrue (is_answered result) → (text : List ℕ)
         × IsAnOutcome (map string_bytes words.now) (done_by script.new.trace keep.new) (Ok text)
         × IfSome (S.left input.old) (λ left. outcome_of (map string_bytes words.now) (done_by script.new.trace keep.new) left ≡ Ok text)
         × Appends (K.written out.old) (K.written out.new) text }
-    ensures printed_part { result ≡ 7 → (text : List ℕ) × IsAnOutcome (map string_bytes words.now) (done_by script.new.trace keep.new) (Ok text)
+    ensures printed_part { IsTrue (takes_input (words_of (map string_bytes words.now))) → result ≡ 7 → (text : List ℕ) × IsAnOutcome (map string_bytes words.now) (done_by script.new.trace keep.new) (Ok text)
         × IfSome (S.left input.old) (λ left. outcome_of (map string_bytes words.now) (done_by script.new.trace keep.new) left ≡ Ok text)
         × ((n : ℕ) × (n < length text) × Appends (K.written out.old) (K.written out.new) (take n text)) }
 
@@ -310,19 +336,30 @@ pub fn run<S: Source, K: Sink, E: Sink>(
         → DoneLawfully r script.new.trace }
     ensures nothing_done { (result ≡ 2) ⊎ (result ≡ 3) ⊎ (result ≡ 6) → script.new.trace ≡ [] }
 
-    // The script's lines allow the trace. 4 and 5 come of a replay alone, and no other command changes the script's world or
-    // the notes.
+    // The script's lines allow the trace. But for `serve` 4 and 5 come of a replay alone, and no other command changes the
+    // script's world or the notes.
     ensures allowed { Allowed script.new.lines script.new.trace }
-    ensures replays_alone { (result ≡ 4) ⊎ (result ≡ 5)
+    ensures replays_alone { IsTrue (takes_input (words_of (map string_bytes words.now))) → (result ≡ 4) ⊎ (result ≡ 5)
         → (r : Replays) × (words_of (map string_bytes words.now) ≡ Ok (replays r)) }
     ensures others { ((r : Replays) → words_of (map string_bytes words.now) ≡ Ok (replays r) → ⊥)
         → (script.new ≡ script.old) × (keep.new ≡ keep.old) }
+
+    // `serve` reads no input, and runs the proxy over the world: at 0 a stop ended the run or the stated ticks passed, at 4 a
+    // listen or a wait of the world failed, which counts as one fault of it, and at 5 its turns were spent; the line of its
+    // totals is printed then, and in part at 7. At 9 nothing is. No other command makes a call on the world.
+    ensures serves { (s : Serves) → words_of (map string_bytes words.now) ≡ Ok (serves s) → ServesAt s
+        (world_use (W.trace world.old) (W.trace world.new) (W.faults world.old) (W.faults world.new))
+        (use_of (K.written out.old) (K.written out.new) (K.faults out.old) (K.faults out.new))
+        (use_of (E.written err.old) (E.written err.new) (E.faults err.old) (E.faults err.new)) result }
+    ensures unread { (s : Serves) → words_of (map string_bytes words.now) ≡ Ok (serves s) → input.new ≡ input.old }
+    ensures unused { IsTrue (takes_input (words_of (map string_bytes words.now))) → world.new ≡ world.old }
+    ensures follows { W.script world.new ≡ W.script world.old }
 
     ensures later_input { S.faults input.old ≤ S.faults input.new }
     ensures later_out { K.faults out.old ≤ K.faults out.new }
     ensures later_err { E.faults err.old ≤ E.faults err.new }
 {
-    let status = conclude(alloc, words, input, out, err, keep, script);
+    let status = obey(alloc, words, input, out, err, keep, world, script);
     script.is_allowed();
     status
 }

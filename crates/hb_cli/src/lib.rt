@@ -4,6 +4,7 @@
 mod answer;
 mod command;
 mod input;
+mod serving;
 mod stop;
 mod telling;
 

@@ -120,8 +120,8 @@ known start before a k stands may serving = record {
 }
 
 -- on the way through the tunnels, where this holds of the one on a stream
-pub record PutsAt (Q : Connection → ℕ → Machine → Type 0) (s : ℕ) (k : Link) (x : Inbound) : Type 0 where
-  pub before : PutsBelow s k x
+pub record PutsAt (from : ℕ) (Q : Connection → ℕ → Machine → Type 0) (s : ℕ) (k : Link) (x : Inbound) : Type 0 where
+  pub before : PutsBelow from s k x
   pub here : Q x.conn s (x.tunnels s)
 
 -- none of its bytes can go; nor can its end
@@ -132,18 +132,18 @@ abbrev pub EndPut : Connection → ℕ → Machine → Type 0
 EndPut c s at = BytesPut c s at × (may_end c s at ≡ false)
 
 -- the tunnel on the stream changes, and the connection; or neither does
-module _ (others limit : ℕ) (k : Link) (s : ℕ) (old : Tunnel) (is : get k.tunnels s ≡ Some old)
-    (Q : Connection → ℕ → Machine → Type 0) (a : Local) (below : PutsBelow s k a.link) (told : Told) where
+module _ (others limit from : ℕ) (k : Link) (s : ℕ) (old : Tunnel) (is : get k.tunnels s ≡ Some old)
+    (Q : Connection → ℕ → Machine → Type 0) (a : Local) (below : PutsBelow from s k a.link) (told : Told) where
   abbrev x : Inbound
   x = a.link
 
   abbrev LeadsTo : Link → Told → Type 0
-  LeadsTo new now = (new.number ≡ k.number) × Follows (CountsPlaces others limit) (PutsAt Q s) k.number a new told now
+  LeadsTo new now = (new.number ≡ k.number) × Follows (CountsPlaces others limit) (PutsAt from Q s) k.number a new told now
 
   module _ (knows : Known k x) (new : Tunnel) (c d : Connection) (next : Machine) (tunnels : ℕ → Machine) where
     puts_below : Only s x.tunnels next tunnels → ShowsTunnel (Some new) next → is_unanswered next.stage ≡ false → d ≡ c → IsKept d
         → IsLookedAt d → ((j : ℕ) → (j == s) ≡ false → Holds x.conn d j)
-        → PutsBelow s (link_with c (insert k.tunnels s new) k) (machine_with d tunnels x)
+        → PutsBelow from s (link_with c (insert k.tunnels s new) k) (machine_with d tunnels x)
     puts_below only shown answered conn kept looked holds = record {
       may = record {
         agrees = record {
@@ -162,9 +162,9 @@ module _ (others limit : ℕ) (k : Link) (s : ℕ) (old : Tunnel) (is : get k.tu
         looked = subst (λ (phase : m.Phase). LookedIn phase (machine_with d tunnels x)) (sym below.serves) looked;
       };
       serves = below.serves;
-      below = λ j less.
+      below = λ j low less.
           let apart : (j == s) ≡ false = grind (arith, nat_tests, less) in
-          subst (Rests d j) (sym (only.others j apart)) (rests_still x.conn d j (x.tunnels j) (holds j apart) (below.below j less));
+          subst (Rests d j) (sym (only.others j apart)) (rests_still x.conn d j (x.tunnels j) (holds j apart) (below.below j low less));
     }
 
     one_part : (p : Part) (now : Told) → Takes told (notes (p ∷ [])) now → IsInner p → CountsPlaces others limit a p
@@ -203,16 +203,16 @@ module _ (others limit : ℕ) (k : Link) (s : ℕ) (old : Tunnel) (is : get k.tu
       )
 
 -- with the tunnel on the stream at rest
-pub rests_below : (s : ℕ) (k : Link) (x : Inbound) → PutsBelow s k x → Rests x.conn s (x.tunnels s) → PutsBelow (s + 1) k x
-rests_below s k x below here = record {
+pub rests_below : (from s : ℕ) (k : Link) (x : Inbound) → PutsBelow from s k x → Rests x.conn s (x.tunnels s) → PutsBelow from (s + 1) k x
+rests_below from s k x below here = record {
   may = below.may;
   serves = below.serves;
-  below = λ j less. by j less (j == s) refl;
+  below = λ j low less. by j low less (j == s) refl;
 }
   where
-    by : (j : ℕ) → j < s + 1 → (b : Bool) → (j == s) ≡ b → Rests x.conn j (x.tunnels j)
-    by j less true same = subst (λ (i : ℕ). Rests x.conn i (x.tunnels i)) (sym (eqb-true j s same)) here
-    by j less false apart = below.below j (grind (arith, nat_tests, less, apart))
+    by : (j : ℕ) → from ≤ j → j < s + 1 → (b : Bool) → (j == s) ≡ b → Rests x.conn j (x.tunnels j)
+    by j low less true same = subst (λ (i : ℕ). Rests x.conn i (x.tunnels i)) (sym (eqb-true j s same)) here
+    by j low less false apart = below.below j low (grind (arith, nat_tests, less, apart))
 
 -- a number of the bytes that wait are taken
 abbrev taken : ℕ → Machine → Machine
@@ -221,18 +221,19 @@ taken n at = record at { ways = record at.ways { down = after at.ways.down (take
 abbrev taken_here : ℕ → Tunnel → Tunnel
 taken_here n k = record k { ways = record k.ways { down = after k.ways.down (takes n) } }
 
-module _ (others limit : ℕ) (k : Link) (s : ℕ) (old : Tunnel) (is : get k.tunnels s ≡ Some old) (stage : stage_of old.stage ≡ t.live) where
-  abbrev lives_at : (x : Inbound) → PutsBelow s k x → IsAlive old (x.tunnels s)
+module _ (others limit from : ℕ) (k : Link) (s : ℕ) (old : Tunnel) (is : get k.tunnels s ≡ Some old)
+    (stage : stage_of old.stage ≡ t.live) where
+  abbrev lives_at : (x : Inbound) → PutsBelow from s k x → IsAlive old (x.tunnels s)
   lives_at x below = alive (get k.tunnels s) old (x.tunnels s) is stage (below.may.agrees.tunnels s)
 
-  number : (x : Inbound) → PutsBelow s k x → s ≤ largest
+  number : (x : Inbound) → PutsBelow from s k x → s ≤ largest
   number x below = below.may.agrees.numbered s (ap is_some is)
 
-  is_live_on : (x : Inbound) (below : PutsBelow s k x) → IsLiveOn s x
+  is_live_on : (x : Inbound) (below : PutsBelow from s k x) → IsLiveOn s x
   is_live_on x below = (below.serves, below.may.answered, (lives_at x below).live)
 
   -- this end's side is open, unless the end was put, behind all bytes
-  own_open : (x : Inbound) → PutsBelow s k x → Known k x → (x.tunnels s).end_put ≡ false → own_side_open k.conn s ≡ true
+  own_open : (x : Inbound) → PutsBelow from s k x → Known k x → (x.tunnels s).end_put ≡ false → own_side_open k.conn s ≡ true
   own_open x below knows open_still =
       subst (λ (c : Connection). own_side_open c s ≡ true) knows.way.0
       ((knows.serves.each s).own (ap speaks (lives_at x below).live) open_still)
@@ -245,7 +246,7 @@ module _ (others limit : ℕ) (k : Link) (s : ℕ) (old : Tunnel) (is : get k.tu
       by true done = nil_from_length (x.tunnels s).ways.down.held (grind (arith, nat_tests, done))
 
   -- where DATA may not go none goes
-  none_shut : (x : Inbound) → PutsBelow s k x → Known k x → may_put k.conn s ≡ false
+  none_shut : (x : Inbound) → PutsBelow from s k x → Known k x → may_put k.conn s ≡ false
       → count_put x.conn s (x.tunnels s).ways.down.held ≡ 0
   none_shut x below knows shut = by (length (output k.conn) == 0) refl shut
     where
@@ -265,7 +266,7 @@ module _ (others limit : ℕ) (k : Link) (s : ℕ) (old : Tunnel) (is : get k.tu
   abbrev held_here : List ℕ
   held_here = old.ways.down.held
 
-  module _ (a : Local) (below : PutsBelow s k a.link) (knows : Known k a.link) (told : Told) where
+  module _ (a : Local) (below : PutsBelow from s k a.link) (knows : Known k a.link) (told : Told) where
     abbrev at : Machine
     at = a.link.tunnels s
 
@@ -281,12 +282,12 @@ module _ (others limit : ℕ) (k : Link) (s : ℕ) (old : Tunnel) (is : get k.tu
     abbrev BytesTo : Connection → ℕ → Type 0
     BytesTo c n =
         (k.number ≡ k.number)
-        × Follows (CountsPlaces others limit) (PutsAt BytesPut s) k.number a (link_with c (insert k.tunnels s (taken_here n old)) k) told
-        told
+        × Follows (CountsPlaces others limit) (PutsAt from BytesPut s) k.number a (link_with c (insert k.tunnels s (taken_here n old)) k)
+        told told
 
     bytes_none : (c : Connection) (n : ℕ) → n ≡ 0 → c ≡ k.conn → BytesPut a.link.conn s at → BytesTo c n
     bytes_none c n none conn here =
-        no_part others limit k s old is BytesPut a below told (taken_here n old) c (ap (λ (i : ℕ). taken_here i old) none) conn here
+        no_part others limit from k s old is BytesPut a below told (taken_here n old) c (ap (λ (i : ℕ). taken_here i old) none) conn here
 
     bytes_some : 0 < count_put k.conn s held_here → BytesTo (data_put k.conn s held_here) (count_put k.conn s held_here)
     bytes_some some =
@@ -296,7 +297,7 @@ module _ (others limit : ℕ) (k : Link) (s : ℕ) (old : Tunnel) (is : get k.tu
         let d = data_put a.link.conn s at.ways.down.held in
         let next_told : as_told next ≡ tunnel_of (taken_here (count_put k.conn s held_here) old) =
         ap (λ (i : ℕ). taken i (as_told at)) count_is ∙ ap (taken (count_put k.conn s held_here)) lives.told in
-        one_part others limit k s old is BytesPut a below told knows (taken_here (count_put k.conn s held_here) old)
+        one_part others limit from k s old is BytesPut a below told knows (taken_here (count_put k.conn s held_here) old)
         (data_put k.conn s held_here) d next
         (with_tunnel s next d a.link).tunnels (part.put s at.ways.down.held) told (takes_none told) tt tt
         (is_live_on a.link below, refl, some_here, refl) (only_one s (λ old. next) a.link)
@@ -318,7 +319,7 @@ module _ (others limit : ℕ) (k : Link) (s : ℕ) (old : Tunnel) (is : get k.tu
     bytes_by false shut = bytes_none k.conn 0 refl refl (none_shut a.link below knows shut)
 
   pub bytes_settles : (told : Told)
-      → Settles others limit (λ held. ⊤) (PutsBelow s) (PutsAt BytesPut s) k told
+      → Settles others limit (λ held. ⊤) (PutsBelow from s) (PutsAt from BytesPut s) k told
       (link_with (conn_bytes k.conn s old) (insert k.tunnels s (bytes_put k.conn s old)) k) told
   bytes_settles told start before a stands holds below =
       bytes_by a below (known start before a k stands below.may below.serves) told (may_put k.conn s) refl
@@ -331,7 +332,7 @@ module _ (others limit : ℕ) (k : Link) (s : ℕ) (old : Tunnel) (is : get k.tu
   same_end true false own waits seen same open_still =
       ap not (sym same) ∙ sym (ap (λ (b : Bool). b && not seen) (open_still refl))
 
-  module _ (a : Local) (below : PutsBelow s k a.link) (knows : Known k a.link) (told : Told)
+  module _ (a : Local) (below : PutsBelow from s k a.link) (knows : Known k a.link) (told : Told)
       (none : BytesPut a.link.conn s (a.link.tunnels s)) where
     abbrev ending : Machine
     ending = a.link.tunnels s
@@ -349,13 +350,13 @@ module _ (others limit : ℕ) (k : Link) (s : ℕ) (old : Tunnel) (is : get k.tu
     abbrev EndTo : Connection → Tunnel → Type 0
     EndTo c new =
         (k.number ≡ k.number)
-        × Follows (CountsPlaces others limit) (PutsAt EndPut s) k.number a (link_with c (insert k.tunnels s new) k) told told
+        × Follows (CountsPlaces others limit) (PutsAt from EndPut s) k.number a (link_with c (insert k.tunnels s new) k) told told
 
     end_some : may_finish k.conn s old ≡ true → EndTo (end_put k.conn s) (record old { end_put = true })
     end_some may =
         let next : Machine = record ending { end_put = true } in
         let d = end_put a.link.conn s in
-        one_part others limit k s old is EndPut a below told knows (record old { end_put = true }) (end_put k.conn s) d next
+        one_part others limit from k s old is EndPut a below told knows (record old { end_put = true }) (end_put k.conn s) d next
         (with_tunnel s next d a.link).tunnels (part.finished s) told (takes_none told) tt tt
         (is_live_on a.link below, may_is ∙ may, refl) (only_one s (λ old. next) a.link)
         (shows_live old (record old { end_put = true }) next stage ending_lives.has_up refl refl
@@ -372,20 +373,20 @@ module _ (others limit : ℕ) (k : Link) (s : ℕ) (old : Tunnel) (is : get k.tu
     end_by : (b : Bool) → may_finish k.conn s old ≡ b
         → EndTo (cond b (end_put k.conn s) k.conn) (cond b (record old { end_put = true }) old)
     end_by true may = end_some may
-    end_by false never = no_part others limit k s old is EndPut a below told old k.conn refl refl (none, may_is ∙ never)
+    end_by false never = no_part others limit from k s old is EndPut a below told old k.conn refl refl (none, may_is ∙ never)
 
   pub end_settles : (told : Told)
-      → Settles others limit (λ held. ⊤) (PutsAt BytesPut s) (PutsAt EndPut s) k told
+      → Settles others limit (λ held. ⊤) (PutsAt from BytesPut s) (PutsAt from EndPut s) k told
       (link_with (conn_finished k.conn s old) (insert k.tunnels s (end_counted k.conn s old)) k) told
   end_settles told start before a stands holds at =
       end_by a at.before (known start before a k stands at.before.may at.before.serves) told at.here (may_finish k.conn s old) refl
 
   -- both sides ended, and all went through; or not yet
-  pub rests_on : is_done_on k.conn s (tunnel_of old) ≡ false → (x : Inbound) → PutsAt EndPut s k x → PutsBelow (s + 1) k x
+  pub rests_on : is_done_on k.conn s (tunnel_of old) ≡ false → (x : Inbound) → PutsAt from EndPut s k x → PutsBelow from (s + 1) k x
   rests_on open_still x at =
       let lives = lives_at x at.before in
       let way = subst (λ (phase : m.Phase). ShowsBy phase k x) at.before.serves at.before.may.agrees.way in
-      rests_below s k x at.before
+      rests_below from s k x at.before
       (subst (λ (at_stage : t.Stage). RestsBy at_stage x.conn s (x.tunnels s)) (sym lives.live) (record {
         given_back = ap (λ (y : Machine). y.owed) lives.told;
         none_goes = at.here.0;
@@ -398,8 +399,8 @@ module _ (others limit : ℕ) (k : Link) (s : ℕ) (old : Tunnel) (is : get k.tu
 
   pub done_settles : (told later : Told) → Takes told (note.End k.number s cause.Done old.went_up old.went_down ∷ []) later
       → is_done_on k.conn s (tunnel_of old) ≡ true
-      → Settles others limit (λ held. ⊤) (PutsAt EndPut s) (PutsAt Rests s) k told (link_with k.conn (insert k.tunnels s over_here) k)
-      later
+      → Settles others limit (λ held. ⊤) (PutsAt from EndPut s) (PutsAt from Rests s) k told
+      (link_with k.conn (insert k.tunnels s over_here) k) later
   done_settles told later took all_done start before a stands holds at =
       let lives = lives_at a.link at.before in
       let knows = known start before a k stands at.before.may at.before.serves in
@@ -412,8 +413,8 @@ module _ (others limit : ℕ) (k : Link) (s : ℕ) (old : Tunnel) (is : get k.tu
       let made_is : made ≡ end_note k.number s cause.Done now =
       sym (ap₂ (λ (i j : ℕ). note.End k.number s cause.Done i j) (ap (λ (y : Machine). y.went_up) lives.told)
       (ap (λ (y : Machine). y.went_down) lives.told)) in
-      one_part others limit k s old is Rests a at.before told knows over_here k.conn a.link.conn (left_with cause.Done now) last.tunnels
-      (part.done s made) later took tt tt (
+      one_part others limit from k s old is Rests a at.before told knows over_here k.conn a.link.conn (left_with cause.Done now)
+      last.tunnels (part.done s made) later took tt tt (
         is_live_on a.link at.before,
         ap₂ (λ (c : Connection) (y : Machine). is_done_on c s y) knows.way.0 lives.told ∙ all_done,
         made_is,

@@ -68,22 +68,23 @@ none_rests o c s at none shown =
     ⊎_elim (λ (is : at.stage ≡ t.unasked). rest_on c s at t.unasked is refl) (λ (is : at.stage ≡ t.gone). rest_on c s at t.gone is refl)
     shows
 
-module _ (k : Link) (s : ℕ) where
-  pub none_on : get k.tunnels s ≡ None → (x : Inbound) → PutsBelow s k x → PutsBelow (s + 1) k x
+module _ (from : ℕ) (k : Link) (s : ℕ) where
+  pub none_on : get k.tunnels s ≡ None → (x : Inbound) → PutsBelow from s k x → PutsBelow from (s + 1) k x
   none_on none x below =
-      rests_below s k x below (none_rests (get k.tunnels s) x.conn s (x.tunnels s) none (below.may.agrees.tunnels s))
+      rests_below from s k x below (none_rests (get k.tunnels s) x.conn s (x.tunnels s) none (below.may.agrees.tunnels s))
 
-  pub other_on : (old : Tunnel) → get k.tunnels s ≡ Some old → lives_in old.stage ≡ false → (x : Inbound) → PutsBelow s k x
-      → PutsBelow (s + 1) k x
+  pub other_on : (old : Tunnel) → get k.tunnels s ≡ Some old → lives_in old.stage ≡ false → (x : Inbound) → PutsBelow from s k x
+      → PutsBelow from (s + 1) k x
   other_on old is never x below =
       let shows : ShowsTunnel (Some old) (x.tunnels s) =
       subst (λ (o : Option Tunnel). ShowsTunnel o (x.tunnels s)) is (below.may.agrees.tunnels s) in
-      rests_below s k x below
+      rests_below from s k x below
       (rest_on x.conn s (x.tunnels s) (stage_of old.stage) (stage_at (stage_of old.stage) old (x.tunnels s) refl shows)
       (not_live old.stage never))
 
 -- bytes, then the end
-module _ (k : Link) (s : ℕ) (old : Tunnel) (told : Told) (is : get k.tunnels s ≡ Some old) (live : stage_of old.stage ≡ t.live) where
+module _ (from : ℕ) (k : Link) (s : ℕ) (old : Tunnel) (told : Told) (is : get k.tunnels s ≡ Some old)
+    (live : stage_of old.stage ≡ t.live) where
   abbrev one : Tunnel
   one = bytes_put k.conn s old
 
@@ -109,20 +110,23 @@ module _ (k : Link) (s : ℕ) (old : Tunnel) (told : Told) (is : get k.tunnels s
       by true = live
       by false = live
 
-  both_settle : (others limit : ℕ) → Settles others limit (λ held. ⊤) (PutsBelow s) (PutsAt EndPut s) k told link_two told
+  both_settle : (others limit : ℕ) → Settles others limit (λ held. ⊤) (PutsBelow from s) (PutsAt from EndPut s) k told link_two told
   both_settle others limit =
-      settles_then others limit (λ held. ⊤) (PutsBelow s) (PutsAt BytesPut s) (PutsAt EndPut s) k link_one link_two told told told
-      (bytes_settles others limit k s old is live told)
-      (subst (λ (tunnels : Map). Settles others limit (λ held. ⊤) (PutsAt BytesPut s) (PutsAt EndPut s) link_one told
+      settles_then others limit (λ held. ⊤) (PutsBelow from s) (PutsAt from BytesPut s) (PutsAt from EndPut s) k link_one link_two told told
+      told
+      (bytes_settles others limit from k s old is live told)
+      (subst (λ (tunnels : Map). Settles others limit (λ held. ⊤) (PutsAt from BytesPut s) (PutsAt from EndPut s) link_one told
       (link_with conn_two tunnels k) told) (put_twice k.tunnels s two one)
-      (end_settles others limit link_one s one (put_here k.tunnels s one) live told))
+      (end_settles others limit from link_one s one (put_here k.tunnels s one) live told))
 
-  pub some_on : is_done_on conn_two s (tunnel_of two) ≡ false → AlwaysSettles (PutsBelow s) (PutsBelow (s + 1)) k told link_two told
+  pub some_on : is_done_on conn_two s (tunnel_of two) ≡ false
+      → AlwaysSettles (PutsBelow from s) (PutsBelow from (s + 1)) k told link_two told
   some_on open_still others limit =
-      settles_then others limit (λ held. ⊤) (PutsBelow s) (PutsAt EndPut s) (PutsBelow (s + 1)) k link_two link_two told told told
+      settles_then others limit (λ held. ⊤) (PutsBelow from s) (PutsAt from EndPut s) (PutsBelow from (s + 1)) k link_two link_two told told
+      told
       (both_settle others limit)
-      (stays others limit (λ held. ⊤) (PutsAt EndPut s) (PutsBelow (s + 1)) link_two told
-      (rests_on others limit link_two s two (put_here k.tunnels s two) live_two open_still))
+      (stays others limit (λ held. ⊤) (PutsAt from EndPut s) (PutsBelow from (s + 1)) link_two told
+      (rests_on others limit from link_two s two (put_here k.tunnels s two) live_two open_still))
 
   abbrev last : Tunnel
   last = record two { stage = Over cause.Done }
@@ -131,16 +135,18 @@ module _ (k : Link) (s : ℕ) (old : Tunnel) (told : Told) (is : get k.tunnels s
   link_last = link_with conn_two (insert k.tunnels s last) k
 
   pub last_on : (now : Told) → Takes told (note.End k.number s cause.Done two.went_up two.went_down ∷ []) now
-      → is_done_on conn_two s (tunnel_of two) ≡ true → AlwaysSettles (PutsBelow s) (PutsBelow (s + 1)) k told link_last now
+      → is_done_on conn_two s (tunnel_of two) ≡ true → AlwaysSettles (PutsBelow from s) (PutsBelow from (s + 1)) k told link_last now
   last_on now took all_done others limit =
-      settles_then others limit (λ held. ⊤) (PutsBelow s) (PutsAt Rests s) (PutsBelow (s + 1)) k link_last link_last told now now
-      (settles_then others limit (λ held. ⊤) (PutsBelow s) (PutsAt EndPut s) (PutsAt Rests s) k link_two link_last told told now
+      settles_then others limit (λ held. ⊤) (PutsBelow from s) (PutsAt from Rests s) (PutsBelow from (s + 1)) k link_last link_last told now
+      now
+      (settles_then others limit (λ held. ⊤) (PutsBelow from s) (PutsAt from EndPut s) (PutsAt from Rests s) k link_two link_last told told
+      now
       (both_settle others limit)
-      (subst (λ (tunnels : Map). Settles others limit (λ held. ⊤) (PutsAt EndPut s) (PutsAt Rests s) link_two told
+      (subst (λ (tunnels : Map). Settles others limit (λ held. ⊤) (PutsAt from EndPut s) (PutsAt from Rests s) link_two told
       (link_with conn_two tunnels k) now) (put_twice k.tunnels s last two)
-      (done_settles others limit link_two s two (put_here k.tunnels s two) live_two told now took all_done)))
-      (stays others limit (λ held. ⊤) (PutsAt Rests s) (PutsBelow (s + 1)) link_last now
-      (λ x at. rests_below s link_last x at.before at.here))
+      (done_settles others limit from link_two s two (put_here k.tunnels s two) live_two told now took all_done)))
+      (stays others limit (λ held. ⊤) (PutsAt from Rests s) (PutsBelow from (s + 1)) link_last now
+      (λ x at. rests_below from s link_last x at.before at.here))
 
 -- ALL TUNNELS
 
@@ -168,32 +174,41 @@ module _ (k : Link) where
   })
 
   -- between two tunnels there is none
-  pub advance : (i : ℕ) (next : Option ℕ) → IsFirstFrom k.tunnels i next → (x : Inbound) → PutsBelow i k x → PutsBelow (place_of next) k x
-  advance i next first x below = record {
+  pub advance : (from i : ℕ) (next : Option ℕ) → IsFirstFrom k.tunnels i next → (x : Inbound) → PutsBelow from i k x
+      → PutsBelow from (place_of next) k x
+  advance from i next first x below = record {
     may = below.may;
     serves = below.serves;
-    below = λ j less. by j less (nat_lt j i) refl;
+    below = λ j low less. by j low less (nat_lt j i) refl;
   }
     where
       none_at : (next : Option ℕ) → IsFirstFrom k.tunnels i next → (j : ℕ) → j < place_of next → i ≤ j → get k.tunnels j ≡ None
-      none_at None none j less from = none j from
-      none_at (Some stream) is j less from = is.2 j from less
+      none_at None none j less behind = none j behind
+      none_at (Some stream) is j less behind = is.2 j behind less
 
-      by : (j : ℕ) → j < place_of next → (b : Bool) → nat_lt j i ≡ b → Rests x.conn j (x.tunnels j)
-      by j less true is = below.below j (grind (arith, nat_tests, is))
-      by j less false is =
+      by : (j : ℕ) → from ≤ j → j < place_of next → (b : Bool) → nat_lt j i ≡ b → Rests x.conn j (x.tunnels j)
+      by j low less true is = below.below j low (grind (arith, nat_tests, is))
+      by j low less false is =
           none_rests (get k.tunnels j) x.conn j (x.tunnels j) (none_at next first j less (grind (arith, nat_tests, is)))
           (below.may.agrees.tunnels j)
 
-  pub begins : serves_in k.phase ≡ true → (next : Option ℕ) → IsFirstFrom k.tunnels 0 next → (x : Inbound) → MayPut k x
-      → PutsBelow (place_of next) k x
-  begins serves next first x may = advance 0 next first x (record {
+  -- of no stream it is known yet
+  pub begins : serves_in k.phase ≡ true → (x : Inbound) → MayPut k x → PutsBelow 0 0 k x
+  begins serves x may = record {
     may = may;
     serves = may.agrees.phase ∙ serving_is k.phase serves;
-    below = λ j less. absurd (omega (arith, less));
-  })
+    below = λ j low less. absurd (omega (arith, less));
+  }
 
-  pub ends : (x : Inbound) → PutsBelow (place_of None) k x → Shows k x
+  -- nor any more
+  pub anew : (from n at : ℕ) (x : Inbound) → PutsBelow from n k x → PutsBelow at at k x
+  anew from n at x below = record {
+    may = below.may;
+    serves = below.serves;
+    below = λ j low less. absurd (omega (arith, low, less));
+  }
+
+  pub ends : (x : Inbound) → PutsBelow 0 (place_of None) k x → Shows k x
   ends x below = shows_calm k x below.may.agrees (record {
     answered = below.may.answered;
     rests = subst (λ (phase : m.Phase). RestsIn phase x) (sym below.serves)
@@ -207,6 +222,6 @@ module _ (k : Link) where
           absurd (let never : 1 ≤ 0 = grind (arith, nat_tests, near, far) in omega (arith, never))
 
       by : (s : ℕ) (b : Bool) → nat_lt s (2 ^ 32) ≡ b → Rests x.conn s (x.tunnels s)
-      by s true is = below.below s (grind (arith, nat_tests, is))
+      by s true is = below.below s (omega arith) (grind (arith, nat_tests, is))
       by s false far =
           none_rests (get k.tunnels s) x.conn s (x.tunnels s) (none_far s (get k.tunnels s) refl far) (below.may.agrees.tunnels s)

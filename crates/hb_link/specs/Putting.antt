@@ -1,5 +1,5 @@
 -- What goes at once of the bytes that came for a stream, and what may be put of a tunnel. No public clause cites this file.
-use Rattle.std.specs.Prelude.{◌≡◌, ℕ, ◌<◌, ◌==◌, ◌&&◌, ◌||◌, not, Bool, true, false, if◌then◌else◌, List, length, Option, Some, None}
+use Rattle.std.specs.Prelude.{◌≡◌, ℕ, ◌<◌, ◌≤◌, ◌==◌, ◌&&◌, ◌||◌, not, Bool, true, false, if◌then◌else◌, List, length, Option, Some, None}
 use Rattle.hb_conn.specs.Connection.{Connection}
 use Rattle.hb_conn.specs.Observed as connection
 use Rattle.hb_conn.specs.Observed.{output, own_side_open, count_put, data_put, data_unbegun, data_begun}
@@ -24,10 +24,13 @@ conn_first may c s bytes = if may then data_put c s bytes else c
 abbrev pub may_put : Connection → ℕ → Bool
 may_put c s = length (output c) == 0 && own_side_open c s
 
--- as many of a tunnel's bytes as may go are put: what is left of it, and of the connection
+-- as many of a tunnel's bytes as may go are put: how many, and what is left of it, and of the connection
+abbrev pub count_here : Connection → ℕ → Tunnel → ℕ
+count_here c s k = count_first (may_put c s) c s k.ways.down.held
+
 abbrev pub bytes_put : Connection → ℕ → Tunnel → Tunnel
 bytes_put c s k =
-    record k { ways = record k.ways { down = after k.ways.down (takes (count_first (may_put c s) c s k.ways.down.held)) } }
+    record k { ways = record k.ways { down = after k.ways.down (takes (count_here c s k)) } }
 
 abbrev pub conn_bytes : Connection → ℕ → Tunnel → Connection
 conn_bytes c s k = conn_first (may_put c s) c s k.ways.down.held
@@ -56,8 +59,8 @@ abbrev pub lives_in : Stage → Bool
 lives_in Live = true
 lives_in stage = false
 
--- nothing more may be put on the streams below this one
-pub record PutsBelow (n : ℕ) (k : Link) (x : Inbound) : Type 0 where
+-- nothing more may be put on the streams from this number on and below that one
+pub record PutsBelow (from n : ℕ) (k : Link) (x : Inbound) : Type 0 where
   pub may : MayPut k x
   pub serves : x.phase ≡ serving
-  pub below : (s : ℕ) → s < n → Rests x.conn s (x.tunnels s)
+  pub below : (s : ℕ) → from ≤ s → s < n → Rests x.conn s (x.tunnels s)

@@ -24,6 +24,7 @@ mod refusing;
 mod settling;
 mod taking;
 mod tunnel;
+mod turn;
 mod update;
 mod ups;
 mod upstream;

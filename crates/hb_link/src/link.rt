@@ -8,6 +8,7 @@ ghost use Rattle.hb_link.specs.Observed.{wants_on, output_on};
 use crate::front::Front;
 use crate::phase::Phase;
 use crate::tunnel::Tunnel;
+use crate::turn::Turn;
 use hb_base::{Cause, Ip, NoMemory, Peer};
 use hb_conn::Conn;
 use hb_slots::Slots;
@@ -32,6 +33,8 @@ pub struct Link {
     pub(crate) conn: Conn,
     /// The tunnels under their streams.
     pub(crate) tunnels: Slots<Tunnel>,
+    /// Behind which stream the next DATA goes.
+    pub(crate) turn: Turn,
 }
 
 impl Link {
@@ -53,6 +56,7 @@ impl Link {
             destination: Ip::V4(0),
             conn: Conn::server(alloc)?,
             tunnels: Slots::new(alloc),
+            turn: Turn::new(),
         })
     }
 

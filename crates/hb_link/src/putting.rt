@@ -1,7 +1,7 @@
 //! What may be put on the streams of tunnels that live.
 
-ghost use Rattle.std.specs.Prelude.{◌≡◌, ◌+◌};
-ghost use Rattle.hb_link.specs.Putting.{bytes_put, conn_bytes, data_seen, may_finish, end_counted, conn_finished, lives_in, PutsBelow};
+ghost use Rattle.std.specs.Prelude.{◌≡◌, ℕ, ◌+◌};
+ghost use Rattle.hb_link.specs.Putting.{count_here, bytes_put, conn_bytes, data_seen, may_finish, end_counted, conn_finished, lives_in, PutsBelow};
 ghost use Rattle.hb_link.specs.Settling.{MayPut, AlwaysSettles};
 ghost use Rattle.hb_link.specs.Shows.{Shows};
 
@@ -30,14 +30,18 @@ impl Tunnel {
         matches!(self.stage, Stage::Live)
     }
 
-    /// Puts as many of the bytes that wait in one DATA frame as may go.
-    fn put_bytes(&mut self, conn: &mut Conn, stream: u32)
+    /// Puts as many of the bytes that wait in one DATA frame as may go, and says how many.
+    fn put_bytes(&mut self, conn: &mut Conn, stream: u32) -> usize
+        ensures count { result ≡ count_here conn.old stream self.old }
         ensures tunnel { self.new ≡ bytes_put conn.old stream self.old }
         ensures conn { conn.new ≡ conn_bytes conn.old stream self.old }
     {
         if conn.output().is_empty() && conn.sides(stream).own {
-            let n = conn.put_some(stream, self.ways.all_down());
-            self.ways.took_down(n);
+            let count = conn.put_some(stream, self.ways.all_down());
+            self.ways.took_down(count);
+            count
+        } else {
+            0
         }
     }
 
@@ -66,7 +70,8 @@ impl Tunnel {
 impl Link {
     /// What may be put of the tunnel on the stream, and it is over where both sides ended and all went through.
     fn put_on<N: Notes>(&mut self, stream: u32, notes: &mut N)
-        ensures { AlwaysSettles (PutsBelow stream) (PutsBelow (stream + 1)) self.old (N.told notes.old) self.new (N.told notes.new) }
+        ensures { (from : ℕ)
+            → AlwaysSettles (PutsBelow from stream) (PutsBelow from (stream + 1)) self.old (N.told notes.old) self.new (N.told notes.new) }
     {
         let Some(tunnel) = self.tunnels.at(stream) else {
             return;
@@ -74,7 +79,8 @@ impl Link {
         if !tunnel.lives() {
             return;
         }
-        tunnel.put_bytes(&mut self.conn, stream);
+        let count = tunnel.put_bytes(&mut self.conn, stream);
+        self.turn.took(stream, count);
         tunnel.finish(&mut self.conn, stream);
         if tunnel.is_done(&self.conn, stream) {
             tunnel.stage = Stage::Over(Cause::Done);
@@ -88,14 +94,29 @@ impl Link {
         }
     }
 
-    /// By rising stream, as many of the bytes that wait go in DATA as may, END_STREAM goes where it may, and a tunnel is over of which
-    /// both sides ended and all went through.
+    /// What may be put of each tunnel behind the one that bytes were put of last, by rising stream, until something waits to be written.
+    fn put_in_turn<N: Notes>(&mut self, notes: &mut N)
+        ensures { AlwaysSettles (PutsBelow 0 0) (PutsBelow 0 0) self.old (N.told notes.old) self.new (N.told notes.new) }
+    {
+        let mut from = self.tunnels.first_behind(self.turn.last());
+        while let Some(stream) = from {
+            if !self.conn.output().is_empty() {
+                return;
+            }
+            self.put_on(stream, notes);
+            from = self.tunnels.first_behind(stream);
+        }
+    }
+
+    /// As many of the bytes that wait go in DATA as may, END_STREAM goes where it may, and a tunnel is over of which both sides ended
+    /// and all went through: by turns, and then by rising stream.
     pub(crate) fn put_all<N: Notes>(&mut self, notes: &mut N)
         ensures { AlwaysSettles MayPut Shows self.old (N.told notes.old) self.new (N.told notes.new) }
     {
         if !self.phase.is_serving() {
             return;
         }
+        self.put_in_turn(notes);
         let mut from = self.tunnels.first_from(0);
         while let Some(stream) = from {
             self.put_on(stream, notes);

@@ -82,6 +82,7 @@ impl Link {
         let none_waits = tunnel.ways.room_down() == DOWN_SIZE;
         let n = put_first(&mut self.conn, serves && none_waits, stream, b);
         tunnel.ways.push_down(&b[n..]);
+        self.turn.took(stream, n);
     }
 
     /// A front part of the bytes that wait to be written to it; none only where none waits.

@@ -144,19 +144,17 @@ impl Drive {
         }
     }
 
-    /// All that waits is written, and is this.
-    fn sent(&mut self, rt: &impl Abort, row: u32, octets: &[u8]) {
+    /// What waits begins with this, and so much of it is written.
+    fn went(&mut self, rt: &impl Abort, row: u32, octets: &[u8]) {
         let mut left = octets;
         for _ in 0..MANY {
-            let n = self.link.output().len();
-            if n == 0 {
-                break;
-            }
-            let n = self.piece(n).min(n);
-            let fits = n <= left.len();
             let size = left.len();
-            assert!(rt; fits, "row {row}: {n} octets go, {size} are wanted");
-            let n = n.min(size);
+            if size == 0 {
+                return;
+            }
+            let n = self.link.output().len().min(size);
+            assert!(rt; n > 0, "row {row}: {size} octets are lacking");
+            let n = self.piece(n).min(n);
             let (piece, behind) = left.split_at(n);
             let same = self.link.output().starts_with(piece);
             assert!(rt; same, "row {row}: other output, with {size} to come");
@@ -164,8 +162,13 @@ impl Drive {
             self.link.wrote(n, &mut self.told);
             left = behind;
         }
-        let rest = left.len();
-        assert!(rt; rest == 0, "row {row}: {rest} octets are lacking");
+    }
+
+    /// All that waits is written, and is this.
+    fn sent(&mut self, rt: &impl Abort, row: u32, octets: &[u8]) {
+        self.went(rt, row, octets);
+        let n = self.link.output().len();
+        assert!(rt; n == 0, "row {row}: {n} octets more wait");
     }
 
     /// All that waits, which is written.
@@ -314,6 +317,10 @@ impl Drive {
             "sent" => {
                 let octets = octets_of(rt, alloc, rest);
                 self.sent(rt, row, octets.as_slice());
+            }
+            "went" => {
+                let octets = octets_of(rt, alloc, rest);
+                self.went(rt, row, octets.as_slice());
             }
             "last" => {
                 let octets = octets_of(rt, alloc, rest);

@@ -19,6 +19,7 @@ pub mod Refusing
 pub mod Relay
 pub mod Seen
 pub mod SeenRefused
+pub mod SettledRefused
 pub mod Sides
 pub mod Stays
 pub mod Stopped

@@ -14,5 +14,7 @@ pub mod Relay
 pub mod Runs
 pub mod Seen
 pub mod SeenRefused
+pub mod Settled
+pub mod SettledRefused
 pub mod Sides
 pub mod Ups

@@ -6,6 +6,8 @@ ghost use Rattle.hb_proxy.specs.Laws.{RunsDial, RunsObeyEntries, RunsObeyControl
 ghost use Rattle.hb_proxy.specs.Leads.{LinksLead, LinksStep};
 ghost use Rattle.hb_proxy.specs.Seen.{RunsAreSeen};
 ghost use Rattle.hb_proxy.specs.SeenRefused.{UpUnborn, ShutUntold, OpenUnheard, KeepsClosed, HasNone};
+ghost use Rattle.hb_proxy.specs.SettledRefused.{KeepsDown, KeepsUp, LeavesUnread, KeepsCredit, LeavesUnshut, LeavesUnended, LeavesUndialled};
+ghost use Rattle.hb_proxy.specs.SettledRefused.{LeavesUnwritten, LeavesLinkUnread, AsksNothing, AcceptsNothing, AsksOnce};
 ghost use Rattle.hb_proxy.specs.Doors.{DoorsTellNone};
 ghost use Rattle.hb_proxy.specs.Refused.{ComesUnborn, ReadsUnborn, ReadsAnothers, BornTwice, BornAgain, SeesAlone, SeeAll};
 ghost use Rattle.hb_proxy.specs.Refused.{AnswersAnother, AnswersControl, WritesBehind, ReadsBehind, TicksBehind, InventsByte};
@@ -129,6 +131,24 @@ pub fn other_links_are_refused()
     ensures opened { OpenUnheard }
     ensures closed { KeepsClosed }
     ensures lives { HasNone }
+{}
+
+/// Nothing is settled in front of a wait where bytes wait in a tunnel that may go, credit wasn't given, a shut, an end of a stream or a
+/// dial is due, octets wait on a link that isn't asleep for writing, or a link that has room isn't read and isn't asleep for reading; nor
+/// where a link was never asked whether it is open, or a door was named at which nobody accepts. It is behind a finish that moved nothing.
+pub fn waits_with_work_left_are_refused()
+    ensures down { KeepsDown }
+    ensures up { KeepsUp }
+    ensures unread { LeavesUnread }
+    ensures credit { KeepsCredit }
+    ensures unshut { LeavesUnshut }
+    ensures unended { LeavesUnended }
+    ensures undialled { LeavesUndialled }
+    ensures unwritten { LeavesUnwritten }
+    ensures link_unread { LeavesLinkUnread }
+    ensures asks { AsksNothing }
+    ensures accepts { AcceptsNothing }
+    ensures good { AsksOnce }
 {}
 
 /// A link may be accepted behind the dial of the control plane, and a byte may go behind an update that still admits the peer.

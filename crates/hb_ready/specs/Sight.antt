@@ -1,4 +1,5 @@
--- What a trace tells of a link and of a door: whether the link is open, the ways that sleep, whether an accept may give a link.
+-- What a trace tells of a link and of a door: whether the link was dialled, whether it is open, the ways that sleep, whether an accept may
+-- give a link.
 use Rattle.std.specs.Prelude.{ℕ, ◌==◌, ◌||◌, ◌&&◌, not, Bool, true, false, if◌then◌else◌, List, Option, Some, None}
 use Rattle.std.specs.List.{fold, list_any}
 use Rattle.hb_base.specs.declared.door.Door.{Door}
@@ -31,27 +32,27 @@ is_item_at d _ = false
 abbrev pub is_asked : Door → List ReadyItem → Bool
 is_asked d ready = list_any (is_item_at d) ready
 
--- a link at its birth: every way is awake
+-- a link at its birth: every way is awake; it is open where it was accepted, and isn't where it was dialled
 abbrev pub fresh : Bool → Link
-fresh opens = record { is_open = opens; finish_sleeps = false; read_sleeps = false; write_sleeps = false }
+fresh opens = record { is_dialled = not opens; is_open = opens; finish_sleeps = false; read_sleeps = false; write_sleeps = false }
 
 -- every way is awake
 abbrev pub awake : Link → Link
-awake k = record { is_open = k.is_open; finish_sleeps = false; read_sleeps = false; write_sleeps = false }
+awake k = record k { finish_sleeps = false; read_sleeps = false; write_sleeps = false }
 
 -- a finish told that it is open
 abbrev pub with_open : Link → Link
-with_open k = record { is_open = true; finish_sleeps = false; read_sleeps = k.read_sleeps; write_sleeps = k.write_sleeps }
+with_open k = record k { is_open = true; finish_sleeps = false }
 
 -- a way sleeps, or not
 abbrev pub with_finish : Bool → Link → Link
-with_finish b k = record { is_open = k.is_open; finish_sleeps = b; read_sleeps = k.read_sleeps; write_sleeps = k.write_sleeps }
+with_finish b k = record k { finish_sleeps = b }
 
 abbrev pub with_read : Bool → Link → Link
-with_read b k = record { is_open = k.is_open; finish_sleeps = k.finish_sleeps; read_sleeps = b; write_sleeps = k.write_sleeps }
+with_read b k = record k { read_sleeps = b }
 
 abbrev pub with_write : Bool → Link → Link
-with_write b k = record { is_open = k.is_open; finish_sleeps = k.finish_sleeps; read_sleeps = k.read_sleeps; write_sleeps = b }
+with_write b k = record k { write_sleeps = b }
 
 -- A link behind one more entry: a birth begins it anew, a call that moved something wakes its way, one that moved nothing puts its
 -- way to sleep, and a wait that names the link wakes every way. A call that failed leaves it as it is

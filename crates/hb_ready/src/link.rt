@@ -3,6 +3,8 @@
 /// A link that lives. A way sleeps where its last call moved nothing and no wait named the link since.
 #[derive(Clone, Copy)]
 pub struct Link {
+    /// It was dialled; else it was accepted at a door.
+    pub is_dialled: bool,
     /// It was accepted, or a finish told that it is open.
     pub is_open: bool,
     pub finish_sleeps: bool,

@@ -94,13 +94,14 @@ impl Links {
         Ok(())
     }
 
-    /// A link is born. It stands at the list's end.
+    /// A link is born: accepted, and so open, or dialled. It stands at the list's end.
     pub fn born(&mut self, link: u64, is_open: bool)
         requires { HasRoom self.old }
         ensures links { (l : ℕ) → (kept self.new).links l ≡ (if link == l then Some (fresh is_open) else (kept self.old).links l) }
         ensures listed { (kept self.new).listed ≡ (kept self.old).listed ++ link ∷ [] }
     {
         let link_now = Link {
+            is_dialled: !is_open,
             is_open,
             finish_sleeps: false,
             read_sleeps: false,
@@ -213,10 +214,10 @@ impl Links {
     {
         if let Some(known) = self.get(link) {
             let now = Link {
-                is_open: known.is_open,
                 finish_sleeps: false,
                 read_sleeps: false,
                 write_sleeps: false,
+                ..known
             };
             self.set(link, now);
             self.list(link);

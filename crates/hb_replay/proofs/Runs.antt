@@ -1,50 +1,87 @@
 -- A run over a script, from what is said of it where it is served.
-use Rattle.std.proofs.Common.{◌≡◌, ◌⊎◌, ⊎_elim, Bool, true, false, ◌||◌, not, is_some, List, [], Option, Some, None, inl, inr, refl, sym, subst, ◌∙◌}
+use Rattle.std.proofs.Common.{◌≡◌, ℕ, Bool, true, false, ◌||◌, if◌then◌else◌, List, [], Option, Some, None, inl, inr, refl, sym, subst, ap, ap₂, ◌∙◌}
+use Rattle.std.specs.Option.{is_some}
 use Rattle.hb_base.specs.declared.note.Note.{Note}
 use Rattle.hb_world.specs.declared.entry.Entry.{Entry}
-use Rattle.hb_turns.specs.Ends.{was_wanting}
+use Rattle.hb_turns.specs.Notes.{held, Holds}
+use Rattle.hb_turns.specs.Totals.{totals_of}
 use Rattle.hb_turns.specs.declared.served.Served.{Served}
+use Rattle.hb_turns.specs.declared.served.Totals.{Totals}
 use Rattle.hb_turns.specs.declared.served.ServeEnd.{ServeEnd}
 use Rattle.hb_turns.specs.declared.served.ServeEnd.TheVariants as ends
-use Rattle.hb_serve.specs.Served.{IsServed, LacksNode, Serves}
+use Rattle.hb_report.specs.Report.{report}
+use Rattle.hb_serve.specs.Served.{IsServed, IsTotalled, Serves}
 use Rattle.hb_serve.specs.declared.words.ServeWords.{ServeWords}
-use Rattle.hb_words.specs.Replay.{Replay}
-use Rattle.hb_replay.specs.declared.run.ReplayEnd.{ReplayEnd}
-use Rattle.hb_replay.specs.declared.run.ReplayEnd.TheVariants as replays
-use Rattle.hb_replay.specs.Run.{words_of, done_by, serve_end, IsRun, DoneLawfully}
+use Rattle.hb_words.specs.Command.{Replay}
+use Rattle.hb_replay.specs.Asked.{words_of}
+use Rattle.hb_replay.specs.End.{replay_end, ended_as}
+use Rattle.hb_replay.specs.declared.end.ReplayEnd.{ReplayEnd}
+use Rattle.hb_replay.specs.Run.{done_by, done_with, RunsAs, IsRun, flags_of, report_of}
 
--- no run over a script ends so for want of memory
-not_lacking : (end : ReplayEnd) → serve_end end ≡ ends.NoMemory → ⊥
-not_lacking replays.Stopped is = cc
-not_lacking replays.WorldFault is = cc
-not_lacking replays.TurnsSpent is = cc
+none_lacks : (wanting unkept : Bool) (end : ServeEnd) (is : ReplayEnd) → (if wanting || unkept then None else replay_end end) ≡ Some is
+    → (wanting ≡ false) × (unkept ≡ false) × (replay_end end ≡ Some is)
+none_lacks false false end is same = (refl, refl, same)
+none_lacks false true end is same = absurd (cc)
+none_lacks true unkept end is same = absurd (cc)
 
-none_of : (a b c : Bool) → ((a || b) || not c) ≡ false → (a ≡ false) × (b ≡ false) × (c ≡ true)
-none_of false false true is = (refl, refl, refl)
-none_of false false false is = absurd (cc)
-none_of true b c is = absurd (cc)
-none_of false true c is = absurd (cc)
+-- so ends no run in which memory lacked
+module _ (told : Served) (end : ReplayEnd) (ended : ended_as told ≡ Some end) where
+  pub wants_none : told.wanting ≡ false
+  wants_none = (none_lacks told.wanting told.unkept told.end end ended).0
 
-is_run : (r : Replay) (end : ReplayEnd) (trace : List Entry) (keep : Option (List Note)) (told : Served) → IsServed (words_of r) told keep trace
-    → told.end ≡ serve_end end → told.wanting ≡ false → told.unkept ≡ false → is_some keep ≡ true → IsRun r end (done_by trace keep)
-is_run r end trace None told served ended wants kept some = absurd (cc)
-is_run r end trace (Some notes) told served ended wants kept some = record {
-  told = told;
-  served = served;
-  ends = ended;
-  has_notes = served.noted (λ lacks. not_lacking end (sym ended ∙ lacks)) kept;
-  not_wanting = sym served.run.wanting_is ∙ wants;
-}
+  pub keeps_all : told.unkept ≡ false
+  keeps_all = (none_lacks told.wanting told.unkept told.end end ended).1
 
-pub ran : (r : Replay) (end : ReplayEnd) (trace : List Entry) (keep : Option (List Note)) (told : Served) (asked : ServeWords)
-    → asked ≡ words_of r → Serves asked told keep trace → told.end ≡ serve_end end
-    → ((told.wanting || told.unkept) || not (is_some keep)) ≡ false → IsRun r end (done_by trace keep)
-ran r end trace keep told asked is (inl lacks) ended none = absurd (not_lacking end (sym ended ∙ lacks.end))
-ran r end trace keep told asked is (inr served) ended none =
-    let all = none_of told.wanting told.unkept (is_some keep) none in
-    is_run r end trace keep told (subst (λ (w : ServeWords). IsServed w told keep trace) is served) ended all.0 all.1 all.2
+  pub ended_so : replay_end told.end ≡ Some end
+  ended_so = (none_lacks told.wanting told.unkept told.end end ended).2
 
-pub done : (r : Replay) (trace : List Entry) (keep : Option (List Note)) (told : Served) (asked : ServeWords) → asked ≡ words_of r
-    → Serves asked told keep trace → DoneLawfully r trace
-done r trace keep told asked is (inl lacks) = inl lacks.none
-done r trace keep told asked is (inr served) = inr (told, keep, subst (λ (w : ServeWords). IsServed w told keep trace) is served)
+  lacks_none : told.end ≡ ends.NoMemory → ⊥
+  lacks_none is = let so : replay_end ends.NoMemory ≡ Some end = ap replay_end (sym is) ∙ ended_so in cc
+
+  -- a run that is served and ended so, with all its notes
+  module _ (words : ServeWords) (keep : Option (List Note)) (trace : List Entry) where
+    totalled : IsServed words told keep trace → IsTotalled words.config keep told.totals trace
+    totalled served = served.noted lacks_none keeps_all
+
+    runs : IsServed words told keep trace → (notes : List Note) × Holds keep notes × RunsAs words told keep end (done_with trace notes)
+    runs served =
+        let t = totalled served in (
+          t.notes,
+          t.kept_are,
+          record {
+            served = served;
+            ends = ended;
+            has_notes = t.has_notes;
+            totals = t.totals_are;
+            not_wanting = sym served.run.wanting_is ∙ wants_none;
+          },
+        )
+
+    pub ran : Serves words told keep trace → (notes : List Note) × Holds keep notes × RunsAs words told keep end (done_with trace notes)
+    ran (inl lacks) = absurd (lacks_none lacks.end)
+    ran (inr served) = runs served
+
+kept : (r : Replay) (end : ReplayEnd) (trace : List Entry) (keep : Option (List Note)) (told : Served) → is_some keep ≡ true
+    → ((notes : List Note) × Holds keep notes × RunsAs (words_of r.run None) told keep end (done_with trace notes))
+    → IsRun r end (done_by trace keep) × (told.totals ≡ totals_of trace (held keep))
+kept r end trace None told some run = absurd (cc)
+kept r end trace (Some notes) told some run =
+    let same = sym run.1 in
+    let is = subst (λ (ns : List Note). RunsAs (words_of r.run None) told (Some notes) end (done_with trace ns)) same run.2 in
+    ((told, is), is.totals)
+
+-- a run over a script, whose notes are kept, and its totals
+pub replayed : (r : Replay) (end : ReplayEnd) (trace : List Entry) (keep : Option (List Note)) (told : Served) (asked : ServeWords)
+    → asked ≡ words_of r.run None → Serves asked told keep trace → ended_as told ≡ Some end → is_some keep ≡ true
+    → IsRun r end (done_by trace keep) × (told.totals ≡ totals_of trace (held keep))
+replayed r end trace keep told asked is serves ended some =
+    kept r end trace keep told some
+    (ran told end ended (words_of r.run None) keep trace (subst (λ (w : ServeWords). Serves w told keep trace) is serves))
+
+-- the report of a run is that of its trace and notes, with their totals
+pub reported : (r : Replay) (text : List ℕ) (trace told : List Entry) (notes noted : List Note) (totals : Totals)
+    → text ≡ report (flags_of r) trace notes totals → trace ≡ told → notes ≡ noted → totals ≡ totals_of told noted
+    → text ≡ report_of r (done_with told noted)
+reported r text trace told notes noted totals is trace_is notes_is totals_are =
+    is ∙ ap (λ (t : Totals). report (flags_of r) trace notes t) totals_are
+    ∙ ap₂ (λ (es : List Entry) (ns : List Note). report (flags_of r) es ns (totals_of told noted)) trace_is notes_is

@@ -7,27 +7,19 @@ use Rattle.hb_world.specs.declared.entry.Entry.{Entry}
 use Rattle.hb_world.specs.WorldState.{ScriptState}
 use Rattle.hb_script.specs.declared.fault.ScriptFault.{ScriptFault}
 use Rattle.hb_script.specs.Script.{lines}
-use Rattle.hb_model.specs.declared.config.NodeConfig.{NodeConfig}
 use Rattle.hb_turns.specs.declared.served.Served.{Served}
-use Rattle.hb_turns.specs.declared.served.ServeEnd.{ServeEnd}
-use Rattle.hb_turns.specs.declared.served.ServeEnd.TheVariants as ends
 use Rattle.hb_turns.specs.Ends.{was_wanting}
 use Rattle.hb_turns.specs.Notes.{held}
+use Rattle.hb_turns.specs.Totals.{totals_of}
 use Rattle.hb_serve.specs.Served.{IsServed, HasNotes}
 use Rattle.hb_serve.specs.declared.words.ServeWords.{ServeWords}
 use Rattle.hb_report.specs.Report.{report}
-use Rattle.hb_report.specs.Totals.{totals_of}
-use Rattle.hb_words.specs.Replay.{Replay}
-use Rattle.hb_replay.specs.declared.run.ReplayEnd.{ReplayEnd}
-use Rattle.hb_replay.specs.declared.run.ReplayEnd.TheVariants as replays
+use Rattle.hb_report.specs.declared.flags.Flags.{Flags}
+use Rattle.hb_words.specs.Command.{Replay}
+use Rattle.hb_replay.specs.Asked.{words_of}
+use Rattle.hb_replay.specs.End.{ended_as}
+use Rattle.hb_replay.specs.declared.end.ReplayEnd.{ReplayEnd}
 use Rattle.hb_replay.specs.declared.run.Replayed.{Replayed}
-
--- the node that is asked for, and its run
-abbrev pub config_of : Replay → NodeConfig
-config_of r = record { id = r.id; discovery = r.discovery; network = r.network; node = r.node }
-
-abbrev pub words_of : Replay → ServeWords
-words_of r = record { config = config_of r; inbound = r.inbound; tunnels = r.tunnels; turns = r.turns; ticks = None }
 
 -- what was done: the trace, and the notes of it
 pub record Done : Type 0 where
@@ -52,26 +44,29 @@ run_state script keep = record { script = script; keep = keep }
 abbrev pub done_in : RunState → Done
 done_in s = done_by s.script.trace s.keep
 
-abbrev pub serve_end : ReplayEnd → ServeEnd
-serve_end replays.Stopped = ends.Stopped
-serve_end replays.WorldFault = ends.WorldFault
-serve_end replays.TurnsSpent = ends.TurnsSpent
-
--- a run that is asked for so was served, did this and ended so, and memory never lacked: these are all its notes
-pub record IsRun (r : Replay) (end : ReplayEnd) (done : Done) : Type 0 where
-  pub told : Served
-  pub served : IsServed (words_of r) told (Some done.notes) done.trace
-  pub ends : told.end ≡ serve_end end
-  pub has_notes : HasNotes (config_of r) done.notes done.trace
+-- A run that is asked for so was served, did this and ended so, and memory never lacked: these are all its notes, and the totals are its
+-- own
+pub record RunsAs (words : ServeWords) (told : Served) (keep : Option (List Note)) (end : ReplayEnd) (done : Done) : Type 0 where
+  pub served : IsServed words told keep done.trace
+  pub ends : ended_as told ≡ Some end
+  pub has_notes : HasNotes words.config done.notes done.trace
+  pub totals : told.totals ≡ totals_of done.trace done.notes
   pub not_wanting : was_wanting done.trace ≡ false
 
--- what is told of it
+-- so a replay that keeps its notes
+abbrev pub IsRun : Replay → ReplayEnd → Done → Type 0
+IsRun r end done = (told : Served) × RunsAs (words_of r.run None) told (Some done.notes) end done
+
+-- which lines its report has, and the report
+abbrev pub flags_of : Replay → Flags
+flags_of r = record { trace = r.trace; brief = r.brief }
+
 abbrev pub report_of : Replay → Done → List ℕ
-report_of r done = report (record { trace = r.trace; brief = r.brief }) done.trace done.notes (totals_of done.trace done.notes)
+report_of r done = report (flags_of r) done.trace done.notes (totals_of done.trace done.notes)
 
 -- nothing was done, or a run was served, however it ended
 abbrev pub DoneLawfully : Replay → List Entry → Type 0
-DoneLawfully r trace = (trace ≡ []) ⊎ ((told : Served) × (keep : Option (List Note)) × IsServed (words_of r) told keep trace)
+DoneLawfully r trace = (trace ≡ []) ⊎ ((told : Served) × (keep : Option (List Note)) × IsServed (words_of r.run None) told keep trace)
 
 -- What a replay of this text leaves: the world's lines are the text's, and its trace and the notes are those of the run that is told
 abbrev pub Replays : Replay → List ℕ → RunState → Result Replayed (Or ScriptFault) → Type 0

@@ -1,30 +1,24 @@
-//! The run, and what is told of it.
+//! A run over a script, and what is told of it.
 
 ghost use Rattle.std.specs.Prelude.{◌≡◌, [], IfOk};
 ghost use Rattle.hb_base.specs.Outcome.{Answers};
+ghost use Rattle.hb_report.specs.Report.{report};
 ghost use Rattle.hb_script.specs.Script.{lines};
-ghost use Rattle.hb_words.specs.AskedReplay.{replay_seen};
-ghost use Rattle.hb_replay.specs.Run.{config_of, words_of, done_by, done_with, report_of, run_state, IsRun, DoneLawfully, Replays};
+ghost use Rattle.hb_turns.specs.Notes.{held};
+ghost use Rattle.hb_turns.specs.Totals.{totals_of};
+ghost use Rattle.hb_words.specs.AskedRun.{replay_seen};
+ghost use Rattle.hb_replay.specs.Run.{flags_of, done_by, run_state, IsRun, DoneLawfully, Replays};
 
-use hb_base::{Bytes, List, NoMemory, Note, Or, Text};
-use hb_model::NodeConfig;
-use hb_report::{Flags, put_report, totals_of};
+use crate::asked::serve_words;
+use crate::end::{ReplayEnd, ended_as};
+use hb_base::{Bytes, List, NoMemory, Note, Or};
+use hb_report::{Flags, put_report};
 use hb_script::{ScriptFault, read_script};
-use hb_serve::{ServeWords, serve};
-use hb_turns::{Keep, ServeEnd};
+use hb_serve::serve;
+use hb_turns::{Keep, Totals};
 use hb_words::Replay;
 use hb_world::{Entry, Line, ScriptWorld};
 use std::alloc::Global;
-
-/// How a run ended.
-#[derive(Clone, Copy)]
-pub enum ReplayEnd {
-    /// A wait told a stop, as it does behind the script's last line.
-    Stopped,
-    /// A wait failed.
-    WorldFault,
-    TurnsSpent,
-}
 
 /// A run that ended, and the report of it.
 #[derive(Drop)]
@@ -33,81 +27,45 @@ pub struct Replayed {
     pub report: Vec<u8>,
 }
 
-/// A word as a text.
-fn text_of(alloc: Global, word: &str) -> Result<Text, NoMemory>
-    ensures { IfOk result (λ text. text ≡ word.now) }
-{
-    match Text::of(alloc, word.as_bytes())? {
-        Some(text) => Ok(text),
-        None => unreachable!(),
-    }
-}
-
-/// The node that is asked for.
-fn config_of(alloc: Global, words: &Replay<'_>) -> Result<NodeConfig, NoMemory>
-    ensures { IfOk result (λ config. config ≡ config_of (replay_seen words.now)) }
-{
-    Ok(NodeConfig {
-        id: text_of(alloc, words.id)?,
-        discovery: words.discovery,
-        network: text_of(alloc, words.network)?,
-        node: text_of(alloc, words.node)?,
-    })
-}
-
-/// What a run is asked for.
-fn words_of(alloc: Global, words: &Replay<'_>) -> Result<ServeWords, NoMemory>
-    ensures { IfOk result (λ asked. asked ≡ words_of (replay_seen words.now)) }
-{
-    Ok(ServeWords {
-        config: config_of(alloc, words)?,
-        inbound: words.inbound,
-        tunnels: words.tunnels as usize,
-        turns: words.turns,
-        ticks: None,
-    })
-}
-
-/// Runs the proxy over a script in which nothing happened yet.
+/// Runs the proxy over a script in which nothing happened yet. Gives how it ended, and its totals.
 fn run_over(
     alloc: Global,
     words: &Replay<'_>,
     keep: &mut Keep,
     script: &mut ScriptWorld,
-) -> Result<ReplayEnd, NoMemory>
+) -> Result<(ReplayEnd, Totals), NoMemory>
     requires { script.old.trace ≡ [] }
     ensures lines { script.new.lines ≡ script.old.lines }
     ensures lawful { DoneLawfully (replay_seen words.now) script.new.trace }
-    ensures runs { IfOk result (λ end. IsRun (replay_seen words.now) end (done_by script.new.trace keep.new)) }
+    ensures runs { IfOk result (λ ran. IsRun (replay_seen words.now) ran.0 (done_by script.new.trace keep.new)) }
+    ensures totals { IfOk result (λ ran. ran.1 ≡ totals_of script.new.trace (held keep.new)) }
 {
-    let served = serve(alloc, words_of(alloc, words)?, keep, script);
-    if served.wanting | served.unkept | !keep.keeps() {
+    let served = serve(alloc, serve_words(alloc, &words.run, None)?, keep, script);
+    if !keep.keeps() {
         return Err(NoMemory);
     }
-    match served.end {
-        ServeEnd::Stopped => Ok(ReplayEnd::Stopped),
-        ServeEnd::WorldFault => Ok(ReplayEnd::WorldFault),
-        ServeEnd::TurnsSpent => Ok(ReplayEnd::TurnsSpent),
-        ServeEnd::NoMemory => Err(NoMemory),
+    match ended_as(&served) {
+        Some(end) => Ok((end, served.totals)),
+        None => Err(NoMemory),
     }
 }
 
-/// The report of a run with this trace and these notes.
+/// The report of a run with this trace, these notes and these totals.
 fn report_of(
     alloc: Global,
     words: &Replay<'_>,
     trace: &[Entry],
     notes: &[Note],
+    totals: &Totals,
 ) -> Result<Vec<u8>, NoMemory>
-    ensures { IfOk result (λ text. text.items ≡ report_of (replay_seen words.now) (done_with trace.now notes.now)) }
+    ensures { IfOk result (λ text. text.items ≡ report (flags_of (replay_seen words.now)) trace.now notes.now totals.now) }
 {
     let flags = Flags {
         trace: words.trace,
         brief: words.brief,
     };
-    let totals = totals_of(alloc, trace, notes)?;
     let mut text = Vec::new(alloc);
-    put_report(alloc, &flags, trace, notes, &totals, &mut text)?;
+    put_report(alloc, &flags, trace, notes, totals, &mut text)?;
     Ok(text)
 }
 
@@ -134,7 +92,7 @@ pub fn replay(
     ensures { Replays (replay_seen words.now) text (run_state script.new keep.new) result }
 {
     script.load(lines_of(alloc, text)?)?;
-    let end = run_over(alloc, words, keep, script)?;
-    let report = report_of(alloc, words, script.entries(), keep.notes())?;
+    let (end, totals) = run_over(alloc, words, keep, script)?;
+    let report = report_of(alloc, words, script.entries(), keep.notes(), &totals)?;
     Ok(Replayed { end, report })
 }

@@ -1,5 +1,5 @@
-//! Tests of `hbone replay`: runs of the command over memory, each with its status, its whole output and its error text. The
-//! expected texts come from a second, plain model of the formats, and none from the program.
+//! Tests of `hbone replay` and `hbone serve`: runs of the command over memory, each with its status, its whole output and its
+//! error text. The expected texts of `replay` come from a second, plain model of the formats, and none from the program.
 #![tactic(auto)]
 
 #[cfg(test)]
@@ -7,10 +7,14 @@ mod cuts;
 #[cfg(test)]
 mod faults;
 #[cfg(test)]
+mod modelled;
+#[cfg(test)]
 mod notation;
 #[cfg(test)]
 mod rows;
 #[cfg(test)]
 mod runs;
+#[cfg(test)]
+mod served;
 #[cfg(test)]
 mod tunnels;

@@ -1,5 +1,6 @@
 //! The notation of the tables.
 
+use crate::modelled::MODELLED_PARTS;
 use crate::rows::PARTS;
 use crate::tunnels::TUNNEL_PARTS;
 use std::alloc::Global;
@@ -32,10 +33,12 @@ fn part_among(parts: &'static [u8], name: &str) -> Option<&'static str> {
 
 /// The text of a part; nothing where no part has the name.
 fn part_of(name: &str) -> &'static str {
-    match part_among(PARTS, name) {
-        Some(text) => text,
-        None => part_among(TUNNEL_PARTS, name).unwrap_or(""),
+    for parts in [PARTS, TUNNEL_PARTS, MODELLED_PARTS] {
+        if let Some(text) = part_among(parts, name) {
+            return text;
+        }
     }
+    ""
 }
 
 /// Appends a text in which a quote is written as `'` and a newline as `|`.

@@ -1162,7 +1162,8 @@ help|--node|n1|--id|z1|--discovery|10.0.0.1:15010|\n\
 
 /// The forms of accepted words, which are told behind each reason.
 pub const USAGE: &[u8] = b"\
-(usage: hbone check --node NODE [--network NETWORK] SOURCE IDENTITY TARGET, hbone show, or hbone replay --node NODE --\
-id ID --discovery TARGET [--inbound TARGET] [--network NETWORK] [--hbone-port PORT] [--tunnels COUNT] [--turns COUNT] \
-[--trace] [--brief])\n\
+(usage: hbone check --node NODE [--network NETWORK] SOURCE IDENTITY TARGET, hbone show, hbone replay --node NODE --id \
+ID --discovery TARGET [--inbound TARGET] [--network NETWORK] [--hbone-port PORT] [--tunnels COUNT] [--turns COUNT] [--\
+trace] [--brief], or hbone serve --node NODE --id ID --discovery TARGET [--inbound TARGET] [--network NETWORK] [--hbon\
+e-port PORT] [--tunnels COUNT] [--turns COUNT] [--ticks COUNT])\n\
 ";

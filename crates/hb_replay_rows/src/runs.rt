@@ -1,5 +1,8 @@
 //! The runs of the tables.
 
+use crate::modelled::{
+    MODELLED_1, MODELLED_2, MODELLED_3, MODELLED_4, MODELLED_5, MODELLED_6, MODELLED_7, MODELLED_8,
+};
 use crate::notation::{cut, spelled, text_of};
 use crate::rows::{
     REFUSED, ROWS_1, ROWS_2, ROWS_3, ROWS_4, ROWS_5, ROWS_6, ROWS_7, ROWS_8, ROWS_9, ROWS_10, USAGE,
@@ -28,22 +31,27 @@ pub const NOTHING_FAILS: Failing = Failing {
 };
 
 /// The room of the error text.
-const ERR_ROOM: usize = 1024;
+pub const ERR_ROOM: usize = 1024;
 
 fn push_word(rt: &impl Abort, alloc: Global, words: &mut Vec<String>, word: &str) {
     let word = String::from_str(alloc, word).expect(rt, "memory");
     words.push(word).expect(rt, "memory");
 }
 
-/// The words of a program that is to replay, with blanks between those behind the command.
-pub fn replay_words(rt: &impl Abort, alloc: Global, text: &str) -> Vec<String> {
+/// The words of a program, with blanks between those behind the command.
+pub fn words_behind(rt: &impl Abort, alloc: Global, command: &str, text: &str) -> Vec<String> {
     let spelled = spelled(rt, alloc, text);
     let mut words = Vec::new(alloc);
-    push_word(rt, alloc, &mut words, "replay");
+    push_word(rt, alloc, &mut words, command);
     for word in text_of(spelled.as_slice()).split(' ') {
         push_word(rt, alloc, &mut words, word);
     }
     words
+}
+
+/// The words of a program that is to replay.
+pub fn replay_words(rt: &impl Abort, alloc: Global, text: &str) -> Vec<String> {
+    words_behind(rt, alloc, "replay", text)
 }
 
 /// A run over memory, some of whose calls fail: its status, its output and its error text, with `; ` between.
@@ -51,14 +59,15 @@ pub fn told_of(
     rt: &impl Abort,
     alloc: Global,
     words: &[String],
-    script: &[u8],
+    text: &[u8],
     failing: Failing,
 ) -> String {
-    let mut source = MemSource::over(alloc, script, &[failing.take]).expect(rt, "memory");
+    let mut source = MemSource::over(alloc, text, &[failing.take]).expect(rt, "memory");
     let mut out = MemSink::new(alloc, failing.room, &[failing.put]).expect(rt, "memory");
     let mut err = MemSink::new(alloc, ERR_ROOM, &[0]).expect(rt, "memory");
     let mut keep = Keep::all(alloc);
     let mut world = ScriptWorld::new(alloc);
+    let mut script = ScriptWorld::new(alloc);
     let status = run(
         alloc,
         words,
@@ -67,6 +76,7 @@ pub fn told_of(
         &mut err,
         &mut keep,
         &mut world,
+        &mut script,
     );
     let output = text_of(out.as_slice());
     let error = text_of(err.as_slice());
@@ -154,6 +164,46 @@ fn runs_of_the_tenth_table_end_as_the_formats_say(rt: HostRuntime) {
 #[test]
 fn runs_over_the_inbound_door_end_as_the_rules_say(rt: HostRuntime) {
     assert_table(&rt, TUNNELS);
+}
+
+#[test]
+fn runs_of_the_first_modelled_table_end_as_the_pages_say(rt: HostRuntime) {
+    assert_table(&rt, MODELLED_1);
+}
+
+#[test]
+fn runs_of_the_second_modelled_table_end_as_the_pages_say(rt: HostRuntime) {
+    assert_table(&rt, MODELLED_2);
+}
+
+#[test]
+fn runs_of_the_third_modelled_table_end_as_the_pages_say(rt: HostRuntime) {
+    assert_table(&rt, MODELLED_3);
+}
+
+#[test]
+fn runs_of_the_fourth_modelled_table_end_as_the_pages_say(rt: HostRuntime) {
+    assert_table(&rt, MODELLED_4);
+}
+
+#[test]
+fn runs_of_the_fifth_modelled_table_end_as_the_pages_say(rt: HostRuntime) {
+    assert_table(&rt, MODELLED_5);
+}
+
+#[test]
+fn runs_of_the_sixth_modelled_table_end_as_the_pages_say(rt: HostRuntime) {
+    assert_table(&rt, MODELLED_6);
+}
+
+#[test]
+fn runs_of_the_seventh_modelled_table_end_as_the_pages_say(rt: HostRuntime) {
+    assert_table(&rt, MODELLED_7);
+}
+
+#[test]
+fn runs_of_the_eighth_modelled_table_end_as_the_pages_say(rt: HostRuntime) {
+    assert_table(&rt, MODELLED_8);
 }
 
 /// Words that aren't accepted, each ended by `|`, and why they aren't. The input is no script, and nothing is read of it.

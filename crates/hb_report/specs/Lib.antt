@@ -3,4 +3,4 @@ pub mod Note
 pub mod Report
 pub mod Tallies
 pub mod Tally
-pub mod Totals
+pub mod Total

@@ -5,11 +5,11 @@ use Rattle.hb_base.specs.declared.note.Note.{Note}
 use Rattle.hb_world.specs.declared.entry.Entry.{Entry}
 use Rattle.hb_script.specs.EntryText.{entry_text}
 use Rattle.hb_report.specs.declared.flags.Flags.{Flags}
-use Rattle.hb_report.specs.declared.totals.Totals.{Totals}
+use Rattle.hb_turns.specs.declared.served.Totals.{Totals}
 use Rattle.hb_report.specs.Link.{birth_line}
 use Rattle.hb_report.specs.Note.{note_line}
 use Rattle.hb_report.specs.Tally.{tally_of}
-use Rattle.hb_report.specs.Totals.{total_line}
+use Rattle.hb_report.specs.Total.{total_line}
 
 -- a line for each link, in the order of their births, which is that of their numbers
 abbrev pub links_text : List Entry → List ℕ

@@ -6,8 +6,9 @@ mod link;
 mod note;
 mod report;
 mod tallies;
-mod totals;
+mod total;
 
 pub use flags::Flags;
+pub use note::add_note;
 pub use report::put_report;
-pub use totals::{Totals, totals_of};
+pub use total::put_total;

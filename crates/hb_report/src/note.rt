@@ -1,94 +1,142 @@
 //! The line of a note.
 
-ghost use Rattle.std.specs.Prelude.{◌≡◌, ◌++◌, codes, decimal, string_bytes, IfOk, OnOk};
+ghost use Rattle.std.specs.Prelude.{◌≡◌, ◌++◌, codes, decimal, string_bytes, OnOk};
 ghost use Rattle.std.specs.List.{flat_map};
 ghost use Rattle.std.specs.Option.{option_map};
 ghost use Rattle.hb_base.specs.declared.note.Note.TheVariants.{Verdict, End};
 ghost use Rattle.hb_base.specs.IdentityText.{principal_of};
+ghost use Rattle.hb_base.specs.IpText.{ip_text};
 ghost use Rattle.hb_base.specs.TargetText.{target_text};
+ghost use Rattle.hb_script.specs.EntryText.{cause_text};
 ghost use Rattle.hb_report.specs.Note.{or_dash, peer_text, place_text, note_line};
 
-use hb_base::{Cause, Identity, NoMemory, Note, Peer, Target, put_ip, put_target};
-use hb_script::cause_string;
+use hb_base::{Cause, Identity, Ip, NoMemory, Note, Peer, Target, Text};
 use std::alloc::Global;
+use std::net::{Ipv4Addr, Ipv6Addr};
+use std::str::from_utf8;
 
-/// Appends the principal of an identity.
-fn put_principal(identity: &Identity, line: &mut Vec<u8>) -> Result<(), NoMemory>
-    ensures { OnOk result (line.new.items ≡ line.old.items ++ principal_of identity.now) }
+#[tactic(auto, unfolding(hb_base::specs::IpText::ip_text, std::specs::Net::Addr::IsIpv4OfBits, std::specs::Net::Addr::IsIpv6OfBits))]
+fn add_ip(ip: Ip, line: &mut String) -> Result<(), NoMemory>
+    ensures { OnOk result (string_bytes line.new ≡ string_bytes line.old ++ ip_text ip) }
 {
-    line.extend_from_slice(identity.trust_domain.as_slice())?;
-    line.extend_from_slice(b"/ns/")?;
-    line.extend_from_slice(identity.namespace.as_slice())?;
-    line.extend_from_slice(b"/sa/")?;
-    line.extend_from_slice(identity.service_account.as_slice())
-}
-
-fn put_peer(alloc: Global, peer: &Peer, line: &mut Vec<u8>) -> Result<(), NoMemory>
-    ensures { OnOk result (line.new.items ≡ line.old.items ++ peer_text peer.now) }
-{
-    put_ip(alloc, peer.ip, line)?;
-    line.push(b' ')?;
-    match &peer.identity {
-        Some(identity) => put_principal(identity, line),
-        None => line.extend_from_slice(b"-"),
+    match ip {
+        Ip::V4(n) => {
+            let address = Ipv4Addr::from_bits(n);
+            write!(line, "{address}")
+        }
+        Ip::V6(n) => {
+            let address = Ipv6Addr::from_bits(n).hex_groups();
+            write!(line, "{address}")
+        }
     }
 }
 
-fn put_target_or_dash(
-    alloc: Global,
-    target: Option<Target>,
-    line: &mut Vec<u8>,
-) -> Result<(), NoMemory>
-    ensures { OnOk result (line.new.items ≡ line.old.items ++ or_dash (option_map target_text target)) }
+#[tactic(auto, unfolding(hb_base::specs::TargetText::target_text))]
+fn add_target(target: Target, line: &mut String) -> Result<(), NoMemory>
+    ensures { OnOk result (string_bytes line.new ≡ string_bytes line.old ++ target_text target) }
+{
+    let port = target.port;
+    match target.ip {
+        Ip::V4(_) => {
+            add_ip(target.ip, line)?;
+            write!(line, ":{port}")
+        }
+        Ip::V6(_) => {
+            line.push_str("[")?;
+            add_ip(target.ip, line)?;
+            write!(line, "]:{port}")
+        }
+    }
+}
+
+fn add_target_or_dash(target: Option<Target>, line: &mut String) -> Result<(), NoMemory>
+    ensures { OnOk result (string_bytes line.new ≡ string_bytes line.old ++ or_dash (option_map target_text target)) }
 {
     match target {
-        Some(target) => put_target(alloc, target, line),
-        None => line.extend_from_slice(b"-"),
+        Some(target) => add_target(target, line),
+        None => line.push_str("-"),
     }
 }
 
-/// The front of an answer's line, up to its status.
-fn status_text(alloc: Global, link: u64, stream: u32, status: u16) -> Result<String, NoMemory>
-    ensures { IfOk result (λ text. string_bytes text
-        ≡ codes "verdict " ++ place_text link stream ++ codes " " ++ decimal status ++ codes " ") }
+fn add_text(text: &Text, line: &mut String) -> Result<(), NoMemory>
+    ensures { OnOk result (string_bytes line.new ≡ string_bytes line.old ++ text.now) }
 {
-    format!(in alloc; "verdict {link}/{stream} {status} ")
+    match from_utf8(text.as_slice()) {
+        Ok(text) => line.push_str(text),
+        Err(_) => unreachable!(),
+    }
 }
 
-fn verdict_line(
-    alloc: Global,
-    link: u64,
-    stream: u32,
+/// Appends the principal of an identity.
+fn add_principal(identity: &Identity, line: &mut String) -> Result<(), NoMemory>
+    ensures { OnOk result (string_bytes line.new ≡ string_bytes line.old ++ principal_of identity.now) }
+{
+    add_text(&identity.trust_domain, line)?;
+    line.push_str("/ns/")?;
+    add_text(&identity.namespace, line)?;
+    line.push_str("/sa/")?;
+    add_text(&identity.service_account, line)
+}
+
+fn add_peer(peer: &Peer, line: &mut String) -> Result<(), NoMemory>
+    ensures { OnOk result (string_bytes line.new ≡ string_bytes line.old ++ peer_text peer.now) }
+{
+    add_ip(peer.ip, line)?;
+    line.push_str(" ")?;
+    match &peer.identity {
+        Some(identity) => add_principal(identity, line),
+        None => line.push_str("-"),
+    }
+}
+
+fn add_cause(cause: &Cause, line: &mut String) -> Result<(), NoMemory>
+    ensures { OnOk result (string_bytes line.new ≡ string_bytes line.old ++ cause_text cause.now) }
+{
+    let word = cause.word();
+    line.push_str(word)?;
+    match cause.number() {
+        Some(number) => write!(line, " {number}"),
+        None => Ok(()),
+    }
+}
+
+fn add_verdict(
+    place: (u64, u32),
     status: u16,
     peer: &Peer,
     target: Option<Target>,
-) -> Result<Vec<u8>, NoMemory>
-    ensures { IfOk result (λ line. line.items ≡ note_line (Verdict link stream status peer.now target)) }
+    line: &mut String,
+) -> Result<(), NoMemory>
+    ensures { OnOk result (string_bytes line.new ≡ string_bytes line.old ++ note_line (Verdict place.0 place.1 status peer.now target)) }
 {
-    let mut line = status_text(alloc, link, stream, status)?.into_bytes();
-    put_peer(alloc, peer, &mut line)?;
-    line.push(b' ')?;
-    put_target_or_dash(alloc, target, &mut line)?;
-    line.push(b'\n')?;
-    Ok(line)
+    let (link, stream) = place;
+    write!(line, "verdict {link}/{stream} {status} ")?;
+    add_peer(peer, line)?;
+    line.push_str(" ")?;
+    add_target_or_dash(target, line)?;
+    line.push_str("\n")
 }
 
-fn end_text(
-    alloc: Global,
-    link: u64,
-    stream: u32,
+fn add_end(
+    place: (u64, u32),
     cause: &Cause,
     up: u64,
     down: u64,
-) -> Result<String, NoMemory>
-    ensures { IfOk result (λ text. string_bytes text ≡ note_line (End link stream cause.now up down)) }
+    line: &mut String,
+) -> Result<(), NoMemory>
+    ensures { OnOk result (string_bytes line.new ≡ string_bytes line.old ++ note_line (End place.0 place.1 cause.now up down)) }
 {
-    let cause = cause_string(alloc, cause)?;
-    format!(in alloc; "end {link}/{stream} {cause} up {up} down {down}\n")
+    let (link, stream) = place;
+    write!(line, "end {link}/{stream} ")?;
+    add_cause(cause, line)?;
+    write!(line, " up {up} down {down}\n")
 }
 
-fn line_of(alloc: Global, note: &Note) -> Result<Vec<u8>, NoMemory>
-    ensures { IfOk result (λ line. line.items ≡ note_line note.now) }
+/// Appends the line of a note, with its newline. Where the text has room for it, no memory is taken.
+///
+/// Errors: `NoMemory`, and then a part of the line may be appended.
+pub fn add_note(note: &Note, line: &mut String) -> Result<(), NoMemory>
+    ensures { OnOk result (string_bytes line.new ≡ string_bytes line.old ++ note_line note.now) }
 {
     match note {
         Note::Verdict {
@@ -97,14 +145,14 @@ fn line_of(alloc: Global, note: &Note) -> Result<Vec<u8>, NoMemory>
             status,
             peer,
             target,
-        } => verdict_line(alloc, *link, *stream, *status, peer, *target),
+        } => add_verdict((*link, *stream), *status, peer, *target, line),
         Note::End {
             link,
             stream,
             cause,
             up,
             down,
-        } => Ok(end_text(alloc, *link, *stream, cause, *up, *down)?.into_bytes()),
+        } => add_end((*link, *stream), cause, *up, *down, line),
     }
 }
 
@@ -113,8 +161,9 @@ pub(crate) fn put_notes(alloc: Global, notes: &[Note], out: &mut Vec<u8>) -> Res
     ensures { OnOk result (out.new.items ≡ out.old.items ++ flat_map note_line notes.now) }
 {
     for note in notes {
-        let line = line_of(alloc, note)?;
-        out.extend_from_slice(line.as_slice())?;
+        let mut line = String::new(alloc);
+        add_note(note, &mut line)?;
+        out.extend_from_slice(line.as_bytes())?;
     }
     Ok(())
 }

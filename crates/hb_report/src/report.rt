@@ -9,9 +9,10 @@ use crate::flags::Flags;
 use crate::link::put_links;
 use crate::note::put_notes;
 use crate::tallies::Tallies;
-use crate::totals::{Totals, total_text};
+use crate::total::put_total;
 use hb_base::{NoMemory, Note};
 use hb_script::put_entry;
+use hb_turns::Totals;
 use hb_world::Entry;
 use std::alloc::Global;
 
@@ -68,7 +69,6 @@ pub fn put_report(
     ensures err { OnErr result (out.new.items ≡ out.old.items) }
 {
     let mut text = details(alloc, flags, trace, notes)?;
-    let total = total_text(alloc, totals)?;
-    text.extend_from_slice(total.as_bytes())?;
+    put_total(alloc, totals, &mut text)?;
     out.extend_from_slice(text.as_slice())
 }

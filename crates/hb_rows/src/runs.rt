@@ -39,7 +39,7 @@ pub const NOTHING_FAILS: Failing = Failing {
     put: 0,
     room: 256,
     err_put: 0,
-    err_room: 512,
+    err_room: 1024,
 };
 
 fn text_of(bytes: &[u8]) -> &str {
@@ -140,6 +140,7 @@ fn run_over(
     let mut out = MemSink::new(alloc, failing.room, &[failing.put]).expect(rt, "memory");
     let mut err = MemSink::new(alloc, failing.err_room, &[failing.err_put]).expect(rt, "memory");
     let mut keep = Keep::all(alloc);
+    let mut world = ScriptWorld::new(alloc);
     let mut script = ScriptWorld::new(alloc);
     let status = run(
         alloc,
@@ -148,6 +149,7 @@ fn run_over(
         &mut out,
         &mut err,
         &mut keep,
+        &mut world,
         &mut script,
     );
     told(rt, status, out.as_slice(), err.as_slice())

@@ -52,8 +52,10 @@ check|--node|n1|SOURCE|spiffe://none/ns/./sa/..|TARGET|; WORKLOAD; allow";
 /// The forms of accepted words, which each reason names.
 const USAGE: &str =
     "(usage: hbone check --node NODE [--network NETWORK] SOURCE IDENTITY TARGET, hbone show, \
-     or hbone replay --node NODE --id ID --discovery TARGET [--inbound TARGET] [--network NETWORK] \
-     [--hbone-port PORT] [--tunnels COUNT] [--turns COUNT] [--trace] [--brief])";
+     hbone replay --node NODE --id ID --discovery TARGET [--inbound TARGET] [--network NETWORK] \
+     [--hbone-port PORT] [--tunnels COUNT] [--turns COUNT] [--trace] [--brief], \
+     or hbone serve --node NODE --id ID --discovery TARGET [--inbound TARGET] [--network NETWORK] \
+     [--hbone-port PORT] [--tunnels COUNT] [--turns COUNT] [--ticks COUNT])";
 
 /// Words that aren't accepted, each ended by `|`; an empty line has none. A line that begins with `=` has the reason that
 /// is told of the next ones.
@@ -325,6 +327,86 @@ check|--node|n1|SOURCE|IDENTITY|10.0.0.7:80 |
 check|--node|n1|SOURCE|IDENTITY|10.0.0.7:8o|
 check|--node|n1|SOURCE|IDENTITY|10.0.0.7:0x50|
 check|--node|n1|SOURCE|IDENTITY|10.0.0.7:http|
+# Behind `serve` an option is missing.
+= --node is wanted behind serve
+serve|
+serve|--id|z1|--discovery|TARGET|
+serve|--ticks|3|
+= --id is wanted behind serve
+serve|--node|n1|--discovery|TARGET|
+serve|--node|n1|--discovery|TARGET|--ticks=3|
+= --discovery is wanted behind serve
+serve|--node|n1|--id|z1|
+serve|--id=z1|--node=n1|--inbound=0.0.0.0:15008|
+# An option stands twice behind it.
+= --node stands twice
+serve|--node|n1|--id|z1|--discovery|TARGET|--node|n1|
+= --id stands twice
+serve|--node|n1|--id|z1|--id=z1|--discovery|TARGET|
+= --discovery stands twice
+serve|--node|n1|--id|z1|--discovery|TARGET|--discovery|TARGET|
+= --inbound stands twice
+serve|--inbound|TARGET|--inbound|TARGET|
+= --network stands twice
+serve|--network=x|--network|x|
+= --hbone-port stands twice
+serve|--hbone-port|1|--hbone-port|1|
+= --tunnels stands twice
+serve|--tunnels|1|--tunnels=1|
+= --turns stands twice
+serve|--turns|1|--turns|2|
+= --ticks stands twice
+serve|--node|n1|--id|z1|--discovery|TARGET|--ticks|3|--ticks|3|
+serve|--ticks=1|--ticks|2|
+# A value is missing behind it, or not of its grammar.
+= --node has no value
+serve|--node|
+= --ticks has no value
+serve|--node|n1|--id|z1|--discovery|TARGET|--ticks|
+= the value of --node is empty or begins with a dash
+serve|--node||--id|z1|--discovery|TARGET|
+serve|--node|--id|z1|
+= the value of --id is empty or begins with a dash
+serve|--node|n1|--id=|--discovery|TARGET|
+= the value of --discovery is neither IPv4:PORT nor [IPv6]:PORT
+serve|--node|n1|--id|z1|--discovery|localhost:15010|
+= the value of --inbound is neither IPv4:PORT nor [IPv6]:PORT
+serve|--node|n1|--id|z1|--discovery|TARGET|--inbound|15008|
+= the value of --network is empty or begins with a dash
+serve|--network|-x|
+= the value of --hbone-port is no number from 1 to 65535
+serve|--hbone-port|65536|
+= the value of --tunnels is no number from 1 to 4096
+serve|--tunnels|4097|
+= the value of --turns is no number from 1 to 18446744073709551615
+serve|--turns|0|
+= the value of --ticks is no number from 1 to 18446744073709551615
+serve|--node|n1|--id|z1|--discovery|TARGET|--ticks|0|
+serve|--ticks=0|
+serve|--ticks|18446744073709551616|
+serve|--ticks|03|
+serve|--ticks|3s|
+serve|--ticks|-1|
+serve|--ticks|--node|n1|
+# A flag or an option that the command doesn't have.
+= unknown option
+serve|--node|n1|--id|z1|--discovery|TARGET|--trace|
+serve|--node|n1|--id|z1|--discovery|TARGET|--brief|
+serve|--trace|
+serve|--ticks3|
+serve|--tick=3|
+serve|--help|
+replay|--node|n1|--id|z1|--discovery|TARGET|--ticks|3|
+replay|--node|n1|--id|z1|--discovery|TARGET|--ticks=3|
+check|--node|n1|--ticks|3|SOURCE|IDENTITY|TARGET|
+# No option.
+= serve takes options only
+serve|--node|n1|--id|z1|--discovery|TARGET|3|
+serve|serve|
+serve||
+= unknown command
+Serve|--node|n1|--id|z1|--discovery|TARGET|
+--node|n1|serve|
 # Of several faults the first is told.
 = SOURCE is neither an IPv4 nor an IPv6 address
 check|--node|n1|x|x|x|

@@ -1,13 +1,13 @@
 -- What is said of a run of one node is said of the other that it has in it.
-use Rattle.std.proofs.Common.{List, Option, Some, None}
+use Rattle.std.proofs.Common.{List, Option}
 use Rattle.hb_base.specs.declared.note.Note.{Note}
-use Rattle.hb_turns.specs.Notes.{HoldsNotes}
-use Rattle.hb_turns.specs.Served.{IsStoodFor, IsOver, IsServed}
+use Rattle.hb_turns.specs.Served.{IsStoodFor, IsOver, IsServed, IsTotalled}
 use Rattle.hb_turns.specs.Settled.{IsSettled, SettledAt}
 use Rattle.hb_turns.specs.Shown.{Shown}
 use Rattle.hb_turns.specs.declared.served.Served.{Served}
 use Rattle.hb_turns.specs.declared.served.ServeEnd.{ServeEnd}
 use Rattle.hb_turns.specs.declared.served.ServeEnd.TheVariants as ends
+use Rattle.hb_turns.specs.declared.served.Totals.{Totals}
 use Rattle.hb_turns.specs.declared.words.ServeWords.{ServeWords}
 use Rattle.hb_world.specs.declared.entry.Entry.{Entry}
 use Rattle.hb_world.specs.declared.entry.Entry.TheVariants as e
@@ -60,9 +60,16 @@ module _ {N M : Type 0} (f : N → M) (stands : List Note → M → List Entry �
     closes = o.closes;
   }
 
-  holds : (keep : Option (List Note)) (trace : List Entry) → HoldsNotes of shown_in keep trace → HoldsNotes stands shown keep trace
-  holds None trace h = tt
-  holds (Some notes) trace h = record { node = f h.node; stands_for = h.stands_for; none_waits = h.none_waits }
+  totalled : (keep : Option (List Note)) (totals : Totals) (trace : List Entry) → IsTotalled of shown_in keep totals trace
+      → IsTotalled stands shown keep totals trace
+  totalled keep totals trace t =
+      let all = t.are_notes in
+      record {
+        notes = t.notes;
+        are_notes = record { node = f all.node; stands_for = all.stands_for; none_waits = all.none_waits };
+        kept_are = t.kept_are;
+        totals_are = t.totals_are;
+      }
 
   pub served_along : (words : ServeWords) (served : Served) (keep : Option (List Note)) (trace : List Entry)
       → IsServed of shown_in words served keep trace → IsServed stands shown words served keep trace
@@ -72,6 +79,7 @@ module _ {N M : Type 0} (f : N → M) (stands : List Note → M → List Entry �
     closed = s.closed;
     over = over words served.end trace s.over;
     links_are = s.links_are;
+    revoked_are = s.revoked_are;
     wanting_is = s.wanting_is;
-    noted = λ ends kept. holds keep trace (s.noted ends kept);
+    noted = λ ends kept. totalled keep served.totals trace (s.noted ends kept);
   }

@@ -8,21 +8,25 @@ use Rattle.hb_model.specs.declared.config.NodeConfig.{NodeConfig}
 use Rattle.hb_model.proofs.Inner.{over_is}
 use Rattle.hb_proxy.proofs.Projection.{control_runs}
 use Rattle.hb_proxy.specs.Points.{Point, control_of}
-use Rattle.hb_turns.specs.Notes.{HoldsNotes}
+use Rattle.hb_proxy.specs.Settled.{SettledAt, SettledIn, SettledLaw}
 use Rattle.hb_turns.specs.Served as turns
+use Rattle.hb_turns.specs.Settled as rests
 use Rattle.hb_turns.specs.declared.served.Served.{Served}
 use Rattle.hb_turns.specs.declared.served.ServeEnd.{ServeEnd}
 use Rattle.hb_turns.specs.declared.served.ServeEnd.TheVariants as ends
+use Rattle.hb_turns.specs.declared.served.Totals.{Totals}
 use Rattle.hb_turns.specs.declared.words.ServeWords.{ServeWords as LoopWords}
+use Rattle.hb_whole.proofs.Settling.{settled_in}
 use Rattle.hb_whole.specs.Queue.{told, waiting_in}
 use Rattle.hb_whole.specs.Sight.{shown_of}
 use Rattle.hb_whole.specs.Stands as whole
 use Rattle.hb_whole.specs.declared.proxy.Proxy.{Proxy}
 use Rattle.hb_world.specs.declared.entry.Entry.{Entry}
-use Rattle.hb_serve.specs.Lawful.{GoesOn}
-use Rattle.hb_serve.specs.Served.{StandsAs, AreLawful, AreNotes, HasNotes, IsServed, Serves, words_of}
+use Rattle.hb_world.specs.declared.entry.Entry.TheVariants as e
+use Rattle.hb_laws.specs.Lawful.{GoesOn}
+use Rattle.hb_serve.specs.Served.{StandsAs, AreLawful, HasNotes, IsServed, IsTotalled, Serves, words_of}
 use Rattle.hb_serve.specs.declared.words.ServeWords.{ServeWords}
-use Rattle.hb_serve.proofs.Laws.{run_is_lawful}
+use Rattle.hb_laws.proofs.Runs.{run_is_lawful}
 
 -- what a proxy stands for whose run goes on
 goes_on : (g : NodeConfig) (taken : List Note) (p : Proxy) (trace : List Entry) → StandsAs g taken p trace → p.ends_for ≡ None
@@ -59,17 +63,34 @@ has_notes g taken p trace stands none =
       notes_are = all_taken taken (told p.side.notes) stands.0.points stands.0.noted none;
     })
 
-are_notes : (g : NodeConfig) (keep : Option (List Note)) (trace : List Entry) → HoldsNotes (StandsAs g) shown_of keep trace
-    → AreNotes g keep trace
-are_notes g None trace holds = tt
-are_notes g (Some notes) trace holds = has_notes g notes holds.node trace holds.stands_for holds.none_waits
+totalled : (g : NodeConfig) (keep : Option (List Note)) (totals : Totals) (trace : List Entry)
+    → turns.IsTotalled (StandsAs g) shown_of keep totals trace → IsTotalled g keep totals trace
+totalled g keep totals trace t =
+    let all = t.are_notes in
+    record {
+      notes = t.notes;
+      has_notes = has_notes g t.notes all.node trace all.stands_for all.none_waits;
+      kept_are = t.kept_are;
+      totals_are = t.totals_are;
+    }
+
+-- at a wait
+settled_at : (g : NodeConfig) (before : List Entry) (z : Entry) → rests.SettledAt (StandsAs g) shown_of before z → SettledAt g before z
+settled_at g before (e.Wait ready how) s =
+    subst (λ (h : NodeConfig). SettledIn h before) s.stands_for.1
+    (settled_in s.notes s.node before s.stands_for.0 (s.going, s.idle) s.links s.doors)
+settled_at g before z s = tt
+
+settled : (g : NodeConfig) (trace : List Entry) → rests.SettledLaw (StandsAs g) shown_of trace → SettledLaw g trace
+settled g trace law before z after is = settled_at g before z (law before z after is)
 
 serves : (words : ServeWords) (served : Served) (keep : Option (List Note)) (trace : List Entry)
     → turns.IsServed (StandsAs words.config) shown_of (words_of words) served keep trace → IsServed words served keep trace
 serves words served keep trace run = record {
   run = run;
+  settled = settled words.config trace run.settled;
   lawful = are_lawful words.config served.end run.over.before run.over.stood_for;
-  noted = λ ends kept. are_notes words.config keep trace (run.noted ends kept);
+  noted = λ ends kept. totalled words.config keep served.totals trace (run.noted ends kept);
 }
 
 -- of a node that is asked for this, and of what the event loop is asked for with it

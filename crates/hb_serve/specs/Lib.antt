@@ -1,3 +1,2 @@
 pub mod Asked
-pub mod Lawful
 pub mod Served

@@ -1,20 +1,24 @@
 -- What holds of a run of the proxy that is over.
-use Rattle.std.specs.Prelude.{⊤, ◌≡◌, ◌⊎◌, ℕ, false, List, [], ◌++◌, Option, None, Some}
+use Rattle.std.specs.Prelude.{◌≡◌, ◌⊎◌, ℕ, false, List, [], ◌++◌, Option, None}
 use Rattle.std.specs.Option.{option_to_list}
 use Rattle.hb_base.specs.declared.note.Note.{Note}
 use Rattle.hb_base.specs.declared.target.Target.{Target}
 use Rattle.hb_links.specs.Reaches.{notes as notes_of}
 use Rattle.hb_model.specs.declared.config.NodeConfig.{NodeConfig}
+use Rattle.hb_proxy.specs.Settled.{SettledLaw}
+use Rattle.hb_turns.specs.Notes.{Holds}
 use Rattle.hb_turns.specs.Served as turns
+use Rattle.hb_turns.specs.Totals.{totals_of, no_totals}
 use Rattle.hb_turns.specs.declared.served.Served.{Served}
 use Rattle.hb_turns.specs.declared.served.ServeEnd.{ServeEnd}
 use Rattle.hb_turns.specs.declared.served.ServeEnd.TheVariants as ends
+use Rattle.hb_turns.specs.declared.served.Totals.{Totals}
 use Rattle.hb_turns.specs.declared.words.ServeWords.{ServeWords as LoopWords}
 use Rattle.hb_whole.specs.Sight.{shown_of}
 use Rattle.hb_whole.specs.Stands.{Stands, config_of}
 use Rattle.hb_whole.specs.declared.proxy.Proxy.{Proxy}
 use Rattle.hb_world.specs.declared.entry.Entry.{Entry}
-use Rattle.hb_serve.specs.Lawful.{Lawful, GoesOn}
+use Rattle.hb_laws.specs.Lawful.{Lawful, GoesOn}
 use Rattle.hb_serve.specs.declared.words.ServeWords.{ServeWords}
 
 -- the node that is asked for stands for a trace, of whose notes these were taken
@@ -37,29 +41,34 @@ abbrev pub AreLawful : NodeConfig → ServeEnd → List Entry → Type 0
 AreLawful g ends.NoMemory trace = (front : List Entry) × (last : Option Entry) × (trace ≡ front ++ option_to_list last) × GoesOn g front
 AreLawful g _ trace = GoesOn g trace
 
--- where notes are kept, all that was done is lawful, and they are all notes of it
+-- all that was done is lawful, and these are all notes of it
 pub record HasNotes (g : NodeConfig) (notes : List Note) (trace : List Entry) : Type 0 where
   pub lawful : Lawful g trace
   pub notes_are : notes_of lawful.points ≡ notes
 
-abbrev pub AreNotes : NodeConfig → Option (List Note) → List Entry → Type 0
-AreNotes g None trace = ⊤
-AreNotes g (Some notes) trace = HasNotes g notes trace
+-- These are all notes of it, where notes are kept they are these, and the totals are those of the trace with these notes
+pub record IsTotalled (g : NodeConfig) (keep : Option (List Note)) (totals : Totals) (trace : List Entry) : Type 0 where
+  pub notes : List Note
+  pub has_notes : HasNotes g notes trace
+  pub kept_are : Holds keep notes
+  pub totals_are : totals ≡ totals_of trace notes
 
 -- A run that is over, of a node that was asked for this
 pub record IsServed (words : ServeWords) (served : Served) (keep : Option (List Note)) (trace : List Entry) : Type 0 where
   -- what the event loop says of it: the trace obeys the awake law and the settled law, at its end no link lives; how it ended, how many
-  -- links were born, and whether one was closed for want of memory
+  -- links were born, how many dialled ones an update of the policies closed, and whether one was closed for want of memory
   pub run : turns.IsServed (StandsAs words.config) shown_of (words_of words) served keep trace
+  -- at each wait the machine is settled: nothing is left to be done but what sleeps
+  pub settled : SettledLaw words.config trace
   -- in front of the closes at its end the trace is lawful
   pub lawful : AreLawful words.config served.end run.over.before
-  -- unless memory lacked, the notes that are kept are all that there are
-  pub noted : (served.end ≡ ends.NoMemory → ⊥) → served.unkept ≡ false → AreNotes words.config keep trace
+  -- unless memory lacked, the notes that are kept are all that there are, and the totals are those of the trace and of all its notes
+  pub noted : (served.end ≡ ends.NoMemory → ⊥) → served.unkept ≡ false → IsTotalled words.config keep served.totals trace
 
 -- memory lacked for the node, and nothing was done
 pub record LacksNode (served : Served) (trace : List Entry) : Type 0 where
   pub end : served.end ≡ ends.NoMemory
-  pub links : served.totals.links ≡ 0
+  pub totals : served.totals ≡ no_totals
   pub none : trace ≡ []
 
 -- a run was served, or nothing was done

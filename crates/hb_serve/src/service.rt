@@ -8,7 +8,7 @@ ghost use Rattle.hb_serve.specs.Served.{loop_words, Serves};
 use crate::asked::{Asked, Given};
 use crate::words::ServeWords;
 use hb_base::Target;
-use hb_turns::{Doors, Keep, ServeEnd, ServeWords as LoopWords, Served, Totals, serve as run};
+use hb_turns::{Doors, Keep, ServeWords as LoopWords, Served, serve as run};
 use hb_whole::Limits;
 use hb_world::World;
 use std::alloc::Global;
@@ -51,12 +51,7 @@ fn serve_asked<G: Given, W: World>(
     let asked = loop_words(words.inbound, words.turns, words.ticks);
     match Asked::<G>::new(alloc, words.config, limits) {
         Ok(node) => run(alloc, node, asked, keep, world),
-        Err(_) => Served {
-            end: ServeEnd::NoMemory,
-            totals: Totals { links: 0 },
-            wanting: false,
-            unkept: false,
-        },
+        Err(_) => Served::nothing(),
     }
 }
 

@@ -9,9 +9,9 @@ use Rattle.hb_world.specs.declared.entry.Entry.{Entry}
 use Rattle.hb_world.specs.declared.entry.Entry.TheVariants as e
 use Rattle.hb_ready.specs.Registry.{kept}
 use Rattle.hb_turns.specs.Ends.{ClosesFor, cause_at, end_of}
-use Rattle.hb_turns.specs.Notes.{Holds, HoldsNotes}
+use Rattle.hb_turns.specs.Notes.{HasAllNotes}
 use Rattle.hb_turns.specs.Reckons.{Closes, Finishes}
-use Rattle.hb_turns.specs.Served.{IsStoodFor, IsOver, IsServed}
+use Rattle.hb_turns.specs.Served.{IsStoodFor, IsOver, IsServed, IsTotalled}
 use Rattle.hb_turns.specs.Shown.{Shown, Stirs, Stops, StandsForNone}
 use Rattle.hb_turns.specs.Stands.{Obeys, Matches, Stands, StandsAlone, Lacks, Left, Tracks}
 use Rattle.hb_turns.specs.declared.run.Records.{Records}
@@ -19,13 +19,15 @@ use Rattle.hb_turns.specs.declared.run.Run.{Run}
 use Rattle.hb_turns.specs.declared.served.Served.{Served}
 use Rattle.hb_turns.specs.declared.served.ServeEnd.{ServeEnd}
 use Rattle.hb_turns.specs.declared.served.ServeEnd.TheVariants as ends
+use Rattle.hb_turns.specs.declared.sums.Sums.{Sums}
 use Rattle.hb_turns.specs.declared.words.ServeWords.{ServeWords}
 use Rattle.hb_turns.proofs.Holding.{each, on_close, obeys-grows, stood_whole}
 use Rattle.hb_turns.proofs.Serving.{none_lives, some_lives}
+use Rattle.hb_turns.proofs.Summing.{totals_in, totals_same}
 
 -- what is told of a run
-abbrev pub outcome : ServeEnd → Records → Bool → Served
-outcome end r unkept = record { end = end; totals = record { links = r.births }; wanting = r.wanting; unkept = unkept }
+abbrev pub outcome : ServeEnd → Records → Sums → Bool → Served
+outcome end r s unkept = record { end = end; totals = totals_in r.births r.revoked s; wanting = r.wanting; unkept = unkept }
 
 module _ {N : Type 0} (stands : List Note → N → List Entry → Type 0) (shown : N → Shown) where
   -- a link is closed that lives
@@ -54,7 +56,7 @@ module _ {N : Type 0} (stands : List Note → N → List Entry → Type 0) (show
         record {
           notes = m.notes;
           node = it.1;
-          kept_are = m.kept_are;
+          taken_are = m.taken_are;
           obeys = obeys-grows stands shown run.records new trace (e.Closed l cause) (record { numbers = it.0; awake = tt; settled = tt })
               tracks m.obeys;
         },
@@ -67,7 +69,7 @@ module _ {N : Type 0} (stands : List Note → N → List Entry → Type 0) (show
       → IfSome told (Matches stands shown run) → IfSome told (Matches stands shown (record run { node = node }))
   matches_acts run node told acts =
       each (Matches stands shown run) (Matches stands shown (record run { node = node })) told
-      (λ trace m. record { notes = m.notes; node = (acts m.notes trace m.node).0; kept_are = m.kept_are; obeys = m.obeys })
+      (λ trace m. record { notes = m.notes; node = (acts m.notes trace m.node).0; taken_are = m.taken_are; obeys = m.obeys })
 
   -- the run is to end, and no close was due
   pub matches_stopped : (run : Run N) (node : N) (told : Option (List Entry)) → Stops stands shown run.node node
@@ -76,7 +78,7 @@ module _ {N : Type 0} (stands : List Note → N → List Entry → Type 0) (show
   matches_stopped run node told stops none =
       each (Stands stands shown run) (Matches stands shown (record run { node = node })) told
       (λ trace s. let m = s.matches in
-      record { notes = m.notes; node = stops s.going none m.notes trace m.node; kept_are = m.kept_are; obeys = m.obeys })
+      record { notes = m.notes; node = stops s.going none m.notes trace m.node; taken_are = m.taken_are; obeys = m.obeys })
 
   -- each close that was due is made
   pub stands_alone : (run : Run N) (told : Option (List Entry)) → StandsForNone stands run.node → IfSome told (Matches stands shown run)
@@ -96,21 +98,19 @@ module _ {N : Type 0} (stands : List Note → N → List Entry → Type 0) (show
       let alive : lives l trace ≡ true = some_lives stands shown run.records l trace some a.matches.obeys in
       cc))
 
-  -- each note was taken
-  holds : (k : Option (List Note)) (notes : List Note) (n : N) (trace : List Entry) → Holds k notes → (shown n).noted ≡ []
-      → stands notes n trace → HoldsNotes stands shown k trace
-  holds None notes n trace are none had = tt
-  holds (Some taken) notes n trace are none had =
-      record { node = n; stands_for = subst (λ (ns : List Note). stands ns n trace) (sym are) had; none_waits = none }
-
   -- where the closes that were due are made, and each note is taken
   pub notes_held : {A E : Type 0} (r : Result A E) (mid new : Run N) (told : Option (List Entry))
       → ((trace : List Entry) → Matches stands shown mid trace → OnOk r (Matches stands shown new trace))
       → OnOk r ((shown new.node).noted ≡ [])
-      → OnOk r (IfSome told (StandsAlone stands shown mid) → IfSome told (HoldsNotes stands shown new.keep))
+      → OnOk r (IfSome told (StandsAlone stands shown mid) → IfSome told (HasAllNotes stands shown new.taken))
   notes_held (Ok x) mid new told so none =
-      each (StandsAlone stands shown mid) (HoldsNotes stands shown new.keep) told
-      (λ trace a. let m = so trace a.matches in holds new.keep m.notes new.node trace m.kept_are none m.node)
+      each (StandsAlone stands shown mid) (HasAllNotes stands shown new.taken) told
+      (λ trace a. let m = so trace a.matches in
+      record {
+        notes = m.notes;
+        are_notes = record { node = new.node; stands_for = m.node; none_waits = none };
+        are_taken = m.taken_are;
+      })
   notes_held (Err why) mid new told so none = tt
 
   stood : (end : ServeEnd) (notes : List Note) (n : N) (trace : List Entry) → stands notes n trace → (shown n).ends_for ≡ None
@@ -147,11 +147,21 @@ module _ {N : Type 0} (stands : List Note → N → List Entry → Type 0) (show
   noted_or : {A E F : Type 0} (r : Result ServeEnd E) (b : Result A F) (run new : Run N) (trace : List Entry) (told : Option (List Entry))
       → Left stands shown r run trace → OnOk r ((shown run.node).none_closes ≡ true)
       → OnOk b ((shown run.node).none_closes ≡ true → IfSome (Some trace) (Stands stands shown run)
-      → IfSome told (HoldsNotes stands shown new.keep))
-      → (end_of r ≡ ends.NoMemory → ⊥) → is_err b ≡ false → IfSome told (HoldsNotes stands shown new.keep)
+      → IfSome told (HasAllNotes stands shown new.taken))
+      → (end_of r ≡ ends.NoMemory → ⊥) → is_err b ≡ false → IfSome told (HasAllNotes stands shown new.taken)
   noted_or (Ok end) (Ok x) run new trace told s closes notes other kept = notes closes s
   noted_or (Ok end) (Err why) run new trace told s closes notes other kept = absurd cc
   noted_or (Err why) b run new trace told lacks closes notes other kept = absurd (other refl)
+
+  -- the totals are those of the trace and of all its notes
+  totalled : (run : Run N) (trace : List Entry) → Obeys stands shown run.records trace → HasAllNotes stands shown run.taken trace
+      → IsTotalled stands shown run.taken.keep (totals_in run.records.births run.records.revoked run.taken.sums) trace
+  totalled run trace o all = record {
+    notes = all.notes;
+    are_notes = all.are_notes;
+    kept_are = all.are_taken.kept_are;
+    totals_are = totals_same _ _ _ _ _ _ o.births_are o.revoked_are all.are_taken.sums_are;
+  }
 
   -- a run that is over
   pub is_served : {A E F : Type 0} (words : ServeWords) (r : Result ServeEnd E) (b : Result A F) (run new : Run N)
@@ -159,21 +169,21 @@ module _ {N : Type 0} (stands : List Note → N → List Entry → Type 0) (show
       → Closes (cause_at (end_of r)) before behind → IfSome behind (Obeys stands shown new.records)
       → ((l : ℕ) → (kept new.records.links).links l ≡ None) → OnOk r ((shown run.node).none_closes ≡ true)
       → OnOk b ((shown run.node).none_closes ≡ true → IfSome before (Stands stands shown run)
-      → IfSome behind (HoldsNotes stands shown new.keep))
+      → IfSome behind (HasAllNotes stands shown new.taken))
       → IfSome behind (IsServed stands shown words
-      (outcome (end_of r) new.records (is_err b)) new.keep)
+      (outcome (end_of r) new.records new.taken.sums (is_err b)) new.taken.keep)
   is_served words r b run new None behind left_so finishes closes obeys none none_closes notes =
       subst (λ (o : Option (List Entry)). IfSome o (IsServed stands shown words
-      (outcome (end_of r) new.records (is_err b)) new.keep))
+      (outcome (end_of r) new.records new.taken.sums (is_err b)) new.taken.keep))
       (sym closes.grows) tt
   is_served words r b run new (Some trace) behind left_so finishes closes obeys none none_closes notes =
       by behind closes.grows obeys notes
     where
       by : (told : Option (List Entry)) → told ≡ Some (trace ++ closes.more) → IfSome told (Obeys stands shown new.records)
           → OnOk b ((shown run.node).none_closes ≡ true → IfSome (Some trace) (Stands stands shown run)
-          → IfSome told (HoldsNotes stands shown new.keep))
+          → IfSome told (HasAllNotes stands shown new.taken))
           → IfSome told (IsServed stands shown words
-          (outcome (end_of r) new.records (is_err b)) new.keep)
+          (outcome (end_of r) new.records new.taken.sums (is_err b)) new.taken.keep)
       by None is o notes = tt
       by (Some full) is o notes = record {
         awake = o.awake;
@@ -183,5 +193,6 @@ module _ {N : Type 0} (stands : List Note → N → List Entry → Type 0) (show
             (over words (end_of r) closes.more trace finishes (stood_or r run trace left_so) closes.closes);
         links_are = o.births_are;
         wanting_is = o.wanting_is;
-        noted = noted_or r b run new trace (Some full) left_so none_closes notes;
+        revoked_are = o.revoked_are;
+        noted = λ other kept. totalled new full o (noted_or r b run new trace (Some full) left_so none_closes notes other kept);
       }

@@ -26,12 +26,14 @@ use Rattle.hb_ready.specs.declared.link.Link.{Link}
 use Rattle.hb_ready.specs.declared.links.Links.{Links}
 use Rattle.hb_ready.proofs.Sights.{known-grows, asked-grows, numbered-grows}
 use Rattle.hb_turns.specs.Ends.{is_close_for_lack}
-use Rattle.hb_turns.specs.Notes.{Holds}
+use Rattle.hb_turns.specs.Notes.{AreTaken}
 use Rattle.hb_turns.specs.Settled.{SettledAt}
 use Rattle.hb_turns.specs.Shown.{Shown, Stirs, IsSame, Tells, MayCome}
 use Rattle.hb_turns.specs.Stands.{Obeys, Matches, Stands, StoodLast, Lacks, Tracks, Left, Watched, WatchedBy, births_behind}
 use Rattle.hb_turns.specs.declared.run.Records.{Records}
 use Rattle.hb_turns.specs.declared.run.Run.{Run}
+use Rattle.hb_turns.specs.declared.taken.Taken.{Taken}
+use Rattle.hb_turns.proofs.Summing.{revoked-grows}
 use Rattle.hb_turns.proofs.Watching.{watched-stirs, watched-kept, watched-noted}
 
 -- an entry may come there, for the loop's laws
@@ -51,6 +53,7 @@ obeys-grows stands shown old new trace x comes tracks o = record {
   births_are = tracks.births_are ∙ born old.births trace x o.births_are comes.numbers ∙ sym (births-grow trace x);
   wanting_is = tracks.wanting_is ∙ either (is_close_for_lack x) old.wanting
       ∙ ap (λ (b : Bool). b || is_close_for_lack x) o.wanting_is ∙ sym (any-grows is_close_for_lack trace x);
+  revoked_are = tracks.revoked_are ∙ revoked-grows (λ l. (kept old.links).links l) old.revoked trace x o.links o.revoked_are;
   awake = AtEach-grows IsAwake trace x o.awake comes.awake;
   settled = AtEach-grows (SettledAt stands shown) trace x o.settled comes.settled;
 }
@@ -105,9 +108,10 @@ pub each : (P Q : List Entry → Type 0) (told : Option (List Entry)) → ((trac
 each P Q None all had = tt
 each P Q (Some trace) all had = all trace had
 
--- what is kept is the same
-pub held_still : {N : Type 0} (old new : Run N) (notes : List Note) → new.keep ≡ old.keep → Holds old.keep notes → Holds new.keep notes
-held_still old new notes same holds = subst (λ (k : Option (List Note)). Holds k notes) (sym same) holds
+-- what was taken is the same
+pub held_still : {N : Type 0} (old new : Run N) (notes : List Note) → new.taken ≡ old.taken → AreTaken old.taken notes
+    → AreTaken new.taken notes
+held_still old new notes same are = subst (λ (t : Taken). AreTaken t notes) (sym same) are
 
 -- what stirred is the same
 pub stirs_none : (trace : List Entry) (s : Shown) → Stirs trace s s
@@ -117,7 +121,7 @@ stirs_none trace s =
 -- one more entry: the records follow it, and so does the node
 pub stands-grows : {N : Type 0} (stands : List Note → N → List Entry → Type 0) (shown : N → Shown) (old new : Run N) (x : Entry)
     (trace : List Entry) (s : Stands stands shown old trace) → Comes stands shown trace x → Tracks old.records new.records x
-    → (Watched shown old → WatchedBy (kept new.records.links) (shown old.node)) → new.keep ≡ old.keep
+    → (Watched shown old → WatchedBy (kept new.records.links) (shown old.node)) → new.taken ≡ old.taken
     → stands s.matches.notes new.node (trace ++ x ∷ []) × Stirs (trace ++ x ∷ []) (shown old.node) (shown new.node)
     → Stands stands shown new (trace ++ x ∷ [])
 stands-grows stands shown old new x trace s comes tracks watch keep told =
@@ -126,7 +130,7 @@ stands-grows stands shown old new x trace s comes tracks watch keep told =
       matches = record {
         notes = s.matches.notes;
         node = told.0;
-        kept_are = held_still old new s.matches.notes keep s.matches.kept_are;
+        taken_are = held_still old new s.matches.notes keep s.matches.taken_are;
         obeys = obeys;
       };
       watched = watched-stirs (kept new.records.links) (trace ++ x ∷ []) (shown old.node) (shown new.node) obeys.links told.1
@@ -144,14 +148,14 @@ stands-acts stands shown run node told acts had =
     each (Stands stands shown run) (Stands stands shown (record run { node = node })) told
     (λ trace s. let it = acts s.matches.notes trace s.matches.node in
     record {
-      matches = record { notes = s.matches.notes; node = it.0; kept_are = s.matches.kept_are; obeys = s.matches.obeys };
+      matches = record { notes = s.matches.notes; node = it.0; taken_are = s.matches.taken_are; obeys = s.matches.obeys };
       watched = watched-stirs (kept run.records.links) trace (shown run.node) (shown node) s.matches.obeys.links it.1 s.watched;
       going = it.1.ends_for ∙ s.going;
     }) had
 
 -- the call told an entry, the records follow it, and the node was told
 pub moved : {N : Type 0} (stands : List Note → N → List Entry → Type 0) (shown : N → Shown) (old new : Run N) (x : Entry)
-    (P : List Entry → Type 0) (before behind : Option (List Entry)) → behind ≡ with_entries (x ∷ []) before → new.keep ≡ old.keep
+    (P : List Entry → Type 0) (before behind : Option (List Entry)) → behind ≡ with_entries (x ∷ []) before → new.taken ≡ old.taken
     → Tells stands shown x old.node new.node → Tracks old.records new.records x
     → (Watched shown old → WatchedBy (kept new.records.links) (shown old.node))
     → ((trace : List Entry) → P trace → Stands stands shown old trace × MayCome (shown old.node) trace x × Comes stands shown trace x)
@@ -232,13 +236,14 @@ relisted stands shown run links same watch trace s =
       matches = record {
         notes = s.matches.notes;
         node = s.matches.node;
-        kept_are = s.matches.kept_are;
+        taken_are = s.matches.taken_are;
         obeys = record {
           links = λ l. same l ∙ o.links l;
           doors = o.doors;
           numbered = o.numbered;
           births_are = o.births_are;
           wanting_is = o.wanting_is;
+          revoked_are = o.revoked_are;
           awake = o.awake;
           settled = o.settled;
         };
@@ -327,10 +332,10 @@ still None = refl
 still (Some k) = refl
 
 pub unmoved : (r : Records) (x : Entry) → IsPlain x → Tracks r r x
-unmoved r (e.DialFailed to why) plain = record { links = λ l. still _; doors = λ d. refl; births_are = refl; wanting_is = refl }
-unmoved r (e.Broke l) plain = record { links = λ l. still _; doors = λ d. refl; births_are = refl; wanting_is = refl }
-unmoved r (e.Shut l) plain = record { links = λ l. still _; doors = λ d. refl; births_are = refl; wanting_is = refl }
-unmoved r e.Tick plain = record { links = λ l. still _; doors = λ d. refl; births_are = refl; wanting_is = refl }
+unmoved r (e.DialFailed to why) plain = record { links = λ l. still _; doors = λ d. refl; births_are = refl; wanting_is = refl; revoked_are = refl }
+unmoved r (e.Broke l) plain = record { links = λ l. still _; doors = λ d. refl; births_are = refl; wanting_is = refl; revoked_are = refl }
+unmoved r (e.Shut l) plain = record { links = λ l. still _; doors = λ d. refl; births_are = refl; wanting_is = refl; revoked_are = refl }
+unmoved r e.Tick plain = record { links = λ l. still _; doors = λ d. refl; births_are = refl; wanting_is = refl; revoked_are = refl }
 unmoved r _ plain = absurd plain
 
 -- what was asked for a dial
@@ -350,7 +355,7 @@ dial_fails stands shown run to why dials trace had = (had, dials, record { numbe
 -- a call that moved nothing, or a wait: the node isn't told
 pub rested : {N : Type 0} (stands : List Note → N → List Entry → Type 0) (shown : N → Shown) (old new : Run N) (x : Entry)
     (P : List Entry → Type 0) (before behind : Option (List Entry)) → behind ≡ with_entries (x ∷ []) before
-    → new.node ≡ old.node → new.keep ≡ old.keep
+    → new.node ≡ old.node → new.taken ≡ old.taken
     → ((notes : List Note) (trace : List Entry) → MayCome (shown old.node) trace x → stands notes old.node trace
     → stands notes old.node (trace ++ x ∷ []))
     → Tracks old.records new.records x
@@ -367,7 +372,7 @@ rested stands shown old new x P before behind adds node keep rests tracks watch 
 -- the buffer alone changed
 pub same_run : {N : Type 0} (stands : List Note → N → List Entry → Type 0) (shown : N → Shown) (old new : Run N)
     (told : Option (List Entry))
-    → new.node ≡ old.node → new.records ≡ old.records → new.keep ≡ old.keep → IfSome told (Stands stands shown old)
+    → new.node ≡ old.node → new.records ≡ old.records → new.taken ≡ old.taken → IfSome told (Stands stands shown old)
     → IfSome told (Stands stands shown new)
 same_run stands shown old new told node records keep had =
     each (Stands stands shown old) (Stands stands shown new) told
@@ -375,7 +380,7 @@ same_run stands shown old new told node records keep had =
       matches = record {
         notes = s.matches.notes;
         node = subst (λ n. stands s.matches.notes n trace) (sym node) s.matches.node;
-        kept_are = held_still old new s.matches.notes keep s.matches.kept_are;
+        taken_are = held_still old new s.matches.notes keep s.matches.taken_are;
         obeys = subst (λ (r : Records). Obeys stands shown r trace) (sym records) s.matches.obeys;
       };
       watched = subst (λ (r : Records). WatchedBy (kept r.links) (shown new.node)) (sym records)
@@ -406,6 +411,7 @@ accept_tracks r now door sets = record {
   doors = λ d. sets d ∙ off (same_door door d) (asked_at r.asked d);
   births_are = refl;
   wanting_is = refl;
+  revoked_are = refl;
 }
   where
     off : (b a : Bool) → (if b then false else a) ≡ (not b && a)

@@ -6,6 +6,7 @@ pub mod Listening
 pub mod Refusing
 pub mod Resting
 pub mod Serving
+pub mod Summing
 pub mod Trying
 pub mod Waking
 pub mod Watching

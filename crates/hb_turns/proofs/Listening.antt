@@ -43,6 +43,7 @@ listen_tracks r now door at b sets = record {
   doors = λ d. sets d ∙ off (same_door door d) (asked_at r.asked d);
   births_are = refl;
   wanting_is = refl;
+  revoked_are = refl;
 }
   where
     off : (b a : Bool) → (if b then false else a) ≡ (not b && a)
@@ -52,7 +53,7 @@ listen_tracks r now door at b sets = record {
 module _ {N : Type 0} (stands : List Note → N → List Entry → Type 0) (shown : N → Shown) where
   -- a listen was made
   listen_stands : (old new : Run N) (made : List DoorAt) (b : Bool) (d : DoorAt) (trace : List Entry) → new.node ≡ old.node
-      → new.keep ≡ old.keep
+      → new.taken ≡ old.taken
       → ((notes : List Note) (trace : List Entry) → MayCome (shown old.node) trace (listen_at b d) → stands notes old.node trace
       → stands notes old.node (trace ++ listen_at b d ∷ []))
       → Tracks old.records new.records (listen_at b d) → (Watched shown old → WatchedBy (kept new.records.links) (shown old.node))
@@ -69,7 +70,7 @@ module _ {N : Type 0} (stands : List Note → N → List Entry → Type 0) (show
 
   -- and the door listens
   pub listens_on : (old new : Run N) (made : List DoorAt) (d : DoorAt) (before behind : Option (List Entry))
-      → behind ≡ with_entries (listen_at true d ∷ []) before → new.node ≡ old.node → new.keep ≡ old.keep
+      → behind ≡ with_entries (listen_at true d ∷ []) before → new.node ≡ old.node → new.taken ≡ old.taken
       → ((notes : List Note) (trace : List Entry) → MayCome (shown old.node) trace (listen_at true d) → stands notes old.node trace
       → stands notes old.node (trace ++ listen_at true d ∷ []))
       → Tracks old.records new.records (listen_at true d) → (Watched shown old → WatchedBy (kept new.records.links) (shown old.node))
@@ -84,7 +85,7 @@ module _ {N : Type 0} (stands : List Note → N → List Entry → Type 0) (show
 
   -- or the listen failed
   pub listen_fails : (old new : Run N) (made : List DoorAt) (d : DoorAt) (before behind : Option (List Entry))
-      → behind ≡ with_entries (listen_at false d ∷ []) before → new.node ≡ old.node → new.keep ≡ old.keep
+      → behind ≡ with_entries (listen_at false d ∷ []) before → new.node ≡ old.node → new.taken ≡ old.taken
       → ((notes : List Note) (trace : List Entry) → MayCome (shown old.node) trace (listen_at false d) → stands notes old.node trace
       → stands notes old.node (trace ++ listen_at false d ∷ []))
       → Tracks old.records new.records (listen_at false d) → (Watched shown old → WatchedBy (kept new.records.links) (shown old.node))

@@ -10,10 +10,11 @@ use Rattle.hb_ready.specs.Awake.{IsAwake}
 use Rattle.hb_ready.specs.Registry.{kept}
 use Rattle.hb_ready.specs.Sight.{known, sight}
 use Rattle.hb_ready.specs.declared.link.Link.{Link}
-use Rattle.hb_turns.specs.Served.{IsServed, IsFresh, IsFreshNode}
+use Rattle.hb_turns.specs.Served.{IsServed, IsFresh, IsFreshNode, nothing_done}
 use Rattle.hb_turns.specs.Settled.{SettledAt, Rests}
 use Rattle.hb_turns.specs.Shown.{Shown}
 use Rattle.hb_turns.specs.Stands.{Obeys, Watched}
+use Rattle.hb_turns.specs.Totals.{sums_of}
 use Rattle.hb_turns.specs.declared.run.Records.{Records}
 use Rattle.hb_turns.specs.declared.run.Run.{Run}
 use Rattle.hb_turns.specs.Ends.{ClosesFor, cause_at}
@@ -57,22 +58,27 @@ watched_fresh shown run fresh l =
 
 -- before anything happened
 pub begins : {N : Type 0} (stands : List Note → N → List Entry → Type 0) (shown : N → Shown) (run : Run N) (keep : Option (List Note))
-    (told : Option (List Entry)) → IsFresh run.records → run.keep ≡ option_map (λ (notes : List Note). []) keep → stands [] run.node []
+    (told : Option (List Entry)) → IsFresh run.records → run.taken.keep ≡ option_map (λ (notes : List Note). []) keep → run.taken.sums ≡ sums_of []
+    → stands [] run.node []
     → IsFreshNode (shown run.node) → told ≡ Some [] → IfSome told (Begins stands shown run [])
-begins stands shown run keep told fresh keeps stands_for node is =
+begins stands shown run keep told fresh keeps sums stands_for node is =
     subst (λ (o : Option (List Entry)). IfSome o (Begins stands shown run [])) (sym is)
     (record {
       stands_for = record {
         matches = record {
           notes = [];
           node = stands_for;
-          kept_are = subst (λ (k : Option (List Note)). Holds k []) (sym keeps) (nothing_held keep);
+          taken_are = record {
+            kept_are = subst (λ (k : Option (List Note)). Holds k []) (sym keeps) (nothing_held keep);
+            sums_are = sums;
+          };
           obeys = record {
             links = fresh.links;
             doors = fresh.doors;
             numbered = λ l above. (refl, refl);
             births_are = fresh.births;
             wanting_is = fresh.wanting;
+            revoked_are = fresh.revoked;
             awake = nothing_at IsAwake;
             settled = nothing_at (SettledAt stands shown);
           };
@@ -87,11 +93,9 @@ begins stands shown run keep told fresh keeps stands_for node is =
 pub nothing_served : {N : Type 0} (stands : List Note → N → List Entry → Type 0) (shown : N → Shown) (words : ServeWords)
     (keep : Option (List Note))
     (n : N) (told : Option (List Entry)) → stands [] n [] → (shown n).ends_for ≡ None → told ≡ Some []
-    → IfSome told (IsServed stands shown words
-    (record { end = ends.NoMemory; totals = record { links = 0 }; wanting = false; unkept = false }) keep)
+    → IfSome told (IsServed stands shown words nothing_done keep)
 nothing_served stands shown words keep n told fresh going is =
-    subst (λ (o : Option (List Entry)). IfSome o (IsServed stands shown words
-    (record { end = ends.NoMemory; totals = record { links = 0 }; wanting = false; unkept = false }) keep)) (sym is)
+    subst (λ (o : Option (List Entry)). IfSome o (IsServed stands shown words nothing_done keep)) (sym is)
     (record {
       awake = nothing_at IsAwake;
       settled = nothing_at (SettledAt stands shown);
@@ -106,5 +110,6 @@ nothing_served stands shown words keep n told fresh going is =
       };
       links_are = refl;
       wanting_is = refl;
+      revoked_are = refl;
       noted = λ other kept. absurd (other refl);
     })

@@ -40,7 +40,7 @@ plain (Some k) = refl
 
 -- nothing was named
 pub wakes-none : (r : Records) → Wakes r r []
-wakes-none r = record { links = λ l. plain _; doors = λ d. refl; births = refl; wanting = refl }
+wakes-none r = record { links = λ l. plain _; doors = λ d. refl; births = refl; wanting = refl; revoked = refl }
 
 twice : (o : Option Link) (a b : Bool)
     → option_map (λ (k : Link). if b then awake k else k) (option_map (λ (k : Link). if a then awake k else k) o)
@@ -73,6 +73,7 @@ wakes-more old mid new items x first last = record {
       ∙ ap (λ (b : Bool). b || asked_at old.asked d) (sym (any-grows (is_item_at d) items x));
   births = last.births ∙ first.births;
   wanting = last.wanting ∙ first.wanting;
+  revoked = last.revoked ∙ first.revoked;
 }
 
 -- a link was named
@@ -89,6 +90,7 @@ wakes-link r new link is = record {
   doors = λ d. refl;
   births = refl;
   wanting = refl;
+  revoked = refl;
 }
 
 opens : (b a : Bool) → (if b then true else a) ≡ ((b || false) || a)
@@ -104,12 +106,13 @@ wakes-door r new door is = record {
   doors = λ d. is d ∙ opens (same_door door d) (asked_at r.asked d);
   births = refl;
   wanting = refl;
+  revoked = refl;
 }
 
 -- what is known follows the wait
 pub wakes-tracks : (old new : Records) (items : List ReadyItem) (how : Woken) → Wakes old new items → Tracks old new (e.Wait items how)
 wakes-tracks old new items how wakes =
-    record { links = wakes.links; doors = wakes.doors; births_are = wakes.births; wanting_is = wakes.wanting }
+    record { links = wakes.links; doors = wakes.doors; births_are = wakes.births; wanting_is = wakes.wanting; revoked_are = wakes.revoked }
 
 -- a link that is named is listed
 pub watched-woken : (k n : Kept) (s : Shown) (link : ℕ)
@@ -162,7 +165,7 @@ wait_comes stands shown run items how idle quiet trace s = (
 -- a wait told a tick
 pub wait_ticks : {N : Type 0} (stands : List Note → N → List Entry → Type 0) (shown : N → Shown) (old new : Run N) (items : List ReadyItem)
     (before behind : Option (List Entry)) → behind ≡ with_entries (e.Wait items woken.Tick ∷ e.Tick ∷ []) before → new.node ≡ old.node
-    → new.keep ≡ old.keep
+    → new.taken ≡ old.taken
     → ((notes : List Note) (trace : List Entry) → MayCome (shown old.node) trace (e.Wait items woken.Tick) → stands notes old.node trace
     → stands notes old.node (trace ++ e.Wait items woken.Tick ∷ []))
     → Tracks old.records new.records (e.Wait items woken.Tick)

@@ -8,7 +8,7 @@ use Rattle.hb_world.specs.declared.entry.Entry.{Entry}
 use Rattle.hb_world.specs.declared.entry.Entry.TheVariants as e
 use Rattle.hb_world.specs.declared.entry.Way.TheVariants as way
 use Rattle.hb_ready.specs.Kept.{Kept, Follows, IsKept, Lists, has, rotated, link_behind}
-use Rattle.hb_ready.specs.Sight.{known, sight, with_open}
+use Rattle.hb_ready.specs.Sight.{known, sight, with_open, with_finish, with_read, with_write}
 use Rattle.hb_ready.specs.declared.link.Link.{Link}
 use Rattle.hb_ready.proofs.Lists.{has-more, has-end}
 use Rattle.hb_turns.specs.Settled.{Rests, RestsBy}
@@ -84,12 +84,12 @@ watched-closed k n s link cause follows listed =
 
 -- a call moved nothing
 by_way : (b : Bool) (k : Link) (l : ℕ) (s : Shown) → RestsBy k.is_open k l s
-    → RestsBy k.is_open (if b then record { is_open = k.is_open; finish_sleeps = true; read_sleeps = k.read_sleeps; write_sleeps = k.write_sleeps } else k) l s
+    → RestsBy k.is_open (if b then with_finish true k else k) l s
 by_way false k l s rests = rests
 by_way true k l s rests = by k.is_open rests
   where
     by : (o : Bool) → RestsBy o k l s
-        → RestsBy o (record { is_open = k.is_open; finish_sleeps = true; read_sleeps = k.read_sleeps; write_sleeps = k.write_sleeps }) l s
+        → RestsBy o (with_finish true k) l s
     by true rests = rests
     by false rests = refl
 
@@ -97,7 +97,7 @@ pub rests-finish : (o : Option Link) (n l : ℕ) (s : Shown) → Rests o l s →
 rests-finish None n l s rests = tt
 rests-finish (Some k) n l s rests = by (n == l)
   where
-    by : (b : Bool) → Rests (Some (if b then record { is_open = k.is_open; finish_sleeps = true; read_sleeps = k.read_sleeps; write_sleeps = k.write_sleeps } else k)) l s
+    by : (b : Bool) → Rests (Some (if b then with_finish true k else k)) l s
     by true = by_way true k l s rests
     by false = rests
 
@@ -106,11 +106,11 @@ rests-read None n l s rests = tt
 rests-read (Some k) n l s rests = by (n == l)
   where
     slept : (o : Bool) → RestsBy o k l s
-        → RestsBy o (record { is_open = k.is_open; finish_sleeps = k.finish_sleeps; read_sleeps = true; write_sleeps = k.write_sleeps }) l s
+        → RestsBy o (with_read true k) l s
     slept true rests = (inl refl, rests.1)
     slept false rests = rests
 
-    by : (b : Bool) → Rests (Some (if b then record { is_open = k.is_open; finish_sleeps = k.finish_sleeps; read_sleeps = true; write_sleeps = k.write_sleeps } else k)) l s
+    by : (b : Bool) → Rests (Some (if b then with_read true k else k)) l s
     by true = slept k.is_open rests
     by false = rests
 
@@ -119,11 +119,11 @@ rests-write None n l s rests = tt
 rests-write (Some k) n l s rests = by (n == l)
   where
     slept : (o : Bool) → RestsBy o k l s
-        → RestsBy o (record { is_open = k.is_open; finish_sleeps = k.finish_sleeps; read_sleeps = k.read_sleeps; write_sleeps = true }) l s
+        → RestsBy o (with_write true k) l s
     slept true rests = (rests.0, inl refl)
     slept false rests = rests
 
-    by : (b : Bool) → Rests (Some (if b then record { is_open = k.is_open; finish_sleeps = k.finish_sleeps; read_sleeps = k.read_sleeps; write_sleeps = true } else k)) l s
+    by : (b : Bool) → Rests (Some (if b then with_write true k else k)) l s
     by true = slept k.is_open rests
     by false = rests
 

@@ -148,6 +148,7 @@ came_tracks r l bytes may = record {
   doors = λ d. refl;
   births_are = refl;
   wanting_is = refl;
+  revoked_are = refl;
 }
 
 pub ended_tracks : (r : Records) (l : ℕ) → MayRead ((kept r.links).links l) → Tracks r r (e.Ended l)
@@ -157,6 +158,7 @@ ended_tracks r l may = record {
   doors = λ d. refl;
   births_are = refl;
   wanting_is = refl;
+  revoked_are = refl;
 }
 
 pub went_tracks : (r : Records) (l : ℕ) (bytes : List ℕ) → MayWrite ((kept r.links).links l) → Tracks r r (e.Went l bytes)
@@ -166,6 +168,7 @@ went_tracks r l bytes may = record {
   doors = λ d. refl;
   births_are = refl;
   wanting_is = refl;
+  revoked_are = refl;
 }
 
 -- so many bytes of a read stand at the buffer's front

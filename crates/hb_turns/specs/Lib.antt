@@ -1,3 +1,4 @@
+pub mod Counted
 pub mod Ends
 pub mod Listens
 pub mod May
@@ -10,4 +11,5 @@ pub mod Served
 pub mod Settled
 pub mod Shown
 pub mod Stands
+pub mod Totals
 pub mod Woken

@@ -12,8 +12,10 @@ use Rattle.hb_world.specs.declared.entry.Woken.TheVariants as woken
 use Rattle.hb_turns.specs.Listens.{listen_at}
 use Rattle.hb_turns.specs.Served.{IsServed}
 use Rattle.hb_turns.specs.Shown.{Shown, IsFree}
+use Rattle.hb_turns.specs.Totals.{sums_of, no_totals}
 use Rattle.hb_turns.specs.declared.served.Served.{Served}
 use Rattle.hb_turns.specs.declared.served.ServeEnd.TheVariants as ends
+use Rattle.hb_turns.specs.declared.served.Totals.{Totals}
 use Rattle.hb_turns.specs.declared.words.ServeWords.{ServeWords}
 
 -- no door is given, and so many turns and ticks are stated
@@ -25,13 +27,18 @@ abbrev pub asks_doors : Option Target → Option Target → ServeWords
 asks_doors inbound outbound =
     record { doors = record { inbound = inbound; outbound = outbound; plain = None }; turns = 9; ticks = None }
 
--- a run that stopped, of so many links
-abbrev pub stopped : ℕ → Served
-stopped links = record { end = ends.Stopped; totals = record { links = links }; wanting = false; unkept = false }
+-- a run that stopped, with these totals
+abbrev pub stopped : Totals → Served
+stopped totals = record { end = ends.Stopped; totals = totals; wanting = false; unkept = false }
 
--- a run that ended for want of memory, of so many links, of which one was closed for that
-abbrev pub lacked : ℕ → Served
-lacked links = record { end = ends.NoMemory; totals = record { links = links }; wanting = true; unkept = false }
+-- a run that ended for want of memory, with these totals, and a link was closed for that
+abbrev pub lacked : Totals → Served
+lacked totals = record { end = ends.NoMemory; totals = totals; wanting = true; unkept = false }
+
+-- so many links, none revoked, and what is counted in these notes
+abbrev pub with_sums : ℕ → List Note → Totals
+with_sums links notes = let sums = sums_of notes in
+    record { links = links; accepted = sums.accepted; revoked = 0; up = sums.up; down = sums.down }
 
 -- a wait that names nothing, and one that tells a stop
 abbrev pub waits : Entry
@@ -57,7 +64,7 @@ lack_behind_open to why = e.Dialled 1 to why ∷ e.Opened 1 ∷ e.Closed 1 cause
 
 module _ {N : Type 0} (stands : List Note → N → List Entry → Type 0) (shown : N → Shown) where
   abbrev pub Refuses : ServeWords → List Entry → Type 0
-  Refuses words trace = (links : ℕ) (keep : Option (List Note)) → IsServed stands shown words (stopped links) keep trace → ⊥
+  Refuses words trace = (totals : Totals) (keep : Option (List Note)) → IsServed stands shown words (stopped totals) keep trace → ⊥
 
   -- it stops though nothing told it to
   abbrev pub StopsUnasked : Type 0
@@ -82,8 +89,8 @@ module _ {N : Type 0} (stands : List Note → N → List Entry → Type 0) (show
 
   -- its turns are said to be spent, and it made fewer
   abbrev pub GivesUp : Type 0
-  GivesUp = (to : Target) (why : Why) (links : ℕ) (keep : Option (List Note))
-      → IsServed stands shown (asks 9 None) (record (stopped links) { end = ends.TurnsSpent }) keep (e.DialFailed to why ∷ waits ∷ []) → ⊥
+  GivesUp = (to : Target) (why : Why) (totals : Totals) (keep : Option (List Note))
+      → IsServed stands shown (asks 9 None) (record (stopped totals) { end = ends.TurnsSpent }) keep (e.DialFailed to why ∷ waits ∷ []) → ⊥
 
   -- one tick more than were stated
   abbrev pub TicksOnceMore : Type 0
@@ -102,8 +109,8 @@ module _ {N : Type 0} (stands : List Note → N → List Entry → Type 0) (show
 
   -- notes are kept, and they aren't those of the trace
   abbrev pub LosesNotes : Type 0
-  LosesNotes = (words : ServeWords) (links : ℕ) (notes : List Note) (trace : List Entry)
-      → ((n : N) → stands notes n trace → (shown n).noted ≡ [] → ⊥) → IsServed stands shown words (stopped links) (Some notes) trace → ⊥
+  LosesNotes = (words : ServeWords) (totals : Totals) (notes : List Note) (trace : List Entry)
+      → ((n : N) → stands notes n trace → (shown n).noted ≡ [] → ⊥) → IsServed stands shown words (stopped totals) (Some notes) trace → ⊥
 
   -- no node stands for a trace that begins with this entry
   abbrev pub NoneBeginsWith : Entry → Type 0
@@ -111,23 +118,23 @@ module _ {N : Type 0} (stands : List Note → N → List Entry → Type 0) (show
 
   -- memory lacked, and two entries stand behind all that a node stands for
   abbrev pub LacksTwice : Type 0
-  LacksTwice = (to : Target) (why : Why) (links : ℕ) (keep : Option (List Note)) → NoneBeginsWith (e.Dialled 1 to why)
-      → IsServed stands shown (asks 9 None) (lacked links) keep (lack_behind_open to why) → ⊥
+  LacksTwice = (to : Target) (why : Why) (totals : Totals) (keep : Option (List Note)) → NoneBeginsWith (e.Dialled 1 to why)
+      → IsServed stands shown (asks 9 None) (lacked totals) keep (lack_behind_open to why) → ⊥
 
   -- memory lacked at an entry that no node allows
   abbrev pub LacksUnallowed : Type 0
-  LacksUnallowed = (to : Target) (why : Why) (links : ℕ) (keep : Option (List Note)) → NoneBeginsWith (e.Dialled 1 to why)
+  LacksUnallowed = (to : Target) (why : Why) (totals : Totals) (keep : Option (List Note)) → NoneBeginsWith (e.Dialled 1 to why)
       → ((notes : List Note) (n : N) → stands notes n [] → (shown n).dials ≡ Some (to, why) → ⊥)
-      → IsServed stands shown (asks 9 None) (lacked links) keep (lack_behind_dial to why) → ⊥
+      → IsServed stands shown (asks 9 None) (lacked totals) keep (lack_behind_dial to why) → ⊥
 
   -- a node that stands for the dial lacks memory for what it is told next
   abbrev pub LackIsServed : Type 0
   LackIsServed = (to : Target) (why : Why) (notes : List Note) (n : N) (keep : Option (List Note)) → IsFree (shown n)
-      → stands notes n (e.Dialled 1 to why ∷ []) → IsServed stands shown (asks 9 None) (lacked 1) keep (lack_behind_open to why)
+      → stands notes n (e.Dialled 1 to why ∷ []) → IsServed stands shown (asks 9 None) (lacked (record no_totals { links = 1 })) keep (lack_behind_open to why)
 
   abbrev pub GoodRunIsServed : Type 0
   GoodRunIsServed = (at to : Target) (why : Why) (notes more : List Note) (n m k : N) → IsFree (shown n) → (shown m).ends_for ≡ None
       → stands notes n (good_start at to why)
       → stands notes m (listen_at true (Inbound, at) ∷ e.Dialled 1 to why ∷ e.Balked (way.Finish 1) ∷ waits_stop ∷ [])
       → stands more k (good_run at to why) → (shown k).noted ≡ []
-      → IsServed stands shown (asks_doors (Some at) None) (stopped 1) (Some more) (good_run at to why)
+      → IsServed stands shown (asks_doors (Some at) None) (stopped (with_sums 1 more)) (Some more) (good_run at to why)

@@ -9,15 +9,17 @@ use Rattle.hb_ready.specs.Awake.{AwakeLaw}
 use Rattle.hb_ready.specs.Registry.{kept}
 use Rattle.hb_ready.specs.Sight.{asked_at}
 use Rattle.hb_turns.specs.Ends.{ClosesFor, cause_at, was_wanting}
-use Rattle.hb_turns.specs.Notes.{HoldsNotes}
+use Rattle.hb_turns.specs.Notes.{Holds, AreNotes}
 use Rattle.hb_turns.specs.Reckons.{Finishes}
 use Rattle.hb_turns.specs.Settled.{SettledLaw}
 use Rattle.hb_turns.specs.Shown.{Shown}
 use Rattle.hb_turns.specs.Stands.{StoodLast}
+use Rattle.hb_turns.specs.Totals.{counted, revoked, totals_of, no_totals}
 use Rattle.hb_turns.specs.declared.run.Records.{Records}
 use Rattle.hb_turns.specs.declared.served.Served.{Served}
 use Rattle.hb_turns.specs.declared.served.ServeEnd.{ServeEnd}
 use Rattle.hb_turns.specs.declared.served.ServeEnd.TheVariants as ends
+use Rattle.hb_turns.specs.declared.served.Totals.{Totals}
 use Rattle.hb_turns.specs.declared.words.ServeWords.{ServeWords}
 
 -- a node whose run goes on stands for the trace; where memory lacked, for it or for all but its last entry
@@ -36,9 +38,17 @@ pub record IsOver {N : Type 0} (stands : List Note → N → List Entry → Type
   pub stood_for : IsStoodFor stands shown end before
   pub closes : All (ClosesFor (cause_at end)) behind
 
+-- These are all notes of the trace, where notes are kept they are these, and the totals are those of the trace with these notes
+pub record IsTotalled {N : Type 0} (stands : List Note → N → List Entry → Type 0) (shown : N → Shown) (keep : Option (List Note))
+    (totals : Totals) (trace : List Entry) : Type 0 where
+  pub notes : List Note
+  pub are_notes : AreNotes stands shown notes trace
+  pub kept_are : Holds keep notes
+  pub totals_are : totals ≡ totals_of trace notes
+
 -- A run that is over, of a node that was asked for this: its trace obeys the awake law and the settled law, at its end no link lives;
--- it says how the run ended, how many links were born, and whether one was closed for want of memory; and the notes that are kept are
--- all that there are of it, unless memory lacked
+-- it says how the run ended, how many links were born, how many dialled ones an update of the policies closed, and whether one was
+-- closed for want of memory; and unless memory lacked the notes that are kept are all that there are of it, and the totals are its own
 pub record IsServed {N : Type 0} (stands : List Note → N → List Entry → Type 0) (shown : N → Shown) (words : ServeWords) (served : Served)
     (keep : Option (List Note)) (trace : List Entry) : Type 0 where
   pub awake : AwakeLaw trace
@@ -46,8 +56,13 @@ pub record IsServed {N : Type 0} (stands : List Note → N → List Entry → Ty
   pub closed : (l : ℕ) → lives l trace ≡ false
   pub over : IsOver stands shown words served.end trace
   pub links_are : served.totals.links ≡ births trace
+  pub revoked_are : served.totals.revoked ≡ counted (revoked trace)
   pub wanting_is : served.wanting ≡ was_wanting trace
-  pub noted : (served.end ≡ ends.NoMemory → ⊥) → served.unkept ≡ false → HoldsNotes stands shown keep trace
+  pub noted : (served.end ≡ ends.NoMemory → ⊥) → served.unkept ≡ false → IsTotalled stands shown keep served.totals trace
+
+-- memory lacked before anything was done
+abbrev pub nothing_done : Served
+nothing_done = record { end = ends.NoMemory; totals = no_totals; wanting = false; unkept = false }
 
 -- a node before anything happened: no shut and no close is due, and the run isn't to end
 pub record IsFreshNode (s : Shown) : Type 0 where
@@ -60,3 +75,4 @@ pub record IsFresh (r : Records) : Type 0 where
   pub doors : (d : Door) → asked_at r.asked d ≡ false
   pub births : r.births ≡ 0
   pub wanting : r.wanting ≡ false
+  pub revoked : r.revoked ≡ 0

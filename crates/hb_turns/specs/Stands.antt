@@ -1,5 +1,5 @@
 -- What the loop holds, and the trace that it stands for.
-use Rattle.std.specs.Prelude.{◌≡◌, ◌⊎◌, ℕ, ◌||◌, true, false, List, [], ◌++◌, Option, None, IfSome, Result, Ok, Err}
+use Rattle.std.specs.Prelude.{◌≡◌, ◌⊎◌, ℕ, ◌+◌, ◌||◌, if◌then◌else◌, true, false, List, [], ◌++◌, Option, None, IfSome, Result, Ok, Err}
 use Rattle.std.specs.Option.{option_to_list}
 use Rattle.hb_base.specs.declared.door.Door.{Door}
 use Rattle.hb_world.specs.Trace.{births, lives}
@@ -11,10 +11,11 @@ use Rattle.hb_ready.specs.Kept.{Kept, Follows, has}
 use Rattle.hb_ready.specs.Numbers.{Numbered}
 use Rattle.hb_ready.specs.Registry.{kept}
 use Rattle.hb_ready.specs.Sight.{known, asked, asked_at, asked_behind}
-use Rattle.hb_turns.specs.Notes.{Holds}
+use Rattle.hb_turns.specs.Notes.{AreTaken}
 use Rattle.hb_turns.specs.Ends.{was_wanting, is_close_for_lack}
 use Rattle.hb_turns.specs.Settled.{Rests, SettledLaw}
 use Rattle.hb_turns.specs.Shown.{Shown, MayCome}
+use Rattle.hb_turns.specs.Totals.{counted, revokes, revoked}
 use Rattle.hb_turns.specs.declared.run.Records.{Records}
 use Rattle.hb_turns.specs.declared.run.Run.{Run}
 
@@ -26,15 +27,16 @@ pub record Obeys {N : Type 0} (stands : List Note → N → List Entry → Type 
   pub numbered : Numbered trace
   pub births_are : r.births ≡ births trace
   pub wanting_is : r.wanting ≡ was_wanting trace
+  pub revoked_are : r.revoked ≡ counted (revoked trace)
   pub awake : AwakeLaw trace
   pub settled : SettledLaw stands shown trace
 
--- and the node stands for the trace, once the notes were taken that are kept, where notes are
+-- and the node stands for the trace, once the notes were taken that were
 pub record Matches {N : Type 0} (stands : List Note → N → List Entry → Type 0) (shown : N → Shown) (run : Run N)
     (trace : List Entry) : Type 0 where
   pub notes : List Note
   pub node : stands notes run.node trace
-  pub kept_are : Holds run.keep notes
+  pub taken_are : AreTaken run.taken notes
   pub obeys : Obeys stands shown run.records trace
 
 -- each link is on the list, or it stirred and the loop wasn't told, or it rests
@@ -63,12 +65,17 @@ births_behind n (e.Accepted l door) = l
 births_behind n (e.Dialled l to why) = l
 births_behind n _ = n
 
+-- how many dialled links were revoked
+abbrev pub revoked_behind : Records → Entry → ℕ
+revoked_behind r x = if revokes (kept r.links).links x then counted (r.revoked + 1) else r.revoked
+
 -- what is known follows an entry
 pub record Tracks (old new : Records) (x : Entry) : Type 0 where
   pub links : Follows (kept old.links) (kept new.links) x
   pub doors : (d : Door) → asked_at new.asked d ≡ asked_behind d (asked_at old.asked d) x
   pub births_are : new.births ≡ births_behind old.births x
   pub wanting_is : new.wanting ≡ (is_close_for_lack x || old.wanting)
+  pub revoked_are : new.revoked ≡ revoked_behind old x
 
 -- a node whose run goes on stands for the trace, or for all but its last entry, which it allows behind them
 pub record StoodLast {N : Type 0} (stands : List Note → N → List Entry → Type 0) (shown : N → Shown) (trace : List Entry) : Type 0 where

@@ -21,6 +21,7 @@ pub record Wakes (old new : Records) (items : List ReadyItem) : Type 0 where
   pub doors : (d : Door) → asked_at new.asked d ≡ (is_asked d items || asked_at old.asked d)
   pub births : new.births ≡ old.births
   pub wanting : new.wanting ≡ old.wanting
+  pub revoked : new.revoked ≡ old.revoked
 
 -- nothing is to be tried
 abbrev pub IsQuiet : Records → Type 0

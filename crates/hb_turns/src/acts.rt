@@ -10,12 +10,14 @@ ghost use Rattle.hb_world.specs.declared.entry.Entry.TheVariants as e;
 ghost use Rattle.hb_ready.specs.Registry.{kept, HasRoom};
 ghost use Rattle.hb_turns.specs.Ends.{is_lack};
 ghost use Rattle.hb_turns.specs.Reckons.{Adds};
-ghost use Rattle.hb_turns.specs.Stands.{Keeps, Left, WatchedBy, Tracks, Matches, Stands, IsIdle};
+ghost use Rattle.hb_turns.specs.Stands.{Keeps, Left, WatchedBy, Tracks, Matches, Stands, IsIdle, revoked_behind};
 ghost use Rattle.hb_turns.specs.Shown.{Shown, IsSame};
+ghost use Rattle.hb_turns.specs.Totals.{was_dialled};
 
 use crate::node::Node;
 use crate::run::{Records, Run};
 use hb_base::{Cause, NoMemory, Target, Why};
+use hb_ready::Link;
 use hb_world::{Act, Born, World};
 
 /// Memory lacked.
@@ -28,6 +30,32 @@ fn lacked(cause: Cause) -> bool
     }
 }
 
+/// A link that lives was dialled.
+fn was_dialled(link: Option<Link>) -> bool
+    ensures { result ≡ was_dialled link }
+{
+    match link {
+        Some(known) => known.is_dialled,
+        None => false,
+    }
+}
+
+/// How many dialled links were revoked, once this one is closed.
+fn revoked_behind(records: &Records, link: u64, cause: Cause) -> u64
+    ensures { result ≡ revoked_behind records.now (e.Closed link cause) }
+{
+    match cause {
+        Cause::Revoked => {
+            if was_dialled(records.links.get(link)) {
+                records.revoked.saturating_add(1)
+            } else {
+                records.revoked
+            }
+        }
+        _ => records.revoked,
+    }
+}
+
 /// A link is closed.
 pub(crate) fn forget(records: &mut Records, link: u64, cause: Cause)
     ensures tracks { Tracks records.old records.new (e.Closed link cause) }
@@ -35,6 +63,7 @@ pub(crate) fn forget(records: &mut Records, link: u64, cause: Cause)
     ensures count { (kept records.new.links).count + (if is_some ((kept records.old.links).links link) then 1 else 0)
         ≡ (kept records.old.links).count }
 {
+    records.revoked = revoked_behind(records, link, cause);
     records.links.closed(link);
     if lacked(cause) {
         records.wanting = true;
@@ -139,7 +168,7 @@ fn take_note<N: Node>(run: &mut Run<N>) -> Result<bool, NoMemory>
     match run.node.next_note()? {
         None => Ok(false),
         Some(note) => {
-            run.keep.add(note)?;
+            run.taken.add(note)?;
             Ok(true)
         }
     }

@@ -2,7 +2,7 @@
 
 ghost use Rattle.std.specs.Prelude.{◌≡◌, ◌<◌, ℕ, true, false, None, Some, IfSome, OnOk};
 ghost use Rattle.hb_ready.specs.Registry.{kept};
-ghost use Rattle.hb_turns.specs.Notes.{HoldsNotes};
+ghost use Rattle.hb_turns.specs.Notes.{HasAllNotes};
 ghost use Rattle.hb_turns.specs.Reckons.{Closes};
 ghost use Rattle.hb_turns.specs.Shown.{StandsForNone};
 ghost use Rattle.hb_turns.specs.Stands.{Obeys, Matches, Stands, StandsAlone};
@@ -114,7 +114,7 @@ pub(crate) fn end_run<W: World, N: Node>(
     ensures obeys { IfSome (W.trace world.old) (Obeys N.stands N.shown run.old.records)
         → IfSome (W.trace world.new) (Obeys N.stands N.shown run.new.records) }
     ensures noted { OnOk result ((N.shown run.old.node).none_closes ≡ true → IfSome (W.trace world.old) (Stands N.stands N.shown run.old)
-        → IfSome (W.trace world.new) (HoldsNotes N.stands N.shown run.new.keep)) }
+        → IfSome (W.trace world.new) (HasAllNotes N.stands N.shown run.new.taken)) }
     ensures closes { Closes cause (W.trace world.old) (W.trace world.new) }
     ensures none { (l : ℕ) → (kept run.new.records.links).links l ≡ None }
     ensures faults { W.faults world.new ≡ W.faults world.old }

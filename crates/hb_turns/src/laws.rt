@@ -1,6 +1,7 @@
-//! What the settled law and the record of a run refuse, of whatever node: small wrong traces, and good ones. Each is the contract of
-//! a function that does nothing.
+//! What the settled law and the record of a run refuse, of whatever node: small wrong traces, and good ones; and what is counted of
+//! small traces and notes. Each is the contract of a function that does nothing.
 
+ghost use Rattle.hb_turns.specs.Counted.{SparesAccepted, CountsDialledOnce, SparesStopped, CountsAccepted, AddsEnds, StopsAtMost};
 ghost use Rattle.hb_turns.specs.Refused.{WaitsOverDue, WaitsOverReadable, WaitsOverUnwritten, WaitsUnasked, WaitsUnaccepted, GoodTraceIsSettled};
 ghost use Rattle.hb_turns.specs.RefusedRuns.{StopsUnasked, LeavesOpen, ClosesForLack, GoesOnBehind, WaitsPastTurns, GivesUp, TicksOnceMore};
 ghost use Rattle.hb_turns.specs.RefusedRuns.{ListensNowhere, ListensUnasked, ListensInAnotherOrder, LosesNotes, GoodRunIsServed};
@@ -60,4 +61,18 @@ pub fn a_run_that_lacked_is_served<N: Node>()
 /// A run is over that listens at a door, dials a link, is told a stop, and closes the link.
 pub fn a_good_run_is_served<N: Node>()
     ensures { GoodRunIsServed N.stands N.shown }
+{}
+
+/// Of the links that an update of the policies closes those are counted that were dialled, each once.
+pub fn dialled_links_alone_are_revoked()
+    ensures accepted { SparesAccepted }
+    ensures dialled { CountsDialledOnce }
+    ensures stopped { SparesStopped }
+{}
+
+/// Of the notes the verdicts of 200 are counted, and the bytes of the tunnels that ended are added, each way up to 2^64 - 1.
+pub fn notes_are_counted()
+    ensures accepted { CountsAccepted }
+    ensures ends { AddsEnds }
+    ensures most { StopsAtMost }
 {}

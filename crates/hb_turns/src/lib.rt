@@ -12,6 +12,8 @@ mod round;
 mod run;
 mod served;
 mod service;
+mod sums;
+mod taken;
 mod turns;
 mod waits;
 mod words;

@@ -103,7 +103,7 @@ fn read_into<W: World, N>(run: &mut Run<N>, world: &mut W, link: u64, most: usiz
     ensures within { ReadsWithin (take most run.new.buffer.items) result }
     ensures node { run.new.node ≡ run.old.node }
     ensures records { run.new.records ≡ run.old.records }
-    ensures keep { run.new.keep ≡ run.old.keep }
+    ensures taken { run.new.taken ≡ run.old.taken }
     ensures faults { W.faults world.new ≡ W.faults world.old }
     ensures follows { W.script world.new ≡ W.script world.old }
 {

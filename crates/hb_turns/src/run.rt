@@ -1,6 +1,6 @@
 //! A run of the event loop, as it stands between two calls.
 
-use crate::keep::Keep;
+use crate::taken::Taken;
 use hb_ready::{Asked, Links};
 
 /// The most bytes of one read.
@@ -15,6 +15,8 @@ pub struct Records {
     pub births: u64,
     /// A link was closed for want of memory.
     pub wanting: bool,
+    /// How many dialled links an update of the policies closed, at most `u64::MAX`.
+    pub revoked: u64,
 }
 
 /// The node, what the loop knows, the notes that were taken, and room for what is read.
@@ -22,6 +24,6 @@ pub struct Records {
 pub struct Run<N> {
     pub node: N,
     pub records: Records,
-    pub keep: Keep,
+    pub taken: Taken,
     pub buffer: Vec<u8>,
 }

@@ -1,5 +1,8 @@
 //! How a run ended, and what it did.
 
+ghost use Rattle.std.specs.Prelude.{◌≡◌};
+ghost use Rattle.hb_turns.specs.Served.{nothing_done};
+
 /// How a run ended.
 #[derive(Clone, Copy)]
 pub enum ServeEnd {
@@ -11,11 +14,19 @@ pub enum ServeEnd {
     NoMemory,
 }
 
-/// What a run did, in numbers.
+/// What a run did, in numbers. Each stops at 2^64 - 1.
 #[derive(Clone, Copy)]
 pub struct Totals {
     /// The links that were born.
     pub links: u64,
+    /// The tunnels that were let through.
+    pub accepted: u64,
+    /// The dialled links that an update of the policies closed.
+    pub revoked: u64,
+    /// The bytes that the tunnels that ended had passed up.
+    pub up: u64,
+    /// The bytes that the tunnels that ended had passed down.
+    pub down: u64,
 }
 
 /// A run that ended.
@@ -27,4 +38,24 @@ pub struct Served {
     pub wanting: bool,
     /// Memory lacked for a note that the run's end made, or 2^64 - 1 closes were due in a row.
     pub unkept: bool,
+}
+
+impl Served {
+    /// Memory lacked before anything was done.
+    pub fn nothing() -> Served
+        ensures { result ≡ nothing_done }
+    {
+        Served {
+            end: ServeEnd::NoMemory,
+            totals: Totals {
+                links: 0,
+                accepted: 0,
+                revoked: 0,
+                up: 0,
+                down: 0,
+            },
+            wanting: false,
+            unkept: false,
+        }
+    }
 }

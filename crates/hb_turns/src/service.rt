@@ -7,6 +7,7 @@ ghost use Rattle.hb_turns.specs.Ends.{cause_at, is_fault, end_of};
 ghost use Rattle.hb_turns.specs.Reckons.{Begins, Finishes};
 ghost use Rattle.hb_turns.specs.Served.{IsServed, IsFresh, IsFreshNode};
 ghost use Rattle.hb_turns.specs.Stands.{Left};
+ghost use Rattle.hb_turns.specs.Totals.{sums_of};
 
 use crate::ending::end_run;
 use crate::keep::Keep;
@@ -14,6 +15,8 @@ use crate::listens::listen;
 use crate::node::Node;
 use crate::run::{MOST_READ, Records, Run};
 use crate::served::{ServeEnd, Served, Totals};
+use crate::sums::Sums;
+use crate::taken::Taken;
 use crate::turns::turns;
 use crate::words::ServeWords;
 use hb_base::{Cause, NoMemory};
@@ -71,7 +74,7 @@ fn serve_run<W: World, N: Node>(
     words: ServeWords,
 ) -> Served
     ensures served { (N.shown run.old.node).none_closes ≡ true → IfSome (W.trace world.old) (Begins N.stands N.shown run.old [])
-        → IfSome (W.trace world.new) (IsServed N.stands N.shown words result run.new.keep) }
+        → IfSome (W.trace world.new) (IsServed N.stands N.shown words result run.new.taken.keep) }
     ensures faults { Counts (W.faults world.old) (W.faults world.new) (is_fault result.end) }
     ensures follows { W.script world.new ≡ W.script world.old }
 {
@@ -81,6 +84,10 @@ fn serve_run<W: World, N: Node>(
         end,
         totals: Totals {
             links: run.records.births,
+            accepted: run.taken.sums.accepted,
+            revoked: run.records.revoked,
+            up: run.taken.sums.up,
+            down: run.taken.sums.down,
         },
         wanting: run.records.wanting,
         unkept: noted.is_err(),
@@ -96,6 +103,7 @@ fn fresh_records(alloc: Global) -> Records
         asked: Asked::new(),
         births: 0,
         wanting: false,
+        revoked: 0,
     }
 }
 
@@ -113,7 +121,8 @@ fn read_buffer(alloc: Global) -> Result<Vec<u8>, NoMemory> {
 /// Errors: `NoMemory`, and then the node is dropped.
 fn begin<N: Node + Drop>(alloc: Global, node: N, keep: Keep) -> Result<(Run<N>, Ready), NoMemory>
     ensures node { IfOk result (λ begun. begun.0.node ≡ node) }
-    ensures keep { IfOk result (λ begun. begun.0.keep ≡ keep) }
+    ensures keep { IfOk result (λ begun. begun.0.taken.keep ≡ keep) }
+    ensures sums { IfOk result (λ begun. begun.0.taken.sums ≡ sums_of []) }
     ensures fresh { IfOk result (λ begun. IsFresh begun.0.records) }
 {
     let buffer = read_buffer(alloc)?;
@@ -121,7 +130,10 @@ fn begin<N: Node + Drop>(alloc: Global, node: N, keep: Keep) -> Result<(Run<N>, 
     let run = Run {
         node,
         records: fresh_records(alloc),
-        keep,
+        taken: Taken {
+            keep,
+            sums: Sums::new(),
+        },
         buffer,
     };
     Ok((run, ready))
@@ -149,14 +161,9 @@ pub fn serve<W: World, N: Node + Drop>(
             let mut run = run;
             let mut ready = ready;
             let served = serve_run(&mut run, world, &mut ready, words);
-            *keep = run.keep;
+            *keep = run.taken.keep;
             served
         }
-        Err(_) => Served {
-            end: ServeEnd::NoMemory,
-            totals: Totals { links: 0 },
-            wanting: false,
-            unkept: false,
-        },
+        Err(_) => Served::nothing(),
     }
 }

@@ -94,7 +94,7 @@ quiet_at : (x : Inbound) → IsQuiet x → IsLinkThere x.phase → IsQuietAt m.f
 quiet_at x quiet there =
     ⊎_elim (λ is. inl (quiet, is)) (λ is. inr (quiet, is)) (open_phase x.phase x there quiet.calm.rests quiet.no_close)
 
-going_at : (x : Inbound) (s u : ℕ) → IsQuiet x → Joins (x.tunnels s) u → ((x.tunnels s).stage ≡ t.opening) ⊎ ((x.tunnels s).stage ≡ t.live)
+pub going_at : (x : Inbound) (s u : ℕ) → IsQuiet x → Joins (x.tunnels s) u → ((x.tunnels s).stage ≡ t.opening) ⊎ ((x.tunnels s).stage ≡ t.live)
 going_at x s u quiet joins =
     going_stage (x.tunnels s).stage (x.tunnels s) (subst (λ (n : ℕ). 0 < n) (sym joins.1) joins.0) (quiet.calm.answered s) (quiet.idle s)
 

@@ -18,3 +18,4 @@ pub mod Outcomes
 pub mod Taking
 pub mod Given
 pub mod Starting
+pub mod Settling

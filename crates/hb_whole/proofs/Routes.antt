@@ -94,7 +94,7 @@ link_kept : (l : ℕ) (o : Option Link) (x : Inbound) → ShowsLink l o x → Is
 link_kept l None x shows there = absurd (is_away x.phase there shows.0)
 link_kept l (Some k) x shows there = (k, refl)
 
-no_place : (x : Machine) (zs : List Entry) (links : Links) (l : ℕ) (o : Option Place) → Seen x zs → ShowsAll links x.inbound
+pub no_place : (x : Machine) (zs : List Entry) (links : Links) (l : ℕ) (o : Option Place) → Seen x zs → ShowsAll links x.inbound
     → IsLinkThere (x.inbound l).phase → get links.ups l ≡ o → o ≡ None
 no_place x zs links l None seen shows there is = refl
 no_place x zs links l (Some at) seen shows there is =

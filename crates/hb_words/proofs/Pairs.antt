@@ -6,8 +6,9 @@ use Rattle.std.specs.String.{string_bytes}
 use Rattle.hb_base.specs.declared.or.Or.{Or}
 use Rattle.hb_base.specs.Outcome.{Answers}
 use Rattle.hb_words.specs.declared.fault.WordsFault.{WordsFault}
+use Rattle.hb_words.specs.Command.{Question}
 use Rattle.hb_words.specs.Word.{is_dashed}
-use Rattle.hb_words.specs.Words.{Question, Options, with_option, options_of}
+use Rattle.hb_words.specs.Words.{Options, with_option, options_of}
 
 -- an option and its value in front were read, and the words behind them
 pub goes_on : (o p : Options) (ws : List (String Global)) (word value : String Global) (a : Result Question (Or WordsFault))

@@ -3,7 +3,7 @@ use Rattle.std.specs.Prelude.{ℕ, List, ◌++◌, codes}
 use Rattle.hb_base.specs.declared.target.BadTarget.TheVariants as target_faults
 use Rattle.hb_words.specs.declared.fault.WordsFault.{WordsFault}
 use Rattle.hb_words.specs.declared.fault.WordsFault.TheVariants as faults
-use Rattle.hb_words.specs.ReplayFault.{replay_text}
+use Rattle.hb_words.specs.RunFault.{run_text}
 use Rattle.hb_words.specs.declared.options.OptionName.{OptionName}
 use Rattle.hb_words.specs.declared.options.OptionName.TheVariants.{Node, Network}
 
@@ -27,13 +27,15 @@ fault_text faults.BadIdentity = codes "IDENTITY is neither none nor spiffe://TRU
 fault_text (faults.BadTarget target_faults.NoPort) = codes "TARGET has no port"
 fault_text (faults.BadTarget target_faults.BadIp) = codes "the address of TARGET is neither IPv4 text nor IPv6 text in brackets"
 fault_text (faults.BadTarget target_faults.BadPort) = codes "the port of TARGET is no number from 1 to 65535"
-fault_text (faults.Replay fault) = replay_text fault
+fault_text (faults.Run command fault) = run_text command fault
 
 -- the forms of accepted words
 abbrev pub usage : List ℕ
 usage = codes " (usage: hbone check --node NODE [--network NETWORK] SOURCE IDENTITY TARGET, hbone show,"
-    ++ codes " or hbone replay --node NODE --id ID --discovery TARGET [--inbound TARGET]"
-    ++ codes " [--network NETWORK] [--hbone-port PORT] [--tunnels COUNT] [--turns COUNT] [--trace] [--brief])"
+    ++ codes " hbone replay --node NODE --id ID --discovery TARGET [--inbound TARGET]"
+    ++ codes " [--network NETWORK] [--hbone-port PORT] [--tunnels COUNT] [--turns COUNT] [--trace] [--brief],"
+    ++ codes " or hbone serve --node NODE --id ID --discovery TARGET [--inbound TARGET]"
+    ++ codes " [--network NETWORK] [--hbone-port PORT] [--tunnels COUNT] [--turns COUNT] [--ticks COUNT])"
 
 -- the line, with the forms of accepted words
 abbrev pub fault_line : WordsFault → List ℕ

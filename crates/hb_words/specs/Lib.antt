@@ -1,9 +1,11 @@
 pub mod Asked
-pub mod AskedReplay
+pub mod AskedRun
+pub mod Command
 pub mod Fault
 pub mod Number
-pub mod Replay
-pub mod ReplayFault
+pub mod Run
+pub mod RunCommand
+pub mod RunFault
 pub mod Spelling
 pub mod Word
 pub mod Words

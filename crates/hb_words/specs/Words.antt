@@ -1,9 +1,9 @@
--- The words of the command line: `check --node NODE [--network NETWORK] SOURCE IDENTITY TARGET`, `show`, or `replay` with its options.
+-- The words of the command line: `check --node NODE [--network NETWORK] SOURCE IDENTITY TARGET`, `show`, and
+-- `replay` and `serve` with their options.
 use Rattle.std.specs.Prelude.{ℕ, ◌==◌, List, [], ◌∷◌, length, Option, Some, None, Result, Ok, Err, if◌then◌else◌, codes}
 use Rattle.std.specs.Option.{unwrap_or}
 use Rattle.std.specs.Str.{bytes_eq}
 use Rattle.hb_base.specs.declared.identity.Identity.{Identity}
-use Rattle.hb_base.specs.declared.peer.Peer.{Peer}
 use Rattle.hb_base.specs.declared.target.Target.{Target}
 use Rattle.hb_base.specs.declared.target.BadTarget.{BadTarget}
 use Rattle.hb_base.specs.IpText.{ip_of}
@@ -13,23 +13,13 @@ use Rattle.hb_wire.specs.Message.{and_then}
 use Rattle.hb_words.specs.declared.options.OptionName.{OptionName}
 use Rattle.hb_words.specs.declared.options.OptionName.TheVariants.{Node, Network}
 use Rattle.hb_words.specs.declared.fault.WordsFault.{WordsFault}
-use Rattle.hb_words.specs.declared.fault.WordsFault.TheVariants.{NoCommand, UnknownCommand, UnknownOption, Twice, NoValue, BadValue, NoNode, TooFew, TooMany, ShowTakesNone, BadSource, BadIdentity, BadTarget as NoTarget, Replay as BadReplay}
-use Rattle.hb_words.specs.declared.replay_fault.ReplayFault.{ReplayFault}
-use Rattle.hb_words.specs.Replay.{Replay, replay_of}
+use Rattle.hb_words.specs.declared.fault.WordsFault.TheVariants.{NoCommand, UnknownCommand, UnknownOption, Twice, NoValue, BadValue, NoNode, TooFew, TooMany, ShowTakesNone, BadSource, BadIdentity, BadTarget as NoTarget, Run as BadRun}
+use Rattle.hb_words.specs.declared.run_command.RunCommand.{RunCommand}
+use Rattle.hb_words.specs.declared.run_command.RunCommand.TheVariants.{Replay, Serve}
+use Rattle.hb_words.specs.declared.run_fault.RunFault.{RunFault}
+use Rattle.hb_words.specs.Command.{Question, Command, checks, shows}
+use Rattle.hb_words.specs.Run.{run_of}
 use Rattle.hb_words.specs.Word.{is_dashed}
-
--- what `check` asks: is this peer admitted at this target of this node of this network?
-pub record Question : Type 0 where
-  pub node : List ℕ
-  pub network : List ℕ
-  pub peer : Peer
-  pub target : Target
-
--- what is asked for: an answer to a question, what is held, or a run over a script
-pub data Command : Type 0 where
-  checks : Question → Command
-  shows : Command
-  replays : Replay → Command
 
 abbrev pub or_fault : {A : Type 0} → WordsFault → Option A → Result A WordsFault
 or_fault fault None = Err fault
@@ -114,10 +104,10 @@ abbrev pub show_of : List (List ℕ) → Result Command WordsFault
 show_of [] = Ok shows
 show_of (word ∷ words) = Err ShowTakesNone
 
--- behind `replay`: its options and flags
-abbrev pub replayed : Result Replay ReplayFault → Result Command WordsFault
-replayed (Ok r) = Ok (replays r)
-replayed (Err fault) = Err (BadReplay fault)
+-- behind `replay` and `serve`: their options and flags
+abbrev pub ran : RunCommand → Result Command RunFault → Result Command WordsFault
+ran command (Ok c) = Ok c
+ran command (Err fault) = Err (BadRun command fault)
 
 -- The accepted words, and what they ask; or why words aren't accepted.
 unfoldable pub words_of : List (List ℕ) → Result Command WordsFault
@@ -125,4 +115,5 @@ words_of [] = Err NoCommand
 words_of (command ∷ words) =
     if bytes_eq command (codes "check") then and_then (options_of no_options words) (λ q. Ok (checks q))
     else (if bytes_eq command (codes "show") then show_of words
-    else (if bytes_eq command (codes "replay") then replayed (replay_of words) else Err UnknownCommand))
+    else (if bytes_eq command (codes "replay") then ran Replay (run_of Replay words)
+    else (if bytes_eq command (codes "serve") then ran Serve (run_of Serve words) else Err UnknownCommand)))

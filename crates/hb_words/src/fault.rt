@@ -6,12 +6,13 @@ ghost use Rattle.hb_words.specs.Fault.{fault_text, fault_line, usage};
 ghost use Rattle.hb_words.specs.declared.fault.WordsFault.TheVariants.{Twice, NoValue, BadValue, BadTarget as NoTarget};
 
 use crate::options::OptionName;
-use crate::replay_fault::ReplayFault;
+use crate::run_command::RunCommand;
+use crate::run_fault::RunFault;
 use hb_base::{BadTarget, NoMemory};
 use std::alloc::Global;
 
 /// Why words aren't accepted. The commands are `check --node NODE [--network NETWORK] SOURCE IDENTITY TARGET`,
-/// `show`, and `replay` with its options.
+/// `show`, and `replay` and `serve` with their options.
 #[derive(Clone, Copy)]
 pub enum WordsFault {
     NoCommand,
@@ -30,8 +31,8 @@ pub enum WordsFault {
     BadSource,
     BadIdentity,
     BadTarget(BadTarget),
-    /// Behind `replay`.
-    Replay(ReplayFault),
+    /// Behind `replay` or `serve`.
+    Run(RunCommand, RunFault),
 }
 
 fn target_text(fault: BadTarget) -> &'static str
@@ -71,13 +72,15 @@ fn bad_value_text(name: OptionName) -> &'static str
     }
 }
 
-/// The forms of accepted words.
-fn usage() -> &'static str
+/// The forms of accepted words, as they stand behind what is wrong with others.
+pub fn usage() -> &'static str
     ensures { result.now ≡ usage }
 {
     " (usage: hbone check --node NODE [--network NETWORK] SOURCE IDENTITY TARGET, hbone show, \
-     or hbone replay --node NODE --id ID --discovery TARGET [--inbound TARGET] \
-     [--network NETWORK] [--hbone-port PORT] [--tunnels COUNT] [--turns COUNT] [--trace] [--brief])"
+     hbone replay --node NODE --id ID --discovery TARGET [--inbound TARGET] \
+     [--network NETWORK] [--hbone-port PORT] [--tunnels COUNT] [--turns COUNT] [--trace] [--brief], \
+     or hbone serve --node NODE --id ID --discovery TARGET [--inbound TARGET] \
+     [--network NETWORK] [--hbone-port PORT] [--tunnels COUNT] [--turns COUNT] [--ticks COUNT])"
 }
 
 impl WordsFault {
@@ -100,7 +103,7 @@ impl WordsFault {
                 "IDENTITY is neither none nor spiffe://TRUST_DOMAIN/ns/NAMESPACE/sa/SERVICE_ACCOUNT"
             }
             WordsFault::BadTarget(fault) => target_text(fault),
-            WordsFault::Replay(fault) => fault.text(),
+            WordsFault::Run(command, fault) => fault.text(command),
         }
     }
 

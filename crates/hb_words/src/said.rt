@@ -1,100 +1,123 @@
-//! What a word of `replay` says by itself.
+//! What a word of `replay` or of `serve` says by itself.
 
 ghost use Rattle.std.specs.Prelude.{◌≡◌};
 ghost use Rattle.std.specs.String.{string_bytes};
-ghost use Rattle.hb_words.specs.AskedReplay.{said_answer};
-ghost use Rattle.hb_words.specs.Replay.{option_named, flag_named, said_whole, said_cut, said};
+ghost use Rattle.hb_words.specs.AskedRun.{said_answer};
+ghost use Rattle.hb_words.specs.Run.{any_option, any_flag, option_named, flag_named, said_whole, said_cut, said};
 
 use crate::options::is_dashed;
-use crate::replay_fault::ReplayFault;
-use crate::settings::{ReplayFlag, ReplayOption};
+use crate::run_command::{RunCommand, RunFlag, RunOption};
+use crate::run_fault::RunFault;
 
 /// What a word that isn't a value says.
 #[derive(Clone, Copy)]
 pub(crate) enum Said<'a> {
-    Flag(ReplayFlag),
+    Flag(RunFlag),
     /// Its value is the next word.
-    Named(ReplayOption),
-    Valued(ReplayOption, &'a str),
+    Named(RunOption),
+    Valued(RunOption, &'a str),
 }
 
-/// The option of this name.
-fn option_named(name: &str) -> Option<ReplayOption>
-    ensures { result ≡ option_named name.now }
+/// The option of this name, whichever command has it.
+fn any_option(name: &str) -> Option<RunOption>
+    ensures { result ≡ any_option name.now }
 {
     if name == "--node" {
-        return Some(ReplayOption::Node);
+        return Some(RunOption::Node);
     }
     if name == "--id" {
-        return Some(ReplayOption::Id);
+        return Some(RunOption::Id);
     }
     if name == "--discovery" {
-        return Some(ReplayOption::Discovery);
+        return Some(RunOption::Discovery);
     }
     if name == "--inbound" {
-        return Some(ReplayOption::Inbound);
+        return Some(RunOption::Inbound);
     }
     if name == "--network" {
-        return Some(ReplayOption::Network);
+        return Some(RunOption::Network);
     }
     if name == "--hbone-port" {
-        return Some(ReplayOption::HbonePort);
+        return Some(RunOption::HbonePort);
     }
     if name == "--tunnels" {
-        return Some(ReplayOption::Tunnels);
+        return Some(RunOption::Tunnels);
     }
     if name == "--turns" {
-        return Some(ReplayOption::Turns);
+        return Some(RunOption::Turns);
+    }
+    if name == "--ticks" {
+        return Some(RunOption::Ticks);
     }
     None
 }
 
 /// The flag of this name.
-fn flag_named(name: &str) -> Option<ReplayFlag>
-    ensures { result ≡ flag_named name.now }
+fn any_flag(name: &str) -> Option<RunFlag>
+    ensures { result ≡ any_flag name.now }
 {
     if name == "--trace" {
-        return Some(ReplayFlag::Trace);
+        return Some(RunFlag::Trace);
     }
     if name == "--brief" {
-        return Some(ReplayFlag::Brief);
+        return Some(RunFlag::Brief);
     }
     None
 }
 
-/// What a word without an equals sign says.
-fn said_whole(word: &str) -> Result<Said<'static>, ReplayFault>
-    ensures { said_answer result ≡ said_whole (flag_named word.now) (option_named word.now) }
+/// The option of this name that the command has.
+fn option_named(command: RunCommand, name: &str) -> Option<RunOption>
+    ensures { result ≡ option_named command name.now }
 {
-    if let Some(name) = flag_named(word) {
+    match any_option(name) {
+        Some(option) if command.has_option(option) => Some(option),
+        _ => None,
+    }
+}
+
+/// The flag of this name that the command has.
+fn flag_named(command: RunCommand, name: &str) -> Option<RunFlag>
+    ensures { result ≡ flag_named command name.now }
+{
+    match any_flag(name) {
+        Some(flag) if command.has_flags() => Some(flag),
+        _ => None,
+    }
+}
+
+/// What a word without an equals sign says.
+fn said_whole(command: RunCommand, word: &str) -> Result<Said<'static>, RunFault>
+    ensures { said_answer result ≡ said_whole (flag_named command word.now) (option_named command word.now) }
+{
+    if let Some(name) = flag_named(command, word) {
         return Ok(Said::Flag(name));
     }
-    match option_named(word) {
+    match option_named(command, word) {
         Some(name) => Ok(Said::Named(name)),
-        None => Err(ReplayFault::UnknownOption),
+        None => Err(RunFault::UnknownOption),
     }
 }
 
 /// What a word says by the two sides of its first equals sign.
-fn said_cut<'a>(name: &str, value: &'a str) -> Result<Said<'a>, ReplayFault>
-    ensures { said_answer result ≡ said_cut (option_named name.now) value.entry.now }
+fn said_cut<'a>(command: RunCommand, name: &str, value: &'a str) -> Result<Said<'a>, RunFault>
+    ensures { said_answer result ≡ said_cut (option_named command name.now) value.entry.now }
 {
-    match option_named(name) {
+    match option_named(command, name) {
         Some(name) => Ok(Said::Valued(name, value)),
-        None => Err(ReplayFault::UnknownOption),
+        None => Err(RunFault::UnknownOption),
     }
 }
 
 /// What a word says by itself.
-#[tactic(auto, unfolding(crate::specs::Replay::said))]
-pub(crate) fn read_said(word: &String) -> Result<Said<'_>, ReplayFault>
-    ensures { said_answer result ≡ said (string_bytes word.now) }
+#[tactic(auto, unfolding(crate::specs::Run::said))]
+pub(crate) fn read_said(command: RunCommand, word: &String) -> Result<Said<'_>, RunFault>
+    ensures { said_answer result ≡ said command (string_bytes word.now) }
 {
     if !is_dashed(word) {
-        return Err(ReplayFault::NoOption);
+        return Err(RunFault::NoOption);
     }
     match word.as_str().split_once('=') {
-        Some((name, value)) => said_cut(name, value),
-        None => said_whole(word.as_str()),
+        Some((name, value)) => said_cut(command, name, value),
+        None => said_whole(command, word.as_str()),
     }
 }

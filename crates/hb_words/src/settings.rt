@@ -1,38 +1,19 @@
-//! The options and flags of `replay`, and their values.
+//! The options and flags of `replay` and of `serve`, and their values.
 
 ghost use Rattle.std.specs.Prelude.{◌≡◌, Some};
 ghost use Rattle.std.specs.Result.{result_ok};
 ghost use Rattle.hb_base.specs.TargetText.{target_of};
-ghost use Rattle.hb_words.specs.AskedReplay.{text, text_answer, settings_seen, settings_answer};
+ghost use Rattle.hb_words.specs.AskedRun.{text, text_answer, settings_seen, settings_answer};
 ghost use Rattle.hb_words.specs.Number.{number_of};
-ghost use Rattle.hb_words.specs.Replay.{once as set_once, raised, set_value, set, raise, no_settings};
+ghost use Rattle.hb_words.specs.Run.{once as set_once, raised, set_value, set, raise, no_settings};
 ghost use Rattle.hb_words.specs.Word.{is_value};
 
 use crate::number::read_number;
-use crate::replay_fault::ReplayFault;
+use crate::run_command::{RunFlag, RunOption};
+use crate::run_fault::RunFault;
 use hb_base::{Target, read_target};
 
-/// The options of `replay`.
-#[derive(Clone, Copy)]
-pub enum ReplayOption {
-    Node,
-    Id,
-    Discovery,
-    Inbound,
-    Network,
-    HbonePort,
-    Tunnels,
-    Turns,
-}
-
-/// The flags of `replay`.
-#[derive(Clone, Copy)]
-pub enum ReplayFlag {
-    Trace,
-    Brief,
-}
-
-/// The options and flags of `replay`, as far as they were read.
+/// The options and flags, as far as they were read.
 #[derive(Clone, Copy)]
 pub(crate) struct Settings<'a> {
     pub node: Option<&'a str>,
@@ -43,6 +24,7 @@ pub(crate) struct Settings<'a> {
     pub hbone_port: Option<u16>,
     pub tunnels: Option<u16>,
     pub turns: Option<u64>,
+    pub ticks: Option<u64>,
     pub trace: bool,
     pub brief: bool,
 }
@@ -72,41 +54,41 @@ fn number_up_to(value: &str, most: u16) -> Option<u16>
 
 /// A value is set where it is of its grammar and none was.
 fn once<T: Copy>(
-    name: ReplayOption,
+    name: RunOption,
     earlier: Option<T>,
     value: Option<T>,
-) -> Result<Option<T>, ReplayFault>
+) -> Result<Option<T>, RunFault>
     ensures { result ≡ set_once name earlier value }
 {
     if value.is_none() {
-        return Err(ReplayFault::BadValue(name));
+        return Err(RunFault::BadValue(name));
     }
     if earlier.is_some() {
-        return Err(ReplayFault::Twice(name));
+        return Err(RunFault::Twice(name));
     }
     Ok(value)
 }
 
 /// The same of a text.
 fn once_text<'a>(
-    name: ReplayOption,
+    name: RunOption,
     earlier: Option<&'a str>,
     value: &'a str,
-) -> Result<Option<&'a str>, ReplayFault>
+) -> Result<Option<&'a str>, RunFault>
     ensures { text_answer result ≡ set_once name (text earlier.entry) (Some value.entry.now) }
 {
     if earlier.is_some() {
-        return Err(ReplayFault::Twice(name));
+        return Err(RunFault::Twice(name));
     }
     Ok(Some(value))
 }
 
 /// A flag is raised once.
-fn raise_once(name: ReplayFlag, before: bool) -> Result<bool, ReplayFault>
+fn raise_once(name: RunFlag, before: bool) -> Result<bool, RunFault>
     ensures { result ≡ raised name before }
 {
     if before {
-        return Err(ReplayFault::FlagTwice(name));
+        return Err(RunFault::FlagTwice(name));
     }
     Ok(true)
 }
@@ -125,46 +107,51 @@ impl<'a> Settings<'a> {
             hbone_port: None,
             tunnels: None,
             turns: None,
+            ticks: None,
             trace: false,
             brief: false,
         }
     }
 
     /// Sets an option by its grammar.
-    fn set_value(self, name: ReplayOption, value: &'a str) -> Result<Settings<'a>, ReplayFault>
+    fn set_value(self, name: RunOption, value: &'a str) -> Result<Settings<'a>, RunFault>
         ensures { settings_answer result ≡ set_value (settings_seen self.entry) name value.entry.now }
     {
         Ok(match name {
-            ReplayOption::Node => Settings {
+            RunOption::Node => Settings {
                 node: once_text(name, self.node, value)?,
                 ..self
             },
-            ReplayOption::Id => Settings {
+            RunOption::Id => Settings {
                 id: once_text(name, self.id, value)?,
                 ..self
             },
-            ReplayOption::Discovery => Settings {
+            RunOption::Discovery => Settings {
                 discovery: once(name, self.discovery, address(value))?,
                 ..self
             },
-            ReplayOption::Inbound => Settings {
+            RunOption::Inbound => Settings {
                 inbound: once(name, self.inbound, address(value))?,
                 ..self
             },
-            ReplayOption::Network => Settings {
+            RunOption::Network => Settings {
                 network: once_text(name, self.network, value)?,
                 ..self
             },
-            ReplayOption::HbonePort => Settings {
+            RunOption::HbonePort => Settings {
                 hbone_port: once(name, self.hbone_port, number_up_to(value, 65535))?,
                 ..self
             },
-            ReplayOption::Tunnels => Settings {
+            RunOption::Tunnels => Settings {
                 tunnels: once(name, self.tunnels, number_up_to(value, 4096))?,
                 ..self
             },
-            ReplayOption::Turns => Settings {
+            RunOption::Turns => Settings {
                 turns: once(name, self.turns, read_number(value, 1, u64::MAX))?,
+                ..self
+            },
+            RunOption::Ticks => Settings {
+                ticks: once(name, self.ticks, read_number(value, 1, u64::MAX))?,
                 ..self
             },
         })
@@ -174,12 +161,12 @@ impl<'a> Settings<'a> {
     ///
     /// Errors: `BadValue` where the value is that, or isn't of the option's grammar and range; else `Twice` where the
     /// option has a value.
-    #[tactic(auto, unfolding(crate::specs::Replay::set))]
-    pub fn set(self, name: ReplayOption, value: &'a str) -> Result<Settings<'a>, ReplayFault>
+    #[tactic(auto, unfolding(crate::specs::Run::set))]
+    pub fn set(self, name: RunOption, value: &'a str) -> Result<Settings<'a>, RunFault>
         ensures { settings_answer result ≡ set (settings_seen self.entry) name value.entry.now }
     {
         if !is_value(value) {
-            return Err(ReplayFault::BadValue(name));
+            return Err(RunFault::BadValue(name));
         }
         self.set_value(name, value)
     }
@@ -187,15 +174,15 @@ impl<'a> Settings<'a> {
     /// One more flag.
     ///
     /// Errors: `FlagTwice` where it is raised.
-    pub fn raise(self, name: ReplayFlag) -> Result<Settings<'a>, ReplayFault>
+    pub fn raise(self, name: RunFlag) -> Result<Settings<'a>, RunFault>
         ensures { settings_answer result ≡ raise (settings_seen self.entry) name }
     {
         Ok(match name {
-            ReplayFlag::Trace => Settings {
+            RunFlag::Trace => Settings {
                 trace: raise_once(name, self.trace)?,
                 ..self
             },
-            ReplayFlag::Brief => Settings {
+            RunFlag::Brief => Settings {
                 brief: raise_once(name, self.brief)?,
                 ..self
             },

@@ -5,31 +5,16 @@ ghost use Rattle.std.specs.String.{string_bytes};
 ghost use Rattle.hb_base.specs.Outcome.{Answers};
 ghost use Rattle.hb_words.specs.Asked.{network_name, seen, asked, commanded};
 ghost use Rattle.hb_words.specs.Words.{identity_or_none, question_of, places_of, option_of};
-ghost use Rattle.hb_words.specs.Words.{asked_of, alone_of, options_of, show_of, words_of};
+ghost use Rattle.hb_words.specs.Run.{run_of};
+ghost use Rattle.hb_words.specs.Words.{asked_of, alone_of, options_of, show_of, ran, words_of};
 
+use crate::asks::{Check, Command};
 use crate::fault::WordsFault;
 use crate::options::{Options, is_dashed, read_option};
-use crate::replay::{Replay, read_replay};
-use hb_base::{Identity, Or, Peer, Target, read_identity, read_ip, read_target};
+use crate::run::read_run;
+use crate::run_command::RunCommand;
+use hb_base::{Identity, Or, Peer, read_identity, read_ip, read_target};
 use std::alloc::Global;
-
-/// What `check` asks: is this peer admitted at this target of this node of this network?
-#[derive(Drop)]
-pub struct Check<'a> {
-    pub node: &'a String,
-    /// None is the network whose name is empty.
-    pub network: Option<&'a String>,
-    pub peer: Peer,
-    pub target: Target,
-}
-
-/// What is asked for.
-#[derive(Drop)]
-pub enum Command<'a> {
-    Check(Check<'a>),
-    Show,
-    Replay(Replay<'a>),
-}
 
 /// `none`, or the text of an identity.
 fn read_identity_or_none(alloc: Global, word: &String) -> Result<Option<Identity>, Or<WordsFault>>
@@ -157,6 +142,16 @@ fn show(words: &[String]) -> Result<Command<'_>, Or<WordsFault>>
     }
 }
 
+/// Behind `replay` and `serve`: their options and flags.
+fn run(command: RunCommand, words: &[String]) -> Result<Command<'_>, Or<WordsFault>>
+    ensures { Answers (commanded result) (ran command (run_of command (map string_bytes words.now))) }
+{
+    match read_run(command, words) {
+        Ok(asked) => Ok(asked),
+        Err(fault) => Err(Or::Fault(WordsFault::Run(command, fault))),
+    }
+}
+
 /// What the words ask for.
 ///
 /// Errors: the first fault, word by word, and then of what isn't there; and `NoMemory`.
@@ -177,11 +172,11 @@ pub fn read_words(alloc: Global, words: &[String]) -> Result<Command<'_>, Or<Wor
     if command.as_bytes() == b"show".as_slice() {
         return show(rest);
     }
-    if command.as_bytes() != b"replay".as_slice() {
-        return Err(Or::Fault(WordsFault::UnknownCommand));
+    if command.as_bytes() == b"replay".as_slice() {
+        return run(RunCommand::Replay, rest);
     }
-    match read_replay(rest) {
-        Ok(replay) => Ok(Command::Replay(replay)),
-        Err(fault) => Err(Or::Fault(WordsFault::Replay(fault))),
+    if command.as_bytes() == b"serve".as_slice() {
+        return run(RunCommand::Serve, rest);
     }
+    Err(Or::Fault(WordsFault::UnknownCommand))
 }

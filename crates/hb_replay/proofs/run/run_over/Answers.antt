@@ -1,21 +1,14 @@
-use Rattle.std.proofs.Common.{ap, sym, ◌∙◌, ◌||◌, not, Some}
-use Rattle.hb_replay.proofs.Runs.{ran}
+use Rattle.std.proofs.Common.{ap, sym, ◌∙◌, Some}
+use Rattle.hb_words.specs.AskedRun.{replay_seen}
+use Rattle.hb_replay.proofs.Runs.{replayed}
 use Rattle.hb_replay.proofs.run.run_over.Goals as goal
 
-pub returns-in-Stopped-clause-runs : goal.returns-in-Stopped-clause-runs
-returns-in-Stopped-clause-runs c =
-    let told = c.serve-served.result in
-    ran _ _ _ _ told _ c.in_ok-words_of.ensures (c.serve-served.ensures.served (ap Some c.requires)) c.in-Stopped.is
-    (sym (ap (λ b. (told.wanting || told.unkept) || not b) c.keeps.ensures) ∙ c.if-served-keeps.false)
+pub returns-in-Some-clause-runs : goal.returns-in-Some-clause-runs
+returns-in-Some-clause-runs c =
+    (replayed (replay_seen c.args.words.now) _ _ _ _ _ c.in_ok-serve_words.ensures (c.serve-served.ensures.served (ap Some c.requires))
+    (sym c.ended_as.ensures ∙ c.in-Some.is) (sym c.keeps.ensures ∙ c.if-not-keeps.false)).0
 
-pub returns-in-WorldFault-clause-runs : goal.returns-in-WorldFault-clause-runs
-returns-in-WorldFault-clause-runs c =
-    let told = c.serve-served.result in
-    ran _ _ _ _ told _ c.in_ok-words_of.ensures (c.serve-served.ensures.served (ap Some c.requires)) c.in-WorldFault.is
-    (sym (ap (λ b. (told.wanting || told.unkept) || not b) c.keeps.ensures) ∙ c.if-served-keeps.false)
-
-pub returns-in-TurnsSpent-clause-runs : goal.returns-in-TurnsSpent-clause-runs
-returns-in-TurnsSpent-clause-runs c =
-    let told = c.serve-served.result in
-    ran _ _ _ _ told _ c.in_ok-words_of.ensures (c.serve-served.ensures.served (ap Some c.requires)) c.in-TurnsSpent.is
-    (sym (ap (λ b. (told.wanting || told.unkept) || not b) c.keeps.ensures) ∙ c.if-served-keeps.false)
+pub returns-in-Some-clause-totals : goal.returns-in-Some-clause-totals
+returns-in-Some-clause-totals c =
+    (replayed (replay_seen c.args.words.now) _ _ _ _ _ c.in_ok-serve_words.ensures (c.serve-served.ensures.served (ap Some c.requires))
+    (sym c.ended_as.ensures ∙ c.in-Some.is) (sym c.keeps.ensures ∙ c.if-not-keeps.false)).1

@@ -8,7 +8,7 @@ returns-in-None-clause-keeps g c = λ trace s.
     let m = s.matches in
     let it = c.in-None.ensures.hears m.notes trace m.node in
     record {
-      matches = record { notes = m.notes; node = it.0; kept_are = m.kept_are; obeys = m.obeys };
+      matches = record { notes = m.notes; node = it.0; taken_are = m.taken_are; obeys = m.obeys };
       watched = watched-unheard (kept c.args.run.now.records.links) trace (g.N.Node.shown c.args.run.now.node)
           (g.N.Node.shown c.next_stirred.new.self) m.obeys.links it.1 c.next_stirred.ensures.same s.watched;
       going = c.next_stirred.ensures.same.ends_for ∙ s.going;
@@ -23,13 +23,14 @@ returns-in-Some-clause-keeps g c = λ trace s.
       matches = record {
         notes = m.notes;
         node = it.0;
-        kept_are = m.kept_are;
+        taken_are = m.taken_are;
         obeys = record {
           links = λ l. c.list.ensures.links l ∙ o.links l;
           doors = o.doors;
           numbered = o.numbered;
           births_are = o.births_are;
           wanting_is = o.wanting_is;
+          revoked_are = o.revoked_are;
           awake = o.awake;
           settled = o.settled;
         };

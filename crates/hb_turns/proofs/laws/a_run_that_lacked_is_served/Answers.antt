@@ -44,5 +44,6 @@ returns g c = λ to why notes n keep free starts.
       };
       links_are = refl;
       wanting_is = refl;
+      revoked_are = refl;
       noted = λ other kept. absurd (other refl);
     }

@@ -16,7 +16,7 @@ returns-in_ok-opened-in-Opened-clause-keeps g c = λ idle had.
     moved g.N.Node.stands g.N.Node.shown c.args.run.now
     (record c.args.run.now { node = c.opened-in-Opened.new.self; records = record c.args.run.now.records { links = c.opened.new.self } })
     (e.Opened c.args.link) (Stands g.N.Node.stands g.N.Node.shown c.args.run.now) (g.W.World.trace c.args.world.now) _ c.in-Opened.ensures.adds refl
-    (c.in_ok-opened-in-Opened.ensures {u = tt}) (record { links = c.opened.ensures.follows; doors = λ d. refl; births_are = refl; wanting_is = refl })
+    (c.in_ok-opened-in-Opened.ensures {u = tt}) (record { links = c.opened.ensures.follows; doors = λ d. refl; births_are = refl; wanting_is = refl; revoked_are = refl })
     (watched-opened (kept c.args.run.now.records.links) (kept c.opened.new.self) (g.N.Node.shown c.args.run.now.node) c.args.link
     c.opened.ensures.follows c.opened.ensures.lists)
     (opened_comes g.N.Node.stands g.N.Node.shown c.args.run.now c.args.link idle.idle may) had
@@ -27,7 +27,7 @@ returns-in_err-opened-in-Opened-clause-keeps g c = λ idle had.
     c.may_finish.ensures.may c.if-not-may_finish.false in
     left g.N.Node.stands g.N.Node.shown c.from_residual.result _ _ (search rules)
     (lacked g.N.Node.stands g.N.Node.shown c.args.run.now (record c.args.run.now.records { links = c.opened.new.self })
-    (e.Opened c.args.link) (Stands g.N.Node.stands g.N.Node.shown c.args.run.now) (g.W.World.trace c.args.world.now) _ c.in-Opened.ensures.adds (record { links = c.opened.ensures.follows; doors = λ d. refl; births_are = refl; wanting_is = refl })
+    (e.Opened c.args.link) (Stands g.N.Node.stands g.N.Node.shown c.args.run.now) (g.W.World.trace c.args.world.now) _ c.in-Opened.ensures.adds (record { links = c.opened.ensures.follows; doors = λ d. refl; births_are = refl; wanting_is = refl; revoked_are = refl })
     (opened_comes g.N.Node.stands g.N.Node.shown c.args.run.now c.args.link idle.idle may) had)
 
 pub returns-in-Balked-clause-keeps : goal.returns-in-Balked-clause-keeps
@@ -37,7 +37,7 @@ returns-in-Balked-clause-keeps g c = λ idle had.
     rested g.N.Node.stands g.N.Node.shown c.args.run.now
     (record c.args.run.now { records = record c.args.run.now.records { links = c.finish_balked.new.self } })
     (e.Balked (way.Finish c.args.link)) (Stands g.N.Node.stands g.N.Node.shown c.args.run.now) (g.W.World.trace c.args.world.now) _ c.in-Balked.ensures.adds refl refl
-    (λ notes trace. g.met.N.Node.rests notes c.args.run.now.node trace (e.Balked (way.Finish c.args.link))) (record { links = c.finish_balked.ensures.follows; doors = λ d. refl; births_are = refl; wanting_is = refl })
+    (λ notes trace. g.met.N.Node.rests notes c.args.run.now.node trace (e.Balked (way.Finish c.args.link))) (record { links = c.finish_balked.ensures.follows; doors = λ d. refl; births_are = refl; wanting_is = refl; revoked_are = refl })
     (watched-finish (kept c.args.run.now.records.links) (kept c.finish_balked.new.self) (g.N.Node.shown c.args.run.now.node) c.args.link
     c.finish_balked.ensures.follows c.finish_balked.ensures.stays.listed)
     (finish_balks g.N.Node.stands g.N.Node.shown c.args.run.now c.args.link idle.idle may) had

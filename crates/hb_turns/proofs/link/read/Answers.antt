@@ -20,7 +20,7 @@ returns-in-End-clause-keeps g c = λ idle had.
     subst (λ (r : Records). MayRead ((kept r.links).links c.args.link)) (sym c.read_into.ensures.records) may in
     let now : (g.N.Node.shown mid.node).idle ≡ true = ap (λ n. (g.N.Node.shown n).idle) c.read_into.ensures.node ∙ idle.idle in
     let had_mid = same_run g.N.Node.stands g.N.Node.shown c.args.run.now mid (g.W.World.trace c.args.world.now) c.read_into.ensures.node
-    c.read_into.ensures.records c.read_into.ensures.keep had in
+    c.read_into.ensures.records c.read_into.ensures.taken had in
     let some : 0 < (g.N.Node.shown mid.node).wants c.args.link = search rules in
     moved g.N.Node.stands g.N.Node.shown mid (record mid { node = c.ended.new.self }) (e.Ended c.args.link) (Stands g.N.Node.stands g.N.Node.shown mid) (g.W.World.trace c.args.world.now) _ c.in-End.ensures.adds refl
     c.ended.ensures (ended_tracks mid.records c.args.link may_mid) (λ watched. watched)
@@ -35,10 +35,10 @@ returns-in-Balked-clause-keeps g c = λ idle had.
     subst (λ (r : Records). MayRead ((kept r.links).links c.args.link)) (sym c.read_into.ensures.records) may in
     let now : (g.N.Node.shown mid.node).idle ≡ true = ap (λ n. (g.N.Node.shown n).idle) c.read_into.ensures.node ∙ idle.idle in
     let had_mid = same_run g.N.Node.stands g.N.Node.shown c.args.run.now mid (g.W.World.trace c.args.world.now) c.read_into.ensures.node
-    c.read_into.ensures.records c.read_into.ensures.keep had in
+    c.read_into.ensures.records c.read_into.ensures.taken had in
     rested g.N.Node.stands g.N.Node.shown mid (record mid { records = record mid.records { links = c.read_balked.new.self } })
     (e.Balked (way.Read c.args.link)) (Stands g.N.Node.stands g.N.Node.shown mid) (g.W.World.trace c.args.world.now) _ c.in-Balked.ensures.adds refl refl
-    (λ notes trace. g.met.N.Node.rests notes mid.node trace (e.Balked (way.Read c.args.link))) (record { links = c.read_balked.ensures.follows; doors = λ d. refl; births_are = refl; wanting_is = refl })
+    (λ notes trace. g.met.N.Node.rests notes mid.node trace (e.Balked (way.Read c.args.link))) (record { links = c.read_balked.ensures.follows; doors = λ d. refl; births_are = refl; wanting_is = refl; revoked_are = refl })
     (watched-read (kept mid.records.links) (kept c.read_balked.new.self) (g.N.Node.shown mid.node) c.args.link
     c.read_balked.ensures.follows c.read_balked.ensures.stays.listed)
     (read_balks g.N.Node.stands g.N.Node.shown mid c.args.link now may_mid (search rules)) had_mid
@@ -52,7 +52,7 @@ returns-in-Failed-clause-keeps g c = λ idle had.
     subst (λ (r : Records). MayRead ((kept r.links).links c.args.link)) (sym c.read_into.ensures.records) may in
     let now : (g.N.Node.shown mid.node).idle ≡ true = ap (λ n. (g.N.Node.shown n).idle) c.read_into.ensures.node ∙ idle.idle in
     let had_mid = same_run g.N.Node.stands g.N.Node.shown c.args.run.now mid (g.W.World.trace c.args.world.now) c.read_into.ensures.node
-    c.read_into.ensures.records c.read_into.ensures.keep had in
+    c.read_into.ensures.records c.read_into.ensures.taken had in
     moved g.N.Node.stands g.N.Node.shown mid (record mid { node = c.broke.new.self }) (e.Broke c.args.link) (Stands g.N.Node.stands g.N.Node.shown mid) (g.W.World.trace c.args.world.now) _ c.in-Failed.ensures.adds refl
     c.broke.ensures (unmoved mid.records (e.Broke c.args.link) tt) (λ watched. watched)
     (read_breaks g.N.Node.stands g.N.Node.shown mid c.args.link now may_mid) had_mid
@@ -61,7 +61,7 @@ pub returns-in-NoMemory-clause-keeps : goal.returns-in-NoMemory-clause-keeps
 returns-in-NoMemory-clause-keeps g c = λ idle had.
     untold g.N.Node.stands g.N.Node.shown c.read_into.new.run (g.W.World.trace c.args.world.now) _ c.in-NoMemory.ensures.adds
     (same_run g.N.Node.stands g.N.Node.shown c.args.run.now c.read_into.new.run (g.W.World.trace c.args.world.now)
-    c.read_into.ensures.node c.read_into.ensures.records c.read_into.ensures.keep had)
+    c.read_into.ensures.node c.read_into.ensures.records c.read_into.ensures.taken had)
 
 pub returns-in_ok-take_bytes-in-Got-clause-keeps : goal.returns-in_ok-take_bytes-in-Got-clause-keeps
 returns-in_ok-take_bytes-in-Got-clause-keeps g c = λ idle had.
@@ -72,7 +72,7 @@ returns-in_ok-take_bytes-in-Got-clause-keeps g c = λ idle had.
     subst (λ (r : Records). MayRead ((kept r.links).links c.args.link)) (sym c.read_into.ensures.records) may in
     let now : (g.N.Node.shown mid.node).idle ≡ true = ap (λ n. (g.N.Node.shown n).idle) c.read_into.ensures.node ∙ idle.idle in
     let had_mid = same_run g.N.Node.stands g.N.Node.shown c.args.run.now mid (g.W.World.trace c.args.world.now) c.read_into.ensures.node
-    c.read_into.ensures.records c.read_into.ensures.keep had in
+    c.read_into.ensures.records c.read_into.ensures.taken had in
     let within : c.min-most.result ≤ c.wants-wanted.result = search rules in
     let wanted : c.wants-wanted.result ≡ (g.N.Node.shown mid.node).wants c.args.link =
     c.wants-wanted.ensures ∙ ap (λ n. (g.N.Node.shown n).wants c.args.link) (sym c.read_into.ensures.node) in
@@ -95,7 +95,7 @@ returns-in_err-take_bytes-in-Got-clause-keeps g c = λ idle had.
     subst (λ (r : Records). MayRead ((kept r.links).links c.args.link)) (sym c.read_into.ensures.records) may in
     let now : (g.N.Node.shown mid.node).idle ≡ true = ap (λ n. (g.N.Node.shown n).idle) c.read_into.ensures.node ∙ idle.idle in
     let had_mid = same_run g.N.Node.stands g.N.Node.shown c.args.run.now mid (g.W.World.trace c.args.world.now) c.read_into.ensures.node
-    c.read_into.ensures.records c.read_into.ensures.keep had in
+    c.read_into.ensures.records c.read_into.ensures.taken had in
     let within : c.min-most.result ≤ c.wants-wanted.result = search rules in
     let wanted : c.wants-wanted.result ≡ (g.N.Node.shown mid.node).wants c.args.link =
     c.wants-wanted.ensures ∙ ap (λ n. (g.N.Node.shown n).wants c.args.link) (sym c.read_into.ensures.node) in

@@ -30,7 +30,7 @@ returns-in-Balked-clause-keeps g c = λ first had.
     rested g.N.Node.stands g.N.Node.shown c.args.run.now
     (record c.args.run.now { records = record c.args.run.now.records { links = c.write_balked.new.self } })
     (e.Balked (way.Write c.args.link)) (Stands g.N.Node.stands g.N.Node.shown c.args.run.now) (g.W.World.trace c.args.world.now) _ c.in-Balked.ensures.adds refl refl
-    (λ notes trace. g.met.N.Node.rests notes c.args.run.now.node trace (e.Balked (way.Write c.args.link))) (record { links = c.write_balked.ensures.follows; doors = λ d. refl; births_are = refl; wanting_is = refl })
+    (λ notes trace. g.met.N.Node.rests notes c.args.run.now.node trace (e.Balked (way.Write c.args.link))) (record { links = c.write_balked.ensures.follows; doors = λ d. refl; births_are = refl; wanting_is = refl; revoked_are = refl })
     (watched-write (kept c.args.run.now.records.links) (kept c.write_balked.new.self) (g.N.Node.shown c.args.run.now.node) c.args.link
     c.write_balked.ensures.follows c.write_balked.ensures.stays.listed)
     (write_balks g.N.Node.stands g.N.Node.shown c.args.run.now c.args.link first may

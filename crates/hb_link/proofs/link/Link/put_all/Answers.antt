@@ -17,37 +17,43 @@ returns-then-not-is_serving g c = λ others limit.
 
 pub loop-from-init : goal.loop-from-init
 loop-from-init g c = λ others limit.
-    let k = c.args.self.now in
-    let serves : serves_in k.phase ≡ true = search rules in
+    let k = c.put_in_turn.new.self in
     let first = c.first_from-from.result in
-    stays others limit (λ held. ⊤) MayPut (PutsBelow (place_of first)) k (g.N.Notes.told c.args.notes.now)
-    (begins k serves first c.first_from-from.ensures.first)
+    stays others limit (λ held. ⊤) (PutsBelow 0 0) (PutsBelow 0 (place_of first)) k (g.N.Notes.told c.put_in_turn.new.notes)
+    (advance k 0 0 first c.first_from-from.ensures.first)
 
 pub loop-from-preserved : goal.loop-from-preserved
 loop-from-preserved g c = λ others limit.
-    let k = c.args.self.now in
+    let k = c.put_in_turn.new.self in
     let mid = c.loop-from.self in
     let next = c.put_on.new.self in
     let s = c.in-Some.stream in
-    let told = g.N.Notes.told c.args.notes.now in
+    let told = g.N.Notes.told c.put_in_turn.new.notes in
     let before = g.N.Notes.told c.loop-from.notes in
     let behind = g.N.Notes.told c.put_on.new.notes in
     let to = c.first_behind-from.result in
-    let reached = subst (λ (from : Option ℕ). AlwaysSettles MayPut (PutsBelow (place_of from)) k told mid before) c.in-Some.is
+    let reached = subst (λ (from : Option ℕ). AlwaysSettles (PutsBelow 0 0) (PutsBelow 0 (place_of from)) k told mid before) c.in-Some.is
     c.loop-from.invariant in
-    settles_then others limit (λ held. ⊤) MayPut (PutsBelow (s + 1)) (PutsBelow (place_of to)) k next next told behind behind
-    (settles_then others limit (λ held. ⊤) MayPut (PutsBelow s) (PutsBelow (s + 1)) k mid next told before behind (reached others limit)
-    (c.put_on.ensures others limit))
-    (stays others limit (λ held. ⊤) (PutsBelow (s + 1)) (PutsBelow (place_of to)) next behind
-    (advance next (s + 1) to c.first_behind-from.ensures))
+    settles_then others limit (λ held. ⊤) (PutsBelow 0 0) (PutsBelow 0 (s + 1)) (PutsBelow 0 (place_of to)) k next next told behind behind
+    (settles_then others limit (λ held. ⊤) (PutsBelow 0 0) (PutsBelow 0 s) (PutsBelow 0 (s + 1)) k mid next told before behind
+    (reached others limit) (c.put_on.ensures 0 others limit))
+    (stays others limit (λ held. ⊤) (PutsBelow 0 (s + 1)) (PutsBelow 0 (place_of to)) next behind
+    (advance next 0 (s + 1) to c.first_behind-from.ensures))
 
 pub returns : goal.returns
 returns g c = λ others limit.
     let k = c.args.self.now in
+    let mid = c.put_in_turn.new.self in
     let last = c.loop-from.self in
     let told = g.N.Notes.told c.args.notes.now in
+    let before = g.N.Notes.told c.put_in_turn.new.notes in
     let now = g.N.Notes.told c.loop-from.notes in
-    let reached = subst (λ (from : Option ℕ). AlwaysSettles MayPut (PutsBelow (place_of from)) k told last now) c.in_default.is
-    c.loop-from.invariant in
-    settles_then others limit (λ held. ⊤) MayPut (PutsBelow (place_of None)) Shows k last last told now now (reached others limit)
-    (stays others limit (λ held. ⊤) (PutsBelow (place_of None)) Shows last now (ends last))
+    let serves : serves_in k.phase ≡ true = search rules in
+    let reached = subst (λ (from : Option ℕ). AlwaysSettles (PutsBelow 0 0) (PutsBelow 0 (place_of from)) mid before last now)
+    c.in_default.is c.loop-from.invariant in
+    settles_then others limit (λ held. ⊤) MayPut (PutsBelow 0 0) Shows k k last told told now
+    (stays others limit (λ held. ⊤) MayPut (PutsBelow 0 0) k told (begins k serves))
+    (settles_then others limit (λ held. ⊤) (PutsBelow 0 0) (PutsBelow 0 0) Shows k mid last told before now
+    (c.put_in_turn.ensures others limit)
+    (settles_then others limit (λ held. ⊤) (PutsBelow 0 0) (PutsBelow 0 (place_of None)) Shows mid last last before now now
+    (reached others limit) (stays others limit (λ held. ⊤) (PutsBelow 0 (place_of None)) Shows last now (ends last))))

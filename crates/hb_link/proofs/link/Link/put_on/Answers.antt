@@ -19,16 +19,16 @@ use Rattle.hb_link.proofs.Settles.{stays}
 use Rattle.hb_link.proofs.link.Link.put_on.Goals as goal
 
 pub returns-in_default : goal.returns-in_default
-returns-in_default g c = λ others limit.
+returns-in_default g c = λ from others limit.
     let k = c.args.self.now in
     let s = c.args.stream in
     let told = g.N.Notes.told c.args.notes.now in
-    subst (λ (tunnels : Map). Settles others limit (λ held. ⊤) (PutsBelow s) (PutsBelow (s + 1)) k told (link_with k.conn tunnels k) told)
-    (sym c.at.follows.holds-at-none)
-    (stays others limit (λ held. ⊤) (PutsBelow s) (PutsBelow (s + 1)) k told (none_on k s c.in_default.ensures.none))
+    subst (λ (tunnels : Map). Settles others limit (λ held. ⊤) (PutsBelow from s) (PutsBelow from (s + 1)) k told
+    (link_with k.conn tunnels k) told) (sym c.at.follows.holds-at-none)
+    (stays others limit (λ held. ⊤) (PutsBelow from s) (PutsBelow from (s + 1)) k told (none_on from k s c.in_default.ensures.none))
 
 pub returns-then-not-lives : goal.returns-then-not-lives
-returns-then-not-lives g c = λ others limit.
+returns-then-not-lives g c = λ from others limit.
     let k = c.args.self.now in
     let s = c.args.stream in
     let old = c.in-Some.tunnel.now in
@@ -36,12 +36,13 @@ returns-then-not-lives g c = λ others limit.
     let never : lives_in old.stage ≡ false = search rules in
     let is = c.at.follows.holds old ∙ written_where_some k.tunnels s old (ap is_some c.in-Some.ensures.value)
     ∙ put_same k.tunnels s old c.in-Some.ensures.value in
-    subst (λ (tunnels : Map). Settles others limit (λ held. ⊤) (PutsBelow s) (PutsBelow (s + 1)) k told (link_with k.conn tunnels k) told)
-    (sym is)
-    (stays others limit (λ held. ⊤) (PutsBelow s) (PutsBelow (s + 1)) k told (other_on k s old c.in-Some.ensures.value never))
+    subst (λ (tunnels : Map). Settles others limit (λ held. ⊤) (PutsBelow from s) (PutsBelow from (s + 1)) k told
+    (link_with k.conn tunnels k) told) (sym is)
+    (stays others limit (λ held. ⊤) (PutsBelow from s) (PutsBelow from (s + 1)) k told
+    (other_on from k s old c.in-Some.ensures.value never))
 
 pub returns-then-is_done : goal.returns-then-is_done
-returns-then-is_done g c =
+returns-then-is_done g c = λ from.
     let k = c.args.self.now in
     let s = c.args.stream in
     let old = c.in-Some.tunnel.now in
@@ -51,10 +52,10 @@ returns-then-is_done g c =
     let two = end_counted mid s one in
     let two_is : c.finish.new.self ≡ two =
     c.finish.ensures.tunnel
-    ∙ ap₂ (λ (d : Connection) (w : Tunnel). end_counted d s w) c.put_bytes.ensures.conn c.put_bytes.ensures.tunnel in
+    ∙ ap₂ (λ (d : Connection) (w : Tunnel). end_counted d s w) c.put_bytes-count.ensures.conn c.put_bytes-count.ensures.tunnel in
     let conn_is : c.finish.new.conn ≡ conn_finished mid s one =
     c.finish.ensures.conn
-    ∙ ap₂ (λ (d : Connection) (w : Tunnel). conn_finished d s w) c.put_bytes.ensures.conn c.put_bytes.ensures.tunnel in
+    ∙ ap₂ (λ (d : Connection) (w : Tunnel). conn_finished d s w) c.put_bytes-count.ensures.conn c.put_bytes-count.ensures.tunnel in
     let test = sym (c.is_done.ensures ∙ ap₂ (λ (d : Connection) (w : Tunnel). is_done_on d s (tunnel_of w)) conn_is two_is) in
     let live = is_live_here old.stage (let lives : lives_in old.stage ≡ true = search rules in lives) in
     let new : Tunnel = record c.finish.new.self { stage = Over cause.Done } in
@@ -62,13 +63,14 @@ returns-then-is_done g c =
     ∙ ap (λ (w : Tunnel). insert k.tunnels s (record w { stage = Over cause.Done })) two_is in
     let now = g.N.Notes.told c.end.new.self in
     let took = subst (λ (w : Tunnel). Takes told (note.End k.number s cause.Done w.went_up w.went_down ∷ []) now) two_is c.end.ensures in
-    subst (λ (tunnels : Map). AlwaysSettles (PutsBelow s) (PutsBelow (s + 1)) k told (link_with c.finish.new.conn tunnels k) now) (sym is)
-    (subst (λ (d : Connection). AlwaysSettles (PutsBelow s) (PutsBelow (s + 1)) k told
+    subst (λ (tunnels : Map). AlwaysSettles (PutsBelow from s) (PutsBelow from (s + 1)) k told (link_with c.finish.new.conn tunnels k) now)
+    (sym is)
+    (subst (λ (d : Connection). AlwaysSettles (PutsBelow from s) (PutsBelow from (s + 1)) k told
     (link_with d (insert k.tunnels s (record two { stage = Over cause.Done })) k) now) (sym conn_is)
-    (last_on k s old told c.in-Some.ensures.value live now took (test ∙ c.if-is_done.true)))
+    (last_on from k s old told c.in-Some.ensures.value live now took (test ∙ c.if-is_done.true)))
 
 pub returns-else-is_done : goal.returns-else-is_done
-returns-else-is_done g c =
+returns-else-is_done g c = λ from.
     let k = c.args.self.now in
     let s = c.args.stream in
     let old = c.in-Some.tunnel.now in
@@ -78,16 +80,17 @@ returns-else-is_done g c =
     let two = end_counted mid s one in
     let two_is : c.finish.new.self ≡ two =
     c.finish.ensures.tunnel
-    ∙ ap₂ (λ (d : Connection) (w : Tunnel). end_counted d s w) c.put_bytes.ensures.conn c.put_bytes.ensures.tunnel in
+    ∙ ap₂ (λ (d : Connection) (w : Tunnel). end_counted d s w) c.put_bytes-count.ensures.conn c.put_bytes-count.ensures.tunnel in
     let conn_is : c.finish.new.conn ≡ conn_finished mid s one =
     c.finish.ensures.conn
-    ∙ ap₂ (λ (d : Connection) (w : Tunnel). conn_finished d s w) c.put_bytes.ensures.conn c.put_bytes.ensures.tunnel in
+    ∙ ap₂ (λ (d : Connection) (w : Tunnel). conn_finished d s w) c.put_bytes-count.ensures.conn c.put_bytes-count.ensures.tunnel in
     let test = sym (c.is_done.ensures ∙ ap₂ (λ (d : Connection) (w : Tunnel). is_done_on d s (tunnel_of w)) conn_is two_is) in
     let live = is_live_here old.stage (let lives : lives_in old.stage ≡ true = search rules in lives) in
     let is = c.at.follows.holds c.finish.new.self
     ∙ written_where_some k.tunnels s c.finish.new.self (ap is_some c.in-Some.ensures.value)
     ∙ ap (λ (w : Tunnel). insert k.tunnels s w) two_is in
-    subst (λ (tunnels : Map). AlwaysSettles (PutsBelow s) (PutsBelow (s + 1)) k told (link_with c.finish.new.conn tunnels k) told) (sym is)
-    (subst (λ (d : Connection). AlwaysSettles (PutsBelow s) (PutsBelow (s + 1)) k told (link_with d (insert k.tunnels s two) k) told)
-    (sym conn_is)
-    (some_on k s old told c.in-Some.ensures.value live (test ∙ c.if-is_done.false)))
+    subst (λ (tunnels : Map). AlwaysSettles (PutsBelow from s) (PutsBelow from (s + 1)) k told (link_with c.finish.new.conn tunnels k) told)
+    (sym is)
+    (subst (λ (d : Connection). AlwaysSettles (PutsBelow from s) (PutsBelow from (s + 1)) k told
+    (link_with d (insert k.tunnels s two) k) told) (sym conn_is)
+    (some_on from k s old told c.in-Some.ensures.value live (test ∙ c.if-is_done.false)))

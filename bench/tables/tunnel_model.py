@@ -1,0 +1,870 @@
+"""A second, plain model of `hbone replay --inbound`: words and the text of a script in, status, output and error text out.
+
+It is written from the pages alone (docs/COMMANDS.md, FORMATS.md, LAWS.md, DECISIONS.md, POLICIES.md, RFC 9113, RFC 7541, the PROXY
+protocol's text), and shares nothing with the program. What it has in common with runs of the control plane alone is in
+replay_model.py. What the pages leave open is a `Choice`; a report that is the same by every choice is determined by the pages.
+
+    sys.path.insert(0, "bench/tables"); import tunnel_model; tunnel_model.replay(words, script)
+"""
+import collections
+import ipaddress
+import re
+
+import replay_model as model
+from replay_model import ADDRESS, POLICY, LARGEST, ConnFault, Ends, Fault, frame, pairs_of
+
+# Beside the choices of the control plane's link: the order of links in a round, how much of an upstream is read at once, whether
+# a write of a ring ends where its memory does, the order of an update's notes over links, whether the stream behind the one whose
+# DATA was put last goes first, and how many octets a link may hold that aren't looked at.
+Choice = collections.namedtuple("Choice", [*model.Choice._fields, "backwards", "most", "wraps", "by_link", "fair", "holds"])
+USUAL = Choice(*model.USUAL, False, 16384, False, True, False, 16393)
+OTHERS = [
+    USUAL._replace(share=3, order="wrw"), USUAL._replace(backwards=True), USUAL._replace(most=5000, goes_on=False, order="wwr"),
+    USUAL._replace(share=4, holds=32768), USUAL._replace(share=7, order="wwr"), USUAL._replace(wraps=True, eager=True, fair=True),
+    USUAL._replace(by_link=False, backwards=True, order="wrw")]
+
+RINGS = {"up": 65535, "down": 16384}
+STATUS, GRANT, END, RESET = range(4)
+NO_ERROR, PROTOCOL_ERROR, FLOW_CONTROL_ERROR, STREAM_CLOSED, REFUSED_STREAM, CANCEL, CONNECT_ERROR = 0, 1, 3, 5, 7, 8, 10
+STATUSES = {200: 8, 204: 9, 206: 10, 304: 11, 400: 12, 404: 13, 500: 14}
+SETTINGS = frame(4, 0, 0, bytes.fromhex("000300000064 000600004000"))
+SIGNATURE = bytes.fromhex("0d0a0d0a000d0a515549540a")
+MOST_STREAMS, MOST_LIST = 100, 16384
+
+
+# Addresses, and the header of the front
+
+
+def address_of(octets):
+    ip = ipaddress.ip_address(octets)
+    return getattr(ip, "ipv4_mapped", None) or ip
+
+
+Target = collections.namedtuple("Target", "ip port")
+Peer = collections.namedtuple("Peer", "ip principal namespace")
+
+
+def target_of(text):
+    """The target that a text spells, or None."""
+    told = model.target_text(text) if text.isascii() else None
+    if told is None:
+        return None
+    host, _, port = told.rpartition(":")
+    return Target(ipaddress.ip_address(host.strip("[]")), int(port))
+
+
+def told_target(target):
+    if target is None:
+        return "-"
+    return f"[{target.ip}]:{target.port}" if target.ip.version == 6 else f"{target.ip}:{target.port}"
+
+
+class FrontFault(Exception):
+    """A fault of the header before a connection, by its number."""
+
+
+def read_front(octets):
+    """The header's length, the peer and its destination's address; None where more octets are wanted."""
+    if octets[:12] != SIGNATURE[:len(octets)]:
+        raise FrontFault(1)
+    for at, allowed, number in ((12, b"\x21", 2), (13, b"\x11\x21", 3)):
+        if len(octets) > at and octets[at] not in allowed:
+            raise FrontFault(number)
+    if len(octets) < 16:
+        return None
+    length, size = int.from_bytes(octets[14:16], "big"), 4 if octets[13] == 0x11 else 16
+    if length > 4096:
+        raise FrontFault(6)
+    if length < 2 * size + 4:
+        raise FrontFault(4)
+    if len(octets) < 16 + length:
+        return None
+    values, at = [], 16 + 2 * size + 4
+    while at < 16 + length:
+        end = at + 3 + int.from_bytes(octets[at + 1:at + 3], "big")
+        if at + 3 > 16 + length or end > 16 + length:
+            raise FrontFault(4)
+        values += [octets[at + 3:end]] if octets[at] == 0xe0 else []
+        at = end
+    found = re.fullmatch(rb"spiffe://([\w.-]+/ns/([\w.-]+)/sa/[\w.-]+)", values[0]) if values else None
+    if len(values) > 1 or values and not found:
+        raise FrontFault(5)
+    source = address_of(octets[16:16 + size])
+    peer = Peer(source, *(part.decode() for part in found.groups())) if found else Peer(source, None, None)
+    return 16 + length, peer, address_of(octets[16 + size:16 + 2 * size])
+
+
+# Policies (docs/POLICIES.md)
+
+
+def text_fits(match, text):
+    [(kind, wanted)] = match.items()
+    if text is None:
+        return False
+    return {1: text == wanted, 2: text.startswith(str(wanted)), 3: text.endswith(str(wanted)), 4: text != ""}[kind]
+
+
+def covers(prefix, ip):
+    octets, length = prefix[1], prefix.get(2, 0) & 0xffffffff
+    network = ipaddress.ip_address(octets)
+    if getattr(network, "ipv4_mapped", None) and length >= 96:
+        network, length = network.ipv4_mapped, length - 96
+    shift = network.max_prefixlen - length
+    return network.version == ip.version and int(network) >> shift == int(ip) >> shift
+
+
+def match_is_met(match, peer, target):
+    for number, test in [
+            (1, lambda value: text_fits(value, peer.namespace)), (3, lambda value: text_fits(value, peer.principal)),
+            (5, lambda value: covers(value, peer.ip)), (7, lambda value: covers(value, target.ip)),
+            (9, lambda value: value & 0xffffffff == target.port)]:
+        positive, negative = match.get(number, []), match.get(number + 1, [])
+        if positive and not any(map(test, positive)) or any(map(test, negative)):
+            return False
+    return True
+
+
+def fires(policy, peer, target):
+    return any(all(any(match_is_met(match, peer, target) for match in clause.get(2, [])) for clause in rule.get(2, []))
+               for rule in policy.get(5, []))
+
+
+def counts_for(policy, workload):
+    scope, space = policy.get(3, 0) & 0xffffffff, policy.get(2, "")
+    if scope == 2:
+        return f"{space}/{policy.get(1, '')}" in workload.get(16, [])
+    return scope == 0 or space == workload.get(2, "")
+
+
+def judge(held, asked, peer, target):
+    """200 where the peer is admitted, 404 where the target isn't known, 401 where it is denied."""
+    named = sorted((name.encode(), version.record[1]) for (kind, name), version in held.items()
+                   if kind == ADDRESS and 1 in version.record)
+    at = [workload for _, workload in named if workload.get(4, "") == asked.get("network", "")
+          and target.ip in map(address_of, workload.get(3, []))]
+    if not at or at[0].get(9, "") != asked["node"]:
+        return 404
+    policies = [version.record for (kind, _), version in held.items() if kind == POLICY and counts_for(version.record, at[0])]
+    fired = [[fires(policy, peer, target) for policy in policies if policy.get(4, 0) & 0xffffffff == action] for action in (0, 1)]
+    return 401 if any(fired[1]) or fired[0] and not any(fired[0]) else 200
+
+
+def request_of(headers):
+    """The method and the authority of a request; a Fault where it is malformed (docs/DECISIONS.md, Verdicts)."""
+    known, are_over = {}, False
+    for name, value in headers:
+        if not name or re.search(rb"[A-Z]", name):
+            raise Fault("a name")
+        if name.startswith(b":"):
+            if are_over or name in known or name not in (b":method", b":scheme", b":authority", b":path"):
+                raise Fault("a pseudo-header")
+            known[name] = value
+        else:
+            are_over = True
+    if b":method" not in known:
+        raise Fault("no method")
+    if known[b":method"] == b"CONNECT" and (b":authority" not in known or b":scheme" in known or b":path" in known):
+        raise Fault("CONNECT")
+    return known[b":method"], known.get(b":authority", b"")
+
+
+# An inbound link
+
+
+class Stream:
+    """A stream that is open or half-closed."""
+
+    def __init__(self, sending):
+        self.is_own_open = self.is_peer_open = True
+        self.sending, self.taking, self.owed = sending, 65535, 0
+
+
+class Part(model.Part):
+    """Octets that wait to be written; of DATA its stream, and whether it ends that."""
+
+    def __init__(self, octets, stream=None, is_end=False):
+        super().__init__(octets, stream is not None)
+        self.stream, self.is_end, self.payload = stream, is_end, len(octets) - 9
+
+
+class Tunnel:
+    """`stage` is asked, pending, live; behind its end `cause` says why."""
+
+    def __init__(self, stream, target):
+        self.stream, self.target, self.stage, self.cause = stream, target, "asked", None
+        self.number = None
+        self.rings, self.taken = {"up": b"", "down": b""}, {"up": 0, "down": 0}
+        self.is_peer_ended = self.is_up_ended = self.is_end_put = self.is_end_sent = self.is_shut = False
+
+    def is_live(self):
+        return self.stage == "live" and self.cause is None
+
+    def is_done(self):
+        return self.is_live() and self.is_peer_ended and self.is_end_sent and not self.rings["up"]
+
+    def may_shut(self):
+        return self.is_live() and self.is_peer_ended and not self.rings["up"] and not self.is_shut
+
+
+class Connection(model.Link):
+    """A server's connection (docs/FORMATS.md, HTTP/2 connections)."""
+
+    most_push = 1
+
+    def __init__(self, choice):
+        self.choice, self.parts, self.owes, self.came = choice, [], {}, b""
+        self.block, self.hpack = None, model.Hpack()
+        self.is_begun = self.is_settled = self.is_told = False
+        self.streams, self.highest, self.resets = {}, 0, collections.deque(maxlen=128)
+        self.initial = self.sending = self.taking = 65535
+        self.owed = 0
+
+    # What is put
+
+    def status_frame(self, stream, status, end):
+        block = bytes([0x80 | STATUSES[status]]) if status in STATUSES else b"\x08\x03" + str(status).encode()
+        block, self.is_told = (b"" if self.is_told else b"\x20") + block, True
+        return frame(1, 4 | end, stream, block)
+
+    def owe(self, stream, kind, content):
+        owes = self.owes.setdefault(stream, {})
+        owes[kind] = owes.get(GRANT, 0) + content if kind == GRANT else content
+        if kind == RESET:
+            owes.pop(END, None)
+            owes.pop(GRANT, None)
+        self.pay(stream)
+
+    def pay(self, only=None):
+        """Puts what is owed, the lowest stream first, up to the first frame that doesn't fit."""
+        for stream in sorted(self.owes) if only is None else [only]:
+            owes = self.owes[stream]
+            for kind in sorted(owes):
+                if self.room() < {STATUS: 17, END: 9}.get(kind, 13):
+                    return
+                content = owes.pop(kind)
+                if kind == STATUS:
+                    self.parts.append(Part(self.status_frame(stream, *content)))
+                elif kind == END:
+                    self.parts.append(Part(frame(0, 1, stream), stream, True))
+                else:
+                    self.parts.append(Part(frame(8 if kind == GRANT else 3, 0, stream, content.to_bytes(4, "big"))))
+            del self.owes[stream]
+
+    def end_side(self, number, side):
+        stream = self.streams[number]
+        setattr(stream, side, False)
+        if not stream.is_own_open and not stream.is_peer_open:
+            del self.streams[number]
+
+    def put_status(self, number, status, end=True):
+        self.owe(number, STATUS, (status, end))
+        if end:
+            self.end_side(number, "is_own_open")
+
+    def put_end(self, number):
+        self.owe(number, END, None)
+        self.end_side(number, "is_own_open")
+
+    def put_reset(self, number, code):
+        self.streams.pop(number, None)
+        self.resets.append(number)
+        self.take_back(number)
+        self.owe(number, RESET, code)
+        self.pay()
+
+    def put_some(self, number, octets):
+        """How many octets one DATA frame takes."""
+        stream = self.streams[number]
+        count = min(len(octets), self.sending, stream.sending, 16384)
+        if self.parts or count <= 0:
+            return 0
+        self.parts.append(Part(frame(0, 0, number, octets[:count]), number))
+        self.sending -= count
+        stream.sending -= count
+        return count
+
+    def take_back(self, number=None):
+        for part in list(self.parts):
+            if part.is_data and not part.is_begun and number in (None, part.stream):
+                self.parts.remove(part)
+                self.sending += part.payload
+                if part.stream in self.streams:
+                    self.streams[part.stream].sending += part.payload
+
+    def waits(self, number=None):
+        """The octets of DATA, of a stream or of all, that wait and haven't begun."""
+        return sum(part.payload for part in self.parts if part.is_data and not part.is_begun and number in (None, part.stream))
+
+    def grant(self, number, count):
+        """Octets of a stream are used up."""
+        stream = self.streams.get(number)
+        if stream and stream.is_peer_open:
+            stream.owed += count
+            if stream.owed >= 32768:
+                self.owe(number, GRANT, stream.owed)
+                stream.taking, stream.owed = stream.taking + stream.owed, 0
+
+    # What comes
+
+    def take(self, octets):
+        self.came += octets
+        try:
+            if not self.is_begun:
+                if len(self.came) < 24:
+                    return
+                if self.came[:24] != model.PREFACE:
+                    raise ConnFault(PROTOCOL_ERROR)
+                self.is_begun, self.came = True, self.came[24:]
+            while self.look():
+                pass
+        except ConnFault as fault:
+            self.take_back()
+            self.owes = {}
+            self.parts.append(Part(frame(7, 0, 0, self.highest.to_bytes(4, "big") + fault.args[0].to_bytes(4, "big"))))
+            raise
+
+    def is_idle(self, number):
+        return number % 2 == 0 or number > self.highest
+
+    def frame(self, kind, flags, number, payload):
+        content = self.check(kind, flags, number, payload)
+        if kind == model.DATA:
+            self.on_data(number, payload, content, flags & 1)
+        elif kind in (model.HEADERS, model.CONTINUATION):
+            self.on_fragment(kind, flags, number, content)
+        elif kind == model.RESET:
+            self.on_reset(number, int.from_bytes(payload, "big"))
+        elif kind == model.SETTINGS and not flags & 1:
+            self.on_settings(payload)
+        elif kind == model.PING and not flags & 1:
+            self.parts.append(Part(frame(6, 1, 0, payload)))
+        elif kind == model.WINDOW:
+            self.on_increment(number, int.from_bytes(payload, "big") & LARGEST)
+
+    def on_data(self, number, payload, content, end):
+        if self.is_idle(number):
+            raise ConnFault(PROTOCOL_ERROR)
+        size = len(payload)
+        if size > self.taking:
+            raise ConnFault(FLOW_CONTROL_ERROR)
+        self.taking, self.owed = self.taking - size, self.owed + size
+        if self.owed >= 32768:
+            self.parts.append(Part(frame(8, 0, 0, self.owed.to_bytes(4, "big"))))
+            self.taking, self.owed = self.taking + self.owed, 0
+        stream = self.streams.get(number)
+        if stream is None:
+            self.check_was_reset(number)
+        elif not stream.is_peer_open:
+            self.stream_fault(number, STREAM_CLOSED)
+        elif size > stream.taking:
+            self.stream_fault(number, FLOW_CONTROL_ERROR)
+        else:
+            stream.taking -= size
+            if end:
+                self.end_side(number, "is_peer_open")
+            self.grant(number, size - len(content))
+            self.told_chunk(number, content, end)
+
+    def check_was_reset(self, number):
+        if number not in self.resets:
+            raise ConnFault(STREAM_CLOSED)
+
+    def on_headers(self, number, block, end):
+        try:
+            headers = self.hpack.headers_of(block)
+        except Fault:
+            raise ConnFault(9) from None
+        if number % 2 == 0:
+            raise ConnFault(PROTOCOL_ERROR)
+        stream = self.streams.get(number)
+        if stream:
+            self.stream_fault(number, PROTOCOL_ERROR if stream.is_peer_open else STREAM_CLOSED)
+        elif not self.is_idle(number):
+            self.check_was_reset(number)
+        else:
+            self.highest = number
+            if len(self.streams) == MOST_STREAMS:
+                self.put_reset(number, REFUSED_STREAM)
+                return
+            self.streams[number] = Stream(self.initial)
+            if end:
+                self.end_side(number, "is_peer_open")
+            self.told_request(number, headers, end)
+
+    def on_reset(self, number, code):
+        if self.is_idle(number):
+            raise ConnFault(PROTOCOL_ERROR)
+        if number in self.streams:
+            del self.streams[number]
+            self.owes.pop(number, None)
+            self.take_back(number)
+            self.pay()
+            self.told_end(number, f"peer reset {code}")
+
+    def on_settings(self, payload):
+        for number, value in pairs_of(payload):
+            if number == 4:
+                if value > LARGEST:
+                    raise ConnFault(FLOW_CONTROL_ERROR)
+                for stream in self.streams:
+                    if self.streams[stream].sending + self.waits(stream) + value - self.initial > LARGEST:
+                        raise ConnFault(FLOW_CONTROL_ERROR)
+                    self.streams[stream].sending += value - self.initial
+                self.initial = value
+        self.parts.append(Part(frame(4, 1, 0)))
+
+    def on_increment(self, number, increment):
+        if number == 0:
+            if increment == 0:
+                raise ConnFault(PROTOCOL_ERROR)
+            if self.sending + self.waits() + increment > LARGEST:
+                raise ConnFault(FLOW_CONTROL_ERROR)
+            self.sending += increment
+            return
+        if self.is_idle(number):
+            raise ConnFault(PROTOCOL_ERROR)
+        stream = self.streams.get(number)
+        if stream is None:
+            return
+        if increment == 0:
+            self.stream_fault(number, PROTOCOL_ERROR)
+        elif stream.sending + self.waits(number) + increment > LARGEST:
+            self.stream_fault(number, FLOW_CONTROL_ERROR)
+        else:
+            stream.sending += increment
+
+    def stream_fault(self, number, code):
+        self.put_reset(number, code)
+        self.told_end(number, f"stream fault {code}")
+
+
+class Inbound(Connection):
+    """The link with its tunnels. `cause` says why it is to be closed."""
+
+    def __init__(self, number, run):
+        super().__init__(run.choice)
+        self.number, self.run, self.tunnels = number, run, {}
+        self.front, self.peer, self.destination, self.cause, self.last_put = b"", None, None, None, 0
+
+    def wants(self):
+        if self.peer is None:
+            return 4112 - len(self.front)
+        return min(super().wants(), self.choice.holds - len(self.came))
+
+    def living(self):
+        return [self.tunnels[number] for number in sorted(self.tunnels) if self.tunnels[number].cause is None]
+
+    # What comes on the link
+
+    def came_bytes(self, octets):
+        try:
+            if self.peer is None:
+                self.front += octets
+                header = read_front(self.front)
+                if header is None:
+                    return
+                size, self.peer, self.destination = header
+                octets, self.front = self.front[size:], b""
+                self.parts.append(Part(SETTINGS))
+            self.take(octets)
+        except FrontFault as fault:
+            self.cause = f"front fault {fault.args[0]}"
+        except ConnFault as fault:
+            self.over(f"conn fault {fault.args[0]}")
+            self.run.world.write(self.number, self.output())
+
+    def over(self, cause, of_tunnels=None):
+        self.cause = cause
+        for tunnel in self.living():
+            self.end(tunnel, of_tunnels or cause)
+
+    def ended(self):
+        if self.peer is None:
+            self.over("front fault 0")
+        else:
+            self.over("peer gone" if self.streams else "done", "peer gone")
+
+    def told_request(self, number, headers, end):
+        target, status = None, 431
+        if sum(len(name) + len(value) + 32 for name, value in headers) <= MOST_LIST:
+            try:
+                method, authority = request_of(headers)
+            except Fault:
+                self.note(number, 0, None)
+                self.put_reset(number, PROTOCOL_ERROR)
+                return
+            status, target = self.answer_to(method, authority)
+        if status != 200:
+            self.refuse(number, status, target)
+        else:
+            self.tunnels[number] = Tunnel(number, target)
+            self.tunnels[number].is_peer_ended = bool(end)
+
+    def answer_to(self, method, authority):
+        """The status, 200 where the target is to be dialled, and the target."""
+        if method != b"CONNECT":
+            return 405, None
+        target = target_of(authority.decode("latin-1"))
+        if target is None or target.ip != self.destination:
+            return 400, target
+        if self.run.kinds != {ADDRESS, POLICY}:
+            return 503, target
+        status = judge(self.run.held, self.run.asked, self.peer, target)
+        return (503 if status == 200 and self.run.is_full() else status), target
+
+    def told_chunk(self, number, octets, end):
+        tunnel = self.tunnels[number]
+        tunnel.rings["up"] += octets
+        assert len(tunnel.rings["up"]) <= RINGS["up"]
+        tunnel.is_peer_ended |= bool(end)
+
+    def told_end(self, number, cause):
+        tunnel = self.tunnels.get(number)
+        if tunnel and tunnel.cause is None:
+            self.end(tunnel, cause)
+
+    # Notes, answers and ends
+
+    def note(self, number, status, target):
+        self.run.notes.append(
+            f"verdict {self.number}/{number} {status} {self.peer.ip} {self.peer.principal or '-'} {told_target(target)}")
+
+    def refuse(self, number, status, target):
+        self.note(number, status, target)
+        self.put_status(number, status)
+        if number in self.streams:
+            self.put_reset(number, NO_ERROR)
+
+    def end(self, tunnel, cause):
+        tunnel.cause = cause
+        if tunnel.stage == "live":
+            self.run.notes.append(
+                f"end {self.number}/{tunnel.stream} {cause} up {tunnel.taken['up']} down {tunnel.taken['down']}")
+            if cause in ("revoked", "up fault") and tunnel.stream in self.streams:
+                self.put_reset(tunnel.stream, CANCEL if cause == "revoked" else CONNECT_ERROR)
+        elif cause in ("revoked", "up fault"):
+            self.refuse(tunnel.stream, 401 if cause == "revoked" else 502, tunnel.target)
+        if tunnel.number is None:
+            del self.tunnels[tunnel.stream]
+
+    def refused_now(self, stage):
+        return [tunnel for tunnel in self.living() if (tunnel.stage == "live") == (stage == "live")
+                and judge(self.run.held, self.run.asked, self.peer, tunnel.target) != 200]
+
+    # Tunnels and their upstreams
+
+    def settle(self):
+        """What follows by itself: tunnels that are done, and what may be put, by rising stream."""
+        living = self.living() if self.cause is None else []
+        if self.choice.fair:
+            living.sort(key=lambda tunnel: tunnel.stream <= self.last_put)
+        for tunnel in living:
+            if tunnel.is_done():
+                self.end(tunnel, "done")
+            elif tunnel.is_live() and not tunnel.is_end_put:
+                count = self.put_some(tunnel.stream, tunnel.rings["down"])
+                self.last_put = tunnel.stream if count else self.last_put
+                tunnel.rings["down"] = tunnel.rings["down"][count:]
+                if tunnel.is_up_ended and not tunnel.rings["down"] and not any(part.stream == tunnel.stream for part in self.parts
+                                                                              if part.is_data):
+                    tunnel.is_end_put = True
+                    self.put_end(tunnel.stream)
+
+    def wrote(self, count):
+        while count:
+            part = self.parts[0]
+            tunnel = self.tunnels.get(part.stream) if part.is_data else None
+            if tunnel and not part.is_begun:
+                tunnel.taken["down"] += part.payload
+            taken = min(count, len(part.octets))
+            part.octets, part.is_begun, count = part.octets[taken:], True, count - taken
+            if not part.octets:
+                self.parts.pop(0)
+                if tunnel and part.is_end:
+                    tunnel.is_end_sent = True
+        self.pay()
+
+    def up_opened(self, tunnel):
+        tunnel.stage = "live"
+        self.note(tunnel.stream, 200, tunnel.target)
+        self.put_status(tunnel.stream, 200, False)
+
+    def up_wrote(self, tunnel, count):
+        tunnel.rings["up"] = tunnel.rings["up"][count:]
+        tunnel.taken["up"] += count
+        self.grant(tunnel.stream, count)
+
+    def up_head(self, tunnel):
+        waits = tunnel.rings["up"]
+        return waits[:RINGS["up"] - tunnel.taken["up"] % RINGS["up"]] if self.choice.wraps else waits
+
+
+class Control(model.Link):
+    """The link to the control plane, which tells of each response."""
+
+    def __init__(self, number, run):
+        super().__init__(number, run.asked["id"], run.asked["discovery"], run.held, run.choice)
+        self.run = run
+
+    def applied(self, url):
+        self.run.kinds.add(url)
+        self.run.judge_all()
+
+
+class World(model.World):
+    """With a door, and sides that are shut."""
+
+    def accept(self, door):
+        if not self.waiting[door]:
+            return None
+        self.waiting[door] -= 1
+        self.births += 1
+        self.trace.append(f"accepted {self.births} {door}")
+        return self.births
+
+    def shut(self, link):
+        self.trace.append(f"shut {link}")
+
+
+class Run:
+    """The proxy over a world, until a stop or a wait that failed."""
+
+    def __init__(self, asked, world, choice):
+        self.asked, self.world, self.choice = asked, world, choice
+        self.held, self.kinds, self.notes = {}, set(), []
+        self.control, self.inbound, self.ups, self.is_tick = None, {}, {}, True
+        self.opened = set()
+
+    def is_full(self):
+        return sum(len(link.living()) for link in self.inbound.values()) >= self.asked.get("tunnels", 4096)
+
+    def run(self):
+        if self.asked.get("inbound") and self.world.lines and self.world.lines[0].get("fault") == "listen":
+            return "world fault"
+        self.acts()
+        while True:
+            while self.round():
+                pass
+            waited = self.world.wait()
+            if waited in ("stop", "fault"):
+                self.stop()
+                return "stopped" if waited == "stop" else "world fault"
+            self.is_tick = waited == "tick"
+            self.acts()
+
+    def stop(self):
+        self.is_tick = False
+        if self.control:
+            self.close_control("stopped")
+        for number in sorted(self.inbound):
+            if self.inbound[number].cause is None:
+                self.inbound[number].over("stopped")
+        self.acts()
+
+    # An update
+
+    def judge_all(self):
+        links = [self.inbound[number] for number in sorted(self.inbound) if self.inbound[number].peer]
+        stages = [(link, stage) for link in links for stage in ("pending", "live")]
+        if not self.choice.by_link:
+            stages.sort(key=lambda pair: pair[1] == "live")
+        ends = {pair: pair[0].refused_now(pair[1]) for pair in stages}
+        for link, stage in stages:
+            for tunnel in ends[link, stage]:
+                link.end(tunnel, "revoked")
+
+    # Acts
+
+    def acts(self):
+        """Dials, shuts and closes that are due: the control plane's, then by link and by rising stream."""
+        if self.is_tick and self.control is None:
+            number = self.world.dial(self.asked["discovery"])
+            self.control = Control(number, self) if number else None
+        self.is_tick = False
+        for number in sorted(self.inbound):
+            link = self.inbound[number]
+            while self.act(link):
+                pass
+
+    def act(self, link):
+        """Makes the link's first act, if one is due."""
+        link.settle()
+        for number in sorted(link.tunnels):
+            tunnel = link.tunnels[number]
+            if tunnel.cause is not None:
+                self.close(tunnel.number, tunnel.cause)
+                del link.tunnels[number], self.ups[tunnel.number]
+                return True
+            if tunnel.stage == "asked":
+                self.dial(link, tunnel)
+                return True
+            if tunnel.may_shut():
+                tunnel.is_shut = True
+                self.world.shut(tunnel.number)
+                return True
+        if link.cause is not None and link.number in self.inbound:
+            self.close(link.number, link.cause)
+            del self.inbound[link.number]
+        return False
+
+    def dial(self, link, tunnel):
+        target = told_target(tunnel.target)
+        tunnel.number = self.world.dial(target)
+        tunnel.stage = "pending"
+        if tunnel.number is None:
+            link.end(tunnel, "up fault")
+        else:
+            self.ups[tunnel.number] = link, tunnel
+            self.world.whys[tunnel.number] = f"upstream {target} of {link.number}/{tunnel.stream}"
+
+    def close(self, number, cause):
+        self.world.close(number, cause)
+
+    def close_control(self, cause):
+        self.close(self.control.number, cause)
+        self.control = None
+
+    # Rounds
+
+    def round(self):
+        """Whether something moved."""
+        before = len(self.world.trace)
+        if not self.choice.backwards:
+            self.accept()
+        numbers = sorted([*self.inbound, *self.ups, *([self.control.number] if self.control else [])], reverse=self.choice.backwards)
+        for number in numbers:
+            self.visit(number)
+        if self.choice.backwards:
+            self.accept()
+        return len(self.world.trace) > before
+
+    def accept(self):
+        number = self.world.accept("inbound") if self.asked.get("inbound") else None
+        if number:
+            self.inbound[number] = Inbound(number, self)
+
+    def visit(self, number):
+        is_dialled = number in self.ups or self.control is not None and self.control.number == number
+        if is_dialled and number not in self.opened:
+            self.finish(number)
+            self.acts()
+            if number not in self.opened or not self.choice.goes_on:
+                return
+        for way in self.choice.order:
+            for links, calls in ((self.inbound, (self.read, self.write)), (self.ups, (self.read_up, self.write_up))):
+                if number in links:
+                    calls["rw".index(way)](links[number])
+                    self.acts()
+            if self.control and self.control.number == number:
+                (self.read_control if way == "r" else self.write_control)(self.control)
+                self.acts()
+
+    def finish(self, number):
+        answer = self.world.finish(number)
+        if answer == "open":
+            self.opened.add(number)
+            if number in self.ups:
+                self.ups[number][0].up_opened(self.ups[number][1])
+        elif answer and number in self.ups:
+            self.ups[number][0].end(self.ups[number][1], "up fault")
+        elif answer:
+            self.close_control("broken")
+
+    def read_control(self, link):
+        came = self.world.read(link.number, link.wants()) if link.wants() else None
+        if came in ("end", "broke"):
+            self.close_control("broken")
+        elif came:
+            try:
+                link.take(came)
+            except Ends as end:
+                self.close_control(end.args[0])
+            except ConnFault as fault:
+                self.world.write(link.number, link.output())
+                self.close_control(f"conn fault {fault.args[0]}")
+
+    def write_control(self, link):
+        went = self.world.write(link.number, link.output()) if link.output() else 0
+        if went == "broke":
+            self.close_control("broken")
+        elif went:
+            link.wrote(went)
+
+    def read(self, link):
+        came = self.world.read(link.number, link.wants()) if link.wants() > 0 else None
+        if came == "end":
+            link.ended()
+        elif came == "broke":
+            link.over("broken", "peer gone")
+        elif came:
+            link.came_bytes(came)
+
+    def write(self, link):
+        went = self.world.write(link.number, link.output()) if link.output() else 0
+        if went == "broke":
+            link.over("broken", "peer gone")
+        elif went:
+            link.wrote(went)
+
+    def read_up(self, pair):
+        link, tunnel = pair
+        room = RINGS["down"] - len(tunnel.rings["down"])
+        if tunnel.is_up_ended or not room:
+            return
+        came = self.world.read(tunnel.number, min(room, self.choice.most))
+        if came == "end":
+            tunnel.is_up_ended = True
+        elif came == "broke":
+            link.end(tunnel, "up fault")
+        elif came:
+            tunnel.rings["down"] += came
+
+    def write_up(self, pair):
+        link, tunnel = pair
+        head = link.up_head(tunnel)
+        went = self.world.write(tunnel.number, head) if head else 0
+        if went == "broke":
+            link.end(tunnel, "up fault")
+        elif went:
+            link.up_wrote(tunnel, went)
+
+
+# Reports
+
+
+def report(asked, world, notes):
+    links, octets = {}, collections.Counter()
+    for entry in world.trace:
+        word, _, rest = entry.partition(" ")
+        link, _, rest = rest.partition(" ")
+        if word in ("accepted", "dialled"):
+            links[link] = [rest if word == "accepted" else world.whys.get(int(link), f"discovery {rest}"), "open"]
+        elif word == "closed":
+            links[link][1] = f"closed {rest}"
+        elif word in ("came", "went"):
+            octets[word, link] += len(rest) // 2
+    lines = list(world.trace) if asked.get("trace") else []
+    for link, (what, closed) in links.items():
+        lines.append(f"link {link} {what}: received {octets['came', link]}, sent {octets['went', link]}, {closed}")
+    ends = [note.split() for note in notes if note.startswith("end")]
+    accepted = sum(note.startswith("verdict") and note.split()[2] == "200" for note in notes)
+    revoked = sum(what.split()[0] in ("discovery", "upstream") and closed == "closed revoked" for what, closed in links.values())
+    up, down = (sum(int(words[at]) for words in ends) for at in (-3, -1))
+    lines += [*notes, f"total: {len(links)} links, {accepted} accepted, {revoked} revoked, {up} up, {down} down"]
+    return "".join(line + "\n" for line in (lines[-1:] if asked.get("brief") else lines))
+
+
+def replay(words, script, choice=USUAL):
+    """Status, output and error text of `hbone replay` with these words behind it, over the text of a script."""
+    asked = model.read_words(words)
+    world = World(model.read_script(script))
+    world.whys = {}
+    run = Run(asked, world, choice)
+    end = run.run()
+    status, error = {"stopped": (0, ""), "world fault": (4, "hbone: world fault\n")}[end]
+    return status, report(asked, world, run.notes), error
+
+
+def is_determined(words, script):
+    """Whether the report is the same by every choice."""
+    return all(replay(words, script, choice) == replay(words, script) for choice in OTHERS)

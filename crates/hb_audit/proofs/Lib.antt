@@ -1,0 +1,2 @@
+mod LeftLemmas
+pub mod TellsLemmas

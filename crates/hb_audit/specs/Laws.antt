@@ -1,0 +1,19 @@
+-- What is left of audits once several notes were told to them.
+use Rattle.std.specs.Prelude.{◌≡◌, ◌⊎◌, ⊤, List, [], ◌∷◌, ◌++◌, map, Option}
+use Rattle.std.specs.Option.{option_map}
+use Rattle.hb_base.specs.declared.note.Note.{Note}
+use Rattle.hb_audit.specs.Tells.{Tells}
+
+-- the first list's items stand in the second one, in their order, with others between them
+abbrev pub StandIn : {A : Type 0} → List A → List A → Type 0
+StandIn [] ys = ⊤
+StandIn (x ∷ xs) [] = ⊥
+StandIn (x ∷ xs) (y ∷ ys) = ((x ≡ y) × StandIn xs ys) ⊎ StandIn (x ∷ xs) ys
+
+-- what an audit held, followed by all of these notes, where it tells its notes
+abbrev pub followed_by_all : List Note → Option (List Note) → Option (List Note)
+followed_by_all notes held = option_map (λ before. before ++ notes) held
+
+-- each audit that is left was one before, in the same order, and holds what it held, followed by all notes that were told
+abbrev pub LeftHoldAll : Type 0
+LeftHoldAll = (old new : List (Option (List Note))) (notes : List Note) → Tells old new notes → StandIn new (map (followed_by_all notes) old)

@@ -1,0 +1,5 @@
+pub mod Held
+pub mod HeldBy
+pub mod Laws
+pub mod MemAudit
+pub mod Tells

@@ -1,0 +1,73 @@
+//! Audits in a row, of which those that fail are dropped.
+
+ghost use Rattle.std.specs.Prelude.{◌≡◌, ◌+◌, ◌↔◌, [], Some, IsTrue, length, map, slice_get};
+ghost use Rattle.std.specs.Option.{option_and_then};
+ghost use Rattle.hb_audit.specs.Held.{note_at};
+ghost use Rattle.hb_audit.specs.HeldBy.{held_by, TellsEach};
+ghost use Rattle.hb_audit.specs.Tells.{TellsOne};
+
+use crate::audit::{Audit, Noted};
+use hb_base::Note;
+use std::alloc::Global;
+
+/// Audits to which each note is told, in order: boxes, as `Audits<Box<dyn Audit>>`, or audits of one type.
+#[derive(Drop)]
+pub struct Audits<A> {
+    audits: Vec<A>,
+}
+
+impl<A: Audit> Audits<A> {
+    /// These audits.
+    pub fn over(audits: Vec<A>) -> Audits<A>
+        ensures { held_by A.notes result ≡ map A.notes audits.items }
+    {
+        Audits { audits }
+    }
+
+    /// No audit, which takes no memory.
+    pub fn none(alloc: Global) -> Audits<A>
+        ensures { held_by A.notes result ≡ [] }
+    {
+        Audits {
+            audits: Vec::new(alloc),
+        }
+    }
+
+    /// How many audits there are.
+    pub fn len(&self) -> usize
+        ensures { result ≡ length (held_by A.notes self.now) }
+    {
+        self.audits.len()
+    }
+
+    /// Whether the audit at place `which` tells its notes and the one at `place` is `n`, both counted from 0. False where there is
+    /// no such audit.
+    pub fn holds(&self, which: usize, place: usize, n: &Note) -> bool
+        ensures { IsTrue result ↔ option_and_then (λ held. note_at held place) (slice_get (held_by A.notes self.now) which) ≡ Some n.now }
+    {
+        match self.audits.get(which) {
+            Some(audit) => audit.holds(place, n),
+            None => false,
+        }
+    }
+
+    /// Tells each audit a note. One that did not keep it is dropped; the others stay in their order. How many were dropped.
+    pub fn tell(&mut self, n: &Note) -> usize
+        ensures own { TellsEach A.notes A.may_answer self.old self.new n.now }
+        ensures one { TellsOne (held_by A.notes self.old) (held_by A.notes self.new) n.now }
+        ensures dropped { length (held_by A.notes self.new) + result ≡ length (held_by A.notes self.old) }
+    {
+        let mut dropped = 0;
+        let mut at = 0;
+        while at < self.audits.len() {
+            match self.audits[at].note(n) {
+                Noted::Kept => at += 1,
+                Noted::Failed | Noted::NoMemory => {
+                    self.audits.remove(at);
+                    dropped += 1;
+                }
+            }
+        }
+        dropped
+    }
+}

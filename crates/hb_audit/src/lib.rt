@@ -1,0 +1,14 @@
+//! Audits, boxed, to which each note of a run is told: of an answer to a request, and of the end of a tunnel.
+#![tactic(auto)]
+
+mod audit;
+mod audits;
+mod boxed;
+mod laws;
+mod mem_audit;
+mod same;
+
+pub use audit::{Audit, Noted};
+pub use audits::Audits;
+pub use laws::audits_that_are_left_hold_all_notes;
+pub use mem_audit::MemAudit;

@@ -1,0 +1,87 @@
+//! `serve`: a run of the proxy over a world, and the line of its totals.
+
+ghost use Rattle.std.specs.Prelude.{◌≡◌, ◌≤◌, Some, IsErr, IfOk};
+ghost use Rattle.hb_report.specs.Total.{total_line};
+ghost use Rattle.hb_words.specs.AskedRun.{serve_seen};
+ghost use Rattle.hb_replay.specs.End.{ended_as};
+ghost use Rattle.hb_cli.specs.Ending.{use_of};
+ghost use Rattle.hb_cli.specs.Serving.{Worked, Unused, PrintsRun, ServesAt, world_use};
+
+use crate::answer::{Printed, end_run, print_text};
+use crate::telling::tell;
+use hb_base::{NoMemory, Sink};
+use hb_replay::{Replayed, ended_as, serve_words};
+use hb_report::put_total;
+use hb_serve::serve;
+use hb_turns::{Keep, Served};
+use hb_words::Serve;
+use hb_world::World;
+use std::alloc::Global;
+
+/// Runs the proxy over a world. Its notes aren't kept.
+///
+/// Errors: `NoMemory`, and then no call was made on the world.
+fn serve_over<W: World>(alloc: Global, words: &Serve<'_>, world: &mut W) -> Result<Served, NoMemory>
+    ensures worked { IfOk result (λ told. Worked (serve_seen words.now)
+        (world_use (W.trace world.old) (W.trace world.new) (W.faults world.old) (W.faults world.new)) told) }
+    ensures unused { IsErr result
+        → Unused (world_use (W.trace world.old) (W.trace world.new) (W.faults world.old) (W.faults world.new)) }
+    ensures follows { W.script world.new ≡ W.script world.old }
+{
+    let asked = serve_words(alloc, &words.run, words.ticks)?;
+    Ok(serve(alloc, asked, &mut Keep::none(), world))
+}
+
+/// How a run ended, and its total line.
+///
+/// Errors: `NoMemory`, so where it lacked in the run.
+fn told_of(alloc: Global, served: &Served) -> Result<Replayed, NoMemory>
+    ensures end { IfOk result (λ told. ended_as served.now ≡ Some told.end) }
+    ensures line { IfOk result (λ told. told.report.items ≡ total_line served.now.totals) }
+{
+    let Some(end) = ended_as(served) else {
+        return Err(NoMemory);
+    };
+    let mut report = Vec::new(alloc);
+    put_total(alloc, &served.totals, &mut report)?;
+    Ok(Replayed { end, report })
+}
+
+/// Prints the total line of a run, and tells how it ended. Gives the status.
+fn print_total<K: Sink, E: Sink>(told: &Replayed, out: &mut K, err: &mut E) -> u8
+    ensures prints { PrintsRun told.now.end told.now.report.items
+        (use_of (K.written out.old) (K.written out.new) (K.faults out.old) (K.faults out.new))
+        (use_of (E.written err.old) (E.written err.new) (E.faults err.old) (E.faults err.new)) result }
+    ensures later_out { K.faults out.old ≤ K.faults out.new }
+    ensures later_err { E.faults err.old ≤ E.faults err.new }
+{
+    match print_text(out, told.report.as_slice()) {
+        Printed::Whole => end_run(told.end, err),
+        _ => tell(err, b"hbone: write fault\n", 7),
+    }
+}
+
+/// Runs the proxy over a world, prints its totals, and tells how the run ended. Gives the status.
+pub fn serve_world<K: Sink, E: Sink, W: World>(
+    alloc: Global,
+    words: &Serve<'_>,
+    out: &mut K,
+    err: &mut E,
+    world: &mut W,
+) -> u8
+    ensures serves { ServesAt (serve_seen words.now)
+        (world_use (W.trace world.old) (W.trace world.new) (W.faults world.old) (W.faults world.new))
+        (use_of (K.written out.old) (K.written out.new) (K.faults out.old) (K.faults out.new))
+        (use_of (E.written err.old) (E.written err.new) (E.faults err.old) (E.faults err.new)) result }
+    ensures follows { W.script world.new ≡ W.script world.old }
+    ensures later_out { K.faults out.old ≤ K.faults out.new }
+    ensures later_err { E.faults err.old ≤ E.faults err.new }
+{
+    let Ok(served) = serve_over(alloc, words, world) else {
+        return tell(err, b"hbone: out of memory\n", 9);
+    };
+    let Ok(told) = told_of(alloc, &served) else {
+        return tell(err, b"hbone: out of memory\n", 9);
+    };
+    print_total(&told, out, err)
+}

@@ -1,0 +1,55 @@
+-- A run of the whole proxy obeys each law.
+use Rattle.std.proofs.Common.{◌≡◌, List, [], ◌∷◌, ◌++◌, ◌∙◌, subst}
+use Rattle.std.proofs.lemmas.List.{append-nil}
+use Rattle.hb_model.specs.declared.config.NodeConfig.{NodeConfig}
+use Rattle.hb_proxy.proofs.Access.{runs_admit}
+use Rattle.hb_proxy.proofs.AccessEntries.{admit_entries}
+use Rattle.hb_proxy.proofs.Control.{obey_entries, obey_control}
+use Rattle.hb_proxy.proofs.Dials.{runs_dial}
+use Rattle.hb_proxy.proofs.Ends.{runs_end}
+use Rattle.hb_proxy.proofs.Links.{obey_links}
+use Rattle.hb_proxy.proofs.Own.{runs_own, runs_number, runs_dial_once}
+use Rattle.hb_proxy.proofs.Places.{at_points}
+use Rattle.hb_proxy.proofs.Projection.{control_holds, links_hold}
+use Rattle.hb_proxy.proofs.Relay.{runs_relay}
+use Rattle.hb_proxy.proofs.Sides.{runs_share}
+use Rattle.hb_proxy.specs.Machine.{Machine}
+use Rattle.hb_proxy.specs.Points.{Point}
+use Rattle.hb_proxy.specs.Runs.{StandsFor}
+use Rattle.hb_laws.specs.Lawful.{Laws, RunsAreLawful}
+
+-- each front of a run is one
+pub front_runs : (g : NodeConfig) (m : Machine) (points : List Point) → StandsFor g m points → (before after : List Point)
+    → points ≡ before ++ after → (n : Machine) × StandsFor g n before
+front_runs g m points stands before [] are =
+    (m, subst (λ (ps : List Point). StandsFor g m ps) (are ∙ append-nil before) stands)
+front_runs g m points stands before (p ∷ after) are =
+    at_points g (λ ps q. (n : Machine) × StandsFor g n ps) (λ x y ps q runs steps. (x, runs)) m points stands before p after are
+
+pub laws_at : (g : NodeConfig) (x : Machine) (points : List Point) → StandsFor g x points → Laws g points
+laws_at g x points stands = record {
+  upstreams = runs_dial_once g x points stands;
+  sides = runs_share g x points stands;
+  relay = runs_relay g x points stands;
+  links = λ l. obey_links g x points l stands;
+  control = obey_control g x points stands;
+  held = λ l. links_hold g x points l stands;
+}
+
+-- the trace of a run is lawful
+abbrev pub run_is_lawful : RunsAreLawful
+run_is_lawful g x points trace stands is = record {
+  machine = x;
+  points = points;
+  run = stands;
+  trace_is = is;
+  own = runs_own g x points stands;
+  numbers = runs_number g x points stands;
+  access = admit_entries g x points stands;
+  parts_access = runs_admit g x points stands;
+  ends = runs_end g x points stands;
+  dials = runs_dial g x points stands;
+  at_entries = obey_entries g x points stands;
+  held = control_holds g x points stands;
+  laws = λ before after are. let front = front_runs g x points stands before after are in laws_at g front.0 before front.1;
+}

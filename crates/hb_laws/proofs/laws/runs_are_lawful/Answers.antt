@@ -1,0 +1,5 @@
+use Rattle.hb_laws.proofs.Runs.{run_is_lawful}
+use Rattle.hb_laws.proofs.laws.runs_are_lawful.Goals as goal
+
+pub returns : goal.returns
+returns c = run_is_lawful

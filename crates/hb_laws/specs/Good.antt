@@ -1,0 +1,47 @@
+-- Traces that are lawful: of a link to the control plane, and of an inbound link.
+use Rattle.std.specs.Prelude.{List, [], ◌∷◌, None}
+use Rattle.hb_base.specs.declared.cause.Cause.TheVariants as cause
+use Rattle.hb_base.specs.declared.ip.Ip.TheVariants.{V4}
+use Rattle.hb_base.specs.declared.target.Target.{Target}
+use Rattle.hb_front.specs.Faults.{number_of}
+use Rattle.hb_front.specs.Written.{front_text}
+use Rattle.hb_front.specs.declared.fault.FrontFault.TheVariants.{BadSignature}
+use Rattle.hb_model.specs.declared.config.NodeConfig.{NodeConfig}
+use Rattle.hb_world.specs.declared.entry.Entry.{Entry}
+use Rattle.hb_world.specs.declared.entry.Entry.TheVariants as e
+use Rattle.hb_world.specs.declared.entry.ReadyItem.TheVariants as item
+use Rattle.hb_world.specs.declared.entry.Way.TheVariants as way
+use Rattle.hb_world.specs.declared.entry.Woken.TheVariants as woken
+use Rattle.hb_laws.specs.Lawful.{Lawful}
+use Rattle.hb_laws.specs.Refused.{dials, fails, waits, waits_tick, balks}
+use Rattle.hb_laws.specs.RefusedLinks.{accepts}
+
+-- a link to the control plane is dialled and isn't open yet, then it breaks and is closed; at the next tick a dial fails
+abbrev pub good_trace : NodeConfig → List Entry
+good_trace g =
+    dials g ∷ balks (way.Finish 1) ∷ e.Wait (item.Link 1 ∷ []) woken.Woke ∷ e.Broke 1 ∷ e.Closed 1 cause.Broken
+    ∷ waits_tick ∷ e.Tick ∷ fails g ∷ waits ∷ []
+
+abbrev pub GoodTraceIsLawful : Type 0
+GoodTraceIsLawful = (g : NodeConfig) → Lawful g (good_trace g)
+
+-- an inbound link is accepted, its first byte begins no front header, and it is closed for that
+abbrev pub good_link : NodeConfig → List Entry
+good_link g = dials g ∷ accepts ∷ e.Came 2 (0 ∷ []) ∷ e.Closed 2 (cause.FrontFault (number_of BadSignature)) ∷ waits ∷ []
+
+abbrev pub GoodLinkIsLawful : Type 0
+GoodLinkIsLawful = (g : NodeConfig) → Lawful g (good_link g)
+
+-- an inbound link of 10.0.0.1 to 10.0.0.9 is accepted, its front header is whole and tells no identity, its peer sends no more, and it is
+-- closed as done
+abbrev pub source : Target
+source = record { ip = V4 167772161; port = 40000 }
+
+abbrev pub destination : Target
+destination = record { ip = V4 167772169; port = 15008 }
+
+abbrev pub good_end : NodeConfig → List Entry
+good_end g = dials g ∷ accepts ∷ e.Came 2 (front_text source destination None) ∷ e.Ended 2 ∷ e.Closed 2 cause.Done ∷ waits ∷ []
+
+abbrev pub GoodEndIsLawful : Type 0
+GoodEndIsLawful = (g : NodeConfig) → Lawful g (good_end g)

@@ -1,0 +1,6 @@
+pub mod Good
+pub mod Lawful
+pub mod Refused
+pub mod RefusedHearing
+pub mod RefusedLinks
+pub mod RefusedTunnels

@@ -1,0 +1,130 @@
+-- Places of tunnels that no lawful trace has.
+use Rattle.std.specs.Prelude.{◌≡◌, ◌≢◌, ℕ, Bool, true, false, List, [], ◌∷◌, ◌++◌, Some}
+use Rattle.hb_base.specs.declared.cause.Cause.{Cause}
+use Rattle.hb_base.specs.declared.door.Why.TheVariants as whys
+use Rattle.hb_base.specs.declared.peer.Peer.{Peer}
+use Rattle.hb_base.specs.declared.target.Target.{Target}
+use Rattle.hb_disco.specs.declared.response.Response.{Response}
+use Rattle.hb_held.specs.Outcome.{after_response}
+use Rattle.hb_inbound.specs.Ends.{life, pending, lives, ended}
+use Rattle.hb_inbound.specs.Sides.{stream_came, peer_of, target_of}
+use Rattle.hb_model.specs.Messages.{held}
+use Rattle.hb_model.specs.Point as point
+use Rattle.hb_model.specs.declared.config.NodeConfig.{NodeConfig}
+use Rattle.hb_proxy.specs.Held.{at_start}
+use Rattle.hb_proxy.specs.Owners.{owner, upstream_of}
+use Rattle.hb_proxy.specs.Points.{Point, of_control, entry_in, entries, control_of, parts_of}
+use Rattle.hb_table.specs.Judgement.{judged}
+use Rattle.hb_table.specs.declared.judgement.Judged.TheVariants.{Admitted}
+use Rattle.hb_world.specs.Trace as world
+use Rattle.hb_world.specs.Trace.{sent}
+use Rattle.hb_world.specs.declared.entry.Entry.{Entry}
+use Rattle.hb_world.specs.declared.entry.Entry.TheVariants as e
+use Rattle.hb_laws.specs.Lawful.{Lawful}
+
+-- no lawful trace has a place where these points stand before an entry
+abbrev pub RefusedAt : (NodeConfig → List Point → Entry → Type 0) → Type 0
+RefusedAt P =
+    (g : NodeConfig) (trace : List Entry) (before behind : List Point) (p : Point) (z : Entry) → (h : Lawful g trace)
+    → h.points ≡ before ++ p ∷ behind → entry_in p ≡ z ∷ [] → P g before z → ⊥
+
+-- BYTES
+
+-- bytes go to the upstream of a stream, and what is held then, by the control plane's responses, doesn't admit the link's peer at the
+-- target that is dialled for the stream
+pub record GoesDenied (g : NodeConfig) (before : List Point) (z : Entry) : Type 0 where
+  pub link : ℕ
+  pub stream : ℕ
+  pub up : ℕ
+  pub bytes : List ℕ
+  pub goes : z ≡ e.Went up bytes
+  pub owned : owner up (entries before) ≡ upstream_of link stream
+  pub peer : Peer
+  pub target : Target
+  pub peer_is : peer_of (parts_of link before) ≡ Some peer
+  pub target_is : target_of stream (parts_of link before) ≡ Some target
+  pub denied : judged (held g (control_of before)) peer target ≢ Admitted
+
+-- a byte goes to it, and all that came on the stream went already
+pub record GoesUncome (g : NodeConfig) (before : List Point) (z : Entry) : Type 0 where
+  pub link : ℕ
+  pub stream : ℕ
+  pub up : ℕ
+  pub byte : ℕ
+  pub more : List ℕ
+  pub goes : z ≡ e.Went up (byte ∷ more)
+  pub owned : owner up (entries before) ≡ upstream_of link stream
+  pub all_went : sent up (entries before) ≡ stream_came stream (parts_of link before)
+
+-- DIALS
+
+-- another target is dialled for a stream than its request was answered with
+pub record DialsElsewhere (g : NodeConfig) (before : List Point) (z : Entry) : Type 0 where
+  pub link : ℕ
+  pub stream : ℕ
+  pub up : ℕ
+  pub target : Target
+  pub other : Target
+  pub dials : z ≡ e.Dialled up other (whys.Upstream link stream)
+  pub pends : life (at_start g) stream (parts_of link before) ≡ pending target
+  pub differs : target ≢ other
+
+-- ENDS
+
+-- the proxy waits, time passes, or bytes come, on whatever link
+abbrev pub is_more : Entry → Bool
+is_more (e.Came l bytes) = true
+is_more e.Tick = true
+is_more (e.Wait ready how) = true
+is_more _ = false
+
+-- so it is, and the upstream of a tunnel that ended lives
+pub record KeepsEndedUp (g : NodeConfig) (before : List Point) (z : Entry) : Type 0 where
+  pub link : ℕ
+  pub stream : ℕ
+  pub up : ℕ
+  pub why : Cause
+  pub more : is_more z ≡ true
+  pub has_ended : life (at_start g) stream (parts_of link before) ≡ ended why
+  pub owned : owner up (entries before) ≡ upstream_of link stream
+  pub living : world.lives up (entries before) ≡ true
+
+-- so it is next behind a response that no longer admits the peer of a live tunnel, and its upstream lives
+pub record KeepsRevokedUp (g : NodeConfig) (before : List Point) (z : Entry) : Type 0 where
+  pub front : List Point
+  pub control : ℕ
+  pub response : Response
+  pub before_is : before ≡ front ++ of_control (point.applied control response) ∷ []
+  pub link : ℕ
+  pub stream : ℕ
+  pub up : ℕ
+  pub peer : Peer
+  pub target : Target
+  pub more : is_more z ≡ true
+  pub lived : life (at_start g) stream (parts_of link front) ≡ lives target
+  pub peer_is : peer_of (parts_of link front) ≡ Some peer
+  pub denied : judged (after_response (held g (control_of front)) response) peer target ≢ Admitted
+  pub owned : owner up (entries front) ≡ upstream_of link stream
+  pub living : world.lives up (entries front) ≡ true
+
+-- the upstream of a tunnel that ended is closed for another cause than the first; so is one of a tunnel that lives, for whatever cause
+pub record ClosesUpForAnother (g : NodeConfig) (before : List Point) (z : Entry) : Type 0 where
+  pub link : ℕ
+  pub stream : ℕ
+  pub up : ℕ
+  pub first : Cause
+  pub why : Cause
+  pub closes : z ≡ e.Closed up why
+  pub owned : owner up (entries before) ≡ upstream_of link stream
+  pub has_ended : life (at_start g) stream (parts_of link before) ≡ ended first
+  pub differs : first ≢ why
+
+pub record ClosesLiveUp (g : NodeConfig) (before : List Point) (z : Entry) : Type 0 where
+  pub link : ℕ
+  pub stream : ℕ
+  pub up : ℕ
+  pub target : Target
+  pub why : Cause
+  pub closes : z ≡ e.Closed up why
+  pub owned : owner up (entries before) ≡ upstream_of link stream
+  pub lived : life (at_start g) stream (parts_of link before) ≡ lives target

@@ -1,0 +1,116 @@
+//! What is lawful, and what isn't: small wrong traces, and good ones. Each is the contract of a function that does nothing.
+
+ghost use Rattle.hb_laws.specs.Lawful.{RunsAreLawful};
+ghost use Rattle.hb_laws.specs.Refused.{NeverDials, DialsNoMore, DialsTwice, DialsAnother};
+ghost use Rattle.hb_laws.specs.Refused.{ClosesHealthy, ClosesForAnother, ClosesForSecond};
+ghost use Rattle.hb_laws.specs.Refused.{KeepsEnded, KeepsBroken, LooksAtNothing, AppliesForged};
+ghost use Rattle.hb_laws.specs.RefusedLinks.{ComesUnborn, GoesUnborn, BornTwice, AcceptsFirst, AcceptsElsewhere, DialsUpTwice};
+ghost use Rattle.hb_laws.specs.RefusedLinks.{ClosesLinkForSecond, ClosesHealthyLink};
+ghost use Rattle.hb_laws.specs.RefusedLinks.{GoesUnheld, SendsMore, InventsDown, ChangesDown};
+ghost use Rattle.hb_laws.specs.RefusedTunnels.{RefusedAt, GoesDenied, GoesUncome, DialsElsewhere, KeepsEndedUp, KeepsRevokedUp};
+ghost use Rattle.hb_laws.specs.RefusedTunnels.{ClosesUpForAnother, ClosesLiveUp};
+ghost use Rattle.hb_laws.specs.Good.{GoodTraceIsLawful, GoodLinkIsLawful, GoodEndIsLawful};
+ghost use Rattle.hb_laws.specs.RefusedHearing.{HearsNoGoaway, HearsNoReset, HearsNoNotFound, HearsNoEnd, HearsNoEndOfHeaders};
+ghost use Rattle.hb_laws.specs.RefusedHearing.{KeepsReset, KeepsEndOfStream, KeepsEndAtOnce, KeepsNotFound};
+ghost use Rattle.hb_laws.specs.Refused.{ReadsUnopened, ReadsBehindEnd, ReadsBehindClose, WritesUnopened, FinishesOpened};
+
+/// The trace of every run of the whole proxy is lawful.
+pub fn runs_are_lawful()
+    ensures { RunsAreLawful }
+{}
+
+/// A trace isn't lawful in which the control plane isn't dialled at the start or behind a tick, is dialled beside a link to it
+/// that lives, or another target is dialled in its place.
+pub fn dials_are_refused()
+    ensures never { NeverDials }
+    ensures no_more { DialsNoMore }
+    ensures twice { DialsTwice }
+    ensures another { DialsAnother }
+{}
+
+/// Nor one in which a healthy link to it is closed, or one for another cause than the first, or one that ended or broke is kept.
+pub fn closes_are_refused()
+    ensures healthy { ClosesHealthy }
+    ensures for_another { ClosesForAnother }
+    ensures for_second { ClosesForSecond }
+    ensures ended { KeepsEnded }
+    ensures broken { KeepsBroken }
+{}
+
+/// Nor one in which a frame that ends such a link is looked at and nothing is told of it: a GOAWAY that takes no stream, a RST_STREAM,
+/// HEADERS with status 404, END_STREAM. Nor one in which a link that such a frame ended is kept over the next wait.
+pub fn deafness_is_refused()
+    ensures goaway { HearsNoGoaway }
+    ensures reset { HearsNoReset }
+    ensures not_found { HearsNoNotFound }
+    ensures end { HearsNoEnd }
+    ensures end_of_headers { HearsNoEndOfHeaders }
+    ensures keeps_reset { KeepsReset }
+    ensures keeps_end { KeepsEndOfStream }
+    ensures keeps_end_at_once { KeepsEndAtOnce }
+    ensures keeps_not_found { KeepsNotFound }
+{}
+
+/// Nor one in which bytes that came on such a link aren't looked at, or a response is applied that didn't come.
+pub fn idleness_is_refused()
+    ensures looks { LooksAtNothing }
+    ensures forged { AppliesForged }
+{}
+
+/// Nor one with a call on such a link where none may be made, even if it moved nothing.
+pub fn calls_are_refused()
+    ensures unopened { ReadsUnopened }
+    ensures behind_end { ReadsBehindEnd }
+    ensures behind_close { ReadsBehindClose }
+    ensures writes { WritesUnopened }
+    ensures finishes { FinishesOpened }
+{}
+
+/// Nor one in which bytes come or go on a link that nobody bore, a number is born twice, a link is accepted before the control plane is
+/// dialled or at another door than the inbound one, or two upstreams are dialled for one stream.
+pub fn births_are_refused()
+    ensures comes { ComesUnborn }
+    ensures goes { GoesUnborn }
+    ensures number { BornTwice }
+    ensures first { AcceptsFirst }
+    ensures elsewhere { AcceptsElsewhere }
+    ensures twice { DialsUpTwice }
+{}
+
+/// Nor one in which an inbound link is closed as one that broke, though no call on it failed: a healthy one, or one whose peer ended.
+pub fn closes_of_links_are_refused()
+    ensures healthy { ClosesHealthyLink }
+    ensures second { ClosesLinkForSecond }
+{}
+
+/// Nor one in which bytes go to an upstream though no response ever came, or more than came on its link; or in which DATA goes on a
+/// stream that isn't what came from its upstream.
+pub fn bytes_are_refused()
+    ensures unheld { GoesUnheld }
+    ensures more { SendsMore }
+    ensures invents { InventsDown }
+    ensures changes { ChangesDown }
+{}
+
+/// No lawful trace has a place at which bytes go to an upstream though what is held then doesn't admit the peer, or bytes that didn't come
+/// on the stream; at which another target is dialled than the one that was asked for; at which the upstream of a tunnel that ended lives
+/// while the proxy waits, time passes or bytes come, also next behind an update that no longer admits the peer; or at which an upstream is
+/// closed for another cause than the first, or though its tunnel lives.
+pub fn places_are_refused()
+    ensures denied { RefusedAt GoesDenied }
+    ensures uncome { RefusedAt GoesUncome }
+    ensures elsewhere { RefusedAt DialsElsewhere }
+    ensures ended { RefusedAt KeepsEndedUp }
+    ensures revoked { RefusedAt KeepsRevokedUp }
+    ensures another { RefusedAt ClosesUpForAnother }
+    ensures live { RefusedAt ClosesLiveUp }
+{}
+
+/// A trace is lawful in which a link to the control plane is dialled, breaks and is closed, and a dial fails at the next tick; one in
+/// which an inbound link begins with no front header and is closed for that; and one in which its header is whole, its peer sends no
+/// more, and it is closed as done.
+pub fn good_traces_are_lawful()
+    ensures control { GoodTraceIsLawful }
+    ensures link { GoodLinkIsLawful }
+    ensures end { GoodEndIsLawful }
+{}

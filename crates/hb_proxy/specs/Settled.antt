@@ -1,0 +1,102 @@
+-- The settled law: at a wait nothing is left to be done but what sleeps.
+use Rattle.std.specs.Prelude.{⊤, ◌≡◌, ◌⊎◌, ℕ, ◌<◌, ◌≤◌, true, false, List, [], length}
+use Rattle.hb_base.specs.declared.door.Door.{Door}
+use Rattle.hb_conn.specs.Connection.{Connection}
+use Rattle.hb_conn.specs.Observed as connection
+use Rattle.hb_inbound.specs.Calm.{IsQuiet, longest_front}
+use Rattle.hb_inbound.specs.Inbound as link
+use Rattle.hb_inbound.specs.Inbound.{Inbound}
+use Rattle.hb_inbound.specs.Tunnel.{Tunnel, Stage, opening, live}
+use Rattle.hb_model.specs.Discovery as discovery
+use Rattle.hb_model.specs.Discovery.{Discovery}
+use Rattle.hb_model.specs.Puts.{IsAllPut}
+use Rattle.hb_model.specs.Runs as model
+use Rattle.hb_model.specs.declared.config.NodeConfig.{NodeConfig}
+use Rattle.hb_ready.specs.Sight.{asked, asleep}
+use Rattle.hb_tunnel.specs.Tunnel.{down_size}
+use Rattle.hb_world.specs.Trace.{AtEach}
+use Rattle.hb_world.specs.declared.entry.Entry.{Entry}
+use Rattle.hb_world.specs.declared.entry.Entry.TheVariants as e
+use Rattle.hb_world.specs.declared.entry.Way.TheVariants as way
+use Rattle.hb_proxy.specs.Doors.{without_doors}
+use Rattle.hb_proxy.specs.Machine.{Machine}
+use Rattle.hb_proxy.specs.Points.{Point, control_of, entries}
+use Rattle.hb_proxy.specs.Runs.{StandsFor}
+use Rattle.hb_proxy.specs.Ups.{Joins}
+
+-- WHAT SLEEPS
+
+-- a link is asleep for reading, or there is no room for more; and it is asleep for writing, or nothing waits to be written on it
+abbrev pub Reads : List Entry → ℕ → (full : Type 0) → Type 0
+Reads trace l full = (asleep (way.Read l) trace ≡ true) ⊎ full
+
+abbrev pub Writes : List Entry → ℕ → (none : Type 0) → Type 0
+Writes trace l none = (asleep (way.Write l) trace ≡ true) ⊎ none
+
+abbrev pub Finishes : List Entry → ℕ → Type 0
+Finishes trace l = asleep (way.Finish l) trace ≡ true
+
+-- more than 32,000 octets wait to be written on a connection
+abbrev pub IsCrowded : Connection → Type 0
+IsCrowded c = 32000 < length (connection.output c)
+
+-- an upstream has ended, or its ring is full
+abbrev pub TakesNoMore : Tunnel → Type 0
+TakesNoMore t = (t.ways.down.has_ended ≡ true) ⊎ (down_size ≤ length t.ways.down.held)
+
+-- EACH LINK THAT IS THERE
+
+-- a link to the control plane that isn't open is asleep for finishing; behind one that is asleep for writing more may be due; else all
+-- that is due was put: answers, requests that the windows let go, and credit
+abbrev pub ControlSettledBy : NodeConfig → List Point → discovery.Phase → List Entry → ℕ → Discovery → Type 0
+ControlSettledBy g points discovery.unborn trace l x = ⊤
+ControlSettledBy g points discovery.closed trace l x = ⊤
+ControlSettledBy g points discovery.dialling trace l x = Finishes trace l
+ControlSettledBy g points discovery.live trace l x =
+    Reads trace l (IsCrowded x.conn) × Writes trace l (connection.output x.conn ≡ [])
+    × Writes trace l (IsAllPut g (control_of points) l)
+ControlSettledBy g points phase trace l x = ⊥
+
+-- An inbound link is read until its front header is whole. One that serves has put, of each tunnel, all that its windows and its output
+-- let go (that is what being quiet says), and what it put went, or it is asleep for writing
+abbrev pub LinkSettledBy : link.Phase → List Entry → ℕ → Inbound → Type 0
+LinkSettledBy link.unborn trace l x = ⊤
+LinkSettledBy link.closed trace l x = ⊤
+LinkSettledBy link.fronting trace l x = Reads trace l (longest_front ≤ length x.front)
+LinkSettledBy link.serving trace l x = Reads trace l (IsCrowded x.conn) × Writes trace l (connection.output x.conn ≡ [])
+LinkSettledBy phase trace l x = ⊥
+
+-- the upstream of a tunnel that is to be open is asleep for finishing; of one that lives all went that came, or it is asleep for writing
+abbrev pub UpSettledBy : Stage → List Entry → ℕ → Tunnel → Type 0
+UpSettledBy opening trace u t = Finishes trace u
+UpSettledBy live trace u t = Reads trace u (TakesNoMore t) × Writes trace u (t.ways.up.held ≡ [])
+UpSettledBy stage trace u t = ⊥
+
+-- THE LAW
+
+-- Nothing more happens by itself on any link, and no call is due: no dial, no shut and no close. No accept may give a link at a door.
+-- Each link that is there rests
+pub record IsSettled (g : NodeConfig) (x : Machine) (points : List Point) (trace : List Entry) : Type 0 where
+  pub control_quiet : model.IsQuiet x.control
+  pub links_quiet : (l : ℕ) → IsQuiet (x.inbound l)
+  pub doors : (d : Door) → asked d trace ≡ false
+  pub control : (l : ℕ) → ControlSettledBy g points (x.control.links l).phase trace l (x.control.links l)
+  pub links : (l : ℕ) → LinkSettledBy (x.inbound l).phase trace l (x.inbound l)
+  pub ups : (l s u : ℕ) → Joins ((x.inbound l).tunnels s) u
+      → UpSettledBy ((x.inbound l).tunnels s).stage trace u ((x.inbound l).tunnels s)
+
+-- so it is in a run of the machine with these entries
+pub record SettledIn (g : NodeConfig) (trace : List Entry) : Type 0 where
+  pub machine : Machine
+  pub points : List Point
+  pub run : StandsFor g machine points
+  pub trace_is : without_doors trace ≡ entries points
+  pub settled : IsSettled g machine points trace
+
+abbrev pub SettledAt : NodeConfig → List Entry → Entry → Type 0
+SettledAt g before (e.Wait ready how) = SettledIn g before
+SettledAt g before _ = ⊤
+
+-- at each wait
+abbrev pub SettledLaw : NodeConfig → List Entry → Type 0
+SettledLaw g trace = AtEach (SettledAt g) trace

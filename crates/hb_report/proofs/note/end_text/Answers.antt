@@ -1,6 +1,0 @@
-use Rattle.std.proofs.Common.{append_assoc, ◌∙◌}
-use Rattle.std.proofs.lemmas.Result.{IfOk-weaker}
-use Rattle.hb_report.proofs.note.end_text.Goals as goal
-
-pub returns : goal.returns
-returns c = IfOk-weaker c.format.result _ _ (λ s h. h ∙ rw (c.in_ok-cause.ensures) (simp append_assoc)) c.format.ensures.ok

@@ -1,0 +1,306 @@
+-- Where no act is due and each link rests, the machine that the code shows is settled.
+use Rattle.std.proofs.Common.{◌≡◌, ◌⊎◌, inl, inr, ⊎_elim, ℕ, ◌-◌, ◌<◌, ◌≤◌, Bool, true, false, if◌then◌else◌, List, [], length, Option, Some, None, refl, ap, sym, ◌∙◌, subst, arith, eq-zero-or-pos}
+use Rattle.std.specs.FinMap.{get}
+use Rattle.hb_base.specs.declared.door.Door.{Door}
+use Rattle.hb_base.specs.declared.note.Note.{Note}
+use Rattle.hb_conn.specs.Connection.{Connection}
+use Rattle.hb_conn.specs.Observed as connection
+use Rattle.hb_conn.specs.Observed.{IsLookedAt}
+use Rattle.hb_inbound.specs.Calm as calm
+use Rattle.hb_inbound.specs.Calm.{IsQuiet, RestsIn, longest_front, wants_by as wants_in, output_by as output_in, up_wants}
+use Rattle.hb_inbound.specs.Inbound as m
+use Rattle.hb_inbound.specs.Inbound.{Inbound}
+use Rattle.hb_inbound.specs.Tunnel as t
+use Rattle.hb_inbound.specs.Tunnel.{Tunnel, Stage}
+use Rattle.hb_kept.proofs.Kept.{some_are_wanted}
+use Rattle.hb_kept.specs.Kept.{IsKept, wants_of}
+use Rattle.hb_link.specs.Observed.{up_wants_by, up_held_by}
+use Rattle.hb_link.specs.Shows.{Shows, ShowsBy}
+use Rattle.hb_link.specs.declared.link.Link.{Link}
+use Rattle.hb_links.specs.Calls as links
+use Rattle.hb_links.specs.Shows.{IsAway, ShowsLink}
+use Rattle.hb_model.specs.Discovery as d
+use Rattle.hb_model.specs.Discovery.{Discovery}
+use Rattle.hb_model.specs.Machine.{Machine as Control}
+use Rattle.hb_model.specs.Puts.{IsAllPut}
+use Rattle.hb_model.specs.Runs as model
+use Rattle.hb_model.specs.Runs.{IsCalmBy}
+use Rattle.hb_model.specs.declared.config.NodeConfig.{NodeConfig}
+use Rattle.hb_node.proofs.Resting.{reads as control_reads}
+use Rattle.hb_proxy.proofs.Control.{puts_all}
+use Rattle.hb_proxy.specs.Doors.{without_doors}
+use Rattle.hb_proxy.specs.Machine.{Machine}
+use Rattle.hb_proxy.specs.Points.{Point, control_of}
+use Rattle.hb_proxy.specs.Seen.{Seen, IsThere, IsLinkThere, OpenBy, UpOpenBy}
+use Rattle.hb_proxy.specs.Settled.{Reads, Writes, Finishes, IsCrowded, TakesNoMore, ControlSettledBy, LinkSettledBy, UpSettledBy, IsSettled, SettledIn}
+use Rattle.hb_proxy.specs.Ups.{Joins}
+use Rattle.hb_ready.specs.Sight.{asked, asleep, is_open, known, sight}
+use Rattle.hb_tunnel.specs.Tunnel.{down_size}
+use Rattle.hb_turns.specs.Settled.{Rests, RestsBy}
+use Rattle.hb_turns.specs.Shown.{Shown, IsFree}
+use Rattle.hb_world.specs.Trace.{lives}
+use Rattle.hb_world.specs.declared.entry.Entry.{Entry}
+use Rattle.hb_world.specs.declared.entry.Way.TheVariants as way
+use Rattle.hb_whole.proofs.ControlMay.{wants_owned, output_owned}
+use Rattle.hb_whole.proofs.Free.{Free, free}
+use Rattle.hb_whole.proofs.Guards.{going_at}
+use Rattle.hb_whole.proofs.LinkMay.{wants_link, output_link, wants_up, holds_up}
+use Rattle.hb_whole.proofs.Routes.{seen_of, lives_then, open_then, owned, not_owned, no_place}
+use Rattle.hb_whole.specs.Sight.{owns, shown_of, wants_by, output_by}
+use Rattle.hb_whole.specs.Stands.{Stands}
+use Rattle.hb_whole.specs.declared.proxy.Proxy.{Proxy}
+
+-- A LINK THAT LIVES RESTS
+
+module _ (trace : List Entry) (l : ℕ) (s : Shown) (alive : lives l trace ≡ true) (rests : Rests (known l trace) l s) where
+  rests_by : RestsBy (is_open l trace) (sight l trace) l s
+  rests_by = subst (λ (b : Bool). Rests (if b then Some (sight l trace) else None) l s) alive rests
+
+  pub open_reads : is_open l trace ≡ true → Reads trace l (s.wants l ≡ 0)
+  open_reads opens = (subst (λ (b : Bool). RestsBy b (sight l trace) l s) opens rests_by).0
+
+  pub open_writes : is_open l trace ≡ true → Writes trace l (s.output l ≡ [])
+  open_writes opens = (subst (λ (b : Bool). RestsBy b (sight l trace) l s) opens rests_by).1
+
+  pub closed_finishes : is_open l trace ≡ false → Finishes trace l
+  closed_finishes closed = subst (λ (b : Bool). RestsBy b (sight l trace) l s) closed rests_by
+
+reads_map : {A B : Type 0} (trace : List Entry) (l : ℕ) → (A → B) → Reads trace l A → Reads trace l B
+reads_map trace l f (inl sleeps) = inl sleeps
+reads_map trace l f (inr full) = inr (f full)
+
+writes_map : {A B : Type 0} (trace : List Entry) (l : ℕ) → (A → B) → Writes trace l A → Writes trace l B
+writes_map trace l f (inl sleeps) = inl sleeps
+writes_map trace l f (inr none) = inr (f none)
+
+-- WHERE NOTHING MAY BE READ
+
+many_wait : (n wanted : ℕ) → wanted ≡ 0 → (768 ≤ 32768 - n → 0 < wanted) → 32000 < n
+many_wait n wanted none reads =
+    ⊎_elim (λ (few : n - 32000 ≡ 0). absurd (let some : 0 < wanted = reads (omega (arith, few)) in omega (arith, some, none)))
+    (λ (many : 0 < n - 32000). omega (arith, many)) (eq-zero-or-pos (n - 32000))
+
+crowded : (c : Connection) → IsKept c → IsLookedAt c → wants_of c ≡ 0 → IsCrowded c
+crowded c kept looked none = many_wait (length (connection.output c)) (wants_of c) none (λ room. some_are_wanted c kept looked (omega (arith, room)))
+
+front_full : (n : ℕ) → longest_front - n ≡ 0 → longest_front ≤ n
+front_full n none = omega (arith, none)
+
+ring_full : (held : ℕ) (ended : Bool) → (if ended then 0 else down_size - held) ≡ 0 → (ended ≡ true) ⊎ (down_size ≤ held)
+ring_full held true none = inl refl
+ring_full held false none = inr (omega (arith, none))
+
+-- EACH LINK THAT IS THERE
+
+control_by : (g : NodeConfig) (points : List Point) (phase : d.Phase) (trace : List Entry) (l : ℕ) (x : Discovery) → IsCalmBy phase x
+    → (phase ≡ d.dialling → Finishes trace l)
+    → (phase ≡ d.live → Reads trace l (IsCrowded x.conn) × Writes trace l (connection.output x.conn ≡ [])
+    × Writes trace l (IsAllPut g (control_of points) l))
+    → ControlSettledBy g points phase trace l x
+control_by g points d.unborn trace l x calm dialling live = tt
+control_by g points d.closed trace l x calm dialling live = tt
+control_by g points d.dialling trace l x calm dialling live = dialling refl
+control_by g points d.live trace l x calm dialling live = live refl
+control_by g points (d.faulted code) trace l x calm dialling live = absurd calm
+control_by g points (d.ending why) trace l x calm dialling live = absurd calm
+
+link_by : (phase : m.Phase) (trace : List Entry) (l : ℕ) (x : Inbound) → RestsIn phase x → calm.close_due phase ≡ None
+    → (phase ≡ m.fronting → Reads trace l (longest_front ≤ length x.front))
+    → (phase ≡ m.serving → Reads trace l (IsCrowded x.conn) × Writes trace l (connection.output x.conn ≡ []))
+    → LinkSettledBy phase trace l x
+link_by m.unborn trace l x rests none fronting serving = tt
+link_by m.closed trace l x rests none fronting serving = tt
+link_by m.arriving trace l x rests none fronting serving = absurd rests
+link_by m.fronting trace l x rests none fronting serving = fronting refl
+link_by m.serving trace l x rests none fronting serving = serving refl
+link_by (m.faulted code) trace l x rests none fronting serving = absurd cc
+link_by (m.closing why) trace l x rests none fronting serving = absurd cc
+
+there_at : (phase : d.Phase) → (phase ≡ d.dialling) ⊎ (phase ≡ d.live) → IsThere phase
+there_at phase (inl is) = subst IsThere (sym is) tt
+there_at phase (inr is) = subst IsThere (sym is) tt
+
+link_there : (phase : m.Phase) → (phase ≡ m.fronting) ⊎ (phase ≡ m.serving) → IsLinkThere phase
+link_there phase (inl is) = subst IsLinkThere (sym is) tt
+link_there phase (inr is) = subst IsLinkThere (sym is) tt
+
+-- what the code shows of a link that serves
+kept_of : (l : ℕ) (o : Option Link) (x : Inbound) → ShowsLink l o x → x.phase ≡ m.serving → IsKept x.conn
+kept_of l None x shows is = absurd (subst IsAway is shows.0)
+kept_of l (Some k) x shows is = (subst (λ (p : m.Phase). ShowsBy p k x) is shows.1.way).1
+
+-- THE PROXY
+
+module _ (taken : List Note) (p : Proxy) (trace : List Entry) (s : Stands taken p trace) (is_free : IsFree (shown_of p))
+    (rests : (l : ℕ) → Rests (known l trace) l (shown_of p)) where
+  abbrev pub x : Machine
+  x = s.machine
+
+  seen : Seen x (without_doors trace)
+  seen = seen_of taken p trace s
+
+  all : Free x
+  all = free taken p trace s is_free
+
+  lives_so : (l : ℕ) → lives l (without_doors trace) ≡ true → lives l trace ≡ true
+  lives_so l alive = sym (lives_then trace l) ∙ alive
+
+  opens_so : (l : ℕ) (b : Bool) → is_open l (without_doors trace) ≡ b → is_open l trace ≡ b
+  opens_so l b is = sym (open_then trace l) ∙ is
+
+  -- the control plane's
+  module _ (l : ℕ) (there : IsThere (x.control.links l).phase) where
+    alive : lives l trace ≡ true
+    alive = lives_so l (seen.control l there)
+
+    mine : owns p l ≡ true
+    mine = owned p.control.link x.control l s.control.link there
+
+    wants_are : (shown_of p).wants l ≡ model.wants x.control l
+    wants_are = ap (λ (b : Bool). wants_by b p l) mine ∙ wants_owned p.control.link x.control l s.control.link mine
+
+    output_is : (shown_of p).output l ≡ model.output x.control l
+    output_is = ap (λ (b : Bool). output_by b p l) mine ∙ output_owned p.control.link x.control l s.control.link mine
+
+    dialling_so : (x.control.links l).phase ≡ d.dialling → Finishes trace l
+    dialling_so is = closed_finishes trace l (shown_of p) alive (rests l)
+        (opens_so l false (subst (λ (q : d.Phase). OpenBy q (is_open l (without_doors trace))) is (seen.control_open l)))
+
+    module _ (is : (x.control.links l).phase ≡ d.live) where
+      opens : is_open l trace ≡ true
+      opens = opens_so l true (subst (λ (q : d.Phase). OpenBy q (is_open l (without_doors trace))) is (seen.control_open l))
+
+      crowded_so : (shown_of p).wants l ≡ 0 → IsCrowded (x.control.links l).conn
+      crowded_so none =
+          many_wait (length (connection.output (x.control.links l).conn)) (model.wants x.control l) (sym wants_are ∙ none)
+          (λ room. control_reads p.control x.control l s.control is (omega (arith, room)))
+
+      none_waits : (shown_of p).output l ≡ [] → connection.output (x.control.links l).conn ≡ []
+      none_waits none = sym (ap (λ (q : d.Phase). model.output_by q (x.control.links l)) is) ∙ sym output_is ∙ none
+
+      calm_here : model.IsCalm (x.control.links l)
+      calm_here = subst (λ (q : d.Phase). IsCalmBy q (x.control.links l)) is (all.control.calm l)
+
+      live_so : Reads trace l (IsCrowded (x.control.links l).conn) × Writes trace l (connection.output (x.control.links l).conn ≡ [])
+          × Writes trace l (IsAllPut p.control.config (control_of s.points) l)
+      live_so =
+          let none = writes_map trace l none_waits (open_writes trace l (shown_of p) alive (rests l) opens) in (
+            reads_map trace l crowded_so (open_reads trace l (shown_of p) alive (rests l) opens),
+            none,
+            writes_map trace l (λ empty. puts_all p.control.config x s.points l s.run is calm_here empty) none,
+          )
+
+  control_so : (l : ℕ) → ControlSettledBy p.control.config s.points (x.control.links l).phase trace l (x.control.links l)
+  control_so l =
+      control_by p.control.config s.points (x.control.links l).phase trace l (x.control.links l) (all.control.calm l)
+      (λ is. dialling_so l (there_at (x.control.links l).phase (inl is)) is)
+      (λ is. live_so l (there_at (x.control.links l).phase (inr is)) is)
+
+  -- an inbound link
+  module _ (l : ℕ) (there : IsLinkThere (x.inbound l).phase) where
+    link_alive : lives l trace ≡ true
+    link_alive = lives_so l (seen.link l there).0
+
+    link_opens : is_open l trace ≡ true
+    link_opens = opens_so l true (seen.link l there).1
+
+    other : owns p l ≡ false
+    other = not_owned x (without_doors trace) p.control.link l seen s.control.link (seen.link_alone l there)
+
+    no_up : get p.side.links.ups l ≡ None
+    no_up = no_place x (without_doors trace) p.side.links l (get p.side.links.ups l) seen s.links there refl
+
+    link_wants_are : (shown_of p).wants l ≡ wants_in (x.inbound l).phase (x.inbound l)
+    link_wants_are = ap (λ (b : Bool). wants_by b p l) other ∙ wants_link p.side.links x.inbound s.links l no_up
+
+    link_output_is : (shown_of p).output l ≡ output_in (x.inbound l).phase (x.inbound l)
+    link_output_is = ap (λ (b : Bool). output_by b p l) other ∙ output_link p.side.links x.inbound s.links l no_up
+
+    fronting_so : (x.inbound l).phase ≡ m.fronting → Reads trace l (longest_front ≤ length (x.inbound l).front)
+    fronting_so is =
+        reads_map trace l
+        (λ none. front_full (length (x.inbound l).front)
+        (sym (ap (λ (q : m.Phase). wants_in q (x.inbound l)) is) ∙ sym link_wants_are ∙ none))
+        (open_reads trace l (shown_of p) link_alive (rests l) link_opens)
+
+    module _ (is : (x.inbound l).phase ≡ m.serving) where
+      looked : IsLookedAt (x.inbound l).conn
+      looked = (subst (λ (q : m.Phase). RestsIn q (x.inbound l)) is (all.links l).calm.rests).0
+
+      serving_so : Reads trace l (IsCrowded (x.inbound l).conn) × Writes trace l (connection.output (x.inbound l).conn ≡ [])
+      serving_so = (
+        reads_map trace l
+            (λ none. crowded (x.inbound l).conn (kept_of l (get p.side.links.links l) (x.inbound l) (s.links.links l) is) looked
+            (sym (ap (λ (q : m.Phase). wants_in q (x.inbound l)) is) ∙ sym link_wants_are ∙ none))
+            (open_reads trace l (shown_of p) link_alive (rests l) link_opens),
+        writes_map trace l
+            (λ none. sym (ap (λ (q : m.Phase). output_in q (x.inbound l)) is) ∙ sym link_output_is ∙ none)
+            (open_writes trace l (shown_of p) link_alive (rests l) link_opens),
+      )
+
+  links_so : (l : ℕ) → LinkSettledBy (x.inbound l).phase trace l (x.inbound l)
+  links_so l =
+      link_by (x.inbound l).phase trace l (x.inbound l) (all.links l).calm.rests (all.links l).no_close
+      (λ is. fronting_so l (link_there (x.inbound l).phase (inl is)) is)
+      (λ is. serving_so l (link_there (x.inbound l).phase (inr is)) is)
+
+  -- an upstream
+  module _ (l q u : ℕ) (joins : Joins ((x.inbound l).tunnels q) u) where
+    abbrev pub tunnel : Tunnel
+    tunnel = (x.inbound l).tunnels q
+
+    up_alive : lives u trace ≡ true
+    up_alive = lives_so u (seen.up l q u joins).0
+
+    up_other : owns p u ≡ false
+    up_other = not_owned x (without_doors trace) p.control.link u seen s.control.link (seen.up_alone l q u joins).0
+
+    up_wants_are : (shown_of p).wants u ≡ up_wants_by tunnel.stage tunnel
+    up_wants_are = ap (λ (b : Bool). wants_by b p u) up_other
+        ∙ wants_up p.side.links x.inbound s.links u l q (s.links.index.found l q u joins)
+
+    up_output_is : (shown_of p).output u ≡ up_held_by tunnel.stage tunnel
+    up_output_is = ap (λ (b : Bool). output_by b p u) up_other
+        ∙ holds_up p.side.links x.inbound s.links u l q (s.links.index.found l q u joins)
+
+    up_open : (stage : Stage) (b : Bool) → tunnel.stage ≡ stage → (UpOpenBy stage (is_open u (without_doors trace)) → is_open u (without_doors trace) ≡ b)
+        → is_open u trace ≡ b
+    up_open stage b is says =
+        opens_so u b (says (subst (λ (r : Stage). UpOpenBy r (is_open u (without_doors trace))) is (seen.up l q u joins).2))
+
+    by_stage : (stage : Stage) → tunnel.stage ≡ stage → (stage ≡ t.opening) ⊎ (stage ≡ t.live) → UpSettledBy stage trace u tunnel
+    by_stage stage is (inl opening) =
+        let at : tunnel.stage ≡ t.opening = is ∙ opening in
+        subst (λ (r : Stage). UpSettledBy r trace u tunnel) (sym opening)
+        (closed_finishes trace u (shown_of p) up_alive (rests u) (up_open t.opening false at (λ told. told)))
+    by_stage stage is (inr live) =
+        let at : tunnel.stage ≡ t.live = is ∙ live in
+        let opens : is_open u trace ≡ true = up_open t.live true at (λ told. told) in
+        subst (λ (r : Stage). UpSettledBy r trace u tunnel) (sym live) (
+          reads_map trace u
+              (λ none. ring_full (length tunnel.ways.down.held) tunnel.ways.down.has_ended
+              (sym (ap (λ (r : Stage). up_wants_by r tunnel) at) ∙ sym up_wants_are ∙ none))
+              (open_reads trace u (shown_of p) up_alive (rests u) opens),
+          writes_map trace u
+              (λ none. sym (ap (λ (r : Stage). up_held_by r tunnel) at) ∙ sym up_output_is ∙ none)
+              (open_writes trace u (shown_of p) up_alive (rests u) opens),
+        )
+
+    up_so : UpSettledBy tunnel.stage trace u tunnel
+    up_so = by_stage tunnel.stage refl (going_at (x.inbound l) q u (all.links l) joins)
+
+  pub settled_in : ((door : Door) → asked door trace ≡ false) → SettledIn p.control.config trace
+  settled_in doors = record {
+    machine = s.machine;
+    points = s.points;
+    run = s.run;
+    trace_is = s.trace_is;
+    settled = record {
+      control_quiet = all.control;
+      links_quiet = all.links;
+      doors = doors;
+      control = control_so;
+      links = links_so;
+      ups = up_so;
+    };
+  }

@@ -1,0 +1,41 @@
+-- What the words ask for.
+use Rattle.std.specs.Prelude.{ℕ, Bool, List, Option}
+use Rattle.hb_base.specs.declared.peer.Peer.{Peer}
+use Rattle.hb_base.specs.declared.target.Target.{Target}
+
+-- what `check` asks: is this peer admitted at this target of this node of this network?
+pub record Question : Type 0 where
+  pub node : List ℕ
+  pub network : List ℕ
+  pub peer : Peer
+  pub target : Target
+
+-- what a run of the proxy is asked: who the node is, where its control plane is, where its inbound door listens if it has one, and the
+-- bounds of the run
+pub record RunWords : Type 0 where
+  pub node : List ℕ
+  pub id : List ℕ
+  pub discovery : Target
+  pub inbound : Option Target
+  pub network : List ℕ
+  pub hbone_port : ℕ
+  pub tunnels : ℕ
+  pub turns : ℕ
+
+-- what `replay` asks: a run over a script, and what is told of it
+pub record Replay : Type 0 where
+  pub run : RunWords
+  pub trace : Bool
+  pub brief : Bool
+
+-- what `serve` asks: a run over real sockets, and the tick that ends it; None: no number of them does
+pub record Serve : Type 0 where
+  pub run : RunWords
+  pub ticks : Option ℕ
+
+-- what is asked for: an answer to a question, what is held, a run over a script, or one over real sockets
+pub data Command : Type 0 where
+  checks : Question → Command
+  shows : Command
+  replays : Replay → Command
+  serves : Serve → Command

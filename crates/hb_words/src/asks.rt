@@ -1,0 +1,58 @@
+//! What the words ask for.
+
+use hb_base::{Peer, Target};
+
+/// What `check` asks: is this peer admitted at this target of this node of this network?
+#[derive(Drop)]
+pub struct Check<'a> {
+    pub node: &'a String,
+    /// None is the network whose name is empty.
+    pub network: Option<&'a String>,
+    pub peer: Peer,
+    pub target: Target,
+}
+
+/// What a run of the proxy is asked, over a script or over real sockets.
+#[derive(Clone, Copy)]
+pub struct RunWords<'a> {
+    pub node: &'a str,
+    /// The id that the node tells its control plane.
+    pub id: &'a str,
+    /// The control plane.
+    pub discovery: Target,
+    /// Where the inbound door listens. None: no door listens.
+    pub inbound: Option<Target>,
+    /// Empty where it isn't named.
+    pub network: &'a str,
+    /// From 1 to 65,535.
+    pub hbone_port: u16,
+    /// The most tunnels at a time, from 1 to 4,096.
+    pub tunnels: u16,
+    /// The most turns, at least 1.
+    pub turns: u64,
+}
+
+/// What `replay` asks: a run over a script, and a report on it.
+#[derive(Clone, Copy)]
+pub struct Replay<'a> {
+    pub run: RunWords<'a>,
+    pub trace: bool,
+    pub brief: bool,
+}
+
+/// What `serve` asks: a run over real sockets.
+#[derive(Clone, Copy)]
+pub struct Serve<'a> {
+    pub run: RunWords<'a>,
+    /// The tick that ends it, at least 1. None: no number of them does.
+    pub ticks: Option<u64>,
+}
+
+/// What is asked for.
+#[derive(Drop)]
+pub enum Command<'a> {
+    Check(Check<'a>),
+    Show,
+    Replay(Replay<'a>),
+    Serve(Serve<'a>),
+}
