@@ -89,12 +89,17 @@ class Proxy:
         at = f"0100007F:{self.port:04X} 00000000:0000 0A"
         return at in pathlib.Path("/proc/net/tcp").read_text()
 
+    def lines(self, file):
+        file.seek(0)
+        return file.read().decode().splitlines()
+
+    def printed(self):
+        """The lines on standard output."""
+        return self.lines(self.out)
+
     def told(self):
-        texts = []
-        for file in (self.out, self.err):
-            file.seek(0)
-            texts.append(file.read().decode())
-        return "".join(texts).strip()
+        """The lines on standard error."""
+        return self.lines(self.err)
 
     def cpu(self):
         """The processor seconds that it took, of its own and of the system's."""

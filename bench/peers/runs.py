@@ -17,7 +17,7 @@ def ticks(room):
     wanted("the status", room.proxy.process.wait(10), 0)
     took = time.monotonic() - begun
     wanted("three seconds", 2.5 < took < 4, True)
-    wanted("the total line", room.proxy.told().splitlines()[-1:], ["total: 1 links, 0 accepted, 0 revoked, 0 up, 0 down"])
+    wanted("what is printed", room.proxy.printed(), ["total: 1 links, 0 accepted, 0 revoked, 0 up, 0 down"])
 
 
 @case
@@ -35,7 +35,7 @@ def totals(room):
     room.update(mesh(OTHER))
     peer.pump(lambda: peer.closed(other), "a reset")
     wanted("the status", room.proxy.process.wait(10), 0)
-    wanted("the total line", room.proxy.told().splitlines()[-1:], ["total: 4 links, 2 accepted, 1 revoked, 1500 up, 1500 down"])
+    wanted("what is printed", room.proxy.printed(), ["total: 4 links, 2 accepted, 1 revoked, 1500 up, 1500 down"])
 
 
 @case
@@ -44,7 +44,8 @@ def turns(room):
     room.control()
     room.proxy = Proxy(room.program, room.discovery, ["--turns", "5"])
     wanted("the status", room.proxy.process.wait(10), 5)
-    wanted("what is told", room.proxy.told().splitlines()[-1:], ["hbone: turns spent"])
+    wanted("what is told last", room.proxy.told()[-1:], ["hbone: turns spent"])
+    wanted("what is printed", len(room.proxy.printed()), 1)
 
 
 @case
@@ -54,7 +55,7 @@ def a_port_that_is_taken(room):
     with socket.create_server((HERE, 0)) as taken:
         proxy = Proxy(room.program, room.discovery, inbound=taken.getsockname()[1])
         wanted("the status", proxy.process.wait(10), 4)
-        wanted("what is told", proxy.told().splitlines()[-1:], ["hbone: world fault"])
+        wanted("what is told last", proxy.told()[-1:], ["hbone: world fault"])
 
 
 @case
@@ -64,7 +65,7 @@ def a_signal(room):
     peer, up = room.peer(), room.upstream(echo)
     says(peer, peer.tunnel(up.port), b"hello")
     wanted("the status", room.proxy.end(), -15)
-    wanted("what is told", room.proxy.told(), "")
+    wanted("what is printed", room.proxy.printed(), [])
     until("an end at the upstream", lambda: up.one().ended)
 
 
