@@ -510,6 +510,8 @@ class Inbound(Connection):
         if self.run.kinds != {ADDRESS, POLICY}:
             return 503, target
         status = judge(self.run.held, self.run.asked, self.peer, target)
+        if status == 200 and self.run.is_own_door(target):
+            return 400, target
         return (503 if status == 200 and self.run.is_full() else status), target
 
     def told_chunk(self, number, octets, end):
@@ -637,6 +639,11 @@ class Run:
 
     def is_full(self):
         return sum(len(link.living()) for link in self.inbound.values()) >= self.asked.get("tunnels", 4096)
+
+    def is_own_door(self, target):
+        """Whether who connects to the target would reach the inbound door."""
+        door = target_of(self.asked["inbound"])
+        return door.port == target.port and (int(door.ip) == 0 or door.ip == target.ip)
 
     def run(self):
         if self.asked.get("inbound") and self.world.lines and self.world.lines[0].get("fault") == "listen":

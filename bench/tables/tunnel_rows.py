@@ -176,8 +176,8 @@ def told(text):
     return text
 
 
-def row(name, script, status, output, *more, error=""):
-    words = " ".join(["<usual>", told(PARTS["door"]), *more])
+def row(name, script, status, output, *more, error="", door=PARTS["door"]):
+    words = " ".join(["<usual>", told(door), *more])
     ROWS.append(f"{name}; {words}; {told(script)}; {status}; {told(output)}; {told(error)}")
 
 
@@ -209,6 +209,16 @@ def refusals():
     row("a target with another address than the front's", accepted(connect(1, b"10.0.0.8:8080")), 0,
         control(0, 0) + inbound(129, len(opening + headers(1, FIRST + REFUSED_400, True) + reset(1, NO_ERROR)))
         + verdict(400, target="10.0.0.8:8080") + total(2, 0))
+    own = opening + headers(1, FIRST + REFUSED_400, True) + reset(1, NO_ERROR)
+    for name, door in [("each address", "0.0.0.0"), ("each address of both kinds", "[::]"), ("the target's address", "10.0.0.7")]:
+        row(f"a target that is the inbound door, at {name}", BASE + accepted(connect(1, b"10.0.0.7:15008")), 0,
+            control() + inbound(130, len(own)) + verdict(400, target="10.0.0.7:15008") + total(2, 0),
+            door=f"--inbound {door}:15008")
+    for name, door in [("address", "10.0.0.8:15008"), ("port", "0.0.0.0:15009")]:
+        row(f"a target at the front's address and port, and the door at another {name}",
+            BASE + accepted(connect(1, b"10.0.0.7:15008")) + on("open", 3), 0,
+            control() + inbound(130, len(opening + headers(1, FIRST + ADMITTED))) + upstream(3, 0, 0, "stopped", to="10.0.0.7:15008")
+            + verdict(200, target="10.0.0.7:15008") + ended("stopped", 0, 0) + total(3, 1), door=f"--inbound {door}")
     row("an upstream that refuses", BASE + accepted(connect(1)) + on("refuse", 3), 0,
         control() + inbound(129, len(opening + headers(1, FIRST + REFUSED_502, True) + reset(1, NO_ERROR)))
         + upstream(3, 0, 0, "up fault") + verdict(502) + total(3, 0))

@@ -68,7 +68,7 @@ left_through tells k l bytes =
 
 -- nothing is held, and nothing is told
 abbrev pub none_left : List ℕ → List ℕ → Leaves
-none_left network node = record { held = nothing_held network node; told = [] }
+none_left network node = record { held = nothing_held network node None; told = [] }
 
 -- what an input leaves at a node of a network, or the first of its messages, counted from 1, that is refused
 unfoldable pub left_by : Bool → List ℕ → List ℕ → List ℕ → Result Leaves Refused

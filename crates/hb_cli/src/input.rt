@@ -158,7 +158,7 @@ pub fn read_input(
     ensures { Answers result (left_by tells network node input.now) }
 {
     let mut left = Left {
-        held: Held::new(alloc, network, node),
+        held: Held::new(alloc, network, node, None),
         told: Vec::new(alloc),
     };
     let mut bytes = input;

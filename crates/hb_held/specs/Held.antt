@@ -4,6 +4,7 @@ use Rattle.std.specs.Coded.{Coded, code_by, coded×, coded_ℕ, coded_bool, code
 use Rattle.std.specs.Cmp.Lexicographic.{slice_cmp}
 use Rattle.std.specs.Ordering.{nat_cmp}
 use Rattle.std.specs.FinMap.{empty, code, contains_key, get, insert, remove, len}
+use Rattle.hb_base.specs.declared.target.Target.{Target}
 use Rattle.hb_disco.specs.declared.kind.Kind.{Kind}
 use Rattle.hb_disco.specs.declared.kind.Kind.TheVariants.{Address, Authorization}
 use Rattle.hb_records.specs.declared.address.AddressRecord.{AddressRecord}
@@ -17,6 +18,8 @@ pub record Resources : Type 0 where
   -- the network of the node, and its name
   pub network : List ℕ
   pub node : List ℕ
+  -- where its own door for tunnels listens, if it has one
+  pub inbound : Option Target
   pub addresses : Named (Versioned AddressRecord)
   pub policies : Named (Versioned Policy)
   -- a response of this kind was applied
@@ -29,23 +32,24 @@ pub record Resources : Type 0 where
   pub settled : Bool
 
 -- the resources are stored as their fields
-abbrev pub resources_code : Coded (Versioned AddressRecord) → Coded (Versioned Policy) → Coded Resources
-resources_code address policy =
-    code_by ((List ℕ × List ℕ) × (((Named (Versioned AddressRecord) × Named (Versioned Policy)) × (Bool × Bool))
+abbrev pub resources_code : Coded Target → Coded (Versioned AddressRecord) → Coded (Versioned Policy) → Coded Resources
+resources_code target address policy =
+    code_by (((List ℕ × List ℕ) × Option Target) × (((Named (Versioned AddressRecord) × Named (Versioned Policy)) × (Bool × Bool))
     × ((Named (Option (Versioned AddressRecord)) × Named (Option (Versioned Policy))) × Bool)))
-    (coded× (coded× (coded_list coded_ℕ) (coded_list coded_ℕ)) (coded×
+    (coded× (coded× (coded× (coded_list coded_ℕ) (coded_list coded_ℕ)) (coded_option target)) (coded×
     (coded× (coded× (code {R = slice_cmp nat_cmp} (coded_list coded_ℕ) address) (code {R = slice_cmp nat_cmp} (coded_list coded_ℕ) policy))
     (coded× coded_bool coded_bool))
     (coded× (coded× (code {R = slice_cmp nat_cmp} (coded_list coded_ℕ) (coded_option address))
     (code {R = slice_cmp nat_cmp} (coded_list coded_ℕ) (coded_option policy)))
     coded_bool)))
     (λ h. (
-      (h.network, h.node),
+      ((h.network, h.node), h.inbound),
       (((h.addresses, h.policies), (h.addresses_came, h.policies_came)), ((h.past_addresses, h.past_policies), h.settled)),
     ))
     (λ p. record {
-      network = p.0.0;
-      node = p.0.1;
+      network = p.0.0.0;
+      node = p.0.0.1;
+      inbound = p.0.1;
       addresses = p.1.0.0.0;
       policies = p.1.0.0.1;
       addresses_came = p.1.0.1.0;
@@ -57,11 +61,12 @@ resources_code address policy =
     (λ _. refl)
 
 -- a node that holds nothing
-abbrev pub nothing_held : List ℕ → List ℕ → Resources
-nothing_held network node =
+abbrev pub nothing_held : List ℕ → List ℕ → Option Target → Resources
+nothing_held network node inbound =
     record {
       network = network;
       node = node;
+      inbound = inbound;
       addresses = empty;
       policies = empty;
       addresses_came = false;

@@ -23,7 +23,7 @@ use Rattle.hb_table.specs.declared.judgement.Judged.{Judged}
 use Rattle.hb_table.specs.declared.judgement.Judged.TheVariants.{Admitted, Unknown, Denied}
 use Rattle.hb_verdict.specs.Fields.{value_of, is_connect, is_malformed}
 use Rattle.hb_verdict.specs.Request.{request_of, connect_at, connect_by}
-use Rattle.hb_verdict.specs.Verdict.{verdict, synced, dial_judged}
+use Rattle.hb_verdict.specs.Verdict.{verdict, synced, is_own_door, dial_judged}
 use Rattle.hb_verdict.specs.declared.request.Request.TheVariants.{Refused, Malformed, Connect}
 use Rattle.hb_verdict.specs.declared.verdict.Verdict.{Verdict}
 use Rattle.hb_verdict.specs.declared.verdict.Verdict.TheVariants.{Status, Reset, Dial}
@@ -40,19 +40,22 @@ use Rattle.hb_inbound.proofs.Left.{IsLeft, left_so, refuses_left, resets_left, l
 
 -- THE TARGET THAT A REQUEST NAMES
 
-dial_is : (out full : Bool) (j : Judged) (to target : Target) → cond out (Status 503) (dial_judged j to full) ≡ Dial target → to ≡ target
-dial_is true full j to target is = absurd (cc)
-dial_is false full Unknown to target is = absurd (cc)
-dial_is false full Denied to target is = absurd (cc)
-dial_is false true Admitted to target is = absurd (cc)
-dial_is false false Admitted to target is = cc
+dial_is : (out own full : Bool) (j : Judged) (to target : Target) → cond out (Status 503) (dial_judged j own full to) ≡ Dial target
+    → to ≡ target
+dial_is true own full j to target is = absurd (cc)
+dial_is false own full Unknown to target is = absurd (cc)
+dial_is false own full Denied to target is = absurd (cc)
+dial_is false true full Admitted to target is = absurd (cc)
+dial_is false false true Admitted to target is = absurd (cc)
+dial_is false false false Admitted to target is = cc
 
-no_reset : (out full : Bool) (j : Judged) (to : Target) → cond out (Status 503) (dial_judged j to full) ≡ Reset → ⊥
-no_reset true full j to is = cc
-no_reset false full Unknown to is = cc
-no_reset false full Denied to is = cc
-no_reset false true Admitted to is = cc
-no_reset false false Admitted to is = cc
+no_reset : (out own full : Bool) (j : Judged) (to : Target) → cond out (Status 503) (dial_judged j own full to) ≡ Reset → ⊥
+no_reset true own full j to is = cc
+no_reset false own full Unknown to is = cc
+no_reset false own full Denied to is = cc
+no_reset false true full Admitted to is = cc
+no_reset false false true Admitted to is = cc
+no_reset false false false Admitted to is = cc
 
 module _ (h : Resources) (peer : Peer) (full : Bool) (destination : Ip) where
   names_at : (r : Result Target BadTarget) (target : Target) → verdict (connect_at destination r) h peer full ≡ Dial target
@@ -61,7 +64,7 @@ module _ (h : Resources) (peer : Peer) (full : Bool) (destination : Ip) where
   names_at (Ok to) target is = by (ip_eq to.ip destination) is
     where
       by : (b : Bool) → verdict (cond b (Connect to) (Refused 400)) h peer full ≡ Dial target → Some to ≡ Some target
-      by true is = ap Some (dial_is (not (synced h)) full (judged h peer to) to target is)
+      by true is = ap Some (dial_is (not (synced h)) (is_own_door h.inbound to) full (judged h peer to) to target is)
       by false is = absurd (cc)
 
   names_by : (o : Option (List ℕ)) (target : Target) → verdict (connect_by destination o) h peer full ≡ Dial target
@@ -74,7 +77,7 @@ module _ (h : Resources) (peer : Peer) (full : Bool) (destination : Ip) where
   never_at (Ok to) is = by (ip_eq to.ip destination) is
     where
       by : (b : Bool) → verdict (cond b (Connect to) (Refused 400)) h peer full ≡ Reset → ⊥
-      by true is = no_reset (not (synced h)) full (judged h peer to) to is
+      by true is = no_reset (not (synced h)) (is_own_door h.inbound to) full (judged h peer to) to is
       by false is = cc
 
   never_by : (o : Option (List ℕ)) → verdict (connect_by destination o) h peer full ≡ Reset → ⊥

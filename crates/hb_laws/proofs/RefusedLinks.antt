@@ -150,8 +150,8 @@ closes_healthy_link g h = closes_whole g _ (dials g ∷ accepts ∷ []) h (sym h
 
 -- where no link is one to the control plane nothing is applied, and nothing is held
 nothing_applied : (g : NodeConfig) (points : List point.Point) → InnerLaw points
-    → ((l : ℕ) → list_any (is_control_of l) (point.entries points) ≡ false) → held g points ≡ nothing_held g.network g.node
-nothing_applied g points inner none = stays [] points refl (nothing_held g.network g.node)
+    → ((l : ℕ) → list_any (is_control_of l) (point.entries points) ≡ false) → held g points ≡ nothing_held g.network g.node g.inbound
+nothing_applied g points inner none = stays [] points refl (nothing_held g.network g.node g.inbound)
   where
     stays : (front rest : List point.Point) → points ≡ front ++ rest → (h : Resources) → fold held_by h rest ≡ h
     stays front [] are h = refl
@@ -170,16 +170,17 @@ no_length (x ∷ xs) is = absurd (omega (arith, is))
 no_entries : {K X : Type 0} (R : K → K → Ordering) → entries_of (empty {X = X} {R = R}) ≡ []
 no_entries {K} {X} R = no_length (entries_of (empty {X = X} {R = R})) (sym (len-entries (empty {X = X} {R = R})) ∙ len-empty R X)
 
-unknown : (network node : List ℕ) (ip : Ip) → known (nothing_held network node) ip ≡ None
+unknown : (network node : List ℕ) (inbound : Option Target) (ip : Ip) → known (nothing_held network node inbound) ip ≡ None
 unfolding workload_at
-unknown network node ip =
+unknown network node inbound ip =
     ap (λ (es : List (List ℕ × Versioned AddressRecord)). option_and_then (λ e. cond (bytes_eq e.1.node node) (Some e) None)
     (least (filter (λ e. has_address network ip e.1) (filter_map named_workload es)))) (no_entries (slice_cmp nat_cmp))
 
-nobody_admitted : (network node : List ℕ) (peer : Peer) (target : Target) → judged (nothing_held network node) peer target ≡ Unknown
-nobody_admitted network node peer target =
-    ap (λ (o : Option (List ℕ × Workload)). judged_at (nothing_held network node) o (record { peer = peer; target = target }))
-    (unknown network node target.ip)
+nobody_admitted : (network node : List ℕ) (inbound : Option Target) (peer : Peer) (target : Target)
+    → judged (nothing_held network node inbound) peer target ≡ Unknown
+nobody_admitted network node inbound peer target =
+    ap (λ (o : Option (List ℕ × Workload)). judged_at (nothing_held network node inbound) o (record { peer = peer; target = target }))
+    (unknown network node inbound target.ip)
 
 pub goes_unheld : GoesUnheld
 goes_unheld to came bytes g h =
@@ -189,7 +190,7 @@ goes_unheld to came bytes g h =
     let is : IsAdmitted g s.front 1 1 = (h.access s.front s.p s.rest s.points_are goes s.is 2 refl).0 1 1 (ap (owner 2) s.before_is) in
     let none = nothing_applied g (control_of s.front) (h.laws s.front (s.p ∷ s.rest) s.points_are).control.inner
     (λ l. untold (is_control_of l) s.front (ap (list_any (is_control_of l)) s.before_is)) in
-    let no : Unknown ≡ Admitted = sym (nobody_admitted g.network g.node is.peer is.target)
+    let no : Unknown ≡ Admitted = sym (nobody_admitted g.network g.node g.inbound is.peer is.target)
     ∙ sym (ap (λ (r : Resources). judged r is.peer is.target) none) ∙ is.admitted in
     cc
 

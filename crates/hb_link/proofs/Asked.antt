@@ -20,7 +20,7 @@ use Rattle.hb_verdict.specs.Request.{request_of}
 use Rattle.hb_table.specs.Judgement.{judged}
 use Rattle.hb_table.specs.declared.judgement.Judged.{Judged}
 use Rattle.hb_table.specs.declared.judgement.Judged.TheVariants.{Admitted, Unknown, Denied}
-use Rattle.hb_verdict.specs.Verdict.{verdict, dial_judged, synced}
+use Rattle.hb_verdict.specs.Verdict.{verdict, dial_judged, is_own_door, synced}
 use Rattle.hb_verdict.specs.declared.request.Request.{Request}
 use Rattle.hb_verdict.specs.declared.request.Request.TheVariants.{Refused, Malformed, Connect}
 use Rattle.hb_verdict.specs.declared.verdict.Verdict.{Verdict}
@@ -339,16 +339,18 @@ module _ (x : Inbound) where
       grind (arith, nat_tests, same)
 
 -- a status has three digits
-judged_fits : (j : Judged) (target : Target) (full : Bool) (n : ℕ) → dial_judged j target full ≡ Status n → (100 ≤ n) × (n < 1000)
-judged_fits Unknown target full n is = let same : 404 ≡ n = cc in (omega (arith, same), omega (arith, same))
-judged_fits Denied target full n is = let same : 401 ≡ n = cc in (omega (arith, same), omega (arith, same))
-judged_fits Admitted target true n is = let same : 503 ≡ n = cc in (omega (arith, same), omega (arith, same))
-judged_fits Admitted target false n is = absurd (cc)
+judged_fits : (j : Judged) (own full : Bool) (target : Target) (n : ℕ) → dial_judged j own full target ≡ Status n
+    → (100 ≤ n) × (n < 1000)
+judged_fits Unknown own full target n is = let same : 404 ≡ n = cc in (omega (arith, same), omega (arith, same))
+judged_fits Denied own full target n is = let same : 401 ≡ n = cc in (omega (arith, same), omega (arith, same))
+judged_fits Admitted true full target n is = let same : 400 ≡ n = cc in (omega (arith, same), omega (arith, same))
+judged_fits Admitted false true target n is = let same : 503 ≡ n = cc in (omega (arith, same), omega (arith, same))
+judged_fits Admitted false false target n is = absurd (cc)
 
-dial_fits : (b : Bool) (j : Judged) (target : Target) (full : Bool) (n : ℕ)
-    → cond b (Status 503) (dial_judged j target full) ≡ Status n → (100 ≤ n) × (n < 1000)
-dial_fits true j target full n is = let same : 503 ≡ n = cc in (omega (arith, same), omega (arith, same))
-dial_fits false j target full n is = judged_fits j target full n is
+dial_fits : (b : Bool) (j : Judged) (own full : Bool) (target : Target) (n : ℕ)
+    → cond b (Status 503) (dial_judged j own full target) ≡ Status n → (100 ≤ n) × (n < 1000)
+dial_fits true j own full target n is = let same : 503 ≡ n = cc in (omega (arith, same), omega (arith, same))
+dial_fits false j own full target n is = judged_fits j own full target n is
 
 pub verdict_fits : (request : Request) (held : Resources) (peer : Peer) (full : Bool) (n : ℕ) → IsAnswerable request
     → verdict request held peer full ≡ Status n → (100 ≤ n) × (n < 1000)
@@ -356,7 +358,7 @@ verdict_fits (Refused status) held peer full n fits is =
     let same : status ≡ n = cc in (omega (arith, same, fits.0), omega (arith, same, fits.1))
 verdict_fits Malformed held peer full n fits is = absurd (cc)
 verdict_fits (Connect target) held peer full n fits is =
-    dial_fits (not (synced held)) (judged held peer target) target full n is
+    dial_fits (not (synced held)) (judged held peer target) (is_own_door held.inbound target) full target n is
 
 -- the same link
 pub goes_as : (k : Link) {guard : Guard} {a : Local} {m n : Link} {told now : Told} → n ≡ m → m.number ≡ k.number

@@ -80,7 +80,7 @@ impl Drive {
         let node = text_of(rt, alloc, b"n1");
         Drive {
             link: Link::accepted(alloc, 7).ok().expect(rt, "memory"),
-            held: Held::new(alloc, network, node),
+            held: Held::new(alloc, network, node, None),
             others: 0,
             limit: 4096,
             told: Told {

@@ -13,4 +13,6 @@ pub struct NodeConfig {
     pub network: Text,
     /// The node's name: its workloads tell it.
     pub node: Text,
+    /// Where its own door for tunnels listens; `None`: it has no such door. Nothing is dialled there.
+    pub inbound: Option<Target>,
 }

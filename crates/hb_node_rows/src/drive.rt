@@ -25,6 +25,7 @@ fn config(rt: &impl Abort, alloc: Global) -> NodeConfig {
         discovery: read_target(b"10.0.0.1:15010").ok().expect(rt, "a target"),
         network: text_of(rt, alloc, b""),
         node: text_of(rt, alloc, b"n1"),
+        inbound: None,
     }
 }
 

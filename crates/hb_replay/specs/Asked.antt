@@ -6,8 +6,8 @@ use Rattle.hb_words.specs.Command.{RunWords}
 
 -- the node that is asked for
 abbrev pub config_of : RunWords → NodeConfig
-config_of r = record { id = r.id; discovery = r.discovery; network = r.network; node = r.node }
+config_of r = record { id = r.id; discovery = r.discovery; network = r.network; node = r.node; inbound = r.inbound }
 
 -- its run, which so many ticks end, if a number of them does
 abbrev pub words_of : RunWords → Option ℕ → ServeWords
-words_of r ticks = record { config = config_of r; inbound = r.inbound; tunnels = r.tunnels; turns = r.turns; ticks = ticks }
+words_of r ticks = record { config = config_of r; tunnels = r.tunnels; turns = r.turns; ticks = ticks }

@@ -29,6 +29,7 @@ fn config_of(alloc: Global, words: &RunWords<'_>) -> Result<NodeConfig, NoMemory
         discovery: words.discovery,
         network: text_of(alloc, words.network)?,
         node: text_of(alloc, words.node)?,
+        inbound: words.inbound,
     })
 }
 
@@ -44,7 +45,6 @@ pub fn serve_words(
 {
     Ok(ServeWords {
         config: config_of(alloc, words)?,
-        inbound: words.inbound,
         tunnels: words.tunnels as usize,
         turns: words.turns,
         ticks,

@@ -138,6 +138,30 @@ a target with another address than the front's; <usual> <door>; <accept>{'bytes'
 00180104000000010207434f4e4e454354010d31302e302e302e383a38303830','link':2}|{'wake':true}|; 0; link 1 discovery 10.0.0\
 .1:15010: received 0, sent 0, closed stopped|link 2 inbound: received 129, sent 54, closed stopped|verdict 2/1 400<pee\
 r>10.0.0.8:8080|total: 2 links, 0 accepted, 0 revoked, 0 up, 0 down|; \n\
+a target that is the inbound door, at each address; <usual> <door>; <base><accept>{'bytes':'<front><preface>0000000400\
+000000000000190104000000010207434f4e4e454354010e31302e302e302e373a3135303038','link':2}|{'wake':true}|; 0; link 1 disc\
+overy 10.0.0.1:15010: received 344, sent 450, closed stopped|link 2 inbound: received 130, sent 54, closed stopped|ver\
+dict 2/1 400<peer>10.0.0.7:15008|total: 2 links, 0 accepted, 0 revoked, 0 up, 0 down|; \n\
+a target that is the inbound door, at each address of both kinds; <usual> --inbound [::]:15008; <base><accept>{'bytes'\
+:'<front><preface>0000000400000000000000190104000000010207434f4e4e454354010e31302e302e302e373a3135303038','link':2}|{'\
+wake':true}|; 0; link 1 discovery 10.0.0.1:15010: received 344, sent 450, closed stopped|link 2 inbound: received 130, \
+sent 54, closed stopped|verdict 2/1 400<peer>10.0.0.7:15008|total: 2 links, 0 accepted, 0 revoked, 0 up, 0 down|; \n\
+a target that is the inbound door, at the target's address; <usual> --inbound 10.0.0.7:15008; <base><accept>{'bytes':'\
+<front><preface>0000000400000000000000190104000000010207434f4e4e454354010e31302e302e302e373a3135303038','link':2}|{'wa\
+ke':true}|; 0; link 1 discovery 10.0.0.1:15010: received 344, sent 450, closed stopped|link 2 inbound: received 130, s\
+ent 54, closed stopped|verdict 2/1 400<peer>10.0.0.7:15008|total: 2 links, 0 accepted, 0 revoked, 0 up, 0 down|; \n\
+a target at the front's address and port, and the door at another address; <usual> --inbound 10.0.0.8:15008; <base><ac\
+cept>{'bytes':'<front><preface>0000000400000000000000190104000000010207434f4e4e454354010e31302e302e302e373a3135303038'\
+,'link':2}|{'wake':true}|{'open':3}|{'wake':true}|; 0; link 1 discovery 10.0.0.1:15010: received 344, sent 450, closed \
+stopped|link 2 inbound: received 130, sent 41, closed stopped|link 3 upstream 10.0.0.7:15008 of 2/1: received 0, sent \
+0, closed stopped|verdict 2/1 200<peer>10.0.0.7:15008|end 2/1 stopped up 0 down 0|total: 3 links, 1 accepted, 0 revoke\
+d, 0 up, 0 down|; \n\
+a target at the front's address and port, and the door at another port; <usual> --inbound 0.0.0.0:15009; <base><accept\
+>{'bytes':'<front><preface>0000000400000000000000190104000000010207434f4e4e454354010e31302e302e302e373a3135303038','li\
+nk':2}|{'wake':true}|{'open':3}|{'wake':true}|; 0; link 1 discovery 10.0.0.1:15010: received 344, sent 450, closed sto\
+pped|link 2 inbound: received 130, sent 41, closed stopped|link 3 upstream 10.0.0.7:15008 of 2/1: received 0, sent 0, \
+closed stopped|verdict 2/1 200<peer>10.0.0.7:15008|end 2/1 stopped up 0 down 0|total: 3 links, 1 accepted, 0 revoked, \
+0 up, 0 down|; \n\
 an upstream that refuses; <usual> <door>; <base><accept>{'bytes':'<front><preface>000000040000000000<connect>','link':\
 2}|{'wake':true}|{'refuse':3}|{'wake':true}|; 0; link 1 discovery 10.0.0.1:15010: received 344, sent 450, closed stopp\
 ed|link 2 inbound: received 129, sent 58, closed stopped|link 3 upstream 10.0.0.7:8080 of 2/1: received 0, sent 0, clo\

@@ -34,7 +34,7 @@ loop_words inbound turns ticks = record {
 }
 
 abbrev pub words_of : ServeWords → LoopWords
-words_of w = loop_words w.inbound w.turns w.ticks
+words_of w = loop_words w.config.inbound w.turns w.ticks
 
 -- a run that goes on left these entries; where memory lacked, all but at most the last
 abbrev pub AreLawful : NodeConfig → ServeEnd → List Entry → Type 0

@@ -48,7 +48,7 @@ fn serve_asked<G: Given, W: World>(
         links: MOST_LINKS,
         tunnels: words.tunnels,
     };
-    let asked = loop_words(words.inbound, words.turns, words.ticks);
+    let asked = loop_words(words.config.inbound, words.turns, words.ticks);
     match Asked::<G>::new(alloc, words.config, limits) {
         Ok(node) => run(alloc, node, asked, keep, world),
         Err(_) => Served::nothing(),

@@ -1,14 +1,12 @@
 //! What a run of the proxy is asked for.
 
-use hb_base::Target;
 use hb_model::NodeConfig;
 
 /// What a run of the proxy is asked for.
 #[derive(Drop)]
 pub struct ServeWords {
+    /// The node; the inbound door is given where it has one.
     pub config: NodeConfig,
-    /// Where the inbound door listens; `None`: it isn't given.
-    pub inbound: Option<Target>,
     /// The most tunnels at a time.
     pub tunnels: usize,
     /// The most turns.

@@ -204,6 +204,7 @@ seen network node addresses policies =
     record {
       network = network;
       node = node;
+      inbound = None;
       addresses = addresses;
       policies = policies;
       addresses_came = false;

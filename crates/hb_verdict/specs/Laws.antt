@@ -1,5 +1,5 @@
 -- Which requests are dialled for, said of the answer; and small requests, right and wrong.
-use Rattle.std.specs.Prelude.{◌≡◌, ℕ, ◌≤◌, Bool, true, false, List, [], ◌∷◌, Some, Ok, codes}
+use Rattle.std.specs.Prelude.{◌≡◌, ℕ, ◌≤◌, Bool, true, false, List, [], ◌∷◌, Option, Some, Ok, codes}
 use Rattle.hb_base.specs.TargetText.{target_of}
 use Rattle.hb_base.specs.declared.ip.Ip.{Ip}
 use Rattle.hb_base.specs.declared.ip.Ip.TheVariants.{V4}
@@ -14,7 +14,7 @@ use Rattle.hb_table.specs.Judgement.{judged}
 use Rattle.hb_table.specs.declared.judgement.Judged.TheVariants.{Admitted}
 use Rattle.hb_verdict.specs.Fields.{value_of, is_malformed}
 use Rattle.hb_verdict.specs.Request.{request_of}
-use Rattle.hb_verdict.specs.Verdict.{synced, verdict}
+use Rattle.hb_verdict.specs.Verdict.{synced, is_own_door, verdict}
 use Rattle.hb_verdict.specs.declared.request.Request.{Request}
 use Rattle.hb_verdict.specs.declared.request.Request.TheVariants.{Refused, Malformed, Connect}
 use Rattle.hb_verdict.specs.declared.verdict.Verdict.TheVariants.{Dial}
@@ -38,11 +38,13 @@ abbrev pub NoTunnelIsMissed : Type 0
 NoTunnelIsMissed = (headers : HeaderList) (destination : Ip) (target : Target)
     → AsksFor headers destination target → request_of headers destination ≡ Connect target
 
--- the target of a request is dialled exactly where workloads and policies came, they admit the peer, and a place is left
+-- the target of a request is dialled exactly where workloads and policies came, they admit the peer, it isn't the node's own door, and a
+-- place is left
 pub record MayDial (request : Request) (h : Resources) (peer : Peer) (full : Bool) (target : Target) : Type 0 where
   pub asked : request ≡ Connect target
   pub told : synced h ≡ true
   pub admitted : judged h peer target ≡ Admitted
+  pub elsewhere : is_own_door h.inbound target ≡ false
   pub left : full ≡ false
 
 abbrev pub DialsWhereItMay : Type 0
@@ -53,10 +55,26 @@ abbrev pub DialsAllThatItMay : Type 0
 DialsAllThatItMay = (request : Request) (h : Resources) (peer : Peer) (full : Bool) (target : Target)
     → MayDial request h peer full target → verdict request h peer full ≡ Dial target
 
--- small requests to 10.0.0.7
+-- so nothing is dialled at the node's own door
+abbrev pub NeverDialsItsDoor : Type 0
+NeverDialsItsDoor = (request : Request) (h : Resources) (peer : Peer) (full : Bool) (target : Target)
+    → is_own_door h.inbound target ≡ true → verdict request h peer full ≡ Dial target → ⊥
+
+-- 10.0.0.7
 abbrev pub here : Ip
 here = V4 167772167
 
+-- a door that listens at each address is reached at 10.0.0.7, one at another address or port isn't
+abbrev pub port_80 : Ip → Target
+port_80 ip = record { ip = ip; port = 80 }
+
+abbrev pub DoorIsReached : Ip → Type 0
+DoorIsReached ip = is_own_door (Some (port_80 ip)) (port_80 here) ≡ true
+
+abbrev pub DoorIsMissed : Option Target → Type 0
+DoorIsMissed door = is_own_door door (port_80 here) ≡ false
+
+-- small requests to 10.0.0.7
 abbrev pub connect : Header
 connect = header (codes ":method") (codes "CONNECT")
 

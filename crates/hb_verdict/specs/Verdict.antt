@@ -1,8 +1,11 @@
 -- What a request on a stream of an inbound link is answered, by the resources held.
-use Rattle.std.specs.Prelude.{Bool, true, false, not, ◌&&◌, if◌then◌else◌}
+use Rattle.std.specs.Prelude.{Bool, true, false, not, ◌==◌, ◌&&◌, ◌||◌, if◌then◌else◌, Option, Some, None}
+use Rattle.hb_base.specs.declared.ip.Ip.{Ip}
+use Rattle.hb_base.specs.declared.ip.Ip.TheVariants.{V4, V6}
 use Rattle.hb_base.specs.declared.peer.Peer.{Peer}
 use Rattle.hb_base.specs.declared.target.Target.{Target}
 use Rattle.hb_held.specs.Held.{Resources}
+use Rattle.hb_held.specs.Lookup.{ip_eq}
 use Rattle.hb_table.specs.Judgement.{judged}
 use Rattle.hb_table.specs.declared.judgement.Judged.{Judged}
 use Rattle.hb_table.specs.declared.judgement.Judged.TheVariants.{Admitted, Unknown, Denied}
@@ -15,15 +18,34 @@ use Rattle.hb_verdict.specs.declared.verdict.Verdict.TheVariants.{Status, Reset,
 abbrev pub synced : Resources → Bool
 synced h = h.addresses_came && h.policies_came
 
--- where the peer is admitted, a place is wanted
-abbrev pub dial_judged : Judged → Target → Bool → Verdict
-dial_judged Unknown target full = Status 404
-dial_judged Denied target full = Status 401
-dial_judged Admitted target true = Status 503
-dial_judged Admitted target false = Dial target
+-- the unspecified address (RFC 4291 section 2.5.2): what listens there is reached at each address
+abbrev pub is_unspecified : Ip → Bool
+is_unspecified (V4 n) = n == 0
+is_unspecified (V6 n) = n == 0
+
+-- who connects to the target reaches the door that listens there
+abbrev pub reaches : Target → Target → Bool
+reaches target door = door.port == target.port && (is_unspecified door.ip || ip_eq door.ip target.ip)
+
+-- the target is the node's own door for tunnels, which takes the word of whoever reaches it for who a peer is
+abbrev pub is_own_door : Option Target → Target → Bool
+is_own_door None target = false
+is_own_door (Some door) target = reaches target door
+
+-- where the peer is admitted, the target is to be another one than the door, and a place is wanted
+abbrev pub dial_admitted : Bool → Bool → Target → Verdict
+dial_admitted true full target = Status 400
+dial_admitted false true target = Status 503
+dial_admitted false false target = Dial target
+
+abbrev pub dial_judged : Judged → Bool → Bool → Target → Verdict
+dial_judged Unknown own full target = Status 404
+dial_judged Denied own full target = Status 401
+dial_judged Admitted own full target = dial_admitted own full target
 
 abbrev pub dial_for : Resources → Peer → Target → Bool → Verdict
-dial_for h peer target full = if not (synced h) then Status 503 else dial_judged (judged h peer target) target full
+dial_for h peer target full =
+    if not (synced h) then Status 503 else dial_judged (judged h peer target) (is_own_door h.inbound target) full target
 
 abbrev pub verdict : Request → Resources → Peer → Bool → Verdict
 verdict (Refused status) h peer full = Status status

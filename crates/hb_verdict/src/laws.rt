@@ -3,6 +3,9 @@
 ghost use Rattle.hb_verdict.specs.Laws.{TunnelsAreAskedFor, NoTunnelIsMissed, DialsWhereItMay, DialsAllThatItMay, AsksSo, LateIsMalformed};
 ghost use Rattle.hb_verdict.specs.Laws.{TwiceIsMalformed, StatusIsMalformed, NoTargetIsMalformed, SchemeIsMalformed, UpperCaseIsMalformed};
 ghost use Rattle.hb_verdict.specs.Laws.{NoNameIsMalformed, GetIsRefused, ElsewhereIsRefused};
+ghost use Rattle.hb_verdict.specs.Laws.{NeverDialsItsDoor, DoorIsReached, DoorIsMissed, port_80};
+ghost use Rattle.std.specs.Prelude.{Some, None};
+ghost use Rattle.hb_base.specs.declared.ip.Ip.TheVariants.{V4, V6};
 
 /// A request is one for a tunnel exactly where its headers fit, are well formed, have the method CONNECT and an authority that is
 /// a target at the link's destination.
@@ -11,10 +14,26 @@ pub fn tunnels_are_asked_for()
     ensures all { NoTunnelIsMissed }
 {}
 
-/// A target is dialled exactly where workloads and policies came, they admit the peer, and a place is left.
+/// A target is dialled exactly where workloads and policies came, they admit the peer, it isn't the node's own door for tunnels, and a
+/// place is left.
 pub fn dials_where_it_may()
     ensures only { DialsWhereItMay }
     ensures all { DialsAllThatItMay }
+{}
+
+/// Nothing is dialled at the node's own door for tunnels: what reaches it would be believed who a peer is.
+pub fn its_own_door_is_never_dialled()
+    ensures never { NeverDialsItsDoor }
+{}
+
+/// A door is reached at its own address, and where it listens at the unspecified one at each address; not at another address or port.
+pub fn doors_are_told_apart()
+    ensures own { DoorIsReached (V4 167772167) }
+    ensures each { DoorIsReached (V4 0) }
+    ensures each_of_both { DoorIsReached (V6 0) }
+    ensures address { DoorIsMissed (Some (port_80 (V4 167772168))) }
+    ensures port { DoorIsMissed (Some (record (port_80 (V4 0)) { port = 81 })) }
+    ensures none { DoorIsMissed None }
 {}
 
 /// A small request for a tunnel is one, and small wrong ones aren't.

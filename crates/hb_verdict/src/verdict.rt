@@ -1,10 +1,10 @@
 //! What is answered by what is held.
 
 ghost use Rattle.std.specs.Prelude.{◌≡◌};
-ghost use Rattle.hb_verdict.specs.Verdict.{dial_for, verdict};
+ghost use Rattle.hb_verdict.specs.Verdict.{is_unspecified, reaches, is_own_door, dial_admitted, dial_for, verdict};
 
 use crate::request::Request;
-use hb_base::{Peer, Target};
+use hb_base::{Ip, Peer, Target};
 use hb_held::Held;
 use hb_table::{Judged, judge};
 
@@ -19,7 +19,47 @@ pub enum Verdict {
     Dial(Target),
 }
 
-/// The target is known and admits the peer, and there is a place for the tunnel.
+/// Whether it is the unspecified address (RFC 4291 section 2.5.2): what listens there is reached at each address.
+fn is_unspecified(ip: Ip) -> bool
+    ensures { result ≡ is_unspecified ip }
+{
+    match ip {
+        Ip::V4(n) => n == 0,
+        Ip::V6(n) => n == 0,
+    }
+}
+
+/// Whether who connects to the target reaches the door that listens there.
+fn reaches(target: Target, door: Target) -> bool
+    ensures { result ≡ reaches target door }
+{
+    door.port == target.port && (is_unspecified(door.ip) || door.ip == target.ip)
+}
+
+/// Whether the target is the node's own door for tunnels.
+fn is_own_door(held: &Held, target: Target) -> bool
+    ensures { result ≡ is_own_door held.now.inbound target }
+{
+    match held.inbound() {
+        Some(door) => reaches(target, door),
+        None => false,
+    }
+}
+
+/// The target admits the peer. It isn't the node's own door, and there is a place for the tunnel.
+fn dial_admitted(own: bool, full: bool, target: Target) -> Verdict
+    ensures { result ≡ dial_admitted own full target }
+{
+    if own {
+        Verdict::Status(400)
+    } else if full {
+        Verdict::Status(503)
+    } else {
+        Verdict::Dial(target)
+    }
+}
+
+/// The target is known and admits the peer.
 fn dial_for(held: &Held, peer: &Peer, target: Target, full: bool) -> Verdict
     ensures { result ≡ dial_for held.now peer.now target full }
 {
@@ -29,14 +69,14 @@ fn dial_for(held: &Held, peer: &Peer, target: Target, full: bool) -> Verdict
     match judge(held, peer, target) {
         Judged::Unknown => Verdict::Status(404),
         Judged::Denied => Verdict::Status(401),
-        Judged::Admitted if full => Verdict::Status(503),
-        Judged::Admitted => Verdict::Dial(target),
+        Judged::Admitted => dial_admitted(is_own_door(held, target), full, target),
     }
 }
 
 /// The answer to a request of this peer, by the resources held; `full`: no place is left for a tunnel. Of a tunnel the first of
 /// these that applies: 503 where the control plane hasn't told workloads and policies yet, 404 where the target is no workload of
-/// this node, 401 where its policies refuse the peer, 503 where no place is left, else its target is dialled.
+/// this node, 401 where its policies refuse the peer, 400 where it is the node's own door for tunnels (whoever reaches that is
+/// believed who a peer is), 503 where no place is left, else its target is dialled.
 pub fn verdict_on(request: Request, held: &Held, peer: &Peer, full: bool) -> Verdict
     ensures { result ≡ verdict request held.now peer.now full }
 {

@@ -144,7 +144,7 @@ fn a_front_stands_where_memory_was_wanting(rt: HostRuntime) {
         resource(&rt, b"w", AT_7),
         resource(&rt, b"x", AT_8),
     );
-    let mut held = Held::new(rt.alloc(), text(&rt, b"net"), text(&rt, b"n"));
+    let mut held = Held::new(rt.alloc(), text(&rt, b"net"), text(&rt, b"n"), None);
     let _ = held.apply(rt.alloc(), &first).expect(&rt, "memory");
     let wanting = is_wanting(&rt, &mut held, &second, &namespace, &hostname);
     if wanting {

@@ -17,7 +17,7 @@ use Rattle.hb_whole.specs.Sight.{shown_of, closes_by}
 use Rattle.hb_whole.specs.Stands.{Stands, AreNotes, MayBeDialled, EndsBy}
 use Rattle.hb_whole.specs.declared.proxy.Proxy.{Proxy}
 
-pub fresh_stands : (p : Proxy) (g : NodeConfig) → p.control ≡ fresh_state g (nothing_held g.network g.node)
+pub fresh_stands : (p : Proxy) (g : NodeConfig) → p.control ≡ fresh_state g (nothing_held g.network g.node g.inbound)
     → Shows p.control (control.fresh g) → ShowsAll p.side.links (λ l. no_link) → told p.side.notes ≡ Some [] → p.dials ≡ None
     → p.ends_for ≡ None → p.strange ≡ false → Stands [] p []
 fresh_stands p g state shows links noted dials ends sound = record {
@@ -33,7 +33,7 @@ fresh_stands p g state shows links noted dials ends sound = record {
   sound = sound;
 }
 
-pub fresh_node : (p : Proxy) (g : NodeConfig) → p.control ≡ fresh_state g (nothing_held g.network g.node) → is_idle p.side.links ≡ true
+pub fresh_node : (p : Proxy) (g : NodeConfig) → p.control ≡ fresh_state g (nothing_held g.network g.node g.inbound) → is_idle p.side.links ≡ true
     → p.ends_for ≡ None → IsFreshNode (shown_of p)
 fresh_node p g state idle ends = record {
   going = ends;
