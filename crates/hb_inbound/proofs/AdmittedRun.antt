@@ -3,6 +3,7 @@ use Rattle.std.proofs.Common.{◌≡◌, inl, inr, ℕ, ◌==◌, Bool, true, fa
 use Rattle.std.proofs.lemmas.Bool.{false≢true, eq-eqb, ne_eqb}
 use Rattle.hb_base.specs.declared.cause.Cause.TheVariants as cause
 use Rattle.hb_base.specs.declared.identity.Identity.{Identity}
+use Rattle.hb_base.specs.declared.ip.Ip.{Ip}
 use Rattle.hb_base.specs.declared.peer.Peer.{Peer}
 use Rattle.hb_base.specs.declared.target.Target.{Target}
 use Rattle.hb_conn.specs.Connection.{Connection}
@@ -11,6 +12,7 @@ use Rattle.hb_conn.specs.declared.found.Found.{Found}
 use Rattle.hb_conn.specs.declared.found.Found.TheVariants as found
 use Rattle.hb_front.specs.Faults.{number_of}
 use Rattle.hb_held.specs.Held.{Resources}
+use Rattle.hb_held.specs.Lookup.{ip_eq}
 use Rattle.hb_held.specs.Outcome.{after_response}
 use Rattle.hb_history.specs.Points as history
 use Rattle.hb_hpack.specs.declared.header.HeaderList.{HeaderList}
@@ -20,6 +22,7 @@ use Rattle.hb_table.specs.declared.judgement.Judged.TheVariants.{Admitted, Unkno
 use Rattle.hb_verdict.specs.Request.{request_of}
 use Rattle.hb_verdict.specs.declared.verdict.Verdict.{Verdict}
 use Rattle.hb_verdict.specs.declared.verdict.Verdict.TheVariants.{Status, Reset, Dial}
+use Rattle.hb_verdict.proofs.Asked.{asked_for}
 use Rattle.hb_verdict.proofs.Dialled.{only_where_it_may}
 use Rattle.hb_world.specs.declared.entry.Entry.{Entry}
 use Rattle.hb_world.specs.declared.entry.Entry.TheVariants as e
@@ -32,17 +35,18 @@ use Rattle.hb_inbound.specs.Sides.{held_by, peer_of, peer_by, target_of, target_
 use Rattle.hb_inbound.specs.Tunnel.{Tunnel, Stage, unasked, due, opening, live, over, takes_place, at_stage, asked, ends_by, ends_for, left_with, up_entered, came_up, peer_ended, requested_with}
 use Rattle.hb_inbound.proofs.Grown.{fold_one}
 use Rattle.hb_inbound.proofs.Left.{left_placeless, refuses_left, resets_left, leaves_left, refuses_asked, resets_asked, leaves_asked}
-use Rattle.hb_inbound.proofs.Admitted.{Tells, KnowsBy, Admits, Leaves_all, none_in, placeless, held_stays, peer_stays, target_stays, tells_on, knows_on, moves_on, same_on, ends_on, at_one, one_on}
+use Rattle.hb_inbound.proofs.Admitted.{told_by_front, Tells, KnowsBy, Admits, Leaves_all, none_in, placeless, held_stays, peer_stays, target_stays, tells_on, knows_on, moves_on, same_on, ends_on, at_one, one_on}
 
 -- a tunnel without a place is told of no one
-none_told : (h : Resources) (peer : Peer) (parts : List Part) (s : ℕ) (t : Tunnel) → takes_place t.stage ≡ false → Tells h peer parts s t
-none_told h peer parts s t none place = placeless (takes_place t.stage) none place
+none_told : (h : Resources) (front : Peer × Ip) (parts : List Part) (s : ℕ) (t : Tunnel) → takes_place t.stage ≡ false
+    → Tells h front parts s t
+none_told h front parts s t none place = placeless (takes_place t.stage) none place
 
 module _ (start : Resources) (a : Local) (parts : List Part) (admits : Admits start parts a) where
-  same_tunnels : (p : Part) (y : Inbound) → Leaves_all p → y.peer ≡ a.link.peer → y.tunnels ≡ a.link.tunnels
+  same_tunnels : (p : Part) (y : Inbound) → Leaves_all p → told_by_front y ≡ told_by_front a.link → y.tunnels ≡ a.link.tunnels
       → KnowsBy y.phase (parts ++ p ∷ []) y → Admits start (parts ++ p ∷ []) (with_link y a)
-  same_tunnels p y leaves peer tunnels knows =
-      moves_on start parts p a y leaves peer knows
+  same_tunnels p y leaves front tunnels knows =
+      moves_on start parts p a y leaves front knows
       (λ s. ap (λ (f : ℕ → Tunnel). (f s).target) tunnels)
       (λ s is. sym (ap (λ (f : ℕ → Tunnel). takes_place (f s).stage) tunnels) ∙ is) admits
 
@@ -53,7 +57,7 @@ module _ (start : Resources) (a : Local) (parts : List Part) (admits : Admits st
   up_leaves k z = record { held = λ h. refl; peer = λ w. refl; targets = λ s t. refl }
 
   came_same : (phase : Phase) (bytes : List ℕ) → let y = came_by phase bytes a.link in
-      (y.peer ≡ a.link.peer) × (y.phase ≡ a.link.phase) × (y.tunnels ≡ a.link.tunnels)
+      (told_by_front y ≡ told_by_front a.link) × (y.phase ≡ a.link.phase) × (y.tunnels ≡ a.link.tunnels)
   came_same unborn bytes = (refl, refl, refl)
   came_same arriving bytes = (refl, refl, refl)
   came_same fronting bytes = (refl, refl, refl)
@@ -165,9 +169,9 @@ module _ (start : Resources) (a : Local) (parts : List Part) (admits : Admits st
         holds = held_stays start parts p a.held (λ h. refl) admits.holds;
         knows = subst (λ (ph : Phase). KnowsBy ph (parts ++ p ∷ []) y) (sym is) (peer_stays start parts p (λ w. refl) ∙ knows);
         each = at_one s (λ t. requested_with headers end) (record a.link { conn = c })
-            (λ k t. Tells a.held a.link.peer (parts ++ p ∷ []) k t)
-            (none_told a.held a.link.peer (parts ++ p ∷ []) s (requested_with headers end) refl)
-            (λ k apart. tells_on start parts p a.held a.link.peer k (a.link.tunnels k) (a.link.tunnels k) (λ w. refl) (λ t. refl) refl
+            (λ k t. Tells a.held (told_by_front a.link) (parts ++ p ∷ []) k t)
+            (none_told a.held (told_by_front a.link) (parts ++ p ∷ []) s (requested_with headers end) refl)
+            (λ k apart. tells_on start parts p a.held (told_by_front a.link) k (a.link.tunnels k) (a.link.tunnels k) (λ w. refl) (λ t. refl) refl
             (λ some. some) (admits.each k));
       }
   found_admits ps (found.Chunk s end) headers bytes c is =
@@ -207,6 +211,14 @@ module _ (start : Resources) (a : Local) (parts : List Part) (admits : Admits st
       (only_where_it_may (request_of headers a.link.destination) a.held a.link.peer full target (sym is)).admitted
   answered_dial headers full target (inr other) = absurd (let no : Dial target ≡ Status 500 = other.2 in cc)
 
+  -- at the address that it meant
+  answered_here : (headers : HeaderList) (full : Bool) (target : Target) → IsAnswerTo a headers full (Dial target)
+      → ip_eq target.ip a.link.destination ≡ true
+  answered_here headers full target (inl is) =
+      (asked_for headers a.link.destination target
+      (only_where_it_may (request_of headers a.link.destination) a.held a.link.peer full target (sym is)).asked).here
+  answered_here headers full target (inr other) = absurd (let no : Dial target ≡ Status 500 = other.2 in cc)
+
   peer_known : a.link.phase ≡ serving → peer_of parts ≡ Some a.link.peer
   peer_known is = subst (λ (ph : Phase). KnowsBy ph parts a.link) is admits.knows
 
@@ -216,7 +228,7 @@ module _ (start : Resources) (a : Local) (parts : List Part) (admits : Admits st
 
   decided_here : (s : ℕ) (full : Bool) (answer : Verdict) (headers : HeaderList) (end : Bool) → a.link.phase ≡ serving
       → IsAnswerTo a headers full answer
-      → Tells a.held a.link.peer (parts ++ decided s full answer ∷ []) s (tunnel_for answer headers end)
+      → Tells a.held (told_by_front a.link) (parts ++ decided s full answer ∷ []) s (tunnel_for answer headers end)
   decided_here s full (Status status) headers end is answers = λ some. absurd (false≢true some)
   decided_here s full Reset headers end is answers = λ some. absurd (false≢true some)
   decided_here s full (Dial target) headers end is answers = λ some.
@@ -226,6 +238,7 @@ module _ (start : Resources) (a : Local) (parts : List Part) (admits : Admits st
         target_is = fold_one (target_by s) None parts p
             ∙ ap (λ (b : Bool). cond b (Some target) (target_of s parts)) (eq-eqb s s refl) ∙ ap Some (sym (asked_target target end));
         admitted = ap (judged a.held a.link.peer) (asked_target target end) ∙ answered_dial headers full target answers;
+        here = ap (λ (to : Target). ip_eq to.ip a.link.destination) (asked_target target end) ∙ answered_here headers full target answers;
       }
 
   decided_admits : (s : ℕ) (full : Bool) (answer : Verdict) (headers : HeaderList) (end : Bool) → a.link.phase ≡ serving
@@ -237,9 +250,9 @@ module _ (start : Resources) (a : Local) (parts : List Part) (admits : Admits st
       record {
         holds = held_stays start parts p a.held (λ h. refl) admits.holds;
         knows = subst (λ (ph : Phase). KnowsBy ph (parts ++ p ∷ []) y) (sym is) (peer_stays start parts p (λ w. refl) ∙ peer_known is);
-        each = at_one s (λ t. tunnel_for answer headers end) a.link (λ k t. Tells a.held a.link.peer (parts ++ p ∷ []) k t)
+        each = at_one s (λ t. tunnel_for answer headers end) a.link (λ k t. Tells a.held (told_by_front a.link) (parts ++ p ∷ []) k t)
             (decided_here s full answer headers end is answers)
-            (λ k apart. tells_on start parts p a.held a.link.peer k (a.link.tunnels k) (a.link.tunnels k) (λ w. refl)
+            (λ k apart. tells_on start parts p a.held (told_by_front a.link) k (a.link.tunnels k) (a.link.tunnels k) (λ w. refl)
             (λ t. ap (λ (b : Bool). cond b (dialled_to t answer) t) (swapped k s apart)) refl (λ some. some) (admits.each k));
       }
     where
@@ -259,16 +272,16 @@ module _ (start : Resources) (a : Local) (parts : List Part) (admits : Admits st
   no_place stage b none some = absurd (false≢true (sym none ∙ some))
 
   -- an update
-  judged_one : (h : Resources) (peer : Peer) (parts_now : List Part) (s : ℕ) (t : Tunnel) (b : Bool) (j : Judged)
-      → takes_place t.stage ≡ b → judged h peer t.target ≡ j
-      → (b ≡ true → (peer_of parts_now ≡ Some peer) × (target_of s parts_now ≡ Some t.target))
-      → Tells h peer parts_now s (cond b (judged_by j t) t)
-  judged_one h peer parts_now s t false j place is known = λ some. absurd (false≢true (sym place ∙ some))
-  judged_one h peer parts_now s t true Admitted place is known = λ some.
-      record { peer_is = (known refl).0; target_is = (known refl).1; admitted = is }
-  judged_one h peer parts_now s t true Unknown place is known = λ some. placeless (takes_place (ends_by cause.Revoked t.stage))
+  judged_one : (h : Resources) (front : Peer × Ip) (parts_now : List Part) (s : ℕ) (t : Tunnel) (b : Bool) (j : Judged)
+      → takes_place t.stage ≡ b → judged h front.0 t.target ≡ j
+      → (b ≡ true → (peer_of parts_now ≡ Some front.0) × (target_of s parts_now ≡ Some t.target) × (ip_eq t.target.ip front.1 ≡ true))
+      → Tells h front parts_now s (cond b (judged_by j t) t)
+  judged_one h front parts_now s t false j place is known = λ some. absurd (false≢true (sym place ∙ some))
+  judged_one h front parts_now s t true Admitted place is known = λ some.
+      record { peer_is = (known refl).0; target_is = (known refl).1; admitted = is; here = (known refl).2 }
+  judged_one h front parts_now s t true Unknown place is known = λ some. placeless (takes_place (ends_by cause.Revoked t.stage))
       (none_in cause.Revoked t.stage) some
-  judged_one h peer parts_now s t true Denied place is known = λ some. placeless (takes_place (ends_by cause.Revoked t.stage))
+  judged_one h front parts_now s t true Denied place is known = λ some. placeless (takes_place (ends_by cause.Revoked t.stage))
       (none_in cause.Revoked t.stage) some
 
   unasked_stays : (h : Resources) (t : Tunnel) → t.stage ≡ unasked
@@ -384,10 +397,11 @@ module _ (start : Resources) (a : Local) (parts : List Part) (admits : Admits st
         knows = knows_on start parts a.link.phase p a.link y (λ w. refl) refl (λ s is. unasked_stays h (a.link.tunnels s) is) admits.knows;
         each = λ s.
             let t = a.link.tunnels s in
-            judged_one h a.link.peer (parts ++ p ∷ []) s t (takes_place t.stage) (judged h a.link.peer t.target) refl refl
+            judged_one h (told_by_front a.link) (parts ++ p ∷ []) s t (takes_place t.stage) (judged h a.link.peer t.target) refl refl
             (λ some. (
               peer_stays start parts p (λ w. refl) ∙ (admits.each s some).peer_is,
               target_stays start parts s p (λ k. refl) ∙ (admits.each s some).target_is,
+              (admits.each s some).here,
             ));
       })
   step_admits l (stopped why) b steps =

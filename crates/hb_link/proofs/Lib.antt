@@ -30,6 +30,7 @@ pub mod Settles
 pub mod Shown
 pub mod Turns
 pub mod UpEnds
+pub mod Updating
 pub mod Waits
 pub mod Walked
 pub mod Writing

@@ -8,6 +8,7 @@ pub mod Lifted
 pub mod Limits
 pub mod NotShown
 pub mod Showing
+pub mod Sparing
 pub mod Stirs
 pub mod Sweeping
 pub mod Telling

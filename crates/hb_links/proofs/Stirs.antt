@@ -27,7 +27,7 @@ not_whole l n at is same =
     (and_cases (l == owner_of at n) true is)
 
 -- what doesn't stir then is of another link, and didn't before
-unstirred : (stirs : Option Family) (from : Option ℕ) (at : Option Place) (l n : ℕ)
+pub unstirred : (stirs : Option Family) (from : Option ℕ) (at : Option Place) (l n : ℕ)
     → (in_family (stirs_after stirs l) at n || is_from (stirs_from_after stirs from l) (owner_of at n)) ≡ false
     → (owner_of at n ≢ l) × ((in_family stirs at n || is_from from (owner_of at n)) ≡ false)
 unstirred None from at l n is =

@@ -1,8 +1,7 @@
 -- What all links see at once is told to one link after another.
 use Rattle.std.specs.Prelude.{⊤}
 use Rattle.std.proofs.Common.{◌≡◌, ◌≢◌, ◌⊎◌, inl, inr, ⊎_elim, ℕ, ◌<◌, ◌≤◌, ◌^◌, ◌-◌, Bool, true, false, ◌==◌, cond, List, [], ◌∷◌, ◌++◌, map, fold, Option, Some, None, is_some, IsSome, nat_le, refl, ap, sym, ◌∙◌, subst, arith}
-use Rattle.std.proofs.Math.Dec.{leb-zero}
-use Rattle.std.proofs.lemmas.Bool.{cases_eq, cases_order, or_parts, false≢true}
+use Rattle.std.proofs.lemmas.Bool.{cases_eq, cases_order}
 use Rattle.std.proofs.lemmas.Grind.{fold-append, flat_map-append}
 use Rattle.std.proofs.lemmas.List.{append_assoc, append-nil}
 use Rattle.std.specs.FinMap.{get, insert}
@@ -31,13 +30,13 @@ use Rattle.hb_proxy.specs.Points.{Point, of_control, of_link, part_in, parts_of,
 use Rattle.hb_proxy.specs.Runs.{Steps, StandsFor, goes_on}
 use Rattle.hb_proxy.specs.Ups.{up_now}
 use Rattle.hb_links.specs.declared.links.Links.{Links}
-use Rattle.hb_links.specs.Busy.{is_at}
 use Rattle.hb_links.specs.Reaches.{Guard, Leads, Meets, unguarded, notes, note_in}
-use Rattle.hb_links.specs.Shows.{ShowsAll, ShowsLink}
+use Rattle.hb_links.specs.Shows.{IsIndex, ShowsAll, ShowsLink}
 use Rattle.hb_links.specs.Walks.{IsNext}
 use Rattle.hb_links.proofs.Lifted.{lifted, notes_of}
-use Rattle.hb_links.proofs.Showing.{Map, same_ups}
-use Rattle.hb_links.proofs.Ups.{ups_are, LeavesUp, left_in, inner_in}
+use Rattle.hb_links.proofs.Showing.{Index, Map, same_ups}
+use Rattle.hb_links.proofs.Sparing.{RestsStill}
+use Rattle.hb_links.proofs.Ups.{ups_are as ups_found, LeavesUp, left_in, inner_in}
 
 -- POINTS ONE AFTER ANOTHER
 
@@ -223,10 +222,9 @@ goes P Q q p k links n old new next told now then gives swept is meets next_is g
     parted l apart = ⊎_elim (λ same. absurd (apart same)) (λ either. either) (cases_order l n)
 
 -- all were told
-pub ends : (P : Machine → Type 0) (q : point.Point) (p : Part) (k : Links) (links : Map) (taken : ℕ) (told now : Told)
-    → Swept P q p k links None told now → Meets unguarded P (of_control q) k told
-    (record k { links = links; taken = taken; from = Some 0; stirs_from = Some 0 }) now
-ends P q p k links taken told now swept g x y points stands shows holds steps =
+pub ends : (P : Machine → Type 0) (q : point.Point) (p : Part) (k n : Links) (told now : Told)
+    → n.ups ≡ k.ups → RestsStill k n → Swept P q p k n.links None told now → Meets unguarded P (of_control q) k told n now
+ends P q p k n told now ups_are rests swept g x y points stands shows holds steps =
     let both = swept g x y points stands shows holds steps in
     let see = both.0 in
     let all = both.1 in
@@ -237,23 +235,23 @@ ends P q p k links taken told now swept g x y points stands shows holds steps =
     let ups : (l s : ℕ) → up_now ((z.inbound l).tunnels s) ≡ up_now ((x.inbound l).tunnels s) = λ l s.
     (let before = parts_of l points in
     let u = up_of s before in
-    ups_are l start (local z l) (parts_of l (first ++ all.more)) (links_run g z (first ++ all.more) l then) s
+    ups_found l start (local z l) (parts_of l (first ++ all.more)) (links_run g z (first ++ all.more) l then) s
     ∙ ap (up_of s) (flat_map-append (part_in l) first all.more)
     ∙ fold-append (up_in s) 0 (parts_of l first) (parts_of l all.more)
     ∙ inner_points unguarded g y z all.more l s (up_of s (parts_of l first)) all.leads
     ∙ ap (up_of s) (one_more (part_in l) points (of_control q) ∙ ap (λ (ps : List Part). before ++ ps) see.sees)
     ∙ up_one s before p
     ∙ left_in s u p see.leaves
-    ∙ sym (ups_are l start (local x l) before (links_run g x points l stands) s)) in
+    ∙ sym (ups_found l start (local x l) before (links_run g x points l stands) s)) in
     record {
       more = all.more;
       reached = z;
       leads = all.leads;
       shows = record {
         links = λ l. all.shown l tt;
-        index = same_ups k.ups x.inbound z.inbound ups shows.index;
+        index = subst (λ (u : Index). IsIndex u z.inbound) (sym ups_are) (same_ups k.ups x.inbound z.inbound ups shows.index);
         numbered = λ l some. shows.numbered l (all.there l some);
-        idle = λ l none. absurd (false≢true (sym (or_parts (is_at k.busy l) (nat_le 0 l) none).1 ∙ leb-zero l));
+        idle = rests x.inbound z.inbound shows (λ l. all.shown l tt);
       };
       noted = all.noted;
     }

@@ -1,7 +1,8 @@
 -- A response that is applied, and the end of the run, are told to all links.
 use Rattle.std.specs.Prelude.{⊤}
-use Rattle.std.proofs.Common.{◌≡◌, ⊎_elim, inl, inr, ℕ, Bool, false, cond, Option, Some, None, is_some, IsSome, refl, ap, sym, ◌∙◌, subst}
-use Rattle.std.proofs.lemmas.Bool.{false≢true}
+use Rattle.std.proofs.Common.{◌≡◌, ⊎_elim, inl, inr, ℕ, Bool, false, cond, nat_le, Option, Some, None, is_some, IsSome, refl, ap, sym, ◌∙◌, subst}
+use Rattle.std.proofs.Math.Dec.{leb-zero}
+use Rattle.std.proofs.lemmas.Bool.{or_parts, false≢true}
 use Rattle.std.specs.FinMap.{get, insert}
 use Rattle.hb_base.specs.declared.cause.Cause.{Cause}
 use Rattle.hb_disco.specs.declared.response.Response.{Response}
@@ -27,12 +28,13 @@ use Rattle.hb_proxy.specs.Points.{of_control}
 use Rattle.hb_proxy.specs.Runs.{Steps}
 use Rattle.hb_table.specs.Judgement.{judged}
 use Rattle.hb_links.specs.declared.links.Links.{Links}
-use Rattle.hb_links.specs.Busy.{counted}
+use Rattle.hb_links.specs.Busy.{counted, is_at, touched}
 use Rattle.hb_links.specs.Calls.{Updates, Stops}
 use Rattle.hb_links.specs.Reaches.{Meets, unguarded}
 use Rattle.hb_links.specs.Shows.{IsAway, ShowsLink}
-use Rattle.hb_links.specs.Walks.{IsNext, Telling, TellsBy}
+use Rattle.hb_links.specs.Walks.{IsNext, JudgesAt, Telling, TellsBy}
 use Rattle.hb_links.proofs.Showing.{Map}
+use Rattle.hb_links.proofs.Sparing.{Spares, spares_all, spares_others, same_links, spared_rests}
 use Rattle.hb_links.proofs.Sweeping.{AllSee, Swept, starts, goes, ends}
 
 -- only links change, and the count of places
@@ -58,7 +60,7 @@ held_by held r x = held ≡ after_response x.control.held r
 
 abbrev pub Applies : Resources → Links → Links → Option ℕ → Told → Told → Type 0
 Applies held k n from told now =
-    IsTold k n × IsOn from n.links
+    Spares k n × IsOn from n.links
     × ((l : ℕ) (r : Response) → Swept (held_by held r) (point.applied l r) (part.applied r) k n.links from told now)
 
 abbrev pub Stopping : Cause → Links → Links → Option ℕ → Told → Told → Type 0
@@ -125,37 +127,39 @@ stopped_seen cause g x y steps = record {
 pub applied_starts : (held : Resources) (k : Links) (first : Option ℕ) (told : Told) → IsFirstFrom k.links 0 first
     → Applies held k k first told told
 applied_starts held k first told is = (
-  refl,
+  spares_all k,
   first_on k.links first is,
   λ l r. starts (held_by held r) (point.applied l r) (part.applied r) k first told (λ g x y holds steps. applied_seen l r g x y steps) is,
 )
 
 pub applied_goes : (held : Resources) (k a b : Links) (n : ℕ) (next : Option ℕ) (told now then : Told)
-    → Applies held k a (Some n) told now → TellsBy (calls.Updates held) (get a.links n) n a now b then → IsNext b.links n next
+    → Applies held k a (Some n) told now → JudgesAt held (get a.links n) n a now b then → IsNext b.links n next
     → Applies held k b next told then
 applied_goes held k a b n next told now then applies tells next_is = by (get a.links n) refl tells
   where
-    one : (old new : Link) → get a.links n ≡ Some old → calls.Updates held old now new then
-        → IsNext (insert a.links n new) n next → Applies held k (record a { links = insert a.links n new; taken = b.taken }) next told then
-    one old new is updates next_here = (
-      ap (λ (w : Links). record w { links = insert a.links n new; taken = b.taken }) applies.0,
-      next_on (insert a.links n new) n next next_here,
-      λ l r. goes (held_by held r) (λ c. held ≡ after_response c.held r) (point.applied l r) (part.applied r) k a.links n old new next
-          told now then (λ x i holds. holds) (applies.2 l r) is (updates r) next_here,
+    one : (old new : Link) → get a.links n ≡ Some old → calls.Updates held old now new then → Spares k b
+        → insert a.links n new ≡ b.links → Applies held k b next told then
+    one old new is updates spares links_are = (
+      spares,
+      next_on b.links n next next_is,
+      λ l r. subst (λ (links : Map). Swept (held_by held r) (point.applied l r) (part.applied r) k links next told then) links_are
+          (goes (held_by held r) (λ c. held ≡ after_response c.held r) (point.applied l r) (part.applied r) k a.links n old new next
+          told now then (λ x i holds. holds) (applies.2 l r) is (updates r)
+          (subst (λ (links : Map). IsNext links n next) (sym links_are) next_is)),
     )
 
-    by : (o : Option Link) → get a.links n ≡ o → TellsBy (calls.Updates held) o n a now b then → Applies held k b next told then
+    by : (o : Option Link) → get a.links n ≡ o → JudgesAt held o n a now b then → Applies held k b next told then
     by None none told_so = absurd (let some = sym (ap is_some none) ∙ applies.1 in false≢true some)
-    by (Some old) is told_so =
-        subst (λ (w : Links). Applies held k w next told then) (sym told_so.2)
-        (one old told_so.0 is told_so.1 (subst (λ (w : Links). IsNext w.links n next) told_so.2 next_is))
+    by (Some old) is (new, updates, inl spared) =
+        one old new is updates (subst (Spares k) (sym spared.1) applies.0)
+        (same_links a n old new is spared.0 ∙ ap (λ (w : Links). w.links) (sym spared.1))
+    by (Some old) is (new, updates, inr touches) =
+        one old new is updates (subst (Spares k) (sym touches.1) (spares_others k a n touches.0 new applies.0))
+        (ap (λ (w : Links). w.links) (sym touches.1))
 
-pub applied_ends : (held : Resources) (k a : Links) (told now : Told) → Applies held k a None told now
-    → Updates held k told (record a { from = Some 0; stirs_from = Some 0 }) now
+pub applied_ends : (held : Resources) (k a : Links) (told now : Told) → Applies held k a None told now → Updates held k told a now
 applied_ends held k a told now applies l r =
-    subst (λ (w : Links). Meets unguarded (held_by held r) (of_control (point.applied l r)) k told w now)
-    (sym (ap (λ (w : Links). record w { from = Some 0; stirs_from = Some 0 }) applies.0))
-    (ends (held_by held r) (point.applied l r) (part.applied r) k a.links a.taken told now (applies.2 l r))
+    ends (held_by held r) (point.applied l r) (part.applied r) k a told now applies.0.ups (spared_rests k a applies.0) (applies.2 l r)
 
 pub stopped_starts : (cause : Cause) (k : Links) (first : Option ℕ) (told : Told) → IsFirstFrom k.links 0 first
     → Stopping cause k k first told told
@@ -188,8 +192,9 @@ stopped_goes cause k a b n next told now then so_far tells next_is = by (get a.l
 pub stopped_ends : (cause : Cause) (k a : Links) (told now : Told) → Stopping cause k a None told now
     → Stops cause k told (record a { from = Some 0; stirs_from = Some 0 }) now
 stopped_ends cause k a told now so_far =
-    subst (λ (w : Links). Stops cause k told w now) (sym (ap (λ (w : Links). record w { from = Some 0; stirs_from = Some 0 }) so_far.0))
-    (ends (λ x. ⊤) (point.stopped cause) (part.stopped cause) k a.links a.taken told now so_far.2)
+    ends (λ x. ⊤) (point.stopped cause) (part.stopped cause) k (record a { from = Some 0; stirs_from = Some 0 }) told now
+    (ap (λ (w : Links). w.ups) so_far.0)
+    (λ f h shows links l none. absurd (false≢true (sym (or_parts (is_at a.busy l) (nat_le 0 l) none).1 ∙ leb-zero l))) so_far.2
 
 -- the first of all, as the map gives it
 pub first_is : (links : Map) (first : Option ℕ) → IsFirstFrom links 0 (option_map (λ n. n) first) → IsFirstFrom links 0 first
@@ -208,4 +213,35 @@ told_one R k m links n before old new told now is links_is m_is does =
           ∙ ap (λ (t : ℕ). record k { links = links; taken = t }) (sym (ap (λ (w : Links). w.taken) m_is))
           ∙ ap (λ (map : Map). record k { links = map; taken = m.taken })
           (links_is ∙ written_where_some k.links n new (ap is_some is)),
+    )
+
+-- a response is told to one: it is touched, or stays as it is
+pub judged_one : (held : Resources) (k m : Links) (links : Map) (n before : ℕ) (old new : Link) (told now : Told) → get k.links n ≡ Some old
+    → links ≡ written k.links n new → m ≡ touched n before (record k { links = links }) → calls.Updates held old told new now
+    → JudgesAt held (get k.links n) n k told m now
+judged_one held k m links n before old new told now is links_is m_is does =
+    subst (λ (o : Option Link). JudgesAt held o n k told m now) (sym is) (
+      new,
+      does,
+      inr (
+        before,
+        m_is
+            ∙ ap (λ (map : Map). touched n before (record k { links = map }))
+            (links_is ∙ written_where_some k.links n new (ap is_some is)),
+      ),
+    )
+
+pub spared_one : (held : Resources) (k m : Links) (links : Map) (n : ℕ) (old new : Link) (told now : Told) → get k.links n ≡ Some old
+    → links ≡ written k.links n new → m ≡ record k { links = links } → new ≡ old → calls.Updates held old told new now
+    → JudgesAt held (get k.links n) n k told m now
+spared_one held k m links n old new told now is links_is m_is same does =
+    subst (λ (o : Option Link). JudgesAt held o n k told m now) (sym is) (
+      new,
+      does,
+      inl (
+        same,
+        m_is
+            ∙ ap (λ (map : Map). record k { links = map })
+            (links_is ∙ written_where_some k.links n new (ap is_some is) ∙ same_links k n old new is same),
+      ),
     )

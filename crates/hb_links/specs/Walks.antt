@@ -3,8 +3,10 @@ use Rattle.std.specs.Prelude.{◌≡◌, ◌⊎◌, ℕ, ◌+◌, ◌==◌, ◌�
 use Rattle.std.specs.FinMap.{FinMap, insert, remove}
 use Rattle.std.specs.Ordering.{nat_cmp}
 use Rattle.hb_map.specs.Keyed.{IsFirstFrom}
+use Rattle.hb_held.specs.Held.{Resources}
 use Rattle.hb_link.specs.declared.link.Link.{Link}
 use Rattle.hb_link.specs.Acts.{NoneIsDue}
+use Rattle.hb_link.specs.Calls.{Updates as Judges}
 use Rattle.hb_link.specs.Noted.{Told}
 use Rattle.hb_links.specs.declared.links.Links.{Links}
 use Rattle.hb_links.specs.Acts.{Acts}
@@ -29,6 +31,13 @@ Telling = Link → Told → Link → Told → Type 0
 abbrev pub TellsBy : Telling → Option Link → ℕ → Links → Told → Links → Told → Type 0
 TellsBy R None n k told m now = (m ≡ k) × (now ≡ told)
 TellsBy R (Some old) n k told m now = (new : Link) × R old told new now × (m ≡ record k { links = insert k.links n new; taken = m.taken })
+
+-- A response that was applied, which made this of what is held, is told to the link of a number: that is touched, or stays as it is
+abbrev pub JudgesAt : Resources → Option Link → ℕ → Links → Told → Links → Told → Type 0
+JudgesAt held None n k told m now = (m ≡ k) × (now ≡ told)
+JudgesAt held (Some old) n k told m now =
+    (new : Link) × Judges held old told new now
+    × (((new ≡ old) × (m ≡ k)) ⊎ ((before : ℕ) × (m ≡ touched n before (record k { links = insert k.links n new }))))
 
 -- ACTS
 

@@ -2,11 +2,11 @@
 
 ghost use Rattle.std.specs.Prelude.{◌+◌};
 ghost use Rattle.std.specs.FinMap.{get};
-ghost use Rattle.hb_link.specs.Calls.{Updates as Judges, Stops};
+ghost use Rattle.hb_link.specs.Calls.{Stops};
 ghost use Rattle.hb_links.specs.Calls.{Updates, Stops as AllStop};
 ghost use Rattle.hb_links.specs.Load.{Recounts};
 ghost use Rattle.hb_links.specs.Stirring.{Stirs};
-ghost use Rattle.hb_links.specs.Walks.{IsNext, TellsBy};
+ghost use Rattle.hb_links.specs.Walks.{IsNext, JudgesAt, TellsBy};
 
 use crate::links::Links;
 use hb_base::Cause;
@@ -27,15 +27,16 @@ pub(crate) fn first_behind(links: &ById<u64, Link>, number: u64) -> Option<u64>
 impl Links {
     /// What a response that was applied makes of the link of this number.
     fn judge_at<N: Notes>(&mut self, number: u64, held: &Held, notes: &mut N)
-        ensures tells { TellsBy (Judges held.now) (get self.old.links number) number self.old (N.told notes.old) self.new (N.told notes.new) }
+        ensures judges { JudgesAt held.now (get self.old.links number) number self.old (N.told notes.old) self.new (N.told notes.new) }
         ensures counts { Recounts self.old self.new }
     {
         let before = self.places_at(number);
         let Some(link) = self.links.at(number) else {
             return;
         };
-        link.judge_all(held, notes);
-        self.count(number, before);
+        if link.judge_all(held, notes) {
+            self.touch(number, before);
+        }
     }
 
     /// What the end of the run makes of it.
@@ -51,7 +52,8 @@ impl Links {
         self.count(number, before);
     }
 
-    /// A response was applied, which made this of what is held: each tunnel of each link that is no longer admitted ends.
+    /// A response was applied, which made this of what is held: each tunnel of each link that is no longer admitted ends. A link at whose
+    /// destination nothing changed isn't touched.
     pub fn applied<N: Notes>(&mut self, held: &Held, notes: &mut N)
         ensures meets { Updates held.now self.old (N.told notes.old) self.new (N.told notes.new) }
         ensures stirs { Stirs self.old self.new }
@@ -62,8 +64,6 @@ impl Links {
             self.judge_at(number, held, notes);
             from = first_behind(&self.links, number);
         }
-        self.from = Some(0);
-        self.stirs_from = Some(0);
     }
 
     /// The run ends for this cause: each link does, and each of its tunnels.

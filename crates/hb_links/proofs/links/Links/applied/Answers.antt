@@ -1,5 +1,5 @@
-use Rattle.std.proofs.Common.{Option, refl, subst}
-use Rattle.hb_links.proofs.Stirs.{all_stir}
+use Rattle.std.proofs.Common.{Option, subst}
+use Rattle.hb_links.proofs.Sparing.{spared_stirs}
 use Rattle.hb_links.proofs.Telling.{Applies, applied_starts, applied_goes, applied_ends, first_is}
 use Rattle.hb_links.proofs.links.Links.applied.Goals as goal
 
@@ -18,7 +18,7 @@ loop-from-preserved g c = record {
       (g.N.Notes.told c.args.notes.now) (g.N.Notes.told c.loop-from.notes) (g.N.Notes.told c.judge_at.new.notes)
       (subst (λ (from : Option _). Applies c.args.held.now c.args.self.now c.loop-from.self from (g.N.Notes.told c.args.notes.now)
       (g.N.Notes.told c.loop-from.notes)) c.in-Some.is c.loop-from.invariant.told)
-      c.judge_at.ensures.tells c.first_behind-from.ensures;
+      c.judge_at.ensures.judges c.first_behind-from.ensures;
   counts = λ all. c.judge_at.ensures.counts (c.loop-from.invariant.counts all);
 }
 
@@ -29,4 +29,4 @@ returns-clause-meets g c =
     (g.N.Notes.told c.loop-from.notes)) c.in_default.is c.loop-from.invariant.told)
 
 pub returns-clause-stirs : goal.returns-clause-stirs
-returns-clause-stirs g c = all_stir c.args.self.now _ refl
+returns-clause-stirs g c = spared_stirs c.args.self.now c.loop-from.self c.loop-from.invariant.told.0
