@@ -1,5 +1,5 @@
 -- The counts between two calls: one value may be counted for the classes that it had.
-use Rattle.std.proofs.Common.{◌≡◌, ◌≢◌, ℕ, ◌<◌, ◌^◌, ◌==◌, true, false, cond, inl, inr, Bool, is_some, IsSome, Result, Ok, Err, OnOk, OnErr, refl, ap, sym, subst, ◌∙◌, arith}
+use Rattle.std.proofs.Common.{◌≡◌, ◌≢◌, ℕ, ◌<◌, ◌^◌, ◌==◌, true, false, cond, inl, inr, Bool, Option, Some, None, is_some, IsSome, Result, Ok, Err, OnOk, OnErr, refl, ap, sym, subst, ◌∙◌, arith}
 use Rattle.std.specs.Ordering.{nat_cmp}
 use Rattle.std.specs.FinMap.{FinMap, empty, get, insert, get-empty}
 use Rattle.std.proofs.lemmas.Bool.{cases_eq, eq-eqb, eqb-false, ne_eqb, false≢true}
@@ -7,9 +7,9 @@ use Rattle.hb_map.proofs.Laws.{put_elsewhere}
 use Rattle.hb_counted.specs.declared.classes.Classes.{Classes}
 use Rattle.hb_counted.specs.declared.counts.Counts.{Counts}
 use Rattle.hb_counted.specs.declared.counted.Tally.{Tally}
-use Rattle.hb_counted.specs.Classes.{in_none, of_none, classes_in, counts_by, counts_of, moved, AllowsAll}
+use Rattle.hb_counted.specs.Classes.{in_none, of_none, how_many_below, how_many, classes_in, counts_by, counts_of, moved, AllowsAll}
 use Rattle.hb_counted.specs.Kept.{seen, IsKept}
-use Rattle.hb_counted.proofs.Counting.{counts_same, counts_moved, counts_never, allows_all}
+use Rattle.hb_counted.proofs.Counting.{counts_same, counts_moved, counts_never, allows_all, none_is}
 
 module _ {T : Type 0} (classes : T → Classes) where
   abbrev plain : FinMap nat_cmp T → ℕ → Classes
@@ -83,3 +83,17 @@ pub added_elsewhere : {X E : Type 0} (m n : FinMap nat_cmp X) (number : ℕ) (it
     → OnOk r (n ≡ insert m number item) → OnErr r (n ≡ m) → (q : ℕ) → q ≢ number → get n q ≡ get m q
 added_elsewhere m n number item (Ok x) ok err q apart = ap (λ m. get m q) ok ∙ put_elsewhere m number item q apart
 added_elsewhere m n number item (Err e) ok err q apart = ap (λ m. get m q) err
+
+-- what a count of all is: over all numbers of 32 bits; and where it is none, no number is in the class
+pub all_numbers : (test : ℕ → Bool) → how_many test ≡ how_many_below test (2 ^ 32)
+unfolding how_many
+all_numbers test = refl
+
+module _ {X : Type 0} (classes : X → Classes) (test : Classes → Bool) (m : FinMap nat_cmp X) where
+  pub none_in : test in_none ≡ false → ((n : ℕ) → IsSome (get m n) → n < 2 ^ 32)
+      → how_many (λ n. test (classes_in classes (get m n))) ≡ 0 → (s : ℕ) → test (classes_in classes (get m s)) ≡ false
+  none_in nothing narrow none s = by (get m s) refl
+    where
+      by : (o : Option X) → get m s ≡ o → test (classes_in classes (get m s)) ≡ false
+      by None is = ap (λ (o : Option X). test (classes_in classes o)) is ∙ nothing
+      by (Some item) is = none_is (λ n. test (classes_in classes (get m n))) s (narrow s (ap is_some is)) none
