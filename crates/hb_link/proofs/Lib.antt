@@ -4,6 +4,7 @@ pub mod Answered
 pub mod Asked
 pub mod Begun
 pub mod Changed
+pub mod Classed
 pub mod Come
 pub mod Coming
 pub mod Dialling
@@ -12,6 +13,7 @@ pub mod Failing
 pub mod Gone
 pub mod Handled
 pub mod Heard
+pub mod Idle
 pub mod Leaves
 pub mod Living
 pub mod Loads

@@ -1,14 +1,16 @@
--- How many tunnels take a place.
-use Rattle.std.proofs.Common.{◌≡◌, ℕ, zero, suc, ◌+◌, ◌-◌, ◌<◌, ◌≤◌, ◌^◌, inl, inr, Bool, true, false, if◌then◌else◌, Option, Some, None, IsSome, refl, ap, sym, ◌∙◌, arith}
-use Rattle.std.proofs.lemmas.Bool.{false≢true, cases_eq}
+-- How many tunnels take a place, and how far a walk over the streams is.
+use Rattle.std.proofs.Common.{◌≡◌, ℕ, zero, suc, ◌-◌, ◌<◌, ◌≤◌, ◌^◌, Bool, true, false, if◌then◌else◌, Option, Some, None, IsSome, refl, ap, sym, ◌∙◌, arith}
+use Rattle.std.proofs.lemmas.Bool.{false≢true}
 use Rattle.std.specs.FinMap.{get}
-use Rattle.hb_map.specs.Keyed.{IsFirstFrom}
+use Rattle.hb_counted.specs.Classes.{how_many_below, how_many}
+use Rattle.hb_counted.proofs.Keeping.{all_numbers}
 use Rattle.hb_inbound.specs.Inbound.{Inbound}
 use Rattle.hb_link.specs.declared.link.Link.{Link}
 use Rattle.hb_link.specs.declared.tunnel.Tunnel.{Tunnel}
 use Rattle.hb_link.specs.Load.{load_below, HasLoad, places_below, places_on}
 use Rattle.hb_link.specs.Shows.{ShowsTunnels}
 use Rattle.hb_link.specs.Tunnels.{has_place}
+use Rattle.hb_link.proofs.Classed.{class_at, place_class}
 use Rattle.hb_link.proofs.Moving.{Map}
 use Rattle.hb_link.proofs.Shown.{place_tunnel}
 
@@ -27,32 +29,6 @@ left_from None = 0
 left_from (Some first) = 2 ^ 32 - first
 
 module _ (tunnels : Map) where
-  none_between : (i j : ℕ) → i ≤ j → ((q : ℕ) → i ≤ q → q < j → get tunnels q ≡ None) → places_below j tunnels ≡ places_below i tunnels
-  none_between i zero below none = let is : i ≡ 0 = omega arith in ap (λ (n : ℕ). places_below n tunnels) (sym is)
-  none_between i (suc j) below none = elim (cases_eq i (suc j)) [
-    | inl is ↦ ap (λ (n : ℕ). places_below n tunnels) (sym is)
-    | inr differ ↦
-        let here = ap (λ (o : Option Tunnel). one_if (has_place o)) (none j (omega arith) (omega arith)) in
-        let front = none_between i j (omega arith) (λ q from to. none q from (omega arith)) in
-        omega (arith, here, front)
-  ]
-
-  reached : (i : ℕ) (next : Option ℕ) → i ≤ 2 ^ 32 → IsFirstFrom tunnels i next
-      → places_below (place_of next) tunnels ≡ places_below i tunnels
-  reached i None fits none = none_between i (2 ^ 32) fits (λ q from to. none q from)
-  reached i (Some next) fits is = none_between i next is.0 is.2
-
-  pub begins : (next : Option ℕ) → IsFirstFrom tunnels 0 next → 0 ≡ places_below (place_of next) tunnels
-  begins next is = sym (reached 0 next (omega arith) is)
-
-  pub goes_on : (stream count : ℕ) (next : Option ℕ) → stream < 2 ^ 32 → count ≡ places_below stream tunnels
-      → IsFirstFrom tunnels (stream + 1) next
-      → count + one_if (has_place (get tunnels stream)) ≡ places_below (place_of next) tunnels
-  goes_on stream count next fits before is =
-      let more : places_below (stream + 1) tunnels ≡ places_below stream tunnels + one_if (has_place (get tunnels stream)) =
-      let suc_is : stream + 1 ≡ suc stream = omega arith in ap (λ (n : ℕ). places_below n tunnels) suc_is in
-      let there = reached (stream + 1) next (omega arith) is in omega (arith, more, there, before)
-
   one_at_most : (b : Bool) → one_if b ≤ 1
   one_at_most true = omega arith
   one_at_most false = omega arith
@@ -61,10 +37,15 @@ module _ (tunnels : Map) where
   few zero = omega arith
   few (suc n) = let front = few n in let here = one_at_most (has_place (get tunnels n)) in omega (arith, front, here)
 
-  pub fewer : (stream : ℕ) (next : Option ℕ) → stream < 2 ^ 32 → IsFirstFrom tunnels (stream + 1) next
-      → left_from next < left_from (Some stream)
-  fewer stream None fits none = omega arith
-  fewer stream (Some next) fits is = omega (arith, is.0)
+  counted_below : (n : ℕ) → how_many_below (λ s. (class_at tunnels s).place) n ≡ places_below n tunnels
+  counted_below zero = refl
+  counted_below (suc n) =
+      let here = ap one_if (place_class (get tunnels n)) in
+      let front = counted_below n in omega (arith, here, front)
+
+  -- those that are counted take a place
+  pub counted_places : how_many (λ s. (class_at tunnels s).place) ≡ places_below (2 ^ 32) tunnels
+  counted_places = all_numbers (λ s. (class_at tunnels s).place) ∙ counted_below (2 ^ 32)
 
 module _ (k : Link) (x : Inbound) (shows : ShowsTunnels k x) where
   same_below : (n : ℕ) → load_below n x ≡ places_below n k.tunnels

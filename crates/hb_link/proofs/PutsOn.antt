@@ -38,7 +38,7 @@ at_rest : (stage : t.Stage) (c : Connection) (s : ℕ) (at : Machine) → is_liv
 at_rest t.live c s at never = absurd (false≢true (sym never))
 at_rest stage c s at never = tt
 
-stage_at : (stage : t.Stage) (k : Tunnel) (at : Machine) → stage ≡ stage_of k.stage → ShowsAt stage k at → at.stage ≡ stage
+pub stage_at : (stage : t.Stage) (k : Tunnel) (at : Machine) → stage ≡ stage_of k.stage → ShowsAt stage k at → at.stage ≡ stage
 stage_at (t.over why) k at is shown = shown.0
 stage_at stage k at is shown = ap (λ (x : Machine). x.stage) shown.0 ∙ sym is
 
@@ -58,11 +58,11 @@ is_live_here (Failed why) is = absurd (false≢true is)
 is_live_here (Ended why) is = absurd (false≢true is)
 is_live_here (Over why) is = absurd (false≢true is)
 
-rest_on : (c : Connection) (s : ℕ) (at : Machine) (stage : t.Stage) → at.stage ≡ stage → is_live stage ≡ false → Rests c s at
+pub rest_on : (c : Connection) (s : ℕ) (at : Machine) (stage : t.Stage) → at.stage ≡ stage → is_live stage ≡ false → Rests c s at
 rest_on c s at stage is never =
     subst (λ (at_stage : t.Stage). RestsBy at_stage c s at) (sym is) (at_rest stage c s at never)
 
-none_rests : (o : Option Tunnel) (c : Connection) (s : ℕ) (at : Machine) → o ≡ None → ShowsTunnel o at → Rests c s at
+pub none_rests : (o : Option Tunnel) (c : Connection) (s : ℕ) (at : Machine) → o ≡ None → ShowsTunnel o at → Rests c s at
 none_rests o c s at none shown =
     let shows = subst (λ (o : Option Tunnel). ShowsTunnel o at) none shown in
     ⊎_elim (λ (is : at.stage ≡ t.unasked). rest_on c s at t.unasked is refl) (λ (is : at.stage ≡ t.gone). rest_on c s at t.gone is refl)

@@ -238,7 +238,7 @@ stage_answered (Failed why) failed ended = failed
 stage_answered (Ended why) failed ended = ended
 stage_answered (Over why) failed ended = refl
 
-at_answered : (o : Option Tunnel) → is_at is_failed o ≡ false → is_at is_ended o ≡ false → is_at is_unanswered o ≡ false
+pub at_answered : (o : Option Tunnel) → is_at is_failed o ≡ false → is_at is_ended o ≡ false → is_at is_unanswered o ≡ false
 at_answered None failed ended = refl
 at_answered (Some k) failed ended = stage_answered k.stage failed ended
 

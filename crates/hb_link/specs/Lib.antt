@@ -3,6 +3,7 @@ pub mod Acts
 pub mod Answering
 pub mod Asking
 pub mod Calls
+pub mod Classing
 pub mod Counting
 pub mod Fresh
 pub mod Fronting

@@ -23,6 +23,9 @@ impl Link {
     fn first_due(&self) -> Option<(u32, Act)>
         ensures { IsFirstDue self.now result }
     {
+        if self.tunnels.counts().due == 0 {
+            return None;
+        }
         let mut from = self.tunnels.first_from(0);
         while let Some(stream) = from {
             if let Some(act) = self.act_at(stream) {

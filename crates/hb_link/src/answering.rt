@@ -123,6 +123,9 @@ impl Link {
         ensures settles { AlwaysSettles Agrees GotAll self.old (N.told notes.old) self.new (N.told notes.new) }
         ensures came { KeepsCame self.old self.new }
     {
+        if self.tunnels.counts().marked == 0 {
+            return;
+        }
         self.answer_failures(notes);
         self.answer_ends(notes);
     }

@@ -8,8 +8,8 @@ use crate::naming::named_by;
 use crate::tunnel::Tunnel;
 use hb_base::{Cause, Ip};
 use hb_conn::Happening;
+use hb_counted::Counted;
 use hb_hpack::HeaderList;
-use hb_slots::Slots;
 use hb_verdict::read_request;
 
 /// What was told, as far as it isn't done yet.
@@ -40,7 +40,7 @@ fn asked_by(stream: u32, headers: &HeaderList, end: bool, destination: Ip) -> As
 }
 
 /// These bytes came on a stream.
-fn came_up(tunnels: &mut Slots<Tunnel>, stream: u32, bytes: &[u8])
+fn came_up(tunnels: &mut Counted<Tunnel>, stream: u32, bytes: &[u8])
     ensures { tunnels.new ≡ changed_at stream (came_here bytes.now) tunnels.old }
 {
     if let Some(tunnel) = tunnels.at(stream) {
@@ -49,7 +49,7 @@ fn came_up(tunnels: &mut Slots<Tunnel>, stream: u32, bytes: &[u8])
 }
 
 /// The peer ended its side of a stream.
-fn end_up(tunnels: &mut Slots<Tunnel>, stream: u32)
+fn end_up(tunnels: &mut Counted<Tunnel>, stream: u32)
     ensures { tunnels.new ≡ changed_at stream up_ended_here tunnels.old }
 {
     if let Some(tunnel) = tunnels.at(stream) {
@@ -59,7 +59,7 @@ fn end_up(tunnels: &mut Slots<Tunnel>, stream: u32)
 
 /// What is told of a link to this destination. DATA and its end go to the tunnel of their stream at once.
 pub(crate) fn hear(
-    tunnels: &mut Slots<Tunnel>,
+    tunnels: &mut Counted<Tunnel>,
     destination: Ip,
     told: Option<Happening<'_>>,
 ) -> Heard

@@ -8,10 +8,10 @@ use crate::link::Link;
 use crate::notes::Notes;
 use crate::tunnel::{Stage, Tunnel};
 use hb_base::Cause;
-use hb_slots::Slots;
+use hb_counted::Counted;
 
 /// The upstream of the tunnel on a stream is to be closed for this cause, where it has one; else nothing is left of the tunnel.
-fn leave(tunnels: &mut Slots<Tunnel>, stream: u32, cause: Cause, up: u64)
+fn leave(tunnels: &mut Counted<Tunnel>, stream: u32, cause: Cause, up: u64)
     ensures { tunnels.new ≡ left_at stream cause up tunnels.old }
 {
     if up == 0 {

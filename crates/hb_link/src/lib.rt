@@ -5,6 +5,7 @@
 mod acts;
 mod answering;
 mod asking;
+mod classing;
 mod ends;
 mod front;
 mod fronting;

@@ -11,7 +11,7 @@ use crate::tunnel::Tunnel;
 use crate::turn::Turn;
 use hb_base::{Cause, Ip, NoMemory, Peer};
 use hb_conn::Conn;
-use hb_slots::Slots;
+use hb_counted::Counted;
 use std::alloc::Global;
 
 /// The room of the output that the answers to what is read may not need.
@@ -32,7 +32,7 @@ pub struct Link {
     pub(crate) destination: Ip,
     pub(crate) conn: Conn,
     /// The tunnels under their streams.
-    pub(crate) tunnels: Slots<Tunnel>,
+    pub(crate) tunnels: Counted<Tunnel>,
     /// Behind which stream the next DATA goes.
     pub(crate) turn: Turn,
 }
@@ -55,7 +55,7 @@ impl Link {
             },
             destination: Ip::V4(0),
             conn: Conn::server(alloc)?,
-            tunnels: Slots::new(alloc),
+            tunnels: Counted::new(alloc),
             turn: Turn::new(),
         })
     }

@@ -116,6 +116,9 @@ impl Link {
         if !self.phase.is_serving() {
             return;
         }
+        if self.tunnels.counts().puts == 0 {
+            return;
+        }
         self.put_in_turn(notes);
         let mut from = self.tunnels.first_from(0);
         while let Some(stream) = from {

@@ -154,7 +154,7 @@ impl Tunnel {
     }
 
     /// The sending side of its upstream may be shut: the peer has ended the stream, and all that it sent is written.
-    fn may_shut(&self) -> bool
+    pub fn may_shut(&self) -> bool
         ensures { result ≡ may_shut (tunnel_of self.now) }
     {
         self.ways.up_ended() && self.ways.room_up() == UP_SIZE && !self.shut

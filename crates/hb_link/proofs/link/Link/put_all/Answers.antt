@@ -1,9 +1,11 @@
-use Rattle.std.proofs.Common.{rules, ◌≡◌, ◌+◌, true, false, subst}
+use Rattle.std.proofs.Common.{rules, ◌≡◌, ◌+◌, true, false, ap, sym, subst, ◌∙◌}
 use Rattle.std.specs.Prelude.{⊤, ℕ, Option, None}
 use Rattle.hb_link.specs.Observed.{serves_in}
 use Rattle.hb_link.specs.Putting.{PutsBelow}
 use Rattle.hb_link.specs.Settling.{MayPut, AlwaysSettles}
 use Rattle.hb_link.specs.Shows.{Shows}
+use Rattle.hb_counted.specs.declared.counts.Counts.{Counts}
+use Rattle.hb_link.proofs.Idle.{none_puts}
 use Rattle.hb_link.proofs.Loads.{place_of}
 use Rattle.hb_link.proofs.PutsOn.{not_served, begins, advance, ends}
 use Rattle.hb_link.proofs.Settles.{settles_then, stays}
@@ -14,6 +16,14 @@ returns-then-not-is_serving g c = λ others limit.
     let k = c.args.self.now in
     let never : serves_in k.phase ≡ false = search rules in
     stays others limit (λ held. ⊤) MayPut Shows k (g.N.Notes.told c.args.notes.now) (not_served k never)
+
+pub returns-then-counts-eq0 : goal.returns-then-counts-eq0
+returns-then-counts-eq0 g c = λ others limit.
+    let k = c.args.self.now in
+    let serves : serves_in k.phase ≡ true = search rules in
+    let none : c.counts.result.puts ≡ 0 = search rules in
+    stays others limit (λ held. ⊤) MayPut Shows k (g.N.Notes.told c.args.notes.now)
+    (none_puts k c.counts.ensures.numbers (sym (ap (λ (c : Counts). c.puts) c.counts.ensures.value) ∙ none) serves)
 
 pub loop-from-init : goal.loop-from-init
 loop-from-init g c = λ others limit.
