@@ -30,6 +30,7 @@ WHOLE = [
     ("lines_rows.py", "hb_lines_rows", "told.rt"),
     ("node_rows.py", "hb_node_rows", "rows.rt"),
     ("link_rows.py", "hb_link_rows", "rows.rt"),
+    ("route_rows.py", "hb_route_rows", "rows.rt"),
     ("replay_rows.py", "hb_replay_rows", "rows.rt"),
     ("tunnel_rows.py", "hb_replay_rows", "tunnels.rt"),
     ("modelled_rows.py", "hb_replay_rows", "modelled.rt"),

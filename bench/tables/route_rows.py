@@ -1,0 +1,305 @@
+#!/usr/bin/python3
+"""Prints crates/hb_route_rows/src/rows.rt: records in digits; and resources of such records, connections that are open, a connection
+that is to be made, and the way it takes.
+
+    python3 bench/tables/route_rows.py > crates/hb_route_rows/src/rows.rt && (cd crates/hb_route_rows && rt fmt)
+
+A second evaluator, from docs/FORMATS.md ("Routes"): each question walks over all resources, which here are plain dicts.
+"""
+
+import ipaddress
+import random
+import textwrap
+
+from spelling import number, span, text
+
+CHOICE = random.Random(1508)
+
+NETWORK, NODE = "net", "n1"
+
+
+# Resources, and how they are spelled.
+
+
+def workload(*ips, hbone=1, status=0, net=NETWORK, node="n2", serves=(), waypoint=None):
+    """Numbers of the protocol and of the status are those of the enums; `serves` has pairs of a key and its ports."""
+    parts = {"ips": ips, "hbone": hbone, "status": status, "net": net, "node": node}
+    return {"kind": "w", "serves": tuple(serves), "waypoint": waypoint, **parts}
+
+
+def service(*at, ns="a", host="web.a", ports=((80, 8080),), waypoint=None):
+    """`at` has addresses of the network, or pairs of another network and an address."""
+    at = tuple(x if isinstance(x, tuple) else (NETWORK, x) for x in at)
+    return {"kind": "s", "ns": ns, "host": host, "at": at, "ports": tuple(ports), "waypoint": waypoint}
+
+
+def ports_of(pairs, field):
+    return b"".join(span(field, number(1, port) + number(2, target)) for port, target in pairs)
+
+
+def spelled(r):
+    """The octets of the address record."""
+    if r["kind"] == "w":
+        fields = b"".join(span(3, ipaddress.ip_address(ip).packed) for ip in r["ips"]) + text(4, r["net"]) + number(5, r["hbone"])
+        fields += span(8, r["waypoint"]) if r["waypoint"] else b""
+        fields += text(9, r["node"]) + number(17, r["status"])
+        fields += b"".join(span(22, text(1, key) + span(2, ports_of(pairs, 1))) for key, pairs in r["serves"])
+        return span(1, fields)
+    fields = text(2, r["ns"]) + text(3, r["host"])
+    fields += b"".join(span(4, text(1, net) + span(2, ipaddress.ip_address(ip).packed)) for net, ip in r["at"])
+    fields += ports_of(r["ports"], 5) + (span(7, r["waypoint"]) if r["waypoint"] else b"")
+    return span(2, fields)
+
+
+WAYPOINT_NAME = span(1, span(1, "a") + span(2, "waypoint.a"))
+WAYPOINT_ADDRESS = span(2, span(2, bytes([10, 2, 0, 1]))) + number(3, 15008)
+
+
+# The evaluator.
+
+
+def ip_of(name):
+    ip = ipaddress.ip_address(name)
+    return getattr(ip, "ipv4_mapped", None) or ip
+
+
+def target(ip, port):
+    return f"{ip}:{port}" if ip.version == 4 else f"[{ip}]:{port}"
+
+
+def by_name(resources, passes):
+    return sorted((name.encode(), r) for name, r in resources.items() if passes(r))
+
+
+def first(pairs, port):
+    return next((target for number, target in pairs if number == port), None)
+
+
+def endpoints(resources, service, port):
+    """All workloads to which the port of the service leads, each by its name with the address and the port."""
+    key = service["ns"] + "/" + service["host"]
+    for name, r in by_name(resources, lambda r: r["kind"] == "w" and r["net"] == NETWORK and r["status"] == 0 and r["ips"]):
+        own = first(dict(r["serves"]).get(key, ()), port)
+        if own is None:
+            continue
+        leads = own or first(service["ports"], port) or port
+        if leads < 65536:
+            yield name, r, ip_of(r["ips"][0]), leads
+
+
+def to(r, name, ip, port, hbone_port):
+    return f"gateway {target(ip, hbone_port)} {target(ip, port)} {name}" if r["hbone"] == 1 else f"direct {target(ip, port)} {name}"
+
+
+def way(resources, opens, source, ip, port, hbone_port):
+    def workloads_at(ip):
+        return by_name(resources, lambda r: r["kind"] == "w" and r["net"] == NETWORK and ip in map(ip_of, r["ips"]))
+
+    source, ip = ip_of(source), ip_of(ip)
+    if not workloads_at(source) or workloads_at(source)[0][1]["node"] != NODE:
+        return "none 1"
+    services = by_name(resources, lambda r: r["kind"] == "s" and (NETWORK, ip) in [(net, ip_of(at)) for net, at in r["at"]])
+    found = (services or workloads_at(ip) or [(None, None)])[0][1]
+    if found is None:
+        return f"direct {target(ip, port)} -"
+    if found["waypoint"]:
+        return "none 4"
+    if not services:
+        return to(found, workloads_at(ip)[0][0].decode(), ip, port, hbone_port)
+    if first(found["ports"], port) is None:
+        return "none 3"
+    least = min(endpoints(resources, found, port), key=lambda e: (opens.get(e[0].decode(), 0), e[0]), default=None)
+    return to(least[1], least[0].decode(), *least[2:], hbone_port) if least else "none 2"
+
+
+def counted(opens):
+    """How many connections are open: a name opens one, and ~name ends one."""
+    counts = {}
+    for word in opens.split():
+        name = word.lstrip("~")
+        counts[name] = counts.get(name, 0) + (-1 if word[0] == "~" else 1)
+        assert counts[name] >= 0
+    return counts
+
+
+# Rows.
+
+RECORDS = {}
+WEB = service("10.1.0.1")
+TO_WEB = [("a/web.a", [(80, 8080)])]
+
+
+def record(r):
+    """The name of the record in the table of records."""
+    return RECORDS.setdefault(spelled(r), f"{r['kind']}{len(RECORDS)}")
+
+
+def row(resources, destination="10.1.0.1", port=80, opens="", source="10.0.0.9", hbone_port=15008):
+    answer = way(resources, counted(opens), source, destination, port, hbone_port)
+    held = " ".join(f"{name}={record(r)}" for name, r in resources.items())
+    ends = f"{ip_of(source)} {ip_of(destination)} {port} {hbone_port}"
+    return f"{held}; {opens}; {ends}; {answer}"
+
+
+def mesh(*more, source=workload("10.0.0.9", node=NODE), web=WEB, **named):
+    """A source w9, a service a/web.a, and workloads u1, u2 .. or others by name."""
+    resources = {"w9": source, "web": web}
+    resources.update({f"u{i}": r for i, r in enumerate(more, 1)}, **named)
+    return {name: r for name, r in resources.items() if r}
+
+
+def end(ip, ports=((80, 8080),), key="a/web.a", **more):
+    return workload(ip, serves=[(key, ports)], **more)
+
+
+U1, U2 = end("10.0.0.7"), end("10.0.0.8")
+SICK1, SICK2 = end("10.0.0.7", status=1), end("10.0.0.8", status=1)
+PLAIN1, PLAIN2 = end("10.0.0.7", hbone=0), end("10.0.0.8", hbone=0)
+
+
+def choice_rows():
+    two = mesh(U1, U2)
+    yield "# a service of two endpoints: fewer open first, and then the smaller name"
+    yield from (row(two, opens=opens) for opens in ("u1", "", "u1 u2", "u2", "u1 u1 u2", "u2 u2 u1 u1 u1", "u1 u2 u1 u2"))
+    yield "# connections that ended; of what is no endpoint"
+    yield from (row(two, opens=opens) for opens in ("u1 ~u1", "u1 u1 ~u1 u2 u2", "u1 u2 ~u2", "u1 u2 ~u1", "u1 u1 ~u1 ~u1 u2"))
+    yield from (row(two, opens=opens) for opens in ("x y y", "w9 web u", "u1 ~u1 u1 u2 ~u2"))
+    yield "# names that differ in the last octet, or in their length; the names' octets in order, whichever came first"
+    names = [("ua", "ub"), ("ub", "ua"), ("u", "ua"), ("U", "u"), ("z", "a"), ("u", "\u00fc"), ("\u00fc", "\u00fd")]
+    names += [("u10", "u2"), ("u0", "u/")]
+    for one, other in names:
+        pair = mesh(**{one: U1, other: U2})
+        yield from (row(pair), row(pair, opens=one), row(pair, opens=f"{one} {other}"), row(pair, opens=f"{other} {other} {one}"))
+    yield "# three, of which two have fewest open"
+    three = mesh(U1, U2, end("10.0.0.6"))
+    yield from (row(three, opens=opens) for opens in ("u1", "u1 u2", "u1 u1 u2 u3", "u2 u3", "u1 u3", "u1 u2 u3"))
+
+
+def refused_rows():
+    two = mesh(U1, U2)
+    yield "# a port that the service hasn't; a source that isn't known"
+    yield from (row(two, port=port) for port in (81, 0, 8080, 65535))
+    yield from (row(two, source=ip) for ip in ("10.0.0.66", "10.0.0.7", "10.1.0.1", "2001:db8::9"))
+    yield row(two, "8.8.8.8", 53, source="10.0.0.66")
+    yield row(mesh(U1, source=workload("10.0.0.9", node=NODE, net="other")))
+    yield row(mesh(U1, source=workload("10.0.0.9", node="n")))
+    yield row(mesh(U1, a=workload("10.0.0.9", node="n2")))
+    yield row(mesh(U1, x=workload("10.0.0.9", node="n2")))
+    yield row(mesh(U1, source=workload("10.0.0.8", "10.0.0.9", node=NODE, status=1, hbone=0)))
+    yield "# health: both, one, the one with fewer open; a status that isn't 0"
+    yield from (row(mesh(SICK1, SICK2)), row(mesh(SICK1, U2)), row(mesh(U1, SICK2)), row(mesh(SICK1, U2), opens="u2 u2"))
+    yield row(mesh(end("10.0.0.7", status=2), end("10.0.0.8", status=5)))
+    yield "# no endpoint: none there, without an address, of another network, of no network"
+    yield from (row(mesh()), row(mesh(workload(serves=TO_WEB))), row(mesh(workload(serves=TO_WEB), U2)))
+    yield from (row(mesh(end("10.0.0.7", net=net), x)) for net in ("other", "") for x in (None, U2))
+    yield "# a waypoint: of the service, also without the port; of the workload; a source that isn't known goes first"
+    for waypoint in (WAYPOINT_NAME, WAYPOINT_ADDRESS):
+        web = service("10.1.0.1", waypoint=waypoint)
+        yield from (row(mesh(U1, web=web)), row(mesh(U1, web=web), port=81), row(mesh(U1, web=web), source="10.0.0.66"))
+        yield from (row(mesh(workload("10.0.0.7", waypoint=waypoint)), "10.0.0.7"), row(mesh(end("10.0.0.7", waypoint=waypoint))))
+        yield row(mesh(workload("10.0.0.7", waypoint=waypoint)), "10.0.0.7", source="10.0.0.66")
+
+
+def port_rows():
+    def one(entry, ports, port=80):
+        return row(mesh(end("10.0.0.7", entry), web=service("10.1.0.1", ports=ports)), port=port)
+
+    yield "# the entry's port, where it is 0 the service's, where that is 0 the one asked for"
+    for own in (0, 1, 8080, 65535, 65536, 2**32 - 1):
+        yield from (one([(80, own)], [(80, target)]) for target in (0, 9090, 65535, 65536))
+    yield "# a port that stands in the service or in the entry alone; ports of 32 bits; port 0"
+    yield from (one([(81, 8080)], [(80, 8080)]), one([], [(80, 8080)]), one([(80, 8080)], []), one([(80, 8080)], [(81, 8080)]))
+    yield from (one([(80 + 65536, 8080)], [(80, 8080)]), one([(80, 8080)], [(80 + 65536, 8080)]), one([(80, 8080), (81, 1)], [(81, 2)], 81))
+    yield from (one([(0, 8080)], [(0, 9090)], 0), one([(0, 0)], [(0, 0)], 0), one([(65535, 0)], [(65535, 0)], 65535))
+    yield "# ports that stand twice: the first counts, in the service and in the entry"
+    yield from (one([(80, 0)], [(80, a), (80, b)]) for a, b in ((1, 2), (0, 2), (2, 0), (65536, 2)))
+    yield from (one([(80, a), (80, b)], [(80, 9090)]) for a, b in ((1, 2), (0, 2), (2, 0), (65536, 2)))
+    yield from (one([(81, 1), (80, 2), (80, 3)], [(79, 4), (80, 5)]), one([(80, 1), (443, 2)], [(443, 3), (80, 4)], 443))
+    yield "# an endpoint whose port is none gives way to another"
+    yield from (row(mesh(end("10.0.0.7", [(80, 65536)]), U2), opens=opens) for opens in ("", "u2"))
+    yield "# keys: of another service, not whole, longer; of several keys the one of the service; a key that stands twice"
+    for key in ("a/web.b", "a/web", "a/web.aa", "b/web.a", "aweb.a", "/web.a", "a/", "a//web.a", "A/web.a", "a/web.a/"):
+        yield row(mesh(end("10.0.0.7", key=key), U2), opens="u2")
+    keys = [("a/db.a", [(80, 1)]), ("a/web.a", [(80, 2)]), ("b/web.a", [(80, 3)])]
+    yield from (row(mesh(workload("10.0.0.7", serves=s))) for s in (keys, keys[::-1], keys[:1], [("a/web.a", [(80, 4)]), *keys]))
+    yield "# services without a namespace, without a hostname, with a slash in one"
+    for ns, host in (("", "web"), ("a", ""), ("", ""), ("a/b", "web"), ("a", "b/web")):
+        yield row(mesh(end("10.0.0.7", key=f"{ns}/{host}"), web=service("10.1.0.1", ns=ns, host=host)))
+    yield "# the port of gateways"
+    yield from (row(mesh(U1), hbone_port=p) for p in (0, 1, 15009, 65535))
+
+
+def place_rows():
+    yield "# endpoints that don't take HBONE; other numbers of the protocol; both kinds side by side"
+    yield from (row(mesh(PLAIN1, PLAIN2)), row(mesh(PLAIN1, U2)), row(mesh(PLAIN1, U2), opens="u1"), row(mesh(end("10.0.0.7", hbone=2))))
+    yield "# the first of an endpoint's addresses; IPv6, and IPv4 mapped into it"
+    for ips in (("10.0.0.7", "10.0.0.6"), ("10.0.0.6", "10.0.0.7"), ("2001:db8::7", "10.0.0.7"), ("::ffff:10.0.0.7",), ("::1:0:7",)):
+        yield row(mesh(workload(*ips, serves=TO_WEB)))
+    six = mesh(end("2001:db8::7"), web=service("2001:db8::1"), x=workload("2001:db8::9", node=NODE))
+    yield from (row(six, "2001:db8::1"), row(six, "2001:db8::1", source="2001:db8::9"), row(six, "2001:db8::2"), row(six, "2001:db8::7"))
+    yield from (row(six, "2001:db8::1", 81), row(six, "2001:db8::7", source="2001:db8::8"))
+    yield from (row(mesh(U1, web=service("::ffff:10.1.0.1"))), row(mesh(U1), "::ffff:10.1.0.1"), row(mesh(U1, web=service("::a01:1"))))
+    yield "# the service of an address: in this network, the smaller name, one of several addresses"
+    yield row(mesh(U1, web=service(("other", "10.1.0.1"))))
+    yield row(mesh(U1, web=service(("", "10.1.0.1"))))
+    yield row(mesh(U1, web=service("10.1.0.2", ("other", "10.1.0.1"), "10.1.0.1")))
+    other = service("10.1.0.1", host="db.a")
+    yield from (row(mesh(U1, v=other)), row(mesh(U1, x=other)), row(mesh(U1, v=other, d=end("10.0.0.6", key="a/db.a"))))
+    yield "# an address that a workload has as well as a service; the source's own; an endpoint's"
+    yield from (row(mesh(U1, a=workload("10.1.0.1"))), row(mesh(U1, a=workload("10.1.0.1")), port=81))
+    yield from (row(mesh(U1), "10.0.0.9"), row(mesh(U1), "10.0.0.7"), row(mesh(end("10.1.0.1"))))
+    yield row(mesh(source=workload("10.0.0.9", node=NODE, serves=TO_WEB)))
+    yield "# a workload: takes HBONE or not, isn't healthy, has another network, the smaller name, several addresses; none"
+    for r in (workload("10.0.0.7"), workload("10.0.0.7", hbone=0), workload("10.0.0.7", status=1), workload("10.0.0.7", status=1, hbone=0)):
+        yield from (row(mesh(r), "10.0.0.7", 53), row(mesh(r), "10.0.0.7", 0))
+    yield from (row(mesh(workload("10.0.0.7", net=net)), "10.0.0.7") for net in ("other", ""))
+    yield row(mesh(workload("10.0.0.7", hbone=0), workload("10.0.0.7")), "10.0.0.7")
+    yield row(mesh(workload("10.0.0.7", net="other", hbone=0), workload("10.0.0.7")), "10.0.0.7")
+    yield row(mesh(workload("10.0.0.6", "10.0.0.7")), "10.0.0.7", opens="u1 u1")
+    yield from (row(mesh(U1), "8.8.8.8", 53), row(mesh(U1), "0.0.0.0", 0), row(mesh(U1), "::", 65535), row(mesh(web=None), "10.1.0.1"))
+
+
+def chance_rows():
+    """Small meshes, of which most parts are drawn by chance."""
+    yield "# meshes by chance"
+    for _ in range(60):
+        keys = ["a/web.a"] * 4 + ["a/web.b", "b/web.a"]
+
+        def pairs():
+            return [(CHOICE.choice((80, 80, 81)), CHOICE.choice((0, 0, 8080, 9090, 65536))) for _ in range(CHOICE.randint(1, 2))]
+
+        def drawn():
+            ips = [f"10.0.0.{CHOICE.randint(1, 5)}" for _ in range(CHOICE.choice((1, 1, 1, 2)))]
+            serves = [(CHOICE.choice(keys), pairs())]
+            net = CHOICE.choice((NETWORK,) * 5 + ("other",))
+            return workload(*ips, hbone=CHOICE.randint(0, 1), status=CHOICE.choice((0, 0, 0, 1)), net=net, serves=serves)
+
+        names = CHOICE.sample(["u", "u1", "u2", "ua", "uA", "v", "a"], CHOICE.randint(2, 5))
+        resources = mesh(web=service("10.1.0.1", ports=pairs()), **{name: drawn() for name in names})
+        opens = " ".join(CHOICE.choice(names) for _ in range(CHOICE.randint(0, 6)))
+        destination = CHOICE.choice(["10.1.0.1"] * 5 + ["10.0.0.1", "10.0.0.2"])
+        yield row(resources, destination, CHOICE.choice((80, 80, 80, 81)), opens)
+
+
+def quoted(lines):
+    """The lines as Rust text, those that are too long over several lines."""
+    for line in lines:
+        line = line.replace("\\", "\\\\")
+        parts = textwrap.wrap(line, 120, break_long_words=False, break_on_hyphens=False) if len(line) > 130 else [line]
+        yield " \\\n    ".join(parts) + "\\n\\"
+
+
+def main():
+    tables = [choice_rows, refused_rows, port_rows, place_rows, chance_rows]
+    rows = [row for table in tables for row in table()]
+    print("//! Records and ways of connections, printed by bench/tables/route_rows.py, where an evaluator in Python tells each way.\n")
+    print("/// Names of records, and their octets in digits.")
+    print('pub const RECORDS: &str = "\\')
+    digits = (f"{name} " + " ".join(textwrap.wrap(octets.hex(), 64)) for octets, name in RECORDS.items())
+    print("\n".join(quoted(digits)) + '\n";\n')
+    print("/// Resources; connections that open, or end; a source, a destination with its port, and the port of gateways; the way.")
+    print('pub const WAYS: &str = "\\')
+    print("\n".join(quoted(rows)) + '\n";')
+
+
+main()

@@ -1,0 +1,5 @@
+pub mod Choice
+pub mod Chosen
+pub mod Counting
+pub mod Meshes
+pub mod Serving

@@ -1,0 +1,13 @@
+use Rattle.std.proofs.Common.{◌≡◌}
+use Rattle.std.specs.List.{filter_map}
+use Rattle.std.specs.Option.{option_map}
+use Rattle.hb_held.specs.Endpoints.{endpoints_left}
+use Rattle.hb_route.specs.Endpoint.{place_of, place_as, places, chosen}
+use Rattle.hb_route.proofs.Chosen.{chosen_after}
+use Rattle.hb_route.proofs.endpoint.chosen.Given as goal
+
+-- of the best so far and of those that are left the same one goes first as of all
+abbrev pub invariant-loop-found : goal.invariant-loop-found
+invariant-loop-found l =
+    chosen_after l.opens (option_map place_as l.best) (filter_map (place_of l.service l.port) (endpoints_left l.endpoints))
+    ≡ chosen l.opens (places l.held l.service l.port)

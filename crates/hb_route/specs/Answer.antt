@@ -1,0 +1,28 @@
+-- The way of a connection, or why it has none.
+use Rattle.std.specs.Prelude.{ℕ, List, Option}
+use Rattle.std.specs.Option.{option_map}
+use Rattle.hb_base.specs.declared.target.Target.{Target}
+use Rattle.hb_route.specs.declared.answer.NoRoute.{NoRoute}
+use Rattle.hb_route.specs.declared.answer.NoRoute.TheVariants.{UnknownSource, NoEndpoint, NoPort, NeedsWaypoint}
+use Rattle.hb_route.specs.declared.answer.Route.{Route}
+use Rattle.hb_route.specs.declared.answer.Route.TheVariants as routes
+
+-- the number by which a cause names why there is no route
+abbrev pub number_of : NoRoute → ℕ
+number_of UnknownSource = 1
+number_of NoEndpoint = 2
+number_of NoPort = 3
+number_of NeedsWaypoint = 4
+
+-- by a gateway's address, for an authority, to an endpoint of this name; straight to an address, of an endpoint of this name, where
+-- one is known; or none
+pub data Way : Type 0 where
+  by_gateway : Target → Target → List ℕ → Way
+  straight : Target → Option (List ℕ) → Way
+  no_way : NoRoute → Way
+
+-- a route, by value
+abbrev pub way_as : Route → Way
+way_as (routes.Gateway address authority endpoint) = by_gateway address authority endpoint.now
+way_as (routes.Direct address endpoint) = straight address (option_map (λ name. name.now) endpoint)
+way_as (routes.Refused why) = no_way why

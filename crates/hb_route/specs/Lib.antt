@@ -1,0 +1,6 @@
+pub mod Answer
+pub mod Endpoint
+pub mod Laws
+pub mod Opens
+pub mod Ports
+pub mod Routing
