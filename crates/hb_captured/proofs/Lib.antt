@@ -1,0 +1,4 @@
+mod Grown
+mod Kept
+pub mod Obeyed
+mod Stages

@@ -1,0 +1,12 @@
+pub mod Access
+pub mod Calm
+pub mod Captured
+pub mod Ends
+pub mod Laws
+pub mod Notes
+pub mod Part
+pub mod Relay
+pub mod Runs
+pub mod Settled
+pub mod Sides
+pub mod Verdicts
