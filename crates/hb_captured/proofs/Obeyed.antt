@@ -223,9 +223,12 @@ module _ (l : ℕ) (start : Resources) (a : Local) (before : List Part) (stands 
   up_stands e.Tick may = absurd may
   up_stands (e.Wait ready how) may = absurd may
 
-  lacks : (stage : Stage) → a.link.stage ≡ stage → Lacks stage a.link → MayLack (course_of start before)
-  lacks arriving is may = subst MayLack (sym (course_at arriving is)) tt
-  lacks fronting is may = subst MayLack (sym (course_at fronting is)) tt
+  front_is : (told : Answer) → a.link.stage ≡ fronting → IsAnswer a.link.front told → IsAnswer (link_came before) told
+  front_is told is may = subst (λ (bs : List ℕ). IsAnswer bs told) (sym (knows_at fronting is).front) may
+
+  lacks : (stage : Stage) → a.link.stage ≡ stage → Lacks stage a.link → MayLack (course_of start before) before
+  lacks arriving is may = subst (λ (c : Course). MayLack c before) (sym (course_at arriving is)) tt
+  lacks fronting is may = subst (λ (c : Course). MayLack c before) (sym (course_at fronting is)) (may.0, front_is (Whole may.0) is may.1)
   lacks unborn is may = absurd may
   lacks due is may = absurd may
   lacks opening is may = absurd may
@@ -263,9 +266,6 @@ module _ (l : ℕ) (start : Resources) (a : Local) (before : List Part) (stands 
   ends (stopped why) may = tt
 
   -- VERDICTS
-
-  front_is : (told : Answer) → a.link.stage ≡ fronting → IsAnswer a.link.front told → IsAnswer (link_came before) told
-  front_is told is may = subst (λ (bs : List ℕ). IsAnswer bs told) (sym (knows_at fronting is).front) may
 
   dials : (to : Target) (why : Why) → IsDial l a.link to → why ≡ whys.Plain l → IsDialOf l before to why
   dials to why may for_it =

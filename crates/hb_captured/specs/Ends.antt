@@ -1,25 +1,26 @@
 -- The end law: the link and its tunnel end for the first cause that applies, by an update exactly where that no longer admits the peer.
 -- Behind the end nothing stands but the close of either link, once, for that cause.
 use Rattle.std.specs.Prelude.{⊤, ◌≡◌, ◌⊎◌, ◌<◌, ℕ, true, false, List}
+use Rattle.hb_front.specs.Reading.{Seen, IsAnswer, Whole}
 use Rattle.hb_held.specs.Held.{Resources}
 use Rattle.hb_world.specs.declared.entry.Entry.{Entry}
 use Rattle.hb_world.specs.declared.entry.Entry.TheVariants as e
 use Rattle.hb_world.specs.declared.entry.Way.{Way}
 use Rattle.hb_world.specs.declared.entry.Way.TheVariants as way
 use Rattle.hb_captured.specs.Part.{Part, entry, up, welcomed, crowded, lacked, misfronted, fronted, refused, accepted, left, done, applied, stopped}
-use Rattle.hb_captured.specs.Sides.{link_went, raw_came, up_came, up_went, is_end, is_close, was_on_link, was_on_up, up_of, Course, unborn, arriving, fronting, pending, lives, over, course_of, AtEach}
+use Rattle.hb_captured.specs.Sides.{link_came, link_went, raw_came, up_came, up_went, is_end, is_close, was_on_link, was_on_up, up_of, Course, unborn, arriving, fronting, pending, lives, over, course_of, AtEach}
 
--- it goes on; memory may be wanting for it
+-- it goes on; memory may be wanting for it: at its birth, and where its header is whole
 abbrev pub GoesOn : Course → Type 0
 GoesOn fronting = ⊤
 GoesOn pending = ⊤
 GoesOn lives = ⊤
 GoesOn course = ⊥
 
-abbrev pub MayLack : Course → Type 0
-MayLack arriving = ⊤
-MayLack fronting = ⊤
-MayLack course = ⊥
+abbrev pub MayLack : Course → List Part → Type 0
+MayLack arriving before = ⊤
+MayLack fronting before = (seen : Seen) × IsAnswer (link_came before) (Whole seen)
+MayLack course before = ⊥
 
 -- which call that moves nothing stands on the link l: it is read, as long as its peer may send, or written
 abbrev pub LinkIsTried : ℕ → List Part → Course → Way → Type 0
@@ -71,7 +72,7 @@ EndsAt l start before (entry e) = LinkStands l before (course_of start before) e
 EndsAt l start before (up e) = UpStands before (course_of start before) e
 EndsAt l start before welcomed = course_of start before ≡ arriving
 EndsAt l start before crowded = course_of start before ≡ arriving
-EndsAt l start before lacked = MayLack (course_of start before)
+EndsAt l start before lacked = MayLack (course_of start before) before
 EndsAt l start before (misfronted fault) = course_of start before ≡ fronting
 EndsAt l start before (fronted seen) = course_of start before ≡ fronting
 EndsAt l start before (refused seen status note) = course_of start before ≡ fronting

@@ -17,14 +17,6 @@ pub record FitsRings (x : Captured) : Type 0 where
   pub up : length x.ways.up.held ≤ up_size
   pub down : length x.ways.down.held ≤ down_size
 
-pub record IsLawful (start : Resources) (l : ℕ) (parts : List Part) : Type 0 where
-  pub relay : RelayLaw start parts
-  pub access : AccessLaw start parts
-  pub ends : EndLaw l start parts
-  pub verdicts : VerdictLaw l start parts
-  pub notes : NoteLaw start l parts
-  pub settled : SettledLaw start parts
-
 abbrev pub RunsRelay : Type 0
 RunsRelay = (l : ℕ) (start : Resources) (a : Local) (parts : List Part) → StandsFor l start a parts → RelayLaw start parts
 

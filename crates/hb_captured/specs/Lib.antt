@@ -5,7 +5,9 @@ pub mod Ends
 pub mod Laws
 pub mod Notes
 pub mod Part
+pub mod Refused
 pub mod Relay
+pub mod Rows
 pub mod Runs
 pub mod Settled
 pub mod Sides
