@@ -1,0 +1,27 @@
+-- The access law: no byte goes to the upstream, and none to the link, unless the resources held then admit the peer.
+use Rattle.std.specs.Prelude.{⊤, ◌≡◌, List, Some}
+use Rattle.hb_front.specs.Reading.{Seen}
+use Rattle.hb_held.specs.Held.{Resources}
+use Rattle.hb_table.specs.declared.judgement.Judged.TheVariants.{Admitted}
+use Rattle.hb_world.specs.declared.entry.Entry.{Entry}
+use Rattle.hb_world.specs.declared.entry.Entry.TheVariants as e
+use Rattle.hb_captured.specs.Part.{Part, entry, up}
+use Rattle.hb_captured.specs.Sides.{header_of, held, judged_in, AtEach}
+
+-- what is held behind these parts admits the peer of the header at its destination
+pub record IsAdmitted (start : Resources) (before : List Part) : Type 0 where
+  pub seen : Seen
+  pub told : header_of before ≡ Some seen
+  pub admitted : judged_in (held start before) seen ≡ Admitted
+
+abbrev pub GoesAdmitted : Resources → List Part → Entry → Type 0
+GoesAdmitted start before (e.Went l bytes) = IsAdmitted start before
+GoesAdmitted start before _ = ⊤
+
+abbrev pub AccessAt : Resources → List Part → Part → Type 0
+AccessAt start before (entry e) = GoesAdmitted start before e
+AccessAt start before (up e) = GoesAdmitted start before e
+AccessAt start before _ = ⊤
+
+abbrev pub AccessLaw : Resources → List Part → Type 0
+AccessLaw start parts = AtEach (AccessAt start) parts

@@ -1,0 +1,14 @@
+pub mod Access
+pub mod Calm
+pub mod Captured
+pub mod Ends
+pub mod Laws
+pub mod Notes
+pub mod Part
+pub mod Refused
+pub mod Relay
+pub mod Rows
+pub mod Runs
+pub mod Settled
+pub mod Sides
+pub mod Verdicts

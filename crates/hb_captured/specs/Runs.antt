@@ -1,0 +1,189 @@
+-- Which part may come next, and what it makes of the link.
+use Rattle.std.specs.Prelude.{⊤, ◌≡◌, ◌≢◌, ◌⊎◌, ℕ, ◌^◌, ◌-◌, ◌<◌, ◌≤◌, Bool, true, false, List, [], ◌∷◌, ◌++◌, length, min, Option, Some, None}
+use Rattle.hb_base.specs.declared.cause.Cause.{Cause}
+use Rattle.hb_base.specs.declared.cause.Cause.TheVariants as cause
+use Rattle.hb_base.specs.declared.door.Door.TheVariants as door
+use Rattle.hb_base.specs.declared.door.Why.TheVariants as whys
+use Rattle.hb_base.specs.declared.note.Note.{Note}
+use Rattle.hb_base.specs.declared.note.Note.TheVariants as note
+use Rattle.hb_base.specs.declared.peer.Peer.{Peer}
+use Rattle.hb_base.specs.declared.target.Target.{Target}
+use Rattle.hb_frames.specs.Frames.{AreOctets}
+use Rattle.hb_front.specs.Faults.{number_of}
+use Rattle.hb_front.specs.Reading.{Seen, IsAnswer, Whole, Fault}
+use Rattle.hb_held.specs.Held.{Resources}
+use Rattle.hb_held.specs.Outcome.{after_response}
+use Rattle.hb_verdict.specs.Verdict.{verdict}
+use Rattle.hb_verdict.specs.declared.request.Request.TheVariants.{Connect}
+use Rattle.hb_verdict.specs.declared.verdict.Verdict.{Verdict}
+use Rattle.hb_verdict.specs.declared.verdict.Verdict.TheVariants.{Status, Dial}
+use Rattle.hb_world.specs.declared.entry.Entry.{Entry}
+use Rattle.hb_world.specs.declared.entry.Entry.TheVariants as e
+use Rattle.hb_world.specs.declared.entry.Way.TheVariants as way
+use Rattle.hb_captured.specs.Calm.{wants, up_wants, output, up_output, IsCalm, IsQuiet}
+use Rattle.hb_captured.specs.Captured.{Captured, Stage, unborn, arriving, fronting, due, opening, accepting, live, failed, ended, over, no_link, at_stage, ends_for, peer_in, fronted_by, entered, up_entered, left_by, rejudged, may_shut_up, may_shut, is_through}
+use Rattle.hb_captured.specs.Part.{Part, entry, up, welcomed, crowded, lacked, misfronted, fronted, refused, accepted, left, done, applied, stopped}
+
+-- one link, and what is held beside it
+pub record Local : Type 0 where
+  pub held : Resources
+  pub link : Captured
+
+abbrev pub with_link : Captured → Local → Local
+with_link x a = record a { link = x }
+
+-- ENTRIES OF THE LINK
+
+-- while all is quiet, at a stage
+abbrev pub IsAt : Stage → Captured → Type 0
+IsAt stage x = IsQuiet x × (x.stage ≡ stage)
+
+-- the link may be tried; bytes may be read of it
+abbrev pub IsTried : Captured → Type 0
+IsTried x = IsAt fronting x ⊎ (IsAt opening x ⊎ IsAt live x)
+
+abbrev pub IsReadable : Captured → Type 0
+IsReadable x = IsTried x × (0 < wants x)
+
+-- bytes that are the first of those that wait
+abbrev pub AreFirst : List ℕ → List ℕ → Type 0
+AreFirst bytes held = (0 < length bytes) × ((rest : List ℕ) × (held ≡ bytes ++ rest))
+
+-- bytes that may be read, so many at most
+abbrev pub MayRead : List ℕ → ℕ → Type 0
+MayRead bytes most = AreOctets bytes × (0 < length bytes) × (length bytes ≤ most)
+
+-- which entry may come on the link l; a call that moves nothing comes where one may come that moves something
+abbrev pub MayCome : ℕ → Captured → Entry → Type 0
+MayCome l x (e.Accepted k d) = (k ≡ l) × (x.stage ≡ unborn) × (d ≡ door.Plain)
+MayCome l x (e.Came k bytes) = (k ≡ l) × IsReadable x × MayRead bytes (wants x)
+MayCome l x (e.Ended k) = (k ≡ l) × IsReadable x
+MayCome l x (e.Went k bytes) = (k ≡ l) × IsAt live x × AreFirst bytes (output x)
+MayCome l x (e.Broke k) = (k ≡ l) × IsTried x
+MayCome l x (e.Shut k) = (k ≡ l) × IsCalm x × (x.stage ≡ live) × (may_shut x ≡ true)
+MayCome l x (e.Closed k why) = (k ≡ l) × IsCalm x × (x.stage ≡ over why) × (x.closed ≡ false)
+MayCome l x (e.Balked (way.Read k)) = (k ≡ l) × IsReadable x
+MayCome l x (e.Balked (way.Write k)) = (k ≡ l) × IsAt live x × (0 < length (output x))
+MayCome l x _ = ⊥
+
+-- ENTRIES OF THE UPSTREAM
+
+-- on the upstream u, while all is quiet
+abbrev pub IsUp : Stage → ℕ → Captured → Type 0
+IsUp stage u x = IsAt stage x × (x.up ≡ u)
+
+-- a dial that is due is made, of the destination, for the link
+abbrev pub IsDial : ℕ → Captured → Target → Type 0
+IsDial l x to = IsCalm x × (x.stage ≡ due) × (to ≡ x.target)
+
+-- which entry may come on the upstream of the link l
+abbrev pub UpMayCome : ℕ → Captured → Entry → Type 0
+UpMayCome l x (e.Dialled u to why) = IsDial l x to × (why ≡ whys.Plain l) × (0 < u) × (u ≢ l)
+UpMayCome l x (e.DialFailed to why) = IsDial l x to × (why ≡ whys.Plain l)
+UpMayCome l x (e.Opened u) = IsUp opening u x
+UpMayCome l x (e.Came u bytes) = IsUp live u x × MayRead bytes (up_wants x)
+UpMayCome l x (e.Ended u) = IsUp live u x × (0 < up_wants x)
+UpMayCome l x (e.Went u bytes) = IsUp live u x × AreFirst bytes (up_output x)
+UpMayCome l x (e.Broke u) = IsUp opening u x ⊎ IsUp live u x
+UpMayCome l x (e.Shut u) = IsCalm x × (x.stage ≡ live) × (x.up ≡ u) × (may_shut_up x ≡ true)
+UpMayCome l x (e.Closed u why) = IsCalm x × (x.stage ≡ over why) × (x.up ≡ u) × (0 < u)
+UpMayCome l x (e.Balked (way.Finish u)) = IsUp opening u x
+UpMayCome l x (e.Balked (way.Read u)) = IsUp live u x × (0 < up_wants x)
+UpMayCome l x (e.Balked (way.Write u)) = IsUp live u x × (0 < length (up_output x))
+UpMayCome l x _ = ⊥
+
+-- THE VERDICT AND THE NOTES
+
+-- what the destination of a front header is answered, by what is held. A captured link has its place from its birth
+abbrev pub verdict_on : Resources → Seen → Verdict
+verdict_on held seen = verdict (Connect seen.destination) held (peer_in seen) false
+
+-- its refusal has this status: that of the verdict, or 500 in the place of a dial for which memory is wanting
+abbrev pub IsRefusal : Resources → Seen → ℕ → Type 0
+IsRefusal held seen status =
+    (verdict_on held seen ≡ Status status) ⊎ ((verdict_on held seen ≡ Dial seen.destination) × (status ≡ 500))
+
+-- a count of bytes stops at 2^64 - 1
+abbrev pub counted : ℕ → ℕ
+counted n = min n (2 ^ 64 - 1)
+
+-- the notes of a link l, whose stream is 0: its verdict, and its end
+abbrev pub verdict_note : (l status : ℕ) → Peer → Target → Note
+verdict_note l status peer target = note.Verdict l 0 status peer (Some target)
+
+abbrev pub end_note : ℕ → Cause → (went_up went_down : ℕ) → Note
+end_note l cause went_up went_down = note.End l 0 cause (counted went_up) (counted went_down)
+
+-- one that ended while it was pending has this status, where the cause has one (RFC 9110 section 15)
+abbrev pub failure_status : Cause → Option ℕ
+failure_status cause.Revoked = Some 401
+failure_status cause.UpFault = Some 502
+failure_status _ = None
+
+abbrev pub note_of : ℕ → Captured → Option ℕ → Option Note
+note_of l x None = None
+note_of l x (Some status) = Some (verdict_note l status x.peer x.target)
+
+-- the note of an end
+abbrev pub left_note : ℕ → Captured → Stage → Option Note → Type 0
+left_note l x (failed cause) made = made ≡ note_of l x (failure_status cause)
+left_note l x (ended cause) made = made ≡ Some (end_note l cause x.went_up x.went_down)
+left_note l x _ made = ⊥
+
+-- where memory may lack: at the link's birth, and where its header is whole
+abbrev pub Lacks : Stage → Captured → Type 0
+Lacks arriving x = ⊤
+Lacks fronting x = (seen : Seen) × IsAnswer x.front (Whole seen)
+Lacks _ x = ⊥
+
+-- the header is whole, and says so
+abbrev pub IsFronted : Captured → Seen → Type 0
+IsFronted x seen = (x.stage ≡ fronting) × IsAnswer x.front (Whole seen)
+
+-- WHICH PART MAY COME NEXT
+abbrev pub MayGo : ℕ → Local → Part → Type 0
+MayGo l a (entry e) = MayCome l a.link e
+MayGo l a (up e) = UpMayCome l a.link e
+MayGo l a welcomed = a.link.stage ≡ arriving
+MayGo l a crowded = a.link.stage ≡ arriving
+MayGo l a lacked = Lacks a.link.stage a.link
+MayGo l a (misfronted fault) = (a.link.stage ≡ fronting) × IsAnswer a.link.front (Fault fault)
+MayGo l a (fronted seen) = IsFronted a.link seen × (verdict_on a.held seen ≡ Dial seen.destination)
+MayGo l a (refused seen status made) =
+    IsFronted a.link seen × IsRefusal a.held seen status × (made ≡ verdict_note l status (peer_in seen) seen.destination)
+MayGo l a (accepted made) = (a.link.stage ≡ accepting) × (made ≡ verdict_note l 200 a.link.peer a.link.target)
+MayGo l a (left made) = left_note l a.link a.link.stage made
+MayGo l a (done made) =
+    (a.link.stage ≡ live) × (is_through a.link ≡ true) × (made ≡ end_note l cause.Done a.link.went_up a.link.went_down)
+MayGo l a (applied r) = ⊤
+MayGo l a (stopped cause) = ⊤
+
+-- WHAT IT MAKES OF THE LINK
+abbrev pub next_link : Captured → Part → Captured
+next_link x (entry e) = entered e x
+next_link x (up e) = up_entered e x
+next_link x welcomed = at_stage fronting x
+next_link x crowded = ends_for cause.NoRoom x
+next_link x lacked = ends_for cause.NoMemory x
+next_link x (misfronted fault) = ends_for (cause.FrontFault (number_of fault)) x
+next_link x (fronted seen) = fronted_by seen due x
+next_link x (refused seen status made) = fronted_by seen (over (cause.Refused status)) x
+next_link x (accepted made) = at_stage live x
+next_link x (left made) = at_stage (left_by x.stage) x
+next_link x (done made) = at_stage (over cause.Done) x
+next_link x (applied r) = x
+next_link x (stopped cause) = ends_for cause x
+
+-- a response judges it by what is held then
+abbrev pub next : Local → Part → Local
+next a (applied r) = record { held = after_response a.held r; link = rejudged (after_response a.held r) a.link }
+next a p = with_link (next_link a.link p) a
+
+abbrev pub Steps : ℕ → Local → Part → Local → Type 0
+Steps l a p b = MayGo l a p × (b ≡ next a p)
+
+-- a link stands for the parts of a run that leads to it, before which this was held
+pub data StandsFor (l : ℕ) (start : Resources) : Local → List Part → Type 0 where
+  begins : {a : Local} {parts : List Part} → a ≡ record { held = start; link = no_link } → parts ≡ [] → StandsFor l start a parts
+  goes_on : {a b : Local} {parts more : List Part} → StandsFor l start a parts → (p : Part) → Steps l a p b
+      → more ≡ parts ++ p ∷ [] → StandsFor l start b more

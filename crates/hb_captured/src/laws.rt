@@ -1,0 +1,106 @@
+//! What every run of a captured link obeys. Each is the contract of a function that does nothing.
+
+ghost use Rattle.hb_captured.specs.Refused.{WritesBehind, WritesBackBehind, ReadsBehind, ClosesForAnother, ClosesAdmitted};
+ghost use Rattle.hb_captured.specs.Refused.{ShutsWaiting, ShutsEarly, ShutsBackWaiting, WritesHeader, CountsHeader, DropsFirst, DoneWaiting};
+ghost use Rattle.hb_captured.specs.Refused.{DialsElsewhere, DialsTwice, DialsUnasked, LeavesOutDial, InventsHeader, DialsRefused};
+ghost use Rattle.hb_captured.specs.Refused.{RefusesAdmitted, KeepsIdentity, NotesTwice, EndsUnaccepted, EndsTwice, ClosesUnnoted, LeavesOut502};
+ghost use Rattle.hb_captured.specs.Refused.{TriesDone, LeavesOpen};
+ghost use Rattle.hb_captured.specs.Rows.{RefusedMayGo, DoneMayGo, RevokedMayGo};
+ghost use Rattle.hb_captured.specs.Laws.{RunsRelay, RunsAdmit, RunsEnd, RunsAnswer, RunsNote, RunsSettle, RunsFitRings};
+
+/// The bytes written to the upstream are a front of those that came on the link behind its front header, and the bytes written to the
+/// link are a front of those that came from the upstream. Either is shut once, behind the end of the other and its last byte.
+pub fn bytes_are_relayed()
+    ensures { RunsRelay }
+{}
+
+/// No byte is written to the upstream, and none to the link, unless the resources held then admit the peer at its destination.
+pub fn peers_are_admitted()
+    ensures { RunsAdmit }
+{}
+
+/// The link and its upstream end together for the first cause that applies, by an update exactly where that no longer admits the peer.
+/// Behind the end nothing stands but the close of each, once, for that cause.
+pub fn relays_end_once()
+    ensures { RunsEnd }
+{}
+
+/// The front header is that of the bytes that came. Its destination gets the first answer that applies, by what is held then, and is
+/// dialled exactly where that is a dial.
+pub fn destinations_are_answered()
+    ensures { RunsAnswer }
+{}
+
+/// There is one note at the verdict, and one at the end of a tunnel that lived, with the first cause and what truly went each way.
+pub fn notes_are_told()
+    ensures { RunsNote }
+{}
+
+/// Nothing is read, written or tried while something follows by itself or a call is due: a dial, a shut, a close.
+pub fn nothing_is_put_off()
+    ensures { RunsSettle }
+{}
+
+/// What waits on each way fits its ring: 65,535 bytes up, 16,384 down.
+pub fn rings_are_never_overrun()
+    ensures { RunsFitRings }
+{}
+
+/// A link that is judged at its birth alone is refused: behind an update that no longer admits the peer no byte goes either way, the link
+/// isn't read, and its upstream is closed for that cause. One that is still admitted isn't closed.
+pub fn revoked_relays_are_silent()
+    ensures writes { WritesBehind }
+    ensures writes_back { WritesBackBehind }
+    ensures reads { ReadsBehind }
+    ensures another_cause { ClosesForAnother }
+    ensures admitted { ClosesAdmitted }
+{}
+
+/// No side is shut in front of its last byte, nor before the other has ended. No byte of the front header goes or counts as one of the
+/// tunnel. None is left out behind a short write: not by the next write, nor by an end as if all had gone.
+pub fn bytes_are_kept()
+    ensures shuts { ShutsWaiting }
+    ensures early { ShutsEarly }
+    ensures shuts_back { ShutsBackWaiting }
+    ensures header { WritesHeader }
+    ensures counts { CountsHeader }
+    ensures drops { DropsFirst }
+    ensures done { DoneWaiting }
+{}
+
+/// A dial elsewhere, a second one, one in front of the header and one that is left out are refused; so are a header that didn't come, a
+/// dial of a destination that is to be refused, and the refusal of one that is to be dialled.
+pub fn wrong_answers_are_refused()
+    ensures elsewhere { DialsElsewhere }
+    ensures twice { DialsTwice }
+    ensures unasked { DialsUnasked }
+    ensures left_out { LeavesOutDial }
+    ensures invents { InventsHeader }
+    ensures dials { DialsRefused }
+    ensures refuses { RefusesAdmitted }
+{}
+
+/// A verdict's note has no identity, and is the only one. The end of a tunnel that wasn't accepted, a second end, a close behind an end
+/// that isn't noted, and a failure without its 502 are refused.
+pub fn wrong_notes_are_refused()
+    ensures identity { KeepsIdentity }
+    ensures twice { NotesTwice }
+    ensures unaccepted { EndsUnaccepted }
+    ensures ends_twice { EndsTwice }
+    ensures unnoted { ClosesUnnoted }
+    ensures left_out { LeavesOut502 }
+{}
+
+/// A link isn't tried while it is done, nor its upstream read while that is to be shut.
+pub fn work_left_is_refused()
+    ensures done { TriesDone }
+    ensures left_open { LeavesOpen }
+{}
+
+/// Three whole lives are runs, with their notes: of a link whose destination is refused, of one that relays three bytes each way and is
+/// done, and of one that an update ends.
+pub fn whole_lives_may_go()
+    ensures refused { RefusedMayGo }
+    ensures done { DoneMayGo }
+    ensures revoked { RevokedMayGo }
+{}
