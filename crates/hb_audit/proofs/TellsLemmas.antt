@@ -120,3 +120,9 @@ pub Tells-more : (old between new : List (Option (List Note))) (notes : List Not
     → Tells old new (notes ++ n ∷ [])
 Tells-more old between new [] n t one = (new, subst (λ held. TellsOne held new n) t one, refl)
 Tells-more old between new (m ∷ notes) n t one = (t.0, t.1, Tells-more t.0 between new notes n t.2 one)
+
+-- one note more
+pub tells_more : (old mid new : List (Option (List Note))) (notes : List Note) (n : Note) → Tells old mid notes → TellsOne mid new n
+    → Tells old new (notes ++ n ∷ [])
+tells_more old mid new [] n t one = (new, subst (λ (l : List (Option (List Note))). TellsOne l new n) t one, refl)
+tells_more old mid new (m ∷ notes) n t one = (t.0, t.1, tells_more t.0 mid new notes n t.2 one)

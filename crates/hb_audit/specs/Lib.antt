@@ -2,4 +2,5 @@ pub mod Held
 pub mod HeldBy
 pub mod Laws
 pub mod MemAudit
+pub mod Refused
 pub mod Tells

@@ -4,11 +4,10 @@
 mod audit;
 mod audits;
 mod boxed;
-mod laws;
+pub mod laws;
 mod mem_audit;
 mod same;
 
 pub use audit::{Audit, Noted};
 pub use audits::Audits;
-pub use laws::audits_that_are_left_hold_all_notes;
 pub use mem_audit::MemAudit;

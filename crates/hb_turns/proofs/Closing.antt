@@ -11,7 +11,7 @@ use Rattle.hb_ready.specs.Registry.{kept}
 use Rattle.hb_turns.specs.Ends.{ClosesFor, cause_at, end_of}
 use Rattle.hb_turns.specs.Notes.{HasAllNotes}
 use Rattle.hb_turns.specs.Reckons.{Closes, Finishes}
-use Rattle.hb_turns.specs.Served.{IsStoodFor, IsOver, IsServed, IsTotalled}
+use Rattle.hb_turns.specs.Served.{IsStoodFor, IsOver, IsServed, IsTotalled, leaves}
 use Rattle.hb_turns.specs.Shown.{Shown, Stirs, Stops, StandsForNone}
 use Rattle.hb_turns.specs.Stands.{Obeys, Matches, Stands, StandsAlone, Lacks, Left, Tracks}
 use Rattle.hb_turns.specs.declared.run.Records.{Records}
@@ -102,13 +102,13 @@ module _ {N : Type 0} (stands : List Note → N → List Entry → Type 0) (show
   pub notes_held : {A E : Type 0} (r : Result A E) (mid new : Run N) (told : Option (List Entry))
       → ((trace : List Entry) → Matches stands shown mid trace → OnOk r (Matches stands shown new trace))
       → OnOk r ((shown new.node).noted ≡ [])
-      → OnOk r (IfSome told (StandsAlone stands shown mid) → IfSome told (HasAllNotes stands shown new.taken))
+      → OnOk r (IfSome told (StandsAlone stands shown mid) → IfSome told (HasAllNotes stands shown new))
   notes_held (Ok x) mid new told so none =
-      each (StandsAlone stands shown mid) (HasAllNotes stands shown new.taken) told
+      each (StandsAlone stands shown mid) (HasAllNotes stands shown new) told
       (λ trace a. let m = so trace a.matches in
       record {
         notes = m.notes;
-        are_notes = record { node = new.node; stands_for = m.node; none_waits = none };
+        are_notes = record { stands_for = m.node; none_waits = none };
         are_taken = m.taken_are;
       })
   notes_held (Err why) mid new told so none = tt
@@ -147,15 +147,15 @@ module _ {N : Type 0} (stands : List Note → N → List Entry → Type 0) (show
   noted_or : {A E F : Type 0} (r : Result ServeEnd E) (b : Result A F) (run new : Run N) (trace : List Entry) (told : Option (List Entry))
       → Left stands shown r run trace → OnOk r ((shown run.node).none_closes ≡ true)
       → OnOk b ((shown run.node).none_closes ≡ true → IfSome (Some trace) (Stands stands shown run)
-      → IfSome told (HasAllNotes stands shown new.taken))
-      → (end_of r ≡ ends.NoMemory → ⊥) → is_err b ≡ false → IfSome told (HasAllNotes stands shown new.taken)
+      → IfSome told (HasAllNotes stands shown new))
+      → (end_of r ≡ ends.NoMemory → ⊥) → is_err b ≡ false → IfSome told (HasAllNotes stands shown new)
   noted_or (Ok end) (Ok x) run new trace told s closes notes other kept = notes closes s
   noted_or (Ok end) (Err why) run new trace told s closes notes other kept = absurd cc
   noted_or (Err why) b run new trace told lacks closes notes other kept = absurd (other refl)
 
   -- the totals are those of the trace and of all its notes
-  totalled : (run : Run N) (trace : List Entry) → Obeys stands shown run.records trace → HasAllNotes stands shown run.taken trace
-      → IsTotalled stands shown run.taken.keep (totals_in run.records.births run.records.revoked run.taken.sums) trace
+  totalled : (run : Run N) (trace : List Entry) → Obeys stands shown run.records trace → HasAllNotes stands shown run trace
+      → IsTotalled stands shown (leaves run.taken.keep run.node) (totals_in run.records.births run.records.revoked run.taken.sums) trace
   totalled run trace o all = record {
     notes = all.notes;
     are_notes = all.are_notes;
@@ -169,21 +169,21 @@ module _ {N : Type 0} (stands : List Note → N → List Entry → Type 0) (show
       → Closes (cause_at (end_of r)) before behind → IfSome behind (Obeys stands shown new.records)
       → ((l : ℕ) → (kept new.records.links).links l ≡ None) → OnOk r ((shown run.node).none_closes ≡ true)
       → OnOk b ((shown run.node).none_closes ≡ true → IfSome before (Stands stands shown run)
-      → IfSome behind (HasAllNotes stands shown new.taken))
+      → IfSome behind (HasAllNotes stands shown new))
       → IfSome behind (IsServed stands shown words
-      (outcome (end_of r) new.records new.taken.sums (is_err b)) new.taken.keep)
+      (outcome (end_of r) new.records new.taken.sums (is_err b)) (leaves new.taken.keep new.node))
   is_served words r b run new None behind left_so finishes closes obeys none none_closes notes =
       subst (λ (o : Option (List Entry)). IfSome o (IsServed stands shown words
-      (outcome (end_of r) new.records new.taken.sums (is_err b)) new.taken.keep))
+      (outcome (end_of r) new.records new.taken.sums (is_err b)) (leaves new.taken.keep new.node)))
       (sym closes.grows) tt
   is_served words r b run new (Some trace) behind left_so finishes closes obeys none none_closes notes =
       by behind closes.grows obeys notes
     where
       by : (told : Option (List Entry)) → told ≡ Some (trace ++ closes.more) → IfSome told (Obeys stands shown new.records)
           → OnOk b ((shown run.node).none_closes ≡ true → IfSome (Some trace) (Stands stands shown run)
-          → IfSome told (HasAllNotes stands shown new.taken))
+          → IfSome told (HasAllNotes stands shown new))
           → IfSome told (IsServed stands shown words
-          (outcome (end_of r) new.records new.taken.sums (is_err b)) new.taken.keep)
+          (outcome (end_of r) new.records new.taken.sums (is_err b)) (leaves new.taken.keep new.node))
       by None is o notes = tt
       by (Some full) is o notes = record {
         awake = o.awake;

@@ -10,7 +10,7 @@ use Rattle.hb_ready.specs.Awake.{IsAwake}
 use Rattle.hb_ready.specs.Registry.{kept}
 use Rattle.hb_ready.specs.Sight.{known, sight}
 use Rattle.hb_ready.specs.declared.link.Link.{Link}
-use Rattle.hb_turns.specs.Served.{IsServed, IsFresh, IsFreshNode, nothing_done}
+use Rattle.hb_turns.specs.Served.{IsServed, IsFresh, IsFreshNode, leaves, nothing_done}
 use Rattle.hb_turns.specs.Settled.{SettledAt, Rests}
 use Rattle.hb_turns.specs.Shown.{Shown}
 use Rattle.hb_turns.specs.Stands.{Obeys, Watched}
@@ -93,9 +93,9 @@ begins stands shown run keep told fresh keeps sums stands_for node is =
 pub nothing_served : {N : Type 0} (stands : List Note → N → List Entry → Type 0) (shown : N → Shown) (words : ServeWords)
     (keep : Option (List Note))
     (n : N) (told : Option (List Entry)) → stands [] n [] → (shown n).ends_for ≡ None → told ≡ Some []
-    → IfSome told (IsServed stands shown words nothing_done keep)
+    → IfSome told (IsServed stands shown words nothing_done (leaves keep n))
 nothing_served stands shown words keep n told fresh going is =
-    subst (λ (o : Option (List Entry)). IfSome o (IsServed stands shown words nothing_done keep)) (sym is)
+    subst (λ (o : Option (List Entry)). IfSome o (IsServed stands shown words nothing_done (leaves keep n))) (sym is)
     (record {
       awake = nothing_at IsAwake;
       settled = nothing_at (SettledAt stands shown);

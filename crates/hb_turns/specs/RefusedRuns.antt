@@ -10,7 +10,7 @@ use Rattle.hb_world.specs.declared.entry.Entry.TheVariants as e
 use Rattle.hb_world.specs.declared.entry.Way.TheVariants as way
 use Rattle.hb_world.specs.declared.entry.Woken.TheVariants as woken
 use Rattle.hb_turns.specs.Listens.{listen_at}
-use Rattle.hb_turns.specs.Served.{IsServed}
+use Rattle.hb_turns.specs.Served.{IsServed, Leaves, leaves}
 use Rattle.hb_turns.specs.Shown.{Shown, IsFree}
 use Rattle.hb_turns.specs.Totals.{sums_of, no_totals}
 use Rattle.hb_turns.specs.declared.served.Served.{Served}
@@ -64,7 +64,7 @@ lack_behind_open to why = e.Dialled 1 to why ∷ e.Opened 1 ∷ e.Closed 1 cause
 
 module _ {N : Type 0} (stands : List Note → N → List Entry → Type 0) (shown : N → Shown) where
   abbrev pub Refuses : ServeWords → List Entry → Type 0
-  Refuses words trace = (totals : Totals) (keep : Option (List Note)) → IsServed stands shown words (stopped totals) keep trace → ⊥
+  Refuses words trace = (totals : Totals) (left : Leaves N) → IsServed stands shown words (stopped totals) left trace → ⊥
 
   -- it stops though nothing told it to
   abbrev pub StopsUnasked : Type 0
@@ -89,8 +89,8 @@ module _ {N : Type 0} (stands : List Note → N → List Entry → Type 0) (show
 
   -- its turns are said to be spent, and it made fewer
   abbrev pub GivesUp : Type 0
-  GivesUp = (to : Target) (why : Why) (totals : Totals) (keep : Option (List Note))
-      → IsServed stands shown (asks 9 None) (record (stopped totals) { end = ends.TurnsSpent }) keep (e.DialFailed to why ∷ waits ∷ []) → ⊥
+  GivesUp = (to : Target) (why : Why) (totals : Totals) (left : Leaves N)
+      → IsServed stands shown (asks 9 None) (record (stopped totals) { end = ends.TurnsSpent }) left (e.DialFailed to why ∷ waits ∷ []) → ⊥
 
   -- one tick more than were stated
   abbrev pub TicksOnceMore : Type 0
@@ -107,10 +107,15 @@ module _ {N : Type 0} (stands : List Note → N → List Entry → Type 0) (show
   ListensInAnotherOrder = (at to : Target)
       → Refuses (asks_doors (Some at) (Some to)) (listen_at true (Outbound, to) ∷ listen_at true (Inbound, at) ∷ waits_stop ∷ [])
 
-  -- notes are kept, and they aren't those of the trace
+  -- notes are kept, and they aren't those of the trace that its node gave
   abbrev pub LosesNotes : Type 0
-  LosesNotes = (words : ServeWords) (totals : Totals) (notes : List Note) (trace : List Entry)
-      → ((n : N) → stands notes n trace → (shown n).noted ≡ [] → ⊥) → IsServed stands shown words (stopped totals) (Some notes) trace → ⊥
+  LosesNotes = (words : ServeWords) (totals : Totals) (notes : List Note) (n : N) (trace : List Entry)
+      → (stands notes n trace → (shown n).noted ≡ [] → ⊥) → IsServed stands shown words (stopped totals) (leaves (Some notes) n) trace → ⊥
+
+  -- its node gave no notes of the trace
+  abbrev pub ForgetsNode : Type 0
+  ForgetsNode = (words : ServeWords) (totals : Totals) (left : Leaves N) (trace : List Entry)
+      → ((notes : List Note) → stands notes left.node trace → ⊥) → IsServed stands shown words (stopped totals) left trace → ⊥
 
   -- no node stands for a trace that begins with this entry
   abbrev pub NoneBeginsWith : Entry → Type 0
@@ -118,23 +123,23 @@ module _ {N : Type 0} (stands : List Note → N → List Entry → Type 0) (show
 
   -- memory lacked, and two entries stand behind all that a node stands for
   abbrev pub LacksTwice : Type 0
-  LacksTwice = (to : Target) (why : Why) (totals : Totals) (keep : Option (List Note)) → NoneBeginsWith (e.Dialled 1 to why)
-      → IsServed stands shown (asks 9 None) (lacked totals) keep (lack_behind_open to why) → ⊥
+  LacksTwice = (to : Target) (why : Why) (totals : Totals) (left : Leaves N) → NoneBeginsWith (e.Dialled 1 to why)
+      → IsServed stands shown (asks 9 None) (lacked totals) left (lack_behind_open to why) → ⊥
 
   -- memory lacked at an entry that no node allows
   abbrev pub LacksUnallowed : Type 0
-  LacksUnallowed = (to : Target) (why : Why) (totals : Totals) (keep : Option (List Note)) → NoneBeginsWith (e.Dialled 1 to why)
+  LacksUnallowed = (to : Target) (why : Why) (totals : Totals) (left : Leaves N) → NoneBeginsWith (e.Dialled 1 to why)
       → ((notes : List Note) (n : N) → stands notes n [] → (shown n).dials ≡ Some (to, why) → ⊥)
-      → IsServed stands shown (asks 9 None) (lacked totals) keep (lack_behind_dial to why) → ⊥
+      → IsServed stands shown (asks 9 None) (lacked totals) left (lack_behind_dial to why) → ⊥
 
   -- a node that stands for the dial lacks memory for what it is told next
   abbrev pub LackIsServed : Type 0
-  LackIsServed = (to : Target) (why : Why) (notes : List Note) (n : N) (keep : Option (List Note)) → IsFree (shown n)
-      → stands notes n (e.Dialled 1 to why ∷ []) → IsServed stands shown (asks 9 None) (lacked (record no_totals { links = 1 })) keep (lack_behind_open to why)
+  LackIsServed = (to : Target) (why : Why) (notes : List Note) (n : N) (left : Leaves N) → IsFree (shown n)
+      → stands notes n (e.Dialled 1 to why ∷ []) → IsServed stands shown (asks 9 None) (lacked (record no_totals { links = 1 })) left (lack_behind_open to why)
 
   abbrev pub GoodRunIsServed : Type 0
   GoodRunIsServed = (at to : Target) (why : Why) (notes more : List Note) (n m k : N) → IsFree (shown n) → (shown m).ends_for ≡ None
       → stands notes n (good_start at to why)
       → stands notes m (listen_at true (Inbound, at) ∷ e.Dialled 1 to why ∷ e.Balked (way.Finish 1) ∷ waits_stop ∷ [])
       → stands more k (good_run at to why) → (shown k).noted ≡ []
-      → IsServed stands shown (asks_doors (Some at) None) (stopped (with_sums 1 more)) (Some more) (good_run at to why)
+      → IsServed stands shown (asks_doors (Some at) None) (stopped (with_sums 1 more)) (leaves (Some more) k) (good_run at to why)

@@ -38,19 +38,29 @@ pub record IsOver {N : Type 0} (stands : List Note → N → List Entry → Type
   pub stood_for : IsStoodFor stands shown end before
   pub closes : All (ClosesFor (cause_at end)) behind
 
--- These are all notes of the trace, where notes are kept they are these, and the totals are those of the trace with these notes
-pub record IsTotalled {N : Type 0} (stands : List Note → N → List Entry → Type 0) (shown : N → Shown) (keep : Option (List Note))
+-- what a run leaves: the notes that are kept, and the node
+pub record Leaves (N : Type 0) : Type 0 where
+  pub keep : Option (List Note)
+  pub node : N
+
+abbrev pub leaves : {N : Type 0} → Option (List Note) → N → Leaves N
+leaves keep node = record { keep = keep; node = node }
+
+-- These are all notes of the trace, which its node gave; where notes are kept they are these, and the totals are those of the trace
+-- with these notes
+pub record IsTotalled {N : Type 0} (stands : List Note → N → List Entry → Type 0) (shown : N → Shown) (left : Leaves N)
     (totals : Totals) (trace : List Entry) : Type 0 where
   pub notes : List Note
-  pub are_notes : AreNotes stands shown notes trace
-  pub kept_are : Holds keep notes
+  pub are_notes : AreNotes stands shown notes left.node trace
+  pub kept_are : Holds left.keep notes
   pub totals_are : totals ≡ totals_of trace notes
 
 -- A run that is over, of a node that was asked for this: its trace obeys the awake law and the settled law, at its end no link lives;
 -- it says how the run ended, how many links were born, how many dialled ones an update of the policies closed, and whether one was
--- closed for want of memory; and unless memory lacked the notes that are kept are all that there are of it, and the totals are its own
+-- closed for want of memory; and unless memory lacked the notes that are kept, and those that its node gave, are all that there are of
+-- it, and the totals are its own
 pub record IsServed {N : Type 0} (stands : List Note → N → List Entry → Type 0) (shown : N → Shown) (words : ServeWords) (served : Served)
-    (keep : Option (List Note)) (trace : List Entry) : Type 0 where
+    (left : Leaves N) (trace : List Entry) : Type 0 where
   pub awake : AwakeLaw trace
   pub settled : SettledLaw stands shown trace
   pub closed : (l : ℕ) → lives l trace ≡ false
@@ -58,7 +68,7 @@ pub record IsServed {N : Type 0} (stands : List Note → N → List Entry → Ty
   pub links_are : served.totals.links ≡ births trace
   pub revoked_are : served.totals.revoked ≡ counted (revoked trace)
   pub wanting_is : served.wanting ≡ was_wanting trace
-  pub noted : (served.end ≡ ends.NoMemory → ⊥) → served.unkept ≡ false → IsTotalled stands shown keep served.totals trace
+  pub noted : (served.end ≡ ends.NoMemory → ⊥) → served.unkept ≡ false → IsTotalled stands shown left served.totals trace
 
 -- memory lacked before anything was done
 abbrev pub nothing_done : Served

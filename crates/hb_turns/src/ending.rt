@@ -114,7 +114,7 @@ pub(crate) fn end_run<W: World, N: Node>(
     ensures obeys { IfSome (W.trace world.old) (Obeys N.stands N.shown run.old.records)
         → IfSome (W.trace world.new) (Obeys N.stands N.shown run.new.records) }
     ensures noted { OnOk result ((N.shown run.old.node).none_closes ≡ true → IfSome (W.trace world.old) (Stands N.stands N.shown run.old)
-        → IfSome (W.trace world.new) (HasAllNotes N.stands N.shown run.new.taken)) }
+        → IfSome (W.trace world.new) (HasAllNotes N.stands N.shown run.new)) }
     ensures closes { Closes cause (W.trace world.old) (W.trace world.new) }
     ensures none { (l : ℕ) → (kept run.new.records.links).links l ≡ None }
     ensures faults { W.faults world.new ≡ W.faults world.old }

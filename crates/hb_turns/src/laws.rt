@@ -4,7 +4,7 @@
 ghost use Rattle.hb_turns.specs.Counted.{SparesAccepted, CountsDialledOnce, SparesStopped, CountsAccepted, AddsEnds, StopsAtMost};
 ghost use Rattle.hb_turns.specs.Refused.{WaitsOverDue, WaitsOverReadable, WaitsOverUnwritten, WaitsUnasked, WaitsUnaccepted, GoodTraceIsSettled};
 ghost use Rattle.hb_turns.specs.RefusedRuns.{StopsUnasked, LeavesOpen, ClosesForLack, GoesOnBehind, WaitsPastTurns, GivesUp, TicksOnceMore};
-ghost use Rattle.hb_turns.specs.RefusedRuns.{ListensNowhere, ListensUnasked, ListensInAnotherOrder, LosesNotes, GoodRunIsServed};
+ghost use Rattle.hb_turns.specs.RefusedRuns.{ListensNowhere, ListensUnasked, ListensInAnotherOrder, LosesNotes, ForgetsNode, GoodRunIsServed};
 ghost use Rattle.hb_turns.specs.RefusedRuns.{LacksTwice, LacksUnallowed, LackIsServed};
 
 use crate::node::Node;
@@ -42,9 +42,10 @@ pub fn wrong_listens_are_refused<N: Node>()
     ensures order { ListensInAnotherOrder N.stands N.shown }
 {}
 
-/// Nor one whose notes aren't those that are kept.
+/// Nor one whose notes, as its node gave them, aren't those that are kept, or whose node gave none of them.
 pub fn lost_notes_are_refused<N: Node>()
-    ensures { LosesNotes N.stands N.shown }
+    ensures kept { LosesNotes N.stands N.shown }
+    ensures given { ForgetsNode N.stands N.shown }
 {}
 
 /// Nor one that ended for want of memory two entries behind all that a node stands for, or at an entry that none allows.

@@ -5,7 +5,7 @@ ghost use Rattle.std.specs.Option.{option_map};
 ghost use Rattle.hb_base.specs.Count.{Counts};
 ghost use Rattle.hb_turns.specs.Ends.{cause_at, is_fault, end_of};
 ghost use Rattle.hb_turns.specs.Reckons.{Begins, Finishes};
-ghost use Rattle.hb_turns.specs.Served.{IsServed, IsFresh, IsFreshNode};
+ghost use Rattle.hb_turns.specs.Served.{IsServed, IsFresh, IsFreshNode, leaves};
 ghost use Rattle.hb_turns.specs.Stands.{Left};
 ghost use Rattle.hb_turns.specs.Totals.{sums_of};
 
@@ -74,7 +74,7 @@ fn serve_run<W: World, N: Node>(
     words: ServeWords,
 ) -> Served
     ensures served { (N.shown run.old.node).none_closes ≡ true → IfSome (W.trace world.old) (Begins N.stands N.shown run.old [])
-        → IfSome (W.trace world.new) (IsServed N.stands N.shown words result run.new.taken.keep) }
+        → IfSome (W.trace world.new) (IsServed N.stands N.shown words result (leaves run.new.taken.keep run.new.node)) }
     ensures faults { Counts (W.faults world.old) (W.faults world.new) (is_fault result.end) }
     ensures follows { W.script world.new ≡ W.script world.old }
 {
@@ -116,18 +116,23 @@ fn read_buffer(alloc: Global) -> Result<Vec<u8>, NoMemory> {
     Ok(buffer)
 }
 
-/// Before anything happened.
+/// Room for one read, and for what a wait names.
 ///
-/// Errors: `NoMemory`, and then the node is dropped.
-fn begin<N: Node + Drop>(alloc: Global, node: N, keep: Keep) -> Result<(Run<N>, Ready), NoMemory>
-    ensures node { IfOk result (λ begun. begun.0.node ≡ node) }
-    ensures keep { IfOk result (λ begun. begun.0.taken.keep ≡ keep) }
-    ensures sums { IfOk result (λ begun. begun.0.taken.sums ≡ sums_of []) }
-    ensures fresh { IfOk result (λ begun. IsFresh begun.0.records) }
-{
+/// Errors: `NoMemory`.
+fn room(alloc: Global) -> Result<(Vec<u8>, Ready), NoMemory> {
     let buffer = read_buffer(alloc)?;
     let ready = Ready::new(alloc)?;
-    let run = Run {
+    Ok((buffer, ready))
+}
+
+/// Before anything happened.
+fn begin<N: Node>(alloc: Global, node: N, keep: Keep, buffer: Vec<u8>) -> Run<N>
+    ensures node { result.node ≡ node }
+    ensures keep { result.taken.keep ≡ keep }
+    ensures sums { result.taken.sums ≡ sums_of [] }
+    ensures fresh { IsFresh result.records }
+{
+    Run {
         node,
         records: fresh_records(alloc),
         taken: Taken {
@@ -135,35 +140,33 @@ fn begin<N: Node + Drop>(alloc: Global, node: N, keep: Keep) -> Result<(Run<N>, 
             sums: Sums::new(),
         },
         buffer,
-    };
-    Ok((run, ready))
+    }
 }
 
 /// Runs a node over a world: it listens at the doors, then goes on until a listen or a wait fails, a wait tells a stop, the ticks
 /// passed or the turns are spent, or memory lacks. Then the node is told, each link is closed, and the last notes are taken. The keep
-/// holds the notes of this run alone. Where the world tells its trace, and no call was made on it before, the trace is that of a run
-/// that is over.
+/// holds the notes of this run alone, and the node is handed back. Where the world tells its trace, and no call was made on it before,
+/// the trace is that of a run that is over.
 pub fn serve<W: World, N: Node + Drop>(
     alloc: Global,
     node: N,
     words: ServeWords,
     keep: &mut Keep,
     world: &mut W,
-) -> Served
+) -> (Served, N)
     requires stands { N.stands [] node [] }
     requires fresh { IsFreshNode (N.shown node) }
-    ensures served { W.trace world.old ≡ Some [] → IfSome (W.trace world.new) (IsServed N.stands N.shown words result keep.new) }
-    ensures faults { Counts (W.faults world.old) (W.faults world.new) (is_fault result.end) }
+    ensures served { W.trace world.old ≡ Some []
+        → IfSome (W.trace world.new) (IsServed N.stands N.shown words result.0 (leaves keep.new result.1)) }
+    ensures faults { Counts (W.faults world.old) (W.faults world.new) (is_fault result.0.end) }
     ensures follows { W.script world.new ≡ W.script world.old }
 {
-    match begin(alloc, node, keep.emptied(alloc)) {
-        Ok((run, ready)) => {
-            let mut run = run;
-            let mut ready = ready;
-            let served = serve_run(&mut run, world, &mut ready, words);
-            *keep = run.taken.keep;
-            served
-        }
-        Err(_) => Served::nothing(),
-    }
+    let Ok((buffer, mut ready)) = room(alloc) else {
+        return (Served::nothing(), node);
+    };
+    let mut run = begin(alloc, node, keep.emptied(alloc), buffer);
+    let served = serve_run(&mut run, world, &mut ready, words);
+    let Run { node, taken, .. } = run;
+    *keep = taken.keep;
+    (served, node)
 }

@@ -95,7 +95,7 @@ returns g c = λ at to why notes more n m k free going starts waits ends none.
       revoked_are = refl;
       noted = λ other kept. record {
         notes = more;
-        are_notes = record { node = k; stands_for = ends; none_waits = none };
+        are_notes = record { stands_for = ends; none_waits = none };
         kept_are = refl;
         totals_are = refl;
       };

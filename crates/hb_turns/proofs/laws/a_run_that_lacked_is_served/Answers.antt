@@ -20,7 +20,7 @@ two : (P : List Entry → Entry → Type 0) (x y : Entry) → P [] x → P (x �
 two P x y a b = AtEach-grows P (x ∷ []) y (AtEach-grows P [] x (nothing_at P) a) b
 
 pub returns : goal.returns
-returns g c = λ to why notes n keep free starts.
+returns g c = λ to why notes n left free starts.
     let dials = e.Dialled 1 to why in
     let opens = e.Opened 1 in
     let closes = e.Closed 1 cause.NoMemory in

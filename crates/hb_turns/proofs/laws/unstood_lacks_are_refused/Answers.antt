@@ -44,10 +44,10 @@ module _ {N : Type 0} (stands : List Note → N → List Entry → Type 0) (show
       dials all.1 all.2 all.3 all.4.0
 
 pub returns-clause-twice : goal.returns-clause-twice
-returns-clause-twice g c = λ to why totals keep none served.
+returns-clause-twice g c = λ to why totals left none served.
     let o = served.over in twice g.N.Node.stands g.N.Node.shown to why none o.before o.behind o.trace_is o.closes o.stood_for
 
 pub returns-clause-unallowed : goal.returns-clause-unallowed
-returns-clause-unallowed g c = λ to why totals keep none dials served.
+returns-clause-unallowed g c = λ to why totals left none dials served.
     let o = served.over in
     unallowed g.N.Node.stands g.N.Node.shown to why none dials o.before o.behind o.trace_is o.closes o.stood_for

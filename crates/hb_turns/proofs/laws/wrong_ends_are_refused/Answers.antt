@@ -21,11 +21,11 @@ unasked to why (x ∷ []) l c is at = absurd cc
 unasked to why (x ∷ y ∷ b) l c is at = absurd cc
 
 pub returns-clause-unasked : goal.returns-clause-unasked
-returns-clause-unasked g c = λ to why totals keep served.
+returns-clause-unasked g c = λ to why totals left served.
     let s = stops_amid g.N.Node.stands g.N.Node.shown (asks 9 None) _ served.over in unasked to why s.before s.last s.behind s.trace_is s.ended
 
 pub returns-clause-left_open : goal.returns-clause-left_open
-returns-clause-left_open g c = λ to why totals keep served. let none : true ≡ false = served.closed 1 in absurd cc
+returns-clause-left_open g c = λ to why totals left served. let none : true ≡ false = served.closed 1 in absurd cc
 
 lack : (to : Target) (why : Why) (b : List Entry) (l : Entry) (c : List Entry)
     → e.Dialled 1 to why ∷ waits_stop ∷ e.Closed 1 cause.NoMemory ∷ [] ≡ b ++ l ∷ c → end_by None b l ≡ Some ends.Stopped
@@ -42,7 +42,7 @@ lack to why (x ∷ y ∷ z ∷ []) l c is at closes = absurd cc
 lack to why (x ∷ y ∷ z ∷ v ∷ b) l c is at closes = absurd cc
 
 pub returns-clause-lack : goal.returns-clause-lack
-returns-clause-lack g c = λ to why totals keep served.
+returns-clause-lack g c = λ to why totals left served.
     let s = stops_amid g.N.Node.stands g.N.Node.shown (asks 9 None) _ served.over in
     lack to why s.before s.last s.behind s.trace_is s.ended s.closes
 
@@ -58,7 +58,7 @@ more to why (x ∷ y ∷ []) l c is at closes = absurd cc
 more to why (x ∷ y ∷ z ∷ b) l c is at closes = absurd cc
 
 pub returns-clause-behind : goal.returns-clause-behind
-returns-clause-behind g c = λ to why totals keep served.
+returns-clause-behind g c = λ to why totals left served.
     let s = stops_amid g.N.Node.stands g.N.Node.shown (asks 9 None) _ served.over in
     more to why s.before s.last s.behind s.trace_is s.ended s.closes
 
@@ -71,7 +71,7 @@ past (x ∷ []) l c is few = absurd cc
 past (x ∷ y ∷ b) l c is few = absurd cc
 
 pub returns-clause-turns : goal.returns-clause-turns
-returns-clause-turns g c = λ totals keep served.
+returns-clause-turns g c = λ totals left served.
     let s = stops_amid g.N.Node.stands g.N.Node.shown (asks 0 None) _ served.over in past s.before s.last s.behind s.trace_is s.few_waits
 
 once_more : (b : List Entry) (l : Entry) (c : List Entry) → e.Wait [] woken.Tick ∷ e.Tick ∷ waits_stop ∷ [] ≡ b ++ l ∷ c
@@ -92,7 +92,7 @@ once_more (x ∷ y ∷ z ∷ []) l c is runs at closes = absurd cc
 once_more (x ∷ y ∷ z ∷ v ∷ b) l c is runs at closes = absurd cc
 
 pub returns-clause-ticks : goal.returns-clause-ticks
-returns-clause-ticks g c = λ totals keep served.
+returns-clause-ticks g c = λ totals left served.
     let s = stops_amid g.N.Node.stands g.N.Node.shown (asks 9 (Some 1)) _ served.over in
     once_more s.before s.last s.behind s.trace_is s.runs_on s.ended s.closes
 
@@ -114,5 +114,5 @@ few_turns to why (x ∷ y ∷ []) c is spends =
 few_turns to why (x ∷ y ∷ z ∷ b) c is spends = absurd cc
 
 pub returns-clause-gives_up : goal.returns-clause-gives_up
-returns-clause-gives_up g c = λ to why totals keep served.
+returns-clause-gives_up g c = λ to why totals left served.
     let o = served.over in few_turns to why o.before o.behind o.trace_is o.finishes.spends

@@ -22,7 +22,7 @@ nowhere at (x ∷ []) l c made left rest is doors trace leaves = absurd cc
 nowhere at (x ∷ y ∷ b) l c made left rest is doors trace leaves = absurd cc
 
 pub returns-clause-nowhere : goal.returns-clause-nowhere
-returns-clause-nowhere g c = λ at totals keep served.
+returns-clause-nowhere g c = λ at totals left served.
     let s = stops_amid g.N.Node.stands g.N.Node.shown (asks_doors (Some at) None) _ served.over in
     nowhere at s.before s.last s.behind s.begins.made s.begins.left s.begins.rest s.trace_is s.begins.doors_are s.begins.trace_is
     s.begins.leaves
@@ -44,7 +44,7 @@ unasked at (x ∷ y ∷ []) l c made left rest is ended doors trace leaves = abs
 unasked at (x ∷ y ∷ z ∷ b) l c made left rest is ended doors trace leaves = absurd cc
 
 pub returns-clause-unasked : goal.returns-clause-unasked
-returns-clause-unasked g c = λ at totals keep served.
+returns-clause-unasked g c = λ at totals left served.
     let s = stops_amid g.N.Node.stands g.N.Node.shown (asks 9 None) _ served.over in
     unasked at s.before s.last s.behind s.begins.made s.begins.left s.begins.rest s.trace_is s.ended s.begins.doors_are s.begins.trace_is
     s.begins.leaves
@@ -63,7 +63,7 @@ turned at to (x ∷ b) l c (d ∷ made) left rest is ended doors trace leaves =
     absurd (let same : listen_at true (Outbound, to) ≡ listen_at true (Inbound, at) = first ∙ ap (λ (v : DoorAt). listen_at true v) (sym door) in cc)
 
 pub returns-clause-order : goal.returns-clause-order
-returns-clause-order g c = λ at to totals keep served.
+returns-clause-order g c = λ at to totals left served.
     let s = stops_amid g.N.Node.stands g.N.Node.shown (asks_doors (Some at) (Some to)) _ served.over in
     turned at to s.before s.last s.behind s.begins.made s.begins.left s.begins.rest s.trace_is s.ended s.begins.doors_are s.begins.trace_is
     s.begins.leaves

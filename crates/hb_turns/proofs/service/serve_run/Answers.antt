@@ -2,7 +2,7 @@ use Rattle.std.proofs.Common.{Bool, IfSome, ◌∙◌, ap, is_err, subst, sym}
 use Rattle.hb_base.specs.declared.cause.Cause.{Cause}
 use Rattle.hb_turns.specs.Ends.{cause_at}
 use Rattle.hb_turns.specs.Reckons.{Closes}
-use Rattle.hb_turns.specs.Served.{IsServed}
+use Rattle.hb_turns.specs.Served.{IsServed, leaves}
 use Rattle.hb_turns.specs.declared.served.ServeEnd.{ServeEnd}
 use Rattle.hb_turns.proofs.Closing.{is_served, left_obeys, outcome}
 use Rattle.hb_turns.proofs.Counting.{on_ok}
@@ -21,6 +21,6 @@ returns-clause-served g c = λ none had.
     c.end_run-noted.ensures.none
     (on_ok c.run_on.result _ _ (λ so. so none) c.run_on.ensures.closes) c.end_run-noted.ensures.noted in
     subst (λ (b : Bool). IfSome (g.W.World.trace c.end_run-noted.new.world) (IsServed g.N.Node.stands g.N.Node.shown c.args.words
-    (outcome c.end_of-end.result new.records new.taken.sums b) new.taken.keep)) (sym c.is_err.ensures.value)
+    (outcome c.end_of-end.result new.records new.taken.sums b) (leaves new.taken.keep new.node))) (sym c.is_err.ensures.value)
     (subst (λ (end : ServeEnd). IfSome (g.W.World.trace c.end_run-noted.new.world) (IsServed g.N.Node.stands g.N.Node.shown c.args.words
-    (outcome end new.records new.taken.sums (is_err c.end_run-noted.result)) new.taken.keep)) (sym c.end_of-end.ensures) served)
+    (outcome end new.records new.taken.sums (is_err c.end_run-noted.result)) (leaves new.taken.keep new.node))) (sym c.end_of-end.ensures) served)
