@@ -125,7 +125,7 @@ waypoint = Some (record { to = Hostname (codes "a") (codes "waypoint.a"); hbone_
 -- a node n1 of the network net that holds these records
 abbrev pub holding : List (List ℕ × AddressRecord) → Resources
 holding rs =
-    record (nothing_held (codes "net") (codes "n1")) {
+    record (nothing_held (codes "net") (codes "n1") None) {
       addresses = from_sorted (map (λ r. (r.0, record { version = codes "1"; content = r.1 })) rs);
     }
 

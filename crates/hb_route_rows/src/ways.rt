@@ -52,7 +52,7 @@ fn held_of(rt: &(impl Abort + AllocGlobal), words: &str) -> Held {
         removed: List::new(rt.alloc()),
         nonce: text_of(rt, b"x"),
     };
-    let mut held = Held::new(rt.alloc(), text_of(rt, b"net"), text_of(rt, b"n1"));
+    let mut held = Held::new(rt.alloc(), text_of(rt, b"net"), text_of(rt, b"n1"), None);
     let outcome = held.apply(rt.alloc(), &response).expect(rt, "memory");
     assert!(rt; outcome.refused.len() == 0, "refused: {words}");
     held
