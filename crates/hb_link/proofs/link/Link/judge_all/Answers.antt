@@ -3,10 +3,15 @@ use Rattle.hb_held.specs.Outcome.{after_response}
 use Rattle.hb_inbound.specs.Part.{applied}
 use Rattle.hb_link.proofs.Ending.{all_judged}
 use Rattle.hb_link.proofs.Settles.{meets_settled}
+use Rattle.hb_link.proofs.Updating.{untouched_updates}
 use Rattle.hb_link.proofs.link.Link.judge_all.Goals as goal
 
-pub returns : goal.returns
-returns g c = λ r.
+pub returns-then-is_spared-clause-updates : goal.returns-then-is_spared-clause-updates
+returns-then-is_spared-clause-updates g c =
+    untouched_updates c.args.self.now c.args.held.now (g.N.Notes.told c.args.notes.now) (c.is_spared.ensures c.if-is_spared.true)
+
+pub returns-clause-updates : goal.returns-clause-updates
+returns-clause-updates g c = λ r.
     let k = c.args.self.now in
     let n = c.judge_tunnels.new.self in
     meets_settled (λ a. c.args.held.now ≡ after_response a.held r) (applied r) k n c.settle.new.self
