@@ -1,9 +1,12 @@
 //! Which workload a connection to a service goes to.
 
-ghost use Rattle.std.specs.Prelude.{◌≡◌};
+ghost use Rattle.std.specs.Prelude.{◌≡◌, IfSome};
+ghost use Rattle.std.specs.Cmp.Lexicographic.{slice_cmp};
 ghost use Rattle.std.specs.Option.{option_map};
+ghost use Rattle.std.specs.Ordering.{nat_cmp, ordering_then, is_lt};
 ghost use Rattle.hb_held.specs.Lookup.{found_as};
-ghost use Rattle.hb_route.specs.Endpoint.{place_of, place_as, places, goes_before, better, chosen};
+ghost use Rattle.hb_route.specs.Endpoint.{place_of, place_as, places, better, chosen};
+ghost use Rattle.hb_route.specs.Opens.{open_at};
 
 use crate::opens::Opens;
 use crate::ports::port_of;
@@ -19,6 +22,13 @@ pub(crate) struct Endpoint<'a> {
     pub target: Target,
     /// It takes HBONE.
     pub hbone: bool,
+}
+
+/// An endpoint, and how many connections it has open.
+#[derive(Clone, Copy)]
+struct Candidate<'a> {
+    endpoint: Endpoint<'a>,
+    opens: u64,
 }
 
 /// The workload as an endpoint for a port of a service. `None` where it isn't healthy, has no address, or the port leads to none of
@@ -40,19 +50,29 @@ fn endpoint_of<'a>(found: &Found<'a>, service: &Service, port: Port) -> Option<E
 }
 
 /// The one goes before the other: it has fewer connections open, or as many and the smaller name.
-fn goes_before(opens: &Opens, one: &Endpoint<'_>, other: &Endpoint<'_>) -> bool
-    ensures { result ≡ goes_before opens.now (place_as one.now) (place_as other.now) }
+fn goes_before(one: &Candidate<'_>, other: &Candidate<'_>) -> bool
+    ensures { result ≡ is_lt (ordering_then (nat_cmp one.now.opens other.now.opens)
+        (slice_cmp nat_cmp one.now.endpoint.name.now other.now.endpoint.name.now)) }
 {
-    let by_opens = opens.of(one.name).cmp(&opens.of(other.name));
-    by_opens.then_with(|| one.name.cmp(other.name)).is_lt()
+    let by_opens = one.opens.cmp(&other.opens);
+    by_opens
+        .then_with(|| one.endpoint.name.cmp(other.endpoint.name))
+        .is_lt()
 }
 
 /// The endpoint that goes first, of the best so far and one more.
-fn better<'a>(opens: &Opens, best: Option<Endpoint<'a>>, more: Endpoint<'a>) -> Endpoint<'a>
-    ensures { place_as result ≡ better opens.now (option_map place_as best.entry) (place_as more.entry) }
+fn better<'a>(opens: &Opens, best: Option<Candidate<'a>>, endpoint: Endpoint<'a>) -> Candidate<'a>
+    requires { IfSome best (λ b. b.opens ≡ open_at opens.now b.endpoint.name.now) }
+    ensures first { place_as result.endpoint
+        ≡ better opens.now (option_map (λ b. place_as b.endpoint) best.entry) (place_as endpoint.entry) }
+    ensures counted { result.opens ≡ open_at opens.now result.endpoint.name.now }
 {
+    let more = Candidate {
+        endpoint,
+        opens: opens.of(endpoint.name),
+    };
     match best {
-        Some(best) if !goes_before(opens, &more, &best) => best,
+        Some(best) if !goes_before(&more, &best) => best,
         _ => more,
     }
 }
@@ -66,12 +86,12 @@ pub(crate) fn chosen<'a>(
 ) -> Option<Endpoint<'a>>
     ensures { option_map place_as result ≡ chosen opens.now (places held.now service.now port) }
 {
-    let mut best = None;
+    let mut best: Option<Candidate<'a>> = None;
     let mut endpoints = held.endpoints(&service.namespace, &service.hostname);
     while let Some(found) = endpoints.next() {
         if let Some(endpoint) = endpoint_of(&found, service, port) {
             best = Some(better(opens, best, endpoint));
         }
     }
-    best
+    Some(best?.endpoint)
 }

@@ -1,13 +1,18 @@
 use Rattle.std.proofs.Common.{◌≡◌}
 use Rattle.std.specs.List.{filter_map}
-use Rattle.std.specs.Option.{option_map}
+use Rattle.std.specs.Option.{IfSome, option_map}
 use Rattle.hb_held.specs.Endpoints.{endpoints_left}
 use Rattle.hb_route.specs.Endpoint.{place_of, place_as, places, chosen}
+use Rattle.hb_route.specs.Opens.{open_at}
 use Rattle.hb_route.proofs.Chosen.{chosen_after}
 use Rattle.hb_route.proofs.endpoint.chosen.Given as goal
 
--- of the best so far and of those that are left the same one goes first as of all
+-- of the best so far and of those that are left the same one goes first as of all, and the best one's number is the one counted
 abbrev pub invariant-loop-found : goal.invariant-loop-found
 invariant-loop-found l =
-    chosen_after l.opens (option_map place_as l.best) (filter_map (place_of l.service l.port) (endpoints_left l.endpoints))
-    ≡ chosen l.opens (places l.held l.service l.port)
+    record {
+      first : chosen_after l.opens (option_map (λ b. place_as b.endpoint) l.best)
+          (filter_map (place_of l.service l.port) (endpoints_left l.endpoints))
+          ≡ chosen l.opens (places l.held l.service l.port);
+      counted : IfSome l.best (λ b. b.opens ≡ open_at l.opens b.endpoint.name.now);
+    }
