@@ -1,6 +1,5 @@
 -- What every run of a captured link keeps.
-use Rattle.std.proofs.Common.{◌≡◌, ◌≢◌, ◌⊎◌, inl, inr, ℕ, ◌≤◌, ◌<◌, ◌+◌, ◌-◌, ◌||◌, Bool, true, false, cond, List, [], ◌∷◌, ◌++◌, fold, length, drop, Option, Some, None, refl, ap, sym, ◌∙◌, subst, arith, length-append, length-drop}
-use Rattle.std.proofs.lemmas.Bool.{false≢true}
+use Rattle.std.proofs.Common.{◌≡◌, inl, inr, ℕ, ◌≤◌, ◌+◌, ◌-◌, ◌||◌, Bool, true, false, cond, List, [], ◌∷◌, ◌++◌, length, drop, Option, Some, None, refl, ap, sym, ◌∙◌, subst, arith, length-append, length-drop}
 use Rattle.std.proofs.lemmas.List.{append-nil, append_assoc, drop-append-le}
 use Rattle.std.proofs.Math.Seq.{drop-append_seam}
 use Rattle.hb_base.specs.declared.cause.Cause.{Cause}
@@ -21,13 +20,12 @@ use Rattle.hb_base.specs.declared.note.Note.{Note}
 use Rattle.hb_verdict.proofs.Dialled.{only_where_it_may}
 use Rattle.hb_world.specs.declared.entry.Entry.{Entry}
 use Rattle.hb_world.specs.declared.entry.Entry.TheVariants as e
-use Rattle.hb_world.specs.declared.entry.Way.TheVariants as way
 use Rattle.hb_captured.specs.Calm.{longest_front, room, wants, wants_by, up_wants, up_wants_by, output, output_by, up_output}
 use Rattle.hb_captured.specs.Captured.{Captured, Stage, unborn, arriving, fronting, due, opening, accepting, live, failed, ended, over, at_stage, is_judged, ends_by, ends_for, peer_in, fronted_by, no_link, hung_up, came_by, left_by, judged_by, rejudged}
 use Rattle.hb_captured.specs.Laws.{FitsRings}
-use Rattle.hb_captured.specs.Notes.{noting_by, noting_of, no_note, answer}
+use Rattle.hb_captured.specs.Notes.{noting_by, noting_of, no_note}
 use Rattle.hb_captured.specs.Part.{Part, entry, up, welcomed, crowded, lacked, misfronted, fronted, refused, accepted, left, done, applied, stopped}
-use Rattle.hb_captured.specs.Runs.{Local, MayCome, UpMayCome, MayGo, IsTried, IsDial, Lacks, left_note, AreFirst, verdict_on, next, StandsFor, begins, goes_on}
+use Rattle.hb_captured.specs.Runs.{Local, MayCome, UpMayCome, MayGo, IsTried, left_note, verdict_on, next, StandsFor, begins, goes_on}
 use Rattle.hb_captured.specs.Sides as sides
 use Rattle.hb_captured.specs.Sides.{Course, pending, lives, ends_at, ends_judged, hangs_up, judged_in, course_by, course_of, held, held_by, header_of, header_by, behind, raw_came, link_came, link_went, up_came, up_went, came_in, went_in, up_came_in, up_went_in, is_end, is_opening, is_shut, is_close, on_link, on_up, was_on_link, was_on_up, up_of, up_in}
 use Rattle.hb_captured.proofs.Grown.{one_more, fold_one}
@@ -120,6 +118,7 @@ record Alike (x y : Captured) : Type 0 where
   pub is_open : y.ways.is_open ≡ x.ways.is_open
   pub held : y.ways.up.held ≡ x.ways.up.held
   pub hung : y.ways.up.has_ended ≡ x.ways.up.has_ended
+  pub down_hung : y.ways.down.has_ended ≡ x.ways.down.has_ended
 
 module _ (told : Option Seen) (came : List ℕ) (h : Resources) (x y : Captured) where
   told_same : y.peer ≡ x.peer → y.target ≡ x.target → Told told came x → Told told came y
@@ -141,16 +140,18 @@ module _ (told : Option Seen) (came : List ℕ) (h : Resources) (x y : Captured)
     going = same.hung ∙ is.going;
     no_up = same.up ∙ is.no_up;
     shut = same.is_open ∙ is.shut;
+    down_going = same.down_hung ∙ is.down_going;
   }
 
   knows_same : (stage : Stage) → Alike x y → KnowsBy stage told came h x → KnowsBy stage told came h y
   knows_same unborn same is = early_same same is
   knows_same arriving same is = early_same same is
   knows_same fronting same is = early_same same is
-  knows_same due same is = (placed_same same.peer same.target is.0, same.up ∙ is.1, same.is_open ∙ is.2)
+  knows_same due same is =
+      (placed_same same.peer same.target is.0, same.up ∙ is.1, same.is_open ∙ is.2, same.down_hung ∙ is.3)
   knows_same opening same is =
-      (placed_same same.peer same.target is.0, (λ none. is.1 (sym same.up ∙ none)), same.is_open ∙ is.2)
-  knows_same accepting same is = (placed_same same.peer same.target is.0, same.is_open ∙ is.1)
+      (placed_same same.peer same.target is.0, (λ none. is.1 (sym same.up ∙ none)), same.is_open ∙ is.2, same.down_hung ∙ is.3)
+  knows_same accepting same is = (placed_same same.peer same.target is.0, same.is_open ∙ is.1, same.down_hung ∙ is.2)
   knows_same live same is = (placed_same same.peer same.target is.0, same.is_open ∙ is.1)
   knows_same (failed cause) same is = told_same same.peer same.target is
   knows_same (ended cause) same is = told_same same.peer same.target is
@@ -175,7 +176,8 @@ fits_less size held bytes fits = omega (arith, length-drop (length bytes) held, 
 -- bytes that come behind others
 comes_behind : (came went held bytes : List ℕ) → came ≡ went ++ held → came ++ bytes ≡ (went ++ []) ++ (held ++ bytes)
 comes_behind came went held bytes is =
-    ap (λ (xs : List ℕ). xs ++ bytes) is ∙ append_assoc went held bytes ∙ ap (λ (xs : List ℕ). xs ++ (held ++ bytes)) (sym (append-nil went))
+    ap (λ (xs : List ℕ). xs ++ bytes) is ∙ append_assoc went held bytes
+    ∙ ap (λ (xs : List ℕ). xs ++ (held ++ bytes)) (sym (append-nil went))
 
 -- the first of those that wait go
 goes_first : (came went held bytes rest : List ℕ) → came ≡ went ++ held → held ≡ bytes ++ rest
@@ -275,6 +277,7 @@ module _ (l : ℕ) (start : Resources) (a : Local) (parts : List Part) (keeps : 
         going = early.going;
         no_up = early.no_up;
         shut = early.shut;
+        down_going = early.down_going;
       } in
       record {
         course = refl;
@@ -328,13 +331,14 @@ module _ (l : ℕ) (start : Resources) (a : Local) (parts : List Part) (keeps : 
   came_moves : (k : ℕ) (bytes : List ℕ) → IsTried a.link → length bytes ≤ wants a.link
       → Moves parts a (entry (e.Came k bytes)) (came_by a.link.stage bytes a.link) a.held
   came_moves k bytes (inl at) most =
-      subst (λ (s : Stage). Moves parts a (entry (e.Came k bytes)) (came_by s bytes a.link) a.held) (sym at.1) (front_came k bytes at.1 most)
+      subst (λ (s : Stage). Moves parts a (entry (e.Came k bytes)) (came_by s bytes a.link) a.held) (sym at.1)
+      (front_came k bytes at.1 most)
   came_moves k bytes (inr (inl at)) most =
       let x = a.link in
       let y = came_by opening bytes x in
       let is = knows_at opening at.1 in
       let knows : KnowsBy opening (header_of parts) (link_came parts ++ bytes) a.held y =
-      ((told_more bytes x y refl refl is.0.0, is.0.1), is.1, is.2) in
+      ((told_more bytes x y refl refl is.0.0, is.0.1), is.1, is.2, is.3) in
       subst (λ (s : Stage). Moves parts a (entry (e.Came k bytes)) (came_by s bytes x) a.held) (sym at.1)
       (ring_came k bytes y is.0.0 refl refl refl
       (subst (λ (s : Stage). KnowsBy s (header_of parts) (link_came parts ++ bytes) a.held y) (sym at.1) knows)
@@ -379,18 +383,20 @@ module _ (l : ℕ) (start : Resources) (a : Local) (parts : List Part) (keeps : 
 
   -- it sends no more
   hangs_knows : IsTried a.link → (y : Captured) → y.peer ≡ a.link.peer → y.target ≡ a.link.target → y.up ≡ a.link.up
-      → y.ways.is_open ≡ a.link.ways.is_open → KnowsBy (hung_up a.link.stage) (header_of parts) (link_came parts) a.held y
-  hangs_knows (inl at) y peer target same_up open_yet =
+      → y.ways.is_open ≡ a.link.ways.is_open → y.ways.down.has_ended ≡ a.link.ways.down.has_ended
+      → KnowsBy (hung_up a.link.stage) (header_of parts) (link_came parts) a.held y
+  hangs_knows (inl at) y peer target same_up open_yet down_hung =
       subst (λ (s : Stage). KnowsBy (hung_up s) (header_of parts) (link_came parts) a.held y) (sym at.1) tt
-  hangs_knows (inr (inl at)) y peer target same_up open_yet =
+  hangs_knows (inr (inl at)) y peer target same_up open_yet down_hung =
       let is = knows_at opening at.1 in
       let knows : KnowsBy opening (header_of parts) (link_came parts) a.held y = (
         placed_same (header_of parts) (link_came parts) a.held a.link y peer target is.0,
         (λ none. is.1 (sym same_up ∙ none)),
         open_yet ∙ is.2,
+        down_hung ∙ is.3,
       ) in
       subst (λ (s : Stage). KnowsBy (hung_up s) (header_of parts) (link_came parts) a.held y) (sym at.1) knows
-  hangs_knows (inr (inr at)) y peer target same_up open_yet =
+  hangs_knows (inr (inr at)) y peer target same_up open_yet down_hung =
       let is = knows_at live at.1 in
       let knows : KnowsBy live (header_of parts) (link_came parts) a.held y =
       (placed_same (header_of parts) (link_came parts) a.held a.link y peer target is.0, open_yet ∙ is.1) in
@@ -407,7 +413,7 @@ module _ (l : ℕ) (start : Resources) (a : Local) (parts : List Part) (keeps : 
       let y = (next a (entry (e.Ended k))).link in
       moves_keep (entry (e.Ended k))
       (plain_moves (entry (e.Ended k)) y a.held (plain_entry (e.Ended k) refl refl) (hangs_course a.link.stage)
-      (hangs_noting a.link.stage) (hangs_knows tried y refl refl refl refl) refl refl)
+      (hangs_noting a.link.stage) (hangs_knows tried y refl refl refl refl refl) refl refl)
   entry_keeps (e.Went k bytes) (is, at, (some, (rest, first))) = went_moves k bytes rest at.1 first
   entry_keeps (e.Broke k) may =
       moves_keep (entry (e.Broke k)) (ends_moves (entry (e.Broke k)) cause.PeerGone (plain_entry (e.Broke k) refl refl) refl refl)
@@ -416,13 +422,15 @@ module _ (l : ℕ) (start : Resources) (a : Local) (parts : List Part) (keeps : 
       moves_keep (entry (e.Shut k))
       (plain_moves (entry (e.Shut k)) y a.held (plain_entry (e.Shut k) refl refl) refl refl
       (knows_same (header_of parts) (link_came parts) a.held a.link y a.link.stage
-      (record { front = refl; peer = refl; target = refl; up = refl; is_open = refl; held = refl; hung = refl }) keeps.knows) refl refl)
+      (record { front = refl; peer = refl; target = refl; up = refl; is_open = refl; held = refl; hung = refl; down_hung = refl })
+      keeps.knows) refl refl)
   entry_keeps (e.Closed k why) may =
       let y = (next a (entry (e.Closed k why))).link in
       moves_keep (entry (e.Closed k why))
       (plain_moves (entry (e.Closed k why)) y a.held (plain_entry (e.Closed k why) refl refl) refl refl
       (knows_same (header_of parts) (link_came parts) a.held a.link y a.link.stage
-      (record { front = refl; peer = refl; target = refl; up = refl; is_open = refl; held = refl; hung = refl }) keeps.knows) refl refl)
+      (record { front = refl; peer = refl; target = refl; up = refl; is_open = refl; held = refl; hung = refl; down_hung = refl })
+      keeps.knows) refl refl)
   entry_keeps (e.Balked way) may =
       moves_keep (entry (e.Balked way))
       (plain_moves (entry (e.Balked way)) a.link a.held (plain_entry (e.Balked way) refl refl) refl refl keeps.knows refl refl)
@@ -493,7 +501,7 @@ module _ (l : ℕ) (start : Resources) (a : Local) (parts : List Part) (keeps : 
       let y = (next a (up (e.Dialled u to why))).link in
       let at = knows_at due dial.1 in
       let knows : KnowsBy opening (header_of parts) (link_came parts) a.held y =
-      (placed_same (header_of parts) (link_came parts) a.held a.link y refl refl at.0, (λ none. omega (arith, none, some)), at.2) in
+      (placed_same (header_of parts) (link_came parts) a.held a.link y refl refl at.0, (λ none. omega (arith, none, some)), at.2, at.3) in
       moves_keep (up (e.Dialled u to why))
       (plain_moves (up (e.Dialled u to why)) y a.held (plain_up (e.Dialled u to why) refl refl) (ap course_in dial.1)
       (ap noting_in dial.1) knows refl refl)
@@ -504,19 +512,24 @@ module _ (l : ℕ) (start : Resources) (a : Local) (parts : List Part) (keeps : 
       let y = (next a (up (e.Opened u))).link in
       let is = knows_at opening at.1 in
       let knows : KnowsBy accepting (header_of parts) (link_came parts) a.held y =
-      (placed_same (header_of parts) (link_came parts) a.held a.link y refl refl is.0, refl) in
+      (placed_same (header_of parts) (link_came parts) a.held a.link y refl refl is.0, refl, is.3) in
       moves_keep (up (e.Opened u))
       (plain_moves (up (e.Opened u)) y a.held (plain_up (e.Opened u) refl refl) (ap course_in at.1) (ap noting_in at.1) knows refl refl)
   up_keeps (e.Came u bytes) (at, (octets, some, most)) = up_came_keeps u bytes at.0.1 most
-  up_keeps (e.Ended u) may =
-      same_keeps (e.Ended u) (plain_up (e.Ended u) refl refl) refl refl
-      (record { front = refl; peer = refl; target = refl; up = refl; is_open = refl; held = refl; hung = refl }) refl refl
+  up_keeps (e.Ended u) (at, wanted) =
+      let y = (next a (up (e.Ended u))).link in
+      let is = knows_at live at.0.1 in
+      let knows : KnowsBy live (header_of parts) (link_came parts) a.held y =
+      (placed_same (header_of parts) (link_came parts) a.held a.link y refl refl is.0, is.1) in
+      moves_keep (up (e.Ended u))
+      (plain_moves (up (e.Ended u)) y a.held (plain_up (e.Ended u) refl refl) refl refl
+      (subst (λ (s : Stage). KnowsBy s (header_of parts) (link_came parts) a.held y) (sym at.0.1) knows) refl refl)
   up_keeps (e.Went u bytes) (at, (some, (rest, first))) = up_went_keeps u bytes rest at.0.1 first
   up_keeps (e.Broke u) may =
       moves_keep (up (e.Broke u)) (ends_moves (up (e.Broke u)) cause.UpFault (plain_up (e.Broke u) refl refl) refl refl)
   up_keeps (e.Shut u) may =
       same_keeps (e.Shut u) (plain_up (e.Shut u) refl refl) refl refl
-      (record { front = refl; peer = refl; target = refl; up = refl; is_open = refl; held = refl; hung = refl }) refl refl
+      (record { front = refl; peer = refl; target = refl; up = refl; is_open = refl; held = refl; hung = refl; down_hung = refl }) refl refl
   up_keeps (e.Closed u why) (calm, is, up_is, some) =
       let y = (next a (up (e.Closed u why))).link in
       moves_keep (up (e.Closed u why))
@@ -524,7 +537,7 @@ module _ (l : ℕ) (start : Resources) (a : Local) (parts : List Part) (keeps : 
       (subst (λ (s : Stage). KnowsBy s (header_of parts) (link_came parts) a.held y) (sym is) tt) refl refl)
   up_keeps (e.Balked way) may =
       same_keeps (e.Balked way) (plain_up (e.Balked way) refl refl) refl refl
-      (record { front = refl; peer = refl; target = refl; up = refl; is_open = refl; held = refl; hung = refl }) refl refl
+      (record { front = refl; peer = refl; target = refl; up = refl; is_open = refl; held = refl; hung = refl; down_hung = refl }) refl refl
   up_keeps (e.Accepted k d) may = absurd may
   up_keeps e.Tick may = absurd may
   up_keeps (e.Wait ready how) may = absurd may
@@ -634,7 +647,8 @@ module _ (l : ℕ) (start : Resources) (a : Local) (parts : List Part) (keeps : 
       revokes : (j : Judged) → judged h a.link.peer a.link.target ≡ j
           → ends_judged j (course_in stage) ≡ sides.ends cause.Revoked (course_in stage) → Judges h stage (ends_for cause.Revoked a.link)
       revokes j same ends_so = record {
-        course = judged_so j same ∙ ends_so ∙ ends_course cause.Revoked stage ∙ ap (λ (s : Stage). course_in (ends_by cause.Revoked s)) (sym is);
+        course = judged_so j same ∙ ends_so ∙ ends_course cause.Revoked stage
+            ∙ ap (λ (s : Stage). course_in (ends_by cause.Revoked s)) (sym is);
         noting = ends_noting cause.Revoked stage ∙ ap (λ (s : Stage). noting_in (ends_by cause.Revoked s)) (sym is);
         knows = subst (λ (s : Stage).
             KnowsBy (ends_by cause.Revoked s) (header_of parts) (link_came parts) h (at_stage (ends_by cause.Revoked s) a.link)) (sym is)
@@ -674,15 +688,15 @@ module _ (l : ℕ) (start : Resources) (a : Local) (parts : List Part) (keeps : 
       no_course (Some seen) = refl
   judged_at h due is =
       let at = knows_at due is in
-      judges h due is at.0.0 (λ seen. refl) (λ same. ((at.0.0, same), at.1, at.2))
+      judges h due is at.0.0 (λ seen. refl) (λ same. ((at.0.0, same), at.1, at.2, at.3))
       (told_at (header_of parts) (link_came parts) h (failed cause.Revoked) a.link at.0.0)
   judged_at h opening is =
       let at = knows_at opening is in
-      judges h opening is at.0.0 (λ seen. refl) (λ same. ((at.0.0, same), at.1, at.2))
+      judges h opening is at.0.0 (λ seen. refl) (λ same. ((at.0.0, same), at.1, at.2, at.3))
       (told_at (header_of parts) (link_came parts) h (failed cause.Revoked) a.link at.0.0)
   judged_at h accepting is =
       let at = knows_at accepting is in
-      judges h accepting is at.0.0 (λ seen. refl) (λ same. ((at.0.0, same), at.1))
+      judges h accepting is at.0.0 (λ seen. refl) (λ same. ((at.0.0, same), at.1, at.2))
       (told_at (header_of parts) (link_came parts) h (failed cause.Revoked) a.link at.0.0)
   judged_at h live is =
       let at = knows_at live is in
@@ -751,7 +765,12 @@ module _ (l : ℕ) (start : Resources) (a : Local) (parts : List Part) (keeps : 
   part_keeps (fronted seen) (at, is) =
       moves_keep (fronted seen)
       (header_moves (fronted seen) seen due at.0 at.1 refl refl refl refl (λ t. refl) refl refl
-      (λ told. ((told, admits seen is), (knows_at fronting at.0).no_up, (knows_at fronting at.0).shut)))
+      (λ told. (
+        (told, admits seen is),
+        (knows_at fronting at.0).no_up,
+        (knows_at fronting at.0).shut,
+        (knows_at fronting at.0).down_going,
+      )))
   part_keeps (refused seen status made) (at, refuses, noted) =
       moves_keep (refused seen status made)
       (header_moves (refused seen status made) seen (over (cause.Refused status)) at.0 at.1 refl refl refl refl (λ t. refl)
@@ -793,7 +812,16 @@ first_keeps start = record {
   };
   course = refl;
   noting = refl;
-  knows = record { told = refl; front = refl; short = omega arith; none = refl; going = refl; no_up = refl; shut = refl };
+  knows = record {
+    told = refl;
+    front = refl;
+    short = omega arith;
+    none = refl;
+    going = refl;
+    no_up = refl;
+    shut = refl;
+    down_going = refl;
+  };
   ups = refl;
   downs = refl;
   rings = record { up = omega arith; down = omega arith };

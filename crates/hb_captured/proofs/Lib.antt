@@ -1,6 +1,6 @@
 mod Grown
-mod Kept
+pub mod Kept
 pub mod Obeyed
 pub mod Refused
 pub mod Rows
-mod Stages
+pub mod Stages

@@ -1,5 +1,5 @@
 -- Each law holds of every run of a captured link.
-use Rattle.std.proofs.Common.{◌≡◌, ◌≢◌, ◌⊎◌, inl, inr, ℕ, ◌≤◌, ◌<◌, ◌+◌, ◌-◌, ◌==◌, ◌&&◌, not, Bool, true, false, cond, List, [], ◌∷◌, ◌++◌, length, Option, Some, None, refl, ap, sym, ◌∙◌, subst, arith, length-append}
+use Rattle.std.proofs.Common.{◌≡◌, inl, inr, ℕ, ◌<◌, ◌-◌, ◌==◌, ◌&&◌, not, Bool, true, false, cond, List, [], ◌++◌, length, Option, Some, None, refl, ap, sym, ◌∙◌, subst, arith, length-append}
 use Rattle.std.proofs.lemmas.Bool.{false≢true, and_parts}
 use Rattle.std.proofs.lemmas.Bool.Decides.{nat_tests}
 use Rattle.std.proofs.lemmas.List.{append-nil, nil_from_length}
@@ -9,32 +9,29 @@ use Rattle.hb_base.specs.declared.door.Why.{Why}
 use Rattle.hb_base.specs.declared.door.Why.TheVariants as whys
 use Rattle.hb_base.specs.declared.note.Note.{Note}
 use Rattle.hb_base.specs.declared.target.Target.{Target}
-use Rattle.hb_front.specs.Reading.{Seen, Answer, IsAnswer, Whole, More, Fault}
+use Rattle.hb_front.specs.Reading.{Answer, IsAnswer, Whole, More, Fault}
 use Rattle.hb_held.specs.Held.{Resources}
 use Rattle.hb_table.specs.Judgement.{judged}
-use Rattle.hb_table.specs.declared.judgement.Judged.TheVariants.{Admitted}
 use Rattle.hb_tunnel.specs.Tunnel.{up_size, down_size}
 use Rattle.hb_tunnel.specs.Way.{Way, is_done}
-use Rattle.hb_verdict.specs.declared.verdict.Verdict.TheVariants.{Dial}
 use Rattle.hb_world.specs.declared.entry.Entry.{Entry}
 use Rattle.hb_world.specs.declared.entry.Entry.TheVariants as e
 use Rattle.hb_world.specs.declared.entry.Way.TheVariants as way
 use Rattle.hb_captured.specs.Access.{IsAdmitted, GoesAdmitted, AccessAt}
-use Rattle.hb_captured.specs.Captured.{Captured, Stage, unborn, arriving, fronting, due, opening, accepting, live, failed, ended, over, peer_in, may_shut_up, may_shut, is_through}
-use Rattle.hb_captured.specs.Calm.{IsCalm, IsCalmBy, IsIdleBy, room, wants_by, up_wants, up_wants_by}
+use Rattle.hb_captured.specs.Captured.{Stage, unborn, arriving, fronting, due, opening, accepting, live, failed, ended, over, peer_in, may_shut_up, may_shut, is_through}
+use Rattle.hb_captured.specs.Calm.{IsCalmBy, IsIdleBy, room, wants_by, up_wants, up_wants_by}
 use Rattle.hb_captured.specs.Ends.{GoesOn, MayLack, LinkStands, UpStands, IsThrough, EndsAt}
 use Rattle.hb_captured.specs.Laws.{RunsRelay, RunsAdmit, RunsEnd, RunsAnswer, RunsNote, RunsSettle, RunsFitRings}
-use Rattle.hb_captured.specs.Notes.{Noting, no_note, answer, end_of_it, noting_of, IsVerdictNote, IsEndNote, FailsWith, Leaves, IsLeft, NotesAt}
+use Rattle.hb_captured.specs.Notes.{Noting, answer, end_of_it, noting_of, IsVerdictNote, IsEndNote, FailsWith, Leaves, IsLeft, NotesAt}
 use Rattle.hb_captured.specs.Part.{Part, entry, up, welcomed, crowded, lacked, misfronted, fronted, refused, accepted, left, done, applied, stopped}
 use Rattle.hb_captured.specs.Relay.{ShutsUp, ShutsDown, LinkMayGo, UpMayGo, RelaysAt}
-use Rattle.hb_captured.specs.Runs.{Local, MayCome, UpMayCome, MayGo, IsAt, IsTried, IsReadable, IsUp, IsDial, IsFronted, IsRefusal, Lacks, StandsFor, verdict_on, verdict_note, end_note, failure_status, note_of, left_note}
-use Rattle.hb_captured.specs.Settled.{UpIsShut, LinkIsShut, SettledBy, SettledWhere, SettledAt}
-use Rattle.hb_captured.specs.Sides as sides
-use Rattle.hb_captured.specs.Sides.{Course, pending, lives, course_of, header_of, held, judged_in, link_came, link_went, raw_came, up_came, up_went, is_end, is_opening, is_shut, was_on_link, was_on_up, up_of}
+use Rattle.hb_captured.specs.Runs.{Local, MayCome, UpMayCome, MayGo, IsAt, IsTried, IsReadable, IsDial, IsRefusal, Lacks, StandsFor, verdict_on, verdict_note, end_note, failure_status, note_of, left_note}
+use Rattle.hb_captured.specs.Settled.{SettledBy, SettledWhere, SettledAt}
+use Rattle.hb_captured.specs.Sides.{Course, course_of, header_of, held, judged_in, link_came, link_went, raw_came, up_came, up_went, is_end, was_on_link, was_on_up}
 use Rattle.hb_captured.specs.Verdicts.{IsDialOf, DialsAt, VerdictAt}
 use Rattle.hb_captured.proofs.Grown.{at_parts}
 use Rattle.hb_captured.proofs.Kept.{Keeps, all_keep}
-use Rattle.hb_captured.proofs.Stages.{course_in, noting_in, Early, Told, Placed, KnowsBy}
+use Rattle.hb_captured.proofs.Stages.{course_in, noting_in, Told, KnowsBy}
 
 -- a way that is done has ended, and nothing waits on it
 done_ended : (w : Way) → is_done w ≡ true → w.has_ended ≡ true
@@ -181,7 +178,8 @@ module _ (l : ℕ) (start : Resources) (a : Local) (before : List Part) (stands 
 
   up_going : a.link.stage ≡ live → 0 < up_wants a.link → was_on_up is_end before ≡ false
   up_going is wanted =
-      keeps.tells.up_ended ∙ has_room down_size a.link.ways.down (subst (λ (n : ℕ). 0 < n) (ap (λ (s : Stage). up_wants_by s a.link) is) wanted)
+      keeps.tells.up_ended ∙ has_room down_size a.link.ways.down (subst (λ (n : ℕ). 0 < n)
+      (ap (λ (s : Stage). up_wants_by s a.link) is) wanted)
 
   link_stands : (z : Entry) → MayCome l a.link z → LinkStands l before (course_of start before) z
   link_stands (e.Accepted k d) may = (may.0, course_at unborn may.1)

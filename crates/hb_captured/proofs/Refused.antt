@@ -1,17 +1,14 @@
 -- What the laws make of small runs.
-use Rattle.std.proofs.Common.{◌≡◌, ◌≢◌, inl, inr, ℕ, ◌≤◌, Bool, true, false, List, [], ◌∷◌, ◌++◌, length, drop, Option, Some, None, refl, ap, sym, ◌∙◌, subst, arith, length-append, length-drop}
+use Rattle.std.proofs.Common.{◌≡◌, ◌≢◌, inl, inr, ℕ, List, [], ◌∷◌, ◌++◌, length, drop, Some, None, refl, ap, sym, ◌∙◌, subst, arith}
 use Rattle.std.proofs.lemmas.Bool.{false≢true}
-use Rattle.std.proofs.lemmas.List.{append-nil, nil_from_length}
+use Rattle.std.proofs.lemmas.List.{append-nil}
 use Rattle.std.proofs.Math.Seq.{drop-append_seam}
 use Rattle.hb_base.specs.declared.cause.Cause.{Cause}
 use Rattle.hb_base.specs.declared.cause.Cause.TheVariants as cause
 use Rattle.hb_base.specs.declared.door.Door.TheVariants as door
 use Rattle.hb_base.specs.declared.door.Why.TheVariants as whys
-use Rattle.hb_base.specs.declared.note.Note.{Note}
 use Rattle.hb_base.specs.declared.peer.Peer.{Peer}
-use Rattle.hb_base.specs.declared.target.Target.{Target}
 use Rattle.hb_front.specs.Reading.{Seen}
-use Rattle.hb_held.specs.Held.{Resources}
 use Rattle.hb_held.specs.Outcome.{after_response}
 use Rattle.hb_table.specs.declared.judgement.Judged.{Judged}
 use Rattle.hb_table.specs.declared.judgement.Judged.TheVariants.{Admitted, Unknown, Denied}
@@ -21,10 +18,10 @@ use Rattle.hb_captured.specs.Access.{AccessAt}
 use Rattle.hb_captured.specs.Captured.{peer_in}
 use Rattle.hb_captured.specs.Ends.{GoesOn, EndsAt}
 use Rattle.hb_captured.specs.Notes.{FailsWith, NotesAt}
-use Rattle.hb_captured.specs.Part.{Part, entry, up, welcomed, fronted, refused, accepted, left, done, applied}
-use Rattle.hb_captured.specs.Refused.{dialled, lived, updated, IsRevoked, WritesBehind, WritesBackBehind, ReadsBehind, ClosesForAnother, ClosesAdmitted, ShutsWaiting, ShutsEarly, ShutsBackWaiting, WritesHeader, CountsHeader, DropsFirst, DoneWaiting, KeepsIdentity, DialsElsewhere, DialsTwice, DialsUnasked, LeavesOutDial, InventsHeader, DialsRefused, RefusesAdmitted, NotesTwice, EndsUnaccepted, EndsTwice, ClosesUnnoted, LeavesOut502, TriesDone, LeavesOpen}
+use Rattle.hb_captured.specs.Part.{Part, entry, up, welcomed, fronted, refused, accepted, left, done}
+use Rattle.hb_captured.specs.Refused.{dialled, lived, updated, WritesBehind, WritesBackBehind, ReadsBehind, ClosesForAnother, ClosesAdmitted, ShutsWaiting, ShutsEarly, ShutsBackWaiting, WritesHeader, CountsHeader, DropsFirst, DoneWaiting, KeepsIdentity, DialsElsewhere, DialsTwice, DialsUnasked, LeavesOutDial, InventsHeader, DialsRefused, RefusesAdmitted, NotesTwice, EndsUnaccepted, EndsTwice, ClosesUnnoted, LeavesOut502, TriesDone, LeavesOpen}
 use Rattle.hb_captured.specs.Relay.{RelaysAt}
-use Rattle.hb_captured.specs.Runs.{verdict_note, failure_status, IsRefusal}
+use Rattle.hb_captured.specs.Runs.{failure_status, IsRefusal}
 use Rattle.hb_captured.specs.Settled.{SettledAt}
 use Rattle.hb_captured.specs.Sides as sides
 use Rattle.hb_captured.specs.Sides.{lives, ends_judged, judged_in, AtEach}
@@ -109,7 +106,8 @@ drops_first start seen note header first second is not law =
 
 pub done_waiting : DoneWaiting
 done_waiting start bytes seen note made byte law =
-    let at = last (EndsAt 2 start) (lived bytes seen note ++ up (e.Came 3 (byte ∷ [])) ∷ up (e.Ended 3) ∷ entry (e.Ended 2) ∷ []) (done made)
+    let at = last (EndsAt 2 start) (lived bytes seen note ++ up (e.Came 3 (byte ∷ [])) ∷ up (e.Ended 3) ∷ entry (e.Ended 2) ∷ [])
+    (done made)
     law in
     let none : [] ≡ byte ∷ [] = at.1.down in cc
 

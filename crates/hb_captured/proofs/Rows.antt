@@ -1,21 +1,21 @@
 -- The lives of three links are runs of the machine.
-use Rattle.std.proofs.Common.{◌≡◌, ◌≢◌, inl, inr, ℕ, zero, suc, ◌<◌, ◌≤◌, Bool, true, false, cond, List, [], ◌∷◌, ◌++◌, length, drop, Option, Some, None, refl, ap, sym, ◌∙◌, subst, arith}
+use Rattle.std.proofs.Common.{◌≡◌, ◌≢◌, inl, inr, ℕ, zero, suc, true, false, List, [], ◌∷◌, ◌++◌, Some, refl, subst, arith}
 use Rattle.hb_base.specs.declared.cause.Cause.TheVariants as cause
 use Rattle.hb_base.specs.declared.door.Door.TheVariants as door
 use Rattle.hb_base.specs.declared.door.Why.TheVariants as whys
 use Rattle.hb_disco.specs.declared.response.Response.{Response}
 use Rattle.hb_frames.specs.Frames.{AreOctets}
-use Rattle.hb_front.specs.Reading.{Seen, IsAnswer, Whole, More}
+use Rattle.hb_front.specs.Reading.{Seen, IsAnswer, More}
 use Rattle.hb_held.specs.Held.{Resources}
 use Rattle.hb_held.specs.Outcome.{after_response}
 use Rattle.hb_table.specs.declared.judgement.Judged.{Judged}
 use Rattle.hb_table.specs.declared.judgement.Judged.TheVariants.{Admitted, Unknown, Denied}
 use Rattle.hb_tunnel.specs.Tunnel.{dialling}
-use Rattle.hb_verdict.specs.declared.verdict.Verdict.TheVariants.{Status, Dial}
+use Rattle.hb_verdict.specs.declared.verdict.Verdict.TheVariants.{Dial}
 use Rattle.hb_world.specs.declared.entry.Entry.TheVariants as e
 use Rattle.hb_captured.specs.Captured.{Captured, no_link, due, fronting, live, ended, peer_in, at_stage, judged_by}
 use Rattle.hb_captured.specs.Part.{Part, entry, up, welcomed, fronted, refused, accepted, left, done, applied}
-use Rattle.hb_captured.specs.Rows.{IsRunOf, IsHeader, abc, def, refused_note, refused_life, RefusedMayGo, accepted_note, living, done_life, DoneMayGo, revoked_life, RevokedMayGo}
+use Rattle.hb_captured.specs.Rows.{IsHeader, abc, def, refused_note, RefusedMayGo, accepted_note, living, DoneMayGo, RevokedMayGo}
 use Rattle.hb_captured.specs.Runs.{Local, MayGo, next, StandsFor, begins, goes_on, verdict_on, end_note}
 use Rattle.hb_captured.specs.Sides.{judged_in}
 

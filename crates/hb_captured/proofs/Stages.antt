@@ -1,16 +1,14 @@
 -- How far a link is, in the words of the trace and of the machine; and what is known of it at each stage.
-use Rattle.std.proofs.Common.{◌≡◌, ◌≢◌, ℕ, ◌≤◌, ◌||◌, ◌+◌, Bool, true, false, cond, List, [], ◌∷◌, ◌++◌, fold, length, Option, Some, None, refl, ap, sym, ◌∙◌, subst, arith}
+use Rattle.std.proofs.Common.{◌≡◌, ◌≢◌, ℕ, ◌≤◌, ◌||◌, ◌+◌, Bool, true, false, cond, List, [], ◌∷◌, ◌++◌, fold, length, Option, Some, None, refl, ap, sym, ◌∙◌, arith}
 use Rattle.hb_base.specs.declared.cause.Cause.{Cause}
-use Rattle.hb_base.specs.declared.cause.Cause.TheVariants as cause
 use Rattle.hb_front.specs.Reading.{Seen}
 use Rattle.hb_held.specs.Held.{Resources}
 use Rattle.hb_table.specs.Judgement.{judged}
 use Rattle.hb_table.specs.declared.judgement.Judged.{Judged}
 use Rattle.hb_table.specs.declared.judgement.Judged.TheVariants.{Admitted, Unknown, Denied}
-use Rattle.hb_world.specs.declared.entry.Entry.{Entry}
 use Rattle.hb_world.specs.declared.entry.Entry.TheVariants as e
 use Rattle.hb_captured.specs.Calm.{longest_front}
-use Rattle.hb_captured.specs.Captured.{Captured, Stage, unborn, arriving, fronting, due, opening, accepting, live, failed, ended, over, at_stage, is_judged, ends_by, ends_for, peer_in, hung_up, came_by, left_by, judged_by, rejudged}
+use Rattle.hb_captured.specs.Captured.{Captured, Stage, unborn, arriving, fronting, due, opening, accepting, live, failed, ended, over, at_stage, is_judged, ends_by, peer_in, came_by, judged_by}
 use Rattle.hb_captured.specs.Notes.{Noting, no_note, answer, end_of_it}
 use Rattle.hb_captured.specs.Part.{Part, entry, up, welcomed, crowded, lacked, misfronted, fronted, refused, accepted, left, done, applied, stopped}
 use Rattle.hb_captured.specs.Runs.{Local, next}
@@ -52,6 +50,7 @@ pub record Early (header : Option Seen) (came : List ℕ) (x : Captured) : Type 
   pub going : x.ways.up.has_ended ≡ false
   pub no_up : x.up ≡ 0
   pub shut : x.ways.is_open ≡ false
+  pub down_going : x.ways.down.has_ended ≡ false
 
 -- the header told the peer and the target
 pub record Told (header : Option Seen) (came : List ℕ) (x : Captured) : Type 0 where
@@ -69,9 +68,9 @@ abbrev pub KnowsBy : Stage → Option Seen → List ℕ → Resources → Captur
 KnowsBy unborn told came h x = Early told came x
 KnowsBy arriving told came h x = Early told came x
 KnowsBy fronting told came h x = Early told came x
-KnowsBy due told came h x = Placed told came h x × (x.up ≡ 0) × (x.ways.is_open ≡ false)
-KnowsBy opening told came h x = Placed told came h x × (x.up ≢ 0) × (x.ways.is_open ≡ false)
-KnowsBy accepting told came h x = Placed told came h x × (x.ways.is_open ≡ true)
+KnowsBy due told came h x = Placed told came h x × (x.up ≡ 0) × (x.ways.is_open ≡ false) × (x.ways.down.has_ended ≡ false)
+KnowsBy opening told came h x = Placed told came h x × (x.up ≢ 0) × (x.ways.is_open ≡ false) × (x.ways.down.has_ended ≡ false)
+KnowsBy accepting told came h x = Placed told came h x × (x.ways.is_open ≡ true) × (x.ways.down.has_ended ≡ false)
 KnowsBy live told came h x = Placed told came h x × (x.ways.is_open ≡ true)
 KnowsBy (failed cause) told came h x = Told told came x
 KnowsBy (ended cause) told came h x = Told told came x
@@ -110,7 +109,16 @@ module _ (told : Option Seen) (came : List ℕ) (h : Resources) where
 
   pub early_at : (stage : Stage) (x : Captured) → Early told came x → Early told came (at_stage stage x)
   early_at stage x is =
-      record { told = is.told; front = is.front; short = is.short; none = is.none; going = is.going; no_up = is.no_up; shut = is.shut }
+      record {
+        told = is.told;
+        front = is.front;
+        short = is.short;
+        none = is.none;
+        going = is.going;
+        no_up = is.no_up;
+        shut = is.shut;
+        down_going = is.down_going;
+      }
 
   pub ends_knows : (why : Cause) (stage : Stage) (x : Captured) → KnowsBy stage told came h x
       → KnowsBy (ends_by why stage) told came h (at_stage (ends_by why stage) x)

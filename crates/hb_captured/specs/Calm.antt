@@ -1,5 +1,5 @@
 -- How much of a captured link and its upstream may be read and written, when nothing more happens by itself, and which calls are due.
-use Rattle.std.specs.Prelude.{⊤, ◌≡◌, ◌⊎◌, ℕ, ◌-◌, if◌then◌else◌, Bool, true, false, List, [], length}
+use Rattle.std.specs.Prelude.{⊤, ◌≡◌, ℕ, ◌-◌, if◌then◌else◌, true, false, List, [], length}
 use Rattle.hb_front.specs.Reading.{IsAnswer, More}
 use Rattle.hb_tunnel.specs.Tunnel.{up_size, down_size}
 use Rattle.hb_tunnel.specs.Way.{Way}

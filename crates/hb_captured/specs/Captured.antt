@@ -1,6 +1,6 @@
 -- A captured link of the plain door as a machine: a front header, then raw bytes both ways between it and its upstream. The link and its
 -- one tunnel are one thing: the tunnel is there from the link's birth, and both links are closed where it ends.
-use Rattle.std.specs.Prelude.{ℕ, ◌+◌, if◌then◌else◌, Bool, true, false, ◌&&◌, not, List, [], ◌++◌, length, drop, Option, Some, None}
+use Rattle.std.specs.Prelude.{ℕ, ◌+◌, if◌then◌else◌, Bool, true, false, ◌&&◌, not, List, [], ◌++◌, length, drop, None}
 use Rattle.hb_base.specs.declared.cause.Cause.{Cause}
 use Rattle.hb_base.specs.declared.cause.Cause.TheVariants as cause
 use Rattle.hb_base.specs.declared.ip.Ip.TheVariants.{V4}

@@ -7,7 +7,7 @@ use Rattle.hb_world.specs.declared.entry.Entry.{Entry}
 use Rattle.hb_world.specs.declared.entry.Entry.TheVariants as e
 use Rattle.hb_world.specs.declared.entry.Way.{Way}
 use Rattle.hb_world.specs.declared.entry.Way.TheVariants as way
-use Rattle.hb_captured.specs.Part.{Part, entry, up, welcomed, crowded, lacked, misfronted, fronted, refused, accepted, left, done, applied, stopped}
+use Rattle.hb_captured.specs.Part.{Part, entry, up, welcomed, crowded, lacked, misfronted, fronted, refused, accepted, done}
 use Rattle.hb_captured.specs.Sides.{link_came, link_went, raw_came, up_came, up_went, is_end, is_close, was_on_link, was_on_up, up_of, Course, unborn, arriving, fronting, pending, lives, over, course_of, AtEach}
 
 -- it goes on; memory may be wanting for it: at its birth, and where its header is whole

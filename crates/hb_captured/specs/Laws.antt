@@ -1,5 +1,5 @@
 -- What every run of a captured link obeys.
-use Rattle.std.specs.Prelude.{◌≡◌, ℕ, ◌≤◌, List, length}
+use Rattle.std.specs.Prelude.{ℕ, ◌≤◌, List, length}
 use Rattle.hb_held.specs.Held.{Resources}
 use Rattle.hb_tunnel.specs.Tunnel.{up_size, down_size}
 use Rattle.hb_captured.specs.Access.{AccessLaw}

@@ -1,5 +1,5 @@
 -- Small runs of a plain link, link 2 with the upstream 3, that the laws refuse.
-use Rattle.std.specs.Prelude.{◌≡◌, ◌≢◌, ℕ, List, [], ◌∷◌, ◌++◌, length, Option, Some, None}
+use Rattle.std.specs.Prelude.{◌≡◌, ◌≢◌, ℕ, List, [], ◌∷◌, ◌++◌, length, Some, None}
 use Rattle.hb_base.specs.declared.cause.Cause.{Cause}
 use Rattle.hb_base.specs.declared.cause.Cause.TheVariants as cause
 use Rattle.hb_base.specs.declared.door.Door.TheVariants as door
@@ -8,7 +8,7 @@ use Rattle.hb_base.specs.declared.identity.Identity.{Identity}
 use Rattle.hb_base.specs.declared.note.Note.{Note}
 use Rattle.hb_base.specs.declared.target.Target.{Target}
 use Rattle.hb_disco.specs.declared.response.Response.{Response}
-use Rattle.hb_front.specs.Reading.{Seen, IsAnswer, Whole}
+use Rattle.hb_front.specs.Reading.{Seen}
 use Rattle.hb_held.specs.Held.{Resources}
 use Rattle.hb_held.specs.Outcome.{after_response}
 use Rattle.hb_table.specs.declared.judgement.Judged.TheVariants.{Admitted}
@@ -18,7 +18,7 @@ use Rattle.hb_captured.specs.Access.{AccessLaw}
 use Rattle.hb_captured.specs.Ends.{EndLaw}
 use Rattle.hb_captured.specs.Notes.{NoteLaw}
 use Rattle.hb_captured.specs.Part.{Part, entry, up, welcomed, fronted, refused, accepted, left, done, applied}
-use Rattle.hb_captured.specs.Relay.{RelayLaw, RelaysUp, RelaysDown}
+use Rattle.hb_captured.specs.Relay.{RelayLaw}
 use Rattle.hb_captured.specs.Runs.{verdict_on, verdict_note, end_note}
 use Rattle.hb_captured.specs.Settled.{SettledLaw}
 use Rattle.hb_captured.specs.Sides.{judged_in}

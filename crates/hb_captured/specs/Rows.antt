@@ -17,7 +17,7 @@ use Rattle.hb_captured.specs.Calm.{longest_front}
 use Rattle.hb_captured.specs.Captured.{peer_in}
 use Rattle.hb_captured.specs.Part.{Part, entry, up, welcomed, fronted, refused, accepted, left, done, applied, notes}
 use Rattle.hb_captured.specs.Runs.{Local, StandsFor, verdict_on, verdict_note, end_note}
-use Rattle.hb_captured.specs.Sides.{judged_in, link_went, up_went}
+use Rattle.hb_captured.specs.Sides.{judged_in}
 
 -- the parts are a run of the link 2, which makes these notes
 pub record IsRunOf (start : Resources) (parts : List Part) (made : List Note) : Type 0 where

@@ -1,6 +1,5 @@
 -- Nothing is put off: where the link or its upstream is read, written or tried, nothing that follows by itself is left, and no call is due.
-use Rattle.std.specs.Prelude.{⊤, ◌≡◌, ◌≢◌, ℕ, true, false, List}
-use Rattle.hb_base.specs.declared.cause.Cause.{Cause}
+use Rattle.std.specs.Prelude.{⊤, ◌≡◌, ◌≢◌, true, false, List}
 use Rattle.hb_front.specs.Reading.{IsAnswer, More}
 use Rattle.hb_held.specs.Held.{Resources}
 use Rattle.hb_world.specs.declared.entry.Entry.{Entry}

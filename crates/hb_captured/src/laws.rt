@@ -1,9 +1,11 @@
 //! What every run of a captured link obeys. Each is the contract of a function that does nothing.
 
 ghost use Rattle.hb_captured.specs.Refused.{WritesBehind, WritesBackBehind, ReadsBehind, ClosesForAnother, ClosesAdmitted};
-ghost use Rattle.hb_captured.specs.Refused.{ShutsWaiting, ShutsEarly, ShutsBackWaiting, WritesHeader, CountsHeader, DropsFirst, DoneWaiting};
+ghost use Rattle.hb_captured.specs.Refused.{ShutsWaiting, ShutsEarly, ShutsBackWaiting};
+ghost use Rattle.hb_captured.specs.Refused.{WritesHeader, CountsHeader, DropsFirst, DoneWaiting};
 ghost use Rattle.hb_captured.specs.Refused.{DialsElsewhere, DialsTwice, DialsUnasked, LeavesOutDial, InventsHeader, DialsRefused};
-ghost use Rattle.hb_captured.specs.Refused.{RefusesAdmitted, KeepsIdentity, NotesTwice, EndsUnaccepted, EndsTwice, ClosesUnnoted, LeavesOut502};
+ghost use Rattle.hb_captured.specs.Refused.{RefusesAdmitted, KeepsIdentity, NotesTwice};
+ghost use Rattle.hb_captured.specs.Refused.{EndsUnaccepted, EndsTwice, ClosesUnnoted, LeavesOut502};
 ghost use Rattle.hb_captured.specs.Refused.{TriesDone, LeavesOpen};
 ghost use Rattle.hb_captured.specs.Rows.{RefusedMayGo, DoneMayGo, RevokedMayGo};
 ghost use Rattle.hb_captured.specs.Laws.{RunsRelay, RunsAdmit, RunsEnd, RunsAnswer, RunsNote, RunsSettle, RunsFitRings};

@@ -2,4 +2,12 @@ use Rattle.hb_captured.proofs.Refused.{shuts_waiting, shuts_early, shuts_back_wa
 use Rattle.hb_captured.proofs.laws.bytes_are_kept.Goals as goal
 
 pub returns : goal.returns
-returns c = record { shuts = shuts_waiting; early = shuts_early; shuts_back = shuts_back_waiting; header = writes_header; counts = counts_header; drops = drops_first; done = done_waiting }
+returns c = record {
+  shuts = shuts_waiting;
+  early = shuts_early;
+  shuts_back = shuts_back_waiting;
+  header = writes_header;
+  counts = counts_header;
+  drops = drops_first;
+  done = done_waiting;
+}

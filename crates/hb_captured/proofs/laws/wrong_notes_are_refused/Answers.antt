@@ -2,4 +2,11 @@ use Rattle.hb_captured.proofs.Refused.{keeps_identity, notes_twice, ends_unaccep
 use Rattle.hb_captured.proofs.laws.wrong_notes_are_refused.Goals as goal
 
 pub returns : goal.returns
-returns c = record { identity = keeps_identity; twice = notes_twice; unaccepted = ends_unaccepted; ends_twice = ends_twice; unnoted = closes_unnoted; left_out = leaves_out_502 }
+returns c = record {
+  identity = keeps_identity;
+  twice = notes_twice;
+  unaccepted = ends_unaccepted;
+  ends_twice = ends_twice;
+  unnoted = closes_unnoted;
+  left_out = leaves_out_502;
+}

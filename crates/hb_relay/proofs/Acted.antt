@@ -1,0 +1,111 @@
+-- The acts that are due of a link, and what its owner sees of it.
+use Rattle.std.proofs.Common.{◌≡◌, inl, inr, ◌<◌, not, Bool, true, false, cond, Option, Some, None, refl, ap, sym, ◌∙◌, subst, arith}
+use Rattle.std.specs.Prelude.{nat_le}
+use Rattle.std.proofs.lemmas.Bool.Decides.{nat_tests}
+use Rattle.hb_base.specs.declared.cause.Cause.{Cause}
+use Rattle.hb_world.specs.declared.act.Act.{Act}
+use Rattle.hb_world.specs.declared.act.Act.TheVariants as act
+use Rattle.hb_captured.specs.Calm.{IsCalm, IsCalmBy, IsIdleBy}
+use Rattle.hb_captured.specs.Captured.{Captured, Stage, may_shut_up, may_shut}
+use Rattle.hb_relay.specs.declared.relay.Relay.{Relay}
+use Rattle.hb_relay.specs.declared.stage.Stage as code
+use Rattle.hb_relay.specs.declared.stage.Stage.TheVariants.{Fronting, Due, Opening, Live, Over}
+use Rattle.hb_relay.specs.Acts.{Acts}
+use Rattle.hb_relay.specs.Moving.{act_by, acted_by}
+use Rattle.hb_relay.specs.Shows.{Shows, Becomes, captured_of, as_told, stage_of}
+use Rattle.hb_relay.proofs.Reached.{stage_is}
+
+module _ (old new : Relay) where
+  at : (x : Captured) → Shows old x → (s : code.Stage) → old.stage ≡ s → x.stage ≡ stage_of s
+  at x shows s is = stage_is old x shows.same ∙ ap stage_of is
+
+  -- with a change that leaves it calm
+  shown : (x y : Captured) (change : Captured → Captured) → Shows old x → as_told y ≡ change (as_told x)
+      → captured_of new ≡ change (captured_of old) → IsCalm y → Shows new y
+  shown x y change shows told now calm = record { same = told ∙ ap change shows.same ∙ sym now; calm = calm }
+
+  live_acts : old.stage ≡ Live → (b c : Bool) → may_shut_up (captured_of old) ≡ b → may_shut (captured_of old) ≡ c
+      → captured_of new ≡ cond b (record (captured_of old) { up_shut = true })
+      (cond c (record (captured_of old) { shut = true }) (captured_of old))
+      → Acts (cond b (Some (act.Shut old.up)) (cond c (Some (act.Shut old.number)) None)) old new
+  live_acts is true c up_is down_is now =
+      inr (λ a shows.
+      let x = a.link in
+      let lives = at x shows Live is in (
+        (shows.calm, lives, ap (λ (y : Captured). y.up) shows.same, ap may_shut_up shows.same ∙ up_is),
+        shown x (record x { up_shut = true }) (λ y. record y { up_shut = true }) shows refl now
+            (subst (λ (s : Stage). IsCalmBy s (record x { up_shut = true })) (sym lives)
+            (subst (λ (s : Stage). IsCalmBy s x) lives shows.calm)),
+      ))
+  live_acts is false true up_is down_is now =
+      inl (
+        refl,
+        (λ a shows.
+            let x = a.link in
+            let lives = at x shows Live is in (
+              (refl, shows.calm, lives, ap may_shut shows.same ∙ down_is),
+              shown x (record x { shut = true }) (λ y. record y { shut = true }) shows refl now
+                  (subst (λ (s : Stage). IsCalmBy s (record x { shut = true })) (sym lives)
+                  (subst (λ (s : Stage). IsCalmBy s x) lives shows.calm)),
+            )),
+      )
+  live_acts is false false up_is down_is now = (
+    now,
+    (λ x shows. subst (λ (s : Stage). IsIdleBy s x) (sym (at x shows Live is))
+        (ap may_shut_up shows.same ∙ up_is, ap may_shut shows.same ∙ down_is)),
+  )
+
+  over_acts : (why : Cause) → old.stage ≡ Over why → (b c : Bool) → nat_le old.up 0 ≡ b → old.closed ≡ c
+      → captured_of new ≡ cond (not b) (record (captured_of old) { up = 0 })
+      (cond (not c) (record (captured_of old) { closed = true }) (captured_of old))
+      → Acts (cond (not b) (Some (act.Close old.up why)) (cond (not c) (Some (act.Close old.number why)) None)) old new
+  over_acts why is false c up_is closed_is now =
+      inr (λ a shows.
+      let x = a.link in
+      let ends = at x shows (Over why) is in
+      let some : 0 < old.up = grind (arith, nat_tests, up_is) in (
+        (shows.calm, ends, ap (λ (y : Captured). y.up) shows.same, some),
+        shown x (record x { up = 0 }) (λ y. record y { up = 0 }) shows refl now
+            (subst (λ (s : Stage). IsCalmBy s (record x { up = 0 })) (sym ends) tt),
+      ))
+  over_acts why is true false up_is closed_is now =
+      inl (
+        refl,
+        (λ a shows.
+            let x = a.link in
+            let ends = at x shows (Over why) is in (
+              (refl, shows.calm, ends, ap (λ (y : Captured). y.closed) shows.same ∙ closed_is),
+              shown x (record x { closed = true }) (λ y. record y { closed = true }) shows refl now
+                  (subst (λ (s : Stage). IsCalmBy s (record x { closed = true })) (sym ends) tt),
+            )),
+      )
+  over_acts why is true true up_is closed_is now =
+      let none : old.up ≡ 0 = grind (arith, nat_tests, up_is) in (
+        now,
+        (λ x shows. subst (λ (s : Stage). IsIdleBy s x) (sym (at x shows (Over why) is))
+            (ap (λ (y : Captured). y.closed) shows.same ∙ closed_is, ap (λ (y : Captured). y.up) shows.same ∙ none)),
+      )
+
+  pub acts : (due_now : Option Act) → due_now ≡ act_by old.number (stage_of old.stage) (captured_of old)
+      → Becomes (acted_by (stage_of old.stage)) old new → Acts due_now old new
+  acts due_now due_is becomes = by old.stage refl
+    where
+      so : (s : code.Stage) → old.stage ≡ s → Acts (act_by old.number (stage_of s) (captured_of old)) old new → Acts due_now old new
+      so s is holds =
+          subst (λ (o : Option Act). Acts o old new)
+          (sym (due_is ∙ ap (λ (t : code.Stage). act_by old.number (stage_of t) (captured_of old)) is)) holds
+
+      now : (s : code.Stage) → old.stage ≡ s → captured_of new ≡ acted_by (stage_of s) (captured_of old)
+      now s is = becomes.after ∙ ap (λ (t : code.Stage). acted_by (stage_of t) (captured_of old)) is
+
+      by : (s : code.Stage) → old.stage ≡ s → Acts due_now old new
+      by Fronting is =
+          so Fronting is (now Fronting is, (λ x shows. subst (λ (s : Stage). IsIdleBy s x) (sym (at x shows Fronting is)) tt))
+      by Opening is =
+          so Opening is (now Opening is, (λ x shows. subst (λ (s : Stage). IsIdleBy s x) (sym (at x shows Opening is)) tt))
+      by Due is =
+          so Due is (now Due is, refl, (λ x shows. (at x shows Due is, sym (ap (λ (y : Captured). y.target) shows.same))))
+      by Live is =
+          so Live is (live_acts is (may_shut_up (captured_of old)) (may_shut (captured_of old)) refl refl (now Live is))
+      by (Over why) is =
+          so (Over why) is (over_acts why is (nat_le old.up 0) old.closed refl refl (now (Over why) is))

@@ -1,0 +1,5 @@
+pub mod Acted
+pub mod Coming
+pub mod Meeting
+pub mod Reached
+pub mod Refused

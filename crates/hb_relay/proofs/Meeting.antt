@@ -1,0 +1,254 @@
+-- Each call meets the machine.
+use Rattle.std.proofs.Common.{◌≡◌, ◌≢◌, inl, inr, ℕ, ◌≤◌, ◌<◌, ◌+◌, ◌-◌, ◌&&◌, ◌==◌, not, Bool, true, false, cond, List, [], ◌∷◌, length, Option, Some, None, refl, ap, sym, ◌∙◌, subst, arith}
+use Rattle.std.specs.Prelude.{nat_le}
+use Rattle.std.proofs.lemmas.Bool.Decides.{nat_tests}
+use Rattle.hb_base.specs.declared.cause.Cause.{Cause}
+use Rattle.hb_base.specs.declared.cause.Cause.TheVariants as cause
+use Rattle.hb_base.specs.declared.door.Door.TheVariants as door
+use Rattle.hb_base.specs.declared.door.Why.{Why}
+use Rattle.hb_base.specs.declared.note.Note.{Note}
+use Rattle.hb_base.specs.declared.target.Target.{Target}
+use Rattle.hb_held.specs.Held.{Resources}
+use Rattle.hb_held.specs.Outcome.{after_response}
+use Rattle.hb_table.specs.Judgement.{judged}
+use Rattle.hb_table.specs.declared.judgement.Judged.{Judged}
+use Rattle.hb_table.specs.declared.judgement.Judged.TheVariants.{Admitted, Unknown, Denied}
+use Rattle.hb_tunnel.specs.Tunnel.{down_size}
+use Rattle.hb_tunnel.specs.Way.{Way, after, pushes, is_done}
+use Rattle.hb_world.specs.declared.entry.Entry.TheVariants as e
+use Rattle.hb_captured.specs.Calm.{IsCalm, IsCalmBy, room, up_wants_by}
+use Rattle.hb_captured.specs.Captured as m
+use Rattle.hb_captured.specs.Captured.{Captured, Stage, no_link, at_stage, ends_by, ends_for, entered, up_entered, hung_up, is_judged, judged_by, rejudged, is_through}
+use Rattle.hb_captured.specs.Part.{Part, entry, up, welcomed, accepted, applied}
+use Rattle.hb_captured.specs.Runs.{Local, MayGo, IsTried, next, counted, verdict_note}
+use Rattle.hb_captured.proofs.Kept.{all_keep}
+use Rattle.hb_captured.proofs.Stages.{KnowsBy}
+use Rattle.hb_captured.specs.Sides.{header_of, link_came}
+use Rattle.hb_relay.specs.declared.relay.Relay.{Relay}
+use Rattle.hb_relay.specs.declared.stage.Stage as code
+use Rattle.hb_relay.specs.declared.stage.Stage.TheVariants.{Fronting, Due, Opening, Live, Over}
+use Rattle.hb_relay.specs.Calls.{any, Begins, UpEnters, Goes, UpGoes, Updates}
+use Rattle.hb_relay.specs.Ending.{ended_now, note_at, verdict_at}
+use Rattle.hb_relay.specs.Moving.{settled, note_by, took_up, took_down, pushed}
+use Rattle.hb_relay.specs.Reaches.{Reaches, Meets}
+use Rattle.hb_relay.specs.Shows.{Becomes, captured_of, as_told, stage_of}
+use Rattle.hb_relay.proofs.Reached.{stage_is, rests, follows, ends_reach, settles_reach}
+
+-- it ends
+pub meets_end : (p : Part) (old new : Relay) (why : Cause) (made : Option Note)
+    → ((a : Local) → next a p ≡ record { held = a.held; link = ends_for why a.link })
+    → made ≡ note_at old.number why (captured_of old) (stage_of old.stage) → Becomes (ended_now why) old new → Meets any p old new made
+meets_end p old new why made is noted becomes = record {
+  number = becomes.number;
+  reaches = λ start before a stands shows so may.
+      subst (λ (b : Local). Reaches old.number b new made) (sym (is a))
+      (ends_reach old.number a.held a.link old new why made shows.same becomes noted);
+}
+
+-- it may be done
+pub meets_settled : (p : Part) (old mid new : Relay) (change : Captured → Captured) (made : Option Note)
+    → ((a : Local) → as_told (next a p).link ≡ change (as_told a.link))
+    → ((a : Local) → MayGo old.number a p → (stage : Stage) → (next a p).link.stage ≡ stage → stage ≢ m.live → IsCalm (next a p).link)
+    → Becomes change old mid → made ≡ note_by mid.number (stage_of mid.stage) (captured_of mid) → Becomes settled mid new
+    → Meets any p old new made
+meets_settled p old mid new change made tells calm step noted settles = record {
+  number = settles.number ∙ step.number;
+  reaches = λ start before a stands shows so may.
+      settles_reach old.number (next a p) mid new made (tells a ∙ ap change shows.same ∙ sym step.after) settles
+      (noted ∙ ap (λ (l : ℕ). note_by l (stage_of mid.stage) (captured_of mid)) step.number) (calm a may);
+}
+
+-- a link that was tried is calm once its peer sends no more
+pub hung_calm : (x : Captured) → IsTried x → (l : ℕ) (stage : Stage) → (entered (e.Ended l) x).stage ≡ stage → stage ≢ m.live
+    → IsCalm (entered (e.Ended l) x)
+hung_calm x (inl at) l stage is not = subst (λ (s : Stage). IsCalmBy (hung_up s) (entered (e.Ended l) x)) (sym at.1) tt
+hung_calm x (inr (inl at)) l stage is not = subst (λ (s : Stage). IsCalmBy (hung_up s) (entered (e.Ended l) x)) (sym at.1) tt
+hung_calm x (inr (inr at)) l stage is not =
+    absurd (not (sym is ∙ ap hung_up at.1))
+
+-- one that lives isn't at another stage
+pub lives_calm : {A : Type 0} (x : Captured) → x.stage ≡ m.live → (stage : Stage) → x.stage ≡ stage → stage ≢ m.live → A
+lives_calm x lives stage is not = absurd (not (sym is ∙ lives))
+
+counted_more : (old n : ℕ) → counted (old + n) ≡ counted (counted old + n)
+counted_more old n = omega arith
+
+-- bytes went
+pub goes_down : (old mid new : Relay) (n : ℕ) (made : Option Note) → Becomes (took_down n) old mid
+    → made ≡ note_by mid.number (stage_of mid.stage) (captured_of mid) → Becomes settled mid new → Goes n old new made
+goes_down old mid new n made step noted settles bytes is =
+    meets_settled (entry (e.Went old.number bytes)) old mid new (took_down (length bytes)) made
+    (λ a. ap (λ (w : ℕ). record (as_told (entered (e.Went old.number bytes) a.link)) { went_down = w })
+    (counted_more a.link.went_down (length bytes)))
+    (λ a may stage same not. lives_calm a.link may.1.1 stage same not)
+    (subst (λ (k : ℕ). Becomes (took_down k) old mid) (sym is) step) noted settles
+
+pub goes_up : (old mid new : Relay) (n : ℕ) (made : Option Note) → Becomes (took_up n) old mid
+    → made ≡ note_by mid.number (stage_of mid.stage) (captured_of mid) → Becomes settled mid new → UpGoes n old new made
+goes_up old mid new n made step noted settles u bytes is =
+    meets_settled (up (e.Went u bytes)) old mid new (took_up (length bytes)) made
+    (λ a. ap (λ (w : ℕ). record (as_told (up_entered (e.Went u bytes) a.link)) { went_up = w })
+    (counted_more a.link.went_up (length bytes)))
+    (λ a may stage same not. lives_calm a.link may.0.0.1 stage same not)
+    (subst (λ (k : ℕ). Becomes (took_up k) old mid) (sym is) step) noted settles
+
+-- a dial is made
+pub dials : (old new : Relay) (u : ℕ) (to : Target) (why : Why) → Becomes (up_entered (e.Dialled u to why)) old new
+    → UpEnters (e.Dialled u to why) old new None
+dials old new u to why becomes = record {
+  number = becomes.number;
+  reaches = λ start before a stands shows so may.
+      rests old.number (next a (up (e.Dialled u to why))) new None
+      (ap (up_entered (e.Dialled u to why)) shows.same ∙ sym becomes.after) tt refl;
+}
+
+-- a side that hasn't ended isn't through
+through_down : (x : Captured) → x.ways.down.has_ended ≡ false → is_through x ≡ false
+through_down x is =
+    ap (λ (b : Bool). is_done x.ways.up && (b && length x.ways.down.held == 0)) is ∙ neither (is_done x.ways.up)
+  where
+    neither : (b : Bool) → (b && false) ≡ false
+    neither true = refl
+    neither false = refl
+
+pub through_up : (x : Captured) → x.ways.up.has_ended ≡ false → is_through x ≡ false
+through_up x is = ap (λ (b : Bool). (b && length x.ways.up.held == 0) && is_done x.ways.down) is
+
+-- the upstream is open
+pub opens : (old mid : Relay) (u : ℕ) (made : Note) → Becomes (λ x. at_stage m.live (up_entered (e.Opened old.up) x)) old mid
+    → made ≡ verdict_at mid.number 200 (captured_of mid) → UpEnters (e.Opened u) old mid (Some made)
+opens old mid u made becomes noted = record {
+  number = becomes.number;
+  reaches = λ start before a stands shows so may.
+      let knows = subst (λ (s : Stage). KnowsBy s (header_of before) (link_came before) a.held a.link) may.0.1
+      (all_keep old.number start a before stands).knows in
+      let x = (next a (up (e.Opened u))).link in
+      follows old.number (next a (up (e.Opened u))) mid (accepted (verdict_note old.number 200 x.peer x.target)) (Some made) tt
+      (refl, refl)
+      (ap (λ (y : Captured). at_stage m.live (up_entered (e.Opened old.up) y)) shows.same ∙ sym becomes.after)
+      (through_down (at_stage m.live x) knows.3)
+      (ap (λ (n : Note). n ∷ []) (sym (noted ∙ ap (λ (l : ℕ). verdict_at l 200 (captured_of mid)) becomes.number
+      ∙ ap (verdict_at old.number 200) (becomes.after
+      ∙ ap (λ (y : Captured). at_stage m.live (up_entered (e.Opened old.up) y)) (sym shows.same)))));
+}
+
+-- bytes that may be read fit, and their way hasn't ended
+pub has_room : (size : ℕ) (w : Way) → 0 < room size w → w.has_ended ≡ false
+has_room size w some = by w.has_ended refl
+  where
+    by : (b : Bool) → w.has_ended ≡ b → w.has_ended ≡ false
+    by false is = is
+    by true is = absurd (let none : room size w ≡ 0 = ap (λ (c : Bool). cond c 0 (size - length w.held)) is in omega (arith, some, none))
+
+pub fits : (size : ℕ) (w : Way) (bytes : List ℕ) → 0 < length bytes → length bytes ≤ room size w
+    → pushed size bytes w ≡ after w (pushes bytes)
+fits size w bytes some most =
+    let open_yet = has_room size w (omega (arith, some, most)) in
+    let space : room size w ≡ size - length w.held = ap (λ (c : Bool). cond c 0 (size - length w.held)) open_yet in
+    let small : length bytes ≤ size - length w.held = omega (arith, most, space) in
+    let test : nat_le (length bytes) (size - length w.held) ≡ true = grind (arith, nat_tests, small) in
+    ap (λ (b : Bool). cond (not b && nat_le (length bytes) (size - length w.held)) (after w (pushes bytes)) w) open_yet
+    ∙ ap (λ (b : Bool). cond b (after w (pushes bytes)) w) test
+
+-- bytes came down
+pub comes_down : (old new : Relay) (u : ℕ) (bytes : List ℕ)
+    → new ≡ record old { ways = record old.ways { down = pushed down_size bytes old.ways.down } } → UpEnters (e.Came u bytes) old new None
+comes_down old new u bytes is = record {
+  number = ap (λ (k : Relay). k.number) is;
+  reaches = λ start before a stands shows so may.
+      let x = a.link in
+      let most : length bytes ≤ room down_size x.ways.down =
+      subst (λ (n : ℕ). length bytes ≤ n) (ap (λ (s : Stage). up_wants_by s x) may.0.0.1) may.1.2 in
+      let same_ways : x.ways ≡ old.ways = ap (λ (y : Captured). y.ways) shows.same in
+      let pushes_so : pushed down_size bytes old.ways.down ≡ after x.ways.down (pushes bytes) =
+      ap (λ w. pushed down_size bytes w.down) (sym same_ways) ∙ fits down_size x.ways.down bytes may.1.1 most in
+      rests old.number (next a (up (e.Came u bytes))) new None
+      (ap (λ (y : Captured). record y { ways = record y.ways { down = after x.ways.down (pushes bytes) } }) shows.same
+      ∙ sym (ap captured_of is ∙ ap (λ w. record (captured_of old) { ways = record old.ways { down = w } }) pushes_so))
+      (subst (λ (s : Stage). IsCalmBy s (next a (up (e.Came u bytes))).link) (sym may.0.0.1)
+      (through_down (next a (up (e.Came u bytes))).link (has_room down_size x.ways.down (omega (arith, may.1.1, most))))) refl;
+}
+
+-- its birth
+pub begins : (l : ℕ) (k : Relay) → captured_of k ≡ at_stage m.fronting no_link → Begins l k
+begins l k is a new = record {
+  parts = welcomed ∷ [];
+  reached = next (next a (entry (e.Accepted l door.Plain))) welcomed;
+  leads = (tt, refl, refl);
+  shows = record {
+    same = ap (λ (x : Captured). as_told (at_stage m.fronting x)) new ∙ sym is;
+    calm = subst (λ (x : Captured). IsCalm (at_stage m.fronting x)) (sym new) (refl, omega arith);
+  };
+  noted = refl;
+}
+
+-- AN UPDATE
+
+judged_stays : (h : Resources) (x : Captured) (b : Bool) → judged h x.peer x.target ≡ Admitted
+    → cond b (judged_by (judged h x.peer x.target) x) x ≡ x
+judged_stays h x true is = ap (λ (j : Judged). judged_by j x) is
+judged_stays h x false is = refl
+
+-- it stays as it was
+pub stays : (held : Resources) (old : Relay) → ((x : Captured) → as_told x ≡ captured_of old → rejudged held x ≡ x)
+    → Updates held old old None
+stays held old same_link r = record {
+  number = refl;
+  reaches = λ start before a stands shows so may.
+      let same : rejudged (after_response a.held r) a.link ≡ a.link =
+      ap (λ (h : Resources). rejudged h a.link) (sym so) ∙ same_link a.link shows.same in
+      rests old.number (next a (applied r)) old None (ap as_told same ∙ shows.same) (subst IsCalm (sym same) shows.calm) refl;
+}
+
+-- since its header isn't whole, or its peer is admitted
+pub fronting_stays : (held : Resources) (old : Relay) → old.stage ≡ Fronting → Updates held old old None
+fronting_stays held old is =
+    stays held old (λ x same.
+    ap (λ (s : Stage). cond (is_judged s) (judged_by (judged held x.peer x.target) x) x) (stage_is old x same ∙ ap stage_of is))
+
+pub admitted_stays : (held : Resources) (old : Relay) → judged held (captured_of old).peer old.target ≡ Admitted → Updates held old old None
+admitted_stays held old is =
+    stays held old (λ x same.
+    judged_stays held x (is_judged x.stage)
+    (ap (λ (y : Captured). judged held y.peer y.target) same ∙ is))
+
+judged_ends : (j : Judged) (x : Captured) → j ≢ Admitted → judged_by j x ≡ ends_for cause.Revoked x
+judged_ends Admitted x not = absurd (not refl)
+judged_ends Unknown x not = refl
+judged_ends Denied x not = refl
+
+-- it ends
+pub revokes : (held : Resources) (old new : Relay) (made : Option Note) → old.stage ≢ Fronting
+    → judged held (captured_of old).peer old.target ≢ Admitted
+    → made ≡ note_at old.number cause.Revoked (captured_of old) (stage_of old.stage) → Becomes (ended_now cause.Revoked) old new
+    → Updates held old new made
+revokes held old new made late not noted becomes r = record {
+  number = becomes.number;
+  reaches = λ start before a stands shows so may.
+      let x = a.link in
+      let same : rejudged (after_response a.held r) x ≡ ends_for cause.Revoked x =
+      ap (λ (h : Resources). rejudged h x) (sym so) ∙ by x shows.same old.stage refl in
+      subst (λ (y : Captured). Reaches old.number (record { held = after_response a.held r; link = y }) new made) (sym same)
+      (ends_reach old.number (after_response a.held r) x old new cause.Revoked made shows.same becomes noted);
+}
+  where
+    at : (x : Captured) → as_told x ≡ captured_of old → (s : code.Stage) → old.stage ≡ s → x.stage ≡ stage_of s
+    at x same s is = stage_is old x same ∙ ap stage_of is
+
+    judged_so : (x : Captured) → as_told x ≡ captured_of old → judged_by (judged held x.peer x.target) x ≡ ends_for cause.Revoked x
+    judged_so x same =
+        judged_ends (judged held x.peer x.target) x
+        (λ admitted. not (ap (λ (y : Captured). judged held y.peer y.target) (sym same) ∙ admitted))
+
+    by : (x : Captured) → as_told x ≡ captured_of old → (s : code.Stage) → old.stage ≡ s → rejudged held x ≡ ends_for cause.Revoked x
+    by x same Fronting is = absurd (late is)
+    by x same Due is =
+        ap (λ (s : Stage). cond (is_judged s) (judged_by (judged held x.peer x.target) x) x) (at x same Due is) ∙ judged_so x same
+    by x same Opening is =
+        ap (λ (s : Stage). cond (is_judged s) (judged_by (judged held x.peer x.target) x) x) (at x same Opening is) ∙ judged_so x same
+    by x same Live is =
+        ap (λ (s : Stage). cond (is_judged s) (judged_by (judged held x.peer x.target) x) x) (at x same Live is) ∙ judged_so x same
+    by x same (Over first) is =
+        let over_so = at x same (Over first) is in
+        ap (λ (s : Stage). cond (is_judged s) (judged_by (judged held x.peer x.target) x) x) over_so
+        ∙ ap (λ (s : Stage). at_stage s x) (over_so ∙ sym (ap (ends_by cause.Revoked) over_so))

@@ -1,0 +1,25 @@
+-- What an end makes of a link, and what is noted of it. No public clause cites this file.
+use Rattle.std.specs.Prelude.{ℕ, Option, Some, None}
+use Rattle.hb_base.specs.declared.cause.Cause.{Cause}
+use Rattle.hb_base.specs.declared.note.Note.{Note}
+use Rattle.hb_base.specs.declared.note.Note.TheVariants as note
+use Rattle.hb_captured.specs.Captured.{Captured, Stage, due, opening, live, at_stage, ends_by, left_by}
+use Rattle.hb_captured.specs.Runs.{verdict_note, note_of, failure_status}
+
+-- it ends, and that is noted at once
+abbrev pub ended_now : Cause → Captured → Captured
+ended_now cause x = at_stage (left_by (ends_by cause x.stage)) x
+
+-- its notes, of counts that are told already
+abbrev pub verdict_at : (l status : ℕ) → Captured → Note
+verdict_at l status x = verdict_note l status x.peer x.target
+
+abbrev pub end_at : ℕ → Cause → Captured → Note
+end_at l cause x = note.End l 0 cause x.went_up x.went_down
+
+-- what is noted of an end at a stage
+abbrev pub note_at : ℕ → Cause → Captured → Stage → Option Note
+note_at l cause x due = note_of l x (failure_status cause)
+note_at l cause x opening = note_of l x (failure_status cause)
+note_at l cause x live = Some (end_at l cause x)
+note_at l cause x _ = None

@@ -1,0 +1,7 @@
+pub mod Acts
+pub mod Calls
+pub mod Ending
+pub mod Moving
+pub mod Reaches
+pub mod Refused
+pub mod Shows

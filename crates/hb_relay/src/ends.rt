@@ -1,0 +1,76 @@
+//! How a link ends, and what is noted of it.
+
+ghost use Rattle.std.specs.Prelude.{◌≡◌};
+ghost use Rattle.hb_captured.specs.Runs.{failure_status};
+ghost use Rattle.hb_relay.specs.Shows.{captured_of, stage_of, Becomes};
+ghost use Rattle.hb_relay.specs.Ending.{ended_now, note_at, verdict_at, end_at};
+
+use crate::relay::Relay;
+use crate::stage::Stage;
+use hb_base::{Cause, Note, Peer};
+
+/// The status of a tunnel that ended while it was pending, where its cause has one (RFC 9110 section 15).
+fn failure_status(cause: Cause) -> Option<u16>
+    ensures { result ≡ failure_status cause }
+{
+    match cause {
+        Cause::Revoked => Some(401),
+        Cause::UpFault => Some(502),
+        _ => None,
+    }
+}
+
+impl Relay {
+    /// The note of its verdict.
+    pub(crate) fn verdict_note(&self, status: u16) -> Note
+        ensures { result ≡ verdict_at self.now.number status (captured_of self.now) }
+    {
+        Note::Verdict {
+            link: self.number,
+            stream: 0,
+            status,
+            peer: Peer {
+                ip: self.source,
+                identity: None,
+            },
+            target: Some(self.target),
+        }
+    }
+
+    /// The note of its end.
+    pub(crate) fn end_note(&self, cause: Cause) -> Note
+        ensures { result ≡ end_at self.now.number cause (captured_of self.now) }
+    {
+        Note::End {
+            link: self.number,
+            stream: 0,
+            cause,
+            up: self.went_up,
+            down: self.went_down,
+        }
+    }
+
+    /// What is noted where it ends now for a cause.
+    fn note_for(&self, cause: Cause) -> Option<Note>
+        ensures { result ≡ note_at self.now.number cause (captured_of self.now) (stage_of self.now.stage) }
+    {
+        match self.stage {
+            Stage::Due | Stage::Opening => match failure_status(cause) {
+                Some(status) => Some(self.verdict_note(status)),
+                None => None,
+            },
+            Stage::Live => Some(self.end_note(cause)),
+            _ => None,
+        }
+    }
+
+    /// It ends for a cause, where it hasn't ended, and that is noted.
+    pub(crate) fn end_for(&mut self, cause: Cause) -> Option<Note>
+        ensures note { result ≡ note_at self.old.number cause (captured_of self.old) (stage_of self.old.stage) }
+        ensures after { Becomes (ended_now cause) self.old self.new }
+    {
+        let note = self.note_for(cause);
+        self.stage = self.stage.ended(cause);
+        note
+    }
+}

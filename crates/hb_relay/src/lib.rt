@@ -1,0 +1,16 @@
+//! A link of the plain door in code: its front header, and the bytes between it and its upstream. Each call meets the machine of
+//! hb_captured: for each run of the link that it showed, it shows the run with what it was told, and what follows from that by itself.
+#![tactic(auto)]
+
+mod acts;
+mod ends;
+mod front;
+mod fronting;
+pub mod laws;
+mod link;
+mod moving;
+mod relay;
+mod stage;
+mod upstream;
+
+pub use relay::Relay;

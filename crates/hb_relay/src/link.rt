@@ -1,0 +1,91 @@
+//! What comes and goes on the link, and what others do to it.
+
+ghost use Rattle.std.specs.Prelude.{◌≡◌, ◌≤◌, length, IfOk};
+ghost use Rattle.hb_world.specs.declared.entry.Entry.TheVariants as e;
+ghost use Rattle.hb_captured.specs.Calm.{wants, output};
+ghost use Rattle.hb_relay.specs.Calls.{Begins, Enters, Goes, Stops, Takes, Updates};
+ghost use Rattle.hb_relay.specs.Shows.{captured_of};
+
+use crate::moving::push_up;
+use crate::relay::Relay;
+use crate::stage::Stage;
+use hb_base::{Cause, NoMemory, Note, Peer};
+use hb_held::Held;
+use hb_table::{Judged, judge};
+use std::alloc::Global;
+
+impl Relay {
+    /// A link that was accepted: its front header is to come.
+    ///
+    /// Errors: `NoMemory`; a link of which nothing is kept is to be closed for that cause.
+    pub fn accepted(alloc: Global, number: u64) -> Result<Relay, NoMemory>
+        ensures begins { IfOk result (λ k. Begins number k) }
+        ensures number { IfOk result (λ k. k.number ≡ number) }
+    {
+        Relay::fresh(alloc, number, Stage::Fronting)
+    }
+
+    /// These bytes came of it: of its front header, whose destination gets its verdict by what is held once it is whole, or such as go up.
+    /// The note of a refusal, `None` where the link isn't refused.
+    pub fn take_bytes(&mut self, held: &Held, b: &[u8]) -> Option<Note>
+        requires { length b.now ≤ wants (captured_of self.old) }
+        ensures { Takes held.now b.now self.old self.new result }
+    {
+        match self.stage {
+            Stage::Fronting => self.take_front(held, b),
+            _ => {
+                push_up(&mut self.ways, b);
+                None
+            }
+        }
+    }
+
+    /// The first `n` bytes of the output were written. The note of its end, `None` where it isn't done.
+    pub fn wrote(&mut self, n: usize) -> Option<Note>
+        requires { n ≤ length (output (captured_of self.old)) }
+        ensures { Goes n self.old self.new result }
+    {
+        self.take_down(n);
+        self.settle()
+    }
+
+    /// Its peer sends no more. The note of its end, `None` where it isn't done, or its header wasn't whole.
+    pub fn ended(&mut self) -> Option<Note>
+        ensures { Enters (e.Ended self.old.number) self.old self.new result }
+    {
+        self.hang_up();
+        self.settle()
+    }
+
+    /// A call on it failed. The note of its end, `None` where it didn't live.
+    pub fn broke(&mut self) -> Option<Note>
+        ensures { Enters (e.Broke self.old.number) self.old self.new result }
+    {
+        self.end_for(Cause::PeerGone)
+    }
+
+    /// A response was applied, which made this of what is held: it ends where its peer is no longer admitted.
+    /// The note of that, `None` where it goes on, or had ended.
+    pub fn judge(&mut self, held: &Held) -> Option<Note>
+        ensures { Updates held.now self.old self.new result }
+    {
+        if let Stage::Fronting = self.stage {
+            return None;
+        }
+        let peer = Peer {
+            ip: self.source,
+            identity: None,
+        };
+        match judge(held, &peer, self.target) {
+            Judged::Admitted => None,
+            _ => self.end_for(Cause::Revoked),
+        }
+    }
+
+    /// The run ends for this cause. The note of its end, `None` where it didn't live.
+    pub fn stopped(&mut self, cause: Cause) -> Option<Note>
+        ensures { Stops cause self.old self.new result }
+    {
+        self.end_for(cause)
+    }
+}
