@@ -1,2 +1,2 @@
-mod LeftLemmas
+pub mod LeftLemmas
 pub mod TellsLemmas

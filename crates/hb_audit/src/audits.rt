@@ -33,6 +33,13 @@ impl<A: Audit> Audits<A> {
         }
     }
 
+    /// The audits, in order.
+    pub fn as_slice(&self) -> &[A]
+        ensures { map A.notes result.now ≡ held_by A.notes self.now }
+    {
+        self.audits.as_slice()
+    }
+
     /// How many audits there are.
     pub fn len(&self) -> usize
         ensures { result ≡ length (held_by A.notes self.now) }

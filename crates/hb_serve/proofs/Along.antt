@@ -1,7 +1,7 @@
--- What is said of a run of one node is said of the other that it has in it.
-use Rattle.std.proofs.Common.{List, Option}
+-- What is said of a run of one node is said of another that it has in it, which stands for the traces for which that one does.
+use Rattle.std.proofs.Common.{List}
 use Rattle.hb_base.specs.declared.note.Note.{Note}
-use Rattle.hb_turns.specs.Served.{IsStoodFor, IsOver, IsServed, IsTotalled}
+use Rattle.hb_turns.specs.Served.{IsStoodFor, IsOver, IsServed, IsTotalled, Leaves, leaves}
 use Rattle.hb_turns.specs.Settled.{IsSettled, SettledAt}
 use Rattle.hb_turns.specs.Shown.{Shown}
 use Rattle.hb_turns.specs.declared.served.Served.{Served}
@@ -12,10 +12,8 @@ use Rattle.hb_turns.specs.declared.words.ServeWords.{ServeWords}
 use Rattle.hb_world.specs.declared.entry.Entry.{Entry}
 use Rattle.hb_world.specs.declared.entry.Entry.TheVariants as e
 
-module _ {N M : Type 0} (f : N → M) (stands : List Note → M → List Entry → Type 0) (shown : M → Shown) where
-  abbrev of : List Note → N → List Entry → Type 0
-  of notes n trace = stands notes (f n) trace
-
+module _ {N M : Type 0} (f : N → M) (of : List Note → N → List Entry → Type 0) (stands : List Note → M → List Entry → Type 0)
+    (gives : (notes : List Note) (n : N) (trace : List Entry) → of notes n trace → stands notes (f n) trace) (shown : M → Shown) where
   abbrev shown_in : N → Shown
   shown_in n = shown (f n)
 
@@ -23,7 +21,7 @@ module _ {N M : Type 0} (f : N → M) (stands : List Note → M → List Entry �
   settles trace s = record {
     notes = s.notes;
     node = f s.node;
-    stands_for = s.stands_for;
+    stands_for = gives s.notes s.node trace s.stands_for;
     going = s.going;
     idle = s.idle;
     doors = s.doors;
@@ -41,13 +39,13 @@ module _ {N M : Type 0} (f : N → M) (stands : List Note → M → List Entry �
     trace_is = s.trace_is;
     notes = s.notes;
     node = f s.node;
-    stands_for = s.stands_for;
+    stands_for = gives s.notes s.node s.front s.stands_for;
     going = s.going;
     allows = s.allows;
   }
-  stood_for ends.Stopped trace s = (s.0, f s.1, s.2, s.3)
-  stood_for ends.WorldFault trace s = (s.0, f s.1, s.2, s.3)
-  stood_for ends.TurnsSpent trace s = (s.0, f s.1, s.2, s.3)
+  stood_for ends.Stopped trace s = (s.0, f s.1, gives s.0 s.1 trace s.2, s.3)
+  stood_for ends.WorldFault trace s = (s.0, f s.1, gives s.0 s.1 trace s.2, s.3)
+  stood_for ends.TurnsSpent trace s = (s.0, f s.1, gives s.0 s.1 trace s.2, s.3)
 
   over : (words : ServeWords) (end : ServeEnd) (trace : List Entry) → IsOver of shown_in words end trace
       → IsOver stands shown words end trace
@@ -60,20 +58,24 @@ module _ {N M : Type 0} (f : N → M) (stands : List Note → M → List Entry �
     closes = o.closes;
   }
 
-  totalled : (keep : Option (List Note)) (totals : Totals) (trace : List Entry) → IsTotalled of shown_in keep totals trace
-      → IsTotalled stands shown keep totals trace
-  totalled keep totals trace t =
+  -- what the run leaves, with that node
+  abbrev pub left_of : Leaves N → Leaves M
+  left_of left = leaves left.keep (f left.node)
+
+  totalled : (left : Leaves N) (totals : Totals) (trace : List Entry) → IsTotalled of shown_in left totals trace
+      → IsTotalled stands shown (left_of left) totals trace
+  totalled left totals trace t =
       let all = t.are_notes in
       record {
         notes = t.notes;
-        are_notes = record { node = f all.node; stands_for = all.stands_for; none_waits = all.none_waits };
+        are_notes = record { stands_for = gives t.notes left.node trace all.stands_for; none_waits = all.none_waits };
         kept_are = t.kept_are;
         totals_are = t.totals_are;
       }
 
-  pub served_along : (words : ServeWords) (served : Served) (keep : Option (List Note)) (trace : List Entry)
-      → IsServed of shown_in words served keep trace → IsServed stands shown words served keep trace
-  served_along words served keep trace s = record {
+  pub served_along : (words : ServeWords) (served : Served) (left : Leaves N) (trace : List Entry)
+      → IsServed of shown_in words served left trace → IsServed stands shown words served (left_of left) trace
+  served_along words served left trace s = record {
     awake = s.awake;
     settled = λ before x behind is. settled_at before x (s.settled before x behind is);
     closed = s.closed;
@@ -81,5 +83,5 @@ module _ {N M : Type 0} (f : N → M) (stands : List Note → M → List Entry �
     links_are = s.links_are;
     revoked_are = s.revoked_are;
     wanting_is = s.wanting_is;
-    noted = λ ends kept. totalled keep served.totals trace (s.noted ends kept);
+    noted = λ ends kept. totalled left served.totals trace (s.noted ends kept);
   }

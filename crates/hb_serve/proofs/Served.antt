@@ -14,7 +14,6 @@ use Rattle.hb_turns.specs.Settled as rests
 use Rattle.hb_turns.specs.declared.served.Served.{Served}
 use Rattle.hb_turns.specs.declared.served.ServeEnd.{ServeEnd}
 use Rattle.hb_turns.specs.declared.served.ServeEnd.TheVariants as ends
-use Rattle.hb_turns.specs.declared.served.Totals.{Totals}
 use Rattle.hb_turns.specs.declared.words.ServeWords.{ServeWords as LoopWords}
 use Rattle.hb_whole.proofs.Settling.{settled_in}
 use Rattle.hb_whole.specs.Queue.{told, waiting_in}
@@ -24,9 +23,11 @@ use Rattle.hb_whole.specs.declared.proxy.Proxy.{Proxy}
 use Rattle.hb_world.specs.declared.entry.Entry.{Entry}
 use Rattle.hb_world.specs.declared.entry.Entry.TheVariants as e
 use Rattle.hb_laws.specs.Lawful.{GoesOn}
-use Rattle.hb_serve.specs.Served.{StandsAs, AreLawful, HasNotes, IsServed, IsTotalled, Serves, words_of}
+use Rattle.hb_serve.specs.Served.{StandsAs, AreLawful, HasNotes, Serves, heard_of, words_of}
 use Rattle.hb_serve.specs.declared.words.ServeWords.{ServeWords}
 use Rattle.hb_laws.proofs.Runs.{run_is_lawful}
+use Rattle.hb_serve.proofs.Along.{served_along}
+use Rattle.hb_serve.proofs.Asking.{Held, StandsIn}
 
 -- what a proxy stands for whose run goes on
 goes_on : (g : NodeConfig) (taken : List Note) (p : Proxy) (trace : List Entry) → StandsAs g taken p trace → p.ends_for ≡ None
@@ -63,17 +64,6 @@ has_notes g taken p trace stands none =
       notes_are = all_taken taken (told p.side.notes) stands.0.points stands.0.noted none;
     })
 
-totalled : (g : NodeConfig) (keep : Option (List Note)) (totals : Totals) (trace : List Entry)
-    → turns.IsTotalled (StandsAs g) shown_of keep totals trace → IsTotalled g keep totals trace
-totalled g keep totals trace t =
-    let all = t.are_notes in
-    record {
-      notes = t.notes;
-      has_notes = has_notes g t.notes all.node trace all.stands_for all.none_waits;
-      kept_are = t.kept_are;
-      totals_are = t.totals_are;
-    }
-
 -- at a wait
 settled_at : (g : NodeConfig) (before : List Entry) (z : Entry) → rests.SettledAt (StandsAs g) shown_of before z → SettledAt g before z
 settled_at g before (e.Wait ready how) s =
@@ -84,20 +74,43 @@ settled_at g before z s = tt
 settled : (g : NodeConfig) (trace : List Entry) → rests.SettledLaw (StandsAs g) shown_of trace → SettledLaw g trace
 settled g trace law before z after is = settled_at g before z (law before z after is)
 
-serves : (words : ServeWords) (served : Served) (keep : Option (List Note)) (trace : List Entry)
-    → turns.IsServed (StandsAs words.config) shown_of (words_of words) served keep trace → IsServed words served keep trace
-serves words served keep trace run = record {
-  run = run;
-  settled = settled words.config trace run.settled;
-  lawful = are_lawful words.config served.end run.over.before run.over.stood_for;
-  noted = λ ends kept. totalled words.config keep served.totals trace (run.noted ends kept);
-}
+-- a node that has a proxy in it, and audits
+module _ {N : Type 0} (f : N → Proxy) (h : N → Held) (before : Held) where
+  gives : (g : NodeConfig) (notes : List Note) (n : N) (trace : List Entry) → StandsIn f h g before notes n trace
+      → StandsAs g notes (f n) trace
+  gives g notes n trace stands = (stands.0, stands.1.0)
 
--- of a node that is asked for this, and of what the event loop is asked for with it
-pub serves_so : (g : NodeConfig) (asked : LoopWords) (words : ServeWords) (served : Served) (keep : Option (List Note)) (trace : List Entry)
-    → words.config ≡ g → asked ≡ words_of words → turns.IsServed (StandsAs g) shown_of asked served keep trace
-    → Serves words served keep trace
-serves_so g asked words served keep trace config is run =
-    inr (serves words served keep trace
-    (subst (λ (h : NodeConfig). turns.IsServed (StandsAs h) shown_of (words_of words) served keep trace) (sym config)
-    (subst (λ (w : LoopWords). turns.IsServed (StandsAs g) shown_of w served keep trace) is run)))
+  -- its run, and the notes that were told
+  served_with : (words : ServeWords) (served : Served) (keep : Option (List Note)) (n : N) (trace : List Entry)
+      → turns.IsServed (StandsIn f h words.config before) (λ m. shown_of (f m)) (words_of words) served (turns.leaves keep n) trace
+      → Serves words served keep (heard_of before (h n)) trace
+  served_with words served keep n trace run =
+      let g = words.config in
+      let along = served_along f (StandsIn f h g before) (StandsAs g) (gives g) shown_of (words_of words) served (turns.leaves keep n) trace run in
+      inr (
+        record {
+          proxy = f n;
+          run = along;
+          settled = settled g trace along.settled;
+          lawful = are_lawful g served.end along.over.before along.over.stood_for;
+          noted = λ ends kept. let t = run.noted ends kept in
+              record {
+                notes = t.notes;
+                has_notes = has_notes g t.notes (f n) trace (gives g t.notes n trace t.are_notes.stands_for) t.are_notes.none_waits;
+                kept_are = t.kept_are;
+                totals_are = t.totals_are;
+              };
+        },
+        λ ends kept. (run.noted ends kept).are_notes.stands_for.1.1,
+      )
+
+  -- of a node that is asked for this, and of what the event loop is asked for with it
+  pub serves_so : (g : NodeConfig) (asked : LoopWords) (words : ServeWords) (served : Served) (keep : Option (List Note)) (n : N)
+      (trace : List Entry) → words.config ≡ g → asked ≡ words_of words
+      → turns.IsServed (StandsIn f h g before) (λ m. shown_of (f m)) asked served (turns.leaves keep n) trace
+      → Serves words served keep (heard_of before (h n)) trace
+  serves_so g asked words served keep n trace config is run =
+      served_with words served keep n trace
+      (subst (λ (c : NodeConfig). turns.IsServed (StandsIn f h c before) (λ m. shown_of (f m)) (words_of words) served (turns.leaves keep n) trace)
+      (sym config)
+      (subst (λ (w : LoopWords). turns.IsServed (StandsIn f h g before) (λ m. shown_of (f m)) w served (turns.leaves keep n) trace) is run))

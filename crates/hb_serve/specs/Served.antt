@@ -1,6 +1,7 @@
 -- What holds of a run of the proxy that is over.
 use Rattle.std.specs.Prelude.{◌≡◌, ◌⊎◌, ℕ, false, List, [], ◌++◌, Option, None}
 use Rattle.std.specs.Option.{option_to_list}
+use Rattle.hb_audit.specs.Tells as audits
 use Rattle.hb_base.specs.declared.note.Note.{Note}
 use Rattle.hb_base.specs.declared.target.Target.{Target}
 use Rattle.hb_links.specs.Reaches.{notes as notes_of}
@@ -55,9 +56,11 @@ pub record IsTotalled (g : NodeConfig) (keep : Option (List Note)) (totals : Tot
 
 -- A run that is over, of a node that was asked for this
 pub record IsServed (words : ServeWords) (served : Served) (keep : Option (List Note)) (trace : List Entry) : Type 0 where
+  -- the proxy that is left
+  pub proxy : Proxy
   -- what the event loop says of it: the trace obeys the awake law and the settled law, at its end no link lives; how it ended, how many
   -- links were born, how many dialled ones an update of the policies closed, and whether one was closed for want of memory
-  pub run : turns.IsServed (StandsAs words.config) shown_of (words_of words) served keep trace
+  pub run : turns.IsServed (StandsAs words.config) shown_of (words_of words) served (turns.leaves keep proxy) trace
   -- at each wait the machine is settled: nothing is left to be done but what sleeps
   pub settled : SettledLaw words.config trace
   -- in front of the closes at its end the trace is lawful
@@ -71,6 +74,22 @@ pub record LacksNode (served : Served) (trace : List Entry) : Type 0 where
   pub totals : served.totals ≡ no_totals
   pub none : trace ≡ []
 
--- a run was served, or nothing was done
-abbrev pub Serves : ServeWords → Served → Option (List Note) → List Entry → Type 0
-Serves words served keep trace = LacksNode served trace ⊎ IsServed words served keep trace
+-- what the audits held before a run, and what those hold that are left behind it
+pub record Heard : Type 0 where
+  pub before : List (Option (List Note))
+  pub after : List (Option (List Note))
+
+abbrev pub heard_of : List (Option (List Note)) → List (Option (List Note)) → Heard
+heard_of before after = record { before = before; after = after }
+
+-- unless memory lacked, all notes of the run were told to the audits, one after the other, and those that kept each are left
+abbrev pub AreTold : (words : ServeWords) (served : Served) (keep : Option (List Note)) (trace : List Entry)
+    → IsServed words served keep trace → Heard → Type 0
+AreTold words served keep trace run heard = (lacks_none : served.end ≡ ends.NoMemory → ⊥) (keeps_all : served.unkept ≡ false)
+    → audits.Tells heard.before heard.after (run.noted lacks_none keeps_all).notes
+
+-- a run was served, and its notes told; or nothing was done
+abbrev pub Serves : ServeWords → Served → Option (List Note) → Heard → List Entry → Type 0
+Serves words served keep heard trace =
+    (LacksNode served trace × (heard.after ≡ heard.before))
+    ⊎ ((run : IsServed words served keep trace) × AreTold words served keep trace run heard)

@@ -1,60 +1,88 @@
-//! The proxy as the event loop runs it, of which contracts know what it is asked for.
+//! The proxy as the event loop runs it, with the audits to which its notes are told. Contracts know what it is asked for, and what the
+//! audits held before the run.
 
-ghost use Rattle.std.specs.Prelude.{◌≡◌, [], IfOk};
-ghost use Rattle.hb_whole.specs.Sight.{shown_of};
-ghost use Rattle.hb_turns.specs.Served.{IsFreshNode};
-ghost use Rattle.hb_serve.specs.Served.{StandsAs};
+ghost use Rattle.std.specs.Prelude.{◌≡◌, ◌++◌, List, Option};
+ghost use Rattle.std.specs.Option.{option_to_list};
+ghost use Rattle.hb_audit.specs.HeldBy.{held_by};
+ghost use Rattle.hb_audit.specs.Tells.{Tells};
+ghost use Rattle.hb_base.specs.declared.note.Note.{Note};
 
+use hb_audit::{Audit, Audits};
 use hb_base::{Cause, Door, NoMemory, Note, Why};
-use hb_model::NodeConfig;
 use hb_turns::Node;
-use hb_whole::{Limits, Proxy};
+use hb_whole::Proxy;
 use hb_world::Act;
-use std::alloc::Global;
 use std::marker::{Brand, PhantomData};
 
-/// What a node is asked for, which contracts name by a type. No code reads it.
+/// What a node is asked for, and what the audits held before its run, which contracts name by a type. No code reads it.
 pub(crate) trait Given {
+    ghost use Rattle.std.specs.Prelude.{List, Option};
+    ghost use Rattle.hb_base.specs.declared.note.Note.{Note};
     ghost use Rattle.hb_model.specs.declared.config.NodeConfig.{NodeConfig};
 
     ghost config: { NodeConfig };
+
+    ghost held: { List (Option (List Note)) };
 }
 
 impl Given for Brand {
+    ghost use Rattle.std.specs.Prelude.{[]};
     ghost use Rattle.hb_serve.specs.Asked.{nobody};
 
     ghost config = { nobody };
+
+    ghost held = { [] };
 }
 
-/// A proxy that was asked for this.
+/// A proxy that was asked for this, and the audits that are left.
 #[derive(Drop)]
-pub(crate) struct Asked<G: Given> {
+pub(crate) struct Asked<G: Given, A> {
     proxy: Proxy,
+    audits: Audits<A>,
     of: PhantomData<G>,
 }
 
-impl<G: Given> Asked<G> {
-    /// A new one.
-    ///
-    /// Errors: `NoMemory`.
-    pub fn new(alloc: Global, config: NodeConfig, limits: Limits) -> Result<Asked<G>, NoMemory>
-        requires { config ≡ G.config }
-        ensures stands { IfOk result (λ node. StandsAs G.config [] node.proxy []) }
-        ensures fresh { IfOk result (λ node. IsFreshNode (shown_of node.proxy)) }
+impl<G: Given, A: Audit> Asked<G, A> {
+    /// One whose notes are told to these audits.
+    pub fn over(proxy: Proxy, audits: Audits<A>) -> Asked<G, A>
+        ensures proxy { result.proxy ≡ proxy }
+        ensures audits { result.audits ≡ audits }
     {
-        Ok(Asked {
-            proxy: Proxy::new(alloc, config, limits)?,
+        Asked {
+            proxy,
+            audits,
             of: PhantomData,
-        })
+        }
+    }
+
+    /// The audits that are left.
+    pub fn into_audits(self) -> Audits<A>
+        ensures { result ≡ self.audits }
+    {
+        self.audits
     }
 }
 
-impl<G: Given> Node for Asked<G> {
+/// Tells a note, where there is one.
+fn tell<A: Audit>(audits: &mut Audits<A>, note: &Option<Note>)
+    ensures { (before : List (Option (List Note))) (taken : List Note) → Tells before (held_by A.notes audits.old) taken
+        → Tells before (held_by A.notes audits.new) (taken ++ option_to_list note.now) }
+{
+    match note {
+        Some(told) => {
+            let _ = audits.tell(told);
+        }
+        None => {}
+    }
+}
+
+impl<G: Given, A: Audit> Node for Asked<G, A> {
+    ghost use Rattle.hb_audit.specs.HeldBy.{held_by};
     ghost use Rattle.hb_whole.proofs.Resting as whole;
     ghost use Rattle.hb_whole.specs.Sight.{shown_of};
-    ghost use Rattle.hb_serve.specs.Served.{StandsAs};
+    ghost use Rattle.hb_serve.specs.Asked.{StandsWith};
 
-    ghost stands = { λ taken node trace. StandsAs G.config taken node.proxy trace };
+    ghost stands = { λ taken node trace. StandsWith G.config G.held taken node.proxy (held_by A.notes node.audits) trace };
 
     ghost shown = { λ node. shown_of node.proxy };
 
@@ -107,8 +135,11 @@ impl<G: Given> Node for Asked<G> {
         self.proxy.next_act()
     }
 
+    /// Each note is told to the audits when it is taken; one that doesn't keep it is dropped, and the run goes on.
     fn next_note(&mut self) -> Result<Option<Note>, NoMemory> {
-        self.proxy.next_note()
+        let note = self.proxy.next_note()?;
+        tell(&mut self.audits, &note);
+        Ok(note)
     }
 
     fn stop(&mut self, cause: Cause) {

@@ -2,6 +2,7 @@
 #![tactic(auto)]
 
 mod asked;
+pub mod laws;
 mod service;
 mod words;
 

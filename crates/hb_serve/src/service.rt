@@ -1,18 +1,21 @@
 //! A run of the proxy, from its start to its end.
 
 ghost use Rattle.std.specs.Prelude.{◌≡◌, [], Some, IfSome};
+ghost use Rattle.hb_audit.specs.HeldBy.{held_by};
 ghost use Rattle.hb_base.specs.Count.{Counts};
 ghost use Rattle.hb_turns.specs.Ends.{is_fault};
-ghost use Rattle.hb_serve.specs.Served.{loop_words, Serves};
+ghost use Rattle.hb_serve.specs.Served.{loop_words, heard_of, Serves};
 
 use crate::asked::{Asked, Given};
 use crate::words::ServeWords;
+use hb_audit::{Audit, Audits};
 use hb_base::Target;
 use hb_turns::{Doors, Keep, ServeWords as LoopWords, Served, serve as run};
-use hb_whole::Limits;
+use hb_whole::{Limits, Proxy};
 use hb_world::World;
 use std::alloc::Global;
 use std::marker::Brand;
+use std::mem;
 
 /// The most inbound links that may be open at a time.
 const MOST_LINKS: usize = 1024;
@@ -33,14 +36,17 @@ fn loop_words(inbound: Option<Target>, turns: u64, ticks: Option<u64>) -> LoopWo
 }
 
 /// Runs the proxy that contracts know to be asked for so.
-fn serve_asked<G: Given, W: World>(
+fn serve_asked<G: Given, A: Audit, W: World>(
     alloc: Global,
     words: ServeWords,
     keep: &mut Keep,
+    audits: &mut Audits<A>,
     world: &mut W,
 ) -> Served
-    requires { words.config ≡ G.config }
-    ensures served { W.trace world.old ≡ Some [] → IfSome (W.trace world.new) (Serves words result keep.new) }
+    requires config { words.config ≡ G.config }
+    requires held { held_by A.notes audits.old ≡ G.held }
+    ensures served { W.trace world.old ≡ Some [] → IfSome (W.trace world.new)
+        (Serves words result keep.new (heard_of (held_by A.notes audits.old) (held_by A.notes audits.new))) }
     ensures faults { Counts (W.faults world.old) (W.faults world.new) (is_fault result.end) }
     ensures follows { W.script world.new ≡ W.script world.old }
 {
@@ -49,19 +55,30 @@ fn serve_asked<G: Given, W: World>(
         tunnels: words.tunnels,
     };
     let asked = loop_words(words.inbound, words.turns, words.ticks);
-    match Asked::<G>::new(alloc, words.config, limits) {
-        Ok(node) => run(alloc, node, asked, keep, world),
-        Err(_) => Served::nothing(),
-    }
+    let Ok(proxy) = Proxy::new(alloc, words.config, limits) else {
+        return Served::nothing();
+    };
+    let told = mem::replace(audits, Audits::none(alloc));
+    let (served, node) = run(alloc, Asked::<G, A>::over(proxy, told), asked, keep, world);
+    *audits = node.into_audits();
+    served
 }
 
 /// Runs the proxy over a world: it listens at the inbound door, where that is given, then goes on until a listen or a wait fails, a wait
-/// tells a stop, the ticks passed or the turns are spent, or memory lacks. Then each link is closed. The keep holds the notes of this run
-/// alone. Where memory lacks for the proxy itself, nothing is done.
-pub fn serve<W: World>(alloc: Global, words: ServeWords, keep: &mut Keep, world: &mut W) -> Served
-    ensures served { W.trace world.old ≡ Some [] → IfSome (W.trace world.new) (Serves words result keep.new) }
+/// tells a stop, the ticks passed or the turns are spent, or memory lacks. Then each link is closed. Each note is told to the audits when
+/// it is made, and one that doesn't keep it is dropped. The keep holds the notes of this run alone. Where memory lacks for the proxy
+/// itself, nothing is done.
+pub fn serve<A: Audit, W: World>(
+    alloc: Global,
+    words: ServeWords,
+    keep: &mut Keep,
+    audits: &mut Audits<A>,
+    world: &mut W,
+) -> Served
+    ensures served { W.trace world.old ≡ Some [] → IfSome (W.trace world.new)
+        (Serves words result keep.new (heard_of (held_by A.notes audits.old) (held_by A.notes audits.new))) }
     ensures faults { Counts (W.faults world.old) (W.faults world.new) (is_fault result.end) }
     ensures follows { W.script world.new ≡ W.script world.old }
 {
-    serve_asked::<Brand, W>(alloc, words, keep, world)
+    serve_asked::<Brand, A, W>(alloc, words, keep, audits, world)
 }

@@ -1,13 +1,22 @@
+use Rattle.std.proofs.Common.{IfSome, sym, subst}
 use Rattle.std.proofs.lemmas.Option.{IfSome_then}
+use Rattle.hb_audit.specs.HeldBy.{held_by}
+use Rattle.hb_audit.specs.declared.audits.Audits.{Audits}
 use Rattle.hb_serve.specs.declared.asked.Asked.{Asked}
-use Rattle.hb_serve.specs.Served.{StandsAs}
-use Rattle.hb_whole.specs.Sight.{shown_of}
-use Rattle.hb_serve.proofs.Along.{served_along}
+use Rattle.hb_serve.specs.Served.{Serves, heard_of}
+use Rattle.hb_serve.proofs.Asking.{Held}
 use Rattle.hb_serve.proofs.Served.{serves_so}
 use Rattle.hb_serve.proofs.service.serve_asked.Goals as goal
 
-pub returns-in-Ok-clause-served : goal.returns-in-Ok-clause-served
-returns-in-Ok-clause-served g c = λ fresh.
-    IfSome_then (g.W.World.trace c.serve.new.world) (c.serve.ensures.served fresh)
-    (λ trace run. serves_so g.G.Given.config _ c.args.words c.serve.result c.serve.new.keep trace c.requires c.loop_words-asked.ensures
-    (served_along (λ (n : Asked g.row.G.Denot). n.proxy) (StandsAs g.G.Given.config) shown_of _ c.serve.result c.serve.new.keep trace run))
+pub returns-clause-served : goal.returns-clause-served
+returns-clause-served g c = λ fresh.
+    let told = IfSome_then (g.W.World.trace c.serve-node.new.world) (c.serve-node.ensures.served fresh)
+    (λ trace run. serves_so (λ (n : Asked g.row.G.Denot g.row.A.Denot). n.proxy)
+    (λ (n : Asked g.row.G.Denot g.row.A.Denot). held_by g.A.Audit.notes n.audits) g.G.Given.held g.G.Given.config _ c.args.words
+    c.serve-node.result.0 c.serve-node.new.keep c.serve-node.result.1 trace c.requires.config c.loop_words-asked.ensures run) in
+    subst (λ (a : Audits g.row.A.Denot). IfSome (g.W.World.trace c.serve-node.new.world)
+    (Serves c.args.words c.serve-node.result.0 c.serve-node.new.keep
+    (heard_of (held_by g.A.Audit.notes c.args.audits.now) (held_by g.A.Audit.notes a)))) (sym c.into_audits.ensures)
+    (subst (λ (before : Held). IfSome (g.W.World.trace c.serve-node.new.world)
+    (Serves c.args.words c.serve-node.result.0 c.serve-node.new.keep
+    (heard_of before (held_by g.A.Audit.notes c.serve-node.result.1.audits)))) (sym c.requires.held) told)

@@ -3,5 +3,5 @@ use Rattle.hb_serve.proofs.asked.AskedNode.dialled.Goals as goal
 
 pub returns : goal.returns
 returns g c =
-    on_ok _ _ _ c.dialled.result (λ tells same to. tells_as g.G.Given.config _ _ _ (tells to) same) c.dialled.ensures.tells
+    on_ok _ _ _ c.dialled.result (λ tells same to. tells_as g.G.Given.config g.G.Given.held _ _ _ _ (tells to) same) c.dialled.ensures.tells
     c.dialled.ensures.config

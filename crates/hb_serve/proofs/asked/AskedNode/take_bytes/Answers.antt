@@ -3,5 +3,5 @@ use Rattle.hb_serve.proofs.asked.AskedNode.take_bytes.Goals as goal
 
 pub returns : goal.returns
 returns g c =
-    on_ok _ _ _ c.take_bytes.result (λ tells same. tells_as g.G.Given.config _ _ _ tells same) c.take_bytes.ensures.tells
+    on_ok _ _ _ c.take_bytes.result (λ tells same. tells_as g.G.Given.config g.G.Given.held _ _ _ _ tells same) c.take_bytes.ensures.tells
     c.take_bytes.ensures.config

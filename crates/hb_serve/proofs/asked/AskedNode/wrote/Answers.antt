@@ -2,4 +2,4 @@ use Rattle.hb_serve.proofs.Asking.{tells_as}
 use Rattle.hb_serve.proofs.asked.AskedNode.wrote.Goals as goal
 
 pub returns : goal.returns
-returns g c = tells_as g.G.Given.config _ _ _ c.wrote.ensures.tells c.wrote.ensures.config
+returns g c = tells_as g.G.Given.config g.G.Given.held _ _ _ _ c.wrote.ensures.tells c.wrote.ensures.config

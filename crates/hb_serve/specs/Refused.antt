@@ -1,0 +1,41 @@
+-- Audits behind a run, right and wrong.
+use Rattle.std.specs.Prelude.{◌≡◌, false, List, [], ◌∷◌, Option, Some, None}
+use Rattle.hb_base.specs.declared.note.Note.{Note}
+use Rattle.hb_turns.specs.declared.served.Served.{Served}
+use Rattle.hb_turns.specs.declared.served.ServeEnd.TheVariants as ends
+use Rattle.hb_world.specs.declared.entry.Entry.{Entry}
+use Rattle.hb_serve.specs.Served.{IsServed, AreTold, heard_of}
+use Rattle.hb_serve.specs.declared.words.ServeWords.{ServeWords}
+
+module _ (words : ServeWords) (served : Served) (keep : Option (List Note)) (trace : List Entry) where
+  -- these are all notes of a run in which memory didn't lack
+  abbrev pub NotesAre : IsServed words served keep trace → List Note → Type 0
+  NotesAre run notes = (lacks_none : served.end ≡ ends.NoMemory → ⊥) (keeps_all : served.unkept ≡ false)
+      → (run.noted lacks_none keeps_all).notes ≡ notes
+
+  -- one that tells its notes, and one that doesn't, were told all
+  abbrev pub HoldAll : Type 0
+  HoldAll = (run : IsServed words served keep trace) (notes : List Note) → NotesAre run notes
+      → AreTold words served keep trace run (heard_of (Some [] ∷ None ∷ []) (Some notes ∷ None ∷ []))
+
+  -- one is left that holds others, fewer or more
+  abbrev pub HoldsOthers : Type 0
+  HoldsOthers = (run : IsServed words served keep trace) (notes holds : List Note) → NotesAre run notes
+      → (served.end ≡ ends.NoMemory → ⊥) → served.unkept ≡ false → (holds ≡ notes → ⊥)
+      → AreTold words served keep trace run (heard_of (Some [] ∷ []) (Some holds ∷ [])) → ⊥
+
+  -- one is left that wasn't there
+  abbrev pub OneMoreIsLeft : Type 0
+  OneMoreIsLeft = (run : IsServed words served keep trace) → (served.end ≡ ends.NoMemory → ⊥) → served.unkept ≡ false
+      → AreTold words served keep trace run (heard_of [] (None ∷ [])) → ⊥
+
+abbrev pub AllRunsHoldAll : Type 0
+AllRunsHoldAll = (words : ServeWords) (served : Served) (keep : Option (List Note)) (trace : List Entry) → HoldAll words served keep trace
+
+abbrev pub NoRunHoldsOthers : Type 0
+NoRunHoldsOthers = (words : ServeWords) (served : Served) (keep : Option (List Note)) (trace : List Entry)
+    → HoldsOthers words served keep trace
+
+abbrev pub NoRunLeavesOneMore : Type 0
+NoRunLeavesOneMore = (words : ServeWords) (served : Served) (keep : Option (List Note)) (trace : List Entry)
+    → OneMoreIsLeft words served keep trace
