@@ -1,5 +1,6 @@
 -- A run of the proxy over a script, as its trace and its notes tell it.
-use Rattle.std.specs.Prelude.{◌≡◌, ◌⊎◌, ℕ, false, List, [], Option, None, Some, Result, Ok, Err}
+use Rattle.std.specs.Prelude.{⊤, ◌≡◌, ◌⊎◌, ℕ, false, List, [], Option, None, Some, Result, Ok, Err}
+use Rattle.hb_audit.specs.Tells.{Tells}
 use Rattle.hb_base.specs.declared.note.Note.{Note}
 use Rattle.hb_base.specs.declared.or.Or.{Or}
 use Rattle.hb_base.specs.declared.or.Or.TheVariants.{Fault, NoMemory}
@@ -74,3 +75,9 @@ Replays r text left (Ok told) =
     (lines text ≡ Ok left.script.lines) × IsRun r told.end (done_in left) × (told.report.items ≡ report_of r (done_in left))
 Replays r text left (Err (Fault fault)) = (lines text ≡ Err fault) × (left.script.trace ≡ [])
 Replays r text left (Err NoMemory) = DoneLawfully r left.script.trace
+
+-- What a replay tells to audits that held the first and hold the second behind it: all its notes; where a row is no line, none
+abbrev pub TellsNotes : List (Option (List Note)) → List (Option (List Note)) → List Note → Result Replayed (Or ScriptFault) → Type 0
+TellsNotes before after notes (Ok told) = Tells before after notes
+TellsNotes before after notes (Err (Fault fault)) = after ≡ before
+TellsNotes before after notes (Err NoMemory) = ⊤

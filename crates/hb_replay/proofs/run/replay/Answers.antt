@@ -4,8 +4,8 @@ use Rattle.hb_words.specs.AskedRun.{replay_seen}
 use Rattle.hb_replay.proofs.Runs.{reported}
 use Rattle.hb_replay.proofs.run.replay.Goals as goal
 
-pub returns : goal.returns
-returns c =
+pub returns-clause-replays : goal.returns-clause-replays
+returns-clause-replays g c =
     let loaded = c.in_ok-load.ensures.ok in (
       c.in_ok-lines_of.ensures ∙ ap Ok (sym (c.run_over.ensures.lines ∙ ap (λ (w : ScriptState). w.lines) loaded)),
       c.in_ok-end.ensures.runs,

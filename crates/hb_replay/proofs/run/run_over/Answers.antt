@@ -4,11 +4,16 @@ use Rattle.hb_replay.proofs.Runs.{replayed}
 use Rattle.hb_replay.proofs.run.run_over.Goals as goal
 
 pub returns-in-Some-clause-runs : goal.returns-in-Some-clause-runs
-returns-in-Some-clause-runs c =
-    (replayed (replay_seen c.args.words.now) _ _ _ _ _ c.in_ok-serve_words.ensures (c.serve-served.ensures.served (ap Some c.requires))
+returns-in-Some-clause-runs g c =
+    (replayed (replay_seen c.args.words.now) _ _ _ _ _ _ c.in_ok-asked.ensures (c.serve-served.ensures.served (ap Some c.requires))
     (sym c.ended_as.ensures ∙ c.in-Some.is) (sym c.keeps.ensures ∙ c.if-not-keeps.false)).0
 
 pub returns-in-Some-clause-totals : goal.returns-in-Some-clause-totals
-returns-in-Some-clause-totals c =
-    (replayed (replay_seen c.args.words.now) _ _ _ _ _ c.in_ok-serve_words.ensures (c.serve-served.ensures.served (ap Some c.requires))
+returns-in-Some-clause-totals g c =
+    (replayed (replay_seen c.args.words.now) _ _ _ _ _ _ c.in_ok-asked.ensures (c.serve-served.ensures.served (ap Some c.requires))
     (sym c.ended_as.ensures ∙ c.in-Some.is) (sym c.keeps.ensures ∙ c.if-not-keeps.false)).1
+
+pub returns-in-Some-clause-told : goal.returns-in-Some-clause-told
+returns-in-Some-clause-told g c =
+    (replayed (replay_seen c.args.words.now) _ _ _ _ _ _ c.in_ok-asked.ensures (c.serve-served.ensures.served (ap Some c.requires))
+    (sym c.ended_as.ensures ∙ c.in-Some.is) (sym c.keeps.ensures ∙ c.if-not-keeps.false)).2
