@@ -232,7 +232,7 @@ impl Held {
         self.settled
     }
 
-    /// Where the node's own door for tunnels listens, if it has one.
+    /// Where the node's own door for tunnels listens. `None`: it has none.
     pub fn inbound(&self) -> Option<Target>
         ensures { result ≡ self.now.inbound }
     {
