@@ -1,4 +1,5 @@
 pub mod Endings
+pub mod Hearing
 pub mod Inputs
 pub mod Outcomes
 pub mod Printing

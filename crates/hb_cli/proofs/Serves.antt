@@ -1,9 +1,7 @@
 -- What `serve` does, from what is said of its run, and what follows at each status.
-use Rattle.std.proofs.Common.{◌≡◌, ◌≢◌, ℕ, ◌==◌, Bool, true, false, List, [], Option, Some, None, Result, Ok, Err, refl, sym, ap, subst, ◌∙◌, inl, inr, arith}
-use Rattle.std.proofs.lemmas.Bool.Decides.{nat_tests}
+use Rattle.std.proofs.Common.{◌≡◌, ◌≢◌, ℕ, ◌==◌, true, false, List, [], Option, Some, Result, Ok, Err, refl, sym, ap, subst, inl, inr}
 use Rattle.std.proofs.lemmas.Option.{IfSome_then}
-use Rattle.std.specs.Bool.{MatchBool}
-use Rattle.std.specs.Prelude.{IfSome, IsTrue}
+use Rattle.std.specs.Prelude.{◌⊎◌, IfSome, IsTrue}
 use Rattle.hb_base.specs.Count.{Counts}
 use Rattle.hb_report.specs.Total.{total_line}
 use Rattle.hb_turns.specs.Ends.{is_fault}
@@ -18,7 +16,7 @@ use Rattle.hb_replay.specs.Run.{Done}
 use Rattle.hb_replay.specs.declared.end.ReplayEnd.{ReplayEnd}
 use Rattle.hb_replay.specs.declared.end.ReplayEnd.TheVariants as ends
 use Rattle.hb_replay.proofs.Runs.{ran, ended_so}
-use Rattle.hb_cli.specs.Ending.{Use, Untouched, Tells}
+use Rattle.hb_cli.specs.Ending.{Use, Tells}
 use Rattle.hb_cli.specs.Run.{is_status, is_answered, takes_input, line_at, world_fault_line, turns_spent_line}
 use Rattle.hb_cli.specs.Serving.{WorldUse, Worked, RanTo, PrintsRun, PrintsTotals, PrintsPart, Lacks, ServesAt, is_world_fault}
 use Rattle.hb_cli.proofs.Endings.{pick}
@@ -45,7 +43,7 @@ module _ (s : Serve) (w : WorldUse) where
   ran_to told end ended worked = (
     ended,
     λ fresh. IfSome_then w.trace_after (worked.0 fresh)
-        (λ trace run. let r = ran told end ended (words_of s.run s.ticks) run.0 trace run.1 in (run.0, r.0, r.2)),
+        (λ trace run. let r = ran told end ended (words_of s.run s.ticks) run.0 trace w.heard run.1 in (run.0, r.0, r.2, r.3)),
     subst (Counts w.faults w.faults_after) (same_fault told.end end (ended_so told end ended)) worked.1,
   )
 
@@ -88,6 +86,11 @@ module _ (s : Serve) (w : WorldUse) where
 
     pub never_three : (status : ℕ) → ServesAt s w out err status → status ≡ 3 → ⊥
     never_three status e is = subst (ServesAt s w out err) is e
+
+    pub never_refused : (status : ℕ) → ServesAt s w out err status → (status ≡ 2) ⊎ (status ≡ 3) ⊎ (status ≡ 6) → ⊥
+    never_refused status e (inl is) = subst (ServesAt s w out err) is e
+    never_refused status e (inr (inl is)) = subst (ServesAt s w out err) is e
+    never_refused status e (inr (inr is)) = subst (ServesAt s w out err) is e
 
     pub reads_none : (status before after : ℕ) → ServesAt s w out err status → after ≡ before → Counts before after (status == 6)
     reads_none status before after e same =

@@ -1,5 +1,6 @@
 pub mod Answer
 pub mod Ending
+pub mod Hearing
 pub mod Input
 pub mod Judge
 pub mod Replaying

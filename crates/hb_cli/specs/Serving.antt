@@ -1,10 +1,11 @@
--- What `serve` does: it runs the proxy over a world, reads no input and prints the totals of the run.
+-- What `serve` does: it runs the proxy over a world, tells its notes to audits, reads no input and prints the totals of the run.
 use Rattle.std.specs.Prelude.{◌≡◌, ◌⊎◌, ℕ, ◌==◌, Bool, true, false, List, [], Option, Some, IfSome}
 use Rattle.std.specs.Bool.{MatchBool}
+use Rattle.hb_audit.specs.Tells as audits
 use Rattle.hb_base.specs.Count.{Counts}
 use Rattle.hb_base.specs.declared.note.Note.{Note}
 use Rattle.hb_report.specs.Total.{total_line}
-use Rattle.hb_serve.specs.Served.{Serves}
+use Rattle.hb_serve.specs.Served.{Heard, Serves}
 use Rattle.hb_turns.specs.Ends.{is_fault}
 use Rattle.hb_turns.specs.declared.served.Served.{Served}
 use Rattle.hb_words.specs.Command.{Serve}
@@ -19,20 +20,22 @@ use Rattle.hb_cli.specs.Ending.{Use, Untouched, WritesAll, WritesPart, Tells}
 use Rattle.hb_cli.specs.Replaying.{EndsRun}
 use Rattle.hb_cli.specs.Run.{stop_line, write_fault_line, world_fault_line, turns_spent_line}
 
--- what a run does with a world: the trace that this tells, and its count of listens and waits that failed, before and after
+-- what a run does with a world and with audits: the trace that the world tells, and its count of listens and waits that failed, before
+-- and after; and what the audits held and those hold that are left
 pub record WorldUse : Type 0 where
   pub trace : Option (List Entry)
   pub trace_after : Option (List Entry)
   pub faults : ℕ
   pub faults_after : ℕ
+  pub heard : Heard
 
-abbrev pub world_use : Option (List Entry) → Option (List Entry) → ℕ → ℕ → WorldUse
-world_use trace trace_after faults faults_after =
-    record { trace = trace; trace_after = trace_after; faults = faults; faults_after = faults_after }
+abbrev pub world_use : Option (List Entry) → Option (List Entry) → ℕ → ℕ → Heard → WorldUse
+world_use trace trace_after faults faults_after heard =
+    record { trace = trace; trace_after = trace_after; faults = faults; faults_after = faults_after; heard = heard }
 
--- no call was made
+-- no call was made, and nothing was told
 abbrev pub Unused : WorldUse → Type 0
-Unused w = (w.trace_after ≡ w.trace) × (w.faults_after ≡ w.faults)
+Unused w = (w.trace_after ≡ w.trace) × (w.faults_after ≡ w.faults) × (w.heard.after ≡ w.heard.before)
 
 -- the trace is so, where the world tells it and no call was made before
 abbrev pub LeavesTrace : WorldUse → (List Entry → Type 0) → Type 0
@@ -41,19 +44,20 @@ LeavesTrace w P = w.trace ≡ Some [] → IfSome w.trace_after P
 -- the proxy that is asked for was served over the world, or memory lacked for it and nothing was done
 abbrev pub Worked : Serve → WorldUse → Served → Type 0
 Worked s w told =
-    LeavesTrace w (λ trace. (keep : Option (List Note)) × Serves (words_of s.run s.ticks) told keep trace)
+    LeavesTrace w (λ trace. (keep : Option (List Note)) × Serves (words_of s.run s.ticks) told keep w.heard trace)
     × Counts w.faults w.faults_after (is_fault told.end)
 
 abbrev pub is_world_fault : ReplayEnd → Bool
 is_world_fault ends.WorldFault = true
 is_world_fault _ = false
 
--- it was served, ended so, and memory never lacked: the totals are those of its trace and of all its notes
+-- It was served, ended so, and memory never lacked: the totals are those of its trace and of all its notes, and these were told to the
+-- audits, one after the other, of which those are left that kept each
 abbrev pub RanTo : Serve → WorldUse → Served → ReplayEnd → Type 0
 RanTo s w told end =
     (ended_as told ≡ Some end)
     × LeavesTrace w (λ trace. (keep : Option (List Note)) × (notes : List Note)
-    × RunsAs (words_of s.run s.ticks) told keep end (done_with trace notes))
+    × RunsAs (words_of s.run s.ticks) told keep end (done_with trace notes) × audits.Tells w.heard.before w.heard.after notes)
     × Counts w.faults w.faults_after (is_world_fault end)
 
 -- a text is printed whole, and how the run ended is told; or a put failed, and it is printed in part

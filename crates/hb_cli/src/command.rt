@@ -4,11 +4,15 @@ ghost use Rattle.std.specs.Prelude.{◌≡◌, ◌≢◌, ◌<◌, ◌≤◌, �
 ghost use Rattle.std.specs.Io.KnownBytes.{Appends};
 ghost use Rattle.std.specs.Result.{MatchResult};
 ghost use Rattle.std.specs.String.{string_bytes};
+ghost use Rattle.hb_audit.specs.HeldBy.{held_by};
+ghost use Rattle.hb_audit.specs.Tells.{Tells};
 ghost use Rattle.hb_base.specs.Count.{Counts, Rose};
 ghost use Rattle.hb_base.specs.Outcome.{Answers};
 ghost use Rattle.hb_replay.specs.Run.{DoneLawfully, done_by, run_state};
 ghost use Rattle.hb_replay.specs.declared.end.ReplayEnd.{ReplayEnd as ReplayEnds};
 ghost use Rattle.hb_replay.specs.declared.end.ReplayEnd.TheVariants as ends;
+ghost use Rattle.hb_serve.specs.Served.{heard_of};
+ghost use Rattle.hb_turns.specs.Notes.{held};
 ghost use Rattle.hb_words.specs.Asked.{question, command_of};
 ghost use Rattle.hb_words.specs.AskedRun.{replay_seen, serve_seen};
 ghost use Rattle.hb_words.specs.Command.{Replay as Replays, Serve as Serves, shows, replays, serves};
@@ -16,6 +20,7 @@ ghost use Rattle.hb_words.specs.Words.{words_of};
 ghost use Rattle.hb_world.specs.Allowed.{Allowed};
 ghost use Rattle.hb_cli.specs.Answer.{texts, found_texts, Suits};
 ghost use Rattle.hb_cli.specs.Ending.{ComesTo, EndsWith, GivesUp, use_of};
+ghost use Rattle.hb_cli.specs.Hearing.{HearsOf, HearsBy, CommandHearsAt, WordsHearAt};
 ghost use Rattle.hb_cli.specs.Judge.{judged_by};
 ghost use Rattle.hb_cli.specs.Replaying.{LeavesOf, CommandLeaves, LeavesBy, CommandLeavesAt, WordsLeaveAt, RunsTo};
 ghost use Rattle.hb_cli.specs.Run.{IsAnOutcome, IsStated, ReadsEnough, WritesLine, printed_by, is_status, is_answered};
@@ -29,6 +34,7 @@ use crate::input::{Refused, read_input};
 use crate::serving::serve_world;
 use crate::stop::Stop;
 use crate::telling::tell;
+use hb_audit::{Audit, Audits};
 use hb_base::{Bytes, Or, ReadStop, Sink, Source, Text, read_all};
 use hb_replay::replay;
 use hb_table::{Judged, judge};
@@ -64,11 +70,12 @@ fn judge_input(alloc: Global, check: &Check<'_>, input: &[u8]) -> Result<Judged,
 }
 
 /// The answer of a replay of this input.
-fn replay_input(
+fn replay_input<A: Audit>(
     alloc: Global,
     words: &Replay<'_>,
     input: Bytes,
     keep: &mut Keep,
+    audits: &mut Audits<A>,
     script: &mut ScriptWorld,
 ) -> Result<Answer, Or<Refused>>
     requires lines { script.old.lines ≡ [] }
@@ -76,8 +83,10 @@ fn replay_input(
     ensures text { Answers (texts result) (printed_by (replays (replay_seen words.now)) (done_by script.new.trace keep.new) input) }
     ensures kind { IfOk result (λ a. Suits (replays (replay_seen words.now)) a) }
     ensures leaves { LeavesOf (replay_seen words.now) input (run_state script.new keep.new) result }
+    ensures heard { HearsOf (replays (replay_seen words.now)) (heard_of (held_by A.notes audits.old) (held_by A.notes audits.new))
+        (held keep.new) result }
 {
-    match replay(alloc, words, input, keep, script) {
+    match replay(alloc, words, input, keep, audits, script) {
         Ok(replayed) => Ok(Answer::Replayed(replayed)),
         Err(Or::Fault(fault)) => Err(Or::Fault(Refused::Line(fault))),
         Err(Or::NoMemory) => Err(Or::NoMemory),
@@ -85,11 +94,12 @@ fn replay_input(
 }
 
 /// The answer of a command by this input.
-fn answer(
+fn answer<A: Audit>(
     alloc: Global,
     command: &Command<'_>,
     input: Bytes,
     keep: &mut Keep,
+    audits: &mut Audits<A>,
     script: &mut ScriptWorld,
 ) -> Result<Answer, Or<Refused>>
     requires by_input { IsTrue (takes_input (Ok (command_of command.now))) }
@@ -98,6 +108,8 @@ fn answer(
     ensures text { Answers (texts result) (printed_by (command_of command.now) (done_by script.new.trace keep.new) input) }
     ensures kind { IfOk result (λ a. Suits (command_of command.now) a) }
     ensures leaves { CommandLeaves (command_of command.now) input (run_state script.old keep.old) (run_state script.new keep.new) result }
+    ensures heard { HearsOf (command_of command.now) (heard_of (held_by A.notes audits.old) (held_by A.notes audits.new))
+        (held keep.new) result }
 {
     match command {
         Command::Check(check) => {
@@ -108,17 +120,18 @@ fn answer(
             let left = read_input(alloc, unnamed, Text::empty(alloc), true, input.as_slice())?;
             Ok(Answer::Left(left))
         }
-        Command::Replay(words) => replay_input(alloc, words, input, keep, script),
+        Command::Replay(words) => replay_input(alloc, words, input, keep, audits, script),
         Command::Serve(_) => unreachable!(),
     }
 }
 
 /// The answer of a command, after the whole input is read.
-fn find_out<S: Source>(
+fn find_out<S: Source, A: Audit>(
     alloc: Global,
     command: &Command<'_>,
     input: &mut S,
     keep: &mut Keep,
+    audits: &mut Audits<A>,
     script: &mut ScriptWorld,
 ) -> Result<Answer, Stop>
     requires by_input { IsTrue (takes_input (Ok (command_of command.now))) }
@@ -129,6 +142,8 @@ fn find_out<S: Source>(
     ensures kind { IfOk result (λ a. Suits (command_of command.now) a) }
     ensures leaves { LeavesBy (command_of command.now) (S.left input.old) (run_state script.old keep.old)
         (run_state script.new keep.new) result }
+    ensures heard { HearsBy (command_of command.now) (heard_of (held_by A.notes audits.old) (held_by A.notes audits.new))
+        (held keep.new) result }
     ensures later { S.faults input.old ≤ S.faults input.new }
 {
     let bytes = match read_all(alloc, input, LONGEST_INPUT) {
@@ -137,7 +152,7 @@ fn find_out<S: Source>(
         Err(ReadStop::Failed) => return Err(Stop::ReadFault),
         Err(ReadStop::NoMemory) => return Err(Stop::NoMemory),
     };
-    match answer(alloc, command, bytes, keep, script) {
+    match answer(alloc, command, bytes, keep, audits, script) {
         Ok(answer) => Ok(answer),
         Err(Or::Fault(refused)) => Err(Stop::Refused(refused)),
         Err(Or::NoMemory) => Err(Stop::NoMemory),
@@ -174,13 +189,14 @@ fn give_up<E: Sink>(alloc: Global, stop: Stop, err: &mut E) -> u8
 }
 
 /// A command by its input, all of whose ways to end are one clause, and what it leaves of the script's world another.
-fn conclude<S: Source, K: Sink, E: Sink>(
+fn conclude<S: Source, K: Sink, E: Sink, A: Audit>(
     alloc: Global,
     command: &Command<'_>,
     input: &mut S,
     out: &mut K,
     err: &mut E,
     keep: &mut Keep,
+    audits: &mut Audits<A>,
     script: &mut ScriptWorld,
 ) -> u8
     requires by_input { IsTrue (takes_input (Ok (command_of command.now))) }
@@ -196,11 +212,13 @@ fn conclude<S: Source, K: Sink, E: Sink>(
     ensures by_input { IsTrue (takes_input (Ok (command_of command.now))) }
     ensures leaves { CommandLeavesAt (command_of command.now) (S.left input.old) (run_state script.old keep.old)
         (run_state script.new keep.new) result }
+    ensures heard { CommandHearsAt (command_of command.now) (heard_of (held_by A.notes audits.old) (held_by A.notes audits.new))
+        (held keep.new) result }
     ensures later_input { S.faults input.old ≤ S.faults input.new }
     ensures later_out { K.faults out.old ≤ K.faults out.new }
     ensures later_err { E.faults err.old ≤ E.faults err.new }
 {
-    let answer = match find_out(alloc, command, input, keep, script) {
+    let answer = match find_out(alloc, command, input, keep, audits, script) {
         Ok(answer) => answer,
         Err(stop) => return give_up(alloc, stop, err),
     };
@@ -212,13 +230,14 @@ fn conclude<S: Source, K: Sink, E: Sink>(
 }
 
 /// A run. The words are looked at first; then `serve` runs over the world, and any other command is answered by its input.
-fn obey<S: Source, K: Sink, E: Sink, W: World>(
+fn obey<S: Source, K: Sink, E: Sink, A: Audit, W: World>(
     alloc: Global,
     words: &[String],
     input: &mut S,
     out: &mut K,
     err: &mut E,
     keep: &mut Keep,
+    audits: &mut Audits<A>,
     world: &mut W,
     script: &mut ScriptWorld,
 ) -> u8
@@ -233,8 +252,11 @@ fn obey<S: Source, K: Sink, E: Sink, W: World>(
     }) result }
     ensures leaves { WordsLeaveAt (words_of (map string_bytes words.now)) (S.left input.old) (run_state script.old keep.old)
         (run_state script.new keep.new) result }
+    ensures heard { WordsHearAt (words_of (map string_bytes words.now)) (heard_of (held_by A.notes audits.old) (held_by A.notes audits.new))
+        (held keep.new) result }
     ensures serves { (s : Serves) → words_of (map string_bytes words.now) ≡ Ok (serves s) → ServesAt s
-        (world_use (W.trace world.old) (W.trace world.new) (W.faults world.old) (W.faults world.new))
+        (world_use (W.trace world.old) (W.trace world.new) (W.faults world.old) (W.faults world.new)
+        (heard_of (held_by A.notes audits.old) (held_by A.notes audits.new)))
         (use_of (K.written out.old) (K.written out.new) (K.faults out.old) (K.faults out.new))
         (use_of (E.written err.old) (E.written err.new) (E.faults err.old) (E.faults err.new)) result }
     ensures unread { (s : Serves) → words_of (map string_bytes words.now) ≡ Ok (serves s) → input.new ≡ input.old }
@@ -245,8 +267,8 @@ fn obey<S: Source, K: Sink, E: Sink, W: World>(
     ensures later_err { E.faults err.old ≤ E.faults err.new }
 {
     match read_words(alloc, words) {
-        Ok(Command::Serve(asked)) => serve_world(alloc, &asked, out, err, world),
-        Ok(command) => conclude(alloc, &command, input, out, err, keep, script),
+        Ok(Command::Serve(asked)) => serve_world(alloc, &asked, out, err, audits, world),
+        Ok(command) => conclude(alloc, &command, input, out, err, keep, audits, script),
         Err(Or::Fault(fault)) => give_up(alloc, Stop::Words(fault), err),
         Err(Or::NoMemory) => give_up(alloc, Stop::NoMemory, err),
     }
@@ -258,14 +280,16 @@ fn obey<S: Source, K: Sink, E: Sink, W: World>(
 /// failed, 7 a write that failed, 9 want of memory. The words are looked at first, then the whole input is read, and then
 /// it is looked at; `serve` reads none. `world` is the one that `serve` runs over, and `script` that of `replay`; nothing
 /// happened in it before. `keep` has the notes of a replay behind it; where it keeps none, a replay ends with 9. The
-/// notes of `serve` aren't kept.
-pub fn run<S: Source, K: Sink, E: Sink, W: World>(
+/// notes of `serve` aren't kept. Each note of `serve` and `replay` is told to the audits when it is made; one that doesn't keep
+/// it is dropped, and the run goes on.
+pub fn run<S: Source, K: Sink, E: Sink, A: Audit, W: World>(
     alloc: Global,
     words: &[String],
     input: &mut S,
     out: &mut K,
     err: &mut E,
     keep: &mut Keep,
+    audits: &mut Audits<A>,
     world: &mut W,
     script: &mut ScriptWorld,
 ) -> u8
@@ -344,11 +368,23 @@ pub fn run<S: Source, K: Sink, E: Sink, W: World>(
     ensures others { ((r : Replays) → words_of (map string_bytes words.now) ≡ Ok (replays r) → ⊥)
         → (script.new ≡ script.old) × (keep.new ≡ keep.old) }
 
+    // All notes of a replay that ends so were told to the audits, one after the other, and those are left that kept each. At 2, 3
+    // and 6 no note was told, and but for `replay` and `serve` none is.
+    ensures heard { (r : Replays) → words_of (map string_bytes words.now) ≡ Ok (replays r)
+        → (result ≡ 0) ⊎ (result ≡ 4) ⊎ (result ≡ 5) ⊎ (result ≡ 7)
+        → Tells (held_by A.notes audits.old) (held_by A.notes audits.new) (held keep.new) }
+    ensures none_heard { (result ≡ 2) ⊎ (result ≡ 3) ⊎ (result ≡ 6) → held_by A.notes audits.new ≡ held_by A.notes audits.old }
+    ensures others_untold { IsTrue (takes_input (words_of (map string_bytes words.now)))
+        → ((r : Replays) → words_of (map string_bytes words.now) ≡ Ok (replays r) → ⊥)
+        → held_by A.notes audits.new ≡ held_by A.notes audits.old }
+
     // `serve` reads no input, and runs the proxy over the world: at 0 a stop ended the run or the stated ticks passed, at 4 a
     // listen or a wait of the world failed, which counts as one fault of it, and at 5 its turns were spent; the line of its
-    // totals is printed then, and in part at 7. At 9 nothing is. No other command makes a call on the world.
+    // totals is printed then, and in part at 7, and all its notes were told to the audits, as those of a replay. At 9 nothing is
+    // printed. No other command makes a call on the world.
     ensures serves { (s : Serves) → words_of (map string_bytes words.now) ≡ Ok (serves s) → ServesAt s
-        (world_use (W.trace world.old) (W.trace world.new) (W.faults world.old) (W.faults world.new))
+        (world_use (W.trace world.old) (W.trace world.new) (W.faults world.old) (W.faults world.new)
+        (heard_of (held_by A.notes audits.old) (held_by A.notes audits.new)))
         (use_of (K.written out.old) (K.written out.new) (K.faults out.old) (K.faults out.new))
         (use_of (E.written err.old) (E.written err.new) (E.faults err.old) (E.faults err.new)) result }
     ensures unread { (s : Serves) → words_of (map string_bytes words.now) ≡ Ok (serves s) → input.new ≡ input.old }
@@ -359,7 +395,7 @@ pub fn run<S: Source, K: Sink, E: Sink, W: World>(
     ensures later_out { K.faults out.old ≤ K.faults out.new }
     ensures later_err { E.faults err.old ≤ E.faults err.new }
 {
-    let status = obey(alloc, words, input, out, err, keep, world, script);
+    let status = obey(alloc, words, input, out, err, keep, audits, world, script);
     script.is_allowed();
     status
 }

@@ -1,7 +1,9 @@
 //! `serve`: a run of the proxy over a world, and the line of its totals.
 
 ghost use Rattle.std.specs.Prelude.{◌≡◌, ◌≤◌, Some, IsErr, IfOk};
+ghost use Rattle.hb_audit.specs.HeldBy.{held_by};
 ghost use Rattle.hb_report.specs.Total.{total_line};
+ghost use Rattle.hb_serve.specs.Served.{heard_of};
 ghost use Rattle.hb_words.specs.AskedRun.{serve_seen};
 ghost use Rattle.hb_replay.specs.End.{ended_as};
 ghost use Rattle.hb_cli.specs.Ending.{use_of};
@@ -9,6 +11,7 @@ ghost use Rattle.hb_cli.specs.Serving.{Worked, Unused, PrintsRun, ServesAt, worl
 
 use crate::answer::{Printed, end_run, print_text};
 use crate::telling::tell;
+use hb_audit::{Audit, Audits};
 use hb_base::{NoMemory, Sink};
 use hb_replay::{Replayed, ended_as, serve_words};
 use hb_report::put_total;
@@ -18,18 +21,25 @@ use hb_words::Serve;
 use hb_world::World;
 use std::alloc::Global;
 
-/// Runs the proxy over a world. Its notes aren't kept.
+/// Runs the proxy over a world. Its notes are told to the audits, and aren't kept.
 ///
 /// Errors: `NoMemory`, and then no call was made on the world.
-fn serve_over<W: World>(alloc: Global, words: &Serve<'_>, world: &mut W) -> Result<Served, NoMemory>
+fn serve_over<A: Audit, W: World>(
+    alloc: Global,
+    words: &Serve<'_>,
+    audits: &mut Audits<A>,
+    world: &mut W,
+) -> Result<Served, NoMemory>
     ensures worked { IfOk result (λ told. Worked (serve_seen words.now)
-        (world_use (W.trace world.old) (W.trace world.new) (W.faults world.old) (W.faults world.new)) told) }
+        (world_use (W.trace world.old) (W.trace world.new) (W.faults world.old) (W.faults world.new)
+        (heard_of (held_by A.notes audits.old) (held_by A.notes audits.new))) told) }
     ensures unused { IsErr result
-        → Unused (world_use (W.trace world.old) (W.trace world.new) (W.faults world.old) (W.faults world.new)) }
+        → Unused (world_use (W.trace world.old) (W.trace world.new) (W.faults world.old) (W.faults world.new)
+        (heard_of (held_by A.notes audits.old) (held_by A.notes audits.new))) }
     ensures follows { W.script world.new ≡ W.script world.old }
 {
     let asked = serve_words(alloc, &words.run, words.ticks)?;
-    Ok(serve(alloc, asked, &mut Keep::none(), world))
+    Ok(serve(alloc, asked, &mut Keep::none(), audits, world))
 }
 
 /// How a run ended, and its total line.
@@ -61,23 +71,25 @@ fn print_total<K: Sink, E: Sink>(told: &Replayed, out: &mut K, err: &mut E) -> u
     }
 }
 
-/// Runs the proxy over a world, prints its totals, and tells how the run ended. Gives the status.
-pub fn serve_world<K: Sink, E: Sink, W: World>(
+/// Runs the proxy over a world, tells its notes to the audits, prints its totals, and tells how the run ended. Gives the status.
+pub fn serve_world<K: Sink, E: Sink, A: Audit, W: World>(
     alloc: Global,
     words: &Serve<'_>,
     out: &mut K,
     err: &mut E,
+    audits: &mut Audits<A>,
     world: &mut W,
 ) -> u8
     ensures serves { ServesAt (serve_seen words.now)
-        (world_use (W.trace world.old) (W.trace world.new) (W.faults world.old) (W.faults world.new))
+        (world_use (W.trace world.old) (W.trace world.new) (W.faults world.old) (W.faults world.new)
+        (heard_of (held_by A.notes audits.old) (held_by A.notes audits.new)))
         (use_of (K.written out.old) (K.written out.new) (K.faults out.old) (K.faults out.new))
         (use_of (E.written err.old) (E.written err.new) (E.faults err.old) (E.faults err.new)) result }
     ensures follows { W.script world.new ≡ W.script world.old }
     ensures later_out { K.faults out.old ≤ K.faults out.new }
     ensures later_err { E.faults err.old ≤ E.faults err.new }
 {
-    let Ok(served) = serve_over(alloc, words, world) else {
+    let Ok(served) = serve_over(alloc, words, audits, world) else {
         return tell(err, b"hbone: out of memory\n", 9);
     };
     let Ok(told) = told_of(alloc, &served) else {

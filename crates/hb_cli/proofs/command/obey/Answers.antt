@@ -7,6 +7,7 @@ returns-in-Ok g c =
     rw c.in-Ok.ensures (record {
       ending = λ takes. c.conclude.ensures.ending;
       leaves = c.conclude.ensures.leaves;
+      heard = c.conclude.ensures.heard;
       serves = λ s is. absurd (asks_input _ s c.conclude.ensures.by_input is);
       unread = λ s is. absurd (asks_input _ s c.conclude.ensures.by_input is);
       unused = λ takes. refl;

@@ -2,8 +2,9 @@ use Rattle.std.proofs.Common.{refl, ap, map, inl}
 use Rattle.std.specs.String.{string_bytes}
 use Rattle.hb_replay.specs.Run.{RunState}
 use Rattle.hb_cli.proofs.Endings.{at, status_is_one, refused_is_two, is_stated, is_complete, reads_counted, puts_counted, is_whole, reads_enough, is_quiet, in_part, is_told}
+use Rattle.hb_cli.proofs.Hearing.{hears_all, hears_none, others_hear_none}
 use Rattle.hb_cli.proofs.Scripts.{left_at, nothing_done, replays_alone, unchanged}
-use Rattle.hb_cli.proofs.Serves.{by_kind, serves_status, never_two, never_three, reads_none, puts_counted as serve_puts, serves_quiet, lacking, serves_told}
+use Rattle.hb_cli.proofs.Serves.{by_kind, serves_status, never_two, never_three, never_refused, reads_none, puts_counted as serve_puts, serves_quiet, lacking, serves_told}
 use Rattle.hb_words.specs.Words.{words_of}
 use Rattle.hb_cli.proofs.command.run.Goals as goal
 
@@ -110,3 +111,16 @@ pub returns-clause-others : goal.returns-clause-others
 returns-clause-others g c =
     λ never. let same = unchanged _ _ _ _ c.obey-status.result c.obey-status.ensures.leaves never in
     (ap (λ (s : RunState). s.script) same, ap (λ (s : RunState). s.keep) same)
+
+pub returns-clause-heard : goal.returns-clause-heard
+returns-clause-heard g c = λ r is at_status. hears_all _ _ c.obey-status.result _ r c.obey-status.ensures.heard is at_status
+
+pub returns-clause-none_heard : goal.returns-clause-none_heard
+returns-clause-none_heard g c =
+    by_kind (words_of (map string_bytes c.args.words.now))
+    (λ takes. λ is. hears_none _ _ c.obey-status.result (words_of (map string_bytes c.args.words.now)) takes c.obey-status.ensures.heard is)
+    (λ s is. λ never. absurd (never_refused s _ _ _ c.obey-status.result (c.obey-status.ensures.serves s is) never))
+
+pub returns-clause-others_untold : goal.returns-clause-others_untold
+returns-clause-others_untold g c = λ takes never.
+    others_hear_none _ _ c.obey-status.result (words_of (map string_bytes c.args.words.now)) takes never c.obey-status.ensures.heard
