@@ -13,7 +13,7 @@ use Rattle.hb_table.specs.declared.judgement.Judged.TheVariants.{Admitted, Unkno
 use Rattle.hb_tunnel.specs.Tunnel.{up_size}
 use Rattle.hb_tunnel.specs.Way.{Way, after, pushes}
 use Rattle.hb_verdict.proofs.Dialled.{only_where_it_may}
-use Rattle.hb_verdict.specs.Verdict.{synced, dial_judged}
+use Rattle.hb_verdict.specs.Verdict.{synced, is_own_door, dial_judged}
 use Rattle.hb_verdict.specs.declared.request.Request.TheVariants.{Connect}
 use Rattle.hb_verdict.specs.declared.verdict.Verdict.{Verdict}
 use Rattle.hb_verdict.specs.declared.verdict.Verdict.TheVariants.{Status, Reset, Dial}
@@ -83,13 +83,14 @@ module _ (held : Resources) (old new : Relay) (bytes : List ℕ) (late : old.sta
 -- THE HEADER
 
 never_reset : (held : Resources) (seen : Seen) → verdict_on held seen ≡ Reset → ⊥
-never_reset held seen = by (synced held) (judged held (peer_in seen) seen.destination)
+never_reset held seen = by (synced held) (judged held (peer_in seen) seen.destination) (is_own_door held.inbound seen.destination)
   where
-    by : (b : Bool) (j : Judged) → cond (not b) (Status 503) (dial_judged j seen.destination false) ≡ Reset → ⊥
-    by false j is = cc
-    by true Admitted is = cc
-    by true Unknown is = cc
-    by true Denied is = cc
+    by : (b : Bool) (j : Judged) (own : Bool) → cond (not b) (Status 503) (dial_judged j own false seen.destination) ≡ Reset → ⊥
+    by false j own is = cc
+    by true Admitted true is = cc
+    by true Admitted false is = cc
+    by true Unknown own is = cc
+    by true Denied own is = cc
 
 -- what stands behind a header fits the way up
 rest_fits : (w : Way) (bytes : List ℕ) → w.held ≡ [] → w.has_ended ≡ false → length bytes ≤ longest_front
