@@ -43,7 +43,12 @@ fn tell_held(rt: &(impl Abort + AllocGlobal), held: &Held, told: &mut String) {
 }
 
 fn assert_block(rt: &(impl Abort + AllocGlobal), block: &str) {
-    let mut held = Held::new(rt.alloc(), Text::empty(rt.alloc()), Text::empty(rt.alloc()), None);
+    let mut held = Held::new(
+        rt.alloc(),
+        Text::empty(rt.alloc()),
+        Text::empty(rt.alloc()),
+        None,
+    );
     let mut bytes = Vec::new(rt.alloc());
     let mut told = String::new(rt.alloc());
     let mut want = String::new(rt.alloc());
