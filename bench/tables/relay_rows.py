@@ -1,0 +1,41 @@
+#!/usr/bin/python3
+"""Prints crates/hb_relay_rows/src/octets.rt: what comes of a link of the plain door and of the control plane, in octets.
+
+The header of the front is spelled by the PROXY protocol's text, the responses by spelling.py.
+
+    python3 bench/tables/relay_rows.py > crates/hb_relay_rows/src/octets.rt
+"""
+import ipaddress
+import struct
+
+from spelling import ADDRESS, AUTHORIZATION, policy, resource, span, workload
+
+SIGNATURE = b"\x0d\x0a\x0d\x0a\x00\x0d\x0a\x51\x55\x49\x54\x0a"
+PEER = b"spiffe://cluster.local/ns/a/sa/c"
+
+
+def front(identity):
+    ends = ipaddress.ip_address("10.0.0.9").packed + ipaddress.ip_address("10.0.0.7").packed + struct.pack("!HH", 4000, 9090)
+    tlv = b"\xe0" + len(identity).to_bytes(2, "big") + identity
+    return SIGNATURE + b"\x21\x11" + len(ends + tlv).to_bytes(2, "big") + ends + tlv
+
+
+def response(url, *resources):
+    return b"".join(resource(url, n, v) for n, v in resources) + span(4, url) + span(5, "n")
+
+
+print("""\
+//! What comes of a link of the plain door, and of the control plane, in hexadecimal digits. `bench/tables/relay_rows.py` prints this file.
+""")
+for name, says, octets in (
+    ("FRONT", "The header of the front: from 10.0.0.9, with an identity, to 10.0.0.7, port 9090.", front(PEER)),
+    ("KNOWN", "A workload of this node at 10.0.0.7.", response(ADDRESS, ("u1", workload("w", "a", [[10, 0, 0, 7]], "n1", [])))),
+    ("NOT_HERE", "One of another node there.", response(ADDRESS, ("u1", workload("w", "a", [[10, 0, 0, 7]], "n2", [])))),
+    ("NO_POLICY", "No policy.", response(AUTHORIZATION)),
+    ("ALLOWS_NONE", "A policy that allows none.", response(AUTHORIZATION, ("a/n", policy("a", "n", "GLOBAL", "ALLOW", [])))),
+):
+    digits = octets.hex()
+    print(f"/// {says}")
+    print(f"pub const {name}: &str = \"\\")
+    for at in range(0, len(digits), 100):
+        print(digits[at : at + 100] + ("\\" if at + 100 < len(digits) else '";'))
