@@ -69,7 +69,7 @@ impl Drive {
         let mut drive = Drive {
             alloc,
             relay: Relay::accepted(alloc, 7).ok().expect(rt, "memory"),
-            held: Held::new(alloc, network, node),
+            held: Held::new(alloc, network, node, None),
         };
         for digits in responses {
             drive.apply(rt, digits);
