@@ -41,7 +41,7 @@ def workload_of(at, account="x"):
 def admits(more):
     """The policy of all: it admits the peer, and one more principal."""
     rules = [[[([exact(PEER), exact(more)], [])]]]
-    return "a/p", policy("p", "a", "SELECTOR", "ALLOW", rules)
+    return "a/p", policy("a", "p", "SELECTOR", "ALLOW", rules)
 
 
 def updates():
