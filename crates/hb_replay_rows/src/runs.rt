@@ -8,6 +8,7 @@ use crate::rows::{
     REFUSED, ROWS_1, ROWS_2, ROWS_3, ROWS_4, ROWS_5, ROWS_6, ROWS_7, ROWS_8, ROWS_9, ROWS_10, USAGE,
 };
 use crate::tunnels::TUNNELS;
+use hb_audit::{Audit, Audits, MemAudit};
 use hb_base::{MemSink, MemSource};
 use hb_cli::run;
 use hb_turns::Keep;
@@ -62,6 +63,25 @@ pub fn told_of(
     text: &[u8],
     failing: Failing,
 ) -> String {
+    told_with(
+        rt,
+        alloc,
+        words,
+        text,
+        failing,
+        &mut Audits::<MemAudit>::none(alloc),
+    )
+}
+
+/// The same, with audits.
+pub fn told_with<A: Audit>(
+    rt: &impl Abort,
+    alloc: Global,
+    words: &[String],
+    text: &[u8],
+    failing: Failing,
+    audits: &mut Audits<A>,
+) -> String {
     let mut source = MemSource::over(alloc, text, &[failing.take]).expect(rt, "memory");
     let mut out = MemSink::new(alloc, failing.room, &[failing.put]).expect(rt, "memory");
     let mut err = MemSink::new(alloc, ERR_ROOM, &[0]).expect(rt, "memory");
@@ -75,6 +95,7 @@ pub fn told_of(
         &mut out,
         &mut err,
         &mut keep,
+        audits,
         &mut world,
         &mut script,
     );

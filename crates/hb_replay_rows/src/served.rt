@@ -2,6 +2,7 @@
 
 use crate::notation::{cut, spelled, text_of};
 use crate::runs::{ERR_ROOM, Failing, NOTHING_FAILS, assert_told, words_behind};
+use hb_audit::{Audit, Audits, MemAudit};
 use hb_base::{MemSink, MemSource};
 use hb_cli::run;
 use hb_script::read_script;
@@ -34,6 +35,25 @@ one turn; <usual> --turns 1; ; 5; total: 1 links, 0 accepted, 0 revoked, 0 up, 0
 
 /// A run over the world of a script: its status, its output and its error text, with `; ` between.
 fn served(rt: &impl Abort, alloc: Global, words: &str, script: &str, failing: Failing) -> String {
+    served_with(
+        rt,
+        alloc,
+        words,
+        script,
+        failing,
+        &mut Audits::<MemAudit>::none(alloc),
+    )
+}
+
+/// The same, with audits.
+pub fn served_with<A: Audit>(
+    rt: &impl Abort,
+    alloc: Global,
+    words: &str,
+    script: &str,
+    failing: Failing,
+    audits: &mut Audits<A>,
+) -> String {
     let words = words_behind(rt, alloc, "serve", words);
     let script = spelled(rt, alloc, script);
     let lines = read_script(alloc, script.as_slice())
@@ -50,6 +70,7 @@ fn served(rt: &impl Abort, alloc: Global, words: &str, script: &str, failing: Fa
         &mut out,
         &mut err,
         &mut Keep::all(alloc),
+        audits,
         &mut world,
         &mut ScriptWorld::new(alloc),
     );
@@ -59,7 +80,7 @@ fn served(rt: &impl Abort, alloc: Global, words: &str, script: &str, failing: Fa
 }
 
 /// The input can't be read.
-const UNREADABLE: Failing = Failing {
+pub const UNREADABLE: Failing = Failing {
     take: 1,
     ..NOTHING_FAILS
 };

@@ -4,6 +4,7 @@ use crate::messages::{
     ADDRESS_TYPE, ALLOW_NONE, ALLOW_ONE, DENY_ALL, DUAL_STACK, POLICY_TYPE, REMOVED_AND_ADDED,
     WORKLOAD,
 };
+use hb_audit::{Audits, MemAudit};
 use hb_base::{MemSink, MemSource};
 use hb_cli::run;
 use hb_turns::Keep;
@@ -149,6 +150,7 @@ fn run_over(
         &mut out,
         &mut err,
         &mut keep,
+        &mut Audits::<MemAudit>::none(alloc),
         &mut world,
         &mut script,
     );
