@@ -1,7 +1,10 @@
 //! Tests of `hbone replay` and `hbone serve`: runs of the command over memory, each with its status, its whole output and its
-//! error text. The expected texts of `replay` come from a second, plain model of the formats, and none from the program.
+//! error text, and what audits hold behind it. The expected texts of `replay` come from a second, plain model of the formats, and none from
+//! the program.
 #![tactic(auto)]
 
+#[cfg(test)]
+mod audited;
 #[cfg(test)]
 mod cuts;
 #[cfg(test)]
