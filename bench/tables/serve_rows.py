@@ -1,0 +1,79 @@
+#!/usr/bin/python3
+"""Prints crates/hb_serve_rows/src/frames.rt: the octets of a control plane and of a peer of `hbone serve` on the loopback of this machine,
+and what the program is to send them.
+
+The octets are those of the runs of `replay`, worked out by hand in tunnel_rows.py, with the address of this machine in the place of
+10.0.0.7; the program's opening and its requests are those of the second, plain model.
+
+    python3 bench/tables/serve_rows.py > crates/hb_serve_rows/src/frames.rt
+"""
+import re
+
+import replay_model as model
+from tunnel_rows import ACK, ADMITTED, ANSWER, CANCEL, FIRST, FIRST_RESPONSE, NO_ERROR, OPENING, OWN, REFUSED_400, SECOND_RESPONSE, SET
+from tunnel_rows import UPDATE, connect, data, frame, headers, reset
+
+HEAD = """//! What goes to and fro between `hbone serve` and its peers. bench/tables/serve_rows.py prints this file.
+//!
+//! Five marks `#` stand for the digits of a port.
+"""
+PORT = b"#####"
+
+
+def here(octets):
+    """Octets with the address of this machine in the place of 10.0.0.7."""
+    assert octets.count(bytes([10, 0, 0, 7])) == 1
+    return octets.replace(bytes([10, 0, 0, 7]), bytes([127, 0, 0, 1]))
+
+
+def asked():
+    """What the program writes first: its connection's opening, and its first requests."""
+    link = model.Link(1, "z1", "127.0.0.1:" + PORT.decode(), {}, model.USUAL)
+    requests = model.first_request("z1", model.ADDRESS, {}) + model.first_request("z1", model.POLICY, {})
+    return link.output() + data(1, requests)
+
+
+TABLE = [
+    ("ASKED", "What the program writes to its control plane first. The port is the control plane's.", asked()),
+    ("ANSWERED", "The control plane's SETTINGS, and the headers of its answer.", SET + headers(1, ADMITTED)),
+    ("SETTLED", "The program's answer to SETTINGS.", ACK),
+    ("WORKLOAD", "A response with the workload u1 at this machine, which lists the policy a/p.", here(FIRST_RESPONSE)),
+    ("WORKLOAD_TAKEN", "The program's answer to it.", data(1, model.answer(model.ADDRESS, "x1", None))),
+    ("POLICY", "A response with the policy a/p, which admits the peer.", SECOND_RESPONSE),
+    ("POLICY_TAKEN", "The program's answer to it.", data(1, model.answer(model.POLICY, "x2", None))),
+    ("UPDATE", "A response with the policy a/p, which doesn't admit the peer any more.", UPDATE),
+    ("UPDATE_TAKEN", "The program's answer to it.", ANSWER),
+    ("REQUEST", "The front's header, and the peer's opening with a request on stream 1 for a port of this machine.",
+     here(OPENING) + connect(1, b"127.0.0.1:" + PORT)),
+    ("GREETED", "The program's SETTINGS, and its answer to the peer's.", OWN + ACK),
+    ("ADMITTED", "The program's answer 200 on stream 1, the first of the link.", headers(1, FIRST + ADMITTED)),
+    ("REFUSED", "The program's answer 400 on stream 1, the first of the link, and the reset behind it.",
+     headers(1, FIRST + REFUSED_400, True) + reset(1, NO_ERROR)),
+    ("REVOKED", "Stream 1 is reset, as a tunnel is that is revoked.", reset(1, CANCEL)),
+    ("HELLO", "DATA on stream 1.", data(1, b"hello")),
+    ("LAST", "The end of stream 1.", data(1, end=True)),
+    ("PING", "A PING.", frame(6, 0, 0, b"12345678")),
+    ("PONG", "Its answer.", frame(6, 1, 0, b"12345678")),
+]
+
+
+def spelled(octets):
+    """The octets in a literal, in pieces of at most 120 characters."""
+    marks = [chr(octet) if 32 < octet < 127 and chr(octet) not in '"\\' else f"\\x{octet:02x}" for octet in octets]
+    lines = [""]
+    for mark in marks:
+        if len(lines[-1]) + len(mark) > 120:
+            lines.append("")
+        lines[-1] += mark
+    return "\\\n".join(lines)
+
+
+def main():
+    print(HEAD, end="")
+    for name, about, octets in TABLE:
+        assert octets.count(b"#") in (0, 5) and len(re.findall(PORT, octets)) == octets.count(b"#") // 5
+        print(f'\n/// {about}\npub const {name}: &[u8] = b"\\\n{spelled(octets)}";')
+
+
+if __name__ == "__main__":
+    main()

@@ -1,0 +1,87 @@
+//! What goes to and fro between `hbone serve` and its peers. bench/tables/serve_rows.py prints this file.
+//!
+//! Five marks `#` stand for the digits of a port.
+
+/// What the program writes to its control plane first. The port is the control plane's.
+pub const ASKED: &[u8] = b"\
+PRI\x20*\x20HTTP/2.0\x0d\x0a\x0d\x0aSM\x0d\x0a\x0d\x0a\x00\x00\x0c\x04\x00\x00\x00\x00\x00\x00\x02\x00\x00\x00\x00\x00\
+\x06\x00\x00@\x00\x00\x00\x85\x01\x04\x00\x00\x00\x01\x20\x83\x86\x04O/envoy.service.discovery.v3.AggregatedDiscoverySer\
+vice/DeltaAggregatedResources\x01\x0f127.0.0.1:#####\x00\x02te\x08trailers\x0f\x10\x10application/grpc\x00\x00t\x00\x00\
+\x00\x00\x00\x01\x00\x00\x00\x002\x0a\x04\x0a\x02z1\x12*type.googleapis.com/istio.workload.Address\x00\x00\x00\x008\x0a\
+\x04\x0a\x02z1\x120type.googleapis.com/istio.security.Authorization";
+
+/// The control plane's SETTINGS, and the headers of its answer.
+pub const ANSWERED: &[u8] = b"\
+\x00\x00\x00\x04\x00\x00\x00\x00\x00\x00\x00\x01\x01\x04\x00\x00\x00\x01\x88";
+
+/// The program's answer to SETTINGS.
+pub const SETTLED: &[u8] = b"\
+\x00\x00\x00\x04\x01\x00\x00\x00\x00";
+
+/// A response with the workload u1 at this machine, which lists the policy a/p.
+pub const WORKLOAD: &[u8] = b"\
+\x00\x00\x8f\x00\x00\x00\x00\x00\x01\x00\x00\x00\x00\x8a\x12X\x0a\x011\x12O\x0a*type.googleapis.com/istio.workload.Addre\
+ss\x12!\x0a\x1f\x0a\x03web\x12\x01a\x1a\x04\x7f\x00\x00\x01(\x01J\x02n1\x82\x01\x03a/p\xa2\x01\x02u1\x1a\x02u1\x22*type.\
+googleapis.com/istio.workload.Address*\x02x1";
+
+/// The program's answer to it.
+pub const WORKLOAD_TAKEN: &[u8] = b"\
+\x00\x005\x00\x00\x00\x00\x00\x01\x00\x00\x00\x000\x12*type.googleapis.com/istio.workload.Address2\x02x1";
+
+/// A response with the policy a/p, which admits the peer.
+pub const POLICY: &[u8] = b"\
+\x00\x00\xa4\x00\x00\x00\x00\x00\x01\x00\x00\x00\x00\x9f\x12g\x0a\x011\x12]\x0a0type.googleapis.com/istio.security.Autho\
+rization\x12)\x0a\x01p\x12\x01a\x18\x02*\x1f\x12\x1d\x12\x1b\x1a\x19\x0a\x17cluster.local/ns/a/sa/c\x1a\x03a/p\x220type.\
+googleapis.com/istio.security.Authorization*\x02x2";
+
+/// The program's answer to it.
+pub const POLICY_TAKEN: &[u8] = b"\
+\x00\x00;\x00\x00\x00\x00\x00\x01\x00\x00\x00\x006\x120type.googleapis.com/istio.security.Authorization2\x02x2";
+
+/// A response with the policy a/p, which doesn't admit the peer any more.
+pub const UPDATE: &[u8] = b"\
+\x00\x00\x8d\x00\x00\x00\x00\x00\x01\x00\x00\x00\x00\x88\x12P\x0a\x012\x12F\x0a0type.googleapis.com/istio.security.Autho\
+rization\x12\x12\x0a\x01p\x12\x01a\x18\x02*\x08\x12\x06\x12\x04J\x02\x82G\x1a\x03a/p\x220type.googleapis.com/istio.secur\
+ity.Authorization*\x02x7";
+
+/// The program's answer to it.
+pub const UPDATE_TAKEN: &[u8] = b"\
+\x00\x00;\x00\x00\x00\x00\x00\x01\x00\x00\x00\x006\x120type.googleapis.com/istio.security.Authorization2\x02x7";
+
+/// The front's header, and the peer's opening with a request on stream 1 for a port of this machine.
+pub const REQUEST: &[u8] = b"\
+\x0d\x0a\x0d\x0a\x00\x0d\x0aQUIT\x0a!\x11\x00/\x0a\x00\x00\x09\x7f\x00\x00\x01\x0f\xa0:\xa0\xe0\x00\x20spiffe://cluster.\
+local/ns/a/sa/cPRI\x20*\x20HTTP/2.0\x0d\x0a\x0d\x0aSM\x0d\x0a\x0d\x0a\x00\x00\x00\x04\x00\x00\x00\x00\x00\x00\x00\x1a\
+\x01\x04\x00\x00\x00\x01\x02\x07CONNECT\x01\x0f127.0.0.1:#####";
+
+/// The program's SETTINGS, and its answer to the peer's.
+pub const GREETED: &[u8] = b"\
+\x00\x00\x0c\x04\x00\x00\x00\x00\x00\x00\x03\x00\x00\x00d\x00\x06\x00\x00@\x00\x00\x00\x00\x04\x01\x00\x00\x00\x00";
+
+/// The program's answer 200 on stream 1, the first of the link.
+pub const ADMITTED: &[u8] = b"\
+\x00\x00\x02\x01\x04\x00\x00\x00\x01\x20\x88";
+
+/// The program's answer 400 on stream 1, the first of the link, and the reset behind it.
+pub const REFUSED: &[u8] = b"\
+\x00\x00\x02\x01\x05\x00\x00\x00\x01\x20\x8c\x00\x00\x04\x03\x00\x00\x00\x00\x01\x00\x00\x00\x00";
+
+/// Stream 1 is reset, as a tunnel is that is revoked.
+pub const REVOKED: &[u8] = b"\
+\x00\x00\x04\x03\x00\x00\x00\x00\x01\x00\x00\x00\x08";
+
+/// DATA on stream 1.
+pub const HELLO: &[u8] = b"\
+\x00\x00\x05\x00\x00\x00\x00\x00\x01hello";
+
+/// The end of stream 1.
+pub const LAST: &[u8] = b"\
+\x00\x00\x00\x00\x01\x00\x00\x00\x01";
+
+/// A PING.
+pub const PING: &[u8] = b"\
+\x00\x00\x08\x06\x00\x00\x00\x00\x0012345678";
+
+/// Its answer.
+pub const PONG: &[u8] = b"\
+\x00\x00\x08\x06\x01\x00\x00\x00\x0012345678";

@@ -1,0 +1,12 @@
+//! Tests of `hbone serve` over the real sockets of this machine: the command runs in a thread, and the test is its control plane, its
+//! peer and its upstream.
+#![tactic(auto)]
+
+#[cfg(test)]
+mod frames;
+#[cfg(test)]
+mod octets;
+#[cfg(test)]
+mod runs;
+#[cfg(test)]
+mod serving;

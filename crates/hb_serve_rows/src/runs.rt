@@ -1,0 +1,126 @@
+//! The runs.
+
+use crate::frames::{ADMITTED, HELLO, LAST, PING, PONG, REFUSED, REVOKED, UPDATE, UPDATE_TAKEN};
+use crate::octets::{assert_next, is_closed, next_data, pattern};
+use crate::serving::{Serving, next_at};
+use std::io;
+use std::net::{Net, Shutdown, TcpStream};
+use std::process::Abort;
+use std::test::Fail;
+
+/// A tunnel to the upstream, by which octets went up: its upstream's end, and its peer's.
+fn tunnel(
+    rt: &(impl Net<Stream = TcpStream> + Abort + AllocGlobal),
+    serving: &Serving,
+) -> Result<(TcpStream, TcpStream), Fail> {
+    let mut peer = serving.request(rt, serving.ports.upstream)?;
+    let mut upstream = next_at(&serving.upstream)?;
+    assert_next(rt, &mut peer, ADMITTED, "the answer")?;
+    io::Write::write_all(&mut peer, HELLO)?;
+    assert_next(rt, &mut upstream, b"hello", "what goes up")?;
+    Ok((upstream, peer))
+}
+
+/// The upstream sends octets, of which so many come to the peer of the tunnel.
+fn send_down(
+    rt: &(impl Abort + AllocGlobal),
+    upstream: &mut TcpStream,
+    peer: &mut TcpStream,
+    count: u32,
+    coming: usize,
+) -> Result<(), Fail> {
+    let sent = pattern(rt.alloc(), count)?;
+    io::Write::write_all(upstream, sent.as_slice())?;
+    let (came, ended) = next_data(rt, peer, coming)?;
+    assert!(rt;
+        sent.get(..coming) == Some(came.as_slice()),
+        "{} octets",
+        came.len()
+    );
+    assert!(rt; !ended);
+    Ok(())
+}
+
+/// The peer ends its way, then the upstream its own behind its last octets, and then the peer its connection.
+fn end_both_ways(
+    rt: &(impl Abort + AllocGlobal),
+    upstream: TcpStream,
+    peer: &mut TcpStream,
+) -> Result<(), Fail> {
+    let mut upstream = upstream;
+    io::Write::write_all(peer, LAST)?;
+    assert!(rt; is_closed(&mut upstream));
+    io::Write::write_all(&mut upstream, b"bye")?;
+    drop(upstream);
+    let (came, ended) = next_data(rt, peer, 4)?;
+    assert!(rt; came.as_slice() == b"bye".as_slice());
+    assert!(rt; ended);
+    peer.shutdown(Shutdown::Write)?;
+    assert!(rt; is_closed(peer));
+    Ok(())
+}
+
+#[test]
+fn a_tunnel_lives_from_its_request_to_its_end(rt: HostRuntime) -> Result<(), Fail> {
+    let serving = Serving::begin(&rt, rt.clone()?)?;
+    let mut plane = serving.apply_all(&rt)?;
+    let (mut upstream, mut peer) = tunnel(&rt, &serving)?;
+    send_down(&rt, &mut upstream, &mut peer, 40_000, 40_000)?;
+    end_both_ways(&rt, upstream, &mut peer)?;
+    let port = serving.ports.upstream;
+    serving.assert_ends(
+        &rt,
+        port,
+        "0; total: 3 links, 1 accepted, 0 revoked, 5 up, 40003 down\n; ; \
+verdict 2/1 200 10.0.0.9 cluster.local/ns/a/sa/c 127.0.0.1:#####\nend 2/1 done up 5 down 40003\n",
+    )?;
+    assert!(rt; is_closed(&mut plane));
+    Ok(())
+}
+
+#[test]
+fn an_update_revokes_a_tunnel_with_octets_in_flight(rt: HostRuntime) -> Result<(), Fail> {
+    let serving = Serving::begin(&rt, rt.clone()?)?;
+    let mut plane = serving.apply_all(&rt)?;
+    let (mut upstream, mut peer) = tunnel(&rt, &serving)?;
+    // As many as the peer's windows allow.
+    send_down(&rt, &mut upstream, &mut peer, 100_000, 65_535)?;
+    io::Write::write_all(&mut plane, UPDATE)?;
+    assert_next(&rt, &mut plane, UPDATE_TAKEN, "the update's answer")?;
+    assert_next(&rt, &mut peer, REVOKED, "the reset")?;
+    assert!(rt; is_closed(&mut upstream));
+    // Behind the reset nothing comes of the tunnel.
+    io::Write::write_all(&mut peer, HELLO)?;
+    io::Write::write_all(&mut peer, PING)?;
+    assert_next(&rt, &mut peer, PONG, "the answer to PING")?;
+    let port = serving.ports.upstream;
+    serving.assert_ends(
+        &rt,
+        port,
+        "0; total: 3 links, 1 accepted, 1 revoked, 5 up, 65535 down\n; ; \
+verdict 2/1 200 10.0.0.9 cluster.local/ns/a/sa/c 127.0.0.1:#####\nend 2/1 revoked up 5 down 65535\n",
+    )?;
+    assert!(rt; is_closed(&mut peer));
+    assert!(rt; is_closed(&mut plane));
+    Ok(())
+}
+
+#[test]
+fn a_request_for_the_door_itself_is_refused(rt: HostRuntime) -> Result<(), Fail> {
+    let serving = Serving::begin(&rt, rt.clone()?)?;
+    let mut plane = serving.apply_all(&rt)?;
+    let mut peer = serving.request(&rt, serving.ports.door)?;
+    assert_next(&rt, &mut peer, REFUSED, "the answer")?;
+    io::Write::write_all(&mut peer, PING)?;
+    assert_next(&rt, &mut peer, PONG, "the answer to PING")?;
+    let port = serving.ports.door;
+    serving.assert_ends(
+        &rt,
+        port,
+        "0; total: 2 links, 0 accepted, 0 revoked, 0 up, 0 down\n; ; \
+verdict 2/1 400 10.0.0.9 cluster.local/ns/a/sa/c 127.0.0.1:#####\n",
+    )?;
+    assert!(rt; is_closed(&mut peer));
+    assert!(rt; is_closed(&mut plane));
+    Ok(())
+}
