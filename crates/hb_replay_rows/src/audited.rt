@@ -62,7 +62,11 @@ fn audit(alloc: Global, number: u32, fail: Option<u64>) -> MemAudit {
 fn three(rt: &impl Abort, alloc: Global, which: u32, at: u64) -> Audits<MemAudit> {
     let mut audits = Vec::new(alloc);
     for number in 10..13u32 {
-        let fail = if number == which { Some(at + 1) } else { None };
+        let fail = if number == which {
+            Some(at.saturating_add(1))
+        } else {
+            None
+        };
         let audit = audit(alloc, number, fail);
         audits.push(audit).ok().expect(rt, "memory");
     }
@@ -93,11 +97,11 @@ fn assert_holds_all<A: Audit>(
 
 /// Behind a run with `three` the others are left, and hold all; where no note has the place `at` all three are.
 fn assert_left(rt: &impl Abort, alloc: Global, audits: &Audits<MemAudit>, which: u32, at: u64) {
-    let mut place = 0;
+    let mut place = 0_usize;
     for number in 10..13u32 {
         if number != which || 4 < at {
             assert_holds_all(rt, alloc, audits, place, number);
-            place += 1;
+            place = place.saturating_add(1);
         }
     }
     let left = audits.len();
