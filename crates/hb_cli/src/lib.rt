@@ -4,8 +4,10 @@
 mod answer;
 mod command;
 mod input;
+mod laws;
 mod serving;
 mod stop;
 mod telling;
 
 pub use command::run;
+pub use laws::ends_of_serve_are_told_apart;
