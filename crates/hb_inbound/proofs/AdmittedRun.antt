@@ -171,7 +171,8 @@ module _ (start : Resources) (a : Local) (parts : List Part) (admits : Admits st
         each = at_one s (λ t. requested_with headers end) (record a.link { conn = c })
             (λ k t. Tells a.held (told_by_front a.link) (parts ++ p ∷ []) k t)
             (none_told a.held (told_by_front a.link) (parts ++ p ∷ []) s (requested_with headers end) refl)
-            (λ k apart. tells_on start parts p a.held (told_by_front a.link) k (a.link.tunnels k) (a.link.tunnels k) (λ w. refl) (λ t. refl) refl
+            (λ k apart. tells_on start parts p a.held (told_by_front a.link) k (a.link.tunnels k) (a.link.tunnels k)
+            (λ w. refl) (λ t. refl) refl
             (λ some. some) (admits.each k));
       }
   found_admits ps (found.Chunk s end) headers bytes c is =

@@ -86,7 +86,8 @@ module _ {N : Type 0} (f : N → Proxy) (h : N → Held) (before : Held) where
       → Serves words served keep (heard_of before (h n)) trace
   served_with words served keep n trace run =
       let g = words.config in
-      let along = served_along f (StandsIn f h g before) (StandsAs g) (gives g) shown_of (words_of words) served (turns.leaves keep n) trace run in
+      let along = served_along f (StandsIn f h g before) (StandsAs g) (gives g) shown_of (words_of words) served
+      (turns.leaves keep n) trace run in
       inr (
         record {
           proxy = f n;
@@ -111,6 +112,7 @@ module _ {N : Type 0} (f : N → Proxy) (h : N → Held) (before : Held) where
       → Serves words served keep (heard_of before (h n)) trace
   serves_so g asked words served keep n trace config is run =
       served_with words served keep n trace
-      (subst (λ (c : NodeConfig). turns.IsServed (StandsIn f h c before) (λ m. shown_of (f m)) (words_of words) served (turns.leaves keep n) trace)
+      (subst (λ (c : NodeConfig). turns.IsServed (StandsIn f h c before) (λ m. shown_of (f m)) (words_of words) served
+      (turns.leaves keep n) trace)
       (sym config)
       (subst (λ (w : LoopWords). turns.IsServed (StandsIn f h g before) (λ m. shown_of (f m)) w served (turns.leaves keep n) trace) is run))

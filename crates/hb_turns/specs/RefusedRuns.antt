@@ -135,7 +135,8 @@ module _ {N : Type 0} (stands : List Note → N → List Entry → Type 0) (show
   -- a node that stands for the dial lacks memory for what it is told next
   abbrev pub LackIsServed : Type 0
   LackIsServed = (to : Target) (why : Why) (notes : List Note) (n : N) (left : Leaves N) → IsFree (shown n)
-      → stands notes n (e.Dialled 1 to why ∷ []) → IsServed stands shown (asks 9 None) (lacked (record no_totals { links = 1 })) left (lack_behind_open to why)
+      → stands notes n (e.Dialled 1 to why ∷ [])
+      → IsServed stands shown (asks 9 None) (lacked (record no_totals { links = 1 })) left (lack_behind_open to why)
 
   abbrev pub GoodRunIsServed : Type 0
   GoodRunIsServed = (at to : Target) (why : Why) (notes more : List Note) (n m k : N) → IsFree (shown n) → (shown m).ends_for ≡ None

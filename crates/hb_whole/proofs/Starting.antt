@@ -33,8 +33,8 @@ fresh_stands p g state shows links noted dials ends sound = record {
   sound = sound;
 }
 
-pub fresh_node : (p : Proxy) (g : NodeConfig) → p.control ≡ fresh_state g (nothing_held g.network g.node g.inbound) → is_idle p.side.links ≡ true
-    → p.ends_for ≡ None → IsFreshNode (shown_of p)
+pub fresh_node : (p : Proxy) (g : NodeConfig) → p.control ≡ fresh_state g (nothing_held g.network g.node g.inbound)
+    → is_idle p.side.links ≡ true → p.ends_for ≡ None → IsFreshNode (shown_of p)
 fresh_node p g state idle ends = record {
   going = ends;
   none_closes = ap (λ (o : Option Cause). closes_by o p) ends

@@ -23,4 +23,5 @@ returns-clause-served g c = λ none had.
     subst (λ (b : Bool). IfSome (g.W.World.trace c.end_run-noted.new.world) (IsServed g.N.Node.stands g.N.Node.shown c.args.words
     (outcome c.end_of-end.result new.records new.taken.sums b) (leaves new.taken.keep new.node))) (sym c.is_err.ensures.value)
     (subst (λ (end : ServeEnd). IfSome (g.W.World.trace c.end_run-noted.new.world) (IsServed g.N.Node.stands g.N.Node.shown c.args.words
-    (outcome end new.records new.taken.sums (is_err c.end_run-noted.result)) (leaves new.taken.keep new.node))) (sym c.end_of-end.ensures) served)
+    (outcome end new.records new.taken.sums (is_err c.end_run-noted.result)) (leaves new.taken.keep new.node)))
+    (sym c.end_of-end.ensures) served)

@@ -4,5 +4,6 @@ use Rattle.hb_serve.proofs.asked.AskedNode.accepted.Goals as goal
 
 pub returns : goal.returns
 returns g c =
-    on_ok _ ⊤ _ c.accepted.result (λ tells always. tells_as g.G.Given.config g.G.Given.held _ _ _ _ tells c.accepted.ensures.config) c.accepted.ensures.tells
+    on_ok _ ⊤ _ c.accepted.result (λ tells always. tells_as g.G.Given.config g.G.Given.held _ _ _ _ tells c.accepted.ensures.config)
+    c.accepted.ensures.tells
     (always c.accepted.result tt)

@@ -6,7 +6,8 @@ use Rattle.hb_serve.proofs.asked.AskedNode.next_act.Goals as goal
 
 pub returns-clause-acts : goal.returns-clause-acts
 returns-clause-acts g c =
-    acts_as (λ (n : Asked g.row.G.Denot g.row.A.Denot). n.proxy) (λ (n : Asked g.row.G.Denot g.row.A.Denot). held_by g.A.Audit.notes n.audits)
+    acts_as (λ (n : Asked g.row.G.Denot g.row.A.Denot). n.proxy)
+    (λ (n : Asked g.row.G.Denot g.row.A.Denot). held_by g.A.Audit.notes n.audits)
     g.G.Given.config g.G.Given.held c.next_act.result _ _ c.next_act.ensures.acts c.next_act.ensures.config refl
 
 pub returns-clause-all : goal.returns-clause-all
