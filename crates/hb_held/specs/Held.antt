@@ -1,14 +1,14 @@
 -- The resources that a node holds.
-use Rattle.std.specs.Prelude.{ℕ, ◌+◌, Bool, true, false, ◌||◌, List, Option, nat_lt, refl}
+use Rattle.std.specs.Prelude.{ℕ, ◌+◌, Bool, true, false, ◌||◌, List, Option, None, nat_lt, refl}
 use Rattle.std.specs.Coded.{Coded, code_by, coded×, coded_ℕ, coded_bool, coded_list, coded_option}
 use Rattle.std.specs.Cmp.Lexicographic.{slice_cmp}
 use Rattle.std.specs.Ordering.{nat_cmp}
 use Rattle.std.specs.FinMap.{empty, code, contains_key, get, insert, remove, len}
-use Rattle.hb_base.specs.declared.target.Target.{Target}
 use Rattle.hb_disco.specs.declared.kind.Kind.{Kind}
 use Rattle.hb_disco.specs.declared.kind.Kind.TheVariants.{Address, Authorization}
 use Rattle.hb_records.specs.declared.address.AddressRecord.{AddressRecord}
 use Rattle.hb_records.specs.declared.authorization.Authorization.{Authorization as Policy}
+use Rattle.hb_held.specs.declared.doors.OwnDoors.{OwnDoors}
 use Rattle.hb_held.specs.declared.versioned.Versioned.{Versioned}
 use Rattle.hb_index.specs.Named.{Named}
 use Rattle.hb_index.specs.Kept.{note, note_removal, undone}
@@ -18,8 +18,8 @@ pub record Resources : Type 0 where
   -- the network of the node, and its name
   pub network : List ℕ
   pub node : List ℕ
-  -- where its own door for tunnels listens, if it has one
-  pub inbound : Option Target
+  -- where its own doors listen
+  pub doors : OwnDoors
   pub addresses : Named (Versioned AddressRecord)
   pub policies : Named (Versioned Policy)
   -- a response of this kind was applied
@@ -32,24 +32,24 @@ pub record Resources : Type 0 where
   pub settled : Bool
 
 -- the resources are stored as their fields
-abbrev pub resources_code : Coded Target → Coded (Versioned AddressRecord) → Coded (Versioned Policy) → Coded Resources
-resources_code target address policy =
-    code_by (((List ℕ × List ℕ) × Option Target) × (((Named (Versioned AddressRecord) × Named (Versioned Policy)) × (Bool × Bool))
+abbrev pub resources_code : Coded OwnDoors → Coded (Versioned AddressRecord) → Coded (Versioned Policy) → Coded Resources
+resources_code doors address policy =
+    code_by (((List ℕ × List ℕ) × OwnDoors) × (((Named (Versioned AddressRecord) × Named (Versioned Policy)) × (Bool × Bool))
     × ((Named (Option (Versioned AddressRecord)) × Named (Option (Versioned Policy))) × Bool)))
-    (coded× (coded× (coded× (coded_list coded_ℕ) (coded_list coded_ℕ)) (coded_option target)) (coded×
+    (coded× (coded× (coded× (coded_list coded_ℕ) (coded_list coded_ℕ)) doors) (coded×
     (coded× (coded× (code {R = slice_cmp nat_cmp} (coded_list coded_ℕ) address) (code {R = slice_cmp nat_cmp} (coded_list coded_ℕ) policy))
     (coded× coded_bool coded_bool))
     (coded× (coded× (code {R = slice_cmp nat_cmp} (coded_list coded_ℕ) (coded_option address))
     (code {R = slice_cmp nat_cmp} (coded_list coded_ℕ) (coded_option policy)))
     coded_bool)))
     (λ h. (
-      ((h.network, h.node), h.inbound),
+      ((h.network, h.node), h.doors),
       (((h.addresses, h.policies), (h.addresses_came, h.policies_came)), ((h.past_addresses, h.past_policies), h.settled)),
     ))
     (λ p. record {
       network = p.0.0.0;
       node = p.0.0.1;
-      inbound = p.0.1;
+      doors = p.0.1;
       addresses = p.1.0.0.0;
       policies = p.1.0.0.1;
       addresses_came = p.1.0.1.0;
@@ -60,13 +60,17 @@ resources_code target address policy =
     })
     (λ _. refl)
 
+-- a node without doors
+abbrev pub no_doors : OwnDoors
+no_doors = record { inbound = None; outbound = None; plain = None }
+
 -- a node that holds nothing
-abbrev pub nothing_held : List ℕ → List ℕ → Option Target → Resources
-nothing_held network node inbound =
+abbrev pub nothing_held : List ℕ → List ℕ → OwnDoors → Resources
+nothing_held network node doors =
     record {
       network = network;
       node = node;
-      inbound = inbound;
+      doors = doors;
       addresses = empty;
       policies = empty;
       addresses_came = false;

@@ -5,22 +5,23 @@ ghost use Rattle.hb_base.specs.Outcome.{Merges};
 ghost use Rattle.hb_held.specs.Held.{nothing_held, count, holds, fits, begun, without, with_came};
 ghost use Rattle.hb_held.specs.Outcome.{refusing, with_read_address, with_read_policy, with_record, with_resource};
 
+use crate::doors::OwnDoors;
 use crate::outcome::RefusedWhy;
 use crate::versioned::Versioned;
-use hb_base::{NoMemory, Or, Target, Text};
+use hb_base::{NoMemory, Or, Text};
 use hb_disco::{Kind, Resource};
 use hb_index::Indexed;
 use hb_records::{AddressRecord, Authorization, RecordFault, read_address, read_authorization};
 use std::alloc::Global;
 use std::marker::Model;
 
-/// The resources that a node of a network holds, by kind and name. Contracts see the node's network and name, where its own door for
-/// tunnels listens, a finite map for each kind, whether a response of each kind was applied, and what the last one changed.
+/// The resources that a node of a network holds, by kind and name. Contracts see the node's network and name, where its own doors
+/// listen, a finite map for each kind, whether a response of each kind was applied, and what the last one changed.
 #[derive(Drop)]
 pub struct Held {
     pub(crate) network: Text,
     pub(crate) node: Text,
-    pub(crate) inbound: Option<Target>,
+    pub(crate) doors: OwnDoors,
     pub(crate) addresses: Indexed<Versioned<AddressRecord>>,
     pub(crate) policies: Indexed<Versioned<Authorization>>,
     addresses_came: bool,
@@ -29,20 +30,20 @@ pub struct Held {
 }
 
 impl Model for Held {
-    ghost use Rattle.hb_base.specs.contracts.target.Target.{the_row as target_row};
     ghost use Rattle.hb_held.specs.Held.{Resources, resources_code};
+    ghost use Rattle.hb_held.specs.contracts.doors.OwnDoors.{the_row as doors_row};
     ghost use Rattle.hb_held.specs.contracts.versioned.Versioned.{the_row as versioned_row};
     ghost use Rattle.hb_records.specs.contracts.address.AddressRecord.{the_row as address_row};
     ghost use Rattle.hb_records.specs.contracts.authorization.Authorization.{the_row as policy_row};
 
     ghost Value = { Resources };
 
-    ghost coded = { resources_code target_row.coded (versioned_row address_row).coded (versioned_row policy_row).coded };
+    ghost coded = { resources_code doors_row.coded (versioned_row address_row).coded (versioned_row policy_row).coded };
 
     ghost view = { λ h. record {
       network = h.network;
       node = h.node;
-      inbound = h.inbound;
+      doors = h.doors;
       addresses = h.addresses.now;
       policies = h.policies.now;
       addresses_came = h.addresses_came;
@@ -67,14 +68,14 @@ fn refusing(why: Or<RecordFault>) -> Or<RefusedWhy>
 }
 
 impl Held {
-    /// Nothing is held, at this node of this network, whose own door for tunnels listens there; `None`: it has no such door.
-    pub fn new(alloc: Global, network: Text, node: Text, inbound: Option<Target>) -> Held
-        ensures { result ≡ nothing_held network node inbound }
+    /// Nothing is held, at this node of this network, with these doors.
+    pub fn new(alloc: Global, network: Text, node: Text, doors: OwnDoors) -> Held
+        ensures { result ≡ nothing_held network node doors }
     {
         Held {
             network,
             node,
-            inbound,
+            doors,
             addresses: Indexed::new(alloc),
             policies: Indexed::new(alloc),
             addresses_came: false,
@@ -232,11 +233,11 @@ impl Held {
         self.settled
     }
 
-    /// Where the node's own door for tunnels listens. `None`: it has none.
-    pub fn inbound(&self) -> Option<Target>
-        ensures { result ≡ self.now.inbound }
+    /// The node's own doors.
+    pub fn doors(&self) -> OwnDoors
+        ensures { result ≡ self.now.doors }
     {
-        self.inbound
+        self.doors
     }
 
     /// A response of each kind was applied.

@@ -2,6 +2,7 @@
 #![tactic(auto)]
 
 mod apply;
+mod doors;
 mod endpoints;
 mod found;
 mod held;
@@ -15,6 +16,7 @@ mod rows;
 mod touched;
 mod versioned;
 
+pub use doors::OwnDoors;
 pub use endpoints::Endpoints;
 pub use found::{Found, FoundService};
 pub use held::Held;

@@ -3,7 +3,7 @@
 use crate::responses::{response_of, tell_outcome, text_of};
 use hb_base::{Bytes, List, NoMemory, Text};
 use hb_disco::{Kind, Resource, Response};
-use hb_held::{Held, Outcome};
+use hb_held::{Held, Outcome, OwnDoors};
 use std::alloc::Global;
 use std::process::Abort;
 
@@ -58,7 +58,12 @@ a ~v w:w v:w => 1 1 a.v a.w (v: full)";
 
 #[test]
 fn no_more_than_65536_are_held(rt: HostRuntime) {
-    let mut held = Held::new(rt.alloc(), text_of(&rt, "net"), text_of(&rt, "n1"), None);
+    let mut held = Held::new(
+        rt.alloc(),
+        text_of(&rt, "net"),
+        text_of(&rt, "n1"),
+        OwnDoors::none(),
+    );
     let response = many(rt.alloc(), 65535).expect(&rt, "memory");
     let outcome = held.apply(rt.alloc(), &response).expect(&rt, "memory");
     assert!(&rt; outcome.applied == 65535, "{}", outcome.applied);

@@ -3,7 +3,7 @@
 use crate::records::bytes_of;
 use hb_base::{Bytes, List, Text};
 use hb_disco::{Kind, Resource, Response};
-use hb_held::{Held, Outcome};
+use hb_held::{Held, Outcome, OwnDoors};
 use std::process::Abort;
 
 pub fn tell(rt: &impl Abort, told: &mut String, text: &str) {
@@ -107,7 +107,12 @@ pub fn tell_outcome(rt: &impl Abort, told: &mut String, outcome: &Outcome) {
 
 /// A node `n1` of the network `net`, after responses with bars between, and what each of them told.
 pub fn held_after(rt: &(impl Abort + AllocGlobal), responses: &str, told: &mut String) -> Held {
-    let mut held = Held::new(rt.alloc(), text_of(rt, "net"), text_of(rt, "n1"), None);
+    let mut held = Held::new(
+        rt.alloc(),
+        text_of(rt, "net"),
+        text_of(rt, "n1"),
+        OwnDoors::none(),
+    );
     for words in responses.split('|') {
         if !words.trim().is_empty() {
             let response = response_of(rt, words);

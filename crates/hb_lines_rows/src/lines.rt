@@ -3,7 +3,7 @@
 use crate::told::TOLD;
 use hb_base::{List, Text};
 use hb_disco::{Kind, read_response};
-use hb_held::{Held, Outcome, Refusal, RefusedWhy};
+use hb_held::{Held, Outcome, OwnDoors, Refusal, RefusedWhy};
 use hb_lines::{outcome_line, row_line};
 use hb_records::RecordFault;
 use std::process::Abort;
@@ -47,7 +47,7 @@ fn assert_block(rt: &(impl Abort + AllocGlobal), block: &str) {
         rt.alloc(),
         Text::empty(rt.alloc()),
         Text::empty(rt.alloc()),
-        None,
+        OwnDoors::none(),
     );
     let mut bytes = Vec::new(rt.alloc());
     let mut told = String::new(rt.alloc());

@@ -5,7 +5,7 @@ use crate::told::Told;
 use crate::words::{words_of_act, words_of_note};
 use hb_base::{Cause, Text};
 use hb_disco::read_response;
-use hb_held::Held;
+use hb_held::{Held, OwnDoors};
 use hb_link::Link;
 use std::alloc::Global;
 use std::process::Abort;
@@ -80,7 +80,7 @@ impl Drive {
         let node = text_of(rt, alloc, b"n1");
         Drive {
             link: Link::accepted(alloc, 7).ok().expect(rt, "memory"),
-            held: Held::new(alloc, network, node, None),
+            held: Held::new(alloc, network, node, OwnDoors::none()),
             others: 0,
             limit: 4096,
             told: Told {

@@ -231,4 +231,4 @@ pub held_is : RunsHold
 held_is g m points (begins is none) = ap (λ (x : Machine). x.held) is ∙ ap (held g) (sym none)
 held_is g n more (goes_on {m = m} {points = points} before p steps grows) =
     held_point g m n p steps ∙ ap (λ h. held_by h p) (held_is g m points before)
-    ∙ sym (fold-append held_by (nothing_held g.network g.node g.inbound) points (p ∷ [])) ∙ ap (held g) (sym grows)
+    ∙ sym (fold-append held_by (nothing_held g.network g.node g.doors) points (p ∷ [])) ∙ ap (held g) (sym grows)

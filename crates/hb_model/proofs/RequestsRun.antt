@@ -127,7 +127,7 @@ module _ (g : NodeConfig) (m : Machine) (points : List Point) (unborn : AreUnbor
       let all : spelled (requests g l points) ++ more ≡ spelled (requests g l (points ++ p ∷ [])) =
       ap (λ (xs : List ℕ). spelled (requests g l points) ++ xs) (sym asks ∙ ap (λ h. spelled (request_in g h l p)) hold)
       ∙ sym (spelled_more (requests g l points) (request_in g (held g points) l p))
-      ∙ ap spelled (sym (requests_more g (nothing_held g.network g.node g.inbound) l points p)) in
+      ∙ ap spelled (sym (requests_more g (nothing_held g.network g.node g.doors) l points p)) in
       record {
         begun = begun;
         begins = subst (λ (qs : List history.Point). LeadsWith fresh_client qs begun c)

@@ -44,7 +44,7 @@ none_more g l points p none passes = record {
   went = entries_more (went_on l) points p ∙ ap₂ (λ (xs ys : List ℕ). xs ++ ys) none.went passes.went;
   tells = one_more (telling l) points p ∙ ap₂ (λ (xs ys : List Found). xs ++ ys) none.tells passes.tells;
   responses = one_more (response_in l) points p ∙ ap₂ (λ (xs ys : List Response). xs ++ ys) none.responses passes.response;
-  requests = requests_more g (nothing_held g.network g.node g.inbound) l points p
+  requests = requests_more g (nothing_held g.network g.node g.doors) l points p
       ∙ ap₂ (λ (xs ys : List (List ℕ)). xs ++ ys) none.requests (passes.request (held g points));
 }
 

@@ -31,7 +31,7 @@ pub record Machine : Type 0 where
 -- at the start nothing is held, and the control plane is to be dialled
 abbrev pub fresh : NodeConfig → Machine
 fresh g = record {
-  held = nothing_held g.network g.node g.inbound;
+  held = nothing_held g.network g.node g.doors;
   dials = true;
   born = 0;
   current = None;

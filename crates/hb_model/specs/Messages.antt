@@ -34,7 +34,7 @@ held_by held _ = held
 
 -- the resources held after some points: those of all responses that were applied, in order
 abbrev pub held : NodeConfig → List Point → Resources
-held g points = fold held_by (nothing_held g.network g.node g.inbound) points
+held g points = fold held_by (nothing_held g.network g.node g.doors) points
 
 -- what the messages of the DATA that came on a link are read as
 abbrev pub messages_came : ℕ → List Point → List (Result Response ResponseFault)

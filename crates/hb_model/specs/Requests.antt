@@ -33,7 +33,7 @@ requests_from g held l (p ∷ points) = request_in g held l p ++ requests_from g
 
 -- the requests of a link, in order
 abbrev pub requests : NodeConfig → ℕ → List Point → List (List ℕ)
-requests g l points = requests_from g (nothing_held g.network g.node g.inbound) l points
+requests g l points = requests_from g (nothing_held g.network g.node g.doors) l points
 
 -- What went on a link is, after the opening, frames, of which the last may be in part; the DATA in them is a front of the
 -- requests, each in the spelling of a message

@@ -1,6 +1,7 @@
 //! What a node is told of itself.
 
 use hb_base::{Target, Text};
+use hb_held::OwnDoors;
 
 /// The identity of a node, and where its control plane is.
 #[derive(Drop)]
@@ -13,6 +14,6 @@ pub struct NodeConfig {
     pub network: Text,
     /// The node's name: its workloads tell it.
     pub node: Text,
-    /// Where its own door for tunnels listens; `None`: it has no such door. Nothing is dialled there.
-    pub inbound: Option<Target>,
+    /// Where its own doors listen. No tunnel is dialled there.
+    pub doors: OwnDoors,
 }

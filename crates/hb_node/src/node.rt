@@ -47,15 +47,10 @@ impl Node {
     ///
     /// Errors: `NoMemory`.
     pub fn new(alloc: Global, c: NodeConfig) -> Result<Node, NoMemory>
-        ensures state { IfOk result (λ node. node ≡ fresh_state c (nothing_held c.network c.node c.inbound)) }
+        ensures state { IfOk result (λ node. node ≡ fresh_state c (nothing_held c.network c.node c.doors)) }
         ensures shows { IfOk result (λ node. Shows node (fresh c)) }
     {
-        let held = Held::new(
-            alloc,
-            c.network.copy(alloc)?,
-            c.node.copy(alloc)?,
-            c.inbound,
-        );
+        let held = Held::new(alloc, c.network.copy(alloc)?, c.node.copy(alloc)?, c.doors);
         Ok(Node {
             alloc,
             config: c,

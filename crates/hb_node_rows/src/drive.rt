@@ -2,6 +2,7 @@
 
 use crate::octets::{cut, octets_of};
 use hb_base::{Cause, Target, Text, Why, read_target};
+use hb_held::OwnDoors;
 use hb_model::{Act, NodeConfig};
 use hb_node::{NoJudge, Node};
 use std::alloc::Global;
@@ -25,7 +26,7 @@ fn config(rt: &impl Abort, alloc: Global) -> NodeConfig {
         discovery: read_target(b"10.0.0.1:15010").ok().expect(rt, "a target"),
         network: text_of(rt, alloc, b""),
         node: text_of(rt, alloc, b"n1"),
-        inbound: None,
+        doors: OwnDoors::none(),
     }
 }
 

@@ -9,7 +9,7 @@ use Rattle.hb_base.specs.declared.ip.Ip.{Ip}
 use Rattle.hb_base.specs.declared.ip.Ip.TheVariants.{V4}
 use Rattle.hb_base.specs.declared.target.Target.{Target}
 use Rattle.hb_held.specs.Endpoints.{serves}
-use Rattle.hb_held.specs.Held.{Resources, nothing_held}
+use Rattle.hb_held.specs.Held.{Resources, no_doors, nothing_held}
 use Rattle.hb_held.specs.Lookup.{workloads}
 use Rattle.hb_records.specs.declared.address.AddressRecord.{AddressRecord}
 use Rattle.hb_records.specs.declared.address.AddressRecord.TheVariants as records
@@ -125,7 +125,7 @@ waypoint = Some (record { to = Hostname (codes "a") (codes "waypoint.a"); hbone_
 -- a node n1 of the network net that holds these records
 abbrev pub holding : List (List ℕ × AddressRecord) → Resources
 holding rs =
-    record (nothing_held (codes "net") (codes "n1") None) {
+    record (nothing_held (codes "net") (codes "n1") no_doors) {
       addresses = from_sorted (map (λ r. (r.0, record { version = codes "1"; content = r.1 })) rs);
     }
 

@@ -3,7 +3,7 @@
 use crate::rows::{RECORDS, WAYS};
 use hb_base::{Bytes, Ip, List, Target, Text, put_target, read_ip};
 use hb_disco::{Kind, Resource, Response};
-use hb_held::Held;
+use hb_held::{Held, OwnDoors};
 use hb_route::{Opens, Route, route};
 use std::process::Abort;
 
@@ -52,7 +52,12 @@ fn held_of(rt: &(impl Abort + AllocGlobal), words: &str) -> Held {
         removed: List::new(rt.alloc()),
         nonce: text_of(rt, b"x"),
     };
-    let mut held = Held::new(rt.alloc(), text_of(rt, b"net"), text_of(rt, b"n1"), None);
+    let mut held = Held::new(
+        rt.alloc(),
+        text_of(rt, b"net"),
+        text_of(rt, b"n1"),
+        OwnDoors::none(),
+    );
     let outcome = held.apply(rt.alloc(), &response).expect(rt, "memory");
     assert!(rt; outcome.refused.len() == 0, "refused: {words}");
     held

@@ -23,7 +23,7 @@ use Rattle.hb_held.specs.Lookup.{workload_at}
 use Rattle.hb_held.specs.declared.versioned.Versioned.{Versioned}
 use Rattle.hb_index.specs.Named.{Named}
 use Rattle.hb_index.specs.Kept.{note, note_removal, undone}
-use Rattle.hb_held.specs.Held.{Resources, begun, before, without, with_address, with_policy, with_came, fits}
+use Rattle.hb_held.specs.Held.{Resources, no_doors, begun, before, without, with_address, with_policy, with_came, fits}
 use Rattle.hb_held.specs.Outcome.{with_read_address, with_read_policy, with_record, with_resource, after_resource, after_removals, after_resources, after_response}
 use Rattle.hb_table.specs.Judgement.{judged}
 use Rattle.hb_index.proofs.Entries.{by_bytes, equal, differ}
@@ -204,7 +204,7 @@ seen network node addresses policies =
     record {
       network = network;
       node = node;
-      inbound = None;
+      doors = no_doors;
       addresses = addresses;
       policies = policies;
       addresses_came = false;

@@ -7,9 +7,9 @@ ghost use Rattle.std.specs.Prelude.{◌≡◌};
 ghost use Rattle.hb_disco.specs.declared.response.Response.{Response};
 ghost use Rattle.hb_held.specs.Outcome.{after_response, outcome_of};
 
-use hb_base::{Bytes, List, Target, Text};
+use hb_base::{Bytes, List, Text};
 use hb_disco::{Kind, Resource, Response};
-use hb_held::{Held, Outcome};
+use hb_held::{Held, Outcome, OwnDoors};
 use std::process::Abort;
 
 pub fn text_of(rt: &(impl Abort + AllocGlobal), text: &str) -> Text {
@@ -64,14 +64,14 @@ fn response_of(rt: &(impl Abort + AllocGlobal), words: &str) -> Response {
     }
 }
 
-/// A node `n1` that holds nothing, whose own door for tunnels listens there, if it has one.
-pub fn held_behind(rt: &(impl Abort + AllocGlobal), inbound: Option<Target>) -> Held {
-    Held::new(rt.alloc(), text_of(rt, ""), text_of(rt, "n1"), inbound)
+/// A node `n1` that holds nothing, with these doors.
+pub fn held_behind(rt: &(impl Abort + AllocGlobal), doors: OwnDoors) -> Held {
+    Held::new(rt.alloc(), text_of(rt, ""), text_of(rt, "n1"), doors)
 }
 
 /// A node `n1` that holds nothing, without a door.
 pub fn nothing_held(rt: &(impl Abort + AllocGlobal)) -> Held {
-    held_behind(rt, None)
+    held_behind(rt, OwnDoors::none())
 }
 
 /// What a response tells.

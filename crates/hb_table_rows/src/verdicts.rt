@@ -3,6 +3,7 @@
 use crate::judgements::response_of;
 use crate::resources::{applied, held_behind, nothing_held};
 use crate::tunnels::{peer_of, target_of};
+use hb_held::OwnDoors;
 use hb_verdict::{Request, Verdict, verdict_on};
 use std::process::Abort;
 
@@ -49,6 +50,26 @@ fn told(verdict: Verdict) -> &'static str {
     }
 }
 
+/// The doors of a node of which one listens there, whichever it is.
+fn doors_of(rt: &impl Abort, door: &str) -> [OwnDoors; 3] {
+    let none = OwnDoors::none();
+    if door == "none" {
+        return [none, none, none];
+    }
+    let at = Some(target_of(rt, door));
+    [
+        OwnDoors {
+            inbound: at,
+            ..none
+        },
+        OwnDoors {
+            outbound: at,
+            ..none
+        },
+        OwnDoors { plain: at, ..none },
+    ]
+}
+
 #[test]
 fn tunnels_are_dialled_for_or_refused(rt: HostRuntime) {
     for row in ROWS.split('\n') {
@@ -56,24 +77,19 @@ fn tunnels_are_dialled_for_or_refused(rt: HostRuntime) {
         let (target, words) = words.split_once(" ").expect(&rt, "a target");
         let (place, words) = words.split_once(" ").expect(&rt, "a place");
         let (door, want) = words.split_once(" ").expect(&rt, "a door");
-        let mut held = held_behind(
-            &rt,
-            if door == "none" {
-                None
-            } else {
-                Some(target_of(&rt, door))
-            },
-        );
-        for word in responses.split(',') {
-            let word = response_of(word.trim());
-            if !word.is_empty() {
-                applied(&rt, &mut held, word);
+        for doors in doors_of(&rt, door) {
+            let mut held = held_behind(&rt, doors);
+            for word in responses.split(',') {
+                let word = response_of(word.trim());
+                if !word.is_empty() {
+                    applied(&rt, &mut held, word);
+                }
             }
+            let request = Request::Connect(target_of(&rt, target));
+            let peer = peer_of(&rt, "spiffe://cluster.local/ns/a/sa/c");
+            let told = told(verdict_on(request, &held, &peer, place == "full"));
+            assert!(rt; told == want, "{row}: {told}");
         }
-        let request = Request::Connect(target_of(&rt, target));
-        let peer = peer_of(&rt, "spiffe://cluster.local/ns/a/sa/c");
-        let told = told(verdict_on(request, &held, &peer, place == "full"));
-        assert!(rt; told == want, "{row}: {told}");
     }
 }
 

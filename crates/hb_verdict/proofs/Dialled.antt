@@ -32,22 +32,22 @@ pub only_where_it_may : DialsWhereItMay
 only_where_it_may (Refused status) h peer full target is = absurd cc
 only_where_it_may Malformed h peer full target is = absurd cc
 only_where_it_may (Connect wanted) h peer full target is =
-    let own = is_own_door h.inbound wanted in
+    let own = is_own_door h.doors wanted in
     let (came, judges) = told (synced h) (dial_judged (judged h peer wanted) own full wanted) target is in
     let (admitted, elsewhere, left, same) = dialled (judged h peer wanted) own full wanted target judges in
     record {
       asked = ap Connect same;
       told = came;
       admitted = subst (λ t. judged h peer t ≡ Admitted) same admitted;
-      elsewhere = subst (λ t. is_own_door h.inbound t ≡ false) same elsewhere;
+      elsewhere = subst (λ t. is_own_door h.doors t ≡ false) same elsewhere;
       left = left;
     }
 
 pub all_that_it_may : DialsAllThatItMay
 all_that_it_may request h peer full target may =
     ap (λ r. verdict r h peer full) may.asked
-    ∙ ap (λ b. cond (not b) (Status 503) (dial_judged (judged h peer target) (is_own_door h.inbound target) full target)) may.told
-    ∙ ap (λ j. dial_judged j (is_own_door h.inbound target) full target) may.admitted
+    ∙ ap (λ b. cond (not b) (Status 503) (dial_judged (judged h peer target) (is_own_door h.doors target) full target)) may.told
+    ∙ ap (λ j. dial_judged j (is_own_door h.doors target) full target) may.admitted
     ∙ ap (λ own. dial_admitted own full target) may.elsewhere ∙ ap (λ f. dial_admitted false f target) may.left
 
 different : (b : Bool) → b ≡ true → b ≡ false → ⊥
@@ -56,4 +56,4 @@ different false is isnt = absurd cc
 
 pub never_its_door : NeverDialsItsDoor
 never_its_door request h peer full target own is =
-    different (is_own_door h.inbound target) own (only_where_it_may request h peer full target is).elsewhere
+    different (is_own_door h.doors target) own (only_where_it_may request h peer full target is).elsewhere

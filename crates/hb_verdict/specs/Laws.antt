@@ -5,8 +5,9 @@ use Rattle.hb_base.specs.declared.ip.Ip.{Ip}
 use Rattle.hb_base.specs.declared.ip.Ip.TheVariants.{V4}
 use Rattle.hb_base.specs.declared.peer.Peer.{Peer}
 use Rattle.hb_base.specs.declared.target.Target.{Target}
-use Rattle.hb_held.specs.Held.{Resources}
+use Rattle.hb_held.specs.Held.{Resources, no_doors}
 use Rattle.hb_held.specs.Lookup.{ip_eq}
+use Rattle.hb_held.specs.declared.doors.OwnDoors.{OwnDoors}
 use Rattle.hb_hpack.specs.StaticTable.{header}
 use Rattle.hb_hpack.specs.declared.header.Header.{Header}
 use Rattle.hb_hpack.specs.declared.header.HeaderList.{HeaderList}
@@ -38,13 +39,13 @@ abbrev pub NoTunnelIsMissed : Type 0
 NoTunnelIsMissed = (headers : HeaderList) (destination : Ip) (target : Target)
     → AsksFor headers destination target → request_of headers destination ≡ Connect target
 
--- the target of a request is dialled exactly where workloads and policies came, they admit the peer, it isn't the node's own door, and a
+-- the target of a request is dialled exactly where workloads and policies came, they admit the peer, it isn't one of the node's own doors, and a
 -- place is left
 pub record MayDial (request : Request) (h : Resources) (peer : Peer) (full : Bool) (target : Target) : Type 0 where
   pub asked : request ≡ Connect target
   pub told : synced h ≡ true
   pub admitted : judged h peer target ≡ Admitted
-  pub elsewhere : is_own_door h.inbound target ≡ false
+  pub elsewhere : is_own_door h.doors target ≡ false
   pub left : full ≡ false
 
 abbrev pub DialsWhereItMay : Type 0
@@ -55,24 +56,30 @@ abbrev pub DialsAllThatItMay : Type 0
 DialsAllThatItMay = (request : Request) (h : Resources) (peer : Peer) (full : Bool) (target : Target)
     → MayDial request h peer full target → verdict request h peer full ≡ Dial target
 
--- so nothing is dialled at the node's own door
+-- so nothing is dialled at a door of the node
 abbrev pub NeverDialsItsDoor : Type 0
 NeverDialsItsDoor = (request : Request) (h : Resources) (peer : Peer) (full : Bool) (target : Target)
-    → is_own_door h.inbound target ≡ true → verdict request h peer full ≡ Dial target → ⊥
+    → is_own_door h.doors target ≡ true → verdict request h peer full ≡ Dial target → ⊥
 
 -- 10.0.0.7
 abbrev pub here : Ip
 here = V4 167772167
 
--- a door that listens at each address is reached at 10.0.0.7, one at another address or port isn't
+-- a door that listens at each address is reached at 10.0.0.7, whichever it is; one at another address or port isn't
 abbrev pub port_80 : Ip → Target
 port_80 ip = record { ip = ip; port = 80 }
 
-abbrev pub DoorIsReached : Ip → Type 0
-DoorIsReached ip = is_own_door (Some (port_80 ip)) (port_80 here) ≡ true
+pub record DoorIsReached (ip : Ip) : Type 0 where
+  pub inbound : is_own_door (record no_doors { inbound = Some (port_80 ip) }) (port_80 here) ≡ true
+  pub outbound : is_own_door (record no_doors { outbound = Some (port_80 ip) }) (port_80 here) ≡ true
+  pub plain : is_own_door (record no_doors { plain = Some (port_80 ip) }) (port_80 here) ≡ true
+
+-- where each listens there
+abbrev pub each_at : Option Target → OwnDoors
+each_at door = record { inbound = door; outbound = door; plain = door }
 
 abbrev pub DoorIsMissed : Option Target → Type 0
-DoorIsMissed door = is_own_door door (port_80 here) ≡ false
+DoorIsMissed door = is_own_door (each_at door) (port_80 here) ≡ false
 
 -- small requests to 10.0.0.7
 abbrev pub connect : Header

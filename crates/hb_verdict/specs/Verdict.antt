@@ -6,6 +6,7 @@ use Rattle.hb_base.specs.declared.peer.Peer.{Peer}
 use Rattle.hb_base.specs.declared.target.Target.{Target}
 use Rattle.hb_held.specs.Held.{Resources}
 use Rattle.hb_held.specs.Lookup.{ip_eq}
+use Rattle.hb_held.specs.declared.doors.OwnDoors.{OwnDoors}
 use Rattle.hb_table.specs.Judgement.{judged}
 use Rattle.hb_table.specs.declared.judgement.Judged.{Judged}
 use Rattle.hb_table.specs.declared.judgement.Judged.TheVariants.{Admitted, Unknown, Denied}
@@ -27,12 +28,16 @@ is_unspecified (V6 n) = n == 0
 abbrev pub reaches : Target → Target → Bool
 reaches target door = door.port == target.port && (is_unspecified door.ip || ip_eq door.ip target.ip)
 
--- the target is the node's own door for tunnels, which takes the word of whoever reaches it for who a peer is
-abbrev pub is_own_door : Option Target → Target → Bool
-is_own_door None target = false
-is_own_door (Some door) target = reaches target door
+-- it reaches a door, where there is one
+abbrev pub is_at : Option Target → Target → Bool
+is_at None target = false
+is_at (Some door) target = reaches target door
 
--- where the peer is admitted, the target is to be another one than the door, and a place is wanted
+-- the target is one of the node's own doors, which take the word of whoever reaches them for who a connection comes from
+abbrev pub is_own_door : OwnDoors → Target → Bool
+is_own_door doors target = is_at doors.inbound target || is_at doors.outbound target || is_at doors.plain target
+
+-- where the peer is admitted, the target is to be none of the doors, and a place is wanted
 abbrev pub dial_admitted : Bool → Bool → Target → Verdict
 dial_admitted true full target = Status 400
 dial_admitted false true target = Status 503
@@ -45,7 +50,7 @@ dial_judged Admitted own full target = dial_admitted own full target
 
 abbrev pub dial_for : Resources → Peer → Target → Bool → Verdict
 dial_for h peer target full =
-    if not (synced h) then Status 503 else dial_judged (judged h peer target) (is_own_door h.inbound target) full target
+    if not (synced h) then Status 503 else dial_judged (judged h peer target) (is_own_door h.doors target) full target
 
 abbrev pub verdict : Request → Resources → Peer → Bool → Verdict
 verdict (Refused status) h peer full = Status status

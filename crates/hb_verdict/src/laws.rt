@@ -14,19 +14,19 @@ pub fn tunnels_are_asked_for()
     ensures all { NoTunnelIsMissed }
 {}
 
-/// A target is dialled exactly where workloads and policies came, they admit the peer, it isn't the node's own door for tunnels, and a
-/// place is left.
+/// A target is dialled exactly where workloads and policies came, they admit the peer, it isn't one of the node's own doors, and a place
+/// is left.
 pub fn dials_where_it_may()
     ensures only { DialsWhereItMay }
     ensures all { DialsAllThatItMay }
 {}
 
-/// Nothing is dialled at the node's own door for tunnels: what reaches it would be believed who a peer is.
+/// Nothing is dialled at a door of the node: what reaches it would be believed who a connection comes from.
 pub fn its_own_door_is_never_dialled()
     ensures never { NeverDialsItsDoor }
 {}
 
-/// A door is reached at its own address, and where it listens at the unspecified one at each address; not at another address or port.
+/// A door, whichever it is, is reached at its own address, and where it listens at the unspecified one at each address; not at another address or port.
 pub fn doors_are_told_apart()
     ensures own { DoorIsReached (V4 167772167) }
     ensures each { DoorIsReached (V4 0) }

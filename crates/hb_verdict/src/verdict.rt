@@ -1,7 +1,7 @@
 //! What is answered by what is held.
 
 ghost use Rattle.std.specs.Prelude.{◌≡◌};
-ghost use Rattle.hb_verdict.specs.Verdict.{is_unspecified, reaches, is_own_door, dial_admitted, dial_for, verdict};
+ghost use Rattle.hb_verdict.specs.Verdict.{is_unspecified, reaches, is_at, is_own_door, dial_admitted, dial_for, verdict};
 
 use crate::request::Request;
 use hb_base::{Ip, Peer, Target};
@@ -36,17 +36,25 @@ fn reaches(target: Target, door: Target) -> bool
     door.port == target.port && (is_unspecified(door.ip) || door.ip == target.ip)
 }
 
-/// Whether the target is the node's own door for tunnels.
-fn is_own_door(held: &Held, target: Target) -> bool
-    ensures { result ≡ is_own_door held.now.inbound target }
+/// Whether who connects to the target reaches this door, where there is one.
+fn is_at(target: Target, door: Option<Target>) -> bool
+    ensures { result ≡ is_at door target }
 {
-    match held.inbound() {
+    match door {
         Some(door) => reaches(target, door),
         None => false,
     }
 }
 
-/// The target admits the peer. It isn't the node's own door, and there is a place for the tunnel.
+/// Whether the target is one of the node's own doors.
+fn is_own_door(held: &Held, target: Target) -> bool
+    ensures { result ≡ is_own_door held.now.doors target }
+{
+    let doors = held.doors();
+    is_at(target, doors.inbound) || is_at(target, doors.outbound) || is_at(target, doors.plain)
+}
+
+/// The target admits the peer. It is none of the node's own doors, and there is a place for the tunnel.
 fn dial_admitted(own: bool, full: bool, target: Target) -> Verdict
     ensures { result ≡ dial_admitted own full target }
 {
@@ -75,8 +83,8 @@ fn dial_for(held: &Held, peer: &Peer, target: Target, full: bool) -> Verdict
 
 /// The answer to a request of this peer, by the resources held; `full`: no place is left for a tunnel. Of a tunnel the first of
 /// these that applies: 503 where the control plane hasn't told workloads and policies yet, 404 where the target is no workload of
-/// this node, 401 where its policies refuse the peer, 400 where it is the node's own door for tunnels (whoever reaches that is
-/// believed who a peer is), 503 where no place is left, else its target is dialled.
+/// this node, 401 where its policies refuse the peer, 400 where it is one of the node's own doors (whoever reaches one is believed
+/// who a connection comes from), 503 where no place is left, else its target is dialled.
 pub fn verdict_on(request: Request, held: &Held, peer: &Peer, full: bool) -> Verdict
     ensures { result ≡ verdict request held.now peer.now full }
 {

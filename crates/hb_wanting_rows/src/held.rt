@@ -2,7 +2,7 @@
 
 use hb_base::{Bytes, Ip, List, NoMemory, Text};
 use hb_disco::{Kind, Resource, Response};
-use hb_held::Held;
+use hb_held::{Held, OwnDoors};
 use std::process::Abort;
 
 /// Workloads of the network `net` that serve `a/b`, at 10.0.0.5 to 10.0.0.8.
@@ -144,7 +144,12 @@ fn a_front_stands_where_memory_was_wanting(rt: HostRuntime) {
         resource(&rt, b"w", AT_7),
         resource(&rt, b"x", AT_8),
     );
-    let mut held = Held::new(rt.alloc(), text(&rt, b"net"), text(&rt, b"n"), None);
+    let mut held = Held::new(
+        rt.alloc(),
+        text(&rt, b"net"),
+        text(&rt, b"n"),
+        OwnDoors::none(),
+    );
     let _ = held.apply(rt.alloc(), &first).expect(&rt, "memory");
     let wanting = is_wanting(&rt, &mut held, &second, &namespace, &hostname);
     if wanting {
