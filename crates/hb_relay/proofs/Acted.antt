@@ -71,6 +71,7 @@ module _ (old new : Relay) where
   over_acts why is true false up_is closed_is now =
       inl (
         refl,
+        ap (λ (y : Captured). y.up) now ∙ grind (arith, nat_tests, up_is),
         (λ a shows.
             let x = a.link in
             let ends = at x shows (Over why) is in (

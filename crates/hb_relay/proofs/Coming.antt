@@ -83,7 +83,7 @@ module _ (held : Resources) (old new : Relay) (bytes : List ℕ) (late : old.sta
 -- THE HEADER
 
 never_reset : (held : Resources) (seen : Seen) → verdict_on held seen ≡ Reset → ⊥
-never_reset held seen = by (synced held) (judged held (peer_in seen) seen.destination) (is_own_door held.inbound seen.destination)
+never_reset held seen = by (synced held) (judged held (peer_in seen) seen.destination) (is_own_door held.doors seen.destination)
   where
     by : (b : Bool) (j : Judged) (own : Bool) → cond (not b) (Status 503) (dial_judged j own false seen.destination) ≡ Reset → ⊥
     by false j own is = cc

@@ -1,5 +1,5 @@
 -- Each call meets the machine.
-use Rattle.std.proofs.Common.{◌≡◌, ◌≢◌, inl, inr, ℕ, ◌≤◌, ◌<◌, ◌+◌, ◌-◌, ◌&&◌, ◌==◌, not, Bool, true, false, cond, List, [], ◌∷◌, length, Option, Some, None, refl, ap, sym, ◌∙◌, subst, arith}
+use Rattle.std.proofs.Common.{◌≡◌, ◌≢◌, inl, inr, ℕ, ◌≤◌, ◌<◌, ◌+◌, ◌-◌, ◌&&◌, ◌==◌, not, Bool, true, false, cond, List, [], ◌∷◌, length, Option, Some, None, IfNone, refl, ap, sym, ◌∙◌, subst, arith}
 use Rattle.std.specs.Prelude.{nat_le}
 use Rattle.std.proofs.lemmas.Bool.Decides.{nat_tests}
 use Rattle.hb_base.specs.declared.cause.Cause.{Cause}
@@ -18,7 +18,7 @@ use Rattle.hb_tunnel.specs.Way.{Way, after, pushes, is_done}
 use Rattle.hb_world.specs.declared.entry.Entry.TheVariants as e
 use Rattle.hb_captured.specs.Calm.{IsCalm, IsCalmBy, room, up_wants_by}
 use Rattle.hb_captured.specs.Captured as m
-use Rattle.hb_captured.specs.Captured.{Captured, Stage, no_link, at_stage, ends_by, ends_for, entered, up_entered, hung_up, is_judged, judged_by, rejudged, is_through}
+use Rattle.hb_captured.specs.Captured.{Captured, Stage, no_link, at_stage, left_by, ends_by, ends_for, entered, up_entered, hung_up, is_judged, judged_by, rejudged, is_through}
 use Rattle.hb_captured.specs.Part.{Part, entry, up, welcomed, accepted, applied}
 use Rattle.hb_captured.specs.Runs.{Local, MayGo, IsTried, next, counted, verdict_note}
 use Rattle.hb_captured.proofs.Kept.{all_keep}
@@ -27,8 +27,8 @@ use Rattle.hb_captured.specs.Sides.{header_of, link_came}
 use Rattle.hb_relay.specs.declared.relay.Relay.{Relay}
 use Rattle.hb_relay.specs.declared.stage.Stage as code
 use Rattle.hb_relay.specs.declared.stage.Stage.TheVariants.{Fronting, Due, Opening, Live, Over}
-use Rattle.hb_relay.specs.Calls.{any, Begins, UpEnters, Goes, UpGoes, Updates}
-use Rattle.hb_relay.specs.Ending.{ended_now, note_at, verdict_at}
+use Rattle.hb_relay.specs.Calls.{any, Begins, TurnsAway, UpEnters, Goes, UpGoes, Updates}
+use Rattle.hb_relay.specs.Ending.{ended_now, note_at, verdict_at, end_at}
 use Rattle.hb_relay.specs.Moving.{settled, note_by, took_up, took_down, pushed}
 use Rattle.hb_relay.specs.Reaches.{Reaches, Meets}
 use Rattle.hb_relay.specs.Shows.{Becomes, captured_of, as_told, stage_of}
@@ -182,6 +182,13 @@ begins l k is a new = record {
   noted = refl;
 }
 
+-- or it is turned away
+pub turns_away : (l : ℕ) (k : Relay) → captured_of k ≡ at_stage (m.over cause.NoRoom) no_link → TurnsAway l k
+turns_away l k is a new = record {
+  same = ap (λ (x : Captured). as_told (at_stage (m.over cause.NoRoom) x)) new ∙ sym is;
+  calm = tt;
+}
+
 -- AN UPDATE
 
 judged_stays : (h : Resources) (x : Captured) (b : Bool) → judged h x.peer x.target ≡ Admitted
@@ -216,6 +223,32 @@ judged_ends : (j : Judged) (x : Captured) → j ≢ Admitted → judged_by j x �
 judged_ends Admitted x not = absurd (not refl)
 judged_ends Unknown x not = refl
 judged_ends Denied x not = refl
+
+-- where no note is made it stays as it was
+pub unmade_stays : (old new : Relay) (made : Option Note) → old.stage ≢ Fronting
+    → made ≡ note_at old.number cause.Revoked (captured_of old) (stage_of old.stage) → Becomes (ended_now cause.Revoked) old new
+    → IfNone made (captured_of new ≡ captured_of old)
+unmade_stays old new made late noted becomes = by old.stage refl
+  where
+    some : (s : code.Stage) (note : Note) → old.stage ≡ s
+        → note_at old.number cause.Revoked (captured_of old) (stage_of s) ≡ Some note → IfNone made (captured_of new ≡ captured_of old)
+    some s note is made_is =
+        subst (λ (o : Option Note). IfNone o (captured_of new ≡ captured_of old))
+        (sym (noted ∙ ap (λ (t : code.Stage). note_at old.number cause.Revoked (captured_of old) (stage_of t)) is ∙ made_is)) tt
+
+    stays_so : captured_of new ≡ captured_of old → (o : Option Note) → IfNone o (captured_of new ≡ captured_of old)
+    stays_so same None = same
+    stays_so same (Some note) = tt
+
+    by : (s : code.Stage) → old.stage ≡ s → IfNone made (captured_of new ≡ captured_of old)
+    by Fronting is = absurd (late is)
+    by Due is = some Due (verdict_at old.number 401 (captured_of old)) is refl
+    by Opening is = some Opening (verdict_at old.number 401 (captured_of old)) is refl
+    by Live is = some Live (end_at old.number cause.Revoked (captured_of old)) is refl
+    by (Over first) is =
+        let over_so : (captured_of old).stage ≡ m.over first = ap stage_of is in
+        stays_so (becomes.after
+        ∙ ap (λ (s : Stage). at_stage s (captured_of old)) (ap (λ (s : Stage). left_by (ends_by cause.Revoked s)) over_so ∙ sym over_so)) made
 
 -- it ends
 pub revokes : (held : Resources) (old new : Relay) (made : Option Note) → old.stage ≢ Fronting

@@ -15,7 +15,8 @@ use Rattle.hb_relay.specs.Shows.{Shows, captured_of}
 abbrev pub Does : Part → Relay → Relay → Type 0
 Does p old new = (a : Local) → Shows old a.link → MayGo old.number a p × Shows new (next a p).link
 
--- A dial is due until its answer is told. A shut or a close counts as done: the upstream's, or the link's own
+-- A dial is due until its answer is told. A shut or a close counts as done: the upstream's, or the link's own, whose upstream is closed
+-- then
 abbrev pub Acts : Option Act → Relay → Relay → Type 0
 Acts None old new =
     (captured_of new ≡ captured_of old) × ((x : Captured) → Shows old x → IsIdleBy x.stage x)
@@ -25,7 +26,7 @@ Acts (Some (act.Dial to why)) old new =
 Acts (Some (act.Shut u)) old new =
     ((u ≡ old.number) × Does (entry (e.Shut u)) old new) ⊎ Does (up (e.Shut u)) old new
 Acts (Some (act.Close u why)) old new =
-    ((u ≡ old.number) × Does (entry (e.Closed u why)) old new) ⊎ Does (up (e.Closed u why)) old new
+    ((u ≡ old.number) × (new.up ≡ 0) × Does (entry (e.Closed u why)) old new) ⊎ Does (up (e.Closed u why)) old new
 
 -- how much may be read of the link and of its upstream, and the bytes that wait for them
 abbrev pub Wants : Relay → ℕ → Type 0

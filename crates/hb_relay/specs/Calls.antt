@@ -9,10 +9,11 @@ use Rattle.hb_held.specs.Outcome.{after_response}
 use Rattle.hb_world.specs.declared.entry.Entry.{Entry}
 use Rattle.hb_world.specs.declared.entry.Entry.TheVariants as e
 use Rattle.hb_captured.specs.Captured.{no_link}
-use Rattle.hb_captured.specs.Part.{entry, up, applied, stopped}
+use Rattle.hb_captured.specs.Part.{entry, up, crowded, applied, stopped}
 use Rattle.hb_captured.specs.Runs.{Local, next}
 use Rattle.hb_relay.specs.declared.relay.Relay.{Relay}
 use Rattle.hb_relay.specs.Reaches.{Reaches, Meets}
+use Rattle.hb_relay.specs.Shows.{Shows}
 
 abbrev pub any : Resources → Type 0
 any held = ⊤
@@ -45,3 +46,7 @@ Stops cause old new made = Meets any (stopped cause) old new made
 -- a link is born, and makes no note
 abbrev pub Begins : ℕ → Relay → Type 0
 Begins l k = (a : Local) → a.link ≡ no_link → Reaches l (next a (entry (e.Accepted l door.Plain))) k None
+
+-- a link is born where as many are open as may be: it is turned away, and makes no note
+abbrev pub TurnsAway : ℕ → Relay → Type 0
+TurnsAway l k = (a : Local) → a.link ≡ no_link → Shows k (next (next a (entry (e.Accepted l door.Plain))) crowded).link

@@ -1,9 +1,9 @@
 //! What comes and goes on the link, and what others do to it.
 
-ghost use Rattle.std.specs.Prelude.{◌≡◌, ◌≤◌, length, IfOk};
+ghost use Rattle.std.specs.Prelude.{◌≡◌, ◌≤◌, length, IfOk, IfNone};
 ghost use Rattle.hb_world.specs.declared.entry.Entry.TheVariants as e;
 ghost use Rattle.hb_captured.specs.Calm.{wants, output};
-ghost use Rattle.hb_relay.specs.Calls.{Begins, Enters, Goes, Stops, Takes, Updates};
+ghost use Rattle.hb_relay.specs.Calls.{Begins, TurnsAway, Enters, Goes, Stops, Takes, Updates};
 ghost use Rattle.hb_relay.specs.Shows.{captured_of};
 
 use crate::moving::push_up;
@@ -23,6 +23,16 @@ impl Relay {
         ensures number { IfOk result (λ k. k.number ≡ number) }
     {
         Relay::fresh(alloc, number, Stage::Fronting)
+    }
+
+    /// A link that was accepted where as many are open as may be: it is to be closed for that cause.
+    ///
+    /// Errors: `NoMemory`, as of one that is taken in.
+    pub fn turned_away(alloc: Global, number: u64) -> Result<Relay, NoMemory>
+        ensures turns { IfOk result (λ k. TurnsAway number k) }
+        ensures number { IfOk result (λ k. k.number ≡ number) }
+    {
+        Relay::fresh(alloc, number, Stage::Over(Cause::NoRoom))
     }
 
     /// These bytes came of it: of its front header, whose destination gets its verdict by what is held once it is whole, or such as go up.
@@ -67,7 +77,8 @@ impl Relay {
     /// A response was applied, which made this of what is held: it ends where its peer is no longer admitted.
     /// The note of that, `None` where it goes on, or had ended.
     pub fn judge(&mut self, held: &Held) -> Option<Note>
-        ensures { Updates held.now self.old self.new result }
+        ensures updates { Updates held.now self.old self.new result }
+        ensures same { IfNone result (captured_of self.new ≡ captured_of self.old) }
     {
         if let Stage::Fronting = self.stage {
             return None;

@@ -61,6 +61,13 @@ impl Relay {
         })
     }
 
+    /// The number of its upstream, 0 where it has none.
+    pub fn upstream(&self) -> u64
+        ensures { result ≡ (captured_of self.now).up }
+    {
+        self.up
+    }
+
     /// How many bytes may be read of it now.
     pub fn wants(&self) -> usize
         ensures value { result ≡ wants (captured_of self.now) }

@@ -3,7 +3,7 @@
 use crate::octets::FRONT;
 use hb_base::{Note, Text};
 use hb_disco::read_response;
-use hb_held::Held;
+use hb_held::{Held, OwnDoors};
 use hb_relay::Relay;
 use hb_world::Act;
 use std::alloc::Global;
@@ -69,7 +69,7 @@ impl Drive {
         let mut drive = Drive {
             alloc,
             relay: Relay::accepted(alloc, 7).ok().expect(rt, "memory"),
-            held: Held::new(alloc, network, node, None),
+            held: Held::new(alloc, network, node, OwnDoors::none()),
         };
         for digits in responses {
             drive.apply(rt, digits);

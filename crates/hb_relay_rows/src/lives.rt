@@ -2,6 +2,7 @@
 
 use crate::drive::Drive;
 use crate::octets::{ALLOWS_NONE, KNOWN, NO_POLICY, NOT_HERE};
+use hb_relay::Relay;
 use std::alloc::Global;
 use std::process::Abort;
 
@@ -75,6 +76,16 @@ fn tells_a_failed_dial_and_a_pending_end(rt: HostRuntime) {
     let revoked = drive.update(&rt, ALLOWS_NONE);
     drive.notes(&rt, revoked, "401");
     drive.acts(&rt, &["close 8 revoked 0", "close 7 revoked 0"]);
+}
+
+#[test]
+fn turns_away_without_room(rt: HostRuntime) {
+    let alloc = rt.alloc();
+    let mut drive = Drive::new(&rt, alloc, &[KNOWN, NO_POLICY]);
+    drive.relay = Relay::turned_away(alloc, 7).ok().expect(&rt, "memory");
+    let wanted = drive.relay.wants();
+    assert!(&rt; wanted == 0, "nothing is read of it");
+    drive.acts(&rt, &["close 7 no room 0"]);
 }
 
 #[test]

@@ -1,14 +1,19 @@
 use Rattle.std.proofs.Common.{sym, ◌∙◌}
-use Rattle.hb_relay.proofs.Meeting.{fronting_stays, admitted_stays, revokes}
+use Rattle.hb_relay.proofs.Meeting.{fronting_stays, admitted_stays, revokes, unmade_stays}
 use Rattle.hb_relay.proofs.relay.Relay.judge.Goals as goal
 
-pub returns-in-Fronting : goal.returns-in-Fronting
-returns-in-Fronting c = fronting_stays c.args.held.now c.args.self.now c.in-Fronting.is
+pub returns-in-Fronting-clause-updates : goal.returns-in-Fronting-clause-updates
+returns-in-Fronting-clause-updates c = fronting_stays c.args.held.now c.args.self.now c.in-Fronting.is
 
-pub returns-in-Admitted : goal.returns-in-Admitted
-returns-in-Admitted c = admitted_stays c.args.held.now c.args.self.now (sym c.judge.ensures ∙ c.in-Admitted.is)
+pub returns-in-Admitted-clause-updates : goal.returns-in-Admitted-clause-updates
+returns-in-Admitted-clause-updates c = admitted_stays c.args.held.now c.args.self.now (sym c.judge.ensures ∙ c.in-Admitted.is)
 
-pub returns : goal.returns
-returns c =
+pub returns-clause-updates : goal.returns-clause-updates
+returns-clause-updates c =
     revokes c.args.held.now c.args.self.now c.end_for.new.self c.end_for.result c.in_default.not-Fronting
     (λ is. c.in_default-judge.not-Admitted (c.judge.ensures ∙ is)) c.end_for.ensures.note c.end_for.ensures.after
+
+pub returns-clause-same : goal.returns-clause-same
+returns-clause-same c =
+    unmade_stays c.args.self.now c.end_for.new.self c.end_for.result c.in_default.not-Fronting c.end_for.ensures.note
+    c.end_for.ensures.after
