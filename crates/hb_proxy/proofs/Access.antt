@@ -1,5 +1,9 @@
--- No byte goes to an upstream and no DATA frame begins on an inbound link, unless what is held then admits the tunnel's peer.
+-- No byte goes to an upstream and no DATA frame begins on an inbound link, and no byte goes on a plain link, unless what is held then
+-- admits the tunnel's peer.
 use Rattle.std.proofs.Common.{◌≡◌, ℕ, true, List, [], ◌∷◌, ◌++◌, length, refl, ap, sym, ◌∙◌, subst}
+use Rattle.hb_captured.specs.Access as plain
+use Rattle.hb_captured.specs.Part as captured
+use Rattle.hb_captured.specs.Sides.{judged_in}
 use Rattle.hb_conn.specs.Observed.{frames_begun}
 use Rattle.hb_held.specs.Held.{Resources}
 use Rattle.hb_history.specs.History as history
@@ -15,17 +19,18 @@ use Rattle.hb_streams.specs.declared.role.Role.TheVariants.{Server}
 use Rattle.hb_table.specs.Judgement.{judged}
 use Rattle.hb_world.specs.declared.entry.Entry.{Entry}
 use Rattle.hb_world.specs.declared.entry.Entry.TheVariants as e
-use Rattle.hb_proxy.specs.Access.{IsAdmitted, came_behind, GoesAdmitted, UpIsAdmitted, LinkIsAdmitted, AccessAt}
+use Rattle.hb_proxy.specs.Access.{IsAdmitted, came_behind, GoesAdmitted, UpIsAdmitted, LinkIsAdmitted, AccessAt, PlainIsAdmitted, PlainGoesAdmitted, PlainAccessAt}
 use Rattle.hb_proxy.specs.Held.{at_start}
 use Rattle.hb_proxy.specs.Laws.{RunsAdmit}
 use Rattle.hb_proxy.specs.Machine.{Machine, local}
 use Rattle.hb_proxy.specs.Owners.{owner, PartStands}
-use Rattle.hb_proxy.specs.Points.{Point, of_control, of_link, entries, parts_of}
+use Rattle.hb_proxy.specs.Points.{Point, of_control, of_link, of_plain, entries, parts_of, plain_of}
 use Rattle.hb_proxy.specs.Runs.{Steps, StandsFor, goes_on}
 use Rattle.hb_proxy.specs.Sides.{LinkSide}
 use Rattle.hb_proxy.proofs.Own.{own_at}
 use Rattle.hb_proxy.proofs.Owned.{all_owned}
-use Rattle.hb_proxy.proofs.Places.{at_points, at_last}
+use Rattle.hb_proxy.proofs.Places.{at_points, at_last, at_last_plain}
+use Rattle.hb_proxy.proofs.Plain.{plain_holds, obey_plain}
 use Rattle.hb_proxy.proofs.Projection.{links_run, links_hold}
 use Rattle.hb_proxy.proofs.Sides.{runs_share}
 
@@ -70,9 +75,29 @@ module _ (g : NodeConfig) (x : Machine) (before : List Point) (stands : StandsFo
   access (part.up s z) own is = up_goes s z is
   access _ own is = tt
 
-abbrev At : NodeConfig → List Point → Point → Type 0
+  -- a plain link
+
+  plain_admitted : plain.IsAdmitted (at_start g) (plain_of l before) → PlainIsAdmitted g before l
+  plain_admitted is = record {
+    seen = is.seen;
+    told = is.told;
+    admitted = ap (λ (h : Resources). judged_in h is.seen) (sym (plain_holds g x before l stands)) ∙ is.admitted;
+  }
+
+  plain_goes : (z : Entry) → plain.GoesAdmitted (at_start g) (plain_of l before) z → PlainGoesAdmitted g before l z
+  plain_goes (e.Went k bytes) is = plain_admitted is
+  plain_goes _ is = tt
+
+  plain_access : (p : captured.Part) → plain.AccessAt (at_start g) (plain_of l before) p → PlainAccessAt g before l p
+  plain_access (captured.entry z) is = plain_goes z is
+  plain_access (captured.up z) is = plain_goes z is
+  plain_access _ is = tt
+
+-- the law at a point
+abbrev pub At : NodeConfig → List Point → Point → Type 0
 At g before (of_control q) = Unit {0}
 At g before (of_link l p) = AccessAt g before l p
+At g before (of_plain l p) = PlainAccessAt g before l p
 
 next : (g : NodeConfig) (x y : Machine) (before : List Point) (p : Point) → StandsFor g x before → Steps g x p y → At g before p
 next g x y before (of_control q) stands steps = tt
@@ -81,6 +106,13 @@ next g x y before (of_link l p) stands steps =
     (at_last (inbound.AccessAt (at_start g)) before l p
     (admit l (at_start g) (local y l) (parts_of l (before ++ of_link l p ∷ []))
     (links_run g y (before ++ of_link l p ∷ []) l (goes_on stands (of_link l p) steps refl))))
+next g x y before (of_plain l p) stands steps =
+    plain_access g x before stands l p
+    (at_last_plain (plain.AccessAt (at_start g)) before l p
+    (obey_plain g y (before ++ of_plain l p ∷ []) l (goes_on stands (of_plain l p) steps refl)).access)
 
 pub runs_admit : RunsAdmit
-runs_admit g x points stands before l p behind are = at_points g (At g) (next g) x points stands before (of_link l p) behind are
+runs_admit g x points stands = record {
+  links = λ before l p behind are. at_points g (At g) (next g) x points stands before (of_link l p) behind are;
+  plain = λ before l p behind are. at_points g (At g) (next g) x points stands before (of_plain l p) behind are;
+}

@@ -1,12 +1,16 @@
 -- In every run each link is as far as the trace tells, in the part whose it is.
-use Rattle.std.proofs.Common.{◌≡◌, ◌≢◌, ⊎_elim, ℕ, ◌+◌, ◌==◌, Bool, true, false, cond, List, [], ◌∷◌, ◌++◌, Option, Some, None, fold, refl, ap, sym, ◌∙◌, subst, arith}
+use Rattle.std.proofs.Common.{◌≡◌, ◌≢◌, ⊎_elim, ℕ, ◌+◌, ◌==◌, Bool, true, false, cond, List, [], ◌∷◌, ◌++◌, Option, Some, None, inr, fold, refl, ap, ap₂, sym, ◌∙◌, subst, arith}
 use Rattle.std.proofs.lemmas.Grind.{fold-append}
 use Rattle.std.proofs.lemmas.Bool.{cond_both, false≢true, eqb-true, eq-eqb}
 use Rattle.hb_base.specs.declared.cause.Cause.{Cause}
 use Rattle.hb_base.specs.declared.cause.Cause.TheVariants as cause
+use Rattle.hb_captured.specs.Captured as captured
+use Rattle.hb_captured.specs.Captured.{Captured}
+use Rattle.hb_captured.specs.Part as plain_part
+use Rattle.hb_captured.specs.Runs as plain
 use Rattle.hb_held.specs.Outcome.{after_response}
 use Rattle.hb_inbound.specs.Inbound as inbound
-use Rattle.hb_inbound.specs.Inbound.{Inbound, at_stream}
+use Rattle.hb_inbound.specs.Inbound.{Inbound}
 use Rattle.hb_inbound.specs.Part as part
 use Rattle.hb_inbound.specs.Part.{Part}
 use Rattle.hb_inbound.specs.Runs as runs
@@ -24,15 +28,17 @@ use Rattle.hb_model.proofs.Unborn.{are_unborn}
 use Rattle.hb_world.specs.declared.entry.Entry.{Entry}
 use Rattle.hb_world.specs.declared.entry.Entry.TheVariants as e
 use Rattle.hb_proxy.specs.Held.{at_start}
-use Rattle.hb_proxy.specs.Machine.{Machine, local, seen_by, with_control, with_part}
-use Rattle.hb_proxy.specs.Owners.{Owner, nobody, control_plane, inbound_link, upstream_of, at_door, dialled_for, owner_by, ControlStands, PartStands}
-use Rattle.hb_proxy.specs.Points.{Point, of_control, of_link, entry_in, entries, control_of, parts_of}
-use Rattle.hb_proxy.specs.Runs.{BirthMayCome, ControlGuard, LinkGuard, Steps, StandsFor, begins, goes_on}
+use Rattle.hb_proxy.specs.Machine.{Machine, local, plain_local, seen_by, plain_seen_by, with_control, with_part, with_plain}
+use Rattle.hb_proxy.specs.Owners.{Owner, nobody, control_plane, inbound_link, upstream_of, plain_link, relay_of, at_door, dialled_for, owner_by, ControlStands, PartStands, PlainStands}
+use Rattle.hb_proxy.specs.Points.{Point, of_control, of_link, of_plain, entry_in, entries, control_of, parts_of}
+use Rattle.hb_proxy.specs.Runs.{BirthMayCome, ControlGuard, LinkGuard, PlainGuard, Steps, StandsFor, begins, goes_on}
 use Rattle.hb_proxy.proofs.Changes.{LinkFits, IsYet, StageFits, UpFits, DueBy, yet_dialled, yet_open, IsOther, touched_by, touched, LinkGoes, link_same, applied_goes, stopped_goes, part_goes}
 use Rattle.hb_proxy.proofs.Look as seen
 use Rattle.hb_proxy.proofs.Look.{Look, unseen, dialled, open_now, bears, opens_it, shuts, look_by, look}
 use Rattle.hb_proxy.proofs.Own.{own_at}
 use Rattle.hb_proxy.proofs.Owned.{Owned, after, whose_in, whose_one, all_owned}
+use Rattle.hb_proxy.proofs.PlainChanges as changes
+use Rattle.hb_proxy.proofs.PlainChanges.{here_now, PlainFitsBy, PlainFits, RelayFitsBy, RelayFits, PlainDueBy, PlainDue, born_fits, PlainGoes, plain_same, plain_touched, plain_part_goes}
 use Rattle.hb_proxy.proofs.Projection.{control_runs, links_run}
 
 -- LINKS TO THE CONTROL PLANE
@@ -103,15 +109,19 @@ ByOwner nobody x n v = v ≡ unseen
 ByOwner control_plane x n v = ControlFits (x.control.links n).phase v
 ByOwner inbound_link x n v = LinkFits (x.inbound n).phase v
 ByOwner (upstream_of l s) x n v = UpFits ((x.inbound l).tunnels s) n v
+ByOwner plain_link x n v = PlainFits (x.plain n) v
+ByOwner (relay_of l) x n v = RelayFits (x.plain l) n v
 
 pub record Agrees (x : Machine) (whose : ℕ → Owner) (told : ℕ → Look) : Type 0 where
   pub each : (n : ℕ) → ByOwner (whose n) x n (told n)
   pub due : (l s : ℕ) → DueBy ((x.inbound l).tunnels s).stage ((x.inbound l).tunnels s).shut
+  pub plain_due : (l : ℕ) → PlainDue (x.plain l)
 
 -- what fits a link still does, unless it is this one
 record MachineGoes (k : ℕ) (x y : Machine) : Type 0 where
   control : (n : ℕ) (v : Look) → IsOther k n → ControlFits (x.control.links n).phase v → ControlFits (y.control.links n).phase v
   links : (l : ℕ) → LinkGoes k l (x.inbound l) (y.inbound l)
+  plain : (l : ℕ) → PlainGoes k l (x.plain l) (y.plain l)
 
 module _ (x y : Machine) (whose : ℕ → Owner) (owned : Owned x whose) (told : ℕ → Look) (agrees : Agrees x whose told) where
   -- a link that is somebody's isn't 0
@@ -129,6 +139,8 @@ module _ (x y : Machine) (whose : ℕ → Owner) (owned : Owned x whose) (told :
       by control_plane is old = goes.control n (told n) (other control_plane is (λ same. cc)) old
       by inbound_link is old = (goes.links n).phase (told n) (other inbound_link is (λ same. cc)) old
       by (upstream_of l s) is old = ((goes.links l).tunnels s).fits n (told n) (other (upstream_of l s) is (λ same. cc)) old
+      by plain_link is old = (goes.plain n).link (told n) (other plain_link is (λ same. cc)) old
+      by (relay_of l) is old = (goes.plain l).up n (told n) (other (relay_of l) is (λ same. cc)) old
 
   still : MachineGoes 0 x y → (n : ℕ) → ByOwner (whose n) y n (told n)
   still goes n = calm 0 goes n (λ not. not)
@@ -168,6 +180,7 @@ module _ (g : NodeConfig) (x : Machine) (points : List Point) (stands : StandsFo
         (λ j above. ap (λ (d : Discovery). d.phase) (are_unborn g x.control (control_of points) (control_runs g x points stands) j above).link)
         steps n) v;
     links = λ l. by q l;
+    plain = λ l. plain_by q l;
   }
     where
       by : (q : point.Point) (l : ℕ) → LinkGoes (touched_of q) l (x.inbound l) (seen_by x.control.held q (x.inbound l))
@@ -175,6 +188,12 @@ module _ (g : NodeConfig) (x : Machine) (points : List Point) (stands : StandsFo
       by (point.stopped why) l = stopped_goes 0 l why (x.inbound l)
       by (point.entry z) l = link_same (touched_by z) l (x.inbound l)
       by _ l = link_same 0 l (x.inbound l)
+
+      plain_by : (q : point.Point) (l : ℕ) → PlainGoes (touched_of q) l (x.plain l) (plain_seen_by x.control.held q (x.plain l))
+      plain_by (point.applied k r) l = changes.applied_goes 0 l (x.plain l) (after_response x.control.held r)
+      plain_by (point.stopped why) l = changes.stopped_goes 0 l why (x.plain l)
+      plain_by (point.entry z) l = plain_same (touched_by z) l (x.plain l)
+      plain_by _ l = plain_same 0 l (x.plain l)
 
   link_goes : (l : ℕ) (p : Part) (next : Inbound) → runs.Steps l (local x l) p (runs.with_link next (local x l))
       → MachineGoes (touched p) x (with_part l p next x)
@@ -184,6 +203,17 @@ module _ (g : NodeConfig) (x : Machine) (points : List Point) (stands : StandsFo
         (λ is. subst (λ (i : ℕ). LinkGoes (touched p) i (x.inbound i) next) (sym (eqb-true j l is))
         (part_goes l (at_start g) (local x l) (parts_of l points) (links_run g x points l stands) p
         (runs.with_link next (local x l)) steps)) (λ apart. link_same (touched p) j (x.inbound j));
+    plain = λ j. plain_same (touched p) j (x.plain j);
+  }
+
+  plain_goes : (l : ℕ) (p : plain_part.Part) → plain.MayGo l (plain_local x l) p
+      → MachineGoes (plain_touched p) x (with_plain l p (plain.next_link (x.plain l) p) x)
+  plain_goes l p may = record {
+    control = λ n v other fits. fits;
+    links = λ j. link_same (plain_touched p) j (x.inbound j);
+    plain = λ j. cond_both (j == l) (plain.next_link (x.plain l) p) (x.plain j) (λ z. PlainGoes (plain_touched p) j (x.plain j) z)
+        (λ is. subst (λ (i : ℕ). PlainGoes (plain_touched p) i (x.plain i) (plain.next_link (x.plain l) p)) (sym (eqb-true j l is))
+        (plain_part_goes l (plain_local x l) p may)) (λ apart. plain_same (plain_touched p) j (x.plain j));
   }
 
 module _ (g : NodeConfig) (x : Machine) (points : List Point) (stands : StandsFor g x points) (told : ℕ → Look)
@@ -312,6 +342,96 @@ module _ (g : NodeConfig) (x : Machine) (points : List Point) (stands : StandsFo
   up_each l s z next steps birth own n =
       still x (with_part l (part.up s z) next x) whose owned told agrees (link_goes g x points stands l (part.up s z) next steps) n
 
+  -- A PLAIN LINK
+
+  abbrev plain_behind : (l : ℕ) → plain_part.Part → Machine
+  plain_behind l p = with_plain l p (plain.next_link (x.plain l) p) x
+
+  -- the link and its upstream then
+  plain_now : (l : ℕ) (p : plain_part.Part) → (plain_behind l p).plain l ≡ plain.next_link (x.plain l) p
+  plain_now l p = ap (λ (b : Bool). cond b (plain.next_link (x.plain l) p) (x.plain l)) (eqb-self l)
+
+  -- what fits the link, or its upstream, then, fits it in the whole
+  plain_here : (l k : ℕ) (p : plain_part.Part) → k ≡ l → (v : Look) → PlainFits (plain.next_link (x.plain l) p) v
+      → ByOwner plain_link (plain_behind l p) k v
+  plain_here l k p is v fits =
+      subst (λ (i : ℕ). PlainFits ((plain_behind l p).plain i) v) (sym is)
+      (subst (λ (c : Captured). PlainFits c v) (sym (plain_now l p)) fits)
+
+  relay_here : (l u : ℕ) (p : plain_part.Part) (v : Look) → RelayFits (plain.next_link (x.plain l) p) u v
+      → ByOwner (relay_of l) (plain_behind l p) u v
+  relay_here l u p v fits = subst (λ (c : Captured). RelayFits c u v) (sym (plain_now l p)) fits
+
+  plain_each : (l : ℕ) (z : Entry) → plain.MayGo l (plain_local x l) (plain_part.entry z) → BirthMayCome x z
+      → PlainStands (entries points) l (plain_part.entry z) → (n : ℕ) → AgreesBehind z (plain_behind l (plain_part.entry z)) n
+  plain_each l (e.Accepted k d) may birth own n =
+      let z = plain_part.entry (e.Accepted k d) in
+      let c = x.plain l in
+      let none = subst (λ (s : captured.Stage). PlainDueBy s c.up_shut c.shut c.closed) may.1 (agrees.plain_due l) in
+      new_one x (plain_behind l z) whose owned told agrees k (at_door d) (bears true) (new_number k birth.0)
+      (plain_goes g x points stands l z may)
+      (subst (λ (w : Owner). ByOwner w (plain_behind l z) k (open_now false)) (sym (ap at_door may.2))
+      (plain_here l k z may.0 (open_now false) (ap₂ here_now (sym none.1) (sym none.2)))) n
+  plain_each l (e.Shut k) may birth own n =
+      let z = plain_part.entry (e.Shut k) in
+      let c = x.plain l in
+      touch x (plain_behind l z) whose owned told agrees k plain_link shuts own.1 (plain_goes g x points stands l z may)
+      (λ old. plain_here l k z may.0 (shuts (told k))
+      (subst (λ (s : captured.Stage). PlainFitsBy s true c.closed (shuts (told k))) (sym may.2)
+      (ap shuts (born_fits c.stage c.shut c.closed (told k) (subst (λ (i : ℕ). PlainFits (x.plain i) (told k)) may.0 old))))) n
+  plain_each l (e.Closed k why) may birth own n =
+      let z = plain_part.entry (e.Closed k why) in
+      let c = x.plain l in
+      touch x (plain_behind l z) whose owned told agrees k plain_link seen.closes own.1 (plain_goes g x points stands l z may)
+      (λ old. plain_here l k z may.0 (seen.closes (told k))
+      (subst (λ (s : captured.Stage). PlainFitsBy s c.shut true (seen.closes (told k))) (sym may.2)
+      (ap seen.closes (born_fits c.stage c.shut c.closed (told k) (subst (λ (i : ℕ). PlainFits (x.plain i) (told k)) may.0 old))))) n
+  plain_each l (e.Dialled k to why) may birth own n = absurd may
+  plain_each l (e.Opened k) may birth own n = absurd may
+  plain_each l z may birth own n =
+      still x (plain_behind l (plain_part.entry z)) whose owned told agrees (plain_goes g x points stands l (plain_part.entry z) may) n
+
+  -- what fits an upstream where its link is at this stage
+  relay_was : (l u : ℕ) (stage : captured.Stage) → (x.plain l).stage ≡ stage → RelayFits (x.plain l) u (told u)
+      → RelayFitsBy stage (x.plain l).up (x.plain l).up_shut u (told u)
+  relay_was l u stage is old =
+      subst (λ (s : captured.Stage). RelayFitsBy s (x.plain l).up (x.plain l).up_shut u (told u)) is old
+
+  relay_each : (l : ℕ) (z : Entry) → plain.MayGo l (plain_local x l) (plain_part.up z) → BirthMayCome x z
+      → PlainStands (entries points) l (plain_part.up z) → (n : ℕ) → AgreesBehind z (plain_behind l (plain_part.up z)) n
+  relay_each l (e.Dialled u to why) may birth own n =
+      let z = plain_part.up (e.Dialled u to why) in
+      let c = x.plain l in
+      let unshut : c.up_shut ≡ false =
+      subst (λ (s : captured.Stage). PlainDueBy s c.up_shut c.shut c.closed) may.0.1 (agrees.plain_due l) in
+      new_one x (plain_behind l z) whose owned told agrees u (dialled_for why) (bears false) (new_number u birth)
+      (plain_goes g x points stands l z may)
+      (subst (λ (w : Owner). ByOwner w (plain_behind l z) u (dialled false)) (sym (ap dialled_for may.1))
+      (relay_here l u z (dialled false) (refl, ap dialled (sym unshut)))) n
+  relay_each l (e.Opened u) may birth own n =
+      let z = plain_part.up (e.Opened u) in
+      touch x (plain_behind l z) whose owned told agrees u (relay_of l) opens_it own (plain_goes g x points stands l z may)
+      (λ old. let was = relay_was l u captured.opening may.0.1 old in
+      relay_here l u z (opens_it (told u)) (was.0, ap opens_it was.1)) n
+  relay_each l (e.Shut u) may birth own n =
+      let z = plain_part.up (e.Shut u) in
+      let c = x.plain l in
+      touch x (plain_behind l z) whose owned told agrees u (relay_of l) shuts own (plain_goes g x points stands l z may)
+      (λ old. let was = relay_was l u captured.live may.1 old in
+      relay_here l u z (shuts (told u))
+      (subst (λ (s : captured.Stage). RelayFitsBy s c.up true u (shuts (told u))) (sym may.1) (was.0, ap shuts was.1))) n
+  relay_each l (e.Closed u why) may birth own n =
+      let z = plain_part.up (e.Closed u why) in
+      let c = x.plain l in
+      touch x (plain_behind l z) whose owned told agrees u (relay_of l) seen.closes own (plain_goes g x points stands l z may)
+      (λ old. relay_here l u z (seen.closes (told u))
+      (subst (λ (s : captured.Stage). RelayFitsBy s 0 c.up_shut u (seen.closes (told u))) (sym may.1) (inr (refl, refl)))) n
+  relay_each l (e.Accepted k d) may birth own n = absurd may
+  relay_each l z may birth own n =
+      still x (plain_behind l (plain_part.up z)) whose owned told agrees (plain_goes g x points stands l (plain_part.up z) may) n
+
+  -- EVERY PART OF THE WHOLE
+
   -- what is told behind a point
   abbrev told_after : Point → ℕ → Look
   told_after p n = fold (look_by n) (told n) (entry_in p)
@@ -330,16 +450,30 @@ module _ (g : NodeConfig) (x : Machine) (points : List Point) (stands : StandsFo
   link_at l p next steps guard own n =
       still x (with_part l p next x) whose owned told agrees (link_goes g x points stands l p next steps) n
 
+  plain_at : (l : ℕ) (p : plain_part.Part) → plain.MayGo l (plain_local x l) p → PlainGuard x l p → PlainStands (entries points) l p
+      → (n : ℕ) → ByOwner (after (of_plain l p) whose n) (plain_behind l p) n (told_after (of_plain l p) n)
+  plain_at l (plain_part.entry z) may guard own n = plain_each l z may guard.birth own n
+  plain_at l (plain_part.up z) may guard own n = relay_each l z may guard.birth own n
+  plain_at l p may guard own n = still x (plain_behind l p) whose owned told agrees (plain_goes g x points stands l p may) n
+
   step_agrees : (p : Point) (y : Machine) → Steps g x p y → Agrees y (after p whose) (told_after p)
   step_agrees (of_control q) y steps =
       subst (λ (z : Machine). Agrees z (after (of_control q) whose) (told_after (of_control q))) (sym steps.3) (record {
         each = control_at q steps.0 steps.1 steps.2 (own_at g x points owned (of_control q) y steps);
         due = λ l s. (((control_goes g x points stands q steps.0 steps.1).links l).tunnels s).due (agrees.due l s);
+        plain_due = λ l. ((control_goes g x points stands q steps.0 steps.1).plain l).due (agrees.plain_due l);
       })
   step_agrees (of_link l p) y steps =
       subst (λ (z : Machine). Agrees z (after (of_link l p) whose) (told_after (of_link l p))) (sym steps.3) (record {
         each = link_at l p steps.0 steps.1 steps.2 (own_at g x points owned (of_link l p) y steps);
         due = λ j s. (((link_goes g x points stands l p steps.0 steps.1).links j).tunnels s).due (agrees.due j s);
+        plain_due = agrees.plain_due;
+      })
+  step_agrees (of_plain l p) y steps =
+      subst (λ (z : Machine). Agrees z (after (of_plain l p) whose) (told_after (of_plain l p))) (sym steps.2) (record {
+        each = plain_at l p steps.0 steps.1 (own_at g x points owned (of_plain l p) y steps);
+        due = agrees.due;
+        plain_due = λ j. ((plain_goes g x points stands l p steps.0).plain j).due (agrees.plain_due j);
       })
 
 -- EVERY RUN
@@ -355,11 +489,13 @@ told_one points p n =
 pub all_agree : (g : NodeConfig) (x : Machine) (points : List Point) → StandsFor g x points → Agrees x (whose_in points) (told_in points)
 all_agree g x points (begins is empty) =
     subst (λ (ps : List Point). Agrees x (whose_in ps) (told_in ps)) (sym empty)
-    (subst (λ (z : Machine). Agrees z (λ n. nobody) (λ n. unseen)) (sym is) (record { each = λ n. refl; due = λ l s. tt }))
+    (subst (λ (z : Machine). Agrees z (λ n. nobody) (λ n. unseen)) (sym is)
+    (record { each = λ n. refl; due = λ l s. tt; plain_due = λ l. (refl, refl, refl) }))
 all_agree g y more (goes_on {x = x} {points = points} stands p steps are) =
     let next = step_agrees g x points stands (told_in points) (all_agree g x points stands) p y steps in
     subst (λ (ps : List Point). Agrees y (whose_in ps) (told_in ps)) (sym are) (record {
       each = λ n. subst (λ (v : Look). ByOwner (whose_in (points ++ p ∷ []) n) y n v) (sym (told_one points p n))
           (subst (λ (o : Owner). ByOwner o y n (fold (look_by n) (told_in points n) (entry_in p))) (sym (whose_one points p n)) (next.each n));
       due = next.due;
+      plain_due = next.plain_due;
     })

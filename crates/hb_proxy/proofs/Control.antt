@@ -1,8 +1,6 @@
 -- At each entry of the whole trace, of whatever part, the laws of the links to the control plane hold.
-use Rattle.std.proofs.Common.{◌≡◌, inl, ℕ, Bool, true, false, List, [], ◌∷◌, ◌++◌, Option, Some, IfSome, refl, ap, sym, ◌∙◌, subst}
+use Rattle.std.proofs.Common.{◌≡◌, ◌≢◌, inl, ℕ, Bool, true, false, List, [], ◌∷◌, ◌++◌, Some, refl, ap, sym, ◌∙◌, subst}
 use Rattle.std.proofs.lemmas.Bool.{both_ways, false≢true}
-use Rattle.hb_inbound.specs.Part as part
-use Rattle.hb_inbound.specs.Part.{Part}
 use Rattle.hb_model.proofs.AllPut.{put_all}
 use Rattle.hb_model.proofs.Births.{plain}
 use Rattle.hb_model.proofs.CallsLives.{lived, calls_in_order}
@@ -36,12 +34,12 @@ use Rattle.hb_world.specs.declared.entry.Way.TheVariants as way
 use Rattle.hb_proxy.specs.Control.{AtEntries}
 use Rattle.hb_proxy.specs.Laws.{RunsObeyEntries, RunsObeyControl, RunsPutAll}
 use Rattle.hb_proxy.specs.Machine.{Machine}
-use Rattle.hb_proxy.specs.Owners.{control_plane, inbound_link, upstream_of, owner, link_of, PartStands}
-use Rattle.hb_proxy.specs.Points.{Point, of_control, of_link, entry_in, entries, control_of}
+use Rattle.hb_proxy.specs.Owners.{control_plane, owner, link_of}
+use Rattle.hb_proxy.specs.Points.{Point, of_control, of_link, of_plain, entry_in, entries, control_in, control_of}
 use Rattle.hb_proxy.specs.Runs.{ControlRests, Steps, StandsFor}
-use Rattle.hb_proxy.proofs.Own.{own_at}
+use Rattle.hb_proxy.proofs.Own.{own_at, elsewhere}
 use Rattle.hb_proxy.proofs.Owned.{all_owned}
-use Rattle.hb_proxy.proofs.Places.{at_points}
+use Rattle.hb_proxy.proofs.Places.{at_points, rests_of}
 use Rattle.hb_proxy.proofs.Projection.{control_runs}
 use Rattle.hb_proxy.proofs.Stopped.{is_going, over_rests}
 
@@ -136,10 +134,17 @@ ends_at points _ none apart = none
 -- a law of the control plane's entries is one at each entry, where it holds at those of other parts
 module _ (P : List point.Point → Entry → Type 0)
     (law : (g : NodeConfig) (m : control.Machine) (points : List point.Point) → model.StandsFor g m points → AtEntry P points)
-    (elsewhere : (g : NodeConfig) (x : Machine) (before : List Point) (l : ℕ) (p : Part) (z : Entry) → StandsFor g x before
-    → ControlRests x.control → part.entry_in p ≡ z ∷ [] → PartStands (entries before) l p → P (control_of before) z) where
+    (others : (g : NodeConfig) (x : Machine) (before : List Point) (z : Entry) → StandsFor g x before → ControlRests x.control
+    → ((k : ℕ) → link_of z ≡ Some k → owner k (entries before) ≢ control_plane) → P (control_of before) z) where
   AtIt : List Point → Point → Type 0
   AtIt before p = (z : Entry) → entry_in p ≡ z ∷ [] → P (control_of before) z
+
+  other_next : (g : NodeConfig) (x y : Machine) (before : List Point) (p : Point) → StandsFor g x before → Steps g x p y
+      → control_in p ≡ [] → AtIt before p
+  unfolding AtIt
+  other_next g x y before p stands steps none z is =
+      others g x before z stands (rests_of g x y p steps none z is)
+      (elsewhere before p (own_at g x before (all_owned g x before stands) p y steps) none z is)
 
   next : (g : NodeConfig) (x y : Machine) (before : List Point) (p : Point) → StandsFor g x before → Steps g x p y → AtIt before p
   unfolding AtIt
@@ -149,50 +154,34 @@ module _ (P : List point.Point → Entry → Type 0)
       (law g steps.0 (control_of before ++ point.entry en ∷ [])
       (model.goes_on (control_runs g x before stands) (point.entry en) steps.1 refl) (control_of before) en [] refl)
   next g x y before (of_control _) stands steps z is = absurd cc
-  next g x y before (of_link l (part.entry en)) stands steps z is =
-      elsewhere g x before l (part.entry en) z stands steps.2.control is
-      (own_at g x before (all_owned g x before stands) (of_link l (part.entry en)) y steps)
-  next g x y before (of_link l (part.up s en)) stands steps z is =
-      elsewhere g x before l (part.up s en) z stands steps.2.control is
-      (own_at g x before (all_owned g x before stands) (of_link l (part.up s en)) y steps)
-  next g x y before (of_link l _) stands steps z is = absurd cc
+  next g x y before (of_link l p) stands steps z is = other_next g x y before (of_link l p) stands steps refl z is
+  next g x y before (of_plain l p) stands steps z is = other_next g x y before (of_plain l p) stands steps refl z is
 
   at_all : (g : NodeConfig) (x : Machine) (points : List Point) → StandsFor g x points → AtEntries P points
   unfolding AtIt
   at_all g x points stands before p z behind are is = at_points g AtIt (next g) x points stands before p behind are z is
 
--- no entry of a link stands on one to the control plane
-other_part : (g : NodeConfig) (x : Machine) (before : List Point) → StandsFor g x before → (l : ℕ) (p : Part) (z : Entry)
-    → part.entry_in p ≡ z ∷ [] → PartStands (entries before) l p → (k : ℕ) → link_of z ≡ Some k
-    → IsControl k (point.entries (control_of before)) → ⊥
-other_part g x before stands l (part.entry en) z is own k on control =
-    let same : en ≡ z = cc in
-    let mine = (all_owned g x before stands).control k
-    (control_is_born g x.control (control_of before) (control_runs g x before stands) k control) in
-    let theirs = subst (λ (o : Option ℕ). IfSome o (λ j. (j ≡ l) × (owner j (entries before) ≡ inbound_link))) (ap link_of same ∙ on) own in
-    (let no : control_plane ≡ inbound_link = sym mine ∙ theirs.1 in cc)
-other_part g x before stands l (part.up s en) z is own k on control =
-    let same : en ≡ z = cc in
-    let mine = (all_owned g x before stands).control k
-    (control_is_born g x.control (control_of before) (control_runs g x before stands) k control) in
-    let theirs = subst (λ (o : Option ℕ). IfSome o (λ j. owner j (entries before) ≡ upstream_of l s)) (ap link_of same ∙ on) own in
-    (let no : control_plane ≡ upstream_of l s = sym mine ∙ theirs in cc)
-other_part g x before stands l _ z is own k on control = absurd cc
+-- so it is no link to the control plane in its points
+no_control : (g : NodeConfig) (x : Machine) (before : List Point) → StandsFor g x before → (k : ℕ)
+    → owner k (entries before) ≢ control_plane → IsControl k (point.entries (control_of before)) → ⊥
+no_control g x before stands k other control =
+    other ((all_owned g x before stands).control k
+    (control_is_born g x.control (control_of before) (control_runs g x before stands) k control))
 
 pub obey_entries : RunsObeyEntries
 obey_entries g x points stands = record {
   ends = at_all EndMayStand ends_are_first
-      (λ g x before l p z stands rests is own. ends_at (control_of before) z
+      (λ g x before z stands rests apart. ends_at (control_of before) z
       (rests_none_ended g x.control (control_of before) (control_runs g x before stands) rests)
-      (other_part g x before stands l p z is own)) g x points stands;
+      (λ k on. no_control g x before stands k (apart k on))) g x points stands;
   applied = at_all AllMayBeApplied applied_at_once
-      (λ g x before l p z stands rests is own.
+      (λ g x before z stands rests apart.
       rests_applied g x.control (control_of before) (control_runs g x before stands) rests) g x points stands;
   looked = at_all AllLookedAt look_at_all
-      (λ g x before l p z stands rests is own.
+      (λ g x before z stands rests apart.
       rests_looked g x.control (control_of before) (control_runs g x before stands) rests) g x points stands;
   heard = at_all AllHeard hear_all
-      (λ g x before l p z stands rests is own.
+      (λ g x before z stands rests apart.
       rests_heard g x.control (control_of before) (control_runs g x before stands) rests) g x points stands;
 }
 

@@ -1,16 +1,17 @@
 -- The control plane is dialled exactly when it is due, in every run of the whole.
-use Rattle.std.proofs.Common.{◌≡◌, ◌⊎◌, inl, inr, ⊎_elim, ℕ, ◌==◌, Bool, true, false, cond, List, [], ◌∷◌, ◌++◌, fold, Option, Some, None}
+use Rattle.std.proofs.Common.{◌≡◌, ◌≢◌, ◌⊎◌, inl, inr, ⊎_elim, ℕ, ◌==◌, Bool, true, false, cond, List, [], ◌∷◌, ◌++◌, fold, Option, Some, None}
 use Rattle.std.proofs.Common.{refl, ap, sym, ◌∙◌, subst}
 use Rattle.std.proofs.lemmas.Bool.{cond_both, false≢true, eq-eqb, ne_eqb}
 use Rattle.std.proofs.lemmas.Grind.{fold-append}
-use Rattle.std.proofs.lemmas.List.{append-nil}
+use Rattle.std.specs.Prelude.{⊤}
 use Rattle.hb_base.specs.declared.door.Why.{Why}
 use Rattle.hb_base.specs.declared.door.Why.TheVariants as whys
 use Rattle.hb_base.specs.declared.target.Target.{Target}
+use Rattle.hb_captured.specs.Part as captured
+use Rattle.hb_captured.specs.Runs as relays
 use Rattle.hb_inbound.specs.Part as part
 use Rattle.hb_inbound.specs.Part.{Part}
 use Rattle.hb_inbound.specs.Runs as inbound
-use Rattle.hb_inbound.specs.Runs.{MayCome, UpMayCome}
 use Rattle.hb_model.proofs.Grown.{one_more}
 use Rattle.hb_model.proofs.DialsDue.{runs_on, dials_when_due}
 use Rattle.hb_model.proofs.Inner.{over_is}
@@ -25,15 +26,15 @@ use Rattle.hb_world.specs.declared.entry.Entry.TheVariants as e
 use Rattle.hb_world.specs.declared.entry.Way.TheVariants as way
 use Rattle.hb_proxy.specs.Dials.{IsNoDial, DialsBy, DialsAt}
 use Rattle.hb_proxy.specs.Laws.{RunsDial}
-use Rattle.hb_proxy.specs.Machine.{Machine, local}
-use Rattle.hb_proxy.specs.Owners.{Owner, nobody, control_plane, inbound_link, upstream_of, owner, owner_by, PartStands}
-use Rattle.hb_proxy.specs.Points.{Point, of_control, of_link, entry_in, entries, control_in, control_of}
+use Rattle.hb_proxy.specs.Machine.{Machine, local, plain_local}
+use Rattle.hb_proxy.specs.Owners.{Owner, nobody, control_plane, link_of, owner, owner_by}
+use Rattle.hb_proxy.specs.Points.{Point, of_control, of_link, of_plain, entry_in, entries, control_in, control_of}
 use Rattle.hb_proxy.specs.Runs.{ControlRests, Steps, StandsFor, begins, goes_on}
 use Rattle.hb_proxy.proofs.Control.{ticked}
-use Rattle.hb_proxy.proofs.Own.{own_at}
+use Rattle.hb_proxy.proofs.Own.{own_at, elsewhere}
 use Rattle.hb_proxy.proofs.Owned.{whose_in, whose_one, all_owned, owner_grows}
-use Rattle.hb_proxy.proofs.Places.{at_points, short}
-use Rattle.hb_proxy.proofs.Projection.{control_runs}
+use Rattle.hb_proxy.proofs.Places.{at_points, short, rests_of}
+use Rattle.hb_proxy.proofs.Projection.{control_same, control_runs}
 
 -- a close of another link leaves the link that lives
 without_same : (k : ℕ) (o : Option ℕ) → (o ≡ Some k → ⊥) → without k o ≡ o
@@ -94,32 +95,68 @@ known g y more (goes_on {x = x} {points = points} stands p steps are) =
 
 -- THE ENTRIES OF OTHER PARTS
 
--- a close of a link of another owner
-close_same : (g : NodeConfig) (x : Machine) (before : List Point) → StandsFor g x before → (o : Owner) (k : ℕ)
-    → owner k (entries before) ≡ o → (control_plane ≡ o → ⊥)
-    → record (dialling (entries before)) { control = without k (dialling (entries before)).control } ≡ dialling (entries before)
-close_same g x before stands o k is other =
-    ap (λ c. record (dialling (entries before)) { control = c })
-    (without_same k (dialling (entries before)).control (λ mine. other (sym (known g x before stands k mine) ∙ is)))
+-- no dial of the control plane, and no tick
+abbrev IsOthers : Entry → Type 0
+IsOthers (e.Dialled l to whys.Discovery) = ⊥
+IsOthers (e.DialFailed to whys.Discovery) = ⊥
+IsOthers e.Tick = ⊥
+IsOthers _ = ⊤
 
-part_same : (g : NodeConfig) (x : Machine) (before : List Point) → StandsFor g x before → (l : ℕ) (p : Part) (next : _)
-    → inbound.Steps l (local x l) p next → PartStands (entries before) l p
-    → fold dialling_after (dialling (entries before)) (part.entry_in p) ≡ dialling (entries before)
-part_same g x before stands l (part.entry (e.Closed k why)) next steps own =
-    close_same g x before stands inbound_link k own.1 (λ same. cc)
-part_same g x before stands l (part.entry (e.Dialled k to why)) next steps own = absurd steps.0
-part_same g x before stands l (part.entry (e.DialFailed to why)) next steps own = absurd steps.0
-part_same g x before stands l (part.entry e.Tick) next steps own = absurd steps.0
-part_same g x before stands l (part.entry _) next steps own = refl
-part_same g x before stands l (part.up s (e.Closed k why)) next steps own =
-    close_same g x before stands (upstream_of l s) k own (λ same. cc)
-part_same g x before stands l (part.up s (e.Dialled k to why)) next steps own =
-    ap (λ (w : Why). dialling_after (dialling (entries before)) (e.Dialled k to w)) steps.0.4
-part_same g x before stands l (part.up s (e.DialFailed to why)) next steps own =
-    ap (λ (w : Why). dialling_after (dialling (entries before)) (e.DialFailed to w)) steps.0.3
-part_same g x before stands l (part.up s e.Tick) next steps own = absurd steps.0
-part_same g x before stands l (part.up s _) next steps own = refl
-part_same g x before stands l _ next steps own = refl
+part_others : (l : ℕ) (x : Machine) (p : Part) (next : _) → inbound.Steps l (local x l) p next → (z : Entry) → part.entry_in p ≡ z ∷ []
+    → IsOthers z
+part_others l x (part.entry en) next steps z is = (let same : en ≡ z = cc in subst IsOthers same (by en steps.0))
+  where
+    by : (en : Entry) → inbound.MayCome l (x.inbound l) en → IsOthers en
+    by (e.Dialled k to why) may = absurd may
+    by (e.DialFailed to why) may = absurd may
+    by e.Tick may = absurd may
+    by _ may = tt
+part_others l x (part.up s en) next steps z is = (let same : en ≡ z = cc in subst IsOthers same (by en steps.0))
+  where
+    by : (en : Entry) → inbound.UpMayCome l s (x.inbound l) ((x.inbound l).tunnels s) en → IsOthers en
+    by (e.Dialled u to why) may = subst (λ (w : Why). IsOthers (e.Dialled u to w)) (sym may.4) tt
+    by (e.DialFailed to why) may = subst (λ (w : Why). IsOthers (e.DialFailed to w)) (sym may.3) tt
+    by e.Tick may = absurd may
+    by _ may = tt
+part_others l x _ next steps z is = absurd cc
+
+plain_others : (l : ℕ) (x : Machine) (p : captured.Part) → relays.MayGo l (plain_local x l) p → (z : Entry)
+    → captured.entry_in p ≡ z ∷ [] → IsOthers z
+plain_others l x (captured.entry en) may z is = (let same : en ≡ z = cc in subst IsOthers same (by en may))
+  where
+    by : (en : Entry) → relays.MayCome l (x.plain l) en → IsOthers en
+    by (e.Dialled k to why) may = absurd may
+    by (e.DialFailed to why) may = absurd may
+    by e.Tick may = absurd may
+    by _ may = tt
+plain_others l x (captured.up en) may z is = (let same : en ≡ z = cc in subst IsOthers same (by en may))
+  where
+    by : (en : Entry) → relays.UpMayCome l (x.plain l) en → IsOthers en
+    by (e.Dialled u to why) may = subst (λ (w : Why). IsOthers (e.Dialled u to w)) (sym may.1) tt
+    by (e.DialFailed to why) may = subst (λ (w : Why). IsOthers (e.DialFailed to w)) (sym may.1) tt
+    by e.Tick may = absurd may
+    by _ may = tt
+plain_others l x _ may z is = absurd cc
+
+others_of : (g : NodeConfig) (x y : Machine) (p : Point) → Steps g x p y → control_in p ≡ [] → (z : Entry) → entry_in p ≡ z ∷ []
+    → IsOthers z
+others_of g x y (of_control q) steps none z is = absurd cc
+others_of g x y (of_link l p) steps none z is = part_others l x p _ steps.1 z is
+others_of g x y (of_plain l p) steps none z is = plain_others l x p steps.0 z is
+
+-- such an entry, on no link to the control plane, tells nothing of dials
+others_same : (g : NodeConfig) (x : Machine) (before : List Point) → StandsFor g x before → (z : Entry) → IsOthers z
+    → ((k : ℕ) → link_of z ≡ Some k → owner k (entries before) ≢ control_plane)
+    → dialling_after (dialling (entries before)) z ≡ dialling (entries before)
+others_same g x before stands (e.Closed k why) others apart =
+    ap (λ c. record (dialling (entries before)) { control = c })
+    (without_same k (dialling (entries before)).control (λ mine. apart k refl (known g x before stands k mine)))
+others_same g x before stands (e.Dialled l to whys.Discovery) others apart = absurd others
+others_same g x before stands (e.Dialled l to _) others apart = refl
+others_same g x before stands (e.DialFailed to whys.Discovery) others apart = absurd others
+others_same g x before stands (e.DialFailed to _) others apart = refl
+others_same g x before stands e.Tick others apart = absurd others
+others_same g x before stands _ others apart = refl
 
 -- the control plane's points tell the same of dials as the trace does
 same : (g : NodeConfig) (x : Machine) (points : List Point) → StandsFor g x points
@@ -130,6 +167,16 @@ same g y more (goes_on {x = x} {points = points} stands p steps are) =
     subst (λ (ps : List Point). dialling (entries ps) ≡ dialling (point.entries (control_of ps))) (sym are)
     (dial_more points p ∙ by p steps (same g x points stands))
   where
+    rests : (p : Point) → control_in p ≡ [] → Steps g x p y → dialling (entries points) ≡ dialling (point.entries (control_of points))
+        → fold dialling_after (dialling (entries points)) (entry_in p) ≡ dialling (point.entries (control_of (points ++ p ∷ [])))
+    rests p none steps so_far =
+        ⊎_elim (λ silent. ap (fold dialling_after (dialling (entries points))) silent)
+        (λ h. ap (fold dialling_after (dialling (entries points))) h.1
+        ∙ others_same g x points stands h.0 (others_of g x y p steps none h.0 h.1)
+        (elsewhere points p (own_at g x points (all_owned g x points stands) p y steps) none h.0 h.1))
+        (short p)
+        ∙ so_far ∙ ap (λ (qs : List point.Point). dialling (point.entries qs)) (sym (control_same points p none))
+
     by : (p : Point) → Steps g x p y → dialling (entries points) ≡ dialling (point.entries (control_of points))
         → fold dialling_after (dialling (entries points)) (entry_in p) ≡ dialling (point.entries (control_of (points ++ p ∷ [])))
     by (of_control q) steps so_far =
@@ -137,10 +184,8 @@ same g y more (goes_on {x = x} {points = points} stands p steps are) =
         ∙ sym (fold-append dialling_after at_start (point.entries (control_of points)) (point.entry_in q))
         ∙ ap dialling (sym (ap point.entries (one_more control_in points (of_control q))
         ∙ one_more point.entry_in (control_of points) q))
-    by (of_link l p) steps so_far =
-        part_same g x points stands l p _ steps.1 (own_at g x points (all_owned g x points stands) (of_link l p) y steps)
-        ∙ so_far ∙ ap (λ (qs : List point.Point). dialling (point.entries qs))
-        (sym (one_more control_in points (of_link l p) ∙ append-nil (control_of points)))
+    by (of_link l p) steps so_far = rests (of_link l p) refl steps so_far
+    by (of_plain l p) steps so_far = rests (of_plain l p) refl steps so_far
 
 -- AT EACH ENTRY
 
@@ -165,58 +210,25 @@ control_late g m none (e.DialFailed to whys.Discovery) may = none may.0
 control_late g m none (e.DialFailed to _) may = tt
 control_late g m none _ may = tt
 
-up_dials_none : (why : Why) (l s : ℕ) → why ≡ whys.Upstream l s → (u : ℕ) (to : Target) → IsNoDial (e.Dialled u to why)
-up_dials_none whys.Discovery l s is u to = cc
-up_dials_none _ l s is u to = tt
-
-up_fails_none : (why : Why) (l s : ℕ) → why ≡ whys.Upstream l s → (to : Target) → IsNoDial (e.DialFailed to why)
-up_fails_none whys.Discovery l s is to = cc
-up_fails_none _ l s is to = tt
-
-part_late : (l : ℕ) (x : Machine) (p : Part) (next : _) → inbound.Steps l (local x l) p next → (z : Entry) → part.entry_in p ≡ z ∷ []
-    → IsNoDial z
-part_late l x (part.entry en) next steps z is = (let same : en ≡ z = cc in subst IsNoDial same (by en steps.0))
-  where
-    by : (en : Entry) → MayCome l (x.inbound l) en → IsNoDial en
-    by (e.Dialled k to why) may = absurd may
-    by (e.DialFailed to why) may = absurd may
-    by _ may = tt
-part_late l x (part.up s en) next steps z is = (let same : en ≡ z = cc in subst IsNoDial same (by en steps.0))
-  where
-    by : (en : Entry) → UpMayCome l s (x.inbound l) ((x.inbound l).tunnels s) en → IsNoDial en
-    by (e.Dialled u to why) may = up_dials_none why l s may.4 u to
-    by (e.DialFailed to why) may = up_fails_none why l s may.3 to
-    by _ may = tt
-part_late l x _ next steps z is = absurd cc
+others_late : (z : Entry) → IsOthers z → IsNoDial z
+others_late (e.Dialled l to whys.Discovery) others = others
+others_late (e.Dialled l to _) others = tt
+others_late (e.DialFailed to whys.Discovery) others = others
+others_late (e.DialFailed to _) others = tt
+others_late _ others = tt
 
 -- while it goes on none is due where an entry of another part stands
-part_undue : (g : NodeConfig) (before : List Entry) → (dialling before).due ≡ false → (l : ℕ) (x : Machine) (p : Part) (next : _)
-    → inbound.Steps l (local x l) p next → (z : Entry) → part.entry_in p ≡ z ∷ [] → DialMayStand g before z
-part_undue g before none l x (part.entry en) next steps z is =
-    (let same : en ≡ z = cc in subst (DialMayStand g before) same (by en steps.0))
-  where
-    by : (en : Entry) → MayCome l (x.inbound l) en → DialMayStand g before en
-    by (e.Dialled k to why) may = absurd may
-    by (e.DialFailed to why) may = absurd may
-    by (e.Balked (way.Listen d at listening)) may = absurd may
-    by (e.Balked (way.Accept d)) may = absurd may
-    by (e.Balked (way.Finish k)) may = absurd may
-    by (e.Balked (way.Read k)) may = none
-    by (e.Balked (way.Write k)) may = none
-    by _ may = none
-part_undue g before none l x (part.up s en) next steps z is =
-    (let same : en ≡ z = cc in subst (DialMayStand g before) same (by en steps.0))
-  where
-    by : (en : Entry) → UpMayCome l s (x.inbound l) ((x.inbound l).tunnels s) en → DialMayStand g before en
-    by (e.Dialled u to why) may = subst (λ (w : Why). DialMayStand g before (e.Dialled u to w)) (sym may.4) none
-    by (e.DialFailed to why) may = subst (λ (w : Why). DialMayStand g before (e.DialFailed to w)) (sym may.3) none
-    by (e.Balked (way.Listen d at listening)) may = absurd may
-    by (e.Balked (way.Accept d)) may = absurd may
-    by (e.Balked (way.Finish u)) may = none
-    by (e.Balked (way.Read u)) may = none
-    by (e.Balked (way.Write u)) may = none
-    by _ may = none
-part_undue g before none l x _ next steps z is = absurd cc
+others_undue : (g : NodeConfig) (before : List Entry) → (dialling before).due ≡ false → (z : Entry) → IsOthers z → DialMayStand g before z
+others_undue g before none (e.Dialled l to whys.Discovery) others = absurd others
+others_undue g before none (e.Dialled l to _) others = none
+others_undue g before none (e.DialFailed to whys.Discovery) others = absurd others
+others_undue g before none (e.DialFailed to _) others = none
+others_undue g before none (e.Balked (way.Listen d at listening)) others = tt
+others_undue g before none (e.Balked (way.Accept d)) others = none
+others_undue g before none (e.Balked (way.Finish l)) others = none
+others_undue g before none (e.Balked (way.Read l)) others = none
+others_undue g before none (e.Balked (way.Write l)) others = none
+others_undue g before none _ others = none
 
 -- what the control plane's law says of an entry behind its points
 said : (g : NodeConfig) (m : control.Machine) (points : List point.Point) (z : Entry) → model.StandsFor g m (points ++ point.entry z ∷ [])
@@ -239,22 +251,25 @@ next g x y before p stands steps z is =
         ap (λ (d : Dialling). d.due) (same g x before stands)
         ∙ said g _ (control_of before) e.Tick (ticked g x.control (control_of before) runs rests goes)
 
+    other : x.control.over ≡ false → (p : Point) → Steps g x p y → control_in p ≡ [] → entry_in p ≡ z ∷ []
+        → DialMayStand g (entries before) z
+    other goes p steps none is =
+        others_undue g (entries before) (undue goes (rests_of g x y p steps none z is)) z (others_of g x y p steps none z is)
+
     by : (over : Bool) → x.control.over ≡ over → (p : Point) → Steps g x p y → entry_in p ≡ z ∷ [] → DialsBy over g (entries before) z
     by true over (of_control (point.entry en)) steps is =
         (let one : en ≡ z = cc in subst IsNoDial one (control_late g x.control (late over) en steps.1.0))
     by true over (of_control _) steps is = absurd cc
-    by true over (of_link l p) steps is = part_late l x p _ steps.1 z is
+    by true over (of_link l p) steps is = others_late z (others_of g x y (of_link l p) steps refl z is)
+    by true over (of_plain l p) steps is = others_late z (others_of g x y (of_plain l p) steps refl z is)
     by false goes (of_control (point.entry en)) steps is =
         let one : en ≡ z = cc in
         subst (DialMayStand g (entries before)) one
         (moved g (point.entries (control_of before)) (entries before) (same g x before stands) en
         (said g steps.0 (control_of before) en (model.goes_on runs (point.entry en) steps.1 refl)))
     by false goes (of_control _) steps is = absurd cc
-    by false goes (of_link l (part.entry en)) steps is =
-        part_undue g (entries before) (undue goes steps.2.control) l x (part.entry en) _ steps.1 z is
-    by false goes (of_link l (part.up s en)) steps is =
-        part_undue g (entries before) (undue goes steps.2.control) l x (part.up s en) _ steps.1 z is
-    by false goes (of_link l _) steps is = absurd cc
+    by false goes (of_link l p) steps is = other goes (of_link l p) steps refl is
+    by false goes (of_plain l p) steps is = other goes (of_plain l p) steps refl is
 
 pub runs_dial : RunsDial
 runs_dial g x points stands = at_points g (DialsAt g) (next g) x points stands

@@ -1,7 +1,17 @@
--- A tunnel that ended has no upstream that isn't closed where anything more comes, in every run of the whole.
-use Rattle.std.proofs.Common.{◌≡◌, inl, inr, ⊎_elim, ℕ, ◌||◌, Bool, false, List, Some, None, refl, ap, ap₂, sym, subst}
+-- A tunnel that ended has no upstream that isn't closed where anything more comes, and a plain link that ended is closed, in every run of
+-- the whole.
+use Rattle.std.proofs.Common.{◌≡◌, inl, inr, ⊎_elim, ℕ, ◌||◌, Bool, true, false, List, Some, None, refl, ap, ap₂, sym, ◌∙◌, subst}
 use Rattle.std.proofs.lemmas.Bool.{cases_eq}
+use Rattle.hb_base.specs.declared.cause.Cause.{Cause}
 use Rattle.hb_base.specs.declared.cause.Cause.TheVariants as cause
+use Rattle.hb_captured.proofs.Kept.{Keeps, all_keep}
+use Rattle.hb_captured.proofs.Stages.{course_in}
+use Rattle.hb_captured.specs.Calm as plain_calm
+use Rattle.hb_captured.specs.Captured as captured
+use Rattle.hb_captured.specs.Captured.{Captured}
+use Rattle.hb_captured.specs.Part as plain_part
+use Rattle.hb_captured.specs.Runs as plain
+use Rattle.hb_captured.specs.Sides as plain_sides
 use Rattle.hb_inbound.proofs.Admitted.{KnowsBy}
 use Rattle.hb_inbound.proofs.AdmittedRun.{all_admit}
 use Rattle.hb_inbound.proofs.EndsRun.{all_say, new_streams, quiet_closed}
@@ -19,13 +29,14 @@ use Rattle.hb_model.specs.Point as point
 use Rattle.hb_model.specs.declared.config.NodeConfig.{NodeConfig}
 use Rattle.hb_world.specs.declared.entry.Entry.{Entry}
 use Rattle.hb_world.specs.declared.entry.Entry.TheVariants as e
-use Rattle.hb_proxy.specs.Ends.{AllClosed, MoreComes, LinkGoes, UpGoes, EndsAt}
+use Rattle.hb_proxy.specs.Ends.{IsPlainClosed, AllClosed, MoreComes, LinkGoes, UpGoes, EndsAt}
 use Rattle.hb_proxy.specs.Held.{at_start}
 use Rattle.hb_proxy.specs.Laws.{RunsEnd}
-use Rattle.hb_proxy.specs.Machine.{Machine, local}
-use Rattle.hb_proxy.specs.Points.{Point, of_control, of_link, parts_of}
-use Rattle.hb_proxy.specs.Runs.{is_act, is_link_faulted, link_first, Lets, ControlMayCome, LinkMayCome, Steps, StandsFor}
+use Rattle.hb_proxy.specs.Machine.{Machine, local, plain_local}
+use Rattle.hb_proxy.specs.Points.{Point, of_control, of_link, of_plain, parts_of, plain_of}
+use Rattle.hb_proxy.specs.Runs.{is_act, is_link_faulted, link_first, Lets, PlainLets, ControlMayCome, LinkMayCome, PlainMayCome, Steps, StandsFor}
 use Rattle.hb_proxy.proofs.Places.{at_points}
+use Rattle.hb_proxy.proofs.Plain.{plain_runs}
 use Rattle.hb_proxy.proofs.Projection.{links_run}
 
 -- a link that is quiet has told of no connection error
@@ -54,13 +65,62 @@ unborn_quiet parts x is knows =
 pub lets_quiet : (first : Bool) (y : Inbound) → first ≡ false → Lets first y → IsQuiet y
 lets_quiet first y is lets = subst (λ (b : Bool). Lets b y) is lets
 
+-- A LINK OF THE PLAIN DOOR
+
+abbrev IsQuietBy : captured.Stage → Captured → Type 0
+IsQuietBy stage x = plain_calm.IsCalmBy stage x × plain_calm.IsIdleBy stage x
+
+-- one that isn't born is quiet
+plain_unborn : (x : Captured) → x.stage ≡ captured.unborn → plain_calm.IsQuiet x
+plain_unborn x is = subst (λ (s : captured.Stage). IsQuietBy s x) (sym is) (tt, tt)
+
+pub plain_quiet : (first : Bool) (y : Captured) → first ≡ false → PlainLets first y → plain_calm.IsQuiet y
+plain_quiet first y is lets = subst (λ (b : Bool). PlainLets b y) is lets
+
+-- one that is tried is quiet
+tried_quiet : (x : Captured) → plain.IsTried x → plain_calm.IsQuiet x
+tried_quiet x (inl at) = at.0
+tried_quiet x (inr (inl at)) = at.0
+tried_quiet x (inr (inr at)) = at.0
+
+-- one that ended, and is quiet, is closed with its upstream
+over_closed : (x : Captured) (why : Cause) (stage : captured.Stage) → IsQuietBy stage x → course_in stage ≡ plain_sides.over why
+    → (x.closed ≡ true) × (x.up ≡ 0)
+over_closed x why (captured.over cause) quiet is = quiet.1
+over_closed x why (captured.failed cause) quiet is = absurd quiet.0
+over_closed x why (captured.ended cause) quiet is = absurd quiet.0
+over_closed x why captured.unborn quiet is = absurd cc
+over_closed x why captured.arriving quiet is = absurd cc
+over_closed x why captured.fronting quiet is = absurd cc
+over_closed x why captured.due quiet is = absurd cc
+over_closed x why captured.opening quiet is = absurd cc
+over_closed x why captured.accepting quiet is = absurd cc
+over_closed x why captured.live quiet is = absurd cc
+
 module _ (g : NodeConfig) (x : Machine) (before : List Point) (stands : StandsFor g x before) where
-  closed_of : ((l : ℕ) → IsQuiet (x.inbound l)) → AllClosed g before
-  closed_of quiet l = quiet_closed new_streams l (at_start g) (local x l) (parts_of l before) (links_run g x before l stands) (quiet l)
+  plain_closed : (l : ℕ) → plain_calm.IsQuiet (x.plain l) → IsPlainClosed g before l
+  plain_closed l quiet = record {
+    link = λ why is. keeps.tells.closed ∙ (closed why is).0;
+    up = λ why is. keeps.tells.up ∙ (closed why is).1;
+  }
+    where
+      keeps : Keeps (at_start g) (plain_local x l) (plain_of l before)
+      keeps = all_keep l (at_start g) (plain_local x l) (plain_of l before) (plain_runs g x before l stands)
+
+      closed : (why : Cause) → plain_sides.course_of (at_start g) (plain_of l before) ≡ plain_sides.over why
+          → ((x.plain l).closed ≡ true) × ((x.plain l).up ≡ 0)
+      closed why is = over_closed (x.plain l) why (x.plain l).stage quiet (sym keeps.course ∙ is)
+
+  closed_of : ((l : ℕ) → IsQuiet (x.inbound l)) → ((l : ℕ) → plain_calm.IsQuiet (x.plain l)) → AllClosed g before
+  closed_of quiet plain = record {
+    links = λ l. quiet_closed new_streams l (at_start g) (local x l) (parts_of l before) (links_run g x before l stands) (quiet l);
+    plain = λ l. plain_closed l (plain l);
+  }
 
   -- an entry of a link that is quiet, and that doesn't go first, comes while all are
   all_closed : (l : ℕ) (z : Entry) → LinkMayCome x l z → is_act z ≡ false → IsQuiet (x.inbound l) → AllClosed g before
-  all_closed l z guard late quiet = closed_of each
+  all_closed l z guard late quiet =
+      closed_of each (λ k. plain_quiet (link_first (x.inbound l).phase z) (x.plain k) first (guard.plain k))
     where
       first : link_first (x.inbound l).phase z ≡ false
       first = ap₂ (λ (a b : Bool). a || b) (unfaulted (x.inbound l).phase quiet.no_close) late
@@ -71,12 +131,12 @@ module _ (g : NodeConfig) (x : Machine) (before : List Point) (stands : StandsFo
           (λ apart. lets_quiet (link_first (x.inbound l).phase z) (x.inbound k) first (guard.others k apart)) (cases_eq k l)
 
   control_ends : (z : Entry) → ControlMayCome x z → MoreComes g before z
-  control_ends (e.Accepted k d) guard = closed_of guard.links
-  control_ends (e.Opened k) guard = closed_of guard.links
-  control_ends (e.Came k bytes) guard = closed_of guard.links
-  control_ends (e.Ended k) guard = closed_of guard.links
-  control_ends e.Tick guard = closed_of guard.links
-  control_ends (e.Wait ready how) guard = closed_of guard.links
+  control_ends (e.Accepted k d) guard = closed_of guard.links guard.plain
+  control_ends (e.Opened k) guard = closed_of guard.links guard.plain
+  control_ends (e.Came k bytes) guard = closed_of guard.links guard.plain
+  control_ends (e.Ended k) guard = closed_of guard.links guard.plain
+  control_ends e.Tick guard = closed_of guard.links guard.plain
+  control_ends (e.Wait ready how) guard = closed_of guard.links guard.plain
   control_ends _ guard = tt
 
   link_ends : (l : ℕ) (z : Entry) → MayCome l (x.inbound l) z → LinkMayCome x l z → MoreComes g before z × LinkGoes g before l z
@@ -112,12 +172,45 @@ module _ (g : NodeConfig) (x : Machine) (before : List Point) (stands : StandsFo
   up_ends l s (e.Wait ready how) may guard = absurd may
   up_ends l s _ may guard = (tt, tt)
 
+  -- nor does one of a plain link
+  plain_all : (l : ℕ) (z : Entry) → PlainMayCome x l z → is_act z ≡ false → plain_calm.IsQuiet (x.plain l) → AllClosed g before
+  plain_all l z guard late quiet =
+      closed_of (λ k. lets_quiet (is_act z) (x.inbound k) late (guard.links k)) each
+    where
+      each : (k : ℕ) → plain_calm.IsQuiet (x.plain k)
+      each k =
+          ⊎_elim (λ (same : k ≡ l). subst (λ (j : ℕ). plain_calm.IsQuiet (x.plain j)) (sym same) quiet)
+          (λ apart. plain_quiet (is_act z) (x.plain k) late (guard.others k apart)) (cases_eq k l)
+
+  plain_ends : (l : ℕ) (z : Entry) → plain.MayCome l (x.plain l) z → PlainMayCome x l z → MoreComes g before z × UpGoes g before z
+  plain_ends l (e.Accepted k d) may guard = (plain_all l (e.Accepted k d) guard refl (plain_unborn (x.plain l) may.1), tt)
+  plain_ends l (e.Came k bytes) may guard = (plain_all l (e.Came k bytes) guard refl (tried_quiet (x.plain l) may.1.0), tt)
+  plain_ends l (e.Ended k) may guard = (plain_all l (e.Ended k) guard refl (tried_quiet (x.plain l) may.1.0), tt)
+  plain_ends l (e.Went k bytes) may guard = (tt, plain_all l (e.Went k bytes) guard refl may.1.0)
+  plain_ends l (e.Opened k) may guard = absurd may
+  plain_ends l e.Tick may guard = absurd may
+  plain_ends l (e.Wait ready how) may guard = absurd may
+  plain_ends l _ may guard = (tt, tt)
+
+  relay_ends : (l : ℕ) (z : Entry) → plain.UpMayCome l (x.plain l) z → PlainMayCome x l z → MoreComes g before z × UpGoes g before z
+  relay_ends l (e.Accepted k d) may guard = absurd may
+  relay_ends l (e.Opened u) may guard = (plain_all l (e.Opened u) guard refl may.0.0, tt)
+  relay_ends l (e.Came u bytes) may guard = (plain_all l (e.Came u bytes) guard refl may.0.0.0, tt)
+  relay_ends l (e.Ended u) may guard = (plain_all l (e.Ended u) guard refl may.0.0.0, tt)
+  relay_ends l (e.Went u bytes) may guard = (tt, plain_all l (e.Went u bytes) guard refl may.0.0.0)
+  relay_ends l e.Tick may guard = absurd may
+  relay_ends l (e.Wait ready how) may guard = absurd may
+  relay_ends l _ may guard = (tt, tt)
+
 next : (g : NodeConfig) (x y : Machine) (before : List Point) (p : Point) → StandsFor g x before → Steps g x p y → EndsAt g before p
 next g x y before (of_control (point.entry z)) stands steps = control_ends g x before stands z steps.2
 next g x y before (of_control _) stands steps = tt
 next g x y before (of_link l (part.entry z)) stands steps = link_ends g x before stands l z steps.1.0 steps.2
 next g x y before (of_link l (part.up s z)) stands steps = up_ends g x before stands l s z steps.1.0 steps.2
 next g x y before (of_link l _) stands steps = tt
+next g x y before (of_plain l (plain_part.entry z)) stands steps = plain_ends g x before stands l z steps.0 steps.1
+next g x y before (of_plain l (plain_part.up z)) stands steps = relay_ends g x before stands l z steps.0 steps.1
+next g x y before (of_plain l _) stands steps = tt
 
 pub runs_end : RunsEnd
 runs_end g x points stands = at_points g (EndsAt g) (next g) x points stands

@@ -1,40 +1,43 @@
--- What a link does by itself is a run of the whole.
+-- What a link does by itself is a run of the whole: an inbound one, and one of the plain door.
 use Rattle.std.proofs.Common.{◌≡◌, ℕ, cond, List, [], ◌∷◌, ◌++◌, map, refl, ap, sym, ◌∙◌, subst}
 use Rattle.std.proofs.lemmas.Bool.{eq-eqb, ne_eqb}
 use Rattle.std.proofs.lemmas.List.{append_assoc, append-nil}
+use Rattle.hb_captured.specs.Part as captured_part
+use Rattle.hb_captured.specs.Runs as captured
 use Rattle.hb_inbound.specs.Inbound.{Inbound}
 use Rattle.hb_inbound.specs.Part as part
 use Rattle.hb_inbound.specs.Part.{Part}
 use Rattle.hb_inbound.specs.Runs.{Local, with_link}
 use Rattle.hb_inbound.specs.Runs as inbound
-use Rattle.hb_proxy.specs.Leads.{IsInner, Leads, LinksLead, LinksStep}
-use Rattle.hb_proxy.specs.Machine.{Machine, local, with_part}
-use Rattle.hb_proxy.specs.Points.{Point, of_link}
-use Rattle.hb_proxy.specs.Runs.{LinkGuard, StandsFor, goes_on}
+use Rattle.hb_proxy.specs.Leads.{IsInner, Leads, LinksLead, LinksStep, IsPlainInner, PlainLeads, PlainLinksLead, PlainLinksStep}
+use Rattle.hb_proxy.specs.Machine.{Machine, local, plain_local, with_part, with_plain}
+use Rattle.hb_proxy.specs.Points.{Point, of_link, of_plain}
+use Rattle.hb_proxy.specs.Runs.{LinkGuard, PlainGuard, StandsFor, goes_on}
+use Rattle.hb_proxy.proofs.Plain.{turned}
 
 -- a part that isn't an update leaves what is held
 module _ (a b : Local) where
-  turned : (y : Inbound) → b ≡ with_link y a → b ≡ with_link b.link a
-  turned y is = is ∙ ap (λ (z : Inbound). with_link z a) (sym (ap (λ (c : Local). c.link) is))
+  as_link : (y : Inbound) → b ≡ with_link y a → b ≡ with_link b.link a
+  as_link y is = is ∙ ap (λ (z : Inbound). with_link z a) (sym (ap (λ (c : Local). c.link) is))
 
   holds : (x : Machine) (l : ℕ) (p : Part) → LinkGuard x l p → inbound.Steps l a p b → b ≡ with_link b.link a
-  holds x l (part.entry z) guard steps = turned _ steps.1
-  holds x l (part.up s z) guard steps = turned _ steps.1
-  holds x l part.welcomed guard steps = turned _ steps.1
-  holds x l part.crowded guard steps = turned _ steps.1
-  holds x l part.lacked guard steps = turned _ steps.1
-  holds x l (part.fronted seen) guard steps = turned _ steps.4
-  holds x l (part.misfronted fault) guard steps = turned _ steps.2
-  holds x l (part.looked ps told headers) guard steps = turned _ steps.5
-  holds x l (part.decided s full given) guard steps = turned _ steps.5
-  holds x l (part.accepted s made) guard steps = turned _ steps.3
-  holds x l (part.refused s status resets made) guard steps = turned _ steps.4
-  holds x l (part.reset s code made) guard steps = turned _ steps.3
-  holds x l (part.left s made) guard steps = turned _ steps.2
-  holds x l (part.done s made) guard steps = turned _ steps.3
-  holds x l (part.put s bytes) guard steps = turned _ steps.3
-  holds x l (part.finished s) guard steps = turned _ steps.2
-  holds x l (part.credited s n) guard steps = turned _ steps.3
+  holds x l (part.entry z) guard steps = as_link _ steps.1
+  holds x l (part.up s z) guard steps = as_link _ steps.1
+  holds x l part.welcomed guard steps = as_link _ steps.1
+  holds x l part.crowded guard steps = as_link _ steps.1
+  holds x l part.lacked guard steps = as_link _ steps.1
+  holds x l (part.fronted seen) guard steps = as_link _ steps.4
+  holds x l (part.misfronted fault) guard steps = as_link _ steps.2
+  holds x l (part.looked ps told headers) guard steps = as_link _ steps.5
+  holds x l (part.decided s full given) guard steps = as_link _ steps.5
+  holds x l (part.accepted s made) guard steps = as_link _ steps.3
+  holds x l (part.refused s status resets made) guard steps = as_link _ steps.4
+  holds x l (part.reset s code made) guard steps = as_link _ steps.3
+  holds x l (part.left s made) guard steps = as_link _ steps.2
+  holds x l (part.done s made) guard steps = as_link _ steps.3
+  holds x l (part.put s bytes) guard steps = as_link _ steps.3
+  holds x l (part.finished s) guard steps = as_link _ steps.2
+  holds x l (part.credited s n) guard steps = as_link _ steps.3
   holds x l (part.applied r) guard steps = absurd guard
   holds x l (part.stopped why) guard steps = absurd guard
 
@@ -48,6 +51,7 @@ links_step g x points l p b stands guard steps =
       reached = ap (λ (t : _). record { held = x.control.held; link = cond t b.link (x.inbound l) }) (eq-eqb l l refl) ∙ sym is;
       others = λ k apart. ap (λ (t : _). cond t b.link (x.inbound k)) (ne_eqb k l apart);
       control = refl;
+      plain = refl;
     }
   where
     p_at : Point
@@ -68,6 +72,7 @@ links_lead g x points l [] b stands leads = record {
   reached = sym leads;
   others = λ k apart. refl;
   control = refl;
+  plain = refl;
 }
 links_lead g x points l (p ∷ parts) b stands (inner, mid, steps, leads) =
     let one = links_step g x points l p mid stands (inner_guard x l p inner) steps in
@@ -80,4 +85,50 @@ links_lead g x points l (p ∷ parts) b stands (inner, mid, steps, leads) =
       reached = rest.reached;
       others = λ k apart. rest.others k apart ∙ one.others k apart;
       control = rest.control ∙ one.control;
+      plain = rest.plain ∙ one.plain;
+    }
+
+-- LINKS OF THE PLAIN DOOR
+
+pub plain_links_step : PlainLinksStep
+plain_links_step g x points l p stands guard may =
+    let next = captured.next_link (x.plain l) p in
+    record {
+      y = with_plain l p next x;
+      stands = goes_on stands (of_plain l p) (may, guard, refl) refl;
+      reached = ap (λ (t : _). record { held = x.control.held; link = cond t next (x.plain l) }) (eq-eqb l l refl)
+          ∙ sym (turned x l p guard (plain_local x l));
+      others = λ k apart. ap (λ (t : _). cond t next (x.plain k)) (ne_eqb k l apart);
+      control = refl;
+      inbound = refl;
+    }
+
+plain_guard : (x : Machine) (l : ℕ) (p : captured_part.Part) → IsPlainInner p → PlainGuard x l p
+plain_guard x l (captured_part.entry z) inner = absurd inner
+plain_guard x l (captured_part.up z) inner = absurd inner
+plain_guard x l (captured_part.applied r) inner = absurd inner
+plain_guard x l (captured_part.stopped why) inner = absurd inner
+plain_guard x l _ inner = tt
+
+pub plain_links_lead : PlainLinksLead
+plain_links_lead g x points l [] b stands leads = record {
+  y = x;
+  stands = subst (λ (ps : List Point). StandsFor g x ps) (sym (append-nil points)) stands;
+  reached = sym leads;
+  others = λ k apart. refl;
+  control = refl;
+  inbound = refl;
+}
+plain_links_lead g x points l (p ∷ parts) b stands (inner, may, leads) =
+    let one = plain_links_step g x points l p stands (plain_guard x l p inner) may in
+    let rest = plain_links_lead g one.y (points ++ of_plain l p ∷ []) l parts b one.stands
+    (subst (λ (c : captured.Local). PlainLeads l c parts b) (sym one.reached) leads) in
+    record {
+      y = rest.y;
+      stands = subst (λ (ps : List Point). StandsFor g rest.y ps)
+          (append_assoc points (of_plain l p ∷ []) (map (of_plain l) parts)) rest.stands;
+      reached = rest.reached;
+      others = λ k apart. rest.others k apart ∙ one.others k apart;
+      control = rest.control ∙ one.control;
+      inbound = rest.inbound ∙ one.inbound;
     }

@@ -14,6 +14,11 @@ pub mod Look
 pub mod Own
 pub mod Owned
 pub mod Places
+pub mod Plain
+pub mod PlainChanges
+pub mod PlainRefusing
+pub mod PlainStays
+pub mod PlainWaits
 pub mod Projection
 pub mod Refusing
 pub mod Relay

@@ -1,6 +1,10 @@
 -- Each entry stands on a link of its own part, and links are numbered in the order of births.
-use Rattle.std.proofs.Common.{◌≡◌, ⊎_elim, ℕ, ◌+◌, false, List, [], ◌∷◌, ◌++◌, Option, Some, None, IfSome, refl, ap, sym, ◌∙◌, subst, arith}
+use Rattle.std.proofs.Common.{◌≡◌, ◌≢◌, inl, inr, ⊎_elim, ℕ, ◌+◌, ◌<◌, false, List, [], ◌∷◌, ◌++◌, Option, Some, None, IfSome, refl, ap, sym, ◌∙◌, subst, arith}
 use Rattle.std.proofs.lemmas.List.{append-nil}
+use Rattle.hb_captured.specs.Captured as plain
+use Rattle.hb_captured.specs.Captured.{Captured}
+use Rattle.hb_captured.specs.Part as captured
+use Rattle.hb_captured.specs.Runs as relays
 use Rattle.hb_inbound.specs.Inbound.{Inbound}
 use Rattle.hb_inbound.specs.Part as part
 use Rattle.hb_inbound.specs.Part.{Part}
@@ -17,14 +21,15 @@ use Rattle.hb_world.specs.declared.entry.Entry.{Entry}
 use Rattle.hb_world.specs.declared.entry.Entry.TheVariants as e
 use Rattle.hb_world.specs.declared.entry.Way.TheVariants as way
 use Rattle.hb_proxy.specs.Laws.{RunsOwn, RunsNumber, RunsDialOnce}
-use Rattle.hb_proxy.specs.Machine.{Machine, local, born_after, born_by}
-use Rattle.hb_proxy.specs.Owners.{Owner, control_plane, inbound_link, upstream_of, link_of, owner, PartStands, ControlStands, OwnAt, NumberMayStand}
-use Rattle.hb_proxy.specs.Points.{Point, of_control, of_link, entry_in, entries}
+use Rattle.hb_proxy.specs.Machine.{Machine, local, plain_local, born_after, born_by}
+use Rattle.hb_proxy.specs.Owners.{Owner, control_plane, inbound_link, upstream_of, plain_link, relay_of, link_of, owner, StandsOn, StandsAs, PartStands, PlainStands, ControlStands, OwnAt, NumberMayStand}
+use Rattle.hb_proxy.specs.Points.{Point, of_control, of_link, of_plain, entry_in, entries, control_in}
 use Rattle.hb_proxy.specs.Runs.{BirthMayCome, Steps, StandsFor, begins, goes_on}
 use Rattle.hb_proxy.proofs.ControlBorn.{control_born}
 use Rattle.hb_proxy.proofs.Owned.{Owned, whose_in, all_owned}
 use Rattle.hb_proxy.proofs.Places.{at_points, at_trace, short, birth_of}
-use Rattle.hb_proxy.proofs.Stays.{OwnsBy, Owns, may_born}
+use Rattle.hb_proxy.proofs.PlainStays.{RelayBy, OwnsRelay, stands_born}
+use Rattle.hb_proxy.proofs.Stays.{IsWeak, OwnsBy, Owns, may_born}
 
 -- what holds of the link that an entry stands on, where it stands on one
 pub on_one : (P : ℕ → Type 0) (z : Entry) → ((l : ℕ) → link_of z ≡ Some l → P l) → IfSome (link_of z) P
@@ -88,6 +93,59 @@ module _ (whose : ℕ → Owner) (l s : ℕ) (x : Inbound) (t : Tunnel) (owns : 
   on_up e.Tick may k is = absurd may
   on_up (e.Wait ready how) may k is = absurd may
 
+-- an entry of a link of the plain door stands on it
+on_plain : (l : ℕ) (x : Captured) (z : Entry) → relays.MayCome l x z → (k : ℕ) → link_of z ≡ Some k → k ≡ l
+on_plain l x (e.Came j bytes) may k is = (let same : j ≡ k = cc in sym same ∙ may.0)
+on_plain l x (e.Ended j) may k is = (let same : j ≡ k = cc in sym same ∙ may.0)
+on_plain l x (e.Went j bytes) may k is = (let same : j ≡ k = cc in sym same ∙ may.0)
+on_plain l x (e.Broke j) may k is = (let same : j ≡ k = cc in sym same ∙ may.0)
+on_plain l x (e.Shut j) may k is = (let same : j ≡ k = cc in sym same ∙ may.0)
+on_plain l x (e.Closed j why) may k is = (let same : j ≡ k = cc in sym same ∙ may.0)
+on_plain l x (e.Balked (way.Read j)) may k is = (let same : j ≡ k = cc in sym same ∙ may.0)
+on_plain l x (e.Balked (way.Write j)) may k is = (let same : j ≡ k = cc in sym same ∙ may.0)
+on_plain l x (e.Balked (way.Listen d to listening)) may k is = absurd may
+on_plain l x (e.Balked (way.Accept d)) may k is = absurd may
+on_plain l x (e.Balked (way.Finish j)) may k is = absurd may
+on_plain l x (e.Accepted j d) may k is = absurd cc
+on_plain l x (e.Dialled j to why) may k is = absurd may
+on_plain l x (e.DialFailed to why) may k is = absurd may
+on_plain l x (e.Opened j) may k is = absurd may
+on_plain l x e.Tick may k is = absurd may
+on_plain l x (e.Wait ready how) may k is = absurd may
+
+-- and one of its upstream on that
+module _ (whose : ℕ → Owner) (l : ℕ) (x : Captured) (owns : OwnsRelay whose l x) where
+  at_relay : (u k : ℕ) → x.up ≡ u → u ≡ k → whose x.up ≡ relay_of l → whose k ≡ relay_of l
+  at_relay u k up same mine = subst (λ (n : ℕ). whose n ≡ relay_of l) (up ∙ same) mine
+
+  at_stage : (stage : plain.Stage) → x.stage ≡ stage → RelayBy stage whose l x.up
+  at_stage stage is = subst (λ (st : plain.Stage). RelayBy st whose l x.up) is owns
+
+  -- one that ended has the upstream that it had, or none
+  behind : (u k : ℕ) → x.up ≡ u → 0 < u → u ≡ k → IsWeak whose (relay_of l) x.up → whose k ≡ relay_of l
+  behind u k up some same (inl none) = absurd (omega (arith, up, some, none))
+  behind u k up some same (inr mine) = at_relay u k up same mine
+
+  on_relay : (z : Entry) → relays.UpMayCome l x z → (k : ℕ) → link_of z ≡ Some k → whose k ≡ relay_of l
+  on_relay (e.Opened u) may k is = at_relay u k may.1 (cc) (at_stage plain.opening may.0.1)
+  on_relay (e.Came u bytes) may k is = at_relay u k may.0.1 (cc) (at_stage plain.live may.0.0.1)
+  on_relay (e.Ended u) may k is = at_relay u k may.0.1 (cc) (at_stage plain.live may.0.0.1)
+  on_relay (e.Went u bytes) may k is = at_relay u k may.0.1 (cc) (at_stage plain.live may.0.0.1)
+  on_relay (e.Broke u) may k is =
+      ⊎_elim (λ h. at_relay u k h.1 (cc) (at_stage plain.opening h.0.1)) (λ h. at_relay u k h.1 (cc) (at_stage plain.live h.0.1)) may
+  on_relay (e.Shut u) may k is = at_relay u k may.2 (cc) (at_stage plain.live may.1)
+  on_relay (e.Closed u why) may k is = behind u k may.2 may.3 (cc) (at_stage (plain.over why) may.1)
+  on_relay (e.Balked (way.Finish u)) may k is = at_relay u k may.1 (cc) (at_stage plain.opening may.0.1)
+  on_relay (e.Balked (way.Read u)) may k is = at_relay u k may.0.1 (cc) (at_stage plain.live may.0.0.1)
+  on_relay (e.Balked (way.Write u)) may k is = at_relay u k may.0.1 (cc) (at_stage plain.live may.0.0.1)
+  on_relay (e.Balked (way.Listen d to listening)) may k is = absurd may
+  on_relay (e.Balked (way.Accept d)) may k is = absurd may
+  on_relay (e.Accepted j d) may k is = absurd may
+  on_relay (e.Dialled u to why) may k is = absurd cc
+  on_relay (e.DialFailed to why) may k is = absurd cc
+  on_relay e.Tick may k is = absurd may
+  on_relay (e.Wait ready how) may k is = absurd may
+
 -- where an entry stands
 module _ (g : NodeConfig) (x : Machine) (before : List Point) (owned : Owned x (whose_in before)) where
   control_stands : (q : point.Point) (m : _) → model.Steps g x.control q m → ControlStands (entries before) q
@@ -106,9 +164,43 @@ module _ (g : NodeConfig) (x : Machine) (before : List Point) (owned : Owned x (
       (on_up (whose_in before) l s (x.inbound l) ((x.inbound l).tunnels s) (owned.up l s) z steps.0)
   part_stands l _ next steps = tt
 
+  plain_stands : (l : ℕ) (p : captured.Part) → relays.MayGo l (plain_local x l) p → PlainStands (entries before) l p
+  plain_stands l (captured.entry z) may =
+      on_one (λ k. (k ≡ l) × (owner k (entries before) ≡ plain_link)) z
+      (λ k is.
+      let same = on_plain l (x.plain l) z may k is in
+      (same, ap (whose_in before) same ∙ owned.plain l (stands_born l (x.plain l) z may (no_birth z k is))))
+  plain_stands l (captured.up z) may =
+      on_one (λ u. owner u (entries before) ≡ relay_of l) z (on_relay (whose_in before) l (x.plain l) (owned.relay l) z may)
+  plain_stands l _ may = tt
+
   pub own_at : (p : Point) (y : Machine) → Steps g x p y → OwnAt before p
   own_at (of_control q) y steps = control_stands q steps.0 steps.1
   own_at (of_link l p) y steps = part_stands l p _ steps.1
+  own_at (of_plain l p) y steps = plain_stands l p steps.0
+
+-- an entry of another part stands on no link to the control plane
+module _ (before : List Entry) (o : Owner) (other : control_plane ≡ o → ⊥) (z : Entry) (k : ℕ) (on : link_of z ≡ Some k) where
+  others_on : StandsOn before o z → owner k before ≢ control_plane
+  others_on stands mine = other (sym mine ∙ subst (λ (v : Option ℕ). IfSome v (λ j. owner j before ≡ o)) on stands)
+
+  others_as : (l : ℕ) → StandsAs before l o z → owner k before ≢ control_plane
+  others_as l stands mine =
+      other (sym mine ∙ (subst (λ (v : Option ℕ). IfSome v (λ j. (j ≡ l) × (owner j before ≡ o))) on stands).1)
+
+pub elsewhere : (before : List Point) (p : Point) → OwnAt before p → control_in p ≡ [] → (z : Entry) → entry_in p ≡ z ∷ [] → (k : ℕ)
+    → link_of z ≡ Some k → owner k (entries before) ≢ control_plane
+elsewhere before (of_control q) own none z is k on = absurd cc
+elsewhere before (of_link l (part.entry en)) own none z is k on =
+    let same : en ≡ z = cc in others_as (entries before) inbound_link (λ is. cc) en k (ap link_of same ∙ on) l own
+elsewhere before (of_link l (part.up s en)) own none z is k on =
+    let same : en ≡ z = cc in others_on (entries before) (upstream_of l s) (λ is. cc) en k (ap link_of same ∙ on) own
+elsewhere before (of_plain l (captured.entry en)) own none z is k on =
+    let same : en ≡ z = cc in others_as (entries before) plain_link (λ is. cc) en k (ap link_of same ∙ on) l own
+elsewhere before (of_plain l (captured.up en)) own none z is k on =
+    let same : en ≡ z = cc in others_on (entries before) (relay_of l) (λ is. cc) en k (ap link_of same ∙ on) own
+elsewhere before (of_link l _) own none z is k on = absurd cc
+elsewhere before (of_plain l _) own none z is k on = absurd cc
 
 pub runs_own : RunsOwn
 runs_own g x points stands = at_points g OwnAt
@@ -131,6 +223,7 @@ counts x trace z same may = births-grow trace z ∙ omega (arith, same)
 born_next : (g : NodeConfig) (x y : Machine) (p : Point) → Steps g x p y → y.born ≡ born_after x.born (entry_in p)
 born_next g x y (of_control q) steps = ap (λ (z : Machine). z.born) steps.3
 born_next g x y (of_link l p) steps = ap (λ (z : Machine). z.born) steps.3
+born_next g x y (of_plain l p) steps = ap (λ (z : Machine). z.born) steps.2
 
 -- the links born are as many as the last one's number
 pub born_is : (g : NodeConfig) (x : Machine) (points : List Point) → StandsFor g x points → births (entries points) ≡ x.born
@@ -153,4 +246,6 @@ runs_number g x points stands =
     x points stands)
 
 pub runs_dial_once : RunsDialOnce
-runs_dial_once g x points stands = (all_owned g x points stands).one
+runs_dial_once g x points stands =
+    let owned = all_owned g x points stands in
+    record { streams = owned.one; relays = owned.one_relay }

@@ -7,6 +7,10 @@ use Rattle.std.specs.List.{list_any}
 use Rattle.hb_base.specs.declared.door.Door.{Door}
 use Rattle.hb_base.specs.declared.door.Why.{Why}
 use Rattle.hb_base.specs.declared.target.Target.{Target}
+use Rattle.hb_captured.specs.Captured as plain
+use Rattle.hb_captured.specs.Captured.{Captured}
+use Rattle.hb_captured.specs.Part as captured
+use Rattle.hb_captured.specs.Runs as relays
 use Rattle.hb_inbound.specs.Inbound as inbound
 use Rattle.hb_inbound.specs.Inbound.{Inbound, at_stream}
 use Rattle.hb_inbound.specs.Part as part
@@ -26,17 +30,18 @@ use Rattle.hb_world.specs.Trace.{is_birth}
 use Rattle.hb_world.specs.declared.entry.Entry.{Entry}
 use Rattle.hb_world.specs.declared.entry.Entry.TheVariants as e
 use Rattle.hb_proxy.specs.Held.{at_start}
-use Rattle.hb_proxy.specs.Machine.{Machine, fresh, local, seen_by, with_control, with_part, born_after, born_by}
-use Rattle.hb_proxy.specs.Owners.{Owner, nobody, control_plane, inbound_link, upstream_of, at_door, dialled_for, owner_by, owner}
-use Rattle.hb_proxy.specs.Points.{Point, of_control, of_link, entry_in, entries, control_of, parts_of}
-use Rattle.hb_proxy.specs.Runs.{BirthMayCome, ControlGuard, LinkGuard, Steps, StandsFor, begins, goes_on}
+use Rattle.hb_proxy.specs.Machine.{Machine, fresh, local, plain_local, seen_by, plain_seen_by, with_control, with_part, with_plain, born_after, born_by}
+use Rattle.hb_proxy.specs.Owners.{Owner, nobody, control_plane, inbound_link, upstream_of, plain_link, relay_of, at_door, dialled_for, owner_by, owner}
+use Rattle.hb_proxy.specs.Points.{Point, of_control, of_link, of_plain, entry_in, entries, control_of, parts_of}
+use Rattle.hb_proxy.specs.Runs.{BirthMayCome, ControlGuard, LinkGuard, PlainGuard, Steps, StandsFor, begins, goes_on}
 use Rattle.hb_proxy.proofs.ControlBorn.{control_stays}
 use Rattle.hb_proxy.proofs.Places.{short, birth_of}
+use Rattle.hb_proxy.proofs.PlainStays.{RelayBy, OwnsRelay, is_plain_born, PlainStays, same_plain, ends_stay, rejudged_stays, part_stays}
 use Rattle.hb_proxy.proofs.Projection.{control_runs, links_run}
-use Rattle.hb_proxy.proofs.Stays.{IsNone, OwnsBy, Owns, is_born, LinkStays, same_link, applied_stays, stopped_stays, step_stays}
+use Rattle.hb_proxy.proofs.Stays.{IsNone, IsWeak, OwnsBy, Owns, is_born, LinkStays, same_link, applied_stays, stopped_stays, step_stays}
 
 -- each number that is above the last birth is nobody's; each link that is born is its part's, as is each tunnel's upstream; and an
--- upstream is of one stream, of a link that was accepted
+-- upstream is of one stream, of a link that was accepted; so it is of links of the plain door
 pub record Owned (x : Machine) (whose : ℕ → Owner) : Type 0 where
   pub unborn : (n : ℕ) → x.born < n → whose n ≡ nobody
   pub none : whose 0 ≡ nobody
@@ -45,6 +50,10 @@ pub record Owned (x : Machine) (whose : ℕ → Owner) : Type 0 where
   pub up : (l s : ℕ) → Owns whose l s ((x.inbound l).tunnels s)
   pub one : (l s u v : ℕ) → whose u ≡ upstream_of l s → whose v ≡ upstream_of l s → u ≡ v
   pub over : (l s u : ℕ) → whose u ≡ upstream_of l s → whose l ≡ inbound_link
+  pub plain : (l : ℕ) → is_plain_born (x.plain l).stage ≡ true → whose l ≡ plain_link
+  pub relay : (l : ℕ) → OwnsRelay whose l (x.plain l)
+  pub one_relay : (l u v : ℕ) → whose u ≡ relay_of l → whose v ≡ relay_of l → u ≡ v
+  pub relay_over : (l u : ℕ) → whose u ≡ relay_of l → whose l ≡ plain_link
 
 -- NO BIRTH
 
@@ -52,6 +61,7 @@ pub record Alike (x y : Machine) : Type 0 where
   pub born : y.born ≡ x.born
   pub control : (n : ℕ) → IsBorn (y.control.links n).phase → IsBorn (x.control.links n).phase
   pub links : (l : ℕ) → LinkStays l (x.inbound l) (y.inbound l)
+  pub plain : (l : ℕ) → PlainStays l (x.plain l) (y.plain l)
 
 alike_owned : (x y : Machine) (whose : ℕ → Owner) → Owned x whose → Alike x y → Owned y whose
 alike_owned x y whose owned alike = record {
@@ -62,6 +72,10 @@ alike_owned x y whose owned alike = record {
   up = λ l s. (alike.links l).tunnels s whose (owned.up l s);
   one = owned.one;
   over = owned.over;
+  plain = λ l born. owned.plain l ((alike.plain l).born born);
+  relay = λ l. (alike.plain l).relay whose (owned.relay l);
+  one_relay = owned.one_relay;
+  relay_over = owned.relay_over;
 }
 
 -- A BIRTH
@@ -91,58 +105,88 @@ module _ (x y : Machine) (whose : ℕ → Owner) (owned : Owned x whose) (k : �
       cond_both (k == n) w (whose n) (λ z. z ≡ o → ((k ≡ n) × (w ≡ o)) ⊎ (whose n ≡ o))
       (λ same is. inl (eqb-true k n same, is)) (λ apart is. inr is)
 
-  born_owned : ((n : ℕ) → IsBorn (y.control.links n).phase → ((k ≡ n) × (w ≡ control_plane)) ⊎ IsBorn (x.control.links n).phase)
-      → ((l : ℕ) → is_born (y.inbound l).phase ≡ true → ((k ≡ l) × (w ≡ inbound_link)) ⊎ (is_born (x.inbound l).phase ≡ true))
-      → ((l s : ℕ) → Owns then l s ((y.inbound l).tunnels s))
-      → ((l s v : ℕ) → w ≡ upstream_of l s → whose v ≢ upstream_of l s)
-      → ((l s : ℕ) → w ≡ upstream_of l s → whose l ≡ inbound_link)
-      → Owned y then
-  born_owned control link up alone over = record {
+  -- links that are one owner's stay one
+  one : (o : Owner) → ((v : ℕ) → w ≡ o → whose v ≢ o) → ((u v : ℕ) → whose u ≡ o → whose v ≡ o → u ≡ v) → (u v : ℕ) → then u ≡ o
+      → then v ≡ o → u ≡ v
+  one o alone old u v is other = by (was u o is) (was v o other)
+    where
+      by : ((k ≡ u) × (w ≡ o)) ⊎ (whose u ≡ o) → ((k ≡ v) × (w ≡ o)) ⊎ (whose v ≡ o) → u ≡ v
+      by (inl a) (inl b) = sym a.0 ∙ b.0
+      by (inl a) (inr b) = absurd (alone v a.1 b)
+      by (inr a) (inl b) = absurd (alone u b.1 a)
+      by (inr a) (inr b) = old u v a b
+
+  -- what the birth makes of the links
+  record Bears : Type 0 where
+    control : (n : ℕ) → IsBorn (y.control.links n).phase → ((k ≡ n) × (w ≡ control_plane)) ⊎ IsBorn (x.control.links n).phase
+    link : (l : ℕ) → is_born (y.inbound l).phase ≡ true → ((k ≡ l) × (w ≡ inbound_link)) ⊎ (is_born (x.inbound l).phase ≡ true)
+    up : (l s : ℕ) → Owns then l s ((y.inbound l).tunnels s)
+    alone : (l s v : ℕ) → w ≡ upstream_of l s → whose v ≢ upstream_of l s
+    over : (l s : ℕ) → w ≡ upstream_of l s → whose l ≡ inbound_link
+    plain : (l : ℕ) → is_plain_born (y.plain l).stage ≡ true
+        → ((k ≡ l) × (w ≡ plain_link)) ⊎ (is_plain_born (x.plain l).stage ≡ true)
+    relay : (l : ℕ) → OwnsRelay then l (y.plain l)
+    relay_alone : (l v : ℕ) → w ≡ relay_of l → whose v ≢ relay_of l
+    relay_over : (l : ℕ) → w ≡ relay_of l → whose l ≡ plain_link
+
+  born_owned : Bears → Owned y then
+  born_owned bears = record {
     unborn = λ n above. there n (λ same. omega (arith, above, is_born_now, same))
         ∙ owned.unborn n (omega (arith, above, is_born_now, next));
     none = there 0 (λ same. omega (arith, same, next)) ∙ owned.none;
-    control = λ n born. ⊎_elim (λ h. here n h.0 ∙ h.1) (λ old. kept n control_plane (λ same. cc) (owned.control n old)) (control n born);
-    link = λ l born. ⊎_elim (λ h. here l h.0 ∙ h.1) (λ old. kept l inbound_link (λ same. cc) (owned.link l old)) (link l born);
-    up = up;
-    one = λ l s u v is other. one l s u v (was u (upstream_of l s) is) (was v (upstream_of l s) other);
+    control = λ n born.
+        ⊎_elim (λ h. here n h.0 ∙ h.1) (λ old. kept n control_plane (λ same. cc) (owned.control n old)) (bears.control n born);
+    link = λ l born. ⊎_elim (λ h. here l h.0 ∙ h.1) (λ old. kept l inbound_link (λ same. cc) (owned.link l old)) (bears.link l born);
+    up = bears.up;
+    one = λ l s. one (upstream_of l s) (bears.alone l s) (owned.one l s);
     over = λ l s u is. kept l inbound_link (λ same. cc)
-        (⊎_elim (λ h. over l s h.1) (λ old. owned.over l s u old) (was u (upstream_of l s) is));
+        (⊎_elim (λ h. bears.over l s h.1) (λ old. owned.over l s u old) (was u (upstream_of l s) is));
+    plain = λ l born. ⊎_elim (λ h. here l h.0 ∙ h.1) (λ old. kept l plain_link (λ same. cc) (owned.plain l old)) (bears.plain l born);
+    relay = bears.relay;
+    one_relay = λ l. one (relay_of l) (bears.relay_alone l) (owned.one_relay l);
+    relay_over = λ l u is. kept l plain_link (λ same. cc)
+        (⊎_elim (λ h. bears.relay_over l h.1) (λ old. owned.relay_over l u old) (was u (relay_of l) is));
   }
-    where
-      one : (l s u v : ℕ) → ((k ≡ u) × (w ≡ upstream_of l s)) ⊎ (whose u ≡ upstream_of l s)
-          → ((k ≡ v) × (w ≡ upstream_of l s)) ⊎ (whose v ≡ upstream_of l s) → u ≡ v
-      one l s u v (inl a) (inl b) = sym a.0 ∙ b.0
-      one l s u v (inl a) (inr b) = absurd (alone l s v a.1 b)
-      one l s u v (inr a) (inl b) = absurd (alone l s u b.1 a)
-      one l s u v (inr a) (inr b) = owned.one l s u v a b
+
+  -- nobody has a link of another's owner then; what was weakly his stays so
+  no_more : (o : Owner) → (w ≢ o) → IsNone whose o → IsNone then o
+  no_more o other none u now = ⊎_elim (λ h. other h.1) (λ old. none u old) (was u o now)
+
+  weak : (o : Owner) (u : ℕ) → (nobody ≡ o → ⊥) → IsWeak whose o u → IsWeak then o u
+  weak o u some (inl zero_up) = inl zero_up
+  weak o u some (inr mine) = inr (kept u o some mine)
 
   -- a tunnel has the upstream that it had, where the new link is no upstream of its stream
   keeps_up : (l s : ℕ) (t : Tunnel) → (w ≢ upstream_of l s) → Owns whose l s t → Owns then l s t
   keeps_up l s t other is = by t.stage is
     where
-      no_more : IsNone whose l s → IsNone then l s
-      no_more none u now = ⊎_elim (λ h. other h.1) (λ old. none u old) (was u (upstream_of l s) now)
-
-      stays_mine : whose t.up ≡ upstream_of l s → then t.up ≡ upstream_of l s
-      stays_mine mine = kept t.up (upstream_of l s) (λ same. cc) mine
-
-      weak : (t.up ≡ 0) ⊎ (whose t.up ≡ upstream_of l s) → (t.up ≡ 0) ⊎ (then t.up ≡ upstream_of l s)
-      weak (inl zero_up) = inl zero_up
-      weak (inr mine) = inr (stays_mine mine)
-
       by : (stage : Stage) → OwnsBy stage whose l s t.up → OwnsBy stage then l s t.up
-      by tunnel.unasked is = (no_more is.0, is.1)
-      by (tunnel.requested headers end) is = (no_more is.0, is.1)
-      by tunnel.due is = (no_more is.0, is.1)
-      by (tunnel.refusing status target) is = weak is
-      by tunnel.malformed is = weak is
-      by (tunnel.failed why) is = weak is
-      by tunnel.gone is = weak is
-      by tunnel.opening is = stays_mine is
-      by tunnel.accepting is = stays_mine is
-      by tunnel.live is = stays_mine is
-      by (tunnel.ended why) is = stays_mine is
-      by (tunnel.over why) is = stays_mine is
+      by tunnel.unasked is = (no_more (upstream_of l s) other is.0, is.1)
+      by (tunnel.requested headers end) is = (no_more (upstream_of l s) other is.0, is.1)
+      by tunnel.due is = (no_more (upstream_of l s) other is.0, is.1)
+      by (tunnel.refusing status target) is = weak (upstream_of l s) t.up (λ same. cc) is
+      by tunnel.malformed is = weak (upstream_of l s) t.up (λ same. cc) is
+      by (tunnel.failed why) is = weak (upstream_of l s) t.up (λ same. cc) is
+      by tunnel.gone is = weak (upstream_of l s) t.up (λ same. cc) is
+      by tunnel.opening is = kept t.up (upstream_of l s) (λ same. cc) is
+      by tunnel.accepting is = kept t.up (upstream_of l s) (λ same. cc) is
+      by tunnel.live is = kept t.up (upstream_of l s) (λ same. cc) is
+      by (tunnel.ended why) is = kept t.up (upstream_of l s) (λ same. cc) is
+      by (tunnel.over why) is = kept t.up (upstream_of l s) (λ same. cc) is
+
+  -- so has a link of the plain door
+  keeps_relay : (l : ℕ) (z : Captured) → (w ≢ relay_of l) → OwnsRelay whose l z → OwnsRelay then l z
+  keeps_relay l z other is = by z.stage is
+    where
+      by : (stage : plain.Stage) → RelayBy stage whose l z.up → RelayBy stage then l z.up
+      by plain.unborn is = (no_more (relay_of l) other is.0, is.1)
+      by plain.arriving is = (no_more (relay_of l) other is.0, is.1)
+      by plain.fronting is = (no_more (relay_of l) other is.0, is.1)
+      by plain.due is = (no_more (relay_of l) other is.0, is.1)
+      by plain.opening is = kept z.up (relay_of l) (λ same. cc) is
+      by plain.accepting is = kept z.up (relay_of l) (λ same. cc) is
+      by plain.live is = kept z.up (relay_of l) (λ same. cc) is
+      by _ is = weak (relay_of l) z.up (λ same. cc) is
 
 -- THE BIRTHS
 
@@ -169,16 +213,23 @@ module _ (g : NodeConfig) (x : Machine) (whose : ℕ → Owner) (owned : Owned x
       let mine : w ≡ control_plane = ap dialled_for steps.0.3 in
       let y = with_control (point.entry (e.Dialled k to why)) m x in
       let no_up : (l s : ℕ) → w ≢ upstream_of l s = λ l s is. (let no : control_plane ≡ upstream_of l s = sym mine ∙ is in cc) in
-      born_owned x y whose owned k next w refl
-      (λ n. subst (λ (c : control.Machine). IsBorn (c.links n).phase → ((k ≡ n) × (w ≡ control_plane)) ⊎ IsBorn (x.control.links n).phase)
-      (sym steps.1)
-      (cond_both (k == n) (control.dialled_for g.id to x.control.held why (x.control.links n)) (x.control.links n)
-      (λ d. IsBorn d.phase → ((k ≡ n) × (w ≡ control_plane)) ⊎ IsBorn (x.control.links n).phase)
-      (λ is now. inl (eqb-true k n is, mine)) (λ apart was. inr was)))
-      (λ l was. inr was)
-      (λ l s. keeps_up x y whose owned k next w refl l s ((x.inbound l).tunnels s) (no_up l s) (owned.up l s))
-      (λ l s v is. absurd (no_up l s is))
-      (λ l s is. absurd (no_up l s is))
+      let no_relay : (l : ℕ) → w ≢ relay_of l = λ l is. (let no : control_plane ≡ relay_of l = sym mine ∙ is in cc) in
+      born_owned x y whose owned k next w refl (record {
+        control = λ n.
+            subst (λ (c : control.Machine). IsBorn (c.links n).phase → ((k ≡ n) × (w ≡ control_plane)) ⊎ IsBorn (x.control.links n).phase)
+            (sym steps.1)
+            (cond_both (k == n) (control.dialled_for g.id to x.control.held why (x.control.links n)) (x.control.links n)
+            (λ d. IsBorn d.phase → ((k ≡ n) × (w ≡ control_plane)) ⊎ IsBorn (x.control.links n).phase)
+            (λ is now. inl (eqb-true k n is, mine)) (λ apart was. inr was));
+        link = λ l was. inr was;
+        up = λ l s. keeps_up x y whose owned k next w refl l s ((x.inbound l).tunnels s) (no_up l s) (owned.up l s);
+        alone = λ l s v is. absurd (no_up l s is);
+        over = λ l s is. absurd (no_up l s is);
+        plain = λ l was. inr was;
+        relay = λ l. keeps_relay x y whose owned k next w refl l (x.plain l) (no_relay l) (owned.relay l);
+        relay_alone = λ l v is. absurd (no_relay l is);
+        relay_over = λ l is. absurd (no_relay l is);
+      })
 
   link_accepted : (l k : ℕ) (d : Door) (next : Inbound)
       → runs.Steps l (local x l) (part.entry (e.Accepted k d)) (runs.with_link next (local x l))
@@ -188,19 +239,25 @@ module _ (g : NodeConfig) (x : Machine) (whose : ℕ → Owner) (owned : Owned x
       let mine : w ≡ inbound_link = ap at_door steps.0.2 in
       let y = with_part l (part.entry (e.Accepted k d)) next x in
       let no_up : (j s : ℕ) → w ≢ upstream_of j s = λ j s is. (let no : inbound_link ≡ upstream_of j s = sym mine ∙ is in cc) in
+      let no_relay : (j : ℕ) → w ≢ relay_of j = λ j is. (let no : inbound_link ≡ relay_of j = sym mine ∙ is in cc) in
       let is_next : next ≡ inbound.with_phase inbound.arriving (x.inbound l) = ap (λ (c : runs.Local). c.link) steps.1 in
-      born_owned x y whose owned k number w refl
-      (λ n was. inr was)
-      (λ j. cond_both (j == l) next (x.inbound j)
-      (λ z. is_born z.phase ≡ true → ((k ≡ j) × (w ≡ inbound_link)) ⊎ (is_born (x.inbound j).phase ≡ true))
-      (λ is now. inl (steps.0.0 ∙ sym (eqb-true j l is), mine)) (λ apart was. inr was))
-      (λ j s. cond_both (j == l) next (x.inbound j) (λ z. Owns (λ n. behind (e.Accepted k d) n) j s (z.tunnels s))
-      (λ is. subst (λ (z : Inbound). Owns (λ n. behind (e.Accepted k d) n) j s (z.tunnels s)) (sym is_next)
-      (subst (λ (i : ℕ). Owns (λ n. behind (e.Accepted k d) n) j s ((x.inbound i).tunnels s)) (eqb-true j l is)
-      (keeps_up x y whose owned k number w refl j s ((x.inbound j).tunnels s) (no_up j s) (owned.up j s))))
-      (λ apart. keeps_up x y whose owned k number w refl j s ((x.inbound j).tunnels s) (no_up j s) (owned.up j s)))
-      (λ j s v is. absurd (no_up j s is))
-      (λ j s is. absurd (no_up j s is))
+      born_owned x y whose owned k number w refl (record {
+        control = λ n was. inr was;
+        link = λ j. cond_both (j == l) next (x.inbound j)
+            (λ z. is_born z.phase ≡ true → ((k ≡ j) × (w ≡ inbound_link)) ⊎ (is_born (x.inbound j).phase ≡ true))
+            (λ is now. inl (steps.0.0 ∙ sym (eqb-true j l is), mine)) (λ apart was. inr was);
+        up = λ j s. cond_both (j == l) next (x.inbound j) (λ z. Owns (λ n. behind (e.Accepted k d) n) j s (z.tunnels s))
+            (λ is. subst (λ (z : Inbound). Owns (λ n. behind (e.Accepted k d) n) j s (z.tunnels s)) (sym is_next)
+            (subst (λ (i : ℕ). Owns (λ n. behind (e.Accepted k d) n) j s ((x.inbound i).tunnels s)) (eqb-true j l is)
+            (keeps_up x y whose owned k number w refl j s ((x.inbound j).tunnels s) (no_up j s) (owned.up j s))))
+            (λ apart. keeps_up x y whose owned k number w refl j s ((x.inbound j).tunnels s) (no_up j s) (owned.up j s));
+        alone = λ j s v is. absurd (no_up j s is);
+        over = λ j s is. absurd (no_up j s is);
+        plain = λ j was. inr was;
+        relay = λ j. keeps_relay x y whose owned k number w refl j (x.plain j) (no_relay j) (owned.relay j);
+        relay_alone = λ j v is. absurd (no_relay j is);
+        relay_over = λ j is. absurd (no_relay j is);
+      })
 
   up_dialled : (l s u : ℕ) (to : Target) (why : Why) (next : Inbound)
       → runs.Steps l (local x l) (part.up s (e.Dialled u to why)) (runs.with_link next (local x l))
@@ -214,23 +271,89 @@ module _ (g : NodeConfig) (x : Machine) (whose : ℕ → Owner) (owned : Owned x
       let is_next : next ≡ at_stream s (up_entered z) (x.inbound l) = ap (λ (c : runs.Local). c.link) steps.1 in
       let same : (j t : ℕ) → w ≡ upstream_of j t → (l ≡ j) × (s ≡ t) =
       λ j t is. (let both : upstream_of l s ≡ upstream_of j t = sym mine ∙ is in ((let a : l ≡ j = cc in a), (let b : s ≡ t = cc in b))) in
+      let no_relay : (j : ℕ) → w ≢ relay_of j = λ j is. (let no : upstream_of l s ≡ relay_of j = sym mine ∙ is in cc) in
       let due = subst (λ (stage : Stage). OwnsBy stage whose l s ((x.inbound l).tunnels s).up) steps.0.1 (owned.up l s) in
       let keeps : (j t : ℕ) → (w ≢ upstream_of j t) → Owns (behind z) j t ((x.inbound j).tunnels t) =
       λ j t other. keeps_up x y whose owned u number w refl j t ((x.inbound j).tunnels t) other (owned.up j t) in
       let here_now : behind z u ≡ upstream_of l s = here x y whose owned u number w refl u refl ∙ mine in
-      born_owned x y whose owned u number w refl
-      (λ n was. inr was)
-      (λ j. cond_both (j == l) next (x.inbound j)
-      (λ v. is_born v.phase ≡ true → ((u ≡ j) × (w ≡ inbound_link)) ⊎ (is_born (x.inbound j).phase ≡ true))
-      (λ is now. inr (subst (λ (i : ℕ). is_born (x.inbound i).phase ≡ true) (sym (eqb-true j l is)) lives)) (λ apart was. inr was))
-      (λ j t. cond_both (j == l) next (x.inbound j) (λ v. Owns (behind z) j t (v.tunnels t))
-      (λ is. subst (λ (i : ℕ). Owns (behind z) i t (next.tunnels t)) (sym (eqb-true j l is))
-      (subst (λ (v : Inbound). Owns (behind z) l t (v.tunnels t)) (sym is_next)
-      (at_one s (up_entered z) (x.inbound l) (λ k v. Owns (behind z) l k v) here_now
-      (λ k apart. keeps l k (λ is. absurd (false≢true (sym apart ∙ eq-eqb k s (sym (same l k is).1))))) t)))
-      (λ apart. keeps j t (λ is. absurd (false≢true (sym apart ∙ eq-eqb j l (sym (same j t is).0))))))
-      (λ j t v is now. due.0 v (now ∙ ap₂ upstream_of (sym (same j t is).0) (sym (same j t is).1)))
-      (λ j t is. owned.link j (subst (λ (i : ℕ). is_born (x.inbound i).phase ≡ true) (same j t is).0 lives))
+      born_owned x y whose owned u number w refl (record {
+        control = λ n was. inr was;
+        link = λ j. cond_both (j == l) next (x.inbound j)
+            (λ v. is_born v.phase ≡ true → ((u ≡ j) × (w ≡ inbound_link)) ⊎ (is_born (x.inbound j).phase ≡ true))
+            (λ is now. inr (subst (λ (i : ℕ). is_born (x.inbound i).phase ≡ true) (sym (eqb-true j l is)) lives))
+            (λ apart was. inr was);
+        up = λ j t. cond_both (j == l) next (x.inbound j) (λ v. Owns (behind z) j t (v.tunnels t))
+            (λ is. subst (λ (i : ℕ). Owns (behind z) i t (next.tunnels t)) (sym (eqb-true j l is))
+            (subst (λ (v : Inbound). Owns (behind z) l t (v.tunnels t)) (sym is_next)
+            (at_one s (up_entered z) (x.inbound l) (λ k v. Owns (behind z) l k v) here_now
+            (λ k apart. keeps l k (λ is. absurd (false≢true (sym apart ∙ eq-eqb k s (sym (same l k is).1))))) t)))
+            (λ apart. keeps j t (λ is. absurd (false≢true (sym apart ∙ eq-eqb j l (sym (same j t is).0)))));
+        alone = λ j t v is now. due.0 v (now ∙ ap₂ upstream_of (sym (same j t is).0) (sym (same j t is).1));
+        over = λ j t is. owned.link j (subst (λ (i : ℕ). is_born (x.inbound i).phase ≡ true) (same j t is).0 lives);
+        plain = λ j was. inr was;
+        relay = λ j. keeps_relay x y whose owned u number w refl j (x.plain j) (no_relay j) (owned.relay j);
+        relay_alone = λ j v is. absurd (no_relay j is);
+        relay_over = λ j is. absurd (no_relay j is);
+      })
+
+  plain_accepted : (l k : ℕ) (d : Door) → relays.MayCome l (x.plain l) (e.Accepted k d) → k ≡ x.born + 1
+      → Owned (with_plain l (captured.entry (e.Accepted k d)) (plain.at_stage plain.arriving (x.plain l)) x) (behind (e.Accepted k d))
+  plain_accepted l k d may number =
+      let w = at_door d in
+      let mine : w ≡ plain_link = ap at_door may.2 in
+      let next = plain.at_stage plain.arriving (x.plain l) in
+      let y = with_plain l (captured.entry (e.Accepted k d)) next x in
+      let no_up : (j s : ℕ) → w ≢ upstream_of j s = λ j s is. (let no : plain_link ≡ upstream_of j s = sym mine ∙ is in cc) in
+      let no_relay : (j : ℕ) → w ≢ relay_of j = λ j is. (let no : plain_link ≡ relay_of j = sym mine ∙ is in cc) in
+      let none = subst (λ (stage : plain.Stage). RelayBy stage whose l (x.plain l).up) may.1 (owned.relay l) in
+      born_owned x y whose owned k number w refl (record {
+        control = λ n was. inr was;
+        link = λ j was. inr was;
+        up = λ j s. keeps_up x y whose owned k number w refl j s ((x.inbound j).tunnels s) (no_up j s) (owned.up j s);
+        alone = λ j s v is. absurd (no_up j s is);
+        over = λ j s is. absurd (no_up j s is);
+        plain = λ j. cond_both (j == l) next (x.plain j)
+            (λ z. is_plain_born z.stage ≡ true → ((k ≡ j) × (w ≡ plain_link)) ⊎ (is_plain_born (x.plain j).stage ≡ true))
+            (λ is now. inl (may.0 ∙ sym (eqb-true j l is), mine)) (λ apart was. inr was);
+        relay = λ j. cond_both (j == l) next (x.plain j) (λ z. OwnsRelay (behind (e.Accepted k d)) j z)
+            (λ is. subst (λ (i : ℕ). OwnsRelay (behind (e.Accepted k d)) i next) (sym (eqb-true j l is))
+            (no_more x y whose owned k number w refl (relay_of l) (no_relay l) none.0, none.1))
+            (λ apart. keeps_relay x y whose owned k number w refl j (x.plain j) (no_relay j) (owned.relay j));
+        relay_alone = λ j v is. absurd (no_relay j is);
+        relay_over = λ j is. absurd (no_relay j is);
+      })
+
+  relay_dialled : (l u : ℕ) (to : Target) (why : Why) → relays.UpMayCome l (x.plain l) (e.Dialled u to why) → u ≡ x.born + 1
+      → Owned (with_plain l (captured.up (e.Dialled u to why)) (plain.up_entered (e.Dialled u to why) (x.plain l)) x)
+      (behind (e.Dialled u to why))
+  relay_dialled l u to why may number =
+      let z = e.Dialled u to why in
+      let w = dialled_for why in
+      let mine : w ≡ relay_of l = ap dialled_for may.1 in
+      let next = plain.up_entered z (x.plain l) in
+      let y = with_plain l (captured.up z) next x in
+      let no_up : (j s : ℕ) → w ≢ upstream_of j s = λ j s is. (let no : relay_of l ≡ upstream_of j s = sym mine ∙ is in cc) in
+      let same : (j : ℕ) → w ≡ relay_of j → l ≡ j = λ j is. (let both : relay_of l ≡ relay_of j = sym mine ∙ is in cc) in
+      let lives : is_plain_born (x.plain l).stage ≡ true = ap is_plain_born may.0.1 in
+      let due = subst (λ (stage : plain.Stage). RelayBy stage whose l (x.plain l).up) may.0.1 (owned.relay l) in
+      born_owned x y whose owned u number w refl (record {
+        control = λ n was. inr was;
+        link = λ j was. inr was;
+        up = λ j s. keeps_up x y whose owned u number w refl j s ((x.inbound j).tunnels s) (no_up j s) (owned.up j s);
+        alone = λ j s v is. absurd (no_up j s is);
+        over = λ j s is. absurd (no_up j s is);
+        plain = λ j. cond_both (j == l) next (x.plain j)
+            (λ v. is_plain_born v.stage ≡ true → ((u ≡ j) × (w ≡ plain_link)) ⊎ (is_plain_born (x.plain j).stage ≡ true))
+            (λ is now. inr (subst (λ (i : ℕ). is_plain_born (x.plain i).stage ≡ true) (sym (eqb-true j l is)) lives))
+            (λ apart was. inr was);
+        relay = λ j. cond_both (j == l) next (x.plain j) (λ v. OwnsRelay (behind z) j v)
+            (λ is. subst (λ (i : ℕ). OwnsRelay (behind z) i next) (sym (eqb-true j l is))
+            (here x y whose owned u number w refl u refl ∙ mine))
+            (λ apart. keeps_relay x y whose owned u number w refl j (x.plain j)
+            (λ is. false≢true (sym apart ∙ eq-eqb j l (sym (same j is)))) (owned.relay j));
+        relay_alone = λ j v is now. due.0 v (now ∙ ap relay_of (sym (same j is)));
+        relay_over = λ j is. owned.plain j (subst (λ (i : ℕ). is_plain_born (x.plain i).stage ≡ true) (same j is) lives);
+      })
 
 -- EVERY POINT
 
@@ -278,6 +401,11 @@ module _ (g : NodeConfig) (x : Machine) (points : List Point) (stands : StandsFo
   seen_stays (point.stopped why) l = stopped_stays l why (x.inbound l)
   seen_stays _ l = same_link l (x.inbound l)
 
+  plain_seen_stays : (q : point.Point) (l : ℕ) → PlainStays l (x.plain l) (plain_seen_by x.control.held q (x.plain l))
+  plain_seen_stays (point.applied k r) l = rejudged_stays l (after_response x.control.held r) (x.plain l)
+  plain_seen_stays (point.stopped why) l = ends_stay l why (x.plain l)
+  plain_seen_stays _ l = same_plain l (x.plain l)
+
   quiet : (p : Point) (y : Machine) → list_any is_birth (entry_in p) ≡ false → Alike x y → Owned y (after p whose)
   quiet p y none alike =
       subst (Owned y) (sym (fun_ext (λ n. unborn_all (entry_in p) none n (whose n)))) (alike_owned x y whose owned alike)
@@ -288,6 +416,7 @@ module _ (g : NodeConfig) (x : Machine) (points : List Point) (stands : StandsFo
     born = born_all (point.entry_in q) none x.born;
     control = control_stays g x.control m (control_of points) q (control_runs g x points stands) steps none;
     links = seen_stays q;
+    plain = plain_seen_stays q;
   })
 
   link_quiet : (l : ℕ) (p : Part) (next : Inbound) → runs.Steps l (local x l) p (runs.with_link next (local x l))
@@ -299,6 +428,18 @@ module _ (g : NodeConfig) (x : Machine) (points : List Point) (stands : StandsFo
         (λ is. subst (λ (i : ℕ). LinkStays i (x.inbound i) next) (sym (eqb-true j l is))
         (step_stays l (at_start g) (local x l) (parts_of l points) (links_run g x points l stands) p
         (runs.with_link next (local x l)) steps none)) (λ apart. same_link j (x.inbound j));
+    plain = λ j. same_plain j (x.plain j);
+  })
+
+  plain_quiet : (l : ℕ) (p : captured.Part) → relays.MayGo l (plain_local x l) p → list_any is_birth (captured.entry_in p) ≡ false
+      → Owned (with_plain l p (relays.next_link (x.plain l) p) x) (after (of_plain l p) whose)
+  plain_quiet l p may none = quiet (of_plain l p) (with_plain l p (relays.next_link (x.plain l) p) x) none (record {
+    born = born_all (captured.entry_in p) none x.born;
+    control = λ n was. was;
+    links = λ j. same_link j (x.inbound j);
+    plain = λ j. cond_both (j == l) (relays.next_link (x.plain l) p) (x.plain j) (λ z. PlainStays j (x.plain j) z)
+        (λ is. subst (λ (i : ℕ). PlainStays i (x.plain i) (relays.next_link (x.plain l) p)) (sym (eqb-true j l is))
+        (part_stays l (plain_local x l) p may none)) (λ apart. same_plain j (x.plain j));
   })
 
   control_entry : (z : Entry) (m : control.Machine) → model.Steps g x.control (point.entry z) m → BirthMayCome x z
@@ -333,11 +474,31 @@ module _ (g : NodeConfig) (x : Machine) (points : List Point) (stands : StandsFo
   link_owned l (part.up s z) next steps guard = up_entry l s z next steps guard.birth
   link_owned l p next steps guard = link_quiet l p next steps refl
 
+  plain_entry : (l : ℕ) (z : Entry) → relays.MayCome l (x.plain l) z → BirthMayCome x z
+      → Owned (with_plain l (captured.entry z) (plain.entered z (x.plain l)) x) (after (of_plain l (captured.entry z)) whose)
+  plain_entry l (e.Accepted k d) may birth = plain_accepted g x whose owned l k d may birth.0
+  plain_entry l (e.Dialled k to why) may birth = absurd may
+  plain_entry l z may birth = plain_quiet l (captured.entry z) may refl
+
+  relay_entry : (l : ℕ) (z : Entry) → relays.UpMayCome l (x.plain l) z → BirthMayCome x z
+      → Owned (with_plain l (captured.up z) (plain.up_entered z (x.plain l)) x) (after (of_plain l (captured.up z)) whose)
+  relay_entry l (e.Accepted k d) may birth = absurd may
+  relay_entry l (e.Dialled u to why) may birth = relay_dialled g x whose owned l u to why may birth
+  relay_entry l z may birth = plain_quiet l (captured.up z) may refl
+
+  plain_owned : (l : ℕ) (p : captured.Part) → relays.MayGo l (plain_local x l) p → PlainGuard x l p
+      → Owned (with_plain l p (relays.next_link (x.plain l) p) x) (after (of_plain l p) whose)
+  plain_owned l (captured.entry z) may guard = plain_entry l z may guard.birth
+  plain_owned l (captured.up z) may guard = relay_entry l z may guard.birth
+  plain_owned l p may guard = plain_quiet l p may refl
+
   step_owned : (p : Point) (y : Machine) → Steps g x p y → Owned y (after p whose)
   step_owned (of_control q) y steps =
       subst (λ (z : Machine). Owned z (after (of_control q) whose)) (sym steps.3) (control_owned q steps.0 steps.1 steps.2)
   step_owned (of_link l p) y steps =
       subst (λ (z : Machine). Owned z (after (of_link l p) whose)) (sym steps.3) (link_owned l p steps.0 steps.1 steps.2)
+  step_owned (of_plain l p) y steps =
+      subst (λ (z : Machine). Owned z (after (of_plain l p) whose)) (sym steps.2) (plain_owned l p steps.0 steps.1)
 
 -- so it is in every run
 abbrev pub whose_in : List Point → ℕ → Owner
@@ -352,6 +513,10 @@ fresh_owned g = record {
   up = λ l s. (λ u is. cc, refl);
   one = λ l s u v is other. absurd cc;
   over = λ l s u is. absurd cc;
+  plain = λ l born. absurd (false≢true born);
+  relay = λ l. (λ u is. cc, refl);
+  one_relay = λ l u v is other. absurd cc;
+  relay_over = λ l u is. absurd cc;
 }
 
 pub all_owned : (g : NodeConfig) (x : Machine) (points : List Point) → StandsFor g x points → Owned x (whose_in points)

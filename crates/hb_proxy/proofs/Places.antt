@@ -1,6 +1,9 @@
 -- The places of a run of the whole, and those of its parts.
 use Rattle.std.proofs.Common.{◌≡◌, ◌⊎◌, inl, inr, ⊎_elim, ℕ, ◌==◌, true, cond, List, [], ◌∷◌, ◌++◌, refl, ap, ap₂, sym, ◌∙◌, subst, arith}
 use Rattle.std.proofs.lemmas.Grind.{flat_map-append}
+use Rattle.std.specs.List.{flat_map}
+use Rattle.hb_captured.specs.Part as captured
+use Rattle.hb_captured.specs.Sides as plain
 use Rattle.hb_inbound.specs.Part as part
 use Rattle.hb_inbound.specs.Part.{Part}
 use Rattle.hb_inbound.specs.Sides as inbound
@@ -10,9 +13,9 @@ use Rattle.hb_world.specs.Trace as world
 use Rattle.hb_world.specs.declared.entry.Entry.{Entry}
 use Rattle.hb_proxy.specs.Machine.{Machine}
 use Rattle.hb_proxy.specs.Owners.{AtEach}
-use Rattle.hb_proxy.specs.Points.{Point, of_control, of_link, entry_in, entries, part_in, parts_of}
-use Rattle.hb_proxy.specs.Runs.{BirthMayCome, Steps, StandsFor, begins, goes_on}
-use Rattle.hb_proxy.specs.Sides.{AtParts}
+use Rattle.hb_proxy.specs.Points.{Point, of_control, of_link, of_plain, entry_in, entries, control_in, part_in, parts_of, plain_in, plain_of}
+use Rattle.hb_proxy.specs.Runs.{BirthMayCome, ControlRests, Steps, StandsFor, begins, goes_on}
+use Rattle.hb_proxy.specs.Sides.{AtParts, AtPlain}
 
 -- a place of a longer list is its end, or a place of the list
 place_of : (xs : List Point) (p : Point) (before : List Point) (x : Point) (behind : List Point) → xs ++ p ∷ [] ≡ before ++ x ∷ behind
@@ -42,26 +45,45 @@ at_points g P next y more (goes_on {x = x} {points = points} stands p steps are)
 
 -- A PART'S PLACES
 
+-- a law of what points tell of a part is one at each point that tells it
+at_told : {A : Type 0} (told : Point → List A) (P : List A → A → Type 0) (points before : List Point) (q : Point) (a : A)
+    (behind : List Point) → told q ≡ a ∷ [] → points ≡ before ++ q ∷ behind
+    → ((front : List A) (b : A) (rest : List A) → flat_map told points ≡ front ++ b ∷ rest → P front b) → P (flat_map told before) a
+at_told told P points before q a behind is are each =
+    each (flat_map told before) a (flat_map told behind)
+    (ap (flat_map told) are ∙ flat_map-append told before (q ∷ behind)
+    ∙ ap (λ bs. flat_map told before ++ (bs ++ flat_map told behind)) is)
+
+itself : (l : ℕ) → (l == l) ≡ true
+itself l = grind arith
+
 part_at : (l : ℕ) (p : Part) → part_in l (of_link l p) ≡ p ∷ []
 part_at l p = ap (λ b. cond b (p ∷ []) []) (itself l)
-  where
-    itself : (a : ℕ) → (a == a) ≡ true
-    itself a = grind arith
+
+plain_at : (l : ℕ) (p : captured.Part) → plain_in l (of_plain l p) ≡ p ∷ []
+plain_at l p = ap (λ b. cond b (p ∷ []) []) (itself l)
 
 -- a law of a link's parts is one at each of its parts in the run
 pub at_parts : (P : ℕ → List Part → Part → Type 0) (points : List Point) → ((l : ℕ) → inbound.AtEach (P l) (parts_of l points))
     → AtParts (λ before l p. P l (parts_of l before) p) points
 at_parts P points each before l p behind are =
-    each l (parts_of l before) p (parts_of l behind)
-    (ap (parts_of l) are ∙ flat_map-append (part_in l) before (of_link l p ∷ behind)
-    ∙ ap (λ (ps : List Part). parts_of l before ++ (ps ++ parts_of l behind)) (part_at l p))
+    at_told (part_in l) (P l) points before (of_link l p) p behind (part_at l p) are (each l)
+
+pub at_plain : (P : ℕ → List captured.Part → captured.Part → Type 0) (points : List Point)
+    → ((l : ℕ) → plain.AtEach (P l) (plain_of l points)) → AtPlain (λ before l p. P l (plain_of l before) p) points
+at_plain P points each before l p behind are =
+    at_told (plain_in l) (P l) points before (of_plain l p) p behind (plain_at l p) are (each l)
 
 -- and a law of the parts of a run with one more is one at that
 pub at_last : (P : List Part → Part → Type 0) (before : List Point) (l : ℕ) (p : Part)
     → inbound.AtEach P (parts_of l (before ++ of_link l p ∷ [])) → P (parts_of l before) p
 at_last P before l p each =
-    each (parts_of l before) p []
-    (flat_map-append (part_in l) before (of_link l p ∷ []) ∙ ap (λ (ps : List Part). parts_of l before ++ (ps ++ [])) (part_at l p))
+    at_told (part_in l) P (before ++ of_link l p ∷ []) before (of_link l p) p [] (part_at l p) refl each
+
+pub at_last_plain : (P : List captured.Part → captured.Part → Type 0) (before : List Point) (l : ℕ) (p : captured.Part)
+    → plain.AtEach P (plain_of l (before ++ of_plain l p ∷ [])) → P (plain_of l before) p
+at_last_plain P before l p each =
+    at_told (plain_in l) P (before ++ of_plain l p ∷ []) before (of_plain l p) p [] (plain_at l p) refl each
 
 -- THE TRACE'S PLACES
 
@@ -72,6 +94,9 @@ short (of_control _) = inl refl
 short (of_link l (part.entry z)) = inr (z, refl)
 short (of_link l (part.up s z)) = inr (z, refl)
 short (of_link l _) = inl refl
+short (of_plain l (captured.entry z)) = inr (z, refl)
+short (of_plain l (captured.up z)) = inr (z, refl)
+short (of_plain l _) = inl refl
 
 -- a place of a trace is a point's place
 record Split (points : List Point) (before : List Entry) (z : Entry) : Type 0 where
@@ -134,5 +159,19 @@ pub birth_of : (g : NodeConfig) (x y : Machine) (p : Point) → Steps g x p y �
 birth_of g x y (of_control (point.entry en)) steps z is = (let same : en ≡ z = cc in subst (BirthMayCome x) same steps.2.birth)
 birth_of g x y (of_link l (part.entry en)) steps z is = (let same : en ≡ z = cc in subst (BirthMayCome x) same steps.2.birth)
 birth_of g x y (of_link l (part.up s en)) steps z is = (let same : en ≡ z = cc in subst (BirthMayCome x) same steps.2.birth)
+birth_of g x y (of_plain l (captured.entry en)) steps z is = (let same : en ≡ z = cc in subst (BirthMayCome x) same steps.1.birth)
+birth_of g x y (of_plain l (captured.up en)) steps z is = (let same : en ≡ z = cc in subst (BirthMayCome x) same steps.1.birth)
 birth_of g x y (of_control _) steps z is = absurd cc
 birth_of g x y (of_link l _) steps z is = absurd cc
+birth_of g x y (of_plain l _) steps z is = absurd cc
+
+-- no call of the control plane is due where an entry of another part stands
+pub rests_of : (g : NodeConfig) (x y : Machine) (p : Point) → Steps g x p y → control_in p ≡ [] → (z : Entry) → entry_in p ≡ z ∷ []
+    → ControlRests x.control
+rests_of g x y (of_control q) steps none z is = absurd cc
+rests_of g x y (of_link l (part.entry en)) steps none z is = steps.2.control
+rests_of g x y (of_link l (part.up s en)) steps none z is = steps.2.control
+rests_of g x y (of_plain l (captured.entry en)) steps none z is = steps.1.control
+rests_of g x y (of_plain l (captured.up en)) steps none z is = steps.1.control
+rests_of g x y (of_link l _) steps none z is = absurd cc
+rests_of g x y (of_plain l _) steps none z is = absurd cc

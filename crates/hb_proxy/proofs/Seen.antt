@@ -1,6 +1,8 @@
 -- What the machine and the trace say of a link is the same, in every run.
-use Rattle.std.proofs.Common.{◌≡◌, ◌⊎◌, inl, inr, ⊎_elim, ℕ, ◌<◌, ◌&&◌, Bool, true, false, not, List, refl, ap, ap₂, sym, ◌∙◌, subst, arith}
+use Rattle.std.proofs.Common.{◌≡◌, inl, inr, ⊎_elim, ℕ, ◌<◌, ◌&&◌, Bool, true, false, not, List, refl, ap, ap₂, sym, ◌∙◌, subst, arith}
 use Rattle.std.proofs.lemmas.Bool.{false≢true, cases_lt}
+use Rattle.hb_captured.specs.Captured as plain
+use Rattle.hb_captured.specs.Captured.{Captured}
 use Rattle.hb_inbound.specs.Inbound as inbound
 use Rattle.hb_inbound.specs.Tunnel as tunnel
 use Rattle.hb_inbound.specs.Tunnel.{Tunnel, Stage}
@@ -12,18 +14,20 @@ use Rattle.hb_ready.specs.Sight.{is_open}
 use Rattle.hb_world.specs.Trace.{lives, was_shut}
 use Rattle.hb_world.specs.declared.entry.Entry.{Entry}
 use Rattle.hb_proxy.specs.Machine.{Machine}
-use Rattle.hb_proxy.specs.Owners.{Owner, nobody, control_plane, inbound_link, upstream_of}
+use Rattle.hb_proxy.specs.Owners.{Owner, nobody, control_plane, inbound_link, upstream_of, plain_link, relay_of}
 use Rattle.hb_proxy.specs.Points.{Point, entries, control_of}
 use Rattle.hb_proxy.specs.Runs.{StandsFor}
-use Rattle.hb_proxy.specs.Seen.{IsThere, IsLinkThere, OpenBy, UpOpenBy, HasLink, IsFresh, RunsAreSeen}
-use Rattle.hb_proxy.specs.Ups.{up_by, Joins}
+use Rattle.hb_proxy.specs.Seen.{IsThere, IsLinkThere, IsPlainThereBy, IsPlainThere, OpenBy, UpOpenBy, RelayOpenBy, HasLink, IsFresh, PlainSeen, RunsAreSeen}
+use Rattle.hb_proxy.specs.Ups.{up_by, Joins, IsRelayOf}
 use Rattle.hb_proxy.proofs.Agreed.{ControlFits, ByOwner, Agrees, told_in, all_agree}
 use Rattle.hb_proxy.proofs.Changes.{LinkFits, IsYet, StageFits, yet_dialled, yet_open}
 use Rattle.hb_proxy.proofs.Look.{Look, dialled, open_now, living, lives_is_so, open_is_so, shut_is_so}
 use Rattle.hb_proxy.proofs.Own.{born_is}
 use Rattle.hb_proxy.proofs.Owned.{Owned, whose_in, all_owned}
+use Rattle.hb_proxy.proofs.PlainChanges.{here_now, PlainFitsBy, PlainFits, RelayFitsBy, RelayFits, born_fits, past}
+use Rattle.hb_proxy.proofs.PlainStays.{is_plain_born, relay_weakly}
 use Rattle.hb_proxy.proofs.Projection.{control_runs}
-use Rattle.hb_proxy.proofs.Stays.{is_born, weakly}
+use Rattle.hb_proxy.proofs.Stays.{IsWeak, is_born, weakly}
 
 -- PHASES AND STAGES
 
@@ -170,13 +174,63 @@ up_told tunnel.malformed t u v some is fits = absurd fits
 up_told tunnel.due t u v some is fits = absurd fits
 
 -- whose it is
-up_owned : (whose : ℕ → Owner) (l s u : ℕ) (t : Tunnel) → (t.up ≡ 0) ⊎ (whose t.up ≡ upstream_of l s) → 0 < u → t.up ≡ u
-    → whose u ≡ upstream_of l s
-up_owned whose l s u t (inl none) some is = absurd (omega (arith, none, some, is))
-up_owned whose l s u t (inr mine) some is = subst (λ (n : ℕ). whose n ≡ upstream_of l s) is mine
+up_owned : (whose : ℕ → Owner) (o : Owner) (up u : ℕ) → IsWeak whose o up → 0 < u → up ≡ u → whose u ≡ o
+up_owned whose o up u (inl none) some is = absurd (omega (arith, none, some, is))
+up_owned whose o up u (inr mine) some is = subst (λ (n : ℕ). whose n ≡ o) is mine
 
 open_so : (stage : Stage) (a b : Bool) → a ≡ b → UpOpenBy stage a → UpOpenBy stage b
 open_so stage a b is now = subst (UpOpenBy stage) is now
+
+-- PLAIN LINKS
+
+plain_born_there : (stage : plain.Stage) (closed : Bool) → IsPlainThereBy stage closed → is_plain_born stage ≡ true
+plain_born_there plain.unborn closed there = absurd there
+plain_born_there _ closed there = refl
+
+not_closed : (stage : plain.Stage) (closed : Bool) → IsPlainThereBy stage closed → closed ≡ false
+not_closed plain.unborn closed there = absurd there
+not_closed _ closed there = there
+
+plain_unborn_there : (stage : plain.Stage) → (is_plain_born stage ≡ true → ⊥) → stage ≡ plain.unborn
+plain_unborn_there plain.unborn none = refl
+plain_unborn_there _ none = absurd (none refl)
+
+plain_open : (x : Captured) (v : Look) → IsPlainThere x → PlainFits x v → v ≡ open_now x.shut
+plain_open x v there fits =
+    born_fits x.stage x.shut x.closed v fits ∙ ap (here_now x.shut) (not_closed x.stage x.closed there)
+
+plain_there_living : (x : Captured) (v : Look) → PlainFits x v → living v ≡ true → IsPlainThere x
+plain_there_living x v fits is =
+    by x.stage fits (open_still x.closed (ap living (sym (born_fits x.stage x.shut x.closed v fits)) ∙ is))
+  where
+    open_still : (closed : Bool) → not closed ≡ true → closed ≡ false
+    open_still true is = absurd (false≢true is)
+    open_still false is = refl
+
+    by : (stage : plain.Stage) → PlainFitsBy stage x.shut x.closed v → x.closed ≡ false → IsPlainThereBy stage x.closed
+    by plain.unborn fits is = fits
+    by _ fits is = is
+
+-- the upstream of a plain link
+record IsRelay (x : Captured) (v : Look) : Type 0 where
+  yet : IsYet x.up_shut v
+  open_is : RelayOpenBy x.stage v.opened
+
+relay_told : (x : Captured) (u : ℕ) (v : Look) → IsRelayOf x u → RelayFits x u v → IsRelay x v
+relay_told x u v joins fits = record {
+  yet = ⊎_elim (λ is. is.1) (λ none. let zero = none.0 in absurd (omega (arith, zero, joins.0, joins.1)))
+      (past x.stage x.up x.up_shut u v fits);
+  open_is = by x.stage fits;
+}
+  where
+    by : (stage : plain.Stage) → RelayFitsBy stage x.up x.up_shut u v → RelayOpenBy stage v.opened
+    by plain.opening fits = ap (λ (w : Look). w.opened) fits.1
+    by plain.accepting fits = ap (λ (w : Look). w.opened) fits.1
+    by plain.live fits = ap (λ (w : Look). w.opened) fits.1
+    by _ fits = tt
+
+relay_living : (x : Captured) (u : ℕ) (v : Look) → RelayFits x u v → living v ≡ true → x.up ≡ u
+relay_living x u v fits is = ⊎_elim (λ yet. yet.0) (λ none. absurd (over_now v none.1 is)) (past x.stage x.up x.up_shut u v fits)
 
 -- EVERY RUN
 
@@ -254,20 +308,40 @@ module _ (g : NodeConfig) (x : Machine) (points : List Point) (stands : StandsFo
 
     joined : whose u ≡ upstream_of l s
     joined =
-        up_owned whose l s u t (weakly whose l s t.up t.stage (owned.up l s)) joins.0 (joined_up t.stage t u joins.0 joins.1)
+        up_owned whose (upstream_of l s) t.up u (weakly whose l s t.up t.stage (owned.up l s)) joins.0
+        (joined_up t.stage t u joins.0 joins.1)
 
     join_told : IsUp t.stage t (told u)
     join_told = up_told t.stage t u (told u) joins.0 joins.1 (owner_told u (upstream_of l s) joined).1
+
+  -- PLAIN LINKS
+  plain_owned : (l : ℕ) → IsPlainThere (x.plain l) → whose l ≡ plain_link
+  plain_owned l there = owned.plain l (plain_born_there (x.plain l).stage (x.plain l).closed there)
+
+  plain_told : (l : ℕ) → IsPlainThere (x.plain l) → told l ≡ open_now (x.plain l).shut
+  plain_told l there = plain_open (x.plain l) (told l) there (owner_told l plain_link (plain_owned l there))
+
+  plain_yet : (l : ℕ) → IsPlainThere (x.plain l) → IsYet (x.plain l).shut (told l)
+  plain_yet l there = yet_open (x.plain l).shut (told l) (plain_told l there)
+
+  relay_weak : (l : ℕ) → IsWeak whose (relay_of l) (x.plain l).up
+  relay_weak l = relay_weakly whose l (x.plain l).up (x.plain l).stage (owned.relay l)
+
+  relayed : (l u : ℕ) → IsRelayOf (x.plain l) u → whose u ≡ relay_of l
+  relayed l u joins = up_owned whose (relay_of l) (x.plain l).up u (relay_weak l) joins.0 joins.1
+
+  relays_told : (l u : ℕ) → IsRelayOf (x.plain l) u → IsRelay (x.plain l) (told u)
+  relays_told l u joins = relay_told (x.plain l) u (told u) joins (owner_told u (relay_of l) (relayed l u joins))
 
   -- EACH LINK THAT LIVES
   has : (l : ℕ) → lives l trace ≡ true → HasLink x l
   has l is = by (whose l) refl (agrees.each l)
     where
-      some : (k s : ℕ) → whose l ≡ upstream_of k s → 0 < l
-      some k s mine =
+      some : (o : Owner) → whose l ≡ o → (nobody ≡ o → ⊥) → 0 < l
+      some o mine other =
           ⊎_elim (λ less. less)
-          (λ zero. absurd (let none : l ≡ 0 = omega (arith, zero) in
-          let no : nobody ≡ upstream_of k s = sym owned.none ∙ ap whose (sym none) ∙ mine in cc)) (cases_lt 0 l)
+          (λ zero. absurd (let none : l ≡ 0 = omega (arith, zero) in other (sym owned.none ∙ ap whose (sym none) ∙ mine)))
+          (cases_lt 0 l)
 
       by : (o : Owner) → whose l ≡ o → ByOwner o x l (told l) → HasLink x l
       by nobody mine fits = absurd (false≢true (sym (nobody_lives l mine) ∙ is))
@@ -275,7 +349,12 @@ module _ (g : NodeConfig) (x : Machine) (points : List Point) (stands : StandsFo
       by inbound_link mine fits = inr (inl (link_there_living (x.inbound l).phase (told l) fits (living_told l is)))
       by (upstream_of k s) mine fits =
           let t = (x.inbound k).tunnels s in
-          inr (inr (k, s, (some k s mine, up_living t.stage t (told l) fits.1 (living_told l is) ∙ fits.0)))
+          inr (inr (inl
+          (k, s, (some (upstream_of k s) mine (λ no. cc), up_living t.stage t (told l) fits.1 (living_told l is) ∙ fits.0))))
+      by plain_link mine fits = inr (inr (inr (inl (plain_there_living (x.plain l) (told l) fits (living_told l is)))))
+      by (relay_of k) mine fits =
+          inr (inr (inr (inr
+          (k, (some (relay_of k) mine (λ no. cc), relay_living (x.plain k) l (told l) fits (living_told l is))))))
 
   -- NUMBERS
   unborn_control : (l : ℕ) → whose l ≡ nobody → (x.control.links l).phase ≡ discovery.unborn
@@ -288,20 +367,27 @@ module _ (g : NodeConfig) (x : Machine) (points : List Point) (stands : StandsFo
       link_unborn_there (x.inbound l).phase
       (λ born. let no : nobody ≡ inbound_link = sym none ∙ owned.link l born in cc)
 
+  unborn_plain : (l : ℕ) → whose l ≡ nobody → (x.plain l).stage ≡ plain.unborn
+  unborn_plain l none =
+      plain_unborn_there (x.plain l).stage
+      (λ born. let no : nobody ≡ plain_link = sym none ∙ owned.plain l born in cc)
+
   fresh : (l : ℕ) → x.born < l → IsFresh x l
   fresh l above = record {
     control = unborn_control l none;
     link = unborn_link l none;
-    up = λ k s is. by k s is (weakly whose k s ((x.inbound k).tunnels s).up ((x.inbound k).tunnels s).stage (owned.up k s));
+    up = λ k s is. by (upstream_of k s) ((x.inbound k).tunnels s).up is (λ no. cc)
+        (weakly whose k s ((x.inbound k).tunnels s).up ((x.inbound k).tunnels s).stage (owned.up k s));
+    plain = unborn_plain l none;
+    relay = λ k is. by (relay_of k) (x.plain k).up is (λ no. cc) (relay_weak k);
   }
     where
       none : whose l ≡ nobody
       none = owned.unborn l above
 
-      by : (k s : ℕ) → ((x.inbound k).tunnels s).up ≡ l
-          → (((x.inbound k).tunnels s).up ≡ 0) ⊎ (whose ((x.inbound k).tunnels s).up ≡ upstream_of k s) → ⊥
-      by k s is (inl zero_up) = omega (arith, above, is, zero_up)
-      by k s is (inr mine) = let no : nobody ≡ upstream_of k s = sym none ∙ ap whose (sym is) ∙ mine in cc
+      by : (o : Owner) (up : ℕ) → up ≡ l → (nobody ≡ o → ⊥) → IsWeak whose o up → ⊥
+      by o up is other (inl zero_up) = omega (arith, above, is, zero_up)
+      by o up is other (inr mine) = other (sym none ∙ ap whose (sym is) ∙ mine)
 
   -- ONE OWNER
   one_up : (k s j t u : ℕ) → Joins ((x.inbound k).tunnels s) u → Joins ((x.inbound j).tunnels t) u → (k ≡ j) × (s ≡ t)
@@ -323,6 +409,36 @@ module _ (g : NodeConfig) (x : Machine) (points : List Point) (stands : StandsFo
   link_no_control l here there =
       let no : inbound_link ≡ control_plane
       = sym (owned.link l (link_born_there (x.inbound l).phase here)) ∙ owned.control l (born_there (x.control.links l).phase there) in cc
+
+  plain_seen : PlainSeen x trace
+  plain_seen = record {
+    link = λ l there.
+        (yet_lives l (x.plain l).shut (plain_yet l there), sym (open_is_so l trace) ∙ ap (λ (v : Look). v.opened) (plain_told l there));
+    link_shut = λ l there. yet_shut l (x.plain l).shut (plain_yet l there);
+    up = λ l u joins.
+        let is = relays_told l u joins in (
+          yet_lives u (x.plain l).up_shut is.yet,
+          yet_shut u (x.plain l).up_shut is.yet,
+          subst (RelayOpenBy (x.plain l).stage) (open_is_so u trace) is.open_is,
+        );
+    no_zero = unborn_plain 0 owned.none;
+    link_alone = λ l there. (
+      λ other. let no : plain_link ≡ control_plane
+          = sym (plain_owned l there) ∙ owned.control l (born_there (x.control.links l).phase other) in cc,
+      λ other. let no : plain_link ≡ inbound_link
+          = sym (plain_owned l there) ∙ owned.link l (link_born_there (x.inbound l).phase other) in cc,
+      λ k s other. let no : plain_link ≡ upstream_of k s = sym (plain_owned l there) ∙ joined k s l other in cc,
+    );
+    up_alone = λ k u joins. (
+      λ other. let no : relay_of k ≡ control_plane
+          = sym (relayed k u joins) ∙ owned.control u (born_there (x.control.links u).phase other) in cc,
+      λ other. let no : relay_of k ≡ inbound_link
+          = sym (relayed k u joins) ∙ owned.link u (link_born_there (x.inbound u).phase other) in cc,
+      λ other. let no : relay_of k ≡ plain_link = sym (relayed k u joins) ∙ plain_owned u other in cc,
+      λ j s other. let no : relay_of k ≡ upstream_of j s = sym (relayed k u joins) ∙ joined j s u other in cc,
+    );
+    one_up = λ j k u here there. let both : relay_of j ≡ relay_of k = sym (relayed j u here) ∙ relayed k u there in cc;
+  }
 
 pub runs_are_seen : RunsAreSeen
 runs_are_seen g x points stands =
@@ -361,4 +477,5 @@ runs_are_seen g x points stands =
       up_alone = λ k s l joins. (up_no_control g x points stands k s l joins, up_no_link g x points stands k s l joins);
       one_up = one_up g x points stands;
       link_alone = link_no_control g x points stands;
+      plain = plain_seen g x points stands;
     }

@@ -3,13 +3,14 @@ use Rattle.std.proofs.Common.{◌≡◌, inl, inr, ℕ, ◌<◌, ◌==◌, true,
 use Rattle.std.proofs.lemmas.Bool.{cond_both, eqb-true, false≢true}
 use Rattle.hb_base.specs.declared.door.Door.TheVariants as door
 use Rattle.hb_base.specs.declared.door.Why.TheVariants as whys
-use Rattle.hb_base.specs.declared.target.Target.{Target}
+use Rattle.hb_captured.specs.Captured as plain
+use Rattle.hb_captured.specs.Captured.{Captured}
 use Rattle.hb_conn.specs.Observed as connection
 use Rattle.hb_inbound.specs.Calm.{LiveRests, IsQuiet, RestsIn, RestsBy, IsIdleBy}
 use Rattle.hb_inbound.specs.Inbound as link
 use Rattle.hb_inbound.specs.Inbound.{Inbound, no_link, serving}
 use Rattle.hb_inbound.specs.Tunnel as t
-use Rattle.hb_inbound.specs.Tunnel.{Tunnel, Stage, due, live}
+use Rattle.hb_inbound.specs.Tunnel.{Tunnel, Stage, live}
 use Rattle.hb_model.specs.Discovery as discovery
 use Rattle.hb_model.specs.Discovery.{Discovery}
 use Rattle.hb_model.specs.Machine as control
@@ -17,20 +18,24 @@ use Rattle.hb_model.specs.Point as point
 use Rattle.hb_model.specs.Runs as model
 use Rattle.hb_model.specs.Runs.{IsCalmBy}
 use Rattle.hb_model.specs.declared.config.NodeConfig.{NodeConfig}
-use Rattle.hb_ready.specs.Sight.{asleep}
+use Rattle.hb_ready.specs.Sight.{asleep, is_open}
 use Rattle.hb_tunnel.specs.Tunnel.{down_size}
+use Rattle.hb_tunnel.specs.Way.{Way}
+use Rattle.hb_world.specs.Trace.{lives}
 use Rattle.hb_world.specs.declared.entry.Entry.{Entry}
 use Rattle.hb_world.specs.declared.entry.Entry.TheVariants as e
 use Rattle.hb_world.specs.declared.entry.ReadyItem.TheVariants as item
 use Rattle.hb_world.specs.declared.entry.Way.TheVariants as way
+use Rattle.hb_proxy.specs.Doors.{without_doors, TellSame}
 use Rattle.hb_proxy.specs.Machine.{Machine, fresh, with_control}
 use Rattle.hb_proxy.specs.Points.{Point, of_control}
 use Rattle.hb_proxy.specs.Runs.{StandsFor, begins, goes_on}
-use Rattle.hb_proxy.specs.Seen.{Seen, HasLink, IsThere, OpenBy, UpOpenBy}
-use Rattle.hb_proxy.specs.Settled.{Reads, Writes, IsCrowded, TakesNoMore, ControlSettledBy, LinkSettledBy, UpSettledBy, IsSettled, SettledIn}
+use Rattle.hb_proxy.specs.Seen.{Seen, HasLink, IsThere, OpenBy, UpOpenBy, RelayOpenBy}
+use Rattle.hb_proxy.specs.Settled.{Reads, Writes, Finishes, IsCrowded, IsFull, TakesNoMore, ControlSettledBy, LinkSettledBy, UpSettledBy, RelaySettledBy, IsSettled, SettledIn}
 use Rattle.hb_proxy.specs.SettledRefused.{HasLive, KeepsDown, KeepsUp, LeavesUnread, KeepsCredit, LeavesUnshut, LeavesUnended, LeavesUndialled}
 use Rattle.hb_proxy.specs.SettledRefused.{LeavesUnwritten, LeavesLinkUnread, AsksNothing, AcceptsNothing, AsksOnce}
 use Rattle.hb_proxy.specs.Ups.{Joins}
+use Rattle.hb_proxy.proofs.Doors.{doors_tell_none}
 use Rattle.hb_proxy.proofs.Seen.{runs_are_seen}
 
 -- A TUNNEL
@@ -54,13 +59,14 @@ module _ (g : NodeConfig) (x : Machine) (points : List Point) (trace : List Entr
       → Reads trace l (IsCrowded (x.inbound l).conn) × Writes trace l (connection.output (x.inbound l).conn ≡ [])
   link_serves l is = subst (λ (p : link.Phase). LinkSettledBy p trace l (x.inbound l)) is (settled.links l)
 
-none_is : (n : ℕ) → n ≡ 0 → 0 < n → ⊥
+pub none_is : (n : ℕ) → n ≡ 0 → 0 < n → ⊥
 none_is n none some = omega (arith, none, some)
 
 some_waits : (bytes : List ℕ) → bytes ≡ [] → 0 < length bytes → ⊥
 some_waits bytes none some = none_is (length bytes) (ap (λ (xs : List ℕ). length xs) none) some
 
-writes_none : (trace : List Entry) (l : ℕ) (bytes : List ℕ) → Writes trace l (bytes ≡ []) → 0 < length bytes → asleep (way.Write l) trace ≡ false → ⊥
+pub writes_none : (trace : List Entry) (l : ℕ) (bytes : List ℕ) → Writes trace l (bytes ≡ []) → 0 < length bytes
+    → asleep (way.Write l) trace ≡ false → ⊥
 writes_none trace l bytes (inl sleeps) some awake = false≢true (sym awake ∙ sleeps)
 writes_none trace l bytes (inr none) some awake = some_waits bytes none some
 
@@ -73,16 +79,15 @@ pub keeps_up : KeepsUp
 keeps_up g x points trace l s u has joins some awake settled =
     writes_none trace u ((x.inbound l).tunnels s).ways.up.held (up_live g x points trace settled l s has u joins).1 some awake
 
-no_more : (k : Tunnel) → TakesNoMore k → k.ways.down.has_ended ≡ false → length k.ways.down.held < down_size → ⊥
-no_more k (inl ended) going room = false≢true (sym going ∙ ended)
-no_more k (inr full) going room = omega (arith, full, room)
+pub reads_full : (trace : List Entry) (l size : ℕ) (w : Way) → Reads trace l (IsFull size w) → w.has_ended ≡ false → length w.held < size
+    → asleep (way.Read l) trace ≡ false → ⊥
+reads_full trace l size w (inl sleeps) going room awake = false≢true (sym awake ∙ sleeps)
+reads_full trace l size w (inr (inl ended)) going room awake = false≢true (sym going ∙ ended)
+reads_full trace l size w (inr (inr full)) going room awake = omega (arith, full, room)
 
 pub leaves_unread : LeavesUnread
-leaves_unread g x points trace l s u has joins going room awake settled = by (up_live g x points trace settled l s has u joins).0
-  where
-    by : Reads trace u (TakesNoMore ((x.inbound l).tunnels s)) → ⊥
-    by (inl sleeps) = false≢true (sym awake ∙ sleeps)
-    by (inr full) = no_more ((x.inbound l).tunnels s) full going room
+leaves_unread g x points trace l s u has joins going room awake settled =
+    reads_full trace u down_size ((x.inbound l).tunnels s).ways.down (up_live g x points trace settled l s has u joins).0 going room awake
 
 pub keeps_credit : KeepsCredit
 keeps_credit g x points trace l s has some settled =
@@ -114,49 +119,60 @@ leaves_link_unread g x points trace l is few awake settled = by (link_serves g x
 
 -- TRACES
 
-module _ (g : NodeConfig) (to : Target) where
-  dialled : List Entry
-  dialled = e.Dialled 1 to whys.Discovery ∷ []
+-- a link that lives and isn't open is asleep for finishing
+module _ (g : NodeConfig) (trace : List Entry) (n : ℕ) (alive : lives n trace ≡ true) (pending : is_open n trace ≡ false)
+    (awake : asleep (way.Finish n) trace ≡ false) where
+  never : Finishes trace n → ⊥
+  never sleeps = false≢true (sym awake ∙ sleeps)
 
   control_asks : (points : List Point) (phase : discovery.Phase) (y : Discovery) → IsThere phase → OpenBy phase false
-      → ControlSettledBy g points phase (e.Dialled 1 to whys.Discovery ∷ []) 1 y → ⊥
+      → ControlSettledBy g points phase trace n y → ⊥
   control_asks points discovery.unborn y there opens settled = there
   control_asks points discovery.closed y there opens settled = there
-  control_asks points discovery.dialling y there opens settled = false≢true settled
+  control_asks points discovery.dialling y there opens settled = never settled
   control_asks points discovery.live y there opens settled = false≢true opens
   control_asks points (discovery.faulted code) y there opens settled = settled
   control_asks points (discovery.ending why) y there opens settled = settled
 
-  up_asks : (stage : Stage) (y : Tunnel) → UpOpenBy stage false → UpSettledBy stage (e.Dialled 1 to whys.Discovery ∷ []) 1 y → ⊥
-  up_asks t.unasked y opens settled = settled
-  up_asks (t.requested headers end) y opens settled = settled
-  up_asks (t.refusing status target) y opens settled = settled
-  up_asks t.malformed y opens settled = settled
-  up_asks t.due y opens settled = settled
-  up_asks t.opening y opens settled = false≢true settled
-  up_asks t.accepting y opens settled = settled
+  up_asks : (stage : Stage) (y : Tunnel) → UpOpenBy stage false → UpSettledBy stage trace n y → ⊥
+  up_asks t.opening y opens settled = never settled
   up_asks t.live y opens settled = false≢true opens
-  up_asks (t.failed why) y opens settled = settled
-  up_asks (t.ended why) y opens settled = settled
-  up_asks (t.over why) y opens settled = settled
-  up_asks t.gone y opens settled = settled
+  up_asks _ y opens settled = settled
 
-  asks : SettledIn g (e.Dialled 1 to whys.Discovery ∷ []) → ⊥
-  asks s = by (seen.has 1 refl)
+  relay_asks : (stage : plain.Stage) (y : Captured) → RelayOpenBy stage false → RelaySettledBy stage trace n y → ⊥
+  relay_asks plain.opening y opens settled = never settled
+  relay_asks plain.live y opens settled = false≢true opens
+  relay_asks _ y opens settled = settled
+
+  pub asks : SettledIn g trace → ⊥
+  asks s = by (seen.has n (same.lives n ∙ alive))
     where
-      seen : Seen s.machine (e.Dialled 1 to whys.Discovery ∷ [])
+      same : TellSame trace (without_doors trace)
+      same = doors_tell_none trace
+
+      seen : Seen s.machine (without_doors trace)
       seen = subst (λ (zs : List Entry). Seen s.machine zs) (sym s.trace_is) (runs_are_seen g s.machine s.points s.run)
 
-      by : HasLink s.machine 1 → ⊥
+      shut : is_open n (without_doors trace) ≡ false
+      shut = same.is_open n ∙ pending
+
+      by : HasLink s.machine n → ⊥
       by (inl there) =
-          control_asks s.points (s.machine.control.links 1).phase (s.machine.control.links 1) there (seen.control_open 1) (s.settled.control 1)
-      by (inr (inl there)) = false≢true (seen.link 1 there).1
-      by (inr (inr (k, q, joins))) =
+          let one = s.machine.control.links n in
+          control_asks s.points one.phase one there (subst (OpenBy one.phase) shut (seen.control_open n)) (s.settled.control n)
+      by (inr (inl there)) = false≢true (sym shut ∙ (seen.link n there).1)
+      by (inr (inr (inl (k, q, joins)))) =
           let tunnel = (s.machine.inbound k).tunnels q in
-          up_asks tunnel.stage tunnel (seen.up k q 1 joins).2 (s.settled.ups k q 1 joins)
+          up_asks tunnel.stage tunnel (subst (UpOpenBy tunnel.stage) shut (seen.up k q n joins).2) (s.settled.ups k q n joins)
+      by (inr (inr (inr (inl there)))) = false≢true (sym shut ∙ (seen.plain.link n there).1)
+      by (inr (inr (inr (inr (k, joins))))) =
+          let one = s.machine.plain k in
+          relay_asks one.stage one (subst (RelayOpenBy one.stage) shut (seen.plain.up k n joins).2) (s.settled.relays k n joins)
 
 pub asks_nothing : AsksNothing
-asks_nothing g to how law = asks g to (law (e.Dialled 1 to whys.Discovery ∷ []) (e.Wait [] how) [] refl)
+asks_nothing g to how law =
+    let trace = e.Dialled 1 to whys.Discovery ∷ [] in
+    asks g trace 1 refl refl refl (law trace (e.Wait [] how) [] refl)
 
 pub accepts_nothing : AcceptsNothing
 accepts_nothing g how then law =
@@ -165,55 +181,72 @@ accepts_nothing g how then law =
 
 -- A GOOD ONE
 
-quiet_link : IsQuiet no_link
+pub quiet_link : IsQuiet no_link
 quiet_link = record { calm = record { answered = λ s. refl; rests = tt }; no_close = refl; idle = λ s. tt }
+
+-- the control plane is dialled, and asked whether it is open
+module _ (g : NodeConfig) where
+  abbrev pub dial : Entry
+  dial = e.Dialled 1 g.discovery whys.Discovery
+
+  abbrev pub balk : Entry
+  balk = e.Balked (way.Finish 1)
+
+  abbrev pub asked : List Point
+  asked = of_control (point.entry dial) ∷ of_control (point.entry balk) ∷ []
+
+  abbrev pub asking : control.Machine
+  asking = control.entered g dial (control.fresh g)
+
+  abbrev pub asking_all : Machine
+  asking_all = with_control (point.entry dial) asking (fresh g)
+
+  abbrev fresh_one : Discovery
+  fresh_one = discovery.dialled g.id g.discovery (control.fresh g).held
+
+  pub quiet_control : model.IsQuiet asking
+  quiet_control = record {
+    no_dial = refl;
+    goes = refl;
+    calm = λ l. cond_both (1 == l) fresh_one discovery.no_link (λ (d : Discovery). IsCalmBy d.phase d) (λ is. tt) (λ is. tt);
+  }
+
+  -- it sleeps, whatever else the trace tells
+  pub control_asleep : (points : List Point) (trace : List Entry) → asleep (way.Finish 1) trace ≡ true → (l : ℕ)
+      → ControlSettledBy g points (asking.links l).phase trace l (asking.links l)
+  control_asleep points trace sleeps l =
+      cond_both (1 == l) fresh_one discovery.no_link (λ (d : Discovery). ControlSettledBy g points d.phase trace l d)
+      (λ is. subst (λ (n : ℕ). asleep (way.Finish n) trace ≡ true) (eqb-true 1 l is) sleeps) (λ is. tt)
+
+  dialled_so : StandsFor g asking_all (of_control (point.entry dial) ∷ [])
+  dialled_so =
+      goes_on (begins refl refl) (of_control (point.entry dial)) (
+        asking,
+        ((refl, omega arith, refl, refl), refl),
+        record { birth = refl; links = λ l. quiet_link.calm; plain = λ l. tt },
+        refl,
+      ) refl
+
+  pub asked_so : StandsFor g asking_all asked
+  asked_so =
+      goes_on dialled_so (of_control (point.entry balk))
+      (asking, ((refl, (quiet_control, refl)), refl), record { birth = tt; links = λ l. quiet_link; plain = λ l. (tt, tt) }, refl) refl
 
 pub asks_once : AsksOnce
 asks_once g = record {
-  machine = x;
-  points = points;
-  run = goes_on dialled_so (of_control (point.entry balk)) (m, ((refl, (quiet_control, refl)), refl), record { birth = tt; links = λ l. quiet_link }, refl) refl;
+  machine = asking_all g;
+  points = asked g;
+  run = asked_so g;
   trace_is = refl;
   settled = record {
-    control_quiet = quiet_control;
+    control_quiet = quiet_control g;
     links_quiet = λ l. quiet_link;
     doors = λ d. refl;
-    control = λ l. cond_both (1 == l) fresh_one discovery.no_link (λ (d : Discovery). ControlSettledBy g points d.phase trace l d)
-        (λ is. subst (λ (n : ℕ). asleep (way.Finish n) trace ≡ true) (eqb-true 1 l is) refl) (λ is. tt);
+    control = control_asleep g (asked g) (dial g ∷ balk g ∷ []) refl;
     links = λ l. tt;
     ups = λ l s u joins. absurd (omega (arith, joins.0, joins.1));
+    plain_quiet = λ l. (tt, tt);
+    plain = λ l. tt;
+    relays = λ l u joins. absurd (omega (arith, joins.0, joins.1));
   };
 }
-  where
-    dial : Entry
-    dial = e.Dialled 1 g.discovery whys.Discovery
-
-    balk : Entry
-    balk = e.Balked (way.Finish 1)
-
-    trace : List Entry
-    trace = dial ∷ balk ∷ []
-
-    points : List Point
-    points = of_control (point.entry dial) ∷ of_control (point.entry balk) ∷ []
-
-    m : control.Machine
-    m = control.entered g dial (control.fresh g)
-
-    x : Machine
-    x = with_control (point.entry dial) m (fresh g)
-
-    fresh_one : Discovery
-    fresh_one = discovery.dialled g.id g.discovery (control.fresh g).held
-
-    quiet_control : model.IsQuiet m
-    quiet_control = record {
-      no_dial = refl;
-      goes = refl;
-      calm = λ l. cond_both (1 == l) fresh_one discovery.no_link (λ (d : Discovery). IsCalmBy d.phase d) (λ is. tt) (λ is. tt);
-    }
-
-    dialled_so : StandsFor g x (of_control (point.entry dial) ∷ [])
-    dialled_so =
-        goes_on (begins refl refl) (of_control (point.entry dial))
-        (m, ((refl, omega arith, refl, refl), refl), record { birth = refl; links = λ l. quiet_link.calm }, refl) refl

@@ -1,86 +1,130 @@
 -- The bytes of a link are the same in the trace and in the link's part, in every run.
-use Rattle.std.proofs.Common.{◌≡◌, ◌≢◌, ◌⊎◌, ⊎_elim, ℕ, ◌==◌, cond, List, [], ◌∷◌, ◌++◌, Option, Some, None, IfSome, refl, ap, ap₂, sym, ◌∙◌, subst}
-use Rattle.std.proofs.lemmas.Bool.{cond_both, cases_eq, eq-eqb, eqb-true, ne_eqb}
+use Rattle.std.proofs.Common.{◌≡◌, ◌≢◌, ◌⊎◌, inl, inr, ⊎_elim, ℕ, ◌==◌, Bool, cond, List, [], ◌∷◌, ◌++◌, Option, Some, None, IfSome, refl, ap, ap₂, sym, ◌∙◌, subst}
+use Rattle.std.proofs.lemmas.Bool.{cond_both, cases_eq, eq-eqb, ne_eqb}
 use Rattle.std.proofs.lemmas.Grind.{flat_map-append}
 use Rattle.std.specs.List.{flat_map}
+use Rattle.hb_captured.specs.Part as captured
+use Rattle.hb_captured.specs.Sides as plain
 use Rattle.hb_inbound.specs.Part as part
 use Rattle.hb_inbound.specs.Part.{Part}
 use Rattle.hb_inbound.specs.Sides.{came_by, went_by, came_in, went_in, up_came_in, up_went_in}
 use Rattle.hb_model.proofs.Grown.{one_more}
 use Rattle.hb_model.specs.Point as point
 use Rattle.hb_model.specs.declared.config.NodeConfig.{NodeConfig}
-use Rattle.hb_world.specs.Trace.{came_on, went_on, recv, sent}
+use Rattle.hb_world.specs.Trace.{came_on, went_on}
 use Rattle.hb_world.specs.declared.entry.Entry.{Entry}
 use Rattle.hb_world.specs.declared.entry.Entry.TheVariants as e
 use Rattle.hb_proxy.specs.Laws.{RunsShareSides}
 use Rattle.hb_proxy.specs.Machine.{Machine}
-use Rattle.hb_proxy.specs.Owners.{Owner, nobody, control_plane, inbound_link, upstream_of, link_of, OwnAt}
-use Rattle.hb_proxy.specs.Points.{Point, of_control, of_link, entry_in, entries, control_in, control_of, part_in, parts_of}
+use Rattle.hb_proxy.specs.Owners.{Owner, nobody, control_plane, inbound_link, upstream_of, plain_link, relay_of, link_of, UpstreamLaw, OwnAt}
+use Rattle.hb_proxy.specs.Points.{Point, of_control, of_link, of_plain, entry_in, entries, control_in, control_of, part_in, parts_of, plain_in, plain_of}
 use Rattle.hb_proxy.specs.Runs.{StandsFor, begins, goes_on}
 use Rattle.hb_proxy.proofs.Known.{are_known}
-use Rattle.hb_proxy.proofs.Own.{own_at}
-use Rattle.hb_proxy.proofs.Owned.{Owned, whose_in, all_owned, owner_grows}
+use Rattle.hb_proxy.proofs.Own.{own_at, runs_dial_once}
+use Rattle.hb_proxy.proofs.Owned.{whose_in, all_owned, owner_grows}
+use Rattle.hb_proxy.proofs.Places.{short}
 
--- bytes, where this is their owner
-abbrev pick_control : Owner → List ℕ → List ℕ
-pick_control control_plane bytes = bytes
-pick_control _ bytes = []
+-- WHICH SIDE A LINK IS
 
-abbrev pick_link : Owner → List ℕ → List ℕ
-pick_link inbound_link bytes = bytes
-pick_link _ bytes = []
+-- of which part the bytes of a link are told, and where in it
+data Side : Type 0 where
+  no_side : Side
+  control_side : (link : ℕ) → Side
+  link_side : (link : ℕ) → Side
+  up_side : (link stream : ℕ) → Side
+  plain_side : (link : ℕ) → Side
+  relay_side : (link : ℕ) → Side
 
-record IsPick (pick : Owner → List ℕ → List ℕ) : Type 0 where
-  none : (o : Owner) → pick o [] ≡ []
-  joins : (o : Owner) (a b : List ℕ) → pick o (a ++ b) ≡ pick o a ++ pick o b
+-- the link u of this owner is this side
+abbrev side_by : ℕ → Owner → Side
+side_by u nobody = no_side
+side_by u control_plane = control_side u
+side_by u inbound_link = link_side u
+side_by u (upstream_of l s) = up_side l s
+side_by u plain_link = plain_side u
+side_by u (relay_of l) = relay_side l
 
-picks_control : IsPick pick_control
-picks_control = record { none = none; joins = joins }
+-- the other way round
+abbrev IsSide : Side → ℕ → Owner → Type 0
+IsSide no_side u o = o ≡ nobody
+IsSide (control_side n) u o = (u ≡ n) × (o ≡ control_plane)
+IsSide (link_side n) u o = (u ≡ n) × (o ≡ inbound_link)
+IsSide (up_side l s) u o = o ≡ upstream_of l s
+IsSide (plain_side n) u o = (u ≡ n) × (o ≡ plain_link)
+IsSide (relay_side l) u o = o ≡ relay_of l
+
+is_side : (side : Side) (u : ℕ) (o : Owner) → side_by u o ≡ side → IsSide side u o
+is_side side u o same = subst (λ (m : Side). IsSide m u o) same (itself u o)
   where
-    none : (o : Owner) → pick_control o [] ≡ []
-    none control_plane = refl
-    none _ = refl
+    itself : (u : ℕ) (o : Owner) → IsSide (side_by u o) u o
+    itself u nobody = refl
+    itself u control_plane = (refl, refl)
+    itself u inbound_link = (refl, refl)
+    itself u (upstream_of l s) = refl
+    itself u plain_link = (refl, refl)
+    itself u (relay_of l) = refl
 
-    joins : (o : Owner) (a b : List ℕ) → pick_control o (a ++ b) ≡ pick_control o a ++ pick_control o b
-    joins control_plane a b = refl
-    joins _ a b = refl
+-- which side a link is behind these points
+abbrev side_in : List Point → ℕ → Side
+side_in points u = side_by u (whose_in points u)
 
-picks_link : IsPick pick_link
-picks_link = record { none = none; joins = joins }
+-- no two links are one side
+once : (points : List Point) → UpstreamLaw (entries points) → (side : Side) → side ≢ no_side → (u v : ℕ)
+    → side_in points u ≡ side → side_in points v ≡ side → u ≡ v
+once points law side some u v mine other =
+    by side some (is_side side u (whose_in points u) mine) (is_side side v (whose_in points v) other)
   where
-    none : (o : Owner) → pick_link o [] ≡ []
-    none inbound_link = refl
-    none _ = refl
+    by : (side : Side) → side ≢ no_side → IsSide side u (whose_in points u) → IsSide side v (whose_in points v) → u ≡ v
+    by no_side some a b = absurd (some refl)
+    by (control_side n) some a b = a.0 ∙ sym b.0
+    by (link_side n) some a b = a.0 ∙ sym b.0
+    by (up_side l s) some a b = law.streams l s u v a b
+    by (plain_side n) some a b = a.0 ∙ sym b.0
+    by (relay_side l) some a b = law.relays l u v a b
 
-    joins : (o : Owner) (a b : List ℕ) → pick_link o (a ++ b) ≡ pick_link o a ++ pick_link o b
-    joins inbound_link a b = refl
-    joins _ a b = refl
+-- WHAT A PART OF A LINK SAYS
 
--- The bytes that came, or those that went: on a link of the trace, by an entry, and by a part on its link and on a stream's upstream
-record IsWay (on : ℕ → Entry → List ℕ) (by : Entry → List ℕ) (link_in : Part → List ℕ) (up_in : ℕ → Part → List ℕ) : Type 0 where
+-- where an entry stands on no link, nothing is said
+abbrev Rests : {A : Type 0} → (A → List Entry) → (A → List ℕ) → Type 0
+Rests {A} entries_in f = (p : A) → ((z : Entry) → entries_in p ≡ z ∷ [] → link_of z ≡ None) → f p ≡ []
+
+-- The bytes that came, or those that went: on a link of the trace, by an entry, and by a part on its link and on a stream's upstream, and
+-- by a part of the plain door on its link and on the upstream
+record IsWay (on : ℕ → Entry → List ℕ) (by : Entry → List ℕ) (link_in : Part → List ℕ) (up_in : ℕ → Part → List ℕ)
+    (captured_in relay_in : captured.Part → List ℕ) : Type 0 where
   mine : (n : ℕ) (z : Entry) → link_of z ≡ Some n → on n z ≡ by z
   others : (n k : ℕ) (z : Entry) → link_of z ≡ Some k → (k ≡ n → ⊥) → on n z ≡ []
   none : (n : ℕ) (z : Entry) → link_of z ≡ None → on n z ≡ []
-  silent : (z : Entry) → link_of z ≡ None → by z ≡ []
   link_entry : (z : Entry) → link_in (part.entry z) ≡ by z
-  link_other : (p : Part) → part.entry_in p ≡ [] → link_in p ≡ []
   link_up : (s : ℕ) (z : Entry) → link_in (part.up s z) ≡ []
+  link_rests : Rests part.entry_in link_in
   up_up : (s k : ℕ) (z : Entry) → up_in s (part.up k z) ≡ cond (k == s) (by z) []
-  up_other : (s : ℕ) (p : Part) → part.entry_in p ≡ [] → up_in s p ≡ []
   up_entry : (s : ℕ) (z : Entry) → up_in s (part.entry z) ≡ []
+  up_rests : (s : ℕ) → Rests part.entry_in (up_in s)
+  plain_entry : (z : Entry) → captured_in (captured.entry z) ≡ by z
+  plain_up : (z : Entry) → captured_in (captured.up z) ≡ []
+  plain_rests : Rests captured.entry_in captured_in
+  relay_up : (z : Entry) → relay_in (captured.up z) ≡ by z
+  relay_entry : (z : Entry) → relay_in (captured.entry z) ≡ []
+  relay_rests : Rests captured.entry_in relay_in
 
-came : IsWay came_on came_by came_in up_came_in
+came : IsWay came_on came_by came_in up_came_in plain.came_in plain.up_came_in
 came = record {
   mine = mine;
   others = others;
   none = none;
-  silent = silent;
   link_entry = λ z. refl;
-  link_other = link_other;
   link_up = λ s z. refl;
+  link_rests = link_rests;
   up_up = λ s k z. refl;
-  up_other = up_other;
   up_entry = λ s z. refl;
+  up_rests = up_rests;
+  plain_entry = same;
+  plain_up = λ z. refl;
+  plain_rests = plain_rests;
+  relay_up = same;
+  relay_entry = λ z. refl;
+  relay_rests = relay_rests;
 }
   where
     mine : (n : ℕ) (z : Entry) → link_of z ≡ Some n → came_on n z ≡ came_by z
@@ -99,26 +143,44 @@ came = record {
     silent (e.Came j bytes) is = absurd cc
     silent _ is = refl
 
-    link_other : (p : Part) → part.entry_in p ≡ [] → came_in p ≡ []
-    link_other (part.entry z) is = absurd cc
-    link_other _ is = refl
+    same : (z : Entry) → plain.came_by z ≡ came_by z
+    same (e.Came j bytes) = refl
+    same _ = refl
 
-    up_other : (s : ℕ) (p : Part) → part.entry_in p ≡ [] → up_came_in s p ≡ []
-    up_other s (part.up k z) is = absurd cc
-    up_other s _ is = refl
+    link_rests : Rests part.entry_in came_in
+    link_rests (part.entry z) rests = silent z (rests z refl)
+    link_rests _ rests = refl
 
-went : IsWay went_on went_by went_in up_went_in
+    up_rests : (s : ℕ) → Rests part.entry_in (up_came_in s)
+    up_rests s (part.up k z) rests =
+        cond_both (k == s) (came_by z) [] (λ b. b ≡ []) (λ h. silent z (rests z refl)) (λ h. refl)
+    up_rests s _ rests = refl
+
+    plain_rests : Rests captured.entry_in plain.came_in
+    plain_rests (captured.entry z) rests = same z ∙ silent z (rests z refl)
+    plain_rests _ rests = refl
+
+    relay_rests : Rests captured.entry_in plain.up_came_in
+    relay_rests (captured.up z) rests = same z ∙ silent z (rests z refl)
+    relay_rests _ rests = refl
+
+went : IsWay went_on went_by went_in up_went_in plain.went_in plain.up_went_in
 went = record {
   mine = mine;
   others = others;
   none = none;
-  silent = silent;
   link_entry = λ z. refl;
-  link_other = link_other;
   link_up = λ s z. refl;
+  link_rests = link_rests;
   up_up = λ s k z. refl;
-  up_other = up_other;
   up_entry = λ s z. refl;
+  up_rests = up_rests;
+  plain_entry = same;
+  plain_up = λ z. refl;
+  plain_rests = plain_rests;
+  relay_up = same;
+  relay_entry = λ z. refl;
+  relay_rests = relay_rests;
 }
   where
     mine : (n : ℕ) (z : Entry) → link_of z ≡ Some n → went_on n z ≡ went_by z
@@ -137,296 +199,395 @@ went = record {
     silent (e.Went j bytes) is = absurd cc
     silent _ is = refl
 
-    link_other : (p : Part) → part.entry_in p ≡ [] → went_in p ≡ []
-    link_other (part.entry z) is = absurd cc
-    link_other _ is = refl
+    same : (z : Entry) → plain.went_by z ≡ went_by z
+    same (e.Went j bytes) = refl
+    same _ = refl
 
-    up_other : (s : ℕ) (p : Part) → part.entry_in p ≡ [] → up_went_in s p ≡ []
-    up_other s (part.up k z) is = absurd cc
-    up_other s _ is = refl
+    link_rests : Rests part.entry_in went_in
+    link_rests (part.entry z) rests = silent z (rests z refl)
+    link_rests _ rests = refl
+
+    up_rests : (s : ℕ) → Rests part.entry_in (up_went_in s)
+    up_rests s (part.up k z) rests =
+        cond_both (k == s) (went_by z) [] (λ b. b ≡ []) (λ h. silent z (rests z refl)) (λ h. refl)
+    up_rests s _ rests = refl
+
+    plain_rests : Rests captured.entry_in plain.went_in
+    plain_rests (captured.entry z) rests = same z ∙ silent z (rests z refl)
+    plain_rests _ rests = refl
+
+    relay_rests : Rests captured.entry_in plain.up_went_in
+    relay_rests (captured.up z) rests = same z ∙ silent z (rests z refl)
+    relay_rests _ rests = refl
+
+-- what is said of the parts of a link in a run, behind one point more
+said_more : {A B : Type 0} (f : A → List B) (parts : Point → List A) (points : List Point) (p : Point)
+    → flat_map f (flat_map parts (points ++ p ∷ [])) ≡ flat_map f (flat_map parts points) ++ flat_map f (parts p)
+said_more f parts points p = ap (flat_map f) (one_more parts points p) ∙ flat_map-append f (flat_map parts points) (parts p)
+
+-- what is said of the part of the link l, to the link n
+module _ {A : Type 0} (f : A → List ℕ) (l n : ℕ) (p : A) where
+  said_here : l ≡ n → flat_map f (cond (l == n) (p ∷ []) []) ≡ f p ++ []
+  said_here same = ap (λ (b : Bool). flat_map f (cond b (p ∷ []) [])) (eq-eqb l n same)
+
+  said_else : (l ≡ n → ⊥) → flat_map f (cond (l == n) (p ∷ []) []) ≡ []
+  said_else apart = ap (λ (b : Bool). flat_map f (cond b (p ∷ []) [])) (ne_eqb l n apart)
+
+  said_none : f p ≡ [] → flat_map f (cond (l == n) (p ∷ []) []) ≡ []
+  said_none none =
+      cond_both (l == n) (p ∷ []) [] (λ ps. flat_map f ps ≡ []) (λ same. ap (λ b. b ++ []) none) (λ apart. refl)
 
 module _ (on : ℕ → Entry → List ℕ) (by : Entry → List ℕ) (link_in : Part → List ℕ) (up_in : ℕ → Part → List ℕ)
-    (way : IsWay on by link_in up_in) where
-  -- what a point says of a link: in the trace, in the control plane's points, in a link's parts
+    (captured_in relay_in : captured.Part → List ℕ) (way : IsWay on by link_in up_in captured_in relay_in) where
+  -- what a point says of a link of the trace, and of a side of its part; and what a run does
   abbrev told : ℕ → Point → List ℕ
   told n p = flat_map (on n) (entry_in p)
 
-  abbrev to_control : ℕ → Point → List ℕ
-  to_control n p = flat_map (on n) (flat_map point.entry_in (control_in p))
+  abbrev tells : Side → Point → List ℕ
+  tells no_side p = []
+  tells (control_side n) p = flat_map (on n) (flat_map point.entry_in (control_in p))
+  tells (link_side l) p = flat_map link_in (part_in l p)
+  tells (up_side l s) p = flat_map (up_in s) (part_in l p)
+  tells (plain_side l) p = flat_map captured_in (plain_in l p)
+  tells (relay_side l) p = flat_map relay_in (plain_in l p)
 
-  abbrev to_link : ℕ → Point → List ℕ
-  to_link n p = flat_map link_in (part_in n p)
+  abbrev all_told : List Point → ℕ → List ℕ
+  all_told points n = flat_map (on n) (entries points)
 
-  abbrev to_up : (l s : ℕ) → Point → List ℕ
-  to_up l s p = flat_map (up_in s) (part_in l p)
+  abbrev all_tell : List Point → Side → List ℕ
+  all_tell points no_side = []
+  all_tell points (control_side n) = flat_map (on n) (point.entries (control_of points))
+  all_tell points (link_side l) = flat_map link_in (parts_of l points)
+  all_tell points (up_side l s) = flat_map (up_in s) (parts_of l points)
+  all_tell points (plain_side l) = flat_map captured_in (plain_of l points)
+  all_tell points (relay_side l) = flat_map relay_in (plain_of l points)
 
-  -- the parts say the same of a link as the trace does
-  record Shares (whose : ℕ → Owner) (all control link : ℕ → List ℕ) (up : (l s : ℕ) → List ℕ) : Type 0 where
-    controls : (n : ℕ) → control n ≡ pick_control (whose n) (all n)
-    links : (n : ℕ) → link n ≡ pick_link (whose n) (all n)
-    ups : (l s u : ℕ) → whose u ≡ upstream_of l s → up l s ≡ all u
-    no_up : (l s : ℕ) → ((u : ℕ) → whose u ≢ upstream_of l s) → up l s ≡ []
-    nobodys : (n : ℕ) → whose n ≡ nobody → all n ≡ []
+  -- a side says what the trace says of the link that is it, and nothing where none is
+  record Shares (side_of : ℕ → Side) (all : ℕ → List ℕ) (tell : Side → List ℕ) : Type 0 where
+    is : (side : Side) (u : ℕ) → side_of u ≡ side → tell side ≡ all u
+    none : (side : Side) → ((u : ℕ) → side_of u ≡ side → ⊥) → tell side ≡ []
 
-  abbrev SharesAt : (ℕ → Owner) → Point → Type 0
-  SharesAt whose p = Shares whose (λ n. told n p) (λ n. to_control n p) (λ n. to_link n p) (λ l s. to_up l s p)
+  abbrev SharesAt : List Point → Point → Type 0
+  SharesAt before p = Shares (side_in before) (λ n. told n p) (λ side. tells side p)
 
-  abbrev SharesIn : (ℕ → Owner) → List Point → Type 0
-  SharesIn whose points = Shares whose (λ n. flat_map (on n) (entries points)) (λ n. flat_map (on n) (point.entries (control_of points)))
-      (λ n. flat_map link_in (parts_of n points)) (λ l s. flat_map (up_in s) (parts_of l points))
+  abbrev SharesIn : List Point → Type 0
+  SharesIn points = Shares (side_in points) (all_told points) (all_tell points)
 
-  -- ONE POINT
+  -- A POINT WHOSE ENTRY, IF IT HAS ONE, STANDS ON NO LINK
 
-  nothing_shared : (whose : ℕ → Owner) (p : Point) → ((n : ℕ) → told n p ≡ []) → ((n : ℕ) → to_control n p ≡ [])
-      → ((n : ℕ) → to_link n p ≡ []) → ((l s : ℕ) → to_up l s p ≡ []) → SharesAt whose p
-  nothing_shared whose p all control link up = record {
-    controls = λ n. control n ∙ sym (ap (pick_control (whose n)) (all n) ∙ picks_control.none (whose n));
-    links = λ n. link n ∙ sym (ap (pick_link (whose n)) (all n) ∙ picks_link.none (whose n));
-    ups = λ l s u is. up l s ∙ sym (all u);
-    no_up = λ l s none. up l s;
-    nobodys = λ n is. all n;
-  }
-
-  -- an entry on the link k
-  module _ (whose : ℕ → Owner) (z : Entry) (k : ℕ) (is : link_of z ≡ Some k) where
-    told_else : (n : ℕ) → (k ≡ n → ⊥) → flat_map (on n) (z ∷ []) ≡ []
-    told_else n apart = ap (λ b. b ++ []) (way.others n k z is apart)
-
-    told_here : (n : ℕ) → k ≡ n → flat_map (on n) (z ∷ []) ≡ by z ++ []
-    told_here n same = ap (λ b. b ++ []) (way.mine n z (is ∙ ap Some same))
-
-    -- it isn't of this kind of owner
-    off : (pick : Owner → List ℕ → List ℕ) → IsPick pick → ((bytes : List ℕ) → pick (whose k) bytes ≡ []) → (n : ℕ)
-        → pick (whose n) (flat_map (on n) (z ∷ [])) ≡ []
-    off pick picks not n =
-        ⊎_elim (λ same. subst (λ (j : ℕ). pick (whose j) (flat_map (on j) (z ∷ [])) ≡ []) same (not (flat_map (on k) (z ∷ []))))
-        (λ apart. ap (pick (whose n)) (told_else n apart) ∙ picks.none (whose n)) (cases_eq k n)
-
-    -- or it is
-    on_own : (pick : Owner → List ℕ → List ℕ) → IsPick pick → ((bytes : List ℕ) → pick (whose k) bytes ≡ bytes) → (n : ℕ)
-        → pick (whose n) (flat_map (on n) (z ∷ [])) ≡ flat_map (on n) (z ∷ [])
-    on_own pick picks is_own n =
-        ⊎_elim (λ same. subst (λ (j : ℕ). pick (whose j) (flat_map (on j) (z ∷ [])) ≡ flat_map (on j) (z ∷ [])) same
-        (is_own (flat_map (on k) (z ∷ []))))
-        (λ apart. ap (pick (whose n)) (told_else n apart) ∙ picks.none (whose n) ∙ sym (told_else n apart)) (cases_eq k n)
-
-    apart_of : (o w : Owner) → whose k ≡ o → (o ≡ w → ⊥) → (n : ℕ) → whose n ≡ w → k ≡ n → ⊥
-    apart_of o w mine other n is_w same = other (sym mine ∙ ap whose same ∙ is_w)
-
-    control_shares : whose k ≡ control_plane → SharesAt whose (of_control (point.entry z))
-    control_shares mine = record {
-      controls = λ n. sym (on_own pick_control picks_control (λ bytes. ap (λ o. pick_control o bytes) mine) n);
-      links = λ n. sym (off pick_link picks_link (λ bytes. ap (λ o. pick_link o bytes) mine) n);
-      ups = λ l s u up. sym (told_else u (apart_of control_plane (upstream_of l s) mine (λ same. cc) u up));
-      no_up = λ l s none. refl;
-      nobodys = λ n none. told_else n (apart_of control_plane nobody mine (λ same. cc) n none);
-    }
-
-    link_shares : (l : ℕ) → k ≡ l → whose k ≡ inbound_link → SharesAt whose (of_link l (part.entry z))
-    link_shares l at_l mine = record {
-      controls = λ n. sym (off pick_control picks_control (λ bytes. ap (λ o. pick_control o bytes) mine) n);
-      links = λ n. link n ∙ sym (on_own pick_link picks_link (λ bytes. ap (λ o. pick_link o bytes) mine) n);
-      ups = λ j s u up. up_is j s ∙ sym (told_else u (apart_of inbound_link (upstream_of j s) mine (λ same. cc) u up));
-      no_up = λ j s none. up_is j s;
-      nobodys = λ n none. told_else n (apart_of inbound_link nobody mine (λ same. cc) n none);
-    }
-      where
-        link : (n : ℕ) → to_link n (of_link l (part.entry z)) ≡ flat_map (on n) (z ∷ [])
-        link n =
-            ⊎_elim (λ same. ap (λ b. flat_map link_in (cond b (part.entry z ∷ []) [])) (eq-eqb l n same)
-            ∙ ap (λ b. b ++ []) (way.link_entry z) ∙ sym (told_here n (at_l ∙ same)))
-            (λ apart. ap (λ b. flat_map link_in (cond b (part.entry z ∷ []) [])) (ne_eqb l n apart)
-            ∙ sym (told_else n (λ same. apart (sym at_l ∙ same)))) (cases_eq l n)
-
-        up_is : (j s : ℕ) → to_up j s (of_link l (part.entry z)) ≡ []
-        up_is j s =
-            cond_both (l == j) (part.entry z ∷ []) [] (λ ps. flat_map (up_in s) ps ≡ []) (λ same. ap (λ b. b ++ []) (way.up_entry s z))
-            (λ apart. refl)
-
-    up_shares : (l s : ℕ) → whose k ≡ upstream_of l s
-        → ((i t u v : ℕ) → whose u ≡ upstream_of i t → whose v ≡ upstream_of i t → u ≡ v) → SharesAt whose (of_link l (part.up s z))
-    up_shares l s mine one = record {
-      controls = λ n. sym (off pick_control picks_control (λ bytes. ap (λ o. pick_control o bytes) mine) n);
-      links = λ n. link_is n ∙ sym (off pick_link picks_link (λ bytes. ap (λ o. pick_link o bytes) mine) n);
-      ups = λ j t u up. ⊎_elim (here j t u up) (λ apart. off_up j t (λ h i. apart (one l s k u mine (up ∙ ap₂ upstream_of (sym h) (sym i))))
-          ∙ sym (told_else u apart)) (cases_eq k u);
-      no_up = λ j t none. off_up j t (λ h i. none k (mine ∙ ap₂ upstream_of h i));
-      nobodys = λ n none. told_else n (apart_of (upstream_of l s) nobody mine (λ same. cc) n none);
-    }
-      where
-        link_is : (n : ℕ) → to_link n (of_link l (part.up s z)) ≡ []
-        link_is n =
-            cond_both (l == n) (part.up s z ∷ []) [] (λ ps. flat_map link_in ps ≡ []) (λ same. ap (λ b. b ++ []) (way.link_up s z))
-            (λ apart. refl)
-
-        -- another stream says nothing
-        off_up : (j t : ℕ) → (l ≡ j → s ≡ t → ⊥) → to_up j t (of_link l (part.up s z)) ≡ []
-        off_up j t other =
-            cond_both (l == j) (part.up s z ∷ []) [] (λ ps. flat_map (up_in t) ps ≡ [])
-            (λ same. ap (λ b. b ++ []) (way.up_up t s z ∙ ap (λ b. cond b (by z) []) (ne_eqb s t (λ i. other (eqb-true l j same) i))))
-            (λ apart. refl)
-
-        here : (j t u : ℕ) → whose u ≡ upstream_of j t → k ≡ u → to_up j t (of_link l (part.up s z)) ≡ flat_map (on u) (z ∷ [])
-        here j t u up same =
-            let both : upstream_of l s ≡ upstream_of j t = sym mine ∙ ap whose same ∙ up in
-            let at_j : l ≡ j = cc in
-            let at_t : s ≡ t = cc in
-            ap (λ b. flat_map (up_in t) (cond b (part.up s z ∷ []) [])) (eq-eqb l j at_j)
-            ∙ ap (λ b. b ++ []) (way.up_up t s z ∙ ap (λ b. cond b (by z) []) (eq-eqb s t at_t))
-            ∙ sym (told_here u same)
-
-  -- a point whose entry, if it has one, stands on no link
   abbrev OnNone : Point → Type 0
   OnNone p = (z : Entry) → entry_in p ≡ z ∷ [] → link_of z ≡ None
 
-  none_shares : (whose : ℕ → Owner) (p : Point) → OnNone p → SharesAt whose p
-  none_shares whose (of_control (point.entry z)) none =
-      let is = none z refl in
-      nothing_shared whose (of_control (point.entry z)) (λ n. ap (λ b. b ++ []) (way.none n z is))
-      (λ n. ap (λ b. b ++ []) (way.none n z is)) (λ n. refl) (λ l s. refl)
-  none_shares whose (of_control (point.applied l r)) none =
-      nothing_shared whose (of_control (point.applied l r)) (λ n. refl) (λ n. refl)
-      (λ n. ap (λ b. b ++ []) (way.link_other (part.applied r) refl)) (λ l s. ap (λ b. b ++ []) (way.up_other s (part.applied r) refl))
-  none_shares whose (of_control (point.stopped why)) none =
-      nothing_shared whose (of_control (point.stopped why)) (λ n. refl) (λ n. refl)
-      (λ n. ap (λ b. b ++ []) (way.link_other (part.stopped why) refl)) (λ l s. ap (λ b. b ++ []) (way.up_other s (part.stopped why) refl))
-  none_shares whose (of_control q) none = nothing_shared whose (of_control q) (λ n. refl) (λ n. refl) (λ n. refl) (λ l s. refl)
-  none_shares whose (of_link l (part.entry z)) none =
-      let is = none z refl in
-      nothing_shared whose (of_link l (part.entry z)) (λ n. ap (λ b. b ++ []) (way.none n z is)) (λ n. refl)
-      (λ n. cond_both (l == n) (part.entry z ∷ []) [] (λ ps. flat_map link_in ps ≡ [])
-      (λ same. ap (λ b. b ++ []) (way.link_entry z ∙ way.silent z is)) (λ apart. refl))
-      (λ j s. cond_both (l == j) (part.entry z ∷ []) [] (λ ps. flat_map (up_in s) ps ≡ [])
-      (λ same. ap (λ b. b ++ []) (way.up_entry s z)) (λ apart. refl))
-  none_shares whose (of_link l (part.up k z)) none =
-      let is = none z refl in
-      nothing_shared whose (of_link l (part.up k z)) (λ n. ap (λ b. b ++ []) (way.none n z is)) (λ n. refl)
-      (λ n. cond_both (l == n) (part.up k z ∷ []) [] (λ ps. flat_map link_in ps ≡ [])
-      (λ same. ap (λ b. b ++ []) (way.link_up k z)) (λ apart. refl))
-      (λ j s. cond_both (l == j) (part.up k z ∷ []) [] (λ ps. flat_map (up_in s) ps ≡ [])
-      (λ same. ap (λ b. b ++ []) (way.up_up s k z ∙ cond_both (k == s) (by z) [] (λ b. b ≡ []) (λ h. way.silent z is) (λ h. refl)))
-      (λ apart. refl))
-  none_shares whose (of_link l p) none =
-      nothing_shared whose (of_link l p) (λ n. refl) (λ n. refl)
-      (λ n. cond_both (l == n) (p ∷ []) [] (λ ps. flat_map link_in ps ≡ []) (λ same. ap (λ b. b ++ []) (way.link_other p refl))
-      (λ apart. refl))
-      (λ j s. cond_both (l == j) (p ∷ []) [] (λ ps. flat_map (up_in s) ps ≡ []) (λ same. ap (λ b. b ++ []) (way.up_other s p refl))
-      (λ apart. refl))
+  parts_rest : (f : Part → List ℕ) → Rests part.entry_in f → (l : ℕ) (p : Point) → OnNone p → flat_map f (part_in l p) ≡ []
+  parts_rest f rests l (of_control (point.applied k r)) none = ap (λ b. b ++ []) (rests (part.applied r) (λ z is. absurd cc))
+  parts_rest f rests l (of_control (point.stopped why)) none = ap (λ b. b ++ []) (rests (part.stopped why) (λ z is. absurd cc))
+  parts_rest f rests l (of_control q) none = refl
+  parts_rest f rests l (of_link k p) none = said_none f k l p (rests p none)
+  parts_rest f rests l (of_plain k p) none = refl
 
-  -- every point, where its entry stands on a link of its own
-  point_shares : (before : List Point) (x : Machine) → Owned x (whose_in before) → (p : Point) → OwnAt before p
-      → SharesAt (whose_in before) p
-  point_shares before x owned (of_control (point.entry z)) own = by_link (link_of z) refl own
-    where
-      by_link : (o : Option ℕ) → link_of z ≡ o → IfSome o (λ l. whose_in before l ≡ control_plane)
-          → SharesAt (whose_in before) (of_control (point.entry z))
-      by_link None is h =
-          none_shares (whose_in before) (of_control (point.entry z))
-          (λ y told. (let same : z ≡ y = cc in subst (λ (v : Entry). link_of v ≡ None) same is))
-      by_link (Some k) is h = control_shares (whose_in before) z k is h
-  point_shares before x owned (of_link l (part.entry z)) own = by_link (link_of z) refl own
-    where
-      by_link : (o : Option ℕ) → link_of z ≡ o → IfSome o (λ k. (k ≡ l) × (whose_in before k ≡ inbound_link))
-          → SharesAt (whose_in before) (of_link l (part.entry z))
-      by_link None is h =
-          none_shares (whose_in before) (of_link l (part.entry z))
-          (λ y told. (let same : z ≡ y = cc in subst (λ (v : Entry). link_of v ≡ None) same is))
-      by_link (Some k) is h = link_shares (whose_in before) z k is l h.0 h.1
-  point_shares before x owned (of_link l (part.up s z)) own = by_link (link_of z) refl own
-    where
-      by_link : (o : Option ℕ) → link_of z ≡ o → IfSome o (λ u. whose_in before u ≡ upstream_of l s)
-          → SharesAt (whose_in before) (of_link l (part.up s z))
-      by_link None is h =
-          none_shares (whose_in before) (of_link l (part.up s z))
-          (λ y told. (let same : z ≡ y = cc in subst (λ (v : Entry). link_of v ≡ None) same is))
-      by_link (Some k) is h = up_shares (whose_in before) z k is l s h owned.one
-  point_shares before x owned (of_control q) own = none_shares (whose_in before) (of_control q) (λ y told. absurd cc)
-  point_shares before x owned (of_link l p) own = none_shares (whose_in before) (of_link l p) (λ y told. absurd cc)
+  plain_rest : (f : captured.Part → List ℕ) → Rests captured.entry_in f → (l : ℕ) (p : Point) → OnNone p → flat_map f (plain_in l p) ≡ []
+  plain_rest f rests l (of_control (point.applied k r)) none = ap (λ b. b ++ []) (rests (captured.applied r) (λ z is. absurd cc))
+  plain_rest f rests l (of_control (point.stopped why)) none = ap (λ b. b ++ []) (rests (captured.stopped why) (λ z is. absurd cc))
+  plain_rest f rests l (of_control q) none = refl
+  plain_rest f rests l (of_link k p) none = refl
+  plain_rest f rests l (of_plain k p) none = said_none f k l p (rests p none)
+
+  side_rests : (side : Side) (p : Point) → OnNone p → tells side p ≡ []
+  side_rests no_side p none = refl
+  side_rests (control_side n) (of_control (point.entry z)) none = ap (λ b. b ++ []) (way.none n z (none z refl))
+  side_rests (control_side n) (of_control q) none = refl
+  side_rests (control_side n) (of_link l p) none = refl
+  side_rests (control_side n) (of_plain l p) none = refl
+  side_rests (link_side l) p none = parts_rest link_in way.link_rests l p none
+  side_rests (up_side l s) p none = parts_rest (up_in s) (way.up_rests s) l p none
+  side_rests (plain_side l) p none = plain_rest captured_in way.plain_rests l p none
+  side_rests (relay_side l) p none = plain_rest relay_in way.relay_rests l p none
+
+  told_rests : (u : ℕ) (p : Point) → OnNone p → told u p ≡ []
+  told_rests u p none =
+      ⊎_elim (λ no_entry. ap (flat_map (on u)) no_entry)
+      (λ h. ap (flat_map (on u)) h.1 ∙ ap (λ b. b ++ []) (way.none u h.0 (none h.0 h.1))) (short p)
+
+  rests_shares : (before : List Point) (p : Point) → OnNone p → SharesAt before p
+  rests_shares before p none = record {
+    is = λ side u same. side_rests side p none ∙ sym (told_rests u p none);
+    none = λ side absent. side_rests side p none;
+  }
+
+  -- AN ENTRY ON THE LINK k
+
+  module _ (before : List Point) (z : Entry) (k : ℕ) (is : link_of z ≡ Some k) where
+    -- the link is this side, of which the point says what the trace does, or it isn't, and the point says nothing of it
+    abbrev Says : Point → Side → Type 0
+    Says p side = ((side_in before k ≡ side) × (tells side p ≡ by z ++ [])) ⊎ ((side_in before k ≢ side) × (tells side p ≡ []))
+
+    told_here : flat_map (on k) (z ∷ []) ≡ by z ++ []
+    told_here = ap (λ b. b ++ []) (way.mine k z is)
+
+    told_else : (n : ℕ) → (k ≡ n → ⊥) → flat_map (on n) (z ∷ []) ≡ []
+    told_else n apart = ap (λ b. b ++ []) (way.others n k z is apart)
+
+    entry_shares : UpstreamLaw (entries before) → side_in before k ≢ no_side → (p : Point) → entry_in p ≡ z ∷ []
+        → ((side : Side) → Says p side) → SharesAt before p
+    entry_shares law some p told_is says = record { is = is_so; none = λ side absent. none_so side absent (says side) }
+      where
+        one : (u : ℕ) → told u p ≡ flat_map (on u) (z ∷ [])
+        one u = ap (flat_map (on u)) told_is
+
+        by_says : (side : Side) → side ≢ no_side → (u : ℕ) → side_in before u ≡ side → Says p side → tells side p ≡ told u p
+        by_says side known u same (inl (mine, said)) =
+            said ∙ sym told_here ∙ sym (one k) ∙ ap (λ (j : ℕ). told j p) (once before law side known k u mine same)
+        by_says side known u same (inr (not, said)) =
+            said ∙ sym (one u ∙ told_else u (λ here. not (ap (side_in before) here ∙ same)))
+
+        is_so : (side : Side) (u : ℕ) → side_in before u ≡ side → tells side p ≡ told u p
+        is_so no_side u same = sym (one u ∙ told_else u (λ here. some (ap (side_in before) here ∙ same)))
+        is_so side u same = by_says side (λ none. cc) u same (says side)
+
+        none_so : (side : Side) → ((u : ℕ) → side_in before u ≡ side → ⊥) → Says p side → tells side p ≡ []
+        none_so side absent (inl (mine, said)) = absurd (absent k mine)
+        none_so side absent (inr (not, said)) = said
+
+    -- the link is another side
+    differs : (own : Side) → side_in before k ≡ own → (side : Side) → own ≢ side → side_in before k ≢ side
+    differs own mine side apart same = apart (sym mine ∙ same)
+
+    module _ (mine : whose_in before k ≡ control_plane) where
+      control_says : (side : Side) → Says (of_control (point.entry z)) side
+      control_says (control_side n) =
+          ⊎_elim (λ same. inl (ap (side_by k) mine ∙ ap control_side same, ap (λ (j : ℕ). flat_map (on j) (z ∷ [])) (sym same) ∙ told_here))
+          (λ apart. inr (differs (control_side k) (ap (side_by k) mine) (control_side n) (λ same. apart (cc)), told_else n apart))
+          (cases_eq k n)
+      control_says side = inr (differs (control_side k) (ap (side_by k) mine) side (λ same. cc), refl)
+
+    module _ (l : ℕ) (at_l : k ≡ l) (mine : whose_in before k ≡ inbound_link) where
+      link_says : (side : Side) → Says (of_link l (part.entry z)) side
+      link_says (link_side n) =
+          ⊎_elim (λ same. inl (
+            ap (side_by k) mine ∙ ap link_side (at_l ∙ same),
+            said_here link_in l n (part.entry z) same ∙ ap (λ b. b ++ []) (way.link_entry z),
+          ))
+          (λ apart. inr (
+            differs (link_side k) (ap (side_by k) mine) (link_side n) (λ same. apart (sym at_l ∙ (cc))),
+            said_else link_in l n (part.entry z) apart,
+          ))
+          (cases_eq l n)
+      link_says (up_side j s) = inr (
+        differs (link_side k) (ap (side_by k) mine) (up_side j s) (λ same. cc),
+        said_none (up_in s) l j (part.entry z) (way.up_entry s z),
+      )
+      link_says side = inr (differs (link_side k) (ap (side_by k) mine) side (λ same. cc), refl)
+
+    module _ (l s : ℕ) (mine : whose_in before k ≡ upstream_of l s) where
+      up_says : (side : Side) → Says (of_link l (part.up s z)) side
+      up_says (up_side j t) =
+          ⊎_elim (λ same. ⊎_elim (here same) (λ apart. inr (
+            differs (up_side l s) (ap (side_by k) mine) (up_side j t) (λ both. apart (cc)),
+            said_none (up_in t) l j (part.up s z) (way.up_up t s z ∙ ap (λ (b : Bool). cond b (by z) []) (ne_eqb s t apart)),
+          ))
+          (cases_eq s t))
+          (λ apart. inr (
+            differs (up_side l s) (ap (side_by k) mine) (up_side j t) (λ both. apart (cc)),
+            said_else (up_in t) l j (part.up s z) apart,
+          ))
+          (cases_eq l j)
+        where
+          here : l ≡ j → s ≡ t → Says (of_link l (part.up s z)) (up_side j t)
+          here at_j at_t = inl (
+            ap (side_by k) mine ∙ ap₂ up_side at_j at_t,
+            said_here (up_in t) l j (part.up s z) at_j
+                ∙ ap (λ b. b ++ []) (way.up_up t s z ∙ ap (λ (b : Bool). cond b (by z) []) (eq-eqb s t at_t)),
+          )
+      up_says (link_side n) = inr (
+        differs (up_side l s) (ap (side_by k) mine) (link_side n) (λ same. cc),
+        said_none link_in l n (part.up s z) (way.link_up s z),
+      )
+      up_says side = inr (differs (up_side l s) (ap (side_by k) mine) side (λ same. cc), refl)
+
+    module _ (l : ℕ) (at_l : k ≡ l) (mine : whose_in before k ≡ plain_link) where
+      plain_says : (side : Side) → Says (of_plain l (captured.entry z)) side
+      plain_says (plain_side n) =
+          ⊎_elim (λ same. inl (
+            ap (side_by k) mine ∙ ap plain_side (at_l ∙ same),
+            said_here captured_in l n (captured.entry z) same ∙ ap (λ b. b ++ []) (way.plain_entry z),
+          ))
+          (λ apart. inr (
+            differs (plain_side k) (ap (side_by k) mine) (plain_side n) (λ same. apart (sym at_l ∙ (cc))),
+            said_else captured_in l n (captured.entry z) apart,
+          ))
+          (cases_eq l n)
+      plain_says (relay_side n) = inr (
+        differs (plain_side k) (ap (side_by k) mine) (relay_side n) (λ same. cc),
+        said_none relay_in l n (captured.entry z) (way.relay_entry z),
+      )
+      plain_says side = inr (differs (plain_side k) (ap (side_by k) mine) side (λ same. cc), refl)
+
+    module _ (l : ℕ) (mine : whose_in before k ≡ relay_of l) where
+      relay_says : (side : Side) → Says (of_plain l (captured.up z)) side
+      relay_says (relay_side n) =
+          ⊎_elim (λ same. inl (
+            ap (side_by k) mine ∙ ap relay_side same,
+            said_here relay_in l n (captured.up z) same ∙ ap (λ b. b ++ []) (way.relay_up z),
+          ))
+          (λ apart. inr (
+            differs (relay_side l) (ap (side_by k) mine) (relay_side n) (λ same. apart (cc)),
+            said_else relay_in l n (captured.up z) apart,
+          ))
+          (cases_eq l n)
+      relay_says (plain_side n) = inr (
+        differs (relay_side l) (ap (side_by k) mine) (plain_side n) (λ same. cc),
+        said_none captured_in l n (captured.up z) (way.plain_up z),
+      )
+      relay_says side = inr (differs (relay_side l) (ap (side_by k) mine) side (λ same. cc), refl)
+
+  -- EVERY POINT, WHERE ITS ENTRY STANDS ON A LINK OF ITS OWN
+
+  module _ (before : List Point) (law : UpstreamLaw (entries before)) where
+    -- an entry stands on no link, or on one of which this holds
+    by_link : (P : ℕ → Type 0) (z : Entry) (p : Point) → entry_in p ≡ z ∷ [] → IfSome (link_of z) P
+        → ((k : ℕ) → link_of z ≡ Some k → P k → SharesAt before p) → SharesAt before p
+    by_link P z p told_is own each = split (link_of z) refl own
+      where
+        split : (o : Option ℕ) → link_of z ≡ o → IfSome o P → SharesAt before p
+        split None is h =
+            rests_shares before p
+            (λ y told_y. (let same : z ≡ y = (let both : z ∷ [] ≡ y ∷ [] = sym told_is ∙ told_y in cc) in
+            subst (λ (v : Entry). link_of v ≡ None) same is))
+        split (Some k) is h = each k is h
+
+    -- the owner of a link is somebody
+    owned : (k : ℕ) (o : Owner) → whose_in before k ≡ o → side_by k o ≢ no_side → side_in before k ≢ no_side
+    owned k o mine some same = some (sym (ap (side_by k) mine) ∙ same)
+
+    point_shares : (p : Point) → OwnAt before p → SharesAt before p
+    point_shares (of_control (point.entry z)) own =
+        by_link (λ k. whose_in before k ≡ control_plane) z (of_control (point.entry z)) refl own
+        (λ k is h. entry_shares before z k is law (owned k control_plane h (λ same. cc)) (of_control (point.entry z)) refl
+        (control_says before z k is h))
+    point_shares (of_link l (part.entry z)) own =
+        by_link (λ k. (k ≡ l) × (whose_in before k ≡ inbound_link)) z (of_link l (part.entry z)) refl own
+        (λ k is h. entry_shares before z k is law (owned k inbound_link h.1 (λ same. cc)) (of_link l (part.entry z)) refl
+        (link_says before z k is l h.0 h.1))
+    point_shares (of_link l (part.up s z)) own =
+        by_link (λ k. whose_in before k ≡ upstream_of l s) z (of_link l (part.up s z)) refl own
+        (λ k is h. entry_shares before z k is law (owned k (upstream_of l s) h (λ same. cc)) (of_link l (part.up s z)) refl
+        (up_says before z k is l s h))
+    point_shares (of_plain l (captured.entry z)) own =
+        by_link (λ k. (k ≡ l) × (whose_in before k ≡ plain_link)) z (of_plain l (captured.entry z)) refl own
+        (λ k is h. entry_shares before z k is law (owned k plain_link h.1 (λ same. cc)) (of_plain l (captured.entry z)) refl
+        (plain_says before z k is l h.0 h.1))
+    point_shares (of_plain l (captured.up z)) own =
+        by_link (λ k. whose_in before k ≡ relay_of l) z (of_plain l (captured.up z)) refl own
+        (λ k is h. entry_shares before z k is law (owned k (relay_of l) h (λ same. cc)) (of_plain l (captured.up z)) refl
+        (relay_says before z k is l h))
+    point_shares (of_control q) own = rests_shares before (of_control q) (λ z told_z. absurd cc)
+    point_shares (of_link l p) own = rests_shares before (of_link l p) (λ z told_z. absurd cc)
+    point_shares (of_plain l p) own = rests_shares before (of_plain l p) (λ z told_z. absurd cc)
 
   -- ONE POINT MORE
 
   -- a link that is somebody's stays so
-  abbrev Grows : (old new : ℕ → Owner) → Type 0
-  Grows old new = (n : ℕ) → (old n ≡ nobody) ⊎ (new n ≡ old n)
+  abbrev Grows : (old new : ℕ → Side) → Type 0
+  Grows old new = (n : ℕ) → (old n ≡ no_side) ⊎ (new n ≡ old n)
 
-  abbrev IsOnce : (ℕ → Owner) → Type 0
-  IsOnce whose = (l s u v : ℕ) → whose u ≡ upstream_of l s → whose v ≡ upstream_of l s → u ≡ v
+  tell_more : (points : List Point) (p : Point) (side : Side)
+      → all_tell (points ++ p ∷ []) side ≡ all_tell points side ++ tells side p
+  tell_more points p no_side = refl
+  tell_more points p (control_side n) =
+      ap (flat_map (on n)) (said_more point.entry_in control_in points p)
+      ∙ flat_map-append (on n) (point.entries (control_of points)) (flat_map point.entry_in (control_in p))
+  tell_more points p (link_side l) = said_more link_in (part_in l) points p
+  tell_more points p (up_side l s) = said_more (up_in s) (part_in l) points p
+  tell_more points p (plain_side l) = said_more captured_in (plain_in l) points p
+  tell_more points p (relay_side l) = said_more relay_in (plain_in l) points p
 
-  module _ (old new : ℕ → Owner) (points : List Point) (p : Point) (so_far : SharesIn old points) (now : SharesAt old p)
-      (grows : Grows old new) (once : IsOnce new) where
-    all_more : (n : ℕ) → flat_map (on n) (entries (points ++ p ∷ [])) ≡ flat_map (on n) (entries points) ++ told n p
-    all_more n = ap (flat_map (on n)) (one_more entry_in points p) ∙ flat_map-append (on n) (entries points) (entry_in p)
+  module _ (points : List Point) (p : Point) (so_far : SharesIn points) (now : SharesAt points p)
+      (grows : Grows (side_in points) (side_in (points ++ p ∷ []))) (law : UpstreamLaw (entries (points ++ p ∷ []))) where
+    told_more : (n : ℕ) → all_told (points ++ p ∷ []) n ≡ all_told points n ++ told n p
+    told_more n = said_more (on n) entry_in points p
 
-    stays : (o : Owner) → (nobody ≡ o → ⊥) → (n : ℕ) → old n ≡ o → new n ≡ o
-    stays o some n is = ⊎_elim (λ none. absurd (some (sym none ∙ is))) (λ same. same ∙ is) (grows n)
+    -- where no link was this side, nothing is said of it
+    tell_none : (side : Side) → ((u : ℕ) → side_in points u ≡ side → ⊥) → all_tell (points ++ p ∷ []) side ≡ []
+    tell_none side absent = tell_more points p side ∙ ap₂ (λ a b. a ++ b) (so_far.none side absent) (now.none side absent)
 
-    picked : (pick : Owner → List ℕ → List ℕ) → IsPick pick → (n : ℕ) (own : List ℕ) (more : List ℕ)
-        → own ≡ pick (old n) (flat_map (on n) (entries points)) → more ≡ pick (old n) (told n p)
-        → own ++ more ≡ pick (new n) (flat_map (on n) (entries (points ++ p ∷ [])))
-    picked pick picks n own more was is =
-        ap₂ (λ a b. a ++ b) was is ∙ sym (picks.joins (old n) (flat_map (on n) (entries points)) (told n p))
-        ∙ ap (pick (old n)) (sym (all_more n))
-        ∙ ⊎_elim (λ none. ap (pick (old n)) (empty none) ∙ picks.none (old n) ∙ sym (ap (pick (new n)) (empty none) ∙ picks.none (new n)))
-        (λ same. ap (λ o. pick o (flat_map (on n) (entries (points ++ p ∷ [])))) (sym same)) (grows n)
+    module _ (side : Side) (some : side ≢ no_side) where
+      stays : (n : ℕ) → side_in points n ≡ side → side_in (points ++ p ∷ []) n ≡ side
+      stays n is = ⊎_elim (λ none. absurd (some (sym is ∙ none))) (λ same. same ∙ is) (grows n)
+
+      -- where a link is new, none was its side before
+      newly : (u : ℕ) → side_in (points ++ p ∷ []) u ≡ side → side_in points u ≡ no_side → (v : ℕ) → side_in points v ≡ side → ⊥
+      newly u is none v mine =
+          let same = once (points ++ p ∷ []) law side some v u (stays v mine) is in
+          some (sym mine ∙ ap (side_in points) same ∙ none)
+
+      is_more : (u : ℕ) → side_in (points ++ p ∷ []) u ≡ side → all_tell (points ++ p ∷ []) side ≡ all_told (points ++ p ∷ []) u
+      is_more u is =
+          ⊎_elim (λ none. tell_none side (newly u is none)
+          ∙ sym (told_more u ∙ ap₂ (λ a b. a ++ b) (sym (so_far.is no_side u none)) (sym (now.is no_side u none))))
+          (λ same. tell_more points p side
+          ∙ ap₂ (λ a b. a ++ b) (so_far.is side u (sym same ∙ is)) (now.is side u (sym same ∙ is)) ∙ sym (told_more u)) (grows u)
+
+    share_more : SharesIn (points ++ p ∷ [])
+    share_more = record { is = is_so; none = none_so }
       where
-        empty : old n ≡ nobody → flat_map (on n) (entries (points ++ p ∷ [])) ≡ []
-        empty none = all_more n ∙ ap₂ (λ a b. a ++ b) (so_far.nobodys n none) (now.nobodys n none)
+        is_so : (side : Side) (u : ℕ) → side_in (points ++ p ∷ []) u ≡ side
+            → all_tell (points ++ p ∷ []) side ≡ all_told (points ++ p ∷ []) u
+        is_so no_side u is =
+            let was : side_in points u ≡ no_side = ⊎_elim (λ none. none) (λ same. sym same ∙ is) (grows u) in
+            sym (told_more u ∙ ap₂ (λ a b. a ++ b) (sym (so_far.is no_side u was)) (sym (now.is no_side u was)))
+        is_so side u is = is_more side (λ none. cc) u is
 
-    up_more : (l s : ℕ) → flat_map (up_in s) (parts_of l (points ++ p ∷ [])) ≡ flat_map (up_in s) (parts_of l points) ++ to_up l s p
-    up_more l s = ap (flat_map (up_in s)) (one_more (part_in l) points p) ∙ flat_map-append (up_in s) (parts_of l points) (part_in l p)
+        none_so : (side : Side) → ((u : ℕ) → side_in (points ++ p ∷ []) u ≡ side → ⊥) → all_tell (points ++ p ∷ []) side ≡ []
+        none_so no_side absent = refl
+        none_so side absent = tell_none side (λ u mine. absent u (stays side (λ none. cc) u mine))
 
-    up_none : (l s : ℕ) → ((u : ℕ) → old u ≢ upstream_of l s) → flat_map (up_in s) (parts_of l (points ++ p ∷ [])) ≡ []
-    up_none l s none = up_more l s ∙ ap₂ (λ a b. a ++ b) (so_far.no_up l s none) (now.no_up l s none)
+  nothing_told : (side : Side) → all_tell [] side ≡ []
+  nothing_told no_side = refl
+  nothing_told _ = refl
 
-    share_more : SharesIn new (points ++ p ∷ [])
-    share_more = record {
-      controls = λ n. ap (flat_map (on n)) (ap (flat_map point.entry_in) (one_more control_in points p)
-          ∙ flat_map-append point.entry_in (control_of points) (control_in p))
-          ∙ flat_map-append (on n) (point.entries (control_of points)) (flat_map point.entry_in (control_in p))
-          ∙ picked pick_control picks_control n _ _ (so_far.controls n) (now.controls n);
-      links = λ n. ap (flat_map link_in) (one_more (part_in n) points p) ∙ flat_map-append link_in (parts_of n points) (part_in n p)
-          ∙ picked pick_link picks_link n _ _ (so_far.links n) (now.links n);
-      ups = λ l s u is. ⊎_elim
-          (λ none. up_none l s (newly l s u is none)
-          ∙ sym (all_more u ∙ ap₂ (λ a b. a ++ b) (so_far.nobodys u none) (now.nobodys u none)))
-          (λ same. up_more l s ∙ ap₂ (λ a b. a ++ b) (so_far.ups l s u (sym same ∙ is)) (now.ups l s u (sym same ∙ is))
-          ∙ sym (all_more u)) (grows u);
-      no_up = λ l s none. up_none l s (λ u is. none u (stays (upstream_of l s) (λ same. cc) u is));
-      nobodys = λ n is. all_more n ∙ ⊎_elim (λ none. ap₂ (λ a b. a ++ b) (so_far.nobodys n none) (now.nobodys n none))
-          (λ same. ap₂ (λ a b. a ++ b) (so_far.nobodys n (sym same ∙ is)) (now.nobodys n (sym same ∙ is))) (grows n);
-    }
-      where
-        -- what is new was no stream's before
-        newly : (l s u : ℕ) → new u ≡ upstream_of l s → old u ≡ nobody → (v : ℕ) → old v ≢ upstream_of l s
-        newly l s u is none v mine =
-            let same = once l s u v is (stays (upstream_of l s) (λ h. cc) v mine) in
-            (let no : nobody ≡ upstream_of l s = sym none ∙ ap old same ∙ mine in cc)
-
-  all_share : (g : NodeConfig) (x : Machine) (points : List Point) → StandsFor g x points → SharesIn (whose_in points) points
+  all_share : (g : NodeConfig) (x : Machine) (points : List Point) → StandsFor g x points → SharesIn points
   all_share g x points (begins is empty) =
-      subst (λ (ps : List Point). SharesIn (whose_in ps) ps) (sym empty)
-      (record { controls = λ n. refl; links = λ n. refl; ups = λ l s u is. refl; no_up = λ l s none. refl; nobodys = λ n is. refl })
+      subst (λ (ps : List Point). SharesIn ps) (sym empty)
+      (record { is = λ side u same. nothing_told side; none = λ side absent. nothing_told side })
   all_share g y more (goes_on {x = x} {points = points} stands p steps are) =
-      let owned = all_owned g x points stands in
-      subst (λ (ps : List Point). SharesIn (whose_in ps) ps) (sym are)
-      (share_more (whose_in points) (whose_in (points ++ p ∷ [])) points p (all_share g x points stands)
-      (point_shares points x owned p (own_at g x points owned p y steps)) (owner_grows g x points stands p y steps)
-      (all_owned g y (points ++ p ∷ []) (goes_on stands p steps refl)).one)
+      subst (λ (ps : List Point). SharesIn ps) (sym are)
+      (share_more points p (all_share g x points stands)
+      (point_shares points (runs_dial_once g x points stands) p (own_at g x points (all_owned g x points stands) p y steps))
+      (λ n. ⊎_elim (λ none. inl (ap (side_by n) none)) (λ same. inr (ap (side_by n) same)) (owner_grows g x points stands p y steps n))
+      (runs_dial_once g y (points ++ p ∷ []) (goes_on stands p steps refl)))
 
 pub runs_share : RunsShareSides
 runs_share g x points stands =
-    let c = all_share came_on came_by came_in up_came_in came g x points stands in
-    let w = all_share went_on went_by went_in up_went_in went g x points stands in
+    let c = all_share came_on came_by came_in up_came_in plain.came_in plain.up_came_in came g x points stands in
+    let w = all_share went_on went_by went_in up_went_in plain.went_in plain.up_went_in went g x points stands in
     record {
       known = are_known g x points stands;
       control = λ l is. record {
-        came = sym (c.controls l ∙ ap (λ o. pick_control o (recv l (entries points))) is);
-        went = sym (w.controls l ∙ ap (λ o. pick_control o (sent l (entries points))) is);
+        came = sym (c.is (control_side l) l (ap (side_by l) is));
+        went = sym (w.is (control_side l) l (ap (side_by l) is));
       };
       link = λ l is. record {
-        came = sym (c.links l ∙ ap (λ o. pick_link o (recv l (entries points))) is);
-        went = sym (w.links l ∙ ap (λ o. pick_link o (sent l (entries points))) is);
+        came = sym (c.is (link_side l) l (ap (side_by l) is));
+        went = sym (w.is (link_side l) l (ap (side_by l) is));
       };
-      up = λ l s u is. record { came = sym (c.ups l s u is); went = sym (w.ups l s u is) };
-      none = λ l s none. record { came = c.no_up l s none; went = w.no_up l s none };
+      up = λ l s u is. record {
+        came = sym (c.is (up_side l s) u (ap (side_by u) is));
+        went = sym (w.is (up_side l s) u (ap (side_by u) is));
+      };
+      none = λ l s none. record {
+        came = c.none (up_side l s) (λ u same. none u (is_side (up_side l s) u (whose_in points u) same));
+        went = w.none (up_side l s) (λ u same. none u (is_side (up_side l s) u (whose_in points u) same));
+      };
+      plain = λ l is. record {
+        came = sym (c.is (plain_side l) l (ap (side_by l) is));
+        went = sym (w.is (plain_side l) l (ap (side_by l) is));
+      };
+      relay = λ l u is. record {
+        came = sym (c.is (relay_side l) u (ap (side_by u) is));
+        went = sym (w.is (relay_side l) u (ap (side_by u) is));
+      };
+      no_relay = λ l none. record {
+        came = c.none (relay_side l) (λ u same. none u (is_side (relay_side l) u (whose_in points u) same));
+        went = w.none (relay_side l) (λ u same. none u (is_side (relay_side l) u (whose_in points u) same));
+      };
     }

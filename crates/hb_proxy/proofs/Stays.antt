@@ -29,27 +29,27 @@ use Rattle.hb_world.specs.declared.entry.Entry.TheVariants as e
 use Rattle.hb_world.specs.declared.entry.Way.TheVariants as way
 use Rattle.hb_proxy.specs.Owners.{Owner, upstream_of}
 
--- no link is the upstream of the stream; this one is, or there is none
-abbrev pub IsNone : (ℕ → Owner) → (l s : ℕ) → Type 0
-IsNone whose l s = (u : ℕ) → whose u ≢ upstream_of l s
+-- no link is this owner's; this one is, or there is none
+abbrev pub IsNone : (ℕ → Owner) → Owner → Type 0
+IsNone whose o = (u : ℕ) → whose u ≢ o
 
-abbrev pub IsWeak : (ℕ → Owner) → (l s u : ℕ) → Type 0
-IsWeak whose l s u = (u ≡ 0) ⊎ (whose u ≡ upstream_of l s)
+abbrev pub IsWeak : (ℕ → Owner) → Owner → ℕ → Type 0
+IsWeak whose o u = (u ≡ 0) ⊎ (whose u ≡ o)
 
 abbrev pub OwnsBy : Stage → (ℕ → Owner) → (l s u : ℕ) → Type 0
-OwnsBy unasked whose l s u = IsNone whose l s × (u ≡ 0)
-OwnsBy (requested headers end) whose l s u = IsNone whose l s × (u ≡ 0)
-OwnsBy due whose l s u = IsNone whose l s × (u ≡ 0)
-OwnsBy (refusing status target) whose l s u = IsWeak whose l s u
-OwnsBy malformed whose l s u = IsWeak whose l s u
-OwnsBy (failed why) whose l s u = IsWeak whose l s u
-OwnsBy gone whose l s u = IsWeak whose l s u
+OwnsBy unasked whose l s u = IsNone whose (upstream_of l s) × (u ≡ 0)
+OwnsBy (requested headers end) whose l s u = IsNone whose (upstream_of l s) × (u ≡ 0)
+OwnsBy due whose l s u = IsNone whose (upstream_of l s) × (u ≡ 0)
+OwnsBy (refusing status target) whose l s u = IsWeak whose (upstream_of l s) u
+OwnsBy malformed whose l s u = IsWeak whose (upstream_of l s) u
+OwnsBy (failed why) whose l s u = IsWeak whose (upstream_of l s) u
+OwnsBy gone whose l s u = IsWeak whose (upstream_of l s) u
 OwnsBy stage whose l s u = whose u ≡ upstream_of l s
 
 abbrev pub Owns : (ℕ → Owner) → (l s : ℕ) → Tunnel → Type 0
 Owns whose l s t = OwnsBy t.stage whose l s t.up
 
-pub weakly : (whose : ℕ → Owner) (l s u : ℕ) (stage : Stage) → OwnsBy stage whose l s u → IsWeak whose l s u
+pub weakly : (whose : ℕ → Owner) (l s u : ℕ) (stage : Stage) → OwnsBy stage whose l s u → IsWeak whose (upstream_of l s) u
 weakly whose l s u unasked is = inl is.1
 weakly whose l s u (requested headers end) is = inl is.1
 weakly whose l s u due is = inl is.1
@@ -95,7 +95,7 @@ gone_stay l s t whose is = weakly whose l s t.up t.stage is
 left_stay : (l s : ℕ) (why : Cause) (t : Tunnel) → Stays l s t (left_with why t)
 left_stay l s why t whose is = by (t.up == 0) refl (weakly whose l s t.up t.stage is)
   where
-    by : (b : Bool) → (t.up == 0) ≡ b → IsWeak whose l s t.up → OwnsBy (cond b gone (over why)) whose l s t.up
+    by : (b : Bool) → (t.up == 0) ≡ b → IsWeak whose (upstream_of l s) t.up → OwnsBy (cond b gone (over why)) whose l s t.up
     by true zero weak = weak
     by false some (inl none) = absurd (false≢true (sym some ∙ eq-eqb t.up 0 none))
     by false some (inr mine) = mine
@@ -301,7 +301,7 @@ module _ (l : ℕ) (start : Resources) (a : Local) (parts : List Part) (stands :
   answered_stays s headers end is given whose old =
       by given end (subst (λ (stage : Stage). OwnsBy stage whose l s (a.link.tunnels s).up) is old).0
     where
-      by : (given : Verdict) (end : Bool) → IsNone whose l s → Owns whose l s (tunnel_for given headers end)
+      by : (given : Verdict) (end : Bool) → IsNone whose (upstream_of l s) → Owns whose l s (tunnel_for given headers end)
       by (Status status) end none = inl refl
       by Reset end none = inl refl
       by (Dial target) true none = (none, refl)

@@ -1,11 +1,14 @@
--- The access law over the whole trace: no byte goes to an upstream and no DATA frame begins on an inbound link, unless the resources
--- held then admit the tunnel's peer.
+-- The access law over the whole trace: no byte goes to an upstream and no DATA frame begins on an inbound link, and no byte goes on a
+-- link of the plain door, unless the resources held then admit the tunnel's peer.
 use Rattle.std.specs.Prelude.{⊤, ◌≡◌, ℕ, true, List, [], ◌∷◌, ◌++◌, length, Some}
 use Rattle.std.specs.List.{AllByRecursion}
 use Rattle.hb_base.specs.declared.peer.Peer.{Peer}
 use Rattle.hb_base.specs.declared.target.Target.{Target}
+use Rattle.hb_captured.specs.Part as captured
+use Rattle.hb_captured.specs.Sides.{header_of, judged_in}
 use Rattle.hb_conn.specs.Connection.{Connection}
 use Rattle.hb_conn.specs.Observed.{output, frames_begun}
+use Rattle.hb_front.specs.Reading.{Seen}
 use Rattle.hb_history.specs.History.{StandsFor}
 use Rattle.hb_inbound.specs.Part as part
 use Rattle.hb_inbound.specs.Part.{Part, moves, tellings}
@@ -19,9 +22,9 @@ use Rattle.hb_table.specs.declared.judgement.Judged.TheVariants.{Admitted}
 use Rattle.hb_world.specs.Trace.{recv, sent}
 use Rattle.hb_world.specs.declared.entry.Entry.{Entry}
 use Rattle.hb_world.specs.declared.entry.Entry.TheVariants as e
-use Rattle.hb_proxy.specs.Owners.{owner, inbound_link, upstream_of, link_of, AtEach}
-use Rattle.hb_proxy.specs.Points.{Point, entry_in, entries, control_of, parts_of}
-use Rattle.hb_proxy.specs.Sides.{AtParts}
+use Rattle.hb_proxy.specs.Owners.{owner, inbound_link, upstream_of, plain_link, relay_of, link_of, AtEach}
+use Rattle.hb_proxy.specs.Points.{Point, entry_in, entries, control_of, parts_of, plain_of}
+use Rattle.hb_proxy.specs.Sides.{AtParts, AtPlain}
 
 -- the resources held behind these points, by the control plane's responses, admit the peer that the link's front header told, at the
 -- target that was dialled for the stream
@@ -59,14 +62,33 @@ AccessAt g before l (part.up s e) = UpIsAdmitted g before l s e
 AccessAt g before l (part.entry e) = LinkIsAdmitted g before l e
 AccessAt g before l _ = ⊤
 
-abbrev pub AccessLaw : NodeConfig → List Point → Type 0
-AccessLaw g points = AtParts (AccessAt g) points
+-- the resources held behind these points admit the peer that the front header of a plain link told, without an identity, at its
+-- destination
+pub record PlainIsAdmitted (g : NodeConfig) (before : List Point) (l : ℕ) : Type 0 where
+  pub seen : Seen
+  pub told : header_of (plain_of l before) ≡ Some seen
+  pub admitted : judged_in (held g (control_of before)) seen ≡ Admitted
 
--- the same, by the link that an entry of the trace stands on: an upstream, or an inbound link
-abbrev pub EntryIsAdmitted : NodeConfig → List Point → Entry → Type 0
-EntryIsAdmitted g before z = (u : ℕ) → link_of z ≡ Some u
-    → ((l s : ℕ) → owner u (entries before) ≡ upstream_of l s → UpIsAdmitted g before l s z)
-    × (owner u (entries before) ≡ inbound_link → LinkIsAdmitted g before u z)
+abbrev pub PlainGoesAdmitted : NodeConfig → List Point → ℕ → Entry → Type 0
+PlainGoesAdmitted g before l (e.Went k bytes) = PlainIsAdmitted g before l
+PlainGoesAdmitted g before l _ = ⊤
+
+abbrev pub PlainAccessAt : NodeConfig → List Point → ℕ → captured.Part → Type 0
+PlainAccessAt g before l (captured.entry e) = PlainGoesAdmitted g before l e
+PlainAccessAt g before l (captured.up e) = PlainGoesAdmitted g before l e
+PlainAccessAt g before l _ = ⊤
+
+pub record AccessLaw (g : NodeConfig) (points : List Point) : Type 0 where
+  pub links : AtParts (AccessAt g) points
+  pub plain : AtPlain (PlainAccessAt g) points
+
+-- the same, by the link u that an entry of the trace stands on: an inbound link, the upstream of a tunnel, a plain link, or its upstream
+pub record EntryIsAdmitted (g : NodeConfig) (before : List Point) (z : Entry) (u : ℕ) : Type 0 where
+  pub link : owner u (entries before) ≡ inbound_link → LinkIsAdmitted g before u z
+  pub up : (l s : ℕ) → owner u (entries before) ≡ upstream_of l s → UpIsAdmitted g before l s z
+  pub plain : owner u (entries before) ≡ plain_link → PlainGoesAdmitted g before u z
+  pub relay : (l : ℕ) → owner u (entries before) ≡ relay_of l → PlainGoesAdmitted g before l z
 
 abbrev pub EntryLaw : NodeConfig → List Point → Type 0
-EntryLaw g points = AtEach (λ before p. (z : Entry) → entry_in p ≡ z ∷ [] → EntryIsAdmitted g before z) points
+EntryLaw g points =
+    AtEach (λ before p. (z : Entry) (u : ℕ) → entry_in p ≡ z ∷ [] → link_of z ≡ Some u → EntryIsAdmitted g before z u) points

@@ -3,4 +3,4 @@ use Rattle.hb_held.specs.Held.{Resources, nothing_held}
 use Rattle.hb_model.specs.declared.config.NodeConfig.{NodeConfig}
 
 abbrev pub at_start : NodeConfig → Resources
-at_start g = nothing_held g.network g.node g.inbound
+at_start g = nothing_held g.network g.node g.doors

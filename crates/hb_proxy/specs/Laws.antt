@@ -1,5 +1,14 @@
 -- What every run of the whole proxy obeys.
 use Rattle.std.specs.Prelude.{◌≡◌, ℕ, List, []}
+use Rattle.hb_captured.specs.Access as plain_access
+use Rattle.hb_captured.specs.Ends as plain_ends
+use Rattle.hb_captured.specs.Notes as plain_notes
+use Rattle.hb_captured.specs.Part as captured
+use Rattle.hb_captured.specs.Relay as plain_relay
+use Rattle.hb_captured.specs.Runs as plain
+use Rattle.hb_captured.specs.Settled as plain_settled
+use Rattle.hb_captured.specs.Sides as plain_sides
+use Rattle.hb_captured.specs.Verdicts as plain_verdicts
 use Rattle.hb_held.specs.Held.{Resources}
 use Rattle.hb_inbound.specs.Closes.{CloseLaw}
 use Rattle.hb_inbound.specs.Connections.{ConnectionLaw, WindowLaw}
@@ -22,16 +31,17 @@ use Rattle.hb_proxy.specs.Control.{EntryLaws, ControlLaws}
 use Rattle.hb_proxy.specs.Dials.{DialLaw}
 use Rattle.hb_proxy.specs.Ends.{EndLaw}
 use Rattle.hb_proxy.specs.Held.{at_start}
-use Rattle.hb_proxy.specs.Machine.{Machine, local}
+use Rattle.hb_proxy.specs.Machine.{Machine, local, plain_local}
 use Rattle.hb_proxy.specs.Owners.{OwnLaw, NumberLaw, UpstreamLaw}
-use Rattle.hb_proxy.specs.Points.{Point, entries, control_of, parts_of}
+use Rattle.hb_proxy.specs.Points.{Point, entries, control_of, parts_of, plain_of}
 use Rattle.hb_proxy.specs.Relay.{RelayLaw}
 use Rattle.hb_proxy.specs.Runs.{StandsFor}
 use Rattle.hb_proxy.specs.Sides.{SideLaw}
 
 -- THE PARTS
 
--- the control plane's points are a run of its machine, and each inbound link's parts one of the link's, with what that holds
+-- the control plane's points are a run of its machine, each inbound link's parts one of the link's, with what that holds, and each plain
+-- link's parts one of that
 abbrev pub ControlRuns : Type 0
 ControlRuns = (g : NodeConfig) (x : Machine) (points : List Point) → StandsFor g x points
     → model.StandsFor g x.control (control_of points)
@@ -40,7 +50,11 @@ abbrev pub LinksRun : Type 0
 LinksRun = (g : NodeConfig) (x : Machine) (points : List Point) (l : ℕ) → StandsFor g x points
     → inbound.StandsFor l (at_start g) (local x l) (parts_of l points)
 
--- so what is held, by the control plane and at each inbound link, is what the control plane's responses make
+abbrev pub PlainRuns : Type 0
+PlainRuns = (g : NodeConfig) (x : Machine) (points : List Point) (l : ℕ) → StandsFor g x points
+    → plain.StandsFor l (at_start g) (plain_local x l) (plain_of l points)
+
+-- so what is held, by the control plane and at each link, is what the control plane's responses make
 abbrev pub ControlHolds : Type 0
 ControlHolds = (g : NodeConfig) (x : Machine) (points : List Point) → StandsFor g x points
     → x.control.held ≡ messages.held g (control_of points)
@@ -48,6 +62,10 @@ ControlHolds = (g : NodeConfig) (x : Machine) (points : List Point) → StandsFo
 abbrev pub LinksHold : Type 0
 LinksHold = (g : NodeConfig) (x : Machine) (points : List Point) (l : ℕ) → StandsFor g x points
     → inbound_sides.held (at_start g) (parts_of l points) ≡ messages.held g (control_of points)
+
+abbrev pub PlainHolds : Type 0
+PlainHolds = (g : NodeConfig) (x : Machine) (points : List Point) (l : ℕ) → StandsFor g x points
+    → plain_sides.held (at_start g) (plain_of l points) ≡ messages.held g (control_of points)
 
 -- WHOSE A LINK IS
 
@@ -93,6 +111,19 @@ pub record LinkLaws (start : Resources) (l : ℕ) (parts : List Part) : Type 0 w
 abbrev pub RunsObeyLinks : Type 0
 RunsObeyLinks = (g : NodeConfig) (x : Machine) (points : List Point) (l : ℕ) → StandsFor g x points
     → LinkLaws (at_start g) l (parts_of l points)
+
+-- and of one of the plain door
+pub record PlainLaws (start : Resources) (l : ℕ) (parts : List captured.Part) : Type 0 where
+  pub relay : plain_relay.RelayLaw start parts
+  pub access : plain_access.AccessLaw start parts
+  pub ends : plain_ends.EndLaw l start parts
+  pub verdicts : plain_verdicts.VerdictLaw l start parts
+  pub notes : plain_notes.NoteLaw start l parts
+  pub settled : plain_settled.SettledLaw start parts
+
+abbrev pub RunsObeyPlain : Type 0
+RunsObeyPlain = (g : NodeConfig) (x : Machine) (points : List Point) (l : ℕ) → StandsFor g x points
+    → PlainLaws (at_start g) l (plain_of l points)
 
 -- WHAT IS SAID OF THE CONTROL PLANE
 

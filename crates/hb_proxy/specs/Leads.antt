@@ -1,13 +1,15 @@
 -- What a link does by itself, and an entry of it, in the whole: whoever follows one link's machine has a run of the whole.
 use Rattle.std.specs.Prelude.{⊤, ◌≡◌, ◌≢◌, ℕ, List, [], ◌∷◌, ◌++◌, map}
+use Rattle.hb_captured.specs.Part as captured_part
+use Rattle.hb_captured.specs.Runs as captured
 use Rattle.hb_inbound.specs.Part as part
 use Rattle.hb_inbound.specs.Part.{Part}
 use Rattle.hb_inbound.specs.Runs.{Local}
 use Rattle.hb_inbound.specs.Runs as inbound
 use Rattle.hb_model.specs.declared.config.NodeConfig.{NodeConfig}
-use Rattle.hb_proxy.specs.Machine.{Machine, local}
-use Rattle.hb_proxy.specs.Points.{Point, of_link}
-use Rattle.hb_proxy.specs.Runs.{LinkGuard, StandsFor}
+use Rattle.hb_proxy.specs.Machine.{Machine, local, plain_local}
+use Rattle.hb_proxy.specs.Points.{Point, of_link, of_plain}
+use Rattle.hb_proxy.specs.Runs.{LinkGuard, PlainGuard, StandsFor}
 
 -- a part that is no entry, nor what others do to the link
 abbrev pub IsInner : Part → Type 0
@@ -29,6 +31,7 @@ pub record GoesOn (g : NodeConfig) (x : Machine) (points : List Point) (l : ℕ)
   pub reached : local y l ≡ b
   pub others : (k : ℕ) → k ≢ l → y.inbound k ≡ x.inbound k
   pub control : y.control ≡ x.control
+  pub plain : y.plain ≡ x.plain
 
 -- what follows by itself on a link follows in the whole
 abbrev pub LinksLead : Type 0
@@ -39,3 +42,34 @@ LinksLead = (g : NodeConfig) (x : Machine) (points : List Point) (l : ℕ) (part
 abbrev pub LinksStep : Type 0
 LinksStep = (g : NodeConfig) (x : Machine) (points : List Point) (l : ℕ) (p : Part) (b : Local)
     → StandsFor g x points → LinkGuard x l p → inbound.Steps l (local x l) p b → GoesOn g x points l (p ∷ []) b
+
+-- LINKS OF THE PLAIN DOOR
+
+abbrev pub IsPlainInner : captured_part.Part → Type 0
+IsPlainInner (captured_part.entry e) = ⊥
+IsPlainInner (captured_part.up e) = ⊥
+IsPlainInner (captured_part.applied r) = ⊥
+IsPlainInner (captured_part.stopped cause) = ⊥
+IsPlainInner _ = ⊤
+
+abbrev pub PlainLeads : (l : ℕ) → captured.Local → List captured_part.Part → captured.Local → Type 0
+PlainLeads l a [] b = b ≡ a
+PlainLeads l a (p ∷ parts) b = IsPlainInner p × captured.MayGo l a p × PlainLeads l (captured.next a p) parts b
+
+pub record PlainGoesOn (g : NodeConfig) (x : Machine) (points : List Point) (l : ℕ) (parts : List captured_part.Part) (b : captured.Local)
+    : Type 0 where
+  pub y : Machine
+  pub stands : StandsFor g y (points ++ map (of_plain l) parts)
+  pub reached : plain_local y l ≡ b
+  pub others : (k : ℕ) → k ≢ l → y.plain k ≡ x.plain k
+  pub control : y.control ≡ x.control
+  pub inbound : y.inbound ≡ x.inbound
+
+abbrev pub PlainLinksLead : Type 0
+PlainLinksLead = (g : NodeConfig) (x : Machine) (points : List Point) (l : ℕ) (parts : List captured_part.Part) (b : captured.Local)
+    → StandsFor g x points → PlainLeads l (plain_local x l) parts b → PlainGoesOn g x points l parts b
+
+abbrev pub PlainLinksStep : Type 0
+PlainLinksStep = (g : NodeConfig) (x : Machine) (points : List Point) (l : ℕ) (p : captured_part.Part)
+    → StandsFor g x points → PlainGuard x l p → captured.MayGo l (plain_local x l) p
+    → PlainGoesOn g x points l (p ∷ []) (captured.next (plain_local x l) p)

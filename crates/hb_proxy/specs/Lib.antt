@@ -7,7 +7,9 @@ pub mod Held
 pub mod Laws
 pub mod Leads
 pub mod Machine
+pub mod Notes
 pub mod Owners
+pub mod PlainWaits
 pub mod Points
 pub mod Refused
 pub mod Relay

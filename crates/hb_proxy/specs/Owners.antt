@@ -4,6 +4,7 @@ use Rattle.hb_base.specs.declared.door.Door.{Door}
 use Rattle.hb_base.specs.declared.door.Door.TheVariants as door
 use Rattle.hb_base.specs.declared.door.Why.{Why}
 use Rattle.hb_base.specs.declared.door.Why.TheVariants as whys
+use Rattle.hb_captured.specs.Part as captured
 use Rattle.hb_inbound.specs.Part as part
 use Rattle.hb_inbound.specs.Part.{Part}
 use Rattle.hb_model.specs.Point as point
@@ -13,7 +14,7 @@ use Rattle.hb_world.specs.declared.entry.Entry.{Entry}
 use Rattle.hb_world.specs.declared.entry.Entry.TheVariants as e
 use Rattle.hb_world.specs.declared.entry.Way.{Way}
 use Rattle.hb_world.specs.declared.entry.Way.TheVariants as way
-use Rattle.hb_proxy.specs.Points.{Point, of_control, of_link, entries}
+use Rattle.hb_proxy.specs.Points.{Point, of_control, of_link, of_plain, entries}
 
 pub data Owner : Type 0 where
   nobody : Owner
@@ -23,14 +24,20 @@ pub data Owner : Type 0 where
   inbound_link : Owner
   -- the upstream of the tunnel on a stream of an inbound link
   upstream_of : (link stream : ℕ) → Owner
+  -- a link that was accepted at the plain door
+  plain_link : Owner
+  -- the upstream of a link of the plain door
+  relay_of : (link : ℕ) → Owner
 
 abbrev pub at_door : Door → Owner
 at_door door.Inbound = inbound_link
+at_door door.Plain = plain_link
 at_door _ = nobody
 
 abbrev pub dialled_for : Why → Owner
 dialled_for whys.Discovery = control_plane
 dialled_for (whys.Upstream link stream) = upstream_of link stream
+dialled_for (whys.Plain link) = relay_of link
 dialled_for _ = nobody
 
 abbrev pub owner_by : ℕ → Owner → Entry → Owner
@@ -64,14 +71,22 @@ link_of _ = None
 abbrev pub StandsOn : List Entry → Owner → Entry → Type 0
 StandsOn before whose entry = IfSome (link_of entry) (λ l. owner l before ≡ whose)
 
--- and on this link
+-- and on this link, which is this owner's
+abbrev pub StandsAs : List Entry → ℕ → Owner → Entry → Type 0
+StandsAs before link whose entry = IfSome (link_of entry) (λ l. (l ≡ link) × (owner l before ≡ whose))
+
 abbrev pub StandsAt : List Entry → ℕ → Entry → Type 0
-StandsAt before link entry = IfSome (link_of entry) (λ l. (l ≡ link) × (owner l before ≡ inbound_link))
+StandsAt before link entry = StandsAs before link inbound_link entry
 
 abbrev pub PartStands : List Entry → ℕ → Part → Type 0
 PartStands before l (part.entry e) = StandsAt before l e
 PartStands before l (part.up s e) = StandsOn before (upstream_of l s) e
 PartStands before l _ = ⊤
+
+abbrev pub PlainStands : List Entry → ℕ → captured.Part → Type 0
+PlainStands before l (captured.entry e) = StandsAs before l plain_link e
+PlainStands before l (captured.up e) = StandsOn before (relay_of l) e
+PlainStands before l _ = ⊤
 
 abbrev pub ControlStands : List Entry → point.Point → Type 0
 ControlStands before (point.entry e) = StandsOn before control_plane e
@@ -80,6 +95,7 @@ ControlStands before _ = ⊤
 abbrev pub OwnAt : List Point → Point → Type 0
 OwnAt before (of_control q) = ControlStands (entries before) q
 OwnAt before (of_link l p) = PartStands (entries before) l p
+OwnAt before (of_plain l p) = PlainStands (entries before) l p
 
 -- at each place of a run: what holds of the points before it and of the point there
 abbrev pub AtEach : (List Point → Point → Type 0) → List Point → Type 0
@@ -98,6 +114,7 @@ NumberMayStand before _ = ⊤
 abbrev pub NumberLaw : List Entry → Type 0
 NumberLaw trace = world.AtEach NumberMayStand trace
 
--- no two upstreams are of one stream of one link
-abbrev pub UpstreamLaw : List Entry → Type 0
-UpstreamLaw trace = (l s u v : ℕ) → owner u trace ≡ upstream_of l s → owner v trace ≡ upstream_of l s → u ≡ v
+-- no two upstreams are of one stream of one link, or of one link of the plain door
+pub record UpstreamLaw (trace : List Entry) : Type 0 where
+  pub streams : (l s u v : ℕ) → owner u trace ≡ upstream_of l s → owner v trace ≡ upstream_of l s → u ≡ v
+  pub relays : (l u v : ℕ) → owner u trace ≡ relay_of l → owner v trace ≡ relay_of l → u ≡ v

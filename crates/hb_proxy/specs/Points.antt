@@ -1,6 +1,8 @@
--- The points of a run of the whole proxy, in order: each is of the control plane, or of one inbound link with its tunnels.
+-- The points of a run of the whole proxy, in order: each is of the control plane, of one inbound link with its tunnels, or of one link of
+-- the plain door with its upstream.
 use Rattle.std.specs.Prelude.{ℕ, ◌==◌, if◌then◌else◌, List, [], ◌∷◌}
 use Rattle.std.specs.List.{flat_map}
+use Rattle.hb_captured.specs.Part as captured
 use Rattle.hb_inbound.specs.Part as part
 use Rattle.hb_inbound.specs.Part.{Part}
 use Rattle.hb_model.specs.Point as model
@@ -11,11 +13,14 @@ pub data Point : Type 0 where
   of_control : model.Point → Point
   -- this happens to the inbound link of this number
   of_link : (link : ℕ) → Part → Point
+  -- and to the link of the plain door of this one
+  of_plain : (link : ℕ) → captured.Part → Point
 
 -- the trace of a run
 abbrev pub entry_in : Point → List Entry
 entry_in (of_control q) = model.entry_in q
 entry_in (of_link l p) = part.entry_in p
+entry_in (of_plain l p) = captured.entry_in p
 
 abbrev pub entries : List Point → List Entry
 entries points = flat_map entry_in points
@@ -24,6 +29,7 @@ entries points = flat_map entry_in points
 abbrev pub control_in : Point → List model.Point
 control_in (of_control q) = q ∷ []
 control_in (of_link l p) = []
+control_in (of_plain l p) = []
 
 abbrev pub control_of : List Point → List model.Point
 control_of points = flat_map control_in points
@@ -38,6 +44,21 @@ seen _ = []
 abbrev pub part_in : ℕ → Point → List Part
 part_in link (of_control q) = seen q
 part_in link (of_link l p) = if l == link then p ∷ [] else []
+part_in link (of_plain l p) = []
 
 abbrev pub parts_of : ℕ → List Point → List Part
 parts_of link points = flat_map (part_in link) points
+
+-- the same of a link of the plain door
+abbrev pub plain_seen : model.Point → List captured.Part
+plain_seen (model.applied l r) = captured.applied r ∷ []
+plain_seen (model.stopped cause) = captured.stopped cause ∷ []
+plain_seen _ = []
+
+abbrev pub plain_in : ℕ → Point → List captured.Part
+plain_in link (of_control q) = plain_seen q
+plain_in link (of_link l p) = []
+plain_in link (of_plain l p) = if l == link then p ∷ [] else []
+
+abbrev pub plain_of : ℕ → List Point → List captured.Part
+plain_of link points = flat_map (plain_in link) points

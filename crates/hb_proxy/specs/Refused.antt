@@ -1,10 +1,14 @@
 -- Small steps that no run of the whole proxy takes, small runs that its laws refuse, and some that may go.
-use Rattle.std.specs.Prelude.{◌≡◌, ◌≢◌, ℕ, Bool, true, false, List, [], ◌∷◌, ◌++◌}
+use Rattle.std.specs.Prelude.{◌≡◌, ◌≢◌, ℕ, Bool, true, false, List, [], ◌∷◌, ◌++◌, length, map}
 use Rattle.hb_base.specs.declared.cause.Cause.{Cause}
 use Rattle.hb_base.specs.declared.door.Door.TheVariants as door
 use Rattle.hb_base.specs.declared.door.Why.TheVariants as whys
 use Rattle.hb_base.specs.declared.note.Note.{Note}
 use Rattle.hb_base.specs.declared.target.Target.{Target}
+use Rattle.hb_captured.specs.Captured as captured_link
+use Rattle.hb_captured.specs.Part as captured
+use Rattle.hb_captured.specs.Refused as plain
+use Rattle.hb_captured.specs.Sides.{judged_in}
 use Rattle.hb_disco.specs.declared.response.Response.{Response}
 use Rattle.hb_front.specs.Reading.{Seen}
 use Rattle.hb_held.specs.Outcome.{after_response}
@@ -15,16 +19,17 @@ use Rattle.hb_inbound.specs.RefusedRuns.{IsRevoked, StaysIn}
 use Rattle.hb_inbound.specs.Tunnel.{requested}
 use Rattle.hb_model.specs.Point as point
 use Rattle.hb_model.specs.declared.config.NodeConfig.{NodeConfig}
+use Rattle.hb_table.specs.declared.judgement.Judged.TheVariants.{Admitted}
 use Rattle.hb_verdict.specs.declared.verdict.Verdict.TheVariants.{Dial}
 use Rattle.hb_world.specs.declared.entry.Entry.TheVariants as e
-use Rattle.hb_proxy.specs.Access.{AccessLaw}
+use Rattle.hb_proxy.specs.Access.{AccessLaw, EntryLaw}
 use Rattle.hb_proxy.specs.Control.{EntryLaws}
 use Rattle.hb_proxy.specs.Dials.{DialLaw}
 use Rattle.hb_proxy.specs.Ends.{EndLaw}
 use Rattle.hb_proxy.specs.Held.{at_start}
 use Rattle.hb_proxy.specs.Machine.{Machine}
 use Rattle.hb_proxy.specs.Owners.{OwnLaw, NumberLaw, UpstreamLaw}
-use Rattle.hb_proxy.specs.Points.{Point, of_control, of_link, entries}
+use Rattle.hb_proxy.specs.Points.{Point, of_control, of_link, of_plain, entries}
 use Rattle.hb_proxy.specs.Relay.{RelayLaw}
 use Rattle.hb_proxy.specs.Runs.{Steps, StandsFor}
 
@@ -131,6 +136,67 @@ abbrev pub InventsByte : Type 0
 InventsByte = (to : Target) (seen : Seen) (target : Target) (note : Note) (r : Response) (byte : ℕ)
     → RelayLaw (lived to seen target note r ++ of_link 2 (part.up 1 (e.Went 3 (byte ∷ []))) ∷ []) → ⊥
 
+-- THE PLAIN DOOR
+
+-- bytes come on a plain link that wasn't accepted
+abbrev pub PlainComesUnborn : Type 0
+PlainComesUnborn = (g : NodeConfig) (x y : Machine) (l : ℕ) (bytes : List ℕ)
+    → (x.plain l).stage ≡ captured_link.unborn → Steps g x (of_plain l (captured.entry (e.Came l bytes))) y → ⊥
+
+abbrev pub PlainReadsUnborn : Type 0
+PlainReadsUnborn = (bytes : List ℕ) → OwnLaw (of_plain 1 (captured.entry (e.Came 1 bytes)) ∷ []) → ⊥
+
+-- the upstream of a plain link is read as a plain link
+abbrev pub PlainReadsUpstream : Type 0
+PlainReadsUpstream = (to : Target) (bytes : List ℕ)
+    → OwnLaw (of_plain 1 (captured.entry (e.Accepted 1 door.Plain)) ∷ of_plain 1 (captured.up (e.Dialled 2 to (whys.Plain 1)))
+    ∷ of_plain 2 (captured.entry (e.Came 2 bytes)) ∷ []) → ⊥
+
+-- one is accepted behind the end of the run
+abbrev pub PlainBehindEnd : Type 0
+PlainBehindEnd = (g : NodeConfig) (x y : Machine) (l : ℕ)
+    → x.control.over ≡ true → Steps g x (of_plain l (captured.entry (e.Accepted l door.Plain))) y → ⊥
+
+-- two upstreams are dialled for one
+abbrev pub PlainDialsTwice : Type 0
+PlainDialsTwice = (to : Target) → UpstreamLaw (e.Dialled 3 to (whys.Plain 2) ∷ e.Dialled 4 to (whys.Plain 2) ∷ []) → ⊥
+
+-- the control plane is link 1; the plain link 2 lives, of which these bytes came, its upstream is link 3
+abbrev pub plain_lived : Target → List ℕ → Seen → Note → List Point
+plain_lived to bytes seen note =
+    of_control (point.entry (e.Dialled 1 to whys.Discovery)) ∷ map (of_plain 2) (plain.lived bytes seen note)
+
+-- behind an update that no longer admits its peer a byte goes to the upstream: by its part, and by the link that the entry stands on
+abbrev pub plain_updated : Target → List ℕ → Seen → Note → Response → List Point
+plain_updated to bytes seen note r = plain_lived to bytes seen note ++ of_control (point.applied 1 r) ∷ []
+
+abbrev pub PlainWritesBehind : Type 0
+PlainWritesBehind = (g : NodeConfig) (to : Target) (bytes : List ℕ) (seen : Seen) (note : Note) (r : Response) (byte : ℕ)
+    → plain.IsRevoked (at_start g) seen r
+    → AccessLaw g (plain_updated to bytes seen note r ++ of_plain 2 (captured.up (e.Went 3 (byte ∷ []))) ∷ []) → ⊥
+
+abbrev pub PlainEntryBehind : Type 0
+PlainEntryBehind = (g : NodeConfig) (to : Target) (bytes : List ℕ) (seen : Seen) (note : Note) (r : Response) (byte : ℕ)
+    → plain.IsRevoked (at_start g) seen r
+    → EntryLaw g (plain_updated to bytes seen note r ++ of_plain 2 (captured.up (e.Went 3 (byte ∷ []))) ∷ []) → ⊥
+
+-- behind one that still admits it bytes may go
+abbrev pub PlainGoesOn : Type 0
+PlainGoesOn = (g : NodeConfig) (to : Target) (bytes : List ℕ) (seen : Seen) (note : Note) (r : Response) (more : List ℕ)
+    → judged_in (after_response (at_start g) r) seen ≡ Admitted
+    → AccessLaw g (plain_updated to bytes seen note r ++ of_plain 2 (captured.up (e.Went 3 more)) ∷ [])
+
+-- a byte goes to the upstream though none came behind the front header
+abbrev pub PlainInventsByte : Type 0
+PlainInventsByte = (to : Target) (header : List ℕ) (seen : Seen) (note : Note) (byte : ℕ) → length header ≡ seen.length
+    → RelayLaw (plain_lived to header seen note ++ of_plain 2 (captured.up (e.Went 3 (byte ∷ []))) ∷ []) → ⊥
+
+-- bytes come on another link while the plain link, which ended, isn't closed
+abbrev pub PlainReadsBehind : Type 0
+PlainReadsBehind = (g : NodeConfig) (to : Target) (bytes : List ℕ) (seen : Seen) (note : Note) (more : List ℕ)
+    → EndLaw g (plain_lived to bytes seen note ++ of_plain 2 (captured.up (e.Broke 3)) ∷ of_link 4 (part.entry (e.Came 4 more)) ∷ [])
+    → ⊥
+
 -- A DIAL THAT IS DUE, AND AN END
 
 -- a link is accepted before the control plane is dialled
@@ -154,8 +220,20 @@ begun to =
 abbrev pub RunMayGo : Type 0
 RunMayGo = (g : NodeConfig) → (x : Machine) × StandsFor g x (begun g.discovery)
 
+-- or one at the plain door
+abbrev pub plain_begun : Target → List Point
+plain_begun to =
+    of_control (point.entry (e.Dialled 1 to whys.Discovery)) ∷ of_plain 2 (captured.entry (e.Accepted 2 door.Plain))
+    ∷ of_plain 2 captured.welcomed ∷ []
+
+abbrev pub PlainRunMayGo : Type 0
+PlainRunMayGo = (g : NodeConfig) → (x : Machine) × StandsFor g x (plain_begun g.discovery)
+
 -- so the laws let it
-abbrev pub RunIsLawful : Type 0
-RunIsLawful = (g : NodeConfig) → let points = begun g.discovery in
+abbrev pub IsLawful : NodeConfig → List Point → Type 0
+IsLawful g points =
     OwnLaw points × NumberLaw (entries points) × DialLaw g points × EndLaw g points × AccessLaw g points × RelayLaw points
     × EntryLaws points
+
+abbrev pub RunIsLawful : Type 0
+RunIsLawful = (g : NodeConfig) → IsLawful g (begun g.discovery) × IsLawful g (plain_begun g.discovery)

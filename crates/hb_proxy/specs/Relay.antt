@@ -1,12 +1,13 @@
 -- The relay law over the whole trace: what is written to each side of a tunnel is a front of what came from the other.
 use Rattle.std.specs.Prelude.{◌≡◌, ◌≢◌, ℕ, List, [], ◌++◌}
+use Rattle.hb_captured.specs.Sides.{header_of, behind}
 use Rattle.hb_frames.specs.RawFrame.{RawFrame}
 use Rattle.hb_inbound.specs.Relay.{MayGoUp, MayEnd}
 use Rattle.hb_inbound.specs.Sides.{stream_came}
 use Rattle.hb_kept.specs.Payloads.{Began, payloads}
 use Rattle.hb_world.specs.Trace.{recv, sent}
-use Rattle.hb_proxy.specs.Owners.{owner, inbound_link, upstream_of}
-use Rattle.hb_proxy.specs.Points.{Point, entries, parts_of}
+use Rattle.hb_proxy.specs.Owners.{owner, inbound_link, upstream_of, relay_of, plain_link}
+use Rattle.hb_proxy.specs.Points.{Point, entries, parts_of, plain_of}
 use Rattle.hb_proxy.specs.Sides.{AtParts}
 
 -- the bytes that went to the upstream u of a stream are a front of the DATA that came on the stream
@@ -28,7 +29,23 @@ pub record SendsNone (points : List Point) (l s : ℕ) : Type 0 where
   pub began : Began (sent l (entries points)) begun
   pub none : payloads s begun ≡ []
 
--- so it is of each upstream, and of each inbound link; and bytes go, and a side ends, only where they may
+-- THE PLAIN DOOR
+
+-- the bytes that came on a plain link behind its front header, once that is whole
+abbrev pub came_behind : List Point → ℕ → List ℕ
+came_behind points l = behind (header_of (plain_of l points)) (recv l (entries points))
+
+-- the bytes that went to its upstream u are a front of those, and those that went on the link are a front of what came from the upstream
+pub record PlainRelaysUp (points : List Point) (l u : ℕ) : Type 0 where
+  pub rest : List ℕ
+  pub front : came_behind points l ≡ sent u (entries points) ++ rest
+
+pub record PlainRelaysDown (points : List Point) (l u : ℕ) : Type 0 where
+  pub rest : List ℕ
+  pub front : recv u (entries points) ≡ sent l (entries points) ++ rest
+
+-- So it is of each upstream, and of each inbound link; bytes go, and a side ends, only where they may. So it is of each plain link; on one
+-- without an upstream no byte goes
 pub record RelayLaw (points : List Point) : Type 0 where
   pub ups : (l s u : ℕ) → owner u (entries points) ≡ upstream_of l s → RelaysUp points l s u
   pub downs : (l s u : ℕ) → owner u (entries points) ≡ upstream_of l s → RelaysDown points l s u
@@ -36,3 +53,7 @@ pub record RelayLaw (points : List Point) : Type 0 where
       → SendsNone points l s
   pub goes : AtParts (λ before l p. MayGoUp (parts_of l before) p) points
   pub ends : AtParts (λ before l p. MayEnd (parts_of l before) p) points
+  pub plain_ups : (l u : ℕ) → owner u (entries points) ≡ relay_of l → PlainRelaysUp points l u
+  pub plain_downs : (l u : ℕ) → owner u (entries points) ≡ relay_of l → PlainRelaysDown points l u
+  pub plain_none : (l : ℕ) → owner l (entries points) ≡ plain_link → ((u : ℕ) → owner u (entries points) ≢ relay_of l)
+      → sent l (entries points) ≡ []

@@ -1,5 +1,9 @@
 -- Which point of the whole proxy may come next, and what a run of it is.
 use Rattle.std.specs.Prelude.{⊤, ◌≡◌, ◌≢◌, ℕ, ◌+◌, ◌||◌, Bool, true, false, List, [], ◌∷◌, ◌++◌}
+use Rattle.hb_captured.specs.Calm as captured_calm
+use Rattle.hb_captured.specs.Captured.{Captured}
+use Rattle.hb_captured.specs.Part as captured_part
+use Rattle.hb_captured.specs.Runs as captured
 use Rattle.hb_inbound.specs.Calm.{IsAnswered, IsCalm, IsQuiet}
 use Rattle.hb_inbound.specs.Inbound as link
 use Rattle.hb_inbound.specs.Inbound.{Inbound}
@@ -15,8 +19,8 @@ use Rattle.hb_model.specs.declared.config.NodeConfig.{NodeConfig}
 use Rattle.hb_world.specs.declared.entry.Entry.{Entry}
 use Rattle.hb_world.specs.declared.entry.Entry.TheVariants as e
 use Rattle.hb_world.specs.declared.entry.Way.TheVariants as way
-use Rattle.hb_proxy.specs.Machine.{Machine, fresh, local, with_control, with_part}
-use Rattle.hb_proxy.specs.Points.{Point, of_control, of_link}
+use Rattle.hb_proxy.specs.Machine.{Machine, fresh, local, plain_local, with_control, with_part, with_plain}
+use Rattle.hb_proxy.specs.Points.{Point, of_control, of_link, of_plain}
 
 -- WHICH ENTRIES GO FIRST
 
@@ -55,6 +59,11 @@ abbrev pub Lets : (first : Bool) → Inbound → Type 0
 Lets true x = IsCalm x
 Lets false x = IsQuiet x
 
+-- nor on a link of the plain door
+abbrev pub PlainLets : (first : Bool) → Captured → Type 0
+PlainLets true x = captured_calm.IsCalm x
+PlainLets false x = captured_calm.IsQuiet x
+
 -- no call of the control plane is due, and nothing more happens by itself on its links
 pub record ControlRests (m : control.Machine) : Type 0 where
   pub no_dial : m.dials ≡ false
@@ -70,17 +79,31 @@ BirthMayCome x _ = ⊤
 pub record ControlMayCome (x : Machine) (entry : Entry) : Type 0 where
   pub birth : BirthMayCome x entry
   pub links : (l : ℕ) → Lets (goes_first x.control entry) (x.inbound l)
+  pub plain : (l : ℕ) → PlainLets (goes_first x.control entry) (x.plain l)
 
 -- and one of an inbound link, or of an upstream of it
 pub record LinkMayCome (x : Machine) (l : ℕ) (entry : Entry) : Type 0 where
   pub birth : BirthMayCome x entry
   pub control : ControlRests x.control
   pub others : (k : ℕ) → k ≢ l → Lets (link_first (x.inbound l).phase entry) (x.inbound k)
+  pub plain : (k : ℕ) → PlainLets (link_first (x.inbound l).phase entry) (x.plain k)
 
--- the run is stopped only where every request, opening and end of a tunnel got what it gets
+-- and one of a link of the plain door, or of its upstream
+pub record PlainMayCome (x : Machine) (l : ℕ) (entry : Entry) : Type 0 where
+  pub birth : BirthMayCome x entry
+  pub control : ControlRests x.control
+  pub links : (k : ℕ) → Lets (is_act entry) (x.inbound k)
+  pub others : (k : ℕ) → k ≢ l → PlainLets (is_act entry) (x.plain k)
+
+-- the run is stopped only where every request, opening and end of a tunnel got what it gets, and nothing more happens by itself on a
+-- plain link
+pub record StopMayCome (x : Machine) : Type 0 where
+  pub links : (l : ℕ) → IsAnswered (x.inbound l)
+  pub plain : (l : ℕ) → captured_calm.IsCalm (x.plain l)
+
 abbrev pub ControlGuard : Machine → point.Point → Type 0
 ControlGuard x (point.entry e) = ControlMayCome x e
-ControlGuard x (point.stopped cause) = (l : ℕ) → IsAnswered (x.inbound l)
+ControlGuard x (point.stopped cause) = StopMayCome x
 ControlGuard x _ = ⊤
 
 -- responses are applied and the run is stopped for all links at once
@@ -91,6 +114,13 @@ LinkGuard x l (part.applied r) = ⊥
 LinkGuard x l (part.stopped cause) = ⊥
 LinkGuard x l _ = ⊤
 
+abbrev pub PlainGuard : Machine → ℕ → captured_part.Part → Type 0
+PlainGuard x l (captured_part.entry e) = PlainMayCome x l e
+PlainGuard x l (captured_part.up e) = PlainMayCome x l e
+PlainGuard x l (captured_part.applied r) = ⊥
+PlainGuard x l (captured_part.stopped cause) = ⊥
+PlainGuard x l _ = ⊤
+
 -- WHAT A POINT MAKES OF THE MACHINE, WHERE IT MAY COME NEXT
 abbrev pub Steps : NodeConfig → Machine → Point → Machine → Type 0
 Steps g x (of_control q) y =
@@ -98,6 +128,8 @@ Steps g x (of_control q) y =
 Steps g x (of_link l p) y =
     (next : Inbound) × inbound.Steps l (local x l) p (inbound.with_link next (local x l)) × LinkGuard x l p
     × (y ≡ with_part l p next x)
+Steps g x (of_plain l p) y =
+    captured.MayGo l (plain_local x l) p × PlainGuard x l p × (y ≡ with_plain l p (captured.next_link (x.plain l) p) x)
 
 -- a machine stands for the points of a run that leads to it
 pub data StandsFor (g : NodeConfig) : Machine → List Point → Type 0 where

@@ -1,5 +1,6 @@
 -- What the machine and the trace say of a link is the same: whether it lives, is open, and was shut.
 use Rattle.std.specs.Prelude.{⊤, ◌≡◌, ◌≢◌, ◌⊎◌, ℕ, ◌<◌, Bool, true, false, List, Some}
+use Rattle.hb_captured.specs.Captured as plain
 use Rattle.hb_inbound.specs.Inbound as inbound
 use Rattle.hb_inbound.specs.Tunnel.{Stage, opening, accepting, live}
 use Rattle.hb_model.specs.Discovery as discovery
@@ -10,7 +11,7 @@ use Rattle.hb_world.specs.declared.entry.Entry.{Entry}
 use Rattle.hb_proxy.specs.Machine.{Machine}
 use Rattle.hb_proxy.specs.Points.{Point, entries}
 use Rattle.hb_proxy.specs.Runs.{StandsFor}
-use Rattle.hb_proxy.specs.Ups.{Joins}
+use Rattle.hb_proxy.specs.Ups.{Joins, IsRelayOf}
 
 -- a link to the control plane, or an inbound link, is born and not closed
 abbrev pub IsThere : discovery.Phase → Type 0
@@ -23,8 +24,16 @@ IsLinkThere inbound.unborn = ⊥
 IsLinkThere inbound.closed = ⊥
 IsLinkThere phase = ⊤
 
+-- so is a plain link
+abbrev pub IsPlainThereBy : plain.Stage → (closed : Bool) → Type 0
+IsPlainThereBy plain.unborn closed = ⊥
+IsPlainThereBy stage closed = closed ≡ false
+
+abbrev pub IsPlainThere : plain.Captured → Type 0
+IsPlainThere x = IsPlainThereBy x.stage x.closed
+
 -- Whether a link is open: one to the control plane, where it is dialled, where bytes may come and go, and behind a connection error;
--- and the upstream of a tunnel, by how far that is
+-- and the upstream of a tunnel, or of a plain link, by how far that is
 abbrev pub OpenBy : discovery.Phase → Bool → Type 0
 OpenBy discovery.dialling opens = opens ≡ false
 OpenBy discovery.live opens = opens ≡ true
@@ -37,17 +46,47 @@ UpOpenBy accepting opens = opens ≡ true
 UpOpenBy live opens = opens ≡ true
 UpOpenBy stage opens = ⊤
 
--- the machine has a link of this number that isn't closed: to the control plane, inbound, or the upstream of a tunnel
+abbrev pub RelayOpenBy : plain.Stage → Bool → Type 0
+RelayOpenBy plain.opening opens = opens ≡ false
+RelayOpenBy plain.accepting opens = opens ≡ true
+RelayOpenBy plain.live opens = opens ≡ true
+RelayOpenBy stage opens = ⊤
+
+-- the machine has a link of this number that isn't closed: to the control plane, inbound, the upstream of a tunnel, plain, or the upstream
+-- of a plain one
+abbrev pub HasPlain : Machine → ℕ → Type 0
+HasPlain x l = IsPlainThere (x.plain l) ⊎ ((k : ℕ) × IsRelayOf (x.plain k) l)
+
 abbrev pub HasLink : Machine → ℕ → Type 0
 HasLink x l =
     IsThere (x.control.links l).phase
-    ⊎ (IsLinkThere (x.inbound l).phase ⊎ ((k s : ℕ) × Joins ((x.inbound k).tunnels s) l))
+    ⊎ (IsLinkThere (x.inbound l).phase ⊎ (((k s : ℕ) × Joins ((x.inbound k).tunnels s) l) ⊎ HasPlain x l))
 
 -- it never had one: no tunnel names the number
 pub record IsFresh (x : Machine) (l : ℕ) : Type 0 where
   pub control : (x.control.links l).phase ≡ discovery.unborn
   pub link : (x.inbound l).phase ≡ inbound.unborn
   pub up : (k s : ℕ) → ((x.inbound k).tunnels s).up ≢ l
+  pub plain : (x.plain l).stage ≡ plain.unborn
+  pub relay : (k : ℕ) → (x.plain k).up ≢ l
+
+-- what is said of the links of the plain door, and of their upstreams
+pub record PlainSeen (x : Machine) (trace : List Entry) : Type 0 where
+  -- a plain link that is there lives, is open, and was shut as it says
+  pub link : (l : ℕ) → IsPlainThere (x.plain l) → (lives l trace ≡ true) × (is_open l trace ≡ true)
+  pub link_shut : (l : ℕ) → IsPlainThere (x.plain l) → was_shut l trace ≡ (x.plain l).shut
+  -- its upstream that isn't closed lives, was shut as the link says, and is open as far as the link is
+  pub up : (l u : ℕ) → IsRelayOf (x.plain l) u
+      → (lives u trace ≡ true) × (was_shut u trace ≡ (x.plain l).up_shut) × RelayOpenBy (x.plain l).stage (is_open u trace)
+  pub no_zero : (x.plain 0).stage ≡ plain.unborn
+  -- no other part has it, and no two have one upstream
+  pub link_alone : (l : ℕ) → IsPlainThere (x.plain l)
+      → (IsThere (x.control.links l).phase → ⊥) × (IsLinkThere (x.inbound l).phase → ⊥)
+      × ((k s : ℕ) → Joins ((x.inbound k).tunnels s) l → ⊥)
+  pub up_alone : (k u : ℕ) → IsRelayOf (x.plain k) u
+      → (IsThere (x.control.links u).phase → ⊥) × (IsLinkThere (x.inbound u).phase → ⊥) × (IsPlainThere (x.plain u) → ⊥)
+      × ((j s : ℕ) → Joins ((x.inbound j).tunnels s) u → ⊥)
+  pub one_up : (j k u : ℕ) → IsRelayOf (x.plain j) u → IsRelayOf (x.plain k) u → j ≡ k
 
 -- What is said of a link: of one to the control plane, of an inbound one, of an upstream
 pub record Seen (x : Machine) (trace : List Entry) : Type 0 where
@@ -76,6 +115,8 @@ pub record Seen (x : Machine) (trace : List Entry) : Type 0 where
       → (IsThere (x.control.links l).phase → ⊥) × (IsLinkThere (x.inbound l).phase → ⊥)
   pub one_up : (k s j t u : ℕ) → Joins ((x.inbound k).tunnels s) u → Joins ((x.inbound j).tunnels t) u → (k ≡ j) × (s ≡ t)
   pub link_alone : (l : ℕ) → IsLinkThere (x.inbound l).phase → IsThere (x.control.links l).phase → ⊥
+  -- and the links of the plain door
+  pub plain : PlainSeen x trace
 
 -- so it is in every run
 abbrev pub RunsAreSeen : Type 0

@@ -1,6 +1,9 @@
 -- The settled law: at a wait nothing is left to be done but what sleeps.
-use Rattle.std.specs.Prelude.{⊤, ◌≡◌, ◌⊎◌, ℕ, ◌<◌, ◌≤◌, true, false, List, [], length}
+use Rattle.std.specs.Prelude.{⊤, ◌≡◌, ◌⊎◌, ℕ, ◌<◌, ◌≤◌, Bool, true, false, List, [], length}
 use Rattle.hb_base.specs.declared.door.Door.{Door}
+use Rattle.hb_captured.specs.Calm as plain_calm
+use Rattle.hb_captured.specs.Captured as plain
+use Rattle.hb_captured.specs.Captured.{Captured}
 use Rattle.hb_conn.specs.Connection.{Connection}
 use Rattle.hb_conn.specs.Observed as connection
 use Rattle.hb_inbound.specs.Calm.{IsQuiet, longest_front}
@@ -13,7 +16,7 @@ use Rattle.hb_model.specs.Puts.{IsAllPut}
 use Rattle.hb_model.specs.Runs as model
 use Rattle.hb_model.specs.declared.config.NodeConfig.{NodeConfig}
 use Rattle.hb_ready.specs.Sight.{asked, asleep}
-use Rattle.hb_tunnel.specs.Tunnel.{down_size}
+use Rattle.hb_tunnel.specs.Tunnel.{up_size, down_size}
 use Rattle.hb_world.specs.Trace.{AtEach}
 use Rattle.hb_world.specs.declared.entry.Entry.{Entry}
 use Rattle.hb_world.specs.declared.entry.Entry.TheVariants as e
@@ -22,7 +25,8 @@ use Rattle.hb_proxy.specs.Doors.{without_doors}
 use Rattle.hb_proxy.specs.Machine.{Machine}
 use Rattle.hb_proxy.specs.Points.{Point, control_of, entries}
 use Rattle.hb_proxy.specs.Runs.{StandsFor}
-use Rattle.hb_proxy.specs.Ups.{Joins}
+use Rattle.hb_proxy.specs.Ups.{Joins, IsRelayOf}
+use Rattle.hb_tunnel.specs.Way.{Way}
 
 -- WHAT SLEEPS
 
@@ -40,9 +44,13 @@ Finishes trace l = asleep (way.Finish l) trace ≡ true
 abbrev pub IsCrowded : Connection → Type 0
 IsCrowded c = 32000 < length (connection.output c)
 
+-- a way takes no more: it has ended, or its ring is full
+abbrev pub IsFull : (size : ℕ) → Way → Type 0
+IsFull size w = (w.has_ended ≡ true) ⊎ (size ≤ length w.held)
+
 -- an upstream has ended, or its ring is full
 abbrev pub TakesNoMore : Tunnel → Type 0
-TakesNoMore t = (t.ways.down.has_ended ≡ true) ⊎ (down_size ≤ length t.ways.down.held)
+TakesNoMore t = IsFull down_size t.ways.down
 
 -- EACH LINK THAT IS THERE
 
@@ -72,6 +80,22 @@ UpSettledBy opening trace u t = Finishes trace u
 UpSettledBy live trace u t = Reads trace u (TakesNoMore t) × Writes trace u (t.ways.up.held ≡ [])
 UpSettledBy stage trace u t = ⊥
 
+-- A link of the plain door is read until its front header is whole, and then as long as its peer sends and there is room, also while its
+-- upstream isn't open; what came of the upstream went, or it is asleep for writing
+abbrev pub PlainSettledBy : plain.Stage → (closed : Bool) → List Entry → ℕ → Captured → Type 0
+PlainSettledBy plain.unborn closed trace l x = ⊤
+PlainSettledBy plain.fronting closed trace l x = Reads trace l (plain_calm.longest_front ≤ length x.front)
+PlainSettledBy plain.opening closed trace l x = Reads trace l (IsFull up_size x.ways.up)
+PlainSettledBy plain.live closed trace l x = Reads trace l (IsFull up_size x.ways.up) × Writes trace l (x.ways.down.held ≡ [])
+PlainSettledBy (plain.over cause) closed trace l x = closed ≡ true
+PlainSettledBy stage closed trace l x = ⊥
+
+-- and its upstream
+abbrev pub RelaySettledBy : plain.Stage → List Entry → ℕ → Captured → Type 0
+RelaySettledBy plain.opening trace u x = Finishes trace u
+RelaySettledBy plain.live trace u x = Reads trace u (IsFull down_size x.ways.down) × Writes trace u (x.ways.up.held ≡ [])
+RelaySettledBy stage trace u x = ⊥
+
 -- THE LAW
 
 -- Nothing more happens by itself on any link, and no call is due: no dial, no shut and no close. No accept may give a link at a door.
@@ -84,6 +108,9 @@ pub record IsSettled (g : NodeConfig) (x : Machine) (points : List Point) (trace
   pub links : (l : ℕ) → LinkSettledBy (x.inbound l).phase trace l (x.inbound l)
   pub ups : (l s u : ℕ) → Joins ((x.inbound l).tunnels s) u
       → UpSettledBy ((x.inbound l).tunnels s).stage trace u ((x.inbound l).tunnels s)
+  pub plain_quiet : (l : ℕ) → plain_calm.IsQuiet (x.plain l)
+  pub plain : (l : ℕ) → PlainSettledBy (x.plain l).stage (x.plain l).closed trace l (x.plain l)
+  pub relays : (l u : ℕ) → IsRelayOf (x.plain l) u → RelaySettledBy (x.plain l).stage trace u (x.plain l)
 
 -- so it is in a run of the machine with these entries
 pub record SettledIn (g : NodeConfig) (trace : List Entry) : Type 0 where

@@ -1,5 +1,6 @@
--- Which link is the upstream of a tunnel.
+-- Which link is the upstream of a tunnel, or of a link of the plain door.
 use Rattle.std.specs.Prelude.{◌≡◌, ℕ, ◌<◌}
+use Rattle.hb_captured.specs.Captured.{Captured}
 use Rattle.hb_inbound.specs.Tunnel.{Tunnel, Stage, opening, accepting, live, failed, ended, over}
 
 -- the upstream of a tunnel that isn't closed, 0 where it has none
@@ -18,3 +19,7 @@ up_now t = up_by t.stage t
 -- it is this one
 abbrev pub Joins : Tunnel → ℕ → Type 0
 Joins t u = (0 < u) × (up_now t ≡ u)
+
+-- that of a link of the plain door is 0 before its dial and behind its close
+abbrev pub IsRelayOf : Captured → ℕ → Type 0
+IsRelayOf x u = (0 < u) × (x.up ≡ u)

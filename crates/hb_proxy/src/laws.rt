@@ -1,37 +1,50 @@
 //! Laws over every run of the whole proxy. Each is the contract of a function that does nothing.
 
-ghost use Rattle.hb_proxy.specs.Laws.{ControlRuns, LinksRun, ControlHolds, LinksHold, RunsOwn, RunsNumber, RunsDialOnce, RunsShareSides};
-ghost use Rattle.hb_proxy.specs.Laws.{RunsAdmit, RunsAdmitEntries, RunsRelay, RunsEnd, RunsObeyLinks};
-ghost use Rattle.hb_proxy.specs.Laws.{RunsDial, RunsObeyEntries, RunsObeyControl, RunsPutAll};
-ghost use Rattle.hb_proxy.specs.Leads.{LinksLead, LinksStep};
+ghost use Rattle.hb_proxy.specs.Laws.{ControlRuns, LinksRun, PlainRuns, ControlHolds, LinksHold, PlainHolds};
+ghost use Rattle.hb_proxy.specs.Laws.{RunsOwn, RunsNumber, RunsDialOnce, RunsShareSides, RunsAdmit, RunsAdmitEntries, RunsRelay};
+ghost use Rattle.hb_proxy.specs.Laws.{RunsEnd, RunsObeyLinks, RunsObeyPlain, RunsDial, RunsObeyEntries, RunsObeyControl, RunsPutAll};
+ghost use Rattle.hb_proxy.specs.Leads.{LinksLead, LinksStep, PlainLinksLead, PlainLinksStep};
 ghost use Rattle.hb_proxy.specs.Seen.{RunsAreSeen};
 ghost use Rattle.hb_proxy.specs.SeenRefused.{UpUnborn, ShutUntold, OpenUnheard, KeepsClosed, HasNone};
+ghost use Rattle.hb_proxy.specs.SeenRefused.{RelayUnborn, PlainShutUntold, RelayShutUntold, RelayOpenUnheard};
+ghost use Rattle.hb_proxy.specs.SeenRefused.{KeepsPlainClosed, KeepsRelayClosed, SharesRelay, IsBoth};
 ghost use Rattle.hb_proxy.specs.SettledRefused.{KeepsDown, KeepsUp, LeavesUnread, KeepsCredit, LeavesUnshut, LeavesUnended, LeavesUndialled};
 ghost use Rattle.hb_proxy.specs.SettledRefused.{LeavesUnwritten, LeavesLinkUnread, AsksNothing, AcceptsNothing, AsksOnce};
+ghost use Rattle.hb_proxy.specs.PlainWaits.{KeepsUp as KeepsPlainUp, KeepsDown as KeepsPlainDown, LeavesUpUnread, LeavesFrontUnread};
+ghost use Rattle.hb_proxy.specs.PlainWaits.{LeavesUnread as LeavesPlainUnread, LeavesUnshut as LeavesPlainUnshut};
+ghost use Rattle.hb_proxy.specs.PlainWaits.{LeavesUndialled as LeavesPlainUndialled, LeavesUnclosed};
+ghost use Rattle.hb_proxy.specs.PlainWaits.{ReadsNothing, AsksNoUpstream, ReadsOnce};
 ghost use Rattle.hb_proxy.specs.Doors.{DoorsTellNone};
 ghost use Rattle.hb_proxy.specs.Refused.{ComesUnborn, ReadsUnborn, ReadsAnothers, BornTwice, BornAgain, SeesAlone, SeeAll};
 ghost use Rattle.hb_proxy.specs.Refused.{AnswersAnother, AnswersControl, WritesBehind, ReadsBehind, TicksBehind, InventsByte};
 ghost use Rattle.hb_proxy.specs.Refused.{DialsTwice, ComesWhileDue, DialsWhileDue, AcceptsBehindEnd, StopsUnanswered};
 ghost use Rattle.hb_proxy.specs.Refused.{AcceptsFirst, ReadsEnded, GoesOnAdmitted, RunMayGo, RunIsLawful};
+ghost use Rattle.hb_proxy.specs.Refused.{PlainGoesOn, PlainRunMayGo};
+ghost use Rattle.hb_proxy.specs.Refused.{PlainComesUnborn, PlainReadsUnborn, PlainReadsUpstream, PlainBehindEnd, PlainDialsTwice};
+ghost use Rattle.hb_proxy.specs.Refused.{PlainWritesBehind, PlainEntryBehind, PlainInventsByte, PlainReadsBehind};
 
-/// The points of the control plane are a run of its machine, and what happens to each inbound link is a run of that link's, with the
-/// resources that the control plane holds: those of its responses.
+/// The points of the control plane are a run of its machine, and what happens to each inbound link, and to each link of the plain door,
+/// is a run of that link's, with the resources that the control plane holds: those of its responses.
 pub fn parts_are_runs()
     ensures control { ControlRuns }
     ensures links { LinksRun }
+    ensures plain { PlainRuns }
     ensures held { ControlHolds }
     ensures shared { LinksHold }
+    ensures plain_shared { PlainHolds }
 {}
 
-/// What follows by itself on an inbound link, and a part of it that the whole lets come, is a run of the whole, in which no other part
-/// changes: so whoever follows the machine of one link follows that of the whole.
+/// What follows by itself on an inbound link or one of the plain door, and a part of it that the whole lets come, is a run of the whole,
+/// in which no other part changes: so whoever follows the machine of one link follows that of the whole.
 pub fn links_lead()
     ensures step { LinksStep }
     ensures lead { LinksLead }
+    ensures plain_step { PlainLinksStep }
+    ensures plain_lead { PlainLinksLead }
 {}
 
-/// Each entry stands on a link of its own part, links are numbered in the order of births, and each upstream is of a stream of its own.
-/// So the bytes that came and went on a link are the same in the trace and in the link's part.
+/// Each entry stands on a link of its own part, links are numbered in the order of births, and each upstream is of a stream of its own,
+/// or of a link of the plain door. So the bytes that came and went on a link are the same in the trace and in the link's part.
 pub fn links_have_owners()
     ensures own { RunsOwn }
     ensures numbers { RunsNumber }
@@ -39,8 +52,9 @@ pub fn links_have_owners()
     ensures sides { RunsShareSides }
 {}
 
-/// A link to the control plane, an inbound link and the upstream of a tunnel, each that is born and not closed in the machine, lives
-/// behind the trace, and is open and was shut as the machine says; each link that lives is one of these, of one part alone.
+/// A link to the control plane, an inbound link, the upstream of a tunnel, a link of the plain door and its upstream, each that is born and
+/// not closed in the machine, lives behind the trace, and is open and was shut as the machine says; each link that lives is one of these,
+/// of one part alone.
 pub fn links_are_seen()
     ensures { RunsAreSeen }
 {}
@@ -50,22 +64,24 @@ pub fn doors_tell_of_no_link()
     ensures { DoorsTellNone }
 {}
 
-/// No byte goes to an upstream, and no DATA frame with payload begins on an inbound link, unless the resources held then, by the control
-/// plane's responses, admit the tunnel's peer at its target: so it is of each part, and of each entry of the trace by the link
-/// that it stands on.
+/// No byte goes to an upstream, no DATA frame with payload begins on an inbound link, and no byte goes on a plain link, unless the
+/// resources held then, by the control plane's responses, admit the tunnel's peer at its target: so it is of each part, and of each entry
+/// of the trace by the link that it stands on.
 pub fn peers_are_admitted()
     ensures parts { RunsAdmit }
     ensures entries { RunsAdmitEntries }
 {}
 
 /// The bytes that went to an upstream are a front of the DATA that came on its stream, and the DATA that went on the stream is a front of
-/// what came from the upstream. Bytes go and sides end only where they may.
+/// what came from the upstream. Bytes go and sides end only where they may. So it is of a plain link: what goes to its upstream is a front
+/// of what came behind its front header, and what goes on it is a front of what came from the upstream.
 pub fn bytes_are_relayed()
     ensures { RunsRelay }
 {}
 
 /// A tunnel that ended, of whatever link, has no upstream that isn't closed where a link is accepted or open, where bytes or an end come
-/// on any link, at a tick and a wait, and where bytes of a tunnel go; but for the one write behind a connection error.
+/// on any link, at a tick and a wait, and where bytes of a tunnel go; but for the one write behind a connection error. A plain link that
+/// ended is closed there, with its upstream.
 pub fn ends_go_first()
     ensures { RunsEnd }
 {}
@@ -74,6 +90,13 @@ pub fn ends_go_first()
 /// first cause that applies; its requests get the answers and the dials that are due; and each answer and end has its note.
 pub fn links_obey()
     ensures { RunsObeyLinks }
+{}
+
+/// The bytes of each link of the plain door go on as they came, behind its front header, and only while its peer is admitted at its
+/// destination. That gets the answer and the dial that are due; the link and its upstream end together for the first cause that applies,
+/// with their notes; and no work is put off.
+pub fn plain_links_obey()
+    ensures { RunsObeyPlain }
 {}
 
 /// At each entry of the trace, of whatever part, no link to the control plane has ended that isn't closed, but for the one write behind
@@ -123,6 +146,21 @@ pub fn revoked_tunnels_are_silent()
     ensures invents { InventsByte }
 {}
 
+/// Nothing comes on a link of the plain door that nobody bore, nor on the upstream of one as if it were one; none is accepted behind the
+/// end of the run, and none has two upstreams. Behind an update that no longer admits its peer no byte goes to its upstream; none goes
+/// there that didn't come behind the front header; and nothing comes on another link before one that ended is closed.
+pub fn plain_links_are_refused()
+    ensures comes { PlainComesUnborn }
+    ensures unborn { PlainReadsUnborn }
+    ensures upstream { PlainReadsUpstream }
+    ensures late { PlainBehindEnd }
+    ensures dialled { PlainDialsTwice }
+    ensures writes { PlainWritesBehind }
+    ensures entries { PlainEntryBehind }
+    ensures invents { PlainInventsByte }
+    ensures reads { PlainReadsBehind }
+{}
+
 /// No machine has a live tunnel whose upstream the trace never bore, nor a shut one whose upstream it never shut, nor one that is to be
 /// opened where its upstream is open; nor a link that was closed; and none is without a link that lives.
 pub fn other_links_are_refused()
@@ -131,6 +169,20 @@ pub fn other_links_are_refused()
     ensures opened { OpenUnheard }
     ensures closed { KeepsClosed }
     ensures lives { HasNone }
+{}
+
+/// No machine has a live link of the plain door whose upstream the trace never bore, nor one that is shut, or whose upstream is, where
+/// the trace never shut it, nor one that is to be opened where its upstream is open; nor one that was closed, or whose upstream was; and
+/// none has two of one upstream, or one with the number of an inbound link.
+pub fn other_plain_links_are_refused()
+    ensures unborn { RelayUnborn }
+    ensures shut { PlainShutUntold }
+    ensures up_shut { RelayShutUntold }
+    ensures opened { RelayOpenUnheard }
+    ensures closed { KeepsPlainClosed }
+    ensures up_closed { KeepsRelayClosed }
+    ensures shared { SharesRelay }
+    ensures both { IsBoth }
 {}
 
 /// Nothing is settled in front of a wait where bytes wait in a tunnel that may go, credit wasn't given, a shut, an end of a stream or a
@@ -151,9 +203,30 @@ pub fn waits_with_work_left_are_refused()
     ensures good { AsksOnce }
 {}
 
-/// A link may be accepted behind the dial of the control plane, and a byte may go behind an update that still admits the peer.
+/// Nothing is settled where bytes wait on a live link of the plain door either way, and what they go to isn't asleep for writing; where
+/// that link or its upstream has room, isn't read and isn't asleep for reading; nor where a shut, a dial or a close of one is due. Nor is
+/// anything where one was accepted and never read, or its upstream was never asked whether it is open. It is behind a read that moved
+/// nothing.
+pub fn plain_waits_with_work_left_are_refused()
+    ensures up { KeepsPlainUp }
+    ensures down { KeepsPlainDown }
+    ensures up_unread { LeavesUpUnread }
+    ensures unread { LeavesPlainUnread }
+    ensures front { LeavesFrontUnread }
+    ensures unshut { LeavesPlainUnshut }
+    ensures undialled { LeavesPlainUndialled }
+    ensures unclosed { LeavesUnclosed }
+    ensures reads { ReadsNothing }
+    ensures asks { AsksNoUpstream }
+    ensures good { ReadsOnce }
+{}
+
+/// A link may be accepted behind the dial of the control plane, at either door, and a byte may go behind an update that still admits the
+/// peer, in a tunnel and on a plain link.
 pub fn good_runs_may_go()
     ensures run { RunMayGo }
     ensures lawful { RunIsLawful }
     ensures goes_on { GoesOnAdmitted }
+    ensures plain { PlainRunMayGo }
+    ensures plain_goes_on { PlainGoesOn }
 {}

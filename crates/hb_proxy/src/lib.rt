@@ -1,5 +1,5 @@
-//! The whole proxy as a machine: its links to the control plane and its inbound links with their tunnels, as a product. It has no
-//! code: `specs` says which point may come next, and what every run obeys.
+//! The whole proxy as a machine: its links to the control plane, its inbound links with their tunnels, and its links of the plain door,
+//! as a product. It has no code: `specs` says which point may come next, and what every run obeys.
 #![tactic(auto)]
 
 pub mod laws;

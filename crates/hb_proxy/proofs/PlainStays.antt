@@ -1,0 +1,201 @@
+-- Whose the upstream of a link of the plain door is, by how far the link is, and that it stays so but for a birth.
+use Rattle.std.proofs.Common.{◌≡◌, inl, inr, ⊎_elim, ℕ, ◌||◌, Bool, true, false, cond, refl, ap, sym, ◌∙◌, subst}
+use Rattle.std.proofs.lemmas.Bool.{false≢true}
+use Rattle.std.specs.List.{list_any}
+use Rattle.hb_base.specs.declared.cause.Cause.{Cause}
+use Rattle.hb_base.specs.declared.cause.Cause.TheVariants as cause
+use Rattle.hb_captured.specs.Captured.{Captured, Stage, unborn, arriving, fronting, due, opening, accepting, live, failed, ended, over, is_judged, judged_by, rejudged, at_stage, ends_by, ends_for, fronted_by, hung_up, came_by, left_by, entered, up_entered}
+use Rattle.hb_captured.specs.Part as part
+use Rattle.hb_captured.specs.Part.{Part, entry, up, welcomed, crowded, lacked, misfronted, fronted, refused, accepted, left, done, applied, stopped}
+use Rattle.hb_captured.specs.Runs.{Local, MayCome, UpMayCome, MayGo, IsTried, next_link}
+use Rattle.hb_front.specs.Faults.{number_of}
+use Rattle.hb_held.specs.Held.{Resources}
+use Rattle.hb_table.specs.Judgement.{judged}
+use Rattle.hb_table.specs.declared.judgement.Judged.{Judged}
+use Rattle.hb_table.specs.declared.judgement.Judged.TheVariants.{Admitted, Unknown, Denied}
+use Rattle.hb_world.specs.Trace.{is_birth}
+use Rattle.hb_world.specs.declared.entry.Entry.{Entry}
+use Rattle.hb_world.specs.declared.entry.Entry.TheVariants as e
+use Rattle.hb_world.specs.declared.entry.Way.TheVariants as way
+use Rattle.hb_proxy.specs.Owners.{Owner, relay_of}
+use Rattle.hb_proxy.proofs.Stays.{IsNone, IsWeak}
+
+abbrev pub RelayBy : Stage → (ℕ → Owner) → (l u : ℕ) → Type 0
+RelayBy unborn whose l u = IsNone whose (relay_of l) × (u ≡ 0)
+RelayBy arriving whose l u = IsNone whose (relay_of l) × (u ≡ 0)
+RelayBy fronting whose l u = IsNone whose (relay_of l) × (u ≡ 0)
+RelayBy due whose l u = IsNone whose (relay_of l) × (u ≡ 0)
+RelayBy opening whose l u = whose u ≡ relay_of l
+RelayBy accepting whose l u = whose u ≡ relay_of l
+RelayBy live whose l u = whose u ≡ relay_of l
+RelayBy stage whose l u = IsWeak whose (relay_of l) u
+
+abbrev pub OwnsRelay : (ℕ → Owner) → ℕ → Captured → Type 0
+OwnsRelay whose l x = RelayBy x.stage whose l x.up
+
+pub relay_weakly : (whose : ℕ → Owner) (l u : ℕ) (stage : Stage) → RelayBy stage whose l u → IsWeak whose (relay_of l) u
+relay_weakly whose l u unborn is = inl is.1
+relay_weakly whose l u arriving is = inl is.1
+relay_weakly whose l u fronting is = inl is.1
+relay_weakly whose l u due is = inl is.1
+relay_weakly whose l u opening is = inr is
+relay_weakly whose l u accepting is = inr is
+relay_weakly whose l u live is = inr is
+relay_weakly whose l u _ is = is
+
+abbrev pub is_plain_born : Stage → Bool
+is_plain_born unborn = false
+is_plain_born _ = true
+
+-- what stays of a link over what is no birth: whatever the owners are, it has the upstream that it had
+pub record PlainStays (l : ℕ) (old new : Captured) : Type 0 where
+  pub born : is_plain_born new.stage ≡ true → is_plain_born old.stage ≡ true
+  pub relay : (whose : ℕ → Owner) → OwnsRelay whose l old → OwnsRelay whose l new
+
+pub same_plain : (l : ℕ) (x : Captured) → PlainStays l x x
+same_plain l x = record { born = λ is. is; relay = λ whose old. old }
+
+pub ends_stay : (l : ℕ) (why : Cause) (x : Captured) → PlainStays l x (ends_for why x)
+ends_stay l why x = record { born = born x.stage; relay = λ whose. relay whose x.stage }
+  where
+    born : (stage : Stage) → is_plain_born (ends_by why stage) ≡ true → is_plain_born stage ≡ true
+    born unborn is = is
+    born _ is = refl
+
+    relay : (whose : ℕ → Owner) (stage : Stage) → RelayBy stage whose l x.up → RelayBy (ends_by why stage) whose l x.up
+    relay whose unborn is = is
+    relay whose arriving is = inl is.1
+    relay whose fronting is = inl is.1
+    relay whose due is = inl is.1
+    relay whose opening is = inr is
+    relay whose accepting is = inr is
+    relay whose live is = inr is
+    relay whose _ is = is
+
+judged_stay : (l : ℕ) (j : Judged) (x : Captured) → PlainStays l x (judged_by j x)
+judged_stay l Admitted x = same_plain l x
+judged_stay l Unknown x = ends_stay l cause.Revoked x
+judged_stay l Denied x = ends_stay l cause.Revoked x
+
+pub rejudged_stays : (l : ℕ) (h : Resources) (x : Captured) → PlainStays l x (rejudged h x)
+rejudged_stays l h x = by (is_judged x.stage)
+  where
+    by : (b : Bool) → PlainStays l x (cond b (judged_by (judged h x.peer x.target) x) x)
+    by true = judged_stay l (judged h x.peer x.target) x
+    by false = same_plain l x
+
+-- A PART OF THE LINK
+
+module _ (l : ℕ) (x : Captured) where
+  -- it goes on from a stage to the next
+  goes : (stage : Stage) (y : Captured) → x.stage ≡ stage → is_plain_born stage ≡ true
+      → ((whose : ℕ → Owner) → RelayBy stage whose l x.up → OwnsRelay whose l y) → PlainStays l x y
+  goes stage y is born relay = record {
+    born = λ now. ap is_plain_born is ∙ born;
+    relay = λ whose old. relay whose (subst (λ (s : Stage). RelayBy s whose l x.up) is old);
+  }
+
+  -- or stays at it, with its upstream
+  rests : (y : Captured) → y.stage ≡ x.stage → y.up ≡ x.up → PlainStays l x y
+  rests y stage same = record {
+    born = λ now. ap is_plain_born (sym stage) ∙ now;
+    relay = λ whose old. subst (λ (s : Stage). RelayBy s whose l y.up) (sym stage) (subst (RelayBy x.stage whose l) (sym same) old);
+  }
+
+  came_stays : (bytes : _) (stage : Stage) → PlainStays l x (came_by stage bytes x)
+  came_stays bytes fronting = rests (came_by fronting bytes x) refl refl
+  came_stays bytes stage = rests (came_by stage bytes x) refl refl
+
+  hangs_up : (k : ℕ) → PlainStays l x (entered (e.Ended k) x)
+  hangs_up k = record { born = born x.stage; relay = λ whose. relay whose x.stage }
+    where
+      born : (stage : Stage) → is_plain_born (hung_up stage) ≡ true → is_plain_born stage ≡ true
+      born unborn is = is
+      born _ is = refl
+
+      relay : (whose : ℕ → Owner) (stage : Stage) → RelayBy stage whose l x.up → RelayBy (hung_up stage) whose l x.up
+      relay whose fronting is = inl is.1
+      relay whose _ is = is
+
+  entry_stays : (z : Entry) → MayCome l x z → is_birth z ≡ false → PlainStays l x (entered z x)
+  entry_stays (e.Accepted k d) may none = absurd (false≢true (sym none))
+  entry_stays (e.Dialled k to why) may none = absurd (false≢true (sym none))
+  entry_stays (e.Came k bytes) may none = came_stays bytes x.stage
+  entry_stays (e.Ended k) may none = hangs_up k
+  entry_stays (e.Went k bytes) may none = rests (entered (e.Went k bytes) x) refl refl
+  entry_stays (e.Broke k) may none = ends_stay l cause.PeerGone x
+  entry_stays (e.Shut k) may none = rests (entered (e.Shut k) x) refl refl
+  entry_stays (e.Closed k why) may none = rests (entered (e.Closed k why) x) refl refl
+  entry_stays z may none = same_plain l x
+
+  up_stays : (z : Entry) → UpMayCome l x z → is_birth z ≡ false → PlainStays l x (up_entered z x)
+  up_stays (e.Accepted k d) may none = absurd (false≢true (sym none))
+  up_stays (e.Dialled u to why) may none = absurd (false≢true (sym none))
+  up_stays (e.DialFailed to why) may none = ends_stay l cause.UpFault x
+  up_stays (e.Opened u) may none = goes opening (up_entered (e.Opened u) x) may.0.1 refl (λ whose is. is)
+  up_stays (e.Came u bytes) may none = rests (up_entered (e.Came u bytes) x) refl refl
+  up_stays (e.Ended u) may none = rests (up_entered (e.Ended u) x) refl refl
+  up_stays (e.Went u bytes) may none = rests (up_entered (e.Went u bytes) x) refl refl
+  up_stays (e.Broke u) may none = ends_stay l cause.UpFault x
+  up_stays (e.Shut u) may none = rests (up_entered (e.Shut u) x) refl refl
+  up_stays (e.Closed u why) may none =
+      goes (over why) (up_entered (e.Closed u why) x) may.1 refl
+      (λ whose is. subst (λ (s : Stage). RelayBy s whose l 0) (sym may.1) (inl refl))
+  up_stays z may none = same_plain l x
+
+  only : (c : Bool) → (c || false) ≡ false → c ≡ false
+  only true is = is
+  only false is = is
+
+  left_stays : PlainStays l x (at_stage (left_by x.stage) x)
+  left_stays = record { born = born x.stage; relay = λ whose. relay whose x.stage }
+    where
+      born : (stage : Stage) → is_plain_born (left_by stage) ≡ true → is_plain_born stage ≡ true
+      born unborn is = is
+      born _ is = refl
+
+      relay : (whose : ℕ → Owner) (stage : Stage) → RelayBy stage whose l x.up → RelayBy (left_by stage) whose l x.up
+      relay whose (failed cause) is = is
+      relay whose (ended cause) is = is
+      relay whose _ is = is
+
+-- a part that is no birth
+pub part_stays : (l : ℕ) (a : Local) (p : Part) → MayGo l a p → list_any is_birth (part.entry_in p) ≡ false
+    → PlainStays l a.link (next_link a.link p)
+part_stays l a (entry z) may none = entry_stays l a.link z may (only l a.link (is_birth z) none)
+part_stays l a (up z) may none = up_stays l a.link z may (only l a.link (is_birth z) none)
+part_stays l a welcomed may none = goes l a.link arriving (at_stage fronting a.link) may refl (λ whose is. is)
+part_stays l a crowded may none = ends_stay l cause.NoRoom a.link
+part_stays l a lacked may none = ends_stay l cause.NoMemory a.link
+part_stays l a (misfronted fault) may none = ends_stay l (cause.FrontFault (number_of fault)) a.link
+part_stays l a (fronted seen) may none = goes l a.link fronting (fronted_by seen due a.link) may.0.0 refl (λ whose is. is)
+part_stays l a (refused seen status made) may none =
+    goes l a.link fronting (fronted_by seen (over (cause.Refused status)) a.link) may.0.0 refl (λ whose is. inl is.1)
+part_stays l a (accepted made) may none = goes l a.link accepting (at_stage live a.link) may.0 refl (λ whose is. is)
+part_stays l a (left made) may none = left_stays l a.link
+part_stays l a (done made) may none = goes l a.link live (at_stage (over cause.Done) a.link) may.0 refl (λ whose is. inr is)
+part_stays l a (applied r) may none = same_plain l a.link
+part_stays l a (stopped why) may none = ends_stay l why a.link
+
+-- an entry stands on a link that is born, but for its birth
+tried_born : (x : Captured) → IsTried x → is_plain_born x.stage ≡ true
+tried_born x may = ⊎_elim (λ h. ap is_plain_born h.1) (λ later. ⊎_elim (λ h. ap is_plain_born h.1) (λ h. ap is_plain_born h.1) later) may
+
+pub stands_born : (l : ℕ) (x : Captured) (z : Entry) → MayCome l x z → is_birth z ≡ false → is_plain_born x.stage ≡ true
+stands_born l x (e.Accepted k d) may none = absurd (false≢true (sym none))
+stands_born l x (e.Came k bytes) may none = tried_born x may.1.0
+stands_born l x (e.Ended k) may none = tried_born x may.1.0
+stands_born l x (e.Went k bytes) may none = ap is_plain_born may.1.1
+stands_born l x (e.Broke k) may none = tried_born x may.1
+stands_born l x (e.Shut k) may none = ap is_plain_born may.2
+stands_born l x (e.Closed k why) may none = ap is_plain_born may.2
+stands_born l x (e.Balked (way.Read k)) may none = tried_born x may.1.0
+stands_born l x (e.Balked (way.Write k)) may none = ap is_plain_born may.1.1
+stands_born l x (e.Balked (way.Listen d to listening)) may none = absurd may
+stands_born l x (e.Balked (way.Accept d)) may none = absurd may
+stands_born l x (e.Balked (way.Finish k)) may none = absurd may
+stands_born l x (e.Dialled k to why) may none = absurd may
+stands_born l x (e.DialFailed to why) may none = absurd may
+stands_born l x (e.Opened k) may none = absurd may
+stands_born l x e.Tick may none = absurd may
+stands_born l x (e.Wait ready how) may none = absurd may

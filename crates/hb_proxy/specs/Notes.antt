@@ -1,0 +1,15 @@
+-- The notes that the points of a run make.
+use Rattle.std.specs.Prelude.{List, []}
+use Rattle.std.specs.List.{flat_map}
+use Rattle.hb_base.specs.declared.note.Note.{Note}
+use Rattle.hb_captured.specs.Part as captured
+use Rattle.hb_inbound.specs.Part as part
+use Rattle.hb_proxy.specs.Points.{Point, of_control, of_link, of_plain}
+
+abbrev pub note_in : Point → List Note
+note_in (of_control q) = []
+note_in (of_link l p) = part.note_in p
+note_in (of_plain l p) = captured.note_in p
+
+abbrev pub notes : List Point → List Note
+notes points = flat_map note_in points
