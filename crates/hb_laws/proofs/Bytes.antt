@@ -1,5 +1,5 @@
 -- No more bytes go to an upstream than came on its link.
-use Rattle.std.proofs.Common.{ℕ, ◌+◌, ◌-◌, ◌*◌, ◌≤◌, ◌==◌, ◌||◌, Bool, true, false, cond, List, [], ◌∷◌, ◌++◌, length, drop, Option, Some, None, ap, arith, length-append, length-drop}
+use Rattle.std.proofs.Common.{◌≡◌, ℕ, ◌+◌, ◌-◌, ◌*◌, ◌≤◌, ◌==◌, ◌||◌, Bool, true, false, cond, List, [], ◌∷◌, ◌++◌, length, drop, Option, Some, None, ap, arith, length-append, length-drop}
 use Rattle.std.proofs.lemmas.List.{length-take}
 use Rattle.std.specs.List.{flat_map}
 use Rattle.std.specs.Prelude.{slice_range}
@@ -71,3 +71,13 @@ stream_within s parts one =
       length-drop 24 (conn_came parts),
       behind_within (front_size parts) (link_came parts),
     )
+
+-- where all of a list is a front of it there is no byte behind
+pub not_more : (a b c : List ℕ) (byte : ℕ) → a ≡ (a ++ byte ∷ b) ++ c → ⊥
+not_more a b c byte is =
+    absurd (omega (
+      arith,
+      ap (λ (xs : List ℕ). length xs) is,
+      length-append (a ++ byte ∷ b) c,
+      length-append a (byte ∷ b),
+    ))

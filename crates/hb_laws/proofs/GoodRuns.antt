@@ -1,15 +1,21 @@
 -- Runs whose traces are lawful.
-use Rattle.std.proofs.Common.{◌≡◌, ◌≢◌, inl, inr, ℕ, zero, suc, ◌==◌, Bool, true, false, cond, List, [], ◌∷◌, ◌++◌, Some, None, refl, ap, sym, ◌∙◌, subst, arith}
+use Rattle.std.proofs.Common.{◌≡◌, ◌≢◌, inl, inr, ℕ, zero, suc, ◌<◌, ◌≤◌, ◌==◌, Bool, true, false, cond, List, [], ◌∷◌, ◌++◌, length, Some, None, refl, ap, sym, ◌∙◌, subst, arith}
 use Rattle.std.specs.FinMap.{len-empty}
 use Rattle.std.specs.List.{list_all}
 use Rattle.std.specs.Ordering.{nat_cmp}
 use Rattle.std.specs.Prelude.{nat_lt}
 use Rattle.std.proofs.lemmas.Bool.{cond_both, eq-eqb, false≢true, ltb-true, ne_eqb}
+use Rattle.hb_base.specs.declared.cause.Cause.{Cause}
 use Rattle.hb_base.specs.declared.cause.Cause.TheVariants as cause
+use Rattle.hb_captured.specs.Calm as plain_calm
+use Rattle.hb_captured.specs.Captured as plain
+use Rattle.hb_captured.specs.Captured.{peer_in}
+use Rattle.hb_captured.specs.Part as captured
+use Rattle.hb_captured.specs.Runs.{MayGo, next_link, verdict_note}
 use Rattle.hb_conn.specs.Connection.{fresh_server, taken}
 use Rattle.hb_conn.specs.Observed.{streams_open}
 use Rattle.hb_front.specs.Faults.{number_of}
-use Rattle.hb_front.specs.Reading.{Seen, IsAnswer, Whole}
+use Rattle.hb_front.specs.Reading.{Seen, IsAnswer, Whole, More}
 use Rattle.hb_front.specs.Written.{header_of, front_text}
 use Rattle.hb_front.specs.declared.fault.FrontFault.TheVariants.{BadSignature}
 use Rattle.hb_frames.specs.Frames.{AreOctets}
@@ -28,12 +34,13 @@ use Rattle.hb_world.specs.declared.entry.Entry.TheVariants as e
 use Rattle.hb_world.specs.declared.entry.ReadyItem.TheVariants as item
 use Rattle.hb_world.specs.declared.entry.Way.TheVariants as way
 use Rattle.hb_world.specs.declared.entry.Woken.TheVariants as woken
-use Rattle.hb_proxy.specs.Machine.{Machine, fresh, with_control, with_part}
-use Rattle.hb_proxy.specs.Points.{Point, of_control, of_link}
-use Rattle.hb_proxy.specs.Runs.{goes_first, BirthMayCome, Lets, ControlRests, StandsFor, begins, goes_on}
-use Rattle.hb_laws.specs.Good.{good_trace, GoodTraceIsLawful, good_link, GoodLinkIsLawful, source, destination, good_end, GoodEndIsLawful}
+use Rattle.hb_proxy.specs.Machine.{Machine, fresh, plain_local, with_control, with_part, with_plain}
+use Rattle.hb_proxy.specs.Points.{Point, of_control, of_link, of_plain}
+use Rattle.hb_proxy.specs.Runs.{goes_first, BirthMayCome, Lets, PlainLets, ControlRests, PlainGuard, StandsFor, begins, goes_on}
+use Rattle.hb_laws.specs.Good.{good_trace, GoodTraceIsLawful, good_link, GoodLinkIsLawful, source, destination, good_end, GoodEndIsLawful, good_plain, GoodPlainIsLawful, good_refusal, GoodRefusalIsLawful}
 use Rattle.hb_laws.specs.Refused.{dials, fails, waits, waits_tick, balks}
 use Rattle.hb_laws.specs.RefusedLinks.{accepts}
+use Rattle.hb_laws.specs.RefusedPlain.{accepts_plain}
 use Rattle.hb_laws.proofs.Runs.{run_is_lawful}
 use Rattle.hb_laws.proofs.Tests.{and_both}
 
@@ -60,10 +67,11 @@ module _ (g : NodeConfig) where
   on z x = with_control (point.entry z) (control.entered g z x.control) x
 
   goes : (x : Machine) (points : List Point) (z : Entry) → StandsFor g x points → model.MayCome g x.control z → BirthMayCome x z
-      → ((l : ℕ) → Lets (goes_first x.control z) (x.inbound l)) → StandsFor g (on z x) (points ++ of_control (point.entry z) ∷ [])
-  goes x points z stands may birth lets =
+      → ((l : ℕ) → Lets (goes_first x.control z) (x.inbound l)) → ((l : ℕ) → PlainLets (goes_first x.control z) (x.plain l))
+      → StandsFor g (on z x) (points ++ of_control (point.entry z) ∷ [])
+  goes x points z stands may birth lets plain =
       goes_on stands (of_control (point.entry z))
-      (control.entered g z x.control, (may, refl), record { birth = birth; links = lets }, refl) refl
+      (control.entered g z x.control, (may, refl), record { birth = birth; links = lets; plain = plain }, refl) refl
 
   abbrev asks : Entry
   asks = balks (way.Finish 1)
@@ -127,7 +135,7 @@ module _ (g : NodeConfig) where
   failed = record { no_dial = refl; goes = refl; calm = closed_calm }
 
   dialled : StandsFor g x1 (of_control (point.entry (dials g)) ∷ [])
-  dialled = goes (fresh g) [] (dials g) (begins refl refl) (refl, omega arith, refl, refl) refl (λ l. calm)
+  dialled = goes (fresh g) [] (dials g) (begins refl refl) (refl, omega arith, refl, refl) refl (λ l. calm) (λ l. tt)
 
   runs : StandsFor g (on waits x8) (of_control (point.entry (dials g)) ∷ of_control (point.entry asks) ∷ of_control (point.entry wakes)
       ∷ of_control (point.entry breaks) ∷ of_control (point.entry closes) ∷ of_control (point.entry waits_tick)
@@ -140,14 +148,14 @@ module _ (g : NodeConfig) where
       (goes x4 _ closes
       (goes x3 _ breaks
       (goes x2 _ wakes
-      (goes x1 _ asks dialled (refl, (unopened, refl)) tt (λ l. quiet))
-      unopened tt (λ l. quiet))
-      (inl (unopened, refl)) tt (λ l. quiet))
-      refl tt (λ l. calm))
-      over tt (λ l. quiet))
-      over tt (λ l. quiet))
-      (refl, refl, refl) tt (λ l. calm))
-      failed tt (λ l. quiet)
+      (goes x1 _ asks dialled (refl, (unopened, refl)) tt (λ l. quiet) (λ l. (tt, tt)))
+      unopened tt (λ l. quiet) (λ l. (tt, tt)))
+      (inl (unopened, refl)) tt (λ l. quiet) (λ l. (tt, tt)))
+      refl tt (λ l. calm) (λ l. tt))
+      over tt (λ l. quiet) (λ l. (tt, tt)))
+      over tt (λ l. quiet) (λ l. (tt, tt)))
+      (refl, refl, refl) tt (λ l. calm) (λ l. tt))
+      failed tt (λ l. quiet) (λ l. (tt, tt))
 
   -- AN INBOUND LINK
 
@@ -221,8 +229,12 @@ module _ (g : NodeConfig) where
   welcomed_in : StandsFor g y3 (of_control (point.entry (dials g)) ∷ of_link 2 (part.entry accepts) ∷ of_link 2 part.welcomed ∷ [])
   welcomed_in =
       goes_on
-      (goes_on dialled (of_link 2 (part.entry accepts))
-      (arrived, ((refl, refl, refl), refl), record { birth = (refl, refl); control = rests; others = λ k apart. quiet }, refl) refl)
+      (goes_on dialled (of_link 2 (part.entry accepts)) (
+        arrived,
+        ((refl, refl, refl), refl),
+        record { birth = (refl, refl); control = rests; others = λ k apart. quiet; plain = λ k. (tt, tt) },
+        refl,
+      ) refl)
       (of_link 2 part.welcomed) (taken_in, (refl, refl), tt, refl) refl
 
   link_runs : StandsFor g (on waits y6) (of_control (point.entry (dials g)) ∷ of_link 2 (part.entry accepts) ∷ of_link 2 part.welcomed
@@ -232,17 +244,17 @@ module _ (g : NodeConfig) where
       let came_in = goes_on welcomed_in (of_link 2 (part.entry began)) (
         read,
         ((refl, (inl (taken_quiet, refl), omega arith), are_octets (0 ∷ []) refl, omega arith, omega arith), refl),
-        record { birth = tt; control = rests; others = others y3 only3 false },
+        record { birth = tt; control = rests; others = others y3 only3 false; plain = λ k. (tt, tt) },
         refl,
       ) refl in
       let fault = goes_on came_in (of_link 2 (part.misfronted BadSignature)) (at_fault, (refl, inl refl, refl), tt, refl) refl in
       let ended = goes_on fault (of_link 2 (part.entry ends)) (
         gone,
         ((refl, record { answered = λ s. refl; rests = tt }, refl), refl),
-        record { birth = tt; control = rests; others = others y5 only5 true },
+        record { birth = tt; control = rests; others = others y5 only5 true; plain = λ k. tt },
         refl,
       ) refl in
-      goes y6 _ waits ended (record { no_dial = refl; goes = refl; calm = unopened_calm }) tt all_quiet
+      goes y6 _ waits ended (record { no_dial = refl; goes = refl; calm = unopened_calm }) tt all_quiet (λ l. (tt, tt))
 
   -- A LINK WHOSE PEER SENDS NO MORE
 
@@ -334,23 +346,138 @@ module _ (g : NodeConfig) where
       let came_in = goes_on welcomed_in (of_link 2 (part.entry fronted_entry)) (
         held,
         ((refl, (inl (taken_quiet, refl), omega arith), are_octets front refl, omega arith, omega arith), refl),
-        record { birth = tt; control = rests; others = others y3 only3 false },
+        record { birth = tt; control = rests; others = others y3 only3 false; plain = λ k. (tt, tt) },
         refl,
       ) refl in
       let served = goes_on came_in (of_link 2 (part.fronted told)) (serves, (refl, whole, None, refl, refl), tt, refl) refl in
       let ended = goes_on served (of_link 2 (part.entry (e.Ended 2))) (
         done,
         ((refl, (inr (serves_quiet, refl), omega arith)), refl),
-        record { birth = tt; control = rests; others = others z5 only_z5 false },
+        record { birth = tt; control = rests; others = others z5 only_z5 false; plain = λ k. (tt, tt) },
         refl,
       ) refl in
       let closed_it = goes_on ended (of_link 2 (part.entry (e.Closed 2 cause.Done))) (
         shut,
         ((refl, record { answered = λ s. refl; rests = tt }, done_now), refl),
-        record { birth = tt; control = rests; others = others z6 only_z6 true },
+        record { birth = tt; control = rests; others = others z6 only_z6 true; plain = λ k. tt },
         refl,
       ) refl in
-      goes z7 _ waits closed_it (record { no_dial = refl; goes = refl; calm = unopened_calm }) tt end_quiet
+      goes z7 _ waits closed_it (record { no_dial = refl; goes = refl; calm = unopened_calm }) tt end_quiet (λ l. (tt, tt))
+
+  -- A PLAIN LINK
+
+  -- a part of link 2 leads the machine on; no other plain link was ever born
+  abbrev on_plain : captured.Part → Machine → Machine
+  on_plain p x = with_plain 2 p (next_link (x.plain 2) p) x
+
+  goes_plain : (x : Machine) (points : List Point) (p : captured.Part) → StandsFor g x points → MayGo 2 (plain_local x 2) p
+      → PlainGuard x 2 p → StandsFor g (on_plain p x) (points ++ of_plain 2 p ∷ [])
+  goes_plain x points p stands may guard = goes_on stands (of_plain 2 p) (may, guard, refl) refl
+
+  abbrev Alone : Machine → Type 0
+  Alone x = (k : ℕ) → k ≢ 2 → x.plain k ≡ plain.no_link
+
+  alone : (x : Machine) (p : captured.Part) → Alone x → Alone (on_plain p x)
+  alone x p only k apart = ap (λ (b : Bool). cond b (next_link (x.plain 2) p) (x.plain k)) (ne_eqb k 2 apart) ∙ only k apart
+
+  abbrev p2 : Machine
+  p2 = on_plain (captured.entry accepts_plain) x1
+
+  abbrev p3 : Machine
+  p3 = on_plain captured.welcomed p2
+
+  alone3 : Alone p3
+  alone3 = alone p2 captured.welcomed (alone x1 (captured.entry accepts_plain) (λ k apart. refl))
+
+  -- nothing came of a header yet
+  more_first : IsAnswer [] More
+  more_first = (refl, omega arith)
+
+  welcomed_plain : StandsFor g p3 (of_control (point.entry (dials g)) ∷ of_plain 2 (captured.entry accepts_plain)
+      ∷ of_plain 2 captured.welcomed ∷ [])
+  welcomed_plain =
+      goes_plain p2 _ captured.welcomed
+      (goes_plain x1 _ (captured.entry accepts_plain) dialled (refl, refl, refl)
+      (record { birth = (refl, refl); control = rests; links = λ k. quiet; others = λ k apart. (tt, tt) }))
+      refl tt
+
+  -- bytes come while it waits for its header, and it is closed where it is over
+  came_plain : (bytes : List ℕ) → AreOctets bytes → 0 < length bytes → length bytes ≤ 4112
+      → StandsFor g (on_plain (captured.entry (e.Came 2 bytes)) p3) (of_control (point.entry (dials g))
+      ∷ of_plain 2 (captured.entry accepts_plain) ∷ of_plain 2 captured.welcomed ∷ of_plain 2 (captured.entry (e.Came 2 bytes)) ∷ [])
+  came_plain bytes octets some fits =
+      goes_plain p3 _ (captured.entry (e.Came 2 bytes)) welcomed_plain
+      (refl, (inl ((more_first, tt), refl), omega arith), (octets, some, fits)) (record {
+        birth = tt;
+        control = rests;
+        links = λ k. quiet;
+        others = λ k apart. subst plain_calm.IsQuiet (sym (alone3 k apart)) (tt, tt);
+      })
+
+  -- it is over and closed, and the proxy waits
+  closed_quiet : (x : Machine) (why : Cause) → (x.plain 2).stage ≡ plain.over why → (x.plain 2).up ≡ 0 → Alone x → (l : ℕ)
+      → plain_calm.IsQuiet ((on_plain (captured.entry (e.Closed 2 why)) x).plain l)
+  closed_quiet x why over none only l =
+      cond_both (l == 2) (plain.entered (e.Closed 2 why) (x.plain 2)) (x.plain l) plain_calm.IsQuiet
+      (λ is. rw over (tt, (refl, none)))
+      (λ is. subst plain_calm.IsQuiet (sym (only l (λ same. false≢true (sym is ∙ eq-eqb l 2 same)))) (tt, tt))
+
+  act_calm : (x : Machine) → Alone x → (k : ℕ) → k ≢ 2 → plain_calm.IsCalm (x.plain k)
+  act_calm x only k apart = subst plain_calm.IsCalm (sym (only k apart)) tt
+
+  abbrev fault : captured.Part
+  fault = captured.misfronted BadSignature
+
+  abbrev p4 : Machine
+  p4 = on_plain (captured.entry began) p3
+
+  abbrev p5 : Machine
+  p5 = on_plain fault p4
+
+  abbrev p6 : Machine
+  p6 = on_plain (captured.entry ends) p5
+
+  alone5 : Alone p5
+  alone5 = alone p4 fault (alone p3 (captured.entry began) alone3)
+
+  plain_runs : StandsFor g (on waits p6) (of_control (point.entry (dials g)) ∷ of_plain 2 (captured.entry accepts_plain)
+      ∷ of_plain 2 captured.welcomed ∷ of_plain 2 (captured.entry began) ∷ of_plain 2 fault ∷ of_plain 2 (captured.entry ends)
+      ∷ of_control (point.entry waits) ∷ [])
+  plain_runs =
+      let faulty = goes_plain p4 _ fault (came_plain (0 ∷ []) (are_octets (0 ∷ []) refl) (omega arith) (omega arith)) (refl, inl refl) tt in
+      let ended = goes_plain p5 _ (captured.entry ends) faulty (refl, tt, refl, refl)
+      (record { birth = tt; control = rests; links = λ k. calm; others = act_calm p5 alone5 }) in
+      goes p6 _ waits ended (record { no_dial = refl; goes = refl; calm = unopened_calm }) tt (λ l. quiet)
+      (closed_quiet p5 (cause.FrontFault (number_of BadSignature)) refl refl alone5)
+
+  abbrev refusal : captured.Part
+  refusal = captured.refused told 503 (verdict_note 2 503 (peer_in told) destination)
+
+  abbrev shuts : Entry
+  shuts = e.Closed 2 (cause.Refused 503)
+
+  abbrev q4 : Machine
+  q4 = on_plain (captured.entry fronted_entry) p3
+
+  abbrev q5 : Machine
+  q5 = on_plain refusal q4
+
+  abbrev q6 : Machine
+  q6 = on_plain (captured.entry shuts) q5
+
+  alone_q5 : Alone q5
+  alone_q5 = alone q4 refusal (alone p3 (captured.entry fronted_entry) alone3)
+
+  refusal_runs : StandsFor g (on waits q6) (of_control (point.entry (dials g)) ∷ of_plain 2 (captured.entry accepts_plain)
+      ∷ of_plain 2 captured.welcomed ∷ of_plain 2 (captured.entry fronted_entry) ∷ of_plain 2 refusal ∷ of_plain 2 (captured.entry shuts)
+      ∷ of_control (point.entry waits) ∷ [])
+  refusal_runs =
+      let refused = goes_plain q4 _ refusal (came_plain front (are_octets front refl) (omega arith) (omega arith))
+      ((refl, whole), inl refl, refl) tt in
+      let ended = goes_plain q5 _ (captured.entry shuts) refused (refl, tt, refl, refl)
+      (record { birth = tt; control = rests; links = λ k. calm; others = act_calm q5 alone_q5 }) in
+      goes q6 _ waits ended (record { no_dial = refl; goes = refl; calm = unopened_calm }) tt (λ l. quiet)
+      (closed_quiet q5 (cause.Refused 503) refl refl alone_q5)
 
 pub good_trace_is_lawful : GoodTraceIsLawful
 good_trace_is_lawful g = run_is_lawful g _ _ (good_trace g) (runs g) refl
@@ -360,3 +487,9 @@ good_link_is_lawful g = run_is_lawful g _ _ (good_link g) (link_runs g) refl
 
 pub good_end_is_lawful : GoodEndIsLawful
 good_end_is_lawful g = run_is_lawful g _ _ (good_end g) (end_runs g) refl
+
+pub good_plain_is_lawful : GoodPlainIsLawful
+good_plain_is_lawful g = run_is_lawful g _ _ (good_plain g) (plain_runs g) refl
+
+pub good_refusal_is_lawful : GoodRefusalIsLawful
+good_refusal_is_lawful g = run_is_lawful g _ _ (good_refusal g) (refusal_runs g) refl

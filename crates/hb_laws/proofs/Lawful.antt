@@ -6,6 +6,8 @@ use Rattle.std.proofs.lemmas.List.{append-nil}
 use Rattle.std.proofs.lemmas.List.Concat.{flat_map-append}
 use Rattle.hb_base.specs.declared.cause.Cause.{Cause}
 use Rattle.hb_base.specs.declared.door.Why.TheVariants as whys
+use Rattle.hb_captured.specs.Part as captured
+use Rattle.hb_captured.specs.Runs.{MayCome, UpMayCome}
 use Rattle.hb_history.specs.Heard.{ends_stream}
 use Rattle.hb_history.specs.Points.{frames_got}
 use Rattle.hb_inbound.specs.Part as part
@@ -23,7 +25,7 @@ use Rattle.hb_world.specs.declared.entry.ReadyItem.{ReadyItem}
 use Rattle.hb_world.specs.declared.entry.Woken.{Woken}
 use Rattle.hb_proxy.specs.Machine.{Machine}
 use Rattle.hb_proxy.specs.Owners.{link_of}
-use Rattle.hb_proxy.specs.Points.{Point, of_control, of_link, entry_in, entries, control_in, control_of}
+use Rattle.hb_proxy.specs.Points.{Point, of_control, of_link, of_plain, entry_in, entries, control_in, control_of}
 use Rattle.hb_proxy.specs.Runs.{Steps, StandsFor}
 use Rattle.hb_proxy.specs.Sides.{IsKnown}
 use Rattle.hb_proxy.proofs.Places.{at_points}
@@ -57,6 +59,11 @@ waits_on g x y before (of_link l (part.up s en)) ready how runs steps is =
     let same : en ≡ e.Wait ready how = cc in
     absurd ((subst (λ (z : Entry). Steps g x (of_link l (part.up s z)) y) same steps).1.0)
 waits_on g x y before (of_link l _) ready how runs steps is = absurd cc
+waits_on g x y before (of_plain l (captured.entry en)) ready how runs steps is =
+    let same : en ≡ e.Wait ready how = cc in absurd (subst (MayCome l (x.plain l)) same steps.0)
+waits_on g x y before (of_plain l (captured.up en)) ready how runs steps is =
+    let same : en ≡ e.Wait ready how = cc in absurd (subst (UpMayCome l (x.plain l)) same steps.0)
+waits_on g x y before (of_plain l _) ready how runs steps is = absurd cc
 
 -- a link to the control plane is dialled, and born
 dialled_so : (l : ℕ) (x : Entry) → is_control_of l x ≡ true → is_dialled_of l x ≡ true

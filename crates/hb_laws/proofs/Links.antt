@@ -1,6 +1,6 @@
 -- What the parts of an inbound link tell, the trace tells; and for which causes a link is closed.
 use Rattle.std.proofs.Common.{◌≡◌, ℕ, ◌==◌, Bool, true, false, cond, List, [], ◌∷◌, fold, refl, ap, sym, ◌∙◌}
-use Rattle.std.specs.List.{list_any}
+use Rattle.std.specs.List.{list_any, flat_map}
 use Rattle.std.proofs.lemmas.Bool.{false≢true}
 use Rattle.std.proofs.lemmas.List.Folds.{list_any-append}
 use Rattle.hb_base.specs.declared.cause.Cause.{Cause}
@@ -20,7 +20,7 @@ use Rattle.hb_model.specs.declared.config.NodeConfig.{NodeConfig}
 use Rattle.hb_world.specs.declared.entry.Entry.{Entry}
 use Rattle.hb_world.specs.declared.entry.Entry.TheVariants as e
 use Rattle.hb_proxy.specs.Machine.{Machine}
-use Rattle.hb_proxy.specs.Points.{Point, of_control, of_link, entry_in, entries, control_in, control_of, part_in, parts_of}
+use Rattle.hb_proxy.specs.Points.{Point, of_control, of_link, of_plain, entry_in, entries, control_in, control_of, part_in, parts_of}
 use Rattle.hb_proxy.specs.Runs.{Steps, StandsFor, begins, goes_on}
 use Rattle.hb_laws.proofs.Tests.{or_none, none_of_both}
 
@@ -34,6 +34,29 @@ breaks_part (part.entry z) = breaks z
 breaks_part (part.stopped why) = true
 breaks_part _ = false
 
+-- where no point says so while the run goes on, no part that points tell does
+module _ {A : Type 0} (told : Point → List A) (says : Entry → Bool) (is : A → Bool)
+    (here : (g : NodeConfig) (x y : Machine) (p : Point) → Steps g x p y → list_any says (entry_in p) ≡ false
+    → list_any is_stop (control_in p) ≡ false → list_any is (told p) ≡ false) where
+  pub none_told : (g : NodeConfig) (x : Machine) (points : List Point) → StandsFor g x points → list_any says (entries points) ≡ false
+      → list_any is_stop (control_of points) ≡ false → list_any is (flat_map told points) ≡ false
+  none_told g x points (begins fresh none) whole runs = ap (λ (ps : List Point). list_any is (flat_map told ps)) none
+  none_told g y more (goes_on {x = x} {points = points} stands p steps are) whole runs =
+      let wholes = none_of_both (list_any says (entries points)) (list_any says (entry_in p))
+      (sym (list_any-append says (entries points) (entry_in p)) ∙ sym (ap (list_any says) (ap entries are ∙ one_more entry_in points p))
+      ∙ whole) in
+      let run = none_of_both (list_any is_stop (control_of points)) (list_any is_stop (control_in p))
+      (sym (list_any-append is_stop (control_of points) (control_in p))
+      ∙ sym (ap (list_any is_stop) (ap control_of are ∙ one_more control_in points p)) ∙ runs) in
+      ap (list_any is) (ap (flat_map told) are ∙ one_more told points p)
+      ∙ list_any-append is (flat_map told points) (told p)
+      ∙ or_none (list_any is (flat_map told points)) (list_any is (told p))
+      (none_told g x points stands wholes.0 run.0) (here g x y p steps wholes.1 run.1)
+
+pub none_of_one : {A : Type 0} (is : A → Bool) (p : A) (b : Bool) → is p ≡ false → list_any is (cond b (p ∷ []) []) ≡ false
+none_of_one is p true none = or_none (is p) false none refl
+none_of_one is p false none = refl
+
 -- where no call failed in the trace and the run goes on, no part of a link is one
 module _ (l : ℕ) where
   seen_breaks : (q : point.Point) → is_stop q ≡ false → list_any breaks_part (part_in l (of_control q)) ≡ false
@@ -45,31 +68,18 @@ module _ (l : ℕ) where
   seen_breaks (point.used k n) none = refl
   seen_breaks (point.put k bytes) none = refl
 
-  entry_breaks : (p : Part) → (breaks_part p ≡ false) → (b : Bool) → list_any breaks_part (cond b (p ∷ []) []) ≡ false
-  entry_breaks p none true = or_none (breaks_part p) false none refl
-  entry_breaks p none false = refl
-
   here : (g : NodeConfig) (x y : Machine) (p : Point) → Steps g x p y → list_any breaks (entry_in p) ≡ false
       → list_any is_stop (control_in p) ≡ false → list_any breaks_part (part_in l p) ≡ false
   here g x y (of_control q) steps whole runs = seen_breaks q (none_of_both (is_stop q) false runs).0
   here g x y (of_link k (part.stopped why)) steps whole runs = absurd steps.2
-  here g x y (of_link k (part.entry z)) steps whole runs = entry_breaks (part.entry z) (none_of_both (breaks z) false whole).0 (k == l)
-  here g x y (of_link k p) steps whole runs = entry_breaks p refl (k == l)
+  here g x y (of_link k (part.entry z)) steps whole runs =
+      none_of_one breaks_part (part.entry z) (k == l) (none_of_both (breaks z) false whole).0
+  here g x y (of_link k p) steps whole runs = none_of_one breaks_part p (k == l) refl
+  here g x y (of_plain k p) steps whole runs = refl
 
   pub none_breaks : (g : NodeConfig) (x : Machine) (points : List Point) → StandsFor g x points → list_any breaks (entries points) ≡ false
       → list_any is_stop (control_of points) ≡ false → list_any breaks_part (parts_of l points) ≡ false
-  none_breaks g x points (begins fresh none) whole runs = ap (λ (ps : List Point). list_any breaks_part (parts_of l ps)) none
-  none_breaks g y more (goes_on {x = x} {points = points} stands p steps are) whole runs =
-      let wholes = none_of_both (list_any breaks (entries points)) (list_any breaks (entry_in p))
-      (sym (list_any-append breaks (entries points) (entry_in p)) ∙ sym (ap (list_any breaks) (ap entries are ∙ one_more entry_in points p))
-      ∙ whole) in
-      let run = none_of_both (list_any is_stop (control_of points)) (list_any is_stop (control_in p))
-      (sym (list_any-append is_stop (control_of points) (control_in p))
-      ∙ sym (ap (list_any is_stop) (ap control_of are ∙ one_more control_in points p)) ∙ runs) in
-      ap (list_any breaks_part) (ap (parts_of l) are ∙ one_more (part_in l) points p)
-      ∙ list_any-append breaks_part (parts_of l points) (part_in l p)
-      ∙ or_none (list_any breaks_part (parts_of l points)) (list_any breaks_part (part_in l p))
-      (none_breaks g x points stands wholes.0 run.0) (here g x y p steps wholes.1 run.1)
+  none_breaks = none_told (part_in l) breaks breaks_part here
 
 -- THE CAUSE OF A CLOSE
 

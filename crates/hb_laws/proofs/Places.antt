@@ -2,12 +2,20 @@
 use Rattle.std.proofs.Common.{◌≡◌, ℕ, List, [], ◌∷◌, ◌++◌, Option, Some, IfSome, refl, ap, ap₂, sym, ◌∙◌, subst}
 use Rattle.std.proofs.lemmas.List.{append_assoc}
 use Rattle.std.proofs.lemmas.List.Concat.{flat_map-append}
+use Rattle.hb_base.specs.declared.door.Why.{Why}
+use Rattle.hb_base.specs.declared.door.Why.TheVariants as whys
+use Rattle.hb_base.specs.declared.target.Target.{Target}
+use Rattle.hb_captured.specs.Part as captured
+use Rattle.hb_captured.specs.Runs.{MayCome, UpMayCome}
 use Rattle.hb_inbound.specs.Part as part
-use Rattle.hb_inbound.specs.Part.{Part}
 use Rattle.hb_model.specs.Point as point
+use Rattle.hb_model.specs.declared.config.NodeConfig.{NodeConfig}
 use Rattle.hb_world.specs.declared.entry.Entry.{Entry}
-use Rattle.hb_proxy.specs.Owners.{nobody, control_plane, inbound_link, upstream_of, link_of, owner, OwnAt, OwnLaw}
-use Rattle.hb_proxy.specs.Points.{Point, of_control, of_link, entry_in, entries, control_in, control_of}
+use Rattle.hb_world.specs.declared.entry.Entry.TheVariants as e
+use Rattle.hb_proxy.specs.Machine.{Machine}
+use Rattle.hb_proxy.specs.Owners.{Owner, nobody, control_plane, inbound_link, upstream_of, plain_link, relay_of, dialled_for, link_of, owner, OwnAt, OwnLaw}
+use Rattle.hb_proxy.specs.Points.{Point, of_control, of_link, of_plain, entry_in, entries, control_in, control_of}
+use Rattle.hb_proxy.specs.Runs.{Steps}
 use Rattle.hb_proxy.proofs.Places.{at_trace}
 
 -- a place of a trace is the place of a point
@@ -37,76 +45,98 @@ further points front more p q between rest are front_is =
 on_it : (P : ℕ → Type 0) (en z : Entry) (u : ℕ) → en ≡ z → link_of z ≡ Some u → IfSome (link_of en) P → P u
 on_it P en z u same on is = subst (λ (o : Option ℕ). IfSome o P) (ap link_of same ∙ on) is
 
+-- the point of an entry on a link of this owner
+abbrev pub PointOf : Entry → ℕ → Owner → Point → Type 0
+PointOf z u nobody p = ⊥
+PointOf z u control_plane p = p ≡ of_control (point.entry z)
+PointOf z u inbound_link p = p ≡ of_link u (part.entry z)
+PointOf z u (upstream_of l s) p = p ≡ of_link l (part.up s z)
+PointOf z u plain_link p = p ≡ of_plain u (captured.entry z)
+PointOf z u (relay_of l) p = p ≡ of_plain l (captured.up z)
+
 module _ (front : List Point) (z : Entry) (u : ℕ) (on : link_of z ≡ Some u) where
-  -- an entry on a link to the control plane is a point of that
-  pub of_plane : (p : Point) → OwnAt front p → entry_in p ≡ z ∷ [] → owner u (entries front) ≡ control_plane
-      → p ≡ of_control (point.entry z)
-  of_plane (of_control (point.entry en)) own is mine = (let same : en ≡ z = cc in ap (λ (x : Entry). of_control (point.entry x)) same)
-  of_plane (of_control _) own is mine = absurd cc
-  of_plane (of_link l (part.entry en)) own is mine =
-      let same : en ≡ z = cc in
-      let theirs = on_it (λ k. (k ≡ l) × (owner k (entries front) ≡ inbound_link)) en z u same on own in
-      absurd (let no : control_plane ≡ inbound_link = sym mine ∙ theirs.1 in cc)
-  of_plane (of_link l (part.up s en)) own is mine =
-      let same : en ≡ z = cc in
-      let theirs = on_it (λ k. owner k (entries front) ≡ upstream_of l s) en z u same on own in
-      absurd (let no : control_plane ≡ upstream_of l s = sym mine ∙ theirs in cc)
-  of_plane (of_link l _) own is mine = absurd cc
+  abbrev whose : ℕ → Owner
+  whose k = owner k (entries front)
 
-  -- no entry stands on a link that is nobody's
-  pub of_somebody : (p : Point) → OwnAt front p → entry_in p ≡ z ∷ [] → owner u (entries front) ≡ nobody → ⊥
-  of_somebody (of_control (point.entry en)) own is none =
+  -- it is that of the owner of its link
+  of_owner : (p : Point) → OwnAt front p → entry_in p ≡ z ∷ [] → PointOf z u (whose u) p
+  of_owner (of_control (point.entry en)) own is =
       let same : en ≡ z = cc in
-      let mine = on_it (λ k. owner k (entries front) ≡ control_plane) en z u same on own in
-      (let no : nobody ≡ control_plane = sym none ∙ mine in cc)
-  of_somebody (of_control _) own is none = cc
-  of_somebody (of_link l (part.entry en)) own is none =
+      subst (λ (o : Owner). PointOf z u o (of_control (point.entry en))) (sym (on_it (λ k. whose k ≡ control_plane) en z u same on own))
+      (ap (λ (x : Entry). of_control (point.entry x)) same)
+  of_owner (of_control _) own is = absurd cc
+  of_owner (of_link l (part.entry en)) own is =
       let same : en ≡ z = cc in
-      let mine = on_it (λ k. (k ≡ l) × (owner k (entries front) ≡ inbound_link)) en z u same on own in
-      (let no : nobody ≡ inbound_link = sym none ∙ mine.1 in cc)
-  of_somebody (of_link l (part.up s en)) own is none =
+      let here = on_it (λ k. (k ≡ l) × (whose k ≡ inbound_link)) en z u same on own in
+      subst (λ (o : Owner). PointOf z u o (of_link l (part.entry en))) (sym here.1)
+      (ap₂ (λ (k : ℕ) (x : Entry). of_link k (part.entry x)) (sym here.0) same)
+  of_owner (of_link l (part.up s en)) own is =
       let same : en ≡ z = cc in
-      let mine = on_it (λ k. owner k (entries front) ≡ upstream_of l s) en z u same on own in
-      (let no : nobody ≡ upstream_of l s = sym none ∙ mine in cc)
-  of_somebody (of_link l _) own is none = cc
+      subst (λ (o : Owner). PointOf z u o (of_link l (part.up s en)))
+      (sym (on_it (λ k. whose k ≡ upstream_of l s) en z u same on own)) (ap (λ (x : Entry). of_link l (part.up s x)) same)
+  of_owner (of_link l _) own is = absurd cc
+  of_owner (of_plain l (captured.entry en)) own is =
+      let same : en ≡ z = cc in
+      let here = on_it (λ k. (k ≡ l) × (whose k ≡ plain_link)) en z u same on own in
+      subst (λ (o : Owner). PointOf z u o (of_plain l (captured.entry en))) (sym here.1)
+      (ap₂ (λ (k : ℕ) (x : Entry). of_plain k (captured.entry x)) (sym here.0) same)
+  of_owner (of_plain l (captured.up en)) own is =
+      let same : en ≡ z = cc in
+      subst (λ (o : Owner). PointOf z u o (of_plain l (captured.up en)))
+      (sym (on_it (λ k. whose k ≡ relay_of l) en z u same on own)) (ap (λ (x : Entry). of_plain l (captured.up x)) same)
+  of_owner (of_plain l _) own is = absurd cc
 
-  -- an entry on an inbound link, and on an upstream, is a part of that link
-  pub of_inbound : (p : Point) → OwnAt front p → entry_in p ≡ z ∷ [] → owner u (entries front) ≡ inbound_link
-      → p ≡ of_link u (part.entry z)
-  of_inbound (of_control (point.entry en)) own is mine =
-      let same : en ≡ z = cc in
-      let theirs = on_it (λ k. owner k (entries front) ≡ control_plane) en z u same on own in
-      absurd (let no : inbound_link ≡ control_plane = sym mine ∙ theirs in cc)
-  of_inbound (of_control _) own is mine = absurd cc
-  of_inbound (of_link l (part.entry en)) own is mine =
-      let same : en ≡ z = cc in
-      let here = on_it (λ k. (k ≡ l) × (owner k (entries front) ≡ inbound_link)) en z u same on own in
-      ap₂ (λ (k : ℕ) (x : Entry). of_link k (part.entry x)) (sym here.0) same
-  of_inbound (of_link l (part.up s en)) own is mine =
-      let same : en ≡ z = cc in
-      let theirs = on_it (λ k. owner k (entries front) ≡ upstream_of l s) en z u same on own in
-      absurd (let no : inbound_link ≡ upstream_of l s = sym mine ∙ theirs in cc)
-  of_inbound (of_link l _) own is mine = absurd cc
+  module _ (p : Point) (own : OwnAt front p) (is : entry_in p ≡ z ∷ []) where
+    pub of_whom : (o : Owner) → whose u ≡ o → PointOf z u o p
+    of_whom o mine = subst (λ (w : Owner). PointOf z u w p) mine (of_owner p own is)
 
-  pub of_upstream : (l s : ℕ) (p : Point) → OwnAt front p → entry_in p ≡ z ∷ [] → owner u (entries front) ≡ upstream_of l s
-      → p ≡ of_link l (part.up s z)
-  of_upstream l s (of_control (point.entry en)) own is mine =
-      let same : en ≡ z = cc in
-      let theirs = on_it (λ k. owner k (entries front) ≡ control_plane) en z u same on own in
-      absurd (let no : upstream_of l s ≡ control_plane = sym mine ∙ theirs in cc)
-  of_upstream l s (of_control _) own is mine = absurd cc
-  of_upstream l s (of_link k (part.entry en)) own is mine =
-      let same : en ≡ z = cc in
-      let theirs = on_it (λ j. (j ≡ k) × (owner j (entries front) ≡ inbound_link)) en z u same on own in
-      absurd (let no : upstream_of l s ≡ inbound_link = sym mine ∙ theirs.1 in cc)
-  of_upstream l s (of_link k (part.up t en)) own is mine =
-      let same : en ≡ z = cc in
-      let theirs = on_it (λ j. owner j (entries front) ≡ upstream_of k t) en z u same on own in
-      let both : upstream_of k t ≡ upstream_of l s = sym theirs ∙ mine in
-      let link : k ≡ l = cc in
-      let stream : t ≡ s = cc in
-      ap₂ (λ (j : ℕ) (q : Part). of_link j q) link (ap₂ part.up stream same)
-  of_upstream l s (of_link k _) own is mine = absurd cc
+    -- no entry stands on a link that is nobody's
+    pub of_somebody : whose u ≡ nobody → ⊥
+    of_somebody none = of_whom nobody none
+
+    -- an entry on a link to the control plane is a point of that; one on an inbound link, or on an upstream, is a part of that link; so
+    -- is one on a plain link, or on its upstream
+    pub of_plane : whose u ≡ control_plane → p ≡ of_control (point.entry z)
+    of_plane mine = of_whom control_plane mine
+
+    pub of_inbound : whose u ≡ inbound_link → p ≡ of_link u (part.entry z)
+    of_inbound mine = of_whom inbound_link mine
+
+    pub of_upstream : (l s : ℕ) → whose u ≡ upstream_of l s → p ≡ of_link l (part.up s z)
+    of_upstream l s mine = of_whom (upstream_of l s) mine
+
+    pub of_plain_link : whose u ≡ plain_link → p ≡ of_plain u (captured.entry z)
+    of_plain_link mine = of_whom plain_link mine
+
+    pub of_relay : (l : ℕ) → whose u ≡ relay_of l → p ≡ of_plain l (captured.up z)
+    of_relay l mine = of_whom (relay_of l) mine
+
+-- the point of a dial is that of the part for which it is dialled
+pub dial_point : (g : NodeConfig) (x y : Machine) (p : Point) (u : ℕ) (to : Target) (why : Why) → Steps g x p y
+    → entry_in p ≡ e.Dialled u to why ∷ [] → PointOf (e.Dialled u to why) u (dialled_for why) p
+dial_point g x y (of_control (point.entry en)) u to why steps is =
+    let same : en ≡ e.Dialled u to why = cc in
+    let for_it : why ≡ whys.Discovery = (subst (λ (z : Entry). Steps g x (of_control (point.entry z)) y) same steps).1.0.3 in
+    subst (λ (w : Why). PointOf (e.Dialled u to why) u (dialled_for w) (of_control (point.entry en))) (sym for_it)
+    (ap (λ (z : Entry). of_control (point.entry z)) same)
+dial_point g x y (of_control _) u to why steps is = absurd cc
+dial_point g x y (of_link k (part.entry en)) u to why steps is =
+    let same : en ≡ e.Dialled u to why = cc in
+    absurd ((subst (λ (z : Entry). Steps g x (of_link k (part.entry z)) y) same steps).1.0)
+dial_point g x y (of_link k (part.up t en)) u to why steps is =
+    let same : en ≡ e.Dialled u to why = cc in
+    let for_it : why ≡ whys.Upstream k t = (subst (λ (z : Entry). Steps g x (of_link k (part.up t z)) y) same steps).1.0.4 in
+    subst (λ (w : Why). PointOf (e.Dialled u to why) u (dialled_for w) (of_link k (part.up t en))) (sym for_it)
+    (ap (λ (z : Entry). of_link k (part.up t z)) same)
+dial_point g x y (of_link k _) u to why steps is = absurd cc
+dial_point g x y (of_plain k (captured.entry en)) u to why steps is =
+    let same : en ≡ e.Dialled u to why = cc in absurd (subst (MayCome k (x.plain k)) same steps.0)
+dial_point g x y (of_plain k (captured.up en)) u to why steps is =
+    let same : en ≡ e.Dialled u to why = cc in
+    let for_it : why ≡ whys.Plain k = (subst (UpMayCome k (x.plain k)) same steps.0).1 in
+    subst (λ (w : Why). PointOf (e.Dialled u to why) u (dialled_for w) (of_plain k (captured.up en))) (sym for_it)
+    (ap (λ (z : Entry). of_plain k (captured.up z)) same)
+dial_point g x y (of_plain k _) u to why steps is = absurd cc
 
 -- an entry on a link to the control plane, at its place
 pub record OnPlane (points : List Point) (before : List Entry) (z : Entry) : Type 0 where

@@ -1,26 +1,15 @@
 -- Small wrong traces of inbound links and of their upstreams are refused.
-use Rattle.std.proofs.Common.{◌≡◌, Ordering, ℕ, ◌/◌, ◌%◌, ◌==◌, ◌&&◌, Bool, true, false, cond, List, [], ◌∷◌, ◌++◌, fold, length, Option, Some, None, refl, ap, ap₂, sym, ◌∙◌, subst, arith, length-append}
+use Rattle.std.proofs.Common.{◌≡◌, ℕ, ◌/◌, ◌%◌, ◌==◌, ◌&&◌, Bool, true, false, cond, List, [], ◌∷◌, ◌++◌, length, Some, refl, ap, ap₂, sym, ◌∙◌, subst, arith, length-append}
 use Rattle.std.specs.List.{list_any}
-use Rattle.std.specs.Cmp.Lexicographic.{slice_cmp}
-use Rattle.std.specs.FinMap.{empty, entries as entries_of, len-entries, len-empty}
-use Rattle.std.specs.List.{filter_map}
-use Rattle.std.specs.Ordering.{nat_cmp}
-use Rattle.std.specs.Prelude.{filter, option_and_then}
-use Rattle.std.specs.Str.{bytes_eq}
-use Rattle.std.proofs.lemmas.Bool.{both_ways, false≢true}
+use Rattle.std.proofs.lemmas.Bool.{false≢true}
 use Rattle.std.proofs.lemmas.List.{append_assoc}
-use Rattle.std.proofs.lemmas.List.Concat.{flat_map-append}
 use Rattle.hb_base.specs.declared.cause.Cause.TheVariants as cause
 use Rattle.hb_base.specs.declared.door.Door.TheVariants as door
 use Rattle.hb_base.specs.declared.door.Why.TheVariants as whys
-use Rattle.hb_base.specs.declared.ip.Ip.{Ip}
-use Rattle.hb_base.specs.declared.peer.Peer.{Peer}
-use Rattle.hb_base.specs.declared.target.Target.{Target}
+use Rattle.hb_captured.specs.Part as captured
+use Rattle.hb_captured.specs.Runs.{MayCome, UpMayCome}
 use Rattle.hb_frames.specs.Numbers.{data_kind}
 use Rattle.hb_frames.specs.RawFrame.{RawFrame, header, spelling}
-use Rattle.hb_held.specs.Held.{Resources, nothing_held}
-use Rattle.hb_held.specs.Lookup.{has_address, named_workload, least, workload_at, known}
-use Rattle.hb_held.specs.declared.versioned.Versioned.{Versioned}
 use Rattle.hb_inbound.specs.Closes.{ClosesAt}
 use Rattle.hb_inbound.specs.Part as part
 use Rattle.hb_inbound.specs.RelayRefused.{one_octet}
@@ -28,8 +17,6 @@ use Rattle.hb_kept.proofs.Begun.{left_of}
 use Rattle.hb_kept.specs.Payloads.{payloads}
 use Rattle.hb_model.proofs.Inner.{over_is}
 use Rattle.hb_model.specs.Calls.{is_control_of}
-use Rattle.hb_model.specs.Inner.{InnerLaw, is_stop}
-use Rattle.hb_model.specs.Messages.{held, held_by}
 use Rattle.hb_model.specs.Point as point
 use Rattle.hb_model.specs.declared.config.NodeConfig.{NodeConfig}
 use Rattle.hb_outgoing.specs.Waiting.{spelled}
@@ -41,13 +28,9 @@ use Rattle.hb_proxy.specs.Dials.{DialsBy}
 use Rattle.hb_proxy.specs.Doors.{without_doors}
 use Rattle.hb_proxy.specs.Machine.{Machine}
 use Rattle.hb_proxy.specs.Owners.{nobody, inbound_link, owner, link_of, upstream_of, UpstreamLaw}
-use Rattle.hb_proxy.specs.Points.{Point, of_control, of_link, entry_in, entries, control_in, control_of, parts_of}
+use Rattle.hb_proxy.specs.Points.{Point, of_control, of_link, of_plain, entry_in, entries, control_of, parts_of}
 use Rattle.hb_proxy.specs.Relay.{RelaysDown}
 use Rattle.hb_proxy.specs.Runs.{Steps}
-use Rattle.hb_records.specs.declared.address.AddressRecord.{AddressRecord}
-use Rattle.hb_records.specs.declared.workload.Workload.{Workload}
-use Rattle.hb_table.specs.Judgement.{judged_at, judged}
-use Rattle.hb_table.specs.declared.judgement.Judged.TheVariants.{Unknown, Admitted}
 use Rattle.hb_world.specs.Trace.{recv, sent}
 use Rattle.hb_world.specs.declared.entry.Entry.{Entry}
 use Rattle.hb_world.specs.declared.entry.Entry.TheVariants as e
@@ -55,18 +38,18 @@ use Rattle.hb_laws.specs.Lawful.{Lawful}
 use Rattle.hb_laws.specs.Refused.{dials, fails, waits, settings_octets}
 use Rattle.hb_laws.specs.RefusedLinks.{accepts, ComesUnborn, GoesUnborn, BornTwice, AcceptsFirst, AcceptsElsewhere, DialsUpTwice, ClosesLinkForSecond, ClosesHealthyLink, GoesUnheld, SendsMore, InventsDown, ChangesDown}
 use Rattle.hb_laws.proofs.Bytes.{stream_within}
+use Rattle.hb_laws.proofs.Closing.{close_place}
 use Rattle.hb_laws.proofs.Doors.{owner_without, came_without, went_without}
-use Rattle.hb_laws.proofs.Lawful.{goes_at, not_stopped, laws_of}
+use Rattle.hb_laws.proofs.Lawful.{goes_at, laws_of}
 use Rattle.hb_laws.proofs.Links.{breaks, none_breaks, whole_unbroken}
-use Rattle.hb_laws.proofs.Places.{place, further, of_somebody, of_inbound}
+use Rattle.hb_laws.proofs.Places.{place, of_somebody}
 use Rattle.hb_laws.proofs.Runs.{front_runs}
-use Rattle.hb_laws.proofs.Tells.{untold}
-use Rattle.hb_laws.proofs.Tests.{none_in_front}
+use Rattle.hb_laws.proofs.Unheld.{none_admitted}
 
 -- BIRTHS
 
 -- an entry on a link that nobody bore
-unborn : (g : NodeConfig) (trace before : List Entry) (z : Entry) (u : ℕ) → (h : Lawful g trace) → entries h.points ≡ before ++ z ∷ []
+pub unborn : (g : NodeConfig) (trace before : List Entry) (z : Entry) (u : ℕ) → (h : Lawful g trace) → entries h.points ≡ before ++ z ∷ []
     → link_of z ≡ Some u → owner u before ≡ nobody → ⊥
 unborn g trace before z u h is on none =
     let s = place h.points before z [] is in
@@ -106,6 +89,12 @@ elsewhere g x y (of_link k (part.up s en)) l steps is =
     let same : en ≡ e.Accepted l door.Outbound = cc in
     (subst (λ (z : Entry). Steps g x (of_link k (part.up s z)) y) same steps).1.0
 elsewhere g x y (of_link k _) l steps is = cc
+elsewhere g x y (of_plain k (captured.entry en)) l steps is =
+    let same : en ≡ e.Accepted l door.Outbound = cc in
+    let at : door.Outbound ≡ door.Plain = (subst (MayCome k (x.plain k)) same steps.0).2 in cc
+elsewhere g x y (of_plain k (captured.up en)) l steps is =
+    let same : en ≡ e.Accepted l door.Outbound = cc in subst (UpMayCome k (x.plain k)) same steps.0
+elsewhere g x y (of_plain k _) l steps is = cc
 
 pub accepts_elsewhere : AcceptsElsewhere
 accepts_elsewhere g h =
@@ -115,7 +104,7 @@ accepts_elsewhere g h =
 pub dials_up_twice : DialsUpTwice
 dials_up_twice to g h =
     let law = subst UpstreamLaw (sym h.trace_is) (laws_of g _ h).upstreams in
-    (let same : 3 ≡ 4 = law 2 1 3 4 refl refl in absurd (omega (arith, same)))
+    (let same : 3 ≡ 4 = law.streams 2 1 3 4 refl refl in absurd (omega (arith, same)))
 
 -- CLOSES
 
@@ -124,21 +113,12 @@ closes_whole : (g : NodeConfig) (trace before : List Entry) → (h : Lawful g tr
     → entries h.points ≡ (before ++ e.Closed 2 cause.Broken ∷ []) ++ waits ∷ [] → owner 2 before ≡ inbound_link
     → list_any breaks before ≡ false → ⊥
 closes_whole g trace before h is mine whole =
-    let closes = e.Closed 2 cause.Broken in
-    let outer = place h.points (before ++ closes ∷ []) waits [] is in
-    let inner = place outer.front before closes [] outer.before_is in
-    let at = further h.points outer.front inner.front inner.p outer.p inner.rest outer.rest outer.points_are inner.points_are in
-    let behind = inner.rest ++ outer.p ∷ outer.rest in
-    let runs = none_in_front is_stop (control_of outer.front) (control_of inner.front) (control_of (inner.p ∷ inner.rest))
-    (ap control_of inner.points_are ∙ flat_map-append control_in inner.front (inner.p ∷ inner.rest))
-    (not_stopped g trace h outer.front outer.p outer.rest _ _ outer.points_are outer.is) in
-    let run = front_runs g h.machine h.points h.run inner.front (inner.p ∷ behind) at in
-    let p_is = of_inbound inner.front closes 2 refl inner.p (h.own inner.front inner.p behind at) inner.is
-    (ap (owner 2) inner.before_is ∙ mine) in
-    let stands = at_parts (λ l. ClosesAt) h.points (λ l. ((laws_of g trace h).links l).closes) inner.front 2 (part.entry closes) behind
-    (at ∙ ap (λ (p : Point). inner.front ++ p ∷ behind) p_is) in
-    whole_unbroken (parts_of 2 inner.front)
-    (none_breaks 2 g run.0 inner.front run.1 (ap (list_any breaks) inner.before_is ∙ whole) runs) stands
+    let s = close_place g trace before h 2 cause.Broken inbound_link is mine in
+    let run = front_runs g h.machine h.points h.run s.front _ s.points_are in
+    let stands = at_parts (λ l. ClosesAt) h.points (λ l. ((laws_of g trace h).links l).closes) s.front 2
+    (part.entry (e.Closed 2 cause.Broken)) s.rest (s.points_are ∙ ap (λ (p : Point). s.front ++ p ∷ s.rest) s.point) in
+    whole_unbroken (parts_of 2 s.front)
+    (none_breaks 2 g run.0 s.front run.1 (ap (list_any breaks) s.before_is ∙ whole) s.goes) stands
 
 pub closes_for_second : ClosesLinkForSecond
 closes_for_second g h = closes_whole g _ (dials g ∷ accepts ∷ e.Ended 2 ∷ []) h (sym h.trace_is) refl refl
@@ -148,51 +128,13 @@ closes_healthy_link g h = closes_whole g _ (dials g ∷ accepts ∷ []) h (sym h
 
 -- BYTES
 
--- where no link is one to the control plane nothing is applied, and nothing is held
-nothing_applied : (g : NodeConfig) (points : List point.Point) → InnerLaw points
-    → ((l : ℕ) → list_any (is_control_of l) (point.entries points) ≡ false) → held g points ≡ nothing_held g.network g.node g.inbound
-nothing_applied g points inner none = stays [] points refl (nothing_held g.network g.node g.inbound)
-  where
-    stays : (front rest : List point.Point) → points ≡ front ++ rest → (h : Resources) → fold held_by h rest ≡ h
-    stays front [] are h = refl
-    stays front (point.applied l r ∷ rest) are h =
-        absurd (both_ways _
-        (none_in_front (is_control_of l) (point.entries points) (point.entries front) (point.entries (point.applied l r ∷ rest))
-        (ap point.entries are ∙ flat_map-append point.entry_in front (point.applied l r ∷ rest)) (none l))
-        (inner front (point.applied l r) rest are).control)
-    stays front (q ∷ rest) are h = stays (front ++ q ∷ []) rest (are ∙ sym (append_assoc front (q ∷ []) rest)) h
-
--- no peer is admitted anywhere
-no_length : {X : Type 0} (xs : List X) → length xs ≡ 0 → xs ≡ []
-no_length [] is = refl
-no_length (x ∷ xs) is = absurd (omega (arith, is))
-
-no_entries : {K X : Type 0} (R : K → K → Ordering) → entries_of (empty {X = X} {R = R}) ≡ []
-no_entries {K} {X} R = no_length (entries_of (empty {X = X} {R = R})) (sym (len-entries (empty {X = X} {R = R})) ∙ len-empty R X)
-
-unknown : (network node : List ℕ) (inbound : Option Target) (ip : Ip) → known (nothing_held network node inbound) ip ≡ None
-unfolding workload_at
-unknown network node inbound ip =
-    ap (λ (es : List (List ℕ × Versioned AddressRecord)). option_and_then (λ e. cond (bytes_eq e.1.node node) (Some e) None)
-    (least (filter (λ e. has_address network ip e.1) (filter_map named_workload es)))) (no_entries (slice_cmp nat_cmp))
-
-nobody_admitted : (network node : List ℕ) (inbound : Option Target) (peer : Peer) (target : Target)
-    → judged (nothing_held network node inbound) peer target ≡ Unknown
-nobody_admitted network node inbound peer target =
-    ap (λ (o : Option (List ℕ × Workload)). judged_at (nothing_held network node inbound) o (record { peer = peer; target = target }))
-    (unknown network node inbound target.ip)
-
 pub goes_unheld : GoesUnheld
 goes_unheld to came bytes g h =
     let goes = e.Went 2 bytes in
     let before = fails g ∷ e.Accepted 1 door.Inbound ∷ e.Came 1 came ∷ e.Dialled 2 to (whys.Upstream 1 1) ∷ e.Opened 2 ∷ [] in
     let s = place h.points before goes [] (sym h.trace_is) in
-    let is : IsAdmitted g s.front 1 1 = (h.access s.front s.p s.rest s.points_are goes s.is 2 refl).0 1 1 (ap (owner 2) s.before_is) in
-    let none = nothing_applied g (control_of s.front) (h.laws s.front (s.p ∷ s.rest) s.points_are).control.inner
-    (λ l. untold (is_control_of l) s.front (ap (list_any (is_control_of l)) s.before_is)) in
-    let no : Unknown ≡ Admitted = sym (nobody_admitted g.network g.node g.inbound is.peer is.target)
-    ∙ sym (ap (λ (r : Resources). judged r is.peer is.target) none) ∙ is.admitted in
-    cc
+    let is : IsAdmitted g s.front 1 1 = (h.access s.front s.p s.rest s.points_are goes 2 s.is refl).up 1 1 (ap (owner 2) s.before_is) in
+    none_admitted g _ h s.front (s.p ∷ s.rest) s.points_are (λ l. ap (list_any (is_control_of l)) s.before_is) is.peer is.target is.admitted
 
 pub sends_more : SendsMore
 sends_more g trace l s u h owned more =

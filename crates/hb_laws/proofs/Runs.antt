@@ -10,6 +10,7 @@ use Rattle.hb_proxy.proofs.Ends.{runs_end}
 use Rattle.hb_proxy.proofs.Links.{obey_links}
 use Rattle.hb_proxy.proofs.Own.{runs_own, runs_number, runs_dial_once}
 use Rattle.hb_proxy.proofs.Places.{at_points}
+use Rattle.hb_proxy.proofs.Plain.{plain_holds, obey_plain}
 use Rattle.hb_proxy.proofs.Projection.{control_holds, links_hold}
 use Rattle.hb_proxy.proofs.Relay.{runs_relay}
 use Rattle.hb_proxy.proofs.Sides.{runs_share}
@@ -32,8 +33,10 @@ laws_at g x points stands = record {
   sides = runs_share g x points stands;
   relay = runs_relay g x points stands;
   links = λ l. obey_links g x points l stands;
+  plain = λ l. obey_plain g x points l stands;
   control = obey_control g x points stands;
   held = λ l. links_hold g x points l stands;
+  plain_held = λ l. plain_holds g x points l stands;
 }
 
 -- the trace of a run is lawful

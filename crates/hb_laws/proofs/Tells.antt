@@ -5,6 +5,7 @@ use Rattle.std.proofs.lemmas.Bool.{both_ways}
 use Rattle.std.proofs.lemmas.List.{append-nil}
 use Rattle.std.proofs.lemmas.List.Concat.{flat_map-append}
 use Rattle.std.proofs.lemmas.List.Folds.{list_any-append}
+use Rattle.hb_captured.specs.Part as captured
 use Rattle.hb_inbound.specs.Part as part
 use Rattle.hb_model.proofs.Grown.{one_more}
 use Rattle.hb_model.specs.Point as point
@@ -12,7 +13,7 @@ use Rattle.hb_model.specs.declared.config.NodeConfig.{NodeConfig}
 use Rattle.hb_world.specs.declared.entry.Entry.{Entry}
 use Rattle.hb_proxy.specs.Machine.{Machine}
 use Rattle.hb_proxy.specs.Owners.{nobody, control_plane, link_of, owner, OwnAt}
-use Rattle.hb_proxy.specs.Points.{Point, of_control, of_link, entry_in, entries, control_in, control_of}
+use Rattle.hb_proxy.specs.Points.{Point, of_control, of_link, of_plain, entry_in, entries, control_in, control_of}
 use Rattle.hb_proxy.specs.Runs.{StandsFor, begins, goes_on}
 use Rattle.hb_proxy.proofs.Own.{own_at}
 use Rattle.hb_proxy.proofs.Owned.{all_owned, owner_grows}
@@ -32,6 +33,9 @@ told is (of_control q ∷ points) was =
 told is (of_link l p ∷ points) was =
     list_any-append is (part.entry_in p) (entries points)
     ∙ or_behind (list_any is (part.entry_in p)) (list_any is (entries points)) (told is points was)
+told is (of_plain l p ∷ points) was =
+    list_any-append is (captured.entry_in p) (entries points)
+    ∙ or_behind (list_any is (captured.entry_in p)) (list_any is (entries points)) (told is points was)
 
 pub untold : (is : Entry → Bool) (points : List Point) → list_any is (entries points) ≡ false
     → list_any is (point.entries (control_of points)) ≡ false
@@ -112,6 +116,10 @@ module _ (l : ℕ) (is : Entry → Bool) (on : (z : Entry) → is z ≡ true →
           sym (none_here (of_link k r)
           (λ z at says.
           (let no : of_link k r ≡ of_control (point.entry z) = of_plane points z l (on z says) (of_link k r) own at whose in cc)))
+      here (of_plain k r) own whose =
+          sym (none_here (of_plain k r)
+          (λ z at says.
+          (let no : of_plain k r ≡ of_control (point.entry z) = of_plane points z l (on z says) (of_plain k r) own at whose in cc)))
 
       more_of : (owner l (entries points) ≡ control_plane → list_any is (point.entries (control_of points)) ≡ list_any is (entries points))
           → owner l (entries points) ≡ control_plane

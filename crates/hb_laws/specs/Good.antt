@@ -1,4 +1,4 @@
--- Traces that are lawful: of a link to the control plane, and of an inbound link.
+-- Traces that are lawful: of a link to the control plane, of an inbound link, and of a plain one.
 use Rattle.std.specs.Prelude.{List, [], ◌∷◌, None}
 use Rattle.hb_base.specs.declared.cause.Cause.TheVariants as cause
 use Rattle.hb_base.specs.declared.ip.Ip.TheVariants.{V4}
@@ -15,6 +15,7 @@ use Rattle.hb_world.specs.declared.entry.Woken.TheVariants as woken
 use Rattle.hb_laws.specs.Lawful.{Lawful}
 use Rattle.hb_laws.specs.Refused.{dials, fails, waits, waits_tick, balks}
 use Rattle.hb_laws.specs.RefusedLinks.{accepts}
+use Rattle.hb_laws.specs.RefusedPlain.{accepts_plain}
 
 -- a link to the control plane is dialled and isn't open yet, then it breaks and is closed; at the next tick a dial fails
 abbrev pub good_trace : NodeConfig → List Entry
@@ -45,3 +46,18 @@ good_end g = dials g ∷ accepts ∷ e.Came 2 (front_text source destination Non
 
 abbrev pub GoodEndIsLawful : Type 0
 GoodEndIsLawful = (g : NodeConfig) → Lawful g (good_end g)
+
+-- a plain link is accepted, its first byte begins no front header, and it is closed for that
+abbrev pub good_plain : NodeConfig → List Entry
+good_plain g = dials g ∷ accepts_plain ∷ e.Came 2 (0 ∷ []) ∷ e.Closed 2 (cause.FrontFault (number_of BadSignature)) ∷ waits ∷ []
+
+abbrev pub GoodPlainIsLawful : Type 0
+GoodPlainIsLawful = (g : NodeConfig) → Lawful g (good_plain g)
+
+-- one is accepted, its front header is whole, and it is refused with 503 and closed, since nothing is held yet
+abbrev pub good_refusal : NodeConfig → List Entry
+good_refusal g =
+    dials g ∷ accepts_plain ∷ e.Came 2 (front_text source destination None) ∷ e.Closed 2 (cause.Refused 503) ∷ waits ∷ []
+
+abbrev pub GoodRefusalIsLawful : Type 0
+GoodRefusalIsLawful = (g : NodeConfig) → Lawful g (good_refusal g)

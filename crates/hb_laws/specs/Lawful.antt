@@ -1,6 +1,7 @@
 -- What holds of the trace of a run of the whole proxy.
 use Rattle.std.specs.Prelude.{◌≡◌, ℕ, false, List, ◌++◌}
 use Rattle.std.specs.List.{list_any}
+use Rattle.hb_captured.specs.Sides as plain
 use Rattle.hb_inbound.specs.Sides as inbound
 use Rattle.hb_model.specs.Inner.{is_stop}
 use Rattle.hb_model.specs.Messages as messages
@@ -11,10 +12,10 @@ use Rattle.hb_proxy.specs.Dials.{DialLaw}
 use Rattle.hb_proxy.specs.Doors.{without_doors}
 use Rattle.hb_proxy.specs.Ends.{EndLaw}
 use Rattle.hb_proxy.specs.Held.{at_start}
-use Rattle.hb_proxy.specs.Laws.{LinkLaws}
+use Rattle.hb_proxy.specs.Laws.{LinkLaws, PlainLaws}
 use Rattle.hb_proxy.specs.Machine.{Machine}
 use Rattle.hb_proxy.specs.Owners.{OwnLaw, NumberLaw, UpstreamLaw}
-use Rattle.hb_proxy.specs.Points.{Point, entries, control_of, parts_of}
+use Rattle.hb_proxy.specs.Points.{Point, entries, control_of, parts_of, plain_of}
 use Rattle.hb_proxy.specs.Relay.{RelayLaw}
 use Rattle.hb_proxy.specs.Runs.{StandsFor}
 use Rattle.hb_proxy.specs.Sides.{SideLaw}
@@ -24,18 +25,25 @@ use Rattle.hb_world.specs.declared.entry.Entry.{Entry}
 abbrev pub LinkHolds : NodeConfig → ℕ → List Point → Type 0
 LinkHolds g l points = inbound.held (at_start g) (parts_of l points) ≡ messages.held g (control_of points)
 
+-- and so at a link of the plain door
+abbrev pub PlainHolds : NodeConfig → ℕ → List Point → Type 0
+PlainHolds g l points = plain.held (at_start g) (plain_of l points) ≡ messages.held g (control_of points)
+
 -- what is said behind some points of a run
 pub record Laws (g : NodeConfig) (points : List Point) : Type 0 where
-  -- no two upstreams are of one stream; the bytes of a link are the same in the trace and in its part
+  -- no two upstreams are of one stream, or of one plain link; the bytes of a link are the same in the trace and in its part
   pub upstreams : UpstreamLaw (entries points)
   pub sides : SideLaw points
-  -- what went to each side of a tunnel is a front of what came from the other
+  -- what went to each side of a tunnel, or of a plain link, is a front of what came from the other
   pub relay : RelayLaw points
   -- the laws of each inbound link: its connection, windows, rings, ends, close, answers, dials and notes
   pub links : (l : ℕ) → LinkLaws (at_start g) l (parts_of l points)
+  -- and of each plain one: its relay, access, ends, verdicts and notes, and that nothing is put off
+  pub plain : (l : ℕ) → PlainLaws (at_start g) l (plain_of l points)
   -- the laws of the links to the control plane: their calls, messages, connections, requests, frames and windows
   pub control : ControlLaws g (control_of points)
   pub held : (l : ℕ) → LinkHolds g l points
+  pub plain_held : (l : ℕ) → PlainHolds g l points
 
 -- what is said at each front of a run
 abbrev pub AtFronts : (List Point → Type 0) → List Point → Type 0
@@ -51,11 +59,11 @@ pub record Lawful (g : NodeConfig) (trace : List Entry) : Type 0 where
   -- each entry stands on a link of its own part; links are numbered in the order of births
   pub own : OwnLaw points
   pub numbers : NumberLaw (entries points)
-  -- no byte goes to an upstream, and no DATA begins on an inbound link, unless what is held then admits the peer: by the link that the
-  -- entry stands on, and by its part
+  -- no byte goes to an upstream or on a plain link, and no DATA begins on an inbound link, unless what is held then admits the peer: by
+  -- the link that the entry stands on, and by its part
   pub access : EntryLaw g points
   pub parts_access : AccessLaw g points
-  -- a tunnel that ended has no upstream that isn't closed where more comes
+  -- a tunnel that ended has no upstream that isn't closed where more comes; a plain link that ended is closed there, with its upstream
   pub ends : EndLaw g points
   -- the control plane is dialled exactly when it is due; its links end for their first cause, and what came on them is looked at first
   pub dials : DialLaw g points

@@ -3,4 +3,5 @@ pub mod Lawful
 pub mod Refused
 pub mod RefusedHearing
 pub mod RefusedLinks
+pub mod RefusedPlain
 pub mod RefusedTunnels

@@ -36,7 +36,7 @@ GoesUnborn = (bytes : List ℕ) → Refused (λ g. dials g ∷ e.Went 2 bytes �
 abbrev pub BornTwice : Type 0
 BornTwice = Refused (λ g. dials g ∷ e.Accepted 1 door.Inbound ∷ [])
 
--- a link is accepted while the control plane is to be dialled, and at a door that isn't the inbound one
+-- a link is accepted while the control plane is to be dialled, and at the outbound door
 abbrev pub AcceptsFirst : Type 0
 AcceptsFirst = Refused (λ g. e.Accepted 1 door.Inbound ∷ [])
 

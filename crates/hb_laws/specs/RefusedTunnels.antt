@@ -71,9 +71,12 @@ pub record DialsElsewhere (g : NodeConfig) (before : List Point) (z : Entry) : T
 
 -- ENDS
 
--- the proxy waits, time passes, or bytes come, on whatever link
+-- more comes, on whatever link: one is accepted or open, bytes or an end come, time passes, or the proxy waits
 abbrev pub is_more : Entry → Bool
+is_more (e.Accepted l d) = true
+is_more (e.Opened l) = true
 is_more (e.Came l bytes) = true
+is_more (e.Ended l) = true
 is_more e.Tick = true
 is_more (e.Wait ready how) = true
 is_more _ = false

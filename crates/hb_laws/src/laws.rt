@@ -9,7 +9,11 @@ ghost use Rattle.hb_laws.specs.RefusedLinks.{ClosesLinkForSecond, ClosesHealthyL
 ghost use Rattle.hb_laws.specs.RefusedLinks.{GoesUnheld, SendsMore, InventsDown, ChangesDown};
 ghost use Rattle.hb_laws.specs.RefusedTunnels.{RefusedAt, GoesDenied, GoesUncome, DialsElsewhere, KeepsEndedUp, KeepsRevokedUp};
 ghost use Rattle.hb_laws.specs.RefusedTunnels.{ClosesUpForAnother, ClosesLiveUp};
-ghost use Rattle.hb_laws.specs.Good.{GoodTraceIsLawful, GoodLinkIsLawful, GoodEndIsLawful};
+ghost use Rattle.hb_laws.specs.RefusedPlain.{ComesUndialled, GoesUndialled, DialsRelayTwice, ClosesHealthyPlain, ClosesPlainForSecond};
+ghost use Rattle.hb_laws.specs.RefusedPlain.{RelaysUnheld, RelaysBackUnheld, SendsHeader, InventsBack, ChangesBack, AnswersItself};
+ghost use Rattle.hb_laws.specs.RefusedPlain.{RelaysDenied, RelaysUncome, RelaysBackUncome, DialsAside, ShutsEarly, ShutsBackEarly};
+ghost use Rattle.hb_laws.specs.RefusedPlain.{KeepsEndedPlain, KeepsRevokedPlain, ClosesPlainForAnother, ClosesLivePlain};
+ghost use Rattle.hb_laws.specs.Good.{GoodTraceIsLawful, GoodLinkIsLawful, GoodEndIsLawful, GoodPlainIsLawful, GoodRefusalIsLawful};
 ghost use Rattle.hb_laws.specs.RefusedHearing.{HearsNoGoaway, HearsNoReset, HearsNoNotFound, HearsNoEnd, HearsNoEndOfHeaders};
 ghost use Rattle.hb_laws.specs.RefusedHearing.{KeepsReset, KeepsEndOfStream, KeepsEndAtOnce, KeepsNotFound};
 ghost use Rattle.hb_laws.specs.Refused.{ReadsUnopened, ReadsBehindEnd, ReadsBehindClose, WritesUnopened, FinishesOpened};
@@ -67,7 +71,7 @@ pub fn calls_are_refused()
 {}
 
 /// Nor one in which bytes come or go on a link that nobody bore, a number is born twice, a link is accepted before the control plane is
-/// dialled or at another door than the inbound one, or two upstreams are dialled for one stream.
+/// dialled or at the outbound door, or two upstreams are dialled for one stream.
 pub fn births_are_refused()
     ensures comes { ComesUnborn }
     ensures goes { GoesUnborn }
@@ -94,8 +98,8 @@ pub fn bytes_are_refused()
 
 /// No lawful trace has a place at which bytes go to an upstream though what is held then doesn't admit the peer, or bytes that didn't come
 /// on the stream; at which another target is dialled than the one that was asked for; at which the upstream of a tunnel that ended lives
-/// while the proxy waits, time passes or bytes come, also next behind an update that no longer admits the peer; or at which an upstream is
-/// closed for another cause than the first, or though its tunnel lives.
+/// where more comes, also next behind an update that no longer admits the peer; or at which an upstream is closed for another cause than
+/// the first, or though its tunnel lives.
 pub fn places_are_refused()
     ensures denied { RefusedAt GoesDenied }
     ensures uncome { RefusedAt GoesUncome }
@@ -106,11 +110,52 @@ pub fn places_are_refused()
     ensures live { RefusedAt ClosesLiveUp }
 {}
 
+/// Nor one in which bytes come from an upstream of a plain link that was never dialled, or go to one, or two are dialled for one link; or
+/// in which such a link is closed as if a call had failed, though none did: a healthy one, or one whose peer ended.
+pub fn plain_links_are_refused()
+    ensures comes { ComesUndialled }
+    ensures goes { GoesUndialled }
+    ensures twice { DialsRelayTwice }
+    ensures healthy { ClosesHealthyPlain }
+    ensures second { ClosesPlainForSecond }
+{}
+
+/// Nor one in which bytes go to the upstream of a plain link, or back, though no response ever came; or more than came behind its front
+/// header; or in which bytes go back that its upstream didn't send, or without one.
+pub fn relayed_bytes_are_refused()
+    ensures unheld { RelaysUnheld }
+    ensures back_unheld { RelaysBackUnheld }
+    ensures header { SendsHeader }
+    ensures invents { InventsBack }
+    ensures changes { ChangesBack }
+    ensures itself { AnswersItself }
+{}
+
+/// No lawful trace has a place at which bytes go either way on a plain link though what is held then doesn't admit the peer, or bytes that
+/// didn't come from the other side; at which another target is dialled than its front header's destination; at which either side is shut
+/// in front of the last byte of the other; at which it ended and lives, or its upstream does, where more comes, also next behind an update
+/// that no longer admits the peer; or at which either is closed for another cause than the first, or though the link goes on.
+pub fn places_of_plain_links_are_refused()
+    ensures denied { RefusedAt RelaysDenied }
+    ensures uncome { RefusedAt RelaysUncome }
+    ensures back_uncome { RefusedAt RelaysBackUncome }
+    ensures aside { RefusedAt DialsAside }
+    ensures shuts { RefusedAt ShutsEarly }
+    ensures shuts_back { RefusedAt ShutsBackEarly }
+    ensures ended { RefusedAt KeepsEndedPlain }
+    ensures revoked { RefusedAt KeepsRevokedPlain }
+    ensures another { RefusedAt ClosesPlainForAnother }
+    ensures live { RefusedAt ClosesLivePlain }
+{}
+
 /// A trace is lawful in which a link to the control plane is dialled, breaks and is closed, and a dial fails at the next tick; one in
-/// which an inbound link begins with no front header and is closed for that; and one in which its header is whole, its peer sends no
-/// more, and it is closed as done.
+/// which an inbound link begins with no front header and is closed for that; one in which its header is whole, its peer sends no more, and
+/// it is closed as done; one in which a plain link begins with no front header and is closed for that; and one in which its header is
+/// whole, and it is refused with 503, since nothing is held yet.
 pub fn good_traces_are_lawful()
     ensures control { GoodTraceIsLawful }
     ensures link { GoodLinkIsLawful }
     ensures end { GoodEndIsLawful }
+    ensures plain { GoodPlainIsLawful }
+    ensures refusal { GoodRefusalIsLawful }
 {}

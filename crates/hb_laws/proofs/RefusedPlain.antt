@@ -1,0 +1,378 @@
+-- Small wrong traces of plain links and of their upstreams are refused, and places that no lawful trace has.
+use Rattle.std.proofs.Common.{◌≡◌, ◌≢◌, ◌⊎◌, inl, inr, ⊎_elim, ℕ, ◌+◌, ◌<◌, ◌≤◌, ◌==◌, ◌||◌, Bool, true, false, cond, List, [], ◌∷◌, ◌++◌, length, Option, Some, None, refl, ap, ap₂, sym, ◌∙◌, subst, arith, length-append, length-drop}
+use Rattle.std.specs.List.{list_any}
+use Rattle.std.proofs.lemmas.Bool.{both_ways, false≢true}
+use Rattle.std.proofs.lemmas.List.{append-nil, append_assoc}
+use Rattle.std.proofs.lemmas.List.Sums.{fold-append}
+use Rattle.hb_base.specs.declared.cause.Cause.{Cause}
+use Rattle.hb_base.specs.declared.cause.Cause.TheVariants as cause
+use Rattle.hb_base.specs.declared.door.Door.TheVariants as door
+use Rattle.hb_base.specs.declared.door.Why.TheVariants as whys
+use Rattle.hb_captured.proofs.Stages.{course_one}
+use Rattle.hb_captured.specs.Captured.{peer_in}
+use Rattle.hb_captured.specs.Ends.{GoesOn, EndsAt}
+use Rattle.hb_captured.specs.Part as captured
+use Rattle.hb_captured.specs.Part.{Part}
+use Rattle.hb_captured.specs.Relay as plain_relay
+use Rattle.hb_captured.specs.Relay.{RelaysAt}
+use Rattle.hb_captured.specs.Sides as plain
+use Rattle.hb_captured.specs.Sides.{Course, pending, lives, over, ends_judged, ends_at, course_of, header_of, header_by, raw_came, link_came, link_went, up_came, up_went, came_in, went_in, up_came_in, up_went_in, judged_in, is_close, on_link, was_on_link, up_of, up_in}
+use Rattle.hb_captured.specs.Verdicts.{VerdictAt}
+use Rattle.hb_front.specs.Reading.{Seen}
+use Rattle.hb_held.specs.Held.{Resources}
+use Rattle.hb_held.specs.Outcome.{after_response}
+use Rattle.hb_model.proofs.Grown.{one_more}
+use Rattle.hb_model.specs.Calls.{is_control_of}
+use Rattle.hb_model.specs.Messages.{held}
+use Rattle.hb_model.specs.Point as point
+use Rattle.hb_model.specs.declared.config.NodeConfig.{NodeConfig}
+use Rattle.hb_proxy.proofs.Owned.{all_owned}
+use Rattle.hb_proxy.proofs.Places.{at_plain}
+use Rattle.hb_proxy.proofs.Plain.{plain_runs}
+use Rattle.hb_proxy.specs.Access.{PlainIsAdmitted}
+use Rattle.hb_proxy.specs.Held.{at_start}
+use Rattle.hb_proxy.specs.Machine.{plain_local}
+use Rattle.hb_proxy.specs.Owners.{plain_link, relay_of, owner, link_of, UpstreamLaw}
+use Rattle.hb_proxy.specs.Points.{Point, of_control, of_plain, entry_in, entries, control_of, plain_in, plain_of}
+use Rattle.hb_proxy.specs.Relay.{came_behind}
+use Rattle.hb_proxy.specs.Sides.{PlainSide, RelaySide}
+use Rattle.hb_table.specs.declared.judgement.Judged.{Judged}
+use Rattle.hb_table.specs.declared.judgement.Judged.TheVariants.{Admitted, Unknown, Denied}
+use Rattle.hb_world.specs.Trace as world
+use Rattle.hb_world.specs.Trace.{recv, sent}
+use Rattle.hb_world.specs.declared.entry.Entry.{Entry}
+use Rattle.hb_world.specs.declared.entry.Entry.TheVariants as e
+use Rattle.hb_laws.specs.Lawful.{Lawful}
+use Rattle.hb_laws.specs.Refused.{dials, fails, waits}
+use Rattle.hb_laws.specs.RefusedPlain.{accepts_plain, ComesUndialled, GoesUndialled, DialsRelayTwice, is_failure, ClosesHealthyPlain, ClosesPlainForSecond, RelaysUnheld, RelaysBackUnheld, SendsHeader, InventsBack, ChangesBack, AnswersItself, IsOf, RelaysDenied, RelaysUncome, RelaysBackUncome, DialsAside, ShutsEarly, ShutsBackEarly, KeepsEndedPlain, KeepsRevokedPlain, ClosesPlainForAnother, ClosesLivePlain}
+use Rattle.hb_laws.specs.RefusedTunnels.{RefusedAt}
+use Rattle.hb_laws.proofs.Bytes.{not_more}
+use Rattle.hb_laws.proofs.Closing.{close_place}
+use Rattle.hb_laws.proofs.Doors.{owner_without, came_without, went_without}
+use Rattle.hb_laws.proofs.Lawful.{goes_at, laws_of}
+use Rattle.hb_laws.proofs.Living.{all_closed, plain_lives, relay_lives}
+use Rattle.hb_laws.proofs.Places.{place, dial_point, of_plain_link, of_relay}
+use Rattle.hb_laws.proofs.PlainLinks.{fails_call, none_fails, ends_unfailed, header_len}
+use Rattle.hb_laws.proofs.RefusedLinks.{unborn}
+use Rattle.hb_laws.proofs.Runs.{front_runs}
+use Rattle.hb_laws.proofs.Unheld.{none_admitted}
+
+-- BIRTHS
+
+pub comes_undialled : ComesUndialled
+comes_undialled bytes g h = unborn g _ (dials g ∷ accepts_plain ∷ []) (e.Came 3 bytes) 3 h (sym h.trace_is) refl refl
+
+pub goes_undialled : GoesUndialled
+goes_undialled bytes g h = unborn g _ (dials g ∷ accepts_plain ∷ []) (e.Went 3 bytes) 3 h (sym h.trace_is) refl refl
+
+pub dials_relay_twice : DialsRelayTwice
+dials_relay_twice to other g h =
+    let law = subst UpstreamLaw (sym h.trace_is) (laws_of g _ h).upstreams in
+    (let same : 3 ≡ 4 = law.relays 2 3 4 refl refl in absurd (omega (arith, same)))
+
+-- CLOSES
+
+-- link 2 is closed for a cause of a call that failed, and none failed
+closes_whole : (g : NodeConfig) (trace before : List Entry) (why : Cause) → is_failure why ≡ true → (h : Lawful g trace)
+    → entries h.points ≡ (before ++ e.Closed 2 why ∷ []) ++ waits ∷ [] → owner 2 before ≡ plain_link
+    → list_any fails_call before ≡ false → ⊥
+closes_whole g trace before why failure h is mine whole =
+    let s = close_place g trace before h 2 why plain_link is mine in
+    let run = front_runs g h.machine h.points h.run s.front _ s.points_are in
+    let stands = at_plain (λ l. EndsAt l (at_start g)) h.points (λ l. ((laws_of g trace h).plain l).ends) s.front 2
+    (captured.entry (e.Closed 2 why)) s.rest (s.points_are ∙ ap (λ (p : Point). s.front ++ p ∷ s.rest) s.point) in
+    ends_unfailed (at_start g) (plain_of 2 s.front) why
+    (none_fails 2 g run.0 s.front run.1 (ap (list_any fails_call) s.before_is ∙ whole) s.goes) failure stands.1
+
+pub closes_healthy : ClosesHealthyPlain
+closes_healthy why failure g h = closes_whole g _ (dials g ∷ accepts_plain ∷ []) why failure h (sym h.trace_is) refl refl
+
+pub closes_for_second : ClosesPlainForSecond
+closes_for_second why failure g h =
+    closes_whole g _ (dials g ∷ accepts_plain ∷ e.Ended 2 ∷ []) why failure h (sym h.trace_is) refl refl
+
+-- BYTES
+
+pub relays_unheld : RelaysUnheld
+relays_unheld to came bytes g h =
+    let goes = e.Went 2 bytes in
+    let before = fails g ∷ e.Accepted 1 door.Plain ∷ e.Came 1 came ∷ e.Dialled 2 to (whys.Plain 1) ∷ e.Opened 2 ∷ [] in
+    let s = place h.points before goes [] (sym h.trace_is) in
+    let is : PlainIsAdmitted g s.front 1 =
+    (h.access s.front s.p s.rest s.points_are goes 2 s.is refl).relay 1 (ap (owner 2) s.before_is) in
+    none_admitted g _ h s.front (s.p ∷ s.rest) s.points_are (λ l. ap (list_any (is_control_of l)) s.before_is) (peer_in is.seen)
+    is.seen.destination is.admitted
+
+pub relays_back_unheld : RelaysBackUnheld
+relays_back_unheld to came back bytes g h =
+    let goes = e.Went 1 bytes in
+    let before = fails g ∷ e.Accepted 1 door.Plain ∷ e.Came 1 came ∷ e.Dialled 2 to (whys.Plain 1) ∷ e.Opened 2 ∷ e.Came 2 back ∷ [] in
+    let s = place h.points before goes [] (sym h.trace_is) in
+    let is : PlainIsAdmitted g s.front 1 =
+    (h.access s.front s.p s.rest s.points_are goes 1 s.is refl).plain (ap (owner 1) s.before_is) in
+    none_admitted g _ h s.front (s.p ∷ s.rest) s.points_are (λ l. ap (list_any (is_control_of l)) s.before_is) (peer_in is.seen)
+    is.seen.destination is.admitted
+
+-- what went to an upstream came behind a header
+within_behind : (told : Option Seen) (came went rest : List ℕ) → ((seen : Seen) → told ≡ Some seen → 16 ≤ seen.length)
+    → plain.behind told came ≡ went ++ rest → 0 < length went → 16 + length went ≤ length came
+within_behind None came went rest long is some =
+    absurd (omega (arith, some, ap (λ (bs : List ℕ). length bs) is, length-append went rest))
+within_behind (Some seen) came went rest long is some =
+    omega (
+      arith,
+      some,
+      long seen refl,
+      ap (λ (bs : List ℕ). length bs) is,
+      length-append went rest,
+      length-drop seen.length came,
+    )
+
+pub sends_header : SendsHeader
+sends_header g trace l u h owned some more =
+    let there = ap (owner u) (sym h.trace_is) ∙ owner_without u trace ∙ owned in
+    let law = (laws_of g trace h).relay.plain_ups l u there in
+    let went = ap (λ (bs : List ℕ). length bs) (ap (sent u) (sym h.trace_is) ∙ went_without u trace) in
+    let came = ap (λ (bs : List ℕ). length bs) (ap (recv l) (sym h.trace_is) ∙ came_without l trace) in
+    let within = within_behind (header_of (plain_of l h.points)) (recv l (entries h.points)) (sent u (entries h.points)) law.rest
+    (λ seen told. header_len l (at_start g) (plain_local h.machine l) (plain_of l h.points) seen (plain_runs g h.machine h.points l h.run)
+    told) law.front (omega (arith, some, went)) in
+    absurd (omega (arith, more, went, came, within))
+
+pub invents_back : InventsBack
+invents_back to came more byte g h =
+    let law = (laws_of g _ h).relay.plain_downs 2 3 (ap (owner 3) (sym h.trace_is)) in
+    let none : [] ≡ byte ∷ ((more ++ []) ++ law.rest) =
+    ap (recv 3) h.trace_is ∙ law.front ∙ ap (λ (bs : List ℕ). bs ++ law.rest) (ap (sent 2) (sym h.trace_is)) in
+    cc
+
+pub changes_back : ChangesBack
+changes_back to came byte other apart g h =
+    let law = (laws_of g _ h).relay.plain_downs 2 3 (ap (owner 3) (sym h.trace_is)) in
+    let same : byte ∷ [] ≡ (other ∷ []) ++ law.rest =
+    ap (recv 3) h.trace_is ∙ law.front ∙ ap (λ (bs : List ℕ). bs ++ law.rest) (ap (sent 2) (sym h.trace_is)) in
+    apart (cc)
+
+pub answers_itself : AnswersItself
+answers_itself came more byte g h =
+    let law = (laws_of g _ h).relay.plain_none 2 (ap (owner 2) (sym h.trace_is))
+    (λ u is. undialled u (2 == u) (1 == u) refl refl (ap (owner u) h.trace_is ∙ is)) in
+    let none : byte ∷ (more ++ []) ≡ [] = ap (sent 2) h.trace_is ∙ law in
+    cc
+  where
+    undialled : (u : ℕ) (a b : Bool) → (2 == u) ≡ a → (1 == u) ≡ b
+        → owner u (dials g ∷ accepts_plain ∷ e.Came 2 came ∷ e.Went 2 (byte ∷ more) ∷ []) ≡ relay_of 2 → ⊥
+    undialled u true b two one = rw (two) (λ is. cc)
+    undialled u false true two one = rw (two, one) (λ is. cc)
+    undialled u false false two one = rw (two, one) (λ is. cc)
+
+-- PLACES
+
+module _ (g : NodeConfig) (trace : List Entry) (h : Lawful g trace) (before : List Point) (p : Point) (behind : List Point)
+    (are : h.points ≡ before ++ p ∷ behind) where
+  -- what is told of the bytes of a link and of its upstream
+  link_is : (l u : ℕ) → owner u (entries before) ≡ relay_of l → owner l (entries before) ≡ plain_link
+  link_is l u mine = (let at = goes_at g trace h before p behind are in (all_owned g at.machine before at.run).relay_over l u mine)
+
+  link_side : (l u : ℕ) → owner u (entries before) ≡ relay_of l → PlainSide before l
+  link_side l u mine = (h.laws before (p ∷ behind) are).sides.plain l (link_is l u mine)
+
+  up_side : (l u : ℕ) → owner u (entries before) ≡ relay_of l → RelaySide before l u
+  up_side l u mine = (h.laws before (p ∷ behind) are).sides.relay l u mine
+
+  raw_is : (l u : ℕ) → owner u (entries before) ≡ relay_of l → came_behind before l ≡ raw_came (plain_of l before)
+  raw_is l u mine = ap (plain.behind (header_of (plain_of l before))) (link_side l u mine).came
+
+  -- the point is a part of the upstream, or of the link
+  up_point : (l u : ℕ) (z : Entry) → link_of z ≡ Some u → entry_in p ≡ z ∷ [] → owner u (entries before) ≡ relay_of l
+      → p ≡ of_plain l (captured.up z)
+  up_point l u z on is mine = of_relay before z u on p (h.own before p behind are) is l mine
+
+  link_point : (l : ℕ) (z : Entry) → link_of z ≡ Some l → entry_in p ≡ z ∷ [] → owner l (entries before) ≡ plain_link
+      → p ≡ of_plain l (captured.entry z)
+  link_point l z on is mine = of_plain_link before z l on p (h.own before p behind are) is mine
+
+  -- with it the parts of the link are one more
+  parts_with : (l : ℕ) (q : Part) → p ≡ of_plain l q → plain_of l (before ++ p ∷ []) ≡ plain_of l before ++ q ∷ []
+  parts_with l q same =
+      one_more (plain_in l) before p ∙ ap (λ (r : Point). plain_of l before ++ plain_in l r) same
+      ∙ ap (λ (b : Bool). plain_of l before ++ cond b (q ∷ []) []) (itself l)
+    where
+      itself : (a : ℕ) → (a == a) ≡ true
+      itself a = grind arith
+
+  -- a law of it holds at the point
+  at_law : (P : ℕ → List Part → Part → Type 0) → ((l : ℕ) → plain.AtEach (P l) (plain_of l h.points)) → (l : ℕ) (q : Part)
+      → p ≡ of_plain l q → P l (plain_of l before) q
+  at_law P each l q same =
+      at_plain P h.points each before l q behind (are ∙ ap (λ (r : Point). before ++ r ∷ behind) same)
+
+  -- it is relayed so with the point
+  relay_with : (l : ℕ) (q : Part) → p ≡ of_plain l q → plain_relay.RelayLaw (at_start g) (plain_of l before ++ q ∷ [])
+  relay_with l q same =
+      subst (plain_relay.RelayLaw (at_start g)) (parts_with l q same)
+      ((h.laws (before ++ p ∷ []) behind (are ∙ sym (append_assoc before (p ∷ []) behind))).plain l).relay
+
+pub relays_denied : RefusedAt RelaysDenied
+relays_denied g trace before behind p z h are is so = by so.of_it
+  where
+    goes : entry_in p ≡ e.Went so.on so.bytes ∷ []
+    goes = is ∙ ap (λ (y : Entry). y ∷ []) so.goes
+
+    not : PlainIsAdmitted g before so.link → ⊥
+    not admits =
+        let same : so.seen ≡ admits.seen = (let told : Some so.seen ≡ Some admits.seen = sym so.told ∙ admits.told in cc) in
+        so.denied (ap (judged_in (held g (control_of before))) same ∙ admits.admitted)
+
+    by : IsOf so.link so.on before → ⊥
+    by (inl (same, mine)) =
+        not (subst (PlainIsAdmitted g before) same
+        ((h.access before p behind are (e.Went so.on so.bytes) so.on goes refl).plain mine))
+    by (inr mine) = not ((h.access before p behind are (e.Went so.on so.bytes) so.on goes refl).relay so.link mine)
+
+-- one part more behind which the header is the same
+header_same : (parts : List Part) (q : Part) → ((told : Option Seen) → header_by told q ≡ told)
+    → header_of (parts ++ q ∷ []) ≡ header_of parts
+header_same parts q none = fold-append header_by None parts (q ∷ []) ∙ none (header_of parts)
+
+pub relays_uncome : RefusedAt RelaysUncome
+relays_uncome g trace before behind p z h are is so =
+    let l = so.link in
+    let u = so.up in
+    let bytes = so.byte ∷ so.more in
+    let q = captured.up (e.Went u bytes) in
+    let parts = plain_of l before in
+    let same = up_point g trace h before p behind are l u (e.Went u bytes) refl (is ∙ ap (λ (y : Entry). y ∷ []) so.goes) so.owned in
+    let law = (relay_with g trace h before p behind are l q same).ups in
+    let came = ap₂ plain.behind (header_same parts q (λ told. refl)) (one_more came_in parts q ∙ append-nil (link_came parts)) in
+    let all = sym (up_side g trace h before p behind are l u so.owned).went ∙ so.all_went
+    ∙ raw_is g trace h before p behind are l u so.owned in
+    not_more (up_went parts) so.more law.rest so.byte
+    (all ∙ sym came ∙ law.front ∙ ap (λ (bs : List ℕ). bs ++ law.rest) (one_more up_went_in parts q))
+
+pub relays_back_uncome : RefusedAt RelaysBackUncome
+relays_back_uncome g trace before behind p z h are is so =
+    let l = so.link in
+    let u = so.up in
+    let bytes = so.byte ∷ so.more in
+    let q = captured.entry (e.Went l bytes) in
+    let parts = plain_of l before in
+    let same = link_point g trace h before p behind are l (e.Went l bytes) refl (is ∙ ap (λ (y : Entry). y ∷ []) so.goes)
+    (link_is g trace h before p behind are l u so.owned) in
+    let law = (relay_with g trace h before p behind are l q same).downs in
+    let came = one_more up_came_in parts q ∙ append-nil (up_came parts) in
+    let all = sym (link_side g trace h before p behind are l u so.owned).went ∙ so.all_went
+    ∙ (up_side g trace h before p behind are l u so.owned).came in
+    not_more (link_went parts) so.more law.rest so.byte
+    (all ∙ sym came ∙ law.front ∙ ap (λ (bs : List ℕ). bs ++ law.rest) (one_more went_in parts q))
+
+pub dials_aside : RefusedAt DialsAside
+dials_aside g trace before behind p z h are is so =
+    let at = goes_at g trace h before p behind are in
+    let dial = e.Dialled so.up so.other (whys.Plain so.link) in
+    let same = dial_point g at.machine at.next p so.up so.other (whys.Plain so.link) at.steps (is ∙ ap (λ (y : Entry). y ∷ []) so.dials) in
+    let law = (at_law g trace h before p behind are (λ l. VerdictAt l (at_start g)) (λ l. ((laws_of g trace h).plain l).verdicts) so.link
+    (captured.up dial) same).0 in
+    so.untold law.seen law.told (sym law.target)
+
+pub shuts_early : RefusedAt ShutsEarly
+shuts_early g trace before behind p z h are is so =
+    let l = so.link in
+    let u = so.up in
+    let same = up_point g trace h before p behind are l u (e.Shut u) refl (is ∙ ap (λ (y : Entry). y ∷ []) so.shuts) so.owned in
+    let law = (at_law g trace h before p behind are (λ k. RelaysAt (at_start g)) (λ k. ((laws_of g trace h).plain k).relay.places) l
+    (captured.up (e.Shut u)) same).1 in
+    ⊎_elim (λ early. early ((up_side g trace h before p behind are l u so.owned).went ∙ law.whole
+    ∙ sym (raw_is g trace h before p behind are l u so.owned)))
+    (λ unended. false≢true (sym unended ∙ law.ended)) so.early
+
+pub shuts_back_early : RefusedAt ShutsBackEarly
+shuts_back_early g trace before behind p z h are is so =
+    let l = so.link in
+    let u = so.up in
+    let same = link_point g trace h before p behind are l (e.Shut l) refl (is ∙ ap (λ (y : Entry). y ∷ []) so.shuts)
+    (link_is g trace h before p behind are l u so.owned) in
+    let law = (at_law g trace h before p behind are (λ k. RelaysAt (at_start g)) (λ k. ((laws_of g trace h).plain k).relay.places) l
+    (captured.entry (e.Shut l)) same).1 in
+    ⊎_elim (λ early. early ((link_side g trace h before p behind are l u so.owned).went ∙ law.whole
+    ∙ sym (up_side g trace h before p behind are l u so.owned).came))
+    (λ unended. false≢true (sym unended ∙ law.ended)) so.early
+
+-- ENDS
+
+-- one that ended is closed where more comes; so none of it lives then
+none_lives : (g : NodeConfig) (trace : List Entry) → (h : Lawful g trace) → (before : List Point) (p : Point) (behind : List Point)
+    → h.points ≡ before ++ p ∷ behind → (l n : ℕ) → IsOf l n before → world.lives n (entries before) ≡ true
+    → was_on_link is_close (plain_of l before) ≡ true → up_of (plain_of l before) ≡ 0 → ⊥
+none_lives g trace h before p behind are l n of_it living closed none = by of_it
+  where
+    by : IsOf l n before → ⊥
+    by (inl (same, mine)) =
+        let at = goes_at g trace h before p behind are in
+        both_ways _ (subst (λ (k : ℕ). was_on_link is_close (plain_of k before) ≡ false) same
+        (plain_lives g at.machine before at.run n mine living)) closed
+    by (inr mine) =
+        let at = goes_at g trace h before p behind are in
+        let relay = relay_lives g at.machine before at.run n l mine living in absurd (omega (arith, none, relay.0, relay.1))
+
+pub keeps_ended : RefusedAt KeepsEndedPlain
+keeps_ended g trace before behind p z h are is so =
+    let closed = (all_closed g trace h before p behind z are is so.more).plain so.link in
+    none_lives g trace h before p behind are so.link so.on so.of_it so.living (closed.link so.why so.has_ended)
+    (closed.up so.why so.has_ended)
+
+-- an update that doesn't admit the peer of one whose header is whole ends it
+judged_ends : (j : Judged) (course : Course) → j ≢ Admitted → plain.ends cause.Revoked course ≡ over cause.Revoked
+    → ends_judged j course ≡ over cause.Revoked
+judged_ends Admitted course not ends = absurd (not refl)
+judged_ends Unknown course not ends = ends
+judged_ends Denied course not ends = ends
+
+revokes : (r : Resources) (seen : Seen) (told : Option Seen) (course : Course) → told ≡ Some seen → (course ≡ pending) ⊎ (course ≡ lives)
+    → judged_in r seen ≢ Admitted → ends_at r told course ≡ over cause.Revoked
+revokes r seen told course is (inl going) not = ap₂ (ends_at r) is going ∙ judged_ends (judged_in r seen) pending not refl
+revokes r seen told course is (inr going) not = ap₂ (ends_at r) is going ∙ judged_ends (judged_in r seen) lives not refl
+
+pub keeps_revoked : RefusedAt KeepsRevokedPlain
+keeps_revoked g trace before behind p z h are is so =
+    let l = so.link in
+    let q = of_control (point.applied so.control so.response) in
+    let made = captured.applied so.response in
+    let there = are ∙ ap (λ (ps : List Point). ps ++ p ∷ behind) so.before_is ∙ append_assoc so.front (q ∷ []) (p ∷ behind) in
+    let parts = plain_of l so.front in
+    let parts_are = ap (plain_of l) so.before_is ∙ one_more (plain_in l) so.front q in
+    let holds = (h.laws so.front (q ∷ p ∷ behind) there).plain_held l in
+    let ended = ap (course_of (at_start g)) parts_are ∙ course_one (at_start g) parts made
+    ∙ ap (λ (r : Resources). ends_at (after_response r so.response) (header_of parts) (course_of (at_start g) parts)) holds
+    ∙ revokes (after_response (held g (control_of so.front)) so.response) so.seen (header_of parts) (course_of (at_start g) parts) so.told
+    so.goes_on so.denied in
+    let closed = (all_closed g trace h before p behind z are is so.more).plain l in
+    none_lives g trace h so.front q (p ∷ behind) there l so.on so.of_it so.living
+    (sym (ap (was_on_link is_close) parts_are ∙ fold-append (λ was part. on_link is_close part || was) false parts (made ∷ []))
+    ∙ closed.link cause.Revoked ended)
+    (sym (ap up_of parts_are ∙ fold-append up_in 0 parts (made ∷ [])) ∙ closed.up cause.Revoked ended)
+
+-- CLOSES
+
+-- a link and its upstream are closed for the cause that ended it
+close_at : (g : NodeConfig) (trace : List Entry) → (h : Lawful g trace) → (before : List Point) (p : Point) (behind : List Point)
+    → h.points ≡ before ++ p ∷ behind → (l n : ℕ) (why : Cause) → entry_in p ≡ e.Closed n why ∷ [] → IsOf l n before
+    → course_of (at_start g) (plain_of l before) ≡ over why
+close_at g trace h before p behind are l n why is (inl (same, mine)) =
+    let law = at_law g trace h before p behind are (λ k. EndsAt k (at_start g)) (λ k. ((laws_of g trace h).plain k).ends) n
+    (captured.entry (e.Closed n why)) (link_point g trace h before p behind are n (e.Closed n why) refl is mine) in
+    subst (λ (k : ℕ). course_of (at_start g) (plain_of k before) ≡ over why) same law.1
+close_at g trace h before p behind are l n why is (inr mine) =
+    (at_law g trace h before p behind are (λ k. EndsAt k (at_start g)) (λ k. ((laws_of g trace h).plain k).ends) l
+    (captured.up (e.Closed n why)) (up_point g trace h before p behind are l n (e.Closed n why) refl is mine)).0
+
+pub closes_for_another : RefusedAt ClosesPlainForAnother
+closes_for_another g trace before behind p z h are is so =
+    let ended = close_at g trace h before p behind are so.link so.on so.why (is ∙ ap (λ (y : Entry). y ∷ []) so.closes) so.of_it in
+    let both : over so.first ≡ over so.why = sym so.has_ended ∙ ended in
+    so.differs (let same : so.first ≡ so.why = cc in same)
+
+pub closes_live : RefusedAt ClosesLivePlain
+closes_live g trace before behind p z h are is so =
+    subst GoesOn
+    (close_at g trace h before p behind are so.link so.on so.why (is ∙ ap (λ (y : Entry). y ∷ []) so.closes) so.of_it) so.goes_on
