@@ -12,9 +12,10 @@ use Rattle.hb_link.specs.Reaches as link
 use Rattle.hb_link.proofs.Settles.{leads_hold}
 use Rattle.hb_model.specs.declared.config.NodeConfig.{NodeConfig}
 use Rattle.hb_proxy.specs.Machine.{Machine, local, with_part}
+use Rattle.hb_proxy.specs.Notes.{notes}
 use Rattle.hb_proxy.specs.Points.{of_link}
 use Rattle.hb_proxy.specs.Runs.{LinkGuard}
-use Rattle.hb_links.specs.Reaches.{Leads, on_links, notes}
+use Rattle.hb_links.specs.Reaches.{Leads, on_links}
 
 -- such a part may come wherever its link lets it
 inner_guard : (x : Machine) (l : ℕ) (p : Part) → link.IsInner p → LinkGuard x l p

@@ -9,7 +9,6 @@ use Rattle.hb_inbound.specs.Inbound.{Inbound}
 use Rattle.hb_inbound.specs.Tunnel as t
 use Rattle.hb_inbound.specs.Tunnel.{Tunnel as Machine, Stage}
 use Rattle.hb_link.specs.Acts.{NoneIsDue}
-use Rattle.hb_link.specs.Shows.{Shows}
 use Rattle.hb_link.specs.Tunnels.{stage_of, tunnel_of, as_told, ShowsAt, ShowsTunnel}
 use Rattle.hb_link.specs.declared.link.Link.{Link}
 use Rattle.hb_link.specs.declared.tunnel.Tunnel.{Tunnel}
@@ -21,7 +20,7 @@ use Rattle.hb_links.specs.Calls.{wants_in, up_wants_in, wants_at, output_in, up_
 use Rattle.hb_links.specs.Shows.{IsAway, ShowsLink, ShowsAll}
 use Rattle.hb_links.specs.Stirring.{owner_of, stirs_by, stirs_at, StirsAt, Stirs}
 use Rattle.hb_links.proofs.Due.{due_then}
-use Rattle.hb_links.proofs.Showing.{Map, links_with, written_same}
+use Rattle.hb_links.proofs.Showing.{links_with, written_same}
 use Rattle.hb_links.proofs.Stirs.{unstirred}
 
 -- each link that may have no act due, and each that doesn't stir, is as it was, and so it was before

@@ -1,6 +1,6 @@
 -- What all links see at once is told to one link after another.
 use Rattle.std.specs.Prelude.{⊤}
-use Rattle.std.proofs.Common.{◌≡◌, ◌≢◌, ◌⊎◌, inl, inr, ⊎_elim, ℕ, ◌<◌, ◌≤◌, ◌^◌, ◌-◌, Bool, true, false, ◌==◌, cond, List, [], ◌∷◌, ◌++◌, map, fold, Option, Some, None, is_some, IsSome, nat_le, refl, ap, sym, ◌∙◌, subst, arith}
+use Rattle.std.proofs.Common.{◌≡◌, ◌≢◌, ◌⊎◌, inl, inr, ⊎_elim, ℕ, ◌<◌, ◌≤◌, ◌^◌, ◌-◌, Bool, true, false, ◌==◌, cond, List, [], ◌∷◌, ◌++◌, map, fold, Option, Some, None, is_some, IsSome, refl, ap, sym, ◌∙◌, subst, arith}
 use Rattle.std.proofs.lemmas.Bool.{cases_eq, cases_order}
 use Rattle.std.proofs.lemmas.Grind.{fold-append, flat_map-append}
 use Rattle.std.proofs.lemmas.List.{append_assoc, append-nil}
@@ -26,11 +26,12 @@ use Rattle.hb_model.specs.declared.config.NodeConfig.{NodeConfig}
 use Rattle.hb_proxy.proofs.Projection.{links_run}
 use Rattle.hb_proxy.specs.Held.{at_start}
 use Rattle.hb_proxy.specs.Machine.{Machine, local}
-use Rattle.hb_proxy.specs.Points.{Point, of_control, of_link, part_in, parts_of, seen}
+use Rattle.hb_proxy.specs.Notes.{notes, note_in}
+use Rattle.hb_proxy.specs.Points.{Point, of_control, of_link, of_plain, part_in, parts_of, seen}
 use Rattle.hb_proxy.specs.Runs.{Steps, StandsFor, goes_on}
 use Rattle.hb_proxy.specs.Ups.{up_now}
 use Rattle.hb_links.specs.declared.links.Links.{Links}
-use Rattle.hb_links.specs.Reaches.{Guard, Leads, Meets, unguarded, notes, note_in}
+use Rattle.hb_links.specs.Reaches.{Guard, Leads, Meets, unguarded}
 use Rattle.hb_links.specs.Shows.{IsIndex, ShowsAll, ShowsLink}
 use Rattle.hb_links.specs.Walks.{IsNext}
 use Rattle.hb_links.proofs.Lifted.{lifted, notes_of}
@@ -55,7 +56,14 @@ stands_behind G g x y points (p ∷ more) stands is =
     subst (λ (ps : List Point). StandsFor g y ps) (append_assoc points (p ∷ []) more)
     (stands_behind G g is.2 y (points ++ p ∷ []) more (goes_on stands p is.3 refl) is.4)
 
--- what follows by itself changes no upstream
+-- what follows by itself on these links changes no plain one
+pub inner_plain : (G : Guard) (g : NodeConfig) (x y : Machine) (more : List Point) → Leads G g x more y → y.plain ≡ x.plain
+inner_plain G g x y [] is = ap (λ (w : Machine). w.plain) is
+inner_plain G g x y (of_control q ∷ more) is = absurd is.0
+inner_plain G g x y (of_plain m p ∷ more) is = absurd is.0
+inner_plain G g x y (of_link m p ∷ more) is = inner_plain G g is.2 y more is.4 ∙ ap (λ (w : Machine). w.plain) is.3.3
+
+-- nor an upstream
 inner_point : (l s u : ℕ) (m : ℕ) (p : Part) → link.IsInner p → fold (up_in s) u (part_in l (of_link m p)) ≡ u
 inner_point l s u m p inner = by (m == l)
   where
@@ -67,6 +75,7 @@ inner_points : (G : Guard) (g : NodeConfig) (x y : Machine) (more : List Point) 
     → fold (up_in s) u (parts_of l more) ≡ u
 inner_points G g x y [] l s u is = refl
 inner_points G g x y (of_control q ∷ more) l s u is = absurd is.0
+inner_points G g x y (of_plain m p ∷ more) l s u is = absurd is.0
 inner_points G g x y (of_link m p ∷ more) l s u is =
     fold-append (up_in s) u (part_in l (of_link m p)) (parts_of l more)
     ∙ ap (λ (v : ℕ). fold (up_in s) v (parts_of l more)) (inner_point l s u m p is.0)

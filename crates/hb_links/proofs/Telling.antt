@@ -30,7 +30,6 @@ use Rattle.hb_table.specs.Judgement.{judged}
 use Rattle.hb_links.specs.declared.links.Links.{Links}
 use Rattle.hb_links.specs.Busy.{counted, is_at, touched}
 use Rattle.hb_links.specs.Calls.{Updates, Stops}
-use Rattle.hb_links.specs.Reaches.{Meets, unguarded}
 use Rattle.hb_links.specs.Shows.{IsAway, ShowsLink}
 use Rattle.hb_links.specs.Walks.{IsNext, JudgesAt, Telling, TellsBy}
 use Rattle.hb_links.proofs.Showing.{Map}

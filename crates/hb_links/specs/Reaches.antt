@@ -1,13 +1,11 @@
 -- What a call of the code is to the machine of the whole.
 use Rattle.std.specs.Prelude.{⊤, ◌≡◌, List, [], ◌∷◌}
-use Rattle.std.specs.List.{flat_map}
-use Rattle.hb_base.specs.declared.note.Note.{Note}
-use Rattle.hb_inbound.specs.Part as part
 use Rattle.hb_link.specs.Noted.{Told, Takes}
 use Rattle.hb_link.specs.Reaches as link
 use Rattle.hb_model.specs.declared.config.NodeConfig.{NodeConfig}
 use Rattle.hb_proxy.specs.Machine.{Machine, local}
-use Rattle.hb_proxy.specs.Points.{Point, of_control, of_link}
+use Rattle.hb_proxy.specs.Notes.{notes}
+use Rattle.hb_proxy.specs.Points.{Point, of_control, of_link, of_plain}
 use Rattle.hb_proxy.specs.Runs.{Steps, StandsFor}
 use Rattle.hb_links.specs.declared.links.Links.{Links}
 use Rattle.hb_links.specs.Shows.{ShowsAll}
@@ -16,6 +14,7 @@ use Rattle.hb_links.specs.Shows.{ShowsAll}
 abbrev pub IsInner : Point → Type 0
 IsInner (of_control q) = ⊥
 IsInner (of_link l p) = link.IsInner p
+IsInner (of_plain l p) = ⊥
 
 -- of which more may be said, by the machine in front of it; also of the link's alone
 abbrev pub Guard : Type 1
@@ -24,6 +23,7 @@ Guard = Machine → Point → Type 0
 abbrev pub on_links : link.Guard → Guard
 on_links G x (of_control q) = ⊤
 on_links G x (of_link l p) = G (local x l) p
+on_links G x (of_plain l p) = ⊤
 
 abbrev pub unguarded : Guard
 unguarded = on_links link.unguarded
@@ -32,14 +32,6 @@ unguarded = on_links link.unguarded
 abbrev pub Leads : Guard → NodeConfig → Machine → List Point → Machine → Type 0
 Leads G g x [] y = y ≡ x
 Leads G g x (p ∷ more) y = IsInner p × G x p × (mid : Machine) × Steps g x p mid × Leads G g mid more y
-
--- the notes that are made
-abbrev pub note_in : Point → List Note
-note_in (of_control q) = []
-note_in (of_link l p) = part.note_in p
-
-abbrev pub notes : List Point → List Note
-notes points = flat_map note_in points
 
 -- They lead to a machine of which this holds, and their notes are taken in order, or one is lost
 pub record Follows (G : Guard) (Q : Links → Machine → Type 0) (g : NodeConfig) (x : Machine) (k : Links) (told now : Told)

@@ -169,4 +169,11 @@ impl Links {
     {
         self.links.len()
     }
+
+    /// How many tunnels of all links take a place.
+    pub fn taken(&self) -> u128
+        ensures { result ≡ self.now.taken }
+    {
+        self.taken
+    }
 }
