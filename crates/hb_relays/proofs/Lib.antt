@@ -1,0 +1,14 @@
+pub mod Acting
+pub mod Applying
+pub mod Away
+pub mod Births
+pub mod Entering
+pub mod Hearing
+pub mod Lifted
+pub mod NotShown
+pub mod Showing
+pub mod Staying
+pub mod Stirs
+pub mod Sweeping
+pub mod Touching
+pub mod Walking

@@ -1,0 +1,233 @@
+-- What a part leaves as it is: the upstream of a link, and whether the link is closed; and what a link is before its birth.
+use Rattle.std.proofs.Common.{◌≡◌, inl, inr, ℕ, Bool, true, false, cond, List, [], ◌∷◌, refl, ap, sym, ◌∙◌}
+use Rattle.hb_base.specs.declared.cause.Cause.{Cause}
+use Rattle.hb_base.specs.declared.cause.Cause.TheVariants as cause
+use Rattle.hb_captured.specs.Captured.{Captured, Stage, unborn, arriving, fronting, due, opening, accepting, live, failed, ended, over, no_link, at_stage, is_judged, ends_by, ends_for, hung_up, came_by, entered, up_entered, judged_by, rejudged, left_by}
+use Rattle.hb_captured.specs.Part.{Part, entry, up, welcomed, crowded, lacked, misfronted, fronted, refused, accepted, left, done, applied, stopped}
+use Rattle.hb_captured.specs.Runs.{Local, MayCome, UpMayCome, MayGo, IsTried, next, StandsFor, begins, goes_on}
+use Rattle.hb_front.specs.Faults.{number_of}
+use Rattle.hb_held.specs.Held.{Resources}
+use Rattle.hb_held.specs.Outcome.{after_response}
+use Rattle.hb_relay.specs.Reaches.{IsInner, Leads}
+use Rattle.hb_table.specs.Judgement.{judged}
+use Rattle.hb_table.specs.declared.judgement.Judged.{Judged}
+use Rattle.hb_table.specs.declared.judgement.Judged.TheVariants.{Admitted, Unknown, Denied}
+use Rattle.hb_world.specs.declared.entry.Entry.{Entry}
+use Rattle.hb_world.specs.declared.entry.Entry.TheVariants as e
+
+pub record Stays (x y : Captured) : Type 0 where
+  pub up : y.up ≡ x.up
+  pub closed : y.closed ≡ x.closed
+
+pub stays_then : (x y z : Captured) → Stays x y → Stays y z → Stays x z
+stays_then x y z first more = record { up = more.up ∙ first.up; closed = more.closed ∙ first.closed }
+
+-- WHAT FOLLOWS BY ITSELF
+
+pub inner_stays : (a : Local) (p : Part) → IsInner p → Stays a.link (next a p).link
+inner_stays a welcomed inner = record { up = refl; closed = refl }
+inner_stays a (misfronted fault) inner = record { up = refl; closed = refl }
+inner_stays a (fronted seen) inner = record { up = refl; closed = refl }
+inner_stays a (refused seen status note) inner = record { up = refl; closed = refl }
+inner_stays a (accepted note) inner = record { up = refl; closed = refl }
+inner_stays a (left made) inner = record { up = refl; closed = refl }
+inner_stays a (done note) inner = record { up = refl; closed = refl }
+inner_stays a (entry z) inner = absurd inner
+inner_stays a (up z) inner = absurd inner
+inner_stays a crowded inner = absurd inner
+inner_stays a lacked inner = absurd inner
+inner_stays a (applied r) inner = absurd inner
+inner_stays a (stopped why) inner = absurd inner
+
+pub leads_stay : (l : ℕ) (a : Local) (parts : List Part) (b : Local) → Leads l a parts b → Stays a.link b.link
+leads_stay l a [] b is = record { up = ap (λ (c : Local). c.link.up) is; closed = ap (λ (c : Local). c.link.closed) is }
+leads_stay l a (p ∷ parts) b (inner, may, more) =
+    stays_then a.link (next a p).link b.link (inner_stays a p inner) (leads_stay l (next a p) parts b more)
+
+-- ENTRIES, AND WHAT OTHERS DO
+
+pub came_stays : (stage : Stage) (bytes : List ℕ) (x : Captured) → Stays x (came_by stage bytes x)
+came_stays fronting bytes x = record { up = refl; closed = refl }
+came_stays unborn bytes x = record { up = refl; closed = refl }
+came_stays arriving bytes x = record { up = refl; closed = refl }
+came_stays due bytes x = record { up = refl; closed = refl }
+came_stays opening bytes x = record { up = refl; closed = refl }
+came_stays accepting bytes x = record { up = refl; closed = refl }
+came_stays live bytes x = record { up = refl; closed = refl }
+came_stays (failed why) bytes x = record { up = refl; closed = refl }
+came_stays (ended why) bytes x = record { up = refl; closed = refl }
+came_stays (over why) bytes x = record { up = refl; closed = refl }
+
+judged_stays : (j : Judged) (x : Captured) → Stays x (judged_by j x)
+judged_stays Admitted x = record { up = refl; closed = refl }
+judged_stays Unknown x = record { up = refl; closed = refl }
+judged_stays Denied x = record { up = refl; closed = refl }
+
+pub rejudged_stays : (held : Resources) (x : Captured) → Stays x (rejudged held x)
+rejudged_stays held x = by (is_judged x.stage)
+  where
+    by : (b : Bool) → Stays x (cond b (judged_by (judged held x.peer x.target) x) x)
+    by true = judged_stays (judged held x.peer x.target) x
+    by false = record { up = refl; closed = refl }
+
+-- BEFORE ITS BIRTH
+
+-- no part leads back there
+came_stage : (stage : Stage) (bytes : List ℕ) (x : Captured) → (came_by stage bytes x).stage ≡ x.stage
+came_stage fronting bytes x = refl
+came_stage unborn bytes x = refl
+came_stage arriving bytes x = refl
+came_stage due bytes x = refl
+came_stage opening bytes x = refl
+came_stage accepting bytes x = refl
+came_stage live bytes x = refl
+came_stage (failed why) bytes x = refl
+came_stage (ended why) bytes x = refl
+came_stage (over why) bytes x = refl
+
+ends_back : (why : Cause) (stage : Stage) → ends_by why stage ≡ unborn → stage ≡ unborn
+ends_back why unborn is = refl
+ends_back why arriving is = absurd (cc is)
+ends_back why fronting is = absurd (cc is)
+ends_back why due is = absurd (cc is)
+ends_back why opening is = absurd (cc is)
+ends_back why accepting is = absurd (cc is)
+ends_back why live is = absurd (cc is)
+ends_back why (failed first) is = is
+ends_back why (ended first) is = is
+ends_back why (over first) is = is
+
+hung_back : (stage : Stage) → hung_up stage ≡ unborn → stage ≡ unborn
+hung_back fronting is = absurd (cc is)
+hung_back unborn is = is
+hung_back arriving is = is
+hung_back due is = is
+hung_back opening is = is
+hung_back accepting is = is
+hung_back live is = is
+hung_back (failed why) is = is
+hung_back (ended why) is = is
+hung_back (over why) is = is
+
+left_back : (stage : Stage) → left_by stage ≡ unborn → stage ≡ unborn
+left_back (failed why) is = absurd (cc is)
+left_back (ended why) is = absurd (cc is)
+left_back fronting is = is
+left_back unborn is = is
+left_back arriving is = is
+left_back due is = is
+left_back opening is = is
+left_back accepting is = is
+left_back live is = is
+left_back (over why) is = is
+
+judged_back : (j : Judged) (x : Captured) → (judged_by j x).stage ≡ unborn → x.stage ≡ unborn
+judged_back Admitted x is = is
+judged_back Unknown x is = ends_back cause.Revoked x.stage is
+judged_back Denied x is = ends_back cause.Revoked x.stage is
+
+rejudged_back : (held : Resources) (x : Captured) → (rejudged held x).stage ≡ unborn → x.stage ≡ unborn
+rejudged_back held x is = by (is_judged x.stage) is
+  where
+    by : (b : Bool) → (cond b (judged_by (judged held x.peer x.target) x) x).stage ≡ unborn → x.stage ≡ unborn
+    by true is = judged_back (judged held x.peer x.target) x is
+    by false is = is
+
+entry_back : (z : Entry) (x : Captured) → (entered z x).stage ≡ unborn → x.stage ≡ unborn
+entry_back (e.Accepted l d) x is = absurd (cc is)
+entry_back (e.Came l bytes) x is = sym (came_stage x.stage bytes x) ∙ is
+entry_back (e.Ended l) x is = hung_back x.stage is
+entry_back (e.Broke l) x is = ends_back cause.PeerGone x.stage is
+entry_back (e.Went l bytes) x is = is
+entry_back (e.Shut l) x is = is
+entry_back (e.Closed l why) x is = is
+entry_back z x is = is
+
+up_back : (z : Entry) (x : Captured) → (up_entered z x).stage ≡ unborn → x.stage ≡ unborn
+up_back (e.Dialled u to why) x is = absurd (cc is)
+up_back (e.DialFailed to why) x is = ends_back cause.UpFault x.stage is
+up_back (e.Opened u) x is = absurd (cc is)
+up_back (e.Came u bytes) x is = is
+up_back (e.Ended u) x is = is
+up_back (e.Went u bytes) x is = is
+up_back (e.Broke u) x is = ends_back cause.UpFault x.stage is
+up_back (e.Shut u) x is = is
+up_back (e.Closed u why) x is = is
+up_back z x is = is
+
+pub part_back : (a : Local) (p : Part) → (next a p).link.stage ≡ unborn → a.link.stage ≡ unborn
+part_back a (entry z) is = entry_back z a.link is
+part_back a (up z) is = up_back z a.link is
+part_back a welcomed is = absurd (cc is)
+part_back a crowded is = ends_back cause.NoRoom a.link.stage is
+part_back a lacked is = ends_back cause.NoMemory a.link.stage is
+part_back a (misfronted fault) is = ends_back (cause.FrontFault (number_of fault)) a.link.stage is
+part_back a (fronted seen) is = absurd (cc is)
+part_back a (refused seen status made) is = absurd (cc is)
+part_back a (accepted made) is = absurd (cc is)
+part_back a (left made) is = left_back a.link.stage is
+part_back a (done made) is = absurd (cc is)
+part_back a (applied r) is = rejudged_back (after_response a.held r) a.link is
+part_back a (stopped why) is = ends_back why a.link.stage is
+
+-- and from there none leads on but a birth
+module _ (l : ℕ) (a : Local) (at : a.link.stage ≡ unborn) where
+  -- it isn't at another stage
+  never : (stage : Stage) → (unborn ≡ stage → ⊥) → a.link.stage ≡ stage → ⊥
+  never stage apart is = apart (sym at ∙ is)
+
+  untried : IsTried a.link → ⊥
+  untried (inl is) = never fronting (λ no. cc no) is.1
+  untried (inr (inl is)) = never opening (λ no. cc no) is.1
+  untried (inr (inr is)) = never live (λ no. cc no) is.1
+
+  entry_goes : (z : Entry) → MayCome l a.link z → (entered z a.link).stage ≡ unborn → entered z a.link ≡ a.link
+  entry_goes (e.Accepted k d) may is = absurd (cc is)
+  entry_goes (e.Came k bytes) may is = absurd (untried may.1.0)
+  entry_goes (e.Ended k) may is = absurd (untried may.1.0)
+  entry_goes (e.Broke k) may is = absurd (untried may.1)
+  entry_goes (e.Went k bytes) may is = absurd (never live (λ no. cc no) may.1.1)
+  entry_goes (e.Shut k) may is = absurd (never live (λ no. cc no) may.2)
+  entry_goes (e.Closed k why) may is = absurd (never (over why) (λ no. cc no) may.2)
+  entry_goes z may is = refl
+
+  up_goes : (z : Entry) → UpMayCome l a.link z → (up_entered z a.link).stage ≡ unborn → up_entered z a.link ≡ a.link
+  up_goes (e.Dialled u to why) may is = absurd (cc is)
+  up_goes (e.DialFailed to why) may is = absurd (never due (λ no. cc no) may.0.1)
+  up_goes (e.Opened u) may is = absurd (cc is)
+  up_goes (e.Came u bytes) may is = absurd (never live (λ no. cc no) may.0.0.1)
+  up_goes (e.Ended u) may is = absurd (never live (λ no. cc no) may.0.0.1)
+  up_goes (e.Went u bytes) may is = absurd (never live (λ no. cc no) may.0.0.1)
+  up_goes (e.Broke u) (inl may) is = absurd (never opening (λ no. cc no) may.0.1)
+  up_goes (e.Broke u) (inr may) is = absurd (never live (λ no. cc no) may.0.1)
+  up_goes (e.Shut u) may is = absurd (never live (λ no. cc no) may.1)
+  up_goes (e.Closed u why) may is = absurd (never (over why) (λ no. cc no) may.1)
+  up_goes z may is = refl
+
+  ends_none : (why : Cause) → ends_for why a.link ≡ a.link
+  ends_none why = ap (λ (s : Stage). at_stage (ends_by why s) a.link) at ∙ sym (ap (λ (s : Stage). at_stage s a.link) at)
+
+  part_goes : (p : Part) → MayGo l a p → (next a p).link.stage ≡ unborn → (next a p).link ≡ a.link
+  part_goes (entry z) may is = entry_goes z may is
+  part_goes (up z) may is = up_goes z may is
+  part_goes welcomed may is = absurd cc
+  part_goes crowded may is = ends_none cause.NoRoom
+  part_goes lacked may is = ends_none cause.NoMemory
+  part_goes (misfronted fault) may is = ends_none (cause.FrontFault (number_of fault))
+  part_goes (fronted seen) may is = absurd (cc is)
+  part_goes (refused seen status made) may is = absurd (cc is)
+  part_goes (accepted made) may is = absurd (cc is)
+  part_goes (left made) may is = ap (λ (s : Stage). at_stage (left_by s) a.link) at ∙ sym (ap (λ (s : Stage). at_stage s a.link) at)
+  part_goes (done made) may is = absurd (cc is)
+  part_goes (applied r) may is =
+      ap (λ (s : Stage). cond (is_judged s) (judged_by (judged (after_response a.held r) a.link.peer a.link.target) a.link) a.link) at
+  part_goes (stopped why) may is = ends_none why
+
+-- so it is as it was made
+pub unborn_is : (l : ℕ) (start : Resources) (a : Local) (parts : List Part) → StandsFor l start a parts → a.link.stage ≡ unborn
+    → a.link ≡ no_link
+unborn_is l start a parts (begins is none) at = ap (λ (c : Local). c.link) is
+unborn_is l start b more (goes_on {a = a} {parts = parts} stands p step are) at =
+    let now : (next a p).link.stage ≡ unborn = ap (λ (c : Local). c.link.stage) (sym step.1) ∙ at in
+    let before = part_back a p now in
+    ap (λ (c : Local). c.link) step.1 ∙ part_goes l a before p step.0 now ∙ unborn_is l start a parts stands before

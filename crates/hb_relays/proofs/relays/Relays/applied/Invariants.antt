@@ -1,0 +1,14 @@
+use Rattle.hb_relays.specs.Stirring.{Stirs}
+use Rattle.hb_relays.proofs.Sweeping.{left_from}
+use Rattle.hb_relays.proofs.Applying.{Applies}
+use Rattle.hb_relays.proofs.relays.Relays.applied.Given as goal
+
+-- the links in front of the number were told
+abbrev pub invariant-loop-from : goal.invariant-loop-from
+invariant-loop-from g l = record {
+  told : Applies l.held l.initial.self l.self l.from (g.N.Notes.told l.initial.notes) (g.N.Notes.told l.notes);
+  stirs : Stirs l.initial.self l.self;
+}
+
+abbrev pub decreases-loop-from : goal.decreases-loop-from
+decreases-loop-from g l = left_from l.from

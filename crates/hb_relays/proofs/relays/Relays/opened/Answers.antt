@@ -1,0 +1,23 @@
+use Rattle.std.proofs.Common.{rules, ◌≡◌, Some, refl}
+use Rattle.std.specs.FinMap.{get}
+use Rattle.hb_relay.specs.Calls.{any}
+use Rattle.hb_world.specs.declared.entry.Entry.TheVariants as e
+use Rattle.hb_relays.proofs.Entering.{up_told}
+use Rattle.hb_relays.proofs.Stirs.{told_stirs}
+use Rattle.hb_relays.proofs.relays.Relays.opened.Goals as goal
+
+pub returns-clause-meets : goal.returns-clause-meets
+returns-clause-meets g c =
+    let k = c.args.self.now in
+    let n = c.args.number in
+    let l = c.in-Some.link in
+    let new = c.up_opened-made.new.self in
+    let found : get k.ups n ≡ Some l = search rules in
+    up_told any k c.touch.new.self _ c.in-Some-at.relay.now new (g.N.Notes.told c.args.notes.now) (g.N.Notes.told c.tell.new.notes)
+    (Some c.up_opened-made.result) c.tell.ensures n (e.Opened n) l c.touch.ensures (c.at.follows.holds new) found c.in-Some-at.ensures.value
+    (λ x. record { up = refl; closed = refl }) (c.up_opened-made.ensures n)
+
+pub returns-clause-stirs : goal.returns-clause-stirs
+returns-clause-stirs g c =
+    told_stirs c.args.self.now c.touch.new.self _ c.in-Some.link c.up_opened-made.new.self c.touch.ensures
+    (c.at.follows.holds c.up_opened-made.new.self)

@@ -1,0 +1,142 @@
+-- What each call of all links is to the machine.
+use Rattle.std.specs.Prelude.{◌≡◌, ◌⊎◌, ℕ, ◌||◌, Bool, true, is_some, List, [], length, Option, Some, None}
+use Rattle.std.specs.FinMap.{get, len}
+use Rattle.hb_base.specs.declared.cause.Cause.{Cause}
+use Rattle.hb_base.specs.declared.door.Door.TheVariants as door
+use Rattle.hb_base.specs.declared.door.Why.{Why}
+use Rattle.hb_base.specs.declared.target.Target.{Target}
+use Rattle.hb_captured.specs.Calm as calm
+use Rattle.hb_captured.specs.Captured.{Captured}
+use Rattle.hb_captured.specs.Part.{entry, up, crowded}
+use Rattle.hb_disco.specs.declared.response.Response.{Response}
+use Rattle.hb_held.specs.Held.{Resources}
+use Rattle.hb_held.specs.Outcome.{after_response}
+use Rattle.hb_link.specs.Noted.{Told}
+use Rattle.hb_model.specs.Point as point
+use Rattle.hb_model.specs.declared.config.NodeConfig.{NodeConfig}
+use Rattle.hb_proxy.specs.Machine.{Machine}
+use Rattle.hb_proxy.specs.Points.{Point, of_control, of_plain}
+use Rattle.hb_proxy.specs.Runs.{Steps, StandsFor}
+use Rattle.hb_proxy.specs.Seen.{IsPlainThere}
+use Rattle.hb_proxy.specs.Ups.{IsRelayOf}
+use Rattle.hb_relay.specs.Shows.{captured_of}
+use Rattle.hb_relay.specs.declared.relay.Relay.{Relay}
+use Rattle.hb_world.specs.declared.entry.Entry.{Entry}
+use Rattle.hb_world.specs.declared.entry.Entry.TheVariants as e
+use Rattle.hb_relays.specs.Reaches.{Meets, any}
+use Rattle.hb_relays.specs.Shows.{ShowsRelays}
+use Rattle.hb_relays.specs.declared.relays.Relays.{Relays}
+
+-- ENTRIES
+
+-- what an entry on the link of a number is: of the upstream of a link, or of a link
+abbrev pub point_by : Option ℕ → Option Relay → ℕ → Entry → Option Point
+point_by (Some l) kept n z = Some (of_plain l (up z))
+point_by None (Some kept) n z = Some (of_plain n (entry z))
+point_by None None n z = None
+
+abbrev pub point_for : Relays → ℕ → Entry → Option Point
+point_for k n z = point_by (get k.ups n) (get k.relays n) n z
+
+abbrev pub EntersWhere : (Machine → Type 0) → ℕ → Entry → Relays → Told → Relays → Told → Type 0
+EntersWhere P n z old told new now = (p : Point) → point_for old n z ≡ Some p → Meets P p old told new now
+
+abbrev pub Enters : ℕ → Entry → Relays → Told → Relays → Told → Type 0
+Enters n z old told new now = EntersWhere any n z old told new now
+
+-- some bytes of so many went
+abbrev pub Goes : (n count : ℕ) → Relays → Told → Relays → Told → Type 0
+Goes n count old told new now = (bytes : List ℕ) → length bytes ≡ count → Enters n (e.Went n bytes) old told new now
+
+-- bytes came, while this was held
+abbrev pub Takes : Resources → ℕ → List ℕ → Relays → Told → Relays → Told → Type 0
+Takes held n bytes old told new now = EntersWhere (λ x. x.control.held ≡ held) n (e.Came n bytes) old told new now
+
+-- a link is accepted, and no note is made
+abbrev pub Begins : ℕ → Relays → Relays → Type 0
+Begins n old new = Meets any (of_plain n (entry (e.Accepted n door.Plain))) old (Some []) new (Some [])
+
+-- a link is accepted where as many are open as may be: behind its birth it is turned away
+abbrev pub TurnsAway : ℕ → Relays → Relays → Type 0
+TurnsAway n old new =
+    (g : NodeConfig) (x y : Machine) (points : List Point) → StandsFor g x points → ShowsRelays old x.plain
+    → Steps g x (of_plain n (entry (e.Accepted n door.Plain))) y
+    → (z : Machine) × Steps g y (of_plain n crowded) z × ShowsRelays new z.plain
+
+-- the dial for a link gave the link u, or none
+abbrev pub Dials : (l u : ℕ) → Relays → Relays → Type 0
+Dials l u old new = (to : Target) (why : Why) → Meets any (of_plain l (up (e.Dialled u to why))) old (Some []) new (Some [])
+
+abbrev pub DialFails : ℕ → Relays → Told → Relays → Told → Type 0
+DialFails l old told new now = (to : Target) (why : Why) → Meets any (of_plain l (up (e.DialFailed to why))) old told new now
+
+-- a response on a link to the control plane is applied, which makes this of what was held
+abbrev pub Updates : Resources → Relays → Told → Relays → Told → Type 0
+Updates held old told new now =
+    (l : ℕ) (r : Response) → Meets (λ x. held ≡ after_response x.control.held r) (of_control (point.applied l r)) old told new now
+
+-- the run ends
+abbrev pub Stops : Cause → Relays → Told → Relays → Told → Type 0
+Stops cause old told new now = Meets any (of_control (point.stopped cause)) old told new now
+
+-- OBSERVATIONS OF THE CODE, AND OF THE MACHINES
+
+-- a link has this number, or an upstream
+abbrev pub has_of : Relays → ℕ → Bool
+has_of k n = is_some (get k.ups n) || is_some (get k.relays n)
+
+abbrev pub IsPresent : (ℕ → Captured) → ℕ → Type 0
+IsPresent f n = IsPlainThere (f n) ⊎ ((l : ℕ) × IsRelayOf (f l) n)
+
+abbrev pub Has : Relays → ℕ → Bool → Type 0
+Has k n has = (f : ℕ → Captured) → ShowsRelays k f → (has ≡ true → IsPresent f n) × (IsPresent f n → has ≡ true)
+
+abbrev pub wants_in : Option Relay → ℕ
+wants_in None = 0
+wants_in (Some k) = calm.wants (captured_of k)
+
+abbrev pub up_wants_in : Option Relay → ℕ
+up_wants_in None = 0
+up_wants_in (Some k) = calm.up_wants (captured_of k)
+
+abbrev pub wants_at : Relays → Option ℕ → ℕ → ℕ
+wants_at k None n = wants_in (get k.relays n)
+wants_at k (Some l) n = up_wants_in (get k.relays l)
+
+-- how many bytes may be read of the link of a number
+abbrev pub wants_of : Relays → ℕ → ℕ
+wants_of k n = wants_at k (get k.ups n) n
+
+abbrev pub machine_wants : (ℕ → Captured) → Option ℕ → ℕ → ℕ
+machine_wants f None n = calm.wants (f n)
+machine_wants f (Some l) n = calm.up_wants (f l)
+
+abbrev pub Wants : Relays → ℕ → ℕ → Type 0
+Wants k n count = (f : ℕ → Captured) → ShowsRelays k f → count ≡ machine_wants f (get k.ups n) n
+
+abbrev pub output_in : Option Relay → List ℕ
+output_in None = []
+output_in (Some k) = calm.output (captured_of k)
+
+abbrev pub up_output_in : Option Relay → List ℕ
+up_output_in None = []
+up_output_in (Some k) = calm.up_output (captured_of k)
+
+abbrev pub held_at : Relays → Option ℕ → ℕ → List ℕ
+held_at k None n = output_in (get k.relays n)
+held_at k (Some l) n = up_output_in (get k.relays l)
+
+-- the bytes that wait to be written to the link of a number
+abbrev pub held_of : Relays → ℕ → List ℕ
+held_of k n = held_at k (get k.ups n) n
+
+abbrev pub machine_held : (ℕ → Captured) → Option ℕ → ℕ → List ℕ
+machine_held f None n = calm.output (f n)
+machine_held f (Some l) n = calm.up_output (f l)
+
+abbrev pub Holds : Relays → ℕ → List ℕ → Type 0
+Holds k n bytes = (f : ℕ → Captured) → ShowsRelays k f → bytes ≡ machine_held f (get k.ups n) n
+
+-- how many links of the plain door are kept
+abbrev pub count_of : Relays → ℕ
+count_of k = len k.relays

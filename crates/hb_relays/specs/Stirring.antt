@@ -1,0 +1,58 @@
+-- Which numbers stir: of links on which more may be read, or is to be written, than when that was told last.
+use Rattle.std.specs.Prelude.{◌≡◌, ◌≢◌, ◌⊎◌, ℕ, ◌||◌, Bool, true, false, [], Option, Some, None}
+use Rattle.std.specs.FinMap.{get}
+use Rattle.hb_captured.specs.Captured.{Captured}
+use Rattle.hb_world.specs.declared.act.Act.{Act}
+use Rattle.hb_world.specs.declared.act.Act.TheVariants as act
+use Rattle.hb_relays.specs.Calls.{IsPresent, has_of, wants_of, held_of}
+use Rattle.hb_relays.specs.Shows.{ShowsRelays}
+use Rattle.hb_relays.specs.Touched.{is_at, is_touched}
+use Rattle.hb_relays.specs.declared.relays.Relays.{Relays}
+
+-- the link whose upstream a number is, else the number itself
+abbrev pub owner_of : Option ℕ → ℕ → ℕ
+owner_of None n = n
+owner_of (Some l) n = l
+
+-- it is the upstream that is left to be told
+abbrev pub is_left : Option ℕ → Option ℕ → Bool
+is_left left None = false
+is_left left (Some l) = is_at left l
+
+-- a number stirs: its link was touched, or it is left
+abbrev pub stirs_by : Relays → Option ℕ → ℕ → Bool
+stirs_by k at n = is_touched k.stirs (owner_of at n) || is_left k.left at
+
+abbrev pub stirs_at : Relays → ℕ → Bool
+stirs_at k n = stirs_by k (get k.ups n) n
+
+-- One that stirred still does. One that has something to be read, or to be written, and had nothing, does; and one that is of a link now,
+-- and wasn't. No other one is of a link where it wasn't, or isn't where it was
+pub record StirsAt (n : ℕ) (old new : Relays) : Type 0 where
+  pub has : (has_of new n ≡ has_of old n) ⊎ ((has_of new n ≡ true) × (stirs_at new n ≡ true))
+  pub kept : stirs_at old n ≡ true → stirs_at new n ≡ true
+  pub reads : wants_of old n ≡ 0 → (wants_of new n ≡ 0) ⊎ (stirs_at new n ≡ true)
+  pub writes : held_of old n ≡ [] → (held_of new n ≡ []) ⊎ (stirs_at new n ≡ true)
+
+abbrev pub Stirs : Relays → Relays → Type 0
+Stirs old new = (n : ℕ) → StirsAt n old new
+
+-- each but that of the link that an act closes
+abbrev pub closed_in : Option Act → Option ℕ
+closed_in (Some (act.Close u cause)) = Some u
+closed_in due = None
+
+abbrev pub StirsBut : Option ℕ → Relays → Relays → Type 0
+StirsBut closed old new = (n : ℕ) → closed ≢ Some n → StirsAt n old new
+
+-- THEY ARE TOLD
+
+-- one that stirred still does, or was told
+abbrev pub Hears : Option ℕ → Relays → Relays → Type 0
+Hears told old new =
+    (f : ℕ → Captured) → ShowsRelays old f
+    → ShowsRelays new f × ((n : ℕ) → IsPresent f n → stirs_at old n ≡ true → (stirs_at new n ≡ true) ⊎ (told ≡ Some n))
+
+-- nothing else changes
+abbrev pub OnlyHears : Relays → Relays → Type 0
+OnlyHears old new = new ≡ record old { stirs = new.stirs; left = new.left }

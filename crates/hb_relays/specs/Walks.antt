@@ -1,0 +1,92 @@
+-- How a link is touched, and how a walk over all links goes on. No public clause cites this file.
+use Rattle.std.specs.Prelude.{◌≡◌, ◌≢◌, ◌⊎◌, ℕ, ◌+◌, ◌==◌, ◌<◌, ◌≤◌, ◌^◌, true, false, List, Option, Some, None, IsSome, if◌then◌else◌}
+use Rattle.std.specs.FinMap.{FinMap, get, insert, remove}
+use Rattle.std.specs.Ordering.{nat_cmp}
+use Rattle.hb_base.specs.declared.note.Note.{Note}
+use Rattle.hb_captured.specs.Captured.{Captured}
+use Rattle.hb_captured.specs.Part.{note_if}
+use Rattle.hb_link.specs.Noted.{Told, Takes}
+use Rattle.hb_map.specs.Keyed.{IsFirstFrom}
+use Rattle.hb_model.specs.declared.config.NodeConfig.{NodeConfig}
+use Rattle.hb_proxy.specs.Machine.{Machine}
+use Rattle.hb_proxy.specs.Points.{Point}
+use Rattle.hb_proxy.specs.Runs.{ControlRests, Lets, StandsFor}
+use Rattle.hb_relay.specs.Shows.{captured_of}
+use Rattle.hb_relay.specs.declared.relay.Relay.{Relay}
+use Rattle.hb_world.specs.declared.act.Act.{Act}
+use Rattle.hb_world.specs.declared.act.Act.TheVariants as act
+use Rattle.hb_relays.specs.Acts.{ActsOn}
+use Rattle.hb_relays.specs.Shows.{IsIdle, IsIndex, ShowsRelay, ShowsRelays}
+use Rattle.hb_relays.specs.Touched.{is_touched, touched, TakesOut}
+use Rattle.hb_relays.specs.declared.relays.Relays.{Relays}
+
+abbrev pub Map : Type 0
+Map = FinMap nat_cmp Relay
+
+abbrev pub Index : Type 0
+Index = FinMap nat_cmp ℕ
+
+-- with other links and upstreams
+abbrev pub relays_with : Map → Index → Relays → Relays
+relays_with relays ups k = record k { relays = relays; ups = ups }
+
+-- a link is touched: it may have an act due, and is to be told
+abbrev pub touched_at : ℕ → Relays → Relays
+touched_at l k = record k { due = touched l k.due; stirs = touched l k.stirs }
+
+-- the least number behind this one; behind the greatest of 64 bits there is none
+abbrev pub IsNext : Map → ℕ → Option ℕ → Type 0
+IsNext relays n next = IsFirstFrom relays (n + 1) next ⊎ ((next ≡ None) × (2 ^ 64 ≤ n + 1))
+
+-- what is told to a link, and makes this of it, with this note or none
+abbrev pub Telling : Type 1
+Telling = Relay → Relay → Option Note → Type 0
+
+-- with it in the place of the old one
+abbrev pub changed : ℕ → Relay → Relays → Relays
+changed l new k = relays_with (insert k.relays l new) k.ups k
+
+-- it is touched; where nothing of it changed it needn't be
+abbrev pub IsChanged : (l : ℕ) (old new : Relay) → Relays → Relays → Type 0
+IsChanged l old new k m =
+    (m ≡ touched_at l (changed l new k)) ⊎ ((captured_of new ≡ captured_of old) × (m ≡ changed l new k))
+
+-- it is told to the one of a number, where there is one
+abbrev pub TellsBy : Telling → Option Relay → ℕ → Relays → Told → Relays → Told → Type 0
+TellsBy R None n k told m now = (m ≡ k) × (now ≡ told)
+TellsBy R (Some old) n k told m now =
+    (new : Relay) × (made : Option Note) × R old new made × IsChanged n old new k m × Takes told (note_if made) now
+
+-- ACTS
+
+-- a link is closed: the one of this number itself, or its upstream
+abbrev pub closed_by : (n u : ℕ) → Relays → Relays
+closed_by n u k = if u == n then relays_with (remove k.relays n) k.ups k else relays_with k.relays (remove k.ups u) k
+
+-- what a close leaves
+abbrev pub left_by : ℕ → Act → Relays → Relays
+left_by n (act.Close u cause) k = closed_by n u k
+left_by n due k = k
+
+abbrev pub finished : ℕ → Act → Relays → Relays
+finished n due k = touched_at n (left_by n due k)
+
+-- of all links but this one it is known that they have no act due where they weren't touched
+pub record ShowsBut (n : ℕ) (k : Relays) (f : ℕ → Captured) : Type 0 where
+  pub relays : (l : ℕ) → ShowsRelay l (get k.relays l) (f l)
+  pub index : IsIndex k.ups f
+  pub numbered : (l : ℕ) → IsSome (get k.relays l) → l < 2 ^ 64
+  pub idle : (l : ℕ) → l ≢ n → is_touched k.due l ≡ false → IsIdle (f l)
+
+-- the walk goes to a link that may have an act due
+abbrev pub GoesTo : Option ℕ → Relays → Relays → Type 0
+GoesTo next old new = (new ≡ record old { due = new.due }) × TakesOut old.relays next old.due new.due
+
+-- the act that is due of one link; where none is the links that were shown are shown still
+abbrev pub ActsOf : ℕ → Option Act → Relays → Relays → Type 0
+ActsOf n None old new =
+    (new.due ≡ old.due)
+    × ((g : NodeConfig) (x : Machine) (points : List Point) → StandsFor g x points → ShowsBut n old x.plain → ShowsRelays new x.plain)
+ActsOf n (Some due) old new =
+    (g : NodeConfig) (x : Machine) (points : List Point) → StandsFor g x points → ShowsBut n old x.plain → ControlRests x.control
+    → ((k : ℕ) → Lets true (x.inbound k)) → ActsOn (Some due) new g x

@@ -1,0 +1,51 @@
+//! What is known of the links.
+
+ghost use Rattle.std.specs.Prelude.{◌≡◌};
+ghost use Rattle.hb_tunnel.specs.Way.{IsFront};
+ghost use Rattle.hb_relays.specs.Calls.{Has, Wants, Holds, has_of, wants_of, held_of};
+
+use crate::relays::Relays;
+
+impl Relays {
+    /// Whether this number is one of a link that is kept, or of an upstream of one.
+    pub fn has(&self, number: u64) -> bool
+        ensures value { result ≡ has_of self.now number }
+        ensures machine { Has self.now number result }
+    {
+        self.ups.get(number).is_some() || self.relays.get(number).is_some()
+    }
+
+    /// How many bytes may be read of the link of this number now.
+    pub fn wants(&self, number: u64) -> usize
+        ensures value { result ≡ wants_of self.now number }
+        ensures machine { Wants self.now number result }
+    {
+        match self.ups.get(number) {
+            Some(link) => match self.relays.get(*link) {
+                Some(relay) => relay.up_wants(),
+                None => 0,
+            },
+            None => match self.relays.get(number) {
+                Some(relay) => relay.wants(),
+                None => 0,
+            },
+        }
+    }
+
+    /// A front part of the bytes that wait to be written to it; none only where none waits.
+    pub fn output(&self, number: u64) -> &[u8]
+        ensures front { IsFront result.now (held_of self.now number) }
+        ensures machine { Holds self.now number (held_of self.now number) }
+    {
+        match self.ups.get(number) {
+            Some(link) => match self.relays.get(*link) {
+                Some(relay) => relay.up_output(),
+                None => b"",
+            },
+            None => match self.relays.get(number) {
+                Some(relay) => relay.output(),
+                None => b"",
+            },
+        }
+    }
+}

@@ -1,0 +1,26 @@
+//! Links that code may not show, a call that isn't what it says, and links that may be shown. Each is the contract of a function that does
+//! nothing.
+
+ghost use Rattle.hb_relays.specs.Refused.{LacksUp, FindsClosed, LacksLink, KeepsUnderAnother, KeepsClosed, MissesDial, ForgetsLink};
+ghost use Rattle.hb_relays.specs.Refused.{OneIsShown};
+
+/// Each upstream that isn't closed is found, and no other one; each link that is open is kept, under its own number, and none that is
+/// closed; and of a link that isn't among those that may have an act due none is.
+pub fn other_links_are_not_shown()
+    ensures lacks { LacksUp }
+    ensures finds { FindsClosed }
+    ensures link { LacksLink }
+    ensures number { KeepsUnderAnother }
+    ensures closed { KeepsClosed }
+    ensures act { MissesDial }
+{}
+
+/// A link that is accepted is kept.
+pub fn a_link_is_not_forgotten()
+    ensures { ForgetsLink }
+{}
+
+/// One link that was taken in, and no other, is shown by one that is kept.
+pub fn links_are_shown()
+    ensures { OneIsShown }
+{}

@@ -1,0 +1,18 @@
+//! All links of the plain door of a node under their numbers, and under the number of each upstream the link that it is of. Each call
+//! meets the machine of hb_proxy: for each run of the whole that they showed, they show the run with what they were told, and what
+//! follows from that by itself on the links.
+#![tactic(auto)]
+
+mod acts;
+mod dials;
+mod entries;
+mod known;
+mod laws;
+mod relays;
+mod stirring;
+mod telling;
+mod touched;
+mod updates;
+
+pub use laws::{a_link_is_not_forgotten, links_are_shown, other_links_are_not_shown};
+pub use relays::Relays;

@@ -1,0 +1,95 @@
+//! All links of the plain door.
+
+ghost use Rattle.std.specs.Prelude.{true, ◌≡◌, OnOk};
+ghost use Rattle.hb_captured.specs.Captured.{no_link};
+ghost use Rattle.hb_relays.specs.Calls.{Begins, TurnsAway, count_of};
+ghost use Rattle.hb_relays.specs.Shows.{ShowsRelays};
+ghost use Rattle.hb_relays.specs.Stirring.{Stirs};
+ghost use Rattle.hb_relays.specs.Touched.{is_idle};
+ghost use Rattle.hb_relays.specs.Walks.{touched_at};
+
+use crate::touched::Touched;
+use hb_base::NoMemory;
+use hb_map::ById;
+use hb_relay::Relay;
+use std::alloc::Global;
+
+/// The links of the plain door of a node.
+#[derive(Drop)]
+pub struct Relays {
+    pub(crate) alloc: Global,
+    pub(crate) relays: ById<u64, Relay>,
+    /// Of each upstream that isn't closed, which link it is of.
+    pub(crate) ups: ById<u64, u64>,
+    /// These links may have an act due.
+    pub(crate) due: Touched,
+    /// Of these links, or of their upstreams, more may be read, or is to be written, than when they were told last.
+    pub(crate) stirs: Touched,
+    /// So it is of the upstream of this link, which was told itself.
+    pub(crate) left: Option<u64>,
+}
+
+impl Relays {
+    /// None: before each link's birth.
+    pub fn new(alloc: Global) -> Relays
+        ensures shows { ShowsRelays result (λ l. no_link) }
+        ensures idle { is_idle result.due ≡ true }
+    {
+        Relays {
+            alloc,
+            relays: ById::new(alloc),
+            ups: ById::new(alloc),
+            due: Touched::new(),
+            stirs: Touched::new(),
+            left: None,
+        }
+    }
+
+    /// This link was told something: it may have an act due from now on, and it and its upstream are to be told.
+    pub(crate) fn touch(&mut self, link: u64)
+        ensures { self.new ≡ touched_at link self.old }
+    {
+        self.due.touch(link);
+        self.stirs.touch(link);
+    }
+
+    /// No link has an act due.
+    pub fn is_idle(&self) -> bool
+        ensures { result ≡ is_idle self.now.due }
+    {
+        self.due.is_idle()
+    }
+
+    /// A link was accepted.
+    ///
+    /// Errors: `NoMemory`, behind which the run ends.
+    pub fn accepted(&mut self, number: u64) -> Result<(), NoMemory>
+        ensures meets { OnOk result (Begins number self.old self.new) }
+        ensures stirs { OnOk result (Stirs self.old self.new) }
+    {
+        let relay = Relay::accepted(self.alloc, number)?;
+        self.relays.put(number, relay)?;
+        self.touch(number);
+        Ok(())
+    }
+
+    /// A link was accepted where as many are open as may be: it is to be closed for that cause.
+    ///
+    /// Errors: `NoMemory`, behind which the run ends.
+    pub fn turned_away(&mut self, number: u64) -> Result<(), NoMemory>
+        ensures meets { OnOk result (TurnsAway number self.old self.new) }
+        ensures stirs { OnOk result (Stirs self.old self.new) }
+    {
+        let relay = Relay::turned_away(self.alloc, number)?;
+        self.relays.put(number, relay)?;
+        self.touch(number);
+        Ok(())
+    }
+
+    /// How many links of the plain door are kept: each from its birth until its close was given.
+    pub fn len(&self) -> usize
+        ensures { result ≡ count_of self.now }
+    {
+        self.relays.len()
+    }
+}
