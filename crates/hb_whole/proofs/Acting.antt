@@ -1,68 +1,38 @@
--- The acts that the proxy gives.
-use Rattle.std.proofs.Common.{◌≡◌, ◌≢◌, ◌⊎◌, inl, inr, ⊎_elim, ℕ, ◌<◌, ◌==◌, ◌&&◌, ◌||◌, not, Bool, true, false, cond, List, [], ◌∷◌, ◌++◌, Option, Some, None, refl, ap, sym, ◌∙◌, subst, arith}
-use Rattle.std.proofs.lemmas.Bool.{and_parts, eq-eqb, ne_eqb, eqb-true}
+-- The acts that the proxy gives of the link to the control plane.
+use Rattle.std.proofs.Common.{◌≡◌, ℕ, ◌==◌, ◌&&◌, ◌||◌, not, Bool, true, false, cond, List, [], ◌∷◌, ◌++◌, Option, Some, None, refl, ap, sym, ◌∙◌, subst}
+use Rattle.std.proofs.lemmas.Bool.{eq-eqb, ne_eqb}
 use Rattle.hb_base.specs.declared.cause.Cause.{Cause}
-use Rattle.hb_base.specs.declared.door.Why.{Why}
-use Rattle.hb_base.specs.declared.door.Why.TheVariants as whys
 use Rattle.hb_base.specs.declared.note.Note.{Note}
-use Rattle.hb_base.specs.declared.target.Target.{Target}
-use Rattle.hb_inbound.specs.Calm.{close_due}
-use Rattle.hb_inbound.specs.Inbound as m
-use Rattle.hb_inbound.specs.Inbound.{Inbound, at_stream}
-use Rattle.hb_inbound.specs.Part as part
-use Rattle.hb_inbound.specs.Part.{Part}
-use Rattle.hb_inbound.specs.Runs as inbound
-use Rattle.hb_inbound.specs.Tunnel as t
-use Rattle.hb_inbound.specs.Tunnel.{Tunnel, Stage, up_entered, may_shut}
 use Rattle.hb_link.proofs.Noted.{takes_none}
 use Rattle.hb_links.proofs.Acting.{all_calm}
-use Rattle.hb_links.proofs.Stirs.{none_stirs}
-use Rattle.hb_links.specs.Acts as links
-use Rattle.hb_links.specs.Acts.{Does}
-use Rattle.hb_links.specs.Shows.{ShowsAll}
-use Rattle.hb_links.specs.Stirring.{StirsAt, StirsBut, closed_in}
-use Rattle.hb_links.specs.declared.links.Links.{Links}
-use Rattle.hb_model.proofs.DialsDue.{runs_on as dials_go_on}
 use Rattle.hb_model.specs.Discovery as d
 use Rattle.hb_model.specs.Machine as control
-use Rattle.hb_model.specs.Machine.{Machine as Control, without}
+use Rattle.hb_model.specs.Machine.{without}
 use Rattle.hb_model.specs.Point as point
 use Rattle.hb_model.specs.Runs as model
-use Rattle.hb_model.specs.Runs.{due_by}
-use Rattle.hb_model.specs.declared.act.Act.{Act as ControlAct}
 use Rattle.hb_model.specs.declared.act.Act.TheVariants as own
 use Rattle.hb_model.specs.declared.config.NodeConfig.{NodeConfig}
 use Rattle.hb_node.specs.State as node
-use Rattle.hb_node.specs.State.{State, Shows, due_of, number_of}
-use Rattle.hb_proxy.proofs.Owned.{all_owned, whose_in}
-use Rattle.hb_proxy.proofs.Projection.{control_runs}
-use Rattle.hb_proxy.proofs.Stays.{OwnsBy}
+use Rattle.hb_node.specs.State.{State, Shows, number_of}
 use Rattle.hb_proxy.specs.Doors.{without_doors}
-use Rattle.hb_proxy.specs.Machine.{Machine, with_control, with_part}
-use Rattle.hb_proxy.specs.Owners.{Owner, nobody, upstream_of}
-use Rattle.hb_proxy.specs.Points.{Point, of_control, of_link, control_of}
-use Rattle.hb_proxy.specs.Runs.{ControlRests, Steps, StandsFor, goes_on}
-use Rattle.hb_proxy.specs.Seen.{Seen, IsThere, IsLinkThere}
-use Rattle.hb_proxy.specs.Ups.{Joins, up_by}
+use Rattle.hb_proxy.specs.Machine.{Machine, with_control}
+use Rattle.hb_proxy.specs.Points.{of_control}
+use Rattle.hb_proxy.specs.Runs.{Steps, goes_on}
+use Rattle.hb_proxy.specs.Seen.{Seen, IsThere}
 use Rattle.hb_turns.specs.Shown as shown
-use Rattle.hb_turns.specs.Shown.{Acts}
 use Rattle.hb_world.proofs.TraceLemmas.{any-grows}
-use Rattle.hb_world.specs.Trace.{lives, was_born, was_closed, was_shut, is_close_of}
-use Rattle.hb_world.specs.declared.act.Act.{Act}
-use Rattle.hb_world.specs.declared.act.Act.TheVariants as act
+use Rattle.hb_world.specs.Trace.{lives, was_born, was_closed, is_close_of}
 use Rattle.hb_world.specs.declared.entry.Entry.{Entry}
 use Rattle.hb_world.specs.declared.entry.Entry.TheVariants as e
-use Rattle.hb_whole.specs.Acting.{act_of, given_by, dial_in, strange_by}
 use Rattle.hb_whole.specs.Queue.{told}
-use Rattle.hb_whole.specs.Sight.{is_number, owns, shown_of, wants_by, output_by, stirs_by}
-use Rattle.hb_whole.specs.Stands.{Stands, EndsBy, Ends, ControlEnds, LinkEnds, TunnelEnds, MayBeDialled, DialIsDue}
+use Rattle.hb_whole.specs.Sight.{is_number, owner_of, shown_of}
+use Rattle.hb_whole.specs.Stands.{Stands, EndsBy, ControlEnds}
 use Rattle.hb_whole.specs.declared.proxy.Proxy.{Proxy}
-use Rattle.hb_whole.specs.declared.side.Side.{Side}
-use Rattle.hb_whole.proofs.Free.{control_rests}
 use Rattle.hb_whole.proofs.Growing.{stood}
 use Rattle.hb_whole.proofs.Heard.{number_is}
-use Rattle.hb_whole.proofs.Routes.{seen_of, lives_then, shut_then}
-use Rattle.hb_whole.proofs.Telling.{with_act, act_stirs}
+use Rattle.hb_whole.proofs.Relays.{plain_calm}
+use Rattle.hb_whole.proofs.Routes.{seen_of, lives_then}
+use Rattle.hb_whole.proofs.Stirring.{StirsOn, all_stir, none_stir, other_stirs}
 
 -- THE TRACE
 
@@ -116,6 +86,7 @@ closed_ends g x l cause (Some c) is = (
     control = λ k. by (l == k) k (is.1.control k);
     links = λ k. is.1.links k;
     tunnels = λ k s. is.1.tunnels k s;
+    plain = λ k. is.1.plain k;
   },
 )
   where
@@ -149,10 +120,18 @@ module _ (taken : List Note) (p : Proxy) (n : State) (l : ℕ) (cause : Cause)
   close_stands =
       let q = point.entry (e.Closed l cause) in
       let m2 = control.entered p.control.config (e.Closed l cause) x.control in
-      let steps : Steps p.control.config x (of_control q) (with_control q m2 x) =
-      (m2, (did.0, refl), record { birth = tt; links = λ k. all_calm p.side.links x.inbound s.links k }, refl) in
+      let steps : Steps p.control.config x (of_control q) (with_control q m2 x) = (
+        m2,
+        (did.0, refl),
+        record {
+          birth = tt;
+          links = λ k. all_calm p.side.links x.inbound s.links k;
+          plain = λ k. plain_calm p.side.relays x.plain s.relays k;
+        },
+        refl,
+      ) in
       stood taken p after trace (e.Closed l cause) s (with_control q m2 x) (of_control q ∷ []) acts.0
-      (goes_on s.run (of_control q) steps refl) refl refl did.1 s.links (takes_none (told p.side.notes)) refl
+      (goes_on s.run (of_control q) steps refl) refl refl did.1 s.links s.relays (takes_none (told p.side.notes)) refl
       (closed_ends p.control.config x l cause p.ends_for s.ends) refl
 
   pub close_cause : (c : Cause) → p.ends_for ≡ Some c → cause ≡ c
@@ -170,21 +149,9 @@ module _ (taken : List Note) (p : Proxy) (n : State) (l : ℕ) (cause : Cause)
       ∙ ap (λ (o : Option ℕ). without l o) (seen.only l there) ∙ ap (λ (b : Bool). cond b None (Some l)) (eq-eqb l l refl)
 
   pub close_stirs : shown.Stirs (trace ++ e.Closed l cause ∷ []) (shown_of p) (shown_of after)
-  close_stirs = record {
-    kept = λ k alive. (by k alive).0;
-    reads = λ k alive. (by k alive).1;
-    writes = λ k alive. (by k alive).2;
-    ends_for = refl;
-  }
+  close_stirs = all_stir (trace ++ e.Closed l cause ∷ []) p after refl by
     where
-      by : (k : ℕ) → lives k (trace ++ e.Closed l cause ∷ []) ≡ true
-          → ((shown_of p).stirs k ≡ true → (shown_of after).stirs k ≡ true)
-          × ((shown_of p).wants k ≡ 0 → ((shown_of after).wants k ≡ 0) ⊎ ((shown_of after).stirs k ≡ true))
-          × ((shown_of p).output k ≡ [] → ((shown_of after).output k ≡ []) ⊎ ((shown_of after).stirs k ≡ true))
+      by : (k : ℕ) → lives k (trace ++ e.Closed l cause ∷ []) ≡ true → StirsOn k p after (owner_of p k) (owner_of after k)
       by k alive =
-          let old : owns p k ≡ false = ap (λ (o : Option ℕ). is_number o k) old_number ∙ ne_eqb l k (another trace l k cause alive) in
-          let new : owns after k ≡ false = ap (λ (o : Option ℕ). is_number o k) new_number in (
-            λ is. ap (λ (b : Bool). stirs_by b after k) new ∙ sym (ap (λ (b : Bool). stirs_by b p k) old) ∙ is,
-            λ is. inl (ap (λ (b : Bool). wants_by b after k) new ∙ sym (ap (λ (b : Bool). wants_by b p k) old) ∙ is),
-            λ is. inl (ap (λ (b : Bool). output_by b after k) new ∙ sym (ap (λ (b : Bool). output_by b p k) old) ∙ is),
-          )
+          other_stirs k p after (ap (λ (o : Option ℕ). is_number o k) old_number ∙ ne_eqb l k (another trace l k cause alive))
+          (ap (λ (o : Option ℕ). is_number o k) new_number) (none_stir p.side k)

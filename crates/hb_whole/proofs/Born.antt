@@ -1,5 +1,6 @@
 -- A new link's number is none that the control plane's machine has.
-use Rattle.std.proofs.Common.{◌≡◌, ℕ, ◌+◌, ◌≤◌, ◌<◌, List, [], ◌∷◌, refl, ap, sym, ◌∙◌, subst, arith}
+use Rattle.std.proofs.Common.{◌≡◌, ℕ, ◌+◌, ◌≤◌, List, [], refl, sym, subst, arith}
+use Rattle.hb_captured.specs.Part as plain
 use Rattle.hb_inbound.specs.Part as part
 use Rattle.hb_inbound.specs.Part.{Part}
 use Rattle.hb_model.specs.Machine as control
@@ -8,9 +9,9 @@ use Rattle.hb_model.specs.Point as point
 use Rattle.hb_model.specs.Point.{Point as Q}
 use Rattle.hb_model.specs.Runs as model
 use Rattle.hb_model.specs.declared.config.NodeConfig.{NodeConfig}
-use Rattle.hb_proxy.specs.Machine.{Machine, born_by, born_after, with_control, with_part}
-use Rattle.hb_proxy.specs.Points.{Point, of_control, of_link}
-use Rattle.hb_proxy.specs.Runs.{Steps, StandsFor, begins, goes_on, BirthMayCome, LinkMayCome, LinkGuard}
+use Rattle.hb_proxy.specs.Machine.{Machine, born_by, born_after}
+use Rattle.hb_proxy.specs.Points.{Point, of_control, of_link, of_plain}
+use Rattle.hb_proxy.specs.Runs.{Steps, StandsFor, begins, goes_on, BirthMayCome, LinkGuard, PlainGuard}
 use Rattle.hb_world.specs.declared.entry.Entry.{Entry}
 use Rattle.hb_world.specs.declared.entry.Entry.TheVariants as e
 
@@ -81,6 +82,21 @@ link_above x l (part.credited s n) guard = none_born x.born [] refl
 link_above x l (part.applied r) guard = absurd guard
 link_above x l (part.stopped why) guard = absurd guard
 
+plain_above : (x : Machine) (l : ℕ) (p : plain.Part) → PlainGuard x l p → x.born ≤ born_after x.born (plain.entry_in p)
+plain_above x l (plain.entry z) guard = birth_above x z guard.birth
+plain_above x l (plain.up z) guard = birth_above x z guard.birth
+plain_above x l plain.welcomed guard = none_born x.born [] refl
+plain_above x l plain.crowded guard = none_born x.born [] refl
+plain_above x l plain.lacked guard = none_born x.born [] refl
+plain_above x l (plain.misfronted fault) guard = none_born x.born [] refl
+plain_above x l (plain.fronted seen) guard = none_born x.born [] refl
+plain_above x l (plain.refused seen status made) guard = none_born x.born [] refl
+plain_above x l (plain.accepted made) guard = none_born x.born [] refl
+plain_above x l (plain.left made) guard = none_born x.born [] refl
+plain_above x l (plain.done made) guard = none_born x.born [] refl
+plain_above x l (plain.applied r) guard = absurd guard
+plain_above x l (plain.stopped why) guard = absurd guard
+
 step_below : (g : NodeConfig) (x y : Machine) (p : Point) → Steps g x p y → x.control.born ≤ x.born → y.control.born ≤ y.born
 step_below g x y (of_control q) steps below =
     subst (λ (w : Machine). w.control.born ≤ w.born) (sym steps.3) (control_below g x q steps.0 steps.1 below)
@@ -88,6 +104,10 @@ step_below g x y (of_link l p) steps below =
     let above = link_above x l p steps.2 in
     let so : x.control.born ≤ born_after x.born (part.entry_in p) = omega (arith, above, below) in
     subst (λ (w : Machine). w.control.born ≤ w.born) (sym steps.3) so
+step_below g x y (of_plain l p) steps below =
+    let above = plain_above x l p steps.1 in
+    let so : x.control.born ≤ born_after x.born (plain.entry_in p) = omega (arith, above, below) in
+    subst (λ (w : Machine). w.control.born ≤ w.born) (sym steps.2) so
 
 -- the control plane's last link was no later than the last of all
 pub born_below : (g : NodeConfig) (x : Machine) (points : List Point) → StandsFor g x points → x.control.born ≤ x.born

@@ -1,10 +1,6 @@
 -- Which entries may come on the link to the control plane, where the event loop tells them.
-use Rattle.std.proofs.Common.{◌≡◌, ◌⊎◌, inl, inr, ⊎_elim, ℕ, ◌<◌, ◌≤◌, ◌==◌, Bool, true, false, if◌then◌else◌, List, [], ◌++◌, length, take, drop, Option, Some, None, refl, ap, sym, ◌∙◌, subst, arith}
+use Rattle.std.proofs.Common.{◌≡◌, ◌⊎◌, inl, inr, ℕ, ◌<◌, Bool, true, false, if◌then◌else◌, [], length, Option, Some, None, refl, ap, sym, ◌∙◌, arith}
 use Rattle.std.proofs.lemmas.Bool.{eqb-true}
-use Rattle.std.proofs.lemmas.List.{take-append-drop}
-use Rattle.hb_frames.specs.Frames.{AreOctets}
-use Rattle.hb_inbound.specs.Calm.{IsQuiet}
-use Rattle.hb_links.proofs.Acting.{all_calm}
 use Rattle.hb_model.specs.Discovery as d
 use Rattle.hb_model.specs.Discovery.{Discovery, Phase}
 use Rattle.hb_model.specs.Machine.{Machine as Control}
@@ -12,17 +8,16 @@ use Rattle.hb_model.specs.Runs as model
 use Rattle.hb_model.specs.Runs.{IsCalmBy, wanted_by, output_by, wants, output}
 use Rattle.hb_node.specs.Links.{Agrees, AgreesBy, part_of}
 use Rattle.hb_node.specs.Phases.{phase_of, is_faulted as is_faulted_here}
-use Rattle.hb_node.specs.State.{State, Shows, ShowsLink, number_of, wants_on, output_on, says_last}
+use Rattle.hb_node.specs.State.{ShowsLink, number_of, wants_on, output_on, says_last}
 use Rattle.hb_node.specs.declared.link.Link.{Link}
 use Rattle.hb_node.specs.declared.phase.Phase.{Phase as Here}
 use Rattle.hb_node.specs.declared.phase.Phase.TheVariants as here
 use Rattle.hb_proxy.specs.Machine.{Machine}
-use Rattle.hb_proxy.specs.Runs.{ControlMayCome, BirthMayCome, Lets, goes_first, is_faulted}
+use Rattle.hb_proxy.specs.Runs.{ControlMayCome, BirthMayCome, goes_first}
 use Rattle.hb_proxy.specs.Seen.{IsThere, OpenBy}
 use Rattle.hb_world.specs.declared.entry.Entry.{Entry}
-use Rattle.hb_world.specs.declared.entry.Entry.TheVariants as e
 use Rattle.hb_whole.specs.Sight.{is_number}
-use Rattle.hb_whole.proofs.Free.{Free, lets_all}
+use Rattle.hb_whole.proofs.Free.{Free, lets_all, plain_lets_all}
 
 -- THE PHASE, BY WHAT MAY BE DONE
 
@@ -125,6 +120,7 @@ pub free_control : (x : Machine) (z : Entry) → Free x → BirthMayCome x z →
 free_control x z free birth = record {
   birth = birth;
   links = λ l. lets_all (goes_first x.control z) (x.inbound l) (free.links l);
+  plain = λ l. plain_lets_all (goes_first x.control z) (x.plain l) (free.plain l);
 }
 
 module _ (x : Machine) (l : ℕ) (free : Free x) (there : IsThere (x.control.links l).phase) (opens : Bool)

@@ -1,10 +1,12 @@
 -- Where no act is due and the run goes on, all is quiet.
-use Rattle.std.proofs.Common.{◌≡◌, ◌≢◌, ◌⊎◌, inl, inr, ℕ, ◌&&◌, Bool, true, false, is_none, Option, Some, None, refl, ap, sym, ◌∙◌, subst}
-use Rattle.std.specs.Prelude.{⊤, List}
+use Rattle.std.proofs.Common.{◌≡◌, ◌≢◌, ◌⊎◌, inl, inr, ℕ, Bool, true, false, is_none, Option, Some, None, refl, ap, sym, ◌∙◌, subst}
+use Rattle.std.specs.Prelude.{List}
 use Rattle.std.proofs.lemmas.Bool.{and_parts, cases_eq}
 use Rattle.hb_base.specs.declared.cause.Cause.{Cause}
 use Rattle.hb_base.specs.declared.note.Note.{Note}
-use Rattle.hb_inbound.specs.Calm.{IsCalm, IsQuiet}
+use Rattle.hb_captured.specs.Calm as captured
+use Rattle.hb_captured.specs.Captured.{Captured}
+use Rattle.hb_inbound.specs.Calm.{IsQuiet}
 use Rattle.hb_inbound.specs.Inbound.{Inbound}
 use Rattle.hb_link.specs.Acts.{NoneIsDue}
 use Rattle.hb_links.proofs.Acting.{all_calm}
@@ -17,19 +19,20 @@ use Rattle.hb_model.specs.Discovery.{Discovery, Phase, closing}
 use Rattle.hb_model.specs.Machine.{Machine as Control}
 use Rattle.hb_model.specs.Runs as model
 use Rattle.hb_model.specs.Runs.{due_by, IsCalmBy}
-use Rattle.hb_model.specs.declared.act.Act.{Act}
 use Rattle.hb_model.specs.declared.config.NodeConfig.{NodeConfig}
-use Rattle.hb_node.specs.Links.{Agrees, part_of, SteadyBy, IsSteady}
+use Rattle.hb_node.specs.Links.{SteadyBy}
 use Rattle.hb_node.specs.Phases.{phase_of}
 use Rattle.hb_node.specs.State.{State, Shows, ShowsLink, IsGone, due_of, closing_of, number_of}
 use Rattle.hb_node.specs.declared.link.Link.{Link}
 use Rattle.hb_proxy.specs.Machine.{Machine}
-use Rattle.hb_proxy.specs.Runs.{ControlRests, Lets}
+use Rattle.hb_proxy.specs.Runs.{ControlRests, Lets, PlainLets}
+use Rattle.hb_relays.specs.Touched as touched
 use Rattle.hb_turns.specs.Shown.{IsFree}
 use Rattle.hb_world.specs.declared.entry.Entry.{Entry}
-use Rattle.hb_whole.specs.Sight.{shown_of, idle_by}
+use Rattle.hb_whole.specs.Sight.{shown_of, idle_by, is_idle}
 use Rattle.hb_whole.specs.Stands.{Stands, EndsBy}
 use Rattle.hb_whole.specs.declared.proxy.Proxy.{Proxy}
+use Rattle.hb_whole.proofs.Relays.{plain_quiet}
 
 -- THE CONTROL PLANE
 
@@ -109,14 +112,19 @@ pub lets_all : (first : Bool) (x : Inbound) → IsQuiet x → Lets first x
 lets_all true x quiet = quiet.calm
 lets_all false x quiet = quiet
 
+pub plain_lets_all : (first : Bool) (x : Captured) → captured.IsQuiet x → PlainLets first x
+plain_lets_all true x quiet = quiet.0
+plain_lets_all false x quiet = quiet
+
 -- THE PROXY
 
 pub record Free (x : Machine) : Type 0 where
   pub control : model.IsQuiet x.control
   pub links : (l : ℕ) → IsQuiet (x.inbound l)
+  pub plain : (l : ℕ) → captured.IsQuiet (x.plain l)
 
 idle_parts : (p : Proxy) (ends : Option Cause) → ends ≡ None → idle_by ends p ≡ true
-    → (is_none (due_of p.control) ≡ true) × (links.is_idle p.side.links ≡ true)
+    → (is_none (due_of p.control) ≡ true) × (is_idle p.side ≡ true)
 idle_parts p None going idle = and_parts _ _ idle
 idle_parts p (Some why) going idle = absurd cc
 
@@ -126,8 +134,10 @@ goes_on p x ends going = subst (λ (o : Option Cause). EndsBy o x) going ends
 pub free : (taken : List Note) (p : Proxy) (trace : List Entry) (s : Stands taken p trace) → IsFree (shown_of p) → Free s.machine
 free taken p trace s is =
     let parts = idle_parts p p.ends_for is.0 is.1 in
+    let doors = and_parts (links.is_idle p.side.links) (touched.is_idle p.side.relays.due) parts.1 in
     record {
       control = control_quiet p.control s.machine.control s.control (none_of (due_of p.control) parts.0)
           (goes_on p s.machine s.ends is.0);
-      links = all_quiet p.side.links s.machine.inbound parts.1 s.links;
+      links = all_quiet p.side.links s.machine.inbound doors.0 s.links;
+      plain = plain_quiet p.side.relays s.machine.plain doors.1 s.relays;
     }

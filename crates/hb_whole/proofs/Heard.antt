@@ -4,11 +4,7 @@ use Rattle.std.proofs.lemmas.List.{append_assoc, length-take, take-append-drop}
 use Rattle.hb_base.specs.declared.note.Note.{Note}
 use Rattle.hb_frames.specs.Frames.{AreOctets}
 use Rattle.hb_held.specs.Held.{Resources}
-use Rattle.hb_link.specs.Noted.{Takes}
 use Rattle.hb_links.proofs.Acting.{all_calm}
-use Rattle.hb_links.proofs.Stirs.{none_stirs, stirs_all_then}
-use Rattle.hb_links.specs.Reaches.{notes}
-use Rattle.hb_links.specs.Stirring as links
 use Rattle.hb_model.specs.Discovery as d
 use Rattle.hb_model.specs.Machine.{Machine as Control, entered, current_after}
 use Rattle.hb_model.specs.Point as point
@@ -16,31 +12,33 @@ use Rattle.hb_model.specs.Point.{Point as Q}
 use Rattle.hb_model.specs.Runs as model
 use Rattle.hb_model.specs.declared.config.NodeConfig.{NodeConfig}
 use Rattle.hb_node.specs.Judging.{Judged, held_behind}
-use Rattle.hb_node.specs.State.{State, Shows, ShowsLink, Inner, EntersAlone, EntersJudged, ReachesJudged, number_of}
+use Rattle.hb_node.specs.State.{State, Shows, ShowsLink, Inner, EntersAlone, EntersJudged, number_of}
 use Rattle.hb_node.specs.declared.link.Link.{Link}
 use Rattle.hb_proxy.specs.Doors.{is_at_door, without_doors}
 use Rattle.hb_proxy.specs.Machine.{Machine, with_control}
-use Rattle.hb_proxy.specs.Points.{Point, of_control, entries}
-use Rattle.hb_proxy.specs.Runs.{Steps, StandsFor, goes_on, BirthMayCome, ControlMayCome, Lets, goes_first, is_faulted}
+use Rattle.hb_proxy.specs.Points.{Point, of_control}
+use Rattle.hb_proxy.specs.Runs.{Steps, StandsFor, goes_on, BirthMayCome, ControlMayCome, Lets, PlainLets, goes_first, is_faulted}
 use Rattle.hb_proxy.specs.Seen.{Seen, IsThere}
 use Rattle.hb_turns.specs.Shown as shown
 use Rattle.hb_turns.specs.Shown.{Tells, MayCome, MayWrite, IsFree}
 use Rattle.hb_ready.specs.Sight.{is_open}
-use Rattle.hb_world.specs.Trace.{lives}
 use Rattle.hb_world.specs.declared.entry.Entry.{Entry}
 use Rattle.hb_world.specs.declared.entry.Entry.TheVariants as e
 use Rattle.hb_world.specs.declared.entry.Way.TheVariants as way
 use Rattle.hb_whole.specs.Judged.{Judges}
-use Rattle.hb_whole.specs.Queue.{told}
-use Rattle.hb_whole.specs.Sight.{is_number, owns, shown_of, wants_by, output_by, last_by, stirs_by}
+use Rattle.hb_whole.specs.Sight.{is_number, owns, owner_of, shown_of, wants_by, output_by, last_by, stirs_by}
 use Rattle.hb_whole.specs.Stands.{Stands, EndsBy}
+use Rattle.hb_whole.specs.declared.owner.Owner.{Owner}
+use Rattle.hb_whole.specs.declared.owner.Owner.TheVariants.{Control as OfControl}
 use Rattle.hb_whole.specs.declared.proxy.Proxy.{Proxy}
 use Rattle.hb_whole.specs.declared.side.Side.{Side}
-use Rattle.hb_whole.proofs.ControlMay.{going_of, dialling_of, live_of, writes_of, wants_owned, output_owned, last_owned, free_control}
-use Rattle.hb_whole.proofs.Controlling.{Goes, goes}
-use Rattle.hb_whole.proofs.Free.{Free, free, goes_on as runs_on}
+use Rattle.hb_whole.proofs.ControlMay.{going_of, dialling_of, live_of, wants_owned, output_owned, last_owned, free_control}
+use Rattle.hb_whole.proofs.Controlling.{goes}
+use Rattle.hb_whole.proofs.Free.{free, goes_on as runs_on}
 use Rattle.hb_whole.proofs.Growing.{stood}
-use Rattle.hb_whole.proofs.Routes.{Route, to_control, to_link, to_up, route, seen_of, open_then, current_is}
+use Rattle.hb_whole.proofs.Relays.{plain_calm}
+use Rattle.hb_whole.proofs.Routes.{control_owner, seen_of, open_then, current_is}
+use Rattle.hb_whole.proofs.Stirring.{SideStirs, StirsOn, none_stir, stir_then, all_stir, other_stirs, stirs_now}
 
 -- the control plane's link changed so, and the others with it; no dial waits for its answer
 abbrev pub with_state : State → Side → Proxy → Proxy
@@ -75,10 +73,10 @@ number_is None x shows = sym shows.0
 number_is (Some k) x shows = sym shows.0
 
 -- who was shown what is held stirs
-pub judged_stirs : (held : List Resources) (a b : Side) → Judged Judges held a b → links.Stirs a.links b.links
-judged_stirs [] a b judged = subst (λ (c : Side). links.Stirs a.links c.links) (sym judged) (none_stirs a.links)
-judged_stirs (h ∷ held) a b judged =
-    stirs_all_then a.links judged.0.links b.links judged.1.stirs (judged_stirs held judged.0 b judged.2)
+pub judged_stirs : (held : List Resources) (a b : Side) → Judged Judges held a b → (l : ℕ) → SideStirs l a b
+judged_stirs [] a b judged l = subst (λ (c : Side). SideStirs l a c) (sym judged) (none_stir a l)
+judged_stirs (h ∷ held) a b judged l =
+    stir_then a judged.0 b l (record { links = judged.1.links_stir l; relays = judged.1.relays_stir l }) (judged_stirs held judged.0 b judged.2 l)
 
 -- AN ENTRY
 
@@ -87,7 +85,7 @@ pub record Entered (taken : List Note) (p : Proxy) (n : State) (side : Side) (tr
   pub stands : Stands taken (with_state n side p) (trace ++ z ∷ [])
   -- whose link is the machine's behind the entry
   pub number : number_of n.link ≡ current_after s.machine.control z
-  pub stirs : links.Stirs p.side.links side.links
+  pub stirs : (l : ℕ) → SideStirs l p.side side
 
 pub enters : (taken : List Note) (p : Proxy) (n : State) (side : Side) (trace : List Entry) (z : Entry) (s : Stands taken p trace)
     → s.machine.control.over ≡ false → p.ends_for ≡ None → is_at_door z ≡ false
@@ -102,14 +100,14 @@ enters taken p n side trace z s goes_so going door may guard told_so =
     let steps : Steps g x (of_control q) y = (m, (may, refl), guard, refl) in
     let r = told_so.1 x.control s.control may in
     let inner : Inner g m r.points r.machine = subst (λ (c : NodeConfig). Inner c m r.points r.machine) told_so.0 r.inner in
-    let on = goes g y (s.points ++ of_control q ∷ []) r.points r.machine p.side side (goes_on s.run (of_control q) steps refl) s.links inner
+    let on = goes g y (s.points ++ of_control q ∷ []) r.points r.machine p.side side (goes_on s.run (of_control q) steps refl) s.links s.relays inner
     r.judged in
     let kept = inner_keeps g m r.machine r.points inner in
     record {
       stands = stood taken p (with_state n side p) trace z s on.machine (of_control q ∷ on.more) told_so.0
           (subst (λ (ps : List Point). StandsFor g on.machine ps) (append_assoc s.points (of_control q ∷ []) on.more) on.run) door
           (ap (λ (zs : List Entry). z ∷ zs) on.silent)
-          (subst (λ (c : Control). Shows n c) (sym on.control) r.shows) on.links on.noted refl
+          (subst (λ (c : Control). Shows n c) (sym on.control) r.shows) on.links on.relays on.noted refl
           (subst (λ (o : Option _). EndsBy o on.machine) (sym going) (ap (λ (c : Control). c.over) on.control ∙ kept.0 ∙ goes_so)) refl;
       number = number_is n.link r.machine r.shows.link ∙ kept.1;
       stirs = judged_stirs (held_behind m.held r.points) p.side side r.judged;
@@ -132,37 +130,19 @@ judged_alone z p n enters = (
 
 -- WHAT STIRRED
 
-state_stirs_at : (p : Proxy) (n : State) (side : Side) (l : ℕ) → (is_number (number_of n.link) l ≡ false → owns p l ≡ false)
-    → links.StirsAt l p.side.links side.links
-    → ((shown_of p).stirs l ≡ true → (shown_of (with_state n side p)).stirs l ≡ true)
-    × ((shown_of p).wants l ≡ 0 → ((shown_of (with_state n side p)).wants l ≡ 0) ⊎ ((shown_of (with_state n side p)).stirs l ≡ true))
-    × ((shown_of p).output l ≡ [] → ((shown_of (with_state n side p)).output l ≡ []) ⊎ ((shown_of (with_state n side p)).stirs l ≡ true))
-state_stirs_at p n side l others at = by (is_number (number_of n.link) l) refl
+-- where the control plane's link is another one than before, no link is that which was of a door
+pub state_stirs : (p : Proxy) (n : State) (side : Side) (trace : List Entry)
+    → ((l : ℕ) → is_number (number_of n.link) l ≡ false → owns p l ≡ false) → ((l : ℕ) → SideStirs l p.side side)
+    → shown.Stirs trace (shown_of p) (shown_of (with_state n side p))
+state_stirs p n side trace others stirs = all_stir trace p q refl (λ l alive. by l (owns q l) refl)
   where
     q : Proxy
     q = with_state n side p
 
-    by : (b : Bool) → is_number (number_of n.link) l ≡ b
-        → (stirs_by (owns p l) p l ≡ true → stirs_by b q l ≡ true)
-        × (wants_by (owns p l) p l ≡ 0 → (wants_by b q l ≡ 0) ⊎ (stirs_by b q l ≡ true))
-        × (output_by (owns p l) p l ≡ [] → (output_by b q l ≡ []) ⊎ (stirs_by b q l ≡ true))
-    by true mine = (λ is. refl, λ is. inr refl, λ is. inr refl)
-    by false mine =
-        let old = others mine in (
-          λ is. at.kept (ap (λ (b : Bool). stirs_by b p l) (sym old) ∙ is),
-          λ is. at.reads (ap (λ (b : Bool). wants_by b p l) (sym old) ∙ is),
-          λ is. at.writes (ap (λ (b : Bool). output_by b p l) (sym old) ∙ is),
-        )
-
-pub state_stirs : (p : Proxy) (n : State) (side : Side) (trace : List Entry)
-    → ((l : ℕ) → is_number (number_of n.link) l ≡ false → owns p l ≡ false) → links.Stirs p.side.links side.links
-    → shown.Stirs trace (shown_of p) (shown_of (with_state n side p))
-state_stirs p n side trace others stirs = record {
-  kept = λ l alive. (state_stirs_at p n side l (others l) (stirs l)).0;
-  reads = λ l alive. (state_stirs_at p n side l (others l) (stirs l)).1;
-  writes = λ l alive. (state_stirs_at p n side l (others l) (stirs l)).2;
-  ends_for = refl;
-}
+    by : (l : ℕ) (b : Bool) → owns q l ≡ b → StirsOn l p q (owner_of p l) (owner_of q l)
+    by l true mine =
+        stirs_now l p q (owner_of p l) (owner_of q l) (ap (λ (o : Owner). stirs_by o q l) (control_owner q l mine))
+    by l false new = other_stirs l p q (others l new) new (stirs l)
 
 -- the entry of a link that lives is told
 pub state_tells : (p : Proxy) (n : State) (side : Side) (z : Entry) → is_at_door z ≡ false
@@ -191,11 +171,14 @@ module _ (taken : List Note) (p : Proxy) (trace : List Entry) (s : Stands taken 
   there : IsThere (x.control.links l).phase
   there = seen.current l (current_is p.control.link x.control l s.control.link mine)
 
-  wanted : wants_by (owns p l) p l ≡ model.wants x.control l
-  wanted = ap (λ (b : Bool). wants_by b p l) mine ∙ wants_owned p.control.link x.control l s.control.link mine
+  whose : owner_of p l ≡ OfControl
+  whose = control_owner p l mine
 
-  held : output_by (owns p l) p l ≡ model.output x.control l
-  held = ap (λ (b : Bool). output_by b p l) mine ∙ output_owned p.control.link x.control l s.control.link mine
+  wanted : wants_by (owner_of p l) p l ≡ model.wants x.control l
+  wanted = ap (λ (o : Owner). wants_by o p l) whose ∙ wants_owned p.control.link x.control l s.control.link mine
+
+  held : output_by (owner_of p l) p l ≡ model.output x.control l
+  held = ap (λ (o : Owner). output_by o p l) whose ∙ output_owned p.control.link x.control l s.control.link mine
 
   abbrev pub Guarded : Entry → Type 0
   Guarded z = (p.ends_for ≡ None) × model.MayCome p.control.config x.control z × ControlMayCome x z
@@ -271,12 +254,14 @@ module _ (taken : List Note) (p : Proxy) (trace : List Entry) (s : Stands taken 
   writes_last : (z : Entry) → BirthMayCome x z → ((code : ℕ) → (x.control.links l).phase ≡ d.faulted code → goes_first x.control z ≡ true)
       → (shown_of p).last_words l ≡ true → Writes z
   writes_last z birth first last =
-      let fault = last_owned p.control.link x.control l s.control.link mine (ap (λ (b : Bool). last_by b p l) (sym mine) ∙ last) in
+      let fault = last_owned p.control.link x.control l s.control.link mine (ap (λ (o : Owner). last_by o p l) (sym whose) ∙ last) in
       record {
         phase = inr (inr fault);
         guard = record {
           birth = birth;
           links = λ k. subst (λ (b : Bool). Lets b (x.inbound k)) (sym (first fault.0 fault.1)) (all_calm p.side.links x.inbound s.links k);
+          plain = λ k. subst (λ (b : Bool). PlainLets b (x.plain k)) (sym (first fault.0 fault.1))
+              (plain_calm p.side.relays x.plain s.relays k);
         };
       }
 

@@ -1,9 +1,7 @@
 -- Which entries may come on inbound links and on upstreams, where the event loop tells them.
-use Rattle.std.proofs.Common.{◌≡◌, ◌≢◌, ◌⊎◌, inl, inr, ⊎_elim, ℕ, zero, suc, ◌-◌, ◌<◌, ◌≤◌, ◌==◌, ◌||◌, not, Bool, true, false, List, [], ◌∷◌, ◌++◌, length, Option, Some, None, refl, ap, sym, ◌∙◌, subst, arith}
-use Rattle.std.proofs.lemmas.Bool.{cases_order}
+use Rattle.std.proofs.Common.{◌≡◌, ◌⊎◌, inl, inr, ⊎_elim, ℕ, zero, suc, ◌-◌, ◌<◌, ◌==◌, not, Bool, true, false, List, [], length, Option, Some, None, refl, ap, sym, ◌∙◌, subst, arith}
 use Rattle.std.specs.FinMap.{get}
-use Rattle.hb_inbound.specs.Calm as calm
-use Rattle.hb_inbound.specs.Calm.{IsCalm, IsQuiet, RestsIn, IsIdleBy, close_due, wants_by, output_by, up_wants, longest_front}
+use Rattle.hb_inbound.specs.Calm.{IsQuiet, RestsIn, IsIdleBy, close_due, wants_by, output_by, longest_front}
 use Rattle.hb_inbound.specs.Inbound as m
 use Rattle.hb_inbound.specs.Inbound.{Inbound, at_stream}
 use Rattle.hb_inbound.specs.Part as part
@@ -31,13 +29,13 @@ use Rattle.hb_links.specs.declared.links.Links.{Links}
 use Rattle.hb_links.specs.declared.place.Place.{Place}
 use Rattle.hb_links.specs.Places.{place}
 use Rattle.hb_model.specs.declared.config.NodeConfig.{NodeConfig}
-use Rattle.hb_proxy.specs.Machine.{Machine, local, with_part}
+use Rattle.hb_proxy.specs.Machine.{Machine, with_part}
 use Rattle.hb_proxy.specs.Points.{of_link}
-use Rattle.hb_proxy.specs.Runs.{BirthMayCome, LinkMayCome, Lets, Steps, link_first, is_link_faulted}
+use Rattle.hb_proxy.specs.Runs.{BirthMayCome, LinkMayCome, Steps, link_first}
 use Rattle.hb_proxy.specs.Seen.{IsLinkThere, UpOpenBy}
 use Rattle.hb_proxy.specs.Ups.{Joins, up_by}
 use Rattle.hb_world.specs.declared.entry.Entry.{Entry}
-use Rattle.hb_whole.proofs.Free.{Free, lets_all, rests_of}
+use Rattle.hb_whole.proofs.Free.{Free, lets_all, plain_lets_all, rests_of}
 
 -- THE PHASE, AND THE STAGE, BY WHAT MAY BE DONE
 
@@ -131,6 +129,7 @@ free_link x l z free birth = record {
   birth = birth;
   control = rests_of x.control free.control;
   others = λ k apart. lets_all (link_first (x.inbound l).phase z) (x.inbound k) (free.links k);
+  plain = λ k. plain_lets_all (link_first (x.inbound l).phase z) (x.plain k) (free.plain k);
 }
 
 pub link_steps : (g : NodeConfig) (x : Machine) (l : ℕ) (z : Entry) → inbound.MayCome l (x.inbound l) z → LinkMayCome x l z

@@ -1,5 +1,5 @@
 -- What holds where a call answers Ok.
-use Rattle.std.proofs.Common.{◌≡◌, Result, Ok, Err, IfOk, OnOk, Option, Some, None, refl}
+use Rattle.std.proofs.Common.{Result, Ok, Err, IfOk, OnOk}
 
 pub on_ok : {T E : Type 0} (r : Result T E) (A B : Type 0) → (A → B) → OnOk r A → OnOk r B
 on_ok (Ok x) A B makes had = makes had

@@ -3,11 +3,14 @@ use Rattle.std.proofs.Common.{◌≡◌, ◌⊎◌, inl, inr, ⊎_elim, ℕ, ◌
 use Rattle.std.specs.FinMap.{get}
 use Rattle.hb_base.specs.declared.door.Door.{Door}
 use Rattle.hb_base.specs.declared.note.Note.{Note}
+use Rattle.hb_captured.specs.Calm as plain_calm
+use Rattle.hb_captured.specs.Captured as plain
+use Rattle.hb_captured.specs.Captured.{Captured}
 use Rattle.hb_conn.specs.Connection.{Connection}
 use Rattle.hb_conn.specs.Observed as connection
 use Rattle.hb_conn.specs.Observed.{IsLookedAt}
 use Rattle.hb_inbound.specs.Calm as calm
-use Rattle.hb_inbound.specs.Calm.{IsQuiet, RestsIn, longest_front, wants_by as wants_in, output_by as output_in, up_wants}
+use Rattle.hb_inbound.specs.Calm.{RestsIn, longest_front, wants_by as wants_in, output_by as output_in, up_wants}
 use Rattle.hb_inbound.specs.Inbound as m
 use Rattle.hb_inbound.specs.Inbound.{Inbound}
 use Rattle.hb_inbound.specs.Tunnel as t
@@ -15,13 +18,11 @@ use Rattle.hb_inbound.specs.Tunnel.{Tunnel, Stage}
 use Rattle.hb_kept.proofs.Kept.{some_are_wanted}
 use Rattle.hb_kept.specs.Kept.{IsKept, wants_of}
 use Rattle.hb_link.specs.Observed.{up_wants_by, up_held_by}
-use Rattle.hb_link.specs.Shows.{Shows, ShowsBy}
+use Rattle.hb_link.specs.Shows.{ShowsBy}
 use Rattle.hb_link.specs.declared.link.Link.{Link}
-use Rattle.hb_links.specs.Calls as links
 use Rattle.hb_links.specs.Shows.{IsAway, ShowsLink}
 use Rattle.hb_model.specs.Discovery as d
 use Rattle.hb_model.specs.Discovery.{Discovery}
-use Rattle.hb_model.specs.Machine.{Machine as Control}
 use Rattle.hb_model.specs.Puts.{IsAllPut}
 use Rattle.hb_model.specs.Runs as model
 use Rattle.hb_model.specs.Runs.{IsCalmBy}
@@ -31,23 +32,27 @@ use Rattle.hb_proxy.proofs.Control.{puts_all}
 use Rattle.hb_proxy.specs.Doors.{without_doors}
 use Rattle.hb_proxy.specs.Machine.{Machine}
 use Rattle.hb_proxy.specs.Points.{Point, control_of}
-use Rattle.hb_proxy.specs.Seen.{Seen, IsThere, IsLinkThere, OpenBy, UpOpenBy}
-use Rattle.hb_proxy.specs.Settled.{Reads, Writes, Finishes, IsCrowded, TakesNoMore, ControlSettledBy, LinkSettledBy, UpSettledBy, IsSettled, SettledIn}
-use Rattle.hb_proxy.specs.Ups.{Joins}
-use Rattle.hb_ready.specs.Sight.{asked, asleep, is_open, known, sight}
-use Rattle.hb_tunnel.specs.Tunnel.{down_size}
+use Rattle.hb_proxy.specs.Seen.{Seen, IsThere, IsLinkThere, IsPlainThere, OpenBy, UpOpenBy, RelayOpenBy}
+use Rattle.hb_proxy.specs.Settled.{Reads, Writes, Finishes, IsCrowded, IsFull, ControlSettledBy, LinkSettledBy, PlainSettledBy, RelaySettledBy, UpSettledBy, SettledIn}
+use Rattle.hb_proxy.specs.Ups.{Joins, IsRelayOf}
+use Rattle.hb_ready.specs.Sight.{asked, is_open, known, sight}
+use Rattle.hb_relays.specs.Shows.{IsAwayBy}
+use Rattle.hb_tunnel.specs.Tunnel.{up_size, down_size}
 use Rattle.hb_turns.specs.Settled.{Rests, RestsBy}
 use Rattle.hb_turns.specs.Shown.{Shown, IsFree}
 use Rattle.hb_world.specs.Trace.{lives}
 use Rattle.hb_world.specs.declared.entry.Entry.{Entry}
-use Rattle.hb_world.specs.declared.entry.Way.TheVariants as way
 use Rattle.hb_whole.proofs.ControlMay.{wants_owned, output_owned}
 use Rattle.hb_whole.proofs.Free.{Free, free}
 use Rattle.hb_whole.proofs.Guards.{going_at}
 use Rattle.hb_whole.proofs.LinkMay.{wants_link, output_link, wants_up, holds_up}
-use Rattle.hb_whole.proofs.Routes.{seen_of, lives_then, open_then, owned, not_owned, no_place}
-use Rattle.hb_whole.specs.Sight.{owns, shown_of, wants_by, output_by}
+use Rattle.hb_whole.proofs.PlainGuards.{relay_at}
+use Rattle.hb_whole.proofs.Relays.{there_at_stage, wants_plain, output_plain, wants_relay, output_relay}
+use Rattle.hb_whole.proofs.Routes.{seen_of, lives_then, open_then, owned, control_owner, link_owner, up_owner, plain_owner, relay_owner, no_up, no_relay}
+use Rattle.hb_whole.specs.Sight.{owns, owner_of, shown_of, wants_by, output_by}
 use Rattle.hb_whole.specs.Stands.{Stands}
+use Rattle.hb_whole.specs.declared.owner.Owner.{Owner}
+use Rattle.hb_whole.specs.declared.owner.Owner.TheVariants.{Plain, Inbound as OfInbound}
 use Rattle.hb_whole.specs.declared.proxy.Proxy.{Proxy}
 
 -- A LINK THAT LIVES RESTS
@@ -83,12 +88,12 @@ many_wait n wanted none reads =
 crowded : (c : Connection) → IsKept c → IsLookedAt c → wants_of c ≡ 0 → IsCrowded c
 crowded c kept looked none = many_wait (length (connection.output c)) (wants_of c) none (λ room. some_are_wanted c kept looked (omega (arith, room)))
 
-front_full : (n : ℕ) → longest_front - n ≡ 0 → longest_front ≤ n
-front_full n none = omega (arith, none)
+fills : (size n : ℕ) → size - n ≡ 0 → size ≤ n
+fills size n none = omega (arith, none)
 
-ring_full : (held : ℕ) (ended : Bool) → (if ended then 0 else down_size - held) ≡ 0 → (ended ≡ true) ⊎ (down_size ≤ held)
-ring_full held true none = inl refl
-ring_full held false none = inr (omega (arith, none))
+ring_full : (size held : ℕ) (ended : Bool) → (if ended then 0 else size - held) ≡ 0 → (ended ≡ true) ⊎ (size ≤ held)
+ring_full size held true none = inl refl
+ring_full size held false none = inr (omega (arith, none))
 
 -- EACH LINK THAT IS THERE
 
@@ -115,6 +120,21 @@ link_by m.fronting trace l x rests none fronting serving = fronting refl
 link_by m.serving trace l x rests none fronting serving = serving refl
 link_by (m.faulted code) trace l x rests none fronting serving = absurd cc
 link_by (m.closing why) trace l x rests none fronting serving = absurd cc
+
+plain_by : (stage : plain.Stage) (trace : List Entry) (l : ℕ) (x : Captured) → plain_calm.IsCalmBy stage x → plain_calm.IsIdleBy stage x
+    → (stage ≡ plain.fronting → Reads trace l (plain_calm.longest_front ≤ length x.front))
+    → ((stage ≡ plain.opening) ⊎ (stage ≡ plain.live) → Reads trace l (IsFull up_size x.ways.up))
+    → (stage ≡ plain.live → Writes trace l (x.ways.down.held ≡ [])) → PlainSettledBy stage x.closed trace l x
+plain_by plain.unborn trace l x calm idle fronting reads writes = tt
+plain_by plain.arriving trace l x calm idle fronting reads writes = absurd calm
+plain_by plain.fronting trace l x calm idle fronting reads writes = fronting refl
+plain_by plain.due trace l x calm idle fronting reads writes = absurd idle
+plain_by plain.opening trace l x calm idle fronting reads writes = reads (inl refl)
+plain_by plain.accepting trace l x calm idle fronting reads writes = absurd calm
+plain_by plain.live trace l x calm idle fronting reads writes = (reads (inr refl), writes refl)
+plain_by (plain.failed why) trace l x calm idle fronting reads writes = absurd calm
+plain_by (plain.ended why) trace l x calm idle fronting reads writes = absurd calm
+plain_by (plain.over why) trace l x calm idle fronting reads writes = idle.0
 
 there_at : (phase : d.Phase) → (phase ≡ d.dialling) ⊎ (phase ≡ d.live) → IsThere phase
 there_at phase (inl is) = subst IsThere (sym is) tt
@@ -157,10 +177,10 @@ module _ (taken : List Note) (p : Proxy) (trace : List Entry) (s : Stands taken 
     mine = owned p.control.link x.control l s.control.link there
 
     wants_are : (shown_of p).wants l ≡ model.wants x.control l
-    wants_are = ap (λ (b : Bool). wants_by b p l) mine ∙ wants_owned p.control.link x.control l s.control.link mine
+    wants_are = ap (λ (o : Owner). wants_by o p l) (control_owner p l mine) ∙ wants_owned p.control.link x.control l s.control.link mine
 
     output_is : (shown_of p).output l ≡ model.output x.control l
-    output_is = ap (λ (b : Bool). output_by b p l) mine ∙ output_owned p.control.link x.control l s.control.link mine
+    output_is = ap (λ (o : Owner). output_by o p l) (control_owner p l mine) ∙ output_owned p.control.link x.control l s.control.link mine
 
     dialling_so : (x.control.links l).phase ≡ d.dialling → Finishes trace l
     dialling_so is = closed_finishes trace l (shown_of p) alive (rests l)
@@ -204,22 +224,22 @@ module _ (taken : List Note) (p : Proxy) (trace : List Entry) (s : Stands taken 
     link_opens : is_open l trace ≡ true
     link_opens = opens_so l true (seen.link l there).1
 
-    other : owns p l ≡ false
-    other = not_owned x (without_doors trace) p.control.link l seen s.control.link (seen.link_alone l there)
+    link_whose : owner_of p l ≡ OfInbound
+    link_whose = link_owner taken p trace s l there
 
-    no_up : get p.side.links.ups l ≡ None
-    no_up = no_place x (without_doors trace) p.side.links l (get p.side.links.ups l) seen s.links there refl
+    none_up : get p.side.links.ups l ≡ None
+    none_up = no_up taken p trace s l there
 
     link_wants_are : (shown_of p).wants l ≡ wants_in (x.inbound l).phase (x.inbound l)
-    link_wants_are = ap (λ (b : Bool). wants_by b p l) other ∙ wants_link p.side.links x.inbound s.links l no_up
+    link_wants_are = ap (λ (o : Owner). wants_by o p l) link_whose ∙ wants_link p.side.links x.inbound s.links l none_up
 
     link_output_is : (shown_of p).output l ≡ output_in (x.inbound l).phase (x.inbound l)
-    link_output_is = ap (λ (b : Bool). output_by b p l) other ∙ output_link p.side.links x.inbound s.links l no_up
+    link_output_is = ap (λ (o : Owner). output_by o p l) link_whose ∙ output_link p.side.links x.inbound s.links l none_up
 
     fronting_so : (x.inbound l).phase ≡ m.fronting → Reads trace l (longest_front ≤ length (x.inbound l).front)
     fronting_so is =
         reads_map trace l
-        (λ none. front_full (length (x.inbound l).front)
+        (λ none. fills longest_front (length (x.inbound l).front)
         (sym (ap (λ (q : m.Phase). wants_in q (x.inbound l)) is) ∙ sym link_wants_are ∙ none))
         (open_reads trace l (shown_of p) link_alive (rests l) link_opens)
 
@@ -252,15 +272,15 @@ module _ (taken : List Note) (p : Proxy) (trace : List Entry) (s : Stands taken 
     up_alive : lives u trace ≡ true
     up_alive = lives_so u (seen.up l q u joins).0
 
-    up_other : owns p u ≡ false
-    up_other = not_owned x (without_doors trace) p.control.link u seen s.control.link (seen.up_alone l q u joins).0
+    up_whose : owner_of p u ≡ OfInbound
+    up_whose = up_owner taken p trace s l q u joins
 
     up_wants_are : (shown_of p).wants u ≡ up_wants_by tunnel.stage tunnel
-    up_wants_are = ap (λ (b : Bool). wants_by b p u) up_other
+    up_wants_are = ap (λ (o : Owner). wants_by o p u) up_whose
         ∙ wants_up p.side.links x.inbound s.links u l q (s.links.index.found l q u joins)
 
     up_output_is : (shown_of p).output u ≡ up_held_by tunnel.stage tunnel
-    up_output_is = ap (λ (b : Bool). output_by b p u) up_other
+    up_output_is = ap (λ (o : Owner). output_by o p u) up_whose
         ∙ holds_up p.side.links x.inbound s.links u l q (s.links.index.found l q u joins)
 
     up_open : (stage : Stage) (b : Bool) → tunnel.stage ≡ stage → (UpOpenBy stage (is_open u (without_doors trace)) → is_open u (without_doors trace) ≡ b)
@@ -278,7 +298,7 @@ module _ (taken : List Note) (p : Proxy) (trace : List Entry) (s : Stands taken 
         let opens : is_open u trace ≡ true = up_open t.live true at (λ told. told) in
         subst (λ (r : Stage). UpSettledBy r trace u tunnel) (sym live) (
           reads_map trace u
-              (λ none. ring_full (length tunnel.ways.down.held) tunnel.ways.down.has_ended
+              (λ none. ring_full down_size (length tunnel.ways.down.held) tunnel.ways.down.has_ended
               (sym (ap (λ (r : Stage). up_wants_by r tunnel) at) ∙ sym up_wants_are ∙ none))
               (open_reads trace u (shown_of p) up_alive (rests u) opens),
           writes_map trace u
@@ -288,6 +308,103 @@ module _ (taken : List Note) (p : Proxy) (trace : List Entry) (s : Stands taken 
 
     up_so : UpSettledBy tunnel.stage trace u tunnel
     up_so = by_stage tunnel.stage refl (going_at (x.inbound l) q u (all.links l) joins)
+
+  -- a link of the plain door
+  module _ (l : ℕ) (there : IsPlainThere (x.plain l)) where
+    plain_alive : lives l trace ≡ true
+    plain_alive = lives_so l (seen.plain.link l there).0
+
+    plain_opens : is_open l trace ≡ true
+    plain_opens = opens_so l true (seen.plain.link l there).1
+
+    plain_whose : owner_of p l ≡ Plain
+    plain_whose = plain_owner taken p trace s l there
+
+    plain_wants_are : (shown_of p).wants l ≡ plain_calm.wants (x.plain l)
+    plain_wants_are = ap (λ (o : Owner). wants_by o p l) plain_whose
+        ∙ wants_plain p.side.relays x.plain s.relays l (no_relay taken p trace s l there)
+
+    plain_output_is : (shown_of p).output l ≡ plain_calm.output (x.plain l)
+    plain_output_is = ap (λ (o : Owner). output_by o p l) plain_whose
+        ∙ output_plain p.side.relays x.plain s.relays l (no_relay taken p trace s l there)
+
+    plain_reads : (A : Type 0) → (plain_calm.wants (x.plain l) ≡ 0 → A) → Reads trace l A
+    plain_reads A none =
+        reads_map trace l (λ is. none (sym plain_wants_are ∙ is)) (open_reads trace l (shown_of p) plain_alive (rests l) plain_opens)
+
+    plain_fronting : (x.plain l).stage ≡ plain.fronting → Reads trace l (plain_calm.longest_front ≤ length (x.plain l).front)
+    plain_fronting is =
+        plain_reads (plain_calm.longest_front ≤ length (x.plain l).front)
+        (λ none. fills plain_calm.longest_front (length (x.plain l).front)
+        (sym (ap (λ (r : plain.Stage). plain_calm.wants_by r (x.plain l)) is) ∙ none))
+
+    plain_full : ((x.plain l).stage ≡ plain.opening) ⊎ ((x.plain l).stage ≡ plain.live) → Reads trace l (IsFull up_size (x.plain l).ways.up)
+    plain_full going =
+        plain_reads (IsFull up_size (x.plain l).ways.up)
+        (λ none. ring_full up_size (length (x.plain l).ways.up.held) (x.plain l).ways.up.has_ended
+        (⊎_elim (λ is. sym (ap (λ (r : plain.Stage). plain_calm.wants_by r (x.plain l)) is) ∙ none)
+        (λ is. sym (ap (λ (r : plain.Stage). plain_calm.wants_by r (x.plain l)) is) ∙ none) going))
+
+    plain_writes : (x.plain l).stage ≡ plain.live → Writes trace l ((x.plain l).ways.down.held ≡ [])
+    plain_writes is =
+        writes_map trace l
+        (λ none. sym (ap (λ (r : plain.Stage). plain_calm.output_by r (x.plain l).ways.down.held) is) ∙ sym plain_output_is ∙ none)
+        (open_writes trace l (shown_of p) plain_alive (rests l) plain_opens)
+
+  plain_so : (l : ℕ) → PlainSettledBy (x.plain l).stage (x.plain l).closed trace l (x.plain l)
+  plain_so l =
+      plain_by (x.plain l).stage trace l (x.plain l) (all.plain l).0 (all.plain l).1
+      (λ is. plain_fronting l (at plain.fronting is (λ away. away)) is)
+      (λ going. plain_full l (⊎_elim (λ is. at plain.opening is (λ away. away)) (λ is. at plain.live is (λ away. away)) going) going)
+      (λ is. plain_writes l (at plain.live is (λ away. away)) is)
+    where
+      at : (stage : plain.Stage) → (x.plain l).stage ≡ stage → (IsAwayBy stage (x.plain l) → ⊥) → IsPlainThere (x.plain l)
+      at stage is there = there_at_stage p.side.relays x.plain s.relays l stage is there
+
+  -- its upstream
+  module _ (l u : ℕ) (joins : IsRelayOf (x.plain l) u) where
+    abbrev pub captured : Captured
+    captured = x.plain l
+
+    relay_alive : lives u trace ≡ true
+    relay_alive = lives_so u (seen.plain.up l u joins).0
+
+    relay_whose : owner_of p u ≡ Plain
+    relay_whose = relay_owner taken p trace s l u joins
+
+    relay_wants_are : (shown_of p).wants u ≡ plain_calm.up_wants captured
+    relay_wants_are = ap (λ (o : Owner). wants_by o p u) relay_whose
+        ∙ wants_relay p.side.relays x.plain s.relays u l (s.relays.index.found l u joins)
+
+    relay_output_is : (shown_of p).output u ≡ plain_calm.up_output captured
+    relay_output_is = ap (λ (o : Owner). output_by o p u) relay_whose
+        ∙ output_relay p.side.relays x.plain s.relays u l (s.relays.index.found l u joins)
+
+    relay_open : (stage : plain.Stage) (b : Bool) → captured.stage ≡ stage
+        → (RelayOpenBy stage (is_open u (without_doors trace)) → is_open u (without_doors trace) ≡ b) → is_open u trace ≡ b
+    relay_open stage b is says =
+        opens_so u b (says (subst (λ (r : plain.Stage). RelayOpenBy r (is_open u (without_doors trace))) is (seen.plain.up l u joins).2))
+
+    relay_opening : captured.stage ≡ plain.opening → RelaySettledBy captured.stage trace u captured
+    relay_opening is =
+        subst (λ (r : plain.Stage). RelaySettledBy r trace u captured) (sym is)
+        (closed_finishes trace u (shown_of p) relay_alive (rests u) (relay_open plain.opening false is (λ told. told)))
+
+    relay_live : captured.stage ≡ plain.live → RelaySettledBy captured.stage trace u captured
+    relay_live is =
+        let opens : is_open u trace ≡ true = relay_open plain.live true is (λ told. told) in
+        subst (λ (r : plain.Stage). RelaySettledBy r trace u captured) (sym is) (
+          reads_map trace u
+              (λ none. ring_full down_size (length captured.ways.down.held) captured.ways.down.has_ended
+              (sym (ap (λ (r : plain.Stage). plain_calm.up_wants_by r captured) is) ∙ sym relay_wants_are ∙ none))
+              (open_reads trace u (shown_of p) relay_alive (rests u) opens),
+          writes_map trace u
+              (λ none. sym (ap (λ (r : plain.Stage). plain_calm.output_by r captured.ways.up.held) is) ∙ sym relay_output_is ∙ none)
+              (open_writes trace u (shown_of p) relay_alive (rests u) opens),
+        )
+
+    relay_so : RelaySettledBy captured.stage trace u captured
+    relay_so = ⊎_elim relay_opening relay_live (relay_at taken p trace s l u (all.plain l) joins)
 
   pub settled_in : ((door : Door) → asked door trace ≡ false) → SettledIn p.control.config trace
   settled_in doors = record {
@@ -302,5 +419,8 @@ module _ (taken : List Note) (p : Proxy) (trace : List Entry) (s : Stands taken 
       control = control_so;
       links = links_so;
       ups = up_so;
+      plain_quiet = all.plain;
+      plain = plain_so;
+      relays = relay_so;
     };
   }

@@ -2,6 +2,7 @@
 use mathlib.Core.Path.{fun_ext}
 use Rattle.std.proofs.Common.{◌≡◌, ℕ, ◌==◌, Bool, true, false, cond, refl, ap, sym, ◌∙◌}
 use Rattle.std.proofs.lemmas.Bool.{eqb-true}
+use Rattle.hb_captured.specs.Captured.{Captured}
 use Rattle.hb_inbound.specs.Inbound.{Inbound, at_stream}
 use Rattle.hb_inbound.specs.Part as part
 use Rattle.hb_inbound.specs.Runs as inbound
@@ -9,13 +10,13 @@ use Rattle.hb_inbound.specs.Tunnel.{Tunnel, up_entered}
 use Rattle.hb_proxy.specs.Machine.{Machine, born_by, with_part}
 use Rattle.hb_world.specs.declared.entry.Entry.{Entry}
 
-link_same : (l : ℕ) (x : Machine) (k : ℕ) (here : Bool) → (k == l) ≡ here → cond here (x.inbound l) (x.inbound k) ≡ x.inbound k
-link_same l x k true here = ap (λ (j : ℕ). x.inbound j) (sym (eqb-true k l here))
-link_same l x k false here = refl
-
-part_same : (x : Machine) (l : ℕ) (next : Inbound) → next ≡ x.inbound l → (λ k. cond (k == l) next (x.inbound k)) ≡ x.inbound
-part_same x l next same =
-    fun_ext (λ k. ap (λ (y : Inbound). cond (k == l) y (x.inbound k)) same ∙ link_same l x k (k == l) refl)
+-- one of all links stays as it was
+one_same : {A : Type 0} (f : ℕ → A) (l : ℕ) (next : A) → next ≡ f l → (λ k. cond (k == l) next (f k)) ≡ f
+one_same {A = A} f l next same = fun_ext (λ k. ap (λ (y : A). cond (k == l) y (f k)) same ∙ by k (k == l) refl)
+  where
+    by : (k : ℕ) (here : Bool) → (k == l) ≡ here → cond here (f l) (f k) ≡ f k
+    by k true here = ap f (sym (eqb-true k l here))
+    by k false here = refl
 
 tunnel_same : (b : Bool) (t : Tunnel) → cond b t t ≡ t
 tunnel_same true t = refl
@@ -25,15 +26,23 @@ tunnel_same false t = refl
 pub own_same : (x : Machine) (l : ℕ) (z : Entry) → inbound.entered z (x.inbound l) ≡ x.inbound l → born_by x.born z ≡ x.born
     → with_part l (part.entry z) (inbound.entered z (x.inbound l)) x ≡ x
 own_same x l z same born =
-    ap (λ (f : ℕ → Inbound). record x { born = born_by x.born z; inbound = f }) (part_same x l (inbound.entered z (x.inbound l)) same)
+    ap (λ (f : ℕ → Inbound). record x { born = born_by x.born z; inbound = f })
+    (one_same x.inbound l (inbound.entered z (x.inbound l)) same)
     ∙ ap (λ (n : ℕ). record x { born = n }) born
 
 pub up_same : (x : Machine) (l s : ℕ) (z : Entry) → ((t : Tunnel) → up_entered z t ≡ t) → born_by x.born z ≡ x.born
     → with_part l (part.up s z) (at_stream s (up_entered z) (x.inbound l)) x ≡ x
 up_same x l s z same born =
     ap (λ (f : ℕ → Inbound). record x { born = born_by x.born z; inbound = f })
-    (part_same x l (at_stream s (up_entered z) (x.inbound l))
+    (one_same x.inbound l (at_stream s (up_entered z) (x.inbound l))
     (ap (λ (f : ℕ → Tunnel). record (x.inbound l) { tunnels = f })
     (fun_ext (λ k. ap (λ (t : Tunnel). cond (k == s) t ((x.inbound l).tunnels k)) (same ((x.inbound l).tunnels k))
     ∙ tunnel_same (k == s) ((x.inbound l).tunnels k)))))
+    ∙ ap (λ (n : ℕ). record x { born = n }) born
+
+-- on a link of the plain door, or on its upstream
+pub plain_same : (x : Machine) (l : ℕ) (z : Entry) (next : Captured) → next ≡ x.plain l → born_by x.born z ≡ x.born
+    → record x { born = born_by x.born z; plain = λ k. cond (k == l) next (x.plain k) } ≡ x
+plain_same x l z next same born =
+    ap (λ (f : ℕ → Captured). record x { born = born_by x.born z; plain = f }) (one_same x.plain l next same)
     ∙ ap (λ (n : ℕ). record x { born = n }) born

@@ -1,27 +1,30 @@
 -- A note is taken, and a link that stirred is told.
-use Rattle.std.proofs.Common.{◌≡◌, ◌⊎◌, inl, inr, ⊎_elim, ℕ, Bool, true, false, if◌then◌else◌, List, [], ◌∷◌, ◌++◌, Result, Ok, Err, IfOk, Option, Some, None, refl, ap, sym, ◌∙◌, subst}
+use Rattle.std.proofs.Common.{◌≡◌, ◌⊎◌, inl, inr, ⊎_elim, ℕ, Bool, true, false, if◌then◌else◌, List, ◌++◌, Result, Ok, Err, IfOk, Option, Some, None, refl, ap, sym, ◌∙◌, subst}
 use Rattle.std.specs.Option.{option_to_list}
 use Rattle.std.proofs.lemmas.List.{append_assoc}
 use Rattle.std.proofs.lemmas.Bool.{eqb-true}
 use Rattle.hb_base.specs.declared.note.Note.{Note}
-use Rattle.hb_links.specs.Reaches.{notes as notes_of}
 use Rattle.hb_links.specs.Shows.{IsAway}
 use Rattle.hb_links.specs.Stirring as links
 use Rattle.hb_links.specs.declared.links.Links.{Links}
 use Rattle.hb_inbound.specs.Inbound as m
 use Rattle.hb_node.specs.State.{number_of}
-use Rattle.hb_proxy.specs.Machine.{Machine}
 use Rattle.hb_proxy.specs.Points.{Point}
 use Rattle.hb_proxy.specs.Seen.{IsLinkThere}
+use Rattle.hb_relays.specs.Calls.{IsPresent, has_of}
+use Rattle.hb_relays.specs.Stirring as relays
+use Rattle.hb_relays.specs.declared.relays.Relays.{Relays}
 use Rattle.hb_turns.specs.Shown.{Hears}
 use Rattle.hb_world.specs.Trace.{lives}
 use Rattle.hb_world.specs.declared.entry.Entry.{Entry}
 use Rattle.hb_whole.specs.Queue.{told, waiting}
-use Rattle.hb_whole.specs.Sight.{is_number, owns, own_told, shown_of, stirs_by}
+use Rattle.hb_whole.specs.Sight.{is_number, owns, owner_by, owner_of, own_told, shown_of, stirs_by}
 use Rattle.hb_whole.specs.Stands.{Stands, AreNotes}
+use Rattle.hb_whole.specs.declared.owner.Owner.{Owner}
+use Rattle.hb_whole.specs.declared.owner.Owner.TheVariants.{Control, Plain, Inbound}
 use Rattle.hb_whole.specs.declared.proxy.Proxy.{Proxy}
 use Rattle.hb_whole.specs.declared.queue.Queue.{Queue}
-use Rattle.hb_whole.proofs.Routes.{Route, to_control, to_link, to_up, route}
+use Rattle.hb_whole.proofs.Routes.{LinkRoute, PlainRoute, to_link, to_up, to_plain, to_relay, is_owned, link_route, plain_route}
 
 -- A NOTE
 
@@ -47,6 +50,7 @@ takes_next p q (Ok note) head still = λ taken trace s. record {
   trace_is = s.trace_is;
   control = s.control;
   links = s.links;
+  relays = s.relays;
   noted = notes_taken taken note p.side.notes q s.points head still s.noted;
   dial = s.dial;
   ends = s.ends;
@@ -67,6 +71,7 @@ own_stands taken p trace s = record {
   trace_is = s.trace_is;
   control = s.control;
   links = s.links;
+  relays = s.relays;
   noted = s.noted;
   dial = s.dial;
   ends = s.ends;
@@ -86,16 +91,28 @@ pub own_hears : (taken : List Note) (p : Proxy) (trace : List Entry) (l : ℕ) �
     → Stands taken (own_heard p) trace × Hears trace (Some l) (shown_of p) (shown_of (own_heard p))
 own_hears taken p trace l is s = (
   own_stands taken p trace s,
-  record { kept = λ k alive. by k (owns p k) refl },
+  record { kept = λ k alive. by k (owner_of p k) refl },
 )
   where
-    by : (k : ℕ) (b : Bool) → owns p k ≡ b → stirs_by b p k ≡ true → (stirs_by b (own_heard p) k ≡ true) ⊎ (Some l ≡ Some k)
-    by k true mine stirs = inr (sym is ∙ own_is p k mine stirs)
-    by k false other stirs = inl stirs
+    by : (k : ℕ) (o : Owner) → owner_of p k ≡ o → stirs_by o p k ≡ true → (stirs_by o (own_heard p) k ≡ true) ⊎ (Some l ≡ Some k)
+    by k Control whose stirs = inr (sym is ∙ own_is p k (is_owned p k whose) stirs)
+    by k Plain whose stirs = inl stirs
+    by k Inbound whose stirs = inl stirs
 
--- then the others are
-abbrev pub links_heard : Links → Proxy → Proxy
-links_heard links p = record p { stirs = false; side = record p.side { links = links } }
+-- then those of the two doors are
+abbrev pub links_heard : Links → Relays → Proxy → Proxy
+links_heard links relays p = record p { stirs = false; side = record p.side { links = links; relays = relays } }
+
+-- where those of one door weren't asked, or told none
+pub relays_unheard : (told : Option ℕ) (k : Relays) → relays.Hears told k k
+relays_unheard told k f shows = (shows, λ n present stirs. inl stirs)
+
+pub links_silent : (told : Option ℕ) (k n : Links) → links.Hears None k n → links.Hears told k n
+links_silent told k n hears f shows =
+    let heard = hears f shows in (
+      heard.0,
+      λ l present stirs. ⊎_elim (λ still. inl still) (λ is. absurd cc) (heard.1 l present stirs),
+    )
 
 is_present : (phase : m.Phase) → IsLinkThere phase → IsAway phase → ⊥
 is_present m.unborn there away = there
@@ -106,11 +123,28 @@ is_present m.serving there away = away
 is_present (m.faulted code) there away = away
 is_present (m.closing why) there away = away
 
-pub links_hear : (taken : List Note) (p : Proxy) (new : Links) (result : Option ℕ) (trace : List Entry) → own_told p ≡ None
-    → links.Hears result p.side.links new → Stands taken p trace
-    → Stands taken (links_heard new p) trace × Hears trace result (shown_of p) (shown_of (links_heard new p))
-links_hear taken p new result trace none hears s =
-    let heard = hears s.machine.inbound s.links in (
+module _ (taken : List Note) (p : Proxy) (trace : List Entry) (s : Stands taken p trace) (k : ℕ) (alive : lives k trace ≡ true) where
+  link_present : owner_of p k ≡ Inbound → links.IsPresent s.machine.inbound k
+  link_present whose = at (link_route taken p trace s k whose alive)
+    where
+      at : LinkRoute p s.machine k → links.IsPresent s.machine.inbound k
+      at (to_link there up found) = inl (is_present (s.machine.inbound k).phase there)
+      at (to_up l q joins place found) = inr (l, q, joins)
+
+  plain_present : owner_of p k ≡ Plain → IsPresent s.machine.plain k
+  plain_present whose = at (plain_route taken p trace s k whose alive)
+    where
+      at : PlainRoute p s.machine k → IsPresent s.machine.plain k
+      at (to_plain there up found) = inl there
+      at (to_relay l joins up found) = inr (l, joins)
+
+pub doors_hear : (taken : List Note) (p : Proxy) (new : Links) (behind : Relays) (result : Option ℕ) (trace : List Entry)
+    → own_told p ≡ None → links.Hears result p.side.links new → relays.Hears result p.side.relays behind
+    → relays.OnlyHears p.side.relays behind → Stands taken p trace
+    → Stands taken (links_heard new behind p) trace × Hears trace result (shown_of p) (shown_of (links_heard new behind p))
+doors_hear taken p new behind result trace none hears relays_hear only s =
+    let heard = hears s.machine.inbound s.links in
+    let relays_heard = relays_hear s.machine.plain s.relays in (
       record {
         machine = s.machine;
         points = s.points;
@@ -118,23 +152,27 @@ links_hear taken p new result trace none hears s =
         trace_is = s.trace_is;
         control = s.control;
         links = heard.0;
+        relays = relays_heard.0;
         noted = s.noted;
         dial = s.dial;
         ends = s.ends;
         sound = s.sound;
       },
-      record { kept = λ k alive. by k alive (owns p k) refl },
+      record {
+        kept = λ k alive stirs. subst (λ (o : Owner). (stirs_by o q k ≡ true) ⊎ (result ≡ Some k)) (sym (same k))
+            (by k alive (owner_of p k) refl stirs);
+      },
     )
   where
-    present : (k : ℕ) → lives k trace ≡ true → owns p k ≡ false → links.IsPresent s.machine.inbound k
-    present k alive other = at (route taken p trace s k alive)
-      where
-        at : Route p s.machine k → links.IsPresent s.machine.inbound k
-        at (to_control mine there) = absurd cc
-        at (to_link none there up found) = inl (is_present (s.machine.inbound k).phase there)
-        at (to_up none l q joins place found) = inr (l, q, joins)
+    q : Proxy
+    q = links_heard new behind p
 
-    by : (k : ℕ) → lives k trace ≡ true → (b : Bool) → owns p k ≡ b → stirs_by b p k ≡ true
-        → (stirs_by b (links_heard new p) k ≡ true) ⊎ (result ≡ Some k)
-    by k alive true mine stirs = let both : None ≡ Some k = sym none ∙ own_is p k mine stirs in absurd cc
-    by k alive false other stirs = (hears s.machine.inbound s.links).1 k (present k alive other) stirs
+    same : (k : ℕ) → owner_of q k ≡ owner_of p k
+    same k = ap (λ (r : Relays). owner_by (owns p k) (has_of r k)) only
+
+    by : (k : ℕ) → lives k trace ≡ true → (o : Owner) → owner_of p k ≡ o → stirs_by o p k ≡ true
+        → (stirs_by o q k ≡ true) ⊎ (result ≡ Some k)
+    by k alive Control whose stirs = let both : None ≡ Some k = sym none ∙ own_is p k (is_owned p k whose) stirs in absurd cc
+    by k alive Plain whose stirs =
+        (relays_hear s.machine.plain s.relays).1 k (plain_present taken p trace s k alive whose) stirs
+    by k alive Inbound whose stirs = (hears s.machine.inbound s.links).1 k (link_present taken p trace s k alive whose) stirs

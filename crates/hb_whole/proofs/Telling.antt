@@ -1,33 +1,40 @@
--- An entry is told to the inbound links.
-use Rattle.std.proofs.Common.{◌≡◌, ◌⊎◌, inl, inr, ⊎_elim, ℕ, Bool, true, false, List, [], ◌∷◌, ◌++◌, Option, Some, None, refl, ap, sym, ◌∙◌, subst}
+-- An entry is told to the links of a door.
+use Rattle.std.proofs.Common.{◌≡◌, ℕ, Bool, true, false, List, [], ◌∷◌, ◌++◌, Option, None, Some, refl, ap, sym, ◌∙◌, subst}
 use Rattle.std.proofs.lemmas.List.{append_assoc}
 use Rattle.hb_base.specs.declared.door.Why.{Why}
 use Rattle.hb_base.specs.declared.note.Note.{Note}
 use Rattle.hb_base.specs.declared.target.Target.{Target}
+use Rattle.hb_captured.specs.Captured.{Captured}
+use Rattle.hb_inbound.specs.Inbound.{Inbound}
 use Rattle.hb_link.specs.Noted.{Takes}
-use Rattle.hb_links.proofs.Sweeping.{stands_behind}
 use Rattle.hb_links.specs.Calls.{point_for}
-use Rattle.hb_links.specs.Reaches.{Guard, Follows, Shown, Meets, Leads, notes, note_in}
-use Rattle.hb_links.specs.Stirring as links
+use Rattle.hb_links.specs.Reaches as links
+use Rattle.hb_links.specs.Shows.{ShowsAll}
+use Rattle.hb_links.specs.Stirring as links_stirring
 use Rattle.hb_model.specs.Machine.{Machine as Control}
-use Rattle.hb_model.specs.declared.config.NodeConfig.{NodeConfig}
 use Rattle.hb_node.specs.State.{Shows}
 use Rattle.hb_proxy.specs.Doors.{is_at_door}
 use Rattle.hb_proxy.specs.Machine.{Machine}
+use Rattle.hb_proxy.specs.Notes.{notes, note_in}
 use Rattle.hb_proxy.specs.Points.{Point, entry_in, entries}
 use Rattle.hb_proxy.specs.Runs.{Steps, StandsFor, goes_on}
+use Rattle.hb_relays.specs.Calls as relays_calls
+use Rattle.hb_relays.specs.Shows.{ShowsRelays}
+use Rattle.hb_relays.specs.Stirring as relays_stirring
 use Rattle.hb_turns.specs.Shown as shown
 use Rattle.hb_turns.specs.Shown.{Tells}
 use Rattle.hb_world.specs.Trace.{lives}
 use Rattle.hb_world.specs.declared.entry.Entry.{Entry}
 use Rattle.hb_whole.specs.Queue.{told}
-use Rattle.hb_whole.specs.Sight.{owns, shown_of, wants_by, output_by, stirs_by}
+use Rattle.hb_whole.specs.Sight.{shown_of}
 use Rattle.hb_whole.specs.Stands.{Stands, EndsBy}
 use Rattle.hb_whole.specs.declared.proxy.Proxy.{Proxy}
 use Rattle.hb_whole.specs.declared.side.Side.{Side}
 use Rattle.hb_whole.proofs.Free.{goes_on as runs_on}
-use Rattle.hb_whole.proofs.Growing.{inner_silent, inner_control, stood}
-use Rattle.hb_whole.proofs.Guards.{Guarded}
+use Rattle.hb_whole.proofs.Growing.{stood}
+use Rattle.hb_whole.proofs.Guarded.{Guarded, LinkGuarded, PlainGuarded}
+use Rattle.hb_whole.proofs.Leading.{Follows, inner_silent, inner_control, links_follow, relays_follow, stands_behind}
+use Rattle.hb_whole.proofs.Stirring.{SideStirs, all_stir, links_stir, relays_stir, same_stirs}
 
 -- the links changed so, and no dial waits for its answer
 abbrev pub with_side : Side → Proxy → Proxy
@@ -36,34 +43,38 @@ with_side side p = record p { side = side; dials = None }
 -- A POINT, AND WHAT FOLLOWS FROM IT ON THE LINKS
 
 pub follows_stands : (taken : List Note) (p q : Proxy) (trace : List Entry) (z : Entry) (s : Stands taken p trace) (point : Point)
-    (next : Machine) (G : Guard) → q.control.config ≡ p.control.config → Steps p.control.config s.machine point next
-    → (follows : Follows G Shown p.control.config next q.side.links (told p.side.notes) (told q.side.notes))
-    → is_at_door z ≡ false → entry_in point ≡ z ∷ [] → note_in point ≡ [] → Shows q.control next.control → q.dials ≡ None
-    → EndsBy q.ends_for follows.reached → q.strange ≡ p.strange → Stands taken q (trace ++ z ∷ [])
-follows_stands taken p q trace z s point next G config steps follows door one none control dials ends sound =
+    (next : Machine) → q.control.config ≡ p.control.config → Steps p.control.config s.machine point next
+    → (follows : Follows p.control.config next (told p.side.notes) q.side) → is_at_door z ≡ false → entry_in point ≡ z ∷ []
+    → note_in point ≡ [] → Shows q.control next.control → q.dials ≡ None → EndsBy q.ends_for follows.reached → q.strange ≡ p.strange
+    → Stands taken q (trace ++ z ∷ [])
+follows_stands taken p q trace z s point next config steps follows door one none control dials ends sound =
     stood taken p q trace z s follows.reached (point ∷ follows.more) config
     (subst (λ (ps : List Point). StandsFor p.control.config follows.reached ps) (append_assoc s.points (point ∷ []) follows.more)
-    (stands_behind G p.control.config next follows.reached (s.points ++ point ∷ []) follows.more (goes_on s.run point steps refl)
+    (stands_behind p.control.config next follows.reached (s.points ++ point ∷ []) follows.more (goes_on s.run point steps refl)
     follows.leads)) door
     (ap (λ (zs : List Entry). zs ++ entries follows.more) one
-    ∙ ap (λ (zs : List Entry). z ∷ zs) (inner_silent G p.control.config next follows.reached follows.more follows.leads))
+    ∙ ap (λ (zs : List Entry). z ∷ zs) (inner_silent p.control.config next follows.reached follows.more follows.leads))
     (subst (λ (m : Control). Shows q.control m)
-    (sym (inner_control G p.control.config next follows.reached follows.more follows.leads)) control)
-    follows.shows
-    (subst (λ (ns : List Note). Takes (told p.side.notes) (ns ++ notes follows.more) (told q.side.notes)) (sym none) follows.noted) dials ends sound
+    (sym (inner_control p.control.config next follows.reached follows.more follows.leads)) control)
+    follows.links follows.relays
+    (subst (λ (ns : List Note). Takes (told p.side.notes) (ns ++ notes follows.more) (told q.side.notes)) (sym none) follows.noted)
+    dials ends sound
+
+-- how the run goes on behind what follows by itself
+pub going_ends : (p : Proxy) (next : Machine) (side : Side) → p.ends_for ≡ None → next.control.over ≡ false
+    → (follows : Follows p.control.config next (told p.side.notes) side) → EndsBy p.ends_for follows.reached
+going_ends p next side going goes follows =
+    subst (λ (o : Option _). EndsBy o follows.reached) (sym going)
+    (ap (λ (m : Control). m.over) (inner_control p.control.config next follows.reached follows.more follows.leads) ∙ goes)
 
 -- an entry of a link or an upstream
-pub link_stands : (taken : List Note) (p : Proxy) (side : Side) (trace : List Entry) (z : Entry) (s : Stands taken p trace) (l : ℕ)
-    (G : Guard) (P : Machine → Type 0) → p.ends_for ≡ None → is_at_door z ≡ false → (at : Guarded p s.machine l z) → P s.machine
-    → Meets G P at.point p.side.links (told p.side.notes) side.links (told side.notes) → Stands taken (with_side side p) (trace ++ z ∷ [])
-link_stands taken p side trace z s l G P going door at holds meets =
-    let follows = meets p.control.config s.machine at.next s.points s.run s.links holds at.steps in
-    follows_stands taken p (with_side side p) trace z s at.point at.next G refl at.steps follows door at.one at.no_note
+pub guarded_stands : (taken : List Note) (p : Proxy) (side : Side) (trace : List Entry) (z : Entry) (s : Stands taken p trace)
+    → p.ends_for ≡ None → is_at_door z ≡ false → (at : Guarded p s.machine z)
+    → Follows p.control.config at.next (told p.side.notes) side → Stands taken (with_side side p) (trace ++ z ∷ [])
+guarded_stands taken p side trace z s going door at follows =
+    follows_stands taken p (with_side side p) trace z s at.point at.next refl at.steps follows door at.one at.no_note
     (subst (λ (m : Control). Shows p.control m) (sym at.control) s.control) refl
-    (subst (λ (o : Option _). EndsBy o follows.reached) (sym going)
-    (ap (λ (m : Control). m.over)
-    (inner_control G p.control.config at.next follows.reached follows.more follows.leads ∙ at.control)
-    ∙ runs_on p s.machine s.ends going)) refl
+    (going_ends p at.next side going (ap (λ (m : Control). m.over) at.control ∙ runs_on p s.machine s.ends going) follows) refl
 
 -- WHAT STIRRED
 
@@ -71,46 +82,54 @@ link_stands taken p side trace z s l G P going door at holds meets =
 abbrev pub with_act : Side → Option (Target × Why) → Bool → Proxy → Proxy
 with_act side dial strange p = record p { side = side; dials = dial; strange = strange }
 
-module _ (p : Proxy) (side : Side) (dial : Option (Target × Why)) (strange : Bool) where
-  abbrev behind : Proxy
-  behind = with_act side dial strange p
+pub act_stirs : (p : Proxy) (side : Side) (dial : Option (Target × Why)) (strange : Bool) (trace : List Entry)
+    → ((l : ℕ) → lives l trace ≡ true → SideStirs l p.side side)
+    → shown.Stirs trace (shown_of p) (shown_of (with_act side dial strange p))
+act_stirs p side dial strange trace stirs =
+    all_stir trace p (with_act side dial strange p) refl
+    (λ l alive. same_stirs l p (with_act side dial strange p) refl refl (stirs l alive))
 
-  stirs_so : (l : ℕ) → links.StirsAt l p.side.links side.links
-      → ((shown_of p).stirs l ≡ true → (shown_of behind).stirs l ≡ true)
-      × ((shown_of p).wants l ≡ 0 → ((shown_of behind).wants l ≡ 0) ⊎ ((shown_of behind).stirs l ≡ true))
-      × ((shown_of p).output l ≡ [] → ((shown_of behind).output l ≡ []) ⊎ ((shown_of behind).stirs l ≡ true))
-  stirs_so l at = by (owns p l)
-    where
-      by : (b : Bool)
-          → (stirs_by b p l ≡ true → stirs_by b behind l ≡ true)
-          × (wants_by b p l ≡ 0 → (wants_by b behind l ≡ 0) ⊎ (stirs_by b behind l ≡ true))
-          × (output_by b p l ≡ [] → (output_by b behind l ≡ []) ⊎ (stirs_by b behind l ≡ true))
-      by true = (λ is. is, λ is. inl is, λ is. inl is)
-      by false = (at.kept, at.reads, at.writes)
-
-  pub act_stirs : (trace : List Entry) → ((l : ℕ) → lives l trace ≡ true → links.StirsAt l p.side.links side.links)
-      → shown.Stirs trace (shown_of p) (shown_of behind)
-  act_stirs trace stirs = record {
-    kept = λ l alive. (stirs_so l (stirs l alive)).0;
-    reads = λ l alive. (stirs_so l (stirs l alive)).1;
-    writes = λ l alive. (stirs_so l (stirs l alive)).2;
-    ends_for = refl;
-  }
-
-pub side_stirs : (p : Proxy) (side : Side) (trace : List Entry)
-    → ((l : ℕ) → lives l trace ≡ true → links.StirsAt l p.side.links side.links)
+pub side_stirs : (p : Proxy) (side : Side) (trace : List Entry) → ((l : ℕ) → SideStirs l p.side side)
     → shown.Stirs trace (shown_of p) (shown_of (with_side side p))
-side_stirs p side trace stirs = act_stirs p side None p.strange trace stirs
+side_stirs p side trace stirs = act_stirs p side None p.strange trace (λ l alive. stirs l)
 
--- so the event loop's entry is told
-pub link_tells : (p : Proxy) (side : Side) (z : Entry) (l : ℕ) (G : Point → Guard) (P : Machine → Type 0) → is_at_door z ≡ false
+-- THE EVENT LOOP'S ENTRY IS TOLD
+
+-- to the inbound links
+pub link_tells : (p : Proxy) (side : Side) (z : Entry) (l : ℕ) (G : Point → links.Guard) (P : Machine → Type 0)
+    → side.relays ≡ p.side.relays → is_at_door z ≡ false
     → ((taken : List Note) (trace : List Entry) (s : Stands taken p trace) → shown.MayCome (shown_of p) trace z
-    → (p.ends_for ≡ None) × Guarded p s.machine l z × P s.machine)
+    → (p.ends_for ≡ None) × LinkGuarded p s.machine l z × P s.machine)
     → ((point : Point) → point_for p.side.links l z ≡ Some point
-    → Meets (G point) P point p.side.links (told p.side.notes) side.links (told side.notes))
-    → links.Stirs p.side.links side.links → Tells Stands shown_of z p (with_side side p)
-link_tells p side z l G P door guards meets stirs taken trace s may =
-    let at = guards taken trace s may in (
-      link_stands taken p side trace z s l (G at.1.point) P at.0 door at.1 at.2 (meets at.1.point at.1.found),
-      side_stirs p side (trace ++ z ∷ []) (λ k alive. stirs k),
+    → links.Meets (G point) P point p.side.links (told p.side.notes) side.links (told side.notes))
+    → links_stirring.Stirs p.side.links side.links → Tells Stands shown_of z p (with_side side p)
+link_tells p side z l G P same door guards meets stirs taken trace s may =
+    let g = p.control.config in
+    let all = guards taken trace s may in
+    let at = all.1.at in
+    let behind = meets at.point all.1.found g s.machine at.next s.points s.run s.links all.2 at.steps in
+    let shows : ShowsRelays side.relays at.next.plain =
+    subst (λ (k : _). ShowsRelays k at.next.plain) (sym same)
+    (subst (λ (f : ℕ → Captured). ShowsRelays p.side.relays f) (sym all.1.plain) s.relays) in (
+      guarded_stands taken p side trace z s all.0 door at
+          (links_follow g at.next (told p.side.notes) side (G at.point) shows behind),
+      side_stirs p side (trace ++ z ∷ []) (λ k. links_stir p.side side k same (stirs k)),
+    )
+
+-- to those of the plain door
+pub plain_tells : (p : Proxy) (side : Side) (z : Entry) (l : ℕ) (P : Machine → Type 0) → side.links ≡ p.side.links → is_at_door z ≡ false
+    → ((taken : List Note) (trace : List Entry) (s : Stands taken p trace) → shown.MayCome (shown_of p) trace z
+    → (p.ends_for ≡ None) × PlainGuarded p s.machine l z × P s.machine)
+    → relays_calls.EntersWhere P l z p.side.relays (told p.side.notes) side.relays (told side.notes)
+    → relays_stirring.Stirs p.side.relays side.relays → Tells Stands shown_of z p (with_side side p)
+plain_tells p side z l P same door guards enters stirs taken trace s may =
+    let g = p.control.config in
+    let all = guards taken trace s may in
+    let at = all.1.at in
+    let behind = enters at.point all.1.found g s.machine at.next s.points s.run s.relays all.2 at.steps in
+    let shows : ShowsAll side.links at.next.inbound =
+    subst (λ (k : _). ShowsAll k at.next.inbound) (sym same)
+    (subst (λ (f : ℕ → Inbound). ShowsAll p.side.links f) (sym all.1.inbound) s.links) in (
+      guarded_stands taken p side trace z s all.0 door at (relays_follow g at.next (told p.side.notes) side shows behind),
+      side_stirs p side (trace ++ z ∷ []) (λ k. relays_stir p.side side k same (stirs k)),
     )

@@ -1,5 +1,5 @@
 -- What the event loop sees of the whole proxy.
-use Rattle.std.specs.Prelude.{◌≡◌, ℕ, ◌==◌, ◌&&◌, ◌||◌, Bool, true, false, is_none, if◌then◌else◌, List, Option, Some, None}
+use Rattle.std.specs.Prelude.{ℕ, ◌-◌, ◌==◌, ◌&&◌, Bool, true, false, is_none, if◌then◌else◌, List, Option, Some, None}
 use Rattle.hb_base.specs.declared.cause.Cause.{Cause}
 use Rattle.std.specs.FinMap.{get}
 use Rattle.hb_turns.specs.Shown.{Shown}
@@ -7,8 +7,14 @@ use Rattle.hb_node.specs.State.{wants_on, output_on, number_of, says_last, closi
 use Rattle.hb_links.specs.Busy as busy
 use Rattle.hb_links.specs.Calls as links
 use Rattle.hb_links.specs.Stirring as stirring
+use Rattle.hb_relays.specs.Calls as relays
+use Rattle.hb_relays.specs.Stirring as relays_stirring
+use Rattle.hb_relays.specs.Touched as touched
 use Rattle.hb_whole.specs.Queue.{waiting}
+use Rattle.hb_whole.specs.declared.owner.Owner.{Owner}
+use Rattle.hb_whole.specs.declared.owner.Owner.TheVariants.{Control, Plain, Inbound}
 use Rattle.hb_whole.specs.declared.proxy.Proxy.{Proxy}
+use Rattle.hb_whole.specs.declared.side.Side.{Side}
 
 -- a link is the one to the control plane that lives
 abbrev pub is_number : Option ℕ → ℕ → Bool
@@ -22,42 +28,64 @@ owns p l = is_number (number_of p.control.link) l
 abbrev pub own_told : Proxy → Option ℕ
 own_told p = if p.stirs then number_of p.control.link else None
 
--- how many bytes may be read, and what is to be written, on the control plane's link or on another
-abbrev pub wants_by : Bool → Proxy → ℕ → ℕ
-wants_by true p l = wants_on p.control.link l
-wants_by false p l = links.wants_of p.side.links l
+-- whose the link of a number is: the control plane's, else the plain door's where that has it, else the inbound door's
+abbrev pub owner_by : (own has : Bool) → Owner
+owner_by true has = Control
+owner_by false true = Plain
+owner_by false false = Inbound
 
-abbrev pub output_by : Bool → Proxy → ℕ → List ℕ
-output_by true p l = output_on p.control.link l
-output_by false p l = links.held_of p.side.links l
+abbrev pub owner_of : Proxy → ℕ → Owner
+owner_of p l = owner_by (owns p l) (relays.has_of p.side.relays l)
 
--- A write goes before the acts that are due: behind a connection error. On an inbound link it does only where the control plane rests
-abbrev pub last_by : Bool → Proxy → ℕ → Bool
-last_by true p l = says_last p.control.link
-last_by false p l = is_none (due_of p.control) && links.last_at (get p.side.links.links l)
+-- how many bytes may be read, and what is to be written, on a link by whose it is
+abbrev pub wants_by : Owner → Proxy → ℕ → ℕ
+wants_by Control p l = wants_on p.control.link l
+wants_by Plain p l = relays.wants_of p.side.relays l
+wants_by Inbound p l = links.wants_of p.side.links l
 
-abbrev pub stirs_by : Bool → Proxy → ℕ → Bool
-stirs_by true p l = p.stirs
-stirs_by false p l = stirring.stirs_at p.side.links l
+abbrev pub output_by : Owner → Proxy → ℕ → List ℕ
+output_by Control p l = output_on p.control.link l
+output_by Plain p l = relays.held_of p.side.relays l
+output_by Inbound p l = links.held_of p.side.links l
+
+-- A write goes before the acts that are due: behind a connection error. On an inbound link it does only where the control plane rests; a
+-- link of the plain door has no last words
+abbrev pub last_by : Owner → Proxy → ℕ → Bool
+last_by Control p l = says_last p.control.link
+last_by Plain p l = false
+last_by Inbound p l = is_none (due_of p.control) && links.last_at (get p.side.links.links l)
+
+abbrev pub stirs_by : Owner → Proxy → ℕ → Bool
+stirs_by Control p l = p.stirs
+stirs_by Plain p l = relays_stirring.stirs_at p.side.relays l
+stirs_by Inbound p l = stirring.stirs_at p.side.links l
+
+-- no act is due of the links of the two doors
+abbrev pub is_idle : Side → Bool
+is_idle side = busy.is_idle side.links && touched.is_idle side.relays.due
 
 -- no act is due, and none is but a dial, while the run goes on
 abbrev pub idle_by : Option Cause → Proxy → Bool
 idle_by (Some cause) p = true
-idle_by None p = is_none (due_of p.control) && busy.is_idle p.side.links
+idle_by None p = is_none (due_of p.control) && is_idle p.side
 
 abbrev pub closes_by : Option Cause → Proxy → Bool
 closes_by (Some cause) p = true
-closes_by None p = is_none (closing_of p.control.link) && busy.is_idle p.side.links
+closes_by None p = is_none (closing_of p.control.link) && is_idle p.side
+
+-- how many places the tunnels of inbound links may take: each link of the plain door that is kept takes one
+abbrev pub places_of : Proxy → ℕ
+places_of p = p.limits.tunnels - relays.count_of p.side.relays
 
 abbrev pub shown_of : Proxy → Shown
 shown_of p = record {
-  wants = λ l. wants_by (owns p l) p l;
-  output = λ l. output_by (owns p l) p l;
-  last_words = λ l. last_by (owns p l) p l;
+  wants = λ l. wants_by (owner_of p l) p l;
+  output = λ l. output_by (owner_of p l) p l;
+  last_words = λ l. last_by (owner_of p l) p l;
   idle = idle_by p.ends_for p;
   none_closes = closes_by p.ends_for p;
   dials = p.dials;
-  stirs = λ l. stirs_by (owns p l) p l;
+  stirs = λ l. stirs_by (owner_of p l) p l;
   noted = waiting p.side.notes;
   ends_for = p.ends_for;
 }

@@ -5,10 +5,12 @@ use Rattle.hb_base.specs.declared.door.Why.{Why}
 use Rattle.hb_base.specs.declared.door.Why.TheVariants as whys
 use Rattle.hb_base.specs.declared.note.Note.{Note}
 use Rattle.hb_base.specs.declared.target.Target.{Target}
+use Rattle.hb_captured.specs.Captured as plain
+use Rattle.hb_captured.specs.Captured.{Captured}
 use Rattle.hb_inbound.specs.Inbound as inbound
 use Rattle.hb_inbound.specs.Inbound.{Inbound}
 use Rattle.hb_inbound.specs.Tunnel as t
-use Rattle.hb_links.specs.Reaches.{notes as notes_of}
+use Rattle.hb_proxy.specs.Notes.{notes as notes_of}
 use Rattle.hb_links.specs.Shows.{ShowsAll}
 use Rattle.hb_model.specs.Discovery as discovery
 use Rattle.hb_model.specs.declared.config.NodeConfig.{NodeConfig}
@@ -17,6 +19,7 @@ use Rattle.hb_proxy.specs.Doors.{without_doors}
 use Rattle.hb_proxy.specs.Machine.{Machine}
 use Rattle.hb_proxy.specs.Points.{Point, entries}
 use Rattle.hb_proxy.specs.Runs.{ControlRests, StandsFor}
+use Rattle.hb_relays.specs.Shows.{ShowsRelays}
 use Rattle.hb_world.specs.declared.entry.Entry.{Entry}
 use Rattle.hb_whole.specs.Queue.{told}
 use Rattle.hb_whole.specs.declared.proxy.Proxy.{Proxy}
@@ -30,11 +33,12 @@ abbrev pub AreNotes : List Note → Option (List Note) → List Point → Type 0
 AreNotes taken None points = ⊤
 AreNotes taken (Some waiting) points = notes_of points ≡ taken ++ waiting
 
--- a dial is due, of the control plane, or of a tunnel's target while the control plane rests
+-- a dial is due: of the control plane; or, while that rests, of a tunnel's target, or of a plain link's
 abbrev pub DialIsDue : NodeConfig → Machine → Target → Why → Type 0
 DialIsDue g x to whys.Discovery = (x.control.dials ≡ true) × (to ≡ g.discovery)
 DialIsDue g x to (whys.Upstream l s) =
     ControlRests x.control × (((x.inbound l).tunnels s).stage ≡ t.due) × (to ≡ ((x.inbound l).tunnels s).target)
+DialIsDue g x to (whys.Plain l) = ControlRests x.control × ((x.plain l).stage ≡ plain.due) × (to ≡ (x.plain l).target)
 DialIsDue g x to _ = ⊥
 
 abbrev pub MayBeDialled : NodeConfig → Machine → Option (Target × Why) → Type 0
@@ -63,10 +67,22 @@ TunnelEnds cause (t.ended why) = why ≡ cause
 TunnelEnds cause (t.over why) = why ≡ cause
 TunnelEnds cause _ = ⊥
 
+-- a plain link is closed with its upstream, or both are to be for this cause
+abbrev pub PlainEndsBy : Cause → plain.Stage → Captured → Type 0
+PlainEndsBy cause plain.unborn x = ⊤
+PlainEndsBy cause (plain.failed why) x = why ≡ cause
+PlainEndsBy cause (plain.ended why) x = why ≡ cause
+PlainEndsBy cause (plain.over why) x = (why ≡ cause) ⊎ ((x.closed ≡ true) × (x.up ≡ 0))
+PlainEndsBy cause _ x = ⊥
+
+abbrev pub PlainEnds : Cause → Captured → Type 0
+PlainEnds cause x = PlainEndsBy cause x.stage x
+
 pub record Ends (cause : Cause) (x : Machine) : Type 0 where
   pub control : (l : ℕ) → ControlEnds cause (x.control.links l).phase
   pub links : (l : ℕ) → LinkEnds cause (x.inbound l).phase
   pub tunnels : (l s : ℕ) → TunnelEnds cause ((x.inbound l).tunnels s).stage
+  pub plain : (l : ℕ) → PlainEnds cause (x.plain l)
 
 -- the run goes on, or has ended for a cause
 abbrev pub EndsBy : Option Cause → Machine → Type 0
@@ -82,6 +98,7 @@ pub record Stands (taken : List Note) (p : Proxy) (trace : List Entry) : Type 0 
   pub trace_is : without_doors trace ≡ entries points
   pub control : Shows p.control machine.control
   pub links : ShowsAll p.side.links machine.inbound
+  pub relays : ShowsRelays p.side.relays machine.plain
   pub noted : AreNotes taken (told p.side.notes) points
   pub dial : MayBeDialled p.control.config machine p.dials
   pub ends : EndsBy p.ends_for machine

@@ -10,26 +10,28 @@ ghost use Rattle.hb_turns.specs.Shown.{IsFront, IsSame, Hears, Tells, StandsForN
 ghost use Rattle.hb_frames.specs.Frames.{AreOctets};
 ghost use Rattle.hb_turns.specs.Served.{IsFreshNode};
 ghost use Rattle.hb_whole.specs.Acting.{dial_in, is_strange, given_by, act_of};
-ghost use Rattle.hb_whole.specs.Sight.{owns, own_told, shown_of};
+ghost use Rattle.hb_whole.specs.Sight.{owns, owner_of, own_told, places_of, shown_of};
 ghost use Rattle.hb_whole.specs.Stands.{Stands, config_of};
 
+use crate::owner::Owner;
 use crate::queue::Queue;
 use crate::side::Side;
 use hb_base::{Cause, Door, NoMemory, Note, Target, Why};
 use hb_links::Links;
 use hb_model::{Act as ControlAct, NodeConfig};
 use hb_node::Node as Control;
+use hb_relays::Relays;
 use hb_world::Act;
 use std::alloc::{AllocError, Global};
 
-/// The most inbound links that may be open at a time, and the most tunnels.
+/// The most inbound links that may be open at a time, and the most tunnels; a link of the plain door is one, from its birth.
 #[derive(Clone, Copy)]
 pub struct Limits {
     pub links: usize,
     pub tunnels: usize,
 }
 
-/// A node of the mesh: its link to the control plane, and its inbound links with their tunnels.
+/// A node of the mesh: its link to the control plane, its inbound links with their tunnels, and its links of the plain door.
 #[derive(Drop)]
 pub struct Proxy {
     pub(crate) control: Control,
@@ -76,6 +78,7 @@ impl Proxy {
             control,
             side: Side {
                 links: Links::new(alloc),
+                relays: Relays::new(alloc),
                 notes: Queue::new(alloc),
             },
             limits,
@@ -94,6 +97,26 @@ impl Proxy {
             Some(number) => number == link,
             None => false,
         }
+    }
+
+    /// Whose the link of a number is.
+    fn owner_of(&self, link: u64) -> Owner
+        ensures { result ≡ owner_of self.now link }
+    {
+        if self.owns(link) {
+            Owner::Control
+        } else if self.side.relays.has(link) {
+            Owner::Plain
+        } else {
+            Owner::Inbound
+        }
+    }
+
+    /// How many places the tunnels of inbound links may take: each link of the plain door that is kept takes one.
+    fn places(&self) -> usize
+        ensures { result ≡ places_of self.now }
+    {
+        self.limits.tunnels.saturating_sub(self.side.relays.len())
     }
 
     /// The link to the control plane, where it stirred and that wasn't told. `None`: there is none.
@@ -137,15 +160,24 @@ impl Proxy {
         ensures tells { OnOk result (Tells Stands shown_of (e.Accepted link door) self.old self.new) }
         ensures config { config_of self.new ≡ config_of self.old }
     {
-        // No other door is served, so nothing is accepted there.
-        let Door::Inbound = door else {
-            return Err(AllocError);
-        };
         self.dials = None;
-        if self.side.links.len() < self.limits.links {
-            self.side.links.accepted(link)
-        } else {
-            self.side.links.turned_away(link)
+        match door {
+            Door::Inbound => {
+                if self.side.links.len() < self.limits.links {
+                    self.side.links.accepted(link)
+                } else {
+                    self.side.links.turned_away(link)
+                }
+            }
+            Door::Plain => {
+                if self.side.links.taken() < self.places() as u128 {
+                    self.side.relays.accepted(link)
+                } else {
+                    self.side.relays.turned_away(link)
+                }
+            }
+            // No other door is served, so nothing is accepted there.
+            Door::Outbound => Err(AllocError),
         }
     }
 
@@ -171,6 +203,13 @@ impl Proxy {
                     Ok(())
                 }
             },
+            Why::Plain { link: at } => match link {
+                Some(number) => self.side.relays.dialled(at, number),
+                None => {
+                    self.side.relays.dial_failed(at, &mut self.side.notes);
+                    Ok(())
+                }
+            },
             _ => Ok(()),
         }
     }
@@ -181,11 +220,13 @@ impl Proxy {
         ensures config { config_of self.new ≡ config_of self.old }
     {
         self.dials = None;
-        if self.owns(link) {
-            self.stirs = true;
-            self.control.opened(link);
-        } else {
-            self.side.links.opened(link, &mut self.side.notes);
+        match self.owner_of(link) {
+            Owner::Control => {
+                self.stirs = true;
+                self.control.opened(link);
+            }
+            Owner::Plain => self.side.relays.opened(link, &mut self.side.notes),
+            Owner::Inbound => self.side.links.opened(link, &mut self.side.notes),
         }
     }
 
@@ -193,10 +234,10 @@ impl Proxy {
     pub fn wants(&self, link: u64) -> usize
         ensures { result ≡ (shown_of self.now).wants link }
     {
-        if self.owns(link) {
-            self.control.wants(link)
-        } else {
-            self.side.links.wants(link)
+        match self.owner_of(link) {
+            Owner::Control => self.control.wants(link),
+            Owner::Plain => self.side.relays.wants(link),
+            Owner::Inbound => self.side.links.wants(link),
         }
     }
 
@@ -210,17 +251,25 @@ impl Proxy {
     {
         are_octets(bytes);
         self.dials = None;
-        if self.owns(link) {
-            self.stirs = true;
-            self.control.take_bytes(link, bytes, &mut self.side)
-        } else {
-            self.side.links.took(
-                link,
-                self.control.held(),
-                self.limits.tunnels,
-                bytes,
-                &mut self.side.notes,
-            )
+        match self.owner_of(link) {
+            Owner::Control => {
+                self.stirs = true;
+                self.control.take_bytes(link, bytes, &mut self.side)
+            }
+            Owner::Plain => {
+                let held = self.control.held();
+                self.side
+                    .relays
+                    .took(link, held, bytes, &mut self.side.notes);
+                Ok(())
+            }
+            Owner::Inbound => {
+                let places = self.places();
+                let held = self.control.held();
+                self.side
+                    .links
+                    .took(link, held, places, bytes, &mut self.side.notes)
+            }
         }
     }
 
@@ -230,11 +279,13 @@ impl Proxy {
         ensures config { config_of self.new ≡ config_of self.old }
     {
         self.dials = None;
-        if self.owns(link) {
-            self.stirs = true;
-            self.control.ended(link);
-        } else {
-            self.side.links.ended(link, &mut self.side.notes);
+        match self.owner_of(link) {
+            Owner::Control => {
+                self.stirs = true;
+                self.control.ended(link);
+            }
+            Owner::Plain => self.side.relays.ended(link, &mut self.side.notes),
+            Owner::Inbound => self.side.links.ended(link, &mut self.side.notes),
         }
     }
 
@@ -244,11 +295,13 @@ impl Proxy {
         ensures config { config_of self.new ≡ config_of self.old }
     {
         self.dials = None;
-        if self.owns(link) {
-            self.stirs = true;
-            self.control.broke(link);
-        } else {
-            self.side.links.broke(link, &mut self.side.notes);
+        match self.owner_of(link) {
+            Owner::Control => {
+                self.stirs = true;
+                self.control.broke(link);
+            }
+            Owner::Plain => self.side.relays.broke(link, &mut self.side.notes),
+            Owner::Inbound => self.side.links.broke(link, &mut self.side.notes),
         }
     }
 
@@ -267,10 +320,10 @@ impl Proxy {
     pub fn output(&self, link: u64) -> &[u8]
         ensures { IsFront result.now ((shown_of self.now).output link) }
     {
-        if self.owns(link) {
-            self.control.output(link)
-        } else {
-            self.side.links.output(link)
+        match self.owner_of(link) {
+            Owner::Control => self.control.output(link),
+            Owner::Plain => self.side.relays.output(link),
+            Owner::Inbound => self.side.links.output(link),
         }
     }
 
@@ -281,11 +334,13 @@ impl Proxy {
         ensures config { config_of self.new ≡ config_of self.old }
     {
         self.dials = None;
-        if self.owns(link) {
-            self.stirs = true;
-            self.control.wrote(link, n);
-        } else {
-            self.side.links.wrote(link, n, &mut self.side.notes);
+        match self.owner_of(link) {
+            Owner::Control => {
+                self.stirs = true;
+                self.control.wrote(link, n);
+            }
+            Owner::Plain => self.side.relays.wrote(link, n, &mut self.side.notes),
+            Owner::Inbound => self.side.links.wrote(link, n, &mut self.side.notes),
         }
     }
 
@@ -293,10 +348,10 @@ impl Proxy {
     pub fn last_words(&self, link: u64) -> bool
         ensures { result ≡ (shown_of self.now).last_words link }
     {
-        if self.owns(link) {
-            self.control.last_words()
-        } else {
-            self.control.is_idle() & self.side.links.last_words(link)
+        match self.owner_of(link) {
+            Owner::Control => self.control.last_words(),
+            Owner::Plain => false,
+            Owner::Inbound => self.control.is_idle() & self.side.links.last_words(link),
         }
     }
 
@@ -312,7 +367,10 @@ impl Proxy {
         if let Some(act) = self.control.next_act() {
             return self.give(act_of(act));
         }
-        match self.side.links.next_act() {
+        if let Some(act) = self.side.links.next_act() {
+            return self.give(act);
+        }
+        match self.side.relays.next_act() {
             Some(act) => self.give(act),
             None => {
                 self.dials = None;
@@ -346,6 +404,7 @@ impl Proxy {
         self.ends_for = Some(cause);
         self.control.stop(cause);
         self.side.links.stopped(cause, &mut self.side.notes);
+        self.side.relays.stopped(cause, &mut self.side.notes);
     }
 
     /// The next link on which more may be read or is to be written than before. `None` exactly where none stirred that wasn't told.
@@ -360,6 +419,9 @@ impl Proxy {
         if let Some(number) = self.next_own() {
             return Some(number);
         }
-        self.side.links.next_stirred()
+        if let Some(number) = self.side.links.next_stirred() {
+            return Some(number);
+        }
+        self.side.relays.next_stirred()
     }
 }

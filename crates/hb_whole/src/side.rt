@@ -1,4 +1,4 @@
-//! The inbound links, and the notes that they make.
+//! The links of the two doors, and the notes that they make.
 
 ghost use Rattle.std.specs.Prelude.{◌≡◌, ◌≤◌, length, OnOk};
 ghost use Rattle.hb_world.specs.declared.entry.Entry.TheVariants as e;
@@ -7,12 +7,14 @@ use crate::queue::Queue;
 use hb_held::Held;
 use hb_links::Links;
 use hb_node::Judge;
+use hb_relays::Relays;
 use std::alloc::Global;
 
-/// The inbound links with their tunnels, and the notes that wait to be taken.
+/// The inbound links with their tunnels, the links of the plain door, and the notes that wait to be taken.
 #[derive(Drop)]
 pub(crate) struct Side {
     pub links: Links,
+    pub relays: Relays,
     pub notes: Queue,
 }
 
@@ -23,5 +25,6 @@ impl Judge for Side {
 
     fn applied(&mut self, held: &Held) {
         self.links.applied(held, &mut self.notes);
+        self.relays.applied(held, &mut self.notes);
     }
 }

@@ -1,30 +1,42 @@
-use Rattle.std.proofs.Common.{refl, ap, sym, ◌∙◌}
-use Rattle.hb_links.specs.Reaches.{unguarded}
-use Rattle.hb_world.specs.declared.entry.Entry.TheVariants as e
+use Rattle.std.proofs.Common.{refl, sym, ◌∙◌}
 use Rattle.std.specs.Prelude.{⊤}
+use Rattle.hb_links.specs.Reaches.{unguarded}
+use Rattle.hb_relays.specs.Reaches.{any}
+use Rattle.hb_world.specs.declared.entry.Entry.TheVariants as e
 use Rattle.hb_whole.proofs.Guards as link
 use Rattle.hb_whole.proofs.Heard as control
 use Rattle.hb_whole.proofs.Heard.{state_tells, judged_alone}
-use Rattle.hb_whole.proofs.Telling.{link_tells}
+use Rattle.hb_whole.proofs.PlainGuards as plain
+use Rattle.hb_whole.proofs.Routes.{is_owned}
+use Rattle.hb_whole.proofs.Telling.{link_tells, plain_tells}
 use Rattle.hb_whole.proofs.proxy.Proxy.broke.Goals as goal
 
-pub returns-then-owns-clause-tells : goal.returns-then-owns-clause-tells
-returns-then-owns-clause-tells c =
+pub returns-in-Control-clause-tells : goal.returns-in-Control-clause-tells
+returns-in-Control-clause-tells c =
     let p = c.args.self.now in
     let l = c.args.link in
-    let mine = sym c.owns.ensures ∙ c.if-owns.true in
+    let mine = is_owned p l (sym c.owner_of.ensures ∙ c.in-Control.is) in
     state_tells p c.broke.new.self p.side (e.Broke l) refl (λ x. refl)
     (λ taken trace s may. control.broke_may taken p trace s l mine may)
     (judged_alone (e.Broke l) p c.broke.new.self c.broke.ensures)
 
-pub returns-then-owns-clause-config : goal.returns-then-owns-clause-config
-returns-then-owns-clause-config c = c.broke.ensures.0
+pub returns-in-Control-clause-config : goal.returns-in-Control-clause-config
+returns-in-Control-clause-config c = c.broke.ensures.0
 
-pub returns-else-owns-clause-tells : goal.returns-else-owns-clause-tells
-returns-else-owns-clause-tells c =
+pub returns-in-Plain-clause-tells : goal.returns-in-Plain-clause-tells
+returns-in-Plain-clause-tells c =
     let p = c.args.self.now in
     let l = c.args.link in
-    let other = sym c.owns.ensures ∙ c.if-owns.false in
-    let done = c.broke-else-owns in
-    link_tells p (record { links = done.new.self; notes = done.new.notes }) (e.Broke l) l (λ q. unguarded) (λ x. ⊤) refl
-    (λ taken trace s may. (may.0.0, link.broke_may taken p trace s l other may, tt)) done.ensures.meets done.ensures.stirs
+    let whose = sym c.owner_of.ensures ∙ c.in-Plain.is in
+    let done = c.broke-in-Plain in
+    plain_tells p (record p.side { relays = done.new.self; notes = done.new.notes }) (e.Broke l) l any refl refl
+    (λ taken trace s may. (may.0.0, plain.broke_may taken p trace s l whose may, tt)) done.ensures.meets done.ensures.stirs
+
+pub returns-in-Inbound-clause-tells : goal.returns-in-Inbound-clause-tells
+returns-in-Inbound-clause-tells c =
+    let p = c.args.self.now in
+    let l = c.args.link in
+    let whose = sym c.owner_of.ensures ∙ c.in-Inbound.is in
+    let done = c.broke-in-Inbound in
+    link_tells p (record p.side { links = done.new.self; notes = done.new.notes }) (e.Broke l) l (λ q. unguarded) (λ x. ⊤) refl refl
+    (λ taken trace s may. (may.0.0, link.broke_may taken p trace s l whose may, tt)) done.ensures.meets done.ensures.stirs

@@ -1,12 +1,14 @@
-use Rattle.std.proofs.Common.{◌≡◌, Option, ℕ, refl, sym}
+use Rattle.std.proofs.Common.{◌≡◌, refl}
 use Rattle.hb_base.specs.declared.target.Target.{Target}
-use Rattle.hb_links.specs.Calls.{Dials}
-use Rattle.hb_links.specs.Stirring.{Stirs}
+use Rattle.hb_links.specs.Calls as links
+use Rattle.hb_links.specs.Stirring as links_stirring
 use Rattle.hb_node.specs.State.{Answers}
+use Rattle.hb_relays.specs.Calls as relays
+use Rattle.hb_relays.specs.Stirring as relays_stirring
 use Rattle.hb_turns.specs.Shown.{Tells, dial_entry}
 use Rattle.hb_whole.specs.Sight.{shown_of}
 use Rattle.hb_whole.specs.Stands.{Stands, config_of}
-use Rattle.hb_whole.proofs.Births.{answers_config, control_answers, up_answers, up_answers_none}
+use Rattle.hb_whole.proofs.Dialling.{answers_config, control_answers, plain_answers, plain_answers_none, up_answers, up_answers_none}
 use Rattle.hb_whole.proofs.Heard.{with_state}
 use Rattle.hb_whole.proofs.Outcomes.{if_ok, two_ok}
 use Rattle.hb_whole.proofs.Telling.{with_side}
@@ -34,7 +36,7 @@ returns-in-Some-clause-tells c =
     let new = done.new.self in
     let l = c.in-Upstream.at in
     let k = c.in-Upstream.stream in
-    two_ok done.result (Dials l k c.in-Some.number p.side.links new) (Stirs p.side.links new)
+    two_ok done.result (links.Dials l k c.in-Some.number p.side.links new) (links_stirring.Stirs p.side.links new)
     ((to : Target) → Tells Stands shown_of (dial_entry to c.args.why c.args.link) p (with_side (record p.side { links = new }) p))
     (λ dials stirs. up_answers p new c.args.why c.args.link l k c.in-Some.number c.in-Upstream.is c.in-Some.is dials stirs)
     done.ensures.meets done.ensures.stirs
@@ -43,5 +45,24 @@ pub returns-in-None-clause-tells : goal.returns-in-None-clause-tells
 returns-in-None-clause-tells c =
     let p = c.args.self.now in
     let done = c.dial_failed in
-    up_answers_none p (record { links = done.new.self; notes = done.new.notes }) c.args.why c.args.link c.in-Upstream.at
-    c.in-Upstream.stream c.in-Upstream.is c.in-None.is done.ensures.meets done.ensures.stirs
+    up_answers_none p (record p.side { links = done.new.self; notes = done.new.notes }) c.args.why c.args.link c.in-Upstream.at
+    c.in-Upstream.stream refl c.in-Upstream.is c.in-None.is done.ensures.meets done.ensures.stirs
+
+pub returns-in-Some-link-clause-tells : goal.returns-in-Some-link-clause-tells
+returns-in-Some-link-clause-tells c =
+    let p = c.args.self.now in
+    let done = c.dialled-in-Some-link in
+    let new = done.new.self in
+    let l = c.in-Plain.at in
+    let u = c.in-Some-link.number in
+    two_ok done.result (relays.Dials l u p.side.relays new) (relays_stirring.Stirs p.side.relays new)
+    ((to : Target) → Tells Stands shown_of (dial_entry to c.args.why c.args.link) p (with_side (record p.side { relays = new }) p))
+    (λ dials stirs. plain_answers p new c.args.why c.args.link l u c.in-Plain.is c.in-Some-link.is dials stirs)
+    done.ensures.meets done.ensures.stirs
+
+pub returns-in-None-link-clause-tells : goal.returns-in-None-link-clause-tells
+returns-in-None-link-clause-tells c =
+    let p = c.args.self.now in
+    let done = c.dial_failed-in-None-link in
+    plain_answers_none p (record p.side { relays = done.new.self; notes = done.new.notes }) c.args.why c.args.link c.in-Plain.at refl
+    c.in-Plain.is c.in-None-link.is done.ensures.meets done.ensures.stirs

@@ -1,9 +1,8 @@
-use Rattle.std.proofs.Common.{◌≡◌, List, ℕ, refl, ap, sym, ◌∙◌}
+use Rattle.std.proofs.Common.{◌≡◌, refl, sym, ◌∙◌}
 use Rattle.hb_links.specs.Calls.{Takes, counting}
 use Rattle.hb_links.specs.Load.{others_of}
 use Rattle.hb_links.specs.Stirring.{Stirs}
 use Rattle.hb_node.specs.State.{EntersJudged}
-use Rattle.hb_proxy.specs.Machine.{Machine}
 use Rattle.hb_turns.specs.Shown.{Tells}
 use Rattle.hb_world.specs.declared.entry.Entry.TheVariants as e
 use Rattle.hb_whole.specs.Judged.{Judges}
@@ -15,15 +14,17 @@ use Rattle.hb_whole.proofs.Guards as link
 use Rattle.hb_whole.proofs.Heard as control
 use Rattle.hb_whole.proofs.Heard.{with_state, state_tells}
 use Rattle.hb_whole.proofs.Outcomes.{if_ok, two_ok}
-use Rattle.hb_whole.proofs.Telling.{with_side, link_tells}
+use Rattle.hb_whole.proofs.PlainGuards as plain
+use Rattle.hb_whole.proofs.Routes.{is_owned}
+use Rattle.hb_whole.proofs.Telling.{with_side, link_tells, plain_tells}
 use Rattle.hb_whole.proofs.proxy.Proxy.take_bytes.Goals as goal
 
-pub returns-then-owns-clause-tells : goal.returns-then-owns-clause-tells
-returns-then-owns-clause-tells c =
+pub returns-in-Control-clause-tells : goal.returns-in-Control-clause-tells
+returns-in-Control-clause-tells c =
     let p = c.args.self.now in
     let l = c.args.link in
     let bytes = c.args.bytes.now in
-    let mine = sym c.owns.ensures ∙ c.if-owns.true in
+    let mine = is_owned p l (sym c.owner_of.ensures ∙ c.in-Control.is) in
     let n = c.take_bytes.new.self in
     let side = c.take_bytes.new.judge in
     if_ok c.take_bytes.result (EntersJudged Judges (e.Came l bytes) p.control n p.side side)
@@ -31,28 +32,43 @@ returns-then-owns-clause-tells c =
     (λ enters. state_tells p n side (e.Came l bytes) refl (λ x. refl)
     (λ taken trace s may. control.came_may taken p trace s l mine bytes c.are_octets.ensures may) enters) c.take_bytes.ensures.judged
 
-pub returns-then-owns-clause-config : goal.returns-then-owns-clause-config
-returns-then-owns-clause-config c =
+pub returns-in-Control-clause-config : goal.returns-in-Control-clause-config
+returns-in-Control-clause-config c =
     let p = c.args.self.now in
     let n = c.take_bytes.new.self in
     let side = c.take_bytes.new.judge in
     if_ok c.take_bytes.result (EntersJudged Judges (e.Came c.args.link c.args.bytes.now) p.control n p.side side)
     (config_of (with_state n side p) ≡ config_of p) (λ enters. enters.0) c.take_bytes.ensures.judged
 
-pub returns-else-owns-clause-tells : goal.returns-else-owns-clause-tells
-returns-else-owns-clause-tells c =
+pub returns-in-Plain-clause-tells : goal.returns-in-Plain-clause-tells
+returns-in-Plain-clause-tells c =
     let p = c.args.self.now in
     let l = c.args.link in
     let bytes = c.args.bytes.now in
-    let other = sym c.owns.ensures ∙ c.if-owns.false in
-    let new = c.took.new.self in
-    let notes = c.took.new.notes in
-    let side : Side = record { links = new; notes = notes } in
-    let limit = c.args.self.now.limits.tunnels in
-    two_ok c.took.result
-    (Takes c.held.result.now (others_of p.side.links l) limit l bytes p.side.links (told p.side.notes) new (told notes))
+    let whose = sym c.owner_of.ensures ∙ c.in-Plain.is in
+    let done = c.took in
+    let held = c.held-held in
+    plain_tells p (record p.side { relays = done.new.self; notes = done.new.notes }) (e.Came l bytes) l
+    (λ x. x.control.held ≡ held.result.now) refl refl
+    (λ taken trace s may. (may.0.0, plain.came_may taken p trace s l whose bytes c.are_octets.ensures may, s.control.held ∙ sym held.ensures))
+    done.ensures.meets done.ensures.stirs
+
+pub returns-in-Inbound-clause-tells : goal.returns-in-Inbound-clause-tells
+returns-in-Inbound-clause-tells c =
+    let p = c.args.self.now in
+    let l = c.args.link in
+    let bytes = c.args.bytes.now in
+    let whose = sym c.owner_of.ensures ∙ c.in-Inbound.is in
+    let done = c.took-in-Inbound in
+    let new = done.new.self in
+    let notes = done.new.notes in
+    let side : Side = record p.side { links = new; notes = notes } in
+    let held = c.held-held-in-Inbound in
+    let limit = c.places-places.result in
+    two_ok done.result
+    (Takes held.result.now (others_of p.side.links l) limit l bytes p.side.links (told p.side.notes) new (told notes))
     (Stirs p.side.links new) (Tells Stands shown_of (e.Came l bytes) p (with_side side p))
     (λ takes stirs. link_tells p side (e.Came l bytes) l (λ q. counting (others_of p.side.links l) limit q)
-    (λ x. x.control.held ≡ c.held.result.now) refl
-    (λ taken trace s may. (may.0.0, link.came_may taken p trace s l other bytes c.are_octets.ensures may, s.control.held ∙ sym c.held.ensures))
-    takes stirs) c.took.ensures.meets c.took.ensures.stirs
+    (λ x. x.control.held ≡ held.result.now) refl refl
+    (λ taken trace s may. (may.0.0, link.came_may taken p trace s l whose bytes c.are_octets.ensures may, s.control.held ∙ sym held.ensures))
+    takes stirs) done.ensures.meets done.ensures.stirs

@@ -1,0 +1,337 @@
+-- What came of a dial is told.
+use Rattle.std.proofs.Common.{◌≡◌, ◌≢◌, ⊎_elim, ℕ, ◌≤◌, ◌||◌, Bool, true, false, List, [], ◌∷◌, ◌++◌, Option, Some, None, refl, ap, sym, ◌∙◌, subst, arith}
+use Rattle.std.specs.Prelude.{⊤}
+use Rattle.std.specs.FinMap.{get}
+use Rattle.hb_base.specs.declared.cause.Cause.{Cause}
+use Rattle.hb_base.specs.declared.door.Why.{Why}
+use Rattle.hb_base.specs.declared.door.Why.TheVariants as whys
+use Rattle.hb_base.specs.declared.note.Note.{Note}
+use Rattle.hb_base.specs.declared.target.Target.{Target}
+use Rattle.hb_captured.specs.Captured as captured
+use Rattle.hb_captured.specs.Part as plain
+use Rattle.hb_captured.specs.Runs as captured_runs
+use Rattle.hb_inbound.specs.Inbound as m
+use Rattle.hb_inbound.specs.Inbound.{Inbound, at_stream}
+use Rattle.hb_inbound.specs.Part as part
+use Rattle.hb_inbound.specs.Runs as inbound
+use Rattle.hb_inbound.specs.Tunnel as t
+use Rattle.hb_inbound.specs.Tunnel.{Stage, up_entered}
+use Rattle.hb_link.specs.Tunnels.{phase_of}
+use Rattle.hb_link.specs.declared.link.Link.{Link}
+use Rattle.hb_link.specs.declared.phase.Phase.{Phase as Here}
+use Rattle.hb_link.specs.declared.phase.Phase.TheVariants as here
+use Rattle.hb_links.proofs.Acting.{all_calm}
+use Rattle.hb_links.specs.Calls as links
+use Rattle.hb_links.specs.Reaches as links_reach
+use Rattle.hb_links.specs.Reaches.{unguarded}
+use Rattle.hb_links.specs.Shows.{ShowsAll, ShowsLink}
+use Rattle.hb_links.specs.Stirring as links_stirring
+use Rattle.hb_links.specs.declared.links.Links.{Links}
+use Rattle.hb_model.proofs.DialsDue.{runs_on as dials_go_on}
+use Rattle.hb_model.specs.Machine.{Machine as Control}
+use Rattle.hb_node.specs.State as node
+use Rattle.hb_node.specs.State.{State, ShowsLink as ShowsControl, number_of}
+use Rattle.hb_node.specs.declared.link.Link.{Link as ControlLink}
+use Rattle.hb_proxy.proofs.Projection.{control_runs}
+use Rattle.hb_proxy.specs.Doors.{is_at_door}
+use Rattle.hb_proxy.specs.Machine.{Machine, with_part, with_plain}
+use Rattle.hb_proxy.specs.Points.{of_link, of_plain, control_of}
+use Rattle.hb_proxy.specs.Runs.{BirthMayCome, ControlMayCome, ControlRests, LinkMayCome, Lets, PlainLets, PlainMayCome, Steps, goes_first, is_act, link_first, is_link_faulted}
+use Rattle.hb_relays.specs.Calls as relays
+use Rattle.hb_relays.specs.Reaches as relays_reach
+use Rattle.hb_relays.specs.Shows.{ShowsRelays}
+use Rattle.hb_relays.specs.Stirring as relays_stirring
+use Rattle.hb_relays.specs.declared.relays.Relays.{Relays}
+use Rattle.hb_turns.specs.Shown as shown
+use Rattle.hb_turns.specs.Shown.{Tells, dial_entry}
+use Rattle.hb_world.specs.declared.entry.Entry.{Entry}
+use Rattle.hb_world.specs.declared.entry.Entry.TheVariants as e
+use Rattle.hb_whole.specs.Queue.{told}
+use Rattle.hb_whole.specs.Sight.{is_number, shown_of}
+use Rattle.hb_whole.specs.Stands.{Stands, EndsBy, MayBeDialled, DialIsDue, TunnelEnds, PlainEndsBy}
+use Rattle.hb_whole.specs.declared.proxy.Proxy.{Proxy}
+use Rattle.hb_whole.specs.declared.side.Side.{Side}
+use Rattle.hb_whole.proofs.Births.{door_told, fresh_at, next_number, quiet_links, quiet_relays}
+use Rattle.hb_whole.proofs.Born.{born_below}
+use Rattle.hb_whole.proofs.Heard.{with_state, state_tells, state_stirs, judged_alone, enters}
+use Rattle.hb_whole.proofs.Leading.{links_follow, relays_follow}
+use Rattle.hb_whole.proofs.LinkMay.{up_steps}
+use Rattle.hb_whole.proofs.Relays.{plain_calm}
+use Rattle.hb_whole.proofs.Stirring.{links_stir, none_stir, relays_stir}
+use Rattle.hb_whole.proofs.Telling.{with_side}
+
+-- A DIAL OF THE CONTROL PLANE
+
+-- it is due, so the run goes on, and no link to the control plane lives
+due_of_control : (taken : List Note) (p : Proxy) (trace : List Entry) (s : Stands taken p trace) (to : Target) (why : Why) → why ≡ whys.Discovery
+    → p.dials ≡ Some (to, why) → (s.machine.control.dials ≡ true) × (to ≡ p.control.config.discovery)
+due_of_control taken p trace s to why is dials =
+    subst (λ (w : Why). DialIsDue p.control.config s.machine to w) is
+    (subst (λ (d : Option (Target × Why)). MayBeDialled p.control.config s.machine d) dials s.dial)
+
+-- a run that goes on has no cause
+no_cause : (x : Machine) (ends : Option Cause) → x.control.over ≡ false → EndsBy ends x → ends ≡ None
+no_cause x None goes is = refl
+no_cause x (Some c) goes is = absurd cc
+
+dials_go : (taken : List Note) (p : Proxy) (trace : List Entry) (s : Stands taken p trace) → s.machine.control.dials ≡ true
+    → (s.machine.control.over ≡ false) × (p.ends_for ≡ None)
+dials_go taken p trace s dials =
+    let goes = dials_go_on p.control.config s.machine.control (control_of s.points)
+    (control_runs p.control.config s.machine s.points s.run) dials in
+    (goes, no_cause s.machine p.ends_for goes s.ends)
+
+none_owned : (o : Option ControlLink) (x : Control) (l : ℕ) → ShowsControl o x → x.dials ≡ true → is_number (number_of o) l ≡ false
+none_owned None x l shows dials = refl
+none_owned (Some k) x l shows dials = absurd cc
+
+calm_control : (taken : List Note) (p : Proxy) (trace : List Entry) (s : Stands taken p trace) (z : Entry) → is_act z ≡ true
+    → ((x : Control) → goes_first x z ≡ true) → BirthMayCome s.machine z → ControlMayCome s.machine z
+calm_control taken p trace s z act first birth = record {
+  birth = birth;
+  links = λ l. subst (λ (b : Bool). Lets b (s.machine.inbound l)) (sym (first s.machine.control))
+      (all_calm p.side.links s.machine.inbound s.links l);
+  plain = λ l. subst (λ (b : Bool). PlainLets b (s.machine.plain l)) (sym (first s.machine.control))
+      (plain_calm p.side.relays s.machine.plain s.relays l);
+}
+
+pub control_fails : (p : Proxy) (n : State) (why : Why) → why ≡ whys.Discovery → node.Answers why None p.control n
+    → (to : Target) → Tells Stands shown_of (e.DialFailed to why) p (with_state n p.side p)
+control_fails p n why is answers to taken trace s may =
+    let at = p.control.config.discovery in
+    let due = due_of_control taken p trace s to why is may in
+    let z = e.DialFailed at why in
+    subst (λ (w : Target). Stands taken (with_state n p.side p) (trace ++ e.DialFailed w why ∷ [])
+    × shown.Stirs (trace ++ e.DialFailed w why ∷ []) (shown_of p) (shown_of (with_state n p.side p))) (sym due.1)
+    (state_tells p n p.side z refl (λ x. refl)
+    (λ taken trace s may.
+    let due = due_of_control taken p trace s at why is may in
+    ((dials_go taken p trace s due.0).1, (due.0, refl, is), calm_control taken p trace s z refl (λ x. refl) tt))
+    (judged_alone z p n answers) taken trace s
+    (subst (λ (w : Target). p.dials ≡ Some (w, why)) due.1 may))
+
+pub control_dialled : (p : Proxy) (n : State) (why : Why) (l : ℕ) → why ≡ whys.Discovery → node.Answers why (Some l) p.control n
+    → (to : Target) → Tells Stands shown_of (e.Dialled l to why) p (with_state n p.side p)
+control_dialled p n why l is answers to taken trace s may =
+    let at = p.control.config.discovery in
+    let due = due_of_control taken p trace s to why is may.0 in
+    let goes = dials_go taken p trace s due.0 in
+    let z = e.Dialled l at why in
+    let next = next_number taken p trace s l may.1 in
+    let below : s.machine.control.born ≤ s.machine.born = born_below p.control.config s.machine s.points s.run in
+    let did = enters taken p n p.side trace z s goes.0 goes.1 refl (due.0, omega (arith, next, below), refl, is)
+    (calm_control taken p trace s z refl (λ x. refl) next) (judged_alone z p n answers) in
+    subst (λ (w : Target). Stands taken (with_state n p.side p) (trace ++ e.Dialled l w why ∷ [])
+    × shown.Stirs (trace ++ e.Dialled l w why ∷ []) (shown_of p) (shown_of (with_state n p.side p))) (sym due.1) (
+      did.stands,
+      state_stirs p n p.side (trace ++ z ∷ [])
+          (λ k none. none_owned p.control.link s.machine.control k s.control.link due.0) (none_stir p.side),
+    )
+
+pub control_answers : (p : Proxy) (n : State) (why : Why) (link : Option ℕ) → why ≡ whys.Discovery → node.Answers why link p.control n
+    → (to : Target) → Tells Stands shown_of (dial_entry to why link) p (with_state n p.side p)
+control_answers p n why None is answers to = control_fails p n why is answers to
+control_answers p n why (Some l) is answers to = control_dialled p n why l is answers to
+
+-- what the node is told of itself stays so
+pub answers_config : (why : Why) (link : Option ℕ) (old new : State) → node.Answers why link old new → new.config ≡ old.config
+answers_config why None old new answers = answers.0
+answers_config why (Some l) old new answers = answers.0
+
+-- A DIAL FOR A TUNNEL
+
+-- an act goes first on any link
+act_first : (phase : m.Phase) (z : Entry) → is_act z ≡ true → link_first phase z ≡ true
+act_first phase z is = by (is_link_faulted phase) (is_act z) is
+  where
+    by : (a b : Bool) → b ≡ true → (a || b) ≡ true
+    by true b is = refl
+    by false b is = is
+
+-- a tunnel that is due is of a link that is born
+unborn_apart : (h : Here) → m.unborn ≡ phase_of h → ⊥
+unborn_apart here.Fronting is = absurd cc
+unborn_apart here.Serving is = absurd cc
+unborn_apart (here.Faulted code) is = absurd cc
+unborn_apart (here.Closing why) is = absurd cc
+unborn_apart here.Closed is = absurd cc
+
+due_is_born : (l s : ℕ) (o : Option Link) (x : Inbound) → ShowsLink l o x → (x.tunnels s).stage ≡ t.due → x.phase ≡ m.unborn → ⊥
+due_is_born l s None x shows due unborn =
+    ⊎_elim (λ (is : (x.tunnels s).stage ≡ t.unasked). let no : t.unasked ≡ t.due = sym is ∙ due in absurd cc)
+    (λ (is : (x.tunnels s).stage ≡ t.gone). let no : t.gone ≡ t.due = sym is ∙ due in absurd cc) (shows.1 s)
+due_is_born l s (Some k) x shows due unborn = unborn_apart k.phase (sym unborn ∙ shows.1.phase)
+
+record UpDue (taken : List Note) (p : Proxy) (trace : List Entry) (s : Stands taken p trace) (to : Target) (l k : ℕ) : Type 0 where
+  pub going : p.ends_for ≡ None
+  pub rests : ControlRests s.machine.control
+  pub stage : ((s.machine.inbound l).tunnels k).stage ≡ t.due
+  pub target : to ≡ ((s.machine.inbound l).tunnels k).target
+
+no_end : (x : Machine) (l k : ℕ) (ends : Option Cause) → ((x.inbound l).tunnels k).stage ≡ t.due → EndsBy ends x → ends ≡ None
+no_end x l k None due is = refl
+no_end x l k (Some c) due is = absurd (subst (λ (r : Stage). TunnelEnds c r) due (is.1.tunnels l k))
+
+due_of_up : (taken : List Note) (p : Proxy) (trace : List Entry) (s : Stands taken p trace) (to : Target) (l k : ℕ)
+    → p.dials ≡ Some (to, whys.Upstream l k) → UpDue taken p trace s to l k
+due_of_up taken p trace s to l k dials =
+    let due = subst (λ (d : Option (Target × Why)). MayBeDialled p.control.config s.machine d) dials s.dial in
+    record { going = no_end s.machine l k p.ends_for due.1 s.ends; rests = due.0; stage = due.1; target = due.2 }
+
+up_guard : (taken : List Note) (p : Proxy) (trace : List Entry) (s : Stands taken p trace) (l : ℕ) (z : Entry)
+    → ControlRests s.machine.control → is_act z ≡ true → BirthMayCome s.machine z → LinkMayCome s.machine l z
+up_guard taken p trace s l z rests act birth = record {
+  birth = birth;
+  control = rests;
+  others = λ j apart. subst (λ (b : Bool). Lets b (s.machine.inbound j)) (sym (act_first (s.machine.inbound l).phase z act))
+      (all_calm p.side.links s.machine.inbound s.links j);
+  plain = λ j. subst (λ (b : Bool). PlainLets b (s.machine.plain j)) (sym (act_first (s.machine.inbound l).phase z act))
+      (plain_calm p.side.relays s.machine.plain s.relays j);
+}
+
+-- what comes of it is told
+up_told : (p : Proxy) (side : Side) (l k : ℕ) (z : Entry) → side.relays ≡ p.side.relays → is_at_door z ≡ false
+    → links_reach.Meets unguarded (λ x. ⊤) (of_link l (part.up k z)) p.side.links (told p.side.notes) side.links (told side.notes)
+    → links_stirring.Stirs p.side.links side.links → (taken : List Note) (trace : List Entry) (s : Stands taken p trace)
+    → p.ends_for ≡ None → inbound.UpMayCome l k (s.machine.inbound l) ((s.machine.inbound l).tunnels k) z → LinkMayCome s.machine l z
+    → Stands taken (with_side side p) (trace ++ z ∷ []) × shown.Stirs (trace ++ z ∷ []) (shown_of p) (shown_of (with_side side p))
+up_told p side l k z same door meets stirs taken trace s going may guard =
+    let steps = up_steps p.control.config s.machine l k z may guard in
+    let next = with_part l (part.up k z) (at_stream k (up_entered z) (s.machine.inbound l)) s.machine in
+    door_told taken p side trace z s (of_link l (part.up k z)) next going steps refl door refl refl
+    (links_follow p.control.config next (told p.side.notes) side unguarded
+    (subst (λ (r : Relays). ShowsRelays r s.machine.plain) (sym same) s.relays)
+    (meets p.control.config s.machine next s.points s.run s.links tt steps))
+    (λ j. links_stir p.side side j same (stirs j))
+
+pub up_fails : (p : Proxy) (side : Side) (l k : ℕ) → side.relays ≡ p.side.relays
+    → links.DialFails l k p.side.links (told p.side.notes) side.links (told side.notes) → links_stirring.Stirs p.side.links side.links
+    → (to : Target) → Tells Stands shown_of (e.DialFailed to (whys.Upstream l k)) p (with_side side p)
+up_fails p side l k same fails stirs to taken trace s may =
+    let z = e.DialFailed to (whys.Upstream l k) in
+    let due = due_of_up taken p trace s to l k may in
+    up_told p side l k z same refl (fails to (whys.Upstream l k)) stirs taken trace s due.going
+    (all_calm p.side.links s.machine.inbound s.links l, due.stage, due.target, refl)
+    (up_guard taken p trace s l z due.rests refl tt)
+
+pub up_dialled : (p : Proxy) (new : Links) (l k u : ℕ) → links.Dials l k u p.side.links new → links_stirring.Stirs p.side.links new
+    → (to : Target) → Tells Stands shown_of (e.Dialled u to (whys.Upstream l k)) p (with_side (record p.side { links = new }) p)
+up_dialled p new l k u dials stirs to taken trace s may =
+    let z = e.Dialled u to (whys.Upstream l k) in
+    let due = due_of_up taken p trace s to l k may.0 in
+    let next = next_number taken p trace s u may.1 in
+    let fresh = fresh_at taken p trace s u next in
+    let apart : u ≢ l =
+    λ same. due_is_born l k (get p.side.links.links l) (s.machine.inbound l) (s.links.links l) due.stage
+    (ap (λ (j : ℕ). (s.machine.inbound j).phase) (sym same) ∙ fresh.link) in
+    up_told p (record p.side { links = new }) l k z refl refl
+    (quiet_links unguarded (λ x. ⊤) (of_link l (part.up k z)) p.side.links new (told p.side.notes) (dials to (whys.Upstream l k)))
+    stirs taken trace s due.going
+    (all_calm p.side.links s.machine.inbound s.links l, due.stage, (omega (arith, next), apart, λ j. fresh.up l j), due.target, refl)
+    (up_guard taken p trace s l z due.rests refl next)
+
+-- A DIAL FOR A LINK OF THE PLAIN DOOR
+
+record PlainDue (taken : List Note) (p : Proxy) (trace : List Entry) (s : Stands taken p trace) (to : Target) (l : ℕ) : Type 0 where
+  pub going : p.ends_for ≡ None
+  pub rests : ControlRests s.machine.control
+  pub stage : (s.machine.plain l).stage ≡ captured.due
+  pub target : to ≡ (s.machine.plain l).target
+
+no_plain_end : (x : Machine) (l : ℕ) (ends : Option Cause) → (x.plain l).stage ≡ captured.due → EndsBy ends x → ends ≡ None
+no_plain_end x l None due is = refl
+no_plain_end x l (Some c) due is = absurd (subst (λ (r : captured.Stage). PlainEndsBy c r (x.plain l)) due (is.1.plain l))
+
+due_of_plain : (taken : List Note) (p : Proxy) (trace : List Entry) (s : Stands taken p trace) (to : Target) (l : ℕ)
+    → p.dials ≡ Some (to, whys.Plain l) → PlainDue taken p trace s to l
+due_of_plain taken p trace s to l dials =
+    let due = subst (λ (d : Option (Target × Why)). MayBeDialled p.control.config s.machine d) dials s.dial in
+    record { going = no_plain_end s.machine l p.ends_for due.1 s.ends; rests = due.0; stage = due.1; target = due.2 }
+
+plain_guard : (taken : List Note) (p : Proxy) (trace : List Entry) (s : Stands taken p trace) (l : ℕ) (z : Entry)
+    → ControlRests s.machine.control → is_act z ≡ true → BirthMayCome s.machine z → PlainMayCome s.machine l z
+plain_guard taken p trace s l z rests act birth = record {
+  birth = birth;
+  control = rests;
+  links = λ j. subst (λ (b : Bool). Lets b (s.machine.inbound j)) (sym act) (all_calm p.side.links s.machine.inbound s.links j);
+  others = λ j apart. subst (λ (b : Bool). PlainLets b (s.machine.plain j)) (sym act)
+      (plain_calm p.side.relays s.machine.plain s.relays j);
+}
+
+plain_told : (p : Proxy) (side : Side) (l : ℕ) (z : Entry) → side.links ≡ p.side.links → is_at_door z ≡ false
+    → relays_reach.Meets relays_reach.any (of_plain l (plain.up z)) p.side.relays (told p.side.notes) side.relays (told side.notes)
+    → relays_stirring.Stirs p.side.relays side.relays → (taken : List Note) (trace : List Entry) (s : Stands taken p trace)
+    → p.ends_for ≡ None → captured_runs.UpMayCome l (s.machine.plain l) z → PlainMayCome s.machine l z
+    → Stands taken (with_side side p) (trace ++ z ∷ []) × shown.Stirs (trace ++ z ∷ []) (shown_of p) (shown_of (with_side side p))
+plain_told p side l z same door meets stirs taken trace s going may guard =
+    let next = with_plain l (plain.up z) (captured.up_entered z (s.machine.plain l)) s.machine in
+    let steps : Steps p.control.config s.machine (of_plain l (plain.up z)) next = (may, guard, refl) in
+    door_told taken p side trace z s (of_plain l (plain.up z)) next going steps refl door refl refl
+    (relays_follow p.control.config next (told p.side.notes) side
+    (subst (λ (k : Links). ShowsAll k s.machine.inbound) (sym same) s.links)
+    (meets p.control.config s.machine next s.points s.run s.relays tt steps))
+    (λ j. relays_stir p.side side j same (stirs j))
+
+pub plain_fails : (p : Proxy) (side : Side) (l : ℕ) → side.links ≡ p.side.links
+    → relays.DialFails l p.side.relays (told p.side.notes) side.relays (told side.notes) → relays_stirring.Stirs p.side.relays side.relays
+    → (to : Target) → Tells Stands shown_of (e.DialFailed to (whys.Plain l)) p (with_side side p)
+plain_fails p side l same fails stirs to taken trace s may =
+    let z = e.DialFailed to (whys.Plain l) in
+    let due = due_of_plain taken p trace s to l may in
+    plain_told p side l z same refl (fails to (whys.Plain l)) stirs taken trace s due.going
+    ((plain_calm p.side.relays s.machine.plain s.relays l, due.stage, due.target), refl)
+    (plain_guard taken p trace s l z due.rests refl tt)
+
+pub plain_dialled : (p : Proxy) (new : Relays) (l u : ℕ) → relays.Dials l u p.side.relays new → relays_stirring.Stirs p.side.relays new
+    → (to : Target) → Tells Stands shown_of (e.Dialled u to (whys.Plain l)) p (with_side (record p.side { relays = new }) p)
+plain_dialled p new l u dials stirs to taken trace s may =
+    let z = e.Dialled u to (whys.Plain l) in
+    let due = due_of_plain taken p trace s to l may.0 in
+    let next = next_number taken p trace s u may.1 in
+    let fresh = fresh_at taken p trace s u next in
+    let apart : u ≢ l =
+    λ same. let no : captured.unborn ≡ captured.due =
+    sym fresh.plain ∙ ap (λ (j : ℕ). (s.machine.plain j).stage) same ∙ due.stage in absurd cc in
+    plain_told p (record p.side { relays = new }) l z refl refl
+    (quiet_relays relays_reach.any (of_plain l (plain.up z)) p.side.relays new (told p.side.notes) (dials to (whys.Plain l)))
+    stirs taken trace s due.going
+    ((plain_calm p.side.relays s.machine.plain s.relays l, due.stage, due.target), refl, omega (arith, next), apart)
+    (plain_guard taken p trace s l z due.rests refl next)
+
+-- ANSWERS TO DIALS, BY WHAT THEY ARE
+
+-- an answer is of the dial that it is of
+answered : (p q : Proxy) (why due : Why) (link got : Option ℕ) → why ≡ due → link ≡ got
+    → ((to : Target) → Tells Stands shown_of (dial_entry to due got) p q) → (to : Target)
+    → Tells Stands shown_of (dial_entry to why link) p q
+answered p q why due link got why_is link_is tells to =
+    subst (λ (w : Why). Tells Stands shown_of (dial_entry to w link) p q) (sym why_is)
+    (subst (λ (o : Option ℕ). Tells Stands shown_of (dial_entry to due o) p q) (sym link_is) (tells to))
+
+pub up_answers : (p : Proxy) (new : Links) (why : Why) (link : Option ℕ) (l k u : ℕ) → why ≡ whys.Upstream l k → link ≡ Some u
+    → links.Dials l k u p.side.links new → links_stirring.Stirs p.side.links new → (to : Target)
+    → Tells Stands shown_of (dial_entry to why link) p (with_side (record p.side { links = new }) p)
+up_answers p new why link l k u why_is link_is dials stirs =
+    answered p (with_side (record p.side { links = new }) p) why (whys.Upstream l k) link (Some u) why_is link_is
+    (up_dialled p new l k u dials stirs)
+
+pub up_answers_none : (p : Proxy) (side : Side) (why : Why) (link : Option ℕ) (l k : ℕ) → side.relays ≡ p.side.relays
+    → why ≡ whys.Upstream l k → link ≡ None → links.DialFails l k p.side.links (told p.side.notes) side.links (told side.notes)
+    → links_stirring.Stirs p.side.links side.links → (to : Target)
+    → Tells Stands shown_of (dial_entry to why link) p (with_side side p)
+up_answers_none p side why link l k same why_is link_is fails stirs =
+    answered p (with_side side p) why (whys.Upstream l k) link None why_is link_is (up_fails p side l k same fails stirs)
+
+pub plain_answers : (p : Proxy) (new : Relays) (why : Why) (link : Option ℕ) (l u : ℕ) → why ≡ whys.Plain l → link ≡ Some u
+    → relays.Dials l u p.side.relays new → relays_stirring.Stirs p.side.relays new → (to : Target)
+    → Tells Stands shown_of (dial_entry to why link) p (with_side (record p.side { relays = new }) p)
+plain_answers p new why link l u why_is link_is dials stirs =
+    answered p (with_side (record p.side { relays = new }) p) why (whys.Plain l) link (Some u) why_is link_is
+    (plain_dialled p new l u dials stirs)
+
+pub plain_answers_none : (p : Proxy) (side : Side) (why : Why) (link : Option ℕ) (l : ℕ) → side.links ≡ p.side.links
+    → why ≡ whys.Plain l → link ≡ None → relays.DialFails l p.side.relays (told p.side.notes) side.relays (told side.notes)
+    → relays_stirring.Stirs p.side.relays side.relays → (to : Target)
+    → Tells Stands shown_of (dial_entry to why link) p (with_side side p)
+plain_answers_none p side why link l same why_is link_is fails stirs =
+    answered p (with_side side p) why (whys.Plain l) link None why_is link_is (plain_fails p side l same fails stirs)
