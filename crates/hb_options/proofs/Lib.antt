@@ -1,0 +1,13 @@
+pub mod Building
+pub mod Faults
+pub mod Level
+pub mod Reading
+pub mod Refused
+pub mod Reverse
+pub mod Rows
+pub mod Rules
+pub mod Spelling
+pub mod Steps
+pub mod Top
+pub mod Walks
+pub mod Words
