@@ -8,7 +8,7 @@ use Rattle.hb_grpc.specs.declared.fault.GrpcFault.{GrpcFault}
 use Rattle.hb_grpc.specs.declared.fault.GrpcFault.TheVariants as framing
 use Rattle.hb_grpc.specs.Framed.{framed_of}
 use Rattle.hb_grpc.specs.Reading.{first_of}
-use Rattle.hb_held.specs.Held.{Resources, nothing_held}
+use Rattle.hb_held.specs.Held.{Resources, no_doors, nothing_held}
 use Rattle.hb_held.specs.Outcome.{after_response, outcome_of}
 use Rattle.hb_lines.specs.Outcome.{outcome_text}
 use Rattle.hb_cli.specs.declared.input.Refused.{Refused}
@@ -68,7 +68,7 @@ left_through tells k l bytes =
 
 -- nothing is held, and nothing is told
 abbrev pub none_left : List ℕ → List ℕ → Leaves
-none_left network node = record { held = nothing_held network node None; told = [] }
+none_left network node = record { held = nothing_held network node no_doors; told = [] }
 
 -- what an input leaves at a node of a network, or the first of its messages, counted from 1, that is refused
 unfoldable pub left_by : Bool → List ℕ → List ℕ → List ℕ → Result Leaves Refused

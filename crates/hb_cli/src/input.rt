@@ -9,7 +9,7 @@ ghost use Rattle.hb_cli.specs.Taking.{TakesFront, numbered};
 use hb_base::{NoMemory, Or, Text};
 use hb_disco::{Response, read_response};
 use hb_grpc::{GrpcFault, first_length};
-use hb_held::Held;
+use hb_held::{Held, OwnDoors};
 use hb_lines::outcome_line;
 use hb_script::ScriptFault;
 use std::alloc::Global;
@@ -158,7 +158,7 @@ pub fn read_input(
     ensures { Answers result (left_by tells network node input.now) }
 {
     let mut left = Left {
-        held: Held::new(alloc, network, node, None),
+        held: Held::new(alloc, network, node, OwnDoors::none()),
         told: Vec::new(alloc),
     };
     let mut bytes = input;

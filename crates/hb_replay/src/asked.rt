@@ -5,6 +5,7 @@ ghost use Rattle.hb_words.specs.AskedRun.{run_seen};
 ghost use Rattle.hb_replay.specs.Asked.{config_of, words_of};
 
 use hb_base::{NoMemory, Text};
+use hb_held::OwnDoors;
 use hb_model::NodeConfig;
 use hb_serve::ServeWords;
 use hb_words::RunWords;
@@ -29,7 +30,11 @@ fn config_of(alloc: Global, words: &RunWords<'_>) -> Result<NodeConfig, NoMemory
         discovery: words.discovery,
         network: text_of(alloc, words.network)?,
         node: text_of(alloc, words.node)?,
-        inbound: words.inbound,
+        doors: OwnDoors {
+            inbound: words.inbound,
+            outbound: None,
+            plain: words.plain,
+        },
     })
 }
 

@@ -3,7 +3,7 @@ use Rattle.std.proofs.Common.{◌≡◌, inr, List, [], ◌++◌, Option, Some, 
 use Rattle.std.proofs.lemmas.List.{append-nil}
 use Rattle.hb_base.specs.declared.cause.Cause.{Cause}
 use Rattle.hb_base.specs.declared.note.Note.{Note}
-use Rattle.hb_links.specs.Reaches.{notes as notes_of}
+use Rattle.hb_proxy.specs.Notes.{notes as notes_of}
 use Rattle.hb_model.specs.declared.config.NodeConfig.{NodeConfig}
 use Rattle.hb_model.proofs.Inner.{over_is}
 use Rattle.hb_proxy.proofs.Projection.{control_runs}

@@ -3,8 +3,8 @@ use Rattle.std.specs.Prelude.{◌≡◌, ◌⊎◌, ℕ, false, List, [], ◌++�
 use Rattle.std.specs.Option.{option_to_list}
 use Rattle.hb_audit.specs.Tells as audits
 use Rattle.hb_base.specs.declared.note.Note.{Note}
-use Rattle.hb_base.specs.declared.target.Target.{Target}
-use Rattle.hb_links.specs.Reaches.{notes as notes_of}
+use Rattle.hb_proxy.specs.Notes.{notes as notes_of}
+use Rattle.hb_held.specs.declared.doors.OwnDoors.{OwnDoors}
 use Rattle.hb_model.specs.declared.config.NodeConfig.{NodeConfig}
 use Rattle.hb_proxy.specs.Settled.{SettledLaw}
 use Rattle.hb_turns.specs.Notes.{Holds}
@@ -26,16 +26,16 @@ use Rattle.hb_serve.specs.declared.words.ServeWords.{ServeWords}
 abbrev pub StandsAs : NodeConfig → List Note → Proxy → List Entry → Type 0
 StandsAs g taken p trace = Stands taken p trace × (config_of p ≡ g)
 
--- what the event loop is asked for: the inbound door is given where it is told where that listens, and no other
-abbrev pub loop_words : Option Target → ℕ → Option ℕ → LoopWords
-loop_words inbound turns ticks = record {
-  doors = record { inbound = inbound; outbound = None; plain = None };
+-- what the event loop is asked for: the inbound door and the plain one are given where the node has them, and no other
+abbrev pub loop_words : OwnDoors → ℕ → Option ℕ → LoopWords
+loop_words doors turns ticks = record {
+  doors = record { inbound = doors.inbound; outbound = None; plain = doors.plain };
   turns = turns;
   ticks = ticks;
 }
 
 abbrev pub words_of : ServeWords → LoopWords
-words_of w = loop_words w.config.inbound w.turns w.ticks
+words_of w = loop_words w.config.doors w.turns w.ticks
 
 -- a run that goes on left these entries; where memory lacked, all but at most the last
 abbrev pub AreLawful : NodeConfig → ServeEnd → List Entry → Type 0

@@ -9,7 +9,7 @@ ghost use Rattle.hb_serve.specs.Served.{loop_words, heard_of, Serves};
 use crate::asked::{Asked, Given};
 use crate::words::ServeWords;
 use hb_audit::{Audit, Audits};
-use hb_base::Target;
+use hb_held::OwnDoors;
 use hb_turns::{Doors, Keep, ServeWords as LoopWords, Served, serve as run};
 use hb_whole::{Limits, Proxy};
 use hb_world::World;
@@ -21,14 +21,14 @@ use std::mem;
 const MOST_LINKS: usize = 1024;
 
 /// What the event loop is asked for.
-fn loop_words(inbound: Option<Target>, turns: u64, ticks: Option<u64>) -> LoopWords
-    ensures { result ≡ loop_words inbound turns ticks }
+fn loop_words(doors: OwnDoors, turns: u64, ticks: Option<u64>) -> LoopWords
+    ensures { result ≡ loop_words doors turns ticks }
 {
     LoopWords {
         doors: Doors {
-            inbound,
+            inbound: doors.inbound,
             outbound: None,
-            plain: None,
+            plain: doors.plain,
         },
         turns,
         ticks,
@@ -54,7 +54,7 @@ fn serve_asked<G: Given, A: Audit, W: World>(
         links: MOST_LINKS,
         tunnels: words.tunnels,
     };
-    let asked = loop_words(words.config.inbound, words.turns, words.ticks);
+    let asked = loop_words(words.config.doors, words.turns, words.ticks);
     let Ok(proxy) = Proxy::new(alloc, words.config, limits) else {
         return Served::nothing();
     };
@@ -64,10 +64,10 @@ fn serve_asked<G: Given, A: Audit, W: World>(
     served
 }
 
-/// Runs the proxy over a world: it listens at the inbound door, where that is given, then goes on until a listen or a wait fails, a wait
-/// tells a stop, the ticks passed or the turns are spent, or memory lacks. Then each link is closed. Each note is told to the audits when
-/// it is made, and one that doesn't keep it is dropped. The keep holds the notes of this run alone. Where memory lacks for the proxy
-/// itself, nothing is done.
+/// Runs the proxy over a world: it listens at the inbound door and at the plain one, where they are given, then goes on until a listen or
+/// a wait fails, a wait tells a stop, the ticks passed or the turns are spent, or memory lacks. Then each link is closed. Each note is told
+/// to the audits when it is made, and one that doesn't keep it is dropped. The keep holds the notes of this run alone. Where memory lacks
+/// for the proxy itself, nothing is done.
 pub fn serve<A: Audit, W: World>(
     alloc: Global,
     words: ServeWords,

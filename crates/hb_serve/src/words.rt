@@ -5,7 +5,7 @@ use hb_model::NodeConfig;
 /// What a run of the proxy is asked for.
 #[derive(Drop)]
 pub struct ServeWords {
-    /// The node; the inbound door is given where it has one.
+    /// The node, with its doors.
     pub config: NodeConfig,
     /// The most tunnels at a time.
     pub tunnels: usize,

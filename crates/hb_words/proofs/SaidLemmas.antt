@@ -10,7 +10,7 @@ use Rattle.hb_base.specs.Parts.{cut_first}
 use Rattle.hb_words.specs.declared.run_command.RunCommand.{RunCommand}
 use Rattle.hb_words.specs.declared.run_command.RunCommand.TheVariants.{Replay, Serve}
 use Rattle.hb_words.specs.declared.run_command.RunOption.{RunOption}
-use Rattle.hb_words.specs.declared.run_command.RunOption.TheVariants.{Node, Id, Discovery, Inbound, Network, HbonePort, Tunnels, Turns, Ticks}
+use Rattle.hb_words.specs.declared.run_command.RunOption.TheVariants.{Node, Id, Discovery, Inbound, Plain, Network, HbonePort, Tunnels, Turns, Ticks}
 use Rattle.hb_words.specs.declared.run_command.RunFlag.{RunFlag}
 use Rattle.hb_words.specs.declared.run_command.RunFlag.TheVariants.{Trace, Brief}
 use Rattle.hb_words.specs.declared.run_fault.RunFault.{RunFault}
@@ -29,6 +29,7 @@ said_name command Node = refl
 said_name command Id = refl
 said_name command Discovery = refl
 said_name command Inbound = refl
+said_name command Plain = refl
 said_name command Network = refl
 said_name command HbonePort = refl
 said_name command Tunnels = refl
@@ -53,6 +54,7 @@ said_joined command Node value = rw (within Node value) refl
 said_joined command Id value = rw (within Id value) refl
 said_joined command Discovery value = rw (within Discovery value) refl
 said_joined command Inbound value = rw (within Inbound value) refl
+said_joined command Plain value = rw (within Plain value) refl
 said_joined command Network value = rw (within Network value) refl
 said_joined command HbonePort value = rw (within HbonePort value) refl
 said_joined command Tunnels value = rw (within Tunnels value) refl
@@ -87,8 +89,8 @@ module _ (word : List ℕ) where
   option_spelled : (name : RunOption) → any_option word ≡ Some name → word ≡ name_text name
   option_spelled name =
       option_or name Node _ _ refl (option_or name Id _ _ refl (option_or name Discovery _ _ refl (option_or name Inbound _ _ refl
-      (option_or name Network _ _ refl (option_or name HbonePort _ _ refl (option_or name Tunnels _ _ refl
-      (option_or name Turns _ _ refl (option_or name Ticks None _ refl (λ is. cc)))))))))
+      (option_or name Plain _ _ refl (option_or name Network _ _ refl (option_or name HbonePort _ _ refl
+      (option_or name Tunnels _ _ refl (option_or name Turns _ _ refl (option_or name Ticks None _ refl (λ is. cc))))))))))
 
   flag_or : (name x : RunFlag) (rest : Option RunFlag) (same : Bool) → bytes_eq word (flag_text x) ≡ same
       → (rest ≡ Some name → word ≡ flag_text name) → (if same then Some x else rest) ≡ Some name → word ≡ flag_text name

@@ -10,13 +10,14 @@ pub record Question : Type 0 where
   pub peer : Peer
   pub target : Target
 
--- what a run of the proxy is asked: who the node is, where its control plane is, where its inbound door listens if it has one, and the
--- bounds of the run
+-- what a run of the proxy is asked: who the node is, where its control plane is, where its inbound door listens and where its plain one,
+-- each if it has one, and the bounds of the run
 pub record RunWords : Type 0 where
   pub node : List ℕ
   pub id : List ℕ
   pub discovery : Target
   pub inbound : Option Target
+  pub plain : Option Target
   pub network : List ℕ
   pub hbone_port : ℕ
   pub tunnels : ℕ

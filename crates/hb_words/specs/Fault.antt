@@ -32,9 +32,9 @@ fault_text (faults.Run command fault) = run_text command fault
 -- the forms of accepted words
 abbrev pub usage : List ℕ
 usage = codes " (usage: hbone check --node NODE [--network NETWORK] SOURCE IDENTITY TARGET, hbone show,"
-    ++ codes " hbone replay --node NODE --id ID --discovery TARGET [--inbound TARGET]"
+    ++ codes " hbone replay --node NODE --id ID --discovery TARGET [--inbound TARGET] [--plain TARGET]"
     ++ codes " [--network NETWORK] [--hbone-port PORT] [--tunnels COUNT] [--turns COUNT] [--trace] [--brief],"
-    ++ codes " or hbone serve --node NODE --id ID --discovery TARGET [--inbound TARGET]"
+    ++ codes " or hbone serve --node NODE --id ID --discovery TARGET [--inbound TARGET] [--plain TARGET]"
     ++ codes " [--network NETWORK] [--hbone-port PORT] [--tunnels COUNT] [--turns COUNT] [--ticks COUNT])"
 
 -- the line, with the forms of accepted words

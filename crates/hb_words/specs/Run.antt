@@ -11,7 +11,7 @@ use Rattle.hb_wire.specs.Message.{and_then}
 use Rattle.hb_words.specs.declared.run_command.RunCommand.{RunCommand}
 use Rattle.hb_words.specs.declared.run_command.RunCommand.TheVariants as run
 use Rattle.hb_words.specs.declared.run_command.RunOption.{RunOption}
-use Rattle.hb_words.specs.declared.run_command.RunOption.TheVariants.{Node, Id, Discovery, Inbound, Network, HbonePort, Tunnels, Turns, Ticks}
+use Rattle.hb_words.specs.declared.run_command.RunOption.TheVariants.{Node, Id, Discovery, Inbound, Plain, Network, HbonePort, Tunnels, Turns, Ticks}
 use Rattle.hb_words.specs.declared.run_command.RunFlag.{RunFlag}
 use Rattle.hb_words.specs.declared.run_command.RunFlag.TheVariants.{Trace, Brief}
 use Rattle.hb_words.specs.declared.run_fault.RunFault.{RunFault}
@@ -27,6 +27,7 @@ pub record Settings : Type 0 where
   pub id : Option (List ℕ)
   pub discovery : Option Target
   pub inbound : Option Target
+  pub plain : Option Target
   pub network : Option (List ℕ)
   pub hbone_port : Option ℕ
   pub tunnels : Option ℕ
@@ -41,6 +42,7 @@ no_settings = record {
   id = None;
   discovery = None;
   inbound = None;
+  plain = None;
   network = None;
   hbone_port = None;
   tunnels = None;
@@ -62,6 +64,7 @@ set_value s Node value = and_then (once Node s.node (Some value)) (λ v. Ok (rec
 set_value s Id value = and_then (once Id s.id (Some value)) (λ v. Ok (record s { id = v }))
 set_value s Discovery value = and_then (once Discovery s.discovery (result_ok (target_of value))) (λ v. Ok (record s { discovery = v }))
 set_value s Inbound value = and_then (once Inbound s.inbound (result_ok (target_of value))) (λ v. Ok (record s { inbound = v }))
+set_value s Plain value = and_then (once Plain s.plain (result_ok (target_of value))) (λ v. Ok (record s { plain = v }))
 set_value s Network value = and_then (once Network s.network (Some value)) (λ v. Ok (record s { network = v }))
 set_value s HbonePort value = and_then (once HbonePort s.hbone_port (number_of 1 65535 value)) (λ v. Ok (record s { hbone_port = v }))
 set_value s Tunnels value = and_then (once Tunnels s.tunnels (number_of 1 4096 value)) (λ v. Ok (record s { tunnels = v }))
@@ -88,11 +91,12 @@ any_option name =
     else (if bytes_eq name (codes "--id") then Some Id
     else (if bytes_eq name (codes "--discovery") then Some Discovery
     else (if bytes_eq name (codes "--inbound") then Some Inbound
+    else (if bytes_eq name (codes "--plain") then Some Plain
     else (if bytes_eq name (codes "--network") then Some Network
     else (if bytes_eq name (codes "--hbone-port") then Some HbonePort
     else (if bytes_eq name (codes "--tunnels") then Some Tunnels
     else (if bytes_eq name (codes "--turns") then Some Turns
-    else (if bytes_eq name (codes "--ticks") then Some Ticks else None))))))))
+    else (if bytes_eq name (codes "--ticks") then Some Ticks else None)))))))))
 
 -- the flag of this name
 abbrev pub any_flag : List ℕ → Option RunFlag
@@ -177,6 +181,7 @@ run_by s =
       id = id;
       discovery = discovery;
       inbound = s.inbound;
+      plain = s.plain;
       network = unwrap_or s.network [];
       hbone_port = unwrap_or s.hbone_port 15008;
       tunnels = unwrap_or s.tunnels 4096;

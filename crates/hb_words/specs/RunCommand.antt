@@ -3,7 +3,7 @@ use Rattle.std.specs.Prelude.{ℕ, Bool, true, false, List, codes}
 use Rattle.hb_words.specs.declared.run_command.RunCommand.{RunCommand}
 use Rattle.hb_words.specs.declared.run_command.RunCommand.TheVariants.{Replay, Serve}
 use Rattle.hb_words.specs.declared.run_command.RunOption.{RunOption}
-use Rattle.hb_words.specs.declared.run_command.RunOption.TheVariants.{Node, Id, Discovery, Inbound, Network, HbonePort, Tunnels, Turns, Ticks}
+use Rattle.hb_words.specs.declared.run_command.RunOption.TheVariants.{Node, Id, Discovery, Inbound, Plain, Network, HbonePort, Tunnels, Turns, Ticks}
 use Rattle.hb_words.specs.declared.run_command.RunFlag.{RunFlag}
 use Rattle.hb_words.specs.declared.run_command.RunFlag.TheVariants.{Trace, Brief}
 
@@ -16,6 +16,7 @@ name_text Node = codes "--node"
 name_text Id = codes "--id"
 name_text Discovery = codes "--discovery"
 name_text Inbound = codes "--inbound"
+name_text Plain = codes "--plain"
 name_text Network = codes "--network"
 name_text HbonePort = codes "--hbone-port"
 name_text Tunnels = codes "--tunnels"

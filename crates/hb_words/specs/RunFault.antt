@@ -4,7 +4,7 @@ use Rattle.hb_words.specs.declared.run_fault.RunFault.{RunFault}
 use Rattle.hb_words.specs.declared.run_fault.RunFault.TheVariants.{NoOption, UnknownOption, Twice, FlagTwice, NoValue, BadValue, NoNode, NoId, NoDiscovery}
 use Rattle.hb_words.specs.declared.run_command.RunCommand.{RunCommand}
 use Rattle.hb_words.specs.declared.run_command.RunOption.{RunOption}
-use Rattle.hb_words.specs.declared.run_command.RunOption.TheVariants.{Node, Id, Discovery, Inbound, Network, HbonePort, Tunnels, Turns, Ticks}
+use Rattle.hb_words.specs.declared.run_command.RunOption.TheVariants.{Node, Id, Discovery, Inbound, Plain, Network, HbonePort, Tunnels, Turns, Ticks}
 use Rattle.hb_words.specs.RunCommand.{command_text, name_text, flag_text}
 
 -- what a value isn't
@@ -13,6 +13,7 @@ grammar_text Node = codes " is empty or begins with a dash"
 grammar_text Id = codes " is empty or begins with a dash"
 grammar_text Discovery = codes " is neither IPv4:PORT nor [IPv6]:PORT"
 grammar_text Inbound = codes " is neither IPv4:PORT nor [IPv6]:PORT"
+grammar_text Plain = codes " is neither IPv4:PORT nor [IPv6]:PORT"
 grammar_text Network = codes " is empty or begins with a dash"
 grammar_text HbonePort = codes " is no number from 1 to 65535"
 grammar_text Tunnels = codes " is no number from 1 to 4096"

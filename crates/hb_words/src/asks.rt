@@ -22,6 +22,8 @@ pub struct RunWords<'a> {
     pub discovery: Target,
     /// Where the inbound door listens. None: no door listens.
     pub inbound: Option<Target>,
+    /// Where the plain door listens. None: no door listens.
+    pub plain: Option<Target>,
     /// Empty where it isn't named.
     pub network: &'a str,
     /// From 1 to 65,535.

@@ -78,8 +78,9 @@ pub fn usage() -> &'static str
 {
     " (usage: hbone check --node NODE [--network NETWORK] SOURCE IDENTITY TARGET, hbone show, \
      hbone replay --node NODE --id ID --discovery TARGET [--inbound TARGET] \
-     [--network NETWORK] [--hbone-port PORT] [--tunnels COUNT] [--turns COUNT] [--trace] [--brief], \
-     or hbone serve --node NODE --id ID --discovery TARGET [--inbound TARGET] \
+     [--plain TARGET] [--network NETWORK] [--hbone-port PORT] [--tunnels COUNT] [--turns COUNT] \
+     [--trace] [--brief], \
+     or hbone serve --node NODE --id ID --discovery TARGET [--inbound TARGET] [--plain TARGET] \
      [--network NETWORK] [--hbone-port PORT] [--tunnels COUNT] [--turns COUNT] [--ticks COUNT])"
 }
 

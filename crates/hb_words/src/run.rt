@@ -87,6 +87,7 @@ fn run_by<'a>(settings: Settings<'a>) -> Result<RunWords<'a>, RunFault>
         id,
         discovery,
         inbound: settings.inbound,
+        plain: settings.plain,
         network: settings.network.unwrap_or(""),
         hbone_port: settings.hbone_port.unwrap_or(15008),
         tunnels: settings.tunnels.unwrap_or(4096),

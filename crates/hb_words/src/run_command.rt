@@ -19,6 +19,7 @@ pub enum RunOption {
     Id,
     Discovery,
     Inbound,
+    Plain,
     Network,
     HbonePort,
     Tunnels,

@@ -44,6 +44,7 @@ fn twice_text(name: RunOption) -> &'static str
         RunOption::Id => "--id stands twice",
         RunOption::Discovery => "--discovery stands twice",
         RunOption::Inbound => "--inbound stands twice",
+        RunOption::Plain => "--plain stands twice",
         RunOption::Network => "--network stands twice",
         RunOption::HbonePort => "--hbone-port stands twice",
         RunOption::Tunnels => "--tunnels stands twice",
@@ -69,6 +70,7 @@ fn no_value_text(name: RunOption) -> &'static str
         RunOption::Id => "--id has no value",
         RunOption::Discovery => "--discovery has no value",
         RunOption::Inbound => "--inbound has no value",
+        RunOption::Plain => "--plain has no value",
         RunOption::Network => "--network has no value",
         RunOption::HbonePort => "--hbone-port has no value",
         RunOption::Tunnels => "--tunnels has no value",
@@ -85,6 +87,7 @@ fn bad_value_text(name: RunOption) -> &'static str
         RunOption::Id => "the value of --id is empty or begins with a dash",
         RunOption::Discovery => { "the value of --discovery is neither IPv4:PORT nor [IPv6]:PORT" }
         RunOption::Inbound => "the value of --inbound is neither IPv4:PORT nor [IPv6]:PORT",
+        RunOption::Plain => "the value of --plain is neither IPv4:PORT nor [IPv6]:PORT",
         RunOption::Network => "the value of --network is empty or begins with a dash",
         RunOption::HbonePort => "the value of --hbone-port is no number from 1 to 65535",
         RunOption::Tunnels => "the value of --tunnels is no number from 1 to 4096",

@@ -34,6 +34,9 @@ fn any_option(name: &str) -> Option<RunOption>
     if name == "--inbound" {
         return Some(RunOption::Inbound);
     }
+    if name == "--plain" {
+        return Some(RunOption::Plain);
+    }
     if name == "--network" {
         return Some(RunOption::Network);
     }

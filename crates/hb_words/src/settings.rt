@@ -20,6 +20,7 @@ pub(crate) struct Settings<'a> {
     pub id: Option<&'a str>,
     pub discovery: Option<Target>,
     pub inbound: Option<Target>,
+    pub plain: Option<Target>,
     pub network: Option<&'a str>,
     pub hbone_port: Option<u16>,
     pub tunnels: Option<u16>,
@@ -103,6 +104,7 @@ impl<'a> Settings<'a> {
             id: None,
             discovery: None,
             inbound: None,
+            plain: None,
             network: None,
             hbone_port: None,
             tunnels: None,
@@ -132,6 +134,10 @@ impl<'a> Settings<'a> {
             },
             RunOption::Inbound => Settings {
                 inbound: once(name, self.inbound, address(value))?,
+                ..self
+            },
+            RunOption::Plain => Settings {
+                plain: once(name, self.plain, address(value))?,
                 ..self
             },
             RunOption::Network => Settings {

@@ -7,7 +7,7 @@ pub loop-bytes-init : goal.loop-bytes-init
 unfolding left_by
 loop-bytes-init c = record {
   within = omega arith;
-  same = rw (c.new.ensures, c.new-2.ensures.items) refl;
+  same = rw (c.new.ensures, c.none.ensures, c.new-2.ensures.items) refl;
 }
 
 pub returns-in-Err : goal.returns-in-Err
