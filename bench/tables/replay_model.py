@@ -18,8 +18,8 @@ POLICY = "type.googleapis.com/istio.security.Authorization"
 PREFACE = b"PRI * HTTP/2.0\r\n\r\nSM\r\n\r\n"
 PATH = b"/envoy.service.discovery.v3.AggregatedDiscoveryService/DeltaAggregatedResources"
 USAGE = (" (usage: hbone check --node NODE [--network NETWORK] SOURCE IDENTITY TARGET, hbone show, hbone replay "
-         "--node NODE --id ID --discovery TARGET [--inbound TARGET] [--network NETWORK] [--hbone-port PORT] [--tunnels COUNT] "
-         "[--turns COUNT] [--trace] [--brief], or hbone serve --node NODE --id ID --discovery TARGET [--inbound TARGET] "
+         "--node NODE --id ID --discovery TARGET [--inbound TARGET] [--plain TARGET] [--network NETWORK] [--hbone-port PORT] [--tunnels COUNT] "
+         "[--turns COUNT] [--trace] [--brief], or hbone serve --node NODE --id ID --discovery TARGET [--inbound TARGET] [--plain TARGET] "
          "[--network NETWORK] [--hbone-port PORT] [--tunnels COUNT] [--turns COUNT] [--ticks COUNT])")
 
 # How much of an output's free room may be read at once (one part of so many), whether requests are put as soon as one is
@@ -65,6 +65,7 @@ OPTIONS = {
     "id": (str, "empty or begins with a dash"),
     "discovery": (target_text, "neither IPv4:PORT nor [IPv6]:PORT"),
     "inbound": (target_text, "neither IPv4:PORT nor [IPv6]:PORT"),
+    "plain": (target_text, "neither IPv4:PORT nor [IPv6]:PORT"),
     "network": (str, "empty or begins with a dash"),
     "hbone-port": (number_up_to(65535), "no number from 1 to 65535"),
     "tunnels": (number_up_to(4096), "no number from 1 to 4096"),

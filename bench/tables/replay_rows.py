@@ -224,6 +224,8 @@ def rows_of_runs():
             ("an inbound door in front", ["--inbound", "[::1]:15008", *USUAL_WORDS, "--network=x", "--brief"]),
             ("an inbound door between, at the control plane's address",
              [*USUAL_WORDS[:4], f"--inbound={CONTROL}", "--brief", *USUAL_WORDS[4:]]),
+            ("a plain door", [*USUAL_WORDS, "--plain", "0.0.0.0:15001"]),
+            ("a plain door in front, and an inbound one", ["--plain=[::1]:15001", *USUAL_WORDS, "--inbound", "[::1]:15008"]),
             ("an id of equals signs", ["--node", "n1", "--id", "==", "--discovery", CONTROL, "--trace"])]:
         row(f"words: {name}", LIVE, words=words)
     row("a stop, and lines behind it", LIVE + [piece(data(M1)), STOP] + came(data(M2)), "--trace")
@@ -548,8 +550,8 @@ def rows_of_words():
         refused(*(word for pair in usual.items() if pair[0] != name for word in pair))
     refused()
     refused("--trace", "--brief")
-    for name, value in [*usual.items(), ("--inbound", "0.0.0.0:15008"), ("--network", "x"), ("--hbone-port", "1"),
-                        ("--tunnels", "1"), ("--turns", "1")]:
+    for name, value in [*usual.items(), ("--inbound", "0.0.0.0:15008"), ("--plain", "0.0.0.0:15001"), ("--network", "x"),
+                        ("--hbone-port", "1"), ("--tunnels", "1"), ("--turns", "1")]:
         refused(*USUAL_WORDS, name, value, *[] if name in usual else [name, value])
         refused(*USUAL_WORDS, f"{name}={value}", *[] if name in usual else [name, value])
         rest = [word for pair in usual.items() if pair[0] != name for word in pair]
@@ -573,6 +575,7 @@ def rows_of_words():
     for value in ("0.0.0.0", "10.0.0.1:0", "10.0.0.1:99999", "[::]", "::1:15008", "[0.0.0.0]:15008", ":15008", "15008", "inbound"):
         refused(*USUAL_WORDS, "--inbound", value)
         refused(f"--inbound={value}", *USUAL_WORDS)
+        refused(*USUAL_WORDS, f"--plain={value}")
     door = ["--inbound", "0.0.0.0:15008"]
     refused(*door, *USUAL_WORDS, "--inbound=[::1]:15008")
     refused(*door, *USUAL_WORDS, "--inbound", "0.0.0.0")

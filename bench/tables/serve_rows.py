@@ -9,6 +9,7 @@ The octets are those of the runs of `replay`, worked out by hand in tunnel_rows.
 """
 import re
 
+import modelled_rows
 import replay_model as model
 from tunnel_rows import ACK, ADMITTED, ANSWER, CANCEL, FIRST, FIRST_RESPONSE, NO_ERROR, OPENING, OWN, REFUSED_400, SECOND_RESPONSE, SET
 from tunnel_rows import UPDATE, connect, data, frame, headers, reset
@@ -43,6 +44,10 @@ TABLE = [
     ("POLICY_TAKEN", "The program's answer to it.", data(1, model.answer(model.POLICY, "x2", None))),
     ("UPDATE", "A response with the policy a/p, which doesn't admit the peer any more.", UPDATE),
     ("UPDATE_TAKEN", "The program's answer to it.", ANSWER),
+    ("FREED", "A response that takes the policy a/p away: each peer is admitted.", modelled_rows.policies(removed=["a/p"])),
+    ("FREED_TAKEN", "The program's answer to it.", data(1, model.answer(model.POLICY, "x9", None))),
+    ("HEADER", "The header of a connection to the plain door, without an identity, up to the port of its destination, which is this machine.",
+     modelled_rows.front(None)[:24].replace(bytes([10, 0, 0, 7]), bytes([127, 0, 0, 1])) + modelled_rows.front(None)[24:26]),
     ("REQUEST", "The front's header, and the peer's opening with a request on stream 1 for a port of this machine.",
      here(OPENING) + connect(1, b"127.0.0.1:" + PORT)),
     ("GREETED", "The program's SETTINGS, and its answer to the peer's.", OWN + ACK),

@@ -1,4 +1,4 @@
-"""A second, plain model of `hbone replay --inbound`: words and the text of a script in, status, output and error text out.
+"""A second, plain model of `hbone replay` with `--inbound` and `--plain`: words and the text of a script in, status, output and error text out.
 
 It is written from the pages alone (docs/COMMANDS.md, FORMATS.md, LAWS.md, DECISIONS.md, POLICIES.md, RFC 9113, RFC 7541, the PROXY
 protocol's text), and shares nothing with the program. What it has in common with runs of the control plane alone is in
@@ -13,8 +13,8 @@ import re
 import replay_model as model
 from replay_model import ADDRESS, POLICY, LARGEST, ConnFault, Ends, Fault, frame, pairs_of
 
-# Beside the choices of the control plane's link: the order of links in a round, how much of an upstream is read at once, whether
-# a write of a ring ends where its memory does, the order of an update's notes over links, whether the stream behind the one whose
+# Beside the choices of the control plane's link: the order of links in a round, how much of an upstream, or of a link of the plain
+# door, is read at once, whether a write of a ring ends where its memory does, the order of an update's notes over links, whether the stream behind the one whose
 # DATA was put last goes first, and how many octets a link may hold that aren't looked at.
 Choice = collections.namedtuple("Choice", [*model.Choice._fields, "backwards", "most", "wraps", "by_link", "fair", "holds"])
 USUAL = Choice(*model.USUAL, False, 16384, False, True, False, 16393)
@@ -64,7 +64,7 @@ class FrontFault(Exception):
 
 
 def read_front(octets):
-    """The header's length, the peer and its destination's address; None where more octets are wanted."""
+    """The header's length, the peer and its destination; None where more octets are wanted."""
     if octets[:12] != SIGNATURE[:len(octets)]:
         raise FrontFault(1)
     for at, allowed, number in ((12, b"\x21", 2), (13, b"\x11\x21", 3)):
@@ -91,7 +91,8 @@ def read_front(octets):
         raise FrontFault(5)
     source = address_of(octets[16:16 + size])
     peer = Peer(source, *(part.decode() for part in found.groups())) if found else Peer(source, None, None)
-    return 16 + length, peer, address_of(octets[16 + size:16 + 2 * size])
+    port = int.from_bytes(octets[18 + 2 * size:20 + 2 * size], "big")
+    return 16 + length, peer, Target(address_of(octets[16 + size:16 + 2 * size]), port)
 
 
 # Policies (docs/POLICIES.md)
@@ -463,7 +464,8 @@ class Inbound(Connection):
                 header = read_front(self.front)
                 if header is None:
                     return
-                size, self.peer, self.destination = header
+                size, self.peer, destination = header
+                self.destination = destination.ip
                 octets, self.front = self.front[size:], b""
                 self.parts.append(Part(SETTINGS))
             self.take(octets)
@@ -601,6 +603,98 @@ class Inbound(Connection):
         return waits[:RINGS["up"] - tunnel.taken["up"] % RINGS["up"]] if self.choice.wraps else waits
 
 
+class Plain:
+    """A link of the plain door with its upstream. `stage` is fronting, asked, pending, live; behind its end `cause` says why."""
+
+    def __init__(self, number, run):
+        self.number, self.run, self.stage, self.cause = number, run, "fronting", None
+        self.front, self.peer, self.target, self.up = b"", None, None, None
+        self.rings, self.taken, self.is_ended, self.is_shut = ({"up": b"", "down": b""}, {"up": 0, "down": 0},
+                                                               {"up": False, "down": False}, {"up": False, "down": False})
+
+    def wants(self):
+        if self.cause is not None or self.stage == "asked":
+            return 0
+        return 4112 - len(self.front) if self.stage == "fronting" else self.ring_room("up")
+
+    def up_wants(self):
+        return self.ring_room("down") if self.cause is None and self.stage == "live" else 0
+
+    def ring_room(self, way):
+        return 0 if self.is_ended[way] else RINGS[way] - len(self.rings[way])
+
+    def waits(self, way):
+        """What may be written: to the upstream, or to the link."""
+        waits = self.rings[way] if self.cause is None and self.stage == "live" else b""
+        return waits[:RINGS[way] - self.taken[way] % RINGS[way]] if self.run.choice.wraps else waits
+
+    def note(self, status):
+        self.run.notes.append(f"verdict {self.number}/0 {status} {self.peer.ip} - {told_target(self.target)}")
+
+    def came_bytes(self, octets):
+        if self.stage != "fronting":
+            self.rings["up"] += octets
+            return
+        self.front += octets
+        try:
+            header = read_front(self.front)
+        except FrontFault as fault:
+            self.cause = f"front fault {fault.args[0]}"
+            return
+        if header is None:
+            return
+        size, peer, self.target = header
+        self.peer = Peer(peer.ip, None, None)
+        status = self.status()
+        if status != 200:
+            self.note(status)
+            self.cause = f"refused {status}"
+        else:
+            self.stage, self.rings["up"] = "asked", self.front[size:]
+
+    def status(self):
+        """By what is held; the link has its place from its birth."""
+        if self.run.kinds != {ADDRESS, POLICY}:
+            return 503
+        status = judge(self.run.held, self.run.asked, self.peer, self.target)
+        return 400 if status == 200 and self.run.is_own_door(self.target) else status
+
+    def ended(self):
+        self.is_ended["up"] = True
+        if self.stage == "fronting":
+            self.cause = "front fault 0"
+        self.settle()
+
+    def opened(self):
+        self.stage = "live"
+        self.note(200)
+        self.settle()
+
+    def settle(self):
+        if self.cause is None and self.stage == "live" and all(map(self.is_through, RINGS)):
+            self.end("done")
+
+    def is_through(self, way):
+        return self.is_ended[way] and not self.rings[way]
+
+    def end(self, cause):
+        if self.cause is not None:
+            return
+        self.cause = cause
+        if self.stage == "live":
+            self.run.notes.append(f"end {self.number}/0 {cause} up {self.taken['up']} down {self.taken['down']}")
+        elif self.stage != "fronting" and cause in ("revoked", "up fault"):
+            self.note(401 if cause == "revoked" else 502)
+
+    def wrote(self, way, count):
+        self.rings[way] = self.rings[way][count:]
+        self.taken[way] += count
+        self.settle()
+
+    def is_refused(self):
+        return self.cause is None and self.stage != "fronting" and judge(self.run.held, self.run.asked, self.peer, self.target) != 200
+
+
 class Control(model.Link):
     """The link to the control plane, which tells of each response."""
 
@@ -635,18 +729,19 @@ class Run:
         self.asked, self.world, self.choice = asked, world, choice
         self.held, self.kinds, self.notes = {}, set(), []
         self.control, self.inbound, self.ups, self.is_tick = None, {}, {}, True
+        self.plain, self.relays = {}, {}
         self.opened = set()
 
     def is_full(self):
-        return sum(len(link.living()) for link in self.inbound.values()) >= self.asked.get("tunnels", 4096)
+        return sum(len(link.living()) for link in self.inbound.values()) + len(self.plain) >= self.asked.get("tunnels", 4096)
 
     def is_own_door(self, target):
-        """Whether who connects to the target would reach the inbound door."""
-        door = target_of(self.asked["inbound"])
-        return door.port == target.port and (int(door.ip) == 0 or door.ip == target.ip)
+        """Whether who connects to the target would reach a door of the proxy."""
+        doors = [target_of(self.asked[door]) for door in ("inbound", "plain") if door in self.asked]
+        return any(door.port == target.port and (int(door.ip) == 0 or door.ip == target.ip) for door in doors)
 
     def run(self):
-        if self.asked.get("inbound") and self.world.lines and self.world.lines[0].get("fault") == "listen":
+        if (self.asked.get("inbound") or self.asked.get("plain")) and self.world.lines and self.world.lines[0].get("fault") == "listen":
             return "world fault"
         self.acts()
         while True:
@@ -666,6 +761,8 @@ class Run:
         for number in sorted(self.inbound):
             if self.inbound[number].cause is None:
                 self.inbound[number].over("stopped")
+        for number in sorted(self.plain):
+            self.plain[number].end("stopped")
         self.acts()
 
     # An update
@@ -679,6 +776,8 @@ class Run:
         for link, stage in stages:
             for tunnel in ends[link, stage]:
                 link.end(tunnel, "revoked")
+        for link in [self.plain[number] for number in sorted(self.plain) if self.plain[number].is_refused()]:
+            link.end("revoked")
 
     # Acts
 
@@ -692,6 +791,36 @@ class Run:
             link = self.inbound[number]
             while self.act(link):
                 pass
+        for number in sorted(self.plain):
+            while number in self.plain and self.plain_act(self.plain[number]):
+                pass
+
+    def plain_act(self, link):
+        """Makes the first act of a link of the plain door, if one is due."""
+        if link.cause is not None:
+            if link.up is not None:
+                self.close(link.up, link.cause)
+                del self.relays[link.up]
+                link.up = None
+            else:
+                self.close(link.number, link.cause)
+                del self.plain[link.number]
+            return True
+        if link.stage == "asked":
+            target = told_target(link.target)
+            link.up, link.stage = self.world.dial(target), "pending"
+            if link.up is None:
+                link.end("up fault")
+            else:
+                self.relays[link.up] = link
+                self.world.whys[link.up] = f"relay {target} of {link.number}"
+            return True
+        for way, number in (("up", link.up), ("down", link.number)):
+            if link.stage == "live" and link.is_through(way) and not link.is_shut[way]:
+                link.is_shut[way] = True
+                self.world.shut(number)
+                return True
+        return False
 
     def act(self, link):
         """Makes the link's first act, if one is due."""
@@ -738,7 +867,8 @@ class Run:
         before = len(self.world.trace)
         if not self.choice.backwards:
             self.accept()
-        numbers = sorted([*self.inbound, *self.ups, *([self.control.number] if self.control else [])], reverse=self.choice.backwards)
+        numbers = sorted([*self.inbound, *self.ups, *self.plain, *self.relays, *([self.control.number] if self.control else [])],
+                         reverse=self.choice.backwards)
         for number in numbers:
             self.visit(number)
         if self.choice.backwards:
@@ -749,16 +879,24 @@ class Run:
         number = self.world.accept("inbound") if self.asked.get("inbound") else None
         if number:
             self.inbound[number] = Inbound(number, self)
+        number = self.world.accept("plain") if self.asked.get("plain") else None
+        if number:
+            is_full = self.is_full()
+            self.plain[number] = Plain(number, self)
+            if is_full:
+                self.plain[number].end("no room")
+                self.acts()
 
     def visit(self, number):
-        is_dialled = number in self.ups or self.control is not None and self.control.number == number
+        is_dialled = number in self.ups or number in self.relays or self.control is not None and self.control.number == number
         if is_dialled and number not in self.opened:
             self.finish(number)
             self.acts()
             if number not in self.opened or not self.choice.goes_on:
                 return
         for way in self.choice.order:
-            for links, calls in ((self.inbound, (self.read, self.write)), (self.ups, (self.read_up, self.write_up))):
+            for links, calls in ((self.inbound, (self.read, self.write)), (self.ups, (self.read_up, self.write_up)),
+                                 (self.plain, (self.read_plain, self.write_plain)), (self.relays, (self.read_relay, self.write_relay))):
                 if number in links:
                     calls["rw".index(way)](links[number])
                     self.acts()
@@ -772,6 +910,10 @@ class Run:
             self.opened.add(number)
             if number in self.ups:
                 self.ups[number][0].up_opened(self.ups[number][1])
+            elif number in self.relays:
+                self.relays[number].opened()
+        elif answer and number in self.relays:
+            self.relays[number].end("up fault")
         elif answer and number in self.ups:
             self.ups[number][0].end(self.ups[number][1], "up fault")
         elif answer:
@@ -835,6 +977,39 @@ class Run:
         elif went:
             link.up_wrote(tunnel, went)
 
+    def read_plain(self, link):
+        came = self.world.read(link.number, min(link.wants(), max(self.choice.most, 4112))) if link.wants() else None
+        if came == "end":
+            link.ended()
+        elif came == "broke":
+            link.end("peer gone")
+        elif came:
+            link.came_bytes(came)
+
+    def write_plain(self, link):
+        self.write_way(link, link.number, "down", "peer gone")
+
+    def read_relay(self, link):
+        came = self.world.read(link.up, min(link.up_wants(), self.choice.most)) if link.up_wants() else None
+        if came == "end":
+            link.is_ended["down"] = True
+            link.settle()
+        elif came == "broke":
+            link.end("up fault")
+        elif came:
+            link.rings["down"] += came
+
+    def write_relay(self, link):
+        self.write_way(link, link.up, "up", "up fault")
+
+    def write_way(self, link, number, way, broken):
+        head = link.waits(way)
+        went = self.world.write(number, head) if head else 0
+        if went == "broke":
+            link.end(broken)
+        elif went:
+            link.wrote(way, went)
+
 
 # Reports
 
@@ -855,7 +1030,7 @@ def report(asked, world, notes):
         lines.append(f"link {link} {what}: received {octets['came', link]}, sent {octets['went', link]}, {closed}")
     ends = [note.split() for note in notes if note.startswith("end")]
     accepted = sum(note.startswith("verdict") and note.split()[2] == "200" for note in notes)
-    revoked = sum(what.split()[0] in ("discovery", "upstream") and closed == "closed revoked" for what, closed in links.values())
+    revoked = sum(what.split()[0] in ("discovery", "upstream", "relay") and closed == "closed revoked" for what, closed in links.values())
     up, down = (sum(int(words[at]) for words in ends) for at in (-3, -1))
     lines += [*notes, f"total: {len(links)} links, {accepted} accepted, {revoked} revoked, {up} up, {down} down"]
     return "".join(line + "\n" for line in (lines[-1:] if asked.get("brief") else lines))

@@ -2,6 +2,7 @@
 
 use crate::modelled::CUT;
 use crate::notation::{cut, spelled, text_of};
+use crate::plain::PLAIN_CUT;
 use crate::runs::{NOTHING_FAILS, assert_told, replay_words, told_of};
 use std::alloc::Global;
 use std::process::Abort;
@@ -166,14 +167,16 @@ fn assert_run_in_pieces(rt: &impl Abort, alloc: Global, run: &str) {
     }
 }
 
-/// The runs of this name in the table, each cut in many ways.
+/// The runs of this name in the tables, each cut in many ways.
 fn assert_cuts_of(rt: &(impl Abort + AllocGlobal), wanted: &str) {
     let mut found = false;
-    for run in text_of(CUT).lines() {
-        let (name, _) = cut(run, "; ");
-        if name == wanted {
-            assert_run_in_pieces(rt, rt.alloc(), run);
-            found = true;
+    for table in [CUT, PLAIN_CUT] {
+        for run in text_of(table).lines() {
+            let (name, _) = cut(run, "; ");
+            if name == wanted {
+                assert_run_in_pieces(rt, rt.alloc(), run);
+                found = true;
+            }
         }
     }
     assert!(rt; found, "{wanted} is no run");
@@ -197,4 +200,19 @@ fn two_streams_cut_by_chance_leave_the_report(rt: HostRuntime) {
 #[test]
 fn a_reset_cut_by_chance_leaves_the_report(rt: HostRuntime) {
     assert_cuts_of(&rt, "a reset");
+}
+
+#[test]
+fn a_relay_cut_by_chance_leaves_the_report(rt: HostRuntime) {
+    assert_cuts_of(&rt, "the whole life of a relay");
+}
+
+#[test]
+fn an_early_relay_cut_by_chance_leaves_the_report(rt: HostRuntime) {
+    assert_cuts_of(&rt, "a relay that begins early");
+}
+
+#[test]
+fn a_revoked_relay_cut_by_chance_leaves_the_report(rt: HostRuntime) {
+    assert_cuts_of(&rt, "a relay that is revoked");
 }

@@ -150,6 +150,9 @@ words: an inbound door in front; --inbound [::1]:15008 <usual> --network=x --bri
 ted, 0 revoked, 0 up, 0 down|; \n\
 words: an inbound door between, at the control plane's address; --node n1 --id z1 --inbound=10.0.0.1:15010 --brief --d\
 iscovery 10.0.0.1:15010; <live>; 0; total: 1 links, 0 accepted, 0 revoked, 0 up, 0 down|; \n\
+words: a plain door; <usual> --plain 0.0.0.0:15001; <live>; 0; <link1>19, sent 320, closed stopped<total1>; \n\
+words: a plain door in front, and an inbound one; --plain=[::1]:15001 <usual> --inbound [::1]:15008; <live>; 0; <link1\
+>19, sent 320, closed stopped<total1>; \n\
 words: an id of equals signs; --node n1 --id == --discovery 10.0.0.1:15010 --trace; <live>; 0; <dialled1><opening>|wen\
 t 1 00007400000000000100000000320a040a023d3d122a<address>00000000380a040a023d3d1230<policy>|came 1 <set><ok>|went 1 <a\
 ck>|closed 1 stopped|<link1>19, sent 320, closed stopped<total1>; \n\
@@ -199,14 +202,14 @@ a link is refused behind opening; <usual> --trace; {'open':1}|{'refuse':1}|<wake
 |<link1>0, sent 0, closed broken|<link2>0, sent 311, closed stopped<total2>; \n\
 a link is refused where it is open; <usual> --trace; <live>{'refuse':1}|<piece><m1><on1><wake>; 0; <lived>came 1 <m1>|\
 went 1 <ack_x1>|closed 1 stopped|<link1>171, sent 382, closed stopped<total1>; \n\
-each link ends at once; <usual> --trace; {'link':1,'room':0}|{'link':2,'room':0}|{'end':1}|<open>{'end':2}|<again>{'ti\
-ck':true}|; 0; dialled 1 10.0.0.1:15010|opened 1|ended 1|closed 1 broken|tick|dialled 2 10.0.0.1:15010|opened 2|ended \
-2|closed 2 broken|tick|dialled 3 10.0.0.1:15010|closed 3 stopped|<link1>0, sent 0, closed broken|<link2>0, sent 0, clo\
-sed broken|<link3>0, sent 0, closed stopped<total3>; \n\
 ";
 
 /// Runs.
 pub const ROWS_2: &[u8] = b"\
+each link ends at once; <usual> --trace; {'link':1,'room':0}|{'link':2,'room':0}|{'end':1}|<open>{'end':2}|<again>{'ti\
+ck':true}|; 0; dialled 1 10.0.0.1:15010|opened 1|ended 1|closed 1 broken|tick|dialled 2 10.0.0.1:15010|opened 2|ended \
+2|closed 2 broken|tick|dialled 3 10.0.0.1:15010|closed 3 stopped|<link1>0, sent 0, closed broken|<link2>0, sent 0, clo\
+sed broken|<link3>0, sent 0, closed stopped<total3>; \n\
 ticks while a link lives; <usual> --trace; {'tick':true}|{'tick':true}|<open>{'tick':true}|<piece><set><ok><on1><wake>\
 {'tick':true}|; 0; dialled 1 10.0.0.1:15010|tick|tick|opened 1|went 1 <opening>|went 1 <firsts>|tick|came 1 <set><ok>|\
 went 1 <ack>|tick|closed 1 stopped|<link1>19, sent 320, closed stopped<total1>; \n\
@@ -292,14 +295,14 @@ a status of two digits; <usual>; <open><piece><set><on1><wake><piece>00000401040
 <link1>22, sent 320, closed discovery|<link2>0, sent 311, closed stopped<total2>; \n\
 a status of four digits; <usual>; <open><piece><set><on1><wake><piece>000006010400000001080432303030<on1><wake><again>\
 ; 0; <link1>24, sent 320, closed discovery|<link2>0, sent 311, closed stopped<total2>; \n\
-a status that is no number; <usual>; <open><piece><set><on1><wake><piece>0000050104000000010803322030<on1><wake><again\
->; 0; <link1>23, sent 320, closed discovery|<link2>0, sent 311, closed stopped<total2>; \n\
-a signed status; <usual>; <open><piece><set><on1><wake><piece>00000501040000000108032b3230<on1><wake><again>; 0; <link\
-1>23, sent 320, closed discovery|<link2>0, sent 311, closed stopped<total2>; \n\
 ";
 
 /// Runs.
 pub const ROWS_3: &[u8] = b"\
+a status that is no number; <usual>; <open><piece><set><on1><wake><piece>0000050104000000010803322030<on1><wake><again\
+>; 0; <link1>23, sent 320, closed discovery|<link2>0, sent 311, closed stopped<total2>; \n\
+a signed status; <usual>; <open><piece><set><on1><wake><piece>00000501040000000108032b3230<on1><wake><again>; 0; <link\
+1>23, sent 320, closed discovery|<link2>0, sent 311, closed stopped<total2>; \n\
 the end beside the status; <usual>; <open><piece><set><on1><wake><piece>00000101050000000188<on1><wake><again>; 0; <li\
 nk1>19, sent 320, closed discovery|<link2>0, sent 311, closed stopped<total2>; \n\
 the end beside a status 100; <usual>; <open><piece><set><on1><wake><piece>0000050105000000010803313030<on1><wake><agai\
@@ -380,14 +383,14 @@ a refused resource; <usual> --trace; <live><piece><m5><on1><wake>{'break':1}|<wa
 1 <nack_x5>|broke 1|closed 1 broken|tick|<dialled2><opening>|went 2 00008600000000000100000000440a040a027a31122a<addre\
 ss>2a070a0267311201312a070a02673212013100000000380a040a027a311230<policy>|closed 2 stopped|<link1>259, sent 389, close\
 d broken|<link2>0, sent 329, closed stopped<total2>; \n\
-a name is removed and added again; <usual> --trace; <live><piece><m1><on1><wake><piece><m6><on1><wake>{'break':1}|<wak\
-e><again>; 0; <lived>came 1 <m1>|went 1 <ack_x1>|came 1 <m6>|went 1 <ack_x6>|broke 1|closed 1 broken|tick|<dialled2><o\
-pening>|went 2 <firsts_u1>|closed 2 stopped|<link1>327, sent 444, closed broken|<link2>0, sent 320, closed stopped<tot\
-al2>; \n\
 ";
 
 /// Runs.
 pub const ROWS_4: &[u8] = b"\
+a name is removed and added again; <usual> --trace; <live><piece><m1><on1><wake><piece><m6><on1><wake>{'break':1}|<wak\
+e><again>; 0; <lived>came 1 <m1>|went 1 <ack_x1>|came 1 <m6>|went 1 <ack_x6>|broke 1|closed 1 broken|tick|<dialled2><o\
+pening>|went 2 <firsts_u1>|closed 2 stopped|<link1>327, sent 444, closed broken|<link2>0, sent 320, closed stopped<tot\
+al2>; \n\
 a name is removed; <usual> --trace; <base><piece>00003c0000000000010000000037222a<address>2a016e3202753132027532<on1><\
 wake>{'break':1}|<wake><again>; 0; <based>came 1 00003c0000000000010000000037222a<address>2a016e3202753132027532|went \
 1 000034000000000001000000002f122a<address>32016e|broke 1|closed 1 broken|tick|<dialled2><opening>|went 2 <firsts_ap>|\
@@ -1053,6 +1056,29 @@ pub const REFUSED: &[u8] = b"\
 --node|n1|--id|z1|--discovery|10.0.0.1:15010|--inbound|inbound|\n\
 --inbound=inbound|--node|n1|--id|z1|--discovery|10.0.0.1:15010|\n\
 --inbound|0.0.0.0:15008|--node|n1|--id|z1|--discovery|10.0.0.1:15010|--inbound|0.0.0.0|\n\
+= --plain stands twice\n\
+--node|n1|--id|z1|--discovery|10.0.0.1:15010|--plain|0.0.0.0:15001|--plain|0.0.0.0:15001|\n\
+--node|n1|--id|z1|--discovery|10.0.0.1:15010|--plain=0.0.0.0:15001|--plain|0.0.0.0:15001|\n\
+= --plain has no value\n\
+--node|n1|--id|z1|--discovery|10.0.0.1:15010|--plain|\n\
+= the value of --plain is neither IPv4:PORT nor [IPv6]:PORT\n\
+--node|n1|--id|z1|--discovery|10.0.0.1:15010|--plain||\n\
+--node|n1|--id|z1|--discovery|10.0.0.1:15010|--plain=|\n\
+--node|n1|--id|z1|--discovery|10.0.0.1:15010|--plain|-|\n\
+--node|n1|--id|z1|--discovery|10.0.0.1:15010|--plain=-|\n\
+--node|n1|--id|z1|--discovery|10.0.0.1:15010|--plain|-1|\n\
+--node|n1|--id|z1|--discovery|10.0.0.1:15010|--plain=-1|\n\
+--node|n1|--id|z1|--discovery|10.0.0.1:15010|--plain|--trace|\n\
+--node|n1|--id|z1|--discovery|10.0.0.1:15010|--plain=--trace|\n\
+--node|n1|--id|z1|--discovery|10.0.0.1:15010|--plain=0.0.0.0|\n\
+--node|n1|--id|z1|--discovery|10.0.0.1:15010|--plain=10.0.0.1:0|\n\
+--node|n1|--id|z1|--discovery|10.0.0.1:15010|--plain=10.0.0.1:99999|\n\
+--node|n1|--id|z1|--discovery|10.0.0.1:15010|--plain=[::]|\n\
+--node|n1|--id|z1|--discovery|10.0.0.1:15010|--plain=::1:15008|\n\
+--node|n1|--id|z1|--discovery|10.0.0.1:15010|--plain=[0.0.0.0]:15008|\n\
+--node|n1|--id|z1|--discovery|10.0.0.1:15010|--plain=:15008|\n\
+--node|n1|--id|z1|--discovery|10.0.0.1:15010|--plain=15008|\n\
+--node|n1|--id|z1|--discovery|10.0.0.1:15010|--plain=inbound|\n\
 = --network stands twice\n\
 --node|n1|--id|z1|--discovery|10.0.0.1:15010|--network|x|--network|x|\n\
 --node|n1|--id|z1|--discovery|10.0.0.1:15010|--network=x|--network|x|\n\
@@ -1163,7 +1189,7 @@ help|--node|n1|--id|z1|--discovery|10.0.0.1:15010|\n\
 /// The forms of accepted words, which are told behind each reason.
 pub const USAGE: &[u8] = b"\
 (usage: hbone check --node NODE [--network NETWORK] SOURCE IDENTITY TARGET, hbone show, hbone replay --node NODE --id \
-ID --discovery TARGET [--inbound TARGET] [--network NETWORK] [--hbone-port PORT] [--tunnels COUNT] [--turns COUNT] [--\
-trace] [--brief], or hbone serve --node NODE --id ID --discovery TARGET [--inbound TARGET] [--network NETWORK] [--hbon\
-e-port PORT] [--tunnels COUNT] [--turns COUNT] [--ticks COUNT])\n\
+ID --discovery TARGET [--inbound TARGET] [--plain TARGET] [--network NETWORK] [--hbone-port PORT] [--tunnels COUNT] [-\
+-turns COUNT] [--trace] [--brief], or hbone serve --node NODE --id ID --discovery TARGET [--inbound TARGET] [--plain T\
+ARGET] [--network NETWORK] [--hbone-port PORT] [--tunnels COUNT] [--turns COUNT] [--ticks COUNT])\n\
 ";

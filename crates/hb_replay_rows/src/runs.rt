@@ -4,6 +4,7 @@ use crate::modelled::{
     MODELLED_1, MODELLED_2, MODELLED_3, MODELLED_4, MODELLED_5, MODELLED_6, MODELLED_7, MODELLED_8,
 };
 use crate::notation::{cut, spelled, text_of};
+use crate::plain::{PLAIN_1, PLAIN_2};
 use crate::rows::{
     REFUSED, ROWS_1, ROWS_2, ROWS_3, ROWS_4, ROWS_5, ROWS_6, ROWS_7, ROWS_8, ROWS_9, ROWS_10, USAGE,
 };
@@ -185,6 +186,16 @@ fn runs_of_the_tenth_table_end_as_the_formats_say(rt: HostRuntime) {
 #[test]
 fn runs_over_the_inbound_door_end_as_the_rules_say(rt: HostRuntime) {
     assert_table(&rt, TUNNELS);
+}
+
+#[test]
+fn runs_of_the_first_plain_table_end_as_the_pages_say(rt: HostRuntime) {
+    assert_table(&rt, PLAIN_1);
+}
+
+#[test]
+fn runs_of_the_second_plain_table_end_as_the_pages_say(rt: HostRuntime) {
+    assert_table(&rt, PLAIN_2);
 }
 
 #[test]

@@ -52,9 +52,10 @@ check|--node|n1|SOURCE|spiffe://none/ns/./sa/..|TARGET|; WORKLOAD; allow";
 /// The forms of accepted words, which each reason names.
 const USAGE: &str =
     "(usage: hbone check --node NODE [--network NETWORK] SOURCE IDENTITY TARGET, hbone show, \
-     hbone replay --node NODE --id ID --discovery TARGET [--inbound TARGET] [--network NETWORK] \
-     [--hbone-port PORT] [--tunnels COUNT] [--turns COUNT] [--trace] [--brief], \
-     or hbone serve --node NODE --id ID --discovery TARGET [--inbound TARGET] [--network NETWORK] \
+     hbone replay --node NODE --id ID --discovery TARGET [--inbound TARGET] \
+     [--plain TARGET] [--network NETWORK] [--hbone-port PORT] [--tunnels COUNT] [--turns COUNT] \
+     [--trace] [--brief], \
+     or hbone serve --node NODE --id ID --discovery TARGET [--inbound TARGET] [--plain TARGET] [--network NETWORK] \
      [--hbone-port PORT] [--tunnels COUNT] [--turns COUNT] [--ticks COUNT])";
 
 /// Words that aren't accepted, each ended by `|`; an empty line has none. A line that begins with `=` has the reason that
@@ -347,6 +348,8 @@ serve|--node|n1|--id|z1|--id=z1|--discovery|TARGET|
 serve|--node|n1|--id|z1|--discovery|TARGET|--discovery|TARGET|
 = --inbound stands twice
 serve|--inbound|TARGET|--inbound|TARGET|
+= --plain stands twice
+serve|--plain|TARGET|--plain|TARGET|
 = --network stands twice
 serve|--network=x|--network|x|
 = --hbone-port stands twice
@@ -372,6 +375,8 @@ serve|--node|n1|--id=|--discovery|TARGET|
 serve|--node|n1|--id|z1|--discovery|localhost:15010|
 = the value of --inbound is neither IPv4:PORT nor [IPv6]:PORT
 serve|--node|n1|--id|z1|--discovery|TARGET|--inbound|15008|
+= the value of --plain is neither IPv4:PORT nor [IPv6]:PORT
+serve|--node|n1|--id|z1|--discovery|TARGET|--plain|15001|
 = the value of --network is empty or begins with a dash
 serve|--network|-x|
 = the value of --hbone-port is no number from 1 to 65535

@@ -48,6 +48,18 @@ ity.Authorization*\x02x7";
 pub const UPDATE_TAKEN: &[u8] = b"\
 \x00\x00;\x00\x00\x00\x00\x00\x01\x00\x00\x00\x006\x120type.googleapis.com/istio.security.Authorization2\x02x7";
 
+/// A response that takes the policy a/p away: each peer is admitted.
+pub const FREED: &[u8] = b"\
+\x00\x00@\x00\x00\x00\x00\x00\x01\x00\x00\x00\x00;\x220type.googleapis.com/istio.security.Authorization2\x03a/p*\x02x9";
+
+/// The program's answer to it.
+pub const FREED_TAKEN: &[u8] = b"\
+\x00\x00;\x00\x00\x00\x00\x00\x01\x00\x00\x00\x006\x120type.googleapis.com/istio.security.Authorization2\x02x9";
+
+/// The header of a connection to the plain door, without an identity, up to the port of its destination, which is this machine.
+pub const HEADER: &[u8] = b"\
+\x0d\x0a\x0d\x0a\x00\x0d\x0aQUIT\x0a!\x11\x00\x0c\x0a\x00\x00\x09\x7f\x00\x00\x01\x0f\xa0";
+
 /// The front's header, and the peer's opening with a request on stream 1 for a port of this machine.
 pub const REQUEST: &[u8] = b"\
 \x0d\x0a\x0d\x0a\x00\x0d\x0aQUIT\x0a!\x11\x00/\x0a\x00\x00\x09\x7f\x00\x00\x01\x0f\xa0:\xa0\xe0\x00\x20spiffe://cluster.\

@@ -1,6 +1,9 @@
 //! The runs.
 
-use crate::frames::{ADMITTED, HELLO, LAST, PING, PONG, REFUSED, REVOKED, UPDATE, UPDATE_TAKEN};
+use crate::frames::{
+    ADMITTED, FREED, FREED_TAKEN, HELLO, LAST, PING, POLICY, POLICY_TAKEN, PONG, REFUSED, REVOKED,
+    UPDATE, UPDATE_TAKEN,
+};
 use crate::octets::{assert_next, is_closed, next_data, pattern};
 use crate::serving::{Serving, next_at};
 use std::io;
@@ -121,6 +124,85 @@ fn a_request_for_the_door_itself_is_refused(rt: HostRuntime) -> Result<(), Fail>
 verdict 2/1 400 10.0.0.9 cluster.local/ns/a/sa/c 127.0.0.1:#####\n",
     )?;
     assert!(rt; is_closed(&mut peer));
+    assert!(rt; is_closed(&mut plane));
+    Ok(())
+}
+
+/// A relay to the upstream, once each peer is admitted, by which octets went up: its upstream's end, and its peer's.
+fn relay(
+    rt: &(impl Net<Stream = TcpStream> + Abort + AllocGlobal),
+    serving: &Serving,
+    plane: &mut TcpStream,
+) -> Result<(TcpStream, TcpStream), Fail> {
+    io::Write::write_all(plane, FREED)?;
+    assert_next(rt, plane, FREED_TAKEN, "the update's answer")?;
+    let mut peer = serving.connect_plain(rt, serving.ports.upstream)?;
+    io::Write::write_all(&mut peer, b"hello")?;
+    let mut upstream = next_at(&serving.upstream)?;
+    assert_next(rt, &mut upstream, b"hello", "what goes up")?;
+    Ok((upstream, peer))
+}
+
+#[test]
+fn a_relay_lives_from_its_header_to_its_end(rt: HostRuntime) -> Result<(), Fail> {
+    let serving = Serving::begin(&rt, rt.clone()?)?;
+    let mut plane = serving.apply_all(&rt)?;
+    let (mut upstream, mut peer) = relay(&rt, &serving, &mut plane)?;
+    let sent = pattern(rt.alloc(), 100_000)?;
+    io::Write::write_all(&mut upstream, sent.as_slice())?;
+    assert_next(&rt, &mut peer, sent.as_slice(), "what goes down")?;
+    peer.shutdown(Shutdown::Write)?;
+    assert!(rt; is_closed(&mut upstream));
+    io::Write::write_all(&mut upstream, b"bye")?;
+    drop(upstream);
+    assert_next(&rt, &mut peer, b"bye", "the last octets")?;
+    assert!(rt; is_closed(&mut peer));
+    let port = serving.ports.upstream;
+    serving.assert_ends(
+        &rt,
+        port,
+        "0; total: 3 links, 1 accepted, 0 revoked, 5 up, 100003 down\n; ; \
+verdict 2/0 200 10.0.0.9 - 127.0.0.1:#####\nend 2/0 done up 5 down 100003\n",
+    )?;
+    assert!(rt; is_closed(&mut plane));
+    Ok(())
+}
+
+#[test]
+fn an_update_revokes_a_relay(rt: HostRuntime) -> Result<(), Fail> {
+    let serving = Serving::begin(&rt, rt.clone()?)?;
+    let mut plane = serving.apply_all(&rt)?;
+    let (mut upstream, mut peer) = relay(&rt, &serving, &mut plane)?;
+    io::Write::write_all(&mut upstream, b"world")?;
+    assert_next(&rt, &mut peer, b"world", "what goes down")?;
+    io::Write::write_all(&mut plane, POLICY)?;
+    assert_next(&rt, &mut plane, POLICY_TAKEN, "the policy's answer")?;
+    assert!(rt; is_closed(&mut upstream));
+    assert!(rt; is_closed(&mut peer));
+    let port = serving.ports.upstream;
+    serving.assert_ends(
+        &rt,
+        port,
+        "0; total: 3 links, 1 accepted, 1 revoked, 5 up, 5 down\n; ; \
+verdict 2/0 200 10.0.0.9 - 127.0.0.1:#####\nend 2/0 revoked up 5 down 5\n",
+    )?;
+    assert!(rt; is_closed(&mut plane));
+    Ok(())
+}
+
+#[test]
+fn a_connection_without_an_identity_is_refused(rt: HostRuntime) -> Result<(), Fail> {
+    let serving = Serving::begin(&rt, rt.clone()?)?;
+    let mut plane = serving.apply_all(&rt)?;
+    let mut peer = serving.connect_plain(&rt, serving.ports.upstream)?;
+    assert!(rt; is_closed(&mut peer));
+    let port = serving.ports.upstream;
+    serving.assert_ends(
+        &rt,
+        port,
+        "0; total: 2 links, 0 accepted, 0 revoked, 0 up, 0 down\n; ; \
+verdict 2/0 401 10.0.0.9 - 127.0.0.1:#####\n",
+    )?;
     assert!(rt; is_closed(&mut plane));
     Ok(())
 }
