@@ -205,9 +205,14 @@ module _ (parts : List Part) (proper : is_proper parts ≡ true) where
   kind_of kind name None found is = absurd (true≢false (sym is))
   kind_of kind name (Some p) found is =
       let there = found_among (is_named name) parts p found in
-      let same : name_of p ≡ name = (bytes_eq-Decides (name_of p) name).0 there.1 in
-      (p, found, is, same, ap is_name (sym same)
-      ∙ is_name_among parts p (both _ _ (both (nat_lt (length parts) (usize_max - 1)) _ proper).1).0 there.0)
+      let same : name_of p ≡ name = (bytes_eq-Decides (name_of p) name).0 there.1 in (
+        p,
+        found,
+        is,
+        same,
+        ap is_name (sym same)
+            ∙ is_name_among parts p (both _ _ (both (nat_lt (length parts) (usize_max - 1)) _ proper).1).0 there.0,
+      )
 
   pub has_kind : (kind : Part → Bool) (name : Text) → has parts kind name ≡ true → IsKind kind name
   has_kind kind name is = kind_of kind name (find (is_named name) parts) refl is

@@ -81,17 +81,21 @@ module _ (command : Command) (proper : is_proper command.parts ≡ true) where
       → arg_by_long c name ≡ Some (filled_at 0 (option name wanted))
       → Steps (between k h) word (between k (made name value h)) (settles h && is_fresh name h)
   unfolding walked
-  joined_step name value wanted k h word reads found =
-      (rw (reads.1, reads.0, found) refl, rw (reads.1, reads.0, found) (and_true _
-      ∙ ap (λ b. settles h && b) (fresh (has_row name (rows h)))))
+  joined_step name value wanted k h word reads found = (
+    rw (reads.1, reads.0, found) refl,
+    rw (reads.1, reads.0, found) (and_true _
+        ∙ ap (λ b. settles h && b) (fresh (has_row name (rows h)))),
+  )
 
   pub flag_step : (name : Text) (k : ℕ) (h : Held) (word : Text) → Reads word name None
       → arg_by_long c name ≡ Some (filled_at 0 (flag name))
       → Steps (between k h) word (between k (made name (codes "true") h)) (settles h && is_fresh name h)
   unfolding walked
-  flag_step name k h word reads found =
-      (rw (reads.1, reads.0, found) refl, rw (reads.1, reads.0, found) (and_true _
-      ∙ ap (λ b. settles h && b) (fresh (has_row name (rows h)))))
+  flag_step name k h word reads found = (
+    rw (reads.1, reads.0, found) refl,
+    rw (reads.1, reads.0, found) (and_true _
+        ∙ ap (λ b. settles h && b) (fresh (has_row name (rows h)))),
+  )
 
   pub value_step : (name value : Text) (wanted : Bool) (k : ℕ) (h : Held) → IsPlainWord value
       → HasId 1 command.parts name (option name wanted)

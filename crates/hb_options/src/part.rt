@@ -40,7 +40,10 @@ fn arg<'a>(alloc: Global, part: Part<'a>) -> Arg<'a>
 }
 
 /// The command as clap knows it.
-pub(crate) fn command<'a>(alloc: Global, declared: Declaration<'a>) -> Result<Command<'a>, AllocError>
+pub(crate) fn command<'a>(
+    alloc: Global,
+    declared: Declaration<'a>,
+) -> Result<Command<'a>, AllocError>
     ensures built { IfOk result (λ r. app_of r ≡ alone_app (command_of declared.entry)) }
     ensures own { IfOk result (λ r. (fields_of r).has_globals ≡ false) }
 {

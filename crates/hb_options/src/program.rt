@@ -15,7 +15,11 @@ use clap::{ArgMatches, Command};
 use std::alloc::{AllocError, Global};
 
 /// The program as clap knows it: its first word names a command, and no word asks for help.
-fn program<'a>(alloc: Global, name: &'a str, commands: &[Declaration<'a>]) -> Result<Command<'a>, AllocError>
+fn program<'a>(
+    alloc: Global,
+    name: &'a str,
+    commands: &[Declaration<'a>],
+) -> Result<Command<'a>, AllocError>
     requires some { 0 < length commands.now }
     ensures built { IfOk result (λ r. app_of r ≡ app name.entry.now (map command_of commands.now)) }
 {
@@ -33,7 +37,12 @@ fn program<'a>(alloc: Global, name: &'a str, commands: &[Declaration<'a>]) -> Re
 /// The matches of words that items spell which the command accepts that the first word names; `None`: no command accepts such items.
 ///
 /// Errors: want of memory.
-pub fn read<'a>(alloc: Global, name: &'a str, commands: &[Declaration<'a>], words: &'a [String]) -> Result<Option<ArgMatches<'a>>, AllocError>
+pub fn read<'a>(
+    alloc: Global,
+    name: &'a str,
+    commands: &[Declaration<'a>],
+    words: &'a [String],
+) -> Result<Option<ArgMatches<'a>>, AllocError>
     requires some { 0 < length commands.now }
     requires proper { are_proper (map command_of commands.now) ≡ true }
     ensures { IfOk result (Reads (map command_of commands.now) (map string_bytes words.entry.now)) }
