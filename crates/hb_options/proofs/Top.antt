@@ -10,7 +10,7 @@ use Rattle.clap.specs.Takes.{built_takes, entered_passes, is_valid, level_passes
 use Rattle.clap.specs.Walk.{Names, Row, Rule, Text, Walk, answers_to, finished, first_of, idle, is_early_multiple, nothing_held, one_of, row_text, rows_after, subcommand_met, walk, walk_from, walked}
 use Rattle.clap.proofs.WalkLemmas.{both}
 use Rattle.hb_options.specs.Items.{Part, option, flag, place, name_of, is_flag, rule, Command, shape, app, command_named, part_named, Item, item_value, spelled, is_value, fits, each_once, has_wanted, accepts, unsaid_value, value_of, is_proper, are_proper, no_dash_behind, is_clean, Spells}
-use Rattle.hb_options.specs.Taken.{AreSimple, TakesSpelledItems, AreSpelledCleanly, TakesSpelledItemsAlone, GivesItemsValues}
+use Rattle.hb_options.specs.Taken.{AreSimple, TakesSpelledItems, AreSpelledCleanly, TakesSpelledItemsAlone, SpellsTakenWords, GivesItemsValues}
 use Rattle.hb_options.proofs.Rules.{rules_from, filled_at, is_named_kind, kind_found, kind_missing, part_found, once}
 use Rattle.hb_options.proofs.Words.{reads_plain, not_dashes}
 use Rattle.hb_options.proofs.Spelling.{value_clean, items_clean}
@@ -227,6 +227,11 @@ module _ (program : Text) (commands : List Command) where
         sym (ap (entered_fault (made program commands)) stop_is
         ∙ ap (λ (o : Option Shape). option_map_or (λ s. level_fault s [] nothing_held words false []) o []) leaf_is) ∙ none
 
+    passes_below : entered_passes (made program commands) stop ≡ true → level_passes (level c) [] nothing_held words false ≡ true
+    passes_below passes =
+        sym (ap (entered_passes (made program commands)) stop_is
+        ∙ ap (λ (o : Option Shape). option_map_or (λ s. level_passes s [] nothing_held words false) o true) leaf_is) ∙ passes
+
   -- ---- words that name none
 
   unnamed : (word : Text) (o : Option (Text × Option Text)) → command_named commands word ≡ None → long_of word ≡ o
@@ -241,29 +246,44 @@ module _ (program : Text) (commands : List Command) where
   abbrev Spelled : List Text → Type 0
   Spelled words = (c : Command) × (items : List Item) × Spells commands words c items
 
-  from_command : (word : Text) (words : List Text) (o : Option Command) → are_proper commands ≡ true
-      → list_all is_clean (word ∷ words) ≡ true
-      → command_named commands word ≡ o → built_fault (made program commands) nothing_held (word ∷ words) ≡ [] → Spelled (word ∷ words)
+  spelled_by_passes : (word : Text) (words : List Text) (o : Option Command) (has : Bool) → are_proper commands ≡ true
+      → list_all is_clean (word ∷ words) ≡ true → command_named commands word ≡ o
+      → level_passes (top program) names nothing_held (word ∷ words) has ≡ true
+      → ((c : Command) → command_named commands c.name ≡ Some c → c.name ≡ word
+      → level_passes (level c) [] nothing_held words false ≡ true)
+      → Spelled (word ∷ words)
   unfolding walk_passes
-  from_command word words None proper clean is none =
-      let passes = level_ok (top program) names nothing_held (word ∷ words) _ _ refl refl none in
+  spelled_by_passes word words None has proper clean is passes below =
       let turn = both (turn_passes (top program) names (walk_from nothing_held) word) _ (both (walk_passes (top program) names (walk_from nothing_held) (word ∷ words)) _ passes).0 in
       absurd (true≢false (sym turn.0 ∙ unnamed word (long_of word) is refl (both (is_clean word) _ clean).0))
-  from_command word words (Some c) proper clean is none =
+  spelled_by_passes word words (Some c) has proper clean is passes below =
       let found = found_command commands word c proper is in
       let named : command_named commands c.name ≡ Some c = ap (command_named commands) found.0 ∙ is in
-      let below = below_ok (top program) names nothing_held (word ∷ words) _ _ none in
-      let at_name = ap (λ (t : Text). entered_fault (made program commands) (walk [] names nothing_held (t ∷ words)).stopped) found.0
-      ∙ below in
-      let passes = level_ok (level c) [] nothing_held words false [] (defaults_pass c.parts 1) (all_free c.parts 1) (fault_below c words named at_name) in
-      let items = level_spells c found.1 words (both (is_clean word) _ clean).1 passes in
+      let items = level_spells c found.1 words (both (is_clean word) _ clean).1 (below c named found.0) in
       (c, items.0, (named, ap₂ (λ (t : Text) (l : List Text). t ∷ l) (sym found.0) items.1, items.2))
 
   from_words : (words : List Text) → are_proper commands ≡ true → list_all is_clean words ≡ true
       → built_fault (made program commands) nothing_held words ≡ [] → Spelled words
   unfolding walk_passes
   from_words [] proper clean none = absurd (true≢false (sym (level_ok (top program) names nothing_held [] false [] refl refl none)))
-  from_words (word ∷ words) proper clean none = from_command word words (command_named commands word) proper clean refl none
+  from_words (word ∷ words) proper clean none =
+      spelled_by_passes word words (command_named commands word) _ proper clean refl
+      (level_ok (top program) names nothing_held (word ∷ words) _ _ refl refl none)
+      (λ c named same. level_ok (level c) [] nothing_held words false [] (defaults_pass c.parts 1) (all_free c.parts 1)
+      (fault_below c words named
+      (ap (λ (t : Text). entered_fault (made program commands) (walk [] names nothing_held (t ∷ words)).stopped) same
+      ∙ below_ok (top program) names nothing_held (word ∷ words) _ _ none)))
+
+  from_taken : (words : List Text) → are_proper commands ≡ true → list_all is_clean words ≡ true
+      → built_takes (made program commands) nothing_held words ≡ true → Spelled words
+  unfolding walk_passes
+  from_taken [] proper clean taken =
+      absurd (true≢false (sym (both (entered_passes (made program commands) (walk [] names nothing_held []).stopped) _ taken).1))
+  from_taken (word ∷ words) proper clean taken =
+      let parts = both (entered_passes (made program commands) (walk [] names nothing_held (word ∷ words)).stopped) _ taken in
+      spelled_by_passes word words (command_named commands word) _ proper clean refl parts.1
+      (λ c named same. passes_below c words named
+      (ap (λ (t : Text). entered_passes (made program commands) (walk [] names nothing_held (t ∷ words)).stopped) same ∙ parts.0))
 
 -- ---- the laws
 
@@ -292,6 +312,12 @@ pub takes_spelled_items_alone : TakesSpelledItemsAlone
 takes_spelled_items_alone program commands words proper clean none =
     from_words program commands words proper clean (sym (ap (λ (a : App). built_fault a nothing_held words) (built_is program commands))
     ∙ none)
+
+pub spells_taken_words : SpellsTakenWords
+spells_taken_words program commands words proper clean taken =
+    from_taken program commands words proper clean
+    (sym (ap (λ (a : App). built_takes a nothing_held words) (built_is program commands))
+    ∙ (both (is_simple (app program commands)) _ taken).1)
 
 -- the flag, of a part that is one
 abbrev flag_of : Part → Option Part

@@ -21,10 +21,16 @@ abbrev pub AreSpelledCleanly : Type 0
 AreSpelledCleanly = (commands : List Command) (words : List Text) (c : Command) (items : List Item) → are_proper commands ≡ true
     → Spells commands words c items → list_all is_clean words ≡ true
 
--- and of clean words no others are taken
+-- and of clean words no others are read without a fault
 abbrev pub TakesSpelledItemsAlone : Type 0
 TakesSpelledItemsAlone = (program : Text) (commands : List Command) (words : List Text) → are_proper commands ≡ true
     → list_all is_clean words ≡ true → fault_of (app program commands) words ≡ []
+    → (c : Command) × (items : List Item) × Spells commands words c items
+
+-- and clean words that are taken are spelled so
+abbrev pub SpellsTakenWords : Type 0
+SpellsTakenWords = (program : Text) (commands : List Command) (words : List Text) → are_proper commands ≡ true
+    → list_all is_clean words ≡ true → takes (app program commands) words ≡ true
     → (c : Command) × (items : List Item) × Spells commands words c items
 
 -- the value that clap gives for the id of a part is that of the part's item

@@ -24,7 +24,7 @@ ghost use Rattle.hb_options.specs.Refused.{
   one_dash,
   empty_word,
 };
-ghost use Rattle.hb_options.specs.Taken.{AreSimple, TakesSpelledItems, AreSpelledCleanly, TakesSpelledItemsAlone, GivesItemsValues};
+ghost use Rattle.hb_options.specs.Taken.{AreSimple, TakesSpelledItems, AreSpelledCleanly, TakesSpelledItemsAlone, SpellsTakenWords, GivesItemsValues};
 
 /// A program of commands takes the words that a command's name and items spell which that command accepts, and of clean words no
 /// others; then each part has the value of its item.
@@ -33,6 +33,7 @@ pub fn words_are_taken_as_items_spell_them()
     ensures taken { TakesSpelledItems }
     ensures clean { AreSpelledCleanly }
     ensures alone { TakesSpelledItemsAlone }
+    ensures spelled { SpellsTakenWords }
     ensures values { GivesItemsValues }
 {}
 
