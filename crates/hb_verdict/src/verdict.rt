@@ -46,8 +46,8 @@ fn is_at(target: Target, door: Option<Target>) -> bool
     }
 }
 
-/// Whether the target is one of the node's own doors.
-fn is_own_door(held: &Held, target: Target) -> bool
+/// Whether the target is one of the node's own doors: nothing is dialled there.
+pub fn is_own_door(held: &Held, target: Target) -> bool
     ensures { result ≡ is_own_door held.now.doors target }
 {
     let doors = held.doors();
