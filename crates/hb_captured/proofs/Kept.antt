@@ -1,9 +1,14 @@
 -- What every run of a captured link keeps.
-use Rattle.std.proofs.Common.{◌≡◌, inl, inr, ℕ, ◌≤◌, ◌+◌, ◌-◌, ◌||◌, Bool, true, false, cond, List, [], ◌∷◌, ◌++◌, length, drop, Option, Some, None, refl, ap, sym, ◌∙◌, subst, arith, length-append, length-drop}
+use Rattle.std.proofs.Common.{◌≡◌, inl, inr, ℕ, ◌≤◌, ◌+◌, ◌-◌, ◌||◌, ◌&&◌, Bool, true, false, cond, List, [], ◌∷◌, ◌++◌, length, drop, Option, Some, None, refl, ap, sym, ◌∙◌, subst, arith, length-append, length-drop}
+use Rattle.std.proofs.lemmas.Bool.{false≢true}
 use Rattle.std.proofs.lemmas.List.{append-nil, append_assoc, drop-append-le}
 use Rattle.std.proofs.Math.Seq.{drop-append_seam}
 use Rattle.hb_base.specs.declared.cause.Cause.{Cause}
 use Rattle.hb_base.specs.declared.cause.Cause.TheVariants as cause
+use Rattle.hb_base.specs.declared.door.Door.{Door}
+use Rattle.hb_base.specs.declared.door.Door.TheVariants as door
+use Rattle.hb_base.specs.declared.target.Target.{Target}
+use Rattle.hb_disco.specs.declared.response.Response.{Response}
 use Rattle.hb_front.specs.Faults.{number_of}
 use Rattle.hb_front.specs.Header.{spelling}
 use Rattle.hb_front.specs.Reading.{Seen, IsAnswer, Whole}
@@ -14,25 +19,24 @@ use Rattle.hb_table.specs.declared.judgement.Judged.{Judged}
 use Rattle.hb_table.specs.declared.judgement.Judged.TheVariants.{Admitted, Unknown, Denied}
 use Rattle.hb_tunnel.specs.Tunnel.{up_size, down_size}
 use Rattle.hb_tunnel.specs.Way.{Way}
-use Rattle.hb_verdict.specs.declared.request.Request.TheVariants.{Connect}
-use Rattle.hb_verdict.specs.declared.verdict.Verdict.TheVariants.{Dial}
 use Rattle.hb_base.specs.declared.note.Note.{Note}
-use Rattle.hb_verdict.proofs.Dialled.{only_where_it_may}
 use Rattle.hb_world.specs.declared.entry.Entry.{Entry}
 use Rattle.hb_world.specs.declared.entry.Entry.TheVariants as e
 use Rattle.hb_captured.specs.Calm.{longest_front, room, wants, wants_by, up_wants, up_wants_by, output, output_by, up_output}
-use Rattle.hb_captured.specs.Captured.{Captured, Stage, unborn, arriving, fronting, due, opening, accepting, live, failed, ended, over, at_stage, is_judged, ends_by, ends_for, peer_in, fronted_by, no_link, hung_up, came_by, left_by, judged_by, rejudged}
+use Rattle.hb_captured.specs.Captured.{Captured, Stage, unborn, arriving, fronting, due, opening, accepting, live, failed, ended, over, at_stage, judges, is_judged, ends_by, ends_for, fronted_by, no_link, hung_up, came_by, left_by, judged_by, rejudged}
 use Rattle.hb_captured.specs.Laws.{FitsRings}
 use Rattle.hb_captured.specs.Notes.{noting_by, noting_of, no_note}
 use Rattle.hb_captured.specs.Part.{Part, entry, up, welcomed, crowded, lacked, misfronted, fronted, refused, accepted, left, done, applied, stopped}
-use Rattle.hb_captured.specs.Runs.{Local, MayCome, UpMayCome, MayGo, IsTried, left_note, verdict_on, next, StandsFor, begins, goes_on}
+use Rattle.hb_captured.specs.Runs.{Local, MayCome, UpMayCome, MayGo, IsTried, left_note, next, StandsFor, begins, goes_on}
 use Rattle.hb_captured.specs.Sides as sides
-use Rattle.hb_captured.specs.Sides.{Course, pending, lives, ends_at, ends_judged, hangs_up, judged_in, course_by, course_of, held, held_by, header_of, header_by, behind, raw_came, link_came, link_went, up_came, up_went, came_in, went_in, up_came_in, up_went_in, is_end, is_opening, is_shut, is_close, on_link, on_up, was_on_link, was_on_up, up_of, up_in}
+use Rattle.hb_captured.specs.Sides.{Course, pending, lives, ends_at, ends_judged, hangs_up, judged_in, course_by, course_of, door_by, door_of, held, held_by, header_of, header_by, behind, raw_came, link_came, link_went, up_came, up_went, came_in, went_in, up_came_in, up_went_in, is_end, is_opening, is_shut, is_close, on_link, on_up, was_on_link, was_on_up, up_of, up_in}
+use Rattle.hb_captured.proofs.Answer.{admits}
 use Rattle.hb_captured.proofs.Grown.{one_more, fold_one}
 use Rattle.hb_captured.proofs.Stages.{course_in, noting_in, Early, Told, Placed, KnowsBy, ends_course, ends_noting, told_at, early_at, ends_knows, course_one, Marks, marks_in, marks_by, marks_next, held_next, adds_all}
 
--- the flags and numbers of a link are those that its run tells
+-- the door, the flags and the numbers of a link are those that its run tells
 pub record Tells (parts : List Part) (m : Marks) : Type 0 where
+  pub door : door_of parts ≡ m.door
   pub ended : was_on_link is_end parts ≡ m.ended
   pub up_ended : was_on_up is_end parts ≡ m.up_ended
   pub opened : was_on_up is_opening parts ≡ m.opened
@@ -45,6 +49,7 @@ pub record Tells (parts : List Part) (m : Marks) : Type 0 where
 
 tells_one : (parts : List Part) (m : Marks) (p : Part) → Tells parts m → Tells (parts ++ p ∷ []) (marks_by m p)
 tells_one parts m p is = record {
+  door = fold_one door_by door.Plain parts p ∙ ap (λ d. door_by d p) is.door;
   ended = fold_one (λ was q. on_link is_end q || was) false parts p ∙ ap (λ b. on_link is_end p || b) is.ended;
   up_ended = fold_one (λ was q. on_up is_end q || was) false parts p ∙ ap (λ b. on_up is_end p || b) is.up_ended;
   opened = fold_one (λ was q. on_up is_opening q || was) false parts p ∙ ap (λ b. on_up is_opening p || b) is.opened;
@@ -70,7 +75,7 @@ pub record Keeps (start : Resources) (a : Local) (parts : List Part) : Type 0 wh
 
 -- what a part makes of that
 record Moves (parts : List Part) (a : Local) (p : Part) (y : Captured) (h : Resources) : Type 0 where
-  pub course : course_by h (header_of parts) (course_in a.link.stage) p ≡ course_in y.stage
+  pub course : course_by a.link.door h (header_of parts) (course_in a.link.stage) p ≡ course_in y.stage
   pub noting : noting_by (noting_in a.link.stage) p ≡ noting_in y.stage
   pub knows : KnowsBy y.stage (header_by (header_of parts) p) (link_came parts ++ came_in p) h y
   pub ups : behind (header_by (header_of parts) p) (link_came parts ++ came_in p) ≡ (up_went parts ++ up_went_in p) ++ y.ways.up.held
@@ -109,8 +114,9 @@ hangs_noting (failed cause) = refl
 hangs_noting (ended cause) = refl
 hangs_noting (over cause) = refl
 
--- with the same header and upstream
+-- with the same door, header and upstream
 record Alike (x y : Captured) : Type 0 where
+  pub door : y.door ≡ x.door
   pub front : y.front ≡ x.front
   pub peer : y.peer ≡ x.peer
   pub target : y.target ≡ x.target
@@ -125,10 +131,10 @@ module _ (told : Option Seen) (came : List ℕ) (h : Resources) (x y : Captured)
   told_same peer target is =
       record { seen = is.seen; told = is.told; within = is.within; peer = peer ∙ is.peer; target = target ∙ is.target }
 
-  placed_same : y.peer ≡ x.peer → y.target ≡ x.target → Placed told came h x → Placed told came h y
-  placed_same peer target is = (
+  placed_same : y.door ≡ x.door → y.peer ≡ x.peer → y.target ≡ x.target → Placed told came h x → Placed told came h y
+  placed_same door peer target is = (
     told_same peer target is.0,
-    ap (λ p. judged h p y.target) peer ∙ ap (λ t. judged h x.peer t) target ∙ is.1,
+    (λ may. ap (λ p. judged h p y.target) peer ∙ ap (λ t. judged h x.peer t) target ∙ is.1 (sym (ap judges door) ∙ may)),
   )
 
   early_same : Alike x y → Early told came x → Early told came y
@@ -148,11 +154,11 @@ module _ (told : Option Seen) (came : List ℕ) (h : Resources) (x y : Captured)
   knows_same arriving same is = early_same same is
   knows_same fronting same is = early_same same is
   knows_same due same is =
-      (placed_same same.peer same.target is.0, same.up ∙ is.1, same.is_open ∙ is.2, same.down_hung ∙ is.3)
+      (placed_same same.door same.peer same.target is.0, same.up ∙ is.1, same.is_open ∙ is.2, same.down_hung ∙ is.3)
   knows_same opening same is =
-      (placed_same same.peer same.target is.0, (λ none. is.1 (sym same.up ∙ none)), same.is_open ∙ is.2, same.down_hung ∙ is.3)
-  knows_same accepting same is = (placed_same same.peer same.target is.0, same.is_open ∙ is.1, same.down_hung ∙ is.2)
-  knows_same live same is = (placed_same same.peer same.target is.0, same.is_open ∙ is.1)
+      (placed_same same.door same.peer same.target is.0, (λ none. is.1 (sym same.up ∙ none)), same.is_open ∙ is.2, same.down_hung ∙ is.3)
+  knows_same accepting same is = (placed_same same.door same.peer same.target is.0, same.is_open ∙ is.1, same.down_hung ∙ is.2)
+  knows_same live same is = (placed_same same.door same.peer same.target is.0, same.is_open ∙ is.1)
   knows_same (failed cause) same is = told_same same.peer same.target is
   knows_same (ended cause) same is = told_same same.peer same.target is
   knows_same (over cause) same is = tt
@@ -201,8 +207,9 @@ module _ (l : ℕ) (start : Resources) (a : Local) (parts : List Part) (keeps : 
         held = fold_one held_by start parts p ∙ ap (λ (h : Resources). held_by h p) keeps.held ∙ sym (held_next a p);
         tells = subst (Tells (parts ++ p ∷ [])) (sym (marks_next a p)) (tells_one parts (marks_in a.link) p keeps.tells);
         course = course_one start parts p
-            ∙ ap (λ (c : Course). course_by (held_by (held start parts) p) (header_of parts) c p) keeps.course
-            ∙ ap (λ (h : Resources). course_by h (header_of parts) (course_in a.link.stage) p)
+            ∙ ap (λ (c : Course). course_by (door_of parts) (held_by (held start parts) p) (header_of parts) c p) keeps.course
+            ∙ ap (λ (d : Door). course_by d (held_by (held start parts) p) (header_of parts) (course_in a.link.stage) p) keeps.tells.door
+            ∙ ap (λ (h : Resources). course_by a.link.door h (header_of parts) (course_in a.link.stage) p)
             (ap (λ (h : Resources). held_by h p) keeps.held ∙ sym (held_next a p))
             ∙ is.course;
         noting = fold_one noting_by no_note parts p ∙ ap (λ n. noting_by n p) keeps.noting ∙ is.noting;
@@ -218,7 +225,7 @@ module _ (l : ℕ) (start : Resources) (a : Local) (parts : List Part) (keeps : 
 
   -- one that brings and takes no bytes
   plain_moves : (p : Part) (y : Captured) (h : Resources) → IsPlain p
-      → course_by h (header_of parts) (course_in a.link.stage) p ≡ course_in y.stage
+      → course_by a.link.door h (header_of parts) (course_in a.link.stage) p ≡ course_in y.stage
       → noting_by (noting_in a.link.stage) p ≡ noting_in y.stage
       → KnowsBy y.stage (header_of parts) (link_came parts) h y
       → y.ways.up.held ≡ a.link.ways.up.held → y.ways.down.held ≡ a.link.ways.down.held → Moves parts a p y h
@@ -253,7 +260,7 @@ module _ (l : ℕ) (start : Resources) (a : Local) (parts : List Part) (keeps : 
 
   -- an end
   ends_moves : (p : Part) (why : Cause) → IsPlain p
-      → course_by a.held (header_of parts) (course_in a.link.stage) p ≡ sides.ends why (course_in a.link.stage)
+      → course_by a.link.door a.held (header_of parts) (course_in a.link.stage) p ≡ sides.ends why (course_in a.link.stage)
       → noting_by (noting_in a.link.stage) p ≡ noting_in a.link.stage → Moves parts a p (ends_for why a.link) a.held
   ends_moves p why plain course noting =
       plain_moves p (ends_for why a.link) a.held plain (course ∙ ends_course why a.link.stage) (noting ∙ ends_noting why a.link.stage)
@@ -382,38 +389,53 @@ module _ (l : ℕ) (start : Resources) (a : Local) (parts : List Part) (keeps : 
   plain_up z came went = record { came = refl; went = refl; up_came = came; up_went = went; header = λ told. refl }
 
   -- it sends no more
-  hangs_knows : IsTried a.link → (y : Captured) → y.peer ≡ a.link.peer → y.target ≡ a.link.target → y.up ≡ a.link.up
-      → y.ways.is_open ≡ a.link.ways.is_open → y.ways.down.has_ended ≡ a.link.ways.down.has_ended
+  hangs_knows : IsTried a.link → (y : Captured) → y.door ≡ a.link.door → y.peer ≡ a.link.peer → y.target ≡ a.link.target
+      → y.up ≡ a.link.up → y.ways.is_open ≡ a.link.ways.is_open → y.ways.down.has_ended ≡ a.link.ways.down.has_ended
       → KnowsBy (hung_up a.link.stage) (header_of parts) (link_came parts) a.held y
-  hangs_knows (inl at) y peer target same_up open_yet down_hung =
+  hangs_knows (inl at) y door peer target same_up open_yet down_hung =
       subst (λ (s : Stage). KnowsBy (hung_up s) (header_of parts) (link_came parts) a.held y) (sym at.1) tt
-  hangs_knows (inr (inl at)) y peer target same_up open_yet down_hung =
+  hangs_knows (inr (inl at)) y door peer target same_up open_yet down_hung =
       let is = knows_at opening at.1 in
       let knows : KnowsBy opening (header_of parts) (link_came parts) a.held y = (
-        placed_same (header_of parts) (link_came parts) a.held a.link y peer target is.0,
+        placed_same (header_of parts) (link_came parts) a.held a.link y door peer target is.0,
         (λ none. is.1 (sym same_up ∙ none)),
         open_yet ∙ is.2,
         down_hung ∙ is.3,
       ) in
       subst (λ (s : Stage). KnowsBy (hung_up s) (header_of parts) (link_came parts) a.held y) (sym at.1) knows
-  hangs_knows (inr (inr at)) y peer target same_up open_yet down_hung =
+  hangs_knows (inr (inr at)) y door peer target same_up open_yet down_hung =
       let is = knows_at live at.1 in
       let knows : KnowsBy live (header_of parts) (link_came parts) a.held y =
-      (placed_same (header_of parts) (link_came parts) a.held a.link y peer target is.0, open_yet ∙ is.1) in
+      (placed_same (header_of parts) (link_came parts) a.held a.link y door peer target is.0, open_yet ∙ is.1) in
       subst (λ (s : Stage). KnowsBy (hung_up s) (header_of parts) (link_came parts) a.held y) (sym at.1) knows
+
+  -- what is early at its birth is so at each door
+  early_accepted : (d : Door) → Early (header_of parts) (link_came parts) a.link
+      → Early (header_of parts) (link_came parts) (record a.link { door = d; stage = arriving })
+  early_accepted d is = record {
+    told = is.told;
+    front = is.front;
+    short = is.short;
+    none = is.none;
+    going = is.going;
+    no_up = is.no_up;
+    shut = is.shut;
+    down_going = is.down_going;
+  }
 
   entry_keeps : (z : Entry) → MayCome l a.link z → Keeps start (next a (entry z)) (parts ++ entry z ∷ [])
   entry_keeps (e.Accepted k d) (is, new, door) =
       moves_keep (entry (e.Accepted k d))
-      (plain_moves (entry (e.Accepted k d)) (at_stage arriving a.link) a.held (plain_entry (e.Accepted k d) refl refl) refl
-      (ap noting_in new) (early_at (header_of parts) (link_came parts) a.held arriving a.link (knows_at unborn new)) refl refl)
+      (plain_moves (entry (e.Accepted k d)) (record a.link { door = d; stage = arriving }) a.held
+      (plain_entry (e.Accepted k d) refl refl) refl
+      (ap noting_in new) (early_accepted d (knows_at unborn new)) refl refl)
   entry_keeps (e.Came k bytes) (is, (tried, wanted), (octets, some, most)) =
       moves_keep (entry (e.Came k bytes)) (came_moves k bytes tried most)
   entry_keeps (e.Ended k) (is, (tried, wanted)) =
       let y = (next a (entry (e.Ended k))).link in
       moves_keep (entry (e.Ended k))
       (plain_moves (entry (e.Ended k)) y a.held (plain_entry (e.Ended k) refl refl) (hangs_course a.link.stage)
-      (hangs_noting a.link.stage) (hangs_knows tried y refl refl refl refl refl) refl refl)
+      (hangs_noting a.link.stage) (hangs_knows tried y refl refl refl refl refl refl) refl refl)
   entry_keeps (e.Went k bytes) (is, at, (some, (rest, first))) = went_moves k bytes rest at.1 first
   entry_keeps (e.Broke k) may =
       moves_keep (entry (e.Broke k)) (ends_moves (entry (e.Broke k)) cause.PeerGone (plain_entry (e.Broke k) refl refl) refl refl)
@@ -422,14 +444,34 @@ module _ (l : ℕ) (start : Resources) (a : Local) (parts : List Part) (keeps : 
       moves_keep (entry (e.Shut k))
       (plain_moves (entry (e.Shut k)) y a.held (plain_entry (e.Shut k) refl refl) refl refl
       (knows_same (header_of parts) (link_came parts) a.held a.link y a.link.stage
-      (record { front = refl; peer = refl; target = refl; up = refl; is_open = refl; held = refl; hung = refl; down_hung = refl })
+      (record {
+        door = refl;
+        front = refl;
+        peer = refl;
+        target = refl;
+        up = refl;
+        is_open = refl;
+        held = refl;
+        hung = refl;
+        down_hung = refl;
+      })
       keeps.knows) refl refl)
   entry_keeps (e.Closed k why) may =
       let y = (next a (entry (e.Closed k why))).link in
       moves_keep (entry (e.Closed k why))
       (plain_moves (entry (e.Closed k why)) y a.held (plain_entry (e.Closed k why) refl refl) refl refl
       (knows_same (header_of parts) (link_came parts) a.held a.link y a.link.stage
-      (record { front = refl; peer = refl; target = refl; up = refl; is_open = refl; held = refl; hung = refl; down_hung = refl })
+      (record {
+        door = refl;
+        front = refl;
+        peer = refl;
+        target = refl;
+        up = refl;
+        is_open = refl;
+        held = refl;
+        hung = refl;
+        down_hung = refl;
+      })
       keeps.knows) refl refl)
   entry_keeps (e.Balked way) may =
       moves_keep (entry (e.Balked way))
@@ -485,7 +527,8 @@ module _ (l : ℕ) (start : Resources) (a : Local) (parts : List Part) (keeps : 
       })
 
   -- at its stage it stays alike
-  same_keeps : (z : Entry) → IsPlain (up z) → course_by a.held (header_of parts) (course_in a.link.stage) (up z) ≡ course_in a.link.stage
+  same_keeps : (z : Entry) → IsPlain (up z)
+      → course_by a.link.door a.held (header_of parts) (course_in a.link.stage) (up z) ≡ course_in a.link.stage
       → (next a (up z)).link.stage ≡ a.link.stage → Alike a.link (next a (up z)).link
       → (next a (up z)).link.ways.down.held ≡ a.link.ways.down.held → (next a (up z)).held ≡ a.held
       → Keeps start (next a (up z)) (parts ++ up z ∷ [])
@@ -500,8 +543,12 @@ module _ (l : ℕ) (start : Resources) (a : Local) (parts : List Part) (keeps : 
   up_keeps (e.Dialled u to why) (dial, for_it, some, other) =
       let y = (next a (up (e.Dialled u to why))).link in
       let at = knows_at due dial.1 in
-      let knows : KnowsBy opening (header_of parts) (link_came parts) a.held y =
-      (placed_same (header_of parts) (link_came parts) a.held a.link y refl refl at.0, (λ none. omega (arith, none, some)), at.2, at.3) in
+      let knows : KnowsBy opening (header_of parts) (link_came parts) a.held y = (
+        placed_same (header_of parts) (link_came parts) a.held a.link y refl refl refl at.0,
+        (λ none. omega (arith, none, some)),
+        at.2,
+        at.3,
+      ) in
       moves_keep (up (e.Dialled u to why))
       (plain_moves (up (e.Dialled u to why)) y a.held (plain_up (e.Dialled u to why) refl refl) (ap course_in dial.1)
       (ap noting_in dial.1) knows refl refl)
@@ -512,7 +559,7 @@ module _ (l : ℕ) (start : Resources) (a : Local) (parts : List Part) (keeps : 
       let y = (next a (up (e.Opened u))).link in
       let is = knows_at opening at.1 in
       let knows : KnowsBy accepting (header_of parts) (link_came parts) a.held y =
-      (placed_same (header_of parts) (link_came parts) a.held a.link y refl refl is.0, refl, is.3) in
+      (placed_same (header_of parts) (link_came parts) a.held a.link y refl refl refl is.0, refl, is.3) in
       moves_keep (up (e.Opened u))
       (plain_moves (up (e.Opened u)) y a.held (plain_up (e.Opened u) refl refl) (ap course_in at.1) (ap noting_in at.1) knows refl refl)
   up_keeps (e.Came u bytes) (at, (octets, some, most)) = up_came_keeps u bytes at.0.1 most
@@ -520,7 +567,7 @@ module _ (l : ℕ) (start : Resources) (a : Local) (parts : List Part) (keeps : 
       let y = (next a (up (e.Ended u))).link in
       let is = knows_at live at.0.1 in
       let knows : KnowsBy live (header_of parts) (link_came parts) a.held y =
-      (placed_same (header_of parts) (link_came parts) a.held a.link y refl refl is.0, is.1) in
+      (placed_same (header_of parts) (link_came parts) a.held a.link y refl refl refl is.0, is.1) in
       moves_keep (up (e.Ended u))
       (plain_moves (up (e.Ended u)) y a.held (plain_up (e.Ended u) refl refl) refl refl
       (subst (λ (s : Stage). KnowsBy s (header_of parts) (link_came parts) a.held y) (sym at.0.1) knows) refl refl)
@@ -529,7 +576,17 @@ module _ (l : ℕ) (start : Resources) (a : Local) (parts : List Part) (keeps : 
       moves_keep (up (e.Broke u)) (ends_moves (up (e.Broke u)) cause.UpFault (plain_up (e.Broke u) refl refl) refl refl)
   up_keeps (e.Shut u) may =
       same_keeps (e.Shut u) (plain_up (e.Shut u) refl refl) refl refl
-      (record { front = refl; peer = refl; target = refl; up = refl; is_open = refl; held = refl; hung = refl; down_hung = refl }) refl refl
+      (record {
+        door = refl;
+        front = refl;
+        peer = refl;
+        target = refl;
+        up = refl;
+        is_open = refl;
+        held = refl;
+        hung = refl;
+        down_hung = refl;
+      }) refl refl
   up_keeps (e.Closed u why) (calm, is, up_is, some) =
       let y = (next a (up (e.Closed u why))).link in
       moves_keep (up (e.Closed u why))
@@ -537,23 +594,33 @@ module _ (l : ℕ) (start : Resources) (a : Local) (parts : List Part) (keeps : 
       (subst (λ (s : Stage). KnowsBy s (header_of parts) (link_came parts) a.held y) (sym is) tt) refl refl)
   up_keeps (e.Balked way) may =
       same_keeps (e.Balked way) (plain_up (e.Balked way) refl refl) refl refl
-      (record { front = refl; peer = refl; target = refl; up = refl; is_open = refl; held = refl; hung = refl; down_hung = refl }) refl refl
+      (record {
+        door = refl;
+        front = refl;
+        peer = refl;
+        target = refl;
+        up = refl;
+        is_open = refl;
+        held = refl;
+        hung = refl;
+        down_hung = refl;
+      }) refl refl
   up_keeps (e.Accepted k d) may = absurd may
   up_keeps e.Tick may = absurd may
   up_keeps (e.Wait ready how) may = absurd may
 
   -- THE FRONT HEADER
 
-  header_moves : (p : Part) (seen : Seen) (stage : Stage) → a.link.stage ≡ fronting → IsAnswer a.link.front (Whole seen)
+  header_moves : (p : Part) (seen : Seen) (to : Target) (stage : Stage) → a.link.stage ≡ fronting → IsAnswer a.link.front (Whole seen)
       → came_in p ≡ [] → went_in p ≡ [] → up_came_in p ≡ [] → up_went_in p ≡ [] → ((t : Option Seen) → header_by t p ≡ Some seen)
-      → course_by a.held (header_of parts) (course_in a.link.stage) p ≡ course_in stage
+      → course_by a.link.door a.held (header_of parts) (course_in a.link.stage) p ≡ course_in stage
       → noting_by (noting_in a.link.stage) p ≡ noting_in stage
-      → (Told (Some seen) (link_came parts) (fronted_by seen stage a.link)
-      → KnowsBy stage (Some seen) (link_came parts) a.held (fronted_by seen stage a.link))
-      → Moves parts a p (fronted_by seen stage a.link) a.held
-  header_moves p seen stage is whole comes goes up_comes up_goes tells course noting knows =
+      → (Told (Some seen) (link_came parts) (fronted_by seen to stage a.link)
+      → KnowsBy stage (Some seen) (link_came parts) a.held (fronted_by seen to stage a.link))
+      → Moves parts a p (fronted_by seen to stage a.link) a.held
+  header_moves p seen to stage is whole comes goes up_comes up_goes tells course noting knows =
       let x = a.link in
-      let y = fronted_by seen stage x in
+      let y = fronted_by seen to stage x in
       let early = knows_at fronting is in
       let within : seen.length ≤ length x.front =
       omega (arith, whole.2.size, ap length whole.4, length-append (spelling whole.0) whole.3) in
@@ -627,12 +694,12 @@ module _ (l : ℕ) (start : Resources) (a : Local) (parts : List Part) (keeps : 
   }
 
   -- one that is
-  judges : (h : Resources) (stage : Stage) → a.link.stage ≡ stage → Told (header_of parts) (link_came parts) a.link
+  judged_now : (h : Resources) (stage : Stage) → a.link.stage ≡ stage → Told (header_of parts) (link_came parts) a.link
       → ((seen : Seen) → ends_at h (Some seen) (course_in stage) ≡ ends_judged (judged_in h seen) (course_in stage))
       → (judged h a.link.peer a.link.target ≡ Admitted → KnowsBy stage (header_of parts) (link_came parts) h a.link)
       → (KnowsBy (ends_by cause.Revoked stage) (header_of parts) (link_came parts) h (at_stage (ends_by cause.Revoked stage) a.link))
       → Judges h stage (judged_by (judged h a.link.peer a.link.target) a.link)
-  judges h stage is told judged_course stays leaves = by (judged h a.link.peer a.link.target) refl
+  judged_now h stage is told judged_course stays leaves = by (judged h a.link.peer a.link.target) refl
     where
       verdict : judged_in h told.seen ≡ judged h a.link.peer a.link.target
       verdict =
@@ -688,19 +755,19 @@ module _ (l : ℕ) (start : Resources) (a : Local) (parts : List Part) (keeps : 
       no_course (Some seen) = refl
   judged_at h due is =
       let at = knows_at due is in
-      judges h due is at.0.0 (λ seen. refl) (λ same. ((at.0.0, same), at.1, at.2, at.3))
+      judged_now h due is at.0.0 (λ seen. refl) (λ same. ((at.0.0, (λ may. same)), at.1, at.2, at.3))
       (told_at (header_of parts) (link_came parts) h (failed cause.Revoked) a.link at.0.0)
   judged_at h opening is =
       let at = knows_at opening is in
-      judges h opening is at.0.0 (λ seen. refl) (λ same. ((at.0.0, same), at.1, at.2, at.3))
+      judged_now h opening is at.0.0 (λ seen. refl) (λ same. ((at.0.0, (λ may. same)), at.1, at.2, at.3))
       (told_at (header_of parts) (link_came parts) h (failed cause.Revoked) a.link at.0.0)
   judged_at h accepting is =
       let at = knows_at accepting is in
-      judges h accepting is at.0.0 (λ seen. refl) (λ same. ((at.0.0, same), at.1, at.2))
+      judged_now h accepting is at.0.0 (λ seen. refl) (λ same. ((at.0.0, (λ may. same)), at.1, at.2))
       (told_at (header_of parts) (link_came parts) h (failed cause.Revoked) a.link at.0.0)
   judged_at h live is =
       let at = knows_at live is in
-      judges h live is at.0.0 (λ seen. refl) (λ same. ((at.0.0, same), at.1))
+      judged_now h live is at.0.0 (λ seen. refl) (λ same. ((at.0.0, (λ may. same)), at.1))
       (told_at (header_of parts) (link_came parts) h (ended cause.Revoked) a.link at.0.0)
   judged_at h (failed why) is = unjudged h (failed why) is no_course (knows_at (failed why) is)
     where
@@ -718,6 +785,46 @@ module _ (l : ℕ) (start : Resources) (a : Local) (parts : List Part) (keeps : 
       no_course None = refl
       no_course (Some seen) = refl
 
+  -- where peers aren't judged it stays as it is
+  stays_known : (h : Resources) (stage : Stage) → a.link.stage ≡ stage → judges a.link.door ≡ false
+      → KnowsBy stage (header_of parts) (link_came parts) h a.link
+  stays_known h unborn is not = knows_at unborn is
+  stays_known h arriving is not = knows_at arriving is
+  stays_known h fronting is not = knows_at fronting is
+  stays_known h due is not =
+      let at = knows_at due is in ((at.0.0, (λ may. absurd (false≢true (sym not ∙ may)))), at.1, at.2, at.3)
+  stays_known h opening is not =
+      let at = knows_at opening is in ((at.0.0, (λ may. absurd (false≢true (sym not ∙ may)))), at.1, at.2, at.3)
+  stays_known h accepting is not =
+      let at = knows_at accepting is in ((at.0.0, (λ may. absurd (false≢true (sym not ∙ may)))), at.1, at.2)
+  stays_known h live is not = let at = knows_at live is in ((at.0.0, (λ may. absurd (false≢true (sym not ∙ may)))), at.1)
+  stays_known h (failed why) is not = knows_at (failed why) is
+  stays_known h (ended why) is not = knows_at (ended why) is
+  stays_known h (over why) is not = tt
+
+  update_moves : (r : Response) (judging : Bool) → judges a.link.door ≡ judging
+      → Moves parts a (applied r) (rejudged (after_response a.held r) a.link) (after_response a.held r)
+  update_moves r judging is = subst (λ (b : Bool). Moves parts a (applied r) (behind_it b) h) (sym is) (by judging is)
+    where
+      h : Resources
+      h = after_response a.held r
+
+      behind_it : Bool → Captured
+      behind_it b = cond (b && is_judged a.link.stage) (judged_by (judged h a.link.peer a.link.target) a.link) a.link
+
+      course_as : (b : Bool) → judges a.link.door ≡ b → course_by a.link.door h (header_of parts) (course_in a.link.stage) (applied r)
+          ≡ cond b (ends_at h (header_of parts) (course_in a.link.stage)) (course_in a.link.stage)
+      course_as b so = ap (λ (c : Bool). cond c (ends_at h (header_of parts) (course_in a.link.stage)) (course_in a.link.stage)) so
+
+      by : (b : Bool) → judges a.link.door ≡ b → Moves parts a (applied r) (behind_it b) h
+      by true so =
+          let now = judged_at h a.link.stage refl in
+          plain_moves (applied r) (behind_it true) h (plain_other (applied r) refl refl refl refl (λ t. refl))
+          (course_as true so ∙ now.course) now.noting now.knows now.up_held now.down_held
+      by false so =
+          plain_moves (applied r) a.link h (plain_other (applied r) refl refl refl refl (λ t. refl)) (course_as false so) refl
+          (stays_known h a.link.stage refl so) refl refl
+
   -- its end is noted
   left_as : (made : Option Note) (stage : Stage) (why : Cause) → a.link.stage ≡ stage → left_by stage ≡ over why
       → course_in stage ≡ sides.over why → sides.over why ≡ course_in (left_by stage)
@@ -729,10 +836,6 @@ module _ (l : ℕ) (start : Resources) (a : Local) (parts : List Part) (keeps : 
       (plain_moves (left made) y a.held (plain_other (left made) refl refl refl refl (λ t. refl))
       (ap course_in is ∙ course ∙ ap course_in (sym now)) (ap noting_in (sym now))
       (subst (λ (s : Stage). KnowsBy s (header_of parts) (link_came parts) a.held y) (sym now) tt) refl refl)
-
-  -- a destination that is dialled admits the peer
-  admits : (seen : Seen) → verdict_on a.held seen ≡ Dial seen.destination → judged a.held (peer_in seen) seen.destination ≡ Admitted
-  admits seen is = (only_where_it_may (Connect seen.destination) a.held (peer_in seen) false seen.destination is).admitted
 
   left_keeps : (made : Option Note) (stage : Stage) → a.link.stage ≡ stage → left_note l a.link stage made
       → Keeps start (next a (left made)) (parts ++ left made ∷ [])
@@ -762,24 +865,24 @@ module _ (l : ℕ) (start : Resources) (a : Local) (parts : List Part) (keeps : 
       moves_keep (misfronted fault)
       (ends_moves (misfronted fault) (cause.FrontFault (number_of fault))
       (plain_other (misfronted fault) refl refl refl refl (λ t. refl)) refl refl)
-  part_keeps (fronted seen) (at, is) =
-      moves_keep (fronted seen)
-      (header_moves (fronted seen) seen due at.0 at.1 refl refl refl refl (λ t. refl) refl refl
+  part_keeps (fronted seen to) (at, is) =
+      moves_keep (fronted seen to)
+      (header_moves (fronted seen to) seen to due at.0 at.1 refl refl refl refl (λ t. refl) refl refl
       (λ told. (
-        (told, admits seen is),
+        (told, (λ may. admits a.link.door a.held seen to may is)),
         (knows_at fronting at.0).no_up,
         (knows_at fronting at.0).shut,
         (knows_at fronting at.0).down_going,
       )))
-  part_keeps (refused seen status made) (at, refuses, noted) =
-      moves_keep (refused seen status made)
-      (header_moves (refused seen status made) seen (over (cause.Refused status)) at.0 at.1 refl refl refl refl (λ t. refl)
-      (ap (λ (s : Stage). sides.ends (cause.Refused status) (course_in s)) at.0) refl (λ told. tt))
+  part_keeps (refused seen why status made) (at, refuses, noted) =
+      moves_keep (refused seen why status made)
+      (header_moves (refused seen why status made) seen seen.destination (over why) at.0 at.1 refl refl refl refl (λ t. refl)
+      (ap (λ (s : Stage). sides.ends why (course_in s)) at.0) refl (λ told. tt))
   part_keeps (accepted made) (is, noted) =
       let at = knows_at accepting is in
       let y = at_stage live a.link in
       let knows : KnowsBy live (header_of parts) (link_came parts) a.held y =
-      (placed_same (header_of parts) (link_came parts) a.held a.link y refl refl at.0, at.1) in
+      (placed_same (header_of parts) (link_came parts) a.held a.link y refl refl refl at.0, at.1) in
       moves_keep (accepted made)
       (plain_moves (accepted made) y a.held (plain_other (accepted made) refl refl refl refl (λ t. refl)) refl refl knows refl refl)
   part_keeps (left made) noted = left_keeps made a.link.stage refl noted
@@ -788,11 +891,7 @@ module _ (l : ℕ) (start : Resources) (a : Local) (parts : List Part) (keeps : 
       (plain_moves (done made) (at_stage (over cause.Done) a.link) a.held (plain_other (done made) refl refl refl refl (λ t. refl))
       (ap (λ (s : Stage). sides.ends cause.Done (course_in s)) is) refl tt refl refl)
   part_keeps (applied r) may =
-      let h = after_response a.held r in
-      let is = judged_at h a.link.stage refl in
-      moves_keep (applied r)
-      (plain_moves (applied r) (rejudged h a.link) h (plain_other (applied r) refl refl refl refl (λ t. refl)) is.course is.noting is.knows
-      is.up_held is.down_held)
+      moves_keep (applied r) (update_moves r (judges a.link.door) refl)
   part_keeps (stopped why) may =
       moves_keep (stopped why) (ends_moves (stopped why) why (plain_other (stopped why) refl refl refl refl (λ t. refl)) refl refl)
 
@@ -800,6 +899,7 @@ first_keeps : (start : Resources) → Keeps start (record { held = start; link =
 first_keeps start = record {
   held = refl;
   tells = record {
+    door = refl;
     ended = refl;
     up_ended = refl;
     opened = refl;

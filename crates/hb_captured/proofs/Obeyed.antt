@@ -5,11 +5,11 @@ use Rattle.std.proofs.lemmas.Bool.Decides.{nat_tests}
 use Rattle.std.proofs.lemmas.List.{append-nil, nil_from_length}
 use Rattle.hb_base.specs.declared.cause.Cause.{Cause}
 use Rattle.hb_base.specs.declared.cause.Cause.TheVariants as cause
+use Rattle.hb_base.specs.declared.door.Door.{Door}
 use Rattle.hb_base.specs.declared.door.Why.{Why}
-use Rattle.hb_base.specs.declared.door.Why.TheVariants as whys
 use Rattle.hb_base.specs.declared.note.Note.{Note}
 use Rattle.hb_base.specs.declared.target.Target.{Target}
-use Rattle.hb_front.specs.Reading.{Answer, IsAnswer, Whole, More, Fault}
+use Rattle.hb_front.specs.Reading.{Answer, Seen, IsAnswer, Whole, More, Fault}
 use Rattle.hb_held.specs.Held.{Resources}
 use Rattle.hb_table.specs.Judgement.{judged}
 use Rattle.hb_tunnel.specs.Tunnel.{up_size, down_size}
@@ -18,17 +18,19 @@ use Rattle.hb_world.specs.declared.entry.Entry.{Entry}
 use Rattle.hb_world.specs.declared.entry.Entry.TheVariants as e
 use Rattle.hb_world.specs.declared.entry.Way.TheVariants as way
 use Rattle.hb_captured.specs.Access.{IsAdmitted, GoesAdmitted, AccessAt}
-use Rattle.hb_captured.specs.Captured.{Stage, unborn, arriving, fronting, due, opening, accepting, live, failed, ended, over, peer_in, may_shut_up, may_shut, is_through}
+use Rattle.hb_captured.specs.Answer.{answer_on, why_at}
+use Rattle.hb_captured.specs.Captured.{Stage, unborn, arriving, fronting, due, opening, accepting, live, failed, ended, over, judges, peer_in, may_shut_up, may_shut, is_through}
 use Rattle.hb_captured.specs.Calm.{IsCalmBy, IsIdleBy, room, wants_by, up_wants, up_wants_by}
 use Rattle.hb_captured.specs.Ends.{GoesOn, MayLack, LinkStands, UpStands, IsThrough, EndsAt}
 use Rattle.hb_captured.specs.Laws.{RunsRelay, RunsAdmit, RunsEnd, RunsAnswer, RunsNote, RunsSettle, RunsFitRings}
 use Rattle.hb_captured.specs.Notes.{Noting, answer, end_of_it, noting_of, IsVerdictNote, IsEndNote, FailsWith, Leaves, IsLeft, NotesAt}
 use Rattle.hb_captured.specs.Part.{Part, entry, up, welcomed, crowded, lacked, misfronted, fronted, refused, accepted, left, done, applied, stopped}
 use Rattle.hb_captured.specs.Relay.{ShutsUp, ShutsDown, LinkMayGo, UpMayGo, RelaysAt}
-use Rattle.hb_captured.specs.Runs.{Local, MayCome, UpMayCome, MayGo, IsAt, IsTried, IsReadable, IsDial, IsRefusal, Lacks, StandsFor, verdict_on, verdict_note, end_note, failure_status, note_of, left_note}
+use Rattle.hb_captured.specs.Runs.{Local, MayCome, UpMayCome, MayGo, IsAt, IsTried, IsReadable, IsDial, Lacks, StandsFor, verdict_note, end_note, failure_status, note_of, left_note}
 use Rattle.hb_captured.specs.Settled.{SettledBy, SettledWhere, SettledAt}
-use Rattle.hb_captured.specs.Sides.{Course, course_of, header_of, held, judged_in, link_came, link_went, raw_came, up_came, up_went, is_end, was_on_link, was_on_up}
+use Rattle.hb_captured.specs.Sides.{Course, course_of, door_of, header_of, held, judged_in, link_came, link_went, raw_came, up_came, up_went, is_end, was_on_link, was_on_up}
 use Rattle.hb_captured.specs.Verdicts.{IsDialOf, DialsAt, VerdictAt}
+use Rattle.hb_captured.proofs.Asked.{all_ask}
 use Rattle.hb_captured.proofs.Grown.{at_parts}
 use Rattle.hb_captured.proofs.Kept.{Keeps, all_keep}
 use Rattle.hb_captured.proofs.Stages.{course_in, noting_in, Told, KnowsBy}
@@ -140,8 +142,8 @@ module _ (l : ℕ) (start : Resources) (a : Local) (before : List Part) (stands 
   relays crowded may = tt
   relays lacked may = tt
   relays (misfronted fault) may = tt
-  relays (fronted seen) may = tt
-  relays (refused seen status made) may = tt
+  relays (fronted seen to) may = tt
+  relays (refused seen why status made) may = tt
   relays (accepted made) may = tt
   relays (left made) may = tt
   relays (done made) may = tt
@@ -150,15 +152,15 @@ module _ (l : ℕ) (start : Resources) (a : Local) (before : List Part) (stands 
 
   -- ACCESS
 
-  admitted : a.link.stage ≡ live → IsAdmitted start before
-  admitted is =
+  admitted : a.link.stage ≡ live → judges (door_of before) ≡ true → IsAdmitted start before
+  admitted is may =
       let at = (knows_at live is).0 in
       record {
         seen = at.0.seen;
         told = at.0.told;
         admitted = ap (λ (h : Resources). judged_in h at.0.seen) keeps.held
             ∙ ap (λ p. judged a.held p at.0.seen.destination) (sym at.0.peer)
-            ∙ ap (λ t. judged a.held a.link.peer t) (sym at.0.target) ∙ at.1;
+            ∙ ap (λ t. judged a.held a.link.peer t) (sym at.0.target) ∙ at.1 (sym (ap judges keeps.tells.door) ∙ may);
       }
 
   -- ENDS
@@ -255,8 +257,8 @@ module _ (l : ℕ) (start : Resources) (a : Local) (before : List Part) (stands 
   ends crowded may = course_at arriving may
   ends lacked may = lacks a.link.stage refl may
   ends (misfronted fault) may = course_at fronting may.0
-  ends (fronted seen) may = course_at fronting may.0.0
-  ends (refused seen status made) may = course_at fronting may.0.0
+  ends (fronted seen to) may = course_at fronting may.0.0
+  ends (refused seen why status made) may = course_at fronting may.0.0
   ends (accepted made) may = course_at accepting may.0
   ends (left made) may = tt
   ends (done made) may = (course_at live may.0, through may.1)
@@ -265,14 +267,12 @@ module _ (l : ℕ) (start : Resources) (a : Local) (before : List Part) (stands 
 
   -- VERDICTS
 
-  dials : (to : Target) (why : Why) → IsDial l a.link to → why ≡ whys.Plain l → IsDialOf l before to why
+  dials : (to : Target) (why : Why) → IsDial l a.link to → why ≡ why_at a.link.door l → IsDialOf l before to why
   dials to why may for_it =
       let at = knows_at due may.1 in
       record {
-        seen = at.0.0.seen;
-        told = at.0.0.told;
-        target = may.2 ∙ at.0.0.target;
-        for_it = for_it;
+        asked = all_ask l start a before stands may.1 ∙ ap (λ (t : Target). Some t) (sym may.2);
+        for_it = for_it ∙ ap (λ (d : Door). why_at d l) (sym keeps.tells.door);
         undialled = keeps.tells.up ∙ at.1;
       }
 
@@ -291,6 +291,12 @@ module _ (l : ℕ) (start : Resources) (a : Local) (before : List Part) (stands 
   up_answers e.Tick may = tt
   up_answers (e.Wait ready how) may = tt
 
+  -- a header gets the same by what the run tells
+  answer_is : (seen : Seen) → answer_on (door_of before) (held start before) seen ≡ answer_on a.link.door a.held seen
+  answer_is seen =
+      ap (λ (d : Door). answer_on d (held start before) seen) keeps.tells.door
+      ∙ ap (λ (h : Resources). answer_on a.link.door h seen) keeps.held
+
   answers : (p : Part) → MayGo l a p → VerdictAt l start before p
   answers (entry z) may = tt
   answers (up z) may = up_answers z may
@@ -298,12 +304,9 @@ module _ (l : ℕ) (start : Resources) (a : Local) (before : List Part) (stands 
   answers crowded may = tt
   answers lacked may = tt
   answers (misfronted fault) may = front_is (Fault fault) may.0 may.1
-  answers (fronted seen) may =
-      (front_is (Whole seen) may.0.0 may.0.1, ap (λ (h : Resources). verdict_on h seen) keeps.held ∙ may.1)
-  answers (refused seen status made) may = (
-    front_is (Whole seen) may.0.0 may.0.1,
-    subst (λ (h : Resources). IsRefusal h seen status) (sym keeps.held) may.1,
-  )
+  answers (fronted seen to) may =
+      (front_is (Whole seen) may.0.0 may.0.1, answer_is seen ∙ may.1)
+  answers (refused seen why status made) may = (front_is (Whole seen) may.0.0 may.0.1, answer_is seen ∙ may.1)
   answers (accepted made) may = keeps.tells.opened ∙ (knows_at accepting may.0).1
   answers (left made) may = tt
   answers (done made) may = tt
@@ -367,7 +370,7 @@ module _ (l : ℕ) (start : Resources) (a : Local) (before : List Part) (stands 
   leaves made (over why) is may = absurd may
 
   notes : (p : Part) → MayGo l a p → NotesAt start l before p
-  notes (refused seen status made) may = (noting_at fronting may.0.0, may.2)
+  notes (refused seen why status made) may = (noting_at fronting may.0.0, may.2)
   notes (accepted made) may = verdict_noted 200 made (noting_at accepting may.0) (knows_at accepting may.0).0.0 may.1
   notes (left made) may = leaves made a.link.stage refl may
   notes (done made) may = end_noted cause.Done made (noting_at live may.0) may.2
@@ -377,7 +380,7 @@ module _ (l : ℕ) (start : Resources) (a : Local) (before : List Part) (stands 
   notes crowded may = tt
   notes lacked may = tt
   notes (misfronted fault) may = tt
-  notes (fronted seen) may = tt
+  notes (fronted seen to) may = tt
   notes (applied r) may = tt
   notes (stopped why) may = tt
 
@@ -464,8 +467,8 @@ module _ (l : ℕ) (start : Resources) (a : Local) (before : List Part) (stands 
   settles crowded may = tt
   settles lacked may = tt
   settles (misfronted fault) may = tt
-  settles (fronted seen) may = tt
-  settles (refused seen status made) may = tt
+  settles (fronted seen to) may = tt
+  settles (refused seen why status made) may = tt
   settles (accepted made) may = tt
   settles (left made) may = tt
   settles (done made) may = tt
@@ -509,8 +512,8 @@ module _ (l : ℕ) (start : Resources) (a : Local) (before : List Part) (stands 
   admits crowded may = tt
   admits lacked may = tt
   admits (misfronted fault) may = tt
-  admits (fronted seen) may = tt
-  admits (refused seen status made) may = tt
+  admits (fronted seen to) may = tt
+  admits (refused seen why status made) may = tt
   admits (accepted made) may = tt
   admits (left made) may = tt
   admits (done made) may = tt

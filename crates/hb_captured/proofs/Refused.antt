@@ -1,5 +1,5 @@
 -- What the laws make of small runs.
-use Rattle.std.proofs.Common.{◌≡◌, ◌≢◌, inl, inr, ℕ, List, [], ◌∷◌, ◌++◌, length, drop, Some, None, refl, ap, sym, ◌∙◌, subst, arith}
+use Rattle.std.proofs.Common.{◌≡◌, ◌≢◌, ℕ, List, [], ◌∷◌, ◌++◌, length, drop, Some, None, refl, ap, sym, ◌∙◌, subst, arith}
 use Rattle.std.proofs.lemmas.Bool.{false≢true}
 use Rattle.std.proofs.lemmas.List.{append-nil}
 use Rattle.std.proofs.Math.Seq.{drop-append_seam}
@@ -8,27 +8,27 @@ use Rattle.hb_base.specs.declared.cause.Cause.TheVariants as cause
 use Rattle.hb_base.specs.declared.door.Door.TheVariants as door
 use Rattle.hb_base.specs.declared.door.Why.TheVariants as whys
 use Rattle.hb_base.specs.declared.peer.Peer.{Peer}
-use Rattle.hb_front.specs.Reading.{Seen}
 use Rattle.hb_held.specs.Outcome.{after_response}
 use Rattle.hb_table.specs.declared.judgement.Judged.{Judged}
 use Rattle.hb_table.specs.declared.judgement.Judged.TheVariants.{Admitted, Unknown, Denied}
-use Rattle.hb_verdict.specs.declared.verdict.Verdict.TheVariants.{Status, Dial}
 use Rattle.hb_world.specs.declared.entry.Entry.TheVariants as e
 use Rattle.hb_captured.specs.Access.{AccessAt}
+use Rattle.hb_captured.specs.Answer.{dials, refuses, by_verdict, verdict_on}
 use Rattle.hb_captured.specs.Captured.{peer_in}
 use Rattle.hb_captured.specs.Ends.{GoesOn, EndsAt}
 use Rattle.hb_captured.specs.Notes.{FailsWith, NotesAt}
 use Rattle.hb_captured.specs.Part.{Part, entry, up, welcomed, fronted, refused, accepted, left, done}
 use Rattle.hb_captured.specs.Refused.{dialled, lived, updated, WritesBehind, WritesBackBehind, ReadsBehind, ClosesForAnother, ClosesAdmitted, ShutsWaiting, ShutsEarly, ShutsBackWaiting, WritesHeader, CountsHeader, DropsFirst, DoneWaiting, KeepsIdentity, DialsElsewhere, DialsTwice, DialsUnasked, LeavesOutDial, InventsHeader, DialsRefused, RefusesAdmitted, NotesTwice, EndsUnaccepted, EndsTwice, ClosesUnnoted, LeavesOut502, TriesDone, LeavesOpen}
 use Rattle.hb_captured.specs.Relay.{RelaysAt}
-use Rattle.hb_captured.specs.Runs.{failure_status, IsRefusal}
+use Rattle.hb_captured.specs.Runs.{failure_status}
 use Rattle.hb_captured.specs.Settled.{SettledAt}
 use Rattle.hb_captured.specs.Sides as sides
 use Rattle.hb_captured.specs.Sides.{lives, ends_judged, judged_in, AtEach}
 use Rattle.hb_captured.specs.Verdicts.{VerdictAt}
+use Rattle.hb_captured.proofs.Answer.{dial_of}
 
 -- the law at the last place
-last : (P : List Part → Part → Type 0) (before : List Part) (p : Part) → AtEach P (before ++ p ∷ []) → P before p
+pub last : (P : List Part → Part → Type 0) (before : List Part) (p : Part) → AtEach P (before ++ p ∷ []) → P before p
 last P before p each = each before p [] refl
 
 -- behind an update that no longer admits it
@@ -39,13 +39,13 @@ judged_ends Denied not = refl
 
 pub writes_behind : WritesBehind
 writes_behind start bytes seen note r byte not law =
-    let at = last (AccessAt start) (updated bytes seen note r) (up (e.Went 3 (byte ∷ []))) law in
+    let at = last (AccessAt start) (updated bytes seen note r) (up (e.Went 3 (byte ∷ []))) law refl in
     let same : seen ≡ at.seen = (let told : Some seen ≡ Some at.seen = at.told in cc) in
     not (ap (judged_in (after_response start r)) same ∙ at.admitted)
 
 pub writes_back_behind : WritesBackBehind
 writes_back_behind start bytes seen note r byte not law =
-    let at = last (AccessAt start) (updated bytes seen note r) (entry (e.Went 2 (byte ∷ []))) law in
+    let at = last (AccessAt start) (updated bytes seen note r) (entry (e.Went 2 (byte ∷ []))) law refl in
     let same : seen ≡ at.seen = (let told : Some seen ≡ Some at.seen = at.told in cc) in
     not (ap (judged_in (after_response start r)) same ∙ at.admitted)
 
@@ -120,9 +120,10 @@ keeps_identity start bytes seen who law =
 
 pub dials_elsewhere : DialsElsewhere
 dials_elsewhere start bytes seen to not law =
-    let at = last (VerdictAt 2 start) (entry (e.Came 2 bytes) ∷ fronted seen ∷ []) (up (e.Dialled 3 to (whys.Plain 2))) law in
-    let same : seen ≡ at.0.seen = (let told : Some seen ≡ Some at.0.seen = at.0.told in cc) in
-    not (ap (λ (s : Seen). s.destination) same ∙ sym at.0.target)
+    let at = last (VerdictAt 2 start) (entry (e.Came 2 bytes) ∷ fronted seen seen.destination ∷ [])
+    (up (e.Dialled 3 to (whys.Plain 2))) law in
+    let asked : Some seen.destination ≡ Some to = at.0.asked in
+    not (cc)
 
 pub dials_twice : DialsTwice
 dials_twice start bytes seen law =
@@ -136,24 +137,23 @@ dials_unasked start to law =
 
 pub leaves_out_dial : LeavesOutDial
 leaves_out_dial start bytes more seen law =
-    (last (SettledAt start) (entry (e.Accepted 2 door.Plain) ∷ welcomed ∷ entry (e.Came 2 bytes) ∷ fronted seen ∷ [])
+    (last (SettledAt start) (entry (e.Accepted 2 door.Plain) ∷ welcomed ∷ entry (e.Came 2 bytes) ∷ fronted seen seen.destination ∷ [])
     (entry (e.Came 2 more)) law).0 refl
 
 pub invents_header : InventsHeader
 invents_header start seen law =
-    let at = last (VerdictAt 2 start) (entry (e.Accepted 2 door.Plain) ∷ welcomed ∷ []) (fronted seen) law in
+    let at = last (VerdictAt 2 start) (entry (e.Accepted 2 door.Plain) ∷ welcomed ∷ []) (fronted seen seen.destination) law in
     let none = at.0.4 in absurd (cc)
 
 pub dials_refused : DialsRefused
-dials_refused start bytes seen not law = not (last (VerdictAt 2 start) (entry (e.Came 2 bytes) ∷ []) (fronted seen) law).1
+dials_refused start bytes seen not law =
+    not (dial_of (verdict_on start seen) seen.destination
+    (last (VerdictAt 2 start) (entry (e.Came 2 bytes) ∷ []) (fronted seen seen.destination) law).1)
 
 pub refuses_admitted : RefusesAdmitted
 refuses_admitted start bytes seen note is law =
-    by (last (VerdictAt 2 start) (entry (e.Came 2 bytes) ∷ []) (refused seen 404 note) law).1
-  where
-    by : IsRefusal start seen 404 → ⊥
-    by (inl status) = (let both : Dial seen.destination ≡ Status 404 = sym is ∙ status in cc)
-    by (inr dials) = absurd (omega (arith, dials.1))
+    let at = last (VerdictAt 2 start) (entry (e.Came 2 bytes) ∷ []) (refused seen (cause.Refused 404) 404 note) law in
+    let both : dials seen.destination ≡ refuses (cause.Refused 404) 404 = sym (ap by_verdict is) ∙ at.1 in cc
 
 pub notes_twice : NotesTwice
 notes_twice start bytes seen note again law =

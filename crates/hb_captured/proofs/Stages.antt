@@ -1,6 +1,8 @@
 -- How far a link is, in the words of the trace and of the machine; and what is known of it at each stage.
-use Rattle.std.proofs.Common.{◌≡◌, ◌≢◌, ℕ, ◌≤◌, ◌||◌, ◌+◌, Bool, true, false, cond, List, [], ◌∷◌, ◌++◌, fold, length, Option, Some, None, refl, ap, sym, ◌∙◌, arith}
+use Rattle.std.proofs.Common.{◌≡◌, ◌≢◌, ℕ, ◌≤◌, ◌||◌, ◌&&◌, ◌+◌, Bool, true, false, cond, List, [], ◌∷◌, ◌++◌, fold, length, Option, Some, None, refl, ap, sym, ◌∙◌, arith}
 use Rattle.hb_base.specs.declared.cause.Cause.{Cause}
+use Rattle.hb_base.specs.declared.door.Door.{Door}
+use Rattle.hb_base.specs.declared.door.Door.TheVariants as door
 use Rattle.hb_front.specs.Reading.{Seen}
 use Rattle.hb_held.specs.Held.{Resources}
 use Rattle.hb_table.specs.Judgement.{judged}
@@ -8,12 +10,12 @@ use Rattle.hb_table.specs.declared.judgement.Judged.{Judged}
 use Rattle.hb_table.specs.declared.judgement.Judged.TheVariants.{Admitted, Unknown, Denied}
 use Rattle.hb_world.specs.declared.entry.Entry.TheVariants as e
 use Rattle.hb_captured.specs.Calm.{longest_front}
-use Rattle.hb_captured.specs.Captured.{Captured, Stage, unborn, arriving, fronting, due, opening, accepting, live, failed, ended, over, at_stage, is_judged, ends_by, peer_in, came_by, judged_by}
+use Rattle.hb_captured.specs.Captured.{Captured, Stage, unborn, arriving, fronting, due, opening, accepting, live, failed, ended, over, at_stage, judges, is_judged, ends_by, peer_in, came_by, judged_by}
 use Rattle.hb_captured.specs.Notes.{Noting, no_note, answer, end_of_it}
 use Rattle.hb_captured.specs.Part.{Part, entry, up, welcomed, crowded, lacked, misfronted, fronted, refused, accepted, left, done, applied, stopped}
 use Rattle.hb_captured.specs.Runs.{Local, next}
 use Rattle.hb_captured.specs.Sides as sides
-use Rattle.hb_captured.specs.Sides.{Course, pending, lives, ends, hangs_up, ends_judged, ends_at, judged_in, Known, known, known_by, course_by, course_of, held, held_by, header_of, header_by, is_end, is_opening, is_shut, is_close, on_link, on_up, up_in, up_went_in, went_in}
+use Rattle.hb_captured.specs.Sides.{Course, pending, lives, ends, hangs_up, ends_judged, ends_at, judged_in, Known, known, known_by, course_by, course_of, door_of, door_by, held, held_by, header_of, header_by, is_end, is_opening, is_shut, is_close, on_link, on_up, up_in, up_went_in, went_in}
 use Rattle.hb_captured.proofs.Grown.{fold_one}
 
 -- THE WORDS OF THE TRACE FOR A STAGE
@@ -60,9 +62,9 @@ pub record Told (header : Option Seen) (came : List ℕ) (x : Captured) : Type 0
   pub peer : x.peer ≡ peer_in seen
   pub target : x.target ≡ seen.destination
 
--- and the peer is admitted
+-- and where peers are judged, this one is admitted
 abbrev pub Placed : Option Seen → List ℕ → Resources → Captured → Type 0
-Placed told came h x = Told told came x × (judged h x.peer x.target ≡ Admitted)
+Placed told came h x = Told told came x × (judges x.door ≡ true → judged h x.peer x.target ≡ Admitted)
 
 abbrev pub KnowsBy : Stage → Option Seen → List ℕ → Resources → Captured → Type 0
 KnowsBy unborn told came h x = Early told came x
@@ -135,6 +137,10 @@ module _ (told : Option Seen) (came : List ℕ) (h : Resources) where
 
 -- WHAT THE TRACE SAYS OF ONE PART MORE
 
+door_known : (k : Known) (parts : List Part) → (fold known_by k parts).door ≡ fold door_by k.door parts
+door_known k [] = refl
+door_known k (p ∷ parts) = door_known (known_by k p) parts
+
 held_known : (k : Known) (parts : List Part) → (fold known_by k parts).held ≡ fold held_by k.held parts
 held_known k [] = refl
 held_known k (p ∷ parts) = held_known (known_by k p) parts
@@ -144,18 +150,21 @@ header_known k [] = refl
 header_known k (p ∷ parts) = header_known (known_by k p) parts
 
 pub course_one : (start : Resources) (parts : List Part) (p : Part)
-    → course_of start (parts ++ p ∷ []) ≡ course_by (held_by (held start parts) p) (header_of parts) (course_of start parts) p
+    → course_of start (parts ++ p ∷ [])
+    ≡ course_by (door_of parts) (held_by (held start parts) p) (header_of parts) (course_of start parts) p
 course_one start parts p =
-    let first : Known = record { held = start; header = None; course = sides.unborn } in
+    let first : Known = record { door = door.Plain; held = start; header = None; course = sides.unborn } in
     let k = known start parts in
     ap (λ (j : Known). j.course) (fold_one known_by first parts p)
-    ∙ ap (λ (h : Resources). course_by (held_by h p) k.header k.course p) (held_known first parts)
-    ∙ ap (λ (t : Option Seen). course_by (held_by (held start parts) p) t k.course p) (header_known first parts)
+    ∙ ap (λ (d : Door). course_by d (held_by k.held p) k.header k.course p) (door_known first parts)
+    ∙ ap (λ (h : Resources). course_by (door_of parts) (held_by h p) k.header k.course p) (held_known first parts)
+    ∙ ap (λ (t : Option Seen). course_by (door_of parts) (held_by (held start parts) p) t k.course p) (header_known first parts)
 
--- A FLAG OR A NUMBER OF THE LINK, BEHIND ONE PART MORE
+-- THE DOOR, A FLAG OR A NUMBER OF THE LINK, BEHIND ONE PART MORE
 
--- the flags and numbers that a run tells
+-- the door, the flags and the numbers that a run tells
 pub record Marks : Type 0 where
+  pub door : Door
   pub ended : Bool
   pub up_ended : Bool
   pub opened : Bool
@@ -168,6 +177,7 @@ pub record Marks : Type 0 where
 
 abbrev pub marks_in : Captured → Marks
 marks_in x = record {
+  door = x.door;
   ended = x.ways.up.has_ended;
   up_ended = x.ways.down.has_ended;
   opened = x.ways.is_open;
@@ -190,6 +200,7 @@ adds_all n (b ∷ bytes) = refl
 
 abbrev pub marks_by : Marks → Part → Marks
 marks_by m p = record {
+  door = door_by m.door p;
   ended = on_link is_end p || m.ended;
   up_ended = on_up is_end p || m.up_ended;
   opened = on_up is_opening p || m.opened;
@@ -252,13 +263,13 @@ marks_next a welcomed = refl
 marks_next a crowded = refl
 marks_next a lacked = refl
 marks_next a (misfronted fault) = refl
-marks_next a (fronted seen) = refl
-marks_next a (refused seen status made) = refl
+marks_next a (fronted seen to) = refl
+marks_next a (refused seen why status made) = refl
 marks_next a (accepted made) = refl
 marks_next a (left made) = refl
 marks_next a (done made) = refl
 marks_next a (applied r) =
-    judged_marks (is_judged a.link.stage) (judged (held_by a.held (applied r)) a.link.peer a.link.target) a.link
+    judged_marks (judges a.link.door && is_judged a.link.stage) (judged (held_by a.held (applied r)) a.link.peer a.link.target) a.link
 marks_next a (stopped cause) = refl
 
 pub held_next : (a : Local) (p : Part) → (next a p).held ≡ held_by a.held p
@@ -268,8 +279,8 @@ held_next a welcomed = refl
 held_next a crowded = refl
 held_next a lacked = refl
 held_next a (misfronted fault) = refl
-held_next a (fronted seen) = refl
-held_next a (refused seen status made) = refl
+held_next a (fronted seen to) = refl
+held_next a (refused seen why status made) = refl
 held_next a (accepted made) = refl
 held_next a (left made) = refl
 held_next a (done made) = refl

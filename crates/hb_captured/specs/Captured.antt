@@ -1,8 +1,10 @@
--- A captured link of the plain door as a machine: a front header, then raw bytes both ways between it and its upstream. The link and its
--- one tunnel are one thing: the tunnel is there from the link's birth, and both links are closed where it ends.
+-- A captured link as a machine, of the plain door or of the outbound one: a front header, then raw bytes both ways between it and its
+-- upstream. The link and its one tunnel are one thing: the tunnel is there from the link's birth, and both links are closed where it ends.
 use Rattle.std.specs.Prelude.{ℕ, ◌+◌, if◌then◌else◌, Bool, true, false, ◌&&◌, not, List, [], ◌++◌, length, drop, None}
 use Rattle.hb_base.specs.declared.cause.Cause.{Cause}
 use Rattle.hb_base.specs.declared.cause.Cause.TheVariants as cause
+use Rattle.hb_base.specs.declared.door.Door.{Door}
+use Rattle.hb_base.specs.declared.door.Door.TheVariants as door
 use Rattle.hb_base.specs.declared.ip.Ip.TheVariants.{V4}
 use Rattle.hb_base.specs.declared.peer.Peer.{Peer}
 use Rattle.hb_base.specs.declared.target.Target.{Target}
@@ -36,12 +38,16 @@ pub data Stage : Type 0 where
   over : Cause → Stage
 
 pub record Captured : Type 0 where
+  -- the door at which it was accepted
+  pub door : Door
   pub stage : Stage
   -- the bytes that came of its front header
   pub front : List ℕ
   -- what the header told: who the peer is, without an identity, and where to
   pub peer : Peer
   pub target : Target
+  -- the address that is dialled for it
+  pub address : Target
   -- the number of its upstream, 0 before that is dialled and behind its close
   pub up : ℕ
   -- the bytes that wait on each way, and which way has ended: up, from the link to its upstream, by the link's end; down, by the upstream's
@@ -58,10 +64,12 @@ pub record Captured : Type 0 where
 -- before its birth
 abbrev pub no_link : Captured
 no_link = record {
+  door = door.Plain;
   stage = unborn;
   front = [];
   peer = record { ip = V4 0; identity = None };
   target = record { ip = V4 0; port = 0 };
+  address = record { ip = V4 0; port = 0 };
   up = 0;
   ways = dialling;
   went_up = 0;
@@ -74,7 +82,12 @@ no_link = record {
 abbrev pub at_stage : Stage → Captured → Captured
 at_stage stage x = record x { stage = stage }
 
--- it has a place among the tunnels that are judged: it is pending, its header whole, or live
+-- peers are judged at the plain door; who goes out by the outbound one isn't
+abbrev pub judges : Door → Bool
+judges door.Outbound = false
+judges _ = true
+
+-- it has a tunnel that may be judged: it is pending, its header whole, or live
 abbrev pub is_judged : Stage → Bool
 is_judged due = true
 is_judged opening = true
@@ -101,13 +114,14 @@ ends_for cause x = at_stage (ends_by cause x.stage) x
 abbrev pub peer_in : Seen → Peer
 peer_in seen = record { ip = seen.source.ip; identity = None }
 
--- it is whole: it tells the peer and where to, and the bytes behind it go up
-abbrev pub fronted_by : Seen → Stage → Captured → Captured
-fronted_by seen stage x = record x {
+-- it is whole: it tells the peer and where to, for which this address is dialled, and the bytes behind it go up
+abbrev pub fronted_by : Seen → Target → Stage → Captured → Captured
+fronted_by seen to stage x = record x {
   stage = stage;
   front = [];
   peer = peer_in seen;
   target = seen.destination;
+  address = to;
   ways = record x.ways { up = after x.ways.up (pushes (drop seen.length x.front)) };
 }
 
@@ -125,7 +139,7 @@ hung_up stage = stage
 
 -- what an entry of the link makes of it
 abbrev pub entered : Entry → Captured → Captured
-entered (e.Accepted l d) x = at_stage arriving x
+entered (e.Accepted l d) x = record x { door = d; stage = arriving }
 entered (e.Came l bytes) x = came_by x.stage bytes x
 entered (e.Ended l) x = record x { stage = hung_up x.stage; ways = record x.ways { up = after x.ways.up ends } }
 entered (e.Went l bytes) x = record x {
@@ -161,13 +175,13 @@ left_by (failed cause) = over cause
 left_by (ended cause) = over cause
 left_by stage = stage
 
--- an update: it ends where it is judged, and no longer admitted
+-- an update: it ends where its peer is judged, and no longer admitted
 abbrev pub judged_by : Judged → Captured → Captured
 judged_by Admitted x = x
 judged_by _ x = ends_for cause.Revoked x
 
 abbrev pub rejudged : Resources → Captured → Captured
-rejudged held x = if is_judged x.stage then judged_by (judged held x.peer x.target) x else x
+rejudged held x = if judges x.door && is_judged x.stage then judged_by (judged held x.peer x.target) x else x
 
 -- the sending side of the upstream, or of the link, may be shut: the other one has ended, and all that came of it is written
 abbrev pub may_shut_up : Captured → Bool

@@ -1,5 +1,5 @@
--- The end law: the link and its tunnel end for the first cause that applies, by an update exactly where that no longer admits the peer.
--- Behind the end nothing stands but the close of either link, once, for that cause.
+-- The end law: the link and its tunnel end for the first cause that applies, by an update exactly where peers are judged and that no
+-- longer admits this one. Behind the end nothing stands but the close of either link, once, for that cause.
 use Rattle.std.specs.Prelude.{⊤, ◌≡◌, ◌⊎◌, ◌<◌, ℕ, true, false, List}
 use Rattle.hb_front.specs.Reading.{Seen, IsAnswer, Whole}
 use Rattle.hb_held.specs.Held.{Resources}
@@ -74,8 +74,8 @@ EndsAt l start before welcomed = course_of start before ≡ arriving
 EndsAt l start before crowded = course_of start before ≡ arriving
 EndsAt l start before lacked = MayLack (course_of start before) before
 EndsAt l start before (misfronted fault) = course_of start before ≡ fronting
-EndsAt l start before (fronted seen) = course_of start before ≡ fronting
-EndsAt l start before (refused seen status note) = course_of start before ≡ fronting
+EndsAt l start before (fronted seen to) = course_of start before ≡ fronting
+EndsAt l start before (refused seen why status note) = course_of start before ≡ fronting
 EndsAt l start before (accepted note) = course_of start before ≡ pending
 EndsAt l start before (done note) = (course_of start before ≡ lives) × IsThrough before
 EndsAt l start before _ = ⊤

@@ -1,9 +1,12 @@
 pub mod Access
+pub mod Answer
 pub mod Calm
 pub mod Captured
 pub mod Ends
 pub mod Laws
 pub mod Notes
+pub mod OutboundRefused
+pub mod OutboundRows
 pub mod Part
 pub mod Refused
 pub mod Relay

@@ -17,9 +17,9 @@ pub data Noting : Type 0 where
   end_of_it : Noting
 
 abbrev pub noting_by : Noting → Part → Noting
-noting_by noting (fronted seen) = answer
+noting_by noting (fronted seen to) = answer
 noting_by noting (accepted note) = end_of_it
-noting_by noting (refused seen status note) = no_note
+noting_by noting (refused seen why status note) = no_note
 noting_by noting (left made) = no_note
 noting_by noting (done note) = no_note
 noting_by noting part = noting
@@ -57,7 +57,7 @@ pub record IsLeft (start : Resources) (l : ℕ) (before : List Part) (made : Opt
   pub leaves : Leaves l before why (noting_of before) made
 
 abbrev pub NotesAt : Resources → ℕ → List Part → Part → Type 0
-NotesAt start l before (refused seen status made) =
+NotesAt start l before (refused seen why status made) =
     (noting_of before ≡ no_note) × (made ≡ verdict_note l status (peer_in seen) seen.destination)
 NotesAt start l before (accepted made) = IsVerdictNote l before 200 made
 NotesAt start l before (left made) = IsLeft start l before made

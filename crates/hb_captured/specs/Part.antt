@@ -1,9 +1,10 @@
--- What happens to one captured link of the plain door, in order: entries of its own and of its upstream, what follows by itself, and what
+-- What happens to one captured link, in order: entries of its own and of its upstream, what follows by itself, and what
 -- others do to it.
 use Rattle.std.specs.Prelude.{ℕ, List, [], ◌∷◌, Option, Some, None}
 use Rattle.std.specs.List.{flat_map}
 use Rattle.hb_base.specs.declared.cause.Cause.{Cause}
 use Rattle.hb_base.specs.declared.note.Note.{Note}
+use Rattle.hb_base.specs.declared.target.Target.{Target}
 use Rattle.hb_disco.specs.declared.response.Response.{Response}
 use Rattle.hb_front.specs.Reading.{Seen}
 use Rattle.hb_front.specs.declared.fault.FrontFault.{FrontFault}
@@ -18,10 +19,11 @@ pub data Part : Type 0 where
   crowded : Part
   -- memory is wanting for the link: at its birth, or where its front header is whole
   lacked : Part
-  -- the front header has a fault; or it is whole, and its destination is to be dialled, or refused with this status
+  -- the front header has a fault; or it is whole, and this address is to be dialled, or the link is refused for this cause, with this
+  -- status
   misfronted : FrontFault → Part
-  fronted : Seen → Part
-  refused : Seen → (status : ℕ) → Note → Part
+  fronted : Seen → Target → Part
+  refused : Seen → Cause → (status : ℕ) → Note → Part
   -- the upstream is open, of which this note is made
   accepted : Note → Part
   -- a tunnel ended; a note is made of it, but of one that was pending only where it has a status
@@ -47,7 +49,7 @@ note_if None = []
 note_if (Some note) = note ∷ []
 
 abbrev pub note_in : Part → List Note
-note_in (refused seen status note) = note ∷ []
+note_in (refused seen why status note) = note ∷ []
 note_in (accepted note) = note ∷ []
 note_in (left note) = note_if note
 note_in (done note) = note ∷ []

@@ -2,8 +2,8 @@
 use Rattle.std.specs.Prelude.{⊤, ◌≡◌, ◌≢◌, ◌⊎◌, ℕ, ◌^◌, ◌-◌, ◌<◌, ◌≤◌, true, false, List, [], ◌∷◌, ◌++◌, length, min, Option, Some, None}
 use Rattle.hb_base.specs.declared.cause.Cause.{Cause}
 use Rattle.hb_base.specs.declared.cause.Cause.TheVariants as cause
+use Rattle.hb_base.specs.declared.door.Door.{Door}
 use Rattle.hb_base.specs.declared.door.Door.TheVariants as door
-use Rattle.hb_base.specs.declared.door.Why.TheVariants as whys
 use Rattle.hb_base.specs.declared.note.Note.{Note}
 use Rattle.hb_base.specs.declared.note.Note.TheVariants as note
 use Rattle.hb_base.specs.declared.peer.Peer.{Peer}
@@ -13,13 +13,10 @@ use Rattle.hb_front.specs.Faults.{number_of}
 use Rattle.hb_front.specs.Reading.{Seen, IsAnswer, Whole, Fault}
 use Rattle.hb_held.specs.Held.{Resources}
 use Rattle.hb_held.specs.Outcome.{after_response}
-use Rattle.hb_verdict.specs.Verdict.{verdict}
-use Rattle.hb_verdict.specs.declared.request.Request.TheVariants.{Connect}
-use Rattle.hb_verdict.specs.declared.verdict.Verdict.{Verdict}
-use Rattle.hb_verdict.specs.declared.verdict.Verdict.TheVariants.{Status, Dial}
 use Rattle.hb_world.specs.declared.entry.Entry.{Entry}
 use Rattle.hb_world.specs.declared.entry.Entry.TheVariants as e
 use Rattle.hb_world.specs.declared.entry.Way.TheVariants as way
+use Rattle.hb_captured.specs.Answer.{dials, refuses, answer_on, why_at}
 use Rattle.hb_captured.specs.Calm.{wants, up_wants, output, up_output, IsCalm, IsQuiet}
 use Rattle.hb_captured.specs.Captured.{Captured, Stage, unborn, arriving, fronting, due, opening, accepting, live, failed, ended, over, no_link, at_stage, ends_for, peer_in, fronted_by, entered, up_entered, left_by, rejudged, may_shut_up, may_shut, is_through}
 use Rattle.hb_captured.specs.Part.{Part, entry, up, welcomed, crowded, lacked, misfronted, fronted, refused, accepted, left, done, applied, stopped}
@@ -53,9 +50,14 @@ AreFirst bytes held = (0 < length bytes) × ((rest : List ℕ) × (held ≡ byte
 abbrev pub MayRead : List ℕ → ℕ → Type 0
 MayRead bytes most = AreOctets bytes × (0 < length bytes) × (length bytes ≤ most)
 
+-- the doors at which a captured link may come
+abbrev pub Captures : Door → Type 0
+Captures door.Inbound = ⊥
+Captures _ = ⊤
+
 -- which entry may come on the link l; a call that moves nothing comes where one may come that moves something
 abbrev pub MayCome : ℕ → Captured → Entry → Type 0
-MayCome l x (e.Accepted k d) = (k ≡ l) × (x.stage ≡ unborn) × (d ≡ door.Plain)
+MayCome l x (e.Accepted k d) = (k ≡ l) × (x.stage ≡ unborn) × Captures d
 MayCome l x (e.Came k bytes) = (k ≡ l) × IsReadable x × MayRead bytes (wants x)
 MayCome l x (e.Ended k) = (k ≡ l) × IsReadable x
 MayCome l x (e.Went k bytes) = (k ≡ l) × IsAt live x × AreFirst bytes (output x)
@@ -72,14 +74,14 @@ MayCome l x _ = ⊥
 abbrev pub IsUp : Stage → ℕ → Captured → Type 0
 IsUp stage u x = IsAt stage x × (x.up ≡ u)
 
--- a dial that is due is made, of the destination, for the link
+-- a dial that is due is made, of the address, for the link
 abbrev pub IsDial : ℕ → Captured → Target → Type 0
-IsDial l x to = IsCalm x × (x.stage ≡ due) × (to ≡ x.target)
+IsDial l x to = IsCalm x × (x.stage ≡ due) × (to ≡ x.address)
 
 -- which entry may come on the upstream of the link l
 abbrev pub UpMayCome : ℕ → Captured → Entry → Type 0
-UpMayCome l x (e.Dialled u to why) = IsDial l x to × (why ≡ whys.Plain l) × (0 < u) × (u ≢ l)
-UpMayCome l x (e.DialFailed to why) = IsDial l x to × (why ≡ whys.Plain l)
+UpMayCome l x (e.Dialled u to why) = IsDial l x to × (why ≡ why_at x.door l) × (0 < u) × (u ≢ l)
+UpMayCome l x (e.DialFailed to why) = IsDial l x to × (why ≡ why_at x.door l)
 UpMayCome l x (e.Opened u) = IsUp opening u x
 UpMayCome l x (e.Came u bytes) = IsUp live u x × MayRead bytes (up_wants x)
 UpMayCome l x (e.Ended u) = IsUp live u x × (0 < up_wants x)
@@ -92,16 +94,7 @@ UpMayCome l x (e.Balked (way.Read u)) = IsUp live u x × (0 < up_wants x)
 UpMayCome l x (e.Balked (way.Write u)) = IsUp live u x × (0 < length (up_output x))
 UpMayCome l x _ = ⊥
 
--- THE VERDICT AND THE NOTES
-
--- what the destination of a front header is answered, by what is held. A captured link has its place from its birth
-abbrev pub verdict_on : Resources → Seen → Verdict
-verdict_on held seen = verdict (Connect seen.destination) held (peer_in seen) false
-
--- its refusal has this status: that of the verdict, or 500 in the place of a dial for which memory is wanting
-abbrev pub IsRefusal : Resources → Seen → ℕ → Type 0
-IsRefusal held seen status =
-    (verdict_on held seen ≡ Status status) ⊎ ((verdict_on held seen ≡ Dial seen.destination) × (status ≡ 500))
+-- THE NOTES
 
 -- a count of bytes stops at 2^64 - 1
 abbrev pub counted : ℕ → ℕ
@@ -148,9 +141,10 @@ MayGo l a welcomed = a.link.stage ≡ arriving
 MayGo l a crowded = a.link.stage ≡ arriving
 MayGo l a lacked = Lacks a.link.stage a.link
 MayGo l a (misfronted fault) = (a.link.stage ≡ fronting) × IsAnswer a.link.front (Fault fault)
-MayGo l a (fronted seen) = IsFronted a.link seen × (verdict_on a.held seen ≡ Dial seen.destination)
-MayGo l a (refused seen status made) =
-    IsFronted a.link seen × IsRefusal a.held seen status × (made ≡ verdict_note l status (peer_in seen) seen.destination)
+MayGo l a (fronted seen to) = IsFronted a.link seen × (answer_on a.link.door a.held seen ≡ dials to)
+MayGo l a (refused seen why status made) =
+    IsFronted a.link seen × (answer_on a.link.door a.held seen ≡ refuses why status)
+    × (made ≡ verdict_note l status (peer_in seen) seen.destination)
 MayGo l a (accepted made) = (a.link.stage ≡ accepting) × (made ≡ verdict_note l 200 a.link.peer a.link.target)
 MayGo l a (left made) = left_note l a.link a.link.stage made
 MayGo l a (done made) =
@@ -166,8 +160,8 @@ next_link x welcomed = at_stage fronting x
 next_link x crowded = ends_for cause.NoRoom x
 next_link x lacked = ends_for cause.NoMemory x
 next_link x (misfronted fault) = ends_for (cause.FrontFault (number_of fault)) x
-next_link x (fronted seen) = fronted_by seen due x
-next_link x (refused seen status made) = fronted_by seen (over (cause.Refused status)) x
+next_link x (fronted seen to) = fronted_by seen to due x
+next_link x (refused seen why status made) = fronted_by seen seen.destination (over why) x
 next_link x (accepted made) = at_stage live x
 next_link x (left made) = at_stage (left_by x.stage) x
 next_link x (done made) = at_stage (over cause.Done) x

@@ -1,8 +1,11 @@
 -- What a run says of its two sides, of what is held, and of how far the link is: the first cause that applies ends it.
-use Rattle.std.specs.Prelude.{◌≡◌, ℕ, ◌||◌, Bool, true, false, fold, List, [], ◌∷◌, ◌++◌, drop, Option, Some, None}
+use Rattle.std.specs.Prelude.{◌≡◌, ℕ, if◌then◌else◌, ◌||◌, Bool, true, false, fold, List, [], ◌∷◌, ◌++◌, drop, Option, Some, None}
 use Rattle.std.specs.List.{flat_map}
 use Rattle.hb_base.specs.declared.cause.Cause.{Cause}
 use Rattle.hb_base.specs.declared.cause.Cause.TheVariants as cause
+use Rattle.hb_base.specs.declared.door.Door.{Door}
+use Rattle.hb_base.specs.declared.door.Door.TheVariants as door
+use Rattle.hb_base.specs.declared.target.Target.{Target}
 use Rattle.hb_front.specs.Faults.{number_of}
 use Rattle.hb_front.specs.Reading.{Seen}
 use Rattle.hb_held.specs.Held.{Resources}
@@ -12,8 +15,21 @@ use Rattle.hb_table.specs.declared.judgement.Judged.{Judged}
 use Rattle.hb_table.specs.declared.judgement.Judged.TheVariants.{Admitted}
 use Rattle.hb_world.specs.declared.entry.Entry.{Entry}
 use Rattle.hb_world.specs.declared.entry.Entry.TheVariants as e
-use Rattle.hb_captured.specs.Captured.{peer_in}
+use Rattle.hb_captured.specs.Captured.{peer_in, judges}
 use Rattle.hb_captured.specs.Part.{Part, entry, up, welcomed, crowded, lacked, misfronted, fronted, refused, accepted, left, done, applied, stopped}
+
+-- THE DOOR at which it was accepted
+
+abbrev pub door_entry : Door → Entry → Door
+door_entry door (e.Accepted l d) = d
+door_entry door _ = door
+
+abbrev pub door_by : Door → Part → Door
+door_by door (entry e) = door_entry door e
+door_by door _ = door
+
+abbrev pub door_of : List Part → Door
+door_of parts = fold door_by door.Plain parts
 
 -- BYTES
 
@@ -58,14 +74,22 @@ up_went parts = flat_map up_went_in parts
 
 -- what the front header told, once it is whole
 abbrev pub header_by : Option Seen → Part → Option Seen
-header_by told (fronted seen) = Some seen
-header_by told (refused seen status note) = Some seen
+header_by told (fronted seen to) = Some seen
+header_by told (refused seen why status note) = Some seen
 header_by told _ = told
 
 abbrev pub header_of : List Part → Option Seen
 header_of parts = fold header_by None parts
 
--- the bytes behind it are the tunnel's
+-- the address that is dialled for it
+abbrev pub address_by : Option Target → Part → Option Target
+address_by address (fronted seen to) = Some to
+address_by address _ = address
+
+abbrev pub address_of : List Part → Option Target
+address_of parts = fold address_by None parts
+
+-- the bytes behind the header are the tunnel's
 abbrev pub behind : Option Seen → List ℕ → List ℕ
 behind None bytes = []
 behind (Some seen) bytes = drop seen.length bytes
@@ -176,36 +200,38 @@ ends_at held (Some seen) pending = ends_judged (judged_in held seen) pending
 ends_at held (Some seen) lives = ends_judged (judged_in held seen) lives
 ends_at held told course = course
 
--- what a part makes of it, behind which this is held, and in front of which the header told this
-abbrev pub course_by : Resources → Option Seen → Course → Part → Course
-course_by held told course (entry e) = course_entry e course
-course_by held told course (up e) = course_up e course
-course_by held told course welcomed = fronting
-course_by held told course crowded = ends cause.NoRoom course
-course_by held told course lacked = ends cause.NoMemory course
-course_by held told course (misfronted fault) = ends (cause.FrontFault (number_of fault)) course
-course_by held told course (fronted seen) = pending
-course_by held told course (refused seen status note) = ends (cause.Refused status) course
-course_by held told course (accepted note) = lives
-course_by held told course (left made) = course
-course_by held told course (done note) = ends cause.Done course
-course_by held told course (applied r) = ends_at held told course
-course_by held told course (stopped cause) = ends cause course
+-- what a part makes of it at this door, behind which this is held, and in front of which the header told this
+abbrev pub course_by : Door → Resources → Option Seen → Course → Part → Course
+course_by door held told course (entry e) = course_entry e course
+course_by door held told course (up e) = course_up e course
+course_by door held told course welcomed = fronting
+course_by door held told course crowded = ends cause.NoRoom course
+course_by door held told course lacked = ends cause.NoMemory course
+course_by door held told course (misfronted fault) = ends (cause.FrontFault (number_of fault)) course
+course_by door held told course (fronted seen to) = pending
+course_by door held told course (refused seen why status note) = ends why course
+course_by door held told course (accepted note) = lives
+course_by door held told course (left made) = course
+course_by door held told course (done note) = ends cause.Done course
+course_by door held told course (applied r) = if judges door then ends_at held told course else course
+course_by door held told course (stopped cause) = ends cause course
 
 pub record Known : Type 0 where
+  pub door : Door
   pub held : Resources
   pub header : Option Seen
   pub course : Course
 
 abbrev pub known_by : Known → Part → Known
 known_by k p = record {
+  door = door_by k.door p;
   held = held_by k.held p;
   header = header_by k.header p;
-  course = course_by (held_by k.held p) k.header k.course p;
+  course = course_by k.door (held_by k.held p) k.header k.course p;
 }
 
 abbrev pub known : Resources → List Part → Known
-known start parts = fold known_by (record { held = start; header = None; course = unborn }) parts
+known start parts = fold known_by (record { door = door.Plain; held = start; header = None; course = unborn }) parts
 
 abbrev pub course_of : Resources → List Part → Course
 course_of start parts = (known start parts).course

@@ -7,6 +7,10 @@ ghost use Rattle.hb_captured.specs.Refused.{DialsElsewhere, DialsTwice, DialsUna
 ghost use Rattle.hb_captured.specs.Refused.{RefusesAdmitted, KeepsIdentity, NotesTwice};
 ghost use Rattle.hb_captured.specs.Refused.{EndsUnaccepted, EndsTwice, ClosesUnnoted, LeavesOut502};
 ghost use Rattle.hb_captured.specs.Refused.{TriesDone, LeavesOpen};
+ghost use Rattle.hb_captured.specs.OutboundRefused.{RevokesOutbound, DialsAsPlain, DialsAsDirect};
+ghost use Rattle.hb_captured.specs.OutboundRefused.{DialsOffItsWay, DialsForGateway, DialsOwnDoor, DialsUnsynced};
+ghost use Rattle.hb_captured.specs.OutboundRefused.{RefusesStraight, MistakesRoute};
+ghost use Rattle.hb_captured.specs.OutboundRows.{StraightMayGo, UnroutedMayGo};
 ghost use Rattle.hb_captured.specs.Rows.{RefusedMayGo, DoneMayGo, RevokedMayGo};
 ghost use Rattle.hb_captured.specs.Laws.{RunsRelay, RunsAdmit, RunsEnd, RunsAnswer, RunsNote, RunsSettle, RunsFitRings};
 
@@ -16,19 +20,20 @@ pub fn bytes_are_relayed()
     ensures { RunsRelay }
 {}
 
-/// No byte is written to the upstream, and none to the link, unless the resources held then admit the peer at its destination.
+/// At the plain door no byte is written to the upstream, and none to the link, unless the resources held then admit the peer at its
+/// destination. At the outbound door peers aren't judged.
 pub fn peers_are_admitted()
     ensures { RunsAdmit }
 {}
 
-/// The link and its upstream end together for the first cause that applies, by an update exactly where that no longer admits the peer.
-/// Behind the end nothing stands but the close of each, once, for that cause.
+/// The link and its upstream end together for the first cause that applies, by an update exactly where that no longer admits the peer of
+/// a link of the plain door. Behind the end nothing stands but the close of each, once, for that cause.
 pub fn relays_end_once()
     ensures { RunsEnd }
 {}
 
-/// The front header is that of the bytes that came. Its destination gets the first answer that applies, by what is held then, and is
-/// dialled exactly where that is a dial.
+/// The front header is that of the bytes that came. It gets the answer of its door, by what is held then: at the plain door the verdict on
+/// its destination, at the outbound door the way that leads there. The address that this gives is dialled, once, and no other is.
 pub fn destinations_are_answered()
     ensures { RunsAnswer }
 {}
@@ -99,10 +104,36 @@ pub fn work_left_is_refused()
     ensures left_open { LeavesOpen }
 {}
 
-/// Three whole lives are runs, with their notes: of a link whose destination is refused, of one that relays three bytes each way and is
-/// done, and of one that an update ends.
+/// Three whole lives are runs, with their notes, at the plain door: of a link whose destination is refused, of one that relays three bytes
+/// each way and is done, and of one that an update ends.
 pub fn whole_lives_may_go()
     ensures refused { RefusedMayGo }
     ensures done { DoneMayGo }
     ensures revoked { RevokedMayGo }
+{}
+
+/// No update ends a link of the outbound door, whatever it says of the peer. A link of either door that is dialled for the reason of the
+/// other is refused.
+pub fn doors_are_told_apart()
+    ensures revoked { RevokesOutbound }
+    ensures plain { DialsAsPlain }
+    ensures direct { DialsAsDirect }
+{}
+
+/// At the outbound door a dial elsewhere than the way leads, one though that leads by a gateway, one of the node's own doors and one before
+/// all is synced are refused; so are the refusal of a link whose way is straight, and one for the cause of another missing route.
+pub fn wrong_ways_are_refused()
+    ensures elsewhere { DialsOffItsWay }
+    ensures gateway { DialsForGateway }
+    ensures own_door { DialsOwnDoor }
+    ensures unsynced { DialsUnsynced }
+    ensures straight { RefusesStraight }
+    ensures another_route { MistakesRoute }
+{}
+
+/// Two whole lives are runs, with their notes, at the outbound door: of a link that relays three bytes each way with its destination's
+/// endpoint, through an update, and is done; and of one that has no route.
+pub fn outbound_lives_may_go()
+    ensures straight { StraightMayGo }
+    ensures unrouted { UnroutedMayGo }
 {}
