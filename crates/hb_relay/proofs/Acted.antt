@@ -105,7 +105,15 @@ module _ (old new : Relay) where
       by Opening is =
           so Opening is (now Opening is, (λ x shows. subst (λ (s : Stage). IsIdleBy s x) (sym (at x shows Opening is)) tt))
       by Due is =
-          so Due is (now Due is, refl, (λ x shows. (at x shows Due is, sym (ap (λ (y : Captured). y.target) shows.same))))
+          so Due is (
+            now Due is,
+            refl,
+            (λ x shows. (
+              ap (λ (y : Captured). y.door) shows.same,
+              at x shows Due is,
+              sym (ap (λ (y : Captured). y.address) shows.same),
+            )),
+          )
       by Live is =
           so Live is (live_acts is (may_shut_up (captured_of old)) (may_shut (captured_of old)) refl refl (now Live is))
       by (Over why) is =

@@ -4,25 +4,19 @@ use Rattle.std.specs.Prelude.{nat_le}
 use Rattle.std.proofs.lemmas.Bool.Decides.{nat_tests}
 use Rattle.hb_base.specs.declared.cause.Cause.TheVariants as cause
 use Rattle.hb_base.specs.declared.note.Note.{Note}
+use Rattle.hb_base.specs.declared.target.Target.{Target}
 use Rattle.hb_front.specs.Faults.{number_of}
-use Rattle.hb_front.specs.Reading.{Seen, Answer, IsAnswer, Whole, More, Fault}
+use Rattle.hb_front.specs.Reading.{Seen, Answer as Reading, IsAnswer, Whole, More, Fault}
 use Rattle.hb_held.specs.Held.{Resources}
-use Rattle.hb_table.specs.Judgement.{judged}
-use Rattle.hb_table.specs.declared.judgement.Judged.{Judged}
-use Rattle.hb_table.specs.declared.judgement.Judged.TheVariants.{Admitted, Unknown, Denied}
 use Rattle.hb_tunnel.specs.Tunnel.{up_size}
 use Rattle.hb_tunnel.specs.Way.{Way, after, pushes}
-use Rattle.hb_verdict.proofs.Dialled.{only_where_it_may}
-use Rattle.hb_verdict.specs.Verdict.{synced, is_own_door, dial_judged}
-use Rattle.hb_verdict.specs.declared.request.Request.TheVariants.{Connect}
-use Rattle.hb_verdict.specs.declared.verdict.Verdict.{Verdict}
-use Rattle.hb_verdict.specs.declared.verdict.Verdict.TheVariants.{Status, Reset, Dial}
 use Rattle.hb_world.specs.declared.entry.Entry.TheVariants as e
+use Rattle.hb_captured.specs.Answer.{Answer, dials, refuses, answer_on}
 use Rattle.hb_captured.specs.Calm.{IsCalm, IsCalmBy, longest_front, room, wants, wants_by}
 use Rattle.hb_captured.specs.Captured as m
 use Rattle.hb_captured.specs.Captured.{Captured, Stage, at_stage, ends_by, fronted_by, came_by, peer_in}
 use Rattle.hb_captured.specs.Part.{entry, misfronted, fronted, refused, note_if}
-use Rattle.hb_captured.specs.Runs.{Local, IsTried, next, verdict_on, verdict_note}
+use Rattle.hb_captured.specs.Runs.{Local, IsTried, next, verdict_note}
 use Rattle.hb_captured.specs.Sides.{header_of, link_came}
 use Rattle.hb_captured.proofs.Kept.{all_keep}
 use Rattle.hb_captured.proofs.Stages.{KnowsBy}
@@ -82,16 +76,6 @@ module _ (held : Resources) (old new : Relay) (bytes : List ℕ) (late : old.sta
 
 -- THE HEADER
 
-never_reset : (held : Resources) (seen : Seen) → verdict_on held seen ≡ Reset → ⊥
-never_reset held seen = by (synced held) (judged held (peer_in seen) seen.destination) (is_own_door held.doors seen.destination)
-  where
-    by : (b : Bool) (j : Judged) (own : Bool) → cond (not b) (Status 503) (dial_judged j own false seen.destination) ≡ Reset → ⊥
-    by false j own is = cc
-    by true Admitted true is = cc
-    by true Admitted false is = cc
-    by true Unknown own is = cc
-    by true Denied own is = cc
-
 -- what stands behind a header fits the way up
 rest_fits : (w : Way) (bytes : List ℕ) → w.held ≡ [] → w.has_ended ≡ false → length bytes ≤ longest_front
     → pushed up_size bytes w ≡ after w (pushes bytes)
@@ -104,29 +88,26 @@ rest_fits w bytes none open_yet short =
 module _ (l : ℕ) (h : Resources) (y : Captured) (z : Captured) (new : Relay) (made : Option Note) (at : y.stage ≡ m.fronting)
     (same : as_told y ≡ z) (none : y.ways.up.held ≡ []) (open_yet : y.ways.up.has_ended ≡ false)
     (short : length y.front ≤ longest_front) where
-  told_is : (seen : Seen) (stage : Stage)
-      → as_told (fronted_by seen stage y) ≡ at_stage stage (told_by seen.source.ip seen.destination seen.length z)
-  told_is seen stage =
+  told_is : (seen : Seen) (to : Target) (stage : Stage) → as_told (fronted_by seen to stage y)
+      ≡ record (told_by seen.source.ip seen.destination seen.length z) { stage = stage; address = to }
+  told_is seen to stage =
       let rest = drop seen.length y.front in
-      ap (λ w. record (as_told (fronted_by seen stage y)) { ways = record y.ways { up = w } })
+      ap (λ w. record (as_told (fronted_by seen to stage y)) { ways = record y.ways { up = w } })
       (sym (rest_fits y.ways.up rest none open_yet (omega (arith, short, length-drop seen.length y.front))))
-      ∙ ap (λ (x : Captured). at_stage stage (told_by seen.source.ip seen.destination seen.length x)) same
+      ∙ ap (λ (x : Captured). record (told_by seen.source.ip seen.destination seen.length x) { stage = stage; address = to }) same
 
-  decides : (seen : Seen) (v : Verdict) → verdict_on h seen ≡ v → IsAnswer y.front (Whole seen)
-      → captured_of new ≡ decided_by v (told_by seen.source.ip seen.destination seen.length z)
-      → made ≡ decided_note l v (told_by seen.source.ip seen.destination seen.length z)
+  decides : (seen : Seen) (gets : Answer) → answer_on y.door h seen ≡ gets → IsAnswer y.front (Whole seen)
+      → captured_of new ≡ decided_by gets (told_by seen.source.ip seen.destination seen.length z)
+      → made ≡ decided_note l gets (told_by seen.source.ip seen.destination seen.length z)
       → Reaches l (record { held = h; link = y }) new made
-  decides seen Reset is whole now noted = absurd (never_reset h seen is)
-  decides seen (Dial target) is whole now noted =
-      let may = only_where_it_may (Connect seen.destination) h (peer_in seen) false target is in
-      let same_target : seen.destination ≡ target = (let asked : Connect seen.destination ≡ Connect target = may.asked in cc) in
-      follows l (record { held = h; link = y }) new (fronted seen) made tt ((at, whole), is ∙ ap Dial (sym same_target))
-      (told_is seen m.due ∙ sym now) tt (sym (ap note_if noted))
-  decides seen (Status status) is whole now noted =
-      follows l (record { held = h; link = y }) new (refused seen status (verdict_note l status (peer_in seen) seen.destination)) made tt
-      ((at, whole), inl is, refl) (told_is seen (m.over (cause.Refused status)) ∙ sym now) tt (sym (ap note_if noted))
+  decides seen (dials to) is whole now noted =
+      follows l (record { held = h; link = y }) new (fronted seen to) made tt ((at, whole), is) (told_is seen to m.due ∙ sym now) tt
+      (sym (ap note_if noted))
+  decides seen (refuses why status) is whole now noted =
+      follows l (record { held = h; link = y }) new (refused seen why status (verdict_note l status (peer_in seen) seen.destination)) made tt
+      ((at, whole), is, refl) (told_is seen seen.destination (m.over why) ∙ sym now) tt (sym (ap note_if noted))
 
-  pub fronts : (answer : Answer) → IsAnswer y.front answer → Fronts l h answer z (captured_of new) made
+  pub fronts : (reading : Reading) → IsAnswer y.front reading → Fronts l h reading z (captured_of new) made
       → Reaches l (record { held = h; link = y }) new made
   fronts More is (now, noted) =
       rests l (record { held = h; link = y }) new made (same ∙ sym now) (subst (λ (s : Stage). IsCalmBy s y) (sym at) is) noted
@@ -135,7 +116,8 @@ module _ (l : ℕ) (h : Resources) (y : Captured) (z : Captured) (new : Relay) (
       follows l (record { held = h; link = y }) new (misfronted fault) made tt (at, is)
       (ap (λ (s : Stage). as_told (at_stage (ends_by why s) y)) at ∙ ap (at_stage (m.over why)) same ∙ sym now)
       (subst (λ (s : Stage). IsCalm (at_stage (ends_by why s) y)) (sym at) tt) (sym (ap note_if noted))
-  fronts (Whole seen) is (now, noted) = decides seen (verdict_on h seen) refl is now noted
+  fronts (Whole seen) is (now, noted) =
+      decides seen (answer_on z.door h seen) (ap (λ (c : Captured). answer_on c.door h seen) same) is now noted
 
 pub comes_front : (held : Resources) (old new : Relay) (bytes : List ℕ) (made : Option Note) → old.stage ≡ Fronting
     → TakesFront held (record old { front = old.front ++ bytes }) new made → Takes held bytes old new made

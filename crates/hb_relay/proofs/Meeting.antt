@@ -1,10 +1,11 @@
 -- Each call meets the machine.
 use Rattle.std.proofs.Common.{◌≡◌, ◌≢◌, inl, inr, ℕ, ◌≤◌, ◌<◌, ◌+◌, ◌-◌, ◌&&◌, ◌==◌, not, Bool, true, false, cond, List, [], ◌∷◌, length, Option, Some, None, IfNone, refl, ap, sym, ◌∙◌, subst, arith}
 use Rattle.std.specs.Prelude.{nat_le}
+use Rattle.std.proofs.Math.Bool.{and-false}
 use Rattle.std.proofs.lemmas.Bool.Decides.{nat_tests}
 use Rattle.hb_base.specs.declared.cause.Cause.{Cause}
 use Rattle.hb_base.specs.declared.cause.Cause.TheVariants as cause
-use Rattle.hb_base.specs.declared.door.Door.TheVariants as door
+use Rattle.hb_base.specs.declared.door.Door.{Door}
 use Rattle.hb_base.specs.declared.door.Why.{Why}
 use Rattle.hb_base.specs.declared.note.Note.{Note}
 use Rattle.hb_base.specs.declared.target.Target.{Target}
@@ -18,7 +19,7 @@ use Rattle.hb_tunnel.specs.Way.{Way, after, pushes, is_done}
 use Rattle.hb_world.specs.declared.entry.Entry.TheVariants as e
 use Rattle.hb_captured.specs.Calm.{IsCalm, IsCalmBy, room, up_wants_by}
 use Rattle.hb_captured.specs.Captured as m
-use Rattle.hb_captured.specs.Captured.{Captured, Stage, no_link, at_stage, left_by, ends_by, ends_for, entered, up_entered, hung_up, is_judged, judged_by, rejudged, is_through}
+use Rattle.hb_captured.specs.Captured.{Captured, Stage, no_link, at_stage, left_by, ends_by, ends_for, entered, up_entered, hung_up, judges, is_judged, judged_by, rejudged, is_through}
 use Rattle.hb_captured.specs.Part.{Part, entry, up, welcomed, accepted, applied}
 use Rattle.hb_captured.specs.Runs.{Local, MayGo, IsTried, next, counted, verdict_note}
 use Rattle.hb_captured.proofs.Kept.{all_keep}
@@ -105,11 +106,7 @@ dials old new u to why becomes = record {
 -- a side that hasn't ended isn't through
 through_down : (x : Captured) → x.ways.down.has_ended ≡ false → is_through x ≡ false
 through_down x is =
-    ap (λ (b : Bool). is_done x.ways.up && (b && length x.ways.down.held == 0)) is ∙ neither (is_done x.ways.up)
-  where
-    neither : (b : Bool) → (b && false) ≡ false
-    neither true = refl
-    neither false = refl
+    ap (λ (b : Bool). is_done x.ways.up && (b && length x.ways.down.held == 0)) is ∙ and-false (is_done x.ways.up)
 
 pub through_up : (x : Captured) → x.ways.up.has_ended ≡ false → is_through x ≡ false
 through_up x is = ap (λ (b : Bool). (b && length x.ways.up.held == 0) && is_done x.ways.down) is
@@ -170,22 +167,23 @@ comes_down old new u bytes is = record {
 }
 
 -- its birth
-pub begins : (l : ℕ) (k : Relay) → captured_of k ≡ at_stage m.fronting no_link → Begins l k
-begins l k is a new = record {
+pub begins : (d : Door) (l : ℕ) (k : Relay) → captured_of k ≡ record no_link { door = d; stage = m.fronting } → Begins d l k
+begins d l k is a new = record {
   parts = welcomed ∷ [];
-  reached = next (next a (entry (e.Accepted l door.Plain))) welcomed;
+  reached = next (next a (entry (e.Accepted l d))) welcomed;
   leads = (tt, refl, refl);
   shows = record {
-    same = ap (λ (x : Captured). as_told (at_stage m.fronting x)) new ∙ sym is;
-    calm = subst (λ (x : Captured). IsCalm (at_stage m.fronting x)) (sym new) (refl, omega arith);
+    same = ap (λ (x : Captured). as_told (record x { door = d; stage = m.fronting })) new ∙ sym is;
+    calm = subst (λ (x : Captured). IsCalm (record x { door = d; stage = m.fronting })) (sym new) (refl, omega arith);
   };
   noted = refl;
 }
 
 -- or it is turned away
-pub turns_away : (l : ℕ) (k : Relay) → captured_of k ≡ at_stage (m.over cause.NoRoom) no_link → TurnsAway l k
-turns_away l k is a new = record {
-  same = ap (λ (x : Captured). as_told (at_stage (m.over cause.NoRoom) x)) new ∙ sym is;
+pub turns_away : (d : Door) (l : ℕ) (k : Relay) → captured_of k ≡ record no_link { door = d; stage = m.over cause.NoRoom }
+    → TurnsAway d l k
+turns_away d l k is a new = record {
+  same = ap (λ (x : Captured). as_told (record x { door = d; stage = m.over cause.NoRoom })) new ∙ sym is;
   calm = tt;
 }
 
@@ -207,16 +205,24 @@ stays held old same_link r = record {
       rests old.number (next a (applied r)) old None (ap as_told same ∙ shows.same) (subst IsCalm (sym same) shows.calm) refl;
 }
 
--- since its header isn't whole, or its peer is admitted
+-- since its door judges no peers, its header isn't whole, or its peer is admitted
+pub unjudged_stays : (held : Resources) (old : Relay) → judges old.door ≡ false → Updates held old old None
+unjudged_stays held old is =
+    stays held old (λ x same.
+    ap (λ (b : Bool). cond (b && is_judged x.stage) (judged_by (judged held x.peer x.target) x) x)
+    (ap (λ (y : Captured). judges y.door) same ∙ is))
+
 pub fronting_stays : (held : Resources) (old : Relay) → old.stage ≡ Fronting → Updates held old old None
 fronting_stays held old is =
     stays held old (λ x same.
-    ap (λ (s : Stage). cond (is_judged s) (judged_by (judged held x.peer x.target) x) x) (stage_is old x same ∙ ap stage_of is))
+    let y = judged_by (judged held x.peer x.target) x in
+    ap (λ (s : Stage). cond (judges x.door && is_judged s) y x) (stage_is old x same ∙ ap stage_of is)
+    ∙ ap (λ (b : Bool). cond b y x) (and-false (judges x.door)))
 
 pub admitted_stays : (held : Resources) (old : Relay) → judged held (captured_of old).peer old.target ≡ Admitted → Updates held old old None
 admitted_stays held old is =
     stays held old (λ x same.
-    judged_stays held x (is_judged x.stage)
+    judged_stays held x (judges x.door && is_judged x.stage)
     (ap (λ (y : Captured). judged held y.peer y.target) same ∙ is))
 
 judged_ends : (j : Judged) (x : Captured) → j ≢ Admitted → judged_by j x ≡ ends_for cause.Revoked x
@@ -251,16 +257,16 @@ unmade_stays old new made late noted becomes = by old.stage refl
         ∙ ap (λ (s : Stage). at_stage s (captured_of old)) (ap (λ (s : Stage). left_by (ends_by cause.Revoked s)) over_so ∙ sym over_so)) made
 
 -- it ends
-pub revokes : (held : Resources) (old new : Relay) (made : Option Note) → old.stage ≢ Fronting
+pub revokes : (held : Resources) (old new : Relay) (made : Option Note) → judges old.door ≡ true → old.stage ≢ Fronting
     → judged held (captured_of old).peer old.target ≢ Admitted
     → made ≡ note_at old.number cause.Revoked (captured_of old) (stage_of old.stage) → Becomes (ended_now cause.Revoked) old new
     → Updates held old new made
-revokes held old new made late not noted becomes r = record {
+revokes held old new made on late not noted becomes r = record {
   number = becomes.number;
   reaches = λ start before a stands shows so may.
       let x = a.link in
       let same : rejudged (after_response a.held r) x ≡ ends_for cause.Revoked x =
-      ap (λ (h : Resources). rejudged h x) (sym so) ∙ by x shows.same old.stage refl in
+      ap (λ (h : Resources). rejudged h x) (sym so) ∙ at_judging x shows.same ∙ by x shows.same old.stage refl in
       subst (λ (y : Captured). Reaches old.number (record { held = after_response a.held r; link = y }) new made) (sym same)
       (ends_reach old.number (after_response a.held r) x old new cause.Revoked made shows.same becomes noted);
 }
@@ -273,7 +279,14 @@ revokes held old new made late not noted becomes r = record {
         judged_ends (judged held x.peer x.target) x
         (λ admitted. not (ap (λ (y : Captured). judged held y.peer y.target) (sym same) ∙ admitted))
 
-    by : (x : Captured) → as_told x ≡ captured_of old → (s : code.Stage) → old.stage ≡ s → rejudged held x ≡ ends_for cause.Revoked x
+    at_judging : (x : Captured) → as_told x ≡ captured_of old
+        → rejudged held x ≡ cond (is_judged x.stage) (judged_by (judged held x.peer x.target) x) x
+    at_judging x same =
+        ap (λ (b : Bool). cond (b && is_judged x.stage) (judged_by (judged held x.peer x.target) x) x)
+        (ap (λ (y : Captured). judges y.door) same ∙ on)
+
+    by : (x : Captured) → as_told x ≡ captured_of old → (s : code.Stage) → old.stage ≡ s
+        → cond (is_judged x.stage) (judged_by (judged held x.peer x.target) x) x ≡ ends_for cause.Revoked x
     by x same Fronting is = absurd (late is)
     by x same Due is =
         ap (λ (s : Stage). cond (is_judged s) (judged_by (judged held x.peer x.target) x) x) (at x same Due is) ∙ judged_so x same

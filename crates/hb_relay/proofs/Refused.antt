@@ -56,9 +56,9 @@ module _ (l : ℕ) (held : Resources) (x : Captured) (k : Relay) (why : Cause) (
   untold (welcomed ∷ parts) b (inner, may, more) shows none = (let both : m.ended why ≡ m.arriving = sym ended_is ∙ may in cc)
   untold (misfronted fault ∷ parts) b (inner, may, more) shows none =
       (let both : m.ended why ≡ m.fronting = sym ended_is ∙ may.0 in cc)
-  untold (fronted seen ∷ parts) b (inner, may, more) shows none =
+  untold (fronted seen to ∷ parts) b (inner, may, more) shows none =
       (let both : m.ended why ≡ m.fronting = sym ended_is ∙ may.0.0 in cc)
-  untold (refused seen status made ∷ parts) b (inner, may, more) shows none =
+  untold (refused seen cause status made ∷ parts) b (inner, may, more) shows none =
       (let both : m.ended why ≡ m.fronting = sym ended_is ∙ may.0.0 in cc)
   untold (accepted made ∷ parts) b (inner, may, more) shows none =
       (let both : m.ended why ≡ m.accepting = sym ended_is ∙ may.0 in cc)

@@ -1,9 +1,9 @@
 -- Which call of the world is due of a link, and what its owner sees of it.
 use Rattle.std.specs.Prelude.{◌≡◌, ◌⊎◌, ℕ, List, Option, Some, None}
-use Rattle.hb_base.specs.declared.door.Why.TheVariants as whys
 use Rattle.hb_world.specs.declared.act.Act.{Act}
 use Rattle.hb_world.specs.declared.act.Act.TheVariants as act
 use Rattle.hb_world.specs.declared.entry.Entry.TheVariants as e
+use Rattle.hb_captured.specs.Answer.{why_at}
 use Rattle.hb_captured.specs.Calm.{IsIdleBy, wants, up_wants, output, up_output}
 use Rattle.hb_captured.specs.Captured.{Captured, due}
 use Rattle.hb_captured.specs.Part.{Part, entry, up}
@@ -21,8 +21,8 @@ abbrev pub Acts : Option Act → Relay → Relay → Type 0
 Acts None old new =
     (captured_of new ≡ captured_of old) × ((x : Captured) → Shows old x → IsIdleBy x.stage x)
 Acts (Some (act.Dial to why)) old new =
-    (captured_of new ≡ captured_of old) × (why ≡ whys.Plain old.number)
-    × ((x : Captured) → Shows old x → (x.stage ≡ due) × (to ≡ x.target))
+    (captured_of new ≡ captured_of old) × (why ≡ why_at old.door old.number)
+    × ((x : Captured) → Shows old x → (x.door ≡ old.door) × (x.stage ≡ due) × (to ≡ x.address))
 Acts (Some (act.Shut u)) old new =
     ((u ≡ old.number) × Does (entry (e.Shut u)) old new) ⊎ Does (up (e.Shut u)) old new
 Acts (Some (act.Close u why)) old new =

@@ -1,7 +1,7 @@
 -- What each call of a link is to the machine.
 use Rattle.std.specs.Prelude.{⊤, ◌≡◌, ℕ, List, length, Option, None}
 use Rattle.hb_base.specs.declared.cause.Cause.{Cause}
-use Rattle.hb_base.specs.declared.door.Door.TheVariants as door
+use Rattle.hb_base.specs.declared.door.Door.{Door}
 use Rattle.hb_base.specs.declared.note.Note.{Note}
 use Rattle.hb_disco.specs.declared.response.Response.{Response}
 use Rattle.hb_held.specs.Held.{Resources}
@@ -43,10 +43,10 @@ Updates held old new made = (r : Response) → Meets (λ h. held ≡ after_respo
 abbrev pub Stops : Cause → Relay → Relay → Option Note → Type 0
 Stops cause old new made = Meets any (stopped cause) old new made
 
--- a link is born, and makes no note
-abbrev pub Begins : ℕ → Relay → Type 0
-Begins l k = (a : Local) → a.link ≡ no_link → Reaches l (next a (entry (e.Accepted l door.Plain))) k None
+-- a link is born at a door, and makes no note
+abbrev pub Begins : Door → ℕ → Relay → Type 0
+Begins d l k = (a : Local) → a.link ≡ no_link → Reaches l (next a (entry (e.Accepted l d))) k None
 
 -- a link is born where as many are open as may be: it is turned away, and makes no note
-abbrev pub TurnsAway : ℕ → Relay → Type 0
-TurnsAway l k = (a : Local) → a.link ≡ no_link → Shows k (next (next a (entry (e.Accepted l door.Plain))) crowded).link
+abbrev pub TurnsAway : Door → ℕ → Relay → Type 0
+TurnsAway d l k = (a : Local) → a.link ≡ no_link → Shows k (next (next a (entry (e.Accepted l d))) crowded).link

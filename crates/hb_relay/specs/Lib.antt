@@ -1,4 +1,5 @@
 pub mod Acts
+pub mod Answering
 pub mod Calls
 pub mod Ending
 pub mod Moving

@@ -11,8 +11,8 @@ use Rattle.hb_relay.specs.Shows.{Shows}
 abbrev pub IsInner : Part → Type 0
 IsInner welcomed = ⊤
 IsInner (misfronted fault) = ⊤
-IsInner (fronted seen) = ⊤
-IsInner (refused seen status note) = ⊤
+IsInner (fronted seen to) = ⊤
+IsInner (refused seen why status note) = ⊤
 IsInner (accepted note) = ⊤
 IsInner (left made) = ⊤
 IsInner (done note) = ⊤

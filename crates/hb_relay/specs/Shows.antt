@@ -18,10 +18,12 @@ stage_of (Over cause) = m.over cause
 -- a link of the code in the machine's words
 abbrev pub captured_of : Relay → Captured
 captured_of k = record {
+  door = k.door;
   stage = stage_of k.stage;
   front = k.front;
   peer = record { ip = k.source; identity = None };
   target = k.target;
+  address = k.address;
   up = k.up;
   ways = k.ways;
   went_up = k.went_up;

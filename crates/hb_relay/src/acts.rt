@@ -6,9 +6,10 @@ ghost use Rattle.hb_relay.specs.Acts.{Acts};
 ghost use Rattle.hb_relay.specs.Moving.{act_by, acted_by};
 ghost use Rattle.hb_relay.specs.Shows.{captured_of, stage_of, Becomes};
 
+use crate::answer::why_at;
 use crate::relay::Relay;
 use crate::stage::Stage;
-use hb_base::{Cause, Why};
+use hb_base::Cause;
 use hb_tunnel::{DOWN_SIZE, UP_SIZE};
 use hb_world::Act;
 
@@ -70,8 +71,8 @@ impl Relay {
     {
         match self.stage {
             Stage::Due => Some(Act::Dial {
-                to: self.target,
-                why: Why::Plain { link: self.number },
+                to: self.address,
+                why: why_at(self.door, self.number),
             }),
             Stage::Live => self.next_shut(),
             Stage::Over(cause) => self.next_close(cause),
@@ -79,7 +80,7 @@ impl Relay {
         }
     }
 
-    /// The call that is due, `None` where none is: the dial of its destination, the shut of its upstream or of itself, the close of its
+    /// The call that is due, `None` where none is: the dial of its address, the shut of its upstream or of itself, the close of its
     /// upstream and then its own. A shut or a close counts as done from now on; a dial stays due until its answer is told.
     pub fn next_act(&mut self) -> Option<Act>
         ensures acts { Acts result self.old self.new }

@@ -1,19 +1,18 @@
-//! The front header, and the verdict on its destination.
+//! The front header, and what it gets.
 
-ghost use Rattle.std.specs.Prelude.{◌≡◌, ◌≤◌, ◌-◌, ◌++◌, length, false, None};
+ghost use Rattle.std.specs.Prelude.{◌≡◌, ◌≤◌, ◌-◌, ◌++◌, length};
 ghost use Rattle.hb_captured.specs.Calm.{longest_front};
-ghost use Rattle.hb_verdict.specs.Verdict.{verdict};
-ghost use Rattle.hb_verdict.specs.declared.request.Request.TheVariants.{Connect};
+ghost use Rattle.hb_captured.specs.Answer.{answer};
 ghost use Rattle.hb_relay.specs.Moving.{told_by, decided_by, decided_note, TakesFront};
 ghost use Rattle.hb_relay.specs.Shows.{captured_of, Becomes};
 
+use crate::answer::{Answer, answer_at};
 use crate::moving::push_up;
 use crate::relay::Relay;
 use crate::stage::Stage;
-use hb_base::{Cause, Ip, Note, Peer, Target};
+use hb_base::{Cause, Ip, Note, Target};
 use hb_front::{FrontRead, read_front};
 use hb_held::Held;
-use hb_verdict::{Request, Verdict, verdict_on};
 
 impl Relay {
     /// The header has so many bytes, and told this. What stands behind it goes up.
@@ -27,28 +26,23 @@ impl Relay {
         self.front.clear();
     }
 
-    /// The verdict on its destination, by what is held: it is to be dialled, or the link is refused, which is noted.
+    /// It gets its answer, by what is held: an address is to be dialled, or the link is refused, which is noted.
     fn decide(&mut self, held: &Held) -> Option<Note>
-        ensures note { result ≡ decided_note self.old.number
-            (verdict (Connect self.old.target) held.now (record { ip = self.old.source; identity = None }) false) (captured_of self.old) }
-        ensures after { Becomes
-            (decided_by (verdict (Connect self.old.target) held.now (record { ip = self.old.source; identity = None }) false))
-            self.old self.new }
+        ensures note { result ≡ decided_note self.old.number (answer self.old.door held.now self.old.source self.old.target)
+            (captured_of self.old) }
+        ensures after { Becomes (decided_by (answer self.old.door held.now self.old.source self.old.target)) self.old self.new }
     {
-        let peer = Peer {
-            ip: self.source,
-            identity: None,
-        };
-        match verdict_on(Request::Connect(self.target), held, &peer, false) {
-            Verdict::Dial(_) => {
+        match answer_at(self.alloc, self.door, held, self.source, self.target) {
+            Answer::Dials(to) => {
                 self.stage = Stage::Due;
+                self.address = to;
                 None
             }
-            Verdict::Status(status) => {
-                self.stage = Stage::Over(Cause::Refused(u32::from(status)));
+            Answer::Refuses(cause, status) => {
+                self.stage = Stage::Over(cause);
+                self.address = self.target;
                 Some(self.verdict_note(status))
             }
-            Verdict::Reset => None,
         }
     }
 

@@ -1,8 +1,10 @@
-//! A link of the plain door in code: its front header, and the bytes between it and its upstream. Each call meets the machine of
-//! hb_captured: for each run of the link that it showed, it shows the run with what it was told, and what follows from that by itself.
+//! A captured link in code, of the plain door or of the outbound one: its front header, and the bytes between it and its upstream. Each
+//! call meets the machine of hb_captured: for each run of the link that it showed, it shows the run with what it was told, and what
+//! follows from that by itself.
 #![tactic(auto)]
 
 mod acts;
+mod answer;
 mod ends;
 mod front;
 mod fronting;

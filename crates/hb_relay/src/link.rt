@@ -3,39 +3,51 @@
 ghost use Rattle.std.specs.Prelude.{◌≡◌, ◌≤◌, length, IfOk, IfNone};
 ghost use Rattle.hb_world.specs.declared.entry.Entry.TheVariants as e;
 ghost use Rattle.hb_captured.specs.Calm.{wants, output};
+ghost use Rattle.hb_captured.specs.Captured.{judges};
 ghost use Rattle.hb_relay.specs.Calls.{Begins, TurnsAway, Enters, Goes, Stops, Takes, Updates};
 ghost use Rattle.hb_relay.specs.Shows.{captured_of};
 
 use crate::moving::push_up;
 use crate::relay::Relay;
 use crate::stage::Stage;
-use hb_base::{Cause, NoMemory, Note, Peer};
+use hb_base::{Cause, Door, NoMemory, Note, Peer};
 use hb_held::Held;
 use hb_table::{Judged, judge};
 use std::alloc::Global;
 
+/// Whether peers are judged at this door.
+fn judges(door: Door) -> bool
+    ensures { result ≡ judges door }
+{
+    match door {
+        Door::Outbound => false,
+        _ => true,
+    }
+}
+
 impl Relay {
-    /// A link that was accepted: its front header is to come.
+    /// A link that was accepted at a door: its front header is to come.
     ///
     /// Errors: `NoMemory`; a link of which nothing is kept is to be closed for that cause.
-    pub fn accepted(alloc: Global, number: u64) -> Result<Relay, NoMemory>
-        ensures begins { IfOk result (λ k. Begins number k) }
+    pub fn accepted(alloc: Global, door: Door, number: u64) -> Result<Relay, NoMemory>
+        ensures begins { IfOk result (λ k. Begins door number k) }
         ensures number { IfOk result (λ k. k.number ≡ number) }
     {
-        Relay::fresh(alloc, number, Stage::Fronting)
+        Relay::fresh(alloc, door, number, Stage::Fronting)
     }
 
-    /// A link that was accepted where as many are open as may be: it is to be closed for that cause.
+    /// A link that was accepted at a door where as many are open as may be: it is to be closed for that cause.
     ///
     /// Errors: `NoMemory`, as of one that is taken in.
-    pub fn turned_away(alloc: Global, number: u64) -> Result<Relay, NoMemory>
-        ensures turns { IfOk result (λ k. TurnsAway number k) }
+    pub fn turned_away(alloc: Global, door: Door, number: u64) -> Result<Relay, NoMemory>
+        ensures turns { IfOk result (λ k. TurnsAway door number k) }
         ensures number { IfOk result (λ k. k.number ≡ number) }
     {
-        Relay::fresh(alloc, number, Stage::Over(Cause::NoRoom))
+        Relay::fresh(alloc, door, number, Stage::Over(Cause::NoRoom))
     }
 
-    /// These bytes came of it: of its front header, whose destination gets its verdict by what is held once it is whole, or such as go up.
+    /// These bytes came of it: of its front header, which gets its answer by what is held once it is whole, or such as go
+    /// up.
     /// The note of a refusal, `None` where the link isn't refused.
     pub fn take_bytes(&mut self, held: &Held, b: &[u8]) -> Option<Note>
         requires { length b.now ≤ wants (captured_of self.old) }
@@ -74,12 +86,15 @@ impl Relay {
         self.end_for(Cause::PeerGone)
     }
 
-    /// A response was applied, which made this of what is held: it ends where its peer is no longer admitted.
+    /// A response was applied, which made this of what is held: it ends where peers are judged and its own is no longer admitted.
     /// The note of that, `None` where it goes on, or had ended.
     pub fn judge(&mut self, held: &Held) -> Option<Note>
         ensures updates { Updates held.now self.old self.new result }
         ensures same { IfNone result (captured_of self.new ≡ captured_of self.old) }
     {
+        if !judges(self.door) {
+            return None;
+        }
         if let Stage::Fronting = self.stage {
             return None;
         }

@@ -1,27 +1,31 @@
-//! A link of the plain door.
+//! A captured link.
 
 ghost use Rattle.std.specs.Prelude.{◌≡◌, IfOk};
 ghost use Rattle.hb_tunnel.specs.Way.{IsFront};
 ghost use Rattle.hb_captured.specs.Calm.{wants, up_wants, output, up_output};
-ghost use Rattle.hb_captured.specs.Captured.{no_link, at_stage};
+ghost use Rattle.hb_captured.specs.Captured.{no_link};
 ghost use Rattle.hb_relay.specs.Acts.{Wants, UpWants, Holds, UpHolds};
 ghost use Rattle.hb_relay.specs.Shows.{captured_of, stage_of};
 
 use crate::front::Front;
 use crate::stage::Stage;
-use hb_base::{Ip, NoMemory, Target};
+use hb_base::{Door, Ip, NoMemory, Target};
 use hb_tunnel::Tunnel;
 use std::alloc::Global;
 
-/// A link of the plain door that was taken in.
+/// A plain link, or of the outbound one, that was taken in.
 #[derive(Drop)]
 pub struct Relay {
+    pub(crate) alloc: Global,
+    pub(crate) door: Door,
     pub(crate) number: u64,
     pub(crate) stage: Stage,
     pub(crate) front: Front,
     /// What the front header told: where the peer is, and which target it meant.
     pub(crate) source: Ip,
     pub(crate) target: Target,
+    /// The address that is dialled for it.
+    pub(crate) address: Target,
     /// The number of its upstream, 0 before that is dialled and behind its close.
     pub(crate) up: u64,
     pub(crate) ways: Tunnel,
@@ -35,22 +39,31 @@ pub struct Relay {
 }
 
 impl Relay {
-    /// A link at this stage of which nothing came.
+    /// A link of this door, at this stage, of which nothing came.
     ///
     /// Errors: `NoMemory`.
-    pub(crate) fn fresh(alloc: Global, number: u64, stage: Stage) -> Result<Relay, NoMemory>
+    pub(crate) fn fresh(
+        alloc: Global,
+        door: Door,
+        number: u64,
+        stage: Stage,
+    ) -> Result<Relay, NoMemory>
         ensures number { IfOk result (λ k. k.number ≡ number) }
-        ensures value { IfOk result (λ k. captured_of k ≡ at_stage (stage_of stage) no_link) }
+        ensures value { IfOk result (λ k. captured_of k ≡ record no_link { door = door; stage = stage_of stage }) }
     {
+        let unknown = Target {
+            ip: Ip::V4(0),
+            port: 0,
+        };
         Ok(Relay {
+            alloc,
+            door,
             number,
             stage,
             front: Front::new(alloc)?,
             source: Ip::V4(0),
-            target: Target {
-                ip: Ip::V4(0),
-                port: 0,
-            },
+            target: unknown,
+            address: unknown,
             up: 0,
             ways: Tunnel::new(alloc)?,
             went_up: 0,

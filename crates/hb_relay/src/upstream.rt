@@ -13,7 +13,7 @@ use crate::relay::Relay;
 use hb_base::{Cause, Note};
 
 impl Relay {
-    /// The dial of its destination gave this link.
+    /// The dial for it gave this link.
     pub fn dialled(&mut self, link: u64)
         ensures { (to : the_target) (why : the_why) → UpEnters (e.Dialled link to why) self.old self.new None }
     {
@@ -45,7 +45,7 @@ impl Relay {
         self.settle()
     }
 
-    /// The dial of its destination failed. The note of that, `None` where no dial was due.
+    /// The dial for it failed. The note of that, `None` where no dial was due.
     pub fn dial_failed(&mut self) -> Option<Note>
         ensures { (to : the_target) (why : the_why) → UpEnters (e.DialFailed to why) self.old self.new result }
     {
