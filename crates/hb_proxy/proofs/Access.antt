@@ -1,5 +1,5 @@
--- No byte goes to an upstream and no DATA frame begins on an inbound link, and no byte goes on a plain link, unless what is held then
--- admits the tunnel's peer.
+-- No byte goes to an upstream and no DATA frame begins on an inbound link, and no byte goes on a link of the plain door or on its
+-- upstream, unless what is held then admits the tunnel's peer.
 use Rattle.std.proofs.Common.{◌≡◌, ℕ, true, List, [], ◌∷◌, ◌++◌, length, refl, ap, sym, ◌∙◌, subst}
 use Rattle.hb_captured.specs.Access as plain
 use Rattle.hb_captured.specs.Part as captured
@@ -85,7 +85,7 @@ module _ (g : NodeConfig) (x : Machine) (before : List Point) (stands : StandsFo
   }
 
   plain_goes : (z : Entry) → plain.GoesAdmitted (at_start g) (plain_of l before) z → PlainGoesAdmitted g before l z
-  plain_goes (e.Went k bytes) is = plain_admitted is
+  plain_goes (e.Went k bytes) is = λ judged_here. plain_admitted (is judged_here)
   plain_goes _ is = tt
 
   plain_access : (p : captured.Part) → plain.AccessAt (at_start g) (plain_of l before) p → PlainAccessAt g before l p

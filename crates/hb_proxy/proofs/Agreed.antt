@@ -38,6 +38,7 @@ use Rattle.hb_proxy.proofs.Look.{Look, unseen, dialled, open_now, bears, opens_i
 use Rattle.hb_proxy.proofs.Own.{own_at}
 use Rattle.hb_proxy.proofs.Owned.{Owned, after, whose_in, whose_one, all_owned}
 use Rattle.hb_proxy.proofs.PlainChanges as changes
+use Rattle.hb_proxy.proofs.PlainDoors.{caught, relayed}
 use Rattle.hb_proxy.proofs.PlainChanges.{here_now, PlainFitsBy, PlainFits, RelayFitsBy, RelayFits, PlainDueBy, PlainDue, born_fits, PlainGoes, plain_same, plain_touched, plain_part_goes}
 use Rattle.hb_proxy.proofs.Projection.{control_runs, links_run}
 
@@ -370,7 +371,7 @@ module _ (g : NodeConfig) (x : Machine) (points : List Point) (stands : StandsFo
       let none = subst (λ (s : captured.Stage). PlainDueBy s c.up_shut c.shut c.closed) may.1 (agrees.plain_due l) in
       new_one x (plain_behind l z) whose owned told agrees k (at_door d) (bears true) (new_number k birth.0)
       (plain_goes g x points stands l z may)
-      (subst (λ (w : Owner). ByOwner w (plain_behind l z) k (open_now false)) (sym (ap at_door may.2))
+      (subst (λ (w : Owner). ByOwner w (plain_behind l z) k (open_now false)) (sym (caught d may.2))
       (plain_here l k z may.0 (open_now false) (ap₂ here_now (sym none.1) (sym none.2)))) n
   plain_each l (e.Shut k) may birth own n =
       let z = plain_part.entry (e.Shut k) in
@@ -406,7 +407,7 @@ module _ (g : NodeConfig) (x : Machine) (points : List Point) (stands : StandsFo
       subst (λ (s : captured.Stage). PlainDueBy s c.up_shut c.shut c.closed) may.0.1 (agrees.plain_due l) in
       new_one x (plain_behind l z) whose owned told agrees u (dialled_for why) (bears false) (new_number u birth)
       (plain_goes g x points stands l z may)
-      (subst (λ (w : Owner). ByOwner w (plain_behind l z) u (dialled false)) (sym (ap dialled_for may.1))
+      (subst (λ (w : Owner). ByOwner w (plain_behind l z) u (dialled false)) (sym (relayed l c.door why may.1))
       (relay_here l u z (dialled false) (refl, ap dialled (sym unshut)))) n
   relay_each l (e.Opened u) may birth own n =
       let z = plain_part.up (e.Opened u) in

@@ -34,6 +34,7 @@ use Rattle.hb_proxy.proofs.Control.{ticked}
 use Rattle.hb_proxy.proofs.Own.{own_at, elsewhere}
 use Rattle.hb_proxy.proofs.Owned.{whose_in, whose_one, all_owned, owner_grows}
 use Rattle.hb_proxy.proofs.Places.{at_points, short, rests_of}
+use Rattle.hb_proxy.proofs.PlainDoors.{dialled_so}
 use Rattle.hb_proxy.proofs.Projection.{control_same, control_runs}
 
 -- a close of another link leaves the link that lives
@@ -132,8 +133,8 @@ plain_others l x (captured.entry en) may z is = (let same : en ≡ z = cc in sub
 plain_others l x (captured.up en) may z is = (let same : en ≡ z = cc in subst IsOthers same (by en may))
   where
     by : (en : Entry) → relays.UpMayCome l (x.plain l) en → IsOthers en
-    by (e.Dialled u to why) may = subst (λ (w : Why). IsOthers (e.Dialled u to w)) (sym may.1) tt
-    by (e.DialFailed to why) may = subst (λ (w : Why). IsOthers (e.DialFailed to w)) (sym may.1) tt
+    by (e.Dialled u to why) may = dialled_so (λ w. IsOthers (e.Dialled u to w)) l tt tt (x.plain l).door why may.1
+    by (e.DialFailed to why) may = dialled_so (λ w. IsOthers (e.DialFailed to w)) l tt tt (x.plain l).door why may.1
     by e.Tick may = absurd may
     by _ may = tt
 plain_others l x _ may z is = absurd cc

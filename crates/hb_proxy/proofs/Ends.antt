@@ -65,7 +65,7 @@ unborn_quiet parts x is knows =
 pub lets_quiet : (first : Bool) (y : Inbound) → first ≡ false → Lets first y → IsQuiet y
 lets_quiet first y is lets = subst (λ (b : Bool). Lets b y) is lets
 
--- A LINK OF THE PLAIN DOOR
+-- A PLAIN LINK
 
 abbrev IsQuietBy : captured.Stage → Captured → Type 0
 IsQuietBy stage x = plain_calm.IsCalmBy stage x × plain_calm.IsIdleBy stage x

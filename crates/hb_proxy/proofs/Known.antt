@@ -19,6 +19,7 @@ use Rattle.hb_proxy.specs.Runs.{Steps, StandsFor, begins, goes_on}
 use Rattle.hb_proxy.specs.Sides.{IsKnown}
 use Rattle.hb_proxy.proofs.Control.{control_is_born}
 use Rattle.hb_proxy.proofs.Owned.{all_owned}
+use Rattle.hb_proxy.proofs.PlainDoors.{dialled_so}
 use Rattle.hb_proxy.proofs.Projection.{control_same, control_runs}
 
 or_false : (b : Bool) → (b || false) ≡ b
@@ -35,12 +36,13 @@ part_none n l x (part.up s (e.Dialled k to why)) next steps =
 part_none n l x (part.up s _) next steps = refl
 part_none n l x _ next steps = refl
 
--- nor one of a link of the plain door
+-- nor one of a plain link
 plain_none : (n l : ℕ) (x : Machine) (p : captured.Part) → relays.MayGo l (plain_local x l) p
     → list_any (is_control_of n) (captured.entry_in p) ≡ false
 plain_none n l x (captured.entry (e.Dialled k to why)) may = absurd may
 plain_none n l x (captured.entry _) may = refl
-plain_none n l x (captured.up (e.Dialled k to why)) may = ap (λ (w : Why). list_any (is_control_of n) (e.Dialled k to w ∷ [])) may.1
+plain_none n l x (captured.up (e.Dialled k to why)) may =
+    dialled_so (λ w. list_any (is_control_of n) (e.Dialled k to w ∷ []) ≡ false) l refl refl (x.plain l).door why may.1
 plain_none n l x (captured.up _) may = refl
 plain_none n l x _ may = refl
 

@@ -88,7 +88,7 @@ links_lead g x points l (p ∷ parts) b stands (inner, mid, steps, leads) =
       plain = rest.plain ∙ one.plain;
     }
 
--- LINKS OF THE PLAIN DOOR
+-- PLAIN LINKS
 
 pub plain_links_step : PlainLinksStep
 plain_links_step g x points l p stands guard may =

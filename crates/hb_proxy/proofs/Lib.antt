@@ -11,11 +11,13 @@ pub mod Known
 pub mod Leads
 pub mod Links
 pub mod Look
+pub mod OutboundRefusing
 pub mod Own
 pub mod Owned
 pub mod Places
 pub mod Plain
 pub mod PlainChanges
+pub mod PlainDoors
 pub mod PlainRefusing
 pub mod PlainStays
 pub mod PlainWaits

@@ -93,7 +93,7 @@ module _ (whose : ℕ → Owner) (l s : ℕ) (x : Inbound) (t : Tunnel) (owns : 
   on_up e.Tick may k is = absurd may
   on_up (e.Wait ready how) may k is = absurd may
 
--- an entry of a link of the plain door stands on it
+-- an entry of a plain link stands on it
 on_plain : (l : ℕ) (x : Captured) (z : Entry) → relays.MayCome l x z → (k : ℕ) → link_of z ≡ Some k → k ≡ l
 on_plain l x (e.Came j bytes) may k is = (let same : j ≡ k = cc in sym same ∙ may.0)
 on_plain l x (e.Ended j) may k is = (let same : j ≡ k = cc in sym same ∙ may.0)

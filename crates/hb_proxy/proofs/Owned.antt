@@ -36,12 +36,13 @@ use Rattle.hb_proxy.specs.Points.{Point, of_control, of_link, of_plain, entry_in
 use Rattle.hb_proxy.specs.Runs.{BirthMayCome, ControlGuard, LinkGuard, PlainGuard, Steps, StandsFor, begins, goes_on}
 use Rattle.hb_proxy.proofs.ControlBorn.{control_stays}
 use Rattle.hb_proxy.proofs.Places.{short, birth_of}
+use Rattle.hb_proxy.proofs.PlainDoors.{caught, relayed}
 use Rattle.hb_proxy.proofs.PlainStays.{RelayBy, OwnsRelay, is_plain_born, PlainStays, same_plain, ends_stay, rejudged_stays, part_stays}
 use Rattle.hb_proxy.proofs.Projection.{control_runs, links_run}
 use Rattle.hb_proxy.proofs.Stays.{IsNone, IsWeak, OwnsBy, Owns, is_born, LinkStays, same_link, applied_stays, stopped_stays, step_stays}
 
 -- each number that is above the last birth is nobody's; each link that is born is its part's, as is each tunnel's upstream; and an
--- upstream is of one stream, of a link that was accepted; so it is of links of the plain door
+-- upstream is of one stream, of a link that was accepted; so it is of plain links
 pub record Owned (x : Machine) (whose : ℕ → Owner) : Type 0 where
   pub unborn : (n : ℕ) → x.born < n → whose n ≡ nobody
   pub none : whose 0 ≡ nobody
@@ -174,7 +175,7 @@ module _ (x y : Machine) (whose : ℕ → Owner) (owned : Owned x whose) (k : �
       by (tunnel.ended why) is = kept t.up (upstream_of l s) (λ same. cc) is
       by (tunnel.over why) is = kept t.up (upstream_of l s) (λ same. cc) is
 
-  -- so has a link of the plain door
+  -- so has a plain link
   keeps_relay : (l : ℕ) (z : Captured) → (w ≢ relay_of l) → OwnsRelay whose l z → OwnsRelay then l z
   keeps_relay l z other is = by z.stage is
     where
@@ -297,11 +298,11 @@ module _ (g : NodeConfig) (x : Machine) (whose : ℕ → Owner) (owned : Owned x
       })
 
   plain_accepted : (l k : ℕ) (d : Door) → relays.MayCome l (x.plain l) (e.Accepted k d) → k ≡ x.born + 1
-      → Owned (with_plain l (captured.entry (e.Accepted k d)) (plain.at_stage plain.arriving (x.plain l)) x) (behind (e.Accepted k d))
+      → Owned (with_plain l (captured.entry (e.Accepted k d)) (plain.entered (e.Accepted k d) (x.plain l)) x) (behind (e.Accepted k d))
   plain_accepted l k d may number =
       let w = at_door d in
-      let mine : w ≡ plain_link = ap at_door may.2 in
-      let next = plain.at_stage plain.arriving (x.plain l) in
+      let mine : w ≡ plain_link = caught d may.2 in
+      let next = plain.entered (e.Accepted k d) (x.plain l) in
       let y = with_plain l (captured.entry (e.Accepted k d)) next x in
       let no_up : (j s : ℕ) → w ≢ upstream_of j s = λ j s is. (let no : plain_link ≡ upstream_of j s = sym mine ∙ is in cc) in
       let no_relay : (j : ℕ) → w ≢ relay_of j = λ j is. (let no : plain_link ≡ relay_of j = sym mine ∙ is in cc) in
@@ -329,7 +330,7 @@ module _ (g : NodeConfig) (x : Machine) (whose : ℕ → Owner) (owned : Owned x
   relay_dialled l u to why may number =
       let z = e.Dialled u to why in
       let w = dialled_for why in
-      let mine : w ≡ relay_of l = ap dialled_for may.1 in
+      let mine : w ≡ relay_of l = relayed l (x.plain l).door why may.1 in
       let next = plain.up_entered z (x.plain l) in
       let y = with_plain l (captured.up z) next x in
       let no_up : (j s : ℕ) → w ≢ upstream_of j s = λ j s is. (let no : relay_of l ≡ upstream_of j s = sym mine ∙ is in cc) in

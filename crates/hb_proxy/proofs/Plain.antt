@@ -1,4 +1,4 @@
--- Each run of the whole is, for each link of the plain door, a run of its own machine; so the laws of one hold of each.
+-- Each run of the whole is, for each plain link, a run of its own machine; so the laws of one hold of each.
 use Rattle.std.proofs.Common.{◌≡◌, ℕ, ◌==◌, Bool, true, false, List, [], ◌∷◌, ◌++◌, refl, ap, sym, ◌∙◌, subst, cond, arith}
 use Rattle.std.proofs.lemmas.Bool.{eqb-true}
 use Rattle.hb_captured.proofs.Kept.{all_keep}

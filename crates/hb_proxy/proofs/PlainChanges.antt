@@ -1,8 +1,8 @@
 -- What a part makes of a plain link, as far as the trace tells of the link and of its upstream.
-use Rattle.std.proofs.Common.{◌≡◌, ◌⊎◌, inl, inr, ⊎_elim, ℕ, Bool, true, false, cond, List, refl, sym, ◌∙◌, subst}
+use Rattle.std.proofs.Common.{◌≡◌, ◌⊎◌, inl, inr, ⊎_elim, ℕ, ◌&&◌, Bool, true, false, cond, List, refl, sym, ◌∙◌, subst}
 use Rattle.hb_base.specs.declared.cause.Cause.{Cause}
 use Rattle.hb_base.specs.declared.cause.Cause.TheVariants as cause
-use Rattle.hb_captured.specs.Captured.{Captured, Stage, unborn, arriving, fronting, due, opening, accepting, live, failed, ended, over, at_stage, is_judged, ends_by, ends_for, came_by, hung_up, entered, up_entered, left_by, judged_by, rejudged}
+use Rattle.hb_captured.specs.Captured.{Captured, Stage, unborn, arriving, fronting, due, opening, accepting, live, failed, ended, over, at_stage, judges, is_judged, ends_by, ends_for, came_by, hung_up, entered, up_entered, left_by, judged_by, rejudged}
 use Rattle.hb_captured.specs.Part.{Part, entry, up, welcomed, crowded, lacked, misfronted, fronted, refused, accepted, left, done, applied, stopped}
 use Rattle.hb_captured.specs.Runs.{Local, MayCome, UpMayCome, MayGo, next_link}
 use Rattle.hb_held.specs.Held.{Resources}
@@ -160,7 +160,7 @@ module _ (k l : ℕ) (x : Captured) where
 
   -- a response that is applied
   pub applied_goes : (h : Resources) → PlainGoes k l x (rejudged h x)
-  applied_goes h = by (is_judged x.stage)
+  applied_goes h = by (judges x.door && is_judged x.stage)
     where
       by : (b : Bool) → PlainGoes k l x (cond b (judged_by (judged h x.peer x.target) x) x)
       by true = judged_goes (judged h x.peer x.target)
@@ -270,14 +270,14 @@ plain_part_goes l a welcomed may = goes_to 0 l a.link fronting (passes_at l a.li
 plain_part_goes l a crowded may = ends_goes 0 l a.link cause.NoRoom
 plain_part_goes l a lacked may = ends_goes 0 l a.link cause.NoMemory
 plain_part_goes l a (misfronted fault) may = ends_goes 0 l a.link _
-plain_part_goes l a (fronted seen) may =
+plain_part_goes l a (fronted seen to) may =
     let passes = passes_at l a.link fronting due may.0.0 due_passes in
     record {
       link = λ v other is. passes.link a.link.shut a.link.closed v is;
       up = λ n v other is. passes.up a.link.up a.link.up_shut n v is;
       due = λ is. passes.due a.link.up_shut a.link.shut a.link.closed is;
     }
-plain_part_goes l a (refused seen status made) may = record {
+plain_part_goes l a (refused seen why status made) may = record {
   link = λ v other is. born_fits a.link.stage a.link.shut a.link.closed v is;
   up = λ n v other is. past a.link.stage a.link.up a.link.up_shut n v is;
   due = λ is. tt;

@@ -1,4 +1,4 @@
--- What steps and laws of the whole refuse of links of the plain door.
+-- What steps and laws of the whole refuse of plain links.
 use Rattle.std.proofs.Common.{◌≡◌, inl, inr, ℕ, List, [], ◌∷◌, ◌++◌, drop, Some, refl, ap, sym, ◌∙◌, arith}
 use Rattle.std.proofs.lemmas.Bool.{false≢true}
 use Rattle.std.proofs.Math.Seq.{drop-append_seam}
@@ -59,13 +59,13 @@ not_admitted g to bytes seen note r not at =
 pub plain_writes_behind : PlainWritesBehind
 plain_writes_behind g to bytes seen note r byte not law =
     not_admitted g to bytes seen note r not
-    (law.plain (plain_updated to bytes seen note r) 2 (captured.up (e.Went 3 (byte ∷ []))) [] refl)
+    (law.plain (plain_updated to bytes seen note r) 2 (captured.up (e.Went 3 (byte ∷ []))) [] refl refl)
 
 pub plain_entry_behind : PlainEntryBehind
 plain_entry_behind g to bytes seen note r byte not law =
     let went = e.Went 3 (byte ∷ []) in
     not_admitted g to bytes seen note r not
-    ((law (plain_updated to bytes seen note r) (of_plain 2 (captured.up went)) [] refl went 3 refl refl).relay 2 refl)
+    ((law (plain_updated to bytes seen note r) (of_plain 2 (captured.up went)) [] refl went 3 refl refl).relay 2 refl refl)
 
 pub plain_invents_byte : PlainInventsByte
 plain_invents_byte to header seen note byte is law =

@@ -1,10 +1,10 @@
--- Whose the upstream of a link of the plain door is, by how far the link is, and that it stays so but for a birth.
-use Rattle.std.proofs.Common.{◌≡◌, inl, inr, ⊎_elim, ℕ, ◌||◌, Bool, true, false, cond, refl, ap, sym, ◌∙◌, subst}
+-- Whose the upstream of a plain link is, by how far the link is, and that it stays so but for a birth.
+use Rattle.std.proofs.Common.{◌≡◌, inl, inr, ⊎_elim, ℕ, ◌||◌, ◌&&◌, Bool, true, false, cond, refl, ap, sym, ◌∙◌, subst}
 use Rattle.std.proofs.lemmas.Bool.{false≢true}
 use Rattle.std.specs.List.{list_any}
 use Rattle.hb_base.specs.declared.cause.Cause.{Cause}
 use Rattle.hb_base.specs.declared.cause.Cause.TheVariants as cause
-use Rattle.hb_captured.specs.Captured.{Captured, Stage, unborn, arriving, fronting, due, opening, accepting, live, failed, ended, over, is_judged, judged_by, rejudged, at_stage, ends_by, ends_for, fronted_by, hung_up, came_by, left_by, entered, up_entered}
+use Rattle.hb_captured.specs.Captured.{Captured, Stage, unborn, arriving, fronting, due, opening, accepting, live, failed, ended, over, judges, is_judged, judged_by, rejudged, at_stage, ends_by, ends_for, fronted_by, hung_up, came_by, left_by, entered, up_entered}
 use Rattle.hb_captured.specs.Part as part
 use Rattle.hb_captured.specs.Part.{Part, entry, up, welcomed, crowded, lacked, misfronted, fronted, refused, accepted, left, done, applied, stopped}
 use Rattle.hb_captured.specs.Runs.{Local, MayCome, UpMayCome, MayGo, IsTried, next_link}
@@ -78,7 +78,7 @@ judged_stay l Unknown x = ends_stay l cause.Revoked x
 judged_stay l Denied x = ends_stay l cause.Revoked x
 
 pub rejudged_stays : (l : ℕ) (h : Resources) (x : Captured) → PlainStays l x (rejudged h x)
-rejudged_stays l h x = by (is_judged x.stage)
+rejudged_stays l h x = by (judges x.door && is_judged x.stage)
   where
     by : (b : Bool) → PlainStays l x (cond b (judged_by (judged h x.peer x.target) x) x)
     by true = judged_stay l (judged h x.peer x.target) x
@@ -168,9 +168,9 @@ part_stays l a welcomed may none = goes l a.link arriving (at_stage fronting a.l
 part_stays l a crowded may none = ends_stay l cause.NoRoom a.link
 part_stays l a lacked may none = ends_stay l cause.NoMemory a.link
 part_stays l a (misfronted fault) may none = ends_stay l (cause.FrontFault (number_of fault)) a.link
-part_stays l a (fronted seen) may none = goes l a.link fronting (fronted_by seen due a.link) may.0.0 refl (λ whose is. is)
-part_stays l a (refused seen status made) may none =
-    goes l a.link fronting (fronted_by seen (over (cause.Refused status)) a.link) may.0.0 refl (λ whose is. inl is.1)
+part_stays l a (fronted seen to) may none = goes l a.link fronting (fronted_by seen to due a.link) may.0.0 refl (λ whose is. is)
+part_stays l a (refused seen why status made) may none =
+    goes l a.link fronting (fronted_by seen seen.destination (over why) a.link) may.0.0 refl (λ whose is. inl is.1)
 part_stays l a (accepted made) may none = goes l a.link accepting (at_stage live a.link) may.0 refl (λ whose is. is)
 part_stays l a (left made) may none = left_stays l a.link
 part_stays l a (done made) may none = goes l a.link live (at_stage (over cause.Done) a.link) may.0 refl (λ whose is. inr is)

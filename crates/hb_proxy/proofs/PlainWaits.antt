@@ -1,4 +1,4 @@
--- What the settled law refuses of a link of the plain door, and what it lets.
+-- What the settled law refuses of a plain link, and what it lets.
 use Rattle.std.proofs.Common.{◌≡◌, ◌≢◌, inl, inr, ⊎_elim, ℕ, ◌≤◌, ◌==◌, Bool, true, false, cond, List, [], ◌∷◌, ◌++◌, length, refl, ap, sym, ◌∙◌, subst, arith}
 use Rattle.std.proofs.lemmas.Bool.{eqb-true, false≢true}
 use Rattle.hb_base.specs.declared.door.Door.TheVariants as door
@@ -196,7 +196,7 @@ module _ (g : NodeConfig) where
     where
       came : StandsFor g then (asked g ++ of_plain 2 (part.entry (e.Accepted 2 door.Plain)) ∷ [])
       came = goes_on (asked_so g) (of_plain 2 (part.entry (e.Accepted 2 door.Plain))) (
-        (refl, refl, refl),
+        (refl, refl, tt),
         record { birth = (refl, refl); control = rests; links = λ k. quiet_link; others = λ k apart. (tt, tt) },
         refl,
       ) refl

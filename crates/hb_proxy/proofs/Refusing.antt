@@ -4,12 +4,14 @@ use Rattle.std.proofs.lemmas.Bool.{cond_both, false≢true}
 use Rattle.hb_inbound.specs.Tunnel.{is_unanswered}
 use Rattle.std.proofs.lemmas.List.{append-nil, append_assoc}
 use Rattle.hb_base.specs.declared.cause.Cause.TheVariants as cause
+use Rattle.hb_base.specs.declared.door.Door.{Door}
 use Rattle.hb_base.specs.declared.door.Door.TheVariants as door
 use Rattle.hb_base.specs.declared.door.Why.TheVariants as whys
 use Rattle.hb_base.specs.declared.peer.Peer.{Peer}
 use Rattle.hb_captured.specs.Captured as captured_link
 use Rattle.hb_captured.specs.Captured.{at_stage}
 use Rattle.hb_captured.specs.Part as captured
+use Rattle.hb_captured.specs.Runs.{Captures}
 use Rattle.hb_held.specs.Outcome.{after_response}
 use Rattle.hb_inbound.specs.Calm.{IsCalm, IsQuiet, close_due}
 use Rattle.hb_inbound.specs.Inbound.{no_link, arriving, fronting, with_phase}
@@ -27,6 +29,7 @@ use Rattle.hb_world.specs.declared.entry.Entry.TheVariants as e
 use Rattle.hb_proxy.specs.Access.{UpIsAdmitted, AccessLaw}
 use Rattle.hb_proxy.specs.Held.{at_start}
 use Rattle.hb_proxy.specs.Machine.{Machine, fresh, with_control, with_part, with_plain}
+use Rattle.hb_proxy.specs.OutboundRefused.{outbound_updated, OutboundGoesOn, OutboundGoesBack}
 use Rattle.hb_proxy.specs.Owners.{nobody, control_plane, inbound_link}
 use Rattle.hb_proxy.specs.Points.{Point, of_control, of_link, of_plain}
 use Rattle.hb_proxy.specs.Refused.{ComesUnborn, ReadsUnborn, ReadsAnothers, BornTwice, BornAgain, SeesAlone, SeeAll, AnswersAnother, AnswersControl}
@@ -168,7 +171,20 @@ pub plain_goes_on : PlainGoesOn
 unfolding Places
 plain_goes_on g to bytes seen note r more is =
     access_so g (plain_updated to bytes seen note r ++ of_plain 2 (captured.up (e.Went 3 more)) ∷ [])
-    (tt, (tt, (tt, (tt, (tt, (tt, (tt, (tt, (tt, (record { seen = seen; told = refl; admitted = is }, tt))))))))))
+    (tt, (tt, (tt, (tt, (tt, (tt, (tt, (tt, (tt, (λ judged_here. record { seen = seen; told = refl; admitted = is }, tt))))))))))
+
+-- at the outbound door peers aren't judged
+pub outbound_goes_on : OutboundGoesOn
+unfolding Places
+outbound_goes_on g control bytes seen address note r more not =
+    access_so g (outbound_updated control bytes seen address note r ++ of_plain 2 (captured.up (e.Went 3 more)) ∷ [])
+    (tt, (tt, (tt, (tt, (tt, (tt, (tt, (tt, (tt, (λ judged_here. absurd (false≢true judged_here), tt))))))))))
+
+pub outbound_goes_back : OutboundGoesBack
+unfolding Places
+outbound_goes_back g control bytes seen address note r more not =
+    access_so g (outbound_updated control bytes seen address note r ++ of_plain 2 (captured.entry (e.Went 2 more)) ∷ [])
+    (tt, (tt, (tt, (tt, (tt, (tt, (tt, (tt, (tt, (λ judged_here. absurd (false≢true judged_here), tt))))))))))
 
 -- A RUN
 
@@ -179,7 +195,7 @@ quiet : IsQuiet no_link
 quiet = record { calm = calm; no_close = refl; idle = λ s. tt }
 
 -- the control plane is dialled
-abbrev dial : NodeConfig → Entry
+abbrev pub dial : NodeConfig → Entry
 dial g = e.Dialled 1 g.discovery whys.Discovery
 
 abbrev discovering : NodeConfig → control.Machine
@@ -212,20 +228,28 @@ run_may_go g =
     goes_on (dialled g) (of_link 2 (part.entry accept)) (link, ((refl, refl, refl), refl), guard, refl) refl in
     (z, goes_on accepted (of_link 2 part.welcomed) (with_phase fronting link, (refl, refl), tt, refl) refl)
 
-pub plain_run_may_go : PlainRunMayGo
-plain_run_may_go g =
-    let accept = e.Accepted 2 door.Plain in
-    let link = at_stage captured_link.arriving captured_link.no_link in
+-- behind that a link is accepted and taken in, at any door where one is captured
+abbrev pub taken_in : NodeConfig → Door → List Point
+taken_in g d =
+    of_control (point.entry (dial g)) ∷ of_plain 2 (captured.entry (e.Accepted 2 d)) ∷ of_plain 2 captured.welcomed ∷ []
+
+pub captured_may_go : (g : NodeConfig) (d : Door) → Captures d → (x : Machine) × StandsFor g x (taken_in g d)
+captured_may_go g d caught =
+    let accept = e.Accepted 2 d in
+    let link = captured_link.entered accept captured_link.no_link in
     let y = with_plain 2 (captured.entry accept) link (first g) in
     let z = with_plain 2 captured.welcomed (at_stage captured_link.fronting link) y in
     let guard : PlainMayCome (first g) 2 accept =
     record { birth = (refl, refl); control = rests g; links = λ k. quiet; others = λ k apart. (tt, tt) } in
     let accepted : StandsFor g y (of_control (point.entry (dial g)) ∷ of_plain 2 (captured.entry accept) ∷ []) =
-    goes_on (dialled g) (of_plain 2 (captured.entry accept)) ((refl, refl, refl), guard, refl) refl in
+    goes_on (dialled g) (of_plain 2 (captured.entry accept)) ((refl, refl, caught), guard, refl) refl in
     (z, goes_on accepted (of_plain 2 captured.welcomed) (refl, tt, refl) refl)
 
+pub plain_run_may_go : PlainRunMayGo
+plain_run_may_go g = captured_may_go g door.Plain tt
+
 -- every run is lawful
-lawful : (g : NodeConfig) (x : Machine) (points : List Point) → StandsFor g x points → IsLawful g points
+pub lawful : (g : NodeConfig) (x : Machine) (points : List Point) → StandsFor g x points → IsLawful g points
 lawful g x points runs = (
   runs_own g x points runs,
   runs_number g x points runs,

@@ -41,7 +41,7 @@ has_none g d seen = by (seen.has 1 refl)
     by (inr (inr (inr (inl there)))) = there
     by (inr (inr (inr (inr (k, (some, is)))))) = omega (arith, some, is)
 
--- A LINK OF THE PLAIN DOOR
+-- A PLAIN LINK
 
 -- it is there, and link 2 is its upstream
 is_there : (x : Machine) → HasRelay x plain.live → IsPlainThere (x.plain 1)

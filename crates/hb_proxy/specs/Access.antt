@@ -4,8 +4,9 @@ use Rattle.std.specs.Prelude.{⊤, ◌≡◌, ℕ, true, List, [], ◌∷◌, �
 use Rattle.std.specs.List.{AllByRecursion}
 use Rattle.hb_base.specs.declared.peer.Peer.{Peer}
 use Rattle.hb_base.specs.declared.target.Target.{Target}
+use Rattle.hb_captured.specs.Captured.{judges}
 use Rattle.hb_captured.specs.Part as captured
-use Rattle.hb_captured.specs.Sides.{header_of, judged_in}
+use Rattle.hb_captured.specs.Sides.{door_of, header_of, judged_in}
 use Rattle.hb_conn.specs.Connection.{Connection}
 use Rattle.hb_conn.specs.Observed.{output, frames_begun}
 use Rattle.hb_front.specs.Reading.{Seen}
@@ -70,7 +71,7 @@ pub record PlainIsAdmitted (g : NodeConfig) (before : List Point) (l : ℕ) : Ty
   pub admitted : judged_in (held g (control_of before)) seen ≡ Admitted
 
 abbrev pub PlainGoesAdmitted : NodeConfig → List Point → ℕ → Entry → Type 0
-PlainGoesAdmitted g before l (e.Went k bytes) = PlainIsAdmitted g before l
+PlainGoesAdmitted g before l (e.Went k bytes) = judges (door_of (plain_of l before)) ≡ true → PlainIsAdmitted g before l
 PlainGoesAdmitted g before l _ = ⊤
 
 abbrev pub PlainAccessAt : NodeConfig → List Point → ℕ → captured.Part → Type 0

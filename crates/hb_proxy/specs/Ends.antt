@@ -1,5 +1,5 @@
 -- The end law over the whole trace: a tunnel that ended, of whatever link, has no upstream that isn't closed where anything more comes,
--- on any link, and where a byte of any tunnel goes; and a link of the plain door that ended is closed there, with its upstream.
+-- on any link, and where a byte of any tunnel goes; and a plain link that ended is closed there, with its upstream.
 use Rattle.std.specs.Prelude.{⊤, ◌≡◌, ◌⊎◌, ℕ, true, List}
 use Rattle.hb_base.specs.declared.cause.Cause.{Cause}
 use Rattle.hb_captured.specs.Part as captured
@@ -16,7 +16,7 @@ use Rattle.hb_proxy.specs.Held.{at_start}
 use Rattle.hb_proxy.specs.Owners.{AtEach}
 use Rattle.hb_proxy.specs.Points.{Point, of_control, of_link, of_plain, parts_of, plain_of}
 
--- where a link of the plain door ended, it was closed, and has no upstream that isn't
+-- where a plain link ended, it was closed, and has no upstream that isn't
 pub record IsPlainClosed (g : NodeConfig) (before : List Point) (l : ℕ) : Type 0 where
   pub link : (why : Cause) → course_of (at_start g) (plain_of l before) ≡ over why → was_on_link is_close (plain_of l before) ≡ true
   pub up : (why : Cause) → course_of (at_start g) (plain_of l before) ≡ over why → up_of (plain_of l before) ≡ 0

@@ -112,7 +112,7 @@ abbrev pub RunsObeyLinks : Type 0
 RunsObeyLinks = (g : NodeConfig) (x : Machine) (points : List Point) (l : ℕ) → StandsFor g x points
     → LinkLaws (at_start g) l (parts_of l points)
 
--- and of one of the plain door
+-- and of a plain one
 pub record PlainLaws (start : Resources) (l : ℕ) (parts : List captured.Part) : Type 0 where
   pub relay : plain_relay.RelayLaw start parts
   pub access : plain_access.AccessLaw start parts

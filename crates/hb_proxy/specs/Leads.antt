@@ -43,7 +43,7 @@ abbrev pub LinksStep : Type 0
 LinksStep = (g : NodeConfig) (x : Machine) (points : List Point) (l : ℕ) (p : Part) (b : Local)
     → StandsFor g x points → LinkGuard x l p → inbound.Steps l (local x l) p b → GoesOn g x points l (p ∷ []) b
 
--- LINKS OF THE PLAIN DOOR
+-- PLAIN LINKS
 
 abbrev pub IsPlainInner : captured_part.Part → Type 0
 IsPlainInner (captured_part.entry e) = ⊥

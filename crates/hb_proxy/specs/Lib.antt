@@ -8,6 +8,7 @@ pub mod Laws
 pub mod Leads
 pub mod Machine
 pub mod Notes
+pub mod OutboundRefused
 pub mod Owners
 pub mod PlainWaits
 pub mod Points

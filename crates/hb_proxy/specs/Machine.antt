@@ -1,5 +1,5 @@
--- The whole proxy as a machine: its links to the control plane, which hold the resources, its inbound links, and its links of the plain
--- door.
+-- The whole proxy as a machine: its links to the control plane, which hold the resources, its inbound links, and its plain links: those of
+-- the plain door and of the outbound one.
 use Rattle.std.specs.Prelude.{ℕ, ◌==◌, if◌then◌else◌, fold, List}
 use Rattle.hb_captured.specs.Captured as captured
 use Rattle.hb_captured.specs.Captured.{Captured}
@@ -23,7 +23,7 @@ pub record Machine : Type 0 where
   pub born : ℕ
   -- each inbound link, by its number; one that is closed stays as it was
   pub inbound : ℕ → Inbound
-  -- and each link of the plain door, with its upstream
+  -- and each plain link, with its upstream
   pub plain : ℕ → Captured
 
 abbrev pub fresh : NodeConfig → Machine

@@ -24,20 +24,21 @@ pub data Owner : Type 0 where
   inbound_link : Owner
   -- the upstream of the tunnel on a stream of an inbound link
   upstream_of : (link stream : ℕ) → Owner
-  -- a link that was accepted at the plain door
+  -- a plain link: one that was accepted at the plain door, or at the outbound one
   plain_link : Owner
-  -- the upstream of a link of the plain door
+  -- the upstream of a plain link
   relay_of : (link : ℕ) → Owner
 
 abbrev pub at_door : Door → Owner
 at_door door.Inbound = inbound_link
 at_door door.Plain = plain_link
-at_door _ = nobody
+at_door door.Outbound = plain_link
 
 abbrev pub dialled_for : Why → Owner
 dialled_for whys.Discovery = control_plane
 dialled_for (whys.Upstream link stream) = upstream_of link stream
 dialled_for (whys.Plain link) = relay_of link
+dialled_for (whys.Direct link) = relay_of link
 dialled_for _ = nobody
 
 abbrev pub owner_by : ℕ → Owner → Entry → Owner
@@ -114,7 +115,7 @@ NumberMayStand before _ = ⊤
 abbrev pub NumberLaw : List Entry → Type 0
 NumberLaw trace = world.AtEach NumberMayStand trace
 
--- no two upstreams are of one stream of one link, or of one link of the plain door
+-- no two upstreams are of one stream of one link, or of one plain link
 pub record UpstreamLaw (trace : List Entry) : Type 0 where
   pub streams : (l s u v : ℕ) → owner u trace ≡ upstream_of l s → owner v trace ≡ upstream_of l s → u ≡ v
   pub relays : (l u v : ℕ) → owner u trace ≡ relay_of l → owner v trace ≡ relay_of l → u ≡ v

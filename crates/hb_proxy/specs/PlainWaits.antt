@@ -1,4 +1,4 @@
--- Waits in front of which something is left to be done on a link of the plain door, and one in front of which nothing is.
+-- Waits in front of which something is left to be done on a plain link, and one in front of which nothing is.
 use Rattle.std.specs.Prelude.{◌≡◌, ◌⊎◌, ℕ, ◌<◌, true, false, List, [], ◌∷◌, ◌++◌, length}
 use Rattle.hb_base.specs.declared.cause.Cause.{Cause}
 use Rattle.hb_base.specs.declared.door.Door.TheVariants as door

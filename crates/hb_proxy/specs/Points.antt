@@ -1,5 +1,5 @@
--- The points of a run of the whole proxy, in order: each is of the control plane, of one inbound link with its tunnels, or of one link of
--- the plain door with its upstream.
+-- The points of a run of the whole proxy, in order: each is of the control plane, of one inbound link with its tunnels, or of one plain
+-- link with its upstream.
 use Rattle.std.specs.Prelude.{ℕ, ◌==◌, if◌then◌else◌, List, [], ◌∷◌}
 use Rattle.std.specs.List.{flat_map}
 use Rattle.hb_captured.specs.Part as captured
@@ -13,7 +13,7 @@ pub data Point : Type 0 where
   of_control : model.Point → Point
   -- this happens to the inbound link of this number
   of_link : (link : ℕ) → Part → Point
-  -- and to the link of the plain door of this one
+  -- and to the plain link of this one
   of_plain : (link : ℕ) → captured.Part → Point
 
 -- the trace of a run
@@ -49,7 +49,7 @@ part_in link (of_plain l p) = []
 abbrev pub parts_of : ℕ → List Point → List Part
 parts_of link points = flat_map (part_in link) points
 
--- the same of a link of the plain door
+-- the same of a plain link
 abbrev pub plain_seen : model.Point → List captured.Part
 plain_seen (model.applied l r) = captured.applied r ∷ []
 plain_seen (model.stopped cause) = captured.stopped cause ∷ []

@@ -29,7 +29,7 @@ pub record SendsNone (points : List Point) (l s : ℕ) : Type 0 where
   pub began : Began (sent l (entries points)) begun
   pub none : payloads s begun ≡ []
 
--- THE PLAIN DOOR
+-- PLAIN LINKS
 
 -- the bytes that came on a plain link behind its front header, once that is whole
 abbrev pub came_behind : List Point → ℕ → List ℕ

@@ -59,7 +59,7 @@ abbrev pub Lets : (first : Bool) → Inbound → Type 0
 Lets true x = IsCalm x
 Lets false x = IsQuiet x
 
--- nor on a link of the plain door
+-- nor on a plain link
 abbrev pub PlainLets : (first : Bool) → Captured → Type 0
 PlainLets true x = captured_calm.IsCalm x
 PlainLets false x = captured_calm.IsQuiet x
@@ -88,7 +88,7 @@ pub record LinkMayCome (x : Machine) (l : ℕ) (entry : Entry) : Type 0 where
   pub others : (k : ℕ) → k ≢ l → Lets (link_first (x.inbound l).phase entry) (x.inbound k)
   pub plain : (k : ℕ) → PlainLets (link_first (x.inbound l).phase entry) (x.plain k)
 
--- and one of a link of the plain door, or of its upstream
+-- and one of a plain link, or of its upstream
 pub record PlainMayCome (x : Machine) (l : ℕ) (entry : Entry) : Type 0 where
   pub birth : BirthMayCome x entry
   pub control : ControlRests x.control

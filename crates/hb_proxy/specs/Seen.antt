@@ -70,7 +70,7 @@ pub record IsFresh (x : Machine) (l : ℕ) : Type 0 where
   pub plain : (x.plain l).stage ≡ plain.unborn
   pub relay : (k : ℕ) → (x.plain k).up ≢ l
 
--- what is said of the links of the plain door, and of their upstreams
+-- what is said of the plain links, and of their upstreams
 pub record PlainSeen (x : Machine) (trace : List Entry) : Type 0 where
   -- a plain link that is there lives, is open, and was shut as it says
   pub link : (l : ℕ) → IsPlainThere (x.plain l) → (lives l trace ≡ true) × (is_open l trace ≡ true)
@@ -115,7 +115,7 @@ pub record Seen (x : Machine) (trace : List Entry) : Type 0 where
       → (IsThere (x.control.links l).phase → ⊥) × (IsLinkThere (x.inbound l).phase → ⊥)
   pub one_up : (k s j t u : ℕ) → Joins ((x.inbound k).tunnels s) u → Joins ((x.inbound j).tunnels t) u → (k ≡ j) × (s ≡ t)
   pub link_alone : (l : ℕ) → IsLinkThere (x.inbound l).phase → IsThere (x.control.links l).phase → ⊥
-  -- and the links of the plain door
+  -- and the plain links
   pub plain : PlainSeen x trace
 
 -- so it is in every run

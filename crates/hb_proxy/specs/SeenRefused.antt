@@ -45,7 +45,7 @@ KeepsClosed = (x : Machine) (why : Cause) → (x.inbound 1).phase ≡ serving
 abbrev pub HasNone : Type 0
 HasNone = (g : NodeConfig) (d : Door) → Seen (record (fresh g) { born = 1 }) (e.Accepted 1 d ∷ []) → ⊥
 
--- A LINK OF THE PLAIN DOOR
+-- A PLAIN LINK
 
 -- link 1 is accepted there, and its upstream, link 2, is dialled and opened
 abbrev pub relayed : Target → List Entry
@@ -79,7 +79,7 @@ abbrev pub KeepsRelayClosed : Type 0
 KeepsRelayClosed = (x : Machine) (to : Target) (why : Cause) → HasRelay x plain.live
     → Seen x (e.Accepted 1 door.Plain ∷ e.Dialled 2 to (whys.Plain 1) ∷ e.Opened 2 ∷ e.Closed 2 why ∷ []) → ⊥
 
--- another link of the plain door has the same upstream; an inbound link has its number
+-- another plain link has the same upstream; an inbound link has its number
 abbrev pub SharesRelay : Type 0
 SharesRelay = (x : Machine) (trace : List Entry) (k : ℕ) → HasRelay x plain.live → k ≢ 1 → (x.plain k).up ≡ 2 → Seen x trace → ⊥
 

@@ -80,7 +80,7 @@ UpSettledBy opening trace u t = Finishes trace u
 UpSettledBy live trace u t = Reads trace u (TakesNoMore t) × Writes trace u (t.ways.up.held ≡ [])
 UpSettledBy stage trace u t = ⊥
 
--- A link of the plain door is read until its front header is whole, and then as long as its peer sends and there is room, also while its
+-- A plain link is read until its front header is whole, and then as long as its peer sends and there is room, also while its
 -- upstream isn't open; what came of the upstream went, or it is asleep for writing
 abbrev pub PlainSettledBy : plain.Stage → (closed : Bool) → List Entry → ℕ → Captured → Type 0
 PlainSettledBy plain.unborn closed trace l x = ⊤

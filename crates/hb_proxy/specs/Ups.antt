@@ -1,4 +1,4 @@
--- Which link is the upstream of a tunnel, or of a link of the plain door.
+-- Which link is the upstream of a tunnel, or of a plain link.
 use Rattle.std.specs.Prelude.{◌≡◌, ℕ, ◌<◌}
 use Rattle.hb_captured.specs.Captured.{Captured}
 use Rattle.hb_inbound.specs.Tunnel.{Tunnel, Stage, opening, accepting, live, failed, ended, over}
@@ -20,6 +20,6 @@ up_now t = up_by t.stage t
 abbrev pub Joins : Tunnel → ℕ → Type 0
 Joins t u = (0 < u) × (up_now t ≡ u)
 
--- that of a link of the plain door is 0 before its dial and behind its close
+-- that of a plain link is 0 before its dial and behind its close
 abbrev pub IsRelayOf : Captured → ℕ → Type 0
 IsRelayOf x u = (0 < u) × (x.up ≡ u)

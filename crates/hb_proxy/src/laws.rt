@@ -22,8 +22,10 @@ ghost use Rattle.hb_proxy.specs.Refused.{AcceptsFirst, ReadsEnded, GoesOnAdmitte
 ghost use Rattle.hb_proxy.specs.Refused.{PlainGoesOn, PlainRunMayGo};
 ghost use Rattle.hb_proxy.specs.Refused.{PlainComesUnborn, PlainReadsUnborn, PlainReadsUpstream, PlainBehindEnd, PlainDialsTwice};
 ghost use Rattle.hb_proxy.specs.Refused.{PlainWritesBehind, PlainEntryBehind, PlainInventsByte, PlainReadsBehind};
+ghost use Rattle.hb_proxy.specs.OutboundRefused.{OutboundDialsTwice, OutboundBehindEnd, OutboundReadsUpstream};
+ghost use Rattle.hb_proxy.specs.OutboundRefused.{OutboundRunMayGo, OutboundRunIsLawful, OutboundGoesOn, OutboundGoesBack};
 
-/// The points of the control plane are a run of its machine, and what happens to each inbound link, and to each link of the plain door,
+/// The points of the control plane are a run of its machine, and what happens to each inbound link, and to each plain link,
 /// is a run of that link's, with the resources that the control plane holds: those of its responses.
 pub fn parts_are_runs()
     ensures control { ControlRuns }
@@ -34,7 +36,7 @@ pub fn parts_are_runs()
     ensures plain_shared { PlainHolds }
 {}
 
-/// What follows by itself on an inbound link or one of the plain door, and a part of it that the whole lets come, is a run of the whole,
+/// What follows by itself on an inbound link or a plain one, and a part of it that the whole lets come, is a run of the whole,
 /// in which no other part changes: so whoever follows the machine of one link follows that of the whole.
 pub fn links_lead()
     ensures step { LinksStep }
@@ -44,7 +46,7 @@ pub fn links_lead()
 {}
 
 /// Each entry stands on a link of its own part, links are numbered in the order of births, and each upstream is of a stream of its own,
-/// or of a link of the plain door. So the bytes that came and went on a link are the same in the trace and in the link's part.
+/// or of a plain link. So the bytes that came and went on a link are the same in the trace and in the link's part.
 pub fn links_have_owners()
     ensures own { RunsOwn }
     ensures numbers { RunsNumber }
@@ -52,7 +54,7 @@ pub fn links_have_owners()
     ensures sides { RunsShareSides }
 {}
 
-/// A link to the control plane, an inbound link, the upstream of a tunnel, a link of the plain door and its upstream, each that is born and
+/// A link to the control plane, an inbound link, the upstream of a tunnel, a plain link and its upstream, each that is born and
 /// not closed in the machine, lives behind the trace, and is open and was shut as the machine says; each link that lives is one of these,
 /// of one part alone.
 pub fn links_are_seen()
@@ -64,9 +66,9 @@ pub fn doors_tell_of_no_link()
     ensures { DoorsTellNone }
 {}
 
-/// No byte goes to an upstream, no DATA frame with payload begins on an inbound link, and no byte goes on a plain link, unless the
-/// resources held then, by the control plane's responses, admit the tunnel's peer at its target: so it is of each part, and of each entry
-/// of the trace by the link that it stands on.
+/// No byte goes to an upstream, no DATA frame with payload begins on an inbound link, and no byte goes on a link of the plain door, unless
+/// the resources held then, by the control plane's responses, admit the tunnel's peer at its target: so it is of each part, and of each
+/// entry of the trace by the link that it stands on. The peer of a link of the outbound door isn't judged.
 pub fn peers_are_admitted()
     ensures parts { RunsAdmit }
     ensures entries { RunsAdmitEntries }
@@ -92,9 +94,9 @@ pub fn links_obey()
     ensures { RunsObeyLinks }
 {}
 
-/// The bytes of each link of the plain door go on as they came, behind its front header, and only while its peer is admitted at its
-/// destination. That gets the answer and the dial that are due; the link and its upstream end together for the first cause that applies,
-/// with their notes; and no work is put off.
+/// The bytes of each plain link go on as they came, behind its front header, and at the plain door only while its peer is admitted at its
+/// destination. That gets the answer and the dial that are due at its door; the link and its upstream end together for the first cause that
+/// applies, with their notes; and no work is put off.
 pub fn plain_links_obey()
     ensures { RunsObeyPlain }
 {}
@@ -146,7 +148,7 @@ pub fn revoked_tunnels_are_silent()
     ensures invents { InventsByte }
 {}
 
-/// Nothing comes on a link of the plain door that nobody bore, nor on the upstream of one as if it were one; none is accepted behind the
+/// Nothing comes on a plain link that nobody bore, nor on the upstream of one as if it were one; none is accepted behind the
 /// end of the run, and none has two upstreams. Behind an update that no longer admits its peer no byte goes to its upstream; none goes
 /// there that didn't come behind the front header; and nothing comes on another link before one that ended is closed.
 pub fn plain_links_are_refused()
@@ -161,6 +163,14 @@ pub fn plain_links_are_refused()
     ensures reads { PlainReadsBehind }
 {}
 
+/// None is accepted at the outbound door either behind the end of the run, and none there has two upstreams, dialled for either door; nor
+/// does anything come on the upstream of one as if it were one.
+pub fn outbound_links_are_refused()
+    ensures dialled { OutboundDialsTwice }
+    ensures late { OutboundBehindEnd }
+    ensures upstream { OutboundReadsUpstream }
+{}
+
 /// No machine has a live tunnel whose upstream the trace never bore, nor a shut one whose upstream it never shut, nor one that is to be
 /// opened where its upstream is open; nor a link that was closed; and none is without a link that lives.
 pub fn other_links_are_refused()
@@ -171,7 +181,7 @@ pub fn other_links_are_refused()
     ensures lives { HasNone }
 {}
 
-/// No machine has a live link of the plain door whose upstream the trace never bore, nor one that is shut, or whose upstream is, where
+/// No machine has a live plain link whose upstream the trace never bore, nor one that is shut, or whose upstream is, where
 /// the trace never shut it, nor one that is to be opened where its upstream is open; nor one that was closed, or whose upstream was; and
 /// none has two of one upstream, or one with the number of an inbound link.
 pub fn other_plain_links_are_refused()
@@ -203,7 +213,7 @@ pub fn waits_with_work_left_are_refused()
     ensures good { AsksOnce }
 {}
 
-/// Nothing is settled where bytes wait on a live link of the plain door either way, and what they go to isn't asleep for writing; where
+/// Nothing is settled where bytes wait on a live plain link either way, and what they go to isn't asleep for writing; where
 /// that link or its upstream has room, isn't read and isn't asleep for reading; nor where a shut, a dial or a close of one is due. Nor is
 /// anything where one was accepted and never read, or its upstream was never asked whether it is open. It is behind a read that moved
 /// nothing.
@@ -221,12 +231,16 @@ pub fn plain_waits_with_work_left_are_refused()
     ensures good { ReadsOnce }
 {}
 
-/// A link may be accepted behind the dial of the control plane, at either door, and a byte may go behind an update that still admits the
-/// peer, in a tunnel and on a plain link.
+/// A link may be accepted behind the dial of the control plane, at each door, and a byte may go behind an update that still admits the
+/// peer, in a tunnel and on a link of the plain door. On one of the outbound door, and on its upstream, bytes may go behind any update.
 pub fn good_runs_may_go()
     ensures run { RunMayGo }
     ensures lawful { RunIsLawful }
     ensures goes_on { GoesOnAdmitted }
     ensures plain { PlainRunMayGo }
     ensures plain_goes_on { PlainGoesOn }
+    ensures outbound { OutboundRunMayGo }
+    ensures outbound_lawful { OutboundRunIsLawful }
+    ensures outbound_goes_on { OutboundGoesOn }
+    ensures outbound_goes_back { OutboundGoesBack }
 {}
