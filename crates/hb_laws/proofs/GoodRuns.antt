@@ -7,11 +7,14 @@ use Rattle.std.specs.Prelude.{nat_lt}
 use Rattle.std.proofs.lemmas.Bool.{cond_both, eq-eqb, false≢true, ltb-true, ne_eqb}
 use Rattle.hb_base.specs.declared.cause.Cause.{Cause}
 use Rattle.hb_base.specs.declared.cause.Cause.TheVariants as cause
+use Rattle.hb_base.specs.declared.door.Door.{Door}
+use Rattle.hb_base.specs.declared.door.Door.TheVariants as door
+use Rattle.hb_captured.specs.Answer.{answer_on, refused_with}
 use Rattle.hb_captured.specs.Calm as plain_calm
 use Rattle.hb_captured.specs.Captured as plain
 use Rattle.hb_captured.specs.Captured.{peer_in}
 use Rattle.hb_captured.specs.Part as captured
-use Rattle.hb_captured.specs.Runs.{MayGo, next_link, verdict_note}
+use Rattle.hb_captured.specs.Runs.{Captures, MayGo, next_link, verdict_note}
 use Rattle.hb_conn.specs.Connection.{fresh_server, taken}
 use Rattle.hb_conn.specs.Observed.{streams_open}
 use Rattle.hb_front.specs.Faults.{number_of}
@@ -37,10 +40,9 @@ use Rattle.hb_world.specs.declared.entry.Woken.TheVariants as woken
 use Rattle.hb_proxy.specs.Machine.{Machine, fresh, plain_local, with_control, with_part, with_plain}
 use Rattle.hb_proxy.specs.Points.{Point, of_control, of_link, of_plain}
 use Rattle.hb_proxy.specs.Runs.{goes_first, BirthMayCome, Lets, PlainLets, ControlRests, PlainGuard, StandsFor, begins, goes_on}
-use Rattle.hb_laws.specs.Good.{good_trace, GoodTraceIsLawful, good_link, GoodLinkIsLawful, source, destination, good_end, GoodEndIsLawful, good_plain, GoodPlainIsLawful, good_refusal, GoodRefusalIsLawful}
+use Rattle.hb_laws.specs.Good.{good_trace, GoodTraceIsLawful, good_link, GoodLinkIsLawful, source, destination, good_end, GoodEndIsLawful, good_plain, GoodPlainIsLawful, good_refusal, GoodRefusalIsLawful, good_unsynced, GoodUnsyncedIsLawful}
 use Rattle.hb_laws.specs.Refused.{dials, fails, waits, waits_tick, balks}
 use Rattle.hb_laws.specs.RefusedLinks.{accepts}
-use Rattle.hb_laws.specs.RefusedPlain.{accepts_plain}
 use Rattle.hb_laws.proofs.Runs.{run_is_lawful}
 use Rattle.hb_laws.proofs.Tests.{and_both}
 
@@ -380,39 +382,9 @@ module _ (g : NodeConfig) where
   alone : (x : Machine) (p : captured.Part) → Alone x → Alone (on_plain p x)
   alone x p only k apart = ap (λ (b : Bool). cond b (next_link (x.plain 2) p) (x.plain k)) (ne_eqb k 2 apart) ∙ only k apart
 
-  abbrev p2 : Machine
-  p2 = on_plain (captured.entry accepts_plain) x1
-
-  abbrev p3 : Machine
-  p3 = on_plain captured.welcomed p2
-
-  alone3 : Alone p3
-  alone3 = alone p2 captured.welcomed (alone x1 (captured.entry accepts_plain) (λ k apart. refl))
-
   -- nothing came of a header yet
   more_first : IsAnswer [] More
   more_first = (refl, omega arith)
-
-  welcomed_plain : StandsFor g p3 (of_control (point.entry (dials g)) ∷ of_plain 2 (captured.entry accepts_plain)
-      ∷ of_plain 2 captured.welcomed ∷ [])
-  welcomed_plain =
-      goes_plain p2 _ captured.welcomed
-      (goes_plain x1 _ (captured.entry accepts_plain) dialled (refl, refl, refl)
-      (record { birth = (refl, refl); control = rests; links = λ k. quiet; others = λ k apart. (tt, tt) }))
-      refl tt
-
-  -- bytes come while it waits for its header, and it is closed where it is over
-  came_plain : (bytes : List ℕ) → AreOctets bytes → 0 < length bytes → length bytes ≤ 4112
-      → StandsFor g (on_plain (captured.entry (e.Came 2 bytes)) p3) (of_control (point.entry (dials g))
-      ∷ of_plain 2 (captured.entry accepts_plain) ∷ of_plain 2 captured.welcomed ∷ of_plain 2 (captured.entry (e.Came 2 bytes)) ∷ [])
-  came_plain bytes octets some fits =
-      goes_plain p3 _ (captured.entry (e.Came 2 bytes)) welcomed_plain
-      (refl, (inl ((more_first, tt), refl), omega arith), (octets, some, fits)) (record {
-        birth = tt;
-        control = rests;
-        links = λ k. quiet;
-        others = λ k apart. subst plain_calm.IsQuiet (sym (alone3 k apart)) (tt, tt);
-      })
 
   -- it is over and closed, and the proxy waits
   closed_quiet : (x : Machine) (why : Cause) → (x.plain 2).stage ≡ plain.over why → (x.plain 2).up ≡ 0 → Alone x → (l : ℕ)
@@ -425,59 +397,98 @@ module _ (g : NodeConfig) where
   act_calm : (x : Machine) → Alone x → (k : ℕ) → k ≢ 2 → plain_calm.IsCalm (x.plain k)
   act_calm x only k apart = subst plain_calm.IsCalm (sym (only k apart)) tt
 
-  abbrev fault : captured.Part
-  fault = captured.misfronted BadSignature
+  -- at each door a header is refused while nothing is held
+  unsynced : (d : Door) → answer_on d x1.control.held told ≡ refused_with 503
+  unsynced door.Outbound = refl
+  unsynced door.Plain = refl
+  unsynced door.Inbound = refl
 
-  abbrev p4 : Machine
-  p4 = on_plain (captured.entry began) p3
+  -- one that is accepted at a door at which plain links are
+  module _ (d : Door) (captures : Captures d) where
+    abbrev p2 : Machine
+    p2 = on_plain (captured.entry (e.Accepted 2 d)) x1
 
-  abbrev p5 : Machine
-  p5 = on_plain fault p4
+    abbrev p3 : Machine
+    p3 = on_plain captured.welcomed p2
 
-  abbrev p6 : Machine
-  p6 = on_plain (captured.entry ends) p5
+    alone3 : Alone p3
+    alone3 = alone p2 captured.welcomed (alone x1 (captured.entry (e.Accepted 2 d)) (λ k apart. refl))
 
-  alone5 : Alone p5
-  alone5 = alone p4 fault (alone p3 (captured.entry began) alone3)
+    welcomed_plain : StandsFor g p3 (of_control (point.entry (dials g)) ∷ of_plain 2 (captured.entry (e.Accepted 2 d))
+        ∷ of_plain 2 captured.welcomed ∷ [])
+    welcomed_plain =
+        goes_plain p2 _ captured.welcomed
+        (goes_plain x1 _ (captured.entry (e.Accepted 2 d)) dialled (refl, refl, captures)
+        (record { birth = (refl, refl); control = rests; links = λ k. quiet; others = λ k apart. (tt, tt) }))
+        refl tt
 
-  plain_runs : StandsFor g (on waits p6) (of_control (point.entry (dials g)) ∷ of_plain 2 (captured.entry accepts_plain)
-      ∷ of_plain 2 captured.welcomed ∷ of_plain 2 (captured.entry began) ∷ of_plain 2 fault ∷ of_plain 2 (captured.entry ends)
-      ∷ of_control (point.entry waits) ∷ [])
-  plain_runs =
-      let faulty = goes_plain p4 _ fault (came_plain (0 ∷ []) (are_octets (0 ∷ []) refl) (omega arith) (omega arith)) (refl, inl refl) tt in
-      let ended = goes_plain p5 _ (captured.entry ends) faulty (refl, tt, refl, refl)
-      (record { birth = tt; control = rests; links = λ k. calm; others = act_calm p5 alone5 }) in
-      goes p6 _ waits ended (record { no_dial = refl; goes = refl; calm = unopened_calm }) tt (λ l. quiet)
-      (closed_quiet p5 (cause.FrontFault (number_of BadSignature)) refl refl alone5)
+    -- bytes come while it waits for its header, and it is closed where it is over
+    came_plain : (bytes : List ℕ) → AreOctets bytes → 0 < length bytes → length bytes ≤ 4112
+        → StandsFor g (on_plain (captured.entry (e.Came 2 bytes)) p3) (of_control (point.entry (dials g))
+        ∷ of_plain 2 (captured.entry (e.Accepted 2 d)) ∷ of_plain 2 captured.welcomed ∷ of_plain 2 (captured.entry (e.Came 2 bytes)) ∷ [])
+    came_plain bytes octets some fits =
+        goes_plain p3 _ (captured.entry (e.Came 2 bytes)) welcomed_plain
+        (refl, (inl ((more_first, tt), refl), omega arith), (octets, some, fits)) (record {
+          birth = tt;
+          control = rests;
+          links = λ k. quiet;
+          others = λ k apart. subst plain_calm.IsQuiet (sym (alone3 k apart)) (tt, tt);
+        })
 
-  abbrev refusal : captured.Part
-  refusal = captured.refused told 503 (verdict_note 2 503 (peer_in told) destination)
+    abbrev fault : captured.Part
+    fault = captured.misfronted BadSignature
 
-  abbrev shuts : Entry
-  shuts = e.Closed 2 (cause.Refused 503)
+    abbrev p4 : Machine
+    p4 = on_plain (captured.entry began) p3
 
-  abbrev q4 : Machine
-  q4 = on_plain (captured.entry fronted_entry) p3
+    abbrev p5 : Machine
+    p5 = on_plain fault p4
 
-  abbrev q5 : Machine
-  q5 = on_plain refusal q4
+    abbrev p6 : Machine
+    p6 = on_plain (captured.entry ends) p5
 
-  abbrev q6 : Machine
-  q6 = on_plain (captured.entry shuts) q5
+    alone5 : Alone p5
+    alone5 = alone p4 fault (alone p3 (captured.entry began) alone3)
 
-  alone_q5 : Alone q5
-  alone_q5 = alone q4 refusal (alone p3 (captured.entry fronted_entry) alone3)
+    plain_runs : StandsFor g (on waits p6) (of_control (point.entry (dials g)) ∷ of_plain 2 (captured.entry (e.Accepted 2 d))
+        ∷ of_plain 2 captured.welcomed ∷ of_plain 2 (captured.entry began) ∷ of_plain 2 fault ∷ of_plain 2 (captured.entry ends)
+        ∷ of_control (point.entry waits) ∷ [])
+    plain_runs =
+        let begun = came_plain (0 ∷ []) (are_octets (0 ∷ []) refl) (omega arith) (omega arith) in
+        let faulty = goes_plain p4 _ fault begun (refl, inl refl) tt in
+        let ended = goes_plain p5 _ (captured.entry ends) faulty (refl, tt, refl, refl)
+        (record { birth = tt; control = rests; links = λ k. calm; others = act_calm p5 alone5 }) in
+        goes p6 _ waits ended (record { no_dial = refl; goes = refl; calm = unopened_calm }) tt (λ l. quiet)
+        (closed_quiet p5 (cause.FrontFault (number_of BadSignature)) refl refl alone5)
 
-  refusal_runs : StandsFor g (on waits q6) (of_control (point.entry (dials g)) ∷ of_plain 2 (captured.entry accepts_plain)
-      ∷ of_plain 2 captured.welcomed ∷ of_plain 2 (captured.entry fronted_entry) ∷ of_plain 2 refusal ∷ of_plain 2 (captured.entry shuts)
-      ∷ of_control (point.entry waits) ∷ [])
-  refusal_runs =
-      let refused = goes_plain q4 _ refusal (came_plain front (are_octets front refl) (omega arith) (omega arith))
-      ((refl, whole), inl refl, refl) tt in
-      let ended = goes_plain q5 _ (captured.entry shuts) refused (refl, tt, refl, refl)
-      (record { birth = tt; control = rests; links = λ k. calm; others = act_calm q5 alone_q5 }) in
-      goes q6 _ waits ended (record { no_dial = refl; goes = refl; calm = unopened_calm }) tt (λ l. quiet)
-      (closed_quiet q5 (cause.Refused 503) refl refl alone_q5)
+    abbrev refusal : captured.Part
+    refusal = captured.refused told (cause.Refused 503) 503 (verdict_note 2 503 (peer_in told) destination)
+
+    abbrev shuts : Entry
+    shuts = e.Closed 2 (cause.Refused 503)
+
+    abbrev q4 : Machine
+    q4 = on_plain (captured.entry fronted_entry) p3
+
+    abbrev q5 : Machine
+    q5 = on_plain refusal q4
+
+    abbrev q6 : Machine
+    q6 = on_plain (captured.entry shuts) q5
+
+    alone_q5 : Alone q5
+    alone_q5 = alone q4 refusal (alone p3 (captured.entry fronted_entry) alone3)
+
+    refusal_runs : StandsFor g (on waits q6) (of_control (point.entry (dials g)) ∷ of_plain 2 (captured.entry (e.Accepted 2 d))
+        ∷ of_plain 2 captured.welcomed ∷ of_plain 2 (captured.entry fronted_entry) ∷ of_plain 2 refusal ∷ of_plain 2 (captured.entry shuts)
+        ∷ of_control (point.entry waits) ∷ [])
+    refusal_runs =
+        let refused = goes_plain q4 _ refusal (came_plain front (are_octets front refl) (omega arith) (omega arith))
+        ((refl, whole), unsynced d, refl) tt in
+        let ended = goes_plain q5 _ (captured.entry shuts) refused (refl, tt, refl, refl)
+        (record { birth = tt; control = rests; links = λ k. calm; others = act_calm q5 alone_q5 }) in
+        goes q6 _ waits ended (record { no_dial = refl; goes = refl; calm = unopened_calm }) tt (λ l. quiet)
+        (closed_quiet q5 (cause.Refused 503) refl refl alone_q5)
 
 pub good_trace_is_lawful : GoodTraceIsLawful
 good_trace_is_lawful g = run_is_lawful g _ _ (good_trace g) (runs g) refl
@@ -489,7 +500,10 @@ pub good_end_is_lawful : GoodEndIsLawful
 good_end_is_lawful g = run_is_lawful g _ _ (good_end g) (end_runs g) refl
 
 pub good_plain_is_lawful : GoodPlainIsLawful
-good_plain_is_lawful g = run_is_lawful g _ _ (good_plain g) (plain_runs g) refl
+good_plain_is_lawful g = run_is_lawful g _ _ (good_plain g) (plain_runs g door.Plain tt) refl
 
 pub good_refusal_is_lawful : GoodRefusalIsLawful
-good_refusal_is_lawful g = run_is_lawful g _ _ (good_refusal g) (refusal_runs g) refl
+good_refusal_is_lawful g = run_is_lawful g _ _ (good_refusal g) (refusal_runs g door.Plain tt) refl
+
+pub good_unsynced_is_lawful : GoodUnsyncedIsLawful
+good_unsynced_is_lawful g = run_is_lawful g _ _ (good_unsynced g) (refusal_runs g door.Outbound tt) refl

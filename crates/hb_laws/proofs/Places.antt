@@ -5,6 +5,7 @@ use Rattle.std.proofs.lemmas.List.Concat.{flat_map-append}
 use Rattle.hb_base.specs.declared.door.Why.{Why}
 use Rattle.hb_base.specs.declared.door.Why.TheVariants as whys
 use Rattle.hb_base.specs.declared.target.Target.{Target}
+use Rattle.hb_captured.specs.Answer.{why_at}
 use Rattle.hb_captured.specs.Part as captured
 use Rattle.hb_captured.specs.Runs.{MayCome, UpMayCome}
 use Rattle.hb_inbound.specs.Part as part
@@ -16,6 +17,7 @@ use Rattle.hb_proxy.specs.Machine.{Machine}
 use Rattle.hb_proxy.specs.Owners.{Owner, nobody, control_plane, inbound_link, upstream_of, plain_link, relay_of, dialled_for, link_of, owner, OwnAt, OwnLaw}
 use Rattle.hb_proxy.specs.Points.{Point, of_control, of_link, of_plain, entry_in, entries, control_in, control_of}
 use Rattle.hb_proxy.specs.Runs.{Steps}
+use Rattle.hb_proxy.proofs.PlainDoors.{relayed}
 use Rattle.hb_proxy.proofs.Places.{at_trace}
 
 -- a place of a trace is the place of a point
@@ -133,9 +135,9 @@ dial_point g x y (of_plain k (captured.entry en)) u to why steps is =
     let same : en ≡ e.Dialled u to why = cc in absurd (subst (MayCome k (x.plain k)) same steps.0)
 dial_point g x y (of_plain k (captured.up en)) u to why steps is =
     let same : en ≡ e.Dialled u to why = cc in
-    let for_it : why ≡ whys.Plain k = (subst (UpMayCome k (x.plain k)) same steps.0).1 in
-    subst (λ (w : Why). PointOf (e.Dialled u to why) u (dialled_for w) (of_plain k (captured.up en))) (sym for_it)
-    (ap (λ (z : Entry). of_plain k (captured.up z)) same)
+    let for_it : why ≡ why_at (x.plain k).door k = (subst (UpMayCome k (x.plain k)) same steps.0).1 in
+    subst (λ (o : Owner). PointOf (e.Dialled u to why) u o (of_plain k (captured.up en)))
+    (sym (relayed k (x.plain k).door why for_it)) (ap (λ (z : Entry). of_plain k (captured.up z)) same)
 dial_point g x y (of_plain k _) u to why steps is = absurd cc
 
 -- an entry on a link to the control plane, at its place

@@ -1,14 +1,18 @@
 -- What a run says of a plain link: for which causes it is closed, and how long its front header is.
-use Rattle.std.proofs.Common.{◌≡◌, ℕ, ◌≤◌, ◌==◌, Bool, true, false, List, [], ◌∷◌, fold, Option, Some, None, refl, ap, sym, ◌∙◌, subst, arith, length-append}
+use Rattle.std.proofs.Common.{◌≡◌, ℕ, ◌≤◌, ◌==◌, Bool, true, false, not, cond, List, [], ◌∷◌, fold, Option, Some, None, refl, ap, sym, ◌∙◌, subst, arith, length-append}
 use Rattle.std.specs.List.{list_any}
-use Rattle.std.proofs.lemmas.Bool.{false≢true}
+use Rattle.std.proofs.lemmas.Bool.{cond_both, false≢true}
 use Rattle.std.proofs.lemmas.List.Sums.{fold-append}
 use Rattle.hb_base.specs.declared.cause.Cause.{Cause}
 use Rattle.hb_base.specs.declared.cause.Cause.TheVariants as cause
+use Rattle.hb_base.specs.declared.door.Door.{Door}
+use Rattle.hb_base.specs.declared.door.Door.TheVariants as door
+use Rattle.hb_captured.specs.Answer.{Answer, dials, refuses, refused_with, by_verdict, by_way, answer_on, verdict_on, way_on}
+use Rattle.hb_captured.specs.Captured.{judges}
 use Rattle.hb_captured.specs.Part.{Part, entry, up, welcomed, crowded, lacked, misfronted, fronted, refused, accepted, left, done, applied, stopped}
 use Rattle.hb_captured.specs.Runs as plain
 use Rattle.hb_captured.specs.Runs.{Local, MayGo}
-use Rattle.hb_captured.specs.Sides.{Course, unborn, arriving, fronting, pending, lives, over, ends, hangs_up, course_entry, course_up, ends_judged, ends_at, course_by, course_of, Known, known_by, judged_in, header_by, header_of}
+use Rattle.hb_captured.specs.Sides.{Course, unborn, arriving, fronting, pending, lives, over, ends, hangs_up, course_entry, course_up, ends_judged, ends_at, course_by, course_of, Known, known_by, judged_in, header_by, header_of, door_by, door_of}
 use Rattle.hb_front.proofs.InFront.{in_front}
 use Rattle.hb_front.specs.Faults.{number_of}
 use Rattle.hb_front.specs.Header.{spelling}
@@ -20,8 +24,12 @@ use Rattle.hb_model.specs.declared.config.NodeConfig.{NodeConfig}
 use Rattle.hb_proxy.specs.Machine.{Machine}
 use Rattle.hb_proxy.specs.Points.{Point, of_control, of_link, of_plain, entry_in, entries, control_in, control_of, plain_in, plain_of}
 use Rattle.hb_proxy.specs.Runs.{Steps, StandsFor}
+use Rattle.hb_route.specs.Answer.{Way, by_gateway, straight, no_way}
 use Rattle.hb_table.specs.declared.judgement.Judged.{Judged}
 use Rattle.hb_table.specs.declared.judgement.Judged.TheVariants.{Admitted, Unknown, Denied}
+use Rattle.hb_verdict.specs.Verdict.{synced, is_own_door}
+use Rattle.hb_verdict.specs.declared.verdict.Verdict.{Verdict}
+use Rattle.hb_verdict.specs.declared.verdict.Verdict.TheVariants.{Status, Reset, Dial}
 use Rattle.hb_world.specs.declared.entry.Entry.{Entry}
 use Rattle.hb_world.specs.declared.entry.Entry.TheVariants as e
 use Rattle.hb_laws.specs.RefusedPlain.{is_failure}
@@ -30,7 +38,7 @@ use Rattle.hb_laws.proofs.Tests.{none_of_both}
 
 -- CALLS THAT FAILED
 
--- a call failed, or a dial; a part is such a call on the link or its upstream, or the end of the run
+-- a call failed, or a dial; a part is such a call on the link or its upstream, or the end of the run; or a refusal for such a cause
 abbrev pub fails_call : Entry → Bool
 fails_call (e.Broke l) = true
 fails_call (e.DialFailed to why) = true
@@ -39,8 +47,48 @@ fails_call _ = false
 abbrev pub fails_part : Part → Bool
 fails_part (entry z) = fails_call z
 fails_part (up z) = fails_call z
+fails_part (refused seen why status note) = is_failure why
 fails_part (stopped why) = true
 fails_part _ = false
+
+-- a link is refused for no such cause, nor for an update's
+abbrev is_refusal : Cause → Bool
+is_refusal (cause.Refused status) = true
+is_refusal (cause.NoRoute why) = true
+is_refusal cause.NoRoom = true
+is_refusal _ = false
+
+abbrev refuses_well : Answer → Bool
+refuses_well (dials to) = true
+refuses_well (refuses why status) = is_refusal why
+
+verdict_refuses : (v : Verdict) → refuses_well (by_verdict v) ≡ true
+verdict_refuses (Dial to) = refl
+verdict_refuses (Status status) = refl
+verdict_refuses Reset = refl
+
+way_refuses : (h : Resources) (w : Way) → refuses_well (by_way h w) ≡ true
+way_refuses h (straight to endpoint) =
+    cond_both (is_own_door h.doors to) (refused_with 400) (dials to) (λ a. refuses_well a ≡ true) (λ is. refl) (λ is. refl)
+way_refuses h (by_gateway address authority endpoint) = refl
+way_refuses h (no_way why) = refl
+
+answer_refuses : (d : Door) (h : Resources) (seen : Seen) → refuses_well (answer_on d h seen) ≡ true
+answer_refuses door.Outbound h seen =
+    cond_both (not (synced h)) (refused_with 503) (by_way h (way_on h seen)) (λ a. refuses_well a ≡ true) (λ is. refl)
+    (λ is. way_refuses h (way_on h seen))
+answer_refuses door.Plain h seen = verdict_refuses (verdict_on h seen)
+answer_refuses door.Inbound h seen = verdict_refuses (verdict_on h seen)
+
+no_failure : (why : Cause) → is_refusal why ≡ true → is_failure why ≡ false
+no_failure cause.PeerGone is = absurd (false≢true is)
+no_failure cause.UpFault is = absurd (false≢true is)
+no_failure cause.Broken is = absurd (false≢true is)
+no_failure _ is = refl
+
+refused_well : (d : Door) (h : Resources) (seen : Seen) (why : Cause) (status : ℕ) → answer_on d h seen ≡ refuses why status
+    → is_refusal why ≡ true
+refused_well d h seen why status is = sym (ap refuses_well is) ∙ answer_refuses d h seen
 
 -- where no call failed in the trace and the run goes on, no part of a link is one
 module _ (l : ℕ) where
@@ -62,6 +110,9 @@ module _ (l : ℕ) where
       none_of_one fails_part (entry z) (k == l) (none_of_both (fails_call z) false whole).0
   here g x y (of_plain k (up z)) steps whole runs =
       none_of_one fails_part (up z) (k == l) (none_of_both (fails_call z) false whole).0
+  here g x y (of_plain k (refused seen why status note)) steps whole runs =
+      none_of_one fails_part (refused seen why status note) (k == l)
+      (no_failure why (refused_well (x.plain k).door x.control.held seen why status steps.0.1))
   here g x y (of_plain k p) steps whole runs = none_of_one fails_part p (k == l) refl
 
   pub none_fails : (g : NodeConfig) (x : Machine) (points : List Point) → StandsFor g x points
@@ -71,18 +122,26 @@ module _ (l : ℕ) where
 
 -- THE CAUSE OF AN END
 
--- it ended for a call that failed
+-- it ended for one of these causes
+abbrev ended_by : (Cause → Bool) → Course → Bool
+ended_by is (over why) = is why
+ended_by is _ = false
+
+ends_without : (is : Cause → Bool) (why : Cause) (course : Course) → is why ≡ false → ended_by is course ≡ false
+    → ended_by is (ends why course) ≡ false
+ends_without is why unborn other whole = refl
+ends_without is why (over first) other whole = whole
+ends_without is why arriving other whole = other
+ends_without is why fronting other whole = other
+ends_without is why pending other whole = other
+ends_without is why lives other whole = other
+
+-- for a call that failed
 abbrev has_failed : Course → Bool
-has_failed (over why) = is_failure why
-has_failed _ = false
+has_failed course = ended_by is_failure course
 
 ends_whole : (why : Cause) (course : Course) → is_failure why ≡ false → has_failed course ≡ false → has_failed (ends why course) ≡ false
-ends_whole why unborn other whole = refl
-ends_whole why (over first) other whole = whole
-ends_whole why arriving other whole = other
-ends_whole why fronting other whole = other
-ends_whole why pending other whole = other
-ends_whole why lives other whole = other
+ends_whole = ends_without is_failure
 
 hangs_whole : (course : Course) → has_failed course ≡ false → has_failed (hangs_up course) ≡ false
 hangs_whole fronting whole = refl
@@ -109,34 +168,135 @@ at_whole h (Some seen) pending whole = judged_whole (judged_in h seen) pending w
 at_whole h (Some seen) lives whole = judged_whole (judged_in h seen) lives whole
 at_whole h told course whole = whole
 
-part_whole : (h : Resources) (told : Option Seen) (p : Part) (course : Course) → fails_part p ≡ false → has_failed course ≡ false
-    → has_failed (course_by h told course p) ≡ false
-part_whole h told (entry z) course none whole = entry_whole z course none whole
-part_whole h told (up z) course none whole = up_whole z course none whole
-part_whole h told welcomed course none whole = refl
-part_whole h told crowded course none whole = ends_whole cause.NoRoom course refl whole
-part_whole h told lacked course none whole = ends_whole cause.NoMemory course refl whole
-part_whole h told (misfronted fault) course none whole = ends_whole (cause.FrontFault (number_of fault)) course refl whole
-part_whole h told (fronted seen) course none whole = refl
-part_whole h told (refused seen status note) course none whole = ends_whole (cause.Refused status) course refl whole
-part_whole h told (accepted note) course none whole = refl
-part_whole h told (left made) course none whole = whole
-part_whole h told (done note) course none whole = ends_whole cause.Done course refl whole
-part_whole h told (applied r) course none whole = at_whole h told course whole
-part_whole h told (stopped why) course none whole = absurd (false≢true (sym none))
+applied_whole : (d : Door) (h : Resources) (told : Option Seen) (course : Course) → has_failed course ≡ false
+    → has_failed (cond (judges d) (ends_at h told course) course) ≡ false
+applied_whole door.Outbound h told course whole = whole
+applied_whole door.Plain h told course whole = at_whole h told course whole
+applied_whole door.Inbound h told course whole = at_whole h told course whole
+
+part_whole : (d : Door) (h : Resources) (told : Option Seen) (p : Part) (course : Course) → fails_part p ≡ false
+    → has_failed course ≡ false → has_failed (course_by d h told course p) ≡ false
+part_whole d h told (entry z) course none whole = entry_whole z course none whole
+part_whole d h told (up z) course none whole = up_whole z course none whole
+part_whole d h told welcomed course none whole = refl
+part_whole d h told crowded course none whole = ends_whole cause.NoRoom course refl whole
+part_whole d h told lacked course none whole = ends_whole cause.NoMemory course refl whole
+part_whole d h told (misfronted fault) course none whole = ends_whole (cause.FrontFault (number_of fault)) course refl whole
+part_whole d h told (fronted seen to) course none whole = refl
+part_whole d h told (refused seen why status note) course none whole = ends_whole why course none whole
+part_whole d h told (accepted note) course none whole = refl
+part_whole d h told (left made) course none whole = whole
+part_whole d h told (done note) course none whole = ends_whole cause.Done course refl whole
+part_whole d h told (applied r) course none whole = applied_whole d h told course whole
+part_whole d h told (stopped why) course none whole = absurd (false≢true (sym none))
 
 whole_from : (parts : List Part) (k : Known) → list_any fails_part parts ≡ false → has_failed k.course ≡ false
     → has_failed (fold known_by k parts).course ≡ false
 whole_from [] k none whole = whole
 whole_from (p ∷ parts) k none whole =
     let first = none_of_both (fails_part p) (list_any fails_part parts) none in
-    whole_from parts (known_by k p) first.1 (part_whole (known_by k p).held k.header p k.course first.0 whole)
+    whole_from parts (known_by k p) first.1 (part_whole k.door (known_by k p).held k.header p k.course first.0 whole)
 
 -- so such a link didn't end for one
 pub ends_unfailed : (start : Resources) (parts : List Part) (why : Cause) → list_any fails_part parts ≡ false → is_failure why ≡ true
     → course_of start parts ≡ over why → ⊥
 ends_unfailed start parts why none failure ended =
-    false≢true (sym (whole_from parts (record { held = start; header = None; course = unborn }) none refl) ∙ ap has_failed ended ∙ failure)
+    false≢true
+    (sym (whole_from parts (record { door = door.Plain; held = start; header = None; course = unborn }) none refl)
+    ∙ ap has_failed ended ∙ failure)
+
+-- AN UPDATE
+
+-- a part ends a link as an update does, aside from one: the end of the run, or a refusal for that cause
+abbrev is_revoked : Cause → Bool
+is_revoked cause.Revoked = true
+is_revoked _ = false
+
+abbrev revokes_part : Part → Bool
+revokes_part (refused seen why status note) = is_revoked why
+revokes_part (stopped why) = true
+revokes_part _ = false
+
+not_revoked : (why : Cause) → is_refusal why ≡ true → is_revoked why ≡ false
+not_revoked cause.Revoked is = absurd (false≢true is)
+not_revoked _ is = refl
+
+no_entry : (es : List Entry) → list_any (λ z. false) es ≡ false
+no_entry [] = refl
+no_entry (z ∷ es) = no_entry es
+
+-- while the run goes on no part of a link does
+module _ (l : ℕ) where
+  seen_revokes : (q : point.Point) → is_stop q ≡ false → list_any revokes_part (plain_in l (of_control q)) ≡ false
+  seen_revokes (point.stopped why) none = none
+  seen_revokes (point.applied k r) none = refl
+  seen_revokes (point.entry z) none = refl
+  seen_revokes (point.looked k points told headers) none = refl
+  seen_revokes (point.refused k) none = refl
+  seen_revokes (point.used k n) none = refl
+  seen_revokes (point.put k bytes) none = refl
+
+  update_here : (g : NodeConfig) (x y : Machine) (p : Point) → Steps g x p y → list_any (λ (z : Entry). false) (entry_in p) ≡ false
+      → list_any is_stop (control_in p) ≡ false → list_any revokes_part (plain_in l p) ≡ false
+  update_here g x y (of_control q) steps whole runs = seen_revokes q (none_of_both (is_stop q) false runs).0
+  update_here g x y (of_link k p) steps whole runs = refl
+  update_here g x y (of_plain k (stopped why)) steps whole runs = absurd steps.1
+  update_here g x y (of_plain k (refused seen why status note)) steps whole runs =
+      none_of_one revokes_part (refused seen why status note) (k == l)
+      (not_revoked why (refused_well (x.plain k).door x.control.held seen why status steps.0.1))
+  update_here g x y (of_plain k p) steps whole runs = none_of_one revokes_part p (k == l) refl
+
+  pub none_revokes : (g : NodeConfig) (x : Machine) (points : List Point) → StandsFor g x points
+      → list_any is_stop (control_of points) ≡ false → list_any revokes_part (plain_of l points) ≡ false
+  none_revokes g x points stands runs =
+      none_told (plain_in l) (λ z. false) revokes_part update_here g x points stands (no_entry (entries points)) runs
+
+abbrev was_revoked : Course → Bool
+was_revoked course = ended_by is_revoked course
+
+hangs_kept : (course : Course) → was_revoked course ≡ false → was_revoked (hangs_up course) ≡ false
+hangs_kept fronting kept = refl
+hangs_kept _ kept = kept
+
+-- at the outbound door no part revokes it
+part_kept : (d : Door) (h : Resources) (told : Option Seen) (p : Part) (course : Course) → revokes_part p ≡ false
+    → (d ≡ door.Outbound → was_revoked course ≡ false) → door_by d p ≡ door.Outbound → was_revoked (course_by d h told course p) ≡ false
+part_kept d h told (entry (e.Accepted k at)) course none kept out = refl
+part_kept d h told (entry (e.Ended k)) course none kept out = hangs_kept course (kept out)
+part_kept d h told (entry (e.Broke k)) course none kept out = ends_without is_revoked cause.PeerGone course refl (kept out)
+part_kept d h told (entry z) course none kept out = kept out
+part_kept d h told (up (e.DialFailed to why)) course none kept out = ends_without is_revoked cause.UpFault course refl (kept out)
+part_kept d h told (up (e.Broke k)) course none kept out = ends_without is_revoked cause.UpFault course refl (kept out)
+part_kept d h told (up z) course none kept out = kept out
+part_kept d h told welcomed course none kept out = refl
+part_kept d h told crowded course none kept out = ends_without is_revoked cause.NoRoom course refl (kept out)
+part_kept d h told lacked course none kept out = ends_without is_revoked cause.NoMemory course refl (kept out)
+part_kept d h told (misfronted fault) course none kept out =
+    ends_without is_revoked (cause.FrontFault (number_of fault)) course refl (kept out)
+part_kept d h told (fronted seen to) course none kept out = refl
+part_kept d h told (refused seen why status note) course none kept out = ends_without is_revoked why course none (kept out)
+part_kept d h told (accepted note) course none kept out = refl
+part_kept d h told (left made) course none kept out = kept out
+part_kept d h told (done note) course none kept out = ends_without is_revoked cause.Done course refl (kept out)
+part_kept d h told (applied r) course none kept out =
+    ap (λ (c : Door). was_revoked (cond (judges c) (ends_at h told course) course)) out ∙ kept out
+part_kept d h told (stopped why) course none kept out = absurd (false≢true (sym none))
+
+kept_from : (parts : List Part) (k : Known) → list_any revokes_part parts ≡ false
+    → (k.door ≡ door.Outbound → was_revoked k.course ≡ false) → fold door_by k.door parts ≡ door.Outbound
+    → was_revoked (fold known_by k parts).course ≡ false
+kept_from [] k none kept out = kept out
+kept_from (p ∷ parts) k none kept out =
+    let first = none_of_both (revokes_part p) (list_any revokes_part parts) none in
+    kept_from parts (known_by k p) first.1 (part_kept k.door (known_by k p).held k.header p k.course first.0 kept) out
+
+-- so no outbound link ended for an update
+pub outbound_unrevoked : (start : Resources) (parts : List Part) → list_any revokes_part parts ≡ false → door_of parts ≡ door.Outbound
+    → course_of start parts ≡ over cause.Revoked → ⊥
+outbound_unrevoked start parts none out ended =
+    false≢true
+    (sym (kept_from parts (record { door = door.Plain; held = start; header = None; course = unborn }) none (λ is. refl) out)
+    ∙ ap was_revoked ended)
 
 -- THE FRONT HEADER
 
@@ -159,6 +319,6 @@ header_len l start b more seen (plain.goes_on {a = a} {parts = parts} stands p s
 
     by : (q : Part) → MayGo l a q → header_by (header_of parts) q ≡ Some seen → (header_of parts ≡ Some seen → 16 ≤ seen.length)
         → 16 ≤ seen.length
-    by (fronted other) may is before = same other is (header_size a.link.front other may.0.1)
-    by (refused other status note) may is before = same other is (header_size a.link.front other may.0.1)
+    by (fronted other to) may is before = same other is (header_size a.link.front other may.0.1)
+    by (refused other why status note) may is before = same other is (header_size a.link.front other may.0.1)
     by _ may is before = before is

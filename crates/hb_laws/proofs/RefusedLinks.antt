@@ -6,8 +6,6 @@ use Rattle.std.proofs.lemmas.List.{append_assoc}
 use Rattle.hb_base.specs.declared.cause.Cause.TheVariants as cause
 use Rattle.hb_base.specs.declared.door.Door.TheVariants as door
 use Rattle.hb_base.specs.declared.door.Why.TheVariants as whys
-use Rattle.hb_captured.specs.Part as captured
-use Rattle.hb_captured.specs.Runs.{MayCome, UpMayCome}
 use Rattle.hb_frames.specs.Numbers.{data_kind}
 use Rattle.hb_frames.specs.RawFrame.{RawFrame, header, spelling}
 use Rattle.hb_inbound.specs.Closes.{ClosesAt}
@@ -17,7 +15,6 @@ use Rattle.hb_kept.proofs.Begun.{left_of}
 use Rattle.hb_kept.specs.Payloads.{payloads}
 use Rattle.hb_model.proofs.Inner.{over_is}
 use Rattle.hb_model.specs.Calls.{is_control_of}
-use Rattle.hb_model.specs.Point as point
 use Rattle.hb_model.specs.declared.config.NodeConfig.{NodeConfig}
 use Rattle.hb_outgoing.specs.Waiting.{spelled}
 use Rattle.hb_proxy.proofs.Owned.{all_owned}
@@ -26,17 +23,15 @@ use Rattle.hb_proxy.proofs.Projection.{control_runs}
 use Rattle.hb_proxy.specs.Access.{IsAdmitted}
 use Rattle.hb_proxy.specs.Dials.{DialsBy}
 use Rattle.hb_proxy.specs.Doors.{without_doors}
-use Rattle.hb_proxy.specs.Machine.{Machine}
 use Rattle.hb_proxy.specs.Owners.{nobody, inbound_link, owner, link_of, upstream_of, UpstreamLaw}
-use Rattle.hb_proxy.specs.Points.{Point, of_control, of_link, of_plain, entry_in, entries, control_of, parts_of}
+use Rattle.hb_proxy.specs.Points.{Point, entries, control_of, parts_of}
 use Rattle.hb_proxy.specs.Relay.{RelaysDown}
-use Rattle.hb_proxy.specs.Runs.{Steps}
 use Rattle.hb_world.specs.Trace.{recv, sent}
 use Rattle.hb_world.specs.declared.entry.Entry.{Entry}
 use Rattle.hb_world.specs.declared.entry.Entry.TheVariants as e
 use Rattle.hb_laws.specs.Lawful.{Lawful}
 use Rattle.hb_laws.specs.Refused.{dials, fails, waits, settings_octets}
-use Rattle.hb_laws.specs.RefusedLinks.{accepts, ComesUnborn, GoesUnborn, BornTwice, AcceptsFirst, AcceptsElsewhere, DialsUpTwice, ClosesLinkForSecond, ClosesHealthyLink, GoesUnheld, SendsMore, InventsDown, ChangesDown}
+use Rattle.hb_laws.specs.RefusedLinks.{accepts, ComesUnborn, GoesUnborn, BornTwice, AcceptsFirst, DialsUpTwice, ClosesLinkForSecond, ClosesHealthyLink, GoesUnheld, SendsMore, InventsDown, ChangesDown}
 use Rattle.hb_laws.proofs.Bytes.{stream_within}
 use Rattle.hb_laws.proofs.Closing.{close_place}
 use Rattle.hb_laws.proofs.Doors.{owner_without, came_without, went_without}
@@ -75,31 +70,6 @@ accepts_first g h =
     (subst (λ (b : Bool). DialsBy b g (entries s.front) (e.Accepted 1 door.Inbound)) runs
     (h.dials s.front s.p s.rest s.points_are (e.Accepted 1 door.Inbound) s.is)) in
     false≢true (sym due)
-
--- no part lets a link come from another door
-elsewhere : (g : NodeConfig) (x y : Machine) (p : Point) (l : ℕ) → Steps g x p y → entry_in p ≡ e.Accepted l door.Outbound ∷ [] → ⊥
-elsewhere g x y (of_control (point.entry en)) l steps is =
-    let same : en ≡ e.Accepted l door.Outbound = cc in
-    (subst (λ (z : Entry). Steps g x (of_control (point.entry z)) y) same steps).1.0
-elsewhere g x y (of_control _) l steps is = cc
-elsewhere g x y (of_link k (part.entry en)) l steps is =
-    let same : en ≡ e.Accepted l door.Outbound = cc in
-    let at : door.Outbound ≡ door.Inbound = (subst (λ (z : Entry). Steps g x (of_link k (part.entry z)) y) same steps).1.0.2 in cc
-elsewhere g x y (of_link k (part.up s en)) l steps is =
-    let same : en ≡ e.Accepted l door.Outbound = cc in
-    (subst (λ (z : Entry). Steps g x (of_link k (part.up s z)) y) same steps).1.0
-elsewhere g x y (of_link k _) l steps is = cc
-elsewhere g x y (of_plain k (captured.entry en)) l steps is =
-    let same : en ≡ e.Accepted l door.Outbound = cc in
-    let at : door.Outbound ≡ door.Plain = (subst (MayCome k (x.plain k)) same steps.0).2 in cc
-elsewhere g x y (of_plain k (captured.up en)) l steps is =
-    let same : en ≡ e.Accepted l door.Outbound = cc in subst (UpMayCome k (x.plain k)) same steps.0
-elsewhere g x y (of_plain k _) l steps is = cc
-
-pub accepts_elsewhere : AcceptsElsewhere
-accepts_elsewhere g h =
-    let s = place h.points (dials g ∷ []) (e.Accepted 2 door.Outbound) [] (sym h.trace_is) in
-    let at = goes_at g _ h s.front s.p s.rest s.points_are in elsewhere g at.machine at.next s.p 2 at.steps s.is
 
 pub dials_up_twice : DialsUpTwice
 dials_up_twice to g h =

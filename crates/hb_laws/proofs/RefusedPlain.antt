@@ -6,18 +6,23 @@ use Rattle.std.proofs.lemmas.List.{append-nil, append_assoc}
 use Rattle.std.proofs.lemmas.List.Sums.{fold-append}
 use Rattle.hb_base.specs.declared.cause.Cause.{Cause}
 use Rattle.hb_base.specs.declared.cause.Cause.TheVariants as cause
+use Rattle.hb_base.specs.declared.door.Door.{Door}
 use Rattle.hb_base.specs.declared.door.Door.TheVariants as door
+use Rattle.hb_base.specs.declared.door.Why.{Why}
 use Rattle.hb_base.specs.declared.door.Why.TheVariants as whys
+use Rattle.hb_base.specs.declared.target.Target.{Target}
 use Rattle.hb_captured.proofs.Stages.{course_one}
-use Rattle.hb_captured.specs.Captured.{peer_in}
+use Rattle.hb_captured.specs.Answer as answer
+use Rattle.hb_captured.specs.Answer.{by_verdict, answer_on, verdict_on, why_at}
+use Rattle.hb_captured.specs.Captured.{peer_in, judges}
 use Rattle.hb_captured.specs.Ends.{GoesOn, EndsAt}
 use Rattle.hb_captured.specs.Part as captured
 use Rattle.hb_captured.specs.Part.{Part}
 use Rattle.hb_captured.specs.Relay as plain_relay
 use Rattle.hb_captured.specs.Relay.{RelaysAt}
 use Rattle.hb_captured.specs.Sides as plain
-use Rattle.hb_captured.specs.Sides.{Course, pending, lives, over, ends_judged, ends_at, course_of, header_of, header_by, raw_came, link_came, link_went, up_came, up_went, came_in, went_in, up_came_in, up_went_in, judged_in, is_close, on_link, was_on_link, up_of, up_in}
-use Rattle.hb_captured.specs.Verdicts.{VerdictAt}
+use Rattle.hb_captured.specs.Sides.{Course, pending, lives, over, ends_judged, ends_at, course_of, door_of, header_of, header_by, address_of, raw_came, link_came, link_went, up_came, up_went, came_in, went_in, up_came_in, up_went_in, judged_in, is_close, on_link, was_on_link, up_of, up_in}
+use Rattle.hb_captured.specs.Verdicts.{VerdictAt, IsDialOf}
 use Rattle.hb_front.specs.Reading.{Seen}
 use Rattle.hb_held.specs.Held.{Resources}
 use Rattle.hb_held.specs.Outcome.{after_response}
@@ -32,12 +37,16 @@ use Rattle.hb_proxy.proofs.Plain.{plain_runs}
 use Rattle.hb_proxy.specs.Access.{PlainIsAdmitted}
 use Rattle.hb_proxy.specs.Held.{at_start}
 use Rattle.hb_proxy.specs.Machine.{plain_local}
-use Rattle.hb_proxy.specs.Owners.{plain_link, relay_of, owner, link_of, UpstreamLaw}
+use Rattle.hb_proxy.specs.Owners.{Owner, plain_link, relay_of, dialled_for, owner, link_of, UpstreamLaw}
 use Rattle.hb_proxy.specs.Points.{Point, of_control, of_plain, entry_in, entries, control_of, plain_in, plain_of}
 use Rattle.hb_proxy.specs.Relay.{came_behind}
 use Rattle.hb_proxy.specs.Sides.{PlainSide, RelaySide}
 use Rattle.hb_table.specs.declared.judgement.Judged.{Judged}
 use Rattle.hb_table.specs.declared.judgement.Judged.TheVariants.{Admitted, Unknown, Denied}
+use Rattle.hb_verdict.proofs.Dialled.{only_where_it_may}
+use Rattle.hb_verdict.specs.declared.request.Request.TheVariants.{Connect}
+use Rattle.hb_verdict.specs.declared.verdict.Verdict.{Verdict}
+use Rattle.hb_verdict.specs.declared.verdict.Verdict.TheVariants.{Status, Reset, Dial}
 use Rattle.hb_world.specs.Trace as world
 use Rattle.hb_world.specs.Trace.{recv, sent}
 use Rattle.hb_world.specs.declared.entry.Entry.{Entry}
@@ -46,12 +55,14 @@ use Rattle.hb_laws.specs.Lawful.{Lawful}
 use Rattle.hb_laws.specs.Refused.{dials, fails, waits}
 use Rattle.hb_laws.specs.RefusedPlain.{accepts_plain, ComesUndialled, GoesUndialled, DialsRelayTwice, is_failure, ClosesHealthyPlain, ClosesPlainForSecond, RelaysUnheld, RelaysBackUnheld, SendsHeader, InventsBack, ChangesBack, AnswersItself, IsOf, RelaysDenied, RelaysUncome, RelaysBackUncome, DialsAside, ShutsEarly, ShutsBackEarly, KeepsEndedPlain, KeepsRevokedPlain, ClosesPlainForAnother, ClosesLivePlain}
 use Rattle.hb_laws.specs.RefusedTunnels.{RefusedAt}
+use Rattle.hb_laws.proofs.Asked.{Answered, answers}
+use Rattle.hb_laws.proofs.BirthDoor.{door_at, door_told}
 use Rattle.hb_laws.proofs.Bytes.{not_more}
 use Rattle.hb_laws.proofs.Closing.{close_place}
 use Rattle.hb_laws.proofs.Doors.{owner_without, came_without, went_without}
 use Rattle.hb_laws.proofs.Lawful.{goes_at, laws_of}
 use Rattle.hb_laws.proofs.Living.{all_closed, plain_lives, relay_lives}
-use Rattle.hb_laws.proofs.Places.{place, dial_point, of_plain_link, of_relay}
+use Rattle.hb_laws.proofs.Places.{PointOf, place, dial_point, of_plain_link, of_relay}
 use Rattle.hb_laws.proofs.PlainLinks.{fails_call, none_fails, ends_unfailed, header_len}
 use Rattle.hb_laws.proofs.RefusedLinks.{unborn}
 use Rattle.hb_laws.proofs.Runs.{front_runs}
@@ -93,13 +104,21 @@ closes_for_second why failure g h =
 
 -- BYTES
 
+-- the door of a plain link is that of its birth
+pub birth_door : (g : NodeConfig) (trace : List Entry) → (h : Lawful g trace) → (before : List Point) (p : Point) (behind : List Point)
+    → h.points ≡ before ++ p ∷ behind → (l : ℕ) → owner l (entries before) ≡ plain_link
+    → door_of (plain_of l before) ≡ door_at l (entries before)
+birth_door g trace h before p behind are l mine =
+    let at = goes_at g trace h before p behind are in door_told l g at.machine before at.run mine
+
 pub relays_unheld : RelaysUnheld
 relays_unheld to came bytes g h =
     let goes = e.Went 2 bytes in
     let before = fails g ∷ e.Accepted 1 door.Plain ∷ e.Came 1 came ∷ e.Dialled 2 to (whys.Plain 1) ∷ e.Opened 2 ∷ [] in
     let s = place h.points before goes [] (sym h.trace_is) in
+    let at = birth_door g _ h s.front s.p s.rest s.points_are 1 (ap (owner 1) s.before_is) ∙ ap (door_at 1) s.before_is in
     let is : PlainIsAdmitted g s.front 1 =
-    (h.access s.front s.p s.rest s.points_are goes 2 s.is refl).relay 1 (ap (owner 2) s.before_is) in
+    (h.access s.front s.p s.rest s.points_are goes 2 s.is refl).relay 1 (ap (owner 2) s.before_is) (ap judges at) in
     none_admitted g _ h s.front (s.p ∷ s.rest) s.points_are (λ l. ap (list_any (is_control_of l)) s.before_is) (peer_in is.seen)
     is.seen.destination is.admitted
 
@@ -108,8 +127,9 @@ relays_back_unheld to came back bytes g h =
     let goes = e.Went 1 bytes in
     let before = fails g ∷ e.Accepted 1 door.Plain ∷ e.Came 1 came ∷ e.Dialled 2 to (whys.Plain 1) ∷ e.Opened 2 ∷ e.Came 2 back ∷ [] in
     let s = place h.points before goes [] (sym h.trace_is) in
+    let at = birth_door g _ h s.front s.p s.rest s.points_are 1 (ap (owner 1) s.before_is) ∙ ap (door_at 1) s.before_is in
     let is : PlainIsAdmitted g s.front 1 =
-    (h.access s.front s.p s.rest s.points_are goes 1 s.is refl).plain (ap (owner 1) s.before_is) in
+    (h.access s.front s.p s.rest s.points_are goes 1 s.is refl).plain (ap (owner 1) s.before_is) (ap judges at) in
     none_admitted g _ h s.front (s.p ∷ s.rest) s.points_are (λ l. ap (list_any (is_control_of l)) s.before_is) (peer_in is.seen)
     is.seen.destination is.admitted
 
@@ -207,6 +227,17 @@ module _ (g : NodeConfig) (trace : List Entry) (h : Lawful g trace) (before : Li
   at_law P each l q same =
       at_plain P h.points each before l q behind (are ∙ ap (λ (r : Point). before ++ r ∷ behind) same)
 
+  -- the dial of an upstream is of the address that the answer of its link's header tells, for the link at its door
+  pub dial_law : (l u : ℕ) (to : Target) (why : Why) → dialled_for why ≡ relay_of l → entry_in p ≡ e.Dialled u to why ∷ []
+      → IsDialOf l (plain_of l before) to why
+  dial_law l u to why mine is =
+      let at = goes_at g trace h before p behind are in
+      let same = subst (λ (o : Owner). PointOf (e.Dialled u to why) u o p) mine (dial_point g at.machine at.next p u to why at.steps is) in
+      (at_law (λ k. VerdictAt k (at_start g)) (λ k. ((laws_of g trace h).plain k).verdicts) l (captured.up (e.Dialled u to why)) same).0
+
+  pub answered : (l : ℕ) (to : Target) → address_of (plain_of l before) ≡ Some to → Answered g l before to
+  answered l to asked = (let at = goes_at g trace h before p behind are in answers g l at.machine before at.run to asked)
+
   -- it is relayed so with the point
   relay_with : (l : ℕ) (q : Part) → p ≡ of_plain l q → plain_relay.RelayLaw (at_start g) (plain_of l before ++ q ∷ [])
   relay_with l q same =
@@ -227,8 +258,9 @@ relays_denied g trace before behind p z h are is so = by so.of_it
     by : IsOf so.link so.on before → ⊥
     by (inl (same, mine)) =
         not (subst (PlainIsAdmitted g before) same
-        ((h.access before p behind are (e.Went so.on so.bytes) so.on goes refl).plain mine))
-    by (inr mine) = not ((h.access before p behind are (e.Went so.on so.bytes) so.on goes refl).relay so.link mine)
+        ((h.access before p behind are (e.Went so.on so.bytes) so.on goes refl).plain mine
+        (subst (λ (k : ℕ). judges (door_of (plain_of k before)) ≡ true) (sym same) so.judged)))
+    by (inr mine) = not ((h.access before p behind are (e.Went so.on so.bytes) so.on goes refl).relay so.link mine so.judged)
 
 -- one part more behind which the header is the same
 header_same : (parts : List Part) (q : Part) → ((told : Option Seen) → header_by told q ≡ told)
@@ -266,14 +298,32 @@ relays_back_uncome g trace before behind p z h are is so =
     not_more (link_went parts) so.more law.rest so.byte
     (all ∙ sym came ∙ law.front ∙ ap (λ (bs : List ℕ). bs ++ law.rest) (one_more went_in parts q))
 
+-- what is dialled at the plain door is the header's destination
+dialled_by : (v : Verdict) (to : Target) → by_verdict v ≡ answer.dials to → v ≡ Dial to
+dialled_by (Dial other) to is = (let same : other ≡ to = cc in ap Dial same)
+dialled_by (Status status) to is = absurd cc
+dialled_by Reset to is = absurd cc
+
+verdict_target : (r : Resources) (seen : Seen) (to : Target) → verdict_on r seen ≡ Dial to → seen.destination ≡ to
+verdict_target r seen to is =
+    let may = only_where_it_may (Connect seen.destination) r (peer_in seen) false to is in
+    let asked : Connect seen.destination ≡ Connect to = may.asked in
+    cc
+
+plain_target : (d : Door) (l : ℕ) (r : Resources) (seen : Seen) (to : Target) → whys.Plain l ≡ why_at d l
+    → answer_on d r seen ≡ answer.dials to → seen.destination ≡ to
+plain_target door.Outbound l r seen to for_it is = absurd cc
+plain_target door.Plain l r seen to for_it is = verdict_target r seen to (dialled_by (verdict_on r seen) to is)
+plain_target door.Inbound l r seen to for_it is = verdict_target r seen to (dialled_by (verdict_on r seen) to is)
+
 pub dials_aside : RefusedAt DialsAside
 dials_aside g trace before behind p z h are is so =
-    let at = goes_at g trace h before p behind are in
-    let dial = e.Dialled so.up so.other (whys.Plain so.link) in
-    let same = dial_point g at.machine at.next p so.up so.other (whys.Plain so.link) at.steps (is ∙ ap (λ (y : Entry). y ∷ []) so.dials) in
-    let law = (at_law g trace h before p behind are (λ l. VerdictAt l (at_start g)) (λ l. ((laws_of g trace h).plain l).verdicts) so.link
-    (captured.up dial) same).0 in
-    so.untold law.seen law.told (sym law.target)
+    let law = dial_law g trace h before p behind are so.link so.up so.other (whys.Plain so.link) refl
+    (is ∙ ap (λ (y : Entry). y ∷ []) so.dials) in
+    let there = answered g trace h before p behind are so.link so.other law.asked in
+    so.untold there.seen there.told
+    (plain_target (door_of (plain_of so.link before)) so.link (held g (control_of there.front)) there.seen so.other law.for_it
+    there.answered)
 
 pub shuts_early : RefusedAt ShutsEarly
 shuts_early g trace before behind p z h are is so =
@@ -343,6 +393,8 @@ keeps_revoked g trace before behind p z h are is so =
     let parts_are = ap (plain_of l) so.before_is ∙ one_more (plain_in l) so.front q in
     let holds = (h.laws so.front (q ∷ p ∷ behind) there).plain_held l in
     let ended = ap (course_of (at_start g)) parts_are ∙ course_one (at_start g) parts made
+    ∙ ap (λ (b : Bool). cond b (ends_at (after_response (plain.held (at_start g) parts) so.response) (header_of parts)
+    (course_of (at_start g) parts)) (course_of (at_start g) parts)) so.judged
     ∙ ap (λ (r : Resources). ends_at (after_response r so.response) (header_of parts) (course_of (at_start g) parts)) holds
     ∙ revokes (after_response (held g (control_of so.front)) so.response) so.seen (header_of parts) (course_of (at_start g) parts) so.told
     so.goes_on so.denied in
@@ -355,7 +407,7 @@ keeps_revoked g trace before behind p z h are is so =
 -- CLOSES
 
 -- a link and its upstream are closed for the cause that ended it
-close_at : (g : NodeConfig) (trace : List Entry) → (h : Lawful g trace) → (before : List Point) (p : Point) (behind : List Point)
+pub close_at : (g : NodeConfig) (trace : List Entry) → (h : Lawful g trace) → (before : List Point) (p : Point) (behind : List Point)
     → h.points ≡ before ++ p ∷ behind → (l n : ℕ) (why : Cause) → entry_in p ≡ e.Closed n why ∷ [] → IsOf l n before
     → course_of (at_start g) (plain_of l before) ≡ over why
 close_at g trace h before p behind are l n why is (inl (same, mine)) =

@@ -21,6 +21,7 @@ use Rattle.hb_model.specs.Inner.{InnerLaw}
 use Rattle.hb_model.specs.Messages.{held, held_by}
 use Rattle.hb_model.specs.Point as point
 use Rattle.hb_model.specs.declared.config.NodeConfig.{NodeConfig}
+use Rattle.hb_proxy.specs.Held.{at_start}
 use Rattle.hb_proxy.specs.Points.{Point, entries, control_of}
 use Rattle.hb_records.specs.declared.address.AddressRecord.{AddressRecord}
 use Rattle.hb_records.specs.declared.workload.Workload.{Workload}
@@ -65,12 +66,16 @@ nobody_admitted network node doors peer target =
     ap (λ (o : Option (List ℕ × Workload)). judged_at (nothing_held network node doors) o (record { peer = peer; target = target }))
     (unknown network node doors target.ip)
 
+-- where no link was one to the control plane what is held is what was at the start
+pub nothing_told : (g : NodeConfig) (trace : List Entry) → (h : Lawful g trace) → (front rest : List Point) → h.points ≡ front ++ rest
+    → ((l : ℕ) → list_any (is_control_of l) (entries front) ≡ false) → held g (control_of front) ≡ at_start g
+nothing_told g trace h front rest are no_link =
+    nothing_applied g (control_of front) (h.laws front rest are).control.inner (λ l. untold (is_control_of l) front (no_link l))
+
 pub none_admitted : (g : NodeConfig) (trace : List Entry) → (h : Lawful g trace) → (front rest : List Point) → h.points ≡ front ++ rest
     → ((l : ℕ) → list_any (is_control_of l) (entries front) ≡ false) → (peer : Peer) (target : Target)
     → judged (held g (control_of front)) peer target ≡ Admitted → ⊥
 none_admitted g trace h front rest are no_link peer target admitted =
-    let none = nothing_applied g (control_of front) (h.laws front rest are).control.inner
-    (λ l. untold (is_control_of l) front (no_link l)) in
     let no : Unknown ≡ Admitted = sym (nobody_admitted g.network g.node g.doors peer target)
-    ∙ sym (ap (λ (r : Resources). judged r peer target) none) ∙ admitted in
+    ∙ sym (ap (λ (r : Resources). judged r peer target) (nothing_told g trace h front rest are no_link)) ∙ admitted in
     cc

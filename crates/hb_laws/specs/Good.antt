@@ -1,4 +1,4 @@
--- Traces that are lawful: of a link to the control plane, of an inbound link, and of a plain one.
+-- Traces that are lawful: of a link to the control plane, of an inbound link, and of a plain one of either door.
 use Rattle.std.specs.Prelude.{List, [], ◌∷◌, None}
 use Rattle.hb_base.specs.declared.cause.Cause.TheVariants as cause
 use Rattle.hb_base.specs.declared.ip.Ip.TheVariants.{V4}
@@ -15,6 +15,7 @@ use Rattle.hb_world.specs.declared.entry.Woken.TheVariants as woken
 use Rattle.hb_laws.specs.Lawful.{Lawful}
 use Rattle.hb_laws.specs.Refused.{dials, fails, waits, waits_tick, balks}
 use Rattle.hb_laws.specs.RefusedLinks.{accepts}
+use Rattle.hb_laws.specs.RefusedOutbound.{accepts_outbound}
 use Rattle.hb_laws.specs.RefusedPlain.{accepts_plain}
 
 -- a link to the control plane is dialled and isn't open yet, then it breaks and is closed; at the next tick a dial fails
@@ -61,3 +62,11 @@ good_refusal g =
 
 abbrev pub GoodRefusalIsLawful : Type 0
 GoodRefusalIsLawful = (g : NodeConfig) → Lawful g (good_refusal g)
+
+-- so is one of the outbound door
+abbrev pub good_unsynced : NodeConfig → List Entry
+good_unsynced g =
+    dials g ∷ accepts_outbound ∷ e.Came 2 (front_text source destination None) ∷ e.Closed 2 (cause.Refused 503) ∷ waits ∷ []
+
+abbrev pub GoodUnsyncedIsLawful : Type 0
+GoodUnsyncedIsLawful = (g : NodeConfig) → Lawful g (good_unsynced g)

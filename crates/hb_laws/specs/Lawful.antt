@@ -25,7 +25,7 @@ use Rattle.hb_world.specs.declared.entry.Entry.{Entry}
 abbrev pub LinkHolds : NodeConfig → ℕ → List Point → Type 0
 LinkHolds g l points = inbound.held (at_start g) (parts_of l points) ≡ messages.held g (control_of points)
 
--- and so at a link of the plain door
+-- and so at a plain link
 abbrev pub PlainHolds : NodeConfig → ℕ → List Point → Type 0
 PlainHolds g l points = plain.held (at_start g) (plain_of l points) ≡ messages.held g (control_of points)
 
@@ -59,8 +59,8 @@ pub record Lawful (g : NodeConfig) (trace : List Entry) : Type 0 where
   -- each entry stands on a link of its own part; links are numbered in the order of births
   pub own : OwnLaw points
   pub numbers : NumberLaw (entries points)
-  -- no byte goes to an upstream or on a plain link, and no DATA begins on an inbound link, unless what is held then admits the peer: by
-  -- the link that the entry stands on, and by its part
+  -- where peers are judged no byte goes to an upstream or on a plain link, and no DATA begins on an inbound link, unless what is held then
+  -- admits the peer: by the link that the entry stands on, and by its part
   pub access : EntryLaw g points
   pub parts_access : AccessLaw g points
   -- a tunnel that ended has no upstream that isn't closed where more comes; a plain link that ended is closed there, with its upstream

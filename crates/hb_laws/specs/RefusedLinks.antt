@@ -36,12 +36,9 @@ GoesUnborn = (bytes : List ℕ) → Refused (λ g. dials g ∷ e.Went 2 bytes �
 abbrev pub BornTwice : Type 0
 BornTwice = Refused (λ g. dials g ∷ e.Accepted 1 door.Inbound ∷ [])
 
--- a link is accepted while the control plane is to be dialled, and at the outbound door
+-- a link is accepted while the control plane is to be dialled
 abbrev pub AcceptsFirst : Type 0
 AcceptsFirst = Refused (λ g. e.Accepted 1 door.Inbound ∷ [])
-
-abbrev pub AcceptsElsewhere : Type 0
-AcceptsElsewhere = Refused (λ g. dials g ∷ e.Accepted 2 door.Outbound ∷ [])
 
 -- two upstreams are dialled for one stream
 abbrev pub DialsUpTwice : Type 0

@@ -1,13 +1,14 @@
--- Small traces of links of the plain door and of their upstreams that no run leaves, and places that no lawful trace has.
+-- Small traces of plain links and of their upstreams that no run leaves, and places that no lawful trace has.
 use Rattle.std.specs.Prelude.{◌≡◌, ◌≢◌, ◌⊎◌, ℕ, ◌+◌, ◌<◌, Bool, true, false, List, [], ◌∷◌, ◌++◌, length, Some}
 use Rattle.hb_base.specs.declared.cause.Cause.{Cause}
 use Rattle.hb_base.specs.declared.cause.Cause.TheVariants as cause
 use Rattle.hb_base.specs.declared.door.Door.TheVariants as door
 use Rattle.hb_base.specs.declared.door.Why.TheVariants as whys
 use Rattle.hb_base.specs.declared.target.Target.{Target}
+use Rattle.hb_captured.specs.Captured.{judges}
 use Rattle.hb_captured.specs.Ends.{GoesOn}
 use Rattle.hb_captured.specs.Sides as plain
-use Rattle.hb_captured.specs.Sides.{header_of, judged_in, is_end, was_on_link, was_on_up, pending, over, course_of}
+use Rattle.hb_captured.specs.Sides.{door_of, header_of, judged_in, is_end, was_on_link, was_on_up, pending, over, course_of}
 use Rattle.hb_disco.specs.declared.response.Response.{Response}
 use Rattle.hb_front.specs.Reading.{Seen}
 use Rattle.hb_held.specs.Outcome.{after_response}
@@ -102,13 +103,15 @@ AnswersItself = (came more : List ℕ) (byte : ℕ)
 abbrev pub IsOf : (l n : ℕ) → List Point → Type 0
 IsOf l n before = ((n ≡ l) × (owner n (entries before) ≡ plain_link)) ⊎ (owner n (entries before) ≡ relay_of l)
 
--- bytes go on either, and what is held then, by the control plane's responses, doesn't admit the peer of the front header
+-- bytes go on either of a link whose door judges, and what is held then, by the control plane's responses, doesn't admit the peer of the
+-- front header
 pub record RelaysDenied (g : NodeConfig) (before : List Point) (z : Entry) : Type 0 where
   pub link : ℕ
   pub on : ℕ
   pub bytes : List ℕ
   pub goes : z ≡ e.Went on bytes
   pub of_it : IsOf link on before
+  pub judged : judges (door_of (plain_of link before)) ≡ true
   pub seen : Seen
   pub told : header_of (plain_of link before) ≡ Some seen
   pub denied : judged_in (held g (control_of before)) seen ≢ Admitted
@@ -133,7 +136,7 @@ pub record RelaysBackUncome (g : NodeConfig) (before : List Point) (z : Entry) :
   pub owned : owner up (entries before) ≡ relay_of link
   pub all_went : sent link (entries before) ≡ recv up (entries before)
 
--- another target is dialled for it than the destination that its front header told, or none was told
+-- another target is dialled for it, as one of the plain door, than the destination that its front header told, or none was told
 pub record DialsAside (g : NodeConfig) (before : List Point) (z : Entry) : Type 0 where
   pub link : ℕ
   pub up : ℕ
@@ -169,7 +172,7 @@ pub record KeepsEndedPlain (g : NodeConfig) (before : List Point) (z : Entry) : 
   pub has_ended : course_of (at_start g) (plain_of link before) ≡ over why
   pub living : lives on (entries before) ≡ true
 
--- so it is next behind a response that no longer admits the peer of one whose header was whole and that hadn't ended
+-- so it is next behind a response that no longer admits the peer of one whose door judges, whose header was whole and that hadn't ended
 pub record KeepsRevokedPlain (g : NodeConfig) (before : List Point) (z : Entry) : Type 0 where
   pub front : List Point
   pub control : ℕ
@@ -180,6 +183,7 @@ pub record KeepsRevokedPlain (g : NodeConfig) (before : List Point) (z : Entry) 
   pub seen : Seen
   pub more : is_more z ≡ true
   pub of_it : IsOf link on front
+  pub judged : judges (door_of (plain_of link front)) ≡ true
   pub goes_on : (course_of (at_start g) (plain_of link front) ≡ pending) ⊎ (course_of (at_start g) (plain_of link front) ≡ plain.lives)
   pub told : header_of (plain_of link front) ≡ Some seen
   pub denied : judged_in (after_response (held g (control_of front)) response) seen ≢ Admitted

@@ -4,7 +4,7 @@ ghost use Rattle.hb_laws.specs.Lawful.{RunsAreLawful};
 ghost use Rattle.hb_laws.specs.Refused.{NeverDials, DialsNoMore, DialsTwice, DialsAnother};
 ghost use Rattle.hb_laws.specs.Refused.{ClosesHealthy, ClosesForAnother, ClosesForSecond};
 ghost use Rattle.hb_laws.specs.Refused.{KeepsEnded, KeepsBroken, LooksAtNothing, AppliesForged};
-ghost use Rattle.hb_laws.specs.RefusedLinks.{ComesUnborn, GoesUnborn, BornTwice, AcceptsFirst, AcceptsElsewhere, DialsUpTwice};
+ghost use Rattle.hb_laws.specs.RefusedLinks.{ComesUnborn, GoesUnborn, BornTwice, AcceptsFirst, DialsUpTwice};
 ghost use Rattle.hb_laws.specs.RefusedLinks.{ClosesLinkForSecond, ClosesHealthyLink};
 ghost use Rattle.hb_laws.specs.RefusedLinks.{GoesUnheld, SendsMore, InventsDown, ChangesDown};
 ghost use Rattle.hb_laws.specs.RefusedTunnels.{RefusedAt, GoesDenied, GoesUncome, DialsElsewhere, KeepsEndedUp, KeepsRevokedUp};
@@ -13,7 +13,10 @@ ghost use Rattle.hb_laws.specs.RefusedPlain.{ComesUndialled, GoesUndialled, Dial
 ghost use Rattle.hb_laws.specs.RefusedPlain.{RelaysUnheld, RelaysBackUnheld, SendsHeader, InventsBack, ChangesBack, AnswersItself};
 ghost use Rattle.hb_laws.specs.RefusedPlain.{RelaysDenied, RelaysUncome, RelaysBackUncome, DialsAside, ShutsEarly, ShutsBackEarly};
 ghost use Rattle.hb_laws.specs.RefusedPlain.{KeepsEndedPlain, KeepsRevokedPlain, ClosesPlainForAnother, ClosesLivePlain};
+ghost use Rattle.hb_laws.specs.RefusedOutbound.{DialsAsPlain, DialsAsDirect, DialsDirectTwice, DialsUntold, RelaysUntold};
+ghost use Rattle.hb_laws.specs.RefusedOutbound.{DialsUnrouted, DialsAstray, ClosesUpdated, ClosesRevoked};
 ghost use Rattle.hb_laws.specs.Good.{GoodTraceIsLawful, GoodLinkIsLawful, GoodEndIsLawful, GoodPlainIsLawful, GoodRefusalIsLawful};
+ghost use Rattle.hb_laws.specs.Good.{GoodUnsyncedIsLawful};
 ghost use Rattle.hb_laws.specs.RefusedHearing.{HearsNoGoaway, HearsNoReset, HearsNoNotFound, HearsNoEnd, HearsNoEndOfHeaders};
 ghost use Rattle.hb_laws.specs.RefusedHearing.{KeepsReset, KeepsEndOfStream, KeepsEndAtOnce, KeepsNotFound};
 ghost use Rattle.hb_laws.specs.Refused.{ReadsUnopened, ReadsBehindEnd, ReadsBehindClose, WritesUnopened, FinishesOpened};
@@ -71,13 +74,12 @@ pub fn calls_are_refused()
 {}
 
 /// Nor one in which bytes come or go on a link that nobody bore, a number is born twice, a link is accepted before the control plane is
-/// dialled or at the outbound door, or two upstreams are dialled for one stream.
+/// dialled, or two upstreams are dialled for one stream.
 pub fn births_are_refused()
     ensures comes { ComesUnborn }
     ensures goes { GoesUnborn }
     ensures number { BornTwice }
     ensures first { AcceptsFirst }
-    ensures elsewhere { AcceptsElsewhere }
     ensures twice { DialsUpTwice }
 {}
 
@@ -131,10 +133,11 @@ pub fn relayed_bytes_are_refused()
     ensures itself { AnswersItself }
 {}
 
-/// No lawful trace has a place at which bytes go either way on a plain link though what is held then doesn't admit the peer, or bytes that
-/// didn't come from the other side; at which another target is dialled than its front header's destination; at which either side is shut
-/// in front of the last byte of the other; at which it ended and lives, or its upstream does, where more comes, also next behind an update
-/// that no longer admits the peer; or at which either is closed for another cause than the first, or though the link goes on.
+/// No lawful trace has a place at which bytes go either way on a plain link though its door judges and what is held then doesn't admit the
+/// peer, or bytes that didn't come from the other side; at which another target is dialled at the plain door than its front header's
+/// destination; at which either side is shut in front of the last byte of the other; at which it ended and lives, or its upstream does,
+/// where more comes, also next behind an update by which a door that judges no longer admits the peer; or at which either is closed for
+/// another cause than the first, or though the link goes on.
 pub fn places_of_plain_links_are_refused()
     ensures denied { RefusedAt RelaysDenied }
     ensures uncome { RefusedAt RelaysUncome }
@@ -148,14 +151,34 @@ pub fn places_of_plain_links_are_refused()
     ensures live { RefusedAt ClosesLivePlain }
 {}
 
+/// Nor is a trace lawful in which the upstream of a link of the outbound door is dialled as one of the plain door, or the other way round;
+/// in which two are dialled for one such link, for whatever reason; or one is dialled, and gets bytes, though no response ever came.
+pub fn outbound_links_are_refused()
+    ensures as_plain { DialsAsPlain }
+    ensures as_direct { DialsAsDirect }
+    ensures twice { DialsDirectTwice }
+    ensures untold { DialsUntold }
+    ensures relays { RelaysUntold }
+{}
+
+/// No lawful trace has a place at which a link of the outbound door is dialled though its front header had no route, or elsewhere than its
+/// route led, by what was held when it was told; or at which one that went on is closed next behind an update, or for an update at all.
+pub fn places_of_outbound_links_are_refused()
+    ensures unrouted { RefusedAt DialsUnrouted }
+    ensures astray { RefusedAt DialsAstray }
+    ensures updated { RefusedAt ClosesUpdated }
+    ensures revoked { RefusedAt ClosesRevoked }
+{}
+
 /// A trace is lawful in which a link to the control plane is dialled, breaks and is closed, and a dial fails at the next tick; one in
 /// which an inbound link begins with no front header and is closed for that; one in which its header is whole, its peer sends no more, and
 /// it is closed as done; one in which a plain link begins with no front header and is closed for that; and one in which its header is
-/// whole, and it is refused with 503, since nothing is held yet.
+/// whole, and it is refused with 503, since nothing is held yet, be it of the plain door or of the outbound one.
 pub fn good_traces_are_lawful()
     ensures control { GoodTraceIsLawful }
     ensures link { GoodLinkIsLawful }
     ensures end { GoodEndIsLawful }
     ensures plain { GoodPlainIsLawful }
     ensures refusal { GoodRefusalIsLawful }
+    ensures unsynced { GoodUnsyncedIsLawful }
 {}
