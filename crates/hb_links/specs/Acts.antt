@@ -35,7 +35,7 @@ ActsOn (Some (act.Shut u)) new g x = DoesUp new g x (e.Shut u)
 ActsOn (Some (act.Close u cause)) new g x = Does new g x u (part.entry (e.Closed u cause)) ⊎ DoesUp new g x (e.Closed u cause)
 
 -- A dial is due until its answer is told. A shut or a close counts as done: it may come where the control plane rests, and nothing more
--- happens by itself on a link of the plain door
+-- happens by itself on a plain link
 abbrev pub Acts : Option Act → Links → Links → Type 0
 Acts due old new =
     (g : NodeConfig) (x : Machine) (points : List Point) → StandsFor g x points → ShowsAll old x.inbound → ControlRests x.control

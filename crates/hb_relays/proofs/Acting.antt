@@ -1,9 +1,9 @@
 -- An act that is due of one link is one of all links.
-use Rattle.std.proofs.Common.{◌≡◌, ◌≢◌, inl, inr, ⊎_elim, ℕ, ◌<◌, ◌^◌, Bool, true, false, cond, List, Option, Some, None, is_some, refl, ap, sym, ◌∙◌, subst}
+use Rattle.std.proofs.Common.{◌≡◌, ◌≢◌, inl, inr, ⊎_elim, ℕ, ◌<◌, ◌^◌, Bool, true, false, cond, List, Option, Some, None, is_some, refl, ap, ap₂, sym, ◌∙◌, subst}
 use Rattle.std.proofs.lemmas.Bool.{cases_eq, eq-eqb, ne_eqb}
 use Rattle.std.specs.FinMap.{get, insert, remove}
 use Rattle.hb_base.specs.declared.cause.Cause.{Cause}
-use Rattle.hb_base.specs.declared.door.Why.TheVariants as whys
+use Rattle.hb_captured.specs.Answer.{why_at}
 use Rattle.hb_captured.specs.Calm.{IsCalm}
 use Rattle.hb_captured.specs.Captured as m
 use Rattle.hb_captured.specs.Captured.{Captured, Stage}
@@ -171,9 +171,9 @@ module _ (k : Relays) (l : ℕ) (old new : Relay) (is : get k.relays l ≡ Some 
     shown_then k l (insert k.relays l new) k.ups x.plain x.plain shows (put_elsewhere k.relays l new) (λ j apart. refl) narrow
         (same_shown it.0) shows.index,
     l,
-    it.1 ∙ ap whys.Plain shown.0,
-    (it.2 (x.plain l) shown.1).0,
+    it.1 ∙ ap₂ why_at (sym (it.2 (x.plain l) shown.1).0) shown.0,
     (it.2 (x.plain l) shown.1).1,
+    (it.2 (x.plain l) shown.1).2,
   )
   acts (act.Shut u) it = ⊎_elim
       (λ own. inl (at_own (own.0 ∙ shown.0) own.1))

@@ -1,10 +1,11 @@
 -- A link that isn't there.
-use Rattle.std.proofs.Common.{◌≡◌, Bool, false, cond, refl, ap, sym, ◌∙◌, subst}
+use Rattle.std.proofs.Common.{◌≡◌, ◌&&◌, Bool, false, cond, refl, ap, sym, ◌∙◌, subst}
+use Rattle.std.proofs.Math.Bool.{and-false}
 use Rattle.std.proofs.lemmas.Bool.{false≢true}
 use Rattle.hb_base.specs.declared.cause.Cause.{Cause}
 use Rattle.hb_captured.specs.Calm.{IsCalmBy, IsIdleBy}
 use Rattle.hb_captured.specs.Captured as m
-use Rattle.hb_captured.specs.Captured.{Captured, Stage, at_stage, ends_by, ends_for, is_judged, judged_by, rejudged}
+use Rattle.hb_captured.specs.Captured.{Captured, Stage, at_stage, ends_by, ends_for, judges, is_judged, judged_by, rejudged}
 use Rattle.hb_held.specs.Held.{Resources}
 use Rattle.hb_proxy.specs.Seen.{IsPlainThereBy}
 use Rattle.hb_table.specs.Judgement.{judged}
@@ -55,7 +56,8 @@ away_is x away = away_by x.stage x away
 pub judged_away : (held : Resources) (x : Captured) → IsAway x → IsAway (rejudged held x)
 judged_away held x away =
     subst IsAway
-    (sym (ap (λ (b : Bool). cond b (judged_by (judged held x.peer x.target) x) x) (away_is x away).unjudged)) away
+    (sym (ap (λ (b : Bool). cond (judges x.door && b) (judged_by (judged held x.peer x.target) x) x) (away_is x away).unjudged
+    ∙ ap (λ (b : Bool). cond b (judged_by (judged held x.peer x.target) x) x) (and-false (judges x.door)))) away
 
 pub ended_away : (why : Cause) (x : Captured) → IsAway x → IsAway (ends_for why x)
 ended_away why x away = subst IsAway (sym (ap (λ (s : Stage). at_stage s x) ((away_is x away).ended why))) away

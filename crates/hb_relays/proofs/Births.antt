@@ -2,7 +2,7 @@
 use Rattle.std.proofs.Common.{◌≡◌, ◌≢◌, ⊎_elim, ℕ, ◌+◌, ◌<◌, ◌^◌, List, [], Option, Some, None, is_some, refl, ap, sym, ◌∙◌, subst, arith}
 use Rattle.std.proofs.lemmas.Bool.{false≢true}
 use Rattle.std.specs.FinMap.{get, insert}
-use Rattle.hb_base.specs.declared.door.Door.TheVariants as door
+use Rattle.hb_base.specs.declared.door.Door.{Door}
 use Rattle.hb_base.specs.declared.door.Why.{Why}
 use Rattle.hb_base.specs.declared.note.Note.{Note}
 use Rattle.hb_base.specs.declared.target.Target.{Target}
@@ -37,25 +37,25 @@ use Rattle.hb_relays.proofs.Staying.{unborn_is}
 -- BIRTHS
 
 -- before its birth a link is as it was made
-new_link : (g : NodeConfig) (x y : Machine) (points : List Point) (n : ℕ) → StandsFor g x points
-    → Steps g x (of_plain n (entry (e.Accepted n door.Plain))) y → x.plain n ≡ no_link
-new_link g x y points n stands steps =
+new_link : (g : NodeConfig) (x y : Machine) (points : List Point) (d : Door) (n : ℕ) → StandsFor g x points
+    → Steps g x (of_plain n (entry (e.Accepted n d))) y → x.plain n ≡ no_link
+new_link g x y points d n stands steps =
     unborn_is n (at_start g) (plain_local x n) (plain_of n points) (plain_runs g x points n stands) steps.0.1
 
-pub begins : (k : Relays) (n : ℕ) (new : Relay) → n < 2 ^ 64 → calls.Begins n new → new.number ≡ n
-    → Begins n k (touched_at n (changed n new k))
-begins k n new narrow starts number g x y points stands shows holds steps =
-    let none = new_link g x y points n stands steps in
-    reaches g k n (entry (e.Accepted n door.Plain)) new k.ups (Some []) (Some []) None x y shows steps number narrow
+pub begins : (k : Relays) (d : Door) (n : ℕ) (new : Relay) → n < 2 ^ 64 → calls.Begins d n new → new.number ≡ n
+    → Begins d n k (touched_at n (changed n new k))
+begins k d n new narrow starts number g x y points stands shows holds steps =
+    let none = new_link g x y points d n stands steps in
+    reaches g k n (entry (e.Accepted n d)) new k.ups (Some []) (Some []) None x y shows steps number narrow
     (starts (plain_local x n) none) (takes_none (Some [])) (ap (λ (c : Captured). c.closed) none)
     (λ z others up. same_ups k.ups x.plain z (ups_same x.plain z n others up) shows.index)
 
 -- it is turned away
-pub turns : (k : Relays) (n : ℕ) (new : Relay) → n < 2 ^ 64 → calls.TurnsAway n new → new.number ≡ n
-    → TurnsAway n k (touched_at n (changed n new k))
-turns k n new narrow away number g x y points stands shows steps =
-    let came = entry (e.Accepted n door.Plain) in
-    let none = new_link g x y points n stands steps in
+pub turns : (k : Relays) (d : Door) (n : ℕ) (new : Relay) → n < 2 ^ 64 → calls.TurnsAway d n new → new.number ≡ n
+    → TurnsAway d n k (touched_at n (changed n new k))
+turns k d n new narrow away number g x y points stands shows steps =
+    let came = entry (e.Accepted n d) in
+    let none = new_link g x y points d n stands steps in
     let a = plain_local x n in
     let c = next (next a came) crowded in
     let at : plain_local y n ≡ next a came = behind g k n came new k.ups (Some []) (Some []) None x y shows steps in

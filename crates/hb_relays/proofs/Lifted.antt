@@ -1,4 +1,4 @@
--- What follows by itself on a link of the plain door follows in the whole.
+-- What follows by itself on a plain link follows in the whole.
 use Rattle.std.proofs.Common.{◌≡◌, ◌≢◌, ℕ, cond, List, [], ◌∷◌, ◌++◌, map, refl, ap, sym, ◌∙◌, subst}
 use Rattle.std.proofs.lemmas.Bool.{eq-eqb, ne_eqb}
 use Rattle.hb_base.specs.declared.note.Note.{Note}

@@ -2,7 +2,6 @@
 use Rattle.std.proofs.Common.{◌≡◌, ◌≢◌, ◌⊎◌, inl, inr, ⊎_elim, ◌==◌, ℕ, ◌<◌, ◌^◌, false, cond, List, [], ◌∷◌, Option, Some, None, is_some, refl, ap, sym, ◌∙◌, subst, arith}
 use Rattle.std.proofs.lemmas.Bool.{cases_eq, eq-eqb, ne_eqb, false≢true}
 use Rattle.std.specs.FinMap.{get, get-empty, empty}
-use Rattle.hb_base.specs.declared.door.Door.TheVariants as door
 use Rattle.hb_captured.specs.Captured as m
 use Rattle.hb_captured.specs.Captured.{Captured, Stage, no_link, at_stage}
 use Rattle.hb_captured.specs.Part.{entry}
@@ -62,12 +61,12 @@ unkept None n x z unborn was now = now
 unkept (Some w) n x z unborn was now = absurd (subst (λ (s : Stage). IsPlainThereBy s x.closed) unborn was.2)
 
 pub forgets_link : ForgetsLink
-forgets_link g x y points k n stands shows steps begins =
-    let came = entry (e.Accepted n door.Plain) in
+forgets_link g x y points k d n stands shows steps begins =
+    let came = entry (e.Accepted n d) in
     let follows = begins g x y points stands shows tt steps in
     let z = follows.reached in
     let none = unborn_is n (at_start g) (plain_local x n) (plain_of n points) (plain_runs g x points n stands) steps.0.1 in
-    let y_is : y.plain n ≡ at_stage m.arriving (x.plain n) =
+    let y_is : y.plain n ≡ record (x.plain n) { door = d; stage = m.arriving } =
     ap (λ (w : Machine). w.plain n) steps.2 ∙ ap (λ (c : Local). c.link) (here x n came steps.1) in
     let goes = points_go g y follows.more z follows.leads n in
     let opens : (z.plain n).closed ≡ false =

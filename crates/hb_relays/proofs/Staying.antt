@@ -1,8 +1,9 @@
 -- What a part leaves as it is: the upstream of a link, and whether the link is closed; and what a link is before its birth.
-use Rattle.std.proofs.Common.{◌≡◌, inl, inr, ℕ, Bool, true, false, cond, List, [], ◌∷◌, refl, ap, sym, ◌∙◌}
+use Rattle.std.proofs.Common.{◌≡◌, inl, inr, ℕ, ◌&&◌, Bool, true, false, cond, List, [], ◌∷◌, refl, ap, sym, ◌∙◌}
+use Rattle.std.proofs.Math.Bool.{and-false}
 use Rattle.hb_base.specs.declared.cause.Cause.{Cause}
 use Rattle.hb_base.specs.declared.cause.Cause.TheVariants as cause
-use Rattle.hb_captured.specs.Captured.{Captured, Stage, unborn, arriving, fronting, due, opening, accepting, live, failed, ended, over, no_link, at_stage, is_judged, ends_by, ends_for, hung_up, came_by, entered, up_entered, judged_by, rejudged, left_by}
+use Rattle.hb_captured.specs.Captured.{Captured, Stage, unborn, arriving, fronting, due, opening, accepting, live, failed, ended, over, no_link, at_stage, judges, is_judged, ends_by, ends_for, hung_up, came_by, entered, up_entered, judged_by, rejudged, left_by}
 use Rattle.hb_captured.specs.Part.{Part, entry, up, welcomed, crowded, lacked, misfronted, fronted, refused, accepted, left, done, applied, stopped}
 use Rattle.hb_captured.specs.Runs.{Local, MayCome, UpMayCome, MayGo, IsTried, next, StandsFor, begins, goes_on}
 use Rattle.hb_front.specs.Faults.{number_of}
@@ -27,8 +28,8 @@ stays_then x y z first more = record { up = more.up ∙ first.up; closed = more.
 pub inner_stays : (a : Local) (p : Part) → IsInner p → Stays a.link (next a p).link
 inner_stays a welcomed inner = record { up = refl; closed = refl }
 inner_stays a (misfronted fault) inner = record { up = refl; closed = refl }
-inner_stays a (fronted seen) inner = record { up = refl; closed = refl }
-inner_stays a (refused seen status note) inner = record { up = refl; closed = refl }
+inner_stays a (fronted seen to) inner = record { up = refl; closed = refl }
+inner_stays a (refused seen why status note) inner = record { up = refl; closed = refl }
 inner_stays a (accepted note) inner = record { up = refl; closed = refl }
 inner_stays a (left made) inner = record { up = refl; closed = refl }
 inner_stays a (done note) inner = record { up = refl; closed = refl }
@@ -64,7 +65,7 @@ judged_stays Unknown x = record { up = refl; closed = refl }
 judged_stays Denied x = record { up = refl; closed = refl }
 
 pub rejudged_stays : (held : Resources) (x : Captured) → Stays x (rejudged held x)
-rejudged_stays held x = by (is_judged x.stage)
+rejudged_stays held x = by (judges x.door && is_judged x.stage)
   where
     by : (b : Bool) → Stays x (cond b (judged_by (judged held x.peer x.target) x) x)
     by true = judged_stays (judged held x.peer x.target) x
@@ -127,7 +128,7 @@ judged_back Unknown x is = ends_back cause.Revoked x.stage is
 judged_back Denied x is = ends_back cause.Revoked x.stage is
 
 rejudged_back : (held : Resources) (x : Captured) → (rejudged held x).stage ≡ unborn → x.stage ≡ unborn
-rejudged_back held x is = by (is_judged x.stage) is
+rejudged_back held x is = by (judges x.door && is_judged x.stage) is
   where
     by : (b : Bool) → (cond b (judged_by (judged held x.peer x.target) x) x).stage ≡ unborn → x.stage ≡ unborn
     by true is = judged_back (judged held x.peer x.target) x is
@@ -162,8 +163,8 @@ part_back a welcomed is = absurd (cc is)
 part_back a crowded is = ends_back cause.NoRoom a.link.stage is
 part_back a lacked is = ends_back cause.NoMemory a.link.stage is
 part_back a (misfronted fault) is = ends_back (cause.FrontFault (number_of fault)) a.link.stage is
-part_back a (fronted seen) is = absurd (cc is)
-part_back a (refused seen status made) is = absurd (cc is)
+part_back a (fronted seen to) is = absurd (cc is)
+part_back a (refused seen why status made) is = absurd (cc is)
 part_back a (accepted made) is = absurd (cc is)
 part_back a (left made) is = left_back a.link.stage is
 part_back a (done made) is = absurd (cc is)
@@ -214,13 +215,15 @@ module _ (l : ℕ) (a : Local) (at : a.link.stage ≡ unborn) where
   part_goes crowded may is = ends_none cause.NoRoom
   part_goes lacked may is = ends_none cause.NoMemory
   part_goes (misfronted fault) may is = ends_none (cause.FrontFault (number_of fault))
-  part_goes (fronted seen) may is = absurd (cc is)
-  part_goes (refused seen status made) may is = absurd (cc is)
+  part_goes (fronted seen to) may is = absurd (cc is)
+  part_goes (refused seen why status made) may is = absurd (cc is)
   part_goes (accepted made) may is = absurd (cc is)
   part_goes (left made) may is = ap (λ (s : Stage). at_stage (left_by s) a.link) at ∙ sym (ap (λ (s : Stage). at_stage s a.link) at)
   part_goes (done made) may is = absurd (cc is)
   part_goes (applied r) may is =
-      ap (λ (s : Stage). cond (is_judged s) (judged_by (judged (after_response a.held r) a.link.peer a.link.target) a.link) a.link) at
+      let x = a.link in
+      let y = judged_by (judged (after_response a.held r) x.peer x.target) x in
+      ap (λ (s : Stage). cond (judges x.door && is_judged s) y x) at ∙ ap (λ (b : Bool). cond b y x) (and-false (judges x.door))
   part_goes (stopped why) may is = ends_none why
 
 -- so it is as it was made

@@ -3,7 +3,6 @@ use Rattle.std.specs.Prelude.{⊤}
 use Rattle.std.proofs.Common.{◌≡◌, ◌≢◌, ◌⊎◌, inl, inr, ⊎_elim, ℕ, ◌-◌, ◌<◌, ◌≤◌, ◌^◌, Bool, true, false, List, [], ◌∷◌, ◌++◌, map, Option, Some, None, is_some, IsSome, refl, ap, sym, ◌∙◌, subst, arith}
 use Rattle.std.proofs.lemmas.Bool.{cases_eq, cases_order, false≢true}
 use Rattle.std.proofs.lemmas.Grind.{flat_map-append}
-use Rattle.std.proofs.lemmas.List.{append_assoc, append-nil}
 use Rattle.std.specs.FinMap.{get, insert}
 use Rattle.hb_base.specs.declared.note.Note.{Note}
 use Rattle.hb_captured.specs.Calm.{IsIdleBy}
@@ -25,7 +24,7 @@ use Rattle.hb_proxy.specs.Held.{at_start}
 use Rattle.hb_proxy.specs.Machine.{Machine, plain_local}
 use Rattle.hb_proxy.specs.Notes.{notes, note_in}
 use Rattle.hb_proxy.specs.Points.{Point, of_control, of_plain, plain_of}
-use Rattle.hb_proxy.specs.Runs.{Steps, StandsFor, goes_on}
+use Rattle.hb_proxy.specs.Runs.{Steps, StandsFor}
 use Rattle.hb_relay.specs.Reaches as relay
 use Rattle.hb_relay.specs.Shows.{as_told, captured_of}
 use Rattle.hb_relay.specs.declared.relay.Relay.{Relay}
@@ -47,16 +46,6 @@ pub leads_append : (g : NodeConfig) (x y z : Machine) (first more : List Point) 
     → Leads g x (first ++ more) z
 leads_append g x y z [] more is behind = subst (λ (w : Machine). Leads g w more z) is behind
 leads_append g x y z (p ∷ first) more is behind = (is.0, is.1, is.2, leads_append g is.1 y z first more is.3 behind)
-
--- so the run goes on
-pub stands_behind : (g : NodeConfig) (x y : Machine) (points more : List Point) → StandsFor g x points → Leads g x more y
-    → StandsFor g y (points ++ more)
-stands_behind g x y points [] stands is =
-    subst (λ (ps : List Point). StandsFor g y ps) (sym (append-nil points))
-    (subst (λ (w : Machine). StandsFor g w points) (sym is) stands)
-stands_behind g x y points (p ∷ more) stands is =
-    subst (λ (ps : List Point). StandsFor g y ps) (append_assoc points (p ∷ []) more)
-    (stands_behind g is.1 y (points ++ p ∷ []) more (goes_on stands p is.2 refl) is.3)
 
 -- WHERE NOTHING OF A LINK CHANGED none is due of it as before
 

@@ -1,6 +1,6 @@
 -- Which call of the world is due of all links.
 use Rattle.std.specs.Prelude.{◌≡◌, ◌⊎◌, ℕ, true, List, Option, Some, None}
-use Rattle.hb_base.specs.declared.door.Why.TheVariants as whys
+use Rattle.hb_captured.specs.Answer.{why_at}
 use Rattle.hb_captured.specs.Captured as captured
 use Rattle.hb_captured.specs.Part.{Part, entry, up}
 use Rattle.hb_model.specs.declared.config.NodeConfig.{NodeConfig}
@@ -27,7 +27,8 @@ DoesUp new g x z = (l : ℕ) × Does new g x l (up z)
 abbrev pub ActsOn : Option Act → Relays → NodeConfig → Machine → Type 0
 ActsOn None new g x = ShowsRelays new x.plain × ((l : ℕ) → IsIdle (x.plain l))
 ActsOn (Some (act.Dial to why)) new g x =
-    ShowsRelays new x.plain × (l : ℕ) × (why ≡ whys.Plain l) × ((x.plain l).stage ≡ captured.due) × (to ≡ (x.plain l).target)
+    ShowsRelays new x.plain × (l : ℕ) × (why ≡ why_at (x.plain l).door l) × ((x.plain l).stage ≡ captured.due)
+    × (to ≡ (x.plain l).address)
 ActsOn (Some (act.Shut u)) new g x = Does new g x u (entry (e.Shut u)) ⊎ DoesUp new g x (e.Shut u)
 ActsOn (Some (act.Close u cause)) new g x = Does new g x u (entry (e.Closed u cause)) ⊎ DoesUp new g x (e.Closed u cause)
 

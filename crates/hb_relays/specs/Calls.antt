@@ -2,7 +2,7 @@
 use Rattle.std.specs.Prelude.{◌≡◌, ◌⊎◌, ℕ, ◌||◌, Bool, true, is_some, List, [], length, Option, Some, None}
 use Rattle.std.specs.FinMap.{get, len}
 use Rattle.hb_base.specs.declared.cause.Cause.{Cause}
-use Rattle.hb_base.specs.declared.door.Door.TheVariants as door
+use Rattle.hb_base.specs.declared.door.Door.{Door}
 use Rattle.hb_base.specs.declared.door.Why.{Why}
 use Rattle.hb_base.specs.declared.target.Target.{Target}
 use Rattle.hb_captured.specs.Calm as calm
@@ -52,15 +52,15 @@ Goes n count old told new now = (bytes : List ℕ) → length bytes ≡ count �
 abbrev pub Takes : Resources → ℕ → List ℕ → Relays → Told → Relays → Told → Type 0
 Takes held n bytes old told new now = EntersWhere (λ x. x.control.held ≡ held) n (e.Came n bytes) old told new now
 
--- a link is accepted, and no note is made
-abbrev pub Begins : ℕ → Relays → Relays → Type 0
-Begins n old new = Meets any (of_plain n (entry (e.Accepted n door.Plain))) old (Some []) new (Some [])
+-- a link is accepted at a door, and no note is made
+abbrev pub Begins : Door → ℕ → Relays → Relays → Type 0
+Begins d n old new = Meets any (of_plain n (entry (e.Accepted n d))) old (Some []) new (Some [])
 
 -- a link is accepted where as many are open as may be: behind its birth it is turned away
-abbrev pub TurnsAway : ℕ → Relays → Relays → Type 0
-TurnsAway n old new =
+abbrev pub TurnsAway : Door → ℕ → Relays → Relays → Type 0
+TurnsAway d n old new =
     (g : NodeConfig) (x y : Machine) (points : List Point) → StandsFor g x points → ShowsRelays old x.plain
-    → Steps g x (of_plain n (entry (e.Accepted n door.Plain))) y
+    → Steps g x (of_plain n (entry (e.Accepted n d))) y
     → (z : Machine) × Steps g y (of_plain n crowded) z × ShowsRelays new z.plain
 
 -- the dial for a link gave the link u, or none
@@ -137,6 +137,6 @@ machine_held f (Some l) n = calm.up_output (f l)
 abbrev pub Holds : Relays → ℕ → List ℕ → Type 0
 Holds k n bytes = (f : ℕ → Captured) → ShowsRelays k f → bytes ≡ machine_held f (get k.ups n) n
 
--- how many links of the plain door are kept
+-- how many plain links are kept
 abbrev pub count_of : Relays → ℕ
 count_of k = len k.relays

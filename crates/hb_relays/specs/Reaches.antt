@@ -10,7 +10,7 @@ use Rattle.hb_relay.specs.Reaches as relay
 use Rattle.hb_relays.specs.Shows.{ShowsRelays}
 use Rattle.hb_relays.specs.declared.relays.Relays.{Relays}
 
--- a point that follows by itself on a link of the plain door
+-- a point that follows by itself on a plain link
 abbrev pub IsInner : Point → Type 0
 IsInner (of_control q) = ⊥
 IsInner (of_link l p) = ⊥

@@ -1,7 +1,7 @@
 -- Links that code may not show, a call that isn't what it says, and links that may be shown.
 use Rattle.std.specs.Prelude.{◌≡◌, ◌≢◌, ℕ, ◌<◌, ◌^◌, ◌==◌, true, false, if◌then◌else◌, List, Some, None}
 use Rattle.std.specs.FinMap.{get, insert, empty}
-use Rattle.hb_base.specs.declared.door.Door.TheVariants as door
+use Rattle.hb_base.specs.declared.door.Door.{Door}
 use Rattle.hb_captured.specs.Captured.{Captured, fronting, due, live, no_link, at_stage}
 use Rattle.hb_captured.specs.Part.{entry}
 use Rattle.hb_model.specs.declared.config.NodeConfig.{NodeConfig}
@@ -39,8 +39,8 @@ MissesDial = (k : Relays) (f : ℕ → Captured) (l : ℕ) → (f l).stage ≡ d
 
 -- a link was accepted, and nothing changed
 abbrev pub ForgetsLink : Type 0
-ForgetsLink = (g : NodeConfig) (x y : Machine) (points : List Point) (k : Relays) (n : ℕ) → StandsFor g x points → ShowsRelays k x.plain
-    → Steps g x (of_plain n (entry (e.Accepted n door.Plain))) y → Begins n k k → ⊥
+ForgetsLink = (g : NodeConfig) (x y : Machine) (points : List Point) (k : Relays) (d : Door) (n : ℕ) → StandsFor g x points → ShowsRelays k x.plain
+    → Steps g x (of_plain n (entry (e.Accepted n d))) y → Begins d n k k → ⊥
 
 -- one link that was taken in just now, and no other, is shown by one without bytes
 abbrev pub OneIsShown : Type 0

@@ -1,4 +1,4 @@
--- Which links of the plain door of the machine those of the code show.
+-- Which plain links of the machine those of the code show.
 use Rattle.std.specs.Prelude.{◌≡◌, ℕ, ◌<◌, ◌^◌, true, false, Option, Some, None, IsSome}
 use Rattle.std.specs.FinMap.{FinMap, get}
 use Rattle.std.specs.Ordering.{nat_cmp}

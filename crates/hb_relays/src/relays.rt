@@ -1,4 +1,4 @@
-//! All links of the plain door.
+//! All plain links.
 
 ghost use Rattle.std.specs.Prelude.{true, ◌≡◌, OnOk};
 ghost use Rattle.hb_captured.specs.Captured.{no_link};
@@ -9,12 +9,12 @@ ghost use Rattle.hb_relays.specs.Touched.{is_idle};
 ghost use Rattle.hb_relays.specs.Walks.{touched_at};
 
 use crate::touched::Touched;
-use hb_base::NoMemory;
+use hb_base::{Door, NoMemory};
 use hb_map::ById;
 use hb_relay::Relay;
 use std::alloc::Global;
 
-/// The links of the plain door of a node.
+/// The plain links of a node.
 #[derive(Drop)]
 pub struct Relays {
     pub(crate) alloc: Global,
@@ -60,33 +60,33 @@ impl Relays {
         self.due.is_idle()
     }
 
-    /// A link was accepted.
+    /// A link was accepted at a door.
     ///
     /// Errors: `NoMemory`, behind which the run ends.
-    pub fn accepted(&mut self, number: u64) -> Result<(), NoMemory>
-        ensures meets { OnOk result (Begins number self.old self.new) }
+    pub fn accepted(&mut self, door: Door, number: u64) -> Result<(), NoMemory>
+        ensures meets { OnOk result (Begins door number self.old self.new) }
         ensures stirs { OnOk result (Stirs self.old self.new) }
     {
-        let relay = Relay::accepted(self.alloc, number)?;
+        let relay = Relay::accepted(self.alloc, door, number)?;
         self.relays.put(number, relay)?;
         self.touch(number);
         Ok(())
     }
 
-    /// A link was accepted where as many are open as may be: it is to be closed for that cause.
+    /// A link was accepted at a door where as many are open as may be: it is to be closed for that cause.
     ///
     /// Errors: `NoMemory`, behind which the run ends.
-    pub fn turned_away(&mut self, number: u64) -> Result<(), NoMemory>
-        ensures meets { OnOk result (TurnsAway number self.old self.new) }
+    pub fn turned_away(&mut self, door: Door, number: u64) -> Result<(), NoMemory>
+        ensures meets { OnOk result (TurnsAway door number self.old self.new) }
         ensures stirs { OnOk result (Stirs self.old self.new) }
     {
-        let relay = Relay::turned_away(self.alloc, number)?;
+        let relay = Relay::turned_away(self.alloc, door, number)?;
         self.relays.put(number, relay)?;
         self.touch(number);
         Ok(())
     }
 
-    /// How many links of the plain door are kept: each from its birth until its close was given.
+    /// How many plain links are kept: each from its birth until its close was given.
     pub fn len(&self) -> usize
         ensures { result ≡ count_of self.now }
     {

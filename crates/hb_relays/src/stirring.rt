@@ -34,7 +34,7 @@ impl Relays {
         self.left
     }
 
-    /// The number of a link on which more may be read, or is to be written, than when that was told last: of a link of the plain door, or
+    /// The number of a link on which more may be read, or is to be written, than when that was told last: of a plain link, or
     /// of the upstream of one. `None` where none is left that was not told.
     pub fn next_stirred(&mut self) -> Option<u64>
         ensures hears { Hears result self.old self.new }

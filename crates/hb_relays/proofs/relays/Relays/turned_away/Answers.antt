@@ -11,9 +11,9 @@ returns-clause-meets c =
     let k = c.args.self.now in
     let n = c.args.number in
     let narrow : n < 2 ^ 64 = search rules in
-    subst (λ (m : Relays). TurnsAway n k m)
+    subst (λ (m : Relays). TurnsAway c.args.door n k m)
     (sym (c.touch.ensures ∙ ap (λ (relays : Map). touched_at n (relays_with relays k.ups k)) c.in_ok-put.ensures.ok))
-    (turns k n c.in_ok-relay.relay narrow c.in_ok-relay.ensures.turns c.in_ok-relay.ensures.number)
+    (turns k c.args.door n c.in_ok-relay.relay narrow c.in_ok-relay.ensures.turns c.in_ok-relay.ensures.number)
 
 pub returns-clause-stirs : goal.returns-clause-stirs
 returns-clause-stirs c =
