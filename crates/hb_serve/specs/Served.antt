@@ -1,5 +1,5 @@
 -- What holds of a run of the proxy that is over.
-use Rattle.std.specs.Prelude.{◌≡◌, ◌⊎◌, ℕ, false, List, [], ◌++◌, Option, None}
+use Rattle.std.specs.Prelude.{◌≡◌, ◌⊎◌, ℕ, false, List, [], ◌++◌, Option}
 use Rattle.std.specs.Option.{option_to_list}
 use Rattle.hb_audit.specs.Tells as audits
 use Rattle.hb_base.specs.declared.note.Note.{Note}
@@ -26,10 +26,10 @@ use Rattle.hb_serve.specs.declared.words.ServeWords.{ServeWords}
 abbrev pub StandsAs : NodeConfig → List Note → Proxy → List Entry → Type 0
 StandsAs g taken p trace = Stands taken p trace × (config_of p ≡ g)
 
--- what the event loop is asked for: the inbound door and the plain one are given where the node has them, and no other
+-- what the event loop is asked for: each door is given where the node has it
 abbrev pub loop_words : OwnDoors → ℕ → Option ℕ → LoopWords
 loop_words doors turns ticks = record {
-  doors = record { inbound = doors.inbound; outbound = None; plain = doors.plain };
+  doors = record { inbound = doors.inbound; outbound = doors.outbound; plain = doors.plain };
   turns = turns;
   ticks = ticks;
 }

@@ -27,7 +27,7 @@ fn loop_words(doors: OwnDoors, turns: u64, ticks: Option<u64>) -> LoopWords
     LoopWords {
         doors: Doors {
             inbound: doors.inbound,
-            outbound: None,
+            outbound: doors.outbound,
             plain: doors.plain,
         },
         turns,
@@ -64,10 +64,10 @@ fn serve_asked<G: Given, A: Audit, W: World>(
     served
 }
 
-/// Runs the proxy over a world: it listens at the inbound door and at the plain one, where they are given, then goes on until a listen or
-/// a wait fails, a wait tells a stop, the ticks passed or the turns are spent, or memory lacks. Then each link is closed. Each note is told
-/// to the audits when it is made, and one that doesn't keep it is dropped. The keep holds the notes of this run alone. Where memory lacks
-/// for the proxy itself, nothing is done.
+/// Runs the proxy over a world: it listens at each door that is given, then goes on until a listen or a wait fails, a wait tells a stop,
+/// the ticks passed or the turns are spent, or memory lacks. Then each link is closed. Each note is told to the audits when it is made, and
+/// one that doesn't keep it is dropped. The keep holds the notes of this run alone. Where memory lacks for the proxy itself, nothing is
+/// done.
 pub fn serve<A: Audit, W: World>(
     alloc: Global,
     words: ServeWords,

@@ -40,7 +40,8 @@ use Rattle.hb_whole.proofs.Stirring.{StirsOn, all_stir, none_stir, other_stirs}
 pub closed_dead : (trace : List Entry) (l : ℕ) (cause : Cause) → lives l (trace ++ e.Closed l cause ∷ []) ≡ false
 closed_dead trace l cause =
     ap (λ (b : Bool). was_born l (trace ++ e.Closed l cause ∷ []) && not b)
-    (any-grows (is_close_of l) trace (e.Closed l cause) ∙ ap (λ (b : Bool). was_closed l trace || b) (eq-eqb l l refl) ∙ either (was_closed l trace))
+    (any-grows (is_close_of l) trace (e.Closed l cause) ∙ ap (λ (b : Bool). was_closed l trace || b) (eq-eqb l l refl)
+    ∙ either (was_closed l trace))
     ∙ none (was_born l (trace ++ e.Closed l cause ∷ []))
   where
     either : (b : Bool) → (b || true) ≡ true
@@ -104,7 +105,8 @@ module _ (taken : List Note) (p : Proxy) (n : State) (l : ℕ) (cause : Cause)
   abbrev after : Proxy
   after = record p { control = n; dials = None }
 
-  did : model.MayCome p.control.config x.control (e.Closed l cause) × Shows n (control.entered p.control.config (e.Closed l cause) x.control)
+  did : model.MayCome p.control.config x.control (e.Closed l cause)
+      × Shows n (control.entered p.control.config (e.Closed l cause) x.control)
   did = acts.2 x.control s.control
 
   there : IsThere (x.control.links l).phase

@@ -1,10 +1,12 @@
--- Links are accepted at the two doors.
-use Rattle.std.proofs.Common.{◌≡◌, inr, ℕ, ◌+◌, false, List, [], ◌∷◌, ◌++◌, Some, None, refl, ap, sym, ◌∙◌, subst, arith}
+-- Links are accepted at the doors.
+use Rattle.std.proofs.Common.{◌≡◌, ◌⊎◌, inl, inr, ℕ, ◌+◌, false, List, [], ◌∷◌, ◌++◌, Some, None, refl, ap, sym, ◌∙◌, subst, arith}
 use Rattle.std.specs.Prelude.{⊤}
+use Rattle.hb_base.specs.declared.door.Door.{Door}
 use Rattle.hb_base.specs.declared.door.Door.TheVariants as door
 use Rattle.hb_base.specs.declared.note.Note.{Note}
 use Rattle.hb_captured.specs.Captured as captured
 use Rattle.hb_captured.specs.Part as plain
+use Rattle.hb_captured.specs.Runs.{Captures}
 use Rattle.hb_inbound.specs.Part as part
 use Rattle.hb_inbound.specs.Runs as inbound
 use Rattle.hb_link.proofs.Noted.{makes_none, takes_none}
@@ -142,11 +144,16 @@ pub turned_away_tells : (p : Proxy) (new : Links) (l : ℕ) → links.TurnsAway 
 turned_away_tells p new l away stirs taken trace s may =
     links_told taken p new l trace s may (away_follows taken p new l trace s may away) stirs
 
--- a link is accepted at the plain door
-module _ (taken : List Note) (p : Proxy) (new : Relays) (l : ℕ) (trace : List Entry) (s : Stands taken p trace)
-    (may : MayCome (shown_of p) trace (e.Accepted l door.Plain)) where
+-- plain links are accepted at the plain door and at the outbound one
+pub captures_at : (d : Door) → (d ≡ door.Plain) ⊎ (d ≡ door.Outbound) → Captures d
+captures_at d (inl is) = subst (λ (w : Door). Captures w) (sym is) tt
+captures_at d (inr is) = subst (λ (w : Door). Captures w) (sym is) tt
+
+-- and one is so
+module _ (taken : List Note) (p : Proxy) (new : Relays) (d : Door) (captures : Captures d) (l : ℕ) (trace : List Entry)
+    (s : Stands taken p trace) (may : MayCome (shown_of p) trace (e.Accepted l d)) where
   abbrev plain_z : Entry
-  plain_z = e.Accepted l door.Plain
+  plain_z = e.Accepted l d
 
   abbrev plain_point : Point
   plain_point = of_plain l (plain.entry plain_z)
@@ -158,7 +165,7 @@ module _ (taken : List Note) (p : Proxy) (new : Relays) (l : ℕ) (trace : List 
   plain_steps =
       let all = free taken p trace s may.0 in
       let number = next_number taken p trace s l may.1 in (
-        (refl, (fresh_at taken p trace s l number).plain, refl),
+        (refl, (fresh_at taken p trace s l number).plain, captures),
         free_plain s.machine l plain_z all (number, all.control.goes),
         refl,
       )
@@ -171,14 +178,14 @@ module _ (taken : List Note) (p : Proxy) (new : Relays) (l : ℕ) (trace : List 
       door_told taken p (record p.side { relays = new }) trace plain_z s plain_point plain_next may.0.0 plain_steps refl refl refl refl
       follows (λ k. relays_stir p.side (record p.side { relays = new }) k refl (stirs k))
 
-  plain_accepted_follows : relays.Begins l p.side.relays new
+  plain_accepted_follows : relays.Begins d l p.side.relays new
       → Follows p.control.config plain_next (told p.side.notes) (record p.side { relays = new })
   plain_accepted_follows begins =
       let meets = quiet_relays relays_reach.any plain_point p.side.relays new (told p.side.notes) begins in
       relays_follow p.control.config plain_next (told p.side.notes) (record p.side { relays = new }) s.links
       (meets p.control.config s.machine plain_next s.points s.run s.relays tt plain_steps)
 
-  plain_away_follows : relays.TurnsAway l p.side.relays new
+  plain_away_follows : relays.TurnsAway d l p.side.relays new
       → Follows p.control.config plain_next (told p.side.notes) (record p.side { relays = new })
   plain_away_follows away =
       let did = away p.control.config s.machine plain_next s.points s.run s.relays plain_steps in
@@ -191,14 +198,14 @@ module _ (taken : List Note) (p : Proxy) (new : Relays) (l : ℕ) (trace : List 
         noted = takes_none (told p.side.notes);
       }
 
-pub plain_accepted_tells : (p : Proxy) (new : Relays) (l : ℕ) → relays.Begins l p.side.relays new
+pub plain_accepted_tells : (p : Proxy) (new : Relays) (d : Door) → Captures d → (l : ℕ) → relays.Begins d l p.side.relays new
     → relays_stirring.Stirs p.side.relays new
-    → Tells Stands shown_of (e.Accepted l door.Plain) p (with_side (record p.side { relays = new }) p)
-plain_accepted_tells p new l begins stirs taken trace s may =
-    relays_told taken p new l trace s may (plain_accepted_follows taken p new l trace s may begins) stirs
+    → Tells Stands shown_of (e.Accepted l d) p (with_side (record p.side { relays = new }) p)
+plain_accepted_tells p new d captures l begins stirs taken trace s may =
+    relays_told taken p new d captures l trace s may (plain_accepted_follows taken p new d captures l trace s may begins) stirs
 
-pub plain_turned_away_tells : (p : Proxy) (new : Relays) (l : ℕ) → relays.TurnsAway l p.side.relays new
+pub plain_turned_away_tells : (p : Proxy) (new : Relays) (d : Door) → Captures d → (l : ℕ) → relays.TurnsAway d l p.side.relays new
     → relays_stirring.Stirs p.side.relays new
-    → Tells Stands shown_of (e.Accepted l door.Plain) p (with_side (record p.side { relays = new }) p)
-plain_turned_away_tells p new l away stirs taken trace s may =
-    relays_told taken p new l trace s may (plain_away_follows taken p new l trace s may away) stirs
+    → Tells Stands shown_of (e.Accepted l d) p (with_side (record p.side { relays = new }) p)
+plain_turned_away_tells p new d captures l away stirs taken trace s may =
+    relays_told taken p new d captures l trace s may (plain_away_follows taken p new d captures l trace s may away) stirs

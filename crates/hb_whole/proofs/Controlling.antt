@@ -1,4 +1,4 @@
--- An entry is told to the link to the control plane, and the responses that it completes are shown to the links of the two doors.
+-- An entry is told to the link to the control plane, and the responses that it completes are shown to the links of the doors.
 use Rattle.std.proofs.Common.{◌≡◌, List, [], ◌∷◌, ◌++◌, refl, ap, sym, ◌∙◌, subst}
 use Rattle.std.proofs.lemmas.List.{append_assoc, append-nil}
 use Rattle.hb_base.specs.declared.note.Note.{Note}

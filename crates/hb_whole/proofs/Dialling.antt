@@ -1,5 +1,5 @@
 -- What came of a dial is told.
-use Rattle.std.proofs.Common.{◌≡◌, ◌≢◌, ⊎_elim, ℕ, ◌≤◌, ◌||◌, Bool, true, false, List, [], ◌∷◌, ◌++◌, Option, Some, None, refl, ap, sym, ◌∙◌, subst, arith}
+use Rattle.std.proofs.Common.{◌≡◌, ◌≢◌, ◌⊎◌, inl, inr, ⊎_elim, ℕ, ◌≤◌, ◌||◌, Bool, true, false, List, [], ◌∷◌, ◌++◌, Option, Some, None, refl, ap, sym, ◌∙◌, subst, arith}
 use Rattle.std.specs.Prelude.{⊤}
 use Rattle.std.specs.FinMap.{get}
 use Rattle.hb_base.specs.declared.cause.Cause.{Cause}
@@ -7,6 +7,7 @@ use Rattle.hb_base.specs.declared.door.Why.{Why}
 use Rattle.hb_base.specs.declared.door.Why.TheVariants as whys
 use Rattle.hb_base.specs.declared.note.Note.{Note}
 use Rattle.hb_base.specs.declared.target.Target.{Target}
+use Rattle.hb_captured.specs.Answer.{why_at}
 use Rattle.hb_captured.specs.Captured as captured
 use Rattle.hb_captured.specs.Part as plain
 use Rattle.hb_captured.specs.Runs as captured_runs
@@ -29,6 +30,7 @@ use Rattle.hb_links.specs.Stirring as links_stirring
 use Rattle.hb_links.specs.declared.links.Links.{Links}
 use Rattle.hb_model.proofs.DialsDue.{runs_on as dials_go_on}
 use Rattle.hb_model.specs.Machine.{Machine as Control}
+use Rattle.hb_model.specs.declared.config.NodeConfig.{NodeConfig}
 use Rattle.hb_node.specs.State as node
 use Rattle.hb_node.specs.State.{State, ShowsLink as ShowsControl, number_of}
 use Rattle.hb_node.specs.declared.link.Link.{Link as ControlLink}
@@ -48,7 +50,7 @@ use Rattle.hb_world.specs.declared.entry.Entry.{Entry}
 use Rattle.hb_world.specs.declared.entry.Entry.TheVariants as e
 use Rattle.hb_whole.specs.Queue.{told}
 use Rattle.hb_whole.specs.Sight.{is_number, shown_of}
-use Rattle.hb_whole.specs.Stands.{Stands, EndsBy, MayBeDialled, DialIsDue, TunnelEnds, PlainEndsBy}
+use Rattle.hb_whole.specs.Stands.{Stands, EndsBy, MayBeDialled, DialIsDue, PlainDialIsDue, TunnelEnds, PlainEndsBy}
 use Rattle.hb_whole.specs.declared.proxy.Proxy.{Proxy}
 use Rattle.hb_whole.specs.declared.side.Side.{Side}
 use Rattle.hb_whole.proofs.Births.{door_told, fresh_at, next_number, quiet_links, quiet_relays}
@@ -63,8 +65,8 @@ use Rattle.hb_whole.proofs.Telling.{with_side}
 -- A DIAL OF THE CONTROL PLANE
 
 -- it is due, so the run goes on, and no link to the control plane lives
-due_of_control : (taken : List Note) (p : Proxy) (trace : List Entry) (s : Stands taken p trace) (to : Target) (why : Why) → why ≡ whys.Discovery
-    → p.dials ≡ Some (to, why) → (s.machine.control.dials ≡ true) × (to ≡ p.control.config.discovery)
+due_of_control : (taken : List Note) (p : Proxy) (trace : List Entry) (s : Stands taken p trace) (to : Target) (why : Why)
+    → why ≡ whys.Discovery → p.dials ≡ Some (to, why) → (s.machine.control.dials ≡ true) × (to ≡ p.control.config.discovery)
 due_of_control taken p trace s to why is dials =
     subst (λ (w : Why). DialIsDue p.control.config s.machine to w) is
     (subst (λ (d : Option (Target × Why)). MayBeDialled p.control.config s.machine d) dials s.dial)
@@ -230,23 +232,41 @@ up_dialled p new l k u dials stirs to taken trace s may =
     (all_calm p.side.links s.machine.inbound s.links l, due.stage, (omega (arith, next), apart, λ j. fresh.up l j), due.target, refl)
     (up_guard taken p trace s l z due.rests refl next)
 
--- A DIAL FOR A LINK OF THE PLAIN DOOR
+-- A DIAL FOR A PLAIN LINK
 
-record PlainDue (taken : List Note) (p : Proxy) (trace : List Entry) (s : Stands taken p trace) (to : Target) (l : ℕ) : Type 0 where
+-- it is for this link, at the plain door or at the outbound one
+abbrev pub IsFor : ℕ → Why → Type 0
+IsFor l why = (why ≡ whys.Plain l) ⊎ (why ≡ whys.Direct l)
+
+record PlainDue (taken : List Note) (p : Proxy) (trace : List Entry) (s : Stands taken p trace) (to : Target) (why : Why)
+    (l : ℕ) : Type 0 where
   pub going : p.ends_for ≡ None
   pub rests : ControlRests s.machine.control
+  pub why_is : why ≡ why_at (s.machine.plain l).door l
   pub stage : (s.machine.plain l).stage ≡ captured.due
-  pub target : to ≡ (s.machine.plain l).target
+  pub address : to ≡ (s.machine.plain l).address
 
 no_plain_end : (x : Machine) (l : ℕ) (ends : Option Cause) → (x.plain l).stage ≡ captured.due → EndsBy ends x → ends ≡ None
 no_plain_end x l None due is = refl
 no_plain_end x l (Some c) due is = absurd (subst (λ (r : captured.Stage). PlainEndsBy c r (x.plain l)) due (is.1.plain l))
 
-due_of_plain : (taken : List Note) (p : Proxy) (trace : List Entry) (s : Stands taken p trace) (to : Target) (l : ℕ)
-    → p.dials ≡ Some (to, whys.Plain l) → PlainDue taken p trace s to l
-due_of_plain taken p trace s to l dials =
-    let due = subst (λ (d : Option (Target × Why)). MayBeDialled p.control.config s.machine d) dials s.dial in
-    record { going = no_plain_end s.machine l p.ends_for due.1 s.ends; rests = due.0; stage = due.1; target = due.2 }
+dial_for : (g : NodeConfig) (x : Machine) (to : Target) (why : Why) (l : ℕ) → IsFor l why → DialIsDue g x to why
+    → PlainDialIsDue g x to why l
+dial_for g x to why l (inl is) = subst (λ (w : Why). DialIsDue g x to w → PlainDialIsDue g x to w l) (sym is) (λ due. due)
+dial_for g x to why l (inr is) = subst (λ (w : Why). DialIsDue g x to w → PlainDialIsDue g x to w l) (sym is) (λ due. due)
+
+due_of_plain : (taken : List Note) (p : Proxy) (trace : List Entry) (s : Stands taken p trace) (to : Target) (why : Why) (l : ℕ)
+    → IsFor l why → p.dials ≡ Some (to, why) → PlainDue taken p trace s to why l
+due_of_plain taken p trace s to why l for dials =
+    let due = dial_for p.control.config s.machine to why l for
+    (subst (λ (d : Option (Target × Why)). MayBeDialled p.control.config s.machine d) dials s.dial) in
+    record {
+      going = no_plain_end s.machine l p.ends_for due.2 s.ends;
+      rests = due.0;
+      why_is = due.1;
+      stage = due.2;
+      address = due.3;
+    }
 
 plain_guard : (taken : List Note) (p : Proxy) (trace : List Entry) (s : Stands taken p trace) (l : ℕ) (z : Entry)
     → ControlRests s.machine.control → is_act z ≡ true → BirthMayCome s.machine z → PlainMayCome s.machine l z
@@ -272,30 +292,31 @@ plain_told p side l z same door meets stirs taken trace s going may guard =
     (meets p.control.config s.machine next s.points s.run s.relays tt steps))
     (λ j. relays_stir p.side side j same (stirs j))
 
-pub plain_fails : (p : Proxy) (side : Side) (l : ℕ) → side.links ≡ p.side.links
+plain_fails : (p : Proxy) (side : Side) (why : Why) (l : ℕ) → IsFor l why → side.links ≡ p.side.links
     → relays.DialFails l p.side.relays (told p.side.notes) side.relays (told side.notes) → relays_stirring.Stirs p.side.relays side.relays
-    → (to : Target) → Tells Stands shown_of (e.DialFailed to (whys.Plain l)) p (with_side side p)
-plain_fails p side l same fails stirs to taken trace s may =
-    let z = e.DialFailed to (whys.Plain l) in
-    let due = due_of_plain taken p trace s to l may in
-    plain_told p side l z same refl (fails to (whys.Plain l)) stirs taken trace s due.going
-    ((plain_calm p.side.relays s.machine.plain s.relays l, due.stage, due.target), refl)
+    → (to : Target) → Tells Stands shown_of (e.DialFailed to why) p (with_side side p)
+plain_fails p side why l for same fails stirs to taken trace s may =
+    let z = e.DialFailed to why in
+    let due = due_of_plain taken p trace s to why l for may in
+    plain_told p side l z same refl (fails to why) stirs taken trace s due.going
+    ((plain_calm p.side.relays s.machine.plain s.relays l, due.stage, due.address), due.why_is)
     (plain_guard taken p trace s l z due.rests refl tt)
 
-pub plain_dialled : (p : Proxy) (new : Relays) (l u : ℕ) → relays.Dials l u p.side.relays new → relays_stirring.Stirs p.side.relays new
-    → (to : Target) → Tells Stands shown_of (e.Dialled u to (whys.Plain l)) p (with_side (record p.side { relays = new }) p)
-plain_dialled p new l u dials stirs to taken trace s may =
-    let z = e.Dialled u to (whys.Plain l) in
-    let due = due_of_plain taken p trace s to l may.0 in
+plain_dialled : (p : Proxy) (new : Relays) (why : Why) (l u : ℕ) → IsFor l why → relays.Dials l u p.side.relays new
+    → relays_stirring.Stirs p.side.relays new
+    → (to : Target) → Tells Stands shown_of (e.Dialled u to why) p (with_side (record p.side { relays = new }) p)
+plain_dialled p new why l u for dials stirs to taken trace s may =
+    let z = e.Dialled u to why in
+    let due = due_of_plain taken p trace s to why l for may.0 in
     let next = next_number taken p trace s u may.1 in
     let fresh = fresh_at taken p trace s u next in
     let apart : u ≢ l =
     λ same. let no : captured.unborn ≡ captured.due =
     sym fresh.plain ∙ ap (λ (j : ℕ). (s.machine.plain j).stage) same ∙ due.stage in absurd cc in
     plain_told p (record p.side { relays = new }) l z refl refl
-    (quiet_relays relays_reach.any (of_plain l (plain.up z)) p.side.relays new (told p.side.notes) (dials to (whys.Plain l)))
+    (quiet_relays relays_reach.any (of_plain l (plain.up z)) p.side.relays new (told p.side.notes) (dials to why))
     stirs taken trace s due.going
-    ((plain_calm p.side.relays s.machine.plain s.relays l, due.stage, due.target), refl, omega (arith, next), apart)
+    ((plain_calm p.side.relays s.machine.plain s.relays l, due.stage, due.address), due.why_is, omega (arith, next), apart)
     (plain_guard taken p trace s l z due.rests refl next)
 
 -- ANSWERS TO DIALS, BY WHAT THEY ARE
@@ -322,16 +343,16 @@ pub up_answers_none : (p : Proxy) (side : Side) (why : Why) (link : Option ℕ) 
 up_answers_none p side why link l k same why_is link_is fails stirs =
     answered p (with_side side p) why (whys.Upstream l k) link None why_is link_is (up_fails p side l k same fails stirs)
 
-pub plain_answers : (p : Proxy) (new : Relays) (why : Why) (link : Option ℕ) (l u : ℕ) → why ≡ whys.Plain l → link ≡ Some u
+pub plain_answers : (p : Proxy) (new : Relays) (why : Why) (link : Option ℕ) (l u : ℕ) → IsFor l why → link ≡ Some u
     → relays.Dials l u p.side.relays new → relays_stirring.Stirs p.side.relays new → (to : Target)
     → Tells Stands shown_of (dial_entry to why link) p (with_side (record p.side { relays = new }) p)
-plain_answers p new why link l u why_is link_is dials stirs =
-    answered p (with_side (record p.side { relays = new }) p) why (whys.Plain l) link (Some u) why_is link_is
-    (plain_dialled p new l u dials stirs)
+plain_answers p new why link l u for link_is dials stirs =
+    answered p (with_side (record p.side { relays = new }) p) why why link (Some u) refl link_is
+    (plain_dialled p new why l u for dials stirs)
 
 pub plain_answers_none : (p : Proxy) (side : Side) (why : Why) (link : Option ℕ) (l : ℕ) → side.links ≡ p.side.links
-    → why ≡ whys.Plain l → link ≡ None → relays.DialFails l p.side.relays (told p.side.notes) side.relays (told side.notes)
+    → IsFor l why → link ≡ None → relays.DialFails l p.side.relays (told p.side.notes) side.relays (told side.notes)
     → relays_stirring.Stirs p.side.relays side.relays → (to : Target)
     → Tells Stands shown_of (dial_entry to why link) p (with_side side p)
-plain_answers_none p side why link l same why_is link_is fails stirs =
-    answered p (with_side side p) why (whys.Plain l) link None why_is link_is (plain_fails p side l same fails stirs)
+plain_answers_none p side why link l same for link_is fails stirs =
+    answered p (with_side side p) why why link None refl link_is (plain_fails p side why l for same fails stirs)

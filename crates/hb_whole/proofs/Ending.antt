@@ -88,7 +88,7 @@ up_gone c (t.ended why) k u ends answered idle some is = absurd cc
 up_gone c (t.over why) k u ends answered idle some is = idle
 up_gone c stage k u ends answered idle some is = absurd ends
 
--- a link of the plain door, and its upstream
+-- a plain link, and its upstream
 plain_gone : (c : Cause) (x : Captured) → PlainEnds c x → calm.IsQuiet x → IsPlainThere x → ⊥
 plain_gone c x ends quiet there =
     ⊎_elim (λ is. subst (λ (r : plain.Stage). PlainEndsBy c r x) is ends)
@@ -210,7 +210,7 @@ module _ (c : Cause) (l : ℕ) (a b : Local) (ends : IsEnding c a.link) where
 crowded_ends : (c : Cause) (l : ℕ) (a b : Local) → IsEnding c a.link → inbound.Steps l a part.crowded b → IsEnding c b.link
 crowded_ends c l a b ends steps = absurd (never c l a b ends m.arriving steps.0)
 
--- a link of the plain door that ends so goes on ending so
+-- a plain link that ends so goes on ending so
 left_plain : (c : Cause) (stage : plain.Stage) (x : Captured) → PlainEndsBy c stage x
     → PlainEndsBy c (plain.left_by stage) (plain.at_stage (plain.left_by stage) x)
 left_plain c plain.unborn x ends = tt
@@ -235,8 +235,8 @@ module _ (c : Cause) (l : ℕ) (a : captured.Local) (ends : PlainEnds c a.link) 
   plain_step plain_part.crowded inner may = absurd inner
   plain_step plain_part.lacked inner may = absurd inner
   plain_step (plain_part.misfronted fault) inner may = absurd (never_plain plain.fronting may.0)
-  plain_step (plain_part.fronted seen) inner may = absurd (never_plain plain.fronting may.0.0)
-  plain_step (plain_part.refused seen status made) inner may = absurd (never_plain plain.fronting may.0.0)
+  plain_step (plain_part.fronted seen to) inner may = absurd (never_plain plain.fronting may.0.0)
+  plain_step (plain_part.refused seen why status made) inner may = absurd (never_plain plain.fronting may.0.0)
   plain_step (plain_part.accepted made) inner may = absurd (never_plain plain.accepting may.0)
   plain_step (plain_part.left made) inner may = left_plain c a.link.stage a.link ends
   plain_step (plain_part.done made) inner may = absurd (never_plain plain.live may.0)
@@ -256,7 +256,8 @@ step_so c g x y (of_plain l p) inner steps ends =
     let a = plain_local x l in
     let at : PlainEnds c (captured.next_link (x.plain l) p) =
     ⊎_elim (λ own. plain_step c l a (ends.plain l) p own steps.0)
-    (λ is. absurd (never_plain c l a (ends.plain l) plain.arriving (subst (λ (w : plain_part.Part). captured.MayGo l a w) is steps.0))) inner in
+    (λ is. absurd (never_plain c l a (ends.plain l) plain.arriving
+    (subst (λ (w : plain_part.Part). captured.MayGo l a w) is steps.0))) inner in
     subst (λ (w : Machine). Ends c w) (sym steps.2) (plain_ends_at c x l p (captured.next_link (x.plain l) p) at ends)
 
 inner_ends : (c : Cause) (g : NodeConfig) (x y : Machine) (more : List Point) → Leads g x more y → Ends c x → Ends c y
@@ -314,7 +315,7 @@ plain_stops c (plain.over why) x calm idle = inr idle
 abbrev pub with_stop : State → Side → Cause → Proxy → Proxy
 with_stop n side c p = record p { control = n; side = side; dials = None; ends_for = Some c }
 
--- the links of the two doors were told, with these notes in between
+-- the links of the doors were told, with these notes in between
 pub stops : (p : Proxy) (n : State) (side : Side) (between : Told) (c : Cause) → node.Stops c p.control n
     → links.Stops c p.side.links (told p.side.notes) side.links between
     → relays.Stops c p.side.relays between side.relays (told side.notes) → Stops Stands shown_of p (with_stop n side c p)
@@ -334,7 +335,8 @@ stops p n side between c control_stops_so links_stop relays_stop going none take
   control = subst (λ (w : Control). Shows n w) (sym control_is) (control_stops_so.1 x.control s.control);
   links = follows.links;
   relays = follows.relays;
-  noted = notes_grow taken (told p.side.notes) (told side.notes) s.points (of_control (point.stopped c) ∷ follows.more) follows.noted s.noted;
+  noted = notes_grow taken (told p.side.notes) (told side.notes) s.points (of_control (point.stopped c) ∷ follows.more) follows.noted
+      s.noted;
   dial = tt;
   ends = (ap (λ (w : Control). w.over) control_is, inner_ends c p.control.config y follows.reached follows.more follows.leads ends_y);
   sound = s.sound;

@@ -68,7 +68,7 @@ module _ (p : Proxy) (n : State) (had : Option ControlAct) (had_is : had ≡ Non
     still_so : links_stirring.StirsBut None p.side.links new
     still_so = subst (λ (o : Option Act). links_stirring.StirsBut (links_stirring.closed_in o) p.side.links new) got_is still
 
-    -- an act of the links of the plain door
+    -- an act of the plain links
     pub relays_give_so : (q : Proxy) (gave : Option Act) (due : Act) (r : Option Act) → gave ≡ Some due
         → relays.Acts gave p.side.relays behind → relays_stirring.StirsBut (relays_stirring.closed_in gave) p.side.relays behind
         → r ≡ given_by p.ends_for due

@@ -151,7 +151,8 @@ acted taken p side trace s z at y steps control one none door links relays same 
     stood taken p (with_act side None p.strange p) trace z s y (at ∷ []) refl (goes_on s.run at steps refl) door one
     (subst (λ (c : Control). Shows p.control c) (sym control) s.control) links relays
     (subst (λ (t : Told). Takes (told p.side.notes) (notes (at ∷ [])) t) (sym same)
-    (subst (λ (ns : List Note). Takes (told p.side.notes) ns (told p.side.notes)) (sym none) (takes_none (told p.side.notes)))) refl ends refl
+    (subst (λ (ns : List Note). Takes (told p.side.notes) ns (told p.side.notes)) (sym none) (takes_none (told p.side.notes))))
+    refl ends refl
 
 -- AN ACT OF A DOOR, BY WHAT IT IS TO BE
 

@@ -50,7 +50,8 @@ notes_grow taken (Some waiting) new points more takes are =
 pub stood : (taken : List Note) (p q : Proxy) (trace : List Entry) (z : Entry) (s : Stands taken p trace) (y : Machine) (more : List Point)
     → q.control.config ≡ p.control.config → StandsFor p.control.config y (s.points ++ more) → is_at_door z ≡ false → entries more ≡ z ∷ []
     → Shows q.control y.control → ShowsAll q.side.links y.inbound → ShowsRelays q.side.relays y.plain
-    → Takes (told p.side.notes) (notes more) (told q.side.notes) → q.dials ≡ None → EndsBy q.ends_for y → q.strange ≡ p.strange → Stands taken q (trace ++ z ∷ [])
+    → Takes (told p.side.notes) (notes more) (told q.side.notes) → q.dials ≡ None → EndsBy q.ends_for y
+    → q.strange ≡ p.strange → Stands taken q (trace ++ z ∷ [])
 stood taken p q trace z s y more config run door one control links relays takes dials ends sound = record {
   machine = y;
   points = s.points ++ more;

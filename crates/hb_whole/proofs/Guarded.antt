@@ -37,7 +37,7 @@ pub record Guarded (p : Proxy) (x : Machine) (z : Entry) : Type 0 where
   pub control : next.control ≡ x.control
   pub same : IsStill x z → next ≡ x
 
--- which the inbound links of the code find, or those of the plain door; the others stay as they are
+-- which the inbound links of the code find, or the plain ones; the others stay as they are
 pub record LinkGuarded (p : Proxy) (x : Machine) (l : ℕ) (z : Entry) : Type 0 where
   pub at : Guarded p x z
   pub found : point_for p.side.links l z ≡ Some at.point

@@ -51,7 +51,8 @@ quiet_at : (x : Inbound) → IsQuiet x → IsLinkThere x.phase → IsQuietAt m.f
 quiet_at x quiet there =
     ⊎_elim (λ is. inl (quiet, is)) (λ is. inr (quiet, is)) (open_phase x.phase x there quiet.calm.rests quiet.no_close)
 
-pub going_at : (x : Inbound) (s u : ℕ) → IsQuiet x → Joins (x.tunnels s) u → ((x.tunnels s).stage ≡ t.opening) ⊎ ((x.tunnels s).stage ≡ t.live)
+pub going_at : (x : Inbound) (s u : ℕ) → IsQuiet x → Joins (x.tunnels s) u
+    → ((x.tunnels s).stage ≡ t.opening) ⊎ ((x.tunnels s).stage ≡ t.live)
 going_at x s u quiet joins =
     going_stage (x.tunnels s).stage (x.tunnels s) (subst (λ (n : ℕ). 0 < n) (sym joins.1) joins.0) (quiet.calm.answered s) (quiet.idle s)
 
@@ -75,7 +76,8 @@ module _ (taken : List Note) (p : Proxy) (trace : List Entry) (s : Stands taken 
       by (to_link there none found) = absurd (not_both (is_open l (without_doors trace)) (seen.link l there).1 closed)
       by (to_up k q joins at found) =
           let quiet = all.links k in
-          let stage = opening_stage ((x.inbound k).tunnels q).stage (is_open l (without_doors trace)) (going_at (x.inbound k) q l quiet joins)
+          let stage = opening_stage ((x.inbound k).tunnels q).stage (is_open l (without_doors trace))
+          (going_at (x.inbound k) q l quiet joins)
           (seen.up k q l joins).2 closed in
           guarded_up p x l k q (e.Opened l) found (is_at (x.inbound k) q l t.opening quiet stage (inl refl) joins)
           (free_link x k (e.Opened l) all tt)
@@ -182,7 +184,8 @@ module _ (taken : List Note) (p : Proxy) (trace : List Entry) (s : Stands taken 
       by (to_link there none found) = absurd (not_both (is_open l (without_doors trace)) (seen.link l there).1 closed)
       by (to_up k q joins at found) =
           let quiet = all.links k in
-          let stage = opening_stage ((x.inbound k).tunnels q).stage (is_open l (without_doors trace)) (going_at (x.inbound k) q l quiet joins)
+          let stage = opening_stage ((x.inbound k).tunnels q).stage (is_open l (without_doors trace))
+          (going_at (x.inbound k) q l quiet joins)
           (seen.up k q l joins).2 closed in
           guarded_up p x l k q (e.Balked (way.Finish l)) found (is_at (x.inbound k) q l t.opening quiet stage (inl refl) joins)
           (free_link x k (e.Balked (way.Finish l)) all tt)
@@ -210,7 +213,8 @@ module _ (taken : List Note) (p : Proxy) (trace : List Entry) (s : Stands taken 
       link_writes none_up found (inr (inr (all_calm p.side.links x.inbound s.links l, words.0, words.1)))
       (λ z birth. record {
         birth = birth;
-        control = rests_of x.control (control_quiet p.control x.control s.control (none_of (due_of p.control) none) (goes_on p x s.ends going));
+        control = rests_of x.control
+            (control_quiet p.control x.control s.control (none_of (due_of p.control) none) (goes_on p x s.ends going));
         others = λ k apart. subst (λ (phase : m.Phase). Lets (link_first phase z) (x.inbound k)) (sym words.1)
             (all_calm p.side.links x.inbound s.links k);
         plain = λ k. subst (λ (phase : m.Phase). PlainLets (link_first phase z) (x.plain k)) (sym words.1)
@@ -277,7 +281,8 @@ module _ (taken : List Note) (p : Proxy) (trace : List Entry) (s : Stands taken 
           (guard (e.Went l bytes) tt)
       by (up_writes k q at found joins quiet going guard) =
           let same = holds_up p.side.links x.inbound s.links l k q at in
-          let live = live_holds ((x.inbound k).tunnels q).stage ((x.inbound k).tunnels q) (subst (λ (bs : List ℕ). 0 < length bs) same waits) in
+          let live = live_holds ((x.inbound k).tunnels q).stage ((x.inbound k).tunnels q)
+          (subst (λ (bs : List ℕ). 0 < length bs) same waits) in
           guarded_up p x l k q (e.Went l bytes) found (
             is_at (x.inbound k) q l t.live quiet live (inr refl) joins,
             some,

@@ -76,7 +76,8 @@ number_is (Some k) x shows = sym shows.0
 pub judged_stirs : (held : List Resources) (a b : Side) → Judged Judges held a b → (l : ℕ) → SideStirs l a b
 judged_stirs [] a b judged l = subst (λ (c : Side). SideStirs l a c) (sym judged) (none_stir a l)
 judged_stirs (h ∷ held) a b judged l =
-    stir_then a judged.0 b l (record { links = judged.1.links_stir l; relays = judged.1.relays_stir l }) (judged_stirs held judged.0 b judged.2 l)
+    stir_then a judged.0 b l (record { links = judged.1.links_stir l; relays = judged.1.relays_stir l })
+    (judged_stirs held judged.0 b judged.2 l)
 
 -- AN ENTRY
 
@@ -100,8 +101,8 @@ enters taken p n side trace z s goes_so going door may guard told_so =
     let steps : Steps g x (of_control q) y = (m, (may, refl), guard, refl) in
     let r = told_so.1 x.control s.control may in
     let inner : Inner g m r.points r.machine = subst (λ (c : NodeConfig). Inner c m r.points r.machine) told_so.0 r.inner in
-    let on = goes g y (s.points ++ of_control q ∷ []) r.points r.machine p.side side (goes_on s.run (of_control q) steps refl) s.links s.relays inner
-    r.judged in
+    let on = goes g y (s.points ++ of_control q ∷ []) r.points r.machine p.side side (goes_on s.run (of_control q) steps refl) s.links
+    s.relays inner r.judged in
     let kept = inner_keeps g m r.machine r.points inner in
     record {
       stands = stood taken p (with_state n side p) trace z s on.machine (of_control q ∷ on.more) told_so.0
@@ -277,7 +278,8 @@ module _ (taken : List Note) (p : Proxy) (trace : List Entry) (s : Stands taken 
   broke_may may = let w = writes (e.Broke l) tt faulted_first may.0 in (may.0.0, w.phase, w.guard)
 
   -- where something waits
-  writable : (z : Entry) → Writes z → 0 < length (model.output x.control l) → model.IsQuietAt x.control l d.live ⊎ model.IsFaulted x.control l
+  writable : (z : Entry) → Writes z → 0 < length (model.output x.control l)
+      → model.IsQuietAt x.control l d.live ⊎ model.IsFaulted x.control l
   writable z w some =
       ⊎_elim (λ dials. let none : 0 < 0 = subst (λ (q : d.Phase). 0 < length (model.output_by q (x.control.links l))) dials.1 some in
       absurd (omega arith)) (λ is. is) w.phase

@@ -1,4 +1,4 @@
--- What follows by itself on the links of the two doors: no entry, and nothing of the other parts.
+-- What follows by itself on the links of the doors: no entry, and nothing of the other parts.
 use Rattle.std.proofs.Common.{◌≡◌, ◌⊎◌, inl, inr, ℕ, List, [], ◌∷◌, ◌++◌, refl, ap, sym, ◌∙◌, subst}
 use Rattle.std.proofs.lemmas.Grind.{flat_map-append}
 use Rattle.std.proofs.lemmas.List.{append_assoc, append-nil}
@@ -89,8 +89,8 @@ plain_silent plain.welcomed inner = refl
 plain_silent plain.crowded inner = refl
 plain_silent plain.lacked inner = refl
 plain_silent (plain.misfronted fault) inner = refl
-plain_silent (plain.fronted seen) inner = refl
-plain_silent (plain.refused seen status made) inner = refl
+plain_silent (plain.fronted seen to) inner = refl
+plain_silent (plain.refused seen why status made) inner = refl
 plain_silent (plain.accepted made) inner = refl
 plain_silent (plain.left made) inner = refl
 plain_silent (plain.done made) inner = refl
@@ -168,7 +168,7 @@ relays_follow g x had side shows follows = record {
   noted = follows.noted;
 }
 
--- first on the inbound links, then on those of the plain door
+-- first on the inbound links, then on the plain ones
 pub both_follow : (g : NodeConfig) (x : Machine) (had between : Told) (side : Side) (G : links.Guard)
     → links.Follows G links.Shown g x side.links had between → relays.Follows g x side.relays between (told side.notes)
     → Follows g x had side
@@ -181,7 +181,8 @@ both_follow g x had between side G first behind =
       reached = so.reached;
       leads = leads_then g x first.reached so.reached first.more behind.more leads
           (relays_lead g first.reached so.reached behind.more so.leads);
-      links = subst (λ (f : _). ShowsAll side.links f) (sym (leads_keep g first.reached behind.more so.reached so.leads).inbound) first.shows;
+      links = subst (λ (f : _). ShowsAll side.links f) (sym (leads_keep g first.reached behind.more so.reached so.leads).inbound)
+          first.shows;
       relays = subst (λ (f : ℕ → Captured). ShowsRelays side.relays f) (sym so.plain) behind.shows;
       noted = subst (λ (ns : List Note). Takes had ns (told side.notes)) (sym (notes_more first.more behind.more))
           (takes_then had between (told side.notes) (notes first.more) (notes behind.more) first.noted behind.noted);

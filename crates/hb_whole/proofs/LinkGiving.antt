@@ -81,7 +81,8 @@ ends_at c x l p next phase tunnels is = record {
     by true k so = phase
     by false k so = so
 
-    by_tunnel : (b : Bool) (k s : ℕ) → TunnelEnds c ((x.inbound k).tunnels s).stage → TunnelEnds c ((cond b next (x.inbound k)).tunnels s).stage
+    by_tunnel : (b : Bool) (k s : ℕ) → TunnelEnds c ((x.inbound k).tunnels s).stage
+        → TunnelEnds c ((cond b next (x.inbound k)).tunnels s).stage
     by_tunnel true k s so = tunnels s
     by_tunnel false k s so = so
 
@@ -95,8 +96,8 @@ link_ends_at (Some c) x l p next phase tunnels is =
     (is.0, ends_at c x l p next (phase c (is.1.links l)) (λ s. tunnels c s (is.1.tunnels l s)) is.1)
 
 -- of an inbound one
-module _ (taken : List Note) (p : Proxy) (links_behind : Links) (trace : List Entry) (s : Stands taken p trace) (l : ℕ) (q : Part) (z : Entry)
-    (does : Does links_behind p.control.config s.machine l q) (one : part.entry_in q ≡ z ∷ []) (none : part.note_in q ≡ []) where
+module _ (taken : List Note) (p : Proxy) (links_behind : Links) (trace : List Entry) (s : Stands taken p trace) (l : ℕ) (q : Part)
+    (z : Entry) (does : Does links_behind p.control.config s.machine l q) (one : part.entry_in q ≡ z ∷ []) (none : part.note_in q ≡ []) where
   abbrev pub side_behind : Side
   side_behind = record p.side { links = links_behind }
 
@@ -275,7 +276,8 @@ module _ (p : Proxy) (links_behind : Links) (rests : due_of p.control ≡ None) 
   pub links_give : (due : Act) (ends : Option Cause) → p.ends_for ≡ ends → links.Acts (Some due) p.side.links links_behind
       → StirsBut (closed_in (Some due)) p.side.links links_behind
       → Acts Stands shown_of (given_by ends due) p (given_behind ends due (record p { side = side }))
-  links_give due ends is acts stirs = gives p side due ends is (gives_by due acts) (λ l apart. links_stir p.side side l refl (stirs l apart))
+  links_give due ends is acts stirs =
+      gives p side due ends is (gives_by due acts) (λ l apart. links_stir p.side side l refl (stirs l apart))
 
   -- where they give none they show what they showed, and none is due of them
   pub links_asked : links.Acts None p.side.links links_behind → (taken : List Note) (trace : List Entry) (s : Stands taken p trace)

@@ -181,7 +181,8 @@ link_output k x shows = by k.phase refl
     by here.Closed is = at here.Closed is refl
 
 -- a tunnel that the code shows
-tunnel_by : (A : Type 0) (f : Stage → Tunnel → A) (k : HereTunnel) (x : Tunnel) → ((why : Cause) (y : Tunnel) → f (t.over why) y ≡ f (t.over why) (tunnel_of k))
+tunnel_by : (A : Type 0) (f : Stage → Tunnel → A) (k : HereTunnel) (x : Tunnel)
+    → ((why : Cause) (y : Tunnel) → f (t.over why) y ≡ f (t.over why) (tunnel_of k))
     → ((s : Stage) (y : Tunnel) → f s (as_told y) ≡ f s y) → ShowsTunnel (Some k) x → f x.stage x ≡ f (stage_of k.stage) (tunnel_of k)
 tunnel_by A f k x over same shows = by k.stage refl shows
   where
@@ -225,7 +226,8 @@ up_held_same (t.ended why) y = refl
 up_held_same (t.over why) y = refl
 up_held_same t.gone y = refl
 
-none_by : (A : Type 0) (f : Stage → Tunnel → A) (none : A) (x : Tunnel) → ((y : Tunnel) → f t.unasked y ≡ none) → ((y : Tunnel) → f t.gone y ≡ none)
+none_by : (A : Type 0) (f : Stage → Tunnel → A) (none : A) (x : Tunnel)
+    → ((y : Tunnel) → f t.unasked y ≡ none) → ((y : Tunnel) → f t.gone y ≡ none)
     → ShowsTunnel None x → none ≡ f x.stage x
 none_by A f none x unasked gone shows =
     ⊎_elim (λ (is : x.stage ≡ t.unasked). sym (ap (λ (r : Stage). f r x) is ∙ unasked x))
@@ -266,7 +268,8 @@ own_output : (l : ℕ) (o : Option Link) (x : Inbound) → ShowsLink l o x → l
 own_output l None x shows = sym (away_nothing x.phase x shows.0)
 own_output l (Some k) x shows = link_output k x shows.1
 
-ups_want : (l s : ℕ) (o : Option Link) (x : Inbound) → ShowsLink l o x → links.up_wants_in s o ≡ up_wants_by (x.tunnels s).stage (x.tunnels s)
+ups_want : (l s : ℕ) (o : Option Link) (x : Inbound) → ShowsLink l o x
+    → links.up_wants_in s o ≡ up_wants_by (x.tunnels s).stage (x.tunnels s)
 ups_want l s None x shows = up_wants_shown None (x.tunnels s) (shows.1 s)
 ups_want l s (Some k) x shows = up_wants_shown (get k.tunnels s) (x.tunnels s) (shows.1.tunnels s)
 

@@ -1,9 +1,13 @@
--- What an act that is given of a link of the plain door makes of the traces that the proxy stands for.
+-- What an act that is given of a plain link makes of the traces that the proxy stands for.
 use Rattle.std.proofs.Common.{◌≡◌, inl, inr, ⊎_elim, ℕ, ◌<◌, ◌==◌, Bool, true, false, cond, List, [], ◌∷◌, ◌++◌, Option, Some, None, refl, ap, sym, ◌∙◌, subst, arith}
 use Rattle.std.proofs.lemmas.Bool.{and_parts}
 use Rattle.hb_base.specs.declared.cause.Cause.{Cause}
+use Rattle.hb_base.specs.declared.door.Door.{Door}
+use Rattle.hb_base.specs.declared.door.Door.TheVariants as door
 use Rattle.hb_base.specs.declared.door.Why.{Why}
 use Rattle.hb_base.specs.declared.note.Note.{Note}
+use Rattle.hb_base.specs.declared.target.Target.{Target}
+use Rattle.hb_captured.specs.Answer.{why_at}
 use Rattle.hb_captured.specs.Captured as s
 use Rattle.hb_captured.specs.Captured.{Captured, Stage}
 use Rattle.hb_captured.specs.Part as part
@@ -14,6 +18,7 @@ use Rattle.hb_links.specs.Acts as links
 use Rattle.hb_links.specs.Shows.{ShowsAll}
 use Rattle.hb_links.specs.Stirring as links_stirring
 use Rattle.hb_links.specs.declared.links.Links.{Links}
+use Rattle.hb_model.specs.declared.config.NodeConfig.{NodeConfig}
 use Rattle.hb_node.specs.State.{due_of}
 use Rattle.hb_proxy.proofs.Owned.{all_owned, whose_in}
 use Rattle.hb_proxy.proofs.PlainStays.{RelayBy}
@@ -35,7 +40,7 @@ use Rattle.hb_world.specs.declared.entry.Entry.{Entry}
 use Rattle.hb_world.specs.declared.entry.Entry.TheVariants as e
 use Rattle.hb_whole.specs.Acting.{given_by}
 use Rattle.hb_whole.specs.Sight.{shown_of}
-use Rattle.hb_whole.specs.Stands.{Stands, EndsBy, Ends, PlainEnds, PlainEndsBy, DialIsDue}
+use Rattle.hb_whole.specs.Stands.{Stands, EndsBy, Ends, PlainEnds, PlainEndsBy, DialIsDue, PlainDialIsDue}
 use Rattle.hb_whole.specs.declared.proxy.Proxy.{Proxy}
 use Rattle.hb_whole.specs.declared.side.Side.{Side}
 use Rattle.hb_whole.proofs.Free.{control_rests}
@@ -95,6 +100,13 @@ same_closed : (due : Act) → links_stirring.closed_in (Some due) ≡ relays_sti
 same_closed (act.Close u why) = refl
 same_closed (act.Shut u) = refl
 same_closed (act.Dial to why) = refl
+
+-- a dial that is due for a plain link is due, at either door
+plain_due : (g : NodeConfig) (x : Machine) (to : Target) (d : Door) (l : ℕ) → PlainDialIsDue g x to (why_at d l) l
+    → DialIsDue g x to (why_at d l)
+plain_due g x to door.Inbound l due = due
+plain_due g x to door.Outbound l due = due
+plain_due g x to door.Plain l due = due
 
 -- ONE ACT
 
@@ -232,7 +244,8 @@ module _ (p : Proxy) (asked : Links) (behind : Relays) (rests : due_of p.control
         relays = at.0;
         noted = refl;
         due = subst (λ (w : Why). DialIsDue p.control.config s.machine to w) (sym at.2)
-            (control_rests p.control s.machine.control s.control rests, at.3, at.4);
+            (plain_due p.control.config s.machine to (s.machine.plain at.1).door at.1
+            (control_rests p.control s.machine.control s.control rests, refl, at.3, at.4));
         goes = λ c is. subst (λ (r : Stage). PlainEndsBy c r (s.machine.plain at.1)) at.3
             ((subst (λ (o : Option Cause). EndsBy o s.machine) is s.ends).1.plain at.1);
       }

@@ -1,4 +1,4 @@
--- An entry of a link of the plain door or of its upstream, which the event loop tells, may come next in the machine.
+-- An entry of a plain link or of its upstream, which the event loop tells, may come next in the machine.
 use Rattle.std.proofs.Common.{◌≡◌, ◌⊎◌, inl, inr, ⊎_elim, ℕ, ◌<◌, ◌≤◌, Bool, true, false, List, ◌++◌, length, take, drop, Some, refl, ap, sym, ◌∙◌, subst, arith}
 use Rattle.std.proofs.lemmas.List.{length-take, take-append-drop}
 use Rattle.hb_base.specs.declared.note.Note.{Note}
@@ -176,8 +176,11 @@ module _ (taken : List Note) (p : Proxy) (trace : List Entry) (s : Stands taken 
   -- a write goes only where all is quiet: it has no last words
   may_free : MayWrite (shown_of p) l → Free x
   may_free may =
-      free taken p trace s
-      (may.0, ⊎_elim (λ idle. idle) (λ last. let no : false ≡ true = sym (ap (λ (o : Owner). last_by o p l) whose) ∙ last in absurd cc) may.1)
+      free taken p trace s (
+        may.0,
+        ⊎_elim (λ idle. idle)
+            (λ last. let no : false ≡ true = sym (ap (λ (o : Owner). last_by o p l) whose) ∙ last in absurd cc) may.1,
+      )
 
   pub broke_may : MayCome (shown_of p) trace (e.Broke l) → PlainGuarded p x l (e.Broke l)
   broke_may may = by (plain_route taken p trace s l whose may.1)

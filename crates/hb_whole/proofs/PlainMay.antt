@@ -1,4 +1,4 @@
--- How far a link of the plain door is, by what may be done on it, and where an entry of it may come.
+-- How far a plain link is, by what may be done on it, and where an entry of it may come.
 use Rattle.std.proofs.Common.{◌≡◌, ◌⊎◌, inl, inr, ℕ, ◌<◌, Bool, true, false, List, length, refl, sym, ◌∙◌, subst, arith}
 use Rattle.hb_captured.specs.Calm.{IsCalmBy, IsIdleBy, up_wants_by, output_by}
 use Rattle.hb_captured.specs.Captured as s

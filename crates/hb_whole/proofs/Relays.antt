@@ -1,4 +1,4 @@
--- What the code says of the links of the plain door that it shows.
+-- What the code says of the plain links that it shows.
 use Rattle.std.proofs.Common.{◌≡◌, ◌⊎◌, inl, inr, ℕ, ◌||◌, Bool, true, false, is_some, List, [], Option, Some, None, refl, ap, sym, ◌∙◌, subst}
 use Rattle.std.specs.FinMap.{get}
 use Rattle.hb_captured.specs.Calm as calm

@@ -93,7 +93,8 @@ balked : (x : Machine) (w : Way) → IsStill x (e.Balked w)
 balked x w = record { link = λ y. refl; up = λ k. refl; plain = λ y. refl; relay = λ y. refl; born = refl }
 
 -- it is told by whose the link is
-by_owner : (taken : List Note) (p : Proxy) (trace : List Entry) (l : ℕ) (w : Way) (s : Stands taken p trace) → is_at_door (e.Balked w) ≡ false
+by_owner : (taken : List Note) (p : Proxy) (trace : List Entry) (l : ℕ) (w : Way) (s : Stands taken p trace)
+    → is_at_door (e.Balked w) ≡ false
     → (owns p l ≡ true → model.MayCome p.control.config s.machine.control (e.Balked w) × ControlMayCome s.machine (e.Balked w))
     → (owner_of p l ≡ OfInbound → LinkGuarded p s.machine l (e.Balked w)) → (owner_of p l ≡ Plain → PlainGuarded p s.machine l (e.Balked w))
     → Stands taken p (trace ++ e.Balked w ∷ [])

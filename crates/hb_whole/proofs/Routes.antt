@@ -1,4 +1,4 @@
--- Where a link that lives is found in the code: it is the control plane's, an inbound one, one of the plain door, or an upstream.
+-- Where a link that lives is found in the code: it is the control plane's, an inbound one, a plain one, or an upstream.
 use Rattle.std.proofs.Common.{◌≡◌, inl, inr, ⊎_elim, ℕ, Bool, true, false, List, Option, Some, None, refl, ap, sym, ◌∙◌, subst}
 use Rattle.std.proofs.lemmas.Bool.{eqb-true, eq-eqb, cases_eq}
 use Rattle.std.specs.FinMap.{get}
@@ -168,7 +168,7 @@ up_absent x zs k s l seen joins (inr up) = (seen.plain.up_alone up.0 l up.1).3 k
 
 -- A ROUTE
 
--- of one of the inbound door, or of an upstream of that; and of one of the plain door
+-- of one of the inbound door, or of an upstream of that; and of a plain one
 pub data LinkRoute (p : Proxy) (x : Machine) (l : ℕ) : Type 0 where
   to_link : IsLinkThere (x.inbound l).phase → get p.side.links.ups l ≡ None
       → ((z : Entry) → point_for p.side.links l z ≡ Some (of_link l (part.entry z))) → LinkRoute p x l

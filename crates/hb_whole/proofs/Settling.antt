@@ -86,7 +86,8 @@ many_wait n wanted none reads =
     (λ (many : 0 < n - 32000). omega (arith, many)) (eq-zero-or-pos (n - 32000))
 
 crowded : (c : Connection) → IsKept c → IsLookedAt c → wants_of c ≡ 0 → IsCrowded c
-crowded c kept looked none = many_wait (length (connection.output c)) (wants_of c) none (λ room. some_are_wanted c kept looked (omega (arith, room)))
+crowded c kept looked none =
+    many_wait (length (connection.output c)) (wants_of c) none (λ room. some_are_wanted c kept looked (omega (arith, room)))
 
 fills : (size n : ℕ) → size - n ≡ 0 → size ≤ n
 fills size n none = omega (arith, none)
@@ -283,8 +284,8 @@ module _ (taken : List Note) (p : Proxy) (trace : List Entry) (s : Stands taken 
     up_output_is = ap (λ (o : Owner). output_by o p u) up_whose
         ∙ holds_up p.side.links x.inbound s.links u l q (s.links.index.found l q u joins)
 
-    up_open : (stage : Stage) (b : Bool) → tunnel.stage ≡ stage → (UpOpenBy stage (is_open u (without_doors trace)) → is_open u (without_doors trace) ≡ b)
-        → is_open u trace ≡ b
+    up_open : (stage : Stage) (b : Bool) → tunnel.stage ≡ stage
+        → (UpOpenBy stage (is_open u (without_doors trace)) → is_open u (without_doors trace) ≡ b) → is_open u trace ≡ b
     up_open stage b is says =
         opens_so u b (says (subst (λ (r : Stage). UpOpenBy r (is_open u (without_doors trace))) is (seen.up l q u joins).2))
 
@@ -309,7 +310,7 @@ module _ (taken : List Note) (p : Proxy) (trace : List Entry) (s : Stands taken 
     up_so : UpSettledBy tunnel.stage trace u tunnel
     up_so = by_stage tunnel.stage refl (going_at (x.inbound l) q u (all.links l) joins)
 
-  -- a link of the plain door
+  -- a plain link
   module _ (l : ℕ) (there : IsPlainThere (x.plain l)) where
     plain_alive : lives l trace ≡ true
     plain_alive = lives_so l (seen.plain.link l there).0

@@ -40,7 +40,7 @@ up_same x l s z same born =
     ∙ tunnel_same (k == s) ((x.inbound l).tunnels k)))))
     ∙ ap (λ (n : ℕ). record x { born = n }) born
 
--- on a link of the plain door, or on its upstream
+-- on a plain link, or on its upstream
 pub plain_same : (x : Machine) (l : ℕ) (z : Entry) (next : Captured) → next ≡ x.plain l → born_by x.born z ≡ x.born
     → record x { born = born_by x.born z; plain = λ k. cond (k == l) next (x.plain k) } ≡ x
 plain_same x l z next same born =

@@ -1,4 +1,4 @@
--- What stirs, where the links of the two doors were told something.
+-- What stirs, where the links of the doors were told something.
 use Rattle.std.proofs.Common.{◌≡◌, ◌⊎◌, inl, inr, ⊎_elim, ℕ, Bool, true, false, List, [], refl, ap, sym, ◌∙◌, subst}
 use Rattle.hb_links.proofs.Stirs.{none_stirs, stirs_then}
 use Rattle.hb_links.specs.Stirring as links
@@ -56,7 +56,7 @@ pub record StirsOn (l : ℕ) (p q : Proxy) (before behind : Owner) : Type 0 wher
 pub stirs_now : (l : ℕ) (p q : Proxy) (before behind : Owner) → stirs_by behind q l ≡ true → StirsOn l p q before behind
 stirs_now l p q before behind is = record { kept = λ had. is; reads = λ none. inr is; writes = λ none. inr is }
 
--- one of the two doors, by whether the plain one had it, and has it
+-- one of a door, by whether the plain links had it, and have it
 door_stirs : (l : ℕ) (p q : Proxy) (had has : Bool) → SideStirs l p.side q.side
     → (has ≡ had) ⊎ ((has ≡ true) × (relays.stirs_at q.side.relays l ≡ true))
     → StirsOn l p q (owner_by false had) (owner_by false has)

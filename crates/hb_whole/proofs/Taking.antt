@@ -99,7 +99,7 @@ own_hears taken p trace l is s = (
     by k Plain whose stirs = inl stirs
     by k Inbound whose stirs = inl stirs
 
--- then those of the two doors are
+-- then those of the doors are
 abbrev pub links_heard : Links → Relays → Proxy → Proxy
 links_heard links relays p = record p { stirs = false; side = record p.side { links = links; relays = relays } }
 

@@ -116,7 +116,7 @@ link_tells p side z l G P same door guards meets stirs taken trace s may =
       side_stirs p side (trace ++ z ∷ []) (λ k. links_stir p.side side k same (stirs k)),
     )
 
--- to those of the plain door
+-- to the plain ones
 pub plain_tells : (p : Proxy) (side : Side) (z : Entry) (l : ℕ) (P : Machine → Type 0) → side.links ≡ p.side.links → is_at_door z ≡ false
     → ((taken : List Note) (trace : List Entry) (s : Stands taken p trace) → shown.MayCome (shown_of p) trace z
     → (p.ends_for ≡ None) × PlainGuarded p s.machine l z × P s.machine)

@@ -1,4 +1,4 @@
--- What a response that is applied makes of the links of the two doors.
+-- What a response that is applied makes of the inbound links and of the plain ones.
 use Rattle.hb_held.specs.Held.{Resources}
 use Rattle.hb_links.specs.Calls as links
 use Rattle.hb_links.specs.Stirring as links_stirring
@@ -8,7 +8,7 @@ use Rattle.hb_whole.specs.Queue.{told}
 use Rattle.hb_whole.specs.declared.queue.Queue.{Queue}
 use Rattle.hb_whole.specs.declared.side.Side.{Side}
 
--- The inbound links judge first, then those of the plain door: each tunnel and each link that is no longer admitted ends, and each link
+-- The inbound links judge first, then the plain ones: each tunnel and each link that is no longer admitted ends, and each link
 -- may have stirred
 pub record Judges (before : Side) (held : Resources) (after : Side) : Type 0 where
   -- the notes in between

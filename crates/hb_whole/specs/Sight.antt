@@ -28,7 +28,7 @@ owns p l = is_number (number_of p.control.link) l
 abbrev pub own_told : Proxy → Option ℕ
 own_told p = if p.stirs then number_of p.control.link else None
 
--- whose the link of a number is: the control plane's, else the plain door's where that has it, else the inbound door's
+-- whose the link of a number is: the control plane's, else the plain links' where those have it, else the inbound links'
 abbrev pub owner_by : (own has : Bool) → Owner
 owner_by true has = Control
 owner_by false true = Plain
@@ -49,7 +49,7 @@ output_by Plain p l = relays.held_of p.side.relays l
 output_by Inbound p l = links.held_of p.side.links l
 
 -- A write goes before the acts that are due: behind a connection error. On an inbound link it does only where the control plane rests; a
--- link of the plain door has no last words
+-- plain link has no last words
 abbrev pub last_by : Owner → Proxy → ℕ → Bool
 last_by Control p l = says_last p.control.link
 last_by Plain p l = false
@@ -60,7 +60,7 @@ stirs_by Control p l = p.stirs
 stirs_by Plain p l = relays_stirring.stirs_at p.side.relays l
 stirs_by Inbound p l = stirring.stirs_at p.side.links l
 
--- no act is due of the links of the two doors
+-- no act is due of the inbound links, nor of the plain ones
 abbrev pub is_idle : Side → Bool
 is_idle side = busy.is_idle side.links && touched.is_idle side.relays.due
 
@@ -73,7 +73,7 @@ abbrev pub closes_by : Option Cause → Proxy → Bool
 closes_by (Some cause) p = true
 closes_by None p = is_none (closing_of p.control.link) && is_idle p.side
 
--- how many places the tunnels of inbound links may take: each link of the plain door that is kept takes one
+-- how many places the tunnels of inbound links may take: each plain link that is kept takes one
 abbrev pub places_of : Proxy → ℕ
 places_of p = p.limits.tunnels - relays.count_of p.side.relays
 

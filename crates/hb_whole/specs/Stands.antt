@@ -5,6 +5,7 @@ use Rattle.hb_base.specs.declared.door.Why.{Why}
 use Rattle.hb_base.specs.declared.door.Why.TheVariants as whys
 use Rattle.hb_base.specs.declared.note.Note.{Note}
 use Rattle.hb_base.specs.declared.target.Target.{Target}
+use Rattle.hb_captured.specs.Answer.{why_at}
 use Rattle.hb_captured.specs.Captured as plain
 use Rattle.hb_captured.specs.Captured.{Captured}
 use Rattle.hb_inbound.specs.Inbound as inbound
@@ -33,13 +34,19 @@ abbrev pub AreNotes : List Note → Option (List Note) → List Point → Type 0
 AreNotes taken None points = ⊤
 AreNotes taken (Some waiting) points = notes_of points ≡ taken ++ waiting
 
--- a dial is due: of the control plane; or, while that rests, of a tunnel's target, or of a plain link's
+-- a dial is due for a plain link, while the control plane rests
+abbrev pub PlainDialIsDue : NodeConfig → Machine → Target → Why → ℕ → Type 0
+PlainDialIsDue g x to why l =
+    ControlRests x.control × (why ≡ why_at (x.plain l).door l) × ((x.plain l).stage ≡ plain.due) × (to ≡ (x.plain l).address)
+
+-- a dial is due: of the control plane; or, while that rests, of a tunnel's target, or for a plain link
 abbrev pub DialIsDue : NodeConfig → Machine → Target → Why → Type 0
 DialIsDue g x to whys.Discovery = (x.control.dials ≡ true) × (to ≡ g.discovery)
 DialIsDue g x to (whys.Upstream l s) =
     ControlRests x.control × (((x.inbound l).tunnels s).stage ≡ t.due) × (to ≡ ((x.inbound l).tunnels s).target)
-DialIsDue g x to (whys.Plain l) = ControlRests x.control × ((x.plain l).stage ≡ plain.due) × (to ≡ (x.plain l).target)
-DialIsDue g x to _ = ⊥
+DialIsDue g x to (whys.Plain l) = PlainDialIsDue g x to (whys.Plain l) l
+DialIsDue g x to (whys.Direct l) = PlainDialIsDue g x to (whys.Direct l) l
+DialIsDue g x to (whys.Gateway l) = ⊥
 
 abbrev pub MayBeDialled : NodeConfig → Machine → Option (Target × Why) → Type 0
 MayBeDialled g x None = ⊤

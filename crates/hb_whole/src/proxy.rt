@@ -22,16 +22,16 @@ use hb_model::{Act as ControlAct, NodeConfig};
 use hb_node::Node as Control;
 use hb_relays::Relays;
 use hb_world::Act;
-use std::alloc::{AllocError, Global};
+use std::alloc::Global;
 
-/// The most inbound links that may be open at a time, and the most tunnels; a link of the plain door is one, from its birth.
+/// The most inbound links that may be open at a time, and the most tunnels; a plain link is one, from its birth.
 #[derive(Clone, Copy)]
 pub struct Limits {
     pub links: usize,
     pub tunnels: usize,
 }
 
-/// A node of the mesh: its link to the control plane, its inbound links with their tunnels, and its links of the plain door.
+/// A node of the mesh: its link to the control plane, its inbound links with their tunnels, and its plain links.
 #[derive(Drop)]
 pub struct Proxy {
     pub(crate) control: Control,
@@ -112,7 +112,7 @@ impl Proxy {
         }
     }
 
-    /// How many places the tunnels of inbound links may take: each link of the plain door that is kept takes one.
+    /// How many places the tunnels of inbound links may take: each plain link that is kept takes one.
     fn places(&self) -> usize
         ensures { result ≡ places_of self.now }
     {
@@ -155,7 +155,7 @@ impl Proxy {
 impl Proxy {
     /// A link was accepted at a door.
     ///
-    /// Errors: `NoMemory`, behind which the run ends; also at a door that isn't served.
+    /// Errors: `NoMemory`, behind which the run ends.
     pub fn accepted(&mut self, link: u64, door: Door) -> Result<(), NoMemory>
         ensures tells { OnOk result (Tells Stands shown_of (e.Accepted link door) self.old self.new) }
         ensures config { config_of self.new ≡ config_of self.old }
@@ -169,15 +169,13 @@ impl Proxy {
                     self.side.links.turned_away(link)
                 }
             }
-            Door::Plain => {
+            Door::Plain | Door::Outbound => {
                 if self.side.links.taken() < self.places() as u128 {
-                    self.side.relays.accepted(link)
+                    self.side.relays.accepted(door, link)
                 } else {
-                    self.side.relays.turned_away(link)
+                    self.side.relays.turned_away(door, link)
                 }
             }
-            // No other door is served, so nothing is accepted there.
-            Door::Outbound => Err(AllocError),
         }
     }
 
@@ -203,7 +201,7 @@ impl Proxy {
                     Ok(())
                 }
             },
-            Why::Plain { link: at } => match link {
+            Why::Plain { link: at } | Why::Direct { link: at } => match link {
                 Some(number) => self.side.relays.dialled(at, number),
                 None => {
                     self.side.relays.dial_failed(at, &mut self.side.notes);

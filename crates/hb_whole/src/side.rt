@@ -1,4 +1,4 @@
-//! The links of the two doors, and the notes that they make.
+//! The links of the doors, and the notes that they make.
 
 ghost use Rattle.std.specs.Prelude.{◌≡◌, ◌≤◌, length, OnOk};
 ghost use Rattle.hb_world.specs.declared.entry.Entry.TheVariants as e;
@@ -10,7 +10,7 @@ use hb_node::Judge;
 use hb_relays::Relays;
 use std::alloc::Global;
 
-/// The inbound links with their tunnels, the links of the plain door, and the notes that wait to be taken.
+/// The inbound links with their tunnels, the plain links, and the notes that wait to be taken.
 #[derive(Drop)]
 pub(crate) struct Side {
     pub links: Links,

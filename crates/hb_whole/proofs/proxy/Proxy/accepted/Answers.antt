@@ -8,7 +8,7 @@ use Rattle.hb_turns.specs.Shown.{Tells}
 use Rattle.hb_world.specs.declared.entry.Entry.TheVariants as e
 use Rattle.hb_whole.specs.Sight.{shown_of}
 use Rattle.hb_whole.specs.Stands.{Stands}
-use Rattle.hb_whole.proofs.Births.{accepted_tells, turned_away_tells, plain_accepted_tells, plain_turned_away_tells}
+use Rattle.hb_whole.proofs.Births.{accepted_tells, turned_away_tells, captures_at, plain_accepted_tells, plain_turned_away_tells}
 use Rattle.hb_whole.proofs.Outcomes.{two_ok}
 use Rattle.hb_whole.proofs.Telling.{with_side}
 use Rattle.hb_whole.proofs.proxy.Proxy.accepted.Goals as goal
@@ -38,23 +38,21 @@ returns-else-len-self-clause-tells c =
 pub returns-then-taken-places-clause-tells : goal.returns-then-taken-places-clause-tells
 returns-then-taken-places-clause-tells c =
     let p = c.args.self.now in
+    let d = c.args.door in
     let l = c.args.link in
     let done = c.accepted-then-taken-places in
     let new = done.new.self in
-    let q = with_side (record p.side { relays = new }) p in
-    two_ok done.result (relays.Begins l p.side.relays new) (relays_stirring.Stirs p.side.relays new)
-    (Tells Stands shown_of (e.Accepted l c.args.door) p q)
-    (λ begins stirs. subst (λ (d : Door). Tells Stands shown_of (e.Accepted l d) p q) (sym c.in-Plain.is)
-    (plain_accepted_tells p new l begins stirs)) done.ensures.meets done.ensures.stirs
+    two_ok done.result (relays.Begins d l p.side.relays new) (relays_stirring.Stirs p.side.relays new)
+    (Tells Stands shown_of (e.Accepted l d) p (with_side (record p.side { relays = new }) p))
+    (λ begins stirs. plain_accepted_tells p new d (captures_at d c.in-Plain.is) l begins stirs) done.ensures.meets done.ensures.stirs
 
 pub returns-else-taken-places-clause-tells : goal.returns-else-taken-places-clause-tells
 returns-else-taken-places-clause-tells c =
     let p = c.args.self.now in
+    let d = c.args.door in
     let l = c.args.link in
     let done = c.turned_away-else-taken-places in
     let new = done.new.self in
-    let q = with_side (record p.side { relays = new }) p in
-    two_ok done.result (relays.TurnsAway l p.side.relays new) (relays_stirring.Stirs p.side.relays new)
-    (Tells Stands shown_of (e.Accepted l c.args.door) p q)
-    (λ away stirs. subst (λ (d : Door). Tells Stands shown_of (e.Accepted l d) p q) (sym c.in-Plain.is)
-    (plain_turned_away_tells p new l away stirs)) done.ensures.meets done.ensures.stirs
+    two_ok done.result (relays.TurnsAway d l p.side.relays new) (relays_stirring.Stirs p.side.relays new)
+    (Tells Stands shown_of (e.Accepted l d) p (with_side (record p.side { relays = new }) p))
+    (λ away stirs. plain_turned_away_tells p new d (captures_at d c.in-Plain.is) l away stirs) done.ensures.meets done.ensures.stirs

@@ -48,16 +48,16 @@ returns-in-None-clause-acts c =
     let got = c.next_act-2 in
     let gave = c.next_act-3 in
     none_gives_so c.args.self.now c.next_act.new.self c.next_act.result c.in_default.is c.next_act.ensures.act c.next_act.ensures.machine
-    got.new.self gave.new.self got.result c.in_default-next_act.is got.ensures.acts got.ensures.stirs gave.result c.in-None.is gave.ensures.acts
-    gave.ensures.stirs
+    got.new.self gave.new.self got.result c.in_default-next_act.is got.ensures.acts got.ensures.stirs gave.result c.in-None.is
+    gave.ensures.acts gave.ensures.stirs
 
 pub returns-in-None-clause-all : goal.returns-in-None-clause-all
 returns-in-None-clause-all c =
     let got = c.next_act-2 in
     let gave = c.next_act-3 in
     none_lives_so c.args.self.now c.next_act.new.self c.next_act.result c.in_default.is c.next_act.ensures.act c.next_act.ensures.machine
-    got.new.self gave.new.self got.result c.in_default-next_act.is got.ensures.acts got.ensures.stirs gave.result c.in-None.is got.ensures.none
-    gave.ensures.none
+    got.new.self gave.new.self got.result c.in_default-next_act.is got.ensures.acts got.ensures.stirs gave.result c.in-None.is
+    got.ensures.none gave.ensures.none
 
 pub returns-in-None-clause-config : goal.returns-in-None-clause-config
 returns-in-None-clause-config c = c.next_act.ensures.machine.0

@@ -47,6 +47,7 @@ returns-clause-hears c =
     subst (λ (q : Proxy). relays.Hears result q.side.relays behind) c.next_own.ensures.after c.next_stirred-2.ensures.hears in
     let only : relays.OnlyHears p.side.relays behind =
     subst (λ (q : Proxy). relays.OnlyHears q.side.relays behind) c.next_own.ensures.after c.next_stirred-2.ensures.same in
-    subst (λ (q : Proxy). HearsTo result p (record q { side = record q.side { links = new; relays = behind } })) (sym c.next_own.ensures.after)
+    subst (λ (q : Proxy). HearsTo result p (record q { side = record q.side { links = new; relays = behind } }))
+    (sym c.next_own.ensures.after)
     (λ taken trace s. doors_hear taken p new behind result trace (sym c.next_own.ensures.own ∙ c.in_default.is)
     (links_silent result p.side.links new hears) relays_hear only s)

@@ -50,7 +50,11 @@ returns-in-Plain-clause-tells c =
     let held = c.held-held in
     plain_tells p (record p.side { relays = done.new.self; notes = done.new.notes }) (e.Came l bytes) l
     (λ x. x.control.held ≡ held.result.now) refl refl
-    (λ taken trace s may. (may.0.0, plain.came_may taken p trace s l whose bytes c.are_octets.ensures may, s.control.held ∙ sym held.ensures))
+    (λ taken trace s may. (
+      may.0.0,
+      plain.came_may taken p trace s l whose bytes c.are_octets.ensures may,
+      s.control.held ∙ sym held.ensures,
+    ))
     done.ensures.meets done.ensures.stirs
 
 pub returns-in-Inbound-clause-tells : goal.returns-in-Inbound-clause-tells
@@ -70,5 +74,9 @@ returns-in-Inbound-clause-tells c =
     (Stirs p.side.links new) (Tells Stands shown_of (e.Came l bytes) p (with_side side p))
     (λ takes stirs. link_tells p side (e.Came l bytes) l (λ q. counting (others_of p.side.links l) limit q)
     (λ x. x.control.held ≡ held.result.now) refl refl
-    (λ taken trace s may. (may.0.0, link.came_may taken p trace s l whose bytes c.are_octets.ensures may, s.control.held ∙ sym held.ensures))
+    (λ taken trace s may. (
+      may.0.0,
+      link.came_may taken p trace s l whose bytes c.are_octets.ensures may,
+      s.control.held ∙ sym held.ensures,
+    ))
     takes stirs) done.ensures.meets done.ensures.stirs

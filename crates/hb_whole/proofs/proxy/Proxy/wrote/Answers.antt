@@ -39,7 +39,8 @@ returns-in-Plain-clause-tells c =
     let bytes = take c.args.n ((shown_of p).output l) in
     let size : length bytes ≡ c.args.n = length-take-le c.args.n ((shown_of p).output l) c.requires in
     plain_tells p (record p.side { relays = done.new.self; notes = done.new.notes }) (e.Went l bytes) l any refl refl
-    (λ taken trace s may. (may.0.0, plain.went_may taken p trace s l whose bytes may, tt)) (done.ensures.meets bytes size) done.ensures.stirs
+    (λ taken trace s may. (may.0.0, plain.went_may taken p trace s l whose bytes may, tt)) (done.ensures.meets bytes size)
+    done.ensures.stirs
 
 pub returns-in-Inbound-clause-tells : goal.returns-in-Inbound-clause-tells
 returns-in-Inbound-clause-tells c =
