@@ -1,0 +1,35 @@
+-- What every run of a link to a gateway obeys.
+use Rattle.std.specs.Prelude.{◌≡◌, ◌≢◌, ℕ, false, List, []}
+use Rattle.std.specs.List.{AllByRecursion}
+use Rattle.hb_gateway.specs.Asks.{AskLaw, asked_of}
+use Rattle.hb_gateway.specs.Connections.{IsOneHistory, WindowLaw}
+use Rattle.hb_gateway.specs.Gateway.{Gateway, stage_of}
+use Rattle.hb_gateway.specs.Order.{HearsAll, IsInOrder}
+use Rattle.hb_gateway.specs.Part.{Part}
+use Rattle.hb_gateway.specs.Response.{Heard, is_living}
+use Rattle.hb_gateway.specs.Runs.{Carries, StandsFor}
+
+-- the link's connection is one history, behind the front header
+abbrev pub RunsObeyConnections : Type 0
+RunsObeyConnections = (g : ℕ) (x : Gateway) (parts : List Part) → StandsFor g x parts → IsOneHistory parts
+
+-- DATA fits both windows where it begins
+abbrev pub RunsObeyWindows : Type 0
+RunsObeyWindows = (g : ℕ) (x : Gateway) (parts : List Part) → StandsFor g x parts → WindowLaw parts
+
+-- each stream is asked for once, with the next odd number, where there is room, and never behind a GOAWAY
+abbrev pub RunsAsk : Type 0
+RunsAsk = (g : ℕ) (x : Gateway) (parts : List Part) → StandsFor g x parts → AskLaw parts
+
+-- no tunnel lives on a link that doesn't carry any: each heard its end, or was ended by its captured link
+abbrev pub RunsEndTunnels : Type 0
+RunsEndTunnels = (g : ℕ) (x : Gateway) (parts : List Part) → StandsFor g x parts → (Carries x.phase → ⊥) → (s : ℕ)
+    → is_living (stage_of x s) ≡ false
+
+-- what the tunnel on a stream hears is in order, and none where it wasn't asked for
+abbrev pub RunsHearInOrder : Type 0
+RunsHearInOrder = (g s : ℕ) (x : Gateway) (parts : List Part) (all : List Heard) → HearsAll g s x parts all → IsInOrder all
+
+abbrev pub UnaskedHearNothing : Type 0
+UnaskedHearNothing = (g s : ℕ) (x : Gateway) (parts : List Part) (all : List Heard) → HearsAll g s x parts all
+    → AllByRecursion (λ k. k ≢ s) (asked_of parts) → all ≡ []

@@ -1,0 +1,11 @@
+pub mod Asks
+pub mod Calm
+pub mod Connections
+pub mod Gateway
+pub mod Hears
+pub mod Laws
+pub mod Order
+pub mod Part
+pub mod Refused
+pub mod Response
+pub mod Runs

@@ -1,0 +1,61 @@
+//! What every run of a link to a gateway obeys. Each is the contract of a function that does nothing.
+
+ghost use Rattle.hb_gateway.specs.Laws.{RunsObeyConnections, RunsObeyWindows, RunsAsk, RunsHearInOrder, UnaskedHearNothing, RunsEndTunnels};
+ghost use Rattle.hb_gateway.specs.Refused.{AsksBehind, AsksTwice, AsksElsewhere, PutsEarly, ResetsUnasked, WritesFirst};
+ghost use Rattle.hb_gateway.specs.Refused.{InterimIsHeard, RefusalOpens, BringsEarly, OpensTwice, BringsUnopened, GoesOnBehind};
+ghost use Rattle.hb_gateway.specs.Refused.{SuccessOpens, LifeIsInOrder, FirstMayGo};
+
+/// A link's connection is one history of its bytes: what was looked at, told and done leads to it, the frames looked at are those of the
+/// bytes that came, and what went behind the front header is the frames that have begun. What went in front of them is of that header.
+/// Each DATA frame with payload fits both windows where it begins (RFC 9113 sections 5.2 and 6.9).
+pub fn connections_are_histories()
+    ensures connections { RunsObeyConnections }
+    ensures windows { RunsObeyWindows }
+{}
+
+/// Each stream is asked for once, with the next odd number (RFC 9113 section 5.1.1), only where fewer than 100 and the peer's limit are
+/// open and 1,024 octets have room, and never behind a GOAWAY (RFC 9113 section 6.8).
+pub fn streams_are_asked_for_once()
+    ensures { RunsAsk }
+{}
+
+/// A tunnel hears that it is open at most once, before all else; bytes and ends behind that alone; nothing behind its failure; and nothing
+/// at all where it wasn't asked for.
+pub fn tunnels_hear_in_order()
+    ensures order { RunsHearInOrder }
+    ensures unasked { UnaskedHearNothing }
+{}
+
+/// No tunnel lives on a link that ended, broke, told a connection error or is stopped: each heard its end then, or had ended before.
+pub fn ended_links_end_their_tunnels()
+    ensures { RunsEndTunnels }
+{}
+
+/// A stream isn't asked for behind a GOAWAY, nor twice, nor with another number than the next one. No DATA is put on it in front of a
+/// status from 200 to 299, and none is reset that wasn't asked for. No octet goes in front of the front header.
+pub fn wrong_steps_are_refused()
+    ensures behind { AsksBehind }
+    ensures twice { AsksTwice }
+    ensures elsewhere { AsksElsewhere }
+    ensures early { PutsEarly }
+    ensures unasked { ResetsUnasked }
+    ensures first { WritesFirst }
+{}
+
+/// A status below 200 is passed over, and one of 300 or more opens no tunnel; bytes that come in front of the status aren't handed on. A
+/// tunnel doesn't open twice, brings nothing that isn't open, and doesn't go on behind its failure.
+pub fn wrong_words_are_refused()
+    ensures interim { InterimIsHeard }
+    ensures refusal { RefusalOpens }
+    ensures early { BringsEarly }
+    ensures twice { OpensTwice }
+    ensures unopened { BringsUnopened }
+    ensures behind { GoesOnBehind }
+{}
+
+/// A success opens a tunnel, which may bring bytes and then fail. A link that is dialled may open, ask for a tunnel, and write.
+pub fn good_runs_may_go()
+    ensures success { SuccessOpens }
+    ensures life { LifeIsInOrder }
+    ensures first { FirstMayGo }
+{}
