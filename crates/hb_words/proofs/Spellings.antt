@@ -1,165 +1,177 @@
--- The words of `replay` and of `serve` are the spellings of their options and flags.
-use Rattle.std.proofs.Common.{◌≡◌, ℕ, Bool, true, false, if◌then◌else◌, List, [], ◌∷◌, ◌++◌, Some, Result, Ok, Err, refl, sym, ap, ◌∙◌}
-use Rattle.std.specs.List.{flat_map}
-use Rattle.hb_wire.specs.Message.{and_then}
-use Rattle.hb_words.specs.declared.run_command.RunCommand.{RunCommand}
-use Rattle.hb_words.specs.declared.run_command.RunOption.{RunOption}
-use Rattle.hb_words.specs.declared.run_fault.RunFault.{RunFault}
-use Rattle.hb_words.specs.declared.run_fault.RunFault.TheVariants.{UnknownOption}
-use Rattle.hb_words.specs.Command.{Command}
-use Rattle.hb_words.specs.Run.{Settings, Reading, Said, no_settings, set, raise, reads, said, flag, option, valued, after_said, after_word, after_words, ended, asked_by, run_of}
-use Rattle.hb_words.specs.RunCommand.{has_option, has_flags}
-use Rattle.hb_words.specs.Spelling.{Item, apart, joined, alone, spelled, has_item, set_any, set_item, set_items, asked_of_items, ReadsSpelledItems, AcceptsSpelledItemsAlone}
-use Rattle.hb_words.proofs.SaidLemmas.{Spells, where_had, said_name, said_flag, said_joined, said_spells}
+-- The words that are accepted are the spellings of items of a command.
+use Rattle.std.proofs.Common.{◌≡◌, ℕ, Bool, true, false, true≢false, ◌&&◌, cond, List, [], ◌∷◌, Option, Some, None, option_and_then, option_map, Result, Ok, Err, codes, bytes_eq, refl, sym, subst, ap, ap₂, ◌∙◌}
+use Rattle.std.specs.List.{list_all}
+use Rattle.std.proofs.lemmas.Bool.{and_parts}
+use Rattle.std.proofs.lemmas.Slice.Eq.{bytes_eq-Decides}
+use Rattle.clap.proofs.WalkLemmas.{first_value-rows}
+use Rattle.clap.specs.Matches.{first_value, found_of}
+use Rattle.clap.specs.Simple.{subcommand_of, subcommand_rows_of}
+use Rattle.clap.specs.Takes.{takes}
+use Rattle.clap.specs.Walk.{Row, Text, first_of, rows_of}
+use Rattle.clap.specs.declared.parser.matches.ArgMatches.{ArgMatches}
+use Rattle.clap.specs.declared.parser.matches.Found.{Found}
+use Rattle.hb_options.proofs.Top.{takes_spelled_items, are_spelled_cleanly, spells_taken_words, gives_items_values}
+use Rattle.hb_options.specs.Items.{Part, Command, Item, Spells, Refused, command_named as declared_named, part_named, are_proper, is_clean, value_of}
+use Rattle.hb_options.specs.Read.{Reads}
+use Rattle.hb_options.specs.Taken.{Gives}
+use Rattle.hb_words.specs.declared.fault.Why.{Why}
+use Rattle.hb_words.specs.declared.fault.WordsFault.{WordsFault}
+use Rattle.hb_words.specs.declared.fault.WordsFault.TheVariants.{UnknownCommand, Behind}
+use Rattle.hb_words.specs.declared.part.CommandName.{CommandName}
+use Rattle.hb_words.specs.declared.part.CommandName.TheVariants.{Check, Show, Make, Replay, Serve}
+use Rattle.hb_words.specs.Command.{Command as Asked}
+use Rattle.hb_words.specs.Grammar.{command_text, parts_of, declared, commands}
+use Rattle.hb_words.specs.Part.{command_named}
+use Rattle.hb_words.specs.Values.{Values, asked_by}
+use Rattle.hb_words.specs.Why.{shown, why_of}
+use Rattle.hb_words.specs.Words.{program, is_accepted, values_of, or_behind, behind, command_first, of_named, words_of, values_among, ReadsSpelledItems, AcceptsSpelledItemsAlone}
+use Rattle.hb_words.proofs.Alike.{asked_alike}
 
-module _ (command : RunCommand) where
-  -- what is read of settings that were set, and of the words behind them
-  abbrev go_on : List (List ℕ) → Result Settings RunFault → Result Reading RunFault
-  go_on words set_so_far = and_then set_so_far (λ t. after_words command (reads t) words)
+pub are_all_proper : are_proper commands ≡ true
+are_all_proper = refl
 
-  -- one item is read as it is spelled
-  rest_read : (words : List (List ℕ)) (r : Result Settings RunFault)
-      → and_then (and_then r (λ t. Ok (reads t))) (λ next. after_words command next words) ≡ go_on words r
-  rest_read words (Ok t) = refl
-  rest_read words (Err fault) = refl
+-- ---- the command that a word names
 
-  -- what is read behind the word of an item that the command may have
-  said_read : (s : Settings) (x : Said) (words : List (List ℕ)) (r : Result Settings RunFault) (has : Bool)
-      → and_then (after_said s x) (λ next. after_words command next words) ≡ go_on words r
-      → and_then (and_then (where_had has x) (after_said s)) (λ next. after_words command next words)
-      ≡ go_on words (if has then r else Err UnknownOption)
-  said_read s x words r true is = is
-  said_read s x words r false is = refl
+own_named : (c : CommandName) → command_named (command_text c) ≡ Some c
+own_named Check = refl
+own_named Show = refl
+own_named Make = refl
+own_named Replay = refl
+own_named Serve = refl
 
-  apart_read : (s : Settings) (name : RunOption) (value : List ℕ) (words : List (List ℕ))
-      → after_words command (record { settings = s; wanted = Some name }) (value ∷ words) ≡ go_on words (set s name value)
-  unfolding after_words after_word
-  apart_read s name value words = rest_read words (set s name value)
+abbrev IsDeclared : Text → Command → Type 0
+IsDeclared word d = (c : CommandName) × (word ≡ command_text c) × (d ≡ declared c)
 
-  apart_said : (s : Settings) (name : RunOption) (value : List ℕ) (words : List (List ℕ)) (has : Bool)
-      → and_then (and_then (where_had has (option name)) (after_said s)) (λ next. after_words command next (value ∷ words))
-      ≡ go_on words (if has then set s name value else Err UnknownOption)
-  apart_said s name value words true = apart_read s name value words
-  apart_said s name value words false = refl
+module _ (word : Text) (d : Command) where
+  one_or : (c : CommandName) (rest : Option Command) (same : Bool) → bytes_eq (command_text c) word ≡ same
+      → (rest ≡ Some d → IsDeclared word d) → cond same (Some (declared c)) rest ≡ Some d → IsDeclared word d
+  one_or c rest true same more is =
+      let e : declared c ≡ d = cc in (c, sym ((bytes_eq-Decides (command_text c) word).0 same), sym e)
+  one_or c rest false same more is = more is
 
-  item_read : (s : Settings) (item : Item) (words : List (List ℕ))
-      → after_words command (reads s) (spelled item ++ words) ≡ go_on words (set_item command s item)
-  unfolding after_words after_word
-  item_read s (apart name value) words = rw (said_name command name) (apart_said s name value words (has_option command name))
-  item_read s (joined name value) words =
-      rw (said_joined command name value)
-      (said_read s (valued name value) words (set s name value) (has_option command name) (rest_read words (set s name value)))
-  item_read s (alone name) words =
-      rw (said_flag command name) (said_read s (flag name) words (raise s name) (has_flags command) (rest_read words (raise s name)))
+  is_declared : declared_named commands word ≡ Some d → IsDeclared word d
+  is_declared =
+      one_or Check _ _ refl (one_or Show _ _ refl (one_or Make _ _ refl (one_or Replay _ _ refl (one_or Serve None _ refl (λ is. cc)))))
 
-  -- all items are
-  behind_item : (items : List Item) (r : Result Settings RunFault)
-      → ((t : Settings) → after_words command (reads t) (flat_map spelled items) ≡ and_then (set_items command t items) (λ u. Ok (reads u)))
-      → go_on (flat_map spelled items) r ≡ and_then (and_then r (λ t. set_items command t items)) (λ t. Ok (reads t))
-  behind_item items (Ok t) next = next t
-  behind_item items (Err fault) next = refl
+-- ---- words that are accepted
 
-  items_read : (s : Settings) (items : List Item)
-      → after_words command (reads s) (flat_map spelled items) ≡ and_then (set_items command s items) (λ t. Ok (reads t))
-  unfolding after_words set_items
-  items_read s [] = refl
-  items_read s (item ∷ items) =
-      item_read s item (flat_map spelled items) ∙ behind_item items (set_item command s item) (λ t. items_read t items)
+accepted_spells : (words : List Text) → is_accepted words ≡ true → (d : Command) × (items : List Item) × Spells commands words d items
+unfolding is_accepted
+accepted_spells words is =
+    let parts = and_parts (list_all is_clean words) (takes program words) is in
+    spells_taken_words (codes "hbone") commands words are_all_proper parts.0 parts.1
 
-  asked_read : (r : Result Settings RunFault)
-      → and_then (and_then r (λ t. Ok (reads t))) (λ last. and_then (ended last.settings last.wanted) (asked_by command))
-      ≡ and_then r (asked_by command)
-  asked_read (Ok t) = refl
-  asked_read (Err fault) = refl
+spelled_accepted : (words : List Text) (d : Command) (items : List Item) → Spells commands words d items → is_accepted words ≡ true
+unfolding is_accepted
+spelled_accepted words d items spells =
+    ap₂ (λ (a b : Bool). a && b) (are_spelled_cleanly commands words d items are_all_proper spells)
+    (takes_spelled_items (codes "hbone") commands words d items are_all_proper spells)
 
-  spelled_are_read : (items : List Item) → run_of command (flat_map spelled items) ≡ asked_of_items command items
-  unfolding run_of
-  spelled_are_read items =
-      ap (λ (r : Result Reading RunFault). and_then r (λ last. and_then (ended last.settings last.wanted) (asked_by command)))
-      (items_read no_settings items) ∙ asked_read (set_items command no_settings items)
+behind_accepted : (c : CommandName) (words rest : List Text) → is_accepted words ≡ true
+    → behind c words rest ≡ or_behind c (asked_by c (values_of words))
+unfolding behind
+behind_accepted c words rest is = rw is refl
 
-  -- Words behind which no value is wanted, and that leave the settings t.
-  module _ (r : Reading) (t : Settings) (end : ended r.settings r.wanted ≡ Ok t) where
-    -- the words spell items that set what was read
-    abbrev Spelling : List (List ℕ) → Result Settings RunFault → Type 0
-    Spelling words set_so_far =
-        (items : List Item) × (words ≡ flat_map spelled items) × (and_then set_so_far (λ s. set_items command s items) ≡ Ok t)
+behind_refused : (c : CommandName) (words rest : List Text) → is_accepted words ≡ false
+    → behind c words rest ≡ Err (Behind c (why_of c rest))
+unfolding behind
+behind_refused c words rest is = rw is refl
 
-    abbrev Leads : List (List ℕ) → Type 0
-    Leads words = (s : Settings) → after_words command (reads s) words ≡ Ok r → Spelling words (Ok s)
+-- where no command accepts the words, the fault is told
+pub refused_told : (c : CommandName) (words rest : List Text) → Refused commands words
+    → behind c words rest ≡ Err (Behind c (why_of c rest))
+refused_told c words rest refused = go (is_accepted words) refl where
+  go : (b : Bool) → is_accepted words ≡ b → behind c words rest ≡ Err (Behind c (why_of c rest))
+  go true is = let found = accepted_spells words is in absurd (refused found.0 found.1 found.2)
+  go false is = behind_refused c words rest is
 
-    abbrev Wants : List (List ℕ) → Type 0
-    Wants words = (s : Settings) (name : RunOption) → after_words command (record { settings = s; wanted = Some name }) words ≡ Ok r
-        → (value : List ℕ) × (more : List (List ℕ)) × (words ≡ value ∷ more) × Spelling more (set s name value)
+module _ (words : List Text) (c : CommandName) (items : List Item) (spells : Spells commands words (declared c) items) where
+  -- the values of the items
+  values_same : (name : Text) (p : Part) → part_named (parts_of c) name ≡ Some p → values_of words name ≡ values_among (parts_of c) items name
+  unfolding values_of
+  values_same name p is =
+      let given = gives_items_values (codes "hbone") commands words (declared c) items are_all_proper spells in
+      ap (option_and_then (λ (found : Text × List Row). first_of name found.1)) given.1 ∙ (given.2 name p is).0
+      ∙ sym (ap (option_and_then (λ (q : Part). value_of q items)) is)
 
-    from_step : (words : List (List ℕ)) (step : Result Settings RunFault) → Leads words → go_on words step ≡ Ok r → Spelling words step
-    from_step words (Ok s) leads is = leads s is
-    from_step words (Err fault) leads is = cc
+  asks_same : asked_by c (values_of words) ≡ asked_by c (values_among (parts_of c) items)
+  asks_same = asked_alike c (values_of words) (values_among (parts_of c) items) values_same
 
-    wants_none : Wants []
-    unfolding after_words
-    wants_none s name is = cc
+  words_behind : (rest : List Text) → words ≡ command_text c ∷ rest → words_of words ≡ behind c words rest
+  unfolding words_of
+  words_behind rest is =
+      ap words_of is ∙ ap (of_named (command_text c) rest) (own_named c) ∙ ap (λ (l : List Text). behind c l rest) (sym is)
 
-    wants_one : (value : List ℕ) (words : List (List ℕ)) → Leads words → Wants (value ∷ words)
-    unfolding after_words after_word
-    wants_one value words leads s name is =
-        (value, words, refl, from_step words (set s name value) leads (sym (rest_read words (set s name value)) ∙ is))
+  reads_spelled : words_of words ≡ or_behind c (asked_by c (values_among (parts_of c) items))
+  reads_spelled =
+      words_behind _ spells.1 ∙ behind_accepted c words _ (spelled_accepted words (declared c) items spells) ∙ ap (or_behind c) asks_same
 
-    from_said : (word : List ℕ) (words : List (List ℕ)) → Leads words → Wants words → (s : Settings) (x : Said) → Spells command word x
-        → and_then (after_said s x) (λ next. after_words command next words) ≡ Ok r → Spelling (word ∷ words) (Ok s)
-    unfolding set_items
-    from_said word words leads wants s (flag name) spells is =
-        let rest = from_step words (raise s name) leads (sym (rest_read words (raise s name)) ∙ is) in
-        (alone name ∷ rest.0, rw (spells.0, ← rest.1) refl, rw spells.1 rest.2)
-    from_said word words leads wants s (option name) spells is =
-        let rest = wants s name is in
-        (apart name rest.0 ∷ rest.3.0, rw (spells.0, rest.2, ← rest.3.1) refl, rw spells.1 rest.3.2)
-    from_said word words leads wants s (valued name value) spells is =
-        let rest = from_step words (set s name value) leads (sym (rest_read words (set s name value)) ∙ is) in
-        (joined name value ∷ rest.0, rw (spells.0, ← rest.1) refl, rw spells.1 rest.2)
-
-    from_word : (word : List ℕ) (words : List (List ℕ)) → Leads words → Wants words → (s : Settings) (x : Result Said RunFault)
-        → said command word ≡ x
-        → and_then (and_then x (after_said s)) (λ next. after_words command next words) ≡ Ok r → Spelling (word ∷ words) (Ok s)
-    from_word word words leads wants s (Ok x) says is = from_said word words leads wants s x (said_spells command word x says) is
-    from_word word words leads wants s (Err fault) says is = cc
-
-    one_more : (word : List ℕ) (words : List (List ℕ)) → Leads words → Wants words → Leads (word ∷ words)
-    unfolding after_words after_word
-    one_more word words leads wants s is = from_word word words leads wants s (said command word) refl is
-
-    none_left : Leads []
-    unfolding after_words set_items
-    none_left s is = ([], refl, cc)
-
-    all_lead : (words : List (List ℕ)) → Leads words
-    all_lead [] = none_left
-    all_lead (word ∷ []) = one_more word [] none_left wants_none
-    all_lead (word ∷ value ∷ words) = one_more word (value ∷ words) (all_lead (value ∷ words)) (wants_one value words (all_lead words))
-
-  -- the words that are accepted, by what is read of them and what they leave
-  from_ended : (words : List (List ℕ)) (r : Reading) (c : Command) (left : Result Settings RunFault)
-      → after_words command (reads no_settings) words ≡ Ok r
-      → ended r.settings r.wanted ≡ left → and_then left (asked_by command) ≡ Ok c
-      → (items : List Item) × (words ≡ flat_map spelled items) × (asked_of_items command items ≡ Ok c)
-  from_ended words r c (Ok t) is end asks =
-      let found = all_lead r t end words no_settings is in
-      (found.0, found.1, ap (λ (o : Result Settings RunFault). and_then o (asked_by command)) found.2 ∙ asks)
-  from_ended words r c (Err fault) is end asks = cc
-
-  from_read : (words : List (List ℕ)) (c : Command) (o : Result Reading RunFault) → after_words command (reads no_settings) words ≡ o
-      → and_then o (λ r. and_then (ended r.settings r.wanted) (asked_by command)) ≡ Ok c
-      → (items : List Item) × (words ≡ flat_map spelled items) × (asked_of_items command items ≡ Ok c)
-  from_read words c (Ok r) is asks = from_ended words r c (ended r.settings r.wanted) is refl asks
-  from_read words c (Err fault) is asks = cc
-
-  accepted_are_spelled : (words : List (List ℕ)) (c : Command) → run_of command words ≡ Ok c
-      → (items : List Item) × (words ≡ flat_map spelled items) × (asked_of_items command items ≡ Ok c)
-  unfolding run_of
-  accepted_are_spelled words c is = from_read words c (after_words command (reads no_settings) words) refl is
+-- ---- the laws
 
 pub reads_spelled_items : ReadsSpelledItems
-reads_spelled_items command items = spelled_are_read command items
+reads_spelled_items words c items spells = reads_spelled words c items spells
+
+asked_behind : (c : CommandName) (asked : Asked) (r : Result Asked Why) → or_behind c r ≡ Ok asked → r ≡ Ok asked
+asked_behind c asked (Ok x) is = cc
+asked_behind c asked (Err why) is = cc
+
+abbrev Accepts : List Text → Asked → Type 0
+Accepts words asked = (c : CommandName) × (items : List Item) × Spells commands words (declared c) items
+    × (asked_by c (values_among (parts_of c) items) ≡ Ok asked)
+
+from_accepted : (words : List Text) (asked : Asked) → is_accepted words ≡ true → words_of words ≡ Ok asked → Accepts words asked
+from_accepted words asked accepted is =
+    let found = accepted_spells words accepted in
+    let named = is_declared found.0.name found.0 found.2.0 in
+    let spells = subst (λ (d : Command). Spells commands words d found.1) named.2 found.2 in
+    (named.0, found.1, spells, asked_behind named.0 asked _ (sym (reads_spelled words named.0 found.1 spells) ∙ is))
+
+from_named : (word : Text) (rest : List Text) (asked : Asked) (o : Option CommandName) (b : Bool) → command_named word ≡ o
+    → is_accepted (word ∷ rest) ≡ b → words_of (word ∷ rest) ≡ Ok asked → Accepts (word ∷ rest) asked
+unfolding words_of
+from_named word rest asked o true named accepted is = from_accepted (word ∷ rest) asked accepted is
+from_named word rest asked None false named accepted is =
+    let told : Err (UnknownCommand (shown word)) ≡ Ok asked = sym (ap (of_named word rest) named) ∙ is in
+    cc
+from_named word rest asked (Some c) false named accepted is =
+    let told : behind c (word ∷ rest) rest ≡ Ok asked = sym (ap (of_named word rest) named) ∙ is in
+    let refused = behind_refused c (word ∷ rest) rest accepted in
+    cc
 
 pub accepts_spelled_items_alone : AcceptsSpelledItemsAlone
-accepts_spelled_items_alone command words c is = accepted_are_spelled command words c is
+unfolding words_of
+accepts_spelled_items_alone [] asked is = cc
+accepts_spelled_items_alone (word ∷ rest) asked is =
+    from_named word rest asked (command_named word) (is_accepted (word ∷ rest)) refl refl is
+
+-- ---- what was read
+
+same_command : (c k : CommandName) → Some c ≡ Some k → c ≡ k
+same_command c k is = cc
+
+-- the command that the first word names is the one whose items the words spell
+spelled_by_first : (words : List Text) (c : CommandName) (d : Command) (items : List Item) → command_first words ≡ Some c
+    → Spells commands words d items → d ≡ declared c
+spelled_by_first words c d items first spells =
+    let named = is_declared d.name d spells.0 in
+    let same : Some named.0 ≡ Some c = sym (own_named named.0) ∙ ap command_named (sym named.1) ∙ sym (ap command_first spells.1) ∙ first in
+    named.2 ∙ ap declared (same_command named.0 c same)
+
+same_rows : (a b : List Row) → Some a ≡ Some b → a ≡ b
+same_rows a b is = cc
+
+-- where the matches are those of the words, what is asked by them is told
+pub matches_told : (words rest : List Text) (c : CommandName) (m : ArgMatches) (f : Found) → command_first words ≡ Some c
+    → Reads commands words (Some m) → Some (rows_of f) ≡ option_map (λ p. p.1) (subcommand_rows_of m)
+    → behind c words rest ≡ or_behind c (asked_by c (first_value f))
+matches_told words rest c m f first reads found =
+    let d = reads.0 in
+    let items = reads.1 in
+    let is = spelled_by_first words c d items first reads.2 in
+    let spells = subst (λ (k : Command). Spells commands words k items) is reads.2 in
+    let gives = subst (λ (k : Command). Gives k.parts items reads.3) is reads.5 in
+    let rows = same_rows (rows_of f) reads.3 (found ∙ ap (option_map (λ (p : Text × List Row). p.1)) reads.4) in
+    behind_accepted c words rest (spelled_accepted words (declared c) items spells)
+    ∙ ap (or_behind c) (asked_alike c (values_of words) (first_value f) (λ name p part.
+    values_same words c items spells name p part ∙ ap (option_and_then (λ (q : Part). value_of q items)) part
+    ∙ sym (first_value-rows f name ∙ ap (first_of name) rows ∙ (gives name p part).0)))

@@ -2,6 +2,7 @@
 use Rattle.std.specs.Prelude.{ℕ, Bool, List, Option}
 use Rattle.hb_base.specs.declared.peer.Peer.{Peer}
 use Rattle.hb_base.specs.declared.target.Target.{Target}
+use Rattle.hb_words.specs.declared.asks.Make.{Make}
 
 -- what `check` asks: is this peer admitted at this target of this node of this network?
 pub record Question : Type 0 where
@@ -10,13 +11,14 @@ pub record Question : Type 0 where
   pub peer : Peer
   pub target : Target
 
--- what a run of the proxy is asked: who the node is, where its control plane is, where its inbound door listens and where its plain one,
--- each if it has one, and the bounds of the run
+-- what a run of the proxy is asked: who the node is, where its control plane is, where its inbound door listens, its outbound and its
+-- plain one, each if it has one, and the bounds of the run
 pub record RunWords : Type 0 where
   pub node : List ℕ
   pub id : List ℕ
   pub discovery : Target
   pub inbound : Option Target
+  pub outbound : Option Target
   pub plain : Option Target
   pub network : List ℕ
   pub hbone_port : ℕ
@@ -34,9 +36,10 @@ pub record Serve : Type 0 where
   pub run : RunWords
   pub ticks : Option ℕ
 
--- what is asked for: an answer to a question, what is held, a run over a script, or one over real sockets
+-- what is asked for: an answer to a question, what is held, a run over a script, one over real sockets, or a script that is made
 pub data Command : Type 0 where
   checks : Question → Command
   shows : Command
   replays : Replay → Command
   serves : Serve → Command
+  makes : Make → Command

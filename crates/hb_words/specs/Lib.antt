@@ -2,10 +2,11 @@ pub mod Asked
 pub mod AskedRun
 pub mod Command
 pub mod Fault
+pub mod Grammar
+pub mod Make
 pub mod Number
-pub mod Run
-pub mod RunCommand
-pub mod RunFault
-pub mod Spelling
+pub mod Part
+pub mod Values
+pub mod Why
 pub mod Word
 pub mod Words

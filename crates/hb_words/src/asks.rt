@@ -5,9 +5,9 @@ use hb_base::{Peer, Target};
 /// What `check` asks: is this peer admitted at this target of this node of this network?
 #[derive(Drop)]
 pub struct Check<'a> {
-    pub node: &'a String,
-    /// None is the network whose name is empty.
-    pub network: Option<&'a String>,
+    pub node: &'a str,
+    /// Empty where it isn't named.
+    pub network: &'a str,
     pub peer: Peer,
     pub target: Target,
 }
@@ -22,6 +22,8 @@ pub struct RunWords<'a> {
     pub discovery: Target,
     /// Where the inbound door listens. None: no door listens.
     pub inbound: Option<Target>,
+    /// Where the outbound door listens. None: no door listens.
+    pub outbound: Option<Target>,
     /// Where the plain door listens. None: no door listens.
     pub plain: Option<Target>,
     /// Empty where it isn't named.
@@ -50,6 +52,15 @@ pub struct Serve<'a> {
     pub ticks: Option<u64>,
 }
 
+/// What `make` asks: a script of so many tunnels.
+#[derive(Clone, Copy)]
+pub struct Make {
+    /// From 1 to 1,000.
+    pub count: u32,
+    /// Whether it is run, and not printed.
+    pub run: bool,
+}
+
 /// What is asked for.
 #[derive(Drop)]
 pub enum Command<'a> {
@@ -57,4 +68,5 @@ pub enum Command<'a> {
     Show,
     Replay(Replay<'a>),
     Serve(Serve<'a>),
+    Make(Make),
 }

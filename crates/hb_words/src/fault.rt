@@ -1,42 +1,94 @@
 //! Why words aren't accepted.
 
 ghost use Rattle.std.specs.Prelude.{◌≡◌, IfOk};
+ghost use Rattle.std.specs.Str.{IsUtf8};
 ghost use Rattle.std.specs.String.{string_bytes};
-ghost use Rattle.hb_words.specs.Fault.{fault_text, fault_line, usage};
-ghost use Rattle.hb_words.specs.declared.fault.WordsFault.TheVariants.{Twice, NoValue, BadValue, BadTarget as NoTarget};
+ghost use Rattle.hb_words.specs.Fault.{lead, grammar_text, target_text, part_text, why_text, usage, fault_text, usage_at, fault_line};
 
-use crate::options::OptionName;
-use crate::run_command::RunCommand;
-use crate::run_fault::RunFault;
-use hb_base::{BadTarget, NoMemory};
+use crate::part::{CommandName, PartName};
+use hb_base::{BadTarget, NoMemory, Text};
 use std::alloc::Global;
 
-/// Why words aren't accepted. The commands are `check --node NODE [--network NETWORK] SOURCE IDENTITY TARGET`,
-/// `show`, and `replay` and `serve` with their options.
-#[derive(Clone, Copy)]
-pub enum WordsFault {
-    NoCommand,
-    UnknownCommand,
-    UnknownOption,
-    /// An option stands a second time.
-    Twice(OptionName),
+/// Why the words behind a command aren't accepted: the first reason, word by word, and then what isn't there.
+#[derive(Drop)]
+pub enum Why {
+    /// The command has no option and no flag that this word names.
+    Unknown(Text),
+    /// The command has no place for this word.
+    Spare(Text),
+    /// An option or a flag stands a second time.
+    Twice(PartName),
     /// An option is the last word.
-    NoValue(OptionName),
-    /// An option's value is empty or begins with a dash.
-    BadValue(OptionName),
-    NoNode,
-    TooFew,
-    TooMany,
-    ShowTakesNone,
-    BadSource,
-    BadIdentity,
+    NoValue(PartName),
+    /// A flag has a value.
+    Valued(PartName),
+    /// A value is empty, begins with a dash or isn't of its grammar and range.
+    BadValue(PartName),
+    /// The value of TARGET isn't of its grammar.
     BadTarget(BadTarget),
-    /// Behind `replay` or `serve`.
-    Run(RunCommand, RunFault),
+    /// What is wanted isn't there.
+    Missing(PartName),
+    /// Nothing of this is found.
+    NotAccepted,
+}
+
+/// Why words aren't accepted.
+#[derive(Drop)]
+pub enum WordsFault {
+    /// A word isn't UTF-8; the program tells it before words are read.
+    NotUtf8,
+    NoCommand,
+    UnknownCommand(Text),
+    /// Of the words behind a command.
+    Behind(CommandName, Why),
+}
+
+/// The characters of a text.
+fn shown(text: &Text) -> &str
+    ensures { result.now ≡ text.now }
+{
+    match std::str::from_utf8(text.as_slice()) {
+        Ok(shown) => shown,
+        Err(_) => unreachable!(),
+    }
+}
+
+impl PartName {
+    /// What stands before a part whose value is told.
+    fn lead(self) -> &'static str
+        ensures { result.now ≡ lead self }
+    {
+        match self {
+            PartName::Source | PartName::Identity | PartName::Target | PartName::Count => "",
+            _ => "the value of ",
+        }
+    }
+
+    /// What its value isn't.
+    fn grammar(self) -> &'static str
+        ensures { result.now ≡ grammar_text self }
+    {
+        match self {
+            PartName::Source => " is neither an IPv4 nor an IPv6 address",
+            PartName::Identity => {
+                " is neither none nor spiffe://TRUST_DOMAIN/ns/NAMESPACE/sa/SERVICE_ACCOUNT"
+            }
+            PartName::Target
+            | PartName::Discovery
+            | PartName::Inbound
+            | PartName::Outbound
+            | PartName::Plain => " is neither IPv4:PORT nor [IPv6]:PORT",
+            PartName::HbonePort => " is no number from 1 to 65535",
+            PartName::Tunnels => " is no number from 1 to 4096",
+            PartName::Turns | PartName::Ticks => " is no number from 1 to 18446744073709551615",
+            PartName::Count => " is no number from 1 to 1000",
+            _ => " is empty or begins with a dash",
+        }
+    }
 }
 
 fn target_text(fault: BadTarget) -> &'static str
-    ensures { result.now ≡ fault_text (NoTarget fault) }
+    ensures { result.now ≡ target_text fault }
 {
     match fault {
         BadTarget::NoPort => "TARGET has no port",
@@ -45,77 +97,94 @@ fn target_text(fault: BadTarget) -> &'static str
     }
 }
 
-fn twice_text(name: OptionName) -> &'static str
-    ensures { result.now ≡ fault_text (Twice name) }
+/// A part between two texts.
+fn part_text(alloc: Global, before: &str, part: PartName, behind: &str) -> Result<String, NoMemory>
+    ensures { IfOk result (λ t. string_bytes t ≡ part_text before.now part behind.now) }
 {
-    match name {
-        OptionName::Node => "--node stands twice",
-        OptionName::Network => "--network stands twice",
+    let dashes = part.dashes();
+    let name = part.id();
+    format!(in alloc; "{before}{dashes}{name}{behind}")
+}
+
+impl Why {
+    fn text(&self, alloc: Global, command: CommandName) -> Result<String, NoMemory>
+        ensures { IfOk result (λ t. string_bytes t ≡ why_text command self.now) }
+    {
+        match self {
+            Why::Unknown(word) => {
+                let word = shown(word);
+                format!(in alloc; "unknown option '{word}'")
+            }
+            Why::Spare(word) => {
+                let word = shown(word);
+                format!(in alloc; "unexpected word '{word}'")
+            }
+            Why::Twice(part) => part_text(alloc, "", *part, " stands twice"),
+            Why::NoValue(part) => part_text(alloc, "", *part, " has no value"),
+            Why::Valued(part) => part_text(alloc, "", *part, " takes no value"),
+            Why::BadValue(part) => part_text(alloc, part.lead(), *part, part.grammar()),
+            Why::BadTarget(fault) => {
+                let text = target_text(*fault);
+                format!(in alloc; "{text}")
+            }
+            Why::Missing(part) => {
+                let part = part_text(alloc, "", *part, " is wanted behind ")?;
+                let command = command.name();
+                format!(in alloc; "{part}{command}")
+            }
+            Why::NotAccepted => format!(in alloc; "these words aren't accepted"),
+        }
     }
 }
 
-fn no_value_text(name: OptionName) -> &'static str
-    ensures { result.now ≡ fault_text (NoValue name) }
+/// The forms of all commands' words.
+fn usage(alloc: Global) -> Result<String, NoMemory>
+    ensures { IfOk result (λ t. string_bytes t ≡ usage) }
 {
-    match name {
-        OptionName::Node => "--node has no value",
-        OptionName::Network => "--network has no value",
-    }
-}
-
-fn bad_value_text(name: OptionName) -> &'static str
-    ensures { result.now ≡ fault_text (BadValue name) }
-{
-    match name {
-        OptionName::Node => "the value of --node is empty or begins with a dash",
-        OptionName::Network => "the value of --network is empty or begins with a dash",
-    }
-}
-
-/// The forms of accepted words, as they stand behind what is wrong with others.
-pub fn usage() -> &'static str
-    ensures { result.now ≡ usage }
-{
-    " (usage: hbone check --node NODE [--network NETWORK] SOURCE IDENTITY TARGET, hbone show, \
-     hbone replay --node NODE --id ID --discovery TARGET [--inbound TARGET] \
-     [--plain TARGET] [--network NETWORK] [--hbone-port PORT] [--tunnels COUNT] [--turns COUNT] \
-     [--trace] [--brief], \
-     or hbone serve --node NODE --id ID --discovery TARGET [--inbound TARGET] [--plain TARGET] \
-     [--network NETWORK] [--hbone-port PORT] [--tunnels COUNT] [--turns COUNT] [--ticks COUNT])"
+    let check = CommandName::Check.usage();
+    let show = CommandName::Show.usage();
+    let make = CommandName::Make.usage();
+    let replay = CommandName::Replay.usage();
+    let serve = CommandName::Serve.usage();
+    format!(in alloc; "{check}, {show}, {make}, {replay}, or {serve}")
 }
 
 impl WordsFault {
-    fn text(self) -> &'static str
-        ensures { result.now ≡ fault_text self }
+    fn text(&self, alloc: Global) -> Result<String, NoMemory>
+        ensures { IfOk result (λ t. string_bytes t ≡ fault_text self.now) }
     {
         match self {
-            WordsFault::NoCommand => "a command is wanted",
-            WordsFault::UnknownCommand => "unknown command",
-            WordsFault::UnknownOption => "unknown option",
-            WordsFault::Twice(name) => twice_text(name),
-            WordsFault::NoValue(name) => no_value_text(name),
-            WordsFault::BadValue(name) => bad_value_text(name),
-            WordsFault::NoNode => "--node is wanted behind the command",
-            WordsFault::TooFew => "SOURCE, IDENTITY and TARGET are wanted",
-            WordsFault::TooMany => "too many words",
-            WordsFault::ShowTakesNone => "show takes no words",
-            WordsFault::BadSource => "SOURCE is neither an IPv4 nor an IPv6 address",
-            WordsFault::BadIdentity => {
-                "IDENTITY is neither none nor spiffe://TRUST_DOMAIN/ns/NAMESPACE/sa/SERVICE_ACCOUNT"
+            WordsFault::NotUtf8 => format!(in alloc; "a word is not UTF-8"),
+            WordsFault::NoCommand => format!(in alloc; "a command is wanted"),
+            WordsFault::UnknownCommand(word) => {
+                let word = shown(word);
+                format!(in alloc; "unknown command '{word}'")
             }
-            WordsFault::BadTarget(fault) => target_text(fault),
-            WordsFault::Run(command, fault) => fault.text(command),
+            WordsFault::Behind(command, why) => why.text(alloc, *command),
         }
     }
 
-    /// The line that tells it, with the forms of accepted words.
+    /// The form of the named command's words, or those of all commands.
+    fn usage(&self, alloc: Global) -> Result<String, NoMemory>
+        ensures { IfOk result (λ t. string_bytes t ≡ usage_at self.now) }
+    {
+        match self {
+            WordsFault::Behind(command, _) => {
+                let form = command.usage();
+                format!(in alloc; "{form}")
+            }
+            _ => usage(alloc),
+        }
+    }
+
+    /// The line that tells it, with the form of accepted words.
     ///
     /// Errors: `NoMemory`.
-    pub fn line(self, alloc: Global) -> Result<String, NoMemory>
-        ensures { IfOk result (λ l. string_bytes l ≡ fault_line self) }
+    pub fn line(&self, alloc: Global) -> Result<String, NoMemory>
+        ensures { IfOk result (λ l. string_bytes l ≡ fault_line self.now) }
     {
-        let text = self.text();
-        let usage = usage();
-        format!(in alloc; "hbone: words: {text}{usage}\n")
+        let text = self.text(alloc)?;
+        let usage = self.usage(alloc)?;
+        format!(in alloc; "hbone: words: {text} (usage: {usage})\n")
     }
 }

@@ -1,10 +1,10 @@
 //! Laws of the words, which no code calls: each is proved, and its body is empty.
 
-ghost use Rattle.hb_words.specs.Spelling.{ReadsSpelledItems, AcceptsSpelledItemsAlone};
+ghost use Rattle.hb_words.specs.Words.{ReadsSpelledItems, AcceptsSpelledItemsAlone};
 
-/// The words of `replay` and of `serve` are accepted exactly where they spell options and flags of the command, in any order, that
-/// may be set one after the other, and then ask what these set.
-pub fn run_words_are_read_as_they_are_spelled()
+/// Words are accepted exactly where they name a command and spell items of it, in any order, each at most once and the wanted ones
+/// there, whose values are of their grammars and ranges; and then ask what these values ask.
+pub fn words_are_read_as_they_are_spelled()
     ensures spelled { ReadsSpelledItems }
     ensures alone { AcceptsSpelledItemsAlone }
 {}

@@ -3,20 +3,16 @@
 
 mod asks;
 mod fault;
+mod grammar;
 mod laws;
 mod number;
-mod options;
-mod run;
-mod run_command;
-mod run_fault;
-mod said;
-mod settings;
+mod part;
+mod values;
+mod why;
 mod words;
 
-pub use asks::{Check, Command, Replay, RunWords, Serve};
-pub use fault::{WordsFault, usage};
-pub use laws::run_words_are_read_as_they_are_spelled;
-pub use options::OptionName;
-pub use run_command::{RunCommand, RunFlag, RunOption};
-pub use run_fault::RunFault;
+pub use asks::{Check, Command, Make, Replay, RunWords, Serve};
+pub use fault::{Why, WordsFault};
+pub use laws::words_are_read_as_they_are_spelled;
+pub use part::{CommandName, PartName};
 pub use words::read_words;
