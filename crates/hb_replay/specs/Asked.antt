@@ -1,5 +1,5 @@
 -- What the words of a command ask of a run.
-use Rattle.std.specs.Prelude.{ℕ, Option, None}
+use Rattle.std.specs.Prelude.{ℕ, Option}
 use Rattle.hb_model.specs.declared.config.NodeConfig.{NodeConfig}
 use Rattle.hb_serve.specs.declared.words.ServeWords.{ServeWords}
 use Rattle.hb_words.specs.Command.{RunWords}
@@ -11,7 +11,7 @@ config_of r = record {
   discovery = r.discovery;
   network = r.network;
   node = r.node;
-  doors = record { inbound = r.inbound; outbound = None; plain = r.plain };
+  doors = record { inbound = r.inbound; outbound = r.outbound; plain = r.plain };
 }
 
 -- its run, which so many ticks end, if a number of them does

@@ -5,6 +5,7 @@ use Rattle.hb_base.specs.declared.note.Note.{Note}
 use Rattle.hb_base.specs.declared.or.Or.{Or}
 use Rattle.hb_base.specs.declared.or.Or.TheVariants.{Fault, NoMemory}
 use Rattle.hb_world.specs.declared.entry.Entry.{Entry}
+use Rattle.hb_world.specs.declared.line.Line.{Line}
 use Rattle.hb_world.specs.WorldState.{ScriptState}
 use Rattle.hb_script.specs.declared.fault.ScriptFault.{ScriptFault}
 use Rattle.hb_script.specs.Script.{lines}
@@ -68,6 +69,12 @@ report_of r done = report (flags_of r) done.trace done.notes (totals_of done.tra
 -- nothing was done, or a run was served, however it ended
 abbrev pub DoneLawfully : Replay → List Entry → Type 0
 DoneLawfully r trace = (trace ≡ []) ⊎ ((told : Served) × (keep : Option (List Note)) × IsServed (words_of r.run None) told keep trace)
+
+-- What a replay of these lines leaves: they are the world's, and its trace and the notes are those of the run that is told
+abbrev pub ReplaysLines : {E : Type 0} → Replay → List Line → RunState → Result Replayed E → Type 0
+ReplaysLines r script left (Ok told) =
+    (left.script.lines ≡ script) × IsRun r told.end (done_in left) × (told.report.items ≡ report_of r (done_in left))
+ReplaysLines r script left (Err lacks) = DoneLawfully r left.script.trace
 
 -- What a replay of this text leaves: the world's lines are the text's, and its trace and the notes are those of the run that is told
 abbrev pub Replays : Replay → List ℕ → RunState → Result Replayed (Or ScriptFault) → Type 0

@@ -32,7 +32,7 @@ fn config_of(alloc: Global, words: &RunWords<'_>) -> Result<NodeConfig, NoMemory
         node: text_of(alloc, words.node)?,
         doors: OwnDoors {
             inbound: words.inbound,
-            outbound: None,
+            outbound: words.outbound,
             plain: words.plain,
         },
     })

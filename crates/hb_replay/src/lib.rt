@@ -7,4 +7,4 @@ mod run;
 
 pub use asked::serve_words;
 pub use end::{ReplayEnd, ended_as};
-pub use run::{Replayed, replay};
+pub use run::{Replayed, replay, replay_lines};

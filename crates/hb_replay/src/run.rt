@@ -9,7 +9,7 @@ ghost use Rattle.hb_script.specs.Script.{lines};
 ghost use Rattle.hb_turns.specs.Notes.{held};
 ghost use Rattle.hb_turns.specs.Totals.{totals_of};
 ghost use Rattle.hb_words.specs.AskedRun.{replay_seen};
-ghost use Rattle.hb_replay.specs.Run.{flags_of, done_by, run_state, IsRun, DoneLawfully, Replays, TellsNotes};
+ghost use Rattle.hb_replay.specs.Run.{flags_of, done_by, run_state, IsRun, DoneLawfully, ReplaysLines, Replays, TellsNotes};
 
 use crate::asked::serve_words;
 use crate::end::{ReplayEnd, ended_as};
@@ -82,6 +82,30 @@ fn lines_of(alloc: Global, text: Bytes) -> Result<List<Line>, Or<ScriptFault>>
     read_script(alloc, text.as_slice())
 }
 
+/// Runs the proxy over these lines, in whose world nothing happened yet. The notes of the run are left in `keep`, and told to the
+/// audits; one that doesn't keep each is dropped.
+///
+/// Errors: `NoMemory`, and then nothing is done, or a run was served, whose links are all closed; so also where `keep` keeps no
+/// notes.
+pub fn replay_lines<A: Audit>(
+    alloc: Global,
+    words: &Replay<'_>,
+    lines: List<Line>,
+    keep: &mut Keep,
+    audits: &mut Audits<A>,
+    script: &mut ScriptWorld,
+) -> Result<Replayed, NoMemory>
+    requires lines { script.old.lines ≡ [] }
+    requires trace { script.old.trace ≡ [] }
+    ensures replays { ReplaysLines (replay_seen words.now) lines (run_state script.new keep.new) result }
+    ensures tells { IfOk result (λ _. Tells (held_by A.notes audits.old) (held_by A.notes audits.new) (held keep.new)) }
+{
+    script.load(lines)?;
+    let (end, totals) = run_over(alloc, words, keep, audits, script)?;
+    let report = report_of(alloc, words, script.entries(), keep.notes(), &totals)?;
+    Ok(Replayed { end, report })
+}
+
 /// Runs the proxy over the script that a text spells, in whose world nothing happened yet. The notes of the run are left in `keep`, and
 /// told to the audits; one that doesn't keep each is dropped.
 ///
@@ -100,8 +124,6 @@ pub fn replay<A: Audit>(
     ensures replays { Replays (replay_seen words.now) text (run_state script.new keep.new) result }
     ensures tells { TellsNotes (held_by A.notes audits.old) (held_by A.notes audits.new) (held keep.new) result }
 {
-    script.load(lines_of(alloc, text)?)?;
-    let (end, totals) = run_over(alloc, words, keep, audits, script)?;
-    let report = report_of(alloc, words, script.entries(), keep.notes(), &totals)?;
-    Ok(Replayed { end, report })
+    let lines = lines_of(alloc, text)?;
+    Ok(replay_lines(alloc, words, lines, keep, audits, script)?)
 }
