@@ -11,7 +11,7 @@ use Rattle.hb_cli.specs.declared.stop.Stop.{Stop}
 use Rattle.hb_cli.specs.declared.stop.Stop.TheVariants.{Words, NoMemory}
 use Rattle.hb_replay.specs.Run.{Done}
 use Rattle.hb_words.specs.declared.fault.WordsFault.{WordsFault}
-use Rattle.hb_words.specs.Command.{Command, checks, shows, replays, serves}
+use Rattle.hb_words.specs.Command.{Command, checks, shows, replays, serves, makes}
 use Rattle.hb_cli.specs.declared.answer.Answer.{Answer}
 use Rattle.hb_cli.specs.declared.answer.Answer.TheVariants.{Judged, Left, Replayed}
 use Rattle.hb_cli.specs.declared.answer.Printed.{Printed}
@@ -185,6 +185,7 @@ shows_of (checks q) l suits = absurd suits
 shows_of shows l suits = refl
 shows_of (replays r) l suits = absurd suits
 shows_of (serves s) l suits = absurd suits
+shows_of (makes m) l suits = absurd suits
 
 -- memory was wanting while an answer was printed: it is one of `show`
 pub wanting : (t : Run) (c : Command) (a : Answer) (p : Printed) (status : ℕ) → t.asked ≡ Ok c → p ≡ Short → (IsMade a → p ≢ Short)

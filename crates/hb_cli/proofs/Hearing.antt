@@ -4,7 +4,7 @@ use Rattle.std.specs.Prelude.{◌⊎◌, IsTrue}
 use Rattle.hb_base.specs.declared.note.Note.{Note}
 use Rattle.hb_serve.specs.Served.{Heard}
 use Rattle.hb_words.specs.declared.fault.WordsFault.{WordsFault}
-use Rattle.hb_words.specs.Command.{Command, Replay, checks, shows, replays, serves}
+use Rattle.hb_words.specs.Command.{Command, Replay, checks, shows, replays, serves, makes}
 use Rattle.hb_cli.specs.Hearing.{HearsAll, HearsNone, HearsAt, WordsHearAt}
 use Rattle.hb_cli.specs.Run.{takes_input}
 
@@ -35,13 +35,15 @@ module _ (h : Heard) (notes : List Note) (status : ℕ) where
   hears_none (Ok shows) takes heard is = heard
   hears_none (Ok (replays r)) takes heard is = none_by_status heard is
   hears_none (Ok (serves s)) takes heard is = absurd (cc)
+  hears_none (Ok (makes m)) takes heard is = absurd (cc)
   hears_none (Err fault) takes heard is = heard
 
-  -- of another command than `serve`
+  -- of another command than `serve` and `make`
   pub others_hear_none : (c : Result Command WordsFault) → IsTrue (takes_input c) → ((r : Replay) → c ≡ Ok (replays r) → ⊥)
       → WordsHearAt c h notes status → HearsNone h
   others_hear_none (Ok (checks q)) takes never heard = heard
   others_hear_none (Ok shows) takes never heard = heard
   others_hear_none (Ok (replays r)) takes never heard = absurd (never r refl)
   others_hear_none (Ok (serves s)) takes never heard = absurd (cc)
+  others_hear_none (Ok (makes m)) takes never heard = absurd (cc)
   others_hear_none (Err fault) takes never heard = heard

@@ -1,7 +1,9 @@
 pub mod Endings
 pub mod Hearing
 pub mod Inputs
+pub mod Makes
 pub mod Outcomes
 pub mod Printing
 pub mod Scripts
 pub mod Serves
+pub mod Written

@@ -1,4 +1,4 @@
--- What audits hear of a command: all notes of a replay that has an answer, and of no other command but `serve` any.
+-- What audits hear of a command: all notes of a replay that has an answer, and of no other command but `serve` and `make` any.
 use Rattle.std.specs.Prelude.{⊤, ◌≡◌, ℕ, ◌==◌, List, Result, Ok, Err}
 use Rattle.std.specs.Bool.{MatchBool}
 use Rattle.hb_audit.specs.Tells.{Tells}
@@ -7,7 +7,7 @@ use Rattle.hb_base.specs.declared.or.Or.{Or}
 use Rattle.hb_base.specs.declared.or.Or.TheVariants.{Fault, NoMemory as Lacks}
 use Rattle.hb_serve.specs.Served.{Heard}
 use Rattle.hb_words.specs.declared.fault.WordsFault.{WordsFault}
-use Rattle.hb_words.specs.Command.{Command, replays, serves}
+use Rattle.hb_words.specs.Command.{Command, replays, serves, makes}
 use Rattle.hb_cli.specs.declared.answer.Answer.{Answer}
 use Rattle.hb_cli.specs.declared.input.Refused.{Refused}
 use Rattle.hb_cli.specs.declared.stop.Stop.{Stop}
@@ -46,6 +46,7 @@ HearsAt h notes status =
 abbrev pub CommandHearsAt : Command → Heard → List Note → ℕ → Type 0
 CommandHearsAt (replays r) h notes status = HearsAt h notes status
 CommandHearsAt (serves s) h notes status = ⊤
+CommandHearsAt (makes m) h notes status = ⊤
 CommandHearsAt _ h notes status = HearsNone h
 
 abbrev pub WordsHearAt : Result Command WordsFault → Heard → List Note → ℕ → Type 0

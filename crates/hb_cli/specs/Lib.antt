@@ -3,6 +3,7 @@ pub mod Ending
 pub mod Hearing
 pub mod Input
 pub mod Judge
+pub mod Making
 pub mod Refused
 pub mod Replaying
 pub mod Run

@@ -1,7 +1,12 @@
--- Ends of the command serve that aren't what it does, and one that is.
-use Rattle.std.specs.Prelude.{◌≡◌, ℕ, [], ◌∷◌, Some}
+-- Ends of the commands serve and make that aren't what they do, and some that are.
+use Rattle.std.specs.Prelude.{◌≡◌, ◌≢◌, ℕ, true, false, [], ◌∷◌, List, Some}
+use Rattle.hb_replay.specs.Run.{RunState}
+use Rattle.hb_serve.specs.Served.{Heard}
 use Rattle.hb_words.specs.Command.{Serve}
+use Rattle.hb_words.specs.declared.asks.Make.{Make}
 use Rattle.hb_cli.specs.Ending.{Use, Untouched, Tells}
+use Rattle.hb_cli.specs.Hearing.{HearsNone}
+use Rattle.hb_cli.specs.Making.{made_text, MakesAt}
 use Rattle.hb_cli.specs.Run.{stop_line}
 use Rattle.hb_cli.specs.Serving.{WorldUse, Unused, ServesAt}
 use Rattle.hb_cli.specs.declared.stop.Stop.TheVariants.{NoMemory}
@@ -31,3 +36,47 @@ PrintsWanting = (s : Serve) (w : WorldUse) (out err : Use) → out.bytes ≡ Som
 abbrev pub MayLack : Type 0
 MayLack = (s : Serve) (w : WorldUse) (out err : Use) → Unused w → Untouched out → Tells err (stop_line NoMemory)
     → ServesAt s w out err 9
+
+-- MAKE
+
+-- it ends with no such status: it reads no input, and its words were accepted; without a run no turns are spent and no world fails
+abbrev pub MakeNeverEndsWith : ℕ → Type 0
+MakeNeverEndsWith status =
+    (m : Make) (h : Heard) (before left : RunState) (out err : Use) → MakesAt m h before left out err status → ⊥
+
+abbrev pub TextNeverEndsWith : ℕ → Type 0
+TextNeverEndsWith status =
+    (m : Make) (h : Heard) (before left : RunState) (out err : Use) → m.run ≡ false → MakesAt m h before left out err status → ⊥
+
+-- a script's text is asked for, and nothing is printed; or its first octet isn't that of a line; or its lines are run
+abbrev pub MakesNothing : Type 0
+MakesNothing = (m : Make) (h : Heard) (before left : RunState) (out err : Use) → m.run ≡ false
+    → out.bytes ≡ Some [] → out.bytes_after ≡ Some [] → MakesAt m h before left out err 0 → ⊥
+
+abbrev pub MakesAnother : Type 0
+MakesAnother = (m : Make) (h : Heard) (before left : RunState) (out err : Use) (text : List ℕ) → m.run ≡ false
+    → out.bytes ≡ Some [] → out.bytes_after ≡ Some (91 ∷ text) → MakesAt m h before left out err 0 → ⊥
+
+abbrev pub RunsUnasked : Type 0
+RunsUnasked = (m : Make) (h : Heard) (before left : RunState) (out err : Use) (status : ℕ) → m.run ≡ false
+    → before.script.lines ≡ [] → left.script.lines ≢ [] → MakesAt m h before left out err status → ⊥
+
+-- a run is asked for, and none is made; or nothing of it is printed
+abbrev pub RunsNothing : Type 0
+RunsNothing = (m : Make) (h : Heard) (before left : RunState) (out err : Use) → m.run ≡ true → left.script.lines ≡ []
+    → MakesAt m h before left out err 0 → ⊥
+
+abbrev pub RunsUntold : Type 0
+RunsUntold = (m : Make) (h : Heard) (before left : RunState) (out err : Use) → m.run ≡ true
+    → out.bytes ≡ Some [] → out.bytes_after ≡ Some [] → MakesAt m h before left out err 0 → ⊥
+
+-- the text is printed; or memory lacked before any call, and that is told
+abbrev pub TextMayBePrinted : Type 0
+TextMayBePrinted = (m : Make) (h : Heard) (state : RunState) (out err : Use) → m.run ≡ false → HearsNone h
+    → out.bytes ≡ Some [] → out.bytes_after ≡ Some (made_text m) → out.faults_after ≡ out.faults
+    → err.bytes ≡ Some [] → err.bytes_after ≡ Some [] → err.faults_after ≡ err.faults
+    → MakesAt m h state state out err 0
+
+abbrev pub MakeMayLack : Type 0
+MakeMayLack = (m : Make) (h : Heard) (state : RunState) (out err : Use) → m.run ≡ false → HearsNone h → Untouched out
+    → Tells err (stop_line NoMemory) → MakesAt m h state state out err 9

@@ -1,11 +1,12 @@
--- What the world of a script and the notes are left as: a replay runs over that world, and no other command makes a call on it.
-use Rattle.std.specs.Prelude.{◌≡◌, ◌≢◌, ℕ, ◌==◌, List, [], Option, Some, IfSome, Result, Ok, Err}
+-- What the world of a script and the notes are left as: a replay runs over that world, and but for `make` no other command makes a call
+-- on it.
+use Rattle.std.specs.Prelude.{⊤, ◌≡◌, ◌≢◌, ℕ, ◌==◌, List, [], Option, Some, IfSome, Result, Ok, Err}
 use Rattle.std.specs.Bool.{MatchBool}
 use Rattle.hb_base.specs.declared.or.Or.{Or}
 use Rattle.hb_base.specs.declared.or.Or.TheVariants.{Fault, NoMemory as Lacks}
 use Rattle.hb_script.specs.Script.{lines}
 use Rattle.hb_words.specs.declared.fault.WordsFault.{WordsFault}
-use Rattle.hb_words.specs.Command.{Command, Replay, replays, serves}
+use Rattle.hb_words.specs.Command.{Command, Replay, replays, serves, makes}
 use Rattle.hb_replay.specs.declared.end.ReplayEnd.{ReplayEnd}
 use Rattle.hb_replay.specs.declared.end.ReplayEnd.TheVariants as ends
 use Rattle.hb_replay.specs.Run.{RunState, done_in, IsRun, DoneLawfully}
@@ -69,6 +70,7 @@ LeavesAt r input world status =
 abbrev pub CommandLeavesAt : Command → Option (List ℕ) → RunState → RunState → ℕ → Type 0
 CommandLeavesAt (replays r) input before after status = LeavesAt r input after status
 CommandLeavesAt (serves s) input before after status = after ≡ before
+CommandLeavesAt (makes m) input before after status = ⊤
 CommandLeavesAt _ input before after status = (after ≡ before) × (status ≢ 4) × (status ≢ 5)
 
 -- words that aren't accepted leave it as it was

@@ -15,13 +15,15 @@ ghost use Rattle.hb_serve.specs.Served.{heard_of};
 ghost use Rattle.hb_turns.specs.Notes.{held};
 ghost use Rattle.hb_words.specs.Asked.{question, command_of};
 ghost use Rattle.hb_words.specs.AskedRun.{replay_seen, serve_seen};
-ghost use Rattle.hb_words.specs.Command.{Replay as Replays, Serve as Serves, shows, replays, serves};
+ghost use Rattle.hb_words.specs.Command.{Replay as Replays, Serve as Serves, shows, replays, serves, makes};
 ghost use Rattle.hb_words.specs.Words.{words_of};
+ghost use Rattle.hb_words.specs.declared.asks.Make.{Make as Makes};
 ghost use Rattle.hb_world.specs.Allowed.{Allowed};
 ghost use Rattle.hb_cli.specs.Answer.{texts, found_texts, Suits};
 ghost use Rattle.hb_cli.specs.Ending.{ComesTo, EndsWith, GivesUp, use_of};
 ghost use Rattle.hb_cli.specs.Hearing.{HearsOf, HearsBy, CommandHearsAt, WordsHearAt};
 ghost use Rattle.hb_cli.specs.Judge.{judged_by};
+ghost use Rattle.hb_cli.specs.Making.{MakesAt};
 ghost use Rattle.hb_cli.specs.Replaying.{LeavesOf, CommandLeaves, LeavesBy, CommandLeavesAt, WordsLeaveAt, RunsTo};
 ghost use Rattle.hb_cli.specs.Run.{IsAnOutcome, IsStated, ReadsEnough, WritesLine, printed_by, is_status, is_answered};
 ghost use Rattle.hb_cli.specs.Run.{outcome_of, status_of, stop_line, takes_input, told_line};
@@ -31,6 +33,7 @@ ghost use Rattle.hb_cli.specs.declared.stop.Stop.TheVariants.{NoMemory};
 
 use crate::answer::{Answer, Printed, end, print};
 use crate::input::{Refused, read_input};
+use crate::making::make_script;
 use crate::serving::serve_world;
 use crate::stop::Stop;
 use crate::telling::tell;
@@ -47,8 +50,8 @@ use std::alloc::{AllocError, Global};
 const LONGEST_INPUT: usize = 67_108_864;
 
 /// A word as a text.
-fn text_of(alloc: Global, word: &String) -> Result<Text, AllocError>
-    ensures { IfOk result (λ text. text ≡ string_bytes word.now) }
+fn text_of(alloc: Global, word: &str) -> Result<Text, AllocError>
+    ensures { IfOk result (λ text. text ≡ word.now) }
 {
     match Text::of(alloc, word.as_bytes())? {
         Some(text) => Ok(text),
@@ -60,10 +63,7 @@ fn text_of(alloc: Global, word: &String) -> Result<Text, AllocError>
 fn judge_input(alloc: Global, check: &Check<'_>, input: &[u8]) -> Result<Judged, Or<Refused>>
     ensures { Answers result (judged_by (question check.now) input.now) }
 {
-    let network = match check.network {
-        Some(network) => text_of(alloc, network)?,
-        None => Text::empty(alloc),
-    };
+    let network = text_of(alloc, check.network)?;
     let node = text_of(alloc, check.node)?;
     let left = read_input(alloc, network, node, false, input)?;
     Ok(judge(&left.held, &check.peer, check.target))
@@ -121,7 +121,7 @@ fn answer<A: Audit>(
             Ok(Answer::Left(left))
         }
         Command::Replay(words) => replay_input(alloc, words, input, keep, audits, script),
-        Command::Serve(_) => unreachable!(),
+        Command::Serve(_) | Command::Make(_) => unreachable!(),
     }
 }
 
@@ -229,7 +229,8 @@ fn conclude<S: Source, K: Sink, E: Sink, A: Audit>(
     }
 }
 
-/// A run. The words are looked at first; then `serve` runs over the world, and any other command is answered by its input.
+/// A run. The words are looked at first; then `serve` runs over the world, `make` makes a script, and any other command is answered
+/// by its input.
 fn obey<S: Source, K: Sink, E: Sink, A: Audit, W: World>(
     alloc: Global,
     words: &[String],
@@ -259,8 +260,13 @@ fn obey<S: Source, K: Sink, E: Sink, A: Audit, W: World>(
         (heard_of (held_by A.notes audits.old) (held_by A.notes audits.new)))
         (use_of (K.written out.old) (K.written out.new) (K.faults out.old) (K.faults out.new))
         (use_of (E.written err.old) (E.written err.new) (E.faults err.old) (E.faults err.new)) result }
-    ensures unread { (s : Serves) → words_of (map string_bytes words.now) ≡ Ok (serves s) → input.new ≡ input.old }
-    ensures unused { IsTrue (takes_input (words_of (map string_bytes words.now))) → world.new ≡ world.old }
+    ensures makes { (m : Makes) → words_of (map string_bytes words.now) ≡ Ok (makes m) → MakesAt m
+        (heard_of (held_by A.notes audits.old) (held_by A.notes audits.new))
+        (run_state script.old keep.old) (run_state script.new keep.new)
+        (use_of (K.written out.old) (K.written out.new) (K.faults out.old) (K.faults out.new))
+        (use_of (E.written err.old) (E.written err.new) (E.faults err.old) (E.faults err.new)) result }
+    ensures unread { takes_input (words_of (map string_bytes words.now)) ≡ false → input.new ≡ input.old }
+    ensures unused { ((s : Serves) → words_of (map string_bytes words.now) ≡ Ok (serves s) → ⊥) → world.new ≡ world.old }
     ensures follows { W.script world.new ≡ W.script world.old }
     ensures later_input { S.faults input.old ≤ S.faults input.new }
     ensures later_out { K.faults out.old ≤ K.faults out.new }
@@ -268,6 +274,7 @@ fn obey<S: Source, K: Sink, E: Sink, A: Audit, W: World>(
 {
     match read_words(alloc, words) {
         Ok(Command::Serve(asked)) => serve_world(alloc, &asked, out, err, audits, world),
+        Ok(Command::Make(asked)) => make_script(alloc, &asked, out, err, keep, audits, script),
         Ok(command) => conclude(alloc, &command, input, out, err, keep, audits, script),
         Err(Or::Fault(fault)) => give_up(alloc, Stop::Words(fault), err),
         Err(Or::NoMemory) => give_up(alloc, Stop::NoMemory, err),
@@ -278,10 +285,10 @@ fn obey<S: Source, K: Sink, E: Sink, A: Audit, W: World>(
 /// none to `err`; a fault of `err` changes no status. The statuses: 0 done, 2 words that aren't accepted,
 /// 3 an input that is refused, 4 a run of the proxy whose world failed, 5 one whose turns were spent, 6 a read that
 /// failed, 7 a write that failed, 9 want of memory. The words are looked at first, then the whole input is read, and then
-/// it is looked at; `serve` reads none. `world` is the one that `serve` runs over, and `script` that of `replay`; nothing
-/// happened in it before. `keep` has the notes of a replay behind it; where it keeps none, a replay ends with 9. The
-/// notes of `serve` aren't kept. Each note of `serve` and `replay` is told to the audits when it is made; one that doesn't keep
-/// it is dropped, and the run goes on.
+/// it is looked at; `serve` and `make` read none. `world` is the one that `serve` runs over, and `script` that of `replay` and of
+/// `make --run`; nothing happened in it before. `keep` has the notes of a run over it; where it keeps none, such a run ends with 9.
+/// The notes of `serve` aren't kept. Each note of a run is told to the audits when it is made; one that doesn't keep it is dropped,
+/// and the run goes on.
 pub fn run<S: Source, K: Sink, E: Sink, A: Audit, W: World>(
     alloc: Global,
     words: &[String],
@@ -302,7 +309,7 @@ pub fn run<S: Source, K: Sink, E: Sink, A: Audit, W: World>(
     ensures refused_words { IsErr (words_of (map string_bytes words.now)) → (result ≡ 2) ⊎ (result ≡ 9) }
     ensures reads_nothing { result ≡ 2 → S.left input.new ≡ S.left input.old }
 
-    // But for `serve` a command is answered by its input. Of one that is told the status is the stated one: 3 exactly by the
+    // But for `serve` and `make` a command is answered by its input. Of one that is told the status is the stated one: 3 exactly by the
     // input, 0 with its answer; a replay that has an answer may have ended otherwise than by a stop.
     ensures stated { IsTrue (takes_input (words_of (map string_bytes words.now))) → IfSome (S.left input.old)
         (λ left. IsStated (status_of (outcome_of (map string_bytes words.now) (done_by script.new.trace keep.new) left)) result) }
@@ -360,16 +367,17 @@ pub fn run<S: Source, K: Sink, E: Sink, A: Audit, W: World>(
         → DoneLawfully r script.new.trace }
     ensures nothing_done { (result ≡ 2) ⊎ (result ≡ 3) ⊎ (result ≡ 6) → script.new.trace ≡ [] }
 
-    // The script's lines allow the trace. But for `serve` 4 and 5 come of a replay alone, and no other command changes the
-    // script's world or the notes.
+    // The script's lines allow the trace. But for `serve` and `make` 4 and 5 come of a replay alone, and but for `make` no other
+    // command changes the script's world or the notes.
     ensures allowed { Allowed script.new.lines script.new.trace }
     ensures replays_alone { IsTrue (takes_input (words_of (map string_bytes words.now))) → (result ≡ 4) ⊎ (result ≡ 5)
         → (r : Replays) × (words_of (map string_bytes words.now) ≡ Ok (replays r)) }
     ensures others { ((r : Replays) → words_of (map string_bytes words.now) ≡ Ok (replays r) → ⊥)
+        → ((m : Makes) → words_of (map string_bytes words.now) ≡ Ok (makes m) → ⊥)
         → (script.new ≡ script.old) × (keep.new ≡ keep.old) }
 
     // All notes of a replay that ends so were told to the audits, one after the other, and those are left that kept each. At 2, 3
-    // and 6 no note was told, and but for `replay` and `serve` none is.
+    // and 6 no note was told, and but for `replay`, `serve` and `make` none is.
     ensures heard { (r : Replays) → words_of (map string_bytes words.now) ≡ Ok (replays r)
         → (result ≡ 0) ⊎ (result ≡ 4) ⊎ (result ≡ 5) ⊎ (result ≡ 7)
         → Tells (held_by A.notes audits.old) (held_by A.notes audits.new) (held keep.new) }
@@ -381,14 +389,22 @@ pub fn run<S: Source, K: Sink, E: Sink, A: Audit, W: World>(
     // `serve` reads no input, and runs the proxy over the world: at 0 a stop ended the run or the stated ticks passed, at 4 a
     // listen or a wait of the world failed, which counts as one fault of it, and at 5 its turns were spent; the line of its
     // totals is printed then, and in part at 7, and all its notes were told to the audits, as those of a replay. At 9 nothing is
-    // printed. No other command makes a call on the world.
+    // printed.
     ensures serves { (s : Serves) → words_of (map string_bytes words.now) ≡ Ok (serves s) → ServesAt s
         (world_use (W.trace world.old) (W.trace world.new) (W.faults world.old) (W.faults world.new)
         (heard_of (held_by A.notes audits.old) (held_by A.notes audits.new)))
         (use_of (K.written out.old) (K.written out.new) (K.faults out.old) (K.faults out.new))
         (use_of (E.written err.old) (E.written err.new) (E.faults err.old) (E.faults err.new)) result }
-    ensures unread { (s : Serves) → words_of (map string_bytes words.now) ≡ Ok (serves s) → input.new ≡ input.old }
-    ensures unused { IsTrue (takes_input (words_of (map string_bytes words.now))) → world.new ≡ world.old }
+
+    // `make` prints the text of a script, or runs the proxy over its lines in the script's world, as a replay of it does, and prints
+    // the line of its totals. It and `serve` read no input, and but for `serve` no command makes a call on the world.
+    ensures makes { (m : Makes) → words_of (map string_bytes words.now) ≡ Ok (makes m) → MakesAt m
+        (heard_of (held_by A.notes audits.old) (held_by A.notes audits.new))
+        (run_state script.old keep.old) (run_state script.new keep.new)
+        (use_of (K.written out.old) (K.written out.new) (K.faults out.old) (K.faults out.new))
+        (use_of (E.written err.old) (E.written err.new) (E.faults err.old) (E.faults err.new)) result }
+    ensures unread { takes_input (words_of (map string_bytes words.now)) ≡ false → input.new ≡ input.old }
+    ensures unused { ((s : Serves) → words_of (map string_bytes words.now) ≡ Ok (serves s) → ⊥) → world.new ≡ world.old }
     ensures follows { W.script world.new ≡ W.script world.old }
 
     ensures later_input { S.faults input.old ≤ S.faults input.new }

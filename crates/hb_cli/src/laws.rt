@@ -1,6 +1,8 @@
 //! Ends of a command that aren't what it does, and one that is. Each is the contract of a function that does nothing.
 
 ghost use Rattle.hb_cli.specs.Refused.{NeverEndsWith, PrintsNothing, HidesFault, InventsFault, PrintsWanting, MayLack};
+ghost use Rattle.hb_cli.specs.Refused.{MakeNeverEndsWith, TextNeverEndsWith, MakesNothing, MakesAnother, RunsUnasked};
+ghost use Rattle.hb_cli.specs.Refused.{RunsNothing, RunsUntold, TextMayBePrinted, MakeMayLack};
 
 /// `serve` reads no input, so it never ends with 3 or 6, nor with 2 once its words were accepted. At a stop its totals were printed; its
 /// status tells exactly whether a listen or a wait failed; and where memory lacked nothing was printed. Memory may lack for it.
@@ -13,4 +15,22 @@ pub fn ends_of_serve_are_told_apart()
     ensures invented { InventsFault }
     ensures wanting { PrintsWanting }
     ensures lacks { MayLack }
+{}
+
+/// `make` reads no input, so it never ends with 3 or 6, nor with 2 once its words were accepted; without `--run` not with 4 or 5 either,
+/// and then it runs nothing. At status 0 its script's text was printed, or the totals of the run over its lines. Its text may be printed,
+/// and memory may lack for it.
+pub fn ends_of_make_are_told_apart()
+    ensures words { MakeNeverEndsWith 2 }
+    ensures input { MakeNeverEndsWith 3 }
+    ensures unread { MakeNeverEndsWith 6 }
+    ensures world { TextNeverEndsWith 4 }
+    ensures turns { TextNeverEndsWith 5 }
+    ensures nothing { MakesNothing }
+    ensures another { MakesAnother }
+    ensures unasked { RunsUnasked }
+    ensures idle { RunsNothing }
+    ensures untold { RunsUntold }
+    ensures printed { TextMayBePrinted }
+    ensures lacks { MakeMayLack }
 {}

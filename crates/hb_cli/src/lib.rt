@@ -5,6 +5,7 @@ mod answer;
 mod command;
 mod input;
 mod laws;
+mod making;
 mod serving;
 mod stop;
 mod telling;

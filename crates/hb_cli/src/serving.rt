@@ -58,7 +58,7 @@ fn told_of(alloc: Global, served: &Served) -> Result<Replayed, NoMemory>
 }
 
 /// Prints the total line of a run, and tells how it ended. Gives the status.
-fn print_total<K: Sink, E: Sink>(told: &Replayed, out: &mut K, err: &mut E) -> u8
+pub fn print_total<K: Sink, E: Sink>(told: &Replayed, out: &mut K, err: &mut E) -> u8
     ensures prints { PrintsRun told.now.end told.now.report.items
         (use_of (K.written out.old) (K.written out.new) (K.faults out.old) (K.faults out.new))
         (use_of (E.written err.old) (E.written err.new) (E.faults err.old) (E.faults err.new)) result }

@@ -13,7 +13,7 @@ use hb_words::WordsFault;
 use std::alloc::Global;
 
 /// Why a command has no answer.
-#[derive(Clone, Copy)]
+#[derive(Drop)]
 pub enum Stop {
     /// The words aren't accepted.
     Words(WordsFault),
