@@ -208,9 +208,10 @@ PARTS = {
 }
 
 
-def spelled(text):
+def spelled(text, more=()):
+    """The text, in which parts of these tables stand by their names."""
     text = modelled.repeated(marked(text))
-    named = [(marked(content), name) for name, content in PARTS.items()]
+    named = [(marked(content), name) for name, content in {**PARTS, **dict(more)}.items()]
     named += [(marked(content), name) for name, content in modelled.PARTS.items()]
     named += [(parts[name].replace('"', "'").replace("\n", "|"), name) for parts, name in modelled.BORROWED]
     for content, name in sorted(named, reverse=True, key=lambda item: len(item[0])):

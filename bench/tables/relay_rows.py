@@ -1,13 +1,14 @@
 #!/usr/bin/python3
-"""Prints crates/hb_relay_rows/src/octets.rt: what comes of a link of the plain door and of the control plane, in octets.
+"""Prints crates/hb_relay_rows/src/octets.rt: what comes of a captured link and of the control plane, in octets.
 
-The header of the front is spelled by the PROXY protocol's text, the responses by spelling.py.
+The header of the front is spelled by the PROXY protocol's text, the responses by spelling.py and routes.py.
 
     python3 bench/tables/relay_rows.py > crates/hb_relay_rows/src/octets.rt
 """
 import ipaddress
 import struct
 
+import routes
 from spelling import ADDRESS, AUTHORIZATION, policy, resource, span, workload
 
 SIGNATURE = b"\x0d\x0a\x0d\x0a\x00\x0d\x0a\x51\x55\x49\x54\x0a"
@@ -24,13 +25,32 @@ def response(url, *resources):
     return b"".join(resource(url, n, v) for n, v in resources) + span(4, url) + span(5, "n")
 
 
+def addresses(**resources):
+    return response(ADDRESS, *((name, routes.spelled(r)) for name, r in resources.items()))
+
+
+def host(ip, node="n2", hbone=0, **more):
+    return routes.workload(ip, net="", node=node, hbone=hbone, **more)
+
+
+def service(port=9090, **more):
+    return routes.service("10.0.0.7", ports=((port, 8080),), net="", **more)
+
+
 print("""\
-//! What comes of a link of the plain door, and of the control plane, in hexadecimal digits. `bench/tables/relay_rows.py` prints this file.
+//! What comes of a captured link, and of the control plane, in hexadecimal digits. `bench/tables/relay_rows.py` prints this file.
 """)
 for name, says, octets in (
     ("FRONT", "The header of the front: from 10.0.0.9, with an identity, to 10.0.0.7, port 9090.", front(PEER)),
     ("KNOWN", "A workload of this node at 10.0.0.7.", response(ADDRESS, ("u1", workload("w", "a", [[10, 0, 0, 7]], "n1", [])))),
     ("NOT_HERE", "One of another node there.", response(ADDRESS, ("u1", workload("w", "a", [[10, 0, 0, 7]], "n2", [])))),
+    ("SOURCE", "A workload of this node at 10.0.0.9.", addresses(u2=host("10.0.0.9", node="n1"))),
+    ("TAKES_HBONE", "A workload at 10.0.0.7 that takes HBONE.", addresses(u3=host("10.0.0.7", hbone=1))),
+    ("BY_WAYPOINT", "One there behind a waypoint.", addresses(u3=host("10.0.0.7", waypoint=routes.WAYPOINT_NAME))),
+    ("SERVICE", "A service at 10.0.0.7, port 9090.", addresses(s=service())),
+    ("OTHER_PORT", "A service there, port 80.", addresses(s=service(port=80))),
+    ("ENDPOINT", "A workload at 10.0.0.8 whose port 8080 serves port 9090 of the service.",
+        addresses(u4=host("10.0.0.8", serves=[("a/web.a", [(9090, 8080)])]))),
     ("NO_POLICY", "No policy.", response(AUTHORIZATION)),
     ("ALLOWS_NONE", "A policy that allows none.", response(AUTHORIZATION, ("a/n", policy("a", "n", "GLOBAL", "ALLOW", [])))),
 ):

@@ -17,10 +17,8 @@ ADDRESS = "type.googleapis.com/istio.workload.Address"
 POLICY = "type.googleapis.com/istio.security.Authorization"
 PREFACE = b"PRI * HTTP/2.0\r\n\r\nSM\r\n\r\n"
 PATH = b"/envoy.service.discovery.v3.AggregatedDiscoveryService/DeltaAggregatedResources"
-USAGE = (" (usage: hbone check --node NODE [--network NETWORK] SOURCE IDENTITY TARGET, hbone show, hbone replay "
-         "--node NODE --id ID --discovery TARGET [--inbound TARGET] [--plain TARGET] [--network NETWORK] [--hbone-port PORT] [--tunnels COUNT] "
-         "[--turns COUNT] [--trace] [--brief], or hbone serve --node NODE --id ID --discovery TARGET [--inbound TARGET] [--plain TARGET] "
-         "[--network NETWORK] [--hbone-port PORT] [--tunnels COUNT] [--turns COUNT] [--ticks COUNT])")
+USAGE = (" (usage: hbone replay --node NODE --id ID --discovery TARGET [--inbound TARGET] [--outbound TARGET] [--plain TARGET] "
+         "[--network NETWORK] [--hbone-port PORT] [--tunnels COUNT] [--turns COUNT] [--trace] [--brief])")
 
 # How much of an output's free room may be read at once (one part of so many), whether requests are put as soon as one is
 # there or behind all that came, whether a link that opens is read and written in the same round, the order of a round, and
@@ -65,6 +63,7 @@ OPTIONS = {
     "id": (str, "empty or begins with a dash"),
     "discovery": (target_text, "neither IPv4:PORT nor [IPv6]:PORT"),
     "inbound": (target_text, "neither IPv4:PORT nor [IPv6]:PORT"),
+    "outbound": (target_text, "neither IPv4:PORT nor [IPv6]:PORT"),
     "plain": (target_text, "neither IPv4:PORT nor [IPv6]:PORT"),
     "network": (str, "empty or begins with a dash"),
     "hbone-port": (number_up_to(65535), "no number from 1 to 65535"),
@@ -75,32 +74,37 @@ OPTIONS = {
 
 def read_words(words):
     """What is asked, by the words behind the command."""
-    asked, words = {}, collections.deque(words)
+    said, words = {}, collections.deque(words)
     while words:
         word = words.popleft()
-        if not word.startswith("-"):
-            raise BadWords("replay takes options only")
         name, equals, value = word.partition("=")
-        if word in ("--trace", "--brief"):
-            if word[2:] in asked:
-                raise BadWords(f"{word} stands twice")
-            asked[word[2:]] = True
-            continue
-        if not name.startswith("--") or name[2:] not in OPTIONS:
-            raise BadWords("unknown option")
-        if not equals:
-            if not words:
-                raise BadWords(f"{name} has no value")
-            value = words.popleft()
-        read, why = OPTIONS[name[2:]]
-        if not value or value.startswith("-") or read(value) is None:
-            raise BadWords(f"the value of {name} is {why}")
-        if name[2:] in asked:
+        if not word.startswith("-"):
+            raise BadWords(f"unexpected word '{word}'")
+        if name not in ("--trace", "--brief") and (not name.startswith("--") or name[2:] not in OPTIONS):
+            raise BadWords(f"unknown option '{word}'")
+        if any(later.partition("=")[0] == name for later in words):
             raise BadWords(f"{name} stands twice")
-        asked[name[2:]] = read(value)
+        if name in ("--trace", "--brief"):
+            if equals:
+                raise BadWords(f"{name} takes no value")
+            said[name[2:]] = True
+            continue
+        if not equals and not words:
+            raise BadWords(f"{name} has no value")
+        if not equals:
+            value = words.popleft()
+        if not value or value.startswith("-"):
+            raise BadWords(f"the value of {name} is {OPTIONS[name[2:]][1]}")
+        said[name[2:]] = value
     for name in ("node", "id", "discovery"):
-        if name not in asked:
+        if name not in said:
             raise BadWords(f"--{name} is wanted behind replay")
+    asked = {name: said[name] for name in ("trace", "brief") if name in said}
+    for name, (read, why) in OPTIONS.items():
+        if name in said:
+            asked[name] = read(said[name])
+            if asked[name] is None:
+                raise BadWords(f"the value of --{name} is {why}")
     return asked
 
 

@@ -226,6 +226,8 @@ def rows_of_runs():
              [*USUAL_WORDS[:4], f"--inbound={CONTROL}", "--brief", *USUAL_WORDS[4:]]),
             ("a plain door", [*USUAL_WORDS, "--plain", "0.0.0.0:15001"]),
             ("a plain door in front, and an inbound one", ["--plain=[::1]:15001", *USUAL_WORDS, "--inbound", "[::1]:15008"]),
+            ("an outbound door", [*USUAL_WORDS, "--outbound", "0.0.0.0:15001"]),
+            ("three doors", ["--outbound=[::1]:15001", *USUAL_WORDS, "--plain", "[::1]:15006", "--inbound=[::1]:15008"]),
             ("an id of equals signs", ["--node", "n1", "--id", "==", "--discovery", CONTROL, "--trace"])]:
         row(f"words: {name}", LIVE, words=words)
     row("a stop, and lines behind it", LIVE + [piece(data(M1)), STOP] + came(data(M2)), "--trace")
@@ -550,8 +552,8 @@ def rows_of_words():
         refused(*(word for pair in usual.items() if pair[0] != name for word in pair))
     refused()
     refused("--trace", "--brief")
-    for name, value in [*usual.items(), ("--inbound", "0.0.0.0:15008"), ("--plain", "0.0.0.0:15001"), ("--network", "x"),
-                        ("--hbone-port", "1"), ("--tunnels", "1"), ("--turns", "1")]:
+    for name, value in [*usual.items(), ("--inbound", "0.0.0.0:15008"), ("--outbound", "0.0.0.0:15001"), ("--plain", "0.0.0.0:15006"),
+                        ("--network", "x"), ("--hbone-port", "1"), ("--tunnels", "1"), ("--turns", "1")]:
         refused(*USUAL_WORDS, name, value, *[] if name in usual else [name, value])
         refused(*USUAL_WORDS, f"{name}={value}", *[] if name in usual else [name, value])
         rest = [word for pair in usual.items() if pair[0] != name for word in pair]
@@ -562,7 +564,7 @@ def rows_of_words():
     for flag in ("--trace", "--brief"):
         refused(*USUAL_WORDS, flag, flag)
         refused(flag, *USUAL_WORDS, flag)
-    for word in ("--", "-h", "--help", "-", "--trace=", "--trace=true", "--ticks", "--inbounds", "--in", "--nod", "--Node",
+    for word in ("--", "-h", "--help", "-", "--trace=", "--trace=true", "--ticks", "--inbounds", "--in", "--outbound-", "--out", "--nod", "--Node",
                  "-node=n1", "--ticks=1", "--Inbound=0.0.0.0:15008", "-inbound=0.0.0.0:15008", "=n1"):
         refused(*USUAL_WORDS, word)
     for word in ("trace", "n1", "", "help"):
@@ -576,6 +578,7 @@ def rows_of_words():
         refused(*USUAL_WORDS, "--inbound", value)
         refused(f"--inbound={value}", *USUAL_WORDS)
         refused(*USUAL_WORDS, f"--plain={value}")
+        refused(*USUAL_WORDS, f"--outbound={value}")
     door = ["--inbound", "0.0.0.0:15008"]
     refused(*door, *USUAL_WORDS, "--inbound=[::1]:15008")
     refused(*door, *USUAL_WORDS, "--inbound", "0.0.0.0")

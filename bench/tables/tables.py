@@ -34,6 +34,8 @@ WHOLE = [
     ("replay_rows.py", "hb_replay_rows", "rows.rt"),
     ("tunnel_rows.py", "hb_replay_rows", "tunnels.rt"),
     ("modelled_rows.py", "hb_replay_rows", "modelled.rt"),
+    ("plain_rows.py", "hb_replay_rows", "plain.rt"),
+    ("outbound_rows.py", "hb_replay_rows", "outbound.rt"),
     ("serve_rows.py", "hb_serve_rows", "frames.rt"),
 ]
 PARTS = [("frame_vectors.py", "hb_http2_rows", "frame_vectors.rt"), ("verdict_rows.py", "hb_table_rows", "requests.rt")]

@@ -1,8 +1,9 @@
-"""A second, plain model of `hbone replay` with `--inbound` and `--plain`: words and the text of a script in, status, output and error text out.
+"""A second, plain model of `hbone replay` with its doors: words and the text of a script in, status, output and error text out.
 
 It is written from the pages alone (docs/COMMANDS.md, FORMATS.md, LAWS.md, DECISIONS.md, POLICIES.md, RFC 9113, RFC 7541, the PROXY
 protocol's text), and shares nothing with the program. What it has in common with runs of the control plane alone is in
-replay_model.py. What the pages leave open is a `Choice`; a report that is the same by every choice is determined by the pages.
+replay_model.py, the ways of outbound connections are in routes.py. What the pages leave open is a `Choice`; a report that is the same
+by every choice is determined by the pages.
 
     sys.path.insert(0, "bench/tables"); import tunnel_model; tunnel_model.replay(words, script)
 """
@@ -11,11 +12,12 @@ import ipaddress
 import re
 
 import replay_model as model
+import routes
 from replay_model import ADDRESS, POLICY, LARGEST, ConnFault, Ends, Fault, frame, pairs_of
 
-# Beside the choices of the control plane's link: the order of links in a round, how much of an upstream, or of a link of the plain
-# door, is read at once, whether a write of a ring ends where its memory does, the order of an update's notes over links, whether the stream behind the one whose
-# DATA was put last goes first, and how many octets a link may hold that aren't looked at.
+# Beside the choices of the control plane's link: the order of links in a round, how much of an upstream, or of a link of raw bytes,
+# is read at once, whether a write of a ring ends where its memory does, the order of an update's notes over links, whether the stream
+# behind the one whose DATA was put last goes first, and how many octets a link may hold that aren't looked at.
 Choice = collections.namedtuple("Choice", [*model.Choice._fields, "backwards", "most", "wraps", "by_link", "fair", "holds"])
 USUAL = Choice(*model.USUAL, False, 16384, False, True, False, 16393)
 OTHERS = [
@@ -23,6 +25,7 @@ OTHERS = [
     USUAL._replace(share=4, holds=32768), USUAL._replace(share=7, order="wwr"), USUAL._replace(wraps=True, eager=True, fair=True),
     USUAL._replace(by_link=False, backwards=True, order="wrw")]
 
+DOORS = ("inbound", "outbound", "plain")
 RINGS = {"up": 65535, "down": 16384}
 STATUS, GRANT, END, RESET = range(4)
 NO_ERROR, PROTOCOL_ERROR, FLOW_CONTROL_ERROR, STREAM_CLOSED, REFUSED_STREAM, CANCEL, CONNECT_ERROR = 0, 1, 3, 5, 7, 8, 10
@@ -148,6 +151,35 @@ def judge(held, asked, peer, target):
     policies = [version.record for (kind, _), version in held.items() if kind == POLICY and counts_for(version.record, at[0])]
     fired = [[fires(policy, peer, target) for policy in policies if policy.get(4, 0) & 0xffffffff == action] for action in (0, 1)]
     return 401 if any(fired[1]) or fired[0] and not any(fired[0]) else 200
+
+
+# Routes (docs/FORMATS.md)
+
+
+def low(value):
+    return value & 0xffffffff
+
+
+def ports_of(records):
+    return tuple((low(port.get(1, 0)), low(port.get(2, 0))) for port in records)
+
+
+def plain_form(record):
+    """The record of a workload or a service, as the evaluator of routes has it."""
+    if 1 in record:
+        workload = record[1]
+        serves = [(entry.get(1, ""), ports_of(entry.get(2, {}).get(1, []))) for entry in workload.get(22, [])]
+        return routes.workload(*workload.get(3, []), hbone=low(workload.get(5, 0)), status=low(workload.get(17, 0)), serves=serves,
+                               net=workload.get(4, ""), node=workload.get(9, ""), waypoint=8 in workload)
+    service = record[2]
+    return routes.service(*((at.get(1, ""), at[2]) for at in service.get(4, [])), ns=service.get(2, ""), host=service.get(3, ""),
+                          ports=ports_of(service.get(5, [])), waypoint=7 in service)
+
+
+def way(held, asked, source, target):
+    """`direct` and the target's text, `gateway` and that of its address, or `none` and the number of why there is none."""
+    resources = {name: plain_form(version.record) for (kind, name), version in held.items() if kind == ADDRESS}
+    return routes.way(resources, {}, source, target.ip, target.port, 0, asked.get("network", ""), asked["node"]).split()[:2]
 
 
 def request_of(headers):
@@ -603,12 +635,13 @@ class Inbound(Connection):
         return waits[:RINGS["up"] - tunnel.taken["up"] % RINGS["up"]] if self.choice.wraps else waits
 
 
-class Plain:
-    """A link of the plain door with its upstream. `stage` is fronting, asked, pending, live; behind its end `cause` says why."""
+class Captured:
+    """A link of raw bytes, of the plain door or the outbound one, with its upstream. `stage` is fronting, asked, pending, live; behind its
+    end `cause` says why. `target` is what its header told, and `address` what is dialled for it."""
 
-    def __init__(self, number, run):
-        self.number, self.run, self.stage, self.cause = number, run, "fronting", None
-        self.front, self.peer, self.target, self.up = b"", None, None, None
+    def __init__(self, number, door, run):
+        self.number, self.door, self.run, self.stage, self.cause = number, door, run, "fronting", None
+        self.front, self.peer, self.target, self.address, self.up = b"", None, None, None, None
         self.rings, self.taken, self.is_ended, self.is_shut = ({"up": b"", "down": b""}, {"up": 0, "down": 0},
                                                                {"up": False, "down": False}, {"up": False, "down": False})
 
@@ -645,19 +678,33 @@ class Plain:
             return
         size, peer, self.target = header
         self.peer = Peer(peer.ip, None, None)
-        status = self.status()
+        status, cause, self.address = self.routed() if self.door == "outbound" else self.judged()
         if status != 200:
             self.note(status)
-            self.cause = f"refused {status}"
+            self.cause = cause
         else:
             self.stage, self.rings["up"] = "asked", self.front[size:]
 
-    def status(self):
-        """By what is held; the link has its place from its birth."""
+    # By what is held, a status and, where it isn't 200, the cause, else the address to dial. The link has its place from its birth.
+
+    def judged(self):
+        status = 503
+        if self.run.kinds == {ADDRESS, POLICY}:
+            status = judge(self.run.held, self.run.asked, self.peer, self.target)
+        if status == 200 and self.run.is_own_door(self.target):
+            status = 400
+        return status, f"refused {status}", self.target
+
+    def routed(self):
         if self.run.kinds != {ADDRESS, POLICY}:
-            return 503
-        status = judge(self.run.held, self.run.asked, self.peer, self.target)
-        return 400 if status == 200 and self.run.is_own_door(self.target) else status
+            return 503, "refused 503", None
+        kind, leads = way(self.run.held, self.run.asked, self.peer.ip, self.target)
+        if kind == "none":
+            return 503, f"no route {leads}", None
+        if kind == "gateway":
+            return 503, "no room", None
+        address = target_of(leads)
+        return (400, "refused 400", None) if self.run.is_own_door(address) else (200, None, address)
 
     def ended(self):
         self.is_ended["up"] = True
@@ -692,7 +739,8 @@ class Plain:
         self.settle()
 
     def is_refused(self):
-        return self.cause is None and self.stage != "fronting" and judge(self.run.held, self.run.asked, self.peer, self.target) != 200
+        return (self.door == "plain" and self.cause is None and self.stage != "fronting"
+                and judge(self.run.held, self.run.asked, self.peer, self.target) != 200)
 
 
 class Control(model.Link):
@@ -737,11 +785,11 @@ class Run:
 
     def is_own_door(self, target):
         """Whether who connects to the target would reach a door of the proxy."""
-        doors = [target_of(self.asked[door]) for door in ("inbound", "plain") if door in self.asked]
+        doors = [target_of(self.asked[door]) for door in DOORS if door in self.asked]
         return any(door.port == target.port and (int(door.ip) == 0 or door.ip == target.ip) for door in doors)
 
     def run(self):
-        if (self.asked.get("inbound") or self.asked.get("plain")) and self.world.lines and self.world.lines[0].get("fault") == "listen":
+        if any(map(self.asked.get, DOORS)) and self.world.lines and self.world.lines[0].get("fault") == "listen":
             return "world fault"
         self.acts()
         while True:
@@ -796,7 +844,7 @@ class Run:
                 pass
 
     def plain_act(self, link):
-        """Makes the first act of a link of the plain door, if one is due."""
+        """Makes the first act of a link of raw bytes, if one is due."""
         if link.cause is not None:
             if link.up is not None:
                 self.close(link.up, link.cause)
@@ -807,13 +855,13 @@ class Run:
                 del self.plain[link.number]
             return True
         if link.stage == "asked":
-            target = told_target(link.target)
+            target = told_target(link.address)
             link.up, link.stage = self.world.dial(target), "pending"
             if link.up is None:
                 link.end("up fault")
             else:
                 self.relays[link.up] = link
-                self.world.whys[link.up] = f"relay {target} of {link.number}"
+                self.world.whys[link.up] = f"{'relay' if link.door == 'plain' else 'direct'} {target} of {link.number}"
             return True
         for way, number in (("up", link.up), ("down", link.number)):
             if link.stage == "live" and link.is_through(way) and not link.is_shut[way]:
@@ -876,16 +924,16 @@ class Run:
         return len(self.world.trace) > before
 
     def accept(self):
-        number = self.world.accept("inbound") if self.asked.get("inbound") else None
-        if number:
-            self.inbound[number] = Inbound(number, self)
-        number = self.world.accept("plain") if self.asked.get("plain") else None
-        if number:
-            is_full = self.is_full()
-            self.plain[number] = Plain(number, self)
-            if is_full:
-                self.plain[number].end("no room")
-                self.acts()
+        for door in DOORS:
+            number = self.world.accept(door) if self.asked.get(door) else None
+            if number and door == "inbound":
+                self.inbound[number] = Inbound(number, self)
+            elif number:
+                is_full = self.is_full()
+                self.plain[number] = Captured(number, door, self)
+                if is_full:
+                    self.plain[number].end("no room")
+                    self.acts()
 
     def visit(self, number):
         is_dialled = number in self.ups or number in self.relays or self.control is not None and self.control.number == number
@@ -1030,7 +1078,7 @@ def report(asked, world, notes):
         lines.append(f"link {link} {what}: received {octets['came', link]}, sent {octets['went', link]}, {closed}")
     ends = [note.split() for note in notes if note.startswith("end")]
     accepted = sum(note.startswith("verdict") and note.split()[2] == "200" for note in notes)
-    revoked = sum(what.split()[0] in ("discovery", "upstream", "relay") and closed == "closed revoked" for what, closed in links.values())
+    revoked = sum(what.split()[0] not in DOORS and closed == "closed revoked" for what, closed in links.values())
     up, down = (sum(int(words[at]) for words in ends) for at in (-3, -1))
     lines += [*notes, f"total: {len(links)} links, {accepted} accepted, {revoked} revoked, {up} up, {down} down"]
     return "".join(line + "\n" for line in (lines[-1:] if asked.get("brief") else lines))

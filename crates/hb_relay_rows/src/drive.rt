@@ -1,7 +1,7 @@
-//! A link of the plain door, number 7, beside what is held; its upstream is number 8.
+//! A captured link, number 7, beside what is held; its upstream is number 8.
 
 use crate::octets::FRONT;
-use hb_base::{Note, Text};
+use hb_base::{Door, Note, Target, Text, Why, put_target};
 use hb_disco::read_response;
 use hb_held::{Held, OwnDoors};
 use hb_relay::Relay;
@@ -16,6 +16,23 @@ fn octets_of(rt: &impl Abort, alloc: Global, digits: &str) -> Vec<u8> {
 fn text_of(rt: &impl Abort, alloc: Global, bytes: &[u8]) -> Text {
     let text = Text::of(alloc, bytes).ok().expect(rt, "memory");
     text.expect(rt, "a text")
+}
+
+/// The words of a target.
+pub fn words_of_target(rt: &impl Abort, alloc: Global, target: Target) -> String {
+    let mut octets = Vec::new(alloc);
+    put_target(alloc, target, &mut octets).expect(rt, "memory");
+    let words = std::str::from_utf8(octets.as_slice()).unwrap_or("?");
+    String::from_str(alloc, words).expect(rt, "memory")
+}
+
+/// Why a link is dialled, without the link that it is for.
+fn word_of_why(why: Why) -> &'static str {
+    match why {
+        Why::Plain { link: 7 } => "plain",
+        Why::Direct { link: 7 } => "direct",
+        _ => "other",
+    }
 }
 
 /// The words of a note: its status, or its cause with the bytes each way; `with a name` where its peer has an identity.
@@ -42,7 +59,10 @@ pub fn words_of_act(rt: &impl Abort, alloc: Global, act: Option<Act>) -> String 
     let mut words = String::new(alloc);
     let told = match act {
         None => words.push_str("none"),
-        Some(Act::Dial { to, .. }) => write!(words, "dial {}", to.port),
+        Some(Act::Dial { to, why }) => {
+            let target = words_of_target(rt, alloc, to);
+            write!(words, "{} {target}", word_of_why(why))
+        }
         Some(Act::Shut { link }) => write!(words, "shut {link}"),
         Some(Act::Close { link, cause }) => {
             let number = cause.number().unwrap_or(0);
@@ -62,14 +82,25 @@ pub struct Drive {
 }
 
 impl Drive {
-    /// A link that was accepted, and what these responses made of what is held.
-    pub fn new(rt: &impl Abort, alloc: Global, responses: &[&str]) -> Drive {
+    /// A link that was accepted at this door, and what these responses made of what a node without doors holds.
+    pub fn new(rt: &impl Abort, alloc: Global, door: Door, responses: &[&str]) -> Drive {
+        Drive::beside(rt, alloc, OwnDoors::none(), door, responses)
+    }
+
+    /// One at a node with these doors.
+    pub fn beside(
+        rt: &impl Abort,
+        alloc: Global,
+        doors: OwnDoors,
+        door: Door,
+        responses: &[&str],
+    ) -> Drive {
         let network = text_of(rt, alloc, b"");
         let node = text_of(rt, alloc, b"n1");
         let mut drive = Drive {
             alloc,
-            relay: Relay::accepted(alloc, 7).ok().expect(rt, "memory"),
-            held: Held::new(alloc, network, node, OwnDoors::none()),
+            relay: Relay::accepted(alloc, door, 7).ok().expect(rt, "memory"),
+            held: Held::new(alloc, network, node, doors),
         };
         for digits in responses {
             drive.apply(rt, digits);
@@ -134,12 +165,12 @@ impl Drive {
         }
     }
 
-    /// It lives, three bytes came and went each way, and its dial and its opening were told.
-    pub fn live(&mut self, rt: &impl Abort) {
+    /// It lives, three bytes came and went each way, and this dial and its opening were told.
+    pub fn live(&mut self, rt: &impl Abort, dial: &str) {
         let note = self.front(rt, b"abc");
         self.notes(rt, note, "none");
         let act = words_of_act(rt, self.alloc, self.relay.next_act());
-        assert!(rt; act.as_bytes() == b"dial 9090".as_slice(), "{act}");
+        assert!(rt; act.as_bytes() == dial.as_bytes(), "{act}");
         self.relay.dialled(8);
         self.acts(rt, &[]);
         let opened = self.relay.up_opened();

@@ -1,4 +1,4 @@
-//! Tests of hb_relay: whole lives of a link of the plain door, and its refusals.
+//! Tests of hb_relay: whole lives of a captured link of either door, and its refusals.
 #![tactic(auto)]
 
 #[cfg(test)]
@@ -7,3 +7,5 @@ mod drive;
 mod lives;
 #[cfg(test)]
 mod octets;
+#[cfg(test)]
+mod outbound;

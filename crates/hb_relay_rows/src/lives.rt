@@ -1,14 +1,15 @@
-//! Whole lives of a link.
+//! Whole lives of a link of the plain door.
 
 use crate::drive::Drive;
 use crate::octets::{ALLOWS_NONE, KNOWN, NO_POLICY, NOT_HERE};
+use hb_base::Door;
 use hb_relay::Relay;
 use std::alloc::Global;
 use std::process::Abort;
 
 /// A header whose destination is refused with this status.
 fn is_refused(rt: &impl Abort, alloc: Global, responses: &[&str], status: &str, close: &str) {
-    let mut drive = Drive::new(rt, alloc, responses);
+    let mut drive = Drive::new(rt, alloc, Door::Plain, responses);
     let note = drive.front(rt, b"");
     drive.notes(rt, note, status);
     drive.acts(rt, &[close]);
@@ -37,8 +38,8 @@ fn refuses_by_what_is_held(rt: HostRuntime) {
 #[test]
 fn relays_both_ways_until_both_end(rt: HostRuntime) {
     let alloc = rt.alloc();
-    let mut drive = Drive::new(&rt, alloc, &[KNOWN, NO_POLICY]);
-    drive.live(&rt);
+    let mut drive = Drive::new(&rt, alloc, Door::Plain, &[KNOWN, NO_POLICY]);
+    drive.live(&rt, "plain 10.0.0.7:9090");
     let ended = drive.relay.ended();
     drive.notes(&rt, ended, "none");
     drive.acts(&rt, &["shut 8"]);
@@ -50,8 +51,8 @@ fn relays_both_ways_until_both_end(rt: HostRuntime) {
 #[test]
 fn ends_where_an_update_no_longer_admits_it(rt: HostRuntime) {
     let alloc = rt.alloc();
-    let mut drive = Drive::new(&rt, alloc, &[KNOWN, NO_POLICY]);
-    drive.live(&rt);
+    let mut drive = Drive::new(&rt, alloc, Door::Plain, &[KNOWN, NO_POLICY]);
+    drive.live(&rt, "plain 10.0.0.7:9090");
     let same = drive.update(&rt, KNOWN);
     drive.notes(&rt, same, "none");
     drive.acts(&rt, &[]);
@@ -63,13 +64,13 @@ fn ends_where_an_update_no_longer_admits_it(rt: HostRuntime) {
 #[test]
 fn tells_a_failed_dial_and_a_pending_end(rt: HostRuntime) {
     let alloc = rt.alloc();
-    let mut drive = Drive::new(&rt, alloc, &[KNOWN, NO_POLICY]);
+    let mut drive = Drive::new(&rt, alloc, Door::Plain, &[KNOWN, NO_POLICY]);
     let note = drive.front(&rt, b"");
     drive.notes(&rt, note, "none");
     let failed = drive.relay.dial_failed();
     drive.notes(&rt, failed, "502");
     drive.acts(&rt, &["close 7 up fault 0"]);
-    let mut drive = Drive::new(&rt, alloc, &[KNOWN, NO_POLICY]);
+    let mut drive = Drive::new(&rt, alloc, Door::Plain, &[KNOWN, NO_POLICY]);
     let note = drive.front(&rt, b"");
     drive.notes(&rt, note, "none");
     drive.relay.dialled(8);
@@ -81,8 +82,10 @@ fn tells_a_failed_dial_and_a_pending_end(rt: HostRuntime) {
 #[test]
 fn turns_away_without_room(rt: HostRuntime) {
     let alloc = rt.alloc();
-    let mut drive = Drive::new(&rt, alloc, &[KNOWN, NO_POLICY]);
-    drive.relay = Relay::turned_away(alloc, 7).ok().expect(&rt, "memory");
+    let mut drive = Drive::new(&rt, alloc, Door::Plain, &[KNOWN, NO_POLICY]);
+    drive.relay = Relay::turned_away(alloc, Door::Plain, 7)
+        .ok()
+        .expect(&rt, "memory");
     let wanted = drive.relay.wants();
     assert!(&rt; wanted == 0, "nothing is read of it");
     drive.acts(&rt, &["close 7 no room 0"]);
@@ -91,15 +94,15 @@ fn turns_away_without_room(rt: HostRuntime) {
 #[test]
 fn closes_an_unwhole_header(rt: HostRuntime) {
     let alloc = rt.alloc();
-    let mut drive = Drive::new(&rt, alloc, &[]);
+    let mut drive = Drive::new(&rt, alloc, Door::Plain, &[]);
     let fault = drive.come(&rt, b"G");
     drive.notes(&rt, fault, "none");
     drive.acts(&rt, &["close 7 front fault 1"]);
-    let mut drive = Drive::new(&rt, alloc, &[]);
+    let mut drive = Drive::new(&rt, alloc, Door::Plain, &[]);
     let ended = drive.relay.ended();
     drive.notes(&rt, ended, "none");
     drive.acts(&rt, &["close 7 front fault 0"]);
-    let mut drive = Drive::new(&rt, alloc, &[]);
+    let mut drive = Drive::new(&rt, alloc, Door::Plain, &[]);
     let broke = drive.relay.broke();
     drive.notes(&rt, broke, "none");
     drive.acts(&rt, &["close 7 peer gone 0"]);

@@ -2,6 +2,7 @@
 
 use crate::modelled::CUT;
 use crate::notation::{cut, spelled, text_of};
+use crate::outbound::OUTBOUND_CUT;
 use crate::plain::PLAIN_CUT;
 use crate::runs::{NOTHING_FAILS, assert_told, replay_words, told_of};
 use std::alloc::Global;
@@ -16,7 +17,7 @@ const WANT: &str = "0; <link1>344, sent 450, closed stopped<total1>; ";
 /// In how many ways the parts are cut by chance.
 const WAYS: u64 = 200;
 
-/// In how many ways each run over the inbound door is cut by chance.
+/// In how many ways each run over a door is cut by chance.
 const RUN_WAYS: u64 = 50;
 
 /// Where a part is cut.
@@ -170,7 +171,7 @@ fn assert_run_in_pieces(rt: &impl Abort, alloc: Global, run: &str) {
 /// The runs of this name in the tables, each cut in many ways.
 fn assert_cuts_of(rt: &(impl Abort + AllocGlobal), wanted: &str) {
     let mut found = false;
-    for table in [CUT, PLAIN_CUT] {
+    for table in [CUT, PLAIN_CUT, OUTBOUND_CUT] {
         for run in text_of(table).lines() {
             let (name, _) = cut(run, "; ");
             if name == wanted {
@@ -215,4 +216,19 @@ fn an_early_relay_cut_by_chance_leaves_the_report(rt: HostRuntime) {
 #[test]
 fn a_revoked_relay_cut_by_chance_leaves_the_report(rt: HostRuntime) {
     assert_cuts_of(&rt, "a relay that is revoked");
+}
+
+#[test]
+fn an_outbound_link_cut_by_chance_leaves_the_report(rt: HostRuntime) {
+    assert_cuts_of(&rt, "the whole life of an outbound link");
+}
+
+#[test]
+fn an_early_outbound_link_cut_by_chance_leaves_the_report(rt: HostRuntime) {
+    assert_cuts_of(&rt, "an outbound link that begins early");
+}
+
+#[test]
+fn an_outbound_link_that_stays_cut_by_chance_leaves_the_report(rt: HostRuntime) {
+    assert_cuts_of(&rt, "an outbound link that updates leave");
 }

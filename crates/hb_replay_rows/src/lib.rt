@@ -14,6 +14,8 @@ mod modelled;
 #[cfg(test)]
 mod notation;
 #[cfg(test)]
+mod outbound;
+#[cfg(test)]
 mod plain;
 #[cfg(test)]
 mod rows;

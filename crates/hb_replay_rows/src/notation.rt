@@ -1,6 +1,7 @@
 //! The notation of the tables.
 
 use crate::modelled::MODELLED_PARTS;
+use crate::outbound::OUTBOUND_PARTS;
 use crate::plain::PLAIN_PARTS;
 use crate::rows::PARTS;
 use crate::tunnels::TUNNEL_PARTS;
@@ -34,7 +35,13 @@ fn part_among(parts: &'static [u8], name: &str) -> Option<&'static str> {
 
 /// The text of a part; nothing where no part has the name.
 fn part_of(name: &str) -> &'static str {
-    for parts in [PARTS, TUNNEL_PARTS, MODELLED_PARTS, PLAIN_PARTS] {
+    for parts in [
+        PARTS,
+        TUNNEL_PARTS,
+        MODELLED_PARTS,
+        PLAIN_PARTS,
+        OUTBOUND_PARTS,
+    ] {
         if let Some(text) = part_among(parts, name) {
             return text;
         }

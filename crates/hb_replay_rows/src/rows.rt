@@ -153,6 +153,9 @@ iscovery 10.0.0.1:15010; <live>; 0; total: 1 links, 0 accepted, 0 revoked, 0 up,
 words: a plain door; <usual> --plain 0.0.0.0:15001; <live>; 0; <link1>19, sent 320, closed stopped<total1>; \n\
 words: a plain door in front, and an inbound one; --plain=[::1]:15001 <usual> --inbound [::1]:15008; <live>; 0; <link1\
 >19, sent 320, closed stopped<total1>; \n\
+words: an outbound door; <usual> --outbound 0.0.0.0:15001; <live>; 0; <link1>19, sent 320, closed stopped<total1>; \n\
+words: three doors; --outbound=[::1]:15001 <usual> --plain [::1]:15006 --inbound=[::1]:15008; <live>; 0; <link1>19, se\
+nt 320, closed stopped<total1>; \n\
 words: an id of equals signs; --node n1 --id == --discovery 10.0.0.1:15010 --trace; <live>; 0; <dialled1><opening>|wen\
 t 1 00007400000000000100000000320a040a023d3d122a<address>00000000380a040a023d3d1230<policy>|came 1 <set><ok>|went 1 <a\
 ck>|closed 1 stopped|<link1>19, sent 320, closed stopped<total1>; \n\
@@ -200,12 +203,12 @@ ed stopped<total2>; \n\
 a link is refused behind opening; <usual> --trace; {'open':1}|{'refuse':1}|<wake>{'tick':true}|{'refuse':2}|{'open':2}\
 |<wake>; 0; dialled 1 10.0.0.1:15010|broke 1|closed 1 broken|tick|<dialled2><opening>|went 2 <firsts>|closed 2 stopped\
 |<link1>0, sent 0, closed broken|<link2>0, sent 311, closed stopped<total2>; \n\
-a link is refused where it is open; <usual> --trace; <live>{'refuse':1}|<piece><m1><on1><wake>; 0; <lived>came 1 <m1>|\
-went 1 <ack_x1>|closed 1 stopped|<link1>171, sent 382, closed stopped<total1>; \n\
 ";
 
 /// Runs.
 pub const ROWS_2: &[u8] = b"\
+a link is refused where it is open; <usual> --trace; <live>{'refuse':1}|<piece><m1><on1><wake>; 0; <lived>came 1 <m1>|\
+went 1 <ack_x1>|closed 1 stopped|<link1>171, sent 382, closed stopped<total1>; \n\
 each link ends at once; <usual> --trace; {'link':1,'room':0}|{'link':2,'room':0}|{'end':1}|<open>{'end':2}|<again>{'ti\
 ck':true}|; 0; dialled 1 10.0.0.1:15010|opened 1|ended 1|closed 1 broken|tick|dialled 2 10.0.0.1:15010|opened 2|ended \
 2|closed 2 broken|tick|dialled 3 10.0.0.1:15010|closed 3 stopped|<link1>0, sent 0, closed broken|<link2>0, sent 0, clo\
@@ -293,12 +296,12 @@ no header; <usual>; <open><piece><set><on1><wake><piece>000000010400000001<on1><
 closed discovery|<link2>0, sent 311, closed stopped<total2>; \n\
 a status of two digits; <usual>; <open><piece><set><on1><wake><piece>00000401040000000108023230<on1><wake><again>; 0; \
 <link1>22, sent 320, closed discovery|<link2>0, sent 311, closed stopped<total2>; \n\
-a status of four digits; <usual>; <open><piece><set><on1><wake><piece>000006010400000001080432303030<on1><wake><again>\
-; 0; <link1>24, sent 320, closed discovery|<link2>0, sent 311, closed stopped<total2>; \n\
 ";
 
 /// Runs.
 pub const ROWS_3: &[u8] = b"\
+a status of four digits; <usual>; <open><piece><set><on1><wake><piece>000006010400000001080432303030<on1><wake><again>\
+; 0; <link1>24, sent 320, closed discovery|<link2>0, sent 311, closed stopped<total2>; \n\
 a status that is no number; <usual>; <open><piece><set><on1><wake><piece>0000050104000000010803322030<on1><wake><again\
 >; 0; <link1>23, sent 320, closed discovery|<link2>0, sent 311, closed stopped<total2>; \n\
 a signed status; <usual>; <open><piece><set><on1><wake><piece>00000501040000000108032b3230<on1><wake><again>; 0; <link\
@@ -1025,9 +1028,10 @@ pub const REFUSED: &[u8] = b"\
 --node|n1|--id|z1|--discovery|10.0.0.1:15010|--inbound=0.0.0.0:15008|--inbound|0.0.0.0:15008|\n\
 --inbound|0.0.0.0:15008|--node|n1|--id|z1|--discovery|10.0.0.1:15010|--inbound=[::1]:15008|\n\
 --inbound|0.0.0.0:15008|--inbound|0.0.0.0:15008|\n\
+--inbound|0.0.0.0:15008|--node|n1|--id|z1|--discovery|10.0.0.1:15010|--inbound|\n\
+--inbound|0.0.0.0:15008|--node|n1|--id|z1|--discovery|10.0.0.1:15010|--inbound|0.0.0.0|\n\
 = --inbound has no value\n\
 --node|n1|--id|z1|--discovery|10.0.0.1:15010|--inbound|\n\
---inbound|0.0.0.0:15008|--node|n1|--id|z1|--discovery|10.0.0.1:15010|--inbound|\n\
 = the value of --inbound is neither IPv4:PORT nor [IPv6]:PORT\n\
 --node|n1|--id|z1|--discovery|10.0.0.1:15010|--inbound||\n\
 --node|n1|--id|z1|--discovery|10.0.0.1:15010|--inbound=|\n\
@@ -1055,10 +1059,32 @@ pub const REFUSED: &[u8] = b"\
 --inbound=15008|--node|n1|--id|z1|--discovery|10.0.0.1:15010|\n\
 --node|n1|--id|z1|--discovery|10.0.0.1:15010|--inbound|inbound|\n\
 --inbound=inbound|--node|n1|--id|z1|--discovery|10.0.0.1:15010|\n\
---inbound|0.0.0.0:15008|--node|n1|--id|z1|--discovery|10.0.0.1:15010|--inbound|0.0.0.0|\n\
+= --outbound stands twice\n\
+--node|n1|--id|z1|--discovery|10.0.0.1:15010|--outbound|0.0.0.0:15001|--outbound|0.0.0.0:15001|\n\
+--node|n1|--id|z1|--discovery|10.0.0.1:15010|--outbound=0.0.0.0:15001|--outbound|0.0.0.0:15001|\n\
+= --outbound has no value\n\
+--node|n1|--id|z1|--discovery|10.0.0.1:15010|--outbound|\n\
+= the value of --outbound is neither IPv4:PORT nor [IPv6]:PORT\n\
+--node|n1|--id|z1|--discovery|10.0.0.1:15010|--outbound||\n\
+--node|n1|--id|z1|--discovery|10.0.0.1:15010|--outbound=|\n\
+--node|n1|--id|z1|--discovery|10.0.0.1:15010|--outbound|-|\n\
+--node|n1|--id|z1|--discovery|10.0.0.1:15010|--outbound=-|\n\
+--node|n1|--id|z1|--discovery|10.0.0.1:15010|--outbound|-1|\n\
+--node|n1|--id|z1|--discovery|10.0.0.1:15010|--outbound=-1|\n\
+--node|n1|--id|z1|--discovery|10.0.0.1:15010|--outbound|--trace|\n\
+--node|n1|--id|z1|--discovery|10.0.0.1:15010|--outbound=--trace|\n\
+--node|n1|--id|z1|--discovery|10.0.0.1:15010|--outbound=0.0.0.0|\n\
+--node|n1|--id|z1|--discovery|10.0.0.1:15010|--outbound=10.0.0.1:0|\n\
+--node|n1|--id|z1|--discovery|10.0.0.1:15010|--outbound=10.0.0.1:99999|\n\
+--node|n1|--id|z1|--discovery|10.0.0.1:15010|--outbound=[::]|\n\
+--node|n1|--id|z1|--discovery|10.0.0.1:15010|--outbound=::1:15008|\n\
+--node|n1|--id|z1|--discovery|10.0.0.1:15010|--outbound=[0.0.0.0]:15008|\n\
+--node|n1|--id|z1|--discovery|10.0.0.1:15010|--outbound=:15008|\n\
+--node|n1|--id|z1|--discovery|10.0.0.1:15010|--outbound=15008|\n\
+--node|n1|--id|z1|--discovery|10.0.0.1:15010|--outbound=inbound|\n\
 = --plain stands twice\n\
---node|n1|--id|z1|--discovery|10.0.0.1:15010|--plain|0.0.0.0:15001|--plain|0.0.0.0:15001|\n\
---node|n1|--id|z1|--discovery|10.0.0.1:15010|--plain=0.0.0.0:15001|--plain|0.0.0.0:15001|\n\
+--node|n1|--id|z1|--discovery|10.0.0.1:15010|--plain|0.0.0.0:15006|--plain|0.0.0.0:15006|\n\
+--node|n1|--id|z1|--discovery|10.0.0.1:15010|--plain=0.0.0.0:15006|--plain|0.0.0.0:15006|\n\
 = --plain has no value\n\
 --node|n1|--id|z1|--discovery|10.0.0.1:15010|--plain|\n\
 = the value of --plain is neither IPv4:PORT nor [IPv6]:PORT\n\
@@ -1158,38 +1184,57 @@ pub const REFUSED: &[u8] = b"\
 = --brief stands twice\n\
 --node|n1|--id|z1|--discovery|10.0.0.1:15010|--brief|--brief|\n\
 --brief|--node|n1|--id|z1|--discovery|10.0.0.1:15010|--brief|\n\
-= unknown option\n\
+= unknown option '--'\n\
 --node|n1|--id|z1|--discovery|10.0.0.1:15010|--|\n\
+= unknown option '-h'\n\
 --node|n1|--id|z1|--discovery|10.0.0.1:15010|-h|\n\
+= unknown option '--help'\n\
 --node|n1|--id|z1|--discovery|10.0.0.1:15010|--help|\n\
+= unknown option '-'\n\
 --node|n1|--id|z1|--discovery|10.0.0.1:15010|-|\n\
+= --trace takes no value\n\
 --node|n1|--id|z1|--discovery|10.0.0.1:15010|--trace=|\n\
 --node|n1|--id|z1|--discovery|10.0.0.1:15010|--trace=true|\n\
+= unknown option '--ticks'\n\
 --node|n1|--id|z1|--discovery|10.0.0.1:15010|--ticks|\n\
+= unknown option '--inbounds'\n\
 --node|n1|--id|z1|--discovery|10.0.0.1:15010|--inbounds|\n\
+= unknown option '--in'\n\
 --node|n1|--id|z1|--discovery|10.0.0.1:15010|--in|\n\
+= unknown option '--outbound-'\n\
+--node|n1|--id|z1|--discovery|10.0.0.1:15010|--outbound-|\n\
+= unknown option '--out'\n\
+--node|n1|--id|z1|--discovery|10.0.0.1:15010|--out|\n\
+= unknown option '--nod'\n\
 --node|n1|--id|z1|--discovery|10.0.0.1:15010|--nod|\n\
+= unknown option '--Node'\n\
 --node|n1|--id|z1|--discovery|10.0.0.1:15010|--Node|\n\
+= unknown option '-node=n1'\n\
 --node|n1|--id|z1|--discovery|10.0.0.1:15010|-node=n1|\n\
+= unknown option '--ticks=1'\n\
 --node|n1|--id|z1|--discovery|10.0.0.1:15010|--ticks=1|\n\
+= unknown option '--Inbound=0.0.0.0:15008'\n\
 --node|n1|--id|z1|--discovery|10.0.0.1:15010|--Inbound=0.0.0.0:15008|\n\
+= unknown option '-inbound=0.0.0.0:15008'\n\
 --node|n1|--id|z1|--discovery|10.0.0.1:15010|-inbound=0.0.0.0:15008|\n\
-= replay takes options only\n\
+= unexpected word '=n1'\n\
 --node|n1|--id|z1|--discovery|10.0.0.1:15010|=n1|\n\
+= unexpected word 'trace'\n\
 --node|n1|--id|z1|--discovery|10.0.0.1:15010|trace|\n\
 trace|--node|n1|--id|z1|--discovery|10.0.0.1:15010|\n\
+= unexpected word 'n1'\n\
 --node|n1|--id|z1|--discovery|10.0.0.1:15010|n1|\n\
 n1|--node|n1|--id|z1|--discovery|10.0.0.1:15010|\n\
+= unexpected word ''\n\
 --node|n1|--id|z1|--discovery|10.0.0.1:15010||\n\
 |--node|n1|--id|z1|--discovery|10.0.0.1:15010|\n\
+= unexpected word 'help'\n\
 --node|n1|--id|z1|--discovery|10.0.0.1:15010|help|\n\
 help|--node|n1|--id|z1|--discovery|10.0.0.1:15010|\n\
 ";
 
 /// The forms of accepted words, which are told behind each reason.
 pub const USAGE: &[u8] = b"\
-(usage: hbone check --node NODE [--network NETWORK] SOURCE IDENTITY TARGET, hbone show, hbone replay --node NODE --id \
-ID --discovery TARGET [--inbound TARGET] [--plain TARGET] [--network NETWORK] [--hbone-port PORT] [--tunnels COUNT] [-\
--turns COUNT] [--trace] [--brief], or hbone serve --node NODE --id ID --discovery TARGET [--inbound TARGET] [--plain T\
-ARGET] [--network NETWORK] [--hbone-port PORT] [--tunnels COUNT] [--turns COUNT] [--ticks COUNT])\n\
+(usage: hbone replay --node NODE --id ID --discovery TARGET [--inbound TARGET] [--outbound TARGET] [--plain TARGET] [-\
+-network NETWORK] [--hbone-port PORT] [--tunnels COUNT] [--turns COUNT] [--trace] [--brief])\n\
 ";

@@ -56,8 +56,8 @@ check|--node|n1|SOURCE|IDENTITY|TARGET|; WORKLOAD; 0; 0; 2; 0; 5; 7 "al" "hbone"
 check|; WORKLOAD; 0; 0; 64; 1; 64; 2 "" ""
 check|; WORKLOAD; 0; 0; 64; 0; 13; 2 "" "hbone: words:"
 # Words that aren't accepted, and reads and writes that fail.
-chec|; WORKLOAD; 1; 0; 64; 0; 1024; 2 "" "hbone: words: unknown command (usage: hbone check --node NODE [--network NETWORK] SOURCE IDENTITY TARGET, hbone show, hbone replay --node NODE --id ID --discovery TARGET [--inbound TARGET] [--plain TARGET] [--network NETWORK] [--hbone-port PORT] [--tunnels COUNT] [--turns COUNT] [--trace] [--brief], or hbone serve --node NODE --id ID --discovery TARGET [--inbound TARGET] [--plain TARGET] [--network NETWORK] [--hbone-port PORT] [--tunnels COUNT] [--turns COUNT] [--ticks COUNT])\n"
-chec|; 00; 1; 1; 0; 0; 1024; 2 "" "hbone: words: unknown command (usage: hbone check --node NODE [--network NETWORK] SOURCE IDENTITY TARGET, hbone show, hbone replay --node NODE --id ID --discovery TARGET [--inbound TARGET] [--plain TARGET] [--network NETWORK] [--hbone-port PORT] [--tunnels COUNT] [--turns COUNT] [--trace] [--brief], or hbone serve --node NODE --id ID --discovery TARGET [--inbound TARGET] [--plain TARGET] [--network NETWORK] [--hbone-port PORT] [--tunnels COUNT] [--turns COUNT] [--ticks COUNT])\n"
+chec|; WORKLOAD; 1; 0; 64; 0; 1024; 2 "" "hbone: words: unknown command 'chec' (usage: hbone check --node NODE [--network NETWORK] SOURCE IDENTITY TARGET, hbone show, hbone make N [--run], hbone replay --node NODE --id ID --discovery TARGET [--inbound TARGET] [--outbound TARGET] [--plain TARGET] [--network NETWORK] [--hbone-port PORT] [--tunnels COUNT] [--turns COUNT] [--trace] [--brief], or hbone serve --node NODE --id ID --discovery TARGET [--inbound TARGET] [--outbound TARGET] [--plain TARGET] [--network NETWORK] [--hbone-port PORT] [--tunnels COUNT] [--turns COUNT] [--ticks COUNT])\n"
+chec|; 00; 1; 1; 0; 0; 1024; 2 "" "hbone: words: unknown command 'chec' (usage: hbone check --node NODE [--network NETWORK] SOURCE IDENTITY TARGET, hbone show, hbone make N [--run], hbone replay --node NODE --id ID --discovery TARGET [--inbound TARGET] [--outbound TARGET] [--plain TARGET] [--network NETWORK] [--hbone-port PORT] [--tunnels COUNT] [--turns COUNT] [--trace] [--brief], or hbone serve --node NODE --id ID --discovery TARGET [--inbound TARGET] [--outbound TARGET] [--plain TARGET] [--network NETWORK] [--hbone-port PORT] [--tunnels COUNT] [--turns COUNT] [--ticks COUNT])\n"
 check|; WORKLOAD; 1; 1; 0; 1; 0; 2 "" ""
 # What is held is shown, to the last byte.
 show|; WORKLOAD; 0; 0; 230; 0; 64; 0 "{\"applied\":1,\"kind\":\"address\",\"nonce\":\"x1\",\"refused\":[],\"removed\":0}\n{\"addresses\":[\"10.0.0.7\"],\"kind\":\"workload\",\"name\":\"u1\",\"node\":\"n1\",\"record\":\"0a1f0a037765621201611a040a00000728014a026e31820103612f70a201027531\",\"version\":\"1\"}\n" ""
@@ -87,7 +87,7 @@ show|; 00; 0; 0; 512; 1; 64; 3 "" ""
 show|; 00; 0; 0; 512; 0; 10; 3 "" "hbone: mes"
 show|; WORKLOAD; 0; 1; 512; 1; 64; 7 "" ""
 show|; WORKLOAD; 1; 1; 0; 1; 0; 6 "" ""
-show|x|; WORKLOAD; 1; 1; 0; 0; 1024; 2 "" "hbone: words: show takes no words (usage: hbone check --node NODE [--network NETWORK] SOURCE IDENTITY TARGET, hbone show, hbone replay --node NODE --id ID --discovery TARGET [--inbound TARGET] [--plain TARGET] [--network NETWORK] [--hbone-port PORT] [--tunnels COUNT] [--turns COUNT] [--trace] [--brief], or hbone serve --node NODE --id ID --discovery TARGET [--inbound TARGET] [--plain TARGET] [--network NETWORK] [--hbone-port PORT] [--tunnels COUNT] [--turns COUNT] [--ticks COUNT])\n"
+show|x|; WORKLOAD; 1; 1; 0; 0; 1024; 2 "" "hbone: words: unexpected word 'x' (usage: hbone show)\n"
 # All of them fail.
 check|--node|n1|SOURCE|IDENTITY|TARGET|; WORKLOAD; 1; 1; 0; 1; 0; 6 "" ""
 check|--node|n1|SOURCE|IDENTITY|TARGET|; WORKLOAD; 0; 1; 0; 1; 0; 7 "" """#;

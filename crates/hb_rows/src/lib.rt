@@ -17,6 +17,8 @@ mod policies;
 #[cfg(test)]
 mod refusals;
 #[cfg(test)]
+mod refused_words;
+#[cfg(test)]
 mod rows;
 #[cfg(test)]
 mod runs;

@@ -52,13 +52,32 @@ pub const UPDATE_TAKEN: &[u8] = b"\
 pub const FREED: &[u8] = b"\
 \x00\x00@\x00\x00\x00\x00\x00\x01\x00\x00\x00\x00;\x220type.googleapis.com/istio.security.Authorization2\x03a/p*\x02x9";
 
-/// The program's answer to it.
-pub const FREED_TAKEN: &[u8] = b"\
+/// A response with a policy that denies each peer.
+pub const DENIED: &[u8] = b"\
+\x00\x00\x85\x00\x00\x00\x00\x00\x01\x00\x00\x00\x00\x80\x12H\x0a\x011\x12>\x0a0type.googleapis.com/istio.security.Autho\
+rization\x12\x0a\x0a\x01d\x12\x01a\x20\x01*\x00\x1a\x03a/d\x220type.googleapis.com/istio.security.Authorization*\x02x9";
+
+/// The program's answer to either.
+pub const CHANGE_TAKEN: &[u8] = b"\
 \x00\x00;\x00\x00\x00\x00\x00\x01\x00\x00\x00\x006\x120type.googleapis.com/istio.security.Authorization2\x02x9";
 
-/// The header of a connection to the plain door, without an identity, up to the port of its destination, which is this machine.
+/// A response in which the workload u1 doesn't take HBONE any more.
+pub const STRAIGHT: &[u8] = b"\
+\x00\x00\x88\x00\x00\x00\x00\x00\x01\x00\x00\x00\x00\x83\x12Q\x0a\x011\x12H\x0a*type.googleapis.com/istio.workload.Addre\
+ss\x12\x1a\x0a\x18\x0a\x03web\x12\x01a\x1a\x04\x7f\x00\x00\x01J\x02n1\x82\x01\x03a/p\x1a\x02u1\x22*type.googleapis.com/i\
+stio.workload.Address*\x02x9";
+
+/// The program's answer to it.
+pub const STRAIGHT_TAKEN: &[u8] = b"\
+\x00\x005\x00\x00\x00\x00\x00\x01\x00\x00\x00\x000\x12*type.googleapis.com/istio.workload.Address2\x02x9";
+
+/// The header of a captured connection, without an identity, up to the port of its destination, which is this machine.
 pub const HEADER: &[u8] = b"\
 \x0d\x0a\x0d\x0a\x00\x0d\x0aQUIT\x0a!\x11\x00\x0c\x0a\x00\x00\x09\x7f\x00\x00\x01\x0f\xa0";
+
+/// The same with this machine as its source too.
+pub const LOCAL_HEADER: &[u8] = b"\
+\x0d\x0a\x0d\x0a\x00\x0d\x0aQUIT\x0a!\x11\x00\x0c\x7f\x00\x00\x01\x7f\x00\x00\x01\x0f\xa0";
 
 /// The front's header, and the peer's opening with a request on stream 1 for a port of this machine.
 pub const REQUEST: &[u8] = b"\

@@ -5,14 +5,18 @@ use std::io::{self, ErrorKind};
 use std::net::TcpStream;
 use std::process::Abort;
 
-/// Octets with the digits of a port in the places of the marks.
+/// Octets with the digits of a port in the places of each five marks.
 pub fn with_port(alloc: Global, octets: &[u8], port: u16) -> Result<Vec<u8>, AllocError> {
     let digits = format!(in alloc; "{port}")?;
-    let mut digits = digits.as_bytes().iter();
+    let mut place = 0usize;
     let mut spelled = Vec::new(alloc);
     for octet in octets {
         let octet = match *octet {
-            b'#' => digits.next().copied().unwrap_or(b'#'),
+            b'#' => {
+                let digit = digits.as_bytes().get(place).copied();
+                place = if place < 4 { place + 1 } else { 0 };
+                digit.unwrap_or(b'#')
+            }
             octet => octet,
         };
         spelled.push(octet)?;

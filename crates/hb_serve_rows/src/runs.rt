@@ -1,8 +1,8 @@
 //! The runs.
 
 use crate::frames::{
-    ADMITTED, FREED, FREED_TAKEN, HELLO, LAST, PING, POLICY, POLICY_TAKEN, PONG, REFUSED, REVOKED,
-    UPDATE, UPDATE_TAKEN,
+    ADMITTED, CHANGE_TAKEN, DENIED, FREED, HEADER, HELLO, LAST, LOCAL_HEADER, PING, POLICY,
+    POLICY_TAKEN, PONG, REFUSED, REVOKED, STRAIGHT, STRAIGHT_TAKEN, UPDATE, UPDATE_TAKEN,
 };
 use crate::octets::{assert_next, is_closed, next_data, pattern};
 use crate::serving::{Serving, next_at};
@@ -128,35 +128,56 @@ verdict 2/1 400 10.0.0.9 cluster.local/ns/a/sa/c 127.0.0.1:#####\n",
     Ok(())
 }
 
-/// A relay to the upstream, once each peer is admitted, by which octets went up: its upstream's end, and its peer's.
+/// A relay from a door to the upstream, by which octets went up: its upstream's end, and its peer's.
 fn relay(
     rt: &(impl Net<Stream = TcpStream> + Abort + AllocGlobal),
     serving: &Serving,
-    plane: &mut TcpStream,
+    door: u16,
+    header: &[u8],
 ) -> Result<(TcpStream, TcpStream), Fail> {
-    io::Write::write_all(plane, FREED)?;
-    assert_next(rt, plane, FREED_TAKEN, "the update's answer")?;
-    let mut peer = serving.connect_plain(rt, serving.ports.upstream)?;
+    let mut peer = serving.connect(rt, door, header)?;
     io::Write::write_all(&mut peer, b"hello")?;
     let mut upstream = next_at(&serving.upstream)?;
     assert_next(rt, &mut upstream, b"hello", "what goes up")?;
     Ok((upstream, peer))
 }
 
-#[test]
-fn a_relay_lives_from_its_header_to_its_end(rt: HostRuntime) -> Result<(), Fail> {
-    let serving = Serving::begin(&rt, rt.clone()?)?;
-    let mut plane = serving.apply_all(&rt)?;
-    let (mut upstream, mut peer) = relay(&rt, &serving, &mut plane)?;
+/// A relay from the plain door, once each peer is admitted.
+fn plain_relay(
+    rt: &(impl Net<Stream = TcpStream> + Abort + AllocGlobal),
+    serving: &Serving,
+    plane: &mut TcpStream,
+) -> Result<(TcpStream, TcpStream), Fail> {
+    io::Write::write_all(plane, FREED)?;
+    assert_next(rt, plane, CHANGE_TAKEN, "the update's answer")?;
+    relay(rt, serving, serving.ports.plain, HEADER)
+}
+
+/// The upstream sends octets by a relay, then the peer ends its way, and the upstream its own behind its last octets.
+fn relay_to_the_end(
+    rt: &(impl Abort + AllocGlobal),
+    upstream: TcpStream,
+    peer: &mut TcpStream,
+) -> Result<(), Fail> {
+    let mut upstream = upstream;
     let sent = pattern(rt.alloc(), 100_000)?;
     io::Write::write_all(&mut upstream, sent.as_slice())?;
-    assert_next(&rt, &mut peer, sent.as_slice(), "what goes down")?;
+    assert_next(rt, peer, sent.as_slice(), "what goes down")?;
     peer.shutdown(Shutdown::Write)?;
     assert!(rt; is_closed(&mut upstream));
     io::Write::write_all(&mut upstream, b"bye")?;
     drop(upstream);
-    assert_next(&rt, &mut peer, b"bye", "the last octets")?;
-    assert!(rt; is_closed(&mut peer));
+    assert_next(rt, peer, b"bye", "the last octets")?;
+    assert!(rt; is_closed(peer));
+    Ok(())
+}
+
+#[test]
+fn a_relay_lives_from_its_header_to_its_end(rt: HostRuntime) -> Result<(), Fail> {
+    let serving = Serving::begin(&rt, rt.clone()?)?;
+    let mut plane = serving.apply_all(&rt)?;
+    let (upstream, mut peer) = plain_relay(&rt, &serving, &mut plane)?;
+    relay_to_the_end(&rt, upstream, &mut peer)?;
     let port = serving.ports.upstream;
     serving.assert_ends(
         &rt,
@@ -172,7 +193,7 @@ verdict 2/0 200 10.0.0.9 - 127.0.0.1:#####\nend 2/0 done up 5 down 100003\n",
 fn an_update_revokes_a_relay(rt: HostRuntime) -> Result<(), Fail> {
     let serving = Serving::begin(&rt, rt.clone()?)?;
     let mut plane = serving.apply_all(&rt)?;
-    let (mut upstream, mut peer) = relay(&rt, &serving, &mut plane)?;
+    let (mut upstream, mut peer) = plain_relay(&rt, &serving, &mut plane)?;
     io::Write::write_all(&mut upstream, b"world")?;
     assert_next(&rt, &mut peer, b"world", "what goes down")?;
     io::Write::write_all(&mut plane, POLICY)?;
@@ -194,7 +215,7 @@ verdict 2/0 200 10.0.0.9 - 127.0.0.1:#####\nend 2/0 revoked up 5 down 5\n",
 fn a_connection_without_an_identity_is_refused(rt: HostRuntime) -> Result<(), Fail> {
     let serving = Serving::begin(&rt, rt.clone()?)?;
     let mut plane = serving.apply_all(&rt)?;
-    let mut peer = serving.connect_plain(&rt, serving.ports.upstream)?;
+    let mut peer = serving.connect(&rt, serving.ports.plain, HEADER)?;
     assert!(rt; is_closed(&mut peer));
     let port = serving.ports.upstream;
     serving.assert_ends(
@@ -202,6 +223,31 @@ fn a_connection_without_an_identity_is_refused(rt: HostRuntime) -> Result<(), Fa
         port,
         "0; total: 2 links, 0 accepted, 0 revoked, 0 up, 0 down\n; ; \
 verdict 2/0 401 10.0.0.9 - 127.0.0.1:#####\n",
+    )?;
+    assert!(rt; is_closed(&mut plane));
+    Ok(())
+}
+
+#[test]
+fn an_outbound_relay_outlives_an_update_that_denies_each_peer(rt: HostRuntime) -> Result<(), Fail> {
+    let serving = Serving::begin(&rt, rt.clone()?)?;
+    let mut plane = serving.apply_all(&rt)?;
+    io::Write::write_all(&mut plane, STRAIGHT)?;
+    assert_next(&rt, &mut plane, STRAIGHT_TAKEN, "the workload's answer")?;
+    let (upstream, mut peer) = relay(&rt, &serving, serving.ports.outbound, LOCAL_HEADER)?;
+    // The source of this one is no workload of the node.
+    let mut other = serving.connect(&rt, serving.ports.outbound, HEADER)?;
+    assert!(rt; is_closed(&mut other));
+    io::Write::write_all(&mut plane, DENIED)?;
+    assert_next(&rt, &mut plane, CHANGE_TAKEN, "the update's answer")?;
+    relay_to_the_end(&rt, upstream, &mut peer)?;
+    let port = serving.ports.upstream;
+    serving.assert_ends(
+        &rt,
+        port,
+        "0; total: 4 links, 1 accepted, 0 revoked, 5 up, 100003 down\n; ; \
+verdict 2/0 200 127.0.0.1 - 127.0.0.1:#####\nverdict 4/0 503 10.0.0.9 - 127.0.0.1:#####\n\
+end 2/0 done up 5 down 100003\n",
     )?;
     assert!(rt; is_closed(&mut plane));
     Ok(())

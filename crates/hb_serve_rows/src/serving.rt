@@ -1,8 +1,7 @@
 //! A run of `serve` in a thread of its own, and the other ends of its connections.
 
 use crate::frames::{
-    ANSWERED, ASKED, GREETED, HEADER, POLICY, POLICY_TAKEN, REQUEST, SETTLED, WORKLOAD,
-    WORKLOAD_TAKEN,
+    ANSWERED, ASKED, GREETED, POLICY, POLICY_TAKEN, REQUEST, SETTLED, WORKLOAD, WORKLOAD_TAKEN,
 };
 use crate::octets::{assert_next, with_port};
 use hb_audit::Audits;
@@ -20,12 +19,13 @@ use std::test::Fail;
 use std::thread::{self, JoinHandle, Threads};
 use std::time::Duration;
 
-/// The control plane's port, those of the inbound door and the plain one, and that of an upstream, each of five digits.
+/// The control plane's port, those of the inbound door, the plain one and the outbound one, and that of an upstream, each of five digits.
 #[derive(Clone, Copy)]
 pub struct Ports {
     pub plane: u16,
     pub door: u16,
     pub plain: u16,
+    pub outbound: u16,
     pub upstream: u16,
 }
 
@@ -56,9 +56,16 @@ fn listener(net: &HostRuntime) -> io::Result<(TcpListener, u16)> {
 
 /// The words of the run. Its fifth tick ends it.
 fn words_of(rt: &HostRuntime, ports: Ports) -> io::Result<Vec<String>> {
-    let (plane, door, plain) = (ports.plane, ports.door, ports.plain);
+    let Ports {
+        plane,
+        door,
+        plain,
+        outbound,
+        ..
+    } = ports;
     let text = format!(in rt.alloc();
-        "serve --node n1 --id z1 --discovery 127.0.0.1:{plane} --inbound 127.0.0.1:{door} --plain 127.0.0.1:{plain} --ticks 5"
+        "serve --node n1 --id z1 --discovery 127.0.0.1:{plane} --inbound 127.0.0.1:{door} --plain 127.0.0.1:{plain} \
+--outbound 127.0.0.1:{outbound} --ticks 5"
     )?;
     let mut words = Vec::new(rt.alloc());
     for word in text.as_str().split(' ') {
@@ -134,10 +141,12 @@ impl Serving {
         let (upstream, upstream_port) = listener(&net)?;
         let (_, door) = listener(&net)?;
         let (_, plain) = listener(&net)?;
+        let (_, outbound) = listener(&net)?;
         let ports = Ports {
             plane: plane_port,
             door,
             plain,
+            outbound,
             upstream: upstream_port,
         };
         let run = thread::spawn(rt, move || served_to_its_end(&net, ports))?;
@@ -177,16 +186,17 @@ impl Serving {
         Ok(peer)
     }
 
-    /// A connection to the plain door, whose header names a port of this machine.
-    pub fn connect_plain(
+    /// A connection to a door, with such a header for the upstream.
+    pub fn connect(
         &self,
         rt: &impl Net<Stream = TcpStream>,
-        port: u16,
+        door: u16,
+        header: &[u8],
     ) -> Result<TcpStream, Fail> {
-        let mut peer = TcpStream::connect(rt, at(self.ports.plain))?;
+        let mut peer = TcpStream::connect(rt, at(door))?;
         limit_waits(&peer)?;
-        io::Write::write_all(&mut peer, HEADER)?;
-        io::Write::write_all(&mut peer, &port.to_be_bytes())?;
+        io::Write::write_all(&mut peer, header)?;
+        io::Write::write_all(&mut peer, &self.ports.upstream.to_be_bytes())?;
         Ok(peer)
     }
 

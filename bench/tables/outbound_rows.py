@@ -1,0 +1,369 @@
+#!/usr/bin/python3
+"""Prints crates/hb_replay_rows/src/outbound.rt: runs of `hbone replay --outbound`, each with its status, its whole output and its error
+text.
+
+bench/tables/tunnel_model.py, which knows the pages alone, gives the answers; those of the first rows are worked out by hand too. A row has
+to end the same by every choice that the pages leave open.
+
+    python3 bench/tables/outbound_rows.py > crates/hb_replay_rows/src/outbound.rt
+"""
+import ipaddress
+
+import modelled_rows as modelled
+import plain_rows as plain
+import replay_rows
+import routes
+import tunnel_model
+import tunnel_rows
+from modelled_rows import ALLOW, DENY, TICK, ask, policies, workloads
+from tunnel_rows import WAKE, came, data, marked, on, room, single, woken
+
+DOOR = "--outbound 0.0.0.0:15001"
+ALL = "--inbound 0.0.0.0:15008 --plain 0.0.0.0:15006 " + DOOR
+ACCEPT = '{"accept":"outbound"}\n'
+NOBODY = plain.NOBODY
+ROWS = []
+
+# Resources, none of which has a network: a source; workloads without HBONE, with it, and with a waypoint; services, of which the first has
+# an endpoint without HBONE.
+
+
+def workload(*ips, **more):
+    return routes.workload(*ips, **{"hbone": 0, "net": "", **more})
+
+
+def service(ip, host, ports=((80, 8080),), **more):
+    return routes.service(ip, host=host, ports=ports, net="", **more)
+
+
+def serves(host, port=80, target=8080):
+    return [(f"a/{host}", [(port, target)])]
+
+
+SOURCE, WEB, GATE, NOBODYS, WAYS = "10.0.0.9", "10.1.0.1", "10.1.0.2", "10.1.0.3", "10.1.0.4"
+MESH = {
+    "w9": workload(SOURCE, node="n1", hbone=1), "p8": workload("10.0.0.8"), "g6": workload("10.0.0.6", hbone=1, serves=serves("gate.a")),
+    "y5": workload("10.0.0.5", waypoint=routes.WAYPOINT_NAME), "e4": workload("10.0.0.4", serves=serves("web.a")),
+    "web": service(WEB, "web.a"), "gate": service(GATE, "gate.a"), "nobody": service(NOBODYS, "nobody.a"),
+    "ways": service(WAYS, "ways.a", waypoint=routes.WAYPOINT_ADDRESS)}
+
+
+def told(**resources):
+    """An update of these resources, as it comes on the control plane's link."""
+    return workloads(*((name, routes.spelled(resource)) for name, resource in resources.items()))
+
+
+def gone(*names):
+    return workloads(removed=names)
+
+
+# Behind the base of the plain door, which admits each peer at port 9090 of 10.0.0.7
+BASE = plain.OPEN_BASE + woken(1, told(**MESH))
+
+
+def front(destination=WEB, port=80, source=SOURCE, **more):
+    six = ":" in destination
+    ends = [ipaddress.ip_address(ip).packed.hex() for ip in (destination, source)]
+    return plain.front(port, *ends, **({"family": 0x21} if six else {}), **more)
+
+
+def row(name, script, words=DOOR, *more, want=None):
+    ROWS.append((name, script, [*words.split(), *more], want))
+
+
+def begun(*octets, link=2, header=None, **ends):
+    """A connection at the outbound door whose header came, with more behind it."""
+    return ACCEPT + woken(link, (header or front(**ends)) + b"".join(octets))
+
+
+def opened(*octets, link=2, **how):
+    return begun(*octets, link=link, **how) + on("open", link + 1)
+
+
+LIVE = BASE + opened()
+STAGES = [("before its header is whole", BASE + ACCEPT + woken(2, front()[:20])), ("while its upstream opens", BASE + begun(b"abc")),
+          ("while it lives", LIVE + woken(2, b"abc") + woken(3, b"defg"))]
+
+
+# Rows
+
+
+def by_hand():
+    link, total = tunnel_rows.link, tunnel_rows.total
+    # what the control plane wrote, and behind its 450 octets one more answer of 62, whose type has six fewer than that of a policy
+    control = tunnel_rows.control(321 + len(told(**MESH)), 512)
+    row("a source that no workload has", BASE + begun(source="10.0.0.66"), want=control + link(2, "outbound", 28, 0, "no route 1")
+        + "verdict 2/0 503 10.0.0.66 - 10.1.0.1:80\n" + total(2, 0))
+    row("an address that nobody has, from its header to its end", BASE + begun(b"abc", destination="192.0.2.1", port=53) + on("open", 3)
+        + woken(3, b"defg") + on("end", 2) + on("end", 3),
+        want=control + link(2, "outbound", 31, 4, "done") + link(3, "direct 192.0.2.1:53 of 2", 4, 3, "done")
+        + "verdict 2/0 200 10.0.0.9 - 192.0.2.1:53\nend 2/0 done up 3 down 4\n" + total(3, 1, 0, 3, 4))
+    kept = tunnel_rows.control(321 + len(told(**MESH)) + len(DENY), 512 + 68)
+    row("a service, dialled at its endpoint, and an update that denies each peer", LIVE + woken(2, b"abc") + woken(1, DENY)
+        + woken(2, b"de") + woken(3, b"f"), want=kept + link(2, "outbound", 33, 1, "stopped") + link(3, "direct 10.0.0.4:8080 of 2", 1, 5, "stopped")
+        + "verdict 2/0 200 10.0.0.9 - 10.1.0.1:80\nend 2/0 stopped up 5 down 1\n" + total(3, 1, 0, 5, 1))
+    row("a gateway has no room", BASE + begun(b"abc", destination="10.0.0.6"), want=control + link(2, "outbound", 31, 0, "no room")
+        + "verdict 2/0 503 10.0.0.9 - 10.0.0.6:80\n" + total(2, 0))
+
+
+def missing():
+    """No route."""
+    row("a source that is a workload of another node", BASE + begun(source="10.0.0.8"))
+    row("a source in IPv6 that no workload has", BASE + begun(destination="2001:db8::7", source="2001:db8::9"))
+    row("a source whose smallest name is of another node", BASE + woken(1, told(a9=workload(SOURCE))) + begun())
+    row("a source that went", BASE + woken(1, gone("w9")) + begun())
+    row("a source that isn't known, to an address that nobody has", BASE + begun(destination="192.0.2.1", source="10.0.0.66"))
+    row("a service without an endpoint", BASE + begun(destination=NOBODYS))
+    row("a service whose endpoint is sick", BASE + woken(1, told(e4=workload("10.0.0.4", status=1, serves=serves("web.a")))) + begun())
+    row("a service whose endpoint is in another network", BASE + woken(1, told(e4=workload("10.0.0.4", net="x", serves=serves("web.a"))))
+        + begun())
+    row("a service whose endpoint has no address", BASE + woken(1, told(e4=workload(serves=serves("web.a")))) + begun())
+    row("a service whose endpoint's port is none", BASE + woken(1, told(e4=workload("10.0.0.4", serves=serves("web.a", target=65536))))
+        + begun())
+    row("a service whose endpoint serves another port", BASE + woken(1, told(e4=workload("10.0.0.4", serves=serves("web.a", port=81))))
+        + begun())
+    row("a port that the service hasn't", BASE + begun(port=81))
+    row("a service with a waypoint", BASE + begun(destination=WAYS))
+    row("a service with a waypoint, at a port that it hasn't", BASE + begun(destination=WAYS, port=81))
+    row("a workload with a waypoint", BASE + begun(destination="10.0.0.5"))
+    row("bytes behind the header of a link without a route", BASE + begun(b"many more bytes", port=81))
+    row("nothing is of the node's network", BASE + begun(), DOOR, "--network", "net")
+
+
+def straight():
+    row("a workload without HBONE", BASE + opened(b"abc", destination="10.0.0.8", port=22))
+    row("an address of IPv6 that nobody has", BASE + woken(1, told(x=workload("2001:db8::9", node="n1")))
+        + opened(b"six", destination="2001:db8::7", source="2001:db8::9"))
+    row("an endpoint at the port that the service names", BASE + woken(1, told(e4=workload("10.0.0.4", serves=serves("web.a", target=0))))
+        + opened(b"a"))
+    row("an endpoint at the port that was asked for", BASE + woken(1, told(e4=workload("10.0.0.4", serves=serves("web.a", target=0)),
+                                                                         web=service(WEB, "web.a", ports=[(80, 0)]))) + opened(b"a"))
+    row("of two endpoints the smaller name", BASE + woken(1, told(e5=workload("10.0.0.44", serves=serves("web.a")))) + opened(b"a"))
+    row("of two endpoints the smaller name, each time", BASE + woken(1, told(e3=workload("10.0.0.33", serves=serves("web.a"))))
+        + opened(b"a") + opened(b"b", link=4))
+    row("an endpoint that is sick gives way to another", BASE + woken(1, told(
+        e4=workload("10.0.0.4", status=1, serves=serves("web.a")), e5=workload("10.0.0.44", serves=serves("web.a")))) + opened(b"a"))
+    row("the first address of an endpoint", BASE + woken(1, told(e4=workload("10.0.0.45", "10.0.0.4", serves=serves("web.a"))))
+        + opened(b"a"))
+    row("an endpoint of IPv6", BASE + woken(1, told(e4=workload("2001:db8::4", serves=serves("web.a")))) + opened(b"a"))
+    row("a service goes before a workload at its address", BASE + woken(1, told(a=workload(WEB))) + opened(b"a"))
+    row("an endpoint with a waypoint of its own", BASE + woken(1, told(e4=workload("10.0.0.4", serves=serves("web.a"),
+                                                                                   waypoint=routes.WAYPOINT_NAME))) + opened(b"a"))
+    row("a source that is sick", BASE + woken(1, told(w9=workload(SOURCE, node="n1", status=1))) + opened(b"a"))
+    row("a node of a named network", BASE + woken(1, told(x=workload(SOURCE, node="n1", net="net"), y=workload("10.0.0.7", net="net")))
+        + opened(b"a", destination="10.0.0.7"), DOOR, "--network", "net")
+    row("an identity isn't used", BASE + opened(b"abc", header=front(more=plain.IDENTITY)))
+    row("a policy that denies each peer", BASE + woken(1, DENY) + opened(b"abc"))
+    row("a policy that denies each peer at an address of the node", BASE + woken(1, DENY, told(u7=workload("10.0.0.70", node="n1")))
+        + opened(b"abc", destination="10.0.0.70"))
+
+
+def gateways():
+    row("a service whose endpoint takes HBONE", BASE + begun(destination=GATE))
+    row("a workload of this node that takes HBONE", BASE + begun(destination="10.0.0.7", port=9090))
+    row("the source itself, which takes HBONE", BASE + begun(destination=SOURCE))
+    row("the endpoint of the smaller name takes HBONE", BASE + woken(1, told(e3=workload("10.0.0.33", hbone=1, serves=serves("web.a"))))
+        + begun())
+    row("an update by which an endpoint no longer takes HBONE", BASE + begun(destination=GATE) + woken(1, told(
+        g6=workload("10.0.0.6", serves=serves("gate.a")))) + opened(b"now", link=3, destination=GATE))
+
+
+def unsynced():
+    row("nothing was told yet", NOBODY + begun())
+    row("workloads alone were told", NOBODY + came(1, replay_rows.SET + replay_rows.OK, told(**MESH)) + WAKE + "\n" + begun())
+    row("policies alone were told", NOBODY + came(1, replay_rows.SET + replay_rows.OK, DENY) + WAKE + "\n" + begun())
+    row("a source that isn't known, and nothing was told", NOBODY + begun(source="10.0.0.66"))
+    row("a header before all was told, and its last octet behind that", NOBODY + came(1, replay_rows.SET + replay_rows.OK, told(**MESH))
+        + WAKE + "\n" + ACCEPT + woken(2, front()[:-1]) + woken(1, DENY) + woken(2, front()[-1:]) + on("open", 3))
+
+
+def doors():
+    here = "10.0.0.8"
+    row("the outbound door itself", BASE + begun(destination=here, port=15001))
+    row("the outbound door itself, at an address that nobody has", BASE + begun(destination="192.0.2.1", port=15001))
+    row("the inbound door itself", BASE + begun(destination=here, port=15008), ALL)
+    row("the plain door itself", BASE + begun(destination=here, port=15006), ALL)
+    row("the outbound door at its address", BASE + begun(destination=here, port=15001), f"--outbound {here}:15001")
+    row("the port of the outbound door at another address", BASE + opened(destination=here, port=15001), "--outbound 10.0.0.88:15001")
+    row("the port of a door that isn't given", BASE + opened(destination=here, port=15008))
+    own = told(e4=workload("10.0.0.4", serves=serves("web.a", target=15001)))
+    row("an endpoint that is the outbound door", BASE + woken(1, own) + begun())
+    ports = told(web=service(WEB, "web.a", ports=[(15001, 0)]), e4=workload("10.0.0.4", serves=serves("web.a", 15001, 8080)))
+    row("a service's port that is the door's, and leads elsewhere", BASE + woken(1, ports) + opened(b"a", port=15001))
+    row("a door behind a gateway", BASE + begun(destination="10.0.0.6", port=15001))
+    row("a door, and a source that isn't known", BASE + begun(destination=here, port=15001, source="10.0.0.66"))
+    row("a door, and nothing was told yet", NOBODY + begun(destination=here, port=15001))
+    free = BASE + woken(1, policies(removed=["a/p"]))
+    row("a link of the plain door to the outbound one", free + plain.begun(header=plain.front(15001)), ALL)
+    row("a tunnel to the outbound door", free + modelled.ACCEPT + woken(2, tunnel_rows.OPENING + ask(to=b"10.0.0.7:15001")), ALL)
+
+
+def headers():
+    row("octet by octet", BASE + ACCEPT + woken(2, *single(front() + b"ab")) + on("open", 3) + woken(3, *single(b"xyz")))
+    for name, octets in [
+            ("a signature", b"GET / HTTP/1.1\r\n"), ("a version", front()[:12] + b"\x20"), ("a family", front()[:13] + b"\x12"),
+            ("no room for addresses", front()[:14] + b"\x00\x0b"), ("too long a header", front()[:14] + b"\x10\x01"),
+            ("an identity", front(more=b"\xe0\x00\x03abc")), ("two identities", front(more=plain.IDENTITY + plain.IDENTITY))]:
+        row(f"a fault of the header: {name}", BASE + ACCEPT + woken(2, octets))
+    row("nothing at all", BASE + ACCEPT + WAKE + "\n")
+
+
+def dials():
+    begin = BASE + begun(b"abc")
+    row("a dial that fails", BASE + '{"nodial":1}\n' + begun(b"abc"))
+    row("a dial that fails, and one that doesn't", BASE + '{"nodial":1}\n' + begun(b"abc") + opened(b"abc", link=3))
+    row("an upstream that refuses", begin + on("refuse", 3))
+    row("an upstream that never opens", begin + woken(2, b"de"))
+    row("more comes before the upstream is open", begin + woken(2, b"de", b"f") + on("open", 3))
+    row("the peer ends before the upstream is open", begin + on("end", 2) + on("open", 3) + woken(3, b"late") + on("end", 3))
+    row("the peer breaks before the upstream is open", begin + on("break", 2))
+    row("two links to one service", BASE + begun(b"a") + begun(b"b", link=4) + on("open", 3) + on("open", 5) + woken(3, b"xx")
+        + woken(5, b"yyy"))
+    row("two links to two places", BASE + begun(b"a") + begun(b"b", link=4, destination="10.0.0.8") + on("open", 5) + on("open", 3)
+        + woken(3, b"xx") + on("end", 2) + woken(5, b"yyy"))
+
+
+def ends():
+    row("the peer ends first", LIVE + woken(2, b"ask") + on("end", 2) + woken(3, b"answer") + on("end", 3))
+    row("the upstream ends first", LIVE + woken(3, b"hello") + on("end", 3) + woken(2, b"bye") + on("end", 2))
+    row("both end at once", LIVE + woken(2, b"ab") + '{"end":2}\n' + on("end", 3))
+    row("it ends without a byte", LIVE + on("end", 2) + on("end", 3))
+    row("the peer ends, and the upstream breaks", LIVE + woken(2, b"ab") + on("end", 2) + on("break", 3))
+    row("the upstream ends, and the peer breaks", LIVE + woken(3, b"ab") + on("end", 3) + on("break", 2))
+    for name, script in STAGES:
+        for what, link in [("break", 2), ("end", 2), ("break", 3), ("end", 3)]:
+            if link == 2 or "lives" in name:
+                row(f"{'its upstream' if link == 3 else 'it'} {what}s {name}", script + on(what, link))
+        row(f"the run ends {name}", script)
+
+
+def updates():
+    others = [("a policy denies each peer", DENY), ("its source goes", gone("w9")), ("its service and its endpoint go", gone("web", "e4")),
+              ("its endpoint takes HBONE", told(e4=workload("10.0.0.4", hbone=1, serves=serves("web.a"))))]
+    for name, script in STAGES[1:]:
+        for what, update in others:
+            behind = on("open", 3) if "opens" in name else ""
+            row(f"{what} {name}", script + woken(1, update) + behind + woken(2, b"more") + woken(3, b"back"))
+    row("an update inside the header of the front", BASE + ACCEPT + woken(2, front()[:20]) + woken(1, gone("web"))
+        + woken(2, front()[20:]) + on("open", 3))
+    row("a service moves: a link stays, and the next one goes to its new endpoint", LIVE + woken(1, told(
+        e4=workload("10.0.0.40", serves=serves("web.a", target=8888)))) + woken(2, b"old") + opened(b"new", link=4))
+    row("the source goes: a link stays, and the next one has no route", LIVE + woken(1, gone("w9")) + woken(2, b"old") + begun(link=4))
+
+
+def rooms():
+    row("an upstream that takes an octet at a time", LIVE + (room(3, 1) + WAKE + "\n") + came(2, b"hello") + (room(3, 1) + WAKE + "\n") * 3
+        + room(3, 100) + WAKE + "\n")
+    row("a peer that takes an octet at a time", LIVE + (room(2, 1) + WAKE + "\n") + came(3, b"hello") + (room(2, 1) + WAKE + "\n") * 5)
+    row("the end waits behind the last octet", LIVE + room(3, 2) + woken(2, b"abcd") + on("end", 2) + room(3, 1) + WAKE + "\n"
+        + room(3, 1) + WAKE + "\n" + on("end", 3))
+    row("the upstream's end waits behind the last octet", LIVE + room(2, 2) + woken(3, b"abcd") + on("end", 3) + room(2, 1) + WAKE + "\n"
+        + room(2, 1) + WAKE + "\n" + on("end", 2))
+    big, little = bytes(65535), bytes(16384)
+    row("the ring up is full", LIVE + room(3, 0) + woken(2, big, b"more") + room(3, 10) + WAKE + "\n" + room(3, 100000) + WAKE + "\n")
+    row("the ring down is full", LIVE + room(2, 0) + woken(3, little, b"more") + room(2, 10) + WAKE + "\n" + room(2, 100000) + WAKE + "\n")
+    row("the ring up is full before the upstream is open", BASE + begun() + woken(2, big, b"more") + on("open", 3))
+    row("an update while the rings hold bytes", LIVE + room(2, 0) + room(3, 0) + woken(2, b"abc") + woken(3, b"de") + woken(1, DENY)
+        + room(2, 10) + room(3, 10) + WAKE + "\n")
+    row("many octets each way", LIVE + woken(2, *[bytes(9000)] * 9) + woken(3, *[bytes(7000)] * 9) + on("end", 2) + on("end", 3))
+
+
+def mixed():
+    tunnel = modelled.ACCEPT + woken(2, tunnel_rows.OPENING + ask(to=b"10.0.0.7:9090")) + on("open", 3)
+    pair = BASE + tunnel + plain.opened(link=4)
+    three = pair + opened(link=6)
+    each = woken(2, data(1, b"up")) + woken(4, b"raw") + woken(6, b"out")
+    row("three doors at once", three + each + woken(3, b"down") + woken(5, b"back") + woken(7, b"home"), ALL)
+    row("an update ends a tunnel and a plain link, and leaves an outbound one", three + each + woken(1, DENY) + woken(6, b"still")
+        + woken(7, b"here"), ALL)
+    row("the run ends with three doors", three + each, ALL)
+    row("an outbound link between two plain ones", BASE + plain.opened(b"a") + opened(b"b", link=4) + plain.opened(b"c", link=6)
+        + woken(1, DENY, ALLOW) + woken(4, b"on"), ALL)
+    one = [ALL, "--tunnels", "1"]
+    row("an outbound link takes the last place of a tunnel", BASE + begun() + modelled.ACCEPT
+        + woken(4, tunnel_rows.OPENING + ask(to=b"10.0.0.7:9090")), *one)
+    row("a tunnel takes the last place of an outbound link", BASE + tunnel + ACCEPT + woken(4, front()), *one)
+    row("a plain link takes the last place of an outbound link", BASE + plain.begun() + ACCEPT + WAKE + "\n", *one)
+    row("an outbound link takes the last place of a plain link", BASE + begun() + plain.ACCEPT + WAKE + "\n", *one)
+    row("two outbound links where one is allowed", BASE + begun(b"a") + ACCEPT + WAKE + "\n" + on("open", 3) + on("end", 2) + on("end", 3)
+        + begun(b"c", link=5) + on("open", 6), DOOR, "--tunnels", "1")
+    row("a link without a header has its place", BASE + ACCEPT + WAKE + "\n" + ACCEPT + WAKE + "\n" + on("end", 2) + ACCEPT + WAKE + "\n",
+        DOOR, "--tunnels", "1")
+    row("a link without a route gives its place back", BASE + begun(port=81) + opened(b"b", link=3), DOOR, "--tunnels", "1")
+    row("an outbound link where the door isn't given", BASE + ACCEPT + WAKE + "\n", "--inbound 0.0.0.0:15008")
+    row("a plain link where only the outbound door is given", BASE + plain.ACCEPT + WAKE + "\n")
+    row("the control plane breaks, and a link goes on", LIVE + on("break", 1) + woken(2, b"still") + TICK + woken(3, b"here"))
+    row("the control plane breaks, and a new link has a route", BASE + on("break", 1) + opened(b"in"))
+    row("ticks", LIVE + TICK * 3 + woken(2, b"abc"))
+    row("a listen that fails", '{"fault":"listen"}\n' + ACCEPT, DOOR)
+    row("brief", LIVE + woken(2, b"abc"), DOOR, "--brief")
+
+
+def cut_runs():
+    """Runs of which what comes on the first two links is cut by chance."""
+    life = BASE + begun(b"abc") + on("open", 3) + woken(2, b"more of it") + woken(3, b"answer") + on("end", 2) + on("end", 3)
+    early = BASE + begun(b"early", destination="10.0.0.8") + woken(2, b"and late") + on("open", 3) + woken(3, b"answer") + on("end", 3) \
+        + on("end", 2)
+    kept = LIVE + woken(2, b"abc") + woken(3, b"defg") + woken(1, DENY) + woken(1, gone("w9", "web")) + begun(b"again", link=4) \
+        + woken(2, b"still")
+    return [("the whole life of an outbound link", life), ("an outbound link that begins early", early),
+            ("an outbound link that updates leave", kept)]
+
+
+def traces():
+    """Each fifth row whose trace is short tells that too, if the pages say its order."""
+    for name, script, words, _ in ROWS[::5]:
+        entries = [*words, "--trace"]
+        if len(script) < 6000 and len(answer(entries, script)[1]) < 6000 and tunnel_model.is_determined(asked(entries), script.encode()):
+            ROWS.append((name + ", told", script, entries, None))
+
+
+def asked(words):
+    return [*replay_rows.USUAL_WORDS, *words]
+
+
+def answer(words, script):
+    return tunnel_model.replay(asked(words), script.encode())
+
+
+# The table
+
+HEAD = """//! Runs of `hbone replay --outbound`. bench/tables/outbound_rows.py prints this file: a plain model of the pages answers.
+//!
+//! The notation is that of the other runs; a name in angle brackets stands for its part below, or for one of theirs.
+"""
+_PLANE, _TOLD = answer(DOOR.split(), BASE)[1], answer([*DOOR.split(), "--trace"], BASE)[1]
+PARTS = {
+    "outb": ACCEPT, "odoor": DOOR, "alldoors": ALL, "frontweb": front().hex(), "mesh": BASE,
+    "meshplane": _PLANE[:_PLANE.index("total")], "meshtold": _TOLD[:_TOLD.index("closed 1")],
+    "direct3": "link 3 direct 10.0.0.4:8080 of 2: received ", "out2": "link 2 outbound: received ",
+    "web2": "verdict 2/0 200 10.0.0.9 - 10.1.0.1:80\n", "no2": "verdict 2/0 503 10.0.0.9 - 10.1.0.1:80\n",
+}
+assert not {*PARTS} & {*plain.PARTS, *modelled.PARTS, *replay_rows.PARTS, *tunnel_rows.PARTS}
+
+
+def spelled(text):
+    return plain.spelled(text, PARTS)
+
+
+def line_of(name, script, words, want):
+    assert tunnel_model.is_determined(asked(words), script.encode()), name
+    status, output, error = answer(words, script)
+    assert want is None or output == want, f"{name}:\n{output}\nby hand:\n{want}"
+    return f"{name}; {spelled(' '.join(['<usual>', *words]))}; {spelled(script)}; {status}; {spelled(output)}; {spelled(error)}"
+
+
+def main():
+    for rows in (by_hand, missing, straight, gateways, unsynced, doors, headers, dials, ends, updates, rooms, mixed, traces):
+        rows()
+    assert len({name for name, *_ in ROWS}) == len(ROWS)
+    print(HEAD, end="")
+    replay_rows.table("OUTBOUND_PARTS", "The name and the text of each part.", [f"{name} {marked(text)}" for name, text in PARTS.items()])
+    replay_rows.table("OUTBOUND_CUT", "Runs that end the same however what comes on the first two links is cut.",
+                      [line_of(name, script, DOOR.split(), None) for name, script in cut_runs()])
+    for number, part in enumerate(replay_rows.halves([line_of(*each) for each in ROWS], 24000), 1):
+        replay_rows.table(f"OUTBOUND_{number}", "Runs.", part)
+
+
+if __name__ == "__main__":
+    main()
