@@ -1,5 +1,5 @@
 -- The numbers of open connections after a change.
-use Rattle.std.proofs.Common.{◌≡◌, ◌==◌, ℕ, ◌+◌, ◌-◌, Bool, true, false, cond, List, [], ◌∷◌, Option, Some, None, refl, ap, sym, ◌∙◌, arith}
+use Rattle.std.proofs.Common.{◌≡◌, ℕ, ◌+◌, ◌-◌, Bool, true, false, cond, List, [], ◌∷◌, Option, Some, None, refl, ap, sym, ◌∙◌, arith}
 use Rattle.std.proofs.lemmas.Bool.Decides.{nat_tests}
 use Rattle.std.proofs.lemmas.Cmp.{tied_itself}
 use Rattle.std.proofs.lemmas.Slice.Eq.{bytes_eq-Decides}
@@ -7,6 +7,7 @@ use Rattle.std.specs.Cmp.Lexicographic.{nat_list_cmp_total}
 use Rattle.std.specs.FinMap.{empty, insert, remove, get, get-insert, get-remove, get-empty}
 use Rattle.std.specs.Option.{unwrap_or}
 use Rattle.std.specs.Ordering.{eq_by_cmp, is_eq}
+use Rattle.std.specs.Prelude.{nat_le}
 use Rattle.std.specs.Str.{bytes_eq}
 use Rattle.hb_index.proofs.Entries.{by_bytes, differ, equal}
 use Rattle.hb_route.specs.Laws.{Steps, sets_to_one, keeps_one_name}
@@ -44,7 +45,7 @@ module _ (opens : Counts) (name : List ℕ) where
       ap (λ o. unwrap_or o 0) (get-remove nat_list_cmp_total opens name other)
       ∙ ap (λ b. unwrap_or (cond b None (get opens other)) 0) (apart other name h)
 
-  fewer_there : (b : Bool) → (open_at opens name == 1) ≡ b
+  fewer_there : (b : Bool) → nat_le (open_at opens name) 1 ≡ b
       → open_at (cond b (remove opens name) (insert opens name (open_at opens name - 1))) name ≡ open_at opens name - 1
   fewer_there true is = after_remove ∙ grind (arith, nat_tests)
   fewer_there false is = after_insert (open_at opens name - 1)
@@ -59,7 +60,7 @@ more_steps opens name = (after_insert opens name (open_at opens name + 1), stays
 
 pub fewer_steps : Steps one_less (λ n. n - 1)
 fewer_steps opens name =
-    (fewer_there opens name (open_at opens name == 1) refl, fewer_elsewhere opens name (open_at opens name == 1))
+    (fewer_there opens name (nat_le (open_at opens name) 1) refl, fewer_elsewhere opens name (nat_le (open_at opens name) 1))
 
 -- one connection is open under a name
 one : Counts

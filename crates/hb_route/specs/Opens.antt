@@ -1,5 +1,5 @@
 -- How many connections each endpoint has open.
-use Rattle.std.specs.Prelude.{ℕ, ◌+◌, ◌-◌, ◌==◌, if◌then◌else◌, List}
+use Rattle.std.specs.Prelude.{ℕ, ◌+◌, ◌-◌, nat_le, if◌then◌else◌, List}
 use Rattle.std.specs.FinMap.{get, insert, remove}
 use Rattle.std.specs.Option.{unwrap_or}
 use Rattle.hb_index.specs.Named.{Named}
@@ -18,4 +18,4 @@ one_more opens name = insert opens name (open_at opens name + 1)
 
 -- one fewer is open under a name; a name with none isn't kept
 abbrev pub one_less : Counts → List ℕ → Counts
-one_less opens name = if open_at opens name == 1 then remove opens name else insert opens name (open_at opens name - 1)
+one_less opens name = if nat_le (open_at opens name) 1 then remove opens name else insert opens name (open_at opens name - 1)

@@ -52,24 +52,24 @@ impl Opens {
 
     /// One more connection of an endpoint is open.
     ///
-    /// Errors: `NoMemory`, and then the numbers are unchanged.
+    /// Errors: `NoMemory`, also where 2^64 - 1 are open, and then the numbers are unchanged.
     pub fn add(&mut self, name: &Text) -> Result<(), NoMemory>
-        requires { open_at self.old name.now < 4096 }
         ensures ok { OnOk result (self.new ≡ one_more self.old name.now) }
         ensures err { OnErr result (self.new ≡ self.old) }
     {
-        let count = self.of(name) + 1;
+        let Some(count) = self.of(name).checked_add(1) else {
+            return Err(NoMemory);
+        };
         self.counts.put(self.alloc, name, count)?;
         Ok(())
     }
 
-    /// One connection fewer of an endpoint is open. Takes no memory.
+    /// One connection fewer of an endpoint is open; of one that has none, none is. Takes no memory.
     pub fn drop_one(&mut self, name: &Text)
-        requires { 0 < open_at self.old name.now }
         ensures { self.new ≡ one_less self.old name.now }
     {
         let count = self.of(name);
-        if count == 1 {
+        if count <= 1 {
             self.counts.take(name);
         } else {
             self.counts.set(name, count - 1);
