@@ -1,15 +1,15 @@
 -- One way of a tunnel.
 use Rattle.std.specs.Prelude.{◌≡◌, ◌==◌, ◌&&◌, ℕ, Bool, true, false, List, [], ◌++◌, length, drop}
-use Rattle.hb_tunnel.specs.declared.ring.Ring.{Ring}
 
 -- the bytes that wait on a way, the first to go in front; and whether no further one comes
 pub record Way : Type 0 where
   pub held : List ℕ
   pub has_ended : Bool
 
--- the way that a ring stands for
-abbrev pub way_of : Ring → Way
-way_of ring = record { held = ring.bytes.items; has_ended = ring.has_ended }
+-- a way of so many bytes at most
+pub record Sized : Type 0 where
+  pub size : ℕ
+  pub way : Way
 
 -- a new way
 abbrev pub empty_way : Way

@@ -7,4 +7,5 @@ mod ring;
 mod tunnel;
 
 pub use phase::Phase;
+pub use ring::Ring;
 pub use tunnel::{DOWN_SIZE, Tunnel, UP_SIZE};

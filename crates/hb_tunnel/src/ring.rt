@@ -1,20 +1,31 @@
 //! One way of a tunnel.
 
-ghost use Rattle.std.specs.Prelude.{◌≡◌, ◌+◌, ◌≤◌, [], ◌++◌, length, drop, false, IfOk};
+ghost use Rattle.std.specs.Prelude.{◌≡◌, ◌+◌, ◌≤◌, length, IfOk, IsFalse};
 ghost use Rattle.std.specs.Borrow.{sem};
-ghost use Rattle.circular_buffer.specs.Buffer.{buffer};
 ghost use Rattle.hb_tunnel.specs.Lending.{lends_bytes};
-ghost use Rattle.hb_tunnel.specs.Way.{way_of, is_done, IsFront};
+ghost use Rattle.hb_tunnel.specs.Way.{empty_way, pushes, takes, ends, after, is_done, IsFront};
 
 use circular_buffer::HeapCircularBuffer;
 use hb_base::NoMemory;
 use std::alloc::Global;
+use std::marker::Model;
 
-/// The bytes that wait on one way, and whether it has ended. Its memory is taken once.
+/// The bytes that wait on one way, and whether it has ended. `new` takes its memory; no other call takes any.
 #[derive(Drop)]
-pub(crate) struct Ring {
-    pub bytes: HeapCircularBuffer<u8>,
-    pub has_ended: bool,
+pub struct Ring {
+    pub(crate) bytes: HeapCircularBuffer<u8>,
+    pub(crate) has_ended: bool,
+}
+
+impl Model for Ring {
+    ghost use Rattle.hb_tunnel.specs.Way.{Sized};
+
+    ghost Value = { Sized };
+
+    ghost view = { λ r. record {
+      size = r.bytes.capacity;
+      way = record { held = r.bytes.items; has_ended = r.has_ended };
+    } };
 }
 
 impl Ring {
@@ -22,7 +33,7 @@ impl Ring {
     ///
     /// Errors: `NoMemory`.
     pub fn new(alloc: Global, size: usize) -> Result<Ring, NoMemory>
-        ensures { IfOk result (λ ring. ring ≡ record { bytes = buffer [] size; has_ended = false }) }
+        ensures { IfOk result (λ ring. ring ≡ record { size = size; way = empty_way }) }
     {
         let bytes = HeapCircularBuffer::with_capacity(alloc, size)?;
         Ok(Ring {
@@ -33,46 +44,61 @@ impl Ring {
 
     /// How many more bytes fit.
     pub fn room(&self) -> usize
-        ensures { result + length self.now.bytes.items ≡ self.now.bytes.capacity }
+        ensures { result + length self.now.way.held ≡ self.now.size }
     {
         self.bytes.capacity() - self.bytes.len()
     }
 
+    /// The way has ended: no further byte comes.
+    pub fn has_ended(&self) -> bool
+        ensures { result ≡ self.now.way.has_ended }
+    {
+        self.has_ended
+    }
+
     /// Appends bytes, each of which is copied once.
     pub fn push(&mut self, bytes: &[u8])
-        requires { length self.old.bytes.items + length bytes.now ≤ self.old.bytes.capacity }
-        ensures { self.new ≡ record self.old { bytes = buffer (self.old.bytes.items ++ bytes.now) self.old.bytes.capacity } }
+        requires fits { length self.old.way.held + length bytes.now ≤ self.old.size }
+        requires goes_on { IsFalse self.old.way.has_ended }
+        ensures { self.new ≡ record self.old { way = after self.old.way (pushes bytes.now) } }
     {
         self.bytes.fill_from_slice(bytes);
     }
 
-    /// The first bytes that wait: those up to the end of the ring's block.
+    /// The first bytes that wait: those up to the end of the ring's block. None only where none waits.
     pub fn head(&self) -> &[u8]
-        ensures { IsFront result.now self.now.bytes.items }
+        ensures { IsFront result.now self.now.way.held }
     {
         let (front, wrapped) = self.bytes.as_slices();
         if front.is_empty() { wrapped } else { front }
     }
 
-    /// All bytes that wait, in one piece: those of a ring that wraps are moved.
+    /// All bytes that wait, in one piece: those of a ring that wraps are moved. A caller that only reads them leaves the ring as it was.
     pub fn all(&mut self) -> &mut [u8]
         ensures* writes_back { sem 𝓛 (lends_bytes self.entry result) }
-        ensures value { result.now ≡ self.old.bytes.items }
+        ensures value { result.now ≡ self.old.way.held }
     {
         self.bytes.make_contiguous()
     }
 
     /// Takes the first `count` bytes away.
     pub fn take(&mut self, count: usize)
-        requires { count ≤ length self.old.bytes.items }
-        ensures { self.new ≡ record self.old { bytes = buffer (drop count self.old.bytes.items) self.old.bytes.capacity } }
+        requires { count ≤ length self.old.way.held }
+        ensures { self.new ≡ record self.old { way = after self.old.way (takes count) } }
     {
         self.bytes.truncate_front(self.bytes.len() - count);
     }
 
+    /// No further byte comes.
+    pub fn end(&mut self)
+        ensures { self.new ≡ record self.old { way = after self.old.way ends } }
+    {
+        self.has_ended = true;
+    }
+
     /// The way has ended, and no byte waits.
     pub fn is_done(&self) -> bool
-        ensures { result ≡ is_done (way_of self.now) }
+        ensures { result ≡ is_done self.now.way }
     {
         self.has_ended && self.bytes.is_empty()
     }

@@ -29,14 +29,13 @@ pub struct Tunnel {
 
 impl Model for Tunnel {
     ghost use Rattle.std.specs.Prelude.{◌≡◌};
-    ghost use Rattle.hb_tunnel.specs.Way.{way_of};
     ghost use Rattle.hb_tunnel.specs.Tunnel.{Ways, up_size, down_size};
 
     ghost Value = { Ways };
 
-    ghost view = { λ t. record { is_open = t.is_open; up = way_of t.up; down = way_of t.down } };
+    ghost view = { λ t. record { is_open = t.is_open; up = t.up.way; down = t.down.way } };
 
-    ghost invariant = { λ t. (t.up.bytes.capacity ≡ up_size) × (t.down.bytes.capacity ≡ down_size) };
+    ghost invariant = { λ t. (t.up.size ≡ up_size) × (t.down.size ≡ down_size) };
 }
 
 impl Tunnel {
@@ -59,7 +58,7 @@ impl Tunnel {
     pub fn phase(&self) -> Phase
         ensures { result ≡ phase_of self.now }
     {
-        match (self.is_open, self.up.has_ended, self.down.has_ended) {
+        match (self.is_open, self.up.has_ended(), self.down.has_ended()) {
             (false, _, _) => Phase::Dialling,
             (true, false, false) => Phase::Open,
             (true, true, false) => Phase::UpEnded,
@@ -80,14 +79,14 @@ impl Tunnel {
     pub fn up_ended(&self) -> bool
         ensures { result ≡ self.now.up.has_ended }
     {
-        self.up.has_ended
+        self.up.has_ended()
     }
 
     /// The way down has ended, in whatever phase.
     pub fn down_ended(&self) -> bool
         ensures { result ≡ self.now.down.has_ended }
     {
-        self.down.has_ended
+        self.down.has_ended()
     }
 
     /// How many more bytes fit on the way up.
@@ -126,7 +125,7 @@ impl Tunnel {
     pub fn end_up(&mut self)
         ensures { self.new ≡ record self.old { up = after self.old.up ends } }
     {
-        self.up.has_ended = true;
+        self.up.end();
     }
 
     /// The upstream's sending side may be shut: it is open, the way up has ended, and all its bytes were written.
@@ -179,7 +178,7 @@ impl Tunnel {
     pub fn end_down(&mut self)
         ensures { self.new ≡ record self.old { down = after self.old.down ends } }
     {
-        self.down.has_ended = true;
+        self.down.end();
     }
 
     /// The way down has ended, and no byte waits on it.
