@@ -6,7 +6,7 @@ ghost use Rattle.hb_hpack.specs.Table.{total};
 ghost use Rattle.hb_streams.specs.declared.role.Role.TheVariants.{Client};
 ghost use Rattle.hb_conn.specs.Connection.{fresh_core, fresh_server, fresh_client, space_of, count_of, taken, Finds, LeavesLess};
 ghost use Rattle.hb_conn.specs.Loan.{EndsTold};
-ghost use Rattle.hb_conn.specs.Observed.{output, room, role, sides, own_side_open, IsActiveOn, streams_open, creditable, count_put, data_unbegun, data_begun, end_waits};
+ghost use Rattle.hb_conn.specs.Observed.{output, room, role, sides, own_side_open, IsActiveOn, streams_open, creditable, count_put, data_unbegun, data_begun, end_waits, next_stream};
 ghost use Rattle.hb_conn.specs.Observed.{KeepsWhatCame, wrote, Opens, data_put, credited, status_put, end_put, aborted};
 
 use crate::found::Found;
@@ -214,6 +214,16 @@ impl Conn {
         ensures rest { KeepsWhatCame self.old self.new }
     {
         self.receiver.core.open(self.alloc, headers, end)
+    }
+
+    /// The number of the stream that a client opens next (RFC 9113 sections 5.1.1 and 5.1.2).
+    ///
+    /// Errors: `Full` and `Spent` as `open` has them.
+    pub fn next_stream(&self) -> Result<u32, OpenFault>
+        ensures { result ≡ next_stream self.now }
+    {
+        let core = &self.receiver.core;
+        core.streams.next_number(core.peer.streams)
     }
 
     /// Puts the first octets in one DATA frame, as many as the stream's window, the connection's, the peer's

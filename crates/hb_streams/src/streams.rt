@@ -211,7 +211,10 @@ impl Streams {
         }
     }
 
-    fn next_number(&self, limit: u32) -> Result<u32, OpenFault>
+    /// The number of the stream that a client opens next, where the peer lets so many be open.
+    ///
+    /// Errors: `Full` where as many are as `limit` says, or 100; `Spent` where no odd number up to 2,147,483,647 is left.
+    pub fn next_number(&self, limit: u32) -> Result<u32, OpenFault>
         ensures { result ≡ number_of self.now limit }
     {
         if self.active.len() >= limit as usize || self.is_full() {
