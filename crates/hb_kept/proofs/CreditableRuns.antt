@@ -9,6 +9,7 @@ use Rattle.hb_frames.specs.Bodies.{lent_of}
 use Rattle.hb_frames.specs.Numbers.{data_kind, protocol_error}
 use Rattle.hb_frames.specs.RawFrame.{RawFrame}
 use Rattle.hb_streams.specs.States.{States}
+use Rattle.hb_streams.specs.declared.role.Role.{Role}
 use Rattle.hb_streams.specs.declared.role.Role.TheVariants.{Server}
 use Rattle.hb_flow.specs.Flows.{Flows, creditable, spent}
 use Rattle.hb_flow.proofs.Taking.{stream_takes}
@@ -30,7 +31,7 @@ use Rattle.hb_conn.specs.declared.glance.Glance.{Glance}
 use Rattle.hb_conn.specs.declared.glance.Glance.TheVariants as glance
 use Rattle.hb_conn.specs.declared.machine.Core.{Core}
 use Rattle.hb_history.specs.Calls.{in_list, IsLook, AreLooks}
-use Rattle.hb_history.specs.History.{fresh, ends_in, happenings}
+use Rattle.hb_history.specs.History.{StandsFor, fresh, ends_in, happenings}
 use Rattle.hb_history.specs.Points.{Move, got, refused, misbegan, opened, answered, ended, reset, credited, put, wrote, Point, Runs, After, data_of, data_in}
 use Rattle.hb_history.proofs.Acted.{runs_keep}
 use Rattle.hb_history.proofs.Flowed.{Flow, flow_keeps, flow_puts, flow_resizes, flow_acks, flow_grows, flow_new}
@@ -40,19 +41,20 @@ use Rattle.hb_history.proofs.Parts.{calm}
 use Rattle.hb_history.proofs.Runs.{runs_one}
 use Rattle.hb_history.proofs.Stages.{content_fits}
 use Rattle.hb_kept.specs.Creditable.{CreditableBehind, LooksAdd, WritesLeaveCreditable, PutsLeaveCreditable, AnswersLeaveCreditable, EndsLeaveCreditable, ResetsLeaveCreditable, UsesTake, BeyondIsRefused, NoneAddedIsRefused, AllMayCome}
+use Rattle.hb_kept.specs.Looks as Looks
 use Rattle.hb_kept.proofs.Creditable.{Same, Others, Had, Comes, On, HandsOut, handles_on, aborted_same, due_same, due_ended_same, put_same, wrote_flow, credit_here, credit_others}
 use Rattle.hb_kept.proofs.Sides as sides
 use Rattle.hb_kept.proofs.SidesAt.{sides_at}
 
 -- ONE POINT
 
--- what is had behind every run of a server
-record Kept (c : Core) : Type 0 where
-  pub lives : Lives Server calm c
+-- what is had behind every run
+record Kept (role : Role) (c : Core) : Type 0 where
+  pub lives : Lives role calm c
   pub flows : Flow calm c
 
-had_of : (c : Core) → Kept c → c.over ≡ false → Had c
-had_of c kept still =
+had_of : (role : Role) (c : Core) → Kept role c → c.over ≡ false → Had c
+had_of role c kept still =
     let live = kept.lives.1 still in
     let flowed = kept.flows still in
     record {
@@ -60,9 +62,9 @@ had_of c kept still =
       whole = λ n w is. stream_takes flowed.0 flowed.2 n w (ap (λ (f : Flows). get f.streams n) (sym flowed.1) ∙ is);
     }
 
-kept_run : (points : List Point) (c new : Core) → Kept c → Runs c points new → Kept new
-kept_run points c new kept runs = record {
-  lives = lives_runs Server points c new kept.lives runs;
+kept_run : (role : Role) (points : List Point) (c new : Core) → Kept role c → Runs c points new → Kept role new
+kept_run role points c new kept runs = record {
+  lives = lives_runs role points c new kept.lives runs;
   flows = runs_keep Flow flow_keeps flow_puts flow_resizes flow_acks (λ d s n h. flow_grows d s n h) (λ d n within h. h) points c new
       kept.flows runs;
 }
@@ -117,29 +119,29 @@ unfolding faulted
 fault_step c new told is =
     subst (λ t. Step 0 t c new) (sym is.1) (record { sides = tt; on = tt })
 
-one : (m : Move) (told : Found) (c new : Core) → Kept c → IsLook m → After c m new told → Step (length (data_of m told)) told c new
-one (got f) told c new kept look is =
-    let had = had_of c kept (not_over c.over _ is.0) in
+one : (role : Role) (m : Move) (told : Found) (c new : Core) → Kept role c → IsLook m → After c m new told → Step (length (data_of m told)) told c new
+one role (got f) told c new kept look is =
+    let had = had_of role c kept (not_over c.over _ is.0) in
     record {
       sides = sides.handles_on (is_misplaced c (glance_at f)) c (glance_at f) (lent_of f) new told is.1;
       on = recounted (length (lent_of f)) (length (data_of (got f) told)) told c new
           (λ k end same. ap (λ t. length (data_of (got f) t)) (sym same))
           (handles_on (is_misplaced c (glance_at f)) c (glance_at f) (lent_of f) new told had (hands_out f) is.1);
     }
-one (refused r kind flags) told c new kept look is =
+one role (refused r kind flags) told c new kept look is =
     let g = glance.Refused r.code r.row kind flags in
     record {
       sides = sides.handles_on (is_misplaced c g) c g [] new told is.1;
-      on = handles_on (is_misplaced c g) c g [] new told (had_of c kept (not_over c.over _ is.0)) tt is.1;
+      on = handles_on (is_misplaced c g) c g [] new told (had_of role c kept (not_over c.over _ is.0)) tt is.1;
     }
-one misbegan told c new kept look is = fault_step c new told is.1
-one (opened s headers end) told c new kept look is = absurd look
-one (answered s status) told c new kept look is = absurd look
-one (ended s) told c new kept look is = absurd look
-one (reset s code) told c new kept look is = absurd look
-one (credited s n) told c new kept look is = absurd look
-one (put s bytes) told c new kept look is = absurd look
-one (wrote n) told c new kept look is = absurd look
+one role misbegan told c new kept look is = fault_step c new told is.1
+one role (opened s headers end) told c new kept look is = absurd look
+one role (answered s status) told c new kept look is = absurd look
+one role (ended s) told c new kept look is = absurd look
+one role (reset s code) told c new kept look is = absurd look
+one role (credited s n) told c new kept look is = absurd look
+one role (put s bytes) told c new kept look is = absurd look
+one role (wrote n) told c new kept look is = absurd look
 
 -- ONE POINT AFTER ANOTHER
 
@@ -208,19 +210,19 @@ none_handed (credited s n) look = absurd look
 none_handed (put s bytes) look = absurd look
 none_handed (wrote n) look = absurd look
 
-ran : (ps : List Point) (c new : Core) → Kept c → AreLooks ps → Runs c ps new → Step (length (flat_map data_in ps)) (last_told ps) c new
-ran [] c new kept looks runs = record {
+ran : (role : Role) (ps : List Point) (c new : Core) → Kept role c → AreLooks ps → Runs c ps new → Step (length (flat_map data_in ps)) (last_told ps) c new
+ran role [] c new kept looks runs = record {
   sides = λ m. ap (λ (x : Core). sides_at x.streams m) runs;
   on = λ s peer. ap (λ (x : Core). creditable x.flow s) runs;
 }
-ran (p ∷ []) c new kept looks runs =
+ran role (p ∷ []) c new kept looks runs =
     subst (λ (x : Core). Step (length (data_in p ++ [])) p.told c x) (sym runs.2)
     (subst (λ (xs : List ℕ). Step (length xs) p.told c runs.0) (sym (append-nil (data_in p)))
-    (one p.move p.told c runs.0 kept looks runs.1))
-ran (p ∷ q ∷ ps) c new kept looks runs =
+    (one role p.move p.told c runs.0 kept looks runs.1))
+ran role (p ∷ q ∷ ps) c new kept looks runs =
     let mid = runs.0 in
-    let first = subst (λ t. Step (length (data_of p.move t)) t c mid) looks.1 (one p.move p.told c mid kept looks.0 runs.1) in
-    let later = ran (q ∷ ps) mid new (kept_run (p ∷ []) c mid kept (runs_one p c mid runs.1)) looks.2 runs.2 in
+    let first = subst (λ t. Step (length (data_of p.move t)) t c mid) looks.1 (one role p.move p.told c mid kept looks.0 runs.1) in
+    let later = ran role (q ∷ ps) mid new (kept_run role (p ∷ []) c mid kept (runs_one p c mid runs.1)) looks.2 runs.2 in
     let none : data_in p ≡ [] = ap (data_of p.move) looks.1 ∙ none_handed p.move looks.0 in
     subst (λ (xs : List ℕ). Step (length (xs ++ flat_map data_in (q ∷ ps))) (last_told (q ∷ ps)) c new) (sym none)
     (step_then (length (data_of p.move found.Silent)) (length (flat_map data_in (q ∷ ps))) (last_told (q ∷ ps)) c mid new first later)
@@ -326,15 +328,20 @@ by_told n first (found.Reset k code) c d size same is = unmarked n first (core_o
 by_told n first (found.Broken k code) c d size same is = unmarked n first (core_of c) (core_of d) same is
 by_told n first (found.GoneAway last) c d size same is = unmarked n first (core_of c) (core_of d) same is
 
-pub looks_add : LooksAdd
-looks_add points more given came written c d told stands look =
-    let start = core_of (fresh Server) in
-    let new : Kept start = record { lives = lives_new Server; flows = flow_new Server } in
-    let kept = kept_run points start (core_of c) new stands.runs in
-    let step = ran more (core_of c) (core_of d) kept look.looks look.runs in
+-- so it is at each end
+pub looks_add_as : (role : Role) (points more : List Point) (given : List Found) (came written : List ℕ) (c d : Connection) (told : Found)
+    → StandsFor role points given came written c → Looks.IsLook c more told d → CreditableBehind told c d
+looks_add_as role points more given came written c d told stands look =
+    let start = core_of (fresh role) in
+    let new : Kept role start = record { lives = lives_new role; flows = flow_new role } in
+    let kept = kept_run role points start (core_of c) new stands.runs in
+    let step = ran role more (core_of c) (core_of d) kept look.looks look.runs in
     by_told (length (flat_map data_in more)) (last_told more) told c d (ap (λ (xs : List ℕ). length xs) look.hands_out)
     (same_marks c.ended d.ended (last_told more) told
     (ap (λ (ts : List Found). ends_in c.ended ++ ts) (sym (happen more look.looks)) ∙ look.tells)) step.on
+
+pub looks_add : LooksAdd
+looks_add = looks_add_as Server
 
 -- WHAT THIS END DOES
 
