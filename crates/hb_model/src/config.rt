@@ -16,4 +16,6 @@ pub struct NodeConfig {
     pub node: Text,
     /// Where its own doors listen. No tunnel is dialled there.
     pub doors: OwnDoors,
+    /// The port at which a workload's gateway takes HBONE.
+    pub hbone_port: u16,
 }
