@@ -1,4 +1,3 @@
-pub mod TargetLength
 pub mod Looked
 pub mod Kept
 pub mod Led

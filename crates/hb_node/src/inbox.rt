@@ -9,11 +9,11 @@ ghost use Rattle.hb_node.specs.Inbox.{TellsNext, TakesMessage, TakesFront, IsWit
 use crate::judge::Judge;
 use crate::queue::Queue;
 use crate::requests::add_answer;
-use crate::status::status_of;
 use hb_base::{Bytes, Cause, NoMemory, Or};
 use hb_conn::Happening;
 use hb_disco::read_response;
 use hb_grpc::{Fed, Framer, GrpcFault};
+use hb_headers::status_of;
 use hb_held::Held;
 use hb_hpack::Header;
 use std::alloc::Global;

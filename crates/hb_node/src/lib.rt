@@ -11,7 +11,6 @@ mod node;
 mod phase;
 mod queue;
 mod requests;
-mod status;
 
 pub use judge::{Judge, NoJudge};
 pub use laws::{all_is_put, balks_pass, reads_where_room, rests_where_none_is_due};

@@ -27,6 +27,7 @@ fn config(rt: &impl Abort, alloc: Global) -> NodeConfig {
         network: text_of(rt, alloc, b""),
         node: text_of(rt, alloc, b"n1"),
         doors: OwnDoors::none(),
+        hbone_port: 15008,
     }
 }
 

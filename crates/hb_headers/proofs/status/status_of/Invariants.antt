@@ -1,6 +1,6 @@
 use Rattle.std.proofs.Common.{◌≡◌, drop}
 use Rattle.hb_model.specs.Discovery.{status_of}
-use Rattle.hb_node.proofs.status.status_of.Given as goal
+use Rattle.hb_headers.proofs.status.status_of.Given as goal
 
 -- the headers that are left have the status of all of them
 abbrev pub invariant-loop-header : goal.invariant-loop-header

@@ -21,8 +21,8 @@ fn number_of(text: &[u8]) -> Option<u32>
     Some(u32::from(*a - b'0') * 100 + u32::from(*b - b'0') * 10 + u32::from(*c - b'0'))
 }
 
-/// The first status of some headers, None where it is none of three digits.
-pub(crate) fn status_of(headers: &[Header]) -> Option<u32>
+/// The first status of some headers (RFC 9113 section 8.3.2). `None` where they have none, or that one isn't three digits.
+pub fn status_of(headers: &[Header]) -> Option<u32>
     ensures { result ≡ status_of headers.now }
 {
     for header in headers {

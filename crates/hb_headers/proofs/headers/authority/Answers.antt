@@ -1,7 +1,7 @@
 use Rattle.std.proofs.lemmas.Result.{IfOk-weaker}
 use Rattle.hb_base.specs.TargetText.{target_text}
-use Rattle.hb_node.proofs.TargetLength.{target_short}
-use Rattle.hb_node.proofs.headers.authority.Goals as goal
+use Rattle.hb_headers.proofs.TargetLength.{target_short}
+use Rattle.hb_headers.proofs.headers.authority.Goals as goal
 
 pub returns-clause-short : goal.returns-clause-short
 unfolding target_text
