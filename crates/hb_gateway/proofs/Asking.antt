@@ -1,7 +1,7 @@
 -- Which streams were asked for, in every run of a link.
 use Rattle.std.proofs.Common.{◌≡◌, ◌≢◌, ℕ, ◌<◌, ◌≤◌, ◌-◌, ◌==◌, ◌&&◌, ◌||◌, not, nat_le, Bool, true, false, cond, List, [], ◌∷◌, ◌++◌, length, Option, None, Result, Ok, Err, is_ok, refl, ap, sym, ◌∙◌, subst, arith}
 use Rattle.std.specs.List.{flat_map, list_any, AllByRecursion}
-use Rattle.std.proofs.lemmas.Bool.{cond_both, and_parts, eqb-true}
+use Rattle.std.proofs.lemmas.Bool.{false≢true, cond_both, and_parts, eqb-true}
 use Rattle.std.proofs.lemmas.Bool.Decides.{nat_tests}
 use Rattle.hb_conn.specs.Connection.{Connection, core_of}
 use Rattle.hb_conn.specs.Observed as observed
@@ -20,12 +20,12 @@ use Rattle.hb_streams.specs.declared.fault.OpenFault.TheVariants.{Full, Spent}
 use Rattle.hb_world.specs.declared.entry.Entry.{Entry}
 use Rattle.hb_world.specs.declared.entry.Entry.TheVariants as e
 use Rattle.hb_gateway.specs.Asks.{asked_in, asked_of, is_away, says_away, MayAsk, AsksAt}
-use Rattle.hb_gateway.specs.Gateway.{Gateway, Phase, Stream, stage_of, at_stream, away_by, has_room, request_of}
+use Rattle.hb_gateway.specs.Gateway.{Gateway, Phase, Stream, no_stream, stage_of, at_stage, at_stream, away_by, carries, has_room, request_of, dropped_to}
 use Rattle.hb_gateway.specs.Hears.{hears_call, hears_by, after, all_hear}
 use Rattle.hb_gateway.specs.Laws.{RunsAsk}
-use Rattle.hb_gateway.specs.Part.{Part, entry, dialled, lacked, looked, asks, put, finished, credited, reset, done, stopped, act}
-use Rattle.hb_gateway.specs.Response.{Stage, unused, asked, carrying, failing, over, Heard, heard_of}
-use Rattle.hb_gateway.specs.Runs.{entered, IsReset, Steps, StandsFor, begins, goes_on}
+use Rattle.hb_gateway.specs.Part.{Part, entry, dialled, lacked, looked, asks, tells, put, finished, credited, reset, dropped, done, stopped, act}
+use Rattle.hb_gateway.specs.Response.{Stage, unused, asked, carrying, failing, over, is_living, Heard, heard_of}
+use Rattle.hb_gateway.specs.Runs.{entered, Steps, StandsFor, begins, goes_on}
 use Rattle.hb_gateway.proofs.Grown.{one_more, at_parts}
 use Rattle.hb_gateway.proofs.Runs.{all_keep}
 
@@ -62,15 +62,17 @@ uncalled phase (e.Wait ready how) = refl
 
 unheard : (phase : Phase) (s : ℕ) (p : Part) → hears_by phase s unused p ≡ None
 unheard phase s (entry call) = uncalled phase call
-unheard phase s (dialled call front) = refl
+unheard phase s (dialled call key) = refl
 unheard phase s lacked = refl
 unheard phase s (looked ps told headers) = untold s headers (flat_map data_in ps) told
 unheard phase s (asks k captured authority) = refl
-unheard phase s (put k bytes) = refl
+unheard phase s (tells k heard begun) = refl
+unheard phase s (put k bytes count) = refl
 unheard phase s (finished k) = refl
 unheard phase s (credited k n) = refl
 unheard phase s (reset k code) = refl
-unheard phase s (done k) = refl
+unheard phase s (dropped k begun) = refl
+unheard phase s (done k begun) = refl
 unheard phase s (stopped why) = refl
 
 hears_none : (x : Gateway) (p : Part) (s : ℕ) → stage_of x s ≡ unused → stage_of (all_hear p x) s ≡ unused
@@ -92,12 +94,12 @@ another k s x change apart is =
     cond_both (s == k) (change (x.streams s)) (x.streams s) (λ (t : Stream). t.stage ≡ unused)
     (λ same. absurd (apart (sym (eqb-true s k same)))) (λ other. is)
 
-reset_used : (c : Connection) (k : ℕ) (stage : Stage) (code : ℕ) → IsReset c k stage code → stage ≡ unused → ⊥
-reset_used c k unused code resets is = resets
-reset_used c k asked code resets is = cc
-reset_used c k carrying code resets is = cc
-reset_used c k (failing due) code resets is = cc
-reset_used c k over code resets is = cc
+-- one at this stage is used
+used_at : (stage other : Stage) → stage ≡ other → (other ≡ unused → ⊥) → stage ≡ unused → ⊥
+used_at stage other is used was = used (sym is ∙ was)
+
+living_used : (stage : Stage) → is_living stage ≡ true → stage ≡ unused → ⊥
+living_used stage lives was = false≢true (sym (ap is_living was) ∙ lives)
 
 pub call_streams : (call : Entry) (x : Gateway) (s : ℕ) → stage_of (entered call x) s ≡ stage_of x s
 call_streams (e.Accepted k door) x s = refl
@@ -122,20 +124,25 @@ module _ (g : ℕ) (x y : Gateway) (s : ℕ) where
   step_unused (entry call) steps others is =
       stage_is (entered call (all_hear (entry call) x)) steps.1
       (call_streams call (all_hear (entry call) x) s ∙ hears_none x (entry call) s is)
-  step_unused (dialled call front) steps others is = stage_is _ steps.3 is
+  step_unused (dialled call key) steps others is = stage_is _ steps.1 is
   step_unused lacked steps others is = stage_is _ steps.1 (hears_none x lacked s is)
-  step_unused (looked ps told headers) steps others is = stage_is _ steps.5 (hears_none x (looked ps told headers) s is)
+  step_unused (looked ps told headers) steps others is = stage_is _ steps.6 (hears_none x (looked ps told headers) s is)
   step_unused (asks k captured authority) steps others is =
-      stage_is _ steps.3 (another k s x (λ t. record { stage = asked; captured = captured }) others.0 is)
-  step_unused (put k bytes) steps others is = stage_is _ steps.3 is
-  step_unused (finished k) steps others is = stage_is _ steps.2 is
+      stage_is _ steps.2 (another k s x (λ t. record no_stream { stage = asked; captured = captured }) others.0 is)
+  step_unused (tells k heard begun) steps others is =
+      stage_is _ steps.2
+      (cond_both (s == k) (record (x.streams s) { mail = None }) (x.streams s) (λ (t : Stream). t.stage ≡ unused) (λ same. is)
+      (λ apart. is))
+  step_unused (put k bytes count) steps others is = stage_is _ steps.4 is
+  step_unused (finished k) steps others is = stage_is _ steps.3 is
   step_unused (credited k n) steps others is = stage_is _ steps.2 is
   step_unused (reset k code) steps others is =
-      stage_is _ steps.2 (elsewhere k s x (λ t. record t { stage = over }) (reset_used x.conn k (stage_of x k) code steps.1) is)
-  step_unused (done k) steps others is =
-      stage_is _ steps.2 (elsewhere k s x (λ t. record t { stage = over })
-      (λ was. absurd (let both : carrying ≡ unused = sym steps.0.1 ∙ was in cc)) is)
-  step_unused (stopped why) steps others is = stage_is _ steps (hears_none x (stopped why) s is)
+      stage_is _ steps.2 (elsewhere k s x (at_stage over) (used_at (stage_of x k) (failing code) steps.1 (λ was. cc)) is)
+  step_unused (dropped k begun) steps others is =
+      stage_is _ steps.3 (elsewhere k s x (at_stage (dropped_to k x)) (living_used (stage_of x k) steps.0) is)
+  step_unused (done k begun) steps others is =
+      stage_is _ steps.3 (elsewhere k s x (at_stage over) (used_at (stage_of x k) carrying steps.0.0.1 (λ was. cc)) is)
+  step_unused (stopped why) steps others is = stage_is _ steps.1 (hears_none x (stopped why) s is)
 
 -- NUMBERS
 
@@ -150,7 +157,7 @@ number_above c s is =
     let next = number_by _ _ (next_odd (highest_used c)) s is in
     omega (arith, next)
 
-number_highest : (c : Connection) (s : ℕ) (headers : List Header) → next_stream c ≡ Ok s
+pub number_highest : (c : Connection) (s : ℕ) (headers : List Header) → next_stream c ≡ Ok s
     → highest_used (observed.opened c s headers false) ≡ s
 number_highest c s headers is = ap (λ (r : Result ℕ OpenFault). (after_number (streams c) r).highest) is
 
@@ -177,23 +184,24 @@ module _ (g : ℕ) (x y : Gateway) where
   same : y.conn ≡ x.conn → highest_used x.conn ≤ highest_used y.conn
   same is = to x.conn is (omega arith)
 
-  step_rises : (p : Part) → Steps g x p y → highest_used x.conn ≤ highest_used y.conn
+  pub step_rises : (p : Part) → Steps g x p y → highest_used x.conn ≤ highest_used y.conn
   step_rises (entry call) steps = to _ (ap (λ (z : Gateway). z.conn) steps.1) (call_rises call (all_hear (entry call) x))
-  step_rises (dialled call front) steps = same (ap (λ (z : Gateway). z.conn) steps.3)
+  step_rises (dialled call key) steps = same (ap (λ (z : Gateway). z.conn) steps.1)
   step_rises lacked steps = same (ap (λ (z : Gateway). z.conn) steps.1)
   step_rises (looked ps told headers) steps =
-      to steps.2 (ap (λ (z : Gateway). z.conn) steps.5) (points_raise x.conn steps.2 ps steps.3.runs)
+      to steps.3 (ap (λ (z : Gateway). z.conn) steps.6) (points_raise x.conn steps.3 ps steps.4.runs)
   step_rises (asks s captured authority) steps =
-      let above = number_above x.conn s steps.2 in
-      let highest = number_highest x.conn s (request_of authority) steps.2 in
-      to _ (ap (λ (z : Gateway). z.conn) steps.3) (omega (arith, above, highest))
-  step_rises (put s bytes) steps =
+      let above = number_above x.conn s steps.1 in
+      let highest = number_highest x.conn s (request_of authority) steps.1 in
+      to _ (ap (λ (z : Gateway). z.conn) steps.2) (omega (arith, above, highest))
+  step_rises (tells s heard begun) steps = same (ap (λ (z : Gateway). z.conn) steps.2)
+  step_rises (put s bytes count) steps =
       let d = observed.data_put x.conn s bytes in
-      to d (ap (λ (z : Gateway). z.conn) steps.3)
+      to d (ap (λ (z : Gateway). z.conn) steps.4)
       (points_raise x.conn d (act (history.put s bytes)) (core_of d, (refl, refl), refl))
   step_rises (finished s) steps =
       let d = observed.end_put x.conn s in
-      to d (ap (λ (z : Gateway). z.conn) steps.2) (points_raise x.conn d (act (history.ended s)) (core_of d, (refl, refl), refl))
+      to d (ap (λ (z : Gateway). z.conn) steps.3) (points_raise x.conn d (act (history.ended s)) (core_of d, (refl, refl), refl))
   step_rises (credited s n) steps =
       let d = observed.credited x.conn s n in
       to d (ap (λ (z : Gateway). z.conn) steps.2)
@@ -201,8 +209,9 @@ module _ (g : ℕ) (x y : Gateway) where
   step_rises (reset s code) steps =
       let d = observed.aborted x.conn s code in
       to d (ap (λ (z : Gateway). z.conn) steps.2) (points_raise x.conn d (act (history.reset s code)) (core_of d, (refl, refl), refl))
-  step_rises (done s) steps = same (ap (λ (z : Gateway). z.conn) steps.2)
-  step_rises (stopped why) steps = same (ap (λ (z : Gateway). z.conn) steps)
+  step_rises (dropped s begun) steps = same (ap (λ (z : Gateway). z.conn) steps.3)
+  step_rises (done s begun) steps = same (ap (λ (z : Gateway). z.conn) steps.3)
+  step_rises (stopped why) steps = same (ap (λ (z : Gateway). z.conn) steps.1)
 
 -- WHETHER THE GATEWAY GOES AWAY
 
@@ -255,16 +264,18 @@ call_away (e.Wait ready how) x = refl
 step_away : (g : ℕ) (x y : Gateway) (p : Part) → Steps g x p y → y.away ≡ (x.away || says_away p)
 step_away g x y (entry call) steps =
     ap (λ (z : Gateway). z.away) steps.1 ∙ call_away call (all_hear (entry call) x) ∙ or_false x.away
-step_away g x y (dialled call front) steps = ap (λ (z : Gateway). z.away) steps.3 ∙ or_false x.away
+step_away g x y (dialled call key) steps = ap (λ (z : Gateway). z.away) steps.1 ∙ or_false x.away
 step_away g x y lacked steps = ap (λ (z : Gateway). z.away) steps.1 ∙ or_false x.away
-step_away g x y (looked ps told headers) steps = ap (λ (z : Gateway). z.away) steps.5 ∙ away_told x.away told
-step_away g x y (asks s captured authority) steps = ap (λ (z : Gateway). z.away) steps.3 ∙ or_false x.away
-step_away g x y (put s bytes) steps = ap (λ (z : Gateway). z.away) steps.3 ∙ or_false x.away
-step_away g x y (finished s) steps = ap (λ (z : Gateway). z.away) steps.2 ∙ or_false x.away
+step_away g x y (looked ps told headers) steps = ap (λ (z : Gateway). z.away) steps.6 ∙ away_told x.away told
+step_away g x y (asks s captured authority) steps = ap (λ (z : Gateway). z.away) steps.2 ∙ or_false x.away
+step_away g x y (tells s heard begun) steps = ap (λ (z : Gateway). z.away) steps.2 ∙ or_false x.away
+step_away g x y (put s bytes count) steps = ap (λ (z : Gateway). z.away) steps.4 ∙ or_false x.away
+step_away g x y (finished s) steps = ap (λ (z : Gateway). z.away) steps.3 ∙ or_false x.away
 step_away g x y (credited s n) steps = ap (λ (z : Gateway). z.away) steps.2 ∙ or_false x.away
 step_away g x y (reset s code) steps = ap (λ (z : Gateway). z.away) steps.2 ∙ or_false x.away
-step_away g x y (done s) steps = ap (λ (z : Gateway). z.away) steps.2 ∙ or_false x.away
-step_away g x y (stopped why) steps = ap (λ (z : Gateway). z.away) steps ∙ or_false x.away
+step_away g x y (dropped s begun) steps = ap (λ (z : Gateway). z.away) steps.3 ∙ or_false x.away
+step_away g x y (done s begun) steps = ap (λ (z : Gateway). z.away) steps.3 ∙ or_false x.away
+step_away g x y (stopped why) steps = ap (λ (z : Gateway). z.away) steps.1 ∙ or_false x.away
 
 -- WHAT EVERY RUN KEEPS
 
@@ -284,17 +295,19 @@ all_both P (n ∷ ns) ms first second = (first.0, all_both P ns ms first.1 secon
 -- a stream that a part asks for is the highest behind it
 asked_highest : (g : ℕ) (x y : Gateway) (p : Part) → Steps g x p y → AllByRecursion (λ k. k ≤ highest_used y.conn) (asked_in p)
 asked_highest g x y (asks s captured authority) steps =
-    let highest = number_highest x.conn s (request_of authority) steps.2 in
-    (subst (λ (d : Connection). s ≤ highest_used d) (sym (ap (λ (z : Gateway). z.conn) steps.3)) (omega (arith, highest)), tt)
+    let highest = number_highest x.conn s (request_of authority) steps.1 in
+    (subst (λ (d : Connection). s ≤ highest_used d) (sym (ap (λ (z : Gateway). z.conn) steps.2)) (omega (arith, highest)), tt)
 asked_highest g x y (entry call) steps = tt
-asked_highest g x y (dialled call front) steps = tt
+asked_highest g x y (dialled call key) steps = tt
 asked_highest g x y lacked steps = tt
 asked_highest g x y (looked ps told headers) steps = tt
-asked_highest g x y (put s bytes) steps = tt
+asked_highest g x y (tells s heard begun) steps = tt
+asked_highest g x y (put s bytes count) steps = tt
 asked_highest g x y (finished s) steps = tt
 asked_highest g x y (credited s n) steps = tt
 asked_highest g x y (reset s code) steps = tt
-asked_highest g x y (done s) steps = tt
+asked_highest g x y (dropped s begun) steps = tt
+asked_highest g x y (done s begun) steps = tt
 asked_highest g x y (stopped why) steps = tt
 
 step_knows : (g : ℕ) (x y : Gateway) (parts : List Part) (p : Part) → Steps g x p y → Knows parts x → Knows (parts ++ p ∷ []) y
@@ -343,16 +356,19 @@ may_ask g x before s stands room number =
     }
 
 next : (g : ℕ) (x y : Gateway) (before : List Part) (p : Part) → StandsFor g x before → Steps g x p y → AsksAt before p
-next g x y before (asks s captured authority) stands steps = may_ask g x before s stands steps.1 steps.2
+next g x y before (asks s captured authority) stands steps =
+    may_ask g x before s stands (and_parts (carries x.phase) (has_room x) steps.0).1 steps.1
 next g x y before (entry call) stands steps = tt
-next g x y before (dialled call front) stands steps = tt
+next g x y before (dialled call key) stands steps = tt
 next g x y before lacked stands steps = tt
 next g x y before (looked ps told headers) stands steps = tt
-next g x y before (put s bytes) stands steps = tt
+next g x y before (tells s heard begun) stands steps = tt
+next g x y before (put s bytes count) stands steps = tt
 next g x y before (finished s) stands steps = tt
 next g x y before (credited s n) stands steps = tt
 next g x y before (reset s code) stands steps = tt
-next g x y before (done s) stands steps = tt
+next g x y before (dropped s begun) stands steps = tt
+next g x y before (done s begun) stands steps = tt
 next g x y before (stopped why) stands steps = tt
 
 pub ask : RunsAsk

@@ -1,5 +1,6 @@
 -- No tunnel lives on a link that ended, in every run.
-use Rattle.std.proofs.Common.{◌≡◌, ℕ, false, Some, refl, ap, sym, ◌∙◌, subst}
+use Rattle.std.proofs.Common.{◌≡◌, ℕ, ◌==◌, ◌&&◌, false, Some, None, refl, ap, sym, ◌∙◌, subst}
+use Rattle.std.proofs.lemmas.Bool.{false≢true, cond_both, and_parts}
 use Rattle.hb_base.specs.declared.cause.Cause.{Cause}
 use Rattle.hb_base.specs.declared.cause.Cause.TheVariants as cause
 use Rattle.hb_conn.specs.declared.found.Found.{Found}
@@ -7,11 +8,11 @@ use Rattle.hb_conn.specs.declared.found.Found.TheVariants as found
 use Rattle.hb_world.specs.declared.entry.Entry.{Entry}
 use Rattle.hb_world.specs.declared.entry.Entry.TheVariants as e
 use Rattle.hb_gateway.specs.Calm.{close_due}
-use Rattle.hb_gateway.specs.Gateway.{Gateway, Phase, unborn, opening, serving, faulted, closing, closed, stage_of, went_by, phase_by, break_cause}
+use Rattle.hb_gateway.specs.Gateway.{Gateway, Phase, Stream, unborn, opening, serving, faulted, closing, closed, stage_of, at_stage, carries, has_room, is_active, dropped_to, went_by, phase_by, break_cause}
 use Rattle.hb_gateway.specs.Hears.{after, all_hear, left_behind}
 use Rattle.hb_gateway.specs.Laws.{RunsEndTunnels}
-use Rattle.hb_gateway.specs.Part.{Part, entry, dialled, lacked, looked, asks, put, finished, credited, reset, done, stopped}
-use Rattle.hb_gateway.specs.Response.{Stage, unused, asked, carrying, failing, over, failed, is_living}
+use Rattle.hb_gateway.specs.Part.{Part, entry, dialled, lacked, looked, asks, tells, put, finished, credited, reset, dropped, done, stopped}
+use Rattle.hb_gateway.specs.Response.{Stage, unused, asked, carrying, failing, over, cancel, failed, is_living}
 use Rattle.hb_gateway.specs.Runs.{MayCome, entered, Carries, Steps, begins, goes_on}
 
 -- behind a failure that leaves it over no tunnel lives
@@ -26,17 +27,22 @@ went_carries : (phase : Phase) → Carries phase → Carries (went_by phase)
 went_carries unborn carries = carries
 went_carries opening carries = carries
 went_carries serving carries = carries
-went_carries (faulted code) carries = absurd carries
+went_carries (faulted code) carries = absurd (false≢true carries)
 went_carries (closing why) carries = carries
 went_carries closed carries = carries
 
 due_ended : (phase : Phase) (why : Cause) → close_due phase ≡ Some why → Carries phase → ⊥
-due_ended unborn why is carries = carries
+due_ended unborn why is carries = false≢true carries
 due_ended opening why is carries = cc
 due_ended serving why is carries = cc
-due_ended (faulted code) why is carries = carries
-due_ended (closing cause) why is carries = carries
-due_ended closed why is carries = carries
+due_ended (faulted code) why is carries = false≢true carries
+due_ended (closing cause) why is carries = false≢true carries
+due_ended closed why is carries = false≢true carries
+
+-- so is one that was given up
+pub given_up : (s : ℕ) (x : Gateway) → is_living (dropped_to s x) ≡ false
+given_up s x =
+    cond_both (carries x.phase && is_active x.conn s) (failing cancel) over (λ (t : Stage). is_living t ≡ false) (λ is. refl) (λ is. refl)
 
 abbrev pub IsSilent : Gateway → Type 0
 IsSilent x = (Carries x.phase → ⊥) → (s : ℕ) → is_living (stage_of x s) ≡ false
@@ -57,7 +63,7 @@ module _ (g : ℕ) (x y : Gateway) (silent : IsSilent x) where
       ∙ silent (λ had. ended (subst (λ (w : Gateway). Carries w.phase) (sym is) (carries had))) s
 
   call_silent : (call : Entry) → MayCome g x call → y ≡ entered call (all_hear (entry call) x) → IsSilent y
-  call_silent (e.Opened k) may is = still serving (ap (λ (w : Gateway). w.phase) is) tt
+  call_silent (e.Opened k) may is = still serving (ap (λ (w : Gateway). w.phase) is) refl
   call_silent (e.Came k bytes) may is = same _ is (λ s. refl) (λ had. had)
   call_silent (e.Ended k) may is = becomes _ is (λ s. silenced (entry (e.Ended k)) cause.PeerGone (stage_of x s) refl)
   call_silent (e.Went k bytes) may is = same _ is (λ s. refl) (went_carries x.phase)
@@ -74,30 +80,38 @@ module _ (g : ℕ) (x y : Gateway) (silent : IsSilent x) where
   told_silent : (told : Found) → y.phase ≡ phase_by serving told
       → ((code : ℕ) → told ≡ found.Fault code → IsSilent y) → IsSilent y
   told_silent (found.Fault code) phase faults = faults code refl
-  told_silent found.Silent phase faults = still serving phase tt
-  told_silent (found.Opened s end) phase faults = still serving phase tt
-  told_silent (found.Chunk s end) phase faults = still serving phase tt
-  told_silent (found.Ended s) phase faults = still serving phase tt
-  told_silent (found.Reset s code) phase faults = still serving phase tt
-  told_silent (found.Broken s code) phase faults = still serving phase tt
-  told_silent (found.GoneAway last) phase faults = still serving phase tt
+  told_silent found.Silent phase faults = still serving phase refl
+  told_silent (found.Opened s end) phase faults = still serving phase refl
+  told_silent (found.Chunk s end) phase faults = still serving phase refl
+  told_silent (found.Ended s) phase faults = still serving phase refl
+  told_silent (found.Reset s code) phase faults = still serving phase refl
+  told_silent (found.Broken s code) phase faults = still serving phase refl
+  told_silent (found.GoneAway last) phase faults = still serving phase refl
 
   step_silent : (p : Part) → Steps g x p y → IsSilent y
   step_silent (entry call) steps = call_silent call steps.0 steps.1
-  step_silent (dialled call front) steps = still opening (ap (λ (w : Gateway). w.phase) steps.3) tt
+  step_silent (dialled call key) steps = still opening (ap (λ (w : Gateway). w.phase) steps.1) refl
   step_silent lacked steps = becomes _ steps.1 (λ s. silenced lacked cause.NoMemory (stage_of x s) refl)
   step_silent (looked ps told headers) steps =
       told_silent told
-      (ap (λ (w : Gateway). w.phase) steps.5 ∙ ap (λ (ph : Phase). phase_by ph told) steps.0)
+      (ap (λ (w : Gateway). w.phase) steps.6 ∙ ap (λ (ph : Phase). phase_by ph told) steps.0)
       (λ code is. subst (λ (t : Found). Steps g x (looked ps t headers) y → IsSilent y) (sym is)
-      (λ now. becomes _ now.5 (λ s. silenced (looked ps (found.Fault code) headers) (cause.ConnFault code) (stage_of x s) refl)) steps)
-  step_silent (asks s captured authority) steps = still x.phase (ap (λ (w : Gateway). w.phase) steps.3) steps.0
-  step_silent (put s bytes) steps = still x.phase (ap (λ (w : Gateway). w.phase) steps.3) steps.0.0
-  step_silent (finished s) steps = still x.phase (ap (λ (w : Gateway). w.phase) steps.2) steps.0.0
+      (λ now. becomes _ now.6 (λ s. silenced (looked ps (found.Fault code) headers) (cause.ConnFault code) (stage_of x s) refl)) steps)
+  step_silent (asks s captured authority) steps =
+      still x.phase (ap (λ (w : Gateway). w.phase) steps.2) (and_parts (carries x.phase) (has_room x) steps.0).0
+  step_silent (tells k heard begun) steps =
+      same _ steps.2 (λ s. cond_both (s == k) (record (x.streams s) { mail = None }) (x.streams s) (λ (t : Stream). t.stage ≡ stage_of x s)
+      (λ is. refl) (λ is. refl)) (λ had. had)
+  step_silent (put s bytes count) steps = still x.phase (ap (λ (w : Gateway). w.phase) steps.4) steps.0.0
+  step_silent (finished s) steps = still x.phase (ap (λ (w : Gateway). w.phase) steps.3) steps.0.0
   step_silent (credited s n) steps = still x.phase (ap (λ (w : Gateway). w.phase) steps.2) steps.0.0
   step_silent (reset s code) steps = still x.phase (ap (λ (w : Gateway). w.phase) steps.2) steps.0
-  step_silent (done s) steps = still x.phase (ap (λ (w : Gateway). w.phase) steps.2) steps.0.0
-  step_silent (stopped why) steps = becomes _ steps (λ s. silenced (stopped why) why (stage_of x s) refl)
+  step_silent (dropped k begun) steps = λ ended s.
+      ap (λ (w : Gateway). is_living (stage_of w s)) steps.3
+      ∙ cond_both (s == k) (at_stage (dropped_to k x) (x.streams s)) (x.streams s) (λ (t : Stream). is_living t.stage ≡ false)
+      (λ is. given_up k x) (λ is. silent (λ had. ended (subst (λ (w : Gateway). Carries w.phase) (sym steps.3) had)) s)
+  step_silent (done s begun) steps = still x.phase (ap (λ (w : Gateway). w.phase) steps.3) steps.0.0.0
+  step_silent (stopped why) steps = becomes _ steps.1 (λ s. silenced (stopped why) why (stage_of x s) refl)
 
 pub end_tunnels : RunsEndTunnels
 end_tunnels g x parts (begins is none) ended s = ap (λ (w : Gateway). is_living (stage_of w s)) is

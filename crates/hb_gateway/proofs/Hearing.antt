@@ -14,13 +14,13 @@ use Rattle.hb_model.specs.Discovery.{status_of, is_interim}
 use Rattle.hb_world.specs.declared.entry.Entry.{Entry}
 use Rattle.hb_world.specs.declared.entry.Entry.TheVariants as e
 use Rattle.hb_gateway.specs.Asks.{asked_in, asked_of}
-use Rattle.hb_gateway.specs.Gateway.{Gateway, Phase, Stream, stage_of, at_stream, break_cause}
+use Rattle.hb_gateway.specs.Gateway.{Gateway, Phase, Stream, no_stream, stage_of, at_stage, at_stream, carries, is_active, dropped_to, break_cause}
 use Rattle.hb_gateway.specs.Hears.{hears_call, hears, left_behind, after, all_hear}
 use Rattle.hb_gateway.specs.Laws.{RunsHearInOrder, UnaskedHearNothing}
 use Rattle.hb_gateway.specs.Order as order
 use Rattle.hb_gateway.specs.Order.{if_heard, HearsAll, Progress, waits, is_open, has_failed, out_of_order, hearing, progress_of, IsInOrder}
-use Rattle.hb_gateway.specs.Part.{Part, entry, dialled, lacked, looked, asks, put, finished, credited, reset, done, stopped}
-use Rattle.hb_gateway.specs.Response.{Stage, unused, asked, carrying, failing, over, Heard, opens, brings, ends, fails, is_success, refusal_of, answered, headed, brought, ended, failed, heard_of, left_by}
+use Rattle.hb_gateway.specs.Part.{Part, entry, dialled, lacked, looked, asks, tells, put, finished, credited, reset, dropped, done, stopped}
+use Rattle.hb_gateway.specs.Response.{Stage, unused, asked, carrying, failing, over, cancel, Heard, opens, brings, ends, fails, is_success, refusal_of, answered, headed, brought, ended, failed, heard_of, left_by}
 use Rattle.hb_gateway.specs.Runs.{entered, Steps, StandsFor}
 use Rattle.hb_gateway.specs.Runs as runs
 use Rattle.hb_gateway.proofs.Asking.{step_unused, number_above, all_know, call_streams}
@@ -32,12 +32,12 @@ abbrev pub IsOf : Stage → Option Heard → Type 0
 IsOf stage None = Unit {0}
 IsOf asked (Some (opens end)) = Unit {0}
 IsOf asked (Some (fails why)) = Unit {0}
-IsOf carrying (Some (brings bytes end)) = Unit {0}
+IsOf carrying (Some (brings bytes)) = Unit {0}
 IsOf carrying (Some ends) = Unit {0}
 IsOf carrying (Some (fails why)) = Unit {0}
 IsOf stage heard = ⊥
 
-failed_of : (why : Cause) (stage : Stage) → IsOf stage (failed why stage)
+pub failed_of : (why : Cause) (stage : Stage) → IsOf stage (failed why stage)
 failed_of why unused = tt
 failed_of why asked = tt
 failed_of why carrying = tt
@@ -59,12 +59,12 @@ headed_of carrying status end = tt
 headed_of (failing code) status end = tt
 headed_of over status end = tt
 
-brought_of : (stage : Stage) (bytes : List ℕ) (end : Bool) → IsOf stage (brought stage bytes end)
-brought_of unused bytes end = tt
-brought_of asked bytes end = tt
-brought_of carrying bytes end = tt
-brought_of (failing code) bytes end = tt
-brought_of over bytes end = tt
+brought_of : (stage : Stage) (bytes : List ℕ) → IsOf stage (brought stage bytes)
+brought_of unused bytes = tt
+brought_of asked bytes = tt
+brought_of carrying bytes = tt
+brought_of (failing code) bytes = tt
+brought_of over bytes = tt
 
 ended_of : (stage : Stage) → IsOf stage (ended stage)
 ended_of unused = tt
@@ -73,13 +73,13 @@ ended_of carrying = tt
 ended_of (failing code) = tt
 ended_of over = tt
 
-told_of : (s : ℕ) (stage : Stage) (headers : List Header) (bytes : List ℕ) (told : Found)
+pub told_of : (s : ℕ) (stage : Stage) (headers : List Header) (bytes : List ℕ) (told : Found)
     → IsOf stage (heard_of s stage headers bytes told)
 told_of s stage headers bytes found.Silent = tt
 told_of s stage headers bytes (found.Opened k end) =
     cond_both (k == s) (headed stage (status_of headers) end) None (IsOf stage) (λ is. headed_of stage (status_of headers) end) (λ is. tt)
 told_of s stage headers bytes (found.Chunk k end) =
-    cond_both (k == s) (brought stage bytes end) None (IsOf stage) (λ is. brought_of stage bytes end) (λ is. tt)
+    cond_both (k == s) (brought stage bytes) None (IsOf stage) (λ is. brought_of stage bytes) (λ is. tt)
 told_of s stage headers bytes (found.Ended k) =
     cond_both (k == s) (ended stage) None (IsOf stage) (λ is. ended_of stage) (λ is. tt)
 told_of s stage headers bytes (found.Reset k code) =
@@ -90,7 +90,7 @@ told_of s stage headers bytes (found.GoneAway last) =
     cond_both (nat_lt last s) (failed cause.GoneAway stage) None (IsOf stage) (λ is. failed_of cause.GoneAway stage) (λ is. tt)
 told_of s stage headers bytes (found.Fault code) = failed_of (cause.ConnFault code) stage
 
-called_of : (phase : Phase) (stage : Stage) (call : Entry) → IsOf stage (hears_call phase stage call)
+pub called_of : (phase : Phase) (stage : Stage) (call : Entry) → IsOf stage (hears_call phase stage call)
 called_of phase stage (e.Accepted k door) = tt
 called_of phase stage (e.Dialled k to why) = tt
 called_of phase stage (e.DialFailed to why) = tt
@@ -123,6 +123,10 @@ in_order carrying all fits is = absurd (let both : is_open ≡ out_of_order = sy
 in_order (failing code) all fits is = fits is
 in_order over all fits is = fits is
 
+dropped_order : (s : ℕ) (x : Gateway) (all : List Heard) → IsInOrder all → OrderBy (dropped_to s x) all
+dropped_order s x all fits =
+    cond_both (carries x.phase && is_active x.conn s) (failing cancel) over (λ (t : Stage). OrderBy t all) (λ is. fits) (λ is. fits)
+
 -- behind a failure
 behind_told : (told : Found) (why : Cause) (all : List Heard) → IsInOrder all → OrderBy (left_by told why) all
 behind_told found.Silent why all fits = fits
@@ -137,14 +141,16 @@ behind_told (found.Fault code) why all fits = fits
 behind : (p : Part) (why : Cause) (all : List Heard) → IsInOrder all → OrderBy (left_behind p why) all
 behind (looked ps told headers) why all fits = behind_told told why all fits
 behind (entry call) why all fits = fits
-behind (dialled call front) why all fits = fits
+behind (dialled call key) why all fits = fits
 behind lacked why all fits = fits
 behind (asks s captured authority) why all fits = fits
-behind (put s bytes) why all fits = fits
+behind (tells s heard begun) why all fits = fits
+behind (put s bytes count) why all fits = fits
 behind (finished s) why all fits = fits
 behind (credited s n) why all fits = fits
 behind (reset s code) why all fits = fits
-behind (done s) why all fits = fits
+behind (dropped s begun) why all fits = fits
+behind (done s begun) why all fits = fits
 behind (stopped cause) why all fits = fits
 
 module _ (all : List Heard) where
@@ -162,13 +168,13 @@ module _ (all : List Heard) where
   heard_on p stage None may fits = subst (OrderBy stage) (sym (append-nil all)) fits
   heard_on p asked (Some (opens end)) may fits = one (opens end) waits is_open fits refl
   heard_on p asked (Some (fails why)) may fits = behind p why (all ++ fails why ∷ []) (fails_so why waits fits refl)
-  heard_on p carrying (Some (brings bytes end)) may fits = one (brings bytes end) is_open is_open fits refl
+  heard_on p carrying (Some (brings bytes)) may fits = one (brings bytes) is_open is_open fits refl
   heard_on p carrying (Some ends) may fits = one ends is_open is_open fits refl
   heard_on p carrying (Some (fails why)) may fits = behind p why (all ++ fails why ∷ []) (fails_so why is_open fits refl)
   heard_on p unused (Some heard) may fits = absurd may
   heard_on p (failing code) (Some heard) may fits = absurd may
   heard_on p over (Some heard) may fits = absurd may
-  heard_on p asked (Some (brings bytes end)) may fits = absurd may
+  heard_on p asked (Some (brings bytes)) may fits = absurd may
   heard_on p asked (Some ends) may fits = absurd may
   heard_on p carrying (Some (opens end)) may fits = absurd may
 
@@ -204,26 +210,31 @@ module _ (g s : ℕ) (x y : Gateway) (parts : List Part) (all : List Heard) (sta
       stage_at (entered call (all_hear (entry call) x)) (all ++ if_heard (hears x (entry call) s)) steps.1
       (subst (λ (t : Stage). OrderBy t (all ++ if_heard (hears x (entry call) s))) (sym (call_streams call (all_hear (entry call) x) s))
       (heard_at (entry call) (called_of x.phase (stage_of x s) call)))
-  step_hears (dialled call front) steps = stage_at _ (all ++ []) steps.3 same
+  step_hears (dialled call key) steps = stage_at _ (all ++ []) steps.1 same
   step_hears lacked steps =
       stage_at _ (all ++ if_heard (hears x lacked s)) steps.1 (heard_at lacked (failed_of cause.NoMemory (stage_of x s)))
   step_hears (looked ps told headers) steps =
-      stage_at _ (all ++ if_heard (hears x (looked ps told headers) s)) steps.5
+      stage_at _ (all ++ if_heard (hears x (looked ps told headers) s)) steps.6
       (heard_at (looked ps told headers) (told_of s (stage_of x s) headers (flat_map data_in ps) told))
   step_hears (asks k captured authority) steps =
-      stage_at _ (all ++ []) steps.3
-      (moved k (λ t. record { stage = asked; captured = captured })
+      stage_at _ (all ++ []) steps.2
+      (moved k (λ t. record no_stream { stage = asked; captured = captured })
       (λ is. none_fits all (subst (λ (t : Stage). OrderBy t all)
-      ((all_know g x parts stands).unused s (subst (λ (n : ℕ). highest_used x.conn < n) is (number_above x.conn k steps.2))) fits)))
-  step_hears (put k bytes) steps = stage_at _ (all ++ []) steps.3 same
-  step_hears (finished k) steps = stage_at _ (all ++ []) steps.2 same
+      ((all_know g x parts stands).unused s (subst (λ (n : ℕ). highest_used x.conn < n) is (number_above x.conn k steps.1))) fits)))
+  step_hears (tells k heard begun) steps =
+      stage_at _ (all ++ []) steps.2 (moved k (λ t. record t { mail = None }) (λ is. fits))
+  step_hears (put k bytes count) steps = stage_at _ (all ++ []) steps.4 same
+  step_hears (finished k) steps = stage_at _ (all ++ []) steps.3 same
   step_hears (credited k n) steps = stage_at _ (all ++ []) steps.2 same
   step_hears (reset k code) steps =
-      stage_at _ (all ++ []) steps.2 (moved k (λ t. record t { stage = over }) (λ is. in_order (stage_of x s) all fits))
-  step_hears (done k) steps =
-      stage_at _ (all ++ []) steps.2 (moved k (λ t. record t { stage = over }) (λ is. in_order (stage_of x s) all fits))
+      stage_at _ (all ++ []) steps.2 (moved k (at_stage over) (λ is. in_order (stage_of x s) all fits))
+  step_hears (dropped k begun) steps =
+      stage_at _ (all ++ []) steps.3
+      (moved k (at_stage (dropped_to k x)) (λ is. dropped_order k x all (in_order (stage_of x s) all fits)))
+  step_hears (done k begun) steps =
+      stage_at _ (all ++ []) steps.3 (moved k (at_stage over) (λ is. in_order (stage_of x s) all fits))
   step_hears (stopped why) steps =
-      stage_at _ (all ++ if_heard (hears x (stopped why) s)) steps (heard_at (stopped why) (failed_of why (stage_of x s)))
+      stage_at _ (all ++ if_heard (hears x (stopped why) s)) steps.1 (heard_at (stopped why) (failed_of why (stage_of x s)))
 
 pub all_hear_so : (g s : ℕ) (x : Gateway) (parts : List Part) (all : List Heard) → HearsAll g s x parts all → OrderBy (stage_of x s) all
 all_hear_so g s x parts all (order.begins is none silent) = subst (λ (w : Gateway). OrderBy (stage_of w s) all) (sym is) silent

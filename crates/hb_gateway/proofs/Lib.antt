@@ -1,8 +1,13 @@
 pub mod Asking
+pub mod Bringing
 pub mod Ending
 pub mod Fronts
 pub mod Grown
 pub mod Hearing
+pub mod Numbered
 pub mod Refused
 pub mod Runs
+pub mod Sending
+pub mod SendsRun
+pub mod Telling
 pub mod WindowsRun

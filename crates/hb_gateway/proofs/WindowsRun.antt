@@ -7,7 +7,7 @@ use Rattle.hb_world.specs.declared.entry.Entry.TheVariants as e
 use Rattle.hb_gateway.specs.Connections.{conn_went, WindowsBy, WindowsAt}
 use Rattle.hb_gateway.specs.Gateway.{Gateway}
 use Rattle.hb_gateway.specs.Laws.{RunsObeyWindows}
-use Rattle.hb_gateway.specs.Part.{Part, entry, dialled, lacked, looked, asks, put, finished, credited, reset, done, stopped, moves, tellings, link_came, left_of}
+use Rattle.hb_gateway.specs.Part.{Part, entry, dialled, lacked, looked, asks, tells, put, finished, credited, reset, dropped, done, stopped, moves, tellings, link_came, left_of}
 use Rattle.hb_gateway.specs.Runs.{Steps, StandsFor}
 use Rattle.hb_gateway.proofs.Grown.{at_parts}
 use Rattle.hb_gateway.proofs.Runs.{all_keep}
@@ -37,15 +37,17 @@ module _ (g : ℕ) (x : Gateway) (before : List Part) (stands : StandsFor g x be
 
 next : (g : ℕ) (x y : Gateway) (before : List Part) (p : Part) → StandsFor g x before → Steps g x p y → WindowsAt before p
 next g x y before (entry call) stands steps = goes g x before stands call
-next g x y before (dialled call front) stands steps = tt
+next g x y before (dialled call key) stands steps = tt
 next g x y before lacked stands steps = tt
 next g x y before (looked ps told headers) stands steps = tt
 next g x y before (asks s captured authority) stands steps = tt
-next g x y before (put s bytes) stands steps = tt
+next g x y before (tells s heard begun) stands steps = tt
+next g x y before (put s bytes count) stands steps = tt
 next g x y before (finished s) stands steps = tt
 next g x y before (credited s n) stands steps = tt
 next g x y before (reset s code) stands steps = tt
-next g x y before (done s) stands steps = tt
+next g x y before (dropped s begun) stands steps = tt
+next g x y before (done s begun) stands steps = tt
 next g x y before (stopped why) stands steps = tt
 
 pub obey_windows : RunsObeyWindows

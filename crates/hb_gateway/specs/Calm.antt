@@ -5,7 +5,7 @@ use Rattle.hb_base.specs.declared.cause.Cause.TheVariants as cause
 use Rattle.hb_conn.specs.Observed.{IsLookedAt}
 use Rattle.hb_kept.specs.Kept.{wants_of}
 use Rattle.hb_gateway.specs.Gateway as gateway
-use Rattle.hb_gateway.specs.Gateway.{Gateway, Phase, serving, faulted, closing, stage_of}
+use Rattle.hb_gateway.specs.Gateway.{Gateway, Phase, opening, serving, faulted, closing, stage_of}
 use Rattle.hb_gateway.specs.Response.{Stage, failing}
 
 -- so many octets that every answer to them has room
@@ -32,13 +32,18 @@ is_failing stage = false
 abbrev pub AllReset : Gateway → Type 0
 AllReset x = (s : ℕ) → is_failing (stage_of x s) ≡ false
 
+-- each tunnel was told what it heard
+abbrev pub AllTold : Gateway → Type 0
+AllTold x = (s : ℕ) → (x.streams s).mail ≡ None
+
 -- nor is anything left to be looked at
 abbrev pub IsCalmBy : Phase → Gateway → Type 0
+IsCalmBy opening x = AllReset x
 IsCalmBy serving x = AllReset x × IsLookedAt x.conn
 IsCalmBy phase x = ⊤
 
 abbrev pub IsCalm : Gateway → Type 0
-IsCalm x = IsCalmBy x.phase x
+IsCalm x = AllTold x × IsCalmBy x.phase x
 
 abbrev pub close_due : Phase → Option Cause
 close_due (closing cause) = Some cause

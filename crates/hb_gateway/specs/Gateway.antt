@@ -1,18 +1,21 @@
 -- A link to a gateway as a machine: a front header that this end writes, then a client's connection with a tunnel of a captured link on
 -- each stream that was asked for.
-use Rattle.std.specs.Prelude.{ℕ, ◌-◌, ◌==◌, if◌then◌else◌, nat_le, ◌&&◌, not, Bool, true, false, List, [], ◌∷◌, ◌++◌, length, drop, is_ok, codes}
+use Rattle.std.specs.Prelude.{ℕ, ◌+◌, ◌-◌, ◌==◌, if◌then◌else◌, nat_le, ◌&&◌, ◌||◌, not, Bool, true, false, List, [], ◌∷◌, ◌++◌, length, drop, is_ok, codes, Option, Some, None}
 use Rattle.hb_base.specs.TargetText.{target_text}
 use Rattle.hb_base.specs.declared.cause.Cause.{Cause}
 use Rattle.hb_base.specs.declared.cause.Cause.TheVariants as cause
 use Rattle.hb_base.specs.declared.target.Target.{Target}
 use Rattle.hb_conn.specs.Connection.{Connection, fresh_client, taken}
 use Rattle.hb_conn.specs.Observed as connection
-use Rattle.hb_conn.specs.Observed.{next_stream, streams_open, room}
+use Rattle.hb_conn.specs.Observed.{next_stream, streams_open, room, sides, frames_begun}
 use Rattle.hb_conn.specs.declared.found.Found.{Found}
 use Rattle.hb_conn.specs.declared.found.Found.TheVariants as found
 use Rattle.hb_hpack.specs.StaticTable.{header}
+use Rattle.hb_frames.specs.RawFrame.{RawFrame}
 use Rattle.hb_hpack.specs.declared.header.Header.{Header}
-use Rattle.hb_gateway.specs.Response.{Stage, unused, asked}
+use Rattle.hb_outgoing.specs.Selected.{data_size}
+use Rattle.hb_gateway.specs.Key.{Key, no_key}
+use Rattle.hb_gateway.specs.Response.{Stage, Heard, unused, asked, failing, over, cancel}
 
 -- how far the link is
 pub data Phase : Type 0 where
@@ -31,8 +34,14 @@ pub record Stream : Type 0 where
   pub stage : Stage
   -- the captured link whose tunnel it carries
   pub captured : ℕ
+  -- what its tunnel is still to be told
+  pub mail : Option Heard
+  -- the bytes of it in DATA frames of which an octet was written
+  pub begun : ℕ
 
 pub record Gateway : Type 0 where
+  -- for whom it is
+  pub key : Key
   pub phase : Phase
   -- the bytes of the front header that aren't written
   pub front : List ℕ
@@ -41,13 +50,18 @@ pub record Gateway : Type 0 where
   -- the gateway goes away: it takes no more streams (RFC 9113 section 6.8)
   pub away : Bool
 
+-- nothing was asked on it
+abbrev pub no_stream : Stream
+no_stream = record { stage = unused; captured = 0; mail = None; begun = 0 }
+
 -- before its birth
 abbrev pub no_link : Gateway
 no_link = record {
+  key = no_key;
   phase = unborn;
   front = [];
   conn = fresh_client;
-  streams = λ s. record { stage = unused; captured = 0 };
+  streams = λ s. no_stream;
   away = false;
 }
 
@@ -64,10 +78,19 @@ at_stage stage t = record t { stage = stage }
 abbrev pub at_stream : ℕ → (Stream → Stream) → Gateway → Gateway
 at_stream s change x = record x { streams = λ k. if k == s then change (x.streams k) else x.streams k }
 
+-- streams are asked for and used from the birth on, while no end came
+abbrev pub carries : Phase → Bool
+carries opening = true
+carries serving = true
+carries phase = false
+
 -- IT MAY CARRY ONE TUNNEL MORE: the gateway doesn't go away, fewer streams are open than its limit and 100, a number is left, and 1,024
 -- octets have room
 abbrev pub has_room : Gateway → Bool
 has_room x = not x.away && is_ok (next_stream x.conn) && nat_le 1024 (room x.conn)
+
+abbrev pub offers : Gateway → Bool
+offers x = carries x.phase && has_room x
 
 -- the request for a tunnel (RFC 9113 section 8.5)
 abbrev pub request_of : Target → List Header
@@ -76,7 +99,7 @@ request_of authority = header (codes ":method") (codes "CONNECT") ∷ header (co
 -- a tunnel of this captured link is asked for on this stream
 abbrev pub asked_on : ℕ → (captured : ℕ) → Target → Gateway → Gateway
 asked_on s captured authority x =
-    record (at_stream s (λ t. record { stage = asked; captured = captured }) x) {
+    record (at_stream s (λ t. record no_stream { stage = asked; captured = captured }) x) {
       conn = connection.opened x.conn s (request_of authority) false;
     }
 
@@ -91,11 +114,16 @@ abbrev pub went_by : Phase → Phase
 went_by (faulted code) = closing (cause.ConnFault code)
 went_by phase = phase
 
+-- with them these DATA frames of a stream begin
+abbrev pub with_begun : List RawFrame → ℕ → Stream → Stream
+with_begun frames s t = record t { begun = t.begun + data_size (Some s) frames }
+
 abbrev pub went : ℕ → Gateway → Gateway
 went n x = record x {
   phase = went_by x.phase;
   front = drop n x.front;
   conn = connection.wrote x.conn (n - length x.front);
+  streams = λ s. with_begun (frames_begun (n - length x.front) x.conn) s (x.streams s);
 }
 
 abbrev pub came : List ℕ → Gateway → Gateway
@@ -141,3 +169,11 @@ abbrev pub stops_by : Cause → Phase → Phase
 stops_by cause opening = closing cause
 stops_by cause serving = closing cause
 stops_by cause phase = phase
+
+-- ITS CAPTURED LINK ENDS A TUNNEL: the stream is to be reset while a side of it is open
+
+abbrev pub is_active : Connection → ℕ → Bool
+is_active conn s = (sides conn s).own || (sides conn s).peer
+
+abbrev pub dropped_to : ℕ → Gateway → Stage
+dropped_to s x = if carries x.phase && is_active x.conn s then failing cancel else over

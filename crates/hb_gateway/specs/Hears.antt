@@ -6,7 +6,7 @@ use Rattle.hb_base.specs.declared.cause.Cause.TheVariants as cause
 use Rattle.hb_history.specs.Points.{data_in}
 use Rattle.hb_world.specs.declared.entry.Entry.{Entry}
 use Rattle.hb_world.specs.declared.entry.Entry.TheVariants as e
-use Rattle.hb_gateway.specs.Gateway.{Gateway, Phase, stage_of, at_stage, break_cause}
+use Rattle.hb_gateway.specs.Gateway.{Gateway, Stream, Phase, stage_of, break_cause}
 use Rattle.hb_gateway.specs.Part.{Part, entry, lacked, looked, stopped}
 use Rattle.hb_gateway.specs.Response.{Stage, over, carrying, Heard, opens, brings, ends, fails, failed, heard_of, left_by}
 
@@ -35,9 +35,18 @@ left_behind part cause = over
 abbrev pub after : Part → Stage → Option Heard → Stage
 after part stage None = stage
 after part stage (Some (opens end)) = carrying
-after part stage (Some (brings bytes end)) = stage
+after part stage (Some (brings bytes)) = stage
 after part stage (Some ends) = stage
 after part stage (Some (fails cause)) = left_behind part cause
 
+-- it waits to be told
+abbrev pub posted : Option Heard → Option Heard → Option Heard
+posted None mail = mail
+posted (Some heard) mail = Some heard
+
+abbrev pub hearing : Stage → Option Heard → Stream → Stream
+hearing stage heard t = record t { stage = stage; mail = posted heard t.mail }
+
 abbrev pub all_hear : Part → Gateway → Gateway
-all_hear part x = record x { streams = λ s. at_stage (after part (stage_of x s) (hears x part s)) (x.streams s) }
+all_hear part x =
+    record x { streams = λ s. hearing (after part (stage_of x s) (hears x part s)) (hears x part s) (x.streams s) }

@@ -1,13 +1,14 @@
 -- What every run of a link to a gateway obeys.
-use Rattle.std.specs.Prelude.{◌≡◌, ◌≢◌, ℕ, false, List, []}
+use Rattle.std.specs.Prelude.{◌≡◌, ◌≢◌, ℕ, false, List, [], ◌++◌}
 use Rattle.std.specs.List.{AllByRecursion}
 use Rattle.hb_gateway.specs.Asks.{AskLaw, asked_of}
 use Rattle.hb_gateway.specs.Connections.{IsOneHistory, WindowLaw}
 use Rattle.hb_gateway.specs.Gateway.{Gateway, stage_of}
-use Rattle.hb_gateway.specs.Order.{HearsAll, IsInOrder}
+use Rattle.hb_gateway.specs.Order.{HearsAll, IsInOrder, if_heard}
 use Rattle.hb_gateway.specs.Part.{Part}
 use Rattle.hb_gateway.specs.Response.{Heard, is_living}
 use Rattle.hb_gateway.specs.Runs.{Carries, StandsFor}
+use Rattle.hb_gateway.specs.Sides.{BringLaw, SendLaw, CountLaw, key_of, told_on}
 
 -- the link's connection is one history, behind the front header
 abbrev pub RunsObeyConnections : Type 0
@@ -29,6 +30,25 @@ RunsEndTunnels = (g : ℕ) (x : Gateway) (parts : List Part) → StandsFor g x p
 -- what the tunnel on a stream hears is in order, and none where it wasn't asked for
 abbrev pub RunsHearInOrder : Type 0
 RunsHearInOrder = (g s : ℕ) (x : Gateway) (parts : List Part) (all : List Heard) → HearsAll g s x parts all → IsInOrder all
+
+-- and a tunnel is told what it hears, in that order: all of it but what it is still to be told
+abbrev pub RunsTell : Type 0
+RunsTell = (g s : ℕ) (x : Gateway) (parts : List Part) (all : List Heard) → HearsAll g s x parts all
+    → all ≡ told_on s parts ++ if_heard (x.streams s).mail
+
+-- bytes that a tunnel is told came did, and bytes that go were put; of each tunnel it is counted how many
+abbrev pub RunsBring : Type 0
+RunsBring = (g : ℕ) (x : Gateway) (parts : List Part) → StandsFor g x parts → BringLaw parts
+
+abbrev pub RunsSend : Type 0
+RunsSend = (g : ℕ) (x : Gateway) (parts : List Part) → StandsFor g x parts → SendLaw parts
+
+abbrev pub RunsCount : Type 0
+RunsCount = (g : ℕ) (x : Gateway) (parts : List Part) → StandsFor g x parts → CountLaw parts
+
+-- its key is that of its dial
+abbrev pub RunsKeep : Type 0
+RunsKeep = (g : ℕ) (x : Gateway) (parts : List Part) → StandsFor g x parts → x.key ≡ key_of parts
 
 abbrev pub UnaskedHearNothing : Type 0
 UnaskedHearNothing = (g s : ℕ) (x : Gateway) (parts : List Part) (all : List Heard) → HearsAll g s x parts all

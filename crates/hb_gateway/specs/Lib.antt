@@ -3,9 +3,12 @@ pub mod Calm
 pub mod Connections
 pub mod Gateway
 pub mod Hears
+pub mod Key
+pub mod Keys
 pub mod Laws
 pub mod Order
 pub mod Part
 pub mod Refused
 pub mod Response
 pub mod Runs
+pub mod Sides

@@ -27,7 +27,7 @@ pub data Progress : Type 0 where
 abbrev pub hearing : Progress → Heard → Progress
 hearing waits (opens end) = is_open
 hearing waits (fails cause) = has_failed
-hearing is_open (brings bytes end) = is_open
+hearing is_open (brings bytes) = is_open
 hearing is_open ends = is_open
 hearing is_open (fails cause) = has_failed
 hearing progress heard = out_of_order

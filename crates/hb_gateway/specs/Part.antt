@@ -11,25 +11,31 @@ use Rattle.hb_hpack.specs.declared.header.Header.{Header}
 use Rattle.hb_world.specs.declared.entry.Entry.{Entry}
 use Rattle.hb_world.specs.declared.entry.Entry.TheVariants as e
 use Rattle.hb_gateway.specs.Gateway.{request_of}
+use Rattle.hb_gateway.specs.Key.{Key, front_of}
+use Rattle.hb_gateway.specs.Response.{Heard}
 
 pub data Part : Type 0 where
-  -- a call of the world on the link, or its dial, behind which this front header is to be written
+  -- a call of the world on the link, or its dial, for this key
   entry : Entry → Part
-  dialled : Entry → (front : List ℕ) → Part
+  dialled : Entry → Key → Part
   -- memory is wanting for a header block
   lacked : Part
   -- frames are looked at, up to one of which this is told or to the last whole one; and the headers that were read last
   looked : List history.Point → Found → List Header → Part
   -- a tunnel of this captured link, for this authority, is asked for on this stream
   asks : (stream captured : ℕ) → Target → Part
-  -- of these bytes of the captured link as many are put in one DATA frame as may be; END_STREAM is put
-  put : (stream : ℕ) → List ℕ → Part
+  -- the tunnel on a stream is told this, behind so many of its bytes in DATA frames of which an octet went
+  tells : (stream : ℕ) → Heard → (begun : ℕ) → Part
+  -- of these bytes of the captured link so many are put in one DATA frame; END_STREAM is put
+  put : (stream : ℕ) → List ℕ → (count : ℕ) → Part
   finished : (stream : ℕ) → Part
   -- bytes that were written to the captured link are given back to the stream's window
   credited : (stream n : ℕ) → Part
-  -- the stream is reset, since its tunnel ended; or both of its sides ended, and nothing is put
+  -- the stream is reset, since its tunnel ended
   reset : (stream code : ℕ) → Part
-  done : (stream : ℕ) → Part
+  -- its captured link ended the tunnel, behind so many bytes that have begun to go; or both sides ended, and all went through
+  dropped : (stream begun : ℕ) → Part
+  done : (stream begun : ℕ) → Part
   -- the run ends
   stopped : Cause → Part
 
@@ -38,7 +44,7 @@ pub data Part : Type 0 where
 -- the entries on the link
 abbrev pub entry_in : Part → List Entry
 entry_in (entry e) = e ∷ []
-entry_in (dialled e front) = e ∷ []
+entry_in (dialled e key) = e ∷ []
 entry_in _ = []
 
 abbrev pub entries : List Part → List Entry
@@ -69,7 +75,7 @@ link_went parts = flat_map went_in parts
 
 -- the front header
 abbrev pub front_in : Part → List ℕ
-front_in (dialled e front) = front
+front_in (dialled e key) = front_of key
 front_in _ = []
 
 abbrev pub front_header : List Part → List ℕ
@@ -90,7 +96,7 @@ abbrev pub moves_in : ℕ → Part → List history.Point
 moves_in left (entry e) = moves_by left e
 moves_in left (looked points told headers) = points
 moves_in left (asks s captured authority) = act (history.opened s (request_of authority) false)
-moves_in left (put s bytes) = act (history.put s bytes)
+moves_in left (put s bytes count) = act (history.put s bytes)
 moves_in left (finished s) = act (history.ended s)
 moves_in left (credited s n) = act (history.credited s n)
 moves_in left (reset s code) = act (history.reset s code)
@@ -98,7 +104,7 @@ moves_in left _ = []
 
 -- how many are left of it behind a part
 abbrev pub left_by : ℕ → Part → ℕ
-left_by left (dialled e front) = length front
+left_by left (dialled e key) = length (front_of key)
 left_by left (entry e) = left - length (wrote_by e)
 left_by left _ = left
 

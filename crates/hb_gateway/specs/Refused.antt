@@ -1,12 +1,11 @@
 -- Small runs of a link to a gateway that the laws refuse, and one that may go.
-use Rattle.std.specs.Prelude.{◌≡◌, ◌≢◌, ℕ, Bool, true, false, List, [], ◌∷◌, Some, Ok}
+use Rattle.std.specs.Prelude.{◌≡◌, ◌≢◌, ℕ, Bool, true, false, List, [], ◌∷◌, None, Some, Ok}
 use Rattle.hb_base.specs.declared.cause.Cause.{Cause}
 use Rattle.hb_base.specs.declared.cause.Cause.TheVariants as cause
 use Rattle.hb_base.specs.declared.door.Why.TheVariants as whys
 use Rattle.hb_base.specs.declared.target.Target.{Target}
 use Rattle.hb_conn.specs.Observed.{next_stream}
 use Rattle.hb_conn.specs.declared.found.Found.TheVariants as found
-use Rattle.hb_frames.specs.Frames.{AreOctets}
 use Rattle.hb_history.specs.Points as history
 use Rattle.hb_hpack.specs.declared.header.Header.{Header}
 use Rattle.hb_model.specs.Discovery.{status_of, is_interim}
@@ -17,9 +16,14 @@ use Rattle.hb_gateway.specs.Connections.{IsOneHistory}
 use Rattle.hb_gateway.specs.Gateway.{Gateway, stage_of}
 use Rattle.hb_gateway.specs.Hears.{hears}
 use Rattle.hb_gateway.specs.Order.{IsInOrder}
-use Rattle.hb_gateway.specs.Part.{Part, entry, dialled, looked, asks, put, reset}
+use Rattle.hb_gateway.specs.Key.{Key, front_of, MayBeWritten}
+use Rattle.hb_gateway.specs.Part.{Part, entry, dialled, looked, asks, tells, put, finished, reset, dropped, done}
 use Rattle.hb_gateway.specs.Response.{unused, asked, Heard, opens, brings, fails}
 use Rattle.hb_gateway.specs.Runs.{Steps, StandsFor}
+use Rattle.hb_gateway.specs.Sides.{BringLaw, SendLaw, put_on}
+use Rattle.hb_inbound.specs.Calm.{data_waits}
+use Rattle.hb_kept.specs.Payloads.{payloads}
+use Rattle.hb_conn.specs.Observed.{sides}
 
 -- STREAMS
 
@@ -37,15 +41,41 @@ AsksElsewhere = (g next s captured : ℕ) (authority : Target) (x y : Gateway) �
 
 -- DATA is put in front of the status; a stream is reset that wasn't asked for
 abbrev pub PutsEarly : Type 0
-PutsEarly = (g s : ℕ) (bytes : List ℕ) (x y : Gateway) → stage_of x s ≡ asked → Steps g x (put s bytes) y → ⊥
+PutsEarly = (g s count : ℕ) (bytes : List ℕ) (x y : Gateway) → stage_of x s ≡ asked → Steps g x (put s bytes count) y → ⊥
 
 abbrev pub ResetsUnasked : Type 0
 ResetsUnasked = (g s code : ℕ) (x y : Gateway) → stage_of x s ≡ unused → Steps g x (reset s code) y → ⊥
 
+abbrev pub DropsUnasked : Type 0
+DropsUnasked = (g s begun : ℕ) (x y : Gateway) → stage_of x s ≡ unused → Steps g x (dropped s begun) y → ⊥
+
 -- the first octet that goes isn't the front header's
 abbrev pub WritesFirst : Type 0
-WritesFirst = (g byte other : ℕ) (front bytes : List ℕ) (call : Entry) → byte ≢ other
-    → IsOneHistory (dialled call (byte ∷ front) ∷ entry (e.Went g (other ∷ bytes)) ∷ []) → ⊥
+WritesFirst = (g byte : ℕ) (key : Key) (bytes : List ℕ) (call : Entry) → byte ≢ 13
+    → IsOneHistory (dialled call key ∷ entry (e.Went g (byte ∷ bytes)) ∷ []) → ⊥
+
+-- one is dialled elsewhere than at the gateway of its key
+abbrev pub DialsElsewhere : Type 0
+DialsElsewhere = (g captured : ℕ) (to : Target) (key : Key) (x y : Gateway) → to ≢ key.gateway
+    → Steps g x (dialled (e.Dialled g to (whys.Gateway captured)) key) y → ⊥
+
+-- END_STREAM is put in front of DATA that waits; a tunnel is done of which the gateway didn't end its side; one is told what it didn't hear
+abbrev pub FinishesEarly : Type 0
+FinishesEarly = (g s : ℕ) (x y : Gateway) → data_waits x.conn s ≡ true → Steps g x (finished s) y → ⊥
+
+abbrev pub DoneOpen : Type 0
+DoneOpen = (g s begun : ℕ) (x y : Gateway) → (sides x.conn s).peer ≡ true → Steps g x (done s begun) y → ⊥
+
+abbrev pub TellsUnheard : Type 0
+TellsUnheard = (g s begun : ℕ) (heard : Heard) (x y : Gateway) → (x.streams s).mail ≡ None → Steps g x (tells s heard begun) y → ⊥
+
+-- bytes are told that didn't come on the stream; and others than those that came
+abbrev pub TellsUncome : Type 0
+TellsUncome = (s byte begun : ℕ) (bytes : List ℕ) → BringLaw (tells s (brings (byte ∷ bytes)) begun ∷ []) → ⊥
+
+-- bytes went on the stream that weren't put
+abbrev pub SendsUnput : Type 0
+SendsUnput = (s : ℕ) (parts : List Part) (law : SendLaw parts) → put_on s parts ≡ [] → payloads s law.history.stands.begun ≡ []
 
 -- WHAT IS HEARD
 
@@ -60,15 +90,15 @@ RefusalOpens = (s : ℕ) (x : Gateway) (points : List history.Point) (headers : 
 
 -- bytes that came in front of the status are handed on
 abbrev pub BringsEarly : Type 0
-BringsEarly = (s : ℕ) (x : Gateway) (points : List history.Point) (headers : List Header) (end now : Bool) (bytes : List ℕ)
-    → stage_of x s ≡ asked → hears x (looked points (found.Chunk s end) headers) s ≡ Some (brings bytes now) → ⊥
+BringsEarly = (s : ℕ) (x : Gateway) (points : List history.Point) (headers : List Header) (end : Bool) (bytes : List ℕ)
+    → stage_of x s ≡ asked → hears x (looked points (found.Chunk s end) headers) s ≡ Some (brings bytes) → ⊥
 
 -- a tunnel opens twice; it brings bytes and isn't open; it goes on behind its failure
 abbrev pub OpensTwice : Type 0
 OpensTwice = (first second : Bool) → IsInOrder (opens first ∷ opens second ∷ []) → ⊥
 
 abbrev pub BringsUnopened : Type 0
-BringsUnopened = (bytes : List ℕ) (end : Bool) → IsInOrder (brings bytes end ∷ []) → ⊥
+BringsUnopened = (bytes : List ℕ) → IsInOrder (brings bytes ∷ []) → ⊥
 
 abbrev pub GoesOnBehind : Type 0
 GoesOnBehind = (why : Cause) (heard : Heard) → IsInOrder (fails why ∷ heard ∷ []) → ⊥
@@ -81,14 +111,14 @@ SuccessOpens = (s : ℕ) (x : Gateway) (points : List history.Point) (headers : 
     → status_of headers ≡ Some 200 → hears x (looked points (found.Opened s end) headers) s ≡ Some (opens end)
 
 abbrev pub LifeIsInOrder : Type 0
-LifeIsInOrder = (bytes : List ℕ) → IsInOrder (opens false ∷ brings bytes false ∷ fails cause.PeerGone ∷ [])
+LifeIsInOrder = (bytes : List ℕ) → IsInOrder (opens false ∷ brings bytes ∷ fails cause.PeerGone ∷ [])
 
 -- the link is dialled for a captured link, it opens, one tunnel is asked for, and the front header goes
-abbrev pub first_parts : ℕ → ℕ → Target → Target → List ℕ → List Part
-first_parts g captured gateway authority front =
-    dialled (e.Dialled g gateway (whys.Gateway captured)) front ∷ entry (e.Opened g) ∷ asks 1 captured authority
-    ∷ entry (e.Went g front) ∷ []
+abbrev pub first_parts : ℕ → ℕ → Key → Target → List Part
+first_parts g captured key authority =
+    dialled (e.Dialled g key.gateway (whys.Gateway captured)) key ∷ entry (e.Opened g) ∷ asks 1 captured authority
+    ∷ entry (e.Went g (front_of key)) ∷ []
 
 abbrev pub FirstMayGo : Type 0
-FirstMayGo = (g captured byte : ℕ) (gateway authority : Target) (front : List ℕ) → AreOctets (byte ∷ front)
-    → (y : Gateway) × StandsFor g y (first_parts g captured gateway authority (byte ∷ front))
+FirstMayGo = (g captured : ℕ) (key : Key) (authority : Target) → MayBeWritten key
+    → (y : Gateway) × StandsFor g y (first_parts g captured key authority)

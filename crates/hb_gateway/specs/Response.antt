@@ -30,8 +30,8 @@ is_living stage = false
 pub data Heard : Type 0 where
   -- the tunnel is open; the gateway ended its side at once, or not
   opens : (end : Bool) → Heard
-  -- bytes came, behind which the gateway ended its side, or not; or it ended its side
-  brings : List ℕ → (end : Bool) → Heard
+  -- bytes came; the gateway ended its side
+  brings : List ℕ → Heard
   ends : Heard
   -- the tunnel ends for this cause
   fails : Cause → Heard
@@ -63,11 +63,11 @@ headed asked status end = answered status end
 headed carrying status end = Some (fails (cause.StreamFault protocol_error))
 headed _ status end = None
 
--- DATA in front of a status is as wrong (RFC 9113 section 8.1.1)
-abbrev pub brought : Stage → List ℕ → (end : Bool) → Option Heard
-brought asked bytes end = Some (fails (cause.StreamFault protocol_error))
-brought carrying bytes end = Some (brings bytes end)
-brought _ bytes end = None
+-- DATA in front of a status is as wrong (RFC 9113 section 8.1.1). That the stream ended with it is told behind it
+abbrev pub brought : Stage → List ℕ → Option Heard
+brought asked bytes = Some (fails (cause.StreamFault protocol_error))
+brought carrying bytes = Some (brings bytes)
+brought _ bytes = None
 
 abbrev pub ended : Stage → Option Heard
 ended asked = Some (fails (cause.UpRefused 0))
@@ -83,7 +83,7 @@ failed cause _ = None
 -- gateway takes (RFC 9113 section 6.8); behind a connection error of each
 abbrev pub heard_of : ℕ → Stage → List Header → List ℕ → Found → Option Heard
 heard_of s stage headers bytes (found.Opened k end) = if k == s then headed stage (status_of headers) end else None
-heard_of s stage headers bytes (found.Chunk k end) = if k == s then brought stage bytes end else None
+heard_of s stage headers bytes (found.Chunk k end) = if k == s then brought stage bytes else None
 heard_of s stage headers bytes (found.Ended k) = if k == s then ended stage else None
 heard_of s stage headers bytes (found.Reset k code) = if k == s then failed (cause.PeerReset code) stage else None
 heard_of s stage headers bytes (found.Broken k code) = if k == s then failed (cause.StreamFault code) stage else None

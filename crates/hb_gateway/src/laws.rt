@@ -1,7 +1,9 @@
 //! What every run of a link to a gateway obeys. Each is the contract of a function that does nothing.
 
 ghost use Rattle.hb_gateway.specs.Laws.{RunsObeyConnections, RunsObeyWindows, RunsAsk, RunsHearInOrder, UnaskedHearNothing, RunsEndTunnels};
-ghost use Rattle.hb_gateway.specs.Refused.{AsksBehind, AsksTwice, AsksElsewhere, PutsEarly, ResetsUnasked, WritesFirst};
+ghost use Rattle.hb_gateway.specs.Laws.{RunsTell, RunsBring, RunsSend, RunsCount, RunsKeep};
+ghost use Rattle.hb_gateway.specs.Refused.{AsksBehind, AsksTwice, AsksElsewhere, PutsEarly, ResetsUnasked, DropsUnasked, WritesFirst};
+ghost use Rattle.hb_gateway.specs.Refused.{DialsElsewhere, FinishesEarly, DoneOpen, TellsUnheard, TellsUncome, SendsUnput};
 ghost use Rattle.hb_gateway.specs.Refused.{InterimIsHeard, RefusalOpens, BringsEarly, OpensTwice, BringsUnopened, GoesOnBehind};
 ghost use Rattle.hb_gateway.specs.Refused.{SuccessOpens, LifeIsInOrder, FirstMayGo};
 
@@ -26,20 +28,39 @@ pub fn tunnels_hear_in_order()
     ensures unasked { UnaskedHearNothing }
 {}
 
+/// A tunnel is told what it hears, in that order, and what it is told came is a front of the DATA that came on its stream. The DATA that
+/// goes on it is a front of what its captured link put, and of this it is counted how much has begun to go.
+pub fn tunnels_are_told()
+    ensures tells { RunsTell }
+    ensures brings { RunsBring }
+    ensures sends { RunsSend }
+    ensures counts { RunsCount }
+    ensures key { RunsKeep }
+{}
+
 /// No tunnel lives on a link that ended, broke, told a connection error or is stopped: each heard its end then, or had ended before.
 pub fn ended_links_end_their_tunnels()
     ensures { RunsEndTunnels }
 {}
 
 /// A stream isn't asked for behind a GOAWAY, nor twice, nor with another number than the next one. No DATA is put on it in front of a
-/// status from 200 to 299, and none is reset that wasn't asked for. No octet goes in front of the front header.
+/// status from 200 to 299, and none is reset or given up that wasn't asked for. No octet goes in front of the front header, and a link is
+/// dialled nowhere but at the gateway of its key. END_STREAM waits for the DATA in front of it, and a tunnel isn't done while the gateway
+/// may send. None is told what it didn't hear, or bytes that didn't come, and none goes that wasn't put.
 pub fn wrong_steps_are_refused()
     ensures behind { AsksBehind }
     ensures twice { AsksTwice }
     ensures elsewhere { AsksElsewhere }
     ensures early { PutsEarly }
     ensures unasked { ResetsUnasked }
+    ensures drops { DropsUnasked }
     ensures first { WritesFirst }
+    ensures dials { DialsElsewhere }
+    ensures finishes { FinishesEarly }
+    ensures done { DoneOpen }
+    ensures unheard { TellsUnheard }
+    ensures uncome { TellsUncome }
+    ensures unput { SendsUnput }
 {}
 
 /// A status below 200 is passed over, and one of 300 or more opens no tunnel; bytes that come in front of the status aren't handed on. A

@@ -1,4 +1,4 @@
-use Rattle.hb_gateway.proofs.Refused.{asks_behind, asks_twice, asks_elsewhere, puts_early, resets_unasked, writes_first}
+use Rattle.hb_gateway.proofs.Refused.{asks_behind, asks_twice, asks_elsewhere, puts_early, resets_unasked, drops_unasked, writes_first, dials_elsewhere, finishes_early, done_open, tells_unheard, tells_uncome, sends_unput}
 use Rattle.hb_gateway.proofs.laws.wrong_steps_are_refused.Goals as goal
 
 pub returns : goal.returns
@@ -8,5 +8,12 @@ returns c = record {
   elsewhere = asks_elsewhere;
   early = puts_early;
   unasked = resets_unasked;
+  drops = drops_unasked;
   first = writes_first;
+  dials = dials_elsewhere;
+  finishes = finishes_early;
+  done = done_open;
+  unheard = tells_unheard;
+  uncome = tells_uncome;
+  unput = sends_unput;
 }
