@@ -1,5 +1,7 @@
 pub mod Answer
 pub mod Asked
+pub mod GatewayRefused
+pub mod GatewayRows
 mod Grown
 pub mod Kept
 pub mod Obeyed
@@ -8,3 +10,5 @@ pub mod OutboundRows
 pub mod Refused
 pub mod Rows
 pub mod Stages
+pub mod Streamed
+mod Ways

@@ -1,5 +1,5 @@
 -- What the laws make of small runs.
-use Rattle.std.proofs.Common.{◌≡◌, ◌≢◌, ℕ, List, [], ◌∷◌, ◌++◌, length, drop, Some, None, refl, ap, sym, ◌∙◌, subst, arith}
+use Rattle.std.proofs.Common.{◌≡◌, ◌≢◌, ⊎_elim, ℕ, List, [], ◌∷◌, ◌++◌, length, drop, Some, None, refl, ap, sym, ◌∙◌, subst, arith}
 use Rattle.std.proofs.lemmas.Bool.{false≢true}
 use Rattle.std.proofs.lemmas.List.{append-nil}
 use Rattle.std.proofs.Math.Seq.{drop-append_seam}
@@ -13,7 +13,7 @@ use Rattle.hb_table.specs.declared.judgement.Judged.{Judged}
 use Rattle.hb_table.specs.declared.judgement.Judged.TheVariants.{Admitted, Unknown, Denied}
 use Rattle.hb_world.specs.declared.entry.Entry.TheVariants as e
 use Rattle.hb_captured.specs.Access.{AccessAt}
-use Rattle.hb_captured.specs.Answer.{dials, refuses, by_verdict, verdict_on}
+use Rattle.hb_captured.specs.Answer.{aims, straight_to, address_of, refuses, unrouted, by_verdict, verdict_on}
 use Rattle.hb_captured.specs.Captured.{peer_in}
 use Rattle.hb_captured.specs.Ends.{GoesOn, EndsAt}
 use Rattle.hb_captured.specs.Notes.{FailsWith, NotesAt}
@@ -67,7 +67,7 @@ closes_admitted start bytes seen note r why is law =
     let other : lives ≡ sides.over why = sym (ap (λ j. ends_judged j lives) is) ∙ at.1 in cc
 
 -- behind a header stands what stands behind its length
-behind_header : (header rest : List ℕ) (n : ℕ) → length header ≡ n → drop n ((header ++ rest) ++ []) ≡ rest
+pub behind_header : (header rest : List ℕ) (n : ℕ) → length header ≡ n → drop n ((header ++ rest) ++ []) ≡ rest
 behind_header header rest n is =
     ap (drop n) (append-nil (header ++ rest)) ∙ ap (λ (m : ℕ). drop m (header ++ rest)) (sym is) ∙ drop-append_seam header rest
 
@@ -120,15 +120,16 @@ keeps_identity start bytes seen who law =
 
 pub dials_elsewhere : DialsElsewhere
 dials_elsewhere start bytes seen to not law =
-    let at = last (VerdictAt 2 start) (entry (e.Came 2 bytes) ∷ fronted seen seen.destination ∷ [])
+    let at = last (VerdictAt 2 start) (entry (e.Came 2 bytes) ∷ fronted seen unrouted (straight_to seen.destination None) ∷ [])
     (up (e.Dialled 3 to (whys.Plain 2))) law in
-    let asked : Some seen.destination ≡ Some to = at.0.asked in
-    not (cc)
+    let asked : Some (straight_to seen.destination None) ≡ Some at.dial.aim = at.dial.asked in
+    let aim : straight_to seen.destination None ≡ at.dial.aim = cc in
+    not (ap address_of aim ∙ sym at.dial.there)
 
 pub dials_twice : DialsTwice
 dials_twice start bytes seen law =
     let at = last (VerdictAt 2 start) (dialled bytes seen) (up (e.Dialled 4 seen.destination (whys.Plain 2))) law in
-    let zero_up : 3 ≡ 0 = at.0.undialled in absurd (omega (arith, zero_up))
+    let zero_up : 3 ≡ 0 = at.dial.undialled in absurd (omega (arith, zero_up))
 
 pub dials_unasked : DialsUnasked
 dials_unasked start to law =
@@ -137,23 +138,27 @@ dials_unasked start to law =
 
 pub leaves_out_dial : LeavesOutDial
 leaves_out_dial start bytes more seen law =
-    (last (SettledAt start) (entry (e.Accepted 2 door.Plain) ∷ welcomed ∷ entry (e.Came 2 bytes) ∷ fronted seen seen.destination ∷ [])
-    (entry (e.Came 2 more)) law).0 refl
+    ⊎_elim (λ up. up refl) (λ gate. gate refl)
+    (last (SettledAt start)
+    (entry (e.Accepted 2 door.Plain) ∷ welcomed ∷ entry (e.Came 2 bytes)
+    ∷ fronted seen unrouted (straight_to seen.destination None) ∷ [])
+    (entry (e.Came 2 more)) law).some
 
 pub invents_header : InventsHeader
 invents_header start seen law =
-    let at = last (VerdictAt 2 start) (entry (e.Accepted 2 door.Plain) ∷ welcomed ∷ []) (fronted seen seen.destination) law in
+    let at = last (VerdictAt 2 start) (entry (e.Accepted 2 door.Plain) ∷ welcomed ∷ [])
+    (fronted seen unrouted (straight_to seen.destination None)) law in
     let none = at.0.4 in absurd (cc)
 
 pub dials_refused : DialsRefused
 dials_refused start bytes seen not law =
-    not (dial_of (verdict_on start seen) seen.destination
-    (last (VerdictAt 2 start) (entry (e.Came 2 bytes) ∷ []) (fronted seen seen.destination) law).1)
+    not (dial_of (verdict_on start seen) (straight_to seen.destination None)
+    (last (VerdictAt 2 start) (entry (e.Came 2 bytes) ∷ []) (fronted seen unrouted (straight_to seen.destination None)) law).1)
 
 pub refuses_admitted : RefusesAdmitted
 refuses_admitted start bytes seen note is law =
-    let at = last (VerdictAt 2 start) (entry (e.Came 2 bytes) ∷ []) (refused seen (cause.Refused 404) 404 note) law in
-    let both : dials seen.destination ≡ refuses (cause.Refused 404) 404 = sym (ap by_verdict is) ∙ at.1 in cc
+    let at = last (VerdictAt 2 start) (entry (e.Came 2 bytes) ∷ []) (refused seen unrouted (cause.Refused 404) 404 note) law in
+    let both : aims (straight_to seen.destination None) ≡ refuses (cause.Refused 404) 404 = sym (ap by_verdict is) ∙ at.1 in cc
 
 pub notes_twice : NotesTwice
 notes_twice start bytes seen note again law =
@@ -179,10 +184,10 @@ leaves_out_502 start bytes seen law =
 
 pub tries_done : TriesDone
 tries_done start header seen note is law =
-    (last (SettledAt start) (lived header seen note ++ entry (e.Ended 2) ∷ up (e.Ended 3) ∷ []) (entry (e.Broke 2)) law).2
+    ((last (SettledAt start) (lived header seen note ++ entry (e.Ended 2) ∷ up (e.Ended 3) ∷ []) (entry (e.Broke 2)) law).1 refl).1
     (record { ended = refl; up_ended = refl; up = sym (none_behind header seen.length is); down = refl })
 
 pub leaves_open : LeavesOpen
 leaves_open start header seen note byte is law =
-    false≢true ((last (SettledAt start) (lived header seen note ++ entry (e.Ended 2) ∷ []) (up (e.Came 3 (byte ∷ []))) law).0
+    false≢true (((last (SettledAt start) (lived header seen note ++ entry (e.Ended 2) ∷ []) (up (e.Came 3 (byte ∷ []))) law).1 refl).0
     refl (sym (none_behind header seen.length is)))

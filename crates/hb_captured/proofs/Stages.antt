@@ -1,21 +1,26 @@
 -- How far a link is, in the words of the trace and of the machine; and what is known of it at each stage.
-use Rattle.std.proofs.Common.{◌≡◌, ◌≢◌, ℕ, ◌≤◌, ◌||◌, ◌&&◌, ◌+◌, Bool, true, false, cond, List, [], ◌∷◌, ◌++◌, fold, length, Option, Some, None, refl, ap, sym, ◌∙◌, arith}
+use Rattle.std.proofs.Common.{◌≡◌, ◌≢◌, ◌⊎◌, ℕ, ◌≤◌, ◌||◌, ◌&&◌, ◌+◌, Bool, true, false, cond, List, [], ◌∷◌, ◌++◌, fold, length, Option, Some, None, refl, ap, sym, ◌∙◌, arith}
 use Rattle.hb_base.specs.declared.cause.Cause.{Cause}
 use Rattle.hb_base.specs.declared.door.Door.{Door}
 use Rattle.hb_base.specs.declared.door.Door.TheVariants as door
+use Rattle.hb_base.specs.declared.peer.Peer.{Peer}
+use Rattle.hb_base.specs.declared.target.Target.{Target}
 use Rattle.hb_front.specs.Reading.{Seen}
+use Rattle.hb_gateway.specs.Response as response
+use Rattle.hb_gateway.specs.Response.{Heard, opens, brings, fails}
 use Rattle.hb_held.specs.Held.{Resources}
 use Rattle.hb_table.specs.Judgement.{judged}
 use Rattle.hb_table.specs.declared.judgement.Judged.{Judged}
 use Rattle.hb_table.specs.declared.judgement.Judged.TheVariants.{Admitted, Unknown, Denied}
+use Rattle.hb_tunnel.specs.Tunnel.{Ways}
 use Rattle.hb_world.specs.declared.entry.Entry.TheVariants as e
 use Rattle.hb_captured.specs.Calm.{longest_front}
-use Rattle.hb_captured.specs.Captured.{Captured, Stage, unborn, arriving, fronting, due, opening, accepting, live, failed, ended, over, at_stage, judges, is_judged, ends_by, peer_in, came_by, judged_by}
+use Rattle.hb_captured.specs.Captured.{Captured, Stage, unborn, arriving, fronting, due, opening, accepting, live, failed, ended, over, judges, is_judged, ends_by, peer_in, came_by, told_by, judged_by}
 use Rattle.hb_captured.specs.Notes.{Noting, no_note, answer, end_of_it}
-use Rattle.hb_captured.specs.Part.{Part, entry, up, welcomed, crowded, lacked, misfronted, fronted, refused, accepted, left, done, applied, stopped}
-use Rattle.hb_captured.specs.Runs.{Local, next}
+use Rattle.hb_captured.specs.Part.{Part, entry, up, welcomed, crowded, lacked, misfronted, fronted, refused, accepted, roomless, asked, hears, put, finished, credited, loosed, completed, left, done, applied, stopped}
+use Rattle.hb_captured.specs.Runs.{Local, HasEnded, next}
 use Rattle.hb_captured.specs.Sides as sides
-use Rattle.hb_captured.specs.Sides.{Course, pending, lives, ends, hangs_up, ends_judged, ends_at, judged_in, Known, known, known_by, course_by, course_of, door_of, door_by, held, held_by, header_of, header_by, is_end, is_opening, is_shut, is_close, on_link, on_up, up_in, up_went_in, went_in}
+use Rattle.hb_captured.specs.Sides.{Course, pending, lives, ends, Known, known, known_by, course_by, course_of, door_of, door_by, held, held_by, header_of, header_by, is_end, is_shut, is_close, on_link, opens_up, ends_up, shuts_up, up_in, Stream, stream_by, went_in}
 use Rattle.hb_captured.proofs.Grown.{fold_one}
 
 -- THE WORDS OF THE TRACE FOR A STAGE
@@ -43,40 +48,66 @@ noting_in _ = no_note
 
 -- WHAT IS KNOWN AT A STAGE
 
+-- what a link shows of that
+pub record Facts : Type 0 where
+  pub door : Door
+  pub front : List ℕ
+  pub peer : Peer
+  pub target : Target
+  pub up : ℕ
+  pub gate : ℕ
+  pub ways : Ways
+
+abbrev pub facts_of : Captured → Facts
+facts_of x = record {
+  door = x.door;
+  front = x.front;
+  peer = x.peer;
+  target = x.target;
+  up = x.up;
+  gate = x.gate;
+  ways = x.ways;
+}
+
 -- nothing was told yet, and nothing is there but bytes of the header
-pub record Early (header : Option Seen) (came : List ℕ) (x : Captured) : Type 0 where
+pub record Early (header : Option Seen) (came read : List ℕ) (up : ℕ) (ways : Ways) : Type 0 where
   pub told : header ≡ None
-  pub front : came ≡ x.front
-  pub short : length x.front ≤ longest_front
-  pub none : x.ways.up.held ≡ []
-  pub going : x.ways.up.has_ended ≡ false
-  pub no_up : x.up ≡ 0
-  pub shut : x.ways.is_open ≡ false
-  pub down_going : x.ways.down.has_ended ≡ false
+  pub front : came ≡ read
+  pub short : length read ≤ longest_front
+  pub none : ways.up.held ≡ []
+  pub going : ways.up.has_ended ≡ false
+  pub no_up : up ≡ 0
+  pub shut : ways.is_open ≡ false
+  pub down_none : ways.down.held ≡ []
+  pub down_going : ways.down.has_ended ≡ false
 
 -- the header told the peer and the target
-pub record Told (header : Option Seen) (came : List ℕ) (x : Captured) : Type 0 where
+pub record Told (header : Option Seen) (came : List ℕ) (who : Peer) (to : Target) : Type 0 where
   pub seen : Seen
   pub told : header ≡ Some seen
   pub within : seen.length ≤ length came
-  pub peer : x.peer ≡ peer_in seen
-  pub target : x.target ≡ seen.destination
+  pub peer : who ≡ peer_in seen
+  pub target : to ≡ seen.destination
 
 -- and where peers are judged, this one is admitted
-abbrev pub Placed : Option Seen → List ℕ → Resources → Captured → Type 0
-Placed told came h x = Told told came x × (judges x.door ≡ true → judged h x.peer x.target ≡ Admitted)
+abbrev pub Placed : Option Seen → List ℕ → Resources → Facts → Type 0
+Placed told came h f = Told told came f.peer f.target × (judges f.door ≡ true → judged h f.peer f.target ≡ Admitted)
+
+abbrev pub Knows : Stage → Option Seen → List ℕ → Resources → Facts → Type 0
+Knows unborn told came h f = Early told came f.front f.up f.ways
+Knows arriving told came h f = Early told came f.front f.up f.ways
+Knows fronting told came h f = Early told came f.front f.up f.ways
+Knows due told came h f = Placed told came h f × (f.up ≡ 0) × (f.ways.is_open ≡ false) × (f.ways.down.has_ended ≡ false)
+Knows opening told came h f =
+    Placed told came h f × ((f.up ≢ 0) ⊎ (f.gate ≢ 0)) × (f.ways.is_open ≡ false) × (f.ways.down.has_ended ≡ false)
+Knows accepting told came h f = Placed told came h f × (f.ways.is_open ≡ true)
+Knows live told came h f = Placed told came h f × (f.ways.is_open ≡ true)
+Knows (failed cause) told came h f = Told told came f.peer f.target
+Knows (ended cause) told came h f = Told told came f.peer f.target
+Knows (over cause) told came h f = Unit {0}
 
 abbrev pub KnowsBy : Stage → Option Seen → List ℕ → Resources → Captured → Type 0
-KnowsBy unborn told came h x = Early told came x
-KnowsBy arriving told came h x = Early told came x
-KnowsBy fronting told came h x = Early told came x
-KnowsBy due told came h x = Placed told came h x × (x.up ≡ 0) × (x.ways.is_open ≡ false) × (x.ways.down.has_ended ≡ false)
-KnowsBy opening told came h x = Placed told came h x × (x.up ≢ 0) × (x.ways.is_open ≡ false) × (x.ways.down.has_ended ≡ false)
-KnowsBy accepting told came h x = Placed told came h x × (x.ways.is_open ≡ true) × (x.ways.down.has_ended ≡ false)
-KnowsBy live told came h x = Placed told came h x × (x.ways.is_open ≡ true)
-KnowsBy (failed cause) told came h x = Told told came x
-KnowsBy (ended cause) told came h x = Told told came x
-KnowsBy (over cause) told came h x = Unit {0}
+KnowsBy stage told came h x = Knows stage told came h (facts_of x)
 
 -- ENDS
 
@@ -104,36 +135,32 @@ ends_noting why (failed cause) = refl
 ends_noting why (ended cause) = refl
 ends_noting why (over cause) = refl
 
-module _ (told : Option Seen) (came : List ℕ) (h : Resources) where
-  -- at another stage
-  pub told_at : (stage : Stage) (x : Captured) → Told told came x → Told told came (at_stage stage x)
-  told_at stage x is = record { seen = is.seen; told = is.told; within = is.within; peer = is.peer; target = is.target }
+-- what ends keeps what is known of it, also where its stream is left
+pub ends_knows : (told : Option Seen) (came : List ℕ) (h : Resources) (why : Cause) (stage : Stage) (f : Facts) (gate : ℕ)
+    → Knows stage told came h f → Knows (ends_by why stage) told came h (record f { gate = gate })
+ends_knows told came h why unborn f gate is = is
+ends_knows told came h why arriving f gate is = tt
+ends_knows told came h why fronting f gate is = tt
+ends_knows told came h why due f gate is = is.0.0
+ends_knows told came h why opening f gate is = is.0.0
+ends_knows told came h why accepting f gate is = is.0.0
+ends_knows told came h why live f gate is = is.0.0
+ends_knows told came h why (failed cause) f gate is = is
+ends_knows told came h why (ended cause) f gate is = is
+ends_knows told came h why (over cause) f gate is = tt
 
-  pub early_at : (stage : Stage) (x : Captured) → Early told came x → Early told came (at_stage stage x)
-  early_at stage x is =
-      record {
-        told = is.told;
-        front = is.front;
-        short = is.short;
-        none = is.none;
-        going = is.going;
-        no_up = is.no_up;
-        shut = is.shut;
-        down_going = is.down_going;
-      }
-
-  pub ends_knows : (why : Cause) (stage : Stage) (x : Captured) → KnowsBy stage told came h x
-      → KnowsBy (ends_by why stage) told came h (at_stage (ends_by why stage) x)
-  ends_knows why unborn x is = early_at unborn x is
-  ends_knows why arriving x is = tt
-  ends_knows why fronting x is = tt
-  ends_knows why due x is = told_at (failed why) x is.0.0
-  ends_knows why opening x is = told_at (failed why) x is.0.0
-  ends_knows why accepting x is = told_at (failed why) x is.0.0
-  ends_knows why live x is = told_at (ended why) x is.0.0
-  ends_knows why (failed cause) x is = told_at (failed cause) x is
-  ends_knows why (ended cause) x is = told_at (ended cause) x is
-  ends_knows why (over cause) x is = tt
+pub left_knows : (told : Option Seen) (came : List ℕ) (h : Resources) (stage : Stage) (f : Facts) (gate : ℕ) → HasEnded stage
+    → Knows stage told came h f → Knows stage told came h (record f { gate = gate })
+left_knows told came h (failed cause) f gate may is = is
+left_knows told came h (ended cause) f gate may is = is
+left_knows told came h (over cause) f gate may is = tt
+left_knows told came h unborn f gate may is = absurd may
+left_knows told came h arriving f gate may is = absurd may
+left_knows told came h fronting f gate may is = absurd may
+left_knows told came h due f gate may is = absurd may
+left_knows told came h opening f gate may is = absurd may
+left_knows told came h accepting f gate may is = absurd may
+left_knows told came h live f gate may is = absurd may
 
 -- WHAT THE TRACE SAYS OF ONE PART MORE
 
@@ -172,7 +199,7 @@ pub record Marks : Type 0 where
   pub shut : Bool
   pub closed : Bool
   pub up : ℕ
-  pub went_up : ℕ
+  pub stream : Stream
   pub went_down : ℕ
 
 abbrev pub marks_in : Captured → Marks
@@ -185,12 +212,12 @@ marks_in x = record {
   shut = x.shut;
   closed = x.closed;
   up = x.up;
-  went_up = x.went_up;
+  stream = record { gate = x.gate; number = x.stream };
   went_down = x.went_down;
 }
 
 -- a count with these bytes
-abbrev adds : ℕ → List ℕ → ℕ
+abbrev pub adds : ℕ → List ℕ → ℕ
 adds n [] = n
 adds n (b ∷ bytes) = n + length (b ∷ bytes)
 
@@ -202,13 +229,13 @@ abbrev pub marks_by : Marks → Part → Marks
 marks_by m p = record {
   door = door_by m.door p;
   ended = on_link is_end p || m.ended;
-  up_ended = on_up is_end p || m.up_ended;
-  opened = on_up is_opening p || m.opened;
-  up_shut = on_up is_shut p || m.up_shut;
+  up_ended = ends_up p || m.up_ended;
+  opened = opens_up p || m.opened;
+  up_shut = shuts_up p || m.up_shut;
   shut = on_link is_shut p || m.shut;
   closed = on_link is_close p || m.closed;
   up = up_in m.up p;
-  went_up = adds m.went_up (up_went_in p);
+  stream = stream_by m.stream p;
   went_down = adds m.went_down (went_in p);
 }
 
@@ -230,6 +257,13 @@ judged_marks true Unknown x = refl
 judged_marks true Denied x = refl
 judged_marks false j x = refl
 
+heard_marks : (heard : Heard) (begun : ℕ) (x : Captured) → marks_in (told_by heard begun x) ≡ marks_by (marks_in x) (hears heard begun)
+heard_marks (opens true) begun x = refl
+heard_marks (opens false) begun x = refl
+heard_marks (brings bytes) begun x = refl
+heard_marks response.ends begun x = refl
+heard_marks (fails why) begun x = refl
+
 pub marks_next : (a : Local) (p : Part) → marks_in (next a p).link ≡ marks_by (marks_in a.link) p
 marks_next a (entry (e.Accepted l d)) = refl
 marks_next a (entry (e.Came l bytes)) = came_marks a.link.stage bytes a.link
@@ -248,8 +282,7 @@ marks_next a (entry (e.Wait ready how)) = refl
 marks_next a (up (e.Accepted l d)) = refl
 marks_next a (up (e.Came l bytes)) = refl
 marks_next a (up (e.Ended l)) = refl
-marks_next a (up (e.Went l bytes)) =
-    ap (λ (n : ℕ). record (marks_in a.link) { went_up = n }) (sym (adds_all a.link.went_up bytes))
+marks_next a (up (e.Went l bytes)) = refl
 marks_next a (up (e.Broke l)) = refl
 marks_next a (up (e.Shut l)) = refl
 marks_next a (up (e.Closed l why)) = refl
@@ -263,9 +296,17 @@ marks_next a welcomed = refl
 marks_next a crowded = refl
 marks_next a lacked = refl
 marks_next a (misfronted fault) = refl
-marks_next a (fronted seen to) = refl
-marks_next a (refused seen why status made) = refl
+marks_next a (fronted seen routing aim) = refl
+marks_next a (refused seen routing why status made) = refl
 marks_next a (accepted made) = refl
+marks_next a roomless = refl
+marks_next a (asked gate stream) = refl
+marks_next a (hears heard begun) = heard_marks heard begun a.link
+marks_next a (put bytes) = refl
+marks_next a finished = refl
+marks_next a (credited n) = refl
+marks_next a (loosed begun) = refl
+marks_next a (completed begun made) = refl
 marks_next a (left made) = refl
 marks_next a (done made) = refl
 marks_next a (applied r) =
@@ -279,9 +320,17 @@ held_next a welcomed = refl
 held_next a crowded = refl
 held_next a lacked = refl
 held_next a (misfronted fault) = refl
-held_next a (fronted seen to) = refl
-held_next a (refused seen why status made) = refl
+held_next a (fronted seen routing aim) = refl
+held_next a (refused seen routing why status made) = refl
 held_next a (accepted made) = refl
+held_next a roomless = refl
+held_next a (asked gate stream) = refl
+held_next a (hears heard begun) = refl
+held_next a (put bytes) = refl
+held_next a finished = refl
+held_next a (credited n) = refl
+held_next a (loosed begun) = refl
+held_next a (completed begun made) = refl
 held_next a (left made) = refl
 held_next a (done made) = refl
 held_next a (applied r) = refl

@@ -1,6 +1,7 @@
 -- A captured link as a machine, of the plain door or of the outbound one: a front header, then raw bytes both ways between it and its
--- upstream. The link and its one tunnel are one thing: the tunnel is there from the link's birth, and both links are closed where it ends.
-use Rattle.std.specs.Prelude.{ℕ, ◌+◌, if◌then◌else◌, Bool, true, false, ◌&&◌, not, List, [], ◌++◌, length, drop, None}
+-- upstream, or a stream of a link to a gateway. The link and its one tunnel are one thing: the tunnel is there from the link's birth; where
+-- it ends the link is closed, and so is its upstream, or the stream is given up.
+use Rattle.std.specs.Prelude.{ℕ, ◌+◌, ◌==◌, if◌then◌else◌, Bool, true, false, ◌&&◌, not, List, [], ◌++◌, length, drop, Option, None}
 use Rattle.hb_base.specs.declared.cause.Cause.{Cause}
 use Rattle.hb_base.specs.declared.cause.Cause.TheVariants as cause
 use Rattle.hb_base.specs.declared.door.Door.{Door}
@@ -9,14 +10,17 @@ use Rattle.hb_base.specs.declared.ip.Ip.TheVariants.{V4}
 use Rattle.hb_base.specs.declared.peer.Peer.{Peer}
 use Rattle.hb_base.specs.declared.target.Target.{Target}
 use Rattle.hb_front.specs.Reading.{Seen}
+use Rattle.hb_gateway.specs.Response as response
+use Rattle.hb_gateway.specs.Response.{Heard, opens, brings, fails}
 use Rattle.hb_held.specs.Held.{Resources}
 use Rattle.hb_table.specs.Judgement.{judged}
 use Rattle.hb_table.specs.declared.judgement.Judged.{Judged}
 use Rattle.hb_table.specs.declared.judgement.Judged.TheVariants.{Admitted}
-use Rattle.hb_tunnel.specs.Tunnel.{Ways, dialling}
-use Rattle.hb_tunnel.specs.Way.{after, pushes, takes, ends, is_done}
+use Rattle.hb_tunnel.specs.Tunnel.{Ways, dialling, up_size, down_size}
+use Rattle.hb_tunnel.specs.Way.{Way, after, pushes, takes, ends, is_done}
 use Rattle.hb_world.specs.declared.entry.Entry.{Entry}
 use Rattle.hb_world.specs.declared.entry.Entry.TheVariants as e
+use Rattle.hb_captured.specs.Answer.{Aim, straight_to, endpoint_of}
 
 -- how far it is
 pub data Stage : Type 0 where
@@ -25,7 +29,8 @@ pub data Stage : Type 0 where
   arriving : Stage
   -- its front header isn't whole
   fronting : Stage
-  -- PENDING: its destination is to be dialled; it is dialled, and not open yet; it is open, which is to be noted
+  -- PENDING: its destination is to be dialled, or a stream is to be asked for; it is dialled, or asked for, and not open yet; it is open,
+  -- which is to be noted
   due : Stage
   opening : Stage
   accepting : Stage
@@ -46,16 +51,21 @@ pub record Captured : Type 0 where
   -- what the header told: who the peer is, without an identity, and where to
   pub peer : Peer
   pub target : Target
-  -- the address that is dialled for it
-  pub address : Target
+  -- where its bytes are to go
+  pub aim : Aim
   -- the number of its upstream, 0 before that is dialled and behind its close
   pub up : ℕ
+  -- its stream, of the link to a gateway of this number, which is 0 before one is asked for and once the stream is left
+  pub gate : ℕ
+  pub stream : ℕ
   -- the bytes that wait on each way, and which way has ended: up, from the link to its upstream, by the link's end; down, by the upstream's
   pub ways : Ways
-  -- all bytes that were written to the upstream, and to the link
+  -- the bytes written to the link that weren't given back to its stream's window
+  pub owed : ℕ
+  -- all bytes that were written to the upstream, and to the link; of a stream those that have begun to go when it is left
   pub went_up : ℕ
   pub went_down : ℕ
-  -- nothing more is written to the upstream, or to the link
+  -- nothing more is written to the upstream, or put on the stream; nor written to the link
   pub up_shut : Bool
   pub shut : Bool
   -- the link is closed
@@ -69,9 +79,12 @@ no_link = record {
   front = [];
   peer = record { ip = V4 0; identity = None };
   target = record { ip = V4 0; port = 0 };
-  address = record { ip = V4 0; port = 0 };
+  aim = straight_to (record { ip = V4 0; port = 0 }) None;
   up = 0;
+  gate = 0;
+  stream = 0;
   ways = dialling;
+  owed = 0;
   went_up = 0;
   went_down = 0;
   up_shut = false;
@@ -87,6 +100,16 @@ abbrev pub judges : Door → Bool
 judges door.Outbound = false
 judges _ = true
 
+-- how many bytes can wait on each way: a stream of an HTTP/2 connection may bring a window's (RFC 9113 section 6.9.2), so out of the
+-- outbound door the way to the link is the long one, as at the others the way from it is
+abbrev pub ring_up : Door → ℕ
+ring_up door.Outbound = down_size
+ring_up _ = up_size
+
+abbrev pub ring_down : Door → ℕ
+ring_down door.Outbound = up_size
+ring_down _ = down_size
+
 -- it has a tunnel that may be judged: it is pending, its header whole, or live
 abbrev pub is_judged : Stage → Bool
 is_judged due = true
@@ -94,6 +117,14 @@ is_judged opening = true
 is_judged accepting = true
 is_judged live = true
 is_judged _ = false
+
+-- the endpoint to which it counts as a connection: so long it does
+abbrev pub counts_for : Captured → Option (List ℕ)
+counts_for x = if is_judged x.stage then endpoint_of x.aim else None
+
+-- it has no stream of a link to a gateway
+abbrev pub is_raw : Captured → Bool
+is_raw x = x.gate == 0
 
 -- the end of it; the first one counts
 abbrev pub ends_by : Cause → Stage → Stage
@@ -114,14 +145,14 @@ ends_for cause x = at_stage (ends_by cause x.stage) x
 abbrev pub peer_in : Seen → Peer
 peer_in seen = record { ip = seen.source.ip; identity = None }
 
--- it is whole: it tells the peer and where to, for which this address is dialled, and the bytes behind it go up
-abbrev pub fronted_by : Seen → Target → Stage → Captured → Captured
-fronted_by seen to stage x = record x {
+-- it is whole: it tells the peer and where to, for which the bytes behind it are to go there
+abbrev pub fronted_by : Seen → Aim → Stage → Captured → Captured
+fronted_by seen aim stage x = record x {
   stage = stage;
   front = [];
   peer = peer_in seen;
   target = seen.destination;
-  address = to;
+  aim = aim;
   ways = record x.ways { up = after x.ways.up (pushes (drop seen.length x.front)) };
 }
 
@@ -144,6 +175,7 @@ entered (e.Came l bytes) x = came_by x.stage bytes x
 entered (e.Ended l) x = record x { stage = hung_up x.stage; ways = record x.ways { up = after x.ways.up ends } }
 entered (e.Went l bytes) x = record x {
   ways = record x.ways { down = after x.ways.down (takes (length bytes)) };
+  owed = if is_raw x then x.owed else x.owed + length bytes;
   went_down = x.went_down + length bytes;
 }
 entered (e.Broke l) x = ends_for cause.PeerGone x
@@ -167,6 +199,25 @@ up_entered (e.Shut u) x = record x { up_shut = true }
 up_entered (e.Closed u why) x = record x { up = 0 }
 up_entered _ x = x
 
+-- ON ITS STREAM
+
+abbrev pub ends_if : Bool → Way → Way
+ends_if true w = after w ends
+ends_if false w = w
+
+-- the stream is left, behind so many bytes that have begun to go
+abbrev pub left_behind : ℕ → Captured → Captured
+left_behind begun x = record x { gate = 0; stream = 0; went_up = begun }
+
+-- what is heard on it
+abbrev pub told_by : Heard → (begun : ℕ) → Captured → Captured
+told_by (opens end) begun x =
+    record x { stage = accepting; ways = record x.ways { is_open = true; down = ends_if end x.ways.down } }
+told_by (brings bytes) begun x =
+    record x { ways = record x.ways { down = after x.ways.down (pushes bytes) } }
+told_by response.ends begun x = record x { ways = record x.ways { down = after x.ways.down ends } }
+told_by (fails why) begun x = left_behind begun (ends_for why x)
+
 -- BY ITSELF, AND BY OTHERS
 
 -- its end is noted
@@ -185,7 +236,7 @@ rejudged held x = if judges x.door && is_judged x.stage then judged_by (judged h
 
 -- the sending side of the upstream, or of the link, may be shut: the other one has ended, and all that came of it is written
 abbrev pub may_shut_up : Captured → Bool
-may_shut_up x = is_done x.ways.up && not x.up_shut
+may_shut_up x = is_raw x && is_done x.ways.up && not x.up_shut
 
 abbrev pub may_shut : Captured → Bool
 may_shut x = is_done x.ways.down && not x.shut

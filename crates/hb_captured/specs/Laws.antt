@@ -1,9 +1,8 @@
 -- What every run of a captured link obeys.
 use Rattle.std.specs.Prelude.{ℕ, ◌≤◌, List, length}
 use Rattle.hb_held.specs.Held.{Resources}
-use Rattle.hb_tunnel.specs.Tunnel.{up_size, down_size}
 use Rattle.hb_captured.specs.Access.{AccessLaw}
-use Rattle.hb_captured.specs.Captured.{Captured}
+use Rattle.hb_captured.specs.Captured.{Captured, ring_up, ring_down}
 use Rattle.hb_captured.specs.Ends.{EndLaw}
 use Rattle.hb_captured.specs.Notes.{NoteLaw}
 use Rattle.hb_captured.specs.Part.{Part}
@@ -14,8 +13,8 @@ use Rattle.hb_captured.specs.Verdicts.{VerdictLaw}
 
 -- what waits on each way fits its ring
 pub record FitsRings (x : Captured) : Type 0 where
-  pub up : length x.ways.up.held ≤ up_size
-  pub down : length x.ways.down.held ≤ down_size
+  pub up : length x.ways.up.held ≤ ring_up x.door
+  pub down : length x.ways.down.held ≤ ring_down x.door
 
 abbrev pub RunsRelay : Type 0
 RunsRelay = (l : ℕ) (start : Resources) (a : Local) (parts : List Part) → StandsFor l start a parts → RelayLaw start parts

@@ -2,7 +2,10 @@ pub mod Access
 pub mod Answer
 pub mod Calm
 pub mod Captured
+pub mod Counts
 pub mod Ends
+pub mod GatewayRefused
+pub mod GatewayRows
 pub mod Laws
 pub mod Notes
 pub mod OutboundRefused

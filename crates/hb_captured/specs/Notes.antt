@@ -6,9 +6,9 @@ use Rattle.hb_base.specs.declared.note.Note.{Note}
 use Rattle.hb_front.specs.Reading.{Seen}
 use Rattle.hb_held.specs.Held.{Resources}
 use Rattle.hb_captured.specs.Captured.{peer_in}
-use Rattle.hb_captured.specs.Part.{Part, fronted, refused, accepted, left, done}
+use Rattle.hb_captured.specs.Part.{Part, fronted, refused, accepted, completed, left, done}
 use Rattle.hb_captured.specs.Runs.{verdict_note, end_note, failure_status}
-use Rattle.hb_captured.specs.Sides.{header_of, link_went, up_went, course_of, over, AtEach}
+use Rattle.hb_captured.specs.Sides.{header_of, link_went, up_went, begun_of, course_of, over, AtEach}
 
 -- what is still to be noted: nothing; the verdict, since the destination is to be dialled; the end, since it was accepted
 pub data Noting : Type 0 where
@@ -17,11 +17,12 @@ pub data Noting : Type 0 where
   end_of_it : Noting
 
 abbrev pub noting_by : Noting → Part → Noting
-noting_by noting (fronted seen to) = answer
+noting_by noting (fronted seen routing aim) = answer
 noting_by noting (accepted note) = end_of_it
-noting_by noting (refused seen why status note) = no_note
+noting_by noting (refused seen routing why status note) = no_note
 noting_by noting (left made) = no_note
 noting_by noting (done note) = no_note
+noting_by noting (completed begun note) = no_note
 noting_by noting part = noting
 
 abbrev pub noting_of : List Part → Noting
@@ -34,12 +35,18 @@ pub record IsVerdictNote (l : ℕ) (before : List Part) (status : ℕ) (made : N
   pub due : noting_of before ≡ answer
   pub is : made ≡ verdict_note l status (peer_in seen) seen.destination
 
--- the note of an end: its cause, and the bytes that were written to the upstream, and to the link
+-- the bytes that were written to the upstream; of a stream those that have begun to go where it was left
+abbrev pub gone_up : Option ℕ → List Part → ℕ
+gone_up None before = length (up_went before)
+gone_up (Some begun) before = begun
+
+-- the note of an end: its cause, and how many bytes went to the upstream, or on the stream, and to the link
 pub record IsEndNote (l : ℕ) (before : List Part) (why : Cause) (made : Note) : Type 0 where
   pub due : noting_of before ≡ end_of_it
-  pub is : made ≡ end_note l why (length (up_went before)) (length (link_went before))
+  pub is : made ≡ end_note l why (gone_up (begun_of before) before) (length (link_went before))
 
--- of a tunnel that was pending 401 where it was revoked, 502 where its upstream failed, and nothing where it ended otherwise
+-- of a tunnel that was pending 401 where it was revoked, 502 where its upstream failed or its gateway refused it, 503 where no link had
+-- room, and nothing where it ended otherwise
 abbrev pub FailsWith : ℕ → List Part → Option ℕ → Option Note → Type 0
 FailsWith l before (Some status) (Some made) = IsVerdictNote l before status made
 FailsWith l before None None = noting_of before ≡ answer
@@ -57,11 +64,13 @@ pub record IsLeft (start : Resources) (l : ℕ) (before : List Part) (made : Opt
   pub leaves : Leaves l before why (noting_of before) made
 
 abbrev pub NotesAt : Resources → ℕ → List Part → Part → Type 0
-NotesAt start l before (refused seen why status made) =
+NotesAt start l before (refused seen routing why status made) =
     (noting_of before ≡ no_note) × (made ≡ verdict_note l status (peer_in seen) seen.destination)
 NotesAt start l before (accepted made) = IsVerdictNote l before 200 made
 NotesAt start l before (left made) = IsLeft start l before made
 NotesAt start l before (done made) = IsEndNote l before cause.Done made
+NotesAt start l before (completed begun made) =
+    (noting_of before ≡ end_of_it) × (made ≡ end_note l cause.Done begun (length (link_went before)))
 NotesAt start l before part = ⊤
 
 abbrev pub NoteLaw : Resources → ℕ → List Part → Type 0

@@ -1,5 +1,5 @@
 -- Small runs of a link of the outbound door, link 2 with the upstream 3, that the laws refuse; and one of the plain door beside them.
-use Rattle.std.specs.Prelude.{◌≡◌, ◌≢◌, ℕ, true, false, List, [], ◌∷◌, ◌++◌, Option}
+use Rattle.std.specs.Prelude.{◌≡◌, ◌≢◌, ℕ, true, false, List, [], ◌∷◌, ◌++◌, Option, None}
 use Rattle.hb_base.specs.declared.cause.Cause.{Cause}
 use Rattle.hb_base.specs.declared.cause.Cause.TheVariants as cause
 use Rattle.hb_base.specs.declared.door.Door.{Door}
@@ -14,16 +14,15 @@ use Rattle.hb_route.specs.Answer.{by_gateway, straight, no_way, number_of}
 use Rattle.hb_route.specs.declared.answer.NoRoute.{NoRoute}
 use Rattle.hb_verdict.specs.Verdict.{synced, is_own_door}
 use Rattle.hb_world.specs.declared.entry.Entry.TheVariants as e
-use Rattle.hb_captured.specs.Answer.{way_on}
+use Rattle.hb_captured.specs.Answer.{straight_to, unrouted, way_on}
 use Rattle.hb_captured.specs.Ends.{EndLaw}
 use Rattle.hb_captured.specs.Part.{Part, entry, up, welcomed, fronted, refused, accepted, applied}
 use Rattle.hb_captured.specs.Verdicts.{VerdictLaw}
 
 -- all is synced, and the way of the header leads straight to this address, which is none of the node's own doors
-pub record GoesStraight (held : Resources) (seen : Seen) (to : Target) : Type 0 where
+pub record GoesStraight (held : Resources) (seen : Seen) (to : Target) (endpoint : Option (List ℕ)) : Type 0 where
   pub synced : synced held ≡ true
-  pub endpoint : Option (List ℕ)
-  pub way : way_on held seen ≡ straight to endpoint
+  pub way : way_on held unrouted seen ≡ straight to endpoint
   pub elsewhere : is_own_door held.doors to ≡ false
 
 -- it is taken in at this door, and these bytes came
@@ -32,7 +31,7 @@ taken_in door bytes = entry (e.Accepted 2 door) ∷ welcomed ∷ entry (e.Came 2
 
 -- of which the first are the header's, for which this address is to be dialled
 abbrev pub asking : Door → List ℕ → Seen → Target → List Part
-asking door bytes seen to = taken_in door bytes ++ fronted seen to ∷ []
+asking door bytes seen to = taken_in door bytes ++ fronted seen unrouted (straight_to to None) ∷ []
 
 -- ENDED BY AN UPDATE: it lives, and is closed behind a response as one whose peer is no longer admitted, whatever is held then
 abbrev pub RevokesOutbound : Type 0
@@ -52,11 +51,11 @@ DialsAsDirect = (start : Resources) (bytes : List ℕ) (seen : Seen) (to : Targe
 -- DIALLED AGAINST ITS WAY: elsewhere than that leads; though it leads by a gateway; at one of the node's own doors; before all is synced
 abbrev pub DialsOffItsWay : Type 0
 DialsOffItsWay = (start : Resources) (bytes : List ℕ) (seen : Seen) (there to : Target) (endpoint : Option (List ℕ))
-    → way_on start seen ≡ straight there endpoint → there ≢ to → VerdictLaw 2 start (asking door.Outbound bytes seen to) → ⊥
+    → way_on start unrouted seen ≡ straight there endpoint → there ≢ to → VerdictLaw 2 start (asking door.Outbound bytes seen to) → ⊥
 
 abbrev pub DialsForGateway : Type 0
 DialsForGateway = (start : Resources) (bytes : List ℕ) (seen : Seen) (address authority to : Target) (endpoint : List ℕ)
-    → way_on start seen ≡ by_gateway address authority endpoint → VerdictLaw 2 start (asking door.Outbound bytes seen to) → ⊥
+    → way_on start unrouted seen ≡ by_gateway address authority endpoint → VerdictLaw 2 start (asking door.Outbound bytes seen to) → ⊥
 
 abbrev pub DialsOwnDoor : Type 0
 DialsOwnDoor = (start : Resources) (bytes : List ℕ) (seen : Seen) (to : Target) → is_own_door start.doors to ≡ true
@@ -68,10 +67,11 @@ DialsUnsynced = (start : Resources) (bytes : List ℕ) (seen : Seen) (to : Targe
 
 -- REFUSED AGAINST ITS WAY: though that is straight; where there is none, for the cause of another missing route
 abbrev pub RefusesStraight : Type 0
-RefusesStraight = (start : Resources) (bytes : List ℕ) (seen : Seen) (to : Target) (why : Cause) (status : ℕ) (note : Note)
-    → GoesStraight start seen to → VerdictLaw 2 start (taken_in door.Outbound bytes ++ refused seen why status note ∷ []) → ⊥
+RefusesStraight = (start : Resources) (bytes : List ℕ) (seen : Seen) (to : Target) (endpoint : Option (List ℕ)) (why : Cause)
+    (status : ℕ) (note : Note) → GoesStraight start seen to endpoint
+    → VerdictLaw 2 start (taken_in door.Outbound bytes ++ refused seen unrouted why status note ∷ []) → ⊥
 
 abbrev pub MistakesRoute : Type 0
 MistakesRoute = (start : Resources) (bytes : List ℕ) (seen : Seen) (why : NoRoute) (number status : ℕ) (note : Note)
-    → way_on start seen ≡ no_way why → number_of why ≢ number
-    → VerdictLaw 2 start (taken_in door.Outbound bytes ++ refused seen (cause.NoRoute number) status note ∷ []) → ⊥
+    → way_on start unrouted seen ≡ no_way why → number_of why ≢ number
+    → VerdictLaw 2 start (taken_in door.Outbound bytes ++ refused seen unrouted (cause.NoRoute number) status note ∷ []) → ⊥

@@ -15,7 +15,7 @@ use Rattle.hb_table.specs.declared.judgement.Judged.TheVariants.{Admitted}
 use Rattle.hb_verdict.specs.declared.verdict.Verdict.TheVariants.{Dial}
 use Rattle.hb_world.specs.declared.entry.Entry.TheVariants as e
 use Rattle.hb_captured.specs.Access.{AccessLaw}
-use Rattle.hb_captured.specs.Answer.{verdict_on}
+use Rattle.hb_captured.specs.Answer.{straight_to, unrouted, verdict_on}
 use Rattle.hb_captured.specs.Ends.{EndLaw}
 use Rattle.hb_captured.specs.Notes.{NoteLaw}
 use Rattle.hb_captured.specs.Part.{Part, entry, up, welcomed, fronted, refused, accepted, left, done, applied}
@@ -28,7 +28,7 @@ use Rattle.hb_captured.specs.Verdicts.{VerdictLaw}
 -- these bytes came, of which the first are the header's, and its destination is dialled, opened and accepted
 abbrev pub dialled : List ℕ → Seen → List Part
 dialled bytes seen =
-    entry (e.Accepted 2 door.Plain) ∷ welcomed ∷ entry (e.Came 2 bytes) ∷ fronted seen seen.destination
+    entry (e.Accepted 2 door.Plain) ∷ welcomed ∷ entry (e.Came 2 bytes) ∷ fronted seen unrouted (straight_to seen.destination None)
     ∷ up (e.Dialled 3 seen.destination (whys.Plain 2)) ∷ []
 
 abbrev pub lived : List ℕ → Seen → Note → List Part
@@ -107,7 +107,8 @@ KeepsIdentity = (start : Resources) (bytes : List ℕ) (seen : Seen) (who : Iden
 -- DIALS: elsewhere; twice; before the header; none though it is due, before the link is read on
 abbrev pub DialsElsewhere : Type 0
 DialsElsewhere = (start : Resources) (bytes : List ℕ) (seen : Seen) (to : Target) → seen.destination ≢ to
-    → VerdictLaw 2 start (entry (e.Came 2 bytes) ∷ fronted seen seen.destination ∷ up (e.Dialled 3 to (whys.Plain 2)) ∷ []) → ⊥
+    → VerdictLaw 2 start (entry (e.Came 2 bytes) ∷ fronted seen unrouted (straight_to seen.destination None)
+    ∷ up (e.Dialled 3 to (whys.Plain 2)) ∷ []) → ⊥
 
 abbrev pub DialsTwice : Type 0
 DialsTwice = (start : Resources) (bytes : List ℕ) (seen : Seen)
@@ -119,21 +120,21 @@ DialsUnasked = (start : Resources) (to : Target)
 
 abbrev pub LeavesOutDial : Type 0
 LeavesOutDial = (start : Resources) (bytes more : List ℕ) (seen : Seen)
-    → SettledLaw start (entry (e.Accepted 2 door.Plain) ∷ welcomed ∷ entry (e.Came 2 bytes) ∷ fronted seen seen.destination
-    ∷ entry (e.Came 2 more) ∷ []) → ⊥
+    → SettledLaw start (entry (e.Accepted 2 door.Plain) ∷ welcomed ∷ entry (e.Came 2 bytes)
+    ∷ fronted seen unrouted (straight_to seen.destination None) ∷ entry (e.Came 2 more) ∷ []) → ⊥
 
 -- VERDICTS: a header that didn't come; a destination that isn't to be dialled, or is
 abbrev pub InventsHeader : Type 0
 InventsHeader = (start : Resources) (seen : Seen)
-    → VerdictLaw 2 start (entry (e.Accepted 2 door.Plain) ∷ welcomed ∷ fronted seen seen.destination ∷ []) → ⊥
+    → VerdictLaw 2 start (entry (e.Accepted 2 door.Plain) ∷ welcomed ∷ fronted seen unrouted (straight_to seen.destination None) ∷ []) → ⊥
 
 abbrev pub DialsRefused : Type 0
 DialsRefused = (start : Resources) (bytes : List ℕ) (seen : Seen) → verdict_on start seen ≢ Dial seen.destination
-    → VerdictLaw 2 start (entry (e.Came 2 bytes) ∷ fronted seen seen.destination ∷ []) → ⊥
+    → VerdictLaw 2 start (entry (e.Came 2 bytes) ∷ fronted seen unrouted (straight_to seen.destination None) ∷ []) → ⊥
 
 abbrev pub RefusesAdmitted : Type 0
 RefusesAdmitted = (start : Resources) (bytes : List ℕ) (seen : Seen) (note : Note) → verdict_on start seen ≡ Dial seen.destination
-    → VerdictLaw 2 start (entry (e.Came 2 bytes) ∷ refused seen (cause.Refused 404) 404 note ∷ []) → ⊥
+    → VerdictLaw 2 start (entry (e.Came 2 bytes) ∷ refused seen unrouted (cause.Refused 404) 404 note ∷ []) → ⊥
 
 -- NOTES: a second verdict; an end of what was never accepted; an end twice; none, where the link is closed behind its end; 502 left out
 abbrev pub NotesTwice : Type 0

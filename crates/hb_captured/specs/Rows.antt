@@ -1,6 +1,6 @@
 -- Three whole lives of a link of the plain door, step by step, with what they are noted and what went: a link that is refused; one that
 -- relays three bytes each way and is done; and one that an update ends.
-use Rattle.std.specs.Prelude.{◌≡◌, ◌≢◌, ℕ, ◌<◌, ◌≤◌, List, [], ◌∷◌, ◌++◌, length, drop, Some}
+use Rattle.std.specs.Prelude.{◌≡◌, ◌≢◌, ℕ, ◌<◌, ◌≤◌, List, [], ◌∷◌, ◌++◌, length, drop, None, Some}
 use Rattle.hb_base.specs.declared.cause.Cause.TheVariants as cause
 use Rattle.hb_base.specs.declared.door.Door.TheVariants as door
 use Rattle.hb_base.specs.declared.door.Why.TheVariants as whys
@@ -13,7 +13,7 @@ use Rattle.hb_held.specs.Outcome.{after_response}
 use Rattle.hb_table.specs.declared.judgement.Judged.TheVariants.{Admitted}
 use Rattle.hb_verdict.specs.declared.verdict.Verdict.TheVariants.{Status, Dial}
 use Rattle.hb_world.specs.declared.entry.Entry.TheVariants as e
-use Rattle.hb_captured.specs.Answer.{verdict_on}
+use Rattle.hb_captured.specs.Answer.{straight_to, unrouted, verdict_on}
 use Rattle.hb_captured.specs.Calm.{longest_front}
 use Rattle.hb_captured.specs.Captured.{peer_in}
 use Rattle.hb_captured.specs.Part.{Part, entry, up, welcomed, fronted, refused, accepted, left, done, applied, notes}
@@ -41,7 +41,7 @@ refused_note seen = verdict_note 2 401 (peer_in seen) seen.destination
 
 abbrev pub refused_life : List ℕ → Seen → List Part
 refused_life came seen =
-    entry (e.Accepted 2 door.Plain) ∷ welcomed ∷ entry (e.Came 2 came) ∷ refused seen (cause.Refused 401) 401 (refused_note seen)
+    entry (e.Accepted 2 door.Plain) ∷ welcomed ∷ entry (e.Came 2 came) ∷ refused seen unrouted (cause.Refused 401) 401 (refused_note seen)
     ∷ entry (e.Closed 2 (cause.Refused 401)) ∷ []
 
 abbrev pub RefusedMayGo : Type 0
@@ -61,7 +61,7 @@ accepted_note seen = verdict_note 2 200 (peer_in seen) seen.destination
 
 abbrev pub living : List ℕ → Seen → List Part
 living came seen =
-    entry (e.Accepted 2 door.Plain) ∷ welcomed ∷ entry (e.Came 2 came) ∷ fronted seen seen.destination
+    entry (e.Accepted 2 door.Plain) ∷ welcomed ∷ entry (e.Came 2 came) ∷ fronted seen unrouted (straight_to seen.destination None)
     ∷ up (e.Dialled 3 seen.destination (whys.Plain 2)) ∷ up (e.Opened 3) ∷ accepted (accepted_note seen)
     ∷ up (e.Went 3 abc) ∷ up (e.Came 3 def) ∷ entry (e.Went 2 def) ∷ []
 

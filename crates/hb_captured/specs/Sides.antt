@@ -5,9 +5,10 @@ use Rattle.hb_base.specs.declared.cause.Cause.{Cause}
 use Rattle.hb_base.specs.declared.cause.Cause.TheVariants as cause
 use Rattle.hb_base.specs.declared.door.Door.{Door}
 use Rattle.hb_base.specs.declared.door.Door.TheVariants as door
-use Rattle.hb_base.specs.declared.target.Target.{Target}
 use Rattle.hb_front.specs.Faults.{number_of}
 use Rattle.hb_front.specs.Reading.{Seen}
+use Rattle.hb_gateway.specs.Response as response
+use Rattle.hb_gateway.specs.Response.{Heard, opens, brings, fails}
 use Rattle.hb_held.specs.Held.{Resources}
 use Rattle.hb_held.specs.Outcome.{after_response}
 use Rattle.hb_table.specs.Judgement.{judged}
@@ -15,8 +16,9 @@ use Rattle.hb_table.specs.declared.judgement.Judged.{Judged}
 use Rattle.hb_table.specs.declared.judgement.Judged.TheVariants.{Admitted}
 use Rattle.hb_world.specs.declared.entry.Entry.{Entry}
 use Rattle.hb_world.specs.declared.entry.Entry.TheVariants as e
+use Rattle.hb_captured.specs.Answer.{Aim}
 use Rattle.hb_captured.specs.Captured.{peer_in, judges}
-use Rattle.hb_captured.specs.Part.{Part, entry, up, welcomed, crowded, lacked, misfronted, fronted, refused, accepted, left, done, applied, stopped}
+use Rattle.hb_captured.specs.Part.{Part, entry, up, welcomed, crowded, lacked, misfronted, fronted, refused, accepted, roomless, asked, hears, put, finished, credited, loosed, completed, left, done, applied, stopped}
 
 -- THE DOOR at which it was accepted
 
@@ -57,13 +59,19 @@ link_came parts = flat_map came_in parts
 abbrev pub link_went : List Part → List ℕ
 link_went parts = flat_map went_in parts
 
--- on its upstream
+-- on its upstream, or its stream
+abbrev pub brought_by : Heard → List ℕ
+brought_by (brings bytes) = bytes
+brought_by heard = []
+
 abbrev pub up_came_in : Part → List ℕ
 up_came_in (up e) = came_by e
+up_came_in (hears heard begun) = brought_by heard
 up_came_in _ = []
 
 abbrev pub up_went_in : Part → List ℕ
 up_went_in (up e) = went_by e
+up_went_in (put bytes) = bytes
 up_went_in _ = []
 
 abbrev pub up_came : List Part → List ℕ
@@ -74,20 +82,20 @@ up_went parts = flat_map up_went_in parts
 
 -- what the front header told, once it is whole
 abbrev pub header_by : Option Seen → Part → Option Seen
-header_by told (fronted seen to) = Some seen
-header_by told (refused seen why status note) = Some seen
+header_by told (fronted seen routing aim) = Some seen
+header_by told (refused seen routing why status note) = Some seen
 header_by told _ = told
 
 abbrev pub header_of : List Part → Option Seen
 header_of parts = fold header_by None parts
 
--- the address that is dialled for it
-abbrev pub address_by : Option Target → Part → Option Target
-address_by address (fronted seen to) = Some to
-address_by address _ = address
+-- where its bytes are to go
+abbrev pub aim_by : Option Aim → Part → Option Aim
+aim_by aim (fronted seen routing new) = Some new
+aim_by aim _ = aim
 
-abbrev pub address_of : List Part → Option Target
-address_of parts = fold address_by None parts
+abbrev pub aim_of : List Part → Option Aim
+aim_of parts = fold aim_by None parts
 
 -- the bytes behind the header are the tunnel's
 abbrev pub behind : Option Seen → List ℕ → List ℕ
@@ -116,20 +124,42 @@ abbrev pub is_close : Entry → Bool
 is_close (e.Closed l why) = true
 is_close _ = false
 
--- one of the link says so, or one of its upstream
+-- so is what is heard on a stream
+abbrev pub ends_there : Heard → Bool
+ends_there (opens end) = end
+ends_there response.ends = true
+ends_there heard = false
+
+abbrev pub opens_there : Heard → Bool
+opens_there (opens end) = true
+opens_there heard = false
+
+-- one of the link says so
 abbrev pub on_link : (Entry → Bool) → Part → Bool
 on_link is (entry e) = is e
 on_link is _ = false
 
-abbrev pub on_up : (Entry → Bool) → Part → Bool
-on_up is (up e) = is e
-on_up is _ = false
+-- the upstream or the stream opened, ended, or was shut
+abbrev pub opens_up : Part → Bool
+opens_up (up e) = is_opening e
+opens_up (hears heard begun) = opens_there heard
+opens_up _ = false
+
+abbrev pub ends_up : Part → Bool
+ends_up (up e) = is_end e
+ends_up (hears heard begun) = ends_there heard
+ends_up _ = false
+
+abbrev pub shuts_up : Part → Bool
+shuts_up (up e) = is_shut e
+shuts_up finished = true
+shuts_up _ = false
+
+abbrev pub was : (Part → Bool) → List Part → Bool
+was is parts = fold (λ before p. is p || before) false parts
 
 abbrev pub was_on_link : (Entry → Bool) → List Part → Bool
 was_on_link is parts = fold (λ was p. on_link is p || was) false parts
-
-abbrev pub was_on_up : (Entry → Bool) → List Part → Bool
-was_on_up is parts = fold (λ was p. on_up is p || was) false parts
 
 -- the upstream that was dialled, until it is closed
 abbrev pub up_by : ℕ → Entry → ℕ
@@ -143,6 +173,47 @@ up_in u _ = u
 
 abbrev pub up_of : List Part → ℕ
 up_of parts = fold up_in 0 parts
+
+-- its stream, of the link to a gateway of this number, until it is left
+pub record Stream : Type 0 where
+  pub gate : ℕ
+  pub number : ℕ
+
+abbrev pub no_stream : Stream
+no_stream = record { gate = 0; number = 0 }
+
+abbrev pub stream_told : Stream → Heard → Stream
+stream_told stream (fails why) = no_stream
+stream_told stream heard = stream
+
+abbrev pub stream_by : Stream → Part → Stream
+stream_by stream (asked gate number) = record { gate = gate; number = number }
+stream_by stream (hears heard begun) = stream_told stream heard
+stream_by stream (loosed begun) = no_stream
+stream_by stream (completed begun note) = no_stream
+stream_by stream _ = stream
+
+abbrev pub stream_of : List Part → Stream
+stream_of parts = fold stream_by no_stream parts
+
+-- a stream was asked for
+abbrev pub is_asked : Part → Bool
+is_asked (asked gate number) = true
+is_asked _ = false
+
+-- how many bytes have begun to go on it where it was left
+abbrev pub begun_told : Option ℕ → Heard → ℕ → Option ℕ
+begun_told count (fails why) begun = Some begun
+begun_told count heard begun = count
+
+abbrev pub begun_by : Option ℕ → Part → Option ℕ
+begun_by count (hears heard begun) = begun_told count heard begun
+begun_by count (loosed begun) = Some begun
+begun_by count (completed begun note) = Some begun
+begun_by count _ = count
+
+abbrev pub begun_of : List Part → Option ℕ
+begun_of parts = fold begun_by None parts
 
 -- WHAT IS HELD
 
@@ -190,6 +261,10 @@ course_up (e.DialFailed to why) course = ends cause.UpFault course
 course_up (e.Broke u) course = ends cause.UpFault course
 course_up _ course = course
 
+abbrev pub course_told : Heard → Course → Course
+course_told (fails why) course = ends why course
+course_told heard course = course
+
 -- an update ends exactly what it no longer admits
 abbrev pub ends_judged : Judged → Course → Course
 ends_judged Admitted course = course
@@ -208,9 +283,17 @@ course_by door held told course welcomed = fronting
 course_by door held told course crowded = ends cause.NoRoom course
 course_by door held told course lacked = ends cause.NoMemory course
 course_by door held told course (misfronted fault) = ends (cause.FrontFault (number_of fault)) course
-course_by door held told course (fronted seen to) = pending
-course_by door held told course (refused seen why status note) = ends why course
+course_by door held told course (fronted seen routing aim) = pending
+course_by door held told course (refused seen routing why status note) = ends why course
 course_by door held told course (accepted note) = lives
+course_by door held told course roomless = ends cause.NoRoom course
+course_by door held told course (asked gate stream) = course
+course_by door held told course (hears heard begun) = course_told heard course
+course_by door held told course (put bytes) = course
+course_by door held told course finished = course
+course_by door held told course (credited n) = course
+course_by door held told course (loosed begun) = course
+course_by door held told course (completed begun note) = ends cause.Done course
 course_by door held told course (left made) = course
 course_by door held told course (done note) = ends cause.Done course
 course_by door held told course (applied r) = if judges door then ends_at held told course else course

@@ -7,6 +7,11 @@ ghost use Rattle.hb_captured.specs.Refused.{DialsElsewhere, DialsTwice, DialsUna
 ghost use Rattle.hb_captured.specs.Refused.{RefusesAdmitted, KeepsIdentity, NotesTwice};
 ghost use Rattle.hb_captured.specs.Refused.{EndsUnaccepted, EndsTwice, ClosesUnnoted, LeavesOut502};
 ghost use Rattle.hb_captured.specs.Refused.{TriesDone, LeavesOpen};
+ghost use Rattle.hb_captured.specs.GatewayRefused.{AsksTwice, AsksStraight, DialsBeside};
+ghost use Rattle.hb_captured.specs.GatewayRefused.{GoesRound, GoesThroughStraight, SpeaksForAnother, RefusesThrough};
+ghost use Rattle.hb_captured.specs.GatewayRefused.{PutsUnopened, TakesUnopened, PutsAnother, FinishesEarly};
+ghost use Rattle.hb_captured.specs.GatewayRefused.{StaysOpen, KeepsStream, CountsUnbegun};
+ghost use Rattle.hb_captured.specs.GatewayRows.{ThroughMayGo, RefusedMayGo as RefusedThroughMayGo, RoomlessMayGo, BrokenMayGo};
 ghost use Rattle.hb_captured.specs.OutboundRefused.{RevokesOutbound, DialsAsPlain, DialsAsDirect};
 ghost use Rattle.hb_captured.specs.OutboundRefused.{DialsOffItsWay, DialsForGateway, DialsOwnDoor, DialsUnsynced};
 ghost use Rattle.hb_captured.specs.OutboundRefused.{RefusesStraight, MistakesRoute};
@@ -26,14 +31,16 @@ pub fn peers_are_admitted()
     ensures { RunsAdmit }
 {}
 
-/// The link and its upstream end together for the first cause that applies, by an update exactly where that no longer admits the peer of
-/// a link of the plain door. Behind the end nothing stands but the close of each, once, for that cause.
+/// The link and its upstream, or its stream of a link to a gateway, end together for the first cause that applies, by an update exactly
+/// where that no longer admits the peer of a link of the plain door. Behind the end nothing stands but that its stream is given up, and the
+/// close of each, once, for that cause.
 pub fn relays_end_once()
     ensures { RunsEnd }
 {}
 
 /// The front header is that of the bytes that came. It gets the answer of its door, by what is held then: at the plain door the verdict on
-/// its destination, at the outbound door the way that leads there. The address that this gives is dialled, once, and no other is.
+/// its destination, at the outbound door the way that leads there. The address that this gives is dialled, once, and no other is; where the
+/// way leads by a gateway, one stream is asked for.
 pub fn destinations_are_answered()
     ensures { RunsAnswer }
 {}
@@ -48,7 +55,7 @@ pub fn nothing_is_put_off()
     ensures { RunsSettle }
 {}
 
-/// What waits on each way fits its ring: 65,535 bytes up, 16,384 down.
+/// What waits on each way fits its ring: 65,535 bytes up and 16,384 down at the plain door, and the other way round at the outbound one.
 pub fn rings_are_never_overrun()
     ensures { RunsFitRings }
 {}
@@ -136,4 +143,38 @@ pub fn wrong_ways_are_refused()
 pub fn outbound_lives_may_go()
     ensures straight { StraightMayGo }
     ensures unrouted { UnroutedMayGo }
+{}
+
+/// A link whose way leads by a gateway asks for one stream, and no link is dialled for it alone. It doesn't go straight, nor is it refused,
+/// nor asked for as another identity than its source's; and no stream is asked for where the way is straight.
+pub fn other_ways_than_the_gateway_are_refused()
+    ensures twice { AsksTwice }
+    ensures asks_straight { AsksStraight }
+    ensures beside { DialsBeside }
+    ensures round { GoesRound }
+    ensures through { GoesThroughStraight }
+    ensures identity { SpeaksForAnother }
+    ensures refuses { RefusesThrough }
+{}
+
+/// Nothing goes and nothing is taken on a stream in front of the gateway's answer. No other byte is put than came, and the stream isn't
+/// ended while the link may send. Behind the gateway's end the link isn't read; it isn't closed while it has its stream; and its note
+/// counts the bytes that have begun to go.
+pub fn careless_streams_are_refused()
+    ensures puts { PutsUnopened }
+    ensures takes { TakesUnopened }
+    ensures another { PutsAnother }
+    ensures finishes { FinishesEarly }
+    ensures stays_open { StaysOpen }
+    ensures keeps { KeepsStream }
+    ensures counts { CountsUnbegun }
+{}
+
+/// Four whole lives are runs, with their notes, by a gateway: of a link that relays three bytes each way and is done, of one that the
+/// gateway refuses, of one that breaks, and of one for which no link has room.
+pub fn lives_by_a_gateway_may_go()
+    ensures done { ThroughMayGo }
+    ensures refused { RefusedThroughMayGo }
+    ensures broken { BrokenMayGo }
+    ensures roomless { RoomlessMayGo }
 {}
