@@ -24,7 +24,7 @@ use Rattle.hb_proxy.specs.Held.{at_start}
 use Rattle.hb_proxy.specs.Laws.{RunsAdmit}
 use Rattle.hb_proxy.specs.Machine.{Machine, local}
 use Rattle.hb_proxy.specs.Owners.{owner, PartStands}
-use Rattle.hb_proxy.specs.Points.{Point, of_control, of_link, of_plain, entries, parts_of, plain_of}
+use Rattle.hb_proxy.specs.Points.{Point, of_control, of_link, of_plain, of_gate, of_stream, entries, parts_of, plain_of}
 use Rattle.hb_proxy.specs.Runs.{Steps, StandsFor, goes_on}
 use Rattle.hb_proxy.specs.Sides.{LinkSide}
 use Rattle.hb_proxy.proofs.Own.{own_at}
@@ -98,6 +98,8 @@ abbrev pub At : NodeConfig → List Point → Point → Type 0
 At g before (of_control q) = Unit {0}
 At g before (of_link l p) = AccessAt g before l p
 At g before (of_plain l p) = PlainAccessAt g before l p
+At g before (of_gate n p) = Unit {0}
+At g before (of_stream l n s w) = Unit {0}
 
 next : (g : NodeConfig) (x y : Machine) (before : List Point) (p : Point) → StandsFor g x before → Steps g x p y → At g before p
 next g x y before (of_control q) stands steps = tt
@@ -110,6 +112,8 @@ next g x y before (of_plain l p) stands steps =
     plain_access g x before stands l p
     (at_last_plain (plain.AccessAt (at_start g)) before l p
     (obey_plain g y (before ++ of_plain l p ∷ []) l (goes_on stands (of_plain l p) steps refl)).access)
+next g x y before (of_gate n p) stands steps = tt
+next g x y before (of_stream l n s w) stands steps = tt
 
 pub runs_admit : RunsAdmit
 runs_admit g x points stands = record {

@@ -1,14 +1,15 @@
 -- The access law at each entry of the trace, by the link that it stands on.
 use Rattle.std.proofs.Common.{◌≡◌, ℕ, List, [], ◌∷◌, ◌++◌, Option, Some, IfSome, ap, sym, ◌∙◌, subst}
 use Rattle.hb_captured.specs.Part as captured
+use Rattle.hb_gateway.specs.Part as gateway
 use Rattle.hb_inbound.specs.Part as part
 use Rattle.hb_model.specs.Point as point
 use Rattle.hb_model.specs.declared.config.NodeConfig.{NodeConfig}
 use Rattle.hb_world.specs.declared.entry.Entry.{Entry}
 use Rattle.hb_proxy.specs.Access.{UpIsAdmitted, LinkIsAdmitted, PlainGoesAdmitted, EntryIsAdmitted, AccessLaw}
 use Rattle.hb_proxy.specs.Laws.{RunsAdmitEntries}
-use Rattle.hb_proxy.specs.Owners.{Owner, control_plane, inbound_link, upstream_of, plain_link, relay_of, owner, link_of, OwnLaw}
-use Rattle.hb_proxy.specs.Points.{Point, of_control, of_link, of_plain, entry_in, entries}
+use Rattle.hb_proxy.specs.Owners.{Owner, control_plane, inbound_link, upstream_of, plain_link, relay_of, gateway_link, owner, link_of, OwnLaw}
+use Rattle.hb_proxy.specs.Points.{Point, of_control, of_link, of_plain, of_gate, of_stream, entry_in, entries}
 use Rattle.hb_proxy.proofs.Access.{runs_admit}
 use Rattle.hb_proxy.proofs.Own.{runs_own}
 
@@ -65,9 +66,21 @@ module _ (g : NodeConfig) (points : List Point) (law : AccessLaw g points) (own 
       (own before (of_plain k (captured.up en)) behind are) in
       needs_all g before z u (relay_of k) mine
       (subst (PlainGoesAdmitted g before k) same (law.plain before k (captured.up en) behind are))
+  entry_admitted before (of_gate n (gateway.entry en)) behind are z u is on =
+      let same : en ≡ z = cc in
+      let mine = at_link (λ l. (l ≡ n) × (owner l (entries before) ≡ gateway_link)) en z u same on
+      (own before (of_gate n (gateway.entry en)) behind are) in
+      needs_all g before z u gateway_link mine.1 tt
+  entry_admitted before (of_gate n (gateway.dialled en key)) behind are z u is on =
+      let same : en ≡ z = cc in
+      let mine = at_link (λ l. (l ≡ n) × (owner l (entries before) ≡ gateway_link)) en z u same on
+      (own before (of_gate n (gateway.dialled en key)) behind are) in
+      needs_all g before z u gateway_link mine.1 tt
   entry_admitted before (of_control _) behind are z u is on = absurd cc
   entry_admitted before (of_link k _) behind are z u is on = absurd cc
   entry_admitted before (of_plain k _) behind are z u is on = absurd cc
+  entry_admitted before (of_gate n _) behind are z u is on = absurd cc
+  entry_admitted before (of_stream l n s w) behind are z u is on = absurd cc
 
 pub admit_entries : RunsAdmitEntries
 admit_entries g x points stands = entry_admitted g points (runs_admit g x points stands) (runs_own g x points stands)

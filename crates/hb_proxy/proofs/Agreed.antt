@@ -4,10 +4,16 @@ use Rattle.std.proofs.lemmas.Grind.{fold-append}
 use Rattle.std.proofs.lemmas.Bool.{cond_both, false≢true, eqb-true, eq-eqb}
 use Rattle.hb_base.specs.declared.cause.Cause.{Cause}
 use Rattle.hb_base.specs.declared.cause.Cause.TheVariants as cause
+use Rattle.hb_base.specs.declared.door.Why.TheVariants as whys
 use Rattle.hb_captured.specs.Captured as captured
-use Rattle.hb_captured.specs.Captured.{Captured}
+use Rattle.hb_captured.specs.Captured.{Captured, is_raw}
 use Rattle.hb_captured.specs.Part as plain_part
 use Rattle.hb_captured.specs.Runs as plain
+use Rattle.hb_gateway.specs.Gateway as gateway_link
+use Rattle.hb_gateway.specs.Gateway.{Gateway}
+use Rattle.hb_gateway.specs.Key.{Key}
+use Rattle.hb_gateway.specs.Part as gateway
+use Rattle.hb_gateway.specs.Runs as gateways
 use Rattle.hb_held.specs.Outcome.{after_response}
 use Rattle.hb_inbound.specs.Inbound as inbound
 use Rattle.hb_inbound.specs.Inbound.{Inbound}
@@ -28,11 +34,13 @@ use Rattle.hb_model.proofs.Unborn.{are_unborn}
 use Rattle.hb_world.specs.declared.entry.Entry.{Entry}
 use Rattle.hb_world.specs.declared.entry.Entry.TheVariants as e
 use Rattle.hb_proxy.specs.Held.{at_start}
-use Rattle.hb_proxy.specs.Machine.{Machine, local, plain_local, seen_by, plain_seen_by, with_control, with_part, with_plain}
-use Rattle.hb_proxy.specs.Owners.{Owner, nobody, control_plane, inbound_link, upstream_of, plain_link, relay_of, at_door, dialled_for, owner_by, ControlStands, PartStands, PlainStands}
-use Rattle.hb_proxy.specs.Points.{Point, of_control, of_link, of_plain, entry_in, entries, control_of, parts_of}
-use Rattle.hb_proxy.specs.Runs.{BirthMayCome, ControlGuard, LinkGuard, PlainGuard, Steps, StandsFor, begins, goes_on}
+use Rattle.hb_proxy.specs.Machine.{Machine, local, plain_local, seen_by, plain_seen_by, gate_seen_by, with_control, with_part, with_plain, with_gate, with_stream}
+use Rattle.hb_proxy.specs.Owners.{Owner, nobody, control_plane, inbound_link, upstream_of, plain_link, relay_of, gateway_link as gate_owner, at_door, dialled_for, owner_by, ControlStands, PartStands, PlainStands, GateStands}
+use Rattle.hb_proxy.specs.Points.{Point, of_control, of_link, of_plain, of_gate, of_stream, entry_in, entries, control_of, parts_of}
+use Rattle.hb_proxy.specs.Runs.{BirthMayCome, ControlGuard, LinkGuard, PlainGuard, GateGuard, Steps, StandsFor, begins, goes_on}
+use Rattle.hb_proxy.specs.Shared.{Shared, asks, tells, puts, finishes, credits, drops, completes, captured_part, gateway_part}
 use Rattle.hb_proxy.proofs.Changes.{LinkFits, IsYet, StageFits, UpFits, DueBy, yet_dialled, yet_open, IsOther, touched_by, touched, LinkGoes, link_same, applied_goes, stopped_goes, part_goes}
+use Rattle.hb_proxy.proofs.GateChanges.{GateFits, GateGoes, gate_same, gate_stopped, birth_at, gate_touched, gate_part_goes}
 use Rattle.hb_proxy.proofs.Look as seen
 use Rattle.hb_proxy.proofs.Look.{Look, unseen, dialled, open_now, bears, opens_it, shuts, look_by, look}
 use Rattle.hb_proxy.proofs.Own.{own_at}
@@ -112,6 +120,7 @@ ByOwner inbound_link x n v = LinkFits (x.inbound n).phase v
 ByOwner (upstream_of l s) x n v = UpFits ((x.inbound l).tunnels s) n v
 ByOwner plain_link x n v = PlainFits (x.plain n) v
 ByOwner (relay_of l) x n v = RelayFits (x.plain l) n v
+ByOwner gate_owner x n v = GateFits (x.gates n).phase v
 
 pub record Agrees (x : Machine) (whose : ℕ → Owner) (told : ℕ → Look) : Type 0 where
   pub each : (n : ℕ) → ByOwner (whose n) x n (told n)
@@ -123,6 +132,7 @@ record MachineGoes (k : ℕ) (x y : Machine) : Type 0 where
   control : (n : ℕ) (v : Look) → IsOther k n → ControlFits (x.control.links n).phase v → ControlFits (y.control.links n).phase v
   links : (l : ℕ) → LinkGoes k l (x.inbound l) (y.inbound l)
   plain : (l : ℕ) → PlainGoes k l (x.plain l) (y.plain l)
+  gates : (n : ℕ) → GateGoes k n (x.gates n).phase (y.gates n).phase
 
 module _ (x y : Machine) (whose : ℕ → Owner) (owned : Owned x whose) (told : ℕ → Look) (agrees : Agrees x whose told) where
   -- a link that is somebody's isn't 0
@@ -142,6 +152,7 @@ module _ (x y : Machine) (whose : ℕ → Owner) (owned : Owned x whose) (told :
       by (upstream_of l s) is old = ((goes.links l).tunnels s).fits n (told n) (other (upstream_of l s) is (λ same. cc)) old
       by plain_link is old = (goes.plain n).link (told n) (other plain_link is (λ same. cc)) old
       by (relay_of l) is old = (goes.plain l).up n (told n) (other (relay_of l) is (λ same. cc)) old
+      by gate_owner is old = goes.gates n (told n) (other gate_owner is (λ same. cc)) old
 
   still : MachineGoes 0 x y → (n : ℕ) → ByOwner (whose n) y n (told n)
   still goes n = calm 0 goes n (λ not. not)
@@ -182,6 +193,7 @@ module _ (g : NodeConfig) (x : Machine) (points : List Point) (stands : StandsFo
         steps n) v;
     links = λ l. by q l;
     plain = λ l. plain_by q l;
+    gates = λ n. gate_by q n;
   }
     where
       by : (q : point.Point) (l : ℕ) → LinkGoes (touched_of q) l (x.inbound l) (seen_by x.control.held q (x.inbound l))
@@ -196,6 +208,11 @@ module _ (g : NodeConfig) (x : Machine) (points : List Point) (stands : StandsFo
       plain_by (point.entry z) l = plain_same (touched_by z) l (x.plain l)
       plain_by _ l = plain_same 0 l (x.plain l)
 
+      gate_by : (q : point.Point) (n : ℕ) → GateGoes (touched_of q) n (x.gates n).phase (gate_seen_by q (x.gates n)).phase
+      gate_by (point.stopped why) n = gate_stopped 0 n why (x.gates n).phase
+      gate_by (point.entry z) n = gate_same (touched_by z) n (x.gates n).phase
+      gate_by _ n = gate_same 0 n (x.gates n).phase
+
   link_goes : (l : ℕ) (p : Part) (next : Inbound) → runs.Steps l (local x l) p (runs.with_link next (local x l))
       → MachineGoes (touched p) x (with_part l p next x)
   link_goes l p next steps = record {
@@ -205,16 +222,72 @@ module _ (g : NodeConfig) (x : Machine) (points : List Point) (stands : StandsFo
         (part_goes l (at_start g) (local x l) (parts_of l points) (links_run g x points l stands) p
         (runs.with_link next (local x l)) steps)) (λ apart. link_same (touched p) j (x.inbound j));
     plain = λ j. plain_same (touched p) j (x.plain j);
+    gates = λ n. gate_same (touched p) n (x.gates n).phase;
   }
+
+  -- a plain link changes; so does a link to a gateway
+  one_plain : (l : ℕ) (p : plain_part.Part) → plain.MayGo l (plain_local x l) p → (j : ℕ)
+      → PlainGoes (plain_touched p) j (x.plain j) (cond (j == l) (plain.next_link (x.plain l) p) (x.plain j))
+  one_plain l p may j =
+      cond_both (j == l) (plain.next_link (x.plain l) p) (x.plain j) (λ z. PlainGoes (plain_touched p) j (x.plain j) z)
+      (λ is. subst (λ (i : ℕ). PlainGoes (plain_touched p) i (x.plain i) (plain.next_link (x.plain l) p)) (sym (eqb-true j l is))
+      (plain_part_goes l (plain_local x l) p may)) (λ apart. plain_same (plain_touched p) j (x.plain j))
+
+  one_gate : (n : ℕ) (p : gateway.Part) (next : Gateway) → gateways.Steps n (x.gates n) p next → (j : ℕ)
+      → GateGoes (gate_touched p) j (x.gates j).phase (cond (j == n) next (x.gates j)).phase
+  one_gate n p next steps j =
+      cond_both (j == n) next (x.gates j) (λ z. GateGoes (gate_touched p) j (x.gates j).phase z.phase)
+      (λ is. subst (λ (i : ℕ). GateGoes (gate_touched p) i (x.gates i).phase next.phase) (sym (eqb-true j n is))
+      (gate_part_goes n (x.gates n) next p steps)) (λ apart. gate_same (gate_touched p) j (x.gates j).phase)
 
   plain_goes : (l : ℕ) (p : plain_part.Part) → plain.MayGo l (plain_local x l) p
       → MachineGoes (plain_touched p) x (with_plain l p (plain.next_link (x.plain l) p) x)
   plain_goes l p may = record {
     control = λ n v other fits. fits;
     links = λ j. link_same (plain_touched p) j (x.inbound j);
-    plain = λ j. cond_both (j == l) (plain.next_link (x.plain l) p) (x.plain j) (λ z. PlainGoes (plain_touched p) j (x.plain j) z)
-        (λ is. subst (λ (i : ℕ). PlainGoes (plain_touched p) i (x.plain i) (plain.next_link (x.plain l) p)) (sym (eqb-true j l is))
-        (plain_part_goes l (plain_local x l) p may)) (λ apart. plain_same (plain_touched p) j (x.plain j));
+    plain = one_plain l p may;
+    gates = λ n. gate_same (plain_touched p) n (x.gates n).phase;
+  }
+
+  gate_goes : (n : ℕ) (p : gateway.Part) (next : Gateway) → gateways.Steps n (x.gates n) p next
+      → MachineGoes (gate_touched p) x (with_gate n p next x)
+  gate_goes n p next steps = record {
+    control = λ k v other fits. fits;
+    links = λ j. link_same (gate_touched p) j (x.inbound j);
+    plain = λ j. plain_same (gate_touched p) j (x.plain j);
+    gates = one_gate n p next steps;
+  }
+
+  -- what happens on a stream opens, shuts and closes no link
+  captured_untouched : (n s : ℕ) (w : Shared) → plain_touched (captured_part n s w) ≡ 0
+  captured_untouched n s (asks authority) = refl
+  captured_untouched n s (tells heard begun) = refl
+  captured_untouched n s (puts waiting count) = refl
+  captured_untouched n s finishes = refl
+  captured_untouched n s (credits count) = refl
+  captured_untouched n s (drops begun) = refl
+  captured_untouched n s (completes begun note) = refl
+
+  gateway_untouched : (l s : ℕ) (w : Shared) → gate_touched (gateway_part l s w) ≡ 0
+  gateway_untouched l s (asks authority) = refl
+  gateway_untouched l s (tells heard begun) = refl
+  gateway_untouched l s (puts waiting count) = refl
+  gateway_untouched l s finishes = refl
+  gateway_untouched l s (credits count) = refl
+  gateway_untouched l s (drops begun) = refl
+  gateway_untouched l s (completes begun note) = refl
+
+  stream_goes : (l n s : ℕ) (w : Shared) (next : Gateway) → plain.MayGo l (plain_local x l) (captured_part n s w)
+      → gateways.Steps n (x.gates n) (gateway_part l s w) next
+      → MachineGoes 0 x (with_stream l n (plain.next_link (x.plain l) (captured_part n s w)) next x)
+  stream_goes l n s w next may steps = record {
+    control = λ k v other fits. fits;
+    links = λ j. link_same 0 j (x.inbound j);
+    plain = λ j. subst (λ (k : ℕ). PlainGoes k j (x.plain j)
+        (cond (j == l) (plain.next_link (x.plain l) (captured_part n s w)) (x.plain j)))
+        (captured_untouched n s w) (one_plain l (captured_part n s w) may j);
+    gates = λ j. subst (λ (k : ℕ). GateGoes k j (x.gates j).phase (cond (j == n) next (x.gates j)).phase)
+        (gateway_untouched l s w) (one_gate n (gateway_part l s w) next steps j);
   }
 
 module _ (g : NodeConfig) (x : Machine) (points : List Point) (stands : StandsFor g x points) (told : ℕ → Look)
@@ -368,11 +441,11 @@ module _ (g : NodeConfig) (x : Machine) (points : List Point) (stands : StandsFo
   plain_each l (e.Accepted k d) may birth own n =
       let z = plain_part.entry (e.Accepted k d) in
       let c = x.plain l in
-      let none = subst (λ (s : captured.Stage). PlainDueBy s c.up_shut c.shut c.closed) may.1 (agrees.plain_due l) in
+      let none = subst (λ (s : captured.Stage). PlainDueBy s (is_raw c) c.up_shut c.shut c.closed) may.1 (agrees.plain_due l) in
       new_one x (plain_behind l z) whose owned told agrees k (at_door d) (bears true) (new_number k birth.0)
       (plain_goes g x points stands l z may)
       (subst (λ (w : Owner). ByOwner w (plain_behind l z) k (open_now false)) (sym (caught d may.2))
-      (plain_here l k z may.0 (open_now false) (ap₂ here_now (sym none.1) (sym none.2)))) n
+      (plain_here l k z may.0 (open_now false) (ap₂ here_now (sym none.2) (sym none.3)))) n
   plain_each l (e.Shut k) may birth own n =
       let z = plain_part.entry (e.Shut k) in
       let c = x.plain l in
@@ -396,40 +469,79 @@ module _ (g : NodeConfig) (x : Machine) (points : List Point) (stands : StandsFo
   relay_was : (l u : ℕ) (stage : captured.Stage) → (x.plain l).stage ≡ stage → RelayFits (x.plain l) u (told u)
       → RelayFitsBy stage (x.plain l).up (x.plain l).up_shut u (told u)
   relay_was l u stage is old =
-      subst (λ (s : captured.Stage). RelayFitsBy s (x.plain l).up (x.plain l).up_shut u (told u)) is old
+      subst (λ (s : captured.Stage). RelayFitsBy s (x.plain l).up (x.plain l).up_shut u (told u)) is old.1
 
   relay_each : (l : ℕ) (z : Entry) → plain.MayGo l (plain_local x l) (plain_part.up z) → BirthMayCome x z
       → PlainStands (entries points) l (plain_part.up z) → (n : ℕ) → AgreesBehind z (plain_behind l (plain_part.up z)) n
   relay_each l (e.Dialled u to why) may birth own n =
       let z = plain_part.up (e.Dialled u to why) in
       let c = x.plain l in
-      let unshut : c.up_shut ≡ false =
-      subst (λ (s : captured.Stage). PlainDueBy s c.up_shut c.shut c.closed) may.0.1 (agrees.plain_due l) in
+      let none = subst (λ (s : captured.Stage). PlainDueBy s (is_raw c) c.up_shut c.shut c.closed) may.0.1 (agrees.plain_due l) in
       new_one x (plain_behind l z) whose owned told agrees u (dialled_for why) (bears false) (new_number u birth)
       (plain_goes g x points stands l z may)
-      (subst (λ (w : Owner). ByOwner w (plain_behind l z) u (dialled false)) (sym (relayed l c.door why may.1))
-      (relay_here l u z (dialled false) (refl, ap dialled (sym unshut)))) n
+      (subst (λ (w : Owner). ByOwner w (plain_behind l z) u (dialled false)) (sym (relayed l c why may.1 may.0.3))
+      (relay_here l u z (dialled false) (none.1, (refl, ap dialled (sym none.0))))) n
   relay_each l (e.Opened u) may birth own n =
       let z = plain_part.up (e.Opened u) in
       touch x (plain_behind l z) whose owned told agrees u (relay_of l) opens_it own (plain_goes g x points stands l z may)
       (λ old. let was = relay_was l u captured.opening may.0.1 old in
-      relay_here l u z (opens_it (told u)) (was.0, ap opens_it was.1)) n
+      relay_here l u z (opens_it (told u)) (old.0, (was.0, ap opens_it was.1))) n
   relay_each l (e.Shut u) may birth own n =
       let z = plain_part.up (e.Shut u) in
       let c = x.plain l in
       touch x (plain_behind l z) whose owned told agrees u (relay_of l) shuts own (plain_goes g x points stands l z may)
       (λ old. let was = relay_was l u captured.live may.1 old in
       relay_here l u z (shuts (told u))
-      (subst (λ (s : captured.Stage). RelayFitsBy s c.up true u (shuts (told u))) (sym may.1) (was.0, ap shuts was.1))) n
+      (old.0, subst (λ (s : captured.Stage). RelayFitsBy s c.up true u (shuts (told u))) (sym may.1) (was.0, ap shuts was.1))) n
   relay_each l (e.Closed u why) may birth own n =
       let z = plain_part.up (e.Closed u why) in
       let c = x.plain l in
       touch x (plain_behind l z) whose owned told agrees u (relay_of l) seen.closes own (plain_goes g x points stands l z may)
       (λ old. relay_here l u z (seen.closes (told u))
-      (subst (λ (s : captured.Stage). RelayFitsBy s 0 c.up_shut u (seen.closes (told u))) (sym may.1) (inr (refl, refl)))) n
+      (old.0, subst (λ (s : captured.Stage). RelayFitsBy s 0 c.up_shut u (seen.closes (told u))) (sym may.1) (inr (refl, refl)))) n
   relay_each l (e.Accepted k d) may birth own n = absurd may
   relay_each l z may birth own n =
       still x (plain_behind l (plain_part.up z)) whose owned told agrees (plain_goes g x points stands l (plain_part.up z) may) n
+
+  -- A LINK TO A GATEWAY
+
+  -- what fits it then, fits it in the whole
+  gate_here : (n k : ℕ) (p : gateway.Part) (next : Gateway) → k ≡ n → (v : Look) → GateFits next.phase v
+      → ByOwner gate_owner (with_gate n p next x) k v
+  gate_here n k p next is v fits =
+      subst (λ (b : Bool). GateFits (cond b next (x.gates k)).phase v) (sym (eq-eqb k n is)) fits
+
+  gate_each : (n : ℕ) (z : Entry) (next : Gateway) → gateways.Steps n (x.gates n) (gateway.entry z) next
+      → GateStands (entries points) n (gateway.entry z) → (k : ℕ) → AgreesBehind z (with_gate n (gateway.entry z) next x) k
+  gate_each n (e.Opened k) next steps own j =
+      let p = gateway.entry (e.Opened k) in
+      touch x (with_gate n p next x) whose owned told agrees k gate_owner opens_it own.1 (gate_goes g x points stands n p next steps)
+      (λ old. gate_here n k p next steps.0.0 (opens_it (told k))
+      (subst (λ (y : Gateway). GateFits y.phase (opens_it (told k))) (sym steps.1)
+      (ap opens_it (subst (λ (phase : gateway_link.Phase). GateFits phase (told k)) steps.0.1.1
+      (subst (λ (i : ℕ). GateFits (x.gates i).phase (told k)) steps.0.0 old))))) j
+  gate_each n (e.Closed k why) next steps own j =
+      let p = gateway.entry (e.Closed k why) in
+      touch x (with_gate n p next x) whose owned told agrees k gate_owner seen.closes own.1 (gate_goes g x points stands n p next steps)
+      (λ old. gate_here n k p next steps.0.0 (seen.closes (told k))
+      (subst (λ (y : Gateway). GateFits y.phase (seen.closes (told k))) (sym steps.1) refl)) j
+  gate_each n (e.Accepted k d) next steps own j = absurd steps.0
+  gate_each n (e.Dialled k to why) next steps own j = absurd steps.0
+  gate_each n (e.Shut k) next steps own j = absurd steps.0
+  gate_each n z next steps own j =
+      still x (with_gate n (gateway.entry z) next x) whose owned told agrees (gate_goes g x points stands n (gateway.entry z) next steps) j
+
+  gate_dialled : (n : ℕ) (z : Entry) (key : Key) (next : Gateway) → gateways.Steps n (x.gates n) (gateway.dialled z key) next
+      → BirthMayCome x z → (k : ℕ) → AgreesBehind z (with_gate n (gateway.dialled z key) next x) k
+  gate_dialled n z key next steps birth =
+      let dial = (birth_at n (x.gates n) z key steps.0).0 in
+      let p = gateway.dialled z key in
+      let y = with_gate n p next x in
+      let born : e.Dialled dial.0 dial.3 (whys.Gateway dial.2) ≡ z = sym dial.4 in
+      subst (λ (v : Entry). (k : ℕ) → AgreesBehind v y k) born
+      (λ k. new_one x y whose owned told agrees dial.0 gate_owner (bears false)
+      (new_number dial.0 (subst (BirthMayCome x) dial.4 birth)) (gate_goes g x points stands n p next steps)
+      (gate_here n dial.0 p next dial.1 (dialled false) (subst (λ (w : Gateway). GateFits w.phase (dialled false)) (sym steps.1) refl)) k)
 
   -- EVERY PART OF THE WHOLE
 
@@ -451,11 +563,19 @@ module _ (g : NodeConfig) (x : Machine) (points : List Point) (stands : StandsFo
   link_at l p next steps guard own n =
       still x (with_part l p next x) whose owned told agrees (link_goes g x points stands l p next steps) n
 
-  plain_at : (l : ℕ) (p : plain_part.Part) → plain.MayGo l (plain_local x l) p → PlainGuard x l p → PlainStands (entries points) l p
+  plain_at : (l : ℕ) (p : plain_part.Part) → plain.MayGo l (plain_local x l) p → PlainGuard g x l p → PlainStands (entries points) l p
       → (n : ℕ) → ByOwner (after (of_plain l p) whose n) (plain_behind l p) n (told_after (of_plain l p) n)
   plain_at l (plain_part.entry z) may guard own n = plain_each l z may guard.birth own n
-  plain_at l (plain_part.up z) may guard own n = relay_each l z may guard.birth own n
+  plain_at l (plain_part.up z) may guard own n = relay_each l z may guard.0.birth own n
   plain_at l p may guard own n = still x (plain_behind l p) whose owned told agrees (plain_goes g x points stands l p may) n
+
+  gate_at : (n : ℕ) (p : gateway.Part) (next : Gateway) → gateways.Steps n (x.gates n) p next → GateGuard x n p
+      → GateStands (entries points) n p → (k : ℕ)
+      → ByOwner (after (of_gate n p) whose k) (with_gate n p next x) k (told_after (of_gate n p) k)
+  gate_at n (gateway.entry z) next steps guard own k = gate_each n z next steps own k
+  gate_at n (gateway.dialled z key) next steps guard own k = gate_dialled n z key next steps guard.0.birth k
+  gate_at n p next steps guard own k =
+      still x (with_gate n p next x) whose owned told agrees (gate_goes g x points stands n p next steps) k
 
   step_agrees : (p : Point) (y : Machine) → Steps g x p y → Agrees y (after p whose) (told_after p)
   step_agrees (of_control q) y steps =
@@ -476,6 +596,19 @@ module _ (g : NodeConfig) (x : Machine) (points : List Point) (stands : StandsFo
         due = agrees.due;
         plain_due = λ j. ((plain_goes g x points stands l p steps.0).plain j).due (agrees.plain_due j);
       })
+  step_agrees (of_gate n p) y steps =
+      subst (λ (z : Machine). Agrees z (after (of_gate n p) whose) (told_after (of_gate n p))) (sym steps.3) (record {
+        each = gate_at n p steps.0 steps.1 steps.2 (own_at g x points owned (of_gate n p) y steps);
+        due = agrees.due;
+        plain_due = agrees.plain_due;
+      })
+  step_agrees (of_stream l n s w) y steps =
+      let goes = stream_goes g x points stands l n s w steps.1 steps.0 steps.2 in
+      subst (λ (z : Machine). Agrees z (after (of_stream l n s w) whose) (told_after (of_stream l n s w))) (sym steps.4) (record {
+        each = still x (with_stream l n (plain.next_link (x.plain l) (captured_part n s w)) steps.1 x) whose owned told agrees goes;
+        due = agrees.due;
+        plain_due = λ j. (goes.plain j).due (agrees.plain_due j);
+      })
 
 -- EVERY RUN
 
@@ -491,7 +624,7 @@ pub all_agree : (g : NodeConfig) (x : Machine) (points : List Point) → StandsF
 all_agree g x points (begins is empty) =
     subst (λ (ps : List Point). Agrees x (whose_in ps) (told_in ps)) (sym empty)
     (subst (λ (z : Machine). Agrees z (λ n. nobody) (λ n. unseen)) (sym is)
-    (record { each = λ n. refl; due = λ l s. tt; plain_due = λ l. (refl, refl, refl) }))
+    (record { each = λ n. refl; due = λ l s. tt; plain_due = λ l. (refl, refl, refl, refl) }))
 all_agree g y more (goes_on {x = x} {points = points} stands p steps are) =
     let next = step_agrees g x points stands (told_in points) (all_agree g x points stands) p y steps in
     subst (λ (ps : List Point). Agrees y (whose_in ps) (told_in ps)) (sym are) (record {

@@ -35,7 +35,7 @@ use Rattle.hb_proxy.specs.Control.{AtEntries}
 use Rattle.hb_proxy.specs.Laws.{RunsObeyEntries, RunsObeyControl, RunsPutAll}
 use Rattle.hb_proxy.specs.Machine.{Machine}
 use Rattle.hb_proxy.specs.Owners.{control_plane, owner, link_of}
-use Rattle.hb_proxy.specs.Points.{Point, of_control, of_link, of_plain, entry_in, entries, control_in, control_of}
+use Rattle.hb_proxy.specs.Points.{Point, of_control, of_link, of_plain, of_gate, of_stream, entry_in, entries, control_in, control_of}
 use Rattle.hb_proxy.specs.Runs.{ControlRests, Steps, StandsFor}
 use Rattle.hb_proxy.proofs.Own.{own_at, elsewhere}
 use Rattle.hb_proxy.proofs.Owned.{all_owned}
@@ -156,6 +156,8 @@ module _ (P : List point.Point → Entry → Type 0)
   next g x y before (of_control _) stands steps z is = absurd cc
   next g x y before (of_link l p) stands steps z is = other_next g x y before (of_link l p) stands steps refl z is
   next g x y before (of_plain l p) stands steps z is = other_next g x y before (of_plain l p) stands steps refl z is
+  next g x y before (of_gate n p) stands steps z is = other_next g x y before (of_gate n p) stands steps refl z is
+  next g x y before (of_stream l n s w) stands steps z is = absurd cc
 
   at_all : (g : NodeConfig) (x : Machine) (points : List Point) → StandsFor g x points → AtEntries P points
   unfolding AtIt

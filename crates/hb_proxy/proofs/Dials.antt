@@ -9,6 +9,8 @@ use Rattle.hb_base.specs.declared.door.Why.TheVariants as whys
 use Rattle.hb_base.specs.declared.target.Target.{Target}
 use Rattle.hb_captured.specs.Part as captured
 use Rattle.hb_captured.specs.Runs as relays
+use Rattle.hb_gateway.specs.Part as gateway
+use Rattle.hb_gateway.specs.Runs as gateways
 use Rattle.hb_inbound.specs.Part as part
 use Rattle.hb_inbound.specs.Part.{Part}
 use Rattle.hb_inbound.specs.Runs as inbound
@@ -28,13 +30,14 @@ use Rattle.hb_proxy.specs.Dials.{IsNoDial, DialsBy, DialsAt}
 use Rattle.hb_proxy.specs.Laws.{RunsDial}
 use Rattle.hb_proxy.specs.Machine.{Machine, local, plain_local}
 use Rattle.hb_proxy.specs.Owners.{Owner, nobody, control_plane, link_of, owner, owner_by}
-use Rattle.hb_proxy.specs.Points.{Point, of_control, of_link, of_plain, entry_in, entries, control_in, control_of}
+use Rattle.hb_proxy.specs.Points.{Point, of_control, of_link, of_plain, of_gate, of_stream, entry_in, entries, control_in, control_of}
 use Rattle.hb_proxy.specs.Runs.{ControlRests, Steps, StandsFor, begins, goes_on}
 use Rattle.hb_proxy.proofs.Control.{ticked}
+use Rattle.hb_proxy.proofs.GateChanges.{birth_at}
 use Rattle.hb_proxy.proofs.Own.{own_at, elsewhere}
 use Rattle.hb_proxy.proofs.Owned.{whose_in, whose_one, all_owned, owner_grows}
 use Rattle.hb_proxy.proofs.Places.{at_points, short, rests_of}
-use Rattle.hb_proxy.proofs.PlainDoors.{dialled_so}
+use Rattle.hb_proxy.proofs.PlainDoors.{dialled_so, tried_so}
 use Rattle.hb_proxy.proofs.Projection.{control_same, control_runs}
 
 -- a close of another link leaves the link that lives
@@ -133,17 +136,35 @@ plain_others l x (captured.entry en) may z is = (let same : en ≡ z = cc in sub
 plain_others l x (captured.up en) may z is = (let same : en ≡ z = cc in subst IsOthers same (by en may))
   where
     by : (en : Entry) → relays.UpMayCome l (x.plain l) en → IsOthers en
-    by (e.Dialled u to why) may = dialled_so (λ w. IsOthers (e.Dialled u to w)) l tt tt (x.plain l).door why may.1
-    by (e.DialFailed to why) may = dialled_so (λ w. IsOthers (e.DialFailed to w)) l tt tt (x.plain l).door why may.1
+    by (e.Dialled u to why) may =
+        dialled_so (λ w. IsOthers (e.Dialled u to w)) l tt tt (x.plain l).aim (x.plain l).door why may.1 may.0.3
+    by (e.DialFailed to why) may = tried_so (λ w. IsOthers (e.DialFailed to w)) l tt tt tt (x.plain l).aim (x.plain l).door why may.3
     by e.Tick may = absurd may
     by _ may = tt
 plain_others l x _ may z is = absurd cc
+
+gate_others : (n : ℕ) (x : Machine) (p : gateway.Part) (next : _) → gateways.Steps n (x.gates n) p next → (z : Entry)
+    → gateway.entry_in p ≡ z ∷ [] → IsOthers z
+gate_others n x (gateway.entry en) next steps z is = (let same : en ≡ z = cc in subst IsOthers same (by en steps.0))
+  where
+    by : (en : Entry) → gateways.MayCome n (x.gates n) en → IsOthers en
+    by (e.Dialled k to why) may = absurd may
+    by (e.DialFailed to why) may = absurd may
+    by e.Tick may = absurd may
+    by _ may = tt
+gate_others n x (gateway.dialled en key) next steps z is =
+    let dial = (birth_at n (x.gates n) en key steps.0).0 in
+    let same : en ≡ z = cc in
+    subst IsOthers (sym dial.4 ∙ same) tt
+gate_others n x _ next steps z is = absurd cc
 
 others_of : (g : NodeConfig) (x y : Machine) (p : Point) → Steps g x p y → control_in p ≡ [] → (z : Entry) → entry_in p ≡ z ∷ []
     → IsOthers z
 others_of g x y (of_control q) steps none z is = absurd cc
 others_of g x y (of_link l p) steps none z is = part_others l x p _ steps.1 z is
 others_of g x y (of_plain l p) steps none z is = plain_others l x p steps.0 z is
+others_of g x y (of_gate n p) steps none z is = gate_others n x p steps.0 steps.1 z is
+others_of g x y (of_stream l n s w) steps none z is = absurd cc
 
 -- such an entry, on no link to the control plane, tells nothing of dials
 others_same : (g : NodeConfig) (x : Machine) (before : List Point) → StandsFor g x before → (z : Entry) → IsOthers z
@@ -187,6 +208,8 @@ same g y more (goes_on {x = x} {points = points} stands p steps are) =
         ∙ one_more point.entry_in (control_of points) q))
     by (of_link l p) steps so_far = rests (of_link l p) refl steps so_far
     by (of_plain l p) steps so_far = rests (of_plain l p) refl steps so_far
+    by (of_gate n p) steps so_far = rests (of_gate n p) refl steps so_far
+    by (of_stream l n s w) steps so_far = rests (of_stream l n s w) refl steps so_far
 
 -- AT EACH ENTRY
 
@@ -263,6 +286,8 @@ next g x y before p stands steps z is =
     by true over (of_control _) steps is = absurd cc
     by true over (of_link l p) steps is = others_late z (others_of g x y (of_link l p) steps refl z is)
     by true over (of_plain l p) steps is = others_late z (others_of g x y (of_plain l p) steps refl z is)
+    by true over (of_gate n p) steps is = others_late z (others_of g x y (of_gate n p) steps refl z is)
+    by true over (of_stream l n s w) steps is = absurd cc
     by false goes (of_control (point.entry en)) steps is =
         let one : en ≡ z = cc in
         subst (DialMayStand g (entries before)) one
@@ -271,6 +296,8 @@ next g x y before p stands steps z is =
     by false goes (of_control _) steps is = absurd cc
     by false goes (of_link l p) steps is = other goes (of_link l p) steps refl is
     by false goes (of_plain l p) steps is = other goes (of_plain l p) steps refl is
+    by false goes (of_gate n p) steps is = other goes (of_gate n p) steps refl is
+    by false goes (of_stream l n s w) steps is = absurd cc
 
 pub runs_dial : RunsDial
 runs_dial g x points stands = at_points g (DialsAt g) (next g) x points stands

@@ -1,7 +1,8 @@
 -- A tunnel that ended has no upstream that isn't closed where anything more comes, and a plain link that ended is closed, in every run of
 -- the whole.
 use Rattle.std.proofs.Common.{◌≡◌, inl, inr, ⊎_elim, ℕ, ◌||◌, Bool, true, false, List, Some, None, refl, ap, ap₂, sym, ◌∙◌, subst}
-use Rattle.std.proofs.lemmas.Bool.{cases_eq}
+use Rattle.std.proofs.lemmas.Bool.{cases_eq, eqb-true, false≢true}
+use Rattle.std.specs.List.{list_any}
 use Rattle.hb_base.specs.declared.cause.Cause.{Cause}
 use Rattle.hb_base.specs.declared.cause.Cause.TheVariants as cause
 use Rattle.hb_captured.proofs.Kept.{Keeps, all_keep}
@@ -12,6 +13,11 @@ use Rattle.hb_captured.specs.Captured.{Captured}
 use Rattle.hb_captured.specs.Part as plain_part
 use Rattle.hb_captured.specs.Runs as plain
 use Rattle.hb_captured.specs.Sides as plain_sides
+use Rattle.hb_gateway.specs.Calm as gateway_calm
+use Rattle.hb_gateway.specs.Gateway as gateway
+use Rattle.hb_gateway.specs.Gateway.{Gateway}
+use Rattle.hb_gateway.specs.Part as gateway_part
+use Rattle.hb_gateway.specs.Runs as gateways
 use Rattle.hb_inbound.proofs.Admitted.{KnowsBy}
 use Rattle.hb_inbound.proofs.AdmittedRun.{all_admit}
 use Rattle.hb_inbound.proofs.EndsRun.{all_say, new_streams, quiet_closed}
@@ -29,12 +35,13 @@ use Rattle.hb_model.specs.Point as point
 use Rattle.hb_model.specs.declared.config.NodeConfig.{NodeConfig}
 use Rattle.hb_world.specs.declared.entry.Entry.{Entry}
 use Rattle.hb_world.specs.declared.entry.Entry.TheVariants as e
-use Rattle.hb_proxy.specs.Ends.{IsPlainClosed, AllClosed, MoreComes, LinkGoes, UpGoes, EndsAt}
+use Rattle.hb_proxy.specs.Ends.{IsPlainClosed, IsGateClosed, AllClosed, MoreComes, LinkGoes, UpGoes, GateGoes, EndsAt, closes_gate}
 use Rattle.hb_proxy.specs.Held.{at_start}
 use Rattle.hb_proxy.specs.Laws.{RunsEnd}
 use Rattle.hb_proxy.specs.Machine.{Machine, local, plain_local}
-use Rattle.hb_proxy.specs.Points.{Point, of_control, of_link, of_plain, parts_of, plain_of}
-use Rattle.hb_proxy.specs.Runs.{is_act, is_link_faulted, link_first, Lets, PlainLets, ControlMayCome, LinkMayCome, PlainMayCome, Steps, StandsFor}
+use Rattle.hb_proxy.specs.Points.{Point, of_control, of_link, of_plain, of_gate, of_stream, parts_of, plain_of, gates_of}
+use Rattle.hb_proxy.specs.Runs.{is_act, is_link_faulted, is_gate_faulted, link_first, gate_first, Lets, PlainLets, GateLets, ControlMayCome, LinkMayCome, PlainMayCome, GateMayCome, Steps, StandsFor}
+use Rattle.hb_proxy.proofs.GateEnds.{EndedBy, gates_end}
 use Rattle.hb_proxy.proofs.Places.{at_points}
 use Rattle.hb_proxy.proofs.Plain.{plain_runs}
 use Rattle.hb_proxy.proofs.Projection.{links_run}
@@ -83,10 +90,10 @@ tried_quiet x (inl at) = at.0
 tried_quiet x (inr (inl at)) = at.0
 tried_quiet x (inr (inr at)) = at.0
 
--- one that ended, and is quiet, is closed with its upstream
+-- one that ended, and is quiet, is closed with its upstream, and has no stream
 over_closed : (x : Captured) (why : Cause) (stage : captured.Stage) → IsQuietBy stage x → course_in stage ≡ plain_sides.over why
-    → (x.closed ≡ true) × (x.up ≡ 0)
-over_closed x why (captured.over cause) quiet is = quiet.1
+    → (x.closed ≡ true) × (x.up ≡ 0) × (x.gate ≡ 0)
+over_closed x why (captured.over cause) quiet is = (quiet.1.0, quiet.1.1, eqb-true x.gate 0 quiet.0)
 over_closed x why (captured.failed cause) quiet is = absurd quiet.0
 over_closed x why (captured.ended cause) quiet is = absurd quiet.0
 over_closed x why captured.unborn quiet is = absurd cc
@@ -97,30 +104,60 @@ over_closed x why captured.opening quiet is = absurd cc
 over_closed x why captured.accepting quiet is = absurd cc
 over_closed x why captured.live quiet is = absurd cc
 
+-- A LINK TO A GATEWAY
+
+pub gate_quiet : (first : Bool) (y : Gateway) → first ≡ false → GateLets first y → gateway_calm.IsQuiet y
+gate_quiet first y is lets = subst (λ (b : Bool). GateLets b y) is lets
+
+-- one that is quiet has told of no connection error
+gate_unfaulted : (phase : gateway.Phase) → gateway_calm.close_due phase ≡ None → is_gate_faulted phase ≡ false
+gate_unfaulted (gateway.faulted code) none = absurd (let no : Some (cause.ConnFault code) ≡ None = none in cc)
+gate_unfaulted gateway.unborn none = refl
+gate_unfaulted gateway.opening none = refl
+gate_unfaulted gateway.serving none = refl
+gate_unfaulted (gateway.closing why) none = refl
+gate_unfaulted gateway.closed none = refl
+
 module _ (g : NodeConfig) (x : Machine) (before : List Point) (stands : StandsFor g x before) where
   plain_closed : (l : ℕ) → plain_calm.IsQuiet (x.plain l) → IsPlainClosed g before l
   plain_closed l quiet = record {
     link = λ why is. keeps.tells.closed ∙ (closed why is).0;
     up = λ why is. keeps.tells.up ∙ (closed why is).1;
+    stream = λ why is. ap (λ (s : plain_sides.Stream). s.gate) keeps.tells.stream ∙ (closed why is).2;
   }
     where
       keeps : Keeps (at_start g) (plain_local x l) (plain_of l before)
       keeps = all_keep l (at_start g) (plain_local x l) (plain_of l before) (plain_runs g x before l stands)
 
       closed : (why : Cause) → plain_sides.course_of (at_start g) (plain_of l before) ≡ plain_sides.over why
-          → ((x.plain l).closed ≡ true) × ((x.plain l).up ≡ 0)
+          → ((x.plain l).closed ≡ true) × ((x.plain l).up ≡ 0) × ((x.plain l).gate ≡ 0)
       closed why is = over_closed (x.plain l) why (x.plain l).stage quiet (sym keeps.course ∙ is)
 
-  closed_of : ((l : ℕ) → IsQuiet (x.inbound l)) → ((l : ℕ) → plain_calm.IsQuiet (x.plain l)) → AllClosed g before
-  closed_of quiet plain = record {
+  gate_closed : (n : ℕ) → gateway_calm.IsQuiet (x.gates n) → IsGateClosed before n
+  gate_closed n quiet born ends = by (x.gates n).phase quiet.no_close (gates_end g x before stands n)
+    where
+      by : (phase : gateway.Phase) → gateway_calm.close_due phase ≡ None → EndedBy phase x.control.over (gates_of n before)
+          → list_any closes_gate (gates_of n before) ≡ true
+      by gateway.unborn none told = absurd (false≢true (sym told.0 ∙ born))
+      by gateway.opening none told = absurd (false≢true (sym told ∙ ends))
+      by gateway.serving none told = absurd (false≢true (sym told ∙ ends))
+      by (gateway.faulted code) none told = absurd (let no : Some (cause.ConnFault code) ≡ None = none in cc)
+      by (gateway.closing why) none told = absurd (let no : Some why ≡ None = none in cc)
+      by gateway.closed none told = told
+
+  closed_of : ((l : ℕ) → IsQuiet (x.inbound l)) → ((l : ℕ) → plain_calm.IsQuiet (x.plain l))
+      → ((n : ℕ) → gateway_calm.IsQuiet (x.gates n)) → AllClosed g before
+  closed_of quiet plain gates = record {
     links = λ l. quiet_closed new_streams l (at_start g) (local x l) (parts_of l before) (links_run g x before l stands) (quiet l);
     plain = λ l. plain_closed l (plain l);
+    gates = λ n. gate_closed n (gates n);
   }
 
   -- an entry of a link that is quiet, and that doesn't go first, comes while all are
   all_closed : (l : ℕ) (z : Entry) → LinkMayCome x l z → is_act z ≡ false → IsQuiet (x.inbound l) → AllClosed g before
   all_closed l z guard late quiet =
       closed_of each (λ k. plain_quiet (link_first (x.inbound l).phase z) (x.plain k) first (guard.plain k))
+      (λ k. gate_quiet (link_first (x.inbound l).phase z) (x.gates k) first (guard.gates.gates k))
     where
       first : link_first (x.inbound l).phase z ≡ false
       first = ap₂ (λ (a b : Bool). a || b) (unfaulted (x.inbound l).phase quiet.no_close) late
@@ -131,12 +168,12 @@ module _ (g : NodeConfig) (x : Machine) (before : List Point) (stands : StandsFo
           (λ apart. lets_quiet (link_first (x.inbound l).phase z) (x.inbound k) first (guard.others k apart)) (cases_eq k l)
 
   control_ends : (z : Entry) → ControlMayCome x z → MoreComes g before z
-  control_ends (e.Accepted k d) guard = closed_of guard.links guard.plain
-  control_ends (e.Opened k) guard = closed_of guard.links guard.plain
-  control_ends (e.Came k bytes) guard = closed_of guard.links guard.plain
-  control_ends (e.Ended k) guard = closed_of guard.links guard.plain
-  control_ends e.Tick guard = closed_of guard.links guard.plain
-  control_ends (e.Wait ready how) guard = closed_of guard.links guard.plain
+  control_ends (e.Accepted k d) guard = closed_of guard.links guard.plain guard.gates.gates
+  control_ends (e.Opened k) guard = closed_of guard.links guard.plain guard.gates.gates
+  control_ends (e.Came k bytes) guard = closed_of guard.links guard.plain guard.gates.gates
+  control_ends (e.Ended k) guard = closed_of guard.links guard.plain guard.gates.gates
+  control_ends e.Tick guard = closed_of guard.links guard.plain guard.gates.gates
+  control_ends (e.Wait ready how) guard = closed_of guard.links guard.plain guard.gates.gates
   control_ends _ guard = tt
 
   link_ends : (l : ℕ) (z : Entry) → MayCome l (x.inbound l) z → LinkMayCome x l z → MoreComes g before z × LinkGoes g before l z
@@ -176,6 +213,7 @@ module _ (g : NodeConfig) (x : Machine) (before : List Point) (stands : StandsFo
   plain_all : (l : ℕ) (z : Entry) → PlainMayCome x l z → is_act z ≡ false → plain_calm.IsQuiet (x.plain l) → AllClosed g before
   plain_all l z guard late quiet =
       closed_of (λ k. lets_quiet (is_act z) (x.inbound k) late (guard.links k)) each
+      (λ k. gate_quiet (is_act z) (x.gates k) late (guard.gates.gates k))
     where
       each : (k : ℕ) → plain_calm.IsQuiet (x.plain k)
       each k =
@@ -202,6 +240,35 @@ module _ (g : NodeConfig) (x : Machine) (before : List Point) (stands : StandsFo
   relay_ends l (e.Wait ready how) may guard = absurd may
   relay_ends l _ may guard = (tt, tt)
 
+  -- nor one of a link to a gateway
+  gate_all : (n : ℕ) (z : Entry) → GateMayCome x n z → is_act z ≡ false → gateway_calm.IsQuiet (x.gates n) → AllClosed g before
+  gate_all n z guard late quiet =
+      closed_of (λ k. lets_quiet (gate_first (x.gates n).phase z) (x.inbound k) first (guard.links k))
+      (λ k. plain_quiet (gate_first (x.gates n).phase z) (x.plain k) first (guard.plain k)) each
+    where
+      first : gate_first (x.gates n).phase z ≡ false
+      first = ap₂ (λ (a b : Bool). a || b) (gate_unfaulted (x.gates n).phase quiet.no_close) late
+
+      each : (k : ℕ) → gateway_calm.IsQuiet (x.gates k)
+      each k =
+          ⊎_elim (λ (same : k ≡ n). subst (λ (j : ℕ). gateway_calm.IsQuiet (x.gates j)) (sym same) quiet)
+          (λ apart. gate_quiet (gate_first (x.gates n).phase z) (x.gates k) first (guard.others k apart)) (cases_eq k n)
+
+  gate_ends : (n : ℕ) (z : Entry) → gateways.MayCome n (x.gates n) z → GateMayCome x n z → MoreComes g before z × GateGoes g before n z
+  gate_ends n (e.Opened k) may guard = (gate_all n (e.Opened k) guard refl may.1.0, tt)
+  gate_ends n (e.Came k bytes) may guard = (gate_all n (e.Came k bytes) guard refl may.1.0.0, tt)
+  gate_ends n (e.Ended k) may guard = (gate_all n (e.Ended k) guard refl may.1.0.0, tt)
+  gate_ends n (e.Went k bytes) may guard = (
+    tt,
+    ⊎_elim (λ h. inl (gate_all n (e.Went k bytes) guard refl h.0))
+        (λ h. inr (subst (λ (phase : gateway.Phase). EndedBy phase x.control.over (gates_of n before)) h.2 (gates_end g x before stands n)))
+        may.1,
+  )
+  gate_ends n (e.Accepted k d) may guard = absurd may
+  gate_ends n e.Tick may guard = absurd may
+  gate_ends n (e.Wait ready how) may guard = absurd may
+  gate_ends n _ may guard = (tt, tt)
+
 next : (g : NodeConfig) (x y : Machine) (before : List Point) (p : Point) → StandsFor g x before → Steps g x p y → EndsAt g before p
 next g x y before (of_control (point.entry z)) stands steps = control_ends g x before stands z steps.2
 next g x y before (of_control _) stands steps = tt
@@ -209,8 +276,11 @@ next g x y before (of_link l (part.entry z)) stands steps = link_ends g x before
 next g x y before (of_link l (part.up s z)) stands steps = up_ends g x before stands l s z steps.1.0 steps.2
 next g x y before (of_link l _) stands steps = tt
 next g x y before (of_plain l (plain_part.entry z)) stands steps = plain_ends g x before stands l z steps.0 steps.1
-next g x y before (of_plain l (plain_part.up z)) stands steps = relay_ends g x before stands l z steps.0 steps.1
+next g x y before (of_plain l (plain_part.up z)) stands steps = relay_ends g x before stands l z steps.0 steps.1.0
 next g x y before (of_plain l _) stands steps = tt
+next g x y before (of_gate n (gateway_part.entry z)) stands steps = gate_ends g x before stands n z steps.1.0 steps.2
+next g x y before (of_gate n _) stands steps = tt
+next g x y before (of_stream l n s w) stands steps = tt
 
 pub runs_end : RunsEnd
 runs_end g x points stands = at_points g (EndsAt g) (next g) x points stands

@@ -2,18 +2,16 @@
 use Rattle.std.proofs.Common.{◌≡◌, ℕ, cond, List, [], ◌∷◌, ◌++◌, map, refl, ap, sym, ◌∙◌, subst}
 use Rattle.std.proofs.lemmas.Bool.{eq-eqb, ne_eqb}
 use Rattle.std.proofs.lemmas.List.{append_assoc, append-nil}
-use Rattle.hb_captured.specs.Part as captured_part
 use Rattle.hb_captured.specs.Runs as captured
 use Rattle.hb_inbound.specs.Inbound.{Inbound}
 use Rattle.hb_inbound.specs.Part as part
 use Rattle.hb_inbound.specs.Part.{Part}
 use Rattle.hb_inbound.specs.Runs.{Local, with_link}
 use Rattle.hb_inbound.specs.Runs as inbound
-use Rattle.hb_proxy.specs.Leads.{IsInner, Leads, LinksLead, LinksStep, IsPlainInner, PlainLeads, PlainLinksLead, PlainLinksStep}
-use Rattle.hb_proxy.specs.Machine.{Machine, local, plain_local, with_part, with_plain}
+use Rattle.hb_proxy.specs.Leads.{IsInner, Leads, LinksLead, LinksStep, PlainLinksLead, PlainLinksStep}
+use Rattle.hb_proxy.specs.Machine.{Machine, local, with_part, with_plain}
 use Rattle.hb_proxy.specs.Points.{Point, of_link, of_plain}
-use Rattle.hb_proxy.specs.Runs.{LinkGuard, PlainGuard, StandsFor, goes_on}
-use Rattle.hb_proxy.proofs.Plain.{turned}
+use Rattle.hb_proxy.specs.Runs.{LinkGuard, StandsFor, goes_on}
 
 -- a part that isn't an update leaves what is held
 module _ (a b : Local) where
@@ -52,6 +50,7 @@ links_step g x points l p b stands guard steps =
       others = λ k apart. ap (λ (t : _). cond t b.link (x.inbound k)) (ne_eqb k l apart);
       control = refl;
       plain = refl;
+      gates = refl;
     }
   where
     p_at : Point
@@ -73,6 +72,7 @@ links_lead g x points l [] b stands leads = record {
   others = λ k apart. refl;
   control = refl;
   plain = refl;
+  gates = refl;
 }
 links_lead g x points l (p ∷ parts) b stands (inner, mid, steps, leads) =
     let one = links_step g x points l p mid stands (inner_guard x l p inner) steps in
@@ -86,49 +86,39 @@ links_lead g x points l (p ∷ parts) b stands (inner, mid, steps, leads) =
       others = λ k apart. rest.others k apart ∙ one.others k apart;
       control = rest.control ∙ one.control;
       plain = rest.plain ∙ one.plain;
+      gates = rest.gates ∙ one.gates;
     }
 
 -- PLAIN LINKS
 
 pub plain_links_step : PlainLinksStep
 plain_links_step g x points l p stands guard may =
-    let next = captured.next_link (x.plain l) p in
     record {
-      y = with_plain l p next x;
       stands = goes_on stands (of_plain l p) (may, guard, refl) refl;
-      reached = ap (λ (t : _). record { held = x.control.held; link = cond t next (x.plain l) }) (eq-eqb l l refl)
-          ∙ sym (turned x l p guard (plain_local x l));
-      others = λ k apart. ap (λ (t : _). cond t next (x.plain k)) (ne_eqb k l apart);
+      others = λ k apart. ap (λ (t : _). cond t (captured.next_link (x.plain l) p) (x.plain k)) (ne_eqb k l apart);
       control = refl;
       inbound = refl;
+      gates = refl;
     }
 
-plain_guard : (x : Machine) (l : ℕ) (p : captured_part.Part) → IsPlainInner p → PlainGuard x l p
-plain_guard x l (captured_part.entry z) inner = absurd inner
-plain_guard x l (captured_part.up z) inner = absurd inner
-plain_guard x l (captured_part.applied r) inner = absurd inner
-plain_guard x l (captured_part.stopped why) inner = absurd inner
-plain_guard x l _ inner = tt
-
 pub plain_links_lead : PlainLinksLead
-plain_links_lead g x points l [] b stands leads = record {
-  y = x;
-  stands = subst (λ (ps : List Point). StandsFor g x ps) (sym (append-nil points)) stands;
-  reached = sym leads;
-  others = λ k apart. refl;
-  control = refl;
-  inbound = refl;
+plain_links_lead g x y points l [] stands leads = record {
+  stands = subst (λ (ps : List Point). StandsFor g y ps) (sym (append-nil points))
+      (subst (λ (z : Machine). StandsFor g z points) (sym leads) stands);
+  others = λ k apart. ap (λ (z : Machine). z.plain k) leads;
+  control = ap (λ (z : Machine). z.control) leads;
+  inbound = ap (λ (z : Machine). z.inbound) leads;
+  gates = ap (λ (z : Machine). z.gates) leads;
 }
-plain_links_lead g x points l (p ∷ parts) b stands (inner, may, leads) =
-    let one = plain_links_step g x points l p stands (plain_guard x l p inner) may in
-    let rest = plain_links_lead g one.y (points ++ of_plain l p ∷ []) l parts b one.stands
-    (subst (λ (c : captured.Local). PlainLeads l c parts b) (sym one.reached) leads) in
+plain_links_lead g x y points l (p ∷ parts) stands (inner, may, guard, leads) =
+    let one = plain_links_step g x points l p stands guard may in
+    let rest = plain_links_lead g (with_plain l p (captured.next_link (x.plain l) p) x) y (points ++ of_plain l p ∷ []) l parts
+    one.stands leads in
     record {
-      y = rest.y;
-      stands = subst (λ (ps : List Point). StandsFor g rest.y ps)
+      stands = subst (λ (ps : List Point). StandsFor g y ps)
           (append_assoc points (of_plain l p ∷ []) (map (of_plain l) parts)) rest.stands;
-      reached = rest.reached;
       others = λ k apart. rest.others k apart ∙ one.others k apart;
       control = rest.control ∙ one.control;
       inbound = rest.inbound ∙ one.inbound;
+      gates = rest.gates ∙ one.gates;
     }

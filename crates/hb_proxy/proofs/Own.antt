@@ -1,10 +1,13 @@
 -- Each entry stands on a link of its own part, and links are numbered in the order of births.
-use Rattle.std.proofs.Common.{◌≡◌, ◌≢◌, inl, inr, ⊎_elim, ℕ, ◌+◌, ◌<◌, false, List, [], ◌∷◌, ◌++◌, Option, Some, None, IfSome, refl, ap, sym, ◌∙◌, subst, arith}
+use Rattle.std.proofs.Common.{◌≡◌, ◌≢◌, inl, inr, ⊎_elim, ℕ, ◌+◌, ◌<◌, Bool, true, false, List, [], ◌∷◌, ◌++◌, Option, Some, None, IfSome, refl, ap, sym, ◌∙◌, subst, arith}
 use Rattle.std.proofs.lemmas.List.{append-nil}
 use Rattle.hb_captured.specs.Captured as plain
-use Rattle.hb_captured.specs.Captured.{Captured}
+use Rattle.hb_captured.specs.Captured.{Captured, is_raw}
 use Rattle.hb_captured.specs.Part as captured
 use Rattle.hb_captured.specs.Runs as relays
+use Rattle.hb_gateway.specs.Gateway.{Gateway}
+use Rattle.hb_gateway.specs.Part as gateway
+use Rattle.hb_gateway.specs.Runs as gateways
 use Rattle.hb_inbound.specs.Inbound.{Inbound}
 use Rattle.hb_inbound.specs.Part as part
 use Rattle.hb_inbound.specs.Part.{Part}
@@ -22,13 +25,14 @@ use Rattle.hb_world.specs.declared.entry.Entry.TheVariants as e
 use Rattle.hb_world.specs.declared.entry.Way.TheVariants as way
 use Rattle.hb_proxy.specs.Laws.{RunsOwn, RunsNumber, RunsDialOnce}
 use Rattle.hb_proxy.specs.Machine.{Machine, local, plain_local, born_after, born_by}
-use Rattle.hb_proxy.specs.Owners.{Owner, control_plane, inbound_link, upstream_of, plain_link, relay_of, link_of, owner, StandsOn, StandsAs, PartStands, PlainStands, ControlStands, OwnAt, NumberMayStand}
-use Rattle.hb_proxy.specs.Points.{Point, of_control, of_link, of_plain, entry_in, entries, control_in}
+use Rattle.hb_proxy.specs.Owners.{Owner, control_plane, inbound_link, upstream_of, plain_link, relay_of, gateway_link, link_of, owner, StandsOn, StandsAs, PartStands, PlainStands, GateStands, ControlStands, OwnAt, NumberMayStand}
+use Rattle.hb_proxy.specs.Points.{Point, of_control, of_link, of_plain, of_gate, of_stream, entry_in, entries, control_in}
 use Rattle.hb_proxy.specs.Runs.{BirthMayCome, Steps, StandsFor, begins, goes_on}
 use Rattle.hb_proxy.proofs.ControlBorn.{control_born}
+use Rattle.hb_proxy.proofs.GateChanges.{birth_at, gate_born}
 use Rattle.hb_proxy.proofs.Owned.{Owned, whose_in, all_owned}
 use Rattle.hb_proxy.proofs.Places.{at_points, at_trace, short, birth_of}
-use Rattle.hb_proxy.proofs.PlainStays.{RelayBy, OwnsRelay, stands_born}
+use Rattle.hb_proxy.proofs.PlainStays.{RelayOn, RelayBy, OwnsRelay, stands_born}
 use Rattle.hb_proxy.proofs.Stays.{IsWeak, OwnsBy, Owns, may_born}
 
 -- what holds of the link that an entry stands on, where it stands on one
@@ -118,8 +122,13 @@ module _ (whose : ℕ → Owner) (l : ℕ) (x : Captured) (owns : OwnsRelay whos
   at_relay : (u k : ℕ) → x.up ≡ u → u ≡ k → whose x.up ≡ relay_of l → whose k ≡ relay_of l
   at_relay u k up same mine = subst (λ (n : ℕ). whose n ≡ relay_of l) (up ∙ same) mine
 
-  at_stage : (stage : plain.Stage) → x.stage ≡ stage → RelayBy stage whose l x.up
-  at_stage stage is = subst (λ (st : plain.Stage). RelayBy st whose l x.up) is owns
+  at_stage : (stage : plain.Stage) → x.stage ≡ stage → RelayBy stage (is_raw x) whose l x.up
+  at_stage stage is = subst (λ (st : plain.Stage). RelayBy st (is_raw x) whose l x.up) is owns
+
+  -- one that has an upstream has no stream
+  on_raw : (raw : Bool) (u k : ℕ) → x.up ≡ u → 0 < u → u ≡ k → RelayOn raw whose l x.up → whose k ≡ relay_of l
+  on_raw true u k up some same mine = at_relay u k up same mine
+  on_raw false u k up some same none = absurd (omega (arith, up, some, none.1))
 
   -- one that ended has the upstream that it had, or none
   behind : (u k : ℕ) → x.up ≡ u → 0 < u → u ≡ k → IsWeak whose (relay_of l) x.up → whose k ≡ relay_of l
@@ -127,17 +136,18 @@ module _ (whose : ℕ → Owner) (l : ℕ) (x : Captured) (owns : OwnsRelay whos
   behind u k up some same (inr mine) = at_relay u k up same mine
 
   on_relay : (z : Entry) → relays.UpMayCome l x z → (k : ℕ) → link_of z ≡ Some k → whose k ≡ relay_of l
-  on_relay (e.Opened u) may k is = at_relay u k may.1 (cc) (at_stage plain.opening may.0.1)
-  on_relay (e.Came u bytes) may k is = at_relay u k may.0.1 (cc) (at_stage plain.live may.0.0.1)
-  on_relay (e.Ended u) may k is = at_relay u k may.0.1 (cc) (at_stage plain.live may.0.0.1)
-  on_relay (e.Went u bytes) may k is = at_relay u k may.0.1 (cc) (at_stage plain.live may.0.0.1)
+  on_relay (e.Opened u) may k is = on_raw (is_raw x) u k may.1 may.2 (cc) (at_stage plain.opening may.0.1)
+  on_relay (e.Came u bytes) may k is = on_raw (is_raw x) u k may.0.1 may.0.2 (cc) (at_stage plain.live may.0.0.1)
+  on_relay (e.Ended u) may k is = on_raw (is_raw x) u k may.0.1 may.0.2 (cc) (at_stage plain.live may.0.0.1)
+  on_relay (e.Went u bytes) may k is = on_raw (is_raw x) u k may.0.1 may.0.2 (cc) (at_stage plain.live may.0.0.1)
   on_relay (e.Broke u) may k is =
-      ⊎_elim (λ h. at_relay u k h.1 (cc) (at_stage plain.opening h.0.1)) (λ h. at_relay u k h.1 (cc) (at_stage plain.live h.0.1)) may
-  on_relay (e.Shut u) may k is = at_relay u k may.2 (cc) (at_stage plain.live may.1)
+      ⊎_elim (λ h. on_raw (is_raw x) u k h.1 h.2 (cc) (at_stage plain.opening h.0.1))
+      (λ h. on_raw (is_raw x) u k h.1 h.2 (cc) (at_stage plain.live h.0.1)) may
+  on_relay (e.Shut u) may k is = on_raw (is_raw x) u k may.2 may.3 (cc) (at_stage plain.live may.1)
   on_relay (e.Closed u why) may k is = behind u k may.2 may.3 (cc) (at_stage (plain.over why) may.1)
-  on_relay (e.Balked (way.Finish u)) may k is = at_relay u k may.1 (cc) (at_stage plain.opening may.0.1)
-  on_relay (e.Balked (way.Read u)) may k is = at_relay u k may.0.1 (cc) (at_stage plain.live may.0.0.1)
-  on_relay (e.Balked (way.Write u)) may k is = at_relay u k may.0.1 (cc) (at_stage plain.live may.0.0.1)
+  on_relay (e.Balked (way.Finish u)) may k is = on_raw (is_raw x) u k may.1 may.2 (cc) (at_stage plain.opening may.0.1)
+  on_relay (e.Balked (way.Read u)) may k is = on_raw (is_raw x) u k may.0.1 may.0.2 (cc) (at_stage plain.live may.0.0.1)
+  on_relay (e.Balked (way.Write u)) may k is = on_raw (is_raw x) u k may.0.1 may.0.2 (cc) (at_stage plain.live may.0.0.1)
   on_relay (e.Balked (way.Listen d to listening)) may k is = absurd may
   on_relay (e.Balked (way.Accept d)) may k is = absurd may
   on_relay (e.Accepted j d) may k is = absurd may
@@ -145,6 +155,26 @@ module _ (whose : ℕ → Owner) (l : ℕ) (x : Captured) (owns : OwnsRelay whos
   on_relay (e.DialFailed to why) may k is = absurd cc
   on_relay e.Tick may k is = absurd may
   on_relay (e.Wait ready how) may k is = absurd may
+
+-- an entry of a link to a gateway stands on it
+on_gate : (n : ℕ) (x : Gateway) (z : Entry) → gateways.MayCome n x z → (k : ℕ) → link_of z ≡ Some k → k ≡ n
+on_gate n x (e.Opened j) may k is = (let same : j ≡ k = cc in sym same ∙ may.0)
+on_gate n x (e.Came j bytes) may k is = (let same : j ≡ k = cc in sym same ∙ may.0)
+on_gate n x (e.Ended j) may k is = (let same : j ≡ k = cc in sym same ∙ may.0)
+on_gate n x (e.Went j bytes) may k is = (let same : j ≡ k = cc in sym same ∙ may.0)
+on_gate n x (e.Broke j) may k is = (let same : j ≡ k = cc in sym same ∙ may.0)
+on_gate n x (e.Closed j why) may k is = (let same : j ≡ k = cc in sym same ∙ may.0)
+on_gate n x (e.Balked (way.Finish j)) may k is = (let same : j ≡ k = cc in sym same ∙ may.0)
+on_gate n x (e.Balked (way.Read j)) may k is = (let same : j ≡ k = cc in sym same ∙ may.0)
+on_gate n x (e.Balked (way.Write j)) may k is = (let same : j ≡ k = cc in sym same ∙ may.0)
+on_gate n x (e.Balked (way.Listen d to listening)) may k is = absurd may
+on_gate n x (e.Balked (way.Accept d)) may k is = absurd may
+on_gate n x (e.Accepted j d) may k is = absurd may
+on_gate n x (e.Dialled j to why) may k is = absurd may
+on_gate n x (e.DialFailed to why) may k is = absurd may
+on_gate n x (e.Shut j) may k is = absurd may
+on_gate n x e.Tick may k is = absurd may
+on_gate n x (e.Wait ready how) may k is = absurd may
 
 -- where an entry stands
 module _ (g : NodeConfig) (x : Machine) (before : List Point) (owned : Owned x (whose_in before)) where
@@ -174,10 +204,22 @@ module _ (g : NodeConfig) (x : Machine) (before : List Point) (owned : Owned x (
       on_one (λ u. owner u (entries before) ≡ relay_of l) z (on_relay (whose_in before) l (x.plain l) (owned.relay l) z may)
   plain_stands l _ may = tt
 
+  gate_stands : (n : ℕ) (p : gateway.Part) (next : Gateway) → gateways.Steps n (x.gates n) p next → GateStands (entries before) n p
+  gate_stands n (gateway.entry z) next steps =
+      on_one (λ k. (k ≡ n) × (owner k (entries before) ≡ gateway_link)) z
+      (λ k is.
+      let same = on_gate n (x.gates n) z steps.0 k is in
+      (same, ap (whose_in before) same ∙ owned.gate n (gate_born n (x.gates n) z steps.0)))
+  gate_stands n (gateway.dialled z key) next steps =
+      subst (λ (v : Entry). StandsAs (entries before) n gateway_link v) (sym (birth_at n (x.gates n) z key steps.0).0.4) tt
+  gate_stands n _ next steps = tt
+
   pub own_at : (p : Point) (y : Machine) → Steps g x p y → OwnAt before p
   own_at (of_control q) y steps = control_stands q steps.0 steps.1
   own_at (of_link l p) y steps = part_stands l p _ steps.1
   own_at (of_plain l p) y steps = plain_stands l p steps.0
+  own_at (of_gate n p) y steps = gate_stands n p steps.0 steps.1
+  own_at (of_stream l n s w) y steps = tt
 
 -- an entry of another part stands on no link to the control plane
 module _ (before : List Entry) (o : Owner) (other : control_plane ≡ o → ⊥) (z : Entry) (k : ℕ) (on : link_of z ≡ Some k) where
@@ -199,8 +241,14 @@ elsewhere before (of_plain l (captured.entry en)) own none z is k on =
     let same : en ≡ z = cc in others_as (entries before) plain_link (λ is. cc) en k (ap link_of same ∙ on) l own
 elsewhere before (of_plain l (captured.up en)) own none z is k on =
     let same : en ≡ z = cc in others_on (entries before) (relay_of l) (λ is. cc) en k (ap link_of same ∙ on) own
+elsewhere before (of_gate n (gateway.entry en)) own none z is k on =
+    let same : en ≡ z = cc in others_as (entries before) gateway_link (λ is. cc) en k (ap link_of same ∙ on) n own
+elsewhere before (of_gate n (gateway.dialled en key)) own none z is k on =
+    let same : en ≡ z = cc in others_as (entries before) gateway_link (λ is. cc) en k (ap link_of same ∙ on) n own
 elsewhere before (of_link l _) own none z is k on = absurd cc
 elsewhere before (of_plain l _) own none z is k on = absurd cc
+elsewhere before (of_gate n _) own none z is k on = absurd cc
+elsewhere before (of_stream l n s w) own none z is k on = absurd cc
 
 pub runs_own : RunsOwn
 runs_own g x points stands = at_points g OwnAt
@@ -224,6 +272,8 @@ born_next : (g : NodeConfig) (x y : Machine) (p : Point) → Steps g x p y → y
 born_next g x y (of_control q) steps = ap (λ (z : Machine). z.born) steps.3
 born_next g x y (of_link l p) steps = ap (λ (z : Machine). z.born) steps.3
 born_next g x y (of_plain l p) steps = ap (λ (z : Machine). z.born) steps.2
+born_next g x y (of_gate n p) steps = ap (λ (z : Machine). z.born) steps.3
+born_next g x y (of_stream l n s w) steps = ap (λ (z : Machine). z.born) steps.4
 
 -- the links born are as many as the last one's number
 pub born_is : (g : NodeConfig) (x : Machine) (points : List Point) → StandsFor g x points → births (entries points) ≡ x.born

@@ -6,11 +6,16 @@ use Rattle.std.proofs.lemmas.Bool.{cond_both, false≢true, eqb-true, eq-eqb, fa
 use Rattle.std.specs.List.{list_any}
 use Rattle.hb_base.specs.declared.door.Door.{Door}
 use Rattle.hb_base.specs.declared.door.Why.{Why}
+use Rattle.hb_base.specs.declared.door.Why.TheVariants as whys
 use Rattle.hb_base.specs.declared.target.Target.{Target}
 use Rattle.hb_captured.specs.Captured as plain
-use Rattle.hb_captured.specs.Captured.{Captured}
+use Rattle.hb_captured.specs.Captured.{Captured, is_raw}
 use Rattle.hb_captured.specs.Part as captured
 use Rattle.hb_captured.specs.Runs as relays
+use Rattle.hb_gateway.specs.Gateway.{Gateway}
+use Rattle.hb_gateway.specs.Key.{Key}
+use Rattle.hb_gateway.specs.Part as gateway
+use Rattle.hb_gateway.specs.Runs as gateways
 use Rattle.hb_inbound.specs.Inbound as inbound
 use Rattle.hb_inbound.specs.Inbound.{Inbound, at_stream}
 use Rattle.hb_inbound.specs.Part as part
@@ -30,15 +35,18 @@ use Rattle.hb_world.specs.Trace.{is_birth}
 use Rattle.hb_world.specs.declared.entry.Entry.{Entry}
 use Rattle.hb_world.specs.declared.entry.Entry.TheVariants as e
 use Rattle.hb_proxy.specs.Held.{at_start}
-use Rattle.hb_proxy.specs.Machine.{Machine, fresh, local, plain_local, seen_by, plain_seen_by, with_control, with_part, with_plain, born_after, born_by}
-use Rattle.hb_proxy.specs.Owners.{Owner, nobody, control_plane, inbound_link, upstream_of, plain_link, relay_of, at_door, dialled_for, owner_by, owner}
-use Rattle.hb_proxy.specs.Points.{Point, of_control, of_link, of_plain, entry_in, entries, control_of, parts_of}
-use Rattle.hb_proxy.specs.Runs.{BirthMayCome, ControlGuard, LinkGuard, PlainGuard, Steps, StandsFor, begins, goes_on}
+use Rattle.hb_proxy.specs.Machine.{Machine, fresh, local, plain_local, seen_by, plain_seen_by, gate_seen_by, with_control, with_part, with_plain, with_gate, with_stream, born_after, born_by}
+use Rattle.hb_proxy.specs.Owners.{Owner, nobody, control_plane, inbound_link, upstream_of, plain_link, relay_of, gateway_link as gate_owner, at_door, dialled_for, owner_by, owner}
+use Rattle.hb_proxy.specs.Points.{Point, of_control, of_link, of_plain, of_gate, of_stream, entry_in, entries, control_of, parts_of}
+use Rattle.hb_proxy.specs.Runs.{BirthMayCome, ControlGuard, LinkGuard, PlainGuard, GateGuard, Steps, StandsFor, begins, goes_on}
+use Rattle.hb_proxy.specs.Shared.{Shared, captured_part, gateway_part}
 use Rattle.hb_proxy.proofs.ControlBorn.{control_stays}
+use Rattle.hb_proxy.proofs.GateChanges.{is_gate_born, GateStays, stopped_stays as gate_stopped_stays, birth_at, gate_part_stays}
 use Rattle.hb_proxy.proofs.Places.{short, birth_of}
 use Rattle.hb_proxy.proofs.PlainDoors.{caught, relayed}
-use Rattle.hb_proxy.proofs.PlainStays.{RelayBy, OwnsRelay, is_plain_born, PlainStays, same_plain, ends_stay, rejudged_stays, part_stays}
+use Rattle.hb_proxy.proofs.PlainStays.{RelayOn, RelayBy, OwnsRelay, is_plain_born, PlainStays, same_plain, ends_stay, rejudged_stays, part_stays}
 use Rattle.hb_proxy.proofs.Projection.{control_runs, links_run}
+use Rattle.hb_proxy.proofs.StreamParts.{captured_none, gateway_none}
 use Rattle.hb_proxy.proofs.Stays.{IsNone, IsWeak, OwnsBy, Owns, is_born, LinkStays, same_link, applied_stays, stopped_stays, step_stays}
 
 -- each number that is above the last birth is nobody's; each link that is born is its part's, as is each tunnel's upstream; and an
@@ -55,6 +63,7 @@ pub record Owned (x : Machine) (whose : ℕ → Owner) : Type 0 where
   pub relay : (l : ℕ) → OwnsRelay whose l (x.plain l)
   pub one_relay : (l u v : ℕ) → whose u ≡ relay_of l → whose v ≡ relay_of l → u ≡ v
   pub relay_over : (l u : ℕ) → whose u ≡ relay_of l → whose l ≡ plain_link
+  pub gate : (n : ℕ) → is_gate_born (x.gates n).phase ≡ true → whose n ≡ gate_owner
 
 -- NO BIRTH
 
@@ -63,6 +72,7 @@ pub record Alike (x y : Machine) : Type 0 where
   pub control : (n : ℕ) → IsBorn (y.control.links n).phase → IsBorn (x.control.links n).phase
   pub links : (l : ℕ) → LinkStays l (x.inbound l) (y.inbound l)
   pub plain : (l : ℕ) → PlainStays l (x.plain l) (y.plain l)
+  pub gates : (n : ℕ) → GateStays (x.gates n).phase (y.gates n).phase
 
 alike_owned : (x y : Machine) (whose : ℕ → Owner) → Owned x whose → Alike x y → Owned y whose
 alike_owned x y whose owned alike = record {
@@ -77,6 +87,7 @@ alike_owned x y whose owned alike = record {
   relay = λ l. (alike.plain l).relay whose (owned.relay l);
   one_relay = owned.one_relay;
   relay_over = owned.relay_over;
+  gate = λ n born. owned.gate n (alike.gates n born);
 }
 
 -- A BIRTH
@@ -129,6 +140,7 @@ module _ (x y : Machine) (whose : ℕ → Owner) (owned : Owned x whose) (k : �
     relay : (l : ℕ) → OwnsRelay then l (y.plain l)
     relay_alone : (l v : ℕ) → w ≡ relay_of l → whose v ≢ relay_of l
     relay_over : (l : ℕ) → w ≡ relay_of l → whose l ≡ plain_link
+    gate : (n : ℕ) → is_gate_born (y.gates n).phase ≡ true → ((k ≡ n) × (w ≡ gate_owner)) ⊎ (is_gate_born (x.gates n).phase ≡ true)
 
   born_owned : Bears → Owned y then
   born_owned bears = record {
@@ -147,6 +159,7 @@ module _ (x y : Machine) (whose : ℕ → Owner) (owned : Owned x whose) (k : �
     one_relay = λ l. one (relay_of l) (bears.relay_alone l) (owned.one_relay l);
     relay_over = λ l u is. kept l plain_link (λ same. cc)
         (⊎_elim (λ h. bears.relay_over l h.1) (λ old. owned.relay_over l u old) (was u (relay_of l) is));
+    gate = λ n born. ⊎_elim (λ h. here n h.0 ∙ h.1) (λ old. kept n gate_owner (λ same. cc) (owned.gate n old)) (bears.gate n born);
   }
 
   -- nobody has a link of another's owner then; what was weakly his stays so
@@ -176,17 +189,21 @@ module _ (x y : Machine) (whose : ℕ → Owner) (owned : Owned x whose) (k : �
       by (tunnel.over why) is = kept t.up (upstream_of l s) (λ same. cc) is
 
   -- so has a plain link
+  keeps_on : (l u : ℕ) (raw : Bool) → (w ≢ relay_of l) → RelayOn raw whose l u → RelayOn raw then l u
+  keeps_on l u true other is = kept u (relay_of l) (λ same. cc) is
+  keeps_on l u false other is = (no_more (relay_of l) other is.0, is.1)
+
   keeps_relay : (l : ℕ) (z : Captured) → (w ≢ relay_of l) → OwnsRelay whose l z → OwnsRelay then l z
   keeps_relay l z other is = by z.stage is
     where
-      by : (stage : plain.Stage) → RelayBy stage whose l z.up → RelayBy stage then l z.up
-      by plain.unborn is = (no_more (relay_of l) other is.0, is.1)
-      by plain.arriving is = (no_more (relay_of l) other is.0, is.1)
-      by plain.fronting is = (no_more (relay_of l) other is.0, is.1)
-      by plain.due is = (no_more (relay_of l) other is.0, is.1)
-      by plain.opening is = kept z.up (relay_of l) (λ same. cc) is
-      by plain.accepting is = kept z.up (relay_of l) (λ same. cc) is
-      by plain.live is = kept z.up (relay_of l) (λ same. cc) is
+      by : (stage : plain.Stage) → RelayBy stage (is_raw z) whose l z.up → RelayBy stage (is_raw z) then l z.up
+      by plain.unborn is = (no_more (relay_of l) other is.0, is.1, is.2)
+      by plain.arriving is = (no_more (relay_of l) other is.0, is.1, is.2)
+      by plain.fronting is = (no_more (relay_of l) other is.0, is.1, is.2)
+      by plain.due is = (no_more (relay_of l) other is.0, is.1, is.2)
+      by plain.opening is = keeps_on l z.up (is_raw z) other is
+      by plain.accepting is = keeps_on l z.up (is_raw z) other is
+      by plain.live is = keeps_on l z.up (is_raw z) other is
       by _ is = weak (relay_of l) z.up (λ same. cc) is
 
 -- THE BIRTHS
@@ -230,6 +247,7 @@ module _ (g : NodeConfig) (x : Machine) (whose : ℕ → Owner) (owned : Owned x
         relay = λ l. keeps_relay x y whose owned k next w refl l (x.plain l) (no_relay l) (owned.relay l);
         relay_alone = λ l v is. absurd (no_relay l is);
         relay_over = λ l is. absurd (no_relay l is);
+        gate = λ n was. inr was;
       })
 
   link_accepted : (l k : ℕ) (d : Door) (next : Inbound)
@@ -258,6 +276,7 @@ module _ (g : NodeConfig) (x : Machine) (whose : ℕ → Owner) (owned : Owned x
         relay = λ j. keeps_relay x y whose owned k number w refl j (x.plain j) (no_relay j) (owned.relay j);
         relay_alone = λ j v is. absurd (no_relay j is);
         relay_over = λ j is. absurd (no_relay j is);
+        gate = λ n was. inr was;
       })
 
   up_dialled : (l s u : ℕ) (to : Target) (why : Why) (next : Inbound)
@@ -295,6 +314,7 @@ module _ (g : NodeConfig) (x : Machine) (whose : ℕ → Owner) (owned : Owned x
         relay = λ j. keeps_relay x y whose owned u number w refl j (x.plain j) (no_relay j) (owned.relay j);
         relay_alone = λ j v is. absurd (no_relay j is);
         relay_over = λ j is. absurd (no_relay j is);
+        gate = λ n was. inr was;
       })
 
   plain_accepted : (l k : ℕ) (d : Door) → relays.MayCome l (x.plain l) (e.Accepted k d) → k ≡ x.born + 1
@@ -306,7 +326,7 @@ module _ (g : NodeConfig) (x : Machine) (whose : ℕ → Owner) (owned : Owned x
       let y = with_plain l (captured.entry (e.Accepted k d)) next x in
       let no_up : (j s : ℕ) → w ≢ upstream_of j s = λ j s is. (let no : plain_link ≡ upstream_of j s = sym mine ∙ is in cc) in
       let no_relay : (j : ℕ) → w ≢ relay_of j = λ j is. (let no : plain_link ≡ relay_of j = sym mine ∙ is in cc) in
-      let none = subst (λ (stage : plain.Stage). RelayBy stage whose l (x.plain l).up) may.1 (owned.relay l) in
+      let none = subst (λ (stage : plain.Stage). RelayBy stage (is_raw (x.plain l)) whose l (x.plain l).up) may.1 (owned.relay l) in
       born_owned x y whose owned k number w refl (record {
         control = λ n was. inr was;
         link = λ j was. inr was;
@@ -318,10 +338,11 @@ module _ (g : NodeConfig) (x : Machine) (whose : ℕ → Owner) (owned : Owned x
             (λ is now. inl (may.0 ∙ sym (eqb-true j l is), mine)) (λ apart was. inr was);
         relay = λ j. cond_both (j == l) next (x.plain j) (λ z. OwnsRelay (behind (e.Accepted k d)) j z)
             (λ is. subst (λ (i : ℕ). OwnsRelay (behind (e.Accepted k d)) i next) (sym (eqb-true j l is))
-            (no_more x y whose owned k number w refl (relay_of l) (no_relay l) none.0, none.1))
+            (no_more x y whose owned k number w refl (relay_of l) (no_relay l) none.0, none.1, none.2))
             (λ apart. keeps_relay x y whose owned k number w refl j (x.plain j) (no_relay j) (owned.relay j));
         relay_alone = λ j v is. absurd (no_relay j is);
         relay_over = λ j is. absurd (no_relay j is);
+        gate = λ n was. inr was;
       })
 
   relay_dialled : (l u : ℕ) (to : Target) (why : Why) → relays.UpMayCome l (x.plain l) (e.Dialled u to why) → u ≡ x.born + 1
@@ -330,13 +351,13 @@ module _ (g : NodeConfig) (x : Machine) (whose : ℕ → Owner) (owned : Owned x
   relay_dialled l u to why may number =
       let z = e.Dialled u to why in
       let w = dialled_for why in
-      let mine : w ≡ relay_of l = relayed l (x.plain l).door why may.1 in
+      let mine : w ≡ relay_of l = relayed l (x.plain l) why may.1 may.0.3 in
       let next = plain.up_entered z (x.plain l) in
       let y = with_plain l (captured.up z) next x in
       let no_up : (j s : ℕ) → w ≢ upstream_of j s = λ j s is. (let no : relay_of l ≡ upstream_of j s = sym mine ∙ is in cc) in
       let same : (j : ℕ) → w ≡ relay_of j → l ≡ j = λ j is. (let both : relay_of l ≡ relay_of j = sym mine ∙ is in cc) in
       let lives : is_plain_born (x.plain l).stage ≡ true = ap is_plain_born may.0.1 in
-      let due = subst (λ (stage : plain.Stage). RelayBy stage whose l (x.plain l).up) may.0.1 (owned.relay l) in
+      let due = subst (λ (stage : plain.Stage). RelayBy stage (is_raw (x.plain l)) whose l (x.plain l).up) may.0.1 (owned.relay l) in
       born_owned x y whose owned u number w refl (record {
         control = λ n was. inr was;
         link = λ j was. inr was;
@@ -349,11 +370,34 @@ module _ (g : NodeConfig) (x : Machine) (whose : ℕ → Owner) (owned : Owned x
             (λ apart was. inr was);
         relay = λ j. cond_both (j == l) next (x.plain j) (λ v. OwnsRelay (behind z) j v)
             (λ is. subst (λ (i : ℕ). OwnsRelay (behind z) i next) (sym (eqb-true j l is))
-            (here x y whose owned u number w refl u refl ∙ mine))
+            (subst (λ (raw : Bool). RelayOn raw (behind z) l u) (sym due.2) (here x y whose owned u number w refl u refl ∙ mine)))
             (λ apart. keeps_relay x y whose owned u number w refl j (x.plain j)
             (λ is. false≢true (sym apart ∙ eq-eqb j l (sym (same j is)))) (owned.relay j));
         relay_alone = λ j v is now. due.0 v (now ∙ ap relay_of (sym (same j is)));
         relay_over = λ j is. owned.plain j (subst (λ (i : ℕ). is_plain_born (x.plain i).stage ≡ true) (same j is) lives);
+        gate = λ n was. inr was;
+      })
+
+  gate_dialled : (n k : ℕ) (to : Target) (a : ℕ) (key : Key) (next : Gateway) → k ≡ n → k ≡ x.born + 1
+      → Owned (with_gate n (gateway.dialled (e.Dialled k to (whys.Gateway a)) key) next x) (behind (e.Dialled k to (whys.Gateway a)))
+  gate_dialled n k to a key next at_n number =
+      let w = gate_owner in
+      let y = with_gate n (gateway.dialled (e.Dialled k to (whys.Gateway a)) key) next x in
+      let no_up : (l s : ℕ) → w ≢ upstream_of l s = λ l s is. cc in
+      let no_relay : (l : ℕ) → w ≢ relay_of l = λ l is. cc in
+      born_owned x y whose owned k number w refl (record {
+        control = λ n was. inr was;
+        link = λ l was. inr was;
+        up = λ l s. keeps_up x y whose owned k number w refl l s ((x.inbound l).tunnels s) (no_up l s) (owned.up l s);
+        alone = λ l s v is. absurd (no_up l s is);
+        over = λ l s is. absurd (no_up l s is);
+        plain = λ l was. inr was;
+        relay = λ l. keeps_relay x y whose owned k number w refl l (x.plain l) (no_relay l) (owned.relay l);
+        relay_alone = λ l v is. absurd (no_relay l is);
+        relay_over = λ l is. absurd (no_relay l is);
+        gate = λ j. cond_both (j == n) next (x.gates j)
+            (λ z. is_gate_born z.phase ≡ true → ((k ≡ j) × (w ≡ gate_owner)) ⊎ (is_gate_born (x.gates j).phase ≡ true))
+            (λ is now. inl (at_n ∙ sym (eqb-true j n is), refl)) (λ apart was. inr was);
       })
 
 -- EVERY POINT
@@ -407,6 +451,10 @@ module _ (g : NodeConfig) (x : Machine) (points : List Point) (stands : StandsFo
   plain_seen_stays (point.stopped why) l = ends_stay l why (x.plain l)
   plain_seen_stays _ l = same_plain l (x.plain l)
 
+  gate_seen_stays : (q : point.Point) (n : ℕ) → GateStays (x.gates n).phase (gate_seen_by q (x.gates n)).phase
+  gate_seen_stays (point.stopped why) n is = gate_stopped_stays why (x.gates n).phase is
+  gate_seen_stays _ n is = is
+
   quiet : (p : Point) (y : Machine) → list_any is_birth (entry_in p) ≡ false → Alike x y → Owned y (after p whose)
   quiet p y none alike =
       subst (Owned y) (sym (fun_ext (λ n. unborn_all (entry_in p) none n (whose n)))) (alike_owned x y whose owned alike)
@@ -418,6 +466,7 @@ module _ (g : NodeConfig) (x : Machine) (points : List Point) (stands : StandsFo
     control = control_stays g x.control m (control_of points) q (control_runs g x points stands) steps none;
     links = seen_stays q;
     plain = plain_seen_stays q;
+    gates = gate_seen_stays q;
   })
 
   link_quiet : (l : ℕ) (p : Part) (next : Inbound) → runs.Steps l (local x l) p (runs.with_link next (local x l))
@@ -430,7 +479,23 @@ module _ (g : NodeConfig) (x : Machine) (points : List Point) (stands : StandsFo
         (step_stays l (at_start g) (local x l) (parts_of l points) (links_run g x points l stands) p
         (runs.with_link next (local x l)) steps none)) (λ apart. same_link j (x.inbound j));
     plain = λ j. same_plain j (x.plain j);
+    gates = λ n is. is;
   })
+
+  -- a plain link changes; so does a link to a gateway
+  one_plain : (l : ℕ) (p : captured.Part) → relays.MayGo l (plain_local x l) p → list_any is_birth (captured.entry_in p) ≡ false → (j : ℕ)
+      → PlainStays j (x.plain j) (cond (j == l) (relays.next_link (x.plain l) p) (x.plain j))
+  one_plain l p may none j =
+      cond_both (j == l) (relays.next_link (x.plain l) p) (x.plain j) (λ z. PlainStays j (x.plain j) z)
+      (λ is. subst (λ (i : ℕ). PlainStays i (x.plain i) (relays.next_link (x.plain l) p)) (sym (eqb-true j l is))
+      (part_stays l (plain_local x l) p may none)) (λ apart. same_plain j (x.plain j))
+
+  one_gate : (n : ℕ) (p : gateway.Part) (next : Gateway) → gateways.Steps n (x.gates n) p next
+      → list_any is_birth (gateway.entry_in p) ≡ false → (j : ℕ) → GateStays (x.gates j).phase (cond (j == n) next (x.gates j)).phase
+  one_gate n p next steps none j =
+      cond_both (j == n) next (x.gates j) (λ z. GateStays (x.gates j).phase z.phase)
+      (λ is. subst (λ (i : ℕ). GateStays (x.gates i).phase next.phase) (sym (eqb-true j n is))
+      (gate_part_stays n (x.gates n) next p steps none)) (λ apart is. is)
 
   plain_quiet : (l : ℕ) (p : captured.Part) → relays.MayGo l (plain_local x l) p → list_any is_birth (captured.entry_in p) ≡ false
       → Owned (with_plain l p (relays.next_link (x.plain l) p) x) (after (of_plain l p) whose)
@@ -438,10 +503,31 @@ module _ (g : NodeConfig) (x : Machine) (points : List Point) (stands : StandsFo
     born = born_all (captured.entry_in p) none x.born;
     control = λ n was. was;
     links = λ j. same_link j (x.inbound j);
-    plain = λ j. cond_both (j == l) (relays.next_link (x.plain l) p) (x.plain j) (λ z. PlainStays j (x.plain j) z)
-        (λ is. subst (λ (i : ℕ). PlainStays i (x.plain i) (relays.next_link (x.plain l) p)) (sym (eqb-true j l is))
-        (part_stays l (plain_local x l) p may none)) (λ apart. same_plain j (x.plain j));
+    plain = one_plain l p may none;
+    gates = λ n is. is;
   })
+
+  gate_quiet : (n : ℕ) (p : gateway.Part) (next : Gateway) → gateways.Steps n (x.gates n) p next
+      → list_any is_birth (gateway.entry_in p) ≡ false → Owned (with_gate n p next x) (after (of_gate n p) whose)
+  gate_quiet n p next steps none = quiet (of_gate n p) (with_gate n p next x) none (record {
+    born = born_all (gateway.entry_in p) none x.born;
+    control = λ k was. was;
+    links = λ j. same_link j (x.inbound j);
+    plain = λ j. same_plain j (x.plain j);
+    gates = one_gate n p next steps none;
+  })
+
+  stream_quiet : (l n s : ℕ) (w : Shared) (next : Gateway) → relays.MayGo l (plain_local x l) (captured_part n s w)
+      → gateways.Steps n (x.gates n) (gateway_part l s w) next
+      → Owned (with_stream l n (relays.next_link (x.plain l) (captured_part n s w)) next x) (after (of_stream l n s w) whose)
+  stream_quiet l n s w next may steps =
+      quiet (of_stream l n s w) (with_stream l n (relays.next_link (x.plain l) (captured_part n s w)) next x) refl (record {
+        born = refl;
+        control = λ k was. was;
+        links = λ j. same_link j (x.inbound j);
+        plain = one_plain l (captured_part n s w) may (ap (list_any is_birth) (captured_none n s w));
+        gates = one_gate n (gateway_part l s w) next steps (ap (list_any is_birth) (gateway_none l s w));
+      })
 
   control_entry : (z : Entry) (m : control.Machine) → model.Steps g x.control (point.entry z) m → BirthMayCome x z
       → Owned (with_control (point.entry z) m x) (after (of_control (point.entry z)) whose)
@@ -487,11 +573,27 @@ module _ (g : NodeConfig) (x : Machine) (points : List Point) (stands : StandsFo
   relay_entry l (e.Dialled u to why) may birth = relay_dialled g x whose owned l u to why may birth
   relay_entry l z may birth = plain_quiet l (captured.up z) may refl
 
-  plain_owned : (l : ℕ) (p : captured.Part) → relays.MayGo l (plain_local x l) p → PlainGuard x l p
+  plain_owned : (l : ℕ) (p : captured.Part) → relays.MayGo l (plain_local x l) p → PlainGuard g x l p
       → Owned (with_plain l p (relays.next_link (x.plain l) p) x) (after (of_plain l p) whose)
   plain_owned l (captured.entry z) may guard = plain_entry l z may guard.birth
-  plain_owned l (captured.up z) may guard = relay_entry l z may guard.birth
+  plain_owned l (captured.up z) may guard = relay_entry l z may guard.0.birth
   plain_owned l p may guard = plain_quiet l p may refl
+
+  gate_entry : (n : ℕ) (z : Entry) (next : Gateway) → gateways.Steps n (x.gates n) (gateway.entry z) next
+      → Owned (with_gate n (gateway.entry z) next x) (after (of_gate n (gateway.entry z)) whose)
+  gate_entry n (e.Accepted k d) next steps = absurd steps.0
+  gate_entry n (e.Dialled k to why) next steps = absurd steps.0
+  gate_entry n z next steps = gate_quiet n (gateway.entry z) next steps refl
+
+  gate_owned : (n : ℕ) (p : gateway.Part) (next : Gateway) → gateways.Steps n (x.gates n) p next → GateGuard x n p
+      → Owned (with_gate n p next x) (after (of_gate n p) whose)
+  gate_owned n (gateway.entry z) next steps guard = gate_entry n z next steps
+  gate_owned n (gateway.dialled z key) next steps guard =
+      let dial = (birth_at n (x.gates n) z key steps.0).0 in
+      subst (λ (v : Entry). BirthMayCome x v
+      → Owned (with_gate n (gateway.dialled v key) next x) (after (of_gate n (gateway.dialled v key)) whose))
+      (sym dial.4) (gate_dialled g x whose owned n dial.0 dial.3 dial.2 key next dial.1) guard.0.birth
+  gate_owned n p next steps guard = gate_quiet n p next steps refl
 
   step_owned : (p : Point) (y : Machine) → Steps g x p y → Owned y (after p whose)
   step_owned (of_control q) y steps =
@@ -500,6 +602,10 @@ module _ (g : NodeConfig) (x : Machine) (points : List Point) (stands : StandsFo
       subst (λ (z : Machine). Owned z (after (of_link l p) whose)) (sym steps.3) (link_owned l p steps.0 steps.1 steps.2)
   step_owned (of_plain l p) y steps =
       subst (λ (z : Machine). Owned z (after (of_plain l p) whose)) (sym steps.2) (plain_owned l p steps.0 steps.1)
+  step_owned (of_gate n p) y steps =
+      subst (λ (z : Machine). Owned z (after (of_gate n p) whose)) (sym steps.3) (gate_owned n p steps.0 steps.1 steps.2)
+  step_owned (of_stream l n s w) y steps =
+      subst (λ (z : Machine). Owned z (after (of_stream l n s w) whose)) (sym steps.4) (stream_quiet l n s w steps.1 steps.0 steps.2)
 
 -- so it is in every run
 abbrev pub whose_in : List Point → ℕ → Owner
@@ -515,9 +621,10 @@ fresh_owned g = record {
   one = λ l s u v is other. absurd cc;
   over = λ l s u is. absurd cc;
   plain = λ l born. absurd (false≢true born);
-  relay = λ l. (λ u is. cc, refl);
+  relay = λ l. (λ u is. cc, refl, refl);
   one_relay = λ l u v is other. absurd cc;
   relay_over = λ l u is. absurd cc;
+  gate = λ n born. absurd (false≢true born);
 }
 
 pub all_owned : (g : NodeConfig) (x : Machine) (points : List Point) → StandsFor g x points → Owned x (whose_in points)

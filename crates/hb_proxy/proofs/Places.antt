@@ -4,6 +4,7 @@ use Rattle.std.proofs.lemmas.Grind.{flat_map-append}
 use Rattle.std.specs.List.{flat_map}
 use Rattle.hb_captured.specs.Part as captured
 use Rattle.hb_captured.specs.Sides as plain
+use Rattle.hb_gateway.specs.Part as gateway
 use Rattle.hb_inbound.specs.Part as part
 use Rattle.hb_inbound.specs.Part.{Part}
 use Rattle.hb_inbound.specs.Sides as inbound
@@ -13,12 +14,12 @@ use Rattle.hb_world.specs.Trace as world
 use Rattle.hb_world.specs.declared.entry.Entry.{Entry}
 use Rattle.hb_proxy.specs.Machine.{Machine}
 use Rattle.hb_proxy.specs.Owners.{AtEach}
-use Rattle.hb_proxy.specs.Points.{Point, of_control, of_link, of_plain, entry_in, entries, control_in, part_in, parts_of, plain_in, plain_of}
+use Rattle.hb_proxy.specs.Points.{Point, of_control, of_link, of_plain, of_gate, of_stream, entry_in, entries, control_in, part_in, parts_of, plain_in, plain_of}
 use Rattle.hb_proxy.specs.Runs.{BirthMayCome, ControlRests, Steps, StandsFor, begins, goes_on}
 use Rattle.hb_proxy.specs.Sides.{AtParts, AtPlain}
 
 -- a place of a longer list is its end, or a place of the list
-place_of : (xs : List Point) (p : Point) (before : List Point) (x : Point) (behind : List Point) → xs ++ p ∷ [] ≡ before ++ x ∷ behind
+pub place_of : (xs : List Point) (p : Point) (before : List Point) (x : Point) (behind : List Point) → xs ++ p ∷ [] ≡ before ++ x ∷ behind
     → ((before ≡ xs) × (x ≡ p)) ⊎ ((more : List Point) × (xs ≡ before ++ x ∷ more))
 place_of [] p [] x behind is = inl (refl, cc)
 place_of [] p (b ∷ []) x behind is = absurd (cc)
@@ -97,6 +98,10 @@ short (of_link l _) = inl refl
 short (of_plain l (captured.entry z)) = inr (z, refl)
 short (of_plain l (captured.up z)) = inr (z, refl)
 short (of_plain l _) = inl refl
+short (of_gate g (gateway.entry z)) = inr (z, refl)
+short (of_gate g (gateway.dialled z key)) = inr (z, refl)
+short (of_gate g _) = inl refl
+short (of_stream l g s w) = inl refl
 
 -- a place of a trace is a point's place
 record Split (points : List Point) (before : List Entry) (z : Entry) : Type 0 where
@@ -160,10 +165,14 @@ birth_of g x y (of_control (point.entry en)) steps z is = (let same : en ≡ z =
 birth_of g x y (of_link l (part.entry en)) steps z is = (let same : en ≡ z = cc in subst (BirthMayCome x) same steps.2.birth)
 birth_of g x y (of_link l (part.up s en)) steps z is = (let same : en ≡ z = cc in subst (BirthMayCome x) same steps.2.birth)
 birth_of g x y (of_plain l (captured.entry en)) steps z is = (let same : en ≡ z = cc in subst (BirthMayCome x) same steps.1.birth)
-birth_of g x y (of_plain l (captured.up en)) steps z is = (let same : en ≡ z = cc in subst (BirthMayCome x) same steps.1.birth)
+birth_of g x y (of_plain l (captured.up en)) steps z is = (let same : en ≡ z = cc in subst (BirthMayCome x) same steps.1.0.birth)
+birth_of g x y (of_gate n (gateway.entry en)) steps z is = (let same : en ≡ z = cc in subst (BirthMayCome x) same steps.2.birth)
+birth_of g x y (of_gate n (gateway.dialled en key)) steps z is = (let same : en ≡ z = cc in subst (BirthMayCome x) same steps.2.0.birth)
 birth_of g x y (of_control _) steps z is = absurd cc
 birth_of g x y (of_link l _) steps z is = absurd cc
 birth_of g x y (of_plain l _) steps z is = absurd cc
+birth_of g x y (of_gate n _) steps z is = absurd cc
+birth_of g x y (of_stream l n s w) steps z is = absurd cc
 
 -- no call of the control plane is due where an entry of another part stands
 pub rests_of : (g : NodeConfig) (x y : Machine) (p : Point) → Steps g x p y → control_in p ≡ [] → (z : Entry) → entry_in p ≡ z ∷ []
@@ -172,6 +181,10 @@ rests_of g x y (of_control q) steps none z is = absurd cc
 rests_of g x y (of_link l (part.entry en)) steps none z is = steps.2.control
 rests_of g x y (of_link l (part.up s en)) steps none z is = steps.2.control
 rests_of g x y (of_plain l (captured.entry en)) steps none z is = steps.1.control
-rests_of g x y (of_plain l (captured.up en)) steps none z is = steps.1.control
+rests_of g x y (of_plain l (captured.up en)) steps none z is = steps.1.0.control
+rests_of g x y (of_gate n (gateway.entry en)) steps none z is = steps.2.control
+rests_of g x y (of_gate n (gateway.dialled en key)) steps none z is = steps.2.0.control
 rests_of g x y (of_link l _) steps none z is = absurd cc
 rests_of g x y (of_plain l _) steps none z is = absurd cc
+rests_of g x y (of_gate n _) steps none z is = absurd cc
+rests_of g x y (of_stream l n s w) steps none z is = absurd cc

@@ -1,10 +1,13 @@
 -- What a part makes of a plain link, as far as the trace tells of the link and of its upstream.
 use Rattle.std.proofs.Common.{◌≡◌, ◌⊎◌, inl, inr, ⊎_elim, ℕ, ◌&&◌, Bool, true, false, cond, List, refl, sym, ◌∙◌, subst}
+use Rattle.std.proofs.lemmas.Bool.{false≢true}
 use Rattle.hb_base.specs.declared.cause.Cause.{Cause}
 use Rattle.hb_base.specs.declared.cause.Cause.TheVariants as cause
-use Rattle.hb_captured.specs.Captured.{Captured, Stage, unborn, arriving, fronting, due, opening, accepting, live, failed, ended, over, at_stage, judges, is_judged, ends_by, ends_for, came_by, hung_up, entered, up_entered, left_by, judged_by, rejudged}
-use Rattle.hb_captured.specs.Part.{Part, entry, up, welcomed, crowded, lacked, misfronted, fronted, refused, accepted, left, done, applied, stopped}
-use Rattle.hb_captured.specs.Runs.{Local, MayCome, UpMayCome, MayGo, next_link}
+use Rattle.hb_captured.specs.Captured.{Captured, Stage, unborn, arriving, fronting, due, opening, accepting, live, failed, ended, over, at_stage, judges, is_judged, is_raw, ends_by, ends_for, came_by, hung_up, entered, up_entered, left_behind, told_by, left_by, judged_by, rejudged}
+use Rattle.hb_captured.specs.Part.{Part, entry, up, welcomed, crowded, lacked, misfronted, fronted, refused, accepted, roomless, asked, hears, put, finished, credited, loosed, completed, left, done, applied, stopped}
+use Rattle.hb_captured.specs.Runs.{Local, MayCome, UpMayCome, MayGo, MayHear, HasEnded, IsOnStream, next_link}
+use Rattle.hb_gateway.specs.Response as response
+use Rattle.hb_gateway.specs.Response.{Heard, opens, brings, fails}
 use Rattle.hb_held.specs.Held.{Resources}
 use Rattle.hb_table.specs.Judgement.{judged}
 use Rattle.hb_table.specs.declared.judgement.Judged.{Judged}
@@ -41,19 +44,20 @@ RelayFitsBy (ended why) u shut n v = Past u shut n v
 RelayFitsBy (over why) u shut n v = Past u shut n v
 RelayFitsBy stage u shut n v = ⊥
 
+-- while it has no stream
 abbrev pub RelayFits : Captured → ℕ → Look → Type 0
-RelayFits x n v = RelayFitsBy x.stage x.up x.up_shut n v
+RelayFits x n v = (is_raw x ≡ true) × RelayFitsBy x.stage x.up x.up_shut n v
 
--- nothing is shut or closed before it is there
-abbrev pub PlainDueBy : Stage → (up_shut shut closed : Bool) → Type 0
-PlainDueBy unborn up_shut shut closed = (up_shut ≡ false) × (shut ≡ false) × (closed ≡ false)
-PlainDueBy arriving up_shut shut closed = up_shut ≡ false
-PlainDueBy fronting up_shut shut closed = up_shut ≡ false
-PlainDueBy due up_shut shut closed = up_shut ≡ false
-PlainDueBy stage up_shut shut closed = Unit {0}
+-- nothing is shut or closed before it is there, and there is no stream before one is asked for
+abbrev pub PlainDueBy : Stage → (raw up_shut shut closed : Bool) → Type 0
+PlainDueBy unborn raw up_shut shut closed = (up_shut ≡ false) × (raw ≡ true) × (shut ≡ false) × (closed ≡ false)
+PlainDueBy arriving raw up_shut shut closed = (up_shut ≡ false) × (raw ≡ true)
+PlainDueBy fronting raw up_shut shut closed = (up_shut ≡ false) × (raw ≡ true)
+PlainDueBy due raw up_shut shut closed = (up_shut ≡ false) × (raw ≡ true)
+PlainDueBy stage raw up_shut shut closed = Unit {0}
 
 abbrev pub PlainDue : Captured → Type 0
-PlainDue x = PlainDueBy x.stage x.up_shut x.shut x.closed
+PlainDue x = PlainDueBy x.stage (is_raw x) x.up_shut x.shut x.closed
 
 pub born_fits : (stage : Stage) (shut closed : Bool) (v : Look) → PlainFitsBy stage shut closed v → v ≡ here_now shut closed
 born_fits unborn shut closed v is = absurd is
@@ -85,20 +89,20 @@ past due u shut n v is = absurd is
 record Passes (old new : Stage) : Type 0 where
   link : (shut closed : Bool) (v : Look) → PlainFitsBy old shut closed v → PlainFitsBy new shut closed v
   up : (u : ℕ) (shut : Bool) (n : ℕ) (v : Look) → RelayFitsBy old u shut n v → RelayFitsBy new u shut n v
-  due : (up_shut shut closed : Bool) → PlainDueBy old up_shut shut closed → PlainDueBy new up_shut shut closed
+  due : (raw up_shut shut closed : Bool) → PlainDueBy old raw up_shut shut closed → PlainDueBy new raw up_shut shut closed
 
 module _ (old : Stage) where
   passes_same : Passes old old
-  passes_same = record { link = λ shut closed v is. is; up = λ u shut n v is. is; due = λ up_shut shut closed is. is }
+  passes_same = record { link = λ shut closed v is. is; up = λ u shut n v is. is; due = λ raw up_shut shut closed is. is }
 
   passes_failed : (why : Cause) → Passes old (failed why)
-  passes_failed why = record { link = born_fits old; up = past old; due = λ up_shut shut closed is. tt }
+  passes_failed why = record { link = born_fits old; up = past old; due = λ raw up_shut shut closed is. tt }
 
   passes_ended : (why : Cause) → Passes old (ended why)
-  passes_ended why = record { link = born_fits old; up = past old; due = λ up_shut shut closed is. tt }
+  passes_ended why = record { link = born_fits old; up = past old; due = λ raw up_shut shut closed is. tt }
 
   passes_over : (why : Cause) → Passes old (over why)
-  passes_over why = record { link = born_fits old; up = past old; due = λ up_shut shut closed is. tt }
+  passes_over why = record { link = born_fits old; up = past old; due = λ raw up_shut shut closed is. tt }
 
 ends_passes : (why : Cause) (stage : Stage) → Passes stage (ends_by why stage)
 ends_passes why unborn = passes_same unborn
@@ -123,13 +127,13 @@ left_passes stage = passes_same stage
 
 -- the header is taken in, or is whole; bytes may come and go
 fronting_passes : Passes arriving fronting
-fronting_passes = record { link = λ shut closed v is. is; up = λ u shut n v is. is; due = λ up_shut shut closed is. is }
+fronting_passes = record { link = λ shut closed v is. is; up = λ u shut n v is. is; due = λ raw up_shut shut closed is. is }
 
 due_passes : Passes fronting due
-due_passes = record { link = λ shut closed v is. is; up = λ u shut n v is. is; due = λ up_shut shut closed is. is }
+due_passes = record { link = λ shut closed v is. is; up = λ u shut n v is. is; due = λ raw up_shut shut closed is. is }
 
 live_passes : Passes accepting live
-live_passes = record { link = λ shut closed v is. is; up = λ u shut n v is. is; due = λ up_shut shut closed is. is }
+live_passes = record { link = λ shut closed v is. is; up = λ u shut n v is. is; due = λ raw up_shut shut closed is. is }
 
 -- THE LINK
 
@@ -146,8 +150,8 @@ module _ (k l : ℕ) (x : Captured) where
   goes_to : (stage : Stage) → Passes x.stage stage → PlainGoes k l x (at_stage stage x)
   goes_to stage passes = record {
     link = λ v other is. passes.link x.shut x.closed v is;
-    up = λ n v other is. passes.up x.up x.up_shut n v is;
-    due = λ is. passes.due x.up_shut x.shut x.closed is;
+    up = λ n v other is. (is.0, passes.up x.up x.up_shut n v is.1);
+    due = λ is. passes.due (is_raw x) x.up_shut x.shut x.closed is;
   }
 
   ends_goes : (why : Cause) → PlainGoes k l x (ends_for why x)
@@ -182,22 +186,23 @@ module _ (l : ℕ) (x : Captured) where
   came_goes bytes _ = record { link = λ v other is. is; up = λ n v other is. is; due = λ is. is }
 
   -- what is asked of a stage behind what is told
-  late : (stage : Stage) → x.stage ≡ stage → ((a b c : Bool) → PlainDueBy stage a b c) → (a b c : Bool) → PlainDueBy x.stage a b c
-  late stage is none a b c = subst (λ (s : Stage). PlainDueBy s a b c) (sym is) (none a b c)
+  late : (stage : Stage) → x.stage ≡ stage → ((a b c : Bool) → PlainDueBy stage (is_raw x) a b c) → (a b c : Bool)
+      → PlainDueBy x.stage (is_raw x) a b c
+  late stage is none a b c = subst (λ (s : Stage). PlainDueBy s (is_raw x) a b c) (sym is) (none a b c)
 
   entry_goes : (z : Entry) → MayCome l x z → PlainGoes (touched_by z) l x (entered z x)
   entry_goes (e.Accepted k d) may = record {
     link = λ v other is. absurd (subst (λ (s : Stage). PlainFitsBy s x.shut x.closed v) may.1 is);
-    up = λ n v other is. subst (λ (s : Stage). RelayFitsBy s x.up x.up_shut n v) may.1 is;
-    due = λ is. (subst (λ (s : Stage). PlainDueBy s x.up_shut x.shut x.closed) may.1 is).0;
+    up = λ n v other is. (is.0, subst (λ (s : Stage). RelayFitsBy s x.up x.up_shut n v) may.1 is.1);
+    due = λ is. let was = subst (λ (s : Stage). PlainDueBy s (is_raw x) x.up_shut x.shut x.closed) may.1 is in (was.0, was.1);
   }
   entry_goes (e.Came k bytes) may = came_goes bytes x.stage
   entry_goes (e.Ended k) may =
       let passes = hung_passes x.stage in
       record {
         link = λ v other is. passes.link x.shut x.closed v is;
-        up = λ n v other is. passes.up x.up x.up_shut n v is;
-        due = λ is. passes.due x.up_shut x.shut x.closed is;
+        up = λ n v other is. (is.0, passes.up x.up x.up_shut n v is.1);
+        due = λ is. passes.due (is_raw x) x.up_shut x.shut x.closed is;
       }
   entry_goes (e.Went k bytes) may = record { link = λ v other is. is; up = λ n v other is. is; due = λ is. is }
   entry_goes (e.Broke k) may = ends_goes 0 l x cause.PeerGone
@@ -220,7 +225,7 @@ module _ (l : ℕ) (x : Captured) where
 
   -- what fits the upstream where the link is at this stage
   relay_at : (stage : Stage) → x.stage ≡ stage → (n : ℕ) (v : Look) → RelayFits x n v → RelayFitsBy stage x.up x.up_shut n v
-  relay_at stage is n v fits = subst (λ (s : Stage). RelayFitsBy s x.up x.up_shut n v) is fits
+  relay_at stage is n v fits = subst (λ (s : Stage). RelayFitsBy s x.up x.up_shut n v) is fits.1
 
   up_goes : (z : Entry) → UpMayCome l x z → PlainGoes (touched_by z) l x (up_entered z x)
   up_goes (e.Dialled u to why) may = record {
@@ -246,7 +251,7 @@ module _ (l : ℕ) (x : Captured) where
   up_goes (e.Closed u why) may = record {
     link = λ v other is. is;
     up = λ n v other is. ⊎_elim (λ yet. absurd (other.1 (sym yet.0 ∙ may.2)))
-        (λ closed. subst (λ (s : Stage). RelayFitsBy s 0 x.up_shut n v) (sym may.1) (inr (refl, closed.1)))
+        (λ closed. (is.0, subst (λ (s : Stage). RelayFitsBy s 0 x.up_shut n v) (sym may.1) (inr (refl, closed.1))))
         (relay_at (over why) may.1 n v is);
     due = λ is. is;
   }
@@ -254,6 +259,48 @@ module _ (l : ℕ) (x : Captured) where
   up_goes (e.Accepted k d) may = absurd may
   up_goes e.Tick may = absurd may
   up_goes (e.Wait ready how) may = absurd may
+
+-- ON ITS STREAM
+
+-- what is asked of a link that has ended
+ended_due : (stage : Stage) (x : Captured) → HasEnded stage → PlainDueBy stage true x.up_shut x.shut x.closed
+ended_due (failed why) x is = tt
+ended_due (ended why) x is = tt
+ended_due (over why) x is = tt
+ended_due unborn x is = absurd is
+ended_due arriving x is = absurd is
+ended_due fronting x is = absurd is
+ended_due due x is = absurd is
+ended_due opening x is = absurd is
+ended_due accepting x is = absurd is
+ended_due live x is = absurd is
+
+module _ (l : ℕ) (x : Captured) where
+  -- one that has a stream has no upstream
+  on_stream : (y : Captured) → IsOnStream x → ((v : Look) → PlainFits x v → PlainFits y v) → PlainDue y → PlainGoes 0 l x y
+  on_stream y on link now = record {
+    link = λ v other is. link v is;
+    up = λ n v other is. absurd (false≢true (sym on ∙ is.0));
+    due = λ is. now;
+  }
+
+  told_goes : (heard : Heard) (begun : ℕ) → IsOnStream x → MayHear x.stage heard x → PlainGoes 0 l x (told_by heard begun x)
+  told_goes (opens end) begun on may =
+      on_stream (told_by (opens end) begun x) on (λ v is. born_fits x.stage x.shut x.closed v is) tt
+  told_goes (brings bytes) begun on may = record { link = λ v other is. is; up = λ n v other is. is; due = λ is. is }
+  told_goes response.ends begun on may = record { link = λ v other is. is; up = λ n v other is. is; due = λ is. is }
+  told_goes (fails why) begun on may = record {
+    link = λ v other is. (ends_passes why x.stage).link x.shut x.closed v is;
+    up = λ n v other is. absurd (false≢true (sym on ∙ is.0));
+    due = λ is. raw (ends_by why x.stage) ((ends_passes why x.stage).due (is_raw x) x.up_shut x.shut x.closed is);
+  }
+    where
+      raw : (stage : Stage) → PlainDueBy stage (is_raw x) x.up_shut x.shut x.closed → PlainDueBy stage true x.up_shut x.shut x.closed
+      raw unborn is = (is.0, refl, is.2, is.3)
+      raw arriving is = (is.0, refl)
+      raw fronting is = (is.0, refl)
+      raw due is = (is.0, refl)
+      raw stage is = tt
 
 -- EVERY PART
 
@@ -270,19 +317,35 @@ plain_part_goes l a welcomed may = goes_to 0 l a.link fronting (passes_at l a.li
 plain_part_goes l a crowded may = ends_goes 0 l a.link cause.NoRoom
 plain_part_goes l a lacked may = ends_goes 0 l a.link cause.NoMemory
 plain_part_goes l a (misfronted fault) may = ends_goes 0 l a.link _
-plain_part_goes l a (fronted seen to) may =
+plain_part_goes l a (fronted seen routing aim) may =
     let passes = passes_at l a.link fronting due may.0.0 due_passes in
     record {
       link = λ v other is. passes.link a.link.shut a.link.closed v is;
-      up = λ n v other is. passes.up a.link.up a.link.up_shut n v is;
-      due = λ is. passes.due a.link.up_shut a.link.shut a.link.closed is;
+      up = λ n v other is. (is.0, passes.up a.link.up a.link.up_shut n v is.1);
+      due = λ is. passes.due (is_raw a.link) a.link.up_shut a.link.shut a.link.closed is;
     }
-plain_part_goes l a (refused seen why status made) may = record {
+plain_part_goes l a (refused seen routing why status made) may = record {
   link = λ v other is. born_fits a.link.stage a.link.shut a.link.closed v is;
-  up = λ n v other is. past a.link.stage a.link.up a.link.up_shut n v is;
+  up = λ n v other is. (is.0, past a.link.stage a.link.up a.link.up_shut n v is.1);
   due = λ is. tt;
 }
 plain_part_goes l a (accepted made) may = goes_to 0 l a.link live (passes_at l a.link accepting live may.0 live_passes)
+plain_part_goes l a roomless may = ends_goes 0 l a.link cause.NoRoom
+plain_part_goes l a (asked gate stream) may = record {
+  link = λ v other is. born_fits a.link.stage a.link.shut a.link.closed v is;
+  up = λ n v other is. absurd (subst (λ (s : Stage). RelayFitsBy s a.link.up a.link.up_shut n v) may.0 is.1);
+  due = λ is. tt;
+}
+plain_part_goes l a (hears heard begun) may = told_goes l a.link heard begun may.0 may.1
+plain_part_goes l a (put bytes) may = record { link = λ v other is. is; up = λ n v other is. is; due = λ is. is }
+plain_part_goes l a finished may = on_stream l a.link (next_link a.link finished) may.0.0 (λ v is. is)
+    (late l a.link live may.0.1 (λ a b c. tt) true a.link.shut a.link.closed)
+plain_part_goes l a (credited n) may = record { link = λ v other is. is; up = λ n v other is. is; due = λ is. is }
+plain_part_goes l a (loosed begun) may =
+    on_stream l a.link (left_behind begun a.link) may.0 (λ v is. is) (ended_due a.link.stage a.link may.1)
+plain_part_goes l a (completed begun made) may =
+    on_stream l a.link (next_link a.link (completed begun made)) may.0.0
+    (λ v is. born_fits a.link.stage a.link.shut a.link.closed v is) tt
 plain_part_goes l a (left made) may = goes_to 0 l a.link (left_by a.link.stage) (left_passes a.link.stage)
 plain_part_goes l a (done made) may = goes_to 0 l a.link (over cause.Done) (passes_over a.link.stage cause.Done)
 plain_part_goes l a (applied r) may = plain_same 0 l a.link

@@ -1,6 +1,6 @@
 -- What the settled law refuses of a plain link, and what it lets.
 use Rattle.std.proofs.Common.{◌≡◌, ◌≢◌, inl, inr, ⊎_elim, ℕ, ◌≤◌, ◌==◌, Bool, true, false, cond, List, [], ◌∷◌, ◌++◌, length, refl, ap, sym, ◌∙◌, subst, arith}
-use Rattle.std.proofs.lemmas.Bool.{eqb-true, false≢true}
+use Rattle.std.proofs.lemmas.Bool.{cond_both, eqb-true, false≢true}
 use Rattle.hb_base.specs.declared.door.Door.TheVariants as door
 use Rattle.hb_base.specs.declared.door.Why.TheVariants as whys
 use Rattle.hb_base.specs.declared.target.Target.{Target}
@@ -8,31 +8,36 @@ use Rattle.hb_captured.proofs.Kept.{Keeps, all_keep}
 use Rattle.hb_captured.proofs.Stages.{KnowsBy}
 use Rattle.hb_captured.specs.Calm as plain_calm
 use Rattle.hb_captured.specs.Calm.{IsIdleBy, longest_front}
-use Rattle.hb_captured.specs.Captured.{Captured, Stage, unborn, arriving, fronting, due, opening, live, over, at_stage, no_link}
+use Rattle.hb_captured.specs.Captured.{Captured, Stage, unborn, arriving, fronting, due, opening, live, over, ring_up, ring_down, is_raw, at_stage, no_link}
 use Rattle.hb_captured.specs.Part as part
 use Rattle.hb_captured.specs.Sides.{header_of, link_came}
+use Rattle.hb_gateway.specs.Gateway as gateway
+use Rattle.hb_gateway.specs.Gateway.{Phase}
 use Rattle.hb_model.specs.declared.config.NodeConfig.{NodeConfig}
-use Rattle.hb_tunnel.specs.Tunnel.{up_size, down_size}
 use Rattle.hb_world.specs.Trace.{recv}
 use Rattle.hb_world.specs.declared.entry.Entry.{Entry}
 use Rattle.hb_world.specs.declared.entry.Entry.TheVariants as e
 use Rattle.hb_world.specs.declared.entry.Way.TheVariants as way
 use Rattle.hb_proxy.specs.Held.{at_start}
 use Rattle.hb_proxy.specs.Machine.{Machine, plain_local, with_plain}
-use Rattle.hb_proxy.specs.Owners.{Owner, nobody, control_plane, plain_link, relay_of, owner}
+use Rattle.hb_proxy.specs.Owners.{Owner, nobody, control_plane, plain_link, relay_of, gateway_link, owner}
 use Rattle.hb_proxy.specs.PlainWaits.{KeepsUp, KeepsDown, LeavesUpUnread, LeavesUnread, LeavesFrontUnread, LeavesUnshut, LeavesUndialled, LeavesUnclosed, accepted, ReadsNothing, AsksNoUpstream, ReadsOnce}
-use Rattle.hb_proxy.specs.Points.{Point, of_plain, plain_of}
+use Rattle.hb_proxy.specs.Points.{Point, of_plain, plain_of, gates_of}
 use Rattle.hb_proxy.specs.Runs.{ControlRests, StandsFor, goes_on}
 use Rattle.hb_proxy.specs.Settled.{Reads, PlainSettledBy, RelaySettledBy, IsSettled, SettledIn}
 use Rattle.hb_proxy.specs.Ups.{IsRelayOf}
 use Rattle.hb_proxy.proofs.Agreed.{ByOwner, told_in, all_agree}
+use Rattle.hb_proxy.proofs.GateChanges.{is_gate_born}
+use Rattle.hb_proxy.proofs.Gates.{gates_run}
 use Rattle.hb_proxy.proofs.Look.{Look, open_now, look}
 use Rattle.hb_proxy.proofs.Owned.{whose_in, all_owned}
 use Rattle.hb_proxy.proofs.Plain.{plain_runs}
 use Rattle.hb_proxy.proofs.PlainChanges.{PlainFits, PlainFitsBy}
-use Rattle.hb_proxy.proofs.PlainStays.{RelayBy}
-use Rattle.hb_proxy.proofs.SettledRefused.{none_is, writes_none, reads_full, asks, quiet_link, asked, asking, asking_all, quiet_control, control_asleep, asked_so}
+use Rattle.hb_proxy.proofs.PlainStays.{RelayOn, RelayBy}
+use Rattle.hb_proxy.proofs.SettledRefused.{none_is, writes_none, reads_full, asks, quiet_link, none_carries, asked, asking, asking_all, quiet_control, control_asleep, asked_so}
 use Rattle.hb_proxy.proofs.Sides.{runs_share}
+use Rattle.hb_proxy.proofs.Streams.{runs_agree}
+use Rattle.hb_proxy.proofs.Tunnels.{unborn_free}
 
 module _ (g : NodeConfig) (x : Machine) (points : List Point) (trace : List Entry) (settled : IsSettled g x points trace) (l : ℕ) where
   plain_at : (stage : Stage) → (x.plain l).stage ≡ stage → PlainSettledBy stage (x.plain l).closed trace l (x.plain l)
@@ -54,11 +59,12 @@ keeps_down g x points trace l is some awake settled =
 
 pub leaves_up_unread : LeavesUpUnread
 leaves_up_unread g x points trace l u is joins going room awake settled =
-    reads_full trace u down_size (x.plain l).ways.down (relay_live g x points trace settled l u is joins).0 going room awake
+    reads_full trace u (ring_down (x.plain l).door) (x.plain l).ways.down (relay_live g x points trace settled l u is joins).0 going room
+    awake
 
 pub leaves_unread : LeavesUnread
 leaves_unread g x points trace l is going room awake settled =
-    reads_full trace l up_size (x.plain l).ways.up
+    reads_full trace l (ring_up (x.plain l).door) (x.plain l).ways.up
     (⊎_elim (λ h. plain_at g x points trace settled l opening h) (λ h. (plain_at g x points trace settled l live h).0) is)
     going room awake
 
@@ -108,6 +114,25 @@ module _ (g : NodeConfig) (to : Target) (s : SettledIn g (accepted to)) where
       by true false is = cc
       by false false is = cc
 
+  -- nor a stream of a link to a gateway
+  no_gate : (n : ℕ) → whose_in s.points n ≡ gateway_link → ⊥
+  no_gate n is = by (1 == n) (2 == n) (sym (whose_is n) ∙ is)
+    where
+      by : (a b : Bool) → cond b plain_link (cond a control_plane nobody) ≡ gateway_link → ⊥
+      by a true is = cc
+      by true false is = cc
+      by false false is = cc
+
+  no_stream : is_raw one ≡ false → ⊥
+  no_stream on =
+      no_gate one.gate ((all_owned g s.machine s.points s.run).gate one.gate (by (s.machine.gates one.gate).phase (λ is.
+      unborn_free one.gate (s.machine.gates one.gate) (gates_of one.gate s.points) (gates_run g s.machine s.points one.gate s.run)
+      is one.stream ((runs_agree g s.machine s.points s.run).carried 2 on).0)))
+    where
+      by : (phase : Phase) → (phase ≡ gateway.unborn → ⊥) → is_gate_born phase ≡ true
+      by gateway.unborn none = absurd (none refl)
+      by _ none = refl
+
   -- nothing came of it
   none_came : link_came (plain_of 2 s.points) ≡ []
   none_came =
@@ -119,16 +144,21 @@ module _ (g : NodeConfig) (to : Target) (s : SettledIn g (accepted to)) where
       keeps : Keeps (at_start g) (plain_local s.machine 2) (plain_of 2 s.points)
       keeps = all_keep 2 (at_start g) (plain_local s.machine 2) (plain_of 2 s.points) (plain_runs g s.machine s.points 2 s.run)
 
+      -- it has an upstream, or a stream
+      unless : (raw : Bool) → is_raw one ≡ raw → RelayOn raw (whose_in s.points) 2 one.up → ⊥
+      unless true is relay = alone one.up relay
+      unless false is relay = no_stream is
+
       by : (stage : Stage) → PlainFitsBy stage one.shut one.closed (open_now false)
           → PlainSettledBy stage one.closed (accepted to) 2 one
           → KnowsBy stage (header_of (plain_of 2 s.points)) (link_came (plain_of 2 s.points)) (plain_local s.machine 2).held one
-          → RelayBy stage (whose_in s.points) 2 one.up → ⊥
+          → RelayBy stage (is_raw one) (whose_in s.points) 2 one.up → ⊥
       by unborn is settled knows relay = is
       by fronting is (inl sleeps) knows relay = false≢true sleeps
       by fronting is (inr full) knows relay =
           let none : length one.front ≡ 0 = ap (λ (bs : List ℕ). length bs) (sym knows.front ∙ none_came) in omega (arith, full, none)
-      by opening is settled knows relay = alone one.up relay
-      by live is settled knows relay = alone one.up relay
+      by opening is settled knows relay = unless (is_raw one) refl relay
+      by live is settled knows relay = unless (is_raw one) refl relay
       by (over why) is settled knows relay = false≢true (ap (λ (v : Look). v.closed) is ∙ settled)
       by _ is settled knows relay = settled
 
@@ -187,17 +217,37 @@ module _ (g : NodeConfig) where
   quiet_taken : plain_calm.IsQuiet taken
   quiet_taken = ((refl, omega arith), tt)
 
+  -- it has no stream, nor has another one
+  raw : (l : ℕ) → is_raw (last.plain l) ≡ true
+  raw l = each (λ k c. is_raw c ≡ true) refl (λ k. refl) l
+
+  then_raw : (l : ℕ) → is_raw (later.plain l) ≡ true
+  then_raw l = cond_both (l == 2) taken (then.plain l) (λ (c : Captured). is_raw c ≡ true) (λ is. refl)
+      (λ is. cond_both (l == 2) arrived no_link (λ (c : Captured). is_raw c ≡ true) (λ other. refl) (λ other. refl))
+
   runs : StandsFor g last points
   runs = goes_on taken_in (of_plain 2 (part.entry (e.Balked (way.Read 2)))) (
     (refl, (inl (quiet_taken, refl), omega arith)),
-    record { birth = tt; control = rests; links = λ k. quiet_link; others = other },
+    record {
+      birth = tt;
+      control = rests;
+      links = λ k. quiet_link;
+      others = other;
+      gates = none_carries false later refl then_raw;
+    },
     refl,
   ) refl
     where
       came : StandsFor g then (asked g ++ of_plain 2 (part.entry (e.Accepted 2 door.Plain)) ∷ [])
       came = goes_on (asked_so g) (of_plain 2 (part.entry (e.Accepted 2 door.Plain))) (
         (refl, refl, tt),
-        record { birth = (refl, refl); control = rests; links = λ k. quiet_link; others = λ k apart. (tt, tt) },
+        record {
+          birth = (refl, refl);
+          control = rests;
+          links = λ k. quiet_link;
+          others = λ k apart. (tt, tt);
+          gates = none_carries false (asking_all g) refl (λ l. refl);
+        },
         refl,
       ) refl
 
@@ -221,5 +271,7 @@ reads_once g = record {
     plain = each g (λ l c. PlainSettledBy c.stage c.closed (trace g) l c) (inl refl) (λ l. tt);
     relays = each g (λ l c. (u : ℕ) → IsRelayOf c u → RelaySettledBy c.stage (trace g) u c)
         (λ u joins. absurd (omega (arith, joins.0, joins.1))) (λ l u joins. absurd (omega (arith, joins.0, joins.1)));
+    gates_quiet = none_carries false (last g) refl (raw g);
+    gates = λ n. tt;
   };
 }

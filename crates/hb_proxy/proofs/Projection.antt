@@ -20,7 +20,7 @@ use Rattle.hb_model.specs.declared.config.NodeConfig.{NodeConfig}
 use Rattle.hb_proxy.specs.Held.{at_start}
 use Rattle.hb_proxy.specs.Laws.{ControlRuns, ControlHolds, LinksRun, LinksHold}
 use Rattle.hb_proxy.specs.Machine.{Machine, local, with_control, with_part}
-use Rattle.hb_proxy.specs.Points.{Point, of_control, of_link, of_plain, control_in, control_of, part_in, parts_of}
+use Rattle.hb_proxy.specs.Points.{Point, of_control, of_link, of_plain, of_gate, of_stream, control_in, control_of, part_in, parts_of}
 use Rattle.hb_proxy.specs.Runs.{Steps, begins, goes_on}
 
 -- THE CONTROL PLANE
@@ -56,6 +56,12 @@ control_goes g x points stands (of_link l p) y steps =
 control_goes g x points stands (of_plain l p) y steps =
     sees_none control_in (λ (z : Machine). z.control) (model.StandsFor g) points (of_plain l p) x y refl
     (ap (λ (z : Machine). z.control) steps.2) stands
+control_goes g x points stands (of_gate n p) y steps =
+    sees_none control_in (λ (z : Machine). z.control) (model.StandsFor g) points (of_gate n p) x y refl
+    (ap (λ (z : Machine). z.control) steps.3) stands
+control_goes g x points stands (of_stream l n s w) y steps =
+    sees_none control_in (λ (z : Machine). z.control) (model.StandsFor g) points (of_stream l n s w) x y refl
+    (ap (λ (z : Machine). z.control) steps.4) stands
 
 pub control_runs : ControlRuns
 control_runs g x points (begins is none) =
@@ -129,8 +135,9 @@ module _ (g : NodeConfig) (x : Machine) (points : List Point) (l : ℕ)
       subst (λ (z : Machine). Goes z (of_control q)) (sym steps.3) (control_seen q steps.0 steps.1)
   link_goes (of_link k p) y steps =
       subst (λ (z : Machine). Goes z (of_link k p)) (sym steps.3) (link_seen k p steps.0 steps.1)
-  link_goes (of_plain k p) y steps =
-      none (of_plain k p) y refl (ap (λ (z : Machine). local z l) steps.2)
+  link_goes (of_plain k p) y steps = none (of_plain k p) y refl (ap (λ (z : Machine). local z l) steps.2)
+  link_goes (of_gate n p) y steps = none (of_gate n p) y refl (ap (λ (z : Machine). local z l) steps.3)
+  link_goes (of_stream k n s w) y steps = none (of_stream k n s w) y refl (ap (λ (z : Machine). local z l) steps.4)
 
 pub links_run : LinksRun
 links_run g x points l (begins is none) =

@@ -35,13 +35,14 @@ use Rattle.hb_proxy.specs.Points.{Point, of_control, of_link, of_plain}
 use Rattle.hb_proxy.specs.Refused.{ComesUnborn, ReadsUnborn, ReadsAnothers, BornTwice, BornAgain, SeesAlone, SeeAll, AnswersAnother, AnswersControl}
 use Rattle.hb_proxy.specs.Refused.{lived, WritesBehind, ReadsBehind, TicksBehind, InventsByte, DialsTwice, ComesWhileDue, DialsWhileDue, AcceptsBehindEnd, StopsUnanswered, AcceptsFirst, ReadsEnded, GoesOnAdmitted, plain_updated, PlainGoesOn}
 use Rattle.hb_proxy.specs.Refused.{begun, RunMayGo, plain_begun, PlainRunMayGo, IsLawful, RunIsLawful}
-use Rattle.hb_proxy.specs.Runs.{link_first, ControlRests, LinkMayCome, PlainMayCome, StandsFor, begins, goes_on}
+use Rattle.hb_proxy.specs.Runs.{link_first, ControlRests, ControlMayCome, LinkMayCome, PlainMayCome, StandsFor, begins, goes_on}
 use Rattle.hb_proxy.proofs.Access.{At, runs_admit}
 use Rattle.hb_proxy.proofs.Control.{obey_entries}
 use Rattle.hb_proxy.proofs.Dials.{runs_dial}
 use Rattle.hb_proxy.proofs.Ends.{unfaulted, lets_quiet, runs_end}
 use Rattle.hb_proxy.proofs.Own.{runs_own, runs_number}
 use Rattle.hb_proxy.proofs.Relay.{runs_relay}
+use Rattle.hb_proxy.proofs.SettledRefused.{none_carries}
 use Rattle.hb_proxy.proofs.Stays.{is_born, may_born}
 
 pub comes_unborn : ComesUnborn
@@ -207,7 +208,10 @@ first g = with_control (point.entry (dial g)) (discovering g) (fresh g)
 dialled : (g : NodeConfig) → StandsFor g (first g) (of_control (point.entry (dial g)) ∷ [])
 dialled g =
     goes_on (begins refl refl) (of_control (point.entry (dial g)))
-    (discovering g, ((refl, omega arith, refl, refl), refl), record { birth = refl; links = λ l. calm; plain = λ l. tt }, refl) refl
+    (discovering g, ((refl, omega arith, refl, refl), refl), guard, refl) refl
+  where
+    guard : ControlMayCome (fresh g) (dial g)
+    guard = record { birth = refl; links = λ l. calm; plain = λ l. tt; gates = none_carries true (fresh g) refl (λ l. refl) }
 
 rests : (g : NodeConfig) → ControlRests (discovering g)
 rests g = record {
@@ -223,7 +227,13 @@ run_may_go g =
     let y = with_part 2 (part.entry accept) link (first g) in
     let z = with_part 2 part.welcomed (with_phase fronting link) y in
     let guard : LinkMayCome (first g) 2 accept =
-    record { birth = (refl, refl); control = rests g; others = λ k apart. quiet; plain = λ k. (tt, tt) } in
+    record {
+      birth = (refl, refl);
+      control = rests g;
+      others = λ k apart. quiet;
+      plain = λ k. (tt, tt);
+      gates = none_carries false (first g) refl (λ l. refl);
+    } in
     let accepted : StandsFor g y (of_control (point.entry (dial g)) ∷ of_link 2 (part.entry accept) ∷ []) =
     goes_on (dialled g) (of_link 2 (part.entry accept)) (link, ((refl, refl, refl), refl), guard, refl) refl in
     (z, goes_on accepted (of_link 2 part.welcomed) (with_phase fronting link, (refl, refl), tt, refl) refl)
@@ -240,7 +250,13 @@ captured_may_go g d caught =
     let y = with_plain 2 (captured.entry accept) link (first g) in
     let z = with_plain 2 captured.welcomed (at_stage captured_link.fronting link) y in
     let guard : PlainMayCome (first g) 2 accept =
-    record { birth = (refl, refl); control = rests g; links = λ k. quiet; others = λ k apart. (tt, tt) } in
+    record {
+      birth = (refl, refl);
+      control = rests g;
+      links = λ k. quiet;
+      others = λ k apart. (tt, tt);
+      gates = none_carries false (first g) refl (λ l. refl);
+    } in
     let accepted : StandsFor g y (of_control (point.entry (dial g)) ∷ of_plain 2 (captured.entry accept) ∷ []) =
     goes_on (dialled g) (of_plain 2 (captured.entry accept)) ((refl, refl, caught), guard, refl) refl in
     (z, goes_on accepted (of_plain 2 captured.welcomed) (refl, tt, refl) refl)

@@ -2,7 +2,8 @@
 use Rattle.std.proofs.Common.{◌≡◌, inl, inr, ⊎_elim, ℕ, ◌<◌, ◌&&◌, Bool, true, false, not, List, refl, ap, ap₂, sym, ◌∙◌, subst, arith}
 use Rattle.std.proofs.lemmas.Bool.{false≢true, cases_lt}
 use Rattle.hb_captured.specs.Captured as plain
-use Rattle.hb_captured.specs.Captured.{Captured}
+use Rattle.hb_captured.specs.Captured.{Captured, is_raw}
+use Rattle.hb_gateway.specs.Gateway as gateway
 use Rattle.hb_inbound.specs.Inbound as inbound
 use Rattle.hb_inbound.specs.Tunnel as tunnel
 use Rattle.hb_inbound.specs.Tunnel.{Tunnel, Stage}
@@ -14,13 +15,14 @@ use Rattle.hb_ready.specs.Sight.{is_open}
 use Rattle.hb_world.specs.Trace.{lives, was_shut}
 use Rattle.hb_world.specs.declared.entry.Entry.{Entry}
 use Rattle.hb_proxy.specs.Machine.{Machine}
-use Rattle.hb_proxy.specs.Owners.{Owner, nobody, control_plane, inbound_link, upstream_of, plain_link, relay_of}
+use Rattle.hb_proxy.specs.Owners.{Owner, nobody, control_plane, inbound_link, upstream_of, plain_link, relay_of, gateway_link}
 use Rattle.hb_proxy.specs.Points.{Point, entries, control_of}
 use Rattle.hb_proxy.specs.Runs.{StandsFor}
-use Rattle.hb_proxy.specs.Seen.{IsThere, IsLinkThere, IsPlainThereBy, IsPlainThere, OpenBy, UpOpenBy, RelayOpenBy, HasLink, IsFresh, PlainSeen, RunsAreSeen}
+use Rattle.hb_proxy.specs.Seen.{IsThere, IsLinkThere, IsPlainThereBy, IsPlainThere, IsGateThere, GateOpenBy, OpenBy, UpOpenBy, RelayOpenBy, HasLink, IsFresh, PlainSeen, GatesSeen, RunsAreSeen}
 use Rattle.hb_proxy.specs.Ups.{up_by, Joins, IsRelayOf}
 use Rattle.hb_proxy.proofs.Agreed.{ControlFits, ByOwner, Agrees, told_in, all_agree}
 use Rattle.hb_proxy.proofs.Changes.{LinkFits, IsYet, StageFits, yet_dialled, yet_open}
+use Rattle.hb_proxy.proofs.GateChanges.{GateFits, is_gate_born}
 use Rattle.hb_proxy.proofs.Look.{Look, dialled, open_now, living, lives_is_so, open_is_so, shut_is_so}
 use Rattle.hb_proxy.proofs.Own.{born_is}
 use Rattle.hb_proxy.proofs.Owned.{Owned, whose_in, all_owned}
@@ -219,8 +221,8 @@ record IsRelay (x : Captured) (v : Look) : Type 0 where
 relay_told : (x : Captured) (u : ℕ) (v : Look) → IsRelayOf x u → RelayFits x u v → IsRelay x v
 relay_told x u v joins fits = record {
   yet = ⊎_elim (λ is. is.1) (λ none. let zero = none.0 in absurd (omega (arith, zero, joins.0, joins.1)))
-      (past x.stage x.up x.up_shut u v fits);
-  open_is = by x.stage fits;
+      (past x.stage x.up x.up_shut u v fits.1);
+  open_is = by x.stage fits.1;
 }
   where
     by : (stage : plain.Stage) → RelayFitsBy stage x.up x.up_shut u v → RelayOpenBy stage v.opened
@@ -230,7 +232,37 @@ relay_told x u v joins fits = record {
     by _ fits = tt
 
 relay_living : (x : Captured) (u : ℕ) (v : Look) → RelayFits x u v → living v ≡ true → x.up ≡ u
-relay_living x u v fits is = ⊎_elim (λ yet. yet.0) (λ none. absurd (over_now v none.1 is)) (past x.stage x.up x.up_shut u v fits)
+relay_living x u v fits is = ⊎_elim (λ yet. yet.0) (λ none. absurd (over_now v none.1 is)) (past x.stage x.up x.up_shut u v fits.1)
+
+-- LINKS TO GATEWAYS
+
+gate_born_there : (phase : gateway.Phase) → IsGateThere phase → is_gate_born phase ≡ true
+gate_born_there gateway.unborn there = absurd there
+gate_born_there _ there = refl
+
+pub gate_unborn_there : (phase : gateway.Phase) → (is_gate_born phase ≡ true → ⊥) → phase ≡ gateway.unborn
+gate_unborn_there gateway.unborn none = refl
+gate_unborn_there _ none = absurd (none refl)
+
+gate_there_living : (phase : gateway.Phase) (v : Look) → GateFits phase v → living v ≡ true → IsGateThere phase
+gate_there_living gateway.unborn v fits is = fits
+gate_there_living gateway.closed v fits is = over_now v fits is
+gate_there_living _ v fits is = tt
+
+-- what the trace tells of one that is there
+record IsGate (phase : gateway.Phase) (v : Look) : Type 0 where
+  yet : IsYet false v
+  open_is : GateOpenBy phase v.opened
+
+gate_told : (phase : gateway.Phase) (v : Look) → IsGateThere phase → GateFits phase v → IsGate phase v
+gate_told gateway.opening v there fits =
+    record { yet = yet_dialled false v fits; open_is = ap (λ (w : Look). w.opened) fits }
+gate_told gateway.serving v there fits = record { yet = yet_open false v fits; open_is = ap (λ (w : Look). w.opened) fits }
+gate_told (gateway.faulted code) v there fits =
+    record { yet = yet_open false v fits; open_is = ap (λ (w : Look). w.opened) fits }
+gate_told (gateway.closing why) v there fits = record { yet = fits; open_is = tt }
+gate_told gateway.unborn v there fits = absurd there
+gate_told gateway.closed v there fits = absurd there
 
 -- EVERY RUN
 
@@ -325,13 +357,20 @@ module _ (g : NodeConfig) (x : Machine) (points : List Point) (stands : StandsFo
   plain_yet l there = yet_open (x.plain l).shut (told l) (plain_told l there)
 
   relay_weak : (l : ℕ) → IsWeak whose (relay_of l) (x.plain l).up
-  relay_weak l = relay_weakly whose l (x.plain l).up (x.plain l).stage (owned.relay l)
+  relay_weak l = relay_weakly whose l (x.plain l).up (is_raw (x.plain l)) (x.plain l).stage (owned.relay l)
 
   relayed : (l u : ℕ) → IsRelayOf (x.plain l) u → whose u ≡ relay_of l
   relayed l u joins = up_owned whose (relay_of l) (x.plain l).up u (relay_weak l) joins.0 joins.1
 
   relays_told : (l u : ℕ) → IsRelayOf (x.plain l) u → IsRelay (x.plain l) (told u)
   relays_told l u joins = relay_told (x.plain l) u (told u) joins (owner_told u (relay_of l) (relayed l u joins))
+
+  -- LINKS TO GATEWAYS
+  gate_owned : (l : ℕ) → IsGateThere (x.gates l).phase → whose l ≡ gateway_link
+  gate_owned l there = owned.gate l (gate_born_there (x.gates l).phase there)
+
+  gates_told : (l : ℕ) → IsGateThere (x.gates l).phase → IsGate (x.gates l).phase (told l)
+  gates_told l there = gate_told (x.gates l).phase (told l) there (owner_told l gateway_link (gate_owned l there))
 
   -- EACH LINK THAT LIVES
   has : (l : ℕ) → lives l trace ≡ true → HasLink x l
@@ -351,10 +390,11 @@ module _ (g : NodeConfig) (x : Machine) (points : List Point) (stands : StandsFo
           let t = (x.inbound k).tunnels s in
           inr (inr (inl
           (k, s, (some (upstream_of k s) mine (λ no. cc), up_living t.stage t (told l) fits.1 (living_told l is) ∙ fits.0))))
-      by plain_link mine fits = inr (inr (inr (inl (plain_there_living (x.plain l) (told l) fits (living_told l is)))))
+      by plain_link mine fits = inr (inr (inr (inl (inl (plain_there_living (x.plain l) (told l) fits (living_told l is))))))
       by (relay_of k) mine fits =
-          inr (inr (inr (inr
-          (k, (some (relay_of k) mine (λ no. cc), relay_living (x.plain k) l (told l) fits (living_told l is))))))
+          inr (inr (inr (inl (inr
+          (k, (some (relay_of k) mine (λ no. cc), relay_living (x.plain k) l (told l) fits (living_told l is)))))))
+      by gateway_link mine fits = inr (inr (inr (inr (gate_there_living (x.gates l).phase (told l) fits (living_told l is)))))
 
   -- NUMBERS
   unborn_control : (l : ℕ) → whose l ≡ nobody → (x.control.links l).phase ≡ discovery.unborn
@@ -372,6 +412,11 @@ module _ (g : NodeConfig) (x : Machine) (points : List Point) (stands : StandsFo
       plain_unborn_there (x.plain l).stage
       (λ born. let no : nobody ≡ plain_link = sym none ∙ owned.plain l born in cc)
 
+  unborn_gate : (l : ℕ) → whose l ≡ nobody → (x.gates l).phase ≡ gateway.unborn
+  unborn_gate l none =
+      gate_unborn_there (x.gates l).phase
+      (λ born. let no : nobody ≡ gateway_link = sym none ∙ owned.gate l born in cc)
+
   fresh : (l : ℕ) → x.born < l → IsFresh x l
   fresh l above = record {
     control = unborn_control l none;
@@ -380,6 +425,7 @@ module _ (g : NodeConfig) (x : Machine) (points : List Point) (stands : StandsFo
         (weakly whose k s ((x.inbound k).tunnels s).up ((x.inbound k).tunnels s).stage (owned.up k s));
     plain = unborn_plain l none;
     relay = λ k is. by (relay_of k) (x.plain k).up is (λ no. cc) (relay_weak k);
+    gate = unborn_gate l none;
   }
     where
       none : whose l ≡ nobody
@@ -440,6 +486,22 @@ module _ (g : NodeConfig) (x : Machine) (points : List Point) (stands : StandsFo
     one_up = λ j k u here there. let both : relay_of j ≡ relay_of k = sym (relayed j u here) ∙ relayed k u there in cc;
   }
 
+  gates_seen : GatesSeen x trace
+  gates_seen = record {
+    link = λ l there. let is = gates_told l there in (yet_lives l false is.yet, yet_shut l false is.yet);
+    link_open = λ l there. subst (GateOpenBy (x.gates l).phase) (open_is_so l trace) (gates_told l there).open_is;
+    no_zero = unborn_gate 0 owned.none;
+    alone = λ l there. (
+      λ other. let no : gateway_link ≡ control_plane
+          = sym (gate_owned l there) ∙ owned.control l (born_there (x.control.links l).phase other) in cc,
+      λ other. let no : gateway_link ≡ inbound_link
+          = sym (gate_owned l there) ∙ owned.link l (link_born_there (x.inbound l).phase other) in cc,
+      λ other. let no : gateway_link ≡ plain_link = sym (gate_owned l there) ∙ plain_owned l other in cc,
+      λ k s other. let no : gateway_link ≡ upstream_of k s = sym (gate_owned l there) ∙ joined k s l other in cc,
+      λ k other. let no : gateway_link ≡ relay_of k = sym (gate_owned l there) ∙ relayed k l other in cc,
+    );
+  }
+
 pub runs_are_seen : RunsAreSeen
 runs_are_seen g x points stands =
     let trace = entries points in
@@ -478,4 +540,5 @@ runs_are_seen g x points stands =
       one_up = one_up g x points stands;
       link_alone = link_no_control g x points stands;
       plain = plain_seen g x points stands;
+      gates = gates_seen g x points stands;
     }

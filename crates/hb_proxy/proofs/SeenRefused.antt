@@ -38,8 +38,9 @@ has_none g d seen = by (seen.has 1 refl)
     by (inl there) = there
     by (inr (inl there)) = there
     by (inr (inr (inl (k, s, (some, is))))) = omega (arith, is)
-    by (inr (inr (inr (inl there)))) = there
-    by (inr (inr (inr (inr (k, (some, is)))))) = omega (arith, some, is)
+    by (inr (inr (inr (inl (inl there))))) = there
+    by (inr (inr (inr (inl (inr (k, (some, is))))))) = omega (arith, some, is)
+    by (inr (inr (inr (inr there)))) = there
 
 -- A PLAIN LINK
 

@@ -1,11 +1,14 @@
 -- What the settled law refuses, and what it lets.
-use Rattle.std.proofs.Common.{◌≡◌, inl, inr, ℕ, ◌<◌, ◌==◌, true, false, List, [], ◌∷◌, length, refl, ap, sym, ◌∙◌, subst, arith}
+use Rattle.std.proofs.Common.{◌≡◌, inl, inr, ℕ, ◌<◌, ◌==◌, Bool, true, false, List, [], ◌∷◌, length, refl, ap, sym, ◌∙◌, subst, arith}
 use Rattle.std.proofs.lemmas.Bool.{cond_both, eqb-true, false≢true}
 use Rattle.hb_base.specs.declared.door.Door.TheVariants as door
 use Rattle.hb_base.specs.declared.door.Why.TheVariants as whys
 use Rattle.hb_captured.specs.Captured as plain
-use Rattle.hb_captured.specs.Captured.{Captured}
+use Rattle.hb_captured.specs.Captured.{Captured, is_raw}
 use Rattle.hb_conn.specs.Observed as connection
+use Rattle.hb_gateway.specs.Calm as gateway_calm
+use Rattle.hb_gateway.specs.Gateway as gateway
+use Rattle.hb_gateway.specs.Gateway.{Gateway}
 use Rattle.hb_inbound.specs.Calm.{LiveRests, IsQuiet, RestsIn, RestsBy, IsIdleBy}
 use Rattle.hb_inbound.specs.Inbound as link
 use Rattle.hb_inbound.specs.Inbound.{Inbound, no_link, serving}
@@ -29,9 +32,9 @@ use Rattle.hb_world.specs.declared.entry.Way.TheVariants as way
 use Rattle.hb_proxy.specs.Doors.{without_doors, TellSame}
 use Rattle.hb_proxy.specs.Machine.{Machine, fresh, with_control}
 use Rattle.hb_proxy.specs.Points.{Point, of_control}
-use Rattle.hb_proxy.specs.Runs.{StandsFor, begins, goes_on}
-use Rattle.hb_proxy.specs.Seen.{Seen, HasLink, IsThere, OpenBy, UpOpenBy, RelayOpenBy}
-use Rattle.hb_proxy.specs.Settled.{Reads, Writes, Finishes, IsCrowded, IsFull, TakesNoMore, ControlSettledBy, LinkSettledBy, UpSettledBy, RelaySettledBy, IsSettled, SettledIn}
+use Rattle.hb_proxy.specs.Runs.{GateLets, GatesLet, StandsFor, begins, goes_on}
+use Rattle.hb_proxy.specs.Seen.{Seen, HasLink, IsThere, IsGateThere, GateOpenBy, OpenBy, UpOpenBy, RelayOpenBy}
+use Rattle.hb_proxy.specs.Settled.{Reads, Writes, Finishes, IsCrowded, IsFull, TakesNoMore, ControlSettledBy, LinkSettledBy, UpSettledBy, RelaySettledBy, GateSettledBy, IsSettled, SettledIn}
 use Rattle.hb_proxy.specs.SettledRefused.{HasLive, KeepsDown, KeepsUp, LeavesUnread, KeepsCredit, LeavesUnshut, LeavesUnended, LeavesUndialled}
 use Rattle.hb_proxy.specs.SettledRefused.{LeavesUnwritten, LeavesLinkUnread, AsksNothing, AcceptsNothing, AsksOnce}
 use Rattle.hb_proxy.specs.Ups.{Joins}
@@ -144,6 +147,14 @@ module _ (g : NodeConfig) (trace : List Entry) (n : ℕ) (alive : lives n trace 
   relay_asks plain.live y opens settled = false≢true opens
   relay_asks _ y opens settled = settled
 
+  gate_asks : (phase : gateway.Phase) (y : Gateway) → IsGateThere phase → GateOpenBy phase false → GateSettledBy phase trace n y → ⊥
+  gate_asks gateway.unborn y there opens settled = there
+  gate_asks gateway.closed y there opens settled = there
+  gate_asks gateway.opening y there opens settled = never settled
+  gate_asks gateway.serving y there opens settled = false≢true opens
+  gate_asks (gateway.faulted code) y there opens settled = settled
+  gate_asks (gateway.closing why) y there opens settled = settled
+
   pub asks : SettledIn g trace → ⊥
   asks s = by (seen.has n (same.lives n ∙ alive))
     where
@@ -164,10 +175,13 @@ module _ (g : NodeConfig) (trace : List Entry) (n : ℕ) (alive : lives n trace 
       by (inr (inr (inl (k, q, joins)))) =
           let tunnel = (s.machine.inbound k).tunnels q in
           up_asks tunnel.stage tunnel (subst (UpOpenBy tunnel.stage) shut (seen.up k q n joins).2) (s.settled.ups k q n joins)
-      by (inr (inr (inr (inl there)))) = false≢true (sym shut ∙ (seen.plain.link n there).1)
-      by (inr (inr (inr (inr (k, joins))))) =
+      by (inr (inr (inr (inl (inl there))))) = false≢true (sym shut ∙ (seen.plain.link n there).1)
+      by (inr (inr (inr (inl (inr (k, joins)))))) =
           let one = s.machine.plain k in
           relay_asks one.stage one (subst (RelayOpenBy one.stage) shut (seen.plain.up k n joins).2) (s.settled.relays k n joins)
+      by (inr (inr (inr (inr there)))) =
+          let one = s.machine.gates n in
+          gate_asks one.phase one there (subst (GateOpenBy one.phase) shut (seen.gates.link_open n there)) (s.settled.gates n)
 
 pub asks_nothing : AsksNothing
 asks_nothing g to how law =
@@ -183,6 +197,21 @@ accepts_nothing g how then law =
 
 pub quiet_link : IsQuiet no_link
 quiet_link = record { calm = record { answered = λ s. refl; rests = tt }; no_close = refl; idle = λ s. tt }
+
+-- no link to a gateway is there, and no plain link has a stream
+pub none_carries : (first : Bool) (x : Machine) → x.gates ≡ (λ g. gateway.no_link) → ((l : ℕ) → is_raw (x.plain l) ≡ true)
+    → GatesLet first x
+none_carries first x none raw = record {
+  gates = λ g. by first (x.gates g) (ap (λ (f : ℕ → Gateway). f g) none);
+  streams = λ l on. absurd (false≢true (sym on ∙ raw l));
+}
+  where
+    calm : gateway_calm.IsCalm gateway.no_link
+    calm = (λ s. refl, tt)
+
+    by : (first : Bool) (y : Gateway) → y ≡ gateway.no_link → GateLets first y
+    by true y is = subst gateway_calm.IsCalm (sym is) calm
+    by false y is = subst gateway_calm.IsQuiet (sym is) (record { calm = calm; no_close = refl })
 
 -- the control plane is dialled, and asked whether it is open
 module _ (g : NodeConfig) where
@@ -223,14 +252,23 @@ module _ (g : NodeConfig) where
       goes_on (begins refl refl) (of_control (point.entry dial)) (
         asking,
         ((refl, omega arith, refl, refl), refl),
-        record { birth = refl; links = λ l. quiet_link.calm; plain = λ l. tt },
+        record { birth = refl; links = λ l. quiet_link.calm; plain = λ l. tt; gates = none_carries true (fresh g) refl (λ l. refl) },
         refl,
       ) refl
 
   pub asked_so : StandsFor g asking_all asked
   asked_so =
-      goes_on dialled_so (of_control (point.entry balk))
-      (asking, ((refl, (quiet_control, refl)), refl), record { birth = tt; links = λ l. quiet_link; plain = λ l. (tt, tt) }, refl) refl
+      goes_on dialled_so (of_control (point.entry balk)) (
+        asking,
+        ((refl, (quiet_control, refl)), refl),
+        record {
+          birth = tt;
+          links = λ l. quiet_link;
+          plain = λ l. (tt, tt);
+          gates = none_carries false asking_all refl (λ l. refl);
+        },
+        refl,
+      ) refl
 
 pub asks_once : AsksOnce
 asks_once g = record {
@@ -248,5 +286,7 @@ asks_once g = record {
     plain_quiet = λ l. (tt, tt);
     plain = λ l. tt;
     relays = λ l u joins. absurd (omega (arith, joins.0, joins.1));
+    gates_quiet = none_carries false (asking_all g) refl (λ l. refl);
+    gates = λ n. tt;
   };
 }

@@ -1,10 +1,11 @@
 -- The bytes of a link are the same in the trace and in the link's part, in every run.
-use Rattle.std.proofs.Common.{◌≡◌, ◌≢◌, ◌⊎◌, inl, inr, ⊎_elim, ℕ, ◌==◌, Bool, cond, List, [], ◌∷◌, ◌++◌, Option, Some, None, IfSome, refl, ap, ap₂, sym, ◌∙◌, subst}
+use Rattle.std.proofs.Common.{◌≡◌, ◌≢◌, ◌⊎◌, inl, inr, ⊎_elim, ℕ, ◌==◌, Bool, false, cond, List, [], ◌∷◌, ◌++◌, Option, Some, None, IfSome, refl, ap, ap₂, sym, ◌∙◌, subst}
 use Rattle.std.proofs.lemmas.Bool.{cond_both, cases_eq, eq-eqb, ne_eqb}
 use Rattle.std.proofs.lemmas.Grind.{flat_map-append}
 use Rattle.std.specs.List.{flat_map}
 use Rattle.hb_captured.specs.Part as captured
 use Rattle.hb_captured.specs.Sides as plain
+use Rattle.hb_gateway.specs.Part as gateway
 use Rattle.hb_inbound.specs.Part as part
 use Rattle.hb_inbound.specs.Part.{Part}
 use Rattle.hb_inbound.specs.Sides.{came_by, went_by, came_in, went_in, up_came_in, up_went_in}
@@ -16,13 +17,17 @@ use Rattle.hb_world.specs.declared.entry.Entry.{Entry}
 use Rattle.hb_world.specs.declared.entry.Entry.TheVariants as e
 use Rattle.hb_proxy.specs.Laws.{RunsShareSides}
 use Rattle.hb_proxy.specs.Machine.{Machine}
-use Rattle.hb_proxy.specs.Owners.{Owner, nobody, control_plane, inbound_link, upstream_of, plain_link, relay_of, link_of, UpstreamLaw, OwnAt}
-use Rattle.hb_proxy.specs.Points.{Point, of_control, of_link, of_plain, entry_in, entries, control_in, control_of, part_in, parts_of, plain_in, plain_of}
-use Rattle.hb_proxy.specs.Runs.{StandsFor, begins, goes_on}
+use Rattle.hb_proxy.specs.Owners.{Owner, nobody, control_plane, inbound_link, upstream_of, plain_link, relay_of, gateway_link, link_of, UpstreamLaw, OwnAt}
+use Rattle.hb_proxy.specs.Points.{Point, of_control, of_link, of_plain, of_gate, of_stream, entry_in, entries, control_in, control_of, part_in, parts_of, plain_in, plain_of, gate_in, gates_of}
+use Rattle.hb_proxy.specs.Runs.{Steps, StandsFor, begins, goes_on}
+use Rattle.hb_proxy.specs.Shared.{captured_part, gateway_part}
+use Rattle.hb_proxy.proofs.GateChanges.{birth_at}
 use Rattle.hb_proxy.proofs.Known.{are_known}
 use Rattle.hb_proxy.proofs.Own.{own_at, runs_dial_once}
 use Rattle.hb_proxy.proofs.Owned.{whose_in, all_owned, owner_grows}
 use Rattle.hb_proxy.proofs.Places.{short}
+use Rattle.hb_proxy.proofs.StreamParts.{captured_none, gateway_none, relay_came_in, relay_went_in, relay_came_alone, relay_went_alone}
+use Rattle.hb_proxy.proofs.Streamed.{relay_unasked, stream_came_none, stream_went_none}
 
 -- WHICH SIDE A LINK IS
 
@@ -34,6 +39,7 @@ data Side : Type 0 where
   up_side : (link stream : ℕ) → Side
   plain_side : (link : ℕ) → Side
   relay_side : (link : ℕ) → Side
+  gate_side : (link : ℕ) → Side
 
 -- the link u of this owner is this side
 abbrev side_by : ℕ → Owner → Side
@@ -43,6 +49,7 @@ side_by u inbound_link = link_side u
 side_by u (upstream_of l s) = up_side l s
 side_by u plain_link = plain_side u
 side_by u (relay_of l) = relay_side l
+side_by u gateway_link = gate_side u
 
 -- the other way round
 abbrev IsSide : Side → ℕ → Owner → Type 0
@@ -52,6 +59,7 @@ IsSide (link_side n) u o = (u ≡ n) × (o ≡ inbound_link)
 IsSide (up_side l s) u o = o ≡ upstream_of l s
 IsSide (plain_side n) u o = (u ≡ n) × (o ≡ plain_link)
 IsSide (relay_side l) u o = o ≡ relay_of l
+IsSide (gate_side n) u o = (u ≡ n) × (o ≡ gateway_link)
 
 is_side : (side : Side) (u : ℕ) (o : Owner) → side_by u o ≡ side → IsSide side u o
 is_side side u o same = subst (λ (m : Side). IsSide m u o) same (itself u o)
@@ -63,6 +71,7 @@ is_side side u o same = subst (λ (m : Side). IsSide m u o) same (itself u o)
     itself u (upstream_of l s) = refl
     itself u plain_link = (refl, refl)
     itself u (relay_of l) = refl
+    itself u gateway_link = (refl, refl)
 
 -- which side a link is behind these points
 abbrev side_in : List Point → ℕ → Side
@@ -81,6 +90,7 @@ once points law side some u v mine other =
     by (up_side l s) some a b = law.streams l s u v a b
     by (plain_side n) some a b = a.0 ∙ sym b.0
     by (relay_side l) some a b = law.relays l u v a b
+    by (gate_side n) some a b = a.0 ∙ sym b.0
 
 -- WHAT A PART OF A LINK SAYS
 
@@ -89,9 +99,9 @@ abbrev Rests : {A : Type 0} → (A → List Entry) → (A → List ℕ) → Type
 Rests {A} entries_in f = (p : A) → ((z : Entry) → entries_in p ≡ z ∷ [] → link_of z ≡ None) → f p ≡ []
 
 -- The bytes that came, or those that went: on a link of the trace, by an entry, and by a part on its link and on a stream's upstream, and
--- by a part of the plain door on its link and on the upstream
+-- by a part of the plain door on its link and on the upstream; and by one of a link to a gateway
 record IsWay (on : ℕ → Entry → List ℕ) (by : Entry → List ℕ) (link_in : Part → List ℕ) (up_in : ℕ → Part → List ℕ)
-    (captured_in relay_in : captured.Part → List ℕ) : Type 0 where
+    (captured_in relay_in : captured.Part → List ℕ) (gate_in : gateway.Part → List ℕ) : Type 0 where
   mine : (n : ℕ) (z : Entry) → link_of z ≡ Some n → on n z ≡ by z
   others : (n k : ℕ) (z : Entry) → link_of z ≡ Some k → (k ≡ n → ⊥) → on n z ≡ []
   none : (n : ℕ) (z : Entry) → link_of z ≡ None → on n z ≡ []
@@ -107,8 +117,10 @@ record IsWay (on : ℕ → Entry → List ℕ) (by : Entry → List ℕ) (link_i
   relay_up : (z : Entry) → relay_in (captured.up z) ≡ by z
   relay_entry : (z : Entry) → relay_in (captured.entry z) ≡ []
   relay_rests : Rests captured.entry_in relay_in
+  gate_entry : (z : Entry) → gate_in (gateway.entry z) ≡ by z
+  gate_rests : Rests gateway.entry_in gate_in
 
-came : IsWay came_on came_by came_in up_came_in plain.came_in plain.up_came_in
+came : IsWay came_on came_by came_in up_came_in plain.came_in relay_came_in gateway.came_in
 came = record {
   mine = mine;
   others = others;
@@ -125,6 +137,8 @@ came = record {
   relay_up = same;
   relay_entry = λ z. refl;
   relay_rests = relay_rests;
+  gate_entry = gate_same;
+  gate_rests = gate_rests;
 }
   where
     mine : (n : ℕ) (z : Entry) → link_of z ≡ Some n → came_on n z ≡ came_by z
@@ -160,11 +174,19 @@ came = record {
     plain_rests (captured.entry z) rests = same z ∙ silent z (rests z refl)
     plain_rests _ rests = refl
 
-    relay_rests : Rests captured.entry_in plain.up_came_in
+    relay_rests : Rests captured.entry_in relay_came_in
     relay_rests (captured.up z) rests = same z ∙ silent z (rests z refl)
     relay_rests _ rests = refl
 
-went : IsWay went_on went_by went_in up_went_in plain.went_in plain.up_went_in
+    gate_same : (z : Entry) → gateway.came_by z ≡ came_by z
+    gate_same (e.Came j bytes) = refl
+    gate_same _ = refl
+
+    gate_rests : Rests gateway.entry_in gateway.came_in
+    gate_rests (gateway.entry z) rests = gate_same z ∙ silent z (rests z refl)
+    gate_rests _ rests = refl
+
+went : IsWay went_on went_by went_in up_went_in plain.went_in relay_went_in gateway.went_in
 went = record {
   mine = mine;
   others = others;
@@ -181,6 +203,8 @@ went = record {
   relay_up = same;
   relay_entry = λ z. refl;
   relay_rests = relay_rests;
+  gate_entry = gate_same;
+  gate_rests = gate_rests;
 }
   where
     mine : (n : ℕ) (z : Entry) → link_of z ≡ Some n → went_on n z ≡ went_by z
@@ -216,9 +240,17 @@ went = record {
     plain_rests (captured.entry z) rests = same z ∙ silent z (rests z refl)
     plain_rests _ rests = refl
 
-    relay_rests : Rests captured.entry_in plain.up_went_in
+    relay_rests : Rests captured.entry_in relay_went_in
     relay_rests (captured.up z) rests = same z ∙ silent z (rests z refl)
     relay_rests _ rests = refl
+
+    gate_same : (z : Entry) → gateway.wrote_by z ≡ went_by z
+    gate_same (e.Went j bytes) = refl
+    gate_same _ = refl
+
+    gate_rests : Rests gateway.entry_in gateway.went_in
+    gate_rests (gateway.entry z) rests = gate_same z ∙ silent z (rests z refl)
+    gate_rests _ rests = refl
 
 -- what is said of the parts of a link in a run, behind one point more
 said_more : {A B : Type 0} (f : A → List B) (parts : Point → List A) (points : List Point) (p : Point)
@@ -238,7 +270,8 @@ module _ {A : Type 0} (f : A → List ℕ) (l n : ℕ) (p : A) where
       cond_both (l == n) (p ∷ []) [] (λ ps. flat_map f ps ≡ []) (λ same. ap (λ b. b ++ []) none) (λ apart. refl)
 
 module _ (on : ℕ → Entry → List ℕ) (by : Entry → List ℕ) (link_in : Part → List ℕ) (up_in : ℕ → Part → List ℕ)
-    (captured_in relay_in : captured.Part → List ℕ) (way : IsWay on by link_in up_in captured_in relay_in) where
+    (captured_in relay_in : captured.Part → List ℕ) (gate_said : gateway.Part → List ℕ)
+    (way : IsWay on by link_in up_in captured_in relay_in gate_said) where
   -- what a point says of a link of the trace, and of a side of its part; and what a run does
   abbrev told : ℕ → Point → List ℕ
   told n p = flat_map (on n) (entry_in p)
@@ -250,6 +283,7 @@ module _ (on : ℕ → Entry → List ℕ) (by : Entry → List ℕ) (link_in : 
   tells (up_side l s) p = flat_map (up_in s) (part_in l p)
   tells (plain_side l) p = flat_map captured_in (plain_in l p)
   tells (relay_side l) p = flat_map relay_in (plain_in l p)
+  tells (gate_side n) p = flat_map gate_said (gate_in n p)
 
   abbrev all_told : List Point → ℕ → List ℕ
   all_told points n = flat_map (on n) (entries points)
@@ -261,6 +295,7 @@ module _ (on : ℕ → Entry → List ℕ) (by : Entry → List ℕ) (link_in : 
   all_tell points (up_side l s) = flat_map (up_in s) (parts_of l points)
   all_tell points (plain_side l) = flat_map captured_in (plain_of l points)
   all_tell points (relay_side l) = flat_map relay_in (plain_of l points)
+  all_tell points (gate_side n) = flat_map gate_said (gates_of n points)
 
   -- a side says what the trace says of the link that is it, and nothing where none is
   record Shares (side_of : ℕ → Side) (all : ℕ → List ℕ) (tell : Side → List ℕ) : Type 0 where
@@ -278,12 +313,17 @@ module _ (on : ℕ → Entry → List ℕ) (by : Entry → List ℕ) (link_in : 
   abbrev OnNone : Point → Type 0
   OnNone p = (z : Entry) → entry_in p ≡ z ∷ [] → link_of z ≡ None
 
+  no_entry : {z : Entry} → [] ≡ z ∷ [] → ⊥
+  no_entry is = cc
+
   parts_rest : (f : Part → List ℕ) → Rests part.entry_in f → (l : ℕ) (p : Point) → OnNone p → flat_map f (part_in l p) ≡ []
   parts_rest f rests l (of_control (point.applied k r)) none = ap (λ b. b ++ []) (rests (part.applied r) (λ z is. absurd cc))
   parts_rest f rests l (of_control (point.stopped why)) none = ap (λ b. b ++ []) (rests (part.stopped why) (λ z is. absurd cc))
   parts_rest f rests l (of_control q) none = refl
   parts_rest f rests l (of_link k p) none = said_none f k l p (rests p none)
   parts_rest f rests l (of_plain k p) none = refl
+  parts_rest f rests l (of_gate n p) none = refl
+  parts_rest f rests l (of_stream k n s w) none = refl
 
   plain_rest : (f : captured.Part → List ℕ) → Rests captured.entry_in f → (l : ℕ) (p : Point) → OnNone p → flat_map f (plain_in l p) ≡ []
   plain_rest f rests l (of_control (point.applied k r)) none = ap (λ b. b ++ []) (rests (captured.applied r) (λ z is. absurd cc))
@@ -291,6 +331,18 @@ module _ (on : ℕ → Entry → List ℕ) (by : Entry → List ℕ) (link_in : 
   plain_rest f rests l (of_control q) none = refl
   plain_rest f rests l (of_link k p) none = refl
   plain_rest f rests l (of_plain k p) none = said_none f k l p (rests p none)
+  plain_rest f rests l (of_gate n p) none = refl
+  plain_rest f rests l (of_stream k n s w) none =
+      said_none f k l (captured_part n s w) (rests (captured_part n s w) (λ z is. absurd (no_entry (sym (captured_none n s w) ∙ is))))
+
+  gate_rest : (f : gateway.Part → List ℕ) → Rests gateway.entry_in f → (n : ℕ) (p : Point) → OnNone p → flat_map f (gate_in n p) ≡ []
+  gate_rest f rests n (of_control (point.stopped why)) none = ap (λ b. b ++ []) (rests (gateway.stopped why) (λ z is. absurd cc))
+  gate_rest f rests n (of_control q) none = refl
+  gate_rest f rests n (of_link k p) none = refl
+  gate_rest f rests n (of_plain k p) none = refl
+  gate_rest f rests n (of_gate k p) none = said_none f k n p (rests p none)
+  gate_rest f rests n (of_stream l k s w) none =
+      said_none f k n (gateway_part l s w) (rests (gateway_part l s w) (λ z is. absurd (no_entry (sym (gateway_none l s w) ∙ is))))
 
   side_rests : (side : Side) (p : Point) → OnNone p → tells side p ≡ []
   side_rests no_side p none = refl
@@ -298,10 +350,13 @@ module _ (on : ℕ → Entry → List ℕ) (by : Entry → List ℕ) (link_in : 
   side_rests (control_side n) (of_control q) none = refl
   side_rests (control_side n) (of_link l p) none = refl
   side_rests (control_side n) (of_plain l p) none = refl
+  side_rests (control_side n) (of_gate k p) none = refl
+  side_rests (control_side n) (of_stream l k s w) none = refl
   side_rests (link_side l) p none = parts_rest link_in way.link_rests l p none
   side_rests (up_side l s) p none = parts_rest (up_in s) (way.up_rests s) l p none
   side_rests (plain_side l) p none = plain_rest captured_in way.plain_rests l p none
   side_rests (relay_side l) p none = plain_rest relay_in way.relay_rests l p none
+  side_rests (gate_side n) p none = gate_rest gate_said way.gate_rests n p none
 
   told_rests : (u : ℕ) (p : Point) → OnNone p → told u p ≡ []
   told_rests u p none =
@@ -440,7 +495,26 @@ module _ (on : ℕ → Entry → List ℕ) (by : Entry → List ℕ) (link_in : 
       )
       relay_says side = inr (differs (relay_side l) (ap (side_by k) mine) side (λ same. cc), refl)
 
+    module _ (n : ℕ) (at_n : k ≡ n) (mine : whose_in before k ≡ gateway_link) where
+      gate_says : (side : Side) → Says (of_gate n (gateway.entry z)) side
+      gate_says (gate_side j) =
+          ⊎_elim (λ same. inl (
+            ap (side_by k) mine ∙ ap gate_side (at_n ∙ same),
+            said_here gate_said n j (gateway.entry z) same ∙ ap (λ b. b ++ []) (way.gate_entry z),
+          ))
+          (λ apart. inr (
+            differs (gate_side k) (ap (side_by k) mine) (gate_side j) (λ same. apart (sym at_n ∙ (cc))),
+            said_else gate_said n j (gateway.entry z) apart,
+          ))
+          (cases_eq n j)
+      gate_says side = inr (differs (gate_side k) (ap (side_by k) mine) side (λ same. cc), refl)
+
   -- EVERY POINT, WHERE ITS ENTRY STANDS ON A LINK OF ITS OWN
+
+  -- a dial of a link to a gateway stands on none
+  abbrev StandsNowhere : Point → Type 0
+  StandsNowhere (of_gate n (gateway.dialled z key)) = link_of z ≡ None
+  StandsNowhere p = Unit {0}
 
   module _ (before : List Point) (law : UpstreamLaw (entries before)) where
     -- an entry stands on no link, or on one of which this holds
@@ -459,30 +533,39 @@ module _ (on : ℕ → Entry → List ℕ) (by : Entry → List ℕ) (link_in : 
     owned : (k : ℕ) (o : Owner) → whose_in before k ≡ o → side_by k o ≢ no_side → side_in before k ≢ no_side
     owned k o mine some same = some (sym (ap (side_by k) mine) ∙ same)
 
-    point_shares : (p : Point) → OwnAt before p → SharesAt before p
-    point_shares (of_control (point.entry z)) own =
+    point_shares : (p : Point) → OwnAt before p → StandsNowhere p → SharesAt before p
+    point_shares (of_control (point.entry z)) own dial =
         by_link (λ k. whose_in before k ≡ control_plane) z (of_control (point.entry z)) refl own
         (λ k is h. entry_shares before z k is law (owned k control_plane h (λ same. cc)) (of_control (point.entry z)) refl
         (control_says before z k is h))
-    point_shares (of_link l (part.entry z)) own =
+    point_shares (of_link l (part.entry z)) own dial =
         by_link (λ k. (k ≡ l) × (whose_in before k ≡ inbound_link)) z (of_link l (part.entry z)) refl own
         (λ k is h. entry_shares before z k is law (owned k inbound_link h.1 (λ same. cc)) (of_link l (part.entry z)) refl
         (link_says before z k is l h.0 h.1))
-    point_shares (of_link l (part.up s z)) own =
+    point_shares (of_link l (part.up s z)) own dial =
         by_link (λ k. whose_in before k ≡ upstream_of l s) z (of_link l (part.up s z)) refl own
         (λ k is h. entry_shares before z k is law (owned k (upstream_of l s) h (λ same. cc)) (of_link l (part.up s z)) refl
         (up_says before z k is l s h))
-    point_shares (of_plain l (captured.entry z)) own =
+    point_shares (of_plain l (captured.entry z)) own dial =
         by_link (λ k. (k ≡ l) × (whose_in before k ≡ plain_link)) z (of_plain l (captured.entry z)) refl own
         (λ k is h. entry_shares before z k is law (owned k plain_link h.1 (λ same. cc)) (of_plain l (captured.entry z)) refl
         (plain_says before z k is l h.0 h.1))
-    point_shares (of_plain l (captured.up z)) own =
+    point_shares (of_plain l (captured.up z)) own dial =
         by_link (λ k. whose_in before k ≡ relay_of l) z (of_plain l (captured.up z)) refl own
         (λ k is h. entry_shares before z k is law (owned k (relay_of l) h (λ same. cc)) (of_plain l (captured.up z)) refl
         (relay_says before z k is l h))
-    point_shares (of_control q) own = rests_shares before (of_control q) (λ z told_z. absurd cc)
-    point_shares (of_link l p) own = rests_shares before (of_link l p) (λ z told_z. absurd cc)
-    point_shares (of_plain l p) own = rests_shares before (of_plain l p) (λ z told_z. absurd cc)
+    point_shares (of_gate n (gateway.entry z)) own dial =
+        by_link (λ k. (k ≡ n) × (whose_in before k ≡ gateway_link)) z (of_gate n (gateway.entry z)) refl own
+        (λ k is h. entry_shares before z k is law (owned k gateway_link h.1 (λ same. cc)) (of_gate n (gateway.entry z)) refl
+        (gate_says before z k is n h.0 h.1))
+    point_shares (of_gate n (gateway.dialled z key)) own dial =
+        rests_shares before (of_gate n (gateway.dialled z key))
+        (λ y told_y. (let same : z ≡ y = cc in subst (λ (v : Entry). link_of v ≡ None) same dial))
+    point_shares (of_control q) own dial = rests_shares before (of_control q) (λ z told_z. absurd cc)
+    point_shares (of_link l p) own dial = rests_shares before (of_link l p) (λ z told_z. absurd cc)
+    point_shares (of_plain l p) own dial = rests_shares before (of_plain l p) (λ z told_z. absurd cc)
+    point_shares (of_gate n p) own dial = rests_shares before (of_gate n p) (λ z told_z. absurd cc)
+    point_shares (of_stream l n s w) own dial = rests_shares before (of_stream l n s w) (λ z told_z. absurd cc)
 
   -- ONE POINT MORE
 
@@ -500,6 +583,7 @@ module _ (on : ℕ → Entry → List ℕ) (by : Entry → List ℕ) (link_in : 
   tell_more points p (up_side l s) = said_more (up_in s) (part_in l) points p
   tell_more points p (plain_side l) = said_more captured_in (plain_in l) points p
   tell_more points p (relay_side l) = said_more relay_in (plain_in l) points p
+  tell_more points p (gate_side n) = said_more gate_said (gate_in n) points p
 
   module _ (points : List Point) (p : Point) (so_far : SharesIn points) (now : SharesAt points p)
       (grows : Grows (side_in points) (side_in (points ++ p ∷ []))) (law : UpstreamLaw (entries (points ++ p ∷ []))) where
@@ -552,14 +636,54 @@ module _ (on : ℕ → Entry → List ℕ) (by : Entry → List ℕ) (link_in : 
   all_share g y more (goes_on {x = x} {points = points} stands p steps are) =
       subst (λ (ps : List Point). SharesIn ps) (sym are)
       (share_more points p (all_share g x points stands)
-      (point_shares points (runs_dial_once g x points stands) p (own_at g x points (all_owned g x points stands) p y steps))
+      (point_shares points (runs_dial_once g x points stands) p (own_at g x points (all_owned g x points stands) p y steps)
+      (nowhere p steps))
       (λ n. ⊎_elim (λ none. inl (ap (side_by n) none)) (λ same. inr (ap (side_by n) same)) (owner_grows g x points stands p y steps n))
       (runs_dial_once g y (points ++ p ∷ []) (goes_on stands p steps refl)))
+    where
+      nowhere : (p : Point) → Steps g x p y → StandsNowhere p
+      nowhere (of_gate n (gateway.dialled z key)) steps = ap link_of (birth_at n (x.gates n) z key steps.1.0).0.4
+      nowhere (of_gate n (gateway.entry z)) steps = tt
+      nowhere (of_gate n gateway.lacked) steps = tt
+      nowhere (of_gate n (gateway.looked ps told_is headers)) steps = tt
+      nowhere (of_gate n (gateway.asks s l authority)) steps = tt
+      nowhere (of_gate n (gateway.tells s heard begun)) steps = tt
+      nowhere (of_gate n (gateway.put s bytes count)) steps = tt
+      nowhere (of_gate n (gateway.finished s)) steps = tt
+      nowhere (of_gate n (gateway.credited s count)) steps = tt
+      nowhere (of_gate n (gateway.reset s code)) steps = tt
+      nowhere (of_gate n (gateway.dropped s begun)) steps = tt
+      nowhere (of_gate n (gateway.done s begun)) steps = tt
+      nowhere (of_gate n (gateway.stopped why)) steps = tt
+      nowhere (of_control q) steps = tt
+      nowhere (of_link l q) steps = tt
+      nowhere (of_plain l q) steps = tt
+      nowhere (of_stream l n s w) steps = tt
+
+-- on a plain link without a stream what came of the tunnel, and what went there, is of its upstream
+came_raw : (g : NodeConfig) (x : Machine) (points : List Point) → StandsFor g x points → (l : ℕ)
+    → plain.was plain.is_asked (plain_of l points) ≡ false → plain.up_came (plain_of l points) ≡ flat_map relay_came_in (plain_of l points)
+came_raw g x points stands l none = relay_came_alone (plain_of l points) (stream_came_none g x points stands l none)
+
+went_raw : (g : NodeConfig) (x : Machine) (points : List Point) → StandsFor g x points → (l : ℕ)
+    → plain.was plain.is_asked (plain_of l points) ≡ false → plain.up_went (plain_of l points) ≡ flat_map relay_went_in (plain_of l points)
+went_raw g x points stands l none = relay_went_alone (plain_of l points) (stream_went_none g x points stands l none)
+
+-- one that has no upstream has no bytes of one
+pub no_upstream : (g : NodeConfig) (x : Machine) (points : List Point) → StandsFor g x points → (l : ℕ)
+    → ((u : ℕ) → whose_in points u ≢ relay_of l)
+    → (flat_map relay_came_in (plain_of l points) ≡ []) × (flat_map relay_went_in (plain_of l points) ≡ [])
+no_upstream g x points stands l none = (
+  (all_share came_on came_by came_in up_came_in plain.came_in relay_came_in gateway.came_in came g x points stands).none (relay_side l)
+      (λ u same. none u (is_side (relay_side l) u (whose_in points u) same)),
+  (all_share went_on went_by went_in up_went_in plain.went_in relay_went_in gateway.went_in went g x points stands).none (relay_side l)
+      (λ u same. none u (is_side (relay_side l) u (whose_in points u) same)),
+)
 
 pub runs_share : RunsShareSides
 runs_share g x points stands =
-    let c = all_share came_on came_by came_in up_came_in plain.came_in plain.up_came_in came g x points stands in
-    let w = all_share went_on went_by went_in up_went_in plain.went_in plain.up_went_in went g x points stands in
+    let c = all_share came_on came_by came_in up_came_in plain.came_in relay_came_in gateway.came_in came g x points stands in
+    let w = all_share went_on went_by went_in up_went_in plain.went_in relay_went_in gateway.went_in went g x points stands in
     record {
       known = are_known g x points stands;
       control = λ l is. record {
@@ -583,11 +707,19 @@ runs_share g x points stands =
         went = sym (w.is (plain_side l) l (ap (side_by l) is));
       };
       relay = λ l u is. record {
-        came = sym (c.is (relay_side l) u (ap (side_by u) is));
-        went = sym (w.is (relay_side l) u (ap (side_by u) is));
+        came = sym (c.is (relay_side l) u (ap (side_by u) is))
+            ∙ sym (came_raw g x points stands l (relay_unasked g x points stands l u is));
+        went = sym (w.is (relay_side l) u (ap (side_by u) is))
+            ∙ sym (went_raw g x points stands l (relay_unasked g x points stands l u is));
       };
-      no_relay = λ l none. record {
-        came = c.none (relay_side l) (λ u same. none u (is_side (relay_side l) u (whose_in points u) same));
-        went = w.none (relay_side l) (λ u same. none u (is_side (relay_side l) u (whose_in points u) same));
+      no_relay = λ l none unasked.
+          let no = no_upstream g x points stands l none in
+          record {
+            came = came_raw g x points stands l unasked ∙ no.0;
+            went = went_raw g x points stands l unasked ∙ no.1;
+          };
+      gate = λ n is. record {
+        came = sym (c.is (gate_side n) n (ap (side_by n) is));
+        went = sym (w.is (gate_side n) n (ap (side_by n) is));
       };
     }

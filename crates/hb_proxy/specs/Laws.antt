@@ -9,6 +9,12 @@ use Rattle.hb_captured.specs.Runs as plain
 use Rattle.hb_captured.specs.Settled as plain_settled
 use Rattle.hb_captured.specs.Sides as plain_sides
 use Rattle.hb_captured.specs.Verdicts as plain_verdicts
+use Rattle.hb_gateway.specs.Asks.{AskLaw}
+use Rattle.hb_gateway.specs.Connections as gateway_connections
+use Rattle.hb_gateway.specs.Connections.{IsOneHistory}
+use Rattle.hb_gateway.specs.Part as gateway_part
+use Rattle.hb_gateway.specs.Runs as gateway
+use Rattle.hb_gateway.specs.Sides.{BringLaw, SendLaw, CountLaw}
 use Rattle.hb_held.specs.Held.{Resources}
 use Rattle.hb_inbound.specs.Closes.{CloseLaw}
 use Rattle.hb_inbound.specs.Connections.{ConnectionLaw, WindowLaw}
@@ -33,10 +39,11 @@ use Rattle.hb_proxy.specs.Ends.{EndLaw}
 use Rattle.hb_proxy.specs.Held.{at_start}
 use Rattle.hb_proxy.specs.Machine.{Machine, local, plain_local}
 use Rattle.hb_proxy.specs.Owners.{OwnLaw, NumberLaw, UpstreamLaw}
-use Rattle.hb_proxy.specs.Points.{Point, entries, control_of, parts_of, plain_of}
+use Rattle.hb_proxy.specs.Points.{Point, entries, control_of, parts_of, plain_of, gates_of}
 use Rattle.hb_proxy.specs.Relay.{RelayLaw}
 use Rattle.hb_proxy.specs.Runs.{StandsFor}
 use Rattle.hb_proxy.specs.Sides.{SideLaw}
+use Rattle.hb_proxy.specs.Streams.{PoolLaw}
 
 -- THE PARTS
 
@@ -53,6 +60,10 @@ LinksRun = (g : NodeConfig) (x : Machine) (points : List Point) (l : ℕ) → St
 abbrev pub PlainRuns : Type 0
 PlainRuns = (g : NodeConfig) (x : Machine) (points : List Point) (l : ℕ) → StandsFor g x points
     → plain.StandsFor l (at_start g) (plain_local x l) (plain_of l points)
+
+abbrev pub GatesRun : Type 0
+GatesRun = (g : NodeConfig) (x : Machine) (points : List Point) (n : ℕ) → StandsFor g x points
+    → gateway.StandsFor n (x.gates n) (gates_of n points)
 
 -- so what is held, by the control plane and at each link, is what the control plane's responses make
 abbrev pub ControlHolds : Type 0
@@ -124,6 +135,22 @@ pub record PlainLaws (start : Resources) (l : ℕ) (parts : List captured.Part) 
 abbrev pub RunsObeyPlain : Type 0
 RunsObeyPlain = (g : NodeConfig) (x : Machine) (points : List Point) (l : ℕ) → StandsFor g x points
     → PlainLaws (at_start g) l (plain_of l points)
+
+-- and of a link to a gateway
+pub record GateLaws (parts : List gateway_part.Part) : Type 0 where
+  pub connection : IsOneHistory parts
+  pub windows : gateway_connections.WindowLaw parts
+  pub asks : AskLaw parts
+  pub brings : BringLaw parts
+  pub sends : SendLaw parts
+  pub counts : CountLaw parts
+
+abbrev pub RunsObeyGates : Type 0
+RunsObeyGates = (g : NodeConfig) (x : Machine) (points : List Point) (n : ℕ) → StandsFor g x points → GateLaws (gates_of n points)
+
+-- which of these a tunnel takes
+abbrev pub RunsTake : Type 0
+RunsTake = (g : NodeConfig) (x : Machine) (points : List Point) → StandsFor g x points → PoolLaw g points
 
 -- WHAT IS SAID OF THE CONTROL PLANE
 

@@ -7,7 +7,7 @@ use Rattle.hb_inbound.specs.Part.{Part}
 use Rattle.hb_inbound.specs.Runs.{Local}
 use Rattle.hb_inbound.specs.Runs as inbound
 use Rattle.hb_model.specs.declared.config.NodeConfig.{NodeConfig}
-use Rattle.hb_proxy.specs.Machine.{Machine, local, plain_local}
+use Rattle.hb_proxy.specs.Machine.{Machine, local, plain_local, with_plain}
 use Rattle.hb_proxy.specs.Points.{Point, of_link, of_plain}
 use Rattle.hb_proxy.specs.Runs.{LinkGuard, PlainGuard, StandsFor}
 
@@ -32,6 +32,7 @@ pub record GoesOn (g : NodeConfig) (x : Machine) (points : List Point) (l : ℕ)
   pub others : (k : ℕ) → k ≢ l → y.inbound k ≡ x.inbound k
   pub control : y.control ≡ x.control
   pub plain : y.plain ≡ x.plain
+  pub gates : y.gates ≡ x.gates
 
 -- what follows by itself on a link follows in the whole
 abbrev pub LinksLead : Type 0
@@ -48,28 +49,38 @@ LinksStep = (g : NodeConfig) (x : Machine) (points : List Point) (l : ℕ) (p : 
 abbrev pub IsPlainInner : captured_part.Part → Type 0
 IsPlainInner (captured_part.entry e) = ⊥
 IsPlainInner (captured_part.up e) = ⊥
+IsPlainInner (captured_part.asked gate stream) = ⊥
+IsPlainInner (captured_part.hears heard begun) = ⊥
+IsPlainInner (captured_part.put bytes) = ⊥
+IsPlainInner captured_part.finished = ⊥
+IsPlainInner (captured_part.credited n) = ⊥
+IsPlainInner (captured_part.loosed begun) = ⊥
+IsPlainInner (captured_part.completed begun note) = ⊥
 IsPlainInner (captured_part.applied r) = ⊥
 IsPlainInner (captured_part.stopped cause) = ⊥
 IsPlainInner _ = ⊤
 
-abbrev pub PlainLeads : (l : ℕ) → captured.Local → List captured_part.Part → captured.Local → Type 0
-PlainLeads l a [] b = b ≡ a
-PlainLeads l a (p ∷ parts) b = IsPlainInner p × captured.MayGo l a p × PlainLeads l (captured.next a p) parts b
+-- such parts lead from one machine to another, where the whole lets them
+abbrev pub PlainLeads : NodeConfig → (l : ℕ) → Machine → List captured_part.Part → Machine → Type 0
+PlainLeads g l x [] y = y ≡ x
+PlainLeads g l x (p ∷ parts) y =
+    IsPlainInner p × captured.MayGo l (plain_local x l) p × PlainGuard g x l p
+    × PlainLeads g l (with_plain l p (captured.next_link (x.plain l) p) x) parts y
 
-pub record PlainGoesOn (g : NodeConfig) (x : Machine) (points : List Point) (l : ℕ) (parts : List captured_part.Part) (b : captured.Local)
+-- the run goes on by them to that machine, and no other part changes
+pub record PlainGoesOn (g : NodeConfig) (x : Machine) (points : List Point) (l : ℕ) (parts : List captured_part.Part) (y : Machine)
     : Type 0 where
-  pub y : Machine
   pub stands : StandsFor g y (points ++ map (of_plain l) parts)
-  pub reached : plain_local y l ≡ b
   pub others : (k : ℕ) → k ≢ l → y.plain k ≡ x.plain k
   pub control : y.control ≡ x.control
   pub inbound : y.inbound ≡ x.inbound
+  pub gates : y.gates ≡ x.gates
 
 abbrev pub PlainLinksLead : Type 0
-PlainLinksLead = (g : NodeConfig) (x : Machine) (points : List Point) (l : ℕ) (parts : List captured_part.Part) (b : captured.Local)
-    → StandsFor g x points → PlainLeads l (plain_local x l) parts b → PlainGoesOn g x points l parts b
+PlainLinksLead = (g : NodeConfig) (x y : Machine) (points : List Point) (l : ℕ) (parts : List captured_part.Part)
+    → StandsFor g x points → PlainLeads g l x parts y → PlainGoesOn g x points l parts y
 
 abbrev pub PlainLinksStep : Type 0
 PlainLinksStep = (g : NodeConfig) (x : Machine) (points : List Point) (l : ℕ) (p : captured_part.Part)
-    → StandsFor g x points → PlainGuard x l p → captured.MayGo l (plain_local x l) p
-    → PlainGoesOn g x points l (p ∷ []) (captured.next (plain_local x l) p)
+    → StandsFor g x points → PlainGuard g x l p → captured.MayGo l (plain_local x l) p
+    → PlainGoesOn g x points l (p ∷ []) (with_plain l p (captured.next_link (x.plain l) p) x)

@@ -19,5 +19,8 @@ pub mod Seen
 pub mod SeenRefused
 pub mod Settled
 pub mod SettledRefused
+pub mod Shared
 pub mod Sides
+pub mod Streams
+pub mod StreamsRefused
 pub mod Ups

@@ -1,9 +1,10 @@
 -- Small steps and runs of a link of the outbound door: what no run of the whole proxy does, and what may go, unlike at the plain door.
-use Rattle.std.specs.Prelude.{◌≡◌, ℕ, true, List, [], ◌∷◌, ◌++◌, map}
+use Rattle.std.specs.Prelude.{◌≡◌, ℕ, true, List, [], ◌∷◌, ◌++◌, map, None}
 use Rattle.hb_base.specs.declared.door.Door.TheVariants as door
 use Rattle.hb_base.specs.declared.door.Why.TheVariants as whys
 use Rattle.hb_base.specs.declared.note.Note.{Note}
 use Rattle.hb_base.specs.declared.target.Target.{Target}
+use Rattle.hb_captured.specs.Answer.{straight_to, unrouted}
 use Rattle.hb_captured.specs.Part as captured
 use Rattle.hb_captured.specs.Refused as plain
 use Rattle.hb_disco.specs.declared.response.Response.{Response}
@@ -57,8 +58,8 @@ abbrev pub outbound_updated : (control : Target) → List ℕ → Seen → (addr
 outbound_updated control bytes seen address note r =
     of_control (point.entry (e.Dialled 1 control whys.Discovery))
     ∷ map (of_plain 2) (captured.entry (e.Accepted 2 door.Outbound) ∷ captured.welcomed ∷ captured.entry (e.Came 2 bytes)
-    ∷ captured.fronted seen address ∷ captured.up (e.Dialled 3 address (whys.Direct 2)) ∷ captured.up (e.Opened 3)
-    ∷ captured.accepted note ∷ [])
+    ∷ captured.fronted seen unrouted (straight_to address None) ∷ captured.up (e.Dialled 3 address (whys.Direct 2))
+    ∷ captured.up (e.Opened 3) ∷ captured.accepted note ∷ [])
     ++ of_control (point.applied 1 r) ∷ []
 
 -- behind one that wouldn't admit its peer bytes may go on to the upstream, and to the link

@@ -5,6 +5,7 @@ use Rattle.hb_base.specs.declared.door.Door.TheVariants as door
 use Rattle.hb_base.specs.declared.door.Why.{Why}
 use Rattle.hb_base.specs.declared.door.Why.TheVariants as whys
 use Rattle.hb_captured.specs.Part as captured
+use Rattle.hb_gateway.specs.Part as gateway
 use Rattle.hb_inbound.specs.Part as part
 use Rattle.hb_inbound.specs.Part.{Part}
 use Rattle.hb_model.specs.Point as point
@@ -14,7 +15,7 @@ use Rattle.hb_world.specs.declared.entry.Entry.{Entry}
 use Rattle.hb_world.specs.declared.entry.Entry.TheVariants as e
 use Rattle.hb_world.specs.declared.entry.Way.{Way}
 use Rattle.hb_world.specs.declared.entry.Way.TheVariants as way
-use Rattle.hb_proxy.specs.Points.{Point, of_control, of_link, of_plain, entries}
+use Rattle.hb_proxy.specs.Points.{Point, of_control, of_link, of_plain, of_gate, of_stream, entries}
 
 pub data Owner : Type 0 where
   nobody : Owner
@@ -28,6 +29,8 @@ pub data Owner : Type 0 where
   plain_link : Owner
   -- the upstream of a plain link
   relay_of : (link : ℕ) → Owner
+  -- a link to a gateway
+  gateway_link : Owner
 
 abbrev pub at_door : Door → Owner
 at_door door.Inbound = inbound_link
@@ -39,7 +42,7 @@ dialled_for whys.Discovery = control_plane
 dialled_for (whys.Upstream link stream) = upstream_of link stream
 dialled_for (whys.Plain link) = relay_of link
 dialled_for (whys.Direct link) = relay_of link
-dialled_for _ = nobody
+dialled_for (whys.Gateway link) = gateway_link
 
 abbrev pub owner_by : ℕ → Owner → Entry → Owner
 owner_by n owner (e.Accepted l d) = if l == n then at_door d else owner
@@ -89,6 +92,11 @@ PlainStands before l (captured.entry e) = StandsAs before l plain_link e
 PlainStands before l (captured.up e) = StandsOn before (relay_of l) e
 PlainStands before l _ = ⊤
 
+abbrev pub GateStands : List Entry → ℕ → gateway.Part → Type 0
+GateStands before g (gateway.entry e) = StandsAs before g gateway_link e
+GateStands before g (gateway.dialled e key) = StandsAs before g gateway_link e
+GateStands before g _ = ⊤
+
 abbrev pub ControlStands : List Entry → point.Point → Type 0
 ControlStands before (point.entry e) = StandsOn before control_plane e
 ControlStands before _ = ⊤
@@ -97,6 +105,8 @@ abbrev pub OwnAt : List Point → Point → Type 0
 OwnAt before (of_control q) = ControlStands (entries before) q
 OwnAt before (of_link l p) = PartStands (entries before) l p
 OwnAt before (of_plain l p) = PlainStands (entries before) l p
+OwnAt before (of_gate g p) = GateStands (entries before) g p
+OwnAt before (of_stream l g s w) = ⊤
 
 -- at each place of a run: what holds of the points before it and of the point there
 abbrev pub AtEach : (List Point → Point → Type 0) → List Point → Type 0

@@ -5,10 +5,9 @@ use Rattle.hb_base.specs.declared.door.Door.TheVariants as door
 use Rattle.hb_base.specs.declared.door.Why.TheVariants as whys
 use Rattle.hb_base.specs.declared.target.Target.{Target}
 use Rattle.hb_captured.specs.Calm.{longest_front}
-use Rattle.hb_captured.specs.Captured.{fronting, due, opening, live, over, may_shut_up, may_shut}
+use Rattle.hb_captured.specs.Captured.{fronting, due, opening, live, over, ring_up, ring_down, may_shut_up, may_shut}
 use Rattle.hb_model.specs.declared.config.NodeConfig.{NodeConfig}
 use Rattle.hb_ready.specs.Sight.{asleep}
-use Rattle.hb_tunnel.specs.Tunnel.{up_size, down_size}
 use Rattle.hb_world.specs.declared.entry.Entry.{Entry}
 use Rattle.hb_world.specs.declared.entry.Entry.TheVariants as e
 use Rattle.hb_world.specs.declared.entry.Way.TheVariants as way
@@ -31,13 +30,13 @@ KeepsDown = (g : NodeConfig) (x : Machine) (points : List Point) (trace : List E
 -- or while its front header isn't whole
 abbrev pub LeavesUpUnread : Type 0
 LeavesUpUnread = (g : NodeConfig) (x : Machine) (points : List Point) (trace : List Entry) (l u : ℕ) → (x.plain l).stage ≡ live
-    → IsRelayOf (x.plain l) u → (x.plain l).ways.down.has_ended ≡ false → length (x.plain l).ways.down.held < down_size
+    → IsRelayOf (x.plain l) u → (x.plain l).ways.down.has_ended ≡ false → length (x.plain l).ways.down.held < ring_down (x.plain l).door
     → asleep (way.Read u) trace ≡ false → IsSettled g x points trace → ⊥
 
 abbrev pub LeavesUnread : Type 0
 LeavesUnread = (g : NodeConfig) (x : Machine) (points : List Point) (trace : List Entry) (l : ℕ)
     → ((x.plain l).stage ≡ opening) ⊎ ((x.plain l).stage ≡ live) → (x.plain l).ways.up.has_ended ≡ false
-    → length (x.plain l).ways.up.held < up_size → asleep (way.Read l) trace ≡ false → IsSettled g x points trace → ⊥
+    → length (x.plain l).ways.up.held < ring_up (x.plain l).door → asleep (way.Read l) trace ≡ false → IsSettled g x points trace → ⊥
 
 abbrev pub LeavesFrontUnread : Type 0
 LeavesFrontUnread = (g : NodeConfig) (x : Machine) (points : List Point) (trace : List Entry) (l : ℕ)

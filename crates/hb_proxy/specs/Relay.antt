@@ -1,14 +1,17 @@
 -- The relay law over the whole trace: what is written to each side of a tunnel is a front of what came from the other.
-use Rattle.std.specs.Prelude.{◌≡◌, ◌≢◌, ℕ, List, [], ◌++◌}
-use Rattle.hb_captured.specs.Sides.{header_of, behind}
+use Rattle.std.specs.Prelude.{◌≡◌, ◌≢◌, ℕ, false, List, [], ◌++◌}
+use Rattle.hb_captured.specs.Sides.{header_of, behind, was, is_asked}
 use Rattle.hb_frames.specs.RawFrame.{RawFrame}
+use Rattle.hb_gateway.specs.Connections.{IsOneHistory}
+use Rattle.hb_gateway.specs.Sides.{came_on}
 use Rattle.hb_inbound.specs.Relay.{MayGoUp, MayEnd}
 use Rattle.hb_inbound.specs.Sides.{stream_came}
 use Rattle.hb_kept.specs.Payloads.{Began, payloads}
 use Rattle.hb_world.specs.Trace.{recv, sent}
 use Rattle.hb_proxy.specs.Owners.{owner, inbound_link, upstream_of, relay_of, plain_link}
-use Rattle.hb_proxy.specs.Points.{Point, entries, parts_of, plain_of}
+use Rattle.hb_proxy.specs.Points.{Point, entries, parts_of, plain_of, gates_of}
 use Rattle.hb_proxy.specs.Sides.{AtParts}
+use Rattle.hb_proxy.specs.Streams.{IsAsked}
 
 -- the bytes that went to the upstream u of a stream are a front of the DATA that came on the stream
 pub record RelaysUp (points : List Point) (l s u : ℕ) : Type 0 where
@@ -44,8 +47,19 @@ pub record PlainRelaysDown (points : List Point) (l u : ℕ) : Type 0 where
   pub rest : List ℕ
   pub front : recv u (entries points) ≡ sent l (entries points) ++ rest
 
--- So it is of each upstream, and of each inbound link; bytes go, and a side ends, only where they may. So it is of each plain link; on one
--- without an upstream no byte goes
+-- BY A GATEWAY: the DATA of a plain link's stream in the frames that have begun on the link to the gateway is a front of the bytes that came
+-- on the plain link behind its header; and those that went on it are a front of the DATA that came on the stream
+pub record StreamRelaysUp (points : List Point) (l g s : ℕ) : Type 0 where
+  pub history : IsOneHistory (gates_of g points)
+  pub rest : List ℕ
+  pub front : came_behind points l ≡ payloads s history.stands.begun ++ rest
+
+pub record StreamRelaysDown (points : List Point) (l g s : ℕ) : Type 0 where
+  pub rest : List ℕ
+  pub front : came_on s (gates_of g points) ≡ sent l (entries points) ++ rest
+
+-- So it is of each upstream, and of each inbound link; bytes go, and a side ends, only where they may. So it is of each plain link, with its
+-- upstream or its stream; on one without either no byte goes
 pub record RelayLaw (points : List Point) : Type 0 where
   pub ups : (l s u : ℕ) → owner u (entries points) ≡ upstream_of l s → RelaysUp points l s u
   pub downs : (l s u : ℕ) → owner u (entries points) ≡ upstream_of l s → RelaysDown points l s u
@@ -56,4 +70,6 @@ pub record RelayLaw (points : List Point) : Type 0 where
   pub plain_ups : (l u : ℕ) → owner u (entries points) ≡ relay_of l → PlainRelaysUp points l u
   pub plain_downs : (l u : ℕ) → owner u (entries points) ≡ relay_of l → PlainRelaysDown points l u
   pub plain_none : (l : ℕ) → owner l (entries points) ≡ plain_link → ((u : ℕ) → owner u (entries points) ≢ relay_of l)
-      → sent l (entries points) ≡ []
+      → was is_asked (plain_of l points) ≡ false → sent l (entries points) ≡ []
+  pub stream_ups : (l g s : ℕ) → IsAsked points l g s → StreamRelaysUp points l g s
+  pub stream_downs : (l g s : ℕ) → IsAsked points l g s → StreamRelaysDown points l g s

@@ -1,6 +1,7 @@
 -- What the machine and the trace say of a link is the same: whether it lives, is open, and was shut.
 use Rattle.std.specs.Prelude.{⊤, ◌≡◌, ◌≢◌, ◌⊎◌, ℕ, ◌<◌, Bool, true, false, List, Some}
 use Rattle.hb_captured.specs.Captured as plain
+use Rattle.hb_gateway.specs.Gateway as gateway
 use Rattle.hb_inbound.specs.Inbound as inbound
 use Rattle.hb_inbound.specs.Tunnel.{Stage, opening, accepting, live}
 use Rattle.hb_model.specs.Discovery as discovery
@@ -32,6 +33,18 @@ IsPlainThereBy stage closed = closed ≡ false
 abbrev pub IsPlainThere : plain.Captured → Type 0
 IsPlainThere x = IsPlainThereBy x.stage x.closed
 
+-- so is a link to a gateway
+abbrev pub IsGateThere : gateway.Phase → Type 0
+IsGateThere gateway.unborn = ⊥
+IsGateThere gateway.closed = ⊥
+IsGateThere phase = ⊤
+
+abbrev pub GateOpenBy : gateway.Phase → Bool → Type 0
+GateOpenBy gateway.opening opens = opens ≡ false
+GateOpenBy gateway.serving opens = opens ≡ true
+GateOpenBy (gateway.faulted code) opens = opens ≡ true
+GateOpenBy phase opens = ⊤
+
 -- Whether a link is open: one to the control plane, where it is dialled, where bytes may come and go, and behind a connection error;
 -- and the upstream of a tunnel, or of a plain link, by how far that is
 abbrev pub OpenBy : discovery.Phase → Bool → Type 0
@@ -52,15 +65,16 @@ RelayOpenBy plain.accepting opens = opens ≡ true
 RelayOpenBy plain.live opens = opens ≡ true
 RelayOpenBy stage opens = ⊤
 
--- the machine has a link of this number that isn't closed: to the control plane, inbound, the upstream of a tunnel, plain, or the upstream
--- of a plain one
+-- the machine has a plain link of this number, or the upstream of one, that isn't closed
 abbrev pub HasPlain : Machine → ℕ → Type 0
 HasPlain x l = IsPlainThere (x.plain l) ⊎ ((k : ℕ) × IsRelayOf (x.plain k) l)
 
+-- or one to the control plane, an inbound one, the upstream of a tunnel, or one to a gateway
 abbrev pub HasLink : Machine → ℕ → Type 0
 HasLink x l =
     IsThere (x.control.links l).phase
-    ⊎ (IsLinkThere (x.inbound l).phase ⊎ (((k s : ℕ) × Joins ((x.inbound k).tunnels s) l) ⊎ HasPlain x l))
+    ⊎ (IsLinkThere (x.inbound l).phase
+    ⊎ (((k s : ℕ) × Joins ((x.inbound k).tunnels s) l) ⊎ (HasPlain x l ⊎ IsGateThere (x.gates l).phase)))
 
 -- it never had one: no tunnel names the number
 pub record IsFresh (x : Machine) (l : ℕ) : Type 0 where
@@ -69,6 +83,7 @@ pub record IsFresh (x : Machine) (l : ℕ) : Type 0 where
   pub up : (k s : ℕ) → ((x.inbound k).tunnels s).up ≢ l
   pub plain : (x.plain l).stage ≡ plain.unborn
   pub relay : (k : ℕ) → (x.plain k).up ≢ l
+  pub gate : (x.gates l).phase ≡ gateway.unborn
 
 -- what is said of the plain links, and of their upstreams
 pub record PlainSeen (x : Machine) (trace : List Entry) : Type 0 where
@@ -87,6 +102,17 @@ pub record PlainSeen (x : Machine) (trace : List Entry) : Type 0 where
       → (IsThere (x.control.links u).phase → ⊥) × (IsLinkThere (x.inbound u).phase → ⊥) × (IsPlainThere (x.plain u) → ⊥)
       × ((j s : ℕ) → Joins ((x.inbound j).tunnels s) u → ⊥)
   pub one_up : (j k u : ℕ) → IsRelayOf (x.plain j) u → IsRelayOf (x.plain k) u → j ≡ k
+
+-- what is said of the links to gateways
+pub record GatesSeen (x : Machine) (trace : List Entry) : Type 0 where
+  -- one that is there lives, was never shut, and is open as far as it is
+  pub link : (g : ℕ) → IsGateThere (x.gates g).phase → (lives g trace ≡ true) × (was_shut g trace ≡ false)
+  pub link_open : (g : ℕ) → IsGateThere (x.gates g).phase → GateOpenBy (x.gates g).phase (is_open g trace)
+  pub no_zero : (x.gates 0).phase ≡ gateway.unborn
+  -- no other part has it
+  pub alone : (g : ℕ) → IsGateThere (x.gates g).phase
+      → (IsThere (x.control.links g).phase → ⊥) × (IsLinkThere (x.inbound g).phase → ⊥) × (IsPlainThere (x.plain g) → ⊥)
+      × ((k s : ℕ) → Joins ((x.inbound k).tunnels s) g → ⊥) × ((k : ℕ) → IsRelayOf (x.plain k) g → ⊥)
 
 -- What is said of a link: of one to the control plane, of an inbound one, of an upstream
 pub record Seen (x : Machine) (trace : List Entry) : Type 0 where
@@ -115,8 +141,9 @@ pub record Seen (x : Machine) (trace : List Entry) : Type 0 where
       → (IsThere (x.control.links l).phase → ⊥) × (IsLinkThere (x.inbound l).phase → ⊥)
   pub one_up : (k s j t u : ℕ) → Joins ((x.inbound k).tunnels s) u → Joins ((x.inbound j).tunnels t) u → (k ≡ j) × (s ≡ t)
   pub link_alone : (l : ℕ) → IsLinkThere (x.inbound l).phase → IsThere (x.control.links l).phase → ⊥
-  -- and the plain links
+  -- and the plain links, and the links to gateways
   pub plain : PlainSeen x trace
+  pub gates : GatesSeen x trace
 
 -- so it is in every run
 abbrev pub RunsAreSeen : Type 0

@@ -6,6 +6,8 @@ use Rattle.hb_captured.specs.Captured as plain
 use Rattle.hb_captured.specs.Captured.{Captured}
 use Rattle.hb_conn.specs.Connection.{Connection}
 use Rattle.hb_conn.specs.Observed as connection
+use Rattle.hb_gateway.specs.Gateway as gateway
+use Rattle.hb_gateway.specs.Gateway.{Gateway}
 use Rattle.hb_inbound.specs.Calm.{IsQuiet, longest_front}
 use Rattle.hb_inbound.specs.Inbound as link
 use Rattle.hb_inbound.specs.Inbound.{Inbound}
@@ -16,7 +18,7 @@ use Rattle.hb_model.specs.Puts.{IsAllPut}
 use Rattle.hb_model.specs.Runs as model
 use Rattle.hb_model.specs.declared.config.NodeConfig.{NodeConfig}
 use Rattle.hb_ready.specs.Sight.{asked, asleep}
-use Rattle.hb_tunnel.specs.Tunnel.{up_size, down_size}
+use Rattle.hb_tunnel.specs.Tunnel.{down_size}
 use Rattle.hb_world.specs.Trace.{AtEach}
 use Rattle.hb_world.specs.declared.entry.Entry.{Entry}
 use Rattle.hb_world.specs.declared.entry.Entry.TheVariants as e
@@ -24,7 +26,7 @@ use Rattle.hb_world.specs.declared.entry.Way.TheVariants as way
 use Rattle.hb_proxy.specs.Doors.{without_doors}
 use Rattle.hb_proxy.specs.Machine.{Machine}
 use Rattle.hb_proxy.specs.Points.{Point, control_of, entries}
-use Rattle.hb_proxy.specs.Runs.{StandsFor}
+use Rattle.hb_proxy.specs.Runs.{GatesLet, StandsFor}
 use Rattle.hb_proxy.specs.Ups.{Joins, IsRelayOf}
 use Rattle.hb_tunnel.specs.Way.{Way}
 
@@ -85,16 +87,25 @@ UpSettledBy stage trace u t = ⊥
 abbrev pub PlainSettledBy : plain.Stage → (closed : Bool) → List Entry → ℕ → Captured → Type 0
 PlainSettledBy plain.unborn closed trace l x = ⊤
 PlainSettledBy plain.fronting closed trace l x = Reads trace l (plain_calm.longest_front ≤ length x.front)
-PlainSettledBy plain.opening closed trace l x = Reads trace l (IsFull up_size x.ways.up)
-PlainSettledBy plain.live closed trace l x = Reads trace l (IsFull up_size x.ways.up) × Writes trace l (x.ways.down.held ≡ [])
+PlainSettledBy plain.opening closed trace l x = Reads trace l (IsFull (plain.ring_up x.door) x.ways.up)
+PlainSettledBy plain.live closed trace l x =
+    Reads trace l (IsFull (plain.ring_up x.door) x.ways.up) × Writes trace l (x.ways.down.held ≡ [])
 PlainSettledBy (plain.over cause) closed trace l x = closed ≡ true
 PlainSettledBy stage closed trace l x = ⊥
 
 -- and its upstream
 abbrev pub RelaySettledBy : plain.Stage → List Entry → ℕ → Captured → Type 0
 RelaySettledBy plain.opening trace u x = Finishes trace u
-RelaySettledBy plain.live trace u x = Reads trace u (IsFull down_size x.ways.down) × Writes trace u (x.ways.up.held ≡ [])
+RelaySettledBy plain.live trace u x = Reads trace u (IsFull (plain.ring_down x.door) x.ways.down) × Writes trace u (x.ways.up.held ≡ [])
 RelaySettledBy stage trace u x = ⊥
+
+-- a link to a gateway that isn't open is asleep for finishing; of one that is open what was put went, or it is asleep for writing
+abbrev pub GateSettledBy : gateway.Phase → List Entry → ℕ → Gateway → Type 0
+GateSettledBy gateway.unborn trace g x = ⊤
+GateSettledBy gateway.closed trace g x = ⊤
+GateSettledBy gateway.opening trace g x = Finishes trace g
+GateSettledBy gateway.serving trace g x = Reads trace g (IsCrowded x.conn) × Writes trace g (gateway.output x ≡ [])
+GateSettledBy phase trace g x = ⊥
 
 -- THE LAW
 
@@ -111,6 +122,8 @@ pub record IsSettled (g : NodeConfig) (x : Machine) (points : List Point) (trace
   pub plain_quiet : (l : ℕ) → plain_calm.IsQuiet (x.plain l)
   pub plain : (l : ℕ) → PlainSettledBy (x.plain l).stage (x.plain l).closed trace l (x.plain l)
   pub relays : (l u : ℕ) → IsRelayOf (x.plain l) u → RelaySettledBy (x.plain l).stage trace u (x.plain l)
+  pub gates_quiet : GatesLet false x
+  pub gates : (g : ℕ) → GateSettledBy (x.gates g).phase trace g (x.gates g)
 
 -- so it is in a run of the machine with these entries
 pub record SettledIn (g : NodeConfig) (trace : List Entry) : Type 0 where

@@ -1,5 +1,10 @@
 //! Laws over every run of the whole proxy. Each is the contract of a function that does nothing.
 
+ghost use Rattle.hb_proxy.specs.Laws.{GatesRun, RunsObeyGates, RunsTake};
+ghost use Rattle.hb_proxy.specs.Streams.{RunsAgree, RunsFit, RunsCountOpens};
+ghost use Rattle.hb_proxy.specs.StreamsRefused.{AsksRoomless, AsksBehind, SharesKeys, AsksEnded, AsksLater, AsksElsewhere};
+ghost use Rattle.hb_proxy.specs.StreamsRefused.{DialsBeside, RefusesBeside, DialsForStraight, TakesAlone, DropsAlone};
+ghost use Rattle.hb_proxy.specs.StreamsRefused.{TellsAnother, PutsOther, ReadsUndialled};
 ghost use Rattle.hb_proxy.specs.Laws.{ControlRuns, LinksRun, PlainRuns, ControlHolds, LinksHold, PlainHolds};
 ghost use Rattle.hb_proxy.specs.Laws.{RunsOwn, RunsNumber, RunsDialOnce, RunsShareSides, RunsAdmit, RunsAdmitEntries, RunsRelay};
 ghost use Rattle.hb_proxy.specs.Laws.{RunsEnd, RunsObeyLinks, RunsObeyPlain, RunsDial, RunsObeyEntries, RunsObeyControl, RunsPutAll};
@@ -26,11 +31,13 @@ ghost use Rattle.hb_proxy.specs.OutboundRefused.{OutboundDialsTwice, OutboundBeh
 ghost use Rattle.hb_proxy.specs.OutboundRefused.{OutboundRunMayGo, OutboundRunIsLawful, OutboundGoesOn, OutboundGoesBack};
 
 /// The points of the control plane are a run of its machine, and what happens to each inbound link, and to each plain link,
-/// is a run of that link's, with the resources that the control plane holds: those of its responses.
+/// is a run of that link's, with the resources that the control plane holds: those of its responses. What happens to each link to a gateway
+/// is a run of that.
 pub fn parts_are_runs()
     ensures control { ControlRuns }
     ensures links { LinksRun }
     ensures plain { PlainRuns }
+    ensures gates { GatesRun }
     ensures held { ControlHolds }
     ensures shared { LinksHold }
     ensures plain_shared { PlainHolds }
@@ -46,7 +53,7 @@ pub fn links_lead()
 {}
 
 /// Each entry stands on a link of its own part, links are numbered in the order of births, and each upstream is of a stream of its own,
-/// or of a plain link. So the bytes that came and went on a link are the same in the trace and in the link's part.
+/// or of a plain link. So the bytes that came and went on a link, also on one to a gateway, are the same in the trace and in the link's part.
 pub fn links_have_owners()
     ensures own { RunsOwn }
     ensures numbers { RunsNumber }
@@ -76,14 +83,15 @@ pub fn peers_are_admitted()
 
 /// The bytes that went to an upstream are a front of the DATA that came on its stream, and the DATA that went on the stream is a front of
 /// what came from the upstream. Bytes go and sides end only where they may. So it is of a plain link: what goes to its upstream is a front
-/// of what came behind its front header, and what goes on it is a front of what came from the upstream.
+/// of what came behind its front header, and what goes on it is a front of what came from the upstream. By a gateway it is so of the DATA
+/// that goes and comes on its stream.
 pub fn bytes_are_relayed()
     ensures { RunsRelay }
 {}
 
 /// A tunnel that ended, of whatever link, has no upstream that isn't closed where a link is accepted or open, where bytes or an end come
 /// on any link, at a tick and a wait, and where bytes of a tunnel go; but for the one write behind a connection error. A plain link that
-/// ended is closed there, with its upstream.
+/// ended is closed there, with its upstream, and has no stream. A link to a gateway that ended is closed there.
 pub fn ends_go_first()
     ensures { RunsEnd }
 {}
@@ -99,6 +107,46 @@ pub fn links_obey()
 /// applies, with their notes; and no work is put off.
 pub fn plain_links_obey()
     ensures { RunsObeyPlain }
+{}
+
+/// Each link to a gateway is one history behind its front header, and its DATA fits the windows; its streams are asked for in order, and what
+/// a tunnel is told and puts is what came and what goes. A tunnel takes the link of its key that was born first of those that live and have
+/// room; another one is dialled, and a link refused for want of room, only where there is none of these.
+pub fn links_to_gateways_obey()
+    ensures obey { RunsObeyGates }
+    ensures take { RunsTake }
+{}
+
+/// Each tunnel by a gateway has one stream, and each stream one tunnel. What a gateway brings fits the ring of the link that it is brought to.
+pub fn streams_have_tunnels()
+    ensures agree { RunsAgree }
+    ensures fit { RunsFit }
+{}
+
+/// It is counted right how many plain links are connections to each endpoint.
+pub fn connections_are_counted()
+    ensures { RunsCountOpens }
+{}
+
+/// A stream isn't asked for on a link to a gateway that has no room, that went away, that ended, that is for another identity, source or
+/// gateway, or while one that was born before it has room; nor for another authority than the way's. No other one is dialled, and no link
+/// refused for want of room, beside one that has it; and none is dialled for a link that goes straight. What happens to a link and its stream
+/// happens to both, and to no other's.
+pub fn other_streams_are_refused()
+    ensures roomless { AsksRoomless }
+    ensures behind { AsksBehind }
+    ensures shares { SharesKeys }
+    ensures ended { AsksEnded }
+    ensures later { AsksLater }
+    ensures elsewhere { AsksElsewhere }
+    ensures beside { DialsBeside }
+    ensures refuses { RefusesBeside }
+    ensures straight { DialsForStraight }
+    ensures takes { TakesAlone }
+    ensures drops { DropsAlone }
+    ensures another { TellsAnother }
+    ensures puts { PutsOther }
+    ensures undialled { ReadsUndialled }
 {}
 
 /// At each entry of the trace, of whatever part, no link to the control plane has ended that isn't closed, but for the one write behind
