@@ -1,5 +1,5 @@
--- What the upstream of a plain link is dialled for: the answer that its front header got.
-use Rattle.std.proofs.Common.{◌≡◌, ℕ, ◌==◌, Bool, true, false, cond, List, [], ◌∷◌, ◌++◌, fold, Option, Some, None, refl, ap, sym, ◌∙◌, subst}
+-- What the upstream of a plain link is dialled for, and where its bytes are to go: the answer that its front header got.
+use Rattle.std.proofs.Common.{◌≡◌, ℕ, ◌==◌, ◌||◌, Bool, true, false, cond, List, [], ◌∷◌, ◌++◌, fold, Option, Some, None, IsSome, refl, ap, sym, ◌∙◌, subst}
 use Rattle.std.proofs.lemmas.Bool.{false≢true}
 use Rattle.std.proofs.lemmas.List.{append_assoc, append-nil}
 use Rattle.std.proofs.lemmas.List.Concat.{flat_map-append}
@@ -8,17 +8,18 @@ use Rattle.hb_base.specs.declared.cause.Cause.{Cause}
 use Rattle.hb_base.specs.declared.cause.Cause.TheVariants as cause
 use Rattle.hb_base.specs.declared.door.Door.{Door}
 use Rattle.hb_base.specs.declared.door.Door.TheVariants as door
-use Rattle.hb_base.specs.declared.target.Target.{Target}
 use Rattle.hb_captured.proofs.Stages.{course_one}
 use Rattle.hb_captured.specs.Answer as answer
-use Rattle.hb_captured.specs.Answer.{answer_on}
+use Rattle.hb_captured.specs.Answer.{Aim, Routing, answer_on, by_verdict, verdict_on, key_of}
 use Rattle.hb_captured.specs.Captured.{judges}
 use Rattle.hb_captured.specs.Ends.{EndLaw, EndsAt}
 use Rattle.hb_captured.specs.Part as captured
 use Rattle.hb_captured.specs.Part.{Part}
 use Rattle.hb_captured.specs.Sides as plain
-use Rattle.hb_captured.specs.Sides.{Course, unborn, arriving, fronting, pending, lives, over, ends, hangs_up, ends_judged, ends_at, course_by, course_of, door_by, door_of, header_by, header_of, judged_in, address_by, address_of, held_by}
+use Rattle.hb_captured.specs.Sides.{Course, unborn, arriving, fronting, pending, lives, over, ends, hangs_up, ends_judged, ends_at, course_told, course_by, course_of, door_by, door_of, header_by, header_of, judged_in, aim_by, aim_of, held_by, was, is_asked}
 use Rattle.hb_captured.specs.Verdicts.{VerdictLaw, VerdictAt}
+use Rattle.hb_gateway.specs.Key.{Key}
+use Rattle.hb_gateway.specs.Response.{Heard, fails}
 use Rattle.hb_front.specs.Reading.{Seen}
 use Rattle.hb_held.specs.Held.{Resources}
 use Rattle.hb_model.proofs.Grown.{one_more}
@@ -28,12 +29,16 @@ use Rattle.hb_model.specs.declared.config.NodeConfig.{NodeConfig}
 use Rattle.hb_proxy.proofs.Plain.{obey_plain, plain_holds}
 use Rattle.hb_proxy.specs.Held.{at_start}
 use Rattle.hb_proxy.specs.Machine.{Machine}
-use Rattle.hb_proxy.specs.Points.{Point, of_control, of_link, of_plain, control_of, plain_in, plain_of}
+use Rattle.hb_proxy.specs.Points.{Point, of_control, of_link, of_plain, of_gate, of_stream, control_of, plain_in, plain_of}
 use Rattle.hb_proxy.specs.Runs.{StandsFor, begins, goes_on}
+use Rattle.hb_proxy.specs.Shared.{captured_part}
 use Rattle.hb_table.specs.declared.judgement.Judged.{Judged}
 use Rattle.hb_table.specs.declared.judgement.Judged.TheVariants.{Admitted, Unknown, Denied}
+use Rattle.hb_verdict.specs.declared.verdict.Verdict.{Verdict}
+use Rattle.hb_verdict.specs.declared.verdict.Verdict.TheVariants.{Status, Reset, Dial}
 use Rattle.hb_world.specs.declared.entry.Entry.TheVariants as e
 use Rattle.hb_laws.specs.RefusedOutbound.{IsAsked}
+use Rattle.hb_laws.proofs.Tests.{or_none}
 
 -- THE HEADER
 
@@ -68,16 +73,20 @@ past_applied true h told course past = past
 early_is : (early course : Course) → is_past early ≡ false → course ≡ early → is_past course ≡ true → ⊥
 early_is early course not is past = false≢true (sym not ∙ sym (ap is_past is) ∙ past)
 
--- behind it one part more changes neither the door, nor the header or the address
+past_told : (heard : Heard) (course : Course) → is_past course ≡ true → is_past (course_told heard course) ≡ true
+past_told (fails why) course past = past_ends why course past
+past_told _ course past = past
+
+-- behind it one part more changes neither the door, nor the header or the aim
 record Stays (course : Course) (q : Part) : Type 0 where
   past : is_past course ≡ true
   door : (d : Door) → door_by d q ≡ d
   header : (t : Option Seen) → header_by t q ≡ t
-  address : (a : Option Target) → address_by a q ≡ a
+  aim : (a : Option Aim) → aim_by a q ≡ a
 
 stays_as : (course : Course) (q : Part) → is_past course ≡ true → ((d : Door) → door_by d q ≡ d)
-    → ((t : Option Seen) → header_by t q ≡ t) → ((a : Option Target) → address_by a q ≡ a) → Stays course q
-stays_as course q past door header address = record { past = past; door = door; header = header; address = address }
+    → ((t : Option Seen) → header_by t q ≡ t) → ((a : Option Aim) → aim_by a q ≡ a) → Stays course q
+stays_as course q past door header aim = record { past = past; door = door; header = header; aim = aim }
 
 module _ (l : ℕ) (start : Resources) (before : List Part) (d : Door) (h : Resources) (t : Option Seen)
     (past : is_past (course_of start before) ≡ true) where
@@ -103,9 +112,20 @@ module _ (l : ℕ) (start : Resources) (before : List Part) (d : Door) (h : Reso
   stays captured.lacked law =
       stays_as _ captured.lacked (past_ends cause.NoMemory now past) (λ c. refl) (λ c. refl) (λ c. refl)
   stays (captured.misfronted fault) law = absurd (early_is fronting now refl law past)
-  stays (captured.fronted seen to) law = absurd (early_is fronting now refl law past)
-  stays (captured.refused seen why status made) law = absurd (early_is fronting now refl law past)
+  stays (captured.fronted seen routing aim) law = absurd (early_is fronting now refl law past)
+  stays (captured.refused seen routing why status made) law = absurd (early_is fronting now refl law past)
   stays (captured.accepted made) law = stays_as _ (captured.accepted made) refl (λ c. refl) (λ c. refl) (λ c. refl)
+  stays captured.roomless law =
+      stays_as _ captured.roomless (past_ends cause.NoRoom now past) (λ c. refl) (λ c. refl) (λ c. refl)
+  stays (captured.asked n s) law = stays_as _ (captured.asked n s) past (λ c. refl) (λ c. refl) (λ c. refl)
+  stays (captured.hears heard begun) law =
+      stays_as _ (captured.hears heard begun) (past_told heard now past) (λ c. refl) (λ c. refl) (λ c. refl)
+  stays (captured.put bytes) law = stays_as _ (captured.put bytes) past (λ c. refl) (λ c. refl) (λ c. refl)
+  stays captured.finished law = stays_as _ captured.finished past (λ c. refl) (λ c. refl) (λ c. refl)
+  stays (captured.credited n) law = stays_as _ (captured.credited n) past (λ c. refl) (λ c. refl) (λ c. refl)
+  stays (captured.loosed begun) law = stays_as _ (captured.loosed begun) past (λ c. refl) (λ c. refl) (λ c. refl)
+  stays (captured.completed begun made) law =
+      stays_as _ (captured.completed begun made) (past_ends cause.Done now past) (λ c. refl) (λ c. refl) (λ c. refl)
   stays (captured.left made) law = stays_as _ (captured.left made) past (λ c. refl) (λ c. refl) (λ c. refl)
   stays (captured.done made) law =
       stays_as _ (captured.done made) (past_ends cause.Done now past) (λ c. refl) (λ c. refl) (λ c. refl)
@@ -114,22 +134,38 @@ module _ (l : ℕ) (start : Resources) (before : List Part) (d : Door) (h : Reso
   stays (captured.stopped why) law =
       stays_as _ (captured.stopped why) (past_ends why now past) (λ c. refl) (λ c. refl) (λ c. refl)
 
--- behind these points an address is dialled for a link: at one of them its header got that answer at the link's door, by what was held
-pub record Answered (g : NodeConfig) (l : ℕ) (points : List Point) (to : Target) : Type 0 where
+-- at a door that judges each is to go straight
+verdict_straight : (v : Verdict) (aim : Aim) → by_verdict v ≡ answer.aims aim → key_of aim ≡ None
+verdict_straight (Dial to) aim is =
+    let same : answer.straight_to to None ≡ aim = cc in sym (ap key_of same)
+verdict_straight (Status status) aim is = absurd cc
+verdict_straight Reset aim is = absurd cc
+
+pub judged_straight : (d : Door) (h : Resources) (routing : Routing) (seen : Seen) (aim : Aim) → judges d ≡ true
+    → answer_on d h routing seen ≡ answer.aims aim → key_of aim ≡ None
+judged_straight door.Outbound h routing seen aim judged is = absurd (false≢true judged)
+judged_straight door.Plain h routing seen aim judged is = verdict_straight (verdict_on h seen) aim is
+judged_straight door.Inbound h routing seen aim judged is = verdict_straight (verdict_on h seen) aim is
+
+-- behind these points the bytes of a link are to go so: at one of them its header got that answer at the link's door, by what was held
+pub record Answered (g : NodeConfig) (l : ℕ) (points : List Point) (aim : Aim) : Type 0 where
   pub front : List Point
   pub p : Point
   pub rest : List Point
   pub seen : Seen
+  pub routing : Routing
   pub points_are : points ≡ front ++ p ∷ rest
-  pub is : plain_in l p ≡ captured.fronted seen to ∷ []
+  pub is : plain_in l p ≡ captured.fronted seen routing aim ∷ []
   pub untold : header_of (plain_of l front) ≡ None
   pub told : header_of (plain_of l points) ≡ Some seen
-  pub answered : answer_on (door_of (plain_of l points)) (held g (control_of front)) seen ≡ answer.dials to
+  pub answered : answer_on (door_of (plain_of l points)) (held g (control_of front)) routing seen ≡ answer.aims aim
 
--- what is said of that behind some points
+-- what is said of that behind some points; and where peers are judged no stream was asked for
 record Tells (g : NodeConfig) (l : ℕ) (points : List Point) : Type 0 where
-  early : is_past (course_of (at_start g) (plain_of l points)) ≡ false → header_of (plain_of l points) ≡ None
-  asks : (to : Target) → address_of (plain_of l points) ≡ Some to → Answered g l points to
+  early : is_past (course_of (at_start g) (plain_of l points)) ≡ false
+      → (header_of (plain_of l points) ≡ None) × (was is_asked (plain_of l points) ≡ false)
+  asks : (aim : Aim) → aim_of (plain_of l points) ≡ Some aim → Answered g l points aim
+  judged : judges (door_of (plain_of l points)) ≡ true → was is_asked (plain_of l points) ≡ false
 
 module _ (g : NodeConfig) (l : ℕ) (points : List Point) (tells : Tells g l points) (p : Point) where
   abbrev more : List Point
@@ -142,26 +178,30 @@ module _ (g : NodeConfig) (l : ℕ) (points : List Point) (tells : Tells g l poi
   behind_it q is = one_more (plain_in l) points p ∙ ap (λ (ps : List Part). parts ++ ps) is
 
   -- with the same door and header it was answered so
-  answered_more : (to : Target) → Answered g l points to → door_of (plain_of l more) ≡ door_of parts
-      → header_of (plain_of l more) ≡ header_of parts → Answered g l more to
-  answered_more to old door header = record {
+  answered_more : (aim : Aim) → Answered g l points aim → door_of (plain_of l more) ≡ door_of parts
+      → header_of (plain_of l more) ≡ header_of parts → Answered g l more aim
+  answered_more aim old door header = record {
     front = old.front;
     p = old.p;
     rest = old.rest ++ p ∷ [];
     seen = old.seen;
+    routing = old.routing;
     points_are = ap (λ (ps : List Point). ps ++ p ∷ []) old.points_are ∙ append_assoc old.front (old.p ∷ old.rest) (p ∷ []);
     is = old.is;
     untold = old.untold;
     told = header ∙ old.told;
-    answered = ap (λ (d : Door). answer_on d (held g (control_of old.front)) old.seen) door ∙ old.answered;
+    answered = ap (λ (d : Door). answer_on d (held g (control_of old.front)) old.routing old.seen) door ∙ old.answered;
   }
 
   none_more : plain_in l p ≡ [] → Tells g l more
   none_more is =
       let same = behind_it [] is ∙ append-nil parts in
       record {
-        early = λ early. ap header_of same ∙ tells.early (sym (ap (λ (ps : List Part). is_past (course_of (at_start g) ps)) same) ∙ early);
-        asks = λ to asked. answered_more to (tells.asks to (sym (ap address_of same) ∙ asked)) (ap door_of same) (ap header_of same);
+        early = λ early.
+            (let so = tells.early (sym (ap (λ (ps : List Part). is_past (course_of (at_start g) ps)) same) ∙ early) in
+            (ap header_of same ∙ so.0, ap (was is_asked) same ∙ so.1));
+        asks = λ aim asked. answered_more aim (tells.asks aim (sym (ap aim_of same) ∙ asked)) (ap door_of same) (ap header_of same);
+        judged = λ at. ap (was is_asked) same ∙ tells.judged (sym (ap (λ (ps : List Part). judges (door_of ps)) same) ∙ at);
       }
 
   module _ (q : Part) (is : plain_in l p ≡ q ∷ []) (law : EndLaw l (at_start g) (plain_of l more))
@@ -178,8 +218,11 @@ module _ (g : NodeConfig) (l : ℕ) (points : List Point) (tells : Tells g l poi
     header_more : header_of (plain_of l more) ≡ header_by (header_of parts) q
     header_more = ap header_of parts_are ∙ fold-append header_by None parts (q ∷ [])
 
-    address_more : address_of (plain_of l more) ≡ address_by (address_of parts) q
-    address_more = ap address_of parts_are ∙ fold-append address_by None parts (q ∷ [])
+    aim_more : aim_of (plain_of l more) ≡ aim_by (aim_of parts) q
+    aim_more = ap aim_of parts_are ∙ fold-append aim_by None parts (q ∷ [])
+
+    asked_more : was is_asked (plain_of l more) ≡ (is_asked q || was is_asked parts)
+    asked_more = ap (was is_asked) parts_are ∙ fold-append (λ (b : Bool) (r : Part). is_asked r || b) false parts (q ∷ [])
 
     door_more : door_of (plain_of l more) ≡ door_by (door_of parts) q
     door_more = ap door_of parts_are ∙ fold-append door_by door.Plain parts (q ∷ [])
@@ -188,66 +231,91 @@ module _ (g : NodeConfig) (l : ℕ) (points : List Point) (tells : Tells g l poi
         ≡ course_by (door_of parts) (held_by (plain.held (at_start g) parts) q) (header_of parts) (course_of (at_start g) parts) q
     course_more = ap (course_of (at_start g)) parts_are ∙ course_one (at_start g) parts q
 
+    -- no stream is asked for before the header was told, nor where peers are judged
+    none_early : (r : Part) → EndsAt l (at_start g) parts r → is_past (course_of (at_start g) parts) ≡ false → is_asked r ≡ false
+    none_early (captured.asked n s) ends early = absurd (false≢true (sym early ∙ ap is_past ends.0))
+    none_early _ ends early = refl
+
+    none_judged : (r : Part) → VerdictAt l (at_start g) parts r → judges (door_of parts) ≡ true → is_asked r ≡ false
+    none_judged (captured.asked n s) goes at =
+        let there = tells.asks goes.aim goes.told in
+        let none = judged_straight (door_of parts) _ there.routing there.seen goes.aim at there.answered in
+        absurd (false≢true (subst (λ (key : Option Key). IsSome key) none goes.keyed))
+    none_judged _ goes at = refl
+
+    asked_none : is_asked q ≡ false → was is_asked parts ≡ false → was is_asked (plain_of l more) ≡ false
+    asked_none here before = asked_more ∙ or_none (is_asked q) (was is_asked parts) here before
+
     -- where it was told, it stays so
     told_before : is_past (course_of (at_start g) parts) ≡ true → Tells g l more
     told_before past =
         let s = stays l (at_start g) parts (door_of parts) (held_by (plain.held (at_start g) parts) q) (header_of parts) past q end_law in
+        let same_door = door_more ∙ s.door (door_of parts) in
         record {
           early = λ early. absurd (false≢true (sym early ∙ ap is_past course_more ∙ s.past));
-          asks = λ to asked.
-              answered_more to (tells.asks to (sym (s.address (address_of parts)) ∙ sym address_more ∙ asked))
-              (door_more ∙ s.door (door_of parts)) (header_more ∙ s.header (header_of parts));
+          asks = λ aim asked.
+              answered_more aim (tells.asks aim (sym (s.aim (aim_of parts)) ∙ sym aim_more ∙ asked))
+              same_door (header_more ∙ s.header (header_of parts));
+          judged = λ at.
+              (let there = sym (ap judges same_door) ∙ at in asked_none (none_judged q verdict_law there) (tells.judged there));
         }
 
-    -- where it wasn't, no address is there
-    no_address : header_of parts ≡ None → (to : Target) → address_of parts ≡ Some to → ⊥
-    no_address none to asked =
-        let old = tells.asks to asked in (let no : None ≡ Some old.seen = sym none ∙ old.told in cc)
+    -- where it wasn't, no aim is there
+    no_aim : header_of parts ≡ None → (aim : Aim) → aim_of parts ≡ Some aim → ⊥
+    no_aim none aim asked =
+        let old = tells.asks aim asked in (let no : None ≡ Some old.seen = sym none ∙ old.told in cc)
 
     -- and where the part is no header, nothing is told of it yet, or it stays so
-    no_header : ((t : Option Seen) → header_by t q ≡ t) → ((a : Option Target) → address_by a q ≡ a) → Tells g l more
-    no_header header address = by (is_past (course_of (at_start g) parts)) refl
+    no_header : ((t : Option Seen) → header_by t q ≡ t) → ((a : Option Aim) → aim_by a q ≡ a) → Tells g l more
+    no_header header same_aim = by (is_past (course_of (at_start g) parts)) refl
       where
         by : (b : Bool) → is_past (course_of (at_start g) parts) ≡ b → Tells g l more
         by true past = told_before past
         by false early =
-            let none = tells.early early in
+            let so = tells.early early in
+            let none = asked_none (none_early q end_law early) so.1 in
             record {
-              early = λ still. header_more ∙ header (header_of parts) ∙ none;
-              asks = λ to asked. absurd (no_address none to (sym (address (address_of parts)) ∙ sym address_more ∙ asked));
+              early = λ still. (header_more ∙ header (header_of parts) ∙ so.0, none);
+              asks = λ aim asked. absurd (no_aim so.0 aim (sym (same_aim (aim_of parts)) ∙ sym aim_more ∙ asked));
+              judged = λ at. none;
             }
 
   one_part : (q : Part) → plain_in l p ≡ q ∷ [] → EndLaw l (at_start g) (plain_of l more) → VerdictLaw l (at_start g) (plain_of l more)
       → plain.held (at_start g) parts ≡ held g (control_of points) → Tells g l more
-  one_part (captured.fronted seen to) is laws verdicts holds =
-      let q = captured.fronted seen to in
+  one_part (captured.fronted seen routing aim) is laws verdicts holds =
+      let q = captured.fronted seen routing aim in
+      let so = tells.early (ap is_past (end_law q is laws verdicts holds)) in
       record {
         early = λ early. absurd (false≢true (sym early ∙ ap is_past (course_more q is laws verdicts holds)));
         asks = λ other asked.
-            (let there : Some to ≡ Some other = sym (address_more q is laws verdicts holds) ∙ asked in
-            let same : to ≡ other = cc in
+            (let there : Some aim ≡ Some other = sym (aim_more q is laws verdicts holds) ∙ asked in
+            let same : aim ≡ other = cc in
             subst (Answered g l more) same (record {
               front = points;
               p = p;
               rest = [];
               seen = seen;
+              routing = routing;
               points_are = refl;
               is = is;
-              untold = tells.early (ap is_past (end_law q is laws verdicts holds));
+              untold = so.0;
               told = header_more q is laws verdicts holds;
-              answered = ap (λ (d : Door). answer_on d (held g (control_of points)) seen) (door_more q is laws verdicts holds)
-                  ∙ ap (λ (h : Resources). answer_on (door_of parts) h seen) (sym holds) ∙ (verdict_law q is laws verdicts holds).1;
+              answered = ap (λ (d : Door). answer_on d (held g (control_of points)) routing seen) (door_more q is laws verdicts holds)
+                  ∙ ap (λ (h : Resources). answer_on (door_of parts) h routing seen) (sym holds)
+                  ∙ (verdict_law q is laws verdicts holds).1;
             }));
+        judged = λ at. asked_none q is laws verdicts holds refl so.1;
       }
-  one_part (captured.refused seen why status made) is laws verdicts holds =
-      let q = captured.refused seen why status made in
+  one_part (captured.refused seen routing why status made) is laws verdicts holds =
+      let q = captured.refused seen routing why status made in
       let at = end_law q is laws verdicts holds in
+      let so = tells.early (ap is_past at) in
       record {
         early = λ early.
             absurd (false≢true (sym early ∙ ap is_past (course_more q is laws verdicts holds ∙ ap (λ (c : Course). ends why c) at)));
-        asks = λ to asked.
-            absurd
-            (no_address q is laws verdicts holds (tells.early (ap is_past at)) to (sym (address_more q is laws verdicts holds) ∙ asked));
+        asks = λ aim asked.
+            absurd (no_aim q is laws verdicts holds so.0 aim (sym (aim_more q is laws verdicts holds) ∙ asked));
+        judged = λ at. asked_none q is laws verdicts holds refl so.1;
       }
   one_part q is laws verdicts holds = no_header q is laws verdicts holds (λ t. refl) (λ a. refl)
 
@@ -266,19 +334,26 @@ module _ (g : NodeConfig) (l : ℕ) (points : List Point) (tells : Tells g l poi
       by (of_control q) same = none_more (ap (plain_in l) same)
       by (of_link k q) same = none_more (ap (plain_in l) same)
       by (of_plain k q) same = of_it k q (k == l) (ap (plain_in l) same)
+      by (of_gate n q) same = none_more (ap (plain_in l) same)
+      by (of_stream k n s w) same = of_it k (captured_part n s w) (k == l) (ap (plain_in l) same)
 
 all_tell : (g : NodeConfig) (l : ℕ) (x : Machine) (points : List Point) → StandsFor g x points → Tells g l points
 all_tell g l x points (begins fresh none) =
-    subst (Tells g l) (sym none) (record { early = λ early. refl; asks = λ to asked. absurd cc })
+    subst (Tells g l) (sym none) (record { early = λ early. (refl, refl); asks = λ aim asked. absurd cc; judged = λ at. refl })
 all_tell g l y longer (goes_on {x = x} {points = points} stands p steps are) =
     let laws = obey_plain g y (points ++ p ∷ []) l (goes_on stands p steps refl) in
     subst (Tells g l) (sym are)
     (one_point g l points (all_tell g l x points stands) p laws.ends laws.verdicts (plain_holds g x points l stands))
 
 -- what is dialled for a plain link is the answer that its header got
-pub answers : (g : NodeConfig) (l : ℕ) (x : Machine) (points : List Point) → StandsFor g x points → (to : Target)
-    → address_of (plain_of l points) ≡ Some to → Answered g l points to
+pub answers : (g : NodeConfig) (l : ℕ) (x : Machine) (points : List Point) → StandsFor g x points → (aim : Aim)
+    → aim_of (plain_of l points) ≡ Some aim → Answered g l points aim
 answers g l x points stands = (all_tell g l x points stands).asks
+
+-- where peers are judged no stream was asked for
+pub unasked : (g : NodeConfig) (l : ℕ) (x : Machine) (points : List Point) → StandsFor g x points
+    → judges (door_of (plain_of l points)) ≡ true → was is_asked (plain_of l points) ≡ false
+unasked g l x points stands = (all_tell g l x points stands).judged
 
 -- THE PLACE OF THE HEADER
 
@@ -307,8 +382,8 @@ module _ (l : ℕ) where
   -- a header that was told stays told
   stays_told : (parts : List Part) (seen : Seen) → fold header_by (Some seen) parts ≡ None → ⊥
   stays_told [] seen none = (let no : Some seen ≡ None = none in cc)
-  stays_told (captured.fronted other to ∷ parts) seen none = stays_told parts other none
-  stays_told (captured.refused other why status made ∷ parts) seen none = stays_told parts other none
+  stays_told (captured.fronted other routing aim ∷ parts) seen none = stays_told parts other none
+  stays_told (captured.refused other routing why status made ∷ parts) seen none = stays_told parts other none
   stays_told (q ∷ parts) seen none = stays_told parts seen none
 
   told_further : (front more : List Point) (p : Point) (seen : Seen) → header_of (plain_of l (front ++ p ∷ [])) ≡ Some seen
@@ -322,25 +397,26 @@ module _ (l : ℕ) where
       ∙ ap header_of parts_are ∙ none)
 
 -- so the place where the header was told is the one where it got its answer
-pub asked_there : (g : NodeConfig) (l : ℕ) (points : List Point) (seen : Seen) (to : Target) → (asked : IsAsked g l seen points)
-    → Answered g l points to → answer_on (door_of (plain_of l points)) (held g (control_of asked.front)) seen ≡ answer.dials to
-asked_there g l points seen to asked there =
+pub asked_there : (g : NodeConfig) (l : ℕ) (points : List Point) (seen : Seen) (aim : Aim) → (asked : IsAsked g l seen points)
+    → (there : Answered g l points aim)
+    → answer_on (door_of (plain_of l points)) (held g (control_of asked.front)) there.routing seen ≡ answer.aims aim
+asked_there g l points seen aim asked there =
     by (apart asked.front there.front asked.p there.p asked.rest there.rest (sym asked.points_are ∙ there.points_are))
   where
     there_told : header_of (plain_of l (there.front ++ there.p ∷ [])) ≡ Some there.seen
     there_told =
         ap header_of (one_more (plain_in l) there.front there.p ∙ ap (λ (ps : List Part). plain_of l there.front ++ ps) there.is)
-        ∙ fold-append header_by None (plain_of l there.front) (captured.fronted there.seen to ∷ [])
+        ∙ fold-append header_by None (plain_of l there.front) (captured.fronted there.seen there.routing aim ∷ [])
 
     by : Apart asked.front there.front asked.p there.p
-        → answer_on (door_of (plain_of l points)) (held g (control_of asked.front)) seen ≡ answer.dials to
+        → answer_on (door_of (plain_of l points)) (held g (control_of asked.front)) there.routing seen ≡ answer.aims aim
     by (at_once front p) =
         let both : Some seen ≡ Some there.seen = sym asked.told
         ∙ ap (λ (ps : List Point). header_of (plain_of l (ps ++ asked.p ∷ []))) front
         ∙ ap (λ (q : Point). header_of (plain_of l (there.front ++ q ∷ []))) p ∙ there_told in
         let same : seen ≡ there.seen = cc in
-        ap (λ (ps : List Point). answer_on (door_of (plain_of l points)) (held g (control_of ps)) seen) front
-        ∙ ap (answer_on (door_of (plain_of l points)) (held g (control_of there.front))) same ∙ there.answered
+        ap (λ (ps : List Point). answer_on (door_of (plain_of l points)) (held g (control_of ps)) there.routing seen) front
+        ∙ ap (answer_on (door_of (plain_of l points)) (held g (control_of there.front)) there.routing) same ∙ there.answered
     by (sooner more is) =
         absurd
         (told_further l asked.front more asked.p seen asked.told

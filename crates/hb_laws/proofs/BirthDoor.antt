@@ -8,14 +8,16 @@ use Rattle.hb_base.specs.declared.door.Why.TheVariants as whys
 use Rattle.hb_captured.specs.Part as captured
 use Rattle.hb_captured.specs.Part.{Part}
 use Rattle.hb_captured.specs.Sides.{door_by, door_of}
+use Rattle.hb_gateway.specs.Part as gateway
 use Rattle.hb_inbound.specs.Part as part
 use Rattle.hb_model.proofs.Grown.{one_more}
 use Rattle.hb_model.specs.Point as point
 use Rattle.hb_model.specs.declared.config.NodeConfig.{NodeConfig}
 use Rattle.hb_proxy.specs.Machine.{Machine}
 use Rattle.hb_proxy.specs.Owners.{Owner, nobody, inbound_link, plain_link, owner, owner_by, at_door, dialled_for}
-use Rattle.hb_proxy.specs.Points.{Point, of_control, of_link, of_plain, entry_in, entries, plain_in, plain_of}
+use Rattle.hb_proxy.specs.Points.{Point, of_control, of_link, of_plain, of_gate, of_stream, entry_in, entries, plain_in, plain_of}
 use Rattle.hb_proxy.specs.Runs.{Steps, StandsFor, begins, goes_on}
+use Rattle.hb_proxy.specs.Shared.{Shared, asks, tells, puts, finishes, credits, drops, completes, captured_part}
 use Rattle.hb_world.specs.declared.entry.Entry.{Entry}
 use Rattle.hb_world.specs.declared.entry.Entry.TheVariants as e
 
@@ -70,6 +72,15 @@ module _ (l : ℕ) where
   keeps_door q keeps a true = keeps a
   keeps_door q keeps a false = refl
 
+  stream_door : (n s : ℕ) (w : Shared) (d : Door) → door_by d (captured_part n s w) ≡ d
+  stream_door n s (asks authority) d = refl
+  stream_door n s (tells heard begun) d = refl
+  stream_door n s (puts waiting count) d = refl
+  stream_door n s finishes d = refl
+  stream_door n s (credits count) d = refl
+  stream_door n s (drops begun) d = refl
+  stream_door n s (completes begun note) d = refl
+
   here : (g : NodeConfig) (x y : Machine) (p : Point) → Steps g x p y → SameDoor p
   here g x y (of_control (point.entry (e.Accepted k d))) steps w a b before mine = absurd steps.1.0
   here g x y (of_control (point.entry (e.Dialled k to why))) steps w a b before mine = dials_other k why w a b before mine
@@ -95,6 +106,14 @@ module _ (l : ℕ) where
       keeps_door (captured.up (e.Dialled j to why)) (λ d. refl) a (k == l) ∙ dials_other j why w a b before mine
   here g x y (of_plain k (captured.up z)) steps w a b before mine = keeps_door (captured.up z) (λ d. refl) a (k == l) ∙ before mine
   here g x y (of_plain k q) steps w a b before mine = keeps_door q (λ d. refl) a (k == l) ∙ before mine
+  here g x y (of_gate n (gateway.entry (e.Accepted j d))) steps w a b before mine = absurd steps.1.0
+  here g x y (of_gate n (gateway.entry (e.Dialled j to why))) steps w a b before mine = absurd steps.1.0
+  here g x y (of_gate n (gateway.entry z)) steps w a b before mine = before mine
+  here g x y (of_gate n (gateway.dialled (e.Dialled j to why) key)) steps w a b before mine = dials_other j why w a b before mine
+  here g x y (of_gate n (gateway.dialled z key)) steps w a b before mine = absurd steps.1.0
+  here g x y (of_gate n q) steps w a b before mine = before mine
+  here g x y (of_stream k n s shared) steps w a b before mine =
+      keeps_door (captured_part n s shared) (stream_door n s shared) a (k == l) ∙ before mine
 
   pub door_told : (g : NodeConfig) (x : Machine) (points : List Point) → StandsFor g x points → owner l (entries points) ≡ plain_link
       → door_of (plain_of l points) ≡ door_at l (entries points)

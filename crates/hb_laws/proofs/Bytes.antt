@@ -36,7 +36,7 @@ told_within s f (found.Chunk k end) = within_either (k == s) (lent_of f) [] (len
 told_within s f _ = omega arith
 
 -- what is handed out of a stream has no more octets than the frames that came
-came_within : (s : ℕ) (points : List history.Point) (rest bytes : List ℕ) → Joins (frames_got points) rest bytes
+pub came_within : (s : ℕ) (points : List history.Point) (rest bytes : List ℕ) → Joins (frames_got points) rest bytes
     → length (flat_map (data_by s) points) ≤ length bytes
 came_within s [] rest bytes joins = omega arith
 came_within s (p ∷ points) rest bytes joins = by p.move joins (λ more tail. came_within s points rest more tail)

@@ -11,7 +11,7 @@ use Rattle.hb_world.specs.declared.entry.Entry.{Entry}
 use Rattle.hb_world.specs.declared.entry.Entry.TheVariants as e
 use Rattle.hb_laws.specs.Lawful.{Lawful}
 use Rattle.hb_laws.specs.Refused.{waits}
-use Rattle.hb_laws.proofs.Lawful.{not_stopped}
+use Rattle.hb_laws.proofs.Lawful.{not_stopped, own_in}
 use Rattle.hb_laws.proofs.Places.{PointOf, place, further, of_whom}
 use Rattle.hb_laws.proofs.Tests.{none_in_front}
 
@@ -39,7 +39,7 @@ close_place g trace before h l why whose is mine =
       p = inner.p;
       rest = behind;
       points_are = at;
-      point = of_whom inner.front closes l refl inner.p (h.own inner.front inner.p behind at) inner.is whose
+      point = of_whom inner.front closes l refl inner.p (own_in g trace h inner.front inner.p behind at) inner.is whose
           (ap (owner l) inner.before_is ∙ mine);
       before_is = inner.before_is;
       goes = none_in_front is_stop (control_of outer.front) (control_of inner.front) (control_of (inner.p ∷ inner.rest))

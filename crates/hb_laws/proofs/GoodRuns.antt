@@ -1,18 +1,18 @@
 -- Runs whose traces are lawful.
-use Rattle.std.proofs.Common.{◌≡◌, ◌≢◌, inl, inr, ℕ, zero, suc, ◌<◌, ◌≤◌, ◌==◌, Bool, true, false, cond, List, [], ◌∷◌, ◌++◌, length, Some, None, refl, ap, sym, ◌∙◌, subst, arith}
+use Rattle.std.proofs.Common.{◌≡◌, ◌≢◌, inl, inr, ⊎_elim, ℕ, zero, suc, ◌<◌, ◌≤◌, ◌==◌, Bool, true, false, cond, List, [], ◌∷◌, ◌++◌, length, Some, None, refl, ap, sym, ◌∙◌, subst, arith}
 use Rattle.std.specs.FinMap.{len-empty}
 use Rattle.std.specs.List.{list_all}
 use Rattle.std.specs.Ordering.{nat_cmp}
 use Rattle.std.specs.Prelude.{nat_lt}
-use Rattle.std.proofs.lemmas.Bool.{cond_both, eq-eqb, false≢true, ltb-true, ne_eqb}
+use Rattle.std.proofs.lemmas.Bool.{cases_eq, cond_both, eq-eqb, false≢true, ltb-true, ne_eqb}
 use Rattle.hb_base.specs.declared.cause.Cause.{Cause}
 use Rattle.hb_base.specs.declared.cause.Cause.TheVariants as cause
 use Rattle.hb_base.specs.declared.door.Door.{Door}
 use Rattle.hb_base.specs.declared.door.Door.TheVariants as door
-use Rattle.hb_captured.specs.Answer.{answer_on, refused_with}
+use Rattle.hb_captured.specs.Answer.{Routing, answer_on, refused_with}
 use Rattle.hb_captured.specs.Calm as plain_calm
 use Rattle.hb_captured.specs.Captured as plain
-use Rattle.hb_captured.specs.Captured.{peer_in}
+use Rattle.hb_captured.specs.Captured.{peer_in, is_raw}
 use Rattle.hb_captured.specs.Part as captured
 use Rattle.hb_captured.specs.Runs.{Captures, MayGo, next_link, verdict_note}
 use Rattle.hb_conn.specs.Connection.{fresh_server, taken}
@@ -22,6 +22,7 @@ use Rattle.hb_front.specs.Reading.{Seen, IsAnswer, Whole, More}
 use Rattle.hb_front.specs.Written.{header_of, front_text}
 use Rattle.hb_front.specs.declared.fault.FrontFault.TheVariants.{BadSignature}
 use Rattle.hb_frames.specs.Frames.{AreOctets}
+use Rattle.hb_gateway.specs.Gateway as gateway
 use Rattle.hb_inbound.specs.Calm.{IsCalm, IsQuiet, close_due}
 use Rattle.hb_inbound.specs.Inbound.{Inbound, no_link, arriving, fronting, closing, closed, with_phase, fronted_by, came, link_ended}
 use Rattle.hb_inbound.specs.Part as part
@@ -39,7 +40,7 @@ use Rattle.hb_world.specs.declared.entry.Way.TheVariants as way
 use Rattle.hb_world.specs.declared.entry.Woken.TheVariants as woken
 use Rattle.hb_proxy.specs.Machine.{Machine, fresh, plain_local, with_control, with_part, with_plain}
 use Rattle.hb_proxy.specs.Points.{Point, of_control, of_link, of_plain}
-use Rattle.hb_proxy.specs.Runs.{goes_first, BirthMayCome, Lets, PlainLets, ControlRests, PlainGuard, StandsFor, begins, goes_on}
+use Rattle.hb_proxy.specs.Runs.{goes_first, BirthMayCome, Lets, PlainLets, GateLets, GatesLet, ControlRests, PlainGuard, routing_of, StandsFor, begins, goes_on}
 use Rattle.hb_laws.specs.Good.{good_trace, GoodTraceIsLawful, good_link, GoodLinkIsLawful, source, destination, good_end, GoodEndIsLawful, good_plain, GoodPlainIsLawful, good_refusal, GoodRefusalIsLawful, good_unsynced, GoodUnsyncedIsLawful}
 use Rattle.hb_laws.specs.Refused.{dials, fails, waits, waits_tick, balks}
 use Rattle.hb_laws.specs.RefusedLinks.{accepts}
@@ -52,6 +53,17 @@ calm = record { answered = λ s. refl; rests = tt }
 
 quiet : IsQuiet no_link
 quiet = record { calm = calm; no_close = refl; idle = λ s. tt }
+
+-- a link to a gateway that was never born is too, and no plain link has a stream of one
+gate_lets : (first : Bool) → GateLets first gateway.no_link
+gate_lets true = (λ s. refl, tt)
+gate_lets false = record { calm = (λ s. refl, tt); no_close = refl }
+
+bare : (x : Machine) → ((n : ℕ) → x.gates n ≡ gateway.no_link) → ((l : ℕ) → is_raw (x.plain l) ≡ true) → (first : Bool) → GatesLet first x
+bare x none raw first = record {
+  gates = λ n. subst (GateLets first) (sym (none n)) (gate_lets first);
+  streams = λ l on. absurd (false≢true (sym on ∙ raw l));
+}
 
 -- octets, by a test of each
 are_octets : (bytes : List ℕ) → list_all (λ b. nat_lt b 256) bytes ≡ true → AreOctets bytes
@@ -70,10 +82,11 @@ module _ (g : NodeConfig) where
 
   goes : (x : Machine) (points : List Point) (z : Entry) → StandsFor g x points → model.MayCome g x.control z → BirthMayCome x z
       → ((l : ℕ) → Lets (goes_first x.control z) (x.inbound l)) → ((l : ℕ) → PlainLets (goes_first x.control z) (x.plain l))
+      → GatesLet (goes_first x.control z) x
       → StandsFor g (on z x) (points ++ of_control (point.entry z) ∷ [])
-  goes x points z stands may birth lets plain =
+  goes x points z stands may birth lets plain gates =
       goes_on stands (of_control (point.entry z))
-      (control.entered g z x.control, (may, refl), record { birth = birth; links = lets; plain = plain }, refl) refl
+      (control.entered g z x.control, (may, refl), record { birth = birth; links = lets; plain = plain; gates = gates }, refl) refl
 
   abbrev asks : Entry
   asks = balks (way.Finish 1)
@@ -138,6 +151,7 @@ module _ (g : NodeConfig) where
 
   dialled : StandsFor g x1 (of_control (point.entry (dials g)) ∷ [])
   dialled = goes (fresh g) [] (dials g) (begins refl refl) (refl, omega arith, refl, refl) refl (λ l. calm) (λ l. tt)
+      (bare (fresh g) (λ n. refl) (λ l. refl) true)
 
   runs : StandsFor g (on waits x8) (of_control (point.entry (dials g)) ∷ of_control (point.entry asks) ∷ of_control (point.entry wakes)
       ∷ of_control (point.entry breaks) ∷ of_control (point.entry closes) ∷ of_control (point.entry waits_tick)
@@ -150,14 +164,14 @@ module _ (g : NodeConfig) where
       (goes x4 _ closes
       (goes x3 _ breaks
       (goes x2 _ wakes
-      (goes x1 _ asks dialled (refl, (unopened, refl)) tt (λ l. quiet) (λ l. (tt, tt)))
-      unopened tt (λ l. quiet) (λ l. (tt, tt)))
-      (inl (unopened, refl)) tt (λ l. quiet) (λ l. (tt, tt)))
-      refl tt (λ l. calm) (λ l. tt))
-      over tt (λ l. quiet) (λ l. (tt, tt)))
-      over tt (λ l. quiet) (λ l. (tt, tt)))
-      (refl, refl, refl) tt (λ l. calm) (λ l. tt))
-      failed tt (λ l. quiet) (λ l. (tt, tt))
+      (goes x1 _ asks dialled (refl, (unopened, refl)) tt (λ l. quiet) (λ l. (tt, tt)) (bare x1 (λ n. refl) (λ l. refl) false))
+      unopened tt (λ l. quiet) (λ l. (tt, tt)) (bare x2 (λ n. refl) (λ l. refl) false))
+      (inl (unopened, refl)) tt (λ l. quiet) (λ l. (tt, tt)) (bare x3 (λ n. refl) (λ l. refl) false))
+      refl tt (λ l. calm) (λ l. tt) (bare x4 (λ n. refl) (λ l. refl) true))
+      over tt (λ l. quiet) (λ l. (tt, tt)) (bare x5 (λ n. refl) (λ l. refl) false))
+      over tt (λ l. quiet) (λ l. (tt, tt)) (bare x6 (λ n. refl) (λ l. refl) false))
+      (refl, refl, refl) tt (λ l. calm) (λ l. tt) (bare x7 (λ n. refl) (λ l. refl) true))
+      failed tt (λ l. quiet) (λ l. (tt, tt)) (bare x8 (λ n. refl) (λ l. refl) false)
 
   -- AN INBOUND LINK
 
@@ -234,7 +248,13 @@ module _ (g : NodeConfig) where
       (goes_on dialled (of_link 2 (part.entry accepts)) (
         arrived,
         ((refl, refl, refl), refl),
-        record { birth = (refl, refl); control = rests; others = λ k apart. quiet; plain = λ k. (tt, tt) },
+        record {
+          birth = (refl, refl);
+          control = rests;
+          others = λ k apart. quiet;
+          plain = λ k. (tt, tt);
+          gates = bare x1 (λ n. refl) (λ l. refl) false;
+        },
         refl,
       ) refl)
       (of_link 2 part.welcomed) (taken_in, (refl, refl), tt, refl) refl
@@ -246,17 +266,30 @@ module _ (g : NodeConfig) where
       let came_in = goes_on welcomed_in (of_link 2 (part.entry began)) (
         read,
         ((refl, (inl (taken_quiet, refl), omega arith), are_octets (0 ∷ []) refl, omega arith, omega arith), refl),
-        record { birth = tt; control = rests; others = others y3 only3 false; plain = λ k. (tt, tt) },
+        record {
+          birth = tt;
+          control = rests;
+          others = others y3 only3 false;
+          plain = λ k. (tt, tt);
+          gates = bare y3 (λ n. refl) (λ l. refl) false;
+        },
         refl,
       ) refl in
       let fault = goes_on came_in (of_link 2 (part.misfronted BadSignature)) (at_fault, (refl, inl refl, refl), tt, refl) refl in
       let ended = goes_on fault (of_link 2 (part.entry ends)) (
         gone,
         ((refl, record { answered = λ s. refl; rests = tt }, refl), refl),
-        record { birth = tt; control = rests; others = others y5 only5 true; plain = λ k. tt },
+        record {
+          birth = tt;
+          control = rests;
+          others = others y5 only5 true;
+          plain = λ k. tt;
+          gates = bare y5 (λ n. refl) (λ l. refl) true;
+        },
         refl,
       ) refl in
       goes y6 _ waits ended (record { no_dial = refl; goes = refl; calm = unopened_calm }) tt all_quiet (λ l. (tt, tt))
+      (bare y6 (λ n. refl) (λ l. refl) false)
 
   -- A LINK WHOSE PEER SENDS NO MORE
 
@@ -348,23 +381,42 @@ module _ (g : NodeConfig) where
       let came_in = goes_on welcomed_in (of_link 2 (part.entry fronted_entry)) (
         held,
         ((refl, (inl (taken_quiet, refl), omega arith), are_octets front refl, omega arith, omega arith), refl),
-        record { birth = tt; control = rests; others = others y3 only3 false; plain = λ k. (tt, tt) },
+        record {
+          birth = tt;
+          control = rests;
+          others = others y3 only3 false;
+          plain = λ k. (tt, tt);
+          gates = bare y3 (λ n. refl) (λ l. refl) false;
+        },
         refl,
       ) refl in
       let served = goes_on came_in (of_link 2 (part.fronted told)) (serves, (refl, whole, None, refl, refl), tt, refl) refl in
       let ended = goes_on served (of_link 2 (part.entry (e.Ended 2))) (
         done,
         ((refl, (inr (serves_quiet, refl), omega arith)), refl),
-        record { birth = tt; control = rests; others = others z5 only_z5 false; plain = λ k. (tt, tt) },
+        record {
+          birth = tt;
+          control = rests;
+          others = others z5 only_z5 false;
+          plain = λ k. (tt, tt);
+          gates = bare z5 (λ n. refl) (λ l. refl) false;
+        },
         refl,
       ) refl in
       let closed_it = goes_on ended (of_link 2 (part.entry (e.Closed 2 cause.Done))) (
         shut,
         ((refl, record { answered = λ s. refl; rests = tt }, done_now), refl),
-        record { birth = tt; control = rests; others = others z6 only_z6 true; plain = λ k. tt },
+        record {
+          birth = tt;
+          control = rests;
+          others = others z6 only_z6 true;
+          plain = λ k. tt;
+          gates = bare z6 (λ n. refl) (λ l. refl) true;
+        },
         refl,
       ) refl in
       goes z7 _ waits closed_it (record { no_dial = refl; goes = refl; calm = unopened_calm }) tt end_quiet (λ l. (tt, tt))
+      (bare z7 (λ n. refl) (λ l. refl) false)
 
   -- A PLAIN LINK
 
@@ -373,7 +425,7 @@ module _ (g : NodeConfig) where
   on_plain p x = with_plain 2 p (next_link (x.plain 2) p) x
 
   goes_plain : (x : Machine) (points : List Point) (p : captured.Part) → StandsFor g x points → MayGo 2 (plain_local x 2) p
-      → PlainGuard x 2 p → StandsFor g (on_plain p x) (points ++ of_plain 2 p ∷ [])
+      → PlainGuard g x 2 p → StandsFor g (on_plain p x) (points ++ of_plain 2 p ∷ [])
   goes_plain x points p stands may guard = goes_on stands (of_plain 2 p) (may, guard, refl) refl
 
   abbrev Alone : Machine → Type 0
@@ -382,26 +434,33 @@ module _ (g : NodeConfig) where
   alone : (x : Machine) (p : captured.Part) → Alone x → Alone (on_plain p x)
   alone x p only k apart = ap (λ (b : Bool). cond b (next_link (x.plain 2) p) (x.plain k)) (ne_eqb k 2 apart) ∙ only k apart
 
+  -- and it has no stream
+  all_raw : (x : Machine) → Alone x → is_raw (x.plain 2) ≡ true → (l : ℕ) → is_raw (x.plain l) ≡ true
+  all_raw x only raw l =
+      ⊎_elim (λ same. ap (λ (k : ℕ). is_raw (x.plain k)) same ∙ raw) (λ apart. ap (λ (c : plain.Captured). is_raw c) (only l apart))
+      (cases_eq l 2)
+
   -- nothing came of a header yet
   more_first : IsAnswer [] More
   more_first = (refl, omega arith)
 
   -- it is over and closed, and the proxy waits
-  closed_quiet : (x : Machine) (why : Cause) → (x.plain 2).stage ≡ plain.over why → (x.plain 2).up ≡ 0 → Alone x → (l : ℕ)
+  closed_quiet : (x : Machine) (why : Cause) → (x.plain 2).stage ≡ plain.over why → (x.plain 2).up ≡ 0 → is_raw (x.plain 2) ≡ true
+      → Alone x → (l : ℕ)
       → plain_calm.IsQuiet ((on_plain (captured.entry (e.Closed 2 why)) x).plain l)
-  closed_quiet x why over none only l =
+  closed_quiet x why over none raw only l =
       cond_both (l == 2) (plain.entered (e.Closed 2 why) (x.plain 2)) (x.plain l) plain_calm.IsQuiet
-      (λ is. rw over (tt, (refl, none)))
+      (λ is. rw over (raw, (refl, none)))
       (λ is. subst plain_calm.IsQuiet (sym (only l (λ same. false≢true (sym is ∙ eq-eqb l 2 same)))) (tt, tt))
 
   act_calm : (x : Machine) → Alone x → (k : ℕ) → k ≢ 2 → plain_calm.IsCalm (x.plain k)
   act_calm x only k apart = subst plain_calm.IsCalm (sym (only k apart)) tt
 
   -- at each door a header is refused while nothing is held
-  unsynced : (d : Door) → answer_on d x1.control.held told ≡ refused_with 503
-  unsynced door.Outbound = refl
-  unsynced door.Plain = refl
-  unsynced door.Inbound = refl
+  unsynced : (d : Door) (routing : Routing) → answer_on d x1.control.held routing told ≡ refused_with 503
+  unsynced door.Outbound routing = refl
+  unsynced door.Plain routing = refl
+  unsynced door.Inbound routing = refl
 
   -- one that is accepted at a door at which plain links are
   module _ (d : Door) (captures : Captures d) where
@@ -419,7 +478,13 @@ module _ (g : NodeConfig) where
     welcomed_plain =
         goes_plain p2 _ captured.welcomed
         (goes_plain x1 _ (captured.entry (e.Accepted 2 d)) dialled (refl, refl, captures)
-        (record { birth = (refl, refl); control = rests; links = λ k. quiet; others = λ k apart. (tt, tt) }))
+        (record {
+          birth = (refl, refl);
+          control = rests;
+          links = λ k. quiet;
+          others = λ k apart. (tt, tt);
+          gates = bare x1 (λ n. refl) (λ l. refl) false;
+        }))
         refl tt
 
     -- bytes come while it waits for its header, and it is closed where it is over
@@ -433,6 +498,7 @@ module _ (g : NodeConfig) where
           control = rests;
           links = λ k. quiet;
           others = λ k apart. subst plain_calm.IsQuiet (sym (alone3 k apart)) (tt, tt);
+          gates = bare p3 (λ n. refl) (all_raw p3 alone3 refl) false;
         })
 
     abbrev fault : captured.Part
@@ -456,19 +522,25 @@ module _ (g : NodeConfig) where
     plain_runs =
         let begun = came_plain (0 ∷ []) (are_octets (0 ∷ []) refl) (omega arith) (omega arith) in
         let faulty = goes_plain p4 _ fault begun (refl, inl refl) tt in
-        let ended = goes_plain p5 _ (captured.entry ends) faulty (refl, tt, refl, refl)
-        (record { birth = tt; control = rests; links = λ k. calm; others = act_calm p5 alone5 }) in
+        let ended = goes_plain p5 _ (captured.entry ends) faulty (refl, refl, refl, refl) (record {
+          birth = tt;
+          control = rests;
+          links = λ k. calm;
+          others = act_calm p5 alone5;
+          gates = bare p5 (λ n. refl) (all_raw p5 alone5 refl) true;
+        }) in
         goes p6 _ waits ended (record { no_dial = refl; goes = refl; calm = unopened_calm }) tt (λ l. quiet)
-        (closed_quiet p5 (cause.FrontFault (number_of BadSignature)) refl refl alone5)
-
-    abbrev refusal : captured.Part
-    refusal = captured.refused told (cause.Refused 503) 503 (verdict_note 2 503 (peer_in told) destination)
+        (closed_quiet p5 (cause.FrontFault (number_of BadSignature)) refl refl refl alone5)
+        (bare p6 (λ n. refl) (all_raw p6 (alone p5 (captured.entry ends) alone5) refl) false)
 
     abbrev shuts : Entry
     shuts = e.Closed 2 (cause.Refused 503)
 
     abbrev q4 : Machine
     q4 = on_plain (captured.entry fronted_entry) p3
+
+    abbrev refusal : captured.Part
+    refusal = captured.refused told (routing_of g q4) (cause.Refused 503) 503 (verdict_note 2 503 (peer_in told) destination)
 
     abbrev q5 : Machine
     q5 = on_plain refusal q4
@@ -484,11 +556,17 @@ module _ (g : NodeConfig) where
         ∷ of_control (point.entry waits) ∷ [])
     refusal_runs =
         let refused = goes_plain q4 _ refusal (came_plain front (are_octets front refl) (omega arith) (omega arith))
-        ((refl, whole), unsynced d, refl) tt in
-        let ended = goes_plain q5 _ (captured.entry shuts) refused (refl, tt, refl, refl)
-        (record { birth = tt; control = rests; links = λ k. calm; others = act_calm q5 alone_q5 }) in
+        ((refl, whole), unsynced d (routing_of g q4), refl) refl in
+        let ended = goes_plain q5 _ (captured.entry shuts) refused (refl, refl, refl, refl) (record {
+          birth = tt;
+          control = rests;
+          links = λ k. calm;
+          others = act_calm q5 alone_q5;
+          gates = bare q5 (λ n. refl) (all_raw q5 alone_q5 refl) true;
+        }) in
         goes q6 _ waits ended (record { no_dial = refl; goes = refl; calm = unopened_calm }) tt (λ l. quiet)
-        (closed_quiet q5 (cause.Refused 503) refl refl alone_q5)
+        (closed_quiet q5 (cause.Refused 503) refl refl refl alone_q5)
+        (bare q6 (λ n. refl) (all_raw q6 (alone q5 (captured.entry shuts) alone_q5) refl) false)
 
 pub good_trace_is_lawful : GoodTraceIsLawful
 good_trace_is_lawful g = run_is_lawful g _ _ (good_trace g) (runs g) refl

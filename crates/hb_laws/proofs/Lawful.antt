@@ -8,6 +8,8 @@ use Rattle.hb_base.specs.declared.cause.Cause.{Cause}
 use Rattle.hb_base.specs.declared.door.Why.TheVariants as whys
 use Rattle.hb_captured.specs.Part as captured
 use Rattle.hb_captured.specs.Runs.{MayCome, UpMayCome}
+use Rattle.hb_gateway.specs.Part as gateway
+use Rattle.hb_gateway.specs.Runs as gateway_runs
 use Rattle.hb_history.specs.Heard.{ends_stream}
 use Rattle.hb_history.specs.Points.{frames_got}
 use Rattle.hb_inbound.specs.Part as part
@@ -24,8 +26,8 @@ use Rattle.hb_world.specs.declared.entry.Entry.TheVariants as e
 use Rattle.hb_world.specs.declared.entry.ReadyItem.{ReadyItem}
 use Rattle.hb_world.specs.declared.entry.Woken.{Woken}
 use Rattle.hb_proxy.specs.Machine.{Machine}
-use Rattle.hb_proxy.specs.Owners.{link_of}
-use Rattle.hb_proxy.specs.Points.{Point, of_control, of_link, of_plain, entry_in, entries, control_in, control_of}
+use Rattle.hb_proxy.specs.Owners.{link_of, AtEach}
+use Rattle.hb_proxy.specs.Points.{Point, of_control, of_link, of_plain, of_gate, of_stream, entry_in, entries, control_in, control_of}
 use Rattle.hb_proxy.specs.Runs.{Steps, StandsFor}
 use Rattle.hb_proxy.specs.Sides.{IsKnown}
 use Rattle.hb_proxy.proofs.Places.{at_points}
@@ -33,7 +35,7 @@ use Rattle.hb_proxy.proofs.Projection.{control_runs}
 use Rattle.hb_laws.specs.Lawful.{Lawful, Laws}
 use Rattle.hb_laws.proofs.Ending.{brings_end}
 use Rattle.hb_laws.proofs.Runs.{front_runs}
-use Rattle.hb_laws.proofs.Places.{plane_place}
+use Rattle.hb_laws.proofs.Places.{IsOwn, is_own, plane_place}
 use Rattle.hb_laws.proofs.Tells.{same_told}
 use Rattle.hb_laws.proofs.Tests.{any_so}
 
@@ -64,6 +66,13 @@ waits_on g x y before (of_plain l (captured.entry en)) ready how runs steps is =
 waits_on g x y before (of_plain l (captured.up en)) ready how runs steps is =
     let same : en ≡ e.Wait ready how = cc in absurd (subst (UpMayCome l (x.plain l)) same steps.0)
 waits_on g x y before (of_plain l _) ready how runs steps is = absurd cc
+waits_on g x y before (of_gate n (gateway.entry en)) ready how runs steps is =
+    let same : en ≡ e.Wait ready how = cc in absurd (subst (gateway_runs.MayCome n (x.gates n)) same steps.1.0)
+waits_on g x y before (of_gate n (gateway.dialled en key)) ready how runs steps is =
+    let same : en ≡ e.Wait ready how = cc in
+    absurd (subst (λ (z : Entry). gateway_runs.IsBirth n (x.gates n) z key) same steps.1.0)
+waits_on g x y before (of_gate n _) ready how runs steps is = absurd cc
+waits_on g x y before (of_stream l n s w) ready how runs steps is = absurd cc
 
 -- a link to the control plane is dialled, and born
 dialled_so : (l : ℕ) (x : Entry) → is_control_of l x ≡ true → is_dialled_of l x ≡ true
@@ -112,6 +121,11 @@ module _ (g : NodeConfig) (trace : List Entry) (h : Lawful g trace) where
   pub goes_at : (before : List Point) (p : Point) (behind : List Point) → h.points ≡ before ++ p ∷ behind → Goes g before p
   goes_at =
       at_points g (Goes g) (λ x y before p runs steps. record { machine = x; next = y; run = runs; steps = steps }) h.machine h.points h.run
+
+  -- each point stands on a link of its own part
+  pub own_in : AtEach IsOwn h.points
+  own_in before p behind are =
+      let at = goes_at before p behind are in is_own g at.machine at.next before p at.steps (h.own before p behind are)
 
   -- what holds at each front of its points holds of all
   pub laws_of : Laws g h.points

@@ -20,7 +20,7 @@ use Rattle.hb_model.specs.declared.config.NodeConfig.{NodeConfig}
 use Rattle.hb_world.specs.declared.entry.Entry.{Entry}
 use Rattle.hb_world.specs.declared.entry.Entry.TheVariants as e
 use Rattle.hb_proxy.specs.Machine.{Machine}
-use Rattle.hb_proxy.specs.Points.{Point, of_control, of_link, of_plain, entry_in, entries, control_in, control_of, part_in, parts_of}
+use Rattle.hb_proxy.specs.Points.{Point, of_control, of_link, of_plain, of_gate, of_stream, entry_in, entries, control_in, control_of, part_in, parts_of}
 use Rattle.hb_proxy.specs.Runs.{Steps, StandsFor, begins, goes_on}
 use Rattle.hb_laws.proofs.Tests.{or_none, none_of_both}
 
@@ -36,7 +36,8 @@ breaks_part _ = false
 
 -- where no point says so while the run goes on, no part that points tell does
 module _ {A : Type 0} (told : Point → List A) (says : Entry → Bool) (is : A → Bool)
-    (here : (g : NodeConfig) (x y : Machine) (p : Point) → Steps g x p y → list_any says (entry_in p) ≡ false
+    (here : (g : NodeConfig) (x y : Machine) (points : List Point) (p : Point) → StandsFor g x points
+    → list_any is_stop (control_of points) ≡ false → Steps g x p y → list_any says (entry_in p) ≡ false
     → list_any is_stop (control_in p) ≡ false → list_any is (told p) ≡ false) where
   pub none_told : (g : NodeConfig) (x : Machine) (points : List Point) → StandsFor g x points → list_any says (entries points) ≡ false
       → list_any is_stop (control_of points) ≡ false → list_any is (flat_map told points) ≡ false
@@ -51,7 +52,7 @@ module _ {A : Type 0} (told : Point → List A) (says : Entry → Bool) (is : A 
       ap (list_any is) (ap (flat_map told) are ∙ one_more told points p)
       ∙ list_any-append is (flat_map told points) (told p)
       ∙ or_none (list_any is (flat_map told points)) (list_any is (told p))
-      (none_told g x points stands wholes.0 run.0) (here g x y p steps wholes.1 run.1)
+      (none_told g x points stands wholes.0 run.0) (here g x y points p stands run.0 steps wholes.1 run.1)
 
 pub none_of_one : {A : Type 0} (is : A → Bool) (p : A) (b : Bool) → is p ≡ false → list_any is (cond b (p ∷ []) []) ≡ false
 none_of_one is p true none = or_none (is p) false none refl
@@ -76,10 +77,12 @@ module _ (l : ℕ) where
       none_of_one breaks_part (part.entry z) (k == l) (none_of_both (breaks z) false whole).0
   here g x y (of_link k p) steps whole runs = none_of_one breaks_part p (k == l) refl
   here g x y (of_plain k p) steps whole runs = refl
+  here g x y (of_gate n p) steps whole runs = refl
+  here g x y (of_stream k n s w) steps whole runs = refl
 
   pub none_breaks : (g : NodeConfig) (x : Machine) (points : List Point) → StandsFor g x points → list_any breaks (entries points) ≡ false
       → list_any is_stop (control_of points) ≡ false → list_any breaks_part (parts_of l points) ≡ false
-  none_breaks = none_told (part_in l) breaks breaks_part here
+  none_breaks = none_told (part_in l) breaks breaks_part (λ g x y points p stands runs. here g x y p)
 
 -- THE CAUSE OF A CLOSE
 

@@ -3,9 +3,12 @@ use Rattle.std.proofs.Common.{◌≡◌, inl, inr, ⊎_elim, ℕ, ◌<◌, Bool,
 use Rattle.std.proofs.lemmas.Bool.{false≢true}
 use Rattle.hb_captured.proofs.Kept.{Keeps, all_keep}
 use Rattle.hb_captured.specs.Captured as plain
+use Rattle.hb_captured.specs.Captured.{is_raw}
 use Rattle.hb_captured.specs.Part as captured
 use Rattle.hb_captured.specs.Sides as relays
 use Rattle.hb_captured.specs.Sides.{is_close, was_on_link}
+use Rattle.hb_gateway.specs.Gateway as gateway_link
+use Rattle.hb_gateway.specs.Part as gateway
 use Rattle.hb_inbound.proofs.EndsRun.{all_say, new_streams}
 use Rattle.hb_inbound.proofs.Life.{SaysBy}
 use Rattle.hb_inbound.specs.Ends.{Life, up_of}
@@ -16,6 +19,7 @@ use Rattle.hb_model.proofs.Grown.{IsBorn}
 use Rattle.hb_model.specs.Discovery as discovery
 use Rattle.hb_model.specs.Point as point
 use Rattle.hb_model.specs.declared.config.NodeConfig.{NodeConfig}
+use Rattle.hb_proxy.proofs.GateChanges.{is_gate_born}
 use Rattle.hb_proxy.proofs.Owned.{Owned, whose_in, all_owned}
 use Rattle.hb_proxy.proofs.Plain.{plain_runs}
 use Rattle.hb_proxy.proofs.PlainStays.{is_plain_born, relay_weakly}
@@ -25,16 +29,18 @@ use Rattle.hb_proxy.proofs.Stays.{is_born, weakly}
 use Rattle.hb_proxy.specs.Ends.{AllClosed, MoreComes, EndsAt}
 use Rattle.hb_proxy.specs.Held.{at_start}
 use Rattle.hb_proxy.specs.Machine.{Machine, local, plain_local}
-use Rattle.hb_proxy.specs.Owners.{Owner, nobody, control_plane, inbound_link, upstream_of, plain_link, relay_of}
-use Rattle.hb_proxy.specs.Points.{Point, of_control, of_link, of_plain, entry_in, entries, parts_of, plain_of}
+use Rattle.hb_proxy.specs.Owners.{Owner, nobody, control_plane, inbound_link, upstream_of, plain_link, relay_of, gateway_link}
+use Rattle.hb_proxy.specs.Points.{Point, of_control, of_link, of_plain, of_gate, of_stream, entry_in, entries, parts_of, plain_of}
 use Rattle.hb_proxy.specs.Runs.{StandsFor}
-use Rattle.hb_proxy.specs.Seen.{IsThere, IsLinkThere, IsPlainThere, IsPlainThereBy, HasLink}
+use Rattle.hb_proxy.specs.Seen.{IsThere, IsLinkThere, IsPlainThere, IsPlainThereBy, IsGateThere, HasLink}
 use Rattle.hb_proxy.specs.Ups.{up_by, Joins, IsRelayOf}
 use Rattle.hb_world.specs.Trace.{lives}
 use Rattle.hb_world.specs.declared.entry.Entry.{Entry}
 use Rattle.hb_world.specs.declared.entry.Entry.TheVariants as e
 use Rattle.hb_laws.specs.Lawful.{Lawful}
 use Rattle.hb_laws.specs.RefusedTunnels.{is_more}
+use Rattle.hb_laws.proofs.Lawful.{own_in}
+use Rattle.hb_laws.proofs.Places.{is_dial, DialsOnly}
 
 -- WHERE MORE COMES
 
@@ -53,21 +59,33 @@ closed_where g before (e.Balked w) more comes = absurd (false≢true more)
 closed_where g before (e.Shut l) more comes = absurd (false≢true more)
 closed_where g before (e.Closed l why) more comes = absurd (false≢true more)
 
-comes_where : (g : NodeConfig) (before : List Point) (p : Point) (z : Entry) → entry_in p ≡ z ∷ [] → EndsAt g before p
+dials_nothing : (g : NodeConfig) (before : List Point) (z : Entry) → is_dial z ≡ true → MoreComes g before z
+dials_nothing g before (e.Dialled l to why) is = tt
+dials_nothing g before (e.Accepted l d) is = absurd (false≢true is)
+dials_nothing g before _ is = absurd (false≢true is)
+
+comes_where : (g : NodeConfig) (before : List Point) (p : Point) (z : Entry) → entry_in p ≡ z ∷ [] → DialsOnly p → EndsAt g before p
     → MoreComes g before z
-comes_where g before (of_control (point.entry en)) z is ends = (let same : en ≡ z = cc in subst (MoreComes g before) same ends)
-comes_where g before (of_control _) z is ends = absurd cc
-comes_where g before (of_link l (part.entry en)) z is ends = (let same : en ≡ z = cc in subst (MoreComes g before) same ends.0)
-comes_where g before (of_link l (part.up s en)) z is ends = (let same : en ≡ z = cc in subst (MoreComes g before) same ends.0)
-comes_where g before (of_link l _) z is ends = absurd cc
-comes_where g before (of_plain l (captured.entry en)) z is ends = (let same : en ≡ z = cc in subst (MoreComes g before) same ends.0)
-comes_where g before (of_plain l (captured.up en)) z is ends = (let same : en ≡ z = cc in subst (MoreComes g before) same ends.0)
-comes_where g before (of_plain l _) z is ends = absurd cc
+comes_where g before (of_control (point.entry en)) z is dials ends = (let same : en ≡ z = cc in subst (MoreComes g before) same ends)
+comes_where g before (of_control _) z is dials ends = absurd cc
+comes_where g before (of_link l (part.entry en)) z is dials ends = (let same : en ≡ z = cc in subst (MoreComes g before) same ends.0)
+comes_where g before (of_link l (part.up s en)) z is dials ends = (let same : en ≡ z = cc in subst (MoreComes g before) same ends.0)
+comes_where g before (of_link l _) z is dials ends = absurd cc
+comes_where g before (of_plain l (captured.entry en)) z is dials ends = (let same : en ≡ z = cc in subst (MoreComes g before) same ends.0)
+comes_where g before (of_plain l (captured.up en)) z is dials ends = (let same : en ≡ z = cc in subst (MoreComes g before) same ends.0)
+comes_where g before (of_plain l _) z is dials ends = absurd cc
+comes_where g before (of_gate n (gateway.entry en)) z is dials ends =
+    let same : en ≡ z = cc in subst (MoreComes g before) same ends.0
+comes_where g before (of_gate n (gateway.dialled en key)) z is dials ends =
+    let same : en ≡ z = cc in subst (MoreComes g before) same (dials_nothing g before en dials)
+comes_where g before (of_gate n _) z is dials ends = absurd cc
+comes_where g before (of_stream l n s w) z is dials ends = absurd cc
 
 pub all_closed : (g : NodeConfig) (trace : List Entry) → (h : Lawful g trace) → (before : List Point) (p : Point) (behind : List Point)
     (z : Entry) → h.points ≡ before ++ p ∷ behind → entry_in p ≡ z ∷ [] → is_more z ≡ true → AllClosed g before
 all_closed g trace h before p behind z are is more =
-    closed_where g before z more (comes_where g before p z is (h.ends before p behind are))
+    closed_where g before z more (comes_where g before p z is (own_in g trace h before p behind are).dials
+    (h.ends before p behind are))
 
 -- A LINK THAT LIVES
 
@@ -83,6 +101,10 @@ is_link_there _ there = refl
 is_plain_there : (stage : plain.Stage) (closed : Bool) → IsPlainThereBy stage closed → (is_plain_born stage ≡ true) × (closed ≡ false)
 is_plain_there plain.unborn closed there = absurd there
 is_plain_there _ closed there = (refl, there)
+
+is_gate_there : (phase : gateway_link.Phase) → IsGateThere phase → is_gate_born phase ≡ true
+is_gate_there gateway_link.unborn there = absurd there
+is_gate_there _ there = refl
 
 says_up : (how : Life) (n u : ℕ) (t : Tunnel) → SaysBy t.stage how n t → Joins t u → (n ≡ u) × (t.up ≡ u)
 says_up how n u t says joins = by t.stage says joins.1
@@ -109,6 +131,7 @@ HasBy x u inbound_link = Unit {0}
 HasBy x u (upstream_of l s) = Joins ((x.inbound l).tunnels s) u
 HasBy x u plain_link = IsPlainThere (x.plain u)
 HasBy x u (relay_of l) = IsRelayOf (x.plain l) u
+HasBy x u gateway_link = Unit {0}
 
 module _ (g : NodeConfig) (x : Machine) (points : List Point) (stands : StandsFor g x points) (u : ℕ) where
   owned : Owned x (whose_in points)
@@ -123,11 +146,12 @@ module _ (g : NodeConfig) (x : Machine) (points : List Point) (stands : StandsFo
       ⊎_elim (λ none. absurd (omega (arith, joins.0, none, number)))
       (λ whose. subst (HasBy x u) (sym (ap (whose_in points) (sym number) ∙ whose)) joins)
       (weakly (whose_in points) k t ((x.inbound k).tunnels t).up ((x.inbound k).tunnels t).stage (owned.up k t))
-  has_by (inr (inr (inr (inl link)))) = subst (HasBy x u) (sym (owned.plain u (is_plain_there _ _ link).0)) link
-  has_by (inr (inr (inr (inr (k, relay))))) =
+  has_by (inr (inr (inr (inr gate)))) = subst (HasBy x u) (sym (owned.gate u (is_gate_there _ gate))) tt
+  has_by (inr (inr (inr (inl (inl link))))) = subst (HasBy x u) (sym (owned.plain u (is_plain_there _ _ link).0)) link
+  has_by (inr (inr (inr (inl (inr (k, relay)))))) =
       ⊎_elim (λ none. absurd (omega (arith, relay.0, relay.1, none)))
       (λ whose. subst (HasBy x u) (sym (ap (whose_in points) (sym relay.1) ∙ whose)) relay)
-      (relay_weakly (whose_in points) k (x.plain k).up (x.plain k).stage (owned.relay k))
+      (relay_weakly (whose_in points) k (x.plain k).up (is_raw (x.plain k)) (x.plain k).stage (owned.relay k))
 
   has_one : (o : Owner) → whose_in points u ≡ o → lives u (entries points) ≡ true → HasBy x u o
   has_one o mine living = subst (HasBy x u) mine (has_by ((runs_are_seen g x points stands).has u living))

@@ -35,7 +35,7 @@ use Rattle.hb_laws.specs.RefusedLinks.{accepts, ComesUnborn, GoesUnborn, BornTwi
 use Rattle.hb_laws.proofs.Bytes.{stream_within}
 use Rattle.hb_laws.proofs.Closing.{close_place}
 use Rattle.hb_laws.proofs.Doors.{owner_without, came_without, went_without}
-use Rattle.hb_laws.proofs.Lawful.{goes_at, laws_of}
+use Rattle.hb_laws.proofs.Lawful.{goes_at, own_in, laws_of}
 use Rattle.hb_laws.proofs.Links.{breaks, none_breaks, whole_unbroken}
 use Rattle.hb_laws.proofs.Places.{place, of_somebody}
 use Rattle.hb_laws.proofs.Runs.{front_runs}
@@ -48,7 +48,7 @@ pub unborn : (g : NodeConfig) (trace before : List Entry) (z : Entry) (u : ℕ) 
     → link_of z ≡ Some u → owner u before ≡ nobody → ⊥
 unborn g trace before z u h is on none =
     let s = place h.points before z [] is in
-    of_somebody s.front z u on s.p (h.own s.front s.p s.rest s.points_are) s.is (ap (owner u) s.before_is ∙ none)
+    of_somebody s.front z u on s.p (own_in g trace h s.front s.p s.rest s.points_are) s.is (ap (owner u) s.before_is ∙ none)
 
 pub comes_unborn : ComesUnborn
 comes_unborn bytes g h = unborn g _ (dials g ∷ []) (e.Came 2 bytes) 2 h (sym h.trace_is) refl refl

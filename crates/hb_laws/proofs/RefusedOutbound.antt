@@ -1,5 +1,5 @@
 -- Small wrong traces of links of the outbound door and of their upstreams are refused, and places that no lawful trace has.
-use Rattle.std.proofs.Common.{◌≡◌, ℕ, false, cond, List, [], ◌∷◌, ◌++◌, refl, ap, sym, ◌∙◌, subst, arith}
+use Rattle.std.proofs.Common.{◌≡◌, ℕ, false, cond, List, [], ◌∷◌, ◌++◌, Some, None, refl, ap, sym, ◌∙◌, subst, arith}
 use Rattle.std.specs.List.{list_any}
 use Rattle.std.proofs.lemmas.List.Concat.{flat_map-append}
 use Rattle.hb_base.specs.declared.cause.Cause.TheVariants as cause
@@ -9,7 +9,7 @@ use Rattle.hb_base.specs.declared.door.Why.TheVariants as whys
 use Rattle.hb_base.specs.declared.target.Target.{Target}
 use Rattle.hb_captured.proofs.Stages.{course_one}
 use Rattle.hb_captured.specs.Answer as answer
-use Rattle.hb_captured.specs.Answer.{Answer, answer_on, refused_with, why_at}
+use Rattle.hb_captured.specs.Answer.{Aim, Routing, answer_on, refused_with, address_of, key_of, why_at}
 use Rattle.hb_captured.specs.Captured.{judges}
 use Rattle.hb_captured.specs.Ends.{GoesOn}
 use Rattle.hb_captured.specs.Part as captured
@@ -31,12 +31,13 @@ use Rattle.hb_world.specs.declared.entry.Entry.TheVariants as e
 use Rattle.hb_laws.specs.Lawful.{Lawful}
 use Rattle.hb_laws.specs.Refused.{dials, fails}
 use Rattle.hb_laws.specs.RefusedOutbound.{accepts_outbound, DialsAsPlain, DialsAsDirect, DialsDirectTwice, DialsUntold, RelaysUntold, IsAsked, DialsUnrouted, DialsAstray, ClosesUpdated, ClosesRevoked}
+use Rattle.hb_laws.specs.RefusedGateways.{DialsRound}
 use Rattle.hb_laws.specs.RefusedPlain.{accepts_plain}
 use Rattle.hb_laws.specs.RefusedTunnels.{RefusedAt}
-use Rattle.hb_laws.proofs.Asked.{asked_there}
+use Rattle.hb_laws.proofs.Asked.{Answered, asked_there}
 use Rattle.hb_laws.proofs.BirthDoor.{door_at}
 use Rattle.hb_laws.proofs.Lawful.{goes_at, laws_of}
-use Rattle.hb_laws.proofs.Places.{place, further}
+use Rattle.hb_laws.proofs.Places.{place, further, straight_why}
 use Rattle.hb_laws.proofs.PlainLinks.{none_revokes, outbound_unrevoked}
 use Rattle.hb_laws.proofs.RefusedPlain.{birth_door, dial_law, answered, close_at}
 use Rattle.hb_laws.proofs.Tests.{none_in_front}
@@ -50,7 +51,8 @@ dials_as_plain to came g h =
     let s = place h.points (dials g ∷ accepts_outbound ∷ e.Came 2 came ∷ []) (e.Dialled 3 to why) [] (sym h.trace_is) in
     let law = dial_law g _ h s.front s.p s.rest s.points_are 2 3 to why refl s.is in
     let at = birth_door g _ h s.front s.p s.rest s.points_are 2 (ap (owner 2) s.before_is) ∙ ap (door_at 2) s.before_is in
-    let no : whys.Plain 2 ≡ whys.Direct 2 = law.for_it ∙ ap (λ (d : Door). why_at d 2) at in
+    let no : whys.Plain 2 ≡ whys.Direct 2 =
+    law.dial.for_it ∙ straight_why law.dial.aim _ 2 law.straight ∙ ap (λ (d : Door). why_at d 2) at in
     cc
 
 pub dials_as_direct : DialsAsDirect
@@ -59,7 +61,8 @@ dials_as_direct to came g h =
     let s = place h.points (dials g ∷ accepts_plain ∷ e.Came 2 came ∷ []) (e.Dialled 3 to why) [] (sym h.trace_is) in
     let law = dial_law g _ h s.front s.p s.rest s.points_are 2 3 to why refl s.is in
     let at = birth_door g _ h s.front s.p s.rest s.points_are 2 (ap (owner 2) s.before_is) ∙ ap (door_at 2) s.before_is in
-    let no : whys.Direct 2 ≡ whys.Plain 2 = law.for_it ∙ ap (λ (d : Door). why_at d 2) at in
+    let no : whys.Direct 2 ≡ whys.Plain 2 =
+    law.dial.for_it ∙ straight_why law.dial.aim _ 2 law.straight ∙ ap (λ (d : Door). why_at d 2) at in
     cc
 
 pub dials_direct_twice : DialsDirectTwice
@@ -68,15 +71,16 @@ dials_direct_twice to other first second one two g h =
     (let same : 3 ≡ 4 = law.relays 2 3 4 one two in absurd (omega (arith, same)))
 
 -- before all was told each header is refused
-unsynced : (g : NodeConfig) (d : Door) (seen : Seen) → answer_on d (at_start g) seen ≡ refused_with 503
-unsynced g door.Outbound seen = refl
-unsynced g door.Plain seen = refl
-unsynced g door.Inbound seen = refl
+unsynced : (g : NodeConfig) (d : Door) (routing : Routing) (seen : Seen) → answer_on d (at_start g) routing seen ≡ refused_with 503
+unsynced g door.Outbound routing seen = refl
+unsynced g door.Plain routing seen = refl
+unsynced g door.Inbound routing seen = refl
 
-untold : (g : NodeConfig) (d : Door) (r : Resources) (seen : Seen) (to : Target) → r ≡ at_start g → answer_on d r seen ≡ answer.dials to
-    → ⊥
-untold g d r seen to nothing is =
-    let no : refused_with 503 ≡ answer.dials to = sym (unsynced g d seen) ∙ sym (ap (λ (s : Resources). answer_on d s seen) nothing) ∙ is in
+untold : (g : NodeConfig) (d : Door) (r : Resources) (routing : Routing) (seen : Seen) (aim : Aim) → r ≡ at_start g
+    → answer_on d r routing seen ≡ answer.aims aim → ⊥
+untold g d r routing seen aim nothing is =
+    let no : refused_with 503 ≡ answer.aims aim =
+    sym (unsynced g d routing seen) ∙ sym (ap (λ (s : Resources). answer_on d s routing seen) nothing) ∙ is in
     cc
 
 none_before : (l : ℕ) (points front : List Point) (p : Point) (rest : List Point) → points ≡ front ++ p ∷ rest
@@ -85,18 +89,26 @@ none_before l points front p rest are none =
     none_in_front (is_control_of l) (entries points) (entries front) (entries (p ∷ rest))
     (ap entries are ∙ flat_map-append entry_in front (p ∷ rest)) none
 
--- so link 1 is never dialled where no link is one to the control plane
+-- so no plain link has an aim where no link is one to the control plane
+pub never_aimed : (g : NodeConfig) (trace : List Entry) → (h : Lawful g trace) → (front : List Point) (p : Point) (rest : List Point)
+    → h.points ≡ front ++ p ∷ rest → (l : ℕ) (aim : Aim) → Answered g l front aim
+    → ((k : ℕ) → list_any (is_control_of k) (entries front) ≡ false) → ⊥
+never_aimed g trace h front p rest are l aim there none =
+    untold g (door_of (plain_of l front)) (held g (control_of there.front)) there.routing there.seen aim
+    (nothing_told g trace h there.front (there.p ∷ (there.rest ++ p ∷ rest))
+    (further h.points front there.front there.p p there.rest rest are there.points_are)
+    (λ k. none_before k front there.front there.p there.rest there.points_are (none k)))
+    there.answered
+
+-- and link 1 is never dialled there
 never_dialled : (g : NodeConfig) (trace before : List Entry) (to : Target) (after : List Entry) → (h : Lawful g trace)
     → entries h.points ≡ before ++ e.Dialled 2 to (whys.Direct 1) ∷ after → ((l : ℕ) → list_any (is_control_of l) before ≡ false) → ⊥
 never_dialled g trace before to after h is none =
     let s = place h.points before (e.Dialled 2 to (whys.Direct 1)) after is in
     let law = dial_law g trace h s.front s.p s.rest s.points_are 1 2 to (whys.Direct 1) refl s.is in
-    let there = answered g trace h s.front s.p s.rest s.points_are 1 to law.asked in
-    untold g (door_of (plain_of 1 s.front)) (held g (control_of there.front)) there.seen to
-    (nothing_told g trace h there.front (there.p ∷ (there.rest ++ s.p ∷ s.rest))
-    (further h.points s.front there.front there.p s.p there.rest s.rest s.points_are there.points_are)
-    (λ l. none_before l s.front there.front there.p there.rest there.points_are (ap (list_any (is_control_of l)) s.before_is ∙ none l)))
-    there.answered
+    never_aimed g trace h s.front s.p s.rest s.points_are 1 law.dial.aim
+    (answered g trace h s.front s.p s.rest s.points_are 1 law.dial.aim law.dial.asked)
+    (λ l. ap (list_any (is_control_of l)) s.before_is ∙ none l)
 
 pub dials_untold : DialsUntold
 dials_untold to came g h =
@@ -114,27 +126,54 @@ direct_door door.Outbound l is = refl
 direct_door door.Plain l is = absurd cc
 direct_door door.Inbound l is = absurd cc
 
--- the route of an outbound link that is dialled leads there, by what was held when its header was told
+-- an outbound link that is dialled goes straight there, by what was held and counted when its header was told
+record GoesStraight (held : Resources) (seen : Seen) (to : Target) : Type 0 where
+  pub aim : Aim
+  pub routing : Routing
+  pub straight : key_of aim ≡ None
+  pub there : to ≡ address_of aim
+  pub answered : answer_on door.Outbound held routing seen ≡ answer.aims aim
+
 routed_so : (g : NodeConfig) (trace : List Entry) → (h : Lawful g trace) → (before : List Point) (p : Point) (behind : List Point)
     → h.points ≡ before ++ p ∷ behind → (l u : ℕ) (to : Target) (seen : Seen) → entry_in p ≡ e.Dialled u to (whys.Direct l) ∷ []
-    → (asked : IsAsked g l seen before) → answer_on door.Outbound (held g (control_of asked.front)) seen ≡ answer.dials to
+    → (asked : IsAsked g l seen before) → GoesStraight (held g (control_of asked.front)) seen to
 routed_so g trace h before p behind are l u to seen is asked =
     let law = dial_law g trace h before p behind are l u to (whys.Direct l) refl is in
-    let there = answered g trace h before p behind are l to law.asked in
-    ap (λ (d : Door). answer_on d (held g (control_of asked.front)) seen) (sym (direct_door (door_of (plain_of l before)) l law.for_it))
-    ∙ asked_there g l before seen to asked there
+    let there = answered g trace h before p behind are l law.dial.aim law.dial.asked in
+    let at = door_of (plain_of l before) in
+    let outbound = direct_door at l (law.dial.for_it ∙ straight_why law.dial.aim at l law.straight) in
+    record {
+      aim = law.dial.aim;
+      routing = there.routing;
+      straight = law.straight;
+      there = law.dial.there;
+      answered = ap (λ (d : Door). answer_on d (held g (control_of asked.front)) there.routing seen) (sym outbound)
+          ∙ asked_there g l before seen law.dial.aim asked there;
+    }
 
 pub dials_unrouted : RefusedAt DialsUnrouted
 dials_unrouted g trace before behind p z h are is so =
-    let no : answer.refuses so.why so.status ≡ answer.dials so.to = sym so.unrouted
-    ∙ routed_so g trace h before p behind are so.link so.up so.to so.seen (is ∙ ap (λ (y : Entry). y ∷ []) so.dialled) so.asked in
+    let goes = routed_so g trace h before p behind are so.link so.up so.to so.seen (is ∙ ap (λ (y : Entry). y ∷ []) so.dialled) so.asked in
+    let no : answer.refuses so.why so.status ≡ answer.aims goes.aim = sym (so.unrouted goes.routing) ∙ goes.answered in
     cc
 
 pub dials_astray : RefusedAt DialsAstray
 dials_astray g trace before behind p z h are is so =
-    let both : answer.dials so.to ≡ answer.dials so.other = sym so.routed
-    ∙ routed_so g trace h before p behind are so.link so.up so.other so.seen (is ∙ ap (λ (y : Entry). y ∷ []) so.dialled) so.asked in
-    so.differs (let same : so.to ≡ so.other = cc in same)
+    let goes = routed_so g trace h before p behind are so.link so.up so.other so.seen (is ∙ ap (λ (y : Entry). y ∷ []) so.dialled)
+    so.asked in
+    let both : answer.aims (answer.straight_to so.to so.endpoint) ≡ answer.aims goes.aim =
+    sym (so.routed goes.routing) ∙ goes.answered in
+    let same : answer.straight_to so.to so.endpoint ≡ goes.aim = cc in
+    so.differs (ap address_of same ∙ sym goes.there)
+
+pub dials_round : RefusedAt DialsRound
+dials_round g trace before behind p z h are is so =
+    let goes = routed_so g trace h before p behind are so.link so.up so.to so.seen (is ∙ ap (λ (y : Entry). y ∷ []) so.dialled) so.asked in
+    let both : answer.aims (so.aim goes.routing) ≡ answer.aims goes.aim = sym (so.routed goes.routing) ∙ goes.answered in
+    let same : so.aim goes.routing ≡ goes.aim = cc in
+    let key = so.keyed goes.routing in
+    let no : None ≡ Some key.0 = sym goes.straight ∙ sym (ap key_of same) ∙ key.1 in
+    cc
 
 pub closes_updated : RefusedAt ClosesUpdated
 closes_updated g trace before behind p z h are is so =

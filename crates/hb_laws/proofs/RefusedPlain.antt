@@ -13,7 +13,7 @@ use Rattle.hb_base.specs.declared.door.Why.TheVariants as whys
 use Rattle.hb_base.specs.declared.target.Target.{Target}
 use Rattle.hb_captured.proofs.Stages.{course_one}
 use Rattle.hb_captured.specs.Answer as answer
-use Rattle.hb_captured.specs.Answer.{by_verdict, answer_on, verdict_on, why_at}
+use Rattle.hb_captured.specs.Answer.{Aim, Routing, by_verdict, answer_on, verdict_on, address_of, why_at}
 use Rattle.hb_captured.specs.Captured.{peer_in, judges}
 use Rattle.hb_captured.specs.Ends.{GoesOn, EndsAt}
 use Rattle.hb_captured.specs.Part as captured
@@ -21,8 +21,8 @@ use Rattle.hb_captured.specs.Part.{Part}
 use Rattle.hb_captured.specs.Relay as plain_relay
 use Rattle.hb_captured.specs.Relay.{RelaysAt}
 use Rattle.hb_captured.specs.Sides as plain
-use Rattle.hb_captured.specs.Sides.{Course, pending, lives, over, ends_judged, ends_at, course_of, door_of, header_of, header_by, address_of, raw_came, link_came, link_went, up_came, up_went, came_in, went_in, up_came_in, up_went_in, judged_in, is_close, on_link, was_on_link, up_of, up_in}
-use Rattle.hb_captured.specs.Verdicts.{VerdictAt, IsDialOf}
+use Rattle.hb_captured.specs.Sides.{Course, pending, lives, over, ends_judged, ends_at, course_of, door_of, header_of, header_by, aim_of, raw_came, link_came, link_went, up_came, up_went, came_in, went_in, up_came_in, up_went_in, judged_in, is_close, on_link, was_on_link, up_of, up_in}
+use Rattle.hb_captured.specs.Verdicts.{VerdictAt, IsUpstreamOf}
 use Rattle.hb_front.specs.Reading.{Seen}
 use Rattle.hb_held.specs.Held.{Resources}
 use Rattle.hb_held.specs.Outcome.{after_response}
@@ -55,14 +55,14 @@ use Rattle.hb_laws.specs.Lawful.{Lawful}
 use Rattle.hb_laws.specs.Refused.{dials, fails, waits}
 use Rattle.hb_laws.specs.RefusedPlain.{accepts_plain, ComesUndialled, GoesUndialled, DialsRelayTwice, is_failure, ClosesHealthyPlain, ClosesPlainForSecond, RelaysUnheld, RelaysBackUnheld, SendsHeader, InventsBack, ChangesBack, AnswersItself, IsOf, RelaysDenied, RelaysUncome, RelaysBackUncome, DialsAside, ShutsEarly, ShutsBackEarly, KeepsEndedPlain, KeepsRevokedPlain, ClosesPlainForAnother, ClosesLivePlain}
 use Rattle.hb_laws.specs.RefusedTunnels.{RefusedAt}
-use Rattle.hb_laws.proofs.Asked.{Answered, answers}
+use Rattle.hb_laws.proofs.Asked.{Answered, answers, unasked}
 use Rattle.hb_laws.proofs.BirthDoor.{door_at, door_told}
 use Rattle.hb_laws.proofs.Bytes.{not_more}
 use Rattle.hb_laws.proofs.Closing.{close_place}
 use Rattle.hb_laws.proofs.Doors.{owner_without, came_without, went_without}
-use Rattle.hb_laws.proofs.Lawful.{goes_at, laws_of}
+use Rattle.hb_laws.proofs.Lawful.{goes_at, own_in, laws_of}
 use Rattle.hb_laws.proofs.Living.{all_closed, plain_lives, relay_lives}
-use Rattle.hb_laws.proofs.Places.{PointOf, place, dial_point, of_plain_link, of_relay}
+use Rattle.hb_laws.proofs.Places.{DialOf, place, straight_why, dial_point, of_plain_link, of_relay}
 use Rattle.hb_laws.proofs.PlainLinks.{fails_call, none_fails, ends_unfailed, header_len}
 use Rattle.hb_laws.proofs.RefusedLinks.{unborn}
 use Rattle.hb_laws.proofs.Runs.{front_runs}
@@ -85,22 +85,24 @@ dials_relay_twice to other g h =
 
 -- link 2 is closed for a cause of a call that failed, and none failed
 closes_whole : (g : NodeConfig) (trace before : List Entry) (why : Cause) → is_failure why ≡ true → (h : Lawful g trace)
-    → entries h.points ≡ (before ++ e.Closed 2 why ∷ []) ++ waits ∷ [] → owner 2 before ≡ plain_link
+    → entries h.points ≡ (before ++ e.Closed 2 why ∷ []) ++ waits ∷ [] → owner 2 before ≡ plain_link → door_at 2 before ≡ door.Plain
     → list_any fails_call before ≡ false → ⊥
-closes_whole g trace before why failure h is mine whole =
+closes_whole g trace before why failure h is mine at whole =
     let s = close_place g trace before h 2 why plain_link is mine in
     let run = front_runs g h.machine h.points h.run s.front _ s.points_are in
     let stands = at_plain (λ l. EndsAt l (at_start g)) h.points (λ l. ((laws_of g trace h).plain l).ends) s.front 2
     (captured.entry (e.Closed 2 why)) s.rest (s.points_are ∙ ap (λ (p : Point). s.front ++ p ∷ s.rest) s.point) in
+    let judged = ap judges (door_told 2 g run.0 s.front run.1 (ap (owner 2) s.before_is ∙ mine) ∙ ap (door_at 2) s.before_is ∙ at) in
     ends_unfailed (at_start g) (plain_of 2 s.front) why
-    (none_fails 2 g run.0 s.front run.1 (ap (list_any fails_call) s.before_is ∙ whole) s.goes) failure stands.1
+    (none_fails 2 g run.0 s.front run.1 (ap (list_any fails_call) s.before_is ∙ whole) s.goes (at_start g)
+    ((h.laws s.front (s.p ∷ s.rest) s.points_are).plain 2).ends (unasked g 2 run.0 s.front run.1 judged)) failure stands.1
 
 pub closes_healthy : ClosesHealthyPlain
-closes_healthy why failure g h = closes_whole g _ (dials g ∷ accepts_plain ∷ []) why failure h (sym h.trace_is) refl refl
+closes_healthy why failure g h = closes_whole g _ (dials g ∷ accepts_plain ∷ []) why failure h (sym h.trace_is) refl refl refl
 
 pub closes_for_second : ClosesPlainForSecond
 closes_for_second why failure g h =
-    closes_whole g _ (dials g ∷ accepts_plain ∷ e.Ended 2 ∷ []) why failure h (sym h.trace_is) refl refl
+    closes_whole g _ (dials g ∷ accepts_plain ∷ e.Ended 2 ∷ []) why failure h (sym h.trace_is) refl refl refl
 
 -- BYTES
 
@@ -175,8 +177,10 @@ changes_back to came byte other apart g h =
 
 pub answers_itself : AnswersItself
 answers_itself came more byte g h =
-    let law = (laws_of g _ h).relay.plain_none 2 (ap (owner 2) (sym h.trace_is))
-    (λ u is. undialled u (2 == u) (1 == u) refl refl (ap (owner u) h.trace_is ∙ is)) in
+    let mine = ap (owner 2) (sym h.trace_is) in
+    let at = door_told 2 g h.machine h.points h.run mine ∙ ap (door_at 2) (sym h.trace_is) in
+    let law = (laws_of g _ h).relay.plain_none 2 mine (λ u is. undialled u (2 == u) (1 == u) refl refl (ap (owner u) h.trace_is ∙ is))
+    (unasked g 2 h.machine h.points h.run (ap judges at)) in
     let none : byte ∷ (more ++ []) ≡ [] = ap (sent 2) h.trace_is ∙ law in
     cc
   where
@@ -206,11 +210,11 @@ module _ (g : NodeConfig) (trace : List Entry) (h : Lawful g trace) (before : Li
   -- the point is a part of the upstream, or of the link
   up_point : (l u : ℕ) (z : Entry) → link_of z ≡ Some u → entry_in p ≡ z ∷ [] → owner u (entries before) ≡ relay_of l
       → p ≡ of_plain l (captured.up z)
-  up_point l u z on is mine = of_relay before z u on p (h.own before p behind are) is l mine
+  up_point l u z on is mine = of_relay before z u on p (own_in g trace h before p behind are) is l mine
 
   link_point : (l : ℕ) (z : Entry) → link_of z ≡ Some l → entry_in p ≡ z ∷ [] → owner l (entries before) ≡ plain_link
       → p ≡ of_plain l (captured.entry z)
-  link_point l z on is mine = of_plain_link before z l on p (h.own before p behind are) is mine
+  link_point l z on is mine = of_plain_link before z l on p (own_in g trace h before p behind are) is mine
 
   -- with it the parts of the link are one more
   parts_with : (l : ℕ) (q : Part) → p ≡ of_plain l q → plain_of l (before ++ p ∷ []) ≡ plain_of l before ++ q ∷ []
@@ -227,16 +231,16 @@ module _ (g : NodeConfig) (trace : List Entry) (h : Lawful g trace) (before : Li
   at_law P each l q same =
       at_plain P h.points each before l q behind (are ∙ ap (λ (r : Point). before ++ r ∷ behind) same)
 
-  -- the dial of an upstream is of the address that the answer of its link's header tells, for the link at its door
+  -- the dial of an upstream is of the address of its link's aim, for the link at its door
   pub dial_law : (l u : ℕ) (to : Target) (why : Why) → dialled_for why ≡ relay_of l → entry_in p ≡ e.Dialled u to why ∷ []
-      → IsDialOf l (plain_of l before) to why
+      → IsUpstreamOf l u (plain_of l before) to why
   dial_law l u to why mine is =
       let at = goes_at g trace h before p behind are in
-      let same = subst (λ (o : Owner). PointOf (e.Dialled u to why) u o p) mine (dial_point g at.machine at.next p u to why at.steps is) in
-      (at_law (λ k. VerdictAt k (at_start g)) (λ k. ((laws_of g trace h).plain k).verdicts) l (captured.up (e.Dialled u to why)) same).0
+      let same = subst (λ (o : Owner). DialOf (e.Dialled u to why) u o p) mine (dial_point g at.machine at.next p u to why at.steps is) in
+      at_law (λ k. VerdictAt k (at_start g)) (λ k. ((laws_of g trace h).plain k).verdicts) l (captured.up (e.Dialled u to why)) same
 
-  pub answered : (l : ℕ) (to : Target) → address_of (plain_of l before) ≡ Some to → Answered g l before to
-  answered l to asked = (let at = goes_at g trace h before p behind are in answers g l at.machine before at.run to asked)
+  pub answered : (l : ℕ) (aim : Aim) → aim_of (plain_of l before) ≡ Some aim → Answered g l before aim
+  answered l aim asked = (let at = goes_at g trace h before p behind are in answers g l at.machine before at.run aim asked)
 
   -- it is relayed so with the point
   relay_with : (l : ℕ) (q : Part) → p ≡ of_plain l q → plain_relay.RelayLaw (at_start g) (plain_of l before ++ q ∷ [])
@@ -299,10 +303,11 @@ relays_back_uncome g trace before behind p z h are is so =
     (all ∙ sym came ∙ law.front ∙ ap (λ (bs : List ℕ). bs ++ law.rest) (one_more went_in parts q))
 
 -- what is dialled at the plain door is the header's destination
-dialled_by : (v : Verdict) (to : Target) → by_verdict v ≡ answer.dials to → v ≡ Dial to
-dialled_by (Dial other) to is = (let same : other ≡ to = cc in ap Dial same)
-dialled_by (Status status) to is = absurd cc
-dialled_by Reset to is = absurd cc
+dialled_by : (v : Verdict) (aim : Aim) → by_verdict v ≡ answer.aims aim → v ≡ Dial (address_of aim)
+dialled_by (Dial to) aim is =
+    let same : answer.straight_to to None ≡ aim = cc in ap (λ (a : Aim). Dial (address_of a)) same
+dialled_by (Status status) aim is = absurd cc
+dialled_by Reset aim is = absurd cc
 
 verdict_target : (r : Resources) (seen : Seen) (to : Target) → verdict_on r seen ≡ Dial to → seen.destination ≡ to
 verdict_target r seen to is =
@@ -310,20 +315,21 @@ verdict_target r seen to is =
     let asked : Connect seen.destination ≡ Connect to = may.asked in
     cc
 
-plain_target : (d : Door) (l : ℕ) (r : Resources) (seen : Seen) (to : Target) → whys.Plain l ≡ why_at d l
-    → answer_on d r seen ≡ answer.dials to → seen.destination ≡ to
-plain_target door.Outbound l r seen to for_it is = absurd cc
-plain_target door.Plain l r seen to for_it is = verdict_target r seen to (dialled_by (verdict_on r seen) to is)
-plain_target door.Inbound l r seen to for_it is = verdict_target r seen to (dialled_by (verdict_on r seen) to is)
+plain_target : (d : Door) (l : ℕ) (r : Resources) (routing : Routing) (seen : Seen) (aim : Aim) → whys.Plain l ≡ why_at d l
+    → answer_on d r routing seen ≡ answer.aims aim → seen.destination ≡ address_of aim
+plain_target door.Outbound l r routing seen aim for_it is = absurd cc
+plain_target door.Plain l r routing seen aim for_it is = verdict_target r seen (address_of aim) (dialled_by (verdict_on r seen) aim is)
+plain_target door.Inbound l r routing seen aim for_it is = verdict_target r seen (address_of aim) (dialled_by (verdict_on r seen) aim is)
 
 pub dials_aside : RefusedAt DialsAside
 dials_aside g trace before behind p z h are is so =
     let law = dial_law g trace h before p behind are so.link so.up so.other (whys.Plain so.link) refl
     (is ∙ ap (λ (y : Entry). y ∷ []) so.dials) in
-    let there = answered g trace h before p behind are so.link so.other law.asked in
+    let there = answered g trace h before p behind are so.link law.dial.aim law.dial.asked in
+    let at = door_of (plain_of so.link before) in
     so.untold there.seen there.told
-    (plain_target (door_of (plain_of so.link before)) so.link (held g (control_of there.front)) there.seen so.other law.for_it
-    there.answered)
+    (plain_target at so.link (held g (control_of there.front)) there.routing there.seen law.dial.aim
+    (law.dial.for_it ∙ straight_why law.dial.aim at so.link law.straight) there.answered ∙ sym law.dial.there)
 
 pub shuts_early : RefusedAt ShutsEarly
 shuts_early g trace before behind p z h are is so =

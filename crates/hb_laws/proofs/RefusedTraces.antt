@@ -27,7 +27,7 @@ use Rattle.hb_proxy.specs.Points.{Point, of_control, entry_in, entries, control_
 use Rattle.hb_laws.specs.Lawful.{Lawful}
 use Rattle.hb_laws.specs.Refused.{dials, fails, opens, waits, waits_tick, balks, settings_octets, NeverDials, DialsNoMore, DialsTwice, DialsAnother, ClosesHealthy, ClosesForAnother, ClosesForSecond, KeepsEnded, KeepsBroken, LooksAtNothing, AppliesForged, ReadsUnopened, ReadsBehindEnd, ReadsBehindClose, WritesUnopened, FinishesOpened}
 use Rattle.hb_laws.proofs.Ending.{IsTold, brings_end, ended_stays, unended}
-use Rattle.hb_laws.proofs.Lawful.{not_stopped, same_opened, same_ended, same_end, same_closed, same_came, dialled, unclosed_by, call_at, inner_at, closed_for, lasts_at, looked_at}
+use Rattle.hb_laws.proofs.Lawful.{not_stopped, same_opened, same_ended, same_end, same_closed, same_came, dialled, unclosed_by, own_in, call_at, inner_at, closed_for, lasts_at, looked_at}
 use Rattle.hb_laws.proofs.Places.{OnPlane, place, further, on_plane, own_front}
 use Rattle.hb_laws.proofs.Tells.{told}
 use Rattle.hb_laws.proofs.Tests.{none_in_front}
@@ -79,7 +79,7 @@ closed_untold g trace before why h is mine is_control whole untold =
     let close = e.Closed 1 why in
     let closes = of_control (point.entry close) in
     let outer = place h.points (before ++ close ∷ []) waits [] is in
-    let inner = on_plane outer.front (own_front h.points h.own outer.front outer.p outer.rest outer.points_are) before close []
+    let inner = on_plane outer.front (own_front h.points (own_in g trace h) outer.front outer.p outer.rest outer.points_are) before close []
     outer.before_is 1 refl mine in
     let behind = inner.rest ++ outer.p ∷ outer.rest in
     let at = further h.points outer.front inner.front closes outer.p inner.rest outer.rest outer.points_are inner.points_are in
@@ -177,7 +177,7 @@ applies_forged g l r before behind h are =
 module _ (g : NodeConfig) (trace before : List Entry) (z : Entry) (h : Lawful g trace) (is : entries h.points ≡ before ++ z ∷ [])
     (on : link_of z ≡ Some 1) (mine : owner 1 before ≡ control_plane) (control : list_any (is_control_of 1) before ≡ true) where
   at : OnPlane h.points before z
-  at = on_plane h.points h.own before z [] is 1 on mine
+  at = on_plane h.points (own_in g trace h) before z [] is 1 on mine
 
   abbrev calls : List Entry
   calls = point.entries (control_of at.front)

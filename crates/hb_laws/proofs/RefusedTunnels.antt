@@ -36,7 +36,7 @@ use Rattle.hb_world.specs.declared.entry.Entry.TheVariants as e
 use Rattle.hb_laws.specs.Lawful.{Lawful}
 use Rattle.hb_laws.specs.RefusedTunnels.{RefusedAt, GoesDenied, GoesUncome, DialsElsewhere, KeepsEndedUp, KeepsRevokedUp, ClosesUpForAnother, ClosesLiveUp}
 use Rattle.hb_laws.proofs.Bytes.{not_more}
-use Rattle.hb_laws.proofs.Lawful.{goes_at, laws_of}
+use Rattle.hb_laws.proofs.Lawful.{goes_at, own_in, laws_of}
 use Rattle.hb_laws.proofs.Living.{all_closed, up_lives}
 use Rattle.hb_laws.proofs.Places.{dial_point, of_upstream}
 
@@ -72,7 +72,7 @@ goes_uncome g trace before behind p z h are is so =
     let u = so.up in
     let bytes = so.byte ∷ so.more in
     let goes = is ∙ ap (λ (y : Entry). y ∷ []) so.goes in
-    let p_is = of_upstream before (e.Went u bytes) u refl p (h.own before p behind are) goes l s so.owned in
+    let p_is = of_upstream before (e.Went u bytes) u refl p (own_in g trace h before p behind are) goes l s so.owned in
     let laws = h.laws (before ++ p ∷ []) behind (are ∙ sym (append_assoc before (p ∷ []) behind)) in
     let up = laws.relay.ups l s u (still_owned before p u bytes goes ∙ so.owned) in
     let parts = one_more (part_in l) before p ∙ ap (λ (q : Point). parts_of l before ++ part_in l q) p_is
@@ -141,7 +141,7 @@ close_at : (g : NodeConfig) (trace : List Entry) → (h : Lawful g trace) → (b
     → owner u (entries before) ≡ upstream_of l s → life.life (at_start g) s (parts_of l before) ≡ life.ended why
 close_at g trace h before p behind l s u why are is mine =
     let closes = e.Closed u why in
-    let p_is = of_upstream before closes u refl p (h.own before p behind are) is l s mine in
+    let p_is = of_upstream before closes u refl p (own_in g trace h before p behind are) is l s mine in
     at_parts (λ k. PartEndsAt (at_start g)) h.points (λ k. ((laws_of g trace h).links k).ends) before l (part.up s closes) behind
     (are ∙ ap (λ (q : Point). before ++ q ∷ behind) p_is)
 

@@ -7,6 +7,7 @@ use Rattle.hb_proxy.proofs.AccessEntries.{admit_entries}
 use Rattle.hb_proxy.proofs.Control.{obey_entries, obey_control}
 use Rattle.hb_proxy.proofs.Dials.{runs_dial}
 use Rattle.hb_proxy.proofs.Ends.{runs_end}
+use Rattle.hb_proxy.proofs.Gates.{obey_gates, runs_take}
 use Rattle.hb_proxy.proofs.Links.{obey_links}
 use Rattle.hb_proxy.proofs.Own.{runs_own, runs_number, runs_dial_once}
 use Rattle.hb_proxy.proofs.Places.{at_points}
@@ -34,6 +35,7 @@ laws_at g x points stands = record {
   relay = runs_relay g x points stands;
   links = λ l. obey_links g x points l stands;
   plain = λ l. obey_plain g x points l stands;
+  gates = λ n. obey_gates g x points n stands;
   control = obey_control g x points stands;
   held = λ l. links_hold g x points l stands;
   plain_held = λ l. plain_holds g x points l stands;
@@ -51,6 +53,7 @@ run_is_lawful g x points trace stands is = record {
   access = admit_entries g x points stands;
   parts_access = runs_admit g x points stands;
   ends = runs_end g x points stands;
+  pool = runs_take g x points stands;
   dials = runs_dial g x points stands;
   at_entries = obey_entries g x points stands;
   held = control_holds g x points stands;

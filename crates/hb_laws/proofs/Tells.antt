@@ -6,19 +6,20 @@ use Rattle.std.proofs.lemmas.List.{append-nil}
 use Rattle.std.proofs.lemmas.List.Concat.{flat_map-append}
 use Rattle.std.proofs.lemmas.List.Folds.{list_any-append}
 use Rattle.hb_captured.specs.Part as captured
+use Rattle.hb_gateway.specs.Part as gateway
 use Rattle.hb_inbound.specs.Part as part
 use Rattle.hb_model.proofs.Grown.{one_more}
 use Rattle.hb_model.specs.Point as point
 use Rattle.hb_model.specs.declared.config.NodeConfig.{NodeConfig}
 use Rattle.hb_world.specs.declared.entry.Entry.{Entry}
 use Rattle.hb_proxy.specs.Machine.{Machine}
-use Rattle.hb_proxy.specs.Owners.{nobody, control_plane, link_of, owner, OwnAt}
-use Rattle.hb_proxy.specs.Points.{Point, of_control, of_link, of_plain, entry_in, entries, control_in, control_of}
+use Rattle.hb_proxy.specs.Owners.{nobody, control_plane, link_of, owner}
+use Rattle.hb_proxy.specs.Points.{Point, of_control, of_link, of_plain, of_gate, of_stream, entry_in, entries, control_in, control_of}
 use Rattle.hb_proxy.specs.Runs.{StandsFor, begins, goes_on}
 use Rattle.hb_proxy.proofs.Own.{own_at}
 use Rattle.hb_proxy.proofs.Owned.{all_owned, owner_grows}
 use Rattle.hb_proxy.proofs.Places.{short}
-use Rattle.hb_laws.proofs.Places.{of_plane, of_somebody}
+use Rattle.hb_laws.proofs.Places.{IsOwn, is_own, of_plane, of_somebody}
 use Rattle.hb_laws.proofs.Tests.{or_behind, or_so}
 
 -- what the control plane's points tell, the trace tells
@@ -36,6 +37,10 @@ told is (of_link l p ∷ points) was =
 told is (of_plain l p ∷ points) was =
     list_any-append is (captured.entry_in p) (entries points)
     ∙ or_behind (list_any is (captured.entry_in p)) (list_any is (entries points)) (told is points was)
+told is (of_gate n p ∷ points) was =
+    list_any-append is (gateway.entry_in p) (entries points)
+    ∙ or_behind (list_any is (gateway.entry_in p)) (list_any is (entries points)) (told is points was)
+told is (of_stream l n s w ∷ points) was = told is points was
 
 pub untold : (is : Entry → Bool) (points : List Point) → list_any is (entries points) ≡ false
     → list_any is (point.entries (control_of points)) ≡ false
@@ -78,7 +83,9 @@ module _ (l : ℕ) (is : Entry → Bool) (on : (z : Entry) → is z ≡ true →
           ap (λ (ps : List Point). list_any is (entries ps)) are ∙ grows points p
           ∙ ap₂ (λ (a b : Bool). a || b) (so_far none)
           (none_here p
-          (λ z at says. of_somebody points z l (on z says) p (own_at g x points (all_owned g x points stands) p y steps) at none))
+          (λ z at says.
+          of_somebody points z l (on z says) p
+          (is_own g x y points p steps (own_at g x points (all_owned g x points stands) p y steps)) at none))
 
   plane_grows : (points : List Point) (p : Point) → list_any is (point.entries (control_of (points ++ p ∷ [])))
       ≡ (list_any is (point.entries (control_of points)) || list_any is (point.entries (control_in p)))
@@ -96,8 +103,8 @@ module _ (l : ℕ) (is : Entry → Bool) (on : (z : Entry) → is z ≡ true →
       subst (λ (ps : List Point). list_any is (point.entries (control_of ps)) ≡ list_any is (entries ps)) (sym are)
       (⊎_elim born_here (λ same. more_of (same_told g x points stands) (sym same ∙ mine)) (owner_grows g x points stands p y steps l))
     where
-      own : OwnAt points p
-      own = own_at g x points (all_owned g x points stands) p y steps
+      own : IsOwn points p
+      own = is_own g x y points p steps (own_at g x points (all_owned g x points stands) p y steps)
 
       mine : owner l (entries (points ++ p ∷ [])) ≡ control_plane
       mine = ap (λ (ps : List Point). owner l (entries ps)) (sym are) ∙ whose
@@ -109,7 +116,7 @@ module _ (l : ℕ) (is : Entry → Bool) (on : (z : Entry) → is z ≡ true →
           (none_here p (λ z at says. of_somebody points z l (on z says) p own at none)) in
           untold is (points ++ p ∷ []) silent ∙ sym silent
 
-      here : (q : Point) → OwnAt points q → owner l (entries points) ≡ control_plane
+      here : (q : Point) → IsOwn points q → owner l (entries points) ≡ control_plane
           → list_any is (point.entries (control_in q)) ≡ list_any is (entry_in q)
       here (of_control q) own whose = ap (list_any is) (append-nil (point.entry_in q))
       here (of_link k r) own whose =
@@ -120,6 +127,11 @@ module _ (l : ℕ) (is : Entry → Bool) (on : (z : Entry) → is z ≡ true →
           sym (none_here (of_plain k r)
           (λ z at says.
           (let no : of_plain k r ≡ of_control (point.entry z) = of_plane points z l (on z says) (of_plain k r) own at whose in cc)))
+      here (of_gate k r) own whose =
+          sym (none_here (of_gate k r)
+          (λ z at says.
+          (let no : of_gate k r ≡ of_control (point.entry z) = of_plane points z l (on z says) (of_gate k r) own at whose in cc)))
+      here (of_stream j k s w) own whose = refl
 
       more_of : (owner l (entries points) ≡ control_plane → list_any is (point.entries (control_of points)) ≡ list_any is (entries points))
           → owner l (entries points) ≡ control_plane

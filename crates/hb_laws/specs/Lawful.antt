@@ -12,13 +12,14 @@ use Rattle.hb_proxy.specs.Dials.{DialLaw}
 use Rattle.hb_proxy.specs.Doors.{without_doors}
 use Rattle.hb_proxy.specs.Ends.{EndLaw}
 use Rattle.hb_proxy.specs.Held.{at_start}
-use Rattle.hb_proxy.specs.Laws.{LinkLaws, PlainLaws}
+use Rattle.hb_proxy.specs.Laws.{LinkLaws, PlainLaws, GateLaws}
 use Rattle.hb_proxy.specs.Machine.{Machine}
 use Rattle.hb_proxy.specs.Owners.{OwnLaw, NumberLaw, UpstreamLaw}
-use Rattle.hb_proxy.specs.Points.{Point, entries, control_of, parts_of, plain_of}
+use Rattle.hb_proxy.specs.Points.{Point, entries, control_of, parts_of, plain_of, gates_of}
 use Rattle.hb_proxy.specs.Relay.{RelayLaw}
 use Rattle.hb_proxy.specs.Runs.{StandsFor}
 use Rattle.hb_proxy.specs.Sides.{SideLaw}
+use Rattle.hb_proxy.specs.Streams.{PoolLaw}
 use Rattle.hb_world.specs.declared.entry.Entry.{Entry}
 
 -- what is held at an inbound link is what the control plane's responses make
@@ -40,6 +41,8 @@ pub record Laws (g : NodeConfig) (points : List Point) : Type 0 where
   pub links : (l : ℕ) → LinkLaws (at_start g) l (parts_of l points)
   -- and of each plain one: its relay, access, ends, verdicts and notes, and that nothing is put off
   pub plain : (l : ℕ) → PlainLaws (at_start g) l (plain_of l points)
+  -- and of each link to a gateway: its connection and windows, the streams that are asked for, the bytes that are brought, put and counted
+  pub gates : (n : ℕ) → GateLaws (gates_of n points)
   -- the laws of the links to the control plane: their calls, messages, connections, requests, frames and windows
   pub control : ControlLaws g (control_of points)
   pub held : (l : ℕ) → LinkHolds g l points
@@ -63,8 +66,11 @@ pub record Lawful (g : NodeConfig) (trace : List Entry) : Type 0 where
   -- admits the peer: by the link that the entry stands on, and by its part
   pub access : EntryLaw g points
   pub parts_access : AccessLaw g points
-  -- a tunnel that ended has no upstream that isn't closed where more comes; a plain link that ended is closed there, with its upstream
+  -- a tunnel that ended has no upstream that isn't closed where more comes; a plain link that ended is closed there, with its upstream, and
+  -- a link to a gateway that ended is closed
   pub ends : EndLaw g points
+  -- a tunnel takes the link to its gateway that was born first of those with room, and another one is dialled only where there is none
+  pub pool : PoolLaw g points
   -- the control plane is dialled exactly when it is due; its links end for their first cause, and what came on them is looked at first
   pub dials : DialLaw g points
   pub at_entries : EntryLaws points

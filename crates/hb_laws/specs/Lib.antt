@@ -1,6 +1,7 @@
 pub mod Good
 pub mod Lawful
 pub mod Refused
+pub mod RefusedGateways
 pub mod RefusedHearing
 pub mod RefusedLinks
 pub mod RefusedOutbound

@@ -1,5 +1,5 @@
 -- Small traces of links of the outbound door and of their upstreams that no run leaves, and places that no lawful trace has.
-use Rattle.std.specs.Prelude.{◌≡◌, ◌≢◌, ℕ, false, List, [], ◌∷◌, ◌++◌, Some, None}
+use Rattle.std.specs.Prelude.{◌≡◌, ◌≢◌, ℕ, false, List, [], ◌∷◌, ◌++◌, Option, Some, None}
 use Rattle.std.specs.List.{list_any}
 use Rattle.hb_base.specs.declared.cause.Cause.{Cause}
 use Rattle.hb_base.specs.declared.cause.Cause.TheVariants as cause
@@ -8,7 +8,7 @@ use Rattle.hb_base.specs.declared.door.Why.{Why}
 use Rattle.hb_base.specs.declared.door.Why.TheVariants as whys
 use Rattle.hb_base.specs.declared.target.Target.{Target}
 use Rattle.hb_captured.specs.Answer as answer
-use Rattle.hb_captured.specs.Answer.{answer_on}
+use Rattle.hb_captured.specs.Answer.{Routing, answer_on}
 use Rattle.hb_captured.specs.Ends.{GoesOn}
 use Rattle.hb_captured.specs.Sides.{door_of, header_of, course_of}
 use Rattle.hb_disco.specs.declared.response.Response.{Response}
@@ -76,7 +76,9 @@ pub record DialsUnrouted (g : NodeConfig) (before : List Point) (z : Entry) : Ty
   pub status : ℕ
   pub dialled : z ≡ e.Dialled up to (whys.Direct link)
   pub asked : IsAsked g link seen before
-  pub unrouted : answer_on door.Outbound (held g (control_of asked.front)) seen ≡ answer.refuses why status
+  -- whatever connections are counted
+  pub unrouted : (routing : Routing) → answer_on door.Outbound (held g (control_of asked.front)) routing seen
+      ≡ answer.refuses why status
 
 -- one is dialled elsewhere than its route leads
 pub record DialsAstray (g : NodeConfig) (before : List Point) (z : Entry) : Type 0 where
@@ -87,7 +89,9 @@ pub record DialsAstray (g : NodeConfig) (before : List Point) (z : Entry) : Type
   pub seen : Seen
   pub dialled : z ≡ e.Dialled up other (whys.Direct link)
   pub asked : IsAsked g link seen before
-  pub routed : answer_on door.Outbound (held g (control_of asked.front)) seen ≡ answer.dials to
+  pub endpoint : Option (List ℕ)
+  pub routed : (routing : Routing) → answer_on door.Outbound (held g (control_of asked.front)) routing seen
+      ≡ answer.aims (answer.straight_to to endpoint)
   pub differs : to ≢ other
 
 -- a link that goes on is closed next behind an update, or its upstream is, for whatever cause

@@ -8,7 +8,7 @@ use Rattle.hb_base.specs.declared.target.Target.{Target}
 use Rattle.hb_captured.specs.Captured.{judges}
 use Rattle.hb_captured.specs.Ends.{GoesOn}
 use Rattle.hb_captured.specs.Sides as plain
-use Rattle.hb_captured.specs.Sides.{door_of, header_of, judged_in, is_end, was_on_link, was_on_up, pending, over, course_of}
+use Rattle.hb_captured.specs.Sides.{door_of, header_of, judged_in, is_end, was_on_link, was, ends_up, pending, over, course_of}
 use Rattle.hb_disco.specs.declared.response.Response.{Response}
 use Rattle.hb_front.specs.Reading.{Seen}
 use Rattle.hb_held.specs.Outcome.{after_response}
@@ -158,7 +158,7 @@ pub record ShutsBackEarly (g : NodeConfig) (before : List Point) (z : Entry) : T
   pub up : ℕ
   pub shuts : z ≡ e.Shut link
   pub owned : owner up (entries before) ≡ relay_of link
-  pub early : (sent link (entries before) ≢ recv up (entries before)) ⊎ (was_on_up is_end (plain_of link before) ≡ false)
+  pub early : (sent link (entries before) ≢ recv up (entries before)) ⊎ (was ends_up (plain_of link before) ≡ false)
 
 -- ENDS
 

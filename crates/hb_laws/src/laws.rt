@@ -13,6 +13,10 @@ ghost use Rattle.hb_laws.specs.RefusedPlain.{ComesUndialled, GoesUndialled, Dial
 ghost use Rattle.hb_laws.specs.RefusedPlain.{RelaysUnheld, RelaysBackUnheld, SendsHeader, InventsBack, ChangesBack, AnswersItself};
 ghost use Rattle.hb_laws.specs.RefusedPlain.{RelaysDenied, RelaysUncome, RelaysBackUncome, DialsAside, ShutsEarly, ShutsBackEarly};
 ghost use Rattle.hb_laws.specs.RefusedPlain.{KeepsEndedPlain, KeepsRevokedPlain, ClosesPlainForAnother, ClosesLivePlain};
+ghost use Rattle.hb_laws.specs.RefusedGateways.{DialsForPlain as GatewayForPlain, DialsUnasked as GatewayUnasked};
+ghost use Rattle.hb_laws.specs.RefusedGateways.{DialsUntold as GatewayUntold, WritesUnopened as GatewayUnopened, WritesNoFront};
+ghost use Rattle.hb_laws.specs.RefusedGateways.{InventsBytes, ShutsGateway, ClosesGateway, DialsRound};
+ghost use Rattle.hb_laws.specs.RefusedGateways.{KeepsBrokenGateway, KeepsEndedGateway};
 ghost use Rattle.hb_laws.specs.RefusedOutbound.{DialsAsPlain, DialsAsDirect, DialsDirectTwice, DialsUntold, RelaysUntold};
 ghost use Rattle.hb_laws.specs.RefusedOutbound.{DialsUnrouted, DialsAstray, ClosesUpdated, ClosesRevoked};
 ghost use Rattle.hb_laws.specs.Good.{GoodTraceIsLawful, GoodLinkIsLawful, GoodEndIsLawful, GoodPlainIsLawful, GoodRefusalIsLawful};
@@ -168,6 +172,27 @@ pub fn places_of_outbound_links_are_refused()
     ensures astray { RefusedAt DialsAstray }
     ensures updated { RefusedAt ClosesUpdated }
     ensures revoked { RefusedAt ClosesRevoked }
+{}
+
+/// Nor is a trace lawful in which a link to a gateway is dialled for a link of the plain door, before its header came, or before anything
+/// was told; in which bytes go on one that isn't open, or in front of its front header; in which bytes go on an outbound link whose gateway
+/// said nothing; in which one is shut; in which one that nothing ended is closed, or one that broke or ended is kept.
+pub fn links_to_gateways_are_refused()
+    ensures plain { GatewayForPlain }
+    ensures unasked { GatewayUnasked }
+    ensures untold { GatewayUntold }
+    ensures unopened { GatewayUnopened }
+    ensures front { WritesNoFront }
+    ensures invents { InventsBytes }
+    ensures shuts { ShutsGateway }
+    ensures closes { ClosesGateway }
+    ensures broken { KeepsBrokenGateway }
+    ensures ended { KeepsEndedGateway }
+{}
+
+/// No lawful trace has a place at which a link of the outbound door is dialled straight though its way led by a gateway.
+pub fn places_of_gateways_are_refused()
+    ensures round { RefusedAt DialsRound }
 {}
 
 /// A trace is lawful in which a link to the control plane is dialled, breaks and is closed, and a dial fails at the next tick; one in
