@@ -30,7 +30,7 @@ use Rattle.hb_proxy.specs.Held.{at_start}
 use Rattle.hb_proxy.specs.Machine.{Machine, local, with_part}
 use Rattle.hb_proxy.specs.Owners.{nobody, inbound_link, upstream_of}
 use Rattle.hb_proxy.specs.Points.{Point, parts_of}
-use Rattle.hb_proxy.specs.Runs.{BirthMayCome, ControlRests, LinkGuard, LinkMayCome, Lets, PlainLets, StandsFor, is_act, is_link_faulted, link_first}
+use Rattle.hb_proxy.specs.Runs.{BirthMayCome, ControlRests, GatesLet, LinkGuard, LinkMayCome, Lets, PlainLets, StandsFor, is_act, is_link_faulted, link_first}
 use Rattle.hb_proxy.specs.Ups.{up_by, up_now, Joins}
 use Rattle.hb_world.specs.declared.act.Act.{Act}
 use Rattle.hb_world.specs.declared.act.Act.TheVariants as act
@@ -98,13 +98,14 @@ goes_first phase z is = by (is_link_faulted phase) (is_act z) is
     by false b is = is
 
 act_may_come : (k : Links) (x : Machine) (l : ℕ) (z : Entry) → ShowsAll k x.inbound → ControlRests x.control
-    → ((j : ℕ) → PlainLets true (x.plain j)) → is_act z ≡ true → BirthMayCome x z → LinkMayCome x l z
-act_may_come k x l z shows rests plain is birth = record {
+    → ((j : ℕ) → PlainLets true (x.plain j)) → GatesLet true x → is_act z ≡ true → BirthMayCome x z → LinkMayCome x l z
+act_may_come k x l z shows rests plain gates is birth = record {
   birth = birth;
   control = rests;
   others = λ j apart. subst (λ (first : Bool). Lets first (x.inbound j)) (sym (goes_first (x.inbound l).phase z is))
       (all_calm k x.inbound shows j);
   plain = λ j. subst (λ (first : Bool). PlainLets first (x.plain j)) (sym (goes_first (x.inbound l).phase z is)) (plain j);
+  gates = subst (λ (first : Bool). GatesLet first x) (sym (goes_first (x.inbound l).phase z is)) gates;
 }
 
 -- WHAT AN ACT DOES
@@ -137,7 +138,7 @@ module _ (before : ℕ) where
 
   module _ (k : Links) (l : ℕ) (old new : Link) (is : get k.links l ≡ Some old) (numbered : new.number ≡ old.number)
       (g : NodeConfig) (x : Machine) (points : List Point) (stands : StandsFor g x points) (shows : ShowsAll k x.inbound)
-      (rests : ControlRests x.control) (plain : (j : ℕ) → PlainLets true (x.plain j)) where
+      (rests : ControlRests x.control) (plain : (j : ℕ) → PlainLets true (x.plain j)) (gates : GatesLet true x) where
     shown : ShowsLink l (Some old) (x.inbound l)
     shown = subst (λ (o : Option Link). ShowsLink l o (x.inbound l)) is (shows.links l)
 
@@ -156,7 +157,7 @@ module _ (before : ℕ) where
         let one = at_link (part.up s (e.Shut u)) it in
         does k l (part.up s (e.Shut u)) (insert k.links l new) (Some new) k.ups g x points stands shows (put_here k.links l new)
         (put_elsewhere k.links l new) one.0 one.1 (turned _ (local x l) one.0 one.1.1)
-        (act_may_come k x l (e.Shut u) shows rests plain refl tt) narrow (numbered ∙ shown.0, one.2)
+        (act_may_come k x l (e.Shut u) shows rests plain gates refl tt) narrow (numbered ∙ shown.0, one.2)
         (leaves_index k.ups x.inbound l (part.up s (e.Shut u)) (λ v. refl) shows.index)
 
     -- the upstream that is closed was the tunnel's
@@ -185,7 +186,7 @@ module _ (before : ℕ) where
         let one = at_link (part.up s (e.Closed u cause)) it in
         does k l (part.up s (e.Closed u cause)) (insert k.links l new) (Some new) (remove k.ups u) g x points stands shows
         (put_here k.links l new) (put_elsewhere k.links l new) one.0 one.1 (turned _ (local x l) one.0 one.1.1)
-        (act_may_come k x l (e.Closed u cause) shows rests plain refl tt) narrow (numbered ∙ shown.0, one.2)
+        (act_may_come k x l (e.Closed u cause) shows rests plain gates refl tt) narrow (numbered ∙ shown.0, one.2)
         (λ z others ups. closed x.inbound z l s 0 others ups u refl (was_joined s u cause one.0 one.1) k.ups shows.index)
 
     close_own : (cause : Cause) → ((s : ℕ) → get new.tunnels s ≡ None) → link.Does (part.entry (e.Closed l cause)) old new
@@ -197,7 +198,7 @@ module _ (before : ℕ) where
         (removed_here (insert k.links l new) l)
         (λ j apart. removed_elsewhere (insert k.links l new) l j apart ∙ put_elsewhere k.links l new j apart)
         one.0 one.1 (turned _ (local x l) one.0 one.1.1)
-        (act_may_come k x l (e.Closed l cause) shows rests plain refl tt) narrow (
+        (act_may_come k x l (e.Closed l cause) shows rests plain gates refl tt) narrow (
           subst IsAway (sym phase) tt,
           λ s. subst (λ (o : _). ShowsTunnel o (one.0.link.tunnels s)) (none s) (one.2.tunnels s),
         )
@@ -273,5 +274,5 @@ module _ (before : ℕ) where
 
   pub acts_on : (k : Links) (l : ℕ) (old new : Link) (due : Act) → get k.links l ≡ Some old → new.number ≡ old.number
       → link.Acts (Some due) old new → Acts (Some due) k (finished l due before (links_with (insert k.links l new) k.ups k))
-  acts_on k l old new due is numbered it g x points stands shows rests plain =
-      acts k l old new is numbered g x points stands shows rests plain due it
+  acts_on k l old new due is numbered it g x points stands shows rests plain gates =
+      acts k l old new is numbered g x points stands shows rests plain gates due it

@@ -22,7 +22,7 @@ use Rattle.hb_link.specs.declared.phase.Phase.{Phase}
 use Rattle.hb_link.specs.declared.phase.Phase.TheVariants as phases
 use Rattle.hb_model.specs.declared.config.NodeConfig.{NodeConfig}
 use Rattle.hb_proxy.specs.Machine.{Machine}
-use Rattle.hb_proxy.specs.Points.{Point, of_control, of_link, of_plain}
+use Rattle.hb_proxy.specs.Points.{Point, of_control, of_link, of_plain, of_gate, of_stream}
 use Rattle.hb_proxy.specs.Runs.{Steps}
 use Rattle.hb_proxy.specs.Ups.{up_by}
 use Rattle.hb_world.specs.declared.entry.Entry.TheVariants as e
@@ -107,6 +107,8 @@ points_stay : (G : Guard) (g : NodeConfig) (x : Machine) (more : List Point) (y 
 points_stay G g x [] y is n away = subst (λ (w : Machine). IsAway (w.inbound n).phase) is away
 points_stay G g x (of_control q ∷ more) y is n away = absurd is.0
 points_stay G g x (of_plain l p ∷ more) y is n away = absurd is.0
+points_stay G g x (of_gate l p ∷ more) y is n away = absurd is.0
+points_stay G g x (of_stream l h s w ∷ more) y is n away = absurd is.0
 points_stay G g x (of_link l p ∷ more) y is n away =
     point_stays g x l p is.2 is.0 is.3 n (points_stay G g is.2 more y is.4 n away)
 

@@ -25,9 +25,9 @@ use Rattle.hb_model.specs.Point as point
 use Rattle.hb_model.specs.declared.config.NodeConfig.{NodeConfig}
 use Rattle.hb_proxy.proofs.Projection.{links_run}
 use Rattle.hb_proxy.specs.Held.{at_start}
-use Rattle.hb_proxy.specs.Machine.{Machine, local}
+use Rattle.hb_proxy.specs.Machine.{Machine, local, outward}
 use Rattle.hb_proxy.specs.Notes.{notes, note_in}
-use Rattle.hb_proxy.specs.Points.{Point, of_control, of_link, of_plain, part_in, parts_of, seen}
+use Rattle.hb_proxy.specs.Points.{Point, of_control, of_link, of_plain, of_gate, of_stream, part_in, parts_of, seen}
 use Rattle.hb_proxy.specs.Runs.{Steps, StandsFor, goes_on}
 use Rattle.hb_proxy.specs.Ups.{up_now}
 use Rattle.hb_links.specs.declared.links.Links.{Links}
@@ -56,12 +56,14 @@ stands_behind G g x y points (p ∷ more) stands is =
     subst (λ (ps : List Point). StandsFor g y ps) (append_assoc points (p ∷ []) more)
     (stands_behind G g is.2 y (points ++ p ∷ []) more (goes_on stands p is.3 refl) is.4)
 
--- what follows by itself on these links changes no plain one
-pub inner_plain : (G : Guard) (g : NodeConfig) (x y : Machine) (more : List Point) → Leads G g x more y → y.plain ≡ x.plain
-inner_plain G g x y [] is = ap (λ (w : Machine). w.plain) is
-inner_plain G g x y (of_control q ∷ more) is = absurd is.0
-inner_plain G g x y (of_plain m p ∷ more) is = absurd is.0
-inner_plain G g x y (of_link m p ∷ more) is = inner_plain G g is.2 y more is.4 ∙ ap (λ (w : Machine). w.plain) is.3.3
+-- what follows by itself on these links changes none that goes out
+pub inner_outward : (G : Guard) (g : NodeConfig) (x y : Machine) (more : List Point) → Leads G g x more y → outward y ≡ outward x
+inner_outward G g x y [] is = ap outward is
+inner_outward G g x y (of_control q ∷ more) is = absurd is.0
+inner_outward G g x y (of_plain m p ∷ more) is = absurd is.0
+inner_outward G g x y (of_gate n p ∷ more) is = absurd is.0
+inner_outward G g x y (of_stream m n s w ∷ more) is = absurd is.0
+inner_outward G g x y (of_link m p ∷ more) is = inner_outward G g is.2 y more is.4 ∙ ap outward is.3.3
 
 -- nor an upstream
 inner_point : (l s u : ℕ) (m : ℕ) (p : Part) → link.IsInner p → fold (up_in s) u (part_in l (of_link m p)) ≡ u
@@ -76,6 +78,8 @@ inner_points : (G : Guard) (g : NodeConfig) (x y : Machine) (more : List Point) 
 inner_points G g x y [] l s u is = refl
 inner_points G g x y (of_control q ∷ more) l s u is = absurd is.0
 inner_points G g x y (of_plain m p ∷ more) l s u is = absurd is.0
+inner_points G g x y (of_gate n p ∷ more) l s u is = absurd is.0
+inner_points G g x y (of_stream m n i w ∷ more) l s u is = absurd is.0
 inner_points G g x y (of_link m p ∷ more) l s u is =
     fold-append (up_in s) u (part_in l (of_link m p)) (parts_of l more)
     ∙ ap (λ (v : ℕ). fold (up_in s) v (parts_of l more)) (inner_point l s u m p is.0)

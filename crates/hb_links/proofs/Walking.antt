@@ -67,7 +67,8 @@ pub keeps_then : (a b c : Links) → KeepsShowing a b → KeepsShowing b c → K
 keeps_then a b c first more g x points stands shows = more g x points stands (first g x points stands shows)
 
 pub acts_then : (a b c : Links) (due : Option Act) → KeepsShowing a b → Acts due b c → Acts due a c
-acts_then a b c due keeps acts g x points stands shows rests plain = acts g x points stands (keeps g x points stands shows) rests plain
+acts_then a b c due keeps acts g x points stands shows rests plain gates =
+    acts g x points stands (keeps g x points stands shows) rests plain gates
 
 -- the link that was touched last has none
 pub rested : (a b : Links) (n : ℕ) → a.busy ≡ Some n → ActsOf n None a b → KeepsShowing a (record b { busy = None })

@@ -8,7 +8,7 @@ use Rattle.hb_link.specs.Acts.{NoneIsDue}
 use Rattle.hb_model.specs.declared.config.NodeConfig.{NodeConfig}
 use Rattle.hb_proxy.specs.Machine.{Machine}
 use Rattle.hb_proxy.specs.Points.{Point, of_link}
-use Rattle.hb_proxy.specs.Runs.{ControlRests, PlainLets, Steps, StandsFor}
+use Rattle.hb_proxy.specs.Runs.{ControlRests, GatesLet, PlainLets, Steps, StandsFor}
 use Rattle.hb_world.specs.declared.act.Act.{Act}
 use Rattle.hb_world.specs.declared.act.Act.TheVariants as act
 use Rattle.hb_world.specs.declared.entry.Entry.{Entry}
@@ -35,8 +35,8 @@ ActsOn (Some (act.Shut u)) new g x = DoesUp new g x (e.Shut u)
 ActsOn (Some (act.Close u cause)) new g x = Does new g x u (part.entry (e.Closed u cause)) ⊎ DoesUp new g x (e.Closed u cause)
 
 -- A dial is due until its answer is told. A shut or a close counts as done: it may come where the control plane rests, and nothing more
--- happens by itself on a plain link
+-- happens by itself on a plain link, or on one to a gateway
 abbrev pub Acts : Option Act → Links → Links → Type 0
 Acts due old new =
     (g : NodeConfig) (x : Machine) (points : List Point) → StandsFor g x points → ShowsAll old x.inbound → ControlRests x.control
-    → ((l : ℕ) → PlainLets true (x.plain l)) → ActsOn due new g x
+    → ((l : ℕ) → PlainLets true (x.plain l)) → GatesLet true x → ActsOn due new g x

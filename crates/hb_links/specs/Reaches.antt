@@ -5,7 +5,7 @@ use Rattle.hb_link.specs.Reaches as link
 use Rattle.hb_model.specs.declared.config.NodeConfig.{NodeConfig}
 use Rattle.hb_proxy.specs.Machine.{Machine, local}
 use Rattle.hb_proxy.specs.Notes.{notes}
-use Rattle.hb_proxy.specs.Points.{Point, of_control, of_link, of_plain}
+use Rattle.hb_proxy.specs.Points.{Point, of_control, of_link, of_plain, of_gate, of_stream}
 use Rattle.hb_proxy.specs.Runs.{Steps, StandsFor}
 use Rattle.hb_links.specs.declared.links.Links.{Links}
 use Rattle.hb_links.specs.Shows.{ShowsAll}
@@ -15,6 +15,8 @@ abbrev pub IsInner : Point → Type 0
 IsInner (of_control q) = ⊥
 IsInner (of_link l p) = link.IsInner p
 IsInner (of_plain l p) = ⊥
+IsInner (of_gate n p) = ⊥
+IsInner (of_stream l n s w) = ⊥
 
 -- of which more may be said, by the machine in front of it; also of the link's alone
 abbrev pub Guard : Type 1
@@ -24,6 +26,8 @@ abbrev pub on_links : link.Guard → Guard
 on_links G x (of_control q) = ⊤
 on_links G x (of_link l p) = G (local x l) p
 on_links G x (of_plain l p) = ⊤
+on_links G x (of_gate n p) = ⊤
+on_links G x (of_stream l n s w) = ⊤
 
 abbrev pub unguarded : Guard
 unguarded = on_links link.unguarded
