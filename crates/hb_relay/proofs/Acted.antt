@@ -1,11 +1,12 @@
 -- The acts that are due of a link, and what its owner sees of it.
-use Rattle.std.proofs.Common.{◌≡◌, inl, inr, ◌<◌, not, Bool, true, false, cond, Option, Some, None, refl, ap, sym, ◌∙◌, subst, arith}
+use Rattle.std.proofs.Common.{◌≡◌, inl, inr, ℕ, ◌<◌, not, Bool, true, false, cond, Option, Some, None, refl, ap, sym, ◌∙◌, subst, arith}
 use Rattle.std.specs.Prelude.{nat_le}
 use Rattle.std.proofs.lemmas.Bool.Decides.{nat_tests}
 use Rattle.hb_base.specs.declared.cause.Cause.{Cause}
 use Rattle.hb_world.specs.declared.act.Act.{Act}
 use Rattle.hb_world.specs.declared.act.Act.TheVariants as act
-use Rattle.hb_captured.specs.Calm.{IsCalm, IsCalmBy, IsIdleBy}
+use Rattle.hb_captured.specs.Answer.{address_of, why_for}
+use Rattle.hb_captured.specs.Calm.{IsCalmBy, IsIdleBy}
 use Rattle.hb_captured.specs.Captured.{Captured, Stage, may_shut_up, may_shut}
 use Rattle.hb_relay.specs.declared.relay.Relay.{Relay}
 use Rattle.hb_relay.specs.declared.stage.Stage as code
@@ -13,7 +14,7 @@ use Rattle.hb_relay.specs.declared.stage.Stage.TheVariants.{Fronting, Due, Openi
 use Rattle.hb_relay.specs.Acts.{Acts}
 use Rattle.hb_relay.specs.Moving.{act_by, acted_by}
 use Rattle.hb_relay.specs.Shows.{Shows, Becomes, captured_of, as_told, stage_of}
-use Rattle.hb_relay.proofs.Reached.{stage_is}
+use Rattle.hb_relay.proofs.Reached.{RestsBy, SoundBy, stage_is, raw_is, shows_so, sound_is}
 
 module _ (old new : Relay) where
   at : (x : Captured) → Shows old x → (s : code.Stage) → old.stage ≡ s → x.stage ≡ stage_of s
@@ -21,8 +22,8 @@ module _ (old new : Relay) where
 
   -- with a change that leaves it calm
   shown : (x y : Captured) (change : Captured → Captured) → Shows old x → as_told y ≡ change (as_told x)
-      → captured_of new ≡ change (captured_of old) → IsCalm y → Shows new y
-  shown x y change shows told now calm = record { same = told ∙ ap change shows.same ∙ sym now; calm = calm }
+      → captured_of new ≡ change (captured_of old) → RestsBy y.stage y → Shows new y
+  shown x y change shows told now rest = shows_so new y (told ∙ ap change shows.same ∙ sym now) rest
 
   live_acts : old.stage ≡ Live → (b c : Bool) → may_shut_up (captured_of old) ≡ b → may_shut (captured_of old) ≡ c
       → captured_of new ≡ cond b (record (captured_of old) { up_shut = true })
@@ -32,10 +33,19 @@ module _ (old new : Relay) where
       inr (λ a shows.
       let x = a.link in
       let lives = at x shows Live is in (
-        (shows.calm, lives, ap (λ (y : Captured). y.up) shows.same, ap may_shut_up shows.same ∙ up_is),
-        shown x (record x { up_shut = true }) (λ y. record y { up_shut = true }) shows refl now
-            (subst (λ (s : Stage). IsCalmBy s (record x { up_shut = true })) (sym lives)
-            (subst (λ (s : Stage). IsCalmBy s x) lives shows.calm)),
+        (
+          shows.calm,
+          lives,
+          ap (λ (y : Captured). y.up) shows.same,
+          subst (λ (n : ℕ). 0 < n) (ap (λ (y : Captured). y.up) shows.same)
+              (subst (λ (s : Stage). SoundBy s x.aim x.up) lives (sound_is old x shows)),
+          ap may_shut_up shows.same ∙ up_is,
+        ),
+        shown x (record x { up_shut = true }) (λ y. record y { up_shut = true }) shows refl now (
+          subst (λ (s : Stage). IsCalmBy s (record x { up_shut = true })) (sym lives)
+              (subst (λ (s : Stage). IsCalmBy s x) lives shows.calm),
+          sound_is old x shows,
+        ),
       ))
   live_acts is false true up_is down_is now =
       inl (
@@ -44,9 +54,11 @@ module _ (old new : Relay) where
             let x = a.link in
             let lives = at x shows Live is in (
               (refl, shows.calm, lives, ap may_shut shows.same ∙ down_is),
-              shown x (record x { shut = true }) (λ y. record y { shut = true }) shows refl now
-                  (subst (λ (s : Stage). IsCalmBy s (record x { shut = true })) (sym lives)
-                  (subst (λ (s : Stage). IsCalmBy s x) lives shows.calm)),
+              shown x (record x { shut = true }) (λ y. record y { shut = true }) shows refl now (
+                subst (λ (s : Stage). IsCalmBy s (record x { shut = true })) (sym lives)
+                    (subst (λ (s : Stage). IsCalmBy s x) lives shows.calm),
+                sound_is old x shows,
+              ),
             )),
       )
   live_acts is false false up_is down_is now = (
@@ -66,7 +78,7 @@ module _ (old new : Relay) where
       let some : 0 < old.up = grind (arith, nat_tests, up_is) in (
         (shows.calm, ends, ap (λ (y : Captured). y.up) shows.same, some),
         shown x (record x { up = 0 }) (λ y. record y { up = 0 }) shows refl now
-            (subst (λ (s : Stage). IsCalmBy s (record x { up = 0 })) (sym ends) tt),
+            (subst (λ (s : Stage). RestsBy s (record x { up = 0 })) (sym ends) (raw_is old x shows.same, tt)),
       ))
   over_acts why is true false up_is closed_is now =
       inl (
@@ -77,7 +89,7 @@ module _ (old new : Relay) where
             let ends = at x shows (Over why) is in (
               (refl, shows.calm, ends, ap (λ (y : Captured). y.closed) shows.same ∙ closed_is),
               shown x (record x { closed = true }) (λ y. record y { closed = true }) shows refl now
-                  (subst (λ (s : Stage). IsCalmBy s (record x { closed = true })) (sym ends) tt),
+                  (subst (λ (s : Stage). RestsBy s (record x { closed = true })) (sym ends) (raw_is old x shows.same, tt)),
             )),
       )
   over_acts why is true true up_is closed_is now =
@@ -107,11 +119,11 @@ module _ (old new : Relay) where
       by Due is =
           so Due is (
             now Due is,
-            refl,
             (λ x shows. (
-              ap (λ (y : Captured). y.door) shows.same,
               at x shows Due is,
-              sym (ap (λ (y : Captured). y.address) shows.same),
+              subst (λ (s : Stage). SoundBy s x.aim x.up) (at x shows Due is) (sound_is old x shows),
+              sym (ap (λ (y : Captured). address_of y.aim) shows.same),
+              sym (ap (λ (y : Captured). why_for y.aim y.door old.number) shows.same),
             )),
           )
       by Live is =

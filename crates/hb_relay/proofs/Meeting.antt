@@ -14,12 +14,12 @@ use Rattle.hb_held.specs.Outcome.{after_response}
 use Rattle.hb_table.specs.Judgement.{judged}
 use Rattle.hb_table.specs.declared.judgement.Judged.{Judged}
 use Rattle.hb_table.specs.declared.judgement.Judged.TheVariants.{Admitted, Unknown, Denied}
-use Rattle.hb_tunnel.specs.Tunnel.{down_size}
 use Rattle.hb_tunnel.specs.Way.{Way, after, pushes, is_done}
 use Rattle.hb_world.specs.declared.entry.Entry.TheVariants as e
+use Rattle.hb_captured.specs.Answer.{Routing, endpoint_of}
 use Rattle.hb_captured.specs.Calm.{IsCalm, IsCalmBy, room, up_wants_by}
 use Rattle.hb_captured.specs.Captured as m
-use Rattle.hb_captured.specs.Captured.{Captured, Stage, no_link, at_stage, left_by, ends_by, ends_for, entered, up_entered, hung_up, judges, is_judged, judged_by, rejudged, is_through}
+use Rattle.hb_captured.specs.Captured.{Captured, Stage, no_link, at_stage, counts_for, left_by, ends_by, ends_for, entered, up_entered, hung_up, judges, is_judged, is_raw, judged_by, rejudged, is_through, ring_down}
 use Rattle.hb_captured.specs.Part.{Part, entry, up, welcomed, accepted, applied}
 use Rattle.hb_captured.specs.Runs.{Local, MayGo, IsTried, next, counted, verdict_note}
 use Rattle.hb_captured.proofs.Kept.{all_keep}
@@ -28,79 +28,138 @@ use Rattle.hb_captured.specs.Sides.{header_of, link_came}
 use Rattle.hb_relay.specs.declared.relay.Relay.{Relay}
 use Rattle.hb_relay.specs.declared.stage.Stage as code
 use Rattle.hb_relay.specs.declared.stage.Stage.TheVariants.{Fronting, Due, Opening, Live, Over}
-use Rattle.hb_relay.specs.Calls.{any, Begins, TurnsAway, UpEnters, Goes, UpGoes, Updates}
+use Rattle.hb_relay.specs.Calls.{any, Begins, TurnsAway, UpEntersStill, Goes, UpGoes, Updates, Stops}
 use Rattle.hb_relay.specs.Ending.{ended_now, note_at, verdict_at, end_at}
-use Rattle.hb_relay.specs.Moving.{settled, note_by, took_up, took_down, pushed}
-use Rattle.hb_relay.specs.Reaches.{Reaches, Meets}
+use Rattle.hb_relay.specs.Moving.{settled, note_by, took_up, took_down}
+use Rattle.hb_relay.specs.Reaches.{Reaches, Meets, rerouted}
+use Rattle.hb_relay.specs.Rings.{pushed}
 use Rattle.hb_relay.specs.Shows.{Becomes, captured_of, as_told, stage_of}
-use Rattle.hb_relay.proofs.Reached.{stage_is, rests, follows, ends_reach, settles_reach}
+use Rattle.hb_relay.proofs.Reached.{SoundBy, IsSound, stage_is, raw_is, shows_so, sound_is, goes_on, unmoved, rests, follows, ends_counted, ends_reach, settles_reach}
 
 -- it ends
-pub meets_end : (p : Part) (old new : Relay) (why : Cause) (made : Option Note)
+pub meets_end : (p : Part) (old : Relay) (routing : Routing) (new : Relay) (behind : Routing) (why : Cause) (made : Option Note)
     → ((a : Local) → next a p ≡ record { held = a.held; link = ends_for why a.link })
-    → made ≡ note_at old.number why (captured_of old) (stage_of old.stage) → Becomes (ended_now why) old new → Meets any p old new made
-meets_end p old new why made is noted becomes = record {
+    → made ≡ note_at old.number why (captured_of old) (stage_of old.stage) → Becomes (ended_now why) old new
+    → behind ≡ rerouted (captured_of old) (captured_of new) routing → Meets any p old routing new behind made
+meets_end p old routing new behind why made is noted becomes counts = record {
   number = becomes.number;
   reaches = λ start before a stands shows so may.
-      subst (λ (b : Local). Reaches old.number b new made) (sym (is a))
-      (ends_reach old.number a.held a.link old new why made shows.same becomes noted);
+      subst (λ (b : Local). Reaches old.number (rerouted a.link b.link routing) b new behind made) (sym (is a))
+      (ends_reach old.number a.held a.link old new why made shows.same becomes noted (rerouted a.link (ends_for why a.link) routing) behind
+      (counts ∙ ends_counted old.number a.held a.link old new why made shows.same becomes noted routing));
+}
+
+-- so it does where the run ends
+pub stops : (old new : Relay) (why : Cause) (made : Option Note)
+    → made ≡ note_at old.number why (captured_of old) (stage_of old.stage) → Becomes (ended_now why) old new → Stops why old new made
+stops old new why made noted becomes = record {
+  number = becomes.number;
+  reaches = λ start before a routing stands shows so may.
+      ends_reach old.number a.held a.link old new why made shows.same becomes noted routing routing refl;
 }
 
 -- it may be done
-pub meets_settled : (p : Part) (old mid new : Relay) (change : Captured → Captured) (made : Option Note)
-    → ((a : Local) → as_told (next a p).link ≡ change (as_told a.link))
-    → ((a : Local) → MayGo old.number a p → (stage : Stage) → (next a p).link.stage ≡ stage → stage ≢ m.live → IsCalm (next a p).link)
+pub meets_settled : (p : Part) (old : Relay) (routing : Routing) (mid new : Relay) (behind : Routing) (change : Captured → Captured)
+    (made : Option Note)
+    → ((a : Local) → is_raw a.link ≡ true → as_told (next a p).link ≡ change (as_told a.link))
+    → ((a : Local) → MayGo old.number a p → is_raw a.link ≡ true → (stage : Stage) → (next a p).link.stage ≡ stage → stage ≢ m.live
+    → IsCalm (next a p).link)
+    → ((a : Local) → counts_for (next a p).link ≡ counts_for a.link)
+    → ((a : Local) → IsSound a.link → IsSound (next a p).link)
     → Becomes change old mid → made ≡ note_by mid.number (stage_of mid.stage) (captured_of mid) → Becomes settled mid new
-    → Meets any p old new made
-meets_settled p old mid new change made tells calm step noted settles = record {
+    → behind ≡ rerouted (captured_of mid) (captured_of new) routing → Meets any p old routing new behind made
+meets_settled p old routing mid new behind change made tells calm still sound step noted settles counts = record {
   number = settles.number ∙ step.number;
   reaches = λ start before a stands shows so may.
-      settles_reach old.number (next a p) mid new made (tells a ∙ ap change shows.same ∙ sym step.after) settles
-      (noted ∙ ap (λ (l : ℕ). note_by l (stage_of mid.stage) (captured_of mid)) step.number) (calm a may);
+      let raw = raw_is old a.link shows.same in
+      subst (λ (r : Routing). Reaches old.number r (next a p) new behind made)
+      (sym (unmoved a.link (next a p).link routing (sym (still a))))
+      (settles_reach old.number routing (next a p) mid new behind made (tells a raw ∙ ap change shows.same ∙ sym step.after) settles
+      (noted ∙ ap (λ (l : ℕ). note_by l (stage_of mid.stage) (captured_of mid)) step.number) counts
+      (sound a (sound_is old a.link shows)) (calm a may raw));
 }
 
 -- a link that was tried is calm once its peer sends no more
-pub hung_calm : (x : Captured) → IsTried x → (l : ℕ) (stage : Stage) → (entered (e.Ended l) x).stage ≡ stage → stage ≢ m.live
-    → IsCalm (entered (e.Ended l) x)
-hung_calm x (inl at) l stage is not = subst (λ (s : Stage). IsCalmBy (hung_up s) (entered (e.Ended l) x)) (sym at.1) tt
-hung_calm x (inr (inl at)) l stage is not = subst (λ (s : Stage). IsCalmBy (hung_up s) (entered (e.Ended l) x)) (sym at.1) tt
-hung_calm x (inr (inr at)) l stage is not =
-    absurd (not (sym is ∙ ap hung_up at.1))
+pub hung_calm : (x : Captured) → IsTried x → is_raw x ≡ true → (l : ℕ) (stage : Stage) → (entered (e.Ended l) x).stage ≡ stage
+    → stage ≢ m.live → IsCalm (entered (e.Ended l) x)
+hung_calm x (inl at) raw l stage is other = subst (λ (s : Stage). IsCalmBy (hung_up s) (entered (e.Ended l) x)) (sym at.1) raw
+hung_calm x (inr (inl at)) raw l stage is other = subst (λ (s : Stage). IsCalmBy (hung_up s) (entered (e.Ended l) x)) (sym at.1) tt
+hung_calm x (inr (inr at)) raw l stage is other = absurd (other (sym is ∙ ap hung_up at.1))
+
+-- and counts as it did
+pub hung_counts : (x : Captured) (l : ℕ) → counts_for (entered (e.Ended l) x) ≡ counts_for x
+hung_counts x l = ap (λ (b : Bool). cond b (endpoint_of x.aim) None) (by x.stage)
+  where
+    by : (s : Stage) → is_judged (hung_up s) ≡ is_judged s
+    by m.unborn = refl
+    by m.arriving = refl
+    by m.fronting = refl
+    by m.due = refl
+    by m.opening = refl
+    by m.accepting = refl
+    by m.live = refl
+    by (m.failed why) = refl
+    by (m.ended why) = refl
+    by (m.over why) = refl
+
+pub hung_sound : (x : Captured) (l : ℕ) → IsSound x → IsSound (entered (e.Ended l) x)
+hung_sound x l = by x.stage
+  where
+    by : (s : Stage) → SoundBy s x.aim x.up → SoundBy (hung_up s) x.aim x.up
+    by m.unborn is = is
+    by m.arriving is = is
+    by m.fronting is = tt
+    by m.due is = is
+    by m.opening is = is
+    by m.accepting is = is
+    by m.live is = is
+    by (m.failed why) is = is
+    by (m.ended why) is = is
+    by (m.over why) is = is
 
 -- one that lives isn't at another stage
 pub lives_calm : {A : Type 0} (x : Captured) → x.stage ≡ m.live → (stage : Stage) → x.stage ≡ stage → stage ≢ m.live → A
-lives_calm x lives stage is not = absurd (not (sym is ∙ lives))
+lives_calm x lives stage is other = absurd (other (sym is ∙ lives))
 
 counted_more : (old n : ℕ) → counted (old + n) ≡ counted (counted old + n)
 counted_more old n = omega arith
 
 -- bytes went
-pub goes_down : (old mid new : Relay) (n : ℕ) (made : Option Note) → Becomes (took_down n) old mid
-    → made ≡ note_by mid.number (stage_of mid.stage) (captured_of mid) → Becomes settled mid new → Goes n old new made
-goes_down old mid new n made step noted settles bytes is =
-    meets_settled (entry (e.Went old.number bytes)) old mid new (took_down (length bytes)) made
-    (λ a. ap (λ (w : ℕ). record (as_told (entered (e.Went old.number bytes) a.link)) { went_down = w })
-    (counted_more a.link.went_down (length bytes)))
-    (λ a may stage same not. lives_calm a.link may.1.1 stage same not)
-    (subst (λ (k : ℕ). Becomes (took_down k) old mid) (sym is) step) noted settles
+pub goes_down : (old : Relay) (routing : Routing) (mid new : Relay) (behind : Routing) (n : ℕ) (made : Option Note)
+    → Becomes (took_down n) old mid → made ≡ note_by mid.number (stage_of mid.stage) (captured_of mid) → Becomes settled mid new
+    → behind ≡ rerouted (captured_of mid) (captured_of new) routing → Goes n old routing new behind made
+goes_down old routing mid new behind n made step noted settles counts bytes is =
+    meets_settled (entry (e.Went old.number bytes)) old routing mid new behind (took_down (length bytes)) made
+    (λ a raw.
+    let x = a.link in
+    ap (λ (w : ℕ). record (as_told (entered (e.Went old.number bytes) x)) { went_down = w }) (counted_more x.went_down (length bytes))
+    ∙ ap (λ (b : Bool). record (took_down (length bytes) (as_told x)) { owed = cond b x.owed (x.owed + length bytes) }) raw)
+    (λ a may raw stage same other. lives_calm a.link may.1.1 stage same other) (λ a. refl) (λ a sound. sound)
+    (subst (λ (k : ℕ). Becomes (took_down k) old mid) (sym is) step) noted settles counts
 
-pub goes_up : (old mid new : Relay) (n : ℕ) (made : Option Note) → Becomes (took_up n) old mid
-    → made ≡ note_by mid.number (stage_of mid.stage) (captured_of mid) → Becomes settled mid new → UpGoes n old new made
-goes_up old mid new n made step noted settles u bytes is =
-    meets_settled (up (e.Went u bytes)) old mid new (took_up (length bytes)) made
-    (λ a. ap (λ (w : ℕ). record (as_told (up_entered (e.Went u bytes) a.link)) { went_up = w })
+pub goes_up : (old : Relay) (routing : Routing) (mid new : Relay) (behind : Routing) (n : ℕ) (made : Option Note)
+    → Becomes (took_up n) old mid → made ≡ note_by mid.number (stage_of mid.stage) (captured_of mid) → Becomes settled mid new
+    → behind ≡ rerouted (captured_of mid) (captured_of new) routing → UpGoes n old routing new behind made
+goes_up old routing mid new behind n made step noted settles counts u bytes is =
+    meets_settled (up (e.Went u bytes)) old routing mid new behind (took_up (length bytes)) made
+    (λ a raw. ap (λ (w : ℕ). record (as_told (up_entered (e.Went u bytes) a.link)) { went_up = w })
     (counted_more a.link.went_up (length bytes)))
-    (λ a may stage same not. lives_calm a.link may.0.0.1 stage same not)
-    (subst (λ (k : ℕ). Becomes (took_up k) old mid) (sym is) step) noted settles
+    (λ a may raw stage same other. lives_calm a.link may.0.0.1 stage same other) (λ a. refl) (λ a sound. sound)
+    (subst (λ (k : ℕ). Becomes (took_up k) old mid) (sym is) step) noted settles counts
+
+-- at a stage it counts as its endpoint says
+pub counts_at : (x : Captured) (s : Stage) → x.stage ≡ s → counts_for x ≡ counts_for (at_stage s x)
+counts_at x s is = ap (λ (t : Stage). counts_for (at_stage t x)) is
 
 -- a dial is made
 pub dials : (old new : Relay) (u : ℕ) (to : Target) (why : Why) → Becomes (up_entered (e.Dialled u to why)) old new
-    → UpEnters (e.Dialled u to why) old new None
-dials old new u to why becomes = record {
+    → UpEntersStill (e.Dialled u to why) old new None
+dials old new u to why becomes routing = record {
   number = becomes.number;
   reaches = λ start before a stands shows so may.
-      rests old.number (next a (up (e.Dialled u to why))) new None
-      (ap (up_entered (e.Dialled u to why)) shows.same ∙ sym becomes.after) tt refl;
+      rests old.number (rerouted a.link (next a (up (e.Dialled u to why))).link routing) (next a (up (e.Dialled u to why))) new routing None
+      (sym (unmoved a.link (next a (up (e.Dialled u to why))).link routing (counts_at a.link m.due may.0.1)))
+      (ap (up_entered (e.Dialled u to why)) shows.same ∙ sym becomes.after) (tt, may.2) refl;
 }
 
 -- a side that hasn't ended isn't through
@@ -113,20 +172,25 @@ through_up x is = ap (λ (b : Bool). (b && length x.ways.up.held == 0) && is_don
 
 -- the upstream is open
 pub opens : (old mid : Relay) (u : ℕ) (made : Note) → Becomes (λ x. at_stage m.live (up_entered (e.Opened old.up) x)) old mid
-    → made ≡ verdict_at mid.number 200 (captured_of mid) → UpEnters (e.Opened u) old mid (Some made)
-opens old mid u made becomes noted = record {
+    → made ≡ verdict_at mid.number 200 (captured_of mid) → UpEntersStill (e.Opened u) old mid (Some made)
+opens old mid u made becomes noted routing = record {
   number = becomes.number;
   reaches = λ start before a stands shows so may.
       let knows = subst (λ (s : Stage). KnowsBy s (header_of before) (link_came before) a.held a.link) may.0.1
       (all_keep old.number start a before stands).knows in
-      let x = (next a (up (e.Opened u))).link in
-      follows old.number (next a (up (e.Opened u))) mid (accepted (verdict_note old.number 200 x.peer x.target)) (Some made) tt
-      (refl, refl)
-      (ap (λ (y : Captured). at_stage m.live (up_entered (e.Opened old.up) y)) shows.same ∙ sym becomes.after)
-      (through_down (at_stage m.live x) knows.3)
+      let b = next a (up (e.Opened u)) in
+      let x = b.link in
+      subst (λ (r : Routing). Reaches old.number r b mid routing (Some made))
+      (sym (unmoved a.link x routing (counts_at a.link m.opening may.0.1)))
+      (follows old.number routing b mid routing (accepted (verdict_note old.number 200 x.peer x.target)) (Some made) tt tt
+      (refl, refl) (sym (unmoved x (at_stage m.live x) routing refl))
+      (ap (λ (y : Captured). at_stage m.live (up_entered (e.Opened old.up) y)) shows.same ∙ sym becomes.after) (
+        goes_on (at_stage m.live x) (through_down (at_stage m.live x) knows.3),
+        subst (λ (s : Stage). SoundBy s a.link.aim a.link.up) may.0.1 (sound_is old a.link shows),
+      )
       (ap (λ (n : Note). n ∷ []) (sym (noted ∙ ap (λ (l : ℕ). verdict_at l 200 (captured_of mid)) becomes.number
       ∙ ap (verdict_at old.number 200) (becomes.after
-      ∙ ap (λ (y : Captured). at_stage m.live (up_entered (e.Opened old.up) y)) (sym shows.same)))));
+      ∙ ap (λ (y : Captured). at_stage m.live (up_entered (e.Opened old.up) y)) (sym shows.same))))));
 }
 
 -- bytes that may be read fit, and their way hasn't ended
@@ -148,44 +212,50 @@ fits size w bytes some most =
     ∙ ap (λ (b : Bool). cond b (after w (pushes bytes)) w) test
 
 -- bytes came down
-pub comes_down : (old new : Relay) (u : ℕ) (bytes : List ℕ)
-    → new ≡ record old { ways = record old.ways { down = pushed down_size bytes old.ways.down } } → UpEnters (e.Came u bytes) old new None
-comes_down old new u bytes is = record {
-  number = ap (λ (k : Relay). k.number) is;
+pub comes_down : (old new : Relay) (u : ℕ) (bytes : List ℕ) → new.number ≡ old.number
+    → captured_of new ≡ record (captured_of old) {
+      ways = record (captured_of old).ways {
+        down =
+            pushed (ring_down (captured_of old).door) bytes (captured_of old).ways.down;
+      };
+    } → UpEntersStill (e.Came u bytes) old new None
+comes_down old new u bytes number is routing = record {
+  number = number;
   reaches = λ start before a stands shows so may.
       let x = a.link in
-      let most : length bytes ≤ room down_size x.ways.down =
+      let y = (next a (up (e.Came u bytes))).link in
+      let size = ring_down x.door in
+      let most : length bytes ≤ room size x.ways.down =
       subst (λ (n : ℕ). length bytes ≤ n) (ap (λ (s : Stage). up_wants_by s x) may.0.0.1) may.1.2 in
-      let same_ways : x.ways ≡ old.ways = ap (λ (y : Captured). y.ways) shows.same in
-      let pushes_so : pushed down_size bytes old.ways.down ≡ after x.ways.down (pushes bytes) =
-      ap (λ w. pushed down_size bytes w.down) (sym same_ways) ∙ fits down_size x.ways.down bytes may.1.1 most in
-      rests old.number (next a (up (e.Came u bytes))) new None
-      (ap (λ (y : Captured). record y { ways = record y.ways { down = after x.ways.down (pushes bytes) } }) shows.same
-      ∙ sym (ap captured_of is ∙ ap (λ w. record (captured_of old) { ways = record old.ways { down = w } }) pushes_so))
-      (subst (λ (s : Stage). IsCalmBy s (next a (up (e.Came u bytes))).link) (sym may.0.0.1)
-      (through_down (next a (up (e.Came u bytes))).link (has_room down_size x.ways.down (omega (arith, may.1.1, most))))) refl;
+      let fits_so : pushed size bytes x.ways.down ≡ after x.ways.down (pushes bytes) = fits size x.ways.down bytes may.1.1 most in
+      rests old.number (rerouted x y routing) (next a (up (e.Came u bytes))) new routing None (sym (unmoved x y routing refl))
+      (ap (λ w. as_told (record x { ways = record x.ways { down = w } })) (sym fits_so)
+      ∙ ap (λ (c : Captured). record c { ways = record c.ways { down = pushed (ring_down c.door) bytes c.ways.down } }) shows.same
+      ∙ sym is) (
+        subst (λ (s : Stage). IsCalmBy s y) (sym may.0.0.1)
+            (goes_on y (through_down y (has_room size x.ways.down (omega (arith, may.1.1, most))))),
+        sound_is old x shows,
+      ) refl;
 }
 
 -- its birth
 pub begins : (d : Door) (l : ℕ) (k : Relay) → captured_of k ≡ record no_link { door = d; stage = m.fronting } → Begins d l k
-begins d l k is a new = record {
+begins d l k is a routing new = record {
   parts = welcomed ∷ [];
   reached = next (next a (entry (e.Accepted l d))) welcomed;
-  leads = (tt, refl, refl);
-  shows = record {
-    same = ap (λ (x : Captured). as_told (record x { door = d; stage = m.fronting })) new ∙ sym is;
-    calm = subst (λ (x : Captured). IsCalm (record x { door = d; stage = m.fronting })) (sym new) (refl, omega arith);
-  };
+  leads = (tt, tt, refl, (refl, refl));
+  shows = shows_so k (next (next a (entry (e.Accepted l d))) welcomed).link
+      (ap (λ (x : Captured). as_told (record x { door = d; stage = m.fronting })) new ∙ sym is)
+      (subst (λ (x : Captured). IsCalm (record x { door = d; stage = m.fronting })) (sym new) (refl, omega arith), tt);
   noted = refl;
 }
 
 -- or it is turned away
 pub turns_away : (d : Door) (l : ℕ) (k : Relay) → captured_of k ≡ record no_link { door = d; stage = m.over cause.NoRoom }
     → TurnsAway d l k
-turns_away d l k is a new = record {
-  same = ap (λ (x : Captured). as_told (record x { door = d; stage = m.over cause.NoRoom })) new ∙ sym is;
-  calm = tt;
-}
+turns_away d l k is a new =
+    shows_so k (record a.link { door = d; stage = m.over cause.NoRoom })
+    (ap (λ (x : Captured). as_told (record x { door = d; stage = m.over cause.NoRoom })) new ∙ sym is) (ap is_raw new, tt)
 
 -- AN UPDATE
 
@@ -199,14 +269,15 @@ pub stays : (held : Resources) (old : Relay) → ((x : Captured) → as_told x �
     → Updates held old old None
 stays held old same_link r = record {
   number = refl;
-  reaches = λ start before a stands shows so may.
+  reaches = λ start before a routing stands shows so may.
       let same : rejudged (after_response a.held r) a.link ≡ a.link =
       ap (λ (h : Resources). rejudged h a.link) (sym so) ∙ same_link a.link shows.same in
-      rests old.number (next a (applied r)) old None (ap as_told same ∙ shows.same) (subst IsCalm (sym same) shows.calm) refl;
+      rests old.number routing (next a (applied r)) old routing None refl (ap as_told same ∙ shows.same)
+      (subst IsCalm (sym same) shows.calm, subst IsSound (sym same) (sound_is old a.link shows)) refl;
 }
 
 -- since its door judges no peers, its header isn't whole, or its peer is admitted
-pub unjudged_stays : (held : Resources) (old : Relay) → judges old.door ≡ false → Updates held old old None
+pub unjudged_stays : (held : Resources) (old : Relay) → judges (captured_of old).door ≡ false → Updates held old old None
 unjudged_stays held old is =
     stays held old (λ x same.
     ap (λ (b : Bool). cond (b && is_judged x.stage) (judged_by (judged held x.peer x.target) x) x)
@@ -226,9 +297,9 @@ admitted_stays held old is =
     (ap (λ (y : Captured). judged held y.peer y.target) same ∙ is))
 
 judged_ends : (j : Judged) (x : Captured) → j ≢ Admitted → judged_by j x ≡ ends_for cause.Revoked x
-judged_ends Admitted x not = absurd (not refl)
-judged_ends Unknown x not = refl
-judged_ends Denied x not = refl
+judged_ends Admitted x other = absurd (other refl)
+judged_ends Unknown x other = refl
+judged_ends Denied x other = refl
 
 -- where no note is made it stays as it was
 pub unmade_stays : (old new : Relay) (made : Option Note) → old.stage ≢ Fronting
@@ -254,21 +325,23 @@ unmade_stays old new made late noted becomes = by old.stage refl
     by (Over first) is =
         let over_so : (captured_of old).stage ≡ m.over first = ap stage_of is in
         stays_so (becomes.after
-        ∙ ap (λ (s : Stage). at_stage s (captured_of old)) (ap (λ (s : Stage). left_by (ends_by cause.Revoked s)) over_so ∙ sym over_so)) made
+        ∙ ap (λ (s : Stage). at_stage s (captured_of old))
+        (ap (λ (s : Stage). left_by (ends_by cause.Revoked s)) over_so ∙ sym over_so))
+        made
 
 -- it ends
-pub revokes : (held : Resources) (old new : Relay) (made : Option Note) → judges old.door ≡ true → old.stage ≢ Fronting
+pub revokes : (held : Resources) (old new : Relay) (made : Option Note) → judges (captured_of old).door ≡ true → old.stage ≢ Fronting
     → judged held (captured_of old).peer old.target ≢ Admitted
     → made ≡ note_at old.number cause.Revoked (captured_of old) (stage_of old.stage) → Becomes (ended_now cause.Revoked) old new
     → Updates held old new made
-revokes held old new made on late not noted becomes r = record {
+revokes held old new made on late other noted becomes r = record {
   number = becomes.number;
-  reaches = λ start before a stands shows so may.
+  reaches = λ start before a routing stands shows so may.
       let x = a.link in
       let same : rejudged (after_response a.held r) x ≡ ends_for cause.Revoked x =
       ap (λ (h : Resources). rejudged h x) (sym so) ∙ at_judging x shows.same ∙ by x shows.same old.stage refl in
-      subst (λ (y : Captured). Reaches old.number (record { held = after_response a.held r; link = y }) new made) (sym same)
-      (ends_reach old.number (after_response a.held r) x old new cause.Revoked made shows.same becomes noted);
+      subst (λ (y : Captured). Reaches old.number routing (record { held = after_response a.held r; link = y }) new routing made) (sym same)
+      (ends_reach old.number (after_response a.held r) x old new cause.Revoked made shows.same becomes noted routing routing refl);
 }
   where
     at : (x : Captured) → as_told x ≡ captured_of old → (s : code.Stage) → old.stage ≡ s → x.stage ≡ stage_of s
@@ -277,7 +350,7 @@ revokes held old new made on late not noted becomes r = record {
     judged_so : (x : Captured) → as_told x ≡ captured_of old → judged_by (judged held x.peer x.target) x ≡ ends_for cause.Revoked x
     judged_so x same =
         judged_ends (judged held x.peer x.target) x
-        (λ admitted. not (ap (λ (y : Captured). judged held y.peer y.target) (sym same) ∙ admitted))
+        (λ admitted. other (ap (λ (y : Captured). judged held y.peer y.target) (sym same) ∙ admitted))
 
     at_judging : (x : Captured) → as_told x ≡ captured_of old
         → rejudged held x ≡ cond (is_judged x.stage) (judged_by (judged held x.peer x.target) x) x

@@ -3,7 +3,7 @@ use Rattle.std.specs.Prelude.{◌≡◌, ◌⊎◌, ℕ, List, Option, Some, Non
 use Rattle.hb_world.specs.declared.act.Act.{Act}
 use Rattle.hb_world.specs.declared.act.Act.TheVariants as act
 use Rattle.hb_world.specs.declared.entry.Entry.TheVariants as e
-use Rattle.hb_captured.specs.Answer.{why_at}
+use Rattle.hb_captured.specs.Answer.{address_of, key_of, why_for}
 use Rattle.hb_captured.specs.Calm.{IsIdleBy, wants, up_wants, output, up_output}
 use Rattle.hb_captured.specs.Captured.{Captured, due}
 use Rattle.hb_captured.specs.Part.{Part, entry, up}
@@ -21,8 +21,9 @@ abbrev pub Acts : Option Act → Relay → Relay → Type 0
 Acts None old new =
     (captured_of new ≡ captured_of old) × ((x : Captured) → Shows old x → IsIdleBy x.stage x)
 Acts (Some (act.Dial to why)) old new =
-    (captured_of new ≡ captured_of old) × (why ≡ why_at old.door old.number)
-    × ((x : Captured) → Shows old x → (x.door ≡ old.door) × (x.stage ≡ due) × (to ≡ x.address))
+    (captured_of new ≡ captured_of old)
+    × ((x : Captured) → Shows old x → (x.stage ≡ due) × (key_of x.aim ≡ None) × (to ≡ address_of x.aim)
+    × (why ≡ why_for x.aim x.door old.number))
 Acts (Some (act.Shut u)) old new =
     ((u ≡ old.number) × Does (entry (e.Shut u)) old new) ⊎ Does (up (e.Shut u)) old new
 Acts (Some (act.Close u why)) old new =

@@ -8,9 +8,10 @@ use Rattle.hb_held.specs.Held.{Resources}
 use Rattle.hb_held.specs.Outcome.{after_response}
 use Rattle.hb_world.specs.declared.entry.Entry.{Entry}
 use Rattle.hb_world.specs.declared.entry.Entry.TheVariants as e
+use Rattle.hb_captured.specs.Answer.{Routing}
 use Rattle.hb_captured.specs.Captured.{no_link}
-use Rattle.hb_captured.specs.Part.{entry, up, crowded, applied, stopped}
-use Rattle.hb_captured.specs.Runs.{Local, next}
+use Rattle.hb_captured.specs.Part.{Part, entry, up, crowded, applied, stopped}
+use Rattle.hb_captured.specs.Runs.{Local, MayGo, next, StandsFor}
 use Rattle.hb_relay.specs.declared.relay.Relay.{Relay}
 use Rattle.hb_relay.specs.Reaches.{Reaches, Meets}
 use Rattle.hb_relay.specs.Shows.{Shows}
@@ -18,34 +19,46 @@ use Rattle.hb_relay.specs.Shows.{Shows}
 abbrev pub any : Resources → Type 0
 any held = ⊤
 
--- an entry of the link, or of its upstream, whatever that one's number is
-abbrev pub Enters : Entry → Relay → Relay → Option Note → Type 0
-Enters x old new made = Meets any (entry x) old new made
+-- an entry of the link, or of its upstream, whatever that one's number is; from these counts to those
+abbrev pub Enters : Entry → Relay → Routing → Relay → Routing → Option Note → Type 0
+Enters x old before new behind made = Meets any (entry x) old before new behind made
 
-abbrev pub UpEnters : Entry → Relay → Relay → Option Note → Type 0
-UpEnters x old new made = Meets any (up x) old new made
+abbrev pub UpEnters : Entry → Relay → Routing → Relay → Routing → Option Note → Type 0
+UpEnters x old before new behind made = Meets any (up x) old before new behind made
+
+-- so it is whatever the counts are, which stay
+abbrev pub UpEntersStill : Entry → Relay → Relay → Option Note → Type 0
+UpEntersStill x old new made = (routing : Routing) → UpEnters x old routing new routing made
 
 -- bytes came, while this was held
-abbrev pub Takes : Resources → List ℕ → Relay → Relay → Option Note → Type 0
-Takes held bytes old new made = Meets (λ h. h ≡ held) (entry (e.Came old.number bytes)) old new made
+abbrev pub Takes : Resources → List ℕ → Relay → Routing → Relay → Routing → Option Note → Type 0
+Takes held bytes old before new behind made =
+    Meets (λ h. h ≡ held) (entry (e.Came old.number bytes)) old before new behind made
 
 -- so many bytes went
-abbrev pub Goes : ℕ → Relay → Relay → Option Note → Type 0
-Goes n old new made = (bytes : List ℕ) → length bytes ≡ n → Enters (e.Went old.number bytes) old new made
+abbrev pub Goes : ℕ → Relay → Routing → Relay → Routing → Option Note → Type 0
+Goes n old before new behind made = (bytes : List ℕ) → length bytes ≡ n → Enters (e.Went old.number bytes) old before new behind made
 
-abbrev pub UpGoes : ℕ → Relay → Relay → Option Note → Type 0
-UpGoes n old new made = (u : ℕ) (bytes : List ℕ) → length bytes ≡ n → UpEnters (e.Went u bytes) old new made
+abbrev pub UpGoes : ℕ → Relay → Routing → Relay → Routing → Option Note → Type 0
+UpGoes n old before new behind made =
+    (u : ℕ) (bytes : List ℕ) → length bytes ≡ n → UpEnters (e.Went u bytes) old before new behind made
 
--- a response made this of what was held; the run ends
+-- what is told to all links at once leads on from there, whatever was counted: a response made this of what was held; the run ends
+pub record Follows (P : Resources → Type 0) (p : Part) (old new : Relay) (made : Option Note) : Type 0 where
+  pub number : new.number ≡ old.number
+  pub reaches : (start : Resources) (before : List Part) (a : Local) (routing : Routing) → StandsFor old.number start a before
+      → Shows old a.link → P a.held → MayGo old.number a p → Reaches old.number routing (next a p) new routing made
+
 abbrev pub Updates : Resources → Relay → Relay → Option Note → Type 0
-Updates held old new made = (r : Response) → Meets (λ h. held ≡ after_response h r) (applied r) old new made
+Updates held old new made = (r : Response) → Follows (λ h. held ≡ after_response h r) (applied r) old new made
 
 abbrev pub Stops : Cause → Relay → Relay → Option Note → Type 0
-Stops cause old new made = Meets any (stopped cause) old new made
+Stops cause old new made = Follows any (stopped cause) old new made
 
 -- a link is born at a door, and makes no note
 abbrev pub Begins : Door → ℕ → Relay → Type 0
-Begins d l k = (a : Local) → a.link ≡ no_link → Reaches l (next a (entry (e.Accepted l d))) k None
+Begins d l k =
+    (a : Local) (routing : Routing) → a.link ≡ no_link → Reaches l routing (next a (entry (e.Accepted l d))) k routing None
 
 -- a link is born where as many are open as may be: it is turned away, and makes no note
 abbrev pub TurnsAway : Door → ℕ → Relay → Type 0

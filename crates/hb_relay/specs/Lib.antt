@@ -5,4 +5,6 @@ pub mod Ending
 pub mod Moving
 pub mod Reaches
 pub mod Refused
+pub mod Rings
+pub mod RingsAt
 pub mod Shows

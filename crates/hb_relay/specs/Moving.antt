@@ -1,18 +1,19 @@
 -- What the own steps of a call make of a link. No public clause cites this file.
-use Rattle.std.specs.Prelude.{◌≡◌, ℕ, ◌+◌, ◌-◌, ◌&&◌, not, true, nat_le, if◌then◌else◌, List, [], length, drop, Option, Some, None}
+use Rattle.std.specs.Prelude.{◌≡◌, ◌⊎◌, ℕ, ◌+◌, not, true, nat_le, if◌then◌else◌, [], length, drop, Option, Some, None}
 use Rattle.hb_base.specs.declared.cause.Cause.TheVariants as cause
 use Rattle.hb_base.specs.declared.note.Note.{Note}
 use Rattle.hb_front.specs.Faults.{number_of}
-use Rattle.hb_front.specs.Reading.{IsAnswer, Answer as Reading, Whole, More, Fault}
+use Rattle.hb_front.specs.Reading.{Seen, IsAnswer, Answer as Reading, Whole, More, Fault}
 use Rattle.hb_held.specs.Held.{Resources}
-use Rattle.hb_tunnel.specs.Tunnel.{up_size}
-use Rattle.hb_tunnel.specs.Way.{Way, after, pushes, takes}
+use Rattle.hb_tunnel.specs.Way.{after, takes}
 use Rattle.hb_world.specs.declared.act.Act.{Act}
 use Rattle.hb_world.specs.declared.act.Act.TheVariants as act
-use Rattle.hb_captured.specs.Answer.{Answer, dials, refuses, answer_on, why_at}
-use Rattle.hb_captured.specs.Captured.{Captured, Stage, due, live, over, at_stage, may_shut_up, may_shut, is_through}
+use Rattle.hb_captured.specs.Answer.{Aim, straight_to, through, Answer, aims, refuses, Routing, answer_on, address_of, why_for}
+use Rattle.hb_captured.specs.Captured.{Captured, Stage, due, live, over, at_stage, ring_up, may_shut_up, may_shut, is_through}
 use Rattle.hb_captured.specs.Runs.{counted}
+use Rattle.hb_relay.specs.Answering.{counted_for, left_for}
 use Rattle.hb_relay.specs.Ending.{end_at, verdict_at}
+use Rattle.hb_relay.specs.Rings.{pushed}
 use Rattle.hb_relay.specs.Shows.{captured_of}
 use Rattle.hb_relay.specs.declared.relay.Relay.{Relay}
 use Rattle.hb_base.specs.declared.ip.Ip.{Ip}
@@ -30,41 +31,59 @@ abbrev pub note_by : ℕ → Stage → Captured → Option Note
 note_by l live x = if is_through x then Some (end_at l cause.Done x) else None
 note_by l stage x = None
 
--- bytes are pushed where they fit a way that hasn't ended
-abbrev pub pushed : ℕ → List ℕ → Way → Way
-pushed size bytes w = if not w.has_ended && nat_le (length bytes) (size - length w.held) then after w (pushes bytes) else w
-
 -- the header told this; the bytes behind it go up
 abbrev pub told_by : Ip → Target → ℕ → Captured → Captured
 told_by source target length x = record x {
   front = [];
   peer = record { ip = source; identity = None };
   target = target;
-  ways = record x.ways { up = pushed up_size (drop length x.front) x.ways.up };
+  ways = record x.ways { up = pushed (ring_up x.door) (drop length x.front) x.ways.up };
 }
 
--- it gets its answer
+-- it gets its answer: where that is by a gateway no link has room for it
+abbrev pub aimed_by : Aim → Captured → Captured
+aimed_by (straight_to to endpoint) x = record x { stage = due; aim = straight_to to endpoint }
+aimed_by (through key authority endpoint) x = record x { stage = over cause.NoRoom; aim = through key authority endpoint }
+
 abbrev pub decided_by : Answer → Captured → Captured
-decided_by (dials to) x = record x { stage = due; address = to }
-decided_by (refuses why status) x = record x { stage = over why; address = x.target }
+decided_by (aims aim) x = aimed_by aim x
+decided_by (refuses why status) x = record x { stage = over why; aim = straight_to x.target None }
+
+abbrev pub aimed_note : ℕ → Aim → Captured → Option Note
+aimed_note l (straight_to to endpoint) x = None
+aimed_note l (through key authority endpoint) x = Some (verdict_at l 503 x)
 
 abbrev pub decided_note : ℕ → Answer → Captured → Option Note
-decided_note l (dials to) x = None
+decided_note l (aims aim) x = aimed_note l aim x
 decided_note l (refuses why status) x = Some (verdict_at l status x)
 
--- by what the bytes that came of the header are
-abbrev pub Fronts : ℕ → Resources → Reading → Captured → Captured → Option Note → Type 0
-Fronts l held More old new made = (new ≡ old) × (made ≡ None)
-Fronts l held (Fault fault) old new made = (new ≡ at_stage (over (cause.FrontFault (number_of fault))) old) × (made ≡ None)
-Fronts l held (Whole seen) old new made =
-    (new ≡ decided_by (answer_on old.door held seen) (told_by seen.source.ip seen.destination seen.length old))
-    × (made ≡ decided_note l (answer_on old.door held seen) (told_by seen.source.ip seen.destination seen.length old))
+-- behind the count of its answer it is left where it isn't a connection any more
+abbrev pub decided_for : Answer → Routing → Routing
+decided_for given routing = left_for given (counted_for given routing)
 
-pub record TakesFront (held : Resources) (old new : Relay) (made : Option Note) : Type 0 where
+-- the header is whole: it gets its answer, or memory is wanting for that
+abbrev pub IsDecided : ℕ → Resources → Seen → Routing → Routing → Captured → Captured → Option Note → Type 0
+IsDecided l held seen before behind old new made =
+    (new ≡ decided_by (answer_on old.door held before seen) (told_by seen.source.ip seen.destination seen.length old))
+    × (made ≡ decided_note l (answer_on old.door held before seen) (told_by seen.source.ip seen.destination seen.length old))
+    × (behind ≡ decided_for (answer_on old.door held before seen) before)
+
+abbrev pub IsLacked : Routing → Routing → Captured → Captured → Option Note → Type 0
+IsLacked before behind old new made = (new ≡ at_stage (over cause.NoMemory) old) × (made ≡ None) × (behind ≡ before)
+
+-- by what the bytes that came of the header are
+abbrev pub Fronts : ℕ → Resources → Routing → Routing → Reading → Captured → Captured → Option Note → Type 0
+Fronts l held before behind More old new made = (new ≡ old) × (made ≡ None) × (behind ≡ before)
+Fronts l held before behind (Fault fault) old new made =
+    (new ≡ at_stage (over (cause.FrontFault (number_of fault))) old) × (made ≡ None) × (behind ≡ before)
+Fronts l held before behind (Whole seen) old new made =
+    IsDecided l held seen before behind old new made ⊎ IsLacked before behind old new made
+
+pub record TakesFront (held : Resources) (before behind : Routing) (old new : Relay) (made : Option Note) : Type 0 where
   pub number : new.number ≡ old.number
   pub answer : Reading
   pub is : IsAnswer old.front answer
-  pub fronts : Fronts old.number held answer (captured_of old) (captured_of new) made
+  pub fronts : Fronts old.number held before behind answer (captured_of old) (captured_of new) made
 
 -- so many were written, which are counted as far as notes tell them
 abbrev pub took_up : ℕ → Captured → Captured
@@ -75,7 +94,7 @@ took_down n x = record x { ways = record x.ways { down = after x.ways.down (take
 
 -- the act that is due, and what it makes of the link
 abbrev pub act_by : ℕ → Stage → Captured → Option Act
-act_by l due x = Some (act.Dial x.address (why_at x.door l))
+act_by l due x = Some (act.Dial (address_of x.aim) (why_for x.aim x.door l))
 act_by l live x = if may_shut_up x then Some (act.Shut x.up) else if may_shut x then Some (act.Shut l) else None
 act_by l (over cause) x =
     if not (nat_le x.up 0) then Some (act.Close x.up cause) else if not x.closed then Some (act.Close l cause) else None

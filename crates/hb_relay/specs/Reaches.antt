@@ -2,38 +2,55 @@
 use Rattle.std.specs.Prelude.{⊤, ◌≡◌, ℕ, List, [], ◌∷◌, Option}
 use Rattle.hb_base.specs.declared.note.Note.{Note}
 use Rattle.hb_held.specs.Held.{Resources}
-use Rattle.hb_captured.specs.Part.{Part, welcomed, misfronted, fronted, refused, accepted, left, done, notes, note_if}
+use Rattle.hb_captured.specs.Answer.{Routing}
+use Rattle.hb_captured.specs.Captured.{Captured}
+use Rattle.hb_captured.specs.Counts.{counted_with}
+use Rattle.hb_captured.specs.Part.{Part, welcomed, lacked, misfronted, fronted, refused, accepted, roomless, left, done, notes, note_if}
 use Rattle.hb_captured.specs.Runs.{Local, MayGo, next, StandsFor}
 use Rattle.hb_relay.specs.declared.relay.Relay.{Relay}
 use Rattle.hb_relay.specs.Shows.{Shows}
 
--- a part that follows by itself: neither an entry, nor what others do to the link, nor want of memory
+-- a part that follows by itself: neither an entry, nor what others do to the link
 abbrev pub IsInner : Part → Type 0
 IsInner welcomed = ⊤
+IsInner lacked = ⊤
 IsInner (misfronted fault) = ⊤
-IsInner (fronted seen to) = ⊤
-IsInner (refused seen why status note) = ⊤
+IsInner (fronted seen routing aim) = ⊤
+IsInner (refused seen routing why status note) = ⊤
 IsInner (accepted note) = ⊤
+IsInner roomless = ⊤
 IsInner (left made) = ⊤
 IsInner (done note) = ⊤
 IsInner _ = ⊥
 
--- such parts lead from one link to another, one after another
-abbrev pub Leads : ℕ → Local → List Part → Local → Type 0
-Leads l a [] b = b ≡ a
-Leads l a (p ∷ parts) b = IsInner p × MayGo l a p × Leads l (next a p) parts b
+-- what a header gets goes by these counts
+abbrev pub IsRouted : Routing → Part → Type 0
+IsRouted routing (fronted seen by aim) = by ≡ routing
+IsRouted routing (refused seen by why status note) = by ≡ routing
+IsRouted routing _ = ⊤
 
--- they lead to a link that the code shows, and make this note, or none
-pub record Reaches (l : ℕ) (a : Local) (k : Relay) (made : Option Note) : Type 0 where
+-- the counts behind a step of a link
+abbrev pub rerouted : (before behind : Captured) → Routing → Routing
+rerouted x y routing = record routing { opens = counted_with x y routing.opens }
+
+-- such parts lead from one link to another, one after another, and from these counts to those
+abbrev pub Leads : ℕ → Routing → Local → List Part → Local → Routing → Type 0
+Leads l routing a [] b behind = (b ≡ a) × (behind ≡ routing)
+Leads l routing a (p ∷ parts) b behind =
+    IsInner p × IsRouted routing p × MayGo l a p × Leads l (rerouted a.link (next a p).link routing) (next a p) parts b behind
+
+-- they lead to a link that the code shows, and to these counts, and make this note, or none
+pub record Reaches (l : ℕ) (routing : Routing) (a : Local) (k : Relay) (behind : Routing) (made : Option Note) : Type 0 where
   pub parts : List Part
   pub reached : Local
-  pub leads : Leads l a parts reached
+  pub leads : Leads l routing a parts reached behind
   pub shows : Shows k reached.link
   pub noted : notes parts ≡ note_if made
 
 -- The code is told a part. For each run of the link that the code showed, and behind which the part may come, it shows afterwards the run
 -- with that part, and with what follows from it by itself; so it is while this holds of what is held
-pub record Meets (P : Resources → Type 0) (p : Part) (old new : Relay) (made : Option Note) : Type 0 where
+pub record Meets (P : Resources → Type 0) (p : Part) (old : Relay) (routing : Routing) (new : Relay) (behind : Routing)
+    (made : Option Note) : Type 0 where
   pub number : new.number ≡ old.number
   pub reaches : (start : Resources) (before : List Part) (a : Local) → StandsFor old.number start a before → Shows old a.link → P a.held
-      → MayGo old.number a p → Reaches old.number (next a p) new made
+      → MayGo old.number a p → Reaches old.number (rerouted a.link (next a p).link routing) (next a p) new behind made

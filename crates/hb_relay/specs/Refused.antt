@@ -2,6 +2,7 @@
 use Rattle.std.specs.Prelude.{◌≡◌, ◌≢◌, ℕ, true, None}
 use Rattle.hb_base.specs.declared.cause.Cause.{Cause}
 use Rattle.hb_held.specs.Held.{Resources}
+use Rattle.hb_captured.specs.Answer.{Routing}
 use Rattle.hb_captured.specs.Captured.{Captured, fronting, opening, accepting, live, failed, no_link, at_stage, ends_for, is_through}
 use Rattle.hb_relay.specs.declared.relay.Relay.{Relay}
 use Rattle.hb_relay.specs.declared.stage.Stage.TheVariants.{Live}
@@ -14,7 +15,7 @@ LivesEarly = (k : Relay) (x : Captured) → k.stage ≡ Live → x.stage ≡ ope
 
 -- one that keeps other bytes
 abbrev pub DropsBytes : Type 0
-DropsBytes = (k : Relay) (x : Captured) → k.ways ≢ x.ways → Shows k x → ⊥
+DropsBytes = (k : Relay) (x : Captured) → k.ways.ways ≢ x.ways → Shows k x → ⊥
 
 -- one that is done, and goes on
 abbrev pub GoesOnDone : Type 0
@@ -29,8 +30,8 @@ FailsLater = (k : Relay) (x : Captured) (why : Cause) → x.stage ≡ failed why
 
 -- the end of one that lived isn't told
 abbrev pub EndsUntold : Type 0
-EndsUntold = (l : ℕ) (held : Resources) (x : Captured) (k : Relay) (why : Cause) → x.stage ≡ live
-    → Reaches l (record { held = held; link = ends_for why x }) k None → ⊥
+EndsUntold = (l : ℕ) (held : Resources) (x : Captured) (k : Relay) (why : Cause) (before behind : Routing) → x.stage ≡ live
+    → Reaches l before (record { held = held; link = ends_for why x }) k behind None → ⊥
 
 -- one that was taken in just now is shown by one without bytes
 abbrev pub NewIsShown : Type 0

@@ -6,11 +6,9 @@ ghost use Rattle.hb_relay.specs.Acts.{Acts};
 ghost use Rattle.hb_relay.specs.Moving.{act_by, acted_by};
 ghost use Rattle.hb_relay.specs.Shows.{captured_of, stage_of, Becomes};
 
-use crate::answer::why_at;
 use crate::relay::Relay;
 use crate::stage::Stage;
 use hb_base::Cause;
-use hb_tunnel::{DOWN_SIZE, UP_SIZE};
 use hb_world::Act;
 
 impl Relay {
@@ -18,14 +16,14 @@ impl Relay {
     fn may_shut_up(&self) -> bool
         ensures { result ≡ may_shut_up (captured_of self.now) }
     {
-        self.ways.up_ended() && self.ways.room_up() == UP_SIZE && !self.up_shut
+        self.ways.up_done() && !self.up_shut
     }
 
     /// The link's sending side may be shut.
     fn may_shut(&self) -> bool
         ensures { result ≡ may_shut (captured_of self.now) }
     {
-        self.ways.down_ended() && self.ways.room_down() == DOWN_SIZE && !self.shut
+        self.ways.down_done() && !self.shut
     }
 
     /// The shut that is due while it lives, the upstream's first.
@@ -71,8 +69,8 @@ impl Relay {
     {
         match self.stage {
             Stage::Due => Some(Act::Dial {
-                to: self.address,
-                why: why_at(self.door, self.number),
+                to: self.aim.address(),
+                why: self.aim.why(self.ways.door(), self.number),
             }),
             Stage::Live => self.next_shut(),
             Stage::Over(cause) => self.next_close(cause),

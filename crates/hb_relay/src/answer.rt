@@ -1,21 +1,24 @@
 //! What the front header of a link gets at its door.
 
-ghost use Rattle.std.specs.Prelude.{◌≡◌};
-ghost use Rattle.hb_captured.specs.Answer.{refused_with, verdict_for, way_for, by_verdict, by_way, routed, answer, why_at};
+ghost use Rattle.std.specs.Prelude.{◌≡◌, IfOk, OnOk, OnErr};
+ghost use Rattle.std.specs.Option.{option_map};
+ghost use Rattle.hb_captured.specs.Answer.{refused_with, verdict_for, way_for, by_verdict, by_way, routed, answer};
 ghost use Rattle.hb_route.specs.Answer.{way_as};
-ghost use Rattle.hb_relay.specs.Answering.{answer_as};
+ghost use Rattle.hb_relay.specs.Answering.{answer_as, routing_of, counted_for};
 
-use hb_base::{Cause, Door, Ip, Peer, Target, Why};
+use crate::aim::{Aim, key_for};
+use crate::routes::Routes;
+use hb_base::{Cause, Door, Ip, NoMemory, Peer, Target, Text};
 use hb_held::Held;
-use hb_route::{Opens, Route, route};
+use hb_route::{Route, route};
 use hb_verdict::{Request, Verdict, is_own_door, verdict_on};
 use std::alloc::Global;
 
 /// What the front header of a link gets.
-#[derive(Clone, Copy)]
+#[derive(Drop)]
 pub(crate) enum Answer {
-    /// This address is dialled for it.
-    Dials(Target),
+    /// Its bytes are to go there.
+    Aims(Aim),
     /// It is refused for this cause, which is noted with this status (RFC 9110 section 15).
     Refuses(Cause, u16),
 }
@@ -32,7 +35,7 @@ fn by_verdict(verdict: Verdict) -> Answer
     ensures { answer_as result ≡ by_verdict verdict }
 {
     match verdict {
-        Verdict::Dial(to) => Answer::Dials(to),
+        Verdict::Dial(to) => Answer::Aims(Aim::Straight { to, endpoint: None }),
         Verdict::Status(status) => refused_with(status),
         Verdict::Reset => refused_with(400),
     }
@@ -49,55 +52,96 @@ fn judged(held: &Held, source: Ip, target: Target) -> Answer
     by_verdict(verdict_on(Request::Connect(target), held, &peer, false))
 }
 
-/// What a way is to a link: none leads to one of the node's own doors, and a gateway has no room.
-fn by_way(held: &Held, way: Route<'_>) -> Answer
-    ensures { answer_as result ≡ by_way held.now (way_as way.entry) }
+/// A name, in memory of its own, where there is one.
+fn copied(alloc: Global, name: Option<&Text>) -> Result<Option<Text>, NoMemory>
+    ensures { IfOk result (λ copy. copy ≡ option_map (λ name. name.now) name.entry) }
+{
+    match name {
+        Some(name) => Ok(Some(name.copy(alloc)?)),
+        None => Ok(None),
+    }
+}
+
+/// What a way is to a link: none leads straight to one of the node's own doors.
+fn by_way(alloc: Global, held: &Held, source: Ip, way: Route<'_>) -> Result<Answer, NoMemory>
+    ensures { IfOk result (λ answer. answer_as answer ≡ by_way held.now source (way_as way.entry)) }
 {
     match way {
-        Route::Direct { address, .. } => {
+        Route::Direct { address, endpoint } => {
             if is_own_door(held, address) {
-                refused_with(400)
-            } else {
-                Answer::Dials(address)
+                return Ok(refused_with(400));
             }
+            Ok(Answer::Aims(Aim::Straight {
+                to: address,
+                endpoint: copied(alloc, endpoint)?,
+            }))
         }
-        Route::Gateway { .. } => Answer::Refuses(Cause::NoRoom, 503),
-        Route::Refused(why) => Answer::Refuses(Cause::NoRoute(why.number()), 503),
+        Route::Gateway {
+            address,
+            authority,
+            endpoint,
+        } => Ok(Answer::Aims(Aim::Through {
+            key: key_for(alloc, held, source, address)?,
+            authority,
+            endpoint: endpoint.copy(alloc)?,
+        })),
+        Route::Refused(why) => Ok(Answer::Refuses(Cause::NoRoute(why.number()), 503)),
     }
 }
 
 /// The outbound door: the way from the source to the destination.
-fn routed(alloc: Global, held: &Held, source: Ip, target: Target) -> Answer
-    ensures { answer_as result ≡ routed held.now source target }
+fn routed(
+    alloc: Global,
+    held: &Held,
+    routes: &Routes,
+    source: Ip,
+    target: Target,
+) -> Result<Answer, NoMemory>
+    ensures { IfOk result (λ answer. answer_as answer ≡ routed held.now (routing_of routes.now) source target) }
 {
     if !held.synced() {
-        return refused_with(503);
+        return Ok(refused_with(503));
     }
-    by_way(held, route(held, &Opens::new(alloc), source, target, 0))
+    let way = route(held, &routes.opens, source, target, routes.hbone_port);
+    by_way(alloc, held, source, way)
 }
 
-/// What the front header of a link at this door gets, by what is held.
-pub(crate) fn answer_at(
+/// What the front header of a link at this door gets, by what is held and by the counts.
+fn answer_at(
     alloc: Global,
     door: Door,
     held: &Held,
+    routes: &Routes,
     source: Ip,
     target: Target,
-) -> Answer
-    ensures { answer_as result ≡ answer door held.now source target }
+) -> Result<Answer, NoMemory>
+    ensures { IfOk result (λ given. answer_as given ≡ answer door held.now (routing_of routes.now) source target) }
 {
     match door {
-        Door::Outbound => routed(alloc, held, source, target),
-        _ => judged(held, source, target),
+        Door::Outbound => routed(alloc, held, routes, source, target),
+        _ => Ok(judged(held, source, target)),
     }
 }
 
-/// Why the upstream of a link at this door is dialled.
-pub(crate) fn why_at(door: Door, link: u64) -> Why
-    ensures { result ≡ why_at door link }
+/// The same, where it is counted as a connection of its endpoint from now on.
+///
+/// Errors: `NoMemory`, and then nothing is counted.
+pub(crate) fn answer_counted(
+    alloc: Global,
+    door: Door,
+    held: &Held,
+    routes: &mut Routes,
+    source: Ip,
+    target: Target,
+) -> Result<Answer, NoMemory>
+    ensures value { IfOk result (λ given. answer_as given ≡ answer door held.now (routing_of routes.old) source target) }
+    ensures ok { OnOk result (routing_of routes.new
+        ≡ counted_for (answer door held.now (routing_of routes.old) source target) (routing_of routes.old)) }
+    ensures err { OnErr result (routes.new ≡ routes.old) }
 {
-    match door {
-        Door::Outbound => Why::Direct { link },
-        _ => Why::Plain { link },
+    let answer = answer_at(alloc, door, held, routes, source, target)?;
+    if let Answer::Aims(aim) = &answer {
+        routes.count(aim)?;
     }
+    Ok(answer)
 }

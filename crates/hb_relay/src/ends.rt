@@ -3,9 +3,12 @@
 ghost use Rattle.std.specs.Prelude.{◌≡◌};
 ghost use Rattle.hb_captured.specs.Runs.{failure_status};
 ghost use Rattle.hb_relay.specs.Shows.{captured_of, stage_of, Becomes};
+ghost use Rattle.hb_relay.specs.Answering.{routing_of};
+ghost use Rattle.hb_relay.specs.Reaches.{rerouted};
 ghost use Rattle.hb_relay.specs.Ending.{ended_now, note_at, verdict_at, end_at};
 
 use crate::relay::Relay;
+use crate::routes::Routes;
 use crate::stage::Stage;
 use hb_base::{Cause, Note, Peer};
 
@@ -15,7 +18,8 @@ fn failure_status(cause: Cause) -> Option<u16>
 {
     match cause {
         Cause::Revoked => Some(401),
-        Cause::UpFault => Some(502),
+        Cause::UpFault | Cause::UpRefused(_) => Some(502),
+        Cause::NoRoom => Some(503),
         _ => None,
     }
 }
@@ -72,5 +76,17 @@ impl Relay {
         let note = self.note_for(cause);
         self.stage = self.stage.ended(cause);
         note
+    }
+
+    /// The same, where it counts as a connection of its endpoint no longer.
+    pub(crate) fn leave_for(&mut self, cause: Cause, routes: &mut Routes) -> Option<Note>
+        ensures note { result ≡ note_at self.old.number cause (captured_of self.old) (stage_of self.old.stage) }
+        ensures after { Becomes (ended_now cause) self.old self.new }
+        ensures counts { routing_of routes.new ≡ rerouted (captured_of self.old) (captured_of self.new) (routing_of routes.old) }
+    {
+        if self.stage.is_judged() {
+            routes.uncount(&self.aim);
+        }
+        self.end_for(cause)
     }
 }

@@ -2,13 +2,14 @@
 
 ghost use Rattle.std.specs.Prelude.{◌≡◌, ◌≤◌, ◌-◌, ◌++◌, length};
 ghost use Rattle.hb_captured.specs.Calm.{longest_front};
-ghost use Rattle.hb_captured.specs.Answer.{answer};
+ghost use Rattle.hb_relay.specs.Answering.{answer_as, routing_of, left_for};
 ghost use Rattle.hb_relay.specs.Moving.{told_by, decided_by, decided_note, TakesFront};
 ghost use Rattle.hb_relay.specs.Shows.{captured_of, Becomes};
 
-use crate::answer::{Answer, answer_at};
-use crate::moving::push_up;
+use crate::aim::Aim;
+use crate::answer::{Answer, answer_counted};
 use crate::relay::Relay;
+use crate::routes::Routes;
 use crate::stage::Stage;
 use hb_base::{Cause, Ip, Note, Target};
 use hb_front::{FrontRead, read_front};
@@ -22,33 +23,45 @@ impl Relay {
     {
         self.source = source;
         self.target = target;
-        push_up(&mut self.ways, &self.front.bytes()[size..]);
+        self.ways.push_up(&self.front.bytes()[size..]);
         self.front.clear();
     }
 
-    /// It gets its answer, by what is held: an address is to be dialled, or the link is refused, which is noted.
-    fn decide(&mut self, held: &Held) -> Option<Note>
-        ensures note { result ≡ decided_note self.old.number (answer self.old.door held.now self.old.source self.old.target)
-            (captured_of self.old) }
-        ensures after { Becomes (decided_by (answer self.old.door held.now self.old.source self.old.target)) self.old self.new }
+    /// It gets its answer: an address is to be dialled, or it is refused, which is noted. No link to a gateway has room, and none may be
+    /// dialled: so it is where its way leads by one.
+    fn decide(&mut self, answer: Answer, routes: &mut Routes) -> Option<Note>
+        ensures note { result ≡ decided_note self.old.number (answer_as answer) (captured_of self.old) }
+        ensures after { Becomes (decided_by (answer_as answer)) self.old self.new }
+        ensures counts { routing_of routes.new ≡ left_for (answer_as answer) (routing_of routes.old) }
     {
-        match answer_at(self.alloc, self.door, held, self.source, self.target) {
-            Answer::Dials(to) => {
+        match answer {
+            Answer::Aims(aim) => {
+                let by_gateway = match aim {
+                    Aim::Through { .. } => true,
+                    Aim::Straight { .. } => false,
+                };
                 self.stage = Stage::Due;
-                self.address = to;
-                None
+                self.aim = aim;
+                if by_gateway {
+                    self.leave_for(Cause::NoRoom, routes)
+                } else {
+                    None
+                }
             }
             Answer::Refuses(cause, status) => {
                 self.stage = Stage::Over(cause);
-                self.address = self.target;
+                self.aim = Aim::Straight {
+                    to: self.target,
+                    endpoint: None,
+                };
                 Some(self.verdict_note(status))
             }
         }
     }
 
     /// Reads the front header, as far as it is there.
-    fn read_front(&mut self, held: &Held) -> Option<Note>
-        ensures { TakesFront held.now self.old self.new result }
+    fn read_front(&mut self, held: &Held, routes: &mut Routes) -> Option<Note>
+        ensures { TakesFront held.now (routing_of routes.old) (routing_of routes.new) self.old self.new result }
     {
         match read_front(self.front.bytes()) {
             FrontRead::More => None,
@@ -60,18 +73,28 @@ impl Relay {
                 let source = front.source.ip;
                 let target = front.destination;
                 let size = front.length;
-                self.take_header(source, target, size);
-                self.decide(held)
+                let door = self.ways.door();
+                match answer_counted(self.alloc, door, held, routes, source, target) {
+                    Ok(answer) => {
+                        self.take_header(source, target, size);
+                        self.decide(answer, routes)
+                    }
+                    Err(_) => {
+                        self.stage = Stage::Over(Cause::NoMemory);
+                        None
+                    }
+                }
             }
         }
     }
 
     /// These bytes came of the front header, or behind it.
-    pub(crate) fn take_front(&mut self, held: &Held, b: &[u8]) -> Option<Note>
+    pub(crate) fn take_front(&mut self, held: &Held, routes: &mut Routes, b: &[u8]) -> Option<Note>
         requires { length b.now ≤ longest_front - length self.old.front }
-        ensures { TakesFront held.now (record self.old { front = self.old.front ++ b.now }) self.new result }
+        ensures { TakesFront held.now (routing_of routes.old) (routing_of routes.new)
+            (record self.old { front = self.old.front ++ b.now }) self.new result }
     {
         self.front.push(b);
-        self.read_front(held)
+        self.read_front(held, routes)
     }
 }

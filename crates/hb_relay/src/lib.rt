@@ -4,6 +4,7 @@
 #![tactic(auto)]
 
 mod acts;
+mod aim;
 mod answer;
 mod ends;
 mod front;
@@ -12,7 +13,11 @@ pub mod laws;
 mod link;
 mod moving;
 mod relay;
+mod rings;
+mod routes;
 mod stage;
 mod upstream;
 
+pub use aim::Aim;
 pub use relay::Relay;
+pub use routes::Routes;

@@ -4,11 +4,12 @@ ghost use Rattle.std.specs.Prelude.{◌≡◌, ◌≤◌, length, IfOk, IfNone};
 ghost use Rattle.hb_world.specs.declared.entry.Entry.TheVariants as e;
 ghost use Rattle.hb_captured.specs.Calm.{wants, output};
 ghost use Rattle.hb_captured.specs.Captured.{judges};
+ghost use Rattle.hb_relay.specs.Answering.{routing_of};
 ghost use Rattle.hb_relay.specs.Calls.{Begins, TurnsAway, Enters, Goes, Stops, Takes, Updates};
 ghost use Rattle.hb_relay.specs.Shows.{captured_of};
 
-use crate::moving::push_up;
 use crate::relay::Relay;
+use crate::routes::Routes;
 use crate::stage::Stage;
 use hb_base::{Cause, Door, NoMemory, Note, Peer};
 use hb_held::Held;
@@ -49,41 +50,41 @@ impl Relay {
     /// These bytes came of it: of its front header, which gets its answer by what is held once it is whole, or such as go
     /// up.
     /// The note of a refusal, `None` where the link isn't refused.
-    pub fn take_bytes(&mut self, held: &Held, b: &[u8]) -> Option<Note>
+    pub fn take_bytes(&mut self, held: &Held, routes: &mut Routes, b: &[u8]) -> Option<Note>
         requires { length b.now ≤ wants (captured_of self.old) }
-        ensures { Takes held.now b.now self.old self.new result }
+        ensures { Takes held.now b.now self.old (routing_of routes.old) self.new (routing_of routes.new) result }
     {
         match self.stage {
-            Stage::Fronting => self.take_front(held, b),
+            Stage::Fronting => self.take_front(held, routes, b),
             _ => {
-                push_up(&mut self.ways, b);
+                self.ways.push_up(b);
                 None
             }
         }
     }
 
     /// The first `n` bytes of the output were written. The note of its end, `None` where it isn't done.
-    pub fn wrote(&mut self, n: usize) -> Option<Note>
+    pub fn wrote(&mut self, n: usize, routes: &mut Routes) -> Option<Note>
         requires { n ≤ length (output (captured_of self.old)) }
-        ensures { Goes n self.old self.new result }
+        ensures { Goes n self.old (routing_of routes.old) self.new (routing_of routes.new) result }
     {
         self.take_down(n);
-        self.settle()
+        self.settle(routes)
     }
 
     /// Its peer sends no more. The note of its end, `None` where it isn't done, or its header wasn't whole.
-    pub fn ended(&mut self) -> Option<Note>
-        ensures { Enters (e.Ended self.old.number) self.old self.new result }
+    pub fn ended(&mut self, routes: &mut Routes) -> Option<Note>
+        ensures { Enters (e.Ended self.old.number) self.old (routing_of routes.old) self.new (routing_of routes.new) result }
     {
         self.hang_up();
-        self.settle()
+        self.settle(routes)
     }
 
     /// A call on it failed. The note of its end, `None` where it didn't live.
-    pub fn broke(&mut self) -> Option<Note>
-        ensures { Enters (e.Broke self.old.number) self.old self.new result }
+    pub fn broke(&mut self, routes: &mut Routes) -> Option<Note>
+        ensures { Enters (e.Broke self.old.number) self.old (routing_of routes.old) self.new (routing_of routes.new) result }
     {
-        self.end_for(Cause::PeerGone)
+        self.leave_for(Cause::PeerGone, routes)
     }
 
     /// A response was applied, which made this of what is held: it ends where peers are judged and its own is no longer admitted.
@@ -92,7 +93,7 @@ impl Relay {
         ensures updates { Updates held.now self.old self.new result }
         ensures same { IfNone result (captured_of self.new ≡ captured_of self.old) }
     {
-        if !judges(self.door) {
+        if !judges(self.ways.door()) {
             return None;
         }
         if let Stage::Fronting = self.stage {

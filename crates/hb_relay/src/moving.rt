@@ -3,45 +3,28 @@
 ghost use Rattle.std.specs.Prelude.{◌≡◌, ◌≤◌, length};
 ghost use Rattle.hb_world.specs.declared.entry.Entry.TheVariants as e;
 ghost use Rattle.hb_captured.specs.Captured.{entered, up_entered, at_stage, live};
-ghost use Rattle.hb_tunnel.specs.Tunnel.{up_size, down_size};
-ghost use Rattle.hb_relay.specs.Moving.{settled, note_by, pushed, took_up, took_down};
+ghost use Rattle.hb_relay.specs.Answering.{routing_of};
+ghost use Rattle.hb_relay.specs.Reaches.{rerouted};
+ghost use Rattle.hb_relay.specs.Moving.{settled, note_by, took_up, took_down};
 ghost use Rattle.hb_relay.specs.Shows.{captured_of, stage_of, Becomes};
 ghost use Rattle.hb_base.specs.declared.door.Why.{Why as the_why};
 ghost use Rattle.hb_base.specs.declared.target.Target.{Target as the_target};
 
 use crate::relay::Relay;
+use crate::routes::Routes;
 use crate::stage::Stage;
 use hb_base::{Cause, Note};
-use hb_tunnel::{Phase, Tunnel};
-
-/// These bytes go up, where they fit.
-pub(crate) fn push_up(ways: &mut Tunnel, b: &[u8])
-    ensures { ways.new ≡ record ways.old { up = pushed up_size b.now ways.old.up } }
-{
-    if !ways.up_ended() && b.len() <= ways.room_up() {
-        ways.push_up(b);
-    }
-}
-
-/// These bytes go down, where they fit.
-pub(crate) fn push_down(ways: &mut Tunnel, b: &[u8])
-    ensures { ways.new ≡ record ways.old { down = pushed down_size b.now ways.old.down } }
-{
-    if !ways.down_ended() && b.len() <= ways.room_down() {
-        ways.push_down(b);
-    }
-}
 
 impl Relay {
     /// Where both sides ended, and all went through, it is done.
-    pub(crate) fn settle(&mut self) -> Option<Note>
+    pub(crate) fn settle(&mut self, routes: &mut Routes) -> Option<Note>
         ensures note { result ≡ note_by self.old.number (stage_of self.old.stage) (captured_of self.old) }
         ensures after { Becomes settled self.old self.new }
+        ensures counts { routing_of routes.new ≡ rerouted (captured_of self.old) (captured_of self.new) (routing_of routes.old) }
     {
         match self.stage {
-            Stage::Live if self.ways.done() => {
-                self.stage = Stage::Over(Cause::Done);
-                Some(self.end_note(Cause::Done))
+            Stage::Live if self.ways.up_done() && self.ways.down_done() => {
+                self.leave_for(Cause::Done, routes)
             }
             _ => None,
         }
@@ -66,7 +49,7 @@ impl Relay {
 
     /// The first `n` bytes that waited were written to its upstream.
     pub(crate) fn take_up(&mut self, n: usize)
-        requires { n ≤ length self.old.ways.up.held }
+        requires { n ≤ length self.old.ways.ways.up.held }
         ensures { Becomes (took_up n) self.old self.new }
     {
         self.ways.took_up(n);
@@ -75,7 +58,7 @@ impl Relay {
 
     /// The first `n` bytes that waited were written to it.
     pub(crate) fn take_down(&mut self, n: usize)
-        requires { n ≤ length self.old.ways.down.held }
+        requires { n ≤ length self.old.ways.ways.down.held }
         ensures { Becomes (took_down n) self.old self.new }
     {
         self.ways.took_down(n);
@@ -87,9 +70,7 @@ impl Relay {
         ensures { Becomes (λ x. at_stage live (up_entered (e.Opened self.old.up) x)) self.old self.new }
     {
         self.stage = Stage::Live;
-        if let Phase::Dialling = self.ways.phase() {
-            self.ways.opened();
-        }
+        self.ways.open();
     }
 
     /// The dial of its destination gave this link.

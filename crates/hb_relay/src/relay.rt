@@ -7,28 +7,29 @@ ghost use Rattle.hb_captured.specs.Captured.{no_link};
 ghost use Rattle.hb_relay.specs.Acts.{Wants, UpWants, Holds, UpHolds};
 ghost use Rattle.hb_relay.specs.Shows.{captured_of, stage_of};
 
+use crate::aim::Aim;
 use crate::front::Front;
+use crate::rings::Rings;
 use crate::stage::Stage;
 use hb_base::{Door, Ip, NoMemory, Target};
-use hb_tunnel::Tunnel;
 use std::alloc::Global;
 
-/// A plain link, or of the outbound one, that was taken in.
+/// A link of the plain door, or of the outbound one, that was taken in.
 #[derive(Drop)]
 pub struct Relay {
     pub(crate) alloc: Global,
-    pub(crate) door: Door,
     pub(crate) number: u64,
     pub(crate) stage: Stage,
     pub(crate) front: Front,
     /// What the front header told: where the peer is, and which target it meant.
     pub(crate) source: Ip,
     pub(crate) target: Target,
-    /// The address that is dialled for it.
-    pub(crate) address: Target,
+    /// Where its bytes are to go.
+    pub(crate) aim: Aim,
     /// The number of its upstream, 0 before that is dialled and behind its close.
     pub(crate) up: u64,
-    pub(crate) ways: Tunnel,
+    /// Its door, and the bytes that wait.
+    pub(crate) ways: Rings,
     /// The bytes written to the upstream, and to the link; each stops at 2^64 - 1.
     pub(crate) went_up: u64,
     pub(crate) went_down: u64,
@@ -57,15 +58,17 @@ impl Relay {
         };
         Ok(Relay {
             alloc,
-            door,
             number,
             stage,
             front: Front::new(alloc)?,
             source: Ip::V4(0),
             target: unknown,
-            address: unknown,
+            aim: Aim::Straight {
+                to: unknown,
+                endpoint: None,
+            },
             up: 0,
-            ways: Tunnel::new(alloc)?,
+            ways: Rings::new(alloc, door)?,
             went_up: 0,
             went_down: 0,
             up_shut: false,

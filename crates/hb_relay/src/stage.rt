@@ -1,7 +1,7 @@
 //! How far a link is.
 
 ghost use Rattle.std.specs.Prelude.{◌≡◌};
-ghost use Rattle.hb_captured.specs.Captured.{left_by, ends_by};
+ghost use Rattle.hb_captured.specs.Captured.{left_by, ends_by, is_judged};
 ghost use Rattle.hb_relay.specs.Shows.{stage_of};
 
 use hb_base::Cause;
@@ -22,6 +22,16 @@ pub(crate) enum Stage {
 }
 
 impl Stage {
+    /// It is pending, its front header whole, or lives.
+    pub fn is_judged(self) -> bool
+        ensures { result ≡ is_judged (stage_of self) }
+    {
+        match self {
+            Stage::Due | Stage::Opening | Stage::Live => true,
+            _ => false,
+        }
+    }
+
     /// Behind an end for a cause, which is noted at once. The first end counts.
     pub fn ended(self, cause: Cause) -> Stage
         ensures { stage_of result ≡ left_by (ends_by cause (stage_of self)) }

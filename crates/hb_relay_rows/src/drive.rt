@@ -4,7 +4,7 @@ use crate::octets::FRONT;
 use hb_base::{Door, Note, Target, Text, Why, put_target};
 use hb_disco::read_response;
 use hb_held::{Held, OwnDoors};
-use hb_relay::Relay;
+use hb_relay::{Relay, Routes};
 use hb_world::Act;
 use std::alloc::Global;
 use std::process::Abort;
@@ -73,11 +73,12 @@ pub fn words_of_act(rt: &impl Abort, alloc: Global, act: Option<Act>) -> String 
     words
 }
 
-/// A link, and what is held beside it.
+/// A link, what is held beside it, and the counts of all links.
 #[derive(Drop)]
 pub struct Drive {
     pub alloc: Global,
     pub relay: Relay,
+    pub routes: Routes,
     pub held: Held,
 }
 
@@ -100,6 +101,7 @@ impl Drive {
         let mut drive = Drive {
             alloc,
             relay: Relay::accepted(alloc, door, 7).ok().expect(rt, "memory"),
+            routes: Routes::new(alloc, 15008),
             held: Held::new(alloc, network, node, doors),
         };
         for digits in responses {
@@ -141,7 +143,17 @@ impl Drive {
     /// These bytes come of the link.
     pub fn come(&mut self, rt: &impl Abort, bytes: &[u8]) -> Option<Note> {
         assert!(rt; bytes.len() <= self.relay.wants(), "more than is wanted");
-        self.relay.take_bytes(&self.held, bytes)
+        self.relay.take_bytes(&self.held, &mut self.routes, bytes)
+    }
+
+    /// Both sides end, and what came of each went to the other.
+    pub fn done(&mut self, rt: &impl Abort) {
+        let ended = self.relay.up_ended(&mut self.routes);
+        self.notes(rt, ended, "none");
+        self.acts(rt, &["shut 7"]);
+        let done = self.relay.ended(&mut self.routes);
+        self.notes(rt, done, "done 3 3");
+        self.acts(rt, &["close 8 done 0", "close 7 done 0"]);
     }
 
     /// The acts that are due are these, and then none.
@@ -179,13 +191,13 @@ impl Drive {
             self.relay.up_output() == b"abc".as_slice(),
             "what came goes up"
         );
-        let first = self.relay.up_wrote(1);
+        let first = self.relay.up_wrote(1, &mut self.routes);
         self.notes(rt, first, "none");
         assert!(rt;
             self.relay.up_output() == b"bc".as_slice(),
             "the rest stays"
         );
-        let rest = self.relay.up_wrote(2);
+        let rest = self.relay.up_wrote(2, &mut self.routes);
         self.notes(rt, rest, "none");
         let down = b"def".as_slice();
         assert!(rt; down.len() <= self.relay.up_wants(), "more than is wanted");
@@ -194,7 +206,7 @@ impl Drive {
             self.relay.output() == b"def".as_slice(),
             "what came goes down"
         );
-        let went = self.relay.wrote(3);
+        let went = self.relay.wrote(3, &mut self.routes);
         self.notes(rt, went, "none");
         self.acts(rt, &[]);
     }

@@ -40,10 +40,10 @@ fn relays_both_ways_until_both_end(rt: HostRuntime) {
     let alloc = rt.alloc();
     let mut drive = Drive::new(&rt, alloc, Door::Plain, &[KNOWN, NO_POLICY]);
     drive.live(&rt, "plain 10.0.0.7:9090");
-    let ended = drive.relay.ended();
+    let ended = drive.relay.ended(&mut drive.routes);
     drive.notes(&rt, ended, "none");
     drive.acts(&rt, &["shut 8"]);
-    let done = drive.relay.up_ended();
+    let done = drive.relay.up_ended(&mut drive.routes);
     drive.notes(&rt, done, "done 3 3");
     drive.acts(&rt, &["close 8 done 0", "close 7 done 0"]);
 }
@@ -67,7 +67,7 @@ fn tells_a_failed_dial_and_a_pending_end(rt: HostRuntime) {
     let mut drive = Drive::new(&rt, alloc, Door::Plain, &[KNOWN, NO_POLICY]);
     let note = drive.front(&rt, b"");
     drive.notes(&rt, note, "none");
-    let failed = drive.relay.dial_failed();
+    let failed = drive.relay.dial_failed(&mut drive.routes);
     drive.notes(&rt, failed, "502");
     drive.acts(&rt, &["close 7 up fault 0"]);
     let mut drive = Drive::new(&rt, alloc, Door::Plain, &[KNOWN, NO_POLICY]);
@@ -99,11 +99,11 @@ fn closes_an_unwhole_header(rt: HostRuntime) {
     drive.notes(&rt, fault, "none");
     drive.acts(&rt, &["close 7 front fault 1"]);
     let mut drive = Drive::new(&rt, alloc, Door::Plain, &[]);
-    let ended = drive.relay.ended();
+    let ended = drive.relay.ended(&mut drive.routes);
     drive.notes(&rt, ended, "none");
     drive.acts(&rt, &["close 7 front fault 0"]);
     let mut drive = Drive::new(&rt, alloc, Door::Plain, &[]);
-    let broke = drive.relay.broke();
+    let broke = drive.relay.broke(&mut drive.routes);
     drive.notes(&rt, broke, "none");
     drive.acts(&rt, &["close 7 peer gone 0"]);
 }

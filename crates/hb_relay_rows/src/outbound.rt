@@ -2,11 +2,14 @@
 
 use crate::drive::{Drive, words_of_target};
 use crate::octets::{
-    ALLOWS_NONE, BY_WAYPOINT, ENDPOINT, KNOWN, NO_POLICY, OTHER_PORT, SERVICE, SOURCE, TAKES_HBONE,
+    ALLOWS_NONE, BY_WAYPOINT, ENDPOINT, KNOWN, NO_POLICY, OTHER_ENDPOINT, OTHER_PORT, SERVICE,
+    SOURCE, TAKES_HBONE,
 };
 use hb_base::{Door, Note, Target, read_target};
 use hb_held::OwnDoors;
+use hb_relay::Relay;
 use std::alloc::Global;
+use std::mem;
 use std::process::Abort;
 
 /// A header that is refused with this status, beside what these responses made of what is held.
@@ -24,12 +27,7 @@ fn lives(rt: &impl Abort, alloc: Global, responses: &[&str], dial: &str) {
     let kept = drive.update(rt, ALLOWS_NONE);
     drive.notes(rt, kept, "none");
     drive.acts(rt, &[]);
-    let ended = drive.relay.up_ended();
-    drive.notes(rt, ended, "none");
-    drive.acts(rt, &["shut 7"]);
-    let done = drive.relay.ended();
-    drive.notes(rt, done, "done 3 3");
-    drive.acts(rt, &["close 8 done 0", "close 7 done 0"]);
+    drive.done(rt);
 }
 
 #[test]
@@ -127,6 +125,39 @@ fn goes_to_the_endpoint_of_a_service(rt: HostRuntime) {
     );
 }
 
+/// A further link comes beside the same counts. The one before is given back.
+fn another(rt: &impl Abort, drive: &mut Drive) -> Relay {
+    let fresh = Relay::accepted(drive.alloc, Door::Outbound, 7);
+    mem::replace(&mut drive.relay, fresh.ok().expect(rt, "memory"))
+}
+
+#[test]
+fn takes_the_endpoint_with_fewer_connections(rt: HostRuntime) {
+    let alloc = rt.alloc();
+    let held = [SOURCE, SERVICE, ENDPOINT, OTHER_ENDPOINT, NO_POLICY];
+    let mut drive = Drive::new(&rt, alloc, Door::Outbound, &held);
+    drive.live(&rt, "direct 10.0.0.8:8080");
+    let first = another(&rt, &mut drive);
+    drive.live(&rt, "direct 10.0.0.6:8080");
+    drive.relay = first;
+    drive.done(&rt);
+    another(&rt, &mut drive);
+    drive.live(&rt, "direct 10.0.0.8:8080");
+}
+
+#[test]
+fn counts_no_connection_that_failed(rt: HostRuntime) {
+    let alloc = rt.alloc();
+    let held = [SOURCE, SERVICE, ENDPOINT, OTHER_ENDPOINT, NO_POLICY];
+    let mut drive = Drive::new(&rt, alloc, Door::Outbound, &held);
+    let note = drive.front(&rt, b"");
+    drive.notes(&rt, note, "none");
+    let failed = drive.relay.dial_failed(&mut drive.routes);
+    drive.notes(&rt, failed, "502");
+    another(&rt, &mut drive);
+    drive.live(&rt, "direct 10.0.0.8:8080");
+}
+
 #[test]
 fn tells_the_destination_of_the_header(rt: HostRuntime) {
     let alloc = rt.alloc();
@@ -138,7 +169,7 @@ fn tells_the_destination_of_the_header(rt: HostRuntime) {
     );
     let note = drive.front(&rt, b"");
     drive.notes(&rt, note, "none");
-    let failed = drive.relay.dial_failed();
+    let failed = drive.relay.dial_failed(&mut drive.routes);
     let told = match failed {
         Some(Note::Verdict { target, .. }) => target,
         _ => None,

@@ -1,8 +1,9 @@
-use Rattle.std.proofs.Common.{ap}
+use Rattle.std.proofs.Common.{refl, ap}
+use Rattle.hb_relay.specs.Shows.{captured_of}
 use Rattle.hb_relay.proofs.Meeting.{comes_down}
 use Rattle.hb_relay.proofs.relay.Relay.up_bytes.Goals as goal
 
 pub returns : goal.returns
 returns c = λ u.
-    comes_down c.args.self.now (record c.args.self.now { ways = c.push_down.new.ways }) u c.args.b.now
-    (ap (λ w. record c.args.self.now { ways = w }) c.push_down.ensures)
+    comes_down c.args.self.now (record c.args.self.now { ways = c.push_down.new.self }) u c.args.b.now refl
+    (ap (λ w. captured_of (record c.args.self.now { ways = w })) c.push_down.ensures)
