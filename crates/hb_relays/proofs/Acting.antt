@@ -1,28 +1,34 @@
 -- An act that is due of one link is one of all links.
-use Rattle.std.proofs.Common.{◌≡◌, ◌≢◌, inl, inr, ⊎_elim, ℕ, ◌<◌, ◌^◌, Bool, true, false, cond, List, Option, Some, None, is_some, refl, ap, ap₂, sym, ◌∙◌, subst}
+use Rattle.std.proofs.Common.{◌≡◌, ◌≢◌, inl, inr, ⊎_elim, ℕ, ◌<◌, ◌^◌, Bool, true, false, cond, List, Option, Some, None, is_some, refl, ap, sym, ◌∙◌, subst}
 use Rattle.std.proofs.lemmas.Bool.{cases_eq, eq-eqb, ne_eqb}
 use Rattle.std.specs.FinMap.{get, insert, remove}
 use Rattle.hb_base.specs.declared.cause.Cause.{Cause}
-use Rattle.hb_captured.specs.Answer.{why_at}
+use Rattle.hb_captured.specs.Answer.{why_for}
 use Rattle.hb_captured.specs.Calm.{IsCalm}
 use Rattle.hb_captured.specs.Captured as m
-use Rattle.hb_captured.specs.Captured.{Captured, Stage}
+use Rattle.hb_captured.specs.Captured.{Captured, Stage, counts_for, is_raw}
+use Rattle.hb_captured.specs.Counts.{recounted}
 use Rattle.hb_captured.specs.Part.{Part, entry, up}
 use Rattle.hb_captured.specs.Runs.{Local, MayGo, next, next_link}
+use Rattle.hb_gateway.specs.Gateway.{no_link}
 use Rattle.hb_map.proofs.Laws.{put_here, put_elsewhere, removed_here, removed_elsewhere, written_where_some}
 use Rattle.hb_map.specs.Keyed.{written}
 use Rattle.hb_model.specs.declared.config.NodeConfig.{NodeConfig}
 use Rattle.hb_proxy.proofs.Owned.{all_owned, whose_in}
 use Rattle.hb_proxy.proofs.PlainStays.{is_plain_born}
-use Rattle.hb_proxy.specs.Machine.{Machine, plain_local, with_plain}
+use Rattle.hb_proxy.specs.Machine.{Machine, Outward, outward, plain_local, with_plain}
 use Rattle.hb_proxy.specs.Owners.{plain_link, relay_of}
 use Rattle.hb_proxy.specs.Points.{Point}
-use Rattle.hb_proxy.specs.Runs.{BirthMayCome, ControlRests, Lets, PlainGuard, PlainLets, PlainMayCome, StandsFor, is_act}
+use Rattle.hb_proxy.specs.Runs.{BirthMayCome, ControlRests, DialsGate, GatesLet, Lets, PlainGuard, PlainLets, PlainMayCome, StandsFor, is_act}
 use Rattle.hb_proxy.specs.Seen.{IsPlainThereBy}
 use Rattle.hb_proxy.specs.Ups.{IsRelayOf}
 use Rattle.hb_relay.specs.Acts as relay
-use Rattle.hb_relay.specs.Shows.{Shows, captured_of}
+use Rattle.hb_relay.specs.Answering.{aim_as}
+use Rattle.hb_relay.specs.Shows.{GoesStraight, HasUpstream, Shows, captured_of, stage_of}
 use Rattle.hb_relay.specs.declared.relay.Relay.{Relay}
+use Rattle.hb_relay.specs.declared.stage.Stage as code
+use Rattle.hb_relay.specs.declared.stage.Stage.TheVariants.{Fronting, Due, Opening, Live, Over}
+use Rattle.hb_route.specs.Opens.{Counts}
 use Rattle.hb_world.specs.declared.act.Act.{Act}
 use Rattle.hb_world.specs.declared.act.Act.TheVariants as act
 use Rattle.hb_world.specs.declared.entry.Entry.{Entry}
@@ -33,6 +39,7 @@ use Rattle.hb_relays.specs.Walks.{Map, Index, ActsOf, ShowsBut, changed, closed_
 use Rattle.hb_relays.specs.declared.relays.Relays.{Relays}
 use Rattle.hb_relays.proofs.Away.{away_is}
 use Rattle.hb_relays.proofs.Births.{owner_is}
+use Rattle.hb_relays.proofs.Gateless.{dials_gate, gates_let}
 use Rattle.hb_relays.proofs.Lifted.{here, there}
 use Rattle.hb_relays.proofs.Showing.{closed_index, kept_shown, opens_by, same_ups, shown_then, there_by, ups_same}
 
@@ -44,18 +51,55 @@ calm_by l (Some k) x shown = shown.1.calm
 
 -- so an act may come
 act_may_come : (k : Relays) (x : Machine) (l : ℕ) (z : Entry) → ((j : ℕ) → ShowsRelay j (get k.relays j) (x.plain j))
-    → ControlRests x.control → ((j : ℕ) → Lets true (x.inbound j)) → is_act z ≡ true → BirthMayCome x z → PlainMayCome x l z
-act_may_come k x l z shows rests lets is birth = record {
+    → ((n : ℕ) → x.gates n ≡ no_link) → ControlRests x.control → ((j : ℕ) → Lets true (x.inbound j)) → is_act z ≡ true
+    → BirthMayCome x z → PlainMayCome x l z
+act_may_come k x l z shows none rests lets is birth = record {
   birth = birth;
   control = rests;
   links = λ j. subst (λ (first : Bool). Lets first (x.inbound j)) (sym is) (lets j);
   others = λ j apart. subst (λ (first : Bool). PlainLets first (x.plain j)) (sym is) (calm_by j (get k.relays j) (x.plain j) (shows j));
+  gates = subst (λ (first : Bool). GatesLet first x) (sym is) (gates_let x none k shows true);
 }
+
+-- NOTHING OF A LINK CHANGED: it is shown as before
+
+abbrev stage_back : m.Stage → code.Stage
+stage_back m.due = Due
+stage_back m.opening = Opening
+stage_back m.live = Live
+stage_back (m.over why) = Over why
+stage_back stage = Fronting
+
+stage_known : (stage : code.Stage) → stage_back (stage_of stage) ≡ stage
+stage_known Fronting = refl
+stage_known Due = refl
+stage_known Opening = refl
+stage_known Live = refl
+stage_known (Over why) = refl
+
+shows_still : (old new : Relay) (x : Captured) → captured_of new ≡ captured_of old → Shows old x → Shows new x
+shows_still old new x same shows =
+    let stage : old.stage ≡ new.stage =
+    sym (stage_known old.stage) ∙ ap (λ (c : Captured). stage_back c.stage) (sym same) ∙ stage_known new.stage in
+    record {
+      same = shows.same ∙ sym same;
+      calm = shows.calm;
+      straight = subst (λ (s : code.Stage). GoesStraight s (aim_as new.aim)) stage
+          (subst (GoesStraight old.stage) (ap (λ (c : Captured). c.aim) (sym same)) shows.straight);
+      upstream = subst (λ (s : code.Stage). HasUpstream s new.up) stage
+          (subst (HasUpstream old.stage) (ap (λ (c : Captured). c.up) (sym same)) shows.upstream);
+    }
+
+-- nor does it count otherwise
+counts_still : (at : Option (List ℕ)) (opens : Counts) → recounted at at opens ≡ opens
+counts_still None opens = refl
+counts_still (Some name) opens = refl
 
 -- WHAT AN ACT DOES
 
 module _ (k : Relays) (l : ℕ) (old new : Relay) (is : get k.relays l ≡ Some old) (numbered : new.number ≡ old.number) (g : NodeConfig)
-    (x : Machine) (points : List Point) (stands : StandsFor g x points) (shows : ShowsBut l k x.plain) (rests : ControlRests x.control)
+    (x : Machine) (points : List Point) (stands : StandsFor g x points) (shows : ShowsBut g l k (outward x))
+    (rests : ControlRests x.control)
     (lets : (j : ℕ) → Lets true (x.inbound j)) where
   shown : ShowsRelay l (Some old) (x.plain l)
   shown = kept_shown k x.plain l old shows.relays is
@@ -67,21 +111,24 @@ module _ (k : Relays) (l : ℕ) (old new : Relay) (is : get k.relays l ≡ Some 
   opens = opens_by (x.plain l).stage (x.plain l).closed shown.2
 
   -- a part of the link comes, and nothing happens by itself behind it
-  does : (p : Part) (relays : Map) (ups : Index) → relay.Does p old new → PlainGuard x l p
-      → ((j : ℕ) → j ≢ l → get relays j ≡ get k.relays j)
+  does : (p : Part) (relays : Map) (ups : Index) → relay.Does p old new → PlainGuard g x l p
+      → counts_for (next_link (x.plain l) p) ≡ counts_for (x.plain l) → ((j : ℕ) → j ≢ l → get relays j ≡ get k.relays j)
       → (Shows new (next (plain_local x l) p).link → ShowsRelay l (get relays l) (next (plain_local x l) p).link)
       → ((z : ℕ → Captured) → ((j : ℕ) → j ≢ l → z j ≡ x.plain j) → z l ≡ (next (plain_local x l) p).link → IsIndex ups z)
       → Does (touched_at l (relays_with relays ups k)) g x l p
-  does p relays ups it guard same then index =
+  does p relays ups it guard counts same then index =
       let a = plain_local x l in
       let one = it a shown.1 in
       let y = with_plain l p (next_link (x.plain l) p) x in
-      let link_is : y.plain l ≡ (next a p).link = ap (λ (c : Local). c.link) (here x l p guard) in
+      let link_is : y.plain l ≡ (next a p).link = ap (λ (c : Local). c.link) (here g x l p guard) in
       let others = there x l p (next_link (x.plain l) p) in
       record {
         y = y;
         steps = (subst (λ (i : ℕ). MayGo i a p) shown.0 one.0, guard, refl);
-        shows = shown_then k l relays ups x.plain y.plain shows same others narrow
+        shows = shown_then g k l relays ups k.routes (outward x) (outward y) shows same others refl
+            (shows.counted ∙ ap (λ (opens : Counts). record { opens = opens; hbone_port = g.hbone_port })
+            (sym (ap (λ (at : Option (List ℕ)). recounted (counts_for (x.plain l)) at x.opens) counts
+            ∙ counts_still (counts_for (x.plain l)) x.opens))) narrow
             (subst (λ (w : Captured). ShowsRelay l (get relays l) w) (sym link_is) (then one.1))
             (index y.plain others link_is);
       }
@@ -97,23 +144,26 @@ module _ (k : Relays) (l : ℕ) (old new : Relay) (is : get k.relays l ≡ Some 
       same_ups k.ups x.plain z (ups_same x.plain z l others (ap (λ (c : Captured). c.up) z_is ∙ same)) shows.index
 
   guard : (z : Entry) → is_act z ≡ true → BirthMayCome x z → PlainMayCome x l z
-  guard z act birth = act_may_come k x l z shows.relays rests lets act birth
+  guard z act birth = act_may_come k x l z shows.relays shows.no_gates rests lets act birth
+
+  none_dialled : DialsGate x l
+  none_dialled = dials_gate x shows.no_gates l
 
   shut_own : relay.Does (entry (e.Shut l)) old new → Does (touched_at l (changed l new k)) g x l (entry (e.Shut l))
   shut_own it =
-      does (entry (e.Shut l)) (insert k.relays l new) k.ups it (guard (e.Shut l) refl tt) (put_elsewhere k.relays l new)
+      does (entry (e.Shut l)) (insert k.relays l new) k.ups it (guard (e.Shut l) refl tt) refl (put_elsewhere k.relays l new)
       (kept (next (plain_local x l) (entry (e.Shut l))).link opens) (stays (next (plain_local x l) (entry (e.Shut l))).link refl)
 
   shut_up : (u : ℕ) → relay.Does (up (e.Shut u)) old new → Does (touched_at l (changed l new k)) g x l (up (e.Shut u))
   shut_up u it =
-      does (up (e.Shut u)) (insert k.relays l new) k.ups it (guard (e.Shut u) refl tt) (put_elsewhere k.relays l new)
+      does (up (e.Shut u)) (insert k.relays l new) k.ups it (guard (e.Shut u) refl tt, none_dialled) refl (put_elsewhere k.relays l new)
       (kept (next (plain_local x l) (up (e.Shut u))).link opens) (stays (next (plain_local x l) (up (e.Shut u))).link refl)
 
   close_up : (u : ℕ) (cause : Cause) → relay.Does (up (e.Closed u cause)) old new
       → Does (touched_at l (relays_with (insert k.relays l new) (remove k.ups u) k)) g x l (up (e.Closed u cause))
   close_up u cause it =
       let one = (it (plain_local x l) shown.1).0 in
-      does (up (e.Closed u cause)) (insert k.relays l new) (remove k.ups u) it (guard (e.Closed u cause) refl tt)
+      does (up (e.Closed u cause)) (insert k.relays l new) (remove k.ups u) it (guard (e.Closed u cause) refl tt, none_dialled) refl
       (put_elsewhere k.relays l new) (kept (next (plain_local x l) (up (e.Closed u cause))).link opens)
       (λ z others z_is. closed_index x.plain z l others k.ups shows.index u (one.3, one.2) (ap (λ (c : Captured). c.up) z_is))
 
@@ -123,15 +173,15 @@ module _ (k : Relays) (l : ℕ) (old new : Relay) (is : get k.relays l ≡ Some 
       let a = plain_local x l in
       let y = (next a (entry (e.Closed l cause))).link in
       let at : (x.plain l).stage ≡ m.over cause = (it a shown.1).0.2 in
-      does (entry (e.Closed l cause)) (remove (insert k.relays l new) l) k.ups it (guard (e.Closed l cause) refl tt)
+      does (entry (e.Closed l cause)) (remove (insert k.relays l new) l) k.ups it (guard (e.Closed l cause) refl tt) refl
       (λ j apart. removed_elsewhere (insert k.relays l new) l j apart ∙ put_elsewhere k.relays l new j apart)
       (λ shows_so. subst (λ (o : Option Relay). ShowsRelay l o y) (sym (removed_here (insert k.relays l new) l))
-      (subst (λ (s : Stage). IsAwayBy s y) (sym at) (refl, ap (λ (c : Captured). c.up) shows_so.same ∙ none)))
+      (subst (λ (s : Stage). IsAwayBy s y) (sym at) (refl, ap (λ (c : Captured). c.up) shows_so.same ∙ none, ap is_raw shows_so.same)))
       (stays y refl)
 
   -- nothing of the link changes
   same_shown : captured_of new ≡ captured_of old → ShowsRelay l (get (insert k.relays l new) l) (x.plain l)
-  same_shown same = kept (x.plain l) opens (record { same = shown.1.same ∙ sym same; calm = shown.1.calm })
+  same_shown same = kept (x.plain l) opens (shows_still old new (x.plain l) same shown.1)
 
   -- a link isn't its own upstream
   not_own : IsRelayOf (x.plain l) l → ⊥
@@ -167,14 +217,16 @@ module _ (k : Relays) (l : ℕ) (old new : Relay) (is : get k.relays l ≡ Some 
       (relays_with (insert k.relays l new) (remove k.ups u) k)) (ne_eqb u l apart)
 
   acts : (given : Act) → relay.Acts (Some given) old new → ActsOn (Some given) (After given) g x
-  acts (act.Dial to why) it = (
-    shown_then k l (insert k.relays l new) k.ups x.plain x.plain shows (put_elsewhere k.relays l new) (λ j apart. refl) narrow
-        (same_shown it.0) shows.index,
-    l,
-    it.1 ∙ ap₂ why_at (sym (it.2 (x.plain l) shown.1).0) shown.0,
-    (it.2 (x.plain l) shown.1).1,
-    (it.2 (x.plain l) shown.1).2,
-  )
+  acts (act.Dial to why) it =
+      let due = it.1 (x.plain l) shown.1 in (
+        shown_then g k l (insert k.relays l new) k.ups k.routes (outward x) (outward x) shows (put_elsewhere k.relays l new)
+            (λ j apart. refl) refl shows.counted narrow (same_shown it.0) shows.index,
+        l,
+        due.3 ∙ ap (why_for (x.plain l).aim (x.plain l).door) shown.0,
+        due.0,
+        due.1,
+        due.2,
+      )
   acts (act.Shut u) it = ⊎_elim
       (λ own. inl (at_own (own.0 ∙ shown.0) own.1))
       (λ other. inr (l, shut_up u other)) it
@@ -215,20 +267,21 @@ pub none_acts : (k n : Relays) (relays : Map) (l : ℕ) (old new : Relay) → ge
     → n ≡ record k { relays = relays } → new.number ≡ old.number → relay.Acts None old new → ActsOf l None k n
 none_acts k n relays l old new is relays_is n_is numbered it = (
   ap (λ (w : Relays). w.due) n_is,
-  λ g x points stands shows. subst (λ (w : Relays). ShowsRelays w x.plain)
+  λ g x points stands shows. subst (λ (w : Relays). ShowsRelays g w (outward x))
       (sym (n_is ∙ ap (λ (m : Map). record k { relays = m }) (relays_is ∙ written_where_some k.relays l new (ap is_some is))))
-      (shown_still x.plain shows),
+      (shown_still g (outward x) shows),
 )
   where
-    shown_still : (f : ℕ → Captured) → ShowsBut l k f → ShowsRelays (record k { relays = insert k.relays l new }) f
-    shown_still f shows =
+    shown_still : (g : NodeConfig) (x : Outward) → ShowsBut g l k x → ShowsRelays g (record k { relays = insert k.relays l new }) x
+    shown_still g x shows =
+        let f = x.plain in
         let shown = kept_shown k f l old shows.relays is in
         let map = insert k.relays l new in
         record {
           relays = λ j. ⊎_elim
               (λ at. subst (λ (i : ℕ). ShowsRelay i (get map i) (f i)) (sym at)
               (subst (λ (o : Option Relay). ShowsRelay l o (f l)) (sym (put_here k.relays l new))
-              (numbered ∙ shown.0, record { same = shown.1.same ∙ sym it.0; calm = shown.1.calm }, shown.2)))
+              (numbered ∙ shown.0, shows_still old new (f l) it.0 shown.1, shown.2)))
               (λ apart. subst (λ (o : Option Relay). ShowsRelay j o (f j)) (sym (put_elsewhere k.relays l new j apart)) (shows.relays j))
               (cases_eq j l);
           index = shows.index;
@@ -236,4 +289,6 @@ none_acts k n relays l old new is relays_is n_is numbered it = (
               (λ apart. shows.numbered j (sym (ap is_some (put_elsewhere k.relays l new j apart)) ∙ some)) (cases_eq j l);
           idle = λ j none. ⊎_elim (λ at. subst (λ (i : ℕ). IsIdle (f i)) (sym at) (it.1 (f l) shown.1))
               (λ apart. shows.idle j apart none) (cases_eq j l);
+          counted = shows.counted;
+          no_gates = shows.no_gates;
         }

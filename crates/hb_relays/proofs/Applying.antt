@@ -2,13 +2,15 @@
 use Rattle.std.specs.Prelude.{⊤}
 use Rattle.std.proofs.Common.{◌≡◌, inl, inr, ℕ, Option, Some, None, is_some, IsSome, refl, ap, sym, ◌∙◌, subst}
 use Rattle.std.proofs.lemmas.Bool.{false≢true}
-use Rattle.std.specs.FinMap.{get}
+use Rattle.std.specs.FinMap.{get, empty}
 use Rattle.std.specs.Option.{option_map}
 use Rattle.hb_base.specs.declared.cause.Cause.{Cause}
+use Rattle.hb_captured.specs.Answer.{Routing}
 use Rattle.hb_captured.specs.Captured.{ends_for, rejudged}
 use Rattle.hb_captured.specs.Part as part
 use Rattle.hb_captured.specs.Part.{Part}
 use Rattle.hb_disco.specs.declared.response.Response.{Response}
+use Rattle.hb_gateway.specs.Runs.{stopped_for}
 use Rattle.hb_held.specs.Held.{Resources}
 use Rattle.hb_held.specs.Outcome.{after_response}
 use Rattle.hb_link.specs.Noted.{Told}
@@ -18,13 +20,14 @@ use Rattle.hb_model.specs.Point as point
 use Rattle.hb_model.specs.declared.config.NodeConfig.{NodeConfig}
 use Rattle.hb_proxy.specs.Machine.{Machine, plain_local}
 use Rattle.hb_proxy.specs.Points.{of_control}
-use Rattle.hb_proxy.specs.Runs.{Steps}
+use Rattle.hb_proxy.specs.Runs.{Steps, routing_of}
+use Rattle.hb_relay.specs.Answering.{routing_of as code_routing}
 use Rattle.hb_relay.specs.Calls as calls
-use Rattle.hb_relay.specs.Reaches as relay
 use Rattle.hb_relay.specs.declared.relay.Relay.{Relay}
+use Rattle.hb_relay.specs.declared.routes.Routes.{Routes}
 use Rattle.hb_relays.specs.Calls.{Updates, Stops}
 use Rattle.hb_relays.specs.Shows.{IsAway}
-use Rattle.hb_relays.specs.Walks.{Map, IsNext, Telling, TellsBy}
+use Rattle.hb_relays.specs.Walks.{Map, IsNext, Telling, TellsBy, routes_with}
 use Rattle.hb_relays.specs.declared.relays.Relays.{Relays}
 use Rattle.hb_relays.proofs.Away.{judged_away, ended_away}
 use Rattle.hb_relays.proofs.Staying.{rejudged_stays}
@@ -59,7 +62,7 @@ pub walk_starts : (P : Resources → Type 0) (q : point.Point) (p : Part) (k : R
 walk_starts P q p k first told sees is = (first_on k.relays first is, starts P q p k first told sees is)
 
 pub walk_goes : (P : Resources → Type 0) (q : point.Point) (p : Part) (R : Telling) (k a b : Relays) (n : ℕ) (next : Option ℕ)
-    (told now then : Told) → ((old new : Relay) (made : Option _) → R old new made → relay.Meets P p old new made)
+    (told now then : Told) → ((old new : Relay) (made : Option _) → R old new made → calls.Follows P p old new made)
     → Walks P q p k a (Some n) told now → TellsBy R (get a.relays n) n a now b then → IsNext b.relays n next
     → Walks P q p k b next told then
 walk_goes P q p R k a b n next told now then meets walks tells next_is = by (get a.relays n) refl tells
@@ -86,6 +89,7 @@ applied_seen l r g x y steps = record {
   stays = λ k. rejudged_stays (after_response x.control.held r) (x.plain k);
   away = λ k gone. subst (λ (w : Machine). IsAway (w.plain k)) (sym steps.3)
       (judged_away (after_response x.control.held r) (x.plain k) gone);
+  gates = λ n none. ap (λ (w : Machine). w.gates n) steps.3 ∙ none;
 }
 
 abbrev pub Applies : Resources → Relays → Relays → Option ℕ → Told → Told → Type 0
@@ -105,7 +109,8 @@ applied_goes held k a b n next told now then applies tells next_is l r =
 
 pub applied_ends : (held : Resources) (k a : Relays) (told now : Told) → Applies held k a None told now → Updates held k told a now
 applied_ends held k a told now applies l r =
-    ends (held_by held r) (point.applied l r) (part.applied r) k a told now (applies l r).1
+    ends (held_by held r) (point.applied l r) (part.applied r) k a a.routes told now
+    (λ g x y steps counted. counted ∙ ap (routing_of g) (sym steps.3)) (applies l r).1
 
 -- THE RUN ENDS
 
@@ -117,6 +122,7 @@ stopped_seen why g x y steps = record {
   may = λ k. tt;
   stays = λ k. record { up = refl; closed = refl };
   away = λ k gone. subst (λ (w : Machine). IsAway (w.plain k)) (sym steps.3) (ended_away why (x.plain k) gone);
+  gates = λ n none. ap (λ (w : Machine). w.gates n) steps.3 ∙ ap (stopped_for why) none;
 }
 
 abbrev pub Stopping : Cause → Relays → Relays → Option ℕ → Told → Told → Type 0
@@ -134,5 +140,10 @@ stopped_goes why k a b n next told now then walks tells next_is =
     walk_goes calls.any (point.stopped why) (part.stopped why) (calls.Stops why) k a b n next told now then (λ old new made it. it) walks
     tells next_is
 
-pub stopped_ends : (why : Cause) (k a : Relays) (told now : Told) → Stopping why k a None told now → Stops why k told a now
-stopped_ends why k a told now walks = ends calls.any (point.stopped why) (part.stopped why) k a told now walks.1
+-- behind it no connection is counted
+pub stopped_ends : (why : Cause) (k a : Relays) (routes : Routes) (told now : Told) → routes ≡ record a.routes { opens = empty }
+    → Stopping why k a None told now → Stops why k told (routes_with routes a) now
+stopped_ends why k a routes told now forgot walks =
+    ends calls.any (point.stopped why) (part.stopped why) k a routes told now
+    (λ g x y steps counted. ap code_routing forgot
+    ∙ ap (λ (by : Routing). record { opens = empty; hbone_port = by.hbone_port }) counted ∙ ap (routing_of g) (sym steps.3)) walks.1

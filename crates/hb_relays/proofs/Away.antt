@@ -32,8 +32,8 @@ away_by m.unborn x away = record {
   ended = λ why. refl;
 }
 away_by (m.over first) x away = record {
-  calm = tt;
-  idle = away;
+  calm = away.2;
+  idle = (away.0, away.1);
   gone = λ there. false≢true (sym there ∙ away.0);
   no_up = away.1;
   unborn = λ opens. absurd (false≢true (sym opens ∙ away.0));

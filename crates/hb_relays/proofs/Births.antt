@@ -1,13 +1,14 @@
 -- A link is accepted, and the dial of a destination is answered.
 use Rattle.std.proofs.Common.{◌≡◌, ◌≢◌, ⊎_elim, ℕ, ◌+◌, ◌<◌, ◌^◌, List, [], Option, Some, None, is_some, refl, ap, sym, ◌∙◌, subst, arith}
 use Rattle.std.proofs.lemmas.Bool.{false≢true}
-use Rattle.std.specs.FinMap.{get, insert}
+use Rattle.std.specs.FinMap.{get, insert, empty}
 use Rattle.hb_base.specs.declared.door.Door.{Door}
 use Rattle.hb_base.specs.declared.door.Why.{Why}
 use Rattle.hb_base.specs.declared.note.Note.{Note}
 use Rattle.hb_base.specs.declared.target.Target.{Target}
+use Rattle.hb_captured.specs.Answer.{Routing}
 use Rattle.hb_captured.specs.Captured as m
-use Rattle.hb_captured.specs.Captured.{Captured, Stage, no_link}
+use Rattle.hb_captured.specs.Captured.{Captured, Stage, no_link, is_raw}
 use Rattle.hb_captured.specs.Part.{entry, up, crowded, note_if}
 use Rattle.hb_captured.specs.Runs.{Local, next, next_link}
 use Rattle.hb_link.proofs.Noted.{takes_none}
@@ -18,20 +19,24 @@ use Rattle.hb_proxy.proofs.Owned.{all_owned, whose_in}
 use Rattle.hb_proxy.proofs.Plain.{plain_runs}
 use Rattle.hb_proxy.proofs.PlainStays.{RelayBy, relay_weakly}
 use Rattle.hb_proxy.specs.Held.{at_start}
-use Rattle.hb_proxy.specs.Machine.{Machine, plain_local, with_plain}
+use Rattle.hb_proxy.specs.Machine.{Machine, fresh, outward, plain_local, with_plain}
 use Rattle.hb_proxy.specs.Owners.{nobody, relay_of}
 use Rattle.hb_proxy.specs.Points.{Point, of_plain, plain_of}
-use Rattle.hb_proxy.specs.Runs.{Steps, StandsFor}
+use Rattle.hb_proxy.specs.Runs.{Steps, StandsFor, routing_of}
 use Rattle.hb_proxy.specs.Ups.{IsRelayOf}
+use Rattle.hb_relay.specs.Answering.{routing_of as code_routing}
 use Rattle.hb_relay.specs.Calls as calls
+use Rattle.hb_relay.specs.Reaches as relay
+use Rattle.hb_relay.specs.Reaches.{rerouted}
 use Rattle.hb_relay.specs.declared.relay.Relay.{Relay}
+use Rattle.hb_relay.specs.declared.routes.Routes.{Routes}
 use Rattle.hb_world.specs.declared.entry.Entry.TheVariants as e
 use Rattle.hb_relays.specs.Calls.{Begins, TurnsAway, Dials, DialFails}
 use Rattle.hb_relays.specs.Shows.{ShowsRelay, ShowsRelays}
-use Rattle.hb_relays.specs.Walks.{changed, relays_with, touched_at}
+use Rattle.hb_relays.specs.Walks.{changed, relays_with, routes_with, touched_at}
 use Rattle.hb_relays.specs.declared.relays.Relays.{Relays}
 use Rattle.hb_relays.proofs.Lifted.{here, there}
-use Rattle.hb_relays.proofs.Showing.{apart_from, behind, born_index, but_all, lifts, lifts_with, reaches, same_ups, shown_then, there_by, ups_same}
+use Rattle.hb_relays.proofs.Showing.{apart_from, behind, born_index, but_all, counted_so, counts_by, lifts, lifts_with, reaches, same_ups, shown_then, there_by, ups_same}
 use Rattle.hb_relays.proofs.Staying.{unborn_is}
 
 -- BIRTHS
@@ -42,12 +47,21 @@ new_link : (g : NodeConfig) (x y : Machine) (points : List Point) (d : Door) (n 
 new_link g x y points d n stands steps =
     unborn_is n (at_start g) (plain_local x n) (plain_of n points) (plain_runs g x points n stands) steps.0.1
 
+-- so it is a connection to no endpoint, nor is it one behind its birth
+uncounted : (k : Relays) (x : Machine) (d : Door) (n : ℕ) → x.plain n ≡ no_link
+    → counts_by k x n (entry (e.Accepted n d)) ≡ code_routing k.routes
+uncounted k x d n none =
+    ap (λ (c : Captured). rerouted c (next_link c (entry (e.Accepted n d))) (code_routing k.routes)) none
+
 pub begins : (k : Relays) (d : Door) (n : ℕ) (new : Relay) → n < 2 ^ 64 → calls.Begins d n new → new.number ≡ n
     → Begins d n k (touched_at n (changed n new k))
 begins k d n new narrow starts number g x y points stands shows holds steps =
     let none = new_link g x y points d n stands steps in
-    reaches g k n (entry (e.Accepted n d)) new k.ups (Some []) (Some []) None x y shows steps number narrow
-    (starts (plain_local x n) none) (takes_none (Some [])) (ap (λ (c : Captured). c.closed) none)
+    let came = entry (e.Accepted n d) in
+    let a = plain_local x n in
+    reaches g k n came new k.ups k.routes (Some []) (Some []) None x y shows steps number narrow
+    (subst (λ (by : Routing). relay.Reaches n by (next a came) new (code_routing k.routes) None) (sym (uncounted k x d n none))
+    (starts a (code_routing k.routes) none)) (takes_none (Some [])) (ap (λ (c : Captured). c.closed) none)
     (λ z others up. same_ups k.ups x.plain z (ups_same x.plain z n others up) shows.index)
 
 -- it is turned away
@@ -58,17 +72,22 @@ turns k d n new narrow away number g x y points stands shows steps =
     let none = new_link g x y points d n stands steps in
     let a = plain_local x n in
     let c = next (next a came) crowded in
-    let at : plain_local y n ≡ next a came = behind g k n came new k.ups (Some []) (Some []) None x y shows steps in
+    let at : plain_local y n ≡ next a came = behind g k n came new k.ups k.routes (Some []) (Some []) None x y shows steps in
     let z = with_plain n crowded (next_link (y.plain n) crowded) y in
     let link_is : z.plain n ≡ c.link =
-    ap (λ (d : Local). d.link) (here y n crowded tt) ∙ ap (λ (d : Local). (next d crowded).link) at in
+    ap (λ (d : Local). d.link) (here g y n crowded tt) ∙ ap (λ (d : Local). (next d crowded).link) at in
+    let counted : code_routing k.routes ≡ routing_of g z =
+    sym (ap (λ (f : Captured). rerouted f (next_link f crowded) (routing_of g y)) (ap (λ (d : Local). d.link) at
+    ∙ ap (λ (f : Captured). next_link f came) none)
+    ∙ counted_so g k n came new k.ups k.routes (Some []) (Some []) None x y shows steps ∙ uncounted k x d n none) in
     let shown = away a none in
     let others = λ (j : ℕ) (apart : j ≢ n).
     there y n crowded (next_link (y.plain n) crowded) j apart
-    ∙ apart_from g k n came new k.ups (Some []) (Some []) None x y shows steps j apart in (
+    ∙ apart_from g k n came new k.ups k.routes (Some []) (Some []) None x y shows steps j apart in (
       z,
       (ap (λ (d : Local). d.link.stage) at, tt, refl),
-      shown_then k n (insert k.relays n new) k.ups x.plain z.plain (but_all n k x.plain shows) (put_elsewhere k.relays n new) others narrow
+      shown_then g k n (insert k.relays n new) k.ups k.routes (outward x) (outward z) (but_all g n k (outward x) shows)
+          (put_elsewhere k.relays n new) others (ap (λ (w : Machine). w.gates) steps.2) counted narrow
           (subst (λ (o : Option Relay). ShowsRelay n o (z.plain n)) (sym (put_here k.relays n new))
           (subst (λ (w : Captured). ShowsRelay n (Some new) w) (sym link_is)
           (number, shown, there_by new c.link shown (ap (λ (d : Captured). d.closed) none))))
@@ -76,8 +95,9 @@ turns k d n new narrow away number g x y points stands shows steps =
     )
 
 -- none stand for no birth
-pub none_shown : (k : Relays) → ((l : ℕ) → get k.relays l ≡ None) → ((u : ℕ) → get k.ups u ≡ None) → ShowsRelays k (λ l. no_link)
-none_shown k relays ups = record {
+pub none_shown : (g : NodeConfig) (k : Relays) → ((l : ℕ) → get k.relays l ≡ None) → ((u : ℕ) → get k.ups u ≡ None)
+    → code_routing k.routes ≡ record { opens = empty; hbone_port = g.hbone_port } → ShowsRelays g k (outward (fresh g))
+none_shown g k relays ups counted = record {
   relays = λ l. subst (λ (o : Option Relay). ShowsRelay l o no_link) (sym (relays l)) refl;
   index = record {
     found = λ l u is. absurd (let some = is.0 in let none = is.1 in omega (arith, some, none));
@@ -85,6 +105,8 @@ none_shown k relays ups = record {
   };
   numbered = λ l some. absurd (false≢true (sym (ap is_some (relays l)) ∙ some));
   idle = λ l none. tt;
+  counted = counted;
+  no_gates = λ n. refl;
 }
 
 -- DIALS
@@ -96,7 +118,7 @@ owner_is g x points stands l u joins =
     let some = joins.0 in
     let is = joins.1 in
     ⊎_elim (λ none. absurd (omega (arith, none, some, is))) (λ own. ap (whose_in points) (sym is) ∙ own)
-    (relay_weakly (whose_in points) l (x.plain l).up (x.plain l).stage ((all_owned g x points stands).relay l))
+    (relay_weakly (whose_in points) l (x.plain l).up (is_raw (x.plain l)) (x.plain l).stage ((all_owned g x points stands).relay l))
 
 is_new : (g : NodeConfig) (x : Machine) (points : List Point) → StandsFor g x points → (u : ℕ) → u ≡ x.born + 1 → (l : ℕ)
     → (x.plain l).up ≢ u
@@ -110,21 +132,22 @@ is_new g x points stands u number l is =
 no_up : (g : NodeConfig) (x : Machine) (points : List Point) → StandsFor g x points → (l : ℕ) → (x.plain l).stage ≡ m.due
     → (x.plain l).up ≡ 0
 no_up g x points stands l due =
-    (subst (λ (s : Stage). RelayBy s (whose_in points) l (x.plain l).up) due ((all_owned g x points stands).relay l)).1
+    (subst (λ (s : Stage). RelayBy s (is_raw (x.plain l)) (whose_in points) l (x.plain l).up) due
+    ((all_owned g x points stands).relay l)).1
 
 pub dials : (k : Relays) (l u : ℕ) (old new : Relay) → get k.relays l ≡ Some old
-    → ((to : Target) (why : Why) → calls.UpEnters (e.Dialled u to why) old new None)
+    → ((to : Target) (why : Why) → calls.UpEntersStill (e.Dialled u to why) old new None)
     → Dials l u k (touched_at l (relays_with (insert k.relays l new) (insert k.ups u l) k))
 dials k l u old new is enters to why =
-    lifts_with calls.any k l old new (insert k.ups u l) (Some []) (Some []) None (λ i. up (e.Dialled u to why)) is
+    lifts_with calls.any k l old new (insert k.ups u l) k.routes (Some []) (Some []) None (λ i. up (e.Dialled u to why)) is
     (λ g x y points stands shows steps z others now.
     born_index x.plain z l others k.ups shows.index u steps.0.2 (no_up g x points stands l steps.0.0.1) now
-    (is_new g x points stands u steps.1.birth))
-    (λ x. refl) (enters to why) (takes_none (Some []))
+    (is_new g x points stands u steps.1.0.birth))
+    (λ x. refl) (enters to why (code_routing k.routes)) (takes_none (Some []))
 
-pub fails : (k : Relays) (l : ℕ) (old new : Relay) (told now : Told) (made : Option Note) → get k.relays l ≡ Some old
-    → ((to : Target) (why : Why) → calls.UpEnters (e.DialFailed to why) old new made) → Takes told (note_if made) now
-    → DialFails l k told (touched_at l (changed l new k)) now
-fails k l old new told now made is enters takes to why =
-    lifts calls.any k l old new told now made (λ i. up (e.DialFailed to why)) is (λ x. record { up = refl; closed = refl }) (enters to why)
-    takes
+pub fails : (k : Relays) (l : ℕ) (old new : Relay) (routes : Routes) (told now : Told) (made : Option Note) → get k.relays l ≡ Some old
+    → ((to : Target) (why : Why) → calls.UpEnters (e.DialFailed to why) old (code_routing k.routes) new (code_routing routes) made)
+    → Takes told (note_if made) now → DialFails l k told (touched_at l (routes_with routes (changed l new k))) now
+fails k l old new routes told now made is enters takes to why =
+    lifts calls.any k l old new routes told now made (λ i. up (e.DialFailed to why)) is (λ x. record { up = refl; closed = refl })
+    (enters to why) takes

@@ -3,6 +3,7 @@ pub mod Applying
 pub mod Away
 pub mod Births
 pub mod Entering
+pub mod Gateless
 pub mod Hearing
 pub mod Lifted
 pub mod NotShown

@@ -11,7 +11,7 @@ use Rattle.hb_model.specs.declared.config.NodeConfig.{NodeConfig}
 use Rattle.hb_proxy.proofs.Plain.{plain_runs}
 use Rattle.hb_proxy.specs.Held.{at_start}
 use Rattle.hb_proxy.specs.Machine.{Machine, plain_local}
-use Rattle.hb_proxy.specs.Points.{Point, of_control, of_link, of_plain, plain_of}
+use Rattle.hb_proxy.specs.Points.{Point, of_control, of_link, of_plain, of_gate, of_stream, plain_of}
 use Rattle.hb_proxy.specs.Seen.{IsPlainThereBy}
 use Rattle.hb_relay.proofs.Refused.{new_is_shown}
 use Rattle.hb_relay.specs.declared.relay.Relay.{Relay}
@@ -40,6 +40,8 @@ points_go : (g : NodeConfig) (x : Machine) (more : List Point) (y : Machine) →
 points_go g x [] y is n = same_goes (x.plain n) (y.plain n) (ap (λ (w : Machine). w.plain n) is)
 points_go g x (of_control q ∷ more) y is n = absurd is.0
 points_go g x (of_link l p ∷ more) y is n = absurd is.0
+points_go g x (of_gate m p ∷ more) y is n = absurd is.0
+points_go g x (of_stream l m s w ∷ more) y is n = absurd is.0
 points_go g x (of_plain l p ∷ more) y (inner, mid, steps, leads) n =
     let rest = points_go g mid more y leads n in
     let first = by (cases_eq n l) in
@@ -52,7 +54,7 @@ points_go g x (of_plain l p ∷ more) y (inner, mid, steps, leads) n =
     by (inl same) =
         subst (λ (i : ℕ). Goes (x.plain i) (mid.plain i)) (sym same)
         (subst (λ (c : Captured). Goes (x.plain l) c)
-        (sym (ap (λ (w : Machine). w.plain l) steps.2 ∙ ap (λ (c : Local). c.link) (here x l p steps.1)))
+        (sym (ap (λ (w : Machine). w.plain l) steps.2 ∙ ap (λ (c : Local). c.link) (here g x l p steps.1)))
         (record { stays = inner_stays (plain_local x l) p inner; back = part_back (plain_local x l) p }))
     by (inr apart) = same_goes (x.plain n) (mid.plain n) (ap (λ (w : Machine). w.plain n) steps.2 ∙ there x l p _ n apart)
 
@@ -67,7 +69,7 @@ forgets_link g x y points k d n stands shows steps begins =
     let z = follows.reached in
     let none = unborn_is n (at_start g) (plain_local x n) (plain_of n points) (plain_runs g x points n stands) steps.0.1 in
     let y_is : y.plain n ≡ record (x.plain n) { door = d; stage = m.arriving } =
-    ap (λ (w : Machine). w.plain n) steps.2 ∙ ap (λ (c : Local). c.link) (here x n came steps.1) in
+    ap (λ (w : Machine). w.plain n) steps.2 ∙ ap (λ (c : Local). c.link) (here g x n came steps.1) in
     let goes = points_go g y follows.more z follows.leads n in
     let opens : (z.plain n).closed ≡ false =
     goes.stays.closed ∙ ap (λ (c : Captured). c.closed) y_is ∙ ap (λ (c : Captured). c.closed) none in
@@ -79,7 +81,7 @@ forgets_link g x y points k d n stands shows steps begins =
 -- ONE LINK
 
 pub one_is_shown : OneIsShown
-one_is_shown k w n narrow number is relays ups = record {
+one_is_shown g k w n narrow number is relays ups counted = record {
   relays = λ l. ⊎_elim
       (λ same. subst (λ (i : ℕ). ShowsRelay i (get k.relays i) (f i)) (sym same)
       (subst (λ (o : Option Relay). ShowsRelay n o (f n)) (sym kept)
@@ -94,6 +96,8 @@ one_is_shown k w n narrow number is relays ups = record {
       (λ apart. absurd (false≢true (sym (ap is_some (gone l apart)) ∙ some))) (cases_eq l n);
   idle = λ l none. ⊎_elim (λ same. subst IsIdle (sym (f_here l same)) tt) (λ apart. subst IsIdle (sym (f_there l apart)) tt)
       (cases_eq l n);
+  counted = counted;
+  no_gates = λ m. refl;
 }
   where
     f : ℕ → Captured

@@ -3,33 +3,38 @@ use Rattle.std.proofs.Common.{◌≡◌, ◌≢◌, ◌⊎◌, inl, inr, ⊎_eli
 use Rattle.std.proofs.lemmas.Bool.{cases_eq}
 use Rattle.std.specs.FinMap.{get, insert, remove}
 use Rattle.hb_base.specs.declared.note.Note.{Note}
+use Rattle.hb_captured.specs.Answer.{Routing}
 use Rattle.hb_captured.specs.Captured as m
 use Rattle.hb_captured.specs.Captured.{Captured, Stage}
 use Rattle.hb_captured.specs.Part.{Part, note_if}
 use Rattle.hb_captured.specs.Runs as captured
 use Rattle.hb_captured.specs.Runs.{Local, next, next_link}
+use Rattle.hb_gateway.specs.Gateway.{Gateway, no_link}
 use Rattle.hb_held.specs.Held.{Resources}
 use Rattle.hb_link.specs.Noted.{Told, Takes}
 use Rattle.hb_map.proofs.Laws.{put_here, put_elsewhere, removed_here, removed_elsewhere}
 use Rattle.hb_model.specs.declared.config.NodeConfig.{NodeConfig}
 use Rattle.hb_proxy.proofs.Plain.{plain_runs, turned}
 use Rattle.hb_proxy.specs.Held.{at_start}
-use Rattle.hb_proxy.specs.Machine.{Machine, plain_local}
+use Rattle.hb_proxy.specs.Machine.{Machine, Outward, outward, plain_local}
 use Rattle.hb_proxy.specs.Points.{Point, of_plain, plain_of}
-use Rattle.hb_proxy.specs.Runs.{Steps, StandsFor}
+use Rattle.hb_proxy.specs.Runs.{Steps, StandsFor, routing_of}
 use Rattle.hb_proxy.specs.Seen.{IsPlainThere, IsPlainThereBy}
 use Rattle.hb_proxy.specs.Ups.{IsRelayOf}
 use Rattle.hb_relay.proofs.Reached.{stage_is}
+use Rattle.hb_relay.specs.Answering.{routing_of as code_routing}
 use Rattle.hb_relay.specs.Reaches as relay
+use Rattle.hb_relay.specs.Reaches.{rerouted}
 use Rattle.hb_relay.specs.Shows.{Shows, stage_of}
 use Rattle.hb_relay.specs.declared.relay.Relay.{Relay}
+use Rattle.hb_relay.specs.declared.routes.Routes.{Routes}
 use Rattle.hb_relay.specs.declared.stage.Stage as code
 use Rattle.hb_relay.specs.declared.stage.Stage.TheVariants.{Fronting, Due, Opening, Live, Over}
 use Rattle.hb_relays.specs.Reaches.{Follows, Meets}
 use Rattle.hb_relays.specs.Shows.{IsIdle, IsIndex, ShowsRelay, ShowsRelays}
-use Rattle.hb_relays.specs.Walks.{Map, Index, ShowsBut, relays_with, touched_at}
+use Rattle.hb_relays.specs.Walks.{Map, Index, ShowsBut, relays_with, routes_with, touched_at}
 use Rattle.hb_relays.specs.declared.relays.Relays.{Relays}
-use Rattle.hb_relays.proofs.Lifted.{lifted, here, there, notes_of}
+use Rattle.hb_relays.proofs.Lifted.{lifted, counts, here, there, notes_of}
 use Rattle.hb_relays.proofs.Staying.{Stays, leads_stay}
 use Rattle.hb_relays.proofs.Touching.{untouched}
 
@@ -138,21 +143,25 @@ module _ (f z : ℕ → Captured) (l : ℕ) (others : (j : ℕ) → j ≢ l → 
 
 -- ONE LINK IS CHANGED, AND WITH IT THE INDEX: it is touched
 
-pub but_all : (l : ℕ) (k : Relays) (f : ℕ → Captured) → ShowsRelays k f → ShowsBut l k f
-but_all l k f shows = record {
+pub but_all : (g : NodeConfig) (l : ℕ) (k : Relays) (x : Outward) → ShowsRelays g k x → ShowsBut g l k x
+but_all g l k x shows = record {
   relays = shows.relays;
   index = shows.index;
   numbered = shows.numbered;
   idle = λ j apart none. shows.idle j none;
+  counted = shows.counted;
+  no_gates = shows.no_gates;
 }
 
-module _ (k : Relays) (l : ℕ) (relays : Map) (ups : Index) (f z : ℕ → Captured) (shows : ShowsBut l k f)
-    (same : (j : ℕ) → j ≢ l → get relays j ≡ get k.relays j) (others : (j : ℕ) → j ≢ l → z j ≡ f j) where
-  pub shown_then : l < 2 ^ 64 → ShowsRelay l (get relays l) (z l) → IsIndex ups z → ShowsRelays (touched_at l (relays_with relays ups k)) z
+module _ (g : NodeConfig) (k : Relays) (l : ℕ) (relays : Map) (ups : Index) (routes : Routes) (x z : Outward) (shows : ShowsBut g l k x)
+    (same : (j : ℕ) → j ≢ l → get relays j ≡ get k.relays j) (others : (j : ℕ) → j ≢ l → z.plain j ≡ x.plain j)
+    (gates : z.gates ≡ x.gates) (counted : code_routing routes ≡ record { opens = z.opens; hbone_port = g.hbone_port }) where
+  pub shown_then : l < 2 ^ 64 → ShowsRelay l (get relays l) (z.plain l) → IsIndex ups z.plain
+      → ShowsRelays g (touched_at l (routes_with routes (relays_with relays ups k))) z
   shown_then narrow shown index = record {
     relays = λ j. ⊎_elim
-        (λ at. subst (λ (i : ℕ). ShowsRelay i (get relays i) (z i)) (sym at) shown)
-        (λ apart. subst (λ (o : Option Relay). ShowsRelay j o (z j)) (sym (same j apart))
+        (λ at. subst (λ (i : ℕ). ShowsRelay i (get relays i) (z.plain i)) (sym at) shown)
+        (λ apart. subst (λ (o : Option Relay). ShowsRelay j o (z.plain j)) (sym (same j apart))
         (subst (λ (w : Captured). ShowsRelay j (get k.relays j) w) (sym (others j apart)) (shows.relays j)))
         (cases_eq j l);
     index = index;
@@ -160,38 +169,55 @@ module _ (k : Relays) (l : ℕ) (relays : Map) (ups : Index) (f z : ℕ → Capt
         (λ apart. shows.numbered j (sym (ap is_some (same j apart)) ∙ some)) (cases_eq j l);
     idle = λ j none. (let was = untouched l k.due j none in
         subst (λ (w : Captured). IsIdle w) (sym (others j was.0)) (shows.idle j was.0 was.1));
+    counted = counted;
+    no_gates = λ n. ap (λ (f : ℕ → Gateway). f n) gates ∙ shows.no_gates n;
   }
+
+-- the counts behind a part of a link, by those of the code
+abbrev pub counts_by : Relays → Machine → ℕ → Part → Routing
+counts_by k x l p = rerouted (x.plain l) (next (plain_local x l) p).link (code_routing k.routes)
 
 -- Of a run whose links the code showed, and behind which a part of a link comes: where the code of that link reaches one with what
 -- follows, the code of all links does so with it in the place of the old one
-module _ (g : NodeConfig) (k : Relays) (l : ℕ) (p : Part) (new : Relay) (ups : Index) (told now : Told) (made : Option Note)
-    (x y : Machine) (shows : ShowsRelays k x.plain) (steps : Steps g x (of_plain l p) y) where
+module _ (g : NodeConfig) (k : Relays) (l : ℕ) (p : Part) (new : Relay) (ups : Index) (routes : Routes) (told now : Told)
+    (made : Option Note) (x y : Machine) (shows : ShowsRelays g k (outward x)) (steps : Steps g x (of_plain l p) y) where
   pub behind : plain_local y l ≡ next (plain_local x l) p
-  behind = ap (λ (w : Machine). plain_local w l) steps.2 ∙ here x l p steps.1
+  behind = ap (λ (w : Machine). plain_local w l) steps.2 ∙ here g x l p steps.1
 
   pub apart_from : (j : ℕ) → j ≢ l → y.plain j ≡ x.plain j
   apart_from j apart = ap (λ (w : Machine). w.plain j) steps.2 ∙ there x l p (next_link (x.plain l) p) j apart
 
-  pub reaches : new.number ≡ l → l < 2 ^ 64 → relay.Reaches l (next (plain_local x l) p) new made → Takes told (note_if made) now
+  pub counted_so : routing_of g y ≡ counts_by k x l p
+  counted_so =
+      ap (routing_of g) steps.2 ∙ counts g x l p steps.1
+      ∙ ap (rerouted (x.plain l) (next (plain_local x l) p).link) (sym shows.counted)
+
+  no_gates : (n : ℕ) → y.gates n ≡ no_link
+  no_gates n = ap (λ (w : Machine). w.gates n) steps.2 ∙ shows.no_gates n
+
+  pub reaches : new.number ≡ l → l < 2 ^ 64
+      → relay.Reaches l (counts_by k x l p) (next (plain_local x l) p) new (code_routing routes) made → Takes told (note_if made) now
       → (next_link (x.plain l) p).closed ≡ false
       → ((z : ℕ → Captured) → ((j : ℕ) → j ≢ l → z j ≡ x.plain j) → (z l).up ≡ (next_link (x.plain l) p).up → IsIndex ups z)
-      → Follows g y (touched_at l (relays_with (insert k.relays l new) ups k)) told now
+      → Follows g y (touched_at l (routes_with routes (relays_with (insert k.relays l new) ups k))) told now
   reaches number narrow last takes opens index =
-      let then = lifted g l y last.parts last.reached
-      (subst (λ (c : Local). relay.Leads l c last.parts last.reached) (sym behind) last.leads) in
+      let then = lifted g l y last.parts last.reached (code_routing routes) no_gates
+      (subst (λ (by : Routing). relay.Leads l by (plain_local y l) last.parts last.reached (code_routing routes)) (sym counted_so)
+      (subst (λ (c : Local). relay.Leads l (counts_by k x l p) c last.parts last.reached (code_routing routes)) (sym behind) last.leads)) in
       let z = then.y.plain in
       let link_is : z l ≡ last.reached.link = ap (λ (c : Local). c.link) then.here in
-      let stays = leads_stay l (next (plain_local x l) p) last.parts last.reached last.leads in
+      let stays = leads_stay l (counts_by k x l p) (next (plain_local x l) p) last.parts last.reached (code_routing routes) last.leads in
       let link_next : (next (plain_local x l) p).link ≡ next_link (x.plain l) p =
-      ap (λ (c : Local). c.link) (turned x l p steps.1 (plain_local x l)) in
+      ap (λ (c : Local). c.link) (turned g x l p steps.1 (plain_local x l)) in
       let others : (j : ℕ) → j ≢ l → z j ≡ x.plain j = λ j apart. then.others j apart ∙ apart_from j apart in
       let closed_is : last.reached.link.closed ≡ false = stays.closed ∙ ap (λ (c : Captured). c.closed) link_next ∙ opens in
       record {
         more = map (of_plain l) last.parts;
         reached = then.y;
         leads = then.leads;
-        shows = shown_then k l (insert k.relays l new) ups x.plain z (but_all l k x.plain shows) (put_elsewhere k.relays l new)
-            others narrow (subst (λ (o : Option Relay). ShowsRelay l o (z l)) (sym (put_here k.relays l new))
+        shows = shown_then g k l (insert k.relays l new) ups routes (outward x) (outward then.y) (but_all g l k (outward x) shows)
+            (put_elsewhere k.relays l new) others (then.gates ∙ ap (λ (w : Machine). w.gates) steps.2) (sym then.counted) narrow
+            (subst (λ (o : Option Relay). ShowsRelay l o (z l)) (sym (put_here k.relays l new))
             (subst (λ (w : Captured). ShowsRelay l (Some new) w) (sym link_is)
             (number, last.shows, there_by new last.reached.link last.shows closed_is)))
             (index z others (ap (λ (w : Captured). w.up) link_is ∙ stays.up ∙ ap (λ (c : Captured). c.up) link_next));
@@ -200,33 +226,35 @@ module _ (g : NodeConfig) (k : Relays) (l : ℕ) (p : Part) (new : Relay) (ups :
       }
 
 -- a call of a link that the code has, with another index of upstreams; or with the same, where it isn't the birth or the close of one
-pub lifts_with : (P : Resources → Type 0) (k : Relays) (l : ℕ) (old new : Relay) (ups : Index) (told now : Told) (made : Option Note)
-    (p : ℕ → Part) → get k.relays l ≡ Some old
-    → ((g : NodeConfig) (x y : Machine) (points : List Point) → StandsFor g x points → ShowsRelays k x.plain
+pub lifts_with : (P : Resources → Type 0) (k : Relays) (l : ℕ) (old new : Relay) (ups : Index) (routes : Routes) (told now : Told)
+    (made : Option Note) (p : ℕ → Part) → get k.relays l ≡ Some old
+    → ((g : NodeConfig) (x y : Machine) (points : List Point) → StandsFor g x points → ShowsRelays g k (outward x)
     → Steps g x (of_plain l (p l)) y → (z : ℕ → Captured) → ((j : ℕ) → j ≢ l → z j ≡ x.plain j)
     → (z l).up ≡ (next_link (x.plain l) (p l)).up → IsIndex ups z)
-    → ((x : Captured) → (next_link x (p l)).closed ≡ x.closed) → relay.Meets P (p old.number) old new made
-    → Takes told (note_if made) now
-    → Meets (λ x. P x.control.held) (of_plain l (p l)) k told (touched_at l (relays_with (insert k.relays l new) ups k)) now
-lifts_with P k l old new ups told now made p is index closed meets takes g x y points stands shows holds steps =
+    → ((x : Captured) → (next_link x (p l)).closed ≡ x.closed)
+    → relay.Meets P (p old.number) old (code_routing k.routes) new (code_routing routes) made → Takes told (note_if made) now
+    → Meets (λ x. P x.control.held) (of_plain l (p l)) k told
+    (touched_at l (routes_with routes (relays_with (insert k.relays l new) ups k))) now
+lifts_with P k l old new ups routes told now made p is index closed meets takes g x y points stands shows holds steps =
     let shown = kept_shown k x.plain l old shows.relays is in
     let number = shown.0 in
     let a = plain_local x l in
-    let does = subst (λ (i : ℕ). relay.Meets P (p i) old new made) number meets in
+    let does = subst (λ (i : ℕ). relay.Meets P (p i) old (code_routing k.routes) new (code_routing routes) made) number meets in
     let one = does.reaches (at_start g) (plain_of l points) a
     (subst (λ (i : ℕ). captured.StandsFor i (at_start g) a (plain_of l points)) (sym number) (plain_runs g x points l stands))
     shown.1 holds (subst (λ (i : ℕ). captured.MayGo i a (p l)) (sym number) steps.0) in
-    reaches g k l (p l) new ups told now made x y shows steps (does.number ∙ number) (shows.numbered l (ap is_some is))
-    (subst (λ (i : ℕ). relay.Reaches i (next a (p l)) new made) number one) takes
+    reaches g k l (p l) new ups routes told now made x y shows steps (does.number ∙ number) (shows.numbered l (ap is_some is))
+    (subst (λ (i : ℕ). relay.Reaches i (counts_by k x l (p l)) (next a (p l)) new (code_routing routes) made) number one) takes
     (closed (x.plain l) ∙ opens_by (x.plain l).stage (x.plain l).closed shown.2)
     (index g x y points stands shows steps)
 
-pub lifts : (P : Resources → Type 0) (k : Relays) (l : ℕ) (old new : Relay) (told now : Told) (made : Option Note) (p : ℕ → Part)
-    → get k.relays l ≡ Some old → ((x : Captured) → Stays x (next_link x (p l))) → relay.Meets P (p old.number) old new made
-    → Takes told (note_if made) now
-    → Meets (λ x. P x.control.held) (of_plain l (p l)) k told (touched_at l (relays_with (insert k.relays l new) k.ups k)) now
-lifts P k l old new told now made p is stays meets takes =
-    lifts_with P k l old new k.ups told now made p is
+pub lifts : (P : Resources → Type 0) (k : Relays) (l : ℕ) (old new : Relay) (routes : Routes) (told now : Told) (made : Option Note)
+    (p : ℕ → Part) → get k.relays l ≡ Some old → ((x : Captured) → Stays x (next_link x (p l)))
+    → relay.Meets P (p old.number) old (code_routing k.routes) new (code_routing routes) made → Takes told (note_if made) now
+    → Meets (λ x. P x.control.held) (of_plain l (p l)) k told
+    (touched_at l (routes_with routes (relays_with (insert k.relays l new) k.ups k))) now
+lifts P k l old new routes told now made p is stays meets takes =
+    lifts_with P k l old new k.ups routes told now made p is
     (λ g x y points stands shows steps z others up.
     same_ups k.ups x.plain z (ups_same x.plain z l others (up ∙ (stays (x.plain l)).up)) shows.index)
     (λ x. (stays x).closed) meets takes

@@ -1,15 +1,19 @@
 -- What a part leaves as it is: the upstream of a link, and whether the link is closed; and what a link is before its birth.
 use Rattle.std.proofs.Common.{◌≡◌, inl, inr, ℕ, ◌&&◌, Bool, true, false, cond, List, [], ◌∷◌, refl, ap, sym, ◌∙◌}
 use Rattle.std.proofs.Math.Bool.{and-false}
+use Rattle.std.proofs.lemmas.Bool.{true≢false}
 use Rattle.hb_base.specs.declared.cause.Cause.{Cause}
 use Rattle.hb_base.specs.declared.cause.Cause.TheVariants as cause
-use Rattle.hb_captured.specs.Captured.{Captured, Stage, unborn, arriving, fronting, due, opening, accepting, live, failed, ended, over, no_link, at_stage, judges, is_judged, ends_by, ends_for, hung_up, came_by, entered, up_entered, judged_by, rejudged, left_by}
-use Rattle.hb_captured.specs.Part.{Part, entry, up, welcomed, crowded, lacked, misfronted, fronted, refused, accepted, left, done, applied, stopped}
+use Rattle.hb_captured.specs.Captured.{Captured, Stage, unborn, arriving, fronting, due, opening, accepting, live, failed, ended, over, no_link, at_stage, judges, is_judged, ends_by, ends_for, hung_up, came_by, entered, up_entered, told_by, judged_by, rejudged, left_by, is_raw}
+use Rattle.hb_captured.specs.Answer.{Routing}
+use Rattle.hb_captured.specs.Part.{Part, entry, up, welcomed, crowded, lacked, misfronted, fronted, refused, accepted, roomless, asked, hears, put, finished, credited, loosed, completed, left, done, applied, stopped}
 use Rattle.hb_captured.specs.Runs.{Local, MayCome, UpMayCome, MayGo, IsTried, next, StandsFor, begins, goes_on}
 use Rattle.hb_front.specs.Faults.{number_of}
+use Rattle.hb_gateway.specs.Response as response
+use Rattle.hb_gateway.specs.Response.{Heard, opens, brings, fails}
 use Rattle.hb_held.specs.Held.{Resources}
 use Rattle.hb_held.specs.Outcome.{after_response}
-use Rattle.hb_relay.specs.Reaches.{IsInner, Leads}
+use Rattle.hb_relay.specs.Reaches.{IsInner, Leads, rerouted}
 use Rattle.hb_table.specs.Judgement.{judged}
 use Rattle.hb_table.specs.declared.judgement.Judged.{Judged}
 use Rattle.hb_table.specs.declared.judgement.Judged.TheVariants.{Admitted, Unknown, Denied}
@@ -28,22 +32,33 @@ stays_then x y z first more = record { up = more.up ∙ first.up; closed = more.
 pub inner_stays : (a : Local) (p : Part) → IsInner p → Stays a.link (next a p).link
 inner_stays a welcomed inner = record { up = refl; closed = refl }
 inner_stays a (misfronted fault) inner = record { up = refl; closed = refl }
-inner_stays a (fronted seen to) inner = record { up = refl; closed = refl }
-inner_stays a (refused seen why status note) inner = record { up = refl; closed = refl }
+inner_stays a lacked inner = record { up = refl; closed = refl }
+inner_stays a (fronted seen routing aim) inner = record { up = refl; closed = refl }
+inner_stays a (refused seen routing why status note) inner = record { up = refl; closed = refl }
 inner_stays a (accepted note) inner = record { up = refl; closed = refl }
+inner_stays a roomless inner = record { up = refl; closed = refl }
 inner_stays a (left made) inner = record { up = refl; closed = refl }
 inner_stays a (done note) inner = record { up = refl; closed = refl }
 inner_stays a (entry z) inner = absurd inner
 inner_stays a (up z) inner = absurd inner
 inner_stays a crowded inner = absurd inner
-inner_stays a lacked inner = absurd inner
+inner_stays a (asked gate stream) inner = absurd inner
+inner_stays a (hears heard begun) inner = absurd inner
+inner_stays a (put bytes) inner = absurd inner
+inner_stays a finished inner = absurd inner
+inner_stays a (credited n) inner = absurd inner
+inner_stays a (loosed begun) inner = absurd inner
+inner_stays a (completed begun note) inner = absurd inner
 inner_stays a (applied r) inner = absurd inner
 inner_stays a (stopped why) inner = absurd inner
 
-pub leads_stay : (l : ℕ) (a : Local) (parts : List Part) (b : Local) → Leads l a parts b → Stays a.link b.link
-leads_stay l a [] b is = record { up = ap (λ (c : Local). c.link.up) is; closed = ap (λ (c : Local). c.link.closed) is }
-leads_stay l a (p ∷ parts) b (inner, may, more) =
-    stays_then a.link (next a p).link b.link (inner_stays a p inner) (leads_stay l (next a p) parts b more)
+pub leads_stay : (l : ℕ) (routing : Routing) (a : Local) (parts : List Part) (b : Local) (behind : Routing)
+    → Leads l routing a parts b behind → Stays a.link b.link
+leads_stay l routing a [] b behind is =
+    record { up = ap (λ (c : Local). c.link.up) is.0; closed = ap (λ (c : Local). c.link.closed) is.0 }
+leads_stay l routing a (p ∷ parts) b behind (inner, routed, may, more) =
+    stays_then a.link (next a p).link b.link (inner_stays a p inner)
+    (leads_stay l (rerouted a.link (next a p).link routing) (next a p) parts b behind more)
 
 -- ENTRIES, AND WHAT OTHERS DO
 
@@ -156,6 +171,12 @@ up_back (e.Shut u) x is = is
 up_back (e.Closed u why) x is = is
 up_back z x is = is
 
+heard_back : (heard : Heard) (begun : ℕ) (x : Captured) → (told_by heard begun x).stage ≡ unborn → x.stage ≡ unborn
+heard_back (opens end) begun x is = absurd (cc is)
+heard_back (brings bytes) begun x is = is
+heard_back response.ends begun x is = is
+heard_back (fails why) begun x is = ends_back why x.stage is
+
 pub part_back : (a : Local) (p : Part) → (next a p).link.stage ≡ unborn → a.link.stage ≡ unborn
 part_back a (entry z) is = entry_back z a.link is
 part_back a (up z) is = up_back z a.link is
@@ -163,19 +184,33 @@ part_back a welcomed is = absurd (cc is)
 part_back a crowded is = ends_back cause.NoRoom a.link.stage is
 part_back a lacked is = ends_back cause.NoMemory a.link.stage is
 part_back a (misfronted fault) is = ends_back (cause.FrontFault (number_of fault)) a.link.stage is
-part_back a (fronted seen to) is = absurd (cc is)
-part_back a (refused seen why status made) is = absurd (cc is)
+part_back a (fronted seen routing aim) is = absurd (cc is)
+part_back a (refused seen routing why status made) is = absurd (cc is)
 part_back a (accepted made) is = absurd (cc is)
+part_back a roomless is = ends_back cause.NoRoom a.link.stage is
+part_back a (asked gate stream) is = absurd (cc is)
+part_back a (hears heard begun) is = heard_back heard begun a.link is
+part_back a (put bytes) is = is
+part_back a finished is = is
+part_back a (credited n) is = is
+part_back a (loosed begun) is = is
+part_back a (completed begun made) is = absurd (cc is)
 part_back a (left made) is = left_back a.link.stage is
 part_back a (done made) is = absurd (cc is)
 part_back a (applied r) is = rejudged_back (after_response a.held r) a.link is
 part_back a (stopped why) is = ends_back why a.link.stage is
 
 -- and from there none leads on but a birth
-module _ (l : ℕ) (a : Local) (at : a.link.stage ≡ unborn) where
-  -- it isn't at another stage
+module _ (l : ℕ) (a : Local) (none : a.link ≡ no_link) where
+  is_unborn : a.link.stage ≡ unborn
+  is_unborn = ap (λ (x : Captured). x.stage) none
+
+  -- it has no stream, and isn't at another stage
+  no_stream : is_raw a.link ≡ false → ⊥
+  no_stream on = true≢false (ap is_raw (sym none) ∙ on)
+
   never : (stage : Stage) → (unborn ≡ stage → ⊥) → a.link.stage ≡ stage → ⊥
-  never stage apart is = apart (sym at ∙ is)
+  never stage apart is = apart (sym is_unborn ∙ is)
 
   untried : IsTried a.link → ⊥
   untried (inl is) = never fronting (λ no. cc no) is.1
@@ -194,7 +229,7 @@ module _ (l : ℕ) (a : Local) (at : a.link.stage ≡ unborn) where
 
   up_goes : (z : Entry) → UpMayCome l a.link z → (up_entered z a.link).stage ≡ unborn → up_entered z a.link ≡ a.link
   up_goes (e.Dialled u to why) may is = absurd (cc is)
-  up_goes (e.DialFailed to why) may is = absurd (never due (λ no. cc no) may.0.1)
+  up_goes (e.DialFailed to why) may is = absurd (never due (λ no. cc no) may.1)
   up_goes (e.Opened u) may is = absurd (cc is)
   up_goes (e.Came u bytes) may is = absurd (never live (λ no. cc no) may.0.0.1)
   up_goes (e.Ended u) may is = absurd (never live (λ no. cc no) may.0.0.1)
@@ -206,7 +241,7 @@ module _ (l : ℕ) (a : Local) (at : a.link.stage ≡ unborn) where
   up_goes z may is = refl
 
   ends_none : (why : Cause) → ends_for why a.link ≡ a.link
-  ends_none why = ap (λ (s : Stage). at_stage (ends_by why s) a.link) at ∙ sym (ap (λ (s : Stage). at_stage s a.link) at)
+  ends_none why = ap (λ (s : Stage). at_stage (ends_by why s) a.link) is_unborn ∙ sym (ap (λ (s : Stage). at_stage s a.link) is_unborn)
 
   part_goes : (p : Part) → MayGo l a p → (next a p).link.stage ≡ unborn → (next a p).link ≡ a.link
   part_goes (entry z) may is = entry_goes z may is
@@ -215,15 +250,24 @@ module _ (l : ℕ) (a : Local) (at : a.link.stage ≡ unborn) where
   part_goes crowded may is = ends_none cause.NoRoom
   part_goes lacked may is = ends_none cause.NoMemory
   part_goes (misfronted fault) may is = ends_none (cause.FrontFault (number_of fault))
-  part_goes (fronted seen to) may is = absurd (cc is)
-  part_goes (refused seen why status made) may is = absurd (cc is)
+  part_goes (fronted seen routing aim) may is = absurd (cc is)
+  part_goes (refused seen routing why status made) may is = absurd (cc is)
   part_goes (accepted made) may is = absurd (cc is)
-  part_goes (left made) may is = ap (λ (s : Stage). at_stage (left_by s) a.link) at ∙ sym (ap (λ (s : Stage). at_stage s a.link) at)
+  part_goes roomless may is = absurd (never due (λ no. cc no) may.0)
+  part_goes (asked gate stream) may is = absurd (cc is)
+  part_goes (hears heard begun) may is = absurd (no_stream may.0)
+  part_goes (put bytes) may is = absurd (no_stream may.0.0)
+  part_goes finished may is = absurd (no_stream may.0.0)
+  part_goes (credited n) may is = absurd (no_stream may.0.0)
+  part_goes (loosed begun) may is = absurd (no_stream may.0)
+  part_goes (completed begun made) may is = absurd (cc is)
+  part_goes (left made) may is =
+      ap (λ (s : Stage). at_stage (left_by s) a.link) is_unborn ∙ sym (ap (λ (s : Stage). at_stage s a.link) is_unborn)
   part_goes (done made) may is = absurd (cc is)
   part_goes (applied r) may is =
       let x = a.link in
       let y = judged_by (judged (after_response a.held r) x.peer x.target) x in
-      ap (λ (s : Stage). cond (judges x.door && is_judged s) y x) at ∙ ap (λ (b : Bool). cond b y x) (and-false (judges x.door))
+      ap (λ (s : Stage). cond (judges x.door && is_judged s) y x) is_unborn ∙ ap (λ (b : Bool). cond b y x) (and-false (judges x.door))
   part_goes (stopped why) may is = ends_none why
 
 -- so it is as it was made
@@ -232,5 +276,5 @@ pub unborn_is : (l : ℕ) (start : Resources) (a : Local) (parts : List Part) �
 unborn_is l start a parts (begins is none) at = ap (λ (c : Local). c.link) is
 unborn_is l start b more (goes_on {a = a} {parts = parts} stands p step are) at =
     let now : (next a p).link.stage ≡ unborn = ap (λ (c : Local). c.link.stage) (sym step.1) ∙ at in
-    let before = part_back a p now in
-    ap (λ (c : Local). c.link) step.1 ∙ part_goes l a before p step.0 now ∙ unborn_is l start a parts stands before
+    let before = unborn_is l start a parts stands (part_back a p now) in
+    ap (λ (c : Local). c.link) step.1 ∙ part_goes l a before p step.0 now ∙ before

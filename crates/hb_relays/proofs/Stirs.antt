@@ -7,12 +7,13 @@ use Rattle.hb_map.proofs.Laws.{put_here, put_elsewhere, removed_elsewhere, writt
 use Rattle.hb_map.specs.Keyed.{written}
 use Rattle.hb_relay.specs.Shows.{captured_of}
 use Rattle.hb_relay.specs.declared.relay.Relay.{Relay}
+use Rattle.hb_relay.specs.declared.routes.Routes.{Routes}
 use Rattle.hb_world.specs.declared.act.Act.{Act}
 use Rattle.hb_world.specs.declared.act.Act.TheVariants as act
 use Rattle.hb_relays.specs.Calls.{has_of, wants_in, up_wants_in, wants_at, output_in, up_output_in, held_at}
 use Rattle.hb_relays.specs.Stirring.{owner_of, is_left, stirs_by, stirs_at, StirsAt, Stirs, StirsBut, closed_in}
 use Rattle.hb_relays.specs.Touched.{is_touched, touched}
-use Rattle.hb_relays.specs.Walks.{Map, Index, finished, relays_with, touched_at}
+use Rattle.hb_relays.specs.Walks.{Map, Index, finished, relays_with, routes_with, touched_at}
 use Rattle.hb_relays.specs.declared.relays.Relays.{Relays}
 use Rattle.hb_relays.proofs.Touching.{untouched}
 
@@ -46,9 +47,10 @@ has_owned k n i (Some l) now was same =
 
 -- ONE LINK IS CHANGED, AND WITH IT THE INDEX OF UPSTREAMS: it is touched
 
-module _ (k : Relays) (l : ℕ) (relays : Map) (ups : Index) (same : (j : ℕ) → j ≢ l → get relays j ≡ get k.relays j) where
+module _ (k : Relays) (l : ℕ) (relays : Map) (ups : Index) (routes : Routes)
+    (same : (j : ℕ) → j ≢ l → get relays j ≡ get k.relays j) where
   abbrev After : Relays
-  After = touched_at l (relays_with relays ups k)
+  After = touched_at l (routes_with routes (relays_with relays ups k))
 
   pub touch_stirs : (n : ℕ) → (owner_of (get ups n) n ≢ l → get ups n ≡ get k.ups n)
       → (get ups n ≡ get k.ups n) ⊎ (is_some (get ups n) ≡ true) → (get relays n ≡ get k.relays n) ⊎ (is_some (get relays n) ≡ true)
@@ -102,22 +104,24 @@ put_more relays l new j =
     (λ apart. inl (put_elsewhere relays l new j apart)) (cases_eq j l)
 
 -- with the same index
-pub relays_stir : (k n : Relays) (l : ℕ) (relays : Map) → n ≡ touched_at l (relays_with relays k.ups k)
+pub relays_stir : (k n : Relays) (l : ℕ) (relays : Map) (routes : Routes)
+    → n ≡ touched_at l (routes_with routes (relays_with relays k.ups k))
     → ((j : ℕ) → j ≢ l → get relays j ≡ get k.relays j) → (i : ℕ) → (get relays i ≡ get k.relays i) ⊎ (is_some (get relays i) ≡ true)
     → StirsAt i k n
-relays_stir k n l relays n_is same i more =
-    subst (λ (m : Relays). StirsAt i k m) (sym n_is) (touch_stirs k l relays k.ups same i (λ apart. refl) (inl refl) more)
+relays_stir k n l relays routes n_is same i more =
+    subst (λ (m : Relays). StirsAt i k m) (sym n_is) (touch_stirs k l relays k.ups routes same i (λ apart. refl) (inl refl) more)
 
-pub told_stirs : (k n : Relays) (relays : Map) (l : ℕ) (new : Relay) → n ≡ touched_at l (relays_with relays k.ups k)
-    → relays ≡ written k.relays l new → Stirs k n
-told_stirs k n relays l new n_is relays_is i =
-    relays_stir k n l (written k.relays l new) (n_is ∙ ap (λ (m : Map). touched_at l (relays_with m k.ups k)) relays_is)
+pub told_stirs : (k n : Relays) (relays : Map) (routes : Routes) (l : ℕ) (new : Relay)
+    → n ≡ touched_at l (routes_with routes (relays_with relays k.ups k)) → relays ≡ written k.relays l new → Stirs k n
+told_stirs k n relays routes l new n_is relays_is i =
+    relays_stir k n l (written k.relays l new) routes
+    (n_is ∙ ap (λ (m : Map). touched_at l (routes_with routes (relays_with m k.ups k))) relays_is)
     (written_elsewhere k.relays l new) i (written_more k.relays l new i)
 
 pub put_stirs : (k n : Relays) (relays : Map) (l : ℕ) (new : Relay) → n ≡ touched_at l (relays_with relays k.ups k)
     → relays ≡ insert k.relays l new → Stirs k n
 put_stirs k n relays l new n_is relays_is i =
-    relays_stir k n l (insert k.relays l new) (n_is ∙ ap (λ (m : Map). touched_at l (relays_with m k.ups k)) relays_is)
+    relays_stir k n l (insert k.relays l new) k.routes (n_is ∙ ap (λ (m : Map). touched_at l (relays_with m k.ups k)) relays_is)
     (put_elsewhere k.relays l new) i (put_more k.relays l new i)
 
 -- with an upstream more
@@ -126,7 +130,7 @@ pub born_stirs : (k n : Relays) (relays : Map) (ups : Index) (l u : ℕ) (new : 
 born_stirs k n relays ups l u new relays_is ups_is n_is i =
     subst (λ (m : Relays). StirsAt i k m)
     (sym (n_is ∙ ap₂ (λ (m : Map) (index : Index). touched_at l (relays_with m index k)) relays_is ups_is))
-    (touch_stirs k l (written k.relays l new) (insert k.ups u l) (written_elsewhere k.relays l new) i stays more
+    (touch_stirs k l (written k.relays l new) (insert k.ups u l) k.routes (written_elsewhere k.relays l new) i stays more
     (written_more k.relays l new i))
   where
     more : (get (insert k.ups u l) i ≡ get k.ups i) ⊎ (is_some (get (insert k.ups u l) i) ≡ true)
@@ -154,19 +158,19 @@ act_stirs k n l given relays new relays_is n_is i apart =
     elsewhere = written_elsewhere k.relays l new
 
     by : (due : Act) → closed_in (Some due) ≢ Some i → StirsAt i k (finished l due (record k { relays = map }))
-    by (act.Dial to why) other = relays_stir k _ l map refl elsewhere i (written_more k.relays l new i)
-    by (act.Shut u) other = relays_stir k _ l map refl elsewhere i (written_more k.relays l new i)
+    by (act.Dial to why) other = relays_stir k _ l map k.routes refl elsewhere i (written_more k.relays l new i)
+    by (act.Shut u) other = relays_stir k _ l map k.routes refl elsewhere i (written_more k.relays l new i)
     by (act.Close u cause) other = closes (u == l) refl
       where
         closes : (b : Bool) → (u == l) ≡ b
             → StirsAt i k (touched_at l (cond b (relays_with (remove map l) k.ups k) (relays_with map (remove k.ups u) k)))
         closes true here =
             let no : i ≢ l = λ is. other (ap Some (eqb-true u l here ∙ sym is)) in
-            relays_stir k _ l (remove map l) refl (λ j apart. removed_elsewhere map l j apart ∙ elsewhere j apart) i
+            relays_stir k _ l (remove map l) k.routes refl (λ j apart. removed_elsewhere map l j apart ∙ elsewhere j apart) i
             (inl (removed_elsewhere map l i no ∙ elsewhere i no))
         closes false there =
             let no : i ≢ u = λ is. other (ap Some (sym is)) in
-            touch_stirs k l map (remove k.ups u) elsewhere i (λ apart. removed_elsewhere k.ups u i no)
+            touch_stirs k l map (remove k.ups u) k.routes elsewhere i (λ apart. removed_elsewhere k.ups u i no)
             (inl (removed_elsewhere k.ups u i no)) (written_more k.relays l new i)
 
 -- NONE IS TOUCHED
@@ -201,6 +205,10 @@ same_stirs k relays same n n_is =
       writes = λ was. inl (held_same k (record k { relays = relays; due = n.due }) i (get k.ups i) (same (owner_of (get k.ups i) i)).output
           (same (owner_of (get k.ups i) i)).up_output ∙ was);
     })
+
+-- only the counts change
+pub routed_stirs : (k : Relays) (routes : Routes) → Stirs k (routes_with routes k)
+routed_stirs k routes i = record { has = inl refl; kept = λ was. was; reads = λ was. inl was; writes = λ was. inl was }
 
 pub none_stirs : (k : Relays) → Stirs k k
 none_stirs k = same_stirs k k.relays (λ j. equal_same (get k.relays j) (get k.relays j) refl) k refl

@@ -11,6 +11,7 @@ use Rattle.hb_captured.specs.Captured.{Captured, Stage}
 use Rattle.hb_captured.specs.Part.{Part, note_if}
 use Rattle.hb_captured.specs.Runs as captured
 use Rattle.hb_captured.specs.Runs.{Local, MayGo, next}
+use Rattle.hb_gateway.specs.Gateway.{Gateway, no_link}
 use Rattle.hb_held.specs.Held.{Resources}
 use Rattle.hb_link.proofs.Noted.{takes_none, takes_then}
 use Rattle.hb_link.specs.Noted.{Told, Takes}
@@ -21,17 +22,20 @@ use Rattle.hb_model.specs.Point as point
 use Rattle.hb_model.specs.declared.config.NodeConfig.{NodeConfig}
 use Rattle.hb_proxy.proofs.Plain.{plain_runs}
 use Rattle.hb_proxy.specs.Held.{at_start}
-use Rattle.hb_proxy.specs.Machine.{Machine, plain_local}
+use Rattle.hb_proxy.specs.Machine.{Machine, outward, plain_local}
 use Rattle.hb_proxy.specs.Notes.{notes, note_in}
 use Rattle.hb_proxy.specs.Points.{Point, of_control, of_plain, plain_of}
-use Rattle.hb_proxy.specs.Runs.{Steps, StandsFor}
+use Rattle.hb_proxy.specs.Runs.{Steps, StandsFor, routing_of}
+use Rattle.hb_relay.specs.Answering.{routing_of as code_routing}
+use Rattle.hb_relay.specs.Calls as calls
 use Rattle.hb_relay.specs.Reaches as relay
 use Rattle.hb_relay.specs.Shows.{as_told, captured_of}
 use Rattle.hb_relay.specs.declared.relay.Relay.{Relay}
+use Rattle.hb_relay.specs.declared.routes.Routes.{Routes}
 use Rattle.hb_relays.specs.Reaches.{Leads, Meets}
 use Rattle.hb_relays.specs.Shows.{IsAway, IsIdle, IsIndex, ShowsRelay, ShowsRelays}
 use Rattle.hb_relays.specs.Touched.{is_touched, touched}
-use Rattle.hb_relays.specs.Walks.{Map, Index, IsChanged, IsNext}
+use Rattle.hb_relays.specs.Walks.{Map, Index, IsChanged, IsNext, routes_with}
 use Rattle.hb_relays.specs.declared.relays.Relays.{Relays}
 use Rattle.hb_relays.specs.declared.touched.Touched.{Touched}
 use Rattle.hb_relays.proofs.Away.{away_is}
@@ -71,6 +75,7 @@ idle_same x y same idle = (told_idle y.stage y).0 (subst IsIdle same ((told_idle
 pub record Changes (n : ℕ) (old new : Relay) (a b : Relays) : Type 0 where
   pub relays : b.relays ≡ insert a.relays n new
   pub ups : b.ups ≡ a.ups
+  pub routes : b.routes ≡ a.routes
   pub due : (l : ℕ) → is_touched a.due l ≡ true → is_touched b.due l ≡ true
   pub same : is_touched b.due n ≡ false → captured_of new ≡ captured_of old
 
@@ -80,12 +85,14 @@ changes n old new a b (inl is) =
     record {
       relays = ap (λ (k : Relays). k.relays) is;
       ups = ap (λ (k : Relays). k.ups) is;
+      routes = ap (λ (k : Relays). k.routes) is;
       due = λ l was. ap (λ (t : Touched). is_touched t l) due ∙ touched_still n a.due l was;
       same = λ none. absurd (false≢true (sym none ∙ ap (λ (t : Touched). is_touched t n) due ∙ touched_here n a.due));
     }
 changes n old new a b (inr (same, is)) = record {
   relays = ap (λ (k : Relays). k.relays) is;
   ups = ap (λ (k : Relays). k.ups) is;
+  routes = ap (λ (k : Relays). k.routes) is;
   due = λ l was. ap (λ (k : Relays). is_touched k.due l) is ∙ was;
   same = λ none. same;
 }
@@ -120,6 +127,8 @@ pub record Sweeps (g : NodeConfig) (x y : Machine) (k a : Relays) (from : Option
   pub same : (l : ℕ) → IsFrom from l → reached.plain l ≡ y.plain l
   pub ups : (l : ℕ) → (reached.plain l).up ≡ (x.plain l).up
   pub there : (l : ℕ) → IsSome (get a.relays l) → IsSome (get k.relays l)
+  pub counted : routing_of g reached ≡ routing_of g y
+  pub gates : reached.gates ≡ y.gates
   pub noted : Takes told (notes more) now
 
 -- what a point of the control plane makes of each link is this part of it
@@ -129,14 +138,16 @@ pub record AllSee (x y : Machine) (p : Part) : Type 0 where
   pub stays : (l : ℕ) → Stays (x.plain l) (next (plain_local x l) p).link
   -- a link that isn't there stays so
   pub away : (l : ℕ) → IsAway (x.plain l) → IsAway (y.plain l)
+  pub gates : (n : ℕ) → x.gates n ≡ no_link → y.gates n ≡ no_link
 
 -- so far the code meets the machine
 pub record Swept (P : Resources → Type 0) (q : point.Point) (p : Part) (k a : Relays) (from : Option ℕ) (told now : Told) : Type 0 where
   pub ups : a.ups ≡ k.ups
+  pub routes : a.routes ≡ k.routes
   pub due : (l : ℕ) → is_touched k.due l ≡ true → is_touched a.due l ≡ true
   pub sees : (g : NodeConfig) (x y : Machine) → Steps g x (of_control q) y → AllSee x y p
-  pub sweeps : (g : NodeConfig) (x y : Machine) (points : List Point) → StandsFor g x points → ShowsRelays k x.plain → P x.control.held
-      → Steps g x (of_control q) y → Sweeps g x y k a from told now
+  pub sweeps : (g : NodeConfig) (x y : Machine) (points : List Point) → StandsFor g x points → ShowsRelays g k (outward x)
+      → P x.control.held → Steps g x (of_control q) y → Sweeps g x y k a from told now
 
 -- where no link is in front of the first one nothing is to be told
 pub starts : (P : Resources → Type 0) (q : point.Point) (p : Part) (k : Relays) (first : Option ℕ) (told : Told)
@@ -144,6 +155,7 @@ pub starts : (P : Resources → Type 0) (q : point.Point) (p : Part) (k : Relays
     → Swept P q p k k first told told
 starts P q p k first told sees is = record {
   ups = refl;
+  routes = refl;
   due = λ l was. was;
   sees = sees;
   sweeps = λ g x y points stands shows holds steps.
@@ -160,6 +172,8 @@ starts P q p k first told sees is = record {
         same = λ l from. refl;
         ups = λ l. ap (λ (a : Local). a.link.up) (see.steps l) ∙ (see.stays l).up;
         there = λ l some. some;
+        counted = refl;
+        gates = refl;
         noted = takes_none told;
       });
 }
@@ -190,7 +204,7 @@ parted l n apart = ⊎_elim (λ same. absurd (apart same)) (λ either. either) (
 -- one more is told
 module _ (P : Resources → Type 0) (q : point.Point) (p : Part) (k a b : Relays) (n : ℕ) (old new : Relay) (made : Option Note)
     (next_one : Option ℕ) (told now then : Told) (swept : Swept P q p k a (Some n) told now) (is : get a.relays n ≡ Some old)
-    (changed : Changes n old new a b) (meets : relay.Meets P p old new made) (takes : Takes now (note_if made) then)
+    (changed : Changes n old new a b) (meets : calls.Follows P p old new made) (takes : Takes now (note_if made) then)
     (next_is : IsNext b.relays n next_one) where
   still : (l : ℕ) → is_touched k.due l ≡ true → is_touched b.due l ≡ true
   still l was = changed.due l (swept.due l was)
@@ -201,8 +215,8 @@ module _ (P : Resources → Type 0) (q : point.Point) (p : Part) (k a b : Relays
   apart_is : (l : ℕ) → l ≢ n → get b.relays l ≡ get a.relays l
   apart_is l apart = ap (λ (m : Map). get m l) changed.relays ∙ put_elsewhere a.relays n new l apart
 
-  module _ (g : NodeConfig) (x y : Machine) (points : List Point) (stands : StandsFor g x points) (shows : ShowsRelays k x.plain)
-      (holds : P x.control.held) (steps : Steps g x (of_control q) y) where
+  module _ (g : NodeConfig) (x y : Machine) (points : List Point) (stands : StandsFor g x points)
+      (shows : ShowsRelays g k (outward x)) (holds : P x.control.held) (steps : Steps g x (of_control q) y) where
     see : AllSee x y p
     see = swept.sees g x y steps
 
@@ -235,19 +249,23 @@ module _ (P : Resources → Type 0) (q : point.Point) (p : Part) (k a b : Relays
         let here : n ≤ n = omega arith in
         let shown = kept_shown k x.plain n old shows.relays was in
         let at = plain_local x n in
-        let last = subst (λ (i : ℕ). relay.Reaches i (next at p) new made) shown.0
-        (meets.reaches (at_start g) (plain_of n points) at
+        let by = routing_of g z in
+        let last = subst (λ (i : ℕ). relay.Reaches i by (next at p) new by made) shown.0
+        (meets.reaches (at_start g) (plain_of n points) at by
         (subst (λ (i : ℕ). captured.StandsFor i (at_start g) at (plain_of n points)) (sym shown.0) (plain_runs g x points n stands))
         shown.1 holds (subst (λ (i : ℕ). MayGo i at p) (sym shown.0) (see.may n))) in
-        let control : z.control ≡ y.control = (leads_keep g y so_far.more z so_far.leads).control in
+        let keeps = leads_keep g y so_far.more z so_far.leads in
+        let control : z.control ≡ y.control = keeps.control in
         let z_is : plain_local z n ≡ next at p =
         ap (λ (c : Captured). record { held = z.control.held; link = c }) (so_far.same n here)
         ∙ ap (λ (c : Control). record { held = c.held; link = y.plain n }) control ∙ see.steps n in
-        let more = lifted g n z last.parts last.reached
-        (subst (λ (c : Local). relay.Leads n c last.parts last.reached) (sym z_is) last.leads) in
+        let no_gates : (m : ℕ) → z.gates m ≡ no_link =
+        λ m. ap (λ (f : ℕ → Gateway). f m) so_far.gates ∙ see.gates m (shows.no_gates m) in
+        let more = lifted g n z last.parts last.reached by no_gates
+        (subst (λ (c : Local). relay.Leads n by c last.parts last.reached by) (sym z_is) last.leads) in
         let w = more.y in
         let w_is : w.plain n ≡ last.reached.link = ap (λ (c : Local). c.link) more.here in
-        let rest = leads_stay n (next at p) last.parts last.reached last.leads in
+        let rest = leads_stay n by (next at p) last.parts last.reached by last.leads in
         let opens : last.reached.link.closed ≡ false =
         rest.closed ∙ (see.stays n).closed ∙ opens_by (x.plain n).stage (x.plain n).closed shown.2 in
         record {
@@ -290,6 +308,8 @@ module _ (P : Resources → Type 0) (q : point.Point) (p : Part) (k a b : Relays
               (ap (λ (c : Captured). c.up) w_is ∙ rest.up ∙ (see.stays n).up))
               (λ apart. ap (λ (c : Captured). c.up) (more.others l apart) ∙ so_far.ups l) (cases_eq l n);
           there = there;
+          counted = more.counted ∙ so_far.counted;
+          gates = more.gates ∙ so_far.gates;
           noted = subst (λ (ns : List Note). Takes told ns then)
               (ap (λ (ns : List Note). notes so_far.more ++ ns) (sym (notes_of n last.parts ∙ last.noted))
               ∙ sym (flat_map-append note_in so_far.more (map (of_plain n) last.parts)))
@@ -297,13 +317,22 @@ module _ (P : Resources → Type 0) (q : point.Point) (p : Part) (k a b : Relays
         }
 
   pub goes : Swept P q p k b next_one told then
-  goes = record { ups = changed.ups ∙ swept.ups; due = still; sees = swept.sees; sweeps = tells }
+  goes = record {
+    ups = changed.ups ∙ swept.ups;
+    routes = changed.routes ∙ swept.routes;
+    due = still;
+    sees = swept.sees;
+    sweeps = tells;
+  }
 
--- all were told
-pub ends : (P : Resources → Type 0) (q : point.Point) (p : Part) (k n : Relays) (told now : Told) → Swept P q p k n None told now
-    → Meets (λ x. P x.control.held) (of_control q) k told n now
-ends P q p k n told now swept g x y points stands shows holds steps =
+-- all were told, and the counts are those of the machine then
+pub ends : (P : Resources → Type 0) (q : point.Point) (p : Part) (k n : Relays) (routes : Routes) (told now : Told)
+    → ((g : NodeConfig) (x y : Machine) → Steps g x (of_control q) y → code_routing n.routes ≡ routing_of g x
+    → code_routing routes ≡ routing_of g y)
+    → Swept P q p k n None told now → Meets (λ x. P x.control.held) (of_control q) k told (routes_with routes n) now
+ends P q p k n routes told now counts swept g x y points stands shows holds steps =
     let all = swept.sweeps g x y points stands shows holds steps in
+    let see = swept.sees g x y steps in
     let z = all.reached in
     record {
       more = all.more;
@@ -314,6 +343,8 @@ ends P q p k n told now swept g x y points stands shows holds steps =
         index = subst (λ (u : Index). IsIndex u z.plain) (sym swept.ups) (same_ups k.ups x.plain z.plain all.ups shows.index);
         numbered = λ l some. shows.numbered l (all.there l some);
         idle = λ l none. all.idle l tt none;
+        counted = counts g x y steps (ap code_routing swept.routes ∙ shows.counted) ∙ sym all.counted;
+        no_gates = λ m. ap (λ (f : ℕ → Gateway). f m) all.gates ∙ see.gates m (shows.no_gates m);
       };
       noted = all.noted;
     }

@@ -14,7 +14,7 @@ use Rattle.hb_held.specs.Outcome.{after_response}
 use Rattle.hb_link.specs.Noted.{Told}
 use Rattle.hb_model.specs.Point as point
 use Rattle.hb_model.specs.declared.config.NodeConfig.{NodeConfig}
-use Rattle.hb_proxy.specs.Machine.{Machine}
+use Rattle.hb_proxy.specs.Machine.{Machine, Outward, outward}
 use Rattle.hb_proxy.specs.Points.{Point, of_control, of_plain}
 use Rattle.hb_proxy.specs.Runs.{Steps, StandsFor}
 use Rattle.hb_proxy.specs.Seen.{IsPlainThere}
@@ -59,9 +59,9 @@ Begins d n old new = Meets any (of_plain n (entry (e.Accepted n d))) old (Some [
 -- a link is accepted where as many are open as may be: behind its birth it is turned away
 abbrev pub TurnsAway : Door → ℕ → Relays → Relays → Type 0
 TurnsAway d n old new =
-    (g : NodeConfig) (x y : Machine) (points : List Point) → StandsFor g x points → ShowsRelays old x.plain
+    (g : NodeConfig) (x y : Machine) (points : List Point) → StandsFor g x points → ShowsRelays g old (outward x)
     → Steps g x (of_plain n (entry (e.Accepted n d))) y
-    → (z : Machine) × Steps g y (of_plain n crowded) z × ShowsRelays new z.plain
+    → (z : Machine) × Steps g y (of_plain n crowded) z × ShowsRelays g new (outward z)
 
 -- the dial for a link gave the link u, or none
 abbrev pub Dials : (l u : ℕ) → Relays → Relays → Type 0
@@ -89,7 +89,8 @@ abbrev pub IsPresent : (ℕ → Captured) → ℕ → Type 0
 IsPresent f n = IsPlainThere (f n) ⊎ ((l : ℕ) × IsRelayOf (f l) n)
 
 abbrev pub Has : Relays → ℕ → Bool → Type 0
-Has k n has = (f : ℕ → Captured) → ShowsRelays k f → (has ≡ true → IsPresent f n) × (IsPresent f n → has ≡ true)
+Has k n has =
+    (g : NodeConfig) (x : Outward) → ShowsRelays g k x → (has ≡ true → IsPresent x.plain n) × (IsPresent x.plain n → has ≡ true)
 
 abbrev pub wants_in : Option Relay → ℕ
 wants_in None = 0
@@ -112,7 +113,7 @@ machine_wants f None n = calm.wants (f n)
 machine_wants f (Some l) n = calm.up_wants (f l)
 
 abbrev pub Wants : Relays → ℕ → ℕ → Type 0
-Wants k n count = (f : ℕ → Captured) → ShowsRelays k f → count ≡ machine_wants f (get k.ups n) n
+Wants k n count = (g : NodeConfig) (x : Outward) → ShowsRelays g k x → count ≡ machine_wants x.plain (get k.ups n) n
 
 abbrev pub output_in : Option Relay → List ℕ
 output_in None = []
@@ -135,7 +136,7 @@ machine_held f None n = calm.output (f n)
 machine_held f (Some l) n = calm.up_output (f l)
 
 abbrev pub Holds : Relays → ℕ → List ℕ → Type 0
-Holds k n bytes = (f : ℕ → Captured) → ShowsRelays k f → bytes ≡ machine_held f (get k.ups n) n
+Holds k n bytes = (g : NodeConfig) (x : Outward) → ShowsRelays g k x → bytes ≡ machine_held x.plain (get k.ups n) n
 
 -- how many plain links are kept
 abbrev pub count_of : Relays → ℕ

@@ -2,9 +2,9 @@
 use Rattle.std.specs.Prelude.{⊤, ◌≡◌, List, [], ◌∷◌}
 use Rattle.hb_link.specs.Noted.{Told, Takes}
 use Rattle.hb_model.specs.declared.config.NodeConfig.{NodeConfig}
-use Rattle.hb_proxy.specs.Machine.{Machine}
+use Rattle.hb_proxy.specs.Machine.{Machine, outward}
 use Rattle.hb_proxy.specs.Notes.{notes}
-use Rattle.hb_proxy.specs.Points.{Point, of_control, of_link, of_plain}
+use Rattle.hb_proxy.specs.Points.{Point, of_control, of_link, of_plain, of_gate, of_stream}
 use Rattle.hb_proxy.specs.Runs.{Steps, StandsFor}
 use Rattle.hb_relay.specs.Reaches as relay
 use Rattle.hb_relays.specs.Shows.{ShowsRelays}
@@ -15,6 +15,8 @@ abbrev pub IsInner : Point → Type 0
 IsInner (of_control q) = ⊥
 IsInner (of_link l p) = ⊥
 IsInner (of_plain l p) = relay.IsInner p
+IsInner (of_gate n p) = ⊥
+IsInner (of_stream l n s w) = ⊥
 
 -- such points lead from one machine to another, one after another
 abbrev pub Leads : NodeConfig → Machine → List Point → Machine → Type 0
@@ -26,14 +28,14 @@ pub record Follows (g : NodeConfig) (x : Machine) (k : Relays) (told now : Told)
   pub more : List Point
   pub reached : Machine
   pub leads : Leads g x more reached
-  pub shows : ShowsRelays k reached.plain
+  pub shows : ShowsRelays g k (outward reached)
   pub noted : Takes told (notes more) now
 
 -- The code is told a point. For each run of the whole whose links it showed, and behind which the point may come, it shows afterwards
 -- those of the run with that point, and with what follows from it by itself
 abbrev pub Meets : (Machine → Type 0) → Point → Relays → Told → Relays → Told → Type 0
 Meets P p old told new now =
-    (g : NodeConfig) (x y : Machine) (points : List Point) → StandsFor g x points → ShowsRelays old x.plain → P x → Steps g x p y
+    (g : NodeConfig) (x y : Machine) (points : List Point) → StandsFor g x points → ShowsRelays g old (outward x) → P x → Steps g x p y
     → Follows g y new told now
 
 abbrev pub any : Machine → Type 0

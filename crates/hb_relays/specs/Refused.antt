@@ -2,12 +2,15 @@
 use Rattle.std.specs.Prelude.{◌≡◌, ◌≢◌, ℕ, ◌<◌, ◌^◌, ◌==◌, true, false, if◌then◌else◌, List, Some, None}
 use Rattle.std.specs.FinMap.{get, insert, empty}
 use Rattle.hb_base.specs.declared.door.Door.{Door}
-use Rattle.hb_captured.specs.Captured.{Captured, fronting, due, live, no_link, at_stage}
+use Rattle.hb_captured.specs.Captured.{fronting, due, live, no_link, at_stage}
 use Rattle.hb_captured.specs.Part.{entry}
+use Rattle.hb_gateway.specs.Gateway as gateway
+use Rattle.hb_gateway.specs.Gateway.{opening}
 use Rattle.hb_model.specs.declared.config.NodeConfig.{NodeConfig}
-use Rattle.hb_proxy.specs.Machine.{Machine}
+use Rattle.hb_proxy.specs.Machine.{Machine, Outward, outward}
 use Rattle.hb_proxy.specs.Points.{Point, of_plain}
 use Rattle.hb_proxy.specs.Runs.{Steps, StandsFor}
+use Rattle.hb_relay.specs.Answering.{routing_of}
 use Rattle.hb_relay.specs.Shows.{captured_of}
 use Rattle.hb_relay.specs.declared.relay.Relay.{Relay}
 use Rattle.hb_world.specs.declared.entry.Entry.TheVariants as e
@@ -18,31 +21,52 @@ use Rattle.hb_relays.specs.declared.relays.Relays.{Relays}
 
 -- the upstream of a link isn't found, or one is that is closed
 abbrev pub LacksUp : Type 0
-LacksUp = (k : Relays) (f : ℕ → Captured) (l : ℕ) → 0 < (f l).up → get k.ups (f l).up ≡ None → ShowsRelays k f → ⊥
+LacksUp = (g : NodeConfig) (k : Relays) (x : Outward) (l : ℕ)
+    → 0 < (x.plain l).up → get k.ups (x.plain l).up ≡ None → ShowsRelays g k x → ⊥
 
 abbrev pub FindsClosed : Type 0
-FindsClosed = (k : Relays) (f : ℕ → Captured) (l u : ℕ) → get k.ups u ≡ Some l → (f l).up ≡ 0 → ShowsRelays k f → ⊥
+FindsClosed = (g : NodeConfig) (k : Relays) (x : Outward) (l u : ℕ)
+    → get k.ups u ≡ Some l → (x.plain l).up ≡ 0 → ShowsRelays g k x → ⊥
 
 -- a link that lives isn't kept; one is kept under the number of another; one that is closed is kept
 abbrev pub LacksLink : Type 0
-LacksLink = (k : Relays) (f : ℕ → Captured) (l : ℕ) → (f l).stage ≡ live → get k.relays l ≡ None → ShowsRelays k f → ⊥
+LacksLink = (g : NodeConfig) (k : Relays) (x : Outward) (l : ℕ)
+    → (x.plain l).stage ≡ live → get k.relays l ≡ None → ShowsRelays g k x → ⊥
 
 abbrev pub KeepsUnderAnother : Type 0
-KeepsUnderAnother = (k : Relays) (f : ℕ → Captured) (l : ℕ) (w : Relay) → get k.relays l ≡ Some w → w.number ≢ l → ShowsRelays k f → ⊥
+KeepsUnderAnother = (g : NodeConfig) (k : Relays) (x : Outward) (l : ℕ) (w : Relay)
+    → get k.relays l ≡ Some w → w.number ≢ l → ShowsRelays g k x → ⊥
 
 abbrev pub KeepsClosed : Type 0
-KeepsClosed = (k : Relays) (f : ℕ → Captured) (l : ℕ) (w : Relay) → get k.relays l ≡ Some w → w.closed ≡ true → ShowsRelays k f → ⊥
+KeepsClosed = (g : NodeConfig) (k : Relays) (x : Outward) (l : ℕ) (w : Relay)
+    → get k.relays l ≡ Some w → w.closed ≡ true → ShowsRelays g k x → ⊥
 
 -- a dial is due of a link that isn't among those that may have an act due
 abbrev pub MissesDial : Type 0
-MissesDial = (k : Relays) (f : ℕ → Captured) (l : ℕ) → (f l).stage ≡ due → is_touched k.due l ≡ false → ShowsRelays k f → ⊥
+MissesDial = (g : NodeConfig) (k : Relays) (x : Outward) (l : ℕ)
+    → (x.plain l).stage ≡ due → is_touched k.due l ≡ false → ShowsRelays g k x → ⊥
 
 -- a link was accepted, and nothing changed
 abbrev pub ForgetsLink : Type 0
-ForgetsLink = (g : NodeConfig) (x y : Machine) (points : List Point) (k : Relays) (d : Door) (n : ℕ) → StandsFor g x points → ShowsRelays k x.plain
-    → Steps g x (of_plain n (entry (e.Accepted n d))) y → Begins d n k k → ⊥
+ForgetsLink = (g : NodeConfig) (x y : Machine) (points : List Point) (k : Relays) (d : Door) (n : ℕ) → StandsFor g x points
+    → ShowsRelays g k (outward x) → Steps g x (of_plain n (entry (e.Accepted n d))) y → Begins d n k k → ⊥
+
+-- other connections are counted than the machine counts, or gateways have another port; or there is a link to one
+abbrev pub Miscounts : Type 0
+Miscounts = (g : NodeConfig) (k : Relays) (x : Outward) → k.routes.opens ≢ x.opens → ShowsRelays g k x → ⊥
+
+abbrev pub MistakesPort : Type 0
+MistakesPort = (g : NodeConfig) (k : Relays) (x : Outward) → k.routes.hbone_port ≢ g.hbone_port → ShowsRelays g k x → ⊥
+
+abbrev pub HasGate : Type 0
+HasGate = (g : NodeConfig) (k : Relays) (x : Outward) (n : ℕ) → (x.gates n).phase ≡ opening → ShowsRelays g k x → ⊥
 
 -- one link that was taken in just now, and no other, is shown by one without bytes
 abbrev pub OneIsShown : Type 0
-OneIsShown = (k : Relays) (w : Relay) (n : ℕ) → n < 2 ^ 64 → w.number ≡ n → captured_of w ≡ at_stage fronting no_link
-    → k.relays ≡ insert empty n w → k.ups ≡ empty → ShowsRelays k (λ l. if l == n then at_stage fronting no_link else no_link)
+OneIsShown = (g : NodeConfig) (k : Relays) (w : Relay) (n : ℕ) → n < 2 ^ 64 → w.number ≡ n → captured_of w ≡ at_stage fronting no_link
+    → k.relays ≡ insert empty n w → k.ups ≡ empty → routing_of k.routes ≡ record { opens = empty; hbone_port = g.hbone_port }
+    → ShowsRelays g k (record {
+      plain = λ l. if l == n then at_stage fronting no_link else no_link;
+      gates = λ m. gateway.no_link;
+      opens = empty;
+    })

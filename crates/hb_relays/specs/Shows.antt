@@ -3,9 +3,13 @@ use Rattle.std.specs.Prelude.{◌≡◌, ℕ, ◌<◌, ◌^◌, true, false, Opt
 use Rattle.std.specs.FinMap.{FinMap, get}
 use Rattle.std.specs.Ordering.{nat_cmp}
 use Rattle.hb_captured.specs.Calm.{IsIdleBy}
-use Rattle.hb_captured.specs.Captured.{Captured, Stage, unborn, over}
+use Rattle.hb_captured.specs.Captured.{Captured, Stage, unborn, over, is_raw}
+use Rattle.hb_gateway.specs.Gateway.{no_link}
+use Rattle.hb_model.specs.declared.config.NodeConfig.{NodeConfig}
+use Rattle.hb_proxy.specs.Machine.{Outward}
 use Rattle.hb_proxy.specs.Seen.{IsPlainThere}
 use Rattle.hb_proxy.specs.Ups.{IsRelayOf}
+use Rattle.hb_relay.specs.Answering.{routing_of}
 use Rattle.hb_relay.specs.Shows.{Shows}
 use Rattle.hb_relay.specs.declared.relay.Relay.{Relay}
 use Rattle.hb_relays.specs.Touched.{is_touched}
@@ -14,7 +18,7 @@ use Rattle.hb_relays.specs.declared.relays.Relays.{Relays}
 -- it isn't there, and has no upstream: before its birth, or closed
 abbrev pub IsAwayBy : Stage → Captured → Type 0
 IsAwayBy unborn x = x.up ≡ 0
-IsAwayBy (over cause) x = (x.closed ≡ true) × (x.up ≡ 0)
+IsAwayBy (over cause) x = (x.closed ≡ true) × (x.up ≡ 0) × (is_raw x ≡ true)
 IsAwayBy stage x = ⊥
 
 abbrev pub IsAway : Captured → Type 0
@@ -34,10 +38,13 @@ pub record IsIndex (ups : FinMap nat_cmp ℕ) (f : ℕ → Captured) : Type 0 wh
 abbrev pub IsIdle : Captured → Type 0
 IsIdle x = IsIdleBy x.stage x
 
-pub record ShowsRelays (k : Relays) (f : ℕ → Captured) : Type 0 where
-  pub relays : (l : ℕ) → ShowsRelay l (get k.relays l) (f l)
-  pub index : IsIndex k.ups f
+-- of what goes out by itself the code shows the plain links and the counts; it has no link to a gateway
+pub record ShowsRelays (g : NodeConfig) (k : Relays) (x : Outward) : Type 0 where
+  pub relays : (l : ℕ) → ShowsRelay l (get k.relays l) (x.plain l)
+  pub index : IsIndex k.ups x.plain
   -- the numbers of links have 64 bits
   pub numbered : (l : ℕ) → IsSome (get k.relays l) → l < 2 ^ 64
   -- no other link has an act due
-  pub idle : (l : ℕ) → is_touched k.due l ≡ false → IsIdle (f l)
+  pub idle : (l : ℕ) → is_touched k.due l ≡ false → IsIdle (x.plain l)
+  pub counted : routing_of k.routes ≡ record { opens = x.opens; hbone_port = g.hbone_port }
+  pub no_gates : (n : ℕ) → x.gates n ≡ no_link

@@ -1,7 +1,8 @@
 -- Which numbers stir: of links on which more may be read, or is to be written, than when that was told last.
 use Rattle.std.specs.Prelude.{◌≡◌, ◌≢◌, ◌⊎◌, ℕ, ◌||◌, Bool, true, false, [], Option, Some, None}
 use Rattle.std.specs.FinMap.{get}
-use Rattle.hb_captured.specs.Captured.{Captured}
+use Rattle.hb_model.specs.declared.config.NodeConfig.{NodeConfig}
+use Rattle.hb_proxy.specs.Machine.{Outward}
 use Rattle.hb_world.specs.declared.act.Act.{Act}
 use Rattle.hb_world.specs.declared.act.Act.TheVariants as act
 use Rattle.hb_relays.specs.Calls.{IsPresent, has_of, wants_of, held_of}
@@ -50,8 +51,8 @@ StirsBut closed old new = (n : ℕ) → closed ≢ Some n → StirsAt n old new
 -- one that stirred still does, or was told
 abbrev pub Hears : Option ℕ → Relays → Relays → Type 0
 Hears told old new =
-    (f : ℕ → Captured) → ShowsRelays old f
-    → ShowsRelays new f × ((n : ℕ) → IsPresent f n → stirs_at old n ≡ true → (stirs_at new n ≡ true) ⊎ (told ≡ Some n))
+    (g : NodeConfig) (x : Outward) → ShowsRelays g old x
+    → ShowsRelays g new x × ((n : ℕ) → IsPresent x.plain n → stirs_at old n ≡ true → (stirs_at new n ≡ true) ⊎ (told ≡ Some n))
 
 -- nothing else changes
 abbrev pub OnlyHears : Relays → Relays → Type 0

@@ -3,16 +3,18 @@ use Rattle.std.specs.Prelude.{◌≡◌, ◌≢◌, ◌⊎◌, ℕ, ◌+◌, ◌
 use Rattle.std.specs.FinMap.{FinMap, get, insert, remove}
 use Rattle.std.specs.Ordering.{nat_cmp}
 use Rattle.hb_base.specs.declared.note.Note.{Note}
-use Rattle.hb_captured.specs.Captured.{Captured}
 use Rattle.hb_captured.specs.Part.{note_if}
+use Rattle.hb_gateway.specs.Gateway.{no_link}
 use Rattle.hb_link.specs.Noted.{Told, Takes}
 use Rattle.hb_map.specs.Keyed.{IsFirstFrom}
 use Rattle.hb_model.specs.declared.config.NodeConfig.{NodeConfig}
-use Rattle.hb_proxy.specs.Machine.{Machine}
+use Rattle.hb_proxy.specs.Machine.{Machine, Outward, outward}
 use Rattle.hb_proxy.specs.Points.{Point}
 use Rattle.hb_proxy.specs.Runs.{ControlRests, Lets, StandsFor}
+use Rattle.hb_relay.specs.Answering.{routing_of}
 use Rattle.hb_relay.specs.Shows.{captured_of}
 use Rattle.hb_relay.specs.declared.relay.Relay.{Relay}
+use Rattle.hb_relay.specs.declared.routes.Routes.{Routes}
 use Rattle.hb_world.specs.declared.act.Act.{Act}
 use Rattle.hb_world.specs.declared.act.Act.TheVariants as act
 use Rattle.hb_relays.specs.Acts.{ActsOn}
@@ -29,6 +31,10 @@ Index = FinMap nat_cmp ℕ
 -- with other links and upstreams
 abbrev pub relays_with : Map → Index → Relays → Relays
 relays_with relays ups k = record k { relays = relays; ups = ups }
+
+-- and with other counts
+abbrev pub routes_with : Routes → Relays → Relays
+routes_with routes k = record k { routes = routes }
 
 -- a link is touched: it may have an act due, and is to be told
 abbrev pub touched_at : ℕ → Relays → Relays
@@ -72,11 +78,13 @@ abbrev pub finished : ℕ → Act → Relays → Relays
 finished n due k = touched_at n (left_by n due k)
 
 -- of all links but this one it is known that they have no act due where they weren't touched
-pub record ShowsBut (n : ℕ) (k : Relays) (f : ℕ → Captured) : Type 0 where
-  pub relays : (l : ℕ) → ShowsRelay l (get k.relays l) (f l)
-  pub index : IsIndex k.ups f
+pub record ShowsBut (g : NodeConfig) (n : ℕ) (k : Relays) (x : Outward) : Type 0 where
+  pub relays : (l : ℕ) → ShowsRelay l (get k.relays l) (x.plain l)
+  pub index : IsIndex k.ups x.plain
   pub numbered : (l : ℕ) → IsSome (get k.relays l) → l < 2 ^ 64
-  pub idle : (l : ℕ) → l ≢ n → is_touched k.due l ≡ false → IsIdle (f l)
+  pub idle : (l : ℕ) → l ≢ n → is_touched k.due l ≡ false → IsIdle (x.plain l)
+  pub counted : routing_of k.routes ≡ record { opens = x.opens; hbone_port = g.hbone_port }
+  pub no_gates : (m : ℕ) → x.gates m ≡ no_link
 
 -- the walk goes to a link that may have an act due
 abbrev pub GoesTo : Option ℕ → Relays → Relays → Type 0
@@ -86,7 +94,8 @@ GoesTo next old new = (new ≡ record old { due = new.due }) × TakesOut old.rel
 abbrev pub ActsOf : ℕ → Option Act → Relays → Relays → Type 0
 ActsOf n None old new =
     (new.due ≡ old.due)
-    × ((g : NodeConfig) (x : Machine) (points : List Point) → StandsFor g x points → ShowsBut n old x.plain → ShowsRelays new x.plain)
+    × ((g : NodeConfig) (x : Machine) (points : List Point) → StandsFor g x points → ShowsBut g n old (outward x)
+    → ShowsRelays g new (outward x))
 ActsOf n (Some due) old new =
-    (g : NodeConfig) (x : Machine) (points : List Point) → StandsFor g x points → ShowsBut n old x.plain → ControlRests x.control
+    (g : NodeConfig) (x : Machine) (points : List Point) → StandsFor g x points → ShowsBut g n old (outward x) → ControlRests x.control
     → ((k : ℕ) → Lets true (x.inbound k)) → ActsOn (Some due) new g x

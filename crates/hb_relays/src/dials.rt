@@ -34,7 +34,7 @@ impl Relays {
         let Some(relay) = self.relays.at(link) else {
             return;
         };
-        let made = relay.dial_failed();
+        let made = relay.dial_failed(&mut self.routes);
         self.touch(link);
         tell(made, notes);
     }

@@ -45,7 +45,7 @@ impl Relays {
                 let Some(relay) = self.relays.at(number) else {
                     return;
                 };
-                let made = relay.take_bytes(held, b);
+                let made = relay.take_bytes(held, &mut self.routes, b);
                 self.touch(number);
                 tell(made, notes);
             }
@@ -62,7 +62,7 @@ impl Relays {
                 let Some(relay) = self.relays.at(link) else {
                     return;
                 };
-                let made = relay.up_ended();
+                let made = relay.up_ended(&mut self.routes);
                 self.touch(link);
                 tell(made, notes);
             }
@@ -70,7 +70,7 @@ impl Relays {
                 let Some(relay) = self.relays.at(number) else {
                     return;
                 };
-                let made = relay.ended();
+                let made = relay.ended(&mut self.routes);
                 self.touch(number);
                 tell(made, notes);
             }
@@ -87,7 +87,7 @@ impl Relays {
                 let Some(relay) = self.relays.at(link) else {
                     return;
                 };
-                let made = relay.up_broke();
+                let made = relay.up_broke(&mut self.routes);
                 self.touch(link);
                 tell(made, notes);
             }
@@ -95,7 +95,7 @@ impl Relays {
                 let Some(relay) = self.relays.at(number) else {
                     return;
                 };
-                let made = relay.broke();
+                let made = relay.broke(&mut self.routes);
                 self.touch(number);
                 tell(made, notes);
             }
@@ -113,7 +113,7 @@ impl Relays {
                 let Some(relay) = self.relays.at(link) else {
                     return;
                 };
-                let made = relay.up_wrote(count);
+                let made = relay.up_wrote(count, &mut self.routes);
                 self.touch(link);
                 tell(made, notes);
             }
@@ -121,7 +121,7 @@ impl Relays {
                 let Some(relay) = self.relays.at(number) else {
                     return;
                 };
-                let made = relay.wrote(count);
+                let made = relay.wrote(count, &mut self.routes);
                 self.touch(number);
                 tell(made, notes);
             }

@@ -2,10 +2,11 @@
 //! nothing.
 
 ghost use Rattle.hb_relays.specs.Refused.{LacksUp, FindsClosed, LacksLink, KeepsUnderAnother, KeepsClosed, MissesDial, ForgetsLink};
-ghost use Rattle.hb_relays.specs.Refused.{OneIsShown};
+ghost use Rattle.hb_relays.specs.Refused.{Miscounts, MistakesPort, HasGate, OneIsShown};
 
 /// Each upstream that isn't closed is found, and no other one; each link that is open is kept, under its own number, and none that is
-/// closed; and of a link that isn't among those that may have an act due none is.
+/// closed; and of a link that isn't among those that may have an act due none is. The connections are counted, gateways have their port,
+/// and there is no link to one.
 pub fn other_links_are_not_shown()
     ensures lacks { LacksUp }
     ensures finds { FindsClosed }
@@ -13,6 +14,9 @@ pub fn other_links_are_not_shown()
     ensures number { KeepsUnderAnother }
     ensures closed { KeepsClosed }
     ensures act { MissesDial }
+    ensures counts { Miscounts }
+    ensures port { MistakesPort }
+    ensures gate { HasGate }
 {}
 
 /// A link that is accepted is kept.

@@ -1,6 +1,6 @@
-//! All plain links of a node under their numbers, and under the number of each upstream the link that it is of. Each call
-//! meets the machine of hb_proxy: for each run of the whole that they showed, they show the run with what they were told, and what
-//! follows from that by itself on the links.
+//! All plain links of a node under their numbers, under the number of each upstream the link that it is of, and how many of them are
+//! connections to each endpoint. Each call meets the machine of hb_proxy: for each run of the whole that they showed, they show the run
+//! with what they were told, and what follows from that by itself on the links.
 #![tactic(auto)]
 
 mod acts;

@@ -1,7 +1,8 @@
 //! All plain links.
 
 ghost use Rattle.std.specs.Prelude.{true, ◌≡◌, OnOk};
-ghost use Rattle.hb_captured.specs.Captured.{no_link};
+ghost use Rattle.hb_model.specs.declared.config.NodeConfig.{NodeConfig};
+ghost use Rattle.hb_proxy.specs.Machine.{fresh, outward};
 ghost use Rattle.hb_relays.specs.Calls.{Begins, TurnsAway, count_of};
 ghost use Rattle.hb_relays.specs.Shows.{ShowsRelays};
 ghost use Rattle.hb_relays.specs.Stirring.{Stirs};
@@ -11,7 +12,7 @@ ghost use Rattle.hb_relays.specs.Walks.{touched_at};
 use crate::touched::Touched;
 use hb_base::{Door, NoMemory};
 use hb_map::ById;
-use hb_relay::Relay;
+use hb_relay::{Relay, Routes};
 use std::alloc::Global;
 
 /// The plain links of a node.
@@ -27,12 +28,14 @@ pub struct Relays {
     pub(crate) stirs: Touched,
     /// So it is of the upstream of this link, which was told itself.
     pub(crate) left: Option<u64>,
+    /// How many connections each endpoint has open, and the port of gateways.
+    pub(crate) routes: Routes,
 }
 
 impl Relays {
     /// None: before each link's birth.
-    pub fn new(alloc: Global) -> Relays
-        ensures shows { ShowsRelays result (λ l. no_link) }
+    pub fn new(alloc: Global, hbone_port: u16) -> Relays
+        ensures shows { (g : NodeConfig) → g.hbone_port ≡ hbone_port → ShowsRelays g result (outward (fresh g)) }
         ensures idle { is_idle result.due ≡ true }
     {
         Relays {
@@ -42,6 +45,7 @@ impl Relays {
             due: Touched::new(),
             stirs: Touched::new(),
             left: None,
+            routes: Routes::new(alloc, hbone_port),
         }
     }
 

@@ -78,5 +78,6 @@ impl Relays {
             self.stop_at(number, cause, notes);
             from = first_behind(&self.relays, number);
         }
+        self.routes.forget(self.alloc);
     }
 }

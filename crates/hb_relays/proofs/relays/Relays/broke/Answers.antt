@@ -13,8 +13,9 @@ returns-in-Some-at-clause-meets g c =
     let l = c.in-Some.link in
     let new = c.up_broke-made.new.self in
     let found : get k.ups n ≡ Some l = search rules in
-    up_told any k c.touch.new.self _ c.in-Some-at.relay.now new (g.N.Notes.told c.args.notes.now) (g.N.Notes.told c.tell.new.notes)
-    c.up_broke-made.result c.tell.ensures n (e.Broke n) l c.touch.ensures (c.at.follows.holds new) found c.in-Some-at.ensures.value
+    up_told any k c.touch.new.self _ c.up_broke-made.new.routes c.in-Some-at.relay.now new
+    (g.N.Notes.told c.args.notes.now) (g.N.Notes.told c.tell.new.notes) c.up_broke-made.result c.tell.ensures
+    n (e.Broke n) l c.touch.ensures (c.at.follows.holds new) found c.in-Some-at.ensures.value
     (λ x. record { up = refl; closed = refl }) (c.up_broke-made.ensures n)
 
 pub returns-in-Some-at-2-clause-meets : goal.returns-in-Some-at-2-clause-meets
@@ -23,16 +24,16 @@ returns-in-Some-at-2-clause-meets g c =
     let n = c.args.number in
     let new = c.broke-made.new.self in
     let none : get k.ups n ≡ None = search rules in
-    own_told any k c.touch-in-None.new.self _ c.in-Some-at-2.relay.now new (g.N.Notes.told c.args.notes.now)
+    own_told any k c.touch-in-None.new.self _ c.broke-made.new.routes c.in-Some-at-2.relay.now new (g.N.Notes.told c.args.notes.now)
     (g.N.Notes.told c.tell-in-None.new.notes) c.broke-made.result c.tell-in-None.ensures n (λ i. e.Broke i) c.touch-in-None.ensures
     (c.at-in-None.follows.holds new) none c.in-Some-at-2.ensures.value (λ x. record { up = refl; closed = refl }) c.broke-made.ensures
 
 pub returns-in-Some-at-clause-stirs : goal.returns-in-Some-at-clause-stirs
 returns-in-Some-at-clause-stirs g c =
-    told_stirs c.args.self.now c.touch.new.self _ c.in-Some.link c.up_broke-made.new.self c.touch.ensures
+    told_stirs c.args.self.now c.touch.new.self _ c.up_broke-made.new.routes c.in-Some.link c.up_broke-made.new.self c.touch.ensures
     (c.at.follows.holds c.up_broke-made.new.self)
 
 pub returns-in-Some-at-2-clause-stirs : goal.returns-in-Some-at-2-clause-stirs
 returns-in-Some-at-2-clause-stirs g c =
-    told_stirs c.args.self.now c.touch-in-None.new.self _ c.args.number c.broke-made.new.self c.touch-in-None.ensures
-    (c.at-in-None.follows.holds c.broke-made.new.self)
+    told_stirs c.args.self.now c.touch-in-None.new.self _ c.broke-made.new.routes c.args.number c.broke-made.new.self
+    c.touch-in-None.ensures (c.at-in-None.follows.holds c.broke-made.new.self)

@@ -16,7 +16,7 @@ returns-clause-stirs g c =
     let new = c.judge-made.new.self in
     elim c.if-is_some.branch [
       | then-is_some w ↦ subst (λ (m : Relays). Stirs k m) (sym w.self-is)
-          (told_stirs k w.touch.new.self _ c.args.number new w.touch.ensures (c.at.follows.holds new))
+          (told_stirs k w.touch.new.self _ k.routes c.args.number new w.touch.ensures (c.at.follows.holds new))
       | else-is_some w ↦ spared_stirs k c.if-is_some.self _ c.args.number c.in-Some.relay.now new c.in-Some.ensures.value
           (unmade c.judge-made.result (sym c.is_some.ensures ∙ w.if-is_some.false) c.judge-made.ensures.same)
           (c.at.follows.holds new) w.self-is

@@ -1,5 +1,6 @@
 use Rattle.std.proofs.Common.{Option, subst}
-use Rattle.hb_relays.proofs.Stirs.{none_stirs, stirs_all_then}
+use Rattle.hb_relays.specs.Walks.{routes_with}
+use Rattle.hb_relays.proofs.Stirs.{none_stirs, routed_stirs, stirs_all_then}
 use Rattle.hb_relays.proofs.Applying.{Stopping, stopped_starts, stopped_goes, stopped_ends, first_is}
 use Rattle.hb_relays.proofs.relays.Relays.stopped.Goals as goal
 
@@ -24,6 +25,12 @@ loop-from-preserved g c = record {
 
 pub returns-clause-meets : goal.returns-clause-meets
 returns-clause-meets g c =
-    stopped_ends c.args.cause c.args.self.now c.loop-from.self (g.N.Notes.told c.args.notes.now) (g.N.Notes.told c.loop-from.notes)
+    stopped_ends c.args.cause c.args.self.now c.loop-from.self c.forget.new.self (g.N.Notes.told c.args.notes.now)
+    (g.N.Notes.told c.loop-from.notes) c.forget.ensures
     (subst (λ (from : Option _). Stopping c.args.cause c.args.self.now c.loop-from.self from (g.N.Notes.told c.args.notes.now)
     (g.N.Notes.told c.loop-from.notes)) c.in_default.is c.loop-from.invariant.told)
+
+pub returns-clause-stirs : goal.returns-clause-stirs
+returns-clause-stirs g c =
+    stirs_all_then c.args.self.now c.loop-from.self (routes_with c.forget.new.self c.loop-from.self) c.loop-from.invariant.stirs
+    (routed_stirs c.loop-from.self c.forget.new.self)
