@@ -19,6 +19,7 @@ use Rattle.hb_proxy.specs.Machine.{Machine, with_control}
 use Rattle.hb_proxy.specs.Points.{of_control}
 use Rattle.hb_proxy.specs.Runs.{Steps, goes_on}
 use Rattle.hb_proxy.specs.Seen.{Seen, IsThere}
+use Rattle.hb_relays.proofs.Gateless.{shown_let}
 use Rattle.hb_turns.specs.Shown as shown
 use Rattle.hb_world.proofs.TraceLemmas.{any-grows}
 use Rattle.hb_world.specs.Trace.{lives, was_born, was_closed, is_close_of}
@@ -128,7 +129,8 @@ module _ (taken : List Note) (p : Proxy) (n : State) (l : ℕ) (cause : Cause)
         record {
           birth = tt;
           links = λ k. all_calm p.side.links x.inbound s.links k;
-          plain = λ k. plain_calm p.side.relays x.plain s.relays k;
+          plain = λ k. plain_calm p.side.relays s.relays k;
+          gates = shown_let p.control.config p.side.relays x s.relays true;
         },
         refl,
       ) in

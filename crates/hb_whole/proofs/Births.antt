@@ -21,7 +21,7 @@ use Rattle.hb_model.specs.Machine.{Machine as Control}
 use Rattle.hb_node.specs.State.{Shows}
 use Rattle.hb_proxy.proofs.Doors.{doors_tell_none}
 use Rattle.hb_proxy.specs.Doors.{is_at_door}
-use Rattle.hb_proxy.specs.Machine.{Machine, with_part, with_plain}
+use Rattle.hb_proxy.specs.Machine.{Machine, outward, with_part, with_plain}
 use Rattle.hb_proxy.specs.Notes.{notes, note_in}
 use Rattle.hb_proxy.specs.Points.{Point, of_link, of_plain, entry_in}
 use Rattle.hb_proxy.specs.Runs.{Steps}
@@ -129,7 +129,7 @@ module _ (taken : List Note) (p : Proxy) (new : Links) (l : ℕ) (trace : List E
         reached = did.0;
         leads = (inr refl, did.0, did.1, refl);
         links = did.2;
-        relays = subst (λ (w : Machine). ShowsRelays p.side.relays w.plain) (sym did.1.3) s.relays;
+        relays = subst (λ (w : Machine). ShowsRelays p.control.config p.side.relays (outward w)) (sym did.1.3) s.relays;
         noted = takes_none (told p.side.notes);
       }
 

@@ -1,6 +1,7 @@
 -- A new link's number is none that the control plane's machine has.
 use Rattle.std.proofs.Common.{◌≡◌, ℕ, ◌+◌, ◌≤◌, List, [], refl, sym, subst, arith}
 use Rattle.hb_captured.specs.Part as plain
+use Rattle.hb_gateway.specs.Part as gate
 use Rattle.hb_inbound.specs.Part as part
 use Rattle.hb_inbound.specs.Part.{Part}
 use Rattle.hb_model.specs.Machine as control
@@ -10,8 +11,8 @@ use Rattle.hb_model.specs.Point.{Point as Q}
 use Rattle.hb_model.specs.Runs as model
 use Rattle.hb_model.specs.declared.config.NodeConfig.{NodeConfig}
 use Rattle.hb_proxy.specs.Machine.{Machine, born_by, born_after}
-use Rattle.hb_proxy.specs.Points.{Point, of_control, of_link, of_plain}
-use Rattle.hb_proxy.specs.Runs.{Steps, StandsFor, begins, goes_on, BirthMayCome, LinkGuard, PlainGuard}
+use Rattle.hb_proxy.specs.Points.{Point, of_control, of_link, of_plain, of_gate, of_stream}
+use Rattle.hb_proxy.specs.Runs.{Steps, StandsFor, begins, goes_on, BirthMayCome, GateGuard, LinkGuard, PlainGuard}
 use Rattle.hb_world.specs.declared.entry.Entry.{Entry}
 use Rattle.hb_world.specs.declared.entry.Entry.TheVariants as e
 
@@ -82,20 +83,43 @@ link_above x l (part.credited s n) guard = none_born x.born [] refl
 link_above x l (part.applied r) guard = absurd guard
 link_above x l (part.stopped why) guard = absurd guard
 
-plain_above : (x : Machine) (l : ℕ) (p : plain.Part) → PlainGuard x l p → x.born ≤ born_after x.born (plain.entry_in p)
-plain_above x l (plain.entry z) guard = birth_above x z guard.birth
-plain_above x l (plain.up z) guard = birth_above x z guard.birth
-plain_above x l plain.welcomed guard = none_born x.born [] refl
-plain_above x l plain.crowded guard = none_born x.born [] refl
-plain_above x l plain.lacked guard = none_born x.born [] refl
-plain_above x l (plain.misfronted fault) guard = none_born x.born [] refl
-plain_above x l (plain.fronted seen to) guard = none_born x.born [] refl
-plain_above x l (plain.refused seen why status made) guard = none_born x.born [] refl
-plain_above x l (plain.accepted made) guard = none_born x.born [] refl
-plain_above x l (plain.left made) guard = none_born x.born [] refl
-plain_above x l (plain.done made) guard = none_born x.born [] refl
-plain_above x l (plain.applied r) guard = absurd guard
-plain_above x l (plain.stopped why) guard = absurd guard
+plain_above : (g : NodeConfig) (x : Machine) (l : ℕ) (p : plain.Part) → PlainGuard g x l p → x.born ≤ born_after x.born (plain.entry_in p)
+plain_above g x l (plain.entry z) guard = birth_above x z guard.birth
+plain_above g x l (plain.up z) guard = birth_above x z guard.0.birth
+plain_above g x l plain.welcomed guard = none_born x.born [] refl
+plain_above g x l plain.crowded guard = none_born x.born [] refl
+plain_above g x l plain.lacked guard = none_born x.born [] refl
+plain_above g x l (plain.misfronted fault) guard = none_born x.born [] refl
+plain_above g x l (plain.fronted seen routing aim) guard = none_born x.born [] refl
+plain_above g x l (plain.refused seen routing why status made) guard = none_born x.born [] refl
+plain_above g x l (plain.accepted made) guard = none_born x.born [] refl
+plain_above g x l plain.roomless guard = none_born x.born [] refl
+plain_above g x l (plain.asked gate stream) guard = absurd guard
+plain_above g x l (plain.hears heard begun) guard = absurd guard
+plain_above g x l (plain.put bytes) guard = absurd guard
+plain_above g x l plain.finished guard = absurd guard
+plain_above g x l (plain.credited n) guard = absurd guard
+plain_above g x l (plain.loosed begun) guard = absurd guard
+plain_above g x l (plain.completed begun made) guard = absurd guard
+plain_above g x l (plain.left made) guard = none_born x.born [] refl
+plain_above g x l (plain.done made) guard = none_born x.born [] refl
+plain_above g x l (plain.applied r) guard = absurd guard
+plain_above g x l (plain.stopped why) guard = absurd guard
+
+gate_above : (x : Machine) (n : ℕ) (p : gate.Part) → GateGuard x n p → x.born ≤ born_after x.born (gate.entry_in p)
+gate_above x n (gate.entry z) guard = birth_above x z guard.birth
+gate_above x n (gate.dialled z key) guard = birth_above x z guard.0.birth
+gate_above x n gate.lacked guard = none_born x.born [] refl
+gate_above x n (gate.looked ps told headers) guard = none_born x.born [] refl
+gate_above x n (gate.asks s captured authority) guard = absurd guard
+gate_above x n (gate.tells s heard begun) guard = absurd guard
+gate_above x n (gate.put s bytes count) guard = absurd guard
+gate_above x n (gate.finished s) guard = absurd guard
+gate_above x n (gate.credited s k) guard = absurd guard
+gate_above x n (gate.reset s code) guard = none_born x.born [] refl
+gate_above x n (gate.dropped s begun) guard = absurd guard
+gate_above x n (gate.done s begun) guard = absurd guard
+gate_above x n (gate.stopped why) guard = absurd guard
 
 step_below : (g : NodeConfig) (x y : Machine) (p : Point) → Steps g x p y → x.control.born ≤ x.born → y.control.born ≤ y.born
 step_below g x y (of_control q) steps below =
@@ -105,9 +129,14 @@ step_below g x y (of_link l p) steps below =
     let so : x.control.born ≤ born_after x.born (part.entry_in p) = omega (arith, above, below) in
     subst (λ (w : Machine). w.control.born ≤ w.born) (sym steps.3) so
 step_below g x y (of_plain l p) steps below =
-    let above = plain_above x l p steps.1 in
+    let above = plain_above g x l p steps.1 in
     let so : x.control.born ≤ born_after x.born (plain.entry_in p) = omega (arith, above, below) in
     subst (λ (w : Machine). w.control.born ≤ w.born) (sym steps.2) so
+step_below g x y (of_gate n p) steps below =
+    let above = gate_above x n p steps.2 in
+    let so : x.control.born ≤ born_after x.born (gate.entry_in p) = omega (arith, above, below) in
+    subst (λ (w : Machine). w.control.born ≤ w.born) (sym steps.3) so
+step_below g x y (of_stream l n i w) steps below = subst (λ (w : Machine). w.control.born ≤ w.born) (sym steps.4) below
 
 -- the control plane's last link was no later than the last of all
 pub born_below : (g : NodeConfig) (x : Machine) (points : List Point) → StandsFor g x points → x.control.born ≤ x.born

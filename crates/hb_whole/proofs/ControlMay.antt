@@ -121,6 +121,7 @@ free_control x z free birth = record {
   birth = birth;
   links = λ l. lets_all (goes_first x.control z) (x.inbound l) (free.links l);
   plain = λ l. plain_lets_all (goes_first x.control z) (x.plain l) (free.plain l);
+  gates = free.gates (goes_first x.control z);
 }
 
 module _ (x : Machine) (l : ℕ) (free : Free x) (there : IsThere (x.control.links l).phase) (opens : Bool)

@@ -14,7 +14,7 @@ use Rattle.hb_model.specs.Point.{Point as Q}
 use Rattle.hb_model.specs.declared.config.NodeConfig.{NodeConfig}
 use Rattle.hb_node.specs.Judging.{Judged, held_behind}
 use Rattle.hb_node.specs.State.{Inner}
-use Rattle.hb_proxy.specs.Machine.{Machine, with_control}
+use Rattle.hb_proxy.specs.Machine.{Machine, outward, with_control}
 use Rattle.hb_proxy.specs.Notes.{notes}
 use Rattle.hb_proxy.specs.Points.{Point, of_control, entries}
 use Rattle.hb_proxy.specs.Runs.{Steps, StandsFor, goes_on}
@@ -32,20 +32,20 @@ pub record Goes (g : NodeConfig) (points : List Point) (n : Control) (a b : Side
   pub run : StandsFor g machine (points ++ more)
   pub control : machine.control ≡ n
   pub links : ShowsAll b.links machine.inbound
-  pub relays : ShowsRelays b.relays machine.plain
+  pub relays : ShowsRelays g b.relays (outward machine)
   pub silent : entries more ≡ []
   pub noted : Takes (told a.notes) (notes more) (told b.notes)
 
 -- it stays where it is
 goes_none : (g : NodeConfig) (x : Machine) (points : List Point) (n : Control) (a b : Side) → StandsFor g x points → x.control ≡ n
-    → ShowsAll a.links x.inbound → ShowsRelays a.relays x.plain → b ≡ a → Goes g points n a b
+    → ShowsAll a.links x.inbound → ShowsRelays g a.relays (outward x) → b ≡ a → Goes g points n a b
 goes_none g x points n a b run is shows relays same = record {
   machine = x;
   more = [];
   run = subst (λ (ps : List Point). StandsFor g x ps) (sym (append-nil points)) run;
   control = is;
   links = subst (λ (c : Side). ShowsAll c.links x.inbound) (sym same) shows;
-  relays = subst (λ (c : Side). ShowsRelays c.relays x.plain) (sym same) relays;
+  relays = subst (λ (c : Side). ShowsRelays g c.relays (outward x)) (sym same) relays;
   silent = refl;
   noted = subst (λ (c : Side). Takes (told a.notes) [] (told c.notes)) (sym same) (takes_none (told a.notes));
 }
@@ -75,7 +75,7 @@ module _ (g : NodeConfig) where
       (subst (λ (ns : List Note). Takes (told a.notes) ns (told a.notes)) (sym none) (takes_none (told a.notes))) goes
 
   pub goes : (x : Machine) (points : List Point) (qs : List Q) (n : Control) (a b : Side) → StandsFor g x points
-      → ShowsAll a.links x.inbound → ShowsRelays a.relays x.plain → Inner g x.control qs n
+      → ShowsAll a.links x.inbound → ShowsRelays g a.relays (outward x) → Inner g x.control qs n
       → Judged Judges (held_behind x.control.held qs) a b → Goes g points n a b
   goes x points [] n a b run shows relays inner judged = goes_none g x points n a b run (sym inner) shows relays judged
   goes x points (point.entry z ∷ qs) n a b run shows relays inner judged = absurd inner.0

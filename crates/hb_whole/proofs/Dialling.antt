@@ -7,7 +7,7 @@ use Rattle.hb_base.specs.declared.door.Why.{Why}
 use Rattle.hb_base.specs.declared.door.Why.TheVariants as whys
 use Rattle.hb_base.specs.declared.note.Note.{Note}
 use Rattle.hb_base.specs.declared.target.Target.{Target}
-use Rattle.hb_captured.specs.Answer.{why_at}
+use Rattle.hb_captured.specs.Answer.{address_of, key_of, why_for}
 use Rattle.hb_captured.specs.Captured as captured
 use Rattle.hb_captured.specs.Part as plain
 use Rattle.hb_captured.specs.Runs as captured_runs
@@ -36,9 +36,10 @@ use Rattle.hb_node.specs.State.{State, ShowsLink as ShowsControl, number_of}
 use Rattle.hb_node.specs.declared.link.Link.{Link as ControlLink}
 use Rattle.hb_proxy.proofs.Projection.{control_runs}
 use Rattle.hb_proxy.specs.Doors.{is_at_door}
-use Rattle.hb_proxy.specs.Machine.{Machine, with_part, with_plain}
+use Rattle.hb_proxy.specs.Machine.{Machine, outward, with_part, with_plain}
 use Rattle.hb_proxy.specs.Points.{of_link, of_plain, control_of}
 use Rattle.hb_proxy.specs.Runs.{BirthMayCome, ControlMayCome, ControlRests, LinkMayCome, Lets, PlainLets, PlainMayCome, Steps, goes_first, is_act, link_first, is_link_faulted}
+use Rattle.hb_relays.proofs.Gateless.{dials_gate, shown_let}
 use Rattle.hb_relays.specs.Calls as relays
 use Rattle.hb_relays.specs.Reaches as relays_reach
 use Rattle.hb_relays.specs.Shows.{ShowsRelays}
@@ -94,7 +95,8 @@ calm_control taken p trace s z act first birth = record {
   links = λ l. subst (λ (b : Bool). Lets b (s.machine.inbound l)) (sym (first s.machine.control))
       (all_calm p.side.links s.machine.inbound s.links l);
   plain = λ l. subst (λ (b : Bool). PlainLets b (s.machine.plain l)) (sym (first s.machine.control))
-      (plain_calm p.side.relays s.machine.plain s.relays l);
+      (plain_calm p.side.relays s.relays l);
+  gates = shown_let p.control.config p.side.relays s.machine s.relays (goes_first s.machine.control z);
 }
 
 pub control_fails : (p : Proxy) (n : State) (why : Why) → why ≡ whys.Discovery → node.Answers why None p.control n
@@ -188,7 +190,8 @@ up_guard taken p trace s l z rests act birth = record {
   others = λ j apart. subst (λ (b : Bool). Lets b (s.machine.inbound j)) (sym (act_first (s.machine.inbound l).phase z act))
       (all_calm p.side.links s.machine.inbound s.links j);
   plain = λ j. subst (λ (b : Bool). PlainLets b (s.machine.plain j)) (sym (act_first (s.machine.inbound l).phase z act))
-      (plain_calm p.side.relays s.machine.plain s.relays j);
+      (plain_calm p.side.relays s.relays j);
+  gates = shown_let p.control.config p.side.relays s.machine s.relays (link_first (s.machine.inbound l).phase z);
 }
 
 -- what comes of it is told
@@ -202,7 +205,7 @@ up_told p side l k z same door meets stirs taken trace s going may guard =
     let next = with_part l (part.up k z) (at_stream k (up_entered z) (s.machine.inbound l)) s.machine in
     door_told taken p side trace z s (of_link l (part.up k z)) next going steps refl door refl refl
     (links_follow p.control.config next (told p.side.notes) side unguarded
-    (subst (λ (r : Relays). ShowsRelays r s.machine.plain) (sym same) s.relays)
+    (subst (λ (r : Relays). ShowsRelays p.control.config r (outward s.machine)) (sym same) s.relays)
     (meets p.control.config s.machine next s.points s.run s.links tt steps))
     (λ j. links_stir p.side side j same (stirs j))
 
@@ -242,9 +245,10 @@ record PlainDue (taken : List Note) (p : Proxy) (trace : List Entry) (s : Stands
     (l : ℕ) : Type 0 where
   pub going : p.ends_for ≡ None
   pub rests : ControlRests s.machine.control
-  pub why_is : why ≡ why_at (s.machine.plain l).door l
+  pub why_is : why ≡ why_for (s.machine.plain l).aim (s.machine.plain l).door l
   pub stage : (s.machine.plain l).stage ≡ captured.due
-  pub address : to ≡ (s.machine.plain l).address
+  pub straight : key_of (s.machine.plain l).aim ≡ None
+  pub address : to ≡ address_of (s.machine.plain l).aim
 
 no_plain_end : (x : Machine) (l : ℕ) (ends : Option Cause) → (x.plain l).stage ≡ captured.due → EndsBy ends x → ends ≡ None
 no_plain_end x l None due is = refl
@@ -265,7 +269,8 @@ due_of_plain taken p trace s to why l for dials =
       rests = due.0;
       why_is = due.1;
       stage = due.2;
-      address = due.3;
+      straight = due.3;
+      address = due.4;
     }
 
 plain_guard : (taken : List Note) (p : Proxy) (trace : List Entry) (s : Stands taken p trace) (l : ℕ) (z : Entry)
@@ -275,7 +280,8 @@ plain_guard taken p trace s l z rests act birth = record {
   control = rests;
   links = λ j. subst (λ (b : Bool). Lets b (s.machine.inbound j)) (sym act) (all_calm p.side.links s.machine.inbound s.links j);
   others = λ j apart. subst (λ (b : Bool). PlainLets b (s.machine.plain j)) (sym act)
-      (plain_calm p.side.relays s.machine.plain s.relays j);
+      (plain_calm p.side.relays s.relays j);
+  gates = shown_let p.control.config p.side.relays s.machine s.relays (is_act z);
 }
 
 plain_told : (p : Proxy) (side : Side) (l : ℕ) (z : Entry) → side.links ≡ p.side.links → is_at_door z ≡ false
@@ -285,7 +291,8 @@ plain_told : (p : Proxy) (side : Side) (l : ℕ) (z : Entry) → side.links ≡ 
     → Stands taken (with_side side p) (trace ++ z ∷ []) × shown.Stirs (trace ++ z ∷ []) (shown_of p) (shown_of (with_side side p))
 plain_told p side l z same door meets stirs taken trace s going may guard =
     let next = with_plain l (plain.up z) (captured.up_entered z (s.machine.plain l)) s.machine in
-    let steps : Steps p.control.config s.machine (of_plain l (plain.up z)) next = (may, guard, refl) in
+    let steps : Steps p.control.config s.machine (of_plain l (plain.up z)) next =
+    (may, (guard, dials_gate s.machine s.relays.no_gates l), refl) in
     door_told taken p side trace z s (of_plain l (plain.up z)) next going steps refl door refl refl
     (relays_follow p.control.config next (told p.side.notes) side
     (subst (λ (k : Links). ShowsAll k s.machine.inbound) (sym same) s.links)
@@ -299,7 +306,7 @@ plain_fails p side why l for same fails stirs to taken trace s may =
     let z = e.DialFailed to why in
     let due = due_of_plain taken p trace s to why l for may in
     plain_told p side l z same refl (fails to why) stirs taken trace s due.going
-    ((plain_calm p.side.relays s.machine.plain s.relays l, due.stage, due.address), due.why_is)
+    (plain_calm p.side.relays s.relays l, due.stage, due.address, due.why_is)
     (plain_guard taken p trace s l z due.rests refl tt)
 
 plain_dialled : (p : Proxy) (new : Relays) (why : Why) (l u : ℕ) → IsFor l why → relays.Dials l u p.side.relays new
@@ -316,7 +323,7 @@ plain_dialled p new why l u for dials stirs to taken trace s may =
     plain_told p (record p.side { relays = new }) l z refl refl
     (quiet_relays relays_reach.any (of_plain l (plain.up z)) p.side.relays new (told p.side.notes) (dials to why))
     stirs taken trace s due.going
-    ((plain_calm p.side.relays s.machine.plain s.relays l, due.stage, due.address), due.why_is, omega (arith, next), apart)
+    ((plain_calm p.side.relays s.relays l, due.stage, due.address, due.why_is), due.straight, omega (arith, next), apart)
     (plain_guard taken p trace s l z due.rests refl next)
 
 -- ANSWERS TO DIALS, BY WHAT THEY ARE

@@ -34,13 +34,15 @@ use Rattle.hb_model.specs.Runs.{IsCalmBy}
 use Rattle.hb_model.specs.declared.config.NodeConfig.{NodeConfig}
 use Rattle.hb_node.specs.State as node
 use Rattle.hb_node.specs.State.{State, Shows, due_of, closing_of}
-use Rattle.hb_proxy.specs.Machine.{Machine, local, plain_local, with_control}
-use Rattle.hb_proxy.specs.Points.{Point, of_control, of_link, of_plain, entries}
+use Rattle.hb_proxy.specs.Machine.{Machine, local, outward, plain_local, with_control}
+use Rattle.hb_proxy.specs.Points.{Point, of_control, of_link, of_plain, of_gate, of_stream, entries}
 use Rattle.hb_proxy.specs.Runs.{Steps, StandsFor, goes_on}
 use Rattle.hb_proxy.specs.Seen.{IsThere, IsLinkThere, IsPlainThere, HasLink}
 use Rattle.hb_proxy.specs.Ups.{up_by}
 use Rattle.hb_relay.specs.Reaches as relay
+use Rattle.hb_relays.proofs.Gateless.{all_told}
 use Rattle.hb_relays.specs.Calls as relays
+use Rattle.hb_relays.specs.Shows.{ShowsRelays}
 use Rattle.hb_relays.specs.Touched as touched
 use Rattle.hb_turns.specs.Shown.{StandsForNone, Stops}
 use Rattle.hb_world.specs.Trace.{lives}
@@ -51,6 +53,7 @@ use Rattle.hb_whole.specs.Stands.{Stands, EndsBy, Ends, ControlEnds, LinkEnds, P
 use Rattle.hb_whole.specs.declared.proxy.Proxy.{Proxy}
 use Rattle.hb_whole.specs.declared.side.Side.{Side}
 use Rattle.hb_whole.proofs.Free.{calm_of, control_rests, goes_on as runs_on, none_of}
+use Rattle.hb_whole.proofs.Gates.{none_there}
 use Rattle.hb_whole.proofs.Growing.{notes_grow}
 use Rattle.hb_whole.proofs.LinkGiving.{ends_at}
 use Rattle.hb_whole.proofs.Leading.{Follows, IsInner, Leads, both_follow, inner_silent, inner_control, entries_more, stands_behind}
@@ -117,7 +120,7 @@ none_lives p c ends due idle idle_too taken trace s l =
     so = (subst (λ (o : Option Cause). EndsBy o x) ends s.ends).1
 
     quiet : (k : ℕ) → calm.IsQuiet (x.plain k)
-    quiet = plain_quiet p.side.relays x.plain idle_too s.relays
+    quiet = plain_quiet p.side.relays idle_too s.relays
 
     dead : HasLink x l → ⊥
     dead (inl there) =
@@ -128,8 +131,9 @@ none_lives p c ends due idle idle_too taken trace s l =
         up_gone c ((x.inbound joins.0).tunnels joins.1).stage ((x.inbound joins.0).tunnels joins.1) l (so.tunnels joins.0 joins.1)
         ((all_calm p.side.links x.inbound s.links joins.0).answered joins.1)
         ((none_is_due p.side.links x.inbound idle s.links joins.0).idle joins.1) joins.2.0 joins.2.1
-    dead (inr (inr (inr (inl there)))) = plain_gone c (x.plain l) (so.plain l) (quiet l) there
-    dead (inr (inr (inr (inr up)))) =
+    dead (inr (inr (inr (inr there)))) = none_there s.relays l there
+    dead (inr (inr (inr (inl (inl there))))) = plain_gone c (x.plain l) (so.plain l) (quiet l) there
+    dead (inr (inr (inr (inl (inr up))))) =
         relay_gone c (x.plain up.0) (so.plain up.0) (relay_at taken p trace s up.0 l (quiet up.0) up.1)
 
 -- WHAT FOLLOWS BY ITSELF BEHIND THE END
@@ -224,6 +228,19 @@ left_plain c plain.opening x ends = absurd ends
 left_plain c plain.accepting x ends = absurd ends
 left_plain c plain.live x ends = absurd ends
 
+-- memory lacks for none
+plain_lacks : (c : Cause) (stage : plain.Stage) (x : Captured) → PlainEndsBy c stage x → captured.Lacks stage x → ⊥
+plain_lacks c plain.unborn x ends lacks = lacks
+plain_lacks c (plain.failed why) x ends lacks = lacks
+plain_lacks c (plain.ended why) x ends lacks = lacks
+plain_lacks c (plain.over why) x ends lacks = lacks
+plain_lacks c plain.arriving x ends lacks = ends
+plain_lacks c plain.fronting x ends lacks = ends
+plain_lacks c plain.due x ends lacks = ends
+plain_lacks c plain.opening x ends lacks = ends
+plain_lacks c plain.accepting x ends lacks = ends
+plain_lacks c plain.live x ends lacks = ends
+
 module _ (c : Cause) (l : ℕ) (a : captured.Local) (ends : PlainEnds c a.link) where
   never_plain : (stage : plain.Stage) → a.link.stage ≡ stage → PlainEndsBy c stage a.link
   never_plain stage is = subst (λ (r : plain.Stage). PlainEndsBy c r a.link) is ends
@@ -233,11 +250,19 @@ module _ (c : Cause) (l : ℕ) (a : captured.Local) (ends : PlainEnds c a.link) 
   plain_step (plain_part.up z) inner may = absurd inner
   plain_step plain_part.welcomed inner may = absurd (never_plain plain.arriving may)
   plain_step plain_part.crowded inner may = absurd inner
-  plain_step plain_part.lacked inner may = absurd inner
+  plain_step plain_part.lacked inner may = absurd (plain_lacks c a.link.stage a.link ends may)
   plain_step (plain_part.misfronted fault) inner may = absurd (never_plain plain.fronting may.0)
-  plain_step (plain_part.fronted seen to) inner may = absurd (never_plain plain.fronting may.0.0)
-  plain_step (plain_part.refused seen why status made) inner may = absurd (never_plain plain.fronting may.0.0)
+  plain_step (plain_part.fronted seen routing aim) inner may = absurd (never_plain plain.fronting may.0.0)
+  plain_step (plain_part.refused seen routing why status made) inner may = absurd (never_plain plain.fronting may.0.0)
   plain_step (plain_part.accepted made) inner may = absurd (never_plain plain.accepting may.0)
+  plain_step plain_part.roomless inner may = absurd (never_plain plain.due may.0)
+  plain_step (plain_part.asked gate stream) inner may = absurd inner
+  plain_step (plain_part.hears heard begun) inner may = absurd inner
+  plain_step (plain_part.put bytes) inner may = absurd inner
+  plain_step plain_part.finished inner may = absurd inner
+  plain_step (plain_part.credited n) inner may = absurd inner
+  plain_step (plain_part.loosed begun) inner may = absurd inner
+  plain_step (plain_part.completed begun made) inner may = absurd inner
   plain_step (plain_part.left made) inner may = left_plain c a.link.stage a.link ends
   plain_step (plain_part.done made) inner may = absurd (never_plain plain.live may.0)
   plain_step (plain_part.applied r) inner may = absurd inner
@@ -259,6 +284,8 @@ step_so c g x y (of_plain l p) inner steps ends =
     (λ is. absurd (never_plain c l a (ends.plain l) plain.arriving
     (subst (λ (w : plain_part.Part). captured.MayGo l a w) is steps.0))) inner in
     subst (λ (w : Machine). Ends c w) (sym steps.2) (plain_ends_at c x l p (captured.next_link (x.plain l) p) at ends)
+step_so c g x y (of_gate n p) inner steps ends = absurd inner
+step_so c g x y (of_stream l n i w) inner steps ends = absurd inner
 
 inner_ends : (c : Cause) (g : NodeConfig) (x y : Machine) (more : List Point) → Leads g x more y → Ends c x → Ends c y
 inner_ends c g x y [] is ends = subst (λ (w : Machine). Ends c w) (sym is) ends
@@ -334,7 +361,7 @@ stops p n side between c control_stops_so links_stop relays_stop going none take
       ∙ sym (entries_more s.points (of_control (point.stopped c) ∷ follows.more));
   control = subst (λ (w : Control). Shows n w) (sym control_is) (control_stops_so.1 x.control s.control);
   links = follows.links;
-  relays = follows.relays;
+  relays = subst (λ (g : NodeConfig). ShowsRelays g side.relays (outward follows.reached)) (sym control_stops_so.0) follows.relays;
   noted = notes_grow taken (told p.side.notes) (told side.notes) s.points (of_control (point.stopped c) ∷ follows.more) follows.noted
       s.noted;
   dial = tt;
@@ -355,7 +382,7 @@ stops p n side between c control_stops_so links_stop relays_stop going none take
     idle = and_parts _ _ parts.1
 
     quiet : (l : ℕ) → calm.IsQuiet (x.plain l)
-    quiet = plain_quiet p.side.relays x.plain idle.1 s.relays
+    quiet = plain_quiet p.side.relays idle.1 s.relays
 
     steps : Steps p.control.config x (of_control (point.stopped c)) y
     steps = (
@@ -364,6 +391,7 @@ stops p n side between c control_stops_so links_stop relays_stop going none take
       record {
         links = λ l. (all_calm p.side.links x.inbound s.links l).answered;
         plain = λ l. (quiet l).0;
+        gates = all_told x s.relays.no_gates;
       },
       refl,
     )

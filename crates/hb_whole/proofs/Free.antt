@@ -25,7 +25,8 @@ use Rattle.hb_node.specs.Phases.{phase_of}
 use Rattle.hb_node.specs.State.{State, Shows, ShowsLink, IsGone, due_of, closing_of, number_of}
 use Rattle.hb_node.specs.declared.link.Link.{Link}
 use Rattle.hb_proxy.specs.Machine.{Machine}
-use Rattle.hb_proxy.specs.Runs.{ControlRests, Lets, PlainLets}
+use Rattle.hb_proxy.specs.Runs.{ControlRests, DialsGate, GatesLet, Lets, PlainLets}
+use Rattle.hb_relays.proofs.Gateless.{dials_gate, shown_let}
 use Rattle.hb_relays.specs.Touched as touched
 use Rattle.hb_turns.specs.Shown.{IsFree}
 use Rattle.hb_world.specs.declared.entry.Entry.{Entry}
@@ -118,10 +119,13 @@ plain_lets_all false x quiet = quiet
 
 -- THE PROXY
 
+-- also on the links to gateways, of which none takes a tunnel
 pub record Free (x : Machine) : Type 0 where
   pub control : model.IsQuiet x.control
   pub links : (l : ℕ) → IsQuiet (x.inbound l)
   pub plain : (l : ℕ) → captured.IsQuiet (x.plain l)
+  pub gates : (first : Bool) → GatesLet first x
+  pub dials : (l : ℕ) → DialsGate x l
 
 idle_parts : (p : Proxy) (ends : Option Cause) → ends ≡ None → idle_by ends p ≡ true
     → (is_none (due_of p.control) ≡ true) × (is_idle p.side ≡ true)
@@ -139,5 +143,7 @@ free taken p trace s is =
       control = control_quiet p.control s.machine.control s.control (none_of (due_of p.control) parts.0)
           (goes_on p s.machine s.ends is.0);
       links = all_quiet p.side.links s.machine.inbound doors.0 s.links;
-      plain = plain_quiet p.side.relays s.machine.plain doors.1 s.relays;
+      plain = plain_quiet p.side.relays doors.1 s.relays;
+      gates = shown_let p.control.config p.side.relays s.machine s.relays;
+      dials = dials_gate s.machine s.relays.no_gates;
     }

@@ -22,7 +22,7 @@ use Rattle.hb_node.specs.State.{State, Shows}
 use Rattle.hb_proxy.proofs.Owned.{all_owned, whose_in}
 use Rattle.hb_proxy.proofs.Projection.{control_runs}
 use Rattle.hb_proxy.specs.Doors.{is_at_door}
-use Rattle.hb_proxy.specs.Machine.{Machine}
+use Rattle.hb_proxy.specs.Machine.{Machine, outward}
 use Rattle.hb_proxy.specs.Notes.{notes}
 use Rattle.hb_proxy.specs.Owners.{Owner, nobody}
 use Rattle.hb_proxy.specs.Points.{Point, control_of, entries}
@@ -54,7 +54,8 @@ given_behind ends due p = record p { dials = dial_in ends due; strange = strange
 
 -- the links of the doors were asked, and a dial may be made
 pub waits : (p : Proxy) (side : Side) (taken : List Note) (trace : List Entry) (s : Stands taken p trace) (dial : Option (Target × Why))
-    → ShowsAll side.links s.machine.inbound → ShowsRelays side.relays s.machine.plain → told side.notes ≡ told p.side.notes
+    → ShowsAll side.links s.machine.inbound → ShowsRelays p.control.config side.relays (outward s.machine)
+    → told side.notes ≡ told p.side.notes
     → MayBeDialled p.control.config s.machine dial → Stands taken (with_act side dial p.strange p) trace
 waits p side taken trace s dial links relays same may = record {
   machine = s.machine;
@@ -145,7 +146,8 @@ not_shut false is = refl
 -- one act of a link of a door is done
 pub acted : (taken : List Note) (p : Proxy) (side : Side) (trace : List Entry) (s : Stands taken p trace) (z : Entry) (at : Point)
     (y : Machine) → Steps p.control.config s.machine at y → y.control ≡ s.machine.control → entries (at ∷ []) ≡ z ∷ []
-    → notes (at ∷ []) ≡ [] → is_at_door z ≡ false → ShowsAll side.links y.inbound → ShowsRelays side.relays y.plain
+    → notes (at ∷ []) ≡ [] → is_at_door z ≡ false → ShowsAll side.links y.inbound
+    → ShowsRelays p.control.config side.relays (outward y)
     → told side.notes ≡ told p.side.notes → EndsBy p.ends_for y → Stands taken (with_act side None p.strange p) (trace ++ z ∷ [])
 acted taken p side trace s z at y steps control one none door links relays same ends =
     stood taken p (with_act side None p.strange p) trace z s y (at ∷ []) refl (goes_on s.run at steps refl) door one
@@ -180,7 +182,7 @@ module _ (p : Proxy) (side : Side) where
   -- a dial
   pub record IsDialled (taken : List Note) (trace : List Entry) (s : Stands taken p trace) (to : Target) (why : Why) : Type 0 where
     pub links : ShowsAll side.links s.machine.inbound
-    pub relays : ShowsRelays side.relays s.machine.plain
+    pub relays : ShowsRelays p.control.config side.relays (outward s.machine)
     pub noted : told side.notes ≡ told p.side.notes
     pub due : DialIsDue p.control.config s.machine to why
     pub goes : (c : Cause) → p.ends_for ≡ Some c → ⊥

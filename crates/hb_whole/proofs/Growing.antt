@@ -8,7 +8,7 @@ use Rattle.hb_links.specs.Shows.{ShowsAll}
 use Rattle.hb_model.specs.declared.config.NodeConfig.{NodeConfig}
 use Rattle.hb_node.specs.State.{Shows}
 use Rattle.hb_proxy.specs.Doors.{is_at_door, without_doors}
-use Rattle.hb_proxy.specs.Machine.{Machine}
+use Rattle.hb_proxy.specs.Machine.{Machine, outward}
 use Rattle.hb_proxy.specs.Notes.{notes}
 use Rattle.hb_proxy.specs.Points.{Point, entries}
 use Rattle.hb_proxy.specs.Runs.{StandsFor}
@@ -49,7 +49,7 @@ notes_grow taken (Some waiting) new points more takes are =
 
 pub stood : (taken : List Note) (p q : Proxy) (trace : List Entry) (z : Entry) (s : Stands taken p trace) (y : Machine) (more : List Point)
     → q.control.config ≡ p.control.config → StandsFor p.control.config y (s.points ++ more) → is_at_door z ≡ false → entries more ≡ z ∷ []
-    → Shows q.control y.control → ShowsAll q.side.links y.inbound → ShowsRelays q.side.relays y.plain
+    → Shows q.control y.control → ShowsAll q.side.links y.inbound → ShowsRelays p.control.config q.side.relays (outward y)
     → Takes (told p.side.notes) (notes more) (told q.side.notes) → q.dials ≡ None → EndsBy q.ends_for y
     → q.strange ≡ p.strange → Stands taken q (trace ++ z ∷ [])
 stood taken p q trace z s y more config run door one control links relays takes dials ends sound = record {
@@ -60,7 +60,7 @@ stood taken p q trace z s y more config run door one control links relays takes 
       ∙ ap (λ (zs : List Entry). entries s.points ++ zs) (sym one) ∙ sym (entries_more s.points more);
   control = control;
   links = links;
-  relays = relays;
+  relays = subst (λ (g : NodeConfig). ShowsRelays g q.side.relays (outward y)) (sym config) relays;
   noted = notes_grow taken (told p.side.notes) (told q.side.notes) s.points more takes s.noted;
   dial = subst (λ d. MayBeDialled q.control.config y d) (sym dials) tt;
   ends = ends;

@@ -9,10 +9,10 @@ use Rattle.hb_inbound.specs.Part as part
 use Rattle.hb_inbound.specs.Runs as inbound
 use Rattle.hb_inbound.specs.Tunnel.{Tunnel, up_entered}
 use Rattle.hb_links.specs.Calls.{point_for}
-use Rattle.hb_proxy.specs.Machine.{Machine, born_by, with_part, with_plain}
+use Rattle.hb_proxy.specs.Machine.{Machine, born_by, with_part, with_plain, outward as outward_of}
 use Rattle.hb_proxy.specs.Notes.{note_in}
 use Rattle.hb_proxy.specs.Points.{Point, of_link, of_plain, entry_in}
-use Rattle.hb_proxy.specs.Runs.{LinkMayCome, PlainMayCome, Steps}
+use Rattle.hb_proxy.specs.Runs.{DialsGate, LinkMayCome, PlainMayCome, Steps}
 use Rattle.hb_relays.specs.Calls as relays
 use Rattle.hb_world.specs.declared.entry.Entry.{Entry}
 use Rattle.hb_whole.specs.declared.proxy.Proxy.{Proxy}
@@ -37,11 +37,11 @@ pub record Guarded (p : Proxy) (x : Machine) (z : Entry) : Type 0 where
   pub control : next.control ≡ x.control
   pub same : IsStill x z → next ≡ x
 
--- which the inbound links of the code find, or the plain ones; the others stay as they are
+-- which the inbound links of the code find, or the plain ones; the other parts stay as they are
 pub record LinkGuarded (p : Proxy) (x : Machine) (l : ℕ) (z : Entry) : Type 0 where
   pub at : Guarded p x z
   pub found : point_for p.side.links l z ≡ Some at.point
-  pub plain : at.next.plain ≡ x.plain
+  pub outward : outward_of at.next ≡ outward_of x
 
 pub record PlainGuarded (p : Proxy) (x : Machine) (l : ℕ) (z : Entry) : Type 0 where
   pub at : Guarded p x z
@@ -64,7 +64,7 @@ guarded_link p x l z found may guard = record {
     same = λ still. own_same x l z (still.link (x.inbound l)) still.born;
   };
   found = found z;
-  plain = refl;
+  outward = refl;
 }
 
 pub guarded_up : (p : Proxy) (x : Machine) (u l s : ℕ) (z : Entry)
@@ -81,7 +81,7 @@ guarded_up p x u l s z found may guard = record {
     same = λ still. up_same x l s z still.up still.born;
   };
   found = found z;
-  plain = refl;
+  outward = refl;
 }
 
 -- ON A LINK OF THE PLAIN DOOR, AND ON ITS UPSTREAM
@@ -97,7 +97,7 @@ guarded_plain p x l z found may guard = record {
     one = refl;
     no_note = refl;
     control = refl;
-    same = λ still. plain_same x l z (captured.entered z (x.plain l)) (still.plain (x.plain l)) still.born;
+    same = λ still. plain_same x l (plain.entry z) (captured.entered z (x.plain l)) (still.plain (x.plain l)) still.born;
   };
   found = found z;
   inbound = refl;
@@ -105,16 +105,16 @@ guarded_plain p x l z found may guard = record {
 
 pub guarded_relay : (p : Proxy) (x : Machine) (u l : ℕ) (z : Entry)
     → ((z : Entry) → relays.point_for p.side.relays u z ≡ Some (of_plain l (plain.up z)))
-    → captured_runs.UpMayCome l (x.plain l) z → PlainMayCome x l z → PlainGuarded p x u z
-guarded_relay p x u l z found may guard = record {
+    → captured_runs.UpMayCome l (x.plain l) z → PlainMayCome x l z → DialsGate x l → PlainGuarded p x u z
+guarded_relay p x u l z found may guard dials = record {
   at = record {
     point = of_plain l (plain.up z);
     next = with_plain l (plain.up z) (captured.up_entered z (x.plain l)) x;
-    steps = (may, guard, refl);
+    steps = (may, (guard, dials), refl);
     one = refl;
     no_note = refl;
     control = refl;
-    same = λ still. plain_same x l z (captured.up_entered z (x.plain l)) (still.relay (x.plain l)) still.born;
+    same = λ still. plain_same x l (plain.up z) (captured.up_entered z (x.plain l)) (still.relay (x.plain l)) still.born;
   };
   found = found z;
   inbound = refl;

@@ -26,6 +26,7 @@ use Rattle.hb_proxy.specs.Runs.{BirthMayCome, LinkMayCome, Lets, PlainLets, link
 use Rattle.hb_proxy.specs.Seen.{Seen, IsLinkThere}
 use Rattle.hb_proxy.specs.Ups.{Joins}
 use Rattle.hb_ready.specs.Sight.{is_open}
+use Rattle.hb_relays.proofs.Gateless.{shown_let}
 use Rattle.hb_turns.specs.Shown.{MayCome, MayWrite}
 use Rattle.hb_world.specs.Trace.{lives}
 use Rattle.hb_world.specs.declared.entry.Entry.{Entry}
@@ -218,7 +219,8 @@ module _ (taken : List Note) (p : Proxy) (trace : List Entry) (s : Stands taken 
         others = λ k apart. subst (λ (phase : m.Phase). Lets (link_first phase z) (x.inbound k)) (sym words.1)
             (all_calm p.side.links x.inbound s.links k);
         plain = λ k. subst (λ (phase : m.Phase). PlainLets (link_first phase z) (x.plain k)) (sym words.1)
-            (plain_calm p.side.relays x.plain s.relays k);
+            (plain_calm p.side.relays s.relays k);
+        gates = shown_let p.control.config p.side.relays x s.relays (link_first (x.inbound l).phase z);
       })
   lasts going none words (to_up k q joins at found) =
       absurd ((seen.up_alone k q l joins).1 (subst (λ (phase : m.Phase). IsLinkThere phase) (sym words.1) tt))

@@ -19,6 +19,7 @@ use Rattle.hb_proxy.specs.Machine.{Machine, with_control}
 use Rattle.hb_proxy.specs.Points.{Point, of_control}
 use Rattle.hb_proxy.specs.Runs.{Steps, StandsFor, goes_on, BirthMayCome, ControlMayCome, Lets, PlainLets, goes_first, is_faulted}
 use Rattle.hb_proxy.specs.Seen.{Seen, IsThere}
+use Rattle.hb_relays.proofs.Gateless.{shown_let}
 use Rattle.hb_turns.specs.Shown as shown
 use Rattle.hb_turns.specs.Shown.{Tells, MayCome, MayWrite, IsFree}
 use Rattle.hb_ready.specs.Sight.{is_open}
@@ -262,7 +263,8 @@ module _ (taken : List Note) (p : Proxy) (trace : List Entry) (s : Stands taken 
           birth = birth;
           links = λ k. subst (λ (b : Bool). Lets b (x.inbound k)) (sym (first fault.0 fault.1)) (all_calm p.side.links x.inbound s.links k);
           plain = λ k. subst (λ (b : Bool). PlainLets b (x.plain k)) (sym (first fault.0 fault.1))
-              (plain_calm p.side.relays x.plain s.relays k);
+              (plain_calm p.side.relays s.relays k);
+          gates = shown_let p.control.config p.side.relays x s.relays (goes_first x.control z);
         };
       }
 

@@ -1,22 +1,21 @@
 -- What follows by itself on the links of the doors: no entry, and nothing of the other parts.
-use Rattle.std.proofs.Common.{◌≡◌, ◌⊎◌, inl, inr, ℕ, List, [], ◌∷◌, ◌++◌, refl, ap, sym, ◌∙◌, subst}
+use Rattle.std.proofs.Common.{◌≡◌, ◌⊎◌, inl, inr, List, [], ◌∷◌, ◌++◌, refl, ap, sym, ◌∙◌, subst}
 use Rattle.std.proofs.lemmas.Grind.{flat_map-append}
 use Rattle.std.proofs.lemmas.List.{append_assoc, append-nil}
 use Rattle.hb_base.specs.declared.note.Note.{Note}
-use Rattle.hb_captured.specs.Captured.{Captured}
 use Rattle.hb_captured.specs.Part as plain
 use Rattle.hb_inbound.specs.Part as part
 use Rattle.hb_inbound.specs.Part.{Part}
 use Rattle.hb_link.proofs.Noted.{takes_then}
 use Rattle.hb_link.specs.Noted.{Told, Takes}
 use Rattle.hb_link.specs.Reaches as link
-use Rattle.hb_links.proofs.Sweeping.{inner_plain}
+use Rattle.hb_links.proofs.Sweeping.{inner_outward}
 use Rattle.hb_links.specs.Reaches as links
 use Rattle.hb_links.specs.Shows.{ShowsAll}
 use Rattle.hb_model.specs.declared.config.NodeConfig.{NodeConfig}
-use Rattle.hb_proxy.specs.Machine.{Machine}
+use Rattle.hb_proxy.specs.Machine.{Machine, Outward, outward}
 use Rattle.hb_proxy.specs.Notes.{notes, note_in}
-use Rattle.hb_proxy.specs.Points.{Point, of_control, of_link, of_plain, entry_in, entries}
+use Rattle.hb_proxy.specs.Points.{Point, of_control, of_link, of_plain, of_gate, of_stream, entry_in, entries}
 use Rattle.hb_proxy.specs.Runs.{Steps, StandsFor, goes_on}
 use Rattle.hb_relay.specs.Reaches as relay
 use Rattle.hb_relays.proofs.Lifted.{beside, leads_keep}
@@ -41,6 +40,8 @@ abbrev pub IsInner : Point → Type 0
 IsInner (of_control q) = ⊥
 IsInner (of_link l p) = link.IsInner p ⊎ (p ≡ part.crowded)
 IsInner (of_plain l p) = relay.IsInner p ⊎ (p ≡ plain.crowded)
+IsInner (of_gate n p) = ⊥
+IsInner (of_stream l n i w) = ⊥
 
 -- they lead from one machine to another, one after another
 abbrev pub Leads : NodeConfig → Machine → List Point → Machine → Type 0
@@ -89,9 +90,17 @@ plain_silent plain.welcomed inner = refl
 plain_silent plain.crowded inner = refl
 plain_silent plain.lacked inner = refl
 plain_silent (plain.misfronted fault) inner = refl
-plain_silent (plain.fronted seen to) inner = refl
-plain_silent (plain.refused seen why status made) inner = refl
+plain_silent (plain.fronted seen routing aim) inner = refl
+plain_silent (plain.refused seen routing why status made) inner = refl
 plain_silent (plain.accepted made) inner = refl
+plain_silent plain.roomless inner = refl
+plain_silent (plain.asked gate stream) inner = refl
+plain_silent (plain.hears heard begun) inner = refl
+plain_silent (plain.put bytes) inner = refl
+plain_silent plain.finished inner = refl
+plain_silent (plain.credited n) inner = refl
+plain_silent (plain.loosed begun) inner = refl
+plain_silent (plain.completed begun made) inner = refl
 plain_silent (plain.left made) inner = refl
 plain_silent (plain.done made) inner = refl
 plain_silent (plain.applied r) inner = refl
@@ -103,6 +112,8 @@ point_silent (of_link l p) (inl inner) = part_silent p inner
 point_silent (of_link l p) (inr is) = ap part.entry_in is
 point_silent (of_plain l p) (inl inner) = plain_silent p inner
 point_silent (of_plain l p) (inr is) = ap plain.entry_in is
+point_silent (of_gate n p) inner = absurd inner
+point_silent (of_stream l n i w) inner = absurd inner
 
 pub inner_silent : (g : NodeConfig) (x y : Machine) (more : List Point) → Leads g x more y → entries more ≡ []
 inner_silent g x y [] is = refl
@@ -114,6 +125,8 @@ step_control : (g : NodeConfig) (x y : Machine) (p : Point) → IsInner p → St
 step_control g x y (of_control q) inner steps = absurd inner
 step_control g x y (of_link l p) inner steps = ap (λ (w : Machine). w.control) steps.3
 step_control g x y (of_plain l p) inner steps = ap (λ (w : Machine). w.control) steps.2
+step_control g x y (of_gate n p) inner steps = absurd inner
+step_control g x y (of_stream l n i w) inner steps = absurd inner
 
 pub inner_control : (g : NodeConfig) (x y : Machine) (more : List Point) → Leads g x more y → y.control ≡ x.control
 inner_control g x y [] is = ap (λ (w : Machine). w.control) is
@@ -125,12 +138,16 @@ links_lead : (G : links.Guard) (g : NodeConfig) (x y : Machine) (more : List Poi
 links_lead G g x y [] is = is
 links_lead G g x y (of_control q ∷ more) is = absurd is.0
 links_lead G g x y (of_plain l p ∷ more) is = absurd is.0
+links_lead G g x y (of_gate n p ∷ more) is = absurd is.0
+links_lead G g x y (of_stream l n i w ∷ more) is = absurd is.0
 links_lead G g x y (of_link l p ∷ more) is = (inl is.0, is.2, is.3, links_lead G g is.2 y more is.4)
 
 relays_lead : (g : NodeConfig) (x y : Machine) (more : List Point) → relays.Leads g x more y → Leads g x more y
 relays_lead g x y [] is = is
 relays_lead g x y (of_control q ∷ more) is = absurd is.0
 relays_lead g x y (of_link l p ∷ more) is = absurd is.0
+relays_lead g x y (of_gate n p ∷ more) is = absurd is.0
+relays_lead g x y (of_stream l n i w ∷ more) is = absurd is.0
 relays_lead g x y (of_plain l p ∷ more) is = (inl is.0, is.1, is.2, relays_lead g is.1 y more is.3)
 
 -- WHAT FOLLOWS ON THE LINKS OF BOTH DOORS
@@ -142,18 +159,18 @@ pub record Follows (g : NodeConfig) (x : Machine) (told_before : Told) (side : S
   pub reached : Machine
   pub leads : Leads g x more reached
   pub links : ShowsAll side.links reached.inbound
-  pub relays : ShowsRelays side.relays reached.plain
+  pub relays : ShowsRelays g side.relays (outward reached)
   pub noted : Takes told_before (notes more) (told side.notes)
 
-pub links_follow : (g : NodeConfig) (x : Machine) (had : Told) (side : Side) (G : links.Guard) → ShowsRelays side.relays x.plain
-    → links.Follows G links.Shown g x side.links had (told side.notes) → Follows g x had side
+pub links_follow : (g : NodeConfig) (x : Machine) (had : Told) (side : Side) (G : links.Guard)
+    → ShowsRelays g side.relays (outward x) → links.Follows G links.Shown g x side.links had (told side.notes) → Follows g x had side
 links_follow g x had side G shows follows = record {
   more = follows.more;
   reached = follows.reached;
   leads = links_lead G g x follows.reached follows.more follows.leads;
   links = follows.shows;
-  relays = subst (λ (f : ℕ → Captured). ShowsRelays side.relays f)
-      (sym (inner_plain G g x follows.reached follows.more follows.leads)) shows;
+  relays = subst (λ (out : Outward). ShowsRelays g side.relays out)
+      (sym (inner_outward G g x follows.reached follows.more follows.leads)) shows;
   noted = follows.noted;
 }
 
@@ -175,7 +192,7 @@ pub both_follow : (g : NodeConfig) (x : Machine) (had between : Told) (side : Si
 both_follow g x had between side G first behind =
     let leads = links_lead G g x first.reached first.more first.leads in
     let so = beside g x behind.more behind.reached first.reached behind.leads
-    (inner_plain G g x first.reached first.more first.leads) (inner_control g x first.reached first.more leads) in
+    (inner_outward G g x first.reached first.more first.leads) (inner_control g x first.reached first.more leads) in
     record {
       more = first.more ++ behind.more;
       reached = so.reached;
@@ -183,7 +200,7 @@ both_follow g x had between side G first behind =
           (relays_lead g first.reached so.reached behind.more so.leads);
       links = subst (λ (f : _). ShowsAll side.links f) (sym (leads_keep g first.reached behind.more so.reached so.leads).inbound)
           first.shows;
-      relays = subst (λ (f : ℕ → Captured). ShowsRelays side.relays f) (sym so.plain) behind.shows;
+      relays = subst (λ (out : Outward). ShowsRelays g side.relays out) (sym so.same) behind.shows;
       noted = subst (λ (ns : List Note). Takes had ns (told side.notes)) (sym (notes_more first.more behind.more))
           (takes_then had between (told side.notes) (notes first.more) (notes behind.more) first.noted behind.noted);
     }

@@ -1,6 +1,7 @@
 pub mod Leading
 pub mod Growing
 pub mod Relays
+pub mod Gates
 pub mod Free
 pub mod Routes
 pub mod ControlMay

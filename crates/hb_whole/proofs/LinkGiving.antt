@@ -22,12 +22,13 @@ use Rattle.hb_node.specs.State.{due_of}
 use Rattle.hb_proxy.proofs.Owned.{all_owned, whose_in}
 use Rattle.hb_proxy.proofs.Stays.{OwnsBy}
 use Rattle.hb_proxy.specs.Doors.{is_at_door, without_doors}
-use Rattle.hb_proxy.specs.Machine.{Machine, with_part}
+use Rattle.hb_proxy.specs.Machine.{Machine, outward, with_part}
 use Rattle.hb_proxy.specs.Owners.{Owner, upstream_of}
 use Rattle.hb_proxy.specs.Points.{Point, of_link}
 use Rattle.hb_proxy.specs.Runs.{Steps, StandsFor}
 use Rattle.hb_proxy.specs.Seen.{Seen, IsLinkThere}
 use Rattle.hb_proxy.specs.Ups.{Joins, up_by}
+use Rattle.hb_relays.proofs.Gateless.{shown_let}
 use Rattle.hb_relays.specs.Shows.{ShowsRelays}
 use Rattle.hb_turns.specs.Shown.{Acts}
 use Rattle.hb_world.specs.Trace.{lives, was_shut}
@@ -111,7 +112,7 @@ module _ (taken : List Note) (p : Proxy) (links_behind : Links) (trace : List En
       let y_is : does.y ≡ with_part l q does.steps.0 s.machine = does.steps.3 in
       acted taken p side_behind trace s z (of_link l q) does.y does.steps (ap (λ (y : Machine). y.control) y_is)
       (ap (λ (zs : List Entry). zs ++ []) one) (ap (λ (ns : List Note). ns ++ []) none) door does.shows
-      (subst (λ (y : Machine). ShowsRelays p.side.relays y.plain) (sym y_is) s.relays) refl
+      (subst (λ (y : Machine). ShowsRelays p.control.config p.side.relays (outward y)) (sym y_is) s.relays) refl
       (subst (λ (y : Machine). EndsBy p.ends_for y) (sym y_is) ends)
 
 -- THE LINK'S OWN CLOSE
@@ -238,7 +239,7 @@ module _ (p : Proxy) (links_behind : Links) (rests : due_of p.control ≡ None) 
       → links.ActsOn due links_behind p.control.config s.machine
   on due acts taken trace s =
       acts p.control.config s.machine s.points s.run s.links (control_rests p.control s.machine.control s.control rests)
-      (plain_calm p.side.relays s.machine.plain s.relays)
+      (plain_calm p.side.relays s.relays) (shown_let p.control.config p.side.relays s.machine s.relays true)
 
   gives_by : (due : Act) → links.Acts (Some due) p.side.links links_behind → Gives p side due
   gives_by (act.Close u cause) acts = λ taken trace s.

@@ -130,6 +130,7 @@ free_link x l z free birth = record {
   control = rests_of x.control free.control;
   others = λ k apart. lets_all (link_first (x.inbound l).phase z) (x.inbound k) (free.links k);
   plain = λ k. plain_lets_all (link_first (x.inbound l).phase z) (x.plain k) (free.plain k);
+  gates = free.gates (link_first (x.inbound l).phase z);
 }
 
 pub link_steps : (g : NodeConfig) (x : Machine) (l : ℕ) (z : Entry) → inbound.MayCome l (x.inbound l) z → LinkMayCome x l z

@@ -1,5 +1,5 @@
 -- What an act that is given of a plain link makes of the traces that the proxy stands for.
-use Rattle.std.proofs.Common.{◌≡◌, inl, inr, ⊎_elim, ℕ, ◌<◌, ◌==◌, Bool, true, false, cond, List, [], ◌∷◌, ◌++◌, Option, Some, None, refl, ap, sym, ◌∙◌, subst, arith}
+use Rattle.std.proofs.Common.{◌≡◌, inl, inr, ⊎_elim, ℕ, ◌<◌, ◌==◌, ◌&&◌, not, Bool, true, false, cond, List, [], ◌∷◌, ◌++◌, Option, Some, None, refl, ap, sym, ◌∙◌, subst, arith}
 use Rattle.std.proofs.lemmas.Bool.{and_parts}
 use Rattle.hb_base.specs.declared.cause.Cause.{Cause}
 use Rattle.hb_base.specs.declared.door.Door.{Door}
@@ -7,9 +7,9 @@ use Rattle.hb_base.specs.declared.door.Door.TheVariants as door
 use Rattle.hb_base.specs.declared.door.Why.{Why}
 use Rattle.hb_base.specs.declared.note.Note.{Note}
 use Rattle.hb_base.specs.declared.target.Target.{Target}
-use Rattle.hb_captured.specs.Answer.{why_at}
+use Rattle.hb_captured.specs.Answer.{Aim, key_of, straight_to, through, why_for}
 use Rattle.hb_captured.specs.Captured as s
-use Rattle.hb_captured.specs.Captured.{Captured, Stage}
+use Rattle.hb_captured.specs.Captured.{Captured, Stage, is_raw, may_shut_up}
 use Rattle.hb_captured.specs.Part as part
 use Rattle.hb_captured.specs.Part.{Part}
 use Rattle.hb_captured.specs.Runs as captured
@@ -20,11 +20,8 @@ use Rattle.hb_links.specs.Stirring as links_stirring
 use Rattle.hb_links.specs.declared.links.Links.{Links}
 use Rattle.hb_model.specs.declared.config.NodeConfig.{NodeConfig}
 use Rattle.hb_node.specs.State.{due_of}
-use Rattle.hb_proxy.proofs.Owned.{all_owned, whose_in}
-use Rattle.hb_proxy.proofs.PlainStays.{RelayBy}
 use Rattle.hb_proxy.specs.Doors.{is_at_door}
 use Rattle.hb_proxy.specs.Machine.{Machine, with_plain}
-use Rattle.hb_proxy.specs.Owners.{relay_of}
 use Rattle.hb_proxy.specs.Points.{of_plain}
 use Rattle.hb_proxy.specs.Seen.{IsPlainThere, IsPlainThereBy}
 use Rattle.hb_proxy.specs.Ups.{IsRelayOf}
@@ -32,6 +29,7 @@ use Rattle.hb_relays.specs.Acts as relays
 use Rattle.hb_relays.specs.Acts.{Does}
 use Rattle.hb_relays.specs.Stirring as relays_stirring
 use Rattle.hb_relays.specs.declared.relays.Relays.{Relays}
+use Rattle.hb_tunnel.specs.Way.{is_done}
 use Rattle.hb_turns.specs.Shown.{Acts}
 use Rattle.hb_world.specs.Trace.{lives}
 use Rattle.hb_world.specs.declared.act.Act.{Act}
@@ -44,7 +42,7 @@ use Rattle.hb_whole.specs.Stands.{Stands, EndsBy, Ends, PlainEnds, PlainEndsBy, 
 use Rattle.hb_whole.specs.declared.proxy.Proxy.{Proxy}
 use Rattle.hb_whole.specs.declared.side.Side.{Side}
 use Rattle.hb_whole.proofs.Free.{control_rests}
-use Rattle.hb_whole.proofs.Giving.{acted, gives, Closes, Gives, Shuts, given_behind, not_shut, up_some, waits}
+use Rattle.hb_whole.proofs.Giving.{acted, gives, Closes, Gives, Shuts, given_behind, not_shut, waits}
 use Rattle.hb_whole.proofs.LinkGiving.{links_asked}
 use Rattle.hb_whole.proofs.Relays.{there_at_stage}
 use Rattle.hb_whole.proofs.Routes.{seen_of, lives_then, shut_then}
@@ -95,6 +93,15 @@ ends_for c why x is ends left =
 never_live : (c : Cause) (x : Captured) → x.stage ≡ s.live → PlainEnds c x → ⊥
 never_live c x is ends = subst (λ (r : Stage). PlainEndsBy c r x) is ends
 
+-- one whose upstream may be shut wasn't shut
+unshut_up : (x : Captured) → may_shut_up x ≡ true → x.up_shut ≡ false
+unshut_up x may = by (is_raw x) (is_done x.ways.up) may
+  where
+    by : (raw done : Bool) → (raw && done && not x.up_shut) ≡ true → x.up_shut ≡ false
+    by true true is = not_shut x.up_shut is
+    by true false is = absurd cc
+    by false done is = absurd cc
+
 -- which link an act closes, as the links of each door say it
 same_closed : (due : Act) → links_stirring.closed_in (Some due) ≡ relays_stirring.closed_in (Some due)
 same_closed (act.Close u why) = refl
@@ -102,11 +109,12 @@ same_closed (act.Shut u) = refl
 same_closed (act.Dial to why) = refl
 
 -- a dial that is due for a plain link is due, at either door
-plain_due : (g : NodeConfig) (x : Machine) (to : Target) (d : Door) (l : ℕ) → PlainDialIsDue g x to (why_at d l) l
-    → DialIsDue g x to (why_at d l)
-plain_due g x to door.Inbound l due = due
-plain_due g x to door.Outbound l due = due
-plain_due g x to door.Plain l due = due
+plain_due : (g : NodeConfig) (x : Machine) (to : Target) (aim : Aim) (d : Door) (l : ℕ) → key_of aim ≡ None
+    → PlainDialIsDue g x to (why_for aim d l) l → DialIsDue g x to (why_for aim d l)
+plain_due g x to (straight_to at endpoint) door.Inbound l straight due = due
+plain_due g x to (straight_to at endpoint) door.Outbound l straight due = due
+plain_due g x to (straight_to at endpoint) door.Plain l straight due = due
+plain_due g x to (through key authority endpoint) d l straight due = absurd cc
 
 -- ONE ACT
 
@@ -183,7 +191,7 @@ module _ (taken : List Note) (p : Proxy) (asked : Links) (behind : Relays) (trac
   own_shuts : (u : ℕ) → Does behind p.control.config x u (part.entry (e.Shut u)) → Shuts p side_behind taken trace stands u
   own_shuts u does =
       let may : captured.MayCome u (x.plain u) (e.Shut u) = does.steps.0 in
-      let there = there_at_stage p.side.relays x.plain stands.relays u s.live may.2 (λ away. away) in
+      let there = there_at_stage p.side.relays stands.relays u s.live may.2 (λ away. away) in
       record {
         alive = link_lives u there;
         unshut = sym (shut_then trace u) ∙ (seen_of taken p trace stands).plain.link_shut u there
@@ -195,18 +203,11 @@ module _ (taken : List Note) (p : Proxy) (asked : Links) (behind : Relays) (trac
   up_shuts : (l u : ℕ) → Does behind p.control.config x l (part.up (e.Shut u)) → Shuts p side_behind taken trace stands u
   up_shuts l u does =
       let may : captured.UpMayCome l (x.plain l) (e.Shut u) = does.steps.0 in
-      let owned = (all_owned p.control.config x stands.points stands.run).relay l in
-      let mine : whose_in stands.points (x.plain l).up ≡ relay_of l =
-      subst (λ (r : Stage). RelayBy r (whose_in stands.points) l (x.plain l).up) may.1 owned in
-      let joins : IsRelayOf (x.plain l) u = (
-        up_some x p.control.config stands.points stands.run u (relay_of l) (ap (λ (n : ℕ). whose_in stands.points n) (sym may.2) ∙ mine)
-            (λ is. cc),
-        may.2,
-      ) in
+      let joins : IsRelayOf (x.plain l) u = (may.3, may.2) in
       record {
         alive = relay_lives l u joins;
         unshut = sym (shut_then trace u) ∙ ((seen_of taken p trace stands).plain.up l u joins).1
-            ∙ not_shut (x.plain l).up_shut (and_parts _ _ may.3).1;
+            ∙ unshut_up (x.plain l) may.4;
         stands = λ going. shut_stands l (part.up (e.Shut u)) (e.Shut u) does refl refl refl going refl;
         goes = λ c ends. never_live c (x.plain l) may.1 ((ends_so c ends).plain l);
       }
@@ -244,8 +245,8 @@ module _ (p : Proxy) (asked : Links) (behind : Relays) (rests : due_of p.control
         relays = at.0;
         noted = refl;
         due = subst (λ (w : Why). DialIsDue p.control.config s.machine to w) (sym at.2)
-            (plain_due p.control.config s.machine to (s.machine.plain at.1).door at.1
-            (control_rests p.control s.machine.control s.control rests, refl, at.3, at.4));
+            (plain_due p.control.config s.machine to (s.machine.plain at.1).aim (s.machine.plain at.1).door at.1 at.4
+            (control_rests p.control s.machine.control s.control rests, refl, at.3, at.4, at.5));
         goes = λ c is. subst (λ (r : Stage). PlainEndsBy c r (s.machine.plain at.1)) at.3
             ((subst (λ (o : Option Cause). EndsBy o s.machine) is s.ends).1.plain at.1);
       }

@@ -78,6 +78,7 @@ module _ (taken : List Note) (p : Proxy) (trace : List Entry) (s : Stands taken 
                   (seen.plain.up k l joins).2 closed_so,
             ),
             joins.1,
+            joins.0,
           )
 
   pub opened_may : MayCome (shown_of p) trace (e.Opened l) → PlainGuarded p x l (e.Opened l)
@@ -87,7 +88,7 @@ module _ (taken : List Note) (p : Proxy) (trace : List Entry) (s : Stands taken 
       all = free taken p trace s may.0
 
       by : Opens → PlainGuarded p x l (e.Opened l)
-      by (relay_opens k found up) = guarded_relay p x l k (e.Opened l) found up (free_plain x k (e.Opened l) all tt)
+      by (relay_opens k found up) = guarded_relay p x l k (e.Opened l) found up (free_plain x k (e.Opened l) all tt) (all.dials k)
 
   pub finish_balks : MayCome (shown_of p) trace (e.Balked (way.Finish l)) → PlainGuarded p x l (e.Balked (way.Finish l))
   finish_balks may = by (opens all may.1.0 may.1.1)
@@ -97,7 +98,7 @@ module _ (taken : List Note) (p : Proxy) (trace : List Entry) (s : Stands taken 
 
       by : Opens → PlainGuarded p x l (e.Balked (way.Finish l))
       by (relay_opens k found up) =
-          guarded_relay p x l k (e.Balked (way.Finish l)) found up (free_plain x k (e.Balked (way.Finish l)) all tt)
+          guarded_relay p x l k (e.Balked (way.Finish l)) found up (free_plain x k (e.Balked (way.Finish l)) all tt) (all.dials k)
 
   wanted : wants_by (owner_of p l) p l ≡ relays.wants_of p.side.relays l
   wanted = ap (λ (o : Owner). wants_by o p l) whose
@@ -117,12 +118,13 @@ module _ (taken : List Note) (p : Proxy) (trace : List Entry) (s : Stands taken 
     where
       by : PlainRoute p x l → Reads
       by (to_plain there none found) =
-          link_reads found (tried_at (x.plain l) (all.plain l) there) (wanted ∙ wants_plain p.side.relays x.plain s.relays l none)
+          link_reads found (tried_at (x.plain l) (all.plain l) there) (wanted ∙ wants_plain p.side.relays s.relays l none)
       by (to_relay k joins up found) =
-          let same = wanted ∙ wants_relay p.side.relays x.plain s.relays l k up in
+          let same = wanted ∙ wants_relay p.side.relays s.relays l k up in
           up_reads k found (
             (all.plain k, live_wants (x.plain k).stage (x.plain k) (subst (λ (n : ℕ). 0 < n) same some)),
             joins.1,
+            joins.0,
           ) same
 
   pub came_may : (bytes : List ℕ) → AreOctets bytes → MayCome (shown_of p) trace (e.Came l bytes) → PlainGuarded p x l (e.Came l bytes)
@@ -144,7 +146,7 @@ module _ (taken : List Note) (p : Proxy) (trace : List Entry) (s : Stands taken 
           (free_plain x l (e.Came l bytes) all tt)
       by (up_reads k found up same) =
           guarded_relay p x l k (e.Came l bytes) found (up, (octets, may.2, subst (λ (n : ℕ). length bytes ≤ n) same may.3))
-          (free_plain x k (e.Came l bytes) all tt)
+          (free_plain x k (e.Came l bytes) all tt) (all.dials k)
 
   -- where it ends, and where nothing comes
   pub ended_may : MayCome (shown_of p) trace (e.Ended l) → PlainGuarded p x l (e.Ended l)
@@ -157,7 +159,8 @@ module _ (taken : List Note) (p : Proxy) (trace : List Entry) (s : Stands taken 
       by (link_reads found tried same) =
           guarded_plain p x l (e.Ended l) found (refl, (tried, subst (λ (n : ℕ). 0 < n) same may.2)) (free_plain x l (e.Ended l) all tt)
       by (up_reads k found up same) =
-          guarded_relay p x l k (e.Ended l) found (up, subst (λ (n : ℕ). 0 < n) same may.2) (free_plain x k (e.Ended l) all tt)
+          guarded_relay p x l k (e.Ended l) found (up, subst (λ (n : ℕ). 0 < n) same may.2)
+          (free_plain x k (e.Ended l) all tt) (all.dials k)
 
   pub read_balks : MayCome (shown_of p) trace (e.Balked (way.Read l)) → PlainGuarded p x l (e.Balked (way.Read l))
   read_balks may = by (reads all may.1.0 may.2)
@@ -171,7 +174,7 @@ module _ (taken : List Note) (p : Proxy) (trace : List Entry) (s : Stands taken 
           (free_plain x l (e.Balked (way.Read l)) all tt)
       by (up_reads k found up same) =
           guarded_relay p x l k (e.Balked (way.Read l)) found (up, subst (λ (n : ℕ). 0 < n) same may.2)
-          (free_plain x k (e.Balked (way.Read l)) all tt)
+          (free_plain x k (e.Balked (way.Read l)) all tt) (all.dials k)
 
   -- a write goes only where all is quiet: it has no last words
   may_free : MayWrite (shown_of p) l → Free x
@@ -193,9 +196,9 @@ module _ (taken : List Note) (p : Proxy) (trace : List Entry) (s : Stands taken 
           guarded_plain p x l (e.Broke l) found (refl, tried_at (x.plain l) (all.plain l) there) (free_plain x l (e.Broke l) all tt)
       by (to_relay k joins up found) =
           guarded_relay p x l k (e.Broke l) found
-          (⊎_elim (λ is. inl ((all.plain k, is), joins.1)) (λ is. inr ((all.plain k, is), joins.1))
+          (⊎_elim (λ is. inl ((all.plain k, is), joins.1, joins.0)) (λ is. inr ((all.plain k, is), joins.1, joins.0))
           (relay_at taken p trace s k l (all.plain k) joins))
-          (free_plain x k (e.Broke l) all tt)
+          (free_plain x k (e.Broke l) all tt) (all.dials k)
 
   -- bytes are written on it
   data Writes : Type 0 where
@@ -209,14 +212,15 @@ module _ (taken : List Note) (p : Proxy) (trace : List Entry) (s : Stands taken 
     where
       by : PlainRoute p x l → Writes
       by (to_plain there none found) =
-          let same = held ∙ output_plain p.side.relays x.plain s.relays l none in
+          let same = held ∙ output_plain p.side.relays s.relays l none in
           link_writes found
           (all.plain l, live_output (x.plain l).stage (x.plain l).ways.down.held (subst (λ (bs : List ℕ). 0 < length bs) same some)) same
       by (to_relay k joins up found) =
-          let same = held ∙ output_relay p.side.relays x.plain s.relays l k up in
+          let same = held ∙ output_relay p.side.relays s.relays l k up in
           up_writes k found (
             (all.plain k, live_output (x.plain k).stage (x.plain k).ways.up.held (subst (λ (bs : List ℕ). 0 < length bs) same some)),
             joins.1,
+            joins.0,
           ) same
 
   -- the first of what waits
@@ -243,7 +247,7 @@ module _ (taken : List Note) (p : Proxy) (trace : List Entry) (s : Stands taken 
       by (up_writes k found up same) =
           guarded_relay p x l k (e.Went l bytes) found
           (up, first_of may.2 bytes ((shown_of p).output l) (calm.up_output (x.plain k)) may.3 may.4 may.5 same)
-          (free_plain x k (e.Went l bytes) all tt)
+          (free_plain x k (e.Went l bytes) all tt) (all.dials k)
 
   pub write_balks : MayCome (shown_of p) trace (e.Balked (way.Write l)) → PlainGuarded p x l (e.Balked (way.Write l))
   write_balks may = by (writes all may.1.0 may.2)
@@ -257,4 +261,4 @@ module _ (taken : List Note) (p : Proxy) (trace : List Entry) (s : Stands taken 
           (free_plain x l (e.Balked (way.Write l)) all tt)
       by (up_writes k found up same) =
           guarded_relay p x l k (e.Balked (way.Write l)) found (up, subst (λ (bs : List ℕ). 0 < length bs) same may.2)
-          (free_plain x k (e.Balked (way.Write l)) all tt)
+          (free_plain x k (e.Balked (way.Write l)) all tt) (all.dials k)

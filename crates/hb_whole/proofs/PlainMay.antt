@@ -2,7 +2,7 @@
 use Rattle.std.proofs.Common.{◌≡◌, ◌⊎◌, inl, inr, ℕ, ◌<◌, Bool, true, false, List, length, refl, sym, ◌∙◌, subst, arith}
 use Rattle.hb_captured.specs.Calm.{IsCalmBy, IsIdleBy, up_wants_by, output_by}
 use Rattle.hb_captured.specs.Captured as s
-use Rattle.hb_captured.specs.Captured.{Captured, Stage}
+use Rattle.hb_captured.specs.Captured.{Captured, Stage, is_raw}
 use Rattle.hb_proxy.proofs.PlainStays.{RelayBy}
 use Rattle.hb_proxy.specs.Machine.{Machine}
 use Rattle.hb_proxy.specs.Owners.{Owner}
@@ -30,7 +30,7 @@ no_zero : {A : Type 0} (n u : ℕ) → 0 < u → n ≡ u → n ≡ 0 → A
 no_zero n u some is none = let no : 0 < 0 = subst (λ (k : ℕ). 0 < k) (sym is ∙ none) some in absurd (omega arith)
 
 pub relay_stage : (stage : Stage) (x : Captured) (whose : ℕ → Owner) (l u : ℕ) → 0 < u → x.up ≡ u → IsCalmBy stage x → IsIdleBy stage x
-    → RelayBy stage whose l x.up → (stage ≡ s.opening) ⊎ (stage ≡ s.live)
+    → RelayBy stage (is_raw x) whose l x.up → (stage ≡ s.opening) ⊎ (stage ≡ s.live)
 relay_stage s.unborn x whose l u some is calm idle owns = no_zero x.up u some is owns.1
 relay_stage s.arriving x whose l u some is calm idle owns = absurd calm
 relay_stage s.fronting x whose l u some is calm idle owns = no_zero x.up u some is owns.1
@@ -80,4 +80,5 @@ free_plain x l z free birth = record {
   control = rests_of x.control free.control;
   links = λ k. lets_all (is_act z) (x.inbound k) (free.links k);
   others = λ k apart. plain_lets_all (is_act z) (x.plain k) (free.plain k);
+  gates = free.gates (is_act z);
 }

@@ -5,6 +5,8 @@ use Rattle.hb_captured.specs.Calm as calm
 use Rattle.hb_captured.specs.Calm.{IsCalm, IsQuiet, wants_by, up_wants_by, output_by}
 use Rattle.hb_captured.specs.Captured as s
 use Rattle.hb_captured.specs.Captured.{Captured, Stage}
+use Rattle.hb_model.specs.declared.config.NodeConfig.{NodeConfig}
+use Rattle.hb_proxy.specs.Machine.{Outward}
 use Rattle.hb_proxy.specs.Seen.{IsPlainThere}
 use Rattle.hb_relay.specs.Shows.{Shows, captured_of, as_told}
 use Rattle.hb_relay.specs.declared.relay.Relay.{Relay}
@@ -19,14 +21,16 @@ use Rattle.hb_relays.specs.declared.relays.Relays.{Relays}
 
 -- WHERE NOTHING IS DUE
 
-pub plain_calm : (k : Relays) (f : ℕ → Captured) → ShowsRelays k f → (l : ℕ) → IsCalm (f l)
-plain_calm k f shows l = calm_by l (get k.relays l) (f l) (shows.relays l)
+pub plain_calm : {g : NodeConfig} (k : Relays) {out : Outward} → ShowsRelays g k out → (l : ℕ) → IsCalm (out.plain l)
+plain_calm k {out = out} shows l = calm_by l (get k.relays l) (out.plain l) (shows.relays l)
 
-pub plain_idle : (k : Relays) (f : ℕ → Captured) → is_idle k.due ≡ true → ShowsRelays k f → (l : ℕ) → IsIdle (f l)
-plain_idle k f idle shows l = shows.idle l (none_touched k.due idle l)
+pub plain_idle : {g : NodeConfig} (k : Relays) {out : Outward} → is_idle k.due ≡ true → ShowsRelays g k out → (l : ℕ)
+    → IsIdle (out.plain l)
+plain_idle k idle shows l = shows.idle l (none_touched k.due idle l)
 
-pub plain_quiet : (k : Relays) (f : ℕ → Captured) → is_idle k.due ≡ true → ShowsRelays k f → (l : ℕ) → IsQuiet (f l)
-plain_quiet k f idle shows l = (plain_calm k f shows l, plain_idle k f idle shows l)
+pub plain_quiet : {g : NodeConfig} (k : Relays) {out : Outward} → is_idle k.due ≡ true → ShowsRelays g k out → (l : ℕ)
+    → IsQuiet (out.plain l)
+plain_quiet k idle shows l = (plain_calm k shows l, plain_idle k idle shows l)
 
 -- WHICH NUMBERS ARE OF A LINK
 
@@ -35,17 +39,18 @@ kept_of : (l : ℕ) (o : Option Relay) (x : Captured) → ShowsRelay l o x → I
 kept_of l None x shows there = absurd ((away_is x shows).gone there)
 kept_of l (Some k) x shows there = (k, refl)
 
-module _ (k : Relays) (f : ℕ → Captured) (shows : ShowsRelays k f) where
-  pub is_kept : (l : ℕ) → IsPlainThere (f l) → (w : Relay) × (get k.relays l ≡ Some w)
-  is_kept l there = kept_of l (get k.relays l) (f l) (shows.relays l) there
+module _ {g : NodeConfig} (k : Relays) {out : Outward} (shows : ShowsRelays g k out) where
+  pub is_kept : (l : ℕ) → IsPlainThere (out.plain l) → (w : Relay) × (get k.relays l ≡ Some w)
+  is_kept l there = kept_of l (get k.relays l) (out.plain l) (shows.relays l) there
 
-  there_shown : (l : ℕ) (o : Option Relay) (stage : Stage) → ShowsRelay l o (f l) → (f l).stage ≡ stage → (IsAwayBy stage (f l) → ⊥)
-      → IsPlainThere (f l)
-  there_shown l None stage shown is there = absurd (there (subst (λ (r : Stage). IsAwayBy r (f l)) is shown))
+  there_shown : (l : ℕ) (o : Option Relay) (stage : Stage) → ShowsRelay l o (out.plain l) → (out.plain l).stage ≡ stage
+      → (IsAwayBy stage (out.plain l) → ⊥) → IsPlainThere (out.plain l)
+  there_shown l None stage shown is there = absurd (there (subst (λ (r : Stage). IsAwayBy r (out.plain l)) is shown))
   there_shown l (Some w) stage shown is there = shown.2
 
   -- one is there, at a stage at which none isn't
-  pub there_at_stage : (l : ℕ) (stage : Stage) → (f l).stage ≡ stage → (IsAwayBy stage (f l) → ⊥) → IsPlainThere (f l)
+  pub there_at_stage : (l : ℕ) (stage : Stage) → (out.plain l).stage ≡ stage → (IsAwayBy stage (out.plain l) → ⊥)
+      → IsPlainThere (out.plain l)
   there_at_stage l stage is there = there_shown l (get k.relays l) stage (shows.relays l) is there
 
   either : (a b : Bool) → (a ≡ true) ⊎ (b ≡ true) → (a || b) ≡ true
@@ -53,21 +58,21 @@ module _ (k : Relays) (f : ℕ → Captured) (shows : ShowsRelays k f) where
   either false b (inl is) = absurd cc
   either false b (inr is) = is
 
-  pub has_some : (n : ℕ) → IsPresent f n → has_of k n ≡ true
+  pub has_some : (n : ℕ) → IsPresent out.plain n → has_of k n ≡ true
   has_some n (inl there) =
       either (is_some (get k.ups n)) (is_some (get k.relays n)) (inr (ap (λ (o : Option Relay). is_some o) (is_kept n there).1))
   has_some n (inr up) =
       either (is_some (get k.ups n)) (is_some (get k.relays n)) (inl (ap (λ (o : Option ℕ). is_some o) (shows.index.found up.0 n up.1)))
 
-  there_at : (n : ℕ) (o : Option Relay) → ShowsRelay n o (f n) → is_some o ≡ true → IsPlainThere (f n)
+  there_at : (n : ℕ) (o : Option Relay) → ShowsRelay n o (out.plain n) → is_some o ≡ true → IsPlainThere (out.plain n)
   there_at n None at is = absurd cc
   there_at n (Some w) at is = at.2
 
-  present : (n : ℕ) (o : Option ℕ) → get k.ups n ≡ o → (is_some o || is_some (get k.relays n)) ≡ true → IsPresent f n
+  present : (n : ℕ) (o : Option ℕ) → get k.ups n ≡ o → (is_some o || is_some (get k.relays n)) ≡ true → IsPresent out.plain n
   present n (Some l) found is = inr (l, shows.index.joined l n found)
   present n None found is = inl (there_at n (get k.relays n) (shows.relays n) is)
 
-  pub has_none : (n : ℕ) → (IsPresent f n → ⊥) → has_of k n ≡ false
+  pub has_none : (n : ℕ) → (IsPresent out.plain n → ⊥) → has_of k n ≡ false
   has_none n never = by (has_of k n) refl
     where
       by : (b : Bool) → has_of k n ≡ b → b ≡ false
@@ -144,19 +149,19 @@ module _ (l : ℕ) (x : Captured) where
   shown_up_output (Some k) shows = up_output_is k x shows.1
 
 -- of a link, and of an upstream, by their numbers
-module _ (k : Relays) (f : ℕ → Captured) (shows : ShowsRelays k f) where
-  pub wants_plain : (l : ℕ) → get k.ups l ≡ None → relays.wants_of k l ≡ calm.wants (f l)
+module _ {g : NodeConfig} (k : Relays) {out : Outward} (shows : ShowsRelays g k out) where
+  pub wants_plain : (l : ℕ) → get k.ups l ≡ None → relays.wants_of k l ≡ calm.wants (out.plain l)
   wants_plain l none =
-      ap (λ (at : Option ℕ). relays.wants_at k at l) none ∙ shown_wants l (f l) (get k.relays l) (shows.relays l)
+      ap (λ (at : Option ℕ). relays.wants_at k at l) none ∙ shown_wants l (out.plain l) (get k.relays l) (shows.relays l)
 
-  pub output_plain : (l : ℕ) → get k.ups l ≡ None → relays.held_of k l ≡ calm.output (f l)
+  pub output_plain : (l : ℕ) → get k.ups l ≡ None → relays.held_of k l ≡ calm.output (out.plain l)
   output_plain l none =
-      ap (λ (at : Option ℕ). relays.held_at k at l) none ∙ shown_output l (f l) (get k.relays l) (shows.relays l)
+      ap (λ (at : Option ℕ). relays.held_at k at l) none ∙ shown_output l (out.plain l) (get k.relays l) (shows.relays l)
 
-  pub wants_relay : (u l : ℕ) → get k.ups u ≡ Some l → relays.wants_of k u ≡ calm.up_wants (f l)
+  pub wants_relay : (u l : ℕ) → get k.ups u ≡ Some l → relays.wants_of k u ≡ calm.up_wants (out.plain l)
   wants_relay u l at =
-      ap (λ (o : Option ℕ). relays.wants_at k o u) at ∙ shown_up_wants l (f l) (get k.relays l) (shows.relays l)
+      ap (λ (o : Option ℕ). relays.wants_at k o u) at ∙ shown_up_wants l (out.plain l) (get k.relays l) (shows.relays l)
 
-  pub output_relay : (u l : ℕ) → get k.ups u ≡ Some l → relays.held_of k u ≡ calm.up_output (f l)
+  pub output_relay : (u l : ℕ) → get k.ups u ≡ Some l → relays.held_of k u ≡ calm.up_output (out.plain l)
   output_relay u l at =
-      ap (λ (o : Option ℕ). relays.held_at k o u) at ∙ shown_up_output l (f l) (get k.relays l) (shows.relays l)
+      ap (λ (o : Option ℕ). relays.held_at k o u) at ∙ shown_up_output l (out.plain l) (get k.relays l) (shows.relays l)

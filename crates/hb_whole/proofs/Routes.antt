@@ -15,12 +15,13 @@ use Rattle.hb_links.specs.declared.links.Links.{Links}
 use Rattle.hb_links.specs.declared.place.Place.{Place}
 use Rattle.hb_model.specs.Discovery as d
 use Rattle.hb_model.specs.Machine.{Machine as Control}
+use Rattle.hb_model.specs.declared.config.NodeConfig.{NodeConfig}
 use Rattle.hb_node.specs.State.{ShowsLink as ShowsControl, IsGone, number_of}
 use Rattle.hb_node.specs.declared.link.Link.{Link as ControlLink}
 use Rattle.hb_proxy.proofs.Doors.{doors_tell_none}
 use Rattle.hb_proxy.proofs.Seen.{runs_are_seen}
 use Rattle.hb_proxy.specs.Doors.{without_doors}
-use Rattle.hb_proxy.specs.Machine.{Machine}
+use Rattle.hb_proxy.specs.Machine.{Machine, outward}
 use Rattle.hb_proxy.specs.Points.{of_link, of_plain}
 use Rattle.hb_proxy.specs.Seen.{Seen, IsThere, IsLinkThere, IsPlainThere, HasLink, HasPlain}
 use Rattle.hb_proxy.specs.Ups.{Joins, IsRelayOf}
@@ -36,6 +37,7 @@ use Rattle.hb_whole.specs.Sight.{is_number, owns, owner_by, owner_of}
 use Rattle.hb_whole.specs.Stands.{Stands}
 use Rattle.hb_whole.specs.declared.owner.Owner.TheVariants.{Control as OfControl, Plain, Inbound as OfInbound}
 use Rattle.hb_whole.specs.declared.proxy.Proxy.{Proxy}
+use Rattle.hb_whole.proofs.Gates.{none_there}
 use Rattle.hb_whole.proofs.Relays.{is_kept, has_some, has_none}
 
 -- THE TRACE
@@ -140,19 +142,19 @@ other_owner p l has other is =
     ap (λ (b : Bool). owner_by b (has_of p.side.relays l)) other ∙ ap (λ (b : Bool). owner_by false b) is
 
 -- such a link is no upstream, and is found
-no_link : (x : Machine) (zs : List Entry) (k : Relays) (l : ℕ) (o : Option ℕ) → Seen x zs → ShowsRelays k x.plain
+no_link : {g : NodeConfig} (x : Machine) (zs : List Entry) (k : Relays) (l : ℕ) (o : Option ℕ) → Seen x zs → ShowsRelays g k (outward x)
     → IsPlainThere (x.plain l) → get k.ups l ≡ o → o ≡ None
 no_link x zs k l None seen shows there is = refl
 no_link x zs k l (Some at) seen shows there is = absurd ((seen.plain.up_alone at l (shows.index.joined at l is)).2 there)
 
-plain_point : (x : Machine) (zs : List Entry) (k : Relays) (l : ℕ) → Seen x zs → ShowsRelays k x.plain → IsPlainThere (x.plain l)
-    → (z : Entry) → relays.point_for k l z ≡ Some (of_plain l (plain.entry z))
+plain_point : {g : NodeConfig} (x : Machine) (zs : List Entry) (k : Relays) (l : ℕ) → Seen x zs → ShowsRelays g k (outward x)
+    → IsPlainThere (x.plain l) → (z : Entry) → relays.point_for k l z ≡ Some (of_plain l (plain.entry z))
 plain_point x zs k l seen shows there z =
-    let kept = is_kept k x.plain shows l there in
+    let kept = is_kept k shows l there in
     ap (λ (at : Option ℕ). relays.point_by at (get k.relays l) l z) (no_link x zs k l (get k.ups l) seen shows there refl)
     ∙ ap (λ (o : Option Relay). relays.point_by None o l z) kept.1
 
-relay_point : (x : Machine) (k : Relays) (l u : ℕ) → ShowsRelays k x.plain → IsRelayOf (x.plain l) u
+relay_point : {g : NodeConfig} (x : Machine) (k : Relays) (l u : ℕ) → ShowsRelays g k (outward x) → IsRelayOf (x.plain l) u
     → (z : Entry) → relays.point_for k u z ≡ Some (of_plain l (plain.up z))
 relay_point x k l u shows joins z =
     ap (λ (at : Option ℕ). relays.point_by at (get k.relays u) u z) (shows.index.found l u joins)
@@ -200,20 +202,20 @@ module _ (taken : List Note) (p : Proxy) (trace : List Entry) (s : Stands taken 
   pub link_owner : (l : ℕ) → IsLinkThere (x.inbound l).phase → owner_of p l ≡ OfInbound
   link_owner l there =
       other_owner p l false (other l (seen.link_alone l there))
-      (has_none p.side.relays x.plain s.relays l (link_absent x (without_doors trace) l seen there))
+      (has_none p.side.relays s.relays l (link_absent x (without_doors trace) l seen there))
 
   pub up_owner : (k q l : ℕ) → Joins ((x.inbound k).tunnels q) l → owner_of p l ≡ OfInbound
   up_owner k q l joins =
       other_owner p l false (other l (seen.up_alone k q l joins).0)
-      (has_none p.side.relays x.plain s.relays l (up_absent x (without_doors trace) k q l seen joins))
+      (has_none p.side.relays s.relays l (up_absent x (without_doors trace) k q l seen joins))
 
   pub plain_owner : (l : ℕ) → IsPlainThere (x.plain l) → owner_of p l ≡ Plain
   plain_owner l there =
-      other_owner p l true (other l (seen.plain.link_alone l there).0) (has_some p.side.relays x.plain s.relays l (inl there))
+      other_owner p l true (other l (seen.plain.link_alone l there).0) (has_some p.side.relays s.relays l (inl there))
 
   pub relay_owner : (k l : ℕ) → IsRelayOf (x.plain k) l → owner_of p l ≡ Plain
   relay_owner k l joins =
-      other_owner p l true (other l (seen.plain.up_alone k l joins).0) (has_some p.side.relays x.plain s.relays l (inr (k, joins)))
+      other_owner p l true (other l (seen.plain.up_alone k l joins).0) (has_some p.side.relays s.relays l (inr (k, joins)))
 
   pub no_up : (l : ℕ) → IsLinkThere (x.inbound l).phase → get p.side.links.ups l ≡ None
   no_up l there = no_place x (without_doors trace) p.side.links l (get p.side.links.ups l) seen s.links there refl
@@ -237,7 +239,8 @@ module _ (taken : List Note) (p : Proxy) (trace : List Entry) (s : Stands taken 
       to_inbound (up_owner joins.0 joins.1 l joins.2)
       (to_up joins.0 joins.1 joins.2 (s.links.index.found joins.0 joins.1 l joins.2)
       (up_point x p.side.links joins.0 joins.1 l s.links joins.2))
-  by l (inr (inr (inr has))) = by_plain l has
+  by l (inr (inr (inr (inl has)))) = by_plain l has
+  by l (inr (inr (inr (inr there)))) = absurd (none_there s.relays l there)
 
   route : (l : ℕ) → lives l trace ≡ true → Route p x l
   route l alive = by l (seen.has l (lives_then trace l ∙ alive))

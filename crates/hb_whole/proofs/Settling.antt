@@ -37,13 +37,14 @@ use Rattle.hb_proxy.specs.Settled.{Reads, Writes, Finishes, IsCrowded, IsFull, C
 use Rattle.hb_proxy.specs.Ups.{Joins, IsRelayOf}
 use Rattle.hb_ready.specs.Sight.{asked, is_open, known, sight}
 use Rattle.hb_relays.specs.Shows.{IsAwayBy}
-use Rattle.hb_tunnel.specs.Tunnel.{up_size, down_size}
+use Rattle.hb_tunnel.specs.Tunnel.{down_size}
 use Rattle.hb_turns.specs.Settled.{Rests, RestsBy}
 use Rattle.hb_turns.specs.Shown.{Shown, IsFree}
 use Rattle.hb_world.specs.Trace.{lives}
 use Rattle.hb_world.specs.declared.entry.Entry.{Entry}
 use Rattle.hb_whole.proofs.ControlMay.{wants_owned, output_owned}
 use Rattle.hb_whole.proofs.Free.{Free, free}
+use Rattle.hb_whole.proofs.Gates.{gates_settled}
 use Rattle.hb_whole.proofs.Guards.{going_at}
 use Rattle.hb_whole.proofs.LinkMay.{wants_link, output_link, wants_up, holds_up}
 use Rattle.hb_whole.proofs.PlainGuards.{relay_at}
@@ -124,7 +125,7 @@ link_by (m.closing why) trace l x rests none fronting serving = absurd cc
 
 plain_by : (stage : plain.Stage) (trace : List Entry) (l : ℕ) (x : Captured) → plain_calm.IsCalmBy stage x → plain_calm.IsIdleBy stage x
     → (stage ≡ plain.fronting → Reads trace l (plain_calm.longest_front ≤ length x.front))
-    → ((stage ≡ plain.opening) ⊎ (stage ≡ plain.live) → Reads trace l (IsFull up_size x.ways.up))
+    → ((stage ≡ plain.opening) ⊎ (stage ≡ plain.live) → Reads trace l (IsFull (plain.ring_up x.door) x.ways.up))
     → (stage ≡ plain.live → Writes trace l (x.ways.down.held ≡ [])) → PlainSettledBy stage x.closed trace l x
 plain_by plain.unborn trace l x calm idle fronting reads writes = tt
 plain_by plain.arriving trace l x calm idle fronting reads writes = absurd calm
@@ -323,11 +324,11 @@ module _ (taken : List Note) (p : Proxy) (trace : List Entry) (s : Stands taken 
 
     plain_wants_are : (shown_of p).wants l ≡ plain_calm.wants (x.plain l)
     plain_wants_are = ap (λ (o : Owner). wants_by o p l) plain_whose
-        ∙ wants_plain p.side.relays x.plain s.relays l (no_relay taken p trace s l there)
+        ∙ wants_plain p.side.relays s.relays l (no_relay taken p trace s l there)
 
     plain_output_is : (shown_of p).output l ≡ plain_calm.output (x.plain l)
     plain_output_is = ap (λ (o : Owner). output_by o p l) plain_whose
-        ∙ output_plain p.side.relays x.plain s.relays l (no_relay taken p trace s l there)
+        ∙ output_plain p.side.relays s.relays l (no_relay taken p trace s l there)
 
     plain_reads : (A : Type 0) → (plain_calm.wants (x.plain l) ≡ 0 → A) → Reads trace l A
     plain_reads A none =
@@ -339,10 +340,11 @@ module _ (taken : List Note) (p : Proxy) (trace : List Entry) (s : Stands taken 
         (λ none. fills plain_calm.longest_front (length (x.plain l).front)
         (sym (ap (λ (r : plain.Stage). plain_calm.wants_by r (x.plain l)) is) ∙ none))
 
-    plain_full : ((x.plain l).stage ≡ plain.opening) ⊎ ((x.plain l).stage ≡ plain.live) → Reads trace l (IsFull up_size (x.plain l).ways.up)
+    plain_full : ((x.plain l).stage ≡ plain.opening) ⊎ ((x.plain l).stage ≡ plain.live)
+        → Reads trace l (IsFull (plain.ring_up (x.plain l).door) (x.plain l).ways.up)
     plain_full going =
-        plain_reads (IsFull up_size (x.plain l).ways.up)
-        (λ none. ring_full up_size (length (x.plain l).ways.up.held) (x.plain l).ways.up.has_ended
+        plain_reads (IsFull (plain.ring_up (x.plain l).door) (x.plain l).ways.up)
+        (λ none. ring_full (plain.ring_up (x.plain l).door) (length (x.plain l).ways.up.held) (x.plain l).ways.up.has_ended
         (⊎_elim (λ is. sym (ap (λ (r : plain.Stage). plain_calm.wants_by r (x.plain l)) is) ∙ none)
         (λ is. sym (ap (λ (r : plain.Stage). plain_calm.wants_by r (x.plain l)) is) ∙ none) going))
 
@@ -360,7 +362,7 @@ module _ (taken : List Note) (p : Proxy) (trace : List Entry) (s : Stands taken 
       (λ is. plain_writes l (at plain.live is (λ away. away)) is)
     where
       at : (stage : plain.Stage) → (x.plain l).stage ≡ stage → (IsAwayBy stage (x.plain l) → ⊥) → IsPlainThere (x.plain l)
-      at stage is there = there_at_stage p.side.relays x.plain s.relays l stage is there
+      at stage is there = there_at_stage p.side.relays s.relays l stage is there
 
   -- its upstream
   module _ (l u : ℕ) (joins : IsRelayOf (x.plain l) u) where
@@ -375,11 +377,11 @@ module _ (taken : List Note) (p : Proxy) (trace : List Entry) (s : Stands taken 
 
     relay_wants_are : (shown_of p).wants u ≡ plain_calm.up_wants captured
     relay_wants_are = ap (λ (o : Owner). wants_by o p u) relay_whose
-        ∙ wants_relay p.side.relays x.plain s.relays u l (s.relays.index.found l u joins)
+        ∙ wants_relay p.side.relays s.relays u l (s.relays.index.found l u joins)
 
     relay_output_is : (shown_of p).output u ≡ plain_calm.up_output captured
     relay_output_is = ap (λ (o : Owner). output_by o p u) relay_whose
-        ∙ output_relay p.side.relays x.plain s.relays u l (s.relays.index.found l u joins)
+        ∙ output_relay p.side.relays s.relays u l (s.relays.index.found l u joins)
 
     relay_open : (stage : plain.Stage) (b : Bool) → captured.stage ≡ stage
         → (RelayOpenBy stage (is_open u (without_doors trace)) → is_open u (without_doors trace) ≡ b) → is_open u trace ≡ b
@@ -396,7 +398,7 @@ module _ (taken : List Note) (p : Proxy) (trace : List Entry) (s : Stands taken 
         let opens : is_open u trace ≡ true = relay_open plain.live true is (λ told. told) in
         subst (λ (r : plain.Stage). RelaySettledBy r trace u captured) (sym is) (
           reads_map trace u
-              (λ none. ring_full down_size (length captured.ways.down.held) captured.ways.down.has_ended
+              (λ none. ring_full (plain.ring_down captured.door) (length captured.ways.down.held) captured.ways.down.has_ended
               (sym (ap (λ (r : plain.Stage). plain_calm.up_wants_by r captured) is) ∙ sym relay_wants_are ∙ none))
               (open_reads trace u (shown_of p) relay_alive (rests u) opens),
           writes_map trace u
@@ -423,5 +425,7 @@ module _ (taken : List Note) (p : Proxy) (trace : List Entry) (s : Stands taken 
       plain_quiet = all.plain;
       plain = plain_so;
       relays = relay_so;
+      gates_quiet = all.gates false;
+      gates = gates_settled s.relays trace;
     };
   }

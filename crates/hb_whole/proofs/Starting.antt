@@ -2,7 +2,6 @@
 use Rattle.std.proofs.Common.{◌≡◌, ◌&&◌, Bool, true, false, is_none, List, [], Option, Some, None, refl, ap, sym, ◌∙◌, subst}
 use Rattle.hb_base.specs.declared.cause.Cause.{Cause}
 use Rattle.hb_base.specs.declared.note.Note.{Note}
-use Rattle.hb_captured.specs.Captured as plain
 use Rattle.hb_held.specs.Held.{nothing_held}
 use Rattle.hb_inbound.specs.Inbound.{no_link}
 use Rattle.hb_links.specs.Busy as busy
@@ -10,7 +9,7 @@ use Rattle.hb_links.specs.Shows.{ShowsAll}
 use Rattle.hb_model.specs.Machine as control
 use Rattle.hb_model.specs.declared.config.NodeConfig.{NodeConfig}
 use Rattle.hb_node.specs.State.{State, Shows, fresh_state, closing_of}
-use Rattle.hb_proxy.specs.Machine.{fresh}
+use Rattle.hb_proxy.specs.Machine.{fresh, outward}
 use Rattle.hb_proxy.specs.Runs.{StandsFor, begins}
 use Rattle.hb_relays.specs.Shows.{ShowsRelays}
 use Rattle.hb_relays.specs.Touched as touched
@@ -21,7 +20,7 @@ use Rattle.hb_whole.specs.Stands.{Stands, AreNotes, MayBeDialled, EndsBy}
 use Rattle.hb_whole.specs.declared.proxy.Proxy.{Proxy}
 
 pub fresh_stands : (p : Proxy) (g : NodeConfig) → p.control ≡ fresh_state g (nothing_held g.network g.node g.doors)
-    → Shows p.control (control.fresh g) → ShowsAll p.side.links (λ l. no_link) → ShowsRelays p.side.relays (λ l. plain.no_link)
+    → Shows p.control (control.fresh g) → ShowsAll p.side.links (λ l. no_link) → ShowsRelays g p.side.relays (outward (fresh g))
     → told p.side.notes ≡ Some [] → p.dials ≡ None → p.ends_for ≡ None → p.strange ≡ false → Stands [] p []
 fresh_stands p g state shows links relays noted dials ends sound = record {
   machine = fresh g;
@@ -30,7 +29,7 @@ fresh_stands p g state shows links relays noted dials ends sound = record {
   trace_is = refl;
   control = shows;
   links = links;
-  relays = relays;
+  relays = subst (λ (c : NodeConfig). ShowsRelays c p.side.relays (outward (fresh g))) (ap (λ (s : State). s.config) (sym state)) relays;
   noted = subst (λ (o : Option (List Note)). AreNotes [] o []) (sym noted) refl;
   dial = subst (λ d. MayBeDialled p.control.config (fresh g) d) (sym dials) tt;
   ends = subst (λ (o : Option Cause). EndsBy o (fresh g)) (sym ends) refl;

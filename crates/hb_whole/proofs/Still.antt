@@ -1,13 +1,16 @@
 -- An entry that changes nothing on a link, or on an upstream.
 use mathlib.Core.Path.{fun_ext}
-use Rattle.std.proofs.Common.{◌≡◌, ℕ, ◌==◌, Bool, true, false, cond, refl, ap, sym, ◌∙◌}
+use Rattle.std.proofs.Common.{◌≡◌, ℕ, ◌==◌, Bool, true, false, cond, List, Option, Some, None, refl, ap, sym, ◌∙◌}
 use Rattle.std.proofs.lemmas.Bool.{eqb-true}
-use Rattle.hb_captured.specs.Captured.{Captured}
+use Rattle.hb_captured.specs.Captured.{Captured, counts_for}
+use Rattle.hb_captured.specs.Counts.{counted_with, recounted}
+use Rattle.hb_captured.specs.Part.{Part, entry_in}
 use Rattle.hb_inbound.specs.Inbound.{Inbound, at_stream}
 use Rattle.hb_inbound.specs.Part as part
 use Rattle.hb_inbound.specs.Runs as inbound
 use Rattle.hb_inbound.specs.Tunnel.{Tunnel, up_entered}
-use Rattle.hb_proxy.specs.Machine.{Machine, born_by, with_part}
+use Rattle.hb_proxy.specs.Machine.{Machine, born_after, born_by, with_part, with_plain}
+use Rattle.hb_route.specs.Opens.{Counts}
 use Rattle.hb_world.specs.declared.entry.Entry.{Entry}
 
 -- one of all links stays as it was
@@ -41,8 +44,22 @@ up_same x l s z same born =
     ∙ ap (λ (n : ℕ). record x { born = n }) born
 
 -- on a plain link, or on its upstream
-pub plain_same : (x : Machine) (l : ℕ) (z : Entry) (next : Captured) → next ≡ x.plain l → born_by x.born z ≡ x.born
-    → record x { born = born_by x.born z; plain = λ k. cond (k == l) next (x.plain k) } ≡ x
-plain_same x l z next same born =
-    ap (λ (f : ℕ → Captured). record x { born = born_by x.born z; plain = f }) (one_same x.plain l next same)
+recounted_same : (to : Option (List ℕ)) (opens : Counts) → recounted to to opens ≡ opens
+recounted_same None opens = refl
+recounted_same (Some name) opens = refl
+
+pub plain_same : (x : Machine) (l : ℕ) (p : Part) (next : Captured) → next ≡ x.plain l → born_after x.born (entry_in p) ≡ x.born
+    → with_plain l p next x ≡ x
+plain_same x l p next same born =
+    ap (λ (f : ℕ → Captured). record x {
+      born = born_after x.born (entry_in p);
+      plain = f;
+      opens = counted_with (x.plain l) next x.opens;
+    }) (one_same x.plain l next same)
+    ∙ ap (λ (y : Captured). record x {
+      born = born_after x.born (entry_in p);
+      opens = counted_with (x.plain l) y x.opens;
+    }) same
+    ∙ ap (λ (opens : Counts). record x { born = born_after x.born (entry_in p); opens = opens })
+    (recounted_same (counts_for (x.plain l)) x.opens)
     ∙ ap (λ (n : ℕ). record x { born = n }) born

@@ -9,6 +9,7 @@ use Rattle.hb_links.specs.Stirring as links
 use Rattle.hb_links.specs.declared.links.Links.{Links}
 use Rattle.hb_inbound.specs.Inbound as m
 use Rattle.hb_node.specs.State.{number_of}
+use Rattle.hb_proxy.specs.Machine.{outward}
 use Rattle.hb_proxy.specs.Points.{Point}
 use Rattle.hb_proxy.specs.Seen.{IsLinkThere}
 use Rattle.hb_relays.specs.Calls.{IsPresent, has_of}
@@ -105,7 +106,7 @@ links_heard links relays p = record p { stirs = false; side = record p.side { li
 
 -- where those of one door weren't asked, or told none
 pub relays_unheard : (told : Option ℕ) (k : Relays) → relays.Hears told k k
-relays_unheard told k f shows = (shows, λ n present stirs. inl stirs)
+relays_unheard told k g out shows = (shows, λ n present stirs. inl stirs)
 
 pub links_silent : (told : Option ℕ) (k n : Links) → links.Hears None k n → links.Hears told k n
 links_silent told k n hears f shows =
@@ -144,7 +145,7 @@ pub doors_hear : (taken : List Note) (p : Proxy) (new : Links) (behind : Relays)
     → Stands taken (links_heard new behind p) trace × Hears trace result (shown_of p) (shown_of (links_heard new behind p))
 doors_hear taken p new behind result trace none hears relays_hear only s =
     let heard = hears s.machine.inbound s.links in
-    let relays_heard = relays_hear s.machine.plain s.relays in (
+    let relays_heard = relays_hear p.control.config (outward s.machine) s.relays in (
       record {
         machine = s.machine;
         points = s.points;
@@ -174,5 +175,5 @@ doors_hear taken p new behind result trace none hears relays_hear only s =
         → (stirs_by o q k ≡ true) ⊎ (result ≡ Some k)
     by k alive Control whose stirs = let both : None ≡ Some k = sym none ∙ own_is p k (is_owned p k whose) stirs in absurd cc
     by k alive Plain whose stirs =
-        (relays_hear s.machine.plain s.relays).1 k (plain_present taken p trace s k alive whose) stirs
+        (relays_hear p.control.config (outward s.machine) s.relays).1 k (plain_present taken p trace s k alive whose) stirs
     by k alive Inbound whose stirs = (hears s.machine.inbound s.links).1 k (link_present taken p trace s k alive whose) stirs

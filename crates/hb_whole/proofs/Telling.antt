@@ -4,7 +4,6 @@ use Rattle.std.proofs.lemmas.List.{append_assoc}
 use Rattle.hb_base.specs.declared.door.Why.{Why}
 use Rattle.hb_base.specs.declared.note.Note.{Note}
 use Rattle.hb_base.specs.declared.target.Target.{Target}
-use Rattle.hb_captured.specs.Captured.{Captured}
 use Rattle.hb_inbound.specs.Inbound.{Inbound}
 use Rattle.hb_link.specs.Noted.{Takes}
 use Rattle.hb_links.specs.Calls.{point_for}
@@ -14,7 +13,7 @@ use Rattle.hb_links.specs.Stirring as links_stirring
 use Rattle.hb_model.specs.Machine.{Machine as Control}
 use Rattle.hb_node.specs.State.{Shows}
 use Rattle.hb_proxy.specs.Doors.{is_at_door}
-use Rattle.hb_proxy.specs.Machine.{Machine}
+use Rattle.hb_proxy.specs.Machine.{Machine, Outward, outward}
 use Rattle.hb_proxy.specs.Notes.{notes, note_in}
 use Rattle.hb_proxy.specs.Points.{Point, entry_in, entries}
 use Rattle.hb_proxy.specs.Runs.{Steps, StandsFor, goes_on}
@@ -108,9 +107,9 @@ link_tells p side z l G P same door guards meets stirs taken trace s may =
     let all = guards taken trace s may in
     let at = all.1.at in
     let behind = meets at.point all.1.found g s.machine at.next s.points s.run s.links all.2 at.steps in
-    let shows : ShowsRelays side.relays at.next.plain =
-    subst (λ (k : _). ShowsRelays k at.next.plain) (sym same)
-    (subst (λ (f : ℕ → Captured). ShowsRelays p.side.relays f) (sym all.1.plain) s.relays) in (
+    let shows : ShowsRelays g side.relays (outward at.next) =
+    subst (λ (k : _). ShowsRelays g k (outward at.next)) (sym same)
+    (subst (λ (out : Outward). ShowsRelays g p.side.relays out) (sym all.1.outward) s.relays) in (
       guarded_stands taken p side trace z s all.0 door at
           (links_follow g at.next (told p.side.notes) side (G at.point) shows behind),
       side_stirs p side (trace ++ z ∷ []) (λ k. links_stir p.side side k same (stirs k)),

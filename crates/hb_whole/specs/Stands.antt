@@ -5,7 +5,7 @@ use Rattle.hb_base.specs.declared.door.Why.{Why}
 use Rattle.hb_base.specs.declared.door.Why.TheVariants as whys
 use Rattle.hb_base.specs.declared.note.Note.{Note}
 use Rattle.hb_base.specs.declared.target.Target.{Target}
-use Rattle.hb_captured.specs.Answer.{why_at}
+use Rattle.hb_captured.specs.Answer.{address_of, key_of, why_for}
 use Rattle.hb_captured.specs.Captured as plain
 use Rattle.hb_captured.specs.Captured.{Captured}
 use Rattle.hb_inbound.specs.Inbound as inbound
@@ -17,7 +17,7 @@ use Rattle.hb_model.specs.Discovery as discovery
 use Rattle.hb_model.specs.declared.config.NodeConfig.{NodeConfig}
 use Rattle.hb_node.specs.State.{Shows}
 use Rattle.hb_proxy.specs.Doors.{without_doors}
-use Rattle.hb_proxy.specs.Machine.{Machine}
+use Rattle.hb_proxy.specs.Machine.{Machine, outward}
 use Rattle.hb_proxy.specs.Points.{Point, entries}
 use Rattle.hb_proxy.specs.Runs.{ControlRests, StandsFor}
 use Rattle.hb_relays.specs.Shows.{ShowsRelays}
@@ -37,7 +37,8 @@ AreNotes taken (Some waiting) points = notes_of points ≡ taken ++ waiting
 -- a dial is due for a plain link, while the control plane rests
 abbrev pub PlainDialIsDue : NodeConfig → Machine → Target → Why → ℕ → Type 0
 PlainDialIsDue g x to why l =
-    ControlRests x.control × (why ≡ why_at (x.plain l).door l) × ((x.plain l).stage ≡ plain.due) × (to ≡ (x.plain l).address)
+    ControlRests x.control × (why ≡ why_for (x.plain l).aim (x.plain l).door l) × ((x.plain l).stage ≡ plain.due)
+    × (key_of (x.plain l).aim ≡ None) × (to ≡ address_of (x.plain l).aim)
 
 -- a dial is due: of the control plane; or, while that rests, of a tunnel's target, or for a plain link
 abbrev pub DialIsDue : NodeConfig → Machine → Target → Why → Type 0
@@ -105,7 +106,7 @@ pub record Stands (taken : List Note) (p : Proxy) (trace : List Entry) : Type 0 
   pub trace_is : without_doors trace ≡ entries points
   pub control : Shows p.control machine.control
   pub links : ShowsAll p.side.links machine.inbound
-  pub relays : ShowsRelays p.side.relays machine.plain
+  pub relays : ShowsRelays p.control.config p.side.relays (outward machine)
   pub noted : AreNotes taken (told p.side.notes) points
   pub dial : MayBeDialled p.control.config machine p.dials
   pub ends : EndsBy p.ends_for machine

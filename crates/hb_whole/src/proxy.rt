@@ -73,12 +73,13 @@ impl Proxy {
         ensures fresh { IfOk result (λ proxy. IsFreshNode (shown_of proxy)) }
         ensures config { IfOk result (λ proxy. config_of proxy ≡ config) }
     {
+        let hbone_port = config.hbone_port;
         let control = Control::new(alloc, config)?;
         Ok(Proxy {
             control,
             side: Side {
                 links: Links::new(alloc),
-                relays: Relays::new(alloc),
+                relays: Relays::new(alloc, hbone_port),
                 notes: Queue::new(alloc),
             },
             limits,
