@@ -12,6 +12,7 @@ config_of r = record {
   network = r.network;
   node = r.node;
   doors = record { inbound = r.inbound; outbound = r.outbound; plain = r.plain };
+  hbone_port = r.hbone_port;
 }
 
 -- its run, which so many ticks end, if a number of them does

@@ -35,6 +35,7 @@ fn config_of(alloc: Global, words: &RunWords<'_>) -> Result<NodeConfig, NoMemory
             outbound: words.outbound,
             plain: words.plain,
         },
+        hbone_port: words.hbone_port,
     })
 }
 
