@@ -158,6 +158,37 @@ def straight():
         + opened(b"abc", destination="10.0.0.70"))
 
 
+def chosen():
+    """A service with three endpoints: the one with fewer connections goes first, of equal ones the one of the smaller name."""
+    three = BASE + woken(1, told(e3=workload("10.0.0.33", serves=serves("web.a")), e5=workload("10.0.0.55", serves=serves("web.a"))))
+    both = three + opened(b"a") + opened(b"b", link=4)
+    row("the endpoint of the smaller name goes first", three + opened(b"a"))
+    row("the second connection goes to the second endpoint", both)
+    row("four connections to three endpoints", both + opened(b"c", link=6) + opened(b"d", link=8))
+    row("a connection that ended isn't counted", both + on("end", 2) + on("end", 3) + opened(b"c", link=6))
+    row("a connection that broke isn't counted", both + on("break", 5) + opened(b"c", link=6))
+    row("a connection whose peer broke isn't counted", both + on("break", 2) + opened(b"c", link=6))
+    row("a connection that isn't open yet is counted", three + begun(b"a") + begun(b"b", link=4))
+    row("a dial that failed isn't counted", three + '{"nodial":1}\n' + begun(b"a") + opened(b"b", link=3))
+    row("an upstream that didn't open isn't counted", three + begun(b"a") + on("break", 3) + opened(b"b", link=4))
+    row("a connection to a workload's own address is counted", three + opened(b"a", destination="10.0.0.33", port=22)
+        + opened(b"b", link=4))
+    row("a connection to an address that nobody has isn't counted", three + opened(b"a", destination="192.0.2.1", port=22)
+        + opened(b"b", link=4))
+    row("a connection that is refused isn't counted", three + begun(port=81) + opened(b"b", link=3))
+    row("one to an endpoint that is one of the node's own doors isn't counted", BASE + woken(1, told(
+        e3=workload("10.0.0.4", serves=serves("web.a", target=15001)))) + begun(b"a") + begun(b"b", link=3))
+    row("a count outlives its endpoint's record", both + woken(1, gone("e3")) + woken(1, told(e3=workload("10.0.0.33", serves=serves("web.a"))))
+        + opened(b"c", link=6))
+    row("an endpoint under another name has no connection", both + woken(1, gone("e3")) + woken(1, told(
+        e2=workload("10.0.0.33", serves=serves("web.a")))) + opened(b"c", link=6))
+    row("connections of two services to one endpoint are counted together", three + woken(1, told(e3=workload("10.0.0.33", serves=[
+        ("a/web.a", [(80, 8080)]), ("a/nobody.a", [(80, 9090)])]))) + opened(b"a", destination=NOBODYS) + opened(b"b", link=4))
+    row("many connections, the first of which end", three + "".join(opened(b"x", link=number) for number in range(2, 14, 2))
+        + "".join(on("end", number) + on("end", number + 1) for number in (2, 6, 8)) + "".join(
+            opened(b"y", link=number) for number in range(14, 20, 2)))
+
+
 def gateways():
     row("a service whose endpoint takes HBONE", BASE + begun(destination=GATE))
     row("a workload of this node that takes HBONE", BASE + begun(destination="10.0.0.7", port=9090))
@@ -260,9 +291,9 @@ def rooms():
     row("the upstream's end waits behind the last octet", LIVE + room(2, 2) + woken(3, b"abcd") + on("end", 3) + room(2, 1) + WAKE + "\n"
         + room(2, 1) + WAKE + "\n" + on("end", 2))
     big, little = bytes(65535), bytes(16384)
-    row("the ring up is full", LIVE + room(3, 0) + woken(2, big, b"more") + room(3, 10) + WAKE + "\n" + room(3, 100000) + WAKE + "\n")
-    row("the ring down is full", LIVE + room(2, 0) + woken(3, little, b"more") + room(2, 10) + WAKE + "\n" + room(2, 100000) + WAKE + "\n")
-    row("the ring up is full before the upstream is open", BASE + begun() + woken(2, big, b"more") + on("open", 3))
+    row("the ring up is full", LIVE + room(3, 0) + woken(2, little, b"more") + room(3, 10) + WAKE + "\n" + room(3, 100000) + WAKE + "\n")
+    row("the ring down is full", LIVE + room(2, 0) + woken(3, big, b"more") + room(2, 10) + WAKE + "\n" + room(2, 100000) + WAKE + "\n")
+    row("the ring up is full before the upstream is open", BASE + begun() + woken(2, little, b"more") + on("open", 3))
     row("an update while the rings hold bytes", LIVE + room(2, 0) + room(3, 0) + woken(2, b"abc") + woken(3, b"de") + woken(1, DENY)
         + room(2, 10) + room(3, 10) + WAKE + "\n")
     row("many octets each way", LIVE + woken(2, *[bytes(9000)] * 9) + woken(3, *[bytes(7000)] * 9) + on("end", 2) + on("end", 3))
@@ -354,7 +385,7 @@ def line_of(name, script, words, want):
 
 
 def main():
-    for rows in (by_hand, missing, straight, gateways, unsynced, doors, headers, dials, ends, updates, rooms, mixed, traces):
+    for rows in (by_hand, missing, straight, chosen, gateways, unsynced, doors, headers, dials, ends, updates, rooms, mixed, traces):
         rows()
     assert len({name for name, *_ in ROWS}) == len(ROWS)
     print(HEAD, end="")

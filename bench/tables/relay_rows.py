@@ -51,6 +51,8 @@ for name, says, octets in (
     ("OTHER_PORT", "A service there, port 80.", addresses(s=service(port=80))),
     ("ENDPOINT", "A workload at 10.0.0.8 whose port 8080 serves port 9090 of the service.",
         addresses(u4=host("10.0.0.8", serves=[("a/web.a", [(9090, 8080)])]))),
+    ("OTHER_ENDPOINT", "One of a greater name at 10.0.0.6 that serves it too.",
+        addresses(u5=host("10.0.0.6", serves=[("a/web.a", [(9090, 8080)])]))),
     ("NO_POLICY", "No policy.", response(AUTHORIZATION)),
     ("ALLOWS_NONE", "A policy that allows none.", response(AUTHORIZATION, ("a/n", policy("a", "n", "GLOBAL", "ALLOW", [])))),
 ):

@@ -176,10 +176,12 @@ def plain_form(record):
                           ports=ports_of(service.get(5, [])), waypoint=7 in service)
 
 
-def way(held, asked, source, target):
-    """`direct` and the target's text, `gateway` and that of its address, or `none` and the number of why there is none."""
+def way(held, asked, opens, source, target):
+    """`direct`, the target's text and the endpoint's name, or `-`; `gateway`, the text of its address, the authority and the name; or `none`
+    and the number of why there is none. `opens` has how many connections each endpoint has."""
     resources = {name: plain_form(version.record) for (kind, name), version in held.items() if kind == ADDRESS}
-    return routes.way(resources, {}, source, target.ip, target.port, 0, asked.get("network", ""), asked["node"]).split()[:2]
+    return routes.way(resources, opens, source, target.ip, target.port, asked.get("hbone-port", 15008), asked.get("network", ""),
+                      asked["node"]).split()
 
 
 def request_of(headers):
@@ -637,11 +639,13 @@ class Inbound(Connection):
 
 class Captured:
     """A link of raw bytes, of the plain door or the outbound one, with its upstream. `stage` is fronting, asked, pending, live; behind its
-    end `cause` says why. `target` is what its header told, and `address` what is dialled for it."""
+    end `cause` says why. `target` is what its header told, `address` what is dialled for it, and `endpoint` to what it is a connection. At the
+    outbound door the way to the link is the long one."""
 
     def __init__(self, number, door, run):
         self.number, self.door, self.run, self.stage, self.cause = number, door, run, "fronting", None
-        self.front, self.peer, self.target, self.address, self.up = b"", None, None, None, None
+        self.front, self.peer, self.target, self.address, self.up, self.endpoint = b"", None, None, None, None, None
+        self.sizes = {"up": RINGS["down"], "down": RINGS["up"]} if door == "outbound" else RINGS
         self.rings, self.taken, self.is_ended, self.is_shut = ({"up": b"", "down": b""}, {"up": 0, "down": 0},
                                                                {"up": False, "down": False}, {"up": False, "down": False})
 
@@ -654,12 +658,12 @@ class Captured:
         return self.ring_room("down") if self.cause is None and self.stage == "live" else 0
 
     def ring_room(self, way):
-        return 0 if self.is_ended[way] else RINGS[way] - len(self.rings[way])
+        return 0 if self.is_ended[way] else self.sizes[way] - len(self.rings[way])
 
     def waits(self, way):
         """What may be written: to the upstream, or to the link."""
         waits = self.rings[way] if self.cause is None and self.stage == "live" else b""
-        return waits[:RINGS[way] - self.taken[way] % RINGS[way]] if self.run.choice.wraps else waits
+        return waits[:self.sizes[way] - self.taken[way] % self.sizes[way]] if self.run.choice.wraps else waits
 
     def note(self, status):
         self.run.notes.append(f"verdict {self.number}/0 {status} {self.peer.ip} - {told_target(self.target)}")
@@ -698,13 +702,20 @@ class Captured:
     def routed(self):
         if self.run.kinds != {ADDRESS, POLICY}:
             return 503, "refused 503", None
-        kind, leads = way(self.run.held, self.run.asked, self.peer.ip, self.target)
+        kind, leads, *more = way(self.run.held, self.run.asked, self.run.connections(), self.peer.ip, self.target)
         if kind == "none":
             return 503, f"no route {leads}", None
         if kind == "gateway":
             return 503, "no room", None
         address = target_of(leads)
-        return (400, "refused 400", None) if self.run.is_own_door(address) else (200, None, address)
+        if self.run.is_own_door(address):
+            return 400, "refused 400", None
+        self.endpoint = more[0] if more[0] != "-" else None
+        return 200, None, address
+
+    def connects_to(self):
+        """The endpoint to which it is a connection now, if any."""
+        return self.endpoint if self.cause is None and self.stage != "fronting" else None
 
     def ended(self):
         self.is_ended["up"] = True
@@ -782,6 +793,10 @@ class Run:
 
     def is_full(self):
         return sum(len(link.living()) for link in self.inbound.values()) + len(self.plain) >= self.asked.get("tunnels", 4096)
+
+    def connections(self):
+        """How many connections each endpoint has."""
+        return collections.Counter(filter(None, (link.connects_to() for link in self.plain.values())))
 
     def is_own_door(self, target):
         """Whether who connects to the target would reach a door of the proxy."""

@@ -186,8 +186,8 @@ of two endpoints the smaller name, each time; <usual> <odoor>; <mesh><piece>0000
 0a2a<address>12210a1f1a040a0000214a026e32b201120a07612f7765622e6112070a05085010903f1a026533222a<address>2a027839<w1><o\
 utb><piece><frontweb>61<w2><open3><outb><piece><frontweb>62<w4>{'open':5}|<wake>; 0; link 1 discovery 10.0.0.1:15010: \
 received 1309, sent 574, closed stopped|<out2>29, sent 0, closed stopped|link 3 direct 10.0.0.33:8080 of 2: received 0\
-, sent 1, closed stopped|link 4 outbound: received 29, sent 0, closed stopped|link 5 direct 10.0.0.33:8080 of 4: recei\
-ved 0, sent 1, closed stopped|<web2>verdict 4/0 200 10.0.0.9 - 10.1.0.1:80|end 2/0 stopped up 1 down 0|end 4/0 stopped \
+, sent 1, closed stopped|link 4 outbound: received 29, sent 0, closed stopped|link 5 direct 10.0.0.4:8080 of 4: receiv\
+ed 0, sent 1, closed stopped|<web2>verdict 4/0 200 10.0.0.9 - 10.1.0.1:80|end 2/0 stopped up 1 down 0|end 4/0 stopped \
 up 1 down 0|total: 5 links, 2 accepted, 0 revoked, 2 up, 0 down|; \n\
 an endpoint that is sick gives way to another; <usual> <odoor>; <mesh><piece>0000ec00000000000100000000e7125b0a0131125\
 20a2a<address>12240a221a040a0000044a026e32880101b201120a07612f7765622e6112070a05085010903f1a02653412580a0131124f0a2a<a\
@@ -236,6 +236,179 @@ a policy that denies each peer at an address of the node; <usual> <odoor>; <mesh
 0a000d0a515549540a2111000c0a0000090a0000460fa00050616263<w2><open3>; 0; link 1 discovery 10.0.0.1:15010: received 1430\
 , sent 642, closed stopped|<out2>31, sent 0, closed stopped|link 3 direct 10.0.0.70:80 of 2: received 0, sent 3, close\
 d stopped|verdict 2/0 200 10.0.0.9 - 10.0.0.70:80|end 2/0 stopped up 3 down 0|total: 3 links, 1 accepted, 0 revoked, 3 \
+up, 0 down|; \n\
+the endpoint of the smaller name goes first; <usual> <odoor>; <mesh><piece>0000e900000000000100000000e412580a0131124f0\
+a2a<address>12210a1f1a040a0000214a026e32b201120a07612f7765622e6112070a05085010903f1a02653312580a0131124f0a2a<address>1\
+2210a1f1a040a0000374a026e32b201120a07612f7765622e6112070a05085010903f1a026535222a<address>2a027839<w1><outb><piece><fr\
+ontweb>61<w2><open3>; 0; link 1 discovery 10.0.0.1:15010: received 1399, sent 574, closed stopped|<out2>29, sent 0, cl\
+osed stopped|link 3 direct 10.0.0.33:8080 of 2: received 0, sent 1, closed stopped|<web2>end 2/0 stopped up 1 down 0|t\
+otal: 3 links, 1 accepted, 0 revoked, 1 up, 0 down|; \n\
+the second connection goes to the second endpoint; <usual> <odoor>; <mesh><piece>0000e900000000000100000000e412580a013\
+1124f0a2a<address>12210a1f1a040a0000214a026e32b201120a07612f7765622e6112070a05085010903f1a02653312580a0131124f0a2a<add\
+ress>12210a1f1a040a0000374a026e32b201120a07612f7765622e6112070a05085010903f1a026535222a<address>2a027839<w1><outb><pie\
+ce><frontweb>61<w2><open3><outb><piece><frontweb>62<w4>{'open':5}|<wake>; 0; link 1 discovery 10.0.0.1:15010: received \
+1399, sent 574, closed stopped|<out2>29, sent 0, closed stopped|link 3 direct 10.0.0.33:8080 of 2: received 0, sent 1, \
+closed stopped|link 4 outbound: received 29, sent 0, closed stopped|link 5 direct 10.0.0.4:8080 of 4: received 0, sent \
+1, closed stopped|<web2>verdict 4/0 200 10.0.0.9 - 10.1.0.1:80|end 2/0 stopped up 1 down 0|end 4/0 stopped up 1 down 0\
+|total: 5 links, 2 accepted, 0 revoked, 2 up, 0 down|; \n\
+four connections to three endpoints; <usual> <odoor>; <mesh><piece>0000e900000000000100000000e412580a0131124f0a2a<addr\
+ess>12210a1f1a040a0000214a026e32b201120a07612f7765622e6112070a05085010903f1a02653312580a0131124f0a2a<address>12210a1f1\
+a040a0000374a026e32b201120a07612f7765622e6112070a05085010903f1a026535222a<address>2a027839<w1><outb><piece><frontweb>6\
+1<w2><open3><outb><piece><frontweb>62<w4>{'open':5}|<wake><outb><piece><frontweb>63','link':6}|<wake>{'open':7}|<wake>\
+<outb><piece><frontweb>64','link':8}|<wake>{'open':9}|<wake>; 0; link 1 discovery 10.0.0.1:15010: received 1399, sent \
+574, closed stopped|<out2>29, sent 0, closed stopped|link 3 direct 10.0.0.33:8080 of 2: received 0, sent 1, closed sto\
+pped|link 4 outbound: received 29, sent 0, closed stopped|link 5 direct 10.0.0.4:8080 of 4: received 0, sent 1, closed \
+stopped|link 6 outbound: received 29, sent 0, closed stopped|link 7 direct 10.0.0.55:8080 of 6: received 0, sent 1, cl\
+osed stopped|link 8 outbound: received 29, sent 0, closed stopped|link 9 direct 10.0.0.33:8080 of 8: received 0, sent \
+1, closed stopped|<web2>verdict 4/0 200 10.0.0.9 - 10.1.0.1:80|verdict 6/0 200 10.0.0.9 - 10.1.0.1:80|verdict 8/0 200 \
+10.0.0.9 - 10.1.0.1:80|end 2/0 stopped up 1 down 0|end 4/0 stopped up 1 down 0|end 6/0 stopped up 1 down 0|end 8/0 sto\
+pped up 1 down 0|total: 9 links, 4 accepted, 0 revoked, 4 up, 0 down|; \n\
+a connection that ended isn't counted; <usual> <odoor>; <mesh><piece>0000e900000000000100000000e412580a0131124f0a2a<ad\
+dress>12210a1f1a040a0000214a026e32b201120a07612f7765622e6112070a05085010903f1a02653312580a0131124f0a2a<address>12210a1\
+f1a040a0000374a026e32b201120a07612f7765622e6112070a05085010903f1a026535222a<address>2a027839<w1><outb><piece><frontweb\
+>61<w2><open3><outb><piece><frontweb>62<w4>{'open':5}|<wake>{'end':2}|<wake>{'end':3}|<wake><outb><piece><frontweb>63'\
+,'link':6}|<wake>{'open':7}|<wake>; 0; link 1 discovery 10.0.0.1:15010: received 1399, sent 574, closed stopped|<out2>\
+29, sent 0, closed done|link 3 direct 10.0.0.33:8080 of 2: received 0, sent 1, closed done|link 4 outbound: received 2\
+9, sent 0, closed stopped|link 5 direct 10.0.0.4:8080 of 4: received 0, sent 1, closed stopped|link 6 outbound: receiv\
+ed 29, sent 0, closed stopped|link 7 direct 10.0.0.33:8080 of 6: received 0, sent 1, closed stopped|<web2>verdict 4/0 \
+200 10.0.0.9 - 10.1.0.1:80|end 2/0 done up 1 down 0|verdict 6/0 200 10.0.0.9 - 10.1.0.1:80|end 4/0 stopped up 1 down 0\
+|end 6/0 stopped up 1 down 0|total: 7 links, 3 accepted, 0 revoked, 3 up, 0 down|; \n\
+a connection that broke isn't counted; <usual> <odoor>; <mesh><piece>0000e900000000000100000000e412580a0131124f0a2a<ad\
+dress>12210a1f1a040a0000214a026e32b201120a07612f7765622e6112070a05085010903f1a02653312580a0131124f0a2a<address>12210a1\
+f1a040a0000374a026e32b201120a07612f7765622e6112070a05085010903f1a026535222a<address>2a027839<w1><outb><piece><frontweb\
+>61<w2><open3><outb><piece><frontweb>62<w4>{'open':5}|<wake>{'break':5}|<wake><outb><piece><frontweb>63','link':6}|<wa\
+ke>{'open':7}|<wake>; 0; link 1 discovery 10.0.0.1:15010: received 1399, sent 574, closed stopped|<out2>29, sent 0, cl\
+osed stopped|link 3 direct 10.0.0.33:8080 of 2: received 0, sent 1, closed stopped|link 4 outbound: received 29, sent \
+0, closed up fault|link 5 direct 10.0.0.4:8080 of 4: received 0, sent 1, closed up fault|link 6 outbound: received 29, \
+sent 0, closed stopped|link 7 direct 10.0.0.4:8080 of 6: received 0, sent 1, closed stopped|<web2>verdict 4/0 200 10.0\
+.0.9 - 10.1.0.1:80|end 4/0 up fault up 1 down 0|verdict 6/0 200 10.0.0.9 - 10.1.0.1:80|end 2/0 stopped up 1 down 0|end \
+6/0 stopped up 1 down 0|total: 7 links, 3 accepted, 0 revoked, 3 up, 0 down|; \n\
+a connection whose peer broke isn't counted; <usual> <odoor>; <mesh><piece>0000e900000000000100000000e412580a0131124f0\
+a2a<address>12210a1f1a040a0000214a026e32b201120a07612f7765622e6112070a05085010903f1a02653312580a0131124f0a2a<address>1\
+2210a1f1a040a0000374a026e32b201120a07612f7765622e6112070a05085010903f1a026535222a<address>2a027839<w1><outb><piece><fr\
+ontweb>61<w2><open3><outb><piece><frontweb>62<w4>{'open':5}|<wake>{'break':2}|<wake><outb><piece><frontweb>63','link':\
+6}|<wake>{'open':7}|<wake>; 0; link 1 discovery 10.0.0.1:15010: received 1399, sent 574, closed stopped|<out2>29, sent \
+0, closed peer gone|link 3 direct 10.0.0.33:8080 of 2: received 0, sent 1, closed peer gone|link 4 outbound: received \
+29, sent 0, closed stopped|link 5 direct 10.0.0.4:8080 of 4: received 0, sent 1, closed stopped|link 6 outbound: recei\
+ved 29, sent 0, closed stopped|link 7 direct 10.0.0.33:8080 of 6: received 0, sent 1, closed stopped|<web2>verdict 4/0 \
+200 10.0.0.9 - 10.1.0.1:80|end 2/0 peer gone up 1 down 0|verdict 6/0 200 10.0.0.9 - 10.1.0.1:80|end 4/0 stopped up 1 d\
+own 0|end 6/0 stopped up 1 down 0|total: 7 links, 3 accepted, 0 revoked, 3 up, 0 down|; \n\
+a connection that isn't open yet is counted; <usual> <odoor>; <mesh><piece>0000e900000000000100000000e412580a0131124f0\
+a2a<address>12210a1f1a040a0000214a026e32b201120a07612f7765622e6112070a05085010903f1a02653312580a0131124f0a2a<address>1\
+2210a1f1a040a0000374a026e32b201120a07612f7765622e6112070a05085010903f1a026535222a<address>2a027839<w1><outb><piece><fr\
+ontweb>61<w2><outb><piece><frontweb>62<w4>; 0; link 1 discovery 10.0.0.1:15010: received 1399, sent 574, closed stoppe\
+d|<out2>29, sent 0, closed stopped|link 3 direct 10.0.0.33:8080 of 2: received 0, sent 0, closed stopped|link 4 outbou\
+nd: received 29, sent 0, closed stopped|link 5 direct 10.0.0.4:8080 of 4: received 0, sent 0, closed stopped|total: 5 \
+links, 0 accepted, 0 revoked, 0 up, 0 down|; \n\
+a dial that failed isn't counted; <usual> <odoor>; <mesh><piece>0000e900000000000100000000e412580a0131124f0a2a<address\
+>12210a1f1a040a0000214a026e32b201120a07612f7765622e6112070a05085010903f1a02653312580a0131124f0a2a<address>12210a1f1a04\
+0a0000374a026e32b201120a07612f7765622e6112070a05085010903f1a026535222a<address>2a027839<w1>{'nodial':1}|<outb><piece><\
+frontweb>61<w2><outb><piece><frontweb>62<w3><open4>; 0; link 1 discovery 10.0.0.1:15010: received 1399, sent 574, clos\
+ed stopped|<out2>29, sent 0, closed up fault|link 3 outbound: received 29, sent 0, closed stopped|link 4 direct 10.0.0\
+.33:8080 of 3: received 0, sent 1, closed stopped|verdict 2/0 502 10.0.0.9 - 10.1.0.1:80|verdict 3/0 200 10.0.0.9 - 10\
+.1.0.1:80|end 3/0 stopped up 1 down 0|total: 4 links, 1 accepted, 0 revoked, 1 up, 0 down|; \n\
+";
+
+/// Runs.
+pub const OUTBOUND_2: &[u8] = b"\
+an upstream that didn't open isn't counted; <usual> <odoor>; <mesh><piece>0000e900000000000100000000e412580a0131124f0a\
+2a<address>12210a1f1a040a0000214a026e32b201120a07612f7765622e6112070a05085010903f1a02653312580a0131124f0a2a<address>12\
+210a1f1a040a0000374a026e32b201120a07612f7765622e6112070a05085010903f1a026535222a<address>2a027839<w1><outb><piece><fro\
+ntweb>61<w2>{'break':3}|<wake><outb><piece><frontweb>62<w4>{'open':5}|<wake>; 0; link 1 discovery 10.0.0.1:15010: rece\
+ived 1399, sent 574, closed stopped|<out2>29, sent 0, closed stopped|link 3 direct 10.0.0.33:8080 of 2: received 0, se\
+nt 0, closed stopped|link 4 outbound: received 29, sent 0, closed stopped|link 5 direct 10.0.0.4:8080 of 4: received 0\
+, sent 1, closed stopped|verdict 4/0 200 10.0.0.9 - 10.1.0.1:80|end 4/0 stopped up 1 down 0|total: 5 links, 1 accepted\
+, 0 revoked, 1 up, 0 down|; \n\
+a connection to a workload's own address is counted; <usual> <odoor>; <mesh><piece>0000e900000000000100000000e412580a0\
+131124f0a2a<address>12210a1f1a040a0000214a026e32b201120a07612f7765622e6112070a05085010903f1a02653312580a0131124f0a2a<a\
+ddress>12210a1f1a040a0000374a026e32b201120a07612f7765622e6112070a05085010903f1a026535222a<address>2a027839<w1><outb><p\
+iece>0d0a0d0a000d0a515549540a2111000c0a0000090a0000210fa0001661<w2><open3><outb><piece><frontweb>62<w4>{'open':5}|<wak\
+e>; 0; link 1 discovery 10.0.0.1:15010: received 1399, sent 574, closed stopped|<out2>29, sent 0, closed stopped|link \
+3 direct 10.0.0.33:22 of 2: received 0, sent 1, closed stopped|link 4 outbound: received 29, sent 0, closed stopped|li\
+nk 5 direct 10.0.0.4:8080 of 4: received 0, sent 1, closed stopped|verdict 2/0 200 10.0.0.9 - 10.0.0.33:22|verdict 4/0 \
+200 10.0.0.9 - 10.1.0.1:80|end 2/0 stopped up 1 down 0|end 4/0 stopped up 1 down 0|total: 5 links, 2 accepted, 0 revok\
+ed, 2 up, 0 down|; \n\
+a connection to an address that nobody has isn't counted; <usual> <odoor>; <mesh><piece>0000e900000000000100000000e412\
+580a0131124f0a2a<address>12210a1f1a040a0000214a026e32b201120a07612f7765622e6112070a05085010903f1a02653312580a0131124f0\
+a2a<address>12210a1f1a040a0000374a026e32b201120a07612f7765622e6112070a05085010903f1a026535222a<address>2a027839<w1><ou\
+tb><piece>0d0a0d0a000d0a515549540a2111000c0a000009c00002010fa0001661<w2><open3><outb><piece><frontweb>62<w4>{'open':5}\
+|<wake>; 0; link 1 discovery 10.0.0.1:15010: received 1399, sent 574, closed stopped|<out2>29, sent 0, closed stopped|\
+link 3 direct 192.0.2.1:22 of 2: received 0, sent 1, closed stopped|link 4 outbound: received 29, sent 0, closed stopp\
+ed|link 5 direct 10.0.0.33:8080 of 4: received 0, sent 1, closed stopped|verdict 2/0 200 10.0.0.9 - 192.0.2.1:22|verdi\
+ct 4/0 200 10.0.0.9 - 10.1.0.1:80|end 2/0 stopped up 1 down 0|end 4/0 stopped up 1 down 0|total: 5 links, 2 accepted, \
+0 revoked, 2 up, 0 down|; \n\
+a connection that is refused isn't counted; <usual> <odoor>; <mesh><piece>0000e900000000000100000000e412580a0131124f0a\
+2a<address>12210a1f1a040a0000214a026e32b201120a07612f7765622e6112070a05085010903f1a02653312580a0131124f0a2a<address>12\
+210a1f1a040a0000374a026e32b201120a07612f7765622e6112070a05085010903f1a026535222a<address>2a027839<w1><outb><piece>0d0a\
+0d0a000d0a515549540a2111000c0a0000090a0100010fa00051<w2><outb><piece><frontweb>62<w3><open4>; 0; link 1 discovery 10.0\
+.0.1:15010: received 1399, sent 574, closed stopped|<out2>28, sent 0, closed no route 3|link 3 outbound: received 29, \
+sent 0, closed stopped|link 4 direct 10.0.0.33:8080 of 3: received 0, sent 1, closed stopped|verdict 2/0 503 10.0.0.9 \
+- 10.1.0.1:81|verdict 3/0 200 10.0.0.9 - 10.1.0.1:80|end 3/0 stopped up 1 down 0|total: 4 links, 1 accepted, 0 revoked\
+, 1 up, 0 down|; \n\
+one to an endpoint that is one of the node's own doors isn't counted; <usual> <odoor>; <mesh><piece>00008f000000000001\
+000000008a12580a0131124f0a2a<address>12210a1f1a040a0000044a026e32b201120a07612f7765622e6112070a0508501099751a026533222\
+a<address>2a027839<w1><outb><piece><frontweb>61<w2><outb><piece><frontweb>62<w3>; 0; link 1 discovery 10.0.0.1:15010: \
+received 1309, sent 574, closed stopped|<out2>29, sent 0, closed refused 400|link 3 outbound: received 29, sent 0, clo\
+sed refused 400|verdict 2/0 400 10.0.0.9 - 10.1.0.1:80|verdict 3/0 400 10.0.0.9 - 10.1.0.1:80|total: 3 links, 0 accept\
+ed, 0 revoked, 0 up, 0 down|; \n\
+a count outlives its endpoint's record; <usual> <odoor>; <mesh><piece>0000e900000000000100000000e412580a0131124f0a2a<a\
+ddress>12210a1f1a040a0000214a026e32b201120a07612f7765622e6112070a05085010903f1a02653312580a0131124f0a2a<address>12210a\
+1f1a040a0000374a026e32b201120a07612f7765622e6112070a05085010903f1a026535222a<address>2a027839<w1><outb><piece><frontwe\
+b>61<w2><open3><outb><piece><frontweb>62<w4>{'open':5}|<wake><piece>0000390000000000010000000034222a<address>320265332\
+a027839<then1>00008f000000000001000000008a12580a0131124f0a2a<address>12210a1f1a040a0000214a026e32b201120a07612f7765622\
+e6112070a05085010903f1a026533222a<address>2a027839<w1><outb><piece><frontweb>63','link':6}|<wake>{'open':7}|<wake>; 0; \
+link 1 discovery 10.0.0.1:15010: received 1617, sent 698, closed stopped|<out2>29, sent 0, closed stopped|link 3 direc\
+t 10.0.0.33:8080 of 2: received 0, sent 1, closed stopped|link 4 outbound: received 29, sent 0, closed stopped|link 5 \
+direct 10.0.0.4:8080 of 4: received 0, sent 1, closed stopped|link 6 outbound: received 29, sent 0, closed stopped|lin\
+k 7 direct 10.0.0.55:8080 of 6: received 0, sent 1, closed stopped|<web2>verdict 4/0 200 10.0.0.9 - 10.1.0.1:80|verdic\
+t 6/0 200 10.0.0.9 - 10.1.0.1:80|end 2/0 stopped up 1 down 0|end 4/0 stopped up 1 down 0|end 6/0 stopped up 1 down 0|t\
+otal: 7 links, 3 accepted, 0 revoked, 3 up, 0 down|; \n\
+an endpoint under another name has no connection; <usual> <odoor>; <mesh><piece>0000e900000000000100000000e412580a0131\
+124f0a2a<address>12210a1f1a040a0000214a026e32b201120a07612f7765622e6112070a05085010903f1a02653312580a0131124f0a2a<addr\
+ess>12210a1f1a040a0000374a026e32b201120a07612f7765622e6112070a05085010903f1a026535222a<address>2a027839<w1><outb><piec\
+e><frontweb>61<w2><open3><outb><piece><frontweb>62<w4>{'open':5}|<wake><piece>0000390000000000010000000034222a<address\
+>320265332a027839<then1>00008f000000000001000000008a12580a0131124f0a2a<address>12210a1f1a040a0000214a026e32b201120a076\
+12f7765622e6112070a05085010903f1a026532222a<address>2a027839<w1><outb><piece><frontweb>63','link':6}|<wake>{'open':7}|\
+<wake>; 0; link 1 discovery 10.0.0.1:15010: received 1617, sent 698, closed stopped|<out2>29, sent 0, closed stopped|l\
+ink 3 direct 10.0.0.33:8080 of 2: received 0, sent 1, closed stopped|link 4 outbound: received 29, sent 0, closed stop\
+ped|link 5 direct 10.0.0.4:8080 of 4: received 0, sent 1, closed stopped|link 6 outbound: received 29, sent 0, closed \
+stopped|link 7 direct 10.0.0.33:8080 of 6: received 0, sent 1, closed stopped|<web2>verdict 4/0 200 10.0.0.9 - 10.1.0.\
+1:80|verdict 6/0 200 10.0.0.9 - 10.1.0.1:80|end 2/0 stopped up 1 down 0|end 4/0 stopped up 1 down 0|end 6/0 stopped up \
+1 down 0|total: 7 links, 3 accepted, 0 revoked, 3 up, 0 down|; \n\
+connections of two services to one endpoint are counted together; <usual> <odoor>; <mesh><piece>0000e90000000000010000\
+0000e412580a0131124f0a2a<address>12210a1f1a040a0000214a026e32b201120a07612f7765622e6112070a05085010903f1a02653312580a0\
+131124f0a2a<address>12210a1f1a040a0000374a026e32b201120a07612f7765622e6112070a05085010903f1a026535222a<address>2a02783\
+9<then1>0000a700000000000100000000a212700a013112670a2a<address>12390a371a040a0000214a026e32b201120a07612f7765622e61120\
+70a05085010903fb201150a0a612f6e6f626f64792e6112070a0508501082471a026533222a<address>2a027839<w1><outb><piece>0d0a0d0a0\
+00d0a515549540a2111000c0a0000090a0100030fa0005061<w2><open3><outb><piece><frontweb>62<w4>{'open':5}|<wake>; 0; link 1 \
+discovery 10.0.0.1:15010: received 1575, sent 636, closed stopped|<out2>29, sent 0, closed stopped|link 3 direct 10.0.\
+0.33:9090 of 2: received 0, sent 1, closed stopped|link 4 outbound: received 29, sent 0, closed stopped|link 5 direct \
+10.0.0.4:8080 of 4: received 0, sent 1, closed stopped|verdict 2/0 200 10.0.0.9 - 10.1.0.3:80|verdict 4/0 200 10.0.0.9 \
+- 10.1.0.1:80|end 2/0 stopped up 1 down 0|end 4/0 stopped up 1 down 0|total: 5 links, 2 accepted, 0 revoked, 2 up, 0 d\
+own|; \n\
+many connections, the first of which end; <usual> <odoor>; <mesh><piece>0000e900000000000100000000e412580a0131124f0a2a\
+<address>12210a1f1a040a0000214a026e32b201120a07612f7765622e6112070a05085010903f1a02653312580a0131124f0a2a<address>1221\
+0a1f1a040a0000374a026e32b201120a07612f7765622e6112070a05085010903f1a026535222a<address>2a027839<w1><outb><piece><front\
+web>78<w2><open3><outb><piece><frontweb>78<w4>{'open':5}|<wake><outb><piece><frontweb>78','link':6}|<wake>{'open':7}|<\
+wake><outb><piece><frontweb>78','link':8}|<wake>{'open':9}|<wake><outb><piece><frontweb>78','link':10}|<wake>{'open':1\
+1}|<wake><outb><piece><frontweb>78','link':12}|<wake>{'open':13}|<wake>{'end':2}|<wake>{'end':3}|<wake>{'end':6}|<wake\
+>{'end':7}|<wake>{'end':8}|<wake>{'end':9}|<wake><outb><piece><frontweb>79','link':14}|<wake>{'open':15}|<wake><outb><\
+piece><frontweb>79','link':16}|<wake>{'open':17}|<wake><outb><piece><frontweb>79','link':18}|<wake>{'open':19}|<wake>; \
+0; link 1 discovery 10.0.0.1:15010: received 1399, sent 574, closed stopped|<out2>29, sent 0, closed done|link 3 direc\
+t 10.0.0.33:8080 of 2: received 0, sent 1, closed done|link 4 outbound: received 29, sent 0, closed stopped|link 5 dir\
+ect 10.0.0.4:8080 of 4: received 0, sent 1, closed stopped|link 6 outbound: received 29, sent 0, closed done|link 7 di\
+rect 10.0.0.55:8080 of 6: received 0, sent 1, closed done|link 8 outbound: received 29, sent 0, closed done|link 9 dir\
+ect 10.0.0.33:8080 of 8: received 0, sent 1, closed done|link 10 outbound: received 29, sent 0, closed stopped|link 11 \
+direct 10.0.0.4:8080 of 10: received 0, sent 1, closed stopped|link 12 outbound: received 29, sent 0, closed stopped|l\
+ink 13 direct 10.0.0.55:8080 of 12: received 0, sent 1, closed stopped|link 14 outbound: received 29, sent 0, closed s\
+topped|link 15 direct 10.0.0.33:8080 of 14: received 0, sent 1, closed stopped|link 16 outbound: received 29, sent 0, \
+closed stopped|link 17 direct 10.0.0.33:8080 of 16: received 0, sent 1, closed stopped|link 18 outbound: received 29, \
+sent 0, closed stopped|link 19 direct 10.0.0.55:8080 of 18: received 0, sent 1, closed stopped|<web2>verdict 4/0 200 1\
+0.0.0.9 - 10.1.0.1:80|verdict 6/0 200 10.0.0.9 - 10.1.0.1:80|verdict 8/0 200 10.0.0.9 - 10.1.0.1:80|verdict 10/0 200 1\
+0.0.0.9 - 10.1.0.1:80|verdict 12/0 200 10.0.0.9 - 10.1.0.1:80|end 2/0 done up 1 down 0|end 6/0 done up 1 down 0|end 8/\
+0 done up 1 down 0|verdict 14/0 200 10.0.0.9 - 10.1.0.1:80|verdict 16/0 200 10.0.0.9 - 10.1.0.1:80|verdict 18/0 200 10\
+.0.0.9 - 10.1.0.1:80|end 4/0 stopped up 1 down 0|end 10/0 stopped up 1 down 0|end 12/0 stopped up 1 down 0|end 14/0 st\
+opped up 1 down 0|end 16/0 stopped up 1 down 0|end 18/0 stopped up 1 down 0|total: 19 links, 9 accepted, 0 revoked, 9 \
 up, 0 down|; \n\
 a service whose endpoint takes HBONE; <usual> <odoor>; <mesh><outb><piece>0d0a0d0a000d0a515549540a2111000c0a0000090a01\
 00020fa00050<w2>; 0; <meshplane><out2>28, sent 0, closed no room|verdict 2/0 503 10.0.0.9 - 10.1.0.2:80|total: 2 links\
@@ -316,10 +489,6 @@ an endpoint that is the outbound door; <usual> <odoor>; <mesh><piece>00008f00000
 dress>12210a1f1a040a0000044a026e32b201120a07612f7765622e6112070a0508501099751a026534222a<address>2a027839<w1><outb><pi\
 ece><frontweb><w2>; 0; link 1 discovery 10.0.0.1:15010: received 1309, sent 574, closed stopped|<out2>28, sent 0, clos\
 ed refused 400|verdict 2/0 400 10.0.0.9 - 10.1.0.1:80|total: 2 links, 0 accepted, 0 revoked, 0 up, 0 down|; \n\
-";
-
-/// Runs.
-pub const OUTBOUND_2: &[u8] = b"\
 a service's port that is the door's, and leads elsewhere; <usual> <odoor>; <mesh><piece>0000e300000000000100000000de12\
 510a013112470a2a<address>121912171201611a057765622e61220612040a0100012a030899751a0377656212590a013112500a2a<address>12\
 220a201a040a0000044a026e32b201130a07612f7765622e6112080a0608997510903f1a026534222a<address>2a027839<w1><outb><piece>0d\
@@ -367,6 +536,10 @@ a fault of the header: two identities; <usual> <odoor>; <mesh><outb><piece>0d0a0
 ed, 0 revoked, 0 up, 0 down|; \n\
 nothing at all; <usual> <odoor>; <mesh><outb><wake>; 0; <meshplane><out2>0, sent 0, closed stopped|total: 2 links, 0 a\
 ccepted, 0 revoked, 0 up, 0 down|; \n\
+";
+
+/// Runs.
+pub const OUTBOUND_3: &[u8] = b"\
 a dial that fails; <usual> <odoor>; <mesh>{'nodial':1}|<outb><piece><frontweb>616263<w2>; 0; <meshplane><out2>31, sent \
 0, closed up fault|verdict 2/0 502 10.0.0.9 - 10.1.0.1:80|total: 2 links, 0 accepted, 0 revoked, 0 up, 0 down|; \n\
 a dial that fails, and one that doesn't; <usual> <odoor>; <mesh>{'nodial':1}|<outb><piece><frontweb>616263<w2><outb><p\
@@ -515,17 +688,17 @@ the upstream's end waits behind the last octet; <usual> <odoor>; <mesh><outb><pi
 om':2}|<piece>61626364<w3>{'end':3}|<wake>{'link':2,'room':1}|<wake>{'link':2,'room':1}|<wake>{'end':2}|<wake>; 0; <me\
 shplane><out2>28, sent 4, closed done|<direct3>4, sent 0, closed done|<web2>end 2/0 done up 0 down 4|total: 3 links, 1 \
 accepted, 0 revoked, 0 up, 4 down|; \n\
-the ring up is full; <usual> <odoor>; <mesh><outb><piece><frontweb><w2><open3>{'link':3,'room':0}|<piece><65535*00><th\
-en2>6d6f7265<w2>{'link':3,'room':10}|<wake>{'link':3,'room':100000}|<wake>; 0; <meshplane><out2>65567, sent 0, closed \
-stopped|<direct3>0, sent 65539, closed stopped|<web2>end 2/0 stopped up 65539 down 0|total: 3 links, 1 accepted, 0 rev\
-oked, 65539 up, 0 down|; \n\
-the ring down is full; <usual> <odoor>; <mesh><outb><piece><frontweb><w2><open3>{'link':2,'room':0}|<piece><16384*00><\
-then3>6d6f7265<w3>{'link':2,'room':10}|<wake>{'link':2,'room':100000}|<wake>; 0; <meshplane><out2>28, sent 16388, clos\
-ed stopped|<direct3>16388, sent 0, closed stopped|<web2>end 2/0 stopped up 0 down 16388|total: 3 links, 1 accepted, 0 \
-revoked, 0 up, 16388 down|; \n\
-the ring up is full before the upstream is open; <usual> <odoor>; <mesh><outb><piece><frontweb><then2><65535*00><then2\
->6d6f7265<w2><open3>; 0; <meshplane><out2>65567, sent 0, closed stopped|<direct3>0, sent 65539, closed stopped|<web2>e\
-nd 2/0 stopped up 65539 down 0|total: 3 links, 1 accepted, 0 revoked, 65539 up, 0 down|; \n\
+the ring up is full; <usual> <odoor>; <mesh><outb><piece><frontweb><w2><open3>{'link':3,'room':0}|<piece><16384*00><th\
+en2>6d6f7265<w2>{'link':3,'room':10}|<wake>{'link':3,'room':100000}|<wake>; 0; <meshplane><out2>16416, sent 0, closed \
+stopped|<direct3>0, sent 16388, closed stopped|<web2>end 2/0 stopped up 16388 down 0|total: 3 links, 1 accepted, 0 rev\
+oked, 16388 up, 0 down|; \n\
+the ring down is full; <usual> <odoor>; <mesh><outb><piece><frontweb><w2><open3>{'link':2,'room':0}|<piece><65535*00><\
+then3>6d6f7265<w3>{'link':2,'room':10}|<wake>{'link':2,'room':100000}|<wake>; 0; <meshplane><out2>28, sent 65539, clos\
+ed stopped|<direct3>65539, sent 0, closed stopped|<web2>end 2/0 stopped up 0 down 65539|total: 3 links, 1 accepted, 0 \
+revoked, 0 up, 65539 down|; \n\
+the ring up is full before the upstream is open; <usual> <odoor>; <mesh><outb><piece><frontweb><then2><16384*00><then2\
+>6d6f7265<w2><open3>; 0; <meshplane><out2>16416, sent 0, closed stopped|<direct3>0, sent 16388, closed stopped|<web2>e\
+nd 2/0 stopped up 16388 down 0|total: 3 links, 1 accepted, 0 revoked, 16388 up, 0 down|; \n\
 an update while the rings hold bytes; <usual> <odoor>; <mesh><outb><piece><frontweb><w2><open3>{'link':2,'room':0}|{'l\
 ink':3,'room':0}|<piece>616263<then2>6465<then3><deny><w1>{'link':2,'room':10}|{'link':3,'room':10}|<wake>; 0; link 1 \
 discovery 10.0.0.1:15010: received 1299, sent 580, closed stopped|<out2>31, sent 2, closed stopped|<direct3>2, sent 3, \
@@ -545,10 +718,6 @@ sent 3, closed stopped|link 6 outbound: received 31, sent 4, closed stopped|link
 4, sent 3, closed stopped|verdict 2/1 200<peer>10.0.0.7:9090|verdict 4/0 200 10.0.0.9 - 10.0.0.7:9090|verdict 6/0 200 \
 10.0.0.9 - 10.1.0.1:80|end 2/1 stopped up 2 down 4|end 4/0 stopped up 3 down 4|end 6/0 stopped up 3 down 4|total: 7 li\
 nks, 3 accepted, 0 revoked, 8 up, 12 down|; \n\
-";
-
-/// Runs.
-pub const OUTBOUND_3: &[u8] = b"\
 an update ends a tunnel and a plain link, and leaves an outbound one; <usual> <alldoors>; <mesh><start>000018010400000\
 0010207434f4e4e454354010d31302e302e302e373a39303930<w2><open3><plain><piece><front9><w4>{'open':5}|<wake><outb><piece>\
 <frontweb>','link':6}|<wake>{'open':7}|<wake><piece>0000020000000000017570<then2>726177<then4>6f7574','link':6}|<wake>\
@@ -599,6 +768,10 @@ up 1 down 0|verdict 5/0 200 10.0.0.9 - 10.1.0.1:80|end 5/0 stopped up 1 down 0|t
 a link without a header has its place; <usual> <odoor> --tunnels 1; <mesh><outb><wake><outb><wake>{'end':2}|<wake><out\
 b><wake>; 0; <meshplane><out2>0, sent 0, closed front fault 0|link 3 outbound: received 0, sent 0, closed no room|link \
 4 outbound: received 0, sent 0, closed stopped|total: 4 links, 0 accepted, 0 revoked, 0 up, 0 down|; \n\
+";
+
+/// Runs.
+pub const OUTBOUND_4: &[u8] = b"\
 a link without a route gives its place back; <usual> <odoor> --tunnels 1; <mesh><outb><piece>0d0a0d0a000d0a515549540a2\
 111000c0a0000090a0100010fa00051<w2><outb><piece><frontweb>62<w3><open4>; 0; <meshplane><out2>28, sent 0, closed no rou\
 te 3|link 3 outbound: received 29, sent 0, closed stopped|link 4 direct 10.0.0.4:8080 of 3: received 0, sent 1, closed \
@@ -666,114 +839,183 @@ a policy that denies each peer, told; <usual> <odoor> --trace; <mesh><piece><den
 2 <frontweb>616263|dialled 3 10.0.0.4:8080|opened 3|went 3 616263|closed 1 stopped|closed 3 stopped|closed 2 stopped|l\
 ink 1 discovery 10.0.0.1:15010: received 1299, sent 580, closed stopped|<out2>31, sent 0, closed stopped|<direct3>0, s\
 ent 3, closed stopped|<web2>end 2/0 stopped up 3 down 0|total: 3 links, 1 accepted, 0 revoked, 3 up, 0 down|; \n\
-the endpoint of the smaller name takes HBONE, told; <usual> <odoor> --trace; <mesh><piece>000091000000000001000000008c\
-125a0a013112510a2a<address>12230a211a040a00002128014a026e32b201120a07612f7765622e6112070a05085010903f1a026533222a<addr\
-ess>2a027839<w1><outb><piece><frontweb><w2>; 0; <meshtold>came 1 000091000000000001000000008c125a0a013112510a2a<addres\
-s>12230a211a040a00002128014a026e32b201120a07612f7765622e6112070a05085010903f1a026533222a<address>2a027839|went 1 00003\
-50000000000010000000030122a<address>32027839|accepted 2 outbound|came 2 <frontweb>|closed 2 no room|closed 1 stopped|l\
-ink 1 discovery 10.0.0.1:15010: received 1311, sent 574, closed stopped|<out2>28, sent 0, closed no room|<no2>total: 2 \
-links, 0 accepted, 0 revoked, 0 up, 0 down|; \n\
-a source that isn't known, and nothing was told, told; <usual> <odoor> --trace; {'open':1}|<wake><outb><piece>0d0a0d0a\
-000d0a515549540a2111000c0a0000420a0100010fa00050<w2>; 0; dialled 1 10.0.0.1:15010|opened 1|went 1 <preface>00000c04000\
-0000000000200000000000600004000000084010400000001208386044f2f656e766f792e736572766963652e646973636f766572792e76332e416\
-76772656761746564446973636f76657279536572766963652f44656c7461416767726567617465645265736f7572636573010e31302e302e302e3\
-13a31353031300002746508747261696c6572730f10106170706c69636174696f6e2f67727063|went 1 00007400000000000100000000320a040\
-a027a31122a<address>00000000380a040a027a311230<policy>|accepted 2 outbound|came 2 0d0a0d0a000d0a515549540a2111000c0a00\
-00420a0100010fa00050|closed 2 refused 503|closed 1 stopped|link 1 discovery 10.0.0.1:15010: received 0, sent 311, clos\
-ed stopped|<out2>28, sent 0, closed refused 503|verdict 2/0 503 10.0.0.66 - 10.1.0.1:80|total: 2 links, 0 accepted, 0 \
-revoked, 0 up, 0 down|; \n\
-the plain door itself, told; <usual> <alldoors> --trace; <mesh><outb><piece>0d0a0d0a000d0a515549540a2111000c0a0000090a\
-0000080fa03a9e<w2>; 0; <meshtold>accepted 2 outbound|came 2 0d0a0d0a000d0a515549540a2111000c0a0000090a0000080fa03a9e|c\
-losed 2 refused 400|closed 1 stopped|<meshplane><out2>28, sent 0, closed refused 400|verdict 2/0 400 10.0.0.9 - 10.0.0\
-.8:15006|total: 2 links, 0 accepted, 0 revoked, 0 up, 0 down|; \n\
-a service's port that is the door's, and leads elsewhere, told; <usual> <odoor> --trace; <mesh><piece>0000e30000000000\
-0100000000de12510a013112470a2a<address>121912171201611a057765622e61220612040a0100012a030899751a0377656212590a013112500\
-a2a<address>12220a201a040a0000044a026e32b201130a07612f7765622e6112080a0608997510903f1a026534222a<address>2a027839<w1><\
-outb><piece>0d0a0d0a000d0a515549540a2111000c0a0000090a0100010fa03a9961<w2><open3>; 0; <meshtold>came 1 0000e3000000000\
-00100000000de12510a013112470a2a<address>121912171201611a057765622e61220612040a0100012a030899751a0377656212590a01311250\
-0a2a<address>12220a201a040a0000044a026e32b201130a07612f7765622e6112080a0608997510903f1a026534222a<address>2a027839|wen\
-t 1 0000350000000000010000000030122a<address>32027839|accepted 2 outbound|came 2 0d0a0d0a000d0a515549540a2111000c0a000\
-0090a0100010fa03a9961|dialled 3 10.0.0.4:8080|opened 3|went 3 61|closed 1 stopped|closed 3 stopped|closed 2 stopped|li\
-nk 1 discovery 10.0.0.1:15010: received 1393, sent 574, closed stopped|<out2>29, sent 0, closed stopped|<direct3>0, se\
-nt 1, closed stopped|verdict 2/0 200 10.0.0.9 - 10.1.0.1:15001|end 2/0 stopped up 1 down 0|total: 3 links, 1 accepted, \
-0 revoked, 1 up, 0 down|; \n\
-a tunnel to the outbound door, told; <usual> <alldoors> --trace; <mesh><piece>000040000000000001000000003b2230<policy>\
-3203612f702a027839<w1><start>0000190104000000010207434f4e4e454354010e31302e302e302e373a3135303031<w2>; 0; <meshtold>ca\
-me 1 000040000000000001000000003b2230<policy>3203612f702a027839|went 1 00003b00000000000100000000361230<policy>3202783\
-9|accepted 2 inbound|came 2 <front><preface>0000000400000000000000190104000000010207434f4e4e454354010e31302e302e302e37\
-3a3135303031|went 2 <own>000000040100000000000002010500000001208c00000403000000000100000000|closed 1 stopped|closed 2 \
-stopped|link 1 discovery 10.0.0.1:15010: received 1230, sent 580, closed stopped|<in2>130, sent 54, closed stopped|ver\
-dict 2/1 400<peer>10.0.0.7:15001|total: 2 links, 0 accepted, 0 revoked, 0 up, 0 down|; \n\
-a fault of the header: no room for addresses, told; <usual> <odoor> --trace; <mesh><outb><piece>0d0a0d0a000d0a51554954\
-0a2111000b<w2>; 0; <meshtold>accepted 2 outbound|came 2 0d0a0d0a000d0a515549540a2111000b|closed 2 front fault 4|closed \
-1 stopped|<meshplane><out2>16, sent 0, closed front fault 4|total: 2 links, 0 accepted, 0 revoked, 0 up, 0 down|; \n\
-a dial that fails, told; <usual> <odoor> --trace; <mesh>{'nodial':1}|<outb><piece><frontweb>616263<w2>; 0; <meshtold>a\
-ccepted 2 outbound|came 2 <frontweb>616263|dial failed 10.0.0.4:8080|closed 2 up fault|closed 1 stopped|<meshplane><ou\
-t2>31, sent 0, closed up fault|verdict 2/0 502 10.0.0.9 - 10.1.0.1:80|total: 2 links, 0 accepted, 0 revoked, 0 up, 0 d\
-own|; \n\
-the peer ends before the upstream is open, told; <usual> <odoor> --trace; <mesh><outb><piece><frontweb>616263<w2>{'end\
-':2}|<wake><open3><piece>6c617465<w3>{'end':3}|<wake>; 0; <meshtold>accepted 2 outbound|came 2 <frontweb>616263|dialle\
-d 3 10.0.0.4:8080|ended 2|opened 3|went 3 616263|shut 3|came 3 6c617465|went 2 6c617465|ended 3|closed 3 done|closed 2 \
-done|closed 1 stopped|<meshplane><out2>31, sent 4, closed done|<direct3>4, sent 3, closed done|<web2>end 2/0 done up 3 \
+a connection that ended isn't counted, told; <usual> <odoor> --trace; <mesh><piece>0000e900000000000100000000e412580a0\
+131124f0a2a<address>12210a1f1a040a0000214a026e32b201120a07612f7765622e6112070a05085010903f1a02653312580a0131124f0a2a<a\
+ddress>12210a1f1a040a0000374a026e32b201120a07612f7765622e6112070a05085010903f1a026535222a<address>2a027839<w1><outb><p\
+iece><frontweb>61<w2><open3><outb><piece><frontweb>62<w4>{'open':5}|<wake>{'end':2}|<wake>{'end':3}|<wake><outb><piece\
+><frontweb>63','link':6}|<wake>{'open':7}|<wake>; 0; <meshtold>came 1 0000e900000000000100000000e412580a0131124f0a2a<a\
+ddress>12210a1f1a040a0000214a026e32b201120a07612f7765622e6112070a05085010903f1a02653312580a0131124f0a2a<address>12210a\
+1f1a040a0000374a026e32b201120a07612f7765622e6112070a05085010903f1a026535222a<address>2a027839|went 1 00003500000000000\
+10000000030122a<address>32027839|accepted 2 outbound|came 2 <frontweb>61|dialled 3 10.0.0.33:8080|opened 3|went 3 61|a\
+ccepted 4 outbound|came 4 <frontweb>62|dialled 5 10.0.0.4:8080|opened 5|went 5 62|ended 2|shut 3|ended 3|closed 3 done\
+|closed 2 done|accepted 6 outbound|came 6 <frontweb>63|dialled 7 10.0.0.33:8080|opened 7|went 7 63|closed 1 stopped|cl\
+osed 5 stopped|closed 4 stopped|closed 7 stopped|closed 6 stopped|link 1 discovery 10.0.0.1:15010: received 1399, sent \
+574, closed stopped|<out2>29, sent 0, closed done|link 3 direct 10.0.0.33:8080 of 2: received 0, sent 1, closed done|l\
+ink 4 outbound: received 29, sent 0, closed stopped|link 5 direct 10.0.0.4:8080 of 4: received 0, sent 1, closed stopp\
+ed|link 6 outbound: received 29, sent 0, closed stopped|link 7 direct 10.0.0.33:8080 of 6: received 0, sent 1, closed \
+stopped|<web2>verdict 4/0 200 10.0.0.9 - 10.1.0.1:80|end 2/0 done up 1 down 0|verdict 6/0 200 10.0.0.9 - 10.1.0.1:80|e\
+nd 4/0 stopped up 1 down 0|end 6/0 stopped up 1 down 0|total: 7 links, 3 accepted, 0 revoked, 3 up, 0 down|; \n\
+an upstream that didn't open isn't counted, told; <usual> <odoor> --trace; <mesh><piece>0000e900000000000100000000e412\
+580a0131124f0a2a<address>12210a1f1a040a0000214a026e32b201120a07612f7765622e6112070a05085010903f1a02653312580a0131124f0\
+a2a<address>12210a1f1a040a0000374a026e32b201120a07612f7765622e6112070a05085010903f1a026535222a<address>2a027839<w1><ou\
+tb><piece><frontweb>61<w2>{'break':3}|<wake><outb><piece><frontweb>62<w4>{'open':5}|<wake>; 0; <meshtold>came 1 0000e9\
+00000000000100000000e412580a0131124f0a2a<address>12210a1f1a040a0000214a026e32b201120a07612f7765622e6112070a05085010903\
+f1a02653312580a0131124f0a2a<address>12210a1f1a040a0000374a026e32b201120a07612f7765622e6112070a05085010903f1a026535222a\
+<address>2a027839|went 1 0000350000000000010000000030122a<address>32027839|accepted 2 outbound|came 2 <frontweb>61|dia\
+lled 3 10.0.0.33:8080|accepted 4 outbound|came 4 <frontweb>62|dialled 5 10.0.0.4:8080|opened 5|went 5 62|closed 1 stop\
+ped|closed 3 stopped|closed 2 stopped|closed 5 stopped|closed 4 stopped|link 1 discovery 10.0.0.1:15010: received 1399\
+, sent 574, closed stopped|<out2>29, sent 0, closed stopped|link 3 direct 10.0.0.33:8080 of 2: received 0, sent 0, clo\
+sed stopped|link 4 outbound: received 29, sent 0, closed stopped|link 5 direct 10.0.0.4:8080 of 4: received 0, sent 1, \
+closed stopped|verdict 4/0 200 10.0.0.9 - 10.1.0.1:80|end 4/0 stopped up 1 down 0|total: 5 links, 1 accepted, 0 revoke\
+d, 1 up, 0 down|; \n\
+a count outlives its endpoint's record, told; <usual> <odoor> --trace; <mesh><piece>0000e900000000000100000000e412580a\
+0131124f0a2a<address>12210a1f1a040a0000214a026e32b201120a07612f7765622e6112070a05085010903f1a02653312580a0131124f0a2a<\
+address>12210a1f1a040a0000374a026e32b201120a07612f7765622e6112070a05085010903f1a026535222a<address>2a027839<w1><outb><\
+piece><frontweb>61<w2><open3><outb><piece><frontweb>62<w4>{'open':5}|<wake><piece>0000390000000000010000000034222a<add\
+ress>320265332a027839<then1>00008f000000000001000000008a12580a0131124f0a2a<address>12210a1f1a040a0000214a026e32b201120\
+a07612f7765622e6112070a05085010903f1a026533222a<address>2a027839<w1><outb><piece><frontweb>63','link':6}|<wake>{'open'\
+:7}|<wake>; 0; <meshtold>came 1 0000e900000000000100000000e412580a0131124f0a2a<address>12210a1f1a040a0000214a026e32b20\
+1120a07612f7765622e6112070a05085010903f1a02653312580a0131124f0a2a<address>12210a1f1a040a0000374a026e32b201120a07612f77\
+65622e6112070a05085010903f1a026535222a<address>2a027839|went 1 0000350000000000010000000030122a<address>32027839|accep\
+ted 2 outbound|came 2 <frontweb>61|dialled 3 10.0.0.33:8080|opened 3|went 3 61|accepted 4 outbound|came 4 <frontweb>62\
+|dialled 5 10.0.0.4:8080|opened 5|went 5 62|came 1 0000390000000000010000000034222a<address>320265332a027839|went 1 00\
+00350000000000010000000030122a<address>32027839|came 1 00008f000000000001000000008a12580a0131124f0a2a<address>12210a1f\
+1a040a0000214a026e32b201120a07612f7765622e6112070a05085010903f1a026533222a<address>2a027839|went 1 0000350000000000010\
+000000030122a<address>32027839|accepted 6 outbound|came 6 <frontweb>63|dialled 7 10.0.0.55:8080|opened 7|went 7 63|clo\
+sed 1 stopped|closed 3 stopped|closed 2 stopped|closed 5 stopped|closed 4 stopped|closed 7 stopped|closed 6 stopped|li\
+nk 1 discovery 10.0.0.1:15010: received 1617, sent 698, closed stopped|<out2>29, sent 0, closed stopped|link 3 direct \
+10.0.0.33:8080 of 2: received 0, sent 1, closed stopped|link 4 outbound: received 29, sent 0, closed stopped|link 5 di\
+rect 10.0.0.4:8080 of 4: received 0, sent 1, closed stopped|link 6 outbound: received 29, sent 0, closed stopped|link \
+7 direct 10.0.0.55:8080 of 6: received 0, sent 1, closed stopped|<web2>verdict 4/0 200 10.0.0.9 - 10.1.0.1:80|verdict \
+6/0 200 10.0.0.9 - 10.1.0.1:80|end 2/0 stopped up 1 down 0|end 4/0 stopped up 1 down 0|end 6/0 stopped up 1 down 0|tot\
+al: 7 links, 3 accepted, 0 revoked, 3 up, 0 down|; \n\
+a workload of this node that takes HBONE, told; <usual> <odoor> --trace; <mesh><outb><piece><front9><w2>; 0; <meshtold\
+>accepted 2 outbound|came 2 <front9>|closed 2 no room|closed 1 stopped|<meshplane><out2>28, sent 0, closed no room|ver\
+dict 2/0 503 10.0.0.9 - 10.0.0.7:9090|total: 2 links, 0 accepted, 0 revoked, 0 up, 0 down|; \n\
+workloads alone were told, told; <usual> <odoor> --trace; {'open':1}|<wake><piece><welcome>','link':1}|<piece>00033b00\
+0000000001000000033612450a0131123c0a2a<address>120e0a0c1a040a00000928014a026e311a02773912430a0131123a0a2a<address>120c\
+0a0a1a040a0000084a026e321a027038125b0a013112520a2a<address>12240a221a040a00000628014a026e32b201130a08612f676174652e611\
+2070a05085010903f1a02673612560a0131124d0a2a<address>121f0a1d1a040a00000542110a0f0a0161120a776179706f696e742e614a026e32\
+1a02793512580a0131124f0a2a<address>12210a1f1a040a0000044a026e32b201120a07612f7765622e6112070a05085010903f1a02653412530\
+a013112490a2a<address>121b12191201611a057765622e61220612040a0100012a05085010903f1a0377656212550a0131124a0a2a<address>1\
+21c121a1201611a06676174652e61220612040a0100022a05085010903f1a046761746512590a0131124c0a2a<address>121e121c1201611a086e\
+6f626f64792e61220612040a0100032a05085010903f1a066e6f626f647912620a013112570a2a<address>122912271201611a06776179732e612\
+20612040a0100042a05085010903f3a0b120612040a02000118a0751a0477617973222a<address>2a027839<w1><outb><piece><frontweb><w2\
+>; 0; dialled 1 10.0.0.1:15010|opened 1|went 1 <preface>00000c04000000000000020000000000060000400000008401040000000120\
+8386044f2f656e766f792e736572766963652e646973636f766572792e76332e41676772656761746564446973636f76657279536572766963652f\
+44656c7461416767726567617465645265736f7572636573010e31302e302e302e313a31353031300002746508747261696c6572730f1010617070\
+6c69636174696f6e2f67727063|went 1 00007400000000000100000000320a040a027a31122a<address>00000000380a040a027a311230<poli\
+cy>|came 1 <welcome>|went 1 000000040100000000|came 1 00033b000000000001000000033612450a0131123c0a2a<address>120e0a0c1\
+a040a00000928014a026e311a02773912430a0131123a0a2a<address>120c0a0a1a040a0000084a026e321a027038125b0a013112520a2a<addre\
+ss>12240a221a040a00000628014a026e32b201130a08612f676174652e6112070a05085010903f1a02673612560a0131124d0a2a<address>121f\
+0a1d1a040a00000542110a0f0a0161120a776179706f696e742e614a026e321a02793512580a0131124f0a2a<address>12210a1f1a040a0000044\
+a026e32b201120a07612f7765622e6112070a05085010903f1a02653412530a013112490a2a<address>121b12191201611a057765622e61220612\
+040a0100012a05085010903f1a0377656212550a0131124a0a2a<address>121c121a1201611a06676174652e61220612040a0100022a050850109\
+03f1a046761746512590a0131124c0a2a<address>121e121c1201611a086e6f626f64792e61220612040a0100032a05085010903f1a066e6f626f\
+647912620a013112570a2a<address>122912271201611a06776179732e61220612040a0100042a05085010903f3a0b120612040a02000118a0751\
+a0477617973222a<address>2a027839|went 1 0000350000000000010000000030122a<address>32027839|accepted 2 outbound|came 2 <\
+frontweb>|closed 2 refused 503|closed 1 stopped|link 1 discovery 10.0.0.1:15010: received 855, sent 382, closed stoppe\
+d|<out2>28, sent 0, closed refused 503|<no2>total: 2 links, 0 accepted, 0 revoked, 0 up, 0 down|; \n\
+the outbound door itself, at an address that nobody has, told; <usual> <odoor> --trace; <mesh><outb><piece>0d0a0d0a000\
+d0a515549540a2111000c0a000009c00002010fa03a99<w2>; 0; <meshtold>accepted 2 outbound|came 2 0d0a0d0a000d0a515549540a211\
+1000c0a000009c00002010fa03a99|closed 2 refused 400|closed 1 stopped|<meshplane><out2>28, sent 0, closed refused 400|ve\
+rdict 2/0 400 10.0.0.9 - 192.0.2.1:15001|total: 2 links, 0 accepted, 0 revoked, 0 up, 0 down|; \n\
+the port of a door that isn't given, told; <usual> <odoor> --trace; <mesh><outb><piece>0d0a0d0a000d0a515549540a2111000\
+c0a0000090a0000080fa03aa0<w2><open3>; 0; <meshtold>accepted 2 outbound|came 2 0d0a0d0a000d0a515549540a2111000c0a000009\
+0a0000080fa03aa0|dialled 3 10.0.0.8:15008|opened 3|closed 1 stopped|closed 3 stopped|closed 2 stopped|<meshplane><out2\
+>28, sent 0, closed stopped|link 3 direct 10.0.0.8:15008 of 2: received 0, sent 0, closed stopped|verdict 2/0 200 10.0\
+.0.9 - 10.0.0.8:15008|end 2/0 stopped up 0 down 0|total: 3 links, 1 accepted, 0 revoked, 0 up, 0 down|; \n\
+a door, and nothing was told yet, told; <usual> <odoor> --trace; {'open':1}|<wake><outb><piece>0d0a0d0a000d0a515549540\
+a2111000c0a0000090a0000080fa03a99<w2>; 0; dialled 1 10.0.0.1:15010|opened 1|went 1 <preface>00000c04000000000000020000\
+0000000600004000000084010400000001208386044f2f656e766f792e736572766963652e646973636f766572792e76332e416767726567617465\
+64446973636f76657279536572766963652f44656c7461416767726567617465645265736f7572636573010e31302e302e302e313a313530313000\
+02746508747261696c6572730f10106170706c69636174696f6e2f67727063|went 1 00007400000000000100000000320a040a027a31122a<add\
+ress>00000000380a040a027a311230<policy>|accepted 2 outbound|came 2 0d0a0d0a000d0a515549540a2111000c0a0000090a0000080fa\
+03a99|closed 2 refused 503|closed 1 stopped|link 1 discovery 10.0.0.1:15010: received 0, sent 311, closed stopped|<out\
+2>28, sent 0, closed refused 503|verdict 2/0 503 10.0.0.9 - 10.0.0.8:15001|total: 2 links, 0 accepted, 0 revoked, 0 up\
+, 0 down|; \n\
+a fault of the header: a version, told; <usual> <odoor> --trace; <mesh><outb><piece>0d0a0d0a000d0a515549540a20<w2>; 0; \
+<meshtold>accepted 2 outbound|came 2 0d0a0d0a000d0a515549540a20|closed 2 front fault 2|closed 1 stopped|<meshplane><ou\
+t2>13, sent 0, closed front fault 2|total: 2 links, 0 accepted, 0 revoked, 0 up, 0 down|; \n\
+a fault of the header: two identities, told; <usual> <odoor> --trace; <mesh><outb><piece>0d0a0d0a000d0a515549540a21110\
+0520a0000090a0100010fa00050e000207370696666653a2f2f636c75737465722e6c6f63616c2f6e732f612f73612f63e000207370696666653a2\
+f2f636c75737465722e6c6f63616c2f6e732f612f73612f63<w2>; 0; <meshtold>accepted 2 outbound|came 2 0d0a0d0a000d0a515549540\
+a211100520a0000090a0100010fa00050e000207370696666653a2f2f636c75737465722e6c6f63616c2f6e732f612f73612f63e00020737069666\
+6653a2f2f636c75737465722e6c6f63616c2f6e732f612f73612f63|closed 2 front fault 5|closed 1 stopped|<meshplane><out2>98, s\
+ent 0, closed front fault 5|total: 2 links, 0 accepted, 0 revoked, 0 up, 0 down|; \n\
+an upstream that never opens, told; <usual> <odoor> --trace; <mesh><outb><piece><frontweb>616263<then2>6465<w2>; 0; <m\
+eshtold>accepted 2 outbound|came 2 <frontweb>616263|dialled 3 10.0.0.4:8080|came 2 6465|closed 1 stopped|closed 3 stop\
+ped|closed 2 stopped|<meshplane><out2>33, sent 0, closed stopped|<direct3>0, sent 0, closed stopped|total: 3 links, 0 \
+accepted, 0 revoked, 0 up, 0 down|; \n\
+two links to two places, told; <usual> <odoor> --trace; <mesh><outb><piece><frontweb>61<w2><outb><piece>0d0a0d0a000d0a\
+515549540a2111000c0a0000090a0000080fa0005062<w4>{'open':5}|<wake><open3><piece>7878<w3>{'end':2}|<wake><piece>797979<w\
+5>; 0; <meshtold>accepted 2 outbound|came 2 <frontweb>61|dialled 3 10.0.0.4:8080|accepted 4 outbound|came 4 0d0a0d0a00\
+0d0a515549540a2111000c0a0000090a0000080fa0005062|dialled 5 10.0.0.8:80|opened 5|went 5 62|opened 3|went 3 61|came 3 78\
+78|went 2 7878|ended 2|shut 3|came 5 797979|went 4 797979|closed 1 stopped|closed 3 stopped|closed 2 stopped|closed 5 \
+stopped|closed 4 stopped|<meshplane><out2>29, sent 2, closed stopped|<direct3>2, sent 1, closed stopped|link 4 outboun\
+d: received 29, sent 3, closed stopped|link 5 direct 10.0.0.8:80 of 4: received 3, sent 1, closed stopped|verdict 4/0 \
+200 10.0.0.9 - 10.0.0.8:80|<web2>end 2/0 stopped up 1 down 2|end 4/0 stopped up 1 down 3|total: 5 links, 2 accepted, 0 \
+revoked, 2 up, 5 down|; \n\
+the peer ends, and the upstream breaks, told; <usual> <odoor> --trace; <mesh><outb><piece><frontweb><w2><open3><piece>\
+6162<w2>{'end':2}|<wake>{'break':3}|<wake>; 0; <meshtold>accepted 2 outbound|came 2 <frontweb>|dialled 3 10.0.0.4:8080\
+|opened 3|came 2 6162|went 3 6162|ended 2|shut 3|broke 3|closed 3 up fault|closed 2 up fault|closed 1 stopped|<meshpla\
+ne><out2>30, sent 0, closed up fault|<direct3>0, sent 2, closed up fault|<web2>end 2/0 up fault up 2 down 0|total: 3 l\
+inks, 1 accepted, 0 revoked, 2 up, 0 down|; \n\
+it breaks while its upstream opens, told; <usual> <odoor> --trace; <mesh><outb><piece><frontweb>616263<w2>{'break':2}|\
+<wake>; 0; <meshtold>accepted 2 outbound|came 2 <frontweb>616263|dialled 3 10.0.0.4:8080|broke 2|closed 3 peer gone|cl\
+osed 2 peer gone|closed 1 stopped|<meshplane><out2>31, sent 0, closed peer gone|<direct3>0, sent 0, closed peer gone|t\
+otal: 3 links, 0 accepted, 0 revoked, 0 up, 0 down|; \n\
+its upstream breaks while it lives, told; <usual> <odoor> --trace; <mesh><outb><piece><frontweb><w2><open3><piece>6162\
+63<then2>64656667<w3>{'break':3}|<wake>; 0; <meshtold>accepted 2 outbound|came 2 <frontweb>|dialled 3 10.0.0.4:8080|op\
+ened 3|came 2 616263|went 3 616263|came 3 64656667|went 2 64656667|broke 3|closed 3 up fault|closed 2 up fault|closed \
+1 stopped|<meshplane><out2>31, sent 4, closed up fault|<direct3>4, sent 3, closed up fault|<web2>end 2/0 up fault up 3 \
 down 4|total: 3 links, 1 accepted, 0 revoked, 3 up, 4 down|; \n\
-the upstream ends first, told; <usual> <odoor> --trace; <mesh><outb><piece><frontweb><w2><open3><piece>68656c6c6f<w3>{\
-'end':3}|<wake><piece>627965<w2>{'end':2}|<wake>; 0; <meshtold>accepted 2 outbound|came 2 <frontweb>|dialled 3 10.0.0.\
-4:8080|opened 3|came 3 68656c6c6f|went 2 68656c6c6f|ended 3|shut 2|came 2 627965|went 3 627965|ended 2|closed 3 done|c\
-losed 2 done|closed 1 stopped|<meshplane><out2>31, sent 5, closed done|<direct3>5, sent 3, closed done|<web2>end 2/0 d\
-one up 3 down 5|total: 3 links, 1 accepted, 0 revoked, 3 up, 5 down|; \n\
-it breaks before its header is whole, told; <usual> <odoor> --trace; <mesh><outb><piece>0d0a0d0a000d0a515549540a211100\
-0c0a000009<w2>{'break':2}|<wake>; 0; <meshtold>accepted 2 outbound|came 2 0d0a0d0a000d0a515549540a2111000c0a000009|bro\
-ke 2|closed 2 peer gone|closed 1 stopped|<meshplane><out2>20, sent 0, closed peer gone|total: 2 links, 0 accepted, 0 r\
-evoked, 0 up, 0 down|; \n\
-the run ends while its upstream opens, told; <usual> <odoor> --trace; <mesh><outb><piece><frontweb>616263<w2>; 0; <mes\
-htold>accepted 2 outbound|came 2 <frontweb>616263|dialled 3 10.0.0.4:8080|closed 1 stopped|closed 3 stopped|closed 2 s\
-topped|<meshplane><out2>31, sent 0, closed stopped|<direct3>0, sent 0, closed stopped|total: 3 links, 0 accepted, 0 re\
-voked, 0 up, 0 down|; \n\
-the run ends while it lives, told; <usual> <odoor> --trace; <mesh><outb><piece><frontweb><w2><open3><piece>616263<then\
-2>64656667<w3>; 0; <meshtold>accepted 2 outbound|came 2 <frontweb>|dialled 3 10.0.0.4:8080|opened 3|came 2 616263|went \
-3 616263|came 3 64656667|went 2 64656667|closed 1 stopped|closed 3 stopped|closed 2 stopped|<meshplane><out2>31, sent \
-4, closed stopped|<direct3>4, sent 3, closed stopped|<web2>end 2/0 stopped up 3 down 4|total: 3 links, 1 accepted, 0 r\
-evoked, 3 up, 4 down|; \n\
-a policy denies each peer while it lives, told; <usual> <odoor> --trace; <mesh><outb><piece><frontweb><w2><open3><piec\
-e>616263<then2>64656667<then3><deny><then1>6d6f7265<then2>6261636b<w3>; 0; <meshtold>accepted 2 outbound|came 2 <front\
-web>|dialled 3 10.0.0.4:8080|opened 3|came 2 616263|went 3 616263|came 3 64656667|went 2 64656667|came 1 <deny>|went 1 \
-00003b00000000000100000000361230<policy>32027839|came 2 6d6f7265|went 3 6d6f7265|came 3 6261636b|went 2 6261636b|close\
-d 1 stopped|closed 3 stopped|closed 2 stopped|link 1 discovery 10.0.0.1:15010: received 1299, sent 580, closed stopped\
-|<out2>35, sent 8, closed stopped|<direct3>8, sent 7, closed stopped|<web2>end 2/0 stopped up 7 down 8|total: 3 links, \
-1 accepted, 0 revoked, 7 up, 8 down|; \n\
-a service moves: a link stays, and the next one goes to its new endpoint, told; <usual> <odoor> --trace; <mesh><outb><\
-piece><frontweb><w2><open3><piece>00008f000000000001000000008a12580a0131124f0a2a<address>12210a1f1a040a0000284a026e32b\
-201120a07612f7765622e6112070a05085010b8451a026534222a<address>2a027839<then1>6f6c64<w2><outb><piece><frontweb>6e6577<w\
-4>{'open':5}|<wake>; 0; <meshtold>accepted 2 outbound|came 2 <frontweb>|dialled 3 10.0.0.4:8080|opened 3|came 1 00008f\
-000000000001000000008a12580a0131124f0a2a<address>12210a1f1a040a0000284a026e32b201120a07612f7765622e6112070a05085010b84\
-51a026534222a<address>2a027839|went 1 0000350000000000010000000030122a<address>32027839|came 2 6f6c64|went 3 6f6c64|ac\
-cepted 4 outbound|came 4 <frontweb>6e6577|dialled 5 10.0.0.40:8888|opened 5|went 5 6e6577|closed 1 stopped|closed 3 st\
-opped|closed 2 stopped|closed 5 stopped|closed 4 stopped|link 1 discovery 10.0.0.1:15010: received 1309, sent 574, clo\
-sed stopped|<out2>31, sent 0, closed stopped|<direct3>0, sent 3, closed stopped|link 4 outbound: received 31, sent 0, \
-closed stopped|link 5 direct 10.0.0.40:8888 of 4: received 0, sent 3, closed stopped|<web2>verdict 4/0 200 10.0.0.9 - \
-10.1.0.1:80|end 2/0 stopped up 3 down 0|end 4/0 stopped up 3 down 0|total: 5 links, 2 accepted, 0 revoked, 6 up, 0 dow\
-n|; \n\
-the upstream's end waits behind the last octet, told; <usual> <odoor> --trace; <mesh><outb><piece><frontweb><w2><open3\
->{'link':2,'room':2}|<piece>61626364<w3>{'end':3}|<wake>{'link':2,'room':1}|<wake>{'link':2,'room':1}|<wake>{'end':2}|\
-<wake>; 0; <meshtold>accepted 2 outbound|came 2 <frontweb>|dialled 3 10.0.0.4:8080|opened 3|came 3 61626364|went 2 616\
-2|ended 3|went 2 63|went 2 64|shut 2|ended 2|closed 3 done|closed 2 done|closed 1 stopped|<meshplane><out2>28, sent 4, \
-closed done|<direct3>4, sent 0, closed done|<web2>end 2/0 done up 0 down 4|total: 3 links, 1 accepted, 0 revoked, 0 up\
-, 4 down|; \n\
-an outbound link takes the last place of a tunnel, told; <usual> <alldoors> --tunnels 1 --trace; <mesh><outb><piece><f\
-rontweb><w2><start>0000180104000000010207434f4e4e454354010d31302e302e302e373a39303930<w4>; 0; <meshtold>accepted 2 out\
-bound|came 2 <frontweb>|dialled 3 10.0.0.4:8080|accepted 4 inbound|came 4 <front><preface>0000000400000000000000180104\
-000000010207434f4e4e454354010d31302e302e302e373a39303930|went 4 <own>0000000401000000000000060105000000012008033530330\
-0000403000000000100000000|closed 1 stopped|closed 4 stopped|closed 3 stopped|closed 2 stopped|<meshplane><out2>28, sen\
-t 0, closed stopped|<direct3>0, sent 0, closed stopped|link 4 inbound: received 129, sent 58, closed stopped|verdict 4\
-/1 503<peer>10.0.0.7:9090|total: 4 links, 0 accepted, 0 revoked, 0 up, 0 down|; \n\
-a link without a header has its place, told; <usual> <odoor> --tunnels 1 --trace; <mesh><outb><wake><outb><wake>{'end'\
-:2}|<wake><outb><wake>; 0; <meshtold>accepted 2 outbound|accepted 3 outbound|closed 3 no room|ended 2|closed 2 front f\
-ault 0|accepted 4 outbound|closed 1 stopped|closed 4 stopped|<meshplane><out2>0, sent 0, closed front fault 0|link 3 o\
-utbound: received 0, sent 0, closed no room|link 4 outbound: received 0, sent 0, closed stopped|total: 4 links, 0 acce\
-pted, 0 revoked, 0 up, 0 down|; \n\
-the control plane breaks, and a new link has a route, told; <usual> <odoor> --trace; <mesh>{'break':1}|<wake><outb><pi\
-ece><frontweb>696e<w2><open3>; 0; <meshtold>broke 1|closed 1 broken|accepted 2 outbound|came 2 <frontweb>696e|dialled \
-3 10.0.0.4:8080|opened 3|went 3 696e|closed 3 stopped|closed 2 stopped|link 1 discovery 10.0.0.1:15010: received 1157, \
-sent 512, closed broken|<out2>30, sent 0, closed stopped|<direct3>0, sent 2, closed stopped|<web2>end 2/0 stopped up 2 \
-down 0|total: 3 links, 1 accepted, 0 revoked, 2 up, 0 down|; \n\
+its service and its endpoint go while its upstream opens, told; <usual> <odoor> --trace; <mesh><outb><piece><frontweb>\
+616263<then2>00003e0000000000010000000039222a<address>3203776562320265342a027839<w1><open3><piece>6d6f7265<then2>62616\
+36b<w3>; 0; <meshtold>accepted 2 outbound|came 2 <frontweb>616263|dialled 3 10.0.0.4:8080|came 1 00003e000000000001000\
+0000039222a<address>3203776562320265342a027839|went 1 0000350000000000010000000030122a<address>32027839|opened 3|went \
+3 616263|came 2 6d6f7265|went 3 6d6f7265|came 3 6261636b|went 2 6261636b|closed 1 stopped|closed 3 stopped|closed 2 st\
+opped|link 1 discovery 10.0.0.1:15010: received 1228, sent 574, closed stopped|<out2>35, sent 4, closed stopped|<direc\
+t3>4, sent 7, closed stopped|<web2>end 2/0 stopped up 7 down 4|total: 3 links, 1 accepted, 0 revoked, 7 up, 4 down|; \n\
+its endpoint takes HBONE while it lives, told; <usual> <odoor> --trace; <mesh><outb><piece><frontweb><w2><open3><piece\
+>616263<then2>64656667<then3>000091000000000001000000008c125a0a013112510a2a<address>12230a211a040a00000428014a026e32b2\
+01120a07612f7765622e6112070a05085010903f1a026534222a<address>2a027839<then1>6d6f7265<then2>6261636b<w3>; 0; <meshtold>\
+accepted 2 outbound|came 2 <frontweb>|dialled 3 10.0.0.4:8080|opened 3|came 2 616263|went 3 616263|came 3 64656667|wen\
+t 2 64656667|came 1 000091000000000001000000008c125a0a013112510a2a<address>12230a211a040a00000428014a026e32b201120a076\
+12f7765622e6112070a05085010903f1a026534222a<address>2a027839|went 1 0000350000000000010000000030122a<address>32027839|\
+came 2 6d6f7265|went 3 6d6f7265|came 3 6261636b|went 2 6261636b|closed 1 stopped|closed 3 stopped|closed 2 stopped|lin\
+k 1 discovery 10.0.0.1:15010: received 1311, sent 574, closed stopped|<out2>35, sent 8, closed stopped|<direct3>8, sen\
+t 7, closed stopped|<web2>end 2/0 stopped up 7 down 8|total: 3 links, 1 accepted, 0 revoked, 7 up, 8 down|; \n\
+";
+
+/// Runs.
+pub const OUTBOUND_5: &[u8] = b"\
+a peer that takes an octet at a time, told; <usual> <odoor> --trace; <mesh><outb><piece><frontweb><w2><open3>{'link':2\
+,'room':1}|<wake><piece>68656c6c6f','link':3}|{'link':2,'room':1}|<wake>{'link':2,'room':1}|<wake>{'link':2,'room':1}|\
+<wake>{'link':2,'room':1}|<wake>{'link':2,'room':1}|<wake>; 0; <meshtold>accepted 2 outbound|came 2 <frontweb>|dialled \
+3 10.0.0.4:8080|opened 3|came 3 68656c6c6f|went 2 68|went 2 65|went 2 6c|went 2 6c|went 2 6f|closed 1 stopped|closed 3 \
+stopped|closed 2 stopped|<meshplane><out2>28, sent 5, closed stopped|<direct3>5, sent 0, closed stopped|<web2>end 2/0 \
+stopped up 0 down 5|total: 3 links, 1 accepted, 0 revoked, 0 up, 5 down|; \n\
+the run ends with three doors, told; <usual> <alldoors> --trace; <mesh><start>0000180104000000010207434f4e4e454354010d\
+31302e302e302e373a39303930<w2><open3><plain><piece><front9><w4>{'open':5}|<wake><outb><piece><frontweb>','link':6}|<wa\
+ke>{'open':7}|<wake><piece>0000020000000000017570<then2>726177<then4>6f7574','link':6}|<wake>; 0; <meshtold>accepted 2 \
+inbound|came 2 <front><preface>0000000400000000000000180104000000010207434f4e4e454354010d31302e302e302e373a39303930|di\
+alled 3 10.0.0.7:9090|went 2 <own>000000040100000000|opened 3|went 2 0000020104000000012088|accepted 4 plain|came 4 <f\
+ront9>|dialled 5 10.0.0.7:9090|opened 5|accepted 6 outbound|came 6 <frontweb>|dialled 7 10.0.0.4:8080|opened 7|came 2 \
+0000020000000000017570|went 3 7570|came 4 726177|went 5 726177|came 6 6f7574|went 7 6f7574|closed 1 stopped|closed 3 s\
+topped|closed 2 stopped|closed 5 stopped|closed 4 stopped|closed 7 stopped|closed 6 stopped|<meshplane><in2>140, sent \
+41, closed stopped|link 3 upstream 10.0.0.7:9090 of 2/1: received 0, sent 2, closed stopped|link 4 plain: received 31, \
+sent 0, closed stopped|link 5 relay 10.0.0.7:9090 of 4: received 0, sent 3, closed stopped|link 6 outbound: received 3\
+1, sent 0, closed stopped|link 7 direct 10.0.0.4:8080 of 6: received 0, sent 3, closed stopped|verdict 2/1 200<peer>10\
+.0.0.7:9090|verdict 4/0 200 10.0.0.9 - 10.0.0.7:9090|verdict 6/0 200 10.0.0.9 - 10.1.0.1:80|end 2/1 stopped up 2 down \
+0|end 4/0 stopped up 3 down 0|end 6/0 stopped up 3 down 0|total: 7 links, 3 accepted, 0 revoked, 8 up, 0 down|; \n\
+an outbound link takes the last place of a plain link, told; <usual> <alldoors> --tunnels 1 --trace; <mesh><outb><piec\
+e><frontweb><w2><plain><wake>; 0; <meshtold>accepted 2 outbound|came 2 <frontweb>|dialled 3 10.0.0.4:8080|accepted 4 p\
+lain|closed 4 no room|closed 1 stopped|closed 3 stopped|closed 2 stopped|<meshplane><out2>28, sent 0, closed stopped|<\
+direct3>0, sent 0, closed stopped|link 4 plain: received 0, sent 0, closed no room|total: 4 links, 0 accepted, 0 revok\
+ed, 0 up, 0 down|; \n\
+a plain link where only the outbound door is given, told; <usual> <odoor> --trace; <mesh><plain><wake>; 0; <meshtold>c\
+losed 1 stopped|<meshplane>total: 1 links, 0 accepted, 0 revoked, 0 up, 0 down|; \n\
+brief, told; <usual> <odoor> --brief --trace; <mesh><outb><piece><frontweb><w2><open3><piece>616263<w2>; 0; total: 3 l\
+inks, 1 accepted, 0 revoked, 3 up, 0 down|; \n\
 ";
