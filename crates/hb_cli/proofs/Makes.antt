@@ -1,18 +1,22 @@
 -- What `make` does, from what is said of its run, and what is written at each status of a command that reads no input.
-use Rattle.std.proofs.Common.{◌≡◌, ◌≢◌, ℕ, ◌==◌, Bool, true, false, List, Result, Ok, Err, refl, sym, subst}
+use Rattle.std.proofs.Common.{◌≡◌, ◌≢◌, ℕ, ◌==◌, Bool, true, false, List, Result, Ok, Err, refl, sym, ◌∙◌, subst, inl, inr}
 use Rattle.std.specs.Bool.{MatchBool}
+use Rattle.hb_make.specs.Made.{made}
 use Rattle.hb_serve.specs.Served.{Heard}
-use Rattle.hb_words.specs.Command.{Command, Serve, checks, shows, replays, serves, makes}
+use Rattle.hb_world.specs.declared.line.Line.{Line}
+use Rattle.hb_words.specs.Command.{Command, Replay, Serve, checks, shows, replays, serves, makes}
 use Rattle.hb_words.specs.declared.asks.Make.{Make}
 use Rattle.hb_words.specs.declared.fault.WordsFault.{WordsFault}
-use Rattle.hb_replay.specs.Run.{RunState}
+use Rattle.hb_replay.specs.Run.{RunState, done_in, IsRun, report_of}
+use Rattle.hb_replay.specs.declared.end.ReplayEnd.{ReplayEnd}
+use Rattle.hb_replay.specs.declared.end.ReplayEnd.TheVariants as ends
 use Rattle.hb_cli.specs.declared.answer.Printed.{Printed}
 use Rattle.hb_cli.specs.declared.answer.Printed.TheVariants.{Whole, Failed, NoMemory}
 use Rattle.hb_cli.specs.Ending.{Use, WritesPart, Prints, Tells}
-use Rattle.hb_cli.specs.Hearing.{HearsNone}
-use Rattle.hb_cli.specs.Making.{made_text, made_total, RunsAt, TextAt, MakesAt}
+use Rattle.hb_cli.specs.Hearing.{HearsAll, HearsNone}
+use Rattle.hb_cli.specs.Making.{made_run, made_text, made_total, RunsMade, RunsAt, TextAt, MakesAt}
 use Rattle.hb_cli.specs.Run.{takes_input, write_fault_line}
-use Rattle.hb_cli.specs.Serving.{WorldUse, ServesAt}
+use Rattle.hb_cli.specs.Serving.{WorldUse, PrintsRun, ServesAt}
 use Rattle.hb_cli.proofs.Endings.{pick}
 use Rattle.hb_cli.proofs.Serves.{writes_at}
 use Rattle.hb_cli.proofs.Written.{WritesAt}
@@ -38,6 +42,22 @@ module _ (m : Make) (out err : Use) where
       pick status 9 (status == 9) refl e9 (λ is a. subst (WritesAt out err) (sym is) a) (λ none. absurd none)))
 
 module _ (m : Make) (h : Heard) (left : RunState) (out err : Use) where
+  -- the totals of a run of its lines were printed, or a part of them
+  printed_at : (end : ReplayEnd) (status : ℕ) → RunsMade m h left end → PrintsRun end (made_total left) out err status
+      → RunsAt m h left out err status
+  printed_at ends.Stopped status run (inl p) = subst (RunsAt m h left out err) (sym p.1.0) (run, p.0, p.1.1)
+  printed_at ends.WorldFault status run (inl p) = subst (RunsAt m h left out err) (sym p.1.0) (run, p.0, p.1.1)
+  printed_at ends.TurnsSpent status run (inl p) = subst (RunsAt m h left out err) (sym p.1.0) (run, p.0, p.1.1)
+  printed_at end status run (inr p) = subst (RunsAt m h left out err) (sym p.0) (end, run, p.1, p.2)
+
+  pub run_printed : (r : Replay) (lines : List Line) (end : ReplayEnd) (text : List ℕ) (status : ℕ) → r ≡ made_run → lines ≡ made m.count
+      → (left.script.lines ≡ lines) × IsRun r end (done_in left) × (text ≡ report_of r (done_in left)) → HearsAll h (done_in left).notes
+      → PrintsRun end text out err status → RunsAt m h left out err status
+  run_printed r lines end text status same are ran tells p =
+      let at : IsRun made_run end (done_in left) × (text ≡ report_of made_run (done_in left))
+      = subst (λ (q : Replay). IsRun q end (done_in left) × (text ≡ report_of q (done_in left))) same (ran.1, ran.2)
+      in printed_at end status (ran.0 ∙ are, at.0, tells) (subst (λ (t : List ℕ). PrintsRun end t out err status) at.1 p)
+
   -- what is written then
   run_writes : (status : ℕ) → RunsAt m h left out err status → WritesAt out err status
   run_writes status e =
