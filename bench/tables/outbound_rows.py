@@ -178,8 +178,8 @@ def chosen():
     row("a connection that is refused isn't counted", three + begun(port=81) + opened(b"b", link=3))
     row("one to an endpoint that is one of the node's own doors isn't counted", BASE + woken(1, told(
         e3=workload("10.0.0.4", serves=serves("web.a", target=15001)))) + begun(b"a") + begun(b"b", link=3))
-    row("a count outlives its endpoint's record", both + woken(1, gone("e3")) + woken(1, told(e3=workload("10.0.0.33", serves=serves("web.a"))))
-        + opened(b"c", link=6))
+    row("a count outlives its endpoint's record", both + woken(1, gone("e3")) + woken(1, told(
+        e3=workload("10.0.0.33", serves=serves("web.a")))) + opened(b"c", link=6))
     row("an endpoint under another name has no connection", both + woken(1, gone("e3")) + woken(1, told(
         e2=workload("10.0.0.33", serves=serves("web.a")))) + opened(b"c", link=6))
     row("connections of two services to one endpoint are counted together", three + woken(1, told(e3=workload("10.0.0.33", serves=[

@@ -177,8 +177,8 @@ def plain_form(record):
 
 
 def way(held, asked, opens, source, target):
-    """`direct`, the target's text and the endpoint's name, or `-`; `gateway`, the text of its address, the authority and the name; or `none`
-    and the number of why there is none. `opens` has how many connections each endpoint has."""
+    """`direct`, the target's text and the endpoint's name, or `-`; `gateway`, the text of its address, the authority and the name; or
+    `none` and the number of why there is none. `opens` has how many connections each endpoint has."""
     resources = {name: plain_form(version.record) for (kind, name), version in held.items() if kind == ADDRESS}
     return routes.way(resources, opens, source, target.ip, target.port, asked.get("hbone-port", 15008), asked.get("network", ""),
                       asked["node"]).split()
@@ -639,8 +639,8 @@ class Inbound(Connection):
 
 class Captured:
     """A link of raw bytes, of the plain door or the outbound one, with its upstream. `stage` is fronting, asked, pending, live; behind its
-    end `cause` says why. `target` is what its header told, `address` what is dialled for it, and `endpoint` to what it is a connection. At the
-    outbound door the way to the link is the long one."""
+    end `cause` says why. `target` is what its header told, `address` what is dialled for it, and `endpoint` to what it is a connection. At
+    the outbound door the way to the link is the long one."""
 
     def __init__(self, number, door, run):
         self.number, self.door, self.run, self.stage, self.cause = number, door, run, "fronting", None
