@@ -20,7 +20,7 @@ use Rattle.hb_streams.specs.declared.fault.OpenFault.TheVariants.{Full, Spent}
 use Rattle.hb_world.specs.declared.entry.Entry.{Entry}
 use Rattle.hb_world.specs.declared.entry.Entry.TheVariants as e
 use Rattle.hb_gateway.specs.Asks.{asked_in, asked_of, is_away, says_away, MayAsk, AsksAt}
-use Rattle.hb_gateway.specs.Gateway.{Gateway, Phase, Stream, no_stream, stage_of, at_stage, at_stream, away_by, carries, has_room, request_of, dropped_to}
+use Rattle.hb_gateway.specs.Gateway.{Gateway, Phase, Stream, no_stream, stage_of, at_stage, at_stream, away_by, carries, has_room, request_of, is_active, settled, dropped_to}
 use Rattle.hb_gateway.specs.Hears.{hears_call, hears_by, after, all_hear}
 use Rattle.hb_gateway.specs.Laws.{RunsAsk}
 use Rattle.hb_gateway.specs.Part.{Part, entry, dialled, lacked, looked, asks, tells, put, finished, credited, reset, dropped, done, stopped, act}
@@ -116,6 +116,10 @@ call_streams (e.Closed k why) x s = refl
 call_streams e.Tick x s = refl
 call_streams (e.Wait ready how) x s = refl
 
+settled_unused : (active : Bool) (stage : Stage) → stage ≡ unused → settled active stage ≡ unused
+settled_unused true stage is = is
+settled_unused false stage is = ap (settled false) is
+
 module _ (g : ℕ) (x y : Gateway) (s : ℕ) where
   stage_is : (z : Gateway) → y ≡ z → stage_of z s ≡ unused → stage_of y s ≡ unused
   stage_is z is now = ap (λ (w : Gateway). stage_of w s) is ∙ now
@@ -126,7 +130,9 @@ module _ (g : ℕ) (x y : Gateway) (s : ℕ) where
       (call_streams call (all_hear (entry call) x) s ∙ hears_none x (entry call) s is)
   step_unused (dialled call key) steps others is = stage_is _ steps.1 is
   step_unused lacked steps others is = stage_is _ steps.1 (hears_none x lacked s is)
-  step_unused (looked ps told headers) steps others is = stage_is _ steps.6 (hears_none x (looked ps told headers) s is)
+  step_unused (looked ps told headers) steps others is =
+      stage_is _ steps.6
+      (settled_unused (is_active steps.3 s) (stage_of (all_hear (looked ps told headers) x) s) (hears_none x (looked ps told headers) s is))
   step_unused (asks k captured authority) steps others is =
       stage_is _ steps.2 (another k s x (λ t. record no_stream { stage = asked; captured = captured }) others.0 is)
   step_unused (tells k heard begun) steps others is =
@@ -215,7 +221,7 @@ module _ (g : ℕ) (x y : Gateway) where
 
 -- WHETHER THE GATEWAY GOES AWAY
 
-any_one : {A : Type 0} (f : A → Bool) (xs : List A) (a : A) → list_any f (xs ++ a ∷ []) ≡ (list_any f xs || f a)
+pub any_one : {A : Type 0} (f : A → Bool) (xs : List A) (a : A) → list_any f (xs ++ a ∷ []) ≡ (list_any f xs || f a)
 any_one f [] a = by (f a)
   where
     by : (b : Bool) → (b || false) ≡ (false || b)

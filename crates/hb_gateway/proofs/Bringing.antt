@@ -21,7 +21,7 @@ use Rattle.hb_kept.specs.Numbers.{highest_used}
 use Rattle.hb_model.specs.Discovery.{status_of}
 use Rattle.hb_world.specs.declared.entry.Entry.{Entry}
 use Rattle.hb_world.specs.declared.entry.Entry.TheVariants as e
-use Rattle.hb_gateway.specs.Gateway.{Gateway, Phase, Stream, no_stream, stage_of, at_stage, at_stream, dropped_to, break_cause}
+use Rattle.hb_gateway.specs.Gateway.{Gateway, Phase, Stream, no_stream, stage_of, at_stage, at_stream, is_active, dropped_to, break_cause}
 use Rattle.hb_gateway.specs.Hears.{hears, hears_call, after, all_hear}
 use Rattle.hb_gateway.specs.Laws.{RunsBring}
 use Rattle.hb_gateway.specs.Order as order
@@ -33,7 +33,7 @@ use Rattle.hb_gateway.specs.Runs.{entered, Steps, StandsFor}
 use Rattle.hb_gateway.specs.Runs as runs
 use Rattle.hb_gateway.specs.Sides.{told_on, brought_by, brought_on, came_on}
 use Rattle.hb_gateway.proofs.Asking.{step_rises, number_above, call_streams}
-use Rattle.hb_gateway.proofs.Ending.{given_up}
+use Rattle.hb_gateway.proofs.Ending.{given_up, settled_lives}
 use Rattle.hb_gateway.proofs.Grown.{more_moves}
 use Rattle.hb_gateway.proofs.Hearing.{IsOf, failed_of, told_of, called_of, stands_for}
 use Rattle.hb_gateway.proofs.Numbered.{data_of_used}
@@ -278,14 +278,13 @@ module _ (g s : ℕ) (x y : Gateway) (parts : List Part) (all : List Heard) (sta
 
   -- one that is heard
   heard_now : (p : Part) (come : List ℕ) → flat_map (data_by s) (moves_in (left_of parts) p) ≡ come
-      → stage_of y s ≡ after p (stage_of x s) (hears x p s) → Rests p (stage_of x s) (hears x p s) was.rest come → Now p
-  heard_now p come comes_so stage rests =
-      grows p come comes_so rests.0 rests.1 (λ lives. rests.2 (sym (ap is_living stage) ∙ lives))
+      → is_living (stage_of y s) ≡ is_living (after p (stage_of x s) (hears x p s)) → Rests p (stage_of x s) (hears x p s) was.rest come → Now p
+  heard_now p come comes_so same rests = grows p come comes_so rests.0 rests.1 (λ lives. rests.2 (sym same ∙ lives))
 
   ends_now : (p : Part) → flat_map (data_by s) (moves_in (left_of parts) p) ≡ [] → stage_of y s ≡ after p (stage_of x s) (hears x p s)
       → IsOf (stage_of x s) (hears x p s) → bytes_of (hears x p s) ≡ [] → Now p
   ends_now p none stage of silent =
-      heard_now p [] none stage (none_rests p was.rest (stage_of x s) (hears x p s) [] of silent refl was.whole)
+      heard_now p [] none (ap is_living stage) (none_rests p was.rest (stage_of x s) (hears x p s) [] of silent refl was.whole)
 
   stage_at : (z : Gateway) → y ≡ z → stage_of y s ≡ stage_of z s
   stage_at z is = ap (λ (w : Gateway). stage_of w s) is
@@ -311,7 +310,8 @@ module _ (g s : ℕ) (x y : Gateway) (parts : List Part) (all : List Heard) (sta
       ends_now lacked refl (stage_at _ steps.1) (failed_of cause.NoMemory (stage_of x s)) (failed_bytes cause.NoMemory (stage_of x s))
   step_brings (looked ps told headers) steps =
       heard_now (looked ps told headers) (inbound.told_on s told (chunk_of steps.3 told))
-      (told_data s x.conn steps.3 ps told steps.4.looks steps.4.tells steps.4.hands_out) (stage_at _ steps.6)
+      (told_data s x.conn steps.3 ps told steps.4.looks steps.4.tells steps.4.hands_out)
+      (ap is_living (stage_at _ steps.6) ∙ settled_lives (is_active steps.3 s) (stage_of (all_hear (looked ps told headers) x) s))
       (look_rests s (stage_of x s) was.rest ps headers x.conn steps.3 was.whole told steps.4)
   step_brings (asks k captured authority) steps =
       quiet (asks k captured authority) refl refl

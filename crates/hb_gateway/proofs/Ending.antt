@@ -1,5 +1,5 @@
 -- No tunnel lives on a link that ended, in every run.
-use Rattle.std.proofs.Common.{◌≡◌, ℕ, ◌==◌, ◌&&◌, false, Some, None, refl, ap, sym, ◌∙◌, subst}
+use Rattle.std.proofs.Common.{◌≡◌, ℕ, ◌==◌, ◌&&◌, Bool, true, false, Some, None, refl, ap, sym, ◌∙◌, subst}
 use Rattle.std.proofs.lemmas.Bool.{false≢true, cond_both, and_parts}
 use Rattle.hb_base.specs.declared.cause.Cause.{Cause}
 use Rattle.hb_base.specs.declared.cause.Cause.TheVariants as cause
@@ -8,7 +8,7 @@ use Rattle.hb_conn.specs.declared.found.Found.TheVariants as found
 use Rattle.hb_world.specs.declared.entry.Entry.{Entry}
 use Rattle.hb_world.specs.declared.entry.Entry.TheVariants as e
 use Rattle.hb_gateway.specs.Calm.{close_due}
-use Rattle.hb_gateway.specs.Gateway.{Gateway, Phase, Stream, unborn, opening, serving, faulted, closing, closed, stage_of, at_stage, carries, has_room, is_active, dropped_to, went_by, phase_by, break_cause}
+use Rattle.hb_gateway.specs.Gateway.{Gateway, Phase, Stream, unborn, opening, serving, faulted, closing, closed, stage_of, at_stage, carries, has_room, is_active, settled, dropped_to, went_by, phase_by, break_cause}
 use Rattle.hb_gateway.specs.Hears.{after, all_hear, left_behind}
 use Rattle.hb_gateway.specs.Laws.{RunsEndTunnels}
 use Rattle.hb_gateway.specs.Part.{Part, entry, dialled, lacked, looked, asks, tells, put, finished, credited, reset, dropped, done, stopped}
@@ -43,6 +43,15 @@ due_ended closed why is carries = false≢true carries
 pub given_up : (s : ℕ) (x : Gateway) → is_living (dropped_to s x) ≡ false
 given_up s x =
     cond_both (carries x.phase && is_active x.conn s) (failing cancel) over (λ (t : Stage). is_living t ≡ false) (λ is. refl) (λ is. refl)
+
+-- one that is over where it was to be reset lives no more, nor did it before
+pub settled_lives : (active : Bool) (stage : Stage) → is_living (settled active stage) ≡ is_living stage
+settled_lives true stage = refl
+settled_lives false unused = refl
+settled_lives false asked = refl
+settled_lives false carrying = refl
+settled_lives false (failing code) = refl
+settled_lives false over = refl
 
 abbrev pub IsSilent : Gateway → Type 0
 IsSilent x = (Carries x.phase → ⊥) → (s : ℕ) → is_living (stage_of x s) ≡ false
@@ -96,7 +105,9 @@ module _ (g : ℕ) (x y : Gateway) (silent : IsSilent x) where
       told_silent told
       (ap (λ (w : Gateway). w.phase) steps.6 ∙ ap (λ (ph : Phase). phase_by ph told) steps.0)
       (λ code is. subst (λ (t : Found). Steps g x (looked ps t headers) y → IsSilent y) (sym is)
-      (λ now. becomes _ now.6 (λ s. silenced (looked ps (found.Fault code) headers) (cause.ConnFault code) (stage_of x s) refl)) steps)
+      (λ now. becomes _ now.6
+      (λ s. settled_lives (is_active now.3 s) (stage_of (all_hear (looked ps (found.Fault code) headers) x) s)
+      ∙ silenced (looked ps (found.Fault code) headers) (cause.ConnFault code) (stage_of x s) refl)) steps)
   step_silent (asks s captured authority) steps =
       still x.phase (ap (λ (w : Gateway). w.phase) steps.2) (and_parts (carries x.phase) (has_room x) steps.0).0
   step_silent (tells k heard begun) steps =

@@ -1,5 +1,5 @@
 -- What the tunnel on a stream hears is in order, in every run of a link.
-use Rattle.std.proofs.Common.{◌≡◌, ◌≢◌, ℕ, ◌<◌, ◌==◌, ◌&&◌, not, nat_lt, Bool, cond, List, [], ◌∷◌, ◌++◌, Option, Some, None, refl, ap, sym, ◌∙◌, subst}
+use Rattle.std.proofs.Common.{◌≡◌, ◌≢◌, ℕ, ◌<◌, ◌==◌, ◌&&◌, not, nat_lt, Bool, true, false, cond, List, [], ◌∷◌, ◌++◌, Option, Some, None, refl, ap, sym, ◌∙◌, subst}
 use Rattle.std.specs.List.{flat_map, AllByRecursion}
 use Rattle.std.proofs.lemmas.Bool.{cond_both, eqb-true}
 use Rattle.std.proofs.lemmas.List.{append-nil}
@@ -14,7 +14,7 @@ use Rattle.hb_model.specs.Discovery.{status_of, is_interim}
 use Rattle.hb_world.specs.declared.entry.Entry.{Entry}
 use Rattle.hb_world.specs.declared.entry.Entry.TheVariants as e
 use Rattle.hb_gateway.specs.Asks.{asked_in, asked_of}
-use Rattle.hb_gateway.specs.Gateway.{Gateway, Phase, Stream, no_stream, stage_of, at_stage, at_stream, carries, is_active, dropped_to, break_cause}
+use Rattle.hb_gateway.specs.Gateway.{Gateway, Phase, Stream, no_stream, stage_of, at_stage, at_stream, carries, is_active, settled, dropped_to, break_cause}
 use Rattle.hb_gateway.specs.Hears.{hears_call, hears, left_behind, after, all_hear}
 use Rattle.hb_gateway.specs.Laws.{RunsHearInOrder, UnaskedHearNothing}
 use Rattle.hb_gateway.specs.Order as order
@@ -178,6 +178,15 @@ module _ (all : List Heard) where
   heard_on p asked (Some ends) may fits = absurd may
   heard_on p carrying (Some (opens end)) may fits = absurd may
 
+-- where one that is to be reset is over
+settled_order : (active : Bool) (stage : Stage) (all : List Heard) → OrderBy stage all → OrderBy (settled active stage) all
+settled_order true stage all fits = fits
+settled_order false unused all fits = fits
+settled_order false asked all fits = fits
+settled_order false carrying all fits = fits
+settled_order false (failing code) all fits = fits
+settled_order false over all fits = fits
+
 -- a run, without what is heard in it
 pub stands_for : (g s : ℕ) (x : Gateway) (parts : List Part) (all : List Heard) → HearsAll g s x parts all → StandsFor g x parts
 stands_for g s x parts all (order.begins is none silent) = runs.begins is none
@@ -215,7 +224,9 @@ module _ (g s : ℕ) (x y : Gateway) (parts : List Part) (all : List Heard) (sta
       stage_at _ (all ++ if_heard (hears x lacked s)) steps.1 (heard_at lacked (failed_of cause.NoMemory (stage_of x s)))
   step_hears (looked ps told headers) steps =
       stage_at _ (all ++ if_heard (hears x (looked ps told headers) s)) steps.6
-      (heard_at (looked ps told headers) (told_of s (stage_of x s) headers (flat_map data_in ps) told))
+      (settled_order (is_active steps.3 s) (stage_of (all_hear (looked ps told headers) x) s)
+      (all ++ if_heard (hears x (looked ps told headers) s))
+      (heard_at (looked ps told headers) (told_of s (stage_of x s) headers (flat_map data_in ps) told)))
   step_hears (asks k captured authority) steps =
       stage_at _ (all ++ []) steps.2
       (moved k (λ t. record no_stream { stage = asked; captured = captured })

@@ -6,6 +6,7 @@ pub mod Grown
 pub mod Hearing
 pub mod Numbered
 pub mod Refused
+pub mod Resetting
 pub mod Runs
 pub mod Sending
 pub mod SendsRun

@@ -1,29 +1,39 @@
 -- What the laws of a link to a gateway refuse, and what may go.
-use Rattle.std.proofs.Common.{◌≡◌, ℕ, ◌==◌, ◌&&◌, Bool, true, false, cond, ◌<◌, List, [], ◌∷◌, ◌++◌, length, Option, Some, None, inl, refl, ap, sym, ◌∙◌, arith}
+use Rattle.std.proofs.Common.{◌≡◌, ℕ, ◌==◌, ◌&&◌, ◌||◌, Bool, true, false, cond, ◌<◌, List, [], ◌∷◌, ◌++◌, length, Option, Some, None, inl, refl, ap, sym, ◌∙◌, arith}
 use Rattle.std.specs.List.{flat_map}
 use Rattle.std.specs.FinMap.{len-empty}
 use Rattle.std.specs.Ordering.{nat_cmp}
 use Rattle.hb_streams.specs.declared.sides.Sides.{Sides}
-use Rattle.std.proofs.lemmas.Bool.{false≢true, cond_both, eq-eqb}
+use Rattle.std.proofs.lemmas.Bool.{false≢true, cond_both, lt-ltb, eq-eqb}
 use Rattle.hb_base.specs.declared.cause.Cause.TheVariants as cause
 use Rattle.hb_base.specs.declared.door.Why.TheVariants as whys
 use Rattle.hb_base.specs.declared.target.Target.{Target}
+use Rattle.hb_conn.specs.Connection.{fresh_client, core_of}
 use Rattle.hb_conn.specs.Observed as observed
+use Rattle.hb_conn.specs.Observed.{sides}
 use Rattle.hb_conn.specs.declared.found.Found.TheVariants as found
+use Rattle.hb_conn.specs.declared.found.Found.TheVariants.{Silent}
+use Rattle.hb_conn.specs.declared.machine.Core.{Core}
+use Rattle.hb_history.specs.Points as history
+use Rattle.hb_history.specs.Points.{Runs}
 use Rattle.hb_history.proofs.Steady.{first_stream}
 use Rattle.hb_inbound.proofs.Relaying.{none_in}
 use Rattle.hb_kept.specs.Payloads.{payloads}
+use Rattle.hb_kept.specs.Sides.{neither}
+use Rattle.hb_kept.proofs.Sides.{reset_ends_both}
+use Rattle.hb_kept.proofs.SidesAt.{sides_at}
 use Rattle.hb_model.specs.Discovery.{status_of}
 use Rattle.hb_world.specs.declared.entry.Entry.TheVariants as e
 use Rattle.hb_gateway.specs.Calm.{is_failing, AllTold}
 use Rattle.hb_gateway.specs.Gateway.{Gateway, Stream, opening, serving, no_stream, no_link, stage_of, with_phase, asked_on, went}
 use Rattle.hb_gateway.specs.Hears.{hears_by}
 use Rattle.hb_gateway.specs.Key.{Key, front_of}
-use Rattle.hb_gateway.specs.Part.{entry, dialled, looked, asks, tells}
-use Rattle.hb_gateway.specs.Refused.{AsksBehind, AsksTwice, AsksElsewhere, PutsEarly, ResetsUnasked, DropsUnasked, WritesFirst, DialsElsewhere, FinishesEarly, DoneOpen, TellsUnheard, TellsUncome, SendsUnput, InterimIsHeard, RefusalOpens, BringsEarly, OpensTwice, BringsUnopened, GoesOnBehind, SuccessOpens, LifeIsInOrder, FirstMayGo}
+use Rattle.hb_gateway.specs.Part.{entry, dialled, looked, asks, tells, reset}
+use Rattle.hb_gateway.specs.Refused.{AsksBehind, AsksTwice, AsksElsewhere, PutsEarly, ResetsUnasked, ResetsClosed, ResetsTwice, ResetsBehindAway, DropsUnasked, WritesFirst, DialsElsewhere, FinishesEarly, DoneOpen, TellsUnheard, TellsUncome, SendsUnput, InterimIsHeard, RefusalOpens, BringsEarly, OpensTwice, BringsUnopened, GoesOnBehind, SuccessOpens, LifeIsInOrder, FirstMayGo}
 use Rattle.hb_gateway.specs.Response.{Stage, unused, asked, carrying, failing, is_living, Heard, opens, brings, ends, fails, is_success, refusal_of, answered}
 use Rattle.hb_gateway.specs.Runs.{StandsFor, begins, goes_on}
 use Rattle.hb_gateway.specs.Sides.{brought_by, brought_on}
+use Rattle.hb_gateway.proofs.Resetting.{reset_active}
 
 pub asks_behind : AsksBehind
 asks_behind last s captured authority headers points law =
@@ -45,6 +55,24 @@ puts_early g s count bytes x y is steps = (let both : asked ≡ carrying = sym i
 
 pub resets_unasked : ResetsUnasked
 resets_unasked g s code x y is steps = (let both : unused ≡ failing code = sym is ∙ steps.1 in cc)
+
+pub resets_closed : ResetsClosed
+resets_closed g s code x y parts stands closed steps = false≢true (sym closed ∙ reset_active g s code x y parts stands steps)
+
+-- behind its reset neither side of a stream is open
+pub resets_twice : ResetsTwice
+resets_twice s first second law =
+    let may = law (reset s first ∷ []) (reset s second) [] refl in
+    let runs : Runs (core_of fresh_client) (history.point (history.reset s first) Silent ∷ []) (core_of may.conn) = may.stands.runs in
+    let leads : core_of may.conn ≡ core_of (observed.aborted fresh_client s first) = runs.2 ∙ runs.1.0 in
+    let none : sides may.conn s ≡ neither =
+    ap (λ (k : Core). sides_at k.streams s) leads ∙ (reset_ends_both fresh_client s first).here in
+    false≢true (sym (ap (λ (t : Sides). t.own || t.peer) none) ∙ may.active)
+
+pub resets_behind_away : ResetsBehindAway
+resets_behind_away last s code headers points above law =
+    let may = law (looked points (found.GoneAway last) headers ∷ []) (reset s code) [] refl in
+    false≢true (sym may.taken ∙ ap (λ (b : Bool). b || false) (lt-ltb last s above))
 
 pub drops_unasked : DropsUnasked
 drops_unasked g s begun x y is steps = false≢true (sym (ap is_living is) ∙ steps.0)

@@ -52,7 +52,7 @@ module _ (c : Connection) (k : ℕ) (headers : List Header) (number : next_strea
   abbrev opens : Connection
   opens = observed.opened c k headers false
 
-  active_elsewhere : (s : ℕ) → s ≢ k → get (streams opens).active s ≡ get (streams c).active s
+  pub active_elsewhere : (s : ℕ) → s ≢ k → get (streams opens).active s ≡ get (streams c).active s
   active_elsewhere s apart =
       ap (λ (r : Result ℕ OpenFault). get (after_number (streams c) r).active s) number
       ∙ get-insert nat_cmp_total (streams c).active k both_open s

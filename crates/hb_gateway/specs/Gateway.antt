@@ -139,10 +139,19 @@ abbrev pub away_by : Bool → Found → Bool
 away_by away (found.GoneAway last) = true
 away_by away told = away
 
+-- a stream that is to be reset is over where no side of it is open: nothing may be sent on it (RFC 9113 section 5.1)
+abbrev pub is_active : Connection → ℕ → Bool
+is_active conn s = (sides conn s).own || (sides conn s).peer
+
+abbrev pub settled : Bool → Stage → Stage
+settled false (failing code) = over
+settled active stage = stage
+
 abbrev pub on_found : Found → Connection → Gateway → Gateway
 on_found told conn x = record x {
   phase = phase_by x.phase told;
   conn = conn;
+  streams = λ s. at_stage (settled (is_active conn s) (stage_of x s)) (x.streams s);
   away = away_by x.away told;
 }
 
@@ -171,9 +180,6 @@ stops_by cause serving = closing cause
 stops_by cause phase = phase
 
 -- ITS CAPTURED LINK ENDS A TUNNEL: the stream is to be reset while a side of it is open
-
-abbrev pub is_active : Connection → ℕ → Bool
-is_active conn s = (sides conn s).own || (sides conn s).peer
 
 abbrev pub dropped_to : ℕ → Gateway → Stage
 dropped_to s x = if carries x.phase && is_active x.conn s then failing cancel else over

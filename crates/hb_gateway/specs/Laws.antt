@@ -1,13 +1,18 @@
 -- What every run of a link to a gateway obeys.
-use Rattle.std.specs.Prelude.{◌≡◌, ◌≢◌, ℕ, false, List, [], ◌++◌}
+use Rattle.std.specs.Prelude.{◌≡◌, ◌≢◌, ℕ, true, false, List, [], ◌++◌}
 use Rattle.std.specs.List.{AllByRecursion}
+use Rattle.hb_conn.specs.declared.found.Found.{Found}
+use Rattle.hb_history.specs.Points as history
+use Rattle.hb_hpack.specs.declared.header.Header.{Header}
 use Rattle.hb_gateway.specs.Asks.{AskLaw, asked_of}
+use Rattle.hb_gateway.specs.Calm.{is_failing}
 use Rattle.hb_gateway.specs.Connections.{IsOneHistory, WindowLaw}
 use Rattle.hb_gateway.specs.Gateway.{Gateway, stage_of}
 use Rattle.hb_gateway.specs.Order.{HearsAll, IsInOrder, if_heard}
-use Rattle.hb_gateway.specs.Part.{Part}
+use Rattle.hb_gateway.specs.Part.{Part, looked}
+use Rattle.hb_gateway.specs.Resets.{ResetLaw}
 use Rattle.hb_gateway.specs.Response.{Heard, is_living}
-use Rattle.hb_gateway.specs.Runs.{Carries, StandsFor}
+use Rattle.hb_gateway.specs.Runs.{Carries, Steps, StandsFor}
 use Rattle.hb_gateway.specs.Sides.{BringLaw, SendLaw, CountLaw, key_of, told_on}
 
 -- the link's connection is one history, behind the front header
@@ -21,6 +26,15 @@ RunsObeyWindows = (g : ℕ) (x : Gateway) (parts : List Part) → StandsFor g x 
 -- each stream is asked for once, with the next odd number, where there is room, and never behind a GOAWAY
 abbrev pub RunsAsk : Type 0
 RunsAsk = (g : ℕ) (x : Gateway) (parts : List Part) → StandsFor g x parts → AskLaw parts
+
+-- a stream is reset only while a side of it is open, and never one that a GOAWAY left out
+abbrev pub RunsReset : Type 0
+RunsReset = (g : ℕ) (x : Gateway) (parts : List Part) → StandsFor g x parts → ResetLaw parts
+
+-- behind a look at most one is to be reset
+abbrev pub LooksFailOne : Type 0
+LooksFailOne = (g : ℕ) (x y : Gateway) (points : List history.Point) (told : Found) (headers : List Header)
+    → Steps g x (looked points told headers) y → (s t : ℕ) → is_failing (stage_of y s) ≡ true → is_failing (stage_of y t) ≡ true → s ≡ t
 
 -- no tunnel lives on a link that doesn't carry any: each heard its end, or was ended by its captured link
 abbrev pub RunsEndTunnels : Type 0

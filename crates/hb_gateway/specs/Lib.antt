@@ -9,6 +9,7 @@ pub mod Laws
 pub mod Order
 pub mod Part
 pub mod Refused
+pub mod Resets
 pub mod Response
 pub mod Runs
 pub mod Sides

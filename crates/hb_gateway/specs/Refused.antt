@@ -1,5 +1,5 @@
 -- Small runs of a link to a gateway that the laws refuse, and one that may go.
-use Rattle.std.specs.Prelude.{◌≡◌, ◌≢◌, ℕ, Bool, true, false, List, [], ◌∷◌, None, Some, Ok}
+use Rattle.std.specs.Prelude.{◌≡◌, ◌≢◌, ℕ, ◌<◌, Bool, true, false, List, [], ◌∷◌, None, Some, Ok}
 use Rattle.hb_base.specs.declared.cause.Cause.{Cause}
 use Rattle.hb_base.specs.declared.cause.Cause.TheVariants as cause
 use Rattle.hb_base.specs.declared.door.Why.TheVariants as whys
@@ -13,11 +13,12 @@ use Rattle.hb_world.specs.declared.entry.Entry.{Entry}
 use Rattle.hb_world.specs.declared.entry.Entry.TheVariants as e
 use Rattle.hb_gateway.specs.Asks.{AskLaw}
 use Rattle.hb_gateway.specs.Connections.{IsOneHistory}
-use Rattle.hb_gateway.specs.Gateway.{Gateway, stage_of}
+use Rattle.hb_gateway.specs.Gateway.{Gateway, stage_of, is_active}
 use Rattle.hb_gateway.specs.Hears.{hears}
 use Rattle.hb_gateway.specs.Order.{IsInOrder}
 use Rattle.hb_gateway.specs.Key.{Key, front_of, MayBeWritten}
 use Rattle.hb_gateway.specs.Part.{Part, entry, dialled, looked, asks, tells, put, finished, reset, dropped, done}
+use Rattle.hb_gateway.specs.Resets.{ResetLaw}
 use Rattle.hb_gateway.specs.Response.{unused, asked, Heard, opens, brings, fails}
 use Rattle.hb_gateway.specs.Runs.{Steps, StandsFor}
 use Rattle.hb_gateway.specs.Sides.{BringLaw, SendLaw, put_on}
@@ -45,6 +46,18 @@ PutsEarly = (g s count : ℕ) (bytes : List ℕ) (x y : Gateway) → stage_of x 
 
 abbrev pub ResetsUnasked : Type 0
 ResetsUnasked = (g s code : ℕ) (x y : Gateway) → stage_of x s ≡ unused → Steps g x (reset s code) y → ⊥
+
+-- a stream is reset of which neither side is open; one behind its reset; and one above the last of a GOAWAY
+abbrev pub ResetsClosed : Type 0
+ResetsClosed = (g s code : ℕ) (x y : Gateway) (parts : List Part) → StandsFor g x parts → is_active x.conn s ≡ false
+    → Steps g x (reset s code) y → ⊥
+
+abbrev pub ResetsTwice : Type 0
+ResetsTwice = (s first second : ℕ) → ResetLaw (reset s first ∷ reset s second ∷ []) → ⊥
+
+abbrev pub ResetsBehindAway : Type 0
+ResetsBehindAway = (last s code : ℕ) (headers : List Header) (points : List history.Point) → last < s
+    → ResetLaw (looked points (found.GoneAway last) headers ∷ reset s code ∷ []) → ⊥
 
 abbrev pub DropsUnasked : Type 0
 DropsUnasked = (g s begun : ℕ) (x y : Gateway) → stage_of x s ≡ unused → Steps g x (dropped s begun) y → ⊥

@@ -92,9 +92,11 @@ heard_of s stage headers bytes (found.Fault code) = failed (cause.ConnFault code
 heard_of s stage headers bytes _ = None
 
 -- how far a stream is whose tunnel ended by this: it is to be reset, with CANCEL, unless a reset, an error of it or of the connection was
--- told
+-- told, or that the gateway takes it no more: it answers nothing on the stream then, nor does it look at what is sent there (RFC 9113
+-- section 6.8)
 abbrev pub left_by : Found → Cause → Stage
 left_by (found.Reset s code) cause = over
 left_by (found.Broken s code) cause = over
 left_by (found.Fault code) cause = over
+left_by (found.GoneAway last) cause = over
 left_by told cause = failing cancel

@@ -1,8 +1,9 @@
 //! What every run of a link to a gateway obeys. Each is the contract of a function that does nothing.
 
 ghost use Rattle.hb_gateway.specs.Laws.{RunsObeyConnections, RunsObeyWindows, RunsAsk, RunsHearInOrder, UnaskedHearNothing, RunsEndTunnels};
-ghost use Rattle.hb_gateway.specs.Laws.{RunsTell, RunsBring, RunsSend, RunsCount, RunsKeep};
+ghost use Rattle.hb_gateway.specs.Laws.{RunsTell, RunsBring, RunsSend, RunsCount, RunsKeep, RunsReset, LooksFailOne};
 ghost use Rattle.hb_gateway.specs.Refused.{AsksBehind, AsksTwice, AsksElsewhere, PutsEarly, ResetsUnasked, DropsUnasked, WritesFirst};
+ghost use Rattle.hb_gateway.specs.Refused.{ResetsClosed, ResetsTwice, ResetsBehindAway};
 ghost use Rattle.hb_gateway.specs.Refused.{DialsElsewhere, FinishesEarly, DoneOpen, TellsUnheard, TellsUncome, SendsUnput};
 ghost use Rattle.hb_gateway.specs.Refused.{InterimIsHeard, RefusalOpens, BringsEarly, OpensTwice, BringsUnopened, GoesOnBehind};
 ghost use Rattle.hb_gateway.specs.Refused.{SuccessOpens, LifeIsInOrder, FirstMayGo};
@@ -43,16 +44,27 @@ pub fn ended_links_end_their_tunnels()
     ensures { RunsEndTunnels }
 {}
 
+/// A stream is reset only while a side of it is open (RFC 9113 section 5.1), and never where it is above the last of a GOAWAY that was
+/// told (RFC 9113 section 6.8). Behind a look at frames at most one is to be reset.
+pub fn open_streams_alone_are_reset()
+    ensures resets { RunsReset }
+    ensures one { LooksFailOne }
+{}
+
 /// A stream isn't asked for behind a GOAWAY, nor twice, nor with another number than the next one. No DATA is put on it in front of a
-/// status from 200 to 299, and none is reset or given up that wasn't asked for. No octet goes in front of the front header, and a link is
-/// dialled nowhere but at the gateway of its key. END_STREAM waits for the DATA in front of it, and a tunnel isn't done while the gateway
-/// may send. None is told what it didn't hear, or bytes that didn't come, and none goes that wasn't put.
+/// status from 200 to 299, and none is reset or given up that wasn't asked for, nor is one reset of which neither side is open, twice, or
+/// behind a GOAWAY that leaves it out. No octet goes in front of the front header, and a link is dialled nowhere but at the gateway of its
+/// key. END_STREAM waits for the DATA in front of it, and a tunnel isn't done while the gateway may send. None is told what it didn't
+/// hear, or bytes that didn't come, and none goes that wasn't put.
 pub fn wrong_steps_are_refused()
     ensures behind { AsksBehind }
     ensures twice { AsksTwice }
     ensures elsewhere { AsksElsewhere }
     ensures early { PutsEarly }
     ensures unasked { ResetsUnasked }
+    ensures closed { ResetsClosed }
+    ensures again { ResetsTwice }
+    ensures away { ResetsBehindAway }
     ensures drops { DropsUnasked }
     ensures first { WritesFirst }
     ensures dials { DialsElsewhere }

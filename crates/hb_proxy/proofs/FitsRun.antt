@@ -11,10 +11,10 @@ use Rattle.hb_gateway.proofs.Asking.{step_rises, number_above}
 use Rattle.hb_gateway.proofs.Numbered.{data_of_used}
 use Rattle.hb_gateway.proofs.Runs.{all_keep}
 use Rattle.hb_gateway.specs.Connections.{conn_went}
-use Rattle.hb_gateway.specs.Gateway.{Gateway, Stream, stage_of, at_stage, request_of}
+use Rattle.hb_gateway.specs.Gateway.{Gateway, Stream, stage_of, at_stage, is_active, settled, request_of}
 use Rattle.hb_gateway.specs.Hears.{hears, after, posted, all_hear}
 use Rattle.hb_gateway.specs.Part.{Part, entry, dialled, lacked, looked, asks, tells, put, finished, credited, reset, dropped, done, stopped, moves, tellings, link_came}
-use Rattle.hb_gateway.specs.Response.{Heard, over}
+use Rattle.hb_gateway.specs.Response.{Stage, unused, asked, carrying, failing, over, Heard}
 use Rattle.hb_history.specs.Points as history
 use Rattle.hb_hpack.specs.declared.header.Header.{Header}
 use Rattle.hb_gateway.specs.Runs.{entered, Steps, StandsFor, begins, goes_on}
@@ -134,6 +134,16 @@ ends_known g y more (goes_on {x = x} {parts = parts} stands p steps are) =
 
 -- WHAT A LINK TO A GATEWAY DOES BY ITSELF
 
+-- a stream that was to be reset is over where no side of it is open
+settled_fit : (active : Bool) (d : Connection) (s : ℕ) (stage : Stage) (mail : Option Heard) (q : Captured) → FitBy d s stage mail q
+    → FitBy d s (settled active stage) mail q
+settled_fit true d s stage mail q fit = fit
+settled_fit false d s unused mail q fit = fit
+settled_fit false d s asked mail q fit = fit
+settled_fit false d s carrying mail q fit = fit
+settled_fit false d s (failing code) mail q fit = fit_dead d d s (failing code) over mail q refl fit
+settled_fit false d s over mail q fit = fit
+
 module _ (n : ℕ) (x : Gateway) (parts : List Part) (stands : StandsFor n x parts) (s : ℕ) (q : Captured)
     (fit : Fit x.conn s (x.streams s) q) where
   -- behind what it hears
@@ -178,7 +188,9 @@ module _ (n : ℕ) (x : Gateway) (parts : List Part) (stands : StandsFor n x par
       subst (λ (z : Gateway). Fit z.conn s (z.streams s) q) (sym steps.1)
       (failed_fits x.conn x.conn s lacked (x.streams s).mail q cause.NoMemory (stage_of x s) fit)
   own_fits (looked ps told headers) y steps own =
-      subst (λ (z : Gateway). Fit z.conn s (z.streams s) q) (sym steps.6) (looked_fit ps told headers y steps)
+      subst (λ (z : Gateway). Fit z.conn s (z.streams s) q) (sym steps.6)
+      (settled_fit (is_active steps.3 s) steps.3 s (stage_of (all_hear (looked ps told headers) x) s)
+      ((all_hear (looked ps told headers) x).streams s).mail q (looked_fit ps told headers y steps))
   own_fits (reset k code) y steps own =
       subst (λ (z : Gateway). Fit z.conn s (z.streams s) q) (sym steps.2)
       (cond_both (s == k) (at_stage over (x.streams s)) (x.streams s) (λ (t : Stream). Fit (aborted x.conn k code) s t q)

@@ -7,8 +7,9 @@ use Rattle.hb_base.specs.declared.cause.Cause.TheVariants as cause
 use Rattle.hb_conn.specs.declared.found.Found.{Found}
 use Rattle.hb_conn.specs.declared.found.Found.TheVariants as found
 use Rattle.hb_gateway.proofs.Asking.{step_unused}
+use Rattle.hb_gateway.proofs.Ending.{settled_lives}
 use Rattle.hb_gateway.specs.Asks.{asked_in}
-use Rattle.hb_gateway.specs.Gateway.{Gateway, Stream, Phase, at_stream, unborn, opening, serving, faulted, closing, closed, no_stream, stage_of, at_stage, carries, has_room, went_by, phase_by, end_cause, broken_by, break_cause, stops_by}
+use Rattle.hb_gateway.specs.Gateway.{Gateway, Stream, Phase, at_stream, unborn, opening, serving, faulted, closing, closed, no_stream, stage_of, at_stage, carries, has_room, is_active, settled, went_by, phase_by, end_cause, broken_by, break_cause, stops_by}
 use Rattle.hb_gateway.specs.Hears.{hears_call, hears_by, hears, left_behind, after, hearing, all_hear}
 use Rattle.hb_gateway.specs.Part.{Part, entry, dialled, lacked, looked, asks, tells, put, finished, credited, reset, dropped, done, stopped}
 use Rattle.hb_gateway.specs.Response as response
@@ -126,6 +127,14 @@ hearing_stays p t (Some heard) is = record {
 pub hear_stays : (p : Part) (x : Gateway) (s : ℕ) → TunnelStays (x.streams s) ((all_hear p x).streams s)
 hear_stays p x s = hearing_stays p (x.streams s) (hears x p s) (hears_so x.phase s (stage_of x s) p)
 
+-- also where it was to be reset and no side of it is open
+settled_stays : (active : Bool) (t u : Stream) → TunnelStays t u → TunnelStays t (at_stage (settled active u.stage) u)
+settled_stays active t u stays = record {
+  on = λ has. ⊎_elim (λ lives. inl (settled_lives active u.stage ∙ lives)) inr (stays.on has);
+  back = λ has. stays.back (⊎_elim (λ lives. inl (sym (settled_lives active u.stage) ∙ lives)) inr has);
+  captured = stays.captured;
+}
+
 -- an entry changes nothing more of it
 module _ (t : Stream) where
   enters_stay : (call : Entry) (x : Gateway) (s : ℕ) → TunnelStays t (x.streams s) → TunnelStays t ((entered call x).streams s)
@@ -164,7 +173,9 @@ own_stays g x (dialled call key) y steps own s = tunnel_same (x.streams s) (y.st
 own_stays g x lacked y steps own s =
     subst (λ (z : Gateway). TunnelStays (x.streams s) (z.streams s)) (sym steps.1) (hear_stays lacked x s)
 own_stays g x (looked points told headers) y steps own s =
-    subst (λ (z : Gateway). TunnelStays (x.streams s) (z.streams s)) (sym steps.6) (hear_stays (looked points told headers) x s)
+    subst (λ (z : Gateway). TunnelStays (x.streams s) (z.streams s)) (sym steps.6)
+    (settled_stays (is_active steps.3 s) (x.streams s) ((all_hear (looked points told headers) x).streams s)
+    (hear_stays (looked points told headers) x s))
 own_stays g x (reset k code) y steps own s =
     subst (λ (z : Gateway). TunnelStays (x.streams s) (z.streams s)) (sym steps.2)
     (cond_both (s == k) (at_stage over (x.streams s)) (x.streams s) (λ (t : Stream). TunnelStays (x.streams s) t)
@@ -233,6 +244,18 @@ reset_fits (Some (opens end)) stage code is fits = absurd (let no : failing code
 reset_fits (Some (brings bytes)) stage code is fits = absurd (let no : failing code ≡ carrying = sym is ∙ fits in cc)
 reset_fits (Some response.ends) stage code is fits = absurd (let no : failing code ≡ carrying = sym is ∙ fits in cc)
 
+-- so was one that was to be reset
+settled_fits : (active : Bool) (t : Stream) → MailFits t → MailFits (at_stage (settled active t.stage) t)
+settled_fits active t fits = by active t.stage fits
+  where
+    by : (active : Bool) (stage : Stage) → MailFitsBy t.mail stage → MailFitsBy t.mail (settled active stage)
+    by true stage fits = fits
+    by false unused fits = fits
+    by false asked fits = fits
+    by false carrying fits = fits
+    by false (failing code) fits = reset_fits t.mail (failing code) code refl fits
+    by false over fits = fits
+
 none_fits : (mail : Option Heard) (stage : Stage) → mail ≡ None → MailFitsBy mail stage
 none_fits mail stage is = subst (λ (m : Option Heard). MailFitsBy m stage) (sym is) tt
 
@@ -286,7 +309,9 @@ step_fits g x (entry call) y steps s fits =
 step_fits g x (dialled call key) y steps s fits = subst (λ (z : Gateway). MailFits (z.streams s)) (sym steps.1) fits
 step_fits g x lacked y steps s fits = subst (λ (z : Gateway). MailFits (z.streams s)) (sym steps.1) (hear_fits lacked x s fits)
 step_fits g x (looked points told headers) y steps s fits =
-    subst (λ (z : Gateway). MailFits (z.streams s)) (sym steps.6) (hear_fits (looked points told headers) x s fits)
+    subst (λ (z : Gateway). MailFits (z.streams s)) (sym steps.6)
+    (settled_fits (is_active steps.3 s) ((all_hear (looked points told headers) x).streams s)
+    (hear_fits (looked points told headers) x s fits))
 step_fits g x (asks k captured authority) y steps s fits =
     subst (λ (z : Gateway). MailFits (z.streams s)) (sym steps.2)
     (one_fits k s x fits (λ t. record no_stream { stage = asked; captured = captured }) (λ same. tt))

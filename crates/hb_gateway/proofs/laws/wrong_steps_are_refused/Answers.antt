@@ -1,4 +1,4 @@
-use Rattle.hb_gateway.proofs.Refused.{asks_behind, asks_twice, asks_elsewhere, puts_early, resets_unasked, drops_unasked, writes_first, dials_elsewhere, finishes_early, done_open, tells_unheard, tells_uncome, sends_unput}
+use Rattle.hb_gateway.proofs.Refused.{asks_behind, asks_twice, asks_elsewhere, puts_early, resets_unasked, resets_closed, resets_twice, resets_behind_away, drops_unasked, writes_first, dials_elsewhere, finishes_early, done_open, tells_unheard, tells_uncome, sends_unput}
 use Rattle.hb_gateway.proofs.laws.wrong_steps_are_refused.Goals as goal
 
 pub returns : goal.returns
@@ -8,6 +8,9 @@ returns c = record {
   elsewhere = asks_elsewhere;
   early = puts_early;
   unasked = resets_unasked;
+  closed = resets_closed;
+  again = resets_twice;
+  away = resets_behind_away;
   drops = drops_unasked;
   first = writes_first;
   dials = dials_elsewhere;
