@@ -1,7 +1,7 @@
 #!/usr/bin/python3
-"""Prints crates/hb_parts_rows/src/ips.rt: texts of addresses, and prefixes with addresses, as Python's `ipaddress` has them.
+"""Prints crates/hb_records_rows/src/ips.rt: texts of addresses, and prefixes with addresses, as Python's `ipaddress` has them.
 
-    python3 bench/tables/ip_rows.py > crates/hb_parts_rows/src/ips.rt && (cd crates/hb_parts_rows && rt fmt)
+    python3 bench/tables/ip_rows.py > crates/hb_records_rows/src/ips.rt && (cd crates/hb_records_rows && rt fmt)
 
 `ipaddress` reads the text of RFC 4291 section 2.2, and a zone behind `%`, which is refused here. It keeps an IPv4 address
 mapped into IPv6 an IPv6 address; here it is the IPv4 address, in a text and in a prefix of 96 bits or more.

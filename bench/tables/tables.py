@@ -23,7 +23,7 @@ WHOLE = [
     ("hpack_vectors.py", "hb_http2_rows", "hpack_vectors.rt"),
     ("streams.py", "hb_streams_rows", "rows.rt"),
     ("conversations.py", "hb_conn_rows", "conversation_rows.rt"),
-    ("ip_rows.py", "hb_parts_rows", "ips.rt"),
+    ("ip_rows.py", "hb_records_rows", "ips.rt"),
     ("front_rows.py", "hb_front_rows", "rows.rt"),
     ("record_rows.py", "hb_records_rows", "spelled.rt"),
     ("request_rows.py", "hb_disco_rows", "written.rt"),
@@ -37,6 +37,8 @@ WHOLE = [
     ("plain_rows.py", "hb_replay_rows", "plain.rt"),
     ("outbound_rows.py", "hb_replay_rows", "outbound.rt"),
     ("serve_rows.py", "hb_serve_rows", "frames.rt"),
+    ("make_rows.py", "hb_make_rows", "rows.rt"),
+    ("relay_rows.py", "hb_relay_rows", "octets.rt"),
 ]
 PARTS = [("frame_vectors.py", "hb_http2_rows", "frame_vectors.rt"), ("verdict_rows.py", "hb_table_rows", "requests.rt")]
 

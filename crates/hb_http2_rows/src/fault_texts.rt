@@ -2,6 +2,7 @@
 
 use crate::told::assert_told;
 use hb_base::Scope;
+use hb_blocks::BlockFault;
 use hb_frames::FrameFault;
 use hb_hpack::{HpackFault, HpackWhy};
 use hb_windows::Overrun;
@@ -62,4 +63,17 @@ fn faults_are_told_by_their_texts(rt: HostRuntime) {
     tell_text(&rt, &mut told, &FRAME);
     tell_text(&rt, &mut told, &WINDOW);
     assert_told(&rt, "texts", told.as_str(), TEXTS);
+}
+
+#[test]
+fn faults_of_whole_blocks_are_told_with_their_codes(rt: HostRuntime) {
+    let refused = BlockFault::Compression(HpackFault {
+        at: 7,
+        why: HpackWhy::BadIndex,
+    });
+    let long = BlockFault::TooLong;
+    let told = format!(in rt.alloc(); "{long}, {}; {refused}, {}", long.code(), refused.code());
+    let told = told.ok().expect(&rt, "memory");
+    let want = "a header block is too long, 11; no entry has this index, at byte 7, 9";
+    assert_told(&rt, "texts", told.as_str(), want);
 }

@@ -1,6 +1,6 @@
 //! Octets in words.
 
-use crate::told::cut;
+use crate::told::{cut, number_or};
 use std::alloc::Global;
 use std::process::Abort;
 
@@ -18,20 +18,12 @@ fn push_digits(rt: &impl Abort, octets: &mut Vec<u8>, digits: &str) {
     }
 }
 
-/// The number of a text; 1 of an empty one.
-fn times_of(rt: &impl Abort, text: &str) -> usize {
-    if text.is_empty() {
-        return 1;
-    }
-    text.parse::<usize>().ok().expect(rt, "a number")
-}
-
 /// Appends the octets of words with blanks between: hexadecimal digits, two an octet, and behind them `*` and a number
 /// where they stand so many times over.
 pub fn push_octets(rt: &impl Abort, octets: &mut Vec<u8>, words: &str) {
     for word in words.split(' ') {
         let (digits, times) = cut(word, "*");
-        for _ in 0..times_of(rt, times) {
+        for _ in 0..number_or(rt, times, 1) {
             push_digits(rt, octets, digits);
         }
     }

@@ -13,6 +13,20 @@ pub fn cut<'a>(row: &'a str, mark: &str) -> (&'a str, &'a str) {
     row.split_once(mark).unwrap_or((row, ""))
 }
 
+/// The number of a text in decimal digits.
+pub fn number_of(rt: &impl Abort, text: &str) -> u32 {
+    text.parse::<u32>().ok().expect(rt, "a number")
+}
+
+/// The number of a text; another one of an empty text.
+pub fn number_or(rt: &impl Abort, text: &str, other: u32) -> u32 {
+    if text.is_empty() {
+        other
+    } else {
+        number_of(rt, text)
+    }
+}
+
 /// What is told of a row has to be what the row wants.
 pub fn assert_told(rt: &impl Abort, row: &str, told: &str, want: &str) {
     assert!(rt;

@@ -41,8 +41,13 @@ pub fn bytes_of(rt: &(impl Abort + AllocGlobal), words: &str) -> Vec<u8> {
     bytes
 }
 
-fn number(rt: &impl Abort, field: &str) -> usize {
+pub fn number(rt: &impl Abort, field: &str) -> usize {
     field.trim().parse::<usize>().expect(rt, "a number")
+}
+
+/// The two fields of a row.
+pub fn fields_of<'a>(rt: &impl Abort, row: &'a str) -> (&'a str, &'a str) {
+    row.split_once(';').expect(rt, "two fields")
 }
 
 pub fn text_of(text: &Text) -> &str {

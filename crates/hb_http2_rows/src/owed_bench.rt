@@ -1,6 +1,7 @@
 //! Steps of a row: a word for the call, and what it is called with or has to answer.
 
-use crate::octets::octets_of;
+use crate::hex::octets_of;
+use crate::told::{cut, number_of};
 use hb_hpack::{Encoder, Spelling};
 use hb_outgoing::Outgoing;
 use hb_owed::Owed;
@@ -15,15 +16,6 @@ pub struct Bench {
     owed: Owed,
     out: Outgoing,
     encoder: Encoder,
-}
-
-/// A text in front of its first blank and behind it.
-fn cut(text: &str) -> (&str, &str) {
-    text.split_once(' ').unwrap_or((text, ""))
-}
-
-fn number_of(rt: &impl Abort, text: &str) -> u32 {
-    text.parse::<u32>().ok().expect(rt, "a number")
 }
 
 impl Bench {
@@ -41,7 +33,7 @@ impl Bench {
     }
 
     fn status(&mut self, rt: &impl Abort, stream: u32, words: &str) {
-        let (digits, end) = cut(words);
+        let (digits, end) = cut(words, " ");
         let number = number_of(rt, digits);
         assert!(rt; number >= 100 && number < 1000);
         self.owed.owe_status(stream, number as u16, end == "end");
@@ -112,7 +104,7 @@ impl Bench {
 
     /// Does one step, and holds what it tells against the row.
     pub fn step(&mut self, rt: &impl Abort, alloc: Global, row: &str, words: &str) {
-        let (call, rest) = cut(words);
+        let (call, rest) = cut(words, " ");
         match call {
             "pay" => self.owed.pay(&mut self.out, &mut self.encoder),
             "clear" => self.owed.clear(),
@@ -122,7 +114,7 @@ impl Bench {
             ),
             "waits" => self.waits(rt, alloc, row, rest),
             _ => {
-                let (stream, rest) = cut(rest);
+                let (stream, rest) = cut(rest, " ");
                 let stream = number_of(rt, stream);
                 if !self.act(rt, call, stream, rest) {
                     self.ask(rt, row, call, stream, rest);

@@ -1,7 +1,8 @@
 //! One run of blocks, cut at every place.
 
-use crate::frames::{Frame, assert_told, told_of};
-use crate::hex::{cut, octets_of};
+use crate::block_frames::{Frame, told_of};
+use crate::hex::octets_of;
+use crate::told::{assert_told, cut};
 use hb_blocks::Blocks;
 use std::alloc::Global;
 use std::process::Abort;

@@ -1,7 +1,7 @@
 //! Steps and what waits afterwards. A frame is given by its octets: three of the length, the type, the flags, four of the
 //! stream, and the payload.
 
-use crate::steps::step;
+use crate::outgoing_steps::step;
 use hb_outgoing::Outgoing;
 use std::alloc::Global;
 use std::process::Abort;

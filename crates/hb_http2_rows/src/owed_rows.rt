@@ -1,6 +1,6 @@
 //! Steps and what waits afterwards. `fill` leaves so much room behind a DATA frame, which `wrote` takes away again.
 
-use crate::bench::Bench;
+use crate::owed_bench::Bench;
 use std::alloc::Global;
 use std::process::Abort;
 

@@ -1,7 +1,8 @@
 //! Frames one after another, and what each is answered.
 
-use crate::frames::{Frame, assert_told, told_of};
-use crate::hex::{cut, number_or, octets_of};
+use crate::block_frames::{Frame, told_of};
+use crate::hex::octets_of;
+use crate::told::{assert_told, cut, number_or};
 use hb_blocks::Blocks;
 use std::alloc::Global;
 use std::process::Abort;

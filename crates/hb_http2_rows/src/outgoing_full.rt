@@ -1,6 +1,6 @@
 //! As many octets and frames as can wait.
 
-use crate::steps::{put, wrote};
+use crate::outgoing_steps::{put, wrote};
 use hb_outgoing::Outgoing;
 use std::process::Abort;
 

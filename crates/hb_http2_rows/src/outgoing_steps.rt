@@ -1,18 +1,10 @@
 //! Steps of a row: a word for the call, and what it is called with or has to answer.
 
-use crate::octets::octets_of;
+use crate::hex::octets_of;
+use crate::told::{cut, number_of};
 use hb_outgoing::Outgoing;
 use std::alloc::Global;
 use std::process::Abort;
-
-/// A text in front of its first blank and behind it.
-fn cut(text: &str) -> (&str, &str) {
-    text.split_once(' ').unwrap_or((text, ""))
-}
-
-fn number_of(rt: &impl Abort, text: &str) -> u32 {
-    text.parse::<u32>().ok().expect(rt, "a number")
-}
 
 /// Puts the frame that the octets spell.
 pub fn put(rt: &impl Abort, outgoing: &mut Outgoing, octets: &[u8]) {
@@ -38,14 +30,14 @@ pub fn wrote(rt: &impl Abort, outgoing: &mut Outgoing, count: u32) {
 
 /// Takes a stream's DATA frames back, which have to have as many octets of payload as the second number says.
 fn back(rt: &impl Abort, outgoing: &mut Outgoing, row: &str, numbers: &str) {
-    let (stream, size) = cut(numbers);
+    let (stream, size) = cut(numbers, " ");
     let told = outgoing.take_back(number_of(rt, stream));
     assert!(rt; told == number_of(rt, size), "{row}: {told} taken back");
 }
 
 /// The first DATA frame with payload is of this stream and size; there is none where the numbers are 0.
 fn unbegun(rt: &impl Abort, outgoing: &Outgoing, row: &str, numbers: &str) {
-    let (stream, size) = cut(numbers);
+    let (stream, size) = cut(numbers, " ");
     let found = match outgoing.unbegun() {
         Some(found) => (found.stream, found.size),
         None => (0, 0),
@@ -55,14 +47,14 @@ fn unbegun(rt: &impl Abort, outgoing: &Outgoing, row: &str, numbers: &str) {
 }
 
 fn ends(rt: &impl Abort, outgoing: &Outgoing, row: &str, words: &str) {
-    let (stream, answer) = cut(words);
+    let (stream, answer) = cut(words, " ");
     let waits = outgoing.end_waits(number_of(rt, stream));
     assert!(rt; waits == (answer == "yes"), "{row}: ends {words}");
 }
 
 /// The frame in part is DATA of this stream, or not.
 fn begun(rt: &impl Abort, outgoing: &Outgoing, row: &str, words: &str) {
-    let (stream, answer) = cut(words);
+    let (stream, answer) = cut(words, " ");
     let begun = outgoing.data_begun(number_of(rt, stream));
     assert!(rt; begun == (answer == "yes"), "{row}: begun {words}");
 }
@@ -86,7 +78,7 @@ fn waits(rt: &impl Abort, alloc: Global, outgoing: &Outgoing, row: &str, digits:
 
 /// Does one step, and holds what it tells against the row.
 pub fn step(rt: &impl Abort, alloc: Global, outgoing: &mut Outgoing, row: &str, words: &str) {
-    let (call, rest) = cut(words);
+    let (call, rest) = cut(words, " ");
     match call {
         "open" => open(rt, outgoing, octets_of(rt, alloc, rest).as_slice()),
         "put" => put(rt, outgoing, octets_of(rt, alloc, rest).as_slice()),

@@ -75,11 +75,3 @@ pub fn told_of(rt: &impl Abort, alloc: Global, blocks: &mut Blocks, frame: Frame
         Err(Or::NoMemory) => panic!(rt; "memory"),
     }
 }
-
-/// What is told has to be what the row wants.
-pub fn assert_told(rt: &impl Abort, row: &str, told: &str, want: &str) {
-    assert!(rt;
-        told.as_bytes() == want.as_bytes(),
-        "{row}: {told}, not {want}"
-    );
-}
