@@ -1,11 +1,13 @@
 #!/usr/bin/python3
-"""Compares the tables of tests that scripts here print with the files in which they stand, and names those that differ.
+"""Compares the tables of tests that scripts here print with the files in which they stand, and names those that differ. A table whose
+script lacks a package is not compared, and named.
 
-usage: bench/tables/tables.py        (after `apt-get install libnghttp2-14 python3-h2 python3-hpack python3-hyperframe python3-protobuf
-                              protobuf-compiler`)
+usage: bench/tables/tables.py        (all are compared after `apt-get install libnghttp2-14 python3-h2 python3-hpack python3-hyperframe
+                              python3-protobuf protobuf-compiler`)
 """
 
 import pathlib
+import re
 import shutil
 import subprocess
 import sys
@@ -43,8 +45,16 @@ WHOLE = [
 PARTS = [("frame_vectors.py", "hb_http2_rows", "frame_vectors.rt"), ("verdict_rows.py", "hb_table_rows", "requests.rt")]
 
 
+LACKS = re.compile(r"No module named '([\w.]+)'|No such file or directory: '(protoc)'|(libnghttp2\S*): cannot open shared object file")
+
+
 def printed_by(script):
-    return subprocess.run([sys.executable, TOP / "bench/tables" / script], check=True, stdout=subprocess.PIPE, text=True).stdout
+    """What the script prints; or None and what isn't here that it needs."""
+    ran = subprocess.run([sys.executable, TOP / "bench/tables" / script], capture_output=True, text=True)
+    lacks = LACKS.search(ran.stderr) if ran.returncode else None
+    if ran.returncode and not lacks:
+        raise SystemExit(f"tables: {script} failed:\n{ran.stderr}")
+    return (None, next(filter(None, lacks.groups()))) if lacks else (ran.stdout, None)
 
 
 def laid_out(text, crate, file):
@@ -59,12 +69,20 @@ def laid_out(text, crate, file):
         return (folder / "src" / file).read_text()
 
 
+def is_same(script, crate, file, printed):
+    stands = (TOP / "crates" / crate / "src" / file).read_text()
+    if (script, crate, file) in WHOLE:
+        return stands == laid_out(printed, crate, file)
+    return bool(printed) and printed in stands
+
+
 def main():
     differ = 0
     for script, crate, file in WHOLE + PARTS:
-        printed, stands = printed_by(script), (TOP / "crates" / crate / "src" / file).read_text()
-        same = stands == laid_out(printed, crate, file) if (script, crate, file) in WHOLE else printed and printed in stands
-        print(f"tables: {script}: crates/{crate}/src/{file} {'is what it prints' if same else 'DIFFERS from what it prints'}")
+        printed, lacks = printed_by(script)
+        same = printed is None or is_same(script, crate, file, printed)
+        end = f"not compared, since {lacks} isn't here" if printed is None else "is what it prints" if same else "DIFFERS from what it prints"
+        print(f"tables: {script}: crates/{crate}/src/{file} {end}")
         differ += not same
     return 1 if differ else 0
 
