@@ -581,10 +581,10 @@ def rows_of_words():
         refused(*USUAL_WORDS, f"--outbound={value}")
     door = ["--inbound", "0.0.0.0:15008"]
     refused(*door, *USUAL_WORDS, "--inbound=[::1]:15008")
-    refused(*door, *USUAL_WORDS, "--inbound", "0.0.0.0")
-    refused(*door, *USUAL_WORDS, "--inbound")
     refused(*USUAL_WORDS[:4], *door)
     refused(*door, *door)
+    refused(*door, *USUAL_WORDS, "--inbound")
+    refused(*door, *USUAL_WORDS, "--inbound", "0.0.0.0")
     for name, values in [("--hbone-port", ("0", "65536", "015008", "1x", "+1", "1.0", " 1", "99999999999999999999")),
                          ("--tunnels", ("0", "4097", "01", "x")),
                          ("--turns", ("0", "18446744073709551616", "007", "00", "1e3"))]:
