@@ -1,0 +1,10 @@
+pub mod Calls
+pub mod Hearing
+pub mod Keyed
+pub mod Looking
+pub mod Observed
+pub mod Phases
+pub mod Refused
+pub mod Resetting
+pub mod Shows
+pub mod Streams

@@ -1,0 +1,16 @@
+-- What a look is to the machine.
+use Rattle.std.specs.Prelude.{ℕ, List}
+use Rattle.hb_gateway.specs.Response.{opens, brings, ends, fails}
+use Rattle.hb_gate.specs.Calls.{LooksNothing, LooksPast, LooksTold}
+use Rattle.hb_gate.specs.declared.gate.Gate.{Gate}
+use Rattle.hb_gate.specs.declared.looking.Look.{Look}
+use Rattle.hb_gate.specs.declared.looking.Look.TheVariants as look
+
+-- by what is found, and the bytes that are brought; how many bytes have begun to go is told with an end alone
+abbrev pub Looks : Look → List ℕ → Gate → Gate → Type 0
+Looks look.Nothing bytes old new = LooksNothing old new
+Looks look.Passed bytes old new = LooksPast old new
+Looks (look.Opens s l end) bytes old new = (begun : ℕ) × LooksTold s (opens end) begun l old new
+Looks (look.Brings s l) bytes old new = (begun : ℕ) × LooksTold s (brings bytes) begun l old new
+Looks (look.Ends s l) bytes old new = (begun : ℕ) × LooksTold s ends begun l old new
+Looks (look.Fails mail) bytes old new = LooksTold mail.stream (fails mail.cause) mail.begun mail.link old new
