@@ -81,7 +81,8 @@ def main():
     for script, crate, file in WHOLE + PARTS:
         printed, lacks = printed_by(script)
         same = printed is None or is_same(script, crate, file, printed)
-        end = f"not compared, since {lacks} isn't here" if printed is None else "is what it prints" if same else "DIFFERS from what it prints"
+        end = "is what it prints" if same else "DIFFERS from what it prints"
+        end = end if printed is not None else f"not compared, since {lacks} isn't here"
         print(f"tables: {script}: crates/{crate}/src/{file} {end}")
         differ += not same
     return 1 if differ else 0

@@ -6,6 +6,8 @@ use Rattle.std.specs.Prelude.{nat_le}
 use Rattle.std.specs.FinMap.{get}
 use Rattle.hb_conn.specs.Connection.{Connection, with_core}
 use Rattle.hb_conn.specs.Observed.{outgoing, output, is_over, sendable, creditable, credited, count_put, data_put, end_put, own_side_open}
+use Rattle.hb_conn.specs.declared.machine.Core.{Core}
+use Rattle.hb_conn.specs.Payload as payload
 use Rattle.hb_conn.specs.Payload.{with_data}
 use Rattle.hb_frames.specs.Numbers.{largest}
 use Rattle.hb_frames.specs.RawFrame.{RawFrame}
@@ -100,8 +102,11 @@ puts_none k s bytes none = (
       ),
 )
 
+core_as : (c : Core) (s : ℕ) (bytes : List ℕ) → payload.count_put c s bytes ≡ 0 → payload.data_put c s bytes ≡ c
+core_as c s bytes none = ap (with_data c s bytes) none
+
 none_as : (c : Connection) (s : ℕ) (bytes : List ℕ) → count_put c s bytes ≡ 0 → data_put c s bytes ≡ c
-none_as c s bytes none = ap (λ (n : ℕ). with_core c (with_data c.receiver.core s bytes n)) none
+none_as c s bytes none = ap (with_core c) (core_as _ s bytes none)
 
 pub puts_some : (k : Gate) (s : ℕ) (bytes : List ℕ) → own_side_open k.conn s ≡ true
     → Puts s bytes (count_put k.conn s bytes) k (with_conn k (data_put k.conn s bytes))

@@ -278,7 +278,8 @@ module _ (g s : ℕ) (x y : Gateway) (parts : List Part) (all : List Heard) (sta
 
   -- one that is heard
   heard_now : (p : Part) (come : List ℕ) → flat_map (data_by s) (moves_in (left_of parts) p) ≡ come
-      → is_living (stage_of y s) ≡ is_living (after p (stage_of x s) (hears x p s)) → Rests p (stage_of x s) (hears x p s) was.rest come → Now p
+      → is_living (stage_of y s) ≡ is_living (after p (stage_of x s) (hears x p s))
+      → Rests p (stage_of x s) (hears x p s) was.rest come → Now p
   heard_now p come comes_so same rests = grows p come comes_so rests.0 rests.1 (λ lives. rests.2 (sym same ∙ lives))
 
   ends_now : (p : Part) → flat_map (data_by s) (moves_in (left_of parts) p) ≡ [] → stage_of y s ≡ after p (stage_of x s) (hears x p s)
