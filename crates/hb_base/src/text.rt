@@ -45,6 +45,16 @@ impl Text {
         Ok(Some(Text { place }))
     }
 
+    /// A copy of these characters.
+    ///
+    /// Errors: `NoMemory`.
+    pub fn of_str(alloc: Global, text: &str) -> Result<Text, NoMemory>
+        ensures { IfOk result (λ t. t ≡ text.now) }
+    {
+        let place = Place::of(alloc, text.as_bytes())?;
+        Ok(Text { place })
+    }
+
     /// The empty text, which takes no memory.
     pub fn empty(_alloc: Global) -> Text
         ensures { result ≡ [] }

@@ -9,4 +9,4 @@ mod response;
 pub use kind::Kind;
 pub use laws::what_is_written_is_read;
 pub use request::{NameVersion, put_answer, put_first};
-pub use response::{Resource, Response, ResponseFault, read_response};
+pub use response::{LONGEST_MESSAGE, Resource, Response, ResponseFault, read_response};

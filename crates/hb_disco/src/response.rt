@@ -13,6 +13,9 @@ use hb_message::{
 use hb_wire::{Field, FieldValue, WireFault};
 use std::alloc::Global;
 
+/// The longest message of a discovery stream that is taken, in octets: 64 MiB.
+pub const LONGEST_MESSAGE: u32 = 67_108_864;
+
 /// Why bytes are no response. `field` is a field's number in the message that it stands in.
 #[derive(Clone, Copy)]
 pub enum ResponseFault {

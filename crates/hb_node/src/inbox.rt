@@ -11,15 +11,12 @@ use crate::queue::Queue;
 use crate::requests::add_answer;
 use hb_base::{Bytes, Cause, NoMemory, Or};
 use hb_conn::Happening;
-use hb_disco::read_response;
+use hb_disco::{LONGEST_MESSAGE, read_response};
 use hb_grpc::{Fed, Framer, GrpcFault};
 use hb_headers::status_of;
 use hb_held::Held;
 use hb_hpack::Header;
 use std::alloc::Global;
-
-/// The longest message.
-const LONGEST: u32 = 67_108_864;
 
 /// The one stream of the link.
 pub(crate) const STREAM: u32 = 1;
@@ -127,7 +124,7 @@ impl Inbox {
         ensures { result ≡ record { framer = record { limit = longest_message; held = [] }; waiting = [] } }
     {
         Inbox {
-            framer: Framer::new(alloc, LONGEST),
+            framer: Framer::new(alloc, LONGEST_MESSAGE),
             waiting: Queue::new(alloc),
         }
     }

@@ -23,23 +23,14 @@ fn is_shown(word: &str) -> bool
     true
 }
 
-fn text_of(alloc: Global, word: &str) -> Result<Text, NoMemory>
-    ensures { IfOk result (λ t. t ≡ word.now) }
-{
-    match Text::of(alloc, word.as_bytes())? {
-        Some(text) => Ok(text),
-        None => unreachable!(),
-    }
-}
-
 /// A word as a line may show it.
 pub(crate) fn shown(alloc: Global, word: &String) -> Result<Text, NoMemory>
     ensures { IfOk result (λ t. t ≡ shown (string_bytes word.now)) }
 {
     if is_shown(word.as_str()) {
-        text_of(alloc, word.as_str())
+        Text::of_str(alloc, word.as_str())
     } else {
-        text_of(alloc, "(a control character)")
+        Text::of_str(alloc, "(a control character)")
     }
 }
 
