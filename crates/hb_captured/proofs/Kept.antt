@@ -23,7 +23,8 @@ use Rattle.hb_tunnel.specs.Way as moves
 use Rattle.hb_world.specs.declared.entry.Entry.{Entry}
 use Rattle.hb_world.specs.declared.entry.Entry.TheVariants as e
 use Rattle.hb_captured.specs.Answer.{Aim, straight_to}
-use Rattle.hb_captured.specs.Calm.{longest_front, room, wants, wants_by, up_wants_by, output_by}
+use Rattle.hb_front.specs.Room.{longest_front}
+use Rattle.hb_captured.specs.Calm.{room, wants, wants_by, up_wants_by, output_by}
 use Rattle.hb_captured.specs.Captured.{Captured, Stage, unborn, arriving, fronting, due, opening, accepting, live, failed, ended, over, at_stage, judges, ring_up, ring_down, is_judged, ends_by, ends_for, fronted_by, no_link, hung_up, came_by, ends_if, peer_in, left_by, judged_by}
 use Rattle.hb_captured.specs.Laws.{FitsRings}
 use Rattle.hb_captured.specs.Notes.{noting_by, noting_of, no_note}

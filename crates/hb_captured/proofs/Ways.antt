@@ -7,7 +7,8 @@ use Rattle.std.proofs.Math.Seq.{drop-append_seam}
 use Rattle.hb_base.specs.declared.door.Door.{Door}
 use Rattle.hb_base.specs.declared.door.Door.TheVariants as door
 use Rattle.hb_tunnel.specs.Way.{Way, after, takes, ends, is_done}
-use Rattle.hb_captured.specs.Calm.{longest_front, room}
+use Rattle.hb_front.specs.Room.{longest_front}
+use Rattle.hb_captured.specs.Calm.{room}
 use Rattle.hb_captured.specs.Captured.{Captured, ring_up, is_raw, ends_if, may_shut_up, may_shut}
 
 -- a way that is done has ended, and nothing waits on it

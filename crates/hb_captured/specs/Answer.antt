@@ -1,6 +1,6 @@
 -- What the front header of a captured link gets at its door, by what is held: at the plain door the verdict on its destination, at the
 -- outbound one the way that leads there.
-use Rattle.std.specs.Prelude.{ℕ, if◌then◌else◌, not, ◌&&◌, nat_le, Bool, false, length, List, Option, Some, None}
+use Rattle.std.specs.Prelude.{ℕ, ◌==◌, if◌then◌else◌, not, ◌&&◌, nat_le, Bool, false, length, codes, List, Option, Some, None}
 use Rattle.std.specs.FinMap.{empty}
 use Rattle.hb_base.specs.IdentityText.{is_name}
 use Rattle.hb_base.specs.declared.cause.Cause.{Cause}
@@ -76,9 +76,14 @@ by_verdict Reset = refused_with 400
 abbrev pub way_for : Resources → Routing → Ip → Target → Way
 way_for held routing source target = way held routing.opens source target routing.hbone_port
 
+-- the trust domain of a workload: the usual one, where it names none
+abbrev pub domain_of : List ℕ → List ℕ
+domain_of named = if length named == 0 then codes "cluster.local" else named
+
 -- who the source is: the identity of its workload, where that may be written
 abbrev pub identity_in : Workload → Identity
-identity_in w = record { trust_domain = w.trust_domain; namespace = w.namespace; service_account = w.service_account }
+identity_in w =
+    record { trust_domain = domain_of w.trust_domain; namespace = w.namespace; service_account = w.service_account }
 
 abbrev pub is_sent : Identity → Bool
 is_sent i =

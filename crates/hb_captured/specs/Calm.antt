@@ -1,14 +1,11 @@
 -- How much of a captured link and its upstream may be read and written, when nothing more happens by itself, and which calls are due.
 use Rattle.std.specs.Prelude.{⊤, ◌≡◌, ℕ, ◌-◌, ◌&&◌, if◌then◌else◌, true, false, List, [], length}
+use Rattle.hb_front.specs.Room.{longest_front}
 use Rattle.hb_front.specs.Reading.{IsAnswer, More}
 use Rattle.hb_tunnel.specs.Way.{Way}
 use Rattle.hb_captured.specs.Captured.{Captured, Stage, arriving, fronting, due, opening, accepting, live, failed, ended, over, ring_up, ring_down, is_raw, may_shut_up, may_shut, is_through}
 
 -- HOW MUCH MAY BE READ AND WRITTEN
-
--- the most bytes of a front header: 16, and the 4,096 that its length may say
-abbrev pub longest_front : ℕ
-longest_front = 4112
 
 -- so much as the ring of a way has room for, until the way has ended
 abbrev pub room : ℕ → Way → ℕ

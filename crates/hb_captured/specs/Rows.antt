@@ -14,7 +14,7 @@ use Rattle.hb_table.specs.declared.judgement.Judged.TheVariants.{Admitted}
 use Rattle.hb_verdict.specs.declared.verdict.Verdict.TheVariants.{Status, Dial}
 use Rattle.hb_world.specs.declared.entry.Entry.TheVariants as e
 use Rattle.hb_captured.specs.Answer.{straight_to, unrouted, verdict_on}
-use Rattle.hb_captured.specs.Calm.{longest_front}
+use Rattle.hb_front.specs.Room.{longest_front}
 use Rattle.hb_captured.specs.Captured.{peer_in}
 use Rattle.hb_captured.specs.Part.{Part, entry, up, welcomed, fronted, refused, accepted, left, done, applied, notes}
 use Rattle.hb_captured.specs.Runs.{Local, StandsFor, verdict_note, end_note}

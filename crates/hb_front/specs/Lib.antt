@@ -3,5 +3,6 @@ pub mod Found
 pub mod Header
 pub mod Laws
 pub mod Reading
+pub mod Room
 pub mod Tlvs
 pub mod Written

@@ -2,6 +2,7 @@
 //! yet, with each fault as early as it shows, and written.
 #![tactic(auto)]
 
+mod bytes;
 mod family;
 mod fault;
 mod front;
@@ -9,6 +10,7 @@ mod identity;
 pub mod laws;
 mod writing;
 
+pub use bytes::FrontBytes;
 pub use fault::FrontFault;
 pub use front::{Front, FrontRead, read_front};
 pub use writing::{may_be_sent, put_front};

@@ -32,7 +32,8 @@ use Rattle.hb_streams.specs.declared.role.Role.TheVariants.{Server}
 use Rattle.hb_world.specs.declared.entry.Entry.{Entry}
 use Rattle.hb_world.specs.declared.entry.Entry.TheVariants as e
 use Rattle.hb_world.specs.declared.entry.Way.TheVariants as way
-use Rattle.hb_inbound.specs.Calm.{longest_front, wants, wants_by, output, output_by}
+use Rattle.hb_front.specs.Room.{longest_front}
+use Rattle.hb_inbound.specs.Calm.{wants, wants_by, output, output_by}
 use Rattle.hb_inbound.specs.Inbound.{Inbound, Phase, unborn, arriving, fronting, serving, faulted, closing, closed, told_of, on_found, came, came_by, went, went_by, ended_by, broken_by, with_phase, at_stream, lacking, stops_by, stopped_for, fronted_by, rejudged}
 use Rattle.hb_inbound.specs.Laws.{RunsObeyConnections}
 use Rattle.hb_kept.specs.Looks.{IsLook}

@@ -1,5 +1,6 @@
 -- How much of a link may be read and written, when nothing more happens on it by itself, and which calls are due.
 use Rattle.std.specs.Prelude.{⊤, ◌≡◌, ℕ, ◌-◌, ◌<◌, ◌==◌, ◌&&◌, ◌||◌, not, Bool, false, List, [], length, Option, Some, None, if◌then◌else◌}
+use Rattle.hb_front.specs.Room.{longest_front}
 use Rattle.std.specs.List.{list_any}
 use Rattle.hb_base.specs.declared.cause.Cause.{Cause}
 use Rattle.hb_base.specs.declared.cause.Cause.TheVariants as cause
@@ -17,10 +18,6 @@ use Rattle.hb_inbound.specs.Inbound.{Inbound, Phase, fronting, serving, faulted,
 use Rattle.hb_inbound.specs.Tunnel.{Tunnel, Stage, due, live, over, is_failed, is_ended, is_unanswered, may_shut}
 
 -- HOW MUCH MAY BE READ AND WRITTEN
-
--- the most bytes of a front header: 16, and the 4,096 that its length may say
-abbrev pub longest_front : ℕ
-longest_front = 4112
 
 -- of an unwhole header as much as the longest has; of a connection so many octets that every answer to them has room
 abbrev pub wants_by : Phase → Inbound → ℕ

@@ -16,7 +16,8 @@ use Rattle.hb_kept.specs.Kept.{Fares}
 use Rattle.hb_kept.proofs.Kept.{new_is_kept, taken_fares, wanted_fares}
 use Rattle.hb_streams.specs.declared.role.Role.TheVariants.{Server}
 use Rattle.hb_world.specs.declared.entry.Entry.TheVariants as e
-use Rattle.hb_inbound.specs.Calm.{wants_by, longest_front, RestsIn}
+use Rattle.hb_front.specs.Room.{longest_front}
+use Rattle.hb_inbound.specs.Calm.{wants_by, RestsIn}
 use Rattle.hb_inbound.specs.Inbound as m
 use Rattle.hb_inbound.specs.Inbound.{Inbound, came_by, with_phase, lacking, fronted_by}
 use Rattle.hb_inbound.specs.Part.{Part, entry, lacked, fronted, misfronted, note_in}

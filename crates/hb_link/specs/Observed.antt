@@ -3,7 +3,8 @@ use Rattle.std.specs.Prelude.{◌≡◌, ℕ, ◌-◌, ◌<◌, ◌≤◌, ◌==
 use Rattle.std.specs.FinMap.{get}
 use Rattle.hb_conn.specs.Observed as connection
 use Rattle.hb_kept.specs.Kept.{wants_of}
-use Rattle.hb_inbound.specs.Calm.{longest_front, up_wants}
+use Rattle.hb_front.specs.Room.{longest_front}
+use Rattle.hb_inbound.specs.Calm.{up_wants}
 use Rattle.hb_inbound.specs.Tunnel as t
 use Rattle.hb_inbound.specs.Tunnel.{Tunnel as Machine}
 use Rattle.hb_link.specs.declared.link.Link.{Link}

@@ -2,7 +2,7 @@
 
 ghost use Rattle.std.specs.Prelude.{◌-◌, ◌≤◌, ◌++◌, length, IfOk};
 ghost use Rattle.hb_front.specs.Reading.{text_of};
-ghost use Rattle.hb_inbound.specs.Calm.{longest_front};
+ghost use Rattle.hb_front.specs.Room.{longest_front};
 ghost use Rattle.hb_inbound.specs.Runs.{Identifies};
 ghost use Rattle.hb_link.specs.Fronting.{TakesFront};
 

@@ -5,13 +5,13 @@ ghost use Rattle.hb_link.specs.Calls.{Begins, TurnsAway, Wants, Puts};
 ghost use Rattle.hb_link.specs.Fresh.{IsFresh};
 ghost use Rattle.hb_link.specs.Observed.{wants_on, output_on};
 
-use crate::front::Front;
 use crate::phase::Phase;
 use crate::tunnel::Tunnel;
-use crate::turn::Turn;
 use hb_base::{Cause, Ip, NoMemory, Peer};
 use hb_conn::Conn;
 use hb_counted::Counted;
+use hb_front::FrontBytes;
+use hb_tunnel::Turn;
 use std::alloc::Global;
 
 /// The room of the output that the answers to what is read may not need.
@@ -26,7 +26,7 @@ pub struct Link {
     pub(crate) alloc: Global,
     pub(crate) number: u64,
     pub(crate) phase: Phase,
-    pub(crate) front: Front,
+    pub(crate) front: FrontBytes,
     /// What the front header told: who the peer is, and which address it meant.
     pub(crate) peer: Peer,
     pub(crate) destination: Ip,
@@ -48,7 +48,7 @@ impl Link {
             alloc,
             number,
             phase,
-            front: Front::new(alloc)?,
+            front: FrontBytes::new(alloc)?,
             peer: Peer {
                 ip: Ip::V4(0),
                 identity: None,

@@ -7,7 +7,8 @@ use Rattle.hb_base.specs.declared.target.Target.{Target}
 use Rattle.hb_captured.proofs.Kept.{Keeps, all_keep}
 use Rattle.hb_captured.proofs.Stages.{KnowsBy}
 use Rattle.hb_captured.specs.Calm as plain_calm
-use Rattle.hb_captured.specs.Calm.{IsIdleBy, longest_front}
+use Rattle.hb_front.specs.Room.{longest_front}
+use Rattle.hb_captured.specs.Calm.{IsIdleBy}
 use Rattle.hb_captured.specs.Captured.{Captured, Stage, unborn, arriving, fronting, due, opening, live, over, ring_up, ring_down, is_raw, at_stage, no_link}
 use Rattle.hb_captured.specs.Part as part
 use Rattle.hb_captured.specs.Sides.{header_of, link_came}

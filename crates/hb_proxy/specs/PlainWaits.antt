@@ -4,7 +4,7 @@ use Rattle.hb_base.specs.declared.cause.Cause.{Cause}
 use Rattle.hb_base.specs.declared.door.Door.TheVariants as door
 use Rattle.hb_base.specs.declared.door.Why.TheVariants as whys
 use Rattle.hb_base.specs.declared.target.Target.{Target}
-use Rattle.hb_captured.specs.Calm.{longest_front}
+use Rattle.hb_front.specs.Room.{longest_front}
 use Rattle.hb_captured.specs.Captured.{fronting, due, opening, live, over, ring_up, ring_down, may_shut_up, may_shut}
 use Rattle.hb_model.specs.declared.config.NodeConfig.{NodeConfig}
 use Rattle.hb_ready.specs.Sight.{asleep}

@@ -8,7 +8,8 @@ use Rattle.hb_conn.specs.Connection.{Connection}
 use Rattle.hb_conn.specs.Observed as connection
 use Rattle.hb_gateway.specs.Gateway as gateway
 use Rattle.hb_gateway.specs.Gateway.{Gateway}
-use Rattle.hb_inbound.specs.Calm.{IsQuiet, longest_front}
+use Rattle.hb_front.specs.Room.{longest_front}
+use Rattle.hb_inbound.specs.Calm.{IsQuiet}
 use Rattle.hb_inbound.specs.Inbound as link
 use Rattle.hb_inbound.specs.Inbound.{Inbound}
 use Rattle.hb_inbound.specs.Tunnel.{Tunnel, Stage, opening, live}
@@ -86,7 +87,7 @@ UpSettledBy stage trace u t = ⊥
 -- upstream isn't open; what came of the upstream went, or it is asleep for writing
 abbrev pub PlainSettledBy : plain.Stage → (closed : Bool) → List Entry → ℕ → Captured → Type 0
 PlainSettledBy plain.unborn closed trace l x = ⊤
-PlainSettledBy plain.fronting closed trace l x = Reads trace l (plain_calm.longest_front ≤ length x.front)
+PlainSettledBy plain.fronting closed trace l x = Reads trace l (longest_front ≤ length x.front)
 PlainSettledBy plain.opening closed trace l x = Reads trace l (IsFull (plain.ring_up x.door) x.ways.up)
 PlainSettledBy plain.live closed trace l x =
     Reads trace l (IsFull (plain.ring_up x.door) x.ways.up) × Writes trace l (x.ways.down.held ≡ [])

@@ -5,7 +5,9 @@ pub mod laws;
 mod phase;
 mod ring;
 mod tunnel;
+mod turn;
 
 pub use phase::Phase;
 pub use ring::Ring;
 pub use tunnel::{DOWN_SIZE, Tunnel, UP_SIZE};
+pub use turn::Turn;

@@ -1,25 +1,25 @@
-//! The bytes of a front header that isn't whole.
+//! The bytes of a header that isn't whole.
 
 ghost use Rattle.std.specs.Prelude.{◌≡◌, ◌+◌, ◌-◌, ◌≤◌, [], ◌++◌, length, IfOk};
-ghost use Rattle.hb_inbound.specs.Calm.{longest_front};
+ghost use Rattle.hb_front.specs.Room.{longest_front};
 
 use hb_base::NoMemory;
 use std::alloc::Global;
 use std::marker::Model;
 
-/// The most bytes of a front header: 16, and the 4,096 that its length may say.
+/// The most bytes of a header: 16, and the 4,096 that its length may say.
 const LONGEST: usize = 4112;
 
-/// The bytes that came of a front header. Contracts see them. Their room is taken when it is made.
+/// The bytes that came of a header that isn't whole. Contracts see them. Their room is taken when it is made.
 #[derive(Drop)]
-pub(crate) struct Front {
+pub struct FrontBytes {
     bytes: Vec<u8>,
     came: usize,
 }
 
-impl Model for Front {
+impl Model for FrontBytes {
     ghost use Rattle.std.specs.Prelude.{◌≡◌, ◌≤◌, List, ℕ, length, take};
-    ghost use Rattle.hb_inbound.specs.Calm.{longest_front};
+    ghost use Rattle.hb_front.specs.Room.{longest_front};
 
     ghost Value = { List ℕ };
 
@@ -28,15 +28,15 @@ impl Model for Front {
     ghost invariant = { λ f. (length f.bytes.items ≡ longest_front) × (f.came ≤ longest_front) };
 }
 
-impl Front {
+impl FrontBytes {
     /// No byte came.
     ///
     /// Errors: `NoMemory`.
-    pub fn new(alloc: Global) -> Result<Front, NoMemory>
+    pub fn new(alloc: Global) -> Result<FrontBytes, NoMemory>
         ensures { IfOk result (λ f. f ≡ []) }
     {
         let bytes = Vec::from_elem(alloc, 0, LONGEST)?;
-        Ok(Front { bytes, came: 0 })
+        Ok(FrontBytes { bytes, came: 0 })
     }
 
     /// How many bytes more there may be.
@@ -61,5 +61,12 @@ impl Front {
         ensures { result.now ≡ self.now }
     {
         &self.bytes[..self.came]
+    }
+
+    /// None of them is kept.
+    pub fn clear(&mut self)
+        ensures { self.new ≡ [] }
+    {
+        self.came = 0;
     }
 }
