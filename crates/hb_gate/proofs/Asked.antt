@@ -3,7 +3,7 @@ use Rattle.std.proofs.Common.{◌≡◌, ℕ, ◌≤◌, ◌&&◌, Bool, true, f
 use Rattle.std.specs.Prelude.{nat_lt}
 use Rattle.std.proofs.lemmas.Bool.Decides.{nat_tests}
 use Rattle.std.proofs.lemmas.Bool.{false≢true}
-use Rattle.std.specs.FinMap.{insert}
+use Rattle.std.specs.FinMap.{insert, remove}
 use Rattle.hb_base.specs.declared.target.Target.{Target}
 use Rattle.hb_conn.specs.Connection.{Connection}
 use Rattle.hb_conn.specs.Observed.{next_stream, opened, streams}
@@ -19,7 +19,7 @@ use Rattle.hb_gate.specs.Streams.{ChangesAt}
 use Rattle.hb_gate.specs.declared.gate.Gate.{Gate}
 use Rattle.hb_gate.specs.declared.stream.Stage.TheVariants as stage
 use Rattle.hb_gate.specs.declared.stream.Stream.{Stream}
-use Rattle.hb_gate.proofs.Moved.{put_changes, at_shown, numbered_at}
+use Rattle.hb_gate.proofs.Moved.{put_changes, gone_changes, at_shown, numbered_at}
 use Rattle.hb_gate.proofs.Seen.{carried, way_again}
 
 abbrev pub asked_of : ℕ → Stream
@@ -32,10 +32,12 @@ both_true false b is = absurd (false≢true is)
 module _ (k : Gate) (s captured : ℕ) (authority : Target) (conn : Connection) (next : next_stream k.conn ≡ Ok s) (few : s ≤ largest)
     (conn_is : conn ≡ opened k.conn s (request_of authority) false) where
   abbrev now : Gate
-  now = record k { conn = conn; streams = insert k.streams s (asked_of captured) }
+  now = record k { conn = conn; streams = insert (remove k.streams s) s (asked_of captured) }
 
   changed : ChangesAt s (Some (asked_of captured)) k.streams now.streams
-  changed = put_changes k.streams s (asked_of captured)
+  changed =
+      let put = put_changes (remove k.streams s) s (asked_of captured) in
+      record { here = put.here; others = λ j apart. put.others j apart ∙ (gone_changes k.streams s).others j apart }
 
   pub asks : Asks s captured authority k now
   asks = (

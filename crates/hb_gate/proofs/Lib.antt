@@ -1,6 +1,7 @@
 pub mod Acting
 pub mod Asked
 pub mod Came
+pub mod Classed
 pub mod Dialled
 pub mod Dropped
 pub mod EndTold

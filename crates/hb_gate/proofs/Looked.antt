@@ -1,15 +1,16 @@
 -- A look at what came on a link.
-use Rattle.std.proofs.Common.{◌≡◌, ◌≢◌, inl, inr, ℕ, ◌+◌, ◌≤◌, ◌==◌, Bool, true, false, cond, is_some, IsSome, List, Option, Some, None, refl, ap, ap₂, sym, ◌∙◌, subst, arith}
+use Rattle.std.proofs.Common.{◌≡◌, ◌≢◌, inl, inr, ℕ, ◌+◌, ◌<◌, ◌≤◌, ◌==◌, Bool, true, false, cond, is_some, IsSome, List, Option, Some, None, refl, ap, ap₂, sym, ◌∙◌, subst, arith}
 use Rattle.std.specs.Prelude.{nat_lt, nat_le}
 use Rattle.std.specs.FinMap.{get}
 use Rattle.std.specs.List.{flat_map}
-use Rattle.std.proofs.lemmas.Bool.{cases_eq, eq-eqb, ne_eqb}
+use Rattle.std.proofs.lemmas.Bool.{cases_eq, eq-eqb, false≢true, ne_eqb}
 use Rattle.std.proofs.lemmas.Bool.Decides.{nat_tests}
 use Rattle.hb_base.specs.declared.cause.Cause.{Cause}
 use Rattle.hb_base.specs.declared.cause.Cause.TheVariants as cause
-use Rattle.hb_conn.specs.Connection.{Connection, Finds}
+use Rattle.hb_conn.specs.Connection.{Connection, Finds, LeavesLess, left_of}
 use Rattle.hb_conn.specs.Loan.{Shows as Tells}
 use Rattle.hb_conn.specs.Observed.{chunk_of}
+use Rattle.hb_conn.specs.Outcome.{is_silent}
 use Rattle.hb_conn.specs.declared.found.Found.{Found}
 use Rattle.hb_conn.specs.declared.found.Found.TheVariants as found
 use Rattle.hb_conn.specs.declared.happening.Happening.{Happening}
@@ -32,7 +33,7 @@ use Rattle.hb_gateway.specs.Response.{fails, failed, headed, brought, ended, hea
 use Rattle.hb_gateway.specs.Runs.{StandsFor}
 use Rattle.hb_gate.specs.Calls.{MayLook, LooksInto, LooksTold, TellsOf}
 use Rattle.hb_gate.specs.Hearing.{reply_of, look_by, look_here, left_here, told_of, bytes_told, look_of, Follows}
-use Rattle.hb_gate.specs.Looking.{Looks}
+use Rattle.hb_gate.specs.Looking.{Looks, is_more, left_to_look}
 use Rattle.hb_gate.specs.Shows.{Shows, ShowsBy, ShowsStream}
 use Rattle.hb_gate.specs.Streams.{Map, ChangesAt, EndsFrom}
 use Rattle.hb_gate.specs.declared.gate.Gate.{Gate}
@@ -41,6 +42,7 @@ use Rattle.hb_gate.specs.declared.hearing.Reply.TheVariants as reply
 use Rattle.hb_gate.specs.declared.hearing.Word.{Word}
 use Rattle.hb_gate.specs.declared.hearing.Word.TheVariants as word
 use Rattle.hb_gate.specs.declared.looking.Look.{Look}
+use Rattle.hb_gate.specs.declared.looking.Told.{Told}
 use Rattle.hb_gate.specs.declared.looking.Told.TheVariants as words
 use Rattle.hb_gate.specs.declared.phase.Phase.TheVariants.{Faulted}
 use Rattle.hb_gate.specs.declared.stream.Stream.{Stream}
@@ -323,6 +325,20 @@ module _ (k : Gate) (c : Connection) (told : Found) (s : ℕ) (w : Word) (on : I
   )
   looks_at (Some old) there = by_reply old there (reply_of old.stage w) refl
 
+-- where something was found something is told
+found_told : (c : Connection) (told : Found) (h : Option Happening) (streams : Map) → Tells c told h
+    → is_more (look_of (told_of h) streams) ≡ true → is_silent told ≡ false
+found_told c found.Silent None streams shown more = absurd (false≢true more)
+found_told c found.Silent (Some h) streams shown more = absurd shown
+found_told c told h streams shown more = refl
+
+-- the link keeps its connection
+follows_conn : (told : Told) (k new : Gate) → Follows told k new → new.conn ≡ k.conn
+follows_conn words.Nothing k new follows = ap (λ (g : Gate). g.conn) follows
+follows_conn (words.Of s w) k new follows = ap (λ (g : Gate). g.conn) follows.0
+follows_conn (words.Away last) k new follows = ap (λ (g : Gate). g.conn) follows.0
+follows_conn (words.Fault code) k new follows = ap (λ (g : Gate). g.conn) follows.0
+
 -- A LOOK: what is found, and what the link makes of it
 module _ (k : Gate) (c : Connection) where
   abbrev mid : Gate
@@ -426,3 +442,10 @@ module _ (k : Gate) (c : Connection) where
             ),
       ))
   looks_so found_it h bytes what new finds shown come is follows = absurd shown
+
+  -- less is left to be looked at then
+  pub look_falls : (told : Found) (h : Option Happening) (what : Look) (new : Gate) → Tells c told h → LeavesLess k.conn c told
+      → what ≡ look_of (told_of h) k.streams → Follows (told_of h) mid new → is_more what ≡ true → left_to_look new < left_to_look k
+  look_falls told h what new shown less is follows more =
+      subst (λ (d : Connection). left_of d < left_of k.conn) (sym (follows_conn (told_of h) mid new follows))
+      (less (found_told c told h k.streams shown (sym (ap is_more is) ∙ more)))

@@ -1,11 +1,11 @@
 -- Streams that are reset, one after another.
-use Rattle.std.proofs.Common.{◌≡◌, ◌≢◌, ◌⊎◌, inl, inr, ℕ, ◌+◌, ◌^◌, ◌<◌, ◌≤◌, ◌==◌, ◌||◌, Bool, true, false, cond, is_some, IsSome, List, Option, Some, None, refl, ap, sym, ◌∙◌, subst, arith}
+use Rattle.std.proofs.Common.{◌≡◌, ◌≢◌, ◌⊎◌, inl, inr, ℕ, ◌+◌, ◌^◌, ◌<◌, ◌≤◌, ◌==◌, ◌||◌, Bool, true, false, cond, is_some, IsSome, List, length, Option, Some, None, refl, ap, sym, ◌∙◌, subst, arith}
 use Rattle.std.specs.FinMap.{get}
 use Rattle.std.proofs.lemmas.Bool.{false≢true, cond_both, cases_eq, cases_lt, eqb-false}
-use Rattle.hb_conn.specs.Connection.{Connection}
-use Rattle.hb_conn.specs.Observed.{aborted}
+use Rattle.hb_conn.specs.Connection.{Connection, core_of, left_of}
+use Rattle.hb_conn.specs.Observed.{aborted, octets_held}
 use Rattle.hb_frames.specs.Numbers.{largest}
-use Rattle.hb_kept.proofs.Acts.{resets_kept}
+use Rattle.hb_kept.proofs.Acts.{aborted_over, resets_kept}
 use Rattle.hb_kept.proofs.Sides.{reset_ends_both}
 use Rattle.hb_streams.specs.declared.sides.Sides.{Sides}
 use Rattle.hb_gateway.specs.Calm.{AllReset, is_failing}
@@ -15,10 +15,11 @@ use Rattle.hb_gateway.specs.Part.{Part, reset}
 use Rattle.hb_gateway.specs.Response as r
 use Rattle.hb_gateway.specs.Runs.{Steps, StandsFor}
 use Rattle.hb_gate.specs.Calls.{Resets, none, more, ResetsAll, AreActive}
+use Rattle.hb_gate.specs.Looking.{left_to_look}
 use Rattle.hb_gate.specs.Phases.{stage_of}
 use Rattle.hb_gate.specs.Resetting.{reset_on, ResetsBy, ResetsFrom, ResetsAt}
 use Rattle.hb_gate.specs.Shows.{Shows, IsStream, ShowsStream}
-use Rattle.hb_gate.specs.Streams.{ChangesAt, IsNext, kept}
+use Rattle.hb_gate.specs.Streams.{Map, ChangesAt, IsNext, kept}
 use Rattle.hb_gate.specs.declared.gate.Gate.{Gate}
 use Rattle.hb_gate.specs.declared.stream.Stage.{Stage}
 use Rattle.hb_gate.specs.declared.stream.Stage.TheVariants.{Asked, Carrying, Failing, Over}
@@ -192,18 +193,34 @@ resets_by k now s l x y number reached resets = of (get k.streams s) refl resets
     of None is resets = stays (gone_calm (get k.streams s) (y.streams s) is (reached.shows.streams s)) resets
     of (Some old) is resets = at old is old.stage refl resets
 
-same_number : (k now : Gate) (s : ℕ) → ResetsAt s k now → now.number ≡ k.number
-same_number k now s resets = of (get k.streams s) resets
+-- what neither the streams nor a reset change
+unchanged : (f : Gate → ℕ) (k now : Gate) (s : ℕ)
+    → ((streams : Map) (code : ℕ) → f (record k { streams = streams; conn = reset_on k.conn s code }) ≡ f k) → ResetsAt s k now
+    → f now ≡ f k
+unchanged f k now s same resets = of (get k.streams s) resets
   where
-    by : (old : Stream) (st : Stage) → ResetsBy st old s k now → now.number ≡ k.number
-    by old (Failing code) resets = ap (λ (g : Gate). g.number) resets.0
-    by old Asked resets = ap (λ (g : Gate). g.number) resets
-    by old Carrying resets = ap (λ (g : Gate). g.number) resets
-    by old Over resets = ap (λ (g : Gate). g.number) resets
+    by : (old : Stream) (st : Stage) → ResetsBy st old s k now → f now ≡ f k
+    by old (Failing code) resets = ap f resets.0 ∙ same now.streams code
+    by old Asked resets = ap f resets
+    by old Carrying resets = ap f resets
+    by old Over resets = ap f resets
 
-    of : (o : Option Stream) → ResetsFrom o s k now → now.number ≡ k.number
-    of None resets = ap (λ (g : Gate). g.number) resets
+    of : (o : Option Stream) → ResetsFrom o s k now → f now ≡ f k
+    of None resets = ap f resets
     of (Some old) resets = by old old.stage resets
+
+same_number : (k now : Gate) (s : ℕ) → ResetsAt s k now → now.number ≡ k.number
+same_number k now s = unchanged (λ (g : Gate). g.number) k now s (λ streams code. refl)
+
+-- what came is still to be looked at behind a reset
+pub same_left : (k now : Gate) (s : ℕ) → ResetsAt s k now → left_to_look now ≡ left_to_look k
+same_left k now s = unchanged left_to_look k now s (λ streams code. by code (is_active k.conn s))
+  where
+    by : (code : ℕ) (b : Bool) → left_of (cond b (aborted k.conn s code) k.conn) ≡ left_of k.conn
+    by code true =
+        ap (λ (over : Bool). length (octets_held k.conn) + cond (is_some k.conn.ended) 1 0 + cond over 0 1)
+        (aborted_over (core_of k.conn) s code)
+    by code false = refl
 
 pub walk_goes : (k before now : Gate) (s : ℕ) (next : Option ℕ) → ResetsTo (Some s) k before → ResetsAt s before now
     → IsNext now.streams (s + 1) next → ResetsTo next k now

@@ -74,6 +74,10 @@ Serves k serves = (x : Gateway) → Shows k x → (IsTrue serves ↔ (x.phase �
 abbrev pub IsCarrying : Gate → Bool → Type 0
 IsCarrying k carries = (x : Gateway) → Shows k x → carries ≡ m.carries x.phase
 
+-- no tunnel is left to be told its end; that it isn't so tells nothing
+abbrev pub IsTold : Gate → Bool → Type 0
+IsTold k told = told ≡ true → (x : Gateway) → Shows k x → AllTold x
+
 abbrev pub Wants : Gate → ℕ → Type 0
 Wants k n = (x : Gateway) → Shows k x → n ≡ calm.wants x
 

@@ -1,4 +1,5 @@
 pub mod Calls
+pub mod Classing
 pub mod Hearing
 pub mod Keyed
 pub mod Looking

@@ -1,5 +1,6 @@
--- What a look is to the machine.
-use Rattle.std.specs.Prelude.{ℕ, List}
+-- What a look is to the machine, and how far it gets.
+use Rattle.std.specs.Prelude.{ℕ, Bool, true, false, List}
+use Rattle.hb_conn.specs.Connection.{left_of}
 use Rattle.hb_gateway.specs.Response.{opens, brings, ends, fails}
 use Rattle.hb_gate.specs.Calls.{LooksNothing, LooksPast, LooksTold}
 use Rattle.hb_gate.specs.declared.gate.Gate.{Gate}
@@ -14,3 +15,12 @@ Looks (look.Opens s l end) bytes old new = (begun : ℕ) × LooksTold s (opens e
 Looks (look.Brings s l) bytes old new = (begun : ℕ) × LooksTold s (brings bytes) begun l old new
 Looks (look.Ends s l) bytes old new = (begun : ℕ) × LooksTold s ends begun l old new
 Looks (look.Fails mail) bytes old new = LooksTold mail.stream (fails mail.cause) mail.begun mail.link old new
+
+-- something was found
+abbrev pub is_more : Look → Bool
+is_more look.Nothing = false
+is_more found = true
+
+-- how much there still may be to be looked at of what came
+abbrev pub left_to_look : Gate → ℕ
+left_to_look k = left_of k.conn

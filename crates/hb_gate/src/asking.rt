@@ -21,7 +21,9 @@ impl Gate {
         let Ok(stream) = self.conn.open(&headers, false) else {
             return Err(NoMemory);
         };
-        self.streams.put(
+        // A connection gives each number once, so no stream has it.
+        self.streams.remove(stream);
+        self.streams.add(
             stream,
             Stream {
                 stage: Stage::Asked,

@@ -4,7 +4,8 @@ ghost use Rattle.std.specs.Prelude.{◌≡◌, ◌+◌, ◌&&◌, IsSome, IfSome
 ghost use Rattle.std.specs.Option.{option_map};
 ghost use Rattle.std.specs.FinMap.{get};
 ghost use Rattle.hb_gateway.specs.Gateway.{carries, is_active};
-ghost use Rattle.hb_gate.specs.Calls.{Drops, ResetsAll, TellsEnd, TellsNone};
+ghost use Rattle.hb_gate.specs.Calls.{Drops, IsTold, ResetsAll, TellsEnd, TellsNone};
+ghost use Rattle.hb_gate.specs.Looking.{left_to_look};
 ghost use Rattle.hb_gate.specs.Phases.{phase_of};
 ghost use Rattle.hb_gate.specs.Resetting.{code_of, ResetsAt};
 ghost use Rattle.hb_gate.specs.Streams.{is_left, kept, ended_here, EndsFrom, IsNext, ChangesAt, TakesMail};
@@ -20,7 +21,7 @@ pub(crate) const CANCEL: u32 = 8;
 
 impl Stage {
     /// With which code its stream is to be reset. `None` where it isn't.
-    fn code(self) -> Option<u32>
+    pub(crate) fn code(self) -> Option<u32>
         ensures { result ≡ code_of self }
     {
         match self {
@@ -163,10 +164,21 @@ impl Gate {
         })
     }
 
-    /// Each stream whose tunnel's end asks for that is reset.
-    pub fn reset_ended(&mut self)
-        ensures { ResetsAll self.old self.new }
+    /// Whether no tunnel is left that is to be told its end, as the count of them says: no walk over the streams.
+    pub fn is_told(&self) -> bool
+        ensures { IsTold self.now result }
     {
+        self.streams.counts().marked == 0
+    }
+
+    /// Each stream whose tunnel's end asks for that is reset. Where none is, that costs no walk over the streams.
+    pub fn reset_ended(&mut self)
+        ensures resets { ResetsAll self.old self.new }
+        ensures left { left_to_look self.new ≡ left_to_look self.old }
+    {
+        if self.streams.counts().due == 0 {
+            return;
+        }
         let mut from = self.first_from(0);
         while let Some(number) = from {
             self.reset(number);

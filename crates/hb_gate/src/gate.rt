@@ -11,12 +11,12 @@ ghost use Rattle.hb_tunnel.specs.Way.{IsFront};
 use crate::front::Front;
 use crate::phase::Phase;
 use crate::stream::Stream;
-use crate::turn::Turn;
 use hb_base::NoMemory;
 use hb_conn::Conn;
+use hb_counted::Counted;
 use hb_gateway::Key;
-use hb_map::ById;
 use hb_streams::Role;
+use hb_tunnel::Turn;
 use std::alloc::Global;
 
 /// The room of the output that the answers to what is read may not need.
@@ -38,7 +38,7 @@ pub struct Gate {
     pub(crate) front: Front,
     pub(crate) conn: Conn,
     /// The streams on which tunnels were asked for, until nothing is left of them.
-    pub(crate) streams: ById<u32, Stream>,
+    pub(crate) streams: Counted<Stream>,
     /// The gateway goes away.
     pub(crate) away: bool,
     /// Behind which stream the next DATA goes.
@@ -56,7 +56,7 @@ impl Gate {
     {
         let front = Front::of(alloc, &key)?;
         let conn = Conn::client(alloc)?;
-        let streams = ById::new(alloc);
+        let streams = Counted::new(alloc);
         Ok(Gate {
             alloc,
             number,

@@ -14,8 +14,8 @@ use crate::ending::CANCEL;
 use crate::looking::{Look, Mail};
 use crate::stream::{Stage, Stream};
 use hb_base::Cause;
+use hb_counted::Counted;
 use hb_frames::numbers::PROTOCOL_ERROR;
-use hb_map::ById;
 
 /// What is told of one stream.
 #[derive(Clone, Copy)]
@@ -154,7 +154,7 @@ impl Stream {
 }
 
 /// What is told then of the tunnel on a stream, of which a side is open or not. Of a stream of which nothing is left no more is kept.
-pub(crate) fn hear(streams: &mut ById<u32, Stream>, number: u32, word: Word, active: bool) -> Look
+pub(crate) fn hear(streams: &mut Counted<Stream>, number: u32, word: Word, active: bool) -> Look
     ensures look { result ≡ look_here number word (get streams.old number) }
     ensures streams { ChangesAt number (left_here active word (get streams.old number)) streams.old streams.new }
 {

@@ -4,6 +4,7 @@
 
 mod acts;
 mod asking;
+mod classing;
 mod ending;
 mod entries;
 mod front;
@@ -15,7 +16,6 @@ mod phase;
 mod putting;
 mod request;
 mod stream;
-mod turn;
 
 pub use gate::Gate;
 pub use looking::{Look, Mail};

@@ -1,8 +1,8 @@
 //! What came is looked at.
 
-ghost use Rattle.std.specs.Prelude.{◌≡◌, IfOk, OnOk};
+ghost use Rattle.std.specs.Prelude.{◌≡◌, ◌<◌, true, IfOk, OnOk};
 ghost use Rattle.hb_gate.specs.Hearing.{told_of, bytes_told, look_of, Follows};
-ghost use Rattle.hb_gate.specs.Looking.{Looks};
+ghost use Rattle.hb_gate.specs.Looking.{Looks, is_more, left_to_look};
 
 use crate::ending::is_active;
 use crate::gate::Gate;
@@ -136,7 +136,8 @@ impl Gate {
     ///
     /// Errors: `NoMemory`, behind which the run ends.
     pub fn look(&mut self, bytes: &mut Vec<u8>) -> Result<Look, NoMemory>
-        ensures { IfOk result (λ look. Looks look bytes.new.items self.old self.new) }
+        ensures looks { IfOk result (λ look. Looks look bytes.new.items self.old self.new) }
+        ensures falls { IfOk result (λ look. is_more look ≡ true → left_to_look self.new < left_to_look self.old) }
     {
         let told = self.conn.next_happening()?;
         keep(told, bytes)?;
