@@ -1,20 +1,35 @@
 -- The acts that are due of a link, and what its owner sees of it.
-use Rattle.std.proofs.Common.{◌≡◌, inl, inr, ℕ, ◌<◌, not, Bool, true, false, cond, Option, Some, None, refl, ap, sym, ◌∙◌, subst, arith}
+use Rattle.std.proofs.Common.{◌≡◌, inl, inr, ℕ, ◌<◌, ◌==◌, ◌&&◌, not, Bool, true, false, cond, Option, Some, None, refl, ap, sym, ◌∙◌, subst, arith}
 use Rattle.std.specs.Prelude.{nat_le}
+use Rattle.std.proofs.lemmas.Bool.{false≢true}
 use Rattle.std.proofs.lemmas.Bool.Decides.{nat_tests}
 use Rattle.hb_base.specs.declared.cause.Cause.{Cause}
 use Rattle.hb_world.specs.declared.act.Act.{Act}
 use Rattle.hb_world.specs.declared.act.Act.TheVariants as act
-use Rattle.hb_captured.specs.Answer.{address_of, why_for}
+use Rattle.hb_gateway.specs.Key.{Key}
+use Rattle.hb_captured.specs.Answer.{address_of, key_of, why_for}
 use Rattle.hb_captured.specs.Calm.{IsCalmBy, IsIdleBy}
-use Rattle.hb_captured.specs.Captured.{Captured, Stage, may_shut_up, may_shut}
+use Rattle.hb_captured.specs.Captured as m
+use Rattle.hb_captured.specs.Captured.{Captured, Stage, is_raw, may_shut_up, may_shut}
+use Rattle.hb_tunnel.specs.Way.{is_done}
 use Rattle.hb_relay.specs.declared.relay.Relay.{Relay}
 use Rattle.hb_relay.specs.declared.stage.Stage as code
 use Rattle.hb_relay.specs.declared.stage.Stage.TheVariants.{Fronting, Due, Opening, Live, Over}
 use Rattle.hb_relay.specs.Acts.{Acts}
 use Rattle.hb_relay.specs.Moving.{act_by, acted_by}
-use Rattle.hb_relay.specs.Shows.{Shows, Becomes, captured_of, as_told, stage_of}
-use Rattle.hb_relay.proofs.Reached.{RestsBy, SoundBy, stage_is, raw_is, shows_so, sound_is}
+use Rattle.hb_relay.specs.Shows.{Shows, Becomes, HasOne, IsStraight, captured_of, as_told, stage_of}
+use Rattle.hb_relay.proofs.Reached.{RestsBy, stage_is, shows_so, calm_at, upstream_at}
+
+-- what lives without a stream has an upstream
+one_upstream : (key : Option Key) (up gate : ℕ) → HasOne key up gate → (gate == 0) ≡ true → 0 < up
+one_upstream None up gate is raw = is.0
+one_upstream (Some key) up gate is raw = absurd (let none : gate ≡ 0 = grind (arith, nat_tests, raw) in omega (arith, is.1, none))
+
+-- and where an upstream may be shut there is no stream
+shut_raw : (x : Captured) (b : Bool) → is_raw x ≡ b → may_shut_up x ≡ true → is_raw x ≡ true
+shut_raw x true raw may = raw
+shut_raw x false raw may =
+    absurd (false≢true (sym (ap (λ (b : Bool). b && is_done x.ways.up && not x.up_shut) raw) ∙ may))
 
 module _ (old new : Relay) where
   at : (x : Captured) → Shows old x → (s : code.Stage) → old.stage ≡ s → x.stage ≡ stage_of s
@@ -22,8 +37,8 @@ module _ (old new : Relay) where
 
   -- with a change that leaves it calm
   shown : (x y : Captured) (change : Captured → Captured) → Shows old x → as_told y ≡ change (as_told x)
-      → captured_of new ≡ change (captured_of old) → RestsBy y.stage y → Shows new y
-  shown x y change shows told now rest = shows_so new y (told ∙ ap change shows.same ∙ sym now) rest
+      → captured_of new ≡ change (captured_of old) → RestsBy y.stage y → IsStraight y → Shows new y
+  shown x y change shows told now rest straight = shows_so new y (told ∙ ap change shows.same ∙ sym now) rest straight
 
   live_acts : old.stage ≡ Live → (b c : Bool) → may_shut_up (captured_of old) ≡ b → may_shut (captured_of old) ≡ c
       → captured_of new ≡ cond b (record (captured_of old) { up_shut = true })
@@ -38,14 +53,14 @@ module _ (old new : Relay) where
           lives,
           ap (λ (y : Captured). y.up) shows.same,
           subst (λ (n : ℕ). 0 < n) (ap (λ (y : Captured). y.up) shows.same)
-              (subst (λ (s : Stage). SoundBy s x.aim x.up) lives (sound_is old x shows)),
+              (one_upstream (key_of x.aim) x.up x.gate (upstream_at old x shows m.live lives)
+              (shut_raw x (is_raw x) refl (ap may_shut_up shows.same ∙ up_is))),
           ap may_shut_up shows.same ∙ up_is,
         ),
         shown x (record x { up_shut = true }) (λ y. record y { up_shut = true }) shows refl now (
-          subst (λ (s : Stage). IsCalmBy s (record x { up_shut = true })) (sym lives)
-              (subst (λ (s : Stage). IsCalmBy s x) lives shows.calm),
-          sound_is old x shows,
-        ),
+          subst (λ (s : Stage). IsCalmBy s (record x { up_shut = true })) (sym lives) (calm_at old x shows m.live lives),
+          shows.upstream,
+        ) shows.straight,
       ))
   live_acts is false true up_is down_is now =
       inl (
@@ -55,10 +70,9 @@ module _ (old new : Relay) where
             let lives = at x shows Live is in (
               (refl, shows.calm, lives, ap may_shut shows.same ∙ down_is),
               shown x (record x { shut = true }) (λ y. record y { shut = true }) shows refl now (
-                subst (λ (s : Stage). IsCalmBy s (record x { shut = true })) (sym lives)
-                    (subst (λ (s : Stage). IsCalmBy s x) lives shows.calm),
-                sound_is old x shows,
-              ),
+                subst (λ (s : Stage). IsCalmBy s (record x { shut = true })) (sym lives) (calm_at old x shows m.live lives),
+                shows.upstream,
+              ) shows.straight,
             )),
       )
   live_acts is false false up_is down_is now = (
@@ -78,7 +92,8 @@ module _ (old new : Relay) where
       let some : 0 < old.up = grind (arith, nat_tests, up_is) in (
         (shows.calm, ends, ap (λ (y : Captured). y.up) shows.same, some),
         shown x (record x { up = 0 }) (λ y. record y { up = 0 }) shows refl now
-            (subst (λ (s : Stage). RestsBy s (record x { up = 0 })) (sym ends) (raw_is old x shows.same, tt)),
+            (subst (λ (s : Stage). RestsBy s (record x { up = 0 })) (sym ends) (calm_at old x shows (m.over why) ends, tt))
+            shows.straight,
       ))
   over_acts why is true false up_is closed_is now =
       inl (
@@ -89,7 +104,8 @@ module _ (old new : Relay) where
             let ends = at x shows (Over why) is in (
               (refl, shows.calm, ends, ap (λ (y : Captured). y.closed) shows.same ∙ closed_is),
               shown x (record x { closed = true }) (λ y. record y { closed = true }) shows refl now
-                  (subst (λ (s : Stage). RestsBy s (record x { closed = true })) (sym ends) (raw_is old x shows.same, tt)),
+                  (subst (λ (s : Stage). RestsBy s (record x { closed = true })) (sym ends) (calm_at old x shows (m.over why) ends, tt))
+                  shows.straight,
             )),
       )
   over_acts why is true true up_is closed_is now =
@@ -121,7 +137,6 @@ module _ (old new : Relay) where
             now Due is,
             (λ x shows. (
               at x shows Due is,
-              subst (λ (s : Stage). SoundBy s x.aim x.up) (at x shows Due is) (sound_is old x shows),
               sym (ap (λ (y : Captured). address_of y.aim) shows.same),
               sym (ap (λ (y : Captured). why_for y.aim y.door old.number) shows.same),
             )),

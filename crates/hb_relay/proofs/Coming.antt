@@ -1,5 +1,5 @@
 -- Bytes that come of a link: of its front header, and behind it.
-use Rattle.std.proofs.Common.{◌≡◌, inl, inr, ◌⊎◌, ℕ, ◌≤◌, ◌<◌, ◌-◌, ◌&&◌, not, Bool, true, false, cond, List, [], ◌∷◌, ◌++◌, length, drop, Option, Some, None, refl, ap, sym, ◌∙◌, subst, arith, length-append, length-drop}
+use Rattle.std.proofs.Common.{◌≡◌, inl, inr, ◌⊎◌, ℕ, ◌≤◌, ◌<◌, ◌-◌, ◌&&◌, not, Bool, true, false, cond, List, [], ◌++◌, length, drop, Option, None, refl, ap, sym, ◌∙◌, subst, arith, length-append, length-drop}
 use Rattle.std.specs.Prelude.{nat_le}
 use Rattle.std.proofs.lemmas.Bool.Decides.{nat_tests}
 use Rattle.hb_base.specs.declared.cause.Cause.{Cause}
@@ -12,12 +12,16 @@ use Rattle.hb_front.specs.Reading.{Seen, Answer as Reading, IsAnswer, Whole, Mor
 use Rattle.hb_held.specs.Held.{Resources}
 use Rattle.hb_tunnel.specs.Way.{Way, after, pushes}
 use Rattle.hb_world.specs.declared.entry.Entry.TheVariants as e
-use Rattle.hb_captured.specs.Answer.{Aim, straight_to, through, Answer, aims, refuses, Routing, answer_on}
-use Rattle.hb_captured.specs.Calm.{IsCalmBy, longest_front, room, wants, wants_by}
+use Rattle.hb_captured.specs.Answer.{Aim, straight_to, Answer, aims, refuses, Routing, answer_on, by_verdict, key_of, verdict_on, endpoint_of}
+use Rattle.hb_verdict.specs.declared.verdict.Verdict.{Verdict}
+use Rattle.hb_verdict.specs.declared.verdict.Verdict.TheVariants.{Status, Reset, Dial}
+use Rattle.hb_gateway.specs.Key.{Key}
+use Rattle.hb_front.specs.Room.{longest_front}
+use Rattle.hb_captured.specs.Calm.{IsCalmBy, room, wants, wants_by}
 use Rattle.hb_captured.specs.Captured as m
-use Rattle.hb_captured.specs.Captured.{Captured, Stage, at_stage, counts_for, ends_by, ends_for, fronted_by, came_by, is_raw, peer_in, ring_up}
+use Rattle.hb_captured.specs.Captured.{Captured, Stage, at_stage, counts_for, ends_by, ends_for, fronted_by, came_by, is_raw, judges, peer_in, ring_up}
 use Rattle.hb_captured.specs.Counts.{recounted}
-use Rattle.hb_captured.specs.Part.{entry, lacked, misfronted, fronted, refused, roomless, left, note_if}
+use Rattle.hb_captured.specs.Part.{entry, lacked, misfronted, fronted, refused, note_if}
 use Rattle.hb_captured.specs.Runs.{Local, Lacks, IsTried, next, verdict_note}
 use Rattle.hb_captured.specs.Sides.{header_of, link_came}
 use Rattle.hb_captured.proofs.Kept.{all_keep}
@@ -26,12 +30,13 @@ use Rattle.hb_relay.specs.declared.relay.Relay.{Relay}
 use Rattle.hb_relay.specs.declared.stage.Stage as code
 use Rattle.hb_relay.specs.declared.stage.Stage.TheVariants.{Fronting, Due, Opening, Live, Over}
 use Rattle.hb_relay.specs.Calls.{Takes}
-use Rattle.hb_relay.specs.Moving.{told_by, decided_by, decided_for, decided_note, Fronts, IsDecided, IsLacked, TakesFront}
-use Rattle.hb_relay.specs.Reaches.{Reaches, rerouted}
+use Rattle.hb_relay.specs.Moving.{told_by, decided_by, decided_note, Fronts, IsDecided, IsLacked, TakesFront}
+use Rattle.hb_relay.specs.Answering.{counted_for}
+use Rattle.hb_relay.specs.Reaches.{IsInner, Reaches, rerouted}
 use Rattle.hb_relay.specs.Rings.{pushed}
-use Rattle.hb_relay.specs.Shows.{Shows, captured_of, as_told, stage_of}
+use Rattle.hb_relay.specs.Shows.{Shows, IsStraight, captured_of, as_told, stage_of}
 use Rattle.hb_relay.proofs.Meeting.{has_room, fits, through_up, counts_at}
-use Rattle.hb_relay.proofs.Reached.{RestsBy, goes_on, shows_so, sound_is, stage_is, raw_is, unmoved, rests, follows}
+use Rattle.hb_relay.proofs.Reached.{RestsBy, goes_on, upstream_at, raw_so, stage_is, unmoved, rests, follows}
 
 -- BEHIND THE HEADER
 
@@ -53,7 +58,8 @@ module _ (held : Resources) (old new : Relay) (bytes : List ℕ) (routing : Rout
   now_is : (x : Captured) → as_told x ≡ captured_of old → 0 < length bytes → length bytes ≤ room (ring_up x.door) x.ways.up
       → as_told (record x { ways = record x.ways { up = after x.ways.up (pushes bytes) } }) ≡ captured_of new
   now_is x same some most =
-      ap (λ w. as_told (record x { ways = record x.ways { up = w } })) (sym (fits (ring_up x.door) x.ways.up bytes some most))
+      let going = has_room (ring_up x.door) x.ways.up (omega (arith, some, most)) in
+      ap (λ w. as_told (record x { ways = record x.ways { up = w } })) (sym (fits (ring_up x.door) x.ways.up bytes going most))
       ∙ ap (λ (c : Captured). record c { ways = record c.ways { up = pushed (ring_up c.door) bytes c.ways.up } }) same ∙ sym is
 
   -- they go up, and it rests as before
@@ -62,7 +68,7 @@ module _ (held : Resources) (old new : Relay) (bytes : List ℕ) (routing : Rout
       → (a.link.ways.up.has_ended ≡ false
       → IsCalmBy s (record a.link { ways = record a.link.ways { up = after a.link.ways.up (pushes bytes) } }))
       → 0 < length bytes → length bytes ≤ wants a.link
-      → Reaches old.number (rerouted a.link (next a (entry (e.Came old.number bytes))).link routing)
+      → Reaches IsInner old.number (rerouted a.link (next a (entry (e.Came old.number bytes))).link routing)
       (next a (entry (e.Came old.number bytes))) new routing None
   goes_up a shows s at room_is comes calm some most =
       let x = a.link in
@@ -70,10 +76,11 @@ module _ (held : Resources) (old new : Relay) (bytes : List ℕ) (routing : Rout
       let small : length bytes ≤ room (ring_up x.door) x.ways.up =
       subst (λ (n : ℕ). length bytes ≤ n) (ap (λ (t : Stage). wants_by t x) at ∙ room_is) most in
       let going = has_room (ring_up x.door) x.ways.up (omega (arith, some, small)) in
-      subst (λ (z : Captured). Reaches old.number (rerouted x z routing) (record { held = a.held; link = z }) new routing None)
+      subst (λ (z : Captured). Reaches IsInner old.number (rerouted x z routing) (record { held = a.held; link = z }) new routing None)
       (sym (ap (λ (t : Stage). came_by t bytes x) at ∙ comes))
-      (rests old.number (rerouted x y routing) (record { held = a.held; link = y }) new routing None (sym (unmoved x y routing refl))
-      (now_is x shows.same some small) (subst (λ (t : Stage). IsCalmBy t y) (sym at) (calm going), sound_is old x shows) refl)
+      (rests IsInner old.number (rerouted x y routing) (record { held = a.held; link = y }) new routing None
+      (sym (unmoved x y routing refl)) (now_is x shows.same some small)
+      (subst (λ (t : Stage). IsCalmBy t y) (sym at) (calm going), shows.upstream) shows.straight refl)
 
   pub comes_up : Takes held bytes old routing new routing None
   comes_up = record {
@@ -83,7 +90,7 @@ module _ (held : Resources) (old new : Relay) (bytes : List ℕ) (routing : Rout
   }
     where
       by : (a : Local) → Shows old a.link → IsTried a.link → 0 < length bytes → length bytes ≤ wants a.link
-          → Reaches old.number (rerouted a.link (next a (entry (e.Came old.number bytes))).link routing)
+          → Reaches IsInner old.number (rerouted a.link (next a (entry (e.Came old.number bytes))).link routing)
           (next a (entry (e.Came old.number bytes))) new routing None
       by a shows (inl at) some most = absurd (late (front_only old.stage (sym (stage_is old a.link shows.same) ∙ at.1)))
       by a shows (inr (inl at)) some most = goes_up a shows m.opening at.1 refl refl (λ going. tt) some most
@@ -110,9 +117,31 @@ rest_fits size w bytes large none open_yet short =
     ap (λ (b : Bool). cond (not b && nat_le (length bytes) (size - length w.held)) (after w (pushes bytes)) w) open_yet
     ∙ ap (λ (b : Bool). cond b (after w (pushes bytes)) w) test
 
+-- where peers are judged no answer leads by a gateway
+straight_by : (v : Verdict) (aim : Aim) → by_verdict v ≡ aims aim → key_of aim ≡ None
+straight_by v aim is = ap keyed (sym is) ∙ none v
+  where
+    keyed : Answer → Option Key
+    keyed (aims aim) = key_of aim
+    keyed (refuses why status) = None
+
+    none : (v : Verdict) → keyed (by_verdict v) ≡ None
+    none (Dial to) = refl
+    none (Status status) = refl
+    none Reset = refl
+
+straight_on : (d : Door) (h : Resources) (routing : Routing) (seen : Seen) (aim : Aim) → answer_on d h routing seen ≡ aims aim
+    → judges d ≡ true → key_of aim ≡ None
+straight_on door.Outbound h routing seen aim is on = absurd (cc)
+straight_on door.Inbound h routing seen aim is on = straight_by (verdict_on h seen) aim is
+straight_on door.Plain h routing seen aim is on = straight_by (verdict_on h seen) aim is
+
 module _ (l : ℕ) (h : Resources) (before behind : Routing) (y : Captured) (z : Captured) (new : Relay) (made : Option Note)
-    (at : y.stage ≡ m.fronting) (same : as_told y ≡ z) (raw : is_raw y ≡ true) (none : y.ways.up.held ≡ [])
-    (open_yet : y.ways.up.has_ended ≡ false) (short : length y.front ≤ longest_front) where
+    (at : y.stage ≡ m.fronting) (same : as_told y ≡ z) (neither : (y.up ≡ 0) × (y.gate ≡ 0)) (straight : IsStraight y)
+    (none : y.ways.up.held ≡ []) (open_yet : y.ways.up.has_ended ≡ false) (short : length y.front ≤ longest_front) where
+  raw : is_raw y ≡ true
+  raw = raw_so y neither.1
+
   -- it counts for none
   uncounted : counts_for y ≡ None
   uncounted = counts_at y m.fronting at
@@ -128,53 +157,18 @@ module _ (l : ℕ) (h : Resources) (before behind : Routing) (y : Captured) (z :
 
   decides : (seen : Seen) (gets : Answer) → answer_on y.door h before seen ≡ gets → IsAnswer y.front (Whole seen)
       → captured_of new ≡ decided_by gets (told_by seen.source.ip seen.destination seen.length z)
-      → made ≡ decided_note l gets (told_by seen.source.ip seen.destination seen.length z) → behind ≡ decided_for gets before
-      → Reaches l before (record { held = h; link = y }) new behind made
-  decides seen (aims (straight_to to endpoint)) is whole now noted counts =
-      let aim = straight_to to endpoint in
-      follows l before (record { held = h; link = y }) new behind (fronted seen before aim) made tt refl ((at, whole), is)
-      (counts ∙ ap (λ (o : Option (List ℕ)). record before { opens = recounted o endpoint before.opens }) (sym uncounted))
-      (told_is seen aim m.due ∙ sym now) (tt, refl) (sym (ap note_if noted))
-  decides seen (aims (through key authority endpoint)) is whole now noted counts =
-      let aim = through key authority endpoint in
-      let note = verdict_note l 503 (peer_in seen) seen.destination in
-      let over = fronted_by seen aim (m.over cause.NoRoom) y in
-      record {
-        parts = fronted seen before aim ∷ roomless ∷ left (Some note) ∷ [];
-        reached = record { held = h; link = over };
-        leads = (
-          tt,
-          refl,
-          ((at, whole), is),
-          (
-            tt,
-            tt,
-            (refl, refl),
-            (
-              tt,
-              tt,
-              (refl, raw),
-              (
-                refl,
-                counts
-                    ∙ ap
-                    (λ (o : Option (List ℕ)). record before {
-                      opens = recounted (Some endpoint) None (recounted o (Some endpoint) before.opens);
-                    })
-                    (sym uncounted),
-              ),
-            ),
-          ),
-        );
-        shows = shows_so new over (told_is seen aim (m.over cause.NoRoom) ∙ sym now) (raw, tt);
-        noted = sym (ap note_if noted);
-      }
+      → made ≡ decided_note l gets (told_by seen.source.ip seen.destination seen.length z) → behind ≡ counted_for gets before
+      → Reaches IsInner l before (record { held = h; link = y }) new behind made
+  decides seen (aims aim) is whole now noted counts =
+      follows IsInner l before (record { held = h; link = y }) new behind (fronted seen before aim) made tt refl ((at, whole), is)
+      (counts ∙ ap (λ (o : Option (List ℕ)). record before { opens = recounted o (endpoint_of aim) before.opens }) (sym uncounted))
+      (told_is seen aim m.due ∙ sym now) (tt, neither) (straight_on y.door h before seen aim is) (sym (ap note_if noted))
   decides seen (refuses why status) is whole now noted counts =
       let aim = straight_to seen.destination None in
-      follows l before (record { held = h; link = y }) new behind
+      follows IsInner l before (record { held = h; link = y }) new behind
       (refused seen before why status (verdict_note l status (peer_in seen) seen.destination)) made tt refl
       ((at, whole), is, refl) (counts ∙ sym (unmoved y (fronted_by seen aim (m.over why) y) before uncounted))
-      (told_is seen aim (m.over why) ∙ sym now) (raw, tt) (sym (ap note_if noted))
+      (told_is seen aim (m.over why) ∙ sym now) (raw, tt) (λ on. refl) (sym (ap note_if noted))
 
   -- it is over without a note
   ends_early : (why : Cause) → captured_of new ≡ at_stage (m.over why) z
@@ -189,25 +183,25 @@ module _ (l : ℕ) (h : Resources) (before behind : Routing) (y : Captured) (z :
 
   wholly : (seen : Seen) → IsAnswer y.front (Whole seen)
       → IsDecided l h seen before behind z (captured_of new) made ⊎ IsLacked before behind z (captured_of new) made
-      → Reaches l before (record { held = h; link = y }) new behind made
+      → Reaches IsInner l before (record { held = h; link = y }) new behind made
   wholly seen is (inl (now, noted, counts)) =
       decides seen (answer_on z.door h before seen) (ap (λ (c : Captured). answer_on c.door h before seen) same) is now noted counts
   wholly seen is (inr (now, noted, counts)) =
-      follows l before (record { held = h; link = y }) new behind lacked made tt tt
+      follows IsInner l before (record { held = h; link = y }) new behind lacked made tt tt
       (subst (λ (s : Stage). Lacks s y) (sym at) (seen, is))
       (counts ∙ sym (unmoved y (ends_for cause.NoMemory y) before (uncounted ∙ sym (early_counts cause.NoMemory))))
-      (ends_early cause.NoMemory now) (early_rests cause.NoMemory) (sym (ap note_if noted))
+      (ends_early cause.NoMemory now) (early_rests cause.NoMemory) straight (sym (ap note_if noted))
 
   pub fronts : (reading : Reading) → IsAnswer y.front reading → Fronts l h before behind reading z (captured_of new) made
-      → Reaches l before (record { held = h; link = y }) new behind made
+      → Reaches IsInner l before (record { held = h; link = y }) new behind made
   fronts More is (now, noted, counts) =
-      rests l before (record { held = h; link = y }) new behind made counts (same ∙ sym now)
-      (subst (λ (s : Stage). RestsBy s y) (sym at) (is, tt)) noted
+      rests IsInner l before (record { held = h; link = y }) new behind made counts (same ∙ sym now)
+      (subst (λ (s : Stage). RestsBy s y) (sym at) (is, neither)) straight noted
   fronts (Fault fault) is (now, noted, counts) =
       let why = cause.FrontFault (number_of fault) in
-      follows l before (record { held = h; link = y }) new behind (misfronted fault) made tt tt (at, is)
+      follows IsInner l before (record { held = h; link = y }) new behind (misfronted fault) made tt tt (at, is)
       (counts ∙ sym (unmoved y (ends_for why y) before (uncounted ∙ sym (early_counts why))))
-      (ends_early why now) (early_rests why) (sym (ap note_if noted))
+      (ends_early why now) (early_rests why) straight (sym (ap note_if noted))
   fronts (Whole seen) is made_so = wholly seen is made_so
 
 pub comes_front : (held : Resources) (before behind : Routing) (old new : Relay) (bytes : List ℕ) (made : Option Note)
@@ -224,12 +218,13 @@ comes_front held before behind old new bytes made is takes = record {
       let most : length bytes ≤ longest_front - length x.front =
       subst (λ (n : ℕ). length bytes ≤ n) (ap (λ (s : Stage). wants_by s x) at) may.2.2 in
       let front_is : x.front ≡ old.front = ap (λ (c : Captured). c.front) shows.same in
-      subst (λ (z : Captured). Reaches old.number (rerouted x z before) (record { held = a.held; link = z }) new behind made)
+      subst (λ (z : Captured). Reaches IsInner old.number (rerouted x z before) (record { held = a.held; link = z }) new behind made)
       (sym (ap (λ (s : Stage). came_by s bytes x) at))
-      (subst (λ (r : Routing). Reaches old.number r (record { held = a.held; link = y }) new behind made)
+      (subst (λ (r : Routing). Reaches IsInner old.number r (record { held = a.held; link = y }) new behind made)
       (sym (unmoved x y before refl))
       (fronts old.number a.held before behind y (captured_of (record old { front = old.front ++ bytes })) new made at
-      (ap (λ (c : Captured). record c { front = c.front ++ bytes }) shows.same) (raw_is old x shows.same) early.none early.going
+      (ap (λ (c : Captured). record c { front = c.front ++ bytes }) shows.same) (upstream_at old x shows m.fronting at) shows.straight
+      early.none early.going
       (omega (arith, length-append x.front bytes, most, early.short)) takes.answer
       (subst (λ (bs : List ℕ). IsAnswer (bs ++ bytes) takes.answer) (sym front_is) takes.is)
       (subst (λ (g : Resources). Fronts old.number g before behind takes.answer (captured_of (record old { front = old.front ++ bytes }))

@@ -10,10 +10,10 @@ use Rattle.hb_captured.specs.Captured.{Captured, Stage, ends_by, ends_for}
 use Rattle.hb_captured.specs.Part.{Part, entry, up, welcomed, crowded, lacked, misfronted, fronted, refused, accepted, roomless, asked, hears, put, finished, credited, loosed, completed, left, done, applied, stopped, notes}
 use Rattle.hb_captured.specs.Runs.{Local, Lacks, left_note, end_note}
 use Rattle.hb_relay.specs.declared.relay.Relay.{Relay}
-use Rattle.hb_relay.specs.Reaches.{Leads}
+use Rattle.hb_relay.specs.Reaches.{IsInner, Leads}
 use Rattle.hb_relay.specs.Refused.{LivesEarly, DropsBytes, GoesOnDone, NotesLater, FailsLater, EndsUntold, NewIsShown}
 use Rattle.hb_relay.specs.Shows.{Shows, stage_of}
-use Rattle.hb_relay.proofs.Reached.{stage_is, raw_is, shows_so}
+use Rattle.hb_relay.proofs.Reached.{stage_is, shows_so}
 
 pub lives_early : LivesEarly
 lives_early k x lives opens shows =
@@ -23,9 +23,9 @@ pub drops_bytes : DropsBytes
 drops_bytes k x other shows = other (sym (ap (λ (y : Captured). y.ways) shows.same))
 
 pub goes_on_done : GoesOnDone
-goes_on_done k x lives through shows =
+goes_on_done k x lives raw through shows =
     let calm : m.is_through x ≡ false =
-    ap (λ (b : Bool). b && m.is_through x) (sym (raw_is k x shows.same)) ∙ subst (λ (s : Stage). IsCalmBy s x) lives shows.calm in
+    ap (λ (b : Bool). b && m.is_through x) (sym raw) ∙ subst (λ (s : Stage). IsCalmBy s x) lives shows.calm in
     false≢true (sym calm ∙ through)
 
 pub notes_later : NotesLater
@@ -35,7 +35,7 @@ pub fails_later : FailsLater
 fails_later k x why is shows = subst (λ (s : Stage). IsCalmBy s x) is shows.calm
 
 pub new_is_shown : NewIsShown
-new_is_shown k is = shows_so k (m.at_stage m.fronting m.no_link) (sym is) ((refl, omega arith), tt)
+new_is_shown k is = shows_so k (m.at_stage m.fronting m.no_link) (sym is) ((refl, omega arith), (refl, refl)) (λ on. refl)
 
 -- from an end that is still to be noted only its note leads on
 module _ (l : ℕ) (held : Resources) (x : Captured) (k : Relay) (why : Cause) (lives : x.stage ≡ m.live) where
@@ -43,7 +43,7 @@ module _ (l : ℕ) (held : Resources) (x : Captured) (k : Relay) (why : Cause) (
   ended_is = ap (ends_by why) lives
 
   untold : (parts : List Part) (routing : Routing) (b : Local) (behind : Routing)
-      → Leads l routing (record { held = held; link = ends_for why x }) parts b behind → Shows k b.link → notes parts ≡ [] → ⊥
+      → Leads IsInner l routing (record { held = held; link = ends_for why x }) parts b behind → Shows k b.link → notes parts ≡ [] → ⊥
   untold [] routing b behind leads shows none =
       subst (λ (s : Stage). IsCalmBy s (ends_for why x)) ended_is (subst (λ (c : Local). IsCalm c.link) leads.0 shows.calm)
   untold (left made ∷ parts) routing b behind (inner, routed, may, more) shows none =
@@ -66,13 +66,12 @@ module _ (l : ℕ) (held : Resources) (x : Captured) (k : Relay) (why : Cause) (
       (let both : m.ended why ≡ m.fronting = sym ended_is ∙ may.0.0 in cc)
   untold (accepted made ∷ parts) routing b behind (inner, routed, may, more) shows none =
       (let both : m.ended why ≡ m.accepting = sym ended_is ∙ may.0 in cc)
-  untold (roomless ∷ parts) routing b behind (inner, routed, may, more) shows none =
-      (let both : m.ended why ≡ m.due = sym ended_is ∙ may.0 in cc)
   untold (done made ∷ parts) routing b behind (inner, routed, may, more) shows none =
       (let both : m.ended why ≡ m.live = sym ended_is ∙ may.0 in cc)
   untold (entry z ∷ parts) routing b behind (inner, routed, may, more) shows none = absurd inner
   untold (up z ∷ parts) routing b behind (inner, routed, may, more) shows none = absurd inner
   untold (crowded ∷ parts) routing b behind (inner, routed, may, more) shows none = absurd inner
+  untold (roomless ∷ parts) routing b behind (inner, routed, may, more) shows none = absurd inner
   untold (asked gate stream ∷ parts) routing b behind (inner, routed, may, more) shows none = absurd inner
   untold (hears heard begun ∷ parts) routing b behind (inner, routed, may, more) shows none = absurd inner
   untold (put bytes ∷ parts) routing b behind (inner, routed, may, more) shows none = absurd inner

@@ -3,7 +3,7 @@ use Rattle.std.specs.Prelude.{◌≡◌, ◌⊎◌, ℕ, List, Option, Some, Non
 use Rattle.hb_world.specs.declared.act.Act.{Act}
 use Rattle.hb_world.specs.declared.act.Act.TheVariants as act
 use Rattle.hb_world.specs.declared.entry.Entry.TheVariants as e
-use Rattle.hb_captured.specs.Answer.{address_of, key_of, why_for}
+use Rattle.hb_captured.specs.Answer.{address_of, why_for}
 use Rattle.hb_captured.specs.Calm.{IsIdleBy, wants, up_wants, output, up_output}
 use Rattle.hb_captured.specs.Captured.{Captured, due}
 use Rattle.hb_captured.specs.Part.{Part, entry, up}
@@ -15,15 +15,14 @@ use Rattle.hb_relay.specs.Shows.{Shows, captured_of}
 abbrev pub Does : Part → Relay → Relay → Type 0
 Does p old new = (a : Local) → Shows old a.link → MayGo old.number a p × Shows new (next a p).link
 
--- A dial is due until its answer is told. A shut or a close counts as done: the upstream's, or the link's own, whose upstream is closed
--- then
+-- A dial is due until its answer is told, that of its gateway also until a stream is asked for. A shut or a close counts as done: the
+-- upstream's, or the link's own, whose upstream is closed then
 abbrev pub Acts : Option Act → Relay → Relay → Type 0
 Acts None old new =
     (captured_of new ≡ captured_of old) × ((x : Captured) → Shows old x → IsIdleBy x.stage x)
 Acts (Some (act.Dial to why)) old new =
     (captured_of new ≡ captured_of old)
-    × ((x : Captured) → Shows old x → (x.stage ≡ due) × (key_of x.aim ≡ None) × (to ≡ address_of x.aim)
-    × (why ≡ why_for x.aim x.door old.number))
+    × ((x : Captured) → Shows old x → (x.stage ≡ due) × (to ≡ address_of x.aim) × (why ≡ why_for x.aim x.door old.number))
 Acts (Some (act.Shut u)) old new =
     ((u ≡ old.number) × Does (entry (e.Shut u)) old new) ⊎ Does (up (e.Shut u)) old new
 Acts (Some (act.Close u why)) old new =

@@ -11,9 +11,9 @@ use Rattle.hb_world.specs.declared.entry.Entry.TheVariants as e
 use Rattle.hb_captured.specs.Answer.{Routing}
 use Rattle.hb_captured.specs.Captured.{no_link}
 use Rattle.hb_captured.specs.Part.{Part, entry, up, crowded, applied, stopped}
-use Rattle.hb_captured.specs.Runs.{Local, MayGo, next, StandsFor}
+use Rattle.hb_captured.specs.Runs.{Local, MayGo, next, StandsFor, counted}
 use Rattle.hb_relay.specs.declared.relay.Relay.{Relay}
-use Rattle.hb_relay.specs.Reaches.{Reaches, Meets}
+use Rattle.hb_relay.specs.Reaches.{Inner, IsInner, leaving, Reaches, MeetsBy, Meets}
 use Rattle.hb_relay.specs.Shows.{Shows}
 
 abbrev pub any : Resources → Type 0
@@ -25,6 +25,11 @@ Enters x old before new behind made = Meets any (entry x) old before new behind 
 
 abbrev pub UpEnters : Entry → Relay → Routing → Relay → Routing → Option Note → Type 0
 UpEnters x old before new behind made = Meets any (up x) old before new behind made
+
+-- so it is where it leaves its stream, of whose bytes so many have begun to go, as far as notes tell them
+abbrev pub EntersLeaving : ℕ → Entry → Relay → Routing → Relay → Routing → Option Note → Type 0
+EntersLeaving begun x old before new behind made =
+    (n : ℕ) → counted n ≡ begun → MeetsBy (leaving n) any (entry x) old before new behind made
 
 -- so it is whatever the counts are, which stay
 abbrev pub UpEntersStill : Entry → Relay → Relay → Option Note → Type 0
@@ -44,21 +49,21 @@ UpGoes n old before new behind made =
     (u : ℕ) (bytes : List ℕ) → length bytes ≡ n → UpEnters (e.Went u bytes) old before new behind made
 
 -- what is told to all links at once leads on from there, whatever was counted: a response made this of what was held; the run ends
-pub record Follows (P : Resources → Type 0) (p : Part) (old new : Relay) (made : Option Note) : Type 0 where
+pub record Follows (I : Inner) (P : Resources → Type 0) (p : Part) (old new : Relay) (made : Option Note) : Type 0 where
   pub number : new.number ≡ old.number
   pub reaches : (start : Resources) (before : List Part) (a : Local) (routing : Routing) → StandsFor old.number start a before
-      → Shows old a.link → P a.held → MayGo old.number a p → Reaches old.number routing (next a p) new routing made
+      → Shows old a.link → P a.held → MayGo old.number a p → Reaches I old.number routing (next a p) new routing made
 
 abbrev pub Updates : Resources → Relay → Relay → Option Note → Type 0
-Updates held old new made = (r : Response) → Follows (λ h. held ≡ after_response h r) (applied r) old new made
+Updates held old new made = (r : Response) → Follows IsInner (λ h. held ≡ after_response h r) (applied r) old new made
 
-abbrev pub Stops : Cause → Relay → Relay → Option Note → Type 0
-Stops cause old new made = Follows any (stopped cause) old new made
+abbrev pub StopsLeaving : ℕ → Cause → Relay → Relay → Option Note → Type 0
+StopsLeaving begun cause old new made = (n : ℕ) → counted n ≡ begun → Follows (leaving n) any (stopped cause) old new made
 
 -- a link is born at a door, and makes no note
 abbrev pub Begins : Door → ℕ → Relay → Type 0
 Begins d l k =
-    (a : Local) (routing : Routing) → a.link ≡ no_link → Reaches l routing (next a (entry (e.Accepted l d))) k routing None
+    (a : Local) (routing : Routing) → a.link ≡ no_link → Reaches IsInner l routing (next a (entry (e.Accepted l d))) k routing None
 
 -- a link is born where as many are open as may be: it is turned away, and makes no note
 abbrev pub TurnsAway : Door → ℕ → Relay → Type 0

@@ -1,14 +1,24 @@
 -- What an end makes of a link, and what is noted of it. No public clause cites this file.
-use Rattle.std.specs.Prelude.{ℕ, Option, Some, None}
+use Rattle.std.specs.Prelude.{ℕ, Option, Some, None, if◌then◌else◌}
 use Rattle.hb_base.specs.declared.cause.Cause.{Cause}
 use Rattle.hb_base.specs.declared.note.Note.{Note}
 use Rattle.hb_base.specs.declared.note.Note.TheVariants as note
-use Rattle.hb_captured.specs.Captured.{Captured, Stage, due, opening, live, at_stage, ends_by, left_by}
+use Rattle.hb_captured.specs.Answer.{Routing}
+use Rattle.hb_captured.specs.Captured.{Captured, Stage, due, opening, live, at_stage, counts_for, ends_by, is_raw, left_behind, left_by}
+use Rattle.hb_captured.specs.Counts.{recounted}
 use Rattle.hb_captured.specs.Runs.{verdict_note, note_of, failure_status}
 
 -- it ends, and that is noted at once
 abbrev pub ended_now : Cause → Captured → Captured
 ended_now cause x = at_stage (left_by (ends_by cause x.stage)) x
+
+-- it leaves its stream, where it has one, behind so many bytes
+abbrev pub unstreamed : ℕ → Captured → Captured
+unstreamed begun x = if is_raw x then x else left_behind begun x
+
+-- it counts for its endpoint no longer
+abbrev pub uncounted : Captured → Routing → Routing
+uncounted x routing = record routing { opens = recounted (counts_for x) None routing.opens }
 
 -- its notes, of counts that are told already
 abbrev pub verdict_at : (l status : ℕ) → Captured → Note

@@ -2,9 +2,12 @@ pub mod Acts
 pub mod Answering
 pub mod Calls
 pub mod Ending
+pub mod Lending
 pub mod Moving
 pub mod Reaches
 pub mod Refused
 pub mod Rings
 pub mod RingsAt
 pub mod Shows
+pub mod StreamRefused
+pub mod Streamed

@@ -1,5 +1,5 @@
 -- What the own steps of a call make of a link. No public clause cites this file.
-use Rattle.std.specs.Prelude.{◌≡◌, ◌⊎◌, ℕ, ◌+◌, not, true, nat_le, if◌then◌else◌, [], length, drop, Option, Some, None}
+use Rattle.std.specs.Prelude.{◌≡◌, ◌⊎◌, ℕ, ◌+◌, ◌&&◌, not, Bool, true, false, nat_le, if◌then◌else◌, [], length, drop, Option, Some, None}
 use Rattle.hb_base.specs.declared.cause.Cause.TheVariants as cause
 use Rattle.hb_base.specs.declared.note.Note.{Note}
 use Rattle.hb_front.specs.Faults.{number_of}
@@ -8,10 +8,10 @@ use Rattle.hb_held.specs.Held.{Resources}
 use Rattle.hb_tunnel.specs.Way.{after, takes}
 use Rattle.hb_world.specs.declared.act.Act.{Act}
 use Rattle.hb_world.specs.declared.act.Act.TheVariants as act
-use Rattle.hb_captured.specs.Answer.{Aim, straight_to, through, Answer, aims, refuses, Routing, answer_on, address_of, why_for}
-use Rattle.hb_captured.specs.Captured.{Captured, Stage, due, live, over, at_stage, ring_up, may_shut_up, may_shut, is_through}
+use Rattle.hb_captured.specs.Answer.{straight_to, Answer, aims, refuses, Routing, answer_on, address_of, why_for}
+use Rattle.hb_captured.specs.Captured.{Captured, Stage, due, live, over, at_stage, ring_up, is_raw, may_shut_up, may_shut, is_through}
 use Rattle.hb_captured.specs.Runs.{counted}
-use Rattle.hb_relay.specs.Answering.{counted_for, left_for}
+use Rattle.hb_relay.specs.Answering.{counted_for}
 use Rattle.hb_relay.specs.Ending.{end_at, verdict_at}
 use Rattle.hb_relay.specs.Rings.{pushed}
 use Rattle.hb_relay.specs.Shows.{captured_of}
@@ -21,14 +21,14 @@ use Rattle.hb_base.specs.declared.target.Target.{Target}
 
 -- where both sides ended and all went it is done, and that is noted
 abbrev pub settled_by : Stage → Captured → Captured
-settled_by live x = if is_through x then at_stage (over cause.Done) x else x
+settled_by live x = if is_raw x && is_through x then at_stage (over cause.Done) x else x
 settled_by stage x = x
 
 abbrev pub settled : Captured → Captured
 settled x = settled_by x.stage x
 
 abbrev pub note_by : ℕ → Stage → Captured → Option Note
-note_by l live x = if is_through x then Some (end_at l cause.Done x) else None
+note_by l live x = if is_raw x && is_through x then Some (end_at l cause.Done x) else None
 note_by l stage x = None
 
 -- the header told this; the bytes behind it go up
@@ -40,33 +40,21 @@ told_by source target length x = record x {
   ways = record x.ways { up = pushed (ring_up x.door) (drop length x.front) x.ways.up };
 }
 
--- it gets its answer: where that is by a gateway no link has room for it
-abbrev pub aimed_by : Aim → Captured → Captured
-aimed_by (straight_to to endpoint) x = record x { stage = due; aim = straight_to to endpoint }
-aimed_by (through key authority endpoint) x = record x { stage = over cause.NoRoom; aim = through key authority endpoint }
-
+-- it gets its answer
 abbrev pub decided_by : Answer → Captured → Captured
-decided_by (aims aim) x = aimed_by aim x
+decided_by (aims aim) x = record x { stage = due; aim = aim }
 decided_by (refuses why status) x = record x { stage = over why; aim = straight_to x.target None }
 
-abbrev pub aimed_note : ℕ → Aim → Captured → Option Note
-aimed_note l (straight_to to endpoint) x = None
-aimed_note l (through key authority endpoint) x = Some (verdict_at l 503 x)
-
 abbrev pub decided_note : ℕ → Answer → Captured → Option Note
-decided_note l (aims aim) x = aimed_note l aim x
+decided_note l (aims aim) x = None
 decided_note l (refuses why status) x = Some (verdict_at l status x)
-
--- behind the count of its answer it is left where it isn't a connection any more
-abbrev pub decided_for : Answer → Routing → Routing
-decided_for given routing = left_for given (counted_for given routing)
 
 -- the header is whole: it gets its answer, or memory is wanting for that
 abbrev pub IsDecided : ℕ → Resources → Seen → Routing → Routing → Captured → Captured → Option Note → Type 0
 IsDecided l held seen before behind old new made =
     (new ≡ decided_by (answer_on old.door held before seen) (told_by seen.source.ip seen.destination seen.length old))
     × (made ≡ decided_note l (answer_on old.door held before seen) (told_by seen.source.ip seen.destination seen.length old))
-    × (behind ≡ decided_for (answer_on old.door held before seen) before)
+    × (behind ≡ counted_for (answer_on old.door held before seen) before)
 
 abbrev pub IsLacked : Routing → Routing → Captured → Captured → Option Note → Type 0
 IsLacked before behind old new made = (new ≡ at_stage (over cause.NoMemory) old) × (made ≡ None) × (behind ≡ before)
@@ -85,12 +73,24 @@ pub record TakesFront (held : Resources) (before behind : Routing) (old new : Re
   pub is : IsAnswer old.front answer
   pub fronts : Fronts old.number held before behind answer (captured_of old) (captured_of new) made
 
+-- it lives, on a stream
+abbrev pub is_live : Stage → Bool
+is_live live = true
+is_live stage = false
+
+abbrev pub on_stream : Captured → Bool
+on_stream x = not (is_raw x) && is_live x.stage
+
 -- so many were written, which are counted as far as notes tell them
 abbrev pub took_up : ℕ → Captured → Captured
 took_up n x = record x { ways = record x.ways { up = after x.ways.up (takes n) }; went_up = counted (x.went_up + n) }
 
 abbrev pub took_down : ℕ → Captured → Captured
-took_down n x = record x { ways = record x.ways { down = after x.ways.down (takes n) }; went_down = counted (x.went_down + n) }
+took_down n x = record x {
+  ways = record x.ways { down = after x.ways.down (takes n) };
+  owed = if is_raw x then x.owed else counted (x.owed + n);
+  went_down = counted (x.went_down + n);
+}
 
 -- the act that is due, and what it makes of the link
 abbrev pub act_by : ℕ → Stage → Captured → Option Act

@@ -3,10 +3,10 @@ use Rattle.std.specs.Prelude.{◌≡◌, ◌≢◌, ℕ, true, None}
 use Rattle.hb_base.specs.declared.cause.Cause.{Cause}
 use Rattle.hb_held.specs.Held.{Resources}
 use Rattle.hb_captured.specs.Answer.{Routing}
-use Rattle.hb_captured.specs.Captured.{Captured, fronting, opening, accepting, live, failed, no_link, at_stage, ends_for, is_through}
+use Rattle.hb_captured.specs.Captured.{Captured, fronting, opening, accepting, live, failed, no_link, at_stage, ends_for, is_raw, is_through}
 use Rattle.hb_relay.specs.declared.relay.Relay.{Relay}
 use Rattle.hb_relay.specs.declared.stage.Stage.TheVariants.{Live}
-use Rattle.hb_relay.specs.Reaches.{Reaches}
+use Rattle.hb_relay.specs.Reaches.{IsInner, Reaches}
 use Rattle.hb_relay.specs.Shows.{Shows, captured_of}
 
 -- one whose upstream isn't open, as one that lives
@@ -17,9 +17,9 @@ LivesEarly = (k : Relay) (x : Captured) → k.stage ≡ Live → x.stage ≡ ope
 abbrev pub DropsBytes : Type 0
 DropsBytes = (k : Relay) (x : Captured) → k.ways.ways ≢ x.ways → Shows k x → ⊥
 
--- one that is done, and goes on
+-- one that is done, on no stream, and goes on
 abbrev pub GoesOnDone : Type 0
-GoesOnDone = (k : Relay) (x : Captured) → x.stage ≡ live → is_through x ≡ true → Shows k x → ⊥
+GoesOnDone = (k : Relay) (x : Captured) → x.stage ≡ live → is_raw x ≡ true → is_through x ≡ true → Shows k x → ⊥
 
 -- one whose opening, or whose end, is still to be noted
 abbrev pub NotesLater : Type 0
@@ -31,7 +31,7 @@ FailsLater = (k : Relay) (x : Captured) (why : Cause) → x.stage ≡ failed why
 -- the end of one that lived isn't told
 abbrev pub EndsUntold : Type 0
 EndsUntold = (l : ℕ) (held : Resources) (x : Captured) (k : Relay) (why : Cause) (before behind : Routing) → x.stage ≡ live
-    → Reaches l before (record { held = held; link = ends_for why x }) k behind None → ⊥
+    → Reaches IsInner l before (record { held = held; link = ends_for why x }) k behind None → ⊥
 
 -- one that was taken in just now is shown by one without bytes
 abbrev pub NewIsShown : Type 0

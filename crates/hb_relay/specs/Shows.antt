@@ -1,10 +1,11 @@
 -- Which machines a link of the code shows.
-use Rattle.std.specs.Prelude.{⊤, ◌≡◌, ◌<◌, ℕ, None}
-use Rattle.hb_captured.specs.Answer.{Aim, key_of}
+use Rattle.std.specs.Prelude.{⊤, ◌≡◌, ◌<◌, ℕ, true, Option, Some, None}
+use Rattle.hb_captured.specs.Answer.{key_of}
 use Rattle.hb_captured.specs.Calm.{IsCalm}
 use Rattle.hb_captured.specs.Captured as m
-use Rattle.hb_captured.specs.Captured.{Captured}
+use Rattle.hb_captured.specs.Captured.{Captured, judges}
 use Rattle.hb_captured.specs.Runs.{counted}
+use Rattle.hb_gateway.specs.Key.{Key}
 use Rattle.hb_relay.specs.Answering.{aim_as}
 use Rattle.hb_relay.specs.declared.relay.Relay.{Relay}
 use Rattle.hb_relay.specs.declared.stage.Stage.{Stage}
@@ -17,7 +18,7 @@ stage_of Opening = m.opening
 stage_of Live = m.live
 stage_of (Over cause) = m.over cause
 
--- a link of the code in the machine's words: it has no stream of a link to a gateway
+-- a link of the code in the machine's words
 abbrev pub captured_of : Relay → Captured
 captured_of k = record {
   door = k.ways.door;
@@ -27,10 +28,10 @@ captured_of k = record {
   target = k.target;
   aim = aim_as k.aim;
   up = k.up;
-  gate = 0;
-  stream = 0;
+  gate = k.gate;
+  stream = k.gate_stream;
   ways = k.ways.ways;
-  owed = 0;
+  owed = k.owed;
   went_up = k.went_up;
   went_down = k.went_down;
   up_shut = k.up_shut;
@@ -40,25 +41,30 @@ captured_of k = record {
 
 -- one of the machine, its bytes counted as far as notes tell them
 abbrev pub as_told : Captured → Captured
-as_told x = record x { went_up = counted x.went_up; went_down = counted x.went_down }
+as_told x = record x { owed = counted x.owed; went_up = counted x.went_up; went_down = counted x.went_down }
 
--- what is due of it isn't a link to a gateway
-abbrev pub GoesStraight : Stage → Aim → Type 0
-GoesStraight Due aim = key_of aim ≡ None
-GoesStraight stage aim = ⊤
+-- one that opens or lives has an upstream, or a stream where its way leads by a gateway; before that it has neither
+abbrev pub HasOne : Option Key → (up gate : ℕ) → Type 0
+HasOne None up gate = (0 < up) × (gate ≡ 0)
+HasOne (Some key) up gate = (up ≡ 0) × (0 < gate)
 
--- one that opens or lives has an upstream
-abbrev pub HasUpstream : Stage → ℕ → Type 0
-HasUpstream Opening up = 0 < up
-HasUpstream Live up = 0 < up
-HasUpstream stage up = ⊤
+abbrev pub HasUpstream : m.Stage → Option Key → (up gate : ℕ) → Type 0
+HasUpstream m.fronting key up gate = (up ≡ 0) × (gate ≡ 0)
+HasUpstream m.due key up gate = (up ≡ 0) × (gate ≡ 0)
+HasUpstream m.opening key up gate = HasOne key up gate
+HasUpstream m.live key up gate = HasOne key up gate
+HasUpstream stage key up gate = ⊤
+
+-- where peers are judged no way leads by a gateway
+abbrev pub IsStraight : Captured → Type 0
+IsStraight x = judges x.door ≡ true → key_of x.aim ≡ None
 
 -- between two calls: it is that, and nothing more happens by itself
 pub record Shows (k : Relay) (x : Captured) : Type 0 where
   pub same : as_told x ≡ captured_of k
   pub calm : IsCalm x
-  pub straight : GoesStraight k.stage (aim_as k.aim)
-  pub upstream : HasUpstream k.stage k.up
+  pub upstream : HasUpstream x.stage (key_of x.aim) x.up x.gate
+  pub straight : IsStraight x
 
 -- a call makes this of it
 pub record Becomes (change : Captured → Captured) (old new : Relay) : Type 0 where

@@ -16,7 +16,7 @@ impl Relay {
     fn may_shut_up(&self) -> bool
         ensures { result ≡ may_shut_up (captured_of self.now) }
     {
-        self.ways.up_done() && !self.up_shut
+        self.gate == 0 && self.ways.up_done() && !self.up_shut
     }
 
     /// The link's sending side may be shut.

@@ -2,15 +2,28 @@
 
 ghost use Rattle.std.specs.Prelude.{◌≡◌, IfOk};
 ghost use Rattle.std.specs.Option.{option_map};
-ghost use Rattle.hb_captured.specs.Answer.{address_of, endpoint_of, key_for, why_for};
+ghost use Rattle.hb_captured.specs.Answer.{address_of, domain_of, endpoint_of, key_for, why_for};
 ghost use Rattle.hb_gateway.specs.Keys.{key_as};
-ghost use Rattle.hb_relay.specs.Answering.{aim_as};
+ghost use Rattle.hb_relay.specs.Answering.{aim_as, through_of, wanted_as};
 
 use hb_base::{Door, Identity, Ip, NoMemory, Target, Text, Why};
 use hb_front::may_be_sent;
 use hb_gateway::Key;
 use hb_held::Held;
+use hb_records::Workload;
 use std::alloc::Global;
+
+/// The trust domain of a workload: `cluster.local` where it names none.
+///
+/// Errors: `NoMemory`.
+fn trust_domain_of(alloc: Global, workload: &Workload) -> Result<Text, NoMemory>
+    ensures { IfOk result (λ domain. domain ≡ domain_of workload.now.trust_domain) }
+{
+    if !workload.trust_domain.as_slice().is_empty() {
+        return workload.trust_domain.copy(alloc);
+    }
+    Text::of_str(alloc, "cluster.local")
+}
 
 /// The key of the link to a gateway that a source takes, by the workload of this node that it is.
 ///
@@ -31,7 +44,7 @@ pub(crate) fn key_for(
         });
     };
     let identity = Identity {
-        trust_domain: found.workload.trust_domain.copy(alloc)?,
+        trust_domain: trust_domain_of(alloc, found.workload)?,
         namespace: found.workload.namespace.copy(alloc)?,
         service_account: found.workload.service_account.copy(alloc)?,
     };
@@ -71,6 +84,16 @@ impl Aim {
         match self {
             Aim::Straight { to, .. } => *to,
             Aim::Through { key, .. } => key.gateway,
+        }
+    }
+
+    /// For whom a stream is to be asked for, and for which authority. `None` where none is.
+    pub fn through(&self) -> Option<(&Key, Target)>
+        ensures { wanted_as (option_map (λ at. (at.0.now, at.1)) result) ≡ through_of (aim_as self.now) }
+    {
+        match self {
+            Aim::Straight { .. } => None,
+            Aim::Through { key, authority, .. } => Some((key, *authority)),
         }
     }
 

@@ -2,7 +2,7 @@
 
 ghost use Rattle.std.specs.Prelude.{◌≡◌, IfOk, OnOk, OnErr};
 ghost use Rattle.std.specs.Option.{option_map};
-ghost use Rattle.hb_captured.specs.Answer.{refused_with, verdict_for, way_for, by_verdict, by_way, routed, answer};
+ghost use Rattle.hb_captured.specs.Answer.{refused_with, verdict_for, by_verdict, by_way, routed, answer};
 ghost use Rattle.hb_route.specs.Answer.{way_as};
 ghost use Rattle.hb_relay.specs.Answering.{answer_as, routing_of, counted_for};
 

@@ -5,7 +5,7 @@ ghost use Rattle.hb_captured.specs.Runs.{failure_status};
 ghost use Rattle.hb_relay.specs.Shows.{captured_of, stage_of, Becomes};
 ghost use Rattle.hb_relay.specs.Answering.{routing_of};
 ghost use Rattle.hb_relay.specs.Reaches.{rerouted};
-ghost use Rattle.hb_relay.specs.Ending.{ended_now, note_at, verdict_at, end_at};
+ghost use Rattle.hb_relay.specs.Ending.{ended_now, note_at, verdict_at, end_at, unstreamed, uncounted};
 
 use crate::relay::Relay;
 use crate::routes::Routes;
@@ -78,15 +78,40 @@ impl Relay {
         note
     }
 
-    /// The same, where it counts as a connection of its endpoint no longer.
-    pub(crate) fn leave_for(&mut self, cause: Cause, routes: &mut Routes) -> Option<Note>
-        ensures note { result ≡ note_at self.old.number cause (captured_of self.old) (stage_of self.old.stage) }
-        ensures after { Becomes (ended_now cause) self.old self.new }
-        ensures counts { routing_of routes.new ≡ rerouted (captured_of self.old) (captured_of self.new) (routing_of routes.old) }
+    /// It leaves its stream, where it has one, of whose bytes so many have begun to go there.
+    pub(crate) fn leave_stream(&mut self, begun: u64)
+        ensures { Becomes (unstreamed begun) self.old self.new }
+    {
+        if self.gate != 0 {
+            self.gate = 0;
+            self.gate_stream = 0;
+            self.went_up = begun;
+        }
+    }
+
+    /// The same, and it counts as a connection of its endpoint no longer.
+    pub(crate) fn leave(&mut self, begun: u64, routes: &mut Routes)
+        ensures after { Becomes (unstreamed begun) self.old self.new }
+        ensures counts { routing_of routes.new ≡ uncounted (captured_of self.old) (routing_of routes.old) }
     {
         if self.stage.is_judged() {
             routes.uncount(&self.aim);
         }
+        self.leave_stream(begun);
+    }
+
+    /// It leaves its stream, counts as a connection no longer, and ends for a cause, where it hasn't, which is noted.
+    pub(crate) fn leave_for(
+        &mut self,
+        cause: Cause,
+        begun: u64,
+        routes: &mut Routes,
+    ) -> Option<Note>
+        ensures note { result ≡ note_at self.old.number cause (unstreamed begun (captured_of self.old)) (stage_of self.old.stage) }
+        ensures after { Becomes (λ x. ended_now cause (unstreamed begun x)) self.old self.new }
+        ensures counts { routing_of routes.new ≡ rerouted (captured_of self.old) (captured_of self.new) (routing_of routes.old) }
+    {
+        self.leave(begun, routes);
         self.end_for(cause)
     }
 }

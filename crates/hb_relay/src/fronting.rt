@@ -1,8 +1,8 @@
 //! The front header, and what it gets.
 
 ghost use Rattle.std.specs.Prelude.{◌≡◌, ◌≤◌, ◌-◌, ◌++◌, length};
-ghost use Rattle.hb_captured.specs.Calm.{longest_front};
-ghost use Rattle.hb_relay.specs.Answering.{answer_as, routing_of, left_for};
+ghost use Rattle.hb_front.specs.Room.{longest_front};
+ghost use Rattle.hb_relay.specs.Answering.{answer_as, routing_of};
 ghost use Rattle.hb_relay.specs.Moving.{told_by, decided_by, decided_note, TakesFront};
 ghost use Rattle.hb_relay.specs.Shows.{captured_of, Becomes};
 
@@ -27,26 +27,16 @@ impl Relay {
         self.front.clear();
     }
 
-    /// It gets its answer: an address is to be dialled, or it is refused, which is noted. No link to a gateway has room, and none may be
-    /// dialled: so it is where its way leads by one.
-    fn decide(&mut self, answer: Answer, routes: &mut Routes) -> Option<Note>
+    /// It gets its answer: its bytes are to go somewhere, or it is refused, which is noted.
+    fn decide(&mut self, answer: Answer) -> Option<Note>
         ensures note { result ≡ decided_note self.old.number (answer_as answer) (captured_of self.old) }
         ensures after { Becomes (decided_by (answer_as answer)) self.old self.new }
-        ensures counts { routing_of routes.new ≡ left_for (answer_as answer) (routing_of routes.old) }
     {
         match answer {
             Answer::Aims(aim) => {
-                let by_gateway = match aim {
-                    Aim::Through { .. } => true,
-                    Aim::Straight { .. } => false,
-                };
                 self.stage = Stage::Due;
                 self.aim = aim;
-                if by_gateway {
-                    self.leave_for(Cause::NoRoom, routes)
-                } else {
-                    None
-                }
+                None
             }
             Answer::Refuses(cause, status) => {
                 self.stage = Stage::Over(cause);
@@ -77,7 +67,7 @@ impl Relay {
                 match answer_counted(self.alloc, door, held, routes, source, target) {
                     Ok(answer) => {
                         self.take_header(source, target, size);
-                        self.decide(answer, routes)
+                        self.decide(answer)
                     }
                     Err(_) => {
                         self.stage = Stage::Over(Cause::NoMemory);

@@ -7,7 +7,6 @@ mod acts;
 mod aim;
 mod answer;
 mod ends;
-mod front;
 mod fronting;
 pub mod laws;
 mod link;
@@ -16,6 +15,7 @@ mod relay;
 mod rings;
 mod routes;
 mod stage;
+mod streamed;
 mod upstream;
 
 pub use aim::Aim;

@@ -5,7 +5,7 @@ ghost use Rattle.hb_world.specs.declared.entry.Entry.TheVariants as e;
 ghost use Rattle.hb_captured.specs.Calm.{wants, output};
 ghost use Rattle.hb_captured.specs.Captured.{judges};
 ghost use Rattle.hb_relay.specs.Answering.{routing_of};
-ghost use Rattle.hb_relay.specs.Calls.{Begins, TurnsAway, Enters, Goes, Stops, Takes, Updates};
+ghost use Rattle.hb_relay.specs.Calls.{Begins, TurnsAway, Enters, EntersLeaving, Goes, StopsLeaving, Takes, Updates};
 ghost use Rattle.hb_relay.specs.Shows.{captured_of};
 
 use crate::relay::Relay;
@@ -80,11 +80,12 @@ impl Relay {
         self.settle(routes)
     }
 
-    /// A call on it failed. The note of its end, `None` where it didn't live.
-    pub fn broke(&mut self, routes: &mut Routes) -> Option<Note>
-        ensures { Enters (e.Broke self.old.number) self.old (routing_of routes.old) self.new (routing_of routes.new) result }
+    /// A call on it failed; so many bytes have begun to go on its stream, which it leaves. The note of its end, `None` where it didn't
+    /// live.
+    pub fn broke(&mut self, begun: u64, routes: &mut Routes) -> Option<Note>
+        ensures { EntersLeaving begun (e.Broke self.old.number) self.old (routing_of routes.old) self.new (routing_of routes.new) result }
     {
-        self.leave_for(Cause::PeerGone, routes)
+        self.leave_for(Cause::PeerGone, begun, routes)
     }
 
     /// A response was applied, which made this of what is held: it ends where peers are judged and its own is no longer admitted.
@@ -109,10 +110,12 @@ impl Relay {
         }
     }
 
-    /// The run ends for this cause. The note of its end, `None` where it didn't live.
-    pub fn stopped(&mut self, cause: Cause) -> Option<Note>
-        ensures { Stops cause self.old self.new result }
+    /// The run ends for this cause; so many bytes have begun to go on its stream, which it leaves. The note of its end, `None` where it
+    /// didn't live.
+    pub fn stopped(&mut self, cause: Cause, begun: u64) -> Option<Note>
+        ensures { StopsLeaving begun cause self.old self.new result }
     {
+        self.leave_stream(begun);
         self.end_for(cause)
     }
 }

@@ -23,8 +23,8 @@ impl Relay {
         ensures counts { routing_of routes.new ≡ rerouted (captured_of self.old) (captured_of self.new) (routing_of routes.old) }
     {
         match self.stage {
-            Stage::Live if self.ways.up_done() && self.ways.down_done() => {
-                self.leave_for(Cause::Done, routes)
+            Stage::Live if self.gate == 0 && self.ways.up_done() && self.ways.down_done() => {
+                self.leave_for(Cause::Done, 0, routes)
             }
             _ => None,
         }
@@ -62,6 +62,9 @@ impl Relay {
         ensures { Becomes (took_down n) self.old self.new }
     {
         self.ways.took_down(n);
+        if self.gate != 0 {
+            self.owed = self.owed.saturating_add(n as u64);
+        }
         self.went_down = self.went_down.saturating_add(n as u64);
     }
 

@@ -8,10 +8,10 @@ ghost use Rattle.hb_relay.specs.Acts.{Wants, UpWants, Holds, UpHolds};
 ghost use Rattle.hb_relay.specs.Shows.{captured_of, stage_of};
 
 use crate::aim::Aim;
-use crate::front::Front;
 use crate::rings::Rings;
 use crate::stage::Stage;
 use hb_base::{Door, Ip, NoMemory, Target};
+use hb_front::FrontBytes;
 use std::alloc::Global;
 
 /// A link of the plain door, or of the outbound one, that was taken in.
@@ -20,7 +20,7 @@ pub struct Relay {
     pub(crate) alloc: Global,
     pub(crate) number: u64,
     pub(crate) stage: Stage,
-    pub(crate) front: Front,
+    pub(crate) front: FrontBytes,
     /// What the front header told: where the peer is, and which target it meant.
     pub(crate) source: Ip,
     pub(crate) target: Target,
@@ -28,6 +28,11 @@ pub struct Relay {
     pub(crate) aim: Aim,
     /// The number of its upstream, 0 before that is dialled and behind its close.
     pub(crate) up: u64,
+    /// Its stream, of the link to a gateway of this number, which is 0 while it has none.
+    pub(crate) gate: u64,
+    pub(crate) gate_stream: u32,
+    /// The bytes written to it that weren't given back to its stream's window.
+    pub(crate) owed: u64,
     /// Its door, and the bytes that wait.
     pub(crate) ways: Rings,
     /// The bytes written to the upstream, and to the link; each stops at 2^64 - 1.
@@ -60,7 +65,7 @@ impl Relay {
             alloc,
             number,
             stage,
-            front: Front::new(alloc)?,
+            front: FrontBytes::new(alloc)?,
             source: Ip::V4(0),
             target: unknown,
             aim: Aim::Straight {
@@ -68,6 +73,9 @@ impl Relay {
                 endpoint: None,
             },
             up: 0,
+            gate: 0,
+            gate_stream: 0,
+            owed: 0,
             ways: Rings::new(alloc, door)?,
             went_up: 0,
             went_down: 0,

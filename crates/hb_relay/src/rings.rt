@@ -1,7 +1,9 @@
 //! The bytes that wait on both ways of a link.
 
 ghost use Rattle.std.specs.Prelude.{◌≡◌, ◌+◌, ◌≤◌, true, length, IfOk};
+ghost use Rattle.std.specs.Borrow.{sem};
 ghost use Rattle.hb_captured.specs.Captured.{ring_up, ring_down};
+ghost use Rattle.hb_relay.specs.Lending.{lends_up};
 ghost use Rattle.hb_relay.specs.Rings.{fresh_rings, pushed};
 ghost use Rattle.hb_tunnel.specs.Way.{takes, ends, after, is_done, IsFront};
 
@@ -148,6 +150,14 @@ impl Rings {
         ensures { IsFront result.now self.now.ways.down.held }
     {
         self.down.head()
+    }
+
+    /// All bytes that wait on the way up, in one piece. A caller that only reads them leaves the rings as they were.
+    pub fn all_up(&mut self) -> &mut [u8]
+        ensures* writes_back { sem 𝓛 (lends_up self.entry result) }
+        ensures value { result.now ≡ self.old.ways.up.held }
+    {
+        self.up.all()
     }
 
     /// The first `n` bytes that waited on the way up were written.

@@ -51,7 +51,7 @@ impl Relay {
         ensures { (to : the_target) (why : the_why)
             → UpEnters (e.DialFailed to why) self.old (routing_of routes.old) self.new (routing_of routes.new) result }
     {
-        self.leave_for(Cause::UpFault, routes)
+        self.leave_for(Cause::UpFault, 0, routes)
     }
 
     /// Its upstream sends no more. The note of its end, `None` where it isn't done.
@@ -66,6 +66,6 @@ impl Relay {
     pub fn up_broke(&mut self, routes: &mut Routes) -> Option<Note>
         ensures { (u : ℕ) → UpEnters (e.Broke u) self.old (routing_of routes.old) self.new (routing_of routes.new) result }
     {
-        self.leave_for(Cause::UpFault, routes)
+        self.leave_for(Cause::UpFault, 0, routes)
     }
 }

@@ -5,5 +5,7 @@ use Rattle.hb_relay.proofs.relay.Relay.up_bytes.Goals as goal
 
 pub returns : goal.returns
 returns c = λ u.
-    comes_down c.args.self.now (record c.args.self.now { ways = c.push_down.new.self }) u c.args.b.now refl
-    (ap (λ w. captured_of (record c.args.self.now { ways = w })) c.push_down.ensures)
+    comes_down c.args.self.now (record c.args.self.now { ways = c.push_down.new.self }) u c.args.b.now (record {
+      number = refl;
+      after = ap (λ w. captured_of (record c.args.self.now { ways = w })) c.push_down.ensures;
+    })

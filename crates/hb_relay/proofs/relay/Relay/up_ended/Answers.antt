@@ -9,6 +9,6 @@ use Rattle.hb_relay.proofs.relay.Relay.up_ended.Goals as goal
 pub returns : goal.returns
 returns c = λ u.
     meets_settled (up (e.Ended u)) c.args.self.now (routing_of c.args.routes.now) c.up_hang_up.new.self c.settle.new.self
-    (routing_of c.settle.new.routes) (up_entered (e.Ended u)) c.settle.result (λ a raw. refl)
-    (λ a may raw. lives_calm a.link may.0.0.1) (λ a. refl) (λ a sound. sound) c.up_hang_up.ensures c.settle.ensures.note
-    c.settle.ensures.after c.settle.ensures.counts
+    (routing_of c.settle.new.routes) (up_entered (e.Ended u)) c.settle.result (λ a. refl)
+    (λ a shows may. lives_calm a.link may.0.0.1) (λ a. refl) (λ a shows. shows.upstream) (λ a straight. straight) c.up_hang_up.ensures
+    c.settle.ensures.note c.settle.ensures.after c.settle.ensures.counts

@@ -1,0 +1,11 @@
+use Rattle.std.proofs.Common.{refl, ap}
+use Rattle.hb_relay.specs.Shows.{captured_of}
+use Rattle.hb_relay.proofs.Streaming.{hears_bytes}
+use Rattle.hb_relay.proofs.relay.Relay.stream_bytes.Goals as goal
+
+pub returns : goal.returns
+returns c =
+    hears_bytes c.args.b.now c.args.self.now (record c.args.self.now { ways = c.push_down.new.self }) (record {
+      number = refl;
+      after = ap (λ w. captured_of (record c.args.self.now { ways = w })) c.push_down.ensures;
+    })
