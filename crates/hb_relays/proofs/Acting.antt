@@ -1,16 +1,16 @@
 -- An act that is due of one link is one of all links.
 use Rattle.std.proofs.Common.{◌≡◌, ◌≢◌, inl, inr, ⊎_elim, ℕ, ◌<◌, ◌^◌, Bool, true, false, cond, List, Option, Some, None, is_some, refl, ap, sym, ◌∙◌, subst}
-use Rattle.std.proofs.lemmas.Bool.{cases_eq, eq-eqb, ne_eqb}
+use Rattle.std.proofs.lemmas.Bool.{cases_eq, eq-eqb, eqb-true, ne_eqb}
 use Rattle.std.specs.FinMap.{get, insert, remove}
 use Rattle.hb_base.specs.declared.cause.Cause.{Cause}
-use Rattle.hb_captured.specs.Answer.{why_for}
-use Rattle.hb_captured.specs.Calm.{IsCalm}
+use Rattle.hb_captured.specs.Answer.{key_of, why_for}
+use Rattle.hb_captured.specs.Calm.{IsCalm, IsCalmBy}
 use Rattle.hb_captured.specs.Captured as m
-use Rattle.hb_captured.specs.Captured.{Captured, Stage, counts_for, is_raw}
+use Rattle.hb_captured.specs.Captured.{Captured, Stage, counts_for, due, entered, is_raw, up_entered}
 use Rattle.hb_captured.specs.Counts.{recounted}
 use Rattle.hb_captured.specs.Part.{Part, entry, up}
 use Rattle.hb_captured.specs.Runs.{Local, MayGo, next, next_link}
-use Rattle.hb_gateway.specs.Gateway.{no_link}
+use Rattle.hb_gateway.specs.Key.{Key}
 use Rattle.hb_map.proofs.Laws.{put_here, put_elsewhere, removed_here, removed_elsewhere, written_where_some}
 use Rattle.hb_map.specs.Keyed.{written}
 use Rattle.hb_model.specs.declared.config.NodeConfig.{NodeConfig}
@@ -19,29 +19,29 @@ use Rattle.hb_proxy.proofs.PlainStays.{is_plain_born}
 use Rattle.hb_proxy.specs.Machine.{Machine, Outward, outward, plain_local, with_plain}
 use Rattle.hb_proxy.specs.Owners.{plain_link, relay_of}
 use Rattle.hb_proxy.specs.Points.{Point}
-use Rattle.hb_proxy.specs.Runs.{BirthMayCome, ControlRests, DialsGate, GatesLet, Lets, PlainGuard, PlainLets, PlainMayCome, StandsFor, is_act}
+use Rattle.hb_proxy.specs.Runs.{BirthMayCome, ControlRests, DialsGate, GatesLet, IfThrough, Lets, LiveRests, NoneOffers, PlainGuard, PlainLets, PlainMayCome, RestsAmong, StandsFor, StreamRestsBy, is_act}
 use Rattle.hb_proxy.specs.Seen.{IsPlainThereBy}
 use Rattle.hb_proxy.specs.Ups.{IsRelayOf}
 use Rattle.hb_relay.specs.Acts as relay
-use Rattle.hb_relay.specs.Answering.{aim_as}
-use Rattle.hb_relay.specs.Shows.{GoesStraight, HasUpstream, Shows, captured_of, stage_of}
+use Rattle.hb_relay.specs.Shows.{Shows, captured_of}
 use Rattle.hb_relay.specs.declared.relay.Relay.{Relay}
-use Rattle.hb_relay.specs.declared.stage.Stage as code
-use Rattle.hb_relay.specs.declared.stage.Stage.TheVariants.{Fronting, Due, Opening, Live, Over}
 use Rattle.hb_route.specs.Opens.{Counts}
 use Rattle.hb_world.specs.declared.act.Act.{Act}
 use Rattle.hb_world.specs.declared.act.Act.TheVariants as act
 use Rattle.hb_world.specs.declared.entry.Entry.{Entry}
 use Rattle.hb_world.specs.declared.entry.Entry.TheVariants as e
 use Rattle.hb_relays.specs.Acts.{ActsOn, Does}
-use Rattle.hb_relays.specs.Shows.{IsAwayBy, IsIdle, IsIndex, ShowsRelay, ShowsRelays}
+use Rattle.hb_relays.specs.Joining.{all, every}
+use Rattle.hb_relays.specs.Shows.{AreCalm, IsAwayBy, IsIdle, IsIndex, ShowsRelay, ShowsRelays}
 use Rattle.hb_relays.specs.Walks.{Map, Index, ActsOf, ShowsBut, changed, closed_by, finished, relays_with, touched_at}
 use Rattle.hb_relays.specs.declared.relays.Relays.{Relays}
 use Rattle.hb_relays.proofs.Away.{away_is}
 use Rattle.hb_relays.proofs.Births.{owner_is}
-use Rattle.hb_relays.proofs.Gateless.{dials_gate, gates_let}
+use Rattle.hb_relays.proofs.Entering.{up_facts}
 use Rattle.hb_relays.proofs.Lifted.{here, there}
-use Rattle.hb_relays.proofs.Showing.{closed_index, kept_shown, opens_by, same_ups, shown_then, there_by, ups_same}
+use Rattle.hb_relays.proofs.Progress.{is_all}
+use Rattle.hb_relays.proofs.Showing.{closed_index, kept_shown, opens_by, raw_rests, same_ups, shown_then, there_by, ups_same}
+use Rattle.hb_relays.proofs.Straight.{runs_straight}
 
 -- ALL LINKS ARE CALM
 
@@ -51,44 +51,21 @@ calm_by l (Some k) x shown = shown.1.calm
 
 -- so an act may come
 act_may_come : (k : Relays) (x : Machine) (l : ℕ) (z : Entry) → ((j : ℕ) → ShowsRelay j (get k.relays j) (x.plain j))
-    → ((n : ℕ) → x.gates n ≡ no_link) → ControlRests x.control → ((j : ℕ) → Lets true (x.inbound j)) → is_act z ≡ true
+    → AreCalm (outward x) → ControlRests x.control → ((j : ℕ) → Lets true (x.inbound j)) → is_act z ≡ true
     → BirthMayCome x z → PlainMayCome x l z
-act_may_come k x l z shows none rests lets is birth = record {
+act_may_come k x l z shows calm rests lets is birth = record {
   birth = birth;
   control = rests;
   links = λ j. subst (λ (first : Bool). Lets first (x.inbound j)) (sym is) (lets j);
   others = λ j apart. subst (λ (first : Bool). PlainLets first (x.plain j)) (sym is) (calm_by j (get k.relays j) (x.plain j) (shows j));
-  gates = subst (λ (first : Bool). GatesLet first x) (sym is) (gates_let x none k shows true);
+  gates = subst (λ (first : Bool). GatesLet first x) (sym is) (record { gates = calm.gates; streams = calm.streams });
 }
 
 -- NOTHING OF A LINK CHANGED: it is shown as before
 
-abbrev stage_back : m.Stage → code.Stage
-stage_back m.due = Due
-stage_back m.opening = Opening
-stage_back m.live = Live
-stage_back (m.over why) = Over why
-stage_back stage = Fronting
-
-stage_known : (stage : code.Stage) → stage_back (stage_of stage) ≡ stage
-stage_known Fronting = refl
-stage_known Due = refl
-stage_known Opening = refl
-stage_known Live = refl
-stage_known (Over why) = refl
-
-shows_still : (old new : Relay) (x : Captured) → captured_of new ≡ captured_of old → Shows old x → Shows new x
+pub shows_still : (old new : Relay) (x : Captured) → captured_of new ≡ captured_of old → Shows old x → Shows new x
 shows_still old new x same shows =
-    let stage : old.stage ≡ new.stage =
-    sym (stage_known old.stage) ∙ ap (λ (c : Captured). stage_back c.stage) (sym same) ∙ stage_known new.stage in
-    record {
-      same = shows.same ∙ sym same;
-      calm = shows.calm;
-      straight = subst (λ (s : code.Stage). GoesStraight s (aim_as new.aim)) stage
-          (subst (GoesStraight old.stage) (ap (λ (c : Captured). c.aim) (sym same)) shows.straight);
-      upstream = subst (λ (s : code.Stage). HasUpstream s new.up) stage
-          (subst (HasUpstream old.stage) (ap (λ (c : Captured). c.up) (sym same)) shows.upstream);
-    }
+    record { same = shows.same ∙ sym same; calm = shows.calm; upstream = shows.upstream; straight = shows.straight }
 
 -- nor does it count otherwise
 counts_still : (at : Option (List ℕ)) (opens : Counts) → recounted at at opens ≡ opens
@@ -115,8 +92,9 @@ module _ (k : Relays) (l : ℕ) (old new : Relay) (is : get k.relays l ≡ Some 
       → counts_for (next_link (x.plain l) p) ≡ counts_for (x.plain l) → ((j : ℕ) → j ≢ l → get relays j ≡ get k.relays j)
       → (Shows new (next (plain_local x l) p).link → ShowsRelay l (get relays l) (next (plain_local x l) p).link)
       → ((z : ℕ → Captured) → ((j : ℕ) → j ≢ l → z j ≡ x.plain j) → z l ≡ (next (plain_local x l) p).link → IsIndex ups z)
+      → (next (plain_local x l) p).link.stage ≢ due → RestsAmong x.gates (next (plain_local x l) p).link
       → Does (touched_at l (relays_with relays ups k)) g x l p
-  does p relays ups it guard counts same then index =
+  does p relays ups it guard counts same then index undue rest =
       let a = plain_local x l in
       let one = it a shown.1 in
       let y = with_plain l p (next_link (x.plain l) p) x in
@@ -125,12 +103,15 @@ module _ (k : Relays) (l : ℕ) (old new : Relay) (is : get k.relays l ≡ Some 
       record {
         y = y;
         steps = (subst (λ (i : ℕ). MayGo i a p) shown.0 one.0, guard, refl);
-        shows = shown_then g k l relays ups k.routes (outward x) (outward y) shows same others refl
+        shows = is_all all every all g (touched_at l (relays_with relays ups k)) (outward y) (λ j. refl) (λ j w. refl) (λ j. refl)
+            (shown_then g k l relays ups k.routes (outward x) (outward y) shows same others refl
             (shows.counted ∙ ap (λ (opens : Counts). record { opens = opens; hbone_port = g.hbone_port })
             (sym (ap (λ (at : Option (List ℕ)). recounted (counts_for (x.plain l)) at x.opens) counts
-            ∙ counts_still (counts_for (x.plain l)) x.opens))) narrow
+            ∙ counts_still (counts_for (x.plain l)) x.opens))) all every narrow
             (subst (λ (w : Captured). ShowsRelay l (get relays l) w) (sym link_is) (then one.1))
-            (index y.plain others link_is);
+            (index y.plain others link_is)
+            (λ is stage. absurd (undue (ap (λ (w : Captured). w.stage) (sym link_is) ∙ stage)))
+            (λ is. subst (RestsAmong x.gates) (sym link_is) rest));
       }
 
   -- the link is kept
@@ -144,28 +125,54 @@ module _ (k : Relays) (l : ℕ) (old new : Relay) (is : get k.relays l ≡ Some 
       same_ups k.ups x.plain z (ups_same x.plain z l others (ap (λ (c : Captured). c.up) z_is ∙ same)) shows.index
 
   guard : (z : Entry) → is_act z ≡ true → BirthMayCome x z → PlainMayCome x l z
-  guard z act birth = act_may_come k x l z shows.relays shows.no_gates rests lets act birth
+  guard z act birth = act_may_come k x l z shows.relays shows.calm rests lets act birth
 
-  none_dialled : DialsGate x l
-  none_dialled = dials_gate x shows.no_gates l
+  -- it has an upstream: so no link to a gateway is dialled for it
+  none_dialled : (u : ℕ) → (x.plain l).up ≡ u → 0 < u → DialsGate x l
+  none_dialled u is some =
+      subst (λ (o : Option Key). IfThrough o (NoneOffers x))
+      (sym ((runs_straight g x points stands l).straight (subst (λ (n : ℕ). 0 < n) (sym is) some))) tt
+
+  -- a stream is at rest as it was where the link to the client is shut
+  shut_rests : (x.plain l).stage ≡ m.live → RestsAmong x.gates (entered (e.Shut l) (x.plain l))
+  shut_rests lives on =
+      let rests : LiveRests (x.plain l) (x.gates (x.plain l).gate) =
+      subst (λ (s : Stage). StreamRestsBy s (x.plain l) (x.gates (x.plain l).gate)) lives (shows.calm.streams l on) in
+      subst (λ (s : Stage). StreamRestsBy s (entered (e.Shut l) (x.plain l)) (x.gates (x.plain l).gate)) (sym lives) (record {
+        given_back = rests.given_back;
+        none_goes = rests.none_goes;
+        not_finished = rests.not_finished;
+        not_complete = rests.not_complete;
+      })
+
+  apart_from_due : (s t : Stage) → s ≡ t → (t ≡ due → ⊥) → s ≢ due
+  apart_from_due s t is apart same = apart (sym is ∙ same)
 
   shut_own : relay.Does (entry (e.Shut l)) old new → Does (touched_at l (changed l new k)) g x l (entry (e.Shut l))
   shut_own it =
+      let lives = (it (plain_local x l) shown.1).0.2 in
       does (entry (e.Shut l)) (insert k.relays l new) k.ups it (guard (e.Shut l) refl tt) refl (put_elsewhere k.relays l new)
       (kept (next (plain_local x l) (entry (e.Shut l))).link opens) (stays (next (plain_local x l) (entry (e.Shut l))).link refl)
+      (apart_from_due (x.plain l).stage m.live lives (λ no. cc no)) (shut_rests lives)
 
   shut_up : (u : ℕ) → relay.Does (up (e.Shut u)) old new → Does (touched_at l (changed l new k)) g x l (up (e.Shut u))
   shut_up u it =
-      does (up (e.Shut u)) (insert k.relays l new) k.ups it (guard (e.Shut u) refl tt, none_dialled) refl (put_elsewhere k.relays l new)
+      let may = (it (plain_local x l) shown.1).0 in
+      does (up (e.Shut u)) (insert k.relays l new) k.ups it (guard (e.Shut u) refl tt, none_dialled u may.2 may.3) refl
+      (put_elsewhere k.relays l new)
       (kept (next (plain_local x l) (up (e.Shut u))).link opens) (stays (next (plain_local x l) (up (e.Shut u))).link refl)
+      (apart_from_due (x.plain l).stage m.live may.1 (λ no. cc no))
+      (raw_rests x.gates (up_entered (e.Shut u) (x.plain l)) (up_facts l old (x.plain l) (e.Shut u) may shown.1).1)
 
   close_up : (u : ℕ) (cause : Cause) → relay.Does (up (e.Closed u cause)) old new
       → Does (touched_at l (relays_with (insert k.relays l new) (remove k.ups u) k)) g x l (up (e.Closed u cause))
   close_up u cause it =
       let one = (it (plain_local x l) shown.1).0 in
-      does (up (e.Closed u cause)) (insert k.relays l new) (remove k.ups u) it (guard (e.Closed u cause) refl tt, none_dialled) refl
-      (put_elsewhere k.relays l new) (kept (next (plain_local x l) (up (e.Closed u cause))).link opens)
+      does (up (e.Closed u cause)) (insert k.relays l new) (remove k.ups u) it (guard (e.Closed u cause) refl tt, none_dialled u one.2 one.3)
+      refl (put_elsewhere k.relays l new) (kept (next (plain_local x l) (up (e.Closed u cause))).link opens)
       (λ z others z_is. closed_index x.plain z l others k.ups shows.index u (one.3, one.2) (ap (λ (c : Captured). c.up) z_is))
+      (apart_from_due (x.plain l).stage (m.over cause) one.1 (λ no. cc no))
+      (raw_rests x.gates (up_entered (e.Closed u cause) (x.plain l)) (up_facts l old (x.plain l) (e.Closed u cause) one shown.1).1)
 
   close_own : (cause : Cause) → new.up ≡ 0 → relay.Does (entry (e.Closed l cause)) old new
       → Does (touched_at l (relays_with (remove (insert k.relays l new) l) k.ups k)) g x l (entry (e.Closed l cause))
@@ -173,11 +180,13 @@ module _ (k : Relays) (l : ℕ) (old new : Relay) (is : get k.relays l ≡ Some 
       let a = plain_local x l in
       let y = (next a (entry (e.Closed l cause))).link in
       let at : (x.plain l).stage ≡ m.over cause = (it a shown.1).0.2 in
+      let raw : is_raw (x.plain l) ≡ true = subst (λ (s : Stage). IsCalmBy s (x.plain l)) at (it a shown.1).0.1 in
       does (entry (e.Closed l cause)) (remove (insert k.relays l new) l) k.ups it (guard (e.Closed l cause) refl tt) refl
       (λ j apart. removed_elsewhere (insert k.relays l new) l j apart ∙ put_elsewhere k.relays l new j apart)
       (λ shows_so. subst (λ (o : Option Relay). ShowsRelay l o y) (sym (removed_here (insert k.relays l new) l))
-      (subst (λ (s : Stage). IsAwayBy s y) (sym at) (refl, ap (λ (c : Captured). c.up) shows_so.same ∙ none, ap is_raw shows_so.same)))
-      (stays y refl)
+      (subst (λ (s : Stage). IsAwayBy s y) (sym at) (refl, ap (λ (c : Captured). c.up) shows_so.same ∙ none, raw)))
+      (stays y refl) (apart_from_due (x.plain l).stage (m.over cause) at (λ no. cc no))
+      (raw_rests x.gates y (eqb-true (x.plain l).gate 0 raw))
 
   -- nothing of the link changes
   same_shown : captured_of new ≡ captured_of old → ShowsRelay l (get (insert k.relays l new) l) (x.plain l)
@@ -218,14 +227,16 @@ module _ (k : Relays) (l : ℕ) (old new : Relay) (is : get k.relays l ≡ Some 
 
   acts : (given : Act) → relay.Acts (Some given) old new → ActsOn (Some given) (After given) g x
   acts (act.Dial to why) it =
-      let due = it.1 (x.plain l) shown.1 in (
-        shown_then g k l (insert k.relays l new) k.ups k.routes (outward x) (outward x) shows (put_elsewhere k.relays l new)
-            (λ j apart. refl) refl shows.counted narrow (same_shown it.0) shows.index,
+      let is_due = it.1 (x.plain l) shown.1 in (
+        is_all all every all g (After (act.Dial to why)) (outward x) (λ j. refl) (λ j w. refl) (λ j. refl)
+            (shown_then g k l (insert k.relays l new) k.ups k.routes (outward x) (outward x) shows (put_elsewhere k.relays l new)
+            (λ j apart. refl) refl shows.counted all every narrow (same_shown it.0) shows.index (λ is. shows.wanting l)
+            (λ is. shows.calm.streams l)),
         l,
-        due.3 ∙ ap (why_for (x.plain l).aim (x.plain l).door) shown.0,
-        due.0,
-        due.1,
-        due.2,
+        is_due.2 ∙ ap (why_for (x.plain l).aim (x.plain l).door) shown.0,
+        is_due.0,
+        shows.wanting l is_due.0,
+        is_due.1,
       )
   acts (act.Shut u) it = ⊎_elim
       (λ own. inl (at_own (own.0 ∙ shown.0) own.1))
@@ -237,7 +248,7 @@ module _ (k : Relays) (l : ℕ) (old new : Relay) (is : get k.relays l ≡ Some 
           (shut_own (subst (λ (i : ℕ). relay.Does (entry (e.Shut i)) old new) at does_so))
   acts (act.Close u cause) it = ⊎_elim
       (λ own. inl (at_own (own.0 ∙ shown.0) own.1 own.2))
-      (λ other. inr (l, at_up other)) it
+      (λ other. inr (inl (l, at_up other))) it
     where
       at_own : u ≡ l → new.up ≡ 0 → relay.Does (entry (e.Closed u cause)) old new
           → Does (After (act.Close u cause)) g x u (entry (e.Closed u cause))
@@ -290,5 +301,9 @@ none_acts k n relays l old new is relays_is n_is numbered it = (
           idle = λ j none. ⊎_elim (λ at. subst (λ (i : ℕ). IsIdle (f i)) (sym at) (it.1 (f l) shown.1))
               (λ apart. shows.idle j apart none) (cases_eq j l);
           counted = shows.counted;
-          no_gates = shows.no_gates;
+          gates = shows.gates;
+          gate_numbered = shows.gate_numbered;
+          gate_idle = shows.gate_idle;
+          calm = shows.calm;
+          wanting = shows.wanting;
         }

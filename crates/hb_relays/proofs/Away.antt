@@ -1,5 +1,5 @@
 -- A link that isn't there.
-use Rattle.std.proofs.Common.{◌≡◌, ◌&&◌, Bool, false, cond, refl, ap, sym, ◌∙◌, subst}
+use Rattle.std.proofs.Common.{◌≡◌, ◌≢◌, ◌&&◌, Bool, false, cond, refl, ap, sym, ◌∙◌, subst}
 use Rattle.std.proofs.Math.Bool.{and-false}
 use Rattle.std.proofs.lemmas.Bool.{false≢true}
 use Rattle.hb_base.specs.declared.cause.Cause.{Cause}
@@ -7,6 +7,8 @@ use Rattle.hb_captured.specs.Calm.{IsCalmBy, IsIdleBy}
 use Rattle.hb_captured.specs.Captured as m
 use Rattle.hb_captured.specs.Captured.{Captured, Stage, at_stage, ends_by, ends_for, judges, is_judged, judged_by, rejudged}
 use Rattle.hb_held.specs.Held.{Resources}
+use Rattle.hb_gateway.specs.Gateway.{Gateway}
+use Rattle.hb_proxy.specs.Runs.{StreamRestsBy}
 use Rattle.hb_proxy.specs.Seen.{IsPlainThereBy}
 use Rattle.hb_table.specs.Judgement.{judged}
 use Rattle.hb_relays.specs.Shows.{IsAway, IsAwayBy}
@@ -61,3 +63,11 @@ judged_away held x away =
 
 pub ended_away : (why : Cause) (x : Captured) → IsAway x → IsAway (ends_for why x)
 ended_away why x away = subst IsAway (sym (ap (λ (s : Stage). at_stage s x) ((away_is x away).ended why))) away
+
+-- nor has it a stream on which something may be put, or waits for its dial
+pub away_rests : (stage : Stage) (x : Captured) (y : Gateway) → IsAwayBy stage x → StreamRestsBy stage x y
+away_rests m.live x y away = absurd away
+away_rests stage x y away = tt
+
+pub away_undue : (stage : Stage) (x : Captured) → IsAwayBy stage x → stage ≢ m.due
+away_undue stage x away is = subst (λ (s : Stage). IsAwayBy s x) is away

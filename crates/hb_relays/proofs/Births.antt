@@ -2,6 +2,7 @@
 use Rattle.std.proofs.Common.{◌≡◌, ◌≢◌, ⊎_elim, ℕ, ◌+◌, ◌<◌, ◌^◌, List, [], Option, Some, None, is_some, refl, ap, sym, ◌∙◌, subst, arith}
 use Rattle.std.proofs.lemmas.Bool.{false≢true}
 use Rattle.std.specs.FinMap.{get, insert, empty}
+use Rattle.hb_base.specs.declared.cause.Cause.TheVariants as cause
 use Rattle.hb_base.specs.declared.door.Door.{Door}
 use Rattle.hb_base.specs.declared.door.Why.{Why}
 use Rattle.hb_base.specs.declared.note.Note.{Note}
@@ -11,6 +12,8 @@ use Rattle.hb_captured.specs.Captured as m
 use Rattle.hb_captured.specs.Captured.{Captured, Stage, no_link, is_raw}
 use Rattle.hb_captured.specs.Part.{entry, up, crowded, note_if}
 use Rattle.hb_captured.specs.Runs.{Local, next, next_link}
+use Rattle.hb_gate.specs.declared.gate.Gate.{Gate}
+use Rattle.hb_gateway.specs.Gateway as gateway
 use Rattle.hb_link.proofs.Noted.{takes_none}
 use Rattle.hb_link.specs.Noted.{Told, Takes}
 use Rattle.hb_map.proofs.Laws.{put_here, put_elsewhere}
@@ -32,12 +35,15 @@ use Rattle.hb_relay.specs.declared.relay.Relay.{Relay}
 use Rattle.hb_relay.specs.declared.routes.Routes.{Routes}
 use Rattle.hb_world.specs.declared.entry.Entry.TheVariants as e
 use Rattle.hb_relays.specs.Calls.{Begins, TurnsAway, Dials, DialFails}
-use Rattle.hb_relays.specs.Shows.{ShowsRelay, ShowsRelays}
+use Rattle.hb_relays.specs.Joining.{all, every}
+use Rattle.hb_relays.specs.Shows.{ShowsGate, ShowsRelay, ShowsRelays}
 use Rattle.hb_relays.specs.Walks.{changed, relays_with, routes_with, touched_at}
 use Rattle.hb_relays.specs.declared.relays.Relays.{Relays}
+use Rattle.hb_relays.proofs.Entering.{up_meets}
 use Rattle.hb_relays.proofs.Lifted.{here, there}
-use Rattle.hb_relays.proofs.Showing.{apart_from, behind, born_index, but_all, counted_so, counts_by, lifts, lifts_with, reaches, same_ups, shown_then, there_by, ups_same}
-use Rattle.hb_relays.proofs.Staying.{unborn_is}
+use Rattle.hb_relays.proofs.Progress.{is_all}
+use Rattle.hb_relays.proofs.Showing.{apart_from, behind, born_index, but_all, counted_so, counts_by, goes_whole, lifts, lifts_with, link_next, raw_rests, reaches, same_ups, shown_then, there_by, ups_same}
+use Rattle.hb_relays.proofs.Staying.{IsBare, bare_undue, unborn_is}
 
 -- BIRTHS
 
@@ -59,10 +65,15 @@ begins k d n new narrow starts number g x y points stands shows holds steps =
     let none = new_link g x y points d n stands steps in
     let came = entry (e.Accepted n d) in
     let a = plain_local x n in
-    reaches g k n came new k.ups k.routes (Some []) (Some []) None x y shows steps number narrow
-    (subst (λ (by : Routing). relay.Reaches n by (next a came) new (code_routing k.routes) None) (sym (uncounted k x d n none))
-    (starts a (code_routing k.routes) none)) (takes_none (Some [])) (ap (λ (c : Captured). c.closed) none)
-    (λ z others up. same_ups k.ups x.plain z (ups_same x.plain z n others up) shows.index)
+    let goes = reaches g k n came new k.ups k.routes (Some []) (Some []) None x y shows steps number narrow
+    (subst (λ (by : Routing). relay.Reaches relay.IsInner n by (next a came) new (code_routing k.routes) None)
+    (sym (uncounted k x d n none)) (starts a (code_routing k.routes) none)) (takes_none (Some []))
+    (ap (λ (c : Captured). c.closed) none)
+    (λ z others up. same_ups k.ups x.plain z (ups_same x.plain z n others up) shows.index) in
+    let is : y.plain n ≡ next_link no_link came =
+    link_next g k n came new k.ups k.routes (Some []) (Some []) None x y shows steps ∙ ap (λ (c : Captured). next_link c came) none in
+    goes_whole g n y (touched_at n (changed n new k)) (Some []) (Some []) goes
+    (bare_undue (goes.comes.reached.plain n) (goes.bare (subst IsBare (sym is) (refl, refl)))) (ap (λ (c : Captured). c.gate) is)
 
 -- it is turned away
 pub turns : (k : Relays) (d : Door) (n : ℕ) (new : Relay) → n < 2 ^ 64 → calls.TurnsAway d n new → new.number ≡ n
@@ -83,21 +94,27 @@ turns k d n new narrow away number g x y points stands shows steps =
     let shown = away a none in
     let others = λ (j : ℕ) (apart : j ≢ n).
     there y n crowded (next_link (y.plain n) crowded) j apart
-    ∙ apart_from g k n came new k.ups k.routes (Some []) (Some []) None x y shows steps j apart in (
+    ∙ apart_from g k n came new k.ups k.routes (Some []) (Some []) None x y shows steps j apart in
+    let is_over : (z.plain n).stage ≡ m.over cause.NoRoom = ap (λ (d : Captured). d.stage) link_is in (
       z,
       (ap (λ (d : Local). d.link.stage) at, tt, refl),
-      shown_then g k n (insert k.relays n new) k.ups k.routes (outward x) (outward z) (but_all g n k (outward x) shows)
-          (put_elsewhere k.relays n new) others (ap (λ (w : Machine). w.gates) steps.2) counted narrow
+      is_all all every all g (touched_at n (changed n new k)) (outward z) (λ l. refl) (λ l w. refl) (λ m. refl)
+          (shown_then g k n (insert k.relays n new) k.ups k.routes (outward x) (outward z) (but_all g n k (outward x) shows)
+          (put_elsewhere k.relays n new) others (ap (λ (w : Machine). w.gates) steps.2) counted all every narrow
           (subst (λ (o : Option Relay). ShowsRelay n o (z.plain n)) (sym (put_here k.relays n new))
           (subst (λ (w : Captured). ShowsRelay n (Some new) w) (sym link_is)
           (number, shown, there_by new c.link shown (ap (λ (d : Captured). d.closed) none))))
-          (same_ups k.ups x.plain z.plain (ups_same x.plain z.plain n others (ap (λ (d : Captured). d.up) link_is)) shows.index),
+          (same_ups k.ups x.plain z.plain (ups_same x.plain z.plain n others (ap (λ (d : Captured). d.up) link_is)) shows.index)
+          (λ is stage. absurd (let no : m.over cause.NoRoom ≡ m.due = sym is_over ∙ stage in cc no))
+          (λ is. raw_rests z.gates (z.plain n)
+          (ap (λ (d : Captured). d.gate) link_is ∙ ap (λ (d : Captured). d.gate) none))),
     )
 
 -- none stand for no birth
 pub none_shown : (g : NodeConfig) (k : Relays) → ((l : ℕ) → get k.relays l ≡ None) → ((u : ℕ) → get k.ups u ≡ None)
-    → code_routing k.routes ≡ record { opens = empty; hbone_port = g.hbone_port } → ShowsRelays g k (outward (fresh g))
-none_shown g k relays ups counted = record {
+    → ((n : ℕ) → get k.gates n ≡ None) → code_routing k.routes ≡ record { opens = empty; hbone_port = g.hbone_port }
+    → ShowsRelays g k (outward (fresh g))
+none_shown g k relays ups gates counted = record {
   relays = λ l. subst (λ (o : Option Relay). ShowsRelay l o no_link) (sym (relays l)) refl;
   index = record {
     found = λ l u is. absurd (let some = is.0 in let none = is.1 in omega (arith, some, none));
@@ -106,7 +123,14 @@ none_shown g k relays ups counted = record {
   numbered = λ l some. absurd (false≢true (sym (ap is_some (relays l)) ∙ some));
   idle = λ l none. tt;
   counted = counted;
-  no_gates = λ n. refl;
+  gates = λ n. subst (λ (o : Option Gate). ShowsGate n o gateway.no_link) (sym (gates n)) tt;
+  gate_numbered = λ n some. absurd (false≢true (sym (ap is_some (gates n)) ∙ some));
+  gate_idle = λ n none. refl;
+  calm = record {
+    gates = λ n. (λ s. refl, tt);
+    streams = λ l. raw_rests (λ n. gateway.no_link) no_link refl;
+  };
+  wanting = λ l stage. absurd (let no : m.unborn ≡ m.due = stage in cc no);
 }
 
 -- DIALS
@@ -139,15 +163,18 @@ pub dials : (k : Relays) (l u : ℕ) (old new : Relay) → get k.relays l ≡ So
     → ((to : Target) (why : Why) → calls.UpEntersStill (e.Dialled u to why) old new None)
     → Dials l u k (touched_at l (relays_with (insert k.relays l new) (insert k.ups u l) k))
 dials k l u old new is enters to why =
-    lifts_with calls.any k l old new (insert k.ups u l) k.routes (Some []) (Some []) None (λ i. up (e.Dialled u to why)) is
+    up_meets calls.any k (touched_at l (relays_with (insert k.relays l new) (insert k.ups u l) k)) l old (e.Dialled u to why) (Some [])
+    (Some []) is
+    (lifts_with calls.any k l old new (insert k.ups u l) k.routes (Some []) (Some []) None (λ i. up (e.Dialled u to why)) is
     (λ g x y points stands shows steps z others now.
     born_index x.plain z l others k.ups shows.index u steps.0.2 (no_up g x points stands l steps.0.0.1) now
     (is_new g x points stands u steps.1.0.birth))
-    (λ x. refl) (enters to why (code_routing k.routes)) (takes_none (Some []))
+    (λ x. refl) (enters to why (code_routing k.routes)) (takes_none (Some [])))
 
 pub fails : (k : Relays) (l : ℕ) (old new : Relay) (routes : Routes) (told now : Told) (made : Option Note) → get k.relays l ≡ Some old
     → ((to : Target) (why : Why) → calls.UpEnters (e.DialFailed to why) old (code_routing k.routes) new (code_routing routes) made)
     → Takes told (note_if made) now → DialFails l k told (touched_at l (routes_with routes (changed l new k))) now
 fails k l old new routes told now made is enters takes to why =
-    lifts calls.any k l old new routes told now made (λ i. up (e.DialFailed to why)) is (λ x. record { up = refl; closed = refl })
-    (enters to why) takes
+    up_meets calls.any k (touched_at l (routes_with routes (changed l new k))) l old (e.DialFailed to why) told now is
+    (lifts calls.any k l old new routes told now made (λ i. up (e.DialFailed to why)) is (λ x. record { up = refl; closed = refl })
+    (enters to why) takes)

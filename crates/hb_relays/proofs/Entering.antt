@@ -1,42 +1,66 @@
--- An entry on the link of a number is told to that link, or to the one whose upstream it is.
-use Rattle.std.proofs.Common.{◌≡◌, ℕ, Option, Some, None, is_some, refl, ap, sym, ◌∙◌, subst}
+-- An entry on the link of a number is told to that link, to the one whose upstream it is, or to the link to a gateway.
+use Rattle.std.proofs.Common.{◌≡◌, ◌≢◌, inl, inr, ℕ, ◌<◌, ◌==◌, ◌||◌, not, Bool, true, false, cond, List, [], ◌∷◌, ◌++◌, Option, Some, None, is_some, Result, Ok, Err, OnOk, refl, ap, sym, ◌∙◌, subst, arith}
+use Rattle.std.proofs.lemmas.Bool.{eq-eqb, eqb-true}
 use Rattle.std.specs.FinMap.{get}
 use Rattle.hb_base.specs.declared.note.Note.{Note}
-use Rattle.hb_captured.specs.Answer.{Routing}
-use Rattle.hb_captured.specs.Captured.{Captured, entered, up_entered}
+use Rattle.hb_captured.specs.Answer.{Routing, key_of}
+use Rattle.hb_captured.specs.Calm.{IsIdleBy, IsQuiet, IsCalmBy}
+use Rattle.hb_captured.specs.Captured as m
+use Rattle.hb_captured.specs.Captured.{Captured, Stage, due, entered, up_entered, hung_up, ends_by}
 use Rattle.hb_captured.specs.Part.{Part, entry, up, note_if}
+use Rattle.hb_captured.specs.Runs.{IsTried, MayCome, UpMayCome, next_link}
+use Rattle.hb_base.specs.declared.cause.Cause.{Cause}
+use Rattle.hb_base.specs.declared.cause.Cause.TheVariants as cause
+use Rattle.hb_gate.specs.declared.gate.Gate.{Gate}
+use Rattle.hb_gateway.specs.Part as gateway
+use Rattle.hb_gateway.specs.Key.{Key}
 use Rattle.hb_held.specs.Held.{Resources}
 use Rattle.hb_link.specs.Noted.{Told, Takes}
 use Rattle.hb_map.proofs.Laws.{written_where_some}
 use Rattle.hb_map.specs.Keyed.{written}
-use Rattle.hb_proxy.specs.Points.{Point, of_plain}
+use Rattle.hb_model.specs.declared.config.NodeConfig.{NodeConfig}
+use Rattle.hb_proxy.specs.Machine.{Machine, outward, with_plain}
+use Rattle.hb_proxy.specs.Points.{Point, of_gate, of_plain}
+use Rattle.hb_proxy.specs.Runs.{PlainLets, PlainMayCome, Steps, StandsFor, goes_on, is_act}
 use Rattle.hb_relay.specs.Answering.{routing_of as code_routing}
 use Rattle.hb_relay.specs.Calls as calls
 use Rattle.hb_relay.specs.Reaches as relay
+use Rattle.hb_relay.specs.Shows.{HasOne, HasUpstream, Shows}
 use Rattle.hb_relay.specs.declared.relay.Relay.{Relay}
 use Rattle.hb_relay.specs.declared.routes.Routes.{Routes}
 use Rattle.hb_world.specs.declared.entry.Entry.{Entry}
 use Rattle.hb_world.specs.declared.entry.Entry.TheVariants as e
-use Rattle.hb_relays.specs.Calls.{point_by, point_for, Enters, EntersWhere}
+use Rattle.hb_world.specs.declared.entry.Way.TheVariants as way
+use Rattle.hb_relays.specs.Calls.{gate_point, point_by, point_for, Enters, EntersWhere, GateEntersWhere}
+use Rattle.hb_relays.specs.Joining.{Joins, Refuses, also, all, but, with_link}
+use Rattle.hb_relays.specs.Pumping.{NoneDueBut, Pumps}
 use Rattle.hb_relays.specs.Reaches.{Meets, any}
 use Rattle.hb_relays.specs.Walks.{Map, changed, relays_with, routes_with, touched_at}
 use Rattle.hb_relays.specs.declared.relays.Relays.{Relays}
-use Rattle.hb_relays.proofs.Showing.{lifts}
-use Rattle.hb_relays.proofs.Staying.{Stays}
+use Rattle.hb_relays.proofs.Lifted.{there}
+use Rattle.hb_relays.proofs.Progress.{comes_then, comes_whole, knows, stands_on}
+use Rattle.hb_relays.proofs.Showing.{GoesAt, MeetsAt, kept_shown, lifts, meets_begun, not_link, waits_none}
+use Rattle.hb_relays.proofs.Staying.{Stays, begun_undue, is_begun}
 
 -- whichever point an entry is
 module _ (k : Relays) (n : ℕ) (z : Entry) (q : Point) (is : point_for k n z ≡ Some q) where
   up_point : (l : ℕ) → get k.ups n ≡ Some l → q ≡ of_plain l (up z)
   up_point l found =
-      let both : Some (of_plain l (up z)) ≡ Some q = sym (ap (λ (o : Option ℕ). point_by o (get k.relays n) n z) found) ∙ is in
+      let both : Some (of_plain l (up z)) ≡ Some q =
+      sym (ap (λ (o : Option ℕ). point_by o (get k.relays n) (get k.gates n) n z) found) ∙ is in
       cc
 
   own_point : (old : Relay) → get k.ups n ≡ None → get k.relays n ≡ Some old → q ≡ of_plain n (entry z)
   own_point old none found =
       let both : Some (of_plain n (entry z)) ≡ Some q =
-      sym (ap (λ (o : Option ℕ). point_by o (get k.relays n) n z) none
-      ∙ ap (λ (o : Option Relay). point_by None o n z) found) ∙ is in
+      sym (ap (λ (o : Option ℕ). point_by o (get k.relays n) (get k.gates n) n z) none
+      ∙ ap (λ (o : Option Relay). point_by None o (get k.gates n) n z) found) ∙ is in
       cc
+
+-- what follows of a call that had memory
+pub on_ok : {A E : Type 0} {P Q : Type 0} → (r : Result A E) → (P → Q) → OnOk r P → OnOk r Q
+on_ok (Ok v) f is = f is
+on_ok (Err v) f is = tt
 
 -- what holds whatever is held
 pub anywhere : (P : Resources → Type 0) (p : Part) (old new : Relay) (before behind : Routing) (made : Option Note)
@@ -54,7 +78,53 @@ changed_is k n relays routes l old new n_is relays_is is =
     n_is ∙ ap (λ (m : Map). touched_at l (routes_with routes (relays_with m k.ups k)))
     (relays_is ∙ written_where_some k.relays l new (ap is_some is))
 
--- of a link whose upstream it is; of a link
+-- ON AN UPSTREAM: its link has no stream, and waits for no dial
+
+one_raw : (o : Option Key) (u gate v : ℕ) → HasOne o u gate → u ≡ v → 0 < v → gate ≡ 0
+one_raw None u gate v has is some = has.1
+one_raw (Some key) u gate v has is some = absurd (let none = has.0 in omega (arith, none, is, some))
+
+live_raw : (k : Relay) (x : Captured) (u : ℕ) → Shows k x → x.stage ≡ m.live → x.up ≡ u → 0 < u → x.gate ≡ 0
+live_raw k x u shows stage is some =
+    one_raw (key_of x.aim) x.up x.gate u (subst (λ (s : Stage). HasUpstream s (key_of x.aim) x.up x.gate) stage shows.upstream) is some
+
+opening_raw : (k : Relay) (x : Captured) (u : ℕ) → Shows k x → x.stage ≡ m.opening → x.up ≡ u → 0 < u → x.gate ≡ 0
+opening_raw k x u shows stage is some =
+    one_raw (key_of x.aim) x.up x.gate u (subst (λ (s : Stage). HasUpstream s (key_of x.aim) x.up x.gate) stage shows.upstream) is some
+
+due_raw : (k : Relay) (x : Captured) → Shows k x → x.stage ≡ m.due → x.gate ≡ 0
+due_raw k x shows stage = (subst (λ (s : Stage). HasUpstream s (key_of x.aim) x.up x.gate) stage shows.upstream).1
+
+over_raw : (k : Relay) (x : Captured) (why : Cause) → Shows k x → x.stage ≡ m.over why → x.gate ≡ 0
+over_raw k x why shows stage = eqb-true x.gate 0 (subst (λ (s : Stage). IsCalmBy s x) stage shows.calm)
+
+pub up_facts : (l : ℕ) (k : Relay) (x : Captured) (z : Entry) → UpMayCome l x z → Shows k x
+    → (is_begun (up_entered z x).stage ≡ true) × ((up_entered z x).gate ≡ 0)
+up_facts l k x (e.Dialled u to why) may shows = (refl, due_raw k x shows may.0.1)
+up_facts l k x (e.DialFailed to why) may shows = (ap (λ (s : Stage). is_begun (ends_by cause.UpFault s)) may.1, due_raw k x shows may.1)
+up_facts l k x (e.Opened u) may shows = (refl, opening_raw k x u shows may.0.1 may.1 may.2)
+up_facts l k x (e.Came u bytes) may shows = (ap is_begun may.0.0.1, live_raw k x u shows may.0.0.1 may.0.1 may.0.2)
+up_facts l k x (e.Ended u) may shows = (ap is_begun may.0.0.1, live_raw k x u shows may.0.0.1 may.0.1 may.0.2)
+up_facts l k x (e.Went u bytes) may shows = (ap is_begun may.0.0.1, live_raw k x u shows may.0.0.1 may.0.1 may.0.2)
+up_facts l k x (e.Broke u) (inl may) shows =
+    (ap (λ (s : Stage). is_begun (ends_by cause.UpFault s)) may.0.1, opening_raw k x u shows may.0.1 may.1 may.2)
+up_facts l k x (e.Broke u) (inr may) shows =
+    (ap (λ (s : Stage). is_begun (ends_by cause.UpFault s)) may.0.1, live_raw k x u shows may.0.1 may.1 may.2)
+up_facts l k x (e.Shut u) may shows = (ap is_begun may.1, live_raw k x u shows may.1 may.2 may.3)
+up_facts l k x (e.Closed u why) may shows = (ap is_begun may.1, over_raw k x why shows may.1)
+up_facts l k x (e.Balked (way.Finish u)) may shows = (ap is_begun may.0.1, opening_raw k x u shows may.0.1 may.1 may.2)
+up_facts l k x (e.Balked (way.Read u)) may shows = (ap is_begun may.0.0.1, live_raw k x u shows may.0.0.1 may.0.1 may.0.2)
+up_facts l k x (e.Balked (way.Write u)) may shows = (ap is_begun may.0.0.1, live_raw k x u shows may.0.0.1 may.0.1 may.0.2)
+up_facts l k x z may shows = absurd may
+
+-- of a link whose upstream it is
+pub up_meets : (P : Resources → Type 0) (k new : Relays) (l : ℕ) (old : Relay) (z : Entry) (told now : Told) → get k.relays l ≡ Some old
+    → MeetsAt P l (up z) k told new now → Meets (λ x. P x.control.held) (of_plain l (up z)) k told new now
+up_meets P k new l old z told now is meets =
+    meets_begun P l (up z) k new told now
+    (λ g x y points stands shows steps.
+    up_facts l old (x.plain l) z steps.0 (kept_shown k x.plain l old shows.relays is).1) meets
+
 module _ (P : Resources → Type 0) (k n : Relays) (relays : Map) (routes : Routes) (old new : Relay) (told now : Told)
     (made : Option Note) (takes : Takes told (note_if made) now) where
   pub up_told : (u : ℕ) (z : Entry) (l : ℕ) → n ≡ touched_at l (routes_with routes (relays_with relays k.ups k))
@@ -65,26 +135,135 @@ module _ (P : Resources → Type 0) (k n : Relays) (relays : Map) (routes : Rout
       subst (λ (w : Point). Meets (λ x. P x.control.held) w k told n now) (sym (up_point k u z q point l found))
       (subst (λ (m : Relays). Meets (λ x. P x.control.held) (of_plain l (up z)) k told m now)
       (sym (changed_is k n relays routes l old new n_is relays_is is))
-      (lifts P k l old new routes told now made (λ i. up z) is stays enters takes))
+      (up_meets P k (touched_at l (routes_with routes (changed l new k))) l old z told now is
+      (lifts P k l old new routes told now made (λ i. up z) is stays enters takes)))
 
-  pub own_told : (l : ℕ) (z : ℕ → Entry) → n ≡ touched_at l (routes_with routes (relays_with relays k.ups k))
-      → relays ≡ written k.relays l new → get k.ups l ≡ None → get k.relays l ≡ Some old → ((x : Captured) → Stays x (entered (z l) x))
+  -- of a link: what it is before its stream is seen to
+  pub own_goes : (l : ℕ) (z : ℕ → Entry) → n ≡ touched_at l (routes_with routes (relays_with relays k.ups k))
+      → relays ≡ written k.relays l new → get k.relays l ≡ Some old → ((x : Captured) → Stays x (entered (z l) x))
       → relay.Meets P (entry (z old.number)) old (code_routing k.routes) new (code_routing routes) made
-      → EntersWhere (λ x. P x.control.held) l (z l) k told n now
-  own_told l z n_is relays_is none is stays enters q point =
-      subst (λ (w : Point). Meets (λ x. P x.control.held) w k told n now) (sym (own_point k l (z l) q point old none is))
-      (subst (λ (m : Relays). Meets (λ x. P x.control.held) (of_plain l (entry (z l))) k told m now)
-      (sym (changed_is k n relays routes l old new n_is relays_is is))
-      (lifts P k l old new routes told now made (λ i. entry (z i)) is stays enters takes))
+      → MeetsAt P l (entry (z l)) k told n now
+  own_goes l z n_is relays_is is stays enters =
+      subst (λ (m : Relays). MeetsAt P l (entry (z l)) k told m now) (sym (changed_is k n relays routes l old new n_is relays_is is))
+      (lifts P k l old new routes told now made (λ i. entry (z i)) is stays enters takes)
 
--- what opens is an upstream: no link that was accepted does
-pub none_opens : (k : Relays) (n : ℕ) (told : Told) → get k.ups n ≡ None → Enters n (e.Opened n) k told k told
-none_opens k n told none q point = by (get k.relays n) refl
+-- THE LINK'S STREAM IS SEEN TO BEHIND THAT
+
+pub quiet_undue : (c : Captured) → IsQuiet c → c.stage ≢ due
+quiet_undue c quiet is = subst (λ (s : Stage). IsIdleBy s c) is quiet.1
+
+-- while it isn't the turn of acts no other link waits
+others_undue : (x : Machine) (l : ℕ) (z : Entry) → is_act z ≡ false → PlainMayCome x l z → NoneDueBut l x
+others_undue x l z no_act may j apart =
+    quiet_undue (x.plain j) (subst (λ (first : Bool). PlainLets first (x.plain j)) no_act (may.others j apart))
+
+either : (b : Bool) → (b || not b) ≡ true
+either true = refl
+either false = refl
+
+-- still no other link waits
+undue_then : (g : NodeConfig) (x y : Machine) (l : ℕ) (z : Entry) (a : Relays) (told now : Told) → is_act z ≡ false
+    → Steps g x (of_plain l (entry z)) y → (goes : GoesAt g l y a told now) → NoneDueBut l goes.comes.reached
+undue_then g x y l z a told now no_act steps goes j apart is =
+    let were : goes.comes.reached.plain j ≡ x.plain j =
+    goes.others j apart ∙ ap (λ (w : Machine). w.plain j) steps.2 ∙ there x l (entry z) (next_link (x.plain l) (entry z)) j apart in
+    others_undue x l z no_act steps.1 j apart (sym (ap (λ (c : Captured). c.stage) were) ∙ is)
+
+-- bytes came: it gets its stream where it wants one, or is refused, and what may be put is
+pub own_took : (P : Resources → Type 0) (k a b c d : Relays) (n : ℕ) (bytes : List ℕ) (told one two now : Told)
+    → MeetsAt P n (entry (e.Came n bytes)) k told a one → Joins n a b → Refuses b one c two → Pumps n c two d now
+    → Meets (λ x. P x.control.held) (of_plain n (entry (e.Came n bytes))) k told d now
+own_took P k a b c d n bytes told one two now meets joins refuses pumps g x y points stands shows holds steps =
+    let p = of_plain n (entry (e.Came n bytes)) in
+    let goes = meets g x y points stands shows holds steps in
+    let first = goes.comes in
+    let ran : StandsFor g y (points ++ p ∷ []) = goes_on stands p steps refl in
+    let at = stands_on g y (points ++ p ∷ []) first.more first.reached ran first.leads in
+    let joined = joins (but n) (not_link n) g first.reached at.0 at.1 first.shows one in
+    let second = comes_then (but n) (also n (but n)) (not_link n) (not_link n) all all g y a b told one one first joined in
+    let at_second = stands_on g y (points ++ p ∷ []) second.more second.reached ran second.leads in
+    let refused = refuses (not_link n) g second.reached at_second.0 at_second.1
+    (knows (also n (but n)) all (not_link n) (not_link n) all all g b (outward second.reached) (λ j is. either (j == n)) (λ j w is. is)
+    (λ j is. is) second.shows) in
+    let third = comes_then (also n (but n)) all (not_link n) (not_link n) all all g y b c told one two second refused in
+    let at_third = stands_on g y (points ++ p ∷ []) third.more third.reached ran third.leads in
+    let pumped = pumps (not_link n) g third.reached at_third.0 at_third.1 third.shows
+    (λ j apart. refused.undue j (joined.undue j (undue_then g x y n (e.Came n bytes) a told one refl steps goes j apart))) in
+    comes_whole all (with_link n (not_link n)) all g y d told now (λ j. refl) (λ j w. either (j == n)) (λ j. refl)
+    (comes_then all all (not_link n) (with_link n (not_link n)) all all g y c d told two now third pumped)
+
+-- it waits for none behind an entry: what may be put is
+pub own_pumped : (P : Resources → Type 0) (k a b : Relays) (n : ℕ) (z : Entry) (told one now : Told) → is_act z ≡ false
+    → ((x : Captured) → MayCome n x z → is_begun (entered z x).stage ≡ true)
+    → MeetsAt P n (entry z) k told a one → Pumps n a one b now → Meets (λ x. P x.control.held) (of_plain n (entry z)) k told b now
+own_pumped P k a b n z told one now no_act begins meets pumps g x y points stands shows holds steps =
+    let p = of_plain n (entry z) in
+    let goes = meets g x y points stands shows holds steps in
+    let first = goes.comes in
+    let ran : StandsFor g y (points ++ p ∷ []) = goes_on stands p steps refl in
+    let at = stands_on g y (points ++ p ∷ []) first.more first.reached ran first.leads in
+    let is : y.plain n ≡ entered z (x.plain n) =
+    ap (λ (w : Machine). w.plain n) steps.2 ∙ own_now x n z in
+    let begun : is_begun (first.reached.plain n).stage ≡ true =
+    goes.begun (ap (λ (w : Captured). is_begun w.stage) is ∙ begins (x.plain n) steps.0) in
+    let known = waits_none g n y a told one goes (begun_undue (first.reached.plain n).stage begun) in
+    let pumped = pumps (not_link n) g first.reached at.0 at.1 known (undue_then g x y n z a told one no_act steps goes) in
+    comes_whole all (with_link n (not_link n)) all g y b told now (λ j. refl) (λ j w. either (j == n)) (λ j. refl)
+    (comes_then all all (not_link n) (with_link n (not_link n)) all all g y a b told one now
+    (record { more = first.more; reached = first.reached; leads = first.leads; shows = known; noted = first.noted }) pumped)
   where
-    by : (o : Option Relay) → get k.relays n ≡ o → Meets any q k told k told
-    by None gone = absurd (let both : None ≡ Some q =
-        sym (ap (λ (o : Option ℕ). point_by o (get k.relays n) n (e.Opened n)) none
-        ∙ ap (λ (o : Option Relay). point_by None o n (e.Opened n)) gone) ∙ point in cc both)
-    by (Some old) found =
-        subst (λ (w : Point). Meets any w k told k told) (sym (own_point k n (e.Opened n) q point old none found))
-        (λ g x y points stands shows holds steps. absurd steps.0)
+    own_now : (x : Machine) (n : ℕ) (z : Entry)
+        → (with_plain n (entry z) (next_link (x.plain n) (entry z)) x).plain n ≡ entered z (x.plain n)
+    own_now x n z = ap (λ (t : Bool). cond t (entered z (x.plain n)) (x.plain n)) (eq-eqb n n refl)
+
+ended_tried : (x : Captured) → IsTried x → is_begun (hung_up x.stage) ≡ true
+ended_tried x (inl at) = ap (λ (s : Stage). is_begun (hung_up s)) at.1
+ended_tried x (inr (inl at)) = ap (λ (s : Stage). is_begun (hung_up s)) at.1
+ended_tried x (inr (inr at)) = ap (λ (s : Stage). is_begun (hung_up s)) at.1
+
+pub ended_begun : (n : ℕ) (x : Captured) → MayCome n x (e.Ended n) → is_begun (entered (e.Ended n) x).stage ≡ true
+ended_begun n x may = ended_tried x may.1.0
+
+pub went_begun : (n : ℕ) (bytes : List ℕ) (x : Captured) → MayCome n x (e.Went n bytes)
+    → is_begun (entered (e.Went n bytes) x).stage ≡ true
+went_begun n bytes x may = ap is_begun may.1.1
+
+-- WHICH POINT IT IS
+
+pub own_told : (P : Machine → Type 0) (k new : Relays) (n : ℕ) (z : Entry) (old : Relay) (told now : Told) → get k.ups n ≡ None
+    → get k.relays n ≡ Some old → Meets P (of_plain n (entry z)) k told new now → EntersWhere P n z k told new now
+own_told P k new n z old told now none is meets q point =
+    subst (λ (w : Point). Meets P w k told new now) (sym (own_point k n z q point old none is)) meets
+
+pub gate_told : (P : Machine → Type 0) (k new : Relays) (n : ℕ) (z : Entry) (told now : Told) → get k.ups n ≡ None
+    → get k.relays n ≡ None → GateEntersWhere P n z k told new now → EntersWhere P n z k told new now
+gate_told P k new n z told now none gone enters q point = by (get k.gates n) refl
+  where
+    at_gate : (o : Option Gate) → get k.gates n ≡ o → gate_point o n z ≡ Some q
+    at_gate o found =
+        ap (λ (a : Option Gate). gate_point a n z) (sym found)
+        ∙ sym (ap (λ (a : Option ℕ). point_by a (get k.relays n) (get k.gates n) n z) none
+        ∙ ap (λ (a : Option Relay). point_by None a (get k.gates n) n z) gone) ∙ point
+
+    by : (o : Option Gate) → get k.gates n ≡ o → Meets P q k told new now
+    by None found = absurd (let both : None ≡ Some q = at_gate None found in cc both)
+    by (Some kept) found =
+        let both : Some (of_gate n (gateway.entry z)) ≡ Some q = at_gate (Some kept) found in
+        let is : of_gate n (gateway.entry z) ≡ q = cc both in
+        subst (λ (w : Point). Meets P w k told new now) is (enters (ap is_some found))
+
+-- no link that was accepted opens
+pub none_opens : (k new : Relays) (n : ℕ) (told now : Told) (old : Relay) → get k.ups n ≡ None → get k.relays n ≡ Some old
+    → Enters n (e.Opened n) k told new now
+none_opens k new n told now old none found q point =
+    subst (λ (w : Point). Meets any w k told new now) (sym (own_point k n (e.Opened n) q point old none found))
+    (λ g x y points stands shows holds steps. absurd steps.0)
+
+-- but one to a gateway may
+pub opened_told : (k new : Relays) (n : ℕ) (told now : Told) → get k.ups n ≡ None → GateEntersWhere any n (e.Opened n) k told new now
+    → Enters n (e.Opened n) k told new now
+opened_told k new n told now none enters = by (get k.relays n) refl
+  where
+    by : (o : Option Relay) → get k.relays n ≡ o → Enters n (e.Opened n) k told new now
+    by None gone = gate_told any k new n (e.Opened n) told now none gone enters
+    by (Some old) found = none_opens k new n told now old none found

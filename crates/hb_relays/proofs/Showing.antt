@@ -1,15 +1,16 @@
 -- A call of one link is a call of all links.
-use Rattle.std.proofs.Common.{◌≡◌, ◌≢◌, ◌⊎◌, inl, inr, ⊎_elim, ℕ, ◌<◌, ◌^◌, Bool, false, List, map, Option, Some, None, is_some, ap, sym, ◌∙◌, subst, arith}
-use Rattle.std.proofs.lemmas.Bool.{cases_eq}
+use Rattle.std.proofs.Common.{◌≡◌, ◌≢◌, ◌⊎◌, inl, inr, ⊎_elim, ℕ, ◌<◌, ◌^◌, ◌==◌, not, Bool, true, false, List, map, Option, Some, None, is_some, refl, ap, sym, ◌∙◌, subst, arith}
+use Rattle.std.proofs.lemmas.Bool.{cases_eq, ne_eqb, eqb-false, true≢false}
 use Rattle.std.specs.FinMap.{get, insert, remove}
 use Rattle.hb_base.specs.declared.note.Note.{Note}
-use Rattle.hb_captured.specs.Answer.{Routing}
+use Rattle.hb_captured.specs.Answer.{Routing, key_of}
 use Rattle.hb_captured.specs.Captured as m
-use Rattle.hb_captured.specs.Captured.{Captured, Stage}
+use Rattle.hb_captured.specs.Captured.{Captured, Stage, due, is_raw}
 use Rattle.hb_captured.specs.Part.{Part, note_if}
 use Rattle.hb_captured.specs.Runs as captured
 use Rattle.hb_captured.specs.Runs.{Local, next, next_link}
-use Rattle.hb_gateway.specs.Gateway.{Gateway, no_link}
+use Rattle.hb_gateway.specs.Calm as gateway_calm
+use Rattle.hb_gateway.specs.Gateway.{Gateway}
 use Rattle.hb_held.specs.Held.{Resources}
 use Rattle.hb_link.specs.Noted.{Told, Takes}
 use Rattle.hb_map.proofs.Laws.{put_here, put_elsewhere, removed_here, removed_elsewhere}
@@ -18,10 +19,9 @@ use Rattle.hb_proxy.proofs.Plain.{plain_runs, turned}
 use Rattle.hb_proxy.specs.Held.{at_start}
 use Rattle.hb_proxy.specs.Machine.{Machine, Outward, outward, plain_local}
 use Rattle.hb_proxy.specs.Points.{Point, of_plain, plain_of}
-use Rattle.hb_proxy.specs.Runs.{Steps, StandsFor, routing_of}
+use Rattle.hb_proxy.specs.Runs.{IfThrough, NoneOffersAmong, RestsAmong, Steps, StandsFor, routing_of}
 use Rattle.hb_proxy.specs.Seen.{IsPlainThere, IsPlainThereBy}
 use Rattle.hb_proxy.specs.Ups.{IsRelayOf}
-use Rattle.hb_relay.proofs.Reached.{stage_is}
 use Rattle.hb_relay.specs.Answering.{routing_of as code_routing}
 use Rattle.hb_relay.specs.Reaches as relay
 use Rattle.hb_relay.specs.Reaches.{rerouted}
@@ -30,18 +30,20 @@ use Rattle.hb_relay.specs.declared.relay.Relay.{Relay}
 use Rattle.hb_relay.specs.declared.routes.Routes.{Routes}
 use Rattle.hb_relay.specs.declared.stage.Stage as code
 use Rattle.hb_relay.specs.declared.stage.Stage.TheVariants.{Fronting, Due, Opening, Live, Over}
+use Rattle.hb_relays.specs.Joining.{Links, Streams, ShowsSome, all, but}
 use Rattle.hb_relays.specs.Reaches.{Follows, Meets}
-use Rattle.hb_relays.specs.Shows.{IsIdle, IsIndex, ShowsRelay, ShowsRelays}
+use Rattle.hb_relays.specs.Shows.{IsIdle, IsIndex, ShowsGate, ShowsRelay, ShowsRelays}
 use Rattle.hb_relays.specs.Walks.{Map, Index, ShowsBut, relays_with, routes_with, touched_at}
 use Rattle.hb_relays.specs.declared.relays.Relays.{Relays}
 use Rattle.hb_relays.proofs.Lifted.{lifted, counts, here, there, notes_of}
-use Rattle.hb_relays.proofs.Staying.{Stays, leads_stay}
+use Rattle.hb_relays.proofs.Progress.{Comes}
+use Rattle.hb_relays.proofs.Staying.{IsBare, Stays, is_begun, begun_undue, leads_bare, leads_begun, leads_gate, leads_stay}
 use Rattle.hb_relays.proofs.Touching.{untouched}
 
 -- A LINK THAT IS THERE
 
 pub there_by : (k : Relay) (x : Captured) → Shows k x → x.closed ≡ false → IsPlainThere x
-there_by k x shows opens = by k.stage (stage_is k x shows.same)
+there_by k x shows opens = by k.stage (ap (λ (y : Captured). y.stage) shows.same)
   where
     by : (s : code.Stage) → x.stage ≡ stage_of s → IsPlainThere x
     by Fronting is = subst (λ (s : Stage). IsPlainThereBy s x.closed) (sym is) opens
@@ -150,15 +152,40 @@ but_all g l k x shows = record {
   numbered = shows.numbered;
   idle = λ j apart none. shows.idle j none;
   counted = shows.counted;
-  no_gates = shows.no_gates;
+  gates = shows.gates;
+  gate_numbered = shows.gate_numbered;
+  gate_idle = shows.gate_idle;
+  calm = shows.calm;
+  wanting = shows.wanting;
 }
+
+-- the streams of all links but one
+abbrev pub not_link : ℕ → Streams
+not_link l k x = not (k == l)
+
+pub apart_of : (j l : ℕ) → not (j == l) ≡ true → j ≢ l
+apart_of j l is = eqb-false j l (by (j == l) is)
+  where
+    by : (b : Bool) → not b ≡ true → b ≡ false
+    by false is = refl
+    by true is = absurd (true≢false (sym is))
+
+pub apart_is : (j l : ℕ) → j ≢ l → not (j == l) ≡ true
+apart_is j l apart = ap not (ne_eqb j l apart)
+
+-- nothing may be put on a stream of a link that has none
+pub raw_rests : (gates : ℕ → Gateway) (x : Captured) → x.gate ≡ 0 → RestsAmong gates x
+raw_rests gates x none on = absurd (true≢false (sym (ap (λ (n : ℕ). n == 0) none) ∙ on))
 
 module _ (g : NodeConfig) (k : Relays) (l : ℕ) (relays : Map) (ups : Index) (routes : Routes) (x z : Outward) (shows : ShowsBut g l k x)
     (same : (j : ℕ) → j ≢ l → get relays j ≡ get k.relays j) (others : (j : ℕ) → j ≢ l → z.plain j ≡ x.plain j)
-    (gates : z.gates ≡ x.gates) (counted : code_routing routes ≡ record { opens = z.opens; hbone_port = g.hbone_port }) where
+    (gates : z.gates ≡ x.gates) (counted : code_routing routes ≡ record { opens = z.opens; hbone_port = g.hbone_port })
+    (waiting : Links) (resting : Streams) where
   pub shown_then : l < 2 ^ 64 → ShowsRelay l (get relays l) (z.plain l) → IsIndex ups z.plain
-      → ShowsRelays g (touched_at l (routes_with routes (relays_with relays ups k))) z
-  shown_then narrow shown index = record {
+      → (waiting l ≡ true → (z.plain l).stage ≡ due → IfThrough (key_of (z.plain l).aim) (NoneOffersAmong z.gates))
+      → (resting l (z.plain l) ≡ true → RestsAmong z.gates (z.plain l))
+      → ShowsSome waiting resting all g (touched_at l (routes_with routes (relays_with relays ups k))) z
+  shown_then narrow shown index waits rests = record {
     relays = λ j. ⊎_elim
         (λ at. subst (λ (i : ℕ). ShowsRelay i (get relays i) (z.plain i)) (sym at) shown)
         (λ apart. subst (λ (o : Option Relay). ShowsRelay j o (z.plain j)) (sym (same j apart))
@@ -170,12 +197,37 @@ module _ (g : NodeConfig) (k : Relays) (l : ℕ) (relays : Map) (ups : Index) (r
     idle = λ j none. (let was = untouched l k.due j none in
         subst (λ (w : Captured). IsIdle w) (sym (others j was.0)) (shows.idle j was.0 was.1));
     counted = counted;
-    no_gates = λ n. ap (λ (f : ℕ → Gateway). f n) gates ∙ shows.no_gates n;
+    gates = λ n. subst (λ (f : ℕ → Gateway). ShowsGate n (get k.gates n) (f n)) (sym gates) (shows.gates n);
+    gate_numbered = shows.gate_numbered;
+    gate_idle = λ n none. subst (λ (f : ℕ → Gateway). gateway_calm.close_due (f n).phase ≡ None) (sym gates) (shows.gate_idle n none);
+    gates_calm = λ n is. subst (λ (f : ℕ → Gateway). gateway_calm.IsCalm (f n)) (sym gates) (shows.calm.gates n);
+    streams = λ j is. ⊎_elim
+        (λ at. subst (λ (i : ℕ). RestsAmong z.gates (z.plain i)) (sym at)
+        (rests (subst (λ (i : ℕ). resting i (z.plain i) ≡ true) at is)))
+        (λ apart. subst (RestsAmong z.gates) (sym (others j apart))
+        (subst (λ (f : ℕ → Gateway). RestsAmong f (x.plain j)) (sym gates) (shows.calm.streams j)))
+        (cases_eq j l);
+    wanting = λ j is stage. ⊎_elim
+        (λ at. subst (λ (i : ℕ). IfThrough (key_of (z.plain i).aim) (NoneOffersAmong z.gates)) (sym at)
+        (waits (subst (λ (i : ℕ). waiting i ≡ true) at is) (subst (λ (i : ℕ). (z.plain i).stage ≡ due) at stage)))
+        (λ apart. subst (λ (w : Captured). IfThrough (key_of w.aim) (NoneOffersAmong z.gates)) (sym (others j apart))
+        (subst (λ (f : ℕ → Gateway). IfThrough (key_of (x.plain j).aim) (NoneOffersAmong f)) (sym gates)
+        (shows.wanting j (ap (λ (w : Captured). w.stage) (sym (others j apart)) ∙ stage))))
+        (cases_eq j l);
   }
 
 -- the counts behind a part of a link, by those of the code
 abbrev pub counts_by : Relays → Machine → ℕ → Part → Routing
 counts_by k x l p = rerouted (x.plain l) (next (plain_local x l) p).link (code_routing k.routes)
+
+-- One link went on from where it is, by itself: of whether it waits for one to its gateway, and of its stream, nothing is known
+pub record GoesAt (g : NodeConfig) (l : ℕ) (y : Machine) (k : Relays) (told now : Told) : Type 0 where
+  pub comes : Comes (but l) (not_link l) all g y k told now
+  pub others : (j : ℕ) → j ≢ l → comes.reached.plain j ≡ y.plain j
+  pub gates : comes.reached.gates ≡ y.gates
+  pub begun : is_begun (y.plain l).stage ≡ true → is_begun (comes.reached.plain l).stage ≡ true
+  pub bare : IsBare (y.plain l) → IsBare (comes.reached.plain l)
+  pub gate : (comes.reached.plain l).gate ≡ (y.plain l).gate
 
 -- Of a run whose links the code showed, and behind which a part of a link comes: where the code of that link reaches one with what
 -- follows, the code of all links does so with it in the place of the old one
@@ -192,40 +244,117 @@ module _ (g : NodeConfig) (k : Relays) (l : ℕ) (p : Part) (new : Relay) (ups :
       ap (routing_of g) steps.2 ∙ counts g x l p steps.1
       ∙ ap (rerouted (x.plain l) (next (plain_local x l) p).link) (sym shows.counted)
 
-  no_gates : (n : ℕ) → y.gates n ≡ no_link
-  no_gates n = ap (λ (w : Machine). w.gates n) steps.2 ∙ shows.no_gates n
+  -- the link itself
+  pub link_next : (y.plain l) ≡ next_link (x.plain l) p
+  link_next = ap (λ (c : Local). c.link) (behind ∙ turned g x l p steps.1 (plain_local x l))
 
   pub reaches : new.number ≡ l → l < 2 ^ 64
-      → relay.Reaches l (counts_by k x l p) (next (plain_local x l) p) new (code_routing routes) made → Takes told (note_if made) now
-      → (next_link (x.plain l) p).closed ≡ false
+      → relay.Reaches relay.IsInner l (counts_by k x l p) (next (plain_local x l) p) new (code_routing routes) made
+      → Takes told (note_if made) now → (next_link (x.plain l) p).closed ≡ false
       → ((z : ℕ → Captured) → ((j : ℕ) → j ≢ l → z j ≡ x.plain j) → (z l).up ≡ (next_link (x.plain l) p).up → IsIndex ups z)
-      → Follows g y (touched_at l (routes_with routes (relays_with (insert k.relays l new) ups k))) told now
+      → GoesAt g l y (touched_at l (routes_with routes (relays_with (insert k.relays l new) ups k))) told now
   reaches number narrow last takes opens index =
-      let then = lifted g l y last.parts last.reached (code_routing routes) no_gates
-      (subst (λ (by : Routing). relay.Leads l by (plain_local y l) last.parts last.reached (code_routing routes)) (sym counted_so)
-      (subst (λ (c : Local). relay.Leads l (counts_by k x l p) c last.parts last.reached (code_routing routes)) (sym behind) last.leads)) in
+      let at_y : relay.Leads relay.IsInner l (routing_of g y) (plain_local y l) last.parts last.reached (code_routing routes) =
+      subst (λ (by : Routing). relay.Leads relay.IsInner l by (plain_local y l) last.parts last.reached (code_routing routes)) (sym counted_so)
+      (subst (λ (c : Local). relay.Leads relay.IsInner l (counts_by k x l p) c last.parts last.reached (code_routing routes)) (sym behind)
+      last.leads) in
+      let then = lifted g l y last.parts last.reached (code_routing routes) at_y in
       let z = then.y.plain in
       let link_is : z l ≡ last.reached.link = ap (λ (c : Local). c.link) then.here in
       let stays = leads_stay l (counts_by k x l p) (next (plain_local x l) p) last.parts last.reached (code_routing routes) last.leads in
-      let link_next : (next (plain_local x l) p).link ≡ next_link (x.plain l) p =
+      let link_then : (next (plain_local x l) p).link ≡ next_link (x.plain l) p =
       ap (λ (c : Local). c.link) (turned g x l p steps.1 (plain_local x l)) in
       let others : (j : ℕ) → j ≢ l → z j ≡ x.plain j = λ j apart. then.others j apart ∙ apart_from j apart in
-      let closed_is : last.reached.link.closed ≡ false = stays.closed ∙ ap (λ (c : Captured). c.closed) link_next ∙ opens in
+      let closed_is : last.reached.link.closed ≡ false = stays.closed ∙ ap (λ (c : Captured). c.closed) link_then ∙ opens in
       record {
-        more = map (of_plain l) last.parts;
-        reached = then.y;
-        leads = then.leads;
-        shows = shown_then g k l (insert k.relays l new) ups routes (outward x) (outward then.y) (but_all g l k (outward x) shows)
-            (put_elsewhere k.relays l new) others (then.gates ∙ ap (λ (w : Machine). w.gates) steps.2) (sym then.counted) narrow
-            (subst (λ (o : Option Relay). ShowsRelay l o (z l)) (sym (put_here k.relays l new))
-            (subst (λ (w : Captured). ShowsRelay l (Some new) w) (sym link_is)
-            (number, last.shows, there_by new last.reached.link last.shows closed_is)))
-            (index z others (ap (λ (w : Captured). w.up) link_is ∙ stays.up ∙ ap (λ (c : Captured). c.up) link_next));
-        noted = subst (λ (ns : List Note). Takes told ns now) (sym (notes_of l last.parts))
-            (subst (λ (ns : List Note). Takes told ns now) (sym last.noted) takes);
+        comes = record {
+          more = map (of_plain l) last.parts;
+          reached = then.y;
+          leads = then.leads;
+          shows = shown_then g k l (insert k.relays l new) ups routes (outward x) (outward then.y) (but_all g l k (outward x) shows)
+              (put_elsewhere k.relays l new) others (then.gates ∙ ap (λ (w : Machine). w.gates) steps.2) (sym then.counted)
+              (but l) (not_link l) narrow
+              (subst (λ (o : Option Relay). ShowsRelay l o (z l)) (sym (put_here k.relays l new))
+              (subst (λ (w : Captured). ShowsRelay l (Some new) w) (sym link_is)
+              (number, last.shows, there_by new last.reached.link last.shows closed_is)))
+              (index z others (ap (λ (w : Captured). w.up) link_is ∙ stays.up ∙ ap (λ (c : Captured). c.up) link_then))
+              (λ other stage. absurd (apart_of l l other refl)) (λ other. absurd (apart_of l l other refl));
+          noted = subst (λ (ns : List Note). Takes told ns now) (sym (notes_of l last.parts))
+              (subst (λ (ns : List Note). Takes told ns now) (sym last.noted) takes);
+        };
+        others = then.others;
+        gates = then.gates;
+        begun = λ is. ap (λ (w : Captured). is_begun w.stage) link_is
+            ∙ leads_begun l (routing_of g y) (plain_local y l) last.parts last.reached (code_routing routes) at_y is;
+        bare = λ is. subst IsBare (sym link_is)
+            (leads_bare l (routing_of g y) (plain_local y l) last.parts last.reached (code_routing routes) at_y is);
+        gate = ap (λ (w : Captured). w.gate) link_is
+            ∙ leads_gate l (routing_of g y) (plain_local y l) last.parts last.reached (code_routing routes) at_y;
       }
 
--- a call of a link that the code has, with another index of upstreams; or with the same, where it isn't the birth or the close of one
+-- where it waits for none that is known of all links; where it has no stream too all is known
+pub waits_none : (g : NodeConfig) (l : ℕ) (y : Machine) (k : Relays) (told now : Told) (goes : GoesAt g l y k told now)
+    → (goes.comes.reached.plain l).stage ≢ due → ShowsSome all (not_link l) all g k (outward goes.comes.reached)
+waits_none g l y k told now goes undue =
+    let shows = goes.comes.shows in
+    record {
+      relays = shows.relays;
+      index = shows.index;
+      numbered = shows.numbered;
+      idle = shows.idle;
+      counted = shows.counted;
+      gates = shows.gates;
+      gate_numbered = shows.gate_numbered;
+      gate_idle = shows.gate_idle;
+      gates_calm = shows.gates_calm;
+      streams = shows.streams;
+      wanting = λ j is stage. ⊎_elim
+          (λ at. absurd (undue (subst (λ (i : ℕ). (goes.comes.reached.plain i).stage ≡ due) at stage)))
+          (λ apart. shows.wanting j (apart_is j l apart) stage) (cases_eq j l);
+    }
+
+pub goes_whole : (g : NodeConfig) (l : ℕ) (y : Machine) (k : Relays) (told now : Told) (goes : GoesAt g l y k told now)
+    → (goes.comes.reached.plain l).stage ≢ due → (y.plain l).gate ≡ 0 → Follows g y k told now
+goes_whole g l y k told now goes undue raw =
+    let z = goes.comes.reached in
+    let shows = waits_none g l y k told now goes undue in
+    record {
+      more = goes.comes.more;
+      reached = z;
+      leads = goes.comes.leads;
+      shows = record {
+        relays = shows.relays;
+        index = shows.index;
+        numbered = shows.numbered;
+        idle = shows.idle;
+        counted = shows.counted;
+        gates = shows.gates;
+        gate_numbered = shows.gate_numbered;
+        gate_idle = shows.gate_idle;
+        calm = record {
+          gates = λ n. shows.gates_calm n refl;
+          streams = λ j. ⊎_elim
+              (λ at. subst (λ (i : ℕ). RestsAmong z.gates (z.plain i)) (sym at) (raw_rests z.gates (z.plain l) (goes.gate ∙ raw)))
+              (λ apart. shows.streams j (apart_is j l apart)) (cases_eq j l);
+        };
+        wanting = λ j. shows.wanting j refl;
+      };
+      noted = goes.comes.noted;
+    }
+
+pub goes_begun : (g : NodeConfig) (l : ℕ) (y : Machine) (k : Relays) (told now : Told) → GoesAt g l y k told now
+    → is_begun (y.plain l).stage ≡ true → (y.plain l).gate ≡ 0 → Follows g y k told now
+goes_begun g l y k told now goes begun raw =
+    goes_whole g l y k told now goes (begun_undue (goes.comes.reached.plain l).stage (goes.begun begun)) raw
+
+-- A CALL OF A LINK THAT THE CODE HAS, with another index of upstreams; or with the same, where it isn't the birth or the close of one
+
+-- what it is to all links, where the point may come
+abbrev pub MeetsAt : (Resources → Type 0) → ℕ → Part → Relays → Told → Relays → Told → Type 0
+MeetsAt P l p old told new now =
+    (g : NodeConfig) (x y : Machine) (points : List Point) → StandsFor g x points → ShowsRelays g old (outward x) → P x.control.held
+    → Steps g x (of_plain l p) y → GoesAt g l y new told now
+
 pub lifts_with : (P : Resources → Type 0) (k : Relays) (l : ℕ) (old new : Relay) (ups : Index) (routes : Routes) (told now : Told)
     (made : Option Note) (p : ℕ → Part) → get k.relays l ≡ Some old
     → ((g : NodeConfig) (x y : Machine) (points : List Point) → StandsFor g x points → ShowsRelays g k (outward x)
@@ -233,8 +362,7 @@ pub lifts_with : (P : Resources → Type 0) (k : Relays) (l : ℕ) (old new : Re
     → (z l).up ≡ (next_link (x.plain l) (p l)).up → IsIndex ups z)
     → ((x : Captured) → (next_link x (p l)).closed ≡ x.closed)
     → relay.Meets P (p old.number) old (code_routing k.routes) new (code_routing routes) made → Takes told (note_if made) now
-    → Meets (λ x. P x.control.held) (of_plain l (p l)) k told
-    (touched_at l (routes_with routes (relays_with (insert k.relays l new) ups k))) now
+    → MeetsAt P l (p l) k told (touched_at l (routes_with routes (relays_with (insert k.relays l new) ups k))) now
 lifts_with P k l old new ups routes told now made p is index closed meets takes g x y points stands shows holds steps =
     let shown = kept_shown k x.plain l old shows.relays is in
     let number = shown.0 in
@@ -244,17 +372,29 @@ lifts_with P k l old new ups routes told now made p is index closed meets takes 
     (subst (λ (i : ℕ). captured.StandsFor i (at_start g) a (plain_of l points)) (sym number) (plain_runs g x points l stands))
     shown.1 holds (subst (λ (i : ℕ). captured.MayGo i a (p l)) (sym number) steps.0) in
     reaches g k l (p l) new ups routes told now made x y shows steps (does.number ∙ number) (shows.numbered l (ap is_some is))
-    (subst (λ (i : ℕ). relay.Reaches i (counts_by k x l (p l)) (next a (p l)) new (code_routing routes) made) number one) takes
+    (subst (λ (i : ℕ). relay.Reaches relay.IsInner i (counts_by k x l (p l)) (next a (p l)) new (code_routing routes) made) number one)
+    takes
     (closed (x.plain l) ∙ opens_by (x.plain l).stage (x.plain l).closed shown.2)
     (index g x y points stands shows steps)
 
 pub lifts : (P : Resources → Type 0) (k : Relays) (l : ℕ) (old new : Relay) (routes : Routes) (told now : Told) (made : Option Note)
     (p : ℕ → Part) → get k.relays l ≡ Some old → ((x : Captured) → Stays x (next_link x (p l)))
     → relay.Meets P (p old.number) old (code_routing k.routes) new (code_routing routes) made → Takes told (note_if made) now
-    → Meets (λ x. P x.control.held) (of_plain l (p l)) k told
-    (touched_at l (routes_with routes (relays_with (insert k.relays l new) k.ups k))) now
+    → MeetsAt P l (p l) k told (touched_at l (routes_with routes (relays_with (insert k.relays l new) k.ups k))) now
 lifts P k l old new routes told now made p is stays meets takes =
     lifts_with P k l old new k.ups routes told now made p is
     (λ g x y points stands shows steps z others up.
     same_ups k.ups x.plain z (ups_same x.plain z l others (up ∙ (stays (x.plain l)).up)) shows.index)
     (λ x. (stays x).closed) meets takes
+
+-- where the link waits for no dial behind the point, and has no stream
+pub meets_begun : (P : Resources → Type 0) (l : ℕ) (p : Part) (k new : Relays) (told now : Told)
+    → ((g : NodeConfig) (x y : Machine) (points : List Point) → StandsFor g x points → ShowsRelays g k (outward x)
+    → Steps g x (of_plain l p) y → (is_begun (next_link (x.plain l) p).stage ≡ true) × ((next_link (x.plain l) p).gate ≡ 0))
+    → MeetsAt P l p k told new now → Meets (λ x. P x.control.held) (of_plain l p) k told new now
+meets_begun P l p k new told now facts meets g x y points stands shows holds steps =
+    let goes = meets g x y points stands shows holds steps in
+    let are = facts g x y points stands shows steps in
+    let is : y.plain l ≡ next_link (x.plain l) p =
+    ap (λ (w : Machine). w.plain l) steps.2 ∙ ap (λ (c : Local). c.link) (here g x l p steps.1 ∙ turned g x l p steps.1 (plain_local x l)) in
+    goes_begun g l y new told now goes (ap (λ (w : Captured). is_begun w.stage) is ∙ are.0) (ap (λ (w : Captured). w.gate) is ∙ are.1)

@@ -1,5 +1,5 @@
 -- What a part leaves as it is: the upstream of a link, and whether the link is closed; and what a link is before its birth.
-use Rattle.std.proofs.Common.{◌≡◌, inl, inr, ℕ, ◌&&◌, Bool, true, false, cond, List, [], ◌∷◌, refl, ap, sym, ◌∙◌}
+use Rattle.std.proofs.Common.{◌≡◌, ◌≢◌, ◌⊎◌, inl, inr, ℕ, ◌&&◌, Bool, true, false, cond, List, [], ◌∷◌, refl, ap, sym, ◌∙◌, subst, arith}
 use Rattle.std.proofs.Math.Bool.{and-false}
 use Rattle.std.proofs.lemmas.Bool.{true≢false}
 use Rattle.hb_base.specs.declared.cause.Cause.{Cause}
@@ -8,7 +8,9 @@ use Rattle.hb_captured.specs.Captured.{Captured, Stage, unborn, arriving, fronti
 use Rattle.hb_captured.specs.Answer.{Routing}
 use Rattle.hb_captured.specs.Part.{Part, entry, up, welcomed, crowded, lacked, misfronted, fronted, refused, accepted, roomless, asked, hears, put, finished, credited, loosed, completed, left, done, applied, stopped}
 use Rattle.hb_captured.specs.Runs.{Local, MayCome, UpMayCome, MayGo, IsTried, next, StandsFor, begins, goes_on}
+use Rattle.hb_front.proofs.Answers.{one_answer}
 use Rattle.hb_front.specs.Faults.{number_of}
+use Rattle.hb_front.specs.Reading.{Seen, IsAnswer, Whole, More}
 use Rattle.hb_gateway.specs.Response as response
 use Rattle.hb_gateway.specs.Response.{Heard, opens, brings, fails}
 use Rattle.hb_held.specs.Held.{Resources}
@@ -36,7 +38,7 @@ inner_stays a lacked inner = record { up = refl; closed = refl }
 inner_stays a (fronted seen routing aim) inner = record { up = refl; closed = refl }
 inner_stays a (refused seen routing why status note) inner = record { up = refl; closed = refl }
 inner_stays a (accepted note) inner = record { up = refl; closed = refl }
-inner_stays a roomless inner = record { up = refl; closed = refl }
+inner_stays a roomless inner = absurd inner
 inner_stays a (left made) inner = record { up = refl; closed = refl }
 inner_stays a (done note) inner = record { up = refl; closed = refl }
 inner_stays a (entry z) inner = absurd inner
@@ -53,12 +55,162 @@ inner_stays a (applied r) inner = absurd inner
 inner_stays a (stopped why) inner = absurd inner
 
 pub leads_stay : (l : ℕ) (routing : Routing) (a : Local) (parts : List Part) (b : Local) (behind : Routing)
-    → Leads l routing a parts b behind → Stays a.link b.link
+    → Leads IsInner l routing a parts b behind → Stays a.link b.link
 leads_stay l routing a [] b behind is =
     record { up = ap (λ (c : Local). c.link.up) is.0; closed = ap (λ (c : Local). c.link.closed) is.0 }
 leads_stay l routing a (p ∷ parts) b behind (inner, routed, may, more) =
     stays_then a.link (next a p).link b.link (inner_stays a p inner)
     (leads_stay l (rerouted a.link (next a p).link routing) (next a p) parts b behind more)
+
+-- nor does it get a stream, or leave it
+pub inner_gate : (a : Local) (p : Part) → IsInner p → (next a p).link.gate ≡ a.link.gate
+inner_gate a (entry z) inner = absurd inner
+inner_gate a (up z) inner = absurd inner
+inner_gate a (asked gate stream) inner = absurd inner
+inner_gate a (hears heard begun) inner = absurd inner
+inner_gate a (put bytes) inner = absurd inner
+inner_gate a finished inner = absurd inner
+inner_gate a (credited n) inner = absurd inner
+inner_gate a (loosed begun) inner = absurd inner
+inner_gate a (completed begun note) inner = absurd inner
+inner_gate a (applied r) inner = absurd inner
+inner_gate a (stopped why) inner = absurd inner
+inner_gate a p inner = refl
+
+pub inner_stream : (a : Local) (p : Part) → IsInner p → (next a p).link.stream ≡ a.link.stream
+inner_stream a (entry z) inner = absurd inner
+inner_stream a (up z) inner = absurd inner
+inner_stream a (asked gate number) inner = absurd inner
+inner_stream a (hears heard begun) inner = absurd inner
+inner_stream a (put bytes) inner = absurd inner
+inner_stream a finished inner = absurd inner
+inner_stream a (credited n) inner = absurd inner
+inner_stream a (loosed begun) inner = absurd inner
+inner_stream a (completed begun note) inner = absurd inner
+inner_stream a (applied r) inner = absurd inner
+inner_stream a (stopped why) inner = absurd inner
+inner_stream a p inner = refl
+
+pub leads_gate : (l : ℕ) (routing : Routing) (a : Local) (parts : List Part) (b : Local) (behind : Routing)
+    → Leads IsInner l routing a parts b behind → b.link.gate ≡ a.link.gate
+leads_gate l routing a [] b behind is = ap (λ (c : Local). c.link.gate) is.0
+leads_gate l routing a (p ∷ parts) b behind (inner, routed, may, more) =
+    leads_gate l (rerouted a.link (next a p).link routing) (next a p) parts b behind more ∙ inner_gate a p inner
+
+-- WHERE IT WAITS FOR NO DIAL, nor for its header, it never does behind that
+abbrev pub is_begun : Stage → Bool
+is_begun unborn = false
+is_begun arriving = false
+is_begun fronting = false
+is_begun due = false
+is_begun stage = true
+
+pub ends_begun : (why : Cause) (stage : Stage) → is_begun stage ≡ true → is_begun (ends_by why stage) ≡ true
+ends_begun why unborn is = is
+ends_begun why arriving is = refl
+ends_begun why fronting is = refl
+ends_begun why due is = refl
+ends_begun why opening is = refl
+ends_begun why accepting is = refl
+ends_begun why live is = refl
+ends_begun why (failed first) is = refl
+ends_begun why (ended first) is = refl
+ends_begun why (over first) is = refl
+
+pub left_begun : (stage : Stage) → is_begun stage ≡ true → is_begun (left_by stage) ≡ true
+left_begun unborn is = is
+left_begun arriving is = is
+left_begun fronting is = is
+left_begun due is = is
+left_begun opening is = refl
+left_begun accepting is = refl
+left_begun live is = refl
+left_begun (failed why) is = refl
+left_begun (ended why) is = refl
+left_begun (over why) is = refl
+
+not_begun : (x stage : Stage) → is_begun x ≡ true → x ≡ stage → is_begun stage ≡ false → ⊥
+not_begun x stage is same none = true≢false (sym is ∙ ap is_begun same ∙ none)
+
+inner_begun : (l : ℕ) (a : Local) (p : Part) → IsInner p → MayGo l a p → is_begun a.link.stage ≡ true
+    → is_begun (next a p).link.stage ≡ true
+inner_begun l a welcomed inner may is = absurd (not_begun a.link.stage arriving is may refl)
+inner_begun l a lacked inner may is = ends_begun cause.NoMemory a.link.stage is
+inner_begun l a (misfronted fault) inner may is = ends_begun (cause.FrontFault (number_of fault)) a.link.stage is
+inner_begun l a (fronted seen routing aim) inner may is = absurd (not_begun a.link.stage fronting is may.0.0 refl)
+inner_begun l a (refused seen routing why status note) inner may is = refl
+inner_begun l a (accepted note) inner may is = refl
+inner_begun l a (left made) inner may is = left_begun a.link.stage is
+inner_begun l a (done note) inner may is = refl
+inner_begun l a p inner may is = absurd inner
+
+pub leads_begun : (l : ℕ) (routing : Routing) (a : Local) (parts : List Part) (b : Local) (behind : Routing)
+    → Leads IsInner l routing a parts b behind → is_begun a.link.stage ≡ true → is_begun b.link.stage ≡ true
+leads_begun l routing a [] b behind is begun = ap (λ (c : Local). is_begun c.link.stage) is.0 ∙ begun
+leads_begun l routing a (p ∷ parts) b behind (inner, routed, may, more) begun =
+    leads_begun l (rerouted a.link (next a p).link routing) (next a p) parts b behind more (inner_begun l a p inner may begun)
+
+pub begun_undue : (stage : Stage) → is_begun stage ≡ true → stage ≢ due
+begun_undue stage is same = not_begun stage due is same refl
+
+-- OF ONE OF WHICH NO BYTES CAME, none is due behind what follows
+abbrev pub bare_at : Stage → Bool
+bare_at arriving = true
+bare_at fronting = true
+bare_at (over why) = true
+bare_at stage = false
+
+abbrev pub IsBare : Captured → Type 0
+IsBare x = (x.front ≡ []) × (bare_at x.stage ≡ true)
+
+ends_bare : (why : Cause) (stage : Stage) → bare_at stage ≡ true → bare_at (ends_by why stage) ≡ true
+ends_bare why arriving is = refl
+ends_bare why fronting is = refl
+ends_bare why (over first) is = refl
+ends_bare why unborn is = is
+ends_bare why due is = absurd (true≢false (sym is))
+ends_bare why opening is = absurd (true≢false (sym is))
+ends_bare why accepting is = absurd (true≢false (sym is))
+ends_bare why live is = absurd (true≢false (sym is))
+ends_bare why (failed first) is = is
+ends_bare why (ended first) is = is
+
+left_bare : (stage : Stage) → bare_at stage ≡ true → bare_at (left_by stage) ≡ true
+left_bare arriving is = refl
+left_bare fronting is = refl
+left_bare (over why) is = refl
+left_bare unborn is = is
+left_bare due is = is
+left_bare opening is = is
+left_bare accepting is = is
+left_bare live is = is
+left_bare (failed why) is = refl
+left_bare (ended why) is = refl
+
+no_header : (front : List ℕ) (seen : Seen) → front ≡ [] → IsAnswer front (Whole seen) → ⊥
+no_header front seen none is =
+    let both : Whole seen ≡ More = one_answer [] (Whole seen) More (subst (λ (bs : List ℕ). IsAnswer bs (Whole seen)) none is) (refl, omega arith) in
+    cc
+
+inner_bare : (l : ℕ) (a : Local) (p : Part) → IsInner p → MayGo l a p → IsBare a.link → IsBare (next a p).link
+inner_bare l a welcomed inner may is = (is.0, refl)
+inner_bare l a lacked inner may is = (is.0, ends_bare cause.NoMemory a.link.stage is.1)
+inner_bare l a (misfronted fault) inner may is = (is.0, ends_bare (cause.FrontFault (number_of fault)) a.link.stage is.1)
+inner_bare l a (fronted seen routing aim) inner may is = absurd (no_header a.link.front seen is.0 may.0.1)
+inner_bare l a (refused seen routing why status note) inner may is = absurd (no_header a.link.front seen is.0 may.0.1)
+inner_bare l a (accepted note) inner may is = absurd (true≢false (sym is.1 ∙ ap bare_at may.0))
+inner_bare l a (left made) inner may is = (is.0, left_bare a.link.stage is.1)
+inner_bare l a (done note) inner may is = (is.0, refl)
+inner_bare l a p inner may is = absurd inner
+
+pub leads_bare : (l : ℕ) (routing : Routing) (a : Local) (parts : List Part) (b : Local) (behind : Routing)
+    → Leads IsInner l routing a parts b behind → IsBare a.link → IsBare b.link
+leads_bare l routing a [] b behind is bare = subst (λ (c : Local). IsBare c.link) (sym is.0) bare
+leads_bare l routing a (p ∷ parts) b behind (inner, routed, may, more) bare =
+    leads_bare l (rerouted a.link (next a p).link routing) (next a p) parts b behind more (inner_bare l a p inner may bare)
+
+pub bare_undue : (x : Captured) → IsBare x → x.stage ≢ due
+bare_undue x bare is = true≢false (sym bare.1 ∙ ap bare_at is)
 
 -- ENTRIES, AND WHAT OTHERS DO
 
@@ -85,6 +237,25 @@ rejudged_stays held x = by (judges x.door && is_judged x.stage)
     by : (b : Bool) → Stays x (cond b (judged_by (judged held x.peer x.target) x) x)
     by true = judged_stays (judged held x.peer x.target) x
     by false = record { up = refl; closed = refl }
+
+pub told_stays : (heard : Heard) (begun : ℕ) (x : Captured) → Stays x (told_by heard begun x)
+told_stays (opens end) begun x = record { up = refl; closed = refl }
+told_stays (brings bytes) begun x = record { up = refl; closed = refl }
+told_stays response.ends begun x = record { up = refl; closed = refl }
+told_stays (fails why) begun x = record { up = refl; closed = refl }
+
+-- it keeps its stream, or leaves it; and one that is asked for, or open, waits for no dial then
+pub told_gate : (heard : Heard) (begun : ℕ) (x : Captured) → ((told_by heard begun x).gate ≡ x.gate) ⊎ ((told_by heard begun x).gate ≡ 0)
+told_gate (opens end) begun x = inl refl
+told_gate (brings bytes) begun x = inl refl
+told_gate response.ends begun x = inl refl
+told_gate (fails why) begun x = inr refl
+
+pub told_begun : (heard : Heard) (begun : ℕ) (x : Captured) → is_begun x.stage ≡ true → is_begun (told_by heard begun x).stage ≡ true
+told_begun (opens end) begun x is = refl
+told_begun (brings bytes) begun x is = is
+told_begun response.ends begun x is = is
+told_begun (fails why) begun x is = ends_begun why x.stage is
 
 -- BEFORE ITS BIRTH
 

@@ -1,5 +1,9 @@
 pub mod Acts
 pub mod Calls
+pub mod Joining
+pub mod Leaving
+pub mod Looking
+pub mod Pumping
 pub mod Reaches
 pub mod Refused
 pub mod Shows

@@ -1,5 +1,7 @@
 -- What a call of the code is to the machine of the whole.
 use Rattle.std.specs.Prelude.{⊤, ◌≡◌, List, [], ◌∷◌}
+use Rattle.hb_captured.specs.Part.{Part, roomless}
+use Rattle.hb_gateway.specs.Part as gateway
 use Rattle.hb_link.specs.Noted.{Told, Takes}
 use Rattle.hb_model.specs.declared.config.NodeConfig.{NodeConfig}
 use Rattle.hb_proxy.specs.Machine.{Machine, outward}
@@ -10,13 +12,23 @@ use Rattle.hb_relay.specs.Reaches as relay
 use Rattle.hb_relays.specs.Shows.{ShowsRelays}
 use Rattle.hb_relays.specs.declared.relays.Relays.{Relays}
 
--- a point that follows by itself on a plain link
+-- a part of a link to a gateway that follows by itself
+abbrev pub IsGateInner : gateway.Part → Type 0
+IsGateInner (gateway.looked points told headers) = ⊤
+IsGateInner (gateway.reset s code) = ⊤
+IsGateInner p = ⊥
+
+-- a point that follows by itself on a plain link, on a link to a gateway, or on a stream; a plain link is also refused for want of room
+abbrev pub IsPlainInner : Part → Type 0
+IsPlainInner roomless = ⊤
+IsPlainInner p = relay.IsInner p
+
 abbrev pub IsInner : Point → Type 0
 IsInner (of_control q) = ⊥
 IsInner (of_link l p) = ⊥
-IsInner (of_plain l p) = relay.IsInner p
-IsInner (of_gate n p) = ⊥
-IsInner (of_stream l n s w) = ⊥
+IsInner (of_plain l p) = IsPlainInner p
+IsInner (of_gate n p) = IsGateInner p
+IsInner (of_stream l n s w) = ⊤
 
 -- such points lead from one machine to another, one after another
 abbrev pub Leads : NodeConfig → Machine → List Point → Machine → Type 0

@@ -1,8 +1,10 @@
 -- Which numbers stir: of links on which more may be read, or is to be written, than when that was told last.
 use Rattle.std.specs.Prelude.{◌≡◌, ◌≢◌, ◌⊎◌, ℕ, ◌||◌, Bool, true, false, [], Option, Some, None}
 use Rattle.std.specs.FinMap.{get}
+use Rattle.hb_gate.specs.declared.gate.Gate.{Gate}
 use Rattle.hb_model.specs.declared.config.NodeConfig.{NodeConfig}
 use Rattle.hb_proxy.specs.Machine.{Outward}
+use Rattle.hb_relay.specs.declared.relay.Relay.{Relay}
 use Rattle.hb_world.specs.declared.act.Act.{Act}
 use Rattle.hb_world.specs.declared.act.Act.TheVariants as act
 use Rattle.hb_relays.specs.Calls.{IsPresent, has_of, wants_of, held_of}
@@ -15,14 +17,19 @@ abbrev pub owner_of : Option ℕ → ℕ → ℕ
 owner_of None n = n
 owner_of (Some l) n = l
 
--- it is the upstream that is left to be told
-abbrev pub is_left : Option ℕ → Option ℕ → Bool
-is_left left None = false
-is_left left (Some l) = is_at left l
+-- a link to a gateway that is kept was touched
+abbrev pub gate_stirs_in : Relays → Option Gate → ℕ → Bool
+gate_stirs_in k None n = false
+gate_stirs_in k (Some gate) n = is_touched k.gate_stirs n
 
--- a number stirs: its link was touched, or it is left
+abbrev pub own_stirs : Relays → Option Relay → ℕ → Bool
+own_stirs k (Some relay) n = is_touched k.stirs n
+own_stirs k None n = gate_stirs_in k (get k.gates n) n
+
+-- a number stirs: its link was touched, or it is the upstream that is left to be told
 abbrev pub stirs_by : Relays → Option ℕ → ℕ → Bool
-stirs_by k at n = is_touched k.stirs (owner_of at n) || is_left k.left at
+stirs_by k None n = own_stirs k (get k.relays n) n
+stirs_by k (Some l) n = is_touched k.stirs l || is_at k.left l
 
 abbrev pub stirs_at : Relays → ℕ → Bool
 stirs_at k n = stirs_by k (get k.ups n) n
@@ -52,8 +59,8 @@ StirsBut closed old new = (n : ℕ) → closed ≢ Some n → StirsAt n old new
 abbrev pub Hears : Option ℕ → Relays → Relays → Type 0
 Hears told old new =
     (g : NodeConfig) (x : Outward) → ShowsRelays g old x
-    → ShowsRelays g new x × ((n : ℕ) → IsPresent x.plain n → stirs_at old n ≡ true → (stirs_at new n ≡ true) ⊎ (told ≡ Some n))
+    → ShowsRelays g new x × ((n : ℕ) → IsPresent x n → stirs_at old n ≡ true → (stirs_at new n ≡ true) ⊎ (told ≡ Some n))
 
 -- nothing else changes
 abbrev pub OnlyHears : Relays → Relays → Type 0
-OnlyHears old new = new ≡ record old { stirs = new.stirs; left = new.left }
+OnlyHears old new = new ≡ record old { stirs = new.stirs; left = new.left; gate_stirs = new.gate_stirs }

@@ -2,11 +2,11 @@
 //! nothing.
 
 ghost use Rattle.hb_relays.specs.Refused.{LacksUp, FindsClosed, LacksLink, KeepsUnderAnother, KeepsClosed, MissesDial, ForgetsLink};
-ghost use Rattle.hb_relays.specs.Refused.{Miscounts, MistakesPort, HasGate, OneIsShown};
+ghost use Rattle.hb_relays.specs.Refused.{Miscounts, MistakesPort, LacksGate, KeepsClosedGate, MissesClose, WaitsThough, OneIsShown};
 
 /// Each upstream that isn't closed is found, and no other one; each link that is open is kept, under its own number, and none that is
-/// closed; and of a link that isn't among those that may have an act due none is. The connections are counted, gateways have their port,
-/// and there is no link to one.
+/// closed; and of a link that isn't among those that may have an act due none is. The connections are counted, gateways have their port;
+/// so it is of links to them, and no link waits for one while one of its key has room.
 pub fn other_links_are_not_shown()
     ensures lacks { LacksUp }
     ensures finds { FindsClosed }
@@ -16,7 +16,10 @@ pub fn other_links_are_not_shown()
     ensures act { MissesDial }
     ensures counts { Miscounts }
     ensures port { MistakesPort }
-    ensures gate { HasGate }
+    ensures gate { LacksGate }
+    ensures closed_gate { KeepsClosedGate }
+    ensures close { MissesClose }
+    ensures waits { WaitsThough }
 {}
 
 /// A link that is accepted is kept.

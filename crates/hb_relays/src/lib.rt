@@ -6,10 +6,14 @@
 mod acts;
 mod dials;
 mod entries;
+mod few;
+mod gates;
+mod joining;
 mod known;
 mod laws;
 mod relays;
 mod stirring;
+mod streams;
 mod telling;
 mod touched;
 mod updates;

@@ -31,7 +31,10 @@ impl Relays {
         ensures same { OnlyHears self.old self.new }
     {
         self.left = self.stirs.next(&self.relays);
-        self.left
+        match self.left {
+            Some(number) => Some(number),
+            None => self.gate_stirs.next(&self.gates),
+        }
     }
 
     /// The number of a link on which more may be read, or is to be written, than when that was told last: of a plain link, or

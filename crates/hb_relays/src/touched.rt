@@ -1,15 +1,15 @@
 //! Links that were touched.
 
-ghost use Rattle.std.specs.Prelude.{◌≡◌, true, None, IfNone};
+ghost use Rattle.std.specs.Prelude.{◌≡◌, [], true, None, IfNone};
 ghost use Rattle.hb_relays.specs.Touched.{is_idle, touched, TakesOut};
 
+use crate::few::Few;
 use hb_map::ById;
-use hb_relay::Relay;
 
-/// The numbers of links that were touched: the one that was touched last, and all from a number on.
-#[derive(Clone, Copy, Drop)]
+/// The numbers of links that were touched: those that are listed, in the order in which they were touched, and all from a number on.
+#[derive(Drop)]
 pub(crate) struct Touched {
-    pub last: Option<u64>,
+    pub listed: Few,
     pub from: Option<u64>,
 }
 
@@ -19,7 +19,7 @@ impl Touched {
         ensures { is_idle result ≡ true }
     {
         Touched {
-            last: None,
+            listed: Few::new(),
             from: None,
         }
     }
@@ -28,44 +28,42 @@ impl Touched {
     pub fn is_idle(&self) -> bool
         ensures { result ≡ is_idle self.now }
     {
-        self.last.is_none() && self.from.is_none()
+        self.listed.is_empty() && self.from.is_none()
     }
 
     /// This one is touched.
     pub fn touch(&mut self, number: u64)
         ensures { self.new ≡ touched number self.old }
     {
-        match self.last {
-            None => self.last = Some(number),
-            Some(last) => {
-                if last != number {
-                    self.from = match self.from {
-                        None => Some(number),
-                        Some(from) => Some(from.min(number)),
-                    };
-                }
-            }
+        if self.listed.holds(number) {
+            return;
+        }
+        if self.listed.has_room() {
+            self.listed.push(number);
+        } else {
+            self.from = match self.from {
+                None => Some(number),
+                Some(from) => Some(from.min(number)),
+            };
         }
     }
 
-    /// Takes the one out that was touched last, where it is kept.
-    fn next_last(&mut self, relays: &ById<u64, Relay>) -> Option<u64>
+    /// Takes the first one out that is listed and kept.
+    fn next_listed<T>(&mut self, relays: &ById<u64, T>) -> Option<u64>
         ensures next { TakesOut relays.now result self.old self.new }
-        ensures none { IfNone result (self.new.last ≡ None) }
+        ensures none { IfNone result (self.new.listed ≡ []) }
     {
-        let Some(number) = self.last else {
-            return None;
-        };
-        self.last = None;
-        match relays.get(number) {
-            Some(_) => Some(number),
-            None => None,
+        while let Some(number) = self.listed.take_first() {
+            if relays.get(number).is_some() {
+                return Some(number);
+            }
         }
+        None
     }
 
     /// Takes the first one out from a number on.
-    fn next_from(&mut self, relays: &ById<u64, Relay>) -> Option<u64>
-        requires { self.old.last ≡ None }
+    fn next_from<T>(&mut self, relays: &ById<u64, T>) -> Option<u64>
+        requires { self.old.listed ≡ [] }
         ensures next { TakesOut relays.now result self.old self.new }
         ensures none { IfNone result (is_idle self.new ≡ true) }
     {
@@ -81,11 +79,11 @@ impl Touched {
     }
 
     /// Takes one out that is kept. `None` where none is left.
-    pub fn next(&mut self, relays: &ById<u64, Relay>) -> Option<u64>
+    pub fn next<T>(&mut self, relays: &ById<u64, T>) -> Option<u64>
         ensures next { TakesOut relays.now result self.old self.new }
         ensures none { IfNone result (is_idle self.new ≡ true) }
     {
-        match self.next_last(relays) {
+        match self.next_listed(relays) {
             Some(number) => Some(number),
             None => self.next_from(relays),
         }

@@ -1,6 +1,7 @@
 use Rattle.std.proofs.Common.{Option, subst}
 use Rattle.hb_relays.proofs.Stirs.{none_stirs, stirs_all_then}
-use Rattle.hb_relays.proofs.Applying.{Applies, applied_starts, applied_goes, applied_ends, first_is}
+use Rattle.hb_relays.proofs.Applying.{Applies, applied_starts, applied_goes, applied_ends}
+use Rattle.hb_relays.proofs.Offering.{first_is}
 use Rattle.hb_relays.proofs.relays.Relays.applied.Goals as goal
 
 pub loop-from-init : goal.loop-from-init
@@ -14,11 +15,11 @@ loop-from-init g c = record {
 pub loop-from-preserved : goal.loop-from-preserved
 loop-from-preserved g c = record {
   told =
-      applied_goes c.args.held.now c.args.self.now c.loop-from.self c.judge_at.new.self c.in-Some.number c.first_behind-from.result
+      applied_goes c.args.held.now c.args.self.now c.loop-from.self c.judge_at.new.self c.in-Some.number c.next_behind-from.result
       (g.N.Notes.told c.args.notes.now) (g.N.Notes.told c.loop-from.notes) (g.N.Notes.told c.judge_at.new.notes)
       (subst (λ (from : Option _). Applies c.args.held.now c.args.self.now c.loop-from.self from (g.N.Notes.told c.args.notes.now)
       (g.N.Notes.told c.loop-from.notes)) c.in-Some.is c.loop-from.invariant.told)
-      c.judge_at.ensures.tells c.first_behind-from.ensures;
+      c.judge_at.ensures.tells c.next_behind-from.ensures;
   stirs = stirs_all_then c.args.self.now c.loop-from.self c.judge_at.new.self c.loop-from.invariant.stirs c.judge_at.ensures.stirs;
 }
 

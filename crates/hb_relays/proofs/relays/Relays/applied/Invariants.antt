@@ -1,6 +1,6 @@
 use Rattle.hb_relays.specs.Stirring.{Stirs}
-use Rattle.hb_relays.proofs.Sweeping.{left_from}
 use Rattle.hb_relays.proofs.Applying.{Applies}
+use Rattle.hb_relays.proofs.Offering.{numbers_left}
 use Rattle.hb_relays.proofs.relays.Relays.applied.Given as goal
 
 -- the links in front of the number were told
@@ -11,4 +11,4 @@ invariant-loop-from g l = record {
 }
 
 abbrev pub decreases-loop-from : goal.decreases-loop-from
-decreases-loop-from g l = left_from l.from
+decreases-loop-from g l = numbers_left l.from

@@ -1,9 +1,8 @@
-use Rattle.std.proofs.Common.{rules, ◌≡◌, true, is_some}
-use Rattle.std.specs.FinMap.{get}
-use Rattle.hb_relays.proofs.Hearing.{up_has}
+use Rattle.std.proofs.Common.{Bool, sym, subst}
+use Rattle.hb_relays.specs.Calls.{Has}
+use Rattle.hb_relays.proofs.Hearing.{has_is}
 use Rattle.hb_relays.proofs.relays.Relays.has.Goals as goal
 
-pub returns-then-is_some-clause-machine : goal.returns-then-is_some-clause-machine
-returns-then-is_some-clause-machine c =
-    let some : is_some (get c.args.self.now.ups c.args.number) ≡ true = search rules in
-    up_has c.args.self.now c.args.number c.is_some.result c.if-is_some.true some
+pub returns-clause-machine : goal.returns-clause-machine
+returns-clause-machine c =
+    subst (λ (r : Bool). Has c.args.self.now c.args.number r) (sym c.has_at.ensures) (has_is c.args.self.now c.args.number)

@@ -3,7 +3,7 @@ use Rattle.std.specs.FinMap.{get}
 use Rattle.hb_relay.specs.Answering.{routing_of as code_routing}
 use Rattle.hb_relay.specs.Calls.{any}
 use Rattle.hb_world.specs.declared.entry.Entry.TheVariants as e
-use Rattle.hb_relays.proofs.Entering.{up_told, none_opens}
+use Rattle.hb_relays.proofs.Entering.{up_told, opened_told}
 use Rattle.hb_relays.proofs.Stirs.{told_stirs}
 use Rattle.hb_relays.proofs.relays.Relays.opened.Goals as goal
 
@@ -26,4 +26,5 @@ returns-clause-stirs g c =
 pub returns-in_default-clause-meets : goal.returns-in_default-clause-meets
 returns-in_default-clause-meets g c =
     let none : get c.args.self.now.ups c.args.number ≡ None = search rules in
-    none_opens c.args.self.now c.args.number (g.N.Notes.told c.args.notes.now) none
+    opened_told c.args.self.now c.gate_opened.new.self c.args.number (g.N.Notes.told c.args.notes.now)
+    (g.N.Notes.told c.gate_opened.new.notes) none c.gate_opened.ensures.meets

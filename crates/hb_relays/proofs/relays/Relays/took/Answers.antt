@@ -1,12 +1,15 @@
-use Rattle.std.proofs.Common.{rules, ◌≡◌, ℕ, Some, None, refl}
+use Rattle.std.proofs.Common.{rules, ◌≡◌, Some, None, refl, subst}
 use Rattle.std.specs.FinMap.{get}
+use Rattle.hb_world.specs.declared.entry.Entry.TheVariants as e
 use Rattle.hb_held.specs.Held.{Resources}
 use Rattle.hb_link.proofs.Noted.{takes_none}
 use Rattle.hb_relay.specs.Answering.{routing_of as code_routing}
-use Rattle.hb_world.specs.declared.entry.Entry.TheVariants as e
-use Rattle.hb_relays.proofs.Entering.{up_told, own_told, anywhere}
+use Rattle.hb_relays.proofs.Entering.{anywhere, gate_told, own_goes, on_ok, own_told, own_took, up_told}
 use Rattle.hb_relays.proofs.Staying.{came_stays}
-use Rattle.hb_relays.proofs.Stirs.{told_stirs}
+use Rattle.hb_relays.proofs.Stirs.{stirs_all_then, told_stirs}
+use Rattle.hb_relays.specs.Walks.{Map}
+use Rattle.hb_relays.specs.Stirring.{Stirs}
+use Rattle.hb_relays.specs.Calls.{GateTakes}
 use Rattle.hb_relays.proofs.relays.Relays.took.Goals as goal
 
 pub returns-in-Some-at-clause-meets : goal.returns-in-Some-at-clause-meets
@@ -23,23 +26,58 @@ returns-in-Some-at-clause-meets g c =
     (anywhere (λ (h : Resources). h ≡ c.args.held.now) _ c.in-Some-at.relay.now new (code_routing k.routes)
     (code_routing k.routes) None (c.up_bytes.ensures n (code_routing k.routes)))
 
-pub returns-in-Some-at-2-clause-meets : goal.returns-in-Some-at-2-clause-meets
-returns-in-Some-at-2-clause-meets g c =
-    let k = c.args.self.now in
-    let n = c.args.number in
-    let new = c.take_bytes-made.new.self in
-    let none : get k.ups n ≡ None = search rules in
-    own_told (λ (h : Resources). h ≡ c.args.held.now) k c.touch-in-None.new.self _ c.take_bytes-made.new.routes c.in-Some-at-2.relay.now new
-    (g.N.Notes.told c.args.notes.now) (g.N.Notes.told c.tell.new.notes) c.take_bytes-made.result c.tell.ensures n
-    (λ (i : ℕ). e.Came i c.args.b.now) c.touch-in-None.ensures (c.at-in-None.follows.holds new) none c.in-Some-at-2.ensures.value
-    (λ x. came_stays x.stage c.args.b.now x) c.take_bytes-made.ensures
-
 pub returns-in-Some-at-clause-stirs : goal.returns-in-Some-at-clause-stirs
 returns-in-Some-at-clause-stirs g c =
     told_stirs c.args.self.now c.touch.new.self _ c.args.self.now.routes c.in-Some.link c.up_bytes.new.self c.touch.ensures
     (c.at.follows.holds c.up_bytes.new.self)
 
-pub returns-in-Some-at-2-clause-stirs : goal.returns-in-Some-at-2-clause-stirs
-returns-in-Some-at-2-clause-stirs g c =
-    told_stirs c.args.self.now c.touch-in-None.new.self _ c.take_bytes-made.new.routes c.args.number
-    c.take_bytes-made.new.self c.touch-in-None.ensures (c.at-in-None.follows.holds c.take_bytes-made.new.self)
+pub returns-in_default-at-clause-meets : goal.returns-in_default-at-clause-meets
+returns-in_default-at-clause-meets g c =
+    let k = c.args.self.now in
+    let n = c.args.number in
+    let d = c.gate_took.new.self in
+    let none : get k.ups n ≡ None = search rules in
+    let told = g.N.Notes.told c.args.notes.now in
+    let now = g.N.Notes.told c.gate_took.new.notes in
+    on_ok c.gate_took.result
+    (λ meets. gate_told (λ x. x.control.held ≡ c.args.held.now) k d n (e.Came n c.args.b.now) told now none c.in_default-at.ensures.none
+    (λ some g' x y points stands shows holds steps.
+    (subst (λ (all : Map). GateTakes n c.args.b.now (record k { relays = all }) told d now) c.at-in-None.follows.holds-at-none meets)
+    some g' x y points stands shows tt steps)) c.gate_took.ensures.meets
+
+pub returns-in_default-at-clause-stirs : goal.returns-in_default-at-clause-stirs
+returns-in_default-at-clause-stirs g c =
+    on_ok c.gate_took.result
+    (subst (λ (all : Map). Stirs (record c.args.self.now { relays = all }) c.gate_took.new.self) c.at-in-None.follows.holds-at-none)
+    c.gate_took.ensures.stirs
+
+pub returns-in_ok-join-in-None-clause-meets : goal.returns-in_ok-join-in-None-clause-meets
+returns-in_ok-join-in-None-clause-meets g c =
+    let k = c.args.self.now in
+    let n = c.args.number in
+    let bytes = c.args.b.now in
+    let old = c.in-Some-at-2.relay.now in
+    let new = c.take_bytes-made.new.self in
+    let a = c.touch-in-None.new.self in
+    let d = c.pump_link.new.self in
+    let none : get k.ups n ≡ None = search rules in
+    let is = c.in-Some-at-2.ensures.value in
+    let told = g.N.Notes.told c.args.notes.now in
+    let one = g.N.Notes.told c.tell.new.notes in
+    let now = g.N.Notes.told c.pump_link.new.notes in
+    own_told (λ x. x.control.held ≡ c.args.held.now) k d n (e.Came n bytes) old told now none is
+    (own_took (λ h. h ≡ c.args.held.now) k a c.join.new.self c.refuse_roomless.new.self d n bytes told one
+    (g.N.Notes.told c.refuse_roomless.new.notes) now
+    (own_goes (λ h. h ≡ c.args.held.now) k a _ c.take_bytes-made.new.routes old new told one c.take_bytes-made.result c.tell.ensures n
+    (λ i. e.Came i bytes) c.touch-in-None.ensures (c.at-in-None.follows.holds new) is (λ x. came_stays x.stage bytes x)
+    c.take_bytes-made.ensures) c.in_ok-join-in-None.ensures.joins c.refuse_roomless.ensures.refuses c.pump_link.ensures.pumps)
+
+pub returns-in_ok-join-in-None-clause-stirs : goal.returns-in_ok-join-in-None-clause-stirs
+returns-in_ok-join-in-None-clause-stirs g c =
+    let a = c.touch-in-None.new.self in
+    let d = c.pump_link.new.self in
+    stirs_all_then c.args.self.now a d
+    (told_stirs c.args.self.now a _ c.take_bytes-made.new.routes c.args.number c.take_bytes-made.new.self c.touch-in-None.ensures
+    (c.at-in-None.follows.holds c.take_bytes-made.new.self))
+    (stirs_all_then a c.join.new.self d c.in_ok-join-in-None.ensures.stirs
+    (stirs_all_then c.join.new.self c.refuse_roomless.new.self d c.refuse_roomless.ensures.stirs c.pump_link.ensures.stirs))

@@ -1,7 +1,7 @@
 use Rattle.hb_relays.specs.Stirring.{Stirs}
 use Rattle.hb_relays.specs.Touched.{left_in}
-use Rattle.hb_relays.proofs.Walking.{KeepsShowing}
-use Rattle.hb_relays.proofs.relays.Relays.next_act.Given as goal
+use Rattle.hb_relays.specs.Walks.{KeepsShowing}
+use Rattle.hb_relays.proofs.relays.Relays.link_act.Given as goal
 
 -- the links that were shown are shown still
 abbrev pub invariant-loop-number : goal.invariant-loop-number

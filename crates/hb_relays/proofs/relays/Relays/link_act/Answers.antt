@@ -2,7 +2,7 @@ use Rattle.std.proofs.Common.{Some}
 use Rattle.hb_relays.specs.Stirring.{closed_in}
 use Rattle.hb_relays.proofs.Stirs.{none_stirs, any_stirs, stirs_all_then, stirs_but_then}
 use Rattle.hb_relays.proofs.Walking.{goes_stirs, walks_on, walk_acts, walk_ends}
-use Rattle.hb_relays.proofs.relays.Relays.next_act.Goals as goal
+use Rattle.hb_relays.proofs.relays.Relays.link_act.Goals as goal
 
 pub loop-number-init : goal.loop-number-init
 loop-number-init c = (λ g x points stands shows. shows, none_stirs c.args.self.now)
@@ -37,7 +37,6 @@ returns-in-Some-act_of-clause-stirs c =
 pub returns-clause-acts : goal.returns-clause-acts
 returns-clause-acts c =
     walk_ends c.args.self.now c.loop-number.self c.next_due.new.self c.loop-number.invariant.0 (c.in_default.ensures {u = tt}).goes
-    (c.in_default.ensures {u = tt}).none
 
 pub returns-clause-stirs : goal.returns-clause-stirs
 returns-clause-stirs c = λ n apart.
