@@ -19,7 +19,6 @@ use Rattle.hb_proxy.specs.Machine.{Machine, with_control}
 use Rattle.hb_proxy.specs.Points.{of_control}
 use Rattle.hb_proxy.specs.Runs.{Steps, goes_on}
 use Rattle.hb_proxy.specs.Seen.{Seen, IsThere}
-use Rattle.hb_relays.proofs.Gateless.{shown_let}
 use Rattle.hb_turns.specs.Shown as shown
 use Rattle.hb_world.proofs.TraceLemmas.{any-grows}
 use Rattle.hb_world.specs.Trace.{lives, was_born, was_closed, is_close_of}
@@ -31,7 +30,7 @@ use Rattle.hb_whole.specs.Stands.{Stands, EndsBy, ControlEnds}
 use Rattle.hb_whole.specs.declared.proxy.Proxy.{Proxy}
 use Rattle.hb_whole.proofs.Growing.{stood}
 use Rattle.hb_whole.proofs.Heard.{number_is}
-use Rattle.hb_whole.proofs.Relays.{plain_calm}
+use Rattle.hb_whole.proofs.Relays.{gates_calm, plain_calm}
 use Rattle.hb_whole.proofs.Routes.{seen_of, lives_then}
 use Rattle.hb_whole.proofs.Stirring.{StirsOn, all_stir, none_stir, other_stirs}
 
@@ -89,6 +88,7 @@ closed_ends g x l cause (Some c) is = (
     links = λ k. is.1.links k;
     tunnels = λ k s. is.1.tunnels k s;
     plain = λ k. is.1.plain k;
+    gates = λ n. is.1.gates n;
   },
 )
   where
@@ -130,7 +130,7 @@ module _ (taken : List Note) (p : Proxy) (n : State) (l : ℕ) (cause : Cause)
           birth = tt;
           links = λ k. all_calm p.side.links x.inbound s.links k;
           plain = λ k. plain_calm p.side.relays s.relays k;
-          gates = shown_let p.control.config p.side.relays x s.relays true;
+          gates = gates_calm x s.relays true refl;
         },
         refl,
       ) in

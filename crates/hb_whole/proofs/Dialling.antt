@@ -2,15 +2,21 @@
 use Rattle.std.proofs.Common.{◌≡◌, ◌≢◌, ◌⊎◌, inl, inr, ⊎_elim, ℕ, ◌≤◌, ◌||◌, Bool, true, false, List, [], ◌∷◌, ◌++◌, Option, Some, None, refl, ap, sym, ◌∙◌, subst, arith}
 use Rattle.std.specs.Prelude.{⊤}
 use Rattle.std.specs.FinMap.{get}
+use Rattle.std.proofs.lemmas.Bool.{or_right}
 use Rattle.hb_base.specs.declared.cause.Cause.{Cause}
+use Rattle.hb_base.specs.declared.door.Door.{Door}
+use Rattle.hb_base.specs.declared.door.Door.TheVariants as door
 use Rattle.hb_base.specs.declared.door.Why.{Why}
 use Rattle.hb_base.specs.declared.door.Why.TheVariants as whys
 use Rattle.hb_base.specs.declared.note.Note.{Note}
 use Rattle.hb_base.specs.declared.target.Target.{Target}
-use Rattle.hb_captured.specs.Answer.{address_of, key_of, why_for}
+use Rattle.hb_captured.specs.Answer.{Aim, address_of, key_of, straight_to, through, why_for}
 use Rattle.hb_captured.specs.Captured as captured
 use Rattle.hb_captured.specs.Part as plain
 use Rattle.hb_captured.specs.Runs as captured_runs
+use Rattle.hb_gateway.specs.Gateway as gateway
+use Rattle.hb_gateway.specs.Key.{Key, MayBeWritten, front_of}
+use Rattle.hb_gateway.specs.Part as gate_part
 use Rattle.hb_inbound.specs.Inbound as m
 use Rattle.hb_inbound.specs.Inbound.{Inbound, at_stream}
 use Rattle.hb_inbound.specs.Part as part
@@ -36,10 +42,9 @@ use Rattle.hb_node.specs.State.{State, ShowsLink as ShowsControl, number_of}
 use Rattle.hb_node.specs.declared.link.Link.{Link as ControlLink}
 use Rattle.hb_proxy.proofs.Projection.{control_runs}
 use Rattle.hb_proxy.specs.Doors.{is_at_door}
-use Rattle.hb_proxy.specs.Machine.{Machine, outward, with_part, with_plain}
-use Rattle.hb_proxy.specs.Points.{of_link, of_plain, control_of}
-use Rattle.hb_proxy.specs.Runs.{BirthMayCome, ControlMayCome, ControlRests, LinkMayCome, Lets, PlainLets, PlainMayCome, Steps, goes_first, is_act, link_first, is_link_faulted}
-use Rattle.hb_relays.proofs.Gateless.{dials_gate, shown_let}
+use Rattle.hb_proxy.specs.Machine.{Machine, outward, with_gate, with_part, with_plain}
+use Rattle.hb_proxy.specs.Points.{of_gate, of_link, of_plain, control_of}
+use Rattle.hb_proxy.specs.Runs.{BirthMayCome, ControlMayCome, ControlRests, DialsGate, GateMayCome, IfThrough, LinkMayCome, Lets, NoneOffers, PlainLets, PlainMayCome, Steps, gate_first, goes_first, is_act, link_first, is_gate_faulted, is_link_faulted}
 use Rattle.hb_relays.specs.Calls as relays
 use Rattle.hb_relays.specs.Reaches as relays_reach
 use Rattle.hb_relays.specs.Shows.{ShowsRelays}
@@ -57,9 +62,10 @@ use Rattle.hb_whole.specs.declared.side.Side.{Side}
 use Rattle.hb_whole.proofs.Births.{door_told, fresh_at, next_number, quiet_links, quiet_relays}
 use Rattle.hb_whole.proofs.Born.{born_below}
 use Rattle.hb_whole.proofs.Heard.{with_state, state_tells, state_stirs, judged_alone, enters}
+use Rattle.hb_whole.proofs.Keys.{keys_written}
 use Rattle.hb_whole.proofs.Leading.{links_follow, relays_follow}
 use Rattle.hb_whole.proofs.LinkMay.{up_steps}
-use Rattle.hb_whole.proofs.Relays.{plain_calm}
+use Rattle.hb_whole.proofs.Relays.{gates_calm, plain_calm}
 use Rattle.hb_whole.proofs.Stirring.{links_stir, none_stir, relays_stir}
 use Rattle.hb_whole.proofs.Telling.{with_side}
 
@@ -96,7 +102,7 @@ calm_control taken p trace s z act first birth = record {
       (all_calm p.side.links s.machine.inbound s.links l);
   plain = λ l. subst (λ (b : Bool). PlainLets b (s.machine.plain l)) (sym (first s.machine.control))
       (plain_calm p.side.relays s.relays l);
-  gates = shown_let p.control.config p.side.relays s.machine s.relays (goes_first s.machine.control z);
+  gates = gates_calm s.machine s.relays (goes_first s.machine.control z) (first s.machine.control);
 }
 
 pub control_fails : (p : Proxy) (n : State) (why : Why) → why ≡ whys.Discovery → node.Answers why None p.control n
@@ -191,7 +197,7 @@ up_guard taken p trace s l z rests act birth = record {
       (all_calm p.side.links s.machine.inbound s.links j);
   plain = λ j. subst (λ (b : Bool). PlainLets b (s.machine.plain j)) (sym (act_first (s.machine.inbound l).phase z act))
       (plain_calm p.side.relays s.relays j);
-  gates = shown_let p.control.config p.side.relays s.machine s.relays (link_first (s.machine.inbound l).phase z);
+  gates = gates_calm s.machine s.relays (link_first (s.machine.inbound l).phase z) (act_first (s.machine.inbound l).phase z act);
 }
 
 -- what comes of it is told
@@ -237,9 +243,12 @@ up_dialled p new l k u dials stirs to taken trace s may =
 
 -- A DIAL FOR A PLAIN LINK
 
--- it is for this link, at the plain door or at the outbound one
+-- it is straight for this link, at the plain door or at the outbound one; or it is for this link, also of its gateway
 abbrev pub IsFor : ℕ → Why → Type 0
 IsFor l why = (why ≡ whys.Plain l) ⊎ (why ≡ whys.Direct l)
+
+abbrev pub IsOf : ℕ → Why → Type 0
+IsOf l why = IsFor l why ⊎ (why ≡ whys.Gateway l)
 
 record PlainDue (taken : List Note) (p : Proxy) (trace : List Entry) (s : Stands taken p trace) (to : Target) (why : Why)
     (l : ℕ) : Type 0 where
@@ -247,20 +256,21 @@ record PlainDue (taken : List Note) (p : Proxy) (trace : List Entry) (s : Stands
   pub rests : ControlRests s.machine.control
   pub why_is : why ≡ why_for (s.machine.plain l).aim (s.machine.plain l).door l
   pub stage : (s.machine.plain l).stage ≡ captured.due
-  pub straight : key_of (s.machine.plain l).aim ≡ None
+  pub gate : DialsGate s.machine l
   pub address : to ≡ address_of (s.machine.plain l).aim
 
 no_plain_end : (x : Machine) (l : ℕ) (ends : Option Cause) → (x.plain l).stage ≡ captured.due → EndsBy ends x → ends ≡ None
 no_plain_end x l None due is = refl
 no_plain_end x l (Some c) due is = absurd (subst (λ (r : captured.Stage). PlainEndsBy c r (x.plain l)) due (is.1.plain l))
 
-dial_for : (g : NodeConfig) (x : Machine) (to : Target) (why : Why) (l : ℕ) → IsFor l why → DialIsDue g x to why
+dial_for : (g : NodeConfig) (x : Machine) (to : Target) (why : Why) (l : ℕ) → IsOf l why → DialIsDue g x to why
     → PlainDialIsDue g x to why l
-dial_for g x to why l (inl is) = subst (λ (w : Why). DialIsDue g x to w → PlainDialIsDue g x to w l) (sym is) (λ due. due)
+dial_for g x to why l (inl (inl is)) = subst (λ (w : Why). DialIsDue g x to w → PlainDialIsDue g x to w l) (sym is) (λ due. due)
+dial_for g x to why l (inl (inr is)) = subst (λ (w : Why). DialIsDue g x to w → PlainDialIsDue g x to w l) (sym is) (λ due. due)
 dial_for g x to why l (inr is) = subst (λ (w : Why). DialIsDue g x to w → PlainDialIsDue g x to w l) (sym is) (λ due. due)
 
 due_of_plain : (taken : List Note) (p : Proxy) (trace : List Entry) (s : Stands taken p trace) (to : Target) (why : Why) (l : ℕ)
-    → IsFor l why → p.dials ≡ Some (to, why) → PlainDue taken p trace s to why l
+    → IsOf l why → p.dials ≡ Some (to, why) → PlainDue taken p trace s to why l
 due_of_plain taken p trace s to why l for dials =
     let due = dial_for p.control.config s.machine to why l for
     (subst (λ (d : Option (Target × Why)). MayBeDialled p.control.config s.machine d) dials s.dial) in
@@ -269,9 +279,16 @@ due_of_plain taken p trace s to why l for dials =
       rests = due.0;
       why_is = due.1;
       stage = due.2;
-      straight = due.3;
+      gate = due.3;
       address = due.4;
     }
+
+-- a straight dial is of a link that waits for none to a gateway
+straight_for : (aim : Aim) (d : Door) (l : ℕ) (why : Why) → IsFor l why → why ≡ why_for aim d l → key_of aim ≡ None
+straight_for (straight_to to endpoint) d l why for is = refl
+straight_for (through key authority endpoint) d l why (inl plain) is = let no : whys.Plain l ≡ whys.Gateway l = sym plain ∙ is in absurd cc
+straight_for (through key authority endpoint) d l why (inr direct) is =
+    let no : whys.Direct l ≡ whys.Gateway l = sym direct ∙ is in absurd cc
 
 plain_guard : (taken : List Note) (p : Proxy) (trace : List Entry) (s : Stands taken p trace) (l : ℕ) (z : Entry)
     → ControlRests s.machine.control → is_act z ≡ true → BirthMayCome s.machine z → PlainMayCome s.machine l z
@@ -281,25 +298,25 @@ plain_guard taken p trace s l z rests act birth = record {
   links = λ j. subst (λ (b : Bool). Lets b (s.machine.inbound j)) (sym act) (all_calm p.side.links s.machine.inbound s.links j);
   others = λ j apart. subst (λ (b : Bool). PlainLets b (s.machine.plain j)) (sym act)
       (plain_calm p.side.relays s.relays j);
-  gates = shown_let p.control.config p.side.relays s.machine s.relays (is_act z);
+  gates = gates_calm s.machine s.relays (is_act z) act;
 }
 
 plain_told : (p : Proxy) (side : Side) (l : ℕ) (z : Entry) → side.links ≡ p.side.links → is_at_door z ≡ false
     → relays_reach.Meets relays_reach.any (of_plain l (plain.up z)) p.side.relays (told p.side.notes) side.relays (told side.notes)
     → relays_stirring.Stirs p.side.relays side.relays → (taken : List Note) (trace : List Entry) (s : Stands taken p trace)
-    → p.ends_for ≡ None → captured_runs.UpMayCome l (s.machine.plain l) z → PlainMayCome s.machine l z
+    → p.ends_for ≡ None → captured_runs.UpMayCome l (s.machine.plain l) z → PlainMayCome s.machine l z → DialsGate s.machine l
     → Stands taken (with_side side p) (trace ++ z ∷ []) × shown.Stirs (trace ++ z ∷ []) (shown_of p) (shown_of (with_side side p))
-plain_told p side l z same door meets stirs taken trace s going may guard =
+plain_told p side l z same door meets stirs taken trace s going may guard gate =
     let next = with_plain l (plain.up z) (captured.up_entered z (s.machine.plain l)) s.machine in
     let steps : Steps p.control.config s.machine (of_plain l (plain.up z)) next =
-    (may, (guard, dials_gate s.machine s.relays.no_gates l), refl) in
+    (may, (guard, gate), refl) in
     door_told taken p side trace z s (of_plain l (plain.up z)) next going steps refl door refl refl
     (relays_follow p.control.config next (told p.side.notes) side
     (subst (λ (k : Links). ShowsAll k s.machine.inbound) (sym same) s.links)
     (meets p.control.config s.machine next s.points s.run s.relays tt steps))
     (λ j. relays_stir p.side side j same (stirs j))
 
-plain_fails : (p : Proxy) (side : Side) (why : Why) (l : ℕ) → IsFor l why → side.links ≡ p.side.links
+plain_fails : (p : Proxy) (side : Side) (why : Why) (l : ℕ) → IsOf l why → side.links ≡ p.side.links
     → relays.DialFails l p.side.relays (told p.side.notes) side.relays (told side.notes) → relays_stirring.Stirs p.side.relays side.relays
     → (to : Target) → Tells Stands shown_of (e.DialFailed to why) p (with_side side p)
 plain_fails p side why l for same fails stirs to taken trace s may =
@@ -307,14 +324,15 @@ plain_fails p side why l for same fails stirs to taken trace s may =
     let due = due_of_plain taken p trace s to why l for may in
     plain_told p side l z same refl (fails to why) stirs taken trace s due.going
     (plain_calm p.side.relays s.relays l, due.stage, due.address, due.why_is)
-    (plain_guard taken p trace s l z due.rests refl tt)
+    (plain_guard taken p trace s l z due.rests refl tt) due.gate
 
 plain_dialled : (p : Proxy) (new : Relays) (why : Why) (l u : ℕ) → IsFor l why → relays.Dials l u p.side.relays new
     → relays_stirring.Stirs p.side.relays new
     → (to : Target) → Tells Stands shown_of (e.Dialled u to why) p (with_side (record p.side { relays = new }) p)
 plain_dialled p new why l u for dials stirs to taken trace s may =
     let z = e.Dialled u to why in
-    let due = due_of_plain taken p trace s to why l for may.0 in
+    let due = due_of_plain taken p trace s to why l (inl for) may.0 in
+    let straight = straight_for (s.machine.plain l).aim (s.machine.plain l).door l why for due.why_is in
     let next = next_number taken p trace s u may.1 in
     let fresh = fresh_at taken p trace s u next in
     let apart : u ≢ l =
@@ -323,8 +341,69 @@ plain_dialled p new why l u for dials stirs to taken trace s may =
     plain_told p (record p.side { relays = new }) l z refl refl
     (quiet_relays relays_reach.any (of_plain l (plain.up z)) p.side.relays new (told p.side.notes) (dials to why))
     stirs taken trace s due.going
-    ((plain_calm p.side.relays s.relays l, due.stage, due.address, due.why_is), due.straight, omega (arith, next), apart)
-    (plain_guard taken p trace s l z due.rests refl next)
+    ((plain_calm p.side.relays s.relays l, due.stage, due.address, due.why_is), straight, omega (arith, next), apart)
+    (plain_guard taken p trace s l z due.rests refl next) due.gate
+
+-- A DIAL OF A GATEWAY
+
+-- it is of a link whose way leads there
+record GateWanted (aim : Aim) : Type 0 where
+  pub key : Key
+  pub keyed : key_of aim ≡ Some key
+  pub address : address_of aim ≡ key.gateway
+
+gate_wanted : (aim : Aim) (d : Door) (l : ℕ) → whys.Gateway l ≡ why_for aim d l → GateWanted aim
+gate_wanted (straight_to to endpoint) door.Inbound l is = absurd cc
+gate_wanted (straight_to to endpoint) door.Plain l is = absurd cc
+gate_wanted (straight_to to endpoint) door.Outbound l is = absurd cc
+gate_wanted (through key authority endpoint) d l is = record { key = key; keyed = refl; address = refl }
+
+gate_guard : (taken : List Note) (p : Proxy) (trace : List Entry) (s : Stands taken p trace) (n : ℕ) (z : Entry)
+    → ControlRests s.machine.control → is_act z ≡ true → BirthMayCome s.machine z → GateMayCome s.machine n z
+gate_guard taken p trace s n z rests act birth =
+    let first : gate_first (s.machine.gates n).phase z ≡ true = or_right (is_gate_faulted (s.machine.gates n).phase) (is_act z) act in
+    let gates = gates_calm s.machine s.relays (gate_first (s.machine.gates n).phase z) first in
+    record {
+      birth = birth;
+      control = rests;
+      links = λ j. subst (λ (b : Bool). Lets b (s.machine.inbound j)) (sym first) (all_calm p.side.links s.machine.inbound s.links j);
+      plain = λ j. subst (λ (b : Bool). PlainLets b (s.machine.plain j)) (sym first) (plain_calm p.side.relays s.relays j);
+      others = λ j apart. gates.gates j;
+      streams = gates.streams;
+    }
+
+gate_dialled : (p : Proxy) (new : Relays) (l n : ℕ) → relays.DialsGate l n p.side.relays new → relays_stirring.Stirs p.side.relays new
+    → (to : Target) → Tells Stands shown_of (e.Dialled n to (whys.Gateway l)) p (with_side (record p.side { relays = new }) p)
+gate_dialled p new l n dials stirs to taken trace s may =
+    let z = e.Dialled n to (whys.Gateway l) in
+    let x = s.machine in
+    let due = due_of_plain taken p trace s to (whys.Gateway l) l (inr refl) may.0 in
+    let wanted = gate_wanted (x.plain l).aim (x.plain l).door l due.why_is in
+    let key = wanted.key in
+    let number = next_number taken p trace s n may.1 in
+    let written = subst (λ (o : Option Key). IfThrough o MayBeWritten) wanted.keyed
+    (keys_written p.control.config x s.points s.run l) in
+    let gate = record (x.gates n) { key = key; phase = gateway.opening; front = front_of key } in
+    let point = of_gate n (gate_part.dialled z key) in
+    let next = with_gate n (gate_part.dialled z key) gate x in
+    let steps : Steps p.control.config x point next = (
+      gate,
+      ((refl, (fresh_at taken p trace s n number).gate, due.address ∙ wanted.address, written), refl),
+      (
+        gate_guard taken p trace s n z due.rests refl number,
+        record {
+          due = due.stage;
+          keyed = wanted.keyed;
+          none = subst (λ (o : Option Key). IfThrough o (NoneOffers x)) wanted.keyed due.gate;
+        },
+      ),
+      refl,
+    ) in
+    door_told taken p (record p.side { relays = new }) trace z s point next due.going steps refl refl refl refl
+    (relays_follow p.control.config next (told p.side.notes) (record p.side { relays = new }) s.links
+    (quiet_relays relays_reach.any point p.side.relays new (told p.side.notes) (dials to key) p.control.config x next s.points s.run
+    s.relays tt steps))
+    (λ j. relays_stir p.side (record p.side { relays = new }) j refl (stirs j))
 
 -- ANSWERS TO DIALS, BY WHAT THEY ARE
 
@@ -358,8 +437,15 @@ plain_answers p new why link l u for link_is dials stirs =
     (plain_dialled p new why l u for dials stirs)
 
 pub plain_answers_none : (p : Proxy) (side : Side) (why : Why) (link : Option ℕ) (l : ℕ) → side.links ≡ p.side.links
-    → IsFor l why → link ≡ None → relays.DialFails l p.side.relays (told p.side.notes) side.relays (told side.notes)
+    → IsOf l why → link ≡ None → relays.DialFails l p.side.relays (told p.side.notes) side.relays (told side.notes)
     → relays_stirring.Stirs p.side.relays side.relays → (to : Target)
     → Tells Stands shown_of (dial_entry to why link) p (with_side side p)
 plain_answers_none p side why link l same for link_is fails stirs =
     answered p (with_side side p) why why link None refl link_is (plain_fails p side why l for same fails stirs)
+
+pub gate_answers : (p : Proxy) (new : Relays) (why : Why) (link : Option ℕ) (l n : ℕ) → why ≡ whys.Gateway l → link ≡ Some n
+    → relays.DialsGate l n p.side.relays new → relays_stirring.Stirs p.side.relays new → (to : Target)
+    → Tells Stands shown_of (dial_entry to why link) p (with_side (record p.side { relays = new }) p)
+gate_answers p new why link l n why_is link_is dials stirs =
+    answered p (with_side (record p.side { relays = new }) p) why (whys.Gateway l) link (Some n) why_is link_is
+    (gate_dialled p new l n dials stirs)

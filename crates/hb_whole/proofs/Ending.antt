@@ -1,5 +1,5 @@
 -- The end of a run.
-use Rattle.std.proofs.Common.{◌≡◌, ◌⊎◌, inl, inr, ⊎_elim, ℕ, ◌<◌, ◌==◌, Bool, true, false, is_none, cond, List, [], ◌∷◌, ◌++◌, Option, Some, None, refl, ap, sym, ◌∙◌, subst, arith}
+use Rattle.std.proofs.Common.{◌≡◌, ◌⊎◌, inl, inr, ⊎_elim, ℕ, ◌<◌, ◌==◌, ◌&&◌, Bool, true, false, is_none, cond, List, [], ◌∷◌, ◌++◌, Option, Some, None, refl, ap, sym, ◌∙◌, subst, arith}
 use Rattle.std.proofs.lemmas.Bool.{and_parts}
 use Rattle.std.proofs.lemmas.List.{append_assoc, append-nil}
 use Rattle.hb_base.specs.declared.cause.Cause.{Cause}
@@ -10,6 +10,13 @@ use Rattle.hb_captured.specs.Captured as plain
 use Rattle.hb_captured.specs.Captured.{Captured}
 use Rattle.hb_captured.specs.Part as plain_part
 use Rattle.hb_captured.specs.Runs as captured
+use Rattle.hb_gateway.specs.Calm as gate_calm
+use Rattle.hb_gateway.specs.Gateway as gateway
+use Rattle.hb_gateway.specs.Gateway.{Gateway}
+use Rattle.hb_gateway.specs.Part as gate_part
+use Rattle.hb_gateway.specs.Response as response
+use Rattle.hb_gateway.specs.Response.{Heard, opens, brings, fails}
+use Rattle.hb_gateway.specs.Runs as gateway_runs
 use Rattle.hb_inbound.specs.Calm.{IsIdleBy, close_due}
 use Rattle.hb_inbound.specs.Inbound as m
 use Rattle.hb_inbound.specs.Inbound.{Inbound}
@@ -34,26 +41,27 @@ use Rattle.hb_model.specs.Runs.{IsCalmBy}
 use Rattle.hb_model.specs.declared.config.NodeConfig.{NodeConfig}
 use Rattle.hb_node.specs.State as node
 use Rattle.hb_node.specs.State.{State, Shows, due_of, closing_of}
-use Rattle.hb_proxy.specs.Machine.{Machine, local, outward, plain_local, with_control}
+use Rattle.hb_proxy.specs.Machine.{Machine, local, outward, plain_local, with_control, with_stream}
 use Rattle.hb_proxy.specs.Points.{Point, of_control, of_link, of_plain, of_gate, of_stream, entries}
 use Rattle.hb_proxy.specs.Runs.{Steps, StandsFor, goes_on}
-use Rattle.hb_proxy.specs.Seen.{IsThere, IsLinkThere, IsPlainThere, HasLink}
+use Rattle.hb_proxy.specs.Seen.{IsThere, IsLinkThere, IsPlainThere, IsGateThere, HasLink}
+use Rattle.hb_proxy.specs.Shared.{Shared, asks, tells, puts, finishes, credits, drops, completes, captured_part, gateway_part}
 use Rattle.hb_proxy.specs.Ups.{up_by}
-use Rattle.hb_relay.specs.Reaches as relay
-use Rattle.hb_relays.proofs.Gateless.{all_told}
 use Rattle.hb_relays.specs.Calls as relays
+use Rattle.hb_relays.specs.Reaches as relays_reach
 use Rattle.hb_relays.specs.Shows.{ShowsRelays}
+use Rattle.hb_relays.proofs.Touching.{none_touched}
 use Rattle.hb_relays.specs.Touched as touched
 use Rattle.hb_turns.specs.Shown.{StandsForNone, Stops}
 use Rattle.hb_world.specs.Trace.{lives}
 use Rattle.hb_world.specs.declared.entry.Entry.{Entry}
 use Rattle.hb_whole.specs.Queue.{told}
 use Rattle.hb_whole.specs.Sight.{shown_of, closes_by, is_idle}
-use Rattle.hb_whole.specs.Stands.{Stands, EndsBy, Ends, ControlEnds, LinkEnds, PlainEnds, PlainEndsBy, TunnelEnds}
+use Rattle.hb_whole.specs.Stands.{Stands, EndsBy, Ends, ControlEnds, LinkEnds, GateEnds, PlainEnds, PlainEndsBy, TunnelEnds}
 use Rattle.hb_whole.specs.declared.proxy.Proxy.{Proxy}
 use Rattle.hb_whole.specs.declared.side.Side.{Side}
 use Rattle.hb_whole.proofs.Free.{calm_of, control_rests, goes_on as runs_on, none_of}
-use Rattle.hb_whole.proofs.Gates.{none_there}
+use Rattle.hb_whole.proofs.GateGiving.{gate_ends_at}
 use Rattle.hb_whole.proofs.Growing.{notes_grow}
 use Rattle.hb_whole.proofs.LinkGiving.{ends_at}
 use Rattle.hb_whole.proofs.Leading.{Follows, IsInner, Leads, both_follow, inner_silent, inner_control, entries_more, stands_behind}
@@ -104,13 +112,22 @@ relay_gone c x ends going =
     ⊎_elim (λ is. subst (λ (r : plain.Stage). PlainEndsBy c r x) is ends)
     (λ is. subst (λ (r : plain.Stage). PlainEndsBy c r x) is ends) going
 
+-- a link to a gateway
+gate_gone : (c : Cause) (phase : gateway.Phase) → GateEnds c phase → gate_calm.close_due phase ≡ None → IsGateThere phase → ⊥
+gate_gone c gateway.unborn ends none there = there
+gate_gone c gateway.closed ends none there = there
+gate_gone c gateway.opening ends none there = ends
+gate_gone c gateway.serving ends none there = ends
+gate_gone c (gateway.faulted code) ends none there = ends
+gate_gone c (gateway.closing why) ends none there = absurd cc
+
 by_false : (b : Bool) → (b ≡ true → ⊥) → b ≡ false
 by_false true never = absurd (never refl)
 by_false false never = refl
 
 pub none_lives : (p : Proxy) (c : Cause) → p.ends_for ≡ Some c → due_of p.control ≡ None → busy.is_idle p.side.links ≡ true
-    → touched.is_idle p.side.relays.due ≡ true → StandsForNone Stands p
-none_lives p c ends due idle idle_too taken trace s l =
+    → touched.is_idle p.side.relays.due ≡ true → touched.is_idle p.side.relays.gate_due ≡ true → StandsForNone Stands p
+none_lives p c ends due idle idle_too idle_gates taken trace s l =
     by_false (lives l trace) (λ alive. dead ((seen_of taken p trace s).has l (lives_then trace l ∙ alive)))
   where
     x : Machine
@@ -131,7 +148,8 @@ none_lives p c ends due idle idle_too taken trace s l =
         up_gone c ((x.inbound joins.0).tunnels joins.1).stage ((x.inbound joins.0).tunnels joins.1) l (so.tunnels joins.0 joins.1)
         ((all_calm p.side.links x.inbound s.links joins.0).answered joins.1)
         ((none_is_due p.side.links x.inbound idle s.links joins.0).idle joins.1) joins.2.0 joins.2.1
-    dead (inr (inr (inr (inr there)))) = none_there s.relays l there
+    dead (inr (inr (inr (inr there)))) =
+        gate_gone c (x.gates l).phase (so.gates l) (s.relays.gate_idle l (none_touched p.side.relays.gate_due idle_gates l)) there
     dead (inr (inr (inr (inl (inl there))))) = plain_gone c (x.plain l) (so.plain l) (quiet l) there
     dead (inr (inr (inr (inl (inr up))))) =
         relay_gone c (x.plain up.0) (so.plain up.0) (relay_at taken p trace s up.0 l (quiet up.0) up.1)
@@ -245,7 +263,45 @@ module _ (c : Cause) (l : ℕ) (a : captured.Local) (ends : PlainEnds c a.link) 
   never_plain : (stage : plain.Stage) → a.link.stage ≡ stage → PlainEndsBy c stage a.link
   never_plain stage is = subst (λ (r : plain.Stage). PlainEndsBy c r a.link) is ends
 
-  plain_step : (p : plain_part.Part) → relay.IsInner p → captured.MayGo l a p → PlainEnds c (captured.next_link a.link p)
+  -- what is heard but a failure is heard while it opens or lives
+  hears_late : (stage : plain.Stage) (heard : Heard) → PlainEndsBy c stage a.link → captured.MayHear stage heard a.link
+      → (begun : ℕ) → PlainEnds c (plain.told_by heard begun a.link)
+  hears_late stage (fails why) so may begun = failed_ends why begun a.link.stage ends
+    where
+      failed_ends : (why : Cause) (begun : ℕ) (r : plain.Stage) → PlainEndsBy c r a.link
+          → PlainEndsBy c (plain.ends_by why r) (plain.left_behind begun (plain.at_stage (plain.ends_by why r) a.link))
+      failed_ends why begun plain.unborn so = tt
+      failed_ends why begun (plain.failed first) so = so
+      failed_ends why begun (plain.ended first) so = so
+      failed_ends why begun (plain.over first) so = so
+      failed_ends why begun plain.arriving so = absurd so
+      failed_ends why begun plain.fronting so = absurd so
+      failed_ends why begun plain.due so = absurd so
+      failed_ends why begun plain.opening so = absurd so
+      failed_ends why begun plain.accepting so = absurd so
+      failed_ends why begun plain.live so = absurd so
+  hears_late plain.opening (opens end) so may begun = absurd so
+  hears_late stage (opens end) so may begun = absurd may
+  hears_late plain.live (brings bytes) so may begun = absurd so
+  hears_late stage (brings bytes) so may begun = absurd may
+  hears_late plain.live response.ends so may begun = absurd so
+  hears_late stage response.ends so may begun = absurd may
+
+  -- where its stream is left it ends as before
+  left_so : (begun : ℕ) (stage : plain.Stage) → PlainEndsBy c stage a.link → PlainEndsBy c stage (plain.left_behind begun a.link)
+  left_so begun plain.unborn so = tt
+  left_so begun (plain.failed why) so = so
+  left_so begun (plain.ended why) so = so
+  left_so begun (plain.over why) so = so
+  left_so begun plain.arriving so = absurd so
+  left_so begun plain.fronting so = absurd so
+  left_so begun plain.due so = absurd so
+  left_so begun plain.opening so = absurd so
+  left_so begun plain.accepting so = absurd so
+  left_so begun plain.live so = absurd so
+
+  plain_step : (p : plain_part.Part) → relays_reach.IsInner (of_plain l p) → captured.MayGo l a p
+      → PlainEnds c (captured.next_link a.link p)
   plain_step (plain_part.entry z) inner may = absurd inner
   plain_step (plain_part.up z) inner may = absurd inner
   plain_step plain_part.welcomed inner may = absurd (never_plain plain.arriving may)
@@ -256,17 +312,67 @@ module _ (c : Cause) (l : ℕ) (a : captured.Local) (ends : PlainEnds c a.link) 
   plain_step (plain_part.refused seen routing why status made) inner may = absurd (never_plain plain.fronting may.0.0)
   plain_step (plain_part.accepted made) inner may = absurd (never_plain plain.accepting may.0)
   plain_step plain_part.roomless inner may = absurd (never_plain plain.due may.0)
-  plain_step (plain_part.asked gate stream) inner may = absurd inner
-  plain_step (plain_part.hears heard begun) inner may = absurd inner
-  plain_step (plain_part.put bytes) inner may = absurd inner
-  plain_step plain_part.finished inner may = absurd inner
-  plain_step (plain_part.credited n) inner may = absurd inner
-  plain_step (plain_part.loosed begun) inner may = absurd inner
-  plain_step (plain_part.completed begun made) inner may = absurd inner
   plain_step (plain_part.left made) inner may = left_plain c a.link.stage a.link ends
   plain_step (plain_part.done made) inner may = absurd (never_plain plain.live may.0)
-  plain_step (plain_part.applied r) inner may = absurd inner
-  plain_step (plain_part.stopped why) inner may = absurd inner
+  plain_step _ inner may = absurd inner
+
+  -- nor does what happens on its stream
+  stream_step : (n s : ℕ) (w : Shared) → captured.MayGo l a (captured_part n s w)
+      → PlainEnds c (captured.next_link a.link (captured_part n s w))
+  stream_step n s (asks authority) may = absurd (never_plain plain.due may.0)
+  stream_step n s (tells heard begun) may = hears_late a.link.stage heard ends may.1 begun
+  stream_step n s (puts waiting count) may = absurd (never_plain plain.live may.0.1)
+  stream_step n s finishes may = absurd (never_plain plain.live may.0.1)
+  stream_step n s (credits count) may = absurd (never_plain plain.live may.0.1)
+  stream_step n s (drops begun) may = left_so begun a.link.stage ends
+  stream_step n s (completes begun made) may = absurd (never_plain plain.live may.0.1)
+
+-- a link to a gateway that ends so carries nothing
+none_carries : (c : Cause) (phase : gateway.Phase) → GateEnds c phase → gateway.carries phase ≡ true → ⊥
+none_carries c gateway.unborn ends carries = absurd cc
+none_carries c gateway.closed ends carries = absurd cc
+none_carries c gateway.opening ends carries = ends
+none_carries c gateway.serving ends carries = ends
+none_carries c (gateway.faulted code) ends carries = absurd cc
+none_carries c (gateway.closing why) ends carries = absurd cc
+
+-- and goes on ending so
+gate_step : (c : Cause) (n : ℕ) (x y : Gateway) (p : gate_part.Part) → relays_reach.IsInner (of_gate n p) → GateEnds c x.phase
+    → gateway_runs.Steps n x p y → GateEnds c y.phase
+gate_step c n x y (gate_part.looked points told headers) inner ends steps =
+    absurd (subst (λ (q : gateway.Phase). GateEnds c q) steps.0 ends)
+gate_step c n x y (gate_part.reset s code) inner ends steps = absurd (none_carries c x.phase ends steps.0)
+gate_step c n x y (gate_part.entry z) inner ends steps = absurd inner
+gate_step c n x y _ inner ends steps = absurd inner
+
+-- no point of a stream changes how far it is
+same_phase : (l n s : ℕ) (w : Shared) (x y : Gateway) → gateway_runs.Steps n x (gateway_part l s w) y → y.phase ≡ x.phase
+same_phase l n s (asks authority) x y steps = ap (λ (z : Gateway). z.phase) steps.2
+same_phase l n s (tells heard begun) x y steps = ap (λ (z : Gateway). z.phase) steps.2
+same_phase l n s (puts waiting count) x y steps = ap (λ (z : Gateway). z.phase) steps.4
+same_phase l n s finishes x y steps = ap (λ (z : Gateway). z.phase) steps.3
+same_phase l n s (credits count) x y steps = ap (λ (z : Gateway). z.phase) steps.2
+same_phase l n s (drops begun) x y steps = ap (λ (z : Gateway). z.phase) steps.3
+same_phase l n s (completes begun made) x y steps = ap (λ (z : Gateway). z.phase) steps.3
+
+-- both of a stream do
+stream_ends_at : (c : Cause) (x : Machine) (l n : ℕ) (next : Captured) (gate : Gateway) → PlainEnds c next → GateEnds c gate.phase
+    → Ends c x → Ends c (with_stream l n next gate x)
+stream_ends_at c x l n next gate plain_so gate_so is = record {
+  control = is.control;
+  links = is.links;
+  tunnels = is.tunnels;
+  plain = λ k. by (k == l) k (is.plain k);
+  gates = λ k. by_gate (k == n) k (is.gates k);
+}
+  where
+    by : (b : Bool) (k : ℕ) → PlainEnds c (x.plain k) → PlainEnds c (cond b next (x.plain k))
+    by true k so = plain_so
+    by false k so = so
+
+    by_gate : (b : Bool) (k : ℕ) → GateEnds c (x.gates k).phase → GateEnds c (cond b gate (x.gates k)).phase
+    by_gate true k so = gate_so
+    by_gate false k so = so
 
 step_so : (c : Cause) (g : NodeConfig) (x y : Machine) (p : Point) → IsInner p → Steps g x p y → Ends c x → Ends c y
 step_so c g x y (of_control q) inner steps ends = absurd inner
@@ -284,8 +390,14 @@ step_so c g x y (of_plain l p) inner steps ends =
     (λ is. absurd (never_plain c l a (ends.plain l) plain.arriving
     (subst (λ (w : plain_part.Part). captured.MayGo l a w) is steps.0))) inner in
     subst (λ (w : Machine). Ends c w) (sym steps.2) (plain_ends_at c x l p (captured.next_link (x.plain l) p) at ends)
-step_so c g x y (of_gate n p) inner steps ends = absurd inner
-step_so c g x y (of_stream l n i w) inner steps ends = absurd inner
+step_so c g x y (of_gate n p) inner steps ends =
+    subst (λ (w : Machine). Ends c w) (sym steps.3)
+    (gate_ends_at c x n p steps.0 (gate_step c n (x.gates n) steps.0 p inner (ends.gates n) steps.1) ends)
+step_so c g x y (of_stream l n i w) inner steps ends =
+    subst (λ (z : Machine). Ends c z) (sym steps.4)
+    (stream_ends_at c x l n (captured.next_link (x.plain l) (captured_part n i w)) steps.1
+    (stream_step c l (plain_local x l) (ends.plain l) n i w steps.0)
+    (subst (λ (q : gateway.Phase). GateEnds c q) (sym (same_phase l n i w (x.gates n) steps.1 steps.2)) (ends.gates n)) ends)
 
 inner_ends : (c : Cause) (g : NodeConfig) (x y : Machine) (more : List Point) → Leads g x more y → Ends c x → Ends c y
 inner_ends c g x y [] is ends = subst (λ (w : Machine). Ends c w) (sym is) ends
@@ -338,6 +450,14 @@ plain_stops c (plain.failed why) x calm idle = absurd calm
 plain_stops c (plain.ended why) x calm idle = absurd calm
 plain_stops c (plain.over why) x calm idle = inr idle
 
+gate_stops : (c : Cause) (phase : gateway.Phase) → gate_calm.close_due phase ≡ None → GateEnds c (gateway.stops_by c phase)
+gate_stops c gateway.unborn none = tt
+gate_stops c gateway.closed none = tt
+gate_stops c gateway.opening none = refl
+gate_stops c gateway.serving none = refl
+gate_stops c (gateway.faulted code) none = absurd cc
+gate_stops c (gateway.closing why) none = absurd cc
+
 -- the control plane and the links were told, and no dial waits for its answer
 abbrev pub with_stop : State → Side → Cause → Proxy → Proxy
 with_stop n side c p = record p { control = n; side = side; dials = None; ends_for = Some c }
@@ -378,8 +498,11 @@ stops p n side between c control_stops_so links_stop relays_stop going none take
     parts : (is_none (closing_of p.control.link) ≡ true) × (is_idle p.side ≡ true)
     parts = and_parts _ _ (ap (λ (o : Option Cause). closes_by o p) (sym going) ∙ none)
 
+    idle_gates : ((busy.is_idle p.side.links && touched.is_idle p.side.relays.due) ≡ true) × (touched.is_idle p.side.relays.gate_due ≡ true)
+    idle_gates = and_parts _ _ parts.1
+
     idle : (busy.is_idle p.side.links ≡ true) × (touched.is_idle p.side.relays.due ≡ true)
-    idle = and_parts _ _ parts.1
+    idle = and_parts _ _ idle_gates.0
 
     quiet : (l : ℕ) → calm.IsQuiet (x.plain l)
     quiet = plain_quiet p.side.relays idle.1 s.relays
@@ -391,7 +514,7 @@ stops p n side between c control_stops_so links_stop relays_stop going none take
       record {
         links = λ l. (all_calm p.side.links x.inbound s.links l).answered;
         plain = λ l. (quiet l).0;
-        gates = all_told x s.relays.no_gates;
+        gates = λ n. (s.relays.calm.gates n).0;
       },
       refl,
     )
@@ -413,4 +536,5 @@ stops p n side between c control_stops_so links_stop relays_stop going none take
       tunnels = λ l k. tunnel_stops c ((x.inbound l).tunnels k).stage ((x.inbound l).tunnels k)
           ((all_calm p.side.links x.inbound s.links l).answered k) ((none_is_due p.side.links x.inbound idle.0 s.links l).idle k);
       plain = λ l. plain_stops c (x.plain l).stage (x.plain l) (quiet l).0 (quiet l).1;
+      gates = λ n. gate_stops c (x.gates n).phase (s.relays.gate_idle n (none_touched p.side.relays.gate_due idle_gates.1 n));
     }

@@ -1,5 +1,5 @@
 -- Where no act is due and the run goes on, all is quiet.
-use Rattle.std.proofs.Common.{◌≡◌, ◌≢◌, ◌⊎◌, inl, inr, ℕ, Bool, true, false, is_none, Option, Some, None, refl, ap, sym, ◌∙◌, subst}
+use Rattle.std.proofs.Common.{◌≡◌, ◌≢◌, ◌⊎◌, inl, inr, ℕ, ◌&&◌, Bool, true, false, is_none, Option, Some, None, refl, ap, sym, ◌∙◌, subst}
 use Rattle.std.specs.Prelude.{List}
 use Rattle.std.proofs.lemmas.Bool.{and_parts, cases_eq}
 use Rattle.hb_base.specs.declared.cause.Cause.{Cause}
@@ -25,15 +25,14 @@ use Rattle.hb_node.specs.Phases.{phase_of}
 use Rattle.hb_node.specs.State.{State, Shows, ShowsLink, IsGone, due_of, closing_of, number_of}
 use Rattle.hb_node.specs.declared.link.Link.{Link}
 use Rattle.hb_proxy.specs.Machine.{Machine}
-use Rattle.hb_proxy.specs.Runs.{ControlRests, DialsGate, GatesLet, Lets, PlainLets}
-use Rattle.hb_relays.proofs.Gateless.{dials_gate, shown_let}
+use Rattle.hb_proxy.specs.Runs.{ControlRests, GatesLet, Lets, PlainLets}
 use Rattle.hb_relays.specs.Touched as touched
 use Rattle.hb_turns.specs.Shown.{IsFree}
 use Rattle.hb_world.specs.declared.entry.Entry.{Entry}
 use Rattle.hb_whole.specs.Sight.{shown_of, idle_by, is_idle}
 use Rattle.hb_whole.specs.Stands.{Stands, EndsBy}
 use Rattle.hb_whole.specs.declared.proxy.Proxy.{Proxy}
-use Rattle.hb_whole.proofs.Relays.{plain_quiet}
+use Rattle.hb_whole.proofs.Relays.{gates_quiet, plain_quiet}
 
 -- THE CONTROL PLANE
 
@@ -119,13 +118,12 @@ plain_lets_all false x quiet = quiet
 
 -- THE PROXY
 
--- also on the links to gateways, of which none takes a tunnel
+-- also on the links to gateways
 pub record Free (x : Machine) : Type 0 where
   pub control : model.IsQuiet x.control
   pub links : (l : ℕ) → IsQuiet (x.inbound l)
   pub plain : (l : ℕ) → captured.IsQuiet (x.plain l)
   pub gates : (first : Bool) → GatesLet first x
-  pub dials : (l : ℕ) → DialsGate x l
 
 idle_parts : (p : Proxy) (ends : Option Cause) → ends ≡ None → idle_by ends p ≡ true
     → (is_none (due_of p.control) ≡ true) × (is_idle p.side ≡ true)
@@ -138,12 +136,13 @@ goes_on p x ends going = subst (λ (o : Option Cause). EndsBy o x) going ends
 pub free : (taken : List Note) (p : Proxy) (trace : List Entry) (s : Stands taken p trace) → IsFree (shown_of p) → Free s.machine
 free taken p trace s is =
     let parts = idle_parts p p.ends_for is.0 is.1 in
-    let doors = and_parts (links.is_idle p.side.links) (touched.is_idle p.side.relays.due) parts.1 in
+    let all = and_parts (links.is_idle p.side.links && touched.is_idle p.side.relays.due) (touched.is_idle p.side.relays.gate_due)
+    parts.1 in
+    let doors = and_parts (links.is_idle p.side.links) (touched.is_idle p.side.relays.due) all.0 in
     record {
       control = control_quiet p.control s.machine.control s.control (none_of (due_of p.control) parts.0)
           (goes_on p s.machine s.ends is.0);
       links = all_quiet p.side.links s.machine.inbound doors.0 s.links;
       plain = plain_quiet p.side.relays doors.1 s.relays;
-      gates = shown_let p.control.config p.side.relays s.machine s.relays;
-      dials = dials_gate s.machine s.relays.no_gates;
+      gates = gates_quiet p.side.relays s.machine all.1 s.relays;
     }

@@ -93,7 +93,7 @@ module _ (p : Proxy) (n : State) (had : Option ControlAct) (had_is : had ≡ Non
         (subst (λ (o : Option Act). relays_stirring.StirsBut (relays_stirring.closed_in o) p.side.relays behind) gave_is stirs))
 
     pub none_lives_so : (gave : Option Act) → gave ≡ None → IfNone got (busy.is_idle new ≡ true)
-        → IfNone gave (touched.is_idle behind.due ≡ true)
+        → IfNone gave ((touched.is_idle behind.due ≡ true) × (touched.is_idle behind.gate_due ≡ true))
         → IfSome p.ends_for (λ cause. StandsForNone Stands
         (record p { control = n; side = record p.side { links = new; relays = behind }; dials = None }))
     none_lives_so gave gave_is idle idle_too = by p.ends_for refl
@@ -104,5 +104,7 @@ module _ (p : Proxy) (n : State) (had : Option ControlAct) (had_is : had ≡ Non
         by : (ends : Option Cause) → p.ends_for ≡ ends → IfSome ends (λ cause. StandsForNone Stands q)
         by None is = tt
         by (Some c) is =
+            let none = subst (λ (o : Option Act). IfNone o ((touched.is_idle behind.due ≡ true) × (touched.is_idle behind.gate_due ≡ true)))
+            gave_is idle_too in
             none_lives q c is (ap due_of same ∙ rests) (subst (λ (o : Option Act). IfNone o (busy.is_idle new ≡ true)) got_is idle)
-            (subst (λ (o : Option Act). IfNone o (touched.is_idle behind.due ≡ true)) gave_is idle_too)
+            none.0 none.1

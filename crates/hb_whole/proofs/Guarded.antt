@@ -4,20 +4,24 @@ use Rattle.hb_captured.specs.Captured as captured
 use Rattle.hb_captured.specs.Captured.{Captured}
 use Rattle.hb_captured.specs.Part as plain
 use Rattle.hb_captured.specs.Runs as captured_runs
+use Rattle.hb_gateway.specs.Gateway.{Gateway}
+use Rattle.hb_gateway.specs.Hears.{all_hear}
+use Rattle.hb_gateway.specs.Part as gate
+use Rattle.hb_gateway.specs.Runs as gateway
 use Rattle.hb_inbound.specs.Inbound.{Inbound, at_stream}
 use Rattle.hb_inbound.specs.Part as part
 use Rattle.hb_inbound.specs.Runs as inbound
 use Rattle.hb_inbound.specs.Tunnel.{Tunnel, up_entered}
 use Rattle.hb_links.specs.Calls.{point_for}
-use Rattle.hb_proxy.specs.Machine.{Machine, born_by, with_part, with_plain, outward as outward_of}
+use Rattle.hb_proxy.specs.Machine.{Machine, born_by, with_part, with_plain, with_gate, outward as outward_of}
 use Rattle.hb_proxy.specs.Notes.{note_in}
-use Rattle.hb_proxy.specs.Points.{Point, of_link, of_plain, entry_in}
-use Rattle.hb_proxy.specs.Runs.{DialsGate, LinkMayCome, PlainMayCome, Steps}
+use Rattle.hb_proxy.specs.Points.{Point, of_link, of_plain, of_gate, entry_in}
+use Rattle.hb_proxy.specs.Runs.{DialsGate, GateMayCome, LinkMayCome, PlainMayCome, Steps}
 use Rattle.hb_relays.specs.Calls as relays
 use Rattle.hb_world.specs.declared.entry.Entry.{Entry}
 use Rattle.hb_whole.specs.declared.proxy.Proxy.{Proxy}
 use Rattle.hb_whole.proofs.LinkMay.{link_steps, up_steps}
-use Rattle.hb_whole.proofs.Still.{own_same, up_same, plain_same}
+use Rattle.hb_whole.proofs.Still.{own_same, up_same, plain_same, gate_same}
 
 -- an entry that changes no link, and no upstream
 pub record IsStill (x : Machine) (z : Entry) : Type 0 where
@@ -25,6 +29,7 @@ pub record IsStill (x : Machine) (z : Entry) : Type 0 where
   pub up : (k : Tunnel) → up_entered z k ≡ k
   pub plain : (y : Captured) → captured.entered z y ≡ y
   pub relay : (y : Captured) → captured.up_entered z y ≡ y
+  pub gate : (y : Gateway) → gateway.entered z (all_hear (gate.entry z) y) ≡ y
   pub born : born_by x.born z ≡ x.born
 
 -- it is a point of the machine; one that changes nothing leads nowhere else
@@ -37,7 +42,7 @@ pub record Guarded (p : Proxy) (x : Machine) (z : Entry) : Type 0 where
   pub control : next.control ≡ x.control
   pub same : IsStill x z → next ≡ x
 
--- which the inbound links of the code find, or the plain ones; the other parts stay as they are
+-- which the inbound links of the code find, or those that go out; the other parts stay as they are
 pub record LinkGuarded (p : Proxy) (x : Machine) (l : ℕ) (z : Entry) : Type 0 where
   pub at : Guarded p x z
   pub found : point_for p.side.links l z ≡ Some at.point
@@ -115,6 +120,26 @@ guarded_relay p x u l z found may guard dials = record {
     no_note = refl;
     control = refl;
     same = λ still. plain_same x l (plain.up z) (captured.up_entered z (x.plain l)) (still.relay (x.plain l)) still.born;
+  };
+  found = found z;
+  inbound = refl;
+}
+
+-- ON A LINK TO A GATEWAY
+
+pub guarded_gate : (p : Proxy) (x : Machine) (n : ℕ) (z : Entry)
+    → ((z : Entry) → relays.point_for p.side.relays n z ≡ Some (of_gate n (gate.entry z)))
+    → gateway.MayCome n (x.gates n) z → GateMayCome x n z → PlainGuarded p x n z
+guarded_gate p x n z found may guard = record {
+  at = record {
+    point = of_gate n (gate.entry z);
+    next = with_gate n (gate.entry z) (gateway.entered z (all_hear (gate.entry z) (x.gates n))) x;
+    steps = (gateway.entered z (all_hear (gate.entry z) (x.gates n)), (may, refl), guard, refl);
+    one = refl;
+    no_note = refl;
+    control = refl;
+    same = λ still. gate_same x n (gate.entry z) (gateway.entered z (all_hear (gate.entry z) (x.gates n))) (still.gate (x.gates n))
+        still.born;
   };
   found = found z;
   inbound = refl;

@@ -26,7 +26,6 @@ use Rattle.hb_proxy.specs.Runs.{BirthMayCome, LinkMayCome, Lets, PlainLets, link
 use Rattle.hb_proxy.specs.Seen.{Seen, IsLinkThere}
 use Rattle.hb_proxy.specs.Ups.{Joins}
 use Rattle.hb_ready.specs.Sight.{is_open}
-use Rattle.hb_relays.proofs.Gateless.{shown_let}
 use Rattle.hb_turns.specs.Shown.{MayCome, MayWrite}
 use Rattle.hb_world.specs.Trace.{lives}
 use Rattle.hb_world.specs.declared.entry.Entry.{Entry}
@@ -40,7 +39,7 @@ use Rattle.hb_whole.specs.declared.proxy.Proxy.{Proxy}
 use Rattle.hb_whole.proofs.Free.{Free, free, control_quiet, rests_of, goes_on, none_of}
 use Rattle.hb_whole.proofs.Guarded.{LinkGuarded, guarded_link, guarded_up}
 use Rattle.hb_whole.proofs.LinkMay.{open_phase, going_stage, opening_stage, live_wants, live_holds, is_at, free_link, wants_link, output_link, wants_up, holds_up, last_link}
-use Rattle.hb_whole.proofs.Relays.{plain_calm}
+use Rattle.hb_whole.proofs.Relays.{gates_calm, plain_calm}
 use Rattle.hb_whole.proofs.Routes.{LinkRoute, to_link, to_up, link_route, seen_of, open_then}
 
 not_both : (b : Bool) → b ≡ true → b ≡ false → ⊥
@@ -220,7 +219,8 @@ module _ (taken : List Note) (p : Proxy) (trace : List Entry) (s : Stands taken 
             (all_calm p.side.links x.inbound s.links k);
         plain = λ k. subst (λ (phase : m.Phase). PlainLets (link_first phase z) (x.plain k)) (sym words.1)
             (plain_calm p.side.relays s.relays k);
-        gates = shown_let p.control.config p.side.relays x s.relays (link_first (x.inbound l).phase z);
+        gates = gates_calm x s.relays (link_first (x.inbound l).phase z)
+            (ap (λ (phase : m.Phase). link_first phase z) words.1);
       })
   lasts going none words (to_up k q joins at found) =
       absurd ((seen.up_alone k q l joins).1 (subst (λ (phase : m.Phase). IsLinkThere phase) (sym words.1) tt))

@@ -19,7 +19,6 @@ use Rattle.hb_proxy.specs.Machine.{Machine, with_control}
 use Rattle.hb_proxy.specs.Points.{Point, of_control}
 use Rattle.hb_proxy.specs.Runs.{Steps, StandsFor, goes_on, BirthMayCome, ControlMayCome, Lets, PlainLets, goes_first, is_faulted}
 use Rattle.hb_proxy.specs.Seen.{Seen, IsThere}
-use Rattle.hb_relays.proofs.Gateless.{shown_let}
 use Rattle.hb_turns.specs.Shown as shown
 use Rattle.hb_turns.specs.Shown.{Tells, MayCome, MayWrite, IsFree}
 use Rattle.hb_ready.specs.Sight.{is_open}
@@ -37,7 +36,7 @@ use Rattle.hb_whole.proofs.ControlMay.{going_of, dialling_of, live_of, wants_own
 use Rattle.hb_whole.proofs.Controlling.{goes}
 use Rattle.hb_whole.proofs.Free.{free, goes_on as runs_on}
 use Rattle.hb_whole.proofs.Growing.{stood}
-use Rattle.hb_whole.proofs.Relays.{plain_calm}
+use Rattle.hb_whole.proofs.Relays.{gates_calm, plain_calm}
 use Rattle.hb_whole.proofs.Routes.{control_owner, seen_of, open_then, current_is}
 use Rattle.hb_whole.proofs.Stirring.{SideStirs, StirsOn, none_stir, stir_then, all_stir, other_stirs, stirs_now}
 
@@ -264,7 +263,7 @@ module _ (taken : List Note) (p : Proxy) (trace : List Entry) (s : Stands taken 
           links = λ k. subst (λ (b : Bool). Lets b (x.inbound k)) (sym (first fault.0 fault.1)) (all_calm p.side.links x.inbound s.links k);
           plain = λ k. subst (λ (b : Bool). PlainLets b (x.plain k)) (sym (first fault.0 fault.1))
               (plain_calm p.side.relays s.relays k);
-          gates = shown_let p.control.config p.side.relays x s.relays (goes_first x.control z);
+          gates = gates_calm x s.relays (goes_first x.control z) (first fault.0 fault.1);
         };
       }
 

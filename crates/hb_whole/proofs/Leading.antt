@@ -1,9 +1,11 @@
 -- What follows by itself on the links of the doors: no entry, and nothing of the other parts.
-use Rattle.std.proofs.Common.{◌≡◌, ◌⊎◌, inl, inr, List, [], ◌∷◌, ◌++◌, refl, ap, sym, ◌∙◌, subst}
+use Rattle.std.proofs.Common.{◌≡◌, ◌⊎◌, inl, inr, ℕ, List, [], ◌∷◌, ◌++◌, refl, ap, sym, ◌∙◌, subst}
+use Rattle.std.specs.Prelude.{⊤}
 use Rattle.std.proofs.lemmas.Grind.{flat_map-append}
 use Rattle.std.proofs.lemmas.List.{append_assoc, append-nil}
 use Rattle.hb_base.specs.declared.note.Note.{Note}
 use Rattle.hb_captured.specs.Part as plain
+use Rattle.hb_gateway.specs.Part as gate
 use Rattle.hb_inbound.specs.Part as part
 use Rattle.hb_inbound.specs.Part.{Part}
 use Rattle.hb_link.proofs.Noted.{takes_then}
@@ -17,13 +19,12 @@ use Rattle.hb_proxy.specs.Machine.{Machine, Outward, outward}
 use Rattle.hb_proxy.specs.Notes.{notes, note_in}
 use Rattle.hb_proxy.specs.Points.{Point, of_control, of_link, of_plain, of_gate, of_stream, entry_in, entries}
 use Rattle.hb_proxy.specs.Runs.{Steps, StandsFor, goes_on}
-use Rattle.hb_relay.specs.Reaches as relay
-use Rattle.hb_relays.proofs.Lifted.{beside, leads_keep}
 use Rattle.hb_relays.specs.Reaches as relays
 use Rattle.hb_relays.specs.Shows.{ShowsRelays}
 use Rattle.hb_world.specs.declared.entry.Entry.{Entry}
 use Rattle.hb_whole.specs.Queue.{told}
 use Rattle.hb_whole.specs.declared.side.Side.{Side}
+use Rattle.hb_whole.proofs.Beside.{beside, leads_keep}
 
 -- LISTS OF POINTS
 
@@ -35,13 +36,13 @@ notes_more points more = flat_map-append note_in points more
 
 -- POINTS THAT FOLLOW BY THEMSELVES
 
--- on a link of a door, or one that is turned away
+-- on a link of a door, or one that is turned away; on a link to a gateway, and on a stream
 abbrev pub IsInner : Point → Type 0
 IsInner (of_control q) = ⊥
 IsInner (of_link l p) = link.IsInner p ⊎ (p ≡ part.crowded)
-IsInner (of_plain l p) = relay.IsInner p ⊎ (p ≡ plain.crowded)
-IsInner (of_gate n p) = ⊥
-IsInner (of_stream l n i w) = ⊥
+IsInner (of_plain l p) = relays.IsInner (of_plain l p) ⊎ (p ≡ plain.crowded)
+IsInner (of_gate n p) = relays.IsInner (of_gate n p)
+IsInner (of_stream l n i w) = ⊤
 
 -- they lead from one machine to another, one after another
 abbrev pub Leads : NodeConfig → Machine → List Point → Machine → Type 0
@@ -83,37 +84,24 @@ part_silent (part.credited s n) inner = refl
 part_silent (part.applied r) inner = refl
 part_silent (part.stopped why) inner = refl
 
-plain_silent : (p : plain.Part) → relay.IsInner p → plain.entry_in p ≡ []
-plain_silent (plain.entry z) inner = absurd inner
-plain_silent (plain.up z) inner = absurd inner
-plain_silent plain.welcomed inner = refl
-plain_silent plain.crowded inner = refl
-plain_silent plain.lacked inner = refl
-plain_silent (plain.misfronted fault) inner = refl
-plain_silent (plain.fronted seen routing aim) inner = refl
-plain_silent (plain.refused seen routing why status made) inner = refl
-plain_silent (plain.accepted made) inner = refl
-plain_silent plain.roomless inner = refl
-plain_silent (plain.asked gate stream) inner = refl
-plain_silent (plain.hears heard begun) inner = refl
-plain_silent (plain.put bytes) inner = refl
-plain_silent plain.finished inner = refl
-plain_silent (plain.credited n) inner = refl
-plain_silent (plain.loosed begun) inner = refl
-plain_silent (plain.completed begun made) inner = refl
-plain_silent (plain.left made) inner = refl
-plain_silent (plain.done made) inner = refl
-plain_silent (plain.applied r) inner = refl
-plain_silent (plain.stopped why) inner = refl
+plain_silent : (l : ℕ) (p : plain.Part) → relays.IsInner (of_plain l p) → plain.entry_in p ≡ []
+plain_silent l (plain.entry z) inner = absurd inner
+plain_silent l (plain.up z) inner = absurd inner
+plain_silent l _ inner = refl
+
+gate_silent : (n : ℕ) (p : gate.Part) → relays.IsInner (of_gate n p) → gate.entry_in p ≡ []
+gate_silent n (gate.entry z) inner = absurd inner
+gate_silent n (gate.dialled z key) inner = absurd inner
+gate_silent n _ inner = refl
 
 point_silent : (p : Point) → IsInner p → entry_in p ≡ []
 point_silent (of_control q) inner = absurd inner
 point_silent (of_link l p) (inl inner) = part_silent p inner
 point_silent (of_link l p) (inr is) = ap part.entry_in is
-point_silent (of_plain l p) (inl inner) = plain_silent p inner
+point_silent (of_plain l p) (inl inner) = plain_silent l p inner
 point_silent (of_plain l p) (inr is) = ap plain.entry_in is
-point_silent (of_gate n p) inner = absurd inner
-point_silent (of_stream l n i w) inner = absurd inner
+point_silent (of_gate n p) inner = gate_silent n p inner
+point_silent (of_stream l n i w) inner = refl
 
 pub inner_silent : (g : NodeConfig) (x y : Machine) (more : List Point) → Leads g x more y → entries more ≡ []
 inner_silent g x y [] is = refl
@@ -125,14 +113,14 @@ step_control : (g : NodeConfig) (x y : Machine) (p : Point) → IsInner p → St
 step_control g x y (of_control q) inner steps = absurd inner
 step_control g x y (of_link l p) inner steps = ap (λ (w : Machine). w.control) steps.3
 step_control g x y (of_plain l p) inner steps = ap (λ (w : Machine). w.control) steps.2
-step_control g x y (of_gate n p) inner steps = absurd inner
-step_control g x y (of_stream l n i w) inner steps = absurd inner
+step_control g x y (of_gate n p) inner steps = ap (λ (w : Machine). w.control) steps.3
+step_control g x y (of_stream l n i w) inner steps = ap (λ (w : Machine). w.control) steps.4
 
 pub inner_control : (g : NodeConfig) (x y : Machine) (more : List Point) → Leads g x more y → y.control ≡ x.control
 inner_control g x y [] is = ap (λ (w : Machine). w.control) is
 inner_control g x y (p ∷ more) is = inner_control g is.1 y more is.3 ∙ step_control g x is.1 p is.0 is.2
 
--- THE LINKS OF ONE DOOR
+-- THE LINKS OF ONE DOOR, AND THOSE THAT GO OUT
 
 links_lead : (G : links.Guard) (g : NodeConfig) (x y : Machine) (more : List Point) → links.Leads G g x more y → Leads g x more y
 links_lead G g x y [] is = is
@@ -142,13 +130,16 @@ links_lead G g x y (of_gate n p ∷ more) is = absurd is.0
 links_lead G g x y (of_stream l n i w ∷ more) is = absurd is.0
 links_lead G g x y (of_link l p ∷ more) is = (inl is.0, is.2, is.3, links_lead G g is.2 y more is.4)
 
+relays_inner : (p : Point) → relays.IsInner p → IsInner p
+relays_inner (of_control q) inner = inner
+relays_inner (of_link l p) inner = absurd inner
+relays_inner (of_plain l p) inner = inl inner
+relays_inner (of_gate n p) inner = inner
+relays_inner (of_stream l n i w) inner = tt
+
 relays_lead : (g : NodeConfig) (x y : Machine) (more : List Point) → relays.Leads g x more y → Leads g x more y
 relays_lead g x y [] is = is
-relays_lead g x y (of_control q ∷ more) is = absurd is.0
-relays_lead g x y (of_link l p ∷ more) is = absurd is.0
-relays_lead g x y (of_gate n p ∷ more) is = absurd is.0
-relays_lead g x y (of_stream l n i w ∷ more) is = absurd is.0
-relays_lead g x y (of_plain l p ∷ more) is = (inl is.0, is.1, is.2, relays_lead g is.1 y more is.3)
+relays_lead g x y (p ∷ more) is = (relays_inner p is.0, is.1, is.2, relays_lead g is.1 y more is.3)
 
 -- WHAT FOLLOWS ON THE LINKS OF BOTH DOORS
 
@@ -180,7 +171,7 @@ relays_follow g x had side shows follows = record {
   more = follows.more;
   reached = follows.reached;
   leads = relays_lead g x follows.reached follows.more follows.leads;
-  links = subst (λ (f : _). ShowsAll side.links f) (sym (leads_keep g x follows.more follows.reached follows.leads).inbound) shows;
+  links = subst (λ (f : _). ShowsAll side.links f) (sym (leads_keep g x follows.reached follows.more follows.leads).inbound) shows;
   relays = follows.shows;
   noted = follows.noted;
 }
@@ -198,7 +189,7 @@ both_follow g x had between side G first behind =
       reached = so.reached;
       leads = leads_then g x first.reached so.reached first.more behind.more leads
           (relays_lead g first.reached so.reached behind.more so.leads);
-      links = subst (λ (f : _). ShowsAll side.links f) (sym (leads_keep g first.reached behind.more so.reached so.leads).inbound)
+      links = subst (λ (f : _). ShowsAll side.links f) (sym (leads_keep g first.reached so.reached behind.more so.leads).inbound)
           first.shows;
       relays = subst (λ (out : Outward). ShowsRelays g side.relays out) (sym so.same) behind.shows;
       noted = subst (λ (ns : List Note). Takes had ns (told side.notes)) (sym (notes_more first.more behind.more))

@@ -1,7 +1,7 @@
+pub mod Beside
 pub mod Leading
 pub mod Growing
 pub mod Relays
-pub mod Gates
 pub mod Free
 pub mod Routes
 pub mod ControlMay
@@ -10,6 +10,7 @@ pub mod PlainMay
 pub mod Still
 pub mod Guarded
 pub mod Guards
+pub mod GateGuards
 pub mod PlainGuards
 pub mod Stirring
 pub mod Telling
@@ -19,10 +20,12 @@ pub mod Resting
 pub mod Acting
 pub mod Giving
 pub mod LinkGiving
+pub mod GateGiving
 pub mod PlainGiving
 pub mod Ending
 pub mod Born
 pub mod Births
+pub mod Keys
 pub mod Dialling
 pub mod Outcomes
 pub mod Taking

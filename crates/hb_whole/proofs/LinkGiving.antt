@@ -28,7 +28,6 @@ use Rattle.hb_proxy.specs.Points.{Point, of_link}
 use Rattle.hb_proxy.specs.Runs.{Steps, StandsFor}
 use Rattle.hb_proxy.specs.Seen.{Seen, IsLinkThere}
 use Rattle.hb_proxy.specs.Ups.{Joins, up_by}
-use Rattle.hb_relays.proofs.Gateless.{shown_let}
 use Rattle.hb_relays.specs.Shows.{ShowsRelays}
 use Rattle.hb_turns.specs.Shown.{Acts}
 use Rattle.hb_world.specs.Trace.{lives, was_shut}
@@ -42,7 +41,7 @@ use Rattle.hb_whole.specs.Stands.{Stands, EndsBy, Ends, LinkEnds, TunnelEnds, Di
 use Rattle.hb_whole.specs.declared.proxy.Proxy.{Proxy}
 use Rattle.hb_whole.specs.declared.side.Side.{Side}
 use Rattle.hb_whole.proofs.Free.{control_rests}
-use Rattle.hb_whole.proofs.Relays.{plain_calm}
+use Rattle.hb_whole.proofs.Relays.{gates_calm, plain_calm}
 use Rattle.hb_whole.proofs.Routes.{seen_of, lives_then, shut_then}
 use Rattle.hb_whole.proofs.Stirring.{links_stir}
 use Rattle.hb_whole.proofs.Telling.{with_act}
@@ -76,6 +75,7 @@ ends_at c x l p next phase tunnels is = record {
   links = λ k. by (k == l) k (is.links k);
   tunnels = λ k s. by_tunnel (k == l) k s (is.tunnels k s);
   plain = is.plain;
+  gates = is.gates;
 }
   where
     by : (b : Bool) (k : ℕ) → LinkEnds c (x.inbound k).phase → LinkEnds c (cond b next (x.inbound k)).phase
@@ -98,7 +98,8 @@ link_ends_at (Some c) x l p next phase tunnels is =
 
 -- of an inbound one
 module _ (taken : List Note) (p : Proxy) (links_behind : Links) (trace : List Entry) (s : Stands taken p trace) (l : ℕ) (q : Part)
-    (z : Entry) (does : Does links_behind p.control.config s.machine l q) (one : part.entry_in q ≡ z ∷ []) (none : part.note_in q ≡ []) where
+    (z : Entry) (does : Does links_behind p.control.config s.machine l q) (one : part.entry_in q ≡ z ∷ [])
+    (none : part.note_in q ≡ []) where
   abbrev pub side_behind : Side
   side_behind = record p.side { links = links_behind }
 
@@ -239,7 +240,7 @@ module _ (p : Proxy) (links_behind : Links) (rests : due_of p.control ≡ None) 
       → links.ActsOn due links_behind p.control.config s.machine
   on due acts taken trace s =
       acts p.control.config s.machine s.points s.run s.links (control_rests p.control s.machine.control s.control rests)
-      (plain_calm p.side.relays s.relays) (shown_let p.control.config p.side.relays s.machine s.relays true)
+      (plain_calm p.side.relays s.relays) (gates_calm s.machine s.relays true refl)
 
   gives_by : (due : Act) → links.Acts (Some due) p.side.links links_behind → Gives p side due
   gives_by (act.Close u cause) acts = λ taken trace s.

@@ -1,7 +1,8 @@
 -- Which entries may come on inbound links and on upstreams, where the event loop tells them.
 use Rattle.std.proofs.Common.{◌≡◌, ◌⊎◌, inl, inr, ⊎_elim, ℕ, zero, suc, ◌-◌, ◌<◌, ◌==◌, not, Bool, true, false, List, [], length, Option, Some, None, refl, ap, sym, ◌∙◌, subst, arith}
 use Rattle.std.specs.FinMap.{get}
-use Rattle.hb_inbound.specs.Calm.{IsQuiet, RestsIn, IsIdleBy, close_due, wants_by, output_by, longest_front}
+use Rattle.hb_front.specs.Room.{longest_front}
+use Rattle.hb_inbound.specs.Calm.{IsQuiet, RestsIn, IsIdleBy, close_due, wants_by, output_by}
 use Rattle.hb_inbound.specs.Inbound as m
 use Rattle.hb_inbound.specs.Inbound.{Inbound, at_stream}
 use Rattle.hb_inbound.specs.Part as part

@@ -1,4 +1,4 @@
--- What an act that is given of a plain link makes of the traces that the proxy stands for.
+-- What an act that is given of a plain link, or of a link to a gateway, makes of the traces that the proxy stands for.
 use Rattle.std.proofs.Common.{◌≡◌, inl, inr, ⊎_elim, ℕ, ◌<◌, ◌==◌, ◌&&◌, not, Bool, true, false, cond, List, [], ◌∷◌, ◌++◌, Option, Some, None, refl, ap, sym, ◌∙◌, subst, arith}
 use Rattle.std.proofs.lemmas.Bool.{and_parts}
 use Rattle.hb_base.specs.declared.cause.Cause.{Cause}
@@ -7,7 +7,7 @@ use Rattle.hb_base.specs.declared.door.Door.TheVariants as door
 use Rattle.hb_base.specs.declared.door.Why.{Why}
 use Rattle.hb_base.specs.declared.note.Note.{Note}
 use Rattle.hb_base.specs.declared.target.Target.{Target}
-use Rattle.hb_captured.specs.Answer.{Aim, key_of, straight_to, through, why_for}
+use Rattle.hb_captured.specs.Answer.{Aim, straight_to, through, why_for}
 use Rattle.hb_captured.specs.Captured as s
 use Rattle.hb_captured.specs.Captured.{Captured, Stage, is_raw, may_shut_up}
 use Rattle.hb_captured.specs.Part as part
@@ -42,6 +42,7 @@ use Rattle.hb_whole.specs.Stands.{Stands, EndsBy, Ends, PlainEnds, PlainEndsBy, 
 use Rattle.hb_whole.specs.declared.proxy.Proxy.{Proxy}
 use Rattle.hb_whole.specs.declared.side.Side.{Side}
 use Rattle.hb_whole.proofs.Free.{control_rests}
+use Rattle.hb_whole.proofs.GateGiving.{gate_closes}
 use Rattle.hb_whole.proofs.Giving.{acted, gives, Closes, Gives, Shuts, given_behind, not_shut, waits}
 use Rattle.hb_whole.proofs.LinkGiving.{links_asked}
 use Rattle.hb_whole.proofs.Relays.{there_at_stage}
@@ -58,6 +59,7 @@ plain_ends_at c x l p next plain is = record {
   links = is.links;
   tunnels = is.tunnels;
   plain = λ k. by (k == l) k (is.plain k);
+  gates = is.gates;
 }
   where
     by : (b : Bool) (k : ℕ) → PlainEnds c (x.plain k) → PlainEnds c (cond b next (x.plain k))
@@ -108,13 +110,13 @@ same_closed (act.Close u why) = refl
 same_closed (act.Shut u) = refl
 same_closed (act.Dial to why) = refl
 
--- a dial that is due for a plain link is due, at either door
-plain_due : (g : NodeConfig) (x : Machine) (to : Target) (aim : Aim) (d : Door) (l : ℕ) → key_of aim ≡ None
-    → PlainDialIsDue g x to (why_for aim d l) l → DialIsDue g x to (why_for aim d l)
-plain_due g x to (straight_to at endpoint) door.Inbound l straight due = due
-plain_due g x to (straight_to at endpoint) door.Outbound l straight due = due
-plain_due g x to (straight_to at endpoint) door.Plain l straight due = due
-plain_due g x to (through key authority endpoint) d l straight due = absurd cc
+-- a dial that is due for a plain link is due, at either door, straight or of its gateway
+plain_due : (g : NodeConfig) (x : Machine) (to : Target) (aim : Aim) (d : Door) (l : ℕ) → PlainDialIsDue g x to (why_for aim d l) l
+    → DialIsDue g x to (why_for aim d l)
+plain_due g x to (straight_to at endpoint) door.Inbound l due = due
+plain_due g x to (straight_to at endpoint) door.Outbound l due = due
+plain_due g x to (straight_to at endpoint) door.Plain l due = due
+plain_due g x to (through key authority endpoint) d l due = due
 
 -- ONE ACT
 
@@ -233,7 +235,8 @@ module _ (p : Proxy) (asked : Links) (behind : Relays) (rests : due_of p.control
   gives_by (act.Close u why) acts = λ taken trace s.
       let links = shown taken trace s in
       ⊎_elim (λ does. own_closes taken p asked behind trace s links u why does)
-      (λ at. up_closes taken p asked behind trace s links at.0 u why at.1) (on (Some (act.Close u why)) acts taken trace s)
+      (λ more. ⊎_elim (λ at. up_closes taken p asked behind trace s links at.0 u why at.1)
+      (λ does. gate_closes taken p asked behind trace s links u why does) more) (on (Some (act.Close u why)) acts taken trace s)
   gives_by (act.Shut u) acts = λ taken trace s.
       let links = shown taken trace s in
       ⊎_elim (λ does. own_shuts taken p asked behind trace s links u does)
@@ -245,7 +248,7 @@ module _ (p : Proxy) (asked : Links) (behind : Relays) (rests : due_of p.control
         relays = at.0;
         noted = refl;
         due = subst (λ (w : Why). DialIsDue p.control.config s.machine to w) (sym at.2)
-            (plain_due p.control.config s.machine to (s.machine.plain at.1).aim (s.machine.plain at.1).door at.1 at.4
+            (plain_due p.control.config s.machine to (s.machine.plain at.1).aim (s.machine.plain at.1).door at.1
             (control_rests p.control s.machine.control s.control rests, refl, at.3, at.4, at.5));
         goes = λ c is. subst (λ (r : Stage). PlainEndsBy c r (s.machine.plain at.1)) at.3
             ((subst (λ (o : Option Cause). EndsBy o s.machine) is s.ends).1.plain at.1);

@@ -90,7 +90,7 @@ door_still taken p trace z s door nothing at =
 
 -- a call on a link that moved nothing changes nothing
 balked : (x : Machine) (w : Way) → IsStill x (e.Balked w)
-balked x w = record { link = λ y. refl; up = λ k. refl; plain = λ y. refl; relay = λ y. refl; born = refl }
+balked x w = record { link = λ y. refl; up = λ k. refl; plain = λ y. refl; relay = λ y. refl; gate = λ y. refl; born = refl }
 
 -- it is told by whose the link is
 by_owner : (taken : List Note) (p : Proxy) (trace : List Entry) (l : ℕ) (w : Way) (s : Stands taken p trace)

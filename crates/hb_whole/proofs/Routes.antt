@@ -1,9 +1,11 @@
--- Where a link that lives is found in the code: it is the control plane's, an inbound one, a plain one, or an upstream.
+-- Where a link that lives is found in the code: it is the control plane's, an inbound one, a plain one, an upstream, or one to a gateway.
 use Rattle.std.proofs.Common.{◌≡◌, inl, inr, ⊎_elim, ℕ, Bool, true, false, List, Option, Some, None, refl, ap, sym, ◌∙◌, subst}
 use Rattle.std.proofs.lemmas.Bool.{eqb-true, eq-eqb, cases_eq}
 use Rattle.std.specs.FinMap.{get}
 use Rattle.hb_base.specs.declared.note.Note.{Note}
 use Rattle.hb_captured.specs.Part as plain
+use Rattle.hb_gate.specs.declared.gate.Gate.{Gate}
+use Rattle.hb_gateway.specs.Part as gate
 use Rattle.hb_inbound.specs.Inbound as m
 use Rattle.hb_inbound.specs.Inbound.{Inbound}
 use Rattle.hb_inbound.specs.Part as part
@@ -22,8 +24,8 @@ use Rattle.hb_proxy.proofs.Doors.{doors_tell_none}
 use Rattle.hb_proxy.proofs.Seen.{runs_are_seen}
 use Rattle.hb_proxy.specs.Doors.{without_doors}
 use Rattle.hb_proxy.specs.Machine.{Machine, outward}
-use Rattle.hb_proxy.specs.Points.{of_link, of_plain}
-use Rattle.hb_proxy.specs.Seen.{Seen, IsThere, IsLinkThere, IsPlainThere, HasLink, HasPlain}
+use Rattle.hb_proxy.specs.Points.{of_link, of_plain, of_gate}
+use Rattle.hb_proxy.specs.Seen.{Seen, IsThere, IsLinkThere, IsPlainThere, IsGateThere, HasLink, HasPlain}
 use Rattle.hb_proxy.specs.Ups.{Joins, IsRelayOf}
 use Rattle.hb_relay.specs.declared.relay.Relay.{Relay}
 use Rattle.hb_relays.specs.Calls as relays
@@ -37,8 +39,7 @@ use Rattle.hb_whole.specs.Sight.{is_number, owns, owner_by, owner_of}
 use Rattle.hb_whole.specs.Stands.{Stands}
 use Rattle.hb_whole.specs.declared.owner.Owner.TheVariants.{Control as OfControl, Plain, Inbound as OfInbound}
 use Rattle.hb_whole.specs.declared.proxy.Proxy.{Proxy}
-use Rattle.hb_whole.proofs.Gates.{none_there}
-use Rattle.hb_whole.proofs.Relays.{is_kept, has_some, has_none}
+use Rattle.hb_whole.proofs.Relays.{is_kept, gate_kept, none_kept, has_some, has_none}
 
 -- THE TRACE
 
@@ -151,26 +152,43 @@ plain_point : {g : NodeConfig} (x : Machine) (zs : List Entry) (k : Relays) (l :
     → IsPlainThere (x.plain l) → (z : Entry) → relays.point_for k l z ≡ Some (of_plain l (plain.entry z))
 plain_point x zs k l seen shows there z =
     let kept = is_kept k shows l there in
-    ap (λ (at : Option ℕ). relays.point_by at (get k.relays l) l z) (no_link x zs k l (get k.ups l) seen shows there refl)
-    ∙ ap (λ (o : Option Relay). relays.point_by None o l z) kept.1
+    ap (λ (at : Option ℕ). relays.point_by at (get k.relays l) (get k.gates l) l z) (no_link x zs k l (get k.ups l) seen shows there refl)
+    ∙ ap (λ (o : Option Relay). relays.point_by None o (get k.gates l) l z) kept.1
 
 relay_point : {g : NodeConfig} (x : Machine) (k : Relays) (l u : ℕ) → ShowsRelays g k (outward x) → IsRelayOf (x.plain l) u
     → (z : Entry) → relays.point_for k u z ≡ Some (of_plain l (plain.up z))
 relay_point x k l u shows joins z =
-    ap (λ (at : Option ℕ). relays.point_by at (get k.relays u) u z) (shows.index.found l u joins)
+    ap (λ (at : Option ℕ). relays.point_by at (get k.relays u) (get k.gates u) u z) (shows.index.found l u joins)
+
+-- nor is a link to a gateway, which is found where no plain link is
+no_gate_up : {g : NodeConfig} (x : Machine) (zs : List Entry) (k : Relays) (n : ℕ) (o : Option ℕ) → Seen x zs
+    → ShowsRelays g k (outward x) → IsGateThere (x.gates n).phase → get k.ups n ≡ o → o ≡ None
+no_gate_up x zs k n None seen shows there is = refl
+no_gate_up x zs k n (Some at) seen shows there is =
+    absurd ((seen.gates.alone n there).4 at (shows.index.joined at n is))
+
+gate_point : {g : NodeConfig} (x : Machine) (zs : List Entry) (k : Relays) (n : ℕ) → Seen x zs → ShowsRelays g k (outward x)
+    → IsGateThere (x.gates n).phase → (z : Entry) → relays.point_for k n z ≡ Some (of_gate n (gate.entry z))
+gate_point x zs k n seen shows there z =
+    ap (λ (at : Option ℕ). relays.point_by at (get k.relays n) (get k.gates n) n z)
+    (no_gate_up x zs k n (get k.ups n) seen shows there refl)
+    ∙ ap (λ (o : Option Relay). relays.point_by None o (get k.gates n) n z) (none_kept k shows n (seen.gates.alone n there).2)
+    ∙ ap (λ (o : Option Gate). relays.gate_point o n z) (gate_kept k shows n there).1
 
 -- nothing of the inbound door is of the plain one
-link_absent : (x : Machine) (zs : List Entry) (l : ℕ) → Seen x zs → IsLinkThere (x.inbound l).phase → IsPresent x.plain l → ⊥
+link_absent : (x : Machine) (zs : List Entry) (l : ℕ) → Seen x zs → IsLinkThere (x.inbound l).phase → IsPresent (outward x) l → ⊥
 link_absent x zs l seen there (inl is) = (seen.plain.link_alone l is).1 there
-link_absent x zs l seen there (inr up) = (seen.plain.up_alone up.0 l up.1).1 there
+link_absent x zs l seen there (inr (inl up)) = (seen.plain.up_alone up.0 l up.1).1 there
+link_absent x zs l seen there (inr (inr is)) = (seen.gates.alone l is).1 there
 
-up_absent : (x : Machine) (zs : List Entry) (k s l : ℕ) → Seen x zs → Joins ((x.inbound k).tunnels s) l → IsPresent x.plain l → ⊥
+up_absent : (x : Machine) (zs : List Entry) (k s l : ℕ) → Seen x zs → Joins ((x.inbound k).tunnels s) l → IsPresent (outward x) l → ⊥
 up_absent x zs k s l seen joins (inl is) = (seen.plain.link_alone l is).2 k s joins
-up_absent x zs k s l seen joins (inr up) = (seen.plain.up_alone up.0 l up.1).3 k s joins
+up_absent x zs k s l seen joins (inr (inl up)) = (seen.plain.up_alone up.0 l up.1).3 k s joins
+up_absent x zs k s l seen joins (inr (inr is)) = (seen.gates.alone l is).3 k s joins
 
 -- A ROUTE
 
--- of one of the inbound door, or of an upstream of that; and of a plain one
+-- of one of the inbound door, or of an upstream of that; and of a plain one, or of one to a gateway
 pub data LinkRoute (p : Proxy) (x : Machine) (l : ℕ) : Type 0 where
   to_link : IsLinkThere (x.inbound l).phase → get p.side.links.ups l ≡ None
       → ((z : Entry) → point_for p.side.links l z ≡ Some (of_link l (part.entry z))) → LinkRoute p x l
@@ -182,6 +200,8 @@ pub data PlainRoute (p : Proxy) (x : Machine) (l : ℕ) : Type 0 where
       → ((z : Entry) → relays.point_for p.side.relays l z ≡ Some (of_plain l (plain.entry z))) → PlainRoute p x l
   to_relay : (k : ℕ) → IsRelayOf (x.plain k) l → get p.side.relays.ups l ≡ Some k
       → ((z : Entry) → relays.point_for p.side.relays l z ≡ Some (of_plain k (plain.up z))) → PlainRoute p x l
+  to_gate : IsGateThere (x.gates l).phase → get p.side.relays.ups l ≡ None → get p.side.relays.relays l ≡ None
+      → ((z : Entry) → relays.point_for p.side.relays l z ≡ Some (of_gate l (gate.entry z))) → PlainRoute p x l
 
 data Route (p : Proxy) (x : Machine) (l : ℕ) : Type 0 where
   to_control : owner_of p l ≡ OfControl → Route p x l
@@ -215,13 +235,23 @@ module _ (taken : List Note) (p : Proxy) (trace : List Entry) (s : Stands taken 
 
   pub relay_owner : (k l : ℕ) → IsRelayOf (x.plain k) l → owner_of p l ≡ Plain
   relay_owner k l joins =
-      other_owner p l true (other l (seen.plain.up_alone k l joins).0) (has_some p.side.relays s.relays l (inr (k, joins)))
+      other_owner p l true (other l (seen.plain.up_alone k l joins).0) (has_some p.side.relays s.relays l (inr (inl (k, joins))))
+
+  pub gate_owner : (n : ℕ) → IsGateThere (x.gates n).phase → owner_of p n ≡ Plain
+  gate_owner n there =
+      other_owner p n true (other n (seen.gates.alone n there).0) (has_some p.side.relays s.relays n (inr (inr there)))
 
   pub no_up : (l : ℕ) → IsLinkThere (x.inbound l).phase → get p.side.links.ups l ≡ None
   no_up l there = no_place x (without_doors trace) p.side.links l (get p.side.links.ups l) seen s.links there refl
 
   pub no_relay : (l : ℕ) → IsPlainThere (x.plain l) → get p.side.relays.ups l ≡ None
   no_relay l there = no_link x (without_doors trace) p.side.relays l (get p.side.relays.ups l) seen s.relays there refl
+
+  pub no_gate_relay : (n : ℕ) → IsGateThere (x.gates n).phase → get p.side.relays.ups n ≡ None
+  no_gate_relay n there = no_gate_up x (without_doors trace) p.side.relays n (get p.side.relays.ups n) seen s.relays there refl
+
+  pub no_gate_link : (n : ℕ) → IsGateThere (x.gates n).phase → get p.side.relays.relays n ≡ None
+  no_gate_link n there = none_kept p.side.relays s.relays n (seen.gates.alone n there).2
 
   by_plain : (l : ℕ) → HasPlain x l → Route p x l
   by_plain l (inl there) =
@@ -240,7 +270,10 @@ module _ (taken : List Note) (p : Proxy) (trace : List Entry) (s : Stands taken 
       (to_up joins.0 joins.1 joins.2 (s.links.index.found joins.0 joins.1 l joins.2)
       (up_point x p.side.links joins.0 joins.1 l s.links joins.2))
   by l (inr (inr (inr (inl has)))) = by_plain l has
-  by l (inr (inr (inr (inr there)))) = absurd (none_there s.relays l there)
+  by l (inr (inr (inr (inr there)))) =
+      to_relays (gate_owner l there)
+      (to_gate there (no_gate_relay l there) (no_gate_link l there)
+      (gate_point x (without_doors trace) p.side.relays l seen s.relays there))
 
   route : (l : ℕ) → lives l trace ≡ true → Route p x l
   route l alive = by l (seen.has l (lives_then trace l ∙ alive))

@@ -9,8 +9,12 @@ use Rattle.hb_captured.specs.Captured.{Captured}
 use Rattle.hb_conn.specs.Connection.{Connection}
 use Rattle.hb_conn.specs.Observed as connection
 use Rattle.hb_conn.specs.Observed.{IsLookedAt}
+use Rattle.hb_gateway.specs.Calm as gate_calm
+use Rattle.hb_gateway.specs.Gateway as gateway
+use Rattle.hb_gateway.specs.Gateway.{Gateway}
 use Rattle.hb_inbound.specs.Calm as calm
-use Rattle.hb_inbound.specs.Calm.{RestsIn, longest_front, wants_by as wants_in, output_by as output_in, up_wants}
+use Rattle.hb_front.specs.Room.{longest_front}
+use Rattle.hb_inbound.specs.Calm.{RestsIn, wants_by as wants_in, output_by as output_in, up_wants}
 use Rattle.hb_inbound.specs.Inbound as m
 use Rattle.hb_inbound.specs.Inbound.{Inbound}
 use Rattle.hb_inbound.specs.Tunnel as t
@@ -32,8 +36,8 @@ use Rattle.hb_proxy.proofs.Control.{puts_all}
 use Rattle.hb_proxy.specs.Doors.{without_doors}
 use Rattle.hb_proxy.specs.Machine.{Machine}
 use Rattle.hb_proxy.specs.Points.{Point, control_of}
-use Rattle.hb_proxy.specs.Seen.{Seen, IsThere, IsLinkThere, IsPlainThere, OpenBy, UpOpenBy, RelayOpenBy}
-use Rattle.hb_proxy.specs.Settled.{Reads, Writes, Finishes, IsCrowded, IsFull, ControlSettledBy, LinkSettledBy, PlainSettledBy, RelaySettledBy, UpSettledBy, SettledIn}
+use Rattle.hb_proxy.specs.Seen.{Seen, IsThere, IsLinkThere, IsPlainThere, IsGateThere, OpenBy, UpOpenBy, RelayOpenBy, GateOpenBy}
+use Rattle.hb_proxy.specs.Settled.{Reads, Writes, Finishes, IsCrowded, IsFull, ControlSettledBy, GateSettledBy, LinkSettledBy, PlainSettledBy, RelaySettledBy, UpSettledBy, SettledIn}
 use Rattle.hb_proxy.specs.Ups.{Joins, IsRelayOf}
 use Rattle.hb_ready.specs.Sight.{asked, is_open, known, sight}
 use Rattle.hb_relays.specs.Shows.{IsAwayBy}
@@ -44,12 +48,11 @@ use Rattle.hb_world.specs.Trace.{lives}
 use Rattle.hb_world.specs.declared.entry.Entry.{Entry}
 use Rattle.hb_whole.proofs.ControlMay.{wants_owned, output_owned}
 use Rattle.hb_whole.proofs.Free.{Free, free}
-use Rattle.hb_whole.proofs.Gates.{gates_settled}
 use Rattle.hb_whole.proofs.Guards.{going_at}
 use Rattle.hb_whole.proofs.LinkMay.{wants_link, output_link, wants_up, holds_up}
 use Rattle.hb_whole.proofs.PlainGuards.{relay_at}
-use Rattle.hb_whole.proofs.Relays.{there_at_stage, wants_plain, output_plain, wants_relay, output_relay}
-use Rattle.hb_whole.proofs.Routes.{seen_of, lives_then, open_then, owned, control_owner, link_owner, up_owner, plain_owner, relay_owner, no_up, no_relay}
+use Rattle.hb_whole.proofs.Relays.{there_at_stage, serving_kept, wants_plain, output_plain, wants_relay, output_relay, wants_gate, output_gate}
+use Rattle.hb_whole.proofs.Routes.{seen_of, lives_then, open_then, owned, control_owner, link_owner, up_owner, plain_owner, relay_owner, gate_owner, no_up, no_relay, no_gate_relay, no_gate_link}
 use Rattle.hb_whole.specs.Sight.{owns, owner_of, shown_of, wants_by, output_by}
 use Rattle.hb_whole.specs.Stands.{Stands}
 use Rattle.hb_whole.specs.declared.owner.Owner.{Owner}
@@ -124,7 +127,7 @@ link_by (m.faulted code) trace l x rests none fronting serving = absurd cc
 link_by (m.closing why) trace l x rests none fronting serving = absurd cc
 
 plain_by : (stage : plain.Stage) (trace : List Entry) (l : ℕ) (x : Captured) → plain_calm.IsCalmBy stage x → plain_calm.IsIdleBy stage x
-    → (stage ≡ plain.fronting → Reads trace l (plain_calm.longest_front ≤ length x.front))
+    → (stage ≡ plain.fronting → Reads trace l (longest_front ≤ length x.front))
     → ((stage ≡ plain.opening) ⊎ (stage ≡ plain.live) → Reads trace l (IsFull (plain.ring_up x.door) x.ways.up))
     → (stage ≡ plain.live → Writes trace l (x.ways.down.held ≡ [])) → PlainSettledBy stage x.closed trace l x
 plain_by plain.unborn trace l x calm idle fronting reads writes = tt
@@ -137,6 +140,17 @@ plain_by plain.live trace l x calm idle fronting reads writes = (reads (inr refl
 plain_by (plain.failed why) trace l x calm idle fronting reads writes = absurd calm
 plain_by (plain.ended why) trace l x calm idle fronting reads writes = absurd calm
 plain_by (plain.over why) trace l x calm idle fronting reads writes = idle.0
+
+gate_by : (phase : gateway.Phase) (trace : List Entry) (n : ℕ) (x : Gateway) → gate_calm.close_due phase ≡ None
+    → (phase ≡ gateway.opening → Finishes trace n)
+    → (phase ≡ gateway.serving → Reads trace n (IsCrowded x.conn) × Writes trace n (gateway.output x ≡ []))
+    → GateSettledBy phase trace n x
+gate_by gateway.unborn trace n x none opening serving = tt
+gate_by gateway.closed trace n x none opening serving = tt
+gate_by gateway.opening trace n x none opening serving = opening refl
+gate_by gateway.serving trace n x none opening serving = serving refl
+gate_by (gateway.faulted code) trace n x none opening serving = absurd cc
+gate_by (gateway.closing why) trace n x none opening serving = absurd cc
 
 there_at : (phase : d.Phase) → (phase ≡ d.dialling) ⊎ (phase ≡ d.live) → IsThere phase
 there_at phase (inl is) = subst IsThere (sym is) tt
@@ -324,20 +338,20 @@ module _ (taken : List Note) (p : Proxy) (trace : List Entry) (s : Stands taken 
 
     plain_wants_are : (shown_of p).wants l ≡ plain_calm.wants (x.plain l)
     plain_wants_are = ap (λ (o : Owner). wants_by o p l) plain_whose
-        ∙ wants_plain p.side.relays s.relays l (no_relay taken p trace s l there)
+        ∙ wants_plain p.side.relays s.relays l there (no_relay taken p trace s l there)
 
     plain_output_is : (shown_of p).output l ≡ plain_calm.output (x.plain l)
     plain_output_is = ap (λ (o : Owner). output_by o p l) plain_whose
-        ∙ output_plain p.side.relays s.relays l (no_relay taken p trace s l there)
+        ∙ output_plain p.side.relays s.relays l there (no_relay taken p trace s l there)
 
     plain_reads : (A : Type 0) → (plain_calm.wants (x.plain l) ≡ 0 → A) → Reads trace l A
     plain_reads A none =
         reads_map trace l (λ is. none (sym plain_wants_are ∙ is)) (open_reads trace l (shown_of p) plain_alive (rests l) plain_opens)
 
-    plain_fronting : (x.plain l).stage ≡ plain.fronting → Reads trace l (plain_calm.longest_front ≤ length (x.plain l).front)
+    plain_fronting : (x.plain l).stage ≡ plain.fronting → Reads trace l (longest_front ≤ length (x.plain l).front)
     plain_fronting is =
-        plain_reads (plain_calm.longest_front ≤ length (x.plain l).front)
-        (λ none. fills plain_calm.longest_front (length (x.plain l).front)
+        plain_reads (longest_front ≤ length (x.plain l).front)
+        (λ none. fills longest_front (length (x.plain l).front)
         (sym (ap (λ (r : plain.Stage). plain_calm.wants_by r (x.plain l)) is) ∙ none))
 
     plain_full : ((x.plain l).stage ≡ plain.opening) ⊎ ((x.plain l).stage ≡ plain.live)
@@ -409,6 +423,50 @@ module _ (taken : List Note) (p : Proxy) (trace : List Entry) (s : Stands taken 
     relay_so : RelaySettledBy captured.stage trace u captured
     relay_so = ⊎_elim relay_opening relay_live (relay_at taken p trace s l u (all.plain l) joins)
 
+  -- a link to a gateway
+  module _ (n : ℕ) (there : IsGateThere (x.gates n).phase) where
+    gate_alive : lives n trace ≡ true
+    gate_alive = lives_so n (seen.gates.link n there).0
+
+    gate_whose : owner_of p n ≡ Plain
+    gate_whose = gate_owner taken p trace s n there
+
+    gate_wants_are : (shown_of p).wants n ≡ gate_calm.wants (x.gates n)
+    gate_wants_are = ap (λ (o : Owner). wants_by o p n) gate_whose
+        ∙ wants_gate p.side.relays s.relays n there (no_gate_relay taken p trace s n there) (no_gate_link taken p trace s n there)
+
+    gate_output_is : (shown_of p).output n ≡ gate_calm.output (x.gates n)
+    gate_output_is = ap (λ (o : Owner). output_by o p n) gate_whose
+        ∙ output_gate p.side.relays s.relays n there (no_gate_relay taken p trace s n there) (no_gate_link taken p trace s n there)
+
+    gate_open : (phase : gateway.Phase) (b : Bool) → (x.gates n).phase ≡ phase
+        → (GateOpenBy phase (is_open n (without_doors trace)) → is_open n (without_doors trace) ≡ b) → is_open n trace ≡ b
+    gate_open phase b is says =
+        opens_so n b
+        (says (subst (λ (q : gateway.Phase). GateOpenBy q (is_open n (without_doors trace))) is (seen.gates.link_open n there)))
+
+    gate_opening : (x.gates n).phase ≡ gateway.opening → Finishes trace n
+    gate_opening is = closed_finishes trace n (shown_of p) gate_alive (rests n) (gate_open gateway.opening false is (λ told. told))
+
+    gate_serving : (x.gates n).phase ≡ gateway.serving
+        → Reads trace n (IsCrowded (x.gates n).conn) × Writes trace n (gateway.output (x.gates n) ≡ [])
+    gate_serving is =
+        let opens : is_open n trace ≡ true = gate_open gateway.serving true is (λ told. told) in
+        let looked = (subst (λ (q : gateway.Phase). gate_calm.IsCalmBy q (x.gates n)) is ((all.gates true).gates n).1).1 in (
+          reads_map trace n
+              (λ none. crowded (x.gates n).conn (serving_kept p.side.relays s.relays n is) looked
+              (sym (ap (λ (q : gateway.Phase). gate_calm.wants_by q (x.gates n)) is) ∙ sym gate_wants_are ∙ none))
+              (open_reads trace n (shown_of p) gate_alive (rests n) opens),
+          writes_map trace n
+              (λ none. sym (ap (λ (q : gateway.Phase). gate_calm.output_by q (x.gates n)) is) ∙ sym gate_output_is ∙ none)
+              (open_writes trace n (shown_of p) gate_alive (rests n) opens),
+        )
+
+  gates_so : (n : ℕ) → GateSettledBy (x.gates n).phase trace n (x.gates n)
+  gates_so n =
+      gate_by (x.gates n).phase trace n (x.gates n) ((all.gates false).gates n).no_close
+      (λ is. gate_opening n (subst IsGateThere (sym is) tt) is) (λ is. gate_serving n (subst IsGateThere (sym is) tt) is)
+
   pub settled_in : ((door : Door) → asked door trace ≡ false) → SettledIn p.control.config trace
   settled_in doors = record {
     machine = s.machine;
@@ -426,6 +484,6 @@ module _ (taken : List Note) (p : Proxy) (trace : List Entry) (s : Stands taken 
       plain = plain_so;
       relays = relay_so;
       gates_quiet = all.gates false;
-      gates = gates_settled s.relays trace;
+      gates = gates_so;
     };
   }

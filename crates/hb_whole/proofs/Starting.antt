@@ -37,10 +37,12 @@ fresh_stands p g state shows links relays noted dials ends sound = record {
 }
 
 pub fresh_node : (p : Proxy) (g : NodeConfig) → p.control ≡ fresh_state g (nothing_held g.network g.node g.doors)
-    → busy.is_idle p.side.links ≡ true → touched.is_idle p.side.relays.due ≡ true → p.ends_for ≡ None → IsFreshNode (shown_of p)
-fresh_node p g state idle idle_too ends = record {
+    → busy.is_idle p.side.links ≡ true → touched.is_idle p.side.relays.due ≡ true → touched.is_idle p.side.relays.gate_due ≡ true
+    → p.ends_for ≡ None → IsFreshNode (shown_of p)
+fresh_node p g state idle idle_too idle_gates ends = record {
   going = ends;
   none_closes = ap (λ (o : Option Cause). closes_by o p) ends
       ∙ ap (λ (s : State). is_none (closing_of s.link) && is_idle p.side) state
-      ∙ ap (λ (b : Bool). b && touched.is_idle p.side.relays.due) idle ∙ idle_too;
+      ∙ ap (λ (b : Bool). b && touched.is_idle p.side.relays.due && touched.is_idle p.side.relays.gate_due) idle
+      ∙ ap (λ (b : Bool). b && touched.is_idle p.side.relays.gate_due) idle_too ∙ idle_gates;
 }

@@ -5,11 +5,13 @@ use Rattle.std.proofs.lemmas.Bool.{eqb-true}
 use Rattle.hb_captured.specs.Captured.{Captured, counts_for}
 use Rattle.hb_captured.specs.Counts.{counted_with, recounted}
 use Rattle.hb_captured.specs.Part.{Part, entry_in}
+use Rattle.hb_gateway.specs.Gateway.{Gateway}
+use Rattle.hb_gateway.specs.Part as gate
 use Rattle.hb_inbound.specs.Inbound.{Inbound, at_stream}
 use Rattle.hb_inbound.specs.Part as part
 use Rattle.hb_inbound.specs.Runs as inbound
 use Rattle.hb_inbound.specs.Tunnel.{Tunnel, up_entered}
-use Rattle.hb_proxy.specs.Machine.{Machine, born_after, born_by, with_part, with_plain}
+use Rattle.hb_proxy.specs.Machine.{Machine, born_after, born_by, with_part, with_plain, with_gate}
 use Rattle.hb_route.specs.Opens.{Counts}
 use Rattle.hb_world.specs.declared.entry.Entry.{Entry}
 
@@ -63,3 +65,10 @@ plain_same x l p next same born =
     ∙ ap (λ (opens : Counts). record x { born = born_after x.born (entry_in p); opens = opens })
     (recounted_same (counts_for (x.plain l)) x.opens)
     ∙ ap (λ (n : ℕ). record x { born = n }) born
+
+-- on a link to a gateway
+pub gate_same : (x : Machine) (n : ℕ) (p : gate.Part) (next : Gateway) → next ≡ x.gates n → born_after x.born (gate.entry_in p) ≡ x.born
+    → with_gate n p next x ≡ x
+gate_same x n p next same born =
+    ap (λ (f : ℕ → Gateway). record x { born = born_after x.born (gate.entry_in p); gates = f }) (one_same x.gates n next same)
+    ∙ ap (λ (m : ℕ). record x { born = m }) born

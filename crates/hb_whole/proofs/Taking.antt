@@ -25,7 +25,7 @@ use Rattle.hb_whole.specs.declared.owner.Owner.{Owner}
 use Rattle.hb_whole.specs.declared.owner.Owner.TheVariants.{Control, Plain, Inbound}
 use Rattle.hb_whole.specs.declared.proxy.Proxy.{Proxy}
 use Rattle.hb_whole.specs.declared.queue.Queue.{Queue}
-use Rattle.hb_whole.proofs.Routes.{LinkRoute, PlainRoute, to_link, to_up, to_plain, to_relay, is_owned, link_route, plain_route}
+use Rattle.hb_whole.proofs.Routes.{LinkRoute, PlainRoute, to_link, to_up, to_plain, to_relay, to_gate, is_owned, link_route, plain_route}
 
 -- A NOTE
 
@@ -132,12 +132,13 @@ module _ (taken : List Note) (p : Proxy) (trace : List Entry) (s : Stands taken 
       at (to_link there up found) = inl (is_present (s.machine.inbound k).phase there)
       at (to_up l q joins place found) = inr (l, q, joins)
 
-  plain_present : owner_of p k ≡ Plain → IsPresent s.machine.plain k
+  plain_present : owner_of p k ≡ Plain → IsPresent (outward s.machine) k
   plain_present whose = at (plain_route taken p trace s k whose alive)
     where
-      at : PlainRoute p s.machine k → IsPresent s.machine.plain k
+      at : PlainRoute p s.machine k → IsPresent (outward s.machine) k
       at (to_plain there up found) = inl there
-      at (to_relay l joins up found) = inr (l, joins)
+      at (to_relay l joins up found) = inr (inl (l, joins))
+      at (to_gate there up relay found) = inr (inr there)
 
 pub doors_hear : (taken : List Note) (p : Proxy) (new : Links) (behind : Relays) (result : Option ℕ) (trace : List Entry)
     → own_told p ≡ None → links.Hears result p.side.links new → relays.Hears result p.side.relays behind

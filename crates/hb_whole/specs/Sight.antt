@@ -1,5 +1,5 @@
 -- What the event loop sees of the whole proxy.
-use Rattle.std.specs.Prelude.{ℕ, ◌-◌, ◌==◌, ◌&&◌, Bool, true, false, is_none, if◌then◌else◌, List, Option, Some, None}
+use Rattle.std.specs.Prelude.{ℕ, ◌+◌, ◌-◌, ◌==◌, nat_lt, ◌&&◌, Bool, true, false, is_none, if◌then◌else◌, List, Option, Some, None}
 use Rattle.hb_base.specs.declared.cause.Cause.{Cause}
 use Rattle.std.specs.FinMap.{get}
 use Rattle.hb_turns.specs.Shown.{Shown}
@@ -48,11 +48,11 @@ output_by Control p l = output_on p.control.link l
 output_by Plain p l = relays.held_of p.side.relays l
 output_by Inbound p l = links.held_of p.side.links l
 
--- A write goes before the acts that are due: behind a connection error. On an inbound link it does only where the control plane rests; a
--- plain link has no last words
+-- A write goes before the acts that are due: behind a connection error. On an inbound link, and on one to a gateway, it does only where the
+-- control plane rests; a plain link has no last words
 abbrev pub last_by : Owner → Proxy → ℕ → Bool
 last_by Control p l = says_last p.control.link
-last_by Plain p l = false
+last_by Plain p l = is_none (due_of p.control) && relays.last_at p.side.relays l
 last_by Inbound p l = is_none (due_of p.control) && links.last_at (get p.side.links.links l)
 
 abbrev pub stirs_by : Owner → Proxy → ℕ → Bool
@@ -62,7 +62,7 @@ stirs_by Inbound p l = stirring.stirs_at p.side.links l
 
 -- no act is due of the inbound links, nor of the plain ones
 abbrev pub is_idle : Side → Bool
-is_idle side = busy.is_idle side.links && touched.is_idle side.relays.due
+is_idle side = busy.is_idle side.links && touched.is_idle side.relays.due && touched.is_idle side.relays.gate_due
 
 -- no act is due, and none is but a dial, while the run goes on
 abbrev pub idle_by : Option Cause → Proxy → Bool
@@ -72,6 +72,10 @@ idle_by None p = is_none (due_of p.control) && is_idle p.side
 abbrev pub closes_by : Option Cause → Proxy → Bool
 closes_by (Some cause) p = true
 closes_by None p = is_none (closing_of p.control.link) && is_idle p.side
+
+-- one more inbound link, or one to a gateway, may be open
+abbrev pub has_room : Proxy → Bool
+has_room p = nat_lt (links.count_of p.side.links + relays.gate_count p.side.relays) p.limits.links
 
 -- how many places the tunnels of inbound links may take: each plain link that is kept takes one
 abbrev pub places_of : Proxy → ℕ

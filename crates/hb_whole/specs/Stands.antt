@@ -5,9 +5,10 @@ use Rattle.hb_base.specs.declared.door.Why.{Why}
 use Rattle.hb_base.specs.declared.door.Why.TheVariants as whys
 use Rattle.hb_base.specs.declared.note.Note.{Note}
 use Rattle.hb_base.specs.declared.target.Target.{Target}
-use Rattle.hb_captured.specs.Answer.{address_of, key_of, why_for}
+use Rattle.hb_captured.specs.Answer.{address_of, why_for}
 use Rattle.hb_captured.specs.Captured as plain
 use Rattle.hb_captured.specs.Captured.{Captured}
+use Rattle.hb_gateway.specs.Gateway as gateway
 use Rattle.hb_inbound.specs.Inbound as inbound
 use Rattle.hb_inbound.specs.Inbound.{Inbound}
 use Rattle.hb_inbound.specs.Tunnel as t
@@ -19,7 +20,7 @@ use Rattle.hb_node.specs.State.{Shows}
 use Rattle.hb_proxy.specs.Doors.{without_doors}
 use Rattle.hb_proxy.specs.Machine.{Machine, outward}
 use Rattle.hb_proxy.specs.Points.{Point, entries}
-use Rattle.hb_proxy.specs.Runs.{ControlRests, StandsFor}
+use Rattle.hb_proxy.specs.Runs.{ControlRests, DialsGate, StandsFor}
 use Rattle.hb_relays.specs.Shows.{ShowsRelays}
 use Rattle.hb_world.specs.declared.entry.Entry.{Entry}
 use Rattle.hb_whole.specs.Queue.{told}
@@ -38,7 +39,7 @@ AreNotes taken (Some waiting) points = notes_of points ≡ taken ++ waiting
 abbrev pub PlainDialIsDue : NodeConfig → Machine → Target → Why → ℕ → Type 0
 PlainDialIsDue g x to why l =
     ControlRests x.control × (why ≡ why_for (x.plain l).aim (x.plain l).door l) × ((x.plain l).stage ≡ plain.due)
-    × (key_of (x.plain l).aim ≡ None) × (to ≡ address_of (x.plain l).aim)
+    × DialsGate x l × (to ≡ address_of (x.plain l).aim)
 
 -- a dial is due: of the control plane; or, while that rests, of a tunnel's target, or for a plain link
 abbrev pub DialIsDue : NodeConfig → Machine → Target → Why → Type 0
@@ -47,7 +48,7 @@ DialIsDue g x to (whys.Upstream l s) =
     ControlRests x.control × (((x.inbound l).tunnels s).stage ≡ t.due) × (to ≡ ((x.inbound l).tunnels s).target)
 DialIsDue g x to (whys.Plain l) = PlainDialIsDue g x to (whys.Plain l) l
 DialIsDue g x to (whys.Direct l) = PlainDialIsDue g x to (whys.Direct l) l
-DialIsDue g x to (whys.Gateway l) = ⊥
+DialIsDue g x to (whys.Gateway l) = PlainDialIsDue g x to (whys.Gateway l) l
 
 abbrev pub MayBeDialled : NodeConfig → Machine → Option (Target × Why) → Type 0
 MayBeDialled g x None = ⊤
@@ -86,11 +87,19 @@ PlainEndsBy cause _ x = ⊥
 abbrev pub PlainEnds : Cause → Captured → Type 0
 PlainEnds cause x = PlainEndsBy cause x.stage x
 
+-- a link to a gateway is closed, or is to be for this cause
+abbrev pub GateEnds : Cause → gateway.Phase → Type 0
+GateEnds cause gateway.unborn = ⊤
+GateEnds cause gateway.closed = ⊤
+GateEnds cause (gateway.closing why) = why ≡ cause
+GateEnds cause _ = ⊥
+
 pub record Ends (cause : Cause) (x : Machine) : Type 0 where
   pub control : (l : ℕ) → ControlEnds cause (x.control.links l).phase
   pub links : (l : ℕ) → LinkEnds cause (x.inbound l).phase
   pub tunnels : (l s : ℕ) → TunnelEnds cause ((x.inbound l).tunnels s).stage
   pub plain : (l : ℕ) → PlainEnds cause (x.plain l)
+  pub gates : (n : ℕ) → GateEnds cause (x.gates n).phase
 
 -- the run goes on, or has ended for a cause
 abbrev pub EndsBy : Option Cause → Machine → Type 0

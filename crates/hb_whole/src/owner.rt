@@ -5,7 +5,7 @@
 pub(crate) enum Owner {
     /// The link to the control plane.
     Control,
-    /// A plain link, or the upstream of one.
+    /// A plain link, the upstream of one, or a link to a gateway.
     Plain,
     /// An inbound link, or the upstream of a tunnel of one. Also one that is nobody's.
     Inbound,

@@ -10,7 +10,7 @@ ghost use Rattle.hb_turns.specs.Shown.{IsFront, IsSame, Hears, Tells, StandsForN
 ghost use Rattle.hb_frames.specs.Frames.{AreOctets};
 ghost use Rattle.hb_turns.specs.Served.{IsFreshNode};
 ghost use Rattle.hb_whole.specs.Acting.{dial_in, is_strange, given_by, act_of};
-ghost use Rattle.hb_whole.specs.Sight.{owns, owner_of, own_told, places_of, shown_of};
+ghost use Rattle.hb_whole.specs.Sight.{owns, owner_of, own_told, has_room, places_of, shown_of};
 ghost use Rattle.hb_whole.specs.Stands.{Stands, config_of};
 
 use crate::owner::Owner;
@@ -24,7 +24,7 @@ use hb_relays::Relays;
 use hb_world::Act;
 use std::alloc::Global;
 
-/// The most inbound links that may be open at a time, and the most tunnels; a plain link is one, from its birth.
+/// The most inbound links and links to gateways that may be open at a time, and the most tunnels; a plain link is one, from its birth.
 #[derive(Clone, Copy)]
 pub struct Limits {
     pub links: usize,
@@ -120,6 +120,17 @@ impl Proxy {
         self.limits.tunnels.saturating_sub(self.side.relays.len())
     }
 
+    /// Whether one more inbound link, or one to a gateway, may be open.
+    fn has_room(&self) -> bool
+        ensures { result ≡ has_room self.now }
+    {
+        self.side
+            .links
+            .len()
+            .saturating_add(self.side.relays.gates())
+            < self.limits.links
+    }
+
     /// The link to the control plane, where it stirred and that wasn't told. `None`: there is none.
     fn next_own(&mut self) -> Option<u64>
         ensures own { result ≡ own_told self.old }
@@ -164,7 +175,7 @@ impl Proxy {
         self.dials = None;
         match door {
             Door::Inbound => {
-                if self.side.links.len() < self.limits.links {
+                if self.has_room() {
                     self.side.links.accepted(link)
                 } else {
                     self.side.links.turned_away(link)
@@ -209,7 +220,13 @@ impl Proxy {
                     Ok(())
                 }
             },
-            _ => Ok(()),
+            Why::Gateway { link: at } => match link {
+                Some(number) => self.side.relays.gate_dialled(at, number),
+                None => {
+                    self.side.relays.dial_failed(at, &mut self.side.notes);
+                    Ok(())
+                }
+            },
         }
     }
 
@@ -256,11 +273,11 @@ impl Proxy {
                 self.control.take_bytes(link, bytes, &mut self.side)
             }
             Owner::Plain => {
+                let room = self.has_room();
                 let held = self.control.held();
                 self.side
                     .relays
-                    .took(link, held, bytes, &mut self.side.notes);
-                Ok(())
+                    .took(link, held, room, bytes, &mut self.side.notes)
             }
             Owner::Inbound => {
                 let places = self.places();
@@ -349,7 +366,7 @@ impl Proxy {
     {
         match self.owner_of(link) {
             Owner::Control => self.control.last_words(),
-            Owner::Plain => false,
+            Owner::Plain => self.control.is_idle() & self.side.relays.last_words(link),
             Owner::Inbound => self.control.is_idle() & self.side.links.last_words(link),
         }
     }

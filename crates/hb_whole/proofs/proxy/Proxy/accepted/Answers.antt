@@ -13,8 +13,8 @@ use Rattle.hb_whole.proofs.Outcomes.{two_ok}
 use Rattle.hb_whole.proofs.Telling.{with_side}
 use Rattle.hb_whole.proofs.proxy.Proxy.accepted.Goals as goal
 
-pub returns-then-len-self-clause-tells : goal.returns-then-len-self-clause-tells
-returns-then-len-self-clause-tells c =
+pub returns-then-has_room-clause-tells : goal.returns-then-has_room-clause-tells
+returns-then-has_room-clause-tells c =
     let p = c.args.self.now in
     let l = c.args.link in
     let new = c.accepted.new.self in
@@ -24,8 +24,8 @@ returns-then-len-self-clause-tells c =
     (λ begins stirs. subst (λ (d : Door). Tells Stands shown_of (e.Accepted l d) p q) (sym c.in-Inbound.is)
     (accepted_tells p new l begins stirs)) c.accepted.ensures.meets c.accepted.ensures.stirs
 
-pub returns-else-len-self-clause-tells : goal.returns-else-len-self-clause-tells
-returns-else-len-self-clause-tells c =
+pub returns-else-has_room-clause-tells : goal.returns-else-has_room-clause-tells
+returns-else-has_room-clause-tells c =
     let p = c.args.self.now in
     let l = c.args.link in
     let new = c.turned_away.new.self in

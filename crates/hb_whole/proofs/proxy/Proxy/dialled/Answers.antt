@@ -1,4 +1,4 @@
-use Rattle.std.proofs.Common.{◌≡◌, refl}
+use Rattle.std.proofs.Common.{◌≡◌, inl, inr, refl}
 use Rattle.hb_base.specs.declared.target.Target.{Target}
 use Rattle.hb_links.specs.Calls as links
 use Rattle.hb_links.specs.Stirring as links_stirring
@@ -8,7 +8,7 @@ use Rattle.hb_relays.specs.Stirring as relays_stirring
 use Rattle.hb_turns.specs.Shown.{Tells, dial_entry}
 use Rattle.hb_whole.specs.Sight.{shown_of}
 use Rattle.hb_whole.specs.Stands.{Stands, config_of}
-use Rattle.hb_whole.proofs.Dialling.{answers_config, control_answers, plain_answers, plain_answers_none, up_answers, up_answers_none}
+use Rattle.hb_whole.proofs.Dialling.{answers_config, control_answers, gate_answers, plain_answers, plain_answers_none, up_answers, up_answers_none}
 use Rattle.hb_whole.proofs.Heard.{with_state}
 use Rattle.hb_whole.proofs.Outcomes.{if_ok, two_ok}
 use Rattle.hb_whole.proofs.Telling.{with_side}
@@ -51,18 +51,37 @@ returns-in-None-clause-tells c =
 pub returns-in-Some-link-clause-tells : goal.returns-in-Some-link-clause-tells
 returns-in-Some-link-clause-tells c =
     let p = c.args.self.now in
-    let done = c.dialled-in-Some-link in
+    let done = c.gate_dialled in
     let new = done.new.self in
-    let l = c.in-Plain.at in
-    let u = c.in-Some-link.number in
-    two_ok done.result (relays.Dials l u p.side.relays new) (relays_stirring.Stirs p.side.relays new)
+    let l = c.in-Gateway.at in
+    let n = c.in-Some-link.number in
+    two_ok done.result (relays.DialsGate l n p.side.relays new) (relays_stirring.Stirs p.side.relays new)
     ((to : Target) → Tells Stands shown_of (dial_entry to c.args.why c.args.link) p (with_side (record p.side { relays = new }) p))
-    (λ dials stirs. plain_answers p new c.args.why c.args.link l u c.in-Plain.is c.in-Some-link.is dials stirs)
+    (λ dials stirs. gate_answers p new c.args.why c.args.link l n c.in-Gateway.is c.in-Some-link.is dials stirs)
     done.ensures.meets done.ensures.stirs
 
 pub returns-in-None-link-clause-tells : goal.returns-in-None-link-clause-tells
 returns-in-None-link-clause-tells c =
     let p = c.args.self.now in
     let done = c.dial_failed-in-None-link in
+    plain_answers_none p (record p.side { relays = done.new.self; notes = done.new.notes }) c.args.why c.args.link c.in-Gateway.at refl
+    (inr c.in-Gateway.is) c.in-None-link.is done.ensures.meets done.ensures.stirs
+
+pub returns-in-Some-link-2-clause-tells : goal.returns-in-Some-link-2-clause-tells
+returns-in-Some-link-2-clause-tells c =
+    let p = c.args.self.now in
+    let done = c.dialled-in-Some-link-2 in
+    let new = done.new.self in
+    let l = c.in-Plain.at in
+    let u = c.in-Some-link-2.number in
+    two_ok done.result (relays.Dials l u p.side.relays new) (relays_stirring.Stirs p.side.relays new)
+    ((to : Target) → Tells Stands shown_of (dial_entry to c.args.why c.args.link) p (with_side (record p.side { relays = new }) p))
+    (λ dials stirs. plain_answers p new c.args.why c.args.link l u c.in-Plain.is c.in-Some-link-2.is dials stirs)
+    done.ensures.meets done.ensures.stirs
+
+pub returns-in-None-link-2-clause-tells : goal.returns-in-None-link-2-clause-tells
+returns-in-None-link-2-clause-tells c =
+    let p = c.args.self.now in
+    let done = c.dial_failed-in-None-link-2 in
     plain_answers_none p (record p.side { relays = done.new.self; notes = done.new.notes }) c.args.why c.args.link c.in-Plain.at refl
-    c.in-Plain.is c.in-None-link.is done.ensures.meets done.ensures.stirs
+    (inl c.in-Plain.is) c.in-None-link-2.is done.ensures.meets done.ensures.stirs

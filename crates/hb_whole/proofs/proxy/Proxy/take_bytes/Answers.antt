@@ -3,6 +3,8 @@ use Rattle.hb_links.specs.Calls.{Takes, counting}
 use Rattle.hb_links.specs.Load.{others_of}
 use Rattle.hb_links.specs.Stirring.{Stirs}
 use Rattle.hb_node.specs.State.{EntersJudged}
+use Rattle.hb_relays.specs.Calls as relays
+use Rattle.hb_relays.specs.Stirring as relays_stirring
 use Rattle.hb_turns.specs.Shown.{Tells}
 use Rattle.hb_world.specs.declared.entry.Entry.TheVariants as e
 use Rattle.hb_whole.specs.Judged.{Judges}
@@ -47,15 +49,19 @@ returns-in-Plain-clause-tells c =
     let bytes = c.args.bytes.now in
     let whose = sym c.owner_of.ensures ∙ c.in-Plain.is in
     let done = c.took in
+    let new = done.new.self in
+    let notes = done.new.notes in
+    let side : Side = record p.side { relays = new; notes = notes } in
     let held = c.held-held in
-    plain_tells p (record p.side { relays = done.new.self; notes = done.new.notes }) (e.Came l bytes) l
-    (λ x. x.control.held ≡ held.result.now) refl refl
+    two_ok done.result (relays.Takes held.result.now l bytes p.side.relays (told p.side.notes) new (told notes))
+    (relays_stirring.Stirs p.side.relays new) (Tells Stands shown_of (e.Came l bytes) p (with_side side p))
+    (λ takes stirs. plain_tells p side (e.Came l bytes) l (λ x. x.control.held ≡ held.result.now) refl refl
     (λ taken trace s may. (
       may.0.0,
       plain.came_may taken p trace s l whose bytes c.are_octets.ensures may,
       s.control.held ∙ sym held.ensures,
     ))
-    done.ensures.meets done.ensures.stirs
+    takes stirs) done.ensures.meets done.ensures.stirs
 
 pub returns-in-Inbound-clause-tells : goal.returns-in-Inbound-clause-tells
 returns-in-Inbound-clause-tells c =
