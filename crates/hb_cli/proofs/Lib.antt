@@ -1,9 +1,8 @@
+pub mod Concluding
 pub mod Endings
-pub mod Hearing
 pub mod Inputs
 pub mod Makes
 pub mod Outcomes
 pub mod Printing
-pub mod Scripts
+pub mod Runs
 pub mod Serves
-pub mod Written

@@ -4,13 +4,14 @@ use Rattle.std.specs.Prelude.{IfSome, nat_lt}
 use Rattle.std.specs.Io.KnownBytes.{Consumes}
 use Rattle.std.proofs.lemmas.Bool.Decides.{nat_tests}
 use Rattle.std.proofs.lemmas.Option.{IfSome_then}
-use Rattle.hb_replay.specs.Run.{Done}
+use Rattle.hb_cli.specs.Replaying.{Done}
 use Rattle.hb_words.specs.Command.{Command}
 use Rattle.hb_cli.specs.declared.input.Refused.{Refused as Refusal}
 use Rattle.hb_cli.specs.declared.stop.Stop.TheVariants.{TooLong}
 use Rattle.hb_cli.specs.Input.{longest_input}
 use Rattle.hb_cli.specs.Run.{or_refused, printed_by, answer_after}
-use Rattle.hb_cli.specs.Ending.{Use, NoFault, LooksAt}
+use Rattle.hb_cli.specs.Looking.{LooksAt}
+use Rattle.hb_cli.specs.Use.{Use, NoFault}
 
 answer_is : (c : Command) (done : Done) (input : List ℕ) (r : Result (List ℕ) Refusal) → length input ≤ longest_input
     → printed_by c done input ≡ r

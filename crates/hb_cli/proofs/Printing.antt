@@ -11,7 +11,7 @@ use Rattle.hb_cli.specs.declared.answer.Printed.{Printed}
 use Rattle.hb_cli.specs.declared.answer.Printed.TheVariants.{Whole, Failed, NoMemory}
 use Rattle.hb_cli.specs.Input.{Leaves}
 use Rattle.hb_cli.specs.Run.{shown}
-use Rattle.hb_cli.specs.Ending.{use_of, WritesAll, Prints}
+use Rattle.hb_cli.specs.Use.{use_of, WritesAll, Prints}
 
 -- a front of a text behind what is there whole
 behind : (a b c : Option (List ℕ)) (front text : List ℕ) (n : ℕ) → Appends a b front → Appends b c (take n text)

@@ -1,136 +1,164 @@
--- How a run ends: what the functions below `run` say.
-use Rattle.std.specs.Prelude.{◌≡◌, ◌⊎◌, ℕ, ◌<◌, ◌≤◌, ◌==◌, Bool, true, false, IsTrue, List, [], length, take, Option, IfSome, IsOk, Result, Ok, Err}
+-- How a run ends: what each status says.
+use Rattle.std.specs.Prelude.{⊤, ◌≡◌, ◌⊎◌, ℕ, ◌≤◌, false, IsTrue, List, [], IsOk, Option, Result, Ok, Err}
 use Rattle.std.specs.Bool.{MatchBool}
-use Rattle.std.specs.Io.KnownBytes.{Appends}
-use Rattle.hb_base.specs.Count.{one_more}
-use Rattle.hb_cli.specs.declared.stop.Stop.{Stop}
-use Rattle.hb_cli.specs.declared.stop.Stop.TheVariants.{Words, TooLong, Refused, ReadFault, NoMemory}
-use Rattle.hb_replay.specs.Run.{Done}
+use Rattle.hb_report.specs.Total.{total_line}
+use Rattle.hb_turns.specs.Notes.{held}
+use Rattle.hb_turns.specs.declared.served.Served.{Served}
+use Rattle.hb_words.specs.declared.asks.Make.{Make}
 use Rattle.hb_words.specs.declared.fault.WordsFault.{WordsFault}
-use Rattle.hb_words.specs.Command.{Command, shows}
-use Rattle.hb_cli.specs.declared.answer.Printed.{Printed}
-use Rattle.hb_cli.specs.declared.answer.Printed.TheVariants as printing
-use Rattle.hb_cli.specs.Run.{outcome_by, IsOutcomeBy, status_of, stop_line, write_fault_line, world_fault_line, turns_spent_line, WritesLine, ReadsEnough}
+use Rattle.hb_words.specs.Command.{Command, Replay, Serve, checks, shows, replays, serves, makes}
+use Rattle.hb_cli.specs.Replaying.{RunState, done_in, DoneLawfully}
+use Rattle.hb_cli.specs.declared.ended.ReplayEnd.{ReplayEnd}
+use Rattle.hb_cli.specs.declared.ended.ReplayEnd.TheVariants as ends
+use Rattle.hb_cli.specs.declared.stop.Stop.{Stop}
+use Rattle.hb_cli.specs.declared.stop.Stop.TheVariants.{Words, ReadFault, NoMemory}
+use Rattle.hb_cli.specs.Hearing.{HearsAll, HearsNone}
+use Rattle.hb_cli.specs.Looking.{LooksAt}
+use Rattle.hb_cli.specs.Making.{made_run, made_text, made_total, RunsMade}
+use Rattle.hb_cli.specs.Leaving.{RunsTo}
+use Rattle.hb_cli.specs.Run.{is_status, status_of, stop_line, takes_input, write_fault_line, world_fault_line, turns_spent_line}
+use Rattle.hb_cli.specs.Serving.{WorldUse, RanTo, Unused, Worked}
+use Rattle.hb_cli.specs.Use.{Use, NoFault, OneFault, Untouched, WritesAll, WritesPart, WritesSome, Tells}
 
--- what a run does with a source or a sink: its bytes and its count of faults, before and after
-pub record Use : Type 0 where
-  pub bytes : Option (List ℕ)
-  pub bytes_after : Option (List ℕ)
-  pub faults : ℕ
-  pub faults_after : ℕ
-
-abbrev pub use_of : Option (List ℕ) → Option (List ℕ) → ℕ → ℕ → Use
-use_of bytes bytes_after faults faults_after =
-    record { bytes = bytes; bytes_after = bytes_after; faults = faults; faults_after = faults_after }
-
--- a run: what its words ask, the done that it leaves, and what it does with the input, the output and the error text
+-- a run: what its words ask; what it does with the input, the output, the error text, the world of sockets and the audits; and the world of
+-- the script with the notes that are kept, before and after it
 pub record Run : Type 0 where
   pub asked : Result Command WordsFault
-  pub done : Done
   pub input : Use
   pub out : Use
   pub err : Use
+  pub world : WorldUse
+  pub before : RunState
+  pub left : RunState
 
--- no fault came, or one did
-abbrev pub NoFault : Use → Type 0
-NoFault u = u.faults_after ≡ u.faults
+-- the words ask for a command that is answered by its input: each but `serve` and `make` is
+abbrev pub IsByInput : Run → Type 0
+IsByInput r = IsOk r.asked × IsTrue (takes_input r.asked)
 
-abbrev pub OneFault : Use → Type 0
-OneFault u = u.faults_after ≡ one_more u.faults
+-- that command and the input come to this
+abbrev pub HasOutcome : Run → Result (List ℕ) Stop → Type 0
+HasOutcome r o = LooksAt r.asked (done_in r.left) r.input o
 
--- nothing is read or written
-abbrev pub Untouched : Use → Type 0
-Untouched u = (u.bytes_after ≡ u.bytes) × NoFault u
+-- THE ANSWER OF EACH COMMAND, behind a run of the proxy that ended so; where there is no run, as if by a stop
 
--- all of a text is written, or a part from its front
-abbrev pub WritesAll : Use → List ℕ → Type 0
-WritesAll u text = Appends u.bytes u.bytes_after text × NoFault u
+abbrev pub ReplayGives : Replay → Run → ReplayEnd → List ℕ → Type 0
+ReplayGives p r end text = HasOutcome r (Ok text) × RunsTo p r.input.bytes r.left end × HearsAll r.world.heard (held r.left.keep)
 
-abbrev pub WritesPart : Use → List ℕ → Type 0
-WritesPart u text = ((n : ℕ) × (n < length text) × Appends u.bytes u.bytes_after (take n text)) × OneFault u
+abbrev pub ServeGives : Serve → Run → ReplayEnd → List ℕ → Type 0
+ServeGives s r end text = Untouched r.input × ((told : Served) × RanTo s r.world told end × (text ≡ total_line told.totals))
 
--- a part from its front, or all, is written, and no put failed
-abbrev pub WritesSome : Use → List ℕ → Type 0
-WritesSome u text = ((n : ℕ) × (n ≤ length text) × Appends u.bytes u.bytes_after (take n text)) × NoFault u
+-- the script's world and the notes are left as they were, and no audit is told anything
+abbrev pub RunsNothing : Run → Type 0
+RunsNothing r = (r.left ≡ r.before) × HearsNone r.world.heard
 
--- how far a text is printed
-abbrev pub Prints : Use → List ℕ → Printed → Type 0
-Prints u text printing.Whole = WritesAll u text
-Prints u text printing.Failed = WritesPart u text
-Prints u text printing.NoMemory = WritesSome u text
+abbrev pub MakeGives : Make → Run → ReplayEnd → List ℕ → Type 0
+MakeGives m r end text = Untouched r.input × MatchBool m.run
+    (RunsMade m r.world.heard r.left end × (text ≡ made_total r.left))
+    ((end ≡ ends.Stopped) × RunsNothing r × (text ≡ made_text m))
 
-abbrev pub Tells : Use → List ℕ → Type 0
-Tells u text = WritesLine u.bytes u.bytes_after u.faults u.faults_after text
+abbrev pub Gives : Command → Run → ReplayEnd → List ℕ → Type 0
+Gives (checks q) r end text = (end ≡ ends.Stopped) × HasOutcome r (Ok text)
+Gives shows r end text = (end ≡ ends.Stopped) × HasOutcome r (Ok text)
+Gives (replays p) r end text = ReplayGives p r end text
+Gives (serves s) r end text = ServeGives s r end text
+Gives (makes m) r end text = MakeGives m r end text
 
--- the words are accepted, and this is the outcome by the input, of which enough is read
-abbrev pub LooksAt : Result Command WordsFault → Done → Use → Result (List ℕ) Stop → Type 0
-LooksAt asked done input o =
-    IsOk asked × IfSome input.bytes (λ left. outcome_by asked done left ≡ o) × IsOutcomeBy asked done o
-    × ReadsEnough input.bytes input.bytes_after × NoFault input
+abbrev pub Answers : Run → ReplayEnd → List ℕ → Type 0
+Answers r end text = (c : Command) × (r.asked ≡ Ok c) × Gives c r end text
 
--- What reading the words and then the input comes to.
-abbrev pub ComesTo : Result Command WordsFault → Done → Use → Result (List ℕ) Stop → Type 0
-ComesTo asked done input (Ok text) = LooksAt asked done input (Ok text)
-ComesTo asked done input (Err (Words fault)) = (asked ≡ Err fault) × Untouched input
-ComesTo asked done input (Err TooLong) = LooksAt asked done input (Err TooLong)
-ComesTo asked done input (Err (Refused refusal)) = LooksAt asked done input (Err (Refused refusal))
-ComesTo asked done input (Err ReadFault) = IsOk asked × OneFault input
-ComesTo asked done input (Err NoMemory) = NoFault input
+-- EACH STATUS
 
--- a line whose text isn't fixed, so that telling it takes memory
-abbrev pub takes_memory : Stop → Bool
-takes_memory (Words fault) = true
-takes_memory TooLong = false
-takes_memory (Refused refusal) = true
-takes_memory ReadFault = false
-takes_memory NoMemory = false
+-- the answer is printed whole, and this is told of how a run of the proxy ended
+abbrev pub Finishes : Run → ReplayEnd → List ℕ → Type 0
+Finishes r end line = (text : List ℕ) × Answers r end text × WritesAll r.out text × Tells r.err line
 
--- Telling why there is no answer: its line and its status, or those of want of memory.
-abbrev pub GivesUp : Stop → Use → ℕ → Type 0
-GivesUp stop err status =
-    ((status ≡ status_of (Err stop)) × Tells err (stop_line stop))
-    ⊎ (IsTrue (takes_memory stop) × (status ≡ 9) × Tells err (stop_line NoMemory))
+-- no call was made on the script's world, and no note was told to an audit
+abbrev pub DoesNothing : Run → Type 0
+DoesNothing r = (r.left.script.trace ≡ []) × HearsNone r.world.heard
 
--- 0, 4 and 5: the answer is printed whole, and how a replay ended is told
-abbrev pub Answered : Run → List ℕ → Type 0
-Answered t ending = (text : List ℕ) × LooksAt t.asked t.done t.input (Ok text) × WritesAll t.out text × Tells t.err ending
+-- 0: what was asked is done
+abbrev pub IsDone : Run → Type 0
+IsDone r = Finishes r ends.Stopped []
 
--- 2: the words aren't accepted, and nothing is read
+-- 2: the words aren't accepted; nothing is read, printed or done
 abbrev pub WordsRefused : Run → Type 0
-WordsRefused t = (fault : WordsFault) × (t.asked ≡ Err fault) × Untouched t.input × Untouched t.out
-    × Tells t.err (stop_line (Words fault))
+WordsRefused r =
+    (fault : WordsFault) × (r.asked ≡ Err fault) × Untouched r.input × Untouched r.out × Tells r.err (stop_line (Words fault))
+    × DoesNothing r
 
--- 3: the input is too long, or one of its messages is refused
+-- 3: the input is too long, or one of its messages or lines is refused; nothing is printed or done
 abbrev pub InputRefused : Run → Type 0
-InputRefused t =
-    (stop : Stop) × (status_of (Err stop) ≡ 3) × LooksAt t.asked t.done t.input (Err stop) × Untouched t.out
-    × Tells t.err (stop_line stop)
+InputRefused r =
+    (stop : Stop) × (status_of (Err stop) ≡ 3) × IsByInput r × HasOutcome r (Err stop) × Untouched r.out × Tells r.err (stop_line stop)
+    × DoesNothing r
 
--- 6: a take failed
+-- 4: a listen or a wait failed, and ended the run of the proxy
+abbrev pub WorldFailed : Run → Type 0
+WorldFailed r = Finishes r ends.WorldFault world_fault_line
+
+-- 5: its turns were spent
+abbrev pub TurnsSpent : Run → Type 0
+TurnsSpent r = Finishes r ends.TurnsSpent turns_spent_line
+
+-- 6: a take failed; nothing is printed or done
 abbrev pub Unread : Run → Type 0
-Unread t = IsOk (t.asked) × OneFault t.input × Untouched t.out × Tells t.err (stop_line ReadFault)
+Unread r = IsByInput r × OneFault r.input × Untouched r.out × Tells r.err (stop_line ReadFault) × DoesNothing r
 
 -- 7: a put failed, and the answer is printed in part
 abbrev pub Unwritten : Run → Type 0
-Unwritten t =
-    (text : List ℕ) × LooksAt t.asked t.done t.input (Ok text) × WritesPart t.out text × Tells t.err write_fault_line
+Unwritten r =
+    (end : ReplayEnd) × (text : List ℕ) × Answers r end text × WritesPart r.out text × Tells r.err write_fault_line
 
 -- the answer of `show` is printed in part
 abbrev pub ShownInPart : Run → Type 0
-ShownInPart t = (text : List ℕ) × (t.asked ≡ Ok shows) × LooksAt t.asked t.done t.input (Ok text) × WritesSome t.out text
+ShownInPart r = (text : List ℕ) × (r.asked ≡ Ok shows) × HasOutcome r (Ok text) × WritesSome r.out text
 
--- 9: want of memory, before the answer or while it is shown
+-- a run of the proxy that memory broke off is lawful
+abbrev pub BreaksOff : Result Command WordsFault → Run → Type 0
+BreaksOff (Ok (replays p)) r = DoneLawfully p r.left.script.trace
+BreaksOff (Ok (serves s)) r = Unused r.world ⊎ ((told : Served) × Worked s r.world told)
+BreaksOff (Ok (makes m)) r = MatchBool m.run (DoneLawfully made_run r.left.script.trace) (RunsNothing r)
+BreaksOff _ r = ⊤
+
+-- 9: memory was wanting, before the answer or while it was shown
 abbrev pub Wanting : Run → Type 0
-Wanting t = (NoFault t.input × Untouched t.out ⊎ ShownInPart t) × Tells t.err (stop_line NoMemory)
+Wanting r = NoFault r.input × (Untouched r.out ⊎ ShownInPart r) × Tells r.err (stop_line NoMemory) × BreaksOff r.asked r
 
--- How a run ends with a status.
-abbrev pub EndsWith : Run → ℕ → Type 0
-EndsWith t status =
-    MatchBool (status == 0) (Answered t [])
-    (MatchBool (status == 2) (WordsRefused t)
-    (MatchBool (status == 3) (InputRefused t)
-    (MatchBool (status == 4) (Answered t world_fault_line)
-    (MatchBool (status == 5) (Answered t turns_spent_line)
-    (MatchBool (status == 6) (Unread t)
-    (MatchBool (status == 7) (Unwritten t)
-    (MatchBool (status == 9) (Wanting t) ⊥)))))))
+-- AND AT ALL OF THEM
+
+-- What a run leaves as it was
+pub record Stays (r : Run) : Type 0 where
+  -- but for `replay` and `make` no command changes the script's world or the notes
+  pub idle : ((p : Replay) → r.asked ≡ Ok (replays p) → ⊥) → ((m : Make) → r.asked ≡ Ok (makes m) → ⊥)
+      → (r.left.script ≡ r.before.script) × (r.left.keep ≡ r.before.keep)
+  -- but for these two and `serve` none tells an audit anything
+  pub untold : IsTrue (takes_input r.asked) → ((p : Replay) → r.asked ≡ Ok (replays p) → ⊥) → HearsNone r.world.heard
+  -- no count of faults falls
+  pub later_input : r.input.faults ≤ r.input.faults_after
+  pub later_out : r.out.faults ≤ r.out.faults_after
+  pub later_err : r.err.faults ≤ r.err.faults_after
+
+-- The run ends with this status: what it says, by the status, and at all.
+pub record EndsWith (r : Run) (status : ℕ) : Type 0 where
+  pub done : status ≡ 0 → IsDone r
+  pub words_refused : status ≡ 2 → WordsRefused r
+  pub input_refused : status ≡ 3 → InputRefused r
+  pub world_failed : status ≡ 4 → WorldFailed r
+  pub turns_spent : status ≡ 5 → TurnsSpent r
+  pub unread : status ≡ 6 → Unread r
+  pub unwritten : status ≡ 7 → Unwritten r
+  pub wanting : status ≡ 9 → Wanting r
+  pub nothing_else : IsTrue (is_status status)
+  pub stays : Stays r
+
+-- of each run, and the status that it ends with
+abbrev pub EachEnding : (Run → ℕ → Type 0) → Type 0
+EachEnding P = (r : Run) (status : ℕ) → EndsWith r status → P r status
+
+-- What a run leaves as it was, whole: `serve` and `make` read no input; but for `serve` no command makes a call on the world of sockets,
+-- and none changes the script that it follows
+pub record Others {S W L : Type 0} (asked : Result Command WordsFault) (script_of : W → L) (input input_after : S) (world world_after : W)
+    : Type 0 where
+  pub unread : takes_input asked ≡ false → input_after ≡ input
+  pub unused : ((s : Serve) → asked ≡ Ok (serves s) → ⊥) → world_after ≡ world
+  pub follows : script_of world_after ≡ script_of world

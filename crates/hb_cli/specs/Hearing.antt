@@ -1,13 +1,11 @@
 -- What audits hear of a command: all notes of a replay that has an answer, and of no other command but `serve` and `make` any.
-use Rattle.std.specs.Prelude.{⊤, ◌≡◌, ℕ, ◌==◌, List, Result, Ok, Err}
-use Rattle.std.specs.Bool.{MatchBool}
+use Rattle.std.specs.Prelude.{⊤, ◌≡◌, List, Result, Ok, Err}
 use Rattle.hb_audit.specs.Tells.{Tells}
 use Rattle.hb_base.specs.declared.note.Note.{Note}
 use Rattle.hb_base.specs.declared.or.Or.{Or}
 use Rattle.hb_base.specs.declared.or.Or.TheVariants.{Fault, NoMemory as Lacks}
 use Rattle.hb_serve.specs.Served.{Heard}
-use Rattle.hb_words.specs.declared.fault.WordsFault.{WordsFault}
-use Rattle.hb_words.specs.Command.{Command, replays, serves, makes}
+use Rattle.hb_words.specs.Command.{Command, replays}
 use Rattle.hb_cli.specs.declared.answer.Answer.{Answer}
 use Rattle.hb_cli.specs.declared.input.Refused.{Refused}
 use Rattle.hb_cli.specs.declared.stop.Stop.{Stop}
@@ -33,22 +31,3 @@ HearsBy (replays r) h notes (Ok a) = HearsAll h notes
 HearsBy (replays r) h notes (Err NoMemory) = ⊤
 HearsBy (replays r) h notes (Err _) = HearsNone h
 HearsBy _ h notes result = HearsNone h
-
--- at a status: at 9 not said
-abbrev pub HearsAt : Heard → List Note → ℕ → Type 0
-HearsAt h notes status =
-    MatchBool (status == 0) (HearsAll h notes)
-    (MatchBool (status == 4) (HearsAll h notes)
-    (MatchBool (status == 5) (HearsAll h notes)
-    (MatchBool (status == 7) (HearsAll h notes)
-    (MatchBool (status == 9) ⊤ (HearsNone h)))))
-
-abbrev pub CommandHearsAt : Command → Heard → List Note → ℕ → Type 0
-CommandHearsAt (replays r) h notes status = HearsAt h notes status
-CommandHearsAt (serves s) h notes status = ⊤
-CommandHearsAt (makes m) h notes status = ⊤
-CommandHearsAt _ h notes status = HearsNone h
-
-abbrev pub WordsHearAt : Result Command WordsFault → Heard → List Note → ℕ → Type 0
-WordsHearAt (Ok c) h notes status = CommandHearsAt c h notes status
-WordsHearAt (Err fault) h notes status = HearsNone h

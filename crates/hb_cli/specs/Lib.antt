@@ -1,11 +1,16 @@
 pub mod Answer
+pub mod Asked
+pub mod Ended
 pub mod Ending
 pub mod Hearing
 pub mod Input
 pub mod Judge
+pub mod Leaving
+pub mod Looking
 pub mod Making
 pub mod Refused
 pub mod Replaying
 pub mod Run
 pub mod Serving
 pub mod Taking
+pub mod Use

@@ -10,12 +10,12 @@ use Rattle.hb_serve.specs.Served.{Heard}
 use Rattle.hb_turns.specs.Totals.{totals_of}
 use Rattle.hb_words.specs.Command.{Replay}
 use Rattle.hb_words.specs.declared.asks.Make.{Make}
-use Rattle.hb_replay.specs.Run.{RunState, done_in, IsRun, DoneLawfully}
-use Rattle.hb_replay.specs.declared.end.ReplayEnd.{ReplayEnd}
-use Rattle.hb_replay.specs.declared.end.ReplayEnd.TheVariants as ends
-use Rattle.hb_cli.specs.Ending.{Use, Untouched, WritesAll, WritesPart, Tells}
+use Rattle.hb_cli.specs.Replaying.{RunState, done_in, IsRun, DoneLawfully}
+use Rattle.hb_cli.specs.declared.ended.ReplayEnd.{ReplayEnd}
+use Rattle.hb_cli.specs.declared.ended.ReplayEnd.TheVariants as ends
 use Rattle.hb_cli.specs.Hearing.{HearsAll, HearsNone}
 use Rattle.hb_cli.specs.Run.{stop_line, write_fault_line, world_fault_line, turns_spent_line}
+use Rattle.hb_cli.specs.Use.{Use, Untouched, WritesAll, WritesPart, Tells}
 use Rattle.hb_cli.specs.declared.stop.Stop.TheVariants.{NoMemory}
 
 -- the text of the script that is asked for

@@ -1,15 +1,54 @@
--- Ends of the commands serve and make that aren't what they do, and some that are.
-use Rattle.std.specs.Prelude.{◌≡◌, ◌≢◌, ℕ, true, false, [], ◌∷◌, List, Some}
-use Rattle.hb_replay.specs.Run.{RunState}
-use Rattle.hb_serve.specs.Served.{Heard}
-use Rattle.hb_words.specs.Command.{Serve}
+-- Ends of a run, and of the commands serve and make, that aren't what they do, and some that are.
+use Rattle.std.specs.Prelude.{◌≡◌, ◌≢◌, ℕ, true, false, [], ◌∷◌, List, Ok, Err, Some}
+use Rattle.hb_cli.specs.Replaying.{RunState}
+use Rattle.hb_serve.specs.Served.{Heard, heard_of}
+use Rattle.hb_words.specs.Command.{Question, Serve, checks}
+use Rattle.hb_words.specs.Fault.{fault_line}
 use Rattle.hb_words.specs.declared.asks.Make.{Make}
-use Rattle.hb_cli.specs.Ending.{Use, Untouched, Tells}
+use Rattle.hb_words.specs.declared.fault.WordsFault.TheVariants.{NoCommand}
+use Rattle.hb_cli.specs.Ending.{Run, EndsWith}
 use Rattle.hb_cli.specs.Hearing.{HearsNone}
 use Rattle.hb_cli.specs.Making.{made_text, MakesAt}
 use Rattle.hb_cli.specs.Run.{stop_line}
-use Rattle.hb_cli.specs.Serving.{WorldUse, Unused, ServesAt}
+use Rattle.hb_cli.specs.Serving.{WorldUse, world_use, Unused, ServesAt}
+use Rattle.hb_cli.specs.Use.{Use, use_of, Untouched, Tells}
 use Rattle.hb_cli.specs.declared.stop.Stop.TheVariants.{NoMemory}
+
+-- RUN
+
+-- it ends with a status that isn't there
+abbrev pub NoOtherStatus : Type 0
+NoOtherStatus = (r : Run) → EndsWith r 1 → ⊥
+
+-- `check` is done, and printed nothing
+abbrev pub DonePrintsNothing : Type 0
+DonePrintsNothing = (r : Run) (q : Question) → r.asked ≡ Ok (checks q) → r.out.bytes ≡ Some [] → r.out.bytes_after ≡ Some []
+    → EndsWith r 0 → ⊥
+
+-- the input is refused, and something was printed
+abbrev pub RefusedPrints : Type 0
+RefusedPrints = (r : Run) → r.out.bytes ≡ Some [] → r.out.bytes_after ≡ Some (1 ∷ []) → EndsWith r 3 → ⊥
+
+-- a read failed, and isn't counted
+abbrev pub UnreadUncounted : Type 0
+UnreadUncounted = (r : Run) → r.input.faults ≡ 0 → r.input.faults_after ≡ 0 → EndsWith r 6 → ⊥
+
+-- without words nothing of an input is read and nothing is printed; and that is told
+abbrev pub without_words : RunState → Run
+without_words state = record {
+  asked = Err NoCommand;
+  input = use_of (Some (1 ∷ [])) (Some (1 ∷ [])) 0 0;
+  out = use_of (Some []) (Some []) 0 0;
+  err = use_of (Some []) (Some (fault_line NoCommand)) 0 0;
+  world = world_use (Some []) (Some []) 0 0 (heard_of [] []);
+  before = state;
+  left = state;
+}
+
+abbrev pub NoWordsAreRefused : Type 0
+NoWordsAreRefused = (state : RunState) → state.script.trace ≡ [] → EndsWith (without_words state) 2
+
+-- SERVE
 
 -- it ends with no such status
 abbrev pub NeverEndsWith : ℕ → Type 0

@@ -1,79 +1,90 @@
--- What the world of a script and the notes are left as: a replay runs over that world, and but for `make` no other command makes a call
--- on it.
-use Rattle.std.specs.Prelude.{⊤, ◌≡◌, ◌≢◌, ℕ, ◌==◌, List, [], Option, Some, IfSome, Result, Ok, Err}
-use Rattle.std.specs.Bool.{MatchBool}
+-- A run of the proxy over a script, as its trace and its notes tell it.
+use Rattle.std.specs.Prelude.{⊤, ◌≡◌, ◌⊎◌, ℕ, false, List, [], Option, None, Some, Result, Ok, Err}
+use Rattle.hb_audit.specs.Tells.{Tells}
+use Rattle.hb_base.specs.declared.note.Note.{Note}
 use Rattle.hb_base.specs.declared.or.Or.{Or}
-use Rattle.hb_base.specs.declared.or.Or.TheVariants.{Fault, NoMemory as Lacks}
+use Rattle.hb_base.specs.declared.or.Or.TheVariants.{Fault, NoMemory}
+use Rattle.hb_world.specs.declared.entry.Entry.{Entry}
+use Rattle.hb_world.specs.declared.line.Line.{Line}
+use Rattle.hb_world.specs.WorldState.{ScriptState}
+use Rattle.hb_script.specs.declared.fault.ScriptFault.{ScriptFault}
 use Rattle.hb_script.specs.Script.{lines}
-use Rattle.hb_words.specs.declared.fault.WordsFault.{WordsFault}
-use Rattle.hb_words.specs.Command.{Command, Replay, replays, serves, makes}
-use Rattle.hb_replay.specs.declared.end.ReplayEnd.{ReplayEnd}
-use Rattle.hb_replay.specs.declared.end.ReplayEnd.TheVariants as ends
-use Rattle.hb_replay.specs.Run.{RunState, done_in, IsRun, DoneLawfully}
-use Rattle.hb_cli.specs.declared.answer.Answer.{Answer}
-use Rattle.hb_cli.specs.declared.answer.Answer.TheVariants.{Judged, Left, Replayed}
-use Rattle.hb_cli.specs.declared.input.Refused.{Refused}
-use Rattle.hb_cli.specs.declared.stop.Stop.{Stop}
-use Rattle.hb_cli.specs.declared.stop.Stop.TheVariants.{NoMemory}
-use Rattle.hb_cli.specs.Ending.{Use, Tells}
-use Rattle.hb_cli.specs.Run.{world_fault_line, turns_spent_line}
+use Rattle.hb_turns.specs.declared.served.Served.{Served}
+use Rattle.hb_turns.specs.Ends.{was_wanting}
+use Rattle.hb_turns.specs.Notes.{held}
+use Rattle.hb_turns.specs.Totals.{totals_of}
+use Rattle.hb_serve.specs.Served.{IsServed, HasNotes}
+use Rattle.hb_serve.specs.declared.words.ServeWords.{ServeWords}
+use Rattle.hb_report.specs.Report.{report}
+use Rattle.hb_report.specs.declared.flags.Flags.{Flags}
+use Rattle.hb_words.specs.Command.{Replay}
+use Rattle.hb_cli.specs.Asked.{words_of}
+use Rattle.hb_cli.specs.Ended.{ended_as}
+use Rattle.hb_cli.specs.declared.ended.ReplayEnd.{ReplayEnd}
+use Rattle.hb_cli.specs.declared.replaying.Replayed.{Replayed}
 
--- the lines of this input, where it is told, were run over, and the run ended so
-abbrev pub RunsTo : Replay → Option (List ℕ) → RunState → ReplayEnd → Type 0
-RunsTo r input world end = IfSome input (λ left. lines left ≡ Ok world.script.lines) × IsRun r end (done_in world)
+-- what was done: the trace, and the notes of it
+pub record Done : Type 0 where
+  pub trace : List Entry
+  pub notes : List Note
 
--- what an answer of a replay says of its script's world
-abbrev pub AnswersFrom : Replay → Option (List ℕ) → RunState → Answer → Type 0
-AnswersFrom r input world (Replayed told) = RunsTo r input world told.end
-AnswersFrom r input world _ = ⊥
+abbrev pub done_with : List Entry → List Note → Done
+done_with trace notes = record { trace = trace; notes = notes }
 
--- what a replay leaves: where it has no answer, want of memory aside, nothing was done
-abbrev pub Leaves : Replay → Option (List ℕ) → RunState → Result Answer Stop → Type 0
-Leaves r input world (Ok a) = AnswersFrom r input world a
-Leaves r input world (Err NoMemory) = DoneLawfully r world.script.trace
-Leaves r input world (Err _) = world.script.trace ≡ []
+abbrev pub done_by : List Entry → Option (List Note) → Done
+done_by trace keep = done_with trace (held keep)
 
--- the same of an input that is there, and of a command by it
-abbrev pub LeavesOf : Replay → List ℕ → RunState → Result Answer (Or Refused) → Type 0
-LeavesOf r input world (Ok a) = AnswersFrom r (Some input) world a
-LeavesOf r input world (Err (Fault refusal)) = world.script.trace ≡ []
-LeavesOf r input world (Err Lacks) = DoneLawfully r world.script.trace
+-- the script's world, and the notes that are kept
+pub record RunState : Type 0 where
+  pub script : ScriptState
+  pub keep : Option (List Note)
 
-abbrev pub CommandLeaves : Command → List ℕ → RunState → RunState → Result Answer (Or Refused) → Type 0
-CommandLeaves (replays r) input before after result = LeavesOf r input after result
-CommandLeaves _ input before after result = after ≡ before
+abbrev pub run_state : ScriptState → Option (List Note) → RunState
+run_state script keep = record { script = script; keep = keep }
 
-abbrev pub LeavesBy : Command → Option (List ℕ) → RunState → RunState → Result Answer Stop → Type 0
-LeavesBy (replays r) input before after result = Leaves r input after result
-LeavesBy _ input before after result = after ≡ before
+-- what was done in it
+abbrev pub done_in : RunState → Done
+done_in s = done_by s.script.trace s.keep
 
--- the status of a run that ended so, and its line
-abbrev pub EndsRun : ReplayEnd → Use → ℕ → Type 0
-EndsRun ends.Stopped err status = (status ≡ 0) × Tells err []
-EndsRun ends.WorldFault err status = (status ≡ 4) × Tells err world_fault_line
-EndsRun ends.TurnsSpent err status = (status ≡ 5) × Tells err turns_spent_line
+-- A run that is asked for so was served, did this and ended so, and memory never lacked: these are all its notes, and the totals are its
+-- own
+pub record RunsAs (words : ServeWords) (told : Served) (keep : Option (List Note)) (end : ReplayEnd) (done : Done) : Type 0 where
+  pub served : IsServed words told keep done.trace
+  pub ends : ended_as told ≡ Some end
+  pub has_notes : HasNotes words.config done.notes done.trace
+  pub totals : told.totals ≡ totals_of done.trace done.notes
+  pub not_wanting : was_wanting done.trace ≡ false
 
-abbrev pub EndsAnswer : Answer → Use → ℕ → Type 0
-EndsAnswer (Judged judged) err status = (status ≡ 0) × Tells err []
-EndsAnswer (Left left) err status = (status ≡ 0) × Tells err []
-EndsAnswer (Replayed told) err status = EndsRun told.end err status
+-- so a replay that keeps its notes
+abbrev pub IsRun : Replay → ReplayEnd → Done → Type 0
+IsRun r end done = (told : Served) × RunsAs (words_of r.run None) told (Some done.notes) end done
 
--- What a replay leaves at each status.
-abbrev pub LeavesAt : Replay → Option (List ℕ) → RunState → ℕ → Type 0
-LeavesAt r input world status =
-    MatchBool (status == 0) (RunsTo r input world ends.Stopped)
-    (MatchBool (status == 4) (RunsTo r input world ends.WorldFault)
-    (MatchBool (status == 5) (RunsTo r input world ends.TurnsSpent)
-    (MatchBool (status == 7) ((end : ReplayEnd) × RunsTo r input world end)
-    (MatchBool (status == 9) (DoneLawfully r world.script.trace) (world.script.trace ≡ [])))))
+-- which lines its report has, and the report
+abbrev pub flags_of : Replay → Flags
+flags_of r = record { trace = r.trace; brief = r.brief }
 
-abbrev pub CommandLeavesAt : Command → Option (List ℕ) → RunState → RunState → ℕ → Type 0
-CommandLeavesAt (replays r) input before after status = LeavesAt r input after status
-CommandLeavesAt (serves s) input before after status = after ≡ before
-CommandLeavesAt (makes m) input before after status = ⊤
-CommandLeavesAt _ input before after status = (after ≡ before) × (status ≢ 4) × (status ≢ 5)
+abbrev pub report_of : Replay → Done → List ℕ
+report_of r done = report (flags_of r) done.trace done.notes (totals_of done.trace done.notes)
 
--- words that aren't accepted leave it as it was
-abbrev pub WordsLeaveAt : Result Command WordsFault → Option (List ℕ) → RunState → RunState → ℕ → Type 0
-WordsLeaveAt (Ok c) input before after status = CommandLeavesAt c input before after status
-WordsLeaveAt (Err fault) input before after status = (after ≡ before) × (status ≢ 4) × (status ≢ 5)
+-- nothing was done, or a run was served, however it ended
+abbrev pub DoneLawfully : Replay → List Entry → Type 0
+DoneLawfully r trace = (trace ≡ []) ⊎ ((told : Served) × (keep : Option (List Note)) × IsServed (words_of r.run None) told keep trace)
+
+-- What a replay of these lines leaves: they are the world's, and its trace and the notes are those of the run that is told
+abbrev pub ReplaysLines : {E : Type 0} → Replay → List Line → RunState → Result Replayed E → Type 0
+ReplaysLines r script left (Ok told) =
+    (left.script.lines ≡ script) × IsRun r told.end (done_in left) × (told.report.items ≡ report_of r (done_in left))
+ReplaysLines r script left (Err lacks) = DoneLawfully r left.script.trace
+
+-- What a replay of this text leaves: the world's lines are the text's, and its trace and the notes are those of the run that is told
+abbrev pub Replays : Replay → List ℕ → RunState → Result Replayed (Or ScriptFault) → Type 0
+Replays r text left (Ok told) =
+    (lines text ≡ Ok left.script.lines) × IsRun r told.end (done_in left) × (told.report.items ≡ report_of r (done_in left))
+Replays r text left (Err (Fault fault)) = (lines text ≡ Err fault) × (left.script.trace ≡ [])
+Replays r text left (Err NoMemory) = DoneLawfully r left.script.trace
+
+-- What a replay tells to audits that held the first and hold the second behind it: all its notes; where a row is no line, none
+abbrev pub TellsNotes : List (Option (List Note)) → List (Option (List Note)) → List Note → Result Replayed (Or ScriptFault) → Type 0
+TellsNotes before after notes (Ok told) = Tells before after notes
+TellsNotes before after notes (Err (Fault fault)) = after ≡ before
+TellsNotes before after notes (Err NoMemory) = ⊤

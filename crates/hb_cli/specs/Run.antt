@@ -6,7 +6,7 @@ use Rattle.std.specs.Option.{option_map}
 use Rattle.hb_base.specs.Count.{one_more}
 use Rattle.hb_held.specs.Rows.{rows}
 use Rattle.hb_lines.specs.Row.{row_text as held_text}
-use Rattle.hb_replay.specs.Run.{Done, report_of}
+use Rattle.hb_cli.specs.Replaying.{Done, report_of}
 use Rattle.hb_script.specs.declared.fault.ScriptFault.{ScriptFault}
 use Rattle.hb_script.specs.declared.fault.ScriptWhy.{ScriptWhy}
 use Rattle.hb_script.specs.declared.fault.ScriptWhy.TheVariants as row
@@ -14,7 +14,6 @@ use Rattle.hb_script.specs.Script.{lines}
 use Rattle.hb_wire.specs.Message.{and_then}
 use Rattle.hb_words.specs.Fault.{fault_line}
 use Rattle.hb_words.specs.Command.{Command, checks, shows, replays, serves, makes}
-use Rattle.hb_words.specs.Words.{words_of}
 use Rattle.hb_words.specs.declared.fault.WordsFault.{WordsFault}
 use Rattle.hb_cli.specs.declared.input.InputWhy.{InputWhy}
 use Rattle.hb_cli.specs.declared.input.InputWhy.TheVariants as why
@@ -66,21 +65,13 @@ printed_by (makes m) done input = Ok []
 unfoldable pub answer_after : Command → Done → List ℕ → Result (List ℕ) Stop
 answer_after c done input = if nat_lt longest_input (length input) then Err TooLong else or_refused (printed_by c done input)
 
--- the outcome of what is asked by this input, and of the done that was left
+-- The outcome of what is asked by this input, and of the done that was left: the words are looked at first, then the whole input.
 abbrev pub outcome_by : Result Command WordsFault → Done → List ℕ → Result (List ℕ) Stop
 outcome_by asked done input = and_then (or_words asked) (λ c. answer_after c done input)
-
--- The outcome of these words and this input, and of the done that was left: the words are looked at first, then the whole input.
-abbrev pub outcome_of : List (List ℕ) → Done → List ℕ → Result (List ℕ) Stop
-outcome_of words done input = outcome_by (words_of words) done input
 
 -- it is the outcome of what is asked, of the done and of some input
 abbrev pub IsOutcomeBy : Result Command WordsFault → Done → Result (List ℕ) Stop → Type 0
 IsOutcomeBy asked done o = (input : List ℕ) × (outcome_by asked done input ≡ o)
-
--- it is the outcome of the words, the done and some input
-abbrev pub IsAnOutcome : List (List ℕ) → Done → Result (List ℕ) Stop → Type 0
-IsAnOutcome words done o = IsOutcomeBy (words_of words) done o
 
 -- words that ask for `serve` or `make` read no input; of all others the outcome is by the input
 abbrev pub takes_input : Result Command WordsFault → Bool
@@ -174,6 +165,3 @@ line_at status asked done left =
     else (if status == 6 then Some (stop_line ReadFault)
     else (if status == 7 then Some write_fault_line
     else (if status == 9 then Some (stop_line NoMemory) else None)))))))
-
-abbrev pub told_line : ℕ → List (List ℕ) → Done → Option (List ℕ) → Option (List ℕ)
-told_line status words done left = line_at status (words_of words) done left

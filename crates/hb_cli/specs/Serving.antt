@@ -10,15 +10,15 @@ use Rattle.hb_turns.specs.Ends.{is_fault}
 use Rattle.hb_turns.specs.declared.served.Served.{Served}
 use Rattle.hb_words.specs.Command.{Serve}
 use Rattle.hb_world.specs.declared.entry.Entry.{Entry}
-use Rattle.hb_replay.specs.Asked.{words_of}
-use Rattle.hb_replay.specs.End.{ended_as}
-use Rattle.hb_replay.specs.Run.{RunsAs, done_with}
-use Rattle.hb_replay.specs.declared.end.ReplayEnd.{ReplayEnd}
-use Rattle.hb_replay.specs.declared.end.ReplayEnd.TheVariants as ends
+use Rattle.hb_cli.specs.Asked.{words_of}
+use Rattle.hb_cli.specs.Ended.{ended_as}
+use Rattle.hb_cli.specs.Replaying.{RunsAs, done_with}
+use Rattle.hb_cli.specs.declared.ended.ReplayEnd.{ReplayEnd}
+use Rattle.hb_cli.specs.declared.ended.ReplayEnd.TheVariants as ends
 use Rattle.hb_cli.specs.declared.stop.Stop.TheVariants.{NoMemory}
-use Rattle.hb_cli.specs.Ending.{Use, Untouched, WritesAll, WritesPart, Tells}
-use Rattle.hb_cli.specs.Replaying.{EndsRun}
+use Rattle.hb_cli.specs.Leaving.{EndsRun}
 use Rattle.hb_cli.specs.Run.{stop_line, write_fault_line, world_fault_line, turns_spent_line}
+use Rattle.hb_cli.specs.Use.{Use, Untouched, WritesAll, WritesPart, Tells}
 
 -- what a run does with a world and with audits: the trace that the world tells, and its count of listens and waits that failed, before
 -- and after; and what the audits held and those hold that are left
@@ -32,6 +32,10 @@ pub record WorldUse : Type 0 where
 abbrev pub world_use : Option (List Entry) → Option (List Entry) → ℕ → ℕ → Heard → WorldUse
 world_use trace trace_after faults faults_after heard =
     record { trace = trace; trace_after = trace_after; faults = faults; faults_after = faults_after; heard = heard }
+
+-- the same, by what tells the trace and what tells the count
+abbrev pub world_used : {W : Type 0} → (W → Option (List Entry)) → (W → ℕ) → W → W → Heard → WorldUse
+world_used trace faults before after heard = world_use (trace before) (trace after) (faults before) (faults after) heard
 
 -- no call was made, and nothing was told
 abbrev pub Unused : WorldUse → Type 0

@@ -5,17 +5,18 @@ ghost use Rattle.std.specs.List.{flat_map};
 ghost use Rattle.hb_held.specs.Rows.{rows};
 ghost use Rattle.hb_lines.specs.Row.{row_text};
 ghost use Rattle.hb_cli.specs.Answer.{answer_text, IsMade};
-ghost use Rattle.hb_cli.specs.Ending.{Prints, use_of};
-ghost use Rattle.hb_cli.specs.Replaying.{EndsRun, EndsAnswer};
+ghost use Rattle.hb_cli.specs.Leaving.{EndsRun, end_of};
 ghost use Rattle.hb_cli.specs.Run.{answer_line, shown};
+ghost use Rattle.hb_cli.specs.Use.{Prints, used};
 ghost use Rattle.hb_cli.specs.declared.answer.Printed.TheVariants as printing;
 
+use crate::ended::ReplayEnd;
 use crate::input::Left;
+use crate::replaying::Replayed;
 use crate::telling::tell;
 use hb_base::{Sink, put_all};
 use hb_held::Held;
 use hb_lines::row_line;
-use hb_replay::{ReplayEnd, Replayed};
 use hb_table::Judged;
 use std::alloc::Global;
 
@@ -48,7 +49,7 @@ fn line_of(judged: Judged) -> &'static [u8]
 
 /// Prints a text that is there whole.
 pub fn print_text<K: Sink>(out: &mut K, text: &[u8]) -> Printed
-    ensures printed { Prints (use_of (K.written out.old) (K.written out.new) (K.faults out.old) (K.faults out.new)) text.now result }
+    ensures printed { Prints (used K.written K.faults out.old out.new) text.now result }
     ensures later { K.faults out.old ≤ K.faults out.new }
     ensures made { result ≢ printing.NoMemory }
 {
@@ -60,8 +61,7 @@ pub fn print_text<K: Sink>(out: &mut K, text: &[u8]) -> Printed
 
 /// Prints a line of each resource held, by kind and name.
 fn print_rows<K: Sink>(alloc: Global, held: &Held, out: &mut K) -> Printed
-    ensures printed { Prints (use_of (K.written out.old) (K.written out.new) (K.faults out.old) (K.faults out.new))
-        (flat_map row_text (rows held.now)) result }
+    ensures printed { Prints (used K.written K.faults out.old out.new) (flat_map row_text (rows held.now)) result }
     ensures later { K.faults out.old ≤ K.faults out.new }
 {
     let mut rows = held.rows();
@@ -79,8 +79,7 @@ fn print_rows<K: Sink>(alloc: Global, held: &Held, out: &mut K) -> Printed
 
 /// Prints the lines of the responses, and then those of the resources held.
 fn print_left<K: Sink>(alloc: Global, left: &Left, out: &mut K) -> Printed
-    ensures printed { Prints (use_of (K.written out.old) (K.written out.new) (K.faults out.old) (K.faults out.new))
-        (shown left.now) result }
+    ensures printed { Prints (used K.written K.faults out.old out.new) (shown left.now) result }
     ensures later { K.faults out.old ≤ K.faults out.new }
 {
     match print_text(out, left.told.as_slice()) {
@@ -91,8 +90,7 @@ fn print_left<K: Sink>(alloc: Global, left: &Left, out: &mut K) -> Printed
 
 /// Prints an answer.
 pub fn print<K: Sink>(alloc: Global, answer: &Answer, out: &mut K) -> Printed
-    ensures printed { Prints (use_of (K.written out.old) (K.written out.new) (K.faults out.old) (K.faults out.new))
-        (answer_text answer.now) result }
+    ensures printed { Prints (used K.written K.faults out.old out.new) (answer_text answer.now) result }
     ensures later { K.faults out.old ≤ K.faults out.new }
     ensures made { IsMade answer.now → result ≢ printing.NoMemory }
 {
@@ -105,7 +103,7 @@ pub fn print<K: Sink>(alloc: Global, answer: &Answer, out: &mut K) -> Printed
 
 /// Tells how a run of the proxy ended, where no stop ended it. Gives the status.
 pub fn end_run<E: Sink>(end: ReplayEnd, err: &mut E) -> u8
-    ensures ends { EndsRun end (use_of (E.written err.old) (E.written err.new) (E.faults err.old) (E.faults err.new)) result }
+    ensures ends { EndsRun end (used E.written E.faults err.old err.new) result }
     ensures later { E.faults err.old ≤ E.faults err.new }
 {
     match end {
@@ -117,7 +115,7 @@ pub fn end_run<E: Sink>(end: ReplayEnd, err: &mut E) -> u8
 
 /// Tells how a replay ended, where no stop ended it. Gives the status behind an answer that is printed whole.
 pub fn end<E: Sink>(answer: &Answer, err: &mut E) -> u8
-    ensures ends { EndsAnswer answer.now (use_of (E.written err.old) (E.written err.new) (E.faults err.old) (E.faults err.new)) result }
+    ensures ends { EndsRun (end_of answer.now) (used E.written E.faults err.old err.new) result }
     ensures later { E.faults err.old ≤ E.faults err.new }
 {
     match answer {

@@ -7,7 +7,7 @@ ghost use Rattle.hb_cli.specs.Input.{none_left, with_response, with_message, fro
 ghost use Rattle.hb_cli.specs.Taking.{TakesFront, numbered};
 
 use hb_base::{NoMemory, Or, Text};
-use hb_disco::{Response, read_response};
+use hb_disco::{LONGEST_MESSAGE, Response, read_response};
 use hb_grpc::{GrpcFault, first_length};
 use hb_held::{Held, OwnDoors};
 use hb_lines::outcome_line;
@@ -35,9 +35,6 @@ pub enum Refused {
     Line(ScriptFault),
 }
 
-/// The longest message.
-const LONGEST: u32 = 67_108_864;
-
 /// What responses leave: the resources held, and the lines that tell what each response did.
 #[derive(Drop)]
 pub struct Left {
@@ -62,7 +59,7 @@ fn next_message(bytes: &[u8]) -> Result<(usize, &[u8]), InputWhy>
     ensures told { MatchResult result (λ front. front_of bytes.now ≡ Ok (front.0, front.1.now)) (λ why. front_of bytes.now ≡ Err why) }
     ensures within { IfOk result (λ front. front.0 ≤ length bytes.now) }
 {
-    match first_length(bytes, LONGEST) {
+    match first_length(bytes, LONGEST_MESSAGE) {
         Ok(Some(size)) => {
             let (_, rest) = bytes.split_at(5);
             Ok((5 + size, &rest[..size]))

@@ -1,8 +1,19 @@
 //! Ends of a command that aren't what it does, and one that is. Each is the contract of a function that does nothing.
 
+ghost use Rattle.hb_cli.specs.Refused.{NoOtherStatus, DonePrintsNothing, RefusedPrints, UnreadUncounted, NoWordsAreRefused};
 ghost use Rattle.hb_cli.specs.Refused.{NeverEndsWith, PrintsNothing, HidesFault, InventsFault, PrintsWanting, MayLack};
 ghost use Rattle.hb_cli.specs.Refused.{MakeNeverEndsWith, TextNeverEndsWith, MakesNothing, MakesAnother, RunsUnasked};
 ghost use Rattle.hb_cli.specs.Refused.{RunsNothing, RunsUntold, TextMayBePrinted, MakeMayLack};
+
+/// No run ends with 1. One that is done printed what `check` answers; one whose input is refused printed nothing; and where a read failed
+/// that is counted. A run without words may end with 2, and print and read nothing.
+pub fn ends_of_run_are_told_apart()
+    ensures status { NoOtherStatus }
+    ensures nothing { DonePrintsNothing }
+    ensures refused { RefusedPrints }
+    ensures uncounted { UnreadUncounted }
+    ensures words { NoWordsAreRefused }
+{}
 
 /// `serve` reads no input, so it never ends with 3 or 6, nor with 2 once its words were accepted. At a stop its totals were printed; its
 /// status tells exactly whether a listen or a wait failed; and where memory lacked nothing was printed. Memory may lack for it.

@@ -2,13 +2,16 @@
 #![tactic(auto)]
 
 mod answer;
+mod asked;
 mod command;
+mod ended;
 mod input;
-mod laws;
+pub mod laws;
 mod making;
+mod replaying;
+pub mod run_laws;
 mod serving;
 mod stop;
 mod telling;
 
 pub use command::run;
-pub use laws::ends_of_serve_are_told_apart;

@@ -3,21 +3,21 @@
 ghost use Rattle.std.specs.Prelude.{◌≡◌, ◌≤◌, [], IfOk};
 ghost use Rattle.hb_audit.specs.HeldBy.{held_by};
 ghost use Rattle.hb_make.specs.Made.{made};
-ghost use Rattle.hb_replay.specs.Run.{run_state};
+ghost use Rattle.hb_cli.specs.Replaying.{run_state};
 ghost use Rattle.hb_script.specs.Spelling.{lines_text};
 ghost use Rattle.hb_serve.specs.Served.{heard_of};
 ghost use Rattle.hb_words.specs.AskedRun.{replay_seen};
 ghost use Rattle.hb_words.specs.Make.{most_tunnels};
-ghost use Rattle.hb_cli.specs.Ending.{use_of};
 ghost use Rattle.hb_cli.specs.Making.{made_run, RunsAt, TextAt, MakesAt};
+ghost use Rattle.hb_cli.specs.Use.{used};
 
 use crate::answer::{Printed, print_text};
+use crate::replaying::replay_lines;
 use crate::serving::print_total;
 use crate::telling::tell;
 use hb_audit::{Audit, Audits};
 use hb_base::{Ip, NoMemory, Sink, Target};
 use hb_make::{lines_made, put_made};
-use hb_replay::replay_lines;
 use hb_turns::Keep;
 use hb_words::{Make, Replay, RunWords};
 use hb_world::ScriptWorld;
@@ -64,8 +64,7 @@ fn text_of(alloc: Global, count: u32) -> Result<Vec<u8>, NoMemory>
 /// Prints the text of a script. Gives the status.
 fn print_made<K: Sink, E: Sink>(alloc: Global, make: &Make, out: &mut K, err: &mut E) -> u8
     requires { make.now.count ≤ most_tunnels }
-    ensures text { TextAt make.now (use_of (K.written out.old) (K.written out.new) (K.faults out.old) (K.faults out.new))
-        (use_of (E.written err.old) (E.written err.new) (E.faults err.old) (E.faults err.new)) result }
+    ensures text { TextAt make.now (used K.written K.faults out.old out.new) (used E.written E.faults err.old err.new) result }
     ensures later_out { K.faults out.old ≤ K.faults out.new }
     ensures later_err { E.faults err.old ≤ E.faults err.new }
 {
@@ -93,8 +92,7 @@ fn run_made<K: Sink, E: Sink, A: Audit>(
     requires lines { script.old.lines ≡ [] }
     requires trace { script.old.trace ≡ [] }
     ensures runs { RunsAt make.now (heard_of (held_by A.notes audits.old) (held_by A.notes audits.new)) (run_state script.new keep.new)
-        (use_of (K.written out.old) (K.written out.new) (K.faults out.old) (K.faults out.new))
-        (use_of (E.written err.old) (E.written err.new) (E.faults err.old) (E.faults err.new)) result }
+        (used K.written K.faults out.old out.new) (used E.written E.faults err.old err.new) result }
     ensures later_out { K.faults out.old ≤ K.faults out.new }
     ensures later_err { E.faults err.old ≤ E.faults err.new }
 {
@@ -123,8 +121,7 @@ pub fn make_script<K: Sink, E: Sink, A: Audit>(
     requires trace { script.old.trace ≡ [] }
     ensures makes { MakesAt make.now (heard_of (held_by A.notes audits.old) (held_by A.notes audits.new))
         (run_state script.old keep.old) (run_state script.new keep.new)
-        (use_of (K.written out.old) (K.written out.new) (K.faults out.old) (K.faults out.new))
-        (use_of (E.written err.old) (E.written err.new) (E.faults err.old) (E.faults err.new)) result }
+        (used K.written K.faults out.old out.new) (used E.written E.faults err.old err.new) result }
     ensures later_out { K.faults out.old ≤ K.faults out.new }
     ensures later_err { E.faults err.old ≤ E.faults err.new }
 {

@@ -5,15 +5,17 @@ ghost use Rattle.hb_audit.specs.HeldBy.{held_by};
 ghost use Rattle.hb_report.specs.Total.{total_line};
 ghost use Rattle.hb_serve.specs.Served.{heard_of};
 ghost use Rattle.hb_words.specs.AskedRun.{serve_seen};
-ghost use Rattle.hb_replay.specs.End.{ended_as};
-ghost use Rattle.hb_cli.specs.Ending.{use_of};
-ghost use Rattle.hb_cli.specs.Serving.{Worked, Unused, PrintsRun, ServesAt, world_use};
+ghost use Rattle.hb_cli.specs.Ended.{ended_as};
+ghost use Rattle.hb_cli.specs.Serving.{Worked, Unused, PrintsRun, ServesAt, world_used};
+ghost use Rattle.hb_cli.specs.Use.{used};
 
 use crate::answer::{Printed, end_run, print_text};
+use crate::asked::serve_words;
+use crate::ended::ended_as;
+use crate::replaying::Replayed;
 use crate::telling::tell;
 use hb_audit::{Audit, Audits};
 use hb_base::{NoMemory, Sink};
-use hb_replay::{Replayed, ended_as, serve_words};
 use hb_report::put_total;
 use hb_serve::serve;
 use hb_turns::{Keep, Served};
@@ -31,11 +33,9 @@ fn serve_over<A: Audit, W: World>(
     world: &mut W,
 ) -> Result<Served, NoMemory>
     ensures worked { IfOk result (λ told. Worked (serve_seen words.now)
-        (world_use (W.trace world.old) (W.trace world.new) (W.faults world.old) (W.faults world.new)
-        (heard_of (held_by A.notes audits.old) (held_by A.notes audits.new))) told) }
+        (world_used W.trace W.faults world.old world.new (heard_of (held_by A.notes audits.old) (held_by A.notes audits.new))) told) }
     ensures unused { IsErr result
-        → Unused (world_use (W.trace world.old) (W.trace world.new) (W.faults world.old) (W.faults world.new)
-        (heard_of (held_by A.notes audits.old) (held_by A.notes audits.new))) }
+        → Unused (world_used W.trace W.faults world.old world.new (heard_of (held_by A.notes audits.old) (held_by A.notes audits.new))) }
     ensures follows { W.script world.new ≡ W.script world.old }
 {
     let asked = serve_words(alloc, &words.run, words.ticks)?;
@@ -60,8 +60,7 @@ fn told_of(alloc: Global, served: &Served) -> Result<Replayed, NoMemory>
 /// Prints the total line of a run, and tells how it ended. Gives the status.
 pub fn print_total<K: Sink, E: Sink>(told: &Replayed, out: &mut K, err: &mut E) -> u8
     ensures prints { PrintsRun told.now.end told.now.report.items
-        (use_of (K.written out.old) (K.written out.new) (K.faults out.old) (K.faults out.new))
-        (use_of (E.written err.old) (E.written err.new) (E.faults err.old) (E.faults err.new)) result }
+        (used K.written K.faults out.old out.new) (used E.written E.faults err.old err.new) result }
     ensures later_out { K.faults out.old ≤ K.faults out.new }
     ensures later_err { E.faults err.old ≤ E.faults err.new }
 {
@@ -81,10 +80,8 @@ pub fn serve_world<K: Sink, E: Sink, A: Audit, W: World>(
     world: &mut W,
 ) -> u8
     ensures serves { ServesAt (serve_seen words.now)
-        (world_use (W.trace world.old) (W.trace world.new) (W.faults world.old) (W.faults world.new)
-        (heard_of (held_by A.notes audits.old) (held_by A.notes audits.new)))
-        (use_of (K.written out.old) (K.written out.new) (K.faults out.old) (K.faults out.new))
-        (use_of (E.written err.old) (E.written err.new) (E.faults err.old) (E.faults err.new)) result }
+        (world_used W.trace W.faults world.old world.new (heard_of (held_by A.notes audits.old) (held_by A.notes audits.new)))
+        (used K.written K.faults out.old out.new) (used E.written E.faults err.old err.new) result }
     ensures follows { W.script world.new ≡ W.script world.old }
     ensures later_out { K.faults out.old ≤ K.faults out.new }
     ensures later_err { E.faults err.old ≤ E.faults err.new }

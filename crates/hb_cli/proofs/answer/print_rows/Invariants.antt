@@ -2,7 +2,7 @@ use Rattle.std.proofs.Common.{◌≡◌, ◌≤◌, ℕ, List, ◌++◌}
 use Rattle.std.specs.List.{flat_map}
 use Rattle.hb_held.specs.Rows.{rows, rows_left}
 use Rattle.hb_lines.specs.Row.{row_text}
-use Rattle.hb_cli.specs.Ending.{WritesAll, use_of}
+use Rattle.hb_cli.specs.Use.{WritesAll, use_of}
 use Rattle.hb_cli.proofs.answer.print_rows.Given as goal
 
 -- the lines so far were printed whole, and with those of the rows to come they are all

@@ -1,6 +1,6 @@
 use Rattle.std.proofs.Common.{refl, inl}
 use Rattle.std.specs.String.{string_bytes}
-use Rattle.hb_cli.proofs.Endings.{made}
+use Rattle.hb_cli.proofs.Concluding.{made}
 use Rattle.hb_cli.proofs.command.give_up.Goals as goal
 
 pub returns-in-Words-clause-line : goal.returns-in-Words-clause-line

@@ -1,25 +1,37 @@
-use Rattle.std.proofs.Common.{refl, Ok}
-use Rattle.hb_words.specs.Asked.{command_of}
-use Rattle.hb_cli.proofs.Makes.{same_make}
-use Rattle.hb_cli.proofs.Written.{asks_input}
+use Rattle.std.proofs.Common.{◌≡◌, refl, arith}
+use Rattle.hb_words.specs.AskedRun.{serve_seen}
+use Rattle.hb_cli.proofs.Concluding.{words_refused, words_unread}
+use Rattle.hb_cli.proofs.Makes.{made}
+use Rattle.hb_cli.proofs.Serves.{served}
 use Rattle.hb_cli.proofs.command.obey.Goals as goal
+
+pub returns-in-Ok-Serve-clause-ends : goal.returns-in-Ok-Serve-clause-ends
+returns-in-Ok-Serve-clause-ends g c =
+    served (serve_seen c.in-Ok-Serve.asked) _ (rw c.in-Ok-Serve.field-0-is at c.in-Ok-Serve.ensures.told) c.serve_world.result (refl, refl)
+    refl (omega arith, c.serve_world.ensures.later_out, c.serve_world.ensures.later_err) c.serve_world.ensures.serves
+
+pub returns-in-Ok-Make-clause-ends : goal.returns-in-Ok-Make-clause-ends
+returns-in-Ok-Make-clause-ends g c =
+    made c.in-Ok-Make.asked _ (rw c.in-Ok-Make.field-0-is at c.in-Ok-Make.ensures.told) c.make_script.result (refl, refl)
+    (omega arith, c.make_script.ensures.later_out, c.make_script.ensures.later_err) c.make_script.ensures.makes
 
 pub returns-in-Ok : goal.returns-in-Ok
 returns-in-Ok g c =
     rw c.in-Ok.ensures.told (record {
-      ending = λ takes. c.conclude.ensures.ending;
-      leaves = c.conclude.ensures.leaves;
-      heard = c.conclude.ensures.heard;
-      serves = λ s is. absurd (asks_input _ _ c.conclude.ensures.by_input refl is);
-      makes = λ m is. absurd (asks_input _ _ c.conclude.ensures.by_input refl is);
-      unread = λ none. absurd (asks_input (Ok (command_of c.in-Ok.command)) _ c.conclude.ensures.by_input none refl);
-      unused = λ never. refl;
-      follows = refl;
-      later_input = c.conclude.ensures.later_input;
-      later_out = c.conclude.ensures.later_out;
-      later_err = c.conclude.ensures.later_err;
+      ends = c.conclude.ensures.ends _ refl;
+      others = record {
+        unread = λ none. let takes = c.conclude.ensures.by_input in absurd cc;
+        unused = λ never. refl;
+        follows = refl;
+      };
     })
 
-pub returns-in-Ok-Make-clause-makes : goal.returns-in-Ok-Make-clause-makes
-returns-in-Ok-Make-clause-makes g c = λ m is.
-    rw (same_make _ m c.in-Ok-Make.asked is (rw c.in-Ok-Make.field-0-is at c.in-Ok-Make.ensures.told)) c.make_script.ensures.makes
+pub returns-in-Err-Fault-clause-ends : goal.returns-in-Err-Fault-clause-ends
+returns-in-Err-Fault-clause-ends g c =
+    words_refused _ c.in-Err-Fault.fault c.give_up.result (rw c.in-Err-Fault.field-0-is at c.in-Err-Fault.ensures.told) (refl, refl)
+    (refl, refl) refl c.requires.trace (refl, refl, refl) (omega arith, omega arith, c.give_up.ensures.later) c.give_up.ensures.line
+
+pub returns-in-Err-NoMemory-clause-ends : goal.returns-in-Err-NoMemory-clause-ends
+returns-in-Err-NoMemory-clause-ends g c =
+    words_unread _ c.give_up-in-Err-NoMemory.result refl (refl, refl) refl c.requires.trace (refl, refl, refl)
+    (omega arith, omega arith, c.give_up-in-Err-NoMemory.ensures.later) c.give_up-in-Err-NoMemory.ensures.line

@@ -3,14 +3,14 @@ use Rattle.std.specs.Bool.{MatchBool}
 use Rattle.std.specs.Io.KnownBytes.{Appends}
 use Rattle.hb_make.specs.Made.{made}
 use Rattle.hb_report.specs.Total.{total_line}
-use Rattle.hb_replay.specs.Run.{RunState, done_in}
+use Rattle.hb_cli.specs.Replaying.{RunState, done_in}
 use Rattle.hb_serve.specs.Served.{Heard}
 use Rattle.hb_turns.specs.Totals.{totals_of}
 use Rattle.hb_turns.specs.declared.served.Totals.{Totals}
 use Rattle.hb_words.specs.declared.asks.Make.{Make}
-use Rattle.hb_cli.specs.Ending.{Use}
 use Rattle.hb_cli.specs.Hearing.{HearsNone}
 use Rattle.hb_cli.specs.Making.{made_text, made_total, RunsAt, TextAt, MakesAt}
+use Rattle.hb_cli.specs.Use.{Use}
 use Rattle.hb_cli.proofs.laws.ends_of_make_are_told_apart.Goals as goal
 
 -- what `make` does by whether it runs

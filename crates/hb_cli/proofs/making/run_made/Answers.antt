@@ -1,6 +1,6 @@
 use Rattle.hb_audit.specs.HeldBy.{held_by}
 use Rattle.hb_serve.specs.Served.{heard_of}
-use Rattle.hb_replay.specs.Run.{run_state}
+use Rattle.hb_cli.specs.Replaying.{run_state}
 use Rattle.hb_words.specs.AskedRun.{replay_seen}
 use Rattle.hb_cli.proofs.Makes.{run_printed}
 use Rattle.hb_cli.proofs.making.run_made.Goals as goal
