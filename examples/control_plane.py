@@ -4,10 +4,10 @@
 usage: examples/control_plane.py [HOST:]PORT FILE
 
 It speaks Envoy's delta discovery over gRPC without TLS, with Istio's two types, as docs/FORMATS.md has them under Messages. FILE is YAML,
-as examples/mesh.yaml: the lists `workloads`, `services` and `policies`, whose members have the names of the fields there, but for waypoints
-and the services of a workload. An address is written as text, a prefix as ADDRESS/LENGTH, a choice by its name. The file is looked at once
-a second: save it, and each node is sent what changed. A file that can't be read changes nothing. A line is printed for each response and
-for each that a node refused.
+as examples/mesh.yaml: the lists `workloads`, `services` and `policies`, whose members have the names of the fields there, but for
+waypoints. An address is written as text, a prefix as ADDRESS/LENGTH, a choice by its name; the services of a workload as a map, which has
+of each NAMESPACE/HOSTNAME a list of ports. The file is looked at once a second: save it, and each node is sent what changed. A file that
+can't be read changes nothing. A line is printed for each response and for each that a node refused.
 
 Needs Debian's python3-grpcio and python3-yaml: run it with /usr/bin/python3.
 """
@@ -78,6 +78,13 @@ def lists(first, names, kind):
 
 NETWORK_ADDRESS = {"network": (1, text), "address": (2, address)}
 PORT = {"service_port": (1, number), "target_port": (2, number)}
+
+
+def port_lists(field, services):
+    """A map from services' names: key 1, and as value 2 a message of ports 1."""
+    return b"".join(span(field, span(1, name) + span(2, many(message(PORT))(1, ports))) for name, ports in services.items())
+
+
 WORKLOAD = {
     "name": (1, text),
     "namespace": (2, text),
@@ -90,6 +97,7 @@ WORKLOAD = {
     "authorization_policies": (16, many(text)),
     "status": (17, named("HEALTHY", "UNHEALTHY")),
     "uid": (20, text),
+    "services": (22, port_lists),
 }
 ENDPOINT = {
     "name": (1, text),

@@ -28,7 +28,7 @@ def bad_headers_before_a_connection(room):
         peer = room.peer(front=front)
         until(f"{what}: it is closed", lambda: peer.over or peer.step(0.01))
     for cut in (0, 12, 20, len(good) - 1):
-        peer = room.add(socket.create_connection((HERE, room.proxy.port)))
+        peer = room.add(socket.create_connection((HERE, room.proxy.doors["inbound"])))
         peer.sendall(good[:cut])
         peer.settimeout(0.2)
         try:
@@ -86,7 +86,7 @@ def floods_that_read_nothing(room):
     room.start()
     up, other = room.upstream(echo), room.peer()
     before = room.proxy.memory()
-    it = room.add(socket.create_connection((HERE, room.proxy.port)))
+    it = room.add(socket.create_connection((HERE, room.proxy.doors["inbound"])))
     it.sendall(header((HERE, 1), (HERE, 15008), CALLER) + PREFACE + SETTINGS)
     it.settimeout(1)
     try:

@@ -8,7 +8,7 @@ from hyperframe.frame import SettingsFrame
 from peers import CALLER, HERE, Fault, header, wanted
 
 CASES = {}
-NO_ERROR, PROTOCOL_ERROR, REFUSED_STREAM, CANCEL, CONNECT_ERROR = 0, 1, 7, 8, 10
+NO_ERROR, PROTOCOL_ERROR, FRAME_SIZE_ERROR, REFUSED_STREAM, CANCEL, CONNECT_ERROR = 0, 1, 6, 7, 8, 10
 PREFACE = b"PRI * HTTP/2.0\r\n\r\nSM\r\n\r\n"
 SETTINGS = SettingsFrame().serialize()
 
@@ -54,7 +54,7 @@ def full_server(room):
 
 def frames_of(room, data, seconds=5):
     """What the proxy answers to raw bytes behind its header until it closes or is silent: type, flags, stream and payload of each frame."""
-    it = room.add(socket.create_connection((HERE, room.proxy.port)))
+    it = room.add(socket.create_connection((HERE, room.proxy.doors["inbound"])))
     it.sendall(header((HERE, 1), (HERE, 15008), CALLER) + data)
     it.settimeout(seconds)
     came, ended = b"", False
@@ -74,10 +74,10 @@ def frames_of(room, data, seconds=5):
     return frames, ended
 
 
-def calm(room, seconds=1.0):
+def calm(proxy, seconds=1.0):
     """While nothing comes it takes next to no processor time."""
-    before = room.proxy.cpu()
+    before = proxy.cpu()
     time.sleep(seconds)
-    took = room.proxy.cpu() - before
+    took = proxy.cpu() - before
     if took > 0.1 * seconds:
         raise Fault(f"it took {took:.2f} s of processor time in {seconds} s in which nothing came")

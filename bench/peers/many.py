@@ -122,7 +122,7 @@ def few_descriptors(room):
         good += peers[-1].status.get(stream) == 200
     if not 12 <= good <= 20:
         raise Fault(f"{good} tunnels of 40 descriptors")
-    calm(room)
+    calm(room.proxy)
     for peer in peers:
         peer.close()
     until("the door goes on", lambda: tries(room, up))
@@ -136,7 +136,7 @@ def links_that_come_and_go(room):
     before = room.proxy.descriptors()
     memory = None
     for at in range(3000):
-        peer = Peer(room.proxy.port)
+        peer = Peer(room.proxy.doors["inbound"])
         says(peer, peer.tunnel(up.port), b"hello")
         peer.close()
         up.taken.clear()

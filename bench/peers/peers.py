@@ -1,7 +1,7 @@
 """Real peers of hbone, for the cases beside this file: the program itself, its control plane, HTTP/2 clients and upstreams.
 
-A `Room` has all of them, and ends them. Clients are python3-h2 behind a PROXY header, without TLS; the control plane is that of examples,
-over python3-grpcio; upstreams are plain sockets.
+A `Room` has all of them, and ends them. Clients and gateways are python3-h2 behind a PROXY header, without TLS; the control plane is that
+of examples, over python3-grpcio; upstreams and captured connections are plain sockets.
 """
 
 import os
@@ -15,6 +15,7 @@ import sys
 import tempfile
 import threading
 import time
+from concurrent.futures import ThreadPoolExecutor
 
 import h2.config
 import h2.connection
@@ -25,10 +26,12 @@ TOP = pathlib.Path(__file__).resolve().parents[2]
 sys.path[:0] = [f"{TOP}/examples", f"{TOP}/bench/tables"]
 from control_plane import Plane, resources_of
 from front import header
-from spelling import AUTHORIZATION
+from spelling import ADDRESS, AUTHORIZATION
 
 CALLER, OTHER = "spiffe://cluster.local/ns/a/sa/c", "spiffe://cluster.local/ns/a/sa/d"
 HERE = "127.0.0.1"
+# Where captured connections come from: workloads of these identities; and a service that they mean
+SOURCE, OTHER_SOURCE, SERVICE = "127.0.0.21", "127.0.0.22", "127.0.0.41"
 
 
 class Fault(Exception):
@@ -53,9 +56,9 @@ def free_port():
         return it.getsockname()[1]
 
 
-def workload(at, name="w", node="n1", policies=("a/callers",)):
+def workload(at, name="w", node="n1", policies=("a/callers",), **more):
     place = {"uid": f"cluster/{name}", "name": name, "namespace": "a", "addresses": [at], "node": node}
-    return {**place, "authorization_policies": list(policies)}
+    return {**place, "authorization_policies": list(policies), **more}
 
 
 def policy(*principals, name="callers", action="ALLOW"):
@@ -68,26 +71,38 @@ def mesh(*principals, workloads=()):
     return resources_of({"workloads": [workload(HERE), *workloads], "policies": [policy(*principals)]})
 
 
+def far_mesh(*principals, target=8080, sources=(("c", SOURCE), ("d", OTHER_SOURCE)), **more):
+    """Of node n1 a workload at each of the sources; and of n2 one at this machine that takes HBONE and lets these principals in, which
+    serves port 80 of a service at a target."""
+    near = [workload(at, account, service_account=account) for account, at in sources]
+    serves = {"a/web.a": [{"service_port": 80, "target_port": target}]}
+    far = workload(HERE, node="n2", **{"tunnel_protocol": "HBONE", "services": serves, **more})
+    service = {"name": "web", "namespace": "a", "hostname": "web.a", "addresses": [{"address": SERVICE}], "ports": [{"service_port": 80}]}
+    return resources_of({"workloads": [*near, far], "services": [service], "policies": [policy(*principals)]})
+
+
 # The program
 
 
 class Proxy:
-    """`hbone serve`, with an inbound door of its own."""
+    """`hbone serve`; `doors` has the port of each door. Without one it has an inbound door at some port."""
 
-    def __init__(self, program, discovery, words=(), descriptors=None, inbound=None):
-        self.port = inbound or free_port()
+    def __init__(self, program, discovery, words=(), descriptors=None, node="n1", **doors):
+        self.doors = doors or {"inbound": free_port()}
         self.err = tempfile.TemporaryFile()
         self.out = tempfile.TemporaryFile()
-        names = ["--node", "n1", "--id", "peers", "--discovery", f"{HERE}:{discovery}", "--inbound", f"{HERE}:{self.port}"]
+        names = ["--node", node, "--id", "peers", "--discovery", f"{HERE}:{discovery}"]
+        for door, port in self.doors.items():
+            names += [f"--{door}", f"{HERE}:{port}"]
         limit = (lambda: resource.setrlimit(resource.RLIMIT_NOFILE, (descriptors, descriptors))) if descriptors else None
         self.process = subprocess.Popen([program, "serve", *names, *words], stdout=self.out, stderr=self.err, preexec_fn=limit)
 
     def listens(self):
         if self.process.poll() is not None:
             raise Fault(f"it ended with status {self.process.returncode}: {self.told()}")
+        open_ports = pathlib.Path("/proc/net/tcp").read_text()
         # (in hexadecimal digits, of a machine of little end)
-        at = f"0100007F:{self.port:04X} 00000000:0000 0A"
-        return at in pathlib.Path("/proc/net/tcp").read_text()
+        return all(f"0100007F:{port:04X} 00000000:0000 0A" in open_ports for port in self.doors.values())
 
     def lines(self, file):
         file.seek(0)
@@ -100,6 +115,18 @@ class Proxy:
     def told(self):
         """The lines on standard error."""
         return self.lines(self.err)
+
+    def notes(self):
+        """The lines of its notes, without the numbers of link and stream."""
+        words = [line.split(" ") for line in self.told()]
+        return [" ".join([it[0], *it[2:]]) for it in words if it[0] in ("verdict", "end")]
+
+    def noted(self, *notes):
+        """These are its notes, within some seconds."""
+        end = time.monotonic() + 5
+        while len(self.notes()) < len(notes) and time.monotonic() < end:
+            time.sleep(0.01)
+        wanted("the notes", self.notes(), list(notes))
 
     def cpu(self):
         """The processor seconds that it took, of its own and of the system's."""
@@ -124,7 +151,7 @@ class Proxy:
 
 
 class Taken:
-    """A connection that an upstream accepted: what came on it, and how it ended: None, `end` or `reset`."""
+    """A connection without frames, as an upstream accepts it: what came on it, and how it ended: None, `end` or `reset`."""
 
     def __init__(self, it):
         self.socket, self.came, self.ended = it, bytearray(), None
@@ -133,6 +160,8 @@ class Taken:
         """What came, as one read gives it; nothing at an end."""
         try:
             data = self.socket.recv(1 << 17)
+        except TimeoutError:
+            raise Fault(f"nothing came in {self.socket.gettimeout()} s behind {len(self.came)} bytes") from None
         except OSError:
             self.ended = "reset"
             return b""
@@ -180,8 +209,8 @@ def silent(_taken):
 class Upstream:
     """A server, each connection of which is handed to an act in a thread of its own."""
 
-    def __init__(self, act, backlog=4096):
-        self.server = socket.create_server((HERE, 0), backlog=backlog)
+    def __init__(self, act, backlog=4096, host=HERE):
+        self.server = socket.create_server((host, 0), backlog=backlog)
         self.port = self.server.getsockname()[1]
         self.act, self.taken = act, []
         threading.Thread(target=self.accept, daemon=True).start()
@@ -211,49 +240,52 @@ class Upstream:
             it.close()
 
 
-# Clients
+class Captured(Taken):
+    """A connection of a workload, as what captures it hands it to the outbound door."""
+
+    def __init__(self, port, destination, source=SOURCE, front=None):
+        super().__init__(socket.create_connection((HERE, port), 20))
+        self.socket.setsockopt(socket.IPPROTO_TCP, socket.TCP_NODELAY, 1)
+        self.send(header((source, 40000), destination) if front is None else front)
+
+    def gets(self, size):
+        """What came, once it is so many bytes or has ended."""
+        while len(self.came) < size and self.take():
+            pass
+        return bytes(self.came)
+
+    def rest(self):
+        """All that came, once it has ended."""
+        while self.take():
+            pass
+        return bytes(self.came)
+
+    def both(self, data):
+        """Sends all and ends, while it takes all that comes back."""
+        sender = threading.Thread(target=lambda: (self.send(data), self.finish()), daemon=True)
+        sender.start()
+        self.rest()
+        sender.join()
+        return bytes(self.came)
 
 
-class Peer:
-    """A client of the inbound door. What is to be sent waits in `todo` for its windows; what came stands under its stream."""
+# HTTP/2
 
-    def __init__(self, port, identity=CALLER, destination=HERE, piece=None, grants=True, front=None):
-        self.socket = socket.create_connection((HERE, port))
+
+class End:
+    """An end of a connection. What is to be sent waits in `todo` for its windows; what came stands under its stream."""
+
+    def __init__(self, it, client, piece=None, grants=True):
+        self.socket = it
         self.socket.setsockopt(socket.IPPROTO_TCP, socket.TCP_NODELAY, 1)
         self.socket.setblocking(False)
         # (python3-h2 4.1 asks for :scheme and :path, which RFC 9113 section 8.5 takes away)
-        self.conn = h2.connection.H2Connection(h2.config.H2Configuration(client_side=True, validate_outbound_headers=False))
+        loose = {"validate_outbound_headers": False} if client else {"validate_inbound_headers": False}
+        self.conn = h2.connection.H2Connection(h2.config.H2Configuration(client_side=client, **loose))
         self.piece, self.grants = piece, grants
         self.out, self.todo, self.ending = bytearray(), {}, set()
-        self.status, self.came, self.ended, self.reset = {}, {}, set(), {}
+        self.came, self.ended, self.reset = {}, set(), {}
         self.gone = self.over = None
-        self.out += header((HERE, 40000), (destination, 15008), identity) if front is None else front
-        self.conn.initiate_connection()
-
-    def connect(self, target, end=False):
-        """A stream that asks for a tunnel to a target."""
-        return self.request([(":method", "CONNECT"), (":authority", target)], end)
-
-    def request(self, headers, end=False):
-        stream = self.conn.get_next_available_stream_id()
-        self.conn.send_headers(stream, headers, end_stream=end)
-        self.came[stream] = bytearray()
-        return stream
-
-    def tunnel(self, port, host=HERE):
-        """A stream on which a tunnel is open."""
-        stream = self.connect(f"{host}:{port}")
-        self.pump(lambda: self.answered(stream), "an answer")
-        wanted("the answer", (self.status.get(stream), self.reset.get(stream)), (200, None))
-        return stream
-
-    def answered(self, stream):
-        return stream in self.status or stream in self.reset or self.over
-
-    def join(self):
-        """The proxy's SETTINGS came: it took the connection."""
-        self.pump(lambda: self.conn.remote_settings.max_concurrent_streams == 100, "SETTINGS of 100 streams")
-        return self
 
     def closed(self, stream):
         return stream in self.ended or stream in self.reset or self.over
@@ -303,14 +335,15 @@ class Peer:
         if not data:
             self.over = "end"
             return
+        self.got(data)
+
+    def got(self, data):
         for event in self.conn.receive_data(data):
             self.take(event)
 
     def take(self, event):
         stream = getattr(event, "stream_id", None)
-        if isinstance(event, h2.events.ResponseReceived):
-            self.status[stream] = int(dict(event.headers)[b":status"])
-        elif isinstance(event, h2.events.DataReceived):
+        if isinstance(event, h2.events.DataReceived):
             self.came[stream] += event.data
             if self.grants:
                 self.conn.acknowledge_received_data(event.flow_controlled_length, stream)
@@ -335,6 +368,7 @@ class Peer:
                 self.read()
 
     def pump(self, holds, what, seconds=10):
+        """Goes on until something holds."""
         end = time.monotonic() + seconds
         while not holds():
             left = end - time.monotonic()
@@ -361,6 +395,122 @@ class Peer:
         self.socket.close()
 
 
+class Peer(End):
+    """A client of the inbound door."""
+
+    def __init__(self, port, identity=CALLER, destination=HERE, front=None, **settings):
+        super().__init__(socket.create_connection((HERE, port)), True, **settings)
+        self.status = {}
+        self.out += header((HERE, 40000), (destination, 15008), identity) if front is None else front
+        self.conn.initiate_connection()
+
+    def connect(self, target, end=False):
+        """A stream that asks for a tunnel to a target."""
+        return self.request([(":method", "CONNECT"), (":authority", target)], end)
+
+    def request(self, headers, end=False):
+        stream = self.conn.get_next_available_stream_id()
+        self.conn.send_headers(stream, headers, end_stream=end)
+        self.came[stream] = bytearray()
+        return stream
+
+    def tunnel(self, port, host=HERE):
+        """A stream on which a tunnel is open."""
+        stream = self.connect(f"{host}:{port}")
+        self.pump(lambda: self.answered(stream), "an answer")
+        wanted("the answer", (self.status.get(stream), self.reset.get(stream)), (200, None))
+        return stream
+
+    def answered(self, stream):
+        return stream in self.status or stream in self.reset or self.over
+
+    def join(self):
+        """The proxy's SETTINGS came: it took the connection."""
+        self.pump(lambda: self.conn.remote_settings.max_concurrent_streams == 100, "SETTINGS of 100 streams")
+        return self
+
+    def take(self, event):
+        if isinstance(event, h2.events.ResponseReceived):
+            self.status[event.stream_id] = int(dict(event.headers)[b":status"])
+        else:
+            super().take(event)
+
+
+class Link(End):
+    """A gateway's end of a link: the header in front of it, once it is whole, and of each stream what it asks for."""
+
+    def __init__(self, it, echoes=False, **settings):
+        super().__init__(it, False, **settings)
+        self.front, self.begun, self.asked, self.echoes = None, b"", {}, echoes
+        self.conn.initiate_connection()
+
+    def got(self, data):
+        if self.front is None:
+            self.begun += data
+            size = 16 + int.from_bytes(self.begun[14:16], "big")
+            if len(self.begun) < size:
+                return
+            self.front, data = self.begun[:size], self.begun[size:]
+        super().got(data)
+
+    def take(self, event):
+        stream = getattr(event, "stream_id", None)
+        if isinstance(event, h2.events.RequestReceived):
+            self.asked[stream] = [(name.decode(), value.decode()) for name, value in event.headers]
+            self.came[stream] = bytearray()
+            if self.echoes:
+                self.answer(stream)
+            return
+        super().take(event)
+        if self.echoes and isinstance(event, h2.events.DataReceived):
+            self.send(stream, event.data)
+        if self.echoes and isinstance(event, h2.events.StreamEnded):
+            self.send(stream, b"", end=True)
+
+    def request(self, count=1):
+        """The stream of its request of this number."""
+        self.pump(lambda: len(self.asked) >= count, f"{count} requests at the gateway")
+        return list(self.asked)[count - 1]
+
+    def answer(self, stream, status=200, end=False):
+        self.conn.send_headers(stream, [(":status", str(status))], end_stream=end)
+
+    def meanwhile(self, act):
+        """What an act answers, while the link goes on."""
+        with ThreadPoolExecutor(1) as pool:
+            later = pool.submit(act)
+            while not (later.done() or self.over):
+                self.step(0.002)
+            return later.result()
+
+
+class Gateway:
+    """A server of HTTP/2 behind a header, whose connections are taken one by one."""
+
+    def __init__(self, port=0):
+        self.server, self.links = socket.create_server((HERE, port), backlog=128), []
+        self.server.settimeout(10)
+        self.port = self.server.getsockname()[1]
+
+    def link(self, **settings):
+        """The next connection."""
+        try:
+            it, _ = self.server.accept()
+        except TimeoutError:
+            raise Fault("no connection at the gateway within 10 s") from None
+        self.links.append(Link(it, **settings))
+        return self.links[-1]
+
+    def waits(self, seconds=0.2):
+        """Whether one more connection comes within a time."""
+        return bool(select.select([self.server], [], [], seconds)[0])
+
+    def close(self):
+        self.server.close()
+        for it in self.links:
+            it.close()
+
+
 class Room:
     """A control plane, the program, and whatever a case adds; all are ended with it."""
 
@@ -372,6 +522,18 @@ class Room:
         return self
 
     def __exit__(self, *_):
+        self.close()
+
+    def beside(self):
+        """A room more, for one more node; it is ended with this one."""
+        return self.add(Room(self.program))
+
+    def proxies(self):
+        """The programs of this room and of those beside it."""
+        others = [proxy for it in self.things if isinstance(it, Room) for proxy in it.proxies()]
+        return ([self.proxy] if self.proxy else []) + others
+
+    def close(self):
         for it in self.things:
             it.close()
         if self.proxy:
@@ -414,4 +576,11 @@ class Room:
         return self.add(Upstream(act, **settings))
 
     def peer(self, **settings):
-        return self.add(Peer(self.proxy.port, **settings))
+        return self.add(Peer(self.proxy.doors["inbound"], **settings))
+
+    def gateway(self, **settings):
+        return self.add(Gateway(**settings))
+
+    def captured(self, port, host=HERE, **settings):
+        """A captured connection that means an address."""
+        return self.add(Captured(self.proxy.doors["outbound"], (host, port), **settings))

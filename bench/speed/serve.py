@@ -164,6 +164,7 @@ class Haproxy(Proxy):
 
     def __init__(self, folder):
         self.port = free_port()
+        self.doors = {"frontend": self.port}
         file = pathlib.Path(folder, "haproxy.cfg")
         file.write_text(HAPROXY.format(port=self.port))
         self.process = subprocess.Popen(["haproxy", "-db", "-q", "-f", file])

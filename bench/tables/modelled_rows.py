@@ -12,12 +12,13 @@ import random
 import re
 import sys
 
+import model_rows
 import replay_rows
 import tunnel_model
 import tunnel_rows
 from spelling import ADDRESS, AUTHORIZATION, policy, response, text, workload
-from tunnel_rows import FRONT, OPENING, PEER, PREFACE, SET, WAKE, came, data, frame, headers, marked, on, padded, reset, room
-from tunnel_rows import single, window, woken
+from tunnel_rows import FRONT, OPENING, PEER, PREFACE, SET, WAKE, came, data, frame, headers, on, padded, reset, room, single, window
+from tunnel_rows import woken
 
 WORDS = [*replay_rows.USUAL_WORDS, "--inbound", "0.0.0.0:15008"]
 ACCEPT = tunnel_rows.ACCEPT + "\n"
@@ -639,21 +640,11 @@ BORROWED += [(tunnel_rows.PARTS, name) for name in tunnel_rows.PARTS]
 assert not {*PARTS} & {*replay_rows.PARTS, *tunnel_rows.PARTS}
 
 
-def repeated(text):
-    """Octets, and short rows, that stand many times as how often they do."""
-    for many in (r"((?:[^|<>]{1,60}\|){1,4}?)\1{9,}", r"((?:[0-9a-f]{2}){1,40}?)\1{9,}"):
-        text = re.sub(many, lambda found: f"<{len(found[0]) // len(found[1])}*{found[1]}>", text)
-    return text
+NAMED = model_rows.named(PARTS) + [(parts[name].replace('"', "'").replace("\n", "|"), name) for parts, name in BORROWED]
 
 
 def spelled(text):
-    text = repeated(marked(text))
-    named = [(marked(content), name) for name, content in PARTS.items()]
-    named += [(parts[name].replace('"', "'").replace("\n", "|"), name) for parts, name in BORROWED]
-    for content, name in sorted(named, reverse=True, key=lambda item: len(item[0])):
-        pieces = re.split("(<.*?>)", text)
-        text = "".join(piece if piece.startswith("<") else piece.replace(content, f"<{name}>") for piece in pieces)
-    return text
+    return model_rows.by_name(text, NAMED)
 
 
 def is_told(script, words):
@@ -683,11 +674,9 @@ def lines():
 def main():
     rows = lines()
     print(HEAD, end="")
-    replay_rows.table("MODELLED_PARTS", "The name and the text of each part.", [f"{name} {marked(text)}" for name, text in PARTS.items()])
-    replay_rows.table("CUT", "Runs that end the same however what comes on the first two links is cut.",
-                      [line_of(*each) for each in cut_runs()])
-    for number, part in enumerate(replay_rows.halves(rows, 24000), 1):
-        replay_rows.table(f"MODELLED_{number}", "Runs.", part)
+    model_rows.print_parts("MODELLED_PARTS", PARTS)
+    model_rows.print_cut("CUT", [line_of(*each) for each in cut_runs()])
+    model_rows.print_runs("MODELLED", rows)
 
 
 if __name__ == "__main__":

@@ -9,14 +9,15 @@ to end the same by every choice that the pages leave open.
 """
 import ipaddress
 
+import model_rows
 import modelled_rows as modelled
 import plain_rows as plain
 import replay_rows
 import routes
-import tunnel_model
 import tunnel_rows
+from model_rows import answer
 from modelled_rows import ALLOW, DENY, TICK, ask, policies, workloads
-from tunnel_rows import WAKE, came, data, marked, on, room, single, woken
+from tunnel_rows import WAKE, came, data, on, room, single, woken
 
 DOOR = "--outbound 0.0.0.0:15001"
 ALL = "--inbound 0.0.0.0:15008 --plain 0.0.0.0:15006 " + DOOR
@@ -102,8 +103,8 @@ def by_hand():
     row("a service, dialled at its endpoint, and an update that denies each peer", LIVE + woken(2, b"abc") + woken(1, DENY)
         + woken(2, b"de") + woken(3, b"f"), want=kept + link(2, "outbound", 33, 1, "stopped") + link(3, "direct 10.0.0.4:8080 of 2", 1, 5, "stopped")
         + "verdict 2/0 200 10.0.0.9 - 10.1.0.1:80\nend 2/0 stopped up 5 down 1\n" + total(3, 1, 0, 5, 1))
-    row("a gateway has no room", BASE + begun(b"abc", destination="10.0.0.6"), want=control + link(2, "outbound", 31, 0, "no room")
-        + "verdict 2/0 503 10.0.0.9 - 10.0.0.6:80\n" + total(2, 0))
+    row("a gateway that never opens", BASE + begun(b"abc", destination="10.0.0.6"), want=control + link(2, "outbound", 31, 0, "stopped")
+        + link(3, "gateway 10.0.0.6:15008", 0, 0, "stopped") + total(3, 0))
 
 
 def missing():
@@ -196,7 +197,7 @@ def gateways():
     row("the endpoint of the smaller name takes HBONE", BASE + woken(1, told(e3=workload("10.0.0.33", hbone=1, serves=serves("web.a"))))
         + begun())
     row("an update by which an endpoint no longer takes HBONE", BASE + begun(destination=GATE) + woken(1, told(
-        g6=workload("10.0.0.6", serves=serves("gate.a")))) + opened(b"now", link=3, destination=GATE))
+        g6=workload("10.0.0.6", serves=serves("gate.a")))) + opened(b"now", link=4, destination=GATE))
 
 
 def unsynced():
@@ -283,20 +284,8 @@ def updates():
 
 
 def rooms():
-    row("an upstream that takes an octet at a time", LIVE + (room(3, 1) + WAKE + "\n") + came(2, b"hello") + (room(3, 1) + WAKE + "\n") * 3
-        + room(3, 100) + WAKE + "\n")
-    row("a peer that takes an octet at a time", LIVE + (room(2, 1) + WAKE + "\n") + came(3, b"hello") + (room(2, 1) + WAKE + "\n") * 5)
-    row("the end waits behind the last octet", LIVE + room(3, 2) + woken(2, b"abcd") + on("end", 2) + room(3, 1) + WAKE + "\n"
-        + room(3, 1) + WAKE + "\n" + on("end", 3))
-    row("the upstream's end waits behind the last octet", LIVE + room(2, 2) + woken(3, b"abcd") + on("end", 3) + room(2, 1) + WAKE + "\n"
-        + room(2, 1) + WAKE + "\n" + on("end", 2))
-    big, little = bytes(65535), bytes(16384)
-    row("the ring up is full", LIVE + room(3, 0) + woken(2, little, b"more") + room(3, 10) + WAKE + "\n" + room(3, 100000) + WAKE + "\n")
-    row("the ring down is full", LIVE + room(2, 0) + woken(3, big, b"more") + room(2, 10) + WAKE + "\n" + room(2, 100000) + WAKE + "\n")
-    row("the ring up is full before the upstream is open", BASE + begun() + woken(2, little, b"more") + on("open", 3))
-    row("an update while the rings hold bytes", LIVE + room(2, 0) + room(3, 0) + woken(2, b"abc") + woken(3, b"de") + woken(1, DENY)
-        + room(2, 10) + room(3, 10) + WAKE + "\n")
-    row("many octets each way", LIVE + woken(2, *[bytes(9000)] * 9) + woken(3, *[bytes(7000)] * 9) + on("end", 2) + on("end", 3))
+    for name, script in plain.rooms_of(LIVE, BASE + begun(), 16384, 65535):
+        row(name, script)
 
 
 def mixed():
@@ -342,19 +331,8 @@ def cut_runs():
 
 
 def traces():
-    """Each fifth row whose trace is short tells that too, if the pages say its order."""
-    for name, script, words, _ in ROWS[::5]:
-        entries = [*words, "--trace"]
-        if len(script) < 6000 and len(answer(entries, script)[1]) < 6000 and tunnel_model.is_determined(asked(entries), script.encode()):
-            ROWS.append((name + ", told", script, entries, None))
-
-
-def asked(words):
-    return [*replay_rows.USUAL_WORDS, *words]
-
-
-def answer(words, script):
-    return tunnel_model.replay(asked(words), script.encode())
+    """Each fifth row whose trace is short tells that too."""
+    ROWS.extend(model_rows.traced(ROWS[::5], 6000, 6000))
 
 
 # The table
@@ -377,23 +355,14 @@ def spelled(text):
     return plain.spelled(text, PARTS)
 
 
-def line_of(name, script, words, want):
-    assert tunnel_model.is_determined(asked(words), script.encode()), name
-    status, output, error = answer(words, script)
-    assert want is None or output == want, f"{name}:\n{output}\nby hand:\n{want}"
-    return f"{name}; {spelled(' '.join(['<usual>', *words]))}; {spelled(script)}; {status}; {spelled(output)}; {spelled(error)}"
-
-
 def main():
     for rows in (by_hand, missing, straight, chosen, gateways, unsynced, doors, headers, dials, ends, updates, rooms, mixed, traces):
         rows()
     assert len({name for name, *_ in ROWS}) == len(ROWS)
     print(HEAD, end="")
-    replay_rows.table("OUTBOUND_PARTS", "The name and the text of each part.", [f"{name} {marked(text)}" for name, text in PARTS.items()])
-    replay_rows.table("OUTBOUND_CUT", "Runs that end the same however what comes on the first two links is cut.",
-                      [line_of(name, script, DOOR.split(), None) for name, script in cut_runs()])
-    for number, part in enumerate(replay_rows.halves([line_of(*each) for each in ROWS], 24000), 1):
-        replay_rows.table(f"OUTBOUND_{number}", "Runs.", part)
+    model_rows.print_parts("OUTBOUND_PARTS", PARTS)
+    model_rows.print_cut("OUTBOUND_CUT", [model_rows.line_of(spelled, name, script, DOOR.split()) for name, script in cut_runs()])
+    model_rows.print_runs("OUTBOUND", [model_rows.line_of(spelled, *each) for each in ROWS])
 
 
 if __name__ == "__main__":

@@ -6,13 +6,13 @@ to end the same by every choice that the pages leave open.
 
     python3 bench/tables/plain_rows.py > crates/hb_replay_rows/src/plain.rt
 """
+import model_rows
 import modelled_rows as modelled
 import replay_rows
-import tunnel_model
 import tunnel_rows
 from modelled_rows import ALLOW, BACK, DENY, GONE, TICK, ask, policies, workloads
 from spelling import policy, workload
-from tunnel_rows import FRONT, UPDATE, WAKE, came, data, marked, on, room, single, woken
+from tunnel_rows import FRONT, UPDATE, WAKE, came, data, on, room, single, woken
 
 DOOR = "--plain 0.0.0.0:15006"
 BOTH = "--inbound 0.0.0.0:15008 " + DOOR
@@ -131,22 +131,30 @@ def ends():
         row(f"an update that still admits it {name}", script + woken(1, policies(("b/p", policy("b", "p", "NAMESPACE", "DENY", [[]])))))
 
 
+def rooms_of(live, pending, up, down):
+    """Rows of rings that are full, of these sizes: of a link that lives, and of one whose upstream isn't open."""
+    step = room(3, 1) + WAKE + "\n"
+    back = room(2, 1) + WAKE + "\n"
+    return [
+        ("an upstream that takes an octet at a time", live + step + came(2, b"hello") + step * 3 + room(3, 100) + WAKE + "\n"),
+        ("a peer that takes an octet at a time", live + back + came(3, b"hello") + back * 5),
+        ("the end waits behind the last octet", live + room(3, 2) + woken(2, b"abcd") + on("end", 2) + step * 2 + on("end", 3)),
+        ("the upstream's end waits behind the last octet", live + room(2, 2) + woken(3, b"abcd") + on("end", 3) + back * 2 + on("end", 2)),
+        ("the ring up is full", live + room(3, 0) + woken(2, bytes(up), b"more") + room(3, 10) + WAKE + "\n" + room(3, 100000) + WAKE
+         + "\n"),
+        ("the ring down is full", live + room(2, 0) + woken(3, bytes(down), b"more") + room(2, 10) + WAKE + "\n" + room(2, 100000) + WAKE
+         + "\n"),
+        ("the ring up is full before the upstream is open", pending + woken(2, bytes(up), b"more") + on("open", 3)),
+        ("an update while the rings hold bytes", live + room(2, 0) + room(3, 0) + woken(2, b"abc") + woken(3, b"de") + woken(1, DENY)
+         + room(2, 10) + room(3, 10) + WAKE + "\n"),
+        ("many octets each way", live + woken(2, *[bytes(9000)] * 9) + woken(3, *[bytes(7000)] * 9) + on("end", 2) + on("end", 3))]
+
+
 def rooms():
-    row("an upstream that takes an octet at a time", LIVE + (room(3, 1) + WAKE + "\n") + came(2, b"hello") + (room(3, 1) + WAKE + "\n") * 3
-        + room(3, 100) + WAKE + "\n")
-    row("a peer that takes an octet at a time", LIVE + (room(2, 1) + WAKE + "\n") + came(3, b"hello") + (room(2, 1) + WAKE + "\n") * 5)
-    row("the end waits behind the last octet", LIVE + room(3, 2) + woken(2, b"abcd") + on("end", 2) + room(3, 1) + WAKE + "\n"
-        + room(3, 1) + WAKE + "\n" + on("end", 3))
-    row("the upstream's end waits behind the last octet", LIVE + room(2, 2) + woken(3, b"abcd") + on("end", 3) + room(2, 1) + WAKE + "\n"
-        + room(2, 1) + WAKE + "\n" + on("end", 2))
-    big, little = bytes(65535), bytes(16384)
-    row("the ring up is full", LIVE + room(3, 0) + woken(2, big, b"more") + room(3, 10) + WAKE + "\n" + room(3, 100000) + WAKE + "\n")
-    row("the ring down is full", LIVE + room(2, 0) + woken(3, little, b"more") + room(2, 10) + WAKE + "\n" + room(2, 100000) + WAKE + "\n")
-    row("the ring up is full before the upstream is open", OPEN_BASE + begun() + woken(2, big, b"more") + on("open", 3))
-    row("an update while the rings hold bytes", LIVE + room(2, 0) + room(3, 0) + woken(2, b"abc") + woken(3, b"de") + woken(1, DENY)
-        + room(2, 10) + room(3, 10) + WAKE + "\n")
-    row("an update between two octets", LIVE + room(3, 3) + woken(2, b"abcdef") + woken(1, DENY) + room(3, 3) + WAKE + "\n")
-    row("many octets each way", LIVE + woken(2, *[bytes(9000)] * 9) + woken(3, *[bytes(7000)] * 9) + on("end", 2) + on("end", 3))
+    rows = rooms_of(LIVE, OPEN_BASE + begun(), 65535, 16384)
+    rows.insert(-1, ("an update between two octets", LIVE + room(3, 3) + woken(2, b"abcdef") + woken(1, DENY) + room(3, 3) + WAKE + "\n"))
+    for name, script in rows:
+        row(name, script)
 
 
 def mixed():
@@ -180,19 +188,8 @@ def cut_runs():
 
 
 def traces():
-    """Each third row whose trace is short tells that too, if the pages say its order."""
-    for name, script, words, _ in ROWS[::3]:
-        told = [*words, "--trace"]
-        if len(script) < 4000 and len(answer(told, script)[1]) < 2000 and tunnel_model.is_determined(asked(told), script.encode()):
-            ROWS.append((name + ", told", script, told, None))
-
-
-def asked(words):
-    return [*replay_rows.USUAL_WORDS, *words]
-
-
-def answer(words, script):
-    return tunnel_model.replay(asked(words), script.encode())
+    """Each third row whose trace is short tells that too."""
+    ROWS.extend(model_rows.traced(ROWS[::3], 4000, 2000))
 
 
 # The table
@@ -210,32 +207,16 @@ PARTS = {
 
 def spelled(text, more=()):
     """The text, in which parts of these tables stand by their names."""
-    text = modelled.repeated(marked(text))
-    named = [(marked(content), name) for name, content in {**PARTS, **dict(more)}.items()]
-    named += [(marked(content), name) for name, content in modelled.PARTS.items()]
-    named += [(parts[name].replace('"', "'").replace("\n", "|"), name) for parts, name in modelled.BORROWED]
-    for content, name in sorted(named, reverse=True, key=lambda item: len(item[0])):
-        pieces = modelled.re.split("(<.*?>)", text)
-        text = "".join(piece if piece.startswith("<") else piece.replace(content, f"<{name}>") for piece in pieces)
-    return text
-
-
-def line_of(name, script, words, want):
-    assert tunnel_model.is_determined(asked(words), script.encode()), name
-    status, output, error = answer(words, script)
-    assert want is None or output == want, f"{name}:\n{output}\nby hand:\n{want}"
-    return f"{name}; {spelled(' '.join(['<usual>', *words]))}; {spelled(script)}; {status}; {spelled(output)}; {spelled(error)}"
+    return model_rows.by_name(text, [*model_rows.named({**PARTS, **dict(more)}), *modelled.NAMED])
 
 
 def main():
     for rows in (by_hand, headers, verdicts, dials, ends, rooms, mixed, traces):
         rows()
     print(HEAD, end="")
-    replay_rows.table("PLAIN_PARTS", "The name and the text of each part.", [f"{name} {marked(text)}" for name, text in PARTS.items()])
-    replay_rows.table("PLAIN_CUT", "Runs that end the same however what comes on the first two links is cut.",
-                      [line_of(name, script, DOOR.split(), None) for name, script in cut_runs()])
-    for number, part in enumerate(replay_rows.halves([line_of(*each) for each in ROWS], 24000), 1):
-        replay_rows.table(f"PLAIN_{number}", "Runs.", part)
+    model_rows.print_parts("PLAIN_PARTS", PARTS)
+    model_rows.print_cut("PLAIN_CUT", [model_rows.line_of(spelled, name, script, DOOR.split()) for name, script in cut_runs()])
+    model_rows.print_runs("PLAIN", [model_rows.line_of(spelled, *each) for each in ROWS])
 
 
 if __name__ == "__main__":

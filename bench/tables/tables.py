@@ -1,6 +1,6 @@
 #!/usr/bin/python3
-"""Compares the tables of tests that scripts here print with the files in which they stand, and names those that differ. A table whose
-script lacks a package is not compared, and named.
+"""Compares the tables of tests that scripts here print with the files in which they stand, and names those that differ, and those that
+no test plays. A table whose script lacks a package is not compared, and named.
 
 usage: bench/tables/tables.py        (all are compared after `apt-get install libnghttp2-14 python3-h2 python3-hpack python3-hyperframe
                               python3-protobuf protobuf-compiler`)
@@ -38,6 +38,7 @@ WHOLE = [
     ("modelled_rows.py", "hb_replay_rows", "modelled.rt"),
     ("plain_rows.py", "hb_replay_rows", "plain.rt"),
     ("outbound_rows.py", "hb_replay_rows", "outbound.rt"),
+    ("gateway_rows.py", "hb_gateway_rows", "rows.rt"),
     ("serve_rows.py", "hb_serve_rows", "frames.rt"),
     ("make_rows.py", "hb_make_rows", "rows.rt"),
     ("relay_rows.py", "hb_relay_rows", "octets.rt"),
@@ -76,8 +77,19 @@ def is_same(script, crate, file, printed):
     return bool(printed) and printed in stands
 
 
+def unplayed(crate, file):
+    """The tables of a printed file that no other file of its crate names."""
+    folder = TOP / "crates" / crate / "src"
+    others = "\n".join(other.read_text() for other in folder.glob("*.rt") if other.name != file)
+    return [name for name in re.findall(r"^pub const (\w+)", (folder / file).read_text(), re.M) if not re.search(rf"\b{name}\b", others)]
+
+
 def main():
     differ = 0
+    for _, crate, file in WHOLE:
+        for name in unplayed(crate, file):
+            print(f"tables: crates/{crate}/src/{file}: no test plays {name}")
+            differ += 1
     for script, crate, file in WHOLE + PARTS:
         printed, lacks = printed_by(script)
         same = printed is None or is_same(script, crate, file, printed)

@@ -17,13 +17,14 @@ from replay_model import ADDRESS, POLICY, LARGEST, ConnFault, Ends, Fault, frame
 
 # Beside the choices of the control plane's link: the order of links in a round, how much of an upstream, or of a link of raw bytes,
 # is read at once, whether a write of a ring ends where its memory does, the order of an update's notes over links, whether the stream
-# behind the one whose DATA was put last goes first, and how many octets a link may hold that aren't looked at.
-Choice = collections.namedtuple("Choice", [*model.Choice._fields, "backwards", "most", "wraps", "by_link", "fair", "holds"])
-USUAL = Choice(*model.USUAL, False, 16384, False, True, False, 16393)
+# behind the one whose DATA was put last goes first, how many octets a link may hold that aren't looked at, and whether links to
+# gateways are closed before those that they carry.
+Choice = collections.namedtuple("Choice", [*model.Choice._fields, "backwards", "most", "wraps", "by_link", "fair", "holds", "gates_first"])
+USUAL = Choice(*model.USUAL, False, 16384, False, True, False, 16393, False)
 OTHERS = [
     USUAL._replace(share=3, order="wrw"), USUAL._replace(backwards=True), USUAL._replace(most=5000, goes_on=False, order="wwr"),
-    USUAL._replace(share=4, holds=32768), USUAL._replace(share=7, order="wwr"), USUAL._replace(wraps=True, eager=True, fair=True),
-    USUAL._replace(by_link=False, backwards=True, order="wrw")]
+    USUAL._replace(share=4, holds=32768), USUAL._replace(share=7, order="wwr"),
+    USUAL._replace(wraps=True, eager=True, fair=True, gates_first=True), USUAL._replace(by_link=False, backwards=True, order="wrw")]
 
 DOORS = ("inbound", "outbound", "plain")
 RINGS = {"up": 65535, "down": 16384}
@@ -31,8 +32,9 @@ STATUS, GRANT, END, RESET = range(4)
 NO_ERROR, PROTOCOL_ERROR, FLOW_CONTROL_ERROR, STREAM_CLOSED, REFUSED_STREAM, CANCEL, CONNECT_ERROR = 0, 1, 3, 5, 7, 8, 10
 STATUSES = {200: 8, 204: 9, 206: 10, 304: 11, 400: 12, 404: 13, 500: 14}
 SETTINGS = frame(4, 0, 0, bytes.fromhex("000300000064 000600004000"))
+CLIENT = model.PREFACE + frame(4, 0, 0, bytes.fromhex("000200000000 000600004000"))
 SIGNATURE = bytes.fromhex("0d0a0d0a000d0a515549540a")
-MOST_STREAMS, MOST_LIST = 100, 16384
+MOST_STREAMS, MOST_LIST, MOST_LINKS = 100, 16384, 1024
 
 
 # Addresses, and the header of the front
@@ -98,6 +100,18 @@ def read_front(octets):
     return 16 + length, peer, Target(address_of(octets[16 + size:16 + 2 * size]), port)
 
 
+def put_front(source, target, identity):
+    """The header in front of a connection to the target, from a source without a port."""
+    both = [ip.packed if {source.version, target.ip.version} == {4} else long_form(ip) for ip in (source, target.ip)]
+    values = b"\xe0" + len(identity).to_bytes(2, "big") + identity.encode() if identity else b""
+    content = b"".join(both) + bytes(2) + target.port.to_bytes(2, "big") + values
+    return SIGNATURE + (b"\x21\x11" if len(both[0]) == 4 else b"\x21\x21") + len(content).to_bytes(2, "big") + content
+
+
+def long_form(ip):
+    return ip.packed if ip.version == 6 else bytes(10) + b"\xff\xff" + ip.packed
+
+
 # Policies (docs/POLICIES.md)
 
 
@@ -140,12 +154,17 @@ def counts_for(policy, workload):
     return scope == 0 or space == workload.get(2, "")
 
 
+def workloads_at(held, asked, ip):
+    """The workloads at an address, by their resources' names."""
+    named = sorted(((name.encode(), version.record[1]) for (kind, name), version in held.items()
+                    if kind == ADDRESS and 1 in version.record), key=lambda pair: pair[0])
+    return [workload for _, workload in named if workload.get(4, "") == asked.get("network", "")
+            and ip in map(address_of, workload.get(3, []))]
+
+
 def judge(held, asked, peer, target):
     """200 where the peer is admitted, 404 where the target isn't known, 401 where it is denied."""
-    named = sorted((name.encode(), version.record[1]) for (kind, name), version in held.items()
-                   if kind == ADDRESS and 1 in version.record)
-    at = [workload for _, workload in named if workload.get(4, "") == asked.get("network", "")
-          and target.ip in map(address_of, workload.get(3, []))]
+    at = workloads_at(held, asked, target.ip)
     if not at or at[0].get(9, "") != asked["node"]:
         return 404
     policies = [version.record for (kind, _), version in held.items() if kind == POLICY and counts_for(version.record, at[0])]
@@ -182,6 +201,20 @@ def way(held, asked, opens, source, target):
     resources = {name: plain_form(version.record) for (kind, name), version in held.items() if kind == ADDRESS}
     return routes.way(resources, opens, source, target.ip, target.port, asked.get("hbone-port", 15008), asked.get("network", ""),
                       asked["node"]).split()
+
+
+def identity_at(held, asked, source):
+    """The identity of the workload that a connection comes from, as its gateway is told it; None where it has none."""
+    workload = workloads_at(held, asked, source)[0]
+    parts = workload.get(6, "") or "cluster.local", workload.get(2, ""), workload.get(7, "")
+    text = "spiffe://{}/ns/{}/sa/{}".format(*parts)
+    return text if all(re.fullmatch(r"[\w.-]+", part, re.ASCII) for part in parts) and len(text) <= 4000 else None
+
+
+def status_of(headers):
+    """The status of a response, 0 where it has none."""
+    first = next((value for name, value in headers if name == b":status"), b"")
+    return int(first) if re.fullmatch(rb"[0-9]{3}", first) else 0
 
 
 def request_of(headers):
@@ -242,9 +275,11 @@ class Tunnel:
 
 
 class Connection(model.Link):
-    """A server's connection (docs/FORMATS.md, HTTP/2 connections)."""
+    """A connection, a server's but for what a link to a gateway changes (docs/FORMATS.md, HTTP/2 connections). `highest` is the highest
+    stream that was begun, `carried` has what each stream carries, and `way` is the way of that which goes on the stream."""
 
     most_push = 1
+    way = "down"
 
     def __init__(self, choice):
         self.choice, self.parts, self.owes, self.came = choice, [], {}, b""
@@ -252,7 +287,7 @@ class Connection(model.Link):
         self.is_begun = self.is_settled = self.is_told = False
         self.streams, self.highest, self.resets = {}, 0, collections.deque(maxlen=128)
         self.initial = self.sending = self.taking = 65535
-        self.owed = 0
+        self.owed, self.limit, self.carried, self.last_put = 0, LARGEST + 1, {}, 0
 
     # What is put
 
@@ -318,6 +353,29 @@ class Connection(model.Link):
         stream.sending -= count
         return count
 
+    def put_waiting(self, number, carried, is_ended):
+        """Puts what may be put of what waits for a stream, and END_STREAM behind the last of it."""
+        count = self.put_some(number, carried.rings[self.way])
+        self.last_put = number if count else self.last_put
+        carried.rings[self.way] = carried.rings[self.way][count:]
+        if is_ended and not carried.rings[self.way] and not any(part.stream == number for part in self.parts if part.is_data):
+            carried.is_end_put = True
+            self.put_end(number)
+
+    def wrote(self, count):
+        while count:
+            part = self.parts[0]
+            carried = self.carried.get(part.stream) if part.is_data else None
+            if carried and not part.is_begun:
+                carried.taken[self.way] += part.payload
+            taken = min(count, len(part.octets))
+            part.octets, part.is_begun, count = part.octets[taken:], True, count - taken
+            if not part.octets:
+                self.parts.pop(0)
+                if carried and part.is_end:
+                    carried.is_end_sent = True
+        self.pay()
+
     def take_back(self, number=None):
         for part in list(self.parts):
             if part.is_data and not part.is_begun and number in (None, part.stream):
@@ -355,8 +413,12 @@ class Connection(model.Link):
         except ConnFault as fault:
             self.take_back()
             self.owes = {}
-            self.parts.append(Part(frame(7, 0, 0, self.highest.to_bytes(4, "big") + fault.args[0].to_bytes(4, "big"))))
+            self.parts.append(Part(frame(7, 0, 0, self.last_taken().to_bytes(4, "big") + fault.args[0].to_bytes(4, "big"))))
             raise
+
+    def last_taken(self):
+        """The highest stream that the peer began."""
+        return self.highest
 
     def is_idle(self, number):
         return number % 2 == 0 or number > self.highest
@@ -373,8 +435,13 @@ class Connection(model.Link):
             self.on_settings(payload)
         elif kind == model.PING and not flags & 1:
             self.parts.append(Part(frame(6, 1, 0, payload)))
+        elif kind == model.GOAWAY:
+            self.told_leaving(int.from_bytes(payload[:4], "big") & LARGEST)
         elif kind == model.WINDOW:
             self.on_increment(number, int.from_bytes(payload, "big") & LARGEST)
+
+    def told_leaving(self, last):
+        """A server's peer begins no more streams."""
 
     def on_data(self, number, payload, content, end):
         if self.is_idle(number):
@@ -446,6 +513,8 @@ class Connection(model.Link):
                         raise ConnFault(FLOW_CONTROL_ERROR)
                     self.streams[stream].sending += value - self.initial
                 self.initial = value
+            elif number == 3:
+                self.limit = value
         self.parts.append(Part(frame(4, 1, 0)))
 
     def on_increment(self, number, increment):
@@ -478,8 +547,8 @@ class Inbound(Connection):
 
     def __init__(self, number, run):
         super().__init__(run.choice)
-        self.number, self.run, self.tunnels = number, run, {}
-        self.front, self.peer, self.destination, self.cause, self.last_put = b"", None, None, None, 0
+        self.number, self.run, self.tunnels = number, run, self.carried
+        self.front, self.peer, self.destination, self.cause = b"", None, None, None
 
     def wants(self):
         if self.peer is None:
@@ -600,27 +669,7 @@ class Inbound(Connection):
             if tunnel.is_done():
                 self.end(tunnel, "done")
             elif tunnel.is_live() and not tunnel.is_end_put:
-                count = self.put_some(tunnel.stream, tunnel.rings["down"])
-                self.last_put = tunnel.stream if count else self.last_put
-                tunnel.rings["down"] = tunnel.rings["down"][count:]
-                if tunnel.is_up_ended and not tunnel.rings["down"] and not any(part.stream == tunnel.stream for part in self.parts
-                                                                              if part.is_data):
-                    tunnel.is_end_put = True
-                    self.put_end(tunnel.stream)
-
-    def wrote(self, count):
-        while count:
-            part = self.parts[0]
-            tunnel = self.tunnels.get(part.stream) if part.is_data else None
-            if tunnel and not part.is_begun:
-                tunnel.taken["down"] += part.payload
-            taken = min(count, len(part.octets))
-            part.octets, part.is_begun, count = part.octets[taken:], True, count - taken
-            if not part.octets:
-                self.parts.pop(0)
-                if tunnel and part.is_end:
-                    tunnel.is_end_sent = True
-        self.pay()
+                self.put_waiting(tunnel.stream, tunnel, tunnel.is_up_ended)
 
     def up_opened(self, tunnel):
         tunnel.stage = "live"
@@ -637,10 +686,140 @@ class Inbound(Connection):
         return waits[:RINGS["up"] - tunnel.taken["up"] % RINGS["up"]] if self.choice.wraps else waits
 
 
+class Gateway(Connection):
+    """A link to a gateway with the captured link of each stream. `key` is for whom it is: identity, source, address of the gateway."""
+
+    most_push = 0
+    way = "up"
+
+    def __init__(self, number, key, run):
+        super().__init__(run.choice)
+        self.number, self.key, self.run, self.links, self.cause = number, key, run, self.carried, None
+        self.is_begun, self.is_leaving = True, False
+        identity, source, address = key
+        self.header = Part(put_front(source, address, identity))
+        self.parts = [self.header, Part(CLIENT)]
+
+    def wants(self):
+        return min(super().wants(), self.choice.holds - len(self.came)) if self.cause is None else 0
+
+    def output(self):
+        """The header goes by itself, as long as it isn't written (docs/DECISIONS.md, A link to a gateway)."""
+        return self.header.octets or super().output()
+
+    def room(self):
+        return 32768 - len(super().output())
+
+    def last_taken(self):
+        return 0
+
+    def has_room(self):
+        return (self.cause is None and not self.is_leaving and len(self.streams) < min(MOST_STREAMS, self.limit)
+                and self.highest < LARGEST and self.room() >= 1024)
+
+    def ask(self, link, authority):
+        """Asks for a tunnel of a captured link on the next stream."""
+        self.highest += 2 if self.highest else 1
+        link.gate, link.stream, link.stage = self, self.highest, "pending"
+        self.streams[link.stream], self.links[link.stream] = Stream(self.initial), link
+        block = model.literal(b":method", b"CONNECT") + model.literal(b":authority", authority.encode())
+        self.parts.append(Part(frame(1, 4, link.stream, (b"" if self.is_told else b"\x20") + block)))
+        self.is_told = True
+
+    # What comes
+
+    def on_headers(self, number, block, end):
+        try:
+            headers = self.hpack.read(block)
+        except Fault:
+            raise ConnFault(9) from None
+        if self.is_idle(number):
+            raise ConnFault(PROTOCOL_ERROR)
+        stream = self.streams.get(number)
+        if stream is None:
+            self.check_was_reset(number)
+        elif not stream.is_peer_open:
+            self.stream_fault(number, STREAM_CLOSED)
+        else:
+            if end:
+                self.end_side(number, "is_peer_open")
+            if number in self.links:
+                self.told_headers(self.links[number], status_of(headers), end)
+
+    @staticmethod
+    def told_headers(link, status, end):
+        if link.stage == "live":
+            link.end("stream fault 1")
+        elif 200 <= status < 300:
+            link.is_ended["down"] = bool(end)
+            link.opened()
+        elif end and status < 200:
+            link.refused(0)
+        elif not 100 <= status < 200:
+            link.refused(status)
+
+    def told_chunk(self, number, octets, end):
+        link = self.links.get(number)
+        if link is None:
+            return
+        if link.stage == "live":
+            link.rings["down"] += octets
+            assert len(link.rings["down"]) <= RINGS["up"]
+            link.is_ended["down"] |= bool(end)
+        else:
+            link.end("stream fault 1")
+
+    def told_end(self, number, cause):
+        if number in self.links:
+            self.links[number].end(cause)
+
+    def told_leaving(self, last):
+        """The gateway looks at no stream above the last, so nothing is put there."""
+        self.is_leaving = True
+        for number in sorted(self.links):
+            if number > last:
+                self.links[number].end("gone away")
+
+    # Ends
+
+    def over(self, cause, of_links=None):
+        self.cause = cause
+        for number in sorted(self.links):
+            self.links[number].end(of_links or cause)
+
+    def ended(self):
+        self.over("peer gone" if self.streams else "done", "peer gone")
+
+    def give_up(self, link):
+        """The link of a stream is over."""
+        del self.links[link.stream]
+        if self.cause is None and link.stream in self.streams and link.cause != "gone away":
+            self.put_reset(link.stream, CANCEL)
+
+    def came_bytes(self, octets):
+        try:
+            self.take(octets)
+        except ConnFault as fault:
+            self.over(f"conn fault {fault.args[0]}")
+            self.run.world.write(self.number, self.output())
+
+    # What goes
+
+    def settle(self):
+        """Puts what may be put, by rising stream. A link that is done is so behind all that came in one read."""
+        numbers = sorted(self.links, key=lambda number: (self.choice.fair and number <= self.last_put, number))
+        for number in numbers if self.cause is None else []:
+            link = self.links[number]
+            if link.stage == "live" and not link.is_end_put:
+                self.put_waiting(number, link, link.is_ended["up"])
+            link.settle()
+
+
 class Captured:
     """A link of raw bytes, of the plain door or the outbound one, with its upstream. `stage` is fronting, asked, pending, live; behind its
     end `cause` says why. `target` is what its header told, `address` what is dialled for it, and `endpoint` to what it is a connection. At
-    the outbound door the way to the link is the long one."""
+    the outbound door the way to the link is the long one. By a gateway `key` says by which, `authority` what is asked of it, `gate` and
+    `stream` on what."""
 
     def __init__(self, number, door, run):
         self.number, self.door, self.run, self.stage, self.cause = number, door, run, "fronting", None
@@ -648,6 +827,8 @@ class Captured:
         self.sizes = {"up": RINGS["down"], "down": RINGS["up"]} if door == "outbound" else RINGS
         self.rings, self.taken, self.is_ended, self.is_shut = ({"up": b"", "down": b""}, {"up": 0, "down": 0},
                                                                {"up": False, "down": False}, {"up": False, "down": False})
+        self.key = self.authority = self.gate = self.stream = None
+        self.is_end_put = self.is_end_sent = False
 
     def wants(self):
         if self.cause is not None or self.stage == "asked":
@@ -705,12 +886,12 @@ class Captured:
         kind, leads, *more = way(self.run.held, self.run.asked, self.run.connections(), self.peer.ip, self.target)
         if kind == "none":
             return 503, f"no route {leads}", None
-        if kind == "gateway":
-            return 503, "no room", None
         address = target_of(leads)
-        if self.run.is_own_door(address):
+        if kind == "direct" and self.run.is_own_door(address):
             return 400, "refused 400", None
-        self.endpoint = more[0] if more[0] != "-" else None
+        if kind == "gateway":
+            self.key, self.authority = (identity_at(self.run.held, self.run.asked, self.peer.ip), self.peer.ip, address), more[0]
+        self.endpoint = more[-1] if more[-1] != "-" else None
         return 200, None, address
 
     def connects_to(self):
@@ -733,7 +914,7 @@ class Captured:
             self.end("done")
 
     def is_through(self, way):
-        return self.is_ended[way] and not self.rings[way]
+        return self.is_ended[way] and not self.rings[way] and (way == "down" or self.gate is None or self.is_end_sent)
 
     def end(self, cause):
         if self.cause is not None:
@@ -743,10 +924,24 @@ class Captured:
             self.run.notes.append(f"end {self.number}/0 {cause} up {self.taken['up']} down {self.taken['down']}")
         elif self.stage != "fronting" and cause in ("revoked", "up fault"):
             self.note(401 if cause == "revoked" else 502)
+        if self.gate:
+            self.gate.give_up(self)
+
+    def refused(self, status):
+        """The gateway answered with another status than one that opens."""
+        self.note(502)
+        self.end(f"up refused {status}")
+
+    def lacks_room(self):
+        """No gateway has room for it."""
+        self.note(503)
+        self.cause = "no room"
 
     def wrote(self, way, count):
         self.rings[way] = self.rings[way][count:]
         self.taken[way] += count
+        if self.gate:
+            self.gate.grant(self.stream, count)
         self.settle()
 
     def is_refused(self):
@@ -788,7 +983,7 @@ class Run:
         self.asked, self.world, self.choice = asked, world, choice
         self.held, self.kinds, self.notes = {}, set(), []
         self.control, self.inbound, self.ups, self.is_tick = None, {}, {}, True
-        self.plain, self.relays = {}, {}
+        self.plain, self.relays, self.gates = {}, {}, {}
         self.opened = set()
 
     def is_full(self):
@@ -826,6 +1021,8 @@ class Run:
                 self.inbound[number].over("stopped")
         for number in sorted(self.plain):
             self.plain[number].end("stopped")
+        for number in sorted(self.gates):
+            self.gates[number].over("stopped")
         self.acts()
 
     # An update
@@ -845,7 +1042,7 @@ class Run:
     # Acts
 
     def acts(self):
-        """Dials, shuts and closes that are due: the control plane's, then by link and by rising stream."""
+        """Dials, shuts and closes that are due: the control plane's, then those of tunnels, by link and by rising stream."""
         if self.is_tick and self.control is None:
             number = self.world.dial(self.asked["discovery"])
             self.control = Control(number, self) if number else None
@@ -854,9 +1051,22 @@ class Run:
             link = self.inbound[number]
             while self.act(link):
                 pass
-        for number in sorted(self.plain):
-            while number in self.plain and self.plain_act(self.plain[number]):
-                pass
+        for number in sorted(self.gates):
+            self.gates[number].settle()
+        calls = [self.plain_acts, self.gate_acts]
+        for call in calls[::-1] if self.choice.gates_first else calls:
+            call()
+
+    def plain_acts(self):
+        """One act of each link that has one due, by rising number, and so again until none has."""
+        while any([self.plain_act(self.plain[number]) for number in sorted(self.plain)]):
+            pass
+
+    def gate_acts(self):
+        for number in sorted(self.gates):
+            if self.gates[number].cause is not None:
+                self.close(number, self.gates[number].cause)
+                del self.gates[number]
 
     def plain_act(self, link):
         """Makes the first act of a link of raw bytes, if one is due."""
@@ -869,6 +1079,9 @@ class Run:
                 self.close(link.number, link.cause)
                 del self.plain[link.number]
             return True
+        if link.stage == "asked" and link.key:
+            self.join(link)
+            return True
         if link.stage == "asked":
             target = told_target(link.address)
             link.up, link.stage = self.world.dial(target), "pending"
@@ -879,11 +1092,31 @@ class Run:
                 self.world.whys[link.up] = f"{'relay' if link.door == 'plain' else 'direct'} {target} of {link.number}"
             return True
         for way, number in (("up", link.up), ("down", link.number)):
-            if link.stage == "live" and link.is_through(way) and not link.is_shut[way]:
+            if link.stage == "live" and number and link.is_through(way) and not link.is_shut[way]:
                 link.is_shut[way] = True
                 self.world.shut(number)
                 return True
         return False
+
+    def join(self, link):
+        """Asks for a stream of the link: of the first connection of its key that has room, else of another one."""
+        gate = next((self.gates[number] for number in sorted(self.gates) if self.gates[number].key == link.key
+                     and self.gates[number].has_room()), None)
+        if gate is None and self.has_all_links():
+            link.lacks_room()
+            return
+        if gate is None:
+            number = self.world.dial(told_target(link.address))
+            if number is None:
+                link.end("up fault")
+                return
+            gate = self.gates[number] = Gateway(number, link.key, self)
+            self.world.whys[number] = f"gateway {told_target(link.address)}"
+        gate.ask(link, link.authority)
+
+    def has_all_links(self):
+        """Whether there are as many inbound links and links to gateways as may be."""
+        return len(self.inbound) + len(self.gates) >= MOST_LINKS
 
     def act(self, link):
         """Makes the link's first act, if one is due."""
@@ -930,8 +1163,8 @@ class Run:
         before = len(self.world.trace)
         if not self.choice.backwards:
             self.accept()
-        numbers = sorted([*self.inbound, *self.ups, *self.plain, *self.relays, *([self.control.number] if self.control else [])],
-                         reverse=self.choice.backwards)
+        numbers = sorted([*self.inbound, *self.ups, *self.plain, *self.relays, *self.gates,
+                          *([self.control.number] if self.control else [])], reverse=self.choice.backwards)
         for number in numbers:
             self.visit(number)
         if self.choice.backwards:
@@ -942,7 +1175,11 @@ class Run:
         for door in DOORS:
             number = self.world.accept(door) if self.asked.get(door) else None
             if number and door == "inbound":
+                is_full = self.has_all_links()
                 self.inbound[number] = Inbound(number, self)
+                if is_full:
+                    self.inbound[number].over("no room")
+                    self.acts()
             elif number:
                 is_full = self.is_full()
                 self.plain[number] = Captured(number, door, self)
@@ -951,7 +1188,8 @@ class Run:
                     self.acts()
 
     def visit(self, number):
-        is_dialled = number in self.ups or number in self.relays or self.control is not None and self.control.number == number
+        is_dialled = any(number in links for links in (self.ups, self.relays, self.gates)) or self.control is not None \
+            and self.control.number == number
         if is_dialled and number not in self.opened:
             self.finish(number)
             self.acts()
@@ -959,13 +1197,19 @@ class Run:
                 return
         for way in self.choice.order:
             for links, calls in ((self.inbound, (self.read, self.write)), (self.ups, (self.read_up, self.write_up)),
-                                 (self.plain, (self.read_plain, self.write_plain)), (self.relays, (self.read_relay, self.write_relay))):
+                                 (self.plain, (self.read_plain, self.write_plain)), (self.relays, (self.read_relay, self.write_relay)),
+                                 (self.gates, (self.read, self.write))):
                 if number in links:
-                    calls["rw".index(way)](links[number])
-                    self.acts()
+                    self.called(calls["rw".index(way)], links[number])
             if self.control and self.control.number == number:
-                (self.read_control if way == "r" else self.write_control)(self.control)
-                self.acts()
+                self.called(self.read_control if way == "r" else self.write_control, self.control)
+
+    def called(self, call, link):
+        """Makes a call, and what is due where it moved something."""
+        before = len(self.world.trace)
+        call(link)
+        if len(self.world.trace) > before:
+            self.acts()
 
     def finish(self, number):
         answer = self.world.finish(number)
@@ -979,6 +1223,8 @@ class Run:
             self.relays[number].end("up fault")
         elif answer and number in self.ups:
             self.ups[number][0].end(self.ups[number][1], "up fault")
+        elif answer and number in self.gates:
+            self.gates[number].over("broken", "up fault")
         elif answer:
             self.close_control("broken")
 

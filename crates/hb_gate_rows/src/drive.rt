@@ -1,56 +1,18 @@
-//! A link to a gateway, number 9: from 10.0.0.9 to 10.0.0.7, port 15008.
+//! A link to a gateway, number 9: from 10.0.0.9 to 10.0.0.7, port 15008. Its calls are made by the lines of a life.
 
+use crate::words::{cut, number_of, octets_of, words_of_close, words_of_look, words_of_mail};
 use hb_base::{Ip, Target};
-use hb_gate::{Gate, Look, Mail};
+use hb_gate::Gate;
 use hb_gateway::Key;
-use hb_world::Act;
 use std::alloc::Global;
 use std::process::Abort;
-
-fn octets_of(rt: &impl Abort, alloc: Global, digits: &str) -> Vec<u8> {
-    hex::decode(alloc, digits).ok().expect(rt, "octets")
-}
-
-/// The words of an end of a tunnel: its stream, its captured link, the cause with its number, and how many of its bytes have begun to go.
-fn words_of_mail(rt: &impl Abort, alloc: Global, mail: Mail) -> String {
-    let mut words = String::new(alloc);
-    let number = mail.cause.number().unwrap_or(0);
-    let told = write!(
-        words,
-        "{} {} {} {number} {}",
-        mail.stream,
-        mail.link,
-        mail.cause.word(),
-        mail.begun
-    );
-    told.expect(rt, "memory");
-    words
-}
-
-/// The words of a look.
-fn words_of_look(rt: &impl Abort, alloc: Global, look: Look) -> String {
-    let mut words = String::new(alloc);
-    let told = match look {
-        Look::Nothing => words.push_str("nothing"),
-        Look::Passed => words.push_str("passed"),
-        Look::Opens { stream, link, end } => write!(words, "opens {stream} {link} {end}"),
-        Look::Brings { stream, link } => write!(words, "brings {stream} {link}"),
-        Look::Ends { stream, link } => write!(words, "ends {stream} {link}"),
-        Look::Fails(mail) => {
-            let mail = words_of_mail(rt, alloc, mail);
-            write!(words, "fails {mail}")
-        }
-    };
-    told.expect(rt, "memory");
-    words
-}
 
 /// A link, and the bytes that its last look brought.
 #[derive(Drop)]
 pub struct Drive {
-    pub alloc: Global,
-    pub gate: Gate,
-    pub brought: Vec<u8>,
+    alloc: Global,
+    gate: Gate,
+    brought: Vec<u8>,
 }
 
 impl Drive {
@@ -71,19 +33,14 @@ impl Drive {
         }
     }
 
-    /// A tunnel of a captured link is asked for, to 10.0.0.8, port 80, on this stream.
-    pub fn asks(&mut self, rt: &impl Abort, link: u64, wanted: u32) {
-        let authority = Target {
-            ip: Ip::V4(0x0a00_0008),
-            port: 80,
-        };
-        assert!(rt; self.gate.offers(), "no room");
-        let stream = self.gate.ask(link, authority).ok().expect(rt, "memory");
-        assert!(rt; stream == wanted, "{stream}");
+    fn come(&mut self, rt: &impl Abort, row: u32, digits: &str) {
+        let octets = octets_of(rt, self.alloc, digits);
+        let most = self.gate.wants();
+        assert!(rt; octets.len() <= most, "row {row}: more than {most} octets");
+        self.gate.take_bytes(octets.as_slice());
     }
 
-    /// These octets are written, and then none wait.
-    pub fn sends(&mut self, rt: &impl Abort, digits: &str) {
+    fn sent(&mut self, rt: &impl Abort, row: u32, digits: &str) {
         let wanted = octets_of(rt, self.alloc, digits);
         let mut sent = Vec::new(self.alloc);
         for _ in 0..4 {
@@ -92,71 +49,105 @@ impl Drive {
             sent.extend_from_slice(output).expect(rt, "memory");
             self.gate.wrote(n);
         }
-        assert!(rt; sent.as_slice() == wanted.as_slice(), "other octets");
-        assert!(rt; self.gate.output().is_empty(), "more octets");
+        assert!(rt; sent.as_slice() == wanted.as_slice(), "row {row}: {sent:?}");
+        assert!(rt; self.gate.output().is_empty(), "row {row}: more octets");
     }
 
-    /// Of these bytes so many are put on stream 1.
-    pub fn puts(&mut self, rt: &impl Abort, bytes: &[u8], wanted: usize) {
-        let count = self.gate.put(1, bytes);
-        assert!(rt; count == wanted, "{count}");
+    fn look(&mut self, rt: &impl Abort, row: u32, wanted: &str) {
+        let look = self.gate.look(&mut self.brought).ok().expect(rt, "memory");
+        let words = words_of_look(rt, self.alloc, look);
+        assert!(rt; words.as_bytes() == wanted.as_bytes(), "row {row}: {words}");
     }
 
-    /// The last look brought these bytes.
-    pub fn has_brought(&self, rt: &impl Abort, wanted: &[u8]) {
-        assert!(rt; self.brought.as_slice() == wanted, "other bytes");
+    fn brought(&self, rt: &impl Abort, row: u32, digits: &str) {
+        let wanted = octets_of(rt, self.alloc, digits);
+        assert!(rt;
+            self.brought.as_slice() == wanted.as_slice(),
+            "row {row}: other bytes"
+        );
     }
 
-    /// The tunnel on stream 1 is through, and so many of its bytes went.
-    pub fn leaves(&mut self, rt: &impl Abort, wanted: u64) {
-        assert!(rt; self.gate.is_through(1), "something waits");
-        let begun = self.gate.leave(1);
-        assert!(rt; begun == wanted, "{begun}");
-        assert!(rt; self.gate.link(1).is_none(), "it is left");
-    }
-
-    /// These octets come.
-    pub fn comes(&mut self, rt: &impl Abort, digits: &str) {
-        let octets = octets_of(rt, self.alloc, digits);
-        assert!(rt; octets.len() <= self.gate.wants(), "more than is wanted");
-        self.gate.take_bytes(octets.as_slice());
-    }
-
-    /// It is found so, one look after another.
-    pub fn looks(&mut self, rt: &impl Abort, wanted: &[&str]) {
-        for words in wanted {
-            let look = self.gate.look(&mut self.brought).ok().expect(rt, "memory");
-            let look = words_of_look(rt, self.alloc, look);
-            assert!(rt; look.as_bytes() == words.as_bytes(), "{look}");
-        }
-    }
-
-    /// Its next tunnel that is to be told its end is this, and then none is.
-    pub fn mails(&mut self, rt: &impl Abort, wanted: &str) {
+    fn mail(&mut self, rt: &impl Abort, row: u32, wanted: &str) {
         let mail = self.gate.next_mail().expect(rt, "an end");
         let words = words_of_mail(rt, self.alloc, mail);
-        assert!(rt; words.as_bytes() == wanted.as_bytes(), "{words}");
-        assert!(rt; self.gate.next_mail().is_none(), "one more end");
+        assert!(rt; words.as_bytes() == wanted.as_bytes(), "row {row}: {words}");
+        assert!(rt; self.gate.next_mail().is_none(), "row {row}: one more end");
     }
 
-    /// It is to be closed for a cause of these words, and then not again.
-    pub fn closes(&mut self, rt: &impl Abort, wanted: &str) {
-        let mut words = String::new(self.alloc);
-        if let Some(Act::Close { link, cause }) = self.gate.next_act() {
-            let number = cause.number().unwrap_or(0);
-            write!(words, "{link} {} {number}", cause.word()).expect(rt, "memory");
+    fn close(&mut self, rt: &impl Abort, row: u32, wanted: &str) {
+        let words = words_of_close(rt, self.alloc, self.gate.next_act());
+        assert!(rt; words.as_bytes() == wanted.as_bytes(), "row {row}: {words}");
+        assert!(rt; self.gate.next_act().is_none(), "row {row}: one more act");
+    }
+
+    fn ask(&mut self, rt: &impl Abort, row: u32, stream: u32, link: u64) {
+        let authority = Target {
+            ip: Ip::V4(0x0a00_0008),
+            port: 80,
+        };
+        assert!(rt; self.gate.offers(), "row {row}: no room");
+        let got = self.gate.ask(link, authority).ok().expect(rt, "memory");
+        assert!(rt; got == stream, "row {row}: stream {got}");
+    }
+
+    fn carries(&self, rt: &impl Abort, row: u32, stream: u32, words: &str) {
+        match self.gate.link(stream) {
+            None => assert!(rt; words == "none", "row {row}: no tunnel"),
+            Some(link) => {
+                let same = words != "none" && number_of(rt, words) == link;
+                assert!(rt; same, "row {row}: the tunnel of {link}");
+            }
         }
-        assert!(rt; words.as_bytes() == wanted.as_bytes(), "{words}");
-        assert!(rt; self.gate.next_act().is_none(), "one more act");
     }
 
-    /// It opens, asks on stream 1 for captured link 7, and writes all that waits; the gateway's SETTINGS come, and are acknowledged.
-    pub fn open(&mut self, rt: &impl Abort) {
-        self.gate.opened();
-        self.asks(rt, 7, 1);
-        self.sends(rt, crate::lives::FIRST);
-        self.comes(rt, "000000040000000000");
-        self.looks(rt, &["nothing"]);
-        self.sends(rt, "000000040100000000");
+    fn put(&mut self, rt: &impl Abort, row: u32, stream: u32, words: &str) {
+        let (wanted, digits) = cut(words);
+        let bytes = octets_of(rt, self.alloc, digits);
+        let n = self.gate.put(stream, bytes.as_slice());
+        assert!(rt; n as u64 == number_of(rt, wanted), "row {row}: {n} bytes");
+    }
+
+    fn leave(&mut self, rt: &impl Abort, row: u32, stream: u32, wanted: u64) {
+        assert!(rt; self.gate.is_through(stream), "row {row}: bytes wait");
+        let begun = self.gate.leave(stream);
+        assert!(rt; begun == wanted, "row {row}: {begun} bytes");
+    }
+
+    /// A line on a stream.
+    fn on_stream(&mut self, rt: &impl Abort, row: u32, call: &str, rest: &str) {
+        let (number, words) = cut(rest);
+        let stream = u32::try_from(number_of(rt, number)).unwrap_or(0);
+        match call {
+            "ask" => self.ask(rt, row, stream, number_of(rt, words)),
+            "carries" => self.carries(rt, row, stream, words),
+            "put" => self.put(rt, row, stream, words),
+            "credit" => self.gate.credit(stream, number_of(rt, words)),
+            "finish" => self.gate.finish(stream),
+            "leave" => self.leave(rt, row, stream, number_of(rt, words)),
+            "drop" => {
+                let begun = self.gate.give_up(stream);
+                assert!(rt; begun == number_of(rt, words), "row {row}: {begun} bytes");
+            }
+            _ => panic!(rt; "row {row}: no call {call}"),
+        }
+    }
+
+    /// One line of the life of this row.
+    pub fn line(&mut self, rt: &impl Abort, row: u32, line: &str) {
+        let (call, rest) = cut(line);
+        match call {
+            "opened" => self.gate.opened(),
+            "ended" => self.gate.ended(),
+            "came" => self.come(rt, row, rest),
+            "sent" => self.sent(rt, row, rest),
+            "look" => self.look(rt, row, rest),
+            "brought" => self.brought(rt, row, rest),
+            "mail" => self.mail(rt, row, rest),
+            "close" => self.close(rt, row, rest),
+            "resets" => self.gate.reset_ended(),
+            "full" => assert!(rt; !self.gate.offers(), "row {row}: it has room"),
+            "last" => assert!(rt; self.gate.last_words(), "row {row}: nothing waits"),
+            _ => self.on_stream(rt, row, call, rest),
+        }
     }
 }

@@ -5,3 +5,7 @@
 mod drive;
 #[cfg(test)]
 mod lives;
+#[cfg(test)]
+mod rows;
+#[cfg(test)]
+mod words;

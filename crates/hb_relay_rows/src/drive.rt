@@ -31,6 +31,7 @@ fn word_of_why(why: Why) -> &'static str {
     match why {
         Why::Plain { link: 7 } => "plain",
         Why::Direct { link: 7 } => "direct",
+        Why::Gateway { link: 7 } => "gateway",
         _ => "other",
     }
 }

@@ -4,6 +4,10 @@
 #[cfg(test)]
 mod drive;
 #[cfg(test)]
+mod gateway;
+#[cfg(test)]
+mod gateway_rows;
+#[cfg(test)]
 mod lives;
 #[cfg(test)]
 mod octets;

@@ -103,7 +103,7 @@ fn closes_an_unwhole_header(rt: HostRuntime) {
     drive.notes(&rt, ended, "none");
     drive.acts(&rt, &["close 7 front fault 0"]);
     let mut drive = Drive::new(&rt, alloc, Door::Plain, &[]);
-    let broke = drive.relay.broke(&mut drive.routes);
+    let broke = drive.relay.broke(0, &mut drive.routes);
     drive.notes(&rt, broke, "none");
     drive.acts(&rt, &["close 7 peer gone 0"]);
 }

@@ -3,7 +3,7 @@
 use crate::drive::{Drive, words_of_target};
 use crate::octets::{
     ALLOWS_NONE, BY_WAYPOINT, ENDPOINT, KNOWN, NO_POLICY, OTHER_ENDPOINT, OTHER_PORT, SERVICE,
-    SOURCE, TAKES_HBONE,
+    SOURCE,
 };
 use hb_base::{Door, Note, Target, read_target};
 use hb_held::OwnDoors;
@@ -62,18 +62,6 @@ fn refuses_where_no_route_leads(rt: HostRuntime) {
         &[SOURCE, BY_WAYPOINT, NO_POLICY],
         "503",
         "close 7 no route 4",
-    );
-}
-
-#[test]
-fn refuses_a_gateway(rt: HostRuntime) {
-    let alloc = rt.alloc();
-    is_refused(
-        &rt,
-        alloc,
-        &[SOURCE, TAKES_HBONE, NO_POLICY],
-        "503",
-        "close 7 no room 0",
     );
 }
 

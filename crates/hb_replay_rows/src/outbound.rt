@@ -97,9 +97,9 @@ a service, dialled at its endpoint, and an update that denies each peer; <usual>
 ><w2><open3><piece>616263<then2><deny><then1>6465<then2>66<w3>; 0; link 1 discovery 10.0.0.1:15010: received 1299, sen\
 t 580, closed stopped|<out2>33, sent 1, closed stopped|<direct3>1, sent 5, closed stopped|<web2>end 2/0 stopped up 5 d\
 own 1|total: 3 links, 1 accepted, 0 revoked, 5 up, 1 down|; \n\
-a gateway has no room; <usual> <odoor>; <mesh><outb><piece>0d0a0d0a000d0a515549540a2111000c0a0000090a0000060fa00050616\
-263<w2>; 0; <meshplane><out2>31, sent 0, closed no room|verdict 2/0 503 10.0.0.9 - 10.0.0.6:80|total: 2 links, 0 accep\
-ted, 0 revoked, 0 up, 0 down|; \n\
+a gateway that never opens; <usual> <odoor>; <mesh><outb><piece>0d0a0d0a000d0a515549540a2111000c0a0000090a0000060fa000\
+50616263<w2>; 0; <meshplane><out2>31, sent 0, closed stopped|link 3 gateway 10.0.0.6:15008: received 0, sent 0, closed \
+stopped|total: 3 links, 0 accepted, 0 revoked, 0 up, 0 down|; \n\
 a source that is a workload of another node; <usual> <odoor>; <mesh><outb><piece>0d0a0d0a000d0a515549540a2111000c0a000\
 0080a0100010fa00050<w2>; 0; <meshplane><out2>28, sent 0, closed no route 1|verdict 2/0 503 10.0.0.8 - 10.1.0.1:80|tota\
 l: 2 links, 0 accepted, 0 revoked, 0 up, 0 down|; \n\
@@ -411,24 +411,27 @@ sent 0, closed stopped|link 19 direct 10.0.0.55:8080 of 18: received 0, sent 1, 
 opped up 1 down 0|end 16/0 stopped up 1 down 0|end 18/0 stopped up 1 down 0|total: 19 links, 9 accepted, 0 revoked, 9 \
 up, 0 down|; \n\
 a service whose endpoint takes HBONE; <usual> <odoor>; <mesh><outb><piece>0d0a0d0a000d0a515549540a2111000c0a0000090a01\
-00020fa00050<w2>; 0; <meshplane><out2>28, sent 0, closed no room|verdict 2/0 503 10.0.0.9 - 10.1.0.2:80|total: 2 links\
-, 0 accepted, 0 revoked, 0 up, 0 down|; \n\
+00020fa00050<w2>; 0; <meshplane><out2>28, sent 0, closed stopped|link 3 gateway 10.0.0.6:15008: received 0, sent 0, cl\
+osed stopped|total: 3 links, 0 accepted, 0 revoked, 0 up, 0 down|; \n\
 a workload of this node that takes HBONE; <usual> <odoor>; <mesh><outb><piece><front9><w2>; 0; <meshplane><out2>28, se\
-nt 0, closed no room|verdict 2/0 503 10.0.0.9 - 10.0.0.7:9090|total: 2 links, 0 accepted, 0 revoked, 0 up, 0 down|; \n\
+nt 0, closed stopped|link 3 gateway 10.0.0.7:15008: received 0, sent 0, closed stopped|total: 3 links, 0 accepted, 0 r\
+evoked, 0 up, 0 down|; \n\
 the source itself, which takes HBONE; <usual> <odoor>; <mesh><outb><piece>0d0a0d0a000d0a515549540a2111000c0a0000090a00\
-00090fa00050<w2>; 0; <meshplane><out2>28, sent 0, closed no room|verdict 2/0 503 10.0.0.9 - 10.0.0.9:80|total: 2 links\
-, 0 accepted, 0 revoked, 0 up, 0 down|; \n\
+00090fa00050<w2>; 0; <meshplane><out2>28, sent 0, closed stopped|link 3 gateway 10.0.0.9:15008: received 0, sent 0, cl\
+osed stopped|total: 3 links, 0 accepted, 0 revoked, 0 up, 0 down|; \n\
 the endpoint of the smaller name takes HBONE; <usual> <odoor>; <mesh><piece>000091000000000001000000008c125a0a01311251\
 0a2a<address>12230a211a040a00002128014a026e32b201120a07612f7765622e6112070a05085010903f1a026533222a<address>2a027839<w\
 1><outb><piece><frontweb><w2>; 0; link 1 discovery 10.0.0.1:15010: received 1311, sent 574, closed stopped|<out2>28, s\
-ent 0, closed no room|<no2>total: 2 links, 0 accepted, 0 revoked, 0 up, 0 down|; \n\
+ent 0, closed stopped|link 3 gateway 10.0.0.33:15008: received 0, sent 0, closed stopped|total: 3 links, 0 accepted, 0 \
+revoked, 0 up, 0 down|; \n\
 an update by which an endpoint no longer takes HBONE; <usual> <odoor>; <mesh><outb><piece>0d0a0d0a000d0a515549540a2111\
 000c0a0000090a0100020fa00050<then2>000090000000000001000000008b12590a013112500a2a<address>12220a201a040a0000064a026e32\
 b201130a08612f676174652e6112070a05085010903f1a026736222a<address>2a027839<w1><outb><piece>0d0a0d0a000d0a515549540a2111\
-000c0a0000090a0100020fa000506e6f77<w3><open4>; 0; link 1 discovery 10.0.0.1:15010: received 1310, sent 574, closed sto\
-pped|<out2>28, sent 0, closed no room|link 3 outbound: received 31, sent 0, closed stopped|link 4 direct 10.0.0.6:8080 \
-of 3: received 0, sent 3, closed stopped|verdict 2/0 503 10.0.0.9 - 10.1.0.2:80|verdict 3/0 200 10.0.0.9 - 10.1.0.2:80\
-|end 3/0 stopped up 3 down 0|total: 4 links, 1 accepted, 0 revoked, 3 up, 0 down|; \n\
+000c0a0000090a0100020fa000506e6f77<w4>{'open':5}|<wake>; 0; link 1 discovery 10.0.0.1:15010: received 1310, sent 574, \
+closed stopped|<out2>28, sent 0, closed stopped|link 3 gateway 10.0.0.6:15008: received 0, sent 0, closed stopped|link \
+4 outbound: received 31, sent 0, closed stopped|link 5 direct 10.0.0.6:8080 of 4: received 0, sent 3, closed stopped|v\
+erdict 4/0 200 10.0.0.9 - 10.1.0.2:80|end 4/0 stopped up 3 down 0|total: 5 links, 1 accepted, 0 revoked, 3 up, 0 down|\
+; \n\
 nothing was told yet; <usual> <odoor>; {'open':1}|<wake><outb><piece><frontweb><w2>; 0; link 1 discovery 10.0.0.1:1501\
 0: received 0, sent 311, closed stopped|<out2>28, sent 0, closed refused 503|<no2>total: 2 links, 0 accepted, 0 revoke\
 d, 0 up, 0 down|; \n\
@@ -496,8 +499,8 @@ a service's port that is the door's, and leads elsewhere; <usual> <odoor>; <mesh
 , sent 574, closed stopped|<out2>29, sent 0, closed stopped|<direct3>0, sent 1, closed stopped|verdict 2/0 200 10.0.0.\
 9 - 10.1.0.1:15001|end 2/0 stopped up 1 down 0|total: 3 links, 1 accepted, 0 revoked, 1 up, 0 down|; \n\
 a door behind a gateway; <usual> <odoor>; <mesh><outb><piece>0d0a0d0a000d0a515549540a2111000c0a0000090a0000060fa03a99<\
-w2>; 0; <meshplane><out2>28, sent 0, closed no room|verdict 2/0 503 10.0.0.9 - 10.0.0.6:15001|total: 2 links, 0 accept\
-ed, 0 revoked, 0 up, 0 down|; \n\
+w2>; 0; <meshplane><out2>28, sent 0, closed stopped|link 3 gateway 10.0.0.6:15008: received 0, sent 0, closed stopped|\
+total: 3 links, 0 accepted, 0 revoked, 0 up, 0 down|; \n\
 a door, and a source that isn't known; <usual> <odoor>; <mesh><outb><piece>0d0a0d0a000d0a515549540a2111000c0a0000420a0\
 000080fa03a99<w2>; 0; <meshplane><out2>28, sent 0, closed no route 1|verdict 2/0 503 10.0.0.66 - 10.0.0.8:15001|total: \
 2 links, 0 accepted, 0 revoked, 0 up, 0 down|; \n\
@@ -534,12 +537,12 @@ a fault of the header: two identities; <usual> <odoor>; <mesh><outb><piece>0d0a0
 100010fa00050e000207370696666653a2f2f636c75737465722e6c6f63616c2f6e732f612f73612f63e000207370696666653a2f2f636c7573746\
 5722e6c6f63616c2f6e732f612f73612f63<w2>; 0; <meshplane><out2>98, sent 0, closed front fault 5|total: 2 links, 0 accept\
 ed, 0 revoked, 0 up, 0 down|; \n\
-nothing at all; <usual> <odoor>; <mesh><outb><wake>; 0; <meshplane><out2>0, sent 0, closed stopped|total: 2 links, 0 a\
-ccepted, 0 revoked, 0 up, 0 down|; \n\
 ";
 
 /// Runs.
 pub const OUTBOUND_3: &[u8] = b"\
+nothing at all; <usual> <odoor>; <mesh><outb><wake>; 0; <meshplane><out2>0, sent 0, closed stopped|total: 2 links, 0 a\
+ccepted, 0 revoked, 0 up, 0 down|; \n\
 a dial that fails; <usual> <odoor>; <mesh>{'nodial':1}|<outb><piece><frontweb>616263<w2>; 0; <meshplane><out2>31, sent \
 0, closed up fault|verdict 2/0 502 10.0.0.9 - 10.1.0.1:80|total: 2 links, 0 accepted, 0 revoked, 0 up, 0 down|; \n\
 a dial that fails, and one that doesn't; <usual> <odoor>; <mesh>{'nodial':1}|<outb><piece><frontweb>616263<w2><outb><p\
@@ -849,7 +852,7 @@ ddress>12210a1f1a040a0000214a026e32b201120a07612f7765622e6112070a05085010903f1a0
 10000000030122a<address>32027839|accepted 2 outbound|came 2 <frontweb>61|dialled 3 10.0.0.33:8080|opened 3|went 3 61|a\
 ccepted 4 outbound|came 4 <frontweb>62|dialled 5 10.0.0.4:8080|opened 5|went 5 62|ended 2|shut 3|ended 3|closed 3 done\
 |closed 2 done|accepted 6 outbound|came 6 <frontweb>63|dialled 7 10.0.0.33:8080|opened 7|went 7 63|closed 1 stopped|cl\
-osed 5 stopped|closed 4 stopped|closed 7 stopped|closed 6 stopped|link 1 discovery 10.0.0.1:15010: received 1399, sent \
+osed 5 stopped|closed 7 stopped|closed 4 stopped|closed 6 stopped|link 1 discovery 10.0.0.1:15010: received 1399, sent \
 574, closed stopped|<out2>29, sent 0, closed done|link 3 direct 10.0.0.33:8080 of 2: received 0, sent 1, closed done|l\
 ink 4 outbound: received 29, sent 0, closed stopped|link 5 direct 10.0.0.4:8080 of 4: received 0, sent 1, closed stopp\
 ed|link 6 outbound: received 29, sent 0, closed stopped|link 7 direct 10.0.0.33:8080 of 6: received 0, sent 1, closed \
@@ -863,7 +866,7 @@ tb><piece><frontweb>61<w2>{'break':3}|<wake><outb><piece><frontweb>62<w4>{'open'
 f1a02653312580a0131124f0a2a<address>12210a1f1a040a0000374a026e32b201120a07612f7765622e6112070a05085010903f1a026535222a\
 <address>2a027839|went 1 0000350000000000010000000030122a<address>32027839|accepted 2 outbound|came 2 <frontweb>61|dia\
 lled 3 10.0.0.33:8080|accepted 4 outbound|came 4 <frontweb>62|dialled 5 10.0.0.4:8080|opened 5|went 5 62|closed 1 stop\
-ped|closed 3 stopped|closed 2 stopped|closed 5 stopped|closed 4 stopped|link 1 discovery 10.0.0.1:15010: received 1399\
+ped|closed 3 stopped|closed 5 stopped|closed 2 stopped|closed 4 stopped|link 1 discovery 10.0.0.1:15010: received 1399\
 , sent 574, closed stopped|<out2>29, sent 0, closed stopped|link 3 direct 10.0.0.33:8080 of 2: received 0, sent 0, clo\
 sed stopped|link 4 outbound: received 29, sent 0, closed stopped|link 5 direct 10.0.0.4:8080 of 4: received 0, sent 1, \
 closed stopped|verdict 4/0 200 10.0.0.9 - 10.1.0.1:80|end 4/0 stopped up 1 down 0|total: 5 links, 1 accepted, 0 revoke\
@@ -882,16 +885,13 @@ ted 2 outbound|came 2 <frontweb>61|dialled 3 10.0.0.33:8080|opened 3|went 3 61|a
 00350000000000010000000030122a<address>32027839|came 1 00008f000000000001000000008a12580a0131124f0a2a<address>12210a1f\
 1a040a0000214a026e32b201120a07612f7765622e6112070a05085010903f1a026533222a<address>2a027839|went 1 0000350000000000010\
 000000030122a<address>32027839|accepted 6 outbound|came 6 <frontweb>63|dialled 7 10.0.0.55:8080|opened 7|went 7 63|clo\
-sed 1 stopped|closed 3 stopped|closed 2 stopped|closed 5 stopped|closed 4 stopped|closed 7 stopped|closed 6 stopped|li\
+sed 1 stopped|closed 3 stopped|closed 5 stopped|closed 7 stopped|closed 2 stopped|closed 4 stopped|closed 6 stopped|li\
 nk 1 discovery 10.0.0.1:15010: received 1617, sent 698, closed stopped|<out2>29, sent 0, closed stopped|link 3 direct \
 10.0.0.33:8080 of 2: received 0, sent 1, closed stopped|link 4 outbound: received 29, sent 0, closed stopped|link 5 di\
 rect 10.0.0.4:8080 of 4: received 0, sent 1, closed stopped|link 6 outbound: received 29, sent 0, closed stopped|link \
 7 direct 10.0.0.55:8080 of 6: received 0, sent 1, closed stopped|<web2>verdict 4/0 200 10.0.0.9 - 10.1.0.1:80|verdict \
 6/0 200 10.0.0.9 - 10.1.0.1:80|end 2/0 stopped up 1 down 0|end 4/0 stopped up 1 down 0|end 6/0 stopped up 1 down 0|tot\
 al: 7 links, 3 accepted, 0 revoked, 3 up, 0 down|; \n\
-a workload of this node that takes HBONE, told; <usual> <odoor> --trace; <mesh><outb><piece><front9><w2>; 0; <meshtold\
->accepted 2 outbound|came 2 <front9>|closed 2 no room|closed 1 stopped|<meshplane><out2>28, sent 0, closed no room|ver\
-dict 2/0 503 10.0.0.9 - 10.0.0.7:9090|total: 2 links, 0 accepted, 0 revoked, 0 up, 0 down|; \n\
 workloads alone were told, told; <usual> <odoor> --trace; {'open':1}|<wake><piece><welcome>','link':1}|<piece>00033b00\
 0000000001000000033612450a0131123c0a2a<address>120e0a0c1a040a00000928014a026e311a02773912430a0131123a0a2a<address>120c\
 0a0a1a040a0000084a026e321a027038125b0a013112520a2a<address>12240a221a040a00000628014a026e32b201130a08612f676174652e611\
@@ -951,7 +951,7 @@ two links to two places, told; <usual> <odoor> --trace; <mesh><outb><piece><fron
 515549540a2111000c0a0000090a0000080fa0005062<w4>{'open':5}|<wake><open3><piece>7878<w3>{'end':2}|<wake><piece>797979<w\
 5>; 0; <meshtold>accepted 2 outbound|came 2 <frontweb>61|dialled 3 10.0.0.4:8080|accepted 4 outbound|came 4 0d0a0d0a00\
 0d0a515549540a2111000c0a0000090a0000080fa0005062|dialled 5 10.0.0.8:80|opened 5|went 5 62|opened 3|went 3 61|came 3 78\
-78|went 2 7878|ended 2|shut 3|came 5 797979|went 4 797979|closed 1 stopped|closed 3 stopped|closed 2 stopped|closed 5 \
+78|went 2 7878|ended 2|shut 3|came 5 797979|went 4 797979|closed 1 stopped|closed 3 stopped|closed 5 stopped|closed 2 \
 stopped|closed 4 stopped|<meshplane><out2>29, sent 2, closed stopped|<direct3>2, sent 1, closed stopped|link 4 outboun\
 d: received 29, sent 3, closed stopped|link 5 direct 10.0.0.8:80 of 4: received 3, sent 1, closed stopped|verdict 4/0 \
 200 10.0.0.9 - 10.0.0.8:80|<web2>end 2/0 stopped up 1 down 2|end 4/0 stopped up 1 down 3|total: 5 links, 2 accepted, 0 \
@@ -986,16 +986,16 @@ t 2 64656667|came 1 000091000000000001000000008c125a0a013112510a2a<address>12230
 came 2 6d6f7265|went 3 6d6f7265|came 3 6261636b|went 2 6261636b|closed 1 stopped|closed 3 stopped|closed 2 stopped|lin\
 k 1 discovery 10.0.0.1:15010: received 1311, sent 574, closed stopped|<out2>35, sent 8, closed stopped|<direct3>8, sen\
 t 7, closed stopped|<web2>end 2/0 stopped up 7 down 8|total: 3 links, 1 accepted, 0 revoked, 7 up, 8 down|; \n\
-";
-
-/// Runs.
-pub const OUTBOUND_5: &[u8] = b"\
 a peer that takes an octet at a time, told; <usual> <odoor> --trace; <mesh><outb><piece><frontweb><w2><open3>{'link':2\
 ,'room':1}|<wake><piece>68656c6c6f','link':3}|{'link':2,'room':1}|<wake>{'link':2,'room':1}|<wake>{'link':2,'room':1}|\
 <wake>{'link':2,'room':1}|<wake>{'link':2,'room':1}|<wake>; 0; <meshtold>accepted 2 outbound|came 2 <frontweb>|dialled \
 3 10.0.0.4:8080|opened 3|came 3 68656c6c6f|went 2 68|went 2 65|went 2 6c|went 2 6c|went 2 6f|closed 1 stopped|closed 3 \
 stopped|closed 2 stopped|<meshplane><out2>28, sent 5, closed stopped|<direct3>5, sent 0, closed stopped|<web2>end 2/0 \
 stopped up 0 down 5|total: 3 links, 1 accepted, 0 revoked, 0 up, 5 down|; \n\
+";
+
+/// Runs.
+pub const OUTBOUND_5: &[u8] = b"\
 the run ends with three doors, told; <usual> <alldoors> --trace; <mesh><start>0000180104000000010207434f4e4e454354010d\
 31302e302e302e373a39303930<w2><open3><plain><piece><front9><w4>{'open':5}|<wake><outb><piece><frontweb>','link':6}|<wa\
 ke>{'open':7}|<wake><piece>0000020000000000017570<then2>726177<then4>6f7574','link':6}|<wake>; 0; <meshtold>accepted 2 \
@@ -1003,7 +1003,7 @@ inbound|came 2 <front><preface>0000000400000000000000180104000000010207434f4e4e4
 alled 3 10.0.0.7:9090|went 2 <own>000000040100000000|opened 3|went 2 0000020104000000012088|accepted 4 plain|came 4 <f\
 ront9>|dialled 5 10.0.0.7:9090|opened 5|accepted 6 outbound|came 6 <frontweb>|dialled 7 10.0.0.4:8080|opened 7|came 2 \
 0000020000000000017570|went 3 7570|came 4 726177|went 5 726177|came 6 6f7574|went 7 6f7574|closed 1 stopped|closed 3 s\
-topped|closed 2 stopped|closed 5 stopped|closed 4 stopped|closed 7 stopped|closed 6 stopped|<meshplane><in2>140, sent \
+topped|closed 2 stopped|closed 5 stopped|closed 7 stopped|closed 4 stopped|closed 6 stopped|<meshplane><in2>140, sent \
 41, closed stopped|link 3 upstream 10.0.0.7:9090 of 2/1: received 0, sent 2, closed stopped|link 4 plain: received 31, \
 sent 0, closed stopped|link 5 relay 10.0.0.7:9090 of 4: received 0, sent 3, closed stopped|link 6 outbound: received 3\
 1, sent 0, closed stopped|link 7 direct 10.0.0.4:8080 of 6: received 0, sent 3, closed stopped|verdict 2/1 200<peer>10\

@@ -4,7 +4,7 @@ use crate::modelled::{
     MODELLED_1, MODELLED_2, MODELLED_3, MODELLED_4, MODELLED_5, MODELLED_6, MODELLED_7, MODELLED_8,
 };
 use crate::notation::{cut, spelled, text_of};
-use crate::outbound::{OUTBOUND_1, OUTBOUND_2, OUTBOUND_3};
+use crate::outbound::{OUTBOUND_1, OUTBOUND_2, OUTBOUND_3, OUTBOUND_4, OUTBOUND_5};
 use crate::plain::{PLAIN_1, PLAIN_2};
 use crate::rows::{
     REFUSED, ROWS_1, ROWS_2, ROWS_3, ROWS_4, ROWS_5, ROWS_6, ROWS_7, ROWS_8, ROWS_9, ROWS_10, USAGE,
@@ -212,6 +212,16 @@ fn runs_of_the_second_outbound_table_end_as_the_pages_say(rt: HostRuntime) {
 #[test]
 fn runs_of_the_third_outbound_table_end_as_the_pages_say(rt: HostRuntime) {
     assert_table(&rt, OUTBOUND_3);
+}
+
+#[test]
+fn runs_of_the_fourth_outbound_table_end_as_the_pages_say(rt: HostRuntime) {
+    assert_table(&rt, OUTBOUND_4);
+}
+
+#[test]
+fn runs_of_the_fifth_outbound_table_end_as_the_pages_say(rt: HostRuntime) {
+    assert_table(&rt, OUTBOUND_5);
 }
 
 #[test]

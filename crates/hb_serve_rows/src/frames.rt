@@ -10,7 +10,7 @@ vice/DeltaAggregatedResources\x01\x0f127.0.0.1:#####\x00\x02te\x08trailers\x0f\x
 \x00\x00\x00\x01\x00\x00\x00\x002\x0a\x04\x0a\x02z1\x12*type.googleapis.com/istio.workload.Address\x00\x00\x00\x008\x0a\
 \x04\x0a\x02z1\x120type.googleapis.com/istio.security.Authorization";
 
-/// The control plane's SETTINGS, and the headers of its answer.
+/// SETTINGS of the control plane, or of a gateway, and the headers of its answer 200 on stream 1.
 pub const ANSWERED: &[u8] = b"\
 \x00\x00\x00\x04\x00\x00\x00\x00\x00\x00\x00\x01\x01\x04\x00\x00\x00\x01\x88";
 
@@ -67,8 +67,14 @@ pub const STRAIGHT: &[u8] = b"\
 ss\x12\x1a\x0a\x18\x0a\x03web\x12\x01a\x1a\x04\x7f\x00\x00\x01J\x02n1\x82\x01\x03a/p\x1a\x02u1\x22*type.googleapis.com/i\
 stio.workload.Address*\x02x9";
 
-/// The program's answer to it.
-pub const STRAIGHT_TAKEN: &[u8] = b"\
+/// A response in which the workload u1 has an account.
+pub const NAMED: &[u8] = b"\
+\x00\x00\x8d\x00\x00\x00\x00\x00\x01\x00\x00\x00\x00\x88\x12V\x0a\x011\x12M\x0a*type.googleapis.com/istio.workload.Addre\
+ss\x12\x1f\x0a\x1d\x0a\x03web\x12\x01a\x1a\x04\x7f\x00\x00\x01J\x02n1\x82\x01\x03a/p:\x01c(\x01\x1a\x02u1\x22*type.googl\
+eapis.com/istio.workload.Address*\x02x9";
+
+/// The program's answer to either.
+pub const WAY_TAKEN: &[u8] = b"\
 \x00\x005\x00\x00\x00\x00\x00\x01\x00\x00\x00\x000\x12*type.googleapis.com/istio.workload.Address2\x02x9";
 
 /// The header of a captured connection, without an identity, up to the port of its destination, which is this machine.
@@ -116,3 +122,33 @@ pub const PING: &[u8] = b"\
 /// Its answer.
 pub const PONG: &[u8] = b"\
 \x00\x00\x08\x06\x01\x00\x00\x00\x0012345678";
+
+/// The header of a link to a gateway, both at this machine, up to the gateway's port.
+pub const GATE_FRONT: &[u8] = b"\
+\x0d\x0a\x0d\x0a\x00\x0d\x0aQUIT\x0a!\x11\x00/\x7f\x00\x00\x01\x7f\x00\x00\x01\x00\x00";
+
+/// What stands behind it: the identity of the workload u1, a client's opening, and a request on stream 1.
+pub const GATE_OPENING: &[u8] = b"\
+\xe0\x00\x20spiffe://cluster.local/ns/a/sa/cPRI\x20*\x20HTTP/2.0\x0d\x0a\x0d\x0aSM\x0d\x0a\x0d\x0a\x00\x00\x0c\x04\x00\
+\x00\x00\x00\x00\x00\x02\x00\x00\x00\x00\x00\x06\x00\x00@\x00\x00\x00\x1b\x01\x04\x00\x00\x00\x01\x20\x02\x07CONNECT\x01\
+\x0f127.0.0.1:#####";
+
+/// A request on stream 3, not the first of its link, for a port of this machine.
+pub const SECOND_REQUEST: &[u8] = b"\
+\x00\x00\x1a\x01\x04\x00\x00\x00\x03\x02\x07CONNECT\x01\x0f127.0.0.1:#####";
+
+/// The gateway's answer 503 to it.
+pub const SECOND_REFUSED: &[u8] = b"\
+\x00\x00\x05\x01\x05\x00\x00\x00\x03\x08\x03503";
+
+/// Stream 3 is reset, as a request is that was refused.
+pub const SECOND_GIVEN_UP: &[u8] = b"\
+\x00\x00\x04\x03\x00\x00\x00\x00\x03\x00\x00\x00\x08";
+
+/// The head of DATA on stream 1 with 16,384 octets.
+pub const LARGE_HEAD: &[u8] = b"\
+\x00@\x00\x00\x00\x00\x00\x00\x01";
+
+/// A GOAWAY whose last stream is stream 1.
+pub const GOES_AWAY: &[u8] = b"\
+\x00\x00\x08\x07\x00\x00\x00\x00\x00\x00\x00\x00\x01\x00\x00\x00\x00";

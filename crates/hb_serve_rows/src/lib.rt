@@ -1,5 +1,5 @@
 //! Tests of `hbone serve` over the real sockets of this machine: the command runs in a thread, and the test is its control plane, its
-//! peer and its upstream.
+//! peer, its upstream and its gateway.
 #![tactic(auto)]
 
 #[cfg(test)]

@@ -1,10 +1,11 @@
 //! The runs.
 
 use crate::frames::{
-    ADMITTED, CHANGE_TAKEN, DENIED, FREED, HEADER, HELLO, LAST, LOCAL_HEADER, PING, POLICY,
-    POLICY_TAKEN, PONG, REFUSED, REVOKED, STRAIGHT, STRAIGHT_TAKEN, UPDATE, UPDATE_TAKEN,
+    ADMITTED, ANSWERED, CHANGE_TAKEN, DENIED, FREED, GOES_AWAY, HEADER, HELLO, LARGE_HEAD, LAST,
+    LOCAL_HEADER, NAMED, PING, POLICY, POLICY_TAKEN, PONG, REFUSED, REVOKED, SECOND_GIVEN_UP,
+    SECOND_REFUSED, SECOND_REQUEST, SETTLED, STRAIGHT, UPDATE, UPDATE_TAKEN, WAY_TAKEN,
 };
-use crate::octets::{assert_next, is_closed, next_data, pattern};
+use crate::octets::{assert_next, is_closed, next_data, pattern, with_port};
 use crate::serving::{Serving, next_at};
 use std::io;
 use std::net::{Net, Shutdown, TcpStream};
@@ -233,7 +234,7 @@ fn an_outbound_relay_outlives_an_update_that_denies_each_peer(rt: HostRuntime) -
     let serving = Serving::begin(&rt, rt.clone()?)?;
     let mut plane = serving.apply_all(&rt)?;
     io::Write::write_all(&mut plane, STRAIGHT)?;
-    assert_next(&rt, &mut plane, STRAIGHT_TAKEN, "the workload's answer")?;
+    assert_next(&rt, &mut plane, WAY_TAKEN, "the workload's answer")?;
     let (upstream, mut peer) = relay(&rt, &serving, serving.ports.outbound, LOCAL_HEADER)?;
     // The source of this one is no workload of the node.
     let mut other = serving.connect(&rt, serving.ports.outbound, HEADER)?;
@@ -249,6 +250,110 @@ fn an_outbound_relay_outlives_an_update_that_denies_each_peer(rt: HostRuntime) -
 verdict 2/0 200 127.0.0.1 - 127.0.0.1:#####\nverdict 4/0 503 10.0.0.9 - 127.0.0.1:#####\n\
 end 2/0 done up 5 down 100003\n",
     )?;
+    assert!(rt; is_closed(&mut plane));
+    Ok(())
+}
+
+/// The control plane's connection, once the workload has an identity too.
+fn plane_of_identities(
+    rt: &(impl Abort + AllocGlobal),
+    serving: &Serving,
+) -> Result<TcpStream, Fail> {
+    let mut plane = serving.apply_all(rt)?;
+    io::Write::write_all(&mut plane, NAMED)?;
+    assert_next(rt, &mut plane, WAY_TAKEN, "the workload's answer")?;
+    Ok(plane)
+}
+
+/// A captured connection by a link to the gateway of its own, by which octets went up: its peer's end, and its gateway's.
+fn relay_by_gateway(
+    rt: &(impl Net<Stream = TcpStream> + Abort + AllocGlobal),
+    serving: &Serving,
+) -> Result<(TcpStream, TcpStream), Fail> {
+    let mut peer = serving.connect(rt, serving.ports.outbound, LOCAL_HEADER)?;
+    io::Write::write_all(&mut peer, b"hello")?;
+    let mut gateway = serving.next_gateway(rt)?;
+    io::Write::write_all(&mut gateway, ANSWERED)?;
+    assert_next(rt, &mut gateway, SETTLED, "the answer to SETTINGS")?;
+    let (came, ended) = next_data(rt, &mut gateway, 5)?;
+    assert!(rt; came.as_slice() == b"hello".as_slice());
+    assert!(rt; !ended);
+    Ok((peer, gateway))
+}
+
+/// The gateway sends octets, all of which come to the peer.
+fn send_back(
+    rt: &(impl Abort + AllocGlobal),
+    gateway: &mut TcpStream,
+    peer: &mut TcpStream,
+) -> Result<(), Fail> {
+    let sent = pattern(rt.alloc(), 16_384)?;
+    io::Write::write_all(gateway, LARGE_HEAD)?;
+    io::Write::write_all(gateway, sent.as_slice())?;
+    assert_next(rt, peer, sent.as_slice(), "what comes back")?;
+    Ok(())
+}
+
+/// A second captured connection asks by the same link to the gateway, which refuses it.
+fn refuse_second(
+    rt: &(impl Net<Stream = TcpStream> + Abort + AllocGlobal),
+    serving: &Serving,
+    gateway: &mut TcpStream,
+) -> Result<(), Fail> {
+    let mut other = serving.connect(rt, serving.ports.outbound, LOCAL_HEADER)?;
+    let request = with_port(rt.alloc(), SECOND_REQUEST, serving.ports.upstream)?;
+    assert_next(rt, gateway, request.as_slice(), "the second request")?;
+    io::Write::write_all(gateway, SECOND_REFUSED)?;
+    assert!(rt; is_closed(&mut other));
+    assert_next(rt, gateway, SECOND_GIVEN_UP, "the second's reset")?;
+    Ok(())
+}
+
+#[test]
+fn an_outbound_relay_goes_by_a_gateway_to_its_end(rt: HostRuntime) -> Result<(), Fail> {
+    let serving = Serving::begin(&rt, rt.clone()?)?;
+    let mut plane = plane_of_identities(&rt, &serving)?;
+    let (mut peer, mut gateway) = relay_by_gateway(&rt, &serving)?;
+    send_down(&rt, &mut peer, &mut gateway, 40_000, 40_000)?;
+    send_back(&rt, &mut gateway, &mut peer)?;
+    refuse_second(&rt, &serving, &mut gateway)?;
+    end_both_ways(&rt, peer, &mut gateway)?;
+    let port = serving.ports.upstream;
+    serving.assert_ends(
+        &rt,
+        port,
+        "0; total: 4 links, 1 accepted, 0 revoked, 40008 up, 16384 down\n; ; \
+verdict 2/0 200 127.0.0.1 - 127.0.0.1:#####\nverdict 4/0 502 127.0.0.1 - 127.0.0.1:#####\n\
+end 2/0 done up 40008 down 16384\n",
+    )?;
+    assert!(rt; is_closed(&mut plane));
+    Ok(())
+}
+
+#[test]
+fn a_gateway_that_goes_away_gets_no_more_streams(rt: HostRuntime) -> Result<(), Fail> {
+    let serving = Serving::begin(&rt, rt.clone()?)?;
+    let mut plane = plane_of_identities(&rt, &serving)?;
+    let (mut peer, mut gateway) = relay_by_gateway(&rt, &serving)?;
+    io::Write::write_all(&mut gateway, GOES_AWAY)?;
+    io::Write::write_all(&mut gateway, PING)?;
+    assert_next(&rt, &mut gateway, PONG, "the answer to PING")?;
+    let (mut other, mut later) = relay_by_gateway(&rt, &serving)?;
+    io::Write::write_all(&mut gateway, HELLO)?;
+    assert_next(&rt, &mut peer, b"hello", "what comes back")?;
+    send_back(&rt, &mut later, &mut other)?;
+    let port = serving.ports.upstream;
+    serving.assert_ends(
+        &rt,
+        port,
+        "0; total: 5 links, 2 accepted, 0 revoked, 10 up, 16389 down\n; ; \
+verdict 2/0 200 127.0.0.1 - 127.0.0.1:#####\nverdict 4/0 200 127.0.0.1 - 127.0.0.1:#####\n\
+end 2/0 stopped up 5 down 5\nend 4/0 stopped up 5 down 16384\n",
+    )?;
+    assert!(rt; is_closed(&mut peer));
+    assert!(rt; is_closed(&mut gateway));
+    assert!(rt; is_closed(&mut other));
+    assert!(rt; is_closed(&mut later));
     assert!(rt; is_closed(&mut plane));
     Ok(())
 }

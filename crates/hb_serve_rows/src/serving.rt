@@ -1,7 +1,8 @@
 //! A run of `serve` in a thread of its own, and the other ends of its connections.
 
 use crate::frames::{
-    ANSWERED, ASKED, GREETED, POLICY, POLICY_TAKEN, REQUEST, SETTLED, WORKLOAD, WORKLOAD_TAKEN,
+    ANSWERED, ASKED, GATE_FRONT, GATE_OPENING, GREETED, POLICY, POLICY_TAKEN, REQUEST, SETTLED,
+    WORKLOAD, WORKLOAD_TAKEN,
 };
 use crate::octets::{assert_next, with_port};
 use hb_audit::Audits;
@@ -19,7 +20,8 @@ use std::test::Fail;
 use std::thread::{self, JoinHandle, Threads};
 use std::time::Duration;
 
-/// The control plane's port, those of the inbound door, the plain one and the outbound one, and that of an upstream, each of five digits.
+/// The control plane's port, those of the inbound door, the plain one and the outbound one, and those of an upstream and of a gateway,
+/// each of five digits.
 #[derive(Clone, Copy)]
 pub struct Ports {
     pub plane: u16,
@@ -27,14 +29,16 @@ pub struct Ports {
     pub plain: u16,
     pub outbound: u16,
     pub upstream: u16,
+    pub gateway: u16,
 }
 
-/// The run, and where its control plane and its upstream listen.
+/// The run, and where its control plane, its upstream and its gateway listen.
 #[derive(Drop)]
 pub struct Serving {
     pub ports: Ports,
     pub upstream: TcpListener,
     plane: TcpListener,
+    gateway: TcpListener,
     run: JoinHandle<Option<String>>,
 }
 
@@ -61,11 +65,12 @@ fn words_of(rt: &HostRuntime, ports: Ports) -> io::Result<Vec<String>> {
         door,
         plain,
         outbound,
+        gateway,
         ..
     } = ports;
     let text = format!(in rt.alloc();
         "serve --node n1 --id z1 --discovery 127.0.0.1:{plane} --inbound 127.0.0.1:{door} --plain 127.0.0.1:{plain} \
---outbound 127.0.0.1:{outbound} --ticks 5"
+--outbound 127.0.0.1:{outbound} --hbone-port {gateway} --ticks 5"
     )?;
     let mut words = Vec::new(rt.alloc());
     for word in text.as_str().split(' ') {
@@ -119,6 +124,7 @@ fn served_to_its_end(rt: &HostRuntime, ports: Ports) -> Option<String> {
     let told = served(rt, ports);
     let _ = TcpStream::connect(rt, at(ports.plane));
     let _ = TcpStream::connect(rt, at(ports.upstream));
+    let _ = TcpStream::connect(rt, at(ports.gateway));
     told.ok()
 }
 
@@ -139,6 +145,7 @@ impl Serving {
     pub fn begin(rt: &impl Threads, net: HostRuntime) -> Result<Serving, Fail> {
         let (plane, plane_port) = listener(&net)?;
         let (upstream, upstream_port) = listener(&net)?;
+        let (gateway, gateway_port) = listener(&net)?;
         let (_, door) = listener(&net)?;
         let (_, plain) = listener(&net)?;
         let (_, outbound) = listener(&net)?;
@@ -148,12 +155,14 @@ impl Serving {
             plain,
             outbound,
             upstream: upstream_port,
+            gateway: gateway_port,
         };
         let run = thread::spawn(rt, move || served_to_its_end(&net, ports))?;
         Ok(Serving {
             ports,
             upstream,
             plane,
+            gateway,
             run,
         })
     }
@@ -198,6 +207,17 @@ impl Serving {
         io::Write::write_all(&mut peer, header)?;
         io::Write::write_all(&mut peer, &self.ports.upstream.to_be_bytes())?;
         Ok(peer)
+    }
+
+    /// A link to the gateway, up to the request on its first stream, which is for the upstream.
+    pub fn next_gateway(&self, rt: &(impl Abort + AllocGlobal)) -> Result<TcpStream, Fail> {
+        let mut gateway = next_at(&self.gateway)?;
+        assert_next(rt, &mut gateway, GATE_FRONT, "the header")?;
+        let port = self.ports.gateway.to_be_bytes();
+        assert_next(rt, &mut gateway, &port, "the gateway's port")?;
+        let opening = with_port(rt.alloc(), GATE_OPENING, self.ports.upstream)?;
+        assert_next(rt, &mut gateway, opening.as_slice(), "the opening")?;
+        Ok(gateway)
     }
 
     /// Waits for the end of the run, and compares it with a text, in which a port of this machine has marks.
