@@ -197,10 +197,10 @@ class Gateways(Crowd):
         """Something that is of a link as a whole."""
         if self.choice.random() < 0.3 and link not in self.away:
             self.send_away(link, self.choice.choice([0, *link.asked]))
-        elif self.choice.random() < 0.5:
+        elif self.choice.random() < 0.5 and not link.settings_out:
             settings = h2.settings.SettingCodes
             code, most = self.choice.choice([(settings.MAX_CONCURRENT_STREAMS, 5), (settings.INITIAL_WINDOW_SIZE, 100_000)])
-            link.conn.update_settings({code: self.choice.randrange(1, most)})
+            link.set(code, self.choice.randrange(1, most))
         else:
             self.choice.choice([link.close, link.abort])()
             link.over = "closed"

@@ -420,6 +420,30 @@ def a_gateway_that_grants_nothing(room):
 
 
 @case
+def windows_of_a_gateway_that_change(room):
+    """A gateway that sets its streams' windows to 0 amid bytes, to 10 and to 1,000,000: no byte is lost, none comes beyond the windows."""
+    gateway = room.gateway()
+    outbound(room, gateway.port)
+    client, link, stream = let_in(room, gateway)
+    text = payload(3_000_000)
+
+    def change():
+        for window in (0, 10, 1_000_000, 100, 500_000):
+            link.pump(lambda: not link.settings_out, "an acknowledgement")
+            link.set(h2.settings.SettingCodes.INITIAL_WINDOW_SIZE, window)
+            link.rest(0.1)
+        link.conn.increment_flow_control_window(1_000_000, stream)
+        link.pump(lambda: stream in link.ended, "END_STREAM")
+        link.send(stream, b"", end=True)
+        link.flush()
+
+    with ThreadPoolExecutor(1) as pool:
+        back = pool.submit(client.both, text)
+        change()
+        wanted("what came", (link.came[stream] == text, back.result()), (True, b""))
+
+
+@case
 def a_captured_connection_that_reads_nothing(room):
     """A captured connection that reads nothing: its gateway is granted no more than what fits on the way; others of the link go on."""
     gateway = room.gateway()
@@ -462,7 +486,7 @@ def a_gateway_that_takes_two_streams(room):
     gateway = room.gateway()
     outbound(room, gateway.port)
     client, link, stream = let_in(room, gateway)
-    link.conn.update_settings({h2.settings.SettingCodes.MAX_CONCURRENT_STREAMS: 2})
+    link.set(h2.settings.SettingCodes.MAX_CONCURRENT_STREAMS, 2)
     talks(client, link, stream)
     second, second_stream = one_more(room, link)
     third, third_link, third_stream = let_in(room, gateway)

@@ -443,6 +443,12 @@ class Link(End):
         super().__init__(it, False, **settings)
         self.front, self.begun, self.asked, self.echoes = None, b"", {}, echoes
         self.conn.initiate_connection()
+        self.settings_out = 1
+
+    def set(self, code, value):
+        """Sends one of SETTINGS. (python3-h2 takes an acknowledgement for one of each that is out: call it where none is)"""
+        self.conn.update_settings({code: value})
+        self.settings_out += 1
 
     def got(self, data):
         if self.front is None:
@@ -462,6 +468,7 @@ class Link(End):
                 self.answer(stream)
             return
         super().take(event)
+        self.settings_out -= isinstance(event, h2.events.SettingsAcknowledged)
         if self.echoes and isinstance(event, h2.events.DataReceived):
             self.send(stream, event.data)
         if self.echoes and isinstance(event, h2.events.StreamEnded):
