@@ -2,10 +2,13 @@ pub mod Utf8Test
 pub mod AddressLemmas
 pub mod BytesLemmas
 pub mod DecimalLemmas
+pub mod FrontLemmas
+pub mod GroupLemmas
 pub mod IdentityLemmas
 pub mod NameLemmas
 pub mod OctetLemmas
 pub mod PartsLemmas
 pub mod PieceLemmas
+pub mod ShortLemmas
 pub mod TargetLemmas
 pub mod TestLemmas

@@ -2,6 +2,7 @@ pub mod CauseText
 pub mod Cidr
 pub mod Count
 pub mod Decimal
+pub mod Groups
 pub mod IdentityText
 pub mod IpText
 pub mod MemSink

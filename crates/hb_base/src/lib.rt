@@ -6,6 +6,7 @@ mod bytes;
 mod cause;
 mod cidr;
 mod door;
+mod groups;
 mod identity;
 mod ip;
 mod laws;
@@ -34,6 +35,7 @@ pub use bytes::Bytes;
 pub use cause::Cause;
 pub use cidr::Cidr;
 pub use door::{Door, Why};
+pub use groups::put_groups;
 pub use identity::{Identity, is_identity, read_identity};
 pub use ip::{Ip, put_ip, read_ip};
 pub use laws::{

@@ -3,8 +3,9 @@ use Rattle.std.proofs.Common.{◌≡◌, ℕ, zero, suc, ◌+◌, ◌-◌, ◌�
 use Rattle.std.specs.Prelude.{nat_lt}
 use Rattle.std.specs.List.{flat_map}
 use Rattle.std.proofs.lemmas.List.Concat.{flat_map-cons}
+use Rattle.hb_base.proofs.GroupLemmas.{groups_few}
 use Rattle.hb_hpack.specs.Table.{size_of, total}
-use Rattle.hb_hpack.specs.Encoding.{Writing, groups_of, integer_of, string_of, literal_of, representation_of, header_of, opening, block_of}
+use Rattle.hb_hpack.specs.Encoding.{Writing, integer_of, string_of, literal_of, representation_of, header_of, opening, block_of}
 use Rattle.hb_hpack.specs.Integer.{full}
 use Rattle.hb_hpack.specs.declared.header.Header.{Header}
 use Rattle.hb_hpack.specs.declared.spelling.Spelling.TheVariants.{Plain}
@@ -20,16 +21,10 @@ either_short : (b : Bool) (xs ys : List ℕ) (n : ℕ) → length xs ≤ n → l
 either_short true xs ys n x y = x
 either_short false xs ys n x y = y
 
-groups_short : (most n : ℕ) → length (groups_of most n) ≤ most
-unfolding groups_of
-groups_short zero n = omega arith
-groups_short (suc most) n =
-    either_short (nat_lt n 128) _ _ _ (omega arith) (omega (arith, groups_short most (n / 128)))
-
 integer_short : (prefix flag n : ℕ) → length (integer_of prefix flag n) ≤ 11
 unfolding integer_of
 integer_short prefix flag n =
-    either_short (nat_lt n (full prefix)) _ _ _ (omega arith) (omega (arith, groups_short 10 (n - full prefix)))
+    either_short (nat_lt n (full prefix)) _ _ _ (omega arith) (omega (arith, groups_few 10 (n - full prefix)))
 
 string_short : (text : List ℕ) → length (string_of Plain text) ≤ 11 + length text
 unfolding string_of

@@ -2,17 +2,11 @@
 use Rattle.std.proofs.Common.{◌≡◌, ◌⊎◌, inl, inr, ⊎_elim, ℕ, ◌+◌, ◌-◌, ◌≤◌, ◌<◌, List, [], ◌∷◌, ◌++◌, length, take, drop, refl, ap, ◌∙◌, sym, arith}
 use Rattle.std.proofs.Common.{min, Bool, true, false, cond, Option, Some, None, Result, Ok, Err, length-take}
 use Rattle.std.specs.Prelude.{nat_lt, slice_index, ◌==◌, not}
-use Rattle.std.proofs.Math.Seq.{take-append-add}
-use Rattle.std.proofs.lemmas.List.{drop-drop, drop_at, take_min}
+use Rattle.std.proofs.lemmas.List.{drop-drop, drop_at}
 use Rattle.std.proofs.lemmas.Bool.Decides.{nat_tests}
 use Rattle.hb_grpc.specs.Reading.{announced, size_at, MayHold, told_by}
 use Rattle.hb_grpc.specs.declared.fault.GrpcFault.{GrpcFault}
 use Rattle.hb_grpc.specs.declared.fault.GrpcFault.TheVariants.{Compressed, TooLong}
-
-pub take_joined : (n : ℕ) (xs ys : List ℕ) → length xs ≤ n → take n (xs ++ ys) ≡ xs ++ take (n - length xs) ys
-take_joined n xs ys h =
-    let is : n ≡ length xs + (n - length xs) = omega (arith, h) in
-    ap (λ k. take k (xs ++ ys)) is ∙ take-append-add xs ys (n - length xs)
 
 pub drop_joined : (n : ℕ) (xs ys : List ℕ) → length xs ≤ n → drop n (xs ++ ys) ≡ drop (n - length xs) ys
 drop_joined n xs ys h =
@@ -85,18 +79,6 @@ sized limit size h e =
 -- a length is told by a whole header
 pub whole_header : (limit size : ℕ) (h : List ℕ) → announced limit h ≡ Ok (Some size) → 5 ≤ length h
 whole_header limit size h e = let t = (sized limit size h e).enough in grind (arith, nat_tests, t)
-
--- a header that is filled
-pub filled : (bytes new p front : List ℕ) (known n : ℕ) → known ≤ 5 → length bytes ≡ 5
-    → take (known + length front) new ≡ take known bytes ++ front → front ≡ take n p → n ≡ min (length p) (5 - known)
-    → take (known + n) new ≡ take 5 (take known bytes ++ p)
-filled bytes new p front known n known_le five written front_is n_is =
-    let len : length (take known bytes) ≡ known = omega (arith, known_le, five, length-take known bytes) in
-    let front_len : length front ≡ n = omega (arith, n_is, ap length front_is, length-take n p) in
-    let rest : front ≡ take (5 - length (take known bytes)) p =
-    front_is ∙ ap (λ k. take k p) (omega (arith, n_is, len)) ∙ take_min (5 - length (take known bytes)) p in
-    ap (λ k. take (known + k) new) (sym front_len) ∙ written ∙ ap (λ xs. take known bytes ++ xs) rest
-    ∙ sym (take_joined 5 (take known bytes) p (omega (arith, len, known_le)))
 
 pub told_early : (fault : GrpcFault) → told_by fault ≤ 5
 told_early (Compressed flag) = omega arith

@@ -9,7 +9,8 @@ use Rattle.hb_grpc.specs.Message.{spelling, Joins, HasNoMessage, AreOctets}
 use Rattle.hb_grpc.specs.Reading.{Framing, announced, whole_of, first_of, told_by, held_of, fed, answer_of}
 use Rattle.hb_grpc.specs.Pieces.{fresh, after_pieces, taken_of, taken_by, given_of, given_by, ArePieces, AnyPieces, OneFault}
 use Rattle.hb_grpc.specs.declared.fault.GrpcFault.{GrpcFault}
-use Rattle.hb_grpc.proofs.Fronts.{take_joined, announced_front, sized}
+use Rattle.hb_base.proofs.ShortLemmas.{take_joined}
+use Rattle.hb_grpc.proofs.Fronts.{announced_front, sized}
 use Rattle.hb_grpc.proofs.Spelled.{octets_append, octets_take, read_is_spelled, spelled_is_first}
 use Rattle.hb_grpc.proofs.OneList.{one_list, joins_more}
 use Rattle.hb_grpc.proofs.Stays.{first_again, answer_err}

@@ -1,9 +1,10 @@
 //! The five bytes in front of a message.
 
-ghost use Rattle.std.specs.Prelude.{◌≡◌, ◌+◌, ◌-◌, ◌≤◌, ◌++◌, [], length, take, drop};
-ghost use Rattle.hb_grpc.specs.Reading.{size_at, announced};
+ghost use Rattle.std.specs.Prelude.{◌≡◌, ◌-◌, ◌≤◌, ◌++◌, [], length, take, drop};
+ghost use Rattle.hb_grpc.specs.Reading.{announced};
 
 use crate::fault::GrpcFault;
+use hb_base::Short;
 use std::marker::Model;
 
 /// The Compressed-Flag and the Message-Length.
@@ -12,18 +13,17 @@ pub(crate) const HEADER: usize = 5;
 /// What has come of a header. Contracts see it as these bytes.
 #[derive(Drop)]
 pub(crate) struct Header {
-    bytes: [u8; 5],
-    known: usize,
+    bytes: Short,
 }
 
 impl Model for Header {
-    ghost use Rattle.std.specs.Prelude.{List, ℕ, ◌≤◌, take};
+    ghost use Rattle.std.specs.Prelude.{List, ℕ, ◌≤◌, length};
 
     ghost Value = { List ℕ };
 
-    ghost view = { λ h. take h.known h.bytes };
+    ghost view = { λ h. h.bytes };
 
-    ghost invariant = { λ h. h.known ≤ 5 };
+    ghost invariant = { λ h. length h.bytes ≤ 5 };
 }
 
 impl Header {
@@ -32,8 +32,7 @@ impl Header {
         ensures { result ≡ [] }
     {
         Header {
-            bytes: [0; 5],
-            known: 0,
+            bytes: Short::new(),
         }
     }
 
@@ -42,7 +41,7 @@ impl Header {
         ensures value { result.now ≡ self.now }
         ensures short { length self.now ≤ 5 }
     {
-        &self.bytes[..self.known]
+        self.bytes.as_slice()
     }
 
     /// Takes what it lacks from the front of the piece, and gives what is left of the piece.
@@ -51,26 +50,15 @@ impl Header {
         ensures rest { result.now ≡ drop (5 - length self.old) piece.now }
         ensures short { length self.old ≤ 5 }
     {
-        let n = piece.len().min(HEADER - self.known);
-        let (front, rest) = piece.split_at(n);
-        write_at(&mut self.bytes, self.known, front);
-        self.known += n;
-        rest
+        self.bytes.fill(HEADER, piece)
     }
 
     /// Forgets all but the first `n` bytes.
     pub fn truncate(&mut self, n: usize)
         ensures { self.new ≡ take n self.old }
     {
-        self.known = self.known.min(n);
+        self.bytes.truncate(n);
     }
-}
-
-fn write_at(bytes: &mut [u8], at: usize, piece: &[u8])
-    requires { at + length piece.now ≤ length bytes.old }
-    ensures { take (at + length piece.now) bytes.new ≡ take at bytes.old ++ piece.now }
-{
-    bytes[at..at + piece.len()].copy_from_slice(piece);
 }
 
 /// The length that the bytes of a header announce; None where they don't yet.

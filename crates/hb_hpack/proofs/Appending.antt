@@ -1,12 +1,14 @@
 -- What is written, one piece after another.
-use Rattle.std.proofs.Common.{◌≡◌, ℕ, zero, suc, ◌+◌, ◌-◌, ◌/◌, ◌%◌, ◌<◌, ◌≤◌, List, [], ◌∷◌, ◌++◌, refl, sym, ap, subst, ◌∙◌, arith, append_assoc, take, drop, get_or, length}
+use Rattle.std.specs.Prelude.{OnErr}
+use Rattle.std.proofs.Common.{Result, Ok, Err, ◌≡◌, ℕ, zero, suc, ◌+◌, ◌-◌, ◌/◌, ◌%◌, ◌<◌, ◌≤◌, List, [], ◌∷◌, ◌++◌, refl, sym, ap, subst, ◌∙◌, arith, append_assoc, take, drop, get_or, length}
 use Rattle.std.specs.List.{flat_map}
 use Rattle.std.proofs.lemmas.List.{drop_more, take_more, take-append-drop, append-nil}
 use Rattle.std.proofs.lemmas.List.Concat.{flat_map-append}
 use Rattle.std.proofs.lemmas.Bool.{lt-ltb, le-ltb}
 use Rattle.hb_hpack.specs.Fronts.{IsFrontOf}
 use Rattle.hb_hpack.specs.Integer.{full}
-use Rattle.hb_hpack.specs.Encoding.{groups_of, integer_of}
+use Rattle.hb_base.specs.Groups.{groups_of, AppendsFront}
+use Rattle.hb_hpack.specs.Encoding.{integer_of}
 
 pub ok_then : (old mid new first second : List ℕ) → mid ≡ old ++ first → new ≡ mid ++ second → new ≡ old ++ (first ++ second)
 ok_then old mid new first second e f = f ∙ ap (λ (xs : List ℕ). xs ++ second) e ∙ append_assoc old first second
@@ -19,19 +21,19 @@ pub err_first : (old new first second : List ℕ) → IsFrontOf new (old ++ firs
 err_first old new first second g =
     (g.0 ++ second, sym (append_assoc old first second) ∙ ap (λ (xs : List ℕ). xs ++ second) g.1 ∙ append_assoc new g.0 second)
 
-pub groups_none : (n : ℕ) → groups_of 0 n ≡ []
-unfolding groups_of
-groups_none n = refl
+pub grown : (old new bytes : List ℕ) → AppendsFront old new bytes → IsFrontOf old new
+grown old new bytes f = (f.0, f.3)
 
-pub groups_last : (most n : ℕ) → 0 < most → n < 128 → groups_of most n ≡ n ∷ []
-unfolding groups_of
-groups_last zero n some lt = absurd (omega arith)
-groups_last (suc most) n some lt = rw (lt-ltb n 128 lt, groups_of) refl
+pub grown_by : (old new bytes : List ℕ) → new ≡ old ++ bytes → IsFrontOf old new
+grown_by old new bytes e = (bytes, e)
 
-pub groups_more : (most n : ℕ) → 0 < most → 128 ≤ n → groups_of most n ≡ (n % 128 + 128) ∷ groups_of (most - 1) (n / 128)
-unfolding groups_of
-groups_more zero n some le = absurd (omega arith)
-groups_more (suc most) n some le = let same : suc most - 1 ≡ most = omega arith in rw (le-ltb n 128 le, same, groups_of) refl
+pub grown_then : (old mid new : List ℕ) → IsFrontOf old mid → IsFrontOf mid new → IsFrontOf old new
+grown_then old mid new f g = (f.0 ++ g.0, g.1 ∙ ap (λ (xs : List ℕ). xs ++ g.0) f.1 ∙ append_assoc old f.0 g.0)
+
+pub front_of : (old new bytes : List ℕ) → AppendsFront old new bytes → IsFrontOf new (old ++ bytes)
+front_of old new bytes f =
+    let (front, rest, is, then) = f in
+    (rest, ap (λ (xs : List ℕ). old ++ xs) is ∙ sym (append_assoc old front rest) ∙ ap (λ (xs : List ℕ). xs ++ rest) (sym then))
 
 pub integer_small : (prefix flag n : ℕ) → n < full prefix → integer_of prefix flag n ≡ (flag + n) ∷ []
 unfolding integer_of
@@ -40,6 +42,10 @@ integer_small prefix flag n lt = rw (lt-ltb n (full prefix) lt, integer_of) refl
 pub integer_large : (prefix flag n : ℕ) → full prefix ≤ n → integer_of prefix flag n ≡ (flag + full prefix) ∷ groups_of 10 (n - full prefix)
 unfolding integer_of
 integer_large prefix flag n le = rw (le-ltb n (full prefix) le, integer_of) refl
+
+pub on_err : {X Y : Type 0} (r : Result X Y) {P : Type 0} → P → OnErr r P
+on_err (Ok x) p = tt
+on_err (Err e) p = p
 
 -- the pieces of a list's items, where the piece of the item at i was begun
 pub err_at : {X : Type 0} (f : X → List ℕ) (old mid new : List ℕ) (xs : List X) (i : ℕ) (x : X) → i < length xs → x ≡ get_or xs i x

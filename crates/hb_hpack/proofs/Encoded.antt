@@ -13,14 +13,16 @@ use Rattle.hb_hpack.specs.Literal.{IsString}
 use Rattle.hb_hpack.specs.StaticTable.{header, static_headers}
 use Rattle.hb_hpack.specs.Table.{Table, resized, entry_at}
 use Rattle.hb_hpack.specs.Block.{IsName, IsLiteral, Represents, ReadsHeaders, Reads}
-use Rattle.hb_hpack.specs.Encoding.{groups_of, integer_of, spelled, string_of, same_name, same_header, index_from, literal_of, representation_of, header_of, Writing, opening, block_of, cleared, MayHave, CanSpell, AreWritable, status_header}
+use Rattle.hb_base.specs.Groups.{groups_of}
+use Rattle.hb_hpack.specs.Encoding.{integer_of, spelled, string_of, same_name, same_header, index_from, literal_of, representation_of, header_of, Writing, opening, block_of, cleared, MayHave, CanSpell, AreWritable, status_header}
 use Rattle.hb_hpack.proofs.CodeTable.{both}
 use Rattle.hb_hpack.proofs.Outcomes.{chosen}
 use Rattle.hb_hpack.proofs.Fitting.{fitting_zero}
 use Rattle.hb_hpack.proofs.StaticHeaders.{static_count}
 use Rattle.hb_hpack.proofs.Entries.{entry_static}
 use Rattle.hb_hpack.proofs.Writing.{is_spelled}
-use Rattle.hb_hpack.proofs.Appending.{groups_last, groups_more, integer_small, integer_large}
+use Rattle.hb_base.proofs.GroupLemmas.{groups_last, groups_more}
+use Rattle.hb_hpack.proofs.Appending.{integer_small, integer_large}
 
 -- ---- integers
 

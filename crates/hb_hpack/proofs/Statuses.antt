@@ -5,7 +5,8 @@ use Rattle.std.specs.Cmp.Lexicographic.{bytes_decides}
 use Rattle.hb_hpack.specs.declared.header.Header.{Header}
 use Rattle.hb_hpack.specs.declared.spelling.Spelling.TheVariants.{Plain}
 use Rattle.hb_hpack.specs.StaticTable.{static_headers}
-use Rattle.hb_hpack.specs.Encoding.{header_of, status_header, status_of, index_from, string_of, integer_of, groups_of, same_header, representation_of}
+use Rattle.hb_base.specs.Groups.{groups_of}
+use Rattle.hb_hpack.specs.Encoding.{header_of, status_header, status_of, index_from, string_of, integer_of, same_header, representation_of}
 use Rattle.hb_hpack.proofs.CodeTable.{all_below, at_below}
 
 abbrev is_status : List Header → ℕ → Bool

@@ -9,12 +9,8 @@ use Rattle.hb_hpack.specs.declared.spelling.Spelling.TheVariants as spellings
 use Rattle.hb_hpack.specs.HuffmanSteps.{huffman_of}
 use Rattle.hb_hpack.specs.Integer.{full}
 use Rattle.hb_hpack.specs.StaticTable.{header, static_headers}
+use Rattle.hb_base.specs.Groups.{groups_of}
 use Rattle.hb_hpack.specs.Table.{Table}
-
--- the groups of seven bits of a number, at most so many of them
-unfoldable pub groups_of : ℕ → ℕ → List ℕ
-groups_of zero n = []
-groups_of (suc most) n = if nat_lt n 128 then n ∷ [] else (n % 128 + 128) ∷ groups_of most (n / 128)
 
 -- the shortest bytes of an integer below 2 ^ 64
 unfoldable pub integer_of : ℕ → ℕ → ℕ → List ℕ

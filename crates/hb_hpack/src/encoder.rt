@@ -8,32 +8,15 @@ ghost use Rattle.hb_hpack.specs.Block.{Reads};
 ghost use Rattle.hb_hpack.specs.Fronts.{IsFrontOf};
 ghost use Rattle.hb_hpack.specs.Integer.{full};
 ghost use Rattle.hb_hpack.specs.StaticTable.{header, static_headers};
-ghost use Rattle.hb_hpack.specs.Encoding.{groups_of, integer_of, string_of, static_at, same_name, same_header, index_from, literal_of, header_of, opening, status_of, Writing, block_of, going, cleared, MayHave, AreWritable, status_header};
+ghost use Rattle.hb_hpack.specs.Encoding.{integer_of, string_of, static_at, same_name, same_header, index_from, literal_of, header_of, opening, status_of, Writing, block_of, going, cleared, MayHave, AreWritable, status_header};
 
 use crate::header::Header;
 use crate::huffman::huffman_put;
 use crate::spelling::Spelling;
 use crate::static_table::{NAME_LENGTHS, static_header};
-use hb_base::{List, NoMemory};
+use hb_base::{List, NoMemory, put_groups};
 use std::alloc::Global;
 use std::marker::Model;
-
-/// Writes the groups of seven bits of a number, of which there are at most `most`.
-fn put_groups(out: &mut Vec<u8>, n: u64, most: u8) -> Result<(), NoMemory>
-    ensures ok { OnOk result (out.new.items ≡ out.old.items ++ groups_of most n) }
-    ensures grows { IsFrontOf out.old.items out.new.items }
-    ensures err { OnErr result (IsFrontOf out.new.items (out.old.items ++ groups_of most n)) }
-{
-    if most == 0 {
-        return Ok(());
-    }
-    if n < 128 {
-        out.push(n as u8)?;
-        return Ok(());
-    }
-    out.push((n % 128) as u8 + 128)?;
-    put_groups(out, n / 128, most - 1)
-}
 
 /// Writes an integer with a prefix of so many bits, behind a flag (RFC 7541 section 5.1).
 fn put_integer(out: &mut Vec<u8>, prefix: u8, flag: u8, n: u64) -> Result<(), NoMemory>

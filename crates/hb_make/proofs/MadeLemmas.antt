@@ -12,7 +12,7 @@ use Rattle.hb_frames.specs.Numbers.{first_frame_size}
 use Rattle.hb_script.specs.Spelling.{CanBeRead, lines_text}
 use Rattle.hb_script.specs.Script.{lines}
 use Rattle.hb_script.proofs.SpellingLemmas.{lines-lines_text}
-use Rattle.hb_wire.specs.Writing.{groups_of}
+use Rattle.hb_base.specs.Groups.{groups_of}
 use Rattle.hb_world.specs.declared.line.Line.{Line}
 use Rattle.hb_world.specs.declared.line.Line.TheVariants.{Accept, Open, Piece, Wake}
 use Rattle.hex.specs.Hex.{IsBytes}

@@ -13,7 +13,7 @@ pub(crate) fn answered() -> &'static [u8]
 }
 
 /// The response with the workload, a message of gRPC.
-#[tactic(auto, unfolding(crate::specs::Octets::workloads, hb_wire::specs::Writing::groups_of))]
+#[tactic(auto, unfolding(crate::specs::Octets::workloads, hb_base::specs::Groups::groups_of))]
 pub(crate) fn workloads() -> &'static [u8]
     ensures value { result.now ≡ workloads }
     ensures short { length result.now ≤ first_frame_size }
@@ -24,7 +24,7 @@ pub(crate) fn workloads() -> &'static [u8]
 }
 
 /// The response with the policy that allows the peer.
-#[tactic(auto, unfolding(crate::specs::Octets::policies, hb_wire::specs::Writing::groups_of))]
+#[tactic(auto, unfolding(crate::specs::Octets::policies, hb_base::specs::Groups::groups_of))]
 pub(crate) fn policies() -> &'static [u8]
     ensures value { result.now ≡ policies }
     ensures short { length result.now ≤ first_frame_size }
@@ -35,7 +35,7 @@ pub(crate) fn policies() -> &'static [u8]
 }
 
 /// The response with the policy that allows the port 9090 alone.
-#[tactic(auto, unfolding(crate::specs::Octets::changed_policies, hb_wire::specs::Writing::groups_of))]
+#[tactic(auto, unfolding(crate::specs::Octets::changed_policies, hb_base::specs::Groups::groups_of))]
 pub(crate) fn changed_policies() -> &'static [u8]
     ensures value { result.now ≡ changed_policies }
     ensures short { length result.now ≤ first_frame_size }

@@ -5,5 +5,4 @@ pub mod Varints
 pub mod Spelled
 pub mod Broken
 pub mod Exact
-pub mod Fronts
 pub mod Written

@@ -6,27 +6,9 @@ use Rattle.std.proofs.lemmas.Bool.{lt-ltb, le-ltb, cases_lt}
 use Rattle.hb_wire.specs.Field.{varint, span}
 use Rattle.hb_wire.specs.WireType.{varint_type, span_type}
 use Rattle.hb_wire.specs.Spelling.{IsBase128, IsVarint, SpellsField}
-use Rattle.hb_wire.specs.Writing.{groups_of, varint_of, tag_of, number_of, bytes_of}
-
-pub groups_none : (n : ℕ) → groups_of 0 n ≡ []
-unfolding groups_of
-groups_none n = refl
-
-groups_end : (most n : ℕ) → n < 128 → groups_of (suc most) n ≡ n ∷ []
-unfolding groups_of
-groups_end most n lt = rw (lt-ltb n 128 lt, groups_of) refl
-
-groups_step : (most n : ℕ) → 128 ≤ n → groups_of (suc most) n ≡ (n % 128 + 128) ∷ groups_of most (n / 128)
-unfolding groups_of
-groups_step most n le = rw (le-ltb n 128 le, groups_of) refl
-
-pub groups_last : (most n : ℕ) → 0 < most → n < 128 → groups_of most n ≡ n ∷ []
-groups_last zero n some lt = absurd (omega arith)
-groups_last (suc most) n some lt = groups_end most n lt
-
-pub groups_more : (most n : ℕ) → 0 < most → 128 ≤ n → groups_of most n ≡ (n % 128 + 128) ∷ groups_of (most - 1) (n / 128)
-groups_more zero n some le = absurd (omega arith)
-groups_more (suc most) n some le = let same : suc most - 1 ≡ most = omega arith in rw (groups_step most n le, same) refl
+use Rattle.hb_base.specs.Groups.{groups_of}
+use Rattle.hb_base.proofs.GroupLemmas.{groups_none, groups_end, groups_step, groups_few}
+use Rattle.hb_wire.specs.Writing.{varint_of, tag_of, number_of, bytes_of}
 
 -- one more group in front
 group_before : (b n high : ℕ) (bytes : List ℕ) → 128 ≤ b → b < 256 → n + 128 ≡ b + 128 * high → IsBase128 bytes high
@@ -43,14 +25,6 @@ groups_are (suc k) n lt =
           let fits : n / 128 < 128 ^ suc k = omega (arith, lt, pow-suc 128 (suc k)) in
           rw (groups_step (suc k) n large) (group_before (n % 128 + 128) n (n / 128) _ (omega arith) (omega arith) (omega arith)
           (groups_are k (n / 128) fits))
-    ]
-
-groups_few : (k n : ℕ) → length (groups_of k n) ≤ k
-groups_few zero n = rw (groups_none n) (omega arith)
-groups_few (suc k) n =
-    elim (cases_lt n 128) [
-      | inl small ↦ rw (groups_end k n small) (omega arith)
-      | inr large ↦ let few = groups_few k (n / 128) in rw (groups_step k n large) (omega (arith, few))
     ]
 
 -- no spelling has fewer bytes

@@ -1,12 +1,8 @@
 -- The shortest spelling of fields (Protocol Buffers encoding guide), as functions to bytes.
-use Rattle.std.specs.Prelude.{◌≡◌, ℕ, zero, suc, ◌+◌, ◌*◌, ◌/◌, ◌%◌, ◌==◌, nat_lt, List, [], ◌∷◌, ◌++◌, length, if◌then◌else◌}
+use Rattle.std.specs.Prelude.{ℕ, ◌+◌, ◌*◌, ◌==◌, List, [], ◌∷◌, ◌++◌, length, if◌then◌else◌}
 use Rattle.std.specs.List.{flat_map}
+use Rattle.hb_base.specs.Groups.{groups_of}
 use Rattle.hb_wire.specs.WireType.{varint_type, span_type}
-
--- a number in base 128, its seven low bits first, in at most so many bytes
-unfoldable pub groups_of : ℕ → ℕ → List ℕ
-groups_of zero n = []
-groups_of (suc more) n = if nat_lt n 128 then n ∷ [] else (n % 128 + 128) ∷ groups_of more (n / 128)
 
 -- a number of 64 bits as a varint
 abbrev pub varint_of : ℕ → List ℕ
@@ -28,7 +24,3 @@ bytes_of number own = tag_of number span_type ++ (varint_of (length own) ++ own)
 abbrev pub packed_of : ℕ → List ℕ → List ℕ
 packed_of number [] = []
 packed_of number (v ∷ vs) = bytes_of number (flat_map varint_of (v ∷ vs))
-
--- a front of these bytes was appended: all of them, or fewer
-abbrev pub AppendsFront : List ℕ → List ℕ → List ℕ → Type 0
-AppendsFront old new bytes = (front : List ℕ) × (rest : List ℕ) × (bytes ≡ front ++ rest) × (new ≡ old ++ front)

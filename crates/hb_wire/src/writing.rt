@@ -2,29 +2,15 @@
 
 ghost use Rattle.std.specs.Prelude.{◌≡◌, ◌+◌, ◌^◌, ◌<◌, ◌≤◌, ◌++◌, OnOk, IfOk, length};
 ghost use Rattle.std.specs.List.{flat_map};
-ghost use Rattle.hb_wire.specs.Writing.{AppendsFront, groups_of, varint_of, tag_of, number_of, bytes_of, packed_of};
+ghost use Rattle.hb_base.specs.Groups.{AppendsFront};
+ghost use Rattle.hb_wire.specs.Writing.{varint_of, tag_of, number_of, bytes_of, packed_of};
 
+use hb_base::put_groups;
 use std::alloc::{AllocError, Global};
 
 const VARINT_TYPE: u64 = 0;
 
 const SPAN_TYPE: u64 = 2;
-
-/// Appends a number in base 128, in at most `most` bytes.
-fn put_groups(out: &mut Vec<u8>, n: u64, most: u8) -> Result<(), AllocError>
-    ensures ok { OnOk result (out.new.items ≡ out.old.items ++ groups_of most n) }
-    ensures front { AppendsFront out.old.items out.new.items (groups_of most n) }
-{
-    if most == 0 {
-        return Ok(());
-    }
-    if n < 128 {
-        out.push(n as u8)?;
-        return Ok(());
-    }
-    out.push((n % 128) as u8 + 128)?;
-    put_groups(out, n / 128, most - 1)
-}
 
 /// Appends a varint ("Base 128 Varints").
 ///
@@ -48,7 +34,7 @@ fn put_tag(alloc: Global, number: u32, wire: u64, out: &mut Vec<u8>) -> Result<(
 /// Appends a number as a field; nothing for 0.
 ///
 /// Errors: `AllocError`, and then a front of that is appended.
-#[tactic(auto, using(crate::proofs::Fronts::front_first))]
+#[tactic(auto, using(hb_base::proofs::FrontLemmas::front_first))]
 pub fn put_number(alloc: Global, number: u32, v: u64, out: &mut Vec<u8>) -> Result<(), AllocError>
     requires some { 1 ≤ number }
     requires small { number < 2 ^ 29 }
@@ -63,7 +49,7 @@ pub fn put_number(alloc: Global, number: u32, v: u64, out: &mut Vec<u8>) -> Resu
 }
 
 /// Appends a length and so many bytes.
-#[tactic(auto, using(crate::proofs::Fronts::front_first))]
+#[tactic(auto, using(hb_base::proofs::FrontLemmas::front_first))]
 fn put_span(alloc: Global, b: &[u8], out: &mut Vec<u8>) -> Result<(), AllocError>
     ensures ok { OnOk result (out.new.items ≡ out.old.items ++ (varint_of (length b.now) ++ b.now)) }
     ensures front { AppendsFront out.old.items out.new.items (varint_of (length b.now) ++ b.now) }
@@ -75,7 +61,7 @@ fn put_span(alloc: Global, b: &[u8], out: &mut Vec<u8>) -> Result<(), AllocError
 /// Appends bytes as a field, none of them too.
 ///
 /// Errors: `AllocError`, and then a front of that is appended.
-#[tactic(auto, using(crate::proofs::Fronts::front_first))]
+#[tactic(auto, using(hb_base::proofs::FrontLemmas::front_first))]
 pub fn put_bytes(alloc: Global, number: u32, b: &[u8], out: &mut Vec<u8>) -> Result<(), AllocError>
     requires some { 1 ≤ number }
     requires small { number < 2 ^ 29 }

@@ -1,6 +1,6 @@
 use Rattle.hb_wire.specs.WireType.{varint_type}
 use Rattle.hb_wire.specs.Writing.{tag_of, varint_of}
-use Rattle.hb_wire.proofs.Fronts.{front_first}
+use Rattle.hb_base.proofs.FrontLemmas.{front_first}
 use Rattle.hb_wire.proofs.Written.{number_some}
 use Rattle.hb_wire.proofs.writing.put_number.Goals as goal
 

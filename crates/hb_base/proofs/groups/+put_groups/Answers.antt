@@ -1,10 +1,10 @@
 use Rattle.std.proofs.Common.{◌+◌, ◌-◌, ◌/◌, ◌%◌, ◌∷◌, [], sym, arith}
 use Rattle.std.proofs.lemmas.List.{append-nil}
 use Rattle.std.proofs.lemmas.Result.{on_ok_weaker}
-use Rattle.hb_wire.specs.Writing.{groups_of}
-use Rattle.hb_wire.proofs.Fronts.{both, front_all, front_then}
-use Rattle.hb_wire.proofs.Written.{groups_none, groups_last, groups_more}
-use Rattle.hb_wire.proofs.writing.+put_groups.Goals as goal
+use Rattle.hb_base.specs.Groups.{groups_of}
+use Rattle.hb_base.proofs.FrontLemmas.{both, front_all, front_then}
+use Rattle.hb_base.proofs.GroupLemmas.{groups_none, groups_last, groups_more}
+use Rattle.hb_base.proofs.groups.+put_groups.Goals as goal
 
 pub returns-then-most-eq0-clause-ok : goal.returns-then-most-eq0-clause-ok
 returns-then-most-eq0-clause-ok t c = rw (c.if-most-eq0.true, groups_none) (sym (append-nil c.args.out.now.items))

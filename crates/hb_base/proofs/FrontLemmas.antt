@@ -1,7 +1,7 @@
 -- What is appended, one piece after another.
 use Rattle.std.proofs.Common.{◌≡◌, ℕ, List, [], ◌++◌, refl, sym, ap, ◌∙◌, append_assoc}
 use Rattle.std.proofs.lemmas.List.{append-nil}
-use Rattle.hb_wire.specs.Writing.{AppendsFront}
+use Rattle.hb_base.specs.Groups.{AppendsFront}
 
 -- nothing is a front of any bytes
 pub front_none : (old bytes : List ℕ) → AppendsFront old old bytes

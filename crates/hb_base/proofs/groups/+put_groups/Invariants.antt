@@ -1,4 +1,4 @@
-use Rattle.hb_hpack.proofs.encoder.+put_groups.Given as goal
+use Rattle.hb_base.proofs.groups.+put_groups.Given as goal
 
 abbrev pub decreases-put_groups : goal.decreases-put_groups
 decreases-put_groups l = l.most
