@@ -1,16 +1,19 @@
 //! The resources held.
 
-ghost use Rattle.std.specs.Prelude.{◌≡◌, ◌&&◌, IfOk, OnOk, OnErr, Ok};
-ghost use Rattle.hb_base.specs.Outcome.{Merges};
+ghost use Rattle.std.specs.Prelude.{◌≡◌, ◌&&◌, IfOk, IfErr, OnOk, OnErr, IsTrue, Ok, Err, if◌then◌else◌};
+ghost use Rattle.std.specs.FinMap.{get, insert};
+ghost use Rattle.hb_base.specs.Outcome.{Fails, Merges};
 ghost use Rattle.hb_held.specs.Held.{nothing_held, count, holds, fits, begun, without, with_came};
-ghost use Rattle.hb_held.specs.Outcome.{refusing, with_read_address, with_read_policy, with_record, with_resource};
+ghost use Rattle.hb_held.specs.Outcome.{refusing, with_record, with_resource};
+ghost use Rattle.hb_held.specs.declared.outcome.RefusedWhy.TheVariants.{Full};
+ghost use Rattle.hb_index.specs.Kept.{note};
 
 use crate::doors::OwnDoors;
 use crate::outcome::RefusedWhy;
 use crate::versioned::Versioned;
 use hb_base::{NoMemory, Or, Text};
 use hb_disco::{Kind, Resource};
-use hb_index::Indexed;
+use hb_index::{Indexed, Numbered};
 use hb_records::{AddressRecord, Authorization, RecordFault, read_address, read_authorization};
 use std::alloc::Global;
 use std::marker::Model;
@@ -65,6 +68,31 @@ fn refusing(why: Or<RecordFault>) -> Or<RefusedWhy>
         Or::Fault(fault) => Or::Fault(RefusedWhy::Record(fault)),
         Or::NoMemory => Or::NoMemory,
     }
+}
+
+/// Puts the record of a resource, with its version, under the resource's name, where there is room.
+fn put_versioned<T: Drop>(
+    alloc: Global,
+    held: &mut Indexed<Versioned<T>>,
+    fits: bool,
+    resource: &Resource,
+    content: T,
+) -> Result<(), Or<RefusedWhy>>
+where
+    Versioned<T>: Numbered,
+    ensures now { OnOk result (held.new.now
+        ≡ insert held.old.now resource.now.name (record { version = resource.now.version; content = content })) }
+    ensures past { OnOk result (held.new.past ≡ note held.old.past resource.now.name (get held.old.now resource.now.name)) }
+    ensures room { OnOk result (IsTrue fits) }
+    ensures refused { IfErr result (Fails (if fits then Ok fits else Err Full)) }
+    ensures err { OnErr result (held.new ≡ held.old) }
+{
+    if !fits {
+        return Err(Or::Fault(RefusedWhy::Full));
+    }
+    let version = resource.version.copy(alloc)?;
+    held.put(alloc, &resource.name, Versioned { version, content })?;
+    Ok(())
 }
 
 impl Held {
@@ -134,44 +162,6 @@ impl Held {
         }
     }
 
-    /// Puts the address record of a resource under its name, where there is room.
-    fn put_address(
-        &mut self,
-        alloc: Global,
-        resource: &Resource,
-        content: AddressRecord,
-    ) -> Result<(), Or<RefusedWhy>>
-        ensures value { Merges (with_read_address self.old resource.now (Ok content)) self.new result }
-        ensures err { OnErr result (self.new ≡ self.old) }
-    {
-        if !self.fits(Kind::Address, &resource.name) {
-            return Err(Or::Fault(RefusedWhy::Full));
-        }
-        let version = resource.version.copy(alloc)?;
-        let item = Versioned { version, content };
-        self.addresses.put(alloc, &resource.name, item)?;
-        Ok(())
-    }
-
-    /// Puts the policy of a resource under its name, where there is room.
-    fn put_policy(
-        &mut self,
-        alloc: Global,
-        resource: &Resource,
-        content: Authorization,
-    ) -> Result<(), Or<RefusedWhy>>
-        ensures value { Merges (with_read_policy self.old resource.now (Ok content)) self.new result }
-        ensures err { OnErr result (self.new ≡ self.old) }
-    {
-        if !self.fits(Kind::Authorization, &resource.name) {
-            return Err(Or::Fault(RefusedWhy::Full));
-        }
-        let version = resource.version.copy(alloc)?;
-        let item = Versioned { version, content };
-        self.policies.put(alloc, &resource.name, item)?;
-        Ok(())
-    }
-
     /// Reads the record of a resource of this kind, and puts it under the resource's name.
     fn put_record(
         &mut self,
@@ -183,13 +173,14 @@ impl Held {
         ensures err { OnErr result (self.new ≡ self.old) }
     {
         let bytes = resource.value.as_slice();
+        let fits = self.fits(kind, &resource.name);
         match kind {
             Kind::Address => match read_address(alloc, bytes) {
-                Ok(content) => self.put_address(alloc, resource, content),
+                Ok(content) => put_versioned(alloc, &mut self.addresses, fits, resource, content),
                 Err(why) => Err(refusing(why)),
             },
             Kind::Authorization => match read_authorization(alloc, bytes) {
-                Ok(content) => self.put_policy(alloc, resource, content),
+                Ok(content) => put_versioned(alloc, &mut self.policies, fits, resource, content),
                 Err(why) => Err(refusing(why)),
             },
         }
