@@ -4,7 +4,7 @@ use Rattle.std.proofs.lemmas.Grind.{common_steps}
 use Rattle.std.specs.Prelude.{◌==◌, ◌&&◌, ◌||◌, not}
 use Rattle.std.specs.Ordering.{nat_cmp}
 use Rattle.std.specs.Cmp.Lexicographic.{nat_list_cmp_total}
-use Rattle.std.specs.FinMap.{empty, get, contains_key, insert, remove, get-empty, get-insert, get-remove}
+use Rattle.std.specs.FinMap.{empty, get, insert, remove, get-empty, get-insert, get-remove}
 use Rattle.hb_index.specs.Index.{Names, Places, names_or_none, stands_at, with_all, without_all, is_among}
 use Rattle.hb_index.specs.Indexed.{numbers_in, has_number, IsIndexed, AreNamesAt}
 use Rattle.hb_index.specs.Named.{Named, IsFirstBehind}
@@ -66,6 +66,18 @@ module _ {T : Type 0} (numbers : T → List ℕ) (m : Named T) (places : Places)
             ∙ sym (ap (λ o. is_among (numbers_in numbers o) k) (get-insert nat_list_cmp_total m name item q
             ∙ ap (λ t. cond t (Some item) (get m q)) e))
         | false ↦ λ e. other_without name before after (with_all places name after) k q e ∙ other_with name after places k q e ∙ ix k q
+            ∙ sym (ap (λ o. is_among (numbers_in numbers o) k) (get-insert nat_list_cmp_total m name item q
+            ∙ ap (λ t. cond t (Some item) (get m q)) e))
+      ] refl
+
+  -- a value was put that has the numbers of the one before
+  pub stays_indexed : (item : T) → before ≡ numbers item → IsIndexed numbers (insert m name item) places
+  stays_indexed item same = λ k q.
+      elim (it name q) as (λ b. it name q ≡ b → stands_at places k q ≡ is_among (numbers_in numbers (get (insert m name item) q)) k) [
+        | true ↦ λ e. ix k q ∙ here k q e ∙ ap (λ ns. is_among ns k) same
+            ∙ sym (ap (λ o. is_among (numbers_in numbers o) k) (get-insert nat_list_cmp_total m name item q
+            ∙ ap (λ t. cond t (Some item) (get m q)) e))
+        | false ↦ λ e. ix k q
             ∙ sym (ap (λ o. is_among (numbers_in numbers o) k) (get-insert nat_list_cmp_total m name item q
             ∙ ap (λ t. cond t (Some item) (get m q)) e))
       ] refl

@@ -7,7 +7,7 @@ use Rattle.std.specs.Cmp.Lexicographic.{nat_list_cmp_total}
 use Rattle.std.specs.FinMap.{find, entries, get, insert, remove, get-entries, get-insert, get-remove, same_map}
 use Rattle.hb_index.specs.Named.{Named}
 use Rattle.hb_index.specs.Kept.{note, note_removal, put_back, all_put_back, undone}
-use Rattle.hb_index.proofs.Entries.{by_bytes, equal, differ, gone_already}
+use Rattle.hb_index.proofs.Entries.{by_bytes, differ, gone_already, put_again, put_and_gone}
 
 pub is_there : {X : Type 0} (o : Option X) → is_some o ≡ true → (x : X) × (o ≡ Some x)
 is_there None h = absurd cc
@@ -92,54 +92,36 @@ module _ {T : Type 0} where
       ap is_some (get-insert nat_list_cmp_total m name v name)
       ∙ ap (λ o. is_some (cond (is_eq o) (Some v) (get m name))) (tied_itself nat_list_cmp_total name)
 
-  absent_at : (m : Named T) (name q : List ℕ) → is_some (get m name) ≡ false → eq_by_cmp by_bytes q name ≡ true → get m q ≡ None
-  absent_at m name q h tie =
-      ap (get m) (differ q name (equal _ tie)) ∙ elim (get m name) as (λ o. is_some o ≡ false → o ≡ None) [
-        | None ↦ λ _. refl
-        | Some x ↦ λ no. absurd cc
-      ] h
-
-  taken_back : (m : Named T) (name q : List ℕ) → is_some (get m name) ≡ false
-      → cond (eq_by_cmp by_bytes q name) None (get m q) ≡ get m q
-  taken_back m name q h =
-      elim (eq_by_cmp by_bytes q name) as (λ b. eq_by_cmp by_bytes q name ≡ b → cond b None (get m q) ≡ get m q) [
-        | true ↦ λ tie. sym (absent_at m name q h tie)
-        | false ↦ λ _. refl
-      ] refl
-
   pub remove_absent : (m : Named T) (name : List ℕ) → is_some (get m name) ≡ false → remove m name ≡ m
   remove_absent m name h = gone_already nat_list_cmp_total differ m name (none_there (get m name) h)
 
-  pub remove_new : (m : Named T) (name : List ℕ) (v : T) → is_some (get m name) ≡ false → remove (insert m name v) name ≡ m
-  remove_new m name v h = same_map nat_list_cmp_total differ _ _ (λ q.
-      get-remove nat_list_cmp_total (insert m name v) name q
-      ∙ ap (cond (eq_by_cmp by_bytes q name) None) (get-insert nat_list_cmp_total m name v q)
-      ∙ elim (eq_by_cmp by_bytes q name) as (λ b. cond b None (cond b (Some v) (get m q)) ≡ cond b None (get m q)) [
-        | true ↦ refl
-        | false ↦ refl
-      ] ∙ taken_back m name q h)
+  put_and_back : (m : Named T) (name : List ℕ) (v : T) → put_back (insert m name v) name (get m name) ≡ m
+  put_and_back m name v =
+      elim (get m name) as (λ o. get m name ≡ o → put_back (insert m name v) name o ≡ m) [
+        | None ↦ λ h. put_and_gone nat_list_cmp_total differ m name v ∙ gone_already nat_list_cmp_total differ m name h
+        | Some w ↦ λ h. insert_twice m name v w ∙ put_again nat_list_cmp_total differ m name w h
+      ] refl
 
-  pub noted_whole : (past : Named (Option T)) (name : List ℕ) (stood : Option T) → is_some (get past name) ≡ false
-      → insert (insert past name None) name stood ≡ note past name stood
-  noted_whole past name stood h =
-      sym (ap (λ b. cond b past (insert past name stood)) h ∙ sym (same_map nat_list_cmp_total differ _ _ (λ q.
-      get-insert nat_list_cmp_total (insert past name None) name stood q
-      ∙ ap (cond (eq_by_cmp by_bytes q name) (Some stood)) (get-insert nat_list_cmp_total past name None q)
-      ∙ elim (eq_by_cmp by_bytes q name) as
-      (λ b. cond b (Some stood) (cond b (Some None) (get past q)) ≡ cond b (Some stood) (get past q)) [
-        | true ↦ refl
-        | false ↦ refl
-      ] ∙ sym (get-insert nat_list_cmp_total past name stood q))))
-
-  pub note_again : (past : Named (Option T)) (name : List ℕ) (stood : Option T) → is_some (get past name) ≡ true
-      → note past name stood ≡ past
-  note_again past name stood h = ap (λ b. cond b past (insert past name stood)) h
+  -- a value was put, and then what stood before it was put back
+  pub back_again : (m n o : Named T) (name : List ℕ) (v : T) (stood back : Option T)
+      → n ≡ insert m name v → stood ≡ get m name → back ≡ stood → o ≡ put_back n name back → o ≡ m
+  back_again m n o name v stood back put is came taken =
+      taken ∙ ap (λ x. put_back x name back) put ∙ ap (put_back (insert m name v) name) (came ∙ is) ∙ put_and_back m name v
 
   pub note_held : (past : Named (Option T)) (name : List ℕ) (stood : Option T) → is_some stood ≡ true
       → note_removal past name stood ≡ note past name stood
   note_held past name None h = absurd cc
   note_held past name (Some v) h = refl
 
-  pub note_none : (past : Named (Option T)) (name : List ℕ) (stood : Option T) → is_some stood ≡ false → note_removal past name stood ≡ past
-  note_none past name None h = refl
-  note_none past name (Some v) h = absurd cc
+-- a first note, one in two steps, and a later one that is taken back for the first
+module _ {T : Type 0} (past : Named (Option T)) (name : List ℕ) (stood : Option T) where
+  pub note_new : is_some (get past name) ≡ false → insert past name stood ≡ note past name stood
+  note_new h = sym (ap (λ b. cond b past (insert past name stood)) h)
+
+  pub noted_whole : is_some (get past name) ≡ false → insert (insert past name None) name stood ≡ note past name stood
+  noted_whole h = insert_twice past name None stood ∙ note_new h
+
+  pub noted_back : (first : Option T) → get past name ≡ Some first → insert (insert past name stood) name first ≡ note past name stood
+  noted_back first h =
+      insert_twice past name stood first ∙ put_again nat_list_cmp_total differ past name first h
+      ∙ sym (ap (λ o. cond (is_some o) past (insert past name stood)) h)

@@ -1,6 +1,6 @@
 //! Values under names.
 
-ghost use Rattle.std.specs.Prelude.{◌≡◌, ◌<◌, ◌^◌, IfOk, OnOk, OnErr, IsTrue};
+ghost use Rattle.std.specs.Prelude.{◌≡◌, ◌<◌, ◌^◌, IfOk, IfErr, OnOk, OnErr, IsTrue};
 ghost use Rattle.std.specs.BTreeMap.{IsOrdered};
 ghost use Rattle.std.specs.Cmp.Lexicographic.{slice_cmp};
 ghost use Rattle.std.specs.List.Sorted.{IsStrictlySortedBy};
@@ -9,10 +9,11 @@ ghost use Rattle.std.specs.Option.{option_copied};
 ghost use Rattle.std.specs.Ordering.{nat_cmp};
 ghost use Rattle.std.specs.Range.Bound.{bound_map};
 ghost use Rattle.std.specs.FinMap as map;
+ghost use Rattle.hb_index.specs.Kept.{put_back};
 ghost use Rattle.hb_index.specs.Named.{start_behind, IsFirstBehind};
 
 use hb_base::{NoMemory, Text};
-use std::alloc::Global;
+use std::alloc::{AllocFailed, Global};
 use std::collections::BTreeMap;
 use std::collections::btree_map::Iter;
 use std::marker::Model;
@@ -100,6 +101,30 @@ impl<T> ByName<T> {
 }
 
 impl<T: Drop> ByName<T> {
+    /// The same as `put` by one look-up, for which the name is copied also where a value stands under it; with want of memory the
+    /// value comes back.
+    pub(crate) fn insert(
+        &mut self,
+        alloc: Global,
+        name: &Text,
+        item: T,
+    ) -> Result<Option<T>, AllocFailed<T>>
+        ensures stood { IfOk result (λ stood. stood ≡ map.get self.old name.now) }
+        ensures ok { OnOk result (self.new ≡ map.insert self.old name.now item) }
+        ensures back { IfErr result (λ refused. refused.value ≡ item) }
+        ensures err { OnErr result (self.new ≡ self.old) }
+    {
+        let Ok(name) = name.copy(alloc) else {
+            return Err(AllocFailed { value: item });
+        };
+        match self.items.insert(name, item) {
+            Ok(stood) => Ok(stood),
+            Err(refused) => Err(AllocFailed {
+                value: refused.value.1,
+            }),
+        }
+    }
+
     /// Puts a value under a name, and gives the one that stood there, `None` where none did; only a new name is
     /// copied.
     ///
@@ -112,9 +137,7 @@ impl<T: Drop> ByName<T> {
         if let Some(place) = self.items.get_mut(name) {
             return Ok(Some(mem::replace(place, item)));
         }
-        let name = name.copy(alloc)?;
-        self.items.insert(name, item)?;
-        Ok(None)
+        Ok(self.insert(alloc, name, item)?)
     }
 
     /// Puts a value in place of the one that stands under a name. Takes no memory.
@@ -125,6 +148,19 @@ impl<T: Drop> ByName<T> {
         match self.items.get_mut(name) {
             Some(place) => *place = item,
             None => unreachable!(),
+        }
+    }
+
+    /// Makes what stood under a name stand there again, in place of what does. Takes no memory.
+    pub(crate) fn put_back(&mut self, name: &Text, stood: Option<T>)
+        requires { IsTrue (map.contains_key self.old name.now) }
+        ensures { self.new ≡ put_back self.old name.now stood }
+    {
+        match stood {
+            Some(stood) => self.set(name, stood),
+            None => {
+                self.take(name);
+            }
         }
     }
 

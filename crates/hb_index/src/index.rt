@@ -58,11 +58,11 @@ impl Index {
         ensures err { OnErr result (self.new ≡ self.old) }
     {
         if let Some(names) = self.items.get_mut(&number) {
-            names.put(alloc, name, ())?;
+            names.insert(alloc, name, ())?;
             return Ok(());
         }
         let mut names = ByName::new(alloc);
-        names.put(alloc, name, ())?;
+        names.insert(alloc, name, ())?;
         self.items.insert(number, names)?;
         Ok(())
     }

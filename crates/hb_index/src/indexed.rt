@@ -1,19 +1,19 @@
 //! Values under names, with an index by their numbers.
 
-ghost use Rattle.std.specs.Prelude.{◌≡◌, ℕ, take, IfOk, OnOk, OnErr};
+ghost use Rattle.std.specs.Prelude.{◌≡◌, ◌⊎◌, ℕ, take, IfOk, IfErr, OnOk, OnErr};
 ghost use Rattle.std.specs.FinMap.{empty, get, contains_key, insert, remove};
 ghost use Rattle.std.specs.Option.{option_copied};
-ghost use Rattle.hb_index.specs.Index.{with_all};
+ghost use Rattle.hb_index.specs.Index.{with_all, without_all};
 ghost use Rattle.hb_index.specs.Indexed.{numbers_in, has_number, AreNamesAt};
 ghost use Rattle.hb_index.specs.Kept.{note, note_removal};
 ghost use Rattle.hb_index.specs.Named.{IsFirstBehind};
 
 use crate::by_name::ByName;
 use crate::index::Index;
-use crate::kept::Kept;
+use crate::kept::{Kept, note};
 use crate::numbered::Numbered;
 use hb_base::{List, NoMemory, Text};
-use std::alloc::Global;
+use std::alloc::{AllocFailed, Global};
 use std::marker::Model;
 
 /// Values under names, and what stood under each name that was changed. The index finds the names of a number. Contracts
@@ -36,24 +36,74 @@ impl<T: Numbered> Model for Indexed<T> {
     ghost invariant = { λ a. IsIndexed T.numbers a.kept.now a.index };
 }
 
-/// Puts the name under these numbers, and then the item under the name. After want of memory nothing is changed but that
-/// the name may stand under some first of these numbers.
-fn put_listed<T: Drop>(
+/// The numbers of what stands under a name.
+fn numbers_of<T: Numbered>(alloc: Global, stands: Option<&T>) -> Result<List<u128>, NoMemory>
+    ensures { IfOk result (λ l. l ≡ numbers_in T.numbers (option_copied stands.entry)) }
+{
+    match stands {
+        Some(stands) => stands.list_numbers(alloc),
+        None => Ok(List::new(alloc)),
+    }
+}
+
+/// Puts the name under these numbers, and then notes what stood under the name. With want of memory it comes back, and
+/// nothing is changed but that the name may stand under some first of these numbers.
+fn list_and_note<T: Drop>(
     alloc: Global,
     index: &mut Index,
-    kept: &mut Kept<T>,
+    past: &mut ByName<Option<T>>,
     name: &Text,
-    item: T,
+    stood: Option<T>,
     numbers: &[u128],
-) -> Result<(), NoMemory>
+) -> Result<(), AllocFailed<Option<T>>>
     ensures listed { OnOk result (index.new ≡ with_all index.old name.now numbers.now) }
     ensures some { OnErr result ((n : ℕ) × (index.new ≡ with_all index.old name.now (take n numbers.now))) }
-    ensures now { OnOk result (kept.new.now ≡ insert kept.old.now name.now item) }
-    ensures past { OnOk result (kept.new.past ≡ note kept.old.past name.now (get kept.old.now name.now)) }
-    ensures err { OnErr result (kept.new ≡ kept.old) }
+    ensures past { OnOk result (past.new ≡ note past.old name.now stood) }
+    ensures back { IfErr result (λ refused. refused.value ≡ stood) }
+    ensures err { OnErr result (past.new ≡ past.old) }
 {
-    index.add_all(alloc, name, numbers)?;
-    kept.put(alloc, name, item)
+    match index.add_all(alloc, name, numbers) {
+        Ok(()) => note(past, alloc, name, stood),
+        Err(_) => Err(AllocFailed { value: stood }),
+    }
+}
+
+/// Lists the name under these numbers in place of those of what stood under it, if they differ, and notes what stood. With
+/// want of memory it comes back, and the index finds the name by the same numbers as before.
+fn list_anew<T: Numbered + Drop>(
+    alloc: Global,
+    index: &mut Index,
+    past: &mut ByName<Option<T>>,
+    name: &Text,
+    stood: Option<T>,
+    numbers: &[u128],
+) -> Result<(), AllocFailed<Option<T>>>
+    ensures listed { OnOk result (((numbers_in T.numbers stood ≡ numbers.now) × (index.new ≡ index.old))
+        ⊎ (index.new ≡ without_all (with_all index.old name.now numbers.now) name.now (numbers_in T.numbers stood) numbers.now)) }
+    ensures unlisted { OnErr result ((index.new ≡ index.old)
+        ⊎ ((n : ℕ) × (index.new ≡ without_all (with_all index.old name.now (take n numbers.now)) name.now
+        numbers.now (numbers_in T.numbers stood)))) }
+    ensures past { OnOk result (past.new ≡ note past.old name.now stood) }
+    ensures back { IfErr result (λ refused. refused.value ≡ stood) }
+    ensures err { OnErr result (past.new ≡ past.old) }
+{
+    let Ok(before) = numbers_of(alloc, stood.as_ref()) else {
+        return Err(AllocFailed { value: stood });
+    };
+    let before = before.as_slice();
+    if before == numbers {
+        return note(past, alloc, name, stood);
+    }
+    match list_and_note(alloc, index, past, name, stood, numbers) {
+        Ok(()) => {
+            index.take_all(name, before, numbers);
+            Ok(())
+        }
+        Err(refused) => {
+            index.take_all(name, numbers, before);
+            Err(refused)
+        }
+    }
 }
 
 impl<T: Numbered> Indexed<T> {
@@ -96,16 +146,6 @@ impl<T: Numbered> Indexed<T> {
     {
         self.names_at(number)?.first_behind(name)
     }
-
-    /// The numbers of what stands under a name.
-    fn numbers_at(&self, alloc: Global, name: &Text) -> Result<List<u128>, NoMemory>
-        ensures { IfOk result (λ l. l ≡ numbers_in T.numbers (get self.now.now name.now)) }
-    {
-        match self.kept.now.get(name) {
-            Some(stands) => stands.list_numbers(alloc),
-            None => Ok(List::new(alloc)),
-        }
-    }
 }
 
 impl<T: Numbered + Drop> Indexed<T> {
@@ -125,19 +165,21 @@ impl<T: Numbered + Drop> Indexed<T> {
         ensures past { OnOk result (self.new.past ≡ note self.old.past name.now (get self.old.now name.now)) }
         ensures err { OnErr result (self.new ≡ self.old) }
     {
-        let before = self.numbers_at(alloc, name)?;
-        let after = item.list_numbers(alloc)?;
-        let numbers = after.as_slice();
-        match put_listed(alloc, &mut self.index, &mut self.kept, name, item, numbers) {
-            Ok(()) => {
-                self.index.take_all(name, before.as_slice(), numbers);
-                Ok(())
-            }
-            Err(why) => {
-                self.index.take_all(name, numbers, before.as_slice());
-                Err(why)
-            }
+        let numbers = item.list_numbers(alloc)?;
+        let numbers = numbers.as_slice();
+        let stood = self.kept.now.insert(alloc, name, item)?;
+        if let Err(refused) = list_anew(
+            alloc,
+            &mut self.index,
+            &mut self.kept.past,
+            name,
+            stood,
+            numbers,
+        ) {
+            self.kept.now.put_back(name, refused.value);
+            return Err(NoMemory);
         }
+        Ok(())
     }
 
     /// Takes the value under a name out, which is noted, and tells whether one stood there.
@@ -149,7 +191,7 @@ impl<T: Numbered + Drop> Indexed<T> {
         ensures past { OnOk result (self.new.past ≡ note_removal self.old.past name.now (get self.old.now name.now)) }
         ensures err { OnErr result (self.new ≡ self.old) }
     {
-        let before = self.numbers_at(alloc, name)?;
+        let before = numbers_of(alloc, self.kept.now.get(name))?;
         let held = self.kept.remove(alloc, name)?;
         self.index.take_all(name, before.as_slice(), &[]);
         Ok(held)

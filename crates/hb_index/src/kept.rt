@@ -1,12 +1,12 @@
 //! Values under names, and what stood under the names that were changed.
 
-ghost use Rattle.std.specs.Prelude.{◌≡◌, IfOk, OnOk, OnErr};
+ghost use Rattle.std.specs.Prelude.{◌≡◌, IfOk, IfErr, OnOk, OnErr};
 ghost use Rattle.std.specs.FinMap as map;
 ghost use Rattle.hb_index.specs.Kept.{note, note_removal};
 
 use crate::by_name::ByName;
 use hb_base::{NoMemory, Text};
-use std::alloc::Global;
+use std::alloc::{AllocFailed, Global};
 
 /// Values under names, and what stood under each name that was changed since the last `begin`.
 #[derive(Drop)]
@@ -29,6 +29,23 @@ impl<T> Kept<T> {
     }
 }
 
+/// Notes what stood under a name; the first note of a name counts. With want of memory it comes back, and nothing changes.
+pub fn note<T: Drop>(
+    past: &mut ByName<Option<T>>,
+    alloc: Global,
+    name: &Text,
+    stood: Option<T>,
+) -> Result<(), AllocFailed<Option<T>>>
+    ensures ok { OnOk result (past.new ≡ note past.old name.now stood) }
+    ensures back { IfErr result (λ refused. refused.value ≡ stood) }
+    ensures err { OnErr result (past.new ≡ past.old) }
+{
+    if let Some(first) = past.insert(alloc, name, stood)? {
+        past.set(name, first);
+    }
+    Ok(())
+}
+
 impl<T: Drop> Kept<T> {
     /// Forgets what was changed so far.
     pub fn begin(&mut self, alloc: Global)
@@ -36,31 +53,6 @@ impl<T: Drop> Kept<T> {
         ensures past { self.new.past ≡ map.empty }
     {
         self.past = ByName::new(alloc);
-    }
-
-    /// Puts a value under a name, in place of one that stood there, which is noted.
-    ///
-    /// Errors: `NoMemory`, and then nothing changes.
-    pub fn put(&mut self, alloc: Global, name: &Text, item: T) -> Result<(), NoMemory>
-        ensures now { OnOk result (self.new.now ≡ map.insert self.old.now name.now item) }
-        ensures past { OnOk result (self.new.past ≡ note self.old.past name.now (map.get self.old.now name.now)) }
-        ensures err { OnErr result (self.new ≡ self.old) }
-    {
-        if self.past.contains(name) {
-            self.now.put(alloc, name, item)?;
-            return Ok(());
-        }
-        self.past.put(alloc, name, None)?;
-        match self.now.put(alloc, name, item) {
-            Ok(stood) => {
-                self.past.set(name, stood);
-                Ok(())
-            }
-            Err(why) => {
-                self.past.take(name);
-                Err(why)
-            }
-        }
     }
 
     /// Takes the value under a name out, which is noted, and tells whether one stood there. Memory for the note is

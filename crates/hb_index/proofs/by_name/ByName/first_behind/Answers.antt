@@ -1,9 +1,9 @@
-use Rattle.std.proofs.Common.{◌≡◌, ap, sym, ◌∙◌}
+use Rattle.std.proofs.Common.{ap, sym, ◌∙◌}
 use Rattle.std.specs.declared.ops.Bound.TheVariants.{Unbounded}
 use Rattle.std.specs.BTreeMap.Range.{entries_between}
 use Rattle.std.specs.FinMap.{entries}
 use Rattle.std.specs.Option.{option_copied}
-use Rattle.hb_index.proofs.Behind.{behind, span_behind, none_behind_it, first_behind_it}
+use Rattle.hb_index.proofs.Behind.{span_behind, none_behind_it, first_behind_it}
 use Rattle.hb_index.proofs.Entries.{by_bytes, entries_made}
 use Rattle.hb_index.proofs.by_name.ByName.first_behind.Goals as goal
 

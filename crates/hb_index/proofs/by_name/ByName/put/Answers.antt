@@ -1,6 +1,6 @@
 use Rattle.std.proofs.Common.{Some, is_some, ap, sym, ◌∙◌}
 use Rattle.std.specs.FinMap as map
-use Rattle.hb_index.proofs.Entries.{get_made, made_with}
+use Rattle.hb_index.proofs.Entries.{by_bytes, get_made, made_with}
 use Rattle.hb_index.proofs.by_name.ByName.put.Goals as goal
 
 pub returns-in-Some-clause-ok : goal.returns-in-Some-clause-ok
@@ -17,12 +17,12 @@ returns-in-Some-clause-stood g c =
 
 pub returns-clause-stood : goal.returns-clause-stood
 returns-clause-stood g c =
-    c.in_default.ensures.value ∙ sym (get_made c.self.inside.items.entries c.args.name.now)
+    c.in_ok-insert.ensures.stood
+    ∙ ap (λ m. map.get {R = by_bytes} (map.from_entries m.entries) c.args.name.now) c.get_mut.follows.holds-at-none
     ∙ ap (λ m. map.get m c.args.name.now) c.self.view_is
 
 pub returns-clause-ok : goal.returns-clause-ok
 returns-clause-ok g c =
-    made_with c.get_mut.follows.lender-at-none.entries c.insert.new.self.entries c.args.name.now c.args.item
-    (rw c.in_ok-name.ensures at c.in_ok-insert.ensures.updates.0)
+    c.in_ok-insert.ensures.ok
     ∙ ap (λ m. map.insert (map.from_entries m.entries) c.args.name.now c.args.item) c.get_mut.follows.holds-at-none
     ∙ ap (λ m. map.insert m c.args.name.now c.args.item) c.self.view_is
