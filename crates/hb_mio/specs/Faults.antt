@@ -1,7 +1,9 @@
 -- How often calls on links failed, as a table of sockets by their numbers keeps it.
 use Rattle.std.specs.Prelude.{◌≡◌, ◌≢◌, ℕ, nat_eq, Option, Some, None}
 use Rattle.std.specs.HashMap.{get, HashMap}
+use Rattle.hb_mio.specs.declared.mio_world.MioWorld.{MioWorld}
 use Rattle.hb_mio.specs.declared.socket.Socket.{Socket}
+use Rattle.hb_world.specs.Seen.{Seen}
 
 -- a link that doesn't live has no count
 abbrev pub faults_of : Option Socket → ℕ
@@ -20,3 +22,12 @@ module _ {S : Type 0} where
   -- no count changed but this link's
   abbrev pub OthersSame : ℕ → HashMap ℕ Socket S → HashMap ℕ Socket S → Type 0
   OthersSame link before after = (l : ℕ) → l ≢ link → faults_at after l ≡ faults_at before l
+
+-- the real sockets follow no script, and count what failed
+abbrev pub seen_of : {R Stream Listener : Type 0} → MioWorld R Stream Listener → Seen
+seen_of w = record {
+  script = None;
+  faults = w.faults;
+  birth_faults = w.birth_faults;
+  link_faults = faults_at w.sockets.by_number;
+}

@@ -1,11 +1,11 @@
 //! The world of real sockets.
 
-ghost use Rattle.std.specs.Prelude.{◌≡◌, ◌<◌, ◌≤◌, OnErr, true};
+ghost use Rattle.std.specs.Prelude.{◌≡◌, ◌<◌, OnErr, true};
 ghost use Rattle.std.specs.HashMap.{spare};
-ghost use Rattle.hb_base.specs.Count.{Counts};
-ghost use Rattle.hb_mio.specs.Faults.{SameFaults};
+ghost use Rattle.hb_mio.specs.Faults.{seen_of};
 ghost use Rattle.hb_mio.specs.Stuck.{stuck_at};
 ghost use Rattle.hb_world.specs.Answers.{birth_failed};
+ghost use Rattle.hb_world.specs.Seen.{Stays, CountsUp};
 
 use crate::doors::{Doors, address_of};
 use crate::sockets::Sockets;
@@ -54,9 +54,7 @@ impl<R: Net + Clock + Drop> MioWorld<R> {
 
     /// Begins to listen.
     fn open(&mut self, at: Target, door: Door) -> Result<(), Or<io::Error>>
-        ensures births { self.new.birth_faults ≡ self.old.birth_faults }
-        ensures whole { self.new.faults ≡ self.old.faults }
-        ensures links { SameFaults self.old.sockets.by_number self.new.sockets.by_number }
+        ensures stays { Stays (seen_of self.old) (seen_of self.new) }
     {
         begin(&mut self.watch, self.alloc, &self.net)?;
         let Some(watch) = &self.watch else {
@@ -70,9 +68,7 @@ impl<R: Net + Clock + Drop> MioWorld<R> {
     /// A connection for which room was taken, as a link.
     fn bear(&mut self, stream: TcpStream) -> io::Result<u64>
         requires { 0 < spare self.old.sockets.by_number }
-        ensures births { self.new.birth_faults ≡ self.old.birth_faults }
-        ensures whole { self.new.faults ≡ self.old.faults }
-        ensures links { SameFaults self.old.sockets.by_number self.new.sockets.by_number }
+        ensures stays { Stays (seen_of self.old) (seen_of self.new) }
     {
         match &self.watch {
             Some(watch) => self.sockets.bear(watch.registry(), stream),
@@ -82,9 +78,7 @@ impl<R: Net + Clock + Drop> MioWorld<R> {
 
     /// The next connection at a door, as a link.
     fn welcome(&mut self, door: Door) -> Result<Option<u64>, Or<io::Error>>
-        ensures births { self.new.birth_faults ≡ self.old.birth_faults }
-        ensures whole { self.new.faults ≡ self.old.faults }
-        ensures links { SameFaults self.old.sockets.by_number self.new.sockets.by_number }
+        ensures stays { Stays (seen_of self.old) (seen_of self.new) }
     {
         self.sockets.reserve()?;
         let Some(stream) = self.doors.accept(door).map_err(Or::Fault)? else {
@@ -96,9 +90,7 @@ impl<R: Net + Clock + Drop> MioWorld<R> {
 
     /// The next connection at a door, as a link. A door where that failed is named by the next tick.
     fn accept_at(&mut self, door: Door) -> Result<Option<u64>, Or<io::Error>>
-        ensures births { self.new.birth_faults ≡ self.old.birth_faults }
-        ensures whole { self.new.faults ≡ self.old.faults }
-        ensures links { SameFaults self.old.sockets.by_number self.new.sockets.by_number }
+        ensures stays { Stays (seen_of self.old) (seen_of self.new) }
         ensures stuck { OnErr result (stuck_at door self.new.doors ≡ true) }
     {
         let born = self.welcome(door);
@@ -110,9 +102,7 @@ impl<R: Net + Clock + Drop> MioWorld<R> {
 
     /// A connection that is begun, as a link.
     fn connect(&mut self, to: Target) -> Result<u64, Or<io::Error>>
-        ensures births { self.new.birth_faults ≡ self.old.birth_faults }
-        ensures whole { self.new.faults ≡ self.old.faults }
-        ensures links { SameFaults self.old.sockets.by_number self.new.sockets.by_number }
+        ensures stays { Stays (seen_of self.old) (seen_of self.new) }
     {
         begin(&mut self.watch, self.alloc, &self.net)?;
         self.sockets.reserve()?;
@@ -122,9 +112,7 @@ impl<R: Net + Clock + Drop> MioWorld<R> {
 
     /// Waits, and adds what is ready. Tells whether a tick is due.
     fn look(&mut self, ready: &mut Ready) -> Result<bool, Or<io::Error>>
-        ensures births { self.new.birth_faults ≡ self.old.birth_faults }
-        ensures whole { self.new.faults ≡ self.old.faults }
-        ensures links { SameFaults self.old.sockets.by_number self.new.sockets.by_number }
+        ensures stays { Stays (seen_of self.old) (seen_of self.new) }
     {
         begin(&mut self.watch, self.alloc, &self.net)?;
         let Some(watch) = &mut self.watch else {
@@ -138,8 +126,7 @@ impl<R: Net + Clock + Drop> MioWorld<R> {
 
 /// What a birth answers; one that failed is counted.
 fn birth(count: &mut u64, born: Result<Option<u64>, Or<io::Error>>) -> Born
-    ensures counts { Counts count.old count.new (birth_failed result) }
-    ensures later { count.old ≤ count.new }
+    ensures { CountsUp count.old count.new (birth_failed result) }
 {
     match born {
         Ok(Some(link)) => Born::New(link),
@@ -154,17 +141,11 @@ fn birth(count: &mut u64, born: Result<Option<u64>, Or<io::Error>>) -> Born
 
 impl<R: Net + Clock + Drop> World for MioWorld<R> {
     ghost use Rattle.std.specs.Prelude.{None};
-    ghost use Rattle.hb_mio.specs.Faults.{faults_at};
+    ghost use Rattle.hb_mio.specs.Faults.{seen_of};
 
     ghost trace = { λ w. None };
 
-    ghost script = { λ w. None };
-
-    ghost link_faults = { λ w l. faults_at w.sockets.by_number l };
-
-    ghost birth_faults = { λ w. w.birth_faults };
-
-    ghost faults = { λ w. w.faults };
+    ghost seen = { λ w. seen_of w };
 
     fn listen(&mut self, at: Target, door: Door) -> Listened {
         match self.open(at, door) {

@@ -1,8 +1,8 @@
 //! One connection, and what is known of it without asking the system.
 
-ghost use Rattle.std.specs.Prelude.{◌≡◌, ◌<◌, ◌≤◌, ◌||◌, length, true, false};
-ghost use Rattle.hb_base.specs.Count.{Counts};
+ghost use Rattle.std.specs.Prelude.{◌≡◌, ◌<◌, ◌||◌, length, true, false};
 ghost use Rattle.hb_world.specs.Answers.{finish_failed, read_failed, write_failed, ReadsWithin, WritesWithin};
+ghost use Rattle.hb_world.specs.Seen.{CountsUp};
 ghost use Rattle.hb_world.specs.declared.world.Finished.TheVariants as finished;
 ghost use Rattle.hb_world.specs.declared.world.Read.TheVariants as reads;
 
@@ -108,8 +108,7 @@ impl Socket {
 
     /// Whether the connection is there. The system is asked behind an event alone.
     pub fn finish(&mut self) -> Finished
-        ensures counts { Counts self.old.faults self.new.faults (finish_failed result) }
-        ensures later { self.old.faults ≤ self.new.faults }
+        ensures counts { CountsUp self.old.faults self.new.faults (finish_failed result) }
         ensures unasked { self.old.changed ≡ false → result ≡ finished.Balked }
     {
         if !self.changed {
@@ -128,8 +127,7 @@ impl Socket {
     pub fn read(&mut self, into: &mut [u8]) -> Read
         requires { 0 < length into.old }
         ensures within { ReadsWithin into.new result }
-        ensures counts { Counts self.old.faults self.new.faults (read_failed result) }
-        ensures later { self.old.faults ≤ self.new.faults }
+        ensures counts { CountsUp self.old.faults self.new.faults (read_failed result) }
         ensures unasked { self.old.dry ≡ true → result ≡ reads.Balked }
     {
         if self.dry {
@@ -148,8 +146,7 @@ impl Socket {
     pub fn write(&mut self, from: &[u8]) -> Wrote
         requires { 0 < length from.now }
         ensures within { WritesWithin from.now result }
-        ensures counts { Counts self.old.faults self.new.faults (write_failed result) }
-        ensures later { self.old.faults ≤ self.new.faults }
+        ensures counts { CountsUp self.old.faults self.new.faults (write_failed result) }
     {
         let wrote = write_to(&mut self.stream, from);
         if matches!(wrote, Wrote::Failed) {

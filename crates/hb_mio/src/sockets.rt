@@ -1,10 +1,10 @@
 //! The links that live, by their numbers.
 
-ghost use Rattle.std.specs.Prelude.{◌≡◌, ◌<◌, ◌≤◌, length, IfSome, OnOk};
+ghost use Rattle.std.specs.Prelude.{◌≡◌, ◌<◌, length, IfSome, OnOk};
 ghost use Rattle.std.specs.HashMap.{spare};
-ghost use Rattle.hb_base.specs.Count.{Counts};
 ghost use Rattle.hb_mio.specs.Faults.{faults_at, SameFaults, OthersSame};
 ghost use Rattle.hb_world.specs.Answers.{finish_failed, read_failed, write_failed, ReadsWithin, WritesWithin};
+ghost use Rattle.hb_world.specs.Seen.{CountsUp};
 
 use crate::socket::Socket;
 use hb_base::NoMemory;
@@ -92,8 +92,7 @@ impl Sockets {
 
     /// Whether a link is open; one that doesn't live balks.
     pub fn finish(&mut self, link: u64) -> Finished
-        ensures counts { Counts (faults_at self.old.by_number link) (faults_at self.new.by_number link) (finish_failed result) }
-        ensures later { faults_at self.old.by_number link ≤ faults_at self.new.by_number link }
+        ensures counts { CountsUp (faults_at self.old.by_number link) (faults_at self.new.by_number link) (finish_failed result) }
         ensures others { OthersSame link self.old.by_number self.new.by_number }
     {
         match self.by_number.get_mut(&link) {
@@ -106,8 +105,7 @@ impl Sockets {
     pub fn read(&mut self, link: u64, into: &mut [u8]) -> Read
         requires { 0 < length into.old }
         ensures within { ReadsWithin into.new result }
-        ensures counts { Counts (faults_at self.old.by_number link) (faults_at self.new.by_number link) (read_failed result) }
-        ensures later { faults_at self.old.by_number link ≤ faults_at self.new.by_number link }
+        ensures counts { CountsUp (faults_at self.old.by_number link) (faults_at self.new.by_number link) (read_failed result) }
         ensures others { OthersSame link self.old.by_number self.new.by_number }
     {
         match self.by_number.get_mut(&link) {
@@ -120,8 +118,7 @@ impl Sockets {
     pub fn write(&mut self, link: u64, from: &[u8]) -> Wrote
         requires { 0 < length from.now }
         ensures within { WritesWithin from.now result }
-        ensures counts { Counts (faults_at self.old.by_number link) (faults_at self.new.by_number link) (write_failed result) }
-        ensures later { faults_at self.old.by_number link ≤ faults_at self.new.by_number link }
+        ensures counts { CountsUp (faults_at self.old.by_number link) (faults_at self.new.by_number link) (write_failed result) }
         ensures others { OthersSame link self.old.by_number self.new.by_number }
     {
         match self.by_number.get_mut(&link) {

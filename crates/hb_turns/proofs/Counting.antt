@@ -4,7 +4,6 @@ use Rattle.std.specs.Prelude.{count_by}
 use Rattle.std.specs.List.{list_all}
 use Rattle.std.proofs.lemmas.List.{append-nil}
 use Rattle.std.proofs.lemmas.List.Sums.{sum_by-append, sum_by-cons}
-use Rattle.hb_base.specs.Count.{Counts}
 use Rattle.hb_world.specs.Calls.{with_entries}
 use Rattle.hb_world.specs.ScriptAnswers.{is_listen}
 use Rattle.hb_world.specs.declared.entry.Entry.{Entry}
@@ -368,7 +367,3 @@ pub lack_ends : {E : Type 0} (r : Result ServeEnd E) (words : ServeWords) (told 
     → IfSome told (Finishes words ends.NoMemory) → IfSome told (Finishes words (end_of r))
 lack_ends (Ok x) words told none had = absurd none
 lack_ends (Err why) words told none had = had
-
--- no fault
-pub no_fault : (old mid new : ℕ) (fails : Bool) → fails ≡ false → new ≡ mid → mid ≡ old → Counts old new fails
-no_fault old mid new fails is now was = subst (λ b. Counts old new b) (sym is) (now ∙ was)

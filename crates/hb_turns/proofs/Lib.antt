@@ -1,6 +1,7 @@
 pub mod Adding
 pub mod Counting
 pub mod Closing
+pub mod Faulting
 pub mod Holding
 pub mod Listening
 pub mod Refusing

@@ -1,5 +1,6 @@
 pub mod Counted
 pub mod Ends
+pub mod Faults
 pub mod Listens
 pub mod May
 pub mod Notes

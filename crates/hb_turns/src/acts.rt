@@ -8,6 +8,7 @@ ghost use Rattle.hb_base.specs.declared.door.Why.{Why};
 ghost use Rattle.hb_base.specs.declared.target.Target.{Target};
 ghost use Rattle.hb_world.specs.declared.entry.Entry.TheVariants as e;
 ghost use Rattle.hb_ready.specs.Registry.{kept, HasRoom};
+ghost use Rattle.hb_turns.specs.Faults.{StaysWhole};
 ghost use Rattle.hb_turns.specs.Ends.{is_lack};
 ghost use Rattle.hb_turns.specs.Reckons.{Adds};
 ghost use Rattle.hb_turns.specs.Stands.{Keeps, Left, WatchedBy, Tracks, Matches, Stands, IsIdle, revoked_behind};
@@ -91,8 +92,7 @@ fn dial<W: World, N: Node>(
     ensures keeps { (N.shown run.old.node).dials ≡ Some (to, why)
         → Keeps N.stands N.shown result run.old (W.trace world.old) run.new (W.trace world.new) }
     ensures adds { Adds false (W.trace world.old) (W.trace world.new) }
-    ensures faults { W.faults world.new ≡ W.faults world.old }
-    ensures follows { W.script world.new ≡ W.script world.old }
+    ensures stays { StaysWhole (W.seen world.old) (W.seen world.new) }
 {
     run.records.links.reserve()?;
     match world.dial(to, why) {
@@ -115,8 +115,7 @@ fn make_act<W: World, N: Node>(run: &mut Run<N>, world: &mut W) -> Result<bool, 
     ensures keeps { Keeps N.stands N.shown result run.old (W.trace world.old) run.new (W.trace world.new) }
     ensures idle { IfOk result (λ made. made ≡ false → (N.shown run.new.node).idle ≡ true × (N.shown run.new.node).none_closes ≡ true) }
     ensures adds { Adds false (W.trace world.old) (W.trace world.new) }
-    ensures faults { W.faults world.new ≡ W.faults world.old }
-    ensures follows { W.script world.new ≡ W.script world.old }
+    ensures stays { StaysWhole (W.seen world.old) (W.seen world.new) }
 {
     match run.node.next_act() {
         None => Ok(false),
@@ -143,8 +142,7 @@ fn make_acts<W: World, N: Node>(run: &mut Run<N>, world: &mut W) -> Result<(), N
     ensures keeps { Keeps N.stands N.shown result run.old (W.trace world.old) run.new (W.trace world.new) }
     ensures idle { OnOk result ((N.shown run.new.node).idle ≡ true × (N.shown run.new.node).none_closes ≡ true) }
     ensures adds { Adds false (W.trace world.old) (W.trace world.new) }
-    ensures faults { W.faults world.new ≡ W.faults world.old }
-    ensures follows { W.script world.new ≡ W.script world.old }
+    ensures stays { StaysWhole (W.seen world.old) (W.seen world.new) }
 {
     for _act in 0..u64::MAX {
         if !make_act(run, world)? {
@@ -226,8 +224,7 @@ pub(crate) fn carry<W: World, N: Node>(run: &mut Run<N>, world: &mut W) -> Resul
     ensures keeps { Keeps N.stands N.shown result run.old (W.trace world.old) run.new (W.trace world.new) }
     ensures idle { OnOk result (IsIdle (N.shown run.new.node)) }
     ensures adds { Adds false (W.trace world.old) (W.trace world.new) }
-    ensures faults { W.faults world.new ≡ W.faults world.old }
-    ensures follows { W.script world.new ≡ W.script world.old }
+    ensures stays { StaysWhole (W.seen world.old) (W.seen world.new) }
 {
     make_acts(run, world)?;
     take_notes(run)?;

@@ -2,6 +2,7 @@
 
 ghost use Rattle.std.specs.Prelude.{◌≡◌, ◌<◌, ℕ, true, false, None, Some, IfSome, OnOk};
 ghost use Rattle.hb_ready.specs.Registry.{kept};
+ghost use Rattle.hb_turns.specs.Faults.{StaysWhole};
 ghost use Rattle.hb_turns.specs.Notes.{HasAllNotes};
 ghost use Rattle.hb_turns.specs.Reckons.{Closes};
 ghost use Rattle.hb_turns.specs.Shown.{StandsForNone};
@@ -23,8 +24,7 @@ fn close_due<W: World, N: Node>(run: &mut Run<N>, world: &mut W, cause: Cause) -
         → IfSome (W.trace world.new) (Matches N.stands N.shown run.new) }
     ensures closes { Closes cause (W.trace world.old) (W.trace world.new) }
     ensures none { result ≡ false → StandsForNone N.stands run.new.node }
-    ensures faults { W.faults world.new ≡ W.faults world.old }
-    ensures follows { W.script world.new ≡ W.script world.old }
+    ensures stays { StaysWhole (W.seen world.old) (W.seen world.new) }
 {
     match run.node.next_act() {
         None => false,
@@ -55,8 +55,7 @@ fn close_dues<W: World, N: Node>(
     ensures alone { OnOk result (IfSome (W.trace world.old) (Matches N.stands N.shown run.old)
         → IfSome (W.trace world.new) (StandsAlone N.stands N.shown run.new)) }
     ensures closes { Closes cause (W.trace world.old) (W.trace world.new) }
-    ensures faults { W.faults world.new ≡ W.faults world.old }
-    ensures follows { W.script world.new ≡ W.script world.old }
+    ensures stays { StaysWhole (W.seen world.old) (W.seen world.new) }
 {
     for _close in 0..u64::MAX {
         if !close_due(run, world, cause) {
@@ -75,8 +74,7 @@ fn close_one<W: World, N: Node>(run: &mut Run<N>, world: &mut W, cause: Cause) -
     ensures closes { Closes cause (W.trace world.old) (W.trace world.new) }
     ensures none { result ≡ false → (l : ℕ) → (kept run.new.records.links).links l ≡ None }
     ensures less { result ≡ true → (kept run.new.records.links).count < (kept run.old.records.links).count }
-    ensures faults { W.faults world.new ≡ W.faults world.old }
-    ensures follows { W.script world.new ≡ W.script world.old }
+    ensures stays { StaysWhole (W.seen world.old) (W.seen world.new) }
 {
     match run.records.links.any() {
         None => false,
@@ -96,8 +94,7 @@ fn close_all<W: World, N: Node>(run: &mut Run<N>, world: &mut W, cause: Cause)
         → IfSome (W.trace world.new) (StandsAlone N.stands N.shown run.new) }
     ensures closes { Closes cause (W.trace world.old) (W.trace world.new) }
     ensures none { (l : ℕ) → (kept run.new.records.links).links l ≡ None }
-    ensures faults { W.faults world.new ≡ W.faults world.old }
-    ensures follows { W.script world.new ≡ W.script world.old }
+    ensures stays { StaysWhole (W.seen world.old) (W.seen world.new) }
 {
     while close_one(run, world, cause) {}
 }
@@ -117,8 +114,7 @@ pub(crate) fn end_run<W: World, N: Node>(
         → IfSome (W.trace world.new) (HasAllNotes N.stands N.shown run.new)) }
     ensures closes { Closes cause (W.trace world.old) (W.trace world.new) }
     ensures none { (l : ℕ) → (kept run.new.records.links).links l ≡ None }
-    ensures faults { W.faults world.new ≡ W.faults world.old }
-    ensures follows { W.script world.new ≡ W.script world.old }
+    ensures stays { StaysWhole (W.seen world.old) (W.seen world.new) }
 {
     run.node.stop(cause);
     let made = close_dues(run, world, cause);

@@ -3,6 +3,7 @@
 ghost use Rattle.std.specs.Prelude.{◌≡◌, ◌⊎◌, ◌<◌, ◌≤◌, true, false, length, take, IfOk};
 ghost use Rattle.hb_world.specs.Answers.{ReadsWithin};
 ghost use Rattle.hb_ready.specs.Registry.{kept};
+ghost use Rattle.hb_turns.specs.Faults.{StaysWhole};
 ghost use Rattle.hb_turns.specs.May.{MayFinish, MayRead, MayWrite};
 ghost use Rattle.hb_world.specs.Calls.{with_entries, read_entries};
 ghost use Rattle.hb_turns.specs.Rested.{IsCalm, FinishRests, ReadRests, WriteRests, MayNotRead, MayNotWrite};
@@ -58,8 +59,7 @@ pub(crate) fn finish<W: World, N: Node>(
     ensures still { IfOk result (λ moved. moved ≡ false → run.new.node ≡ run.old.node) }
     ensures rests { IfOk result (λ moved. moved ≡ false → IsCalm run.old run.new × FinishRests ((kept run.new.records.links).links link)) }
     ensures adds { Adds (moved_by result) (W.trace world.old) (W.trace world.new) }
-    ensures faults { W.faults world.new ≡ W.faults world.old }
-    ensures follows { W.script world.new ≡ W.script world.old }
+    ensures stays { StaysWhole (W.seen world.old) (W.seen world.new) }
 {
     if !may_finish(&run.records.links, link) {
         return Ok(false);
@@ -89,8 +89,7 @@ fn read_front<W: World>(world: &mut W, link: u64, buffer: &mut [u8], most: usize
     ensures adds { W.trace world.new ≡ with_entries (read_entries link buffer.new result) (W.trace world.old) }
     ensures within { ReadsWithin (take most buffer.new) result }
     ensures same { length buffer.new ≡ length buffer.old }
-    ensures faults { W.faults world.new ≡ W.faults world.old }
-    ensures follows { W.script world.new ≡ W.script world.old }
+    ensures stays { StaysWhole (W.seen world.old) (W.seen world.new) }
 {
     world.read(link, &mut buffer[..most])
 }
@@ -104,8 +103,7 @@ fn read_into<W: World, N>(run: &mut Run<N>, world: &mut W, link: u64, most: usiz
     ensures node { run.new.node ≡ run.old.node }
     ensures records { run.new.records ≡ run.old.records }
     ensures taken { run.new.taken ≡ run.old.taken }
-    ensures faults { W.faults world.new ≡ W.faults world.old }
-    ensures follows { W.script world.new ≡ W.script world.old }
+    ensures stays { StaysWhole (W.seen world.old) (W.seen world.new) }
 {
     read_front(world, link, &mut run.buffer, most)
 }
@@ -117,8 +115,7 @@ fn read<W: World, N: Node>(run: &mut Run<N>, world: &mut W, link: u64) -> Result
     ensures rests { IfOk result (λ moved. moved ≡ false → IsCalm run.old run.new
         × ReadRests ((kept run.new.records.links).links link) link (N.shown run.new.node)) }
     ensures adds { Adds (moved_by result) (W.trace world.old) (W.trace world.new) }
-    ensures faults { W.faults world.new ≡ W.faults world.old }
-    ensures follows { W.script world.new ≡ W.script world.old }
+    ensures stays { StaysWhole (W.seen world.old) (W.seen world.new) }
 {
     if !may_read(&run.records.links, link) {
         return Ok(false);
@@ -165,8 +162,7 @@ pub(crate) fn write<W: World, N: Node>(
     ensures rests { IfOk result (λ moved. moved ≡ false → IsCalm run.old run.new
         × WriteRests ((kept run.new.records.links).links link) link (N.shown run.new.node)) }
     ensures adds { Adds (moved_by result) (W.trace world.old) (W.trace world.new) }
-    ensures faults { W.faults world.new ≡ W.faults world.old }
-    ensures follows { W.script world.new ≡ W.script world.old }
+    ensures stays { StaysWhole (W.seen world.old) (W.seen world.new) }
 {
     if !may_write(&run.records.links, link) {
         return Ok(false);
@@ -203,8 +199,7 @@ pub(crate) fn read_last<W: World, N: Node>(
     ensures rests { IfOk result (λ moved. moved ≡ false → IsCalm run.old run.new
         × ReadRests ((kept run.new.records.links).links link) link (N.shown run.new.node)) }
     ensures adds { Adds (moved_by result) (W.trace world.old) (W.trace world.new) }
-    ensures faults { W.faults world.new ≡ W.faults world.old }
-    ensures follows { W.script world.new ≡ W.script world.old }
+    ensures stays { StaysWhole (W.seen world.old) (W.seen world.new) }
 {
     let came = read(run, world, link)?;
     if !came {

@@ -1,8 +1,8 @@
 //! Listens at the doors that are given, before anything else.
 
 ghost use Rattle.std.specs.Prelude.{◌≡◌, ◌++◌, [], Some, List, IfSome};
-ghost use Rattle.hb_base.specs.Count.{Counts};
 ghost use Rattle.hb_world.specs.declared.entry.Entry.{Entry};
+ghost use Rattle.hb_turns.specs.Faults.{CountsWhole};
 ghost use Rattle.hb_turns.specs.Ends.{is_fault_of_turn};
 ghost use Rattle.hb_turns.specs.Listens.{DoorAt, given, given_at};
 ghost use Rattle.hb_turns.specs.Reckons.{Begins, Begun};
@@ -25,8 +25,7 @@ fn listen_at<W: World, N: Node>(
         → IfSome (W.trace world.new) (Begun N.stands N.shown result run.new (made ++ given_at door at)) }
     ensures links { run.new.records.links ≡ run.old.records.links }
     ensures node { run.new.node ≡ run.old.node }
-    ensures faults { Counts (W.faults world.old) (W.faults world.new) (is_fault_of_turn result) }
-    ensures follows { W.script world.new ≡ W.script world.old }
+    ensures faults { CountsWhole (W.seen world.old) (W.seen world.new) (is_fault_of_turn result) }
 {
     let Some(at) = at else {
         return Ok(None);
@@ -54,8 +53,7 @@ pub(crate) fn listen<W: World, N: Node>(
         → IfSome (W.trace world.new) (Begun N.stands N.shown result run.new (given doors)) }
     ensures links { run.new.records.links ≡ run.old.records.links }
     ensures node { run.new.node ≡ run.old.node }
-    ensures faults { Counts (W.faults world.old) (W.faults world.new) (is_fault_of_turn result) }
-    ensures follows { W.script world.new ≡ W.script world.old }
+    ensures faults { CountsWhole (W.seen world.old) (W.seen world.new) (is_fault_of_turn result) }
 {
     match listen_at(run, world, Door::Inbound, doors.inbound)? {
         Some(end) => return Ok(Some(end)),

@@ -4,6 +4,7 @@ ghost use Rattle.std.specs.Prelude.{◌≡◌, ℕ, ◌∷◌, ◌++◌, [], tru
 ghost use Rattle.hb_world.specs.declared.entry.Entry.{Entry};
 ghost use Rattle.hb_ready.specs.Registry.{kept};
 ghost use Rattle.hb_ready.specs.Kept.{rotated};
+ghost use Rattle.hb_turns.specs.Faults.{StaysWhole};
 ghost use Rattle.hb_turns.specs.Reckons.{Adds, moved_by, Tried};
 ghost use Rattle.hb_ready.specs.Sight.{asked_at};
 ghost use Rattle.hb_turns.specs.Rested.{IsCalm, IsDropped, CallRests};
@@ -33,8 +34,7 @@ fn accept<W: World, N: Node>(run: &mut Run<N>, world: &mut W, door: Door) -> Res
     ensures still { IfOk result (λ moved. moved ≡ false → run.new.node ≡ run.old.node) }
     ensures rests { IfOk result (λ moved. moved ≡ false → IsCalm run.old run.new × (asked_at run.new.records.asked door ≡ false)) }
     ensures adds { Adds (moved_by result) (W.trace world.old) (W.trace world.new) }
-    ensures faults { W.faults world.new ≡ W.faults world.old }
-    ensures follows { W.script world.new ≡ W.script world.old }
+    ensures stays { StaysWhole (W.seen world.old) (W.seen world.new) }
 {
     if !run.records.asked.at(door) {
         return Ok(false);
@@ -68,8 +68,7 @@ fn make_call<W: World, N: Node>(
     ensures still { IfOk result (λ moved. moved ≡ false → run.new.node ≡ run.old.node) }
     ensures rests { IfOk result (λ moved. moved ≡ false → IsCalm run.old run.new × CallRests N.shown call run.new) }
     ensures adds { Adds (moved_by result) (W.trace world.old) (W.trace world.new) }
-    ensures faults { W.faults world.new ≡ W.faults world.old }
-    ensures follows { W.script world.new ≡ W.script world.old }
+    ensures stays { StaysWhole (W.seen world.old) (W.seen world.new) }
 {
     match call {
         Call::Accept(door) => accept(run, world, door),
@@ -87,8 +86,7 @@ fn try_call<W: World, N: Node>(
 ) -> Result<bool, NoMemory>
     ensures tried { Tried N.stands N.shown result run.old (W.trace world.old) run.new (W.trace world.new) }
     ensures rests { IfOk result (λ moved. moved ≡ false → IsCalm run.old run.new × CallRests N.shown call run.new) }
-    ensures faults { W.faults world.new ≡ W.faults world.old }
-    ensures follows { W.script world.new ≡ W.script world.old }
+    ensures stays { StaysWhole (W.seen world.old) (W.seen world.new) }
 {
     let moved = make_call(run, world, call)?;
     if !moved {
@@ -103,8 +101,7 @@ fn try_link<W: World, N: Node>(run: &mut Run<N>, world: &mut W, link: u64) -> Re
     ensures tried { Tried N.stands N.shown result run.old (W.trace world.old) run.new (W.trace world.new) }
     ensures rests { IfOk result (λ moved. moved ≡ false → IsCalm run.old run.new
         × Rests ((kept run.new.records.links).links link) link (N.shown run.new.node)) }
-    ensures faults { W.faults world.new ≡ W.faults world.old }
-    ensures follows { W.script world.new ≡ W.script world.old }
+    ensures stays { StaysWhole (W.seen world.old) (W.seen world.new) }
 {
     let opened = try_call(run, world, Call::Finish(link))?;
     let came = try_call(run, world, Call::Read(link))?;
@@ -155,8 +152,7 @@ fn settle<N: Node>(run: &mut Run<N>)
 fn try_front<W: World, N: Node>(run: &mut Run<N>, world: &mut W) -> Result<bool, NoMemory>
     ensures tried { Tried N.stands N.shown result run.old (W.trace world.old) run.new (W.trace world.new) }
     ensures rests { IfOk result (λ moved. moved ≡ false → IsDropped 1 run.old run.new) }
-    ensures faults { W.faults world.new ≡ W.faults world.old }
-    ensures follows { W.script world.new ≡ W.script world.old }
+    ensures stays { StaysWhole (W.seen world.old) (W.seen world.new) }
 {
     let Some(link) = run.records.links.front() else {
         return Ok(false);
@@ -170,8 +166,7 @@ fn try_front<W: World, N: Node>(run: &mut Run<N>, world: &mut W) -> Result<bool,
 fn try_links<W: World, N: Node>(run: &mut Run<N>, world: &mut W) -> Result<bool, NoMemory>
     ensures tried { Tried N.stands N.shown result run.old (W.trace world.old) run.new (W.trace world.new) }
     ensures rests { IfOk result (λ moved. moved ≡ false → IsDropped (length (kept run.old.records.links).listed) run.old run.new) }
-    ensures faults { W.faults world.new ≡ W.faults world.old }
-    ensures follows { W.script world.new ≡ W.script world.old }
+    ensures stays { StaysWhole (W.seen world.old) (W.seen world.new) }
 {
     let mut moved = false;
     for _try in 0..run.records.links.len() {
@@ -185,8 +180,7 @@ fn try_links<W: World, N: Node>(run: &mut Run<N>, world: &mut W) -> Result<bool,
 pub(crate) fn round<W: World, N: Node>(run: &mut Run<N>, world: &mut W) -> Result<bool, NoMemory>
     ensures tried { Tried N.stands N.shown result run.old (W.trace world.old) run.new (W.trace world.new) }
     ensures rests { IfOk result (λ moved. moved ≡ false → IsQuiet run.new.records) }
-    ensures faults { W.faults world.new ≡ W.faults world.old }
-    ensures follows { W.script world.new ≡ W.script world.old }
+    ensures stays { StaysWhole (W.seen world.old) (W.seen world.new) }
 {
     let inbound = try_call(run, world, Call::Accept(Door::Inbound))?;
     let outbound = try_call(run, world, Call::Accept(Door::Outbound))?;

@@ -2,7 +2,7 @@
 
 ghost use Rattle.std.specs.Prelude.{◌≡◌, [], true, Some, IfOk, IfSome, OnOk};
 ghost use Rattle.std.specs.Option.{option_map};
-ghost use Rattle.hb_base.specs.Count.{Counts};
+ghost use Rattle.hb_turns.specs.Faults.{CountsWhole};
 ghost use Rattle.hb_turns.specs.Ends.{cause_at, is_fault, end_of};
 ghost use Rattle.hb_turns.specs.Reckons.{Begins, Finishes};
 ghost use Rattle.hb_turns.specs.Served.{IsServed, IsFresh, IsFreshNode, leaves};
@@ -36,8 +36,7 @@ fn run_on<W: World, N: Node>(
     ensures closes { OnOk result ((N.shown run.old.node).none_closes ≡ true → (N.shown run.new.node).none_closes ≡ true) }
     ensures finishes { IfSome (W.trace world.old) (Begins N.stands N.shown run.old [])
         → IfSome (W.trace world.new) (Finishes words (end_of result)) }
-    ensures faults { Counts (W.faults world.old) (W.faults world.new) (is_fault (end_of result)) }
-    ensures follows { W.script world.new ≡ W.script world.old }
+    ensures faults { CountsWhole (W.seen world.old) (W.seen world.new) (is_fault (end_of result)) }
 {
     match listen(run, world, words.doors)? {
         Some(end) => return Ok(end),
@@ -75,8 +74,7 @@ fn serve_run<W: World, N: Node>(
 ) -> Served
     ensures served { (N.shown run.old.node).none_closes ≡ true → IfSome (W.trace world.old) (Begins N.stands N.shown run.old [])
         → IfSome (W.trace world.new) (IsServed N.stands N.shown words result (leaves run.new.taken.keep run.new.node)) }
-    ensures faults { Counts (W.faults world.old) (W.faults world.new) (is_fault result.end) }
-    ensures follows { W.script world.new ≡ W.script world.old }
+    ensures faults { CountsWhole (W.seen world.old) (W.seen world.new) (is_fault result.end) }
 {
     let end = end_of(run_on(run, world, ready, words));
     let noted = end_run(run, world, cause_at(end));
@@ -158,8 +156,7 @@ pub fn serve<W: World, N: Node + Drop>(
     requires fresh { IsFreshNode (N.shown node) }
     ensures served { W.trace world.old ≡ Some []
         → IfSome (W.trace world.new) (IsServed N.stands N.shown words result.0 (leaves keep.new result.1)) }
-    ensures faults { Counts (W.faults world.old) (W.faults world.new) (is_fault result.0.end) }
-    ensures follows { W.script world.new ≡ W.script world.old }
+    ensures faults { CountsWhole (W.seen world.old) (W.seen world.new) (is_fault result.0.end) }
 {
     let Ok((buffer, mut ready)) = room(alloc) else {
         return (Served::nothing(), node);

@@ -1,7 +1,7 @@
 //! Turns: a round where something is to be tried, else a wait.
 
 ghost use Rattle.std.specs.Prelude.{◌≡◌, ℕ, ◌+◌, true, false, None, IfOk, IfSome, OnOk};
-ghost use Rattle.hb_base.specs.Count.{Counts};
+ghost use Rattle.hb_turns.specs.Faults.{CountsWhole};
 ghost use Rattle.hb_turns.specs.Ends.{is_fault, is_fault_of_turn, end_of};
 ghost use Rattle.hb_turns.specs.Reckons.{Paid, Reckons, Turned, Finishes};
 ghost use Rattle.hb_turns.specs.Stands.{Keeps, IsIdle};
@@ -43,8 +43,7 @@ fn turn<W: World, N: Node>(
         × (IfOk result (λ end. end ≡ None → Paid (t + 1) m run.new.records))
         × ((words : ServeWords) (w : ℕ) → IfSome (W.trace world.old) (Reckons words ticks.old n w)
         → IfSome (W.trace world.new) (Turned result words ticks.new m (w + 1))) }
-    ensures faults { Counts (W.faults world.old) (W.faults world.new) (is_fault_of_turn result) }
-    ensures follows { W.script world.new ≡ W.script world.old }
+    ensures faults { CountsWhole (W.seen world.old) (W.seen world.new) (is_fault_of_turn result) }
 {
     if has_work(&run.records) {
         let _ = round(run, world)?;
@@ -65,8 +64,7 @@ pub(crate) fn turns<W: World, N: Node>(
     ensures closes { OnOk result ((N.shown run.new.node).none_closes ≡ true) }
     ensures finishes { (words : ServeWords) → words.turns ≡ most → IfSome (W.trace world.old) (Reckons words ticks 0 0)
         → IfSome (W.trace world.new) (Finishes words (end_of result)) }
-    ensures faults { Counts (W.faults world.old) (W.faults world.new) (is_fault (end_of result)) }
-    ensures follows { W.script world.new ≡ W.script world.old }
+    ensures faults { CountsWhole (W.seen world.old) (W.seen world.new) (is_fault (end_of result)) }
 {
     carry(run, world)?;
     let mut ticks = ticks;

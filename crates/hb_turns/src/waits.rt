@@ -1,8 +1,8 @@
 //! A wait, and what it named.
 
 ghost use Rattle.std.specs.Prelude.{◌≡◌, ◌∷◌, ℕ, ◌+◌, [], true, false, None, IfOk, IfSome, OnOk};
-ghost use Rattle.hb_base.specs.Count.{Counts};
 ghost use Rattle.hb_ready.specs.Registry.{kept};
+ghost use Rattle.hb_turns.specs.Faults.{StaysWhole, CountsWhole};
 ghost use Rattle.hb_turns.specs.Reckons.{Reckons, Turned, IsBehindTick, one_less, is_spent};
 ghost use Rattle.hb_turns.specs.Stands.{Keeps, Left, WatchedBy, IsIdle};
 ghost use Rattle.hb_turns.specs.Woken.{Wakes, IsQuiet, Ticked};
@@ -64,8 +64,7 @@ fn tick<W: World, N: Node>(
     ensures closes { OnOk result ((N.shown run.old.node).none_closes ≡ true → (N.shown run.new.node).none_closes ≡ true) }
     ensures turned { (words : ServeWords) (n w : ℕ) → IfSome (W.trace world.old) (IsBehindTick words ticks.old n w)
         → IfSome (W.trace world.new) (Turned result words ticks.new n w) }
-    ensures faults { W.faults world.new ≡ W.faults world.old }
-    ensures follows { W.script world.new ≡ W.script world.old }
+    ensures stays { StaysWhole (W.seen world.old) (W.seen world.new) }
     ensures stops { is_fault_of_turn result ≡ false }
 {
     run.node.tick();
@@ -89,8 +88,7 @@ pub(crate) fn wait<W: World, N: Node>(
     ensures closes { OnOk result (IsIdle (N.shown run.old.node) → (N.shown run.new.node).none_closes ≡ true) }
     ensures turned { (words : ServeWords) (n w : ℕ) → IfSome (W.trace world.old) (Reckons words ticks.old n w)
         → IfSome (W.trace world.new) (Turned result words ticks.new (n + 2) (w + 1)) }
-    ensures faults { Counts (W.faults world.old) (W.faults world.new) (is_fault_of_turn result) }
-    ensures follows { W.script world.new ≡ W.script world.old }
+    ensures faults { CountsWhole (W.seen world.old) (W.seen world.new) (is_fault_of_turn result) }
 {
     match world.wait(ready) {
         Waited::Woke => {

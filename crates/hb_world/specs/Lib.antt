@@ -2,6 +2,7 @@ pub mod Answers
 pub mod Calls
 pub mod Trace
 pub mod TraceLaws
+pub mod Seen
 pub mod Script
 pub mod Journal
 pub mod LinkState

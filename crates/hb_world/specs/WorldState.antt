@@ -1,5 +1,5 @@
 -- What the world of a script keeps.
-use Rattle.std.specs.Prelude.{◌≡◌, ◌≤◌, ◌^◌, ◌-◌, ℕ, min, Bool, true, false, not, List, length, drop, count_by, nat_eq, if◌then◌else◌}
+use Rattle.std.specs.Prelude.{◌≡◌, ◌≤◌, ◌^◌, ◌-◌, ℕ, min, Bool, true, false, not, Some, List, length, drop, count_by, nat_eq, if◌then◌else◌}
 use Rattle.hb_base.specs.Count.{one_more}
 use Rattle.hb_world.specs.declared.world.Read.{Read}
 use Rattle.hb_world.specs.declared.world.Read.TheVariants as reads
@@ -20,6 +20,7 @@ use Rattle.hb_world.specs.declared.links.Links.{Links}
 use Rattle.hb_world.specs.DoorState.{door_at}
 use Rattle.hb_world.specs.LinkStates.{state_at, is_named}
 use Rattle.hb_world.specs.Script.{Standing, is_of, pieces_on}
+use Rattle.hb_world.specs.Seen.{Seen}
 use Rattle.hb_world.specs.Trace.{listens}
 
 -- a script's world: its lines, its trace, and how often an accept or a dial failed
@@ -45,6 +46,15 @@ link_faults_in trace link = min (count_by (is_broke_of link) trace) (2 ^ 64 - 1)
 
 abbrev pub faults_in : List Entry → ℕ
 faults_in trace = min (count_by is_fault trace) (2 ^ 64 - 1)
+
+-- what is seen of it beside its trace
+abbrev pub seen_of : ScriptState → Seen
+seen_of w = record {
+  script = Some w.lines;
+  faults = faults_in w.trace;
+  birth_faults = w.birth_faults;
+  link_faults = link_faults_in w.trace;
+}
 
 -- a count, one more where the call failed
 abbrev pub counted : ℕ → Bool → ℕ

@@ -85,17 +85,11 @@ impl ScriptWorld {
 
 impl World for ScriptWorld {
     ghost use Rattle.std.specs.Prelude.{Some};
-    ghost use Rattle.hb_world.specs.WorldState.{link_faults_in, faults_in};
+    ghost use Rattle.hb_world.specs.WorldState.{seen_of};
 
     ghost trace = { λ w. Some w.trace };
 
-    ghost script = { λ w. Some w.lines };
-
-    ghost link_faults = { λ w. link_faults_in w.trace };
-
-    ghost birth_faults = { λ w. w.birth_faults };
-
-    ghost faults = { λ w. faults_in w.trace };
+    ghost seen = { λ w. seen_of w };
 
     fn listen(&mut self, at: Target, door: Door) -> Listened
         ensures answer { (result ≡ Listened.NoMemory) ⊎ (result ≡ listen_answer self.old.lines self.old.trace) }

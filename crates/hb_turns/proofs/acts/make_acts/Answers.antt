@@ -1,5 +1,6 @@
-use Rattle.std.proofs.Common.{false, refl, ◌∙◌}
+use Rattle.std.proofs.Common.{false}
 use Rattle.hb_turns.proofs.Adding.{adds_none, adds_both}
+use Rattle.hb_turns.proofs.Faulting.{stays_none, stays_both}
 use Rattle.hb_turns.proofs.Holding.{lacks_here}
 use Rattle.hb_turns.proofs.acts.make_acts.Goals as goal
 
@@ -7,8 +8,7 @@ pub loop-act-init : goal.loop-act-init
 loop-act-init g c = record {
   kept = λ had. had;
   adds = adds_none _;
-  faults = refl;
-  follows = refl;
+  stays = stays_none _;
 }
 
 pub loop-act-preserved : goal.loop-act-preserved
@@ -18,8 +18,7 @@ loop-act-preserved g c =
     record {
       kept = λ had. made.keeps (at.kept had);
       adds = adds_both false false _ _ _ at.adds made.adds;
-      faults = made.faults ∙ at.faults;
-      follows = made.follows ∙ at.follows;
+      stays = stays_both _ _ _ at.stays made.stays;
     }
 
 pub returns-in_err-make_act-clause-adds : goal.returns-in_err-make_act-clause-adds

@@ -1,4 +1,5 @@
-use Rattle.std.specs.Prelude.{◌≡◌, false, IfSome}
+use Rattle.std.specs.Prelude.{false, IfSome}
+use Rattle.hb_turns.specs.Faults.{StaysWhole}
 use Rattle.hb_turns.specs.Reckons.{Adds}
 use Rattle.hb_turns.specs.Stands.{Stands}
 use Rattle.hb_turns.proofs.acts.make_acts.Given as goal
@@ -9,6 +10,5 @@ invariant-loop-act g l = record {
   kept : IfSome (g.W.World.trace l.fn.world) (Stands g.N.Node.stands g.N.Node.shown l.fn.run)
       → IfSome (g.W.World.trace l.world) (Stands g.N.Node.stands g.N.Node.shown l.run);
   adds : Adds false (g.W.World.trace l.fn.world) (g.W.World.trace l.world);
-  faults : g.W.World.faults l.world ≡ g.W.World.faults l.fn.world;
-  follows : g.W.World.script l.world ≡ g.W.World.script l.fn.world;
+  stays : StaysWhole (g.W.World.seen l.fn.world) (g.W.World.seen l.world);
 }

@@ -1,5 +1,5 @@
-use Rattle.std.proofs.Common.{refl, ◌∙◌}
 use Rattle.hb_turns.proofs.Adding.{closes_none, closes_both}
+use Rattle.hb_turns.proofs.Faulting.{stays_none, stays_both}
 use Rattle.hb_turns.proofs.ending.close_all.Goals as goal
 
 pub loop-cause-init : goal.loop-cause-init
@@ -7,8 +7,7 @@ loop-cause-init g c = record {
   obeys = λ had. had;
   alone = λ had. had;
   closes = closes_none _ _;
-  faults = refl;
-  follows = refl;
+  stays = stays_none _;
 }
 
 pub loop-cause-preserved : goal.loop-cause-preserved
@@ -19,8 +18,7 @@ loop-cause-preserved g c =
       obeys = λ had. made.obeys (at.obeys had);
       alone = λ had. made.alone (at.alone had);
       closes = closes_both _ _ _ _ at.closes made.closes;
-      faults = made.faults ∙ at.faults;
-      follows = made.follows ∙ at.follows;
+      stays = stays_both _ _ _ at.stays made.stays;
     }
 
 pub returns-clause-closes : goal.returns-clause-closes

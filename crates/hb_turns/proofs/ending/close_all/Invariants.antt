@@ -1,5 +1,6 @@
-use Rattle.std.specs.Prelude.{◌≡◌, IfSome}
+use Rattle.std.specs.Prelude.{IfSome}
 use Rattle.hb_ready.specs.Registry.{kept}
+use Rattle.hb_turns.specs.Faults.{StaysWhole}
 use Rattle.hb_turns.specs.Reckons.{Closes}
 use Rattle.hb_turns.specs.Stands.{Obeys, StandsAlone}
 use Rattle.hb_turns.proofs.ending.close_all.Given as goal
@@ -12,8 +13,7 @@ invariant-loop-cause g l = record {
   alone : IfSome (g.W.World.trace l.initial.world) (StandsAlone g.N.Node.stands g.N.Node.shown l.initial.run)
       → IfSome (g.W.World.trace l.world) (StandsAlone g.N.Node.stands g.N.Node.shown l.run);
   closes : Closes l.cause (g.W.World.trace l.initial.world) (g.W.World.trace l.world);
-  faults : g.W.World.faults l.world ≡ g.W.World.faults l.initial.world;
-  follows : g.W.World.script l.world ≡ g.W.World.script l.initial.world;
+  stays : StaysWhole (g.W.World.seen l.initial.world) (g.W.World.seen l.world);
 }
 
 abbrev pub decreases-loop-cause : goal.decreases-loop-cause

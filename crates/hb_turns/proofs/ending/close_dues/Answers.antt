@@ -1,5 +1,6 @@
-use Rattle.std.proofs.Common.{refl, rules, ◌∙◌}
+use Rattle.std.proofs.Common.{rules}
 use Rattle.hb_turns.proofs.Adding.{closes_none, closes_both}
+use Rattle.hb_turns.proofs.Faulting.{stays_none, stays_both}
 use Rattle.hb_turns.proofs.Closing.{stands_alone}
 use Rattle.hb_turns.proofs.ending.close_dues.Goals as goal
 
@@ -9,8 +10,7 @@ loop-close-init g c = record {
   obeys = λ had. had;
   keeps = λ had. had;
   closes = closes_none _ _;
-  faults = refl;
-  follows = refl;
+  stays = stays_none _;
 }
 
 pub loop-close-preserved : goal.loop-close-preserved
@@ -22,8 +22,7 @@ loop-close-preserved g c =
       obeys = λ had. made.obeys (at.obeys had);
       keeps = λ had. made.keeps (at.keeps had);
       closes = closes_both _ _ _ _ at.closes made.closes;
-      faults = made.faults ∙ at.faults;
-      follows = made.follows ∙ at.follows;
+      stays = stays_both _ _ _ at.stays made.stays;
     }
 
 pub returns-then-not-close_due-clause-closes : goal.returns-then-not-close_due-clause-closes

@@ -1,4 +1,5 @@
 use Rattle.std.specs.Prelude.{◌≡◌, Some, IfSome}
+use Rattle.hb_turns.specs.Faults.{StaysWhole}
 use Rattle.hb_turns.specs.Reckons.{Closes}
 use Rattle.hb_turns.specs.Stands.{Obeys, Matches}
 use Rattle.hb_turns.proofs.ending.close_dues.Given as goal
@@ -12,6 +13,5 @@ invariant-loop-close g l = record {
   keeps : IfSome (g.W.World.trace l.fn.world) (Matches g.N.Node.stands g.N.Node.shown l.fn.run)
       → IfSome (g.W.World.trace l.world) (Matches g.N.Node.stands g.N.Node.shown l.run);
   closes : Closes l.fn.cause (g.W.World.trace l.fn.world) (g.W.World.trace l.world);
-  faults : g.W.World.faults l.world ≡ g.W.World.faults l.fn.world;
-  follows : g.W.World.script l.world ≡ g.W.World.script l.fn.world;
+  stays : StaysWhole (g.W.World.seen l.fn.world) (g.W.World.seen l.world);
 }

@@ -1,4 +1,5 @@
-use Rattle.std.proofs.Common.{arith, refl, rules, ◌∙◌}
+use Rattle.std.proofs.Common.{arith, rules}
+use Rattle.hb_turns.proofs.Faulting.{stays_none, stays_both}
 use Rattle.hb_turns.proofs.Resting.{dropped_none, dropped_more, dropped_so, neither}
 use Rattle.hb_turns.proofs.Trying.{tried_none, tried_or, tried_err}
 use Rattle.hb_turns.proofs.round.try_links.Goals as goal
@@ -7,8 +8,7 @@ pub loop-try-init : goal.loop-try-init
 loop-try-init g c = record {
   tried = tried_none g.N.Node.stands g.N.Node.shown c.args.run.now (g.W.World.trace c.args.world.now);
   rests = λ still. dropped_none _;
-  faults = refl;
-  follows = refl;
+  stays = stays_none _;
 }
 
 pub loop-try-preserved : goal.loop-try-preserved
@@ -18,8 +18,7 @@ loop-try-preserved g c =
     record {
       tried = tried_or g.N.Node.stands g.N.Node.shown _ _ _ _ _ _ _ _ at.tried here.tried;
       rests = λ still. let each = neither _ _ still in dropped_more _ _ _ _ (at.rests each.1) (here.rests each.0);
-      faults = here.faults ∙ at.faults;
-      follows = here.follows ∙ at.follows;
+      stays = stays_both _ _ _ at.stays here.stays;
     }
 
 pub returns-in_err-here-clause-tried : goal.returns-in_err-here-clause-tried

@@ -1,5 +1,6 @@
 use Rattle.std.specs.Prelude.{◌≡◌, false, Ok}
 use Rattle.std.specs.declared.alloc.AllocError.{AllocError}
+use Rattle.hb_turns.specs.Faults.{StaysWhole}
 use Rattle.hb_turns.specs.Reckons.{Tried}
 use Rattle.hb_turns.specs.Rested.{IsDropped}
 use Rattle.hb_turns.proofs.round.try_links.Given as goal
@@ -10,6 +11,5 @@ invariant-loop-try g l = record {
   tried : Tried {E = AllocError} g.N.Node.stands g.N.Node.shown (Ok l.moved) l.fn.run (g.W.World.trace l.fn.world) l.run
       (g.W.World.trace l.world);
   rests : l.moved ≡ false → IsDropped l._try l.fn.run l.run;
-  faults : g.W.World.faults l.world ≡ g.W.World.faults l.fn.world;
-  follows : g.W.World.script l.world ≡ g.W.World.script l.fn.world;
+  stays : StaysWhole (g.W.World.seen l.fn.world) (g.W.World.seen l.world);
 }

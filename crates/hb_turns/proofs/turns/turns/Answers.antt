@@ -1,10 +1,9 @@
-use Rattle.std.proofs.Common.{◌+◌, Option, IfSome, inl, subst, ◌∙◌, rules, arith}
-use Rattle.hb_base.specs.Count.{Counts}
-use Rattle.hb_turns.specs.Ends.{is_fault_by}
+use Rattle.std.proofs.Common.{◌+◌, Option, IfSome, inl, subst, rules, arith}
 use Rattle.hb_turns.specs.Reckons.{TurnedTo}
 use Rattle.hb_turns.specs.declared.served.ServeEnd.{ServeEnd}
 use Rattle.hb_turns.specs.declared.served.ServeEnd.TheVariants as ends
 use Rattle.hb_turns.proofs.Counting.{reckons_adds, lack_finishes, lack_ends, spent_finishes, ends_so, paid_on, paid_all}
+use Rattle.hb_turns.proofs.Faulting.{stays_both, stays_on}
 use Rattle.hb_turns.proofs.turns.turns.Goals as goal
 
 pub loop-turn-init : goal.loop-turn-init
@@ -14,8 +13,7 @@ loop-turn-init g c =
       idle = carried.idle;
       kept = λ had. carried.keeps had;
       reckoned = (0, inl (omega arith), λ words had. reckons_adds words c.args.ticks 0 0 _ _ _ carried.adds had);
-      faults = carried.faults;
-      follows = carried.follows;
+      stays = carried.stays;
     }
 
 pub loop-turn-preserved : goal.loop-turn-preserved
@@ -34,9 +32,7 @@ loop-turn-preserved g c =
             (TurnedTo o words c.turn.new.ticks made.0 (c.loop-turn._turn + 1)))
             c.in-None.is (made.2 words c.loop-turn._turn (at.reckoned.2 words had)),
       );
-      faults = subst (λ (o : Option ServeEnd). Counts (g.W.World.faults c.loop-turn.world) (g.W.World.faults c.turn.new.world)
-          (is_fault_by o)) c.in-None.is turned.faults ∙ at.faults;
-      follows = turned.follows ∙ at.follows;
+      stays = stays_both _ _ _ at.stays (stays_on _ _ _ c.in-None.is turned.faults);
     }
 
 pub returns-in_err-carry-clause-finishes : goal.returns-in_err-carry-clause-finishes

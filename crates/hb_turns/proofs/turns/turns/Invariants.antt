@@ -1,4 +1,5 @@
-use Rattle.std.specs.Prelude.{◌≡◌, ℕ, IfSome}
+use Rattle.std.specs.Prelude.{ℕ, IfSome}
+use Rattle.hb_turns.specs.Faults.{StaysWhole}
 use Rattle.hb_turns.specs.Reckons.{Paid, Reckons}
 use Rattle.hb_turns.specs.Stands.{Stands, IsIdle}
 use Rattle.hb_turns.specs.declared.words.ServeWords.{ServeWords}
@@ -13,6 +14,5 @@ invariant-loop-turn g l = record {
   reckoned : (n : ℕ) × (Paid l._turn n l.run.records)
       × ((words : ServeWords) → IfSome (g.W.World.trace l.fn.world) (Reckons words l.fn.ticks 0 0)
       → IfSome (g.W.World.trace l.world) (Reckons words l.ticks n l._turn));
-  faults : g.W.World.faults l.world ≡ g.W.World.faults l.fn.world;
-  follows : g.W.World.script l.world ≡ g.W.World.script l.fn.world;
+  stays : StaysWhole (g.W.World.seen l.fn.world) (g.W.World.seen l.world);
 }

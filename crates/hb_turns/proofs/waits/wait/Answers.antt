@@ -6,7 +6,8 @@ use Rattle.hb_turns.specs.Stands.{Stands}
 use Rattle.hb_turns.specs.Woken.{Wakes}
 use Rattle.hb_turns.specs.Reckons.{Reckons}
 use Rattle.hb_turns.specs.declared.served.ServeEnd.TheVariants as ends
-use Rattle.hb_turns.proofs.Counting.{wait_on, tick_behind, wait_ends, lack_finishes, reckons_fewer, ends_within, no_fault, each_ok, on_ok}
+use Rattle.hb_turns.proofs.Counting.{wait_on, tick_behind, wait_ends, lack_finishes, reckons_fewer, ends_within, each_ok, on_ok}
+use Rattle.hb_turns.proofs.Faulting.{counts_one, counts_none}
 use Rattle.hb_turns.proofs.Holding.{same, untold, rested}
 use Rattle.hb_turns.proofs.Waking.{wakes-tracks, wait_comes, wait_ticks}
 use Rattle.hb_turns.proofs.waits.wait.Goals as goal
@@ -71,7 +72,8 @@ returns-in-Tick-clause-turned g c = λ words n w had.
     (tick_behind words c.args.ticks.now n w c.wait.new.ready _ _ c.in-Tick.ensures.adds had)
 
 pub returns-in-Tick-clause-faults : goal.returns-in-Tick-clause-faults
-returns-in-Tick-clause-faults g c = no_fault _ _ _ _ c.tick.ensures.stops c.tick.ensures.faults c.in-Tick.ensures.counts
+returns-in-Tick-clause-faults g c =
+    counts_none _ _ _ _ c.tick.ensures.stops c.in-Tick.ensures.counts c.in-Tick.ensures.stays c.tick.ensures.stays
 
 pub returns-in-Stop-clause-turned : goal.returns-in-Stop-clause-turned
 returns-in-Stop-clause-turned g c = λ words n w had.
@@ -95,25 +97,25 @@ pub returns-in-Woke-clause-idle : goal.returns-in-Woke-clause-idle
 returns-in-Woke-clause-idle g c = λ is idle. idle
 
 pub returns-in-Woke-clause-faults : goal.returns-in-Woke-clause-faults
-returns-in-Woke-clause-faults g c = c.in-Woke.ensures.counts
+returns-in-Woke-clause-faults g c = counts_one _ _ _ c.in-Woke.ensures.counts c.in-Woke.ensures.stays
 
 pub returns-in-Stop-clause-idle : goal.returns-in-Stop-clause-idle
 returns-in-Stop-clause-idle g c = λ is idle. idle
 
 pub returns-in-Stop-clause-faults : goal.returns-in-Stop-clause-faults
-returns-in-Stop-clause-faults g c = c.in-Stop.ensures.counts
+returns-in-Stop-clause-faults g c = counts_one _ _ _ c.in-Stop.ensures.counts c.in-Stop.ensures.stays
 
 pub returns-in-Failed-clause-idle : goal.returns-in-Failed-clause-idle
 returns-in-Failed-clause-idle g c = λ is idle. idle
 
 pub returns-in-Failed-clause-faults : goal.returns-in-Failed-clause-faults
-returns-in-Failed-clause-faults g c = c.in-Failed.ensures.counts
+returns-in-Failed-clause-faults g c = counts_one _ _ _ c.in-Failed.ensures.counts c.in-Failed.ensures.stays
 
 pub returns-in-Tick-clause-idle : goal.returns-in-Tick-clause-idle
 returns-in-Tick-clause-idle g c = each_ok c.tick.result _ _ (λ end so is idle. so is) c.tick.ensures.idle
 
 pub returns-in-NoMemory-clause-faults : goal.returns-in-NoMemory-clause-faults
-returns-in-NoMemory-clause-faults g c = c.in-NoMemory.ensures.counts
+returns-in-NoMemory-clause-faults g c = counts_one _ _ _ c.in-NoMemory.ensures.counts c.in-NoMemory.ensures.stays
 
 pub returns-in-Woke-clause-closes : goal.returns-in-Woke-clause-closes
 returns-in-Woke-clause-closes g c = λ idle. idle.none_closes
