@@ -7,6 +7,7 @@ use Rattle.hb_turns.specs.declared.served.Served.{Served}
 use Rattle.hb_words.specs.declared.asks.Make.{Make}
 use Rattle.hb_words.specs.declared.fault.WordsFault.{WordsFault}
 use Rattle.hb_words.specs.Command.{Command, Replay, Serve, checks, shows, replays, serves, makes}
+use Rattle.hb_world.specs.Seen.{Seen}
 use Rattle.hb_cli.specs.Replaying.{RunState, done_in, DoneLawfully}
 use Rattle.hb_cli.specs.declared.ended.ReplayEnd.{ReplayEnd}
 use Rattle.hb_cli.specs.declared.ended.ReplayEnd.TheVariants as ends
@@ -157,8 +158,8 @@ EachEnding P = (r : Run) (status : ℕ) → EndsWith r status → P r status
 
 -- What a run leaves as it was, whole: `serve` and `make` read no input; but for `serve` no command makes a call on the world of sockets,
 -- and none changes the script that it follows
-pub record Others {S W L : Type 0} (asked : Result Command WordsFault) (script_of : W → L) (input input_after : S) (world world_after : W)
+pub record Others {S W : Type 0} (asked : Result Command WordsFault) (seen : W → Seen) (input input_after : S) (world world_after : W)
     : Type 0 where
   pub unread : takes_input asked ≡ false → input_after ≡ input
   pub unused : ((s : Serve) → asked ≡ Ok (serves s) → ⊥) → world_after ≡ world
-  pub follows : script_of world_after ≡ script_of world
+  pub follows : (seen world_after).script ≡ (seen world).script

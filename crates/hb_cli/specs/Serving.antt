@@ -9,6 +9,7 @@ use Rattle.hb_serve.specs.Served.{Heard, Serves}
 use Rattle.hb_turns.specs.Ends.{is_fault}
 use Rattle.hb_turns.specs.declared.served.Served.{Served}
 use Rattle.hb_words.specs.Command.{Serve}
+use Rattle.hb_world.specs.Seen.{Seen}
 use Rattle.hb_world.specs.declared.entry.Entry.{Entry}
 use Rattle.hb_cli.specs.Asked.{words_of}
 use Rattle.hb_cli.specs.Ended.{ended_as}
@@ -33,9 +34,9 @@ abbrev pub world_use : Option (List Entry) → Option (List Entry) → ℕ → �
 world_use trace trace_after faults faults_after heard =
     record { trace = trace; trace_after = trace_after; faults = faults; faults_after = faults_after; heard = heard }
 
--- the same, by what tells the trace and what tells the count
-abbrev pub world_used : {W : Type 0} → (W → Option (List Entry)) → (W → ℕ) → W → W → Heard → WorldUse
-world_used trace faults before after heard = world_use (trace before) (trace after) (faults before) (faults after) heard
+-- the same, by what tells the trace and what is seen beside it
+abbrev pub world_used : {W : Type 0} → (W → Option (List Entry)) → (W → Seen) → W → W → Heard → WorldUse
+world_used trace seen before after heard = world_use (trace before) (trace after) (seen before).faults (seen after).faults heard
 
 -- no call was made, and nothing was told
 abbrev pub Unused : WorldUse → Type 0

@@ -227,11 +227,11 @@ fn obey<S: Source, K: Sink, E: Sink, A: Audit, W: World>(
       input = used S.left S.faults input.old input.new;
       out = used K.written K.faults out.old out.new;
       err = used E.written E.faults err.old err.new;
-      world = world_used W.trace W.faults world.old world.new (heard_of (held_by A.notes audits.old) (held_by A.notes audits.new));
+      world = world_used W.trace W.seen world.old world.new (heard_of (held_by A.notes audits.old) (held_by A.notes audits.new));
       before = run_state script.old keep.old;
       left = run_state script.new keep.new;
     }) result }
-    ensures others { Others (words_of (map string_bytes words.now)) W.script input.old input.new world.old world.new }
+    ensures others { Others (words_of (map string_bytes words.now)) W.seen input.old input.new world.old world.new }
 {
     match read_words(alloc, words) {
         Ok(Command::Serve(asked)) => serve_world(alloc, &asked, out, err, audits, world),
@@ -269,14 +269,14 @@ pub fn run<S: Source, K: Sink, E: Sink, A: Audit, W: World>(
       input = used S.left S.faults input.old input.new;
       out = used K.written K.faults out.old out.new;
       err = used E.written E.faults err.old err.new;
-      world = world_used W.trace W.faults world.old world.new (heard_of (held_by A.notes audits.old) (held_by A.notes audits.new));
+      world = world_used W.trace W.seen world.old world.new (heard_of (held_by A.notes audits.old) (held_by A.notes audits.new));
       before = run_state script.old keep.old;
       left = run_state script.new keep.new;
     }) result }
     // The script's lines allow the trace that its world has then.
     ensures allowed { Allowed script.new.lines script.new.trace }
     // `serve` and `make` leave the input as it was, and all but `serve` the world of sockets.
-    ensures others { Others (words_of (map string_bytes words.now)) W.script input.old input.new world.old world.new }
+    ensures others { Others (words_of (map string_bytes words.now)) W.seen input.old input.new world.old world.new }
 {
     let status = obey(alloc, words, input, out, err, keep, audits, world, script);
     script.is_allowed();

@@ -33,10 +33,10 @@ fn serve_over<A: Audit, W: World>(
     world: &mut W,
 ) -> Result<Served, NoMemory>
     ensures worked { IfOk result (λ told. Worked (serve_seen words.now)
-        (world_used W.trace W.faults world.old world.new (heard_of (held_by A.notes audits.old) (held_by A.notes audits.new))) told) }
+        (world_used W.trace W.seen world.old world.new (heard_of (held_by A.notes audits.old) (held_by A.notes audits.new))) told) }
     ensures unused { IsErr result
-        → Unused (world_used W.trace W.faults world.old world.new (heard_of (held_by A.notes audits.old) (held_by A.notes audits.new))) }
-    ensures follows { W.script world.new ≡ W.script world.old }
+        → Unused (world_used W.trace W.seen world.old world.new (heard_of (held_by A.notes audits.old) (held_by A.notes audits.new))) }
+    ensures follows { (W.seen world.new).script ≡ (W.seen world.old).script }
 {
     let asked = serve_words(alloc, &words.run, words.ticks)?;
     Ok(serve(alloc, asked, &mut Keep::none(), audits, world))
@@ -80,9 +80,9 @@ pub fn serve_world<K: Sink, E: Sink, A: Audit, W: World>(
     world: &mut W,
 ) -> u8
     ensures serves { ServesAt (serve_seen words.now)
-        (world_used W.trace W.faults world.old world.new (heard_of (held_by A.notes audits.old) (held_by A.notes audits.new)))
+        (world_used W.trace W.seen world.old world.new (heard_of (held_by A.notes audits.old) (held_by A.notes audits.new)))
         (used K.written K.faults out.old out.new) (used E.written E.faults err.old err.new) result }
-    ensures follows { W.script world.new ≡ W.script world.old }
+    ensures follows { (W.seen world.new).script ≡ (W.seen world.old).script }
     ensures later_out { K.faults out.old ≤ K.faults out.new }
     ensures later_err { E.faults err.old ≤ E.faults err.new }
 {

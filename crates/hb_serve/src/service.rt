@@ -2,8 +2,8 @@
 
 ghost use Rattle.std.specs.Prelude.{◌≡◌, [], Some, IfSome};
 ghost use Rattle.hb_audit.specs.HeldBy.{held_by};
-ghost use Rattle.hb_base.specs.Count.{Counts};
 ghost use Rattle.hb_turns.specs.Ends.{is_fault};
+ghost use Rattle.hb_turns.specs.Faults.{CountsWhole};
 ghost use Rattle.hb_serve.specs.Served.{loop_words, heard_of, Serves};
 
 use crate::asked::{Asked, Given};
@@ -47,8 +47,7 @@ fn serve_asked<G: Given, A: Audit, W: World>(
     requires held { held_by A.notes audits.old ≡ G.held }
     ensures served { W.trace world.old ≡ Some [] → IfSome (W.trace world.new)
         (Serves words result keep.new (heard_of (held_by A.notes audits.old) (held_by A.notes audits.new))) }
-    ensures faults { Counts (W.faults world.old) (W.faults world.new) (is_fault result.end) }
-    ensures follows { W.script world.new ≡ W.script world.old }
+    ensures faults { CountsWhole (W.seen world.old) (W.seen world.new) (is_fault result.end) }
 {
     let limits = Limits {
         links: MOST_LINKS,
@@ -77,8 +76,7 @@ pub fn serve<A: Audit, W: World>(
 ) -> Served
     ensures served { W.trace world.old ≡ Some [] → IfSome (W.trace world.new)
         (Serves words result keep.new (heard_of (held_by A.notes audits.old) (held_by A.notes audits.new))) }
-    ensures faults { Counts (W.faults world.old) (W.faults world.new) (is_fault result.end) }
-    ensures follows { W.script world.new ≡ W.script world.old }
+    ensures faults { CountsWhole (W.seen world.old) (W.seen world.new) (is_fault result.end) }
 {
     serve_asked::<Brand, A, W>(alloc, words, keep, audits, world)
 }

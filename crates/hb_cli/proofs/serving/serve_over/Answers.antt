@@ -13,5 +13,5 @@ returns-clause-worked g c =
             c.serve.new.keep,
             subst (λ (w : ServeWords). Serves w c.serve.result c.serve.new.keep heard trace) c.in_ok-asked.ensures run,
           )),
-      c.serve.ensures.faults,
+      c.serve.ensures.faults.counts,
     )
