@@ -1,6 +1,6 @@
 -- What is put on the stream of a tunnel, and what is given back to its window.
 use Rattle.std.proofs.Common.{◌≡◌, ℕ, ◌^◌, ◌<◌, ◌≤◌, ◌==◌, ◌&&◌, ◌||◌, not, Bool, true, false, cond, min, is_some, List, [], ◌∷◌, length, Option, Some, None, refl, ap, ap₂, sym, ◌∙◌, subst, arith}
-use Rattle.std.proofs.lemmas.Bool.{false≢true, cond_both, and_parts, not-true}
+use Rattle.std.proofs.lemmas.Bool.{false≢true, cond_both, and_parts, not-true, eqb-true}
 use Rattle.std.specs.List.{list_any}
 use Rattle.std.specs.Prelude.{nat_le}
 use Rattle.std.specs.FinMap.{get}
@@ -29,7 +29,7 @@ use Rattle.hb_gateway.specs.Part.{Part, put, finished, credited as credits, move
 use Rattle.hb_gateway.specs.Response.{carrying, is_living}
 use Rattle.hb_gateway.specs.Runs.{Steps, StandsFor}
 use Rattle.hb_gateway.proofs.Runs.{all_keep}
-use Rattle.hb_gate.specs.Calls.{Goes, Puts, MayFinish, Finishes, Credits}
+use Rattle.hb_gate.specs.Calls.{Goes, Puts, MayPut, MayFinish, Finishes, Credits}
 use Rattle.hb_gate.specs.Observed.{is_unbegun_on, data_seen, can_finish}
 use Rattle.hb_gate.specs.Shows.{Shows}
 use Rattle.hb_gate.specs.declared.gate.Gate.{Gate}
@@ -188,6 +188,13 @@ finish_as : (k : Gate) (x : Gateway) (parts : List Part) (s : ℕ) → StandsFor
     → can_finish k.conn s ≡ (own_side_open x.conn s && not (data_waits x.conn s))
 finish_as k x parts s stands conn =
     ap₂ (λ (a b : Bool). a && not b) (ap (λ (c : Connection). own_side_open c s) (sym conn)) (seen_as k x parts s stands conn)
+
+pub may_put_so : (k : Gate) (may : Bool) → may ≡ (length (output k.conn) == 0) → MayPut k may
+may_put_so k may is x shows carries =
+    let same = ap (λ (c : Connection). length (output c)) (carried k x shows carries).conn in (
+      λ so. same ∙ eqb-true (length (output k.conn)) 0 (sym is ∙ so),
+      λ none. is ∙ ap (λ (n : ℕ). n == 0) (sym same ∙ none),
+    )
 
 pub may_finish_so : (k : Gate) (s : ℕ) → MayFinish s k (can_finish k.conn s)
 may_finish_so k s x parts stands shows carries stage =

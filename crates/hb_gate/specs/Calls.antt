@@ -3,6 +3,7 @@ use Rattle.std.specs.Prelude.{⊤, ◌≡◌, ◌↔◌, ℕ, ◌^◌, ◌<◌, 
 use Rattle.hb_base.specs.declared.cause.Cause.{Cause}
 use Rattle.hb_base.specs.declared.target.Target.{Target}
 use Rattle.hb_conn.specs.Observed.{IsLookedAt, creditable, count_put, end_waits, own_side_open}
+use Rattle.hb_conn.specs.Observed as connection
 use Rattle.hb_conn.specs.declared.found.Found.{Found}
 use Rattle.hb_gateway.specs.Calm as calm
 use Rattle.hb_gateway.specs.Calm.{AllReset, AllTold}
@@ -180,6 +181,10 @@ Puts s bytes count old new =
     (new.number ≡ old.number)
     × OnCarrying s old (λ x. (count ≡ (if own_side_open x.conn s then count_put x.conn s bytes else 0))
     × (count ≡ 0 → Shows new x) × (0 < count → Goes (put s bytes count) x new))
+
+-- nothing waits to be written, so that bytes may be put
+abbrev pub MayPut : Gate → Bool → Type 0
+MayPut k may = (x : Gateway) → Shows k x → m.carries x.phase ≡ true → (IsTrue may ↔ (length (connection.output x.conn) ≡ 0))
 
 -- END_STREAM may be put; both sides ended, and END_STREAM went, whole
 abbrev pub MayFinish : ℕ → Gate → Bool → Type 0

@@ -1,7 +1,7 @@
 //! What is put on the stream of a tunnel, and what is given back to its window.
 
 ghost use Rattle.std.specs.Prelude.{◌≡◌, ◌≤◌, length};
-ghost use Rattle.hb_gate.specs.Calls.{Puts, MayFinish, Finishes, Credits, IsThrough, IsDone};
+ghost use Rattle.hb_gate.specs.Calls.{Puts, MayPut, MayFinish, Finishes, Credits, IsThrough, IsDone};
 ghost use Rattle.hb_gate.specs.Observed.{data_seen, can_finish};
 
 use crate::gate::Gate;
@@ -33,6 +33,13 @@ impl Gate {
         let count = self.conn.put_some(stream, bytes);
         self.turn.took(stream, count);
         count
+    }
+
+    /// Nothing waits to be written on the connection, so that bytes of a stream may be put.
+    pub fn may_put(&self) -> bool
+        ensures { MayPut self.now result }
+    {
+        self.conn.output().is_empty()
     }
 
     /// This end's side is open, and no DATA of the stream waits.

@@ -1,10 +1,10 @@
 -- What each call on the stream of a link is to the machine.
-use Rattle.std.proofs.Common.{◌≡◌, ℕ, ◌<◌, ◌==◌, Bool, true, false, List, Option, Some, None, refl, ap, sym, ◌∙◌, subst, arith}
+use Rattle.std.proofs.Common.{◌≡◌, ℕ, zero, suc, ◌<◌, ◌==◌, Bool, true, false, List, length, length-append, Option, Some, None, refl, ap, sym, ◌∙◌, subst, arith}
 use Rattle.std.specs.Prelude.{IsSome}
 use Rattle.std.proofs.lemmas.Bool.{false≢true}
 use Rattle.hb_base.specs.declared.cause.Cause.TheVariants as cause
 use Rattle.hb_base.specs.declared.note.Note.{Note}
-use Rattle.hb_tunnel.specs.Way.{after}
+use Rattle.hb_tunnel.specs.Way.{IsFront, after}
 use Rattle.hb_tunnel.specs.Way as way
 use Rattle.hb_gateway.specs.Key.{Key}
 use Rattle.hb_gateway.specs.Response as response
@@ -18,7 +18,7 @@ use Rattle.hb_relay.specs.declared.relay.Relay.{Relay}
 use Rattle.hb_relay.specs.Ending.{unstreamed, verdict_at, end_at}
 use Rattle.hb_relay.specs.Reaches.{IsInner, Reaches, rerouted}
 use Rattle.hb_relay.specs.Shows.{Shows, Becomes, HasOne, captured_of, as_told}
-use Rattle.hb_relay.specs.Streamed.{Asks, HearsOpen, HearsBytes, HearsEnd, Puts, Finishes, Credits, Completes}
+use Rattle.hb_relay.specs.Streamed.{Asks, HearsOpen, HearsBytes, HearsEnd, HasWaiting, Puts, Finishes, Credits, Completes}
 use Rattle.hb_relay.proofs.Meeting.{meets_still, counts_at, opened_reach, pushes_down, arrive}
 use Rattle.hb_relay.proofs.Reached.{RestsBy, upstream_at, shows_so, streams_on, unmoved, alike, left_same, left_streamed}
 
@@ -190,3 +190,23 @@ completes begun old new before behind made becomes counts noted = record {
         counts ∙ alike z (captured_of new) x y before (ap counts_for (sym shows.same)) (ap counts_for (sym told)),
       );
 }
+
+-- BYTES WAIT FOR IT
+
+front_some : (part held : List ℕ) → IsFront part held → 0 < length held → 0 < length part
+front_some part held is some = by (length part) refl
+  where
+    by : (n : ℕ) → length part ≡ n → 0 < n
+    by (suc n) size = omega arith
+    by zero none = (let empty = ap length (is.some none) in omega (arith, empty, some))
+
+front_less : (part held : List ℕ) → IsFront part held → 0 < length part → 0 < length held
+front_less part held is some = omega (arith, ap length is.front, length-append part is.rest, some)
+
+pub waiting_so : (k : Relay) (part : List ℕ) (some : Bool) → IsFront part k.ways.ways.up.held
+    → (some ≡ true → 0 < length part) → (0 < length part → some ≡ true) → HasWaiting k some
+waiting_so k part some front says told x shows =
+    let same = ap (λ (w : Captured). w.ways.up.held) shows.same in (
+      λ is. subst (λ (bytes : List ℕ). 0 < length bytes) (sym same) (front_less part _ front (says is)),
+      λ waits. told (front_some part _ front (subst (λ (bytes : List ℕ). 0 < length bytes) same waits)),
+    )

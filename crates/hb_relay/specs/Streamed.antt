@@ -1,5 +1,5 @@
 -- What each call on a link's stream is to the machine.
-use Rattle.std.specs.Prelude.{◌≡◌, ℕ, Bool, true, false, IsTrue, ◌↔◌, List, length, Option, Some, None}
+use Rattle.std.specs.Prelude.{◌≡◌, ℕ, ◌<◌, Bool, true, false, IsTrue, ◌↔◌, List, length, Option, Some, None}
 use Rattle.hb_base.specs.declared.cause.Cause.{Cause}
 use Rattle.hb_base.specs.declared.note.Note.{Note}
 use Rattle.hb_base.specs.declared.target.Target.{Target}
@@ -79,6 +79,10 @@ LivesOn k lives = (x : Captured) → Shows k x → (IsTrue lives ↔ Lives x)
 -- the bytes that wait for its stream
 abbrev pub Waits : Relay → List ℕ → Type 0
 Waits k bytes = (x : Captured) → Shows k x → bytes ≡ x.ways.up.held
+
+-- some do
+abbrev pub HasWaiting : Relay → Bool → Type 0
+HasWaiting k some = (x : Captured) → Shows k x → (IsTrue some ↔ (0 < length x.ways.up.held))
 
 -- END_STREAM may be put; all went both ways, and END_STREAM was put
 abbrev pub MayFinish : Relay → Bool → Type 0

@@ -11,7 +11,7 @@ ghost use Rattle.hb_relay.specs.Moving.{on_stream};
 ghost use Rattle.hb_relay.specs.Shows.{captured_of, Becomes};
 ghost use Rattle.hb_relay.specs.Streamed.{Asks, LacksRoom, HearsOpen, HearsBytes, HearsEnd, HearsFailure};
 ghost use Rattle.hb_relay.specs.Streamed.{Puts, Finishes, Credits, Completes};
-ghost use Rattle.hb_relay.specs.Streamed.{WantsStream, HasStream, LivesOn, Waits, MayFinish, MayComplete, Owes};
+ghost use Rattle.hb_relay.specs.Streamed.{WantsStream, HasStream, LivesOn, Waits, HasWaiting, MayFinish, MayComplete, Owes};
 
 use crate::relay::Relay;
 use crate::routes::Routes;
@@ -121,6 +121,13 @@ impl Relay {
         ensures machine { Waits self.old result.now }
     {
         self.ways.all_up()
+    }
+
+    /// Some bytes wait for its stream.
+    pub fn has_waiting(&self) -> bool
+        ensures { HasWaiting self.now result }
+    {
+        !self.ways.head_up().is_empty()
     }
 
     /// The first `n` of them were put.

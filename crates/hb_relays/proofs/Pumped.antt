@@ -1,5 +1,5 @@
 -- What is put on the stream of a link, and given back to its window, one part after another.
-use Rattle.std.proofs.Common.{◌≡◌, ℕ, ◌<◌, ◌≤◌, ◌^◌, ◌==◌, ◌&&◌, not, nat_le, min, Bool, true, false, cond, List, [], ◌∷◌, ◌++◌, length, take, drop, Option, Some, None, refl, ap, ap₂, sym, ◌∙◌, subst, arith}
+use Rattle.std.proofs.Common.{◌≡◌, ℕ, zero, suc, ◌<◌, ◌≤◌, ◌^◌, ◌==◌, ◌&&◌, not, nat_le, min, Bool, true, false, cond, List, [], ◌∷◌, ◌++◌, length, take, drop, Option, Some, None, refl, ap, ap₂, sym, ◌∙◌, subst, arith}
 use Rattle.std.proofs.lemmas.Bool.{and_parts, cond_both, eqb-true, false≢true}
 use Rattle.std.proofs.lemmas.List.Concat.{flat_map-append}
 use Rattle.std.proofs.lemmas.List.{nil_from_length, take-append-drop, length-take-le}
@@ -39,7 +39,7 @@ use Rattle.hb_relay.specs.Reaches.{rerouted}
 use Rattle.hb_relay.specs.Shows.{Shows, captured_of}
 use Rattle.hb_relay.specs.Streamed as streamed
 use Rattle.hb_relay.specs.declared.relay.Relay.{Relay}
-use Rattle.hb_relays.specs.Pumping.{OnStream, Beside, Turns, GivenBack, IsPut, IsFinished, Rests}
+use Rattle.hb_relays.specs.Pumping.{OnStream, Beside, Turns, GivenBack, IsPut, IsFinished, MayPut, Rests, RestsOn}
 use Rattle.hb_relays.proofs.Paired.{link_here, link_other, gate_here, gate_other, others_rest, stream_is, carried, of_gate, shows_then, stays, goes}
 use Rattle.hb_relays.proofs.Progress.{leads_append, stands_on}
 use Rattle.hb_relays.proofs.Resting.{put_keeps, credit_keeps, end_keeps, same_keeps}
@@ -188,7 +188,7 @@ record MayFinish (c : Captured) (y : Gateway) : Type 0 where
   own : own_side_open y.conn c.stream ≡ true
   clear : data_waits y.conn c.stream ≡ false
 
-not_true : (b : Bool) → not b ≡ true → b ≡ false
+pub not_true : (b : Bool) → not b ≡ true → b ≡ false
 not_true true is = absurd (false≢true is)
 not_true false is = refl
 
@@ -275,7 +275,7 @@ complete_parts c y is =
     }
 
 -- or not yet: it rests
-rests_now : (c : Captured) (gates : ℕ → Gateway) (n : ℕ) → c.gate ≡ n → c.stage ≡ live → LiveRests c (gates n) → RestsAmong gates c
+pub rests_now : (c : Captured) (gates : ℕ → Gateway) (n : ℕ) → c.gate ≡ n → c.stage ≡ live → LiveRests c (gates n) → RestsAmong gates c
 rests_now c gates n at is rests on =
     subst (λ (st : Stage). StreamRestsBy st c (gates c.gate)) (sym is) (subst (λ (i : ℕ). LiveRests c (gates i)) (sym at) rests)
 
@@ -328,6 +328,48 @@ incomplete_gate s old kept before through says isnt =
     let parts = complete_parts (x.plain l) (x.gates m) is in
     false≢true (sym isnt ∙ (of_gate l m s IsFinished g x points stands old kept on _ says).1
     (ap (is_active (x.gates m).conn) (sym on.on_stream) ∙ parts.closed, ap (end_waits (x.gates m).conn) (sym on.on_stream) ∙ parts.went)))
+
+-- A LINK THAT RESTS WHATEVER ITS STREAM ALLOWS
+pub none_waits : (old : Relay) (kept : Gate) (waits : Bool) → streamed.HasWaiting old waits → waits ≡ false → MayPut old kept false
+none_waits old kept waits has isnt so x y shows gate_shows carries =
+    ap (count_put y.conn x.stream) (nothing (length x.ways.up.held) refl) ∙ count_none y.conn x.stream
+  where
+    nothing : (n : ℕ) → length x.ways.up.held ≡ n → x.ways.up.held ≡ []
+    nothing zero size = nil_from_length x.ways.up.held size
+    nothing (suc n) size = absurd (false≢true (sym isnt ∙ (has x shows).1 (omega (arith, size))))
+
+pub none_fits : (old : Relay) (kept : Gate) (may : Bool) → gate.MayPut kept may → MayPut old kept may
+none_fits old kept may says isnt x y shows gate_shows carries =
+    let c = y.conn in
+    let k = core_of c in
+    let s = x.stream in
+    let bytes = x.ways.up.held in
+    cond_both k.over 0 (cond (nat_le s largest && length (octets_of k.out) == 0) (min (length bytes) (payload.allowed k s)) 0)
+    (λ (n : ℕ). n ≡ 0) (λ is. refl)
+    (λ is. cond_both (nat_le s largest && length (octets_of k.out) == 0) (min (length bytes) (payload.allowed k s)) 0 (λ (n : ℕ). n ≡ 0)
+    (λ clear.
+    let empty = eqb-true (length (octets_of k.out)) 0 (and_parts (nat_le s largest) (length (octets_of k.out) == 0) clear).1 in
+    absurd (false≢true (sym isnt ∙ (says y gate_shows carries).1 empty)))
+    (λ is. refl))
+
+pub rests_on : (old : Relay) (kept : Gate) (owed : ℕ) (may finish complete is : Bool) → streamed.Owes old owed → MayPut old kept may
+    → streamed.MayFinish old finish → streamed.MayComplete old complete → owed ≡ 0 → may ≡ false → finish ≡ false
+    → (is ≡ true → complete ≡ false) → RestsOn old kept is
+rests_on old kept owed may finish complete is owes none_put may_end may_be_done none not_put not_finish not_complete so x y shows
+    gate_shows lives carries = record {
+      given_back = (let told = owes x shows in omega (arith, told, none));
+      none_goes = none_put not_put x y shows gate_shows carries;
+      not_finished = unless (may_finish x y) (λ ends.
+          let parts = finish_parts x y ends in
+          false≢true (sym not_finish ∙ (may_end x shows).1 (lives, parts.done, parts.speaks)));
+      not_complete = unless (is_complete x y) (λ ends.
+          let parts = complete_parts x y ends in
+          false≢true (sym (not_complete so) ∙ (may_be_done x shows).1 (lives, parts.through, parts.shut)));
+    }
+  where
+    unless : (b : Bool) → (b ≡ true → ⊥) → b ≡ false
+    unless false never = refl
+    unless true never = absurd (never refl)
 
 -- a stream that is over leaves the link to a gateway calm
 over_calm : (y : Gateway) (s : ℕ) → IsCalm y → IsCalm (at_stream s (at_stage over) y)

@@ -25,13 +25,14 @@ use Rattle.hb_relay.specs.declared.relay.Relay.{Relay}
 use Rattle.hb_relay.specs.declared.routes.Routes.{Routes}
 use Rattle.hb_relays.specs.Joining.{Streams, ShowsSome, GoesOn, all, with_link}
 use Rattle.hb_relays.specs.Pumping as pumping
-use Rattle.hb_relays.specs.Pumping.{OnStream, LivesAt, NoneDueBut, Pumps}
+use Rattle.hb_relays.specs.Pumping.{OnStream, LivesAt, NoneDueBut, Pumps, RestsAt, RestsOn}
 use Rattle.hb_relays.specs.Shows.{IsIdle, IsAway, IsAwayBy, IsGateAway, ShowsRelay, ShowsGate}
 use Rattle.hb_relays.specs.Stirring.{Stirs}
 use Rattle.hb_relays.specs.Walks.{relays_with, routes_with, touched_at}
 use Rattle.hb_relays.specs.declared.relays.Relays.{Relays}
 use Rattle.hb_relays.proofs.Carrying.{Carried, live_carries}
 use Rattle.hb_relays.proofs.Paired.{paired}
+use Rattle.hb_relays.proofs.Pumped.{rests_now}
 use Rattle.hb_relays.proofs.Onward.{shows_as, goes_nowhere}
 use Rattle.hb_relays.proofs.Showing.{opens_by, same_ups, there_by, ups_same}
 use Rattle.hb_relays.proofs.Stirs.{told_stirs, gate_told_stirs, stirs_all_then}
@@ -228,6 +229,17 @@ module _ (k : Relays) (l : ℕ) where
           ),
     )
 
+-- WHETHER IT RESTS THERE
+pub rests_there : (k : Relays) (l n : ℕ) (old : Relay) (kept : Gate) (is : Bool) → get k.relays l ≡ Some old → get k.gates n ≡ Some kept
+    → RestsOn old kept is → RestsAt l n k is
+rests_there k l n old kept is at at_gate rests so waiting resting g x points stands shows lives on =
+    let one = subst (λ (o : Option Relay). ShowsRelay l o (x.plain l)) at (shows.relays l) in
+    let two = subst (λ (o : Option Gate). ShowsGate n o (x.gates n)) at_gate (shows.gates n) in
+    let there = live_carries g x points stands l lives ((shows.gates_calm (x.plain l).gate refl).0 (x.plain l).stream) in
+    rests_now (x.plain l) x.gates n on lives.1
+    (rests so (x.plain l) (x.gates n) one.1 two.1 lives
+    (subst (λ (i : ℕ). carries (x.gates i).phase ≡ true) on there.carries))
+
 -- WHAT IT MAKES OF ALL LINKS: nothing where it lives on none
 pub pumps_none : (k : Relays) (l : ℕ) (told : Told) → LivesAt l k None → Pumps l k told k told
 pumps_none k l told none resting g x points stands shows undue =
@@ -238,6 +250,12 @@ pub pumps_away : (k : Relays) (l : ℕ) (told : Told) (at : ℕ × ℕ) → Live
 pumps_away k l told at lives none resting g x points stands shows undue =
     let on = lives.1 all resting g x points stands shows in
     absurd (gate_there g k resting x points stands shows l on.0 (ap (get k.gates) on.1 ∙ none))
+
+pub pumps_resting : (k : Relays) (l : ℕ) (told : Told) (at : ℕ × ℕ) (is : Bool) → LivesAt l k (Some at) → RestsAt l at.0 k is → is ≡ true
+    → Pumps l k told k told
+pumps_resting k l told at is lives rests so resting g x points stands shows undue =
+    let on = lives.1 all resting g x points stands shows in
+    rests_already g k resting x points stands shows l told (rests so all resting g x points stands shows on.0 on.1)
 
 pub pumps_both : (k new : Relays) (l : ℕ) (at : ℕ × ℕ) (old one : Relay) (kept two : Gate) (routes : Routes) (made : Option Note)
     (told now : Told) → LivesAt l k (Some at) → get k.relays l ≡ Some old → get k.gates at.0 ≡ Some kept

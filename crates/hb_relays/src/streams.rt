@@ -5,7 +5,8 @@ ghost use Rattle.hb_gate.specs.Calls.{Puts};
 ghost use Rattle.hb_relay.specs.Answering.{routing_of};
 ghost use Rattle.hb_relay.specs.Shows.{captured_of};
 ghost use Rattle.hb_relays.specs.Leaving.{GivesUp};
-ghost use Rattle.hb_relays.specs.Pumping.{any, GivenBack, IsPut, IsFinished, Turns, Rests, Pumps, PumpsGate};
+ghost use Rattle.hb_relays.specs.Pumping.{any, GivenBack, IsPut, IsFinished, MayPut, Turns, Rests, RestsOn, RestsAt};
+ghost use Rattle.hb_relays.specs.Pumping.{Pumps, PumpsGate};
 ghost use Rattle.hb_relays.specs.Pumping.{LivesAt, PumpsFrom, PumpsOne};
 ghost use Rattle.hb_relays.specs.Stirring.{Stirs};
 
@@ -76,6 +77,29 @@ fn complete(relay: &mut Relay, gate: &mut Gate, stream: u32, routes: &mut Routes
     Some(relay.complete(begun, routes))
 }
 
+/// Bytes of a link may be put, as far as is seen without a look at its stream.
+fn may_put(relay: &Relay, gate: &Gate) -> bool
+    ensures { MayPut relay.now gate.now result }
+{
+    if !relay.has_waiting() {
+        return false;
+    }
+    gate.may_put()
+}
+
+/// Nothing is owed of a link, and nothing of it can be put or is done whatever its stream allows: nothing would come of pumping it.
+fn rests(relay: &Relay, gate: &Gate) -> bool
+    ensures { RestsOn relay.now gate.now result }
+{
+    if relay.owed() != 0 {
+        return false;
+    }
+    if may_put(relay, gate) {
+        return false;
+    }
+    !relay.may_finish() && !relay.may_complete()
+}
+
 /// What may be put of a link on its stream is, what is owed is given back, and it is done where both sides ended and all went through. The
 /// note of that, `None` where it isn't.
 fn pump(relay: &mut Relay, gate: &mut Gate, stream: u32, routes: &mut Routes) -> Option<Note>
@@ -99,7 +123,20 @@ impl Relays {
         relay.stream()
     }
 
-    /// What may be put of the link of this number on its stream is.
+    /// The link of this number rests on the link to a gateway of that number, as far as is seen without a look at its stream.
+    fn rests_at(&self, link: u64, number: u64) -> bool
+        ensures { RestsAt link number self.now result }
+    {
+        let Some(relay) = self.relays.get(link) else {
+            return false;
+        };
+        let Some(gate) = self.gates.get(number) else {
+            return false;
+        };
+        rests(relay, gate)
+    }
+
+    /// What may be put of the link of this number on its stream is. A link that rests isn't touched.
     pub(crate) fn pump_link<N: Notes>(&mut self, link: u64, notes: &mut N)
         ensures pumps { Pumps link self.old (N.told notes.old) self.new (N.told notes.new) }
         ensures stirs { Stirs self.old self.new }
@@ -107,6 +144,9 @@ impl Relays {
         let Some((number, stream)) = self.stream_of(link) else {
             return;
         };
+        if self.rests_at(link, number) {
+            return;
+        }
         let Some(gate) = self.gates.at(number) else {
             return;
         };

@@ -5,7 +5,7 @@ use Rattle.hb_relays.specs.Pumping.{Pumps}
 use Rattle.hb_relays.specs.Stirring.{Stirs}
 use Rattle.hb_relays.specs.declared.relays.Relays.{Relays}
 use Rattle.hb_relays.proofs.Paired.{paired_with}
-use Rattle.hb_relays.proofs.PumpedLink.{pumps_none, pumps_away, pumps_both, paired_stirs}
+use Rattle.hb_relays.proofs.PumpedLink.{pumps_none, pumps_away, pumps_resting, pumps_both, paired_stirs}
 use Rattle.hb_relays.proofs.Stirs.{none_stirs}
 use Rattle.hb_relays.proofs.relays.Relays.pump_link.Goals as goal
 
@@ -14,6 +14,14 @@ returns-in_default-clause-pumps g c = pumps_none c.args.self.now c.args.link (g.
 
 pub returns-in_default-clause-stirs : goal.returns-in_default-clause-stirs
 returns-in_default-clause-stirs g c = none_stirs c.args.self.now
+
+pub returns-then-rests_at-clause-pumps : goal.returns-then-rests_at-clause-pumps
+returns-then-rests_at-clause-pumps g c =
+    pumps_resting c.args.self.now c.args.link (g.N.Notes.told c.args.notes.now) (c.in-Some.number, c.in-Some.stream) c.rests_at.result
+    c.in-Some.ensures c.rests_at.ensures c.if-rests_at.true
+
+pub returns-then-rests_at-clause-stirs : goal.returns-then-rests_at-clause-stirs
+returns-then-rests_at-clause-stirs g c = none_stirs c.args.self.now
 
 pub returns-in_default-at-clause-pumps : goal.returns-in_default-at-clause-pumps
 returns-in_default-at-clause-pumps g c =
