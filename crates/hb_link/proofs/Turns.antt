@@ -23,6 +23,8 @@ use Rattle.hb_link.specs.Settling.{Agrees, GotAll, KeepsCame}
 use Rattle.hb_link.specs.Tunnels.{stage_of}
 use Rattle.hb_link.proofs.Answered.{refused_came, told_failed, told_ended, failed_put, failed_left, ended_put, ended_left}
 use Rattle.hb_link.proofs.Moving.{Map, link_with}
+use Rattle.hb_link.proofs.Quiet.{left_quiet}
+use Rattle.hb_link.proofs.Rousing.{rouses_none, rouses_same, rouses_then}
 use Rattle.hb_link.proofs.Settles.{stays, settles_then}
 use Rattle.hb_link.proofs.Shown.{is_at, stage_tunnel}
 
@@ -31,6 +33,7 @@ came_then : (k m n : Link) → KeepsCame k m → KeepsCame m n → KeepsCame k n
 came_then k m n first behind = record {
   link = behind.link ∙ ap (λ (l : Link). record l { conn = n.conn; tunnels = n.tunnels }) first.link;
   came = behind.came ∙ ap (λ (c : Connection). with_core c (core_of n.conn)) first.came;
+  rouses = rouses_then k m n first.rouses behind.rouses;
 }
 
 pub gives_then : (P Q R : Link → Inbound → Type 0) (k m n : Link) (told mid now : Told) → Gives P Q k told m mid
@@ -45,7 +48,7 @@ gives_then P Q R k m n told mid now first behind = record {
 pub gives_same : (P Q : Link → Inbound → Type 0) (k : Link) (told : Told) → ((x : Inbound) → P k x → Q k x) → Gives P Q k told k told
 gives_same P Q k told gives = record {
   settles = λ others limit. stays others limit (λ held. ⊤) P Q k told gives;
-  came = record { link = refl; came = refl };
+  came = record { link = refl; came = refl; rouses = rouses_same k k refl refl };
 }
 
 -- where no tunnel below a stream is at such a stage
@@ -139,7 +142,11 @@ module _ (k : Link) (s : ℕ) (told : Told) where
                 failed_put others limit a k s old is why told got.agrees telling
                     (ap (λ (z : t.Tunnel). z.stage) telling ∙ ap stage_of stage) got.failed n due now took,
               );
-          came = record { link = refl; came = refused_came k.conn s n (sides k.conn s).peer };
+          came = record {
+            link = refl;
+            came = refused_came k.conn s n (sides k.conn s).peer;
+            rouses = rouses_none k _ refl (left_quiet old why k.tunnels s);
+          };
         })
 
     pub fails_left : status_of_end k s why ≡ None → Gives (GotFailed (Some s)) (GotFailed (Some (s + 1))) k told
@@ -154,7 +161,7 @@ module _ (k : Link) (s : ℕ) (told : Told) where
                 failed_left others limit a k s old is why told got.agrees telling
                     (ap (λ (z : t.Tunnel). z.stage) telling ∙ ap stage_of stage) got.failed due,
               );
-          came = record { link = refl; came = refl };
+          came = record { link = refl; came = refl; rouses = rouses_none k _ refl (left_quiet old why k.tunnels s) };
         })
 
 -- TUNNELS THAT ENDED
@@ -208,7 +215,7 @@ module _ (k : Link) (s : ℕ) (told : Told) where
                 ended_put others limit a k s old is why told got.agrees telling
                     (ap (λ (z : t.Tunnel). z.stage) telling ∙ ap stage_of stage) got.failed got.ended n due now took,
               );
-          came = record { link = refl; came = refl };
+          came = record { link = refl; came = refl; rouses = rouses_none k _ refl (left_quiet old why k.tunnels s) };
         })
 
     pub ends_left : code_of_end k s why ≡ None → (now : Told) → Takes told (made ∷ []) now
@@ -223,7 +230,7 @@ module _ (k : Link) (s : ℕ) (told : Told) where
                 ended_left others limit a k s old is why told got.agrees telling
                     (ap (λ (z : t.Tunnel). z.stage) telling ∙ ap stage_of stage) got.failed got.ended due now took,
               );
-          came = record { link = refl; came = refl };
+          came = record { link = refl; came = refl; rouses = rouses_none k _ refl (left_quiet old why k.tunnels s) };
         })
 
 -- ALL

@@ -16,6 +16,7 @@ pub mod Observed
 pub mod Putting
 pub mod Reaches
 pub mod Refused
+pub mod Rousing
 pub mod Settling
 pub mod Shows
 pub mod Tunnels

@@ -20,7 +20,7 @@ use Rattle.hb_inbound.specs.Tunnel.{ends_for}
 use Rattle.hb_frames.specs.Numbers.{largest}
 use Rattle.hb_link.specs.declared.asking.Asked.{Asked}
 use Rattle.hb_link.specs.declared.hearing.Heard.{Heard}
-use Rattle.hb_link.specs.declared.hearing.Heard.TheVariants.{Nothing, Done, Request, Left, Fault}
+use Rattle.hb_link.specs.declared.hearing.Heard.TheVariants.{Nothing, Done, Data, Request, Left, Fault}
 use Rattle.hb_link.specs.declared.link.Link.{Link}
 use Rattle.hb_link.specs.declared.tunnel.Stage.TheVariants.{Over}
 use Rattle.hb_link.specs.declared.tunnel.Tunnel.{Tunnel}
@@ -80,7 +80,7 @@ asked_of s headers end to = record {
 abbrev pub heard_of : Ip → Option Happening → Heard
 heard_of to None = Nothing
 heard_of to (Some (happening.Opened s headers end)) = Request (asked_of s headers.now end to)
-heard_of to (Some (happening.Chunk s bytes)) = Done
+heard_of to (Some (happening.Chunk s bytes)) = Data s
 heard_of to (Some (happening.Ended s)) = Done
 heard_of to (Some (happening.Reset s code)) = Left s (cause.PeerReset code)
 heard_of to (Some (happening.Broken s code)) = Left s (cause.StreamFault code)
@@ -124,6 +124,7 @@ pub record FaultsFor (code : ℕ) (k : Link) (x : Inbound) : Type 0 where
 abbrev pub HasHeard : Heard → Link → Inbound → Type 0
 HasHeard Nothing k x = MayPut k x
 HasHeard Done k x = MayLook k x
+HasHeard (Data s) k x = MayLook k x
 HasHeard (Request asked) k x = IsRequested asked k x
 HasHeard (Left s why) k x = EndsFor s why k x
 HasHeard (Fault code) k x = FaultsFor code k x

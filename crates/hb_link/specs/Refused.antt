@@ -1,5 +1,5 @@
--- Links that code may not show, and what may not follow by itself; a new link may be shown.
-use Rattle.std.specs.Prelude.{◌≡◌, ◌≢◌, ℕ, ◌<◌, List, [], ◌∷◌, ◌++◌, Some, None}
+-- Links that code may not show, and what may not follow by itself, nor may be left untold; a new link may be shown.
+use Rattle.std.specs.Prelude.{◌≡◌, ◌≢◌, ℕ, ◌<◌, true, false, List, [], ◌∷◌, ◌++◌, Some, None}
 use Rattle.std.specs.FinMap.{get, empty}
 use Rattle.hb_base.specs.declared.cause.Cause.{Cause}
 use Rattle.hb_base.specs.declared.note.Note.{Note}
@@ -15,7 +15,9 @@ use Rattle.hb_link.specs.declared.phase.Phase.TheVariants.{Fronting}
 use Rattle.hb_link.specs.declared.tunnel.Stage.TheVariants.{Live}
 use Rattle.hb_link.specs.declared.tunnel.Tunnel.{Tunnel}
 use Rattle.hb_link.specs.Noted.{Takes}
+use Rattle.hb_link.specs.Observed.{up_on, up_wants_on}
 use Rattle.hb_link.specs.Reaches.{Follows, unguarded}
+use Rattle.hb_link.specs.Rousing.{Rouses, Tells, roused_on}
 use Rattle.hb_link.specs.Settling.{Agrees, GotAll}
 use Rattle.hb_link.specs.Shows.{Shows}
 
@@ -58,6 +60,21 @@ TellsTwice = (told : List Note) (n : Note) → Takes (Some told) (n ∷ []) (Som
 
 abbrev pub TellsBehindLost : Type 0
 TellsBehindLost = (more now : List Note) → Takes None more (Some now) → ⊥
+
+-- an upstream that was roused isn't any more, or one of which something may be read, and nothing was before, isn't roused
+abbrev pub ForgetsRoused : Type 0
+ForgetsRoused = (k n : Link) (s : ℕ) → roused_on k s ≡ true → roused_on n s ≡ false → Rouses k n → ⊥
+
+abbrev pub WakesNone : Type 0
+WakesNone = (k n : Link) (s : ℕ) → up_wants_on k s ≡ 0 → up_wants_on n s ≡ 1 → roused_on n s ≡ false → Rouses k n → ⊥
+
+-- none was told, and one that was roused has an upstream
+abbrev pub SkipsRoused : Type 0
+SkipsRoused = (k n : Link) (s : ℕ) → 0 < up_on k s → roused_on k s ≡ true → Tells None k n → ⊥
+
+-- each is roused
+abbrev pub MayRouseAll : Type 0
+MayRouseAll = (k n : Link) → ((s : ℕ) → roused_on n s ≡ true) → Rouses k n
 
 -- a link that was taken in just now, of which nothing is known, may be shown by one without bytes and tunnels
 abbrev pub NewIsShown : Type 0

@@ -14,6 +14,7 @@ use Rattle.hb_link.specs.declared.link.Link.{Link}
 use Rattle.hb_link.specs.Counting.{CountsPlaces}
 use Rattle.hb_link.specs.Noted.{Told}
 use Rattle.hb_link.specs.Reaches.{Follows}
+use Rattle.hb_link.specs.Rousing.{Rouses}
 use Rattle.hb_link.specs.Shows.{ShowsBy}
 use Rattle.hb_link.specs.Tunnels.{phase_of, ShowsTunnel}
 
@@ -65,7 +66,9 @@ Settles others limit H P Q old told new now =
 abbrev pub AlwaysSettles : (P Q : Link → Inbound → Type 0) → Link → Told → Link → Told → Type 0
 AlwaysSettles P Q old told new now = (others limit : ℕ) → Settles others limit (λ held. ⊤) P Q old told new now
 
--- what came stays: of the link only its connection and its tunnels change, and of the connection nothing of what came
+-- what came stays: of the link only its connection and its tunnels change, and of the connection nothing of what came; nor is more
+-- to be told of the upstreams
 pub record KeepsCame (old new : Link) : Type 0 where
   pub link : new ≡ record old { conn = new.conn; tunnels = new.tunnels }
   pub came : KeepsWhatCame old.conn new.conn
+  pub rouses : Rouses old new

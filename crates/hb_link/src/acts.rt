@@ -3,6 +3,7 @@
 ghost use Rattle.std.specs.Prelude.{◌≡◌, ◌<◌, None, Some, ℕ};
 ghost use Rattle.hb_link.specs.Acting.{act_on, IsFirstDue};
 ghost use Rattle.hb_link.specs.Acts.{Acts};
+ghost use Rattle.hb_link.specs.Rousing.{Rouses};
 
 use crate::link::Link;
 use crate::phase::Phase;
@@ -42,6 +43,7 @@ impl Link {
         requires first { (s : ℕ) → s < stream → act_on self.old s ≡ None }
         ensures acts { Acts (Some act) self.old self.new }
         ensures number { self.new.number ≡ self.old.number }
+        ensures rouses { Rouses self.old self.new }
     {
         match act {
             Act::Dial { .. } => {}
@@ -61,6 +63,7 @@ impl Link {
         requires { (s : ℕ) → act_on self.old s ≡ None }
         ensures acts { Acts result self.old self.new }
         ensures number { self.new.number ≡ self.old.number }
+        ensures rouses { Rouses self.old self.new }
     {
         if self.tunnels.first_from(0).is_some() {
             return None;
@@ -80,6 +83,7 @@ impl Link {
     pub fn next_act(&mut self) -> Option<Act>
         ensures acts { Acts result self.old self.new }
         ensures number { self.new.number ≡ self.old.number }
+        ensures rouses { Rouses self.old self.new }
     {
         match self.first_due() {
             Some((stream, act)) => {

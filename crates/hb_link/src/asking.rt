@@ -8,6 +8,7 @@ ghost use Rattle.hb_inbound.specs.Runs.{refused_on};
 ghost use Rattle.hb_link.specs.Asking.{due_to, FindsFull, IsAnswerable, IsRequested};
 ghost use Rattle.hb_link.specs.Looking.{left_to_look};
 ghost use Rattle.hb_link.specs.Noted.{Takes};
+ghost use Rattle.hb_link.specs.Rousing.{Rouses};
 ghost use Rattle.hb_link.specs.Settling.{MayLook, Settles};
 
 use crate::link::Link;
@@ -101,6 +102,7 @@ impl Link {
         ensures settles { Settles others limit (λ h. h ≡ held.now) (IsRequested asked) MayLook self.old (N.told notes.old) self.new
             (N.told notes.new) }
         ensures left { left_to_look self.new.conn ≡ left_to_look self.old.conn }
+        ensures rouses { Rouses self.old self.new }
     {
         if !self.conn.sides(asked.stream).own || self.tunnels.get(asked.stream).is_some() {
             return;

@@ -7,6 +7,7 @@ ghost use Rattle.hb_world.specs.declared.entry.Entry.TheVariants as e;
 ghost use Rattle.hb_inbound.specs.Part.{entry};
 ghost use Rattle.hb_link.specs.Calls.{Enters, Stops};
 ghost use Rattle.hb_link.specs.Marking.{Marks};
+ghost use Rattle.hb_link.specs.Rousing.{Rouses};
 
 use crate::link::Link;
 use crate::notes::Notes;
@@ -27,7 +28,8 @@ impl Link {
 
     /// It is to be closed, since its peer sends no more.
     fn mark_ended(&mut self)
-        ensures { Marks (λ a. ⊤) (entry (e.Ended self.old.number)) self.old self.new }
+        ensures marks { Marks (λ a. ⊤) (entry (e.Ended self.old.number)) self.old self.new }
+        ensures rouses { Rouses self.old self.new }
     {
         match self.phase {
             Phase::Fronting => self.phase = Phase::Closing(Cause::FrontFault(0)),
@@ -38,7 +40,8 @@ impl Link {
 
     /// The peer sends no more.
     pub fn ended<N: Notes>(&mut self, notes: &mut N)
-        ensures { Enters (e.Ended self.old.number) self.old (N.told notes.old) self.new (N.told notes.new) }
+        ensures enters { Enters (e.Ended self.old.number) self.old (N.told notes.old) self.new (N.told notes.new) }
+        ensures rouses { Rouses self.old self.new }
     {
         self.mark_ended();
         self.settle(notes);
@@ -46,7 +49,8 @@ impl Link {
 
     /// It is to be closed, since a call on it failed. Behind a connection error that was its one write.
     fn mark_broken(&mut self)
-        ensures { Marks (λ a. ⊤) (entry (e.Broke self.old.number)) self.old self.new }
+        ensures marks { Marks (λ a. ⊤) (entry (e.Broke self.old.number)) self.old self.new }
+        ensures rouses { Rouses self.old self.new }
     {
         match self.phase {
             Phase::Fronting => self.phase = Phase::Closing(Cause::Broken),
@@ -58,7 +62,8 @@ impl Link {
 
     /// A call on the link failed.
     pub fn broke<N: Notes>(&mut self, notes: &mut N)
-        ensures { Enters (e.Broke self.old.number) self.old (N.told notes.old) self.new (N.told notes.new) }
+        ensures enters { Enters (e.Broke self.old.number) self.old (N.told notes.old) self.new (N.told notes.new) }
+        ensures rouses { Rouses self.old self.new }
     {
         self.mark_broken();
         self.settle(notes);
@@ -66,7 +71,8 @@ impl Link {
 
     /// The run ends for this cause.
     pub fn stopped<N: Notes>(&mut self, cause: Cause, notes: &mut N)
-        ensures { Stops cause self.old (N.told notes.old) self.new (N.told notes.new) }
+        ensures stops { Stops cause self.old (N.told notes.old) self.new (N.told notes.new) }
+        ensures rouses { Rouses self.old self.new }
     {
         self.end_with(self.phase.stopped(cause), cause);
         self.settle(notes);

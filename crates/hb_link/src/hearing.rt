@@ -19,6 +19,8 @@ pub(crate) enum Heard {
     Nothing,
     /// What it makes of the tunnels is done.
     Done,
+    /// So it is, and DATA came on a stream.
+    Data { stream: u32 },
     Request(Asked),
     /// The tunnel on a stream is to end, of which nothing is left.
     Left { stream: u32, cause: Cause },
@@ -78,7 +80,7 @@ pub(crate) fn hear(
         ) => Heard::Request(asked_by(stream, headers, end, destination)),
         Some(Happening::Chunk { stream, bytes }) => {
             came_up(tunnels, stream, bytes);
-            Heard::Done
+            Heard::Data { stream }
         }
         Some(Happening::Ended { stream }) => {
             end_up(tunnels, stream);

@@ -1,7 +1,8 @@
-//! Links that code may not show, what may not follow by itself, and a link that may be shown. Each is the contract of a function that
-//! does nothing.
+//! Links that code may not show, what may not follow by itself, nor may be left untold, and a link that may be shown. Each is the
+//! contract of a function that does nothing.
 
 ghost use Rattle.hb_link.specs.Refused.{KeepsNone, LivesEarly, HasAnother, PutsLater, AnswersLater, GetsLater};
+ghost use Rattle.hb_link.specs.Refused.{ForgetsRoused, WakesNone, SkipsRoused, MayRouseAll};
 ghost use Rattle.hb_link.specs.Refused.{TellsNone, TellsHigherFirst, TellsTwice, TellsBehindLost, NewIsShown};
 
 /// A link has a tunnel for each that lives, at its stage, and the same connection while it serves. Between two calls nothing more could
@@ -25,6 +26,14 @@ pub fn ends_are_told_in_order()
 pub fn notes_are_told_once()
     ensures twice { TellsTwice }
     ensures behind { TellsBehindLost }
+{}
+
+/// An upstream that was roused still is, until it is told, and so is one of which something may be read, where nothing was before.
+pub fn roused_upstreams_are_told()
+    ensures forgets { ForgetsRoused }
+    ensures wakes { WakesNone }
+    ensures skips { SkipsRoused }
+    ensures all { MayRouseAll }
 {}
 
 /// A link that was taken in just now is shown by one without bytes and tunnels.

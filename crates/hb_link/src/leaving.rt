@@ -2,6 +2,7 @@
 
 ghost use Rattle.std.specs.Prelude.{◌≡◌};
 ghost use Rattle.hb_link.specs.Looking.{EndsFor, IsMute, left_at};
+ghost use Rattle.hb_link.specs.Rousing.{Rouses};
 ghost use Rattle.hb_link.specs.Settling.{MayLook, AlwaysSettles};
 
 use crate::link::Link;
@@ -27,6 +28,7 @@ impl Link {
         requires { IsMute cause }
         ensures settles { AlwaysSettles (EndsFor stream cause) MayLook self.old (N.told notes.old) self.new (N.told notes.new) }
         ensures conn { self.new.conn ≡ self.old.conn }
+        ensures rouses { Rouses self.old self.new }
     {
         let Some(tunnel) = self.tunnels.get(stream) else {
             return;

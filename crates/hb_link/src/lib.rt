@@ -21,6 +21,7 @@ mod own;
 mod phase;
 mod putting;
 mod refusing;
+mod roused;
 mod settling;
 mod taking;
 mod tunnel;

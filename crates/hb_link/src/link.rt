@@ -1,11 +1,13 @@
 //! An inbound link.
 
-ghost use Rattle.std.specs.Prelude.{◌≡◌, IfOk};
+ghost use Rattle.std.specs.Prelude.{◌≡◌, ℕ, true, IfOk};
 ghost use Rattle.hb_link.specs.Calls.{Begins, TurnsAway, Wants, Puts};
 ghost use Rattle.hb_link.specs.Fresh.{IsFresh};
 ghost use Rattle.hb_link.specs.Observed.{wants_on, output_on};
+ghost use Rattle.hb_link.specs.Rousing.{roused_on};
 
 use crate::phase::Phase;
+use crate::roused::Roused;
 use crate::tunnel::Tunnel;
 use hb_base::{Cause, Ip, NoMemory, Peer};
 use hb_conn::Conn;
@@ -35,6 +37,8 @@ pub struct Link {
     pub(crate) tunnels: Counted<Tunnel>,
     /// Behind which stream the next DATA goes.
     pub(crate) turn: Turn,
+    /// The streams whose upstreams are roused: more may be read of them, or is to be written, than when that was told last.
+    pub(crate) roused: Roused,
 }
 
 impl Link {
@@ -42,7 +46,8 @@ impl Link {
     ///
     /// Errors: `NoMemory`.
     fn fresh(alloc: Global, number: u64, phase: Phase) -> Result<Link, NoMemory>
-        ensures { IfOk result (λ link. IsFresh number phase link) }
+        ensures fresh { IfOk result (λ link. IsFresh number phase link) }
+        ensures roused { IfOk result (λ link. (s : ℕ) → roused_on link s ≡ true) }
     {
         Ok(Link {
             alloc,
@@ -57,6 +62,7 @@ impl Link {
             conn: Conn::server(alloc)?,
             tunnels: Counted::new(alloc),
             turn: Turn::new(),
+            roused: Roused::all(alloc),
         })
     }
 
@@ -65,6 +71,7 @@ impl Link {
     /// Errors: `NoMemory`; a link of which nothing is kept is to be closed for that cause.
     pub fn accepted(alloc: Global, number: u64) -> Result<Link, NoMemory>
         ensures begins { IfOk result (λ link. Begins number link) }
+        ensures roused { IfOk result (λ link. (s : ℕ) → roused_on link s ≡ true) }
         ensures number { IfOk result (λ link. link.number ≡ number) }
     {
         Link::fresh(alloc, number, Phase::Fronting)
@@ -75,6 +82,7 @@ impl Link {
     /// Errors: `NoMemory`, as of one that is taken in.
     pub fn turned_away(alloc: Global, number: u64) -> Result<Link, NoMemory>
         ensures turns { IfOk result (λ link. TurnsAway number link) }
+        ensures roused { IfOk result (λ link. (s : ℕ) → roused_on link s ≡ true) }
         ensures number { IfOk result (λ link. link.number ≡ number) }
     {
         Link::fresh(alloc, number, Phase::Closing(Cause::NoRoom))

@@ -1,8 +1,10 @@
 //! All that came on the connection is looked at.
 
-ghost use Rattle.std.specs.Prelude.{◌≡◌, ◌<◌, true, IfOk, OnOk};
+ghost use Rattle.std.specs.Prelude.{◌≡◌, ◌<◌, ℕ, true, IfOk, OnOk};
+ghost use Rattle.hb_link.specs.declared.hearing.Heard.TheVariants.{Data};
 ghost use Rattle.hb_link.specs.Fronting.{HasCome};
 ghost use Rattle.hb_link.specs.Looking.{left_to_look, FaultsFor, HasHeard, IsFitting, Looked, goes_on};
+ghost use Rattle.hb_link.specs.Rousing.{Rouses, roused_on};
 ghost use Rattle.hb_link.specs.Settling.{MayPut, MayLook, AlwaysSettles, Settles};
 
 use crate::hearing::{Heard, hear};
@@ -15,7 +17,8 @@ use hb_held::Held;
 impl Link {
     /// A connection error was told: all tunnels end.
     fn fail<N: Notes>(&mut self, code: u32, notes: &mut N)
-        ensures { AlwaysSettles (FaultsFor code) MayPut self.old (N.told notes.old) self.new (N.told notes.new) }
+        ensures settles { AlwaysSettles (FaultsFor code) MayPut self.old (N.told notes.old) self.new (N.told notes.new) }
+        ensures rouses { Rouses self.old self.new }
     {
         self.end_with(Phase::Faulted(code), Cause::ConnFault(code));
         self.answer_all(notes);
@@ -35,10 +38,13 @@ impl Link {
             (N.told notes.new) }
         ensures more { result ≡ goes_on heard }
         ensures left { result ≡ true → left_to_look self.new.conn ≡ left_to_look self.old.conn }
+        ensures rouses { Rouses self.old self.new }
+        ensures came { (s : ℕ) → heard ≡ Data s → roused_on self.new s ≡ true }
     {
         match heard {
             Heard::Nothing => return false,
             Heard::Done => {}
+            Heard::Data { stream } => self.roused.add(stream),
             Heard::Request(asked) => self.answer_request(held, others, limit, asked, notes),
             Heard::Left { stream, cause } => self.end_alone(stream, cause, notes),
             Heard::Fault { code } => {
@@ -62,6 +68,7 @@ impl Link {
         ensures settles { IfOk result (λ more.
             Settles others limit (λ h. h ≡ held.now) MayLook (Looked more) self.old (N.told notes.old) self.new (N.told notes.new)) }
         ensures falls { IfOk result (λ more. more ≡ true → left_to_look self.new.conn < left_to_look self.old.conn) }
+        ensures rouses { OnOk result (Rouses self.old self.new) }
     {
         let told = self.conn.next_happening()?;
         let heard = hear(&mut self.tunnels, self.destination, told);
@@ -78,8 +85,9 @@ impl Link {
         limit: usize,
         notes: &mut N,
     ) -> Result<(), NoMemory>
-        ensures { OnOk result (Settles others limit (λ h. h ≡ held.now) (λ k x. HasCome x.phase k x) MayPut self.old
+        ensures settles { OnOk result (Settles others limit (λ h. h ≡ held.now) (λ k x. HasCome x.phase k x) MayPut self.old
             (N.told notes.old) self.new (N.told notes.new)) }
+        ensures rouses { OnOk result (Rouses self.old self.new) }
     {
         if !self.phase.is_serving() {
             return Ok(());

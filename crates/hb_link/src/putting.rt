@@ -2,6 +2,7 @@
 
 ghost use Rattle.std.specs.Prelude.{◌≡◌, ℕ, ◌+◌};
 ghost use Rattle.hb_link.specs.Putting.{count_here, bytes_put, conn_bytes, data_seen, may_finish, end_counted, conn_finished, lives_in, PutsBelow};
+ghost use Rattle.hb_link.specs.Rousing.{Rouses};
 ghost use Rattle.hb_link.specs.Settling.{MayPut, AlwaysSettles};
 ghost use Rattle.hb_link.specs.Shows.{Shows};
 
@@ -70,8 +71,9 @@ impl Tunnel {
 impl Link {
     /// What may be put of the tunnel on the stream, and it is over where both sides ended and all went through.
     fn put_on<N: Notes>(&mut self, stream: u32, notes: &mut N)
-        ensures { (from : ℕ)
+        ensures settles { (from : ℕ)
             → AlwaysSettles (PutsBelow from stream) (PutsBelow from (stream + 1)) self.old (N.told notes.old) self.new (N.told notes.new) }
+        ensures rouses { Rouses self.old self.new }
     {
         let Some(tunnel) = self.tunnels.at(stream) else {
             return;
@@ -81,6 +83,7 @@ impl Link {
         }
         let count = tunnel.put_bytes(&mut self.conn, stream);
         self.turn.took(stream, count);
+        self.roused.went(stream, count);
         tunnel.finish(&mut self.conn, stream);
         if tunnel.is_done(&self.conn, stream) {
             tunnel.stage = Stage::Over(Cause::Done);
@@ -96,7 +99,8 @@ impl Link {
 
     /// What may be put of each tunnel behind the one that bytes were put of last, by rising stream, until something waits to be written.
     fn put_in_turn<N: Notes>(&mut self, notes: &mut N)
-        ensures { AlwaysSettles (PutsBelow 0 0) (PutsBelow 0 0) self.old (N.told notes.old) self.new (N.told notes.new) }
+        ensures settles { AlwaysSettles (PutsBelow 0 0) (PutsBelow 0 0) self.old (N.told notes.old) self.new (N.told notes.new) }
+        ensures rouses { Rouses self.old self.new }
     {
         let mut from = self.tunnels.first_behind(self.turn.last());
         while let Some(stream) = from {
@@ -111,7 +115,8 @@ impl Link {
     /// As many of the bytes that wait go in DATA as may, END_STREAM goes where it may, and a tunnel is over of which both sides ended
     /// and all went through: by turns, and then by rising stream.
     pub(crate) fn put_all<N: Notes>(&mut self, notes: &mut N)
-        ensures { AlwaysSettles MayPut Shows self.old (N.told notes.old) self.new (N.told notes.new) }
+        ensures settles { AlwaysSettles MayPut Shows self.old (N.told notes.old) self.new (N.told notes.new) }
+        ensures rouses { Rouses self.old self.new }
     {
         if !self.phase.is_serving() {
             return;

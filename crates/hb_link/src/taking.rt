@@ -3,6 +3,7 @@
 ghost use Rattle.std.specs.Prelude.{◌≤◌, length, OnOk};
 ghost use Rattle.hb_link.specs.Calls.{Takes, Goes};
 ghost use Rattle.hb_link.specs.Observed.{wants_on, output_on};
+ghost use Rattle.hb_link.specs.Rousing.{Rouses};
 
 use crate::link::Link;
 use crate::notes::Notes;
@@ -24,7 +25,8 @@ impl Link {
         notes: &mut N,
     ) -> Result<(), NoMemory>
         requires { length b.now ≤ wants_on self.old }
-        ensures { OnOk result (Takes held.now others limit b.now self.old (N.told notes.old) self.new (N.told notes.new)) }
+        ensures takes { OnOk result (Takes held.now others limit b.now self.old (N.told notes.old) self.new (N.told notes.new)) }
+        ensures rouses { OnOk result (Rouses self.old self.new) }
     {
         match self.phase {
             Phase::Fronting => self.take_front(b),
@@ -41,7 +43,8 @@ impl Link {
     /// The first `n` bytes of the output were written. What may go behind them is put.
     pub fn wrote<N: Notes>(&mut self, n: usize, notes: &mut N)
         requires { n ≤ length (output_on self.old) }
-        ensures { Goes n self.old (N.told notes.old) self.new (N.told notes.new) }
+        ensures goes { Goes n self.old (N.told notes.old) self.new (N.told notes.new) }
+        ensures rouses { Rouses self.old self.new }
     {
         if n == 0 {
             return;

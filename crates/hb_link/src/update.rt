@@ -3,6 +3,7 @@
 ghost use Rattle.std.specs.Prelude.{◌≡◌, true, false};
 ghost use Rattle.hb_held.specs.Touched.{touched};
 ghost use Rattle.hb_link.specs.Calls.{Updates};
+ghost use Rattle.hb_link.specs.Rousing.{Rouses};
 
 use crate::link::Link;
 use crate::notes::Notes;
@@ -21,6 +22,7 @@ impl Link {
     pub fn judge_all<N: Notes>(&mut self, held: &Held, notes: &mut N) -> bool
         ensures updates { Updates held.now self.old (N.told notes.old) self.new (N.told notes.new) }
         ensures same { result ≡ false → self.new ≡ self.old }
+        ensures rouses { Rouses self.old self.new }
     {
         if self.is_spared(held) {
             return false;

@@ -1,6 +1,6 @@
 //! What comes and goes on the upstream of a stream.
 
-ghost use Rattle.std.specs.Prelude.{◌≡◌, ◌≤◌, ◌&&◌, ℕ, [], length, Some};
+ghost use Rattle.std.specs.Prelude.{◌≡◌, ◌≤◌, ◌&&◌, ℕ, true, [], length, Some};
 ghost use Rattle.hb_base.specs.declared.door.Why.{Why};
 ghost use Rattle.hb_base.specs.declared.target.Target.{Target};
 ghost use Rattle.hb_world.specs.declared.entry.Entry.TheVariants as e;
@@ -8,6 +8,7 @@ ghost use Rattle.hb_tunnel.specs.Way.{IsFront};
 ghost use Rattle.hb_link.specs.Calls.{UpEnters, UpGoes, UpWants, UpHolds};
 ghost use Rattle.hb_link.specs.Observed.{up_wants_on, up_held_on};
 ghost use Rattle.hb_link.specs.Putting.{count_first, conn_first};
+ghost use Rattle.hb_link.specs.Rousing.{Rouses, roused_on};
 ghost use Rattle.hb_conn.specs.Observed.{own_side_open};
 
 use crate::link::Link;
@@ -32,8 +33,11 @@ fn put_first(conn: &mut Conn, may: bool, stream: u32, b: &[u8]) -> usize
 impl Link {
     /// The dial of a stream's target gave this link.
     pub fn dialled(&mut self, stream: u32, link: u64)
-        ensures { (to : Target) (why : Why) → UpEnters stream (e.Dialled link to why) self.old (Some []) self.new (Some []) }
+        ensures enters { (to : Target) (why : Why) → UpEnters stream (e.Dialled link to why) self.old (Some []) self.new (Some []) }
+        ensures rouses { Rouses self.old self.new }
+        ensures here { roused_on self.new stream ≡ true }
     {
+        self.roused.add(stream);
         let Some(tunnel) = self.tunnels.at(stream) else {
             return;
         };
@@ -43,7 +47,8 @@ impl Link {
 
     /// The upstream of a stream is open: 200 is put.
     pub fn up_opened<N: Notes>(&mut self, stream: u32, notes: &mut N)
-        ensures { (u : ℕ) → UpEnters stream (e.Opened u) self.old (N.told notes.old) self.new (N.told notes.new) }
+        ensures enters { (u : ℕ) → UpEnters stream (e.Opened u) self.old (N.told notes.old) self.new (N.told notes.new) }
+        ensures rouses { Rouses self.old self.new }
     {
         if !self.conn.sides(stream).own {
             return;
@@ -52,6 +57,7 @@ impl Link {
             return;
         };
         tunnel.open();
+        self.roused.add(stream);
         self.conn.put_status(stream, 200, false);
         notes.verdict(self.number, stream, 200, &self.peer, Some(tunnel.target));
     }
@@ -70,7 +76,8 @@ impl Link {
     /// These bytes came from it.
     pub fn up_bytes(&mut self, stream: u32, b: &[u8])
         requires { length b.now ≤ up_wants_on self.old stream }
-        ensures { (u : ℕ) → UpEnters stream (e.Came u b.now) self.old (Some []) self.new (Some []) }
+        ensures enters { (u : ℕ) → UpEnters stream (e.Came u b.now) self.old (Some []) self.new (Some []) }
+        ensures rouses { Rouses self.old self.new }
     {
         if b.is_empty() {
             return;
@@ -98,8 +105,9 @@ impl Link {
 
     /// The dial of a stream's target failed.
     pub fn dial_failed<N: Notes>(&mut self, stream: u32, notes: &mut N)
-        ensures { (to : Target) (why : Why)
+        ensures enters { (to : Target) (why : Why)
             → UpEnters stream (e.DialFailed to why) self.old (N.told notes.old) self.new (N.told notes.new) }
+        ensures rouses { Rouses self.old self.new }
     {
         self.end_tunnel(stream, Cause::UpFault);
         self.settle(notes);
@@ -107,7 +115,8 @@ impl Link {
 
     /// It sends no more.
     pub fn up_ended<N: Notes>(&mut self, stream: u32, notes: &mut N)
-        ensures { (u : ℕ) → UpEnters stream (e.Ended u) self.old (N.told notes.old) self.new (N.told notes.new) }
+        ensures enters { (u : ℕ) → UpEnters stream (e.Ended u) self.old (N.told notes.old) self.new (N.told notes.new) }
+        ensures rouses { Rouses self.old self.new }
     {
         self.end_down(stream);
         self.settle(notes);
@@ -115,7 +124,8 @@ impl Link {
 
     /// It failed to open, or a call on it failed.
     pub fn up_broke<N: Notes>(&mut self, stream: u32, notes: &mut N)
-        ensures { (u : ℕ) → UpEnters stream (e.Broke u) self.old (N.told notes.old) self.new (N.told notes.new) }
+        ensures enters { (u : ℕ) → UpEnters stream (e.Broke u) self.old (N.told notes.old) self.new (N.told notes.new) }
+        ensures rouses { Rouses self.old self.new }
     {
         self.end_tunnel(stream, Cause::UpFault);
         self.settle(notes);
@@ -124,7 +134,8 @@ impl Link {
     /// The first `n` bytes that waited were written to it. They are given back to the stream's window.
     pub fn up_wrote<N: Notes>(&mut self, stream: u32, n: usize, notes: &mut N)
         requires { n ≤ length (up_held_on self.old stream) }
-        ensures { UpGoes stream n self.old (N.told notes.old) self.new (N.told notes.new) }
+        ensures goes { UpGoes stream n self.old (N.told notes.old) self.new (N.told notes.new) }
+        ensures rouses { Rouses self.old self.new }
     {
         if n == 0 {
             return;

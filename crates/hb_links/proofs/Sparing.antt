@@ -1,6 +1,5 @@
 -- What is told to all links touches some: each other one stays as it is.
-use Rattle.std.proofs.Common.{◌≡◌, inl, inr, ℕ, Bool, true, false, Option, Some, None, is_some, refl, ap, sym, ◌∙◌, subst}
-use Rattle.std.proofs.lemmas.Bool.{false≢true}
+use Rattle.std.proofs.Common.{◌≡◌, inl, inr, ℕ, false, Option, Some, None, is_some, refl, ap, sym, ◌∙◌, subst}
 use Rattle.std.specs.Cmp.{nat_cmp_total}
 use Rattle.std.specs.FinMap.{get, insert, same_map, nat_cmp-IsAntisymmetric}
 use Rattle.hb_inbound.specs.Calm.{close_due, IsIdleBy}
@@ -9,41 +8,39 @@ use Rattle.hb_inbound.specs.Inbound.{Inbound}
 use Rattle.hb_inbound.specs.Tunnel as t
 use Rattle.hb_inbound.specs.Tunnel.{Tunnel as Machine, Stage}
 use Rattle.hb_link.specs.Acts.{NoneIsDue}
+use Rattle.hb_link.specs.Rousing.{Rouses}
 use Rattle.hb_link.specs.Tunnels.{stage_of, tunnel_of, as_told, ShowsAt, ShowsTunnel}
 use Rattle.hb_link.specs.declared.link.Link.{Link}
 use Rattle.hb_link.specs.declared.tunnel.Tunnel.{Tunnel}
 use Rattle.hb_map.proofs.Laws.{written_where_some, put_elsewhere}
 use Rattle.hb_links.specs.declared.links.Links.{Links}
-use Rattle.hb_links.specs.declared.place.Place.{Place}
 use Rattle.hb_links.specs.Busy.{may_be_due, touched}
-use Rattle.hb_links.specs.Calls.{wants_in, up_wants_in, wants_at, output_in, up_held_in, held_at}
 use Rattle.hb_links.specs.Shows.{IsAway, ShowsLink, ShowsAll}
-use Rattle.hb_links.specs.Stirring.{owner_of, stirs_by, stirs_at, StirsAt, Stirs}
+use Rattle.hb_links.specs.Stirring.{Stirs}
 use Rattle.hb_links.proofs.Due.{due_then}
 use Rattle.hb_links.proofs.Showing.{links_with, written_same}
-use Rattle.hb_links.proofs.Stirs.{unstirred}
+use Rattle.hb_links.proofs.Stirs.{none_stirs, stirs_all_then, told_stirs}
 
--- each link that may have no act due, and each that doesn't stir, is as it was, and so it was before
+-- each link that may have no act due is as it was, and so it was before; and what may be done now stirs
 pub record Spares (k n : Links) : Type 0 where
   pub ups : n.ups ≡ k.ups
   pub due : (l : ℕ) → may_be_due n l ≡ false → (may_be_due k l ≡ false) × (get n.links l ≡ get k.links l)
-  pub stirs : (i : ℕ) (at : Option Place) → stirs_by n at i ≡ false
-      → (stirs_by k at i ≡ false) × (get n.links (owner_of at i) ≡ get k.links (owner_of at i))
+  pub stirs : Stirs k n
 
 pub spares_all : (k : Links) → Spares k k
-spares_all k = record { ups = refl; due = λ l none. (none, refl); stirs = λ i at none. (none, refl) }
+spares_all k = record { ups = refl; due = λ l none. (none, refl); stirs = none_stirs k }
 
 -- one more is touched
-pub spares_others : (k a : Links) (n before : ℕ) (new : Link) → Spares k a
+pub spares_others : (k a : Links) (n before : ℕ) (old new : Link) → get a.links n ≡ Some old → Rouses old new → Spares k a
     → Spares k (touched n before (record a { links = insert a.links n new }))
-spares_others k a n before new spares = record {
+spares_others k a n before old new is rouses spares = record {
   ups = spares.ups;
   due = λ l none. (let was = due_then (links_with (insert a.links n new) a.ups a) n before l none in
       let so = spares.due l was.1 in
       (so.0, put_elsewhere a.links n new l was.0 ∙ so.1));
-  stirs = λ i at none. (let was = unstirred a.stirs a.stirs_from at n i none in
-      let so = spares.stirs i at was.1 in
-      (so.0, put_elsewhere a.links n new (owner_of at i) was.0 ∙ so.1));
+  stirs = stirs_all_then k a (touched n before (record a { links = insert a.links n new })) spares.stirs
+      (told_stirs before a (touched n before (record a { links = insert a.links n new })) (insert a.links n new) n old new refl
+      (sym (written_where_some a.links n new (ap is_some is))) is rouses);
 }
 
 -- a link that stays as it is
@@ -51,32 +48,6 @@ pub same_links : (k : Links) (n : ℕ) (old new : Link) → get k.links n ≡ So
 same_links k n old new is same =
     same_map nat_cmp_total nat_cmp-IsAntisymmetric (insert k.links n new) k.links
     (written_same k (insert k.links n new) n old new is same (sym (written_where_some k.links n new (ap is_some is))))
-
--- WHAT STIRS
-
-module _ (k n : Links) (spares : Spares k n) where
-  reads : (i : ℕ) (at : Option Place) → get n.links (owner_of at i) ≡ get k.links (owner_of at i) → wants_at n at i ≡ wants_at k at i
-  reads i None same = ap wants_in same
-  reads i (Some at) same = ap (up_wants_in at.stream) same
-
-  writes : (i : ℕ) (at : Option Place) → get n.links (owner_of at i) ≡ get k.links (owner_of at i) → held_at n at i ≡ held_at k at i
-  writes i None same = ap output_in same
-  writes i (Some at) same = ap (up_held_in at.stream) same
-
-  pub spared_stirs : Stirs k n
-  spared_stirs i = by (stirs_at n i) refl
-    where
-      by : (b : Bool) → stirs_at n i ≡ b → StirsAt i k n
-      by true is = record { kept = λ was. is; reads = λ was. inr is; writes = λ was. inr is }
-      by false is =
-          let at = get n.ups i in
-          let so = spares.stirs i at is in
-          let at_is : at ≡ get k.ups i = ap (λ (ups : _). get ups i) spares.ups in
-          record {
-            kept = λ was. absurd (false≢true (sym so.0 ∙ ap (λ (o : Option Place). stirs_by k o i) at_is ∙ was));
-            reads = λ was. inl (reads i at so.1 ∙ ap (λ (o : Option Place). wants_at k o i) at_is ∙ was);
-            writes = λ was. inl (writes i at so.1 ∙ ap (λ (o : Option Place). held_at k o i) at_is ∙ was);
-          }
 
 -- WHAT IS DUE
 

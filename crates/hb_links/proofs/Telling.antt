@@ -12,9 +12,10 @@ use Rattle.hb_inbound.specs.Inbound as m
 use Rattle.hb_inbound.specs.Inbound.{Inbound, rejudged, stopped_for, stops_by, judged_by}
 use Rattle.hb_inbound.specs.Part as part
 use Rattle.hb_inbound.specs.Tunnel as t
-use Rattle.hb_inbound.specs.Tunnel.{Tunnel, takes_place, ends_by, ends_for}
+use Rattle.hb_inbound.specs.Tunnel.{Tunnel, takes_place, ends_by}
 use Rattle.hb_link.specs.Calls as calls
 use Rattle.hb_link.specs.Noted.{Told}
+use Rattle.hb_link.specs.Rousing.{Rouses}
 use Rattle.hb_link.specs.Tunnels.{ShowsTunnel}
 use Rattle.hb_link.specs.declared.link.Link.{Link}
 use Rattle.hb_map.proofs.Laws.{written_where_some}
@@ -153,7 +154,7 @@ applied_goes held k a b n next told now then applies tells next_is = by (get a.l
         one old new is updates (subst (Spares k) (sym spared.1) applies.0)
         (same_links a n old new is spared.0 ∙ ap (λ (w : Links). w.links) (sym spared.1))
     by (Some old) is (new, updates, inr touches) =
-        one old new is updates (subst (Spares k) (sym touches.1) (spares_others k a n touches.0 new applies.0))
+        one old new is updates (subst (Spares k) (sym touches.1) (spares_others k a n touches.0 old new is touches.2 applies.0))
         (ap (λ (w : Links). w.links) (sym touches.1))
 
 pub applied_ends : (held : Resources) (k a : Links) (told now : Told) → Applies held k a None told now → Updates held k told a now
@@ -216,9 +217,9 @@ told_one R k m links n before old new told now is links_is m_is does =
 
 -- a response is told to one: it is touched, or stays as it is
 pub judged_one : (held : Resources) (k m : Links) (links : Map) (n before : ℕ) (old new : Link) (told now : Told) → get k.links n ≡ Some old
-    → links ≡ written k.links n new → m ≡ touched n before (record k { links = links }) → calls.Updates held old told new now
-    → JudgesAt held (get k.links n) n k told m now
-judged_one held k m links n before old new told now is links_is m_is does =
+    → links ≡ written k.links n new → m ≡ touched n before (record k { links = links }) → Rouses old new
+    → calls.Updates held old told new now → JudgesAt held (get k.links n) n k told m now
+judged_one held k m links n before old new told now is links_is m_is rouses does =
     subst (λ (o : Option Link). JudgesAt held o n k told m now) (sym is) (
       new,
       does,
@@ -227,6 +228,7 @@ judged_one held k m links n before old new told now is links_is m_is does =
         m_is
             ∙ ap (λ (map : Map). touched n before (record k { links = map }))
             (links_is ∙ written_where_some k.links n new (ap is_some is)),
+        rouses,
       ),
     )
 

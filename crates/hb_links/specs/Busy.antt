@@ -1,5 +1,5 @@
 -- Which links may have an act due.
-use Rattle.std.specs.Prelude.{ℕ, ◌==◌, ◌||◌, ◌&&◌, not, Bool, false, nat_le, min, if◌then◌else◌, is_some, Option, Some, None}
+use Rattle.std.specs.Prelude.{ℕ, ◌==◌, ◌||◌, ◌&&◌, not, Bool, true, false, nat_le, min, if◌then◌else◌, is_some, Option, Some, None}
 use Rattle.std.specs.FinMap.{get}
 use Rattle.hb_links.specs.declared.family.Family.{Family}
 use Rattle.hb_links.specs.declared.links.Links.{Links}
@@ -43,9 +43,9 @@ from_after (Some n) from l = if n == l then from else Some (least from l)
 abbrev pub made_due : ℕ → Links → Links
 made_due l k = record k { busy = busy_after k.busy l; from = from_after k.busy k.from l }
 
--- it is to be told, with all its upstreams: as the family that is told next, or from its number on
+-- it is to be told, with its upstreams that are roused; or it is from its number on, with all its upstreams
 abbrev pub whole : ℕ → Family
-whole l = record { link = l; next = None }
+whole l = record { link = l; own = true }
 
 abbrev pub stirs_after : Option Family → ℕ → Option Family
 stirs_after None l = Some (whole l)

@@ -1,5 +1,5 @@
 -- How a walk over all links goes on. No public clause cites this file.
-use Rattle.std.specs.Prelude.{◌≡◌, ◌⊎◌, ℕ, ◌+◌, ◌==◌, ◌≤◌, ◌^◌, List, Option, Some, None, if◌then◌else◌}
+use Rattle.std.specs.Prelude.{◌≡◌, ◌⊎◌, ℕ, ◌+◌, ◌==◌, ◌≤◌, ◌^◌, true, List, Option, Some, None, if◌then◌else◌}
 use Rattle.std.specs.FinMap.{FinMap, insert, remove}
 use Rattle.std.specs.Ordering.{nat_cmp}
 use Rattle.hb_map.specs.Keyed.{IsFirstFrom}
@@ -8,6 +8,7 @@ use Rattle.hb_link.specs.declared.link.Link.{Link}
 use Rattle.hb_link.specs.Acts.{NoneIsDue}
 use Rattle.hb_link.specs.Calls.{Updates as Judges}
 use Rattle.hb_link.specs.Noted.{Told}
+use Rattle.hb_link.specs.Rousing.{Rouses, Tells, roused_on}
 use Rattle.hb_links.specs.declared.links.Links.{Links}
 use Rattle.hb_links.specs.Acts.{Acts}
 use Rattle.hb_links.specs.Busy.{touched}
@@ -37,7 +38,19 @@ abbrev pub JudgesAt : Resources → Option Link → ℕ → Links → Told → L
 JudgesAt held None n k told m now = (m ≡ k) × (now ≡ told)
 JudgesAt held (Some old) n k told m now =
     (new : Link) × Judges held old told new now
-    × (((new ≡ old) × (m ≡ k)) ⊎ ((before : ℕ) × (m ≡ touched n before (record k { links = insert k.links n new }))))
+    × (((new ≡ old) × (m ≡ k)) ⊎ ((before : ℕ) × (m ≡ touched n before (record k { links = insert k.links n new })) × Rouses old new))
+
+-- a link is told to rouse all its upstreams
+abbrev pub RousesAll : Option Link → ℕ → Links → Links → Type 0
+RousesAll None n k m = m ≡ k
+RousesAll (Some old) n k m =
+    (new : Link) × ((s : ℕ) → roused_on new s ≡ true) × (new ≡ record old { roused = new.roused })
+    × (m ≡ record k { links = insert k.links n new })
+
+-- an upstream of a link is told that is roused
+abbrev pub TellsUp : Option Link → ℕ → Option ℕ → Links → Links → Type 0
+TellsUp None n told k m = (told ≡ None) × (m ≡ k)
+TellsUp (Some old) n told k m = (new : Link) × Tells told old new × (m ≡ record k { links = insert k.links n new })
 
 -- ACTS
 

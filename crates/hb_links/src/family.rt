@@ -4,6 +4,6 @@
 #[derive(Clone, Copy, Drop)]
 pub struct Family {
     pub link: u64,
-    /// Where the link itself was told, its upstreams of the streams from this one on are left.
-    pub next: Option<u32>,
+    /// The link itself is left to be told, and not only its upstreams that are roused.
+    pub own: bool,
 }

@@ -36,9 +36,10 @@ pub struct Links {
     pub(crate) busy: Option<u64>,
     /// From this number on further links may have an act due.
     pub(crate) from: Option<u64>,
-    /// Of this link and its upstreams more may be read, or is to be written, than when they were told last: they are told first.
+    /// Of this link, and of its upstreams that are roused, more may be read, or is to be written, than when they were told last: they
+    /// are told first.
     pub(crate) stirs: Option<Family>,
-    /// So it is of all links from this number on, and of their upstreams.
+    /// So it is of all links from this number on, and of all their upstreams.
     pub(crate) stirs_from: Option<u64>,
     /// How many tunnels of all links take a place. A link has fewer than 2^32, and fewer than 2^64 links are kept.
     pub(crate) taken: u128,
@@ -97,11 +98,11 @@ impl Links {
         }
     }
 
-    /// It and its upstreams are to be told.
+    /// It is to be told, and its upstreams that are roused.
     fn stir(&mut self, link: u64)
         ensures { self.new ≡ stirred link self.old }
     {
-        let whole = Family { link, next: None };
+        let whole = Family { link, own: true };
         match self.stirs {
             None => self.stirs = Some(whole),
             Some(family) => {

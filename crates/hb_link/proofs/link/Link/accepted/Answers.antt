@@ -6,4 +6,4 @@ use Rattle.hb_link.proofs.link.Link.accepted.Goals as goal
 
 pub returns-clause-begins : goal.returns-clause-begins
 returns-clause-begins c =
-    of_value (IsFresh c.args.number Fronting) (Begins c.args.number) c.fresh.result (begins c.args.number) c.fresh.ensures
+    of_value (IsFresh c.args.number Fronting) (Begins c.args.number) c.fresh.result (begins c.args.number) c.fresh.ensures.fresh

@@ -1,8 +1,11 @@
-use Rattle.std.proofs.Common.{rules, ◌≡◌, inl, inr, refl, sym, ◌∙◌, arith}
-use Rattle.std.specs.FinMap.{insert}
+use Rattle.std.proofs.Common.{rules, ◌≡◌, inl, inr, refl, ap, sym, ◌∙◌, subst, arith}
+use Rattle.std.specs.FinMap.{get, insert}
 use Rattle.hb_link.specs.Asking.{due_to}
 use Rattle.hb_link.proofs.Asked.{own, none, answers, verdict_fits, due_looks, refused_looks, reset_looks, goes_as}
 use Rattle.hb_link.proofs.Moving.{link_with}
+use Rattle.hb_link.specs.declared.link.Link.{Link}
+use Rattle.hb_link.proofs.Quiet.{Quiet, quiet_by, put_quiet}
+use Rattle.hb_link.proofs.Rousing.{conn_rouses, rouses_none, rouses_same}
 use Rattle.hb_link.proofs.link.Link.answer_request.Goals as goal
 use Rattle.hb_link.proofs.link.Link.answer_request.Goals.{then-not-sides-via-then-not-sides, then-not-sides-via-else-not-sides+then-is_some}
 
@@ -67,3 +70,28 @@ returns-else-is_err-clause-settles g c = λ start before a stands holds ask.
     goes_as k link refl
     (due_looks c.args.others c.args.limit c.args.asked k told start before a stands ask full c.is_full-full.ensures c.in-Dial.target
     (inl (sym said ∙ answers c.args.others c.args.limit c.args.asked k told start before a stands ask c.args.held.now full holds)))
+
+pub returns-then-not-sides-clause-rouses : goal.returns-then-not-sides-clause-rouses
+returns-then-not-sides-clause-rouses g c = rouses_same c.args.self.now c.args.self.now refl refl
+
+pub returns-in-Status-clause-rouses : goal.returns-in-Status-clause-rouses
+returns-in-Status-clause-rouses g c =
+    conn_rouses c.args.self.now c.refuse_request.new.self _ c.refuse_request.ensures.link
+
+pub returns-in-Reset-clause-rouses : goal.returns-in-Reset-clause-rouses
+returns-in-Reset-clause-rouses g c = conn_rouses c.args.self.now c.reset_request.new.self _ c.reset_request.ensures.link
+
+pub returns-then-is_err-clause-rouses : goal.returns-then-is_err-clause-rouses
+returns-then-is_err-clause-rouses g c =
+    let same : c.add_tunnel.new.self ≡ c.args.self.now = search rules in
+    conn_rouses c.args.self.now c.refuse_request-then-is_err.new.self _ (rw same at c.refuse_request-then-is_err.ensures.link)
+
+pub returns-else-is_err-clause-rouses : goal.returns-else-is_err-clause-rouses
+returns-else-is_err-clause-rouses g c =
+    let k = c.args.self.now in
+    let s = c.args.asked.stream in
+    let new = due_to c.in-Dial.target c.args.asked.end in
+    let link : c.add_tunnel.new.self ≡ link_with k.conn (insert k.tunnels s new) k = search rules in
+    rouses_none k c.add_tunnel.new.self (ap (λ (m : Link). m.roused) link)
+    (λ j. subst (λ (m : Link). Quiet (get k.tunnels j) (get m.tunnels j)) (sym link)
+    (put_quiet k.tunnels s new (quiet_by (get k.tunnels s) new refl refl) j))

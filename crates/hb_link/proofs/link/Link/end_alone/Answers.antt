@@ -2,6 +2,7 @@ use Rattle.std.proofs.Common.{rules, ◌≡◌, Some, None, refl, ap, ◌∙◌}
 use Rattle.std.specs.FinMap.{get}
 use Rattle.hb_link.specs.Tunnels.{has_place}
 use Rattle.hb_link.proofs.Alone.{placeless, nothing_ends, pending_ends, live_ends}
+use Rattle.hb_link.proofs.Rousing.{left_rouses, rouses_same}
 use Rattle.hb_link.proofs.link.Link.end_alone.Goals as goal
 
 pub returns-in_default-clause-settles : goal.returns-in_default-clause-settles
@@ -43,3 +44,15 @@ returns-in-Live-clause-settles g c = λ others limit start before a stands holds
       live_ends others limit k c.args.stream c.args.cause c.requires (g.N.Notes.told c.args.notes.now) start before a stands ends old
           c.leave-in-Live.new.tunnels (g.N.Notes.told c.end.new.self) found c.in-Live.is c.leave-in-Live.ensures c.end.ensures,
     )
+
+pub returns-in_default-clause-rouses : goal.returns-in_default-clause-rouses
+returns-in_default-clause-rouses g c = rouses_same c.args.self.now c.args.self.now refl refl
+
+pub returns-in_default-stage-clause-rouses : goal.returns-in_default-stage-clause-rouses
+returns-in_default-stage-clause-rouses g c = rouses_same c.args.self.now c.args.self.now refl refl
+
+pub returns-in-Due-clause-rouses : goal.returns-in-Due-clause-rouses
+returns-in-Due-clause-rouses g c = left_rouses c.args.self.now _ c.args.stream c.args.cause _ refl c.leave.ensures
+
+pub returns-in-Live-clause-rouses : goal.returns-in-Live-clause-rouses
+returns-in-Live-clause-rouses g c = left_rouses c.args.self.now _ c.args.stream c.args.cause _ refl c.leave-in-Live.ensures

@@ -1,4 +1,4 @@
-use Rattle.std.proofs.Common.{rules, ◌≡◌, ◌+◌, true, false, ap, sym, subst, ◌∙◌}
+use Rattle.std.proofs.Common.{rules, ◌≡◌, ◌+◌, true, false, refl, ap, sym, subst, ◌∙◌}
 use Rattle.std.specs.Prelude.{⊤, ℕ, Option, None}
 use Rattle.hb_link.specs.Observed.{serves_in}
 use Rattle.hb_link.specs.Putting.{PutsBelow}
@@ -9,16 +9,17 @@ use Rattle.hb_link.proofs.Idle.{none_puts}
 use Rattle.hb_link.proofs.Loads.{place_of}
 use Rattle.hb_link.proofs.PutsOn.{not_served, begins, advance, ends}
 use Rattle.hb_link.proofs.Settles.{settles_then, stays}
+use Rattle.hb_link.proofs.Rousing.{rouses_same, rouses_then}
 use Rattle.hb_link.proofs.link.Link.put_all.Goals as goal
 
-pub returns-then-not-is_serving : goal.returns-then-not-is_serving
-returns-then-not-is_serving g c = λ others limit.
+pub returns-then-not-is_serving-clause-settles : goal.returns-then-not-is_serving-clause-settles
+returns-then-not-is_serving-clause-settles g c = λ others limit.
     let k = c.args.self.now in
     let never : serves_in k.phase ≡ false = search rules in
     stays others limit (λ held. ⊤) MayPut Shows k (g.N.Notes.told c.args.notes.now) (not_served k never)
 
-pub returns-then-counts-eq0 : goal.returns-then-counts-eq0
-returns-then-counts-eq0 g c = λ others limit.
+pub returns-then-counts-eq0-clause-settles : goal.returns-then-counts-eq0-clause-settles
+returns-then-counts-eq0-clause-settles g c = λ others limit.
     let k = c.args.self.now in
     let serves : serves_in k.phase ≡ true = search rules in
     let none : c.counts.result.puts ≡ 0 = search rules in
@@ -26,14 +27,16 @@ returns-then-counts-eq0 g c = λ others limit.
     (none_puts k c.counts.ensures.numbers (sym (ap (λ (c : Counts). c.puts) c.counts.ensures.value) ∙ none) serves)
 
 pub loop-from-init : goal.loop-from-init
-loop-from-init g c = λ others limit.
+loop-from-init g c =
     let k = c.put_in_turn.new.self in
-    let first = c.first_from-from.result in
-    stays others limit (λ held. ⊤) (PutsBelow 0 0) (PutsBelow 0 (place_of first)) k (g.N.Notes.told c.put_in_turn.new.notes)
-    (advance k 0 0 first c.first_from-from.ensures.first)
+    let first = c.first_from-from.result in (
+      λ others limit. stays others limit (λ held. ⊤) (PutsBelow 0 0) (PutsBelow 0 (place_of first)) k (g.N.Notes.told c.put_in_turn.new.notes)
+          (advance k 0 0 first c.first_from-from.ensures.first),
+      rouses_same k k refl refl,
+    )
 
 pub loop-from-preserved : goal.loop-from-preserved
-loop-from-preserved g c = λ others limit.
+loop-from-preserved g c =
     let k = c.put_in_turn.new.self in
     let mid = c.loop-from.self in
     let next = c.put_on.new.self in
@@ -43,15 +46,18 @@ loop-from-preserved g c = λ others limit.
     let behind = g.N.Notes.told c.put_on.new.notes in
     let to = c.first_behind-from.result in
     let reached = subst (λ (from : Option ℕ). AlwaysSettles (PutsBelow 0 0) (PutsBelow 0 (place_of from)) k told mid before) c.in-Some.is
-    c.loop-from.invariant in
-    settles_then others limit (λ held. ⊤) (PutsBelow 0 0) (PutsBelow 0 (s + 1)) (PutsBelow 0 (place_of to)) k next next told behind behind
-    (settles_then others limit (λ held. ⊤) (PutsBelow 0 0) (PutsBelow 0 s) (PutsBelow 0 (s + 1)) k mid next told before behind
-    (reached others limit) (c.put_on.ensures 0 others limit))
-    (stays others limit (λ held. ⊤) (PutsBelow 0 (s + 1)) (PutsBelow 0 (place_of to)) next behind
-    (advance next 0 (s + 1) to c.first_behind-from.ensures))
+    c.loop-from.invariant.0 in (
+      λ others limit. settles_then others limit (λ held. ⊤) (PutsBelow 0 0) (PutsBelow 0 (s + 1)) (PutsBelow 0 (place_of to)) k next next told
+          behind behind
+          (settles_then others limit (λ held. ⊤) (PutsBelow 0 0) (PutsBelow 0 s) (PutsBelow 0 (s + 1)) k mid next told before behind
+          (reached others limit) (c.put_on.ensures.settles 0 others limit))
+          (stays others limit (λ held. ⊤) (PutsBelow 0 (s + 1)) (PutsBelow 0 (place_of to)) next behind
+          (advance next 0 (s + 1) to c.first_behind-from.ensures)),
+      rouses_then k mid next c.loop-from.invariant.1 c.put_on.ensures.rouses,
+    )
 
-pub returns : goal.returns
-returns g c = λ others limit.
+pub returns-clause-settles : goal.returns-clause-settles
+returns-clause-settles g c = λ others limit.
     let k = c.args.self.now in
     let mid = c.put_in_turn.new.self in
     let last = c.loop-from.self in
@@ -60,10 +66,20 @@ returns g c = λ others limit.
     let now = g.N.Notes.told c.loop-from.notes in
     let serves : serves_in k.phase ≡ true = search rules in
     let reached = subst (λ (from : Option ℕ). AlwaysSettles (PutsBelow 0 0) (PutsBelow 0 (place_of from)) mid before last now)
-    c.in_default.is c.loop-from.invariant in
+    c.in_default.is c.loop-from.invariant.0 in
     settles_then others limit (λ held. ⊤) MayPut (PutsBelow 0 0) Shows k k last told told now
     (stays others limit (λ held. ⊤) MayPut (PutsBelow 0 0) k told (begins k serves))
     (settles_then others limit (λ held. ⊤) (PutsBelow 0 0) (PutsBelow 0 0) Shows k mid last told before now
-    (c.put_in_turn.ensures others limit)
+    (c.put_in_turn.ensures.settles others limit)
     (settles_then others limit (λ held. ⊤) (PutsBelow 0 0) (PutsBelow 0 (place_of None)) Shows mid last last before now now
     (reached others limit) (stays others limit (λ held. ⊤) (PutsBelow 0 (place_of None)) Shows last now (ends last))))
+
+pub returns-then-not-is_serving-clause-rouses : goal.returns-then-not-is_serving-clause-rouses
+returns-then-not-is_serving-clause-rouses g c = rouses_same c.args.self.now c.args.self.now refl refl
+
+pub returns-then-counts-eq0-clause-rouses : goal.returns-then-counts-eq0-clause-rouses
+returns-then-counts-eq0-clause-rouses g c = rouses_same c.args.self.now c.args.self.now refl refl
+
+pub returns-clause-rouses : goal.returns-clause-rouses
+returns-clause-rouses g c =
+    rouses_then c.args.self.now c.put_in_turn.new.self c.loop-from.self c.put_in_turn.ensures.rouses c.loop-from.invariant.1

@@ -7,4 +7,4 @@ use Rattle.hb_link.proofs.link.Link.turned_away.Goals as goal
 
 pub returns-clause-turns : goal.returns-clause-turns
 returns-clause-turns c =
-    of_value (IsFresh c.args.number (Closing NoRoom)) (TurnsAway c.args.number) c.fresh.result (turns_away c.args.number) c.fresh.ensures
+    of_value (IsFresh c.args.number (Closing NoRoom)) (TurnsAway c.args.number) c.fresh.result (turns_away c.args.number) c.fresh.ensures.fresh

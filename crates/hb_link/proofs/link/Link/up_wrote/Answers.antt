@@ -1,4 +1,4 @@
-use Rattle.std.proofs.Common.{◌≡◌, min, ℕ, [], ◌∷◌, is_some, sym, ap, ap₂, subst, ◌∙◌, true, false}
+use Rattle.std.proofs.Common.{◌≡◌, min, ℕ, [], ◌∷◌, Some, is_some, refl, sym, ap, ap₂, subst, ◌∙◌, true, false}
 use Rattle.std.specs.FinMap.{insert}
 use Rattle.hb_base.specs.declared.cause.Cause.TheVariants as cause
 use Rattle.hb_base.specs.declared.note.Note.TheVariants as note
@@ -15,10 +15,12 @@ use Rattle.hb_link.specs.Noted.{Takes}
 use Rattle.hb_link.specs.Tunnels.{tunnel_of}
 use Rattle.hb_link.proofs.Moving.{Map, link_with}
 use Rattle.hb_link.proofs.Writing.{wrote_here, over_at, credit_back, wrote_some, wrote_all}
+use Rattle.hb_link.proofs.Quiet.{Quiet, quiet_by, wrote_quiet}
+use Rattle.hb_link.proofs.Rousing.{rouses_put, rouses_same}
 use Rattle.hb_link.proofs.link.Link.up_wrote.Goals as goal
 
-pub returns-then-is_done : goal.returns-then-is_done
-returns-then-is_done g c = λ u bytes size.
+pub returns-then-is_done-clause-goes : goal.returns-then-is_done-clause-goes
+returns-then-is_done-clause-goes g c = λ u bytes size.
     let k = c.args.self.now in
     let s = c.args.stream in
     let n = c.args.n in
@@ -46,8 +48,8 @@ returns-then-is_done g c = λ u bytes size.
     (subst (λ (d : Connection). UpEnters s (e.Went u bytes) k told (link_with d (insert k.tunnels s (over_at n old)) k) now)
     (sym conn_is) at_size)
 
-pub returns-else-is_done : goal.returns-else-is_done
-returns-else-is_done g c = λ u bytes size.
+pub returns-else-is_done-clause-goes : goal.returns-else-is_done-clause-goes
+returns-else-is_done-clause-goes g c = λ u bytes size.
     let k = c.args.self.now in
     let s = c.args.stream in
     let n = c.args.n in
@@ -70,3 +72,34 @@ returns-else-is_done g c = λ u bytes size.
     (subst (λ (d : Connection). UpEnters s (e.Went u bytes) k told (link_with d (insert k.tunnels s (wrote_here n old)) k) told)
     (sym conn_is)
     at_size)
+
+pub returns-then-n-eq0-clause-rouses : goal.returns-then-n-eq0-clause-rouses
+returns-then-n-eq0-clause-rouses g c = rouses_same c.args.self.now c.args.self.now refl refl
+
+pub returns-in_default-clause-rouses : goal.returns-in_default-clause-rouses
+returns-in_default-clause-rouses g c = rouses_same c.args.self.now _ refl c.at.follows.holds-at-none
+
+pub returns-then-is_done-clause-rouses : goal.returns-then-is_done-clause-rouses
+returns-then-is_done-clause-rouses g c =
+    let k = c.args.self.now in
+    let s = c.args.stream in
+    let old = c.in-Some.tunnel.now in
+    let new : Tunnel = record old {
+      ways = c.took_up.new.self;
+      went_up = c.saturating_add-tunnel.result;
+      stage = Over cause.Done;
+    } in
+    rouses_put k _ s old new c.in-Some.ensures.value refl
+    (c.at.follows.holds new ∙ written_where_some k.tunnels s new (ap is_some c.in-Some.ensures.value))
+    (quiet_by (Some old) new refl refl)
+
+pub returns-else-is_done-clause-rouses : goal.returns-else-is_done-clause-rouses
+returns-else-is_done-clause-rouses g c =
+    let k = c.args.self.now in
+    let s = c.args.stream in
+    let old = c.in-Some.tunnel.now in
+    let new : Tunnel = record old { ways = c.took_up.new.self; went_up = c.saturating_add-tunnel.result } in
+    rouses_put k _ s old new c.in-Some.ensures.value refl
+    (c.at.follows.holds new ∙ written_where_some k.tunnels s new (ap is_some c.in-Some.ensures.value))
+    (subst (λ (ways : Ways). Quiet (Some old) (Some (record old { ways = ways; went_up = c.saturating_add-tunnel.result })))
+    (sym c.took_up.ensures) (wrote_quiet old c.args.n c.saturating_add-tunnel.result))

@@ -20,6 +20,7 @@ returns-clause-meets c =
 pub returns-clause-stirs : goal.returns-clause-stirs
 returns-clause-stirs c =
     put_stirs _ c.args.self.now c.touch.new.self _ c.args.number c.in_ok-link.link c.touch.ensures c.in_ok-put.ensures.ok
+    c.in_ok-link.ensures.roused
 
 pub returns-clause-counts : goal.returns-clause-counts
 returns-clause-counts c =

@@ -4,7 +4,7 @@ use Rattle.hb_links.specs.Stirring.{StirsBut, closed_in}
 use Rattle.hb_map.proofs.Laws.{written_elsewhere}
 use Rattle.std.specs.FinMap.{get}
 use Rattle.hb_links.proofs.Showing.{Map}
-use Rattle.hb_links.proofs.Stirs.{idle_stirs, act_stirs}
+use Rattle.hb_links.proofs.Stirs.{idle_stirs, told_act_stirs}
 use Rattle.hb_links.proofs.Totals.{idle_counts, act_counts}
 use Rattle.hb_links.proofs.Walking.{none_acts, some_acts}
 use Rattle.hb_links.proofs.links.Links.act_of.Goals as goal
@@ -34,7 +34,7 @@ returns-clause-stirs c =
     let due = c.in-Some-next_act.act in
     let new = c.next_act.new.self in
     subst (λ (m : Links). StirsBut (closed_in (Some due)) k m) (sym c.finish.ensures)
-    (act_stirs _ k l due _ (λ j apart. ap (λ (m : Map). get m j) (c.at.follows.holds new) ∙ written_elsewhere k.links l new j apart))
+    (told_act_stirs _ k l due _ c.in-Some.link.now new (c.at.follows.holds new) c.in-Some.ensures.value c.in-Some-next_act.ensures.rouses)
 
 pub returns-in_default-next_act-clause-counts : goal.returns-in_default-next_act-clause-counts
 returns-in_default-next_act-clause-counts c =

@@ -1,5 +1,4 @@
 use Rattle.std.proofs.Common.{Option, subst}
-use Rattle.hb_links.proofs.Sparing.{spared_stirs}
 use Rattle.hb_links.proofs.Telling.{Applies, applied_starts, applied_goes, applied_ends, first_is}
 use Rattle.hb_links.proofs.links.Links.applied.Goals as goal
 
@@ -29,4 +28,4 @@ returns-clause-meets g c =
     (g.N.Notes.told c.loop-from.notes)) c.in_default.is c.loop-from.invariant.told)
 
 pub returns-clause-stirs : goal.returns-clause-stirs
-returns-clause-stirs g c = spared_stirs c.args.self.now c.loop-from.self c.loop-from.invariant.told.0
+returns-clause-stirs g c = c.loop-from.invariant.told.0.stirs

@@ -19,11 +19,12 @@ returns-clause-meets g c =
     let now = g.N.Notes.told c.dial_failed.new.notes in
     subst (λ (m : Links). DialFails l s k told m now)
     (sym (changed _ k c.touch.new.self _ l old new c.touch.ensures (c.at.follows.holds new) is))
-    (fails _ k l s old new told now is c.dial_failed.ensures)
+    (fails _ k l s old new told now is c.dial_failed.ensures.enters)
 
 pub returns-clause-stirs : goal.returns-clause-stirs
 returns-clause-stirs g c =
-    told_stirs _ c.args.self.now c.touch.new.self _ c.args.link c.dial_failed.new.self c.touch.ensures (c.at.follows.holds c.dial_failed.new.self)
+    told_stirs _ c.args.self.now c.touch.new.self _ c.args.link c.in-Some.at.now c.dial_failed.new.self c.touch.ensures
+    (c.at.follows.holds c.dial_failed.new.self) c.in-Some.ensures.value c.dial_failed.ensures.rouses
 
 pub returns-clause-counts : goal.returns-clause-counts
 returns-clause-counts g c =

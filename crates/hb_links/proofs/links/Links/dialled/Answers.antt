@@ -6,7 +6,7 @@ use Rattle.hb_links.specs.Busy.{touched}
 use Rattle.hb_links.specs.Calls.{Dials}
 use Rattle.hb_links.proofs.Births.{dials}
 use Rattle.hb_links.proofs.Showing.{Index, Map, links_with}
-use Rattle.hb_links.proofs.Stirs.{born_stirs}
+use Rattle.hb_links.proofs.Stirs.{dial_stirs, no_dial_stirs}
 use Rattle.hb_links.proofs.Totals.{touch_counts}
 use Rattle.hb_links.proofs.links.Links.dialled.Goals as goal
 
@@ -22,21 +22,20 @@ returns-clause-meets c =
     subst (λ (m : Links). Dials l s u k m)
     (sym (c.touch-2.ensures ∙ ap₂ (λ (links : Map) (ups : Index). touched l c.places_at-before.result (links_with links ups k))
     (c.at.follows.holds new ∙ written_where_some k.links l new (ap is_some is)) c.in_ok-put.ensures.ok))
-    (dials _ k l s u old new is c.dialled.ensures)
+    (dials _ k l s u old new is c.dialled.ensures.enters)
 
 pub returns-clause-stirs : goal.returns-clause-stirs
 returns-clause-stirs c =
-    let k = c.args.self.now in
     let new = c.dialled.new.self in
-    born_stirs _ k c.touch-2.new.self _ _ c.args.link c.args.stream c.args.number
-    (λ j apart. ap (λ (m : Map). get m j) (c.at.follows.holds new) ∙ written_elsewhere k.links c.args.link new j apart)
-    c.in_ok-put.ensures.ok c.touch-2.ensures
+    dial_stirs _ c.args.self.now c.touch-2.new.self _ _ c.args.link c.args.stream c.args.number c.in-Some.at.now new
+    c.in-Some.ensures.value (c.at.follows.holds new) c.dialled.ensures.rouses c.dialled.ensures.here c.in_ok-put.ensures.ok
+    c.touch-2.ensures
 
 -- also where the link isn't found
 pub returns-in_default-clause-stirs : goal.returns-in_default-clause-stirs
 returns-in_default-clause-stirs c =
-    born_stirs _ c.args.self.now c.touch.new.self _ _ c.args.link c.args.stream c.args.number
-    (λ j apart. ap (λ (m : Map). get m j) c.at.follows.holds-at-none) c.in_ok-put.ensures.ok c.touch.ensures
+    no_dial_stirs _ c.args.self.now c.touch.new.self _ _ c.args.link c.args.stream c.args.number c.in_default.ensures.none
+    c.at.follows.holds-at-none c.in_ok-put.ensures.ok c.touch.ensures
 
 pub returns-in_default-clause-counts : goal.returns-in_default-clause-counts
 returns-in_default-clause-counts c =

@@ -15,7 +15,7 @@ returns-in-Some-at-clause-meets g c =
     let found : get k.ups n ≡ Some at = search rules in
     up_told _ k c.touch.new.self _ n (e.Ended n) at c.in-Some-at.link.now new (g.N.Notes.told c.args.notes.now)
     (g.N.Notes.told c.up_ended.new.notes) c.touch.ensures (c.at.follows.holds new) found c.in-Some-at.ensures.value (λ u. refl)
-    (c.up_ended.ensures n)
+    (c.up_ended.ensures.enters n)
 
 pub returns-in-Some-at-2-clause-meets : goal.returns-in-Some-at-2-clause-meets
 returns-in-Some-at-2-clause-meets g c =
@@ -25,11 +25,12 @@ returns-in-Some-at-2-clause-meets g c =
     let none : get k.ups n ≡ None = search rules in
     own_told _ k c.touch-in-None.new.self _ n (λ i. e.Ended i) c.in-Some-at-2.link.now new (g.N.Notes.told c.args.notes.now)
     (g.N.Notes.told c.ended.new.notes) c.touch-in-None.ensures (c.at-in-None.follows.holds new) none c.in-Some-at-2.ensures.value
-    c.ended.ensures
+    c.ended.ensures.enters
 
 pub returns-in-Some-at-clause-stirs : goal.returns-in-Some-at-clause-stirs
 returns-in-Some-at-clause-stirs g c =
-    told_stirs _ c.args.self.now c.touch.new.self _ c.in-Some.place.link c.up_ended.new.self c.touch.ensures (c.at.follows.holds c.up_ended.new.self)
+    told_stirs _ c.args.self.now c.touch.new.self _ c.in-Some.place.link c.in-Some-at.link.now c.up_ended.new.self c.touch.ensures
+    (c.at.follows.holds c.up_ended.new.self) c.in-Some-at.ensures.value c.up_ended.ensures.rouses
 
 pub returns-in-Some-at-clause-counts : goal.returns-in-Some-at-clause-counts
 returns-in-Some-at-clause-counts g c =
@@ -38,7 +39,8 @@ returns-in-Some-at-clause-counts g c =
 
 pub returns-in-Some-at-2-clause-stirs : goal.returns-in-Some-at-2-clause-stirs
 returns-in-Some-at-2-clause-stirs g c =
-    told_stirs _ c.args.self.now c.touch-in-None.new.self _ c.args.number c.ended.new.self c.touch-in-None.ensures (c.at-in-None.follows.holds c.ended.new.self)
+    told_stirs _ c.args.self.now c.touch-in-None.new.self _ c.args.number c.in-Some-at-2.link.now c.ended.new.self c.touch-in-None.ensures
+    (c.at-in-None.follows.holds c.ended.new.self) c.in-Some-at-2.ensures.value c.ended.ensures.rouses
 
 pub returns-in-Some-at-2-clause-counts : goal.returns-in-Some-at-2-clause-counts
 returns-in-Some-at-2-clause-counts g c =

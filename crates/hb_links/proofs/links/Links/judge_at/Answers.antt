@@ -7,7 +7,7 @@ pub returns-then-judge_all-clause-judges : goal.returns-then-judge_all-clause-ju
 returns-then-judge_all-clause-judges g c =
     let new = c.judge_all.new.self in
     judged_one c.args.held.now c.args.self.now c.touch.new.self _ c.args.number _ c.in-Some.link.now new (g.N.Notes.told c.args.notes.now)
-    (g.N.Notes.told c.judge_all.new.notes) c.in-Some.ensures.value (c.at.follows.holds new) c.touch.ensures c.judge_all.ensures.updates
+    (g.N.Notes.told c.judge_all.new.notes) c.in-Some.ensures.value (c.at.follows.holds new) c.touch.ensures c.judge_all.ensures.rouses c.judge_all.ensures.updates
 
 pub returns-else-judge_all-clause-judges : goal.returns-else-judge_all-clause-judges
 returns-else-judge_all-clause-judges g c =

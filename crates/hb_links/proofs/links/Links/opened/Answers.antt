@@ -20,11 +20,12 @@ returns-clause-meets g c =
     let found : get k.ups n ≡ Some at = search rules in
     up_told _ k c.touch.new.self _ n (e.Opened n) at c.in-Some-at.link.now new (g.N.Notes.told c.args.notes.now)
     (g.N.Notes.told c.up_opened.new.notes) c.touch.ensures (c.at.follows.holds new) found c.in-Some-at.ensures.value (λ u. refl)
-    (c.up_opened.ensures n)
+    (c.up_opened.ensures.enters n)
 
 pub returns-clause-stirs : goal.returns-clause-stirs
 returns-clause-stirs g c =
-    told_stirs _ c.args.self.now c.touch.new.self _ c.in-Some.place.link c.up_opened.new.self c.touch.ensures (c.at.follows.holds c.up_opened.new.self)
+    told_stirs _ c.args.self.now c.touch.new.self _ c.in-Some.place.link c.in-Some-at.link.now c.up_opened.new.self c.touch.ensures
+    (c.at.follows.holds c.up_opened.new.self) c.in-Some-at.ensures.value c.up_opened.ensures.rouses
 
 pub returns-clause-counts : goal.returns-clause-counts
 returns-clause-counts g c =

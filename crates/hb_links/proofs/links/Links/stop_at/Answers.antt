@@ -8,7 +8,7 @@ pub returns-clause-tells : goal.returns-clause-tells
 returns-clause-tells g c =
     let new = c.stopped.new.self in
     told_one (Stops c.args.cause) c.args.self.now c.count.new.self _ c.args.number _ c.in-Some.link.now new (g.N.Notes.told c.args.notes.now)
-    (g.N.Notes.told c.stopped.new.notes) c.in-Some.ensures.value (c.at.follows.holds new) c.count.ensures c.stopped.ensures
+    (g.N.Notes.told c.stopped.new.notes) c.in-Some.ensures.value (c.at.follows.holds new) c.count.ensures c.stopped.ensures.stops
 
 pub returns-clause-counts : goal.returns-clause-counts
 returns-clause-counts g c =

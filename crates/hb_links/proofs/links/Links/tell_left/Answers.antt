@@ -1,23 +1,34 @@
-use Rattle.std.proofs.Common.{ℕ, Option, Some, None, refl, ap, sym, subst}
+use Rattle.std.proofs.Common.{rules, ◌≡◌, ℕ, Option, None, refl, sym, subst}
+use Rattle.std.specs.FinMap.{get}
 use Rattle.hb_links.specs.Stirring.{Hears}
-use Rattle.hb_links.proofs.Hearing.{gone_hears, over_hears, up_hears}
+use Rattle.hb_links.proofs.Hearing.{gone_hears, own_hears, none_hears, some_hears}
 use Rattle.hb_links.proofs.links.Links.tell_left.Goals as goal
 
-pub returns-in_err-link-clause-hears : goal.returns-in_err-link-clause-hears
-returns-in_err-link-clause-hears c =
-    let over = record c.args.self.now { stirs = None } in
-    subst (λ (o : Option ℕ). Hears o c.args.self.now over) (sym c.from_residual-in_err-link.ensures)
-    (gone_hears c.args.self.now over c.in_ok-family.family (c.in_ok-family.was {u = tt}) refl (sym (c.in_err-link.ensures {u = tt})))
+pub returns-then-is_none-clause-hears : goal.returns-then-is_none-clause-hears
+returns-then-is_none-clause-hears c =
+    let none : get c.args.self.now.links c.in_ok-family.family.link ≡ None = search rules in
+    gone_hears c.args.self.now c.in_ok-family.family (c.in_ok-family.was {u = tt}) none
 
-pub returns-in_err-stream-clause-hears : goal.returns-in_err-stream-clause-hears
-returns-in_err-stream-clause-hears c =
-    let over = record c.args.self.now { stirs = None } in
-    subst (λ (o : Option ℕ). Hears o c.args.self.now over) (sym c.from_residual-in_err-stream.ensures)
-    (over_hears c.args.self.now over c.in_ok-family.family c.in_ok-link.link.now c.in-Some.from (c.in_ok-family.was {u = tt}) refl
-    (sym (c.in_ok-link.ensures {u = tt})) c.in-Some.is (c.in_err-stream.ensures {u = tt}))
+pub returns-then-family-clause-hears : goal.returns-then-family-clause-hears
+returns-then-family-clause-hears c = own_hears c.args.self.now c.in_ok-family.family (c.in_ok-family.was {u = tt})
 
-pub returns-in-Some-checked_add-clause-hears : goal.returns-in-Some-checked_add-clause-hears
-returns-in-Some-checked_add-clause-hears c =
-    up_hears c.args.self.now _ c.in_ok-family.family c.in_ok-link.link.now c.in-Some.from (c.in_ok-stream.stream, c.in_ok-stream.up)
-    (c.in_ok-family.was {u = tt}) refl (sym (c.in_ok-link.ensures {u = tt})) c.in-Some.is (c.in_ok-stream.ensures {u = tt})
-    (ap (λ (n : ℕ). record { link = c.in_ok-family.family.link; next = Some n }) (c.in-Some-checked_add.ensures {u = tt}).1)
+pub returns-in_err-up-clause-hears : goal.returns-in_err-up-clause-hears
+returns-in_err-up-clause-hears c =
+    subst (λ (o : Option ℕ). Hears o c.args.self.now c.tell_up.new.self) (sym c.from_residual-in_err-up.ensures)
+    (none_hears c.args.self.now c.tell_up.new.self c.in_ok-family.family (c.in_ok-family.was {u = tt}) c.if-family.false _ refl
+    (c.in_err-up.ensures {u = tt})).0
+
+pub returns-in_err-up-clause-same : goal.returns-in_err-up-clause-same
+returns-in_err-up-clause-same c =
+    (none_hears c.args.self.now c.tell_up.new.self c.in_ok-family.family (c.in_ok-family.was {u = tt}) c.if-family.false _ refl
+    (c.in_err-up.ensures {u = tt})).1
+
+pub returns-clause-hears : goal.returns-clause-hears
+returns-clause-hears c =
+    (some_hears c.args.self.now c.tell_up.new.self c.in_ok-family.family (c.in_ok-family.was {u = tt}) c.if-family.false c.in_ok-up.up _
+    refl (c.in_ok-up.ensures {u = tt})).0
+
+pub returns-clause-same : goal.returns-clause-same
+returns-clause-same c =
+    (some_hears c.args.self.now c.tell_up.new.self c.in_ok-family.family (c.in_ok-family.was {u = tt}) c.if-family.false c.in_ok-up.up _
+    refl (c.in_ok-up.ensures {u = tt})).1

@@ -16,7 +16,7 @@ returns-in-Some-at-clause-meets g c =
     let new = c.up_bytes.new.self in
     let found : get k.ups n ≡ Some at = search rules in
     up_takes _ k c.touch.new.self _ n c.args.b.now at c.in-Some-at.link.now new (g.N.Notes.told c.args.notes.now) c.args.held.now
-    (others_of k n) c.args.limit c.touch.ensures (c.at.follows.holds new) found c.in-Some-at.ensures.value (c.up_bytes.ensures n)
+    (others_of k n) c.args.limit c.touch.ensures (c.at.follows.holds new) found c.in-Some-at.ensures.value (c.up_bytes.ensures.enters n)
 
 pub returns-in_ok-take_bytes-in-None-clause-meets : goal.returns-in_ok-take_bytes-in-None-clause-meets
 returns-in_ok-take_bytes-in-None-clause-meets g c =
@@ -28,7 +28,7 @@ returns-in_ok-take_bytes-in-None-clause-meets g c =
     let is : c.other_places-others.result ≡ min (others_of k n) (2 ^ 64 - 1) =
     c.other_places-others.ensures ∙ ap (λ (own : ℕ). min (k.taken - own) (2 ^ 64 - 1)) c.places_at-before-in-None.ensures in
     let takes = subst (λ (o : ℕ). calls.Takes c.args.held.now o c.args.limit c.args.b.now c.in-Some-at-2.link.now
-    (g.N.Notes.told c.args.notes.now) new (g.N.Notes.told c.take_bytes.new.notes)) is c.in_ok-take_bytes-in-None.ensures in
+    (g.N.Notes.told c.args.notes.now) new (g.N.Notes.told c.take_bytes.new.notes)) is c.in_ok-take_bytes-in-None.ensures.takes in
     own_takes _ k c.touch-in-None.new.self _ n c.args.b.now c.in-Some-at-2.link.now new (g.N.Notes.told c.args.notes.now)
     (g.N.Notes.told c.take_bytes.new.notes) c.args.held.now (others_of k n) c.args.limit c.touch-in-None.ensures
     (c.at-in-None.follows.holds new) none c.in-Some-at-2.ensures.value (takes_all c.args.held.now (others_of k n) c.args.limit
@@ -36,7 +36,8 @@ returns-in_ok-take_bytes-in-None-clause-meets g c =
 
 pub returns-in-Some-at-clause-stirs : goal.returns-in-Some-at-clause-stirs
 returns-in-Some-at-clause-stirs g c =
-    told_stirs _ c.args.self.now c.touch.new.self _ c.in-Some.place.link c.up_bytes.new.self c.touch.ensures (c.at.follows.holds c.up_bytes.new.self)
+    told_stirs _ c.args.self.now c.touch.new.self _ c.in-Some.place.link c.in-Some-at.link.now c.up_bytes.new.self c.touch.ensures
+    (c.at.follows.holds c.up_bytes.new.self) c.in-Some-at.ensures.value c.up_bytes.ensures.rouses
 
 pub returns-in-Some-at-clause-counts : goal.returns-in-Some-at-clause-counts
 returns-in-Some-at-clause-counts g c =
@@ -45,7 +46,8 @@ returns-in-Some-at-clause-counts g c =
 
 pub returns-in_ok-take_bytes-in-None-clause-stirs : goal.returns-in_ok-take_bytes-in-None-clause-stirs
 returns-in_ok-take_bytes-in-None-clause-stirs g c =
-    told_stirs _ c.args.self.now c.touch-in-None.new.self _ c.args.number c.take_bytes.new.self c.touch-in-None.ensures (c.at-in-None.follows.holds c.take_bytes.new.self)
+    told_stirs _ c.args.self.now c.touch-in-None.new.self _ c.args.number c.in-Some-at-2.link.now c.take_bytes.new.self c.touch-in-None.ensures
+    (c.at-in-None.follows.holds c.take_bytes.new.self) c.in-Some-at-2.ensures.value c.in_ok-take_bytes-in-None.ensures.rouses
 
 pub returns-in_ok-take_bytes-in-None-clause-counts : goal.returns-in_ok-take_bytes-in-None-clause-counts
 returns-in_ok-take_bytes-in-None-clause-counts g c =

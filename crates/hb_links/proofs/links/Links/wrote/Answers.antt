@@ -15,7 +15,7 @@ returns-in-Some-at-clause-meets g c = λ bytes size.
     let found : get k.ups n ≡ Some at = search rules in
     up_told _ k c.touch.new.self _ n (e.Went n bytes) at c.in-Some-at.link.now new (g.N.Notes.told c.args.notes.now)
     (g.N.Notes.told c.up_wrote.new.notes) c.touch.ensures (c.at.follows.holds new) found c.in-Some-at.ensures.value (λ u. refl)
-    (c.up_wrote.ensures n bytes size)
+    (c.up_wrote.ensures.goes n bytes size)
 
 pub returns-in-Some-at-2-clause-meets : goal.returns-in-Some-at-2-clause-meets
 returns-in-Some-at-2-clause-meets g c = λ bytes size.
@@ -25,11 +25,12 @@ returns-in-Some-at-2-clause-meets g c = λ bytes size.
     let none : get k.ups n ≡ None = search rules in
     own_told _ k c.touch-in-None.new.self _ n (λ i. e.Went i bytes) c.in-Some-at-2.link.now new (g.N.Notes.told c.args.notes.now)
     (g.N.Notes.told c.wrote.new.notes) c.touch-in-None.ensures (c.at-in-None.follows.holds new) none c.in-Some-at-2.ensures.value
-    (c.wrote.ensures bytes size)
+    (c.wrote.ensures.goes bytes size)
 
 pub returns-in-Some-at-clause-stirs : goal.returns-in-Some-at-clause-stirs
 returns-in-Some-at-clause-stirs g c =
-    told_stirs _ c.args.self.now c.touch.new.self _ c.in-Some.place.link c.up_wrote.new.self c.touch.ensures (c.at.follows.holds c.up_wrote.new.self)
+    told_stirs _ c.args.self.now c.touch.new.self _ c.in-Some.place.link c.in-Some-at.link.now c.up_wrote.new.self c.touch.ensures
+    (c.at.follows.holds c.up_wrote.new.self) c.in-Some-at.ensures.value c.up_wrote.ensures.rouses
 
 pub returns-in-Some-at-clause-counts : goal.returns-in-Some-at-clause-counts
 returns-in-Some-at-clause-counts g c =
@@ -38,7 +39,8 @@ returns-in-Some-at-clause-counts g c =
 
 pub returns-in-Some-at-2-clause-stirs : goal.returns-in-Some-at-2-clause-stirs
 returns-in-Some-at-2-clause-stirs g c =
-    told_stirs _ c.args.self.now c.touch-in-None.new.self _ c.args.number c.wrote.new.self c.touch-in-None.ensures (c.at-in-None.follows.holds c.wrote.new.self)
+    told_stirs _ c.args.self.now c.touch-in-None.new.self _ c.args.number c.in-Some-at-2.link.now c.wrote.new.self c.touch-in-None.ensures
+    (c.at-in-None.follows.holds c.wrote.new.self) c.in-Some-at-2.ensures.value c.wrote.ensures.rouses
 
 pub returns-in-Some-at-2-clause-counts : goal.returns-in-Some-at-2-clause-counts
 returns-in-Some-at-2-clause-counts g c =
