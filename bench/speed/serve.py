@@ -1,16 +1,16 @@
 #!/usr/bin/python3
-"""What `hbone serve` costs over real sockets, in microseconds of processor time, of its own and of the system's together. Beside it, where
-they are to be had: a proxy on the crates h2 and tokio (h2_proxy/, of Debian's librust-h2-dev and librust-tokio-dev, built by cargo), with one
-thread and windows of 65,535 octets; and haproxy, which relays TCP behind the same header, without HTTP/2.
+"""What `hbone serve` costs over real sockets, in microseconds of processor time, of its own and of the system's together. Beside it,
+where they are to be had: a proxy on the crates h2 and tokio (h2_proxy/, of Debian's librust-h2-dev and librust-tokio-dev, built by
+cargo), with one thread and windows of 65,535 octets; and haproxy, which relays TCP behind the same header, without HTTP/2.
 
 usage: bench/speed/run serve [PROGRAM]      (crates/hbone/out/hbone, which the gate leaves)
 
-Prints the middle one of three rounds, each proxy on a processor of its own and the rest on the others: a MB up and down on one stream and on
-eight of one connection, in DATA frames of 16,384 octets, where the client grants what it took; an echo of 64 octets on one tunnel, on 32 of
-one connection that ask at once, and on one beside 4,095 idle ones on 41 connections; a connection with its header, tunnel, an octet each way
-and its end, one at a time and 16 at a time; a tunnel of one connection likewise, 32 at a time; and a second in which nothing comes. The client
-and the upstreams are in Python, and slower than the proxies: these wait in between, so under a heavier load each unit costs less. Needs what
-bench/peers/run needs.
+Prints the middle one of three rounds, each proxy on a processor of its own and the rest on the others: a MB up and down on one stream
+and on eight of one connection, in DATA frames of 16,384 octets, where the client grants what it took; an echo of 64 octets on one
+tunnel, on 32 of one connection that ask at once, and on one beside 4,095 idle ones on 41 connections; a connection with its header,
+tunnel, an octet each way and its end, one at a time and 16 at a time; a tunnel of one connection likewise, 32 at a time; and a second
+in which nothing comes. The client and the upstreams are in Python, and slower than the proxies: these wait in between, so under a
+heavier load each unit costs less. Needs what bench/peers/run needs.
 """
 
 import os
