@@ -5,3 +5,4 @@ pub mod StandingLemmas
 pub mod DoorLemmas
 pub mod WaitLemmas
 pub mod AllowedLemmas
+pub mod HoldsLemmas

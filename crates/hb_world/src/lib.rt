@@ -12,10 +12,10 @@ mod links;
 mod named;
 mod ready;
 mod script_link;
-mod script_run;
 mod script_world;
 mod trace;
 mod turn;
+mod waits;
 mod world;
 
 pub use act::Act;

@@ -1,11 +1,10 @@
-use Rattle.std.proofs.Common.{subst, sym}
-use Rattle.hb_world.specs.Allowed.{Allowed}
-use Rattle.hb_world.specs.WorldState.{ScriptState}
-use Rattle.hb_world.proofs.AllowedLemmas.{allowed-shut}
+use Rattle.std.proofs.Common.{List, drop, sym, subst}
+use Rattle.hb_world.specs.declared.entry.Entry.{Entry}
+use Rattle.hb_world.proofs.HoldsLemmas.{Holds, holds-shut}
 use Rattle.hb_world.proofs.script_world.ScriptWorldWorld.shut.Goals as goal
 
 pub invariant_of-self : goal.invariant_of-self
 invariant_of-self c =
-    let w = c.self.inside.run in
-    subst (λ (v : ScriptState). Allowed v.lines v.trace) (sym c.shut_link.ensures)
-    (allowed-shut w.lines w.trace c.args.link c.self.invariant)
+    let i = c.self.inside in
+    subst (λ (t : List Entry). Holds i.lines t i.next i.links i.doors i.failing (drop i.told i.named.items) i.listened) (sym c.shut.ensures)
+    (holds-shut i.lines i.trace _ _ _ _ _ _ c.args.link c.self.invariant)

@@ -1,12 +1,8 @@
-use Rattle.std.proofs.Common.{subst, sym}
-use Rattle.hb_world.specs.Allowed.{Allowed}
-use Rattle.hb_world.specs.WorldState.{ScriptState}
-use Rattle.hb_world.proofs.AllowedLemmas.{allowed-write}
+use Rattle.std.proofs.Common.{rules, sym, length}
 use Rattle.hb_world.proofs.script_world.ScriptWorldWorld.write.Goals as goal
 
-pub invariant_of-self : goal.invariant_of-self
-invariant_of-self c =
-    let w = c.self.inside.run in
-    subst (λ (v : ScriptState). Allowed v.lines v.trace) (sym c.write_link.ensures.after)
-    (allowed-write w.lines w.trace c.args.link _ c.args.from.now c.write_link.result c.write_link.ensures.answer
-    c.write_link.ensures.within c.self.invariant)
+pub write_nothing-requires-clause-said : goal.write_nothing-requires-clause-said
+write_nothing-requires-clause-said c = (length c.args.from.now, sym c.write_said.ensures)
+
+pub write_bytes-requires-clause-said : goal.write_bytes-requires-clause-said
+write_bytes-requires-clause-said c = (length c.args.from.now, search rules)

@@ -1,5 +1,5 @@
 use Rattle.std.proofs.Common.{◌≡◌, take}
-use Rattle.hb_world.proofs.script_run.copy_items.Given as goal
+use Rattle.hb_world.proofs.waits.copy_items.Given as goal
 
 abbrev pub invariant-loop-item : goal.invariant-loop-item
 invariant-loop-item l = l.copy ≡ take l.item-index l.items

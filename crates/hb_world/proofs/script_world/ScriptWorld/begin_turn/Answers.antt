@@ -1,5 +1,6 @@
 use Rattle.std.proofs.Common.{rules, ◌≡◌, ℕ, ◌+◌, ◌≤◌, length, List, ◌++◌, drop, take, ap, ap₂, ◌∙◌, sym, subst}
 use Rattle.std.specs.List.{fold, list_any}
+use Rattle.hb_world.specs.Allowed.{Allowed}
 use Rattle.hb_world.specs.Calls.{wait_entries}
 use Rattle.hb_world.specs.DoorState.{door_at}
 use Rattle.hb_world.specs.LinkState.{LinkState}
@@ -12,8 +13,9 @@ use Rattle.hb_world.specs.declared.entry.Entry.{Entry}
 use Rattle.hb_world.specs.declared.entry.ReadyItem.{ReadyItem}
 use Rattle.hb_world.specs.declared.line.Line.{Line}
 use Rattle.hb_world.specs.declared.world.Waited.{Waited}
+use Rattle.hb_world.proofs.AllowedLemmas.{allowed-turn}
 use Rattle.hb_world.proofs.WaitLemmas.{standing-trace, turn-within, turn-take, keeps-turned, keeps-wait, kept-behind, told-now, leaves, waits-unheard}
-use Rattle.hb_world.proofs.script_run.ScriptRun.begin_turn.Goals as goal
+use Rattle.hb_world.proofs.script_world.ScriptWorld.begin_turn.Goals as goal
 
 abbrev kept : LinkScript → List (List ℕ) → LinkState
 kept said coming = record { said = said; coming = coming }
@@ -48,6 +50,9 @@ invariant_of-self-2 c =
     c.in-Ok.ensures ∙ ap (λ (t : List Line). ready_in t i.trace) turn in
     let added : c.add_wait.new.trace ≡ i.trace ++ wait_entries c.in-Ok-copy_items.told
     (waited_for c.turn_end-woken.result) = search rules in
+    let told : c.in-Ok-copy_items.told ≡ take 1024 (ready_in (turn_of s.coming) i.trace) =
+    c.in-Ok-copy_items.ensures ∙ c.split_at-3.ensures.front ∙ told-now c.as_slice-items.result.now c.min.result c.min.ensures
+    ∙ ap (λ (xs : List ReadyItem). take 1024 xs) (c.as_slice-items.ensures.value ∙ named) in
     let dropped : drop c.turn_len-count.result c.split_at.result.1.now ≡ drop (length (turn_of s.coming)) s.coming =
     ap₂ (λ (n : ℕ) (ls : List Line). drop n ls) count coming in
     let none : length s.rest ≡ 0 =
@@ -80,6 +85,8 @@ invariant_of-self-2 c =
       c.self.invariant.1
           ∙ sym (ap (λ (t : List Entry). list_any is_listen t) added
           ∙ waits-unheard i.trace c.in-Ok-copy_items.told c.turn_end-woken.result),
+      subst (λ (t : List Entry). Allowed i.lines t) (sym added)
+          (allowed-turn i.lines i.trace c.in-Ok-copy_items.told c.turn_end-woken.result none woken told c.self.invariant.2),
     )
 
 pub returns-clause-items : goal.returns-clause-items
