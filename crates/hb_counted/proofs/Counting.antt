@@ -74,20 +74,21 @@ never = never_below (2 ^ 32)
 
 -- ALL CLASSES
 
-abbrev counts : (places marked due puts : ℕ) → Counts
-counts places marked due puts = record { places = places; marked = marked; due = due; puts = puts }
+abbrev counts : (places marked due puts ends : ℕ) → Counts
+counts places marked due puts ends = record { places = places; marked = marked; due = due; puts = puts; ends = ends }
 
-four : (a b c d e f g h : ℕ) → a ≡ e → b ≡ f → c ≡ g → d ≡ h → counts a b c d ≡ counts e f g h
-four a b c d e f g h places marked due puts =
-    ap (λ (n : ℕ). counts n b c d) places ∙ ap (λ (n : ℕ). counts e n c d) marked ∙ ap (λ (n : ℕ). counts e f n d) due
-    ∙ ap (λ (n : ℕ). counts e f g n) puts
+five : (a b c d e f g h i j : ℕ) → a ≡ f → b ≡ g → c ≡ h → d ≡ i → e ≡ j → counts a b c d e ≡ counts f g h i j
+five a b c d e f g h i j places marked due puts ends =
+    ap (λ (n : ℕ). counts n b c d e) places ∙ ap (λ (n : ℕ). counts f n c d e) marked ∙ ap (λ (n : ℕ). counts f g n d e) due
+    ∙ ap (λ (n : ℕ). counts f g h n e) puts ∙ ap (λ (n : ℕ). counts f g h i n) ends
 
 pub counts_same : (at other : ℕ → Classes) → ((q : ℕ) → at q ≡ other q) → counts_by at ≡ counts_by other
-counts_same at other alike = four _ _ _ _ _ _ _ _
+counts_same at other alike = five _ _ _ _ _ _ _ _ _ _
     (same (λ q. (at q).place) (λ q. (other q).place) (λ q. ap (λ (c : Classes). c.place) (alike q)))
     (same (λ q. (at q).marked) (λ q. (other q).marked) (λ q. ap (λ (c : Classes). c.marked) (alike q)))
     (same (λ q. (at q).due) (λ q. (other q).due) (λ q. ap (λ (c : Classes). c.due) (alike q)))
     (same (λ q. (at q).puts) (λ q. (other q).puts) (λ q. ap (λ (c : Classes). c.puts) (alike q)))
+    (same (λ q. (at q).ends) (λ q. (other q).ends) (λ q. ap (λ (c : Classes). c.ends) (alike q)))
 
 pub allows_all : (at : ℕ → Classes) (k : ℕ) → k < 2 ^ 32 → AllowsAll (counts_by at) (at k)
 allows_all at k fits = record {
@@ -95,19 +96,21 @@ allows_all at k fits = record {
   marked = allows (λ q. (at q).marked) k fits;
   due = allows (λ q. (at q).due) k fits;
   puts = allows (λ q. (at q).puts) k fits;
+  ends = allows (λ q. (at q).ends) k fits;
 }
 
 -- where the classes of one number become others, its counts move
 pub counts_moved : (at other : ℕ → Classes) (k : ℕ) → k < 2 ^ 32 → ((q : ℕ) → q ≢ k → at q ≡ other q)
     → moved (counts_by at) (at k) (other k) ≡ counts_by other
-counts_moved at other k fits alike = four _ _ _ _ _ _ _ _
+counts_moved at other k fits alike = five _ _ _ _ _ _ _ _ _ _
     (shifts (λ q. (at q).place) (λ q. (other q).place) k fits (λ q apart. ap (λ (c : Classes). c.place) (alike q apart)))
     (shifts (λ q. (at q).marked) (λ q. (other q).marked) k fits (λ q apart. ap (λ (c : Classes). c.marked) (alike q apart)))
     (shifts (λ q. (at q).due) (λ q. (other q).due) k fits (λ q apart. ap (λ (c : Classes). c.due) (alike q apart)))
     (shifts (λ q. (at q).puts) (λ q. (other q).puts) k fits (λ q apart. ap (λ (c : Classes). c.puts) (alike q apart)))
+    (shifts (λ q. (at q).ends) (λ q. (other q).ends) k fits (λ q apart. ap (λ (c : Classes). c.ends) (alike q apart)))
 
 pub counts_never : counts_by (λ q. in_none) ≡ of_none
-counts_never = four _ _ _ _ _ _ _ _ never never never never
+counts_never = five _ _ _ _ _ _ _ _ _ _ never never never never never
 
 -- where none is counted, none is in the class
 pub none_is : (test : ℕ → Bool) (k : ℕ) → k < 2 ^ 32 → how_many test ≡ 0 → test k ≡ false

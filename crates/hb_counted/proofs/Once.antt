@@ -39,7 +39,7 @@ adds_one m n item fits none takes =
     omega (arith, after, one)
 
 abbrev example : Classes
-example = record { place = true; marked = false; due = false; puts = false }
+example = record { place = true; marked = false; due = false; puts = false; ends = false }
 
 pub not_none : CountsNone
 not_none all =

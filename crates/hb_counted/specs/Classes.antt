@@ -7,11 +7,11 @@ use Rattle.hb_counted.specs.declared.counts.Counts.{Counts}
 
 -- in none
 abbrev pub in_none : Classes
-in_none = record { place = false; marked = false; due = false; puts = false }
+in_none = record { place = false; marked = false; due = false; puts = false; ends = false }
 
 -- none in any
 abbrev pub of_none : Counts
-of_none = record { places = 0; marked = 0; due = 0; puts = 0 }
+of_none = record { places = 0; marked = 0; due = 0; puts = 0; ends = 0 }
 
 -- one, or none
 abbrev pub one_if : Bool → ℕ
@@ -32,6 +32,7 @@ counts_by at = record {
   marked = how_many (λ n. (at n).marked);
   due = how_many (λ n. (at n).due);
   puts = how_many (λ n. (at n).puts);
+  ends = how_many (λ n. (at n).ends);
 }
 
 module _ {T : Type 0} (classes : T → Classes) where
@@ -56,6 +57,7 @@ moved counts was is = record {
   marked = shift counts.marked was.marked is.marked;
   due = shift counts.due was.due is.due;
   puts = shift counts.puts was.puts is.puts;
+  ends = shift counts.ends was.ends is.ends;
 }
 
 -- a value that was in the class is counted, and no more than all numbers are
@@ -67,3 +69,4 @@ pub record AllowsAll (counts : Counts) (was : Classes) : Type 0 where
   pub marked : Allows counts.marked was.marked
   pub due : Allows counts.due was.due
   pub puts : Allows counts.puts was.puts
+  pub ends : Allows counts.ends was.ends

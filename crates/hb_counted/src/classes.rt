@@ -14,6 +14,8 @@ pub struct Classes {
     pub due: bool,
     /// It may have something to be put.
     pub puts: bool,
+    /// Its end may follow.
+    pub ends: bool,
 }
 
 impl Classes {
@@ -26,6 +28,7 @@ impl Classes {
             marked: false,
             due: false,
             puts: false,
+            ends: false,
         }
     }
 }

@@ -12,6 +12,7 @@ pub struct Counts {
     pub marked: usize,
     pub due: usize,
     pub puts: usize,
+    pub ends: usize,
 }
 
 /// The count of a class in which one value was or was not, and now is or is not.
@@ -33,6 +34,7 @@ impl Counts {
             marked: 0,
             due: 0,
             puts: 0,
+            ends: 0,
         }
     }
 
@@ -46,6 +48,7 @@ impl Counts {
             marked: shifted(self.marked, was.marked, is.marked),
             due: shifted(self.due, was.due, is.due),
             puts: shifted(self.puts, was.puts, is.puts),
+            ends: shifted(self.ends, was.ends, is.ends),
         }
     }
 }

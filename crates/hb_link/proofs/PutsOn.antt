@@ -208,6 +208,19 @@ module _ (k : Link) where
     below = λ j low less. absurd (omega (arith, low, less));
   }
 
+  -- what may be put of one stream, where it is known of none
+  pub puts_somewhere : (s : ℕ) (n : Link) (told now : Told) → AlwaysSettles (PutsBelow s s) (PutsBelow s (s + 1)) k told n now
+      → AlwaysSettles (PutsBelow 0 0) (PutsBelow 0 0) k told n now
+  puts_somewhere s n told now one others limit =
+      settles_then others limit (λ held. ⊤) (PutsBelow 0 0) (PutsBelow s s) (PutsBelow 0 0) k k n told told now
+      (stays others limit (λ held. ⊤) (PutsBelow 0 0) (PutsBelow s s) k told (anew 0 0 s))
+      (settles_then others limit (λ held. ⊤) (PutsBelow s s) (PutsBelow s (s + 1)) (PutsBelow 0 0) k n n told now now (one others limit)
+      (stays others limit (λ held. ⊤) (PutsBelow s (s + 1)) (PutsBelow 0 0) n now (λ x below. record {
+        may = below.may;
+        serves = below.serves;
+        below = λ j low less. absurd (omega (arith, low, less));
+      })))
+
   pub ends : (x : Inbound) → PutsBelow 0 (place_of None) k x → Shows k x
   ends x below = shows_calm k x below.may.agrees (record {
     answered = below.may.answered;

@@ -1,5 +1,5 @@
 -- Tunnels of whose upstreams no more may be read behind a change, nor is more to be written.
-use Rattle.std.proofs.Common.{◌≡◌, inl, inr, ◌==◌, ◌-◌, ◌+◌, ℕ, zero, suc, Bool, true, false, cond, List, [], ◌++◌, drop, length, Option, Some, None, refl, ap, sym, subst, arith, length-append}
+use Rattle.std.proofs.Common.{◌≡◌, inl, inr, ◌==◌, ◌-◌, ℕ, zero, suc, Bool, true, false, cond, List, [], ◌++◌, drop, length, Option, Some, None, refl, ap, sym, subst, arith, length-append}
 use Rattle.std.proofs.lemmas.Bool.{cases_eq}
 use Rattle.std.specs.FinMap.{get, insert, remove}
 use Rattle.std.specs.Option.{option_map}

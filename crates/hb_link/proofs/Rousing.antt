@@ -1,5 +1,5 @@
 -- Which upstreams of a link are roused behind a change.
-use Rattle.std.proofs.Common.{◌≡◌, ◌≢◌, ◌⊎◌, inl, inr, ⊎_elim, ◌+◌, ℕ, zero, suc, true, List, ◌++◌, Option, Some, None, refl, ap, sym, ◌∙◌, subst, arith}
+use Rattle.std.proofs.Common.{◌≡◌, ◌≢◌, ◌⊎◌, inl, inr, ⊎_elim, ℕ, zero, suc, true, List, ◌++◌, Option, Some, None, refl, ap, sym, ◌∙◌, subst, arith}
 use Rattle.std.proofs.lemmas.Bool.{cases_eq, ne_eqb}
 use Rattle.std.specs.FinMap.{get, insert}
 use Rattle.hb_base.specs.declared.cause.Cause.{Cause}
@@ -14,7 +14,6 @@ use Rattle.hb_link.specs.declared.hearing.Heard.TheVariants.{Data}
 use Rattle.hb_link.specs.declared.link.Link.{Link}
 use Rattle.hb_link.specs.declared.phase.Phase.{Phase}
 use Rattle.hb_link.specs.declared.roused.Roused.{Roused}
-use Rattle.hb_link.specs.declared.tunnel.Stage.TheVariants.{Ended}
 use Rattle.hb_link.specs.declared.tunnel.Tunnel.{Tunnel}
 use Rattle.hb_link.specs.Fronting.{Fronts, TakesFront}
 use Rattle.hb_link.specs.Looking.{came_here, up_ended_here, left_at, heard_of, tunnels_heard}

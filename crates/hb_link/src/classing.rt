@@ -1,19 +1,25 @@
 //! In which classes a tunnel is counted.
 
 ghost use Rattle.std.specs.Prelude.{◌≡◌};
-ghost use Rattle.hb_link.specs.Classing.{may_go};
+ghost use Rattle.hb_link.specs.Classing.{may_go, end_may_go};
 
 use crate::tunnel::{Stage, Tunnel};
 use hb_counted::{Classed, Classes};
 use hb_tunnel::DOWN_SIZE;
 
 impl Tunnel {
+    /// While it lives END_STREAM may be put, or it may be over, as far as it alone tells.
+    fn end_may_go(&self) -> bool
+        ensures { result ≡ end_may_go self.now }
+    {
+        self.ways.down_done() && (!self.end_put || self.ways.done())
+    }
+
     /// While it lives something may be put of it, as far as it alone tells.
     fn may_go(&self) -> bool
         ensures { result ≡ may_go self.now }
     {
-        let waits = self.ways.room_down() < DOWN_SIZE;
-        waits || (self.ways.down_done() && (!self.end_put || self.ways.done()))
+        self.ways.room_down() < DOWN_SIZE || self.end_may_go()
     }
 }
 
@@ -38,6 +44,7 @@ impl Classed for Tunnel {
                 place: true,
                 due: self.may_shut(),
                 puts: self.may_go(),
+                ends: self.end_may_go(),
                 ..none
             },
             Stage::Failed(_) | Stage::Ended(_) => Classes {

@@ -97,8 +97,19 @@ impl Link {
         }
     }
 
+    /// What may be put of the tunnel that bytes were put of last, where one alone may have something to put: it is mostly that one.
+    fn put_again<N: Notes>(&mut self, notes: &mut N)
+        ensures settles { AlwaysSettles (PutsBelow 0 0) (PutsBelow 0 0) self.old (N.told notes.old) self.new (N.told notes.new) }
+        ensures rouses { Rouses self.old self.new }
+    {
+        if self.tunnels.counts().puts == 1 {
+            let last = self.turn.last();
+            self.put_on(last, notes);
+        }
+    }
+
     /// What may be put of each tunnel behind the one that bytes were put of last, by rising stream, until something waits to be written.
-    fn put_in_turn<N: Notes>(&mut self, notes: &mut N)
+    fn put_behind<N: Notes>(&mut self, notes: &mut N)
         ensures settles { AlwaysSettles (PutsBelow 0 0) (PutsBelow 0 0) self.old (N.told notes.old) self.new (N.told notes.new) }
         ensures rouses { Rouses self.old self.new }
     {
@@ -112,8 +123,18 @@ impl Link {
         }
     }
 
+    /// Bytes of one tunnel, or END_STREAMs, by turns, where any may go.
+    fn put_in_turn<N: Notes>(&mut self, notes: &mut N)
+        ensures settles { AlwaysSettles (PutsBelow 0 0) (PutsBelow 0 0) self.old (N.told notes.old) self.new (N.told notes.new) }
+        ensures rouses { Rouses self.old self.new }
+    {
+        self.put_again(notes);
+        self.put_behind(notes);
+    }
+
     /// As many of the bytes that wait go in DATA as may, END_STREAM goes where it may, and a tunnel is over of which both sides ended
-    /// and all went through: by turns, and then by rising stream.
+    /// and all went through: by turns, and then by rising stream. Where something waits to be written by then, and no end may follow, no
+    /// tunnel needs another look.
     pub(crate) fn put_all<N: Notes>(&mut self, notes: &mut N)
         ensures settles { AlwaysSettles MayPut Shows self.old (N.told notes.old) self.new (N.told notes.new) }
         ensures rouses { Rouses self.old self.new }
@@ -125,6 +146,9 @@ impl Link {
             return;
         }
         self.put_in_turn(notes);
+        if !self.conn.output().is_empty() && self.tunnels.counts().ends == 0 {
+            return;
+        }
         let mut from = self.tunnels.first_from(0);
         while let Some(stream) = from {
             self.put_on(stream, notes);

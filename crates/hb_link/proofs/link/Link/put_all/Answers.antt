@@ -1,11 +1,12 @@
-use Rattle.std.proofs.Common.{rules, ◌≡◌, ◌+◌, true, false, refl, ap, sym, subst, ◌∙◌}
+use Rattle.std.proofs.Common.{rules, ◌≡◌, ◌<◌, ◌+◌, length, true, false, refl, ap, sym, subst, ◌∙◌}
 use Rattle.std.specs.Prelude.{⊤, ℕ, Option, None}
+use Rattle.hb_conn.specs.Observed.{output}
 use Rattle.hb_link.specs.Observed.{serves_in}
 use Rattle.hb_link.specs.Putting.{PutsBelow}
 use Rattle.hb_link.specs.Settling.{MayPut, AlwaysSettles}
 use Rattle.hb_link.specs.Shows.{Shows}
 use Rattle.hb_counted.specs.declared.counts.Counts.{Counts}
-use Rattle.hb_link.proofs.Idle.{none_puts}
+use Rattle.hb_link.proofs.Idle.{none_puts, none_ends}
 use Rattle.hb_link.proofs.Loads.{place_of}
 use Rattle.hb_link.proofs.PutsOn.{not_served, begins, advance, ends}
 use Rattle.hb_link.proofs.Settles.{settles_then, stays}
@@ -25,6 +26,22 @@ returns-then-counts-eq0-clause-settles g c = λ others limit.
     let none : c.counts.result.puts ≡ 0 = search rules in
     stays others limit (λ held. ⊤) MayPut Shows k (g.N.Notes.told c.args.notes.now)
     (none_puts k c.counts.ensures.numbers (sym (ap (λ (c : Counts). c.puts) c.counts.ensures.value) ∙ none) serves)
+
+pub returns-then-counts-eq0-2-clause-settles : goal.returns-then-counts-eq0-2-clause-settles
+returns-then-counts-eq0-2-clause-settles g c = λ others limit.
+    let k = c.args.self.now in
+    let mid = c.put_in_turn.new.self in
+    let told = g.N.Notes.told c.args.notes.now in
+    let before = g.N.Notes.told c.put_in_turn.new.notes in
+    let serves : serves_in k.phase ≡ true = search rules in
+    let waits : 0 < length (output mid.conn) = search rules in
+    let none : c.counts-then-not-is_empty.result.ends ≡ 0 = search rules in
+    settles_then others limit (λ held. ⊤) MayPut (PutsBelow 0 0) Shows k k mid told told before
+    (stays others limit (λ held. ⊤) MayPut (PutsBelow 0 0) k told (begins k serves))
+    (settles_then others limit (λ held. ⊤) (PutsBelow 0 0) (PutsBelow 0 0) Shows k mid mid told before before
+    (c.put_in_turn.ensures.settles others limit)
+    (stays others limit (λ held. ⊤) (PutsBelow 0 0) Shows mid before
+    (none_ends mid c.counts-then-not-is_empty.ensures.numbers (sym (ap (λ (c : Counts). c.ends) c.counts-then-not-is_empty.ensures.value) ∙ none) waits)))
 
 pub loop-from-init : goal.loop-from-init
 loop-from-init g c =

@@ -1,44 +1,15 @@
-use Rattle.std.proofs.Common.{◌+◌, refl}
 use Rattle.std.specs.Prelude.{⊤}
 use Rattle.hb_link.specs.Putting.{PutsBelow}
-use Rattle.hb_link.proofs.PutsOn.{anew}
-use Rattle.hb_link.proofs.Settles.{settles_then, stays}
-use Rattle.hb_link.proofs.Rousing.{rouses_same, rouses_then}
+use Rattle.hb_link.proofs.Settles.{settles_then}
+use Rattle.hb_link.proofs.Rousing.{rouses_then}
 use Rattle.hb_link.proofs.link.Link.put_in_turn.Goals as goal
 
-pub loop-from-init : goal.loop-from-init
-loop-from-init g c =
-    let k = c.args.self.now in (
-      λ others limit. stays others limit (λ held. ⊤) (PutsBelow 0 0) (PutsBelow 0 0) k (g.N.Notes.told c.args.notes.now) (λ x below. below),
-      rouses_same k k refl refl,
-    )
-
-pub loop-from-preserved : goal.loop-from-preserved
-loop-from-preserved g c =
-    let k = c.args.self.now in
-    let mid = c.loop-from.self in
-    let next = c.put_on.new.self in
-    let s = c.in-Some.stream in
-    let told = g.N.Notes.told c.args.notes.now in
-    let before = g.N.Notes.told c.loop-from.notes in
-    let behind = g.N.Notes.told c.put_on.new.notes in (
-      λ others limit. settles_then others limit (λ held. ⊤) (PutsBelow 0 0) (PutsBelow s s) (PutsBelow 0 0) k mid next told before behind
-          (settles_then others limit (λ held. ⊤) (PutsBelow 0 0) (PutsBelow 0 0) (PutsBelow s s) k mid mid told before before
-          (c.loop-from.invariant.0 others limit) (stays others limit (λ held. ⊤) (PutsBelow 0 0) (PutsBelow s s) mid before (anew mid 0 0 s)))
-          (settles_then others limit (λ held. ⊤) (PutsBelow s s) (PutsBelow s (s + 1)) (PutsBelow 0 0) mid next next before behind behind
-          (c.put_on.ensures.settles s others limit)
-          (stays others limit (λ held. ⊤) (PutsBelow s (s + 1)) (PutsBelow 0 0) next behind (anew next s (s + 1) 0))),
-      rouses_then k mid next c.loop-from.invariant.1 c.put_on.ensures.rouses,
-    )
-
-pub returns-then-not-is_empty-clause-settles : goal.returns-then-not-is_empty-clause-settles
-returns-then-not-is_empty-clause-settles g c = c.loop-from.invariant.0
-
 pub returns-clause-settles : goal.returns-clause-settles
-returns-clause-settles g c = c.loop-from.invariant.0
-
-pub returns-then-not-is_empty-clause-rouses : goal.returns-then-not-is_empty-clause-rouses
-returns-then-not-is_empty-clause-rouses g c = c.loop-from.invariant.1
+returns-clause-settles g c = λ others limit.
+    settles_then others limit (λ held. ⊤) (PutsBelow 0 0) (PutsBelow 0 0) (PutsBelow 0 0) c.args.self.now c.put_again.new.self
+    c.put_behind.new.self (g.N.Notes.told c.args.notes.now) (g.N.Notes.told c.put_again.new.notes) (g.N.Notes.told c.put_behind.new.notes)
+    (c.put_again.ensures.settles others limit) (c.put_behind.ensures.settles others limit)
 
 pub returns-clause-rouses : goal.returns-clause-rouses
-returns-clause-rouses g c = c.loop-from.invariant.1
+returns-clause-rouses g c =
+    rouses_then c.args.self.now c.put_again.new.self c.put_behind.new.self c.put_again.ensures.rouses c.put_behind.ensures.rouses

@@ -2,7 +2,7 @@ use Rattle.hb_link.specs.Putting.{PutsBelow}
 use Rattle.hb_link.specs.Rousing.{Rouses}
 use Rattle.hb_link.specs.Settling.{AlwaysSettles}
 use Rattle.hb_link.proofs.Loads.{left_from}
-use Rattle.hb_link.proofs.link.Link.put_in_turn.Given as goal
+use Rattle.hb_link.proofs.link.Link.put_behind.Given as goal
 
 -- more may be put, and upstreams were roused
 abbrev pub invariant-loop-from : goal.invariant-loop-from
