@@ -1,18 +1,24 @@
--- What no call of a link may be, and a link that may be shown.
-use Rattle.std.proofs.Common.{◌≡◌, ◌⊎◌, inl, inr, ℕ, ◌&&◌, not, nat_le, Bool, true, false, cond, Option, Some, None, is_ok, refl, ap, sym, ◌∙◌, arith}
+-- What no call of a link may be, a link that may be shown, and whether bytes may be put there.
+use Rattle.std.proofs.Common.{◌≡◌, ◌⊎◌, inl, inr, ℕ, ◌&&◌, not, nat_le, Bool, true, false, cond, Option, Some, None, is_ok, length, refl, ap, sym, ◌∙◌, subst, arith}
 use Rattle.std.proofs.lemmas.Bool.{false≢true, and_parts, not-true}
 use Rattle.std.specs.FinMap.{get}
-use Rattle.hb_conn.specs.Observed.{next_stream, room, own_side_open, count_put}
+use Rattle.hb_conn.specs.Connection.{Connection, fresh_client}
+use Rattle.hb_conn.specs.Observed.{next_stream, output, room, own_side_open, count_put}
 use Rattle.hb_gateway.specs.Calm as calm
 use Rattle.hb_gateway.specs.Calm.{is_failing}
 use Rattle.hb_gateway.specs.Gateway as m
 use Rattle.hb_gateway.specs.Gateway.{Gateway}
 use Rattle.hb_gateway.specs.Keys.{key_as}
 use Rattle.hb_gateway.specs.Response as r
-use Rattle.hb_gate.specs.Refused.{PutsWithoutRoom, AsksElsewhere, OffersAway, ReadsFaulted, ResetsNothing, TellsUnheard, LeavesUntold, ClosesUndue, ClosesAnother, NewIsShown}
-use Rattle.hb_gate.specs.Shows.{ShowsStream}
+use Rattle.hb_kept.specs.Kept.{IsKept}
+use Rattle.hb_kept.proofs.Kept.{new_is_kept}
+use Rattle.hb_streams.specs.declared.role.Role.TheVariants.{Client}
+use Rattle.hb_gate.specs.Refused.{PutsWithoutRoom, AsksElsewhere, OffersAway, ReadsFaulted, ResetsNothing, TellsUnheard, LeavesUntold, ClosesUndue, ClosesAnother, NewIsShown, IsOpenOn, PutsBehindOctets, KeepsBackBehindNone, PutsInTurn, open_on, all_written}
+use Rattle.hb_gate.specs.Phases.{phase_of}
+use Rattle.hb_gate.specs.Shows.{Shows, ShowsBy, ShowsStream}
+use Rattle.hb_gate.specs.declared.gate.Gate.{Gate}
 use Rattle.hb_gate.specs.declared.stream.Stream.{Stream}
-use Rattle.hb_gate.proofs.Dialled.{begins}
+use Rattle.hb_gate.proofs.Dialled.{begins, none_shown, none_numbered}
 
 pub puts_without_room : PutsWithoutRoom
 puts_without_room new s count bytes k x parts stands shows (carries, stage, none, some, puts) =
@@ -72,3 +78,51 @@ closes_another k new n why apart acts = apart acts.0
 
 pub new_is_shown : NewIsShown
 new_is_shown k phase front conn streams away = begins k.number (key_as k.key) k refl phase front conn streams away
+
+-- WHETHER BYTES MAY BE PUT
+
+pub written_kept : IsKept all_written
+written_kept =
+    let new = new_is_kept Client in
+    record { octets = new.octets; caught_up = λ some. new.caught_up (omega arith); preface = new.preface; goes_on = refl }
+
+-- a link that is open on a connection that is kept shows one of the machine, and of each that it shows the connection is that
+module _ (conn : Connection) (k : Gate) (is : IsOpenOn conn k) where
+  pub open_shown : IsKept conn → Shows k (open_on conn (key_as k.key))
+  open_shown kept = record {
+    key = refl;
+    phase = sym (ap phase_of is.phase);
+    way = (sym is.same, kept, sym is.front);
+    away = sym is.away;
+    streams = none_shown k.streams is.streams m.no_stream refl refl;
+    numbered = none_numbered k.streams is.streams;
+  }
+
+  pub conn_shown : (x : Gateway) → Shows k x → x.conn ≡ conn
+  conn_shown x shows =
+      (subst (λ (p : m.Phase). ShowsBy p k x) (shows.phase ∙ ap phase_of is.phase) shows.way).0 ∙ is.same
+
+some_waits : length (output fresh_client) ≡ 0 → ⊥
+some_waits none = omega (arith, none)
+
+pub puts_behind_octets : PutsBehindOctets
+puts_behind_octets k is says =
+    some_waits
+    ((says (open_on fresh_client (key_as k.key)) (open_shown fresh_client k is (new_is_kept Client)) refl).0 refl)
+
+pub keeps_back_behind_none : KeepsBackBehindNone
+keeps_back_behind_none k is says =
+    false≢true
+    ((says (open_on all_written (key_as k.key)) (open_shown all_written k is written_kept) refl).1 refl)
+
+pub puts_in_turn : PutsInTurn
+puts_in_turn = record {
+  waits = λ k is x shows carries. (
+    λ may. absurd (false≢true may),
+    λ none. absurd (some_waits (ap (λ (c : Connection). length (output c)) (sym (conn_shown fresh_client k is x shows)) ∙ none)),
+  );
+  written = λ k is x shows carries. (
+    λ may. ap (λ (c : Connection). length (output c)) (conn_shown all_written k is x shows),
+    λ none. refl,
+  );
+}
