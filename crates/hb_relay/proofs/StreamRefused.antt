@@ -1,10 +1,12 @@
--- What may not come on a link's stream, and links that are shown there.
-use Rattle.std.proofs.Common.{◌≡◌, ℕ, ◌<◌, ◌≤◌, ◌-◌, ◌^◌, List, [], length, Option, Some, None, IsSome, refl, ap, sym, ◌∙◌, arith, length-append}
+-- What may not come on a link's stream, links that are shown there, and whether bytes wait there.
+use Rattle.std.proofs.Common.{◌≡◌, ℕ, ◌<◌, ◌≤◌, ◌-◌, ◌^◌, List, [], ◌∷◌, length, Option, Some, None, IsSome, refl, ap, sym, ◌∙◌, arith, length-append}
 use Rattle.std.proofs.lemmas.Bool.{false≢true}
 use Rattle.hb_gateway.specs.Key.{Key}
 use Rattle.hb_captured.specs.Captured as m
 use Rattle.hb_captured.specs.Runs.{AreFirst, counted}
-use Rattle.hb_relay.specs.StreamRefused.{AsksUnwanted, LacksUnwanted, AsksTwice, HearsUnasked, BringsEarly, PutsOther, FinishesEarly, CreditsMore, CompletesEarly, StreamIsShown, by_gateway, lives_there, done_there}
+use Rattle.hb_relay.specs.StreamRefused.{AsksUnwanted, LacksUnwanted, AsksTwice, HearsUnasked, BringsEarly, PutsOther, FinishesEarly, CreditsMore, CompletesEarly, StreamIsShown, HoldsThere, FindsBytesInNone, MissesByte, BytesAreFound, by_gateway, lives_there, done_there, waits_there}
+use Rattle.hb_relay.specs.Shows.{Shows}
+use Rattle.hb_relay.specs.declared.relay.Relay.{Relay}
 use Rattle.hb_relay.proofs.Reached.{goes_on, shows_so, upstream_at, raw_so}
 use Rattle.hb_relay.proofs.Streaming.{brings_at}
 
@@ -57,4 +59,37 @@ stream_is_shown = record {
       (goes_on (lives_there (by_gateway key authority endpoint g s)) refl, (refl, some)) (λ on. absurd (cc));
   done = λ k key authority endpoint g s is.
       shows_so k (done_there (by_gateway key authority endpoint g s)) (sym is) (refl, tt) (λ on. absurd (cc));
+}
+
+-- WHETHER BYTES WAIT FOR IT
+
+-- a link that lives there shows one of the machine, and of each that it shows these bytes wait
+module _ (bytes : List ℕ) (s : ℕ) (k : Relay) (is : HoldsThere bytes s k) where
+  abbrev pub held_there : m.Captured
+  held_there = waits_there bytes (by_gateway is.key is.authority is.endpoint is.gate s)
+
+  pub holds_shown : Shows k held_there
+  holds_shown = shows_so k held_there (sym is.same) (goes_on held_there refl, (refl, is.some)) (λ on. absurd (cc))
+
+  pub held_shown : (x : m.Captured) → Shows k x → x.ways.up.held ≡ bytes
+  held_shown x shows = ap (λ (y : m.Captured). y.ways.up.held) (shows.same ∙ is.same)
+
+pub finds_bytes_in_none : FindsBytesInNone
+finds_bytes_in_none s k is says =
+    let some : 0 < 0 = (says (held_there [] s k is) (holds_shown [] s k is)).0 refl in omega (arith, some)
+
+pub misses_byte : MissesByte
+misses_byte s byte k is says =
+    false≢true ((says (held_there (byte ∷ []) s k is) (holds_shown (byte ∷ []) s k is)).1 (omega arith))
+
+pub bytes_are_found : BytesAreFound
+bytes_are_found = record {
+  none = λ s k is x shows. (
+    λ some. absurd (false≢true some),
+    λ some. absurd (let none = ap length (held_shown [] s k is x shows) in omega (arith, none, some)),
+  );
+  one = λ s byte k is x shows. (
+    λ some. (let one = ap length (held_shown (byte ∷ []) s k is x shows) in omega (arith, one)),
+    λ some. refl,
+  );
 }

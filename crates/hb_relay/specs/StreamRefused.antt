@@ -1,5 +1,5 @@
--- What isn't due of a link's stream may not come there; and links on a stream that may be shown.
-use Rattle.std.specs.Prelude.{◌≡◌, ℕ, ◌<◌, ◌-◌, ◌^◌, true, false, List, [], Some, None}
+-- What isn't due of a link's stream may not come there; links on a stream that may be shown; and whether bytes wait there.
+use Rattle.std.specs.Prelude.{◌≡◌, ℕ, ◌<◌, ◌-◌, ◌^◌, true, false, List, [], ◌∷◌, Some, None}
 use Rattle.hb_base.specs.declared.cause.Cause.TheVariants.{Done}
 use Rattle.hb_base.specs.declared.door.Door.TheVariants.{Outbound}
 use Rattle.hb_base.specs.declared.note.Note.{Note}
@@ -13,7 +13,7 @@ use Rattle.hb_gateway.specs.Response.{Heard, brings}
 use Rattle.hb_tunnel.specs.Tunnel.{dialling}
 use Rattle.hb_relay.specs.declared.relay.Relay.{Relay}
 use Rattle.hb_relay.specs.Shows.{Shows, captured_of}
-use Rattle.hb_relay.specs.Streamed.{WantsStream, HasStream, LivesOn, Waits, MayFinish, MayComplete, Owes}
+use Rattle.hb_relay.specs.Streamed.{WantsStream, HasStream, LivesOn, Waits, HasWaiting, MayFinish, MayComplete, Owes}
 
 -- of a link of which this is known a part may not come
 abbrev pub Never : (Relay → Type 0) → Part → Type 0
@@ -74,3 +74,31 @@ pub record StreamIsShown : Type 0 where
       → Shows k (lives_there (by_gateway key authority endpoint g s))
   pub done : (k : Relay) (key : Key) (authority : Target) (endpoint : List ℕ) (g s : ℕ)
       → captured_of k ≡ done_there (by_gateway key authority endpoint g s) → Shows k (done_there (by_gateway key authority endpoint g s))
+
+-- WHETHER BYTES WAIT FOR ITS STREAM, of a link that lives there
+
+-- these do
+abbrev pub waits_there : List ℕ → Captured → Captured
+waits_there bytes x =
+    record x { stage = live; ways = record dialling { is_open = true; up = record dialling.up { held = bytes } } }
+
+-- a link of the code that lives on this stream, for which these wait
+pub record HoldsThere (bytes : List ℕ) (stream : ℕ) (k : Relay) : Type 0 where
+  pub key : Key
+  pub authority : Target
+  pub endpoint : List ℕ
+  pub gate : ℕ
+  pub some : 0 < gate
+  pub same : captured_of k ≡ waits_there bytes (by_gateway key authority endpoint gate stream)
+
+-- it says that bytes wait where none does; it says that none does where one waits
+abbrev pub FindsBytesInNone : Type 0
+FindsBytesInNone = (s : ℕ) (k : Relay) → HoldsThere [] s k → HasWaiting k true → ⊥
+
+abbrev pub MissesByte : Type 0
+MissesByte = (s byte : ℕ) (k : Relay) → HoldsThere (byte ∷ []) s k → HasWaiting k false → ⊥
+
+-- what it says of each
+pub record BytesAreFound : Type 0 where
+  pub none : (s : ℕ) (k : Relay) → HoldsThere [] s k → HasWaiting k false
+  pub one : (s byte : ℕ) (k : Relay) → HoldsThere (byte ∷ []) s k → HasWaiting k true

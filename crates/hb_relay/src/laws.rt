@@ -1,9 +1,10 @@
-//! Links that code may not show, an end that isn't told, what may not come on a stream, and links that may be shown. Each is the contract
-//! of a function that does nothing.
+//! Links that code may not show, an end that isn't told, what may not come on a stream, links that may be shown, and whether bytes wait
+//! there. Each is the contract of a function that does nothing.
 
 ghost use Rattle.hb_relay.specs.Refused.{LivesEarly, DropsBytes, GoesOnDone, NotesLater, FailsLater, EndsUntold, NewIsShown};
 ghost use Rattle.hb_relay.specs.StreamRefused.{AsksUnwanted, LacksUnwanted, AsksTwice, HearsUnasked, BringsEarly};
 ghost use Rattle.hb_relay.specs.StreamRefused.{PutsOther, FinishesEarly, CreditsMore, CompletesEarly, StreamIsShown};
+ghost use Rattle.hb_relay.specs.StreamRefused.{FindsBytesInNone, MissesByte, BytesAreFound};
 
 /// A link lives only once its upstream, or its stream, is open, and keeps the bytes that wait. Between two calls none is done and goes on
 /// without a stream, and each opening and end is noted.
@@ -46,4 +47,15 @@ pub fn nothing_goes_early()
 /// A link whose stream was asked for just now is shown, so is one that lives there, and one that was done there.
 pub fn a_link_on_a_stream_is_shown()
     ensures { StreamIsShown }
+{}
+
+/// Of a link on a stream it isn't told that bytes wait where none does, nor that none does where one waits.
+pub fn other_bytes_are_not_found()
+    ensures none { FindsBytesInNone }
+    ensures one { MissesByte }
+{}
+
+/// It is told which of both it is.
+pub fn waiting_bytes_are_found()
+    ensures { BytesAreFound }
 {}
