@@ -34,6 +34,7 @@ pub mod PumpedLink
 pub mod Refusing
 pub mod Resetting
 pub mod Resting
+pub mod RestsRefused
 pub mod Settling
 pub mod Showing
 pub mod Speaking

@@ -90,7 +90,7 @@ gives_back P s n old one kept two owes some credits_two credits_one l m g x poin
 -- WHAT IS PUT
 
 -- of nothing nothing goes
-count_none : (c : Connection) (s : ℕ) → count_put c s [] ≡ 0
+pub count_none : (c : Connection) (s : ℕ) → count_put c s [] ≡ 0
 count_none c s =
     let k = core_of c in
     cond_both k.over 0 (cond (nat_le s largest && length (octets_of k.out) == 0) (min 0 (payload.allowed k s)) 0) (λ (n : ℕ). n ≡ 0)

@@ -6,6 +6,7 @@ pub mod Looking
 pub mod Pumping
 pub mod Reaches
 pub mod Refused
+pub mod RestsRefused
 pub mod Shows
 pub mod Stirring
 pub mod Touched

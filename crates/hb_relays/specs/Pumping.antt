@@ -98,20 +98,21 @@ Rests s P old kept before new two behind made =
     (l n : ℕ) (g : NodeConfig) (x : Machine) (points : List Point) → StandsFor g x points
     → OnStream l n s P old kept (x.plain l) (x.gates n) → before ≡ routing_of g x → Ends l n g x new two behind made
 
--- bytes of a link may be put on its stream, as far as this says: where it doesn't, none can
+-- bytes of a link may be put on its stream, as far as this says: where it doesn't, none can; that it says so tells nothing
 abbrev pub MayPut : Relay → Gate → Bool → Type 0
 MayPut k h may =
     may ≡ false → (x : Captured) (y : Gateway) → Shows k x → gate.Shows h y → carries y.phase ≡ true
     → count_put y.conn x.stream x.ways.up.held ≡ 0
 
--- a link that lives on a stream of a link to a gateway rests there, where this says so
+-- a link that lives on a stream of a link to a gateway rests there, where this says so; that it doesn't say so tells nothing
 abbrev pub RestsOn : Relay → Gate → Bool → Type 0
 RestsOn k h is =
     is ≡ true → (x : Captured) (y : Gateway) → Shows k x → gate.Shows h y → Lives x → carries y.phase ≡ true → LiveRests x y
 
 -- ALL LINKS
 
--- of whatever run the code shows the link rests on the link to a gateway of a number where it lives there, where this says so
+-- of whatever run the code shows the link rests on the link to a gateway of a number where it lives there, where this says so; that it
+-- doesn't say so tells nothing
 abbrev pub RestsAt : (l n : ℕ) → Relays → Bool → Type 0
 RestsAt l n k is = is ≡ true → OfRuns k (λ x. Lives (x.plain l) → (x.plain l).gate ≡ n → RestsAmong x.gates (x.plain l))
 
