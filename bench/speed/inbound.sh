@@ -13,7 +13,7 @@ for crate in $(sed -n 's/^\(hb_[a-z0-9_]*\):.*/\1/p' "$copy/crates.txt"); do
     case $crate in *_rows) ;; *) cp -a "$top/crates/$crate" "$copy/crates/" ;; esac
 done
 sed -i '/_rows:/d; /^hbone:/d' "$copy/crates.txt"
-echo 'inbound_bench: hb_base hb_model hb_world hb_whole anyhow' >> "$copy/crates.txt"
+echo 'inbound_bench: hb_base hb_held hb_model hb_world hb_whole anyhow' >> "$copy/crates.txt"
 mkdir -p "$copy/crates/inbound_bench/src" "$copy/input"
 for file in main drive peer; do
     cp "$top/bench/speed/inbound_$file.rt.in" "$copy/crates/inbound_bench/src/$file.rt"

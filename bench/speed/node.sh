@@ -6,12 +6,11 @@ set -eu
 top=$(cd "$(dirname "$0")/../.." && pwd)
 copy=$(mktemp -d)
 trap 'rm -rf "$copy"' EXIT
-crates="hb_base hb_wire hb_message hb_records hb_disco hb_grpc hb_held hb_hpack hb_frames hb_windows hb_map hb_streams hb_flow \
-    hb_outgoing hb_blocks hb_owed hb_conn hb_history hb_kept hb_world hb_model hb_node"
 mkdir "$copy/crates"
-for crate in $crates; do
+# the libraries of crates.txt down to hb_node, which come before it
+sed -n '/^hb_[a-z0-9_]*:/p; /^hb_node:/q' "$top/crates.txt" > "$copy/crates.txt"
+for crate in $(sed 's/:.*//' "$copy/crates.txt"); do
     cp -a "$top/crates/$crate" "$copy/crates/"
-    grep "^$crate:" "$top/crates.txt" >> "$copy/crates.txt"
 done
 echo 'node_bench: hb_base hb_disco hb_held hb_model hb_node anyhow' >> "$copy/crates.txt"
 mkdir -p "$copy/crates/node_bench/src"

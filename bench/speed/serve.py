@@ -97,9 +97,6 @@ def echoes_beside(peer, room, idle):
     for at in range(idle):
         others[at // 100].tunnel(server.port)
     yield from echoes(peer, room, 1, server)
-    for it in others:
-        it.close()
-        room.things.remove(it)
 
 
 def answer_once(taken):
@@ -246,7 +243,7 @@ def h2_proxy(folder):
 
 def cost(room, proxy, measure):
     """Microseconds of processor time a unit, the middle one of the rounds."""
-    room.proxy, costs = proxy, []
+    room.proxy, costs, others = proxy, [], [*room.things]
     for _ in range(ROUNDS):
         act = measure()
         next(act)
@@ -255,6 +252,9 @@ def cost(room, proxy, measure):
         costs.append((proxy.cpu() - before) * 1e6 / units)
         for _ in act:
             pass
+        for it in room.things[len(others):]:
+            it.close()
+        del room.things[len(others):]
     return statistics.median(costs)
 
 
