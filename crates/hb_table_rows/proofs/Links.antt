@@ -1,16 +1,15 @@
 -- That a link's tunnels were admitted, from one addition to the next, and what an update of them asks for.
-use Rattle.std.proofs.Common.{◌≡◌, ℕ, Some, None, unwrap_or, IsTrue, inl, inr, sym, ap, subst, ◌∙◌}
+use Rattle.std.proofs.Common.{◌≡◌, ℕ, Some, None, unwrap_or, inl, inr, sym, ap, subst, ◌∙◌}
 use Rattle.std.specs.Ordering.{nat_cmp}
 use Rattle.std.specs.FinMap.{FinMap, get, insert, empty, get-empty}
 use Rattle.std.proofs.lemmas.Bool.{cases_eq}
 use Rattle.hb_disco.specs.declared.response.Response.{Response}
-use Rattle.hb_held.specs.Held.{Resources, begun}
-use Rattle.hb_held.specs.Outcome.{after_removals, after_resources, after_response, outcome_of}
+use Rattle.hb_held.specs.Held.{Resources}
+use Rattle.hb_held.specs.Outcome.{after_response, outcome_of}
 use Rattle.hb_held.specs.declared.outcome.Outcome.{Outcome}
 use Rattle.hb_map.proofs.Laws.{put_here, put_elsewhere}
 use Rattle.hb_table.specs.declared.entry.Entry.{Entry}
 use Rattle.hb_table.specs.Revoking.{WasAdmitted, WereAdmitted, FollowsAdmitted}
-use Rattle.hb_table.proofs.Before.{settles}
 
 the_entry : (d e : Entry) → Some d ≡ Some e → d ≡ e
 the_entry d e is = ap (λ o. unwrap_or o d) is
@@ -29,10 +28,6 @@ pub follows : (old held : Resources) (r : Response) (outcome : Outcome) (t : Fin
     → outcome ≡ outcome_of old r → WereAdmitted old t → FollowsAdmitted held outcome.changed t
 follows old held r outcome t held_is outcome_is were =
     (old, record { response = r; held_is = held_is; changed_is = ap (λ o. o.changed) outcome_is }, were)
-
-pub is_settled : (old held : Resources) (r : Response) → held ≡ after_response old r → IsTrue held.settled
-is_settled old held r held_is = subst (λ held. IsTrue held.settled) (sym held_is)
-    (settles (after_resources (after_removals (begun old) r.kind r.removed) r.kind r.resources) r.kind)
 
 not_there : (e : Entry) → None ≡ Some e → ⊥
 not_there e is = absurd cc

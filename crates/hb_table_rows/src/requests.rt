@@ -1,6 +1,6 @@
 //! What requests on an inbound link ask for.
 
-use hb_base::{Bytes, List, read_ip};
+use hb_base::{Bytes, Ip, List, read_ip};
 use hb_hpack::{Header, HeaderList};
 use hb_verdict::{Request, read_request};
 use std::process::Abort;
@@ -83,43 +83,49 @@ const ROWS: &str = "\
 10.0.0.7 16384  -> malformed
 10.0.0.7 18446744073709551615 :method=GET -> 431";
 
-fn headers_of(rt: &(impl Abort + AllocGlobal), texts: &str) -> List<Header> {
-    let mut headers = List::new(rt.alloc());
-    for text in texts.split("; ") {
-        if let Some((name, value)) = text.split_once("=") {
-            let header = Header {
-                name: Bytes::of(rt.alloc(), name.as_bytes()).expect(rt, "memory"),
-                value: Bytes::of(rt.alloc(), value.as_bytes()).expect(rt, "memory"),
-            };
-            headers.push(header).expect(rt, "memory");
-        }
+fn header_of(rt: &(impl Abort + AllocGlobal), name: &str, value: &str) -> Header {
+    Header {
+        name: Bytes::of(rt.alloc(), name.as_bytes()).expect(rt, "memory"),
+        value: Bytes::of(rt.alloc(), value.as_bytes()).expect(rt, "memory"),
     }
-    headers
 }
 
-fn told(rt: &(impl Abort + AllocGlobal), request: Request) -> String {
-    match request {
-        Request::Refused(status) => format!(in rt.alloc(); "{status}").expect(rt, "memory"),
-        Request::Malformed => format!(in rt.alloc(); "malformed").expect(rt, "memory"),
-        Request::Connect(target) => format!(in rt.alloc(); "port {}", target.port).expect(
-            rt, "memory",
-        ),
+/// The size and the headers of a row.
+fn list_of(rt: &(impl Abort + AllocGlobal), words: &str) -> HeaderList {
+    let (size, texts) = words.split_once(" ").expect(rt, "headers");
+    let mut kept = List::new(rt.alloc());
+    for text in texts.split("; ") {
+        if let Some((name, value)) = text.split_once("=") {
+            kept.push(header_of(rt, name, value)).expect(rt, "memory");
+        }
     }
+    HeaderList {
+        kept,
+        size: size.parse().ok().expect(rt, "a number"),
+    }
+}
+
+fn told(rt: &(impl Abort + AllocGlobal), list: &HeaderList, destination: Ip) -> String {
+    let told = match read_request(list, destination) {
+        Request::Refused(status) => format!(in rt.alloc(); "{status}"),
+        Request::Malformed => format!(in rt.alloc(); "malformed"),
+        Request::Connect(target) => format!(in rt.alloc(); "port {}", target.port),
+    };
+    told.expect(rt, "memory")
+}
+
+fn assert_row(rt: &(impl Abort + AllocGlobal), row: &str) {
+    let (question, want) = row.split_once(" -> ").expect(rt, "an answer");
+    let (destination, words) = question.split_once(" ").expect(rt, "a size");
+    let destination = read_ip(destination.as_bytes()).expect(rt, "an address");
+    let list = list_of(rt, words);
+    let told = told(rt, &list, destination);
+    assert!(rt; told.as_str() == want, "{row}: {told}");
 }
 
 #[test]
 fn requests_ask_for_what_their_headers_say(rt: HostRuntime) {
     for row in ROWS.split('\n') {
-        let (question, want) = row.split_once(" -> ").expect(&rt, "an answer");
-        let (destination, rest) = question.split_once(" ").expect(&rt, "a size");
-        let (size, texts) = rest.split_once(" ").expect(&rt, "headers");
-        let list = HeaderList {
-            kept: headers_of(&rt, texts),
-            size: size.parse().ok().expect(&rt, "a number"),
-        };
-        let destination = read_ip(destination.as_bytes()).expect(&rt, "an address");
-        let request = read_request(&list, destination);
-        let told = told(&rt, request);
-        assert!(rt; told.as_str() == want, "{row}: {told}");
+        assert_row(&rt, row);
     }
 }

@@ -1,67 +1,80 @@
-//! Responses in words, and what is held after them. A test ends where memory is wanting or a word is none.
-//!
-//! A response has its kind, `a` of addresses or `z` of policies, and then its names: `NAME:DIGITS` is a resource with the
-//! octets of its record, and `~NAME` a name that is removed.
+//! What is held after responses. A test ends where memory is wanting or a word is none.
 
 ghost use Rattle.std.specs.Prelude.{◌≡◌};
 ghost use Rattle.hb_disco.specs.declared.response.Response.{Response};
 ghost use Rattle.hb_held.specs.Outcome.{after_response, outcome_of};
 
-use hb_base::{Bytes, List, Text};
-use hb_disco::{Kind, Resource, Response};
+use hb_base::Text;
+use hb_disco::{Response, read_response};
 use hb_held::{Held, Outcome, OwnDoors};
 use std::process::Abort;
+
+/// Responses by their names, each with the octets of its message. `U1` is the workload `u1`: `web` of namespace `a`, at 10.0.0.7 on node
+/// `n1`, which asks for the policy `a/p`; renamed it is `wec`, moved it is on node `n2`, and gone it is removed. `U2` is another workload of
+/// the node, at 10.0.0.8 and of namespace `b`. `ALLOW` is the policy `a/p`, which allows the identity `c` of namespace `a`; `NEVER` is the
+/// policy `e`, which allows nothing; `DENY` is `d`, which denies all, and `DENY ELSEWHERE` is `o`, which denies all in namespace `x`. The
+/// last ones remove a workload that isn't held, and two policies.
+const RESPONSES: &str = "\
+U1: 12580a0131124f0a2a747970652e676f6f676c65617069732e636f6d2f697374696f2e776f726b6c6f61642e4164647265737312210a1f0a037765621201\
+611a040a00000728014a026e31820103612f70a2010275311a027531222a747970652e676f6f676c65617069732e636f6d2f697374696f2e776f726b6c6f6164\
+2e416464726573732a0178
+U1 RENAMED: 12580a0131124f0a2a747970652e676f6f676c65617069732e636f6d2f697374696f2e776f726b6c6f61642e4164647265737312210a1f0a0377\
+65631201611a040a00000728014a026e31820103612f70a2010275311a027531222a747970652e676f6f676c65617069732e636f6d2f697374696f2e776f726b\
+6c6f61642e416464726573732a0178
+U1 MOVED: 12580a0131124f0a2a747970652e676f6f676c65617069732e636f6d2f697374696f2e776f726b6c6f61642e4164647265737312210a1f0a037765\
+621201611a040a00000728014a026e32820103612f70a2010275311a027531222a747970652e676f6f676c65617069732e636f6d2f697374696f2e776f726b6c\
+6f61642e416464726573732a0178
+GONE: 222a747970652e676f6f676c65617069732e636f6d2f697374696f2e776f726b6c6f61642e416464726573732a017832027531
+U2: 12580a0131124f0a2a747970652e676f6f676c65617069732e636f6d2f697374696f2e776f726b6c6f61642e4164647265737312210a1f0a037765621201\
+621a040a00000828014a026e31820103622f70a2010275321a027532222a747970652e676f6f676c65617069732e636f6d2f697374696f2e776f726b6c6f6164\
+2e416464726573732a0178
+ALLOW: 12670a0131125d0a30747970652e676f6f676c65617069732e636f6d2f697374696f2e73656375726974792e417574686f72697a6174696f6e12290a0\
+17012016118022a1f121d121b1a190a17636c75737465722e6c6f63616c2f6e732f612f73612f631a03612f702230747970652e676f6f676c65617069732e636\
+f6d2f697374696f2e73656375726974792e417574686f72697a6174696f6e2a0178
+NEVER: 123f0a013112370a30747970652e676f6f676c65617069732e636f6d2f697374696f2e73656375726974792e417574686f72697a6174696f6e12030a0\
+1651a01652230747970652e676f6f676c65617069732e636f6d2f697374696f2e73656375726974792e417574686f72697a6174696f6e2a0178
+DENY: 12430a0131123b0a30747970652e676f6f676c65617069732e636f6d2f697374696f2e73656375726974792e417574686f72697a6174696f6e12070a01\
+6420012a001a01642230747970652e676f6f676c65617069732e636f6d2f697374696f2e73656375726974792e417574686f72697a6174696f6e2a0178
+DENY ELSEWHERE: 12480a013112400a30747970652e676f6f676c65617069732e636f6d2f697374696f2e73656375726974792e417574686f72697a6174696f\
+6e120c0a016f120178180120012a001a016f2230747970652e676f6f676c65617069732e636f6d2f697374696f2e73656375726974792e417574686f72697a61\
+74696f6e2a0178
+a ~x: 222a747970652e676f6f676c65617069732e636f6d2f697374696f2e776f726b6c6f61642e416464726573732a0178320178
+z ~a/p: 2230747970652e676f6f676c65617069732e636f6d2f697374696f2e73656375726974792e417574686f72697a6174696f6e2a01783203612f70
+z ~o: 2230747970652e676f6f676c65617069732e636f6d2f697374696f2e73656375726974792e417574686f72697a6174696f6e2a017832016f";
 
 pub fn text_of(rt: &(impl Abort + AllocGlobal), text: &str) -> Text {
     let text = Text::of(rt.alloc(), text.as_bytes()).expect(rt, "memory");
     text.expect(rt, "UTF-8")
 }
 
-fn octets_of(rt: &(impl Abort + AllocGlobal), digits: &str) -> Bytes {
+/// The octet of two hexadecimal digits.
+fn octet_of(rt: &impl Abort, digits: &[u8]) -> u8 {
+    let digits = std::str::from_utf8(digits).unwrap_or("");
+    u8::from_str_radix(digits, 16).ok().expect(rt, "two digits")
+}
+
+fn octets_of(rt: &(impl Abort + AllocGlobal), digits: &str) -> Vec<u8> {
     let mut octets = Vec::new(rt.alloc());
     for pair in digits.as_bytes().chunks(2) {
-        let pair = std::str::from_utf8(pair).unwrap_or("");
-        let octet = u8::from_str_radix(pair, 16).ok().expect(rt, "two digits");
-        octets.push(octet).expect(rt, "memory");
+        octets.push(octet_of(rt, pair)).expect(rt, "memory");
     }
-    Bytes::of(rt.alloc(), octets.as_slice()).expect(rt, "memory")
+    octets
 }
 
-fn resource_of(rt: &(impl Abort + AllocGlobal), kind: Kind, name: &str, digits: &str) -> Resource {
-    let url = Text::of(rt.alloc(), kind.type_url()).expect(rt, "memory");
-    Resource {
-        name: text_of(rt, name),
-        version: text_of(rt, "1"),
-        type_url: url.expect(rt, "UTF-8"),
-        value: octets_of(rt, digits),
-    }
-}
-
-fn response_of(rt: &(impl Abort + AllocGlobal), words: &str) -> Response {
-    let (kind, names) = words.split_once(" ").unwrap_or((words, ""));
-    let kind = if kind == "a" {
-        Kind::Address
-    } else {
-        Kind::Authorization
-    };
-    let mut resources = List::new(rt.alloc());
-    let mut removed = List::new(rt.alloc());
-    for name in names.split(' ') {
-        match (name.strip_prefix("~"), name.split_once(":")) {
-            (Some(name), _) => removed.push(text_of(rt, name)).expect(rt, "memory"),
-            (None, Some((name, digits))) => {
-                let resource = resource_of(rt, kind, name, digits);
-                resources.push(resource).expect(rt, "memory");
-            }
-            (None, None) => {}
+fn digits_of(name: &str) -> &'static str {
+    for line in RESPONSES.lines() {
+        let (first, digits) = line.split_once(": ").unwrap_or((line, ""));
+        if first == name {
+            return digits;
         }
     }
-    Response {
-        kind,
-        resources,
-        removed,
-        nonce: text_of(rt, "x"),
-    }
+    ""
+}
+
+fn response_of(rt: &(impl Abort + AllocGlobal), name: &str) -> Response {
+    let octets = octets_of(rt, digits_of(name));
+    let response = read_response(rt.alloc(), octets.as_slice());
+    response.ok().expect(rt, "a response")
 }
 
 /// A node `n1` that holds nothing, with these doors.
@@ -69,17 +82,26 @@ pub fn held_behind(rt: &(impl Abort + AllocGlobal), doors: OwnDoors) -> Held {
     Held::new(rt.alloc(), text_of(rt, ""), text_of(rt, "n1"), doors)
 }
 
-/// A node `n1` that holds nothing, without a door.
-pub fn nothing_held(rt: &(impl Abort + AllocGlobal)) -> Held {
-    held_behind(rt, OwnDoors::none())
-}
-
 /// What a response tells.
-pub fn applied(rt: &(impl Abort + AllocGlobal), held: &mut Held, words: &str) -> Outcome
+pub fn applied(rt: &(impl Abort + AllocGlobal), held: &mut Held, name: &str) -> Outcome
     ensures { (r : Response) × (held.new ≡ after_response held.old r) × (result ≡ outcome_of held.old r) }
 {
-    let response = response_of(rt, words);
+    let response = response_of(rt, name);
     let outcome = held.apply(rt.alloc(), &response).expect(rt, "memory");
-    assert!(rt; outcome.refused.len() == 0, "refused: {words}");
+    assert!(rt; outcome.refused.len() == 0, "refused: {name}");
     outcome
+}
+
+fn apply(rt: &(impl Abort + AllocGlobal), held: &mut Held, name: &str) {
+    applied(rt, held, name);
+}
+
+/// Applies responses with commas between.
+pub fn apply_all(rt: &(impl Abort + AllocGlobal), held: &mut Held, names: &str) {
+    for name in names.split(',') {
+        let name = name.trim();
+        if !name.is_empty() {
+            apply(rt, held, name);
+        }
+    }
 }

@@ -1,14 +1,13 @@
 //! What one update makes of the tunnels of two links, of which one has 100 to 10.0.0.7 and the other 100 to 10.0.0.8. A link's
 //! tunnels are judged, a step each, where the update touched their target.
 
-ghost use Rattle.std.specs.Prelude.{◌≡◌, IsTrue};
+ghost use Rattle.std.specs.Prelude.{◌≡◌};
 ghost use Rattle.hb_table.specs.Revoking.{WereAdmitted};
 
-use crate::judgements::response_of;
-use crate::resources::{applied, nothing_held};
-use crate::tunnels::slot_of;
+use crate::resources::{applied, apply_all, held_behind};
+use crate::tunnels::{self, slot_of};
 use hb_base::Ip;
-use hb_held::Held;
+use hb_held::{Held, OwnDoors};
 use hb_table::{Judged, Steps, Tunnels, judge};
 use std::marker::Brand;
 use std::process::Abort;
@@ -63,76 +62,88 @@ fn link_to(rt: &(impl Abort + AllocGlobal), held: &Held, target: &str) -> Tunnel
     tunnels
 }
 
-/// How many are marked, each of which ends. A new tunnel on the stream has no mark.
+/// The least tunnel that is marked ends, and a new one comes, which has no mark. False: none is marked.
+fn end_next(rt: &(impl Abort + AllocGlobal), tunnels: &mut Tunnels) -> bool {
+    match tunnels.next_revoked() {
+        Some(stream) => {
+            let ended = tunnels::end(rt, tunnels, stream);
+            assert!(rt; ended == Some(u64::from(stream)));
+            tunnels::add(rt, tunnels, stream, "10.0.0.7:80");
+            true
+        }
+        None => false,
+    }
+}
+
+/// How many are marked, each of which ends.
 fn ended(rt: &(impl Abort + AllocGlobal), tunnels: &mut Tunnels) -> usize {
     let mut count: usize = 0;
     for _ in 0..200 {
-        if let Some(stream) = tunnels.next_revoked() {
-            assert!(rt; tunnels.end(stream).is_some_and(|slot| slot.judged));
-            let slot = slot_of(rt, stream, "10.0.0.7:80");
-            assert!(rt; tunnels.get(slot.stream).is_none());
-            tunnels.add(slot).expect(rt, "memory");
+        if end_next(rt, tunnels) {
             count = count.saturating_add(1);
         }
     }
     count
 }
 
-fn held_after(rt: &(impl Abort + AllocGlobal), responses: &str) -> Held {
-    let mut held = nothing_held(rt);
-    for word in responses.split(',') {
-        applied(rt, &mut held, response_of(word));
-    }
-    held
-}
-
 /// Applies an update, and tells how many tunnels it marks on each link.
-#[tactic(auto, using(crate::proofs::Links::follows, crate::proofs::Links::is_settled))]
+#[tactic(auto, using(crate::proofs::Links::follows))]
 fn update<L: Ledger>(
     rt: &(impl Abort + AllocGlobal),
     held: &mut Held,
-    words: &str,
+    name: &str,
     first: &mut Tunnels,
     second: &mut Tunnels,
     steps: &mut Steps<L>,
 ) -> (usize, usize)
     requires first { WereAdmitted held.old first.old }
     requires second { WereAdmitted held.old second.old }
-    ensures { IsTrue held.new.settled }
 {
-    let outcome = applied(rt, held, words);
+    let outcome = applied(rt, held, name);
     let marked = first.revoke(held, &outcome.changed, steps);
     (marked, second.revoke(held, &outcome.changed, steps))
 }
 
+fn is_touched(rt: &impl Abort, held: &Held, ip: u32) -> bool {
+    assert!(rt; held.is_settled());
+    held.touched(Ip::V4(ip))
+}
+
 /// What the update touched, and what it marked, is as written.
-fn is_told(rt: &(impl Abort + AllocGlobal), held: &Held, marked: (usize, usize), want: &str)
-    requires { IsTrue held.now.settled }
-{
-    let first = held.touched(Ip::V4(0x0a00_0007));
-    let second = held.touched(Ip::V4(0x0a00_0008));
+fn is_told(rt: &(impl Abort + AllocGlobal), held: &Held, marked: (usize, usize), want: &str) {
+    let first = is_touched(rt, held, 0x0a00_0007);
+    let second = is_touched(rt, held, 0x0a00_0008);
     let told = format!(in rt.alloc(); "{first} {second} | {} {}", marked.0, marked.1);
     let told = told.expect(rt, "memory");
     assert!(rt; told.as_bytes() == want.as_bytes(), "{want}: {told}");
 }
 
+/// Applies the update of a row, and holds what it touched and marked against the row.
+fn follow<L: Ledger>(
+    rt: &(impl Abort + AllocGlobal),
+    held: &mut Held,
+    words: &str,
+    first: &mut Tunnels,
+    second: &mut Tunnels,
+    steps: &mut Steps<L>,
+)
+    requires first { WereAdmitted held.old first.old }
+    requires second { WereAdmitted held.old second.old }
+{
+    let (name, want) = words.split_once(" | ").unwrap_or((words, ""));
+    let marked = update(rt, held, name, first, second, steps);
+    is_told(rt, held, marked, want);
+    assert!(rt; ended(rt, first) == marked.0);
+    assert!(rt; ended(rt, second) == marked.1);
+}
+
 fn play<L: Ledger>(rt: &(impl Abort + AllocGlobal), row: &str, steps: &mut Steps<L>) {
     let (responses, words) = row.split_once(" | ").unwrap_or((row, ""));
-    let (words, want) = words.split_once(" | ").unwrap_or((words, ""));
-    let mut held = held_after(rt, responses);
+    let mut held = held_behind(rt, OwnDoors::none());
+    apply_all(rt, &mut held, responses);
     let mut first = link_to(rt, &held, "10.0.0.7:8080");
     let mut second = link_to(rt, &held, "10.0.0.8:8080");
-    let marked = update(
-        rt,
-        &mut held,
-        response_of(words),
-        &mut first,
-        &mut second,
-        steps,
-    );
-    is_told(rt, &held, marked, want);
-    assert!(rt; ended(rt, &mut first) == marked.0);
-    assert!(rt; ended(rt, &mut second) == marked.1);
+    follow(rt, &mut held, words, &mut first, &mut second, steps);
 }
 
 fn all_are_told<L: Ledger>(rt: &(impl Abort + AllocGlobal), blank: Blank)

@@ -1,9 +1,10 @@
-//! What requests for tunnels are answered, by the resources held. They are those of `judgements`.
+//! What requests for tunnels are answered, by the resources held.
 
-use crate::judgements::response_of;
-use crate::resources::{applied, held_behind, nothing_held};
+use crate::resources::{apply_all, held_behind};
 use crate::tunnels::{peer_of, target_of};
-use hb_held::OwnDoors;
+use hb_base::{Peer, Target};
+use hb_held::{Held, OwnDoors};
+use hb_table::{Judged, judge};
 use hb_verdict::{Request, Verdict, verdict_on};
 use std::process::Abort;
 
@@ -39,15 +40,58 @@ U1, DENY | 10.0.0.7:8080 left 0.0.0.0:8080 401
 U1, DENY ELSEWHERE | 10.0.0.8:8080 left 0.0.0.0:8080 404
 U1 | 10.0.0.7:8080 left 0.0.0.0:8080 503";
 
-fn told(verdict: Verdict) -> &'static str {
+fn judged(held: &Held, peer: &Peer, target: Target) -> &'static str {
+    match judge(held, peer, target) {
+        Judged::Admitted => "Admitted",
+        Judged::Unknown => "Unknown",
+        Judged::Denied => "Denied",
+    }
+}
+
+fn word_of(verdict: Verdict) -> &'static str {
     match verdict {
         Verdict::Status(503) => "503",
+        Verdict::Status(405) => "405",
         Verdict::Status(404) => "404",
         Verdict::Status(401) => "401",
         Verdict::Status(400) => "400",
         Verdict::Dial(_) => "dial",
+        Verdict::Reset => "reset",
         _ => "other",
     }
+}
+
+fn answer(request: Request, held: &Held, peer: &Peer, is_full: bool) -> &'static str {
+    word_of(verdict_on(request, held, peer, is_full))
+}
+
+/// The judgement of a target, or the answer to a request for it where a place is left or none is; or to a request that is refused or
+/// malformed.
+fn told_by(rt: &impl Abort, held: &Held, asked: &str, peer: &Peer, target: &str) -> &'static str {
+    match asked {
+        "judge" => judged(held, peer, target_of(rt, target)),
+        "refused" => answer(Request::Refused(405), held, peer, true),
+        "malformed" => answer(Request::Malformed, held, peer, false),
+        _ => {
+            let request = Request::Connect(target_of(rt, target));
+            answer(request, held, peer, asked == "full")
+        }
+    }
+}
+
+/// The same by what a node of these doors holds after responses.
+pub fn told(
+    rt: &(impl Abort + AllocGlobal),
+    doors: OwnDoors,
+    responses: &str,
+    asked: &str,
+    identity: &str,
+    target: &str,
+) -> &'static str {
+    let peer = peer_of(rt, identity);
+    let mut held = held_behind(rt, doors);
+    apply_all(rt, &mut held, responses);
+    told_by(rt, &held, asked, &peer, target)
 }
 
 /// The doors of a node of which one listens there, whichever it is.
@@ -70,35 +114,29 @@ fn doors_of(rt: &impl Abort, door: &str) -> [OwnDoors; 3] {
     ]
 }
 
+const IDENTITY: &str = "spiffe://cluster.local/ns/a/sa/c";
+
+fn assert_row(rt: &(impl Abort + AllocGlobal), row: &str) {
+    let (responses, words) = row.split_once("| ").expect(rt, "responses");
+    let (target, words) = words.split_once(" ").expect(rt, "a target");
+    let (place, words) = words.split_once(" ").expect(rt, "a place");
+    let (door, want) = words.split_once(" ").expect(rt, "a door");
+    for doors in doors_of(rt, door) {
+        let told = told(rt, doors, responses, place, IDENTITY, target);
+        assert!(rt; told == want, "{row}: {told}");
+    }
+}
+
 #[test]
 fn tunnels_are_dialled_for_or_refused(rt: HostRuntime) {
     for row in ROWS.split('\n') {
-        let (responses, words) = row.split_once("| ").expect(&rt, "responses");
-        let (target, words) = words.split_once(" ").expect(&rt, "a target");
-        let (place, words) = words.split_once(" ").expect(&rt, "a place");
-        let (door, want) = words.split_once(" ").expect(&rt, "a door");
-        for doors in doors_of(&rt, door) {
-            let mut held = held_behind(&rt, doors);
-            for word in responses.split(',') {
-                let word = response_of(word.trim());
-                if !word.is_empty() {
-                    applied(&rt, &mut held, word);
-                }
-            }
-            let request = Request::Connect(target_of(&rt, target));
-            let peer = peer_of(&rt, "spiffe://cluster.local/ns/a/sa/c");
-            let told = told(verdict_on(request, &held, &peer, place == "full"));
-            assert!(rt; told == want, "{row}: {told}");
-        }
+        assert_row(&rt, row);
     }
 }
 
 #[test]
 fn refused_requests_are_answered_whatever_is_held(rt: HostRuntime) {
-    let held = nothing_held(&rt);
-    let peer = peer_of(&rt, "none");
-    let refused = verdict_on(Request::Refused(405), &held, &peer, true);
-    assert!(rt; matches!(&refused, Verdict::Status(405)));
-    let reset = verdict_on(Request::Malformed, &held, &peer, false);
-    assert!(rt; matches!(&reset, Verdict::Reset));
+    let none = OwnDoors::none();
+    assert!(rt; told(&rt, none, "", "refused", "none", "") == "405");
+    assert!(rt; told(&rt, none, "", "malformed", "none", "") == "reset");
 }
