@@ -2,10 +2,12 @@
 #![tactic(auto)]
 
 #[cfg(test)]
-mod doors;
-#[cfg(test)]
-mod links;
+mod octets;
 #[cfg(test)]
 mod play;
+#[cfg(test)]
+mod rows;
+#[cfg(test)]
+mod runs;
 #[cfg(test)]
 mod ticks;

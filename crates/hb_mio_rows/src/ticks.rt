@@ -1,25 +1,17 @@
 //! Ticks, by the clock.
 
-use crate::play::{Real, listener, pair};
-use hb_mio::MioWorld;
-use hb_world::{Read, Ready, Waited, World};
+use crate::play::Play;
+use hb_world::{Read, Waited};
 use std::io;
-use std::net::TcpStream;
 use std::test::Fail;
 use std::time::{Duration, Instant};
 
 /// An octet comes, a wait is made, and the octet is read. Whether the wait told a tick.
-fn traffic(
-    world: &mut Real,
-    ready: &mut Ready,
-    link: u64,
-    peer: &mut TcpStream,
-) -> io::Result<bool> {
-    io::Write::write_all(peer, b"x")?;
-    let waited = world.wait(ready);
-    let mut room = [0u8; 64];
+fn traffic(play: &mut Play) -> io::Result<bool> {
+    let _ = play.at_peer("says", 1, "x")?;
+    let waited = play.wait();
     for _ in 0..64u32 {
-        if matches!(world.read(link, &mut room), Read::Balked) {
+        if matches!(play.read(1).0, Read::Balked) {
             break;
         }
     }
@@ -28,10 +20,8 @@ fn traffic(
 
 #[test]
 fn a_tick_comes_each_second_under_traffic(rt: HostRuntime) -> Result<(), Fail> {
-    let mut world = MioWorld::new(rt.alloc(), rt.clone()?);
-    let mut ready = Ready::new(rt.alloc())?;
-    let at = listener(&rt)?;
-    let (link, mut peer) = pair(&mut world, &mut ready, &at)?;
+    let mut play = Play::new(&rt)?;
+    let _ = play.pair()?;
     let begun = Instant::now(&rt)?;
     let mut ticks = 0u32;
     let mut waits = 0u32;
@@ -40,7 +30,7 @@ fn a_tick_comes_each_second_under_traffic(rt: HostRuntime) -> Result<(), Fail> {
             break;
         }
         waits = waits.saturating_add(1);
-        if traffic(&mut world, &mut ready, link, &mut peer)? {
+        if traffic(&mut play)? {
             ticks = ticks.saturating_add(1);
         }
     }
@@ -52,11 +42,10 @@ fn a_tick_comes_each_second_under_traffic(rt: HostRuntime) -> Result<(), Fail> {
 
 #[test]
 fn a_wait_in_silence_ends_with_a_tick(rt: HostRuntime) -> Result<(), Fail> {
-    let mut world = MioWorld::new(rt.alloc(), rt.clone()?);
-    let mut ready = Ready::new(rt.alloc())?;
+    let mut play = Play::new(&rt)?;
     let begun = Instant::now(&rt)?;
-    assert!(rt; matches!(world.wait(&mut ready), Waited::Tick));
+    assert!(rt; matches!(play.wait(), Waited::Tick));
     assert!(rt; begun.elapsed(&rt)? >= Duration::from_millis(999));
-    assert!(rt; ready.items().is_empty());
+    assert!(rt; !play.is_ready());
     Ok(())
 }

@@ -1,0 +1,88 @@
+//! The lines of each run of a world of real sockets.
+//!
+//! A link is named by its number, as is its other end, which a test holds. A call of the world has what it answers behind ` = `; a line
+//! without it makes the call and nothing more.
+//!
+//! | Line | Says |
+//! |---|---|
+//! | `row NAME` | a run begins, with another world |
+//! | `listen DOOR`, `taken DOOR` | the world listens at a port that is free, or at one that isn't |
+//! | `call` | a connection to that free port; its link is the next that is born |
+//! | `named` | the world waits until the inbound door is ready: so often it is named then |
+//! | `accept DOOR`, `finish LINK`, `read LINK`, `write LINK TEXT`, `shut LINK`, `close LINK` | this call |
+//! | `pair` | a link is dialled, its other end accepted, and the link opened |
+//! | `dial` | a link to a port at which nobody listens |
+//! | `await LINK` | what such a link comes to |
+//! | `hear LINK MOST` | reads until the link's end, or until so many octets came: how many, the sum of their values, and how it went on |
+//! | `send LINK COUNT` | writes so many octets, each of which has to come, and whether the link balked meanwhile |
+//! | `says LINK TEXT`, `hears LINK TEXT` | the other end writes this, or reads this next |
+//! | `ends LINK`, `leaves LINK`, `left LINK` | the other end sends no more; it is closed; nothing more comes at it |
+
+/// The runs.
+pub const ROWS: &str = "\
+row all that wait behind one event are accepted
+listen inbound = listening
+accept inbound = balked
+call
+call
+call
+named = 1
+accept inbound = link 1
+accept inbound = link 2
+accept inbound = link 3
+accept inbound = balked
+says 2 hello
+hear 2 5 = 5 532 more
+close 2
+left 2
+call
+named = 1
+accept inbound = link 4
+leaves 1
+leaves 3
+hear 1 5 = 0 0 end
+hear 3 5 = 0 0 end
+row a port that is taken is no door
+taken plain = failed
+accept plain = balked
+accept outbound = balked
+row what is written comes both ways
+pair = link 1
+says 1 hello
+hear 1 5 = 5 532 more
+read 1 = balked
+write 1 abc = took 3
+hears 1 abc
+ends 1
+hear 1 1 = 0 0 end
+write 1 d = took 1
+shut 1
+shut 1
+hears 1 d
+left 1
+close 1
+write 1 e = balked
+row much is written in parts
+pair = link 1
+send 1 20000000 = in parts
+row a reset breaks its link alone
+pair = link 1
+pair = link 2
+write 1 unread = took 6
+hears 1 u
+leaves 1
+hear 1 1 = 0 0 failed
+says 2 hello
+hear 2 5 = 5 532 more
+row a dial that is refused fails at its finish
+dial = link 1
+await 1 = failed
+close 1
+dial = link 2
+row a link that does not live balks
+finish 7 = balked
+read 7 = balked
+write 7 x = balked
+shut 7
+close 7
+";
