@@ -7,6 +7,10 @@ mod frames;
 #[cfg(test)]
 mod octets;
 #[cfg(test)]
+mod rows;
+#[cfg(test)]
 mod runs;
+#[cfg(test)]
+mod served;
 #[cfg(test)]
 mod serving;

@@ -1,49 +1,28 @@
 //! A run of `serve` in a thread of its own, and the other ends of its connections.
 
-use crate::frames::{
-    ANSWERED, ASKED, GATE_FRONT, GATE_OPENING, GREETED, POLICY, POLICY_TAKEN, REQUEST, SETTLED,
-    WORKLOAD, WORKLOAD_TAKEN,
-};
-use crate::octets::{assert_next, with_port};
-use hb_audit::Audits;
-use hb_base::{MemSink, MemSource};
-use hb_cli::run;
-use hb_line_audit::LineAudit;
-use hb_mio::MioWorld;
-use hb_turns::Keep;
-use hb_world::ScriptWorld;
+use crate::octets::{cut, frame_of, moved, pattern, with_port};
+use crate::served::{Ports, at, served_to_its_end};
 use std::alloc::AllocError;
 use std::io::{self, ErrorKind};
-use std::net::{Ipv4Addr, Net, SocketAddr, TcpListener, TcpStream};
-use std::process::Abort;
+use std::net::{TcpListener, TcpStream};
 use std::test::Fail;
 use std::thread::{self, JoinHandle, Threads};
 use std::time::Duration;
 
-/// The control plane's port, those of the inbound door, the plain one and the outbound one, and those of an upstream and of a gateway,
-/// each of five digits.
-#[derive(Clone, Copy)]
-pub struct Ports {
-    pub plane: u16,
-    pub door: u16,
-    pub plain: u16,
-    pub outbound: u16,
-    pub upstream: u16,
-    pub gateway: u16,
-}
-
 /// The run, and where its control plane, its upstream and its gateway listen.
 #[derive(Drop)]
 pub struct Serving {
-    pub ports: Ports,
-    pub upstream: TcpListener,
+    net: HostRuntime,
+    ports: Ports,
     plane: TcpListener,
+    upstream: TcpListener,
     gateway: TcpListener,
-    run: JoinHandle<Option<String>>,
-}
-
-fn at(port: u16) -> SocketAddr {
-    SocketAddr::from((Ipv4Addr::LOCALHOST, port))
+    /// None once it has ended.
+    run: Option<JoinHandle<Option<String>>>,
+    /// The connections, each at the place of its name; None where there is none yet, or it is closed.
+    ends: Vec<Option<TcpStream>>,
+    /// What came by the last line, or was told.
+    pub came: Vec<u8>,
 }
 
 /// A listener at a free port of five digits, and the port.
@@ -58,86 +37,16 @@ fn listener(net: &HostRuntime) -> io::Result<(TcpListener, u16)> {
     Err(io::Error::from(ErrorKind::AddrInUse))
 }
 
-/// The words of the run. Its fifth tick ends it.
-fn words_of(rt: &HostRuntime, ports: Ports) -> io::Result<Vec<String>> {
-    let Ports {
-        plane,
-        door,
-        plain,
-        outbound,
-        gateway,
-        ..
-    } = ports;
-    let text = format!(in rt.alloc();
-        "serve --node n1 --id z1 --discovery 127.0.0.1:{plane} --inbound 127.0.0.1:{door} --plain 127.0.0.1:{plain} \
---outbound 127.0.0.1:{outbound} --hbone-port {gateway} --ticks 5"
-    )?;
-    let mut words = Vec::new(rt.alloc());
-    for word in text.as_str().split(' ') {
-        words.push(String::from_str(rt.alloc(), word)?)?;
+/// The place of a connection.
+fn place_of(name: &str) -> usize {
+    match name {
+        "plane" => 0,
+        "peer" => 1,
+        "upstream" => 2,
+        "gateway" => 3,
+        "other" => 4,
+        _ => 5,
     }
-    Ok(words)
-}
-
-fn text_of(octets: &[u8]) -> &str {
-    std::str::from_utf8(octets).unwrap_or("no text")
-}
-
-/// An audit that writes the lines of notes, as the program has one.
-fn audits(rt: &HostRuntime) -> io::Result<Audits<LineAudit<MemSink>>> {
-    let lines = MemSink::new(rt.alloc(), 1024, &[0])?;
-    let mut audits = Vec::new(rt.alloc());
-    audits.push(LineAudit::over(rt.alloc(), lines)?)?;
-    Ok(Audits::over(audits))
-}
-
-/// A whole run: its status, its output, its error text and the lines of its notes, with `; ` between. The input can't be read.
-fn served(rt: &HostRuntime, ports: Ports) -> io::Result<String> {
-    let words = words_of(rt, ports)?;
-    let mut input = MemSource::over(rt.alloc(), b"", &[1])?;
-    let mut out = MemSink::new(rt.alloc(), 1024, &[0])?;
-    let mut err = MemSink::new(rt.alloc(), 1024, &[0])?;
-    let mut audits = audits(rt)?;
-    let mut world = MioWorld::new(rt.alloc(), rt.clone()?);
-    let status = run(
-        rt.alloc(),
-        words.as_slice(),
-        &mut input,
-        &mut out,
-        &mut err,
-        &mut Keep::none(),
-        &mut audits,
-        &mut world,
-        &mut ScriptWorld::new(rt.alloc()),
-    );
-    let output = text_of(out.as_slice());
-    let error = text_of(err.as_slice());
-    let lines = match audits.as_slice().first() {
-        Some(audit) => text_of(audit.sink().as_slice()),
-        None => "no audit",
-    };
-    Ok(format!(in rt.alloc(); "{status}; {output}; {error}; {lines}")?)
-}
-
-/// A whole run. Behind it there is a connection at each listener, so that none is waited for in vain.
-fn served_to_its_end(rt: &HostRuntime, ports: Ports) -> Option<String> {
-    let told = served(rt, ports);
-    let _ = TcpStream::connect(rt, at(ports.plane));
-    let _ = TcpStream::connect(rt, at(ports.upstream));
-    let _ = TcpStream::connect(rt, at(ports.gateway));
-    told.ok()
-}
-
-/// A read that waits for longer than this fails.
-fn limit_waits(stream: &TcpStream) -> io::Result<()> {
-    stream.set_read_timeout(Some(Duration::from_secs(20)))
-}
-
-/// The next connection at a listener.
-pub fn next_at(listener: &TcpListener) -> io::Result<TcpStream> {
-    let (stream, _) = listener.accept()?;
-    limit_waits(&stream)?;
-    Ok(stream)
 }
 
 impl Serving {
@@ -157,84 +66,135 @@ impl Serving {
             upstream: upstream_port,
             gateway: gateway_port,
         };
-        let run = thread::spawn(rt, move || served_to_its_end(&net, ports))?;
+        let mut ends = Vec::new(net.alloc());
+        for _ in 0..6u32 {
+            ends.push(None)?;
+        }
+        let came = Vec::new(net.alloc());
+        let of_run = net.clone()?;
+        let run = thread::spawn(rt, move || served_to_its_end(&of_run, ports))?;
         Ok(Serving {
+            net,
             ports,
-            upstream,
             plane,
+            upstream,
             gateway,
-            run,
+            run: Some(run),
+            ends,
+            came,
         })
     }
 
-    /// The control plane's connection, once the workload and the policy are applied.
-    pub fn apply_all(&self, rt: &(impl Abort + AllocGlobal)) -> Result<TcpStream, Fail> {
-        let mut plane = next_at(&self.plane)?;
-        let asked = with_port(rt.alloc(), ASKED, self.ports.plane)?;
-        assert_next(rt, &mut plane, asked.as_slice(), "the first requests")?;
-        io::Write::write_all(&mut plane, ANSWERED)?;
-        assert_next(rt, &mut plane, SETTLED, "the answer to SETTINGS")?;
-        io::Write::write_all(&mut plane, WORKLOAD)?;
-        assert_next(rt, &mut plane, WORKLOAD_TAKEN, "the workload's answer")?;
-        io::Write::write_all(&mut plane, POLICY)?;
-        assert_next(rt, &mut plane, POLICY_TAKEN, "the policy's answer")?;
-        Ok(plane)
+    /// The port of a name; without one that of the upstream.
+    fn port_of(&self, name: &str) -> u16 {
+        match name {
+            "plane" => self.ports.plane,
+            "door" => self.ports.door,
+            "plain" => self.ports.plain,
+            "outbound" => self.ports.outbound,
+            "gateway" => self.ports.gateway,
+            _ => self.ports.upstream,
+        }
     }
 
-    /// A peer's connection, with a request for a port of this machine, whose answer is to come next.
-    pub fn request(
-        &self,
-        rt: &(impl Net<Stream = TcpStream> + Abort + AllocGlobal),
-        port: u16,
-    ) -> Result<TcpStream, Fail> {
-        let mut peer = TcpStream::connect(rt, at(self.ports.door))?;
-        limit_waits(&peer)?;
-        let request = with_port(rt.alloc(), REQUEST, port)?;
-        io::Write::write_all(&mut peer, request.as_slice())?;
-        assert_next(rt, &mut peer, GREETED, "the greeting")?;
-        Ok(peer)
+    /// The octets that words stand for.
+    fn octets_of(&self, words: &str) -> Result<Vec<u8>, AllocError> {
+        let alloc = self.net.alloc();
+        let (what, more) = cut(words, " ");
+        match what {
+            "PATTERN" => pattern(alloc, more.parse::<u32>().unwrap_or(0)),
+            "NUMBER" => Vec::from_slice(alloc, &self.port_of(more).to_be_bytes()),
+            _ => {
+                let octets = frame_of(what).unwrap_or(what.as_bytes());
+                with_port(alloc, octets, self.port_of(more))
+            }
+        }
     }
 
-    /// A connection to a door, with such a header for the upstream.
-    pub fn connect(
-        &self,
-        rt: &impl Net<Stream = TcpStream>,
-        door: u16,
-        header: &[u8],
-    ) -> Result<TcpStream, Fail> {
-        let mut peer = TcpStream::connect(rt, at(door))?;
-        limit_waits(&peer)?;
-        io::Write::write_all(&mut peer, header)?;
-        io::Write::write_all(&mut peer, &self.ports.upstream.to_be_bytes())?;
-        Ok(peer)
+    /// Holds a connection under a name. A read at it that waits for too long fails.
+    fn hold(&mut self, name: &str, end: TcpStream) -> bool {
+        let is_limited = end.set_read_timeout(Some(Duration::from_secs(20))).is_ok();
+        if let Some(place) = self.ends.get_mut(place_of(name)) {
+            *place = Some(end);
+        }
+        is_limited
     }
 
-    /// A link to the gateway, up to the request on its first stream, which is for the upstream.
-    pub fn next_gateway(&self, rt: &(impl Abort + AllocGlobal)) -> Result<TcpStream, Fail> {
-        let mut gateway = next_at(&self.gateway)?;
-        assert_next(rt, &mut gateway, GATE_FRONT, "the header")?;
-        let port = self.ports.gateway.to_be_bytes();
-        assert_next(rt, &mut gateway, &port, "the gateway's port")?;
-        let opening = with_port(rt.alloc(), GATE_OPENING, self.ports.upstream)?;
-        assert_next(rt, &mut gateway, opening.as_slice(), "the opening")?;
-        Ok(gateway)
+    /// Takes a connection out of those that are held.
+    fn take(&mut self, name: &str) -> Option<TcpStream> {
+        match self.ends.get_mut(place_of(name)) {
+            Some(place) => place.take(),
+            None => None,
+        }
     }
 
-    /// Waits for the end of the run, and compares it with a text, in which a port of this machine has marks.
-    pub fn assert_ends(
-        self,
-        rt: &(impl Threads + Abort + AllocGlobal),
-        port: u16,
-        want: &str,
-    ) -> Result<(), AllocError> {
-        let Serving { run, .. } = self;
-        let want = with_port(rt.alloc(), want.as_bytes(), port)?;
-        let told = run.join(rt);
-        let same = match &told {
-            Some(told) => told.as_bytes() == want.as_slice(),
-            None => false,
+    /// The next connection at a listener.
+    fn accept(&mut self, name: &str, listener: &str) -> bool {
+        let accepted = match listener {
+            "plane" => self.plane.accept(),
+            "gateway" => self.gateway.accept(),
+            _ => self.upstream.accept(),
         };
-        assert!(rt; same, "{told:?}");
-        Ok(())
+        match accepted {
+            Ok((end, _)) => self.hold(name, end),
+            Err(_) => false,
+        }
+    }
+
+    /// A connection to a door.
+    fn connect(&mut self, name: &str, door: &str) -> bool {
+        match TcpStream::connect(&self.net, at(self.port_of(door))) {
+            Ok(end) => self.hold(name, end),
+            Err(_) => false,
+        }
+    }
+
+    /// What goes or comes on a connection.
+    fn at_end(&mut self, call: &str, name: &str, octets: &[u8]) -> bool {
+        let Some(mut end) = self.take(name) else {
+            return false;
+        };
+        if call == "drops" {
+            return true;
+        }
+        self.came.clear();
+        let is_well = moved(&mut end, call, octets, &mut self.came).unwrap_or(false);
+        self.hold(name, end) && is_well
+    }
+
+    /// What the run tells at its end.
+    fn joined(&mut self, rt: &impl Threads) -> Option<String> {
+        match self.run.take() {
+            Some(run) => run.join(rt),
+            None => None,
+        }
+    }
+
+    /// The end of the run, of which a text is told. Each newline is taken as a bar.
+    fn ends(&mut self, rt: &impl Threads, port: &str, text: &str) -> Result<bool, AllocError> {
+        let want = with_port(self.net.alloc(), text.as_bytes(), self.port_of(port))?;
+        self.came.clear();
+        if let Some(told) = self.joined(rt) {
+            for octet in told.as_bytes() {
+                let octet = if *octet == b'\n' { b'|' } else { *octet };
+                self.came.push(octet)?;
+            }
+        }
+        Ok(self.came.as_slice() == want.as_slice())
+    }
+
+    /// One line of a run. Whether all goes as it says.
+    pub fn line(&mut self, rt: &impl Threads, line: &str) -> bool {
+        let (call, rest) = cut(line, " ");
+        let (name, words) = cut(rest, " ");
+        match call {
+            "accept" => self.accept(name, words),
+            "connect" => self.connect(name, words),
+            "ends" => self.ends(rt, name, words).unwrap_or(false),
+            _ => match self.octets_of(words) {
+                Ok(octets) => self.at_end(call, name, octets.as_slice()),
+                Err(_) => false,
+            },
+        }
     }
 }

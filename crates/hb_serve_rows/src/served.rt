@@ -1,0 +1,106 @@
+//! A whole run of `serve`.
+
+use hb_audit::Audits;
+use hb_base::{MemSink, MemSource};
+use hb_cli::run;
+use hb_line_audit::LineAudit;
+use hb_mio::MioWorld;
+use hb_turns::Keep;
+use hb_world::ScriptWorld;
+use std::io;
+use std::net::{Ipv4Addr, SocketAddr, TcpStream};
+
+/// The control plane's port, those of the inbound door, the plain one and the outbound one, and those of an upstream and of a gateway,
+/// each of five digits.
+#[derive(Clone, Copy)]
+pub struct Ports {
+    pub plane: u16,
+    pub door: u16,
+    pub plain: u16,
+    pub outbound: u16,
+    pub upstream: u16,
+    pub gateway: u16,
+}
+
+/// An address of this machine.
+pub fn at(port: u16) -> SocketAddr {
+    SocketAddr::from((Ipv4Addr::LOCALHOST, port))
+}
+
+/// The words of the run. Its fifth tick ends it.
+fn words_of(rt: &HostRuntime, ports: Ports) -> io::Result<Vec<String>> {
+    let Ports {
+        plane,
+        door,
+        plain,
+        outbound,
+        gateway,
+        ..
+    } = ports;
+    let text = format!(in rt.alloc();
+        "serve --node n1 --id z1 --discovery 127.0.0.1:{plane} --inbound 127.0.0.1:{door} --plain 127.0.0.1:{plain} \
+--outbound 127.0.0.1:{outbound} --hbone-port {gateway} --ticks 5"
+    )?;
+    let mut words = Vec::new(rt.alloc());
+    for word in text.as_str().split(' ') {
+        words.push(String::from_str(rt.alloc(), word)?)?;
+    }
+    Ok(words)
+}
+
+/// The status of a run over real sockets.
+fn status_of(
+    rt: &HostRuntime,
+    words: &[String],
+    input: &mut MemSource,
+    out: &mut MemSink,
+    err: &mut MemSink,
+    audits: &mut Audits<LineAudit<MemSink>>,
+) -> io::Result<u8> {
+    let mut world = MioWorld::new(rt.alloc(), rt.clone()?);
+    Ok(run(
+        rt.alloc(),
+        words,
+        input,
+        out,
+        err,
+        &mut Keep::none(),
+        audits,
+        &mut world,
+        &mut ScriptWorld::new(rt.alloc()),
+    ))
+}
+
+fn text_of(octets: &[u8]) -> &str {
+    std::str::from_utf8(octets).unwrap_or("no text")
+}
+
+/// A whole run: its status, its output, its error text and the lines of its notes, with `; ` between. The input can't be read. An audit
+/// writes the lines, as the program has one.
+fn served(rt: &HostRuntime, ports: Ports) -> io::Result<String> {
+    let words = words_of(rt, ports)?;
+    let mut input = MemSource::over(rt.alloc(), b"", &[1])?;
+    let mut out = MemSink::new(rt.alloc(), 1024, &[0])?;
+    let mut err = MemSink::new(rt.alloc(), 1024, &[0])?;
+    let mut audits = Vec::new(rt.alloc());
+    let lines = MemSink::new(rt.alloc(), 1024, &[0])?;
+    audits.push(LineAudit::over(rt.alloc(), lines)?)?;
+    let mut audits = Audits::over(audits);
+    let status = status_of(rt, &words, &mut input, &mut out, &mut err, &mut audits)?;
+    let output = text_of(out.as_slice());
+    let error = text_of(err.as_slice());
+    let lines = match audits.as_slice().first() {
+        Some(audit) => text_of(audit.sink().as_slice()),
+        None => "no audit",
+    };
+    Ok(format!(in rt.alloc(); "{status}; {output}; {error}; {lines}")?)
+}
+
+/// A whole run. Behind it there is a connection at each listener, so that none is waited for in vain.
+pub fn served_to_its_end(rt: &HostRuntime, ports: Ports) -> Option<String> {
+    let told = served(rt, ports);
+    let _ = TcpStream::connect(rt, at(ports.plane));
+    let _ = TcpStream::connect(rt, at(ports.upstream));
+    let _ = TcpStream::connect(rt, at(ports.gateway));
+    told.ok()
+}
