@@ -37,27 +37,35 @@ def service(port=9090, **more):
     return routes.service("10.0.0.7", ports=((port, 8080),), net="", **more)
 
 
-print("""\
-//! What comes of a captured link, and of the control plane, in hexadecimal digits. `bench/tables/relay_rows.py` prints this file.
-""")
-for name, says, octets in (
-    ("FRONT", "The header of the front: from 10.0.0.9, with an identity, to 10.0.0.7, port 9090.", front(PEER)),
-    ("KNOWN", "A workload of this node at 10.0.0.7.", response(ADDRESS, ("u1", workload("w", "a", [[10, 0, 0, 7]], "n1", [])))),
-    ("NOT_HERE", "One of another node there.", response(ADDRESS, ("u1", workload("w", "a", [[10, 0, 0, 7]], "n2", [])))),
-    ("SOURCE", "A workload of this node at 10.0.0.9.", addresses(u2=host("10.0.0.9", node="n1"))),
-    ("TAKES_HBONE", "A workload at 10.0.0.7 that takes HBONE.", addresses(u3=host("10.0.0.7", hbone=1))),
-    ("BY_WAYPOINT", "One there behind a waypoint.", addresses(u3=host("10.0.0.7", waypoint=routes.WAYPOINT_NAME))),
-    ("SERVICE", "A service at 10.0.0.7, port 9090.", addresses(s=service())),
-    ("OTHER_PORT", "A service there, port 80.", addresses(s=service(port=80))),
-    ("ENDPOINT", "A workload at 10.0.0.8 whose port 8080 serves port 9090 of the service.",
+ROWS = (
+    ("FRONT", "the header of the front: from 10.0.0.9, with an identity, to 10.0.0.7, port 9090", front(PEER)),
+    ("KNOWN", "a workload of this node at 10.0.0.7", response(ADDRESS, ("u1", workload("w", "a", [[10, 0, 0, 7]], "n1", [])))),
+    ("NOT_HERE", "one of another node there", response(ADDRESS, ("u1", workload("w", "a", [[10, 0, 0, 7]], "n2", [])))),
+    ("SOURCE", "a workload of this node at 10.0.0.9", addresses(u2=host("10.0.0.9", node="n1"))),
+    ("TAKES_HBONE", "a workload at 10.0.0.7 that takes HBONE", addresses(u3=host("10.0.0.7", hbone=1))),
+    ("BY_WAYPOINT", "one there behind a waypoint", addresses(u3=host("10.0.0.7", waypoint=routes.WAYPOINT_NAME))),
+    ("SERVICE", "a service at 10.0.0.7, port 9090", addresses(s=service())),
+    ("OTHER_PORT", "a service there, port 80", addresses(s=service(port=80))),
+    ("ENDPOINT", "a workload at 10.0.0.8 whose port 8080 serves port 9090 of the service",
         addresses(u4=host("10.0.0.8", serves=[("a/web.a", [(9090, 8080)])]))),
-    ("OTHER_ENDPOINT", "One of a greater name at 10.0.0.6 that serves it too.",
+    ("OTHER_ENDPOINT", "one of a greater name at 10.0.0.6 that serves it too",
         addresses(u5=host("10.0.0.6", serves=[("a/web.a", [(9090, 8080)])]))),
-    ("NO_POLICY", "No policy.", response(AUTHORIZATION)),
-    ("ALLOWS_NONE", "A policy that allows none.", response(AUTHORIZATION, ("a/n", policy("a", "n", "GLOBAL", "ALLOW", [])))),
-):
+    ("NO_POLICY", "no policy", response(AUTHORIZATION)),
+    ("ALLOWS_NONE", "a policy that allows none", response(AUTHORIZATION, ("a/n", policy("a", "n", "GLOBAL", "ALLOW", [])))),
+)
+
+print("""\
+//! What comes of a captured link, and the responses of the control plane. `bench/tables/relay_rows.py` prints this file.
+//!
+//! | Name | What it is |
+//! |---|---|""")
+for name, says, _ in ROWS:
+    print(f"//! | {name} | {says} |")
+print("""
+/// A line each: a name, and octets in hexadecimal digits.
+pub const OCTETS: &[u8] = b"\\""")
+for name, _, octets in ROWS:
     digits = octets.hex()
-    print(f"/// {says}")
-    print(f"pub const {name}: &str = \"\\")
+    print(f"{name} \\")
     for at in range(0, len(digits), 100):
-        print(digits[at : at + 100] + ("\\" if at + 100 < len(digits) else '";'))
+        print(digits[at : at + 100] + ("\\" if at + 100 < len(digits) else "\\n\\" if name != ROWS[-1][0] else '\\n";'))

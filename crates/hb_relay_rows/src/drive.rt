@@ -1,214 +1,225 @@
-//! A captured link, number 7, beside what is held; its upstream is number 8.
+//! A captured link, number 7, beside what is held; its upstream is number 8, its stream number 1 of the link 9 to a gateway. A method for
+//! each call of it, since the proof of a function with many calls takes long.
 
-use crate::octets::FRONT;
-use hb_base::{Door, Note, Target, Text, Why, put_target};
-use hb_disco::read_response;
+use crate::at::{At, must};
+use crate::words::{put_to, words_of_act};
+use hb_base::{Cause, Door, Note, Text};
+use hb_disco::{Response, read_response};
 use hb_held::{Held, OwnDoors};
 use hb_relay::{Relay, Routes};
-use hb_world::Act;
 use std::alloc::Global;
+use std::mem;
 use std::process::Abort;
-
-fn octets_of(rt: &impl Abort, alloc: Global, digits: &str) -> Vec<u8> {
-    hex::decode(alloc, digits).ok().expect(rt, "octets")
-}
 
 fn text_of(rt: &impl Abort, alloc: Global, bytes: &[u8]) -> Text {
     let text = Text::of(alloc, bytes).ok().expect(rt, "memory");
     text.expect(rt, "a text")
 }
 
-/// The words of a target.
-pub fn words_of_target(rt: &impl Abort, alloc: Global, target: Target) -> String {
-    let mut octets = Vec::new(alloc);
-    put_target(alloc, target, &mut octets).expect(rt, "memory");
-    let words = std::str::from_utf8(octets.as_slice()).unwrap_or("?");
-    String::from_str(alloc, words).expect(rt, "memory")
+fn response_of(rt: &impl Abort, alloc: Global, octets: &[u8]) -> Response {
+    read_response(alloc, octets).ok().expect(rt, "a response")
 }
 
-/// Why a link is dialled, without the link that it is for.
-fn word_of_why(why: Why) -> &'static str {
-    match why {
-        Why::Plain { link: 7 } => "plain",
-        Why::Direct { link: 7 } => "direct",
-        Why::Gateway { link: 7 } => "gateway",
-        _ => "other",
-    }
+/// A link that was accepted at a door.
+fn accepted(rt: &impl Abort, alloc: Global, door: Door) -> Relay {
+    Relay::accepted(alloc, door, 7).ok().expect(rt, "memory")
 }
 
-/// The words of a note: its status, or its cause with the bytes each way; `with a name` where its peer has an identity.
-pub fn words_of_note(rt: &impl Abort, alloc: Global, note: &Note) -> String {
-    let mut words = String::new(alloc);
-    let told = match note {
-        Note::Verdict { status, peer, .. } => match &peer.identity {
-            None => write!(words, "{status}"),
-            Some(_) => words.push_str("with a name"),
-        },
-        Note::End {
-            cause,
-            up,
-            down,
-            ..
-        } => write!(words, "{} {up} {down}", cause.word()),
-    };
-    told.expect(rt, "memory");
-    words
+/// What a node with these doors holds, which was told nothing.
+fn held_at(rt: &impl Abort, alloc: Global, doors: OwnDoors) -> Held {
+    let network = text_of(rt, alloc, b"");
+    let node = text_of(rt, alloc, b"n1");
+    Held::new(alloc, network, node, doors)
 }
 
-/// The words of an act.
-pub fn words_of_act(rt: &impl Abort, alloc: Global, act: Option<Act>) -> String {
-    let mut words = String::new(alloc);
-    let told = match act {
-        None => words.push_str("none"),
-        Some(Act::Dial { to, why }) => {
-            let target = words_of_target(rt, alloc, to);
-            write!(words, "{} {target}", word_of_why(why))
-        }
-        Some(Act::Shut { link }) => write!(words, "shut {link}"),
-        Some(Act::Close { link, cause }) => {
-            let number = cause.number().unwrap_or(0);
-            write!(words, "close {link} {} {number}", cause.word())
-        }
-    };
-    told.expect(rt, "memory");
-    words
-}
-
-/// A link, what is held beside it, and the counts of all links.
+/// A link, another one, what is held beside them, and the counts of all links.
 #[derive(Drop)]
 pub struct Drive {
     pub alloc: Global,
-    pub relay: Relay,
-    pub routes: Routes,
-    pub held: Held,
+    door: Door,
+    relay: Relay,
+    other: Relay,
+    routes: Routes,
+    held: Held,
 }
 
 impl Drive {
-    /// A link that was accepted at this door, and what these responses made of what a node without doors holds.
-    pub fn new(rt: &impl Abort, alloc: Global, door: Door, responses: &[&str]) -> Drive {
-        Drive::beside(rt, alloc, OwnDoors::none(), door, responses)
-    }
-
-    /// One at a node with these doors.
-    pub fn beside(
-        rt: &impl Abort,
-        alloc: Global,
-        doors: OwnDoors,
-        door: Door,
-        responses: &[&str],
-    ) -> Drive {
-        let network = text_of(rt, alloc, b"");
-        let node = text_of(rt, alloc, b"n1");
-        let mut drive = Drive {
+    /// A link that was accepted at this door of a node with these doors.
+    pub fn new(rt: &impl Abort, alloc: Global, doors: OwnDoors, door: Door) -> Drive {
+        Drive {
             alloc,
-            relay: Relay::accepted(alloc, door, 7).ok().expect(rt, "memory"),
+            door,
+            relay: accepted(rt, alloc, door),
+            other: accepted(rt, alloc, door),
             routes: Routes::new(alloc, 15008),
-            held: Held::new(alloc, network, node, doors),
-        };
-        for digits in responses {
-            drive.apply(rt, digits);
+            held: held_at(rt, alloc, doors),
         }
-        drive
     }
 
-    fn apply(&mut self, rt: &impl Abort, digits: &str) {
-        let octets = octets_of(rt, self.alloc, digits);
-        let response = read_response(self.alloc, octets.as_slice());
-        let response = response.ok().expect(rt, "a response");
-        self.held
-            .apply(self.alloc, &response)
-            .ok()
-            .expect(rt, "memory");
+    /// A response comes.
+    pub fn apply(&mut self, rt: &impl Abort, octets: &[u8]) {
+        let response = response_of(rt, self.alloc, octets);
+        let applied = self.held.apply(self.alloc, &response);
+        applied.ok().expect(rt, "memory");
     }
 
-    /// A response comes, and the link is judged.
-    pub fn update(&mut self, rt: &impl Abort, digits: &str) -> Option<Note> {
-        self.apply(rt, digits);
+    pub fn judge(&mut self) -> Option<Note> {
         self.relay.judge(&self.held)
     }
 
-    /// The header of the front comes in two pieces, the second one with these bytes behind it.
-    pub fn front(&mut self, rt: &impl Abort, behind: &[u8]) -> Option<Note> {
-        let mut octets = octets_of(rt, self.alloc, FRONT);
-        for octet in behind {
-            octets.push(*octet).expect(rt, "memory");
-        }
-        let first = octets.as_slice().get(..20).unwrap_or(b"");
-        let second = octets.as_slice().get(20..).unwrap_or(b"");
-        let note = self.come(rt, first);
-        let none = note.is_none() && self.relay.next_act().is_none();
-        assert!(rt; none, "the header isn't whole");
-        self.come(rt, second)
+    /// The other link is the one from now on.
+    pub fn swap(&mut self) {
+        mem::swap(&mut self.relay, &mut self.other);
     }
 
-    /// These bytes come of the link.
-    pub fn come(&mut self, rt: &impl Abort, bytes: &[u8]) -> Option<Note> {
-        assert!(rt; bytes.len() <= self.relay.wants(), "more than is wanted");
+    /// The link is one that has come to the door now.
+    pub fn renew(&mut self, rt: &impl Abort) {
+        self.relay = accepted(rt, self.alloc, self.door);
+    }
+
+    /// The link came where as many are open as may be.
+    pub fn turn_away(&mut self, rt: &impl Abort) {
+        let away = Relay::turned_away(self.alloc, self.door, 7);
+        self.relay = away.ok().expect(rt, "memory");
+    }
+
+    /// The next act that is due, in words.
+    pub fn act(&mut self) -> String {
+        words_of_act(self.alloc, self.relay.next_act())
+    }
+
+    pub fn wants(&self) -> usize {
+        self.relay.wants()
+    }
+
+    pub fn come(&mut self, rt: &impl Abort, at: At, bytes: &[u8]) -> Option<Note> {
+        must(rt, at, bytes.len() <= self.relay.wants());
         self.relay.take_bytes(&self.held, &mut self.routes, bytes)
     }
 
-    /// Both sides end, and what came of each went to the other.
-    pub fn done(&mut self, rt: &impl Abort) {
-        let ended = self.relay.up_ended(&mut self.routes);
-        self.notes(rt, ended, "none");
-        self.acts(rt, &["shut 7"]);
-        let done = self.relay.ended(&mut self.routes);
-        self.notes(rt, done, "done 3 3");
-        self.acts(rt, &["close 8 done 0", "close 7 done 0"]);
+    pub fn output(&self) -> &[u8] {
+        self.relay.output()
     }
 
-    /// The acts that are due are these, and then none.
-    pub fn acts(&mut self, rt: &impl Abort, wanted: &[&str]) {
-        for words in wanted {
-            let act = words_of_act(rt, self.alloc, self.relay.next_act());
-            assert!(rt; act.as_bytes() == words.as_bytes(), "{act}");
-        }
-        let act = words_of_act(rt, self.alloc, self.relay.next_act());
-        assert!(rt; act.as_bytes() == b"none".as_slice(), "{act}");
+    pub fn wrote(&mut self, rt: &impl Abort, at: At, count: usize) -> Option<Note> {
+        must(rt, at, count <= self.relay.output().len());
+        self.relay.wrote(count, &mut self.routes)
     }
 
-    /// A note is this.
-    pub fn notes(&self, rt: &impl Abort, note: Option<Note>, wanted: &str) {
-        match &note {
-            None => assert!(rt; wanted.as_bytes() == b"none".as_slice(), "no note"),
-            Some(note) => {
-                let words = words_of_note(rt, self.alloc, note);
-                assert!(rt; words.as_bytes() == wanted.as_bytes(), "{words}");
-            }
-        }
+    pub fn ended(&mut self) -> Option<Note> {
+        self.relay.ended(&mut self.routes)
     }
 
-    /// It lives, three bytes came and went each way, and this dial and its opening were told.
-    pub fn live(&mut self, rt: &impl Abort, dial: &str) {
-        let note = self.front(rt, b"abc");
-        self.notes(rt, note, "none");
-        let act = words_of_act(rt, self.alloc, self.relay.next_act());
-        assert!(rt; act.as_bytes() == dial.as_bytes(), "{act}");
+    pub fn broke(&mut self, begun: u64) -> Option<Note> {
+        self.relay.broke(begun, &mut self.routes)
+    }
+
+    pub fn stopped(&mut self, begun: u64) -> Option<Note> {
+        self.relay.stopped(Cause::Stopped, begun)
+    }
+
+    pub fn dialled(&mut self) {
         self.relay.dialled(8);
-        self.acts(rt, &[]);
-        let opened = self.relay.up_opened();
-        self.notes(rt, Some(opened), "200");
-        assert!(rt;
-            self.relay.up_output() == b"abc".as_slice(),
-            "what came goes up"
-        );
-        let first = self.relay.up_wrote(1, &mut self.routes);
-        self.notes(rt, first, "none");
-        assert!(rt;
-            self.relay.up_output() == b"bc".as_slice(),
-            "the rest stays"
-        );
-        let rest = self.relay.up_wrote(2, &mut self.routes);
-        self.notes(rt, rest, "none");
-        let down = b"def".as_slice();
-        assert!(rt; down.len() <= self.relay.up_wants(), "more than is wanted");
-        self.relay.up_bytes(down);
-        assert!(rt;
-            self.relay.output() == b"def".as_slice(),
-            "what came goes down"
-        );
-        let went = self.relay.wrote(3, &mut self.routes);
-        self.notes(rt, went, "none");
-        self.acts(rt, &[]);
+    }
+
+    pub fn dial_failed(&mut self) -> Option<Note> {
+        self.relay.dial_failed(&mut self.routes)
+    }
+
+    pub fn up_opened(&mut self) -> Option<Note> {
+        Some(self.relay.up_opened())
+    }
+
+    pub fn up_come(&mut self, rt: &impl Abort, at: At, bytes: &[u8]) {
+        must(rt, at, bytes.len() <= self.relay.up_wants());
+        self.relay.up_bytes(bytes);
+    }
+
+    pub fn up_output(&self) -> &[u8] {
+        self.relay.up_output()
+    }
+
+    pub fn up_wrote(&mut self, rt: &impl Abort, at: At, count: usize) -> Option<Note> {
+        must(rt, at, count <= self.relay.up_output().len());
+        self.relay.up_wrote(count, &mut self.routes)
+    }
+
+    pub fn up_ended(&mut self) -> Option<Note> {
+        self.relay.up_ended(&mut self.routes)
+    }
+
+    /// The gateway and the authority of the stream that is wanted; no words where none is.
+    pub fn wanted(&self) -> String {
+        let mut words = String::new(self.alloc);
+        if let Some((key, authority)) = self.relay.wanted() {
+            put_to(&mut words, self.alloc, key.gateway);
+            let _ = words.push_str(" ");
+            put_to(&mut words, self.alloc, authority);
+        }
+        words
+    }
+
+    pub fn stream(&self) -> Option<(u64, u32)> {
+        self.relay.stream()
+    }
+
+    pub fn ask(&mut self) {
+        self.relay.asked(9, 1);
+    }
+
+    pub fn lacks_room(&mut self) -> Option<Note> {
+        self.relay.lacks_room(&mut self.routes)
+    }
+
+    pub fn stream_opened(&mut self, end: bool) -> Option<Note> {
+        Some(self.relay.stream_opened(end))
+    }
+
+    pub fn lives_on_stream(&self) -> bool {
+        self.relay.lives_on_stream()
+    }
+
+    pub fn stream_come(&mut self, bytes: &[u8]) {
+        self.relay.stream_bytes(bytes);
+    }
+
+    pub fn stream_ended(&mut self) {
+        self.relay.stream_ended();
+    }
+
+    pub fn stream_failed(&mut self, cause: Cause, begun: u64) -> Option<Note> {
+        self.relay.stream_failed(cause, begun, &mut self.routes)
+    }
+
+    /// These bytes wait for the stream, and so many of them are put.
+    pub fn put(&mut self, rt: &impl Abort, at: At, bytes: &[u8], count: usize) {
+        let waiting = &*self.relay.waiting();
+        must(rt, at, waiting == bytes);
+        must(rt, at, count <= bytes.len());
+        self.relay.put(count);
+    }
+
+    pub fn owed(&self) -> u64 {
+        self.relay.owed()
+    }
+
+    pub fn credited(&mut self) {
+        self.relay.credited();
+    }
+
+    pub fn may_finish(&self) -> bool {
+        self.relay.may_finish()
+    }
+
+    pub fn finished(&mut self) {
+        self.relay.finished();
+    }
+
+    pub fn may_complete(&self) -> bool {
+        self.relay.may_complete()
+    }
+
+    pub fn complete(&mut self, begun: u64) -> Option<Note> {
+        Some(self.relay.complete(begun, &mut self.routes))
     }
 }

@@ -2,14 +2,18 @@
 #![tactic(auto)]
 
 #[cfg(test)]
-mod drive;
+mod at;
 #[cfg(test)]
-mod gateway;
+mod drive;
 #[cfg(test)]
 mod gateway_rows;
 #[cfg(test)]
-mod lives;
+mod lines;
 #[cfg(test)]
 mod octets;
 #[cfg(test)]
-mod outbound;
+mod outbound_rows;
+#[cfg(test)]
+mod plain_rows;
+#[cfg(test)]
+mod words;
