@@ -4,6 +4,12 @@
 #[cfg(test)]
 mod drive;
 #[cfg(test)]
+mod frames;
+#[cfg(test)]
+mod lines;
+#[cfg(test)]
+mod must;
+#[cfg(test)]
 mod octets;
 #[cfg(test)]
 mod rows;

@@ -3,8 +3,6 @@
 use crate::drive::Drive;
 use crate::octets::cut;
 use crate::rows::ROWS;
-use crate::words::words_of_act;
-use hb_link::Link;
 use std::alloc::Global;
 use std::process::Abort;
 
@@ -19,7 +17,7 @@ fn run_all(rt: &impl Abort, alloc: Global, chance: u32) {
             drive = Drive::new(rt, alloc, chance);
             row = row.wrapping_add(1);
         } else {
-            drive.line(rt, alloc, row, line);
+            drive.line(rt, row, line);
         }
     }
     drive.finish(rt, row);
@@ -35,11 +33,10 @@ fn runs_in_all_cuts(rt: HostRuntime) {
 
 #[test]
 fn closes_a_link_that_is_turned_away(rt: HostRuntime) {
-    let alloc = rt.alloc();
-    let link = Link::turned_away(alloc, 7);
-    let mut link = link.ok().expect(&rt, "memory");
-    let idle = link.wants() == 0 && link.output().is_empty() && link.load() == 0;
+    let mut drive = Drive::new(&rt, rt.alloc(), 0);
+    drive.turn_away(&rt);
+    let idle = drive.wants(0) == 0 && drive.output(0).is_empty() && drive.load() == 0;
     assert!(&rt; idle, "it is no link to be read or written");
-    let words = words_of_act(&rt, alloc, link.next_act());
+    let words = drive.act();
     assert!(&rt; words.as_bytes() == "close 7 no room".as_bytes(), "{words}");
 }
