@@ -4,8 +4,8 @@ use crate::octets::{check_far, comes, free_port, here, listener, pattern, sum_of
 use hb_base::{Cause, Door, Why};
 use hb_mio::MioWorld;
 use hb_world::{Born, Finished, Listened, Read, Ready, ReadyItem, Waited, World, Wrote};
-use std::alloc::AllocError;
-use std::io::{self, ErrorKind};
+use std::alloc::{AllocError, Global};
+use std::io;
 use std::net::{Shutdown, TcpListener, TcpStream};
 use std::test::Fail;
 
@@ -25,24 +25,28 @@ pub struct Play {
     peers: Vec<Option<TcpStream>>,
 }
 
-/// What came on a link, and how it went on.
-#[derive(Clone, Copy, Debug, PartialEq, Eq)]
-pub struct Heard {
-    pub octets: usize,
-    /// The sum of the octets' values.
-    pub sum: u64,
-    pub end: &'static str,
+/// What a line tells.
+#[derive(Clone, Copy)]
+pub enum Told {
+    /// A word; none where there is nothing to tell.
+    Word(&'static str),
+    Counted(&'static str, u64),
+    /// How many octets came on a link, the sum of their values, and how it went on.
+    Heard(usize, u64, &'static str),
 }
 
 impl Play {
     pub fn new(rt: &HostRuntime) -> Result<Play, Fail> {
+        let free = free_port(rt)?;
         let (listener, taken) = listener(rt)?;
+        let net = rt.clone()?;
+        let ready = Ready::new(rt.alloc())?;
         Ok(Play {
-            world: MioWorld::new(rt.alloc(), rt.clone()?),
-            ready: Ready::new(rt.alloc())?,
+            world: MioWorld::new(rt.alloc(), net),
+            ready,
             listener,
             taken,
-            free: free_port(rt)?,
+            free,
             peers: Vec::new(rt.alloc()),
         })
     }
@@ -97,16 +101,22 @@ impl Play {
         !self.ready.items().is_empty()
     }
 
+    /// How often the inbound door is among what is ready.
+    fn times_ready(&self) -> u64 {
+        let mut times = 0u64;
+        for item in self.ready.items() {
+            if matches!(item, ReadyItem::Door(Door::Inbound)) {
+                times = times.saturating_add(1);
+            }
+        }
+        times
+    }
+
     /// Waits until the inbound door is ready. Tells how often it is named then.
-    fn times_named(&mut self) -> u32 {
+    fn times_named(&mut self) -> u64 {
         for _ in 0..WAITS {
             let _ = self.wait();
-            let mut times = 0u32;
-            for item in self.ready.items() {
-                if matches!(item, ReadyItem::Door(Door::Inbound)) {
-                    times = times.saturating_add(1);
-                }
-            }
+            let times = self.times_ready();
             if times > 0 {
                 return times;
             }
@@ -127,52 +137,52 @@ impl Play {
     }
 
     /// A link that is dialled and open, whose other end is the next of those that are held.
-    pub fn pair(&mut self) -> io::Result<Born> {
+    pub fn pair(&mut self) -> Born {
         let born = self.dial(self.taken);
-        let (peer, _) = self.listener.accept()?;
-        self.peers.push(Some(peer))?;
-        match born {
-            Born::New(link) if matches!(self.await_finish(link), Finished::Opened) => Ok(born),
-            _ => Err(io::Error::from(ErrorKind::NotConnected)),
+        let Born::New(link) = born else {
+            return born;
+        };
+        let Ok((peer, _)) = self.listener.accept() else {
+            return Born::Failed;
+        };
+        if self.peers.push(Some(peer)).is_err() {
+            return Born::NoMemory;
+        }
+        match self.await_finish(link) {
+            Finished::Opened => born,
+            _ => Born::Failed,
         }
     }
 
     /// Reads until the link's end, or until so many octets came.
-    pub fn hear(&mut self, link: u64, most: usize) -> Heard {
-        let mut heard = Heard {
-            octets: 0,
-            sum: 0,
-            end: "more",
-        };
+    pub fn hear(&mut self, link: u64, most: usize) -> Told {
+        let mut octets = 0usize;
+        let mut sum = 0u64;
         let mut waits = 0u32;
         for _ in 0..u32::MAX {
-            if heard.octets >= most || waits >= WAITS {
+            if octets >= most || waits >= WAITS {
                 break;
             }
-            let (answer, sum) = self.read(link);
-            heard.sum = heard.sum.saturating_add(sum);
+            let (answer, more) = self.read(link);
+            sum = sum.saturating_add(more);
             match answer {
-                Read::Got(n) => heard.octets = heard.octets.saturating_add(n),
+                Read::Got(n) => octets = octets.saturating_add(n),
                 Read::Balked => {
                     let _ = self.wait();
                     waits = waits.saturating_add(1);
                 }
-                _ => {
-                    heard.end = word_of_read(answer);
-                    break;
-                }
+                _ => return Told::Heard(octets, sum, word_of_read(answer)),
             }
         }
-        heard
+        Told::Heard(octets, sum, "more")
     }
 
     /// Takes the other end of a link out of those that are held.
-    fn take_peer(&mut self, link: u64) -> io::Result<TcpStream> {
-        let peer = match self.peers.get_mut(link.wrapping_sub(1) as usize) {
+    fn take_peer(&mut self, link: u64) -> Option<TcpStream> {
+        match self.peers.get_mut(link.wrapping_sub(1) as usize) {
             Some(peer) => peer.take(),
             None => None,
-        };
-        peer.ok_or(io::Error::from(ErrorKind::NotConnected))
+        }
     }
 
     /// Holds the other end of a link again.
@@ -182,89 +192,123 @@ impl Play {
         }
     }
 
-    /// Writes so many octets to a link, whose other end takes them where the link balks. Whether it balked.
-    fn send(&mut self, link: u64, count: usize) -> io::Result<bool> {
-        let octets = pattern();
-        let mut peer = self.take_peer(link)?;
-        let mut sent = 0usize;
-        let mut taken = 0usize;
-        let mut balked = false;
+    /// Writes to a link until so many octets are written or it balks. How many are written then; None where it fails.
+    fn write_on(&mut self, link: u64, octets: &[u8], sent: usize, count: usize) -> Option<usize> {
+        let mut sent = sent;
         for _ in 0..u32::MAX {
             if sent >= count {
                 break;
             }
-            match self.write(link, &octets[sent % 251..]) {
+            match self.write(link, octets.get(sent % 251..).unwrap_or(b"")) {
                 Wrote::Took(n) => sent = sent.saturating_add(n),
-                Wrote::Balked => {
-                    check_far(&mut peer, taken, sent.saturating_sub(taken))?;
-                    taken = sent;
-                    balked = true;
-                    let _ = self.wait();
-                }
-                _ => return Err(io::Error::from(ErrorKind::BrokenPipe)),
+                Wrote::Balked => break,
+                _ => return None,
             }
         }
-        check_far(&mut peer, taken, sent.saturating_sub(taken))?;
-        self.hold_peer(link, peer);
-        Ok(balked)
+        Some(sent)
     }
 
-    /// What a link's other end does. A word where that isn't what comes to it.
-    pub fn at_peer(&mut self, call: &str, link: u64, text: &str) -> io::Result<&'static str> {
-        let mut peer = self.take_peer(link)?;
-        let mut told = "";
-        match call {
-            "says" => io::Write::write_all(&mut peer, text.as_bytes())?,
-            "hears" if !comes(&mut peer, text)? => told = "another text",
-            "hears" => {}
-            "ends" => peer.shutdown(Shutdown::Write)?,
-            "left" if io::Read::read(&mut peer, &mut [0u8; 1])? > 0 => told = "more",
-            "left" => {}
-            "leaves" => return Ok(""),
-            _ => told = "no such line",
+    /// Writes so many octets to a link, whose other end takes them where the link balks. Whether it balked, in words.
+    fn send(&mut self, link: u64, count: usize, peer: &mut TcpStream) -> &'static str {
+        let octets = pattern();
+        let mut taken = 0usize;
+        let mut word = "at once";
+        for _ in 0..u32::MAX {
+            let Some(sent) = self.write_on(link, &octets, taken, count) else {
+                return "the link failed";
+            };
+            if check_far(peer, taken, sent.saturating_sub(taken)).is_err() {
+                return "other octets";
+            }
+            if sent >= count {
+                break;
+            }
+            taken = sent;
+            word = "in parts";
+            let _ = self.wait();
         }
+        word
+    }
+
+    /// A line on the other end of a link.
+    pub fn at_peer(&mut self, call: &str, link: u64, text: &str) -> &'static str {
+        let Some(mut peer) = self.take_peer(link) else {
+            return "no such peer";
+        };
+        let word = match call {
+            "leaves" => return "",
+            "send" => self.send(link, number_of(text) as usize, &mut peer),
+            _ => moved(&mut peer, call, text),
+        };
         self.hold_peer(link, peer);
-        Ok(told)
+        word
     }
 
     /// A connection to the world's door.
-    pub fn call(&mut self, rt: &HostRuntime) -> io::Result<()> {
-        let peer = TcpStream::connect(rt, here(self.free))?;
-        self.peers.push(Some(peer))?;
-        Ok(())
+    fn call(&mut self, rt: &HostRuntime) -> &'static str {
+        let Ok(peer) = TcpStream::connect(rt, here(self.free)) else {
+            return "a socket failed";
+        };
+        match self.peers.push(Some(peer)) {
+            Ok(()) => "",
+            Err(_) => "no memory",
+        }
+    }
+
+    /// A line that is a call of the world, and what it answers.
+    fn world_line(&mut self, call: &str, first: &str, text: &str) -> Told {
+        let link = number_of(first);
+        match call {
+            "listen" => Told::Word(word_of_listen(self.listen(self.free, door_of(first)))),
+            "taken" => Told::Word(word_of_listen(self.listen(self.taken, door_of(first)))),
+            "accept" => told_of_born(self.accept(door_of(first))),
+            "finish" => Told::Word(word_of_finish(self.finish(link))),
+            "read" => Told::Word(word_of_read(self.read(link).0)),
+            "write" => told_of_write(self.write(link, text.as_bytes())),
+            "shut" => {
+                self.shut(link);
+                Told::Word("")
+            }
+            "close" => {
+                self.close(link);
+                Told::Word("")
+            }
+            _ => Told::Word("no such line"),
+        }
     }
 
     /// One line of a run, and what it tells.
-    pub fn told(&mut self, rt: &HostRuntime, line: &str) -> io::Result<String> {
+    pub fn told(&mut self, rt: &HostRuntime, line: &str) -> Told {
         let (call, rest) = cut(line, " ");
         let (first, text) = cut(rest, " ");
         let link = number_of(first);
-        let mut words = String::new(rt.alloc());
         match call {
-            "listen" => put_listened(&mut words, self.listen(self.free, door_of(first)))?,
-            "taken" => put_listened(&mut words, self.listen(self.taken, door_of(first)))?,
-            "call" => self.call(rt)?,
-            "named" => write!(words, "{}", self.times_named())?,
-            "accept" => put_born(&mut words, self.accept(door_of(first)))?,
-            "dial" => put_born(&mut words, self.dial(free_port(rt)?))?,
-            "pair" => put_born(&mut words, self.pair()?)?,
-            "finish" => words.push_str(word_of_finish(self.finish(link)))?,
-            "await" => words.push_str(word_of_finish(self.await_finish(link)))?,
-            "read" => words.push_str(word_of_read(self.read(link).0))?,
-            "write" => put_wrote(&mut words, self.write(link, text.as_bytes()))?,
-            "shut" => self.shut(link),
-            "close" => self.close(link),
-            "hear" => {
-                let heard = self.hear(link, number_of(text) as usize);
-                write!(words, "{} {} {}", heard.octets, heard.sum, heard.end)?;
+            "call" => Told::Word(self.call(rt)),
+            "named" => Told::Counted("times", self.times_named()),
+            "dial" => told_of_born(self.dial(free_port(rt).unwrap_or(0))),
+            "pair" => told_of_born(self.pair()),
+            "await" => Told::Word(word_of_finish(self.await_finish(link))),
+            "hear" => self.hear(link, number_of(text) as usize),
+            "says" | "hears" | "send" | "ends" | "left" | "leaves" => {
+                Told::Word(self.at_peer(call, link, text))
             }
-            "send" if self.send(link, number_of(text) as usize)? => {
-                words.push_str("in parts")?;
-            }
-            "send" => words.push_str("at once")?,
-            _ => words.push_str(self.at_peer(call, link, text)?)?,
+            _ => self.world_line(call, first, text),
         }
-        Ok(words)
+    }
+}
+
+/// What the other end of a link does, and a word where that isn't what comes to it.
+fn moved(peer: &mut TcpStream, call: &str, text: &str) -> &'static str {
+    let well = match call {
+        "says" => io::Write::write_all(peer, text.as_bytes()).is_ok(),
+        "hears" => comes(peer, text).unwrap_or(false),
+        "ends" => peer.shutdown(Shutdown::Write).is_ok(),
+        _ => io::Read::read(peer, &mut [0u8; 1]).unwrap_or(1) == 0,
+    };
+    if well {
+        ""
+    } else {
+        "other octets, or a socket failed"
     }
 }
 
@@ -286,29 +330,29 @@ fn door_of(word: &str) -> Door {
     }
 }
 
-fn put_listened(words: &mut String, answer: Listened) -> Result<(), AllocError> {
+fn word_of_listen(answer: Listened) -> &'static str {
     match answer {
-        Listened::Listening => words.push_str("listening"),
-        Listened::Failed => words.push_str("failed"),
-        Listened::NoMemory => words.push_str("no memory"),
+        Listened::Listening => "listening",
+        Listened::Failed => "failed",
+        Listened::NoMemory => "no memory",
     }
 }
 
-fn put_born(words: &mut String, answer: Born) -> Result<(), AllocError> {
+fn told_of_born(answer: Born) -> Told {
     match answer {
-        Born::New(link) => write!(words, "link {link}"),
-        Born::Balked => words.push_str("balked"),
-        Born::Failed => words.push_str("failed"),
-        Born::NoMemory => words.push_str("no memory"),
+        Born::New(link) => Told::Counted("link", link),
+        Born::Balked => Told::Word("balked"),
+        Born::Failed => Told::Word("failed"),
+        Born::NoMemory => Told::Word("no memory"),
     }
 }
 
-fn put_wrote(words: &mut String, answer: Wrote) -> Result<(), AllocError> {
+fn told_of_write(answer: Wrote) -> Told {
     match answer {
-        Wrote::Took(count) => write!(words, "took {count}"),
-        Wrote::Balked => words.push_str("balked"),
-        Wrote::Failed => words.push_str("failed"),
-        Wrote::NoMemory => words.push_str("no memory"),
+        Wrote::Took(count) => Told::Counted("took", count as u64),
+        Wrote::Balked => Told::Word("balked"),
+        Wrote::Failed => Told::Word("failed"),
+        Wrote::NoMemory => Told::Word("no memory"),
     }
 }
 
@@ -328,5 +372,14 @@ fn word_of_read(answer: Read) -> &'static str {
         Read::Balked => "balked",
         Read::Failed => "failed",
         Read::NoMemory => "no memory",
+    }
+}
+
+/// What a line tells, in words.
+pub fn words_of(alloc: Global, told: Told) -> Result<String, AllocError> {
+    match told {
+        Told::Word(word) => String::from_str(alloc, word),
+        Told::Counted(word, count) => format!(in alloc; "{word} {count}"),
+        Told::Heard(octets, sum, end) => format!(in alloc; "{octets} {sum} {end}"),
     }
 }

@@ -26,7 +26,7 @@ accept inbound = balked
 call
 call
 call
-named = 1
+named = times 1
 accept inbound = link 1
 accept inbound = link 2
 accept inbound = link 3
@@ -36,7 +36,7 @@ hear 2 5 = 5 532 more
 close 2
 left 2
 call
-named = 1
+named = times 1
 accept inbound = link 4
 leaves 1
 leaves 3
