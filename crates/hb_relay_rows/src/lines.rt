@@ -67,14 +67,15 @@ fn number_of(rt: &impl Abort, text: &str) -> u64 {
 
 /// The octets of a name.
 fn octets_of(rt: &impl Abort, alloc: Global, wanted: &str) -> Vec<u8> {
-    let mut digits = "no octets";
+    let mut octets = Vec::new(alloc);
     for line in std::str::from_utf8(OCTETS).unwrap_or("no text").lines() {
-        let (name, named) = cut(line, " ");
+        let (name, digits) = cut(line, " ");
         if name == wanted {
-            digits = named;
+            octets = hex::decode(alloc, digits).ok().expect(rt, "octets");
         }
     }
-    hex::decode(alloc, digits).ok().expect(rt, "octets")
+    assert!(rt; !octets.is_empty(), "no octets are named {wanted}");
+    octets
 }
 
 /// The cause by which a stream fails, of a line's call and code.
@@ -317,22 +318,26 @@ impl Drive {
     }
 }
 
-/// Plays the rows of a table.
-fn play(rt: &impl Abort, alloc: Global, rows: &[u8]) {
-    let mut row = "";
+/// Plays a row: its first line, and the lines behind it.
+fn play_row(rt: &impl Abort, alloc: Global, row: &str, lines: &str) {
     let mut drive = begun(rt, alloc, row);
-    for line in std::str::from_utf8(rows).unwrap_or("no text").lines() {
-        let (call, rest) = cut(line, " ");
-        if call == "row" {
-            row = rest;
-            drive = begun(rt, alloc, row);
-        } else if call == "lives" {
+    for line in lines.lines() {
+        if line == "lives" {
             for line in LIVES.lines() {
                 drive.line(rt, row, line);
             }
         } else {
             drive.line(rt, row, line);
         }
+    }
+}
+
+/// Plays the rows of a table, each of which begins with `row`.
+fn play(rt: &impl Abort, alloc: Global, rows: &[u8]) {
+    let text = std::str::from_utf8(rows).unwrap_or("no text");
+    for row in text.split("\nrow ") {
+        let (row, lines) = cut(row, "\n");
+        play_row(rt, alloc, row, lines);
     }
 }
 
