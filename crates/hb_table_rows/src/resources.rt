@@ -10,7 +10,7 @@ use hb_held::{Held, Outcome, OwnDoors};
 use std::process::Abort;
 
 /// Responses by their names, each with the octets of its message. `U1` is the workload `u1`: `web` of namespace `a`, at 10.0.0.7 on node
-/// `n1`, which asks for the policy `a/p`; renamed it is `wec`, moved it is on node `n2`, and gone it is removed. `U2` is another workload of
+/// `n1`, which asks for the policy `a/p`; renamed it is `wec`, moved it is on node `n2`, gone it is removed. `U2` is another workload of
 /// the node, at 10.0.0.8 and of namespace `b`. `ALLOW` is the policy `a/p`, which allows the identity `c` of namespace `a`; `NEVER` is the
 /// policy `e`, which allows nothing; `DENY` is `d`, which denies all, and `DENY ELSEWHERE` is `o`, which denies all in namespace `x`. The
 /// last ones remove a workload that isn't held, and two policies.

@@ -41,7 +41,8 @@ returns-then-counts-eq0-2-clause-settles g c = λ others limit.
     (settles_then others limit (λ held. ⊤) (PutsBelow 0 0) (PutsBelow 0 0) Shows k mid mid told before before
     (c.put_in_turn.ensures.settles others limit)
     (stays others limit (λ held. ⊤) (PutsBelow 0 0) Shows mid before
-    (none_ends mid c.counts-then-not-is_empty.ensures.numbers (sym (ap (λ (c : Counts). c.ends) c.counts-then-not-is_empty.ensures.value) ∙ none) waits)))
+    (none_ends mid c.counts-then-not-is_empty.ensures.numbers
+    (sym (ap (λ (c : Counts). c.ends) c.counts-then-not-is_empty.ensures.value) ∙ none) waits)))
 
 pub loop-from-init : goal.loop-from-init
 loop-from-init g c =
