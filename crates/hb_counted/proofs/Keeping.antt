@@ -1,15 +1,18 @@
 -- The counts between two calls: one value may be counted for the classes that it had.
-use Rattle.std.proofs.Common.{◌≡◌, ◌≢◌, ℕ, ◌<◌, ◌^◌, ◌==◌, true, false, cond, inl, inr, Bool, Option, Some, None, is_some, IsSome, Result, Ok, Err, OnOk, OnErr, refl, ap, sym, subst, ◌∙◌, arith}
+use Rattle.std.proofs.Common.{◌≡◌, ◌≢◌, ℕ, ◌<◌, ◌≤◌, ◌^◌, ◌==◌, true, false, cond, inl, inr, Bool, Option, Some, None, is_some, IsSome, Result, Ok, Err, OnOk, OnErr, refl, ap, sym, subst, ◌∙◌, arith}
 use Rattle.std.specs.Ordering.{nat_cmp}
 use Rattle.std.specs.FinMap.{FinMap, empty, get, insert, get-empty}
 use Rattle.std.proofs.lemmas.Bool.{cases_eq, eq-eqb, eqb-false, ne_eqb, false≢true}
 use Rattle.hb_map.proofs.Laws.{put_elsewhere}
 use Rattle.hb_counted.specs.declared.classes.Classes.{Classes}
 use Rattle.hb_counted.specs.declared.counts.Counts.{Counts}
+use Rattle.hb_counted.specs.declared.starts.Starts.{Starts}
 use Rattle.hb_counted.specs.declared.counted.Tally.{Tally}
 use Rattle.hb_counted.specs.Classes.{in_none, of_none, how_many_below, how_many, classes_in, counts_by, counts_of, moved, AllowsAll}
 use Rattle.hb_counted.specs.Kept.{seen, IsKept}
+use Rattle.hb_counted.specs.Starts.{AreStarts, all_lowered}
 use Rattle.hb_counted.proofs.Counting.{counts_same, counts_moved, counts_never, allows_all, none_is}
+use Rattle.hb_counted.proofs.Starting.{starts_same, starts_lowered, starts_never}
 
 module _ {T : Type 0} (classes : T → Classes) where
   abbrev plain : FinMap nat_cmp T → ℕ → Classes
@@ -37,18 +40,30 @@ module _ {T : Type 0} (classes : T → Classes) where
           ∙ ap (λ (was : Classes). moved (counts_by (seen classes tally m)) was (plain m tally.lent)) (sym seen_here)
           ∙ counts_moved (seen classes tally m) (plain m) tally.lent kept.lent seen_elsewhere
 
+      -- and the starts are lowered by it
+      pub starts_all : AreStarts (all_lowered tally.starts (counts_of classes m) (plain m tally.lent) tally.lent) (plain m)
+      starts_all =
+          starts_lowered tally.starts (seen classes tally m) (plain m) tally.lent kept.starts seen_elsewhere (λ q beyond.
+          by_value q (get m q) refl beyond)
+        where
+          by_value : (q : ℕ) (o : Option T) → get m q ≡ o → 2 ^ 32 ≤ q → plain m q ≡ in_none
+          by_value q None is beyond = ap (classes_in classes) is
+          by_value q (Some item) is beyond = absurd (let less = kept.narrow q (ap is_some is) in omega (arith, less, beyond))
+
       -- it alone may change
       pub keeps : (number : ℕ) → tally.lent ≡ number → (n : FinMap nat_cmp T) → ((q : ℕ) → q ≢ number → get n q ≡ get m q)
           → IsKept classes tally n
-      keeps number is n others = record {
-        counted = kept.counted ∙ counts_same (seen classes tally m) (seen classes tally n) (λ q.
-            by_test q (q == tally.lent) refl);
-        narrow = λ q some. elim (cases_eq q number) [
-          | inl here ↦ subst (λ (q : ℕ). q < 2 ^ 32) (is ∙ sym here) kept.lent
-          | inr apart ↦ kept.narrow q (sym (ap is_some (others q apart)) ∙ some)
-        ];
-        lent = kept.lent;
-      }
+      keeps number is n others =
+          let alike : (q : ℕ) → seen classes tally m q ≡ seen classes tally n q = λ q. by_test q (q == tally.lent) refl in
+          record {
+            counted = kept.counted ∙ counts_same (seen classes tally m) (seen classes tally n) alike;
+            starts = starts_same tally.starts (seen classes tally m) (seen classes tally n) alike kept.starts;
+            narrow = λ q some. elim (cases_eq q number) [
+              | inl here ↦ subst (λ (q : ℕ). q < 2 ^ 32) (is ∙ sym here) kept.lent
+              | inr apart ↦ kept.narrow q (sym (ap is_some (others q apart)) ∙ some)
+            ];
+            lent = kept.lent;
+          }
         where
           by_test : (q : ℕ) (b : Bool) → (q == tally.lent) ≡ b
               → cond b tally.was (plain m q) ≡ cond b tally.was (plain n q)
@@ -56,25 +71,30 @@ module _ {T : Type 0} (classes : T → Classes) where
           by_test q false apart = ap (classes_in classes) (sym (others q (λ same. eqb-false q tally.lent apart (same ∙ sym is))))
 
   -- all are counted for what they are
-  pub turns : (counts : Counts) (number : ℕ) (was : Classes) (m : FinMap nat_cmp T) → counts ≡ counts_of classes m
-      → was ≡ plain m number → number < 2 ^ 32 → ((q : ℕ) → IsSome (get m q) → q < 2 ^ 32)
-      → IsKept classes (record { counts = counts; lent = number; was = was }) m
-  turns counts number was m counted is fits narrow =
-      let tally : Tally = record { counts = counts; lent = number; was = was } in
+  pub turns : (counts : Counts) (starts : Starts) (number : ℕ) (was : Classes) (m : FinMap nat_cmp T) → counts ≡ counts_of classes m
+      → AreStarts starts (plain m) → was ≡ plain m number → number < 2 ^ 32 → ((q : ℕ) → IsSome (get m q) → q < 2 ^ 32)
+      → IsKept classes (record { counts = counts; starts = starts; lent = number; was = was }) m
+  turns counts starts number was m counted begun is fits narrow =
+      let tally : Tally = record { counts = counts; starts = starts; lent = number; was = was } in
+      let alike : (q : ℕ) → plain m q ≡ seen classes tally m q = λ q. elim (cases_eq q number) [
+        | inl here ↦ ap (plain m) here ∙ sym is ∙ sym (seen_here tally m) ∙ sym (ap (seen classes tally m) here)
+        | inr apart ↦ sym (seen_elsewhere tally m q apart)
+      ] in
       record {
-        counted = counted ∙ counts_same (plain m) (seen classes tally m) (λ q. elim (cases_eq q number) [
-          | inl here ↦ ap (plain m) here ∙ sym is ∙ sym (seen_here tally m) ∙ sym (ap (seen classes tally m) here)
-          | inr apart ↦ sym (seen_elsewhere tally m q apart)
-        ]);
+        counted = counted ∙ counts_same (plain m) (seen classes tally m) alike;
+        starts = starts_same starts (plain m) (seen classes tally m) alike begun;
         narrow = narrow;
         lent = fits;
       }
 
-  pub none_kept : IsKept classes (record { counts = of_none; lent = 0; was = in_none }) (empty {R = nat_cmp})
-  none_kept =
+  pub none_kept : (starts : Starts)
+      → IsKept classes (record { counts = of_none; starts = starts; lent = 0; was = in_none }) (empty {R = nat_cmp})
+  none_kept starts =
       let nothing = empty {R = nat_cmp} in
-      turns of_none 0 in_none nothing
-      (sym counts_never ∙ counts_same (λ q. in_none) (plain nothing) (λ q. sym (ap (classes_in classes) (get-empty nat_cmp q))))
+      let alike : (q : ℕ) → in_none ≡ plain nothing q = λ q. sym (ap (classes_in classes) (get-empty nat_cmp q)) in
+      turns of_none starts 0 in_none nothing
+      (sym counts_never ∙ counts_same (λ q. in_none) (plain nothing) alike)
+      (starts_same starts (λ q. in_none) (plain nothing) alike (starts_never starts))
       (sym (ap (classes_in classes) (get-empty nat_cmp 0))) (omega arith)
       (λ q some. absurd (false≢true (sym (ap is_some (get-empty nat_cmp q)) ∙ some)))
 

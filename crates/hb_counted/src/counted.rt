@@ -8,18 +8,21 @@ ghost use Rattle.hb_map.specs.Keyed.{IsFirstFrom};
 ghost use Rattle.hb_counted.specs.Classes.{classes_in, counts_of};
 ghost use Rattle.hb_counted.specs.Lending.{LendsCounted};
 ghost use Rattle.hb_counted.specs.Kept.{IsKept};
+ghost use Rattle.hb_counted.specs.Starts.{AreStarts};
 
 use crate::classes::{Classed, Classes};
 use crate::counts::Counts;
+use crate::starts::Starts;
 use hb_base::NoMemory;
 use hb_slots::Slots;
 use std::alloc::Global;
 use std::marker::Model;
 
-/// The counts, for which one value counts as it was when it was lent.
+/// The counts and starts, for which one value counts as it was when it was lent.
 #[derive(Clone, Copy)]
 pub(crate) struct Tally {
     pub counts: Counts,
+    pub starts: Starts,
     /// The number that was lent last, and the classes that its value was in before.
     pub lent: u32,
     pub was: Classes,
@@ -58,12 +61,15 @@ fn classes_at<T: Classed>(slots: &Slots<T>, number: u32) -> Classes
     }
 }
 
-/// How many values are in each class now.
-fn counts_now<T: Classed>(slots: &Slots<T>, tally: Tally) -> Counts
+/// How many values are in each class now, and from which numbers on they may be.
+fn standing<T: Classed>(slots: &Slots<T>, tally: Tally) -> (Counts, Starts)
     requires { IsKept T.classes_of tally slots.now }
-    ensures { result ≡ counts_of T.classes_of slots.now }
+    ensures counts { result.0 ≡ counts_of T.classes_of slots.now }
+    ensures starts { AreStarts result.1 (λ n. classes_in T.classes_of (map.get slots.now n)) }
 {
-    tally.counts.moved(tally.was, classes_at(slots, tally.lent))
+    let is = classes_at(slots, tally.lent);
+    let counts = tally.counts.moved(tally.was, is);
+    (counts, tally.starts.lowered(counts, is, tally.lent))
 }
 
 /// The tally where this number is lent next.
@@ -75,8 +81,10 @@ fn turned<T: Classed>(slots: &Slots<T>, tally: Tally, number: u32) -> Tally
     if tally.lent == number {
         return tally;
     }
+    let (counts, starts) = standing(slots, tally);
     Tally {
-        counts: counts_now(slots, tally),
+        counts,
+        starts,
         lent: number,
         was: classes_at(slots, number),
     }
@@ -91,6 +99,7 @@ impl<T: Classed> Counted<T> {
             slots: Slots::new(alloc),
             tally: Tally {
                 counts: Counts::none(),
+                starts: Starts::none(),
                 lent: 0,
                 was: Classes::none(),
             },
@@ -102,7 +111,14 @@ impl<T: Classed> Counted<T> {
         ensures value { result ≡ counts_of T.classes_of self.now }
         ensures numbers { (n : ℕ) → IsSome (map.get self.now n) → n < 2 ^ 32 }
     {
-        counts_now(&self.slots, self.tally)
+        standing(&self.slots, self.tally).0
+    }
+
+    /// From which numbers on values may be in a class.
+    pub fn starts(&self) -> Starts
+        ensures { AreStarts result (λ n. classes_in T.classes_of (map.get self.now n)) }
+    {
+        standing(&self.slots, self.tally).1
     }
 
     /// The value under a number. `None` where none stands there.
