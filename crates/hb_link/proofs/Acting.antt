@@ -1,11 +1,15 @@
 -- The acts that are due.
 use Rattle.std.proofs.Common.{◌≡◌, ⊎_elim, inl, inr, ℕ, ◌<◌, ◌==◌, Bool, true, false, is_some, IsSome, Option, Some, None, if◌then◌else◌, refl, ap, sym, ◌∙◌, subst, arith}
 use Rattle.std.proofs.lemmas.Bool.{false≢true, eqb-false, ne_eqb, cases_eq}
+use Rattle.std.proofs.lemmas.Bool.Decides.{nat_tests}
+use Rattle.std.specs.Prelude.{nat_lt}
 use Rattle.std.specs.FinMap.{get, remove}
 use Rattle.hb_base.specs.declared.cause.Cause.{Cause}
 use Rattle.hb_base.specs.declared.door.Why.{Why}
 use Rattle.hb_base.specs.declared.door.Why.TheVariants as whys
 use Rattle.hb_base.specs.declared.target.Target.{Target}
+use Rattle.hb_counted.specs.Starts.{IsStart}
+use Rattle.hb_counted.proofs.Starting.{none_before}
 use Rattle.hb_map.specs.Keyed.{IsFirstFrom, written}
 use Rattle.hb_map.proofs.Laws.{written_here, written_elsewhere, removed_here, removed_elsewhere}
 use Rattle.hb_world.specs.declared.act.Act.{Act}
@@ -27,7 +31,9 @@ use Rattle.hb_link.specs.Acting.{act_by, act_here, act_in, act_on}
 use Rattle.hb_link.specs.Acts.{Acts, IsFirst}
 use Rattle.hb_link.specs.Shows.{Shows, ShowsBy}
 use Rattle.hb_link.specs.Tunnels.{phase_of, stage_of, tunnel_of, as_told, IsSound, ShowsAt, ShowsTunnel}
+use Rattle.hb_link.proofs.Classed.{class_at, due_class}
 use Rattle.hb_link.proofs.Living.{it_serves, shows_live}
+use Rattle.hb_link.proofs.Loads.{place_of, none_between}
 use Rattle.hb_link.proofs.Moving.{Map, WayBy, here, is_here, shown}
 
 -- WHAT IS DUE OF THE CODE'S TUNNEL IS DUE OF THE MACHINE'S
@@ -144,6 +150,18 @@ module _ (l s : ℕ) where
 -- none is due on the streams below a number
 abbrev pub NoneBelow : ℕ → Link → Type 0
 NoneBelow bound k = (s : ℕ) → s < bound → act_on k s ≡ None
+
+-- in front of the first of those of which one is due none is
+pub none_before_start : (k : Link) (start : ℕ) (first : Option ℕ) → IsStart start (λ n. (class_at k.tunnels n).due)
+    → IsFirstFrom k.tunnels start first → NoneBelow (place_of first) k
+none_before_start k start first is from s less = by (nat_lt s start) refl
+  where
+    by : (b : Bool) → nat_lt s start ≡ b → act_on k s ≡ None
+    by true front =
+        due_class k.number s (get k.tunnels s)
+        (none_before (λ n. (class_at k.tunnels n).due) start is s (grind (arith, nat_tests, front)))
+    by false behind =
+        ap (act_in k.number s) (none_between k.tunnels start first from s (grind (arith, nat_tests, behind)) less)
 
 -- AN ACT IS MADE
 

@@ -67,7 +67,7 @@ due_by l s (Failed why) k not = refl
 due_by l s (Ended why) k not = refl
 due_by l s (Over why) k not = absurd (false≢true (sym not))
 
-due_class : (l s : ℕ) (o : Option Tunnel) → (classes_in classes_here o).due ≡ false → act_in l s o ≡ None
+pub due_class : (l s : ℕ) (o : Option Tunnel) → (classes_in classes_here o).due ≡ false → act_in l s o ≡ None
 due_class l s None not = refl
 due_class l s (Some k) not = due_by l s k.stage k not
 

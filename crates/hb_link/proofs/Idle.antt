@@ -1,7 +1,7 @@
 -- Links of which no tunnel is in a class: nothing is left to be done for it.
 use Rattle.std.proofs.Common.{◌≡◌, ℕ, ◌<◌, ◌==◌, ◌^◌, ◌&&◌, ◌||◌, not, Bool, true, false, [], length, Option, Some, None, IsSome, refl, ap, ap₂, sym, ◌∙◌, subst, arith}
 use Rattle.std.proofs.lemmas.Bool.{false≢true, or_parts}
-use Rattle.std.specs.Prelude.{⊤}
+use Rattle.std.specs.Prelude.{⊤, nat_lt}
 use Rattle.std.proofs.lemmas.Bool.Decides.{nat_tests}
 use Rattle.std.proofs.lemmas.List.{nil_from_length}
 use Rattle.std.specs.FinMap.{get}
@@ -9,7 +9,10 @@ use Rattle.hb_conn.specs.Connection.{Connection}
 use Rattle.hb_conn.specs.Observed.{output, count_put, end_waits}
 use Rattle.hb_counted.specs.declared.classes.Classes.{Classes}
 use Rattle.hb_counted.specs.Classes.{classes_in, how_many}
+use Rattle.hb_counted.specs.Starts.{IsStart}
 use Rattle.hb_counted.proofs.Keeping.{none_in}
+use Rattle.hb_counted.proofs.Starting.{none_before}
+use Rattle.hb_map.specs.Keyed.{IsFirstFrom}
 use Rattle.hb_tunnel.specs.Tunnel.{Ways}
 use Rattle.hb_tunnel.specs.Way.{is_done}
 use Rattle.hb_inbound.specs.Calm.{data_waits, LiveRests, Rests, RestsBy}
@@ -32,7 +35,8 @@ use Rattle.hb_link.specs.Shows.{ShowsBy, Shows}
 use Rattle.hb_link.specs.Tunnels.{stage_of, tunnel_of, as_told, ShowsAt, ShowsTunnel}
 use Rattle.hb_link.proofs.Classed.{class_at, none_marked}
 use Rattle.hb_link.proofs.Opening.{nothing_goes}
-use Rattle.hb_link.proofs.PutsOn.{rest_on, stage_at, none_rests, begins, ends}
+use Rattle.hb_link.proofs.PutsOn.{rest_on, stage_at, none_rests, begins, anew, ends}
+use Rattle.hb_link.proofs.Loads.{place_of, none_between}
 use Rattle.hb_link.proofs.Shown.{stage_tunnel}
 use Rattle.hb_link.proofs.Turns.{gives_same, at_answered}
 
@@ -117,6 +121,24 @@ still_end_in : (c : Connection) (s : ℕ) → 0 < length (output c) → (o : Opt
 still_end_in c s some None none = tt
 still_end_in c s some (Some k) none = still_end c s some k.stage k none
 
+-- nothing may be put in front of the first of those of which something may
+pub starts_rest : (k : Link) (start : ℕ) (first : Option ℕ) → IsStart start (λ n. (class_at k.tunnels n).puts)
+    → IsFirstFrom k.tunnels start first → (x : Inbound) → PutsBelow 0 0 k x → PutsBelow 0 (place_of first) k x
+starts_rest k start first is from x below = record {
+  may = below.may;
+  serves = below.serves;
+  below = λ s low less. by s less (nat_lt s start) refl;
+}
+  where
+    by : (s : ℕ) → s < place_of first → (b : Bool) → nat_lt s start ≡ b → Rests x.conn s (x.tunnels s)
+    by s less true front =
+        rests_in (get k.tunnels s) x.conn s (x.tunnels s) (below.may.agrees.tunnels s)
+        (still_put_in x.conn s (get k.tunnels s)
+        (none_before (λ n. (class_at k.tunnels n).puts) start is s (grind (arith, nat_tests, front))))
+    by s less false behind =
+        none_rests (get k.tunnels s) x.conn s (x.tunnels s)
+        (none_between k.tunnels start first from s (grind (arith, nat_tests, behind)) less) (below.may.agrees.tunnels s)
+
 module _ (k : Link) (narrow : (n : ℕ) → IsSome (get k.tunnels n) → n < 2 ^ 32) where
   all_rest : ((x : Inbound) → PutsBelow 0 0 k x → (s : ℕ) → StillIn x.conn s (get k.tunnels s)) → (x : Inbound) → PutsBelow 0 0 k x
       → Shows k x
@@ -126,11 +148,14 @@ module _ (k : Link) (narrow : (n : ℕ) → IsSome (get k.tunnels n) → n < 2 ^
     below = λ s low less. rests_in (get k.tunnels s) x.conn s (x.tunnels s) (below.may.agrees.tunnels s) (still x below s);
   })
 
-  pub none_puts : how_many (λ n. (class_at k.tunnels n).puts) ≡ 0 → serves_in k.phase ≡ true → (x : Inbound) → MayPut k x → Shows k x
-  none_puts none serves x may =
+  pub none_left : how_many (λ n. (class_at k.tunnels n).puts) ≡ 0 → (n : ℕ) (x : Inbound) → PutsBelow 0 n k x → Shows k x
+  none_left none n x below =
       all_rest (λ x below s.
       still_put_in x.conn s (get k.tunnels s) (none_in classes_here (λ (c : Classes). c.puts) k.tunnels refl narrow none s))
-      x (begins k serves x may)
+      x (anew k 0 n 0 x below)
+
+  pub none_puts : how_many (λ n. (class_at k.tunnels n).puts) ≡ 0 → serves_in k.phase ≡ true → (x : Inbound) → MayPut k x → Shows k x
+  none_puts none serves x may = none_left none 0 x (begins k serves x may)
 
   -- where something waits to be written no byte goes, and no end follows
   pub none_ends : how_many (λ n. (class_at k.tunnels n).ends) ≡ 0 → 0 < length (output k.conn) → (x : Inbound) → PutsBelow 0 0 k x

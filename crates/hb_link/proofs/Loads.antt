@@ -4,6 +4,7 @@ use Rattle.std.proofs.lemmas.Bool.{false≢true}
 use Rattle.std.specs.FinMap.{get}
 use Rattle.hb_counted.specs.Classes.{how_many_below, how_many}
 use Rattle.hb_counted.proofs.Keeping.{all_numbers}
+use Rattle.hb_map.specs.Keyed.{IsFirstFrom}
 use Rattle.hb_inbound.specs.Inbound.{Inbound}
 use Rattle.hb_link.specs.declared.link.Link.{Link}
 use Rattle.hb_link.specs.declared.tunnel.Tunnel.{Tunnel}
@@ -27,6 +28,12 @@ place_of (Some stream) = stream
 abbrev pub left_from : Option ℕ → ℕ
 left_from None = 0
 left_from (Some first) = 2 ^ 32 - first
+
+-- between two places of a walk there is none
+pub none_between : (tunnels : Map) (from : ℕ) (next : Option ℕ) → IsFirstFrom tunnels from next → (s : ℕ) → from ≤ s → s < place_of next
+    → get tunnels s ≡ None
+none_between tunnels from None none s behind less = none s behind
+none_between tunnels from (Some stream) is s behind less = is.2 s behind less
 
 module _ (tunnels : Map) where
   one_at_most : (b : Bool) → one_if b ≤ 1

@@ -27,7 +27,7 @@ use Rattle.hb_link.specs.Putting.{bytes_put, conn_bytes, end_counted, conn_finis
 use Rattle.hb_link.specs.Settling.{MayPut, LookedIn, AlwaysSettles, Settles}
 use Rattle.hb_link.specs.Shows.{Shows}
 use Rattle.hb_link.specs.Tunnels.{phase_of, stage_of, tunnel_of, ShowsAt, ShowsTunnel}
-use Rattle.hb_link.proofs.Loads.{place_of}
+use Rattle.hb_link.proofs.Loads.{place_of, none_between}
 use Rattle.hb_link.proofs.Maps.{put_twice}
 use Rattle.hb_link.proofs.Moving.{link_with, Map}
 use Rattle.hb_link.proofs.Puts.{PutsAt, BytesPut, EndPut, rests_below, bytes_settles, end_settles, rests_on, done_settles}
@@ -182,14 +182,11 @@ module _ (k : Link) where
     below = λ j low less. by j low less (nat_lt j i) refl;
   }
     where
-      none_at : (next : Option ℕ) → IsFirstFrom k.tunnels i next → (j : ℕ) → j < place_of next → i ≤ j → get k.tunnels j ≡ None
-      none_at None none j less behind = none j behind
-      none_at (Some stream) is j less behind = is.2 j behind less
-
       by : (j : ℕ) → from ≤ j → j < place_of next → (b : Bool) → nat_lt j i ≡ b → Rests x.conn j (x.tunnels j)
       by j low less true is = below.below j low (grind (arith, nat_tests, is))
       by j low less false is =
-          none_rests (get k.tunnels j) x.conn j (x.tunnels j) (none_at next first j less (grind (arith, nat_tests, is)))
+          none_rests (get k.tunnels j) x.conn j (x.tunnels j)
+          (none_between k.tunnels i next first j (grind (arith, nat_tests, is)) less)
           (below.may.agrees.tunnels j)
 
   -- of no stream it is known yet

@@ -27,7 +27,7 @@ impl Link {
         if self.tunnels.counts().due == 0 {
             return None;
         }
-        let mut from = self.tunnels.first_from(0);
+        let mut from = self.tunnels.first_from(self.tunnels.starts().due);
         while let Some(stream) = from {
             if let Some(act) = self.act_at(stream) {
                 return Some((stream, act));

@@ -113,7 +113,10 @@ impl Link {
         ensures settles { AlwaysSettles (PutsBelow 0 0) (PutsBelow 0 0) self.old (N.told notes.old) self.new (N.told notes.new) }
         ensures rouses { Rouses self.old self.new }
     {
-        let mut from = self.tunnels.first_behind(self.turn.last());
+        let behind = self.turn.last().saturating_add(1);
+        let mut from = self
+            .tunnels
+            .first_from(self.tunnels.starts().puts.max(behind));
         while let Some(stream) = from {
             if !self.conn.output().is_empty() {
                 return;
@@ -134,7 +137,7 @@ impl Link {
 
     /// As many of the bytes that wait go in DATA as may, END_STREAM goes where it may, and a tunnel is over of which both sides ended
     /// and all went through: by turns, and then by rising stream. Where something waits to be written by then, and no end may follow, no
-    /// tunnel needs another look.
+    /// tunnel needs another look, nor once of none something may be put.
     pub(crate) fn put_all<N: Notes>(&mut self, notes: &mut N)
         ensures settles { AlwaysSettles MayPut Shows self.old (N.told notes.old) self.new (N.told notes.new) }
         ensures rouses { Rouses self.old self.new }
@@ -149,9 +152,12 @@ impl Link {
         if !self.conn.output().is_empty() && self.tunnels.counts().ends == 0 {
             return;
         }
-        let mut from = self.tunnels.first_from(0);
+        let mut from = self.tunnels.first_from(self.tunnels.starts().puts);
         while let Some(stream) = from {
             self.put_on(stream, notes);
+            if self.tunnels.counts().puts == 0 {
+                return;
+            }
             from = self.tunnels.first_behind(stream);
         }
     }

@@ -6,7 +6,7 @@ use Rattle.hb_link.specs.Putting.{PutsBelow}
 use Rattle.hb_link.specs.Settling.{MayPut, AlwaysSettles}
 use Rattle.hb_link.specs.Shows.{Shows}
 use Rattle.hb_counted.specs.declared.counts.Counts.{Counts}
-use Rattle.hb_link.proofs.Idle.{none_puts, none_ends}
+use Rattle.hb_link.proofs.Idle.{none_puts, none_left, none_ends, starts_rest}
 use Rattle.hb_link.proofs.Loads.{place_of}
 use Rattle.hb_link.proofs.PutsOn.{not_served, begins, advance, ends}
 use Rattle.hb_link.proofs.Settles.{settles_then, stays}
@@ -49,7 +49,7 @@ loop-from-init g c =
     let k = c.put_in_turn.new.self in
     let first = c.first_from-from.result in (
       λ others limit. stays others limit (λ held. ⊤) (PutsBelow 0 0) (PutsBelow 0 (place_of first)) k (g.N.Notes.told c.put_in_turn.new.notes)
-          (advance k 0 0 first c.first_from-from.ensures.first),
+          (starts_rest k c.starts.result.puts first c.starts.ensures.puts c.first_from-from.ensures.first),
       rouses_same k k refl refl,
     )
 
@@ -73,6 +73,32 @@ loop-from-preserved g c =
           (advance next 0 (s + 1) to c.first_behind-from.ensures)),
       rouses_then k mid next c.loop-from.invariant.1 c.put_on.ensures.rouses,
     )
+
+-- nothing may be put behind the stream
+pub returns-then-counts-eq0-3-clause-settles : goal.returns-then-counts-eq0-3-clause-settles
+returns-then-counts-eq0-3-clause-settles g c = λ others limit.
+    let k = c.args.self.now in
+    let mid = c.put_in_turn.new.self in
+    let last = c.loop-from.self in
+    let next = c.put_on.new.self in
+    let s = c.in-Some.stream in
+    let told = g.N.Notes.told c.args.notes.now in
+    let before = g.N.Notes.told c.put_in_turn.new.notes in
+    let now = g.N.Notes.told c.loop-from.notes in
+    let behind = g.N.Notes.told c.put_on.new.notes in
+    let serves : serves_in k.phase ≡ true = search rules in
+    let none : c.counts-in-Some.result.puts ≡ 0 = search rules in
+    let reached = subst (λ (from : Option ℕ). AlwaysSettles (PutsBelow 0 0) (PutsBelow 0 (place_of from)) mid before last now)
+    c.in-Some.is c.loop-from.invariant.0 in
+    settles_then others limit (λ held. ⊤) MayPut (PutsBelow 0 0) Shows k k next told told behind
+    (stays others limit (λ held. ⊤) MayPut (PutsBelow 0 0) k told (begins k serves))
+    (settles_then others limit (λ held. ⊤) (PutsBelow 0 0) (PutsBelow 0 0) Shows k mid next told before behind
+    (c.put_in_turn.ensures.settles others limit)
+    (settles_then others limit (λ held. ⊤) (PutsBelow 0 0) (PutsBelow 0 (s + 1)) Shows mid next next before behind behind
+    (settles_then others limit (λ held. ⊤) (PutsBelow 0 0) (PutsBelow 0 s) (PutsBelow 0 (s + 1)) mid last next before now behind
+    (reached others limit) (c.put_on.ensures.settles 0 others limit))
+    (stays others limit (λ held. ⊤) (PutsBelow 0 (s + 1)) Shows next behind
+    (none_left next c.counts-in-Some.ensures.numbers (sym (ap (λ (c : Counts). c.puts) c.counts-in-Some.ensures.value) ∙ none) (s + 1)))))
 
 pub returns-clause-settles : goal.returns-clause-settles
 returns-clause-settles g c = λ others limit.
@@ -101,3 +127,8 @@ returns-then-counts-eq0-clause-rouses g c = rouses_same c.args.self.now c.args.s
 pub returns-clause-rouses : goal.returns-clause-rouses
 returns-clause-rouses g c =
     rouses_then c.args.self.now c.put_in_turn.new.self c.loop-from.self c.put_in_turn.ensures.rouses c.loop-from.invariant.1
+
+pub returns-then-counts-eq0-3-clause-rouses : goal.returns-then-counts-eq0-3-clause-rouses
+returns-then-counts-eq0-3-clause-rouses g c =
+    rouses_then c.args.self.now c.put_in_turn.new.self c.put_on.new.self c.put_in_turn.ensures.rouses
+    (rouses_then c.put_in_turn.new.self c.loop-from.self c.put_on.new.self c.loop-from.invariant.1 c.put_on.ensures.rouses)
