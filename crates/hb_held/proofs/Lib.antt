@@ -1,6 +1,7 @@
 pub mod Addressed
 pub mod Asked
 pub mod Before
+pub mod FewLaw
 pub mod Folds
 pub mod InParts
 pub mod Least

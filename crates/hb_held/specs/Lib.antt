@@ -1,5 +1,6 @@
 pub mod Asked
 pub mod Endpoints
+pub mod Few
 pub mod Held
 pub mod Laws
 pub mod Lookup

@@ -4,6 +4,7 @@
 mod apply;
 mod doors;
 mod endpoints;
+mod few;
 mod found;
 mod held;
 mod joined;
@@ -18,6 +19,7 @@ mod versioned;
 
 pub use doors::OwnDoors;
 pub use endpoints::Endpoints;
+pub use few::Few;
 pub use found::{Found, FoundService};
 pub use held::Held;
 pub use laws::{

@@ -1,7 +1,8 @@
 //! What is told to all links at once.
 
-ghost use Rattle.std.specs.Prelude.{◌+◌};
+ghost use Rattle.std.specs.Prelude.{◌+◌, IfSome};
 ghost use Rattle.std.specs.FinMap.{get};
+ghost use Rattle.hb_held.specs.Few.{AreTouched};
 ghost use Rattle.hb_link.specs.Calls.{Stops};
 ghost use Rattle.hb_links.specs.Calls.{Updates, Stops as AllStop};
 ghost use Rattle.hb_links.specs.Load.{Recounts};
@@ -10,7 +11,7 @@ ghost use Rattle.hb_links.specs.Walks.{IsNext, JudgesAt, TellsBy};
 
 use crate::links::Links;
 use hb_base::Cause;
-use hb_held::Held;
+use hb_held::{Few, Held};
 use hb_link::{Link, Notes};
 use hb_map::ById;
 
@@ -26,7 +27,8 @@ pub(crate) fn first_behind(links: &ById<u64, Link>, number: u64) -> Option<u64>
 
 impl Links {
     /// What a response that was applied makes of the link of this number.
-    fn judge_at<N: Notes>(&mut self, number: u64, held: &Held, notes: &mut N)
+    fn judge_at<N: Notes>(&mut self, number: u64, held: &Held, few: Option<&Few>, notes: &mut N)
+        requires { IfSome few (λ few. AreTouched held.now few.now.numbers.items) }
         ensures judges { JudgesAt held.now (get self.old.links number) number self.old (N.told notes.old) self.new (N.told notes.new) }
         ensures counts { Recounts self.old self.new }
     {
@@ -34,7 +36,7 @@ impl Links {
         let Some(link) = self.links.at(number) else {
             return;
         };
-        if link.judge_all(held, notes) {
+        if link.judge_all(held, few, notes) {
             self.touch(number, before);
         }
     }
@@ -59,9 +61,10 @@ impl Links {
         ensures stirs { Stirs self.old self.new }
         ensures counts { Recounts self.old self.new }
     {
+        let few = held.touched_few();
         let mut from = self.links.first_from(0);
         while let Some(number) = from {
-            self.judge_at(number, held, notes);
+            self.judge_at(number, held, few.as_ref(), notes);
             from = first_behind(&self.links, number);
         }
     }
