@@ -1,12 +1,11 @@
 -- What is touched is among the few.
-use Rattle.std.proofs.Common.{◌≡◌, ℕ, Bool, true, false, cond, List, [], ◌∷◌, ◌++◌, Option, Some, None, refl, ap, sym, ◌∙◌}
-use Rattle.std.specs.Prelude.{◌||◌, ◌&&◌, ◌==◌, not, map}
-use Rattle.std.specs.List.{list_any}
+use Rattle.std.proofs.Common.{arith, ◌≡◌, ℕ, Bool, true, false, List, [], ◌∷◌, ◌++◌, Option, Some, None, refl, ap, sym, ◌∙◌}
+use Rattle.std.specs.Prelude.{◌||◌, ◌&&◌, ◌==◌, ◌≤◌, not, map, length, nat_lt, if◌then◌else◌}
+use Rattle.std.specs.List.{list_any, flat_map}
 use Rattle.std.specs.Ordering.{nat_cmp}
 use Rattle.std.specs.Cmp.Lexicographic.{slice_cmp}
-use Rattle.std.specs.FinMap.{get, entries, len, empty, empty_of_len, get-empty}
+use Rattle.std.specs.FinMap.{get, entries, len, empty_of_len, get-empty}
 use Rattle.std.proofs.lemmas.Bool.{or_parts, eqb-true, eq-eqb}
-use Rattle.std.proofs.lemmas.List.{append_assoc, append-nil}
 use Rattle.std.proofs.lemmas.List.Folds.{list_any-append}
 use Rattle.std.specs.Str.{bytes_eq}
 use Rattle.hb_base.specs.declared.ip.Ip.{Ip}
@@ -16,13 +15,12 @@ use Rattle.hb_records.specs.declared.authorization.Authorization.{Authorization 
 use Rattle.hb_records.specs.declared.address.AddressRecord.{AddressRecord}
 use Rattle.hb_records.specs.declared.workload.Workload.{Workload}
 use Rattle.hb_index.specs.Index.{is_among}
-use Rattle.hb_index.specs.Named.{Named}
 use Rattle.hb_index.proofs.Undone.{is_there, or_right, and_left, and_right}
 use Rattle.hb_held.specs.declared.versioned.Versioned.{Versioned}
-use Rattle.hb_held.specs.Few.{AreTouched, numbers_of, numbers_at}
+use Rattle.hb_held.specs.Few.{numbers_of, numbers_at, numbers_under, changed_numbers, if_few}
 use Rattle.hb_held.specs.Held.{Resources, is_changed}
-use Rattle.hb_held.specs.Laws.{IsAt, IsLeastAt}
-use Rattle.hb_held.specs.Lookup.{ip_eq, workload_of, has_address, workload_at}
+use Rattle.hb_held.specs.Laws.{IsAt, IsLeastAt, ChangedAreTouched, LackingIsWrong}
+use Rattle.hb_held.specs.Lookup.{ip_eq, workload_of, workload_at}
 use Rattle.hb_held.specs.Numbers.{number_of}
 use Rattle.hb_held.specs.Touched.{touched, touched_from, is_at, had_address, had_smaller, stands_for, had_policy, precedes}
 use Rattle.hb_held.proofs.LeastLaw.{no, least_found}
@@ -49,15 +47,12 @@ among_front front back n h = list_any-append (λ m. m == n) front back ∙ ap (�
 among_back : (front back : List ℕ) (n : ℕ) → is_among back n ≡ true → is_among (front ++ back) n ≡ true
 among_back front back n h = list_any-append (λ m. m == n) front back ∙ or_right (is_among front n) (is_among back n) h
 
--- none of the numbers that were added is lacking
-none_lacking : (few front ns back : List ℕ) → few ≡ (front ++ ns) ++ back → lacks_any few ns ≡ false
-none_lacking few front [] back is = refl
-none_lacking few front (n ∷ ns) back is =
-    let here : is_among few n ≡ true =
-    ap (λ xs. is_among xs n) is
-    ∙ among_front (front ++ n ∷ ns) back n (among_back front (n ∷ ns) n (ap (λ b. b || is_among ns n) (eq-eqb n n refl))) in
-    ap (λ b. b || lacks_any few ns) (is_not (is_among few n) here)
-    ∙ none_lacking few (front ++ n ∷ []) ns back (is ∙ ap (λ xs. xs ++ back) (sym (append_assoc front (n ∷ []) ns)))
+-- of numbers that are all among the few none is lacking
+lacks_none : (few ns : List ℕ) → ((n : ℕ) → is_among ns n ≡ true → is_among few n ≡ true) → lacks_any few ns ≡ false
+lacks_none few [] all = refl
+lacks_none few (n ∷ ns) all =
+    ap (λ b. b || lacks_any few ns) (is_not (is_among few n) (all n (ap (λ b. b || is_among ns n) (eq-eqb n n refl))))
+    ∙ lacks_none few ns (λ m there. all m (or_right (n == m) (is_among ns m) there))
 
 -- ONE WORKLOAD
 
@@ -86,53 +81,25 @@ had_among network few ip (Some v) none had = by (workload_of v.content) none had
     by None none at = absurd cc
     by (Some w) none at = among_numbers few w.addresses ip none (and_right (bytes_eq w.network network) _ at)
 
--- more numbers lack none that fewer don't
-lacks_still : (few more ns : List ℕ) → ((n : ℕ) → is_among few n ≡ true → is_among more n ≡ true) → lacks_any few ns ≡ false
-    → lacks_any more ns ≡ false
-lacks_still few more [] stays none = refl
-lacks_still few more (n ∷ ns) stays none =
-    let parts = or_parts (not (is_among few n)) (lacks_any few ns) none in
-    ap (λ b. b || lacks_any more ns) (is_not (is_among more n) (stays n (not_lacking (is_among few n) parts.0)))
-    ∙ lacks_still few more ns stays parts.1
-
 -- ALL THAT WERE CHANGED
 
 -- of what stands under a name now, or stood, one number isn't among these
 abbrev pub lacks : Resources → List ℕ → List ℕ × Option (Versioned AddressRecord) → Bool
 lacks h few e = lacks_any few (numbers_at e.1) || lacks_any few (numbers_at (get h.addresses e.0))
 
-passed_still : (h : Resources) (few more : List ℕ) (es : List (List ℕ × Option (Versioned AddressRecord)))
-    → ((n : ℕ) → is_among few n ≡ true → is_among more n ≡ true) → list_any (lacks h few) es ≡ false → list_any (lacks h more) es ≡ false
-passed_still h few more [] stays none = refl
-passed_still h few more (e ∷ es) stays none =
-    let parts = or_parts (lacks h few e) (list_any (lacks h few) es) none in
-    let both = or_parts (lacks_any few (numbers_at e.1)) (lacks_any few (numbers_at (get h.addresses e.0))) parts.0 in
-    ap (λ b. (b || lacks_any more (numbers_at (get h.addresses e.0))) || list_any (lacks h more) es)
-    (lacks_still few more (numbers_at e.1) stays both.0)
-    ∙ ap (λ b. b || list_any (lacks h more) es) (lacks_still few more (numbers_at (get h.addresses e.0)) stays both.1)
-    ∙ passed_still h few more es stays parts.1
-
-passed_one : (h : Resources) (few : List ℕ) (es : List (List ℕ × Option (Versioned AddressRecord)))
-    (e : List ℕ × Option (Versioned AddressRecord)) → list_any (lacks h few) es ≡ false → lacks_any few (numbers_at e.1) ≡ false
-    → lacks_any few (numbers_at (get h.addresses e.0)) ≡ false → list_any (lacks h few) (es ++ e ∷ []) ≡ false
-passed_one h few es e none was is =
-    list_any-append (lacks h few) es (e ∷ [])
-    ∙ ap (λ b. b || ((lacks_any few (numbers_at e.1) || lacks_any few (numbers_at (get h.addresses e.0))) || false)) none
-    ∙ ap (λ b. (b || lacks_any few (numbers_at (get h.addresses e.0))) || false) was
-    ∙ ap (λ b. b || false) is
-
--- one more was passed over, whose numbers were added
-pub passed_more : (h : Resources) (few : List ℕ) (es : List (List ℕ × Option (Versioned AddressRecord)))
-    (e : List ℕ × Option (Versioned AddressRecord)) (more : List ℕ)
-    → more ≡ (few ++ numbers_at e.1) ++ numbers_at (get h.addresses e.0)
-    → list_any (lacks h few) es ≡ false → list_any (lacks h more) (es ++ e ∷ []) ≡ false
-passed_more h few es e more is none =
+-- where all numbers under some names are among the few, none is lacking
+under_lacks : (h : Resources) (few : List ℕ) (es : List (List ℕ × Option (Versioned AddressRecord)))
+    → ((n : ℕ) → is_among (flat_map (numbers_under h) es) n ≡ true → is_among few n ≡ true) → list_any (lacks h few) es ≡ false
+under_lacks h few [] all = refl
+under_lacks h few (e ∷ es) all =
     let was = numbers_at e.1 in
     let now = numbers_at (get h.addresses e.0) in
-    passed_one h more es e
-    (passed_still h few more es (λ n there. ap (λ xs. is_among xs n) is ∙ among_front (few ++ was) now n (among_front few was n there)) none)
-    (none_lacking more few was now is)
-    (none_lacking more (few ++ was) now [] (is ∙ sym (append-nil ((few ++ was) ++ now))))
+    let rest = flat_map (numbers_under h) es in
+    ap (λ b. (b || lacks_any few now) || list_any (lacks h few) es)
+    (lacks_none few was (λ n there. all n (among_front (was ++ now) rest n (among_front was now n there))))
+    ∙ ap (λ b. b || list_any (lacks h few) es)
+    (lacks_none few now (λ n there. all n (among_front (was ++ now) rest n (among_back was now n there))))
+    ∙ under_lacks h few es (λ n there. all n (among_back (was ++ now) rest n there))
 
 pub no_policy : (h : Resources) → len h.past_policies ≡ 0 → (w : Workload) → had_policy h w ≡ false
 no_policy h is w = by (had_policy h w) refl
@@ -184,7 +151,36 @@ module _ (h : Resources) (few : List ℕ) (none : list_any (lacks h few) (entrie
             ] refl rest
       ] refl any
 
-pub are_touched : (h : Resources) (few : List ℕ) → list_any (lacks h few) (entries h.past_addresses) ≡ false
-    → ((w : Workload) → had_policy h w ≡ false) → AreTouched h few
-are_touched h few none no_policies ip is =
-    from_among h few none no_policies ip (workload_at h ip) (least_found h ip) (from_is_touched h ip ∙ is)
+-- where no policy was changed, each address that was touched is among those under the changed names
+pub changed_are_touched : ChangedAreTouched
+changed_are_touched h is ip touched =
+    from_among h (changed_numbers h) (under_lacks h (changed_numbers h) (entries h.past_addresses) (λ n there. there)) (no_policy h is) ip
+    (workload_at h ip) (least_found h ip) (from_is_touched h ip ∙ touched)
+
+pub lacking_is_wrong : LackingIsWrong
+lacking_is_wrong h few ip touched lacking all = by (is_among few (number_of ip)) lacking (all ip touched)
+  where
+    by : (b : Bool) → b ≡ false → b ≡ true → ⊥
+    by true none some = absurd cc
+    by false none some = absurd cc
+
+-- SOME AT A TIME
+
+-- the few are those under the names that were passed over
+pub if_few_is : (few ns : List ℕ) → if_few few ≡ Some ns → ns ≡ few
+if_few_is few ns is = by (nat_lt (length few) 9) is
+  where
+    by : (b : Bool) → (if b then Some few else None) ≡ Some ns → ns ≡ few
+    by true is = cc
+    by false is = absurd cc
+
+-- where some are too many, so is each list that is as long
+pub too_many : (few more : List ℕ) → if_few few ≡ None → length few ≤ length more → if_few more ≡ None
+too_many few more is as_long = by (nat_lt (length few) 9) refl is
+  where
+    by : (b : Bool) → nat_lt (length few) 9 ≡ b → (if b then Some few else None) ≡ None → if_few more ≡ None
+    by true here is = absurd cc
+    by false here is = ap (λ b. if b then Some more else None) (longer (length few) (length more) as_long here)
+      where
+        longer : (m n : ℕ) → m ≤ n → nat_lt m 9 ≡ false → nat_lt n 9 ≡ false
+        longer m n le here = grind arith

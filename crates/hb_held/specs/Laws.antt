@@ -2,16 +2,19 @@
 use Rattle.std.specs.Prelude.{◌≡◌, ℕ, true, false, List, Option, Some, None}
 use Rattle.std.specs.Cmp.Lexicographic.{slice_cmp}
 use Rattle.std.specs.Ordering.{nat_cmp, is_lt}
-use Rattle.std.specs.FinMap.{get, insert, entries}
+use Rattle.std.specs.FinMap.{get, insert, entries, len}
 use Rattle.hb_base.specs.declared.ip.Ip.{Ip}
 use Rattle.hb_records.specs.declared.workload.Workload.{Workload}
 use Rattle.hb_held.specs.declared.versioned.Versioned.{Versioned}
 use Rattle.hb_records.specs.declared.address.AddressRecord.{AddressRecord}
+use Rattle.hb_index.specs.Index.{is_among}
 use Rattle.hb_index.specs.Kept.{undone}
 use Rattle.hb_index.specs.Named.{Named, Rise}
 use Rattle.hb_disco.specs.declared.response.Response.{Response}
+use Rattle.hb_held.specs.Few.{AreTouched, changed_numbers}
 use Rattle.hb_held.specs.Held.{Resources, before}
 use Rattle.hb_held.specs.Lookup.{workload_of, has_address, workload_at, known}
+use Rattle.hb_held.specs.Numbers.{number_of}
 use Rattle.hb_held.specs.Outcome.{after_response}
 use Rattle.hb_held.specs.Policies.{policies_for}
 use Rattle.hb_held.specs.Touched.{touched}
@@ -68,3 +71,12 @@ latest_note past name stood = insert past name stood
 
 abbrev pub no_note : Named (Option ℕ) → List ℕ → Option ℕ → Named (Option ℕ)
 no_note past name stood = past
+
+-- where no policy was changed, each address that the last response touched is among those under the changed names
+abbrev pub ChangedAreTouched : Type 0
+ChangedAreTouched = (h : Resources) → len h.past_policies ≡ 0 → AreTouched h (changed_numbers h)
+
+-- numbers of which that of a touched address is lacking aren't such ones
+abbrev pub LackingIsWrong : Type 0
+LackingIsWrong =
+    (h : Resources) (few : List ℕ) (ip : Ip) → touched h ip ≡ true → is_among few (number_of ip) ≡ false → AreTouched h few → ⊥

@@ -2,7 +2,7 @@
 
 ghost use Rattle.hb_index.specs.Kept.{note};
 ghost use Rattle.hb_held.specs.Laws.{LeastIsFound, NamesStandOnce, UntouchedStays, NotesGiveBack, UntouchedByResponse};
-ghost use Rattle.hb_held.specs.Laws.{GivesBack, latest_note, no_note};
+ghost use Rattle.hb_held.specs.Laws.{GivesBack, latest_note, no_note, ChangedAreTouched, LackingIsWrong};
 
 /// The workload found at an address is held, is of this network and has the address, and no other such workload has a
 /// smaller name; none is found only where there is none.
@@ -37,4 +37,11 @@ pub fn first_notes_give_back()
     ensures first { GivesBack note }
     ensures latest { GivesBack latest_note → ⊥ }
     ensures none { GivesBack no_note → ⊥ }
+{}
+
+/// Where the last response changed no policy, each address that it touched is among those of the workloads that stand or stood under the
+/// names that it changed; numbers of which that of a touched address is lacking aren't all that were touched.
+pub fn changed_are_touched()
+    ensures all { ChangedAreTouched }
+    ensures lacking { LackingIsWrong }
 {}

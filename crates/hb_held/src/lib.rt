@@ -23,7 +23,7 @@ pub use few::Few;
 pub use found::{Found, FoundService};
 pub use held::Held;
 pub use laws::{
-    first_notes_give_back, least_is_found, names_stand_once, notes_give_back,
+    changed_are_touched, first_notes_give_back, least_is_found, names_stand_once, notes_give_back,
     untouched_by_response, untouched_stays,
 };
 pub use outcome::{Changed, Outcome, Refusal, RefusedWhy};

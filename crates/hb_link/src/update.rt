@@ -14,7 +14,7 @@ impl Link {
     /// Nothing changed at the link's destination by the last response, which was applied whole: it isn't among the few addresses at which
     /// something did, where these are known, or `held` says so.
     fn is_spared(&self, held: &Held, few: Option<&Few>) -> bool
-        requires { IfSome few (λ few. AreTouched held.now few.now.numbers.items) }
+        requires { IfSome few (λ few. AreTouched held.now few.now) }
         ensures { result ≡ true → touched held.now self.now.destination ≡ false }
     {
         match few {
@@ -27,7 +27,7 @@ impl Link {
     /// gets. Says whether the tunnels were looked at: where nothing changed at the link's destination, each is admitted as before. `few`
     /// are the addresses at which something changed, where these are known to be few.
     pub fn judge_all<N: Notes>(&mut self, held: &Held, few: Option<&Few>, notes: &mut N) -> bool
-        requires { IfSome few (λ few. AreTouched held.now few.now.numbers.items) }
+        requires { IfSome few (λ few. AreTouched held.now few.now) }
         ensures updates { Updates held.now self.old (N.told notes.old) self.new (N.told notes.new) }
         ensures same { result ≡ false → self.new ≡ self.old }
         ensures rouses { Rouses self.old self.new }

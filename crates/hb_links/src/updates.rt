@@ -28,7 +28,7 @@ pub(crate) fn first_behind(links: &ById<u64, Link>, number: u64) -> Option<u64>
 impl Links {
     /// What a response that was applied makes of the link of this number.
     fn judge_at<N: Notes>(&mut self, number: u64, held: &Held, few: Option<&Few>, notes: &mut N)
-        requires { IfSome few (λ few. AreTouched held.now few.now.numbers.items) }
+        requires { IfSome few (λ few. AreTouched held.now few.now) }
         ensures judges { JudgesAt held.now (get self.old.links number) number self.old (N.told notes.old) self.new (N.told notes.new) }
         ensures counts { Recounts self.old self.new }
     {

@@ -1,12 +1,12 @@
-use Rattle.std.proofs.Common.{◌≡◌, ◌++◌, ℕ, List, Option, false}
-use Rattle.std.specs.List.{list_any}
+use Rattle.std.proofs.Common.{◌≡◌, ◌++◌, ℕ, List, Option, Some}
+use Rattle.std.specs.List.{flat_map}
 use Rattle.std.specs.FinMap.{entries}
 use Rattle.hb_records.specs.declared.address.AddressRecord.{AddressRecord}
 use Rattle.hb_held.specs.declared.versioned.Versioned.{Versioned}
-use Rattle.hb_held.proofs.FewLaw.{lacks}
+use Rattle.hb_held.specs.Few.{numbers_under, if_few}
 use Rattle.hb_held.proofs.held.Held.touched_few.Given as goal
 
--- of what was passed over no number is lacking
+-- the numbers under the names that were passed over, which are at most eight
 abbrev pub invariant-loop-name : goal.invariant-loop-name
 invariant-loop-name l =
     record {
@@ -14,5 +14,6 @@ invariant-loop-name l =
       ends : (goal.iterator-loop-name).is_finite l.rest;
       passed : List (List ℕ × Option (Versioned AddressRecord));
       all : passed ++ l.rest ≡ entries l.self.past_addresses;
-      none : list_any (lacks l.self l.few.numbers.items) passed ≡ false;
+      under : l.few ≡ flat_map (numbers_under l.self) passed;
+      few : if_few l.few ≡ Some l.few;
     }
