@@ -62,7 +62,7 @@ impl Link {
             conn: Conn::server(alloc)?,
             tunnels: Counted::new(alloc),
             turn: Turn::new(),
-            roused: Roused::all(alloc),
+            roused: Roused::all(),
         })
     }
 

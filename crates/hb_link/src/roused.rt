@@ -3,16 +3,13 @@
 ghost use Rattle.std.specs.Prelude.{◌≡◌, ℕ, true};
 ghost use Rattle.hb_link.specs.Rousing.{Adds, AddsSome, is_roused, least};
 
-use std::alloc::Global;
+use arrayvec::ArrayVec;
 
-/// How many streams are kept one by one.
-const MOST: usize = 8;
-
-/// The streams on whose upstreams more may be read, or is to be written, than when that was told last. Few are kept one by one; where
-/// they are more, or memory is wanting, it is all streams from a number on.
+/// The streams on whose upstreams more may be read, or is to be written, than when that was told last. At most eight are kept
+/// one by one; where they are more it is all streams from a number on.
 #[derive(Drop)]
 pub struct Roused {
-    pub few: Vec<u32>,
+    pub few: ArrayVec<u32, 8>,
     pub from: Option<u32>,
 }
 
@@ -28,11 +25,11 @@ fn least(from: Option<u32>, stream: u32) -> u32
 
 impl Roused {
     /// Each stream.
-    pub fn all(alloc: Global) -> Roused
+    pub fn all() -> Roused
         ensures { (s : ℕ) → is_roused result s ≡ true }
     {
         Roused {
-            few: Vec::new(alloc),
+            few: ArrayVec::new(),
             from: Some(0),
         }
     }
@@ -48,10 +45,10 @@ impl Roused {
     pub fn add(&mut self, stream: u32)
         ensures { Adds stream self.old self.new }
     {
-        if self.few.contains(&stream) {
+        if self.few.as_slice().contains(&stream) {
             return;
         }
-        if self.few.len() == MOST || self.few.push(stream).is_err() {
+        if self.few.try_push(stream).is_err() {
             self.from = Some(least(self.from, stream));
         }
     }

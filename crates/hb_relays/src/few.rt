@@ -3,26 +3,23 @@
 ghost use Rattle.std.specs.Prelude.{◌≡◌, ◌==◌, ◌<◌, ◌++◌, ◌∷◌, [], length, nat_lt, IfNone, IfSome};
 ghost use Rattle.std.specs.List.{list_any};
 
+use arrayvec::ArrayVec;
 use std::marker::Model;
-
-/// The most numbers that are listed.
-const MOST: usize = 32;
 
 /// At most 32 numbers. Contracts see them as a list.
 #[derive(Drop)]
 pub(crate) struct Few {
-    numbers: [u64; 32],
-    count: usize,
+    numbers: ArrayVec<u64, 32>,
 }
 
 impl Model for Few {
-    ghost use Rattle.std.specs.Prelude.{List, ℕ, ◌≤◌, take};
+    ghost use Rattle.std.specs.Prelude.{List, ℕ, ◌≤◌, length};
 
     ghost Value = { List ℕ };
 
-    ghost view = { λ f. take f.count f.numbers };
+    ghost view = { λ f. f.numbers.items };
 
-    ghost invariant = { λ f. f.count ≤ 32 };
+    ghost invariant = { λ f. length f.numbers.items ≤ 32 };
 }
 
 impl Few {
@@ -31,8 +28,7 @@ impl Few {
         ensures { result ≡ [] }
     {
         Few {
-            numbers: [0; 32],
-            count: 0,
+            numbers: ArrayVec::new(),
         }
     }
 
@@ -40,26 +36,24 @@ impl Few {
     pub fn is_empty(&self) -> bool
         ensures { result ≡ (length self.now == 0) }
     {
-        self.count == 0
+        self.numbers.is_empty()
     }
 
     /// One more can be listed.
     pub fn has_room(&self) -> bool
         ensures { result ≡ nat_lt (length self.now) 32 }
     {
-        self.count < MOST
+        !self.numbers.is_full()
     }
 
     /// This one is listed.
     pub fn holds(&self, number: u64) -> bool
         ensures { result ≡ list_any (λ n. n == number) self.now }
     {
-        for listed in &self.numbers[..self.count] {
-            if *listed == number {
-                return true;
-            }
-        }
-        false
+        self.numbers
+            .as_slice()
+            .iter()
+            .any(|listed| *listed == number)
     }
 
     /// Lists one more, behind the others.
@@ -67,8 +61,7 @@ impl Few {
         requires { length self.old < 32 }
         ensures { self.new ≡ self.old ++ number ∷ [] }
     {
-        self.numbers[self.count] = number;
-        self.count += 1;
+        self.numbers.push(number);
     }
 
     /// Takes the first one out. `None` where none is listed.
@@ -76,12 +69,9 @@ impl Few {
         ensures first { IfSome result (λ n. self.old ≡ n ∷ self.new) }
         ensures none { IfNone result ((self.old ≡ []) × (self.new ≡ [])) }
     {
-        if self.count == 0 {
+        if self.numbers.is_empty() {
             return None;
         }
-        let first = self.numbers[0];
-        self.numbers.copy_within(1..self.count, 0);
-        self.count -= 1;
-        Some(first)
+        Some(self.numbers.remove(0))
     }
 }
