@@ -68,6 +68,7 @@ impl DataStreams {
     pub fn note(&mut self, kind: u8, stream: u32)
         ensures stays { (n : ℕ) → may_be self.new n ≡ false → may_be self.old n ≡ false }
         ensures noted { kind ≡ data_kind → may_be self.new stream ≡ true }
+        ensures others { (kind ≡ data_kind → ⊥) → self.new ≡ self.old }
     {
         if kind == DATA && !self.may_be(stream) {
             self.add(stream);
