@@ -11,7 +11,6 @@ use crate::utf8::is_utf8;
 use std::alloc::Global;
 use std::cmp::Ordering;
 use std::marker::Model;
-use std::str;
 
 /// Owned text; up to 23 bytes take no memory. Contracts see it as the list of its bytes, which is always UTF-8.
 #[derive(Drop)]
@@ -71,13 +70,6 @@ impl Text {
         ensures utf8 { IsUtf8 self.now }
     {
         self.place.as_slice()
-    }
-
-    /// The text, to be compared many bytes at a time. That it is UTF-8 is proved, not looked at again.
-    fn as_str(&self) -> &str
-        ensures { result.now ≡ self.now }
-    {
-        unsafe { str::from_utf8_unchecked(self.as_slice()) }
     }
 
     /// A copy of this text.
@@ -147,6 +139,6 @@ impl Ord for Text {
     ghost matches_eq = { Prim.search (comparing, rules) };
 
     fn cmp(&self, other: &Text) -> Ordering {
-        self.as_str().cmp(other.as_str())
+        self.as_slice().cmp(other.as_slice())
     }
 }
