@@ -21,6 +21,7 @@ mod pieces;
 mod place;
 mod reading;
 mod scope;
+mod shared;
 mod short;
 mod sink;
 mod source;

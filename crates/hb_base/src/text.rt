@@ -5,29 +5,28 @@ ghost use Rattle.std.specs.Str.{IsUtf8};
 ghost use Rattle.hb_base.specs.Utf8.{text_of};
 
 use crate::or::NoMemory;
-use crate::place::Place;
-use crate::short::Short;
+use crate::shared::Shared;
 use crate::utf8::is_utf8;
 use std::alloc::Global;
 use std::cmp::Ordering;
 use std::marker::Model;
 
-/// Owned text; up to 23 bytes take no memory. Contracts see it as the list of its bytes, which is always UTF-8.
+/// Owned text; up to 23 bytes take no memory, and copies of a longer one share it. Contracts see it as the list of its bytes, which is always UTF-8.
 #[derive(Drop)]
 pub struct Text {
-    place: Place,
+    place: Shared,
 }
 
 impl Model for Text {
     ghost use Rattle.std.specs.Prelude.{List, ℕ};
     ghost use Rattle.std.specs.Str.{IsUtf8};
-    ghost use Rattle.hb_base.specs.Place.{bytes_at};
+    ghost use Rattle.hb_base.specs.Shared.{shared_bytes};
 
     ghost Value = { List ℕ };
 
-    ghost view = { λ t. bytes_at t.place };
+    ghost view = { λ t. shared_bytes t.place };
 
-    ghost invariant = { λ t. IsUtf8 (bytes_at t.place) };
+    ghost invariant = { λ t. IsUtf8 (shared_bytes t.place) };
 }
 
 impl Text {
@@ -41,7 +40,7 @@ impl Text {
         if !is_utf8(b) {
             return Ok(None);
         }
-        let place = Place::of(alloc, b)?;
+        let place = Shared::of(alloc, b)?;
         Ok(Some(Text { place }))
     }
 
@@ -51,7 +50,7 @@ impl Text {
     pub fn of_str(alloc: Global, text: &str) -> Result<Text, NoMemory>
         ensures { IfOk result (λ t. t ≡ text.now) }
     {
-        let place = Place::of(alloc, text.as_bytes())?;
+        let place = Shared::of(alloc, text.as_bytes())?;
         Ok(Text { place })
     }
 
@@ -60,7 +59,7 @@ impl Text {
         ensures { result ≡ [] }
     {
         Text {
-            place: Place::Short(Short::new()),
+            place: Shared::empty(),
         }
     }
 
@@ -72,13 +71,13 @@ impl Text {
         self.place.as_slice()
     }
 
-    /// A copy of this text.
+    /// A copy of this text, which shares its memory.
     ///
     /// Errors: `NoMemory`.
-    pub fn copy(&self, alloc: Global) -> Result<Text, NoMemory>
+    pub fn copy(&self, _alloc: Global) -> Result<Text, NoMemory>
         ensures { IfOk result (λ r. r ≡ self.now) }
     {
-        let place = Place::of(alloc, self.as_slice())?;
+        let place = self.place.copy()?;
         Ok(Text { place })
     }
 }
