@@ -32,10 +32,10 @@ impl Links {
         ensures judges { JudgesAt held.now (get self.old.links number) number self.old (N.told notes.old) self.new (N.told notes.new) }
         ensures counts { Recounts self.old self.new }
     {
-        let before = self.places_at(number);
         let Some(link) = self.links.at(number) else {
             return;
         };
+        let before = link.load();
         if link.judge_all(held, few, notes) {
             self.touch(number, before);
         }

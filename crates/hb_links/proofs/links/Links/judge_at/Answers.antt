@@ -1,4 +1,5 @@
-use Rattle.std.proofs.Common.{rules, refl, ◌<◌, ◌^◌}
+use Rattle.std.proofs.Common.{rules, refl, ap, sym, ◌∙◌, ◌<◌, ◌^◌}
+use Rattle.hb_links.specs.Load.{places_in}
 use Rattle.hb_links.proofs.Totals.{idle_counts, told_counts}
 use Rattle.hb_links.proofs.Telling.{judged_one, spared_one}
 use Rattle.hb_links.proofs.links.Links.judge_at.Goals as goal
@@ -20,7 +21,7 @@ pub returns-then-judge_all-clause-counts : goal.returns-then-judge_all-clause-co
 returns-then-judge_all-clause-counts g c =
     let new = c.judge_all.new.self in
     let narrow : c.args.number < 2 ^ 64 = search rules in
-    told_counts c.args.self.now c.touch.new.self _ c.args.number _ new narrow c.places_at-before.ensures c.touch.ensures
+    told_counts c.args.self.now c.touch.new.self _ c.args.number _ new narrow (c.load-before.ensures.value ∙ ap places_in (sym c.in-Some.ensures.value)) c.touch.ensures
     (c.at.follows.holds new)
 
 pub returns-else-judge_all-clause-counts : goal.returns-else-judge_all-clause-counts
