@@ -6,8 +6,8 @@ ghost use Rattle.hb_held.specs.Endpoints.{joined};
 ghost use Rattle.hb_held.specs.Policies.{policy_key};
 
 use crate::versioned::Versioned;
-use hb_base::{Ip, NoMemory};
-use hb_index::{Numbered, Numbers};
+use hb_base::{Ip, List, NoMemory};
+use hb_index::Numbered;
 use hb_records::{AddressRecord, Authorization, NetworkAddress, Reach, ServicePorts, Workload};
 use std::alloc::Global;
 
@@ -71,20 +71,20 @@ fn policy_number(policy: &Authorization) -> u128
     }
 }
 
-fn numbers_of_ips(alloc: Global, ips: &[Ip]) -> Result<Numbers, NoMemory>
-    ensures { IfOk result (λ l. l.items ≡ map number_of ips.now) }
+fn numbers_of_ips(alloc: Global, ips: &[Ip]) -> Result<List<u128>, NoMemory>
+    ensures { IfOk result (λ l. l ≡ map number_of ips.now) }
 {
-    let mut numbers = Numbers::new(alloc);
+    let mut numbers = List::new(alloc);
     for ip in ips {
         numbers.push(number_of(*ip))?;
     }
     Ok(numbers)
 }
 
-fn numbers_of_addresses(alloc: Global, addresses: &[NetworkAddress]) -> Result<Numbers, NoMemory>
-    ensures { IfOk result (λ l. l.items ≡ map (λ a. number_of a.address) addresses.now) }
+fn numbers_of_addresses(alloc: Global, addresses: &[NetworkAddress]) -> Result<List<u128>, NoMemory>
+    ensures { IfOk result (λ l. l ≡ map (λ a. number_of a.address) addresses.now) }
 {
-    let mut numbers = Numbers::new(alloc);
+    let mut numbers = List::new(alloc);
     for address in addresses {
         numbers.push(number_of(address.address))?;
     }
@@ -92,8 +92,8 @@ fn numbers_of_addresses(alloc: Global, addresses: &[NetworkAddress]) -> Result<N
 }
 
 /// Adds the numbers of the keys of these services.
-fn add_services(numbers: &mut Numbers, services: &[ServicePorts]) -> Result<(), NoMemory>
-    ensures { OnOk result (numbers.new.items ≡ numbers.old.items ++ map service_number services.now) }
+fn add_services(numbers: &mut List<u128>, services: &[ServicePorts]) -> Result<(), NoMemory>
+    ensures { OnOk result (numbers.new ≡ numbers.old ++ map service_number services.now) }
 {
     for service in services {
         numbers.push(text_number(service.key.as_slice()))?;
@@ -101,8 +101,8 @@ fn add_services(numbers: &mut Numbers, services: &[ServicePorts]) -> Result<(), 
     Ok(())
 }
 
-fn numbers_of_workload(alloc: Global, workload: &Workload) -> Result<Numbers, NoMemory>
-    ensures { IfOk result (λ l. l.items ≡ map number_of workload.now.addresses ++ map service_number workload.now.services) }
+fn numbers_of_workload(alloc: Global, workload: &Workload) -> Result<List<u128>, NoMemory>
+    ensures { IfOk result (λ l. l ≡ map number_of workload.now.addresses ++ map service_number workload.now.services) }
 {
     let mut numbers = numbers_of_ips(alloc, workload.addresses.as_slice())?;
     add_services(&mut numbers, workload.services.as_slice())?;
@@ -114,7 +114,7 @@ impl Numbered for Versioned<AddressRecord> {
 
     ghost numbers = { address_numbers };
 
-    fn list_numbers(&self, alloc: Global) -> Result<Numbers, NoMemory> {
+    fn list_numbers(&self, alloc: Global) -> Result<List<u128>, NoMemory> {
         match &self.content {
             AddressRecord::Workload(workload) => numbers_of_workload(alloc, workload),
             AddressRecord::Service(service) => {
@@ -129,8 +129,8 @@ impl Numbered for Versioned<Authorization> {
 
     ghost numbers = { policy_numbers };
 
-    fn list_numbers(&self, alloc: Global) -> Result<Numbers, NoMemory> {
-        let mut numbers = Numbers::new(alloc);
+    fn list_numbers(&self, alloc: Global) -> Result<List<u128>, NoMemory> {
+        let mut numbers = List::new(alloc);
         numbers.push(policy_number(&self.content))?;
         Ok(numbers)
     }

@@ -11,8 +11,8 @@ ghost use Rattle.hb_index.specs.Named.{IsFirstBehind};
 use crate::by_name::ByName;
 use crate::index::Index;
 use crate::kept::{Kept, note};
-use crate::numbered::{Numbered, Numbers};
-use hb_base::{NoMemory, Text};
+use crate::numbered::Numbered;
+use hb_base::{List, NoMemory, Text};
 use std::alloc::{AllocFailed, Global};
 use std::marker::Model;
 
@@ -37,12 +37,12 @@ impl<T: Numbered> Model for Indexed<T> {
 }
 
 /// The numbers of what stands under a name.
-fn numbers_of<T: Numbered>(alloc: Global, stands: Option<&T>) -> Result<Numbers, NoMemory>
-    ensures { IfOk result (λ l. l.items ≡ numbers_in T.numbers (option_copied stands.entry)) }
+fn numbers_of<T: Numbered>(alloc: Global, stands: Option<&T>) -> Result<List<u128>, NoMemory>
+    ensures { IfOk result (λ l. l ≡ numbers_in T.numbers (option_copied stands.entry)) }
 {
     match stands {
         Some(stands) => stands.list_numbers(alloc),
-        None => Ok(Numbers::new(alloc)),
+        None => Ok(List::new(alloc)),
     }
 }
 

@@ -11,4 +11,4 @@ pub use by_name::ByName;
 pub use index::Index;
 pub use indexed::Indexed;
 pub use kept::Kept;
-pub use numbered::{Numbered, Numbers};
+pub use numbered::Numbered;

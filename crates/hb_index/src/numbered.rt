@@ -1,11 +1,7 @@
 //! The numbers by which values are found.
 
-use hb_base::NoMemory;
-use smallvec::SmallVec;
+use hb_base::{List, NoMemory};
 use std::alloc::Global;
-
-/// Numbers of a value; up to four take no memory.
-pub type Numbers = SmallVec<u128, 4>;
 
 /// A value that has numbers, by which an index finds it.
 pub trait Numbered {
@@ -14,9 +10,9 @@ pub trait Numbered {
     /// The numbers that it has.
     ghost numbers: { Self → list ℕ };
 
-    /// All of them.
+    /// A list of them.
     ///
     /// Errors: `NoMemory`.
-    fn list_numbers(&self, alloc: Global) -> Result<Numbers, NoMemory>
-        ensures { IfOk result (λ l. l.items ≡ numbers self.now) };
+    fn list_numbers(&self, alloc: Global) -> Result<List<u128>, NoMemory>
+        ensures { IfOk result (λ l. l ≡ numbers self.now) };
 }

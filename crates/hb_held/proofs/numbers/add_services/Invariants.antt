@@ -5,4 +5,4 @@ use Rattle.hb_held.proofs.numbers.add_services.Given as goal
 
 -- the numbers so far
 abbrev pub invariant-loop-service : goal.invariant-loop-service
-invariant-loop-service l = l.numbers.items ≡ l.fn.numbers.items ++ map service_number (take l.service-index l.services)
+invariant-loop-service l = l.numbers ≡ l.fn.numbers ++ map service_number (take l.service-index l.services)
