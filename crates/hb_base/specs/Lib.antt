@@ -14,7 +14,6 @@ pub mod Parts
 pub mod Pieces
 pub mod Place
 pub mod Reading
-pub mod Shared
 pub mod Sink
 pub mod Source
 pub mod TargetText

@@ -21,7 +21,6 @@ mod pieces;
 mod place;
 mod reading;
 mod scope;
-mod shared;
 mod short;
 mod sink;
 mod source;

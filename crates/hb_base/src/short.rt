@@ -48,16 +48,6 @@ impl Short {
         }
     }
 
-    /// The same bytes once more.
-    pub fn copy(&self) -> Short
-        ensures { result ≡ self.now }
-    {
-        Short {
-            bytes: self.bytes,
-            known: self.known,
-        }
-    }
-
     /// The bytes, in order.
     pub fn as_slice(&self) -> &[u8]
         ensures { result.now ≡ self.now }

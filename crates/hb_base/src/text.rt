@@ -5,28 +5,29 @@ ghost use Rattle.std.specs.Str.{IsUtf8};
 ghost use Rattle.hb_base.specs.Utf8.{text_of};
 
 use crate::or::NoMemory;
-use crate::shared::Shared;
+use crate::place::Place;
+use crate::short::Short;
 use crate::utf8::is_utf8;
 use std::alloc::Global;
 use std::cmp::Ordering;
 use std::marker::Model;
 
-/// Owned text; up to 23 bytes take no memory, and copies of a longer one share it. Contracts see it as the list of its bytes, which is always UTF-8.
+/// Owned text; up to 23 bytes take no memory. Contracts see it as the list of its bytes, which is always UTF-8.
 #[derive(Drop)]
 pub struct Text {
-    place: Shared,
+    place: Place,
 }
 
 impl Model for Text {
     ghost use Rattle.std.specs.Prelude.{List, ℕ};
     ghost use Rattle.std.specs.Str.{IsUtf8};
-    ghost use Rattle.hb_base.specs.Shared.{shared_bytes};
+    ghost use Rattle.hb_base.specs.Place.{bytes_at};
 
     ghost Value = { List ℕ };
 
-    ghost view = { λ t. shared_bytes t.place };
+    ghost view = { λ t. bytes_at t.place };
 
-    ghost invariant = { λ t. IsUtf8 (shared_bytes t.place) };
+    ghost invariant = { λ t. IsUtf8 (bytes_at t.place) };
 }
 
 impl Text {
@@ -40,7 +41,7 @@ impl Text {
         if !is_utf8(b) {
             return Ok(None);
         }
-        let place = Shared::of(alloc, b)?;
+        let place = Place::of(alloc, b)?;
         Ok(Some(Text { place }))
     }
 
@@ -50,7 +51,7 @@ impl Text {
     pub fn of_str(alloc: Global, text: &str) -> Result<Text, NoMemory>
         ensures { IfOk result (λ t. t ≡ text.now) }
     {
-        let place = Shared::of(alloc, text.as_bytes())?;
+        let place = Place::of(alloc, text.as_bytes())?;
         Ok(Text { place })
     }
 
@@ -59,7 +60,7 @@ impl Text {
         ensures { result ≡ [] }
     {
         Text {
-            place: Shared::empty(),
+            place: Place::Short(Short::new()),
         }
     }
 
@@ -71,13 +72,13 @@ impl Text {
         self.place.as_slice()
     }
 
-    /// A copy of this text, which shares its memory.
+    /// A copy of this text.
     ///
     /// Errors: `NoMemory`.
-    pub fn copy(&self, _alloc: Global) -> Result<Text, NoMemory>
+    pub fn copy(&self, alloc: Global) -> Result<Text, NoMemory>
         ensures { IfOk result (λ r. r ≡ self.now) }
     {
-        let place = self.place.copy()?;
+        let place = Place::of(alloc, self.as_slice())?;
         Ok(Text { place })
     }
 }
