@@ -16,4 +16,5 @@ pub mod Roles
 pub mod Shut
 pub mod Sides
 pub mod SidesAt
+pub mod Told
 pub mod Used

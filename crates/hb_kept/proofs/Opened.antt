@@ -1,12 +1,10 @@
 -- Behind a stream that a client opened no DATA of it waits.
-use Rattle.std.proofs.Common.{◌≡◌, ℕ, ◌<◌, ◌≤◌, ◌==◌, ◌&&◌, ◌||◌, not, Bool, true, false, cond, List, Option, Some, None, is_some, Result, Ok, Err, refl, ap, sym, ◌∙◌, subst, arith}
+use Rattle.std.proofs.Common.{◌≡◌, ℕ, ◌<◌, ◌≤◌, ◌==◌, ◌&&◌, ◌||◌, not, Bool, true, false, cond, List, Option, Some, None, is_some, Ok, refl, ap, sym, ◌∙◌, subst, arith}
 use Rattle.std.specs.FinMap.{get}
 use Rattle.std.specs.Prelude.{nat_lt}
 use Rattle.std.proofs.lemmas.Bool.{false≢true}
 use Rattle.std.proofs.lemmas.Bool.Decides.{nat_tests}
-use Rattle.hb_base.specs.declared.scope.Scope.{Scope}
-use Rattle.hb_base.specs.declared.scope.Scope.TheVariants as scope
-use Rattle.hb_frames.specs.Numbers.{data_kind, headers_kind, window_update_kind, protocol_error, refused_stream, flow_control_error}
+use Rattle.hb_frames.specs.Numbers.{data_kind, headers_kind, protocol_error, refused_stream}
 use Rattle.hb_frames.specs.RawFrame.{RawFrame}
 use Rattle.hb_frames.specs.Reading.{asked}
 use Rattle.hb_streams.specs.Answers.{answer_of, data_answer, headers_answer, connection_error, stream_error}
@@ -15,39 +13,21 @@ use Rattle.hb_streams.specs.Numbers.{is_even}
 use Rattle.hb_streams.specs.Resets.{is_among}
 use Rattle.hb_streams.specs.Sides.{both_open}
 use Rattle.hb_streams.specs.States.{States, state_of, state_by, state_of_others, is_full}
-use Rattle.hb_streams.specs.declared.fault.StreamFault.{StreamFault}
 use Rattle.hb_streams.specs.declared.role.Role.{Role}
 use Rattle.hb_streams.specs.declared.role.Role.TheVariants.{Server}
 use Rattle.hb_streams.specs.declared.sides.Sides.{Sides}
 use Rattle.hb_streams.specs.declared.state.State.{State}
 use Rattle.hb_streams.specs.declared.state.State.TheVariants as state
-use Rattle.hb_streams.specs.declared.step.Step.{Step}
 use Rattle.hb_streams.specs.declared.step.Step.TheVariants as step
 use Rattle.hb_streams.proofs.Begins.{uses_number, number_is_above}
 use Rattle.hb_streams.proofs.Follows.{highest_stays}
-use Rattle.hb_flow.specs.Windows.{Windows}
-use Rattle.hb_flow.specs.Flows.{granted, granted_on}
 use Rattle.hb_outgoing.specs.Selected.{has_data}
-use Rattle.hb_blocks.specs.Assembly.{Progress}
-use Rattle.hb_blocks.specs.declared.fault.BlockFault.{BlockFault}
-use Rattle.hb_blocks.specs.declared.whole.Whole.{Whole}
 use Rattle.hb_conn.specs.Connection.{Connection, Finds, core_of}
-use Rattle.hb_conn.specs.Data.{used, padded, continued, data_goes, data_answered, is_of_idle, on_data}
-use Rattle.hb_conn.specs.Faults.{faulted, refused, refused_by, broken}
-use Rattle.hb_conn.specs.Frames.{sent, ping_ack}
+use Rattle.hb_conn.specs.Data.{continued}
 use Rattle.hb_conn.specs.Glance.{glance_of}
-use Rattle.hb_conn.specs.Handling.{does, Answers, HandlesBy}
-use Rattle.hb_conn.specs.Headers.{headers_answered, block_told, DoesBlock}
 use Rattle.hb_conn.specs.Observed.{outgoing}
-use Rattle.hb_conn.specs.Outcome.{Outcome, outcome, Gives}
-use Rattle.hb_conn.specs.Places.{is_misplaced}
-use Rattle.hb_conn.specs.Resets.{reset_answered}
-use Rattle.hb_conn.specs.Settings.{applied, SettlesBy, DoesSettings}
-use Rattle.hb_conn.specs.Windows.{connection_grows, stream_grows, stream_answered, on_window}
 use Rattle.hb_conn.specs.declared.found.Found.{Found}
 use Rattle.hb_conn.specs.declared.found.Found.TheVariants as found
-use Rattle.hb_conn.specs.declared.glance.Glance.{Glance}
-use Rattle.hb_conn.specs.declared.glance.Glance.TheVariants as glance
 use Rattle.hb_conn.specs.declared.machine.Core.{Core}
 use Rattle.hb_history.specs.History.{fresh, StandsFor}
 use Rattle.hb_history.specs.Points.{Point}
@@ -63,8 +43,9 @@ use Rattle.hb_kept.proofs.All.{Each, each_so}
 use Rattle.hb_kept.proofs.Handled.{frame_keeps}
 use Rattle.hb_kept.proofs.Rises.{frame_rises, fault_rises}
 use Rattle.hb_kept.proofs.Roles.{role_is}
-use Rattle.hb_kept.proofs.Sides.{updated_streams, released_streams, credited_streams}
+use Rattle.hb_kept.proofs.Sides.{released_streams, credited_streams}
 use Rattle.hb_kept.proofs.SidesAt.{sides_at, begins}
+use Rattle.hb_kept.proofs.Told.{IsOther, Tells, handles_so, fault_so}
 use Rattle.hb_kept.proofs.Used.{Used, used_keeps, used_acks, used_resize, used_grow, used_new, used_runs}
 
 -- no DATA waits on a stream above all that were used
@@ -111,8 +92,8 @@ pub active_by : (s : States) (n : ℕ) (o : Option Sides) → get s.active n ≡
 active_by s n None is goes = none_goes n (is_even n) (nat_lt s.highest n) (is_among s.resets n) goes
 active_by s n (Some w) is goes = refl
 
-goes_used : (s : States) (n : ℕ) → Moved Server s → answer_of s data_kind n ≡ Ok step.Goes → n ≤ s.highest
-goes_used s n moved goes = (used_some Server s n moved (active_by s n (get s.active n) refl goes)).2.1
+pub goes_used : (role : Role) (s : States) (n : ℕ) → Moved role s → answer_of s data_kind n ≡ Ok step.Goes → n ≤ s.highest
+goes_used role s n moved goes = (used_some role s n moved (active_by s n (get s.active n) refl goes)).2.1
 
 continued_rises : (c : Core) (s : ℕ) (end : Bool) → c.streams.highest ≤ (continued c s end).streams.highest
 continued_rises c s true =
@@ -121,7 +102,7 @@ continued_rises c s true =
     (highest_stays c.streams (receives data_kind s true))
 continued_rises c s false = subst (λ (t : States). c.streams.highest ≤ t.highest) (sym (credited_streams c s)) (omega arith)
 
-goes_on : (c : Core) (s : ℕ) (end : Bool) → s ≤ c.streams.highest → s ≤ (continued c s end).streams.highest
+pub goes_on : (c : Core) (s : ℕ) (end : Bool) → s ≤ c.streams.highest → s ≤ (continued c s end).streams.highest
 goes_on c s end was = let more = continued_rises c s end in omega (arith, was, more)
 
 module _ (low : ℕ) where
@@ -137,140 +118,29 @@ module _ (low : ℕ) where
   abbrev Had : Core → Type 0
   Had c = Used Server calm c × (low ≤ c.streams.highest)
 
-  abbrev OutcomeNew : Outcome → Type 0
-  OutcomeNew o = IsNew o.found o.core
+  other : (told : Found) (c : Core) → IsOther told → IsNew told c
+  other (found.Opened s end) c is = absurd is
+  other (found.Chunk s end) c is = absurd is
+  other told c is = tt
 
-  given : (o : Outcome) (new : Core) (told : Found) → OutcomeNew o → Gives o new told → IsNew told new
-  given o new told unused is =
-      subst (λ t. IsNew t new) (sym is.1) (subst (λ (c : Core). IsNew o.found c) (sym is.0) unused)
-
-  either : (b : Bool) (o p : Outcome) → OutcomeNew o → OutcomeNew p → OutcomeNew (cond b o p)
-  either true o p first second = first
-  either false o p first second = second
-
-  fault : (c : Core) (code : ℕ) → OutcomeNew (faulted c code)
-  unfolding faulted
-  fault c code = tt
-
-  refusal : (c : Core) (why : StreamFault) → OutcomeNew (refused c why)
-  refusal c why = by why.scope
-    where
-      by : (reach : Scope) → OutcomeNew (refused_by c reach why.code)
-      by scope.Connection = fault c why.code
-      by (scope.Stream s) = tt
-
-  headers_unused : (c : Core) (s : ℕ) (end : Bool) (r : Result Step StreamFault) → answer_of c.streams headers_kind s ≡ r
-      → Had c → OutcomeNew (headers_answered c s end r)
-  headers_unused c s end (Ok step.New) is h =
-      let above = (number_is_above c.streams headers_kind s (ap uses_number is)).1 in
-      let becomes = ap (after_answer c.streams headers_kind s end) is in (
-        none_above s c.streams.highest c.out.queue above h.0.1,
-        ap (λ (t : States). sides_at t s) becomes ∙ (begins c.streams s (record both_open { peer = not end })).here,
-        omega (arith, above, h.1),
-        ap (λ (t : States). t.highest) becomes,
-      )
-  headers_unused c s end (Ok step.Goes) is h =
-      absurd (never_goes (is_full c.streams) s (state_of c.streams s)
-      (subst (λ (r : Role). headers_answer r (is_full c.streams) s (state_of c.streams s) ≡ Ok step.Goes)
-      (role_is Server c.streams h.0.0.0) is))
-  headers_unused c s end (Ok step.Ignored) is h = tt
-  headers_unused c s end (Err why) is h = refusal _ why
-
-  block_unused : (c : Core) (told : Result (Option Whole) BlockFault) → Had c → OutcomeNew (block_told c told)
-  block_unused c (Ok None) h = tt
-  block_unused c (Ok (Some whole)) h =
-      headers_unused c whole.stream whole.end_stream (answer_of c.streams headers_kind whole.stream) refl h
-  block_unused c (Err why) h = fault c _
-
-  does_block : (progress : Progress) (c new : Core) (told : Found) → Had c → DoesBlock progress c new told
-      → IsNew told new
-  does_block progress c new told h does =
-      given (block_told (record c { blocks = does.0 }) does.1) new told (block_unused (record c { blocks = does.0 }) does.1 h) does.3
-
-  -- no other frame opens a stream
-
-  data_by : (c : Core) (s k size : ℕ) (end : Bool) (o : Option Windows) → s ≤ c.streams.highest → OutcomeNew (data_goes c s k size end o)
-  data_by c s k size end None low_enough = goes_on c s end low_enough
-  data_by c s k size end (Some w) low_enough =
-      either _ (broken c s flow_control_error) (outcome (continued (padded c s k size) s end) (found.Chunk s end)) tt
-      (goes_on (padded c s k size) s end low_enough)
-
-  data_answers : (c : Core) (s k size : ℕ) (end : Bool) (r : Result Step StreamFault) → (r ≡ Ok step.Goes → s ≤ c.streams.highest)
-      → OutcomeNew (data_answered c s k size end r)
-  data_answers c s k size end (Ok step.Goes) was = data_by c s k size end (get c.flow.streams s) (was refl)
-  data_answers c s k size end (Ok step.New) was = tt
-  data_answers c s k size end (Ok step.Ignored) was = tt
-  data_answers c s k size end (Err why) was = refusal c why
-
-  data_unused : (c : Core) (s k size : ℕ) (end : Bool) → Had c → OutcomeNew (on_data c s k size end)
-  data_unused c s k size end h =
-      let r = answer_of c.streams data_kind s in
-      let goes = data_answered (used c k) s k size end r in
-      let same : (used c k).streams ≡ c.streams = updated_streams _ _ in
-      let was : (r ≡ Ok step.Goes → s ≤ (used c k).streams.highest) =
-      λ is. subst (λ (t : States). s ≤ t.highest) (sym same) (goes_used c.streams s h.0.0.0 is) in
-      either (is_of_idle r) (faulted c protocol_error) (cond _ (faulted c flow_control_error) goes) (fault c protocol_error)
-      (either _ (faulted c flow_control_error) goes (fault c flow_control_error) (data_answers (used c k) s k size end r was))
-
-  reset_answers : (c : Core) (s code : ℕ) (r : Result Step StreamFault) → OutcomeNew (reset_answered c s code r)
-  reset_answers c s code (Ok step.Goes) = tt
-  reset_answers c s code (Ok step.New) = tt
-  reset_answers c s code (Ok step.Ignored) = tt
-  reset_answers c s code (Err why) = refusal c why
-
-  window_grows : (c : Core) (s k : ℕ) (o : Option Windows) → OutcomeNew (stream_grows c s k o)
-  window_grows c s k None = tt
-  window_grows c s k (Some w) =
-      either _ (broken c s flow_control_error) (outcome (record c { flow = granted_on c.flow s k }) found.Silent) tt tt
-
-  window_answers : (c : Core) (s k : ℕ) (r : Result Step StreamFault) → OutcomeNew (stream_answered c s k r)
-  window_answers c s k (Ok step.Goes) =
-      either (k == 0) (broken c s protocol_error) (stream_grows c s k (get c.flow.streams s)) tt (window_grows c s k (get c.flow.streams s))
-  window_answers c s k (Ok step.New) = tt
-  window_answers c s k (Ok step.Ignored) = tt
-  window_answers c s k (Err why) = refusal c why
-
-  window_unused : (c : Core) (s k : ℕ) → OutcomeNew (on_window c s k)
-  window_unused c s k =
-      let r = answer_of c.streams window_update_kind s in
-      either (s == 0) (connection_grows c k) (stream_answered c s k r)
-      (either _ (faulted c flow_control_error) (outcome (record c { flow = granted c.flow k }) found.Silent) (fault c flow_control_error) tt)
-      (window_answers c s k r)
-
-  applied_unused : (c : Core) (fits : Bool) → OutcomeNew (applied c fits)
-  applied_unused c true = tt
-  applied_unused c false = fault c _
-
-  settings_by : (b : Bool) (c : Core) (pairs : List (ℕ × ℕ)) (new : Core) (told : Found) → SettlesBy b c pairs new told
-      → IsNew told new
-  settings_by true c pairs new told is = given _ new told (fault c _) is
-  settings_by false c pairs new told is = given _ new told (applied_unused is.0 is.1) is.3
-
-  settings_unused : (ack : Bool) (c : Core) (payload : List ℕ) (new : Core) (told : Found) → DoesSettings ack c payload new told
-      → IsNew told new
-  settings_unused true c payload new told is = given (outcome c found.Silent) new told tt is
-  settings_unused false c payload new told is = settings_by _ c _ new told is
-
-  answers_unused : (c : Core) (g : Glance) (bytes : List ℕ) (new : Core) (told : Found) → Had c → Answers c g bytes new told
-      → IsNew told new
-  answers_unused c glance.Nothing bytes new told h is = given _ new told tt is
-  answers_unused c (glance.Data s k end) bytes new told h is = given _ new told (data_unused c s k _ end h) is
-  answers_unused c (glance.Headers s end whole) bytes new told h is = does_block _ c new told h is
-  answers_unused c (glance.Reset s code) bytes new told h is = given _ new told (reset_answers c s code _) is
-  answers_unused c (glance.Settings ack) bytes new told h is = settings_unused ack c bytes new told is
-  answers_unused c (glance.Ping ack value) bytes new told h is =
-      given (does c (glance.Ping ack value) bytes) new told
-      (either ack (outcome c found.Silent) (outcome (sent c (ping_ack value)) found.Silent) tt tt) is
-  answers_unused c (glance.GoAway last) bytes new told h is = given _ new told tt is
-  answers_unused c (glance.Window s k) bytes new told h is = given _ new told (window_unused c s k) is
-  answers_unused c (glance.Continuation s whole) bytes new told h is = does_block _ c new told h is
-  answers_unused c glance.Other bytes new told h is = given _ new told tt is
-  answers_unused c (glance.Refused code row kind flags) bytes new told h is = given _ new told (fault c code) is
-
-  handles_by : (b : Bool) (c : Core) (g : Glance) (bytes : List ℕ) (new : Core) (told : Found) → Had c
-      → HandlesBy b c g bytes new told → IsNew told new
-  handles_by true c g bytes new told h is = given _ new told (fault c _) is
-  handles_by false c g bytes new told h is = answers_unused c g bytes new told h is
+  -- HEADERS open a stream above all, and go to none; DATA goes to one that was used
+  tells : (c : Core) → Had c → Tells IsNew c
+  tells c h = record {
+    opens = λ blocks s end is.
+        let above = (number_is_above c.streams headers_kind s (ap uses_number is)).1 in
+        let becomes = ap (after_answer c.streams headers_kind s end) is in (
+          none_above s c.streams.highest c.out.queue above h.0.1,
+          ap (λ (t : States). sides_at t s) becomes ∙ (begins c.streams s (record both_open { peer = not end })).here,
+          omega (arith, above, h.1),
+          ap (λ (t : States). t.highest) becomes,
+        );
+    heads = λ blocks s end is.
+        absurd (never_goes (is_full c.streams) s (state_of c.streams s)
+        (subst (λ (r : Role). headers_answer r (is_full c.streams) s (state_of c.streams s) ≡ Ok step.Goes)
+        (role_is Server c.streams h.0.0.0) is));
+    chunks = λ d s end same is.
+        goes_on d s end (subst (λ (t : States). s ≤ t.highest) (sym same) (goes_used Server c.streams s h.0.0.0 is));
+  }
 
   -- where nothing is told of a frame there is nothing to show
   still : (told : Found) (c : Core) → IsStill told → IsNew told c
@@ -292,12 +162,12 @@ module _ (low : ℕ) where
             (asked r).last new told h.0 is,
         frame_rises low c (glance_of r) (asked r).last new told h.1 is,
       ),
-      handles_by (is_misplaced c (glance_of r)) c (glance_of r) (asked r).last new told h is,
+      handles_so IsNew other c (glance_of r) (asked r).last new told (tells c h) is,
     );
     faults = λ c new code told is h. (
       subst Had (sym is.0)
           (kept.faulted_keeps (Used Server) (used_keeps Server) calm c code h.0, fault_rises low c code h.1),
-      given (faulted c code) new told (fault c code) is,
+      fault_so IsNew other c new code told is,
     );
   }
 

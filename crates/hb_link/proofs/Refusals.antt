@@ -1,5 +1,5 @@
 -- What a refusal takes of the room.
-use Rattle.std.proofs.Common.{◌≡◌, ℕ, ◌+◌, ◌==◌, ◌<◌, ◌≤◌, Bool, true, false, cond, [], ◌∷◌, length, if◌then◌else◌, refl, ap, arith, length-append}
+use Rattle.std.proofs.Common.{◌≡◌, ℕ, ◌+◌, ◌<◌, ◌≤◌, Bool, true, false, cond, [], length, refl, ap, arith, length-append}
 use Rattle.std.proofs.lemmas.Bool.{cond_both}
 use Rattle.hb_conn.specs.Connection.{Connection, core_of}
 use Rattle.hb_conn.specs.Faults.{released, is_active}
@@ -10,7 +10,7 @@ use Rattle.hb_conn.proofs.Keeping.{statuses_keep_up}
 use Rattle.hb_frames.specs.Numbers.{largest}
 use Rattle.hb_history.proofs.CatchUpAnswers.{sent_lowers}
 use Rattle.hb_history.proofs.CatchUpResets.{aborted_lowers}
-use Rattle.hb_hpack.specs.Encoding.{Writing, opening, header_of, status_header, status_text, status_of}
+use Rattle.hb_hpack.specs.Encoding.{Writing, opening, header_of, status_header}
 use Rattle.hb_hpack.specs.declared.spelling.Spelling.TheVariants.{Plain}
 use Rattle.hb_hpack.proofs.Statuses.{status_is}
 use Rattle.hb_kept.specs.Kept.{Fares, IsKept}
@@ -20,42 +20,17 @@ use Rattle.hb_owed.specs.Debts.{dues}
 use Rattle.hb_owed.specs.Frames.{status_frame}
 use Rattle.hb_owed.specs.declared.due.Due.TheVariants as due
 use Rattle.hb_owed.specs.declared.status.Status.{Status}
+use Rattle.hb_owed.proofs.Payments.{status_octets, opening_octets}
 use Rattle.hb_inbound.specs.Runs.{refused_on}
 use Rattle.hb_streams.specs.Moves.{after, sends_end}
 use Rattle.hb_link.specs.Asking.{HasSpare}
-
--- the block of a status has five octets at most, and one in front of the first
-five : (status : ℕ) → length (status_of status) ≤ 5
-unfolding status_of
-five status = by (status == 200) (status == 204) (status == 206) (status == 304) (status == 400) (status == 404) (status == 500)
-  where
-    by : (a b c d e f g : Bool) → length (if a then 136 ∷ []
-        else (if b then 137 ∷ []
-        else (if c then 138 ∷ []
-        else (if d then 139 ∷ []
-        else (if e then 140 ∷ []
-        else (if f then 141 ∷ []
-        else (if g then 142 ∷ []
-        else 8 ∷ 3 ∷ status_text status))))))) ≤ 5
-    by true b c d e f g = omega arith
-    by false true c d e f g = omega arith
-    by false false true d e f g = omega arith
-    by false false false true e f g = omega arith
-    by false false false false true f g = omega arith
-    by false false false false false true g = omega arith
-    by false false false false false false true = omega arith
-    by false false false false false false false = omega arith
-
-one : (started : Bool) → length (opening started) ≤ 1
-one true = omega arith
-one false = omega arith
 
 payload_len : (w : Writing) (s : ℕ) (status : Status) → 100 ≤ status.number → status.number < 1000
     → length (status_frame w s status).payload ≤ 6
 payload_len w s status low high =
     let parts = length-append (opening w.started) (header_of Plain (status_header status.number)) in
     let same = ap length (status_is status.number low high) in
-    omega (arith, parts, same, five status.number, one w.started)
+    omega (arith, parts, same, status_octets status.number, opening_octets w.started)
 
 due_by : (b : Bool) (c : Core) (s : ℕ) (status : Status) → 100 ≤ status.number → status.number < 1000 → dues c.owed ≡ []
     → room_of c.out ≤ room_of (cond b (put_now c s (due.Status status)) (put_later c s (due.Status status))).out + 15

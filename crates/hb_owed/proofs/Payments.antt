@@ -90,9 +90,10 @@ pays_in_order p = in_order (length (dues p.owed)) p (omega arith)
 
 -- the room that a frame takes is at most what is asked for it
 
-five : (status : ℕ) → length (status_of status) ≤ 5
+-- the block of a status has five octets at most, and one in front of the first
+pub status_octets : (status : ℕ) → length (status_of status) ≤ 5
 unfolding status_of
-five status = by (status == 200) (status == 204) (status == 206) (status == 304) (status == 400) (status == 404) (status == 500)
+status_octets status = by (status == 200) (status == 204) (status == 206) (status == 304) (status == 400) (status == 404) (status == 500)
   where
     by : (a b c d e f g : Bool) → length (if a then 136 ∷ []
         else (if b then 137 ∷ []
@@ -111,9 +112,9 @@ five status = by (status == 200) (status == 204) (status == 206) (status == 304)
     by false false false false false false true = omega arith
     by false false false false false false false = omega arith
 
-one : (started : Bool) → length (opening started) ≤ 1
-one true = omega arith
-one false = omega arith
+pub opening_octets : (started : Bool) → length (opening started) ≤ 1
+opening_octets true = omega arith
+opening_octets false = omega arith
 
 frame_len : (f : RawFrame) → length (spelling f) ≡ 9 + length f.payload
 frame_len f = length-append (header (length f.payload) f.kind f.flags f.stream) f.payload
@@ -123,7 +124,7 @@ size_is_enough w s (due.Status status) fits =
     let all = frame_len (frame_of w s (due.Status status)) in
     let parts = length-append (opening w.started) (header_of Plain (status_header status.number)) in
     let same = ap length (status_is status.number fits.0 fits.1) in
-    omega (arith, all, parts, same, five status.number, one w.started)
+    omega (arith, all, parts, same, status_octets status.number, opening_octets w.started)
 size_is_enough w s (due.Credit n) fits = omega (arith, frame_len (frame_of w s (due.Credit n)))
 size_is_enough w s due.End fits = omega (arith, frame_len (frame_of w s due.End))
 size_is_enough w s (due.Reset code) fits = omega (arith, frame_len (frame_of w s (due.Reset code)))
