@@ -100,7 +100,8 @@ impl Drive {
 
     pub fn judge_all(&mut self) {
         let few = self.held.touched_few();
-        self.link.judge_all(&self.held, few.as_ref(), &mut self.told);
+        self.link
+            .judge_all(&self.held, few.as_ref(), &mut self.told);
     }
 
     /// How many octets may come at once.
