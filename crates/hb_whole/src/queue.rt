@@ -1,6 +1,6 @@
 //! Notes that wait to be taken.
 
-ghost use Rattle.std.specs.Prelude.{◌≡◌, ◌++◌, [], Some, IfOk, IfNone};
+ghost use Rattle.std.specs.Prelude.{◌≡◌, ◌++◌, [], Some, IfOk, IfNone, OnErr};
 ghost use Rattle.std.specs.Option.{option_to_list};
 ghost use Rattle.hb_base.specs.declared.note.Note.TheVariants as note;
 ghost use Rattle.hb_whole.specs.Queue.{told, waiting, Adds};
@@ -66,11 +66,12 @@ impl Queue {
 
     /// The next note. `None` where none waits.
     ///
-    /// Errors: `NoMemory`, where one was lost.
+    /// Errors: `NoMemory`, where one was lost, and so at each call from then on.
     pub fn next(&mut self) -> Result<Option<Note>, NoMemory>
         ensures head { IfOk result (λ note. told self.old ≡ Some (option_to_list note ++ waiting self.new)) }
         ensures still { IfOk result (λ note. told self.new ≡ Some (waiting self.new)) }
         ensures none { IfOk result (λ note. IfNone note (waiting self.old ≡ [])) }
+        ensures lost { OnErr result (self.new ≡ self.old) }
     {
         if self.lost {
             return Err(AllocError);
