@@ -615,7 +615,7 @@ class Inbound(Connection):
         if self.run.kinds != {ADDRESS, POLICY}:
             return 503, target
         status = judge(self.run.held, self.run.asked, self.peer, target)
-        if status == 200 and self.run.is_own_door(target):
+        if status == 200 and self.run.leads_back(target):
             return 400, target
         return (503 if status == 200 and self.run.is_full() else status), target
 
@@ -876,7 +876,7 @@ class Captured:
         status = 503
         if self.run.kinds == {ADDRESS, POLICY}:
             status = judge(self.run.held, self.run.asked, self.peer, self.target)
-        if status == 200 and self.run.is_own_door(self.target):
+        if status == 200 and self.run.leads_back(self.target):
             status = 400
         return status, f"refused {status}", self.target
 
@@ -887,7 +887,7 @@ class Captured:
         if kind == "none":
             return 503, f"no route {leads}", None
         address = target_of(leads)
-        if kind == "direct" and self.run.is_own_door(address):
+        if kind == "direct" and self.run.leads_back(address) or int(address.ip) == 0:
             return 400, "refused 400", None
         if kind == "gateway":
             self.key, self.authority = (identity_at(self.run.held, self.run.asked, self.peer.ip), self.peer.ip, address), more[0]
@@ -993,10 +993,11 @@ class Run:
         """How many connections each endpoint has."""
         return collections.Counter(filter(None, (link.connects_to() for link in self.plain.values())))
 
-    def is_own_door(self, target):
-        """Whether who connects to the target would reach a door of the proxy."""
+    def leads_back(self, target):
+        """Whether who connects to the target would reach a door of the proxy, or the machine itself by the unspecified address."""
         doors = [target_of(self.asked[door]) for door in DOORS if door in self.asked]
-        return any(door.port == target.port and (int(door.ip) == 0 or door.ip == target.ip) for door in doors)
+        at_door = any(door.port == target.port and (int(door.ip) == 0 or door.ip == target.ip) for door in doors)
+        return at_door or int(target.ip) == 0
 
     def run(self):
         if any(map(self.asked.get, DOORS)) and self.world.lines and self.world.lines[0].get("fault") == "listen":

@@ -1,5 +1,5 @@
 -- What the laws make of small runs of a link of the outbound door whose way leads by a gateway.
-use Rattle.std.proofs.Common.{◌≡◌, ℕ, false, List, [], ◌∷◌, ◌++◌, Some, None, ap, sym, ◌∙◌, subst, arith}
+use Rattle.std.proofs.Common.{◌≡◌, ℕ, Bool, false, cond, List, [], ◌∷◌, ◌++◌, Some, None, ap, sym, ◌∙◌, subst, arith}
 use Rattle.std.specs.Prelude.{IsSome}
 use Rattle.std.proofs.lemmas.Bool.{false≢true}
 use Rattle.hb_base.specs.declared.cause.Cause.TheVariants as cause
@@ -10,9 +10,9 @@ use Rattle.hb_front.specs.Reading.{Seen}
 use Rattle.hb_gateway.specs.Response.{brings, fails}
 use Rattle.hb_held.specs.Held.{Resources}
 use Rattle.hb_world.specs.declared.entry.Entry.TheVariants as e
-use Rattle.hb_captured.specs.Answer.{Aim, straight_to, through, aims, refuses, key_for, key_of, unrouted, by_way}
+use Rattle.hb_captured.specs.Answer.{Aim, straight_to, through, aims, refuses, key_for, key_of, unrouted, refused_with, by_way}
 use Rattle.hb_captured.specs.Ends.{EndsAt}
-use Rattle.hb_captured.specs.GatewayRefused.{aimed, lived, AsksTwice, AsksStraight, DialsBeside, GoesRound, GoesThroughStraight, SpeaksForAnother, RefusesThrough, PutsUnopened, TakesUnopened, PutsAnother, FinishesEarly, StaysOpen, KeepsStream, CountsUnbegun}
+use Rattle.hb_captured.specs.GatewayRefused.{aimed, lived, AsksTwice, AsksStraight, DialsBeside, GoesRound, GoesThroughStraight, GoesThroughNowhere, SpeaksForAnother, RefusesThrough, PutsUnopened, TakesUnopened, PutsAnother, FinishesEarly, StaysOpen, KeepsStream, CountsUnbegun}
 use Rattle.hb_captured.specs.GatewayRows.{GoesThrough}
 use Rattle.hb_captured.specs.Notes.{NotesAt}
 use Rattle.hb_captured.specs.OutboundRefused.{taken_in}
@@ -49,7 +49,9 @@ one_aim : (start : Resources) (bytes : List ℕ) (seen : Seen) (gateway authorit
     → through (key_for start seen.source.ip gateway) authority endpoint ≡ aim
 one_aim start bytes seen gateway authority endpoint aim goes law =
     let both : aims (through (key_for start seen.source.ip gateway) authority endpoint) ≡ aims aim =
-    sym (ap (by_way start seen.source.ip) goes.way) ∙ (aims_by start bytes seen aim law).1 in
+    sym (ap (by_way start seen.source.ip) goes.way
+    ∙ ap (λ (b : Bool). cond b (refused_with 400) (aims (through (key_for start seen.source.ip gateway) authority endpoint))) goes.elsewhere)
+    ∙ (aims_by start bytes seen aim law).1 in
     cc
 
 pub goes_round : GoesRound
@@ -63,6 +65,14 @@ goes_through_straight start bytes seen key to authority endpoint name goes law =
     let both : aims (straight_to to name) ≡ aims (through key authority endpoint) =
     sym (straight_aims start seen to name goes)
     ∙ (last (VerdictAt 2 start) (taken_in door.Outbound bytes) (fronted seen unrouted (through key authority endpoint)) law).1 in
+    cc
+
+pub goes_through_nowhere : GoesThroughNowhere
+goes_through_nowhere start bytes seen gateway authority endpoint aim way nowhere law =
+    let both : refused_with 400 ≡ aims aim =
+    sym (ap (by_way start seen.source.ip) way
+    ∙ ap (λ (b : Bool). cond b (refused_with 400) (aims (through (key_for start seen.source.ip gateway) authority endpoint))) nowhere)
+    ∙ (aims_by start bytes seen aim law).1 in
     cc
 
 pub speaks_for_another : SpeaksForAnother

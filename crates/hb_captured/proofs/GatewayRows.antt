@@ -23,6 +23,7 @@ pub through_aims : (h : Resources) (seen : Seen) (gateway authority : Target) (e
 through_aims h seen gateway authority endpoint is =
     ap (λ (b : Bool). cond (not b) (refused_with 503) (by_way h seen.source.ip (way_on h unrouted seen))) is.synced
     ∙ ap (by_way h seen.source.ip) is.way
+    ∙ ap (λ (b : Bool). cond b (refused_with 400) (aims (through (key_for h seen.source.ip gateway) authority endpoint))) is.elsewhere
 
 -- its header is whole, behind which these bytes came
 abbrev aimed_at : Resources → Seen → (gateway authority : Target) → List ℕ → List ℕ → Local

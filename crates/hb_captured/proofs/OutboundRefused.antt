@@ -9,11 +9,11 @@ use Rattle.hb_base.specs.declared.target.Target.{Target}
 use Rattle.hb_front.specs.Reading.{Seen}
 use Rattle.hb_held.specs.Held.{Resources}
 use Rattle.hb_route.specs.Answer.{Way, by_gateway, straight, no_way, number_of}
-use Rattle.hb_verdict.specs.Verdict.{synced, is_own_door}
+use Rattle.hb_verdict.specs.Verdict.{synced, is_unspecified, leads_back}
 use Rattle.hb_world.specs.declared.entry.Entry.TheVariants as e
-use Rattle.hb_captured.specs.Answer.{Answer, Aim, straight_to, aims, refuses, unrouted, refused_with, by_way, way_on, answer_on, why_at, why_for}
+use Rattle.hb_captured.specs.Answer.{Answer, Aim, straight_to, through, key_for, aims, refuses, unrouted, refused_with, by_way, way_on, answer_on, why_at, why_for}
 use Rattle.hb_captured.specs.Ends.{EndsAt}
-use Rattle.hb_captured.specs.OutboundRefused.{GoesStraight, taken_in, asking, RevokesOutbound, DialsAsPlain, DialsAsDirect, DialsOffItsWay, DialsForGateway, DialsOwnDoor, DialsUnsynced, RefusesStraight, MistakesRoute}
+use Rattle.hb_captured.specs.OutboundRefused.{GoesStraight, taken_in, asking, RevokesOutbound, DialsAsPlain, DialsAsDirect, DialsOffItsWay, DialsForGateway, DialsBack, DialsUnsynced, RefusesStraight, MistakesRoute}
 use Rattle.hb_captured.specs.Part.{entry, up, fronted, refused, accepted, applied}
 use Rattle.hb_captured.specs.Sides as sides
 use Rattle.hb_captured.specs.Sides.{lives}
@@ -33,24 +33,28 @@ aims_by start bytes seen aim law =
     by_its_way (synced start) (by_way start seen.source.ip (way_on start unrouted seen)) aim
     (last (VerdictAt 2 start) (taken_in door.Outbound bytes) (fronted seen unrouted aim) law).1
 
--- a straight way leads to no door of the node's own
-no_own_door : (own : Bool) (aim there : Aim) → cond own (refused_with 400) (aims there) ≡ aims aim → (own ≡ false) × (there ≡ aim)
-no_own_door true aim there is = absurd (cc)
-no_own_door false aim there is = (refl, cc)
+-- a way that is taken leads not back to the node
+not_back : (back : Bool) (aim there : Aim) → cond back (refused_with 400) (aims there) ≡ aims aim → (back ≡ false) × (there ≡ aim)
+not_back true aim there is = absurd (cc)
+not_back false aim there is = (refl, cc)
 
 -- only a straight way leads straight
 leads_straight : (h : Resources) (seen : Seen) (w : Way) (to : Target) (endpoint : Option (List ℕ)) → synced h ≡ true
     → way_on h unrouted seen ≡ w → by_way h seen.source.ip w ≡ aims (straight_to to endpoint) → GoesStraight h seen to endpoint
 leads_straight h seen (straight there name) to endpoint came way is =
-    let at = no_own_door (is_own_door h.doors there) (straight_to to endpoint) (straight_to there name) is in
+    let at = not_back (leads_back h.doors there) (straight_to to endpoint) (straight_to there name) is in
     let same : straight_to there name ≡ straight_to to endpoint = at.1 in
     let address : there ≡ to = cc in
     record {
       synced = came;
       way = way ∙ cc;
-      elsewhere = subst (λ (t : Target). is_own_door h.doors t ≡ false) address at.0;
+      elsewhere = subst (λ (t : Target). leads_back h.doors t ≡ false) address at.0;
     }
-leads_straight h seen (by_gateway gateway authority name) to endpoint came way is = absurd (cc)
+leads_straight h seen (by_gateway gateway authority name) to endpoint came way is =
+    let key = key_for h seen.source.ip gateway in
+    let same : through key authority name ≡ straight_to to endpoint =
+    (not_back (is_unspecified gateway.ip) (straight_to to endpoint) (through key authority name) is).1 in
+    absurd (cc)
 leads_straight h seen (no_way why) to endpoint came way is = absurd (cc)
 
 pub goes_straight : (start : Resources) (bytes : List ℕ) (seen : Seen) (to : Target) (endpoint : Option (List ℕ))
@@ -100,8 +104,8 @@ pub dials_for_gateway : DialsForGateway
 dials_for_gateway start bytes seen address authority to endpoint way law =
     let same : by_gateway address authority endpoint ≡ straight to None = sym way ∙ (goes_straight start bytes seen to None law).way in cc
 
-pub dials_own_door : DialsOwnDoor
-dials_own_door start bytes seen to own law = false≢true (sym (goes_straight start bytes seen to None law).elsewhere ∙ own)
+pub dials_back : DialsBack
+dials_back start bytes seen to back law = false≢true (sym (goes_straight start bytes seen to None law).elsewhere ∙ back)
 
 pub dials_unsynced : DialsUnsynced
 dials_unsynced start bytes seen to unsynced law = false≢true (sym unsynced ∙ (goes_straight start bytes seen to None law).synced)

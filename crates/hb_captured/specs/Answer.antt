@@ -21,7 +21,7 @@ use Rattle.hb_records.specs.declared.workload.Workload.{Workload}
 use Rattle.hb_route.specs.Answer.{Way, by_gateway, straight, no_way, number_of}
 use Rattle.hb_route.specs.Opens.{Counts}
 use Rattle.hb_route.specs.Routing.{way}
-use Rattle.hb_verdict.specs.Verdict.{synced, is_own_door, verdict}
+use Rattle.hb_verdict.specs.Verdict.{synced, is_unspecified, leads_back, verdict}
 use Rattle.hb_verdict.specs.declared.request.Request.TheVariants.{Connect}
 use Rattle.hb_verdict.specs.declared.verdict.Verdict.{Verdict}
 use Rattle.hb_verdict.specs.declared.verdict.Verdict.TheVariants.{Status, Reset, Dial}
@@ -99,11 +99,12 @@ identity_at (Some found) = if_sent (identity_in found.1)
 abbrev pub key_for : Resources → Ip → (gateway : Target) → Key
 key_for held source gateway = record { identity = identity_at (known held source); source = source; gateway = gateway }
 
--- no link leads straight to one of the node's own doors
+-- no way leads back to the node: none straight to where it is itself, and none by a gateway at the unspecified address
 abbrev pub by_way : Resources → Ip → Way → Answer
 by_way held source (straight to endpoint) =
-    if is_own_door held.doors to then refused_with 400 else aims (straight_to to endpoint)
-by_way held source (by_gateway gateway authority endpoint) = aims (through (key_for held source gateway) authority endpoint)
+    if leads_back held.doors to then refused_with 400 else aims (straight_to to endpoint)
+by_way held source (by_gateway gateway authority endpoint) =
+    if is_unspecified gateway.ip then refused_with 400 else aims (through (key_for held source gateway) authority endpoint)
 by_way held source (no_way why) = refuses (cause.NoRoute (number_of why)) 503
 
 abbrev pub routed : Resources → Routing → Ip → Target → Answer

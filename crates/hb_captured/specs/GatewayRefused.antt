@@ -1,5 +1,5 @@
 -- Small runs of a link of the outbound door, link 2, whose way leads by a gateway, that the laws refuse.
-use Rattle.std.specs.Prelude.{◌≡◌, ◌≢◌, ℕ, false, List, [], ◌∷◌, ◌++◌, length, Option}
+use Rattle.std.specs.Prelude.{◌≡◌, ◌≢◌, ℕ, true, false, List, [], ◌∷◌, ◌++◌, length, Option}
 use Rattle.hb_base.specs.declared.cause.Cause.{Cause}
 use Rattle.hb_base.specs.declared.cause.Cause.TheVariants as cause
 use Rattle.hb_base.specs.declared.door.Door.TheVariants as door
@@ -10,8 +10,10 @@ use Rattle.hb_front.specs.Reading.{Seen}
 use Rattle.hb_gateway.specs.Key.{Key}
 use Rattle.hb_gateway.specs.Response.{opens, brings, fails}
 use Rattle.hb_held.specs.Held.{Resources}
+use Rattle.hb_route.specs.Answer.{by_gateway}
+use Rattle.hb_verdict.specs.Verdict.{is_unspecified}
 use Rattle.hb_world.specs.declared.entry.Entry.TheVariants as e
-use Rattle.hb_captured.specs.Answer.{Aim, straight_to, through, key_for, unrouted}
+use Rattle.hb_captured.specs.Answer.{Aim, straight_to, through, key_for, unrouted, way_on}
 use Rattle.hb_captured.specs.Ends.{EndLaw}
 use Rattle.hb_captured.specs.GatewayRows.{GoesThrough}
 use Rattle.hb_captured.specs.Notes.{NoteLaw}
@@ -42,7 +44,8 @@ abbrev pub DialsBeside : Type 0
 DialsBeside = (start : Resources) (bytes : List ℕ) (seen : Seen) (key : Key) (to authority : Target) (endpoint : List ℕ)
     → VerdictLaw 2 start (aimed bytes seen (through key authority endpoint) ++ up (e.Dialled 3 to (whys.Gateway 2)) ∷ []) → ⊥
 
--- THE WAY: straight though it leads by a gateway; by one though it is straight; for another identity than its source's; refused
+-- THE WAY: straight though it leads by a gateway; by one though it is straight; by one at the unspecified address; for another identity
+-- than its source's; refused
 abbrev pub GoesRound : Type 0
 GoesRound = (start : Resources) (bytes : List ℕ) (seen : Seen) (gateway authority to : Target) (endpoint : List ℕ)
     (name : Option (List ℕ)) → GoesThrough start seen gateway authority endpoint
@@ -52,6 +55,11 @@ abbrev pub GoesThroughStraight : Type 0
 GoesThroughStraight = (start : Resources) (bytes : List ℕ) (seen : Seen) (key : Key) (to authority : Target) (endpoint : List ℕ)
     (name : Option (List ℕ)) → GoesStraight start seen to name
     → VerdictLaw 2 start (aimed bytes seen (through key authority endpoint)) → ⊥
+
+abbrev pub GoesThroughNowhere : Type 0
+GoesThroughNowhere = (start : Resources) (bytes : List ℕ) (seen : Seen) (gateway authority : Target) (endpoint : List ℕ) (aim : Aim)
+    → way_on start unrouted seen ≡ by_gateway gateway authority endpoint → is_unspecified gateway.ip ≡ true
+    → VerdictLaw 2 start (aimed bytes seen aim) → ⊥
 
 abbrev pub SpeaksForAnother : Type 0
 SpeaksForAnother = (start : Resources) (bytes : List ℕ) (seen : Seen) (key : Key) (gateway authority : Target) (endpoint : List ℕ)

@@ -9,7 +9,7 @@ use Rattle.hb_gateway.specs.Response as response
 use Rattle.hb_gateway.specs.Response.{opens, brings, fails}
 use Rattle.hb_held.specs.Held.{Resources}
 use Rattle.hb_route.specs.Answer.{by_gateway}
-use Rattle.hb_verdict.specs.Verdict.{synced}
+use Rattle.hb_verdict.specs.Verdict.{synced, is_unspecified}
 use Rattle.hb_world.specs.declared.entry.Entry.TheVariants as e
 use Rattle.hb_captured.specs.Answer.{through, key_for, unrouted, way_on}
 use Rattle.hb_captured.specs.Captured.{peer_in}
@@ -17,10 +17,12 @@ use Rattle.hb_captured.specs.Part.{Part, entry, welcomed, fronted, accepted, roo
 use Rattle.hb_captured.specs.Rows.{IsRunOf, IsHeader, abc, def, accepted_note}
 use Rattle.hb_captured.specs.Runs.{verdict_note, end_note}
 
--- all is synced, and the way of the header leads by this gateway, for this authority, to this endpoint
+-- all is synced, and the way of the header leads by this gateway, which isn't at the unspecified address, for this authority, to this
+-- endpoint
 pub record GoesThrough (held : Resources) (seen : Seen) (gateway authority : Target) (endpoint : List ℕ) : Type 0 where
   pub synced : synced held ≡ true
   pub way : way_on held unrouted seen ≡ by_gateway gateway authority endpoint
+  pub elsewhere : is_unspecified gateway.ip ≡ false
 
 -- its header is whole
 abbrev pub aiming : Resources → List ℕ → Seen → (gateway authority : Target) → List ℕ → List Part

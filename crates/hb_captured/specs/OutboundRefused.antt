@@ -12,18 +12,18 @@ use Rattle.hb_front.specs.Reading.{Seen}
 use Rattle.hb_held.specs.Held.{Resources}
 use Rattle.hb_route.specs.Answer.{by_gateway, straight, no_way, number_of}
 use Rattle.hb_route.specs.declared.answer.NoRoute.{NoRoute}
-use Rattle.hb_verdict.specs.Verdict.{synced, is_own_door}
+use Rattle.hb_verdict.specs.Verdict.{synced, leads_back}
 use Rattle.hb_world.specs.declared.entry.Entry.TheVariants as e
 use Rattle.hb_captured.specs.Answer.{straight_to, unrouted, way_on}
 use Rattle.hb_captured.specs.Ends.{EndLaw}
 use Rattle.hb_captured.specs.Part.{Part, entry, up, welcomed, fronted, refused, accepted, applied}
 use Rattle.hb_captured.specs.Verdicts.{VerdictLaw}
 
--- all is synced, and the way of the header leads straight to this address, which is none of the node's own doors
+-- all is synced, and the way of the header leads straight to this address, which doesn't lead back to the node
 pub record GoesStraight (held : Resources) (seen : Seen) (to : Target) (endpoint : Option (List ℕ)) : Type 0 where
   pub synced : synced held ≡ true
   pub way : way_on held unrouted seen ≡ straight to endpoint
-  pub elsewhere : is_own_door held.doors to ≡ false
+  pub elsewhere : leads_back held.doors to ≡ false
 
 -- it is taken in at this door, and these bytes came
 abbrev pub taken_in : Door → List ℕ → List Part
@@ -48,7 +48,7 @@ abbrev pub DialsAsDirect : Type 0
 DialsAsDirect = (start : Resources) (bytes : List ℕ) (seen : Seen) (to : Target)
     → VerdictLaw 2 start (asking door.Plain bytes seen to ++ up (e.Dialled 3 to (whys.Direct 2)) ∷ []) → ⊥
 
--- DIALLED AGAINST ITS WAY: elsewhere than that leads; though it leads by a gateway; at one of the node's own doors; before all is synced
+-- DIALLED AGAINST ITS WAY: elsewhere than that leads; though it leads by a gateway; where that leads back to the node; before all is synced
 abbrev pub DialsOffItsWay : Type 0
 DialsOffItsWay = (start : Resources) (bytes : List ℕ) (seen : Seen) (there to : Target) (endpoint : Option (List ℕ))
     → way_on start unrouted seen ≡ straight there endpoint → there ≢ to → VerdictLaw 2 start (asking door.Outbound bytes seen to) → ⊥
@@ -57,8 +57,8 @@ abbrev pub DialsForGateway : Type 0
 DialsForGateway = (start : Resources) (bytes : List ℕ) (seen : Seen) (address authority to : Target) (endpoint : List ℕ)
     → way_on start unrouted seen ≡ by_gateway address authority endpoint → VerdictLaw 2 start (asking door.Outbound bytes seen to) → ⊥
 
-abbrev pub DialsOwnDoor : Type 0
-DialsOwnDoor = (start : Resources) (bytes : List ℕ) (seen : Seen) (to : Target) → is_own_door start.doors to ≡ true
+abbrev pub DialsBack : Type 0
+DialsBack = (start : Resources) (bytes : List ℕ) (seen : Seen) (to : Target) → leads_back start.doors to ≡ true
     → VerdictLaw 2 start (asking door.Outbound bytes seen to) → ⊥
 
 abbrev pub DialsUnsynced : Type 0

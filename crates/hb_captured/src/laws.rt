@@ -8,12 +8,12 @@ ghost use Rattle.hb_captured.specs.Refused.{RefusesAdmitted, KeepsIdentity, Note
 ghost use Rattle.hb_captured.specs.Refused.{EndsUnaccepted, EndsTwice, ClosesUnnoted, LeavesOut502};
 ghost use Rattle.hb_captured.specs.Refused.{TriesDone, LeavesOpen};
 ghost use Rattle.hb_captured.specs.GatewayRefused.{AsksTwice, AsksStraight, DialsBeside};
-ghost use Rattle.hb_captured.specs.GatewayRefused.{GoesRound, GoesThroughStraight, SpeaksForAnother, RefusesThrough};
+ghost use Rattle.hb_captured.specs.GatewayRefused.{GoesRound, GoesThroughStraight, GoesThroughNowhere, SpeaksForAnother, RefusesThrough};
 ghost use Rattle.hb_captured.specs.GatewayRefused.{PutsUnopened, TakesUnopened, PutsAnother, FinishesEarly};
 ghost use Rattle.hb_captured.specs.GatewayRefused.{StaysOpen, KeepsStream, CountsUnbegun};
 ghost use Rattle.hb_captured.specs.GatewayRows.{ThroughMayGo, RefusedMayGo as RefusedThroughMayGo, RoomlessMayGo, BrokenMayGo};
 ghost use Rattle.hb_captured.specs.OutboundRefused.{RevokesOutbound, DialsAsPlain, DialsAsDirect};
-ghost use Rattle.hb_captured.specs.OutboundRefused.{DialsOffItsWay, DialsForGateway, DialsOwnDoor, DialsUnsynced};
+ghost use Rattle.hb_captured.specs.OutboundRefused.{DialsOffItsWay, DialsForGateway, DialsBack, DialsUnsynced};
 ghost use Rattle.hb_captured.specs.OutboundRefused.{RefusesStraight, MistakesRoute};
 ghost use Rattle.hb_captured.specs.OutboundRows.{StraightMayGo, UnroutedMayGo};
 ghost use Rattle.hb_captured.specs.Rows.{RefusedMayGo, DoneMayGo, RevokedMayGo};
@@ -127,12 +127,12 @@ pub fn doors_are_told_apart()
     ensures direct { DialsAsDirect }
 {}
 
-/// At the outbound door a dial elsewhere than the way leads, one though that leads by a gateway, one of the node's own doors and one before
-/// all is synced are refused; so are the refusal of a link whose way is straight, and one for the cause of another missing route.
+/// At the outbound door a dial elsewhere than the way leads, one though that leads by a gateway, one that leads back to the node and one
+/// before all is synced are refused; so are the refusal of a link whose way is straight, and one for the cause of another missing route.
 pub fn wrong_ways_are_refused()
     ensures elsewhere { DialsOffItsWay }
     ensures gateway { DialsForGateway }
-    ensures own_door { DialsOwnDoor }
+    ensures back { DialsBack }
     ensures unsynced { DialsUnsynced }
     ensures straight { RefusesStraight }
     ensures another_route { MistakesRoute }
@@ -146,13 +146,15 @@ pub fn outbound_lives_may_go()
 {}
 
 /// A link whose way leads by a gateway asks for one stream, and no link is dialled for it alone. It doesn't go straight, nor is it refused,
-/// nor asked for as another identity than its source's; and no stream is asked for where the way is straight.
+/// nor asked for as another identity than its source's; and no stream is asked for where the way is straight, or its gateway is at the
+/// unspecified address.
 pub fn other_ways_than_the_gateway_are_refused()
     ensures twice { AsksTwice }
     ensures asks_straight { AsksStraight }
     ensures beside { DialsBeside }
     ensures round { GoesRound }
     ensures through { GoesThroughStraight }
+    ensures nowhere { GoesThroughNowhere }
     ensures identity { SpeaksForAnother }
     ensures refuses { RefusesThrough }
 {}

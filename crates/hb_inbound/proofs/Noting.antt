@@ -23,7 +23,7 @@ use Rattle.hb_table.specs.declared.judgement.Judged.{Judged}
 use Rattle.hb_table.specs.declared.judgement.Judged.TheVariants.{Admitted, Unknown, Denied}
 use Rattle.hb_verdict.specs.Fields.{value_of, is_connect, is_malformed}
 use Rattle.hb_verdict.specs.Request.{request_of, connect_at, connect_by}
-use Rattle.hb_verdict.specs.Verdict.{verdict, synced, is_own_door, dial_judged}
+use Rattle.hb_verdict.specs.Verdict.{verdict, synced, leads_back, dial_judged}
 use Rattle.hb_verdict.specs.declared.request.Request.TheVariants.{Refused, Malformed, Connect}
 use Rattle.hb_verdict.specs.declared.verdict.Verdict.{Verdict}
 use Rattle.hb_verdict.specs.declared.verdict.Verdict.TheVariants.{Status, Reset, Dial}
@@ -64,7 +64,7 @@ module _ (h : Resources) (peer : Peer) (full : Bool) (destination : Ip) where
   names_at (Ok to) target is = by (ip_eq to.ip destination) is
     where
       by : (b : Bool) → verdict (cond b (Connect to) (Refused 400)) h peer full ≡ Dial target → Some to ≡ Some target
-      by true is = ap Some (dial_is (not (synced h)) (is_own_door h.doors to) full (judged h peer to) to target is)
+      by true is = ap Some (dial_is (not (synced h)) (leads_back h.doors to) full (judged h peer to) to target is)
       by false is = absurd (cc)
 
   names_by : (o : Option (List ℕ)) (target : Target) → verdict (connect_by destination o) h peer full ≡ Dial target
@@ -77,7 +77,7 @@ module _ (h : Resources) (peer : Peer) (full : Bool) (destination : Ip) where
   never_at (Ok to) is = by (ip_eq to.ip destination) is
     where
       by : (b : Bool) → verdict (cond b (Connect to) (Refused 400)) h peer full ≡ Reset → ⊥
-      by true is = no_reset (not (synced h)) (is_own_door h.doors to) full (judged h peer to) to is
+      by true is = no_reset (not (synced h)) (leads_back h.doors to) full (judged h peer to) to is
       by false is = cc
 
   never_by : (o : Option (List ℕ)) → verdict (connect_by destination o) h peer full ≡ Reset → ⊥

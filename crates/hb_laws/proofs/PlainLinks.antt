@@ -8,7 +8,7 @@ use Rattle.hb_base.specs.declared.cause.Cause.{Cause}
 use Rattle.hb_base.specs.declared.cause.Cause.TheVariants as cause
 use Rattle.hb_base.specs.declared.door.Door.{Door}
 use Rattle.hb_base.specs.declared.door.Door.TheVariants as door
-use Rattle.hb_captured.specs.Answer.{Answer, Routing, straight_to, aims, refuses, refused_with, by_verdict, by_way, answer_on, verdict_on, way_on}
+use Rattle.hb_captured.specs.Answer.{Answer, Routing, straight_to, through, key_for, aims, refuses, refused_with, by_verdict, by_way, answer_on, verdict_on, way_on}
 use Rattle.hb_captured.specs.Captured.{judges}
 use Rattle.hb_captured.specs.Part.{Part, entry, up, welcomed, crowded, lacked, misfronted, fronted, refused, accepted, roomless, asked, hears, put, loosed, completed, done, applied, stopped}
 use Rattle.hb_captured.specs.Ends.{EndLaw, EndsAt}
@@ -33,7 +33,7 @@ use Rattle.hb_proxy.specs.Shared.{Shared, asks, tells, puts, finishes, credits, 
 use Rattle.hb_route.specs.Answer.{Way, by_gateway, straight, no_way}
 use Rattle.hb_table.specs.declared.judgement.Judged.{Judged}
 use Rattle.hb_table.specs.declared.judgement.Judged.TheVariants.{Admitted, Unknown, Denied}
-use Rattle.hb_verdict.specs.Verdict.{synced, is_own_door}
+use Rattle.hb_verdict.specs.Verdict.{synced, is_unspecified, leads_back}
 use Rattle.hb_verdict.specs.declared.verdict.Verdict.{Verdict}
 use Rattle.hb_verdict.specs.declared.verdict.Verdict.TheVariants.{Status, Reset, Dial}
 use Rattle.hb_world.specs.declared.entry.Entry.{Entry}
@@ -84,9 +84,11 @@ verdict_refuses Reset = refl
 
 way_refuses : (h : Resources) (source : Ip) (w : Way) → refuses_well (by_way h source w) ≡ true
 way_refuses h source (straight to endpoint) =
-    cond_both (is_own_door h.doors to) (refused_with 400) (aims (straight_to to endpoint)) (λ a. refuses_well a ≡ true) (λ is. refl)
+    cond_both (leads_back h.doors to) (refused_with 400) (aims (straight_to to endpoint)) (λ a. refuses_well a ≡ true) (λ is. refl)
     (λ is. refl)
-way_refuses h source (by_gateway address authority endpoint) = refl
+way_refuses h source (by_gateway gateway authority endpoint) =
+    cond_both (is_unspecified gateway.ip) (refused_with 400) (aims (through (key_for h source gateway) authority endpoint))
+    (λ a. refuses_well a ≡ true) (λ is. refl) (λ is. refl)
 way_refuses h source (no_way why) = refl
 
 answer_refuses : (d : Door) (h : Resources) (routing : Routing) (seen : Seen) → refuses_well (answer_on d h routing seen) ≡ true

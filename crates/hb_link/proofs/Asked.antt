@@ -20,7 +20,7 @@ use Rattle.hb_verdict.specs.Request.{request_of}
 use Rattle.hb_table.specs.Judgement.{judged}
 use Rattle.hb_table.specs.declared.judgement.Judged.{Judged}
 use Rattle.hb_table.specs.declared.judgement.Judged.TheVariants.{Admitted, Unknown, Denied}
-use Rattle.hb_verdict.specs.Verdict.{verdict, dial_judged, is_own_door, synced}
+use Rattle.hb_verdict.specs.Verdict.{verdict, dial_judged, leads_back, synced}
 use Rattle.hb_verdict.specs.declared.request.Request.{Request}
 use Rattle.hb_verdict.specs.declared.request.Request.TheVariants.{Refused, Malformed, Connect}
 use Rattle.hb_verdict.specs.declared.verdict.Verdict.{Verdict}
@@ -358,7 +358,7 @@ verdict_fits (Refused status) held peer full n fits is =
     let same : status ≡ n = cc in (omega (arith, same, fits.0), omega (arith, same, fits.1))
 verdict_fits Malformed held peer full n fits is = absurd (cc)
 verdict_fits (Connect target) held peer full n fits is =
-    dial_fits (not (synced held)) (judged held peer target) (is_own_door held.doors target) full target n is
+    dial_fits (not (synced held)) (judged held peer target) (leads_back held.doors target) full target n is
 
 -- the same link
 pub goes_as : (k : Link) {guard : Guard} {a : Local} {m n : Link} {told now : Told} → n ≡ m → m.number ≡ k.number

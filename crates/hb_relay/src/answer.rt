@@ -11,7 +11,7 @@ use crate::routes::Routes;
 use hb_base::{Cause, Door, Ip, NoMemory, Peer, Target, Text};
 use hb_held::Held;
 use hb_route::{Route, route};
-use hb_verdict::{Request, Verdict, is_own_door, verdict_on};
+use hb_verdict::{Request, Verdict, is_unspecified, leads_back, verdict_on};
 use std::alloc::Global;
 
 /// What the front header of a link gets.
@@ -62,13 +62,13 @@ fn copied(alloc: Global, name: Option<&Text>) -> Result<Option<Text>, NoMemory>
     }
 }
 
-/// What a way is to a link: none leads straight to one of the node's own doors.
+/// What a way is to a link: none leads back to the node.
 fn by_way(alloc: Global, held: &Held, source: Ip, way: Route<'_>) -> Result<Answer, NoMemory>
     ensures { IfOk result (λ answer. answer_as answer ≡ by_way held.now source (way_as way.entry)) }
 {
     match way {
         Route::Direct { address, endpoint } => {
-            if is_own_door(held, address) {
+            if leads_back(held, address) {
                 return Ok(refused_with(400));
             }
             Ok(Answer::Aims(Aim::Straight {
@@ -80,11 +80,16 @@ fn by_way(alloc: Global, held: &Held, source: Ip, way: Route<'_>) -> Result<Answ
             address,
             authority,
             endpoint,
-        } => Ok(Answer::Aims(Aim::Through {
-            key: key_for(alloc, held, source, address)?,
-            authority,
-            endpoint: endpoint.copy(alloc)?,
-        })),
+        } => {
+            if is_unspecified(address.ip) {
+                return Ok(refused_with(400));
+            }
+            Ok(Answer::Aims(Aim::Through {
+                key: key_for(alloc, held, source, address)?,
+                authority,
+                endpoint: endpoint.copy(alloc)?,
+            }))
+        }
         Route::Refused(why) => Ok(Answer::Refuses(Cause::NoRoute(why.number()), 503)),
     }
 }

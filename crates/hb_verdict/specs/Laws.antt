@@ -2,7 +2,7 @@
 use Rattle.std.specs.Prelude.{◌≡◌, ℕ, ◌≤◌, Bool, true, false, List, [], ◌∷◌, Option, Some, Ok, codes}
 use Rattle.hb_base.specs.TargetText.{target_of}
 use Rattle.hb_base.specs.declared.ip.Ip.{Ip}
-use Rattle.hb_base.specs.declared.ip.Ip.TheVariants.{V4}
+use Rattle.hb_base.specs.declared.ip.Ip.TheVariants.{V4, V6}
 use Rattle.hb_base.specs.declared.peer.Peer.{Peer}
 use Rattle.hb_base.specs.declared.target.Target.{Target}
 use Rattle.hb_held.specs.Held.{Resources, no_doors}
@@ -15,7 +15,7 @@ use Rattle.hb_table.specs.Judgement.{judged}
 use Rattle.hb_table.specs.declared.judgement.Judged.TheVariants.{Admitted}
 use Rattle.hb_verdict.specs.Fields.{value_of, is_malformed}
 use Rattle.hb_verdict.specs.Request.{request_of}
-use Rattle.hb_verdict.specs.Verdict.{synced, is_own_door, verdict}
+use Rattle.hb_verdict.specs.Verdict.{synced, is_unspecified, is_own_door, leads_back, verdict}
 use Rattle.hb_verdict.specs.declared.request.Request.{Request}
 use Rattle.hb_verdict.specs.declared.request.Request.TheVariants.{Refused, Malformed, Connect}
 use Rattle.hb_verdict.specs.declared.verdict.Verdict.TheVariants.{Dial}
@@ -39,13 +39,13 @@ abbrev pub NoTunnelIsMissed : Type 0
 NoTunnelIsMissed = (headers : HeaderList) (destination : Ip) (target : Target)
     → AsksFor headers destination target → request_of headers destination ≡ Connect target
 
--- the target of a request is dialled exactly where workloads and policies came, they admit the peer, it isn't one of the node's own doors, and a
+-- the target of a request is dialled exactly where workloads and policies came, they admit the peer, it doesn't lead back to the node, and a
 -- place is left
 pub record MayDial (request : Request) (h : Resources) (peer : Peer) (full : Bool) (target : Target) : Type 0 where
   pub asked : request ≡ Connect target
   pub told : synced h ≡ true
   pub admitted : judged h peer target ≡ Admitted
-  pub elsewhere : is_own_door h.doors target ≡ false
+  pub elsewhere : leads_back h.doors target ≡ false
   pub left : full ≡ false
 
 abbrev pub DialsWhereItMay : Type 0
@@ -60,6 +60,11 @@ DialsAllThatItMay = (request : Request) (h : Resources) (peer : Peer) (full : Bo
 abbrev pub NeverDialsItsDoor : Type 0
 NeverDialsItsDoor = (request : Request) (h : Resources) (peer : Peer) (full : Bool) (target : Target)
     → is_own_door h.doors target ≡ true → verdict request h peer full ≡ Dial target → ⊥
+
+-- nor at the unspecified address
+abbrev pub NeverDialsNowhere : Type 0
+NeverDialsNowhere = (request : Request) (h : Resources) (peer : Peer) (full : Bool) (target : Target)
+    → is_unspecified target.ip ≡ true → verdict request h peer full ≡ Dial target → ⊥
 
 -- 10.0.0.7
 abbrev pub here : Ip
@@ -80,6 +85,12 @@ each_at door = record { inbound = door; outbound = door; plain = door }
 
 abbrev pub DoorIsMissed : Option Target → Type 0
 DoorIsMissed door = is_own_door (each_at door) (port_80 here) ≡ false
+
+-- where no door listens, each port of the unspecified address leads back, and one of 10.0.0.7 doesn't
+pub record NowhereLeadsBack : Type 0 where
+  pub nowhere : (port : ℕ) → leads_back no_doors (record { ip = V4 0; port = port }) ≡ true
+  pub nowhere_of_six : (port : ℕ) → leads_back no_doors (record { ip = V6 0; port = port }) ≡ true
+  pub somewhere : (port : ℕ) → leads_back no_doors (record { ip = here; port = port }) ≡ false
 
 -- small requests to 10.0.0.7
 abbrev pub connect : Header

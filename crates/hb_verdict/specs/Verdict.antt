@@ -19,7 +19,8 @@ use Rattle.hb_verdict.specs.declared.verdict.Verdict.TheVariants.{Status, Reset,
 abbrev pub synced : Resources → Bool
 synced h = h.addresses_came && h.policies_came
 
--- the unspecified address (RFC 4291 section 2.5.2): what listens there is reached at each address
+-- the unspecified address (RFC 4291 section 2.5.2): what listens there is reached at each address, and who connects to it reaches the
+-- machine itself
 abbrev pub is_unspecified : Ip → Bool
 is_unspecified (V4 n) = n == 0
 is_unspecified (V6 n) = n == 0
@@ -37,20 +38,24 @@ is_at (Some door) target = reaches target door
 abbrev pub is_own_door : OwnDoors → Target → Bool
 is_own_door doors target = is_at doors.inbound target || is_at doors.outbound target || is_at doors.plain target
 
--- where the peer is admitted, the target is to be none of the doors, and a place is wanted
+-- it leads back to the node: to the machine itself, where each door may be, or to one of its doors
+abbrev pub leads_back : OwnDoors → Target → Bool
+leads_back doors target = is_unspecified target.ip || is_own_door doors target
+
+-- where the peer is admitted, the target mustn't lead back, and a place is wanted
 abbrev pub dial_admitted : Bool → Bool → Target → Verdict
 dial_admitted true full target = Status 400
 dial_admitted false true target = Status 503
 dial_admitted false false target = Dial target
 
 abbrev pub dial_judged : Judged → Bool → Bool → Target → Verdict
-dial_judged Unknown own full target = Status 404
-dial_judged Denied own full target = Status 401
-dial_judged Admitted own full target = dial_admitted own full target
+dial_judged Unknown back full target = Status 404
+dial_judged Denied back full target = Status 401
+dial_judged Admitted back full target = dial_admitted back full target
 
 abbrev pub dial_for : Resources → Peer → Target → Bool → Verdict
 dial_for h peer target full =
-    if not (synced h) then Status 503 else dial_judged (judged h peer target) (is_own_door h.doors target) full target
+    if not (synced h) then Status 503 else dial_judged (judged h peer target) (leads_back h.doors target) full target
 
 abbrev pub verdict : Request → Resources → Peer → Bool → Verdict
 verdict (Refused status) h peer full = Status status

@@ -3,7 +3,7 @@
 ghost use Rattle.hb_verdict.specs.Laws.{TunnelsAreAskedFor, NoTunnelIsMissed, DialsWhereItMay, DialsAllThatItMay, AsksSo, LateIsMalformed};
 ghost use Rattle.hb_verdict.specs.Laws.{TwiceIsMalformed, StatusIsMalformed, NoTargetIsMalformed, SchemeIsMalformed, UpperCaseIsMalformed};
 ghost use Rattle.hb_verdict.specs.Laws.{NoNameIsMalformed, GetIsRefused, ElsewhereIsRefused};
-ghost use Rattle.hb_verdict.specs.Laws.{NeverDialsItsDoor, DoorIsReached, DoorIsMissed, port_80};
+ghost use Rattle.hb_verdict.specs.Laws.{NeverDialsItsDoor, NeverDialsNowhere, DoorIsReached, DoorIsMissed, NowhereLeadsBack, port_80};
 ghost use Rattle.std.specs.Prelude.{Some, None};
 ghost use Rattle.hb_base.specs.declared.ip.Ip.TheVariants.{V4, V6};
 
@@ -14,19 +14,22 @@ pub fn tunnels_are_asked_for()
     ensures all { NoTunnelIsMissed }
 {}
 
-/// A target is dialled exactly where workloads and policies came, they admit the peer, it isn't one of the node's own doors, and a place
-/// is left.
+/// A target is dialled exactly where workloads and policies came, they admit the peer, it doesn't lead back to the node, and a place is
+/// left.
 pub fn dials_where_it_may()
     ensures only { DialsWhereItMay }
     ensures all { DialsAllThatItMay }
 {}
 
-/// Nothing is dialled at a door of the node: what reaches it would be believed who a connection comes from.
+/// Nothing is dialled at a door of the node, nor at the unspecified address, at which each of its doors may be: what reaches one would be
+/// believed who a connection comes from.
 pub fn its_own_door_is_never_dialled()
     ensures never { NeverDialsItsDoor }
+    ensures nowhere { NeverDialsNowhere }
 {}
 
-/// A door, whichever it is, is reached at its own address, and where it listens at the unspecified one at each address; not at another address or port.
+/// A door, whichever it is, is reached at its own address, and where it listens at the unspecified one at each address; not at another
+/// address or port. The unspecified address leads back at each port, also where no door listens.
 pub fn doors_are_told_apart()
     ensures own { DoorIsReached (V4 167772167) }
     ensures each { DoorIsReached (V4 0) }
@@ -34,6 +37,7 @@ pub fn doors_are_told_apart()
     ensures address { DoorIsMissed (Some (port_80 (V4 167772168))) }
     ensures port { DoorIsMissed (Some (record (port_80 (V4 0)) { port = 81 })) }
     ensures none { DoorIsMissed None }
+    ensures nowhere { NowhereLeadsBack }
 {}
 
 /// A small request for a tunnel is one, and small wrong ones aren't.

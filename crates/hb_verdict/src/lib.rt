@@ -8,4 +8,4 @@ mod request;
 mod verdict;
 
 pub use request::{Request, read_request};
-pub use verdict::{Verdict, is_own_door, verdict_on};
+pub use verdict::{Verdict, is_unspecified, leads_back, verdict_on};

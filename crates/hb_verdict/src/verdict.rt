@@ -1,7 +1,7 @@
 //! What is answered by what is held.
 
 ghost use Rattle.std.specs.Prelude.{◌≡◌};
-ghost use Rattle.hb_verdict.specs.Verdict.{is_unspecified, reaches, is_at, is_own_door, dial_admitted, dial_for, verdict};
+ghost use Rattle.hb_verdict.specs.Verdict.{is_unspecified, reaches, is_at, is_own_door, leads_back, dial_admitted, dial_for, verdict};
 
 use crate::request::Request;
 use hb_base::{Ip, Peer, Target};
@@ -19,8 +19,9 @@ pub enum Verdict {
     Dial(Target),
 }
 
-/// Whether it is the unspecified address (RFC 4291 section 2.5.2): what listens there is reached at each address.
-fn is_unspecified(ip: Ip) -> bool
+/// Whether it is the unspecified address (RFC 4291 section 2.5.2): what listens there is reached at each address, and who connects to it
+/// reaches the machine itself.
+pub fn is_unspecified(ip: Ip) -> bool
     ensures { result ≡ is_unspecified ip }
 {
     match ip {
@@ -46,19 +47,27 @@ fn is_at(target: Target, door: Option<Target>) -> bool
     }
 }
 
-/// Whether the target is one of the node's own doors: nothing is dialled there.
-pub fn is_own_door(held: &Held, target: Target) -> bool
+/// Whether the target is one of the node's own doors.
+fn is_own_door(held: &Held, target: Target) -> bool
     ensures { result ≡ is_own_door held.now.doors target }
 {
     let doors = held.doors();
     is_at(target, doors.inbound) || is_at(target, doors.outbound) || is_at(target, doors.plain)
 }
 
-/// The target admits the peer. It is none of the node's own doors, and there is a place for the tunnel.
-fn dial_admitted(own: bool, full: bool, target: Target) -> Verdict
-    ensures { result ≡ dial_admitted own full target }
+/// Whether the target leads back to the node: its address is the unspecified one, or it is one of the node's own doors. Nothing is dialled
+/// there.
+pub fn leads_back(held: &Held, target: Target) -> bool
+    ensures { result ≡ leads_back held.now.doors target }
 {
-    if own {
+    is_unspecified(target.ip) || is_own_door(held, target)
+}
+
+/// The target admits the peer. It doesn't lead back to the node, and there is a place for the tunnel.
+fn dial_admitted(back: bool, full: bool, target: Target) -> Verdict
+    ensures { result ≡ dial_admitted back full target }
+{
+    if back {
         Verdict::Status(400)
     } else if full {
         Verdict::Status(503)
@@ -77,14 +86,14 @@ fn dial_for(held: &Held, peer: &Peer, target: Target, full: bool) -> Verdict
     match judge(held, peer, target) {
         Judged::Unknown => Verdict::Status(404),
         Judged::Denied => Verdict::Status(401),
-        Judged::Admitted => dial_admitted(is_own_door(held, target), full, target),
+        Judged::Admitted => dial_admitted(leads_back(held, target), full, target),
     }
 }
 
 /// The answer to a request of this peer, by the resources held; `full`: no place is left for a tunnel. Of a tunnel the first of
 /// these that applies: 503 where the control plane hasn't told workloads and policies yet, 404 where the target is no workload of
-/// this node, 401 where its policies refuse the peer, 400 where it is one of the node's own doors (whoever reaches one is believed
-/// who a connection comes from), 503 where no place is left, else its target is dialled.
+/// this node, 401 where its policies refuse the peer, 400 where it leads back to the node, at the unspecified address or one of its doors
+/// (whoever reaches one is believed who a connection comes from), 503 where no place is left, else its target is dialled.
 pub fn verdict_on(request: Request, held: &Held, peer: &Peer, full: bool) -> Verdict
     ensures { result ≡ verdict request held.now peer.now full }
 {

@@ -28,7 +28,7 @@ use Rattle.hb_route.specs.Answer.{Way, by_gateway, straight, no_way}
 use Rattle.hb_table.specs.Judgement.{judged}
 use Rattle.hb_table.specs.declared.judgement.Judged.{Judged}
 use Rattle.hb_table.specs.declared.judgement.Judged.TheVariants.{Admitted, Unknown, Denied}
-use Rattle.hb_verdict.specs.Verdict.{synced, is_own_door}
+use Rattle.hb_verdict.specs.Verdict.{synced, is_unspecified, leads_back}
 use Rattle.hb_verdict.specs.declared.verdict.Verdict.{Verdict}
 use Rattle.hb_verdict.specs.declared.verdict.Verdict.TheVariants.{Status, Reset, Dial}
 use Rattle.hb_world.specs.declared.entry.Entry.{Entry}
@@ -61,13 +61,17 @@ sent_at (Some found) = by (is_sent (identity_in found.1)) refl
     by false is = tt
 
 way_written : (held : Resources) (source : Ip) (w : Way) (aim : Aim) → by_way held source w ≡ aims aim → IsWritten aim
-way_written held source (straight to endpoint) aim is = by (is_own_door held.doors to) is
+way_written held source (straight to endpoint) aim is = by (leads_back held.doors to) is
   where
     by : (b : Bool) → cond b (refused_with 400) (aims (straight_to to endpoint)) ≡ aims aim → IsWritten aim
     by true is = absurd cc
     by false is = let same : straight_to to endpoint ≡ aim = cc in subst IsWritten same tt
-way_written held source (by_gateway gateway authority endpoint) aim is =
-    let same : through (key_for held source gateway) authority endpoint ≡ aim = cc in subst IsWritten same (sent_at (known held source))
+way_written held source (by_gateway gateway authority endpoint) aim is = by (is_unspecified gateway.ip) is
+  where
+    by : (b : Bool) → cond b (refused_with 400) (aims (through (key_for held source gateway) authority endpoint)) ≡ aims aim → IsWritten aim
+    by true is = absurd cc
+    by false is =
+        let same : through (key_for held source gateway) authority endpoint ≡ aim = cc in subst IsWritten same (sent_at (known held source))
 way_written held source (no_way why) aim is = absurd cc
 
 verdict_written : (v : Verdict) (aim : Aim) → by_verdict v ≡ aims aim → IsWritten aim
