@@ -48,13 +48,6 @@ impl<T> Slots<T> {
         }
     }
 
-    /// How many values there are.
-    pub fn len(&self) -> usize
-        ensures { result ≡ map.len self.now }
-    {
-        self.index.len()
-    }
-
     /// The value under a number. `None` where none stands there.
     pub fn get(&self, number: u32) -> Option<&T>
         ensures { option_copied result ≡ map.get self.now number }

@@ -104,7 +104,7 @@ module _ {T : Type 0} where
       (back_noted m now (remove now name) past name None (get-remove nat_list_cmp_total now name) back)
 
 -- so of both kinds
-pub record Keeps (old h : Resources) : Type 0 where
+record Keeps (old h : Resources) : Type 0 where
   pub network : h.network ≡ old.network
   pub node : h.node ≡ old.node
   pub addresses : Back old.addresses h.addresses h.past_addresses
@@ -188,15 +188,11 @@ module _ (old : Resources) where
   keeps_came h Address k = record { network = k.network; node = k.node; addresses = k.addresses; policies = k.policies }
   keeps_came h Authorization k = record { network = k.network; node = k.node; addresses = k.addresses; policies = k.policies }
 
-pub keeps_response : (h : Resources) (r : Response) → Keeps h (after_response h r)
+keeps_response : (h : Resources) (r : Response) → Keeps h (after_response h r)
 keeps_response h r =
     keeps_came h (after_resources (after_removals (begun h) r.kind r.removed) r.kind r.resources) r.kind
     (keeps_resources h (after_removals (begun h) r.kind r.removed) r.kind r.resources (keeps_removals h
     (begun h) r.kind r.removed (keeps_begun h)))
-
-pub settles : (h : Resources) (kind : Kind) → (with_came h kind).settled ≡ true
-settles h Address = refl
-settles h Authorization = refl
 
 -- judgements look at no more than this
 abbrev seen : List ℕ → List ℕ → Named (Versioned AddressRecord) → Named (Versioned Policy) → Resources

@@ -1,5 +1,1 @@
 pub mod Judgement
-pub mod Lending
-pub mod Places
-pub mod Revoking
-pub mod Table

@@ -1,26 +1,18 @@
 //! What is held after responses. A test ends where memory is wanting or a word is none.
 
-ghost use Rattle.std.specs.Prelude.{◌≡◌};
-ghost use Rattle.hb_disco.specs.declared.response.Response.{Response};
-ghost use Rattle.hb_held.specs.Outcome.{after_response, outcome_of};
-
 use hb_base::Text;
 use hb_disco::{Response, read_response};
-use hb_held::{Held, Outcome, OwnDoors};
+use hb_held::{Held, OwnDoors};
 use std::process::Abort;
 
 /// Responses by their names, each with the octets of its message. `U1` is the workload `u1`: `web` of namespace `a`, at 10.0.0.7 on node
-/// `n1`, which asks for the policy `a/p`; renamed it is `wec`, moved it is on node `n2`, gone it is removed. `U2` is another workload of
-/// the node, at 10.0.0.8 and of namespace `b`. `ALLOW` is the policy `a/p`, which allows the identity `c` of namespace `a`; `NEVER` is the
-/// policy `e`, which allows nothing; `DENY` is `d`, which denies all, and `DENY ELSEWHERE` is `o`, which denies all in namespace `x`. The
-/// last ones remove a workload that isn't held, and two policies.
+/// `n1`, which asks for the policy `a/p`; moved it is on node `n2`, gone it is removed. `U2` is another workload of the node, at 10.0.0.8
+/// and of namespace `b`. `ALLOW` is the policy `a/p`, which allows the identity `c` of namespace `a`; `NEVER` is the policy `e`, which
+/// allows nothing; `DENY` is `d`, which denies all, and `DENY ELSEWHERE` is `o`, which denies all in namespace `x`.
 const RESPONSES: &str = "\
 U1: 12580a0131124f0a2a747970652e676f6f676c65617069732e636f6d2f697374696f2e776f726b6c6f61642e4164647265737312210a1f0a037765621201\
 611a040a00000728014a026e31820103612f70a2010275311a027531222a747970652e676f6f676c65617069732e636f6d2f697374696f2e776f726b6c6f6164\
 2e416464726573732a0178
-U1 RENAMED: 12580a0131124f0a2a747970652e676f6f676c65617069732e636f6d2f697374696f2e776f726b6c6f61642e4164647265737312210a1f0a0377\
-65631201611a040a00000728014a026e31820103612f70a2010275311a027531222a747970652e676f6f676c65617069732e636f6d2f697374696f2e776f726b\
-6c6f61642e416464726573732a0178
 U1 MOVED: 12580a0131124f0a2a747970652e676f6f676c65617069732e636f6d2f697374696f2e776f726b6c6f61642e4164647265737312210a1f0a037765\
 621201611a040a00000728014a026e32820103612f70a2010275311a027531222a747970652e676f6f676c65617069732e636f6d2f697374696f2e776f726b6c\
 6f61642e416464726573732a0178
@@ -37,12 +29,9 @@ DENY: 12430a0131123b0a30747970652e676f6f676c65617069732e636f6d2f697374696f2e7365
 6420012a001a01642230747970652e676f6f676c65617069732e636f6d2f697374696f2e73656375726974792e417574686f72697a6174696f6e2a0178
 DENY ELSEWHERE: 12480a013112400a30747970652e676f6f676c65617069732e636f6d2f697374696f2e73656375726974792e417574686f72697a6174696f\
 6e120c0a016f120178180120012a001a016f2230747970652e676f6f676c65617069732e636f6d2f697374696f2e73656375726974792e417574686f72697a61\
-74696f6e2a0178
-a ~x: 222a747970652e676f6f676c65617069732e636f6d2f697374696f2e776f726b6c6f61642e416464726573732a0178320178
-z ~a/p: 2230747970652e676f6f676c65617069732e636f6d2f697374696f2e73656375726974792e417574686f72697a6174696f6e2a01783203612f70
-z ~o: 2230747970652e676f6f676c65617069732e636f6d2f697374696f2e73656375726974792e417574686f72697a6174696f6e2a017832016f";
+74696f6e2a0178";
 
-pub fn text_of(rt: &(impl Abort + AllocGlobal), text: &str) -> Text {
+fn text_of(rt: &(impl Abort + AllocGlobal), text: &str) -> Text {
     let text = Text::of(rt.alloc(), text.as_bytes()).expect(rt, "memory");
     text.expect(rt, "UTF-8")
 }
@@ -82,18 +71,10 @@ pub fn held_behind(rt: &(impl Abort + AllocGlobal), doors: OwnDoors) -> Held {
     Held::new(rt.alloc(), text_of(rt, ""), text_of(rt, "n1"), doors)
 }
 
-/// What a response tells.
-pub fn applied(rt: &(impl Abort + AllocGlobal), held: &mut Held, name: &str) -> Outcome
-    ensures { (r : Response) × (held.new ≡ after_response held.old r) × (result ≡ outcome_of held.old r) }
-{
+fn apply(rt: &(impl Abort + AllocGlobal), held: &mut Held, name: &str) {
     let response = response_of(rt, name);
     let outcome = held.apply(rt.alloc(), &response).expect(rt, "memory");
     assert!(rt; outcome.refused.len() == 0, "refused: {name}");
-    outcome
-}
-
-fn apply(rt: &(impl Abort + AllocGlobal), held: &mut Held, name: &str) {
-    applied(rt, held, name);
 }
 
 /// Applies responses with commas between.

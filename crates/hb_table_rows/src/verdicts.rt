@@ -1,8 +1,7 @@
 //! What requests for tunnels are answered, by the resources held.
 
 use crate::resources::{apply_all, held_behind};
-use crate::tunnels::{peer_of, target_of};
-use hb_base::{Peer, Target};
+use hb_base::{Ip, Peer, Target, read_identity, read_target};
 use hb_held::{Held, OwnDoors};
 use hb_table::{Judged, judge};
 use hb_verdict::{Request, Verdict, verdict_on};
@@ -39,6 +38,18 @@ U1, ALLOW | 10.0.0.7:8080 full [::1]:8080 503
 U1, DENY | 10.0.0.7:8080 left 0.0.0.0:8080 401
 U1, DENY ELSEWHERE | 10.0.0.8:8080 left 0.0.0.0:8080 404
 U1 | 10.0.0.7:8080 left 0.0.0.0:8080 503";
+
+/// A peer at 10.0.0.9, with this identity or none.
+fn peer_of(rt: &(impl Abort + AllocGlobal), identity: &str) -> Peer {
+    Peer {
+        ip: Ip::V4(0x0a00_0009),
+        identity: read_identity(rt.alloc(), identity.as_bytes()).expect(rt, "memory"),
+    }
+}
+
+fn target_of(rt: &impl Abort, text: &str) -> Target {
+    read_target(text.as_bytes()).ok().expect(rt, "a target")
+}
 
 fn judged(held: &Held, peer: &Peer, target: Target) -> &'static str {
     match judge(held, peer, target) {

@@ -4,4 +4,4 @@
 #[cfg(test)]
 mod held;
 #[cfg(test)]
-mod tunnels;
+mod parts;
