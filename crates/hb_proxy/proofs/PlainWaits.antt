@@ -164,12 +164,12 @@ module _ (g : NodeConfig) (to : Target) (s : SettledIn g (accepted to)) where
       by _ is settled knows relay = settled
 
 pub reads_nothing : ReadsNothing
-reads_nothing g to how law = reads g to (law (accepted to) (e.Wait [] how) [] refl)
+reads_nothing g to how waited law = reads g to (law (accepted to) (e.Wait [] how) [] refl waited)
 
 pub asks_no_upstream : AsksNoUpstream
-asks_no_upstream g to other bytes how law =
+asks_no_upstream g to other bytes how waited law =
     let trace = accepted to ++ e.Came 2 bytes ∷ e.Dialled 3 other (whys.Plain 2) ∷ [] in
-    asks g trace 3 refl refl refl (law trace (e.Wait [] how) [] refl)
+    asks g trace 3 refl refl refl (law trace (e.Wait [] how) [] refl waited)
 
 -- A GOOD ONE
 

@@ -184,13 +184,13 @@ module _ (g : NodeConfig) (trace : List Entry) (n : ℕ) (alive : lives n trace 
           gate_asks one.phase one there (subst (GateOpenBy one.phase) shut (seen.gates.link_open n there)) (s.settled.gates n)
 
 pub asks_nothing : AsksNothing
-asks_nothing g to how law =
+asks_nothing g to how waited law =
     let trace = e.Dialled 1 to whys.Discovery ∷ [] in
-    asks g trace 1 refl refl refl (law trace (e.Wait [] how) [] refl)
+    asks g trace 1 refl refl refl (law trace (e.Wait [] how) [] refl waited)
 
 pub accepts_nothing : AcceptsNothing
-accepts_nothing g how then law =
-    let s = law (e.Wait (item.Door door.Inbound ∷ []) how ∷ []) (e.Wait [] then) [] refl in
+accepts_nothing g how then waited law =
+    let s = law (e.Wait (item.Door door.Inbound ∷ []) how ∷ []) (e.Wait [] then) [] refl waited in
     false≢true (sym (s.settled.doors door.Inbound))
 
 -- A GOOD ONE

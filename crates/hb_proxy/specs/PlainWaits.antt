@@ -12,6 +12,7 @@ use Rattle.hb_world.specs.declared.entry.Entry.{Entry}
 use Rattle.hb_world.specs.declared.entry.Entry.TheVariants as e
 use Rattle.hb_world.specs.declared.entry.Way.TheVariants as way
 use Rattle.hb_world.specs.declared.entry.Woken.{Woken}
+use Rattle.hb_world.specs.Trace.{is_waited}
 use Rattle.hb_proxy.specs.Machine.{Machine}
 use Rattle.hb_proxy.specs.Points.{Point}
 use Rattle.hb_proxy.specs.Settled.{IsSettled, SettledIn, SettledLaw}
@@ -66,10 +67,10 @@ accepted to = e.Dialled 1 to whys.Discovery ∷ e.Balked (way.Finish 1) ∷ e.Ac
 
 -- that link is never read; its header came, its destination is dialled, and never asked whether it is open
 abbrev pub ReadsNothing : Type 0
-ReadsNothing = (g : NodeConfig) (to : Target) (how : Woken) → SettledLaw g (accepted to ++ e.Wait [] how ∷ []) → ⊥
+ReadsNothing = (g : NodeConfig) (to : Target) (how : Woken) → is_waited how ≡ true → SettledLaw g (accepted to ++ e.Wait [] how ∷ []) → ⊥
 
 abbrev pub AsksNoUpstream : Type 0
-AsksNoUpstream = (g : NodeConfig) (to other : Target) (bytes : List ℕ) (how : Woken)
+AsksNoUpstream = (g : NodeConfig) (to other : Target) (bytes : List ℕ) (how : Woken) → is_waited how ≡ true
     → SettledLaw g (accepted to ++ e.Came 2 bytes ∷ e.Dialled 3 other (whys.Plain 2) ∷ e.Wait [] how ∷ []) → ⊥
 
 -- it is read, and that moves nothing

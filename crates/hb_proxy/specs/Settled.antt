@@ -20,7 +20,7 @@ use Rattle.hb_model.specs.Runs as model
 use Rattle.hb_model.specs.declared.config.NodeConfig.{NodeConfig}
 use Rattle.hb_ready.specs.Sight.{asked, asleep}
 use Rattle.hb_tunnel.specs.Tunnel.{down_size}
-use Rattle.hb_world.specs.Trace.{AtEach}
+use Rattle.hb_world.specs.Trace.{AtEach, is_waited}
 use Rattle.hb_world.specs.declared.entry.Entry.{Entry}
 use Rattle.hb_world.specs.declared.entry.Entry.TheVariants as e
 use Rattle.hb_world.specs.declared.entry.Way.TheVariants as way
@@ -135,9 +135,9 @@ pub record SettledIn (g : NodeConfig) (trace : List Entry) : Type 0 where
   pub settled : IsSettled g machine points trace
 
 abbrev pub SettledAt : NodeConfig → List Entry → Entry → Type 0
-SettledAt g before (e.Wait ready how) = SettledIn g before
+SettledAt g before (e.Wait ready how) = is_waited how ≡ true → SettledIn g before
 SettledAt g before _ = ⊤
 
--- at each wait
+-- at each wait, and at no glance
 abbrev pub SettledLaw : NodeConfig → List Entry → Type 0
 SettledLaw g trace = AtEach (SettledAt g) trace

@@ -16,6 +16,7 @@ use Rattle.hb_world.specs.declared.entry.Entry.TheVariants as e
 use Rattle.hb_world.specs.declared.entry.ReadyItem.TheVariants as item
 use Rattle.hb_world.specs.declared.entry.Way.TheVariants as way
 use Rattle.hb_world.specs.declared.entry.Woken.{Woken}
+use Rattle.hb_world.specs.Trace.{is_waited}
 use Rattle.hb_proxy.specs.Machine.{Machine}
 use Rattle.hb_proxy.specs.Points.{Point}
 use Rattle.hb_proxy.specs.Settled.{IsSettled, SettledIn, SettledLaw}
@@ -79,11 +80,12 @@ LeavesLinkUnread = (g : NodeConfig) (x : Machine) (points : List Point) (trace :
 
 -- a link is dialled and never asked whether it is open
 abbrev pub AsksNothing : Type 0
-AsksNothing = (g : NodeConfig) (to : Target) (how : Woken) → SettledLaw g (e.Dialled 1 to whys.Discovery ∷ e.Wait [] how ∷ []) → ⊥
+AsksNothing = (g : NodeConfig) (to : Target) (how : Woken) → is_waited how ≡ true
+    → SettledLaw g (e.Dialled 1 to whys.Discovery ∷ e.Wait [] how ∷ []) → ⊥
 
 -- a wait named a door, and nobody accepts there
 abbrev pub AcceptsNothing : Type 0
-AcceptsNothing = (g : NodeConfig) (how then : Woken)
+AcceptsNothing = (g : NodeConfig) (how then : Woken) → is_waited then ≡ true
     → SettledLaw g (e.Wait (item.Door door.Inbound ∷ []) how ∷ e.Wait [] then ∷ []) → ⊥
 
 -- it is asked, and that moves nothing

@@ -5,16 +5,17 @@ use Rattle.std.proofs.lemmas.List.{append_assoc}
 use Rattle.hb_world.specs.declared.entry.Entry.{Entry}
 use Rattle.hb_world.specs.declared.entry.Entry.TheVariants as e
 use Rattle.hb_world.specs.declared.entry.ReadyItem.{ReadyItem}
-use Rattle.hb_world.specs.declared.entry.Woken.{Woken}
 use Rattle.hb_world.specs.declared.entry.Woken.TheVariants as woken
 use Rattle.hb_world.specs.declared.line.Line.{Line}
+use Rattle.hb_world.specs.declared.turn.Ending.{Ending}
+use Rattle.hb_world.specs.declared.turn.Ending.TheVariants as ending
 use Rattle.hb_world.specs.declared.world.Read.TheVariants as reads
 use Rattle.hb_world.specs.declared.world.Wrote.TheVariants as wrote
 use Rattle.hb_world.specs.Allowed.{Allowed, IsAnswer}
 use Rattle.hb_world.specs.Calls.{wait_entries}
 use Rattle.hb_world.specs.LinkState.{front_of}
 use Rattle.hb_world.specs.Script.{standing, turn_of, turn_ends, ready_in}
-use Rattle.hb_world.specs.ScriptAnswers.{read_answer, write_answer, waited_for}
+use Rattle.hb_world.specs.ScriptAnswers.{read_answer, write_answer, wait_answer, waited_for, told_by_wait}
 use Rattle.hb_world.proofs.TraceLemmas.{AtEach-grows}
 
 -- an answer other than want of memory is the stated one
@@ -57,29 +58,32 @@ allowed-rest lines trace ready some told all =
     )
 
 -- a Tick stands behind a wait that ends so
-behind : (lines : List Line) (trace : List Entry) (ready : List ReadyItem) (w : Woken)
-    → Allowed lines (trace ++ e.Wait ready w ∷ []) → Allowed lines (trace ++ wait_entries ready (waited_for w))
-behind lines trace ready woken.Woke all = all
-behind lines trace ready woken.Stop all = all
-behind lines trace ready woken.Failed all = all
-behind lines trace ready woken.Tick all =
+behind : (lines : List Line) (trace : List Entry) (ready : List ReadyItem)
+    → Allowed lines (trace ++ e.Wait ready woken.Tick ∷ []) → Allowed lines (trace ++ e.Wait ready woken.Tick ∷ e.Tick ∷ [])
+behind lines trace ready all =
     subst (λ (t : List Entry). Allowed lines t) (append_assoc trace (e.Wait ready woken.Tick ∷ []) (e.Tick ∷ []))
     (allowed-one lines (trace ++ e.Wait ready woken.Tick ∷ []) e.Tick all (trace, ready, refl))
 
+-- a wait that answers so
+answered : (lines : List Line) (trace : List Entry) (ready : List ReadyItem) (w : Ending) → wait_answer lines trace ≡ waited_for w
+    → ready ≡ told_by_wait lines trace → Allowed lines trace → Allowed lines (trace ++ wait_entries ready (waited_for w))
+answered lines trace ready ending.Woke is told all = allowed-one lines trace (e.Wait ready woken.Woke) all (is, told)
+answered lines trace ready ending.Stop is told all = allowed-one lines trace (e.Wait ready woken.Stop) all (is, told)
+answered lines trace ready ending.Failed is told all = allowed-one lines trace (e.Wait ready woken.Failed) all (is, told)
+answered lines trace ready ending.Tick is told all =
+    behind lines trace ready (allowed-one lines trace (e.Wait ready woken.Tick) all (is, told))
+
 -- a wait that applies the lines of a turn
-pub allowed-turn : (lines : List Line) (trace : List Entry) (ready : List ReadyItem) (w : Woken)
+pub allowed-turn : (lines : List Line) (trace : List Entry) (ready : List ReadyItem) (w : Ending)
     → length (standing lines trace).rest ≡ 0 → w ≡ turn_ends (standing lines trace).coming
     → ready ≡ take 1024 (ready_in (turn_of (standing lines trace).coming) trace)
     → Allowed lines trace → Allowed lines (trace ++ wait_entries ready (waited_for w))
 allowed-turn lines trace ready w none ends told all =
     let s = standing lines trace in
     let is : eqb (length s.rest) 0 ≡ true = eq-eqb (length s.rest) 0 none in
-    let now : Allowed lines (trace ++ e.Wait ready w ∷ []) =
-    allowed-one lines trace (e.Wait ready w) all (
-      cond-true _ _ _ is ∙ ap waited_for (sym ends),
-      told ∙ sym (ap (λ (xs : List ReadyItem). take 1024 xs) (cond-true _ _ _ is)),
-    ) in
-    behind lines trace ready w now
+    answered lines trace ready w
+    (cond-true _ _ _ is ∙ ap waited_for (sym ends))
+    (told ∙ sym (ap (λ (xs : List ReadyItem). take 1024 xs) (cond-true _ _ _ is))) all
 
 pub allowed-none : (lines : List Line) → Allowed lines []
 allowed-none lines [] x after is = absurd (cc)

@@ -15,11 +15,13 @@ use Rattle.hb_world.specs.declared.entry.Woken.{Woken}
 use Rattle.hb_world.specs.declared.entry.Woken.TheVariants as w
 use Rattle.hb_world.specs.declared.line.Line.{Line}
 use Rattle.hb_world.specs.declared.links.Links.{Links}
+use Rattle.hb_world.specs.declared.turn.Ending.{Ending}
+use Rattle.hb_world.specs.declared.turn.Ending.TheVariants as ending
 use Rattle.hb_world.specs.Calls.{wait_entries}
 use Rattle.hb_world.specs.DoorState.{door_at}
 use Rattle.hb_world.specs.LinkState.{LinkState}
 use Rattle.hb_world.specs.LinkStates.{state_at, is_named}
-use Rattle.hb_world.specs.Script.{Standing, standing, start, after_entry, turned, turn_of, turn_ends, woken_by, ready_in, kept_for, is_of, pieces_on, link_with, waiting_with, failing_with}
+use Rattle.hb_world.specs.Script.{Standing, standing, start, after_entry, after_wait, waited, turned, turn_of, turn_ends, woken_by, ready_in, kept_for, is_of, pieces_on, link_with, waiting_with, failing_with}
 use Rattle.hb_world.specs.ScriptAnswers.{waited_for, is_listen, LeavesReady}
 use Rattle.hb_world.specs.WorldState.{Keeps, passed_by}
 use Rattle.hb_world.proofs.LifeLemmas.{or-false}
@@ -39,7 +41,12 @@ after-trace s (v.Balked way) = refl
 after-trace s (v.Shut l) = refl
 after-trace s (v.Closed l cause) = refl
 after-trace s v.Tick = refl
-after-trace s (v.Wait ready answer) = refl
+after-trace s (v.Wait ready w.Woke) = refl
+after-trace s (v.Wait ready w.Tick) = refl
+after-trace s (v.Wait ready w.Stop) = refl
+after-trace s (v.Wait ready w.Failed) = refl
+after-trace s (v.Wait ready w.Glanced) = refl
+after-trace s (v.Wait ready w.GlanceFailed) = refl
 
 fold-trace : (s : Standing) (es : List Entry) → (fold after_entry s es).trace ≡ s.trace ++ es
 fold-trace s [] = sym (append-nil s.trace)
@@ -77,11 +84,11 @@ behind-most : {X : Type 0} (xs : List X) → drop (min (length xs) 1024) xs ≡ 
 behind-most xs =
     ap (λ (m : ℕ). drop m xs) (let e : min (length xs) 1024 ≡ min 1024 (length xs) = omega arith in e) ∙ drop_min 1024 xs
 
-pub kept-behind : (woken : Woken) (xs : List ReadyItem) → drop (passed_by woken (length xs)) xs ≡ kept_for woken xs
-kept-behind w.Woke xs = behind-most xs
-kept-behind w.Tick xs = behind-most xs
-kept-behind w.Stop xs = drop_all (length xs) xs (omega arith)
-kept-behind w.Failed xs = behind-most xs
+pub kept-behind : (how : Ending) (xs : List ReadyItem) → drop (passed_by how (length xs)) xs ≡ kept_for how xs
+kept-behind ending.Woke xs = behind-most xs
+kept-behind ending.Tick xs = behind-most xs
+kept-behind ending.Stop xs = drop_all (length xs) xs (omega arith)
+kept-behind ending.Failed xs = behind-most xs
 
 any-drop : (p : Line → Bool) (n : ℕ) (xs : List Line) → list_any p (drop n xs) ≡ true → list_any p xs ≡ true
 any-drop p n xs is =
@@ -89,14 +96,14 @@ any-drop p n xs is =
     (list_any-append p (take n xs) (drop n xs) ∙ or_right (list_any p (take n xs)) (list_any p (drop n xs)) is)
 
 -- a wait that tells what is left
-pub keeps-told : (lines : List Line) (trace : List Entry) (items : List ReadyItem) (woken : Woken) (next : ℕ) (links : Links)
+pub keeps-told : (lines : List Line) (trace : List Entry) (items : List ReadyItem) (next : ℕ) (links : Links)
     (doors : Doors ScriptDoor) (failing : ℕ) (rest rest2 : List ReadyItem) → Keeps
     (standing lines trace) lines next links doors failing rest
     → 0 < length (standing lines trace).rest → rest2 ≡ drop 1024 rest
-    → Keeps (standing lines (trace ++ v.Wait items woken ∷ [])) lines next links doors failing rest2
-keeps-told lines trace items woken next links doors failing rest rest2 k some is =
+    → Keeps (standing lines (trace ++ v.Wait items w.Woke ∷ [])) lines next links doors failing rest2
+keeps-told lines trace items next links doors failing rest rest2 k some is =
     let s = standing lines trace in
-    let e : Entry = v.Wait items woken in
+    let e : Entry = v.Wait items w.Woke in
     let goes : after_entry s e ≡ record s { rest = drop 1024 s.rest; trace = s.trace ++ e ∷ [] } =
     ap (λ (z : Standing). record z { trace = s.trace ++ e ∷ [] })
     (cond-false _ (turned s) (record s { rest = drop 1024 s.rest }) (ne_eqb (length s.rest) 0 (λ n. omega (arith, n, some)))) in
@@ -111,8 +118,12 @@ keeps-told lines trace items woken next links doors failing rest rest2 k some is
       left = is ∙ ap (λ (xs : List ReadyItem). drop 1024 xs) k.left;
     })
 
+-- a wait, and no glance
+abbrev pub IsWait : Woken → Type 0
+IsWait how = (s : Standing) (x : Entry) → after_wait how s x ≡ record (waited s) { trace = s.trace ++ x ∷ [] }
+
 -- a wait that applies the lines of a turn
-pub keeps-turned : (lines : List Line) (trace : List Entry) (items : List ReadyItem) (woken : Woken) (next : ℕ) (links links2 : Links)
+pub keeps-turned : (lines : List Line) (trace : List Entry) (items : List ReadyItem) (woken : Woken) → IsWait woken → (next : ℕ) (links links2 : Links)
     (doors doors2 : Doors ScriptDoor) (failing failing2 : ℕ) (rest rest2 : List ReadyItem)
     → Keeps (standing lines trace) lines next links doors failing rest
     → length (standing lines trace).rest ≡ 0
@@ -129,13 +140,13 @@ pub keeps-turned : (lines : List Line) (trace : List Entry) (items : List ReadyI
     → Keeps (standing lines (trace ++ v.Wait items woken ∷ [])) lines (next + length (turn_of
     (standing lines trace).coming)) links2 doors2
     failing2 rest2
-keeps-turned lines trace items woken next links links2 doors doors2 failing failing2 rest rest2 k none said names listening waiting
+keeps-turned lines trace items woken waits next links links2 doors doors2 failing failing2 rest rest2 k none said names listening waiting
     fails left =
     let s = standing lines trace in
     let e : Entry = v.Wait items woken in
     let turn = turn_of s.coming in
     let goes : after_entry s e ≡ record (turned s) { trace = s.trace ++ e ∷ [] } =
-    ap (λ (z : Standing). record z { trace = s.trace ++ e ∷ [] })
+    waits s e ∙ ap (λ (z : Standing). record z { trace = s.trace ++ e ∷ [] })
     (cond-true _ (turned s) (record s { rest = drop 1024 s.rest }) (eq-eqb (length s.rest) 0 none)) in
     let within : length turn ≤ length lines - next =
     subst (λ (n : ℕ). length turn ≤ n) (ap (λ (ls : List Line). length ls) k.coming ∙ length-drop next lines) (turn-within s.coming) in
@@ -155,31 +166,31 @@ keeps-turned lines trace items woken next links links2 doors doors2 failing fail
     })
 
 -- a Tick stands behind a wait that ends so
-pub keeps-wait : (lines : List Line) (trace : List Entry) (items : List ReadyItem) (woken : Woken) (next : ℕ) (links : Links)
+pub keeps-wait : (lines : List Line) (trace : List Entry) (items : List ReadyItem) (how : Ending) (next : ℕ) (links : Links)
     (doors : Doors ScriptDoor) (failing : ℕ) (rest : List ReadyItem)
-    → Keeps (standing lines (trace ++ v.Wait items woken ∷ [])) lines next links doors failing rest
-    → Keeps (standing lines (trace ++ wait_entries items (waited_for woken))) lines next links doors failing rest
-keeps-wait lines trace items w.Woke next links doors failing rest k = k
-keeps-wait lines trace items w.Stop next links doors failing rest k = k
-keeps-wait lines trace items w.Failed next links doors failing rest k = k
-keeps-wait lines trace items w.Tick next links doors failing rest k =
+    → ((how : Woken) → IsWait how → Keeps (standing lines (trace ++ v.Wait items how ∷ [])) lines next links doors failing rest)
+    → Keeps (standing lines (trace ++ wait_entries items (waited_for how))) lines next links doors failing rest
+keeps-wait lines trace items ending.Woke next links doors failing rest k = k w.Woke (λ s x. refl)
+keeps-wait lines trace items ending.Stop next links doors failing rest k = k w.Stop (λ s x. refl)
+keeps-wait lines trace items ending.Failed next links doors failing rest k = k w.Failed (λ s x. refl)
+keeps-wait lines trace items ending.Tick next links doors failing rest k =
     subst (λ (t : List Entry). Keeps (standing lines t) lines next links doors failing rest)
     (append_assoc trace (v.Wait items w.Tick ∷ []) (v.Tick ∷ []))
-    (keeps-entry lines (trace ++ v.Wait items w.Tick ∷ []) v.Tick next links links doors doors failing failing rest k (λ s. refl)
-    (λ l. refl) (λ l. refl) (λ d. sym (or-false _)) (λ d. refl) refl)
+    (keeps-entry lines (trace ++ v.Wait items w.Tick ∷ []) v.Tick next links links doors doors failing failing rest
+    (k w.Tick (λ s x. refl)) (λ s. refl) (λ l. refl) (λ l. refl) (λ d. sym (or-false _)) (λ d. refl) refl)
 
 -- the items that a wait leaves that wants no memory
-pub leaves : (before after told : List ReadyItem) (woken : Woken) → after ≡ told → LeavesReady before after told (waited_for woken)
-leaves before after told w.Woke is = is
-leaves before after told w.Tick is = is
-leaves before after told w.Stop is = is
-leaves before after told w.Failed is = is
+pub leaves : (before after told : List ReadyItem) (how : Ending) → after ≡ told → LeavesReady before after told (waited_for how)
+leaves before after told ending.Woke is = is
+leaves before after told ending.Tick is = is
+leaves before after told ending.Stop is = is
+leaves before after told ending.Failed is = is
 
 -- a wait is no listen
-pub waits-unheard : (trace : List Entry) (items : List ReadyItem) (woken : Woken)
-    → list_any is_listen (trace ++ wait_entries items (waited_for woken)) ≡ list_any is_listen trace
-waits-unheard trace items w.Woke = any-grows is_listen trace (v.Wait items w.Woke) ∙ or-false _
-waits-unheard trace items w.Stop = any-grows is_listen trace (v.Wait items w.Stop) ∙ or-false _
-waits-unheard trace items w.Failed = any-grows is_listen trace (v.Wait items w.Failed) ∙ or-false _
-waits-unheard trace items w.Tick =
+pub waits-unheard : (trace : List Entry) (items : List ReadyItem) (how : Ending)
+    → list_any is_listen (trace ++ wait_entries items (waited_for how)) ≡ list_any is_listen trace
+waits-unheard trace items ending.Woke = any-grows is_listen trace (v.Wait items w.Woke) ∙ or-false _
+waits-unheard trace items ending.Stop = any-grows is_listen trace (v.Wait items w.Stop) ∙ or-false _
+waits-unheard trace items ending.Failed = any-grows is_listen trace (v.Wait items w.Failed) ∙ or-false _
+waits-unheard trace items ending.Tick =
     list_any-append is_listen trace (v.Wait items w.Tick ∷ v.Tick ∷ []) ∙ or-false _

@@ -5,6 +5,7 @@ use Rattle.hb_world.specs.declared.entry.Entry.TheVariants as e
 use Rattle.hb_world.specs.declared.entry.Way.{Way}
 use Rattle.hb_world.specs.declared.entry.Way.TheVariants as way
 use Rattle.hb_world.specs.declared.entry.ReadyItem.{ReadyItem}
+use Rattle.hb_world.specs.declared.entry.Woken.{Woken}
 use Rattle.hb_world.specs.declared.entry.Woken.TheVariants as woken
 use Rattle.hb_world.specs.declared.line.Line.{Line}
 use Rattle.hb_world.specs.declared.world.Listened.TheVariants as listened
@@ -12,9 +13,11 @@ use Rattle.hb_world.specs.declared.world.Born.TheVariants as born
 use Rattle.hb_world.specs.declared.world.Finished.TheVariants as finished
 use Rattle.hb_world.specs.declared.world.Read.TheVariants as reads
 use Rattle.hb_world.specs.declared.world.Wrote.TheVariants as wrote
+use Rattle.hb_world.specs.declared.world.Waited.{Waited}
+use Rattle.hb_world.specs.declared.world.Waited.TheVariants as waited
 use Rattle.hb_world.specs.LinkState.{front_of}
 use Rattle.hb_world.specs.Script.{standing}
-use Rattle.hb_world.specs.ScriptAnswers.{listen_answer, accept_answer, dial_answer, finish_answer, read_answer, write_answer, wait_answer, waited_for, told_by_wait}
+use Rattle.hb_world.specs.ScriptAnswers.{listen_answer, accept_answer, dial_answer, finish_answer, read_answer, write_answer, wait_answer, told_by_wait}
 use Rattle.hb_world.specs.Trace.{AtEach, lives, was_shut}
 
 -- a call that moves nothing, behind these entries
@@ -34,6 +37,19 @@ Fails lines before link =
     ⊎ (((room : ℕ) × (read_answer lines before link room ≡ reads.Failed))
     ⊎ ((offered : ℕ) × (write_answer lines before link offered ≡ wrote.Failed)))
 
+-- a wait answers so, and tells these items
+abbrev pub Answers : List Line → List Entry → List ReadyItem → Waited → Type 0
+Answers lines before ready answer = (wait_answer lines before ≡ answer) × (ready ≡ told_by_wait lines before)
+
+-- a wait, or a glance, which finds nothing
+abbrev pub Finds : List Line → List Entry → List ReadyItem → Woken → Type 0
+Finds lines before ready woken.Woke = Answers lines before ready waited.Woke
+Finds lines before ready woken.Tick = Answers lines before ready waited.Tick
+Finds lines before ready woken.Stop = Answers lines before ready waited.Stop
+Finds lines before ready woken.Failed = Answers lines before ready waited.Failed
+Finds lines before ready woken.Glanced = ready ≡ []
+Finds lines before ready woken.GlanceFailed = ⊥
+
 -- the entry has the answer that the script gives behind these entries
 abbrev pub IsAnswer : List Line → List Entry → Entry → Type 0
 IsAnswer lines before (e.Accepted link door) = accept_answer lines before door ≡ born.New link
@@ -50,7 +66,7 @@ IsAnswer lines before (e.Shut link) = (lives link before ≡ true) × (was_shut 
 IsAnswer lines before (e.Closed link cause) = lives link before ≡ true
 IsAnswer lines before e.Tick =
     (earlier : List Entry) × (ready : List ReadyItem) × (before ≡ earlier ++ e.Wait ready woken.Tick ∷ [])
-IsAnswer lines before (e.Wait ready w) = (wait_answer lines before ≡ waited_for w) × (ready ≡ told_by_wait lines before)
+IsAnswer lines before (e.Wait ready how) = Finds lines before ready how
 
 -- each entry has its answer
 abbrev pub Allowed : List Line → List Entry → Type 0

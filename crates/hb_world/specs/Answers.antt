@@ -13,6 +13,8 @@ use Rattle.hb_world.specs.declared.world.Wrote.{Wrote}
 use Rattle.hb_world.specs.declared.world.Wrote.TheVariants as wrote
 use Rattle.hb_world.specs.declared.world.Waited.{Waited}
 use Rattle.hb_world.specs.declared.world.Waited.TheVariants as waited
+use Rattle.hb_world.specs.declared.world.Glanced.{Glanced}
+use Rattle.hb_world.specs.declared.world.Glanced.TheVariants as glanced
 use Rattle.hb_world.specs.Trace.{births, lives}
 
 -- whether the call failed; want of memory is no failure
@@ -39,6 +41,10 @@ write_failed _ = false
 abbrev pub wait_failed : Waited → Bool
 wait_failed waited.Failed = true
 wait_failed _ = false
+
+abbrev pub glance_failed : Glanced → Bool
+glance_failed glanced.Failed = true
+glance_failed _ = false
 
 -- a link that is born has the next number, counted from 1, where the trace is told
 abbrev pub HasNextNumber : Option (List Entry) → Born → Type 0

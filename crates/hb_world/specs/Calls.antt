@@ -21,6 +21,8 @@ use Rattle.hb_world.specs.declared.world.Wrote.{Wrote}
 use Rattle.hb_world.specs.declared.world.Wrote.TheVariants as wrote
 use Rattle.hb_world.specs.declared.world.Waited.{Waited}
 use Rattle.hb_world.specs.declared.world.Waited.TheVariants as waited
+use Rattle.hb_world.specs.declared.world.Glanced.{Glanced}
+use Rattle.hb_world.specs.declared.world.Glanced.TheVariants as glanced
 use Rattle.hb_world.specs.Trace.{lives, was_shut}
 
 -- the trace with these entries at its end, where it is told
@@ -76,6 +78,13 @@ wait_entries ready waited.Tick = e.Wait ready woken.Tick ∷ e.Tick ∷ []
 wait_entries ready waited.Stop = e.Wait ready woken.Stop ∷ []
 wait_entries ready waited.Failed = e.Wait ready woken.Failed ∷ []
 wait_entries ready waited.NoMemory = []
+
+-- what is ready now, and behind a glance that answers Tick a Tick
+abbrev pub glance_entries : List ReadyItem → Glanced → List Entry
+glance_entries ready glanced.Woke = e.Wait ready woken.Glanced ∷ []
+glance_entries ready glanced.Tick = e.Wait ready woken.Glanced ∷ e.Tick ∷ []
+glance_entries ready glanced.Failed = e.Wait ready woken.GlanceFailed ∷ []
+glance_entries ready glanced.NoMemory = []
 
 -- a link that lives is shut once; every other shut does nothing
 abbrev pub shut_entries : ℕ → List Entry → List Entry

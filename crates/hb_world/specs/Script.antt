@@ -12,6 +12,8 @@ use Rattle.hb_world.specs.declared.entry.Woken.{Woken}
 use Rattle.hb_world.specs.declared.entry.Woken.TheVariants as woken
 use Rattle.hb_world.specs.declared.line.Line.{Line}
 use Rattle.hb_world.specs.declared.line.Line.TheVariants as line
+use Rattle.hb_world.specs.declared.turn.Ending.{Ending}
+use Rattle.hb_world.specs.declared.turn.Ending.TheVariants as ending
 use Rattle.hb_world.specs.Trace.{lives, listens, same_door}
 
 -- this is the number, where there is one
@@ -20,11 +22,11 @@ is_number k None = false
 is_number k (Some l) = l == k
 
 -- how the wait ends that this line ends
-abbrev pub woken_by : Line → Option Woken
-woken_by line.Wake = Some woken.Woke
-woken_by line.Tick = Some woken.Tick
-woken_by line.Stop = Some woken.Stop
-woken_by line.FaultWait = Some woken.Failed
+abbrev pub woken_by : Line → Option Ending
+woken_by line.Wake = Some ending.Woke
+woken_by line.Tick = Some ending.Tick
+woken_by line.Stop = Some ending.Stop
+woken_by line.FaultWait = Some ending.Failed
 woken_by _ = None
 
 -- the lines up to and including the next that ends a wait
@@ -33,8 +35,8 @@ turn_of [] = []
 turn_of (l ∷ ls) = if is_some (woken_by l) then l ∷ [] else l ∷ turn_of ls
 
 -- how the next wait ends: by the next line that ends a wait, at the end of the script with Stop
-abbrev pub turn_ends : List Line → Woken
-turn_ends [] = woken.Stop
+abbrev pub turn_ends : List Line → Ending
+turn_ends [] = ending.Stop
 turn_ends (l ∷ ls) = unwrap_or (woken_by l) (turn_ends ls)
 
 -- the link that a line names
@@ -181,8 +183,8 @@ with_lines turn s = record s {
 }
 
 -- no Stop: what isn't told yet is told by the next waits
-abbrev pub kept_for : Woken → List ReadyItem → List ReadyItem
-kept_for woken.Stop items = []
+abbrev pub kept_for : Ending → List ReadyItem → List ReadyItem
+kept_for ending.Stop items = []
 kept_for _ items = drop 1024 items
 
 -- a wait applies the lines up to the next that ends a wait
@@ -205,9 +207,15 @@ with_entry s e = record s {
   failing = failing_after s.failing e;
 }
 
+-- one more entry that tells how a wait ended; a glance applies no line
+abbrev pub after_wait : Woken → Standing → Entry → Standing
+after_wait woken.Glanced s x = with_entry s x
+after_wait woken.GlanceFailed s x = with_entry s x
+after_wait _ s x = record (waited s) { trace = s.trace ++ x ∷ [] }
+
 -- one more entry of the trace
 abbrev pub after_entry : Standing → Entry → Standing
-after_entry s (e.Wait ready woken) = record (waited s) { trace = s.trace ++ e.Wait ready woken ∷ [] }
+after_entry s (e.Wait ready how) = after_wait how s (e.Wait ready how)
 after_entry s e = with_entry s e
 
 -- what a script has come to behind a trace

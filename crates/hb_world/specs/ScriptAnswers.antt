@@ -6,6 +6,8 @@ use Rattle.hb_world.specs.declared.entry.Entry.{Entry}
 use Rattle.hb_world.specs.declared.entry.Entry.TheVariants.{Balked}
 use Rattle.hb_world.specs.declared.entry.Way.TheVariants.{Listen}
 use Rattle.hb_world.specs.declared.line.Line.{Line}
+use Rattle.hb_world.specs.declared.turn.Ending.{Ending}
+use Rattle.hb_world.specs.declared.turn.Ending.TheVariants as ending
 use Rattle.hb_world.specs.declared.line.Line.TheVariants.{FaultListen}
 use Rattle.hb_world.specs.declared.world.Listened.{Listened}
 use Rattle.hb_world.specs.declared.world.Listened.TheVariants as listened
@@ -20,8 +22,6 @@ use Rattle.hb_world.specs.declared.world.Wrote.TheVariants as wrote
 use Rattle.hb_world.specs.declared.world.Waited.{Waited}
 use Rattle.hb_world.specs.declared.world.Waited.TheVariants as waited
 use Rattle.hb_world.specs.declared.entry.ReadyItem.{ReadyItem}
-use Rattle.hb_world.specs.declared.entry.Woken.{Woken}
-use Rattle.hb_world.specs.declared.entry.Woken.TheVariants as woken
 use Rattle.hb_world.specs.LinkState.{finish_said, read_said, write_said, front_of}
 use Rattle.hb_world.specs.Script.{standing, turn_of, turn_ends, ready_in}
 use Rattle.hb_world.specs.Trace.{births, lives}
@@ -73,11 +73,11 @@ GivesFront lines trace link into (reads.Got n) = take n into ≡ take n (front_o
 GivesFront lines trace link into _ = Unit {0}
 
 -- the answer of a wait that these lines are before
-abbrev pub waited_for : Woken → Waited
-waited_for woken.Woke = waited.Woke
-waited_for woken.Tick = waited.Tick
-waited_for woken.Stop = waited.Stop
-waited_for woken.Failed = waited.Failed
+abbrev pub waited_for : Ending → Waited
+waited_for ending.Woke = waited.Woke
+waited_for ending.Tick = waited.Tick
+waited_for ending.Stop = waited.Stop
+waited_for ending.Failed = waited.Failed
 
 -- a wait answers by the line that ends it; while items wait to be told, Woke
 abbrev pub wait_answer : List Line → List Entry → Waited

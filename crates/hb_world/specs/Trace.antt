@@ -6,6 +6,8 @@ use Rattle.hb_base.specs.declared.door.Door.TheVariants.{Inbound, Outbound, Plai
 use Rattle.hb_world.specs.declared.entry.Entry.{Entry}
 use Rattle.hb_world.specs.declared.entry.Entry.TheVariants.{Accepted, Dialled, Came, Went, Balked, Shut, Closed}
 use Rattle.hb_world.specs.declared.entry.Way.TheVariants.{Listen}
+use Rattle.hb_world.specs.declared.entry.Woken.{Woken}
+use Rattle.hb_world.specs.declared.entry.Woken.TheVariants.{Glanced, GlanceFailed}
 
 -- the bytes that came on a link by this entry
 abbrev pub came_on : ℕ → Entry → List ℕ
@@ -86,3 +88,9 @@ listens door trace = list_any (is_listen_at door) trace
 -- at each place of a trace: what holds of the entries before it and of the entry there
 abbrev pub AtEach : (List Entry → Entry → Type 0) → List Entry → Type 0
 AtEach P trace = (before : List Entry) (e : Entry) (after : List Entry) → trace ≡ before ++ e ∷ after → P before e
+
+-- this tells of a wait, and not of a glance
+abbrev pub is_waited : Woken → Bool
+is_waited Glanced = false
+is_waited GlanceFailed = false
+is_waited _ = true

@@ -12,10 +12,11 @@ use Rattle.hb_world.specs.declared.doors.ScriptDoor.{ScriptDoor}
 use Rattle.hb_world.specs.declared.entry.Entry.{Entry}
 use Rattle.hb_world.specs.declared.entry.Entry.TheVariants.{Balked, Broke, Wait}
 use Rattle.hb_world.specs.declared.entry.Way.TheVariants.{Listen}
-use Rattle.hb_world.specs.declared.entry.Woken.{Woken}
-use Rattle.hb_world.specs.declared.entry.Woken.TheVariants.{Failed, Stop}
+use Rattle.hb_world.specs.declared.entry.Woken.TheVariants.{Failed, GlanceFailed}
 use Rattle.hb_world.specs.declared.entry.ReadyItem.{ReadyItem}
 use Rattle.hb_world.specs.declared.line.Line.{Line}
+use Rattle.hb_world.specs.declared.turn.Ending.{Ending}
+use Rattle.hb_world.specs.declared.turn.Ending.TheVariants as ending
 use Rattle.hb_world.specs.declared.links.Links.{Links}
 use Rattle.hb_world.specs.DoorState.{door_at}
 use Rattle.hb_world.specs.LinkStates.{state_at, is_named}
@@ -38,6 +39,7 @@ is_broke_of link _ = false
 abbrev pub is_fault : Entry → Bool
 is_fault (Balked (Listen door at listening)) = not listening
 is_fault (Wait ready Failed) = true
+is_fault (Wait ready GlanceFailed) = true
 is_fault _ = false
 
 -- counts in 64 bits
@@ -71,8 +73,8 @@ TakesNothing (wrote.Took n) = ⊥
 TakesNothing _ = Unit {0}
 
 -- of so many items, how many a wait that ends so passes: those that it tells, and with Stop all
-abbrev pub passed_by : Woken → ℕ → ℕ
-passed_by Stop items = items
+abbrev pub passed_by : Ending → ℕ → ℕ
+passed_by ending.Stop items = items
 passed_by _ items = min items 1024
 
 -- what is kept stands for what the script has come to

@@ -21,13 +21,17 @@ pub enum ReadyItem {
     Link(u64),
 }
 
-/// Why a wait ended.
+/// Why a wait ended, or that it was none.
 #[derive(Clone, Copy)]
 pub enum Woken {
     Woke,
     Tick,
     Stop,
     Failed,
+    /// Nothing: it was a glance, which doesn't wait.
+    Glanced,
+    /// Nothing: it was a glance, and that failed.
+    GlanceFailed,
 }
 
 /// An entry of a trace, which is the list of what the calls of a world did. Links are numbered from 1 in
@@ -54,8 +58,8 @@ pub enum Entry {
     /// No more is written to the link.
     Shut(u64),
     Closed(u64, Cause),
-    /// Time passed; it stands behind a wait that answered Tick.
+    /// Time passed; it stands behind a wait or a glance that answered Tick.
     Tick,
-    /// A wait, with what it found ready.
+    /// A wait or a glance, with what it found ready.
     Wait(List<ReadyItem>, Woken),
 }

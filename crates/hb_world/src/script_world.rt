@@ -2,7 +2,7 @@
 
 ghost use Rattle.std.specs.Prelude.{◌≡◌, ◌⊎◌, ◌<◌, ◌≤◌, ℕ, [], ◌++◌, length, take, IsTrue, not, ◌&&◌, OnOk, OnErr, IfOk, Some};
 ghost use Rattle.hb_world.specs.Allowed.{Allowed};
-ghost use Rattle.hb_world.specs.Calls.{listen_entries, accept_entries, dial_entries, finish_entries, read_entries, write_entries, wait_entries, shut_entries, close_entries};
+ghost use Rattle.hb_world.specs.Calls.{listen_entries, accept_entries, dial_entries, finish_entries, read_entries, write_entries, wait_entries, glance_entries, shut_entries, close_entries};
 ghost use Rattle.hb_world.specs.ScriptAnswers.{listen_answer, accept_answer, dial_answer, finish_answer, read_answer, write_answer, wait_answer, waited_for, told_by_wait, begins_with_fault, GivesFront, LeavesReady};
 ghost use Rattle.hb_world.specs.WorldState.{ScriptState, GivesNothing, TakesNothing, counted};
 ghost use Rattle.hb_world.specs.Answers.{birth_failed, ReadsLiving, ReadsWithin, WritesWithin};
@@ -19,7 +19,7 @@ use crate::ready::{MOST_ITEMS, Ready};
 use crate::trace::Trace;
 use crate::turn::{failing_after_turn, turn_end, turn_len, turn_to_doors, turn_to_links};
 use crate::waits::{add_wait, copy_items, told_before, waited};
-use crate::world::{Born, Finished, Listened, Read, Waited, World, Wrote};
+use crate::world::{Born, Finished, Glanced, Listened, Read, Waited, World, Wrote};
 use hb_base::{Bytes, Cause, Door, List, NoMemory, Target, Why};
 use std::alloc::Global;
 use std::marker::Model;
@@ -449,6 +449,19 @@ impl World for ScriptWorld {
             return self.tell_rest(ready);
         }
         self.begin_turn(ready)
+    }
+
+    fn glance(&mut self, ready: &mut Ready) -> Glanced
+        ensures answer { (result ≡ Glanced.NoMemory) ⊎ (result ≡ Glanced.Woke) }
+        ensures items { result ≡ Glanced.Woke → ready.new ≡ [] }
+        ensures after { self.new ≡ record self.old { trace = self.old.trace ++ glance_entries ready.new result } }
+    {
+        let entry = Entry::Wait(List::new(self.alloc), Woken::Glanced);
+        if self.trace.add(entry).is_err() {
+            return Glanced::NoMemory;
+        }
+        ready.clear();
+        Glanced::Woke
     }
 }
 

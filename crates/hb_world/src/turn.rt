@@ -9,19 +9,27 @@ ghost use Rattle.hb_world.specs.LinkStates.{state_at, is_named};
 ghost use Rattle.hb_world.specs.Script.{woken_by, link_of, is_of, turn_of, turn_ends, pieces_on, link_with, failing_with, waiting_with};
 
 use crate::doors::{Doors, ScriptDoor};
-use crate::entry::Woken;
 use crate::line::Line;
 use crate::links::Links;
 
+/// How a wait of a script's world ends.
+#[derive(Clone, Copy)]
+pub enum Ending {
+    Woke,
+    Tick,
+    Stop,
+    Failed,
+}
+
 /// How the wait ends that this line ends. `None` where the line ends no wait.
-pub fn woken(line: &Line) -> Option<Woken>
+pub fn woken(line: &Line) -> Option<Ending>
     ensures { result ≡ woken_by line.now }
 {
     match line {
-        Line::Wake => Some(Woken::Woke),
-        Line::Tick => Some(Woken::Tick),
-        Line::Stop => Some(Woken::Stop),
-        Line::FaultWait => Some(Woken::Failed),
+        Line::Wake => Some(Ending::Woke),
+        Line::Tick => Some(Ending::Tick),
+        Line::Stop => Some(Ending::Stop),
+        Line::FaultWait => Some(Ending::Failed),
         Line::Accept(_)
         | Line::Open(_)
         | Line::Refuse(_)
@@ -70,7 +78,7 @@ pub fn turn_len(lines: &[Line]) -> usize
 }
 
 /// How the next wait ends.
-pub fn turn_end(lines: &[Line]) -> Woken
+pub fn turn_end(lines: &[Line]) -> Ending
     ensures { result ≡ turn_ends lines.now }
 {
     for line in lines {
@@ -78,7 +86,7 @@ pub fn turn_end(lines: &[Line]) -> Woken
             return woken;
         }
     }
-    Woken::Stop
+    Ending::Stop
 }
 
 /// A line is applied to what is kept of the doors.

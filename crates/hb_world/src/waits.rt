@@ -8,6 +8,7 @@ ghost use Rattle.hb_world.specs.WorldState.{passed_by};
 use crate::entry::{Entry, ReadyItem, Woken};
 use crate::ready::MOST_ITEMS;
 use crate::trace::Trace;
+use crate::turn::Ending;
 use crate::world::Waited;
 use hb_base::{List, NoMemory};
 use std::alloc::Global;
@@ -24,34 +25,36 @@ pub fn copy_items(alloc: Global, items: &[ReadyItem]) -> Result<List<ReadyItem>,
 }
 
 /// Adds a wait to a trace, and behind one that ends with Tick a Tick.
-pub fn add_wait(trace: &mut Trace, items: List<ReadyItem>, woken: Woken) -> Result<(), NoMemory>
-    ensures ok { OnOk result (trace.new ≡ trace.old ++ wait_entries items (waited_for woken)) }
+pub fn add_wait(trace: &mut Trace, items: List<ReadyItem>, ending: Ending) -> Result<(), NoMemory>
+    ensures ok { OnOk result (trace.new ≡ trace.old ++ wait_entries items (waited_for ending)) }
     ensures err { OnErr result (trace.new ≡ trace.old) }
 {
-    if let Woken::Tick = woken {
-        return trace.add_both(Entry::Wait(items, woken), Entry::Tick);
+    match ending {
+        Ending::Woke => trace.add(Entry::Wait(items, Woken::Woke)),
+        Ending::Tick => trace.add_both(Entry::Wait(items, Woken::Tick), Entry::Tick),
+        Ending::Stop => trace.add(Entry::Wait(items, Woken::Stop)),
+        Ending::Failed => trace.add(Entry::Wait(items, Woken::Failed)),
     }
-    trace.add(Entry::Wait(items, woken))
 }
 
 /// Of so many items, how many the next wait doesn't tell: those told now, and behind a Stop all.
-pub fn told_before(woken: Woken, items: usize) -> usize
-    ensures { result ≡ passed_by woken items }
+pub fn told_before(ending: Ending, items: usize) -> usize
+    ensures { result ≡ passed_by ending items }
 {
-    match woken {
-        Woken::Stop => items,
-        Woken::Woke | Woken::Tick | Woken::Failed => items.min(MOST_ITEMS),
+    match ending {
+        Ending::Stop => items,
+        Ending::Woke | Ending::Tick | Ending::Failed => items.min(MOST_ITEMS),
     }
 }
 
 /// What a wait answers that ends so.
-pub fn waited(woken: Woken) -> Waited
-    ensures { result ≡ waited_for woken }
+pub fn waited(ending: Ending) -> Waited
+    ensures { result ≡ waited_for ending }
 {
-    match woken {
-        Woken::Woke => Waited::Woke,
-        Woken::Tick => Waited::Tick,
-        Woken::Stop => Waited::Stop,
-        Woken::Failed => Waited::Failed,
+    match ending {
+        Ending::Woke => Waited::Woke,
+        Ending::Tick => Waited::Tick,
+        Ending::Stop => Waited::Stop,
+        Ending::Failed => Waited::Failed,
     }
 }

@@ -71,6 +71,17 @@ pub enum Waited {
     NoMemory,
 }
 
+/// What a glance answers.
+#[derive(Clone, Copy)]
+pub enum Glanced {
+    /// So much is ready now, or nothing.
+    Woke,
+    /// Time passed.
+    Tick,
+    Failed,
+    NoMemory,
+}
+
 /// The sockets, as the proxy sees them. Links are numbered from 1 in order of birth.
 ///
 /// Each call adds to the trace the entries that its answer says. Want of memory adds none and moves nothing.
@@ -80,8 +91,8 @@ pub trait World {
     ghost use Rattle.std.specs.Prelude.{◌≡◌, ◌<◌, List, length, Option};
     ghost use Rattle.hb_world.specs.declared.entry.Entry.{Entry};
     ghost use Rattle.hb_world.specs.declared.world.Born.TheVariants.{Balked};
-    ghost use Rattle.hb_world.specs.Answers.{listen_failed, birth_failed, finish_failed, read_failed, write_failed, wait_failed, HasNextNumber, ReadsWithin, WritesWithin, FinishesLiving, ReadsLiving, WritesLiving};
-    ghost use Rattle.hb_world.specs.Calls.{with_entries, with_shut, with_closed, listen_entries, accept_entries, dial_entries, finish_entries, read_entries, write_entries, wait_entries};
+    ghost use Rattle.hb_world.specs.Answers.{listen_failed, birth_failed, finish_failed, read_failed, write_failed, wait_failed, glance_failed, HasNextNumber, ReadsWithin, WritesWithin, FinishesLiving, ReadsLiving, WritesLiving};
+    ghost use Rattle.hb_world.specs.Calls.{with_entries, with_shut, with_closed, listen_entries, accept_entries, dial_entries, finish_entries, read_entries, write_entries, wait_entries, glance_entries};
     ghost use Rattle.hb_world.specs.Seen.{Seen, CountsUp, Stays, StaysButWhole, StaysButBirths, StaysButLink};
 
     /// What the calls did, in order, where the world tells it.
@@ -152,5 +163,11 @@ pub trait World {
     fn wait(&mut self, ready: &mut Ready) -> Waited
         ensures adds { trace self.new ≡ with_entries (wait_entries ready.new result) (trace self.old) }
         ensures counts { CountsUp (seen self.old).faults (seen self.new).faults (wait_failed result) }
+        ensures stays { StaysButWhole (seen self.old) (seen self.new) };
+
+    /// What is ready now, in place of what `ready` held. It doesn't wait.
+    fn glance(&mut self, ready: &mut Ready) -> Glanced
+        ensures adds { trace self.new ≡ with_entries (glance_entries ready.new result) (trace self.old) }
+        ensures counts { CountsUp (seen self.old).faults (seen self.new).faults (glance_failed result) }
         ensures stays { StaysButWhole (seen self.old) (seen self.new) };
 }

@@ -73,7 +73,7 @@ invariant_of-self-2 c =
           (keeps-wait i.lines i.trace c.in-Ok-copy_items.told c.turn_end-woken.result (i.next + length
           (turn_of s.coming)) c.turn_to_links.new.links
           c.turn_to_doors.new.doors c.failing_after_turn-self-inside.result (drop c.told_before-self-inside.result c.in-Ok.named.items)
-          (keeps-turned i.lines i.trace c.in-Ok-copy_items.told c.turn_end-woken.result i.next i.links c.turn_to_links.new.links i.doors
+          (λ how waits. keeps-turned i.lines i.trace c.in-Ok-copy_items.told how waits i.next i.links c.turn_to_links.new.links i.doors
           c.turn_to_doors.new.doors i.failing c.failing_after_turn-self-inside.result (drop i.told i.named.items)
           (drop c.told_before-self-inside.result c.in-Ok.named.items) k none
           (λ l. c.turn_to_links.ensures.states l

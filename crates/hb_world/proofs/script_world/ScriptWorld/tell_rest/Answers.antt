@@ -33,7 +33,7 @@ invariant_of-self-2 c =
     ∙ ap (λ (n : ℕ). min n 1024) (length-drop i.told i.named.items) in (
       subst (λ (t : List Entry). Keeps (standing i.lines t) i.lines i.next i.links i.doors i.failing
           (drop (i.told + c.min-count.result) i.named.items)) (sym added)
-          (keeps-told i.lines i.trace c.in-Ok.items Woke i.next i.links i.doors i.failing rest _ c.self.invariant.0 some
+          (keeps-told i.lines i.trace c.in-Ok.items i.next i.links i.doors i.failing rest _ c.self.invariant.0 some
           (rest-told i.named.items i.told c.min-count.result count)),
       c.self.invariant.1
           ∙ sym (ap (λ (t : List Entry). list_any is_listen t) added ∙ any-grows is_listen i.trace e ∙ or-false _),
