@@ -2,6 +2,8 @@
 #![tactic(auto)]
 
 #[cfg(test)]
+mod glances;
+#[cfg(test)]
 mod octets;
 #[cfg(test)]
 mod play;

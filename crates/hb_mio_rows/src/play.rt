@@ -3,7 +3,7 @@
 use crate::octets::{check_far, comes, free_port, here, listener, pattern, sum_of, target};
 use hb_base::{Cause, Door, Why};
 use hb_mio::MioWorld;
-use hb_world::{Born, Finished, Listened, Read, Ready, ReadyItem, Waited, World, Wrote};
+use hb_world::{Born, Finished, Glanced, Listened, Read, Ready, ReadyItem, Waited, World, Wrote};
 use std::alloc::{AllocError, Global};
 use std::io;
 use std::net::{Shutdown, TcpListener, TcpStream};
@@ -95,6 +95,10 @@ impl Play {
 
     pub fn wait(&mut self) -> Waited {
         self.world.wait(&mut self.ready)
+    }
+
+    pub fn glance(&mut self) -> Glanced {
+        self.world.glance(&mut self.ready)
     }
 
     pub fn is_ready(&self) -> bool {

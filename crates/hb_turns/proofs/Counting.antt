@@ -1,11 +1,12 @@
 -- What is counted of a run, behind calls, waits and ticks, and at its end.
-use Rattle.std.proofs.Common.{◌≡◌, ℕ, ◌+◌, ◌-◌, ◌≤◌, ◌<◌, ◌==◌, Bool, true, false, ◌&&◌, ◌||◌, not, cond, if◌then◌else◌, List, [], ◌∷◌, ◌++◌, map, Option, Some, None, Result, Ok, Err, IfOk, OnOk, IfSome, refl, ap, sym, ◌∙◌, subst, inl, inr, arith, append_assoc, zero-add}
+use Rattle.std.proofs.Common.{◌≡◌, ℕ, ◌+◌, ◌-◌, ◌*◌, ◌≤◌, ◌<◌, ◌==◌, Bool, true, false, ◌&&◌, ◌||◌, not, cond, if◌then◌else◌, List, [], ◌∷◌, ◌++◌, map, Option, Some, None, Result, Ok, Err, IfOk, OnOk, IfSome, refl, ap, sym, ◌∙◌, subst, inl, inr, arith, append_assoc, zero-add, eqb-true}
 use Rattle.std.specs.Prelude.{count_by}
 use Rattle.std.specs.List.{list_all}
 use Rattle.std.proofs.lemmas.List.{append-nil}
 use Rattle.std.proofs.lemmas.List.Sums.{sum_by-append, sum_by-cons}
 use Rattle.hb_world.specs.Calls.{with_entries}
 use Rattle.hb_world.specs.ScriptAnswers.{is_listen}
+use Rattle.hb_world.specs.Trace.{is_waited}
 use Rattle.hb_world.specs.declared.entry.Entry.{Entry}
 use Rattle.hb_world.specs.declared.entry.Entry.TheVariants as e
 use Rattle.hb_world.specs.declared.entry.ReadyItem.{ReadyItem}
@@ -15,7 +16,7 @@ use Rattle.hb_world.specs.declared.entry.Woken.TheVariants as woken
 use Rattle.hb_world.proofs.TraceLemmas.{AtEach-grows, any-grows}
 use Rattle.hb_turns.specs.Ends.{is_tick, ticks, are_spent, end_by_wait, end_by, is_move, is_wait, waits, moves, end_of}
 use Rattle.hb_turns.specs.Listens.{DoorAt, given, listen_at, Listened, BeginsWith}
-use Rattle.hb_turns.specs.Reckons.{is_plain, Adds, one_less, is_spent, AreLeft, Paid, Reckons, Finishes, Turned, IsBehindTick}
+use Rattle.hb_turns.specs.Reckons.{is_plain, Adds, one_less, is_spent, AreLeft, Paid, Reckons, Finishes, TurnedTo, Turned, IsBehindTick}
 use Rattle.hb_turns.specs.Woken.{IsQuiet}
 use Rattle.hb_turns.specs.declared.run.Records.{Records}
 use Rattle.hb_turns.specs.declared.served.ServeEnd.{ServeEnd}
@@ -135,8 +136,8 @@ abbrev pub turns_after : Bool → ℕ → ℕ
 turns_after moved n = if moved then n + 1 else n
 
 -- calls that are no waits
-pub reckons_adds : (words : ServeWords) (left : Option ℕ) (n w : ℕ) (moved : Bool) (before behind : Option (List Entry))
-    → Adds moved before behind → IfSome before (Reckons words left n w) → IfSome behind (Reckons words left (turns_after moved n) w)
+pub reckons_adds : (words : ServeWords) (left : Option ℕ) (n w : ℕ) (moved : Bool) {most : ℕ} (before behind : Option (List Entry))
+    → Adds moved most before behind → IfSome before (Reckons words left n w) → IfSome behind (Reckons words left (turns_after moved n) w)
 reckons_adds words left n w moved before behind adds =
     on (Reckons words left n w) (Reckons words left (turns_after moved n) w) adds.more before behind adds.grows
     (λ trace r. reckons_fewer words left (turns_after moved n) (n + moves adds.more) w w (trace ++ adds.more)
@@ -146,35 +147,73 @@ reckons_adds words left n w moved before behind adds =
     enough true some = let more = some refl in omega (arith, more)
     enough false some = omega arith
 
--- a wait behind which the run goes on
-wait_goes : (words : ServeWords) (left : Option ℕ) (n w : ℕ) (ready : List ReadyItem) (how : Woken) (trace : List Entry)
-    → end_by_wait how ≡ None → Reckons words left n w trace → Reckons words left (n + 2) (w + 1) (trace ++ e.Wait ready how ∷ [])
-wait_goes words left n w ready how trace goes r = record {
+-- a wait or a glance behind which the run goes on, which counts so much
+looked_on : (words : ServeWords) (left : Option ℕ) (n m w v : ℕ) (ready : List ReadyItem) (how : Woken) (trace : List Entry)
+    → end_by_wait how ≡ None → m ≤ n + 2 * (if is_waited how then 1 else 0) → w + (if is_waited how then 1 else 0) ≤ v
+    → Reckons words left n w trace → Reckons words left m v (trace ++ e.Wait ready how ∷ [])
+looked_on words left n m w v ready how trace goes paid counted r = record {
   listened = listened_on (given words.doors) trace (e.Wait ready how) refl r.listened;
   runs_on = AtEach-grows (λ before y. end_by words.ticks before y ≡ None) trace (e.Wait ready how) r.runs_on goes;
   to_come = same_left words.ticks left trace (trace ++ e.Wait ready how ∷ []) (same_ticks trace (e.Wait ready how) refl) r.to_come;
   turns = (let least = r.turns in rw (count-grows is_move trace (e.Wait ready how), count-grows is_wait trace (e.Wait ready how))
-      (omega (arith, least)));
-  few_waits = (let few = r.few_waits in rw (count-grows is_wait trace (e.Wait ready how)) (omega (arith, few)));
+      (omega (arith, least, paid)));
+  few_waits = (let few = r.few_waits in rw (count-grows is_wait trace (e.Wait ready how)) (omega (arith, few, counted)));
 }
 
-pub wait_on : (words : ServeWords) (left : Option ℕ) (n w : ℕ) (ready : List ReadyItem) (how : Woken) (before behind : Option (List Entry))
-    → behind ≡ with_entries (e.Wait ready how ∷ []) before → end_by_wait how ≡ None → IfSome before (Reckons words left n w)
-    → IfSome behind (Reckons words left (n + 2) (w + 1))
-wait_on words left n w ready how before behind adds goes =
-    on (Reckons words left n w) (Reckons words left (n + 2) (w + 1)) (e.Wait ready how ∷ []) before behind adds
-    (λ trace r. wait_goes words left n w ready how trace goes r)
+-- a wait
+wait_goes : (words : ServeWords) (left : Option ℕ) (n w : ℕ) (ready : List ReadyItem) (how : Woken) (trace : List Entry)
+    → end_by_wait how ≡ None → is_waited how ≡ true → Reckons words left n w trace
+    → Reckons words left (n + 2) (w + 1) (trace ++ e.Wait ready how ∷ [])
+wait_goes words left n w ready how trace goes waited =
+    looked_on words left n (n + 2) w (w + 1) ready how trace goes (rw waited (omega arith)) (rw waited (omega arith))
 
-pub tick_behind : (words : ServeWords) (left : Option ℕ) (n w : ℕ) (ready : List ReadyItem) (before behind : Option (List Entry))
-    → behind ≡ with_entries (e.Wait ready woken.Tick ∷ e.Tick ∷ []) before → IfSome before (Reckons words left n w)
-    → IfSome behind (IsBehindTick words left (n + 2) (w + 1))
-tick_behind words left n w ready before behind adds =
-    on (Reckons words left n w) (IsBehindTick words left (n + 2) (w + 1)) (e.Wait ready woken.Tick ∷ e.Tick ∷ []) before behind adds
+-- a glance
+glance_goes : (words : ServeWords) (left : Option ℕ) (n w : ℕ) (ready : List ReadyItem) (how : Woken) (trace : List Entry)
+    → end_by_wait how ≡ None → is_waited how ≡ false → Reckons words left n w trace
+    → Reckons words left n w (trace ++ e.Wait ready how ∷ [])
+glance_goes words left n w ready how trace goes glanced =
+    looked_on words left n n w w ready how trace goes (rw glanced (omega arith)) (rw glanced (omega arith))
+
+pub wait_on : (words : ServeWords) (left : Option ℕ) (n w : ℕ) (ready : List ReadyItem) (how : Woken) (before behind : Option (List Entry))
+    → behind ≡ with_entries (e.Wait ready how ∷ []) before → end_by_wait how ≡ None → is_waited how ≡ true
+    → IfSome before (Reckons words left n w) → IfSome behind (Reckons words left (n + 2) (w + 1))
+wait_on words left n w ready how before behind adds goes waited =
+    on (Reckons words left n w) (Reckons words left (n + 2) (w + 1)) (e.Wait ready how ∷ []) before behind adds
+    (λ trace r. wait_goes words left n w ready how trace goes waited r)
+
+pub glance_on : (words : ServeWords) (left : Option ℕ) (n w : ℕ) (ready : List ReadyItem) (how : Woken) (before behind : Option (List Entry))
+    → behind ≡ with_entries (e.Wait ready how ∷ []) before → end_by_wait how ≡ None → is_waited how ≡ false
+    → IfSome before (Reckons words left n w) → IfSome behind (Reckons words left n w)
+glance_on words left n w ready how before behind adds goes glanced =
+    on (Reckons words left n w) (Reckons words left n w) (e.Wait ready how ∷ []) before behind adds
+    (λ trace r. glance_goes words left n w ready how trace goes glanced r)
+
+-- a tick behind one of them
+tick_follows : (words : ServeWords) (left : Option ℕ) (n m w v : ℕ) (ready : List ReadyItem) (how : Woken) (before behind : Option (List Entry))
+    → behind ≡ with_entries (e.Wait ready how ∷ e.Tick ∷ []) before
+    → ((trace : List Entry) → Reckons words left n w trace → Reckons words left m v (trace ++ e.Wait ready how ∷ []))
+    → IfSome before (Reckons words left n w) → IfSome behind (IsBehindTick words left m v)
+tick_follows words left n m w v ready how before behind adds goes =
+    on (Reckons words left n w) (IsBehindTick words left m v) (e.Wait ready how ∷ e.Tick ∷ []) before behind adds
     (λ trace r. record {
-      before = trace ++ e.Wait ready woken.Tick ∷ [];
-      trace_is = sym (append_assoc trace (e.Wait ready woken.Tick ∷ []) (e.Tick ∷ []));
-      reckons = wait_goes words left n w ready woken.Tick trace refl r;
+      before = trace ++ e.Wait ready how ∷ [];
+      trace_is = sym (append_assoc trace (e.Wait ready how ∷ []) (e.Tick ∷ []));
+      reckons = goes trace r;
     })
+
+pub tick_behind : (words : ServeWords) (left : Option ℕ) (n w : ℕ) (ready : List ReadyItem) (how : Woken) (before behind : Option (List Entry))
+    → behind ≡ with_entries (e.Wait ready how ∷ e.Tick ∷ []) before → end_by_wait how ≡ None → is_waited how ≡ true
+    → IfSome before (Reckons words left n w) → IfSome behind (IsBehindTick words left (n + 2) (w + 1))
+tick_behind words left n w ready how before behind adds goes waited =
+    tick_follows words left n (n + 2) w (w + 1) ready how before behind adds
+    (λ trace r. wait_goes words left n w ready how trace goes waited r)
+
+pub tick_glanced : (words : ServeWords) (left : Option ℕ) (n w : ℕ) (ready : List ReadyItem) (how : Woken) (before behind : Option (List Entry))
+    → behind ≡ with_entries (e.Wait ready how ∷ e.Tick ∷ []) before → end_by_wait how ≡ None → is_waited how ≡ false
+    → IfSome before (Reckons words left n w) → IfSome behind (IsBehindTick words left n w)
+tick_glanced words left n w ready how before behind adds goes glanced =
+    tick_follows words left n n w w ready how before behind adds
+    (λ trace r. glance_goes words left n w ready how trace goes glanced r)
 
 -- all doors listen
 begins : (doors : List DoorAt) (end : ServeEnd) (trace : List Entry) → Listened doors trace → BeginsWith doors end trace
@@ -188,27 +227,31 @@ begins doors end trace had = record {
 }
 
 -- an entry that ends the run
-pub wait_ends : (words : ServeWords) (left : Option ℕ) (n w : ℕ) (ready : List ReadyItem) (how : Woken) (end : ServeEnd)
+pub wait_ends : (words : ServeWords) (left : Option ℕ) (n w v : ℕ) (ready : List ReadyItem) (how : Woken) (end : ServeEnd)
     (before behind : Option (List Entry)) → behind ≡ with_entries (e.Wait ready how ∷ []) before → end_by_wait how ≡ Some end
-    → w + 1 ≤ words.turns → IfSome before (Reckons words left n w) → IfSome behind (Finishes words end)
-wait_ends words left n w ready how end before behind adds is within =
+    → w + (if is_waited how then 1 else 0) ≤ v → v ≤ words.turns → IfSome before (Reckons words left n w) → IfSome behind (Finishes words end)
+wait_ends words left n w v ready how end before behind adds is counted within =
     on (Reckons words left n w) (Finishes words end) (e.Wait ready how ∷ []) before behind adds
     (λ trace r. by end is trace r)
   where
     few : (trace : List Entry) → waits trace ≤ w → waits (trace ++ e.Wait ready how ∷ []) ≤ words.turns
-    few trace less = rw (count-grows is_wait trace (e.Wait ready how)) (omega (arith, less, within))
+    few trace less = rw (count-grows is_wait trace (e.Wait ready how)) (omega (arith, less, counted, within))
 
     nothing : (how : Woken) → end_by_wait how ≡ Some ends.TurnsSpent → ⊥
     nothing woken.Woke is = cc
     nothing woken.Tick is = cc
     nothing woken.Stop is = cc
     nothing woken.Failed is = cc
+    nothing woken.Glanced is = cc
+    nothing woken.GlanceFailed is = cc
 
     never : (how : Woken) → end_by_wait how ≡ Some ends.NoMemory → ⊥
     never woken.Woke is = cc
     never woken.Tick is = cc
     never woken.Stop is = cc
     never woken.Failed is = cc
+    never woken.Glanced is = cc
+    never woken.GlanceFailed is = cc
 
     by : (end : ServeEnd) → end_by_wait how ≡ Some end → (trace : List Entry) → Reckons words left n w trace
         → Finishes words end (trace ++ e.Wait ready how ∷ [])
@@ -321,17 +364,24 @@ pub ends_so : (words : ServeWords) (end : ServeEnd) (w : ℕ) (told : Option (Li
 ends_so words end w None within had = tt
 ends_so words end w (Some trace) within had = had within
 
--- a turn is paid for by what moved in it, or by the wait
-pub paid_round : (moved : Bool) (t n : ℕ) (r new : Records) → (IsQuiet r → ⊥) → (moved ≡ false → IsQuiet new) → Paid t n r
-    → Paid (t + 1) (turns_after moved n) new
-paid_round true t n r new work quiet (inl enough) = inl (omega (arith, enough))
-paid_round true t n r new work quiet (inr rest) = absurd (work rest.1)
-paid_round false t n r new work quiet (inl enough) = inr (omega (arith, enough), quiet refl)
-paid_round false t n r new work quiet (inr rest) = absurd (work rest.1)
+-- a turn is paid for by what moved in it, or by the wait; the glance behind a round pays nothing
+pub paid_round : (moved : Bool) (t n : ℕ) (r mid new : Records) → (IsQuiet r → ⊥) → (moved ≡ false → IsQuiet mid) → (IsQuiet mid → IsQuiet new)
+    → Paid t n r → Paid (t + 1) (turns_after moved n) new
+paid_round moved t n r mid new work quiet still (inr rest) = absurd (work rest.1)
+paid_round true t n r mid new work quiet still (inl enough) = inl (omega (arith, enough))
+paid_round false t n r mid new work quiet still (inl enough) = inr (omega (arith, enough), still (quiet refl))
 
 pub paid_wait : (t n : ℕ) (r new : Records) → Paid t n r → Paid (t + 1) (n + 2) new
 paid_wait t n r new (inl enough) = inl (omega (arith, enough))
 paid_wait t n r new (inr rest) = inl (let most = rest.0 in omega (arith, most))
+
+-- no try moved something
+pub none_made : (n : ℕ) → not (n == 0) ≡ false → n ≡ 0
+none_made n none = eqb-true n 0 (turned (n == 0) none)
+  where
+    turned : (b : Bool) → not b ≡ false → b ≡ true
+    turned true is = refl
+    turned false is = absurd cc
 
 pub paid_all : (t n : ℕ) (r : Records) → Paid t n r → t ≤ n + 1
 paid_all t n r (inl enough) = omega (arith, enough)
@@ -367,3 +417,17 @@ pub lack_ends : {E : Type 0} (r : Result ServeEnd E) (words : ServeWords) (told 
     → IfSome told (Finishes words ends.NoMemory) → IfSome told (Finishes words (end_of r))
 lack_ends (Ok x) words told none had = absurd none
 lack_ends (Err why) words told none had = had
+
+later : (end : Option ServeEnd) (words : ServeWords) (left : Option ℕ) (n w : ℕ) (trace : List Entry)
+    → TurnedTo end words left n w trace → TurnedTo end words left n (w + 1) trace
+later None words left n w trace r = reckons_fewer words left n n w (w + 1) trace (omega arith) (omega arith) r
+later (Some end) words left n w trace so = λ within. so (omega (arith, within))
+
+-- with a turn more in which it didn't wait
+pub turned_later : {E : Type 0} (r : Result (Option ServeEnd) E) (words : ServeWords) (left : Option ℕ) (n w : ℕ) (told : Option (List Entry))
+    → IfSome told (Turned r words left n w) → IfSome told (Turned r words left n (w + 1))
+turned_later (Ok end) words left n w told =
+    each (TurnedTo end words left n w) (TurnedTo end words left n (w + 1)) told (λ trace so. later end words left n w trace so)
+turned_later (Err why) words left n w told =
+    each (TurnedTo (Some ends.NoMemory) words left n w) (TurnedTo (Some ends.NoMemory) words left n (w + 1)) told
+    (λ trace so. later (Some ends.NoMemory) words left n w trace so)

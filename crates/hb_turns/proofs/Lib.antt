@@ -4,6 +4,7 @@ pub mod Closing
 pub mod Faulting
 pub mod Holding
 pub mod Listening
+pub mod Looking
 pub mod Refusing
 pub mod Resting
 pub mod Serving

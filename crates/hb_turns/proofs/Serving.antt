@@ -99,6 +99,7 @@ nothing_served stands shown words keep n told fresh going is =
     (record {
       awake = nothing_at IsAwake;
       settled = nothing_at (SettledAt stands shown);
+      looks = refl;
       closed = λ l. refl;
       over = record {
         before = [];

@@ -7,13 +7,12 @@ use Rattle.hb_base.specs.declared.door.Door.TheVariants.{Inbound, Outbound, Plai
 use Rattle.hb_world.specs.declared.entry.ReadyItem.{ReadyItem}
 use Rattle.hb_world.specs.declared.entry.ReadyItem.TheVariants as item
 use Rattle.hb_world.specs.declared.entry.Woken.{Woken}
-use Rattle.hb_world.specs.declared.entry.Woken.TheVariants as woken
 use Rattle.hb_base.specs.declared.note.Note.{Note}
 use Rattle.hb_world.specs.declared.entry.Entry.{Entry}
 use Rattle.hb_world.specs.Calls.{with_entries}
 use Rattle.std.proofs.lemmas.List.{append_assoc}
 use Rattle.hb_world.specs.declared.entry.Entry.TheVariants as e
-use Rattle.hb_world.specs.Trace.{same_door}
+use Rattle.hb_world.specs.Trace.{same_door, is_waited}
 use Rattle.hb_world.proofs.TraceLemmas.{any-grows}
 use Rattle.hb_ready.specs.Kept.{Kept, Lists, has}
 use Rattle.hb_ready.specs.Registry.{kept}
@@ -148,7 +147,7 @@ wait_comes stands shown run items how idle quiet trace s = (
   record {
     numbers = tt;
     awake = tt;
-    settled = record {
+    settled = λ waited. record {
       notes = s.matches.notes;
       node = run.node;
       stands_for = s.matches.node;
@@ -162,24 +161,35 @@ wait_comes stands shown run items how idle quiet trace s = (
   },
 )
 
+-- nothing is due: a glance may come
+pub glance_comes : {N : Type 0} (stands : List Note → N → List Entry → Type 0) (shown : N → Shown) (run : Run N) (items : List ReadyItem)
+    (how : Woken) → is_waited how ≡ false
+    → IsIdle (shown run.node) → (trace : List Entry) → Stands stands shown run trace
+    → Stands stands shown run trace × MayCome (shown run.node) trace (e.Wait items how) × Comes stands shown trace (e.Wait items how)
+glance_comes stands shown run items how is idle trace s = (
+  s,
+  (s.going, idle.idle),
+  record { numbers = tt; awake = tt; settled = λ waited. absurd (neither _ is waited) },
+)
+
 -- a wait told a tick
-pub wait_ticks : {N : Type 0} (stands : List Note → N → List Entry → Type 0) (shown : N → Shown) (old new : Run N) (items : List ReadyItem)
-    (before behind : Option (List Entry)) → behind ≡ with_entries (e.Wait items woken.Tick ∷ e.Tick ∷ []) before → new.node ≡ old.node
+pub wait_ticks : {N : Type 0} (stands : List Note → N → List Entry → Type 0) (shown : N → Shown) (old new : Run N) (items : List ReadyItem) (how : Woken)
+    (before behind : Option (List Entry)) → behind ≡ with_entries (e.Wait items how ∷ e.Tick ∷ []) before → new.node ≡ old.node
     → new.taken ≡ old.taken
-    → ((notes : List Note) (trace : List Entry) → MayCome (shown old.node) trace (e.Wait items woken.Tick) → stands notes old.node trace
-    → stands notes old.node (trace ++ e.Wait items woken.Tick ∷ []))
-    → Tracks old.records new.records (e.Wait items woken.Tick)
+    → ((notes : List Note) (trace : List Entry) → MayCome (shown old.node) trace (e.Wait items how) → stands notes old.node trace
+    → stands notes old.node (trace ++ e.Wait items how ∷ []))
+    → Tracks old.records new.records (e.Wait items how)
     → (Watched shown old → WatchedBy (kept new.records.links) (shown old.node))
     → ((trace : List Entry) → Stands stands shown old trace → Stands stands shown old trace
-    × MayCome (shown old.node) trace (e.Wait items woken.Tick) × Comes stands shown trace (e.Wait items woken.Tick))
+    × MayCome (shown old.node) trace (e.Wait items how) × Comes stands shown trace (e.Wait items how))
     → IfSome before (Stands stands shown old) → IfSome behind (Ticked stands shown new)
-wait_ticks stands shown old new items before behind adds node keep rests tracks watch comes had =
-    on (Stands stands shown old) (Ticked stands shown new) (e.Wait items woken.Tick ∷ e.Tick ∷ []) before behind adds
+wait_ticks stands shown old new items how before behind adds node keep rests tracks watch comes had =
+    on (Stands stands shown old) (Ticked stands shown new) (e.Wait items how ∷ e.Tick ∷ []) before behind adds
     (λ trace s. record {
-      before = trace ++ e.Wait items woken.Tick ∷ [];
-      trace_is = sym (append_assoc trace (e.Wait items woken.Tick ∷ []) (e.Tick ∷ []));
-      stands_for = rested stands shown old new (e.Wait items woken.Tick) (Stands stands shown old) (Some trace)
-          (Some (trace ++ e.Wait items woken.Tick ∷ [])) refl node keep rests tracks watch comes s;
+      before = trace ++ e.Wait items how ∷ [];
+      trace_is = sym (append_assoc trace (e.Wait items how ∷ []) (e.Tick ∷ []));
+      stands_for = rested stands shown old new (e.Wait items how) (Stands stands shown old) (Some trace)
+          (Some (trace ++ e.Wait items how ∷ [])) refl node keep rests tracks watch comes s;
     }) had
 
 -- the node is told of a tick

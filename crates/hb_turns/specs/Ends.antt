@@ -9,7 +9,7 @@ use Rattle.hb_world.specs.declared.entry.Way.{Way}
 use Rattle.hb_world.specs.declared.entry.Way.TheVariants as way
 use Rattle.hb_world.specs.declared.entry.Woken.{Woken}
 use Rattle.hb_world.specs.declared.entry.Woken.TheVariants as woken
-use Rattle.hb_world.specs.Trace.{AtEach}
+use Rattle.hb_world.specs.Trace.{AtEach, is_waited}
 use Rattle.hb_turns.specs.declared.served.ServeEnd.{ServeEnd}
 use Rattle.hb_turns.specs.declared.served.ServeEnd.TheVariants as ends
 
@@ -30,6 +30,7 @@ are_spent (Some stated) passed = stated - passed == 0
 abbrev pub end_by_wait : Woken → Option ServeEnd
 end_by_wait woken.Stop = Some ends.Stopped
 end_by_wait woken.Failed = Some ends.WorldFault
+end_by_wait woken.GlanceFailed = Some ends.WorldFault
 end_by_wait _ = None
 
 -- how a call that moved nothing ends the run, if it does: a listen that failed
@@ -78,11 +79,12 @@ abbrev pub is_fault : ServeEnd → Bool
 is_fault ends.WorldFault = true
 is_fault _ = false
 
+-- a wait, and no glance
 abbrev pub is_wait : Entry → Bool
-is_wait (e.Wait ready how) = true
+is_wait (e.Wait ready how) = is_waited how
 is_wait _ = false
 
--- something moved: no call that moved nothing, and no wait
+-- something moved: no call that moved nothing, no wait and no glance
 abbrev pub is_move : Entry → Bool
 is_move (e.Balked way) = false
 is_move (e.Wait ready how) = false

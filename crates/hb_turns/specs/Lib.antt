@@ -2,10 +2,12 @@ pub mod Counted
 pub mod Ends
 pub mod Faults
 pub mod Listens
+pub mod Looks
 pub mod May
 pub mod Notes
 pub mod Reckons
 pub mod Refused
+pub mod RefusedLooks
 pub mod RefusedRuns
 pub mod Rested
 pub mod Served

@@ -1,5 +1,5 @@
 -- What calls add to a trace, and what is counted of a run.
-use Rattle.std.specs.Prelude.{⊤, ◌≡◌, ◌⊎◌, ◌≤◌, ◌<◌, ℕ, ◌+◌, ◌-◌, ◌*◌, ◌==◌, Bool, true, false, List, [], ◌∷◌, ◌++◌, Option, Some, None, map, Result, Ok, Err, OnOk}
+use Rattle.std.specs.Prelude.{⊤, ◌≡◌, ◌⊎◌, ◌≤◌, ◌<◌, ℕ, ◌+◌, ◌-◌, ◌*◌, ◌==◌, not, Bool, true, false, List, [], ◌∷◌, ◌++◌, Option, Some, None, map, Result, Ok, Err, OnOk}
 use Rattle.std.specs.List.{All, list_all}
 use Rattle.hb_base.specs.declared.cause.Cause.{Cause}
 use Rattle.hb_base.specs.declared.note.Note.{Note}
@@ -9,6 +9,7 @@ use Rattle.hb_world.specs.declared.entry.Entry.TheVariants as e
 use Rattle.hb_world.specs.declared.entry.Way.TheVariants as way
 use Rattle.hb_turns.specs.Ends.{ClosesFor, RunsOn, EndsAs, ticks, waits, moves}
 use Rattle.hb_turns.specs.Listens.{DoorAt, given, listen_at, Listened, BeginsWith}
+use Rattle.hb_turns.specs.Looks.{gains}
 use Rattle.hb_turns.specs.Shown.{Shown}
 use Rattle.hb_turns.specs.Stands.{Lacks, Stands, Keeps, IsIdle}
 use Rattle.hb_turns.specs.Woken.{IsQuiet}
@@ -25,12 +26,14 @@ is_plain e.Tick = false
 is_plain (e.Balked (way.Listen door at listening)) = false
 is_plain _ = true
 
--- Entries were added, where the trace is told: no listen, no wait and no tick; where something moved, an entry of it among them
-pub record Adds (moved : Bool) (before behind : Option (List Entry)) : Type 0 where
+-- Entries were added, where the trace is told: no listen, no wait and no tick; where something moved, an entry of it among them;
+-- and so many of them at most are a read that gave bytes or an accept that gave a link
+pub record Adds (moved : Bool) (most : ℕ) (before behind : Option (List Entry)) : Type 0 where
   pub more : List Entry
   pub grows : behind ≡ with_entries more before
   pub plain : list_all is_plain more ≡ true
   pub moves_some : moved ≡ true → 0 < moves more
+  pub few : gains more ≤ most
 
 -- links were closed for this cause, where the trace is told, and nothing else was done
 pub record Closes (cause : Cause) (before behind : Option (List Entry)) : Type 0 where
@@ -43,13 +46,23 @@ abbrev pub moved_by : {E : Type 0} → Result Bool E → Bool
 moved_by (Ok moved) = moved
 moved_by (Err why) = false
 
+-- how many tries moved something; where memory lacked, so many at most
+abbrev pub made_by : {E : Type 0} → ℕ → Result ℕ E → ℕ
+made_by most (Ok made) = made
+made_by most (Err why) = most
+
+-- a try did, but where memory lacked
+abbrev pub some_by : {E : Type 0} → Result ℕ E → Bool
+some_by (Ok made) = not (made == 0)
+some_by (Err why) = false
+
 -- What tries leave that begin where nothing is due: what stood for the trace stands for it again, nothing is due again, and entries were
 -- added
-pub record Tried {E N : Type 0} (stands : List Note → N → List Entry → Type 0) (shown : N → Shown) (result : Result Bool E) (old : Run N)
-    (before : Option (List Entry)) (new : Run N) (behind : Option (List Entry)) : Type 0 where
+pub record Tried {A E N : Type 0} (stands : List Note → N → List Entry → Type 0) (shown : N → Shown) (moved : Bool) (most : ℕ)
+    (result : Result A E) (old : Run N) (before : Option (List Entry)) (new : Run N) (behind : Option (List Entry)) : Type 0 where
   pub keeps : IsIdle (shown old.node) → Keeps stands shown result old before new behind
   pub idle : OnOk result (IsIdle (shown old.node) → IsIdle (shown new.node))
-  pub adds : Adds (moved_by result) before behind
+  pub adds : Adds moved most before behind
 
 -- one tick less, of which so many are to come
 abbrev pub one_less : Option ℕ → Option ℕ
@@ -95,7 +108,7 @@ Begun stands shown (Ok (Some end)) run doors trace = (end ≡ ends.WorldFault) �
 Begun stands shown (Err why) run doors trace = Lacks stands shown run.records trace × StopsAt doors trace
 
 -- Each door that is given listens, no entry ended the run, so many of the stated ticks are to come, it has entries for n turns, and
--- w waits at most
+-- w waits at most. A glance is none of these: it pays for no turn
 pub record Reckons (words : ServeWords) (left : Option ℕ) (n w : ℕ) (trace : List Entry) : Type 0 where
   pub listened : Listened (given words.doors) trace
   pub runs_on : RunsOn words.ticks trace

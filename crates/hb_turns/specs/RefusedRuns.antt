@@ -1,5 +1,5 @@
 -- Small traces that no run leaves, and two that a run does.
-use Rattle.std.specs.Prelude.{◌≡◌, ℕ, false, true, List, [], ◌∷◌, Option, Some, None}
+use Rattle.std.specs.Prelude.{◌≡◌, ℕ, zero, suc, false, true, List, [], ◌∷◌, Option, Some, None}
 use Rattle.hb_base.specs.declared.cause.Cause.TheVariants as cause
 use Rattle.hb_base.specs.declared.door.Door.TheVariants.{Inbound, Outbound}
 use Rattle.hb_base.specs.declared.door.Why.{Why}
@@ -47,6 +47,11 @@ waits = e.Wait [] woken.Woke
 abbrev pub waits_stop : Entry
 waits_stop = e.Wait [] woken.Stop
 
+-- glances that find nothing
+abbrev pub glances : ℕ → List Entry
+glances zero = []
+glances (suc n) = e.Wait [] woken.Glanced ∷ glances n
+
 -- a run that listens at a door and dials a link, stops, and closes it
 abbrev pub good_start : Target → Target → Why → List Entry
 good_start at to why = listen_at true (Inbound, at) ∷ e.Dialled 1 to why ∷ e.Balked (way.Finish 1) ∷ []
@@ -91,6 +96,11 @@ module _ {N : Type 0} (stands : List Note → N → List Entry → Type 0) (show
   abbrev pub GivesUp : Type 0
   GivesUp = (to : Target) (why : Why) (totals : Totals) (left : Leaves N)
       → IsServed stands shown (asks 9 None) (record (stopped totals) { end = ends.TurnsSpent }) left (e.DialFailed to why ∷ waits ∷ []) → ⊥
+
+  -- it glances for its turns, which pays for none
+  abbrev pub GlancesOn : Type 0
+  GlancesOn = (to : Target) (why : Why) (totals : Totals) (left : Leaves N)
+      → IsServed stands shown (asks 9 None) (record (stopped totals) { end = ends.TurnsSpent }) left (e.Dialled 1 to why ∷ glances 9) → ⊥
 
   -- one tick more than were stated
   abbrev pub TicksOnceMore : Type 0

@@ -4,7 +4,7 @@ use Rattle.hb_base.specs.declared.door.Door.{Door}
 use Rattle.hb_base.specs.declared.note.Note.{Note}
 use Rattle.hb_world.specs.declared.entry.Entry.{Entry}
 use Rattle.hb_world.specs.declared.entry.Entry.TheVariants as e
-use Rattle.hb_world.specs.Trace.{AtEach}
+use Rattle.hb_world.specs.Trace.{AtEach, is_waited}
 use Rattle.hb_ready.specs.declared.link.Link.{Link}
 use Rattle.hb_ready.specs.Sight.{asked, known}
 use Rattle.hb_turns.specs.Shown.{Shown}
@@ -31,7 +31,7 @@ pub record IsSettled {N : Type 0} (stands : List Note → N → List Entry → T
   pub links : (l : ℕ) → Rests (known l trace) l (shown node)
 
 abbrev pub SettledAt : {N : Type 0} → (List Note → N → List Entry → Type 0) → (N → Shown) → List Entry → Entry → Type 0
-SettledAt stands shown before (e.Wait ready how) = IsSettled stands shown before
+SettledAt stands shown before (e.Wait ready how) = is_waited how ≡ true → IsSettled stands shown before
 SettledAt stands shown before _ = ⊤
 
 -- at each wait

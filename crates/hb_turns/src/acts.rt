@@ -91,7 +91,7 @@ fn dial<W: World, N: Node>(
 ) -> Result<(), NoMemory>
     ensures keeps { (N.shown run.old.node).dials ≡ Some (to, why)
         → Keeps N.stands N.shown result run.old (W.trace world.old) run.new (W.trace world.new) }
-    ensures adds { Adds false (W.trace world.old) (W.trace world.new) }
+    ensures adds { Adds false 0 (W.trace world.old) (W.trace world.new) }
     ensures stays { StaysWhole (W.seen world.old) (W.seen world.new) }
 {
     run.records.links.reserve()?;
@@ -114,7 +114,7 @@ fn dial<W: World, N: Node>(
 fn make_act<W: World, N: Node>(run: &mut Run<N>, world: &mut W) -> Result<bool, NoMemory>
     ensures keeps { Keeps N.stands N.shown result run.old (W.trace world.old) run.new (W.trace world.new) }
     ensures idle { IfOk result (λ made. made ≡ false → (N.shown run.new.node).idle ≡ true × (N.shown run.new.node).none_closes ≡ true) }
-    ensures adds { Adds false (W.trace world.old) (W.trace world.new) }
+    ensures adds { Adds false 0 (W.trace world.old) (W.trace world.new) }
     ensures stays { StaysWhole (W.seen world.old) (W.seen world.new) }
 {
     match run.node.next_act() {
@@ -141,7 +141,7 @@ fn make_act<W: World, N: Node>(run: &mut Run<N>, world: &mut W) -> Result<bool, 
 fn make_acts<W: World, N: Node>(run: &mut Run<N>, world: &mut W) -> Result<(), NoMemory>
     ensures keeps { Keeps N.stands N.shown result run.old (W.trace world.old) run.new (W.trace world.new) }
     ensures idle { OnOk result ((N.shown run.new.node).idle ≡ true × (N.shown run.new.node).none_closes ≡ true) }
-    ensures adds { Adds false (W.trace world.old) (W.trace world.new) }
+    ensures adds { Adds false 0 (W.trace world.old) (W.trace world.new) }
     ensures stays { StaysWhole (W.seen world.old) (W.seen world.new) }
 {
     for _act in 0..u64::MAX {
@@ -223,7 +223,7 @@ fn hear_all<N: Node>(run: &mut Run<N>) -> Result<(), NoMemory>
 pub(crate) fn carry<W: World, N: Node>(run: &mut Run<N>, world: &mut W) -> Result<(), NoMemory>
     ensures keeps { Keeps N.stands N.shown result run.old (W.trace world.old) run.new (W.trace world.new) }
     ensures idle { OnOk result (IsIdle (N.shown run.new.node)) }
-    ensures adds { Adds false (W.trace world.old) (W.trace world.new) }
+    ensures adds { Adds false 0 (W.trace world.old) (W.trace world.new) }
     ensures stays { StaysWhole (W.seen world.old) (W.seen world.new) }
 {
     make_acts(run, world)?;

@@ -3,7 +3,8 @@
 
 ghost use Rattle.hb_turns.specs.Counted.{SparesAccepted, CountsDialledOnce, SparesStopped, CountsAccepted, AddsEnds, StopsAtMost};
 ghost use Rattle.hb_turns.specs.Refused.{WaitsOverDue, WaitsOverReadable, WaitsOverUnwritten, WaitsUnasked, WaitsUnaccepted, GoodTraceIsSettled};
-ghost use Rattle.hb_turns.specs.RefusedRuns.{StopsUnasked, LeavesOpen, ClosesForLack, GoesOnBehind, WaitsPastTurns, GivesUp, TicksOnceMore};
+ghost use Rattle.hb_turns.specs.RefusedLooks.{ReadsOn, ReadsBetween, ReadsBoth, AcceptsOn, GoodTraceIsLooked, GlanceIsSettled};
+ghost use Rattle.hb_turns.specs.RefusedRuns.{StopsUnasked, LeavesOpen, ClosesForLack, GoesOnBehind, WaitsPastTurns, GivesUp, GlancesOn, TicksOnceMore};
 ghost use Rattle.hb_turns.specs.RefusedRuns.{ListensNowhere, ListensUnasked, ListensInAnotherOrder, LosesNotes, ForgetsNode, GoodRunIsServed};
 ghost use Rattle.hb_turns.specs.RefusedRuns.{LacksTwice, LacksUnallowed, LackIsServed};
 
@@ -23,8 +24,19 @@ pub fn a_good_trace_is_settled<N: Node>()
     ensures { GoodTraceIsSettled N.stands N.shown }
 {}
 
+/// No trace obeys the looks law in which one read or one accept more than was stated stands between two looks; one does with a glance
+/// between, which the settled law allows wherever no act is due.
+pub fn reads_unseen_are_refused<N: Node>()
+    ensures on { ReadsOn }
+    ensures between { ReadsBetween }
+    ensures both { ReadsBoth }
+    ensures accepts { AcceptsOn }
+    ensures good { GoodTraceIsLooked }
+    ensures settled { GlanceIsSettled N.stands N.shown }
+{}
+
 /// No run is over that stops unasked, leaves a link open, closes one for another cause, goes on behind its end, waits or ticks more
-/// often than was stated, or gives up before its turns are spent.
+/// often than was stated, or gives up before its turns are spent, or spends them on glances.
 pub fn wrong_ends_are_refused<N: Node>()
     ensures unasked { StopsUnasked N.stands N.shown }
     ensures left_open { LeavesOpen N.stands N.shown }
@@ -32,6 +44,7 @@ pub fn wrong_ends_are_refused<N: Node>()
     ensures behind { GoesOnBehind N.stands N.shown }
     ensures turns { WaitsPastTurns N.stands N.shown }
     ensures gives_up { GivesUp N.stands N.shown }
+    ensures glances { GlancesOn N.stands N.shown }
     ensures ticks { TicksOnceMore N.stands N.shown }
 {}
 

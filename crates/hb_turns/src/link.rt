@@ -7,6 +7,7 @@ ghost use Rattle.hb_turns.specs.Faults.{StaysWhole};
 ghost use Rattle.hb_turns.specs.May.{MayFinish, MayRead, MayWrite};
 ghost use Rattle.hb_world.specs.Calls.{with_entries, read_entries};
 ghost use Rattle.hb_turns.specs.Rested.{IsCalm, FinishRests, ReadRests, WriteRests, MayNotRead, MayNotWrite};
+ghost use Rattle.hb_turns.specs.Looks.{gained};
 ghost use Rattle.hb_turns.specs.Reckons.{Adds, moved_by};
 ghost use Rattle.hb_turns.specs.Stands.{Keeps, IsIdle};
 
@@ -58,7 +59,7 @@ pub(crate) fn finish<W: World, N: Node>(
     ensures keeps { IsIdle (N.shown run.old.node) → Keeps N.stands N.shown result run.old (W.trace world.old) run.new (W.trace world.new) }
     ensures still { IfOk result (λ moved. moved ≡ false → run.new.node ≡ run.old.node) }
     ensures rests { IfOk result (λ moved. moved ≡ false → IsCalm run.old run.new × FinishRests ((kept run.new.records.links).links link)) }
-    ensures adds { Adds (moved_by result) (W.trace world.old) (W.trace world.new) }
+    ensures adds { Adds (moved_by result) 0 (W.trace world.old) (W.trace world.new) }
     ensures stays { StaysWhole (W.seen world.old) (W.seen world.new) }
 {
     if !may_finish(&run.records.links, link) {
@@ -114,7 +115,7 @@ fn read<W: World, N: Node>(run: &mut Run<N>, world: &mut W, link: u64) -> Result
     ensures still { IfOk result (λ moved. moved ≡ false → run.new.node ≡ run.old.node) }
     ensures rests { IfOk result (λ moved. moved ≡ false → IsCalm run.old run.new
         × ReadRests ((kept run.new.records.links).links link) link (N.shown run.new.node)) }
-    ensures adds { Adds (moved_by result) (W.trace world.old) (W.trace world.new) }
+    ensures adds { Adds (moved_by result) (gained result) (W.trace world.old) (W.trace world.new) }
     ensures stays { StaysWhole (W.seen world.old) (W.seen world.new) }
 {
     if !may_read(&run.records.links, link) {
@@ -161,7 +162,7 @@ pub(crate) fn write<W: World, N: Node>(
     ensures still { IfOk result (λ moved. moved ≡ false → run.new.node ≡ run.old.node) }
     ensures rests { IfOk result (λ moved. moved ≡ false → IsCalm run.old run.new
         × WriteRests ((kept run.new.records.links).links link) link (N.shown run.new.node)) }
-    ensures adds { Adds (moved_by result) (W.trace world.old) (W.trace world.new) }
+    ensures adds { Adds (moved_by result) 0 (W.trace world.old) (W.trace world.new) }
     ensures stays { StaysWhole (W.seen world.old) (W.seen world.new) }
 {
     if !may_write(&run.records.links, link) {
@@ -198,7 +199,7 @@ pub(crate) fn read_last<W: World, N: Node>(
     ensures still { IfOk result (λ moved. moved ≡ false → run.new.node ≡ run.old.node) }
     ensures rests { IfOk result (λ moved. moved ≡ false → IsCalm run.old run.new
         × ReadRests ((kept run.new.records.links).links link) link (N.shown run.new.node)) }
-    ensures adds { Adds (moved_by result) (W.trace world.old) (W.trace world.new) }
+    ensures adds { Adds (moved_by result) (gained result) (W.trace world.old) (W.trace world.new) }
     ensures stays { StaysWhole (W.seen world.old) (W.seen world.new) }
 {
     let came = read(run, world, link)?;

@@ -1,16 +1,18 @@
-//! A round: each door that a wait named accepts at most one link, and each link on the list is tried once.
+//! A round: each door that a wait or a glance named accepts at most one link, and the links on the list are tried once, until 64 of these
+//! tries moved something.
 
-ghost use Rattle.std.specs.Prelude.{◌≡◌, ℕ, ◌∷◌, ◌++◌, [], true, false, drop, length, IfOk, List};
+ghost use Rattle.std.specs.Prelude.{◌≡◌, ◌≤◌, ℕ, ◌∷◌, ◌++◌, [], true, false, drop, length, IfOk, List, if◌then◌else◌};
 ghost use Rattle.hb_world.specs.declared.entry.Entry.{Entry};
 ghost use Rattle.hb_ready.specs.Registry.{kept};
 ghost use Rattle.hb_ready.specs.Kept.{rotated};
 ghost use Rattle.hb_turns.specs.Faults.{StaysWhole};
-ghost use Rattle.hb_turns.specs.Reckons.{Adds, moved_by, Tried};
+ghost use Rattle.hb_turns.specs.Looks.{gained, gained_by};
+ghost use Rattle.hb_turns.specs.Reckons.{Adds, moved_by, made_by, some_by, Tried};
 ghost use Rattle.hb_ready.specs.Sight.{asked_at};
 ghost use Rattle.hb_turns.specs.Rested.{IsCalm, IsDropped, CallRests};
 ghost use Rattle.hb_turns.specs.Settled.{Rests};
-ghost use Rattle.hb_turns.specs.Woken.{IsQuiet};
 ghost use Rattle.hb_turns.specs.Stands.{Keeps, IsIdle, Stands};
+ghost use Rattle.hb_turns.specs.Woken.{IsQuiet};
 
 use crate::acts::{carry, enter};
 use crate::link::{finish, read_last, write};
@@ -18,6 +20,9 @@ use crate::node::Node;
 use crate::run::Run;
 use hb_base::{Door, NoMemory};
 use hb_world::{Born, World};
+
+/// A round ends once so many tries of links moved something.
+const MOST_TRIES: u64 = 64;
 
 /// A call at a door or on a link.
 #[derive(Clone, Copy)]
@@ -33,7 +38,7 @@ fn accept<W: World, N: Node>(run: &mut Run<N>, world: &mut W, door: Door) -> Res
     ensures keeps { IsIdle (N.shown run.old.node) → Keeps N.stands N.shown result run.old (W.trace world.old) run.new (W.trace world.new) }
     ensures still { IfOk result (λ moved. moved ≡ false → run.new.node ≡ run.old.node) }
     ensures rests { IfOk result (λ moved. moved ≡ false → IsCalm run.old run.new × (asked_at run.new.records.asked door ≡ false)) }
-    ensures adds { Adds (moved_by result) (W.trace world.old) (W.trace world.new) }
+    ensures adds { Adds (moved_by result) (gained result) (W.trace world.old) (W.trace world.new) }
     ensures stays { StaysWhole (W.seen world.old) (W.seen world.new) }
 {
     if !run.records.asked.at(door) {
@@ -67,7 +72,7 @@ fn make_call<W: World, N: Node>(
     ensures keeps { IsIdle (N.shown run.old.node) → Keeps N.stands N.shown result run.old (W.trace world.old) run.new (W.trace world.new) }
     ensures still { IfOk result (λ moved. moved ≡ false → run.new.node ≡ run.old.node) }
     ensures rests { IfOk result (λ moved. moved ≡ false → IsCalm run.old run.new × CallRests N.shown call run.new) }
-    ensures adds { Adds (moved_by result) (W.trace world.old) (W.trace world.new) }
+    ensures adds { Adds (moved_by result) (gained_by call result) (W.trace world.old) (W.trace world.new) }
     ensures stays { StaysWhole (W.seen world.old) (W.seen world.new) }
 {
     match call {
@@ -84,7 +89,8 @@ fn try_call<W: World, N: Node>(
     world: &mut W,
     call: Call,
 ) -> Result<bool, NoMemory>
-    ensures tried { Tried N.stands N.shown result run.old (W.trace world.old) run.new (W.trace world.new) }
+    ensures tried { Tried N.stands N.shown (moved_by result) (gained_by call result) result
+        run.old (W.trace world.old) run.new (W.trace world.new) }
     ensures rests { IfOk result (λ moved. moved ≡ false → IsCalm run.old run.new × CallRests N.shown call run.new) }
     ensures stays { StaysWhole (W.seen world.old) (W.seen world.new) }
 {
@@ -98,7 +104,8 @@ fn try_call<W: World, N: Node>(
 
 /// A link is tried: at most one finish, one read and two writes, and behind the read its last words. Says whether anything moved.
 fn try_link<W: World, N: Node>(run: &mut Run<N>, world: &mut W, link: u64) -> Result<bool, NoMemory>
-    ensures tried { Tried N.stands N.shown result run.old (W.trace world.old) run.new (W.trace world.new) }
+    ensures tried { Tried N.stands N.shown (moved_by result) (gained result) result
+        run.old (W.trace world.old) run.new (W.trace world.new) }
     ensures rests { IfOk result (λ moved. moved ≡ false → IsCalm run.old run.new
         × Rests ((kept run.new.records.links).links link) link (N.shown run.new.node)) }
     ensures stays { StaysWhole (W.seen world.old) (W.seen world.new) }
@@ -150,7 +157,8 @@ fn settle<N: Node>(run: &mut Run<N>)
 
 /// The link at the list's front is tried. Says whether anything moved.
 fn try_front<W: World, N: Node>(run: &mut Run<N>, world: &mut W) -> Result<bool, NoMemory>
-    ensures tried { Tried N.stands N.shown result run.old (W.trace world.old) run.new (W.trace world.new) }
+    ensures tried { Tried N.stands N.shown (moved_by result) (gained result) result
+        run.old (W.trace world.old) run.new (W.trace world.new) }
     ensures rests { IfOk result (λ moved. moved ≡ false → IsDropped 1 run.old run.new) }
     ensures stays { StaysWhole (W.seen world.old) (W.seen world.new) }
 {
@@ -162,29 +170,43 @@ fn try_front<W: World, N: Node>(run: &mut Run<N>, world: &mut W) -> Result<bool,
     Ok(moved)
 }
 
-/// Each link on the list is tried once. Says whether anything moved.
-fn try_links<W: World, N: Node>(run: &mut Run<N>, world: &mut W) -> Result<bool, NoMemory>
-    ensures tried { Tried N.stands N.shown result run.old (W.trace world.old) run.new (W.trace world.new) }
-    ensures rests { IfOk result (λ moved. moved ≡ false → IsDropped (length (kept run.old.records.links).listed) run.old run.new) }
-    ensures stays { StaysWhole (W.seen world.old) (W.seen world.new) }
+/// One, where something moved.
+fn once(moved: bool) -> u64
+    ensures { result ≡ (if moved then 1 else 0) }
 {
-    let mut moved = false;
-    for _try in 0..run.records.links.len() {
-        let here = try_front(run, world)?;
-        moved = here | moved;
-    }
-    Ok(moved)
+    if moved { 1 } else { 0 }
 }
 
-/// A round. Says whether anything moved.
-pub(crate) fn round<W: World, N: Node>(run: &mut Run<N>, world: &mut W) -> Result<bool, NoMemory>
-    ensures tried { Tried N.stands N.shown result run.old (W.trace world.old) run.new (W.trace world.new) }
-    ensures rests { IfOk result (λ moved. moved ≡ false → IsQuiet run.new.records) }
+/// The links on the list are tried once, until 64 of the tries moved something. Says how many did.
+fn try_links<W: World, N: Node>(run: &mut Run<N>, world: &mut W) -> Result<u64, NoMemory>
+    ensures tried { Tried N.stands N.shown (some_by result) (made_by 64 result) result
+        run.old (W.trace world.old) run.new (W.trace world.new) }
+    ensures most { IfOk result (λ made. made ≤ 64) }
+    ensures rests { IfOk result (λ made. made ≡ 0 → IsDropped (length (kept run.old.records.links).listed) run.old run.new) }
+    ensures stays { StaysWhole (W.seen world.old) (W.seen world.new) }
+{
+    let mut made = 0;
+    for _try in 0..run.records.links.len() {
+        let moved = try_front(run, world)?;
+        made += once(moved);
+        if made == MOST_TRIES {
+            return Ok(made);
+        }
+    }
+    Ok(made)
+}
+
+/// A round. Says how many tries of doors and links moved something.
+pub(crate) fn round<W: World, N: Node>(run: &mut Run<N>, world: &mut W) -> Result<u64, NoMemory>
+    ensures tried { Tried N.stands N.shown (some_by result) (made_by 67 result) result
+        run.old (W.trace world.old) run.new (W.trace world.new) }
+    ensures most { IfOk result (λ made. made ≤ 67) }
+    ensures rests { IfOk result (λ made. made ≡ 0 → IsQuiet run.new.records) }
     ensures stays { StaysWhole (W.seen world.old) (W.seen world.new) }
 {
     let inbound = try_call(run, world, Call::Accept(Door::Inbound))?;
     let outbound = try_call(run, world, Call::Accept(Door::Outbound))?;
     let plain = try_call(run, world, Call::Accept(Door::Plain))?;
-    let tried = try_links(run, world)?;
-    Ok(inbound | outbound | plain | tried)
+    let links = try_links(run, world)?;
+    Ok(once(inbound) + once(outbound) + once(plain) + links)
 }

@@ -1,8 +1,9 @@
-//! A wait, and what it named.
+//! A wait or a glance, and what it named.
 
 ghost use Rattle.std.specs.Prelude.{◌≡◌, ◌∷◌, ℕ, ◌+◌, [], true, false, None, IfOk, IfSome, OnOk};
 ghost use Rattle.hb_ready.specs.Registry.{kept};
 ghost use Rattle.hb_turns.specs.Faults.{StaysWhole, CountsWhole};
+ghost use Rattle.hb_turns.specs.Looks.{Looks, Looked};
 ghost use Rattle.hb_turns.specs.Reckons.{Reckons, Turned, IsBehindTick, one_less, is_spent};
 ghost use Rattle.hb_turns.specs.Stands.{Keeps, Left, WatchedBy, IsIdle};
 ghost use Rattle.hb_turns.specs.Woken.{Wakes, IsQuiet, Ticked};
@@ -15,7 +16,7 @@ use crate::node::Node;
 use crate::run::{Records, Run};
 use crate::served::ServeEnd;
 use hb_base::NoMemory;
-use hb_world::{Ready, ReadyItem, Waited, World};
+use hb_world::{Glanced, Ready, ReadyItem, Waited, World};
 
 /// A wait named this: the link or the door is to be tried.
 fn wake_item(records: &mut Records, item: ReadyItem)
@@ -64,6 +65,7 @@ fn tick<W: World, N: Node>(
     ensures closes { OnOk result ((N.shown run.old.node).none_closes ≡ true → (N.shown run.new.node).none_closes ≡ true) }
     ensures turned { (words : ServeWords) (n w : ℕ) → IfSome (W.trace world.old) (IsBehindTick words ticks.old n w)
         → IfSome (W.trace world.new) (Turned result words ticks.new n w) }
+    ensures looks { (n : ℕ) → IfSome (W.trace world.old) (Looks n) → IfSome (W.trace world.new) (Looked result n) }
     ensures stays { StaysWhole (W.seen world.old) (W.seen world.new) }
     ensures stops { is_fault_of_turn result ≡ false }
 {
@@ -88,6 +90,7 @@ pub(crate) fn wait<W: World, N: Node>(
     ensures closes { OnOk result (IsIdle (N.shown run.old.node) → (N.shown run.new.node).none_closes ≡ true) }
     ensures turned { (words : ServeWords) (n w : ℕ) → IfSome (W.trace world.old) (Reckons words ticks.old n w)
         → IfSome (W.trace world.new) (Turned result words ticks.new (n + 2) (w + 1)) }
+    ensures looks { (n : ℕ) → IfSome (W.trace world.old) (Looks n) → IfSome (W.trace world.new) (Looked result 0) }
     ensures faults { CountsWhole (W.seen world.old) (W.seen world.new) (is_fault_of_turn result) }
 {
     match world.wait(ready) {
@@ -108,5 +111,38 @@ pub(crate) fn wait<W: World, N: Node>(
             Ok(Some(ServeEnd::WorldFault))
         }
         Waited::NoMemory => Err(NoMemory),
+    }
+}
+
+/// A glance, and what it told done. The end, where it ends the run.
+pub(crate) fn glance<W: World, N: Node>(
+    run: &mut Run<N>,
+    world: &mut W,
+    ready: &mut Ready,
+    ticks: &mut Option<u64>,
+) -> Result<Option<ServeEnd>, NoMemory>
+    ensures keeps { IsIdle (N.shown run.old.node)
+        → Keeps N.stands N.shown result run.old (W.trace world.old) run.new (W.trace world.new) }
+    ensures idle { IfOk result (λ end. end ≡ None → IsIdle (N.shown run.old.node) → IsIdle (N.shown run.new.node)) }
+    ensures closes { OnOk result (IsIdle (N.shown run.old.node) → (N.shown run.new.node).none_closes ≡ true) }
+    ensures turned { (words : ServeWords) (n w : ℕ) → IfSome (W.trace world.old) (Reckons words ticks.old n w)
+        → IfSome (W.trace world.new) (Turned result words ticks.new n w) }
+    ensures looks { (n : ℕ) → IfSome (W.trace world.old) (Looks n) → IfSome (W.trace world.new) (Looked result 0) }
+    ensures faults { CountsWhole (W.seen world.old) (W.seen world.new) (is_fault_of_turn result) }
+{
+    match world.glance(ready) {
+        Glanced::Woke => {
+            wake(&mut run.records, ready.items());
+            Ok(None)
+        }
+        Glanced::Tick => {
+            wake(&mut run.records, ready.items());
+            tick(run, world, ticks)
+        }
+        Glanced::Failed => {
+            wake(&mut run.records, ready.items());
+            Ok(Some(ServeEnd::WorldFault))
+        }
+        Glanced::NoMemory => Err(NoMemory),
     }
 }

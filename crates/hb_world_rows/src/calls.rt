@@ -4,7 +4,7 @@
 //! same address, each close the cause Done. Bytes are written as letters.
 
 use hb_base::{Cause, Door, Ip, Target, Why};
-use hb_world::{Born, Finished, Listened, Read, Ready, ReadyItem, Waited, World, Wrote};
+use hb_world::{Born, Finished, Glanced, Listened, Read, Ready, ReadyItem, Waited, World, Wrote};
 use std::process::Abort;
 
 const ADDRESS: Target = Target {
@@ -80,6 +80,15 @@ fn waited_word(waited: Waited) -> &'static str {
     }
 }
 
+fn glanced_word(glanced: Glanced) -> &'static str {
+    match glanced {
+        Glanced::Woke => "woke",
+        Glanced::Tick => "tick",
+        Glanced::Failed => "failed",
+        Glanced::NoMemory => "no memory",
+    }
+}
+
 fn tell_born(told: &mut String, born: Born) {
     match born {
         Born::New(link) => put_number(told, link),
@@ -142,6 +151,11 @@ fn make_wait<W: World>(world: &mut W, ready: &mut Ready, told: &mut String) {
     tell_items(told, ready.items());
 }
 
+fn make_glance<W: World>(world: &mut W, ready: &mut Ready, told: &mut String) {
+    put(told, glanced_word(world.glance(ready)));
+    tell_items(told, ready.items());
+}
+
 /// A call at a door.
 fn make_at_door<W: World>(world: &mut W, told: &mut String, name: &str, door: Door) {
     if name == "listen" {
@@ -185,6 +199,8 @@ pub fn make_call<W: World>(
     let (at, argument) = cut(arguments, " ");
     if name == "wait" {
         make_wait(world, ready, told);
+    } else if name == "glance" {
+        make_glance(world, ready, told);
     } else if name == "dial" {
         tell_born(told, world.dial(ADDRESS, Why::Discovery));
     } else if name == "listen" || name == "accept" {

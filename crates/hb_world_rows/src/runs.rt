@@ -110,6 +110,10 @@ dial=1, wait=woke, finish 1=balked, wait=stop 1, finish 1=opened, wait=stop
 a tick adds two entries; \
 {'tick':true}; \
 wait=tick, entries=2, trace=tick|, wait=stop, entries=3, trace=tick|
+a glance finds nothing, adds an entry and uses up no line; \
+{'bytes':'61','link':1}|{'wake':true}|{'tick':true}; \
+dial=1, glance=woke, entries=2, read 1 9=balked, wait=woke 1, glance=woke, read 1 9=a, wait=tick, glance=woke, entries=9, \
+wait=stop, glance=woke, entries=11
 calls on a link that is not born; \
 {'bytes':'61','link':1}|{'open':1}|{'wake':true}; \
 wait=woke, finish 1=balked, read 1 9=balked, write 1 xy=balked, entries=4, shut 1=, close 1=, close 0=, entries=4, \

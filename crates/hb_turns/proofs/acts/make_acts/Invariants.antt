@@ -9,6 +9,6 @@ abbrev pub invariant-loop-act : goal.invariant-loop-act
 invariant-loop-act g l = record {
   kept : IfSome (g.W.World.trace l.fn.world) (Stands g.N.Node.stands g.N.Node.shown l.fn.run)
       → IfSome (g.W.World.trace l.world) (Stands g.N.Node.stands g.N.Node.shown l.run);
-  adds : Adds false (g.W.World.trace l.fn.world) (g.W.World.trace l.world);
+  adds : Adds false 0 (g.W.World.trace l.fn.world) (g.W.World.trace l.world);
   stays : StaysWhole (g.W.World.seen l.fn.world) (g.W.World.seen l.world);
 }

@@ -53,7 +53,7 @@ returns g c = λ at to why notes more n m k free going starts waits ends none.
     record {
       awake = five IsAwake listens dials balks waits_stop (e.Closed 1 cause.Stopped) tt tt refl tt tt;
       settled = five (SettledAt g.N.Node.stands g.N.Node.shown) listens dials balks waits_stop (e.Closed 1 cause.Stopped) tt tt tt
-          (record {
+          (λ waited. record {
             notes = notes;
             node = n;
             stands_for = starts;
@@ -62,6 +62,7 @@ returns g c = λ at to why notes more n m k free going starts waits ends none.
             doors = asks_none at to why;
             links = λ l. rests (1 == l) l (g.N.Node.shown n);
           }) tt;
+      looks = refl;
       closed = λ l. over (1 == l);
       over = record {
         before = listens ∷ dials ∷ balks ∷ waits_stop ∷ [];

@@ -27,7 +27,7 @@ returns g c = λ to why notes n free stands_for.
     AtEach-grows P (e.Dialled 1 to why ∷ e.Balked (way.Finish 1) ∷ []) waits
     (AtEach-grows P (e.Dialled 1 to why ∷ []) (e.Balked (way.Finish 1))
     (AtEach-grows P [] (e.Dialled 1 to why) (nothing P) tt) tt)
-    (record {
+    (λ waited. record {
       notes = notes;
       node = n;
       stands_for = stands_for;

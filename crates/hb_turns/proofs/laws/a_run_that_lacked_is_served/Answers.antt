@@ -28,6 +28,7 @@ returns g c = λ to why notes n left free starts.
     record {
       awake = AtEach-grows IsAwake (dials ∷ opens ∷ []) closes (two IsAwake dials opens tt refl) tt;
       settled = AtEach-grows settles (dials ∷ opens ∷ []) closes (two settles dials opens tt tt) tt;
+      looks = refl;
       closed = λ l. over (1 == l);
       over = record {
         before = dials ∷ opens ∷ [];

@@ -12,19 +12,19 @@ asked : true ≡ false → ⊥
 asked is = cc
 
 pub returns-clause-due : goal.returns-clause-due
-returns-clause-due g c = λ due law. let at = law [] _ _ refl in due at.node at.idle
+returns-clause-due g c = λ due law. let at = law [] _ _ refl refl in due at.node at.idle
 
 pub returns-clause-readable : goal.returns-clause-readable
 returns-clause-readable g c = λ to why wants law.
-    let at = law (e.Dialled 1 to why ∷ e.Opened 1 ∷ []) _ _ refl in ⊎_elim awake (wants at.node) (at.links 1).0
+    let at = law (e.Dialled 1 to why ∷ e.Opened 1 ∷ []) _ _ refl refl in ⊎_elim awake (wants at.node) (at.links 1).0
 
 pub returns-clause-unwritten : goal.returns-clause-unwritten
 returns-clause-unwritten g c = λ to why output law.
-    let at = law (e.Dialled 1 to why ∷ e.Opened 1 ∷ []) _ _ refl in ⊎_elim awake (output at.node) (at.links 1).1
+    let at = law (e.Dialled 1 to why ∷ e.Opened 1 ∷ []) _ _ refl refl in ⊎_elim awake (output at.node) (at.links 1).1
 
 pub returns-clause-unasked : goal.returns-clause-unasked
-returns-clause-unasked g c = λ to why law. let at = law (e.Dialled 1 to why ∷ []) _ _ refl in awake (at.links 1)
+returns-clause-unasked g c = λ to why law. let at = law (e.Dialled 1 to why ∷ []) _ _ refl refl in awake (at.links 1)
 
 pub returns-clause-unaccepted : goal.returns-clause-unaccepted
 returns-clause-unaccepted g c = λ law.
-    let at = law (e.Wait (item.Door Inbound ∷ []) woken.Woke ∷ []) _ _ refl in asked (at.doors Inbound)
+    let at = law (e.Wait (item.Door Inbound ∷ []) woken.Woke ∷ []) _ _ refl refl in asked (at.doors Inbound)

@@ -9,8 +9,9 @@ use Rattle.hb_world.specs.declared.entry.Entry.TheVariants as e
 use Rattle.hb_world.specs.declared.entry.Woken.TheVariants as woken
 use Rattle.std.specs.Prelude.{count_by}
 use Rattle.hb_turns.specs.Ends.{ClosesFor, RunsOn, end_by, is_wait, moves, waits as waits_in}
-use Rattle.hb_turns.specs.RefusedRuns.{asks, waits, waits_stop}
+use Rattle.hb_turns.specs.RefusedRuns.{asks, waits, waits_stop, glances}
 use Rattle.hb_turns.specs.declared.served.ServeEnd.TheVariants as ends
+use Rattle.hb_turns.proofs.Adding.{moves-append, waits-append}
 use Rattle.hb_turns.proofs.Refusing.{stops_amid, ends_not, no_end}
 use Rattle.hb_turns.proofs.laws.wrong_ends_are_refused.Goals as goal
 
@@ -116,3 +117,17 @@ few_turns to why (x ∷ y ∷ z ∷ b) c is spends = absurd cc
 pub returns-clause-gives_up : goal.returns-clause-gives_up
 returns-clause-gives_up g c = λ to why totals left served.
     let o = served.over in few_turns to why o.before o.behind o.trace_is o.finishes.spends
+
+-- of entries with one move and no wait no front part has more
+few_in : (xs b c : List Entry) → xs ≡ b ++ c → moves b + 2 * waits_in b ≤ moves xs + 2 * waits_in xs
+few_in xs b c is =
+    subst (λ (es : List Entry). moves b + 2 * waits_in b ≤ moves es + 2 * waits_in es) (sym is)
+    (rw (moves-append b c, waits-append b c) (omega arith))
+
+pub returns-clause-glances : goal.returns-clause-glances
+returns-clause-glances g c = λ to why totals left served.
+    let o = served.over in
+    let spends = o.finishes.spends in
+    let few = few_in (e.Dialled 1 to why ∷ glances 9) o.before o.behind o.trace_is in
+    let all : 9 ≤ moves (e.Dialled 1 to why ∷ glances 9) + 2 * waits_in (e.Dialled 1 to why ∷ glances 9) + 1 = omega (arith, few, spends) in
+    omega (arith, all)

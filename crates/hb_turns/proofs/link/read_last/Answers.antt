@@ -1,17 +1,19 @@
-use Rattle.std.proofs.Common.{true, inr, rules}
-use Rattle.hb_turns.proofs.Adding.{adds_err, adds_less, adds_then, adds_true}
+use Rattle.std.proofs.Common.{true, inr, Ok, rules}
+use Rattle.std.specs.declared.alloc.AllocError.{AllocError}
+use Rattle.hb_turns.specs.declared.round.Call.TheVariants as call
+use Rattle.hb_turns.proofs.Adding.{adds_lacked, adds_less, adds_moved, adds_then}
 use Rattle.hb_turns.proofs.Holding.{left}
 use Rattle.hb_turns.proofs.link.read_last.Goals as goal
 
 pub returns-in_err-write-clause-adds : goal.returns-in_err-write-clause-adds
 returns-in_err-write-clause-adds g c =
-    adds_err c.from_residual-in_err-write.result true _ _ (search rules)
-    (adds_then true _ _ _ (adds_true c.in_ok-came.came _ _ c.if-not-came.false (c.in_ok-came.ensures {u = tt}).adds)
+    adds_lacked {E = AllocError} (call.Read c.args.link) (Ok true) c.from_residual-in_err-write.result true _ _ (search rules)
+    (adds_then true _ _ _ (adds_moved AllocError (call.Read c.args.link) c.in_ok-came.came _ _ c.if-not-came.false (c.in_ok-came.ensures {u = tt}).adds)
     (c.in_err-write.ensures {u = tt}).adds)
 
 pub returns-clause-adds : goal.returns-clause-adds
 returns-clause-adds g c =
-    adds_then true _ _ _ (adds_true c.in_ok-came.came _ _ c.if-not-came.false (c.in_ok-came.ensures {u = tt}).adds)
+    adds_then true _ _ _ (adds_moved AllocError (call.Read c.args.link) c.in_ok-came.came _ _ c.if-not-came.false (c.in_ok-came.ensures {u = tt}).adds)
     (adds_less _ _ _ (c.in_ok-write.ensures {u = tt}).adds)
 
 pub returns-clause-keeps : goal.returns-clause-keeps

@@ -1,47 +1,68 @@
-use Rattle.std.proofs.Common.{rules}
-use Rattle.hb_turns.proofs.Resting.{neither, quiet_round}
-use Rattle.hb_turns.proofs.Trying.{tried_both, tried_err, lacked_first}
+use Rattle.std.proofs.Common.{true, arith, rules}
+use Rattle.hb_turns.proofs.Resting.{quiet_round}
+use Rattle.hb_turns.proofs.Trying.{tried_both, tried_as, tried_err, lacked_first, err_some, err_made, some_all, none_once, once_few}
 use Rattle.hb_turns.proofs.round.round.Goals as goal
 
 pub returns-in_err-inbound-clause-tried : goal.returns-in_err-inbound-clause-tried
 returns-in_err-inbound-clause-tried g c =
-    lacked_first g.N.Node.stands g.N.Node.shown _ _ _ _ _ c.from_residual.result (search rules) (c.in_err-inbound.ensures {u = tt}).tried
+    let r = c.from_residual.result in
+    let most = err_made 67 r (search rules) in
+    lacked_first g.N.Node.stands g.N.Node.shown _ _ _ _ _ _ _ r (search rules) (err_some r (search rules)) (omega (arith, most))
+    (c.in_err-inbound.ensures {u = tt}).tried
 
 pub returns-in_err-outbound-clause-tried : goal.returns-in_err-outbound-clause-tried
 returns-in_err-outbound-clause-tried g c =
-    tried_err g.N.Node.stands g.N.Node.shown _ _ _ _ _ _ _ _ c.from_residual-in_err-outbound.result (search rules)
+    let r = c.from_residual-in_err-outbound.result in
+    let most = err_made 67 r (search rules) in
+    let first = once_few c.in_ok-inbound.inbound in
+    tried_err g.N.Node.stands g.N.Node.shown _ _ _ _ _ _ _ _ _ r (search rules) (err_some r (search rules)) (omega (arith, most, first))
     (c.in_ok-inbound.ensures {u = tt}).tried (c.in_err-outbound.ensures {u = tt}).tried
 
 pub returns-in_err-plain-clause-tried : goal.returns-in_err-plain-clause-tried
 returns-in_err-plain-clause-tried g c =
-    tried_err g.N.Node.stands g.N.Node.shown _ _ _ _ _ _ _ _ c.from_residual-in_err-plain.result (search rules)
-    (tried_both g.N.Node.stands g.N.Node.shown _ _ _ _ _ _ _ _ (c.in_ok-inbound.ensures {u = tt}).tried
-    (c.in_ok-outbound.ensures {u = tt}).tried) (c.in_err-plain.ensures {u = tt}).tried
-
-pub returns-in_err-tried-clause-tried : goal.returns-in_err-tried-clause-tried
-returns-in_err-tried-clause-tried g c =
     let stands = g.N.Node.stands in
     let shown = g.N.Node.shown in
-    tried_err stands shown _ _ _ _ _ _ _ _ c.from_residual-in_err-tried.result (search rules)
-    (tried_both stands shown _ _ _ _ _ _ _ _
-    (tried_both stands shown _ _ _ _ _ _ _ _ (c.in_ok-inbound.ensures {u = tt}).tried (c.in_ok-outbound.ensures {u = tt}).tried)
-    (c.in_ok-plain.ensures {u = tt}).tried) (c.in_err-tried.ensures {u = tt}).tried
+    let r = c.from_residual-in_err-plain.result in
+    let most = err_made 67 r (search rules) in
+    let first = once_few c.in_ok-inbound.inbound in
+    let second = once_few c.in_ok-outbound.outbound in
+    tried_err stands shown _ _ _ _ _ _ _ _ _ r (search rules) (err_some r (search rules)) (omega (arith, most, first, second))
+    (tried_both stands shown _ _ _ _ _ _ true (c.in_ok-inbound.ensures {u = tt}).tried (c.in_ok-outbound.ensures {u = tt}).tried)
+    (c.in_err-plain.ensures {u = tt}).tried
+
+pub returns-in_err-links-clause-tried : goal.returns-in_err-links-clause-tried
+returns-in_err-links-clause-tried g c =
+    let stands = g.N.Node.stands in
+    let shown = g.N.Node.shown in
+    let r = c.from_residual-in_err-links.result in
+    let most = err_made 67 r (search rules) in
+    let first = once_few c.in_ok-inbound.inbound in
+    let second = once_few c.in_ok-outbound.outbound in
+    let third = once_few c.in_ok-plain.plain in
+    tried_err stands shown _ _ _ _ _ _ _ _ _ r (search rules) (err_some r (search rules)) (omega (arith, most, first, second, third))
+    (tried_both stands shown _ _ _ _ _ _ true
+    (tried_both stands shown _ _ _ _ _ _ true (c.in_ok-inbound.ensures {u = tt}).tried (c.in_ok-outbound.ensures {u = tt}).tried)
+    (c.in_ok-plain.ensures {u = tt}).tried) (c.in_err-links.ensures {u = tt}).tried
 
 pub returns-clause-tried : goal.returns-clause-tried
 returns-clause-tried g c =
     let stands = g.N.Node.stands in
     let shown = g.N.Node.shown in
-    tried_both stands shown _ _ _ _ _ _ _ _
-    (tried_both stands shown _ _ _ _ _ _ _ _
-    (tried_both stands shown _ _ _ _ _ _ _ _ (c.in_ok-inbound.ensures {u = tt}).tried (c.in_ok-outbound.ensures {u = tt}).tried)
-    (c.in_ok-plain.ensures {u = tt}).tried) (c.in_ok-tried.ensures {u = tt}).tried
+    let one = c.once.ensures in
+    let two = c.once-2.ensures in
+    let three = c.once-3.ensures in
+    tried_as stands shown _ _ _ _ _ _ _ (some_all c.in_ok-links.links _ _ _ _ _ _ one two three) (omega (arith, one, two, three))
+    (tried_both stands shown _ _ _ _ _ _ true
+    (tried_both stands shown _ _ _ _ _ _ true
+    (tried_both stands shown _ _ _ _ _ _ true (c.in_ok-inbound.ensures {u = tt}).tried (c.in_ok-outbound.ensures {u = tt}).tried)
+    (c.in_ok-plain.ensures {u = tt}).tried) (c.in_ok-links.ensures {u = tt}).tried)
 
 pub returns-clause-rests : goal.returns-clause-rests
 returns-clause-rests g c = λ still.
-    let last = neither _ _ still in
-    let third = neither _ _ last.0 in
-    let each = neither _ _ third.0 in
-    let inbound = (c.in_ok-inbound.ensures {u = tt}).rests each.0 in
-    let outbound = (c.in_ok-outbound.ensures {u = tt}).rests each.1 in
-    let plain = (c.in_ok-plain.ensures {u = tt}).rests third.1 in
-    quiet_round _ _ _ _ inbound.1 outbound.0 outbound.1 plain.0 plain.1 ((c.in_ok-tried.ensures {u = tt}).rests last.1)
+    let one = c.once.ensures in
+    let two = c.once-2.ensures in
+    let three = c.once-3.ensures in
+    let inbound = (c.in_ok-inbound.ensures {u = tt}).rests (none_once _ (omega (arith, still, one))) in
+    let outbound = (c.in_ok-outbound.ensures {u = tt}).rests (none_once _ (omega (arith, still, two))) in
+    let plain = (c.in_ok-plain.ensures {u = tt}).rests (none_once _ (omega (arith, still, three))) in
+    quiet_round _ _ _ _ inbound.1 outbound.0 outbound.1 plain.0 plain.1 ((c.in_ok-links.ensures {u = tt}).rests (omega (arith, still)))

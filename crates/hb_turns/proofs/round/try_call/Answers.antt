@@ -1,5 +1,6 @@
 use Rattle.std.proofs.Common.{true, rules}
-use Rattle.hb_turns.proofs.Adding.{adds_then, adds_true, adds_err}
+use Rattle.std.specs.declared.alloc.AllocError.{AllocError}
+use Rattle.hb_turns.proofs.Adding.{adds_then, adds_moved, adds_lacked}
 use Rattle.hb_turns.proofs.Holding.{left}
 use Rattle.hb_turns.proofs.round.try_call.Goals as goal
 
@@ -9,7 +10,7 @@ returns-in_err-moved-clause-tried g c =
     record {
       keeps = λ idle had. left g.N.Node.stands g.N.Node.shown c.from_residual.result c.make_call.new.run _ (search rules) (made.keeps idle had);
       idle = search rules;
-      adds = adds_err c.from_residual.result _ _ _ (search rules) made.adds;
+      adds = adds_lacked c.args.call _ c.from_residual.result _ _ _ (search rules) made.adds;
     }
 
 pub returns-in_err-carry-clause-tried : goal.returns-in_err-carry-clause-tried
@@ -20,8 +21,8 @@ returns-in_err-carry-clause-tried g c =
       keeps = λ idle had. left g.N.Node.stands g.N.Node.shown c.from_residual-in_err-carry.result c.carry.new.run _ (search rules)
           (carried.keeps (made.keeps idle had));
       idle = search rules;
-      adds = adds_err c.from_residual-in_err-carry.result true _ _ (search rules)
-          (adds_then true _ _ _ (adds_true c.in_ok-moved.moved _ _ c.if-not-moved.false made.adds) carried.adds);
+      adds = adds_lacked c.args.call _ c.from_residual-in_err-carry.result true _ _ (search rules)
+          (adds_then true _ _ _ (adds_moved AllocError c.args.call c.in_ok-moved.moved _ _ c.if-not-moved.false made.adds) carried.adds);
     }
 
 pub returns-clause-tried : goal.returns-clause-tried
@@ -31,5 +32,5 @@ returns-clause-tried g c =
     record {
       keeps = λ idle had. carried.keeps (made.keeps idle had);
       idle = λ idle. carried.idle;
-      adds = adds_then true _ _ _ (adds_true c.in_ok-moved.moved _ _ c.if-not-moved.false made.adds) carried.adds;
+      adds = adds_then true _ _ _ (adds_moved AllocError c.args.call c.in_ok-moved.moved _ _ c.if-not-moved.false made.adds) carried.adds;
     }

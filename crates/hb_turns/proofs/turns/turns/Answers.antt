@@ -4,6 +4,7 @@ use Rattle.hb_turns.specs.declared.served.ServeEnd.{ServeEnd}
 use Rattle.hb_turns.specs.declared.served.ServeEnd.TheVariants as ends
 use Rattle.hb_turns.proofs.Counting.{reckons_adds, lack_finishes, lack_ends, spent_finishes, ends_so, paid_on, paid_all}
 use Rattle.hb_turns.proofs.Faulting.{stays_both, stays_on}
+use Rattle.hb_turns.proofs.Looking.{carry_looks, looks_law, none_fits}
 use Rattle.hb_turns.proofs.turns.turns.Goals as goal
 
 pub loop-turn-init : goal.loop-turn-init
@@ -13,6 +14,7 @@ loop-turn-init g c =
       idle = carried.idle;
       kept = λ had. carried.keeps had;
       reckoned = (0, inl (omega arith), λ words had. reckons_adds words c.args.ticks 0 0 _ _ _ carried.adds had);
+      looked = (0, none_fits _, λ had. carry_looks 0 _ _ carried.adds had);
       stays = carried.stays;
     }
 
@@ -21,6 +23,7 @@ loop-turn-preserved g c =
     let at = c.loop-turn.invariant in
     let turned = c.in_ok-end.ensures {u = tt} in
     let made = turned.turned c.loop-turn._turn at.reckoned.0 at.reckoned.1 in
+    let seen = turned.looks at.looked.0 at.looked.1 in
     record {
       idle = turned.idle c.in-None.is at.idle;
       kept = λ had. turned.keeps at.idle (at.kept had);
@@ -32,6 +35,7 @@ loop-turn-preserved g c =
             (TurnedTo o words c.turn.new.ticks made.0 (c.loop-turn._turn + 1)))
             c.in-None.is (made.2 words c.loop-turn._turn (at.reckoned.2 words had)),
       );
+      looked = (seen.0, seen.1, λ had. seen.2 (at.looked.2 had));
       stays = stays_both _ _ _ at.stays (stays_on _ _ _ c.in-None.is turned.faults);
     }
 
@@ -68,3 +72,18 @@ returns-in-Some-clause-closes g c = (c.in_ok-end.ensures {u = tt}).closes c.loop
 
 pub returns-clause-closes : goal.returns-clause-closes
 returns-clause-closes g c = c.loop-turn.invariant.idle.none_closes
+
+pub returns-in_err-carry-clause-looks : goal.returns-in_err-carry-clause-looks
+returns-in_err-carry-clause-looks g c = λ had. looks_law 0 _ (carry_looks 0 _ _ (c.in_err-carry.ensures {u = tt}).adds had)
+
+pub returns-in_err-end-clause-looks : goal.returns-in_err-end-clause-looks
+returns-in_err-end-clause-looks g c = λ had.
+    let at = c.loop-turn.invariant.looked in ((c.in_err-end.ensures {u = tt}).looks at.0 at.1).2 (at.2 had)
+
+pub returns-in-Some-clause-looks : goal.returns-in-Some-clause-looks
+returns-in-Some-clause-looks g c = λ had.
+    let at = c.loop-turn.invariant.looked in
+    let seen = (c.in_ok-end.ensures {u = tt}).looks at.0 at.1 in looks_law seen.0 _ (seen.2 (at.2 had))
+
+pub returns-clause-looks : goal.returns-clause-looks
+returns-clause-looks g c = λ had. let at = c.loop-turn.invariant.looked in looks_law at.0 _ (at.2 had)

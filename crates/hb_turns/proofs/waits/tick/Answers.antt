@@ -5,6 +5,7 @@ use Rattle.hb_turns.specs.Woken.{Ticked}
 use Rattle.hb_turns.specs.declared.served.ServeEnd.TheVariants as ends
 use Rattle.hb_turns.proofs.Counting.{tick_on, tick_ends, lack_finishes, ends_within, reckons_adds, lack_turns}
 use Rattle.hb_turns.proofs.Holding.{each, left}
+use Rattle.hb_turns.proofs.Looking.{carry_looks, lacked_looks}
 use Rattle.hb_turns.proofs.Waking.{tick_told}
 use Rattle.hb_turns.proofs.waits.tick.Goals as goal
 
@@ -46,3 +47,10 @@ returns-in_err-carry-clause-turned g c = λ words n w had.
     (λ within. lack_finishes words (one_less c.args.ticks.now) n w _ within
     (reckons_adds words (one_less c.args.ticks.now) n w _ _ _ (c.in_err-carry.ensures {u = tt}).adds
     (tick_on words c.args.ticks.now n w _ (search rules) had))))
+
+pub returns-clause-looks : goal.returns-clause-looks
+returns-clause-looks g c = λ n had. carry_looks n _ _ (c.in_ok-carry.ensures {u = tt}).adds had
+
+pub returns-in_err-carry-clause-looks : goal.returns-in_err-carry-clause-looks
+returns-in_err-carry-clause-looks g c = λ n had.
+    lacked_looks c.from_residual.result n _ (search rules) (carry_looks n _ _ (c.in_err-carry.ensures {u = tt}).adds had)

@@ -9,6 +9,7 @@ use Rattle.hb_turns.specs.declared.served.ServeEnd.TheVariants as ends
 use Rattle.hb_turns.proofs.Counting.{wait_on, tick_behind, wait_ends, lack_finishes, reckons_fewer, ends_within, each_ok, on_ok}
 use Rattle.hb_turns.proofs.Faulting.{counts_one, counts_none}
 use Rattle.hb_turns.proofs.Holding.{same, untold, rested}
+use Rattle.hb_turns.proofs.Looking.{look_on, look_ticks, unlooked}
 use Rattle.hb_turns.proofs.Waking.{wakes-tracks, wait_comes, wait_ticks}
 use Rattle.hb_turns.proofs.waits.wait.Goals as goal
 
@@ -51,7 +52,7 @@ returns-in-Tick-clause-keeps g c = λ idle quiet had.
     subst (λ (xs : List ReadyItem). Wakes c.args.run.now.records c.wake-in-Tick.new.records xs) c.items-in-Tick.ensures.items
     c.wake-in-Tick.ensures.wakes in
     let ticked = wait_ticks g.N.Node.stands g.N.Node.shown c.args.run.now (record c.args.run.now { records = c.wake-in-Tick.new.records })
-    c.wait.new.ready (g.W.World.trace c.args.world.now) (g.W.World.trace c.wait.new.self) c.in-Tick.ensures.adds refl refl
+    c.wait.new.ready woken.Tick (g.W.World.trace c.args.world.now) (g.W.World.trace c.wait.new.self) c.in-Tick.ensures.adds refl refl
     (λ notes trace. g.met.N.Node.rests notes c.args.run.now.node trace (e.Wait c.wait.new.ready woken.Tick))
     (wakes-tracks c.args.run.now.records c.wake-in-Tick.new.records c.wait.new.ready woken.Tick wakes)
     (c.wake-in-Tick.ensures.watched (g.N.Node.shown c.args.run.now.node))
@@ -64,12 +65,12 @@ returns-in-NoMemory-clause-keeps g c = λ idle quiet had.
 
 pub returns-in-Woke-clause-turned : goal.returns-in-Woke-clause-turned
 returns-in-Woke-clause-turned g c = λ words n w.
-    wait_on words c.args.ticks.now n w c.wait.new.ready woken.Woke _ _ c.in-Woke.ensures.adds refl
+    wait_on words c.args.ticks.now n w c.wait.new.ready woken.Woke _ _ c.in-Woke.ensures.adds refl refl
 
 pub returns-in-Tick-clause-turned : goal.returns-in-Tick-clause-turned
 returns-in-Tick-clause-turned g c = λ words n w had.
     c.tick.ensures.turned words (n + 2) (w + 1)
-    (tick_behind words c.args.ticks.now n w c.wait.new.ready _ _ c.in-Tick.ensures.adds had)
+    (tick_behind words c.args.ticks.now n w c.wait.new.ready woken.Tick _ _ c.in-Tick.ensures.adds refl refl had)
 
 pub returns-in-Tick-clause-faults : goal.returns-in-Tick-clause-faults
 returns-in-Tick-clause-faults g c =
@@ -78,12 +79,12 @@ returns-in-Tick-clause-faults g c =
 pub returns-in-Stop-clause-turned : goal.returns-in-Stop-clause-turned
 returns-in-Stop-clause-turned g c = λ words n w had.
     ends_within words ends.Stopped (w + 1) _
-    (λ within. wait_ends words c.args.ticks.now n w c.wait.new.ready woken.Stop ends.Stopped _ _ c.in-Stop.ensures.adds refl within had)
+    (λ within. wait_ends words c.args.ticks.now n w (w + 1) c.wait.new.ready woken.Stop ends.Stopped _ _ c.in-Stop.ensures.adds refl (omega arith) within had)
 
 pub returns-in-Failed-clause-turned : goal.returns-in-Failed-clause-turned
 returns-in-Failed-clause-turned g c = λ words n w had.
     ends_within words ends.WorldFault (w + 1) _
-    (λ within. wait_ends words c.args.ticks.now n w c.wait.new.ready woken.Failed ends.WorldFault _ _ c.in-Failed.ensures.adds refl within had)
+    (λ within. wait_ends words c.args.ticks.now n w (w + 1) c.wait.new.ready woken.Failed ends.WorldFault _ _ c.in-Failed.ensures.adds refl (omega arith) within had)
 
 pub returns-in-NoMemory-clause-turned : goal.returns-in-NoMemory-clause-turned
 returns-in-NoMemory-clause-turned g c = λ words n w had.
@@ -128,3 +129,18 @@ returns-in-Failed-clause-closes g c = λ idle. idle.none_closes
 
 pub returns-in-Tick-clause-closes : goal.returns-in-Tick-clause-closes
 returns-in-Tick-clause-closes g c = on_ok c.tick.result _ _ (λ so idle. so idle.none_closes) c.tick.ensures.closes
+
+pub returns-in-Woke-clause-looks : goal.returns-in-Woke-clause-looks
+returns-in-Woke-clause-looks g c = λ n. look_on n c.wait.new.ready woken.Woke _ _ c.in-Woke.ensures.adds
+
+pub returns-in-Stop-clause-looks : goal.returns-in-Stop-clause-looks
+returns-in-Stop-clause-looks g c = λ n. look_on n c.wait.new.ready woken.Stop _ _ c.in-Stop.ensures.adds
+
+pub returns-in-Failed-clause-looks : goal.returns-in-Failed-clause-looks
+returns-in-Failed-clause-looks g c = λ n. look_on n c.wait.new.ready woken.Failed _ _ c.in-Failed.ensures.adds
+
+pub returns-in-Tick-clause-looks : goal.returns-in-Tick-clause-looks
+returns-in-Tick-clause-looks g c = λ n had. c.tick.ensures.looks 0 (look_ticks n c.wait.new.ready woken.Tick _ _ c.in-Tick.ensures.adds had)
+
+pub returns-in-NoMemory-clause-looks : goal.returns-in-NoMemory-clause-looks
+returns-in-NoMemory-clause-looks g c = λ n had. unlooked n _ _ c.in-NoMemory.ensures.adds had
