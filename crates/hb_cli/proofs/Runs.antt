@@ -19,22 +19,27 @@ use Rattle.hb_cli.specs.Ended.{replay_end, ended_as}
 use Rattle.hb_cli.specs.declared.ended.ReplayEnd.{ReplayEnd}
 use Rattle.hb_cli.specs.Replaying.{done_by, done_with, RunsAs, IsRun, flags_of, report_of}
 
-none_lacks : (wanting unkept : Bool) (end : ServeEnd) (is : ReplayEnd) → (if wanting || unkept then None else replay_end end) ≡ Some is
-    → (wanting ≡ false) × (unkept ≡ false) × (replay_end end ≡ Some is)
-none_lacks false false end is same = (refl, refl, same)
-none_lacks false true end is same = absurd (cc)
-none_lacks true unkept end is same = absurd (cc)
+none_lacks : (wanting lacked unkept : Bool) (end : ServeEnd) (is : ReplayEnd)
+    → (if wanting || (lacked || unkept) then None else replay_end end) ≡ Some is
+    → (wanting ≡ false) × (lacked ≡ false) × (unkept ≡ false) × (replay_end end ≡ Some is)
+none_lacks false false false end is same = (refl, refl, refl, same)
+none_lacks false false true end is same = absurd (cc)
+none_lacks false true unkept end is same = absurd (cc)
+none_lacks true lacked unkept end is same = absurd (cc)
 
 -- so ends no run in which memory lacked
 module _ (told : Served) (end : ReplayEnd) (ended : ended_as told ≡ Some end) where
   pub wants_none : told.wanting ≡ false
-  wants_none = (none_lacks told.wanting told.unkept told.end end ended).0
+  wants_none = (none_lacks told.wanting told.totals.lacked told.unkept told.end end ended).0
+
+  pub answers_none : told.totals.lacked ≡ false
+  answers_none = (none_lacks told.wanting told.totals.lacked told.unkept told.end end ended).1
 
   pub keeps_all : told.unkept ≡ false
-  keeps_all = (none_lacks told.wanting told.unkept told.end end ended).1
+  keeps_all = (none_lacks told.wanting told.totals.lacked told.unkept told.end end ended).2
 
   pub ended_so : replay_end told.end ≡ Some end
-  ended_so = (none_lacks told.wanting told.unkept told.end end ended).2
+  ended_so = (none_lacks told.wanting told.totals.lacked told.unkept told.end end ended).3
 
   lacks_none : told.end ≡ ends.NoMemory → ⊥
   lacks_none is = let so : replay_end ends.NoMemory ≡ Some end = ap replay_end (sym is) ∙ ended_so in cc
@@ -53,6 +58,7 @@ module _ (told : Served) (end : ReplayEnd) (ended : ended_as told ≡ Some end) 
             has_notes = t.has_notes;
             totals = t.totals_are;
             not_wanting = sym served.run.wanting_is ∙ wants_none;
+            not_lacking = ap (λ (all : Totals). all.lacked) (sym t.totals_are) ∙ answers_none;
           },
           are_told lacks_none keeps_all,
         )

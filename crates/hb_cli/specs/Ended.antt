@@ -12,6 +12,6 @@ replay_end ends.WorldFault = Some replays.WorldFault
 replay_end ends.TurnsSpent = Some replays.TurnsSpent
 replay_end ends.NoMemory = None
 
--- how a run ended in which memory never lacked; None: it did
+-- how a run ended in which memory never lacked, for a link, for a request or for its notes; None: it did
 abbrev pub ended_as : Served → Option ReplayEnd
-ended_as told = if told.wanting || told.unkept then None else replay_end told.end
+ended_as told = if told.wanting || (told.totals.lacked || told.unkept) then None else replay_end told.end

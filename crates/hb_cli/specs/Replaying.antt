@@ -12,7 +12,7 @@ use Rattle.hb_script.specs.Script.{lines}
 use Rattle.hb_turns.specs.declared.served.Served.{Served}
 use Rattle.hb_turns.specs.Ends.{was_wanting}
 use Rattle.hb_turns.specs.Notes.{held}
-use Rattle.hb_turns.specs.Totals.{totals_of}
+use Rattle.hb_turns.specs.Totals.{sums_of, totals_of}
 use Rattle.hb_serve.specs.Served.{IsServed, HasNotes}
 use Rattle.hb_serve.specs.declared.words.ServeWords.{ServeWords}
 use Rattle.hb_report.specs.Report.{report}
@@ -54,6 +54,7 @@ pub record RunsAs (words : ServeWords) (told : Served) (keep : Option (List Note
   pub has_notes : HasNotes words.config done.notes done.trace
   pub totals : told.totals ≡ totals_of done.trace done.notes
   pub not_wanting : was_wanting done.trace ≡ false
+  pub not_lacking : (sums_of done.notes).lacked ≡ false
 
 -- so a replay that keeps its notes
 abbrev pub IsRun : Replay → ReplayEnd → Done → Type 0

@@ -15,11 +15,11 @@ pub enum ReplayEnd {
     TurnsSpent,
 }
 
-/// How a run ended in which memory never lacked; `None` where it did.
+/// How a run ended in which memory never lacked, for a link, for a request or for its notes; `None` where it did.
 pub fn ended_as(served: &Served) -> Option<ReplayEnd>
     ensures { result ≡ ended_as served.now }
 {
-    if served.wanting || served.unkept {
+    if served.wanting || served.totals.lacked || served.unkept {
         return None;
     }
     match served.end {

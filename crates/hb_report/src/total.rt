@@ -16,6 +16,7 @@ pub(crate) fn total_text(alloc: Global, totals: &Totals) -> Result<String, NoMem
         revoked,
         up,
         down,
+        lacked: _,
     } = *totals;
     format!(in alloc;
         "total: {links} links, {accepted} accepted, {revoked} revoked, {up} up, {down} down\n"

@@ -94,6 +94,7 @@ const NOTHING: Totals = Totals {
     revoked: 0,
     up: 0,
     down: 0,
+    lacked: false,
 };
 
 /// Totals of which no two are the same.
@@ -103,6 +104,7 @@ const TOTALS: Totals = Totals {
     revoked: 2,
     up: 18_446_744_073_709_551_615,
     down: 1,
+    lacked: false,
 };
 
 #[test]

@@ -47,7 +47,7 @@ revoked-grows links n trace x same is =
 -- the totals, from what is counted
 abbrev pub totals_in : ℕ → ℕ → Sums → Totals
 totals_in links revoked sums =
-    record { links = links; accepted = sums.accepted; revoked = revoked; up = sums.up; down = sums.down }
+    record { links = links; accepted = sums.accepted; revoked = revoked; up = sums.up; down = sums.down; lacked = sums.lacked }
 
 pub totals_same : (l m r q : ℕ) (s t : Sums) → l ≡ m → r ≡ q → s ≡ t → totals_in l r s ≡ totals_in m q t
 totals_same l m r q s t links revoked sums =

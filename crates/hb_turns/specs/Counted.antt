@@ -1,5 +1,5 @@
 -- Small traces and notes, and what is counted of them.
-use Rattle.std.specs.Prelude.{◌≡◌, ◌-◌, ◌^◌, [], ◌∷◌, Option}
+use Rattle.std.specs.Prelude.{◌≡◌, true, false, ◌-◌, ◌^◌, [], ◌∷◌, Option}
 use Rattle.hb_base.specs.declared.cause.Cause.TheVariants as cause
 use Rattle.hb_base.specs.declared.door.Door.{Door}
 use Rattle.hb_base.specs.declared.door.Why.{Why}
@@ -27,9 +27,15 @@ abbrev pub CountsAccepted : Type 0
 CountsAccepted = (peer : Peer) (target : Option Target)
     → (sums_of (Verdict 1 1 200 peer target ∷ Verdict 1 3 403 peer target ∷ [])).accepted ≡ 1
 
+-- one of 500 tells that memory was wanting, and one of 503 doesn't
+abbrev pub CountsLacks : Type 0
+CountsLacks = (peer : Peer) (target : Option Target)
+    → ((sums_of (Verdict 1 1 200 peer target ∷ Verdict 1 3 500 peer target ∷ [])).lacked ≡ true)
+    × ((sums_of (Verdict 1 1 503 peer target ∷ [])).lacked ≡ false)
+
 -- the bytes of two tunnels are added, each way by itself
 abbrev pub AddsEnds : Type 0
-AddsEnds = sums_of (End 1 1 cause.Done 2 30 ∷ End 1 3 cause.Revoked 5 40 ∷ []) ≡ record { accepted = 0; up = 7; down = 70 }
+AddsEnds = sums_of (End 1 1 cause.Done 2 30 ∷ End 1 3 cause.Revoked 5 40 ∷ []) ≡ record { accepted = 0; up = 7; down = 70; lacked = false }
 
 -- up to 2 ^ 64 - 1
 abbrev pub StopsAtMost : Type 0

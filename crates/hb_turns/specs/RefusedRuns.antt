@@ -38,7 +38,7 @@ lacked totals = record { end = ends.NoMemory; totals = totals; wanting = true; u
 -- so many links, none revoked, and what is counted in these notes
 abbrev pub with_sums : ℕ → List Note → Totals
 with_sums links notes = let sums = sums_of notes in
-    record { links = links; accepted = sums.accepted; revoked = 0; up = sums.up; down = sums.down }
+    record { links = links; accepted = sums.accepted; revoked = 0; up = sums.up; down = sums.down; lacked = sums.lacked }
 
 -- a wait that names nothing, and one that tells a stop
 abbrev pub waits : Entry

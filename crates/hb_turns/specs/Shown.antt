@@ -88,8 +88,8 @@ MayCome s before (e.Balked (way.Listen door at listening)) = list_all is_listen 
 MayCome s before (e.Balked (way.Accept door)) = IsFree s
 MayCome s before (e.Wait ready how) = IsFree s
 MayCome s before e.Tick = IsFree s
-MayCome s before (e.Shut l) = (lives l before ≡ true) × (was_shut l before ≡ false)
-MayCome s before (e.Closed l cause) = lives l before ≡ true
+MayCome s before (e.Shut l) = ⊥
+MayCome s before (e.Closed l cause) = ⊥
 
 -- A node that was told this entry: for each trace that it stood for, and at whose end the entry may come, it stands for that trace with
 -- the entry, the same notes were taken, and what may be done now stirred

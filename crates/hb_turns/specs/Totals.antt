@@ -1,6 +1,6 @@
 -- What a run did, in numbers.
 use Rattle.std.specs.Prelude.{ℕ, ◌+◌, ◌-◌, ◌^◌, ◌==◌, min, Bool, false, if◌then◌else◌, List, [], ◌∷◌, ◌++◌, Option, Some, None, count_by}
-use Rattle.std.specs.List.{sum_by}
+use Rattle.std.specs.List.{list_any, sum_by}
 use Rattle.hb_base.specs.declared.cause.Cause.TheVariants.{Revoked}
 use Rattle.hb_base.specs.declared.note.Note.{Note}
 use Rattle.hb_base.specs.declared.note.Note.TheVariants.{Verdict, End}
@@ -21,6 +21,11 @@ abbrev pub is_accepted : Note → Bool
 is_accepted (Verdict link stream status peer target) = status == 200
 is_accepted (End link stream cause up down) = false
 
+-- a tunnel was answered 500, for want of memory, by this note
+abbrev pub is_lacking : Note → Bool
+is_lacking (Verdict link stream status peer target) = status == 500
+is_lacking (End link stream cause up down) = false
+
 -- the bytes that a tunnel had passed up when it ended
 abbrev pub up_of : Note → ℕ
 up_of (Verdict link stream status peer target) = 0
@@ -37,6 +42,7 @@ sums_of notes = record {
   accepted = counted (count_by is_accepted notes);
   up = counted (sum_by up_of notes);
   down = counted (sum_by down_of notes);
+  lacked = list_any is_lacking notes;
 }
 
 -- a link that lives, and was dialled
@@ -70,8 +76,9 @@ totals_of trace notes = record {
   revoked = counted (revoked trace);
   up = (sums_of notes).up;
   down = (sums_of notes).down;
+  lacked = (sums_of notes).lacked;
 }
 
 -- of a run that did nothing
 abbrev pub no_totals : Totals
-no_totals = record { links = 0; accepted = 0; revoked = 0; up = 0; down = 0 }
+no_totals = record { links = 0; accepted = 0; revoked = 0; up = 0; down = 0; lacked = false }

@@ -1,7 +1,7 @@
 //! What the settled law and the record of a run refuse, of whatever node: small wrong traces, and good ones; and what is counted of
 //! small traces and notes. Each is the contract of a function that does nothing.
 
-ghost use Rattle.hb_turns.specs.Counted.{SparesAccepted, CountsDialledOnce, SparesStopped, CountsAccepted, AddsEnds, StopsAtMost};
+ghost use Rattle.hb_turns.specs.Counted.{SparesAccepted, CountsDialledOnce, SparesStopped, CountsAccepted, CountsLacks, AddsEnds, StopsAtMost};
 ghost use Rattle.hb_turns.specs.Refused.{WaitsOverDue, WaitsOverReadable, WaitsOverUnwritten, WaitsUnasked, WaitsUnaccepted, GoodTraceIsSettled};
 ghost use Rattle.hb_turns.specs.RefusedLooks.{ReadsOn, ReadsBetween, ReadsBoth, AcceptsOn, GoodTraceIsLooked, GlanceIsSettled};
 ghost use Rattle.hb_turns.specs.RefusedRuns.{StopsUnasked, LeavesOpen, ClosesForLack, GoesOnBehind, WaitsPastTurns, GivesUp, GlancesOn, TicksOnceMore};
@@ -87,6 +87,7 @@ pub fn dialled_links_alone_are_revoked()
 /// Of the notes the verdicts of 200 are counted, and the bytes of the tunnels that ended are added, each way up to 2^64 - 1.
 pub fn notes_are_counted()
     ensures accepted { CountsAccepted }
+    ensures lacks { CountsLacks }
     ensures ends { AddsEnds }
     ensures most { StopsAtMost }
 {}

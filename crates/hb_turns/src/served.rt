@@ -27,6 +27,8 @@ pub struct Totals {
     pub up: u64,
     /// The bytes that the tunnels that ended had passed down.
     pub down: u64,
+    /// A tunnel was answered 500: memory was wanting for it.
+    pub lacked: bool,
 }
 
 /// A run that ended.
@@ -53,6 +55,7 @@ impl Served {
                 revoked: 0,
                 up: 0,
                 down: 0,
+                lacked: false,
             },
             wanting: false,
             unkept: false,

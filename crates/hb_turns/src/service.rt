@@ -88,6 +88,7 @@ fn serve_run<W: World, N: Node>(
             revoked: run.records.revoked,
             up: run.taken.sums.up,
             down: run.taken.sums.down,
+            lacked: run.taken.sums.lacked,
         },
         wanting: run.records.wanting,
         unkept: noted.is_err(),

@@ -2,7 +2,7 @@
 
 ghost use Rattle.std.specs.Prelude.{◌≡◌, ◌++◌, ◌∷◌, [], List, cond};
 ghost use Rattle.hb_base.specs.declared.note.Note.{Note};
-ghost use Rattle.hb_turns.specs.Totals.{is_accepted, up_of, down_of, sums_of};
+ghost use Rattle.hb_turns.specs.Totals.{is_accepted, is_lacking, up_of, down_of, sums_of};
 
 use hb_base::Note;
 
@@ -15,6 +15,8 @@ pub struct Sums {
     pub up: u64,
     /// The bytes that the tunnels that ended had passed down.
     pub down: u64,
+    /// A tunnel was answered 500: memory was wanting for it.
+    pub lacked: bool,
 }
 
 /// How many tunnels were let through, by this note.
@@ -47,6 +49,16 @@ fn down_of(note: &Note) -> u64
     }
 }
 
+/// A tunnel was answered 500, by this note.
+fn is_lacking(note: &Note) -> bool
+    ensures { result ≡ is_lacking note.now }
+{
+    match note {
+        Note::Verdict { status: 500, .. } => true,
+        _ => false,
+    }
+}
+
 impl Sums {
     /// Those of no note.
     pub fn new() -> Sums
@@ -56,6 +68,7 @@ impl Sums {
             accepted: 0,
             up: 0,
             down: 0,
+            lacked: false,
         }
     }
 
@@ -66,5 +79,6 @@ impl Sums {
         self.accepted = self.accepted.saturating_add(accepted_of(note));
         self.up = self.up.saturating_add(up_of(note));
         self.down = self.down.saturating_add(down_of(note));
+        self.lacked = self.lacked || is_lacking(note);
     }
 }

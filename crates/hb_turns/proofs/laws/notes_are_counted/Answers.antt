@@ -4,6 +4,9 @@ use Rattle.hb_turns.proofs.laws.notes_are_counted.Goals as goal
 pub returns-clause-accepted : goal.returns-clause-accepted
 returns-clause-accepted c = λ peer target. refl
 
+pub returns-clause-lacks : goal.returns-clause-lacks
+returns-clause-lacks c = λ peer target. (refl, refl)
+
 pub returns-clause-ends : goal.returns-clause-ends
 returns-clause-ends c = refl
 
