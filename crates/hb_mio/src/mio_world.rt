@@ -11,7 +11,7 @@ use crate::doors::{Doors, address_of};
 use crate::sockets::Sockets;
 use crate::watch::{Watch, begin};
 use hb_base::{Cause, Door, Or, Target, Why};
-use hb_world::{Born, Finished, Listened, Read, Ready, Waited, World, Wrote};
+use hb_world::{Born, Finished, Glanced, Listened, Read, Ready, Waited, World, Wrote};
 use mio::net::TcpStream;
 use std::alloc::Global;
 use std::io::{self, ErrorKind};
@@ -22,8 +22,8 @@ use std::time::Clock;
 ///
 /// Of the system's events it takes each once: a link is registered both ways at its birth, and never again. A read behind one that
 /// didn't fill its buffer balks without a call of the system, until the next event, unless the last one told that the peer sends
-/// no more; and so does a finish without an event. A wait answers Tick once a second has passed since the last one, with what is
-/// ready, and never Stop. A door whose accept failed is named at the next tick, since no event tells again of what waits there.
+/// no more; and so does a finish without an event. A wait or a glance answers Tick once a second has passed since the last
+/// one, with what is ready, and a wait never Stop. A door whose accept failed is named at the next tick, since no event tells again of what waits there.
 /// A call that a signal interrupted is made again, up to 16 times. No memory is taken after the first listen, dial or wait, but
 /// for the table of links, and for that before a connection is accepted or begun.
 #[derive(Drop)]
@@ -110,17 +110,20 @@ impl<R: Net + Clock + Drop> MioWorld<R> {
         self.bear(stream).map_err(Or::Fault)
     }
 
-    /// Waits, and adds what is ready. Tells whether a tick is due.
-    fn look(&mut self, ready: &mut Ready) -> Result<bool, Or<io::Error>>
+    /// Waits, or doesn't, and adds what is ready. Tells whether a tick is due.
+    fn look(&mut self, ready: &mut Ready, waits: bool) -> Result<bool, Or<io::Error>>
         ensures stays { Stays (seen_of self.old) (seen_of self.new) }
     {
         begin(&mut self.watch, self.alloc, &self.net)?;
         let Some(watch) = &mut self.watch else {
             unreachable!()
         };
-        watch
-            .wait(&self.net, &mut self.doors, &mut self.sockets, ready)
-            .map_err(Or::Fault)
+        let looked = if waits {
+            watch.wait(&self.net, &mut self.doors, &mut self.sockets, ready)
+        } else {
+            watch.glance(&self.net, &mut self.doors, &mut self.sockets, ready)
+        };
+        looked.map_err(Or::Fault)
     }
 }
 
@@ -196,13 +199,26 @@ impl<R: Net + Clock + Drop> World for MioWorld<R> {
 
     fn wait(&mut self, ready: &mut Ready) -> Waited {
         ready.clear();
-        match self.look(ready) {
+        match self.look(ready, true) {
             Ok(true) => Waited::Tick,
             Ok(false) => Waited::Woke,
             Err(_) => {
                 ready.clear();
                 self.faults = self.faults.saturating_add(1);
                 Waited::Failed
+            }
+        }
+    }
+
+    fn glance(&mut self, ready: &mut Ready) -> Glanced {
+        ready.clear();
+        match self.look(ready, false) {
+            Ok(true) => Glanced::Tick,
+            Ok(false) => Glanced::Woke,
+            Err(_) => {
+                ready.clear();
+                self.faults = self.faults.saturating_add(1);
+                Glanced::Failed
             }
         }
     }

@@ -63,10 +63,9 @@ impl Watch {
         self.poll.registry()
     }
 
-    /// Waits for events, at most until the next tick is due.
-    fn poll(&mut self, clock: &impl Clock) -> io::Result<()> {
-        let left = Duration::from_secs(TICK).saturating_sub(self.ticked.elapsed(clock)?);
-        self.poll.poll(&mut self.events, Some(left))
+    /// How long it is until the next tick is due.
+    fn left(&self, clock: &impl Clock) -> io::Result<Duration> {
+        Ok(Duration::from_secs(TICK).saturating_sub(self.ticked.elapsed(clock)?))
     }
 
     /// Whether a tick is due; then the next is due a second from now.
@@ -79,8 +78,32 @@ impl Watch {
         Ok(due)
     }
 
-    /// Waits until something is ready or a tick is due, and adds what is ready. Tells whether a tick is due. At a tick the doors
+    /// Waits until something is ready, at most so long, and adds what is ready. Tells whether a tick is due. At a tick the doors
     /// are ready too at which connections may wait that no event tells.
+    ///
+    /// Errors: what the system tells.
+    fn gather(
+        &mut self,
+        clock: &impl Clock,
+        most: Duration,
+        doors: &mut Doors,
+        sockets: &mut Sockets,
+        ready: &mut Ready,
+    ) -> io::Result<bool>
+        ensures { SameFaults sockets.old.by_number sockets.new.by_number }
+    {
+        self.poll.poll(&mut self.events, Some(most))?;
+        tell_all(&self.events, doors, sockets, ready);
+        let due = self.tick(clock)?;
+        if due {
+            knock(doors, Door::Inbound, ready);
+            knock(doors, Door::Outbound, ready);
+            knock(doors, Door::Plain, ready);
+        }
+        Ok(due)
+    }
+
+    /// Waits until something is ready or a tick is due, and adds what is ready. Tells whether a tick is due.
     ///
     /// Errors: what the system tells.
     pub fn wait(
@@ -92,15 +115,23 @@ impl Watch {
     ) -> io::Result<bool>
         ensures { SameFaults sockets.old.by_number sockets.new.by_number }
     {
-        self.poll(clock)?;
-        tell_all(&self.events, doors, sockets, ready);
-        let due = self.tick(clock)?;
-        if due {
-            knock(doors, Door::Inbound, ready);
-            knock(doors, Door::Outbound, ready);
-            knock(doors, Door::Plain, ready);
-        }
-        Ok(due)
+        let left = self.left(clock)?;
+        self.gather(clock, left, doors, sockets, ready)
+    }
+
+    /// Adds what is ready now, and doesn't wait. Tells whether a tick is due.
+    ///
+    /// Errors: what the system tells.
+    pub fn glance(
+        &mut self,
+        clock: &impl Clock,
+        doors: &mut Doors,
+        sockets: &mut Sockets,
+        ready: &mut Ready,
+    ) -> io::Result<bool>
+        ensures { SameFaults sockets.old.by_number sockets.new.by_number }
+    {
+        self.gather(clock, Duration::from_secs(0), doors, sockets, ready)
     }
 }
 
