@@ -25,6 +25,7 @@ use std::time::Clock;
 /// no more; and so does a finish without an event. A wait or a glance answers Tick once a second has passed since the last one,
 /// with what is ready, and a wait never Stop. A door whose accept failed is named at the next tick, since no event tells again of
 /// what waits there.
+/// A connection of a tunnel's own bytes that is closed for another cause than `Done` is ended by a RST, and each other one by a FIN.
 /// A call that a signal interrupted is made again, up to 16 times. No memory is taken after the first listen, dial or wait, but
 /// for the table of links, and for that before a connection is accepted or begun.
 #[derive(Drop)]
@@ -67,12 +68,12 @@ impl<R: Net + Clock + Drop> MioWorld<R> {
     }
 
     /// A connection for which room was taken, as a link.
-    fn bear(&mut self, stream: TcpStream) -> io::Result<u64>
+    fn bear(&mut self, stream: TcpStream, is_raw: bool) -> io::Result<u64>
         requires { 0 < spare self.old.sockets.by_number }
         ensures stays { Stays (seen_of self.old) (seen_of self.new) }
     {
         match &self.watch {
-            Some(watch) => self.sockets.bear(watch.registry(), stream),
+            Some(watch) => self.sockets.bear(watch.registry(), stream, is_raw),
             None => Err(io::Error::from(ErrorKind::NotFound)),
         }
     }
@@ -85,7 +86,8 @@ impl<R: Net + Clock + Drop> MioWorld<R> {
         let Some(stream) = self.doors.accept(door).map_err(Or::Fault)? else {
             return Ok(None);
         };
-        let link = self.bear(stream).map_err(Or::Fault)?;
+        let is_raw = !matches!(door, Door::Inbound);
+        let link = self.bear(stream, is_raw).map_err(Or::Fault)?;
         Ok(Some(link))
     }
 
@@ -102,13 +104,13 @@ impl<R: Net + Clock + Drop> MioWorld<R> {
     }
 
     /// A connection that is begun, as a link.
-    fn connect(&mut self, to: Target) -> Result<u64, Or<io::Error>>
+    fn connect(&mut self, to: Target, why: Why) -> Result<u64, Or<io::Error>>
         ensures stays { Stays (seen_of self.old) (seen_of self.new) }
     {
         begin(&mut self.watch, self.alloc, &self.net)?;
         self.sockets.reserve()?;
         let stream = TcpStream::connect(&self.net, address_of(to)).map_err(Or::Fault)?;
-        self.bear(stream).map_err(Or::Fault)
+        self.bear(stream, is_raw(why)).map_err(Or::Fault)
     }
 
     /// Waits, or doesn't, and adds what is ready. Tells whether a tick is due.
@@ -125,6 +127,14 @@ impl<R: Net + Clock + Drop> MioWorld<R> {
             watch.glance(&self.net, &mut self.doors, &mut self.sockets, ready)
         };
         looked.map_err(Or::Fault)
+    }
+}
+
+/// Whether a link that is dialled so carries a tunnel's own bytes, without frames of HTTP/2.
+fn is_raw(why: Why) -> bool {
+    match why {
+        Why::Discovery | Why::Gateway { .. } => false,
+        Why::Upstream { .. } | Why::Plain { .. } | Why::Direct { .. } => true,
     }
 }
 
@@ -167,8 +177,8 @@ impl<R: Net + Clock + Drop> World for MioWorld<R> {
         birth(&mut self.birth_faults, born)
     }
 
-    fn dial(&mut self, to: Target, _why: Why) -> Born {
-        match self.connect(to) {
+    fn dial(&mut self, to: Target, why: Why) -> Born {
+        match self.connect(to, why) {
             Ok(link) => Born::New(link),
             Err(Or::NoMemory) => Born::NoMemory,
             Err(Or::Fault(_)) => {
@@ -194,8 +204,8 @@ impl<R: Net + Clock + Drop> World for MioWorld<R> {
         self.sockets.shut(link);
     }
 
-    fn close(&mut self, link: u64, _cause: Cause) {
-        self.sockets.close(link);
+    fn close(&mut self, link: u64, cause: Cause) {
+        self.sockets.close(link, matches!(cause, Cause::Done));
     }
 
     fn wait(&mut self, ready: &mut Ready) -> Waited {

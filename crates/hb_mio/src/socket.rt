@@ -8,9 +8,11 @@ ghost use Rattle.hb_world.specs.declared.world.Read.TheVariants as reads;
 
 use hb_world::{Finished, Read, Wrote};
 use mio::event::Event;
+use libc::net::{_SS_SIZE, connect};
 use mio::net::TcpStream;
 use std::io::{self, ErrorKind};
 use std::net::Shutdown;
+use std::os::fd::AsRawFd;
 
 /// So often a call that a signal interrupted is made again.
 pub(crate) const TRIES: u32 = 16;
@@ -19,6 +21,8 @@ pub(crate) const TRIES: u32 = 16;
 #[derive(Drop)]
 pub(crate) struct Socket {
     pub stream: TcpStream,
+    /// Its bytes are a tunnel's own, without frames of HTTP/2.
+    pub is_raw: bool,
     /// Something changed since the last finish.
     pub changed: bool,
     /// The last event said that the peer sends no more, or that the connection failed.
@@ -80,12 +84,13 @@ fn finish_of(stream: &TcpStream) -> Finished {
 }
 
 impl Socket {
-    /// A connection of which nothing is known.
-    pub fn new(stream: TcpStream) -> Socket
+    /// A connection of which nothing else is known.
+    pub fn new(stream: TcpStream, is_raw: bool) -> Socket
         ensures { result.faults ≡ 0 }
     {
         Socket {
             stream,
+            is_raw,
             changed: false,
             ending: false,
             dry: false,
@@ -164,6 +169,13 @@ impl Socket {
             let _ = self.stream.shutdown(Shutdown::Write);
         }
     }
+}
+
+/// Ends a connection by a RST, so that its peer doesn't take what came for the whole (RFC 9113 section 8.5); what waits to be sent is
+/// dropped. Linux does so where a socket is connected to an address of no family, AF_UNSPEC, whose number is 0.
+pub(crate) fn reset(stream: &TcpStream) {
+    let nowhere = [0; _SS_SIZE];
+    let _ = unsafe { connect(stream.as_raw_fd(), &nowhere, 16) };
 }
 
 /// Whether an event tells that the peer sends no more, or that the connection failed.

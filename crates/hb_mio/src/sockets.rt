@@ -6,7 +6,7 @@ ghost use Rattle.hb_mio.specs.Faults.{faults_at, SameFaults, OthersSame};
 ghost use Rattle.hb_world.specs.Answers.{finish_failed, read_failed, write_failed, ReadsWithin, WritesWithin};
 ghost use Rattle.hb_world.specs.Seen.{CountsUp};
 
-use crate::socket::Socket;
+use crate::socket::{Socket, reset};
 use hb_base::NoMemory;
 use hb_world::{Finished, Read, Wrote};
 use mio::net::TcpStream;
@@ -59,7 +59,7 @@ impl Sockets {
     /// Adds a connection, for which room was taken, as the next link. From now on each change of it is told, once.
     ///
     /// Errors: what the system tells, and then the connection is closed.
-    pub fn bear(&mut self, registry: &Registry, mut stream: TcpStream) -> io::Result<u64>
+    pub fn bear(&mut self, registry: &Registry, mut stream: TcpStream, is_raw: bool) -> io::Result<u64>
         requires { 0 < spare self.old.by_number }
         ensures same { SameFaults self.old.by_number self.new.by_number }
     {
@@ -69,7 +69,7 @@ impl Sockets {
         stream.set_nodelay(true)?;
         let both = Interest::READABLE | Interest::WRITABLE;
         registry.register(&mut stream, Token(number as usize), both)?;
-        match self.by_number.insert(number, Socket::new(stream)) {
+        match self.by_number.insert(number, Socket::new(stream, is_raw)) {
             Ok(_) => {}
             Err(_) => unreachable!(),
         }
@@ -136,10 +136,15 @@ impl Sockets {
         }
     }
 
-    /// Closes a link, and forgets its count.
-    pub fn close(&mut self, link: u64)
+    /// Closes a link, and forgets its count. One of a tunnel's own bytes that isn't done is ended by a RST.
+    pub fn close(&mut self, link: u64, is_done: bool)
         ensures others { OthersSame link self.old.by_number self.new.by_number }
     {
-        self.by_number.remove(&link);
+        if let Some(socket) = self.by_number.remove(&link)
+            && socket.is_raw
+            && !is_done
+        {
+            reset(&socket.stream);
+        }
     }
 }
