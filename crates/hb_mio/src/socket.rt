@@ -7,8 +7,8 @@ ghost use Rattle.hb_world.specs.declared.world.Finished.TheVariants as finished;
 ghost use Rattle.hb_world.specs.declared.world.Read.TheVariants as reads;
 
 use hb_world::{Finished, Read, Wrote};
-use mio::event::Event;
 use libc::net::{_SS_SIZE, connect};
+use mio::event::Event;
 use mio::net::TcpStream;
 use std::io::{self, ErrorKind};
 use std::net::Shutdown;

@@ -59,7 +59,12 @@ impl Sockets {
     /// Adds a connection, for which room was taken, as the next link. From now on each change of it is told, once.
     ///
     /// Errors: what the system tells, and then the connection is closed.
-    pub fn bear(&mut self, registry: &Registry, mut stream: TcpStream, is_raw: bool) -> io::Result<u64>
+    pub fn bear(
+        &mut self,
+        registry: &Registry,
+        mut stream: TcpStream,
+        is_raw: bool,
+    ) -> io::Result<u64>
         requires { 0 < spare self.old.by_number }
         ensures same { SameFaults self.old.by_number self.new.by_number }
     {
