@@ -1,7 +1,7 @@
 #!/usr/bin/env python3
-"""Prints crates/hb_rows/src/answers.rt: words, messages in hexadecimal digits, and the answer.
+"""Prints tests/check/answers.runs: words, messages in hexadecimal digits, and the answer.
 
-    python3 bench/tables/answer_rows.py > crates/hb_rows/src/answers.rt && (cd crates/hb_rows && rt fmt)
+    python3 bench/tables/answer_rows.py > tests/check/answers.runs
 
 The script only spells the messages. Every answer stands in its row and was worked out by hand: the target is known
 where a workload of the network that is asked (the one of the empty name where none is) has its address, and of several the
@@ -9,6 +9,7 @@ one with the smallest resource name by its bytes is on the node that is asked. A
 earlier one; a response removes names first; a resource that is refused leaves what is held.
 """
 
+import run_table
 from spelling import *
 
 SEVEN = (10, 0, 0, 7)
@@ -40,13 +41,10 @@ def denies(name):
 
 
 U1 = addresses(at("u1", SEVEN))
-AS_C = "check|--node|n1|SOURCE|IDENTITY|TARGET|"
-AS_NONE = "check|--node|n1|SOURCE|none|TARGET|"
-OF_X = "check|--node|n1|--network|x|SOURCE|none|TARGET|"
 BAD = ("u1", b"")  # a record without a kind
 BAD_POLICY = ("a/p", number(4, 2))  # an action that isn't known
 
-# Title, words (by name, or each ended by `|`), messages, answer.
+# Title, words (by name, or each ended by `|`), messages, answer. SOURCE is 10.0.0.9, TARGET 10.0.0.7:8080.
 ROWS = [
     ("one workload, and a peer without an identity", "AS_NONE", ["WORKLOAD"], "allow"),
     ("one workload, and a peer with an identity", "AS_C", ["WORKLOAD"], "allow"),
@@ -164,18 +162,24 @@ ROWS = [
 ]
 
 
+def asked(words):
+    """The words, by their name or as they stand."""
+    if "|" not in words:
+        return getattr(run_table, words)
+    return words.replace("SOURCE", "10.0.0.9").replace("TARGET", "10.0.0.7:8080").split("|")[:-1]
+
+
+HEAD = ["The target that is known, and its answer. bench/tables/answer_rows.py prints this file: it spells the messages, and has each",
+        "answer as it was worked out by hand."]
+
+
 def main():
-    lines = []
+    table = run_table.Table(HEAD, MESSAGES)
     for title, words, messages, answer in ROWS:
-        asked = {"AS_C": AS_C, "AS_NONE": AS_NONE, "OF_X": OF_X}.get(words, words)
-        lines.append(f"# {title[0].upper()}{title[1:]}.")
-        lines.append(f"{asked}; {shown(messages)}; {answer}")
-    print("//! The target that is known, and its answer. bench/tables/answer_rows.py prints this file: it spells the messages, and has each")
-    print("//! answer as it was worked out by hand.")
-    print()
-    print("/// Words, the input, and the answer. A line that begins with `#` says what the next one is.")
-    print('pub const ANSWERS: &str = "\\')
-    print("\n".join(lines) + '";')
+        table.begin(title)
+        table.octets(shown(messages))
+        table.run(asked(words), 0, answer + "\n")
+    table.print()
 
 
 if __name__ == "__main__":

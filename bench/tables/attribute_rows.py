@@ -1,7 +1,7 @@
 #!/usr/bin/env python3
-"""Prints crates/hb_rows/src/attributes.rt: policies over all ten attributes of a match, and what they answer to eight connections.
+"""Prints tests/check/attributes.runs: policies over all ten attributes of a match, and what they answer to eight connections.
 
-    python3 bench/tables/attribute_rows.py > crates/hb_rows/src/attributes.rt && (cd crates/hb_rows && rt fmt)
+    python3 bench/tables/attribute_rows.py > tests/check/attributes.runs
 
 The answers come from `fires` below, which is written from the rules alone and knows nothing of the program: it keeps the
 values as Python's own and asks `ipaddress` for networks. Where a row has answers of its own, they were worked out by hand,
@@ -11,6 +11,7 @@ and the script ends if the two differ.
 import ipaddress
 import sys
 
+import run_table
 from spelling import *
 
 # Values: a string match is its kind and text, a prefix an address with a length, a port a number.
@@ -288,25 +289,20 @@ def judge(title, listed, wanted):
     return answers
 
 
+HEAD = ["Policies over all ten attributes of a match, and what they answer eight connections. bench/tables/attribute_rows.py prints this file."]
+ASKED = {f"connection{at}": f"check --node n1 {' '.join(connection)}" for at, connection in enumerate(CONNECTIONS, 1)}
+
+
 def main():
-    lines = []
+    table = run_table.Table(HEAD, {**MESSAGES, **ASKED})
     for place, (title, listed, wanted) in enumerate(rows()):
         answers = judge(title, listed, wanted)
         message = policies(*(spelled_policy(f"p{i}", *p, place % 2 == 0) for i, p in enumerate(listed)))
-        lines.append(f"# {title[0].upper()}{title[1:]}.")
-        lines.append(f"{shown(['DUAL_STACK', message])}; {answers}")
-    print("//! Policies over all ten attributes of a match, and what they answer. bench/tables/attribute_rows.py prints this file.")
-    print()
-    print("/// The connections of which each policy is asked: the words of each, ended by `|`.")
-    print(f"pub const CONNECTIONS: [&str; {len(CONNECTIONS)}] = [")
-    for source, identity, target in CONNECTIONS:
-        print(f'    "check|--node|n1|{source}|{identity}|{target}|",')
-    print("];")
-    print()
-    print("/// The input, and the answer to each connection: `+` for allow, `-` for deny. A line that begins with `#` says what the")
-    print("/// next one is.")
-    print('pub const ATTRIBUTES: &str = "\\')
-    print("\n".join(lines) + '";')
+        table.begin(title)
+        table.octets(shown(["DUAL_STACK", message]))
+        for words, sign in zip(ASKED.values(), answers, strict=True):
+            table.run(words, 0, {"+": "allow\n", "-": "deny\n"}[sign])
+    table.print()
 
 
 if __name__ == "__main__":

@@ -1,11 +1,11 @@
 #!/usr/bin/python3
-"""Prints crates/hb_gateway_rows/src/rows.rt: runs of `hbone replay --outbound` whose links go by gateways, each with its status, its whole
+"""Prints tests/replay/gateways.runs: runs of `hbone replay --outbound` whose links go by gateways, each with its status, its whole
 output and its error text.
 
 bench/tables/tunnel_model.py, which knows the pages alone, gives the answers; those of the first rows are worked out by hand too. A row has
 to end the same by every choice that the pages leave open.
 
-    python3 bench/tables/gateway_rows.py > crates/hb_gateway_rows/src/rows.rt
+    python3 bench/tables/gateway_rows.py > tests/replay/gateways.runs
 """
 import random
 
@@ -20,6 +20,7 @@ import tunnel_rows
 from model_rows import answer
 from modelled_rows import DENY, PING, TICK, ask, literal, policies, settings, workloads
 from outbound_rows import ACCEPT, BASE, DOOR, GATE, SOURCE, front, serves, service, told, workload
+from run_table import Table
 from spelling import span, text
 from tunnel_rows import PREFACE, SET, WAKE, came, data, frame, goaway, headers, on, padded, reset, room, single, window, woken
 
@@ -531,33 +532,21 @@ def all_rows():
 
 # The table
 
-HEAD = """//! Runs of `hbone replay --outbound` by gateways. bench/tables/gateway_rows.py prints this file: a plain model answers.
-//!
-//! The notation is that of the tables of hb_replay_rows; a name in angle brackets stands for its part below.
-"""
-_PLANE, _TOLD = outbound._PLANE, outbound._TOLD
+HEAD = ["Runs of `hbone replay --outbound` by gateways. bench/tables/gateway_rows.py prints this file: a plain model answers."]
 PARTS = {
-    "usual": " ".join(replay_rows.USUAL_WORDS), "door": DOOR, "alldoors": outbound.ALL, "mesh": BASE, "accept": ACCEPT,
-    "tunnels": modelled.ACCEPT, "meshplane": _PLANE[:_PLANE.index("total")], "meshtold": _TOLD[:_TOLD.index("closed 1")],
-    "front": front(GATE).hex(), "asked": begun(), "told": opened(3, OK), "open3": on("open", 3), "set": SET.hex(), "ok": OK.hex(),
-    "ping": PING.hex(), "deny": DENY.hex(), "client": tunnel_model.CLIENT.hex(), "wake": WAKE, "piece": '{"bytes":"',
+    "usual": " ".join(replay_rows.USUAL_WORDS), "front": front(GATE).hex(), "set": SET.hex(), "ok": OK.hex(), "ping": PING.hex(),
+    "deny": DENY.hex(), "client": tunnel_model.CLIENT.hex(),
     "tofront": tunnel_model.put_front(tunnel_model.address_of(bytes([10, 0, 0, 9])), tunnel_model.target_of("10.0.0.6:15008"), None).hex(),
-    "asks1": (headers(1, b"\x20\x02\x07CONNECT\x01\x0d10.0.0.6:8080")).hex(), "gate3": "link 3 gateway 10.0.0.6:15008: received ",
-    "out2": "link 2 outbound: received ", "out4": "link 4 outbound: received ", "yes2": "verdict 2/0 200 10.0.0.9 - 10.1.0.2:80\n",
-    "no2": "verdict 2/0 502 10.0.0.9 - 10.1.0.2:80\n",
+    "asks1": (headers(1, b"\x20\x02\x07CONNECT\x01\x0d10.0.0.6:8080")).hex(),
+    "mesh": BASE, "meshtold": outbound.PARTS["meshtold"], "told": begun() + opened(3, OK),
 }
-PARTS.update((f"w{n}", f'","link":{n}}}\n{WAKE}\n') for n in range(1, 6))
-
-
-def spelled(text):
-    return model_rows.by_name(text, model_rows.named(PARTS))
 
 
 def main():
-    lines = [model_rows.line_of(spelled, *each) for each in all_rows()]
-    print(HEAD, end="")
-    model_rows.print_parts("PARTS", PARTS)
-    model_rows.print_runs("GATEWAYS", lines)
+    table = Table(HEAD, PARTS)
+    for each in all_rows():
+        model_rows.put_row(table, *each)
+    table.print()
 
 
 if __name__ == "__main__":

@@ -1,18 +1,18 @@
 #!/usr/bin/python3
-"""Prints crates/hb_make_rows/src/rows.rt: the scripts that `make` prints for one, two and three tunnels, and the reports of their runs.
+"""Prints tests/make/made.runs: the scripts that `make` prints for one, two and three tunnels, and the reports of their runs.
 
 The scripts are written from docs/FORMATS.md ("Made scripts") alone: frames by RFC 9113, header blocks by RFC 7541, the header of the
 front by the PROXY protocol's text, messages by bench/tables/discovery.proto. The reports are counted: a tunnel has two links, tunnel i
 sends i octets up and 3 down, and the update leaves the tunnels with an even number.
 
-    python3 bench/tables/make_rows.py > crates/hb_make_rows/src/rows.rt
+    python3 bench/tables/make_rows.py > tests/make/made.runs
 """
 import ipaddress
 
+from run_table import Table
 from spelling import ADDRESS, AUTHORIZATION, exact, grpc, number, resource, span
 
-HEAD = """//! Scripts that `make` prints, and the reports of their runs. bench/tables/make_rows.py prints this file.
-"""
+HEAD = ["Scripts that `make` prints, and the reports of their runs. bench/tables/make_rows.py prints this file, from docs/FORMATS.md alone."]
 PEER = "spiffe://cluster.local/ns/a/sa/c"
 
 
@@ -101,27 +101,31 @@ def report(n):
     return f"total: {1 + 2 * n} links, {n} accepted, {revoked} revoked, {up} up, {3 * n} down"
 
 
-def literal_of(text):
-    """A literal of octets, cut into lines."""
-    text = text.replace("\\", "\\\\").replace('"', '\\"').replace("\n", "\\n")
-    out, at = [], 0
-    while at < len(text):
-        end = min(at + 118, len(text))
-        while text[end - 1] == "\\" or (end < len(text) and text[end] == " "):
-            end -= 1
-        out.append(text[at:end])
-        at = end
-    return 'b"\\\n' + "\\\n".join(out) + '"'
+PARTS = {
+    "opening": OPENING.hex(), "settings": SETTINGS.hex(), "connect8080": connect(8080).hex(), "connect9090": connect(9090).hex(),
+    "workload": data(response(ADDRESS, "u1", WORKLOAD, "x1")).hex(), "one_peer": data(response(AUTHORIZATION, "a/p", ONE_PEER, "x2")).hex(),
+    "one_port": data(response(AUTHORIZATION, "a/p", ONE_PORT, "x7", version="2")).hex(),
+}
+REPLAY = "replay --node n1 --id z1 --discovery 10.0.0.1:15010 --inbound 0.0.0.0:15008 --brief"
 
 
 def main():
-    print(HEAD)
-    for n, name in ((1, "ONE"), (2, "TWO"), (3, "THREE")):
-        print(f"/// The script of {name.lower()}.")
-        print(f"pub const {name}: &[u8] = {literal_of(chr(10).join(made(n)) + chr(10))};\n")
-    rows = "".join(f"{n}; {report(n)}\n" for n in (1, 3, 1000))
-    print("/// Rows of how many tunnels, and the report of the run of their script.")
-    print(f"pub const REPORTS: &[u8] = {literal_of(rows)};")
+    table = Table(HEAD, PARTS)
+    for n in (1, 2, 3):
+        table.begin(f"a script of {n}, printed")
+        table.run(f"make {n}", 0, "\n".join(made(n)) + "\n")
+    for n in (1, 3, 1000):
+        table.begin(f"a script of {n}, printed and replayed")
+        table.source(f"make {n}", "$")
+        table.run(REPLAY, 0, report(n) + "\n")
+        table.begin(f"a script of {n}, run")
+        table.run(f"make {n} --run", 0, report(n) + "\n")
+    table.begin("the flag in front")
+    table.run("make --run 3", 0, report(3) + "\n")
+    table.begin("an input, which isn't read")
+    table.source("/")
+    table.run("make 2", 0, "\n".join(made(2)) + "\n")
+    table.print()
 
 
 main()

@@ -1,10 +1,9 @@
-"""Runs of `hbone replay` as the second, plain model ends them, and how they are written as the lines of a table; for the scripts beside
-this one."""
-import re
-
+"""Runs of `hbone replay` as the second, plain model ends them, and how they are put into a table; for the scripts beside this one."""
 import replay_rows
 import tunnel_model
-from tunnel_rows import marked
+
+# In how many ways a run is cut by chance
+CUTS = 50
 
 
 # Runs
@@ -34,49 +33,18 @@ def traced(rows, longest, most):
     return told
 
 
-# Lines
+# Rows
 
 
-def repeated(text):
-    """Octets, and short rows, that stand many times as how often they do."""
-    for many in (r"((?:[^|<>]{1,60}\|){1,4}?)\1{9,}", r"((?:[0-9a-f]{2}){1,40}?)\1{9,}"):
-        text = re.sub(many, lambda found: f"<{len(found[0]) // len(found[1])}*{found[1]}>", text)
-    return text
-
-
-def named(parts):
-    """What stands for each part, and its name."""
-    return [(marked(content), name) for name, content in parts.items()]
-
-
-def by_name(text, parts):
-    """The text, in which these parts stand by their names."""
-    text = repeated(marked(text))
-    for content, name in sorted(parts, reverse=True, key=lambda part: len(part[0])):
-        pieces = re.split("(<.*?>)", text)
-        text = "".join(piece if piece.startswith("<") else piece.replace(content, f"<{name}>") for piece in pieces)
-    return text
-
-
-def line_of(spelled, name, script, words, want=None):
-    """The line of a run, whose output by hand is this where it was worked out."""
+def put_row(table, name, script, words, want=None, cuts=0):
+    """Puts a run into a table, whose output by hand is this where it was worked out."""
     assert is_determined(words, script), name
     status, output, error = answer(words, script)
     assert want is None or output == want, f"{name}:\n{output}\nby hand:\n{want}"
-    return f"{name}; {spelled(' '.join(['<usual>', *words]))}; {spelled(script)}; {status}; {spelled(output)}; {spelled(error)}"
+    table.script(name, ["replay", *asked(words)], script, status, output, error, cuts)
 
 
-# Tables
-
-
-def print_parts(name, parts):
-    replay_rows.table(name, "The name and the text of each part.", [f"{name} {marked(text)}" for name, text in parts.items()])
-
-
-def print_cut(name, lines):
-    replay_rows.table(name, "Runs that end the same however what comes on the first two links is cut.", lines)
-
-
-def print_runs(name, lines):
-    for number, part in enumerate(replay_rows.halves(lines, 24000), 1):
-        replay_rows.table(f"{name}_{number}", "Runs.", part)
+def put_cut(table, runs, words):
+    """Puts runs into a table that end the same however what comes on the first two links is cut."""
+    for name, script in runs:
+        put_row(table, f"{name}, cut", script, words, cuts=CUTS)

@@ -1,12 +1,12 @@
 #!/usr/bin/python3
-"""Prints crates/hb_replay_rows/src/modelled.rt: runs of `hbone replay --inbound`, each with its status, its whole output and its error
+"""Prints tests/replay/modelled.runs: runs of `hbone replay --inbound`, each with its status, its whole output and its error
 text.
 
 bench/tables/tunnel_model.py, which knows the pages alone, gives the answers. A row has to end the same by every choice that the pages
 leave open. Behind the scripts that are written here stand some by chance, of one seed: those that take the model where no earlier row
 took it, each without the events that it can do without.
 
-    python3 bench/tables/modelled_rows.py > crates/hb_replay_rows/src/modelled.rt
+    python3 bench/tables/modelled_rows.py > tests/replay/modelled.runs
 """
 import random
 import re
@@ -16,6 +16,7 @@ import model_rows
 import replay_rows
 import tunnel_model
 import tunnel_rows
+from run_table import Table
 from spelling import ADDRESS, AUTHORIZATION, policy, response, text, workload
 from tunnel_rows import FRONT, OPENING, PEER, PREFACE, SET, WAKE, came, data, frame, headers, on, padded, reset, room, single, window
 from tunnel_rows import woken
@@ -621,30 +622,10 @@ def by_chance(known, wanted, seeds=400):
 
 # The table
 
-HEAD = """//! Runs of `hbone replay --inbound`. bench/tables/modelled_rows.py prints this file: a plain model of the pages answers.
-//!
-//! The notation is that of the other runs; a name in angle brackets stands for its part below, or for one of theirs.
-"""
-replay_rows.name_parts()
-PARTS = {
-    "then4": '","link":4}\n' + WAKE + '\n{"bytes":"', "start": ACCEPT + '{"bytes":"' + (FRONT + PREFACE + SET).hex(),
-    "asked": ACCEPT + '{"bytes":"' + (OPENING + ask()).hex(), "nine": ask(3, b"10.0.0.7:9090").hex(),
-    "plane": tunnel_rows.control(), "in2": "link 2 inbound: received ", "up1": "link 3 upstream 10.0.0.7:8080 of 2/1: received ",
-    "up3": "link 4 upstream 10.0.0.7:9090 of 2/3: received ", "yes1": tunnel_rows.verdict(200),
-    "yes3": tunnel_rows.verdict(200, 3, "10.0.0.7:9090"), "deny": DENY.hex(), "allow": ALLOW.hex(), "gone": GONE.hex(), "back": BACK.hex(),
-    "welcome": WELCOME.hex(), "open3": on("open", 3), "open4": on("open", 4),
-}
-PARTS.update((f"w{n}", f'","link":{n}}}\n{WAKE}\n') for n in range(1, 6))
-BORROWED = [(replay_rows.PARTS, name) for name in ("usual", "base", "based", "address", "policy", "wake", "piece", "ping")]
-BORROWED += [(tunnel_rows.PARTS, name) for name in tunnel_rows.PARTS]
-assert not {*PARTS} & {*replay_rows.PARTS, *tunnel_rows.PARTS}
-
-
-NAMED = model_rows.named(PARTS) + [(parts[name].replace('"', "'").replace("\n", "|"), name) for parts, name in BORROWED]
-
-
-def spelled(text):
-    return model_rows.by_name(text, NAMED)
+HEAD = ["Runs of `hbone replay --inbound`. bench/tables/modelled_rows.py prints this file: a plain model of the pages answers."]
+PARTS = {**tunnel_rows.PARTS, "nine": ask(3, b"10.0.0.7:9090").hex(), "deny": DENY.hex(), "allow": ALLOW.hex(), "gone": GONE.hex(),
+         "back": BACK.hex(), "address": replay_rows.PARTS["address"], "policy": replay_rows.PARTS["policy"],
+         "ping": PING.hex()}
 
 
 def is_told(script, words):
@@ -653,30 +634,30 @@ def is_told(script, words):
     return len(tunnel_model.replay(words, script.encode())[1]) < 3000 and tunnel_model.is_determined(words, script.encode())
 
 
-def line_of(name, script, words):
+def put(table, name, script, words, cuts=0):
     assert tunnel_model.is_determined(WORDS + words, script.encode()), name
     if name in TOLD and is_told(script, words):
         words = words + ["--trace"]
-    status, output, error = tunnel_model.replay(WORDS + words, script.encode())
-    return f"{name}; {' '.join(['<usual> <door>', *words])}; {spelled(script)}; {status}; {spelled(output)}; {spelled(error)}"
+    table.script(name, ["replay", *WORDS, *words], script, *tunnel_model.replay(WORDS + words, script.encode()), cuts)
 
 
-def lines():
+def all_rows():
     written()
     known = set()
     for _, script, words in ROWS:
         known |= arcs([script], words)
     for seed, script in by_chance(known, MOST_BY_CHANCE):
         row(f"by chance, {seed}", script)
-    return [line_of(*each) for each in ROWS]
+    return ROWS
 
 
 def main():
-    rows = lines()
-    print(HEAD, end="")
-    model_rows.print_parts("MODELLED_PARTS", PARTS)
-    model_rows.print_cut("CUT", [line_of(*each) for each in cut_runs()])
-    model_rows.print_runs("MODELLED", rows)
+    table = Table(HEAD, PARTS)
+    for row_ in all_rows():
+        put(table, *row_)
+    for name, script, words in cut_runs():
+        put(table, f"{name}, cut", script, words, model_rows.CUTS)
+    table.print()
 
 
 if __name__ == "__main__":

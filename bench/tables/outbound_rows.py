@@ -1,11 +1,10 @@
 #!/usr/bin/python3
-"""Prints crates/hb_replay_rows/src/outbound.rt: runs of `hbone replay --outbound`, each with its status, its whole output and its error
-text.
+"""Prints tests/replay/outbound.runs: runs of `hbone replay --outbound`, each with its status, its whole output and its error text.
 
 bench/tables/tunnel_model.py, which knows the pages alone, gives the answers; those of the first rows are worked out by hand too. A row has
 to end the same by every choice that the pages leave open.
 
-    python3 bench/tables/outbound_rows.py > crates/hb_replay_rows/src/outbound.rt
+    python3 bench/tables/outbound_rows.py > tests/replay/outbound.runs
 """
 import ipaddress
 
@@ -17,6 +16,7 @@ import routes
 import tunnel_rows
 from model_rows import answer
 from modelled_rows import ALLOW, DENY, TICK, ask, policies, workloads
+from run_table import Table
 from tunnel_rows import WAKE, came, data, on, room, single, woken
 
 DOOR = "--outbound 0.0.0.0:15001"
@@ -337,32 +337,20 @@ def traces():
 
 # The table
 
-HEAD = """//! Runs of `hbone replay --outbound`. bench/tables/outbound_rows.py prints this file: a plain model of the pages answers.
-//!
-//! The notation is that of the other runs; a name in angle brackets stands for its part below, or for one of theirs.
-"""
-_PLANE, _TOLD = answer(DOOR.split(), BASE)[1], answer([*DOOR.split(), "--trace"], BASE)[1]
-PARTS = {
-    "outb": ACCEPT, "odoor": DOOR, "alldoors": ALL, "frontweb": front().hex(), "mesh": BASE,
-    "meshplane": _PLANE[:_PLANE.index("total")], "meshtold": _TOLD[:_TOLD.index("closed 1")],
-    "direct3": "link 3 direct 10.0.0.4:8080 of 2: received ", "out2": "link 2 outbound: received ",
-    "web2": "verdict 2/0 200 10.0.0.9 - 10.1.0.1:80\n", "no2": "verdict 2/0 503 10.0.0.9 - 10.1.0.1:80\n",
-}
-assert not {*PARTS} & {*plain.PARTS, *modelled.PARTS, *replay_rows.PARTS, *tunnel_rows.PARTS}
-
-
-def spelled(text):
-    return plain.spelled(text, PARTS)
+HEAD = ["Runs of `hbone replay --outbound`. bench/tables/outbound_rows.py prints this file: a plain model of the pages answers."]
+_TOLD = answer([*DOOR.split(), "--trace"], BASE)[1]
+PARTS = {**plain.PARTS, "frontweb": front().hex(), "mesh": BASE, "meshtold": _TOLD[:_TOLD.index("closed 1")]}
 
 
 def main():
     for rows in (by_hand, missing, straight, chosen, gateways, unsynced, doors, headers, dials, ends, updates, rooms, mixed, traces):
         rows()
     assert len({name for name, *_ in ROWS}) == len(ROWS)
-    print(HEAD, end="")
-    model_rows.print_parts("OUTBOUND_PARTS", PARTS)
-    model_rows.print_cut("OUTBOUND_CUT", [model_rows.line_of(spelled, name, script, DOOR.split()) for name, script in cut_runs()])
-    model_rows.print_runs("OUTBOUND", [model_rows.line_of(spelled, *each) for each in ROWS])
+    table = Table(HEAD, PARTS)
+    for each in ROWS:
+        model_rows.put_row(table, *each)
+    model_rows.put_cut(table, cut_runs(), DOOR.split())
+    table.print()
 
 
 if __name__ == "__main__":

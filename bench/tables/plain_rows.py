@@ -1,16 +1,17 @@
 #!/usr/bin/python3
-"""Prints crates/hb_replay_rows/src/plain.rt: runs of `hbone replay --plain`, each with its status, its whole output and its error text.
+"""Prints tests/replay/plain.runs: runs of `hbone replay --plain`, each with its status, its whole output and its error text.
 
 bench/tables/tunnel_model.py, which knows the pages alone, gives the answers; those of the first rows are worked out by hand too. A row has
 to end the same by every choice that the pages leave open.
 
-    python3 bench/tables/plain_rows.py > crates/hb_replay_rows/src/plain.rt
+    python3 bench/tables/plain_rows.py > tests/replay/plain.runs
 """
 import model_rows
 import modelled_rows as modelled
 import replay_rows
 import tunnel_rows
 from modelled_rows import ALLOW, BACK, DENY, GONE, TICK, ask, policies, workloads
+from run_table import Table
 from spelling import policy, workload
 from tunnel_rows import FRONT, UPDATE, WAKE, came, data, on, room, single, woken
 
@@ -194,29 +195,18 @@ def traces():
 
 # The table
 
-HEAD = """//! Runs of `hbone replay --plain`. bench/tables/plain_rows.py prints this file: a plain model of the pages answers.
-//!
-//! The notation is that of the other runs; a name in angle brackets stands for its part below, or for one of theirs.
-"""
-PARTS = {
-    "plain": ACCEPT, "pdoor": DOOR, "front9": front().hex(), "f9": F9.hex(), "openbase": OPEN_BASE,
-    "relay3": "link 3 relay 10.0.0.7:9090 of 2: received ", "plain2": "link 2 plain: received ",
-    "known2": "verdict 2/0 200 10.0.0.9 - 10.0.0.7:9090\n",
-}
-
-
-def spelled(text, more=()):
-    """The text, in which parts of these tables stand by their names."""
-    return model_rows.by_name(text, [*model_rows.named({**PARTS, **dict(more)}), *modelled.NAMED])
+HEAD = ["Runs of `hbone replay --plain`. bench/tables/plain_rows.py prints this file: a plain model of the pages answers."]
+PARTS = {**modelled.PARTS, "front9": front().hex(), "f9": F9.hex(), "openbase": OPEN_BASE}
 
 
 def main():
     for rows in (by_hand, headers, verdicts, dials, ends, rooms, mixed, traces):
         rows()
-    print(HEAD, end="")
-    model_rows.print_parts("PLAIN_PARTS", PARTS)
-    model_rows.print_cut("PLAIN_CUT", [model_rows.line_of(spelled, name, script, DOOR.split()) for name, script in cut_runs()])
-    model_rows.print_runs("PLAIN", [model_rows.line_of(spelled, *each) for each in ROWS])
+    table = Table(HEAD, PARTS)
+    for each in ROWS:
+        model_rows.put_row(table, *each)
+    model_rows.put_cut(table, cut_runs(), DOOR.split())
+    table.print()
 
 
 if __name__ == "__main__":

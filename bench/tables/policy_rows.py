@@ -1,7 +1,7 @@
 #!/usr/bin/env python3
-"""Prints crates/hb_rows/src/policies.rt: policies as messages in hexadecimal digits, who asks, and the answer.
+"""Prints tests/check/policies.runs: policies as messages in hexadecimal digits, who asks, and the answer.
 
-    python3 bench/tables/policy_rows.py > crates/hb_rows/src/policies.rt && (cd crates/hb_rows && rt fmt)
+    python3 bench/tables/policy_rows.py > tests/check/policies.runs
 
 The script only spells the records. Every answer stands in its row and was worked out by hand:
 
@@ -14,6 +14,7 @@ The script only spells the records. Every answer stands in its row and was worke
 - no DENY that counts fires, and there is no ALLOW that counts, or one of them fires: allow; else deny.
 """
 
+import run_table
 from spelling import *
 
 
@@ -123,19 +124,20 @@ ROWS = [
 ]
 
 
+HEAD = ["Policies, and what they answer two peers with an identity and one without. bench/tables/policy_rows.py prints this file: it spells",
+        "the messages, and has each answer as it was worked out by hand."]
+ASKED = {"as_c": run_table.AS_C, "as_d": run_table.AS_D, "as_none": run_table.AS_NONE}
+
+
 def main():
-    lines = []
+    table = run_table.Table(HEAD, {**MESSAGES, **ASKED})
     for title, messages, answers in ROWS:
         first = [] if messages and ADDRESS in messages[0] else ["WORKLOAD"]
-        lines.append(f"# {title[0].upper()}{title[1:]}.")
-        lines.append(f"{shown(first + messages)}; {'; '.join(answers.split())}")
-    print("//! Policies, and what they answer. bench/tables/policy_rows.py prints this file: it spells the messages, and has each answer as")
-    print("//! it was worked out by hand.")
-    print()
-    print("/// The input, and the answers for two peers with an identity and for one without. A line that begins with `#` says what")
-    print("/// the next one is.")
-    print('pub const POLICIES: &str = "\\')
-    print("\n".join(lines) + '";')
+        table.begin(title)
+        table.octets(shown(first + messages))
+        for words, answer in zip(ASKED.values(), answers.split(), strict=True):
+            table.run(words, 0, answer + "\n")
+    table.print()
 
 
 if __name__ == "__main__":

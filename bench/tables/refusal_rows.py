@@ -1,8 +1,8 @@
 #!/usr/bin/env python3
-"""Prints crates/hb_rows/src/refusals.rt: messages in hexadecimal digits, and the number and reason of the refused one; and messages
+"""Prints tests/show/refusals.runs: messages in hexadecimal digits, and the number and reason of the refused one; and messages
 with resources that are refused, and what `show` prints of them.
 
-    python3 bench/tables/refusal_rows.py > crates/hb_rows/src/refusals.rt && (cd crates/hb_rows && rt fmt)
+    python3 bench/tables/refusal_rows.py > tests/show/refusals.runs
 
 The script only spells the messages and the lines. Every number and reason stands in its row and was worked out by hand.
 
@@ -15,6 +15,7 @@ it has no name, its type isn't the response's, its record has a fault (the first
 leaves what is held under its name.
 """
 
+import run_table
 from shown_lines import *
 from spelling import *
 
@@ -221,20 +222,20 @@ SHOWN = [
 ]
 
 
+HEAD = ["Inputs that `check` and `show` refuse, and resources that are refused, with what `show` prints of them. bench/tables/refusal_rows.py",
+        "prints this file: it spells the messages, and has each number, reason and line as it was worked out by hand."]
+
+
 def main():
-    print("//! Inputs that are refused, and resources that are. bench/tables/refusal_rows.py prints this file: it spells the messages, and has each")
-    print("//! number, reason and line as it was worked out by hand.")
-    print()
-    print("/// The input, and the line that tells why it is refused. A line that begins with `#` says what the next one is.")
-    print('pub const REFUSALS: &str = "\\')
-    lines = []
+    table = run_table.Table(HEAD, {**MESSAGES, "as_c": run_table.AS_C})
     for title, messages, number_, why in ROWS:
-        lines.append(f"# {title[0].upper()}{title[1:]}.")
-        lines.append(f"{shown(messages)}; hbone: message {number_}: {why}")
-    print("\n".join(lines) + '";')
-    print()
-    print("/// Inputs with resources that are refused, and the lines that `show` prints. A line that begins with `#` says what the next one is.")
-    print('pub const REFUSED_RESOURCES: &str = r##"' + "\n".join(row(title, shown(messages), lines) for title, messages, lines in SHOWN) + '"##;')
+        table.begin(title)
+        table.octets(shown(messages))
+        table.wanted(3, f"hbone: message {number_}: {why}\n")
+        for words in (run_table.AS_C, "show"):
+            table.run(words)
+    put_shown(table, SHOWN)
+    table.print()
 
 
 if __name__ == "__main__":

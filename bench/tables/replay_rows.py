@@ -1,17 +1,17 @@
 #!/usr/bin/python3
-"""Prints crates/hb_replay_rows/src/rows.rt: runs of `hbone replay`, each with its status, its whole output and its error text.
+"""Prints tests/replay/control.runs: runs of `hbone replay`, each with its status, its whole output and its error text.
 
 bench/tables/replay_model.py, which knows the formats alone, gives the answers. A row has to end the same by every choice that the
 rules leave open, but where it counts turns.
 
-    /usr/bin/python3 bench/tables/replay_rows.py > crates/hb_replay_rows/src/rows.rt
+    /usr/bin/python3 bench/tables/replay_rows.py > tests/replay/control.runs
 """
 import json
-import re
 
 import replay_model as model
 from replay_model import ADDRESS, CONTINUATION, DATA, GOAWAY, HEADERS, PING, POLICY, PRIORITY, PUSH, RESET, SETTINGS, WINDOW
 from replay_model import frame, put, put_message, put_text, varint
+from run_table import Table
 
 CONTROL = "10.0.0.1:15010"
 USUAL_WORDS = ["--node", "n1", "--id", "z1", "--discovery", CONTROL]
@@ -103,12 +103,12 @@ AGAIN = [TICK, on("open", 2), WAKE]
 # The table
 
 PARTS = {}
-ROWS = []
-WORDS = []
+HEAD = ["Runs of `hbone replay` over scripts of a control plane. bench/tables/replay_rows.py prints this file: a plain model of the formats",
+        "gives each answer."]
 
 
 def name_parts():
-    """Names of the texts that stand often, in the notation of the table."""
+    """Names of the texts that stand often."""
     link = model.Link(1, "z1", CONTROL, {}, model.USUAL)
     named = {"opening": link.output()}
     for name, held in [("firsts", []), ("firsts_u1", [(ADDRESS, "u1")]), ("firsts_u1_ap", [(ADDRESS, "u1"), (POLICY, "a/p")]),
@@ -121,54 +121,19 @@ def name_parts():
     named["nack_x5"] = data(model.answer(ADDRESS, "x5", "b"))
     named["address"], named["policy"] = ADDRESS.encode(), POLICY.encode()
     PARTS.update((name, content.hex()) for name, content in named.items())
-    for name, lines in [("open", OPEN), ("live", LIVE), ("base", BASE), ("again", AGAIN)]:
-        PARTS[name] = marked("".join(text + "\n" for text in lines))
+    for name, lines in [("live", LIVE), ("base", BASE)]:
+        PARTS[name] = "".join(text + "\n" for text in lines)
     for name, lines in [("opened", OPEN), ("lived", LIVE), ("based", BASE)]:
         out = model.replay(USUAL_WORDS + ["--trace"], "\n".join(lines).encode())[1]
-        PARTS[name] = marked(out[:out.index("closed 1 stopped")])
-    PARTS.update(usual=" ".join(USUAL_WORDS), wake=marked(WAKE + "\n"), piece="{'bytes':'", on1="','link':1}|")
-    for number in (1, 2, 3):
-        PARTS[f"link{number}"] = f"link {number} discovery {CONTROL}: received "
-        PARTS[f"dialled{number}"] = f"dialled {number} {CONTROL}|opened {number}|went {number} "
-        PARTS[f"total{number}"] = f"|total: {number} links, 0 accepted, 0 revoked, 0 up, 0 down|"
+        PARTS[name] = out[:out.index("closed 1 stopped")]
+    PARTS.update(usual=" ".join(USUAL_WORDS), usage=model.USAGE[1:])
 
 
-def marked(text):
-    """A text with the table's quotes and newlines."""
-    assert not re.search("[<>|']", text) and "; " not in text and text.isascii()
-    return text.replace('"', "'").replace("\n", "|")
+name_parts()
+TABLE = Table(HEAD, PARTS)
 
 
-def runs_named(text):
-    """A text with each long run of one octet, and of one frame, as how often it stands."""
-    def octets_named(match):
-        return re.sub("((?:..)*?)((..)\\3{60,})", lambda m: f"{m[1]}<{len(m[2]) // 2}*{m[3]}>", match[0])
-    text = re.sub("(?:[0-9a-f]{2}){100,}", octets_named, text)
-    return re.sub("z{100,}", lambda m: f"<{len(m[0])}*z>", text)
-
-
-def told(text):
-    """A text in the notation of the table."""
-    text = marked(text)
-    for frames in (PINGED + SET, PINGED, SET, PADDED):
-        many = re.compile(f"(?:{frames.hex()}){{20,}}")
-        text = many.sub(lambda m: f"<{len(m[0]) // len(frames.hex())}*{frames.hex()}>", text)
-    text = "".join(part if part.startswith("<") else runs_named(part) for part in re.split("(<.*?>)", text))
-    for name, content in sorted(PARTS.items(), key=lambda item: -len(item[1])):
-        parts = re.split("(<.*?>)", text)
-        text = "".join(part if part.startswith("<") else part.replace(content, f"<{name}>") for part in parts)
-    return text
-
-
-def spelled(text):
-    """The text that the notation stands for."""
-    def part(match):
-        count, star, content = match[1].partition("*")
-        return content * int(count) if star else PARTS[count]
-    return re.sub("<(.*?)>", part, text).replace("'", '"').replace("|", "\n")
-
-
-def row(name, lines, *more, words=USUAL_WORDS, free=False):
+def row(name, lines, *more, words=USUAL_WORDS, free=False, cuts=0):
     """A run. One that counts turns, and so is `free`, is by the usual choice."""
     script = lines if isinstance(lines, str) else "".join(text + "\n" for text in lines)
     words = [*words, *more]
@@ -177,23 +142,27 @@ def row(name, lines, *more, words=USUAL_WORDS, free=False):
         assert model.replay(words, script.encode(), choice) == answer, (name, choice)
     code, out, err = answer
     assert code != 2
-    cells = [" ".join(words), script, out, err]
-    texts = [told(cell) for cell in cells]
-    assert [spelled(text) for text in texts] == cells, name
-    assert name not in [text.split("; ")[0] for text in ROWS], name
-    ROWS.append(f"{name}; {texts[0]}; {texts[1]}; {code}; {texts[2]}; {texts[3]}")
+    TABLE.script(name, ["replay", *words], script, code, out, err, cuts)
+
+
+# The lists of words that are refused for each reason
+REFUSED = {}
 
 
 def refused(*words):
     code, out, err = model.replay(list(words), b"")
     assert code == 2 and not out and err.endswith(model.USAGE + "\n")
-    why = "= " + err[len("hbone: words: "):-len(model.USAGE) - 1]
-    if why not in WORDS:
-        WORDS.append(why)
-    at = WORDS.index(why) + 1
-    while at < len(WORDS) and not WORDS[at].startswith("= "):
-        at += 1
-    WORDS.insert(at, "".join(word + "|" for word in words))
+    REFUSED.setdefault(err, []).append(["replay", *words])
+
+
+def rows_of_refused_words():
+    """A row for each reason. Nothing is read: the input, a folder, can't be."""
+    for error, lists in REFUSED.items():
+        TABLE.begin(f"words that are refused: {error[len('hbone: words: '):-len(model.USAGE) - 1]}")
+        TABLE.source("/")
+        TABLE.wanted(2, error)
+        for words in lists:
+            TABLE.run(words)
 
 
 def rows_of_runs():
@@ -204,6 +173,7 @@ def rows_of_runs():
     row("a wait fails, told", OPEN + [FAULT], "--trace")
     row("a link number of 0", [WAKE, on("open", 0)])
     row("the base", BASE)
+    row("the base, cut", BASE, cuts=200)
     row("the base, told", BASE, "--trace")
     row("the base in brief", BASE, "--brief")
     row("told and in brief", BASE, "--trace", "--brief")
@@ -592,49 +562,12 @@ def rows_of_words():
             refused(*USUAL_WORDS, name, value)
 
 
-HEAD = """//! Runs of `hbone replay`. bench/tables/replay_rows.py prints this file: a plain model of the formats gives each answer.
-//!
-//! A row is its name, the words behind `replay`, its script, its status, its output and its error text. A quote is
-//! written as `'`, a newline as `|`. A name in angle brackets stands for its part below, and a number, a star and a text
-//! for the text so many times over.
-"""
-
-
-def table(name, about, lines):
-    """A constant of lines; a cut line goes on without a blank in front, which would be no part of it."""
-    print(f"\n/// {about}")
-    print(f'pub const {name}: &[u8] = b"\\')
-    for text in lines:
-        assert '"' not in text
-        pieces = re.findall(r".{1,118} *", text) or [""]
-        print("\\\n".join(piece.replace("\\", "\\\\").replace("\r", "\\r") for piece in pieces) + "\\n\\")
-    print('";')
-
-
-def halves(lines, size=9000):
-    part, length = [], 0
-    for text in lines:
-        if part and length + len(text) > size:
-            yield part
-            part, length = [], 0
-        part.append(text)
-        length += len(text)
-    yield part
-
-
 def main():
-    name_parts()
     for rows in (rows_of_runs, rows_of_turns, rows_of_births, rows_of_ends, rows_of_answers, rows_of_messages, rows_of_frames,
                  rows_of_faults,
-                 rows_of_windows, rows_of_floods, rows_of_lines, rows_of_words):
+                 rows_of_windows, rows_of_floods, rows_of_lines, rows_of_words, rows_of_refused_words):
         rows()
-    print(HEAD, end="")
-    table("PARTS", "The name and the text of each part.", [f"{name} {content}" for name, content in PARTS.items()])
-    for number, part in enumerate(halves(ROWS), 1):
-        table(f"ROWS_{number}", "Runs.", part)
-    table("REFUSED",
-          "Words that aren't accepted, each ended by `|`. A line that begins with `=` has the reason of the next ones.", WORDS)
-    table("USAGE", "The forms of accepted words, which are told behind each reason.", [model.USAGE[1:]])
+    TABLE.print()
 
 
 if __name__ == "__main__":

@@ -1,7 +1,7 @@
 #!/usr/bin/env python3
-"""Prints crates/hb_rows/src/shows.rt: messages in hexadecimal digits, and what `show` prints of them.
+"""Prints tests/show/shows.runs: messages in hexadecimal digits, and what `show` prints of them.
 
-    python3 bench/tables/show_rows.py > crates/hb_rows/src/shows.rt && (cd crates/hb_rows && rt fmt)
+    python3 bench/tables/show_rows.py > tests/show/shows.runs
 
 The script only spells the messages and the lines. What a line says stands in its row and was worked out by hand:
 
@@ -12,6 +12,7 @@ The script only spells the messages and the lines. What a line says stands in it
   canonical as its row spells it for the message, unless the row spells it twice.
 """
 
+import run_table
 from shown_lines import *
 from spelling import *
 
@@ -312,26 +313,14 @@ TEXT_ROWS = [
 ]
 
 
-def rows_of(rows):
-    return "\n".join(row(title, shown(messages), lines) for title, messages, lines in rows)
-
-
-def literal(content):
-    """A string literal, in which characters that can't be seen are escaped."""
-    for character, escaped in (("\\", "\\\\"), ('"', '\\"'), ("\x7f", "\\x7f"), ("\u2028", "\\u{2028}")):
-        content = content.replace(character, escaped)
-    return '"\\\n' + content + '"'
+HEAD = ["What `show` prints. bench/tables/show_rows.py prints this file: it spells the messages and the lines, and has what each says as it was",
+        "worked out by hand."]
 
 
 def main():
-    print("//! What `show` prints. bench/tables/show_rows.py prints this file: it spells the messages and the lines, and has what each says as it was")
-    print("//! worked out by hand.")
-    print()
-    print("/// The input, and the lines. A line that begins with `#` says what the next one is.")
-    print('pub const SHOWS: &str = r##"' + rows_of(ROWS) + '"##;')
-    print()
-    print("/// The input, and the lines, with text that JSON escapes.")
-    print(f"pub const SHOWN_TEXTS: &str = {literal(rows_of(TEXT_ROWS))};")
+    table = run_table.Table(HEAD, MESSAGES)
+    put_shown(table, ROWS + TEXT_ROWS)
+    table.print()
 
 
 if __name__ == "__main__":

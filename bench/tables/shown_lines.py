@@ -2,7 +2,7 @@
 
 import json
 
-from spelling import span
+from spelling import shown, span
 
 
 def line(**members):
@@ -34,11 +34,12 @@ def policy_line(name, record, action, scope, version="1"):
     return line(action=action, kind="policy", name=name, record=record.hex(), scope=scope, version=version)
 
 
-def row(title, input_, lines):
-    """A row of a table that is a raw text: what it is, its input, and the lines."""
-    fields = [input_, *lines]
-    assert not any(";" in field or '"##' in field for field in fields), title
-    return f"# {title[0].upper()}{title[1:]}.\n" + "; ".join(fields)
+def put_shown(table, rows):
+    """Puts rows into a table: what each is, its messages, and the lines that `show` prints of them."""
+    for title, messages, lines in rows:
+        table.begin(title)
+        table.octets(shown(messages))
+        table.run("show", 0, "".join(line_ + "\n" for line_ in lines))
 
 
 # The lines of the workload of WORKLOAD and of the policy of ALLOW_ONE.

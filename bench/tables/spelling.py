@@ -139,3 +139,28 @@ def shown(messages):
     for name, url in (("ADDRESS_TYPE", ADDRESS), ("POLICY_TYPE", AUTHORIZATION)):
         text = text.replace(url.hex(), f" {name} ")
     return " ".join(text.split())
+
+
+# The messages that most tables name, each a delta discovery response, and the two types.
+
+_A, _P = ADDRESS.hex(), AUTHORIZATION.hex()
+_WEB = "0a03776562 120161 1a040a000007 2801 4a026e31 820103612f70 a201027531"
+MESSAGES = {
+    "address_type": _A,
+    "policy_type": _P,
+    # `x1` with the workload u1 of version 1: `web` of namespace `a` with the address 10.0.0.7, HBONE, on node n1; it names the policy a/p
+    "workload": f"000000008a 1258 0a0131 124f 0a2a {_A} 1221 0a1f {_WEB} 1a027531 222a {_A} 2a027831",
+    # u1 of two addresses, 10.0.0.7 and 2001:db8::7, on node n1
+    "dual_stack": f"000000008b 125d 0a0131 1254 0a2a {_A} 1226 0a24 0a03776562 120161 1a040a000007 1a1020010db8000000000000000000000007"
+                  f" 4a026e31 1a027531 222a {_A}",
+    # `x2` with the policy a/p: an ALLOW for workloads that name it, which fires for the principal cluster.local/ns/a/sa/c
+    "allow_one": f"000000009f 1267 0a0131 125d 0a30 {_P} 1229 0a0170 120161 1802 2a1f 121d 121b 1a19 0a17"
+                 f" 636c75737465722e6c6f63616c2f6e732f612f73612f63 1a03612f70 2230 {_P} 2a027832",
+    # `x4` with the policy e: an ALLOW for all of the mesh without rules, which never fires
+    "allow_none": f"0000000077 123f 0a0131 1237 0a30 {_P} 1203 0a0165 1a0165 2230 {_P} 2a027834",
+    # `x3` with the policy d: a DENY for all of the mesh with a rule without clauses, which fires for every connection
+    "deny_all": f"000000007b 1243 0a0131 123b 0a30 {_P} 1207 0a016420012a00 1a0164 2230 {_P} 2a027833",
+    # `x6`, which removes the name u1 and adds it
+    "removed_and_added": f"000000008e 1258 0a0131 124f 0a2a {_A} 1221 0a1f {_WEB} 1a027531 222a {_A} 2a027836 32027531",
+}
+MESSAGES = {name: text.replace(" ", "") for name, text in MESSAGES.items()}

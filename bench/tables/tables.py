@@ -17,11 +17,6 @@ TOP = pathlib.Path(__file__).resolve().parents[2]
 
 # Each script, the crate, and the file of it that the script prints, whole or as a part.
 WHOLE = [
-    ("answer_rows.py", "hb_rows", "answers.rt"),
-    ("policy_rows.py", "hb_rows", "policies.rt"),
-    ("attribute_rows.py", "hb_rows", "attributes.rt"),
-    ("refusal_rows.py", "hb_rows", "refusals.rt"),
-    ("show_rows.py", "hb_rows", "shows.rt"),
     ("hpack_vectors.py", "hb_http2_rows", "hpack_vectors.rt"),
     ("streams.py", "hb_streams_rows", "rows.rt"),
     ("conversations.py", "hb_conn_rows", "conversation_rows.rt"),
@@ -33,15 +28,23 @@ WHOLE = [
     ("node_rows.py", "hb_node_rows", "rows.rt"),
     ("link_rows.py", "hb_link_rows", "rows.rt"),
     ("route_rows.py", "hb_route_rows", "rows.rt"),
-    ("replay_rows.py", "hb_replay_rows", "rows.rt"),
-    ("tunnel_rows.py", "hb_replay_rows", "tunnels.rt"),
-    ("modelled_rows.py", "hb_replay_rows", "modelled.rt"),
-    ("plain_rows.py", "hb_replay_rows", "plain.rt"),
-    ("outbound_rows.py", "hb_replay_rows", "outbound.rt"),
-    ("gateway_rows.py", "hb_gateway_rows", "rows.rt"),
     ("serve_rows.py", "hb_serve_rows", "frames.rt"),
-    ("make_rows.py", "hb_make_rows", "rows.rt"),
     ("relay_rows.py", "hb_relay_rows", "octets.rt"),
+]
+# Each script, and the table of runs in tests/ that it prints
+RUNS = [
+    ("answer_rows.py", "check/answers"),
+    ("policy_rows.py", "check/policies"),
+    ("attribute_rows.py", "check/attributes"),
+    ("refusal_rows.py", "show/refusals"),
+    ("show_rows.py", "show/shows"),
+    ("replay_rows.py", "replay/control"),
+    ("tunnel_rows.py", "replay/inbound"),
+    ("modelled_rows.py", "replay/modelled"),
+    ("plain_rows.py", "replay/plain"),
+    ("outbound_rows.py", "replay/outbound"),
+    ("gateway_rows.py", "replay/gateways"),
+    ("make_rows.py", "make/made"),
 ]
 PARTS = [("frame_vectors.py", "hb_http2_rows", "frame_vectors.rt"), ("verdict_rows.py", "hb_table_rows", "requests.rt")]
 
@@ -84,6 +87,16 @@ def unplayed(crate, file):
     return [name for name in re.findall(r"^pub const (\w+)", (folder / file).read_text(), re.M) if not re.search(rf"\b{name}\b", others)]
 
 
+def is_told_same(script, path, is_file):
+    """Tells whether a file is what its script prints; it counts as the same where the script lacks a package."""
+    printed, lacks = printed_by(script)
+    same = printed is None or is_file(printed)
+    end = "is what it prints" if same else "DIFFERS from what it prints"
+    end = end if printed is not None else f"not compared, since {lacks} isn't here"
+    print(f"tables: {script}: {path} {end}", flush=True)
+    return same
+
+
 def main():
     differ = 0
     for _, crate, file in WHOLE:
@@ -91,12 +104,10 @@ def main():
             print(f"tables: crates/{crate}/src/{file}: no test plays {name}")
             differ += 1
     for script, crate, file in WHOLE + PARTS:
-        printed, lacks = printed_by(script)
-        same = printed is None or is_same(script, crate, file, printed)
-        end = "is what it prints" if same else "DIFFERS from what it prints"
-        end = end if printed is not None else f"not compared, since {lacks} isn't here"
-        print(f"tables: {script}: crates/{crate}/src/{file} {end}")
-        differ += not same
+        differ += not is_told_same(script, f"crates/{crate}/src/{file}", lambda printed: is_same(script, crate, file, printed))
+    for script, name in RUNS:
+        path = f"tests/{name}.runs"
+        differ += not is_told_same(script, path, lambda printed: (TOP / path).read_text() == printed)
     return 1 if differ else 0
 
 

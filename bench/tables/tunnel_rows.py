@@ -1,20 +1,17 @@
 #!/usr/bin/python3
-"""Prints crates/hb_replay_rows/src/tunnels.rt: runs of `hbone replay --inbound`, each with its status, its whole output and its error
+"""Prints tests/replay/inbound.runs: runs of `hbone replay --inbound`, each with its status, its whole output and its error
 text.
 
 Scripts and answers are worked out by hand from the rules: frames by RFC 9113, header blocks by RFC 7541, the header of the front by the
 PROXY protocol's text, answers, causes, notes and lines by docs/COMMANDS.md and docs/FORMATS.md.
 
-    python3 bench/tables/tunnel_rows.py > crates/hb_replay_rows/src/tunnels.rt
+    python3 bench/tables/tunnel_rows.py > tests/replay/inbound.runs
 """
-import re
-
+import replay_rows
+from run_table import Table
 from spelling import ADDRESS, AUTHORIZATION
 
-HEAD = """//! Runs of `hbone replay --inbound`. bench/tables/tunnel_rows.py prints this file: each answer is worked out by hand.
-//!
-//! The notation is that of the other runs; a name in angle brackets stands for its part below, or for one of theirs.
-"""
+HEAD = ["Runs of `hbone replay --inbound`. bench/tables/tunnel_rows.py prints this file: each answer is worked out by hand."]
 PEER = b"cluster.local/ns/a/sa/c"
 CANCEL, CONNECT_ERROR, NO_ERROR, STREAM_FLOW, REFUSED_STREAM = 8, 10, 0, 3, 7
 
@@ -101,7 +98,7 @@ def accepted(*requests):
 
 
 # The policy a/p is applied behind these lines, and the workload u1, 10.0.0.7.
-BASE = "<base>"
+BASE = replay_rows.PARTS["base"]
 ADMIT = BASE + accepted(connect(1)) + on("open", 3)
 
 # Answers
@@ -141,44 +138,15 @@ def moved(word, number, octets):
 
 # The table
 
-PARTS = {
-    "door": "--inbound 0.0.0.0:15008",
-    "accept": ACCEPT + "\n",
-    "peer": " 10.0.0.9 " + PEER.decode() + " ",
-    "front": FRONT.hex(),
-    "preface": PREFACE.hex(),
-    "own": OWN.hex(),
-    "update": UPDATE.hex(),
-    "connect": connect(1).hex(),
-}
-# between two pieces that come on a link, each with a wait behind it
-PARTS.update((f"then{n}", f'","link":{n}}}\n{WAKE}\n{{"bytes":"') for n in (1, 2, 3))
-ROWS = []
+DOOR = "--inbound 0.0.0.0:15008"
+PARTS = {"front": FRONT.hex(), "preface": PREFACE.hex(), "own": OWN.hex(), "update": UPDATE.hex(), "connect": connect(1).hex()}
+PARTS.update((name, replay_rows.PARTS[name]) for name in ("usual", "m1", "m2", "set", "ok", "ack", "base", "based"))
+TABLE = Table(HEAD, PARTS)
 
 
-def marked(text):
-    """A text with the table's quotes and newlines."""
-    assert not re.search("[|']", text) and "; " not in text and text.isascii()
-    return text.replace('"', "'").replace("\n", "|")
-
-
-def many_named(text):
-    """Long runs of one octet as how often it stands."""
-    return re.sub("(?:[0-9a-f]{2}){100,}", lambda m: re.sub(
-        "((?:..)*?)((..)\\3{60,})", lambda n: f"{n[1]}<{len(n[2]) // 2}*{n[3]}>", m[0]), text)
-
-
-def told(text):
-    text = many_named(marked(text))
-    for name, content in sorted(PARTS.items(), key=lambda item: -len(item[1])):
-        pieces = re.split("(<.*?>)", text)
-        text = "".join(piece if piece.startswith("<") else piece.replace(marked(content), f"<{name}>") for piece in pieces)
-    return text
-
-
-def row(name, script, status, output, *more, error="", door=PARTS["door"]):
-    words = " ".join(["<usual>", told(door), *more])
-    ROWS.append(f"{name}; {words}; {told(script)}; {status}; {told(output)}; {told(error)}")
+def row(name, script, status, output, *more, error="", door=DOOR):
+    words = ["replay", *replay_rows.USUAL_WORDS, *door.split(), *" ".join(more).split()]
+    TABLE.script(name, words, script, status, output, error)
 
 
 def whole_lives():
@@ -186,7 +154,7 @@ def whole_lives():
     lines = control() + inbound(152, 64, "done") + upstream(3, 5, 5, "done") + verdict(200) + ended("done", 5, 5) + total(3, 1, 0, 5, 5)
     row("a tunnel from its request to its end", script, 0, lines)
     trace = "".join([
-        "<based>accepted 2 inbound\n", moved("came", 2, OPENING + connect(1)), "dialled 3 10.0.0.7:8080\n", moved("went", 2, OWN + ACK),
+        replay_rows.PARTS["based"] + "accepted 2 inbound\n", moved("came", 2, OPENING + connect(1)), "dialled 3 10.0.0.7:8080\n", moved("went", 2, OWN + ACK),
         "opened 3\n", moved("went", 2, headers(1, FIRST + ADMITTED)), moved("came", 2, data(1, b"hello")), moved("went", 3, b"hello"),
         moved("came", 3, b"world"), moved("went", 2, data(1, b"world")), moved("came", 2, data(1, end=True)), "shut 3\n", "ended 3\n",
         moved("went", 2, data(1, end=True)), "closed 3 done\n", "ended 2\n", "closed 2 done\n", "closed 1 stopped\n"])
@@ -252,7 +220,7 @@ def updates():
     row("an update inside a DATA frame", script + woken(4, b"!"), 0, lines)
     # no rule says in which order links are closed at the end of a run
     trace = "".join([
-        "<based>accepted 2 inbound\n", moved("came", 2, OPENING + connect(1) + connect(3, b"10.0.0.7:9090")),
+        replay_rows.PARTS["based"] + "accepted 2 inbound\n", moved("came", 2, OPENING + connect(1) + connect(3, b"10.0.0.7:9090")),
         "dialled 3 10.0.0.7:8080\ndialled 4 10.0.0.7:9090\n", moved("went", 2, OWN + ACK),
         "opened 3\n", moved("went", 2, frames[0]), "opened 4\n", moved("went", 2, frames[1]),
         moved("came", 3, bytes(100)), moved("went", 2, frames[2][:59]),
@@ -306,22 +274,10 @@ SECOND_RESPONSE = data(1, bytes.fromhex("000000009f 1267 0a0131 125d 0a30") + AU
                        + bytes.fromhex("1a03612f70 2230") + AUTHORIZATION + bytes.fromhex("2a027832"))
 
 
-def table(name, about, lines):
-    """A constant of lines; a cut line goes on without a blank in front, which would be no part of it."""
-    print(f"\n/// {about}")
-    print(f'pub const {name}: &[u8] = b"\\')
-    for text in lines:
-        assert '"' not in text
-        print("\\\n".join(re.findall(r".{1,118} *", text)) + "\\n\\")
-    print('";')
-
-
 def main():
     for rows in (whole_lives, refusals, updates, ends, doors):
         rows()
-    print(HEAD, end="")
-    table("TUNNEL_PARTS", "The name and the text of each part.", [f"{name} {marked(content)}" for name, content in PARTS.items()])
-    table("TUNNELS", "Runs.", ROWS)
+    TABLE.print()
 
 
 if __name__ == "__main__":

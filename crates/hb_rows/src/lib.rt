@@ -1,28 +1,17 @@
-//! Tests of whole runs of the command line over memory: words and input in, and status, output and error
-//! text out, each compared whole. The expected values come from the rules, and none from the program.
+//! Tests of runs of the command line over memory: what needs a source or a sink that fails, an output without room, an audit, or a
+//! world that a script stands for. The expected values come from the rules, and none from the program. All other runs are rows of
+//! the tables in tests/, which are played through the program.
 #![tactic(auto)]
 
 #[cfg(test)]
-mod answers;
-#[cfg(test)]
-mod attributes;
+mod audited;
 #[cfg(test)]
 mod faults;
 #[cfg(test)]
-mod large;
-#[cfg(test)]
-mod messages;
-#[cfg(test)]
-mod policies;
-#[cfg(test)]
-mod refusals;
-#[cfg(test)]
-mod refused_words;
-#[cfg(test)]
-mod rows;
+mod made;
 #[cfg(test)]
 mod runs;
 #[cfg(test)]
-mod shows;
+mod scripts;
 #[cfg(test)]
-mod words;
+mod served;
