@@ -620,6 +620,14 @@ def by_chance(known, wanted, seeds=400):
     return found
 
 
+def nowhere():
+    """The unspecified address, which is the machine itself, with a workload there and without."""
+    there, front_there = workloads(("u0", workload("zero", "a", [bytes(4)], "n1", []))), front(destination="00000000")
+    row("a workload at the unspecified address", BASE + woken(1, there)
+        + opened(ask(to=b"0.0.0.0:15008") + ask(3, b"0.0.0.0:8080"), header=front_there))
+    row("the unspecified address, at which no workload is", BASE + opened(ask(to=b"0.0.0.0:80"), header=front_there))
+
+
 # The table
 
 HEAD = ["Runs of `hbone replay --inbound`. bench/tables/modelled_rows.py prints this file: a plain model of the pages answers."]
@@ -648,6 +656,7 @@ def all_rows():
         known |= arcs([script], words)
     for seed, script in by_chance(known, MOST_BY_CHANCE):
         row(f"by chance, {seed}", script)
+    nowhere()
     return ROWS
 
 

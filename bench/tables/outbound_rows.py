@@ -335,6 +335,20 @@ def traces():
     ROWS.extend(model_rows.traced(ROWS[::5], 6000, 6000))
 
 
+def nowhere():
+    """What leads to the unspecified address, which is the machine itself; the address above it is one like any other."""
+    six = told(x=workload("2001:db8::9", node="n1"))
+    row("the unspecified address", BASE + begun(b"abc", destination="0.0.0.0", port=53))
+    row("the unspecified address of IPv6", BASE + woken(1, six) + begun(destination="::", source="2001:db8::9"))
+    row("an endpoint at the unspecified address", BASE + woken(1, told(e4=workload("0.0.0.0", serves=serves("web.a")))) + begun())
+    row("a gateway at the unspecified address", BASE + woken(1, told(g6=workload("0.0.0.0", hbone=1, serves=serves("gate.a"))))
+        + begun(b"abc", destination=GATE))
+    row("a workload at the unspecified address that takes HBONE", BASE + woken(1, told(x=workload("0.0.0.0", hbone=1)))
+        + begun(destination="0.0.0.0", port=15008), ALL)
+    row("the unspecified address, and nothing was told yet", NOBODY + begun(destination="0.0.0.0"))
+    row("the address above the unspecified one", BASE + opened(b"abc", destination="0.0.0.1", port=53))
+
+
 # The table
 
 HEAD = ["Runs of `hbone replay --outbound`. bench/tables/outbound_rows.py prints this file: a plain model of the pages answers."]
@@ -343,7 +357,7 @@ PARTS = {**plain.PARTS, "frontweb": front().hex(), "mesh": BASE, "meshtold": _TO
 
 
 def main():
-    for rows in (by_hand, missing, straight, chosen, gateways, unsynced, doors, headers, dials, ends, updates, rooms, mixed, traces):
+    for rows in (by_hand, missing, straight, chosen, gateways, unsynced, doors, headers, dials, ends, updates, rooms, mixed, traces, nowhere):
         rows()
     assert len({name for name, *_ in ROWS}) == len(ROWS)
     table = Table(HEAD, PARTS)

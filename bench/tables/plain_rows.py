@@ -193,6 +193,14 @@ def traces():
     ROWS.extend(model_rows.traced(ROWS[::3], 4000, 2000))
 
 
+def nowhere():
+    """A workload at the unspecified address, which is the machine itself."""
+    there = workloads(("u0", workload("zero", "a", [bytes(4), bytes(16)], "n1", [])))
+    row("a workload at the unspecified address", OPEN_BASE + woken(1, there) + begun(b"abc", header=front(destination="00000000")))
+    row("a workload at the unspecified address of IPv6", OPEN_BASE + woken(1, there)
+        + begun(header=front(destination="00" * 16, source="20010db8" + "00" * 11 + "09", family=0x21)))
+
+
 # The table
 
 HEAD = ["Runs of `hbone replay --plain`. bench/tables/plain_rows.py prints this file: a plain model of the pages answers."]
@@ -200,7 +208,7 @@ PARTS = {**modelled.PARTS, "front9": front().hex(), "f9": F9.hex(), "openbase": 
 
 
 def main():
-    for rows in (by_hand, headers, verdicts, dials, ends, rooms, mixed, traces):
+    for rows in (by_hand, headers, verdicts, dials, ends, rooms, mixed, traces, nowhere):
         rows()
     table = Table(HEAD, PARTS)
     for each in ROWS:
