@@ -5,7 +5,7 @@ use hb_base::{Cause, Door, Why};
 use hb_mio::MioWorld;
 use hb_world::{Born, Finished, Glanced, Listened, Read, Ready, ReadyItem, Waited, World, Wrote};
 use std::alloc::{AllocError, Global};
-use std::io;
+use std::io::{self, ErrorKind};
 use std::net::{Shutdown, TcpListener, TcpStream};
 use std::test::Fail;
 
@@ -59,8 +59,8 @@ impl Play {
         self.world.accept(door)
     }
 
-    fn dial(&mut self, port: u16) -> Born {
-        self.world.dial(target(port), Why::Discovery)
+    fn dial(&mut self, port: u16, why: Why) -> Born {
+        self.world.dial(target(port), why)
     }
 
     fn finish(&mut self, link: u64) -> Finished {
@@ -89,8 +89,12 @@ impl Play {
         self.world.shut(link);
     }
 
+    fn close_for(&mut self, link: u64, cause: Cause) {
+        self.world.close(link, cause);
+    }
+
     pub fn close(&mut self, link: u64) {
-        self.world.close(link, Cause::Stopped);
+        self.close_for(link, Cause::Stopped);
     }
 
     pub fn wait(&mut self) -> Waited {
@@ -105,22 +109,22 @@ impl Play {
         !self.ready.items().is_empty()
     }
 
-    /// How often the inbound door is among what is ready.
-    fn times_ready(&self) -> u64 {
+    /// How often a door is among what is ready.
+    fn times_ready(&self, door: Door) -> u64 {
         let mut times = 0u64;
         for item in self.ready.items() {
-            if matches!(item, ReadyItem::Door(Door::Inbound)) {
+            if names(item, door) {
                 times = times.saturating_add(1);
             }
         }
         times
     }
 
-    /// Waits until the inbound door is ready. Tells how often it is named then.
-    fn times_named(&mut self) -> u64 {
+    /// Waits until a door is ready. Tells how often it is named then.
+    fn times_named(&mut self, door: Door) -> u64 {
         for _ in 0..WAITS {
             let _ = self.wait();
-            let times = self.times_ready();
+            let times = self.times_ready(door);
             if times > 0 {
                 return times;
             }
@@ -142,7 +146,12 @@ impl Play {
 
     /// A link that is dialled and open, whose other end is the next of those that are held.
     pub fn pair(&mut self) -> Born {
-        let born = self.dial(self.taken);
+        self.pair_for(Why::Discovery)
+    }
+
+    /// The same, of a link that is dialled for this.
+    fn pair_for(&mut self, why: Why) -> Born {
+        let born = self.dial(self.taken, why);
         let Born::New(link) = born else {
             return born;
         };
@@ -274,7 +283,7 @@ impl Play {
                 Told::Word("")
             }
             "close" => {
-                self.close(link);
+                self.close_for(link, cause_of(text));
                 Told::Word("")
             }
             _ => Told::Word("no such line"),
@@ -288,12 +297,12 @@ impl Play {
         let link = number_of(first);
         match call {
             "call" => Told::Word(self.call(rt)),
-            "named" => Told::Counted("times", self.times_named()),
-            "dial" => told_of_born(self.dial(free_port(rt).unwrap_or(0))),
-            "pair" => told_of_born(self.pair()),
+            "named" => Told::Counted("times", self.times_named(door_of(first))),
+            "dial" => told_of_born(self.dial(free_port(rt).unwrap_or(0), Why::Discovery)),
+            "pair" => told_of_born(self.pair_for(why_of(first))),
             "await" => Told::Word(word_of_finish(self.await_finish(link))),
             "hear" => self.hear(link, number_of(text) as usize),
-            "says" | "hears" | "send" | "ends" | "left" | "leaves" => {
+            "says" | "hears" | "send" | "ends" | "left" | "broken" | "leaves" => {
                 Told::Word(self.at_peer(call, link, text))
             }
             _ => self.world_line(call, first, text),
@@ -307,12 +316,52 @@ fn moved(peer: &mut TcpStream, call: &str, text: &str) -> &'static str {
         "says" => io::Write::write_all(peer, text.as_bytes()).is_ok(),
         "hears" => comes(peer, text).unwrap_or(false),
         "ends" => peer.shutdown(Shutdown::Write).is_ok(),
+        "broken" => is_reset(peer),
         _ => io::Read::read(peer, &mut [0u8; 1]).unwrap_or(1) == 0,
     };
     if well {
         ""
     } else {
         "other octets, or a socket failed"
+    }
+}
+
+/// Whether what is ready is this door.
+fn names(item: &ReadyItem, door: Door) -> bool {
+    matches!(
+        (item, door),
+        (ReadyItem::Door(Door::Inbound), Door::Inbound)
+            | (ReadyItem::Door(Door::Outbound), Door::Outbound)
+            | (ReadyItem::Door(Door::Plain), Door::Plain)
+    )
+}
+
+/// Whether the connection of this other end was reset.
+fn is_reset(peer: &mut TcpStream) -> bool {
+    match io::Read::read(peer, &mut [0u8; 1]) {
+        Ok(_) => false,
+        Err(error) => error.kind() == ErrorKind::ConnectionReset,
+    }
+}
+
+/// What a link is dialled for: nothing said, the control plane.
+fn why_of(word: &str) -> Why {
+    match word {
+        "upstream" => Why::Upstream { link: 1, stream: 1 },
+        "relay" => Why::Plain { link: 1 },
+        "direct" => Why::Direct { link: 1 },
+        "gateway" => Why::Gateway { link: 1 },
+        _ => Why::Discovery,
+    }
+}
+
+/// Why a link is closed: nothing said, the run ends.
+fn cause_of(word: &str) -> Cause {
+    match word {
+        "done" => Cause::Done,
+        "revoked" => Cause::Revoked,
+        "refused" => Cause::Refused(403),
+        _ => Cause::Stopped,
     }
 }
 

@@ -8,15 +8,15 @@
 //! | `row NAME` | a run begins, with another world |
 //! | `listen DOOR`, `taken DOOR` | the world listens at a port that is free, or at one that isn't |
 //! | `call` | a connection to that free port; its link is the next that is born |
-//! | `named` | the world waits until the inbound door is ready: so often it is named then |
-//! | `accept DOOR`, `finish LINK`, `read LINK`, `write LINK TEXT`, `shut LINK`, `close LINK` | this call |
-//! | `pair` | a link is dialled, its other end accepted, and the link opened |
+//! | `named DOOR` | the world waits until this door is ready: so often it is named then |
+//! | `accept DOOR`, `finish LINK`, `read LINK`, `write LINK TEXT`, `shut LINK`, `close LINK`, `close LINK CAUSE` | this call; a run that ends is the cause that isn't named |
+//! | `pair`, `pair WHY` | a link is dialled, for the control plane or for this, its other end accepted, and the link opened |
 //! | `dial` | a link to a port at which nobody listens |
 //! | `await LINK` | what such a link comes to |
 //! | `hear LINK MOST` | reads until the link's end, or until so many octets came: how many, the sum of their values, and how it went on |
 //! | `send LINK COUNT` | writes so many octets, each of which has to come, and whether the link balked meanwhile |
 //! | `says LINK TEXT`, `hears LINK TEXT` | the other end writes this, or reads this next |
-//! | `ends LINK`, `leaves LINK`, `left LINK` | the other end sends no more; it is closed; nothing more comes at it |
+//! | `ends LINK`, `leaves LINK`, `left LINK`, `broken LINK` | the other end sends no more; it is closed; nothing more comes at it; it was reset |
 
 /// The runs.
 pub const ROWS: &str = "\
@@ -26,7 +26,7 @@ accept inbound = balked
 call
 call
 call
-named = times 1
+named inbound = times 1
 accept inbound = link 1
 accept inbound = link 2
 accept inbound = link 3
@@ -36,7 +36,7 @@ hear 2 5 = 5 532 more
 close 2
 left 2
 call
-named = times 1
+named inbound = times 1
 accept inbound = link 4
 leaves 1
 leaves 3
@@ -74,6 +74,36 @@ leaves 1
 hear 1 1 = 0 0 failed
 says 2 hello
 hear 2 5 = 5 532 more
+row a link of a tunnel's bytes that is done ends, and each other one is reset
+pair upstream = link 1
+pair upstream = link 2
+pair relay = link 3
+pair direct = link 4
+write 1 whole = took 5
+write 2 part = took 4
+hears 2 part
+close 1 done
+close 2 revoked
+close 3
+close 4
+hears 1 whole
+left 1
+broken 2
+broken 3
+broken 4
+row a captured link that is refused is reset, and one with frames ends
+listen plain = listening
+call
+named plain = times 1
+accept plain = link 1
+close 1 refused
+broken 1
+pair gateway = link 2
+pair = link 3
+close 2 revoked
+close 3
+left 2
+left 3
 row a dial that is refused fails at its finish
 dial = link 1
 await 1 = failed
