@@ -20,7 +20,7 @@ use Rattle.hb_turns.specs.Reckons.{is_plain, Adds, Closes, moved_by}
 pub adds_nothing : (before behind : Option (List Entry)) → behind ≡ with_entries [] before → Adds false 0 before behind
 adds_nothing before behind is = record { more = []; grows = is; plain = refl; moves_some = λ moved. absurd cc; few = omega arith }
 
-none_more : (o : Option (List Entry)) → o ≡ with_entries [] o
+pub none_more : (o : Option (List Entry)) → o ≡ with_entries [] o
 none_more None = refl
 none_more (Some trace) = ap (λ (es : List Entry). Some es) (sym (append-nil trace))
 
@@ -45,14 +45,14 @@ adds_within n m before behind within a = record {
   few = (let least = a.few in omega (arith, least, within));
 }
 
-twice : (xs ys : List Entry) (before mid behind : Option (List Entry)) → mid ≡ with_entries xs before → behind ≡ with_entries ys mid
+pub twice : (xs ys : List Entry) (before mid behind : Option (List Entry)) → mid ≡ with_entries xs before → behind ≡ with_entries ys mid
     → behind ≡ with_entries (xs ++ ys) before
 twice xs ys None mid behind first second = second ∙ ap (λ (o : Option (List Entry)). with_entries ys o) first
 twice xs ys (Some trace) mid behind first second =
     second ∙ ap (λ (o : Option (List Entry)). with_entries ys o) first
     ∙ ap (λ (es : List Entry). Some es) (append_assoc trace xs ys)
 
-both : (a b : Bool) → a ≡ true → b ≡ true → (a && b) ≡ true
+pub both : (a b : Bool) → a ≡ true → b ≡ true → (a && b) ≡ true
 both true true one other = refl
 both false b one other = absurd cc
 both true false one other = absurd cc

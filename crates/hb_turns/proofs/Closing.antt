@@ -9,6 +9,7 @@ use Rattle.hb_world.specs.declared.entry.Entry.{Entry}
 use Rattle.hb_world.specs.declared.entry.Entry.TheVariants as e
 use Rattle.hb_ready.specs.Registry.{kept}
 use Rattle.hb_turns.specs.Ends.{ClosesFor, cause_at, end_of}
+use Rattle.hb_turns.specs.Leads.{LeadLaw}
 use Rattle.hb_turns.specs.Looks.{LooksLaw}
 use Rattle.hb_turns.specs.Notes.{HasAllNotes}
 use Rattle.hb_turns.specs.Reckons.{Closes, Finishes}
@@ -23,6 +24,7 @@ use Rattle.hb_turns.specs.declared.served.ServeEnd.TheVariants as ends
 use Rattle.hb_turns.specs.declared.sums.Sums.{Sums}
 use Rattle.hb_turns.specs.declared.words.ServeWords.{ServeWords}
 use Rattle.hb_turns.proofs.Holding.{each, on_close, obeys-grows, stood_whole}
+use Rattle.hb_turns.proofs.Leading.{closes_lead}
 use Rattle.hb_turns.proofs.Looking.{closed_looks}
 use Rattle.hb_turns.proofs.Serving.{none_lives, some_lives}
 use Rattle.hb_turns.proofs.Summing.{totals_in, totals_same}
@@ -168,17 +170,17 @@ module _ {N : Type 0} (stands : List Note → N → List Entry → Type 0) (show
   -- a run that is over
   pub is_served : {A E F : Type 0} (words : ServeWords) (r : Result ServeEnd E) (b : Result A F) (run new : Run N)
       (before behind : Option (List Entry)) → IfSome before (Left stands shown r run) → IfSome before (Finishes words (end_of r))
-      → IfSome before LooksLaw → Closes (cause_at (end_of r)) before behind → IfSome behind (Obeys stands shown new.records)
+      → IfSome before LooksLaw → IfSome before (LeadLaw stands shown) → Closes (cause_at (end_of r)) before behind → IfSome behind (Obeys stands shown new.records)
       → ((l : ℕ) → (kept new.records.links).links l ≡ None) → OnOk r ((shown run.node).none_closes ≡ true)
       → OnOk b ((shown run.node).none_closes ≡ true → IfSome before (Stands stands shown run)
       → IfSome behind (HasAllNotes stands shown new))
       → IfSome behind (IsServed stands shown words
       (outcome (end_of r) new.records new.taken.sums (is_err b)) (leaves new.taken.keep new.node))
-  is_served words r b run new None behind left_so finishes looks closes obeys none none_closes notes =
+  is_served words r b run new None behind left_so finishes looks leads closes obeys none none_closes notes =
       subst (λ (o : Option (List Entry)). IfSome o (IsServed stands shown words
       (outcome (end_of r) new.records new.taken.sums (is_err b)) (leaves new.taken.keep new.node)))
       (sym closes.grows) tt
-  is_served words r b run new (Some trace) behind left_so finishes looks closes obeys none none_closes notes =
+  is_served words r b run new (Some trace) behind left_so finishes looks leads closes obeys none none_closes notes =
       by behind closes.grows obeys notes
     where
       by : (told : Option (List Entry)) → told ≡ Some (trace ++ closes.more) → IfSome told (Obeys stands shown new.records)
@@ -192,6 +194,8 @@ module _ {N : Type 0} (stands : List Note → N → List Entry → Type 0) (show
         settled = o.settled;
         looks = subst (λ (es : List Entry). LooksLaw es) (let same : full ≡ trace ++ closes.more = cc in sym same)
             (closed_looks (cause_at (end_of r)) trace closes.more closes.closes looks);
+        leads = subst (λ (es : List Entry). LeadLaw stands shown es) (let same : full ≡ trace ++ closes.more = cc in sym same)
+            (closes_lead stands shown (cause_at (end_of r)) trace closes.more closes.closes leads);
         closed = λ l. none_lives l full (sym (o.links l) ∙ none l);
         over = subst (λ (es : List Entry). IsOver stands shown words (end_of r) es) (let same : full ≡ trace ++ closes.more = cc in sym same)
             (over words (end_of r) closes.more trace finishes (stood_or r run trace left_so) closes.closes);

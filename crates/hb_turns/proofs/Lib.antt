@@ -3,6 +3,7 @@ pub mod Counting
 pub mod Closing
 pub mod Faulting
 pub mod Holding
+pub mod Leading
 pub mod Listening
 pub mod Looking
 pub mod Refusing

@@ -39,21 +39,21 @@ rises n (e.Came l bytes) = omega arith
 rises n (e.Accepted l door) = omega arith
 rises n _ = omega arith
 
-fits_at : (b : Bool) (n k : ℕ) → n + ((if b then 1 else 0) + k) ≤ 82 → (if b then not (82 - n == 0) else true) ≡ true
+fits_at : (b : Bool) (n k : ℕ) → n + ((if b then 1 else 0) + k) ≤ 83 → (if b then not (83 - n == 0) else true) ≡ true
 fits_at false n k fits = refl
-fits_at true n k fits = ap not (ne_eqb (82 - n) 0 (λ none. omega (arith, none, fits)))
+fits_at true n k fits = ap not (ne_eqb (83 - n) 0 (λ none. omega (arith, none, fits)))
 
-gains_none : (b : Bool) (n k : ℕ) → (if b then 1 else 0) + k ≤ 0 → (if b then not (82 - n == 0) else true) ≡ true
+gains_none : (b : Bool) (n k : ℕ) → (if b then 1 else 0) + k ≤ 0 → (if b then not (83 - n == 0) else true) ≡ true
 gains_none false n k none = refl
 gains_none true n k none = absurd (omega (arith, none))
 
 -- so few that the law allows them
-few_looked : (n : ℕ) (more : List Entry) → n + gains more ≤ 82
+few_looked : (n : ℕ) (more : List Entry) → n + gains more ≤ 83
     → (all_looked n more ≡ true) × (fold unseen_behind n more ≤ n + gains more)
 few_looked n [] fits = (refl, omega arith)
 few_looked n (x ∷ xs) fits =
     let grown = rises n x in
-    let split : n + ((if is_gain x then 1 else 0) + gains xs) ≤ 82 = subst (λ (k : ℕ). n + k ≤ 82) (count-cons is_gain x xs) fits in
+    let split : n + ((if is_gain x then 1 else 0) + gains xs) ≤ 83 = subst (λ (k : ℕ). n + k ≤ 83) (count-cons is_gain x xs) fits in
     let rest = few_looked (unseen_behind n x) xs (omega (arith, grown, split)) in
     let low = rest.1 in (
       both _ _ (fits_at (is_gain x) n (gains xs) split) rest.0,
@@ -82,7 +82,7 @@ looks_more n m trace more may low l = record {
   few = subst (λ (k : ℕ). k ≤ m) (sym (fold-append unseen_behind 0 trace more)) low;
 }
 
-pub adds_look : {b : Bool} (n k : ℕ) (before behind : Option (List Entry)) → n + k ≤ 82 → Adds b k before behind
+pub adds_look : {b : Bool} (n k : ℕ) (before behind : Option (List Entry)) → n + k ≤ 83 → Adds b k before behind
     → IfSome before (Looks n) → IfSome behind (Looks (n + k))
 adds_look n k before behind within adds =
     on (Looks n) (Looks (n + k)) adds.more before behind adds.grows
@@ -104,7 +104,7 @@ carry_looks n before behind adds =
     looks_more n n trace adds.more fit.0 (omega (arith, low, few)) l)
 
 -- a round of so many tries that moved something
-pub round_look : {b : Bool} (n k u : ℕ) (r : Records) (before behind : Option (List Entry)) → Fits n u r → (IsQuiet r → ⊥) → k ≤ 67
+pub round_look : {b : Bool} (n k u : ℕ) (r : Records) (before behind : Option (List Entry)) → Fits n u r → (IsQuiet r → ⊥) → k ≤ 68
     → Adds b k before behind → IfSome before (Looks n) → IfSome behind (Looks (n + k))
 round_look n k u r before behind fits work most adds = by fits.few
   where
@@ -113,7 +113,7 @@ round_look n k u r before behind fits work most adds = by fits.few
     by (inl fewer) = let gave = fits.gave in adds_look n k before behind (omega (arith, gave, fewer, most)) adds
 
 -- behind it no more is unseen than was counted
-pub round_counts : (n k u v : ℕ) (r : Records) → Fits n u r → (IsQuiet r → ⊥) → k ≤ 67 → v ≡ min (u + k) (2 ^ 64 - 1) → n + k ≤ v
+pub round_counts : (n k u v : ℕ) (r : Records) → Fits n u r → (IsQuiet r → ⊥) → k ≤ 68 → v ≡ min (u + k) (2 ^ 64 - 1) → n + k ≤ v
 round_counts n k u v r fits work most is = by fits.few
   where
     by : (u < 16) ⊎ IsQuiet r → n + k ≤ v

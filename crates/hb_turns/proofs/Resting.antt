@@ -1,13 +1,58 @@
 -- Numbers that left the list, where nothing else moved.
-use Rattle.std.proofs.Common.{◌≡◌, ℕ, ◌+◌, Bool, true, false, ◌||◌, length, drop, List, refl, ap, ◌∙◌, subst, arith, drop-drop}
+use Rattle.std.proofs.Common.{◌≡◌, ◌⊎◌, ℕ, ◌+◌, Bool, true, false, ◌||◌, length, drop, List, [], Option, Some, None, refl, ap, sym, ◌∙◌, subst, inl, inr, arith, drop-drop}
 use Rattle.std.proofs.lemmas.List.{drop_all}
 use Rattle.hb_base.specs.declared.door.Door.{Door}
 use Rattle.hb_base.specs.declared.door.Door.TheVariants.{Inbound, Outbound, Plain}
 use Rattle.hb_ready.specs.Registry.{kept}
 use Rattle.hb_ready.specs.Sight.{asked_at}
-use Rattle.hb_turns.specs.Rested.{IsCalm, IsDropped}
+use Rattle.hb_ready.specs.declared.link.Link.{Link}
+use Rattle.hb_turns.specs.Rested.{Drowses, FinishRests, IsCalm, IsDropped, ReadRests, WriteRests}
+use Rattle.hb_turns.specs.Settled.{Rests, RestsBy}
+use Rattle.hb_turns.specs.Shown.{Shown}
 use Rattle.hb_turns.specs.Woken.{IsQuiet}
 use Rattle.hb_turns.specs.declared.run.Run.{Run}
+
+drowses_both : (a b c : Option Link) → Drowses a b → Drowses b c → Drowses a c
+drowses_both None None None first second = tt
+drowses_both (Some a) (Some b) (Some c) first second = record {
+  opens = second.opens ∙ first.opens;
+  finish = λ sleeps. second.finish (first.finish sleeps);
+  read = λ sleeps. second.read (first.read sleeps);
+  write = λ sleeps. second.write (first.write sleeps);
+}
+drowses_both None None (Some c) first second = absurd second
+drowses_both None (Some b) c first second = absurd first
+drowses_both (Some a) None c first second = absurd first
+drowses_both (Some a) (Some b) None first second = absurd second
+
+finish_drowses : (a b : Option Link) → Drowses a b → FinishRests a → FinishRests b
+finish_drowses None None drowses rests = tt
+finish_drowses (Some a) (Some b) drowses (inl opened) = inl (drowses.opens ∙ opened)
+finish_drowses (Some a) (Some b) drowses (inr sleeps) = inr (drowses.finish sleeps)
+finish_drowses None (Some b) drowses rests = absurd drowses
+finish_drowses (Some a) None drowses rests = absurd drowses
+
+read_drowses : (a b : Option Link) (l : ℕ) (s : Shown) → Drowses a b → ReadRests a l s → ReadRests b l s
+read_drowses None None l s drowses rests = tt
+read_drowses (Some a) (Some b) l s drowses (inl closed) = inl (drowses.opens ∙ closed)
+read_drowses (Some a) (Some b) l s drowses (inr (inl sleeps)) = inr (inl (drowses.read sleeps))
+read_drowses (Some a) (Some b) l s drowses (inr (inr none)) = inr (inr none)
+read_drowses None (Some b) l s drowses rests = absurd drowses
+read_drowses (Some a) None l s drowses rests = absurd drowses
+
+-- a link rests where each of its calls has nothing to do, or sleeps
+rests_of : (o : Option Link) (l : ℕ) (s : Shown) → FinishRests o → ReadRests o l s → WriteRests o l s → Rests o l s
+rests_of None l s finish read write = tt
+rests_of (Some k) l s finish read write = by k.is_open refl finish read write
+  where
+    by : (b : Bool) → k.is_open ≡ b → (k.is_open ≡ true) ⊎ (k.finish_sleeps ≡ true)
+        → (k.is_open ≡ false) ⊎ ((k.read_sleeps ≡ true) ⊎ (s.wants l ≡ 0))
+        → (k.is_open ≡ false) ⊎ ((k.write_sleeps ≡ true) ⊎ (s.output l ≡ [])) → RestsBy b k l s
+    by true is finish (inr read) (inr write) = (read, write)
+    by true is finish (inl closed) write = absurd (let no : true ≡ false = sym is ∙ closed in cc)
+    by true is finish (inr read) (inl closed) = absurd (let no : true ≡ false = sym is ∙ closed in cc)
+    by false is (inr sleeps) read write = sleeps
+    by false is (inl opened) read write = absurd (let no : false ≡ true = sym is ∙ opened in cc)
 
 module _ {N : Type 0} where
   -- no number left the list
@@ -35,6 +80,26 @@ module _ {N : Type 0} where
       by Inbound = second.doors Inbound (first.doors Inbound inbound)
       by Outbound = second.doors Outbound outbound
       by Plain = plain
+
+  -- one call behind another by which nothing moved
+  pub calm_both : (a b c : Run N) → IsCalm a b → IsCalm b c → IsCalm a c
+  calm_both a b c first second = record {
+    node = second.node ∙ first.node;
+    listed = second.listed ∙ first.listed;
+    doors = λ d is. second.doors d (first.doors d is);
+    links = λ l. drowses_both _ _ _ (first.links l) (second.links l);
+  }
+
+  -- a link rests, as each of its calls told, behind the last of them
+  pub rests_calmly : (shown : N → Shown) (l : ℕ) (a b c e : Run N) → FinishRests ((kept a.records.links).links l) → IsCalm a b
+      → ReadRests ((kept b.records.links).links l) l (shown b.node) → IsCalm b c → IsCalm c e
+      → WriteRests ((kept e.records.links).links l) l (shown e.node) → Rests ((kept e.records.links).links l) l (shown e.node)
+  rests_calmly shown l a b c e finish first read second third write =
+      let later = calm_both b c e second third in
+      rests_of ((kept e.records.links).links l) l (shown e.node)
+      (finish_drowses _ _ (drowses_both _ _ _ (first.links l) (later.links l)) finish)
+      (subst (λ (n : N). ReadRests ((kept e.records.links).links l) l (shown n)) (sym later.node)
+      (read_drowses _ _ l (shown b.node) (later.links l) read)) write
 
 pub neither : (a b : Bool) → (a || b) ≡ false → (a ≡ false) × (b ≡ false)
 neither false b is = (refl, is)

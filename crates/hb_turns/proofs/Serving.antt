@@ -10,6 +10,7 @@ use Rattle.hb_ready.specs.Awake.{IsAwake}
 use Rattle.hb_ready.specs.Registry.{kept}
 use Rattle.hb_ready.specs.Sight.{known, sight}
 use Rattle.hb_ready.specs.declared.link.Link.{Link}
+use Rattle.hb_turns.specs.Leads.{LedAt}
 use Rattle.hb_turns.specs.Served.{IsServed, IsFresh, IsFreshNode, leaves, nothing_done}
 use Rattle.hb_turns.specs.Settled.{SettledAt, Rests}
 use Rattle.hb_turns.specs.Shown.{Shown}
@@ -100,6 +101,7 @@ nothing_served stands shown words keep n told fresh going is =
       awake = nothing_at IsAwake;
       settled = nothing_at (SettledAt stands shown);
       looks = refl;
+      leads = nothing_at (LedAt stands shown);
       closed = λ l. refl;
       over = record {
         before = [];

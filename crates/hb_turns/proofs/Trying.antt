@@ -112,11 +112,14 @@ pub none_once : (b : Bool) → ◌≡◌ {A = ℕ} (if b then 1 else 0) 0 → b 
 none_once true none = absurd cc
 none_once false none = refl
 
--- tries at three doors, and those of the links
-pub some_all : (n : ℕ) (a b d : Bool) (i j k : ℕ) → i ≡ (if a then 1 else 0) → j ≡ (if b then 1 else 0) → k ≡ (if d then 1 else 0)
-    → (((a || b) || d) || not (n == 0)) ≡ not (((i + j) + k) + n == 0)
-some_all n true b d i j k one two three = sym (ap not (ne_eqb (((i + j) + k) + n) 0 (λ none. omega (arith, none, one))))
-some_all n false true d i j k one two three = sym (ap not (ne_eqb (((i + j) + k) + n) 0 (λ none. omega (arith, none, two))))
-some_all n false false true i j k one two three = sym (ap not (ne_eqb (((i + j) + k) + n) 0 (λ none. omega (arith, none, three))))
-some_all n false false false i j k one two three =
-    let same : n ≡ ((i + j) + k) + n = omega (arith, one, two, three) in ap (λ (m : ℕ). not (m == 0)) same
+-- a read of the link that goes first, tries at three doors, and those of the links
+pub some_all : (n : ℕ) (a b d f : Bool) (i j k m : ℕ) → i ≡ (if a then 1 else 0) → j ≡ (if b then 1 else 0) → k ≡ (if d then 1 else 0)
+    → m ≡ (if f then 1 else 0) → ((((a || b) || d) || f) || not (n == 0)) ≡ not ((((i + j) + k) + m) + n == 0)
+some_all n true b d f i j k m one two three four = sym (ap not (ne_eqb ((((i + j) + k) + m) + n) 0 (λ none. omega (arith, none, one))))
+some_all n false true d f i j k m one two three four = sym (ap not (ne_eqb ((((i + j) + k) + m) + n) 0 (λ none. omega (arith, none, two))))
+some_all n false false true f i j k m one two three four =
+    sym (ap not (ne_eqb ((((i + j) + k) + m) + n) 0 (λ none. omega (arith, none, three))))
+some_all n false false false true i j k m one two three four =
+    sym (ap not (ne_eqb ((((i + j) + k) + m) + n) 0 (λ none. omega (arith, none, four))))
+some_all n false false false false i j k m one two three four =
+    let same : n ≡ (((i + j) + k) + m) + n = omega (arith, one, two, three, four) in ap (λ (l : ℕ). not (l == 0)) same

@@ -1,12 +1,14 @@
 pub mod Counted
 pub mod Ends
 pub mod Faults
+pub mod Leads
 pub mod Listens
 pub mod Looks
 pub mod May
 pub mod Notes
 pub mod Reckons
 pub mod Refused
+pub mod RefusedLeads
 pub mod RefusedLooks
 pub mod RefusedRuns
 pub mod Rested

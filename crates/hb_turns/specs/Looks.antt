@@ -9,9 +9,9 @@ use Rattle.hb_turns.specs.declared.round.Call.TheVariants as call
 use Rattle.hb_turns.specs.declared.run.Records.{Records}
 
 -- the most reads that give bytes, and accepts that give a link, between two looks: 15 behind which the next round comes without one, and
--- what that round gives: one at each of three doors, and one on each of 64 links
+-- what that round gives: one on the link that goes first, one at each of three doors, and one on each of 64 links
 abbrev pub most_unseen : ℕ
-most_unseen = 82
+most_unseen = 83
 
 -- a read gave bytes, or an accept a link
 abbrev pub is_gain : Entry → Bool

@@ -23,21 +23,21 @@ glances = e.Wait [] woken.Glanced
 
 -- one read too many of a link; with other entries between; and shared by two links
 abbrev pub ReadsOn : Type 0
-ReadsOn = LooksLaw (reads 1 83) → ⊥
+ReadsOn = LooksLaw (reads 1 84) → ⊥
 
 abbrev pub ReadsBetween : Type 0
-ReadsBetween = LooksLaw (reads 1 50 ++ e.Balked (way.Read 2) ∷ e.Went 2 (0 ∷ []) ∷ reads 1 33) → ⊥
+ReadsBetween = LooksLaw (reads 1 51 ++ e.Balked (way.Read 2) ∷ e.Went 2 (0 ∷ []) ∷ reads 1 33) → ⊥
 
 abbrev pub ReadsBoth : Type 0
-ReadsBoth = LooksLaw (glances ∷ reads 1 41 ++ reads 2 42) → ⊥
+ReadsBoth = LooksLaw (glances ∷ reads 1 42 ++ reads 2 42) → ⊥
 
 -- one accept too many
 abbrev pub AcceptsOn : Type 0
-AcceptsOn = LooksLaw (reads 1 82 ++ e.Accepted 2 Inbound ∷ []) → ⊥
+AcceptsOn = LooksLaw (reads 1 83 ++ e.Accepted 2 Inbound ∷ []) → ⊥
 
 -- a glance stands between
 abbrev pub GoodTraceIsLooked : Type 0
-GoodTraceIsLooked = LooksLaw (reads 1 82 ++ glances ∷ reads 1 82)
+GoodTraceIsLooked = LooksLaw (reads 1 83 ++ glances ∷ reads 1 83)
 
 -- a glance may stand where a link is to be asked whether it is open
 abbrev pub GlanceIsSettled : {N : Type 0} → (List Note → N → List Entry → Type 0) → (N → Shown) → Type 0

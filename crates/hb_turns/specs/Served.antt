@@ -9,6 +9,7 @@ use Rattle.hb_ready.specs.Awake.{AwakeLaw}
 use Rattle.hb_ready.specs.Registry.{kept}
 use Rattle.hb_ready.specs.Sight.{asked_at}
 use Rattle.hb_turns.specs.Ends.{ClosesFor, cause_at, was_wanting}
+use Rattle.hb_turns.specs.Leads.{LeadLaw}
 use Rattle.hb_turns.specs.Looks.{LooksLaw}
 use Rattle.hb_turns.specs.Notes.{Holds, AreNotes}
 use Rattle.hb_turns.specs.Reckons.{Finishes}
@@ -56,15 +57,16 @@ pub record IsTotalled {N : Type 0} (stands : List Note → N → List Entry → 
   pub kept_are : Holds left.keep notes
   pub totals_are : totals ≡ totals_of trace notes
 
--- A run that is over, of a node that was asked for this: its trace obeys the awake law, the settled law and the looks law, at its end no
--- link lives; it says how the run ended, how many links were born, how many dialled ones an update of the policies closed, and whether
--- one was closed for want of memory; and unless memory lacked the notes that are kept, and those that its node gave, are all that there are of
--- it, and the totals are its own
+-- A run that is over, of a node that was asked for this: its trace obeys the awake law, the settled law, the looks law and the lead law,
+-- at its end no link lives; it says how the run ended, how many links were born, how many dialled ones an update of the policies closed,
+-- and whether one was closed for want of memory; and unless memory lacked the notes that are kept, and those that its node gave, are all
+-- that there are of it, and the totals are its own
 pub record IsServed {N : Type 0} (stands : List Note → N → List Entry → Type 0) (shown : N → Shown) (words : ServeWords) (served : Served)
     (left : Leaves N) (trace : List Entry) : Type 0 where
   pub awake : AwakeLaw trace
   pub settled : SettledLaw stands shown trace
   pub looks : LooksLaw trace
+  pub leads : LeadLaw stands shown trace
   pub closed : (l : ℕ) → lives l trace ≡ false
   pub over : IsOver stands shown words served.end trace
   pub links_are : served.totals.links ≡ births trace

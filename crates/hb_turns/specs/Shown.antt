@@ -27,6 +27,8 @@ pub record Shown : Type 0 where
   pub dials : Option (Target × Why)
   -- the link stirred, and that wasn't told
   pub stirs : ℕ → Bool
+  -- the link that is read in front of all others, if one lives
+  pub first : Option ℕ
   -- the notes that wait to be taken, in order
   pub noted : List Note
   -- the cause for which links are closed, once the run is to end

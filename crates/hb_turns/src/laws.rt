@@ -1,11 +1,12 @@
-//! What the settled law and the record of a run refuse, of whatever node: small wrong traces, and good ones; and what is counted of
+//! What the laws of waits and looks and the record of a run refuse, of whatever node: small wrong traces, and good ones; and what is counted of
 //! small traces and notes. Each is the contract of a function that does nothing.
 
 ghost use Rattle.hb_turns.specs.Counted.{SparesAccepted, CountsDialledOnce, SparesStopped, CountsAccepted, CountsLacks, AddsEnds, StopsAtMost};
 ghost use Rattle.hb_turns.specs.Refused.{WaitsOverDue, WaitsOverReadable, WaitsOverUnwritten, WaitsUnasked, WaitsUnaccepted, GoodTraceIsSettled};
+ghost use Rattle.hb_turns.specs.RefusedLeads.{ReadsAnother, TriesAnother, AcceptsAnother, WritesBefore, GoodTraceIsLed};
 ghost use Rattle.hb_turns.specs.RefusedLooks.{ReadsOn, ReadsBetween, ReadsBoth, AcceptsOn, GoodTraceIsLooked, GlanceIsSettled};
-ghost use Rattle.hb_turns.specs.RefusedRuns.{StopsUnasked, LeavesOpen, ClosesForLack, GoesOnBehind, WaitsPastTurns, GivesUp, GlancesOn, TicksOnceMore};
-ghost use Rattle.hb_turns.specs.RefusedRuns.{ListensNowhere, ListensUnasked, ListensInAnotherOrder, LosesNotes, ForgetsNode, GoodRunIsServed};
+ghost use Rattle.hb_turns.specs.RefusedRuns.{StopsUnasked, LeavesOpen, ClosesForLack, GoesOnBehind, WaitsPastTurns, GivesUp, GlancesOn};
+ghost use Rattle.hb_turns.specs.RefusedRuns.{TicksOnceMore, ListensNowhere, ListensUnasked, ListensInAnotherOrder, LosesNotes, ForgetsNode, GoodRunIsServed};
 ghost use Rattle.hb_turns.specs.RefusedRuns.{LacksTwice, LacksUnallowed, LackIsServed};
 
 use crate::node::Node;
@@ -33,6 +34,16 @@ pub fn reads_unseen_are_refused<N: Node>()
     ensures accepts { AcceptsOn }
     ensures good { GoodTraceIsLooked }
     ensures settled { GlanceIsSettled N.stands N.shown }
+{}
+
+/// No trace obeys the lead law in which right behind a look another link is read or tried, one is accepted, or bytes are written, while
+/// something may be read on the link that goes first; one does in which that is read, and the other link behind it.
+pub fn links_read_before_the_first_are_refused<N: Node>()
+    ensures read { ReadsAnother N.stands N.shown }
+    ensures tried { TriesAnother N.stands N.shown }
+    ensures accepted { AcceptsAnother N.stands N.shown }
+    ensures written { WritesBefore N.stands N.shown }
+    ensures good { GoodTraceIsLed N.stands N.shown }
 {}
 
 /// No run is over that stops unasked, leaves a link open, closes one for another cause, goes on behind its end, waits or ticks more

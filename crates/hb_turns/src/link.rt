@@ -7,6 +7,7 @@ ghost use Rattle.hb_turns.specs.Faults.{StaysWhole};
 ghost use Rattle.hb_turns.specs.May.{MayFinish, MayRead, MayWrite};
 ghost use Rattle.hb_world.specs.Calls.{with_entries, read_entries};
 ghost use Rattle.hb_turns.specs.Rested.{IsCalm, FinishRests, ReadRests, WriteRests, MayNotRead, MayNotWrite};
+ghost use Rattle.hb_turns.specs.Leads.{ReadsFirst};
 ghost use Rattle.hb_turns.specs.Looks.{gained};
 ghost use Rattle.hb_turns.specs.Reckons.{Adds, moved_by};
 ghost use Rattle.hb_turns.specs.Stands.{Keeps, IsIdle};
@@ -116,6 +117,8 @@ fn read<W: World, N: Node>(run: &mut Run<N>, world: &mut W, link: u64) -> Result
     ensures rests { IfOk result (λ moved. moved ≡ false → IsCalm run.old run.new
         × ReadRests ((kept run.new.records.links).links link) link (N.shown run.new.node)) }
     ensures adds { Adds (moved_by result) (gained result) (W.trace world.old) (W.trace world.new) }
+    ensures leads { ReadsFirst (IfOk result (λ moved. ReadRests ((kept run.old.records.links).links link) link (N.shown run.old.node)))
+        N.shown run.old link (W.trace world.old) (W.trace world.new) }
     ensures stays { StaysWhole (W.seen world.old) (W.seen world.new) }
 {
     if !may_read(&run.records.links, link) {
@@ -200,6 +203,8 @@ pub(crate) fn read_last<W: World, N: Node>(
     ensures rests { IfOk result (λ moved. moved ≡ false → IsCalm run.old run.new
         × ReadRests ((kept run.new.records.links).links link) link (N.shown run.new.node)) }
     ensures adds { Adds (moved_by result) (gained result) (W.trace world.old) (W.trace world.new) }
+    ensures leads { ReadsFirst (IfOk result (λ moved. ReadRests ((kept run.old.records.links).links link) link (N.shown run.old.node)))
+        N.shown run.old link (W.trace world.old) (W.trace world.new) }
     ensures stays { StaysWhole (W.seen world.old) (W.seen world.new) }
 {
     let came = read(run, world, link)?;

@@ -48,6 +48,10 @@ pub trait Node {
     fn wants(&self, link: u64) -> usize
         ensures { result ≡ (shown self.now).wants link };
 
+    /// The link that goes first: what may be read on it is read in front of all others. `None`: no such link lives.
+    fn first(&self) -> Option<u64>
+        ensures { result ≡ (shown self.now).first };
+
     /// These bytes were read on a link.
     ///
     /// Errors: `NoMemory`, behind which the run ends.

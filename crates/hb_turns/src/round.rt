@@ -1,11 +1,12 @@
-//! A round: each door that a wait or a glance named accepts at most one link, and the links on the list are tried once, until 64 of these
-//! tries moved something.
+//! A round: the link that goes first is read, each door that a wait or a glance named accepts at most one link, and the links on the
+//! list are tried once, until 64 of these tries moved something.
 
-ghost use Rattle.std.specs.Prelude.{◌≡◌, ◌≤◌, ℕ, ◌∷◌, ◌++◌, [], true, false, drop, length, IfOk, List, if◌then◌else◌};
+ghost use Rattle.std.specs.Prelude.{⊤, ◌≡◌, ◌≤◌, ℕ, ◌∷◌, ◌++◌, [], true, false, drop, length, IfOk, List, if◌then◌else◌};
 ghost use Rattle.hb_world.specs.declared.entry.Entry.{Entry};
 ghost use Rattle.hb_ready.specs.Registry.{kept};
 ghost use Rattle.hb_ready.specs.Kept.{rotated};
 ghost use Rattle.hb_turns.specs.Faults.{StaysWhole};
+ghost use Rattle.hb_turns.specs.Leads.{CallReads, Heads, LeadsOn};
 ghost use Rattle.hb_turns.specs.Looks.{gained, gained_by};
 ghost use Rattle.hb_turns.specs.Reckons.{Adds, moved_by, made_by, some_by, Tried};
 ghost use Rattle.hb_ready.specs.Sight.{asked_at};
@@ -73,6 +74,7 @@ fn make_call<W: World, N: Node>(
     ensures still { IfOk result (λ moved. moved ≡ false → run.new.node ≡ run.old.node) }
     ensures rests { IfOk result (λ moved. moved ≡ false → IsCalm run.old run.new × CallRests N.shown call run.new) }
     ensures adds { Adds (moved_by result) (gained_by call result) (W.trace world.old) (W.trace world.new) }
+    ensures leads { CallReads N.shown result run.old call (W.trace world.old) (W.trace world.new) }
     ensures stays { StaysWhole (W.seen world.old) (W.seen world.new) }
 {
     match call {
@@ -91,6 +93,7 @@ fn try_call<W: World, N: Node>(
 ) -> Result<bool, NoMemory>
     ensures tried { Tried N.stands N.shown (moved_by result) (gained_by call result) result
         run.old (W.trace world.old) run.new (W.trace world.new) }
+    ensures leads { CallReads N.shown result run.old call (W.trace world.old) (W.trace world.new) }
     ensures rests { IfOk result (λ moved. moved ≡ false → IsCalm run.old run.new × CallRests N.shown call run.new) }
     ensures stays { StaysWhole (W.seen world.old) (W.seen world.new) }
 {
@@ -196,17 +199,36 @@ fn try_links<W: World, N: Node>(run: &mut Run<N>, world: &mut W) -> Result<u64, 
     Ok(made)
 }
 
-/// A round. Says how many tries of doors and links moved something.
-pub(crate) fn round<W: World, N: Node>(run: &mut Run<N>, world: &mut W) -> Result<u64, NoMemory>
-    ensures tried { Tried N.stands N.shown (some_by result) (made_by 67 result) result
+/// What may be read on the link that goes first is read, at most once. Says whether anything moved.
+fn read_first<W: World, N: Node>(run: &mut Run<N>, world: &mut W) -> Result<bool, NoMemory>
+    ensures tried { Tried N.stands N.shown (moved_by result) (gained result) result
         run.old (W.trace world.old) run.new (W.trace world.new) }
-    ensures most { IfOk result (λ made. made ≤ 67) }
-    ensures rests { IfOk result (λ made. made ≡ 0 → IsQuiet run.new.records) }
+    ensures leads { Heads (IfOk result (λ moved. (x : Entry)
+        → LeadsOn (N.shown run.old.node).first (kept run.old.records.links).links (N.shown run.old.node) x))
+        (LeadsOn (N.shown run.old.node).first (kept run.old.records.links).links (N.shown run.old.node))
+        (W.trace world.old) (W.trace world.new) }
     ensures stays { StaysWhole (W.seen world.old) (W.seen world.new) }
 {
+    match run.node.first() {
+        None => Ok(false),
+        Some(link) => try_call(run, world, Call::Read(link)),
+    }
+}
+
+/// A round: the link that goes first, the doors, the links on the list. Says how many tries moved something.
+pub(crate) fn round<W: World, N: Node>(run: &mut Run<N>, world: &mut W) -> Result<u64, NoMemory>
+    ensures tried { Tried N.stands N.shown (some_by result) (made_by 68 result) result
+        run.old (W.trace world.old) run.new (W.trace world.new) }
+    ensures most { IfOk result (λ made. made ≤ 68) }
+    ensures rests { IfOk result (λ made. made ≡ 0 → IsQuiet run.new.records) }
+    ensures leads { Heads ⊤ (LeadsOn (N.shown run.old.node).first (kept run.old.records.links).links (N.shown run.old.node))
+        (W.trace world.old) (W.trace world.new) }
+    ensures stays { StaysWhole (W.seen world.old) (W.seen world.new) }
+{
+    let first = read_first(run, world)?;
     let inbound = try_call(run, world, Call::Accept(Door::Inbound))?;
     let outbound = try_call(run, world, Call::Accept(Door::Outbound))?;
     let plain = try_call(run, world, Call::Accept(Door::Plain))?;
     let links = try_links(run, world)?;
-    Ok(once(inbound) + once(outbound) + once(plain) + links)
+    Ok(once(first) + once(inbound) + once(outbound) + once(plain) + links)
 }

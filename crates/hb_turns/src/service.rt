@@ -4,6 +4,7 @@ ghost use Rattle.std.specs.Prelude.{◌≡◌, [], true, Some, IfOk, IfSome, OnO
 ghost use Rattle.std.specs.Option.{option_map};
 ghost use Rattle.hb_turns.specs.Faults.{CountsWhole};
 ghost use Rattle.hb_turns.specs.Ends.{cause_at, is_fault, end_of};
+ghost use Rattle.hb_turns.specs.Leads.{LeadLaw};
 ghost use Rattle.hb_turns.specs.Looks.{LooksLaw};
 ghost use Rattle.hb_turns.specs.Reckons.{Begins, Finishes};
 ghost use Rattle.hb_turns.specs.Served.{IsServed, IsFresh, IsFreshNode, leaves};
@@ -38,6 +39,8 @@ fn run_on<W: World, N: Node>(
     ensures finishes { IfSome (W.trace world.old) (Begins N.stands N.shown run.old [])
         → IfSome (W.trace world.new) (Finishes words (end_of result)) }
     ensures looks { IfSome (W.trace world.old) (Begins N.stands N.shown run.old []) → IfSome (W.trace world.new) LooksLaw }
+    ensures leads { IfSome (W.trace world.old) (Begins N.stands N.shown run.old [])
+        → IfSome (W.trace world.new) (LeadLaw N.stands N.shown) }
     ensures faults { CountsWhole (W.seen world.old) (W.seen world.new) (is_fault (end_of result)) }
 {
     match listen(run, world, words.doors)? {

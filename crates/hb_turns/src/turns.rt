@@ -3,9 +3,10 @@
 ghost use Rattle.std.specs.Prelude.{◌≡◌, ◌≤◌, ℕ, ◌+◌, true, false, None, IfOk, IfSome, OnOk};
 ghost use Rattle.hb_turns.specs.Faults.{CountsWhole};
 ghost use Rattle.hb_turns.specs.Ends.{is_fault, is_fault_of_turn, end_of};
+ghost use Rattle.hb_turns.specs.Leads.{LeadLaw, NotBehindLook};
 ghost use Rattle.hb_turns.specs.Looks.{Fits, Looks, Looked, LooksLaw};
 ghost use Rattle.hb_turns.specs.Reckons.{Paid, Reckons, Turned, Finishes};
-ghost use Rattle.hb_turns.specs.Stands.{Keeps, IsIdle};
+ghost use Rattle.hb_turns.specs.Stands.{Keeps, IsIdle, Stands};
 ghost use Rattle.hb_turns.specs.declared.words.ServeWords.{ServeWords};
 ghost use Rattle.hb_turns.specs.Woken.{IsQuiet};
 
@@ -47,6 +48,7 @@ fn look_up<W: World, N: Node>(
     ensures turned { (words : ServeWords) (n w : ℕ) → IfSome (W.trace world.old) (Reckons words ticks.old n w)
         → IfSome (W.trace world.new) (Turned result words ticks.new n w) }
     ensures quiet { IsQuiet run.old.records → IsQuiet run.new.records }
+    ensures leads { IfSome (W.trace world.old) (LeadLaw N.stands N.shown) → IfSome (W.trace world.new) (LeadLaw N.stands N.shown) }
     ensures looks { (n : ℕ) → n ≤ unseen.old → (m : ℕ) × (IfOk result (λ end. Fits m unseen.new run.new.records))
         × (IfSome (W.trace world.old) (Looks n) → IfSome (W.trace world.new) (Looked result m)) }
     ensures faults { CountsWhole (W.seen world.old) (W.seen world.new) (is_fault_of_turn result) }
@@ -77,6 +79,8 @@ fn turn<W: World, N: Node>(
         × (IfOk result (λ end. end ≡ None → Paid (t + 1) m run.new.records))
         × ((words : ServeWords) (w : ℕ) → IfSome (W.trace world.old) (Reckons words ticks.old n w)
         → IfSome (W.trace world.new) (Turned result words ticks.new m (w + 1))) }
+    ensures leads { IfSome (W.trace world.old) (Stands N.stands N.shown run.old)
+        → IfSome (W.trace world.old) (LeadLaw N.stands N.shown) → IfSome (W.trace world.new) (LeadLaw N.stands N.shown) }
     ensures looks { (n : ℕ) → Fits n unseen.old run.old.records → (m : ℕ) × (IfOk result (λ end. Fits m unseen.new run.new.records))
         × (IfSome (W.trace world.old) (Looks n) → IfSome (W.trace world.new) (Looked result m)) }
     ensures faults { CountsWhole (W.seen world.old) (W.seen world.new) (is_fault_of_turn result) }
@@ -103,6 +107,8 @@ pub(crate) fn turns<W: World, N: Node>(
     ensures finishes { (words : ServeWords) → words.turns ≡ most → IfSome (W.trace world.old) (Reckons words ticks 0 0)
         → IfSome (W.trace world.new) (Finishes words (end_of result)) }
     ensures looks { IfSome (W.trace world.old) (Looks 0) → IfSome (W.trace world.new) LooksLaw }
+    ensures leads { IfSome (W.trace world.old) (Stands N.stands N.shown run.old)
+        → IfSome (W.trace world.old) (NotBehindLook N.stands N.shown) → IfSome (W.trace world.new) (LeadLaw N.stands N.shown) }
     ensures faults { CountsWhole (W.seen world.old) (W.seen world.new) (is_fault (end_of result)) }
 {
     carry(run, world)?;

@@ -3,8 +3,9 @@
 ghost use Rattle.std.specs.Prelude.{◌≡◌, ◌∷◌, ℕ, ◌+◌, [], true, false, None, IfOk, IfSome, OnOk};
 ghost use Rattle.hb_ready.specs.Registry.{kept};
 ghost use Rattle.hb_turns.specs.Faults.{StaysWhole, CountsWhole};
+ghost use Rattle.hb_turns.specs.Leads.{LeadLaw};
 ghost use Rattle.hb_turns.specs.Looks.{Looks, Looked};
-ghost use Rattle.hb_turns.specs.Reckons.{Reckons, Turned, IsBehindTick, one_less, is_spent};
+ghost use Rattle.hb_turns.specs.Reckons.{Adds, Reckons, Turned, IsBehindTick, one_less, is_spent};
 ghost use Rattle.hb_turns.specs.Stands.{Keeps, Left, WatchedBy, IsIdle};
 ghost use Rattle.hb_turns.specs.Woken.{Wakes, IsQuiet, Ticked};
 ghost use Rattle.hb_turns.specs.Ends.{is_fault_of_turn};
@@ -66,6 +67,7 @@ fn tick<W: World, N: Node>(
     ensures turned { (words : ServeWords) (n w : ℕ) → IfSome (W.trace world.old) (IsBehindTick words ticks.old n w)
         → IfSome (W.trace world.new) (Turned result words ticks.new n w) }
     ensures looks { (n : ℕ) → IfSome (W.trace world.old) (Looks n) → IfSome (W.trace world.new) (Looked result n) }
+    ensures adds { Adds false 0 (W.trace world.old) (W.trace world.new) }
     ensures stays { StaysWhole (W.seen world.old) (W.seen world.new) }
     ensures stops { is_fault_of_turn result ≡ false }
 {
@@ -91,6 +93,7 @@ pub(crate) fn wait<W: World, N: Node>(
     ensures turned { (words : ServeWords) (n w : ℕ) → IfSome (W.trace world.old) (Reckons words ticks.old n w)
         → IfSome (W.trace world.new) (Turned result words ticks.new (n + 2) (w + 1)) }
     ensures looks { (n : ℕ) → IfSome (W.trace world.old) (Looks n) → IfSome (W.trace world.new) (Looked result 0) }
+    ensures leads { IfSome (W.trace world.old) (LeadLaw N.stands N.shown) → IfSome (W.trace world.new) (LeadLaw N.stands N.shown) }
     ensures faults { CountsWhole (W.seen world.old) (W.seen world.new) (is_fault_of_turn result) }
 {
     match world.wait(ready) {
@@ -128,6 +131,7 @@ pub(crate) fn glance<W: World, N: Node>(
     ensures turned { (words : ServeWords) (n w : ℕ) → IfSome (W.trace world.old) (Reckons words ticks.old n w)
         → IfSome (W.trace world.new) (Turned result words ticks.new n w) }
     ensures looks { (n : ℕ) → IfSome (W.trace world.old) (Looks n) → IfSome (W.trace world.new) (Looked result 0) }
+    ensures leads { IfSome (W.trace world.old) (LeadLaw N.stands N.shown) → IfSome (W.trace world.new) (LeadLaw N.stands N.shown) }
     ensures faults { CountsWhole (W.seen world.old) (W.seen world.new) (is_fault_of_turn result) }
 {
     match world.glance(ready) {

@@ -12,6 +12,7 @@ use Rattle.hb_world.specs.declared.entry.Way.TheVariants as way
 use Rattle.hb_world.proofs.TraceLemmas.{AtEach-grows}
 use Rattle.hb_ready.specs.Awake.{IsAwake}
 use Rattle.hb_ready.specs.Sight.{fresh, with_finish, asked}
+use Rattle.hb_turns.specs.Leads.{LedAt}
 use Rattle.hb_turns.specs.Ends.{ClosesFor, end_by}
 use Rattle.hb_turns.specs.Listens.{listen_at}
 use Rattle.hb_turns.specs.RefusedRuns.{good_start, waits_stop}
@@ -63,6 +64,8 @@ returns g c = λ at to why notes more n m k free going starts waits ends none.
             links = λ l. rests (1 == l) l (g.N.Node.shown n);
           }) tt;
       looks = refl;
+      leads = five (LedAt g.N.Node.stands g.N.Node.shown) listens dials balks waits_stop (e.Closed 1 cause.Stopped)
+          (λ looked. absurd cc) (λ looked. absurd cc) (λ looked. absurd cc) tt tt;
       closed = λ l. over (1 == l);
       over = record {
         before = listens ∷ dials ∷ balks ∷ waits_stop ∷ [];

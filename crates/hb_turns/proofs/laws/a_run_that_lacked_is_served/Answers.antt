@@ -6,6 +6,7 @@ use Rattle.hb_world.specs.declared.entry.Entry.{Entry}
 use Rattle.hb_world.specs.declared.entry.Entry.TheVariants as e
 use Rattle.hb_world.proofs.TraceLemmas.{AtEach-grows}
 use Rattle.hb_ready.specs.Awake.{IsAwake}
+use Rattle.hb_turns.specs.Leads.{LedAt}
 use Rattle.hb_turns.specs.Ends.{ClosesFor, end_by}
 use Rattle.hb_turns.specs.Settled.{SettledAt}
 use Rattle.hb_turns.proofs.Holding.{stood_last}
@@ -25,10 +26,12 @@ returns g c = λ to why notes n left free starts.
     let opens = e.Opened 1 in
     let closes = e.Closed 1 cause.NoMemory in
     let settles = SettledAt g.N.Node.stands g.N.Node.shown in
+    let leads = LedAt g.N.Node.stands g.N.Node.shown in
     record {
       awake = AtEach-grows IsAwake (dials ∷ opens ∷ []) closes (two IsAwake dials opens tt refl) tt;
       settled = AtEach-grows settles (dials ∷ opens ∷ []) closes (two settles dials opens tt tt) tt;
       looks = refl;
+      leads = AtEach-grows leads (dials ∷ opens ∷ []) closes (two leads dials opens (λ looked. absurd cc) (λ looked. absurd cc)) tt;
       closed = λ l. over (1 == l);
       over = record {
         before = dials ∷ opens ∷ [];

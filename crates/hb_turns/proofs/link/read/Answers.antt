@@ -6,6 +6,7 @@ use Rattle.hb_turns.specs.May.{MayRead}
 use Rattle.hb_turns.specs.Stands.{Stands}
 use Rattle.hb_turns.specs.Shown.{Tells}
 use Rattle.hb_turns.proofs.Holding.{moved, lacked, left, untold, unmoved, rested, same_run}
+use Rattle.hb_turns.proofs.Leading.{heads_none, heads_nothing, may_not_read, none_wanted, reads_one, same_number}
 use Rattle.hb_turns.specs.declared.run.Records.{Records}
 use Rattle.hb_turns.proofs.Watching.{watched-read}
 use Rattle.hb_turns.proofs.Ways.{got_some, got_few, came_comes, came_tracks, ended_comes, ended_tracks, read_balks, read_breaks}
@@ -107,3 +108,40 @@ returns-in_err-take_bytes-in-Got-clause-keeps g c = λ idle had.
     (lacked g.N.Node.stands g.N.Node.shown mid mid.records (e.Came c.args.link (take c.in-Got.n mid.buffer.items)) (Stands g.N.Node.stands g.N.Node.shown mid)
     (g.W.World.trace c.args.world.now) _ c.in-Got.ensures.adds
     (came_tracks mid.records c.args.link _ may_mid) (came_comes g.N.Node.stands g.N.Node.shown mid c.args.link now may_mid _ some few) had_mid)
+
+pub returns-then-not-may_read-clause-leads : goal.returns-then-not-may_read-clause-leads
+returns-then-not-may_read-clause-leads g c =
+    heads_none _ (may_not_read _ c.args.link (g.N.Node.shown c.args.run.now.node) (c.may_read.ensures.rests c.if-not-may_read.true))
+
+pub returns-then-wanted-eq0-clause-leads : goal.returns-then-wanted-eq0-clause-leads
+returns-then-wanted-eq0-clause-leads g c =
+    heads_none _ (none_wanted _ c.args.link (g.N.Node.shown c.args.run.now.node) (sym c.wants-wanted.ensures ∙ c.if-wanted-eq0.true))
+
+pub returns-then-most-eq0-clause-leads : goal.returns-then-most-eq0-clause-leads
+returns-then-most-eq0-clause-leads g c = heads_none _ tt
+
+pub returns-in-End-clause-leads : goal.returns-in-End-clause-leads
+returns-in-End-clause-leads g c =
+    reads_one g.N.Node.shown c.args.run.now c.args.link (e.Ended c.args.link) _ _ c.in-End.ensures.adds refl (same_number c.args.link)
+
+pub returns-in-Balked-clause-leads : goal.returns-in-Balked-clause-leads
+returns-in-Balked-clause-leads g c =
+    reads_one g.N.Node.shown c.args.run.now c.args.link (e.Balked (way.Read c.args.link)) _ _ c.in-Balked.ensures.adds refl
+    (same_number c.args.link)
+
+pub returns-in-Failed-clause-leads : goal.returns-in-Failed-clause-leads
+returns-in-Failed-clause-leads g c =
+    reads_one g.N.Node.shown c.args.run.now c.args.link (e.Broke c.args.link) _ _ c.in-Failed.ensures.adds refl (same_number c.args.link)
+
+pub returns-in-NoMemory-clause-leads : goal.returns-in-NoMemory-clause-leads
+returns-in-NoMemory-clause-leads g c = heads_nothing _ _ c.in-NoMemory.ensures.adds tt
+
+pub returns-in_ok-take_bytes-in-Got-clause-leads : goal.returns-in_ok-take_bytes-in-Got-clause-leads
+returns-in_ok-take_bytes-in-Got-clause-leads g c =
+    reads_one g.N.Node.shown c.args.run.now c.args.link (e.Came c.args.link (take c.in-Got.n c.read_into.new.run.buffer.items)) _ _
+    c.in-Got.ensures.adds refl (same_number c.args.link)
+
+pub returns-in_err-take_bytes-in-Got-clause-leads : goal.returns-in_err-take_bytes-in-Got-clause-leads
+returns-in_err-take_bytes-in-Got-clause-leads g c =
+    reads_one g.N.Node.shown c.args.run.now c.args.link (e.Came c.args.link (take c.in-Got.n c.read_into.new.run.buffer.items)) _ _
+    c.in-Got.ensures.adds refl (same_number c.args.link)

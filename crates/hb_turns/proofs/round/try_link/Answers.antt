@@ -1,4 +1,5 @@
 use Rattle.std.proofs.Common.{true, refl, arith, rules}
+use Rattle.hb_turns.proofs.Resting.{calm_both, rests_calmly, neither}
 use Rattle.hb_turns.proofs.Trying.{tried_both, tried_err, tried_as, lacked_first, err_moves, err_gains, link_gains, once_few}
 use Rattle.hb_turns.proofs.round.try_link.Goals as goal
 
@@ -47,3 +48,16 @@ returns-clause-tried g c =
     (tried_both stands shown _ _ _ _ _ _ true
     (tried_both stands shown _ _ _ _ _ _ true (c.in_ok-opened.ensures {u = tt}).tried (c.in_ok-came.ensures {u = tt}).tried)
     (c.in_ok-went.ensures {u = tt}).tried) (c.in_ok-more.ensures {u = tt}).tried)
+
+pub returns-clause-rests : goal.returns-clause-rests
+returns-clause-rests g c = λ still.
+    let last = neither _ _ still in
+    let third = neither _ _ last.0 in
+    let second = neither _ _ third.0 in
+    let opened = (c.in_ok-opened.ensures {u = tt}).rests second.0 in
+    let came = (c.in_ok-came.ensures {u = tt}).rests second.1 in
+    let went = (c.in_ok-went.ensures {u = tt}).rests third.1 in
+    let more = (c.in_ok-more.ensures {u = tt}).rests last.1 in (
+      calm_both _ _ _ opened.0 (calm_both _ _ _ came.0 (calm_both _ _ _ went.0 more.0)),
+      rests_calmly g.N.Node.shown c.args.link _ _ _ _ opened.1 came.0 came.1 went.0 more.0 more.1,
+    )

@@ -16,7 +16,8 @@ returns-clause-served g c = λ none had.
     let closes = subst (λ (why : Cause). Closes why (g.W.World.trace c.run_on.new.world) (g.W.World.trace c.end_run-noted.new.world)) cause_is
     c.end_run-noted.ensures.closes in
     let served = is_served g.N.Node.stands g.N.Node.shown c.args.words c.run_on.result c.end_run-noted.result c.run_on.new.run new
-    (g.W.World.trace c.run_on.new.world) (g.W.World.trace c.end_run-noted.new.world) left_so (c.run_on.ensures.finishes had) (c.run_on.ensures.looks had) closes
+    (g.W.World.trace c.run_on.new.world) (g.W.World.trace c.end_run-noted.new.world) left_so (c.run_on.ensures.finishes had) (c.run_on.ensures.looks had)
+    (c.run_on.ensures.leads had) closes
     (c.end_run-noted.ensures.obeys (left_obeys g.N.Node.stands g.N.Node.shown c.run_on.result c.run_on.new.run _ left_so))
     c.end_run-noted.ensures.none
     (on_ok c.run_on.result _ _ (λ so. so none) c.run_on.ensures.closes) c.end_run-noted.ensures.noted in

@@ -3,6 +3,7 @@ use Rattle.hb_turns.specs.Reckons.{Reckons}
 use Rattle.hb_turns.specs.declared.served.ServeEnd.TheVariants as ends
 use Rattle.hb_turns.proofs.Counting.{reckons_adds, reckons_fewer, turns_after, lack_finishes, ends_within, lack_turns, turned_later, no_ok, all_ok, each_ok, on_ok, paid_round, paid_wait, none_made}
 use Rattle.hb_turns.proofs.Holding.{each, left}
+use Rattle.hb_turns.proofs.Leading.{round_leads}
 use Rattle.hb_turns.proofs.Looking.{round_look, round_counts, none_fits, lacked_looks}
 use Rattle.hb_turns.proofs.turns.turn.Goals as goal
 
@@ -34,10 +35,10 @@ returns-in_err-made-clause-turned g c = λ t n paid. (
 
 pub returns-in_err-made-clause-looks : goal.returns-in_err-made-clause-looks
 returns-in_err-made-clause-looks g c = λ n fits. (
-  n + 67,
+  n + 68,
   no_ok c.from_residual.result _ (search rules),
-  λ had. lacked_looks c.from_residual.result (n + 67) _ (search rules)
-      (round_look n 67 c.args.unseen.now c.args.run.now.records _ _ fits (c.has_work.ensures.work c.if-not-has_work.false) (omega arith)
+  λ had. lacked_looks c.from_residual.result (n + 68) _ (search rules)
+      (round_look n 68 c.args.unseen.now c.args.run.now.records _ _ fits (c.has_work.ensures.work c.if-not-has_work.false) (omega arith)
       (c.in_err-made.ensures {u = tt}).tried.adds had),
 )
 
@@ -81,3 +82,15 @@ returns-clause-idle g c =
 pub returns-clause-closes : goal.returns-clause-closes
 returns-clause-closes g c =
     on_ok c.look_up.result _ _ (λ so idle. so ((c.in_ok-made.ensures {u = tt}).tried.idle idle)) c.look_up.ensures.closes
+
+pub returns-then-not-has_work-clause-leads : goal.returns-then-not-has_work-clause-leads
+returns-then-not-has_work-clause-leads g c = λ stood law. c.wait.ensures.leads law
+
+pub returns-in_err-made-clause-leads : goal.returns-in_err-made-clause-leads
+returns-in_err-made-clause-leads g c = λ stood law.
+    round_leads g.N.Node.stands g.N.Node.shown c.args.run.now _ _ (c.in_err-made.ensures {u = tt}).leads stood law
+
+pub returns-clause-leads : goal.returns-clause-leads
+returns-clause-leads g c = λ stood law.
+    c.look_up.ensures.leads
+    (round_leads g.N.Node.stands g.N.Node.shown c.args.run.now _ _ (c.in_ok-made.ensures {u = tt}).leads stood law)

@@ -4,6 +4,7 @@ use Rattle.hb_turns.specs.declared.served.ServeEnd.{ServeEnd}
 use Rattle.hb_turns.specs.declared.served.ServeEnd.TheVariants as ends
 use Rattle.hb_turns.proofs.Counting.{reckons_adds, lack_finishes, lack_ends, spent_finishes, ends_so, paid_on, paid_all}
 use Rattle.hb_turns.proofs.Faulting.{stays_both, stays_on}
+use Rattle.hb_turns.proofs.Leading.{calls_lead}
 use Rattle.hb_turns.proofs.Looking.{carry_looks, looks_law, none_fits}
 use Rattle.hb_turns.proofs.turns.turns.Goals as goal
 
@@ -15,6 +16,7 @@ loop-turn-init g c =
       kept = λ had. carried.keeps had;
       reckoned = (0, inl (omega arith), λ words had. reckons_adds words c.args.ticks 0 0 _ _ _ carried.adds had);
       looked = (0, none_fits _, λ had. carry_looks 0 _ _ carried.adds had);
+      led = λ stood none. calls_lead g.N.Node.stands g.N.Node.shown _ _ carried.adds none;
       stays = carried.stays;
     }
 
@@ -36,6 +38,7 @@ loop-turn-preserved g c =
             c.in-None.is (made.2 words c.loop-turn._turn (at.reckoned.2 words had)),
       );
       looked = (seen.0, seen.1, λ had. seen.2 (at.looked.2 had));
+      led = λ stood none. turned.leads (at.kept stood) (at.led stood none);
       stays = stays_both _ _ _ at.stays (stays_on _ _ _ c.in-None.is turned.faults);
     }
 
@@ -87,3 +90,18 @@ returns-in-Some-clause-looks g c = λ had.
 
 pub returns-clause-looks : goal.returns-clause-looks
 returns-clause-looks g c = λ had. let at = c.loop-turn.invariant.looked in looks_law at.0 _ (at.2 had)
+
+pub returns-in_err-carry-clause-leads : goal.returns-in_err-carry-clause-leads
+returns-in_err-carry-clause-leads g c = λ stood none.
+    calls_lead g.N.Node.stands g.N.Node.shown _ _ (c.in_err-carry.ensures {u = tt}).adds none
+
+pub returns-in_err-end-clause-leads : goal.returns-in_err-end-clause-leads
+returns-in_err-end-clause-leads g c = λ stood none.
+    let at = c.loop-turn.invariant in (c.in_err-end.ensures {u = tt}).leads (at.kept stood) (at.led stood none)
+
+pub returns-in-Some-clause-leads : goal.returns-in-Some-clause-leads
+returns-in-Some-clause-leads g c = λ stood none.
+    let at = c.loop-turn.invariant in (c.in_ok-end.ensures {u = tt}).leads (at.kept stood) (at.led stood none)
+
+pub returns-clause-leads : goal.returns-clause-leads
+returns-clause-leads g c = λ stood none. c.loop-turn.invariant.led stood none

@@ -9,6 +9,7 @@ use Rattle.hb_turns.specs.declared.served.ServeEnd.TheVariants as ends
 use Rattle.hb_turns.proofs.Counting.{glance_on, tick_glanced, wait_ends, lack_finishes, ends_within, each_ok, on_ok}
 use Rattle.hb_turns.proofs.Faulting.{counts_one, counts_none}
 use Rattle.hb_turns.proofs.Holding.{same, untold, rested}
+use Rattle.hb_turns.proofs.Leading.{calls_lead, look_leads, nothing_leads, tick_leads}
 use Rattle.hb_turns.proofs.Looking.{look_on, look_ticks, unlooked}
 use Rattle.hb_turns.proofs.Waking.{wakes-tracks, glance_comes, wait_ticks}
 use Rattle.hb_turns.proofs.waits.glance.Goals as goal
@@ -115,3 +116,17 @@ returns-in-Tick-clause-looks g c = λ n had. c.tick.ensures.looks 0 (look_ticks 
 
 pub returns-in-NoMemory-clause-looks : goal.returns-in-NoMemory-clause-looks
 returns-in-NoMemory-clause-looks g c = λ n had. unlooked n _ _ c.in-NoMemory.ensures.adds had
+
+pub returns-in-Woke-clause-leads : goal.returns-in-Woke-clause-leads
+returns-in-Woke-clause-leads g c = look_leads g.N.Node.stands g.N.Node.shown c.glance.new.ready woken.Glanced _ _ c.in-Woke.ensures.adds
+
+pub returns-in-Failed-clause-leads : goal.returns-in-Failed-clause-leads
+returns-in-Failed-clause-leads g c = look_leads g.N.Node.stands g.N.Node.shown c.glance.new.ready woken.GlanceFailed _ _ c.in-Failed.ensures.adds
+
+pub returns-in-Tick-clause-leads : goal.returns-in-Tick-clause-leads
+returns-in-Tick-clause-leads g c = λ law.
+    calls_lead g.N.Node.stands g.N.Node.shown _ _ c.tick.ensures.adds
+    (tick_leads g.N.Node.stands g.N.Node.shown c.glance.new.ready woken.Glanced _ _ c.in-Tick.ensures.adds law)
+
+pub returns-in-NoMemory-clause-leads : goal.returns-in-NoMemory-clause-leads
+returns-in-NoMemory-clause-leads g c = nothing_leads g.N.Node.stands g.N.Node.shown _ _ c.in-NoMemory.ensures.adds

@@ -7,6 +7,7 @@ use Rattle.hb_turns.proofs.Counting.{tick_on, tick_ends, lack_finishes, ends_wit
 use Rattle.hb_turns.proofs.Holding.{each, left}
 use Rattle.hb_turns.proofs.Looking.{carry_looks, lacked_looks}
 use Rattle.hb_turns.proofs.Waking.{tick_told}
+use Rattle.hb_turns.proofs.Adding.{adds_none}
 use Rattle.hb_turns.proofs.waits.tick.Goals as goal
 
 pub returns-then-is_last-clause-keeps : goal.returns-then-is_last-clause-keeps
@@ -54,3 +55,6 @@ returns-clause-looks g c = λ n had. carry_looks n _ _ (c.in_ok-carry.ensures {u
 pub returns-in_err-carry-clause-looks : goal.returns-in_err-carry-clause-looks
 returns-in_err-carry-clause-looks g c = λ n had.
     lacked_looks c.from_residual.result n _ (search rules) (carry_looks n _ _ (c.in_err-carry.ensures {u = tt}).adds had)
+
+pub returns-then-is_last-clause-adds : goal.returns-then-is_last-clause-adds
+returns-then-is_last-clause-adds g c = adds_none _
