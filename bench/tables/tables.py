@@ -26,13 +26,13 @@ WHOLE = [
     ("streams.py", "hb_streams_rows", "rows.rt"),
     ("conversations.py", "hb_conn_rows", "conversation_rows.rt"),
     ("ip_rows.py", "hb_records_rows", "ips.rt"),
-    ("front_rows.py", "hb_front_rows", "rows.rt"),
+    ("front_rows.py", "hb_tunnels_rows", "front_rows.rt"),
     ("record_rows.py", "hb_records_rows", "spelled.rt"),
-    ("request_rows.py", "hb_disco_rows", "written.rt"),
-    ("lines_rows.py", "hb_lines_rows", "told.rt"),
+    ("request_rows.py", "hb_resources_rows", "written.rt"),
+    ("lines_rows.py", "hb_resources_rows", "lines_told.rt"),
     ("node_rows.py", "hb_node_rows", "rows.rt"),
     ("link_rows.py", "hb_link_rows", "rows.rt"),
-    ("route_rows.py", "hb_route_rows", "rows.rt"),
+    ("route_rows.py", "hb_tunnels_rows", "route_rows.rt"),
     ("replay_rows.py", "hb_replay_rows", "rows.rt"),
     ("tunnel_rows.py", "hb_replay_rows", "tunnels.rt"),
     ("modelled_rows.py", "hb_replay_rows", "modelled.rt"),
@@ -43,7 +43,7 @@ WHOLE = [
     ("make_rows.py", "hb_make_rows", "rows.rt"),
     ("relay_rows.py", "hb_relay_rows", "octets.rt"),
 ]
-PARTS = [("frame_vectors.py", "hb_http2_rows", "frame_vectors.rt"), ("verdict_rows.py", "hb_table_rows", "requests.rt")]
+PARTS = [("frame_vectors.py", "hb_http2_rows", "frame_vectors.rt"), ("verdict_rows.py", "hb_tunnels_rows", "requests.rt")]
 
 
 LACKS = re.compile(r"No module named '([\w.]+)'|No such file or directory: '(protoc)'|(libnghttp2\S*): cannot open shared object file")
