@@ -30,8 +30,6 @@ WHOLE = [
     ("record_rows.py", "hb_records_rows", "spelled.rt"),
     ("request_rows.py", "hb_resources_rows", "written.rt"),
     ("lines_rows.py", "hb_resources_rows", "lines_told.rt"),
-    ("node_rows.py", "hb_node_rows", "rows.rt"),
-    ("link_rows.py", "hb_link_rows", "rows.rt"),
     ("route_rows.py", "hb_tunnels_rows", "route_rows.rt"),
     ("replay_rows.py", "hb_replay_rows", "rows.rt"),
     ("tunnel_rows.py", "hb_replay_rows", "tunnels.rt"),
@@ -41,7 +39,7 @@ WHOLE = [
     ("gateway_rows.py", "hb_gateway_rows", "rows.rt"),
     ("serve_rows.py", "hb_serve_rows", "frames.rt"),
     ("make_rows.py", "hb_make_rows", "rows.rt"),
-    ("relay_rows.py", "hb_relay_rows", "octets.rt"),
+    ("lives_rows.py", "hb_lives_rows", "octets.rt"),
 ]
 PARTS = [("frame_vectors.py", "hb_http2_rows", "frame_vectors.rt"), ("verdict_rows.py", "hb_tunnels_rows", "requests.rt")]
 

@@ -2,7 +2,7 @@
 
 ghost use Rattle.std.specs.Prelude.{◌∷◌, []};
 ghost use Rattle.hb_link.specs.Noted.{Takes};
-ghost use Rattle.hb_link_rows.specs.Kept.{kept};
+ghost use Rattle.hb_lives_rows.specs.Kept.{kept};
 
 use hb_base::{Cause, Note, Peer, Target};
 use hb_link::Notes;
@@ -29,7 +29,7 @@ impl Told {
 }
 
 impl Notes for Told {
-    ghost use Rattle.hb_link_rows.specs.Kept.{kept};
+    ghost use Rattle.hb_lives_rows.specs.Kept.{kept};
 
     ghost told = { λ t. kept t.lost t.notes.items };
 
