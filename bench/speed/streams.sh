@@ -13,7 +13,7 @@ for crate in hb_base hb_map hb_streams hb_streams_rows; do
     done
 done
 program="$copy/crates/hb_streams_rows"
-rm "$program/src/"*.rt
+rm -r "$program/src/"*.rt "$program/proofs/flow_steps"
 cp "$top/crates/hb_streams_rows/src/moves.rt" "$program/src/moves.rt"
 cp "$top/bench/speed/streams_main.rt.in" "$program/src/main.rt"
 mkdir "$program/proofs/open_all"

@@ -1,7 +1,7 @@
 #!/usr/bin/python3
-"""Prints crates/hb_front_rows/src/rows.rt: bytes, and the answer to each front of them; and headers that are written.
+"""Prints crates/hb_tunnels_rows/src/front_rows.rt: bytes, and the answer to each front of them; and headers that are written.
 
-    python3 bench/tables/front_rows.py > crates/hb_front_rows/src/rows.rt && (cd crates/hb_front_rows && rt fmt)
+    python3 bench/tables/front_rows.py > crates/hb_tunnels_rows/src/front_rows.rt && (cd crates/hb_tunnels_rows && rt fmt)
 
 A second reader and writer, from the text of the PROXY protocol, version 2 (section 2.2, "Binary header format"), with the
 rules of docs/FORMATS.md: only TCP, at most 4,096 bytes behind the length, and type e0 with the text of an identity.

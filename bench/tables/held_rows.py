@@ -1,6 +1,8 @@
-"""Computes the rows of crates/hb_held_rows/src/lookups.rt again: the resources as plain dicts, every look-up a walk over all of them, and what
-was held before each response kept as a copy. usage: bench/tables/held_rows.py [FILE]: prints the rows whose answers differ; with `-` instead,
-reads questions from stdin (`responses => question`) and prints them with their answers."""
+"""Computes the rows of crates/hb_resources_rows/src/held_lookups.rt again: the resources as plain dicts, every look-up a walk over all of
+them, and what was held before each response kept as a copy.
+
+usage: bench/tables/held_rows.py [FILE]: prints the rows whose answers differ; with `-` instead, reads questions from stdin
+(`responses => question`) and prints them with their answers."""
 import copy, ipaddress, re, sys
 
 TOP = __file__.rsplit("/", 3)[0] if "/" in __file__ else "../.."
@@ -99,7 +101,7 @@ if __name__ == "__main__":
             responses, _, question = line.partition("=> ")
             print(line + " = " + answer(responses, question.strip()))
     else:
-        text = open(sys.argv[1] if sys.argv[1:] else TOP + "/crates/hb_held_rows/src/lookups.rt").read()
+        text = open(sys.argv[1] if sys.argv[1:] else TOP + "/crates/hb_resources_rows/src/held_lookups.rt").read()
         rows = re.search(r'const ROWS: &str = "\\\n(.*?)";', text, re.S).group(1).split("\n")
         wrong = 0
         for row in rows:

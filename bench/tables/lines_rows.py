@@ -1,7 +1,7 @@
 #!/usr/bin/python3
-"""Prints crates/hb_lines_rows/src/told.rt: discovery responses, and the lines that tell what each did and what is held in the end.
+"""Prints crates/hb_resources_rows/src/lines_told.rt: discovery responses, and the lines that tell what each did and what is held in the end.
 
-    python3 bench/tables/lines_rows.py > crates/hb_lines_rows/src/told.rt && (cd crates/hb_lines_rows && rt fmt)
+    python3 bench/tables/lines_rows.py > crates/hb_resources_rows/src/lines_told.rt && (cd crates/hb_resources_rows && rt fmt)
 
 Needs Debian's python3-protobuf and protobuf-compiler: run it with /usr/bin/python3. Google's Protocol Buffers write the records, by types
 that `protoc` makes from records.proto, Python's `json` the lines, and its `ipaddress` the addresses. What a response does is reckoned

@@ -1,7 +1,7 @@
 #!/usr/bin/python3
-"""Prints crates/hb_disco_rows/src/written.rt: requests, and the bytes that Google's Protocol Buffers write of them.
+"""Prints crates/hb_resources_rows/src/written.rt: requests, and the bytes that Google's Protocol Buffers write of them.
 
-    python3 bench/tables/request_rows.py > crates/hb_disco_rows/src/written.rt && (cd crates/hb_disco_rows && rt fmt)
+    python3 bench/tables/request_rows.py > crates/hb_resources_rows/src/written.rt && (cd crates/hb_resources_rows && rt fmt)
 
 Needs Debian's python3-protobuf and protobuf-compiler: run it with /usr/bin/python3. `protoc` makes its types from discovery.proto; what
 they write is deterministic, so a map's entries stand by their keys. Names and versions that are empty aren't made here, since that

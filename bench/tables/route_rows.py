@@ -1,8 +1,8 @@
 #!/usr/bin/python3
-"""Prints crates/hb_route_rows/src/rows.rt: records in digits; and resources of such records, connections that are open, a connection
+"""Prints crates/hb_tunnels_rows/src/route_rows.rt: records in digits; and resources of such records, connections that are open, a connection
 that is to be made, and the way it takes.
 
-    python3 bench/tables/route_rows.py > crates/hb_route_rows/src/rows.rt && (cd crates/hb_route_rows && rt fmt)
+    python3 bench/tables/route_rows.py > crates/hb_tunnels_rows/src/route_rows.rt && (cd crates/hb_tunnels_rows && rt fmt)
 
 routes.py beside this one, a second evaluator, tells each way.
 """

@@ -21,15 +21,13 @@ WHOLE = [
     ("streams.py", "hb_streams_rows", "rows.rt"),
     ("conversations.py", "hb_conn_rows", "conversation_rows.rt"),
     ("ip_rows.py", "hb_records_rows", "ips.rt"),
-    ("front_rows.py", "hb_front_rows", "rows.rt"),
+    ("front_rows.py", "hb_tunnels_rows", "front_rows.rt"),
     ("record_rows.py", "hb_records_rows", "spelled.rt"),
-    ("request_rows.py", "hb_disco_rows", "written.rt"),
-    ("lines_rows.py", "hb_lines_rows", "told.rt"),
-    ("node_rows.py", "hb_node_rows", "rows.rt"),
-    ("link_rows.py", "hb_link_rows", "rows.rt"),
-    ("route_rows.py", "hb_route_rows", "rows.rt"),
+    ("request_rows.py", "hb_resources_rows", "written.rt"),
+    ("lines_rows.py", "hb_resources_rows", "lines_told.rt"),
+    ("route_rows.py", "hb_tunnels_rows", "route_rows.rt"),
     ("serve_rows.py", "hb_serve_rows", "frames.rt"),
-    ("relay_rows.py", "hb_relay_rows", "octets.rt"),
+    ("lives_rows.py", "hb_lives_rows", "octets.rt"),
 ]
 # Each script, and the table of runs in tests/ that it prints
 RUNS = [
@@ -46,7 +44,7 @@ RUNS = [
     ("gateway_rows.py", "replay/gateways"),
     ("make_rows.py", "make/made"),
 ]
-PARTS = [("frame_vectors.py", "hb_http2_rows", "frame_vectors.rt"), ("verdict_rows.py", "hb_table_rows", "requests.rt")]
+PARTS = [("frame_vectors.py", "hb_http2_rows", "frame_vectors.rt"), ("verdict_rows.py", "hb_tunnels_rows", "requests.rt")]
 
 
 LACKS = re.compile(r"No module named '([\w.]+)'|No such file or directory: '(protoc)'|(libnghttp2\S*): cannot open shared object file")

@@ -1,5 +1,5 @@
 #!/usr/bin/python3
-"""Prints the rows of crates/hb_table_rows/src/requests.rt: header lists of requests, and what each asks for, as a reader tells it that
+"""Prints the rows of crates/hb_tunnels_rows/src/requests.rt: header lists of requests, and what each asks for, as a reader tells it that
 was written from RFC 9113 sections 8.1.1, 8.2.1, 8.3 and 8.5.
 
 usage: bench/tables/verdict_rows.py

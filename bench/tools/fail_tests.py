@@ -1,9 +1,9 @@
 #!/usr/bin/env python3
-"""Runs each test of a test crate with each of its allocations failing in turn: it passes, or it stops where it was still making what it
-tries and asks for memory. A test that finds another answer fails.
+"""Runs each test of the modules `wanting` of test crates with each of its allocations failing in turn: it passes, or it stops where it
+was still making what it tries and asks for memory. A test that finds another answer fails.
 
-usage: bench/tools/fail_tests.py [NAME..]        (after `cd crates/NAME && rt test`, which leaves its program in out/; NAME is
-       hb_wanting_rows if left out; needs gcc)
+usage: bench/tools/fail_tests.py [NAME..]        (after `cd crates/NAME && rt test`, which leaves its program in out/; the crates are
+       hb_resources_rows and hb_tunnels_rows if left out; needs gcc)
 """
 
 import pathlib
@@ -41,10 +41,10 @@ def main():
     with tempfile.TemporaryDirectory() as room:
         library, count_file = f"{room}/fail_alloc.so", f"{room}/count"
         subprocess.run(["gcc", "-O1", "-shared", "-fPIC", "-o", library, TOP / "bench/tools/fail_alloc.c"], check=True)
-        for name in sys.argv[1:] or ["hb_wanting_rows"]:
+        for name in sys.argv[1:] or ["hb_resources_rows", "hb_tunnels_rows"]:
             program = TOP / f"crates/{name}/out/{name}_tests"
             listed = subprocess.run([program, "--list"], check=True, stdout=subprocess.PIPE, text=True).stdout.split()
-            for test in (word.rstrip(":") for word in listed if "::" in word):
+            for test in (word.rstrip(":") for word in listed if word.startswith("wanting::")):
                 allocations, passed, wrong = tried(program, test, library, count_file)
                 print(f"fail_tests: {test}: {allocations} allocations, {passed} of them in calls that it tries, {wrong} wrong")
                 # (a test that no failing allocation reaches would try nothing)

@@ -8,7 +8,7 @@ use std::alloc::Global;
 use std::process::Abort;
 
 /// A text in front of a mark and behind it; the whole text and nothing where it has none.
-fn cut<'a>(text: &'a str, mark: &str) -> (&'a str, &'a str) {
+pub fn cut<'a>(text: &'a str, mark: &str) -> (&'a str, &'a str) {
     text.split_once(mark).unwrap_or((text, ""))
 }
 
@@ -17,7 +17,7 @@ fn number_of(rt: &impl Abort, text: &str) -> u32 {
 }
 
 /// The number of a text, another one of an empty text.
-fn number_or(rt: &impl Abort, text: &str, other: u32) -> u32 {
+pub fn number_or(rt: &impl Abort, text: &str, other: u32) -> u32 {
     if text.is_empty() {
         other
     } else {

@@ -1,7 +1,0 @@
-//! Tests of the ways of outbound connections.
-#![tactic(auto)]
-
-#[cfg(test)]
-mod rows;
-#[cfg(test)]
-mod ways;
