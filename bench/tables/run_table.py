@@ -165,7 +165,8 @@ class Table:
     def text(self):
         lines = {name: self.part(name) for name in self.parts if name in self.lines and name in self.used}
         short = [line for name in self.parts if name in self.used and name not in self.lines for line in self.part(name)]
-        return "\n".join([*(f"# {line}".rstrip() for line in self.head), "", *short, *(line for part in lines.values() for line in part), *self.body]) + "\n"
+        long = [line for part in lines.values() for line in part]
+        return "\n".join([*(f"# {line}" for line in self.head), "", *short, *long, *self.body]) + "\n"
 
     def print(self):
         """Prints the table, if it is read as it was meant."""

@@ -154,7 +154,8 @@ def whole_lives():
     lines = control() + inbound(152, 64, "done") + upstream(3, 5, 5, "done") + verdict(200) + ended("done", 5, 5) + total(3, 1, 0, 5, 5)
     row("a tunnel from its request to its end", script, 0, lines)
     trace = "".join([
-        replay_rows.PARTS["based"] + "accepted 2 inbound\n", moved("came", 2, OPENING + connect(1)), "dialled 3 10.0.0.7:8080\n", moved("went", 2, OWN + ACK),
+        replay_rows.PARTS["based"], "accepted 2 inbound\n", moved("came", 2, OPENING + connect(1)),
+        "dialled 3 10.0.0.7:8080\n", moved("went", 2, OWN + ACK),
         "opened 3\n", moved("went", 2, headers(1, FIRST + ADMITTED)), moved("came", 2, data(1, b"hello")), moved("went", 3, b"hello"),
         moved("came", 3, b"world"), moved("went", 2, data(1, b"world")), moved("came", 2, data(1, end=True)), "shut 3\n", "ended 3\n",
         moved("went", 2, data(1, end=True)), "closed 3 done\n", "ended 2\n", "closed 2 done\n", "closed 1 stopped\n"])
