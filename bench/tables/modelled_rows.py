@@ -107,8 +107,14 @@ LIVE = PENDING + on("open", 3)
 TWO = BASE + opened(ask() + ask(3, b"10.0.0.7:9090")) + on("open", 3) + on("open", 4)
 PHASES = [("no stream", BASE + opened()), ("a request that waits", PENDING), ("a tunnel", LIVE)]
 ROWS = []
-# The rows that tell the trace too, if the pages say its order.
+# The rows that tell the trace too, if the pages say its order; and some that do so beside them, so that what is sent is compared whole.
 TOLD = set()
+TOLD_TOO = {
+    "404: no workload", "401: denied", "401 and the peer's end", "503 and the peer's end", "400 and the peer's end",
+    "400: the authority is another address", "405: GET", "malformed: a pseudo-header twice", "malformed, and others go on",
+    "one place and two requests in one read", "row 22: the stream's window, of a tunnel", "the upstream refuses behind the peer's end",
+    "the peer's end with its request, and the upstream's", "404 and the peer's end",
+    "one place, and a request that finds none ends its side", "a dial fails behind the peer's end"}
 
 
 def row(name, script, *words):
@@ -628,6 +634,15 @@ def nowhere():
     row("the unspecified address, at which no workload is", BASE + opened(ask(to=b"0.0.0.0:80"), header=front_there))
 
 
+def requests_that_end():
+    """Requests with END_STREAM that are refused, whose stream is reset no more."""
+    base = on("open", 1) + woken(1, WELCOME)
+    row("404 and the peer's end", base + woken(1, workloads(), policies()) + opened(ask(1, TO, True)))
+    row("one place, and a request that finds none ends its side", LIVE + woken(2, ask(3, b"10.0.0.7:9090", True)), "--tunnels", "1")
+    row("a dial fails behind the peer's end", BASE + '{"nodial":1}\n' + opened(ask(1, TO, True)))
+    TOLD.update(TOLD_TOO)
+
+
 # The table
 
 HEAD = ["Runs of `hbone replay --inbound`. bench/tables/modelled_rows.py prints this file: a plain model of the pages answers."]
@@ -657,6 +672,7 @@ def all_rows():
     for seed, script in by_chance(known, MOST_BY_CHANCE):
         row(f"by chance, {seed}", script)
     nowhere()
+    requests_that_end()
     return ROWS
 
 
