@@ -1,6 +1,7 @@
 -- What is said of a run of one node is said of another that it has in it, which stands for the traces for which that one does.
 use Rattle.std.proofs.Common.{List}
 use Rattle.hb_base.specs.declared.note.Note.{Note}
+use Rattle.hb_turns.specs.Leads.{LedAt}
 use Rattle.hb_turns.specs.Served.{IsStoodFor, IsOver, IsServed, IsTotalled, Leaves, leaves}
 use Rattle.hb_turns.specs.Settled.{IsSettled, SettledAt}
 use Rattle.hb_turns.specs.Shown.{Shown}
@@ -29,8 +30,15 @@ module _ {N M : Type 0} (f : N → M) (of : List Note → N → List Entry → T
   }
 
   settled_at : (before : List Entry) (x : Entry) → SettledAt of shown_in before x → SettledAt stands shown before x
-  settled_at before (e.Wait ready how) s = settles before s
+  settled_at before (e.Wait ready how) s = λ waited. settles before (s waited)
   settled_at before _ s = tt
+
+  led_at : (before : List Entry) (x : Entry) → LedAt of shown_in before x → LedAt stands shown before x
+  led_at before (e.Wait ready how) s = tt
+  led_at before e.Tick s = tt
+  led_at before (e.Closed l cause) s = tt
+  led_at before x s = λ looked. let it = s looked in
+      record { notes = it.notes; node = f it.node; stands_for = gives it.notes it.node before it.stands_for; going = it.going; leads = it.leads }
 
   stood_for : (end : ServeEnd) (trace : List Entry) → IsStoodFor of shown_in end trace → IsStoodFor stands shown end trace
   stood_for ends.NoMemory trace s = record {
@@ -78,6 +86,8 @@ module _ {N M : Type 0} (f : N → M) (of : List Note → N → List Entry → T
   served_along words served left trace s = record {
     awake = s.awake;
     settled = λ before x behind is. settled_at before x (s.settled before x behind is);
+    looks = s.looks;
+    leads = λ before x behind is. led_at before x (s.leads before x behind is);
     closed = s.closed;
     over = over words served.end trace s.over;
     links_are = s.links_are;

@@ -66,7 +66,8 @@ has_notes g taken p trace stands none =
 
 -- at a wait
 settled_at : (g : NodeConfig) (before : List Entry) (z : Entry) → rests.SettledAt (StandsAs g) shown_of before z → SettledAt g before z
-settled_at g before (e.Wait ready how) s =
+settled_at g before (e.Wait ready how) so = λ waited.
+    let s = so waited in
     subst (λ (h : NodeConfig). SettledIn h before) s.stands_for.1
     (settled_in s.notes s.node before s.stands_for.0 (s.going, s.idle) s.links s.doors)
 settled_at g before z s = tt

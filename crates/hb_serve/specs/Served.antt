@@ -58,8 +58,9 @@ pub record IsTotalled (g : NodeConfig) (keep : Option (List Note)) (totals : Tot
 pub record IsServed (words : ServeWords) (served : Served) (keep : Option (List Note)) (trace : List Entry) : Type 0 where
   -- the proxy that is left
   pub proxy : Proxy
-  -- what the event loop says of it: the trace obeys the awake law and the settled law, at its end no link lives; how it ended, how many
-  -- links were born, how many dialled ones an update of the policies closed, and whether one was closed for want of memory
+  -- what the event loop says of it: the trace obeys the awake law, the settled law, the looks law and the lead law, at its end no link
+  -- lives; how it ended, how many links were born, how many dialled ones an update of the policies closed, and whether one was closed
+  -- for want of memory
   pub run : turns.IsServed (StandsAs words.config) shown_of (words_of words) served (turns.leaves keep proxy) trace
   -- at each wait the machine is settled: nothing is left to be done but what sleeps
   pub settled : SettledLaw words.config trace

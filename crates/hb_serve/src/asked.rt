@@ -103,6 +103,10 @@ impl<G: Given, A: Audit> Node for Asked<G, A> {
         self.proxy.wants(link)
     }
 
+    fn first(&self) -> Option<u64> {
+        self.proxy.first()
+    }
+
     fn take_bytes(&mut self, link: u64, bytes: &[u8]) -> Result<(), NoMemory> {
         self.proxy.take_bytes(link, bytes)
     }

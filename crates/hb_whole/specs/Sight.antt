@@ -90,6 +90,7 @@ shown_of p = record {
   none_closes = closes_by p.ends_for p;
   dials = p.dials;
   stirs = λ l. stirs_by (owner_of p l) p l;
+  first = number_of p.control.link;
   noted = waiting p.side.notes;
   ends_for = p.ends_for;
 }

@@ -257,6 +257,13 @@ impl Proxy {
         }
     }
 
+    /// The link that is read in front of all others: the one to the control plane. `None`: none lives.
+    pub fn first(&self) -> Option<u64>
+        ensures { result ≡ (shown_of self.now).first }
+    {
+        self.control.number()
+    }
+
     /// These bytes were read on a link.
     ///
     /// Errors: `NoMemory`, behind which the run ends.
