@@ -116,7 +116,7 @@ def flood(kind, port, target, count):
 
 
 class Flooding:
-    """Processes that flood, with so many connections in all; the program takes nothing until `begin`, where they shall stand in the sockets."""
+    """Processes that flood, with so many connections in all. The program takes nothing until `begin`, where it is a burst."""
 
     def __init__(self, room, kind, count, burst=False):
         self.room, self.drain, self.burst = room, room.upstream(sink), burst
