@@ -180,7 +180,7 @@ impl Life {
     /// It failed for `reset CODE N` or `up refused CODE N`, when so many bytes had begun to go.
     fn failed(&mut self, rt: &impl Abort, call: &str, rest: &str) -> Option<Note> {
         let (code, begun) = cut(rest, " ");
-        let code = number_of(rt, code) as u32;
+        let code = u32::try_from(number_of(rt, code)).expect(rt, "a code of 32 bits");
         let cause = if call == "reset" {
             Cause::PeerReset(code)
         } else {
