@@ -349,6 +349,12 @@ def nowhere():
     row("the address above the unspecified one", BASE + opened(b"abc", destination="0.0.0.1", port=53))
 
 
+def waits():
+    """The same octets as of a row above, wait by wait, so that the pages say the order of each entry."""
+    row("workloads alone were told, wait by wait", NOBODY + woken(1, replay_rows.SET + replay_rows.OK) + woken(1, told(**MESH)) + begun(),
+        DOOR, "--trace")
+
+
 # The table
 
 HEAD = ["Runs of `hbone replay --outbound`. bench/tables/outbound_rows.py prints this file: a plain model of the pages answers."]
@@ -357,7 +363,7 @@ PARTS = {**plain.PARTS, "frontweb": front().hex(), "mesh": BASE, "meshtold": _TO
 
 
 def main():
-    for rows in (by_hand, missing, straight, chosen, gateways, unsynced, doors, headers, dials, ends, updates, rooms, mixed, traces, nowhere):
+    for rows in (by_hand, missing, straight, chosen, gateways, unsynced, doors, headers, dials, ends, updates, rooms, mixed, traces, nowhere, waits):
         rows()
     assert len({name for name, *_ in ROWS}) == len(ROWS)
     table = Table(HEAD, PARTS)

@@ -973,9 +973,10 @@ class Run:
         self.link = None
 
     def round(self):
-        """Whether something moved."""
+        """Whether something moved. An open link is read first of all, and then tried as each link is."""
         if self.link.is_open:
-            return self.move()
+            is_read = self.read()
+            return self.link is not None and self.move() or is_read
         answer = self.world.finish(self.link.number)
         if answer == "refuse":
             self.close("broken")

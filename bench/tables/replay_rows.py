@@ -232,8 +232,10 @@ def rows_of_births():
         "--trace")
     row("no dial fails", [on("refuse"), on("nodial", 0), WAKE, TICK], "--trace")
     row("a link that is live takes no dial", LIVE + [on("nodial", 1), TICK, on("end"), TICK, TICK], "--trace")
-    row("lines of a link that isn't born", [on("open", 2), piece(SET + OK, 2), piece(data(M2), 2), on("end", 2), room(1000, 2),
-                                            on("refuse"), WAKE, TICK, WAKE, TICK, on("open", 3), WAKE])
+    row("lines of a link that isn't born", [on("open", 2), piece(SET + OK, 2), piece(data(M2), 2), room(330, 2), on("refuse"), WAKE,
+                                            TICK, WAKE, on("end", 2), WAKE, TICK, on("open", 3), WAKE])
+    row("an end of a link that isn't born", [on("open", 2), piece(SET + OK, 2), piece(data(M2), 2), on("end", 2), room(0, 2),
+                                             on("refuse"), WAKE, TICK, WAKE, TICK, on("open", 3), WAKE])
     many = [text for number in range(1, 13) for text in (on("refuse", number), WAKE, TICK)]
     row("twelve links are refused", many)
     row("the lines of twelve links at once", [on("refuse", number) for number in range(1, 13)] + [TICK] * 30, "--brief")
@@ -241,7 +243,7 @@ def rows_of_births():
 
 
 def rows_of_ends():
-    row("an end behind pieces", LIVE + [piece(data(M1)), on("end"), piece(data(M2)), WAKE] + AGAIN, "--trace")
+    row("an end behind pieces", LIVE + [room(0), piece(data(M1)), on("end"), piece(data(M2)), WAKE] + AGAIN, "--trace")
     row("an end and a break", LIVE + [on("end"), on("break"), WAKE], "--trace")
     row("a break in front of the finish", [on("break")] + OPEN, "--trace")
     row("a break while all waits", [room(0)] + OPEN + [on("break"), WAKE] + AGAIN, "--trace")
@@ -336,7 +338,9 @@ def rows_of_frames():
     row("a message in three frames", LIVE + came(b"".join(cut)), "--trace")
     row("a message in three frames, a wait behind each", LIVE + came(*cut), "--trace")
     row("a frame in two pieces", LIVE + came(data(M1)[:8], data(M1)[8:]), "--trace")
-    row("two messages in two pieces of one wait", LIVE + [piece(data(M1)), piece(data(M2)), WAKE], "--trace")
+    row("two messages in two pieces of one wait", LIVE + [piece(data(M1)), piece(data(M2)), WAKE])
+    row("two messages in two pieces of one wait, and room behind them", LIVE + [room(0), piece(data(M1)), piece(data(M2)), WAKE]
+        + [room(1000), WAKE], "--trace")
     row("padded DATA", LIVE + came(data(b""), data(b"\3" + M1 + bytes(3), 8), data(b"\0", 8)), "--trace")
     row("a header block in three pieces", OPEN + came(SET, headers(b"", 0), frame(CONTINUATION, 0, 1, b""),
                                                       frame(CONTINUATION, 4, 1, b"\x88"),
@@ -488,7 +492,8 @@ def rows_of_floods():
                                                       room(7), WAKE, room(22476), WAKE])
     row("a flood of both in many pieces", LIVE + [room(0)] + [piece((PINGED + SET) * 50)] * 40 + [WAKE, room(10**6), WAKE])
     row("a flood, and a message behind it", LIVE + [room(0), piece(PINGED * 2500 + data(M1)), WAKE, room(10**6), WAKE])
-    row("a flood, and an end behind it", LIVE + [room(0), piece(PINGED * 2500), on("end"), WAKE, room(10**6), WAKE] + AGAIN)
+    row("a flood, and an end behind it", LIVE + [room(0), piece(PINGED * 2500), WAKE, room(10**6), WAKE, on("end"), WAKE] + AGAIN)
+    row("a flood, and an end that isn't read", LIVE + [room(0), piece(PINGED * 2500), on("end"), WAKE] + AGAIN)
     row("the last room counts", [room(1000), room(10)] + OPEN + [room(5), room(7), WAKE], "--trace")
     row("an opening that goes in parts", [room(10)] + OPEN + [room(0), WAKE, room(1), WAKE, room(1000), WAKE], "--trace")
     row("no write for a turn", OPEN + [room(0)] + came(SET + OK, data(M1), data(M2)) + [room(9), WAKE, room(6), WAKE]

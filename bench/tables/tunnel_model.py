@@ -1160,8 +1160,10 @@ class Run:
     # Rounds
 
     def round(self):
-        """Whether something moved."""
+        """Whether something moved. What came of the control plane is read first of all."""
         before = len(self.world.trace)
+        if self.control and self.control.number in self.opened:
+            self.called(self.read_control, self.control)
         if not self.choice.backwards:
             self.accept()
         numbers = sorted([*self.inbound, *self.ups, *self.plain, *self.relays, *self.gates,
