@@ -151,15 +151,27 @@ const PARTS: [(&str, &str); 4] = [
     ("RECORD", RECORD),
 ];
 
+/// A text with a part in the place of each name.
+fn with_part(rt: &impl Abort, alloc: Global, text: &str, name: &str, part: &str) -> String {
+    let mut spelled = String::new(alloc);
+    let mut is_behind = false;
+    for piece in text.split(name) {
+        if is_behind {
+            spelled.push_str(part).expect(rt, "memory");
+        }
+        spelled.push_str(piece).expect(rt, "memory");
+        is_behind = true;
+    }
+    spelled
+}
+
 /// An end, in which parts stand by their names.
 fn spelled(rt: &impl Abort, alloc: Global, text: &str) -> String {
-    let mut text = String::from_str(alloc, text).expect(rt, "memory");
+    let mut spelled = String::from_str(alloc, text).expect(rt, "memory");
     for (name, part) in PARTS {
-        while let Some((front, behind)) = text.as_str().split_once(name) {
-            text = format!(in alloc; "{front}{part}{behind}").expect(rt, "memory");
-        }
+        spelled = with_part(rt, alloc, spelled.as_str(), name, part);
     }
-    text
+    spelled
 }
 
 /// The octets of a name of a message, or of two digits; none of another text.
