@@ -5,7 +5,7 @@ import socket
 from hyperframe.frame import GoAwayFrame, RstStreamFrame
 
 from case import CANCEL, CONNECT_ERROR, case, full_server, payload, says
-from peers import HERE, Peer, echo, silent, sink, until, wanted
+from peers import HERE, OTHER, Peer, echo, mesh, silent, sink, until, wanted
 
 
 @case
@@ -220,3 +220,28 @@ def a_goaway_of_the_peer(room):
     says(peer, stream, payload(100_000))
     peer.send(stream, b"", end=True)
     peer.pump(lambda: stream in peer.ended, "END_STREAM")
+
+
+@case
+def broken_ends_are_resets(room):
+    """An upload whose peer resets its stream, whose connection breaks, or that an update refuses is a RST at the workload; a whole one an
+    end."""
+    room.start()
+    up = room.upstream(lambda taken: (sink(taken), taken.finish()))
+    peers = [room.peer() for _ in range(4)]
+    tunnels = []
+    for peer in peers:
+        tunnels.append((peer.tunnel(up.port), up.one(len(tunnels) + 1)))
+        peer.send(tunnels[-1][0], b"part")
+        peer.flush()
+        until("it came", lambda: tunnels[-1][1].came == b"part")
+    peers[0].send(tunnels[0][0], b"", end=True)
+    peers[0].pump(lambda: tunnels[0][0] in peers[0].ended, "END_STREAM")
+    peers[1].conn.reset_stream(tunnels[1][0], CANCEL)
+    peers[1].flush()
+    peers[2].abort()
+    until("three ended", lambda: all(taken.ended for _, taken in tunnels[:3]))
+    room.update(mesh(OTHER))
+    peers[3].pump(lambda: peers[3].closed(tunnels[3][0]), "a reset")
+    until("all ended", lambda: tunnels[3][1].ended)
+    wanted("how each ended", [taken.ended for _, taken in tunnels], ["end", "reset", "reset", "reset"])

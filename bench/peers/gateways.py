@@ -548,12 +548,15 @@ def captured_connections_without_a_way(room):
 
 @case
 def the_captured_connections_that_may_be(room):
-    """`--tunnels 2`: the third connection is closed as it comes; one more goes once one is over."""
+    """`--tunnels 2`: the third connection is reset as it comes; one more goes once one is over."""
     gateway = room.gateway()
     outbound(room, gateway.port, "--tunnels", "2")
     client, link, stream = let_in(room, gateway)
     second, second_stream = one_more(room, link)
-    closed(link, room.captured(80))
+    try:
+        closed(link, room.captured(80))
+    except ConnectionResetError:
+        pass  # (it was reset while it connected)
     both_end(second, link, second_stream)
     third, third_stream = one_more(room, link)
     talks(third, link, third_stream)
