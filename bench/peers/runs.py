@@ -2,10 +2,11 @@
 
 import signal
 import socket
+import subprocess
 import time
 
-from case import case, payload, says
-from peers import HERE, OTHER, Proxy, echo, mesh, until, wanted
+from case import PREFACE, case, payload, says
+from peers import HERE, OTHER, Proxy, echo, free_port, header, mesh, until, wanted
 
 
 @case
@@ -80,3 +81,31 @@ def stopped_and_continued(room):
         time.sleep(0.2)
         room.proxy.process.send_signal(signal.SIGCONT)
         says(peer, stream, b"hello")
+
+
+@case
+def closed_standard_streams(room):
+    """Standard input, output and error closed: no socket gets their numbers, so no note is written into the control plane's connection."""
+    with socket.create_server((HERE, room.discovery)) as plane:
+        door = free_port()
+        words = ["serve", "--node", "n1", "--id", "peers", "--discovery", f"{HERE}:{room.discovery}", "--plain", f"{HERE}:{door}", "--ticks", "2"]
+        process = subprocess.Popen(["sh", "-c", 'exec "$0" "$@" 0<&- 1>&- 2>&-', room.program, *words])
+        control, _ = plane.accept()
+        with socket.create_connection((HERE, door)) as it:
+            it.sendall(header((HERE, 1), (HERE, 80), None))
+            wanted("the refused connection", ended(it), True)
+        control.settimeout(10)
+        came = b""
+        while part := control.recv(65536):
+            came += part
+        control.close()
+        wanted("what came", (came.startswith(PREFACE), b"verdict" in came), (True, False))
+        wanted("the status", process.wait(10), 7)
+
+
+def ended(it):
+    """Whether a connection ends or is reset, without a byte."""
+    try:
+        return it.recv(1) == b""
+    except ConnectionResetError:
+        return True
