@@ -184,13 +184,12 @@ def a_response_that_is_cut(room):
     wanted("the answer of the last", answer_of(far, far.connect("127.0.0.77:1")), (502, NO_ERROR))
 
 
-@case
-def twenty_thousand_workloads(room):
-    """A response of 20,000 workloads while bytes go both ways: no byte is lost, and the last of them is known."""
+def beside_a_response(room, count):
+    """What a response of so many workloads costs while bytes go both ways; no byte is lost, and the last workload is known."""
     room.start()
     up, peer = room.upstream(echo), room.peer()
     stream = peer.tunnel(up.port)
-    more = [workload(f"10.{at >> 16}.{at >> 8 & 255}.{at & 255}", f"w{at}", policies=[]) for at in range(1, 20_000)]
+    more = [workload(f"10.{at >> 16}.{at >> 8 & 255}.{at & 255}", f"w{at}", policies=[]) for at in range(1, count)]
     more.append(workload("127.0.0.77", "last", policies=[]))
     before = room.proxy.cpu()
     sender = threading.Thread(target=room.update, args=(mesh(CALLER, workloads=more),), daemon=True)
@@ -204,3 +203,15 @@ def twenty_thousand_workloads(room):
     far = room.peer(destination="127.0.0.77")
     wanted("the answer of the last", answer_of(far, far.connect("127.0.0.77:1")), (502, NO_ERROR))
     return f"longest round of 100,000 bytes {longest:.2f} s, processor time of all {took:.2f} s, memory {room.proxy.memory():.0f} MB"
+
+
+@case
+def twenty_thousand_workloads(room):
+    """A response of 20,000 workloads while bytes go both ways: no byte is lost, and the last of them is known."""
+    return beside_a_response(room, 20_000)
+
+
+@case
+def sixty_five_thousand_workloads(room):
+    """The same of 65,000."""
+    return beside_a_response(room, 65_000)
