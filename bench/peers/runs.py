@@ -88,7 +88,8 @@ def closed_standard_streams(room):
     """Standard input, output and error closed: no socket gets their numbers, so no note is written into the control plane's connection."""
     with socket.create_server((HERE, room.discovery)) as plane:
         door = free_port()
-        words = ["serve", "--node", "n1", "--id", "peers", "--discovery", f"{HERE}:{room.discovery}", "--plain", f"{HERE}:{door}", "--ticks", "2"]
+        served = ["serve", "--node", "n1", "--id", "peers", "--discovery", f"{HERE}:{room.discovery}"]
+        words = [*served, "--plain", f"{HERE}:{door}", "--ticks", "2"]
         process = subprocess.Popen(["sh", "-c", 'exec "$0" "$@" 0<&- 1>&- 2>&-', room.program, *words])
         control, _ = plane.accept()
         with socket.create_connection((HERE, door)) as it:

@@ -11,7 +11,6 @@ kit alone.
 """
 
 import pathlib
-import re
 import shutil
 import subprocess
 import sys
@@ -42,12 +41,12 @@ def tried(copy, name):
     folder.mkdir(exist_ok=True)
     for edit in edits:
         shutil.copy(edit, folder)
-    ran = subprocess.Popen(["rt", "must-fail", name], cwd=copy, stdout=subprocess.PIPE, stderr=subprocess.STDOUT, text=True, errors="replace")
+    asks = ["rt", "must-fail", name]
+    ran = subprocess.Popen(asks, cwd=copy, stdout=subprocess.PIPE, stderr=subprocess.STDOUT, text=True, errors="replace")
     refused = 0
     for line in ran.stdout:
         print(line, end="", flush=True)
-        before = re.search(r"(\d+) of its \d+ must-fail edits were tried by an earlier run", line)
-        refused += int(before[1]) if before else "refused, as it must be" in line
+        refused += "refused, as it must be" in line
     status = ran.wait()
     print(f"{name}: {refused} of {len(edits)} edits refused", flush=True)
     return status == 0 and refused == len(edits)
