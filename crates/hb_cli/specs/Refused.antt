@@ -1,11 +1,20 @@
 -- Ends of a run, and of the commands serve and make, that aren't what they do, and some that are.
-use Rattle.std.specs.Prelude.{◌≡◌, ◌≢◌, ℕ, true, false, [], ◌∷◌, List, Ok, Err, Some}
-use Rattle.hb_cli.specs.Replaying.{RunState}
+use Rattle.std.specs.Prelude.{◌≡◌, ◌≢◌, ℕ, true, false, [], ◌∷◌, List, Option, Ok, Err, Some}
+use Rattle.hb_base.specs.declared.note.Note.{Note}
+use Rattle.hb_base.specs.declared.note.Note.TheVariants.{Verdict}
+use Rattle.hb_base.specs.declared.peer.Peer.{Peer}
+use Rattle.hb_base.specs.declared.target.Target.{Target}
+use Rattle.hb_serve.specs.declared.words.ServeWords.{ServeWords}
+use Rattle.hb_turns.specs.declared.served.Served.{Served}
+use Rattle.hb_world.specs.declared.entry.Entry.{Entry}
+use Rattle.hb_cli.specs.declared.ended.ReplayEnd.{ReplayEnd}
+use Rattle.hb_cli.specs.Replaying.{RunState, RunsAs, done_with}
 use Rattle.hb_serve.specs.Served.{Heard, heard_of}
 use Rattle.hb_words.specs.Command.{Question, Serve, checks}
 use Rattle.hb_words.specs.Fault.{fault_line}
 use Rattle.hb_words.specs.declared.asks.Make.{Make}
 use Rattle.hb_words.specs.declared.fault.WordsFault.TheVariants.{NoCommand}
+use Rattle.hb_cli.specs.Ended.{ended_as, replay_end}
 use Rattle.hb_cli.specs.Ending.{Run, EndsWith}
 use Rattle.hb_cli.specs.Hearing.{HearsNone}
 use Rattle.hb_cli.specs.Making.{made_text, MakesAt}
@@ -75,6 +84,21 @@ PrintsWanting = (s : Serve) (w : WorldUse) (out err : Use) → out.bytes ≡ Som
 abbrev pub MayLack : Type 0
 MayLack = (s : Serve) (w : WorldUse) (out err : Use) → Unused w → Untouched out → Tells err (stop_line NoMemory)
     → ServesAt s w out err 9
+
+-- memory lacked for a request, and the run is told to have ended
+abbrev pub EndsLacking : Type 0
+EndsLacking = (told : Served) (end : ReplayEnd) → told.totals.lacked ≡ true → ended_as told ≡ Some end → ⊥
+
+-- its one note answers a request 500, and memory never lacked
+abbrev pub RunsLacking : Type 0
+RunsLacking = (words : ServeWords) (told : Served) (keep : Option (List Note)) (end : ReplayEnd) (trace : List Entry)
+    (link stream : ℕ) (peer : Peer) (target : Option Target)
+    → RunsAs words told keep end (done_with trace (Verdict link stream 500 peer target ∷ [])) → ⊥
+
+-- memory never lacked, and it ended as it is told
+abbrev pub EndsAsTold : Type 0
+EndsAsTold = (told : Served) → told.wanting ≡ false → told.totals.lacked ≡ false → told.unkept ≡ false
+    → ended_as told ≡ replay_end told.end
 
 -- MAKE
 

@@ -4,6 +4,7 @@ ghost use Rattle.hb_cli.specs.Refused.{NoOtherStatus, DonePrintsNothing, Refused
 ghost use Rattle.hb_cli.specs.Refused.{NeverEndsWith, PrintsNothing, HidesFault, InventsFault, PrintsWanting, MayLack};
 ghost use Rattle.hb_cli.specs.Refused.{MakeNeverEndsWith, TextNeverEndsWith, MakesNothing, MakesAnother, RunsUnasked};
 ghost use Rattle.hb_cli.specs.Refused.{RunsNothing, RunsUntold, TextMayBePrinted, MakeMayLack};
+ghost use Rattle.hb_cli.specs.Refused.{EndsLacking, RunsLacking, EndsAsTold};
 
 /// No run ends with 1. One that is done printed what `check` answers; one whose input is refused printed nothing; and where a read failed
 /// that is counted. A run without words may end with 2, and print and read nothing.
@@ -44,4 +45,12 @@ pub fn ends_of_make_are_told_apart()
     ensures untold { RunsUntold }
     ensures printed { TextMayBePrinted }
     ensures lacks { MakeMayLack }
+{}
+
+/// A run in which a request was answered 500 for want of memory isn't told to have ended by a stop, by its world or by its turns. One in
+/// which memory never lacked ended as it is told.
+pub fn runs_that_lacked_are_told_apart()
+    ensures request { EndsLacking }
+    ensures note { RunsLacking }
+    ensures ended { EndsAsTold }
 {}
