@@ -197,6 +197,7 @@ module _ (l : ℕ) (start : Resources) (a : Local) (before : List Part) (stands 
   link_stands (e.Balked (way.Finish k)) may = absurd may
   link_stands (e.Balked (way.Listen d at listening)) may = absurd may
   link_stands (e.Balked (way.Accept d)) may = absurd may
+  link_stands (e.Balked (way.Look k)) may = absurd may
   link_stands (e.Dialled k to why) may = absurd may
   link_stands (e.DialFailed to why) may = absurd may
   link_stands (e.Opened k) may = absurd may
@@ -220,6 +221,7 @@ module _ (l : ℕ) (start : Resources) (a : Local) (before : List Part) (stands 
   up_stands (e.Balked (way.Write k)) may = (course_at live may.0.0.1, keeps.tells.up ∙ may.0.1)
   up_stands (e.Balked (way.Listen d at listening)) may = absurd may
   up_stands (e.Balked (way.Accept d)) may = absurd may
+  up_stands (e.Balked (way.Look k)) may = absurd may
   up_stands (e.Accepted k d) may = absurd may
   up_stands e.Tick may = absurd may
   up_stands (e.Wait ready how) may = absurd may
@@ -543,6 +545,7 @@ module _ (l : ℕ) (start : Resources) (a : Local) (before : List Part) (stands 
   link_settles (e.Balked (way.Finish k)) may = absurd may
   link_settles (e.Balked (way.Listen d at listening)) may = absurd may
   link_settles (e.Balked (way.Accept d)) may = absurd may
+  link_settles (e.Balked (way.Look k)) may = absurd may
   link_settles (e.Dialled k to why) may = tt
   link_settles (e.DialFailed to why) may = tt
   link_settles (e.Opened k) may = absurd may
@@ -565,6 +568,7 @@ module _ (l : ℕ) (start : Resources) (a : Local) (before : List Part) (stands 
   up_settles (e.Balked (way.Write k)) may = settled_live may.0.0
   up_settles (e.Balked (way.Listen d at listening)) may = absurd may
   up_settles (e.Balked (way.Accept d)) may = absurd may
+  up_settles (e.Balked (way.Look k)) may = absurd may
   up_settles (e.Accepted k d) may = absurd may
   up_settles e.Tick may = absurd may
   up_settles (e.Wait ready how) may = absurd may

@@ -148,6 +148,7 @@ module _ (start : Resources) (a : Local) (parts : List Part) (admits : Admits st
   up_admits l s (e.Balked (way.Write u)) may = up_one s (e.Balked (way.Write u)) live may.0.1 (λ is. cc) refl (λ some. refl)
   up_admits l s (e.Balked (way.Listen d at listening)) may = absurd may
   up_admits l s (e.Balked (way.Accept d)) may = absurd may
+  up_admits l s (e.Balked (way.Look k)) may = absurd may
   up_admits l s (e.Accepted k d) may = absurd may
   up_admits l s e.Tick may = absurd may
   up_admits l s (e.Wait ready how) may = absurd may

@@ -182,6 +182,7 @@ module _ (l : ℕ) (start : Resources) (a : Local) (before : List Part) (stands 
   entry_stands (e.Balked (way.Write k)) (is, inr fault, some) = subst IsTried (sym (course_at (faulted fault.1) fault.2)) tt
   entry_stands (e.Balked (way.Listen d to listening)) may = absurd may
   entry_stands (e.Balked (way.Accept d)) may = absurd may
+  entry_stands (e.Balked (way.Look k)) may = absurd may
   entry_stands (e.Balked (way.Finish k)) may = absurd may
   entry_stands (e.Closed k why) may =
       closes_by a.link.phase (course_of before) why (all_course l start a before stands) may.2

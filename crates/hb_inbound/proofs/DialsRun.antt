@@ -260,6 +260,7 @@ module _ (l : ℕ) (start : Resources) (a : Local) (before : List Part) (stands 
   up_dials s (e.Balked (way.Write u)) may = quiet_dialled may.0.0
   up_dials s (e.Balked (way.Listen d at listening)) may = absurd may
   up_dials s (e.Balked (way.Accept d)) may = absurd may
+  up_dials s (e.Balked (way.Look k)) may = absurd may
   up_dials s (e.Accepted k d) may = absurd may
   up_dials s e.Tick may = absurd may
   up_dials s (e.Wait ready how) may = absurd may

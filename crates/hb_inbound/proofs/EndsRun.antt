@@ -110,6 +110,7 @@ module _ (opens_new : OpensNew) where
         stands_at (e.Balked (way.Write k)) (is, inr fault, some) = faulted_told fault.1 fault.2
         stands_at (e.Balked (way.Listen d at listening)) may = absurd may
         stands_at (e.Balked (way.Accept d)) may = absurd may
+        stands_at (e.Balked (way.Look k)) may = absurd may
         stands_at (e.Balked (way.Finish k)) may = absurd may
         stands_at (e.Accepted k d) may = tt
         stands_at (e.Closed k why) may = tt
@@ -136,6 +137,7 @@ module _ (opens_new : OpensNew) where
     up_stands s (e.Balked (way.Write u)) may = inr (live_at s may.0.1)
     up_stands s (e.Balked (way.Listen d at listening)) may = absurd may
     up_stands s (e.Balked (way.Accept d)) may = absurd may
+    up_stands s (e.Balked (way.Look k)) may = absurd may
     up_stands s (e.Accepted k d) may = absurd may
     up_stands s e.Tick may = absurd may
     up_stands s (e.Wait ready how) may = absurd may

@@ -284,6 +284,7 @@ module _ (l : ℕ) (start : Resources) (a : Local) (before : List Part) (stands 
   link_noted (e.Balked (way.Write k)) (is, inr fault, some) = noted fault.0.answered
   link_noted (e.Balked (way.Listen d to listening)) may = absurd may
   link_noted (e.Balked (way.Accept d)) may = absurd may
+  link_noted (e.Balked (way.Look k)) may = absurd may
   link_noted (e.Balked (way.Finish k)) may = absurd may
   link_noted (e.Closed k why) may = λ s.
       let all = all_say new_streams l start a before stands in

@@ -329,6 +329,7 @@ module _ (a : Local) (parts : List Part) (keeps : Keeps parts a.link) where
       keeps
   entry_keeps l (e.Balked (way.Listen d at listening)) may = absurd may
   entry_keeps l (e.Balked (way.Accept d)) may = absurd may
+  entry_keeps l (e.Balked (way.Look k)) may = absurd may
   entry_keeps l (e.Balked (way.Finish k)) may = absurd may
   entry_keeps l (e.Dialled k to why) may = absurd may
   entry_keeps l (e.DialFailed to why) may = absurd may

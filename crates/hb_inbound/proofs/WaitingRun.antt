@@ -183,6 +183,7 @@ up_gentle l s x (e.Balked (way.Read u)) may = (gentle_same (x.tunnels s), λ non
 up_gentle l s x (e.Balked (way.Write u)) may = (gentle_same (x.tunnels s), λ none. (let both = sym none ∙ may.0.1 in cc))
 up_gentle l s x (e.Balked (way.Listen d at listening)) may = absurd may
 up_gentle l s x (e.Balked (way.Accept d)) may = absurd may
+up_gentle l s x (e.Balked (way.Look k)) may = absurd may
 up_gentle l s x (e.Accepted k d) may = absurd may
 up_gentle l s x e.Tick may = absurd may
 up_gentle l s x (e.Wait ready how) may = absurd may

@@ -1,5 +1,5 @@
 -- How often calls on links failed, as a table of sockets by their numbers keeps it.
-use Rattle.std.specs.Prelude.{◌≡◌, ◌≢◌, ℕ, nat_eq, Option, Some, None}
+use Rattle.std.specs.Prelude.{◌≡◌, ◌≢◌, ℕ, nat_eq, Bool, false, Option, Some, None}
 use Rattle.std.specs.HashMap.{get, HashMap}
 use Rattle.hb_mio.specs.declared.mio_world.MioWorld.{MioWorld}
 use Rattle.hb_mio.specs.declared.socket.Socket.{Socket}
@@ -10,8 +10,16 @@ abbrev pub faults_of : Option Socket → ℕ
 faults_of None = 0
 faults_of (Some socket) = socket.faults
 
+-- an event said that the connection failed, and no look told so
+abbrev pub is_broken : Option Socket → Bool
+is_broken None = false
+is_broken (Some socket) = socket.broken
+
 module _ {S : Type 0} where
-  -- how often a finish, read or write of this link failed
+  abbrev pub broken_at : HashMap ℕ Socket S → ℕ → Bool
+  broken_at sockets link = is_broken (get nat_eq sockets link)
+
+  -- how often a finish, read, write or look of this link failed
   abbrev pub faults_at : HashMap ℕ Socket S → ℕ → ℕ
   faults_at sockets link = faults_of (get nat_eq sockets link)
 

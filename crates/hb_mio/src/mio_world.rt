@@ -11,7 +11,7 @@ use crate::doors::{Doors, address_of};
 use crate::sockets::Sockets;
 use crate::watch::{Watch, begin};
 use hb_base::{Cause, Door, Or, Target, Why};
-use hb_world::{Born, Finished, Glanced, Listened, Read, Ready, Waited, World, Wrote};
+use hb_world::{Born, Finished, Glanced, Listened, Looked, Read, Ready, Waited, World, Wrote};
 use mio::net::TcpStream;
 use std::alloc::Global;
 use std::io::{self, ErrorKind};
@@ -22,7 +22,8 @@ use std::time::Clock;
 ///
 /// Of the system's events it takes each once: a link is registered both ways at its birth, and never again. A read behind one that
 /// didn't fill its buffer balks without a call of the system, until the next event, unless the last one told that the peer sends
-/// no more; and so does a finish without an event. A wait or a glance answers Tick once a second has passed since the last one,
+/// no more; and so does a finish without an event. A look tells whether an event said that the connection failed, once for each, without
+/// a call of the system. A wait or a glance answers Tick once a second has passed since the last one,
 /// with what is ready, and a wait never Stop. A door whose accept failed is named at the next tick, since no event tells again of
 /// what waits there.
 /// A connection of a tunnel's own bytes that is closed for another cause than `Done` is ended by a RST, and each other one by a FIN.
@@ -114,19 +115,19 @@ impl<R: Net + Clock + Drop> MioWorld<R> {
     }
 
     /// Waits, or doesn't, and adds what is ready. Tells whether a tick is due.
-    fn look(&mut self, ready: &mut Ready, waits: bool) -> Result<bool, Or<io::Error>>
+    fn gather(&mut self, ready: &mut Ready, waits: bool) -> Result<bool, Or<io::Error>>
         ensures stays { Stays (seen_of self.old) (seen_of self.new) }
     {
         begin(&mut self.watch, self.alloc, &self.net)?;
         let Some(watch) = &mut self.watch else {
             unreachable!()
         };
-        let looked = if waits {
+        let gathered = if waits {
             watch.wait(&self.net, &mut self.doors, &mut self.sockets, ready)
         } else {
             watch.glance(&self.net, &mut self.doors, &mut self.sockets, ready)
         };
-        looked.map_err(Or::Fault)
+        gathered.map_err(Or::Fault)
     }
 }
 
@@ -200,6 +201,10 @@ impl<R: Net + Clock + Drop> World for MioWorld<R> {
         self.sockets.write(link, from)
     }
 
+    fn look(&mut self, link: u64) -> Looked {
+        self.sockets.look(link)
+    }
+
     fn shut(&mut self, link: u64) {
         self.sockets.shut(link);
     }
@@ -210,7 +215,7 @@ impl<R: Net + Clock + Drop> World for MioWorld<R> {
 
     fn wait(&mut self, ready: &mut Ready) -> Waited {
         ready.clear();
-        match self.look(ready, true) {
+        match self.gather(ready, true) {
             Ok(true) => Waited::Tick,
             Ok(false) => Waited::Woke,
             Err(_) => {
@@ -223,7 +228,7 @@ impl<R: Net + Clock + Drop> World for MioWorld<R> {
 
     fn glance(&mut self, ready: &mut Ready) -> Glanced {
         ready.clear();
-        match self.look(ready, false) {
+        match self.gather(ready, false) {
             Ok(true) => Glanced::Tick,
             Ok(false) => Glanced::Woke,
             Err(_) => {

@@ -1,12 +1,13 @@
 //! One connection, and what is known of it without asking the system.
 
-ghost use Rattle.std.specs.Prelude.{◌≡◌, ◌<◌, ◌||◌, length, true, false};
-ghost use Rattle.hb_world.specs.Answers.{finish_failed, read_failed, write_failed, ReadsWithin, WritesWithin};
+ghost use Rattle.std.specs.Prelude.{◌≡◌, ◌<◌, ◌||◌, length, true, false, if◌then◌else◌};
+ghost use Rattle.hb_world.specs.Answers.{finish_failed, read_failed, write_failed, look_failed, ReadsWithin, WritesWithin};
 ghost use Rattle.hb_world.specs.Seen.{CountsUp};
 ghost use Rattle.hb_world.specs.declared.world.Finished.TheVariants as finished;
+ghost use Rattle.hb_world.specs.declared.world.Looked.TheVariants as looked;
 ghost use Rattle.hb_world.specs.declared.world.Read.TheVariants as reads;
 
-use hb_world::{Finished, Read, Wrote};
+use hb_world::{Finished, Looked, Read, Wrote};
 use libc::net::{_SS_SIZE, connect};
 use mio::event::Event;
 use mio::net::TcpStream;
@@ -27,6 +28,8 @@ pub(crate) struct Socket {
     pub changed: bool,
     /// The last event said that the peer sends no more, or that the connection failed.
     pub ending: bool,
+    /// An event said that the connection failed, and no look told so.
+    pub broken: bool,
     /// Nothing is there to be read until the next event.
     pub dry: bool,
     pub shut: bool,
@@ -93,6 +96,7 @@ impl Socket {
             is_raw,
             changed: false,
             ending: false,
+            broken: false,
             dry: false,
             shut: false,
             faults: 0,
@@ -100,15 +104,17 @@ impl Socket {
     }
 
     /// Takes note of an event.
-    pub fn wake(&mut self, ends: bool)
+    pub fn wake(&mut self, ends: bool, breaks: bool)
         ensures faults { self.new.faults ≡ self.old.faults }
         ensures changed { self.new.changed ≡ true }
         ensures asks { self.new.dry ≡ false }
         ensures ends { self.new.ending ≡ self.old.ending || ends }
+        ensures breaks { self.new.broken ≡ self.old.broken || breaks }
     {
         self.dry = false;
         self.changed = true;
         self.ending = self.ending || ends;
+        self.broken = self.broken || breaks;
     }
 
     /// Whether the connection is there. The system is asked behind an event alone.
@@ -128,17 +134,22 @@ impl Socket {
     }
 
     /// Reads some bytes to the buffer's front. Behind a read that didn't fill its buffer the system isn't asked, until an event
-    /// comes, or where the last one told an end.
+    /// comes, or where the last one told an end. The end of a connection of which an event said that it failed is a failure: Linux tells
+    /// a RST behind a FIN by the event alone.
     pub fn read(&mut self, into: &mut [u8]) -> Read
         requires { 0 < length into.old }
         ensures within { ReadsWithin into.new result }
         ensures counts { CountsUp self.old.faults self.new.faults (read_failed result) }
         ensures unasked { self.old.dry ≡ true → result ≡ reads.Balked }
+        ensures whole { self.old.broken ≡ true → ¬ (result ≡ reads.End) }
     {
         if self.dry {
             return Read::Balked;
         }
-        let read = read_from(&mut self.stream, into);
+        let read = match read_from(&mut self.stream, into) {
+            Read::End if self.broken => Read::Failed,
+            other => other,
+        };
         match read {
             Read::Got(n) => self.dry = n < into.len() && !self.ending,
             Read::Failed => self.faults = self.faults.saturating_add(1),
@@ -158,6 +169,20 @@ impl Socket {
             self.faults = self.faults.saturating_add(1);
         }
         wrote
+    }
+
+    /// Whether an event said that the connection failed. It is told once, and the system isn't asked.
+    pub fn look(&mut self) -> Looked
+        ensures told { result ≡ (if self.old.broken then looked.Failed else looked.Fine) }
+        ensures once { self.new.broken ≡ false }
+        ensures counts { CountsUp self.old.faults self.new.faults (look_failed result) }
+    {
+        if !self.broken {
+            return Looked::Fine;
+        }
+        self.broken = false;
+        self.faults = self.faults.saturating_add(1);
+        Looked::Failed
     }
 
     /// Writes no more, once.

@@ -1,14 +1,15 @@
 //! The links that live, by their numbers.
 
-ghost use Rattle.std.specs.Prelude.{◌≡◌, ◌<◌, length, IfSome, OnOk};
+ghost use Rattle.std.specs.Prelude.{◌≡◌, ◌<◌, length, IfSome, OnOk, if◌then◌else◌};
 ghost use Rattle.std.specs.HashMap.{spare};
-ghost use Rattle.hb_mio.specs.Faults.{faults_at, SameFaults, OthersSame};
-ghost use Rattle.hb_world.specs.Answers.{finish_failed, read_failed, write_failed, ReadsWithin, WritesWithin};
+ghost use Rattle.hb_mio.specs.Faults.{faults_at, broken_at, SameFaults, OthersSame};
+ghost use Rattle.hb_world.specs.Answers.{finish_failed, read_failed, write_failed, look_failed, ReadsWithin, WritesWithin};
 ghost use Rattle.hb_world.specs.Seen.{CountsUp};
+ghost use Rattle.hb_world.specs.declared.world.Looked.TheVariants as looked;
 
 use crate::socket::{Socket, reset};
 use hb_base::NoMemory;
-use hb_world::{Finished, Read, Wrote};
+use hb_world::{Finished, Looked, Read, Wrote};
 use mio::net::TcpStream;
 use mio::{Interest, Registry, Token};
 use std::alloc::Global;
@@ -83,12 +84,12 @@ impl Sockets {
     }
 
     /// Takes note of an event of a link. Tells whether it lives.
-    pub fn wake(&mut self, link: u64, ends: bool) -> bool
+    pub fn wake(&mut self, link: u64, ends: bool, breaks: bool) -> bool
         ensures same { SameFaults self.old.by_number self.new.by_number }
     {
         match self.by_number.get_mut(&link) {
             Some(socket) => {
-                socket.wake(ends);
+                socket.wake(ends, breaks);
                 true
             }
             None => false,
@@ -129,6 +130,18 @@ impl Sockets {
         match self.by_number.get_mut(&link) {
             Some(socket) => socket.write(from),
             None => Wrote::Balked,
+        }
+    }
+
+    /// Whether an event said that a link failed, and no look told so; one that doesn't live is fine.
+    pub fn look(&mut self, link: u64) -> Looked
+        ensures told { result ≡ (if broken_at self.old.by_number link then looked.Failed else looked.Fine) }
+        ensures counts { CountsUp (faults_at self.old.by_number link) (faults_at self.new.by_number link) (look_failed result) }
+        ensures others { OthersSame link self.old.by_number self.new.by_number }
+    {
+        match self.by_number.get_mut(&link) {
+            Some(socket) => socket.look(),
+            None => Looked::Fine,
         }
     }
 

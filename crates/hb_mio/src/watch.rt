@@ -154,7 +154,7 @@ fn tell(event: &Event, doors: &mut Doors, sockets: &mut Sockets, ready: &mut Rea
         }
         None => {
             let link = token.0 as u64;
-            if sockets.wake(link, tells_end(event)) {
+            if sockets.wake(link, tells_end(event), event.is_error()) {
                 name(ready, ReadyItem::Link(link));
             }
         }

@@ -66,6 +66,7 @@ module _ (g : NodeConfig) (m : Machine) (points : List Point) (stands : StandsFo
   at_once (e.Went k bytes) (inr may, some, rest) = closing_there k (cause.ConnFault may.0) (ap closing may.1)
   at_once (e.Balked (way.Listen door at listening)) may = absurd may.1
   at_once (e.Balked (way.Accept door)) may = absurd may.1
+  at_once (e.Balked (way.Look k)) may = absurd may.1
   at_once (e.Balked (way.Finish k)) may = quiet may.1.0
   at_once (e.Balked (way.Read k)) may = quiet may.1.0.0
   at_once (e.Balked (way.Write k)) (on, (inl may, some)) = quiet may.0

@@ -125,6 +125,7 @@ module _ (g : NodeConfig) (m : Machine) (points : List Point) (h : Lived m point
   balk_stands : (w : Way) → MayBalk m w → BalkMayStand (entries points) w
   balk_stands (way.Listen door at listening) may = may
   balk_stands (way.Accept door) may = absurd may
+  balk_stands (way.Look l) may = absurd may
   balk_stands (way.Finish l) may = finishable l may.1
   balk_stands (way.Read l) may = readable l may.0.1
   balk_stands (way.Write l) may = writable l (⊎_elim (λ a. inl a.1) (λ a. inr a) may.0)

@@ -121,6 +121,7 @@ module _ (g : NodeConfig) (m : Machine) (d : Dialling) (h : Agrees m d) (links :
   balk_stands : (before : List Entry) → dialling before ≡ d → (w : Way) → MayBalk m w → DialMayStand g before (e.Balked w)
   balk_stands before is (way.Listen door at listening) may = absurd may
   balk_stands before is (way.Accept door) may = absurd may
+  balk_stands before is (way.Look l) may = absurd may
   balk_stands before is (way.Finish l) may = ap (λ (x : Dialling). x.due) is ∙ quiet_undue may.0
   balk_stands before is (way.Read l) may = ap (λ (x : Dialling). x.due) is ∙ quiet_undue may.0.0
   balk_stands before is (way.Write l) may =

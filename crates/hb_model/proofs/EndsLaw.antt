@@ -106,6 +106,7 @@ balk_ends : (m : Machine) (points : List Point) (w : Way) → Lived m points →
 unfolding Ended
 balk_ends m points (way.Listen door at listening) lives ends may = absurd may
 balk_ends m points (way.Accept door) lives ends may = absurd may
+balk_ends m points (way.Look l) lives ends may = absurd may
 balk_ends m points (way.Finish l) lives ends may = none_ended m points lives ends may.0
 balk_ends m points (way.Read l) lives ends may = none_ended m points lives ends may.0.0
 balk_ends m points (way.Write l) lives ends may =

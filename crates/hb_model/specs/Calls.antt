@@ -78,6 +78,10 @@ MayRead l trace = IsUsable l trace × WasNot (is_ended_of l) trace
 abbrev pub MayWrite : ℕ → List Entry → Type 0
 MayWrite l trace = IsUsable l trace × WasNot (is_shut_of l) trace
 
+-- a look may be made: the link is open, and its peer has ended
+abbrev pub MayLook : ℕ → List Entry → Type 0
+MayLook l trace = IsUsable l trace × Was (is_ended_of l) trace
+
 -- a call that moves nothing stands where such a call may be made; no door is given at which to listen
 abbrev pub BalkMayStand : List Entry → Way → Type 0
 BalkMayStand before (way.Listen door at listening) = ⊥
@@ -85,6 +89,7 @@ BalkMayStand before (way.Accept door) = listens door before ≡ true
 BalkMayStand before (way.Finish l) = MayFinish l before
 BalkMayStand before (way.Read l) = MayRead l before
 BalkMayStand before (way.Write l) = MayWrite l before
+BalkMayStand before (way.Look l) = MayLook l before
 
 -- Calls on a link: it is born once, where it is accepted at a door that listens; one that is dialled is opened once, by a finish
 -- behind its birth; only then it is read or written, and no read is made behind its end, and no write behind its shut; behind a

@@ -128,6 +128,7 @@ ends_at points (e.Balked (way.Write k)) none apart = inl none
 ends_at points (e.Balked (way.Read k)) none apart = none
 ends_at points (e.Balked (way.Finish k)) none apart = none
 ends_at points (e.Balked (way.Accept d)) none apart = none
+ends_at points (e.Balked (way.Look k)) none apart = none
 ends_at points (e.Balked (way.Listen d to listening)) none apart = none
 ends_at points _ none apart = none
 

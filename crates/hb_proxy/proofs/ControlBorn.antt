@@ -58,6 +58,7 @@ module _ (g : NodeConfig) (m : Machine) where
       (⊎_elim (λ h. born_in _ live h.1 tt) (λ h. born_in _ (faulted h.0) h.1 tt) may.1.0)
   control_born (e.Balked (way.Listen d to listening)) may l is = absurd may.1
   control_born (e.Balked (way.Accept d)) may l is = absurd may.1
+  control_born (e.Balked (way.Look k)) may l is = absurd may.1
   control_born (e.Closed k why) may l is =
       let same : k ≡ l = cc in subst (λ (j : ℕ). IsBorn (m.links j).phase) same (born_closing (m.links k).phase why may)
   control_born (e.Accepted k d) may l is = absurd may

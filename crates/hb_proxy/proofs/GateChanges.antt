@@ -185,6 +185,7 @@ gate_born n x (e.Balked (way.Read k)) may = ap is_gate_born may.1.0.1
 gate_born n x (e.Balked (way.Write k)) may = written_born x may.1
 gate_born n x (e.Balked (way.Listen d to listening)) may = absurd may
 gate_born n x (e.Balked (way.Accept d)) may = absurd may
+gate_born n x (e.Balked (way.Look k)) may = absurd may
 gate_born n x (e.Accepted k d) may = absurd may
 gate_born n x (e.Dialled k to why) may = absurd may
 gate_born n x (e.DialFailed to why) may = absurd may

@@ -6,7 +6,7 @@ use Rattle.hb_world.specs.Trace.{is_birth_of, is_close_of, is_shut_of, was_born,
 use Rattle.hb_world.specs.declared.entry.Entry.{Entry}
 use Rattle.hb_world.specs.declared.entry.Entry.TheVariants as e
 use Rattle.hb_world.specs.declared.entry.Way.TheVariants as way
-use Rattle.hb_ready.specs.Sight.{fresh, with_open, with_finish, with_read, with_write, awake, is_named, sight_behind, is_open}
+use Rattle.hb_ready.specs.Sight.{fresh, with_open, with_finish, with_read, with_write, with_look, with_end, awake, is_named, sight_behind, is_open}
 use Rattle.hb_ready.specs.declared.link.Link.{Link}
 
 pub record Look : Type 0 where
@@ -127,13 +127,14 @@ open_by n v s (e.Closed k why) is = open_if (k == n) s s (closes v) v is is ∙ 
     kept true = refl
     kept false = refl
 open_by n v s (e.Came k bytes) is = keeps_open (k == n) (with_read false s) s v refl is
-open_by n v s (e.Ended k) is = keeps_open (k == n) (with_read false s) s v refl is
+open_by n v s (e.Ended k) is = keeps_open (k == n) (with_end s) s v refl is
 open_by n v s (e.Went k bytes) is = keeps_open (k == n) (with_write false s) s v refl is
 open_by n v s (e.Balked (way.Finish k)) is = keeps_open (k == n) (with_finish true s) s v refl is
 open_by n v s (e.Balked (way.Read k)) is = keeps_open (k == n) (with_read true s) s v refl is
 open_by n v s (e.Balked (way.Write k)) is = keeps_open (k == n) (with_write true s) s v refl is
 open_by n v s (e.Balked (way.Listen d to listening)) is = is
 open_by n v s (e.Balked (way.Accept d)) is = is
+open_by n v s (e.Balked (way.Look k)) is = keeps_open (k == n) (with_look true s) s v refl is
 open_by n v s (e.Wait ready how) is = keeps_open (is_named n ready) (awake s) s v refl is
 open_by n v s _ is = is
 

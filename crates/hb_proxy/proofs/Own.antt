@@ -60,6 +60,7 @@ on_link l x (e.Balked (way.Read j)) may k is = (let same : j ≡ k = cc in sym s
 on_link l x (e.Balked (way.Write j)) may k is = (let same : j ≡ k = cc in sym same ∙ may.0)
 on_link l x (e.Balked (way.Listen d to listening)) may k is = absurd may
 on_link l x (e.Balked (way.Accept d)) may k is = absurd may
+on_link l x (e.Balked (way.Look n)) may k is = absurd may
 on_link l x (e.Balked (way.Finish j)) may k is = absurd may
 on_link l x (e.Accepted j d) may k is = absurd cc
 on_link l x (e.Dialled j to why) may k is = absurd may
@@ -91,6 +92,7 @@ module _ (whose : ℕ → Owner) (l s : ℕ) (x : Inbound) (t : Tunnel) (owns : 
   on_up (e.Balked (way.Write u)) may k is = at_up u k may.0.2 (cc) (staged live may.0.1)
   on_up (e.Balked (way.Listen d to listening)) may k is = absurd may
   on_up (e.Balked (way.Accept d)) may k is = absurd may
+  on_up (e.Balked (way.Look n)) may k is = absurd may
   on_up (e.Accepted j d) may k is = absurd may
   on_up (e.Dialled u to why) may k is = absurd cc
   on_up (e.DialFailed to why) may k is = absurd cc
@@ -109,6 +111,7 @@ on_plain l x (e.Balked (way.Read j)) may k is = (let same : j ≡ k = cc in sym 
 on_plain l x (e.Balked (way.Write j)) may k is = (let same : j ≡ k = cc in sym same ∙ may.0)
 on_plain l x (e.Balked (way.Listen d to listening)) may k is = absurd may
 on_plain l x (e.Balked (way.Accept d)) may k is = absurd may
+on_plain l x (e.Balked (way.Look n)) may k is = absurd may
 on_plain l x (e.Balked (way.Finish j)) may k is = absurd may
 on_plain l x (e.Accepted j d) may k is = absurd cc
 on_plain l x (e.Dialled j to why) may k is = absurd may
@@ -150,6 +153,7 @@ module _ (whose : ℕ → Owner) (l : ℕ) (x : Captured) (owns : OwnsRelay whos
   on_relay (e.Balked (way.Write u)) may k is = on_raw (is_raw x) u k may.0.1 may.0.2 (cc) (at_stage plain.live may.0.0.1)
   on_relay (e.Balked (way.Listen d to listening)) may k is = absurd may
   on_relay (e.Balked (way.Accept d)) may k is = absurd may
+  on_relay (e.Balked (way.Look n)) may k is = absurd may
   on_relay (e.Accepted j d) may k is = absurd may
   on_relay (e.Dialled u to why) may k is = absurd cc
   on_relay (e.DialFailed to why) may k is = absurd cc
@@ -169,6 +173,7 @@ on_gate n x (e.Balked (way.Read j)) may k is = (let same : j ≡ k = cc in sym s
 on_gate n x (e.Balked (way.Write j)) may k is = (let same : j ≡ k = cc in sym same ∙ may.0)
 on_gate n x (e.Balked (way.Listen d to listening)) may k is = absurd may
 on_gate n x (e.Balked (way.Accept d)) may k is = absurd may
+on_gate n x (e.Balked (way.Look l)) may k is = absurd may
 on_gate n x (e.Accepted j d) may k is = absurd may
 on_gate n x (e.Dialled j to why) may k is = absurd may
 on_gate n x (e.DialFailed to why) may k is = absurd may

@@ -268,6 +268,7 @@ stands_born l x (e.Balked (way.Read k)) may none = tried_born x may.1.0
 stands_born l x (e.Balked (way.Write k)) may none = ap is_plain_born may.1.1
 stands_born l x (e.Balked (way.Listen d to listening)) may none = absurd may
 stands_born l x (e.Balked (way.Accept d)) may none = absurd may
+stands_born l x (e.Balked (way.Look k)) may none = absurd may
 stands_born l x (e.Balked (way.Finish k)) may none = absurd may
 stands_born l x (e.Dialled k to why) may none = absurd may
 stands_born l x (e.DialFailed to why) may none = absurd may

@@ -15,6 +15,8 @@ use Rattle.hb_captured.specs.Sides.{header_of, link_came}
 use Rattle.hb_gateway.specs.Gateway as gateway
 use Rattle.hb_gateway.specs.Gateway.{Phase}
 use Rattle.hb_model.specs.declared.config.NodeConfig.{NodeConfig}
+use Rattle.hb_ready.specs.Sight.{fresh as born, with_finish, with_read}
+use Rattle.hb_ready.specs.declared.link.Link.{Link}
 use Rattle.hb_world.specs.Trace.{recv}
 use Rattle.hb_world.specs.declared.entry.Entry.{Entry}
 use Rattle.hb_world.specs.declared.entry.Entry.TheVariants as e
@@ -255,6 +257,18 @@ module _ (g : NodeConfig) where
       taken_in : StandsFor g later (asked g ++ of_plain 2 (part.entry (e.Accepted 2 door.Plain)) ∷ of_plain 2 part.welcomed ∷ [])
       taken_in = goes_on came (of_plain 2 part.welcomed) (refl, tt, refl) refl
 
+-- link 1 behind a finish that moved nothing
+abbrev asked_at : Bool → Link
+asked_at b = cond b (with_finish true (cond b (born false) (born false))) (cond b (born false) (born false))
+
+-- no link ended
+unended : (b c : Bool)
+    → (cond c (with_read true (cond c (born true) (asked_at b))) (cond c (born true) (asked_at b))).has_ended ≡ false
+unended true true = refl
+unended true false = refl
+unended false true = refl
+unended false false = refl
+
 pub reads_once : ReadsOnce
 reads_once g = record {
   machine = last g;
@@ -274,5 +288,6 @@ reads_once g = record {
         (λ u joins. absurd (omega (arith, joins.0, joins.1))) (λ l u joins. absurd (omega (arith, joins.0, joins.1)));
     gates_quiet = none_carries false (last g) refl (raw g);
     gates = λ n. tt;
+    looks = λ l alive opens. inl (unended (1 == l) (2 == l));
   };
 }

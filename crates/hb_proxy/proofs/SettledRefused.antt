@@ -1,5 +1,5 @@
 -- What the settled law refuses, and what it lets.
-use Rattle.std.proofs.Common.{◌≡◌, inl, inr, ℕ, ◌<◌, ◌==◌, Bool, true, false, List, [], ◌∷◌, length, refl, ap, sym, ◌∙◌, subst, arith}
+use Rattle.std.proofs.Common.{◌≡◌, inl, inr, ℕ, ◌<◌, ◌==◌, Bool, true, false, cond, List, [], ◌∷◌, length, refl, ap, sym, ◌∙◌, subst, arith}
 use Rattle.std.proofs.lemmas.Bool.{cond_both, eqb-true, false≢true}
 use Rattle.hb_base.specs.declared.door.Door.TheVariants as door
 use Rattle.hb_base.specs.declared.door.Why.TheVariants as whys
@@ -21,7 +21,7 @@ use Rattle.hb_model.specs.Point as point
 use Rattle.hb_model.specs.Runs as model
 use Rattle.hb_model.specs.Runs.{IsCalmBy}
 use Rattle.hb_model.specs.declared.config.NodeConfig.{NodeConfig}
-use Rattle.hb_ready.specs.Sight.{asleep, is_open}
+use Rattle.hb_ready.specs.Sight.{asleep, fresh as born, has_ended, is_open, with_finish}
 use Rattle.hb_tunnel.specs.Tunnel.{down_size}
 use Rattle.hb_tunnel.specs.Way.{Way}
 use Rattle.hb_world.specs.Trace.{lives}
@@ -34,9 +34,9 @@ use Rattle.hb_proxy.specs.Machine.{Machine, fresh, with_control}
 use Rattle.hb_proxy.specs.Points.{Point, of_control}
 use Rattle.hb_proxy.specs.Runs.{GateLets, GatesLet, StandsFor, begins, goes_on}
 use Rattle.hb_proxy.specs.Seen.{Seen, HasLink, IsThere, IsGateThere, GateOpenBy, OpenBy, UpOpenBy, RelayOpenBy}
-use Rattle.hb_proxy.specs.Settled.{Reads, Writes, Finishes, IsCrowded, IsFull, TakesNoMore, ControlSettledBy, LinkSettledBy, UpSettledBy, RelaySettledBy, GateSettledBy, IsSettled, SettledIn}
+use Rattle.hb_proxy.specs.Settled.{Reads, Writes, Finishes, Looks, IsCrowded, IsFull, TakesNoMore, ControlSettledBy, LinkSettledBy, UpSettledBy, RelaySettledBy, GateSettledBy, IsSettled, SettledIn}
 use Rattle.hb_proxy.specs.SettledRefused.{HasLive, KeepsDown, KeepsUp, LeavesUnread, KeepsCredit, LeavesUnshut, LeavesUnended, LeavesUndialled}
-use Rattle.hb_proxy.specs.SettledRefused.{LeavesUnwritten, LeavesLinkUnread, AsksNothing, AcceptsNothing, AsksOnce}
+use Rattle.hb_proxy.specs.SettledRefused.{LeavesUnwritten, LeavesLinkUnread, LeavesUnlooked, AsksNothing, AcceptsNothing, AsksOnce}
 use Rattle.hb_proxy.specs.Ups.{Joins}
 use Rattle.hb_proxy.proofs.Doors.{doors_tell_none}
 use Rattle.hb_proxy.proofs.Seen.{runs_are_seen}
@@ -119,6 +119,13 @@ leaves_link_unread g x points trace l is few awake settled = by (link_serves g x
     by : Reads trace l (IsCrowded (x.inbound l).conn) → ⊥
     by (inl sleeps) = false≢true (sym awake ∙ sleeps)
     by (inr many) = omega (arith, few, many)
+
+pub leaves_unlooked : LeavesUnlooked
+leaves_unlooked g x points trace l alive opens ended awake settled = by (settled.looks l alive opens)
+  where
+    by : Looks trace l → ⊥
+    by (inl sends) = false≢true (sym sends ∙ ended)
+    by (inr sleeps) = false≢true (sym awake ∙ sleeps)
 
 -- TRACES
 
@@ -270,6 +277,12 @@ module _ (g : NodeConfig) where
         refl,
       ) refl
 
+-- no link ended
+unended : (b : Bool)
+    → (cond b (with_finish true (cond b (born false) (born false))) (cond b (born false) (born false))).has_ended ≡ false
+unended true = refl
+unended false = refl
+
 pub asks_once : AsksOnce
 asks_once g = record {
   machine = asking_all g;
@@ -288,5 +301,6 @@ asks_once g = record {
     relays = λ l u joins. absurd (omega (arith, joins.0, joins.1));
     gates_quiet = none_carries false (asking_all g) refl (λ l. refl);
     gates = λ n. tt;
+    looks = λ l alive opens. inl (unended (1 == l));
   };
 }

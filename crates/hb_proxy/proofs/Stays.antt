@@ -157,6 +157,7 @@ may_born l x (e.Balked (way.Read k)) may none = ⊎_elim (λ h. ap is_born h.1) 
 may_born l x (e.Balked (way.Write k)) may none = ⊎_elim (λ h. ap is_born h.1) (λ h. ap is_born h.2) may.1
 may_born l x (e.Balked (way.Listen d to listening)) may none = absurd may
 may_born l x (e.Balked (way.Accept d)) may none = absurd may
+may_born l x (e.Balked (way.Look k)) may none = absurd may
 may_born l x (e.Balked (way.Finish k)) may none = absurd may
 may_born l x (e.Dialled k to why) may none = absurd may
 may_born l x (e.DialFailed to why) may none = absurd may

@@ -1,4 +1,4 @@
--- A trace without the calls at doors that gave nothing: they tell of no link.
+-- A trace without the calls at doors that gave nothing and without the looks that found a link fine: by none of them is a link another one.
 use Rattle.std.specs.Prelude.{◌≡◌, ℕ, Bool, true, false, not, List, filter}
 use Rattle.hb_world.specs.declared.entry.Entry.{Entry}
 use Rattle.hb_world.specs.declared.entry.Entry.TheVariants as e
@@ -6,10 +6,11 @@ use Rattle.hb_world.specs.declared.entry.Way.TheVariants as way
 use Rattle.hb_world.specs.Trace.{births, lives, was_shut}
 use Rattle.hb_ready.specs.Sight.{is_open}
 
--- a listen, or an accept that gave no link
+-- a listen, or an accept that gave no link; a look at a link stands with them, since no machine is told of it
 abbrev pub is_at_door : Entry → Bool
 is_at_door (e.Balked (way.Listen door to listening)) = true
 is_at_door (e.Balked (way.Accept door)) = true
+is_at_door (e.Balked (way.Look l)) = true
 is_at_door _ = false
 
 abbrev pub without_doors : List Entry → List Entry

@@ -18,9 +18,9 @@ use Rattle.hb_model.specs.Discovery.{Discovery}
 use Rattle.hb_model.specs.Puts.{IsAllPut}
 use Rattle.hb_model.specs.Runs as model
 use Rattle.hb_model.specs.declared.config.NodeConfig.{NodeConfig}
-use Rattle.hb_ready.specs.Sight.{asked, asleep}
+use Rattle.hb_ready.specs.Sight.{asked, asleep, has_ended, is_open}
 use Rattle.hb_tunnel.specs.Tunnel.{down_size}
-use Rattle.hb_world.specs.Trace.{AtEach, is_waited}
+use Rattle.hb_world.specs.Trace.{AtEach, is_waited, lives}
 use Rattle.hb_world.specs.declared.entry.Entry.{Entry}
 use Rattle.hb_world.specs.declared.entry.Entry.TheVariants as e
 use Rattle.hb_world.specs.declared.entry.Way.TheVariants as way
@@ -42,6 +42,10 @@ Writes trace l none = (asleep (way.Write l) trace ≡ true) ⊎ none
 
 abbrev pub Finishes : List Entry → ℕ → Type 0
 Finishes trace l = asleep (way.Finish l) trace ≡ true
+
+-- a link whose peer sends no more is asleep for looks: it was looked at since a wait named it
+abbrev pub Looks : List Entry → ℕ → Type 0
+Looks trace l = (has_ended l trace ≡ false) ⊎ (asleep (way.Look l) trace ≡ true)
 
 -- more than 32,000 octets wait to be written on a connection
 abbrev pub IsCrowded : Connection → Type 0
@@ -111,7 +115,7 @@ GateSettledBy phase trace g x = ⊥
 -- THE LAW
 
 -- Nothing more happens by itself on any link, and no call is due: no dial, no shut and no close. No accept may give a link at a door.
--- Each link that is there rests
+-- Each link that is there rests; and none that is open broke unseen
 pub record IsSettled (g : NodeConfig) (x : Machine) (points : List Point) (trace : List Entry) : Type 0 where
   pub control_quiet : model.IsQuiet x.control
   pub links_quiet : (l : ℕ) → IsQuiet (x.inbound l)
@@ -125,6 +129,7 @@ pub record IsSettled (g : NodeConfig) (x : Machine) (points : List Point) (trace
   pub relays : (l u : ℕ) → IsRelayOf (x.plain l) u → RelaySettledBy (x.plain l).stage trace u (x.plain l)
   pub gates_quiet : GatesLet false x
   pub gates : (g : ℕ) → GateSettledBy (x.gates g).phase trace g (x.gates g)
+  pub looks : (l : ℕ) → lives l trace ≡ true → is_open l trace ≡ true → Looks trace l
 
 -- so it is in a run of the machine with these entries
 pub record SettledIn (g : NodeConfig) (trace : List Entry) : Type 0 where

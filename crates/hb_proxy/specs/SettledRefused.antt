@@ -9,14 +9,14 @@ use Rattle.hb_inbound.specs.Calm.{may_end}
 use Rattle.hb_inbound.specs.Inbound.{serving}
 use Rattle.hb_inbound.specs.Tunnel.{due, live, may_shut}
 use Rattle.hb_model.specs.declared.config.NodeConfig.{NodeConfig}
-use Rattle.hb_ready.specs.Sight.{asleep}
+use Rattle.hb_ready.specs.Sight.{asleep, has_ended, is_open}
 use Rattle.hb_tunnel.specs.Tunnel.{down_size}
 use Rattle.hb_world.specs.declared.entry.Entry.{Entry}
 use Rattle.hb_world.specs.declared.entry.Entry.TheVariants as e
 use Rattle.hb_world.specs.declared.entry.ReadyItem.TheVariants as item
 use Rattle.hb_world.specs.declared.entry.Way.TheVariants as way
 use Rattle.hb_world.specs.declared.entry.Woken.{Woken}
-use Rattle.hb_world.specs.Trace.{is_waited}
+use Rattle.hb_world.specs.Trace.{is_waited, lives}
 use Rattle.hb_proxy.specs.Machine.{Machine}
 use Rattle.hb_proxy.specs.Points.{Point}
 use Rattle.hb_proxy.specs.Settled.{IsSettled, SettledIn, SettledLaw}
@@ -75,6 +75,11 @@ LeavesUnwritten = (g : NodeConfig) (x : Machine) (points : List Point) (trace : 
 abbrev pub LeavesLinkUnread : Type 0
 LeavesLinkUnread = (g : NodeConfig) (x : Machine) (points : List Point) (trace : List Entry) (l : ℕ) → (x.inbound l).phase ≡ serving
     → length (connection.output (x.inbound l).conn) ≤ 32000 → asleep (way.Read l) trace ≡ false → IsSettled g x points trace → ⊥
+
+-- a link that is open and whose peer sends no more isn't asleep for looks, so that it may have broken unseen
+abbrev pub LeavesUnlooked : Type 0
+LeavesUnlooked = (g : NodeConfig) (x : Machine) (points : List Point) (trace : List Entry) (l : ℕ) → lives l trace ≡ true
+    → is_open l trace ≡ true → has_ended l trace ≡ true → asleep (way.Look l) trace ≡ false → IsSettled g x points trace → ⊥
 
 -- TRACES
 

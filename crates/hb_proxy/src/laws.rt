@@ -14,7 +14,7 @@ ghost use Rattle.hb_proxy.specs.SeenRefused.{UpUnborn, ShutUntold, OpenUnheard, 
 ghost use Rattle.hb_proxy.specs.SeenRefused.{RelayUnborn, PlainShutUntold, RelayShutUntold, RelayOpenUnheard};
 ghost use Rattle.hb_proxy.specs.SeenRefused.{KeepsPlainClosed, KeepsRelayClosed, SharesRelay, IsBoth};
 ghost use Rattle.hb_proxy.specs.SettledRefused.{KeepsDown, KeepsUp, LeavesUnread, KeepsCredit, LeavesUnshut, LeavesUnended, LeavesUndialled};
-ghost use Rattle.hb_proxy.specs.SettledRefused.{LeavesUnwritten, LeavesLinkUnread, AsksNothing, AcceptsNothing, AsksOnce};
+ghost use Rattle.hb_proxy.specs.SettledRefused.{LeavesUnwritten, LeavesLinkUnread, LeavesUnlooked, AsksNothing, AcceptsNothing, AsksOnce};
 ghost use Rattle.hb_proxy.specs.PlainWaits.{KeepsUp as KeepsPlainUp, KeepsDown as KeepsPlainDown, LeavesUpUnread, LeavesFrontUnread};
 ghost use Rattle.hb_proxy.specs.PlainWaits.{LeavesUnread as LeavesPlainUnread, LeavesUnshut as LeavesPlainUnshut};
 ghost use Rattle.hb_proxy.specs.PlainWaits.{LeavesUndialled as LeavesPlainUndialled, LeavesUnclosed};
@@ -244,8 +244,8 @@ pub fn other_plain_links_are_refused()
 {}
 
 /// Nothing is settled in front of a wait where bytes wait in a tunnel that may go, credit wasn't given, a shut, an end of a stream or a
-/// dial is due, octets wait on a link that isn't asleep for writing, or a link that has room isn't read and isn't asleep for reading; nor
-/// where a link was never asked whether it is open, or a door was named at which nobody accepts. It is behind a finish that moved nothing.
+/// dial is due, octets wait on a link that isn't asleep for writing, a link that has room isn't read and isn't asleep for reading, or one
+/// whose peer sends no more wasn't looked at; nor where a link was never asked whether it is open, or a door was named at which nobody accepts. It is behind a finish that moved nothing.
 pub fn waits_with_work_left_are_refused()
     ensures down { KeepsDown }
     ensures up { KeepsUp }
@@ -256,6 +256,7 @@ pub fn waits_with_work_left_are_refused()
     ensures undialled { LeavesUndialled }
     ensures unwritten { LeavesUnwritten }
     ensures link_unread { LeavesLinkUnread }
+    ensures unlooked { LeavesUnlooked }
     ensures asks { AsksNothing }
     ensures accepts { AcceptsNothing }
     ensures good { AsksOnce }

@@ -4,11 +4,15 @@ use Rattle.hb_world.specs.declared.entry.Entry.{Entry}
 use Rattle.hb_world.specs.declared.entry.Entry.TheVariants as e
 use Rattle.hb_world.specs.declared.entry.Way.TheVariants as way
 use Rattle.hb_world.specs.Trace.{AtEach}
-use Rattle.hb_ready.specs.Sight.{asleep, asked, is_open}
+use Rattle.hb_ready.specs.Sight.{asleep, asked, has_ended, is_open}
 
--- a call failed: it was a read or a write of an open link, or a finish, and that way was awake
+-- a look may be made: the link's peer sends no more, and a wait named the link since, and since the last look
+abbrev pub LooksAwake : ℕ → List Entry → Type 0
+LooksAwake l before = (has_ended l before ≡ true) × (asleep (way.Look l) before ≡ false)
+
+-- a call failed: it was a read, a write or a look of an open link, or a finish, and that way was awake
 abbrev pub BreaksAwake : Bool → ℕ → List Entry → Type 0
-BreaksAwake true l before = (asleep (way.Read l) before ≡ false) ⊎ (asleep (way.Write l) before ≡ false)
+BreaksAwake true l before = (asleep (way.Read l) before ≡ false) ⊎ ((asleep (way.Write l) before ≡ false) ⊎ LooksAwake l before)
 BreaksAwake false l before = asleep (way.Finish l) before ≡ false
 
 -- behind these entries the call may be made: its way is awake, or a wait named the door
@@ -22,6 +26,7 @@ IsAwake before (e.Ended l) = asleep (way.Read l) before ≡ false
 IsAwake before (e.Balked (way.Read l)) = asleep (way.Read l) before ≡ false
 IsAwake before (e.Went l bytes) = asleep (way.Write l) before ≡ false
 IsAwake before (e.Balked (way.Write l)) = asleep (way.Write l) before ≡ false
+IsAwake before (e.Balked (way.Look l)) = LooksAwake l before
 IsAwake before (e.Broke l) = BreaksAwake (is_open l before) l before
 IsAwake before _ = ⊤
 

@@ -40,6 +40,30 @@ abbrev pub BreaksAsleep : Type 0
 BreaksAsleep = (to : Target) (why : Why)
     → AwakeLaw (opened_then to why (e.Balked (way.Read 1) ∷ e.Balked (way.Write 1) ∷ e.Broke 1 ∷ [])) → ⊥
 
+-- link 1 is open, and its peer sends no more
+abbrev pub ended_then : Target → Why → List Entry → List Entry
+ended_then to why more = opened_then to why (e.Ended 1 ∷ more)
+
+-- link 1 is named
+abbrev pub names_one : Entry
+names_one = e.Wait (item.Link 1 ∷ []) woken.Woke
+
+-- a look at a link whose peer may send more; at one whose end was just read; and again, with no wait between
+abbrev pub LooksAtWhole : Type 0
+LooksAtWhole = (to : Target) (why : Why) → AwakeLaw (opened_then to why (names_one ∷ e.Balked (way.Look 1) ∷ [])) → ⊥
+
+abbrev pub LooksAtOnce : Type 0
+LooksAtOnce = (to : Target) (why : Why) → AwakeLaw (ended_then to why (e.Balked (way.Look 1) ∷ [])) → ⊥
+
+abbrev pub LooksAgain : Type 0
+LooksAgain = (to : Target) (why : Why)
+    → AwakeLaw (ended_then to why (names_one ∷ e.Balked (way.Look 1) ∷ e.Balked (way.Look 1) ∷ [])) → ⊥
+
+-- a look behind each wait that names the link, of which the second fails
+abbrev pub GoodLooks : Type 0
+GoodLooks = (to : Target) (why : Why)
+    → AwakeLaw (ended_then to why (names_one ∷ e.Balked (way.Look 1) ∷ names_one ∷ e.Broke 1 ∷ []))
+
 -- an accept at a door that no wait named
 abbrev pub AcceptsUnasked : Type 0
 AcceptsUnasked = (door : Door) → AwakeLaw (e.Balked (way.Accept door) ∷ []) → ⊥

@@ -34,11 +34,19 @@ is_asked d ready = list_any (is_item_at d) ready
 
 -- a link at its birth: every way is awake; it is open where it was accepted, and isn't where it was dialled
 abbrev pub fresh : Bool → Link
-fresh opens = record { is_dialled = not opens; is_open = opens; finish_sleeps = false; read_sleeps = false; write_sleeps = false }
+fresh opens = record {
+  is_dialled = not opens;
+  is_open = opens;
+  finish_sleeps = false;
+  read_sleeps = false;
+  write_sleeps = false;
+  has_ended = false;
+  look_sleeps = false;
+}
 
 -- every way is awake
 abbrev pub awake : Link → Link
-awake k = record k { finish_sleeps = false; read_sleeps = false; write_sleeps = false }
+awake k = record k { finish_sleeps = false; read_sleeps = false; write_sleeps = false; look_sleeps = false }
 
 -- a finish told that it is open
 abbrev pub with_open : Link → Link
@@ -54,6 +62,13 @@ with_read b k = record k { read_sleeps = b }
 abbrev pub with_write : Bool → Link → Link
 with_write b k = record k { write_sleeps = b }
 
+abbrev pub with_look : Bool → Link → Link
+with_look b k = record k { look_sleeps = b }
+
+-- a read told that its peer sends no more, which is as good as a look
+abbrev pub with_end : Link → Link
+with_end k = record k { read_sleeps = false; has_ended = true; look_sleeps = true }
+
 -- A link behind one more entry: a birth begins it anew, a call that moved something wakes its way, one that moved nothing puts its
 -- way to sleep, and a wait that names the link wakes every way. A call that failed leaves it as it is
 abbrev pub sight_behind : ℕ → Link → Entry → Link
@@ -61,11 +76,12 @@ sight_behind l k (e.Accepted n door) = if n == l then fresh true else k
 sight_behind l k (e.Dialled n to why) = if n == l then fresh false else k
 sight_behind l k (e.Opened n) = if n == l then with_open k else k
 sight_behind l k (e.Came n bytes) = if n == l then with_read false k else k
-sight_behind l k (e.Ended n) = if n == l then with_read false k else k
+sight_behind l k (e.Ended n) = if n == l then with_end k else k
 sight_behind l k (e.Went n bytes) = if n == l then with_write false k else k
 sight_behind l k (e.Balked (way.Finish n)) = if n == l then with_finish true k else k
 sight_behind l k (e.Balked (way.Read n)) = if n == l then with_read true k else k
 sight_behind l k (e.Balked (way.Write n)) = if n == l then with_write true k else k
+sight_behind l k (e.Balked (way.Look n)) = if n == l then with_look true k else k
 sight_behind l k (e.Wait ready how) = if is_named l ready then awake k else k
 sight_behind l k _ = k
 
@@ -78,11 +94,16 @@ abbrev pub asleep : Way → List Entry → Bool
 asleep (way.Finish l) trace = (sight l trace).finish_sleeps
 asleep (way.Read l) trace = (sight l trace).read_sleeps
 asleep (way.Write l) trace = (sight l trace).write_sleeps
+asleep (way.Look l) trace = (sight l trace).look_sleeps
 asleep _ trace = false
 
 -- the link is open: it was accepted, or a finish told so
 abbrev pub is_open : ℕ → List Entry → Bool
 is_open l trace = (sight l trace).is_open
+
+-- the link's peer sends no more: a read told so
+abbrev pub has_ended : ℕ → List Entry → Bool
+has_ended l trace = (sight l trace).has_ended
 
 -- a link that lives, as a trace tells of it
 abbrev pub known : ℕ → List Entry → Option Link

@@ -10,6 +10,10 @@ pub struct Link {
     pub finish_sleeps: bool,
     pub read_sleeps: bool,
     pub write_sleeps: bool,
+    /// Its peer sends no more.
+    pub has_ended: bool,
+    /// The last look found it fine, or a read its end, and no wait named it since.
+    pub look_sleeps: bool,
 }
 
 /// A link, and whether its number stands on the list.

@@ -106,6 +106,8 @@ impl Links {
             finish_sleeps: false,
             read_sleeps: false,
             write_sleeps: false,
+            has_ended: false,
+            look_sleeps: false,
         };
         let place = Place {
             link: link_now,
@@ -177,6 +179,36 @@ impl Links {
         }
     }
 
+    /// A look at the link moved nothing.
+    pub fn look_balked(&mut self, link: u64)
+        ensures follows { Follows (kept self.old) (kept self.new) (e.Balked (way.Look link)) }
+        ensures stays { KeepsList (kept self.old) (kept self.new) }
+    {
+        if let Some(known) = self.get(link) {
+            let now = Link {
+                look_sleeps: true,
+                ..known
+            };
+            self.set(link, now);
+        }
+    }
+
+    /// A read told that the link's peer sends no more.
+    pub fn ended(&mut self, link: u64)
+        ensures follows { Follows (kept self.old) (kept self.new) (e.Ended link) }
+        ensures stays { KeepsList (kept self.old) (kept self.new) }
+    {
+        if let Some(known) = self.get(link) {
+            let now = Link {
+                read_sleeps: false,
+                has_ended: true,
+                look_sleeps: true,
+                ..known
+            };
+            self.set(link, now);
+        }
+    }
+
     /// The link is closed. Its number stays on the list where it stands there.
     pub fn closed(&mut self, link: u64)
         ensures links { (l : ℕ) → (kept self.new).links l ≡ (if link == l then None else (kept self.old).links l) }
@@ -217,6 +249,7 @@ impl Links {
                 finish_sleeps: false,
                 read_sleeps: false,
                 write_sleeps: false,
+                look_sleeps: false,
                 ..known
             };
             self.set(link, now);

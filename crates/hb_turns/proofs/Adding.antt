@@ -125,6 +125,7 @@ gained_more (call.Accept door) r (Err why) none = gained_few r
 gained_more (call.Read l) r (Err why) none = gained_few r
 gained_more (call.Finish l) r (Err why) none = omega arith
 gained_more (call.Write l) r (Err why) none = omega arith
+gained_more (call.Look l) r (Err why) none = omega arith
 gained_more call r (Ok moved) none = absurd none
 
 -- a call that moved something

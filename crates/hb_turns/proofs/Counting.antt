@@ -42,6 +42,7 @@ plain_ends stated before (e.Balked (way.Accept door)) plain = refl
 plain_ends stated before (e.Balked (way.Finish l)) plain = refl
 plain_ends stated before (e.Balked (way.Read l)) plain = refl
 plain_ends stated before (e.Balked (way.Write l)) plain = refl
+plain_ends stated before (e.Balked (way.Look l)) plain = refl
 plain_ends stated before _ plain = refl
 
 plain_listens : (x : Entry) → is_plain x ≡ true → is_listen x ≡ false
@@ -52,6 +53,7 @@ plain_listens (e.Balked (way.Accept door)) plain = refl
 plain_listens (e.Balked (way.Finish l)) plain = refl
 plain_listens (e.Balked (way.Read l)) plain = refl
 plain_listens (e.Balked (way.Write l)) plain = refl
+plain_listens (e.Balked (way.Look l)) plain = refl
 plain_listens _ plain = refl
 
 plain_ticks : (x : Entry) → is_plain x ≡ true → is_tick x ≡ false

@@ -273,6 +273,7 @@ module _ {N : Type 0} (shown : N → Shown) (run : Run N) where
   call_then (call.Accept door) x r before mid behind first second = tt
   call_then (call.Finish l) x r before mid behind first second = tt
   call_then (call.Write l) x r before mid behind first second = tt
+  call_then (call.Look l) x r before mid behind first second = tt
 
   -- nothing behind it
   pub call_same : (it : Call) (x y : Bool) (before behind : Option (List Entry)) → CallReads {A = Bool} {E = AllocError} shown (Ok x) run it before behind
@@ -281,6 +282,7 @@ module _ {N : Type 0} (shown : N → Shown) (run : Run N) where
   call_same (call.Accept door) x y before behind first = tt
   call_same (call.Finish l) x y before behind first = tt
   call_same (call.Write l) x y before behind first = tt
+  call_same (call.Look l) x y before behind first = tt
 
   -- in which memory lacked
   pub call_lacked : (it : Call) (why : AllocError) (r : Result Bool AllocError) (before behind : Option (List Entry)) → IfOk r (λ y. ⊥)
@@ -289,6 +291,7 @@ module _ {N : Type 0} (shown : N → Shown) (run : Run N) where
   call_lacked (call.Accept door) why r before behind none first = tt
   call_lacked (call.Finish l) why r before behind none first = tt
   call_lacked (call.Write l) why r before behind none first = tt
+  call_lacked (call.Look l) why r before behind none first = tt
 
 -- no link goes first
 pub none_first : (first : Option ℕ) (links : ℕ → Option Link) (s : Shown) (x : Entry) → first ≡ None → LeadsOn first links s x

@@ -6,7 +6,7 @@ use Rattle.hb_base.specs.declared.door.Door.TheVariants.{Inbound, Outbound, Plai
 use Rattle.hb_ready.specs.Registry.{kept}
 use Rattle.hb_ready.specs.Sight.{asked_at}
 use Rattle.hb_ready.specs.declared.link.Link.{Link}
-use Rattle.hb_turns.specs.Rested.{Drowses, FinishRests, IsCalm, IsDropped, ReadRests, WriteRests}
+use Rattle.hb_turns.specs.Rested.{Drowses, FinishRests, IsCalm, IsDropped, LookRests, ReadRests, WriteRests}
 use Rattle.hb_turns.specs.Settled.{Rests, RestsBy}
 use Rattle.hb_turns.specs.Shown.{Shown}
 use Rattle.hb_turns.specs.Woken.{IsQuiet}
@@ -19,6 +19,8 @@ drowses_both (Some a) (Some b) (Some c) first second = record {
   finish = λ sleeps. second.finish (first.finish sleeps);
   read = λ sleeps. second.read (first.read sleeps);
   write = λ sleeps. second.write (first.write sleeps);
+  ended = second.ended ∙ first.ended;
+  look = λ sleeps. second.look (first.look sleeps);
 }
 drowses_both None None (Some c) first second = absurd second
 drowses_both None (Some b) c first second = absurd first
@@ -40,19 +42,29 @@ read_drowses (Some a) (Some b) l s drowses (inr (inr none)) = inr (inr none)
 read_drowses None (Some b) l s drowses rests = absurd drowses
 read_drowses (Some a) None l s drowses rests = absurd drowses
 
+look_drowses : (a b : Option Link) → Drowses a b → LookRests a → LookRests b
+look_drowses None None drowses rests = tt
+look_drowses (Some a) (Some b) drowses (inl closed) = inl (drowses.opens ∙ closed)
+look_drowses (Some a) (Some b) drowses (inr (inl sends)) = inr (inl (drowses.ended ∙ sends))
+look_drowses (Some a) (Some b) drowses (inr (inr sleeps)) = inr (inr (drowses.look sleeps))
+look_drowses None (Some b) drowses rests = absurd drowses
+look_drowses (Some a) None drowses rests = absurd drowses
+
 -- a link rests where each of its calls has nothing to do, or sleeps
-rests_of : (o : Option Link) (l : ℕ) (s : Shown) → FinishRests o → ReadRests o l s → WriteRests o l s → Rests o l s
-rests_of None l s finish read write = tt
-rests_of (Some k) l s finish read write = by k.is_open refl finish read write
+rests_of : (o : Option Link) (l : ℕ) (s : Shown) → FinishRests o → ReadRests o l s → LookRests o → WriteRests o l s → Rests o l s
+rests_of None l s finish read look write = tt
+rests_of (Some k) l s finish read look write = by k.is_open refl finish read look write
   where
     by : (b : Bool) → k.is_open ≡ b → (k.is_open ≡ true) ⊎ (k.finish_sleeps ≡ true)
         → (k.is_open ≡ false) ⊎ ((k.read_sleeps ≡ true) ⊎ (s.wants l ≡ 0))
+        → (k.is_open ≡ false) ⊎ ((k.has_ended ≡ false) ⊎ (k.look_sleeps ≡ true))
         → (k.is_open ≡ false) ⊎ ((k.write_sleeps ≡ true) ⊎ (s.output l ≡ [])) → RestsBy b k l s
-    by true is finish (inr read) (inr write) = (read, write)
-    by true is finish (inl closed) write = absurd (let no : true ≡ false = sym is ∙ closed in cc)
-    by true is finish (inr read) (inl closed) = absurd (let no : true ≡ false = sym is ∙ closed in cc)
-    by false is (inr sleeps) read write = sleeps
-    by false is (inl opened) read write = absurd (let no : false ≡ true = sym is ∙ opened in cc)
+    by true is finish (inr read) (inr look) (inr write) = (read, write, look)
+    by true is finish (inl closed) look write = absurd (let no : true ≡ false = sym is ∙ closed in cc)
+    by true is finish (inr read) (inl closed) write = absurd (let no : true ≡ false = sym is ∙ closed in cc)
+    by true is finish (inr read) (inr look) (inl closed) = absurd (let no : true ≡ false = sym is ∙ closed in cc)
+    by false is (inr sleeps) read look write = sleeps
+    by false is (inl opened) read look write = absurd (let no : false ≡ true = sym is ∙ opened in cc)
 
 module _ {N : Type 0} where
   -- no number left the list
@@ -91,15 +103,18 @@ module _ {N : Type 0} where
   }
 
   -- a link rests, as each of its calls told, behind the last of them
-  pub rests_calmly : (shown : N → Shown) (l : ℕ) (a b c e : Run N) → FinishRests ((kept a.records.links).links l) → IsCalm a b
-      → ReadRests ((kept b.records.links).links l) l (shown b.node) → IsCalm b c → IsCalm c e
-      → WriteRests ((kept e.records.links).links l) l (shown e.node) → Rests ((kept e.records.links).links l) l (shown e.node)
-  rests_calmly shown l a b c e finish first read second third write =
-      let later = calm_both b c e second third in
-      rests_of ((kept e.records.links).links l) l (shown e.node)
+  pub rests_calmly : (shown : N → Shown) (l : ℕ) (a b c e f : Run N) → FinishRests ((kept a.records.links).links l) → IsCalm a b
+      → ReadRests ((kept b.records.links).links l) l (shown b.node) → IsCalm b c → LookRests ((kept c.records.links).links l)
+      → IsCalm c e → IsCalm e f
+      → WriteRests ((kept f.records.links).links l) l (shown f.node) → Rests ((kept f.records.links).links l) l (shown f.node)
+  rests_calmly shown l a b c e f finish first read second look third fourth write =
+      let last = calm_both c e f third fourth in
+      let later = calm_both b c f second last in
+      rests_of ((kept f.records.links).links l) l (shown f.node)
       (finish_drowses _ _ (drowses_both _ _ _ (first.links l) (later.links l)) finish)
-      (subst (λ (n : N). ReadRests ((kept e.records.links).links l) l (shown n)) (sym later.node)
-      (read_drowses _ _ l (shown b.node) (later.links l) read)) write
+      (subst (λ (n : N). ReadRests ((kept f.records.links).links l) l (shown n)) (sym later.node)
+      (read_drowses _ _ l (shown b.node) (later.links l) read))
+      (look_drowses _ _ (last.links l) look) write
 
 pub neither : (a b : Bool) → (a || b) ≡ false → (a ≡ false) × (b ≡ false)
 neither false b is = (refl, is)

@@ -85,10 +85,10 @@ err_made most (Ok made) none = absurd none
 err_made most (Err why) none = omega arith
 
 -- a link's read alone gives bytes
-pub link_gains : (a b c d : Bool) → (((0 + (if b then 1 else 0)) + 0) + 0) ≤ (if ((a || b) || c) || d then 1 else 0)
-link_gains a false c d = omega arith
-link_gains true true c d = omega arith
-link_gains false true c d = omega arith
+pub link_gains : (a b c d f : Bool) → ((((0 + (if b then 1 else 0)) + 0) + 0) + 0) ≤ (if (((a || b) || c) || d) || f then 1 else 0)
+link_gains a false c d f = omega arith
+link_gains true true c d f = omega arith
+link_gains false true c d f = omega arith
 
 or_none : (b : Bool) → (b || false) ≡ b
 or_none true = refl

@@ -8,9 +8,10 @@ use Rattle.hb_world.specs.declared.entry.Entry.{Entry}
 use Rattle.hb_world.specs.declared.entry.Entry.TheVariants as e
 use Rattle.hb_world.specs.declared.entry.Way.TheVariants as way
 use Rattle.hb_ready.specs.Kept.{Kept, Follows, IsKept, Lists, has, rotated, link_behind}
-use Rattle.hb_ready.specs.Sight.{known, sight, with_open, with_finish, with_read, with_write}
+use Rattle.hb_ready.specs.Sight.{known, sight, with_open, with_finish, with_read, with_write, with_look, with_end}
 use Rattle.hb_ready.specs.declared.link.Link.{Link}
 use Rattle.hb_ready.proofs.Lists.{has-more, has-end}
+use Rattle.hb_turns.specs.May.{MayRead}
 use Rattle.hb_turns.specs.Settled.{Rests, RestsBy}
 use Rattle.hb_turns.specs.Shown.{Shown, Stirs, Hears, IsSame}
 use Rattle.hb_turns.specs.Stands.{WatchedBy}
@@ -20,7 +21,7 @@ rests_by-stirs : (b : Bool) (k : Link) (l : ℕ) (trace : List Entry) (s t : Sho
 rests_by-stirs false k l trace s t stirs alive rests = inr rests
 rests_by-stirs true k l trace s t stirs alive rests =
     ⊎_elim (λ stirred. inl stirred)
-    (λ reads. ⊎_elim (λ stirred. inl stirred) (λ writes. inr (reads, writes)) writes_now) reads_now
+    (λ reads. ⊎_elim (λ stirred. inl stirred) (λ writes. inr (reads, writes, rests.2)) writes_now) reads_now
   where
     reads_now : (t.stirs l ≡ true) ⊎ ((k.read_sleeps ≡ true) ⊎ (t.wants l ≡ 0))
     reads_now =
@@ -107,7 +108,7 @@ rests-read (Some k) n l s rests = by (n == l)
   where
     slept : (o : Bool) → RestsBy o k l s
         → RestsBy o (with_read true k) l s
-    slept true rests = (inl refl, rests.1)
+    slept true rests = (inl refl, rests.1, rests.2)
     slept false rests = rests
 
     by : (b : Bool) → Rests (Some (if b then with_read true k else k)) l s
@@ -120,12 +121,39 @@ rests-write (Some k) n l s rests = by (n == l)
   where
     slept : (o : Bool) → RestsBy o k l s
         → RestsBy o (with_write true k) l s
-    slept true rests = (rests.0, inl refl)
+    slept true rests = (rests.0, inl refl, rests.2)
     slept false rests = rests
 
     by : (b : Bool) → Rests (Some (if b then with_write true k else k)) l s
     by true = slept k.is_open rests
     by false = rests
+
+pub rests-look : (o : Option Link) (n l : ℕ) (s : Shown) → Rests o l s → Rests (link_behind l o (e.Balked (way.Look n))) l s
+rests-look None n l s rests = tt
+rests-look (Some k) n l s rests = by (n == l)
+  where
+    slept : (o : Bool) → RestsBy o k l s
+        → RestsBy o (with_look true k) l s
+    slept true rests = (rests.0, rests.1, inr refl)
+    slept false rests = rests
+
+    by : (b : Bool) → Rests (Some (if b then with_look true k else k)) l s
+    by true = slept k.is_open rests
+    by false = rests
+
+-- a link that was awake for reading ended
+rests-ended : (o : Option Link) (n l : ℕ) (s : Shown) → (n ≡ l → MayRead o) → Rests o l s → Rests (link_behind l o (e.Ended n)) l s
+rests-ended None n l s may rests = tt
+rests-ended (Some k) n l s may rests = by (n == l) refl
+  where
+    slept : (o : Bool) → k.read_sleeps ≡ false → RestsBy o k l s → RestsBy o (with_end k) l s
+    slept true awake rests =
+        (⊎_elim (λ sleeps. absurd (let no : false ≡ true = sym awake ∙ sleeps in cc)) (λ none. inr none) rests.0, rests.1, inr refl)
+    slept false awake rests = rests
+
+    by : (b : Bool) → (n == l) ≡ b → Rests (Some (if b then with_end k else k)) l s
+    by true same = slept k.is_open (may (eqb-true n l same)).1 rests
+    by false other = rests
 
 pub watched-finish : (k n : Kept) (s : Shown) (link : ℕ) → Follows k n (e.Balked (way.Finish link)) → n.listed ≡ k.listed
     → WatchedBy k s → WatchedBy n s
@@ -145,6 +173,19 @@ watched-write k n s link follows listed =
     watched-links k n s (same_list k n listed)
     (λ l rests. inr (subst (λ (o : Option Link). Rests o l s) (sym (follows l)) (rests-write (k.links l) link l s rests)))
 
+pub watched-look : (k n : Kept) (s : Shown) (link : ℕ) → Follows k n (e.Balked (way.Look link)) → n.listed ≡ k.listed
+    → WatchedBy k s → WatchedBy n s
+watched-look k n s link follows listed =
+    watched-links k n s (same_list k n listed)
+    (λ l rests. inr (subst (λ (o : Option Link). Rests o l s) (sym (follows l)) (rests-look (k.links l) link l s rests)))
+
+pub watched-ended : (k n : Kept) (s : Shown) (link : ℕ) → MayRead (k.links link) → Follows k n (e.Ended link) → n.listed ≡ k.listed
+    → WatchedBy k s → WatchedBy n s
+watched-ended k n s link may follows listed =
+    watched-links k n s (same_list k n listed)
+    (λ l rests. inr (subst (λ (o : Option Link). Rests o l s) (sym (follows l))
+    (rests-ended (k.links l) link l s (λ is. subst (λ (j : ℕ). MayRead (k.links j)) is may) rests)))
+
 -- a number is listed
 pub lists-more : (k n : Kept) (link l : ℕ) → Lists k n link → has k.listed l ≡ true → has n.listed l ≡ true
 lists-more k n link l (inl is) listed =
@@ -159,6 +200,7 @@ rests_by-same : (b : Bool) (k : Link) (l : ℕ) (s t : Shown) → IsSame s t →
 rests_by-same true k l s t same rests = (
   ⊎_elim (λ slept. inl slept) (λ none. inr (same.wants l ∙ none)) rests.0,
   ⊎_elim (λ slept. inl slept) (λ none. inr (same.output l ∙ none)) rests.1,
+  rests.2,
 )
 rests_by-same false k l s t same rests = rests
 

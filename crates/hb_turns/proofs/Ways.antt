@@ -8,11 +8,11 @@ use Rattle.hb_base.specs.declared.note.Note.{Note}
 use Rattle.hb_world.specs.declared.entry.Entry.{Entry}
 use Rattle.hb_world.specs.declared.entry.Entry.TheVariants as e
 use Rattle.hb_world.specs.declared.entry.Way.TheVariants as way
-use Rattle.hb_ready.specs.Awake.{BreaksAwake}
+use Rattle.hb_ready.specs.Awake.{BreaksAwake, LooksAwake}
 use Rattle.hb_ready.specs.Registry.{kept}
 use Rattle.hb_ready.specs.Sight.{known, is_open, asleep, with_read, with_write}
 use Rattle.hb_ready.specs.declared.link.Link.{Link}
-use Rattle.hb_turns.specs.May.{MayFinish, MayRead, MayWrite}
+use Rattle.hb_turns.specs.May.{MayFinish, MayRead, MayWrite, MayLook}
 use Rattle.hb_turns.specs.Shown.{Shown, IsFront, MayCome}
 use Rattle.hb_turns.specs.Stands.{Stands, Tracks}
 use Rattle.hb_turns.specs.declared.run.Records.{Records}
@@ -39,6 +39,16 @@ write_facts l trace None is may = absurd may
 write_facts l trace (Some k) is may =
     let it = known_lives l trace k (sym is) in
     (it.0, ap (λ (k : Link). k.is_open) it.1 ∙ may.0, ap (λ (k : Link). k.write_sleeps) it.1 ∙ may.1)
+
+look_facts : (l : ℕ) (trace : List Entry) (o : Option Link) → o ≡ known l trace → MayLook o
+    → (lives l trace ≡ true) × (is_open l trace ≡ true) × LooksAwake l trace
+look_facts l trace None is may = absurd may
+look_facts l trace (Some k) is may =
+    let it = known_lives l trace k (sym is) in (
+      it.0,
+      ap (λ (k : Link). k.is_open) it.1 ∙ may.0,
+      (ap (λ (k : Link). k.has_ended) it.1 ∙ may.1, ap (λ (k : Link). k.look_sleeps) it.1 ∙ may.2),
+    )
 
 -- an entry comes behind a trace that the run stands for
 abbrev pub ComesTo : {N : Type 0} → (List Note → N → List Entry → Type 0) → (N → Shown) → Run N → Entry → Type 0
@@ -99,6 +109,24 @@ module _ {N : Type 0} (stands : List Note → N → List Entry → Type 0) (show
           },
         )
 
+  module _ (may : MayLook ((kept run.records.links).links l)) where
+    pub look_balks : ComesTo stands shown run (e.Balked (way.Look l))
+    look_balks trace s =
+        let it = look_facts l trace _ (s.matches.obeys.links l) may in
+        (s, ((s.going, idle), (it.0, it.1)), record { numbers = tt; awake = it.2; settled = tt })
+
+    pub look_breaks : ComesTo stands shown run (e.Broke l)
+    look_breaks trace s =
+        let it = look_facts l trace _ (s.matches.obeys.links l) may in (
+          s,
+          ((s.going, inl idle), it.0),
+          record {
+            numbers = tt;
+            awake = subst (λ (b : Bool). BreaksAwake b l trace) (sym it.1) (inr (inr it.2));
+            settled = tt;
+          },
+        )
+
 -- where no act is due, or the link's last words go before
 module _ {N : Type 0} (stands : List Note → N → List Entry → Type 0) (shown : N → Shown) (run : Run N) (l : ℕ)
     (first : ((shown run.node).idle ≡ true) ⊎ ((shown run.node).last_words l ≡ true))
@@ -121,7 +149,7 @@ module _ {N : Type 0} (stands : List Note → N → List Entry → Type 0) (show
         ((s.going, first), it.0),
         record {
           numbers = tt;
-          awake = subst (λ (b : Bool). BreaksAwake b l trace) (sym it.1) (inr it.2);
+          awake = subst (λ (b : Bool). BreaksAwake b l trace) (sym it.1) (inr (inl it.2));
           settled = tt;
         },
       )
@@ -143,16 +171,6 @@ write_awake n q true same (Some k) may =
 
 pub came_tracks : (r : Records) (l : ℕ) (bytes : List ℕ) → MayRead ((kept r.links).links l) → Tracks r r (e.Came l bytes)
 came_tracks r l bytes may = record {
-  links = λ q. read_awake l q (l == q) refl ((kept r.links).links q)
-      (λ is. subst (λ (j : ℕ). MayRead ((kept r.links).links j)) is may);
-  doors = λ d. refl;
-  births_are = refl;
-  wanting_is = refl;
-  revoked_are = refl;
-}
-
-pub ended_tracks : (r : Records) (l : ℕ) → MayRead ((kept r.links).links l) → Tracks r r (e.Ended l)
-ended_tracks r l may = record {
   links = λ q. read_awake l q (l == q) refl ((kept r.links).links q)
       (λ is. subst (λ (j : ℕ). MayRead ((kept r.links).links j)) is may);
   doors = λ d. refl;

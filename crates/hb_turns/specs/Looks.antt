@@ -70,3 +70,4 @@ gained_by (call.Accept door) r = gained r
 gained_by (call.Finish l) r = 0
 gained_by (call.Read l) r = gained r
 gained_by (call.Write l) r = 0
+gained_by (call.Look l) r = 0

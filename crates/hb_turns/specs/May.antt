@@ -13,3 +13,7 @@ MayRead (Some k) = (k.is_open ≡ true) × (k.read_sleeps ≡ false)
 abbrev pub MayWrite : Option Link → Type 0
 MayWrite None = ⊥
 MayWrite (Some k) = (k.is_open ≡ true) × (k.write_sleeps ≡ false)
+
+abbrev pub MayLook : Option Link → Type 0
+MayLook None = ⊥
+MayLook (Some k) = (k.is_open ≡ true) × (k.has_ended ≡ true) × (k.look_sleeps ≡ false)

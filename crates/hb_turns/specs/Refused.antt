@@ -1,5 +1,5 @@
 -- Small traces that the settled law refuses, and one that obeys it.
-use Rattle.std.specs.Prelude.{◌≡◌, true, List, [], ◌∷◌}
+use Rattle.std.specs.Prelude.{◌≡◌, ℕ, true, List, [], ◌∷◌, ◌++◌}
 use Rattle.hb_base.specs.declared.door.Door.TheVariants.{Inbound}
 use Rattle.hb_base.specs.declared.door.Why.{Why}
 use Rattle.hb_base.specs.declared.target.Target.{Target}
@@ -15,6 +15,14 @@ use Rattle.hb_turns.specs.Shown.{Shown, IsFree}
 -- a wait that names nothing
 abbrev pub waits : Entry
 waits = e.Wait [] woken.Woke
+
+-- a glance that names link 1
+abbrev pub names : Entry
+names = e.Wait (item.Link 1 ∷ []) woken.Glanced
+
+-- link 1 ended, was named, and was looked at
+abbrev pub looked_at : Target → Why → List Entry
+looked_at to why = e.Dialled 1 to why ∷ e.Opened 1 ∷ e.Ended 1 ∷ names ∷ e.Balked (way.Look 1) ∷ []
 
 module _ {N : Type 0} (stands : List Note → N → List Entry → Type 0) (shown : N → Shown) where
   -- a wait while an act is due
@@ -38,6 +46,17 @@ module _ {N : Type 0} (stands : List Note → N → List Entry → Type 0) (show
   -- a wait though no accept was tried at a door that a wait named
   abbrev pub WaitsUnaccepted : Type 0
   WaitsUnaccepted = SettledLaw stands shown (e.Wait (item.Door Inbound ∷ []) woken.Woke ∷ waits ∷ []) → ⊥
+
+  -- a wait though a link that ended was named, and not looked at
+  abbrev pub WaitsOverUnlooked : Type 0
+  WaitsOverUnlooked = (to : Target) (why : Why)
+      → SettledLaw stands shown (e.Dialled 1 to why ∷ e.Opened 1 ∷ e.Ended 1 ∷ names ∷ waits ∷ []) → ⊥
+
+  -- a wait once a look found such a link fine
+  abbrev pub GoodLookIsSettled : Type 0
+  GoodLookIsSettled = (to : Target) (why : Why) (notes : List Note) (n : N) → IsFree (shown n) → ((l : ℕ) → (shown n).wants l ≡ 0)
+      → ((l : ℕ) → (shown n).output l ≡ []) → stands notes n (looked_at to why)
+      → SettledLaw stands shown (looked_at to why ++ waits ∷ [])
 
   -- a wait once a link that isn't open balked
   abbrev pub GoodTraceIsSettled : Type 0

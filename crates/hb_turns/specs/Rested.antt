@@ -9,12 +9,14 @@ use Rattle.hb_turns.specs.declared.round.Call.{Call}
 use Rattle.hb_turns.specs.declared.round.Call.TheVariants as call
 use Rattle.hb_turns.specs.declared.run.Run.{Run}
 
--- a link is open where it was, and its ways sleep that slept
+-- a link is open where it was, and ended where it had, and its ways sleep that slept
 pub record IsDrowsier (old new : Link) : Type 0 where
   pub opens : new.is_open ≡ old.is_open
   pub finish : old.finish_sleeps ≡ true → new.finish_sleeps ≡ true
   pub read : old.read_sleeps ≡ true → new.read_sleeps ≡ true
   pub write : old.write_sleeps ≡ true → new.write_sleeps ≡ true
+  pub ended : new.has_ended ≡ old.has_ended
+  pub look : old.look_sleeps ≡ true → new.look_sleeps ≡ true
 
 abbrev pub Drowses : Option Link → Option Link → Type 0
 Drowses None None = ⊤
@@ -28,7 +30,7 @@ pub record IsCalm {N : Type 0} (old new : Run N) : Type 0 where
   pub doors : (d : Door) → asked_at old.records.asked d ≡ false → asked_at new.records.asked d ≡ false
   pub links : (l : ℕ) → Drowses ((kept old.records.links).links l) ((kept new.records.links).links l)
 
--- a finish, a read or a write of the link has nothing to do, or sleeps
+-- a finish, a read, a write or a look of the link has nothing to do, or sleeps
 abbrev pub FinishRests : Option Link → Type 0
 FinishRests None = ⊤
 FinishRests (Some k) = (k.is_open ≡ true) ⊎ (k.finish_sleeps ≡ true)
@@ -40,6 +42,10 @@ ReadRests (Some k) l s = (k.is_open ≡ false) ⊎ ((k.read_sleeps ≡ true) ⊎
 abbrev pub WriteRests : Option Link → ℕ → Shown → Type 0
 WriteRests None l s = ⊤
 WriteRests (Some k) l s = (k.is_open ≡ false) ⊎ ((k.write_sleeps ≡ true) ⊎ (s.output l ≡ []))
+
+abbrev pub LookRests : Option Link → Type 0
+LookRests None = ⊤
+LookRests (Some k) = (k.is_open ≡ false) ⊎ ((k.has_ended ≡ false) ⊎ (k.look_sleeps ≡ true))
 
 -- no read, or no write, may be made on the link
 abbrev pub MayNotRead : Option Link → Type 0
@@ -62,3 +68,4 @@ CallRests shown (call.Accept door) run = asked_at run.records.asked door ≡ fal
 CallRests shown (call.Finish l) run = FinishRests ((kept run.records.links).links l)
 CallRests shown (call.Read l) run = ReadRests ((kept run.records.links).links l) l (shown run.node)
 CallRests shown (call.Write l) run = WriteRests ((kept run.records.links).links l) l (shown run.node)
+CallRests shown (call.Look l) run = LookRests ((kept run.records.links).links l)

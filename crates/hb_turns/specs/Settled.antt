@@ -9,10 +9,12 @@ use Rattle.hb_ready.specs.declared.link.Link.{Link}
 use Rattle.hb_ready.specs.Sight.{asked, known}
 use Rattle.hb_turns.specs.Shown.{Shown}
 
--- An open link is asleep for reading, or nothing may be read on it; and it is asleep for writing, or nothing is to be written. One that
--- isn't open is asleep for finishing
+-- An open link is asleep for reading, or nothing may be read on it; it is asleep for writing, or nothing is to be written; and one that
+-- ended is asleep for looks. One that isn't open is asleep for finishing
 abbrev pub RestsBy : Bool → Link → ℕ → Shown → Type 0
-RestsBy true k l s = ((k.read_sleeps ≡ true) ⊎ (s.wants l ≡ 0)) × ((k.write_sleeps ≡ true) ⊎ (s.output l ≡ []))
+RestsBy true k l s =
+    ((k.read_sleeps ≡ true) ⊎ (s.wants l ≡ 0)) × ((k.write_sleeps ≡ true) ⊎ (s.output l ≡ []))
+    × ((k.has_ended ≡ false) ⊎ (k.look_sleeps ≡ true))
 RestsBy false k l s = k.finish_sleeps ≡ true
 
 -- a link that lives rests

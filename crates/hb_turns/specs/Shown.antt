@@ -86,6 +86,7 @@ MayCome s before (e.Went l bytes) =
 MayCome s before (e.Balked (way.Finish l)) = IsFree s × LivesOpen false l before
 MayCome s before (e.Balked (way.Read l)) = IsFree s × LivesOpen true l before × (0 < s.wants l)
 MayCome s before (e.Balked (way.Write l)) = MayWrite s l × LivesOpen true l before × (0 < length (s.output l))
+MayCome s before (e.Balked (way.Look l)) = IsFree s × LivesOpen true l before
 MayCome s before (e.Balked (way.Listen door at listening)) = list_all is_listen before ≡ true
 MayCome s before (e.Balked (way.Accept door)) = IsFree s
 MayCome s before (e.Wait ready how) = IsFree s

@@ -2,7 +2,7 @@
 //! small traces and notes. Each is the contract of a function that does nothing.
 
 ghost use Rattle.hb_turns.specs.Counted.{SparesAccepted, CountsDialledOnce, SparesStopped, CountsAccepted, CountsLacks, AddsEnds, StopsAtMost};
-ghost use Rattle.hb_turns.specs.Refused.{WaitsOverDue, WaitsOverReadable, WaitsOverUnwritten, WaitsUnasked, WaitsUnaccepted, GoodTraceIsSettled};
+ghost use Rattle.hb_turns.specs.Refused.{WaitsOverDue, WaitsOverReadable, WaitsOverUnwritten, WaitsUnasked, WaitsUnaccepted, WaitsOverUnlooked, GoodLookIsSettled, GoodTraceIsSettled};
 ghost use Rattle.hb_turns.specs.RefusedLeads.{ReadsAnother, TriesAnother, AcceptsAnother, WritesBefore, GoodTraceIsLed};
 ghost use Rattle.hb_turns.specs.RefusedLooks.{ReadsOn, ReadsBetween, ReadsBoth, AcceptsOn, GoodTraceIsLooked, GlanceIsSettled};
 ghost use Rattle.hb_turns.specs.RefusedRuns.{StopsUnasked, LeavesOpen, ClosesForLack, GoesOnBehind, WaitsPastTurns, GivesUp, GlancesOn};
@@ -18,11 +18,17 @@ pub fn hurried_waits_are_refused<N: Node>()
     ensures unwritten { WaitsOverUnwritten N.stands N.shown }
     ensures unasked { WaitsUnasked N.stands N.shown }
     ensures unaccepted { WaitsUnaccepted N.stands N.shown }
+    ensures unlooked { WaitsOverUnlooked N.stands N.shown }
 {}
 
 /// A trace obeys it in which a wait stands once the link that lives balked.
 pub fn a_good_trace_is_settled<N: Node>()
     ensures { GoodTraceIsSettled N.stands N.shown }
+{}
+
+/// And one in which a wait stands once a look found fine a link that ended and was named.
+pub fn a_good_look_is_settled<N: Node>()
+    ensures { GoodLookIsSettled N.stands N.shown }
 {}
 
 /// No trace obeys the looks law in which one read or one accept more than was stated stands between two looks; one does with a glance

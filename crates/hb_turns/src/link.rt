@@ -4,9 +4,9 @@ ghost use Rattle.std.specs.Prelude.{◌≡◌, ◌⊎◌, ◌<◌, ◌≤◌, tr
 ghost use Rattle.hb_world.specs.Answers.{ReadsWithin};
 ghost use Rattle.hb_ready.specs.Registry.{kept};
 ghost use Rattle.hb_turns.specs.Faults.{StaysWhole};
-ghost use Rattle.hb_turns.specs.May.{MayFinish, MayRead, MayWrite};
+ghost use Rattle.hb_turns.specs.May.{MayFinish, MayRead, MayWrite, MayLook};
 ghost use Rattle.hb_world.specs.Calls.{with_entries, read_entries};
-ghost use Rattle.hb_turns.specs.Rested.{IsCalm, FinishRests, ReadRests, WriteRests, MayNotRead, MayNotWrite};
+ghost use Rattle.hb_turns.specs.Rested.{IsCalm, FinishRests, ReadRests, WriteRests, LookRests, MayNotRead, MayNotWrite};
 ghost use Rattle.hb_turns.specs.Leads.{ReadsFirst};
 ghost use Rattle.hb_turns.specs.Looks.{gained};
 ghost use Rattle.hb_turns.specs.Reckons.{Adds, moved_by};
@@ -16,7 +16,7 @@ use crate::node::Node;
 use crate::run::Run;
 use hb_base::NoMemory;
 use hb_ready::Links;
-use hb_world::{Finished, Read, World, Wrote};
+use hb_world::{Finished, Looked, Read, World, Wrote};
 
 /// Whether it may be asked whether a link is open.
 fn may_finish(links: &Links, link: u64) -> bool
@@ -48,6 +48,17 @@ fn may_write(links: &Links, link: u64) -> bool
     match links.get(link) {
         None => false,
         Some(known) => known.is_open & !known.write_sleeps,
+    }
+}
+
+/// Whether a look may be made at a link: its peer sends no more, and a wait named it since.
+fn may_look(links: &Links, link: u64) -> bool
+    ensures may { result ≡ true → MayLook ((kept links.now).links link) }
+    ensures rests { result ≡ false → LookRests ((kept links.now).links link) }
+{
+    match links.get(link) {
+        None => false,
+        Some(known) => known.is_open & known.has_ended & !known.look_sleeps,
     }
 }
 
@@ -139,6 +150,7 @@ fn read<W: World, N: Node>(run: &mut Run<N>, world: &mut W, link: u64) -> Result
             Ok(true)
         }
         Read::End => {
+            run.records.links.ended(link);
             run.node.ended(link);
             Ok(true)
         }
@@ -189,6 +201,34 @@ pub(crate) fn write<W: World, N: Node>(
             Ok(true)
         }
         Wrote::NoMemory => Err(NoMemory),
+    }
+}
+
+/// Looks at a link whose peer sends no more: no read tells any longer that it broke. Says whether anything moved.
+pub(crate) fn look<W: World, N: Node>(
+    run: &mut Run<N>,
+    world: &mut W,
+    link: u64,
+) -> Result<bool, NoMemory>
+    ensures keeps { IsIdle (N.shown run.old.node) → Keeps N.stands N.shown result run.old (W.trace world.old) run.new (W.trace world.new) }
+    ensures still { IfOk result (λ moved. moved ≡ false → run.new.node ≡ run.old.node) }
+    ensures rests { IfOk result (λ moved. moved ≡ false → IsCalm run.old run.new × LookRests ((kept run.new.records.links).links link)) }
+    ensures adds { Adds (moved_by result) 0 (W.trace world.old) (W.trace world.new) }
+    ensures stays { StaysWhole (W.seen world.old) (W.seen world.new) }
+{
+    if !may_look(&run.records.links, link) {
+        return Ok(false);
+    }
+    match world.look(link) {
+        Looked::Fine => {
+            run.records.links.look_balked(link);
+            Ok(false)
+        }
+        Looked::Failed => {
+            run.node.broke(link);
+            Ok(true)
+        }
+        Looked::NoMemory => Err(NoMemory),
     }
 }
 

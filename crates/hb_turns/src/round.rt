@@ -16,7 +16,7 @@ ghost use Rattle.hb_turns.specs.Stands.{Keeps, IsIdle, Stands};
 ghost use Rattle.hb_turns.specs.Woken.{IsQuiet};
 
 use crate::acts::{carry, enter};
-use crate::link::{finish, read_last, write};
+use crate::link::{finish, look, read_last, write};
 use crate::node::Node;
 use crate::run::Run;
 use hb_base::{Door, NoMemory};
@@ -32,6 +32,7 @@ enum Call {
     Finish(u64),
     Read(u64),
     Write(u64),
+    Look(u64),
 }
 
 /// A door that a wait named accepts at most one link. Says whether it did.
@@ -82,6 +83,7 @@ fn make_call<W: World, N: Node>(
         Call::Finish(link) => finish(run, world, link),
         Call::Read(link) => read_last(run, world, link),
         Call::Write(link) => write(run, world, link),
+        Call::Look(link) => look(run, world, link),
     }
 }
 
@@ -105,7 +107,8 @@ fn try_call<W: World, N: Node>(
     Ok(true)
 }
 
-/// A link is tried: at most one finish, one read and two writes, and behind the read its last words. Says whether anything moved.
+/// A link is tried: at most one finish, one read, one look and two writes, and behind the read its last words. Says whether anything
+/// moved.
 fn try_link<W: World, N: Node>(run: &mut Run<N>, world: &mut W, link: u64) -> Result<bool, NoMemory>
     ensures tried { Tried N.stands N.shown (moved_by result) (gained result) result
         run.old (W.trace world.old) run.new (W.trace world.new) }
@@ -115,9 +118,10 @@ fn try_link<W: World, N: Node>(run: &mut Run<N>, world: &mut W, link: u64) -> Re
 {
     let opened = try_call(run, world, Call::Finish(link))?;
     let came = try_call(run, world, Call::Read(link))?;
+    let broke = try_call(run, world, Call::Look(link))?;
     let went = try_call(run, world, Call::Write(link))?;
     let more = try_call(run, world, Call::Write(link))?;
-    Ok(opened | came | went | more)
+    Ok(opened | came | broke | went | more)
 }
 
 /// Whether a try of the link may move something: it lives, a way is awake, and there is something to do.
@@ -130,6 +134,9 @@ fn is_worth<N: Node>(run: &Run<N>, link: u64) -> bool
         Some(known) => {
             if !known.is_open {
                 return !known.finish_sleeps;
+            }
+            if known.has_ended & !known.look_sleeps {
+                return true;
             }
             if !known.read_sleeps & (run.node.wants(link) > 0) {
                 return true;

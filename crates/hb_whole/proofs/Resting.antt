@@ -110,6 +110,7 @@ pub rests : (taken : List Note) (p : Proxy) (trace : List Entry) (z : Entry) →
     → Stands taken p (trace ++ z ∷ [])
 rests taken p trace (e.Balked (way.Listen door to listening)) may s = at_door taken p trace (e.Balked (way.Listen door to listening)) refl s
 rests taken p trace (e.Balked (way.Accept door)) may s = at_door taken p trace (e.Balked (way.Accept door)) refl s
+rests taken p trace (e.Balked (way.Look l)) may s = at_door taken p trace (e.Balked (way.Look l)) refl s
 rests taken p trace (e.Balked (way.Finish l)) may s =
     by_owner taken p trace l (way.Finish l) s refl
     (λ mine. let at = control.finish_balks taken p trace s l mine may in (at.1, at.2))

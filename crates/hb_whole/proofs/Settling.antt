@@ -37,7 +37,7 @@ use Rattle.hb_proxy.specs.Doors.{without_doors}
 use Rattle.hb_proxy.specs.Machine.{Machine}
 use Rattle.hb_proxy.specs.Points.{Point, control_of}
 use Rattle.hb_proxy.specs.Seen.{Seen, IsThere, IsLinkThere, IsPlainThere, IsGateThere, OpenBy, UpOpenBy, RelayOpenBy, GateOpenBy}
-use Rattle.hb_proxy.specs.Settled.{Reads, Writes, Finishes, IsCrowded, IsFull, ControlSettledBy, GateSettledBy, LinkSettledBy, PlainSettledBy, RelaySettledBy, UpSettledBy, SettledIn}
+use Rattle.hb_proxy.specs.Settled.{Reads, Writes, Finishes, Looks, IsCrowded, IsFull, ControlSettledBy, GateSettledBy, LinkSettledBy, PlainSettledBy, RelaySettledBy, UpSettledBy, SettledIn}
 use Rattle.hb_proxy.specs.Ups.{Joins, IsRelayOf}
 use Rattle.hb_ready.specs.Sight.{asked, is_open, known, sight}
 use Rattle.hb_relays.specs.Shows.{IsAwayBy}
@@ -70,6 +70,9 @@ module _ (trace : List Entry) (l : ℕ) (s : Shown) (alive : lives l trace ≡ t
 
   pub open_writes : is_open l trace ≡ true → Writes trace l (s.output l ≡ [])
   open_writes opens = (subst (λ (b : Bool). RestsBy b (sight l trace) l s) opens rests_by).1
+
+  pub open_looks : is_open l trace ≡ true → Looks trace l
+  open_looks opens = (subst (λ (b : Bool). RestsBy b (sight l trace) l s) opens rests_by).2
 
   pub closed_finishes : is_open l trace ≡ false → Finishes trace l
   closed_finishes closed = subst (λ (b : Bool). RestsBy b (sight l trace) l s) closed rests_by
@@ -485,5 +488,6 @@ module _ (taken : List Note) (p : Proxy) (trace : List Entry) (s : Stands taken 
       relays = relay_so;
       gates_quiet = all.gates false;
       gates = gates_so;
+      looks = λ l alive opens. open_looks trace l (shown_of p) alive (rests l) opens;
     };
   }

@@ -15,16 +15,18 @@ use Rattle.hb_world.specs.declared.line.Line.{Line}
 use Rattle.hb_world.specs.declared.links.Links.{Links}
 use Rattle.hb_world.specs.declared.world.Finished.{Finished}
 use Rattle.hb_world.specs.declared.world.Finished.TheVariants as finished
+use Rattle.hb_world.specs.declared.world.Looked.{Looked}
+use Rattle.hb_world.specs.declared.world.Looked.TheVariants as looked
 use Rattle.hb_world.specs.declared.world.Read.{Read}
 use Rattle.hb_world.specs.declared.world.Read.TheVariants as reads
 use Rattle.hb_world.specs.declared.world.Wrote.{Wrote}
 use Rattle.hb_world.specs.declared.world.Wrote.TheVariants as wrote
 use Rattle.hb_world.specs.Allowed.{Allowed, IsAnswer}
-use Rattle.hb_world.specs.Calls.{finish_entries, read_entries, write_entries, shut_entries, close_entries}
+use Rattle.hb_world.specs.Calls.{finish_entries, read_entries, write_entries, look_entries, shut_entries, close_entries}
 use Rattle.hb_world.specs.DoorState.{door_at}
 use Rattle.hb_world.specs.LinkStates.{state_at}
 use Rattle.hb_world.specs.Script.{LinkScript, Standing, standing, after_entry, with_entry, link_after, waiting_after, failing_after}
-use Rattle.hb_world.specs.ScriptAnswers.{is_listen, finish_answer, read_answer, write_answer}
+use Rattle.hb_world.specs.ScriptAnswers.{is_listen, finish_answer, read_answer, write_answer, look_answer}
 use Rattle.hb_world.specs.Trace.{lives, was_shut, is_listen_at}
 use Rattle.hb_world.specs.WorldState.{Keeps, GivesNothing, TakesNothing}
 use Rattle.hb_world.proofs.AllowedLemmas.{stated, allowed-one}
@@ -117,8 +119,22 @@ holds-unwritten lines trace next links doors failing rest listened link offered 
     (offered, said ∙ stated wrote.NoMemory wrote.Balked a is (λ m. cc)) h
 holds-unwritten lines trace next links doors failing rest listened link offered a wrote.Failed none said is h =
     holds-quiet lines trace (e.Broke link) _ _ _ _ _ _ _ (λ s. refl, λ l k. refl, λ d. refl, λ d n. refl, refl) refl
-    (inr (inr (offered, said ∙ stated wrote.NoMemory wrote.Failed a is (λ m. cc)))) h
+    (inr (inr (inl (offered, said ∙ stated wrote.NoMemory wrote.Failed a is (λ m. cc))))) h
 holds-unwritten lines trace next links doors failing rest listened link offered a wrote.NoMemory none said is h =
+    holds-nothing lines trace _ _ _ _ _ _ h
+
+pub holds-look : (lines : List Line) (trace : List Entry) (next : ℕ) (links : Links) (doors : Doors ScriptDoor) (failing : ℕ)
+    (rest : List ReadyItem) (listened : Bool) (link : ℕ) (r : Looked)
+    → (r ≡ looked.NoMemory) ⊎ (r ≡ look_answer lines trace link)
+    → Holds lines trace next links doors failing rest listened
+    → Holds lines (trace ++ look_entries link r) next links doors failing rest listened
+holds-look lines trace next links doors failing rest listened link looked.Fine is h =
+    holds-quiet lines trace (e.Balked (way.Look link)) _ _ _ _ _ _ _ (λ s. refl, λ l k. refl, λ d. refl, λ d n. refl, refl) refl
+    (stated looked.NoMemory looked.Fine _ is (λ m. cc)) h
+holds-look lines trace next links doors failing rest listened link looked.Failed is h =
+    holds-quiet lines trace (e.Broke link) _ _ _ _ _ _ _ (λ s. refl, λ l k. refl, λ d. refl, λ d n. refl, refl) refl
+    (inr (inr (inr (stated looked.NoMemory looked.Failed _ is (λ m. cc))))) h
+holds-look lines trace next links doors failing rest listened link looked.NoMemory is h =
     holds-nothing lines trace _ _ _ _ _ _ h
 
 pub holds-shut : (lines : List Line) (trace : List Entry) (next : ℕ) (links : Links) (doors : Doors ScriptDoor) (failing : ℕ)

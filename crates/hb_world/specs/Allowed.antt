@@ -13,11 +13,12 @@ use Rattle.hb_world.specs.declared.world.Born.TheVariants as born
 use Rattle.hb_world.specs.declared.world.Finished.TheVariants as finished
 use Rattle.hb_world.specs.declared.world.Read.TheVariants as reads
 use Rattle.hb_world.specs.declared.world.Wrote.TheVariants as wrote
+use Rattle.hb_world.specs.declared.world.Looked.TheVariants as looked
 use Rattle.hb_world.specs.declared.world.Waited.{Waited}
 use Rattle.hb_world.specs.declared.world.Waited.TheVariants as waited
 use Rattle.hb_world.specs.LinkState.{front_of}
 use Rattle.hb_world.specs.Script.{standing}
-use Rattle.hb_world.specs.ScriptAnswers.{listen_answer, accept_answer, dial_answer, finish_answer, read_answer, write_answer, wait_answer, told_by_wait}
+use Rattle.hb_world.specs.ScriptAnswers.{listen_answer, accept_answer, dial_answer, finish_answer, read_answer, write_answer, look_answer, wait_answer, told_by_wait}
 use Rattle.hb_world.specs.Trace.{AtEach, lives, was_shut}
 
 -- a call that moves nothing, behind these entries
@@ -29,13 +30,15 @@ MovesNothing lines before (way.Accept door) =
 MovesNothing lines before (way.Finish link) = finish_answer lines before link ≡ finished.Balked
 MovesNothing lines before (way.Read link) = (room : ℕ) × (read_answer lines before link room ≡ reads.Balked)
 MovesNothing lines before (way.Write link) = (offered : ℕ) × (write_answer lines before link offered ≡ wrote.Balked)
+MovesNothing lines before (way.Look link) = look_answer lines before link ≡ looked.Fine
 
--- a finish, read or write failed, behind these entries
+-- a finish, read, write or look failed, behind these entries
 abbrev pub Fails : List Line → List Entry → ℕ → Type 0
 Fails lines before link =
     (finish_answer lines before link ≡ finished.Failed)
     ⊎ (((room : ℕ) × (read_answer lines before link room ≡ reads.Failed))
-    ⊎ ((offered : ℕ) × (write_answer lines before link offered ≡ wrote.Failed)))
+    ⊎ (((offered : ℕ) × (write_answer lines before link offered ≡ wrote.Failed))
+    ⊎ (look_answer lines before link ≡ looked.Failed)))
 
 -- a wait answers so, and tells these items
 abbrev pub Answers : List Line → List Entry → List ReadyItem → Waited → Type 0

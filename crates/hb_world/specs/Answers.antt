@@ -11,6 +11,8 @@ use Rattle.hb_world.specs.declared.world.Read.{Read}
 use Rattle.hb_world.specs.declared.world.Read.TheVariants as reads
 use Rattle.hb_world.specs.declared.world.Wrote.{Wrote}
 use Rattle.hb_world.specs.declared.world.Wrote.TheVariants as wrote
+use Rattle.hb_world.specs.declared.world.Looked.{Looked}
+use Rattle.hb_world.specs.declared.world.Looked.TheVariants as looked
 use Rattle.hb_world.specs.declared.world.Waited.{Waited}
 use Rattle.hb_world.specs.declared.world.Waited.TheVariants as waited
 use Rattle.hb_world.specs.declared.world.Glanced.{Glanced}
@@ -37,6 +39,10 @@ read_failed _ = false
 abbrev pub write_failed : Wrote → Bool
 write_failed wrote.Failed = true
 write_failed _ = false
+
+abbrev pub look_failed : Looked → Bool
+look_failed looked.Failed = true
+look_failed _ = false
 
 abbrev pub wait_failed : Waited → Bool
 wait_failed waited.Failed = true
@@ -66,7 +72,7 @@ abbrev pub Lives : ℕ → Option (List Entry) → Type 0
 Lives link None = Unit {0}
 Lives link (Some trace) = IsTrue (lives link trace)
 
--- only a link that lives does anything but balk, want of memory aside
+-- only a link that lives does anything but balk, or be fine, want of memory aside
 abbrev pub FinishesLiving : ℕ → Option (List Entry) → Finished → Type 0
 FinishesLiving link trace finished.Opened = Lives link trace
 FinishesLiving link trace finished.Failed = Lives link trace
@@ -82,3 +88,7 @@ abbrev pub WritesLiving : ℕ → Option (List Entry) → Wrote → Type 0
 WritesLiving link trace (wrote.Took n) = Lives link trace
 WritesLiving link trace wrote.Failed = Lives link trace
 WritesLiving link trace _ = Unit {0}
+
+abbrev pub LooksLiving : ℕ → Option (List Entry) → Looked → Type 0
+LooksLiving link trace looked.Failed = Lives link trace
+LooksLiving link trace _ = Unit {0}

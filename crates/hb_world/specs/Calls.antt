@@ -19,6 +19,8 @@ use Rattle.hb_world.specs.declared.world.Read.{Read}
 use Rattle.hb_world.specs.declared.world.Read.TheVariants as reads
 use Rattle.hb_world.specs.declared.world.Wrote.{Wrote}
 use Rattle.hb_world.specs.declared.world.Wrote.TheVariants as wrote
+use Rattle.hb_world.specs.declared.world.Looked.{Looked}
+use Rattle.hb_world.specs.declared.world.Looked.TheVariants as looked
 use Rattle.hb_world.specs.declared.world.Waited.{Waited}
 use Rattle.hb_world.specs.declared.world.Waited.TheVariants as waited
 use Rattle.hb_world.specs.declared.world.Glanced.{Glanced}
@@ -70,6 +72,12 @@ write_entries link from (wrote.Took n) = e.Went link (take n from) ∷ []
 write_entries link from wrote.Balked = e.Balked (way.Write link) ∷ []
 write_entries link from wrote.Failed = e.Broke link ∷ []
 write_entries link from wrote.NoMemory = []
+
+-- a look that found the link fine moves nothing
+abbrev pub look_entries : ℕ → Looked → List Entry
+look_entries link looked.Fine = e.Balked (way.Look link) ∷ []
+look_entries link looked.Failed = e.Broke link ∷ []
+look_entries link looked.NoMemory = []
 
 -- what is ready, and behind a wait that answers Tick a Tick
 abbrev pub wait_entries : List ReadyItem → Waited → List Entry

@@ -8,6 +8,8 @@ use Rattle.hb_world.specs.declared.world.Read.{Read}
 use Rattle.hb_world.specs.declared.world.Read.TheVariants as reads
 use Rattle.hb_world.specs.declared.world.Wrote.{Wrote}
 use Rattle.hb_world.specs.declared.world.Wrote.TheVariants as wrote
+use Rattle.hb_world.specs.declared.world.Looked.{Looked}
+use Rattle.hb_world.specs.declared.world.Looked.TheVariants as looked
 
 -- what the lines that were applied say of it, and the pieces of the lines to come
 pub record LinkState : Type 0 where
@@ -61,6 +63,10 @@ room_takes (Some room) n = if room == 0 then wrote.Balked else wrote.Took (min r
 -- a broken link fails at once
 abbrev pub write_said : LinkScript → ℕ → Wrote
 write_said k n = if k.broken then wrote.Failed else room_takes k.room n
+
+-- a look at a broken link fails, also where it ended before
+abbrev pub look_said : LinkScript → Looked
+look_said k = if k.broken then looked.Failed else looked.Fine
 
 -- bytes come only where the first piece has some
 abbrev pub HasFront : List ℕ → Read → Type 0

@@ -19,10 +19,12 @@ use Rattle.hb_world.specs.declared.world.Read.{Read}
 use Rattle.hb_world.specs.declared.world.Read.TheVariants as reads
 use Rattle.hb_world.specs.declared.world.Wrote.{Wrote}
 use Rattle.hb_world.specs.declared.world.Wrote.TheVariants as wrote
+use Rattle.hb_world.specs.declared.world.Looked.{Looked}
+use Rattle.hb_world.specs.declared.world.Looked.TheVariants as looked
 use Rattle.hb_world.specs.declared.world.Waited.{Waited}
 use Rattle.hb_world.specs.declared.world.Waited.TheVariants as waited
 use Rattle.hb_world.specs.declared.entry.ReadyItem.{ReadyItem}
-use Rattle.hb_world.specs.LinkState.{finish_said, read_said, write_said, front_of}
+use Rattle.hb_world.specs.LinkState.{finish_said, read_said, write_said, look_said, front_of}
 use Rattle.hb_world.specs.Script.{standing, turn_of, turn_ends, ready_in}
 use Rattle.hb_world.specs.Trace.{births, lives}
 
@@ -66,6 +68,10 @@ read_answer lines trace link room =
 abbrev pub write_answer : List Line → List Entry → ℕ → ℕ → Wrote
 write_answer lines trace link offered =
     if lives link trace then write_said ((standing lines trace).links link) offered else wrote.Balked
+
+abbrev pub look_answer : List Line → List Entry → ℕ → Looked
+look_answer lines trace link =
+    if lives link trace then look_said ((standing lines trace).links link) else looked.Fine
 
 -- the bytes that a read gives are the first of the piece in front
 abbrev pub GivesFront : List Line → List Entry → ℕ → List ℕ → Read → Type 0

@@ -4,7 +4,7 @@ use Rattle.hb_base.specs.Count.{Counts}
 use Rattle.hb_world.specs.declared.line.Line.{Line}
 
 -- the lines that a world follows, where it is the world of a script; and how often a listen or a wait failed, how often an accept or
--- a dial, and how often a finish, read or write of each link
+-- a dial, and how often a finish, read, write or look of each link
 pub record Seen : Type 0 where
   pub script : Option (List Line)
   pub faults : ℕ

@@ -12,6 +12,8 @@ pub enum Way {
     Finish(u64),
     Read(u64),
     Write(u64),
+    /// A look at a link that found it fine.
+    Look(u64),
 }
 
 /// A door or a link at which something may be done.
@@ -49,7 +51,7 @@ pub enum Entry {
     Came(u64, Bytes),
     /// The link's peer sends no more.
     Ended(u64),
-    /// A finish, read or write failed.
+    /// A finish, read, write or look failed.
     Broke(u64),
     /// These bytes were written.
     Went(u64, Bytes),

@@ -24,4 +24,4 @@ pub use laws::{a_script_allows_nothing_done, a_trace_grows};
 pub use line::Line;
 pub use ready::Ready;
 pub use script_world::ScriptWorld;
-pub use world::{Born, Finished, Glanced, Listened, Read, Waited, World, Wrote};
+pub use world::{Born, Finished, Glanced, Listened, Looked, Read, Waited, World, Wrote};

@@ -1,11 +1,11 @@
 //! What the world of a script keeps of a link.
 
 ghost use Rattle.std.specs.Prelude.{◌≡◌, ◌<◌, ◌≤◌, [], ◌∷◌, ◌++◌, length, drop, OnOk, OnErr, IfOk};
-ghost use Rattle.hb_world.specs.LinkState.{LinkState, HasFront, IsNext, state_with, unnamed, front_of, finish_said, read_said, write_said};
+ghost use Rattle.hb_world.specs.LinkState.{LinkState, HasFront, IsNext, state_with, unnamed, front_of, finish_said, read_said, write_said, look_said};
 ghost use Rattle.hb_world.specs.Script.{without_bytes, less_room};
 
 use crate::line::Line;
-use crate::world::{Finished, Read, Wrote};
+use crate::world::{Finished, Looked, Read, Wrote};
 use hb_base::{Bytes, NoMemory};
 use std::alloc::Global;
 use std::collections::VecDeque;
@@ -184,6 +184,17 @@ impl ScriptLink {
             None => Wrote::Took(offered),
             Some(0) => Wrote::Balked,
             Some(room) => Wrote::Took((offered as u64).min(room) as usize),
+        }
+    }
+
+    /// What a look at it answers.
+    pub fn look(&self) -> Looked
+        ensures { result ≡ look_said self.now.said }
+    {
+        if self.broken {
+            Looked::Failed
+        } else {
+            Looked::Fine
         }
     }
 

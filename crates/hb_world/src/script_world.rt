@@ -2,8 +2,8 @@
 
 ghost use Rattle.std.specs.Prelude.{◌≡◌, ◌⊎◌, ◌<◌, ◌≤◌, ℕ, [], ◌++◌, length, take, IsTrue, not, ◌&&◌, OnOk, OnErr, IfOk, Some};
 ghost use Rattle.hb_world.specs.Allowed.{Allowed};
-ghost use Rattle.hb_world.specs.Calls.{listen_entries, accept_entries, dial_entries, finish_entries, read_entries, write_entries, wait_entries, glance_entries, shut_entries, close_entries};
-ghost use Rattle.hb_world.specs.ScriptAnswers.{listen_answer, accept_answer, dial_answer, finish_answer, read_answer, write_answer, wait_answer, waited_for, told_by_wait, begins_with_fault, GivesFront, LeavesReady};
+ghost use Rattle.hb_world.specs.Calls.{listen_entries, accept_entries, dial_entries, finish_entries, read_entries, write_entries, look_entries, wait_entries, glance_entries, shut_entries, close_entries};
+ghost use Rattle.hb_world.specs.ScriptAnswers.{listen_answer, accept_answer, dial_answer, finish_answer, read_answer, write_answer, look_answer, wait_answer, waited_for, told_by_wait, begins_with_fault, GivesFront, LeavesReady};
 ghost use Rattle.hb_world.specs.WorldState.{ScriptState, GivesNothing, TakesNothing, counted};
 ghost use Rattle.hb_world.specs.Answers.{birth_failed, ReadsLiving, ReadsWithin, WritesWithin};
 ghost use Rattle.hb_world.specs.LinkState.{front_of, HasFront};
@@ -19,7 +19,7 @@ use crate::ready::{MOST_ITEMS, Ready};
 use crate::trace::Trace;
 use crate::turn::{failing_after_turn, turn_end, turn_len, turn_to_doors, turn_to_links};
 use crate::waits::{add_wait, copy_items, told_before, waited};
-use crate::world::{Born, Finished, Glanced, Listened, Read, Waited, World, Wrote};
+use crate::world::{Born, Finished, Glanced, Listened, Looked, Read, Waited, World, Wrote};
 use hb_base::{Bytes, Cause, Door, List, NoMemory, Target, Why};
 use std::alloc::Global;
 use std::marker::Model;
@@ -206,6 +206,16 @@ impl ScriptWorld {
         match self.links.get(link) {
             Some(kept) => kept.write(offered),
             None => Wrote::Took(offered),
+        }
+    }
+
+    /// What a look answers.
+    fn look_said(&self, link: u64) -> Looked
+        ensures { result ≡ look_answer self.now.lines self.now.trace link }
+    {
+        match self.links.get(link) {
+            Some(kept) if self.trace.lives(link) => kept.look(),
+            _ => Looked::Fine,
         }
     }
 
@@ -425,6 +435,22 @@ impl World for ScriptWorld {
         match self.write_said(link, from.len()) {
             Wrote::Took(n) => self.write_bytes(link, n, from),
             nothing => self.write_nothing(link, nothing),
+        }
+    }
+
+    fn look(&mut self, link: u64) -> Looked
+        ensures answer { (result ≡ Looked.NoMemory) ⊎ (result ≡ look_answer self.old.lines self.old.trace link) }
+        ensures after { self.new ≡ record self.old { trace = self.old.trace ++ look_entries link result } }
+    {
+        let answer = self.look_said(link);
+        let entry = match answer {
+            Looked::Fine => Entry::Balked(Way::Look(link)),
+            Looked::Failed => Entry::Broke(link),
+            Looked::NoMemory => return Looked::NoMemory,
+        };
+        match self.trace.add(entry) {
+            Ok(()) => answer,
+            Err(_) => Looked::NoMemory,
         }
     }
 

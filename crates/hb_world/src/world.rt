@@ -58,6 +58,15 @@ pub enum Wrote {
     NoMemory,
 }
 
+/// What a look at a link answers.
+#[derive(Clone, Copy)]
+pub enum Looked {
+    /// Nothing tells that it broke.
+    Fine,
+    Failed,
+    NoMemory,
+}
+
 /// What a wait answers.
 #[derive(Clone, Copy)]
 pub enum Waited {
@@ -91,8 +100,8 @@ pub trait World {
     ghost use Rattle.std.specs.Prelude.{◌≡◌, ◌<◌, List, length, Option};
     ghost use Rattle.hb_world.specs.declared.entry.Entry.{Entry};
     ghost use Rattle.hb_world.specs.declared.world.Born.TheVariants.{Balked};
-    ghost use Rattle.hb_world.specs.Answers.{listen_failed, birth_failed, finish_failed, read_failed, write_failed, wait_failed, glance_failed, HasNextNumber, ReadsWithin, WritesWithin, FinishesLiving, ReadsLiving, WritesLiving};
-    ghost use Rattle.hb_world.specs.Calls.{with_entries, with_shut, with_closed, listen_entries, accept_entries, dial_entries, finish_entries, read_entries, write_entries, wait_entries, glance_entries};
+    ghost use Rattle.hb_world.specs.Answers.{listen_failed, birth_failed, finish_failed, read_failed, write_failed, look_failed, wait_failed, glance_failed, HasNextNumber, ReadsWithin, WritesWithin, FinishesLiving, ReadsLiving, WritesLiving, LooksLiving};
+    ghost use Rattle.hb_world.specs.Calls.{with_entries, with_shut, with_closed, listen_entries, accept_entries, dial_entries, finish_entries, read_entries, write_entries, look_entries, wait_entries, glance_entries};
     ghost use Rattle.hb_world.specs.Seen.{Seen, CountsUp, Stays, StaysButWhole, StaysButBirths, StaysButLink};
 
     /// What the calls did, in order, where the world tells it.
@@ -145,6 +154,14 @@ pub trait World {
         ensures within { WritesWithin from.now result }
         ensures living { WritesLiving link (trace self.old) result }
         ensures counts { CountsUp ((seen self.old).link_faults link) ((seen self.new).link_faults link) (write_failed result) }
+        ensures stays { StaysButLink link (seen self.old) (seen self.new) };
+
+    /// Whether the link broke, as far as that can be told without a read or a write: so it is asked of one whose peer sends no more. A link
+    /// that doesn't live is fine.
+    fn look(&mut self, link: u64) -> Looked
+        ensures adds { trace self.new ≡ with_entries (look_entries link result) (trace self.old) }
+        ensures living { LooksLiving link (trace self.old) result }
+        ensures counts { CountsUp ((seen self.old).link_faults link) ((seen self.new).link_faults link) (look_failed result) }
         ensures stays { StaysButLink link (seen self.old) (seen self.new) };
 
     /// Writes no more to the link. It takes no memory, and does nothing to a link that doesn't live or was

@@ -1,5 +1,5 @@
 use Rattle.hb_proxy.proofs.SettledRefused.{keeps_down, keeps_up, leaves_unread, keeps_credit, leaves_unshut, leaves_unended, leaves_undialled}
-use Rattle.hb_proxy.proofs.SettledRefused.{leaves_unwritten, leaves_link_unread, asks_nothing, accepts_nothing, asks_once}
+use Rattle.hb_proxy.proofs.SettledRefused.{leaves_unwritten, leaves_link_unread, leaves_unlooked, asks_nothing, accepts_nothing, asks_once}
 use Rattle.hb_proxy.proofs.laws.waits_with_work_left_are_refused.Goals as goal
 
 pub returns : goal.returns
@@ -13,6 +13,7 @@ returns c = record {
   undialled = leaves_undialled;
   unwritten = leaves_unwritten;
   link_unread = leaves_link_unread;
+  unlooked = leaves_unlooked;
   asks = asks_nothing;
   accepts = accepts_nothing;
   good = asks_once;

@@ -8,6 +8,9 @@ use Rattle.hb_ready.proofs.laws.calls_asleep_are_refused.Goals as goal
 slept : true ≡ false → ⊥
 slept is = cc
 
+unended : false ≡ true → ⊥
+unended is = cc
+
 pub returns-clause-asks : goal.returns-clause-asks
 returns-clause-asks c = λ to why law. slept (law (e.Dialled 1 to why ∷ e.Balked (way.Finish 1) ∷ []) _ _ refl)
 
@@ -25,4 +28,4 @@ returns-clause-unnamed c = λ to why law.
 
 pub returns-clause-breaks : goal.returns-clause-breaks
 returns-clause-breaks c = λ to why law.
-    ⊎_elim slept slept (law (e.Dialled 1 to why ∷ e.Opened 1 ∷ e.Balked (way.Read 1) ∷ e.Balked (way.Write 1) ∷ []) _ _ refl)
+    ⊎_elim slept (⊎_elim slept (λ looks. unended looks.0)) (law (e.Dialled 1 to why ∷ e.Opened 1 ∷ e.Balked (way.Read 1) ∷ e.Balked (way.Write 1) ∷ []) _ _ refl)

@@ -3,6 +3,7 @@ use Rattle.hb_base.specs.declared.door.Door.TheVariants.{Inbound}
 use Rattle.hb_world.specs.declared.entry.Entry.TheVariants as e
 use Rattle.hb_world.specs.declared.entry.ReadyItem.TheVariants as item
 use Rattle.hb_world.specs.declared.entry.Woken.TheVariants as woken
+use Rattle.hb_turns.specs.Refused.{names}
 use Rattle.hb_turns.proofs.laws.hurried_waits_are_refused.Goals as goal
 
 awake : false ≡ true → ⊥
@@ -28,3 +29,7 @@ returns-clause-unasked g c = λ to why law. let at = law (e.Dialled 1 to why ∷
 pub returns-clause-unaccepted : goal.returns-clause-unaccepted
 returns-clause-unaccepted g c = λ law.
     let at = law (e.Wait (item.Door Inbound ∷ []) woken.Woke ∷ []) _ _ refl refl in asked (at.doors Inbound)
+
+pub returns-clause-unlooked : goal.returns-clause-unlooked
+returns-clause-unlooked g c = λ to why law.
+    let at = law (e.Dialled 1 to why ∷ e.Opened 1 ∷ e.Ended 1 ∷ names ∷ []) _ _ refl refl in ⊎_elim asked awake (at.links 1).2

@@ -8,8 +8,8 @@ use Rattle.hb_turns.specs.Shown.{Tells}
 use Rattle.hb_turns.proofs.Holding.{moved, lacked, left, untold, unmoved, rested, same_run}
 use Rattle.hb_turns.proofs.Leading.{heads_none, heads_nothing, may_not_read, none_wanted, reads_one, same_number}
 use Rattle.hb_turns.specs.declared.run.Records.{Records}
-use Rattle.hb_turns.proofs.Watching.{watched-read}
-use Rattle.hb_turns.proofs.Ways.{got_some, got_few, came_comes, came_tracks, ended_comes, ended_tracks, read_balks, read_breaks}
+use Rattle.hb_turns.proofs.Watching.{watched-ended, watched-read}
+use Rattle.hb_turns.proofs.Ways.{got_some, got_few, came_comes, came_tracks, ended_comes, read_balks, read_breaks}
 use Rattle.hb_turns.proofs.link.read.Goals as goal
 
 pub returns-in-End-clause-keeps : goal.returns-in-End-clause-keeps
@@ -23,8 +23,12 @@ returns-in-End-clause-keeps g c = λ idle had.
     let had_mid = same_run g.N.Node.stands g.N.Node.shown c.args.run.now mid (g.W.World.trace c.args.world.now) c.read_into.ensures.node
     c.read_into.ensures.records c.read_into.ensures.taken had in
     let some : 0 < (g.N.Node.shown mid.node).wants c.args.link = search rules in
-    moved g.N.Node.stands g.N.Node.shown mid (record mid { node = c.ended.new.self }) (e.Ended c.args.link) (Stands g.N.Node.stands g.N.Node.shown mid) (g.W.World.trace c.args.world.now) _ c.in-End.ensures.adds refl
-    c.ended.ensures (ended_tracks mid.records c.args.link may_mid) (λ watched. watched)
+    moved g.N.Node.stands g.N.Node.shown mid
+    (record mid { node = c.ended-in-End.new.self; records = record mid.records { links = c.ended.new.self } }) (e.Ended c.args.link) (Stands g.N.Node.stands g.N.Node.shown mid) (g.W.World.trace c.args.world.now) _ c.in-End.ensures.adds refl
+    c.ended-in-End.ensures
+    (record { links = c.ended.ensures.follows; doors = λ d. refl; births_are = refl; wanting_is = refl; revoked_are = refl })
+    (watched-ended (kept mid.records.links) (kept c.ended.new.self) (g.N.Node.shown mid.node) c.args.link may_mid c.ended.ensures.follows
+    c.ended.ensures.stays.listed)
     (ended_comes g.N.Node.stands g.N.Node.shown mid c.args.link now may_mid some) had_mid
 
 pub returns-in-Balked-clause-keeps : goal.returns-in-Balked-clause-keeps
