@@ -1,6 +1,7 @@
 """How tunnels end: by either side, by a reset in each phase, and with their connections."""
 
 import socket
+import threading
 
 from hyperframe.frame import GoAwayFrame, RstStreamFrame
 
@@ -71,17 +72,16 @@ def the_upstream_resets(room):
 
 @case
 def the_upstream_ends_and_then_resets(room):
-    """An upstream that resets its connection behind its own end: told to the peer, by a reset, once it sends something."""
-    room.start()
-    up, peer = room.upstream(lambda taken: (taken.finish(), taken.take(), taken.reset())), room.peer()
+    """An upstream that resets its connection behind its own end: told to the peer at once, by a reset, and its place is free."""
+    room.start("--tunnels", "1")
+    may_go = threading.Event()
+    up, peer = room.upstream(lambda taken: (taken.finish(), may_go.wait(10), taken.reset())), room.peer()
     stream = peer.tunnel(up.port)
     peer.pump(lambda: stream in peer.ended, "END_STREAM")
-    peer.send(stream, b"x")
     peer.rest(0.2)
-    for _ in range(20):
-        if stream not in peer.reset:
-            peer.send(stream, payload(1000))
-            peer.rest(0.05)
+    wanted("before the reset", stream in peer.reset, False)
+    may_go.set()
+    peer.pump(lambda: stream in peer.reset, "a reset")
     wanted("the stream", peer.reset.get(stream), CONNECT_ERROR)
     says(peer, peer.tunnel(room.upstream(echo).port), b"hello")
 

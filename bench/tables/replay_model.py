@@ -214,6 +214,8 @@ class World:
         self.births = self.failing = 0
         self.finishes, self.pieces, self.rooms = {}, collections.defaultdict(collections.deque), {}
         self.ended, self.broken = set(), set()
+        # the links whose end was read
+        self.told = set()
         self.waiting = collections.Counter()
         self.named = set()
         self.trace = []
@@ -276,6 +278,7 @@ class World:
             return "broke"
         if link in self.ended:
             self.trace.append(f"ended {link}")
+            self.told.add(link)
             return "end"
         return None
 
@@ -290,6 +293,13 @@ class World:
         if count:
             self.trace.append(f"went {link} {octets[:count].hex()}")
         return count
+
+    def look(self, link):
+        """Whether a link whose end was read broke."""
+        is_broken = link in self.told and link in self.broken
+        if is_broken:
+            self.trace.append(f"broke {link}")
+        return is_broken
 
     def close(self, link, cause):
         self.trace.append(f"closed {link} {cause}")

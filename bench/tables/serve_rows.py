@@ -13,8 +13,8 @@ import modelled_rows
 import replay_model as model
 import tunnel_model
 from spelling import number, text, workload
-from tunnel_rows import ACK, ADMITTED, ANSWER, CANCEL, FIRST, FIRST_RESPONSE, NO_ERROR, OPENING, OWN, PEER, REFUSED_400, REFUSED_503
-from tunnel_rows import SECOND_RESPONSE, SET, UPDATE, data, frame, goaway, headers, reset
+from tunnel_rows import ACK, ADMITTED, ANSWER, CANCEL, CONNECT_ERROR, FIRST, FIRST_RESPONSE, NO_ERROR, OPENING, OWN, PEER, REFUSED_400
+from tunnel_rows import REFUSED_503, SECOND_RESPONSE, SET, UPDATE, data, frame, goaway, headers, reset
 
 HEAD = """//! What goes to and fro between `hbone serve` and its peers. bench/tables/serve_rows.py prints this file.
 //!
@@ -70,6 +70,7 @@ TABLE = [
     ("REFUSED", "The program's answer 400 on stream 1, the first of the link, and the reset behind it.",
      headers(1, FIRST + REFUSED_400, True) + reset(1, NO_ERROR)),
     ("REVOKED", "Stream 1 is reset, as a tunnel is that is revoked.", reset(1, CANCEL)),
+    ("BROKEN", "Stream 1 is reset, as a tunnel is whose upstream broke.", reset(1, CONNECT_ERROR)),
     ("HELLO", "DATA on stream 1.", data(1, b"hello")),
     ("LAST", "The end of stream 1.", data(1, end=True)),
     ("PING", "A PING.", frame(6, 0, 0, b"12345678")),

@@ -1198,6 +1198,7 @@ class Run:
             self.acts()
             if number not in self.opened or not self.choice.goes_on:
                 return
+        self.look(number)
         for way in self.choice.order:
             for links, calls in ((self.inbound, (self.read, self.write)), (self.ups, (self.read_up, self.write_up)),
                                  (self.plain, (self.read_plain, self.write_plain)), (self.relays, (self.read_relay, self.write_relay)),
@@ -1206,6 +1207,19 @@ class Run:
                     self.called(calls["rw".index(way)], links[number])
             if self.control and self.control.number == number:
                 self.called(self.read_control if way == "r" else self.write_control, self.control)
+
+    def look(self, number):
+        """Looks at a link whose peer sends no more."""
+        if not self.world.look(number):
+            return
+        if number in self.ups:
+            link, tunnel = self.ups[number]
+            link.end(tunnel, "up fault")
+        elif number in self.plain:
+            self.plain[number].end("peer gone")
+        elif number in self.relays:
+            self.relays[number].end("up fault")
+        self.acts()
 
     def called(self, call, link):
         """Makes a call, and what is due where it moved something."""

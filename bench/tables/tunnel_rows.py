@@ -246,6 +246,9 @@ def ends():
     row("an upstream that breaks", ADMIT + woken(3, b"abc") + on("break", 3), 0,
         control() + inbound(129, len(OWN + ACK + headers(1, FIRST + ADMITTED) + data(1, b"abc") + reset(1, CONNECT_ERROR)))
         + upstream(3, 3, 0, "up fault") + verdict(200) + ended("up fault", 0, 3) + total(3, 1, 0, 0, 3))
+    row("an upstream that ends, and then breaks", ADMIT + woken(3, b"abc") + on("end", 3) + on("break", 3) + woken(2, data(1, b"late")), 0,
+        control() + inbound(142, len(OWN + ACK + headers(1, FIRST + ADMITTED) + data(1, b"abc") + data(1, b"", True) + reset(1, CONNECT_ERROR)))
+        + upstream(3, 3, 0, "up fault") + verdict(200) + ended("up fault", 0, 3) + total(3, 1, 0, 0, 3))
     row("a peer that resets its stream", ADMIT + woken(2, data(1, b"ab") + reset(1, CANCEL)), 0,
         control() + inbound(129 + 11 + 13, 41) + upstream(3, 0, 0, "peer reset 8") + verdict(200) + ended("peer reset 8", 0, 0)
         + total(3, 1))

@@ -3,7 +3,9 @@
 use crate::octets::{check_far, comes, free_port, here, listener, pattern, sum_of, target};
 use hb_base::{Cause, Door, Why};
 use hb_mio::MioWorld;
-use hb_world::{Born, Finished, Glanced, Listened, Read, Ready, ReadyItem, Waited, World, Wrote};
+use hb_world::{
+    Born, Finished, Glanced, Listened, Looked, Read, Ready, ReadyItem, Waited, World, Wrote,
+};
 use std::alloc::{AllocError, Global};
 use std::io::{self, ErrorKind};
 use std::net::{Shutdown, TcpListener, TcpStream};
@@ -85,6 +87,10 @@ impl Play {
         self.world.write(link, octets)
     }
 
+    fn look(&mut self, link: u64) -> Looked {
+        self.world.look(link)
+    }
+
     fn shut(&mut self, link: u64) {
         self.world.shut(link);
     }
@@ -142,6 +148,18 @@ impl Play {
             let _ = self.wait();
         }
         Finished::Balked
+    }
+
+    /// What looks at a link come to, until one isn't fine.
+    fn await_look(&mut self, link: u64) -> Looked {
+        for _ in 0..WAITS {
+            let answer = self.look(link);
+            if !matches!(answer, Looked::Fine) {
+                return answer;
+            }
+            let _ = self.wait();
+        }
+        Looked::Fine
     }
 
     /// A link that is dialled and open, whose other end is the next of those that are held.
@@ -278,6 +296,7 @@ impl Play {
             "finish" => Told::Word(word_of_finish(self.finish(link))),
             "read" => Told::Word(word_of_read(self.read(link).0)),
             "write" => told_of_write(self.write(link, text.as_bytes())),
+            "look" => Told::Word(word_of_look(self.look(link))),
             "shut" => {
                 self.shut(link);
                 Told::Word("")
@@ -300,6 +319,11 @@ impl Play {
             "named" => Told::Counted("times", self.times_named(door_of(first))),
             "dial" => told_of_born(self.dial(free_port(rt).unwrap_or(0), Why::Discovery)),
             "pair" => told_of_born(self.pair_for(why_of(first))),
+            "waits" => {
+                let _ = self.wait();
+                Told::Word("")
+            }
+            "seen" => Told::Word(word_of_look(self.await_look(link))),
             "await" => Told::Word(word_of_finish(self.await_finish(link))),
             "hear" => self.hear(link, number_of(text) as usize),
             "says" | "hears" | "send" | "ends" | "left" | "broken" | "leaves" => {
@@ -406,6 +430,14 @@ fn told_of_write(answer: Wrote) -> Told {
         Wrote::Balked => Told::Word("balked"),
         Wrote::Failed => Told::Word("failed"),
         Wrote::NoMemory => Told::Word("no memory"),
+    }
+}
+
+fn word_of_look(answer: Looked) -> &'static str {
+    match answer {
+        Looked::Fine => "fine",
+        Looked::Failed => "failed",
+        Looked::NoMemory => "no memory",
     }
 }
 

@@ -9,10 +9,12 @@
 //! | `listen DOOR`, `taken DOOR` | the world listens at a port that is free, or at one that isn't |
 //! | `call` | a connection to that free port; its link is the next that is born |
 //! | `named DOOR` | the world waits until this door is ready: so often it is named then |
-//! | `accept DOOR`, `finish LINK`, `read LINK`, `write LINK TEXT`, `shut LINK`, `close LINK`, `close LINK CAUSE` | this call; a run that ends is the cause that isn't named |
+//! | `accept DOOR`, `finish LINK`, `read LINK`, `write LINK TEXT`, `look LINK`, `shut LINK`, `close LINK`, `close LINK CAUSE` | this call; a run that ends is the cause that isn't named |
 //! | `pair`, `pair WHY` | a link is dialled, for the control plane or for this, its other end accepted, and the link opened |
 //! | `dial` | a link to a port at which nobody listens |
 //! | `await LINK` | what such a link comes to |
+//! | `waits` | the world waits once |
+//! | `seen LINK` | the world looks at a link until it isn't fine, and waits between: what the last look tells |
 //! | `hear LINK MOST` | reads until the link's end, or until so many octets came: how many, the sum of their values, and how it went on |
 //! | `send LINK COUNT` | writes so many octets, each of which has to come, and whether the link balked meanwhile |
 //! | `says LINK TEXT`, `hears LINK TEXT` | the other end writes this, or reads this next |
@@ -74,6 +76,28 @@ leaves 1
 hear 1 1 = 0 0 failed
 says 2 hello
 hear 2 5 = 5 532 more
+row a reset behind an end is told by looks, once
+pair = link 1
+pair = link 2
+write 1 unread = took 6
+hears 1 u
+ends 1
+hear 1 1 = 0 0 end
+ends 2
+hear 2 1 = 0 0 end
+look 1 = fine
+leaves 1
+seen 1 = failed
+look 1 = fine
+look 2 = fine
+row a reset right behind an end is no end
+pair = link 1
+write 1 unread = took 6
+hears 1 u
+ends 1
+leaves 1
+waits
+hear 1 1 = 0 0 failed
 row a link of a tunnel's bytes that is done ends, and each other one is reset
 pair upstream = link 1
 pair upstream = link 2
@@ -113,6 +137,7 @@ row a link that does not live balks
 finish 7 = balked
 read 7 = balked
 write 7 x = balked
+look 7 = fine
 shut 7
 close 7
 ";

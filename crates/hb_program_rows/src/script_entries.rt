@@ -89,5 +89,6 @@ fn bytes_and_ends_are_told(rt: HostRuntime) {
 #[test]
 fn balks_and_waits_are_not_told(rt: HostRuntime) {
     assert_entry(&rt, &Entry::Balked(Way::Read(2)), "");
+    assert_entry(&rt, &Entry::Balked(Way::Look(2)), "");
     assert_entry(&rt, &Entry::Wait(List::new(rt.alloc()), Woken::Stop), "");
 }

@@ -107,6 +107,10 @@ pub const REFUSED: &[u8] = b"\
 pub const REVOKED: &[u8] = b"\
 \x00\x00\x04\x03\x00\x00\x00\x00\x01\x00\x00\x00\x08";
 
+/// Stream 1 is reset, as a tunnel is whose upstream broke.
+pub const BROKEN: &[u8] = b"\
+\x00\x00\x04\x03\x00\x00\x00\x00\x01\x00\x00\x00\x0a";
+
 /// DATA on stream 1.
 pub const HELLO: &[u8] = b"\
 \x00\x00\x05\x00\x00\x00\x00\x00\x01hello";

@@ -75,6 +75,25 @@ ends upstream 0; total: 3 links, 1 accepted, 1 revoked, 5 up, 65535 down|; ; \
 verdict 2/1 200 10.0.0.9 cluster.local/ns/a/sa/c 127.0.0.1:#####|end 2/1 revoked up 5 down 65535|
 closed peer
 closed plane
+row a workload that ended its side and then resets ends its tunnel at once, and nothing is written to it
+connect peer door
+writes peer REQUEST
+reads peer GREETED
+accept upstream upstream
+reads peer ADMITTED
+writes peer HELLO
+reads upstream h
+writes upstream bye
+shuts upstream
+last peer bye
+drops upstream
+reads peer BROKEN
+writes peer PING
+reads peer PONG
+ends upstream 0; total: 3 links, 1 accepted, 0 revoked, 5 up, 3 down|; ; \
+verdict 2/1 200 10.0.0.9 cluster.local/ns/a/sa/c 127.0.0.1:#####|end 2/1 up fault up 5 down 3|
+closed peer
+closed plane
 row a request for the door itself is refused
 connect peer door
 writes peer REQUEST door

@@ -4,7 +4,9 @@
 //! same address, each close the cause Done. Bytes are written as letters.
 
 use hb_base::{Cause, Door, Ip, Target, Why};
-use hb_world::{Born, Finished, Glanced, Listened, Read, Ready, ReadyItem, Waited, World, Wrote};
+use hb_world::{
+    Born, Finished, Glanced, Listened, Looked, Read, Ready, ReadyItem, Waited, World, Wrote,
+};
 use std::process::Abort;
 
 const ADDRESS: Target = Target {
@@ -67,6 +69,14 @@ fn finished_word(finished: Finished) -> &'static str {
         Finished::Balked => "balked",
         Finished::Failed => "failed",
         Finished::NoMemory => "no memory",
+    }
+}
+
+fn looked_word(looked: Looked) -> &'static str {
+    match looked {
+        Looked::Fine => "fine",
+        Looked::Failed => "failed",
+        Looked::NoMemory => "no memory",
     }
 }
 
@@ -180,6 +190,8 @@ fn make_at_link<W: World>(
         make_read(world, told, link, number_of(rt, argument));
     } else if name == "write" {
         make_write(world, told, link, argument);
+    } else if name == "look" {
+        put(told, looked_word(world.look(link)));
     } else if name == "shut" {
         world.shut(link);
     } else {

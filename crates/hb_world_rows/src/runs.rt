@@ -33,6 +33,10 @@ write 1 xy=failed, entries=9
 a broken link fails in place of its end; \
 {'bytes':'61','link':1}|{'end':1}|{'wake':true}|{'break':1}|{'wake':true}; \
 dial=1, wait=woke 1, read 1 9=a, read 1 9=end, wait=woke 1, read 1 9=failed, read 1 9=failed
+a look tells a break behind an end, and nothing else; \
+{'end':1}|{'wake':true}|{'break':1}|{'wake':true}; \
+look 1=fine, dial=1, wait=woke 1, look 1=fine, read 1 9=end, look 1=fine, look 2=fine, wait=woke 1, look 1=failed, look 1=failed, \
+look 2=fine, entries=11, trace=dialled 1 10.0.0.7:8080|ended 1|broke 1|broke 1|
 a piece, a break and an end in one wait; \
 {'end':1}|{'break':1}|{'bytes':'61','link':1}|{'wake':true}; \
 dial=1, wait=woke 1, read 1 9=a, read 1 9=failed, read 1 9=failed, trace=dialled 1 10.0.0.7:8080|came 1 61|broke 1|broke 1|
