@@ -2,11 +2,11 @@
 
 ghost use Rattle.std.specs.Prelude.{◌≡◌, ◌⊎◌, ◌<◌, [], ◌++◌, ◌∷◌, length, OnOk, OnErr};
 ghost use Rattle.hb_world.specs.Answers.{ReadsWithin, WritesWithin};
-ghost use Rattle.hb_world.specs.Calls.{read_entries, write_entries, wait_entries, close_entries};
-ghost use Rattle.hb_world.specs.ScriptAnswers.{read_answer, write_answer, wait_answer, told_by_wait, GivesFront, LeavesReady};
+ghost use Rattle.hb_world.specs.Calls.{read_entries, write_entries, look_entries, wait_entries, close_entries};
+ghost use Rattle.hb_world.specs.ScriptAnswers.{read_answer, write_answer, look_answer, wait_answer, told_by_wait, GivesFront, LeavesReady};
 
 use hb_base::{Cause, List, NoMemory};
-use hb_world::{Entry, Line, Read, Ready, ReadyItem, ScriptWorld, Waited, World, Wrote};
+use hb_world::{Entry, Line, Looked, Read, Ready, ReadyItem, ScriptWorld, Waited, World, Wrote};
 
 /// `Ready::push`.
 pub fn push(ready: &mut Ready, item: ReadyItem)
@@ -52,6 +52,14 @@ pub fn write(world: &mut ScriptWorld, link: u64, from: &[u8]) -> Wrote
     ensures after { world.new ≡ record world.old { trace = world.old.trace ++ write_entries link from.now result } }
 {
     world.write(link, from)
+}
+
+/// `World::look` of `ScriptWorld`.
+pub fn look(world: &mut ScriptWorld, link: u64) -> Looked
+    ensures answer { (result ≡ Looked.NoMemory) ⊎ (result ≡ look_answer world.old.lines world.old.trace link) }
+    ensures after { world.new ≡ record world.old { trace = world.old.trace ++ look_entries link result } }
+{
+    world.look(link)
 }
 
 /// `World::close` of `ScriptWorld`.
