@@ -209,6 +209,13 @@ def identities():
         + opened(3, OK) + on("break", 2), f"{DOOR} --trace")
 
 
+def named():
+    """An identity in the header is noted, and isn't what the gateway is told."""
+    row("a header with an identity", BASE + begun(b"abc", more=plain.IDENTITY) + opened(3, OK) + on("break", 2), f"{DOOR} --trace")
+    row("a header with an identity, and a gateway that refuses", BASE + begun(b"abc", more=plain.IDENTITY) + opened(3, status(403, end=True)))
+    row("a header with an identity, and a gateway that doesn't open", BASE + begun(b"abc", more=plain.IDENTITY) + on("refuse", 3))
+
+
 def ends():
     row("the link ends first", LIVE + woken(2, b"ask") + on("end", 2) + woken(3, data(1, b"answer")) + woken(3, data(1, b"", True)))
     row("the gateway ends first", LIVE + woken(3, data(1, b"hello", True)) + woken(2, b"bye") + on("end", 2))
@@ -524,7 +531,7 @@ def traces():
 
 def all_rows():
     for rows in (by_hand, statuses, malformed, dials, identities, ends, leaving, limits, pools, places, windows, rooms, faults, updates,
-                 mixed, cut_runs, traces):
+                 mixed, cut_runs, traces, named):
         rows()
     assert len({name for name, *_ in ROWS}) == len(ROWS)
     return ROWS

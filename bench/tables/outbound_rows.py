@@ -153,7 +153,7 @@ def straight():
     row("a source that is sick", BASE + woken(1, told(w9=workload(SOURCE, node="n1", status=1))) + opened(b"a"))
     row("a node of a named network", BASE + woken(1, told(x=workload(SOURCE, node="n1", net="net"), y=workload("10.0.0.7", net="net")))
         + opened(b"a", destination="10.0.0.7"), DOOR, "--network", "net")
-    row("an identity isn't used", BASE + opened(b"abc", header=front(more=plain.IDENTITY)))
+    row("an identity is noted, and isn't used", BASE + opened(b"abc", header=front(more=plain.IDENTITY)))
     row("a policy that denies each peer", BASE + woken(1, DENY) + opened(b"abc"))
     row("a policy that denies each peer at an address of the node", BASE + woken(1, DENY, told(u7=workload("10.0.0.70", node="n1")))
         + opened(b"abc", destination="10.0.0.70"))
@@ -355,6 +355,34 @@ def waits():
         DOOR, "--trace")
 
 
+def tlv(identity):
+    return b"\xe0" + len(identity).to_bytes(2, "big") + identity
+
+
+def named():
+    """An identity in the header is noted, whatever becomes of the link, and decides nothing."""
+    link, total = tunnel_rows.link, tunnel_rows.total
+    control = tunnel_rows.control(321 + len(told(**MESH)), 512)
+    row("a header with an identity", BASE + opened(b"abc", destination="192.0.2.1", port=53, more=plain.IDENTITY) + on("end", 2)
+        + on("end", 3), want=control + link(2, "outbound", 66, 0, "done") + link(3, "direct 192.0.2.1:53 of 2", 0, 3, "done")
+        + "verdict 2/0 200 10.0.0.9 cluster.local/ns/a/sa/c 192.0.2.1:53\nend 2/0 done up 3 down 0\n" + total(3, 1, 0, 3, 0))
+    row("a header with an identity, from a source that no workload has", BASE + begun(source="10.0.0.66", more=plain.IDENTITY),
+        want=control + link(2, "outbound", 63, 0, "no route 1")
+        + "verdict 2/0 503 10.0.0.66 cluster.local/ns/a/sa/c 10.1.0.1:80\n" + total(2, 0))
+    whole = front(more=plain.IDENTITY) + b"ab"
+    row("a header with an identity, in three pieces", BASE + ACCEPT + woken(2, whole[:30], whole[30:45], whole[45:]) + on("open", 3)
+        + woken(3, b"xyz"))
+    row("a header with an identity, before all was told", NOBODY + begun(more=plain.IDENTITY))
+    row("a header with an identity, and a way that leads back", BASE + begun(destination="192.0.2.7", port=15001, more=plain.IDENTITY))
+    row("a header with an identity, and an upstream that refuses", BASE + begun(b"abc", more=plain.IDENTITY) + on("refuse", 3))
+    row("a header with an identity, and a peer that breaks while its upstream opens", BASE + begun(b"abc", more=plain.IDENTITY)
+        + on("break", 2))
+    row("two links of two identities", BASE + opened(b"a", more=plain.IDENTITY) + opened(b"b", link=4, more=tlv(b"spiffe://td/ns/x/sa/y")))
+    row("one link with an identity and one without", BASE + opened(b"a", more=plain.IDENTITY) + opened(b"b", link=4))
+    row("a header with other values alone", BASE + opened(b"a", more=b"\x01\x00\x02ab"))
+    row("a header with the longest identity", BASE + opened(b"a", more=tlv(b"spiffe://a/ns/b/sa/" + b"c" * 4062)))
+
+
 # The table
 
 HEAD = ["Runs of `hbone replay --outbound`. bench/tables/outbound_rows.py prints this file: a plain model of the pages answers."]
@@ -363,7 +391,8 @@ PARTS = {**plain.PARTS, "frontweb": front().hex(), "mesh": BASE, "meshtold": _TO
 
 
 def main():
-    for rows in (by_hand, missing, straight, chosen, gateways, unsynced, doors, headers, dials, ends, updates, rooms, mixed, traces, nowhere, waits):
+    for rows in (by_hand, missing, straight, chosen, gateways, unsynced, doors, headers, dials, ends, updates, rooms, mixed, traces, nowhere,
+                 waits, named):
         rows()
     assert len({name for name, *_ in ROWS}) == len(ROWS)
     table = Table(HEAD, PARTS)

@@ -817,13 +817,14 @@ class Gateway(Connection):
 
 class Captured:
     """A link of raw bytes, of the plain door or the outbound one, with its upstream. `stage` is fronting, asked, pending, live; behind its
-    end `cause` says why. `target` is what its header told, `address` what is dialled for it, and `endpoint` to what it is a connection. At
-    the outbound door the way to the link is the long one. By a gateway `key` says by which, `authority` what is asked of it, `gate` and
-    `stream` on what."""
+    end `cause` says why. `target` is what its header told, `peer` who is judged, `principal` what notes tell of it, `address` what is
+    dialled for it, and `endpoint` to what it is a connection. At the outbound door the way to the link is the long one. By a gateway
+    `key` says by which, `authority` what is asked of it, `gate` and `stream` on what."""
 
     def __init__(self, number, door, run):
         self.number, self.door, self.run, self.stage, self.cause = number, door, run, "fronting", None
         self.front, self.peer, self.target, self.address, self.up, self.endpoint = b"", None, None, None, None, None
+        self.principal = None
         self.sizes = {"up": RINGS["down"], "down": RINGS["up"]} if door == "outbound" else RINGS
         self.rings, self.taken, self.is_ended, self.is_shut = ({"up": b"", "down": b""}, {"up": 0, "down": 0},
                                                                {"up": False, "down": False}, {"up": False, "down": False})
@@ -847,7 +848,7 @@ class Captured:
         return waits[:self.sizes[way] - self.taken[way] % self.sizes[way]] if self.run.choice.wraps else waits
 
     def note(self, status):
-        self.run.notes.append(f"verdict {self.number}/0 {status} {self.peer.ip} - {told_target(self.target)}")
+        self.run.notes.append(f"verdict {self.number}/0 {status} {self.peer.ip} {self.principal or '-'} {told_target(self.target)}")
 
     def came_bytes(self, octets):
         if self.stage != "fronting":
@@ -862,7 +863,7 @@ class Captured:
         if header is None:
             return
         size, peer, self.target = header
-        self.peer = Peer(peer.ip, None, None)
+        self.peer, self.principal = Peer(peer.ip, None, None), peer.principal if self.door == "outbound" else None
         status, cause, self.address = self.routed() if self.door == "outbound" else self.judged()
         if status != 200:
             self.note(status)

@@ -1,5 +1,5 @@
 -- The lives of four links of the outbound door whose way leads by a gateway are runs of the machine.
-use Rattle.std.proofs.Common.{◌≡◌, inr, ℕ, not, Bool, true, false, cond, List, [], ◌++◌, Some, refl, ap, ◌∙◌, arith}
+use Rattle.std.proofs.Common.{◌≡◌, inr, ℕ, not, Bool, true, false, cond, List, [], ◌++◌, Some, None, refl, ap, ◌∙◌, arith}
 use Rattle.hb_base.specs.declared.cause.Cause.TheVariants as cause
 use Rattle.hb_base.specs.declared.door.Door.TheVariants as door
 use Rattle.hb_base.specs.declared.target.Target.{Target}
@@ -9,7 +9,7 @@ use Rattle.hb_gateway.specs.Response.{opens, brings, fails}
 use Rattle.hb_held.specs.Held.{Resources}
 use Rattle.hb_world.specs.declared.entry.Entry.TheVariants as e
 use Rattle.hb_captured.specs.Answer.{aims, through, key_for, unrouted, refused_with, by_way, way_on, answer_on}
-use Rattle.hb_captured.specs.Captured.{live, peer_in}
+use Rattle.hb_captured.specs.Captured.{live, peer_noted}
 use Rattle.hb_captured.specs.GatewayRows.{GoesThrough, aiming, opened, ThroughMayGo, RefusedMayGo, RoomlessMayGo, BrokenMayGo}
 use Rattle.hb_captured.specs.Part.{entry, accepted, roomless, asked, hears, put, finished, credited, loosed, completed, left}
 use Rattle.hb_captured.specs.Rows.{IsHeader, abc, def, accepted_note}
@@ -43,7 +43,7 @@ live_at start seen gateway authority endpoint held =
     let due_one = (aimed_at start seen gateway authority endpoint held).link in
     record {
       held = start;
-      link = record due_one { stage = live; gate = 3; stream = 1; ways = record due_one.ways { is_open = true } };
+      link = record due_one { stage = live; identity = None; gate = 3; stream = 1; ways = record due_one.ways { is_open = true } };
     }
 
 lives_so : (start : Resources) (came rest : List ℕ) (seen : Seen) (gateway authority : Target) (endpoint : List ℕ)
@@ -53,7 +53,7 @@ lives_so : (start : Resources) (came rest : List ℕ) (seen : Seen) (gateway aut
 lives_so start came rest seen gateway authority endpoint is goes =
     let s1 = then (aims_so start came rest seen gateway authority endpoint is goes) (asked 3 1) (refl, refl, omega arith) in
     let s2 = then s1 (hears (opens false) 0) (refl, tt) in
-    then s2 (accepted (accepted_note seen)) (refl, refl)
+    then s2 (accepted (accepted_note door.Outbound seen)) (refl, refl)
 
 pub through_may_go : ThroughMayGo
 through_may_go start came seen gateway authority endpoint is goes =
@@ -71,13 +71,13 @@ pub refused_through_may_go : RefusedMayGo
 refused_through_may_go start came seen gateway authority endpoint is goes =
     let s1 = then (aims_so start came [] seen gateway authority endpoint is goes) (asked 3 1) (refl, refl, omega arith) in
     let s2 = then s1 (hears (fails (cause.UpRefused 403)) 0) (refl, tt) in
-    let s3 = then s2 (left (Some (verdict_note 2 502 (peer_in seen) seen.destination))) (refl, refl) in
+    let s3 = then s2 (left (Some (verdict_note 2 502 (peer_noted door.Outbound seen) seen.destination))) (refl, refl) in
     record { link = _; stands = then s3 (entry (e.Closed 2 (cause.UpRefused 403))) (refl, refl, refl, refl); notes = refl }
 
 pub roomless_may_go : RoomlessMayGo
 roomless_may_go start came seen gateway authority endpoint is goes =
     let s1 = then (aims_so start came [] seen gateway authority endpoint is goes) roomless (refl, refl) in
-    let s2 = then s1 (left (Some (verdict_note 2 503 (peer_in seen) seen.destination))) (refl, refl) in
+    let s2 = then s1 (left (Some (verdict_note 2 503 (peer_noted door.Outbound seen) seen.destination))) (refl, refl) in
     record { link = _; stands = then s2 (entry (e.Closed 2 cause.NoRoom)) (refl, refl, refl, refl); notes = refl }
 
 pub broken_may_go : BrokenMayGo

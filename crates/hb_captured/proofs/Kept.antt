@@ -25,7 +25,7 @@ use Rattle.hb_world.specs.declared.entry.Entry.TheVariants as e
 use Rattle.hb_captured.specs.Answer.{Aim, straight_to}
 use Rattle.hb_front.specs.Room.{longest_front}
 use Rattle.hb_captured.specs.Calm.{room, wants, wants_by, up_wants_by, output_by}
-use Rattle.hb_captured.specs.Captured.{Captured, Stage, unborn, arriving, fronting, due, opening, accepting, live, failed, ended, over, at_stage, judges, ring_up, ring_down, is_judged, ends_by, ends_for, fronted_by, no_link, hung_up, came_by, ends_if, peer_in, left_by, judged_by}
+use Rattle.hb_captured.specs.Captured.{Captured, Stage, unborn, arriving, fronting, due, opening, accepting, live, failed, ended, over, at_stage, judges, ring_up, ring_down, is_judged, ends_by, ends_for, fronted_by, no_link, hung_up, came_by, ends_if, peer_in, unnamed, left_by, left_now, judged_by}
 use Rattle.hb_captured.specs.Laws.{FitsRings}
 use Rattle.hb_captured.specs.Notes.{noting_by, noting_of, no_note}
 use Rattle.hb_captured.specs.Part.{Part, entry, up, welcomed, crowded, lacked, misfronted, fronted, refused, accepted, roomless, asked, hears, put, finished, credited, loosed, completed, left, done, applied, stopped}
@@ -726,7 +726,7 @@ module _ (l : ℕ) (start : Resources) (a : Local) (parts : List Part) (keeps : 
   left_as : (made : Option Note) (why : Cause) → left_by a.link.stage ≡ over why → course_in a.link.stage ≡ sides.over why
       → Keeps start (next a (left made)) (parts ++ left made ∷ [])
   left_as made why now course =
-      let y = at_stage (left_by a.link.stage) a.link in
+      let y = left_now a.link in
       moves_keep (left made) (course ∙ ap course_in (sym now)) (ap noting_in (sym now))
       (plain_moves y a.held
       (subst (λ (s : Stage). KnowsBy s (header_of parts) (link_came parts) a.held y) (sym now) tt) refl refl refl keeps.shuts)
@@ -773,10 +773,17 @@ module _ (l : ℕ) (start : Resources) (a : Local) (parts : List Part) (keeps : 
       (header_moves seen aim due at.0 at.1
       (λ told. ((told, (λ may. admits a.link.door a.held routing seen aim may is)), early.no_up, early.shut, early.down_going)))
   part_keeps (refused seen routing why status made) (at, refuses, noted) =
-      moves_keep (refused seen routing why status made) (ap (λ (s : Stage). sides.ends why (course_in s)) at.0) refl
-      (header_moves seen (straight_to seen.destination None) (over why) at.0 at.1 (λ told. tt))
+      let moves = header_moves seen (straight_to seen.destination None) (over why) at.0 at.1 (λ told. tt) in
+      moves_keep (refused seen routing why status made) (ap (λ (s : Stage). sides.ends why (course_in s)) at.0) refl (record {
+        knows = moves.knows;
+        ups = moves.ups;
+        downs = moves.downs;
+        rings = record { up = moves.rings.up; down = moves.rings.down };
+        shuts = moves.shuts;
+      })
   part_keeps (accepted made) (is, noted) =
-      moves_keep (accepted made) refl refl (plain_moves (at_stage live a.link) a.held (knows_at accepting is) refl refl refl keeps.shuts)
+      moves_keep (accepted made) refl refl
+      (plain_moves (unnamed (at_stage live a.link)) a.held (knows_at accepting is) refl refl refl keeps.shuts)
   part_keeps roomless may =
       moves_keep roomless (ends_course cause.NoRoom a.link.stage) (ends_noting cause.NoRoom a.link.stage) (ends_moves cause.NoRoom)
   part_keeps (asked gate stream) (is, keyed, some) =

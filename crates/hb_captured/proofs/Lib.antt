@@ -4,6 +4,7 @@ pub mod GatewayRefused
 pub mod GatewayRows
 mod Grown
 pub mod Kept
+mod Named
 pub mod Obeyed
 pub mod OutboundRefused
 pub mod OutboundRows

@@ -7,7 +7,9 @@ use Rattle.hb_base.specs.declared.cause.Cause.{Cause}
 use Rattle.hb_base.specs.declared.cause.Cause.TheVariants as cause
 use Rattle.hb_base.specs.declared.door.Door.{Door}
 use Rattle.hb_base.specs.declared.door.Why.{Why}
+use Rattle.hb_base.specs.declared.identity.Identity.{Identity}
 use Rattle.hb_base.specs.declared.note.Note.{Note}
+use Rattle.hb_base.specs.declared.peer.Peer.{Peer}
 use Rattle.hb_base.specs.declared.target.Target.{Target}
 use Rattle.hb_front.specs.Reading.{Answer, Seen, IsAnswer, Whole, More, Fault}
 use Rattle.hb_gateway.specs.Response as response
@@ -20,7 +22,7 @@ use Rattle.hb_world.specs.declared.entry.Entry.TheVariants as e
 use Rattle.hb_world.specs.declared.entry.Way.TheVariants as way
 use Rattle.hb_captured.specs.Access.{IsAdmitted, GoesAdmitted, AccessAt}
 use Rattle.hb_captured.specs.Answer.{Routing, answer_on, key_of, why_for}
-use Rattle.hb_captured.specs.Captured.{Stage, unborn, arriving, fronting, due, opening, accepting, live, failed, ended, over, judges, ring_up, ring_down, is_raw, peer_in, may_shut_up, may_shut, is_through}
+use Rattle.hb_captured.specs.Captured.{Stage, unborn, arriving, fronting, due, opening, accepting, live, failed, ended, over, judges, ring_up, ring_down, is_raw, peer_in, peer_noted, identity_noted, named, may_shut_up, may_shut, is_through}
 use Rattle.hb_captured.specs.Calm.{IsCalmBy, IsIdleBy, wants_by, up_wants, up_wants_by}
 use Rattle.hb_captured.specs.Ends.{GoesOn, MayLack, IsOnStream, IsOffStream, MayHear, LinkStands, UpStands, IsThrough, EndsAt}
 use Rattle.hb_captured.specs.Laws.{RunsRelay, RunsAdmit, RunsEnd, RunsAnswer, RunsNote, RunsSettle, RunsFitRings}
@@ -36,6 +38,7 @@ use Rattle.hb_captured.specs.Verdicts.{IsDialOf, DialsAt, GoesThrough, VerdictAt
 use Rattle.hb_captured.proofs.Asked.{all_ask}
 use Rattle.hb_captured.proofs.Grown.{at_parts}
 use Rattle.hb_captured.proofs.Kept.{Keeps, all_keep}
+use Rattle.hb_captured.proofs.Named.{Names, all_name}
 use Rattle.hb_captured.proofs.Stages.{course_in, noting_in, Told, KnowsBy}
 use Rattle.hb_captured.proofs.Streamed.{said, Road, road_of, MayStream, Streamed, never, has, was_left, unasked, on_gate, off_gate, all_streamed}
 use Rattle.hb_captured.proofs.Ways.{done_ended, done_empty, is_done_so, none_waits, has_room, shuts_up_so, shuts_down_so}
@@ -401,14 +404,24 @@ module _ (l : ℕ) (start : Resources) (a : Local) (before : List Part) (stands 
 
   verdict_noted : (status : ℕ) (made : Note) → noting_of before ≡ answer
       → Told (header_of before) (link_came before) a.link.peer a.link.target
-      → made ≡ verdict_note l status a.link.peer a.link.target → IsVerdictNote l before status made
+      → made ≡ verdict_note l status (named a.link) a.link.target → IsVerdictNote l before status made
   verdict_noted status made owed told is = record {
     seen = told.seen;
     told = told.told;
     due = owed;
-    is = is ∙ ap (λ p. verdict_note l status p a.link.target) told.peer
-        ∙ ap (λ t. verdict_note l status (peer_in told.seen) t) told.target;
+    is = is ∙ ap (λ p. verdict_note l status p a.link.target) peer_is
+        ∙ ap (λ t. verdict_note l status (peer_noted (door_of before) told.seen) t) told.target;
   }
+    where
+      identity_is : a.link.identity ≡ identity_noted (door_of before) told.seen.identity
+      identity_is =
+          subst (λ (t : Option Seen). Names answer t (door_of before) a.link.identity) told.told
+          (subst (λ (n : Noting). Names n (header_of before) (door_of before) a.link.identity) owed (all_name l start a before stands))
+
+      peer_is : named a.link ≡ peer_noted (door_of before) told.seen
+      peer_is =
+          ap (λ (p : Peer). record p { identity = a.link.identity }) told.peer
+          ∙ ap (λ (who : Option Identity). record (peer_in told.seen) { identity = who }) identity_is
 
   -- a link without a stream counted what went up
   gone_so : (r : Road) → r.gate ≡ 0 → Streamed (said before) r → gone_up (begun_of before) before ≡ r.went_up
@@ -431,7 +444,7 @@ module _ (l : ℕ) (start : Resources) (a : Local) (before : List Part) (stands 
   fails_with None (Some made) owed told is = absurd (cc)
   fails_with (Some status) None owed told is = absurd (cc)
   fails_with (Some status) (Some made) owed told is =
-      verdict_noted status made owed told (let same : Some made ≡ Some (verdict_note l status a.link.peer a.link.target) = is in cc)
+      verdict_noted status made owed told (let same : Some made ≡ Some (verdict_note l status (named a.link) a.link.target) = is in cc)
 
   ends_noted : (why : Cause) (made : Option Note) → noting_of before ≡ end_of_it → is_raw a.link ≡ true
       → made ≡ Some (end_note l why a.link.went_up a.link.went_down) → Leaves l before why end_of_it made
@@ -463,7 +476,11 @@ module _ (l : ℕ) (start : Resources) (a : Local) (before : List Part) (stands 
   leaves made (over why) is may raw = absurd may
 
   notes : (p : Part) → MayGo l a p → NotesAt start l before p
-  notes (refused seen routing why status made) may = (noting_at fronting may.0.0, may.2)
+  notes (refused seen routing why status made) may = (
+    noting_at fronting may.0.0,
+    may.2
+        ∙ ap (λ (d : Door). verdict_note l status (peer_noted d seen) seen.destination) (sym keeps.tells.door),
+  )
   notes (accepted made) may = verdict_noted 200 made (noting_at accepting may.0) (knows_at accepting may.0).0.0 may.1
   notes (left made) may = leaves made a.link.stage refl may.0 may.1
   notes (done made) may = end_noted cause.Done made (noting_at live may.0) may.1 may.3

@@ -5,15 +5,19 @@ use Rattle.hb_base.specs.declared.cause.Cause.TheVariants as cause
 use Rattle.hb_base.specs.declared.door.Door.{Door}
 use Rattle.hb_base.specs.declared.door.Door.TheVariants as door
 use Rattle.hb_base.specs.declared.door.Why.TheVariants as whys
+use Rattle.hb_base.specs.declared.peer.Peer.{Peer}
 use Rattle.hb_base.specs.declared.target.Target.{Target}
 use Rattle.hb_front.specs.Reading.{Seen}
 use Rattle.hb_held.specs.Held.{Resources}
+use Rattle.hb_inbound.specs.Sides.{identity_told}
 use Rattle.hb_route.specs.Answer.{Way, by_gateway, straight, no_way, number_of}
 use Rattle.hb_verdict.specs.Verdict.{synced, is_unspecified, leads_back}
 use Rattle.hb_world.specs.declared.entry.Entry.TheVariants as e
 use Rattle.hb_captured.specs.Answer.{Answer, Aim, straight_to, through, key_for, aims, refuses, unrouted, refused_with, by_way, way_on, answer_on, why_at, why_for}
+use Rattle.hb_captured.specs.Captured.{peer_noted}
 use Rattle.hb_captured.specs.Ends.{EndsAt}
-use Rattle.hb_captured.specs.OutboundRefused.{GoesStraight, taken_in, asking, RevokesOutbound, DialsAsPlain, DialsAsDirect, DialsOffItsWay, DialsForGateway, DialsBack, DialsUnsynced, RefusesStraight, MistakesRoute}
+use Rattle.hb_captured.specs.Notes.{NotesAt}
+use Rattle.hb_captured.specs.OutboundRefused.{GoesStraight, taken_in, asking, RevokesOutbound, DialsAsPlain, DialsAsDirect, DialsOffItsWay, DialsForGateway, DialsBack, DialsUnsynced, RefusesStraight, MistakesRoute, TellsAnother}
 use Rattle.hb_captured.specs.Part.{entry, up, fronted, refused, accepted, applied}
 use Rattle.hb_captured.specs.Sides as sides
 use Rattle.hb_captured.specs.Sides.{lives}
@@ -94,6 +98,15 @@ pub dials_as_direct : DialsAsDirect
 dials_as_direct start bytes seen to law =
     let at = (last (VerdictAt 2 start) (asking door.Plain bytes seen to) (up (e.Dialled 3 to (whys.Direct 2))) law).dial in
     let other : whys.Direct 2 ≡ whys.Plain 2 = at.for_it ∙ straight_why at.aim door.Plain 2 to None at.asked in cc
+
+pub tells_another : TellsAnother
+tells_another start bytes seen to identity other law =
+    let at = last (NotesAt start 2)
+    (asking door.Outbound bytes seen to ++ up (e.Dialled 3 to (whys.Direct 2)) ∷ up (e.Opened 3) ∷ []) (accepted _) law in
+    let told : Some seen ≡ Some at.seen = at.told in
+    let same : seen ≡ at.seen = cc in
+    let peer : record { ip = seen.source.ip; identity = identity } ≡ peer_noted door.Outbound at.seen = (let is = at.is in cc) in
+    other (ap (λ (s : Seen). identity_told s.identity) same ∙ sym (ap (λ (p : Peer). p.identity) peer))
 
 pub dials_off_its_way : DialsOffItsWay
 dials_off_its_way start bytes seen there to endpoint way other law =

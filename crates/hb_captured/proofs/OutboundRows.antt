@@ -19,7 +19,7 @@ straight_may_go start came seen to name r is goes =
     (fronts start door.Outbound tt (straight_to to (Some name)) came abc seen is (straight_aims start seen to (Some name) goes))
     (up (e.Dialled 3 to (whys.Direct 2))) ((tt, refl, refl, refl), refl, omega arith, (λ same. omega (arith, same))) in
     let s2 = then s1 (up (e.Opened 3)) (((tt, tt), refl), refl, omega arith) in
-    let s3 = then s2 (accepted (accepted_note seen)) (refl, refl) in
+    let s3 = then s2 (accepted (accepted_note door.Outbound seen)) (refl, refl) in
     let s4 = then s3 (up (e.Went 3 abc)) ((((refl, (refl, refl)), refl), refl, omega arith), (omega arith, ([], refl))) in
     let s5 = then s4 (applied r) tt in
     let s6 = then s5 (up (e.Came 3 def)) ((((refl, (refl, refl)), refl), refl, omega arith), (def_octets, omega arith, omega arith)) in

@@ -14,7 +14,7 @@ use Rattle.hb_table.specs.declared.judgement.Judged.TheVariants.{Admitted, Unkno
 use Rattle.hb_world.specs.declared.entry.Entry.TheVariants as e
 use Rattle.hb_captured.specs.Access.{AccessAt}
 use Rattle.hb_captured.specs.Answer.{aims, straight_to, address_of, refuses, unrouted, by_verdict, verdict_on}
-use Rattle.hb_captured.specs.Captured.{peer_in}
+use Rattle.hb_captured.specs.Captured.{peer_noted}
 use Rattle.hb_captured.specs.Ends.{GoesOn, EndsAt}
 use Rattle.hb_captured.specs.Notes.{FailsWith, NotesAt}
 use Rattle.hb_captured.specs.Part.{Part, entry, up, welcomed, fronted, refused, accepted, left, done}
@@ -114,7 +114,7 @@ done_waiting start bytes seen note made byte law =
 pub keeps_identity : KeepsIdentity
 keeps_identity start bytes seen who law =
     let at = last (NotesAt start 2) (dialled bytes seen ++ up (e.Opened 3) ∷ []) (accepted _) law in
-    let peer : record { ip = seen.source.ip; identity = Some who } ≡ peer_in at.seen = (let is = at.is in cc) in
+    let peer : record { ip = seen.source.ip; identity = Some who } ≡ peer_noted door.Plain at.seen = (let is = at.is in cc) in
     let identity : Some who ≡ None = ap (λ (p : Peer). p.identity) peer in
     cc
 

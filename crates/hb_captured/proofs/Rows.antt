@@ -15,7 +15,7 @@ use Rattle.hb_tunnel.specs.Tunnel.{dialling}
 use Rattle.hb_verdict.specs.declared.verdict.Verdict.TheVariants.{Dial}
 use Rattle.hb_world.specs.declared.entry.Entry.TheVariants as e
 use Rattle.hb_captured.specs.Answer.{Aim, straight_to, aims, unrouted, by_verdict, verdict_on, answer_on}
-use Rattle.hb_captured.specs.Captured.{Captured, no_link, due, fronting, live, ended, peer_in, at_stage, judged_by}
+use Rattle.hb_captured.specs.Captured.{Captured, no_link, due, fronting, live, ended, peer_in, at_stage, identity_noted, judged_by}
 use Rattle.hb_captured.specs.Part.{Part, entry, up, welcomed, fronted, refused, accepted, left, done, applied}
 use Rattle.hb_captured.specs.Rows.{IsHeader, abc, def, refused_note, RefusedMayGo, accepted_note, living, DoneMayGo, RevokedMayGo}
 use Rattle.hb_captured.specs.Runs.{Local, Captures, MayGo, next, StandsFor, begins, goes_on, end_note}
@@ -61,6 +61,7 @@ at_due start door aim seen held = record {
     stage = due;
     peer = peer_in seen;
     target = seen.destination;
+    identity = identity_noted door seen.identity;
     aim = aim;
     ways = record dialling { up = record { held = held; has_ended = false } };
   };
@@ -103,7 +104,7 @@ lives_so start came seen is dialled =
     let s1 = then (fronts start door.Plain tt (straight_to seen.destination None) came abc seen is (ap by_verdict dialled))
     (up (e.Dialled 3 seen.destination (whys.Plain 2))) ((tt, refl, refl, refl), refl, omega arith, (λ same. omega (arith, same))) in
     let s2 = then s1 (up (e.Opened 3)) (((tt, tt), refl), refl, omega arith) in
-    let s3 = then s2 (accepted (accepted_note seen)) (refl, refl) in
+    let s3 = then s2 (accepted (accepted_note door.Plain seen)) (refl, refl) in
     let s4 = then s3 (up (e.Went 3 abc)) ((((refl, (refl, refl)), refl), refl, omega arith), (omega arith, ([], refl))) in
     let s5 = then s4 (up (e.Came 3 def)) ((((refl, (refl, refl)), refl), refl, omega arith), (def_octets, omega arith, omega arith)) in
     then s5 (entry (e.Went 2 def)) (refl, ((refl, (refl, refl)), refl), (omega arith, ([], refl)))

@@ -6,6 +6,7 @@ use Rattle.hb_base.specs.declared.cause.Cause.{Cause}
 use Rattle.hb_base.specs.declared.cause.Cause.TheVariants as cause
 use Rattle.hb_base.specs.declared.door.Door.{Door}
 use Rattle.hb_base.specs.declared.door.Door.TheVariants as door
+use Rattle.hb_base.specs.declared.identity.Identity.{Identity}
 use Rattle.hb_base.specs.declared.ip.Ip.TheVariants.{V4}
 use Rattle.hb_base.specs.declared.peer.Peer.{Peer}
 use Rattle.hb_base.specs.declared.target.Target.{Target}
@@ -13,6 +14,7 @@ use Rattle.hb_front.specs.Reading.{Seen}
 use Rattle.hb_gateway.specs.Response as response
 use Rattle.hb_gateway.specs.Response.{Heard, opens, brings, fails}
 use Rattle.hb_held.specs.Held.{Resources}
+use Rattle.hb_inbound.specs.Sides.{identity_told}
 use Rattle.hb_table.specs.Judgement.{judged}
 use Rattle.hb_table.specs.declared.judgement.Judged.{Judged}
 use Rattle.hb_table.specs.declared.judgement.Judged.TheVariants.{Admitted}
@@ -51,6 +53,8 @@ pub record Captured : Type 0 where
   -- what the header told: who the peer is, without an identity, and where to
   pub peer : Peer
   pub target : Target
+  -- the identity that the note of its verdict tells beside that; none once it is noted
+  pub identity : Option Identity
   -- where its bytes are to go
   pub aim : Aim
   -- the number of its upstream, 0 before that is dialled and behind its close
@@ -79,6 +83,7 @@ no_link = record {
   front = [];
   peer = record { ip = V4 0; identity = None };
   target = record { ip = V4 0; port = 0 };
+  identity = None;
   aim = straight_to (record { ip = V4 0; port = 0 }) None;
   up = 0;
   gate = 0;
@@ -141,9 +146,24 @@ ends_for cause x = at_stage (ends_by cause x.stage) x
 
 -- THE FRONT HEADER
 
--- the peer of a front header: an identity that it tells isn't used
+-- the peer of a front header, as it is judged: an identity that it tells isn't used
 abbrev pub peer_in : Seen → Peer
 peer_in seen = record { ip = seen.source.ip; identity = None }
+
+-- the peer that is noted: out of the outbound door, where none is judged, with the identity that the header tells
+abbrev pub identity_noted : Door → Option (List ℕ) → Option Identity
+identity_noted door.Outbound text = identity_told text
+identity_noted _ text = None
+
+abbrev pub peer_noted : Door → Seen → Peer
+peer_noted door seen = record { ip = seen.source.ip; identity = identity_noted door seen.identity }
+
+-- the same of a link, and the link once it is noted
+abbrev pub named : Captured → Peer
+named x = record x.peer { identity = x.identity }
+
+abbrev pub unnamed : Captured → Captured
+unnamed x = record x { identity = None }
 
 -- it is whole: it tells the peer and where to, for which the bytes behind it are to go there
 abbrev pub fronted_by : Seen → Aim → Stage → Captured → Captured
@@ -152,6 +172,7 @@ fronted_by seen aim stage x = record x {
   front = [];
   peer = peer_in seen;
   target = seen.destination;
+  identity = identity_noted x.door seen.identity;
   aim = aim;
   ways = record x.ways { up = after x.ways.up (pushes (drop seen.length x.front)) };
 }
@@ -225,6 +246,14 @@ abbrev pub left_by : Stage → Stage
 left_by (failed cause) = over cause
 left_by (ended cause) = over cause
 left_by stage = stage
+
+-- and with it who its peer is, where it was pending
+abbrev pub name_left : Stage → Option Identity → Option Identity
+name_left (failed cause) identity = None
+name_left stage identity = identity
+
+abbrev pub left_now : Captured → Captured
+left_now x = record x { stage = left_by x.stage; identity = name_left x.stage x.identity }
 
 -- an update: it ends where its peer is judged, and no longer admitted
 abbrev pub judged_by : Judged → Captured → Captured

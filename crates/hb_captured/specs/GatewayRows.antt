@@ -12,7 +12,7 @@ use Rattle.hb_route.specs.Answer.{by_gateway}
 use Rattle.hb_verdict.specs.Verdict.{synced, is_unspecified}
 use Rattle.hb_world.specs.declared.entry.Entry.TheVariants as e
 use Rattle.hb_captured.specs.Answer.{through, key_for, unrouted, way_on}
-use Rattle.hb_captured.specs.Captured.{peer_in}
+use Rattle.hb_captured.specs.Captured.{peer_noted}
 use Rattle.hb_captured.specs.Part.{Part, entry, welcomed, fronted, accepted, roomless, asked, hears, put, finished, credited, loosed, completed, left}
 use Rattle.hb_captured.specs.Rows.{IsRunOf, IsHeader, abc, def, accepted_note}
 use Rattle.hb_captured.specs.Runs.{verdict_note, end_note}
@@ -32,7 +32,7 @@ aiming held came seen gateway authority endpoint =
 
 -- the gateway opens its stream
 abbrev pub opened : Seen → List Part
-opened seen = asked 3 1 ∷ hears (opens false) 0 ∷ accepted (accepted_note seen) ∷ []
+opened seen = asked 3 1 ∷ hears (opens false) 0 ∷ accepted (accepted_note door.Outbound seen) ∷ []
 
 -- ONE THAT LIVES: what was written to the link is given back; both sides end, and END_STREAM went
 abbrev pub through_life : Resources → List ℕ → Seen → (gateway authority : Target) → List ℕ → List Part
@@ -45,32 +45,32 @@ through_life held came seen gateway authority endpoint =
 abbrev pub ThroughMayGo : Type 0
 ThroughMayGo = (start : Resources) (came : List ℕ) (seen : Seen) (gateway authority : Target) (endpoint : List ℕ)
     → IsHeader came seen abc → GoesThrough start seen gateway authority endpoint
-    → IsRunOf start (through_life start came seen gateway authority endpoint) (accepted_note seen ∷ end_note 2 cause.Done 3 3 ∷ [])
+    → IsRunOf start (through_life start came seen gateway authority endpoint) (accepted_note door.Outbound seen ∷ end_note 2 cause.Done 3 3 ∷ [])
 
 -- ONE THAT THE GATEWAY REFUSES, by its status 403; and one for which no link has room
 
 abbrev pub refused_life : Resources → List ℕ → Seen → (gateway authority : Target) → List ℕ → List Part
 refused_life held came seen gateway authority endpoint =
     aiming held came seen gateway authority endpoint
-    ++ asked 3 1 ∷ hears (fails (cause.UpRefused 403)) 0 ∷ left (Some (verdict_note 2 502 (peer_in seen) seen.destination))
+    ++ asked 3 1 ∷ hears (fails (cause.UpRefused 403)) 0 ∷ left (Some (verdict_note 2 502 (peer_noted door.Outbound seen) seen.destination))
     ∷ entry (e.Closed 2 (cause.UpRefused 403)) ∷ []
 
 abbrev pub RefusedMayGo : Type 0
 RefusedMayGo = (start : Resources) (came : List ℕ) (seen : Seen) (gateway authority : Target) (endpoint : List ℕ)
     → IsHeader came seen [] → GoesThrough start seen gateway authority endpoint
     → IsRunOf start (refused_life start came seen gateway authority endpoint)
-    (verdict_note 2 502 (peer_in seen) seen.destination ∷ [])
+    (verdict_note 2 502 (peer_noted door.Outbound seen) seen.destination ∷ [])
 
 abbrev pub roomless_life : Resources → List ℕ → Seen → (gateway authority : Target) → List ℕ → List Part
 roomless_life held came seen gateway authority endpoint =
     aiming held came seen gateway authority endpoint
-    ++ roomless ∷ left (Some (verdict_note 2 503 (peer_in seen) seen.destination)) ∷ entry (e.Closed 2 cause.NoRoom) ∷ []
+    ++ roomless ∷ left (Some (verdict_note 2 503 (peer_noted door.Outbound seen) seen.destination)) ∷ entry (e.Closed 2 cause.NoRoom) ∷ []
 
 abbrev pub RoomlessMayGo : Type 0
 RoomlessMayGo = (start : Resources) (came : List ℕ) (seen : Seen) (gateway authority : Target) (endpoint : List ℕ)
     → IsHeader came seen [] → GoesThrough start seen gateway authority endpoint
     → IsRunOf start (roomless_life start came seen gateway authority endpoint)
-    (verdict_note 2 503 (peer_in seen) seen.destination ∷ [])
+    (verdict_note 2 503 (peer_noted door.Outbound seen) seen.destination ∷ [])
 
 -- ONE THAT BREAKS: its stream is given up, of whose bytes none has begun to go
 abbrev pub broken_life : Resources → List ℕ → Seen → (gateway authority : Target) → List ℕ → List Part
@@ -81,4 +81,4 @@ broken_life held came seen gateway authority endpoint =
 abbrev pub BrokenMayGo : Type 0
 BrokenMayGo = (start : Resources) (came : List ℕ) (seen : Seen) (gateway authority : Target) (endpoint : List ℕ)
     → IsHeader came seen [] → GoesThrough start seen gateway authority endpoint
-    → IsRunOf start (broken_life start came seen gateway authority endpoint) (accepted_note seen ∷ end_note 2 cause.PeerGone 0 0 ∷ [])
+    → IsRunOf start (broken_life start came seen gateway authority endpoint) (accepted_note door.Outbound seen ∷ end_note 2 cause.PeerGone 0 0 ∷ [])

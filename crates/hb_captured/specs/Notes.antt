@@ -5,10 +5,10 @@ use Rattle.hb_base.specs.declared.cause.Cause.TheVariants as cause
 use Rattle.hb_base.specs.declared.note.Note.{Note}
 use Rattle.hb_front.specs.Reading.{Seen}
 use Rattle.hb_held.specs.Held.{Resources}
-use Rattle.hb_captured.specs.Captured.{peer_in}
+use Rattle.hb_captured.specs.Captured.{peer_noted}
 use Rattle.hb_captured.specs.Part.{Part, fronted, refused, accepted, completed, left, done}
 use Rattle.hb_captured.specs.Runs.{verdict_note, end_note, failure_status}
-use Rattle.hb_captured.specs.Sides.{header_of, link_went, up_went, begun_of, course_of, over, AtEach}
+use Rattle.hb_captured.specs.Sides.{door_of, header_of, link_went, up_went, begun_of, course_of, over, AtEach}
 
 -- what is still to be noted: nothing; the verdict, since the destination is to be dialled; the end, since it was accepted
 pub data Noting : Type 0 where
@@ -28,12 +28,12 @@ noting_by noting part = noting
 abbrev pub noting_of : List Part → Noting
 noting_of parts = fold noting_by no_note parts
 
--- the verdict's note: this status, the peer of the header, without an identity, and its destination
+-- the verdict's note: this status, the peer of the header, as it is noted at the link's door, and its destination
 pub record IsVerdictNote (l : ℕ) (before : List Part) (status : ℕ) (made : Note) : Type 0 where
   pub seen : Seen
   pub told : header_of before ≡ Some seen
   pub due : noting_of before ≡ answer
-  pub is : made ≡ verdict_note l status (peer_in seen) seen.destination
+  pub is : made ≡ verdict_note l status (peer_noted (door_of before) seen) seen.destination
 
 -- the bytes that were written to the upstream; of a stream those that have begun to go where it was left
 abbrev pub gone_up : Option ℕ → List Part → ℕ
@@ -65,7 +65,7 @@ pub record IsLeft (start : Resources) (l : ℕ) (before : List Part) (made : Opt
 
 abbrev pub NotesAt : Resources → ℕ → List Part → Part → Type 0
 NotesAt start l before (refused seen routing why status made) =
-    (noting_of before ≡ no_note) × (made ≡ verdict_note l status (peer_in seen) seen.destination)
+    (noting_of before ≡ no_note) × (made ≡ verdict_note l status (peer_noted (door_of before) seen) seen.destination)
 NotesAt start l before (accepted made) = IsVerdictNote l before 200 made
 NotesAt start l before (left made) = IsLeft start l before made
 NotesAt start l before (done made) = IsEndNote l before cause.Done made

@@ -5,18 +5,22 @@ use Rattle.hb_base.specs.declared.cause.Cause.TheVariants as cause
 use Rattle.hb_base.specs.declared.door.Door.{Door}
 use Rattle.hb_base.specs.declared.door.Door.TheVariants as door
 use Rattle.hb_base.specs.declared.door.Why.TheVariants as whys
+use Rattle.hb_base.specs.declared.identity.Identity.{Identity}
 use Rattle.hb_base.specs.declared.note.Note.{Note}
 use Rattle.hb_base.specs.declared.target.Target.{Target}
 use Rattle.hb_disco.specs.declared.response.Response.{Response}
 use Rattle.hb_front.specs.Reading.{Seen}
 use Rattle.hb_held.specs.Held.{Resources}
+use Rattle.hb_inbound.specs.Sides.{identity_told}
 use Rattle.hb_route.specs.Answer.{by_gateway, straight, no_way, number_of}
 use Rattle.hb_route.specs.declared.answer.NoRoute.{NoRoute}
 use Rattle.hb_verdict.specs.Verdict.{synced, leads_back}
 use Rattle.hb_world.specs.declared.entry.Entry.TheVariants as e
 use Rattle.hb_captured.specs.Answer.{straight_to, unrouted, way_on}
 use Rattle.hb_captured.specs.Ends.{EndLaw}
+use Rattle.hb_captured.specs.Notes.{NoteLaw}
 use Rattle.hb_captured.specs.Part.{Part, entry, up, welcomed, fronted, refused, accepted, applied}
+use Rattle.hb_captured.specs.Runs.{verdict_note}
 use Rattle.hb_captured.specs.Verdicts.{VerdictLaw}
 
 -- all is synced, and the way of the header leads straight to this address, which doesn't lead back to the node
@@ -47,6 +51,13 @@ DialsAsPlain = (start : Resources) (bytes : List ℕ) (seen : Seen) (to : Target
 abbrev pub DialsAsDirect : Type 0
 DialsAsDirect = (start : Resources) (bytes : List ℕ) (seen : Seen) (to : Target)
     → VerdictLaw 2 start (asking door.Plain bytes seen to ++ up (e.Dialled 3 to (whys.Direct 2)) ∷ []) → ⊥
+
+-- NOTED AS OF ANOTHER: with another identity than that of its header, or with none though that tells one
+abbrev pub TellsAnother : Type 0
+TellsAnother = (start : Resources) (bytes : List ℕ) (seen : Seen) (to : Target) (identity : Option Identity)
+    → identity_told seen.identity ≢ identity
+    → NoteLaw start 2 (asking door.Outbound bytes seen to ++ up (e.Dialled 3 to (whys.Direct 2)) ∷ up (e.Opened 3)
+    ∷ accepted (verdict_note 2 200 (record { ip = seen.source.ip; identity = identity }) seen.destination) ∷ []) → ⊥
 
 -- DIALLED AGAINST ITS WAY: elsewhere than that leads; though it leads by a gateway; where that leads back to the node; before all is synced
 abbrev pub DialsOffItsWay : Type 0

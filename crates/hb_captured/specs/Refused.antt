@@ -99,7 +99,7 @@ abbrev pub DoneWaiting : Type 0
 DoneWaiting = (start : Resources) (bytes : List ℕ) (seen : Seen) (note made : Note) (byte : ℕ)
     → EndLaw 2 start (lived bytes seen note ++ up (e.Came 3 (byte ∷ [])) ∷ up (e.Ended 3) ∷ entry (e.Ended 2) ∷ done made ∷ []) → ⊥
 
--- AN IDENTITY IS KEPT: the note of the verdict has one
+-- AN IDENTITY IS KEPT: the note of the verdict has one, at the plain door
 abbrev pub KeepsIdentity : Type 0
 KeepsIdentity = (start : Resources) (bytes : List ℕ) (seen : Seen) (who : Identity)
     → NoteLaw start 2 (lived bytes seen (verdict_note 2 200 (record { ip = seen.source.ip; identity = Some who }) seen.destination)) → ⊥

@@ -2,6 +2,7 @@
 -- relays three bytes each way and is done; and one that an update ends.
 use Rattle.std.specs.Prelude.{◌≡◌, ◌≢◌, ℕ, ◌<◌, ◌≤◌, List, [], ◌∷◌, ◌++◌, length, drop, None, Some}
 use Rattle.hb_base.specs.declared.cause.Cause.TheVariants as cause
+use Rattle.hb_base.specs.declared.door.Door.{Door}
 use Rattle.hb_base.specs.declared.door.Door.TheVariants as door
 use Rattle.hb_base.specs.declared.door.Why.TheVariants as whys
 use Rattle.hb_base.specs.declared.note.Note.{Note}
@@ -15,7 +16,7 @@ use Rattle.hb_verdict.specs.declared.verdict.Verdict.TheVariants.{Status, Dial}
 use Rattle.hb_world.specs.declared.entry.Entry.TheVariants as e
 use Rattle.hb_captured.specs.Answer.{straight_to, unrouted, verdict_on}
 use Rattle.hb_front.specs.Room.{longest_front}
-use Rattle.hb_captured.specs.Captured.{peer_in}
+use Rattle.hb_captured.specs.Captured.{peer_noted}
 use Rattle.hb_captured.specs.Part.{Part, entry, up, welcomed, fronted, refused, accepted, left, done, applied, notes}
 use Rattle.hb_captured.specs.Runs.{Local, StandsFor, verdict_note, end_note}
 use Rattle.hb_captured.specs.Sides.{judged_in}
@@ -37,7 +38,7 @@ pub record IsHeader (came : List ℕ) (seen : Seen) (rest : List ℕ) : Type 0 w
 -- A LINK THAT IS REFUSED: its destination's policies don't admit its peer
 
 abbrev pub refused_note : Seen → Note
-refused_note seen = verdict_note 2 401 (peer_in seen) seen.destination
+refused_note seen = verdict_note 2 401 (peer_noted door.Plain seen) seen.destination
 
 abbrev pub refused_life : List ℕ → Seen → List Part
 refused_life came seen =
@@ -56,13 +57,13 @@ def = 100 ∷ 101 ∷ 102 ∷ []
 
 -- ONE THAT LIVES: three bytes came behind its header, and three from its upstream; all went
 
-abbrev pub accepted_note : Seen → Note
-accepted_note seen = verdict_note 2 200 (peer_in seen) seen.destination
+abbrev pub accepted_note : Door → Seen → Note
+accepted_note door seen = verdict_note 2 200 (peer_noted door seen) seen.destination
 
 abbrev pub living : List ℕ → Seen → List Part
 living came seen =
     entry (e.Accepted 2 door.Plain) ∷ welcomed ∷ entry (e.Came 2 came) ∷ fronted seen unrouted (straight_to seen.destination None)
-    ∷ up (e.Dialled 3 seen.destination (whys.Plain 2)) ∷ up (e.Opened 3) ∷ accepted (accepted_note seen)
+    ∷ up (e.Dialled 3 seen.destination (whys.Plain 2)) ∷ up (e.Opened 3) ∷ accepted (accepted_note door.Plain seen)
     ∷ up (e.Went 3 abc) ∷ up (e.Came 3 def) ∷ entry (e.Went 2 def) ∷ []
 
 -- each side ends: the first end shuts the other side, and with the second one it is done
@@ -73,7 +74,7 @@ done_life came seen =
 
 abbrev pub DoneMayGo : Type 0
 DoneMayGo = (start : Resources) (came : List ℕ) (seen : Seen) → IsHeader came seen abc → verdict_on start seen ≡ Dial seen.destination
-    → IsRunOf start (done_life came seen) (accepted_note seen ∷ end_note 2 cause.Done 3 3 ∷ [])
+    → IsRunOf start (done_life came seen) (accepted_note door.Plain seen ∷ end_note 2 cause.Done 3 3 ∷ [])
 
 -- ONE THAT AN UPDATE ENDS: what is held behind the response doesn't admit its peer
 
@@ -85,4 +86,4 @@ revoked_life came seen r =
 abbrev pub RevokedMayGo : Type 0
 RevokedMayGo = (start : Resources) (came : List ℕ) (seen : Seen) (r : Response) → IsHeader came seen abc
     → verdict_on start seen ≡ Dial seen.destination → judged_in (after_response start r) seen ≢ Admitted
-    → IsRunOf start (revoked_life came seen r) (accepted_note seen ∷ end_note 2 cause.Revoked 3 3 ∷ [])
+    → IsRunOf start (revoked_life came seen r) (accepted_note door.Plain seen ∷ end_note 2 cause.Revoked 3 3 ∷ [])

@@ -22,7 +22,7 @@ use Rattle.hb_world.specs.declared.entry.Entry.TheVariants as e
 use Rattle.hb_world.specs.declared.entry.Way.TheVariants as way
 use Rattle.hb_captured.specs.Answer.{aims, refuses, answer_on, straight_to, address_of, key_of, why_for}
 use Rattle.hb_captured.specs.Calm.{room, wants, up_wants, output, up_output, IsCalm, IsQuiet}
-use Rattle.hb_captured.specs.Captured.{Captured, Stage, unborn, arriving, fronting, due, opening, accepting, live, failed, ended, over, no_link, at_stage, ends_for, ring_down, is_raw, peer_in, fronted_by, entered, up_entered, left_behind, told_by, left_by, rejudged, may_shut_up, may_shut, is_through}
+use Rattle.hb_captured.specs.Captured.{Captured, Stage, unborn, arriving, fronting, due, opening, accepting, live, failed, ended, over, no_link, at_stage, ends_for, ring_down, is_raw, peer_noted, named, unnamed, fronted_by, entered, up_entered, left_behind, told_by, left_now, rejudged, may_shut_up, may_shut, is_through}
 use Rattle.hb_captured.specs.Part.{Part, entry, up, welcomed, crowded, lacked, misfronted, fronted, refused, accepted, roomless, asked, hears, put, finished, credited, loosed, completed, left, done, applied, stopped}
 
 -- one link, and what is held beside it
@@ -121,7 +121,7 @@ failure_status _ = None
 
 abbrev pub note_of : ℕ → Captured → Option ℕ → Option Note
 note_of l x None = None
-note_of l x (Some status) = Some (verdict_note l status x.peer x.target)
+note_of l x (Some status) = Some (verdict_note l status (named x) x.target)
 
 -- the note of an end
 abbrev pub left_note : ℕ → Captured → Stage → Option Note → Type 0
@@ -179,8 +179,8 @@ MayGo l a (fronted seen routing aim) =
     IsFronted a.link seen × (answer_on a.link.door a.held routing seen ≡ aims aim)
 MayGo l a (refused seen routing why status made) =
     IsFronted a.link seen × (answer_on a.link.door a.held routing seen ≡ refuses why status)
-    × (made ≡ verdict_note l status (peer_in seen) seen.destination)
-MayGo l a (accepted made) = (a.link.stage ≡ accepting) × (made ≡ verdict_note l 200 a.link.peer a.link.target)
+    × (made ≡ verdict_note l status (peer_noted a.link.door seen) seen.destination)
+MayGo l a (accepted made) = (a.link.stage ≡ accepting) × (made ≡ verdict_note l 200 (named a.link) a.link.target)
 MayGo l a roomless = (a.link.stage ≡ due) × IsSome (key_of a.link.aim)
 MayGo l a (asked gate stream) = (a.link.stage ≡ due) × IsSome (key_of a.link.aim) × (0 < gate)
 MayGo l a (hears heard begun) = IsOnStream a.link × MayHear a.link.stage heard a.link
@@ -207,8 +207,8 @@ next_link x crowded = ends_for cause.NoRoom x
 next_link x lacked = ends_for cause.NoMemory x
 next_link x (misfronted fault) = ends_for (cause.FrontFault (number_of fault)) x
 next_link x (fronted seen routing aim) = fronted_by seen aim due x
-next_link x (refused seen routing why status made) = fronted_by seen (straight_to seen.destination None) (over why) x
-next_link x (accepted made) = at_stage live x
+next_link x (refused seen routing why status made) = unnamed (fronted_by seen (straight_to seen.destination None) (over why) x)
+next_link x (accepted made) = unnamed (at_stage live x)
 next_link x roomless = ends_for cause.NoRoom x
 next_link x (asked gate stream) = record x { stage = opening; gate = gate; stream = stream }
 next_link x (hears heard begun) = told_by heard begun x
@@ -217,7 +217,7 @@ next_link x finished = record x { up_shut = true }
 next_link x (credited n) = record x { owed = 0 }
 next_link x (loosed begun) = left_behind begun x
 next_link x (completed begun made) = at_stage (over cause.Done) (left_behind begun x)
-next_link x (left made) = at_stage (left_by x.stage) x
+next_link x (left made) = left_now x
 next_link x (done made) = at_stage (over cause.Done) x
 next_link x (applied r) = x
 next_link x (stopped cause) = ends_for cause x

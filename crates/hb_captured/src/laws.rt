@@ -12,7 +12,7 @@ ghost use Rattle.hb_captured.specs.GatewayRefused.{GoesRound, GoesThroughStraigh
 ghost use Rattle.hb_captured.specs.GatewayRefused.{PutsUnopened, TakesUnopened, PutsAnother, FinishesEarly};
 ghost use Rattle.hb_captured.specs.GatewayRefused.{StaysOpen, KeepsStream, CountsUnbegun};
 ghost use Rattle.hb_captured.specs.GatewayRows.{ThroughMayGo, RefusedMayGo as RefusedThroughMayGo, RoomlessMayGo, BrokenMayGo};
-ghost use Rattle.hb_captured.specs.OutboundRefused.{RevokesOutbound, DialsAsPlain, DialsAsDirect};
+ghost use Rattle.hb_captured.specs.OutboundRefused.{RevokesOutbound, DialsAsPlain, DialsAsDirect, TellsAnother};
 ghost use Rattle.hb_captured.specs.OutboundRefused.{DialsOffItsWay, DialsForGateway, DialsBack, DialsUnsynced};
 ghost use Rattle.hb_captured.specs.OutboundRefused.{RefusesStraight, MistakesRoute};
 ghost use Rattle.hb_captured.specs.OutboundRows.{StraightMayGo, UnroutedMayGo};
@@ -45,7 +45,8 @@ pub fn destinations_are_answered()
     ensures { RunsAnswer }
 {}
 
-/// There is one note at the verdict, and one at the end of a tunnel that lived, with the first cause and what truly went each way.
+/// There is one note at the verdict, of the peer that the header told, at the outbound door with its identity; and one at the end of a
+/// tunnel that lived, with the first cause and what truly went each way.
 pub fn notes_are_told()
     ensures { RunsNote }
 {}
@@ -94,10 +95,11 @@ pub fn wrong_answers_are_refused()
     ensures refuses { RefusesAdmitted }
 {}
 
-/// A verdict's note has no identity, and is the only one. The end of a tunnel that wasn't accepted, a second end, a close behind an end
-/// that isn't noted, and a failure without its 502 are refused.
+/// A verdict's note has no identity at the plain door, and at the outbound one that of the header; and it is the only one. The end of a
+/// tunnel that wasn't accepted, a second end, a close behind an end that isn't noted, and a failure without its 502 are refused.
 pub fn wrong_notes_are_refused()
     ensures identity { KeepsIdentity }
+    ensures another { TellsAnother }
     ensures twice { NotesTwice }
     ensures unaccepted { EndsUnaccepted }
     ensures ends_twice { EndsTwice }

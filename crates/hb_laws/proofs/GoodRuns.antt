@@ -12,7 +12,7 @@ use Rattle.hb_base.specs.declared.door.Door.TheVariants as door
 use Rattle.hb_captured.specs.Answer.{Routing, answer_on, refused_with}
 use Rattle.hb_captured.specs.Calm as plain_calm
 use Rattle.hb_captured.specs.Captured as plain
-use Rattle.hb_captured.specs.Captured.{peer_in, is_raw}
+use Rattle.hb_captured.specs.Captured.{peer_noted, is_raw}
 use Rattle.hb_captured.specs.Part as captured
 use Rattle.hb_captured.specs.Runs.{Captures, MayGo, next_link, verdict_note}
 use Rattle.hb_conn.specs.Connection.{fresh_server, taken}
@@ -540,7 +540,7 @@ module _ (g : NodeConfig) where
     q4 = on_plain (captured.entry fronted_entry) p3
 
     abbrev refusal : captured.Part
-    refusal = captured.refused told (routing_of g q4) (cause.Refused 503) 503 (verdict_note 2 503 (peer_in told) destination)
+    refusal = captured.refused told (routing_of g q4) (cause.Refused 503) 503 (verdict_note 2 503 (peer_noted d told) destination)
 
     abbrev q5 : Machine
     q5 = on_plain refusal q4

@@ -34,11 +34,8 @@
 //! | `refused CODE N`, `reset CODE N` | the stream failed so, when N had |
 //! | `left` | it has no stream |
 
-/// Its upstream opens, `abc` goes there and `def` comes.
+/// `abc` goes to its upstream and `def` comes.
 pub const RELAYS: &str = "\
-dialled\n\
-act\n\
-upopened = verdict 7/0 200 - 10.0.0.7:9090\n\
 upsent abc of them 1\n\
 upsent bc of them 2\n\
 upcame def\n\
@@ -51,6 +48,9 @@ row it relays both ways until both end: plain KNOWN NO_POLICY\n\
 front abc\n\
 wants nothing\n\
 dial 10.0.0.7:9090 plain 7\n\
+dialled\n\
+act\n\
+upopened = verdict 7/0 200 - 10.0.0.7:9090\n\
 relays\n\
 ended\n\
 act shut 8\n\
@@ -59,6 +59,9 @@ act close 8 done, close 7 done\n\
 row an update ends it: plain KNOWN NO_POLICY\n\
 front abc\n\
 dial 10.0.0.7:9090 plain 7\n\
+dialled\n\
+act\n\
+upopened = verdict 7/0 200 - 10.0.0.7:9090\n\
 relays\n\
 update KNOWN\n\
 act\n\
@@ -67,6 +70,9 @@ act close 8 revoked, close 7 revoked\n\
 row its upstream breaks: plain KNOWN NO_POLICY\n\
 front abc\n\
 dial 10.0.0.7:9090 plain 7\n\
+dialled\n\
+act\n\
+upopened = verdict 7/0 200 - 10.0.0.7:9090\n\
 relays\n\
 upbroke = end 7/0 3 3 up fault\n\
 act close 8 up fault, close 7 up fault\n\
@@ -88,14 +94,17 @@ row it breaks before its header is whole: plain\n\
 broke 0\n\
 act close 7 peer gone\n\
 row it has no way: outbound KNOWN NO_POLICY\n\
-front = verdict 7/0 503 - 10.0.0.7:9090\n\
+front = verdict 7/0 503 c 10.0.0.7:9090\n\
 act close 7 no route 1\n\
 row its way leads to a door of the node: outbound inbound=10.0.0.7:9090 SOURCE NO_POLICY\n\
-front = verdict 7/0 400 - 10.0.0.7:9090\n\
+front = verdict 7/0 400 c 10.0.0.7:9090\n\
 act close 7 refused 400\n\
 row it goes to the endpoint of a service, and isn't judged: outbound SOURCE SERVICE ENDPOINT NO_POLICY\n\
 front abc\n\
 dial 10.0.0.8:8080 direct 7\n\
+dialled\n\
+act\n\
+upopened = verdict 7/0 200 c 10.0.0.7:9090\n\
 relays\n\
 update ALLOWS_NONE\n\
 act\n\
@@ -110,7 +119,7 @@ wants 10.0.0.7:15008 10.0.0.7:9090\n\
 asked\n\
 wants nothing\n\
 act\n\
-opened = verdict 7/0 200 - 10.0.0.7:9090\n\
+opened = verdict 7/0 200 c 10.0.0.7:9090\n\
 act\n\
 puts abc of them 2\n\
 puts c of them 1\n\
@@ -136,7 +145,7 @@ row its gateway ends its side at once: outbound SOURCE TAKES_HBONE NO_POLICY\n\
 front abc\n\
 asked\n\
 ended\n\
-opened end = verdict 7/0 200 - 10.0.0.7:9090\n\
+opened end = verdict 7/0 200 c 10.0.0.7:9090\n\
 act shut 7\n\
 puts abc of them 3\n\
 finished\n\
@@ -145,14 +154,14 @@ act close 7 done\n\
 row its gateway refuses it: outbound SOURCE TAKES_HBONE NO_POLICY\n\
 front abc\n\
 asked\n\
-refused 404 0 = verdict 7/0 502 - 10.0.0.7:9090\n\
+refused 404 0 = verdict 7/0 502 c 10.0.0.7:9090\n\
 left\n\
 wants nothing\n\
 act close 7 up refused 404\n\
 row its stream is reset: outbound SOURCE TAKES_HBONE NO_POLICY\n\
 front abc\n\
 asked\n\
-opened = verdict 7/0 200 - 10.0.0.7:9090\n\
+opened = verdict 7/0 200 c 10.0.0.7:9090\n\
 puts abc of them 3\n\
 brings xyzzy\n\
 sent xyzzy\n\
@@ -166,22 +175,22 @@ act close 7 peer gone\n\
 row it breaks while it lives on its stream: outbound SOURCE TAKES_HBONE NO_POLICY\n\
 front abc\n\
 asked\n\
-opened = verdict 7/0 200 - 10.0.0.7:9090\n\
+opened = verdict 7/0 200 c 10.0.0.7:9090\n\
 puts abc of them 3\n\
 broke 1 = end 7/0 1 0 peer gone\n\
 act close 7 peer gone\n\
 row the dial of its gateway fails: outbound SOURCE TAKES_HBONE NO_POLICY\n\
 front abc\n\
-undialled = verdict 7/0 502 - 10.0.0.7:9090\n\
+undialled = verdict 7/0 502 c 10.0.0.7:9090\n\
 act close 7 up fault\n\
 row the run ends while it has a stream: outbound SOURCE TAKES_HBONE NO_POLICY\n\
 front abc\n\
 asked\n\
-opened = verdict 7/0 200 - 10.0.0.7:9090\n\
+opened = verdict 7/0 200 c 10.0.0.7:9090\n\
 stopped 0 = end 7/0 0 0 stopped\n\
 act close 7 stopped\n\
 row no link to its gateway has room: outbound SOURCE TAKES_HBONE NO_POLICY\n\
 front abc\n\
-roomless = verdict 7/0 503 - 10.0.0.7:9090\n\
+roomless = verdict 7/0 503 c 10.0.0.7:9090\n\
 left\n\
 act close 7 no room";

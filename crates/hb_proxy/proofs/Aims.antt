@@ -1,12 +1,13 @@
 -- What is so of each plain link in every run: where its bytes are to go, and when it has a stream of a link to a gateway.
-use Rattle.std.proofs.Common.{◌≡◌, ℕ, ◌==◌, ◌&&◌, Bool, true, false, cond, List, None, IsSome, refl, ap, sym, ◌∙◌, subst}
+use Rattle.std.proofs.Common.{◌≡◌, ℕ, ◌==◌, ◌&&◌, Bool, true, false, cond, List, Option, None, IsSome, refl, ap, sym, ◌∙◌, subst}
 use Rattle.std.proofs.lemmas.Bool.{cond_both, false≢true}
 use Rattle.hb_base.specs.declared.cause.Cause.{Cause}
 use Rattle.hb_base.specs.declared.cause.Cause.TheVariants as cause
 use Rattle.hb_base.specs.declared.door.Door.{Door}
 use Rattle.hb_base.specs.declared.door.Door.TheVariants as door
+use Rattle.hb_base.specs.declared.identity.Identity.{Identity}
 use Rattle.hb_captured.specs.Answer.{Aim, Routing, straight_to, through, endpoint_of, key_of, aims, by_verdict, verdict_on, answer_on}
-use Rattle.hb_captured.specs.Captured.{Captured, Stage, unborn, arriving, fronting, due, opening, accepting, live, failed, ended, over, no_link, at_stage, judges, is_judged, ends_by, ends_for, came_by, hung_up, entered, up_entered, told_by, left_by, judged_by, rejudged}
+use Rattle.hb_captured.specs.Captured.{Captured, Stage, unborn, arriving, fronting, due, opening, accepting, live, failed, ended, over, no_link, at_stage, judges, is_judged, ends_by, ends_for, came_by, hung_up, entered, up_entered, told_by, left_by, name_left, judged_by, rejudged}
 use Rattle.hb_captured.specs.Part.{Part, entry, up, welcomed, crowded, lacked, misfronted, fronted, refused, accepted, roomless, asked, hears, put, finished, credited, loosed, completed, left, done, applied, stopped}
 use Rattle.hb_captured.specs.Runs.{Local, MayCome, UpMayCome, MayHear, MayGo, next_link}
 use Rattle.hb_front.specs.Reading.{Seen}
@@ -302,6 +303,16 @@ module _ (l : ℕ) (x : Captured) (fits : AimFits x) where
   }
   told_fits (fails why) begun may = off_fits (ends_for why x) begun (ends_fit why x fits)
 
+-- whatever the identity is that is to be noted
+named_fits : (identity : Option Identity) (x : Captured) → AimFits x → AimFits (record x { identity = identity })
+named_fits identity x fits = record {
+  untold = fits.untold;
+  judged = fits.judged;
+  unasked = fits.unasked;
+  outbound = fits.outbound;
+  still = fits.still;
+}
+
 part_fits : (l : ℕ) (a : Local) (p : Part) → MayGo l a p → AimFits a.link → AimFits (next_link a.link p)
 part_fits l a (entry z) may fits = entry_fits l a.link fits z may
 part_fits l a (up z) may fits = up_fits l a.link fits z may
@@ -324,7 +335,8 @@ part_fits l a (refused seen routing why status made) may fits = record {
   still = λ is. absurd (false≢true (sym is));
 }
 part_fits l a (accepted made) may fits =
-    at_fits live a.link (λ is. absurd (false≢true (sym is))) (λ is. absurd (false≢true (sym is))) fits
+    named_fits None (at_stage live a.link)
+    (at_fits live a.link (λ is. absurd (false≢true (sym is))) (λ is. absurd (false≢true (sym is))) fits)
 part_fits l a roomless may fits = ends_fit cause.NoRoom a.link fits
 part_fits l a (asked gate stream) may fits = record {
   untold = λ is. absurd (false≢true (sym is));
@@ -347,7 +359,8 @@ part_fits l a (loosed begun) may fits = off_fits a.link begun fits
 part_fits l a (completed begun made) may fits =
     at_fits (over cause.Done) _ (λ is. absurd (false≢true (sym is))) (λ is. absurd (false≢true (sym is))) (off_fits a.link begun fits)
 part_fits l a (left made) may fits =
-    at_fits (left_by a.link.stage) a.link (left_told a.link.stage) (left_asked a.link.stage) fits
+    named_fits (name_left a.link.stage a.link.identity) (at_stage (left_by a.link.stage) a.link)
+    (at_fits (left_by a.link.stage) a.link (left_told a.link.stage) (left_asked a.link.stage) fits)
 part_fits l a (done made) may fits =
     at_fits (over cause.Done) a.link (λ is. absurd (false≢true (sym is))) (λ is. absurd (false≢true (sym is))) fits
 part_fits l a (applied r) may fits = fits

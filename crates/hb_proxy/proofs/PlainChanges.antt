@@ -1,9 +1,10 @@
 -- What a part makes of a plain link, as far as the trace tells of the link and of its upstream.
-use Rattle.std.proofs.Common.{◌≡◌, ◌⊎◌, inl, inr, ⊎_elim, ℕ, ◌&&◌, Bool, true, false, cond, List, refl, sym, ◌∙◌, subst}
+use Rattle.std.proofs.Common.{◌≡◌, ◌⊎◌, inl, inr, ⊎_elim, ℕ, ◌&&◌, Bool, true, false, cond, List, Option, None, refl, sym, ◌∙◌, subst}
 use Rattle.std.proofs.lemmas.Bool.{false≢true}
 use Rattle.hb_base.specs.declared.cause.Cause.{Cause}
 use Rattle.hb_base.specs.declared.cause.Cause.TheVariants as cause
-use Rattle.hb_captured.specs.Captured.{Captured, Stage, unborn, arriving, fronting, due, opening, accepting, live, failed, ended, over, at_stage, judges, is_judged, is_raw, ends_by, ends_for, came_by, hung_up, entered, up_entered, left_behind, told_by, left_by, judged_by, rejudged}
+use Rattle.hb_base.specs.declared.identity.Identity.{Identity}
+use Rattle.hb_captured.specs.Captured.{Captured, Stage, unborn, arriving, fronting, due, opening, accepting, live, failed, ended, over, at_stage, judges, is_judged, is_raw, ends_by, ends_for, came_by, hung_up, entered, up_entered, left_behind, told_by, left_by, name_left, judged_by, rejudged}
 use Rattle.hb_captured.specs.Part.{Part, entry, up, welcomed, crowded, lacked, misfronted, fronted, refused, accepted, roomless, asked, hears, put, finished, credited, loosed, completed, left, done, applied, stopped}
 use Rattle.hb_captured.specs.Runs.{Local, MayCome, UpMayCome, MayGo, MayHear, HasEnded, IsOnStream, next_link}
 use Rattle.hb_gateway.specs.Response as response
@@ -310,6 +311,10 @@ plain_touched (entry z) = touched_by z
 plain_touched (up z) = touched_by z
 plain_touched _ = 0
 
+-- whatever the identity is that is to be noted
+named_goes : (l : ℕ) (x y : Captured) (identity : Option Identity) → PlainGoes 0 l x y → PlainGoes 0 l x (record y { identity = identity })
+named_goes l x y identity goes = record { link = goes.link; up = goes.up; due = goes.due }
+
 pub plain_part_goes : (l : ℕ) (a : Local) (p : Part) → MayGo l a p → PlainGoes (plain_touched p) l a.link (next_link a.link p)
 plain_part_goes l a (entry z) may = entry_goes l a.link z may
 plain_part_goes l a (up z) may = up_goes l a.link z may
@@ -329,7 +334,8 @@ plain_part_goes l a (refused seen routing why status made) may = record {
   up = λ n v other is. (is.0, past a.link.stage a.link.up a.link.up_shut n v is.1);
   due = λ is. tt;
 }
-plain_part_goes l a (accepted made) may = goes_to 0 l a.link live (passes_at l a.link accepting live may.0 live_passes)
+plain_part_goes l a (accepted made) may =
+    named_goes l a.link (at_stage live a.link) None (goes_to 0 l a.link live (passes_at l a.link accepting live may.0 live_passes))
 plain_part_goes l a roomless may = ends_goes 0 l a.link cause.NoRoom
 plain_part_goes l a (asked gate stream) may = record {
   link = λ v other is. born_fits a.link.stage a.link.shut a.link.closed v is;
@@ -346,7 +352,9 @@ plain_part_goes l a (loosed begun) may =
 plain_part_goes l a (completed begun made) may =
     on_stream l a.link (next_link a.link (completed begun made)) may.0.0
     (λ v is. born_fits a.link.stage a.link.shut a.link.closed v is) tt
-plain_part_goes l a (left made) may = goes_to 0 l a.link (left_by a.link.stage) (left_passes a.link.stage)
+plain_part_goes l a (left made) may =
+    named_goes l a.link (at_stage (left_by a.link.stage) a.link) (name_left a.link.stage a.link.identity)
+    (goes_to 0 l a.link (left_by a.link.stage) (left_passes a.link.stage))
 plain_part_goes l a (done made) may = goes_to 0 l a.link (over cause.Done) (passes_over a.link.stage cause.Done)
 plain_part_goes l a (applied r) may = plain_same 0 l a.link
 plain_part_goes l a (stopped why) may = ends_goes 0 l a.link why

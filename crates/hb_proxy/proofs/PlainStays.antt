@@ -4,7 +4,7 @@ use Rattle.std.proofs.lemmas.Bool.{false≢true, ne_eqb}
 use Rattle.std.specs.List.{list_any}
 use Rattle.hb_base.specs.declared.cause.Cause.{Cause}
 use Rattle.hb_base.specs.declared.cause.Cause.TheVariants as cause
-use Rattle.hb_captured.specs.Captured.{Captured, Stage, unborn, arriving, fronting, due, opening, accepting, live, failed, ended, over, judges, is_judged, is_raw, judged_by, rejudged, at_stage, ends_by, ends_for, fronted_by, hung_up, came_by, left_by, left_behind, told_by, entered, up_entered}
+use Rattle.hb_captured.specs.Captured.{Captured, Stage, unborn, arriving, fronting, due, opening, accepting, live, failed, ended, over, judges, is_judged, is_raw, judged_by, rejudged, at_stage, ends_by, ends_for, fronted_by, hung_up, came_by, left_by, left_now, left_behind, told_by, entered, up_entered}
 use Rattle.hb_captured.specs.Part as part
 use Rattle.hb_captured.specs.Part.{Part, entry, up, welcomed, crowded, lacked, misfronted, fronted, refused, accepted, roomless, asked, hears, put, finished, credited, loosed, completed, left, done, applied, stopped}
 use Rattle.hb_captured.specs.Runs.{Local, MayCome, UpMayCome, MayGo, MayHear, HasEnded, IsTried, next_link}
@@ -161,7 +161,7 @@ module _ (l : ℕ) (x : Captured) where
   only true is = is
   only false is = is
 
-  left_stays : PlainStays l x (at_stage (left_by x.stage) x)
+  left_stays : PlainStays l x (left_now x)
   left_stays = record { born = born x.stage; relay = λ whose. relay whose x.stage }
     where
       born : (stage : Stage) → is_plain_born (left_by stage) ≡ true → is_plain_born stage ≡ true
@@ -233,7 +233,7 @@ part_stays l a (misfronted fault) may none = ends_stay l (cause.FrontFault (numb
 part_stays l a (fronted seen routing aim) may none = goes l a.link fronting (fronted_by seen aim due a.link) may.0.0 refl (λ whose is. is)
 part_stays l a (refused seen routing why status made) may none =
     goes l a.link fronting (next_link a.link (refused seen routing why status made)) may.0.0 refl (λ whose is. inl is.1)
-part_stays l a (accepted made) may none = goes l a.link accepting (at_stage live a.link) may.0 refl (λ whose is. is)
+part_stays l a (accepted made) may none = goes l a.link accepting (next_link a.link (accepted made)) may.0 refl (λ whose is. is)
 part_stays l a roomless may none = ends_stay l cause.NoRoom a.link
 part_stays l a (asked gate stream) may none =
     goes l a.link due (next_link a.link (asked gate stream)) may.0 refl

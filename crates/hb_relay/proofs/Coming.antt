@@ -1,5 +1,5 @@
 -- Bytes that come of a link: of its front header, and behind it.
-use Rattle.std.proofs.Common.{◌≡◌, inl, inr, ◌⊎◌, ℕ, ◌≤◌, ◌<◌, ◌-◌, ◌&&◌, not, Bool, true, false, cond, List, [], ◌++◌, length, drop, Option, None, refl, ap, sym, ◌∙◌, subst, arith, length-append, length-drop}
+use Rattle.std.proofs.Common.{◌≡◌, inl, inr, ◌⊎◌, ℕ, ◌≤◌, ◌<◌, ◌-◌, ◌&&◌, not, Bool, true, false, cond, List, [], ◌++◌, length, drop, Option, Some, None, refl, ap, sym, ◌∙◌, subst, arith, length-append, length-drop}
 use Rattle.std.specs.Prelude.{nat_le}
 use Rattle.std.proofs.lemmas.Bool.Decides.{nat_tests}
 use Rattle.hb_base.specs.declared.cause.Cause.{Cause}
@@ -19,7 +19,7 @@ use Rattle.hb_gateway.specs.Key.{Key}
 use Rattle.hb_front.specs.Room.{longest_front}
 use Rattle.hb_captured.specs.Calm.{IsCalmBy, room, wants, wants_by}
 use Rattle.hb_captured.specs.Captured as m
-use Rattle.hb_captured.specs.Captured.{Captured, Stage, at_stage, counts_for, ends_by, ends_for, fronted_by, came_by, is_raw, judges, peer_in, ring_up}
+use Rattle.hb_captured.specs.Captured.{Captured, Stage, at_stage, counts_for, ends_by, ends_for, fronted_by, came_by, is_raw, judges, peer_noted, unnamed, ring_up}
 use Rattle.hb_captured.specs.Counts.{recounted}
 use Rattle.hb_captured.specs.Part.{entry, lacked, misfronted, fronted, refused, note_if}
 use Rattle.hb_captured.specs.Runs.{Local, Lacks, IsTried, next, verdict_note}
@@ -30,7 +30,7 @@ use Rattle.hb_relay.specs.declared.relay.Relay.{Relay}
 use Rattle.hb_relay.specs.declared.stage.Stage as code
 use Rattle.hb_relay.specs.declared.stage.Stage.TheVariants.{Fronting, Due, Opening, Live, Over}
 use Rattle.hb_relay.specs.Calls.{Takes}
-use Rattle.hb_relay.specs.Moving.{told_by, decided_by, decided_note, Fronts, IsDecided, IsLacked, TakesFront}
+use Rattle.hb_relay.specs.Moving.{header_told, decided_by, decided_note, Fronts, IsDecided, IsLacked, TakesFront}
 use Rattle.hb_relay.specs.Answering.{counted_for}
 use Rattle.hb_relay.specs.Reaches.{IsInner, Reaches, rerouted}
 use Rattle.hb_relay.specs.Rings.{pushed}
@@ -147,17 +147,17 @@ module _ (l : ℕ) (h : Resources) (before behind : Routing) (y : Captured) (z :
   uncounted = counts_at y m.fronting at
 
   told_is : (seen : Seen) (aim : Aim) (stage : Stage) → as_told (fronted_by seen aim stage y)
-      ≡ record (told_by seen.source.ip seen.destination seen.length z) { stage = stage; aim = aim }
+      ≡ record (header_told seen z) { stage = stage; aim = aim }
   told_is seen aim stage =
       let rest = drop seen.length y.front in
       ap (λ w. record (as_told (fronted_by seen aim stage y)) { ways = record y.ways { up = w } })
       (sym (rest_fits (ring_up y.door) y.ways.up rest (fronts_fit y.door) none open_yet
       (omega (arith, short, length-drop seen.length y.front))))
-      ∙ ap (λ (x : Captured). record (told_by seen.source.ip seen.destination seen.length x) { stage = stage; aim = aim }) same
+      ∙ ap (λ (x : Captured). record (header_told seen x) { stage = stage; aim = aim }) same
 
   decides : (seen : Seen) (gets : Answer) → answer_on y.door h before seen ≡ gets → IsAnswer y.front (Whole seen)
-      → captured_of new ≡ decided_by gets (told_by seen.source.ip seen.destination seen.length z)
-      → made ≡ decided_note l gets (told_by seen.source.ip seen.destination seen.length z) → behind ≡ counted_for gets before
+      → captured_of new ≡ decided_by gets (header_told seen z)
+      → made ≡ decided_note l gets (header_told seen z) → behind ≡ counted_for gets before
       → Reaches IsInner l before (record { held = h; link = y }) new behind made
   decides seen (aims aim) is whole now noted counts =
       follows IsInner l before (record { held = h; link = y }) new behind (fronted seen before aim) made tt refl ((at, whole), is)
@@ -166,9 +166,11 @@ module _ (l : ℕ) (h : Resources) (before behind : Routing) (y : Captured) (z :
   decides seen (refuses why status) is whole now noted counts =
       let aim = straight_to seen.destination None in
       follows IsInner l before (record { held = h; link = y }) new behind
-      (refused seen before why status (verdict_note l status (peer_in seen) seen.destination)) made tt refl
-      ((at, whole), is, refl) (counts ∙ sym (unmoved y (fronted_by seen aim (m.over why) y) before uncounted))
-      (told_is seen aim (m.over why) ∙ sym now) (raw, tt) (λ on. refl) (sym (ap note_if noted))
+      (refused seen before why status (verdict_note l status (peer_noted y.door seen) seen.destination)) made tt refl
+      ((at, whole), is, refl) (counts ∙ sym (unmoved y (unnamed (fronted_by seen aim (m.over why) y)) before uncounted))
+      (ap unnamed (told_is seen aim (m.over why)) ∙ sym now) (raw, tt) (λ on. refl)
+      (sym (ap note_if
+      (noted ∙ ap (λ (c : Captured). Some (verdict_note l status (peer_noted c.door seen) seen.destination)) (sym same))))
 
   -- it is over without a note
   ends_early : (why : Cause) → captured_of new ≡ at_stage (m.over why) z

@@ -20,7 +20,7 @@ use Rattle.hb_gateway.specs.Key.{Key}
 use Rattle.hb_captured.specs.Answer.{Routing, endpoint_of, key_of}
 use Rattle.hb_captured.specs.Calm.{IsCalm, IsCalmBy, room, up_wants_by}
 use Rattle.hb_captured.specs.Captured as m
-use Rattle.hb_captured.specs.Captured.{Captured, Stage, no_link, at_stage, counts_for, left_by, ends_by, ends_for, entered, up_entered, hung_up, judges, is_judged, is_raw, judged_by, rejudged, is_through, ring_down}
+use Rattle.hb_captured.specs.Captured.{Captured, Stage, no_link, at_stage, counts_for, left_now, unnamed, named, ends_by, ends_for, entered, up_entered, hung_up, judges, is_judged, is_raw, judged_by, rejudged, is_through, ring_down}
 use Rattle.hb_captured.specs.Part.{Part, entry, up, welcomed, accepted}
 use Rattle.hb_captured.specs.Runs.{Local, MayGo, IsTried, IsUp, next, counted, verdict_note}
 use Rattle.hb_captured.proofs.Kept.{all_keep}
@@ -36,7 +36,7 @@ use Rattle.hb_relay.specs.Reaches.{IsInner, leaving, Reaches, MeetsBy, Meets, re
 use Rattle.hb_relay.specs.Rings.{pushed}
 use Rattle.hb_relay.specs.Shows.{Shows, Becomes, HasOne, HasUpstream, IsStraight, captured_of, as_told, stage_of}
 use Rattle.hb_relay.specs.Streamed.{MeetsStill, HearsFailure}
-use Rattle.hb_relay.proofs.Reached.{RestsBy, stage_is, shows_so, upstream_at, goes_on, raw_so, one_raw, raw_judged, unmoved, rests, follows, ends_reach, raw_ends, streamed_ends, leaves_counted, leaves_reach, settles_reach}
+use Rattle.hb_relay.proofs.Reached.{RestsBy, stage_is, shows_so, upstream_at, left_over, goes_on, raw_so, one_raw, raw_judged, unmoved, rests, follows, ends_reach, raw_ends, streamed_ends, leaves_counted, leaves_reach, settles_reach}
 
 -- IT ENDS
 
@@ -255,26 +255,27 @@ pub through_up : (x : Captured) → x.ways.up.has_ended ≡ false → is_through
 through_up x is = ap (λ (b : Bool). (b && length x.ways.up.held == 0) && is_done x.ways.down) is
 
 -- IT IS OPEN, which is noted
-pub opened_reach : (l : ℕ) (routing : Routing) (b : Local) (mid : Relay) (made : Note) → b.link.stage ≡ m.accepting
-    → as_told (at_stage m.live b.link) ≡ captured_of mid → RestsBy m.live (at_stage m.live b.link) → IsStraight b.link
-    → made ≡ verdict_at l 200 (captured_of mid) → Reaches IsInner l routing b mid routing (Some made)
-opened_reach l routing b mid made at told rest straight noted =
-    follows IsInner l routing b mid routing (accepted (verdict_note l 200 b.link.peer b.link.target)) (Some made) tt tt (at, refl)
-    (sym (unmoved b.link (at_stage m.live b.link) routing (counts_at b.link m.accepting at))) told rest straight
+pub opened_reach : (l : ℕ) (routing : Routing) (b : Local) (mid new : Relay) (made : Note) → b.link.stage ≡ m.accepting
+    → as_told (at_stage m.live b.link) ≡ captured_of mid → Becomes unnamed mid new → RestsBy m.live (at_stage m.live b.link)
+    → IsStraight b.link → made ≡ verdict_at l 200 (captured_of mid) → Reaches IsInner l routing b new routing (Some made)
+opened_reach l routing b mid new made at told takes rest straight noted =
+    follows IsInner l routing b new routing (accepted (verdict_note l 200 (named b.link) b.link.target)) (Some made) tt tt (at, refl)
+    (sym (unmoved b.link (unnamed (at_stage m.live b.link)) routing (counts_at b.link m.accepting at)))
+    (ap unnamed told ∙ sym takes.after) rest straight
     (ap (λ (n : Note). n ∷ []) (sym (noted ∙ ap (verdict_at l 200) (sym told))))
 
-pub opens : (old mid : Relay) (u : ℕ) (made : Note) → Becomes (λ x. at_stage m.live (up_entered (e.Opened old.up) x)) old mid
-    → made ≡ verdict_at mid.number 200 (captured_of mid) → UpEntersStill (e.Opened u) old mid (Some made)
-opens old mid u made becomes noted routing = record {
-  number = becomes.number;
+pub opens : (old mid new : Relay) (u : ℕ) (made : Note) → Becomes (λ x. at_stage m.live (up_entered (e.Opened old.up) x)) old mid
+    → made ≡ verdict_at mid.number 200 (captured_of mid) → Becomes unnamed mid new → UpEntersStill (e.Opened u) old new (Some made)
+opens old mid new u made becomes noted takes routing = record {
+  number = takes.number ∙ becomes.number;
   reaches = λ start before a stands shows so may.
       let knows = subst (λ (s : Stage). KnowsBy s (header_of before) (link_came before) a.held a.link) may.0.1
       (all_keep old.number start a before stands).knows in
       let b = next a (up (e.Opened u)) in
-      subst (λ (r : Routing). Reaches IsInner old.number r b mid routing (Some made))
+      subst (λ (r : Routing). Reaches IsInner old.number r b new routing (Some made))
       (sym (unmoved a.link b.link routing (counts_at a.link m.opening may.0.1)))
-      (opened_reach old.number routing b mid made refl
-      (ap (λ (y : Captured). at_stage m.live (up_entered (e.Opened old.up) y)) shows.same ∙ sym becomes.after)
+      (opened_reach old.number routing b mid new made refl
+      (ap (λ (y : Captured). at_stage m.live (up_entered (e.Opened old.up) y)) shows.same ∙ sym becomes.after) takes
       (goes_on (at_stage m.live b.link) (through_down (at_stage m.live b.link) knows.3), upstream_at old a.link shows m.opening may.0.1)
       shows.straight (noted ∙ ap (λ (l : ℕ). verdict_at l 200 (captured_of mid)) becomes.number));
 }
@@ -415,10 +416,9 @@ unmade_stays old new made late noted becomes = by old.stage refl
     by Live is = some Live (end_at old.number cause.Revoked (captured_of old)) is refl
     by (Over first) is =
         let over_so : (captured_of old).stage ≡ m.over first = ap stage_of is in
-        stays_so (becomes.after
-        ∙ ap (λ (s : Stage). at_stage s (captured_of old))
-        (ap (λ (s : Stage). left_by (ends_by cause.Revoked s)) over_so ∙ sym over_so))
-        made
+        let still : ends_for cause.Revoked (captured_of old) ≡ captured_of old =
+        ap (λ (s : Stage). at_stage s (captured_of old)) (ap (ends_by cause.Revoked) over_so ∙ sym over_so) in
+        stays_so (becomes.after ∙ ap left_now still ∙ left_over (captured_of old) first over_so) made
 
 -- it ends
 pub revokes : (held : Resources) (old new : Relay) (made : Option Note) → judges (captured_of old).door ≡ true → old.stage ≢ Fronting

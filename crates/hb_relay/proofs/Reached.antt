@@ -12,7 +12,7 @@ use Rattle.hb_gateway.specs.Key.{Key}
 use Rattle.hb_captured.specs.Answer.{Routing, endpoint_of, key_of}
 use Rattle.hb_captured.specs.Calm.{IsCalm, IsCalmBy}
 use Rattle.hb_captured.specs.Captured as m
-use Rattle.hb_captured.specs.Captured.{Captured, Stage, at_stage, counts_for, ends_by, ends_for, is_judged, is_raw, judges, left_behind, left_by, is_through}
+use Rattle.hb_captured.specs.Captured.{Captured, Stage, at_stage, counts_for, ends_by, ends_for, is_judged, is_raw, judges, left_behind, left_by, left_now, name_left, is_through}
 use Rattle.hb_captured.specs.Counts.{recounted}
 use Rattle.hb_captured.specs.Part.{Part, left, done, loosed, note_if, notes}
 use Rattle.hb_captured.specs.Runs.{Local, MayGo, HasEnded, next, counted, failure_status, note_of, left_note, end_note}
@@ -146,10 +146,15 @@ follows I l routing a k behind p made inner routed may counts same rest straight
 -- AN END, which is noted at once, of a link that has no stream, or has left it
 
 ends_is : (x : Captured) (old new : Relay) (why : Cause) → as_told x ≡ captured_of old → Becomes (ended_now why) old new
-    → as_told (at_stage (left_by (ends_by why x.stage)) x) ≡ captured_of new
+    → as_told (left_now (ends_for why x)) ≡ captured_of new
 ends_is x old new why same becomes = ap (ended_now why) same ∙ sym becomes.after
 
-left_counts : (x : Captured) (why : Cause) → counts_for (ends_for why x) ≡ counts_for (at_stage (left_by (ends_by why x.stage)) x)
+-- one that is over is left as it was
+pub left_over : (y : Captured) (last : Cause) → y.stage ≡ m.over last → left_now y ≡ y
+left_over y last is =
+    ap (λ (s : Stage). record y { stage = left_by s; identity = name_left s y.identity }) is ∙ ap (λ (s : Stage). at_stage s y) (sym is)
+
+left_counts : (x : Captured) (why : Cause) → counts_for (ends_for why x) ≡ counts_for (left_now (ends_for why x))
 left_counts x why = stage_counts x (ends_by why x.stage) (left_by (ends_by why x.stage)) (sym (left_judged (ends_by why x.stage)))
 
 -- the end itself is what it does to the counts
@@ -168,8 +173,8 @@ module _ (I : Inner) (inner : (p : Part) → IsInner p → I p) (l : ℕ) (held 
 
   -- behind its note it is over
   ends_over : (last : Cause) → left_by (ends_by why x.stage) ≡ m.over last
-      → RestsBy (left_by (ends_by why x.stage)) (at_stage (left_by (ends_by why x.stage)) x)
-  ends_over last is = subst (λ (s : Stage). RestsBy s (at_stage (left_by (ends_by why x.stage)) x)) (sym is) (raw, tt)
+      → RestsBy (left_by (ends_by why x.stage)) (left_now (ends_for why x))
+  ends_over last is = subst (λ (s : Stage). RestsBy s (left_now (ends_for why x))) (sym is) (raw, tt)
 
   pub ends_reach : (routing behind : Routing) → behind ≡ routing
       → Reaches I l routing (record { held = held; link = ends_for why x }) new behind made
@@ -184,7 +189,7 @@ module _ (I : Inner) (inner : (p : Part) → IsInner p → I p) (l : ℕ) (held 
       early s is last ends none =
           let at : ends_by why x.stage ≡ m.over last = ap (ends_by why) (stage_is old x same ∙ ap stage_of is) ∙ ends in
           rests I l routing a new behind made counts
-          (ap (λ (t : Stage). as_told (at_stage t x)) (at ∙ sym (ap left_by at)) ∙ ends_is x old new why same becomes)
+          (ap as_told (sym (left_over (ends_for why x) last at)) ∙ ends_is x old new why same becomes)
           (subst (λ (t : Stage). RestsBy t (ends_for why x)) (sym at) (raw, tt)) straight
           (noted ∙ ap (λ (t : code.Stage). note_at l why (captured_of old) (stage_of t)) is ∙ none)
 
@@ -195,7 +200,7 @@ module _ (I : Inner) (inner : (p : Part) → IsInner p → I p) (l : ℕ) (held 
           let at : x.stage ≡ stage_of s = stage_is old x same ∙ ap stage_of is in
           follows I l routing a new behind (left made) made (inner (left made) tt) tt
           (subst (λ (t : Stage). left_note l (ends_for why x) (ends_by why t) made) (sym at) note, raw)
-          (counts ∙ sym (unmoved (ends_for why x) (at_stage (left_by (ends_by why x.stage)) x) routing (left_counts x why)))
+          (counts ∙ sym (unmoved (ends_for why x) (left_now (ends_for why x)) routing (left_counts x why)))
           (ends_is x old new why same becomes)
           (ends_over why (ap (λ (t : Stage). left_by (ends_by why t)) at ∙ ends)) straight (append-nil (note_if made))
 

@@ -11,7 +11,7 @@ use Rattle.hb_gateway.specs.Response as response
 use Rattle.hb_gateway.specs.Response.{opens, brings}
 use Rattle.hb_captured.specs.Answer.{Routing, key_of}
 use Rattle.hb_captured.specs.Captured as m
-use Rattle.hb_captured.specs.Captured.{Captured, Stage, at_stage, counts_for, is_raw, told_by}
+use Rattle.hb_captured.specs.Captured.{Captured, Stage, at_stage, counts_for, is_raw, told_by, unnamed}
 use Rattle.hb_captured.specs.Part.{asked, hears, put, finished, credited, completed}
 use Rattle.hb_captured.specs.Runs.{MayHear, Fits, next, counted}
 use Rattle.hb_relay.specs.declared.relay.Relay.{Relay}
@@ -79,18 +79,18 @@ ends_at x (m.failed why) may = absurd may
 ends_at x (m.ended why) may = absurd may
 ends_at x (m.over why) may = absurd may
 
-pub hears_open : (end : Bool) (old mid : Relay) (made : Note) → Becomes (λ z. at_stage m.live (told_by (opens end) 0 z)) old mid
-    → made ≡ verdict_at mid.number 200 (captured_of mid) → HearsOpen end old mid made
-hears_open end old mid made becomes noted begun routing = record {
-  number = becomes.number;
+pub hears_open : (end : Bool) (old mid new : Relay) (made : Note) → Becomes (λ z. at_stage m.live (told_by (opens end) 0 z)) old mid
+    → made ≡ verdict_at mid.number 200 (captured_of mid) → Becomes unnamed mid new → HearsOpen end old new made
+hears_open end old mid new made becomes noted takes begun routing = record {
+  number = takes.number ∙ becomes.number;
   reaches = λ start before a stands shows so may.
       let x = a.link in
       let b = next a (hears (opens end) begun) in
       let at : x.stage ≡ m.opening = opens_at end x x.stage may.1 in
-      subst (λ (r : Routing). Reaches IsInner old.number r b mid routing (Some made))
+      subst (λ (r : Routing). Reaches IsInner old.number r b new routing (Some made))
       (sym (unmoved x b.link routing (counts_at x m.opening at)))
-      (opened_reach old.number routing b mid made refl
-      (ap (λ (z : Captured). at_stage m.live (told_by (opens end) 0 z)) shows.same ∙ sym becomes.after)
+      (opened_reach old.number routing b mid new made refl
+      (ap (λ (z : Captured). at_stage m.live (told_by (opens end) 0 z)) shows.same ∙ sym becomes.after) takes
       (streams_on (at_stage m.live b.link) may.0, upstream_at old x shows m.opening at) shows.straight
       (noted ∙ ap (λ (l : ℕ). verdict_at l 200 (captured_of mid)) becomes.number));
 }

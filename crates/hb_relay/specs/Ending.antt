@@ -4,13 +4,17 @@ use Rattle.hb_base.specs.declared.cause.Cause.{Cause}
 use Rattle.hb_base.specs.declared.note.Note.{Note}
 use Rattle.hb_base.specs.declared.note.Note.TheVariants as note
 use Rattle.hb_captured.specs.Answer.{Routing}
-use Rattle.hb_captured.specs.Captured.{Captured, Stage, due, opening, live, at_stage, counts_for, ends_by, is_raw, left_behind, left_by}
+use Rattle.hb_captured.specs.Captured.{Captured, Stage, due, opening, live, counts_for, ends_by, is_raw, left_behind, left_now, name_left, ends_for, named}
 use Rattle.hb_captured.specs.Counts.{recounted}
 use Rattle.hb_captured.specs.Runs.{verdict_note, note_of, failure_status}
 
 -- it ends, and that is noted at once
 abbrev pub ended_now : Cause → Captured → Captured
-ended_now cause x = at_stage (left_by (ends_by cause x.stage)) x
+ended_now cause x = left_now (ends_for cause x)
+
+-- what that leaves of the identity that was to be noted, the stage aside
+abbrev pub name_at : Cause → Captured → Captured
+name_at cause x = record x { identity = name_left (ends_by cause x.stage) x.identity }
 
 -- it leaves its stream, where it has one, behind so many bytes
 abbrev pub unstreamed : ℕ → Captured → Captured
@@ -22,7 +26,7 @@ uncounted x routing = record routing { opens = recounted (counts_for x) None rou
 
 -- its notes, of counts that are told already
 abbrev pub verdict_at : (l status : ℕ) → Captured → Note
-verdict_at l status x = verdict_note l status x.peer x.target
+verdict_at l status x = verdict_note l status (named x) x.target
 
 abbrev pub end_at : ℕ → Cause → Captured → Note
 end_at l cause x = note.End l 0 cause x.went_up x.went_down

@@ -9,13 +9,14 @@ use Rattle.hb_tunnel.specs.Way.{after, takes}
 use Rattle.hb_world.specs.declared.act.Act.{Act}
 use Rattle.hb_world.specs.declared.act.Act.TheVariants as act
 use Rattle.hb_captured.specs.Answer.{straight_to, Answer, aims, refuses, Routing, answer_on, address_of, why_for}
-use Rattle.hb_captured.specs.Captured.{Captured, Stage, due, live, over, at_stage, ring_up, is_raw, may_shut_up, may_shut, is_through}
+use Rattle.hb_captured.specs.Captured.{Captured, Stage, due, live, over, at_stage, identity_noted, unnamed, ring_up, is_raw, may_shut_up, may_shut, is_through}
 use Rattle.hb_captured.specs.Runs.{counted}
 use Rattle.hb_relay.specs.Answering.{counted_for}
 use Rattle.hb_relay.specs.Ending.{end_at, verdict_at}
 use Rattle.hb_relay.specs.Rings.{pushed}
 use Rattle.hb_relay.specs.Shows.{captured_of}
 use Rattle.hb_relay.specs.declared.relay.Relay.{Relay}
+use Rattle.hb_base.specs.declared.identity.Identity.{Identity}
 use Rattle.hb_base.specs.declared.ip.Ip.{Ip}
 use Rattle.hb_base.specs.declared.target.Target.{Target}
 
@@ -32,18 +33,23 @@ note_by l live x = if is_raw x && is_through x then Some (end_at l cause.Done x)
 note_by l stage x = None
 
 -- the header told this; the bytes behind it go up
-abbrev pub told_by : Ip → Target → ℕ → Captured → Captured
-told_by source target length x = record x {
+abbrev pub told_by : Ip → Target → Option Identity → ℕ → Captured → Captured
+told_by source target identity length x = record x {
   front = [];
   peer = record { ip = source; identity = None };
   target = target;
+  identity = identity;
   ways = record x.ways { up = pushed (ring_up x.door) (drop length x.front) x.ways.up };
 }
+
+-- it told all this, and the identity that is noted at its door
+abbrev pub header_told : Seen → Captured → Captured
+header_told seen x = told_by seen.source.ip seen.destination (identity_noted x.door seen.identity) seen.length x
 
 -- it gets its answer
 abbrev pub decided_by : Answer → Captured → Captured
 decided_by (aims aim) x = record x { stage = due; aim = aim }
-decided_by (refuses why status) x = record x { stage = over why; aim = straight_to x.target None }
+decided_by (refuses why status) x = unnamed (record x { stage = over why; aim = straight_to x.target None })
 
 abbrev pub decided_note : ℕ → Answer → Captured → Option Note
 decided_note l (aims aim) x = None
@@ -52,8 +58,8 @@ decided_note l (refuses why status) x = Some (verdict_at l status x)
 -- the header is whole: it gets its answer, or memory is wanting for that
 abbrev pub IsDecided : ℕ → Resources → Seen → Routing → Routing → Captured → Captured → Option Note → Type 0
 IsDecided l held seen before behind old new made =
-    (new ≡ decided_by (answer_on old.door held before seen) (told_by seen.source.ip seen.destination seen.length old))
-    × (made ≡ decided_note l (answer_on old.door held before seen) (told_by seen.source.ip seen.destination seen.length old))
+    (new ≡ decided_by (answer_on old.door held before seen) (header_told seen old))
+    × (made ≡ decided_note l (answer_on old.door held before seen) (header_told seen old))
     × (behind ≡ counted_for (answer_on old.door held before seen) before)
 
 abbrev pub IsLacked : Routing → Routing → Captured → Captured → Option Note → Type 0

@@ -26,6 +26,7 @@ captured_of k = record {
   front = k.front;
   peer = record { ip = k.source; identity = None };
   target = k.target;
+  identity = k.identity;
   aim = aim_as k.aim;
   up = k.up;
   gate = k.gate;

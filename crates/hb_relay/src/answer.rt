@@ -3,12 +3,15 @@
 ghost use Rattle.std.specs.Prelude.{◌≡◌, IfOk, OnOk, OnErr};
 ghost use Rattle.std.specs.Option.{option_map};
 ghost use Rattle.hb_captured.specs.Answer.{refused_with, verdict_for, by_verdict, by_way, routed, answer};
+ghost use Rattle.hb_captured.specs.Captured.{identity_noted};
+ghost use Rattle.hb_front.specs.Reading.{text_of};
 ghost use Rattle.hb_route.specs.Answer.{way_as};
 ghost use Rattle.hb_relay.specs.Answering.{answer_as, routing_of, counted_for};
 
 use crate::aim::{Aim, key_for};
 use crate::routes::Routes;
-use hb_base::{Cause, Door, Ip, NoMemory, Peer, Target, Text};
+use hb_base::{Cause, Door, Identity, Ip, NoMemory, Peer, Target, Text, read_identity};
+use hb_front::Front;
 use hb_held::Held;
 use hb_route::{Route, route};
 use hb_verdict::{Request, Verdict, is_unspecified, leads_back, verdict_on};
@@ -128,7 +131,25 @@ fn answer_at(
     }
 }
 
-/// The same, where it is counted as a connection of its endpoint from now on.
+/// The identity that is noted of a header at this door: what it tells, at the outbound one.
+fn identity_noted(
+    alloc: Global,
+    door: Door,
+    text: Option<&[u8]>,
+) -> Result<Option<Identity>, NoMemory>
+    ensures { IfOk result (λ identity. identity ≡ identity_noted door (text_of text.entry)) }
+{
+    match door {
+        Door::Outbound => match text {
+            Some(text) => read_identity(alloc, text),
+            None => Ok(None),
+        },
+        _ => Ok(None),
+    }
+}
+
+/// What a whole front header gets at this door, where it is counted as a connection of its endpoint from now on; and the identity that
+/// is noted of it.
 ///
 /// Errors: `NoMemory`, and then nothing is counted.
 pub(crate) fn answer_counted(
@@ -136,17 +157,26 @@ pub(crate) fn answer_counted(
     door: Door,
     held: &Held,
     routes: &mut Routes,
-    source: Ip,
-    target: Target,
-) -> Result<Answer, NoMemory>
-    ensures value { IfOk result (λ given. answer_as given ≡ answer door held.now (routing_of routes.old) source target) }
+    front: Front<'_>,
+) -> Result<(Option<Identity>, Answer), NoMemory>
+    ensures identity { IfOk result (λ told. told.0 ≡ identity_noted door (text_of front.entry.identity)) }
+    ensures value { IfOk result (λ told.
+        answer_as told.1 ≡ answer door held.now (routing_of routes.old) front.entry.source.ip front.entry.destination) }
     ensures ok { OnOk result (routing_of routes.new
-        ≡ counted_for (answer door held.now (routing_of routes.old) source target) (routing_of routes.old)) }
+        ≡ counted_for (answer door held.now (routing_of routes.old) front.entry.source.ip front.entry.destination) (routing_of routes.old)) }
     ensures err { OnErr result (routes.new ≡ routes.old) }
 {
-    let answer = answer_at(alloc, door, held, routes, source, target)?;
+    let identity = identity_noted(alloc, door, front.identity)?;
+    let answer = answer_at(
+        alloc,
+        door,
+        held,
+        routes,
+        front.source.ip,
+        front.destination,
+    )?;
     if let Answer::Aims(aim) = &answer {
         routes.count(aim)?;
     }
-    Ok(answer)
+    Ok((identity, answer))
 }

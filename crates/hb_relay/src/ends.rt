@@ -1,11 +1,12 @@
 //! How a link ends, and what is noted of it.
 
 ghost use Rattle.std.specs.Prelude.{◌≡◌};
+ghost use Rattle.hb_captured.specs.Captured.{unnamed};
 ghost use Rattle.hb_captured.specs.Runs.{failure_status};
 ghost use Rattle.hb_relay.specs.Shows.{captured_of, stage_of, Becomes};
 ghost use Rattle.hb_relay.specs.Answering.{routing_of};
 ghost use Rattle.hb_relay.specs.Reaches.{rerouted};
-ghost use Rattle.hb_relay.specs.Ending.{ended_now, note_at, verdict_at, end_at, unstreamed, uncounted};
+ghost use Rattle.hb_relay.specs.Ending.{ended_now, name_at, note_at, verdict_at, end_at, unstreamed, uncounted};
 
 use crate::relay::Relay;
 use crate::routes::Routes;
@@ -25,9 +26,10 @@ fn failure_status(cause: Cause) -> Option<u16>
 }
 
 impl Relay {
-    /// The note of its verdict.
-    pub(crate) fn verdict_note(&self, status: u16) -> Note
-        ensures { result ≡ verdict_at self.now.number status (captured_of self.now) }
+    /// The note of its verdict, which takes along the identity that it tells.
+    pub(crate) fn verdict_note(&mut self, status: u16) -> Note
+        ensures note { result ≡ verdict_at self.old.number status (captured_of self.old) }
+        ensures after { Becomes unnamed self.old self.new }
     {
         Note::Verdict {
             link: self.number,
@@ -35,7 +37,7 @@ impl Relay {
             status,
             peer: Peer {
                 ip: self.source,
-                identity: None,
+                identity: self.identity.take(),
             },
             target: Some(self.target),
         }
@@ -55,13 +57,18 @@ impl Relay {
     }
 
     /// What is noted where it ends now for a cause.
-    fn note_for(&self, cause: Cause) -> Option<Note>
-        ensures { result ≡ note_at self.now.number cause (captured_of self.now) (stage_of self.now.stage) }
+    fn note_for(&mut self, cause: Cause) -> Option<Note>
+        ensures note { result ≡ note_at self.old.number cause (captured_of self.old) (stage_of self.old.stage) }
+        ensures after { Becomes (name_at cause) self.old self.new }
+        ensures stage { self.new.stage ≡ self.old.stage }
     {
         match self.stage {
             Stage::Due | Stage::Opening => match failure_status(cause) {
                 Some(status) => Some(self.verdict_note(status)),
-                None => None,
+                None => {
+                    self.identity = None;
+                    None
+                }
             },
             Stage::Live => Some(self.end_note(cause)),
             _ => None,

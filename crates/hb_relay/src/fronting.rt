@@ -11,18 +11,19 @@ use crate::answer::{Answer, answer_counted};
 use crate::relay::Relay;
 use crate::routes::Routes;
 use crate::stage::Stage;
-use hb_base::{Cause, Ip, Note, Target};
+use hb_base::{Cause, Identity, Ip, Note, Target};
 use hb_front::{FrontRead, read_front};
 use hb_held::Held;
 
 impl Relay {
     /// The header has so many bytes, and told this. What stands behind it goes up.
-    fn take_header(&mut self, source: Ip, target: Target, size: usize)
+    fn take_header(&mut self, source: Ip, target: Target, identity: Option<Identity>, size: usize)
         requires { size ≤ length self.old.front }
-        ensures { Becomes (told_by source target size) self.old self.new }
+        ensures { Becomes (told_by source target identity size) self.old self.new }
     {
         self.source = source;
         self.target = target;
+        self.identity = identity;
         self.ways.push_up(&self.front.bytes()[size..]);
         self.front.clear();
     }
@@ -64,9 +65,9 @@ impl Relay {
                 let target = front.destination;
                 let size = front.length;
                 let door = self.ways.door();
-                match answer_counted(self.alloc, door, held, routes, source, target) {
-                    Ok(answer) => {
-                        self.take_header(source, target, size);
+                match answer_counted(self.alloc, door, held, routes, front) {
+                    Ok((identity, answer)) => {
+                        self.take_header(source, target, identity, size);
                         self.decide(answer)
                     }
                     Err(_) => {

@@ -10,7 +10,7 @@ ghost use Rattle.hb_relay.specs.Shows.{captured_of, stage_of};
 use crate::aim::Aim;
 use crate::rings::Rings;
 use crate::stage::Stage;
-use hb_base::{Door, Ip, NoMemory, Target};
+use hb_base::{Door, Identity, Ip, NoMemory, Target};
 use hb_front::FrontBytes;
 use std::alloc::Global;
 
@@ -24,6 +24,8 @@ pub struct Relay {
     /// What the front header told: where the peer is, and which target it meant.
     pub(crate) source: Ip,
     pub(crate) target: Target,
+    /// The identity that the note of its verdict tells of its peer; none once it is noted.
+    pub(crate) identity: Option<Identity>,
     /// Where its bytes are to go.
     pub(crate) aim: Aim,
     /// The number of its upstream, 0 before that is dialled and behind its close.
@@ -68,6 +70,7 @@ impl Relay {
             front: FrontBytes::new(alloc)?,
             source: Ip::V4(0),
             target: unknown,
+            identity: None,
             aim: Aim::Straight {
                 to: unknown,
                 endpoint: None,

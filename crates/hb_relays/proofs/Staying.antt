@@ -4,7 +4,7 @@ use Rattle.std.proofs.Math.Bool.{and-false}
 use Rattle.std.proofs.lemmas.Bool.{true≢false}
 use Rattle.hb_base.specs.declared.cause.Cause.{Cause}
 use Rattle.hb_base.specs.declared.cause.Cause.TheVariants as cause
-use Rattle.hb_captured.specs.Captured.{Captured, Stage, unborn, arriving, fronting, due, opening, accepting, live, failed, ended, over, no_link, at_stage, judges, is_judged, ends_by, ends_for, hung_up, came_by, entered, up_entered, told_by, judged_by, rejudged, left_by, is_raw}
+use Rattle.hb_captured.specs.Captured.{Captured, Stage, unborn, arriving, fronting, due, opening, accepting, live, failed, ended, over, no_link, at_stage, judges, is_judged, ends_by, ends_for, hung_up, came_by, entered, up_entered, told_by, judged_by, rejudged, left_by, name_left, is_raw}
 use Rattle.hb_captured.specs.Answer.{Routing}
 use Rattle.hb_captured.specs.Part.{Part, entry, up, welcomed, crowded, lacked, misfronted, fronted, refused, accepted, roomless, asked, hears, put, finished, credited, loosed, completed, left, done, applied, stopped}
 use Rattle.hb_captured.specs.Runs.{Local, MayCome, UpMayCome, MayGo, IsTried, next, StandsFor, begins, goes_on}
@@ -433,7 +433,8 @@ module _ (l : ℕ) (a : Local) (none : a.link ≡ no_link) where
   part_goes (loosed begun) may is = absurd (no_stream may.0)
   part_goes (completed begun made) may is = absurd (cc is)
   part_goes (left made) may is =
-      ap (λ (s : Stage). at_stage (left_by s) a.link) is_unborn ∙ sym (ap (λ (s : Stage). at_stage s a.link) is_unborn)
+      ap (λ (s : Stage). record a.link { stage = left_by s; identity = name_left s a.link.identity }) is_unborn
+      ∙ sym (ap (λ (s : Stage). at_stage s a.link) is_unborn)
   part_goes (done made) may is = absurd (cc is)
   part_goes (applied r) may is =
       let x = a.link in

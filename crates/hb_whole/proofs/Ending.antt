@@ -234,7 +234,7 @@ crowded_ends c l a b ends steps = absurd (never c l a b ends m.arriving steps.0)
 
 -- a plain link that ends so goes on ending so
 left_plain : (c : Cause) (stage : plain.Stage) (x : Captured) → PlainEndsBy c stage x
-    → PlainEndsBy c (plain.left_by stage) (plain.at_stage (plain.left_by stage) x)
+    → PlainEndsBy c (plain.left_by stage) (record x { stage = plain.left_by stage; identity = plain.name_left stage x.identity })
 left_plain c plain.unborn x ends = tt
 left_plain c (plain.failed why) x ends = inl ends
 left_plain c (plain.ended why) x ends = inl ends
