@@ -38,6 +38,8 @@ use Rattle.hb_world.specs.declared.entry.Entry.TheVariants as e
 use Rattle.hb_world.specs.declared.entry.ReadyItem.TheVariants as item
 use Rattle.hb_world.specs.declared.entry.Way.TheVariants as way
 use Rattle.hb_world.specs.declared.entry.Woken.TheVariants as woken
+use Rattle.hb_proxy.proofs.Room.{room_for_link, room_for_place, link_alone, place_alone, one_place}
+use Rattle.hb_proxy.specs.Load.{most_links, most_tunnels}
 use Rattle.hb_proxy.specs.Machine.{Machine, fresh, plain_local, with_control, with_part, with_plain}
 use Rattle.hb_proxy.specs.Points.{Point, of_control, of_link, of_plain}
 use Rattle.hb_proxy.specs.Runs.{goes_first, BirthMayCome, Lets, PlainLets, GateLets, GatesLet, ControlRests, PlainGuard, routing_of, StandsFor, begins, goes_on}
@@ -242,8 +244,8 @@ module _ (g : NodeConfig) where
       cond_both (l == 2) gone (y5.inbound l) IsQuiet (λ is. gone_quiet)
       (λ is. others y5 only5 false l (λ same. false≢true (sym is ∙ eq-eqb l 2 same)))
 
-  welcomed_in : StandsFor g y3 (of_control (point.entry (dials g)) ∷ of_link 2 (part.entry accepts) ∷ of_link 2 part.welcomed ∷ [])
-  welcomed_in =
+  welcomed_in : 0 < most_links g → StandsFor g y3 (of_control (point.entry (dials g)) ∷ of_link 2 (part.entry accepts) ∷ of_link 2 part.welcomed ∷ [])
+  welcomed_in some =
       goes_on
       (goes_on dialled (of_link 2 (part.entry accepts)) (
         arrived,
@@ -257,13 +259,14 @@ module _ (g : NodeConfig) where
         },
         refl,
       ) refl)
-      (of_link 2 part.welcomed) (taken_in, (refl, refl), tt, refl) refl
+      (of_link 2 part.welcomed)
+      (taken_in, (refl, refl), room_for_link g y2 2 some (link_alone 2 arrived) (omega arith), refl) refl
 
-  link_runs : StandsFor g (on waits y6) (of_control (point.entry (dials g)) ∷ of_link 2 (part.entry accepts) ∷ of_link 2 part.welcomed
+  link_runs : 0 < most_links g → StandsFor g (on waits y6) (of_control (point.entry (dials g)) ∷ of_link 2 (part.entry accepts) ∷ of_link 2 part.welcomed
       ∷ of_link 2 (part.entry began) ∷ of_link 2 (part.misfronted BadSignature) ∷ of_link 2 (part.entry ends)
       ∷ of_control (point.entry waits) ∷ [])
-  link_runs =
-      let came_in = goes_on welcomed_in (of_link 2 (part.entry began)) (
+  link_runs some =
+      let came_in = goes_on (welcomed_in some) (of_link 2 (part.entry began)) (
         read,
         ((refl, (inl (taken_quiet, refl), omega arith), are_octets (0 ∷ []) refl, omega arith, omega arith), refl),
         record {
@@ -374,11 +377,11 @@ module _ (g : NodeConfig) where
       cond_both (l == 2) shut (z6.inbound l) IsQuiet (λ is. shut_quiet)
       (λ is. others z6 only_z6 false l (λ same. false≢true (sym is ∙ eq-eqb l 2 same)))
 
-  end_runs : StandsFor g (on waits z7) (of_control (point.entry (dials g)) ∷ of_link 2 (part.entry accepts) ∷ of_link 2 part.welcomed
+  end_runs : 0 < most_links g → StandsFor g (on waits z7) (of_control (point.entry (dials g)) ∷ of_link 2 (part.entry accepts) ∷ of_link 2 part.welcomed
       ∷ of_link 2 (part.entry fronted_entry) ∷ of_link 2 (part.fronted told) ∷ of_link 2 (part.entry (e.Ended 2))
       ∷ of_link 2 (part.entry (e.Closed 2 cause.Done)) ∷ of_control (point.entry waits) ∷ [])
-  end_runs =
-      let came_in = goes_on welcomed_in (of_link 2 (part.entry fronted_entry)) (
+  end_runs some =
+      let came_in = goes_on (welcomed_in some) (of_link 2 (part.entry fronted_entry)) (
         held,
         ((refl, (inl (taken_quiet, refl), omega arith), are_octets front refl, omega arith, omega arith), refl),
         record {
@@ -463,7 +466,7 @@ module _ (g : NodeConfig) where
   unsynced door.Inbound routing = refl
 
   -- one that is accepted at a door at which plain links are
-  module _ (d : Door) (captures : Captures d) where
+  module _ (d : Door) (captures : Captures d) (room : 0 < most_tunnels g) where
     abbrev p2 : Machine
     p2 = on_plain (captured.entry (e.Accepted 2 d)) x1
 
@@ -485,7 +488,7 @@ module _ (g : NodeConfig) where
           others = λ k apart. (tt, tt);
           gates = bare x1 (λ n. refl) (λ l. refl) false;
         }))
-        refl tt
+        refl (room_for_place g p2 2 room (place_alone 2 (p2.plain 2)) one_place)
 
     -- bytes come while it waits for its header, and it is closed where it is over
     came_plain : (bytes : List ℕ) → AreOctets bytes → 0 < length bytes → length bytes ≤ 4112
@@ -572,16 +575,16 @@ pub good_trace_is_lawful : GoodTraceIsLawful
 good_trace_is_lawful g = run_is_lawful g _ _ (good_trace g) (runs g) refl
 
 pub good_link_is_lawful : GoodLinkIsLawful
-good_link_is_lawful g = run_is_lawful g _ _ (good_link g) (link_runs g) refl
+good_link_is_lawful g some = run_is_lawful g _ _ (good_link g) (link_runs g some) refl
 
 pub good_end_is_lawful : GoodEndIsLawful
-good_end_is_lawful g = run_is_lawful g _ _ (good_end g) (end_runs g) refl
+good_end_is_lawful g some = run_is_lawful g _ _ (good_end g) (end_runs g some) refl
 
 pub good_plain_is_lawful : GoodPlainIsLawful
-good_plain_is_lawful g = run_is_lawful g _ _ (good_plain g) (plain_runs g door.Plain tt) refl
+good_plain_is_lawful g some = run_is_lawful g _ _ (good_plain g) (plain_runs g door.Plain tt some) refl
 
 pub good_refusal_is_lawful : GoodRefusalIsLawful
-good_refusal_is_lawful g = run_is_lawful g _ _ (good_refusal g) (refusal_runs g door.Plain tt) refl
+good_refusal_is_lawful g some = run_is_lawful g _ _ (good_refusal g) (refusal_runs g door.Plain tt some) refl
 
 pub good_unsynced_is_lawful : GoodUnsyncedIsLawful
-good_unsynced_is_lawful g = run_is_lawful g _ _ (good_unsynced g) (refusal_runs g door.Outbound tt) refl
+good_unsynced_is_lawful g some = run_is_lawful g _ _ (good_unsynced g) (refusal_runs g door.Outbound tt some) refl

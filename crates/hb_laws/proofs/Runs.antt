@@ -9,6 +9,7 @@ use Rattle.hb_proxy.proofs.Dials.{runs_dial}
 use Rattle.hb_proxy.proofs.Ends.{runs_end}
 use Rattle.hb_proxy.proofs.Gates.{obey_gates, runs_take}
 use Rattle.hb_proxy.proofs.Links.{obey_links}
+use Rattle.hb_proxy.proofs.Limits.{obey_limits}
 use Rattle.hb_proxy.proofs.Own.{runs_own, runs_number, runs_dial_once}
 use Rattle.hb_proxy.proofs.Places.{at_points}
 use Rattle.hb_proxy.proofs.Plain.{plain_holds, obey_plain}
@@ -54,6 +55,7 @@ run_is_lawful g x points trace stands is = record {
   parts_access = runs_admit g x points stands;
   ends = runs_end g x points stands;
   pool = runs_take g x points stands;
+  limits = λ before after are. obey_limits g before;
   dials = runs_dial g x points stands;
   at_entries = obey_entries g x points stands;
   held = control_holds g x points stands;

@@ -1,5 +1,5 @@
--- Traces that are lawful: of a link to the control plane, of an inbound link, and of a plain one of either door.
-use Rattle.std.specs.Prelude.{List, [], ◌∷◌, None}
+-- Traces that are lawful: of a link to the control plane, of an inbound link, and of a plain one of either door, where one may be.
+use Rattle.std.specs.Prelude.{◌<◌, List, [], ◌∷◌, None}
 use Rattle.hb_base.specs.declared.cause.Cause.TheVariants as cause
 use Rattle.hb_base.specs.declared.ip.Ip.TheVariants.{V4}
 use Rattle.hb_base.specs.declared.target.Target.{Target}
@@ -7,6 +7,7 @@ use Rattle.hb_front.specs.Faults.{number_of}
 use Rattle.hb_front.specs.Written.{front_text}
 use Rattle.hb_front.specs.declared.fault.FrontFault.TheVariants.{BadSignature}
 use Rattle.hb_model.specs.declared.config.NodeConfig.{NodeConfig}
+use Rattle.hb_proxy.specs.Load.{most_links, most_tunnels}
 use Rattle.hb_world.specs.declared.entry.Entry.{Entry}
 use Rattle.hb_world.specs.declared.entry.Entry.TheVariants as e
 use Rattle.hb_world.specs.declared.entry.ReadyItem.TheVariants as item
@@ -32,7 +33,7 @@ abbrev pub good_link : NodeConfig → List Entry
 good_link g = dials g ∷ accepts ∷ e.Came 2 (0 ∷ []) ∷ e.Closed 2 (cause.FrontFault (number_of BadSignature)) ∷ waits ∷ []
 
 abbrev pub GoodLinkIsLawful : Type 0
-GoodLinkIsLawful = (g : NodeConfig) → Lawful g (good_link g)
+GoodLinkIsLawful = (g : NodeConfig) → 0 < most_links g → Lawful g (good_link g)
 
 -- an inbound link of 10.0.0.1 to 10.0.0.9 is accepted, its front header is whole and tells no identity, its peer sends no more, and it is
 -- closed as done
@@ -46,14 +47,14 @@ abbrev pub good_end : NodeConfig → List Entry
 good_end g = dials g ∷ accepts ∷ e.Came 2 (front_text source destination None) ∷ e.Ended 2 ∷ e.Closed 2 cause.Done ∷ waits ∷ []
 
 abbrev pub GoodEndIsLawful : Type 0
-GoodEndIsLawful = (g : NodeConfig) → Lawful g (good_end g)
+GoodEndIsLawful = (g : NodeConfig) → 0 < most_links g → Lawful g (good_end g)
 
 -- a plain link is accepted, its first byte begins no front header, and it is closed for that
 abbrev pub good_plain : NodeConfig → List Entry
 good_plain g = dials g ∷ accepts_plain ∷ e.Came 2 (0 ∷ []) ∷ e.Closed 2 (cause.FrontFault (number_of BadSignature)) ∷ waits ∷ []
 
 abbrev pub GoodPlainIsLawful : Type 0
-GoodPlainIsLawful = (g : NodeConfig) → Lawful g (good_plain g)
+GoodPlainIsLawful = (g : NodeConfig) → 0 < most_tunnels g → Lawful g (good_plain g)
 
 -- one is accepted, its front header is whole, and it is refused with 503 and closed, since nothing is held yet
 abbrev pub good_refusal : NodeConfig → List Entry
@@ -61,7 +62,7 @@ good_refusal g =
     dials g ∷ accepts_plain ∷ e.Came 2 (front_text source destination None) ∷ e.Closed 2 (cause.Refused 503) ∷ waits ∷ []
 
 abbrev pub GoodRefusalIsLawful : Type 0
-GoodRefusalIsLawful = (g : NodeConfig) → Lawful g (good_refusal g)
+GoodRefusalIsLawful = (g : NodeConfig) → 0 < most_tunnels g → Lawful g (good_refusal g)
 
 -- so is one of the outbound door
 abbrev pub good_unsynced : NodeConfig → List Entry
@@ -69,4 +70,4 @@ good_unsynced g =
     dials g ∷ accepts_outbound ∷ e.Came 2 (front_text source destination None) ∷ e.Closed 2 (cause.Refused 503) ∷ waits ∷ []
 
 abbrev pub GoodUnsyncedIsLawful : Type 0
-GoodUnsyncedIsLawful = (g : NodeConfig) → Lawful g (good_unsynced g)
+GoodUnsyncedIsLawful = (g : NodeConfig) → 0 < most_tunnels g → Lawful g (good_unsynced g)

@@ -13,6 +13,7 @@ use Rattle.hb_proxy.specs.Doors.{without_doors}
 use Rattle.hb_proxy.specs.Ends.{EndLaw}
 use Rattle.hb_proxy.specs.Held.{at_start}
 use Rattle.hb_proxy.specs.Laws.{LinkLaws, PlainLaws, GateLaws}
+use Rattle.hb_proxy.specs.Limits.{LimitLaw}
 use Rattle.hb_proxy.specs.Machine.{Machine}
 use Rattle.hb_proxy.specs.Owners.{OwnLaw, NumberLaw, UpstreamLaw}
 use Rattle.hb_proxy.specs.Points.{Point, entries, control_of, parts_of, plain_of, gates_of}
@@ -71,6 +72,8 @@ pub record Lawful (g : NodeConfig) (trace : List Entry) : Type 0 where
   pub ends : EndLaw g points
   -- a tunnel takes the link to its gateway that was born first of those with room, and another one is dialled only where there is none
   pub pool : PoolLaw g points
+  -- at each front of the run, never more links and tunnels than may be
+  pub limits : AtFronts (LimitLaw g) points
   -- the control plane is dialled exactly when it is due; its links end for their first cause, and what came on them is looked at first
   pub dials : DialLaw g points
   pub at_entries : EntryLaws points

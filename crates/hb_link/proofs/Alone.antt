@@ -22,7 +22,7 @@ use Rattle.hb_link.specs.declared.link.Link.{Link}
 use Rattle.hb_link.specs.declared.tunnel.Stage.{Stage}
 use Rattle.hb_link.specs.declared.tunnel.Stage.TheVariants.{Due, Opening, Live, Failed, Ended, Over}
 use Rattle.hb_link.specs.declared.tunnel.Tunnel.{Tunnel}
-use Rattle.hb_link.specs.Counting.{CountsPlaces}
+use Rattle.hb_link.specs.Counting.{Places, Counts}
 use Rattle.hb_link.specs.Looking.{EndsFor, IsMute, changed_at, over_for, left_at}
 use Rattle.hb_link.specs.Noted.{Told, Takes}
 use Rattle.hb_link.specs.Reaches.{Guard, Follows}
@@ -98,10 +98,10 @@ module _ (tunnels : Map) (s : ℕ) (why : Cause) (old : Tunnel) (is : get tunnel
       by true at = subst (λ (i : ℕ). i ≤ largest) (sym (eqb-true j s at)) (each s (ap is_some is))
       by false at = each j (subst (λ (o : Option Tunnel). IsSome o) (left_others j at) some)
 
-module _ (others limit : ℕ) (k : Link) (s : ℕ) (why : Cause) (mute : IsMute why) (told : Told) (start : Resources)
+module _ (limits : Option Places) (k : Link) (s : ℕ) (why : Cause) (mute : IsMute why) (told : Told) (start : Resources)
     (before : List Part) (a : Local) (stands : StandsFor k.number start a before) (ends : EndsFor s why k a.link) where
   abbrev G : Guard
-  G = CountsPlaces others limit
+  G = Counts limits
 
   abbrev y : Inbound
   y = ends.before

@@ -26,7 +26,7 @@ use Rattle.hb_link.specs.declared.tunnel.Stage.{Stage}
 use Rattle.hb_link.specs.declared.tunnel.Stage.TheVariants.{Failed, Ended}
 use Rattle.hb_link.specs.declared.tunnel.Tunnel.{Tunnel}
 use Rattle.hb_link.specs.Answering.{status_of_end, code_of_end, left_of, NoneIs, GotFailed, GotEnded}
-use Rattle.hb_link.specs.Counting.{CountsPlaces}
+use Rattle.hb_link.specs.Counting.{Places, Counts}
 use Rattle.hb_link.specs.Noted.{Told, Takes}
 use Rattle.hb_link.specs.Observed.{serves_in}
 use Rattle.hb_link.specs.Reaches.{Follows}
@@ -99,7 +99,7 @@ module _ (k : Link) (x : Inbound) (agrees : Agrees k x) (s : ℕ) (old : Tunnel)
   pub told_ended : old.stage ≡ Ended why → as_told (x.tunnels s) ≡ tunnel_of old
   told_ended at = (subst (λ (stage : Stage). ShowsAt (stage_of stage) old (x.tunnels s)) at shown_here).0
 
-module _ (others limit : ℕ) (a : Local) (k : Link) (s : ℕ) (old : Tunnel) (is : get k.tunnels s ≡ Some old) (why : Cause) (told : Told)
+module _ (limits : Option Places) (a : Local) (k : Link) (s : ℕ) (old : Tunnel) (is : get k.tunnels s ≡ Some old) (why : Cause) (told : Told)
     (agrees : Agrees k a.link) (telling : as_told (a.link.tunnels s) ≡ tunnel_of old) where
   abbrev x : Inbound
   x = a.link
@@ -114,7 +114,7 @@ module _ (others limit : ℕ) (a : Local) (k : Link) (s : ℕ) (old : Tunnel) (i
   left = left_of old why k.tunnels s
 
   abbrev Reached : (Link → Inbound → Type 0) → Connection → Told → Type 0
-  Reached Q c now = Follows (CountsPlaces others limit) Q k.number a (link_with c left k) told now
+  Reached Q c now = Follows (Counts limits) Q k.number a (link_with c left k) told now
 
   abbrev with_conn : Connection → Local
   with_conn d = with_link (with_tunnel s next d x) a
@@ -132,7 +132,7 @@ module _ (others limit : ℕ) (a : Local) (k : Link) (s : ℕ) (old : Tunnel) (i
 
     pub failed_put : (n : ℕ) → status_of_end k s why ≡ Some n → (now : Told)
         → Takes told (note.Verdict k.number s n k.peer (Some old.target) ∷ []) now
-        → Follows (CountsPlaces others limit) (GotFailed (Some (s + 1))) k.number a
+        → Follows (Counts limits) (GotFailed (Some (s + 1))) k.number a
         (link_with (refused_on s n (sides k.conn s).peer k.conn) (left_of old why k.tunnels s) k) told now
     failed_put n due now took =
         let serving = gives_serving k x agrees (λ (c : Connection). own_side_open c s) (failure_status why) n due in
@@ -168,7 +168,7 @@ module _ (others limit : ℕ) (a : Local) (k : Link) (s : ℕ) (old : Tunnel) (i
         }
 
     pub failed_left : status_of_end k s why ≡ None
-        → Follows (CountsPlaces others limit) (GotFailed (Some (s + 1))) k.number a (link_with k.conn (left_of old why k.tunnels s) k) told
+        → Follows (Counts limits) (GotFailed (Some (s + 1))) k.number a (link_with k.conn (left_of old why k.tunnels s) k) told
         told
     failed_left due = record {
       parts = part.left s None ∷ [];
@@ -205,7 +205,7 @@ module _ (others limit : ℕ) (a : Local) (k : Link) (s : ℕ) (old : Tunnel) (i
     made_is = sym (ap (λ (z : Machine). note.End k.number s why z.went_up z.went_down) telling)
 
     pub ended_put : (n : ℕ) → code_of_end k s why ≡ Some n → (now : Told) → Takes told (made ∷ []) now
-        → Follows (CountsPlaces others limit) (GotEnded (Some (s + 1))) k.number a
+        → Follows (Counts limits) (GotEnded (Some (s + 1))) k.number a
         (link_with (aborted k.conn s n) (left_of old why k.tunnels s) k) told now
     ended_put n due now took =
         let serving =
@@ -235,7 +235,7 @@ module _ (others limit : ℕ) (a : Local) (k : Link) (s : ℕ) (old : Tunnel) (i
         }
 
     pub ended_left : code_of_end k s why ≡ None → (now : Told) → Takes told (made ∷ []) now
-        → Follows (CountsPlaces others limit) (GotEnded (Some (s + 1))) k.number a (link_with k.conn (left_of old why k.tunnels s) k)
+        → Follows (Counts limits) (GotEnded (Some (s + 1))) k.number a (link_with k.conn (left_of old why k.tunnels s) k)
         told now
     ended_left due now took = record {
       parts = part.left s (Some made) ∷ [];

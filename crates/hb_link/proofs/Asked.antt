@@ -146,11 +146,11 @@ module _ (others limit : ℕ) (q : Asked) (k : Link) (told : Told) (start : Reso
       (fits.own (ap speaks stage) (fits.early (ap is_before stage)))
 
   -- places are counted so
-  places : (n : ℕ) → HasLoad z n → HasLoad y n
-  places n load =
-      same_load z y
-      (at_only s y.tunnels waiting z.tunnels (λ j v. takes_place v.stage ≡ takes_place (y.tunnels j).stage) only
-      (sym (ap takes_place ask.unused)) (λ j apart. refl)) n load
+  counted : (n : ℕ) → HasLoad y n → HasLoad z n
+  counted n load =
+      same_load y z
+      (at_only s y.tunnels waiting z.tunnels (λ j v. takes_place (y.tunnels j).stage ≡ takes_place v.stage) only
+      (ap takes_place ask.unused) (λ j apart. refl)) n load
 
   module _ (full : Bool) (counts : FindsFull others limit k full) (answer : Verdict) (is : IsAnswerTo here ask.headers full answer) where
     abbrev made : Machine
@@ -166,7 +166,7 @@ module _ (others limit : ℕ) (q : Asked) (k : Link) (told : Told) (start : Reso
     only_made = only_again s y.tunnels waiting z (λ v. made) only
 
     guard : G here (decided s full answer)
-    guard n load = counts y ask.may.agrees.tunnels n (places n load)
+    guard = let found = counts y ask.may.agrees.tunnels in (found.0, counted found.0 found.1, found.2)
 
     step : Steps k.number here (decided s full answer) next
     step = (ask.may.serving, ask.headers, q.end, ap (λ (v : Machine). v.stage) only.this, is, refl)

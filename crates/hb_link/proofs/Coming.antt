@@ -27,7 +27,8 @@ use Rattle.hb_link.specs.declared.phase.Phase.TheVariants.{Serving}
 use Rattle.hb_link.specs.declared.tunnel.Tunnel.{Tunnel}
 use Rattle.hb_link.specs.Calls.{UpEnters}
 use Rattle.hb_link.specs.Putting.{count_first, conn_first}
-use Rattle.hb_link.specs.Reaches.{Reaches, unguarded}
+use Rattle.hb_link.specs.Counting.{uncounted}
+use Rattle.hb_link.specs.Reaches.{Reaches}
 use Rattle.hb_link.specs.Shows.{Shows}
 use Rattle.hb_link.specs.Tunnels.{tunnel_of, as_told, ShowsTunnel}
 use Rattle.hb_link.proofs.Living.{is_serving, Lives, lives, shows_live}
@@ -181,7 +182,7 @@ module _ (l : ℕ) (a : Local) (k : Link) (shows : Shows k a.link) (s u : ℕ) (
         (ap (λ (z : Machine). z.owed) now_is ∙ lives.rests.given_back)
         (put_shuts x.conn s now.ways.down.held some_now s next.ways.down.held))
 
-    some_goes : Reaches unguarded l (with_link y a)
+    some_goes : Reaches uncounted l (with_link y a)
         (link_with (data_put k.conn s bytes)
         (insert k.tunnels s (here_with (old.ways.down.held ++ drop (count_put k.conn s bytes) bytes))) k) (Some [])
         (Some [])
@@ -207,7 +208,7 @@ module _ (l : ℕ) (a : Local) (k : Link) (shows : Shows k a.link) (s u : ℕ) (
     }
 
   -- where none waited as many go as may
-  first_by : (b : Bool) → (count_put k.conn s bytes == 0) ≡ b → old.ways.down.held ≡ [] → Reaches unguarded l (with_link y a)
+  first_by : (b : Bool) → (count_put k.conn s bytes == 0) ≡ b → old.ways.down.held ≡ [] → Reaches uncounted l (with_link y a)
       (link_with (data_put k.conn s bytes)
       (insert k.tunnels s (here_with (old.ways.down.held ++ drop (count_put k.conn s bytes) bytes))) k) (Some []) (Some [])
   first_by false test none_held = some_goes none_held (let n = count_put k.conn s bytes in grind (arith, nat_tests, test))
@@ -216,14 +217,14 @@ module _ (l : ℕ) (a : Local) (k : Link) (shows : Shows k a.link) (s u : ℕ) (
       let same : data_put k.conn s bytes ≡ k.conn = rw test refl in
       let left : count_put x.conn s (at.ways.down.held ++ bytes) ≡ 0 =
       ap₂ (λ (c : Connection) (h : List ℕ). count_put c s (h ++ bytes)) lives.way.0 (held_is ∙ none_held) ∙ none in
-      subst (λ (c : Connection). Reaches unguarded l (with_link y a)
+      subst (λ (c : Connection). Reaches uncounted l (with_link y a)
       (link_with c (insert k.tunnels s (here_with (old.ways.down.held ++ drop (count_put k.conn s bytes) bytes))) k) (Some []) (Some [])) (sym same)
-      (subst (λ (n : ℕ). Reaches unguarded l (with_link y a)
+      (subst (λ (n : ℕ). Reaches uncounted l (with_link y a)
       (link_with k.conn (insert k.tunnels s (here_with (old.ways.down.held ++ drop n bytes))) k) (Some []) (Some [])) (sym none)
       (record { parts = []; reached = with_link y a; leads = refl; shows = none_goes left; noted = inr refl }))
 
   -- as many as may go at once, the others wait
-  goes_by : (g : Bool) → g ≡ ((length old.ways.down.held == 0) && own_side_open k.conn s) → Reaches unguarded l (with_link y a)
+  goes_by : (g : Bool) → g ≡ ((length old.ways.down.held == 0) && own_side_open k.conn s) → Reaches uncounted l (with_link y a)
       (link_with (conn_first g k.conn s bytes)
       (insert k.tunnels s (here_with (old.ways.down.held ++ drop (count_first g k.conn s bytes) bytes))) k) (Some []) (Some [])
   goes_by true is_g = first_by (count_put k.conn s bytes == 0) refl
@@ -251,7 +252,7 @@ pub came : (k : Link) (s u : ℕ) (bytes : List ℕ) (old : Tunnel) (g : Bool) �
 came k s u bytes old g is goes start before a b stands shows _ step =
     let l = lives start before a k s old stands shows is step.0.0.1 in (
       refl,
-      subst (λ (z : Local). Reaches unguarded k.number z
+      subst (λ (z : Local). Reaches uncounted k.number z
           (link_with (conn_first g k.conn s bytes)
           (insert k.tunnels s (with_down_here (old.ways.down.held ++ drop (count_first g k.conn s bytes) bytes) old)) k) (Some []) (Some []))
           (sym step.1)

@@ -13,7 +13,7 @@ use Rattle.hb_link.specs.declared.phase.Phase.TheVariants.{Faulted}
 use Rattle.hb_link.specs.declared.tunnel.Stage.{Stage}
 use Rattle.hb_link.specs.declared.tunnel.Stage.TheVariants.{Due, Opening, Live, Failed, Ended, Over}
 use Rattle.hb_link.specs.declared.tunnel.Tunnel.{Tunnel}
-use Rattle.hb_link.specs.Counting.{CountsPlaces}
+use Rattle.hb_link.specs.Counting.{Counts}
 use Rattle.hb_link.specs.Looking.{FaultsFor}
 use Rattle.hb_link.specs.Marking.{ended_stage, ended_tunnel, ended_here, EndsWith}
 use Rattle.hb_link.specs.Noted.{Told}
@@ -80,16 +80,16 @@ module _ (code : ℕ) (k mid : Link) (ends : EndsWith (Faulted code) (cause.Conn
 
   pub fails : (new : Link) (told now : Told) → AlwaysSettles Agrees GotAll mid told new now → KeepsCame mid new
       → AlwaysSettles (FaultsFor code) MayPut k told new now
-  fails new told now settles keeps others limit start before a stands holds faults =
+  fails new told now settles keeps limits start before a stands holds faults =
       let number : mid.number ≡ k.number = ap (λ (l : Link). l.number) ends.link in
       let stands_here = subst (λ (i : ℕ). StandsFor i start a before) (sym number) stands in
-      let got = settles others limit start before a stands_here tt (marked a.link faults) in
+      let got = settles limits start before a stands_here tt (marked a.link faults) in
       let last = got.1 in (
         got.0 ∙ number,
         record {
           parts = last.parts;
           reached = last.reached;
-          leads = subst (λ (i : ℕ). Leads (CountsPlaces others limit) i a last.parts last.reached) number
+          leads = subst (λ (i : ℕ). Leads (Counts limits) i a last.parts last.reached) number
               last.leads;
           shows = answered new keeps last.reached.link last.shows;
           noted = last.noted;

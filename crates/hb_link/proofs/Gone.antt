@@ -38,7 +38,8 @@ use Rattle.hb_link.specs.declared.tunnel.Tunnel.{Tunnel}
 use Rattle.hb_link.specs.Calls.{Enters}
 use Rattle.hb_link.specs.Going.{counts_down, counted_for, begun_counted}
 use Rattle.hb_link.specs.Noted.{Told}
-use Rattle.hb_link.specs.Reaches.{Reaches, unguarded}
+use Rattle.hb_link.specs.Counting.{uncounted}
+use Rattle.hb_link.specs.Reaches.{Reaches}
 use Rattle.hb_link.specs.Settling.{IsMarked, LookedIn}
 use Rattle.hb_link.specs.Shows.{Shows, ShowsBy}
 use Rattle.hb_link.specs.Tunnels.{phase_of, stage_of, as_told, IsSound, ShowsAt, ShowsTunnel}
@@ -265,7 +266,7 @@ module _ (k : Link) (bytes : List ℕ) where
       → Enters (e.Went k.number bytes) k told (record k { phase = Closing (cause.ConnFault code) }) told
   went_last told code is start before a b stands shows _ step = (
     refl,
-    subst (λ (z : Local). Reaches unguarded k.number z (record k { phase = Closing (cause.ConnFault code) }) told told) (sym step.1)
+    subst (λ (z : Local). Reaches uncounted k.number z (record k { phase = Closing (cause.ConnFault code) }) told told) (sym step.1)
         (record {
           parts = [];
           reached = record a { link = went n a.link };

@@ -42,7 +42,7 @@ use Rattle.hb_link.specs.declared.hearing.Heard.{Heard}
 use Rattle.hb_link.specs.declared.hearing.Heard.TheVariants as heard
 use Rattle.hb_link.specs.declared.link.Link.{Link}
 use Rattle.hb_link.specs.Asking.{named_by}
-use Rattle.hb_link.specs.Counting.{CountsPlaces}
+use Rattle.hb_link.specs.Counting.{CountsPlaces, places}
 use Rattle.hb_link.specs.Looking.{changed_at, came_here, up_ended_here, left_to_look, heard_of, tunnels_heard, goes_on, HasHeard, Looked}
 use Rattle.hb_link.specs.Noted.{Told}
 use Rattle.hb_link.specs.Reaches.{Guard, Follows}
@@ -269,7 +269,7 @@ module _ (k : Link) (c : Connection) (tunnels : Map) (what : Heard) (told : Foun
       let heard_it = subst (λ (v : Heard). Settles others limit H MayLook (HasHeard v) k note (link_with c tunnels k) note) (sym is)
       (subst (λ (t : Map). Settles others limit H MayLook (HasHeard (heard_of k.destination h)) k note (link_with c t k) note)
       (sym changed) first) in
-      settles_then others limit H MayLook (HasHeard what) (Looked more) k (link_with c tunnels k) new note note now heard_it behind
+      settles_then (places others limit) H MayLook (HasHeard what) (Looked more) k (link_with c tunnels k) new note note now heard_it behind
 
   pub look_falls : (more : Bool) (new : Connection) → LeavesLess k.conn c told → more ≡ goes_on what
       → (more ≡ true → left_to_look new ≡ left_to_look c) → more ≡ true → left_to_look new < left_to_look k.conn

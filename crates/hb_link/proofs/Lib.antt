@@ -20,6 +20,7 @@ pub mod Loads
 pub mod Maps
 pub mod Marked
 pub mod Moving
+pub mod NotCounted
 pub mod NotRoused
 pub mod NotShown
 pub mod Noted

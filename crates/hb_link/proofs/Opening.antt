@@ -27,7 +27,8 @@ use Rattle.hb_link.specs.declared.link.Link.{Link}
 use Rattle.hb_link.specs.declared.tunnel.Tunnel.{Tunnel}
 use Rattle.hb_link.specs.Calls.{UpEnters}
 use Rattle.hb_link.specs.Noted.{Told, Takes}
-use Rattle.hb_link.specs.Reaches.{Reaches, unguarded}
+use Rattle.hb_link.specs.Counting.{uncounted}
+use Rattle.hb_link.specs.Reaches.{Reaches}
 use Rattle.hb_link.specs.Shows.{ShowsBy}
 use Rattle.hb_link.specs.Tunnels.{as_told, opened_on, IsSound}
 use Rattle.hb_link.proofs.Coming.{rests_open}
@@ -85,7 +86,7 @@ module _ (k : Link) (s u : ℕ) (told : Told) where
       let made_is = ap₂ (λ (peer : Peer) (to : Target). note.Verdict k.number s 200 peer (Some to)) (sym way.2)
       (sym (ap (λ (v : Machine). v.target) now_is ∙ ap (λ (v : Machine). v.target) found.told)) in (
         refl,
-        subst (λ (w : Local). Reaches unguarded k.number w
+        subst (λ (w : Local). Reaches uncounted k.number w
             (link_with (status_put k.conn s ok) (insert k.tunnels s (opened_on old)) k) told later) (sym step.1)
             (record {
               parts = accepted s made ∷ [];

@@ -39,11 +39,11 @@ use Rattle.hb_inbound.proofs.Waiting.{Serves, speaks}
 use Rattle.hb_link.specs.declared.link.Link.{Link}
 use Rattle.hb_link.specs.declared.tunnel.Stage.TheVariants.{Over}
 use Rattle.hb_link.specs.declared.tunnel.Tunnel.{Tunnel}
-use Rattle.hb_link.specs.Counting.{CountsPlaces}
+use Rattle.hb_link.specs.Counting.{Places, Counts}
 use Rattle.hb_link.specs.Noted.{Told, Takes}
 use Rattle.hb_link.specs.Putting.{count_first, conn_first, may_put, bytes_put, conn_bytes, is_unbegun_on, data_seen, may_finish, end_counted, conn_finished, PutsBelow}
 use Rattle.hb_link.specs.Reaches.{IsInner, Follows}
-use Rattle.hb_link.specs.Settling.{MayPut, LookedIn, Settles}
+use Rattle.hb_link.specs.Settling.{MayPut, LookedIn, SettlesBy}
 use Rattle.hb_link.specs.Shows.{ShowsBy}
 use Rattle.hb_link.specs.Tunnels.{stage_of, tunnel_of, as_told, ShowsAt, ShowsTunnel}
 use Rattle.hb_link.proofs.Living.{serving_waits, shows_live}
@@ -132,13 +132,13 @@ abbrev pub EndPut : Connection → ℕ → Machine → Type 0
 EndPut c s at = BytesPut c s at × (may_end c s at ≡ false)
 
 -- the tunnel on the stream changes, and the connection; or neither does
-module _ (others limit from : ℕ) (k : Link) (s : ℕ) (old : Tunnel) (is : get k.tunnels s ≡ Some old)
+module _ (limits : Option Places) (from : ℕ) (k : Link) (s : ℕ) (old : Tunnel) (is : get k.tunnels s ≡ Some old)
     (Q : Connection → ℕ → Machine → Type 0) (a : Local) (below : PutsBelow from s k a.link) (told : Told) where
   abbrev x : Inbound
   x = a.link
 
   abbrev LeadsTo : Link → Told → Type 0
-  LeadsTo new now = (new.number ≡ k.number) × Follows (CountsPlaces others limit) (PutsAt from Q s) k.number a new told now
+  LeadsTo new now = (new.number ≡ k.number) × Follows (Counts limits) (PutsAt from Q s) k.number a new told now
 
   module _ (knows : Known k x) (new : Tunnel) (c d : Connection) (next : Machine) (tunnels : ℕ → Machine) where
     puts_below : Only s x.tunnels next tunnels → ShowsTunnel (Some new) next → is_unanswered next.stage ≡ false → d ≡ c → IsKept d
@@ -167,7 +167,7 @@ module _ (others limit from : ℕ) (k : Link) (s : ℕ) (old : Tunnel) (is : get
           subst (Rests d j) (sym (only.others j apart)) (rests_still x.conn d j (x.tunnels j) (holds j apart) (below.below j low less));
     }
 
-    one_part : (p : Part) (now : Told) → Takes told (notes (p ∷ [])) now → IsInner p → CountsPlaces others limit a p
+    one_part : (p : Part) (now : Told) → Takes told (notes (p ∷ [])) now → IsInner p → Counts limits a p
         → Steps k.number a p (with_link (machine_with d tunnels x) a) → Only s x.tunnels next tunnels → ShowsTunnel (Some new) next
         → is_unanswered next.stage ≡ false → d ≡ c → IsKept d → IsLookedAt d → ((j : ℕ) → (j == s) ≡ false → Holds x.conn d j)
         → Q d s next → LeadsTo (link_with c (insert k.tunnels s new) k) now
@@ -221,7 +221,7 @@ taken n at = record at { ways = record at.ways { down = after at.ways.down (take
 abbrev taken_here : ℕ → Tunnel → Tunnel
 taken_here n k = record k { ways = record k.ways { down = after k.ways.down (takes n) } }
 
-module _ (others limit from : ℕ) (k : Link) (s : ℕ) (old : Tunnel) (is : get k.tunnels s ≡ Some old)
+module _ (limits : Option Places) (from : ℕ) (k : Link) (s : ℕ) (old : Tunnel) (is : get k.tunnels s ≡ Some old)
     (stage : stage_of old.stage ≡ t.live) where
   abbrev lives_at : (x : Inbound) → PutsBelow from s k x → IsAlive old (x.tunnels s)
   lives_at x below = alive (get k.tunnels s) old (x.tunnels s) is stage (below.may.agrees.tunnels s)
@@ -282,12 +282,12 @@ module _ (others limit from : ℕ) (k : Link) (s : ℕ) (old : Tunnel) (is : get
     abbrev BytesTo : Connection → ℕ → Type 0
     BytesTo c n =
         (k.number ≡ k.number)
-        × Follows (CountsPlaces others limit) (PutsAt from BytesPut s) k.number a (link_with c (insert k.tunnels s (taken_here n old)) k)
+        × Follows (Counts limits) (PutsAt from BytesPut s) k.number a (link_with c (insert k.tunnels s (taken_here n old)) k)
         told told
 
     bytes_none : (c : Connection) (n : ℕ) → n ≡ 0 → c ≡ k.conn → BytesPut a.link.conn s at → BytesTo c n
     bytes_none c n none conn here =
-        no_part others limit from k s old is BytesPut a below told (taken_here n old) c (ap (λ (i : ℕ). taken_here i old) none) conn here
+        no_part limits from k s old is BytesPut a below told (taken_here n old) c (ap (λ (i : ℕ). taken_here i old) none) conn here
 
     bytes_some : 0 < count_put k.conn s held_here → BytesTo (data_put k.conn s held_here) (count_put k.conn s held_here)
     bytes_some some =
@@ -297,7 +297,7 @@ module _ (others limit from : ℕ) (k : Link) (s : ℕ) (old : Tunnel) (is : get
         let d = data_put a.link.conn s at.ways.down.held in
         let next_told : as_told next ≡ tunnel_of (taken_here (count_put k.conn s held_here) old) =
         ap (λ (i : ℕ). taken i (as_told at)) count_is ∙ ap (taken (count_put k.conn s held_here)) lives.told in
-        one_part others limit from k s old is BytesPut a below told knows (taken_here (count_put k.conn s held_here) old)
+        one_part limits from k s old is BytesPut a below told knows (taken_here (count_put k.conn s held_here) old)
         (data_put k.conn s held_here) d next
         (with_tunnel s next d a.link).tunnels (part.put s at.ways.down.held) told (takes_none told) tt tt
         (is_live_on a.link below, refl, some_here, refl) (only_one s (λ old. next) a.link)
@@ -319,7 +319,7 @@ module _ (others limit from : ℕ) (k : Link) (s : ℕ) (old : Tunnel) (is : get
     bytes_by false shut = bytes_none k.conn 0 refl refl (none_shut a.link below knows shut)
 
   pub bytes_settles : (told : Told)
-      → Settles others limit (λ held. ⊤) (PutsBelow from s) (PutsAt from BytesPut s) k told
+      → SettlesBy limits (λ held. ⊤) (PutsBelow from s) (PutsAt from BytesPut s) k told
       (link_with (conn_bytes k.conn s old) (insert k.tunnels s (bytes_put k.conn s old)) k) told
   bytes_settles told start before a stands holds below =
       bytes_by a below (known start before a k stands below.may below.serves) told (may_put k.conn s) refl
@@ -350,13 +350,13 @@ module _ (others limit from : ℕ) (k : Link) (s : ℕ) (old : Tunnel) (is : get
     abbrev EndTo : Connection → Tunnel → Type 0
     EndTo c new =
         (k.number ≡ k.number)
-        × Follows (CountsPlaces others limit) (PutsAt from EndPut s) k.number a (link_with c (insert k.tunnels s new) k) told told
+        × Follows (Counts limits) (PutsAt from EndPut s) k.number a (link_with c (insert k.tunnels s new) k) told told
 
     end_some : may_finish k.conn s old ≡ true → EndTo (end_put k.conn s) (record old { end_put = true })
     end_some may =
         let next : Machine = record ending { end_put = true } in
         let d = end_put a.link.conn s in
-        one_part others limit from k s old is EndPut a below told knows (record old { end_put = true }) (end_put k.conn s) d next
+        one_part limits from k s old is EndPut a below told knows (record old { end_put = true }) (end_put k.conn s) d next
         (with_tunnel s next d a.link).tunnels (part.finished s) told (takes_none told) tt tt
         (is_live_on a.link below, may_is ∙ may, refl) (only_one s (λ old. next) a.link)
         (shows_live old (record old { end_put = true }) next stage ending_lives.has_up refl refl
@@ -373,10 +373,10 @@ module _ (others limit from : ℕ) (k : Link) (s : ℕ) (old : Tunnel) (is : get
     end_by : (b : Bool) → may_finish k.conn s old ≡ b
         → EndTo (cond b (end_put k.conn s) k.conn) (cond b (record old { end_put = true }) old)
     end_by true may = end_some may
-    end_by false never = no_part others limit from k s old is EndPut a below told old k.conn refl refl (none, may_is ∙ never)
+    end_by false never = no_part limits from k s old is EndPut a below told old k.conn refl refl (none, may_is ∙ never)
 
   pub end_settles : (told : Told)
-      → Settles others limit (λ held. ⊤) (PutsAt from BytesPut s) (PutsAt from EndPut s) k told
+      → SettlesBy limits (λ held. ⊤) (PutsAt from BytesPut s) (PutsAt from EndPut s) k told
       (link_with (conn_finished k.conn s old) (insert k.tunnels s (end_counted k.conn s old)) k) told
   end_settles told start before a stands holds at =
       end_by a at.before (known start before a k stands at.before.may at.before.serves) told at.here (may_finish k.conn s old) refl
@@ -399,7 +399,7 @@ module _ (others limit from : ℕ) (k : Link) (s : ℕ) (old : Tunnel) (is : get
 
   pub done_settles : (told later : Told) → Takes told (note.End k.number s cause.Done old.went_up old.went_down ∷ []) later
       → is_done_on k.conn s (tunnel_of old) ≡ true
-      → Settles others limit (λ held. ⊤) (PutsAt from EndPut s) (PutsAt from Rests s) k told
+      → SettlesBy limits (λ held. ⊤) (PutsAt from EndPut s) (PutsAt from Rests s) k told
       (link_with k.conn (insert k.tunnels s over_here) k) later
   done_settles told later took all_done start before a stands holds at =
       let lives = lives_at a.link at.before in
@@ -413,7 +413,7 @@ module _ (others limit from : ℕ) (k : Link) (s : ℕ) (old : Tunnel) (is : get
       let made_is : made ≡ end_note k.number s cause.Done now =
       sym (ap₂ (λ (i j : ℕ). note.End k.number s cause.Done i j) (ap (λ (y : Machine). y.went_up) lives.told)
       (ap (λ (y : Machine). y.went_down) lives.told)) in
-      one_part others limit from k s old is Rests a at.before told knows over_here k.conn a.link.conn (left_with cause.Done now)
+      one_part limits from k s old is Rests a at.before told knows over_here k.conn a.link.conn (left_with cause.Done now)
       last.tunnels (part.done s made) later took tt tt (
         is_live_on a.link at.before,
         ap₂ (λ (c : Connection) (y : Machine). is_done_on c s y) knows.way.0 lives.told ∙ all_done,

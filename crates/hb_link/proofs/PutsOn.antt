@@ -15,6 +15,7 @@ use Rattle.hb_inbound.specs.Inbound as m
 use Rattle.hb_inbound.specs.Inbound.{Inbound}
 use Rattle.hb_inbound.specs.Tunnel as t
 use Rattle.hb_inbound.specs.Tunnel.{Tunnel as Machine, is_live}
+use Rattle.hb_link.specs.Counting.{Places}
 use Rattle.hb_link.specs.declared.link.Link.{Link}
 use Rattle.hb_link.specs.declared.phase.Phase.{Phase}
 use Rattle.hb_link.specs.declared.phase.Phase.TheVariants.{Fronting, Serving, Faulted, Closing, Closed}
@@ -24,7 +25,7 @@ use Rattle.hb_link.specs.declared.tunnel.Tunnel.{Tunnel}
 use Rattle.hb_link.specs.Noted.{Told, Takes}
 use Rattle.hb_link.specs.Observed.{serves_in}
 use Rattle.hb_link.specs.Putting.{bytes_put, conn_bytes, end_counted, conn_finished, may_finish, lives_in, PutsBelow}
-use Rattle.hb_link.specs.Settling.{MayPut, LookedIn, AlwaysSettles, Settles}
+use Rattle.hb_link.specs.Settling.{MayPut, LookedIn, AlwaysSettles, SettlesBy}
 use Rattle.hb_link.specs.Shows.{Shows}
 use Rattle.hb_link.specs.Tunnels.{phase_of, stage_of, tunnel_of, ShowsAt, ShowsTunnel}
 use Rattle.hb_link.proofs.Loads.{place_of, none_between}
@@ -110,23 +111,23 @@ module _ (from : ℕ) (k : Link) (s : ℕ) (old : Tunnel) (told : Told) (is : ge
       by true = live
       by false = live
 
-  both_settle : (others limit : ℕ) → Settles others limit (λ held. ⊤) (PutsBelow from s) (PutsAt from EndPut s) k told link_two told
-  both_settle others limit =
-      settles_then others limit (λ held. ⊤) (PutsBelow from s) (PutsAt from BytesPut s) (PutsAt from EndPut s) k link_one link_two told told
+  both_settle : (limits : Option Places) → SettlesBy limits (λ held. ⊤) (PutsBelow from s) (PutsAt from EndPut s) k told link_two told
+  both_settle limits =
+      settles_then limits (λ held. ⊤) (PutsBelow from s) (PutsAt from BytesPut s) (PutsAt from EndPut s) k link_one link_two told told
       told
-      (bytes_settles others limit from k s old is live told)
-      (subst (λ (tunnels : Map). Settles others limit (λ held. ⊤) (PutsAt from BytesPut s) (PutsAt from EndPut s) link_one told
+      (bytes_settles limits from k s old is live told)
+      (subst (λ (tunnels : Map). SettlesBy limits (λ held. ⊤) (PutsAt from BytesPut s) (PutsAt from EndPut s) link_one told
       (link_with conn_two tunnels k) told) (put_twice k.tunnels s two one)
-      (end_settles others limit from link_one s one (put_here k.tunnels s one) live told))
+      (end_settles limits from link_one s one (put_here k.tunnels s one) live told))
 
   pub some_on : is_done_on conn_two s (tunnel_of two) ≡ false
       → AlwaysSettles (PutsBelow from s) (PutsBelow from (s + 1)) k told link_two told
-  some_on open_still others limit =
-      settles_then others limit (λ held. ⊤) (PutsBelow from s) (PutsAt from EndPut s) (PutsBelow from (s + 1)) k link_two link_two told told
+  some_on open_still limits =
+      settles_then limits (λ held. ⊤) (PutsBelow from s) (PutsAt from EndPut s) (PutsBelow from (s + 1)) k link_two link_two told told
       told
-      (both_settle others limit)
-      (stays others limit (λ held. ⊤) (PutsAt from EndPut s) (PutsBelow from (s + 1)) link_two told
-      (rests_on others limit from link_two s two (put_here k.tunnels s two) live_two open_still))
+      (both_settle limits)
+      (stays limits (λ held. ⊤) (PutsAt from EndPut s) (PutsBelow from (s + 1)) link_two told
+      (rests_on limits from link_two s two (put_here k.tunnels s two) live_two open_still))
 
   abbrev last : Tunnel
   last = record two { stage = Over cause.Done }
@@ -136,16 +137,16 @@ module _ (from : ℕ) (k : Link) (s : ℕ) (old : Tunnel) (told : Told) (is : ge
 
   pub last_on : (now : Told) → Takes told (note.End k.number s cause.Done two.went_up two.went_down ∷ []) now
       → is_done_on conn_two s (tunnel_of two) ≡ true → AlwaysSettles (PutsBelow from s) (PutsBelow from (s + 1)) k told link_last now
-  last_on now took all_done others limit =
-      settles_then others limit (λ held. ⊤) (PutsBelow from s) (PutsAt from Rests s) (PutsBelow from (s + 1)) k link_last link_last told now
+  last_on now took all_done limits =
+      settles_then limits (λ held. ⊤) (PutsBelow from s) (PutsAt from Rests s) (PutsBelow from (s + 1)) k link_last link_last told now
       now
-      (settles_then others limit (λ held. ⊤) (PutsBelow from s) (PutsAt from EndPut s) (PutsAt from Rests s) k link_two link_last told told
+      (settles_then limits (λ held. ⊤) (PutsBelow from s) (PutsAt from EndPut s) (PutsAt from Rests s) k link_two link_last told told
       now
-      (both_settle others limit)
-      (subst (λ (tunnels : Map). Settles others limit (λ held. ⊤) (PutsAt from EndPut s) (PutsAt from Rests s) link_two told
+      (both_settle limits)
+      (subst (λ (tunnels : Map). SettlesBy limits (λ held. ⊤) (PutsAt from EndPut s) (PutsAt from Rests s) link_two told
       (link_with conn_two tunnels k) now) (put_twice k.tunnels s last two)
-      (done_settles others limit from link_two s two (put_here k.tunnels s two) live_two told now took all_done)))
-      (stays others limit (λ held. ⊤) (PutsAt from Rests s) (PutsBelow from (s + 1)) link_last now
+      (done_settles limits from link_two s two (put_here k.tunnels s two) live_two told now took all_done)))
+      (stays limits (λ held. ⊤) (PutsAt from Rests s) (PutsBelow from (s + 1)) link_last now
       (λ x at. rests_below from s link_last x at.before at.here))
 
 -- ALL TUNNELS
@@ -208,11 +209,11 @@ module _ (k : Link) where
   -- what may be put of one stream, where it is known of none
   pub puts_somewhere : (s : ℕ) (n : Link) (told now : Told) → AlwaysSettles (PutsBelow s s) (PutsBelow s (s + 1)) k told n now
       → AlwaysSettles (PutsBelow 0 0) (PutsBelow 0 0) k told n now
-  puts_somewhere s n told now one others limit =
-      settles_then others limit (λ held. ⊤) (PutsBelow 0 0) (PutsBelow s s) (PutsBelow 0 0) k k n told told now
-      (stays others limit (λ held. ⊤) (PutsBelow 0 0) (PutsBelow s s) k told (anew 0 0 s))
-      (settles_then others limit (λ held. ⊤) (PutsBelow s s) (PutsBelow s (s + 1)) (PutsBelow 0 0) k n n told now now (one others limit)
-      (stays others limit (λ held. ⊤) (PutsBelow s (s + 1)) (PutsBelow 0 0) n now (λ x below. record {
+  puts_somewhere s n told now one limits =
+      settles_then limits (λ held. ⊤) (PutsBelow 0 0) (PutsBelow s s) (PutsBelow 0 0) k k n told told now
+      (stays limits (λ held. ⊤) (PutsBelow 0 0) (PutsBelow s s) k told (anew 0 0 s))
+      (settles_then limits (λ held. ⊤) (PutsBelow s s) (PutsBelow s (s + 1)) (PutsBelow 0 0) k n n told now now (one limits)
+      (stays limits (λ held. ⊤) (PutsBelow s (s + 1)) (PutsBelow 0 0) n now (λ x below. record {
         may = below.may;
         serves = below.serves;
         below = λ j low less. absurd (omega (arith, low, less));

@@ -1,5 +1,5 @@
 -- Links on which something is still to happen by itself.
-use Rattle.std.proofs.Common.{◌≡◌, ℕ, List, [], ◌∷◌, ◌++◌, refl, ap, sym, ◌∙◌, subst}
+use Rattle.std.proofs.Common.{◌≡◌, ℕ, List, [], ◌∷◌, ◌++◌, Option, None, refl, ap, sym, ◌∙◌, subst}
 use Rattle.std.proofs.lemmas.List.{append_assoc, append-nil}
 use Rattle.hb_conn.specs.Observed.{IsLookedAt}
 use Rattle.hb_front.specs.Reading.{IsAnswer, More}
@@ -11,10 +11,10 @@ use Rattle.hb_inbound.specs.Part as part
 use Rattle.hb_inbound.specs.Part.{Part}
 use Rattle.hb_inbound.specs.Runs.{Local, Steps, StandsFor, goes_on}
 use Rattle.hb_link.specs.declared.link.Link.{Link}
-use Rattle.hb_link.specs.Counting.{CountsPlaces}
+use Rattle.hb_link.specs.Counting.{Places, Counts, uncounted}
 use Rattle.hb_link.specs.Noted.{Told}
-use Rattle.hb_link.specs.Reaches.{Guard, IsInner, Leads, Meets, unguarded}
-use Rattle.hb_link.specs.Settling.{Agrees, IsMarked, GotAll, MayPut, LookedIn, Settles, AlwaysSettles, KeepsCame}
+use Rattle.hb_link.specs.Reaches.{Guard, IsInner, Leads, Meets}
+use Rattle.hb_link.specs.Settling.{Agrees, IsMarked, GotAll, MayPut, LookedIn, SettlesBy, AlwaysSettles, KeepsCame}
 use Rattle.hb_link.specs.Shows.{Shows, ShowsBy}
 use Rattle.hb_link.specs.Tunnels.{phase_of}
 use Rattle.hb_link.proofs.Noted.{takes_none, parts_then}
@@ -38,10 +38,6 @@ pub leads_append : (G : Guard) (l : ℕ) (a b c : Local) (first more : List Part
 leads_append G l a b c [] more is behind = subst (λ (w : Local). Leads G l w more c) is behind
 leads_append G l a b c (p ∷ first) more is behind =
     (is.0, is.1, is.2, is.3, leads_append G l is.2 b c first more is.4 behind)
-
-pub unguard : (G : Guard) (l : ℕ) (a b : Local) (parts : List Part) → Leads G l a parts b → Leads unguarded l a parts b
-unguard G l a b [] is = is
-unguard G l a b (p ∷ parts) is = (is.0, tt, is.2, is.3, unguard G l is.2 b parts is.4)
 
 pub stands_behind : (G : Guard) (l : ℕ) (start : Resources) (a b : Local) (before parts : List Part) → StandsFor l start a before
     → Leads G l a parts b → StandsFor l start b (before ++ parts)
@@ -79,18 +75,18 @@ leads_hold G l a b [] is = ap (λ (w : Local). w.held) is
 leads_hold G l a b (p ∷ parts) is = leads_hold G l is.2 b parts is.4 ∙ step_holds l a p is.2 is.0 is.3
 
 -- nothing follows, where the one condition gives the other; and what follows in two parts
-pub stays : (others limit : ℕ) (H : Resources → Type 0) (P Q : Link → Inbound → Type 0) (k : Link) (told : Told)
-    → ((x : Inbound) → P k x → Q k x) → Settles others limit H P Q k told k told
-stays others limit H P Q k told gives start before a stands holds is = (
+pub stays : (limits : Option Places) (H : Resources → Type 0) (P Q : Link → Inbound → Type 0) (k : Link) (told : Told)
+    → ((x : Inbound) → P k x → Q k x) → SettlesBy limits H P Q k told k told
+stays limits H P Q k told gives start before a stands holds is = (
   refl,
   record { parts = []; reached = a; leads = refl; shows = gives a.link is; noted = takes_none told },
 )
 
-pub settles_then : (others limit : ℕ) (H : Resources → Type 0) (P Q R : Link → Inbound → Type 0) (k m n : Link)
-    (told mid now : Told) → Settles others limit H P Q k told m mid → Settles others limit H Q R m mid n now
-    → Settles others limit H P R k told n now
-settles_then others limit H P Q R k m n told mid now first behind start before a stands holds is =
-    let G = CountsPlaces others limit in
+pub settles_then : (limits : Option Places) (H : Resources → Type 0) (P Q R : Link → Inbound → Type 0) (k m n : Link)
+    (told mid now : Told) → SettlesBy limits H P Q k told m mid → SettlesBy limits H Q R m mid n now
+    → SettlesBy limits H P R k told n now
+settles_then limits H P Q R k m n told mid now first behind start before a stands holds is =
+    let G = Counts limits in
     let one = first start before a stands holds is in
     let step = one.1 in
     let then_stands = subst (λ (i : ℕ). StandsFor i start step.reached (before ++ step.parts)) (sym one.0)
@@ -113,18 +109,17 @@ settles_then others limit H P Q R k m n told mid now first behind start before a
 pub meets_settled : (P : Local → Type 0) (p : Part) (old mid new : Link) (told now : Told)
     → ((start : Resources) (before : List Part) (a b : Local) → StandsFor old.number start a before → Shows old a.link → P a
     → Steps old.number a p b → (mid.number ≡ old.number) × IsMarked mid b.link) → AlwaysSettles IsMarked Shows mid told new now
-    → Meets unguarded P p old told new now
+    → Meets uncounted P p old told new now
 meets_settled P p old mid new told now marks settles start before a b stands shows holds step =
     let one = marks start before a b stands shows holds step in
     let then_stands = subst (λ (i : ℕ). StandsFor i start b (before ++ p ∷ [])) (sym one.0) (goes_on stands p step refl) in
-    let two = settles 0 0 start (before ++ p ∷ []) b then_stands tt one.1 in
+    let two = settles None start (before ++ p ∷ []) b then_stands tt one.1 in
     let last = two.1 in (
       two.0 ∙ one.0,
       record {
         parts = last.parts;
         reached = last.reached;
-        leads = subst (λ (i : ℕ). Leads unguarded i b last.parts last.reached) one.0
-            (unguard (CountsPlaces 0 0) mid.number b last.reached last.parts last.leads);
+        leads = subst (λ (i : ℕ). Leads uncounted i b last.parts last.reached) one.0 last.leads;
         shows = last.shows;
         noted = last.noted;
       },
@@ -150,8 +145,8 @@ module _ (k n : Link) (keeps : KeepsCame k n) (x y : Inbound) where
 
 pub marked_settles : (k n : Link) (told now : Told) → AlwaysSettles Agrees GotAll k told n now → KeepsCame k n
     → AlwaysSettles IsMarked MayPut k told n now
-marked_settles k n told now settles keeps others limit start before a stands holds marked =
-    let got = settles others limit start before a stands holds marked.agrees in
+marked_settles k n told now settles keeps limits start before a stands holds marked =
+    let got = settles limits start before a stands holds marked.agrees in
     let last = got.1 in (
       got.0,
       record {

@@ -1,10 +1,11 @@
 -- What is shown of a link is the same whatever is roused.
-use Rattle.std.proofs.Common.{◌≡◌, ℕ, refl}
+use Rattle.std.proofs.Common.{◌≡◌, ℕ, Option, refl}
 use Rattle.hb_held.specs.Held.{Resources}
 use Rattle.hb_inbound.specs.Inbound as m
 use Rattle.hb_inbound.specs.Inbound.{Inbound}
 use Rattle.hb_inbound.specs.Part.{Part}
 use Rattle.hb_inbound.specs.Runs.{Local}
+use Rattle.hb_link.specs.Counting.{Places}
 use Rattle.hb_link.specs.declared.link.Link.{Link}
 use Rattle.hb_link.specs.declared.phase.Phase.{Phase}
 use Rattle.hb_link.specs.declared.phase.Phase.TheVariants.{Fronting, Serving, Faulted, Closing, Closed}
@@ -14,7 +15,7 @@ use Rattle.hb_link.specs.Noted.{Told}
 use Rattle.hb_link.specs.Observed.{wants_in, wants_on, output_in, output_on, last_in, says_last}
 use Rattle.hb_link.specs.Putting.{PutsBelow}
 use Rattle.hb_link.specs.Reaches.{Guard, Meets}
-use Rattle.hb_link.specs.Settling.{Agrees, MayPut, MayLook, Settles}
+use Rattle.hb_link.specs.Settling.{Agrees, MayPut, MayLook, SettlesBy}
 use Rattle.hb_link.specs.Shows.{Shows, ShowsBy}
 use Rattle.hb_link.proofs.Settles.{agrees, shows_calm}
 
@@ -79,10 +80,10 @@ module _ (k : Link) (r : Roused) where
   places_still = refl
 
 -- so it is of a call
-pub settles_still : (others limit : ℕ) (H : Resources → Type 0) (P Q : Link → Inbound → Type 0) (k n : Link) (r : Roused) (told now : Told)
-    → ((x : Inbound) → Q n x → Q (record n { roused = r }) x) → Settles others limit H P Q k told n now
-    → Settles others limit H P Q k told (record n { roused = r }) now
-settles_still others limit H P Q k n r told now still settles start before a stands holds is =
+pub settles_still : (limits : Option Places) (H : Resources → Type 0) (P Q : Link → Inbound → Type 0) (k n : Link) (r : Roused) (told now : Told)
+    → ((x : Inbound) → Q n x → Q (record n { roused = r }) x) → SettlesBy limits H P Q k told n now
+    → SettlesBy limits H P Q k told (record n { roused = r }) now
+settles_still limits H P Q k n r told now still settles start before a stands holds is =
     let done = settles start before a stands holds is in (
       done.0,
       record {

@@ -39,15 +39,15 @@ came_then k m n first behind = record {
 pub gives_then : (P Q R : Link → Inbound → Type 0) (k m n : Link) (told mid now : Told) → Gives P Q k told m mid
     → Gives Q R m mid n now → Gives P R k told n now
 gives_then P Q R k m n told mid now first behind = record {
-  settles = λ others limit.
-      settles_then others limit (λ held. ⊤) P Q R k m n told mid now (first.settles others limit) (behind.settles others limit);
+  settles = λ limits.
+      settles_then limits (λ held. ⊤) P Q R k m n told mid now (first.settles limits) (behind.settles limits);
   came = came_then k m n first.came behind.came;
 }
 
 -- nothing is done where the one condition gives the other
 pub gives_same : (P Q : Link → Inbound → Type 0) (k : Link) (told : Told) → ((x : Inbound) → P k x → Q k x) → Gives P Q k told k told
 gives_same P Q k told gives = record {
-  settles = λ others limit. stays others limit (λ held. ⊤) P Q k told gives;
+  settles = λ limits. stays limits (λ held. ⊤) P Q k told gives;
   came = record { link = refl; came = refl; rouses = rouses_same k k refl refl };
 }
 
@@ -136,10 +136,10 @@ module _ (k : Link) (s : ℕ) (told : Told) where
         subst (λ (tunnels : Map). Gives (GotFailed (Some s)) (GotFailed (Some (s + 1))) k told
         (link_with (refused_on s n (sides k.conn s).peer k.conn) tunnels k) now) (sym left_is)
         (record {
-          settles = λ others limit start before a stands _ got.
+          settles = λ limits start before a stands _ got.
               let telling = told_failed k a.link got.agrees s old is why stage in (
                 refl,
-                failed_put others limit a k s old is why told got.agrees telling
+                failed_put limits a k s old is why told got.agrees telling
                     (ap (λ (z : t.Tunnel). z.stage) telling ∙ ap stage_of stage) got.failed n due now took,
               );
           came = record {
@@ -155,10 +155,10 @@ module _ (k : Link) (s : ℕ) (told : Told) where
         subst (λ (tunnels : Map). Gives (GotFailed (Some s)) (GotFailed (Some (s + 1))) k told (link_with k.conn tunnels k) told)
         (sym left_is)
         (record {
-          settles = λ others limit start before a stands _ got.
+          settles = λ limits start before a stands _ got.
               let telling = told_failed k a.link got.agrees s old is why stage in (
                 refl,
-                failed_left others limit a k s old is why told got.agrees telling
+                failed_left limits a k s old is why told got.agrees telling
                     (ap (λ (z : t.Tunnel). z.stage) telling ∙ ap stage_of stage) got.failed due,
               );
           came = record { link = refl; came = refl; rouses = rouses_none k _ refl (left_quiet old why k.tunnels s) };
@@ -209,10 +209,10 @@ module _ (k : Link) (s : ℕ) (told : Told) where
         subst (λ (tunnels : Map). Gives (GotEnded (Some s)) (GotEnded (Some (s + 1))) k told
         (link_with (aborted k.conn s n) tunnels k) now) (sym ended_is)
         (record {
-          settles = λ others limit start before a stands _ got.
+          settles = λ limits start before a stands _ got.
               let telling = told_ended k a.link got.agrees s old is why stage in (
                 refl,
-                ended_put others limit a k s old is why told got.agrees telling
+                ended_put limits a k s old is why told got.agrees telling
                     (ap (λ (z : t.Tunnel). z.stage) telling ∙ ap stage_of stage) got.failed got.ended n due now took,
               );
           came = record { link = refl; came = refl; rouses = rouses_none k _ refl (left_quiet old why k.tunnels s) };
@@ -224,10 +224,10 @@ module _ (k : Link) (s : ℕ) (told : Told) where
         subst (λ (tunnels : Map). Gives (GotEnded (Some s)) (GotEnded (Some (s + 1))) k told (link_with k.conn tunnels k) now)
         (sym ended_is)
         (record {
-          settles = λ others limit start before a stands _ got.
+          settles = λ limits start before a stands _ got.
               let telling = told_ended k a.link got.agrees s old is why stage in (
                 refl,
-                ended_left others limit a k s old is why told got.agrees telling
+                ended_left limits a k s old is why told got.agrees telling
                     (ap (λ (z : t.Tunnel). z.stage) telling ∙ ap stage_of stage) got.failed got.ended due now took,
               );
           came = record { link = refl; came = refl; rouses = rouses_none k _ refl (left_quiet old why k.tunnels s) };

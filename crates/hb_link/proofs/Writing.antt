@@ -20,7 +20,8 @@ use Rattle.hb_link.specs.declared.tunnel.Stage.TheVariants.{Over}
 use Rattle.hb_link.specs.declared.tunnel.Tunnel.{Tunnel}
 use Rattle.hb_link.specs.Calls.{UpEnters}
 use Rattle.hb_link.specs.Noted.{Told, Takes}
-use Rattle.hb_link.specs.Reaches.{Reaches, unguarded}
+use Rattle.hb_link.specs.Counting.{uncounted}
+use Rattle.hb_link.specs.Reaches.{Reaches}
 use Rattle.hb_link.specs.Shows.{Shows}
 use Rattle.hb_link.specs.Tunnels.{tunnel_of, as_told, ShowsTunnel}
 use Rattle.hb_link.proofs.Living.{Lives, lives, shows_live}
@@ -147,7 +148,7 @@ module _ (a : Local) (k : Link) (shows : Shows k a.link) (s u : ℕ) (bytes : Li
       })
 
   wrote_on : (told : Told) → done_now ≡ false
-      → Reaches unguarded k.number (with_link y a) (link_with c (insert k.tunnels s (wrote_here n old)) k) told told
+      → Reaches uncounted k.number (with_link y a) (link_with c (insert k.tunnels s (wrote_here n old)) k) told told
   wrote_on told open_still = record {
     parts = credits s given ∷ [];
     reached = with_link first a;
@@ -178,7 +179,7 @@ module _ (a : Local) (k : Link) (shows : Shows k a.link) (s u : ℕ) (bytes : Li
 
   wrote_last : (told later : Told) → Takes told (note.End k.number s cause.Done (wrote_here n old).went_up old.went_down ∷ []) later
       → done_now ≡ true
-      → Reaches unguarded k.number (with_link y a) (link_with c (insert k.tunnels s (over_at n old)) k) told later
+      → Reaches uncounted k.number (with_link y a) (link_with c (insert k.tunnels s (over_at n old)) k) told later
   wrote_last told later took all_done =
       let last = at_stream s (left_with cause.Done) first in
       record {
@@ -225,7 +226,7 @@ module _ (k : Link) (s : ℕ) (old : Tunnel) (told : Told) (is : get k.tunnels s
   wrote_some open_still start before a b stands shows _ step =
       let l = lives start before a k s old stands shows is step.0.0.1 in (
         refl,
-        subst (λ (z : Local). Reaches unguarded k.number z
+        subst (λ (z : Local). Reaches uncounted k.number z
             (link_with (credit_back s size k.conn) (insert k.tunnels s (wrote_here size old)) k) told told) (sym step.1)
             (wrote_on a k shows s u bytes old l step.0 told (done_is a k shows s u bytes old l step.0 ∙ open_still)),
       )
@@ -236,7 +237,7 @@ module _ (k : Link) (s : ℕ) (old : Tunnel) (told : Told) (is : get k.tunnels s
   wrote_all later took all_done start before a b stands shows _ step =
       let l = lives start before a k s old stands shows is step.0.0.1 in (
         refl,
-        subst (λ (z : Local). Reaches unguarded k.number z
+        subst (λ (z : Local). Reaches uncounted k.number z
             (link_with (credit_back s size k.conn) (insert k.tunnels s (over_at size old)) k) told later)
             (sym step.1)
             (wrote_last a k shows s u bytes old l step.0 told later took (done_is a k shows s u bytes old l step.0 ∙ all_done)),

@@ -45,7 +45,7 @@ due_to target end = record {
 -- whether all places are taken, on each machine that has the link's tunnels
 abbrev pub FindsFull : (others limit : ℕ) → Link → Bool → Type 0
 FindsFull others limit k full =
-    (x : Inbound) → ShowsTunnels k x → (n : ℕ) → HasLoad x n → full ≡ nat_le limit (others + n)
+    (x : Inbound) → ShowsTunnels k x → (n : ℕ) × HasLoad x n × (full ≡ nat_le limit (others + n))
 
 -- a status has three digits
 abbrev pub IsAnswerable : Request → Type 0

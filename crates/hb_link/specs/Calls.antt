@@ -12,25 +12,25 @@ use Rattle.hb_inbound.specs.Inbound.{Inbound, faulted}
 use Rattle.hb_inbound.specs.Part.{Part, entry, up, crowded, applied, stopped}
 use Rattle.hb_inbound.specs.Runs.{Local, Steps, StandsFor}
 use Rattle.hb_link.specs.declared.link.Link.{Link}
-use Rattle.hb_link.specs.Counting.{CountsPlaces}
+use Rattle.hb_link.specs.Counting.{CountsPlaces, uncounted, taking_in}
 use Rattle.hb_link.specs.Load.{HasLoad}
 use Rattle.hb_link.specs.Noted.{Told}
 use Rattle.hb_link.specs.Observed.{up_wants_by, up_held_by}
-use Rattle.hb_link.specs.Reaches.{Reaches, Meets, unguarded}
+use Rattle.hb_link.specs.Reaches.{Reaches, Meets}
 use Rattle.hb_link.specs.Shows.{Shows, ShowsTunnels}
 
 -- ENTRIES
 
 -- an entry of the upstream of a stream
 abbrev pub UpEnters : ℕ → Entry → Link → Told → Link → Told → Type 0
-UpEnters s x old told new now = Meets unguarded (λ a. ⊤) (up s x) old told new now
+UpEnters s x old told new now = Meets uncounted (λ a. ⊤) (up s x) old told new now
 
 -- one of the link, and the end of the run
 abbrev pub Enters : Entry → Link → Told → Link → Told → Type 0
-Enters x old told new now = Meets unguarded (λ a. ⊤) (entry x) old told new now
+Enters x old told new now = Meets uncounted (λ a. ⊤) (entry x) old told new now
 
 abbrev pub Stops : Cause → Link → Told → Link → Told → Type 0
-Stops cause old told new now = Meets unguarded (λ a. ⊤) (stopped cause) old told new now
+Stops cause old told new now = Meets uncounted (λ a. ⊤) (stopped cause) old told new now
 
 -- some bytes of so many went
 abbrev pub Goes : ℕ → Link → Told → Link → Told → Type 0
@@ -47,12 +47,12 @@ Takes held others limit bytes old told new now =
 -- a response made this of what was held
 abbrev pub Updates : Resources → Link → Told → Link → Told → Type 0
 Updates held old told new now =
-    (r : Response) → Meets unguarded (λ a. held ≡ after_response a.held r) (applied r) old told new now
+    (r : Response) → Meets uncounted (λ a. held ≡ after_response a.held r) (applied r) old told new now
 
 -- a link is born, and makes no note
 abbrev pub Begins : ℕ → Link → Type 0
 Begins l k = (start : Resources) (before : List Part) (a b : Local) → StandsFor l start a before
-    → Steps l a (entry (e.Accepted l door.Inbound)) b → Reaches unguarded l b k (Some []) (Some [])
+    → Steps l a (entry (e.Accepted l door.Inbound)) b → Reaches taking_in l b k (Some []) (Some [])
 
 -- a link is born where as many are open as may be: it is turned away
 abbrev pub TurnsAway : ℕ → Link → Type 0

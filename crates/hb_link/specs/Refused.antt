@@ -1,5 +1,5 @@
 -- Links that code may not show, and what may not follow by itself, nor may be left untold; a new link may be shown.
-use Rattle.std.specs.Prelude.{◌≡◌, ◌≢◌, ℕ, ◌<◌, true, false, List, [], ◌∷◌, ◌++◌, Some, None}
+use Rattle.std.specs.Prelude.{◌≡◌, ◌≢◌, ℕ, ◌<◌, Bool, true, false, List, [], ◌∷◌, ◌++◌, Some, None}
 use Rattle.std.specs.FinMap.{get, empty}
 use Rattle.hb_base.specs.declared.cause.Cause.{Cause}
 use Rattle.hb_base.specs.declared.note.Note.{Note}
@@ -8,15 +8,19 @@ use Rattle.hb_conn.specs.Connection.{fresh_server}
 use Rattle.hb_conn.specs.Observed.{count_put}
 use Rattle.hb_inbound.specs.Inbound as m
 use Rattle.hb_inbound.specs.Inbound.{Inbound, no_link, with_phase}
+use Rattle.hb_inbound.specs.Part.{Part, welcomed, decided}
 use Rattle.hb_inbound.specs.Runs.{Local}
 use Rattle.hb_inbound.specs.Tunnel as t
+use Rattle.hb_verdict.specs.declared.verdict.Verdict.{Verdict}
 use Rattle.hb_link.specs.declared.link.Link.{Link}
 use Rattle.hb_link.specs.declared.phase.Phase.TheVariants.{Fronting}
 use Rattle.hb_link.specs.declared.tunnel.Stage.TheVariants.{Live}
 use Rattle.hb_link.specs.declared.tunnel.Tunnel.{Tunnel}
+use Rattle.hb_link.specs.Counting.{CountsPlaces, uncounted, taking_in}
+use Rattle.hb_link.specs.Load.{HasLoad}
 use Rattle.hb_link.specs.Noted.{Takes}
 use Rattle.hb_link.specs.Observed.{up_on, up_wants_on}
-use Rattle.hb_link.specs.Reaches.{Follows, unguarded}
+use Rattle.hb_link.specs.Reaches.{Follows, Leads, unguarded}
 use Rattle.hb_link.specs.Rousing.{Rouses, Tells, roused_on}
 use Rattle.hb_link.specs.Settling.{Agrees, GotAll}
 use Rattle.hb_link.specs.Shows.{Shows}
@@ -80,3 +84,25 @@ MayRouseAll = (k n : Link) → ((s : ℕ) → roused_on n s ≡ true) → Rouses
 abbrev pub NewIsShown : Type 0
 NewIsShown = (k : Link) → k.phase ≡ Fronting → k.front ≡ [] → k.conn ≡ fresh_server → k.tunnels ≡ empty
     → Shows k (with_phase m.fronting no_link)
+
+-- a request finds all places taken where one of two is, or finds one where the only one is taken; and it may find the second of two
+abbrev pub FindsTaken : Type 0
+FindsTaken = (a : Local) (s : ℕ) (answer : Verdict) → HasLoad a.link 1 → CountsPlaces 0 2 a (decided s true answer) → ⊥
+
+abbrev pub FindsLeft : Type 0
+FindsLeft = (a : Local) (s : ℕ) (answer : Verdict) → HasLoad a.link 1 → CountsPlaces 0 1 a (decided s false answer) → ⊥
+
+abbrev pub MayFind : Type 0
+MayFind = (a : Local) (s : ℕ) (answer : Verdict) → HasLoad a.link 1 → CountsPlaces 0 2 a (decided s false answer)
+
+-- a request is answered, or the link taken in, where nothing is counted; and a request behind the link's birth
+abbrev pub AnswersUncounted : Type 0
+AnswersUncounted = (l : ℕ) (a b : Local) (s : ℕ) (full : Bool) (answer : Verdict) (parts : List Part)
+    → Leads uncounted l a (decided s full answer ∷ parts) b → ⊥
+
+abbrev pub WelcomesUncounted : Type 0
+WelcomesUncounted = (l : ℕ) (a b : Local) (parts : List Part) → Leads uncounted l a (welcomed ∷ parts) b → ⊥
+
+abbrev pub AnswersAtBirth : Type 0
+AnswersAtBirth = (l : ℕ) (a b : Local) (s : ℕ) (full : Bool) (answer : Verdict) (parts : List Part)
+    → Leads taking_in l a (decided s full answer ∷ parts) b → ⊥

@@ -1,5 +1,5 @@
 -- What follows by itself behind what a link is told: what its tunnels get, and what may be put then.
-use Rattle.std.specs.Prelude.{⊤, ◌≡◌, ℕ, ◌≤◌, IsSome, List}
+use Rattle.std.specs.Prelude.{⊤, ◌≡◌, ℕ, ◌≤◌, Option, IsSome, List}
 use Rattle.std.specs.FinMap.{get}
 use Rattle.hb_conn.specs.Observed.{IsLookedAt, KeepsWhatCame}
 use Rattle.hb_frames.specs.Numbers.{largest}
@@ -11,7 +11,7 @@ use Rattle.hb_inbound.specs.Inbound.{Inbound, Phase, arriving, fronting, serving
 use Rattle.hb_inbound.specs.Part.{Part}
 use Rattle.hb_inbound.specs.Runs.{Local, StandsFor}
 use Rattle.hb_link.specs.declared.link.Link.{Link}
-use Rattle.hb_link.specs.Counting.{CountsPlaces}
+use Rattle.hb_link.specs.Counting.{Places, Counts, places}
 use Rattle.hb_link.specs.Noted.{Told}
 use Rattle.hb_link.specs.Reaches.{Follows}
 use Rattle.hb_link.specs.Rousing.{Rouses}
@@ -56,15 +56,19 @@ pub record MayLook (k : Link) (x : Inbound) : Type 0 where
   pub fares : Fares x.conn
 
 -- The code is told nothing. For each run of which P holds, parts that follow by themselves lead to one of which Q holds
+abbrev pub SettlesBy : Option Places → (Resources → Type 0) → (P Q : Link → Inbound → Type 0) → Link → Told → Link → Told → Type 0
+SettlesBy limits H P Q old told new now =
+    (start : Resources) (before : List Part) (a : Local) → StandsFor old.number start a before → H a.held → P old a.link
+    → (new.number ≡ old.number) × Follows (Counts limits) Q old.number a new told now
+
+-- where so many places are taken
 abbrev pub Settles : (others limit : ℕ) → (Resources → Type 0) → (P Q : Link → Inbound → Type 0) → Link → Told → Link → Told
     → Type 0
-Settles others limit H P Q old told new now =
-    (start : Resources) (before : List Part) (a : Local) → StandsFor old.number start a before → H a.held → P old a.link
-    → (new.number ≡ old.number) × Follows (CountsPlaces others limit) Q old.number a new told now
+Settles others limit = SettlesBy (places others limit)
 
--- whatever is held, and however many places are taken
+-- whatever is held, and whether anything is known of places or not
 abbrev pub AlwaysSettles : (P Q : Link → Inbound → Type 0) → Link → Told → Link → Told → Type 0
-AlwaysSettles P Q old told new now = (others limit : ℕ) → Settles others limit (λ held. ⊤) P Q old told new now
+AlwaysSettles P Q old told new now = (limits : Option Places) → SettlesBy limits (λ held. ⊤) P Q old told new now
 
 -- what came stays: of the link only its connection and its tunnels change, and of the connection nothing of what came; nor is more
 -- to be told of the upstreams

@@ -3,6 +3,7 @@
 
 ghost use Rattle.hb_link.specs.Refused.{KeepsNone, LivesEarly, HasAnother, PutsLater, AnswersLater, GetsLater};
 ghost use Rattle.hb_link.specs.Refused.{ForgetsRoused, WakesNone, SkipsRoused, MayRouseAll};
+ghost use Rattle.hb_link.specs.Refused.{FindsTaken, FindsLeft, MayFind, AnswersUncounted, WelcomesUncounted, AnswersAtBirth};
 ghost use Rattle.hb_link.specs.Refused.{TellsNone, TellsHigherFirst, TellsTwice, TellsBehindLost, NewIsShown};
 
 /// A link has a tunnel for each that lives, at its stage, and the same connection while it serves. Between two calls nothing more could
@@ -34,6 +35,16 @@ pub fn roused_upstreams_are_told()
     ensures wakes { WakesNone }
     ensures skips { SkipsRoused }
     ensures all { MayRouseAll }
+{}
+
+/// A request finds all places taken exactly where they are; none is answered, nor the link taken in, by a call that counts none.
+pub fn places_are_counted()
+    ensures taken { FindsTaken }
+    ensures left { FindsLeft }
+    ensures may { MayFind }
+    ensures uncounted { AnswersUncounted }
+    ensures welcomes { WelcomesUncounted }
+    ensures birth { AnswersAtBirth }
 {}
 
 /// A link that was taken in just now is shown by one without bytes and tunnels.

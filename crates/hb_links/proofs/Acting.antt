@@ -1,6 +1,6 @@
 -- An act that is due of one link is one of all links.
-use Rattle.std.proofs.Common.{◌≡◌, ◌≢◌, inl, inr, ⊎_elim, ◌||◌, ℕ, zero, suc, ◌<◌, ◌^◌, Bool, true, false, cond, List, [], Option, Some, None, is_some, refl, ap, sym, ◌∙◌, subst, arith}
-use Rattle.std.proofs.lemmas.Bool.{eq-eqb, ne_eqb}
+use Rattle.std.proofs.Common.{◌≡◌, ◌≢◌, inl, inr, ⊎_elim, ◌||◌, ℕ, zero, suc, ◌<◌, ◌^◌, Bool, true, false, cond, List, [], Option, Some, None, IsSome, is_some, refl, ap, sym, ◌∙◌, subst, arith}
+use Rattle.std.proofs.lemmas.Bool.{eq-eqb, ne_eqb, false≢true}
 use Rattle.std.specs.FinMap.{get, insert, remove}
 use Rattle.hb_base.specs.declared.cause.Cause.{Cause}
 use Rattle.hb_base.specs.declared.door.Why.TheVariants as whys
@@ -44,6 +44,7 @@ use Rattle.hb_links.specs.Walks.{closed_by, finished}
 use Rattle.hb_links.proofs.Indexing.{closed, owner_is}
 use Rattle.hb_links.proofs.Lifted.{here, there}
 use Rattle.hb_links.proofs.Showing.{Index, Indexes, Map, links_with, leaves_index, shown_then}
+use Rattle.hb_links.proofs.Staying.{up_open}
 use Rattle.hb_links.proofs.Ups.{ups_then}
 
 -- ALL LINKS ARE CALM
@@ -119,9 +120,10 @@ module _ (before : ℕ) where
   module _ (k : Links) (l : ℕ) (p : Part) (links : Map) (now : Option Link) (ups : Index) (g : NodeConfig) (x : Machine)
       (points : List Point) (stands : StandsFor g x points) (shows : ShowsAll k x.inbound) (is : get links l ≡ now)
       (same : (j : ℕ) → j ≢ l → get links j ≡ get k.links j) where
-    pub does : (b : Local) → inbound.Steps l (local x l) p b → b ≡ with_link b.link (local x l) → LinkGuard x l p → l < 2 ^ 64
-        → ShowsLink l now b.link → Indexes ups x.inbound l p → Does (touched l before (links_with links ups k)) g x l p
-    does b step b_is guard narrow shown index =
+    pub does : (b : Local) → inbound.Steps l (local x l) p b → b ≡ with_link b.link (local x l) → LinkGuard g x l p → l < 2 ^ 64
+        → ShowsLink l now b.link → (IsSome now → IsAway b.link.phase → ⊥) → Indexes ups x.inbound l p
+        → Does (touched l before (links_with links ups k)) g x l p
+    does b step b_is guard narrow shown opened index =
         let y = with_part l p b.link x in
         let link_is : y.inbound l ≡ b.link = ap (λ (a : Local). a.link) (here x l p b.link) in
         record {
@@ -129,6 +131,7 @@ module _ (before : ℕ) where
           steps = (b.link, subst (inbound.Steps l (local x l) p) b_is step, guard, refl);
           shows = shown_then before k l p links now ups x shows is same y.inbound narrow
               (subst (λ (w : Inbound). ShowsLink l now w) (sym link_is) shown)
+              (λ some away. opened some (subst (λ (w : Inbound). IsAway w.phase) link_is away))
               (there x l p b.link)
               (λ s. ap (λ (w : Inbound). up_now (w.tunnels s)) link_is
               ∙ ups_then reaching.unguarded l (at_start g) (local x l) b b (parts_of l points) p [] (links_run g x points l stands)
@@ -145,6 +148,9 @@ module _ (before : ℕ) where
     narrow : l < 2 ^ 64
     narrow = shows.numbered l (ap is_some is)
 
+    opened : IsAway (x.inbound l).phase → ⊥
+    opened = shows.kept l (ap is_some is)
+
     -- what the code does at the link's own number it does here
     at_link : (p : Part) → link.Does p old new → (b : Local) × inbound.Steps l (local x l) p b × Shows new b.link
     at_link p it =
@@ -158,6 +164,7 @@ module _ (before : ℕ) where
         does k l (part.up s (e.Shut u)) (insert k.links l new) (Some new) k.ups g x points stands shows (put_here k.links l new)
         (put_elsewhere k.links l new) one.0 one.1 (turned _ (local x l) one.0 one.1.1)
         (act_may_come k x l (e.Shut u) shows rests plain gates refl tt) narrow (numbered ∙ shown.0, one.2)
+        (λ some away. opened (up_open s (e.Shut u) l (local x l) one.0 one.1 away))
         (leaves_index k.ups x.inbound l (part.up s (e.Shut u)) (λ v. refl) shows.index)
 
     -- the upstream that is closed was the tunnel's
@@ -187,6 +194,7 @@ module _ (before : ℕ) where
         does k l (part.up s (e.Closed u cause)) (insert k.links l new) (Some new) (remove k.ups u) g x points stands shows
         (put_here k.links l new) (put_elsewhere k.links l new) one.0 one.1 (turned _ (local x l) one.0 one.1.1)
         (act_may_come k x l (e.Closed u cause) shows rests plain gates refl tt) narrow (numbered ∙ shown.0, one.2)
+        (λ some away. opened (up_open s (e.Closed u cause) l (local x l) one.0 one.1 away))
         (λ z others ups. closed x.inbound z l s 0 others ups u refl (was_joined s u cause one.0 one.1) k.ups shows.index)
 
     close_own : (cause : Cause) → ((s : ℕ) → get new.tunnels s ≡ None) → link.Does (part.entry (e.Closed l cause)) old new
@@ -202,13 +210,15 @@ module _ (before : ℕ) where
           subst IsAway (sym phase) tt,
           λ s. subst (λ (o : _). ShowsTunnel o (one.0.link.tunnels s)) (none s) (one.2.tunnels s),
         )
+        (λ some. absurd (false≢true some))
         (leaves_index k.ups x.inbound l (part.entry (e.Closed l cause)) tt shows.index)
 
     -- a dial changes nothing
     dials : new ≡ old → ShowsAll (touched l before (links_with (insert k.links l new) k.ups k)) x.inbound
     dials unchanged =
         shown_then before k l part.welcomed (insert k.links l new) (Some new) k.ups x shows (put_here k.links l new) (put_elsewhere k.links l new)
-        x.inbound narrow (subst (λ (w : Link). ShowsLink l (Some w) (x.inbound l)) (sym unchanged) shown) (λ j apart. refl) (λ s. refl)
+        x.inbound narrow (subst (λ (w : Link). ShowsLink l (Some w) (x.inbound l)) (sym unchanged) shown)
+        (λ some. opened) (λ j apart. refl) (λ s. refl)
         (leaves_index k.ups x.inbound l part.welcomed tt shows.index)
 
     -- a link isn't the upstream of one of its tunnels

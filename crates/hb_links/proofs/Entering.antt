@@ -7,7 +7,7 @@ use Rattle.hb_inbound.specs.Part.{Part, notes}
 use Rattle.hb_held.specs.Held.{Resources}
 use Rattle.hb_inbound.specs.Runs.{Local}
 use Rattle.hb_link.specs.Calls as calls
-use Rattle.hb_link.specs.Counting.{CountsPlaces}
+use Rattle.hb_link.specs.Counting.{CountsPlaces, uncounted as uncounted_on}
 use Rattle.hb_link.proofs.Noted.{makes_none}
 use Rattle.hb_link.specs.Noted.{Told}
 use Rattle.hb_link.specs.Reaches as link
@@ -22,8 +22,11 @@ use Rattle.hb_links.specs.declared.links.Links.{Links}
 use Rattle.hb_links.specs.declared.place.Place.{Place}
 use Rattle.hb_links.specs.Busy.{touched}
 use Rattle.hb_links.specs.Calls.{point_by, point_for, counting, Enters, Takes}
-use Rattle.hb_links.specs.Reaches.{Meets, on_links, unguarded}
-use Rattle.hb_links.proofs.Showing.{Map, links_with, lifts}
+use Rattle.hb_links.specs.Load.{LeavesPlaces, others_of}
+use Rattle.hb_links.specs.Reaches.{Meets, on_links, uncounted}
+use Rattle.hb_links.proofs.Freeing.{beside_step, places_free}
+use Rattle.hb_links.proofs.Showing.{Map, links_with, lifts, lifts_free}
+use Rattle.hb_links.proofs.Staying.{KeepsOpen, up_open, came_open}
 use Rattle.hb_links.proofs.Ups.{LeavesUp}
 
 -- whichever point an entry is
@@ -70,17 +73,19 @@ module _ (before : ℕ) where
       → get k.links at.link ≡ Some old → LeavesUp (part.up at.stream z) → calls.UpEnters at.stream z old told new now
       → Enters n z k told (touched at.link before (links_with (insert k.links at.link new) k.ups k)) now
   up_enters k n z at old new told now found is leaves enters q point =
-      subst (λ (w : Point). Meets unguarded (λ m. ⊤) w k told (touched at.link before (links_with (insert k.links at.link new) k.ups k)) now)
+      subst (λ (w : Point). Meets uncounted (λ g m. ⊤) w k told
+      (touched at.link before (links_with (insert k.links at.link new) k.ups k)) now)
       (sym (up_point k n z q point at found))
-      (lifts before link.unguarded (λ a. ⊤) k at.link old new told now (λ i. part.up at.stream z) is leaves enters)
+      (lifts_free before (λ a. ⊤) (λ g m. ⊤) k at.link old new told now (λ i. part.up at.stream z) is leaves
+      (up_open at.stream z) (λ g x holds. tt) enters)
 
-  pub own_enters : (k : Links) (n : ℕ) (z : ℕ → Entry) (old new : Link) (told now : Told) → get k.ups n ≡ None
-      → get k.links n ≡ Some old → calls.Enters (z old.number) old told new now
+  pub own_enters : (k : Links) (n : ℕ) (z : ℕ → Entry) (old new : Link) (told now : Told) → KeepsOpen (part.entry (z n))
+      → get k.ups n ≡ None → get k.links n ≡ Some old → calls.Enters (z old.number) old told new now
       → Enters n (z n) k told (touched n before (links_with (insert k.links n new) k.ups k)) now
-  own_enters k n z old new told now none is enters q point =
-      subst (λ (w : Point). Meets unguarded (λ m. ⊤) w k told (touched n before (links_with (insert k.links n new) k.ups k)) now)
+  own_enters k n z old new told now keeps none is enters q point =
+      subst (λ (w : Point). Meets uncounted (λ g m. ⊤) w k told (touched n before (links_with (insert k.links n new) k.ups k)) now)
       (sym (own_point k n (z n) q point old none is))
-      (lifts before link.unguarded (λ a. ⊤) k n old new told now (λ i. part.entry (z i)) is tt enters)
+      (lifts_free before (λ a. ⊤) (λ g m. ⊤) k n old new told now (λ i. part.entry (z i)) is tt keeps (λ g x holds. tt) enters)
 
   -- the same, as the code comes to it
   pub changed : (k n : Links) (links : Map) (l : ℕ) (old new : Link) → n ≡ touched l before (links_with links k.ups k)
@@ -96,44 +101,50 @@ module _ (before : ℕ) where
       subst (λ (m : Links). Enters u z k told m now) (sym (changed k n links at.link old new n_is links_is is))
       (up_enters k u z at old new told now found is leaves enters)
 
-  pub own_told : (k n : Links) (links : Map) (l : ℕ) (z : ℕ → Entry) (old new : Link) (told now : Told)
+  pub own_told : (k n : Links) (links : Map) (l : ℕ) (z : ℕ → Entry) (old new : Link) (told now : Told) → KeepsOpen (part.entry (z l))
       → n ≡ touched l before (links_with links k.ups k) → links ≡ written k.links l new → get k.ups l ≡ None
       → get k.links l ≡ Some old → calls.Enters (z old.number) old told new now → Enters l (z l) k told n now
-  own_told k n links l z old new told now n_is links_is none is enters =
+  own_told k n links l z old new told now keeps n_is links_is none is enters =
       subst (λ (m : Links). Enters l (z l) k told m now) (sym (changed k n links l old new n_is links_is is))
-      (own_enters k l z old new told now none is enters)
+      (own_enters k l z old new told now keeps none is enters)
 
   -- bytes came on the link of a number
   pub up_takes : (k n : Links) (links : Map) (u : ℕ) (bytes : List ℕ) (at : Place) (old new : Link) (told : Told)
       (held : Resources) (others limit : ℕ) → n ≡ touched at.link before (links_with links k.ups k) → links ≡ written k.links at.link new
       → get k.ups u ≡ Some at → get k.links at.link ≡ Some old → calls.UpEnters at.stream (e.Came u bytes) old (Some []) new (Some [])
       → Takes held others limit u bytes k told n told
-  up_takes k n links u bytes at old new told held others limit n_is links_is found is enters q point =
-      subst (λ (w : Point). Meets (counting others limit w) (λ m. m.control.held ≡ held) w k told n told)
+  up_takes k n links u bytes at old new told held others limit n_is links_is found is enters q point all =
+      subst (λ (w : Point). Meets (counting others limit w) (λ g m. (m.control.held ≡ held) × LeavesPlaces limit g m) w k told n told)
       (sym (up_point k u (e.Came u bytes) q point at found))
-      (λ g x y points stands shows holds steps.
-      subst (λ (m : Links). Meets unguarded (λ x. ⊤) (of_link at.link (part.up at.stream (e.Came u bytes))) k told m told)
+      (subst (λ (m : Links). Meets uncounted (λ g x. (x.control.held ≡ held) × LeavesPlaces limit g x)
+      (of_link at.link (part.up at.stream (e.Came u bytes))) k told m told)
       (sym (changed k n links at.link old new n_is links_is is))
-      (lifts before link.unguarded (λ a. ⊤) k at.link old new told told (λ i. part.up at.stream (e.Came u bytes)) is (λ v. refl)
-      (quiet link.unguarded (λ a. ⊤) (part.up at.stream (e.Came u bytes)) old new told enters))
-      g x y points stands shows tt steps)
+      (lifts_free before (λ a. ⊤) (λ g x. (x.control.held ≡ held) × LeavesPlaces limit g x) k at.link old new told told
+      (λ i. part.up at.stream (e.Came u bytes)) is (λ v. refl) (up_open at.stream (e.Came u bytes)) (λ g x holds. tt)
+      (quiet uncounted_on (λ a. ⊤) (part.up at.stream (e.Came u bytes)) old new told enters)))
 
   pub own_takes : (k n : Links) (links : Map) (l : ℕ) (bytes : List ℕ) (old new : Link) (told now : Told) (held : Resources)
-      (others limit : ℕ) → n ≡ touched l before (links_with links k.ups k) → links ≡ written k.links l new → get k.ups l ≡ None
-      → get k.links l ≡ Some old → calls.Takes held others limit bytes old told new now → Takes held others limit l bytes k told n now
-  own_takes k n links l bytes old new told now held others limit n_is links_is none is enters q point =
-      subst (λ (w : Point). Meets (counting others limit w) (λ m. m.control.held ≡ held) w k told n now)
+      (limit : ℕ) → n ≡ touched l before (links_with links k.ups k) → links ≡ written k.links l new → get k.ups l ≡ None
+      → get k.links l ≡ Some old → calls.Takes held (others_of k l) limit bytes old told new now
+      → Takes held (others_of k l) limit l bytes k told n now
+  own_takes k n links l bytes old new told now held limit n_is links_is none is enters q point all =
+      let others = others_of k l in
+      subst (λ (w : Point). Meets (counting others limit w) (λ g m. (m.control.held ≡ held) × LeavesPlaces limit g m) w k told n now)
       (sym (own_point k l (e.Came l bytes) q point old none is))
-      (subst (λ (m : Links). Meets (on_links (CountsPlaces others limit)) (λ x. x.control.held ≡ held)
+      (subst (λ (m : Links). Meets (on_links (CountsPlaces others limit)) (λ g x. (x.control.held ≡ held) × LeavesPlaces limit g x)
       (of_link l (part.entry (e.Came l bytes))) k told m now)
       (sym (changed k n links l old new n_is links_is is))
-      (lifts before (CountsPlaces others limit) (λ a. a.held ≡ held) k l old new told now (λ i. part.entry (e.Came i bytes)) is tt enters))
+      (lifts before (CountsPlaces others limit) (λ a. a.held ≡ held) (λ g x. (x.control.held ≡ held) × LeavesPlaces limit g x) k l old new
+      told now (λ i. part.entry (e.Came i bytes)) is tt (came_open l bytes) (λ g x holds. holds.0)
+      (λ g x y shows holds steps. places_free g l limit k x y shows all (shows.numbered l (ap is_some is)) holds.1
+      (beside_step g x y l (part.entry (e.Came l bytes)) steps))
+      enters))
 
 -- an upstream alone opens
 pub none_opens : (k m : Links) (n : ℕ) (told now : Told) → get k.ups n ≡ None → Enters n (e.Opened n) k told m now
 none_opens k m n told now none q point = by (get k.links n) refl
   where
-    by : (o : Option Link) → get k.links n ≡ o → Meets unguarded (λ x. ⊤) q k told m now
+    by : (o : Option Link) → get k.links n ≡ o → Meets uncounted (λ g x. ⊤) q k told m now
     by None nothing = absurd (no_point k n (e.Opened n) q point none nothing)
     by (Some old) found = λ g x y points stands shows holds steps.
         absurd (subst (λ (w : Point). Steps g x w y) (own_point k n (e.Opened n) q point old none found) steps).1.0

@@ -108,6 +108,7 @@ module _ (k : Links) (l : ℕ) (old : Link) (r : Roused) (is : get k.links l ≡
     links = shows_at f shows.links;
     index = shows.index;
     numbered = λ j some. shows.numbered j (sym (heard_at is_some refl j) ∙ some);
+    kept = λ j some. shows.kept j (sym (heard_at is_some refl j) ∙ some);
     idle = shows.idle;
   }
 

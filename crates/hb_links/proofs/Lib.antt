@@ -1,14 +1,17 @@
 pub mod Acting
 pub mod Due
 pub mod Entering
+pub mod Freeing
 pub mod Hearing
 pub mod Indexing
 pub mod Births
+pub mod Kept
 pub mod Lifted
 pub mod Limits
 pub mod NotShown
 pub mod Showing
 pub mod Sparing
+pub mod Staying
 pub mod Stirs
 pub mod Sweeping
 pub mod Telling

@@ -44,7 +44,8 @@ same_full others limit n few =
 
 counts_all : (others limit : ℕ) → limit < 2 ^ 64 → (a : Local) (p : Part) → CountsPlaces (min others (2 ^ 64 - 1)) limit a p
     → CountsPlaces others limit a p
-counts_all others limit few a (part.decided s full answer) counts = λ n load. counts n load ∙ same_full others limit n few
+counts_all others limit few a (part.decided s full answer) counts =
+    (counts.0, counts.1, counts.2 ∙ same_full others limit counts.0 few)
 counts_all others limit few a p counts = counts
 
 pub takes_all : (held : Resources) (others limit : ℕ) (bytes : List ℕ) (old : Link) (told : Told) (new : Link) (now : Told) → limit < 2 ^ 64

@@ -15,6 +15,7 @@ use Rattle.hb_inbound.specs.Part.{Part}
 use Rattle.hb_inbound.specs.Runs as inbound
 use Rattle.hb_inbound.specs.Runs.{Local}
 use Rattle.hb_link.proofs.Noted.{takes_none, takes_then}
+use Rattle.hb_link.specs.Counting as counting
 use Rattle.hb_link.specs.Noted.{Told, Takes}
 use Rattle.hb_link.specs.Reaches as link
 use Rattle.hb_link.specs.Shows.{Shows}
@@ -31,12 +32,13 @@ use Rattle.hb_proxy.specs.Points.{Point, of_control, of_link, of_plain, of_gate,
 use Rattle.hb_proxy.specs.Runs.{Steps, StandsFor, goes_on}
 use Rattle.hb_proxy.specs.Ups.{up_now}
 use Rattle.hb_links.specs.declared.links.Links.{Links}
-use Rattle.hb_links.specs.Reaches.{Guard, Leads, Meets, unguarded}
-use Rattle.hb_links.specs.Shows.{IsIndex, ShowsAll, ShowsLink}
+use Rattle.hb_links.specs.Reaches.{Guard, Leads, Meets, uncounted}
+use Rattle.hb_links.specs.Shows.{IsAway, IsIndex, ShowsAll, ShowsLink}
 use Rattle.hb_links.specs.Walks.{IsNext}
-use Rattle.hb_links.proofs.Lifted.{lifted, notes_of}
+use Rattle.hb_links.proofs.Lifted.{lifted, uncounted_frees, notes_of}
 use Rattle.hb_links.proofs.Showing.{Index, Map, same_ups}
 use Rattle.hb_links.proofs.Sparing.{RestsStill}
+use Rattle.hb_links.proofs.Staying.{points_stay}
 use Rattle.hb_links.proofs.Ups.{ups_are as ups_found, LeavesUp, left_in, inner_in}
 
 -- POINTS ONE AFTER ANOTHER
@@ -100,7 +102,7 @@ IsFrom (Some n) l = n ≤ l
 pub record Sweeps (g : NodeConfig) (y : Machine) (old links : Map) (from : Option ℕ) (told now : Told) : Type 0 where
   pub more : List Point
   pub reached : Machine
-  pub leads : Leads unguarded g y more reached
+  pub leads : Leads uncounted g y more reached
   pub control : reached.control ≡ y.control
   pub shown : (l : ℕ) → IsBelow from l → ShowsLink l (get links l) (reached.inbound l)
   pub link : (l : ℕ) → IsFrom from l → get links l ≡ get old l
@@ -113,7 +115,9 @@ pub record AllSee (g : NodeConfig) (x y : Machine) (q : point.Point) (p : Part) 
   pub sees : seen q ≡ p ∷ []
   pub leaves : LeavesUp p
   pub steps : (l : ℕ) → inbound.Steps l (local x l) p (local y l)
-  -- a link that isn't there stays so
+  -- a link that is there stays so
+  pub opened : (l : ℕ) → IsAway (y.inbound l).phase → IsAway (x.inbound l).phase
+  -- and one that isn't
   pub away : (l : ℕ) → ShowsLink l None (x.inbound l) → ShowsLink l None (y.inbound l)
 
 -- so far the code meets the machine
@@ -170,7 +174,7 @@ module _ (links : Map) (n : ℕ) (narrow : (l : ℕ) → IsSome (get links l) �
 -- one more is told
 pub goes : (P : Machine → Type 0) (Q : Local → Type 0) (q : point.Point) (p : Part) (k : Links) (links : Map) (n : ℕ) (old new : Link)
     (next : Option ℕ) (told now then : Told) → ((x : Machine) (l : ℕ) → P x → Q (local x l))
-    → Swept P q p k links (Some n) told now → get links n ≡ Some old → link.Meets link.unguarded Q p old now new then
+    → Swept P q p k links (Some n) told now → get links n ≡ Some old → link.Meets counting.uncounted Q p old now new then
     → IsNext (insert links n new) n next → Swept P q p k (insert links n new) next told then
 goes P Q q p k links n old new next told now then gives swept is meets next_is g x y points stands shows holds steps =
     let both = swept g x y points stands shows holds steps in
@@ -187,9 +191,9 @@ goes P Q q p k links n old new next told now then gives swept is meets next_is g
     let last = one.1 in
     let local_is : local z n ≡ local y n = ap (λ (w : _). record { held = w.held; link = z.inbound n }) so_far.control
     ∙ ap (λ (w : Inbound). record { held = y.control.held; link = w }) (so_far.same n here) in
-    let more = lifted link.unguarded g n z last.parts last.reached
-    (subst (λ (a : Local). link.Leads link.unguarded n a last.parts last.reached) (sym local_is)
-    (subst (λ (i : ℕ). link.Leads link.unguarded i (local y n) last.parts last.reached) number last.leads)) in
+    let more = lifted counting.uncounted g n z last.parts last.reached (uncounted_frees g n z)
+    (subst (λ (a : Local). link.Leads counting.uncounted n a last.parts last.reached) (sym local_is)
+    (subst (λ (i : ℕ). link.Leads counting.uncounted i (local y n) last.parts last.reached) number last.leads)) in
     let w = more.y in
     let after = insert links n new in
     let apart_is : (l : ℕ) → l ≢ n → get after l ≡ get links l = λ l apart. put_elsewhere links n new l apart in
@@ -202,7 +206,7 @@ goes P Q q p k links n old new next told now then gives swept is meets next_is g
       record {
         more = so_far.more ++ map (of_link n) last.parts;
         reached = w;
-        leads = leads_append unguarded g y z w so_far.more (map (of_link n) last.parts) so_far.leads more.leads;
+        leads = leads_append uncounted g y z w so_far.more (map (of_link n) last.parts) so_far.leads more.leads;
         control = more.control ∙ so_far.control;
         shown = λ l below. ⊎_elim
             (λ same. subst (λ (i : ℕ). ShowsLink i (get after i) (w.inbound i)) (sym same)
@@ -236,7 +240,7 @@ goes P Q q p k links n old new next told now then gives swept is meets next_is g
 
 -- all were told
 pub ends : (P : Machine → Type 0) (q : point.Point) (p : Part) (k n : Links) (told now : Told)
-    → n.ups ≡ k.ups → RestsStill k n → Swept P q p k n.links None told now → Meets unguarded P (of_control q) k told n now
+    → n.ups ≡ k.ups → RestsStill k n → Swept P q p k n.links None told now → Meets uncounted (λ g. P) (of_control q) k told n now
 ends P q p k n told now ups_are rests swept g x y points stands shows holds steps =
     let both = swept g x y points stands shows holds steps in
     let see = both.0 in
@@ -244,14 +248,14 @@ ends P q p k n told now ups_are rests swept g x y points stands shows holds step
     let z = all.reached in
     let start = at_start g in
     let first = points ++ of_control q ∷ [] in
-    let then = stands_behind unguarded g y z first all.more (goes_on stands (of_control q) steps refl) all.leads in
+    let then = stands_behind uncounted g y z first all.more (goes_on stands (of_control q) steps refl) all.leads in
     let ups : (l s : ℕ) → up_now ((z.inbound l).tunnels s) ≡ up_now ((x.inbound l).tunnels s) = λ l s.
     (let before = parts_of l points in
     let u = up_of s before in
     ups_found l start (local z l) (parts_of l (first ++ all.more)) (links_run g z (first ++ all.more) l then) s
     ∙ ap (up_of s) (flat_map-append (part_in l) first all.more)
     ∙ fold-append (up_in s) 0 (parts_of l first) (parts_of l all.more)
-    ∙ inner_points unguarded g y z all.more l s (up_of s (parts_of l first)) all.leads
+    ∙ inner_points uncounted g y z all.more l s (up_of s (parts_of l first)) all.leads
     ∙ ap (up_of s) (one_more (part_in l) points (of_control q) ∙ ap (λ (ps : List Part). before ++ ps) see.sees)
     ∙ up_one s before p
     ∙ left_in s u p see.leaves
@@ -264,6 +268,7 @@ ends P q p k n told now ups_are rests swept g x y points stands shows holds step
         links = λ l. all.shown l tt;
         index = subst (λ (u : Index). IsIndex u z.inbound) (sym ups_are) (same_ups k.ups x.inbound z.inbound ups shows.index);
         numbered = λ l some. shows.numbered l (all.there l some);
+        kept = λ l some away. shows.kept l (all.there l some) (see.opened l (points_stay uncounted g y all.more z all.leads l away));
         idle = rests x.inbound z.inbound shows (λ l. all.shown l tt);
       };
       noted = all.noted;

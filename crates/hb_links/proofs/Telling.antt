@@ -35,6 +35,7 @@ use Rattle.hb_links.specs.Shows.{IsAway, ShowsLink}
 use Rattle.hb_links.specs.Walks.{IsNext, JudgesAt, Telling, TellsBy}
 use Rattle.hb_links.proofs.Showing.{Map}
 use Rattle.hb_links.proofs.Sparing.{Spares, spares_all, spares_others, same_links, spared_rests}
+use Rattle.hb_links.proofs.Staying.{stopped_stays}
 use Rattle.hb_links.proofs.Sweeping.{AllSee, Swept, starts, goes, ends}
 
 -- only links change, and the count of places
@@ -106,6 +107,7 @@ applied_seen l r g x y steps = record {
   steps = λ k. ap (λ (w : Machine). local w k) steps.3
       ∙ ap (λ (h : Resources). record { held = h; link = rejudged (after_response x.control.held r) (x.inbound k) })
       (ap (λ (n : control.Machine). n.held) steps.1.3);
+  opened = λ k away. subst (λ (w : Machine). IsAway (w.inbound k).phase) steps.3 away;
   away = λ k shown. subst (λ (w : Machine). ShowsLink k None (w.inbound k)) (sym steps.3)
       (away_judged (after_response x.control.held r) k (x.inbound k) shown);
 }
@@ -118,6 +120,7 @@ stopped_seen cause g x y steps = record {
   steps = λ k. ap (λ (w : Machine). local w k) steps.3
       ∙ ap (λ (h : Resources). record { held = h; link = stopped_for cause (x.inbound k) })
       (ap (λ (n : control.Machine). n.held) steps.1.1);
+  opened = λ k away. stopped_stays cause (x.inbound k).phase (subst (λ (w : Machine). IsAway (w.inbound k).phase) steps.3 away);
   away = λ k shown. subst (λ (w : Machine). ShowsLink k None (w.inbound k)) (sym steps.3)
       (away_stopped cause k (x.inbound k) shown);
 }

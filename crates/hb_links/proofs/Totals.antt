@@ -15,13 +15,14 @@ use Rattle.hb_links.specs.declared.links.Links.{Links}
 use Rattle.hb_links.specs.Busy.{counted, touched}
 use Rattle.hb_links.specs.Load.{places_in, total_below, total, recount, IsCounted, Recounts, others_of}
 use Rattle.hb_links.specs.Shows.{ShowsLink}
+use Rattle.hb_links.specs.Stirring.{OnlyHears}
 use Rattle.hb_links.specs.Walks.{finished}
 use Rattle.hb_links.proofs.Showing.{Index, Map, links_with, written_same}
 use Rattle.hb_links.proofs.Telling.{placeless}
 
 -- HOW MANY THERE ARE
 
-total_is : (links : Map) → total links ≡ total_below (2 ^ 64) links
+pub total_is : (links : Map) → total links ≡ total_below (2 ^ 64) links
 unfolding total
 total_is links = refl
 
@@ -139,6 +140,18 @@ act_counts k n l before (act.Close u cause) links narrow before_is same n_is =
 pub same_counts : (k n : Links) → ((j : ℕ) → get n.links j ≡ get k.links j) → n.taken ≡ k.taken → Recounts k n
 same_counts k n same taken all =
     taken ∙ all ∙ sym (ap total (same_map nat_cmp_total nat_cmp-IsAntisymmetric n.links k.links same))
+
+-- nothing but what is left to be told changes
+same_totals : (old new : Map) → ((j : ℕ) → places_in (get new j) ≡ places_in (get old j)) → (n : ℕ) → total_below n new ≡ total_below n old
+same_totals old new same zero = refl
+same_totals old new same (suc n) =
+    let front = same_totals old new same n in
+    let here = same n in
+    omega (arith, front, here)
+
+pub hears_counts : (k n : Links) → OnlyHears k n → Recounts k n
+hears_counts k n only all =
+    ap (λ (m : Links). m.taken) only.same ∙ all ∙ total_is k.links ∙ sym (same_totals k.links n.links only.places (2 ^ 64)) ∙ sym (total_is n.links)
 
 pub idle_counts : (k n : Links) (links : Map) (l : ℕ) (old new : Link) → get k.links l ≡ Some old → new ≡ old
     → links ≡ written k.links l new → n ≡ record k { links = links } → Recounts k n

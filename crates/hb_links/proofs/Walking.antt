@@ -29,6 +29,7 @@ calmer k n f shows links ups idle = record {
   links = λ l. subst (λ (o : Option Link). ShowsLink l o (f l)) (sym (links l)) (shows.links l);
   index = subst (λ (index : _). IsIndex index f) (sym ups) shows.index;
   numbered = λ l some. shows.numbered l (sym (ap is_some (links l)) ∙ some);
+  kept = λ l some. shows.kept l (sym (ap is_some (links l)) ∙ some);
   idle = idle;
 }
 

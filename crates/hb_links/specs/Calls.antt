@@ -13,12 +13,13 @@ use Rattle.hb_inbound.specs.Inbound.{Inbound}
 use Rattle.hb_inbound.specs.Part as part
 use Rattle.hb_inbound.specs.Part.{Part}
 use Rattle.hb_link.specs.Calls.{IsLastWord}
-use Rattle.hb_link.specs.Counting.{CountsPlaces}
+use Rattle.hb_link.specs.Counting.{CountsPlaces, taking_in}
 use Rattle.hb_link.specs.Noted.{Told}
 use Rattle.hb_link.specs.Observed.{wants_on, output_on, up_wants_on, up_held_on, up_wants_by, up_held_by, says_last}
 use Rattle.hb_link.specs.declared.link.Link.{Link}
 use Rattle.hb_model.specs.Point as point
 use Rattle.hb_model.specs.declared.config.NodeConfig.{NodeConfig}
+use Rattle.hb_proxy.specs.Load.{LinksFull}
 use Rattle.hb_proxy.specs.Machine.{Machine}
 use Rattle.hb_proxy.specs.Points.{Point, of_control, of_link}
 use Rattle.hb_proxy.specs.Runs.{Steps, StandsFor}
@@ -26,7 +27,8 @@ use Rattle.hb_world.specs.declared.entry.Entry.{Entry}
 use Rattle.hb_world.specs.declared.entry.Entry.TheVariants as e
 use Rattle.hb_links.specs.declared.links.Links.{Links}
 use Rattle.hb_links.specs.declared.place.Place.{Place}
-use Rattle.hb_links.specs.Reaches.{Guard, on_links, unguarded, Meets}
+use Rattle.hb_links.specs.Load.{IsCounted, LeavesPlaces}
+use Rattle.hb_links.specs.Reaches.{Guard, on_links, uncounted, Meets}
 use Rattle.hb_links.specs.Shows.{ShowsAll}
 
 -- ENTRIES
@@ -41,7 +43,7 @@ abbrev pub point_for : Links → ℕ → Entry → Option Point
 point_for k n x = point_by (get k.ups n) (get k.links n) n x
 
 abbrev pub Enters : ℕ → Entry → Links → Told → Links → Told → Type 0
-Enters n x old told new now = (p : Point) → point_for old n x ≡ Some p → Meets unguarded (λ m. ⊤) p old told new now
+Enters n x old told new now = (p : Point) → point_for old n x ≡ Some p → Meets uncounted (λ g m. ⊤) p old told new now
 
 -- some bytes of so many went
 abbrev pub Goes : (n count : ℕ) → Links → Told → Links → Told → Type 0
@@ -50,42 +52,44 @@ Goes n count old told new now = (bytes : List ℕ) → length bytes ≡ count �
 -- of a request on a link that is read it is said how many places were taken
 abbrev pub counting : (others limit : ℕ) → Point → Guard
 counting others limit (of_link l (part.entry x)) = on_links (CountsPlaces others limit)
-counting others limit p = unguarded
+counting others limit p = uncounted
 
--- bytes came, while this was held
+-- bytes came, while this was held, and the limit of the tunnels of inbound links was what plain links leave
 abbrev pub Takes : Resources → (others limit : ℕ) → ℕ → List ℕ → Links → Told → Links → Told → Type 0
 Takes held others limit n bytes old told new now =
-    (p : Point) → point_for old n (e.Came n bytes) ≡ Some p
-    → Meets (counting others limit p) (λ m. m.control.held ≡ held) p old told new now
+    (p : Point) → point_for old n (e.Came n bytes) ≡ Some p → IsCounted old
+    → Meets (counting others limit p) (λ g m. (m.control.held ≡ held) × LeavesPlaces limit g m) p old told new now
 
--- a link is accepted, and no note is made
+-- a link is accepted where one more may be, and no note is made
 abbrev pub Begins : ℕ → Links → Links → Type 0
-Begins n old new = Meets unguarded (λ m. ⊤) (of_link n (part.entry (e.Accepted n door.Inbound))) old (Some []) new (Some [])
+Begins n old new =
+    Meets (on_links taking_in) (λ g m. LinksFull false g m) (of_link n (part.entry (e.Accepted n door.Inbound))) old (Some []) new (Some [])
 
 -- a link is accepted where as many are open as may be: behind its birth it is turned away
 abbrev pub TurnsAway : ℕ → Links → Links → Type 0
 TurnsAway n old new =
-    (g : NodeConfig) (x y : Machine) (points : List Point) → StandsFor g x points → ShowsAll old x.inbound
+    (g : NodeConfig) (x y : Machine) (points : List Point) → StandsFor g x points → ShowsAll old x.inbound → LinksFull true g x
     → Steps g x (of_link n (part.entry (e.Accepted n door.Inbound))) y
     → (z : Machine) × Steps g y (of_link n part.crowded) z × ShowsAll new z.inbound
 
 -- the dial for the tunnel on a stream of a link gave the link u, or none
 abbrev pub Dials : (l s u : ℕ) → Links → Links → Type 0
 Dials l s u old new =
-    (to : Target) (why : Why) → Meets unguarded (λ m. ⊤) (of_link l (part.up s (e.Dialled u to why))) old (Some []) new (Some [])
+    (to : Target) (why : Why) → Meets uncounted (λ g m. ⊤) (of_link l (part.up s (e.Dialled u to why))) old (Some []) new (Some [])
 
 abbrev pub DialFails : (l s : ℕ) → Links → Told → Links → Told → Type 0
 DialFails l s old told new now =
-    (to : Target) (why : Why) → Meets unguarded (λ m. ⊤) (of_link l (part.up s (e.DialFailed to why))) old told new now
+    (to : Target) (why : Why) → Meets uncounted (λ g m. ⊤) (of_link l (part.up s (e.DialFailed to why))) old told new now
 
 -- a response on a link to the control plane is applied, which makes this of what was held
 abbrev pub Updates : Resources → Links → Told → Links → Told → Type 0
 Updates held old told new now =
-    (l : ℕ) (r : Response) → Meets unguarded (λ m. held ≡ after_response m.control.held r) (of_control (point.applied l r)) old told new now
+    (l : ℕ) (r : Response)
+    → Meets uncounted (λ g m. held ≡ after_response m.control.held r) (of_control (point.applied l r)) old told new now
 
 -- the run ends
 abbrev pub Stops : Cause → Links → Told → Links → Told → Type 0
-Stops cause old told new now = Meets unguarded (λ m. ⊤) (of_control (point.stopped cause)) old told new now
+Stops cause old told new now = Meets uncounted (λ g m. ⊤) (of_control (point.stopped cause)) old told new now
 
 -- OBSERVATIONS OF THE CODE, AND OF THE MACHINES
 

@@ -4,6 +4,9 @@ use Rattle.std.specs.FinMap.{FinMap, get}
 use Rattle.std.specs.Ordering.{nat_cmp}
 use Rattle.hb_link.specs.Load.{places_on}
 use Rattle.hb_link.specs.declared.link.Link.{Link}
+use Rattle.hb_model.specs.declared.config.NodeConfig.{NodeConfig}
+use Rattle.hb_proxy.specs.Load.{most_tunnels, plain_below, CountsTo}
+use Rattle.hb_proxy.specs.Machine.{Machine}
 use Rattle.hb_links.specs.declared.links.Links.{Links}
 
 -- of a link
@@ -31,6 +34,10 @@ IsCounted k = k.taken ≡ total k.links
 -- and still are
 abbrev pub Recounts : Links → Links → Type 0
 Recounts old new = IsCounted old → IsCounted new
+
+-- the tunnels for which this limit leaves places, and the plain links, are as many as there may be
+abbrev pub LeavesPlaces : (limit : ℕ) → NodeConfig → Machine → Type 0
+LeavesPlaces limit g x = (plain : ℕ) × CountsTo (plain_below x) plain × (plain + limit ≡ most_tunnels g)
 
 -- those of other links than the one of a number
 abbrev pub others_of : Links → ℕ → ℕ

@@ -1,5 +1,6 @@
 -- What a call of the code is to the machine of the whole.
 use Rattle.std.specs.Prelude.{⊤, ◌≡◌, List, [], ◌∷◌}
+use Rattle.hb_link.specs.Counting as counting
 use Rattle.hb_link.specs.Noted.{Told, Takes}
 use Rattle.hb_link.specs.Reaches as link
 use Rattle.hb_model.specs.declared.config.NodeConfig.{NodeConfig}
@@ -29,8 +30,9 @@ on_links G x (of_plain l p) = ⊤
 on_links G x (of_gate n p) = ⊤
 on_links G x (of_stream l n s w) = ⊤
 
-abbrev pub unguarded : Guard
-unguarded = on_links link.unguarded
+-- no link is taken in, and no request is answered
+abbrev pub uncounted : Guard
+uncounted = on_links counting.uncounted
 
 -- such points lead from one machine to another, one after another
 abbrev pub Leads : Guard → NodeConfig → Machine → List Point → Machine → Type 0
@@ -52,7 +54,7 @@ Shown k x = ShowsAll k x.inbound
 
 -- The code is told a point. For each run of the whole whose links it showed, and behind which the point may come, it shows afterwards
 -- those of the run with that point, and with what follows from it by itself
-abbrev pub Meets : Guard → (Machine → Type 0) → Point → Links → Told → Links → Told → Type 0
+abbrev pub Meets : Guard → (NodeConfig → Machine → Type 0) → Point → Links → Told → Links → Told → Type 0
 Meets G P p old told new now =
-    (g : NodeConfig) (x y : Machine) (points : List Point) → StandsFor g x points → ShowsAll old x.inbound → P x → Steps g x p y
+    (g : NodeConfig) (x y : Machine) (points : List Point) → StandsFor g x points → ShowsAll old x.inbound → P g x → Steps g x p y
     → Follows G Shown g y new told now

@@ -34,5 +34,7 @@ pub record ShowsAll (k : Links) (f : ℕ → Inbound) : Type 0 where
   pub index : IsIndex k.ups f
   -- the numbers of links have 64 bits
   pub numbered : (l : ℕ) → IsSome (get k.links l) → l < 2 ^ 64
+  -- and none of them is away
+  pub kept : (l : ℕ) → IsSome (get k.links l) → IsAway (f l).phase → ⊥
   -- no other link has an act due
   pub idle : (l : ℕ) → may_be_due k l ≡ false → NoneIsDue (f l)

@@ -3,6 +3,13 @@
 use hb_base::{Target, Text};
 use hb_held::OwnDoors;
 
+/// The most inbound links and links to gateways that may be open at a time, and the most tunnels; a plain link is one, from its birth.
+#[derive(Clone, Copy, Drop)]
+pub struct Limits {
+    pub links: u64,
+    pub tunnels: u64,
+}
+
 /// The identity of a node, and where its control plane is.
 #[derive(Drop)]
 pub struct NodeConfig {
@@ -18,4 +25,6 @@ pub struct NodeConfig {
     pub doors: OwnDoors,
     /// The port at which a workload's gateway takes HBONE.
     pub hbone_port: u16,
+    /// How many links and tunnels there may be.
+    pub limits: Limits,
 }

@@ -7,4 +7,4 @@ mod config;
 pub mod laws;
 
 pub use act::Act;
-pub use config::NodeConfig;
+pub use config::{Limits, NodeConfig};

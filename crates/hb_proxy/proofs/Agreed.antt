@@ -555,7 +555,7 @@ module _ (g : NodeConfig) (x : Machine) (points : List Point) (stands : StandsFo
   control_at (point.entry z) m steps guard own n = control_each z m steps guard.birth own n
   control_at q m steps guard own n = still x (with_control q m x) whose owned told agrees (control_goes g x points stands q m steps) n
 
-  link_at : (l : ℕ) (p : Part) (next : Inbound) → runs.Steps l (local x l) p (runs.with_link next (local x l)) → LinkGuard x l p
+  link_at : (l : ℕ) (p : Part) (next : Inbound) → runs.Steps l (local x l) p (runs.with_link next (local x l)) → LinkGuard g x l p
       → PartStands (entries points) l p → (n : ℕ)
       → ByOwner (after (of_link l p) whose n) (with_part l p next x) n (told_after (of_link l p) n)
   link_at l (part.entry z) next steps guard own n = link_each l z next steps guard.birth own n
@@ -569,7 +569,7 @@ module _ (g : NodeConfig) (x : Machine) (points : List Point) (stands : StandsFo
   plain_at l (plain_part.up z) may guard own n = relay_each l z may guard.0.birth own n
   plain_at l p may guard own n = still x (plain_behind l p) whose owned told agrees (plain_goes g x points stands l p may) n
 
-  gate_at : (n : ℕ) (p : gateway.Part) (next : Gateway) → gateways.Steps n (x.gates n) p next → GateGuard x n p
+  gate_at : (n : ℕ) (p : gateway.Part) (next : Gateway) → gateways.Steps n (x.gates n) p next → GateGuard g x n p
       → GateStands (entries points) n p → (k : ℕ)
       → ByOwner (after (of_gate n p) whose k) (with_gate n p next x) k (told_after (of_gate n p) k)
   gate_at n (gateway.entry z) next steps guard own k = gate_each n z next steps own k

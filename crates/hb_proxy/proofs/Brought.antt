@@ -246,14 +246,14 @@ module _ (g : NodeConfig) (x : Machine) (points : List Point) (stands : StandsFo
       keeps_fit x.gates (x.plain l) (next_link (x.plain l) p) (part_keeps g x l p guard)
       (λ some. part_flows g x l p some (no_up l some) may guard) (fits l)
 
-  gate_fits : (n : ℕ) (p : gateway.Part) (next : Gateway) → gateway_runs.Steps n (x.gates n) p next → GateGuard x n p → (l : ℕ)
+  gate_fits : (n : ℕ) (p : gateway.Part) (next : Gateway) → gateway_runs.Steps n (x.gates n) p next → GateGuard g x n p → (l : ℕ)
       → FitOf (λ (k : ℕ). cond (k == n) next (x.gates k)) (x.plain l)
   gate_fits n p next steps guard l some =
       let q = x.plain l in
       cond_both (q.gate == n) next (x.gates q.gate) (λ (y : Gateway). FitIn y q)
       (λ same.
       own_fits n (x.gates n) (gates_of n points) (gates_run g x points n stands) q.stream q
-      (subst (λ (k : ℕ). FitIn (x.gates k) q) (eqb-true q.gate n same) (fits l some)) p next steps (unshared x n p guard))
+      (subst (λ (k : ℕ). FitIn (x.gates k) q) (eqb-true q.gate n same) (fits l some)) p next steps (unshared g x n p guard))
       (λ apart. fits l some)
 
   -- A LINK AND ITS STREAM

@@ -221,7 +221,7 @@ wanted x (e.Wait ready how) key is = absurd is
 module _ (g : NodeConfig) (x : Machine) (points : List Point) (stands : StandsFor g x points)
     (so_far : (n : ℕ) → EndedBy (x.gates n).phase x.control.over (gates_of n points)) where
   -- none is dialled behind the end of the run
-  beside_gate : (k : ℕ) (p : Part) (y : Gateway) → Steps k (x.gates k) p y → GateGuard x k p → Beside x.control.over (gates_of k points) p
+  beside_gate : (k : ℕ) (p : Part) (y : Gateway) → Steps k (x.gates k) p y → GateGuard g x k p → Beside x.control.over (gates_of k points) p
   beside_gate k (dialled z key) y steps guard = by (list_any ends_gate (gates_of k points)) refl
     where
       by : (b : Bool) → list_any ends_gate (gates_of k points) ≡ b → list_any ends_gate (gates_of k points) ≡ false

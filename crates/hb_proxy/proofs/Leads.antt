@@ -8,6 +8,7 @@ use Rattle.hb_inbound.specs.Part as part
 use Rattle.hb_inbound.specs.Part.{Part}
 use Rattle.hb_inbound.specs.Runs.{Local, with_link}
 use Rattle.hb_inbound.specs.Runs as inbound
+use Rattle.hb_model.specs.declared.config.NodeConfig.{NodeConfig}
 use Rattle.hb_proxy.specs.Leads.{IsInner, Leads, LinksLead, LinksStep, PlainLinksLead, PlainLinksStep}
 use Rattle.hb_proxy.specs.Machine.{Machine, local, with_part, with_plain}
 use Rattle.hb_proxy.specs.Points.{Point, of_link, of_plain}
@@ -18,30 +19,30 @@ module _ (a b : Local) where
   as_link : (y : Inbound) → b ≡ with_link y a → b ≡ with_link b.link a
   as_link y is = is ∙ ap (λ (z : Inbound). with_link z a) (sym (ap (λ (c : Local). c.link) is))
 
-  holds : (x : Machine) (l : ℕ) (p : Part) → LinkGuard x l p → inbound.Steps l a p b → b ≡ with_link b.link a
-  holds x l (part.entry z) guard steps = as_link _ steps.1
-  holds x l (part.up s z) guard steps = as_link _ steps.1
-  holds x l part.welcomed guard steps = as_link _ steps.1
-  holds x l part.crowded guard steps = as_link _ steps.1
-  holds x l part.lacked guard steps = as_link _ steps.1
-  holds x l (part.fronted seen) guard steps = as_link _ steps.4
-  holds x l (part.misfronted fault) guard steps = as_link _ steps.2
-  holds x l (part.looked ps told headers) guard steps = as_link _ steps.5
-  holds x l (part.decided s full given) guard steps = as_link _ steps.5
-  holds x l (part.accepted s made) guard steps = as_link _ steps.3
-  holds x l (part.refused s status resets made) guard steps = as_link _ steps.4
-  holds x l (part.reset s code made) guard steps = as_link _ steps.3
-  holds x l (part.left s made) guard steps = as_link _ steps.2
-  holds x l (part.done s made) guard steps = as_link _ steps.3
-  holds x l (part.put s bytes) guard steps = as_link _ steps.3
-  holds x l (part.finished s) guard steps = as_link _ steps.2
-  holds x l (part.credited s n) guard steps = as_link _ steps.3
-  holds x l (part.applied r) guard steps = absurd guard
-  holds x l (part.stopped why) guard steps = absurd guard
+  holds : (g : NodeConfig) (x : Machine) (l : ℕ) (p : Part) → LinkGuard g x l p → inbound.Steps l a p b → b ≡ with_link b.link a
+  holds g x l (part.entry z) guard steps = as_link _ steps.1
+  holds g x l (part.up s z) guard steps = as_link _ steps.1
+  holds g x l part.welcomed guard steps = as_link _ steps.1
+  holds g x l part.crowded guard steps = as_link _ steps.1
+  holds g x l part.lacked guard steps = as_link _ steps.1
+  holds g x l (part.fronted seen) guard steps = as_link _ steps.4
+  holds g x l (part.misfronted fault) guard steps = as_link _ steps.2
+  holds g x l (part.looked ps told headers) guard steps = as_link _ steps.5
+  holds g x l (part.decided s full given) guard steps = as_link _ steps.5
+  holds g x l (part.accepted s made) guard steps = as_link _ steps.3
+  holds g x l (part.refused s status resets made) guard steps = as_link _ steps.4
+  holds g x l (part.reset s code made) guard steps = as_link _ steps.3
+  holds g x l (part.left s made) guard steps = as_link _ steps.2
+  holds g x l (part.done s made) guard steps = as_link _ steps.3
+  holds g x l (part.put s bytes) guard steps = as_link _ steps.3
+  holds g x l (part.finished s) guard steps = as_link _ steps.2
+  holds g x l (part.credited s n) guard steps = as_link _ steps.3
+  holds g x l (part.applied r) guard steps = absurd guard
+  holds g x l (part.stopped why) guard steps = absurd guard
 
 pub links_step : LinksStep
 links_step g x points l p b stands guard steps =
-    let is = holds (local x l) b x l p guard steps in
+    let is = holds (local x l) b g x l p guard steps in
     record {
       y = with_part l p b.link x;
       stands = goes_on stands p_at
@@ -56,13 +57,16 @@ links_step g x points l p b stands guard steps =
     p_at : Point
     p_at = of_link l p
 
--- a part that is no entry may come wherever its link lets it
-inner_guard : (x : Machine) (l : ℕ) (p : Part) → IsInner p → LinkGuard x l p
-inner_guard x l (part.entry z) inner = absurd inner
-inner_guard x l (part.up s z) inner = absurd inner
-inner_guard x l (part.applied r) inner = absurd inner
-inner_guard x l (part.stopped why) inner = absurd inner
-inner_guard x l _ inner = tt
+-- a part that is no entry, and doesn't go by how many there are, may come wherever its link lets it
+inner_guard : (g : NodeConfig) (x : Machine) (l : ℕ) (p : Part) → IsInner p → LinkGuard g x l p
+inner_guard g x l (part.entry z) inner = absurd inner
+inner_guard g x l (part.up s z) inner = absurd inner
+inner_guard g x l part.welcomed inner = absurd inner
+inner_guard g x l part.crowded inner = absurd inner
+inner_guard g x l (part.decided s full answer) inner = absurd inner
+inner_guard g x l (part.applied r) inner = absurd inner
+inner_guard g x l (part.stopped why) inner = absurd inner
+inner_guard g x l _ inner = tt
 
 pub links_lead : LinksLead
 links_lead g x points l [] b stands leads = record {
@@ -75,7 +79,7 @@ links_lead g x points l [] b stands leads = record {
   gates = refl;
 }
 links_lead g x points l (p ∷ parts) b stands (inner, mid, steps, leads) =
-    let one = links_step g x points l p mid stands (inner_guard x l p inner) steps in
+    let one = links_step g x points l p mid stands (inner_guard g x l p inner) steps in
     let rest = links_lead g one.y (points ++ of_link l p ∷ []) l parts b one.stands
     (subst (λ (c : Local). Leads l c parts b) (sym one.reached) leads) in
     record {

@@ -7,6 +7,7 @@ pub mod Changes
 pub mod Closing
 pub mod Control
 pub mod ControlBorn
+pub mod Counted
 pub mod Counting
 pub mod Dials
 pub mod Doors
@@ -18,12 +19,19 @@ pub mod GateEnds
 pub mod Gates
 pub mod Idle
 pub mod Known
+pub mod Kept
 pub mod Leads
+pub mod Limits
 pub mod Links
+pub mod Load
 pub mod Look
 pub mod OutboundRefusing
+pub mod NeverFull
+pub mod NeverMore
 pub mod Own
 pub mod Owned
+pub mod Phases
+pub mod Placed
 pub mod Places
 pub mod Plain
 pub mod PlainChanges
@@ -34,6 +42,7 @@ pub mod PlainWaits
 pub mod Projection
 pub mod Refusing
 pub mod Relay
+pub mod Room
 pub mod Seen
 pub mod SeenRefused
 pub mod SettledRefused

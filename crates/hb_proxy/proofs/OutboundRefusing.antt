@@ -22,7 +22,7 @@ outbound_reads_upstream to bytes law =
     in let mine : relay_of 1 ≡ plain_link = (law before (of_plain 2 (captured.entry (e.Came 2 bytes))) [] refl).1 in cc
 
 pub outbound_run_may_go : OutboundRunMayGo
-outbound_run_may_go g = captured_may_go g door.Outbound tt
+outbound_run_may_go g some = captured_may_go g door.Outbound tt some
 
 pub outbound_run_is_lawful : OutboundRunIsLawful
-outbound_run_is_lawful g = lawful g (outbound_run_may_go g).0 (outbound_begun g.discovery) (outbound_run_may_go g).1
+outbound_run_is_lawful g some = lawful g (outbound_run_may_go g some).0 (outbound_begun g.discovery) (outbound_run_may_go g some).1

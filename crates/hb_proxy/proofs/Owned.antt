@@ -555,7 +555,7 @@ module _ (g : NodeConfig) (x : Machine) (points : List Point) (stands : StandsFo
       (all_admit l (at_start g) (local x l) (parts_of l points) (links_run g x points l stands)).knows steps.0.1) birth
   up_entry l s z next steps birth = link_quiet l (part.up s z) next steps refl
 
-  link_owned : (l : ℕ) (p : Part) (next : Inbound) → runs.Steps l (local x l) p (runs.with_link next (local x l)) → LinkGuard x l p
+  link_owned : (l : ℕ) (p : Part) (next : Inbound) → runs.Steps l (local x l) p (runs.with_link next (local x l)) → LinkGuard g x l p
       → Owned (with_part l p next x) (after (of_link l p) whose)
   link_owned l (part.entry z) next steps guard = link_entry l z next steps guard.birth
   link_owned l (part.up s z) next steps guard = up_entry l s z next steps guard.birth
@@ -585,7 +585,7 @@ module _ (g : NodeConfig) (x : Machine) (points : List Point) (stands : StandsFo
   gate_entry n (e.Dialled k to why) next steps = absurd steps.0
   gate_entry n z next steps = gate_quiet n (gateway.entry z) next steps refl
 
-  gate_owned : (n : ℕ) (p : gateway.Part) (next : Gateway) → gateways.Steps n (x.gates n) p next → GateGuard x n p
+  gate_owned : (n : ℕ) (p : gateway.Part) (next : Gateway) → gateways.Steps n (x.gates n) p next → GateGuard g x n p
       → Owned (with_gate n p next x) (after (of_gate n p) whose)
   gate_owned n (gateway.entry z) next steps guard = gate_entry n z next steps
   gate_owned n (gateway.dialled z key) next steps guard =

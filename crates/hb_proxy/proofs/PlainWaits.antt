@@ -1,5 +1,5 @@
 -- What the settled law refuses of a plain link, and what it lets.
-use Rattle.std.proofs.Common.{◌≡◌, ◌≢◌, inl, inr, ⊎_elim, ℕ, ◌≤◌, ◌==◌, Bool, true, false, cond, List, [], ◌∷◌, ◌++◌, length, refl, ap, sym, ◌∙◌, subst, arith}
+use Rattle.std.proofs.Common.{◌≡◌, ◌≢◌, inl, inr, ⊎_elim, ℕ, ◌<◌, ◌≤◌, ◌==◌, Bool, true, false, cond, List, [], ◌∷◌, ◌++◌, length, refl, ap, sym, ◌∙◌, subst, arith}
 use Rattle.std.proofs.lemmas.Bool.{cond_both, eqb-true, false≢true}
 use Rattle.hb_base.specs.declared.door.Door.TheVariants as door
 use Rattle.hb_base.specs.declared.door.Why.TheVariants as whys
@@ -22,6 +22,7 @@ use Rattle.hb_world.specs.declared.entry.Entry.{Entry}
 use Rattle.hb_world.specs.declared.entry.Entry.TheVariants as e
 use Rattle.hb_world.specs.declared.entry.Way.TheVariants as way
 use Rattle.hb_proxy.specs.Held.{at_start}
+use Rattle.hb_proxy.specs.Load.{most_tunnels}
 use Rattle.hb_proxy.specs.Machine.{Machine, plain_local, with_plain}
 use Rattle.hb_proxy.specs.Owners.{Owner, nobody, control_plane, plain_link, relay_of, gateway_link, owner}
 use Rattle.hb_proxy.specs.PlainWaits.{KeepsUp, KeepsDown, LeavesUpUnread, LeavesUnread, LeavesFrontUnread, LeavesUnshut, LeavesUndialled, LeavesUnclosed, accepted, ReadsNothing, AsksNoUpstream, ReadsOnce}
@@ -37,6 +38,7 @@ use Rattle.hb_proxy.proofs.Owned.{whose_in, all_owned}
 use Rattle.hb_proxy.proofs.Plain.{plain_runs}
 use Rattle.hb_proxy.proofs.PlainChanges.{PlainFits, PlainFitsBy}
 use Rattle.hb_proxy.proofs.PlainStays.{RelayOn, RelayBy}
+use Rattle.hb_proxy.proofs.Room.{room_for_place, place_alone, one_place}
 use Rattle.hb_proxy.proofs.SettledRefused.{none_is, writes_none, reads_full, asks, quiet_link, none_carries, asked, asking, asking_all, quiet_control, control_asleep, asked_so}
 use Rattle.hb_proxy.proofs.Sides.{runs_share}
 use Rattle.hb_proxy.proofs.Streams.{runs_agree}
@@ -228,8 +230,8 @@ module _ (g : NodeConfig) where
   then_raw l = cond_both (l == 2) taken (then.plain l) (λ (c : Captured). is_raw c ≡ true) (λ is. refl)
       (λ is. cond_both (l == 2) arrived no_link (λ (c : Captured). is_raw c ≡ true) (λ other. refl) (λ other. refl))
 
-  runs : StandsFor g last points
-  runs = goes_on taken_in (of_plain 2 (part.entry (e.Balked (way.Read 2)))) (
+  runs : 0 < most_tunnels g → StandsFor g last points
+  runs some = goes_on taken_in (of_plain 2 (part.entry (e.Balked (way.Read 2)))) (
     (refl, (inl (quiet_taken, refl), omega arith)),
     record {
       birth = tt;
@@ -255,7 +257,7 @@ module _ (g : NodeConfig) where
       ) refl
 
       taken_in : StandsFor g later (asked g ++ of_plain 2 (part.entry (e.Accepted 2 door.Plain)) ∷ of_plain 2 part.welcomed ∷ [])
-      taken_in = goes_on came (of_plain 2 part.welcomed) (refl, tt, refl) refl
+      taken_in = goes_on came (of_plain 2 part.welcomed) (refl, room_for_place g then 2 some (place_alone 2 arrived) one_place, refl) refl
 
 -- link 1 behind a finish that moved nothing
 abbrev asked_at : Bool → Link
@@ -270,10 +272,10 @@ unended false true = refl
 unended false false = refl
 
 pub reads_once : ReadsOnce
-reads_once g = record {
+reads_once g some = record {
   machine = last g;
   points = points g;
-  run = runs g;
+  run = runs g some;
   trace_is = refl;
   settled = record {
     control_quiet = quiet_control g;

@@ -1,5 +1,5 @@
 -- What steps and laws of the whole refuse, and what may go.
-use Rattle.std.proofs.Common.{◌≡◌, ◌==◌, List, [], ◌∷◌, ◌++◌, Some, None, refl, ap, sym, ◌∙◌, subst, arith, true, false, ◌||◌, Bool, ⊎_elim}
+use Rattle.std.proofs.Common.{◌≡◌, ◌==◌, ◌<◌, ◌≤◌, List, [], ◌∷◌, ◌++◌, Some, None, refl, ap, sym, ◌∙◌, subst, arith, true, false, ◌||◌, Bool, ⊎_elim}
 use Rattle.std.proofs.lemmas.Bool.{cond_both, false≢true}
 use Rattle.hb_inbound.specs.Tunnel.{is_unanswered}
 use Rattle.std.proofs.lemmas.List.{append-nil, append_assoc}
@@ -28,6 +28,7 @@ use Rattle.hb_world.specs.declared.entry.Entry.{Entry}
 use Rattle.hb_world.specs.declared.entry.Entry.TheVariants as e
 use Rattle.hb_proxy.specs.Access.{UpIsAdmitted, AccessLaw}
 use Rattle.hb_proxy.specs.Held.{at_start}
+use Rattle.hb_proxy.specs.Load.{most_tunnels}
 use Rattle.hb_proxy.specs.Machine.{Machine, fresh, with_control, with_part, with_plain}
 use Rattle.hb_proxy.specs.OutboundRefused.{outbound_updated, OutboundGoesOn, OutboundGoesBack}
 use Rattle.hb_proxy.specs.Owners.{nobody, control_plane, inbound_link}
@@ -42,6 +43,7 @@ use Rattle.hb_proxy.proofs.Dials.{runs_dial}
 use Rattle.hb_proxy.proofs.Ends.{unfaulted, lets_quiet, runs_end}
 use Rattle.hb_proxy.proofs.Own.{runs_own, runs_number}
 use Rattle.hb_proxy.proofs.Relay.{runs_relay}
+use Rattle.hb_proxy.proofs.Room.{room_for_link, room_for_place, link_alone, place_alone, one_place}
 use Rattle.hb_proxy.proofs.SettledRefused.{none_carries}
 use Rattle.hb_proxy.proofs.Stays.{is_born, may_born}
 
@@ -221,7 +223,7 @@ rests g = record {
 }
 
 pub run_may_go : RunMayGo
-run_may_go g =
+run_may_go g some =
     let accept = e.Accepted 2 door.Inbound in
     let link = with_phase arriving no_link in
     let y = with_part 2 (part.entry accept) link (first g) in
@@ -236,15 +238,16 @@ run_may_go g =
     } in
     let accepted : StandsFor g y (of_control (point.entry (dial g)) ∷ of_link 2 (part.entry accept) ∷ []) =
     goes_on (dialled g) (of_link 2 (part.entry accept)) (link, ((refl, refl, refl), refl), guard, refl) refl in
-    (z, goes_on accepted (of_link 2 part.welcomed) (with_phase fronting link, (refl, refl), tt, refl) refl)
+    let room = room_for_link g y 2 some (link_alone 2 link) (let one : 1 ≤ 1 = omega arith in one) in
+    (z, goes_on accepted (of_link 2 part.welcomed) (with_phase fronting link, (refl, refl), room, refl) refl)
 
 -- behind that a link is accepted and taken in, at any door where one is captured
 abbrev pub taken_in : NodeConfig → Door → List Point
 taken_in g d =
     of_control (point.entry (dial g)) ∷ of_plain 2 (captured.entry (e.Accepted 2 d)) ∷ of_plain 2 captured.welcomed ∷ []
 
-pub captured_may_go : (g : NodeConfig) (d : Door) → Captures d → (x : Machine) × StandsFor g x (taken_in g d)
-captured_may_go g d caught =
+pub captured_may_go : (g : NodeConfig) (d : Door) → Captures d → 0 < most_tunnels g → (x : Machine) × StandsFor g x (taken_in g d)
+captured_may_go g d caught some =
     let accept = e.Accepted 2 d in
     let link = captured_link.entered accept captured_link.no_link in
     let y = with_plain 2 (captured.entry accept) link (first g) in
@@ -259,10 +262,10 @@ captured_may_go g d caught =
     } in
     let accepted : StandsFor g y (of_control (point.entry (dial g)) ∷ of_plain 2 (captured.entry accept) ∷ []) =
     goes_on (dialled g) (of_plain 2 (captured.entry accept)) ((refl, refl, caught), guard, refl) refl in
-    (z, goes_on accepted (of_plain 2 captured.welcomed) (refl, tt, refl) refl)
+    (z, goes_on accepted (of_plain 2 captured.welcomed) (refl, room_for_place g y 2 some (place_alone 2 link) one_place, refl) refl)
 
 pub plain_run_may_go : PlainRunMayGo
-plain_run_may_go g = captured_may_go g door.Plain tt
+plain_run_may_go g some = captured_may_go g door.Plain tt some
 
 -- every run is lawful
 pub lawful : (g : NodeConfig) (x : Machine) (points : List Point) → StandsFor g x points → IsLawful g points
@@ -277,7 +280,7 @@ lawful g x points runs = (
 )
 
 pub run_is_lawful : RunIsLawful
-run_is_lawful g = (
-  lawful g (run_may_go g).0 (begun g.discovery) (run_may_go g).1,
-  lawful g (plain_run_may_go g).0 (plain_begun g.discovery) (plain_run_may_go g).1,
+run_is_lawful g links places = (
+  lawful g (run_may_go g links).0 (begun g.discovery) (run_may_go g links).1,
+  lawful g (plain_run_may_go g places).0 (plain_begun g.discovery) (plain_run_may_go g places).1,
 )

@@ -29,7 +29,7 @@ record IsShared (said : captured.Part → List ℕ) (on : ℕ → gateway.Part �
   link : (n s : ℕ) (w : Shared) → said (captured_part n s w) ≡ bytes w
   stream : (s l t : ℕ) (w : Shared) → on s (gateway_part l t w) ≡ cond (t == s) (bytes w) []
   alone : (g : NodeConfig) (x : Machine) (l : ℕ) (q : captured.Part) → PlainGuard g x l q → said q ≡ []
-  gate_alone : (x : Machine) (n s : ℕ) (q : gateway.Part) → GateGuard x n q → on s q ≡ []
+  gate_alone : (g : NodeConfig) (x : Machine) (n s : ℕ) (q : gateway.Part) → GateGuard g x n q → on s q ≡ []
   applied : (r : _) → said (captured.applied r) ≡ []
   stopped : (why : _) → said (captured.stopped why) ≡ []
   gate_stopped : (s : ℕ) (why : _) → on s (gateway.stopped why) ≡ []
@@ -76,9 +76,9 @@ went_shared = record {
     alone g x l (captured.put bytes) guard = absurd guard
     alone g x l _ guard = refl
 
-    gate_alone : (x : Machine) (n s : ℕ) (q : gateway.Part) → GateGuard x n q → put_in s q ≡ []
-    gate_alone x n s (gateway.put t bytes count) guard = absurd guard
-    gate_alone x n s _ guard = refl
+    gate_alone : (g : NodeConfig) (x : Machine) (n s : ℕ) (q : gateway.Part) → GateGuard g x n q → put_in s q ≡ []
+    gate_alone g x n s (gateway.put t bytes count) guard = absurd guard
+    gate_alone g x n s _ guard = refl
 
 -- what is told on a stream, as bytes
 abbrev came_in : ℕ → gateway.Part → List ℕ
@@ -136,9 +136,9 @@ came_shared = record {
     alone g x l (captured.hears heard begun) guard = absurd guard
     alone g x l _ guard = refl
 
-    gate_alone : (x : Machine) (n s : ℕ) (q : gateway.Part) → GateGuard x n q → came_in s q ≡ []
-    gate_alone x n s (gateway.tells t heard begun) guard = absurd guard
-    gate_alone x n s _ guard = refl
+    gate_alone : (g : NodeConfig) (x : Machine) (n s : ℕ) (q : gateway.Part) → GateGuard g x n q → came_in s q ≡ []
+    gate_alone g x n s (gateway.tells t heard begun) guard = absurd guard
+    gate_alone g x n s _ guard = refl
 
 -- what happens to a link and a stream happens to the stream of the link, but that it is asked for
 shared_of : (x : Machine) (l n s : ℕ) (w : Shared) → MayGo l (plain_local x l) (captured_part n s w) → StreamGuard x l n s w
@@ -201,7 +201,7 @@ module _ (said : captured.Part → List ℕ) (on : ℕ → gateway.Part → List
   says x y points stands known (of_control q) steps = refl
   says x y points stands known (of_link k q) steps = refl
   says x y points stands known (of_plain k q) steps = silent said (k == l) q (shared.alone g x k q steps.1)
-  says x y points stands known (of_gate m q) steps = sym (silent (on s) (m == n) q (shared.gate_alone x m s q steps.2))
+  says x y points stands known (of_gate m q) steps = sym (silent (on s) (m == n) q (shared.gate_alone g x m s q steps.2))
   says x y points stands known (of_stream k m t w) steps =
       ⊎_elim (λ h. asks_silent k m t w (ap shared.bytes h.1 ∙ shared.none h.0))
       (λ h. on_stream k m t w (known k m t (stream_asked g x points stands k m t h.0 h.1)))

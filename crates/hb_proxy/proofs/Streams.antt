@@ -214,15 +214,15 @@ part_keeps g x l (captured.loosed begun) guard = absurd guard
 part_keeps g x l (captured.completed begun note) guard = absurd guard
 part_keeps g x l p guard = record { gate = refl; stream = refl }
 
-pub unshared : (x : Machine) (n : ℕ) (p : gateway.Part) → GateGuard x n p → IsShared p → ⊥
-unshared x n (gateway.asks s l authority) guard is = guard
-unshared x n (gateway.tells s heard begun) guard is = guard
-unshared x n (gateway.put s bytes count) guard is = guard
-unshared x n (gateway.finished s) guard is = guard
-unshared x n (gateway.credited s count) guard is = guard
-unshared x n (gateway.dropped s begun) guard is = guard
-unshared x n (gateway.done s begun) guard is = guard
-unshared x n _ guard is = is
+pub unshared : (g : NodeConfig) (x : Machine) (n : ℕ) (p : gateway.Part) → GateGuard g x n p → IsShared p → ⊥
+unshared g x n (gateway.asks s l authority) guard is = guard
+unshared g x n (gateway.tells s heard begun) guard is = guard
+unshared g x n (gateway.put s bytes count) guard is = guard
+unshared g x n (gateway.finished s) guard is = guard
+unshared g x n (gateway.credited s count) guard is = guard
+unshared g x n (gateway.dropped s begun) guard is = guard
+unshared g x n (gateway.done s begun) guard is = guard
+unshared g x n _ guard is = is
 
 -- EVERY STEP
 
@@ -436,7 +436,7 @@ step_agrees g x points stands agree (of_gate n p) y steps =
     (λ h t. subst (λ (z : Machine). TunnelStays ((x.gates h).streams t) ((z.gates h).streams t)) (sym steps.3)
     (cond_both (h == n) steps.0 (x.gates h) (λ (z : Gateway). TunnelStays ((x.gates h).streams t) (z.streams t))
     (λ same. subst (λ (k : ℕ). TunnelStays ((x.gates k).streams t) (steps.0.streams t)) (sym (eqb-true h n same))
-    (own_stays n (x.gates n) p steps.0 steps.1 (unshared x n p steps.2) t))
+    (own_stays n (x.gates n) p steps.0 steps.1 (unshared g x n p steps.2) t))
     (λ apart. tunnel_same ((x.gates h).streams t) ((x.gates h).streams t) refl)))
 step_agrees g x points stands agree (of_stream l n s w) y steps =
     subst AgreeAt (sym steps.4) (stream_agrees g x points stands agree l n s w steps.0 steps.1 steps.2 steps.3)

@@ -61,7 +61,7 @@ dials_beside g x y a k n to key same offers steps = false≢true (sym (steps.2.1
 
 pub refuses_beside : RefusesBeside
 refuses_beside g x y a k key keyed same offers steps =
-    let none = subst (λ (found : _). IfThrough found (NoneOffers x)) keyed steps.1 in false≢true (sym (none k same) ∙ offers)
+    let none = subst (λ (found : _). IfThrough found (NoneOffers x)) keyed steps.1.0 in false≢true (sym (none k same) ∙ offers)
 
 pub dials_for_straight : DialsForStraight
 dials_for_straight g x y a n to key straight steps = straight steps.2.1.keyed

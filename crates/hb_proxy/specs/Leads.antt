@@ -11,10 +11,13 @@ use Rattle.hb_proxy.specs.Machine.{Machine, local, plain_local, with_plain}
 use Rattle.hb_proxy.specs.Points.{Point, of_link, of_plain}
 use Rattle.hb_proxy.specs.Runs.{LinkGuard, PlainGuard, StandsFor}
 
--- a part that is no entry, nor what others do to the link
+-- a part that is no entry, nor what others do to the link, nor one that goes by how many there are
 abbrev pub IsInner : Part → Type 0
 IsInner (part.entry e) = ⊥
 IsInner (part.up s e) = ⊥
+IsInner part.welcomed = ⊥
+IsInner part.crowded = ⊥
+IsInner (part.decided s full answer) = ⊥
 IsInner (part.applied r) = ⊥
 IsInner (part.stopped cause) = ⊥
 IsInner _ = ⊤
@@ -42,7 +45,7 @@ LinksLead = (g : NodeConfig) (x : Machine) (points : List Point) (l : ℕ) (part
 -- and a part that isn't what others do, where the whole lets it
 abbrev pub LinksStep : Type 0
 LinksStep = (g : NodeConfig) (x : Machine) (points : List Point) (l : ℕ) (p : Part) (b : Local)
-    → StandsFor g x points → LinkGuard x l p → inbound.Steps l (local x l) p b → GoesOn g x points l (p ∷ []) b
+    → StandsFor g x points → LinkGuard g x l p → inbound.Steps l (local x l) p b → GoesOn g x points l (p ∷ []) b
 
 -- PLAIN LINKS
 

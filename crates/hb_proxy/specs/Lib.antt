@@ -6,6 +6,8 @@ pub mod Ends
 pub mod Held
 pub mod Laws
 pub mod Leads
+pub mod Limits
+pub mod Load
 pub mod Machine
 pub mod Notes
 pub mod OutboundRefused

@@ -1,5 +1,5 @@
 -- Small steps and runs of a link of the outbound door: what no run of the whole proxy does, and what may go, unlike at the plain door.
-use Rattle.std.specs.Prelude.{◌≡◌, ℕ, true, List, [], ◌∷◌, ◌++◌, map, None}
+use Rattle.std.specs.Prelude.{◌≡◌, ℕ, ◌<◌, true, List, [], ◌∷◌, ◌++◌, map, None}
 use Rattle.hb_base.specs.declared.door.Door.TheVariants as door
 use Rattle.hb_base.specs.declared.door.Why.TheVariants as whys
 use Rattle.hb_base.specs.declared.note.Note.{Note}
@@ -14,6 +14,7 @@ use Rattle.hb_model.specs.declared.config.NodeConfig.{NodeConfig}
 use Rattle.hb_world.specs.declared.entry.Entry.TheVariants as e
 use Rattle.hb_proxy.specs.Access.{AccessLaw}
 use Rattle.hb_proxy.specs.Held.{at_start}
+use Rattle.hb_proxy.specs.Load.{most_tunnels}
 use Rattle.hb_proxy.specs.Machine.{Machine}
 use Rattle.hb_proxy.specs.Owners.{OwnLaw, UpstreamLaw}
 use Rattle.hb_proxy.specs.Points.{Point, of_control, of_plain}
@@ -47,11 +48,11 @@ outbound_begun to =
     ∷ of_plain 2 captured.welcomed ∷ []
 
 abbrev pub OutboundRunMayGo : Type 0
-OutboundRunMayGo = (g : NodeConfig) → (x : Machine) × StandsFor g x (outbound_begun g.discovery)
+OutboundRunMayGo = (g : NodeConfig) → 0 < most_tunnels g → (x : Machine) × StandsFor g x (outbound_begun g.discovery)
 
 -- so the laws let it
 abbrev pub OutboundRunIsLawful : Type 0
-OutboundRunIsLawful = (g : NodeConfig) → IsLawful g (outbound_begun g.discovery)
+OutboundRunIsLawful = (g : NodeConfig) → 0 < most_tunnels g → IsLawful g (outbound_begun g.discovery)
 
 -- the link 2 lives, of which these bytes came, and its upstream is link 3, at this address; and a response is applied
 abbrev pub outbound_updated : (control : Target) → List ℕ → Seen → (address : Target) → Note → Response → List Point

@@ -13,6 +13,7 @@ use Rattle.hb_world.specs.declared.entry.Entry.TheVariants as e
 use Rattle.hb_world.specs.declared.entry.Way.TheVariants as way
 use Rattle.hb_world.specs.declared.entry.Woken.{Woken}
 use Rattle.hb_world.specs.Trace.{is_waited}
+use Rattle.hb_proxy.specs.Load.{most_tunnels}
 use Rattle.hb_proxy.specs.Machine.{Machine}
 use Rattle.hb_proxy.specs.Points.{Point}
 use Rattle.hb_proxy.specs.Settled.{IsSettled, SettledIn, SettledLaw}
@@ -75,4 +76,4 @@ AsksNoUpstream = (g : NodeConfig) (to other : Target) (bytes : List ℕ) (how : 
 
 -- it is read, and that moves nothing
 abbrev pub ReadsOnce : Type 0
-ReadsOnce = (g : NodeConfig) → SettledIn g (accepted g.discovery ++ e.Balked (way.Read 2) ∷ [])
+ReadsOnce = (g : NodeConfig) → 0 < most_tunnels g → SettledIn g (accepted g.discovery ++ e.Balked (way.Read 2) ∷ [])

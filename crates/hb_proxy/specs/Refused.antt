@@ -1,5 +1,5 @@
 -- Small steps that no run of the whole proxy takes, small runs that its laws refuse, and some that may go.
-use Rattle.std.specs.Prelude.{◌≡◌, ◌≢◌, ℕ, Bool, true, false, List, [], ◌∷◌, ◌++◌, length, map}
+use Rattle.std.specs.Prelude.{◌≡◌, ◌≢◌, ℕ, ◌<◌, Bool, true, false, List, [], ◌∷◌, ◌++◌, length, map}
 use Rattle.hb_base.specs.declared.cause.Cause.{Cause}
 use Rattle.hb_base.specs.declared.door.Door.TheVariants as door
 use Rattle.hb_base.specs.declared.door.Why.TheVariants as whys
@@ -27,6 +27,7 @@ use Rattle.hb_proxy.specs.Control.{EntryLaws}
 use Rattle.hb_proxy.specs.Dials.{DialLaw}
 use Rattle.hb_proxy.specs.Ends.{EndLaw}
 use Rattle.hb_proxy.specs.Held.{at_start}
+use Rattle.hb_proxy.specs.Load.{most_links, most_tunnels}
 use Rattle.hb_proxy.specs.Machine.{Machine}
 use Rattle.hb_proxy.specs.Owners.{OwnLaw, NumberLaw, UpstreamLaw}
 use Rattle.hb_proxy.specs.Points.{Point, of_control, of_link, of_plain, entries}
@@ -218,7 +219,7 @@ begun to =
     ∷ of_link 2 part.welcomed ∷ []
 
 abbrev pub RunMayGo : Type 0
-RunMayGo = (g : NodeConfig) → (x : Machine) × StandsFor g x (begun g.discovery)
+RunMayGo = (g : NodeConfig) → 0 < most_links g → (x : Machine) × StandsFor g x (begun g.discovery)
 
 -- or one at the plain door
 abbrev pub plain_begun : Target → List Point
@@ -227,7 +228,7 @@ plain_begun to =
     ∷ of_plain 2 captured.welcomed ∷ []
 
 abbrev pub PlainRunMayGo : Type 0
-PlainRunMayGo = (g : NodeConfig) → (x : Machine) × StandsFor g x (plain_begun g.discovery)
+PlainRunMayGo = (g : NodeConfig) → 0 < most_tunnels g → (x : Machine) × StandsFor g x (plain_begun g.discovery)
 
 -- so the laws let it
 abbrev pub IsLawful : NodeConfig → List Point → Type 0
@@ -236,4 +237,5 @@ IsLawful g points =
     × EntryLaws points
 
 abbrev pub RunIsLawful : Type 0
-RunIsLawful = (g : NodeConfig) → IsLawful g (begun g.discovery) × IsLawful g (plain_begun g.discovery)
+RunIsLawful = (g : NodeConfig) → 0 < most_links g → 0 < most_tunnels g
+    → IsLawful g (begun g.discovery) × IsLawful g (plain_begun g.discovery)

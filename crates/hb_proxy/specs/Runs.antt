@@ -33,6 +33,7 @@ use Rattle.hb_world.specs.declared.entry.Entry.TheVariants as e
 use Rattle.hb_tunnel.specs.Way.{is_done}
 use Rattle.hb_world.specs.declared.entry.Way.TheVariants as way
 use Rattle.hb_proxy.specs.Machine.{Machine, fresh, local, plain_local, with_control, with_part, with_plain, with_gate, with_stream}
+use Rattle.hb_proxy.specs.Load.{PlacesFull, LinksFull, PlacesBurst, LinksBurst}
 use Rattle.hb_proxy.specs.Points.{Point, of_control, of_link, of_plain, of_gate, of_stream}
 use Rattle.hb_proxy.specs.Shared.{Shared, asks, puts, credits, captured_part as captured_side, gateway_part as gateway_side}
 
@@ -208,25 +209,35 @@ ControlGuard x (point.entry e) = ControlMayCome x e
 ControlGuard x (point.stopped cause) = StopMayCome x
 ControlGuard x _ = ⊤
 
--- responses are applied and the run is stopped for all links at once
-abbrev pub LinkGuard : Machine → ℕ → Part → Type 0
-LinkGuard x l (part.entry e) = LinkMayCome x l e
-LinkGuard x l (part.up s e) = LinkMayCome x l e
-LinkGuard x l (part.applied r) = ⊥
-LinkGuard x l (part.stopped cause) = ⊥
-LinkGuard x l _ = ⊤
+-- responses are applied and the run is stopped for all links at once. A link is turned away exactly where there are more than may be, and
+-- a request finds all places taken exactly where they are
+abbrev pub LinkGuard : NodeConfig → Machine → ℕ → Part → Type 0
+LinkGuard g x l (part.entry e) = LinkMayCome x l e
+LinkGuard g x l (part.up s e) = LinkMayCome x l e
+LinkGuard g x l part.welcomed = LinksBurst false g x
+LinkGuard g x l part.crowded = LinksBurst true g x
+LinkGuard g x l (part.decided s full answer) = PlacesFull full g x
+LinkGuard g x l (part.applied r) = ⊥
+LinkGuard g x l (part.stopped cause) = ⊥
+LinkGuard g x l _ = ⊤
 
 -- what the answer to a header goes by, beside what is held
 abbrev pub routing_of : NodeConfig → Machine → Routing
 routing_of g x = record { opens = x.opens; hbone_port = g.hbone_port }
 
+-- a link to a gateway is dialled for it only where one more may be
+abbrev pub MayDialGate : NodeConfig → Machine → ℕ → Type 0
+MayDialGate g x l = IfThrough (key_of (x.plain l).aim) (λ key. LinksFull false g x)
+
 -- what happens to a plain link and its stream at once is of the stream's points
 abbrev pub PlainGuard : NodeConfig → Machine → ℕ → captured_part.Part → Type 0
 PlainGuard g x l (captured_part.entry e) = PlainMayCome x l e
-PlainGuard g x l (captured_part.up e) = PlainMayCome x l e × DialsGate x l
+PlainGuard g x l (captured_part.up e) = PlainMayCome x l e × DialsGate x l × MayDialGate g x l
+PlainGuard g x l captured_part.welcomed = PlacesBurst false g x
+PlainGuard g x l captured_part.crowded = PlacesBurst true g x
 PlainGuard g x l (captured_part.fronted seen routing aim) = routing ≡ routing_of g x
 PlainGuard g x l (captured_part.refused seen routing why status note) = routing ≡ routing_of g x
-PlainGuard g x l captured_part.roomless = DialsGate x l
+PlainGuard g x l captured_part.roomless = DialsGate x l × LinksFull true g x
 PlainGuard g x l (captured_part.asked gate stream) = ⊥
 PlainGuard g x l (captured_part.hears heard begun) = ⊥
 PlainGuard g x l (captured_part.put bytes) = ⊥
@@ -238,18 +249,18 @@ PlainGuard g x l (captured_part.applied r) = ⊥
 PlainGuard g x l (captured_part.stopped cause) = ⊥
 PlainGuard g x l _ = ⊤
 
-abbrev pub GateGuard : Machine → ℕ → gateway_part.Part → Type 0
-GateGuard x g (gateway_part.entry e) = GateMayCome x g e
-GateGuard x g (gateway_part.dialled e key) = GateMayCome x g e × IsWanted x e key
-GateGuard x g (gateway_part.asks s captured authority) = ⊥
-GateGuard x g (gateway_part.tells s heard begun) = ⊥
-GateGuard x g (gateway_part.put s bytes count) = ⊥
-GateGuard x g (gateway_part.finished s) = ⊥
-GateGuard x g (gateway_part.credited s n) = ⊥
-GateGuard x g (gateway_part.dropped s begun) = ⊥
-GateGuard x g (gateway_part.done s begun) = ⊥
-GateGuard x g (gateway_part.stopped cause) = ⊥
-GateGuard x g _ = ⊤
+abbrev pub GateGuard : NodeConfig → Machine → ℕ → gateway_part.Part → Type 0
+GateGuard c x g (gateway_part.entry e) = GateMayCome x g e
+GateGuard c x g (gateway_part.dialled e key) = GateMayCome x g e × IsWanted x e key × LinksFull false c x
+GateGuard c x g (gateway_part.asks s captured authority) = ⊥
+GateGuard c x g (gateway_part.tells s heard begun) = ⊥
+GateGuard c x g (gateway_part.put s bytes count) = ⊥
+GateGuard c x g (gateway_part.finished s) = ⊥
+GateGuard c x g (gateway_part.credited s n) = ⊥
+GateGuard c x g (gateway_part.dropped s begun) = ⊥
+GateGuard c x g (gateway_part.done s begun) = ⊥
+GateGuard c x g (gateway_part.stopped cause) = ⊥
+GateGuard c x g _ = ⊤
 
 -- the stream of a plain link
 pub record IsStreamOf (x : Machine) (l g s : ℕ) : Type 0 where
@@ -274,12 +285,12 @@ abbrev pub Steps : NodeConfig → Machine → Point → Machine → Type 0
 Steps g x (of_control q) y =
     (next : control.Machine) × model.Steps g x.control q next × ControlGuard x q × (y ≡ with_control q next x)
 Steps g x (of_link l p) y =
-    (next : Inbound) × inbound.Steps l (local x l) p (inbound.with_link next (local x l)) × LinkGuard x l p
+    (next : Inbound) × inbound.Steps l (local x l) p (inbound.with_link next (local x l)) × LinkGuard g x l p
     × (y ≡ with_part l p next x)
 Steps g x (of_plain l p) y =
     captured.MayGo l (plain_local x l) p × PlainGuard g x l p × (y ≡ with_plain l p (captured.next_link (x.plain l) p) x)
 Steps g x (of_gate n p) y =
-    (next : Gateway) × gateway_runs.Steps n (x.gates n) p next × GateGuard x n p × (y ≡ with_gate n p next x)
+    (next : Gateway) × gateway_runs.Steps n (x.gates n) p next × GateGuard g x n p × (y ≡ with_gate n p next x)
 Steps g x (of_stream l n s w) y =
     captured.MayGo l (plain_local x l) (captured_side n s w)
     × (next : Gateway) × gateway_runs.Steps n (x.gates n) (gateway_side l s w) next × StreamGuard x l n s w

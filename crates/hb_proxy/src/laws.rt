@@ -19,6 +19,10 @@ ghost use Rattle.hb_proxy.specs.PlainWaits.{KeepsUp as KeepsPlainUp, KeepsDown a
 ghost use Rattle.hb_proxy.specs.PlainWaits.{LeavesUnread as LeavesPlainUnread, LeavesUnshut as LeavesPlainUnshut};
 ghost use Rattle.hb_proxy.specs.PlainWaits.{LeavesUndialled as LeavesPlainUndialled, LeavesUnclosed};
 ghost use Rattle.hb_proxy.specs.PlainWaits.{ReadsNothing, AsksNoUpstream, ReadsOnce};
+ghost use Rattle.hb_proxy.specs.Limits.{NeverMoreLinks, NeverMoreTunnels, FindsNoPlace, FindsPlaceBeyond, TurnsAwayFirst, WelcomesBeyond};
+ghost use Rattle.hb_proxy.specs.Limits.{TurnsAwayPlain, WelcomesPlainBeyond, RefusesWithNone, DialsGateBeyond};
+ghost use Rattle.hb_proxy.specs.Limits.{CountsEndless, CountsTwice, CountsNone, HasMoreLinks, HasMoreTunnels};
+ghost use Rattle.hb_proxy.specs.Limits.{FindsPlace, FindsAllTaken, TurnsAwayBeyond, WelcomesLast};
 ghost use Rattle.hb_proxy.specs.Doors.{DoorsTellNone};
 ghost use Rattle.hb_proxy.specs.Refused.{ComesUnborn, ReadsUnborn, ReadsAnothers, BornTwice, BornAgain, SeesAlone, SeeAll};
 ghost use Rattle.hb_proxy.specs.Refused.{AnswersAnother, AnswersControl, WritesBehind, ReadsBehind, TicksBehind, InventsByte};
@@ -158,6 +162,43 @@ pub fn control_plane_obeys()
     ensures entries { RunsObeyEntries }
     ensures own { RunsObeyControl }
     ensures put { RunsPutAll }
+{}
+
+/// However far one looks, there are never more inbound links that were taken in and links to gateways than may be, nor more tunnels that
+/// are pending or live and plain links that were taken in.
+pub fn all_is_limited()
+    ensures links { NeverMoreLinks }
+    ensures tunnels { NeverMoreTunnels }
+{}
+
+/// A request finds all places taken exactly where they are, a link is turned away exactly where there are more than may be, and a link to a
+/// gateway is refused for want of room exactly where as many are as may be, and else dialled.
+pub fn other_limits_are_refused()
+    ensures no_place { FindsNoPlace }
+    ensures place_beyond { FindsPlaceBeyond }
+    ensures first { TurnsAwayFirst }
+    ensures beyond { WelcomesBeyond }
+    ensures plain { TurnsAwayPlain }
+    ensures plain_beyond { WelcomesPlainBeyond }
+    ensures none { RefusesWithNone }
+    ensures gate_beyond { DialsGateBeyond }
+{}
+
+/// A count comes to one number, or to none, and two are more than one.
+pub fn counts_are_exact()
+    ensures endless { CountsEndless }
+    ensures twice { CountsTwice }
+    ensures none { CountsNone }
+    ensures links { HasMoreLinks }
+    ensures tunnels { HasMoreTunnels }
+{}
+
+/// With one place of two taken a request finds one, and with both none; the 1,025th link is turned away, and the 1,024th taken in.
+pub fn steps_at_limits_may_go()
+    ensures place { FindsPlace }
+    ensures all_taken { FindsAllTaken }
+    ensures beyond { TurnsAwayBeyond }
+    ensures last { WelcomesLast }
 {}
 
 /// Nothing comes on a link that nobody bore, or that is another part's; no number is born twice; no dial is answered to another part, and

@@ -4,7 +4,7 @@ use Rattle.hb_map.proofs.Laws.{written_elsewhere, written_where_some}
 use Rattle.hb_world.specs.declared.entry.Entry.TheVariants as e
 use Rattle.hb_inbound.specs.Part.{up}
 use Rattle.hb_link.specs.Calls.{UpEnters}
-use Rattle.hb_link.specs.Reaches.{unguarded}
+use Rattle.hb_link.specs.Counting.{uncounted}
 use Rattle.hb_link.specs.declared.tunnel.Stage.TheVariants.{Opening}
 use Rattle.hb_link.proofs.Dialling.{dialled}
 use Rattle.hb_link.proofs.Moving.{Map, link_with}
@@ -19,7 +19,7 @@ returns-clause-enters c = λ to why.
     let old = c.in-Some.tunnel.now in
     let is = c.at.follows.holds (record old { stage = Opening; up = c.args.link })
     ∙ written_where_some k.tunnels c.args.stream (record old { stage = Opening; up = c.args.link }) (ap is_some c.in-Some.ensures.value) in
-    meets_still unguarded (λ a. ⊤) (up c.args.stream (e.Dialled c.args.link to why)) k _ c.add.new.self (Some []) (Some [])
+    meets_still uncounted (λ a. ⊤) (up c.args.stream (e.Dialled c.args.link to why)) k _ c.add.new.self (Some []) (Some [])
     (subst (λ (tunnels : Map). UpEnters c.args.stream (e.Dialled c.args.link to why) k (Some []) (link_with k.conn tunnels k) (Some [])) (sym is)
     (dialled k c.args.stream c.args.link to why old c.in-Some.ensures.value))
 

@@ -1,4 +1,5 @@
 use Rattle.std.proofs.Common.{rules, ◌≡◌, Bool, false, refl, subst}
+use Rattle.hb_link.specs.Counting.{places}
 use Rattle.hb_link.specs.Fronting.{HasCome}
 use Rattle.hb_link.specs.Looking.{Looked}
 use Rattle.hb_link.specs.Observed.{serves_in}
@@ -15,11 +16,11 @@ returns-then-not-is_serving-clause-settles g c =
     let off : serves_in k.phase ≡ false = search rules in
     settles_from c.args.others c.args.limit (λ h. h ≡ c.args.held.now) (λ n x. HasCome x.phase n x) MayPut MayPut k k told told
     (λ x come. rests k x off come)
-    (stays c.args.others c.args.limit (λ h. h ≡ c.args.held.now) MayPut MayPut k told (λ x is. is))
+    (stays (places c.args.others c.args.limit) (λ h. h ≡ c.args.held.now) MayPut MayPut k told (λ x is. is))
 
 pub loop-init : goal.loop-init
 loop-init g c = (
-  stays c.args.others c.args.limit (λ h. h ≡ c.args.held.now) MayLook MayLook c.args.self.now (g.N.Notes.told c.args.notes.now)
+  stays (places c.args.others c.args.limit) (λ h. h ≡ c.args.held.now) MayLook MayLook c.args.self.now (g.N.Notes.told c.args.notes.now)
       (λ x is. is),
   rouses_same c.args.self.now c.args.self.now refl refl,
 )
@@ -28,7 +29,7 @@ pub loop-preserved : goal.loop-preserved
 loop-preserved g c =
     let told = g.N.Notes.told c.loop.notes in
     let now = g.N.Notes.told c.look.new.notes in (
-      settles_then c.args.others c.args.limit (λ h. h ≡ c.args.held.now) MayLook MayLook MayLook c.args.self.now c.loop.self c.look.new.self
+      settles_then (places c.args.others c.args.limit) (λ h. h ≡ c.args.held.now) MayLook MayLook MayLook c.args.self.now c.loop.self c.look.new.self
           (g.N.Notes.told c.args.notes.now) told now c.loop.invariant.0
           (subst (λ (b : Bool). Settles c.args.others c.args.limit (λ h. h ≡ c.args.held.now) MayLook (Looked b) c.loop.self told c.look.new.self
           now) c.if-branch.true c.in_ok-look.ensures.settles),
@@ -45,7 +46,7 @@ returns-clause-settles g c =
     c.look.new.self now) c.if-branch.false c.in_ok-look.ensures.settles in
     settles_from c.args.others c.args.limit (λ h. h ≡ c.args.held.now) (λ n x. HasCome x.phase n x) MayLook MayPut k c.look.new.self first
     now (λ x come. looks_first k x (search rules) come)
-    (settles_then c.args.others c.args.limit (λ h. h ≡ c.args.held.now) MayLook MayLook MayPut k c.loop.self c.look.new.self first told now
+    (settles_then (places c.args.others c.args.limit) (λ h. h ≡ c.args.held.now) MayLook MayLook MayPut k c.loop.self c.look.new.self first told now
     c.loop.invariant.0 last)
 
 pub returns-then-not-is_serving-clause-rouses : goal.returns-then-not-is_serving-clause-rouses

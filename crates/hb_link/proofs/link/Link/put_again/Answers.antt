@@ -13,8 +13,8 @@ returns-then-counts-eq1-clause-settles g c =
     (c.put_on.ensures.settles s)
 
 pub returns-else-counts-eq1-clause-settles : goal.returns-else-counts-eq1-clause-settles
-returns-else-counts-eq1-clause-settles g c = λ others limit.
-    stays others limit (λ held. ⊤) (PutsBelow 0 0) (PutsBelow 0 0) c.args.self.now (g.N.Notes.told c.args.notes.now) (λ x below. below)
+returns-else-counts-eq1-clause-settles g c = λ limits.
+    stays limits (λ held. ⊤) (PutsBelow 0 0) (PutsBelow 0 0) c.args.self.now (g.N.Notes.told c.args.notes.now) (λ x below. below)
 
 pub returns-else-counts-eq1-clause-rouses : goal.returns-else-counts-eq1-clause-rouses
 returns-else-counts-eq1-clause-rouses g c = rouses_same c.args.self.now c.args.self.now refl refl

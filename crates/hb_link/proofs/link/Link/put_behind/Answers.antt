@@ -9,7 +9,7 @@ use Rattle.hb_link.proofs.link.Link.put_behind.Goals as goal
 pub loop-from-init : goal.loop-from-init
 loop-from-init g c =
     let k = c.args.self.now in (
-      λ others limit. stays others limit (λ held. ⊤) (PutsBelow 0 0) (PutsBelow 0 0) k (g.N.Notes.told c.args.notes.now) (λ x below. below),
+      λ limits. stays limits (λ held. ⊤) (PutsBelow 0 0) (PutsBelow 0 0) k (g.N.Notes.told c.args.notes.now) (λ x below. below),
       rouses_same k k refl refl,
     )
 
@@ -22,8 +22,8 @@ loop-from-preserved g c =
     let told = g.N.Notes.told c.args.notes.now in
     let before = g.N.Notes.told c.loop-from.notes in
     let behind = g.N.Notes.told c.put_on.new.notes in (
-      λ others limit. settles_then others limit (λ held. ⊤) (PutsBelow 0 0) (PutsBelow 0 0) (PutsBelow 0 0) k mid next told before behind
-          (c.loop-from.invariant.0 others limit) (puts_somewhere mid s next before behind (c.put_on.ensures.settles s) others limit),
+      λ limits. settles_then limits (λ held. ⊤) (PutsBelow 0 0) (PutsBelow 0 0) (PutsBelow 0 0) k mid next told before behind
+          (c.loop-from.invariant.0 limits) (puts_somewhere mid s next before behind (c.put_on.ensures.settles s) limits),
       rouses_then k mid next c.loop-from.invariant.1 c.put_on.ensures.rouses,
     )
 

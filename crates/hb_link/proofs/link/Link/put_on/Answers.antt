@@ -10,7 +10,7 @@ use Rattle.hb_link.specs.declared.tunnel.Stage.TheVariants.{Over}
 use Rattle.hb_link.specs.declared.tunnel.Tunnel.{Tunnel}
 use Rattle.hb_link.specs.Noted.{Takes}
 use Rattle.hb_link.specs.Putting.{bytes_put, conn_bytes, end_counted, conn_finished, lives_in, PutsBelow}
-use Rattle.hb_link.specs.Settling.{AlwaysSettles, Settles}
+use Rattle.hb_link.specs.Settling.{AlwaysSettles, SettlesBy}
 use Rattle.hb_link.specs.Tunnels.{tunnel_of}
 use Rattle.hb_link.proofs.Maps.{put_same}
 use Rattle.hb_link.proofs.Moving.{Map, link_with}
@@ -22,16 +22,16 @@ use Rattle.hb_link.proofs.Still.{settles_still, below_still}
 use Rattle.hb_link.proofs.link.Link.put_on.Goals as goal
 
 pub returns-in_default-clause-settles : goal.returns-in_default-clause-settles
-returns-in_default-clause-settles g c = λ from others limit.
+returns-in_default-clause-settles g c = λ from limits.
     let k = c.args.self.now in
     let s = c.args.stream in
     let told = g.N.Notes.told c.args.notes.now in
-    subst (λ (tunnels : Map). Settles others limit (λ held. ⊤) (PutsBelow from s) (PutsBelow from (s + 1)) k told
+    subst (λ (tunnels : Map). SettlesBy limits (λ held. ⊤) (PutsBelow from s) (PutsBelow from (s + 1)) k told
     (link_with k.conn tunnels k) told) (sym c.at.follows.holds-at-none)
-    (stays others limit (λ held. ⊤) (PutsBelow from s) (PutsBelow from (s + 1)) k told (none_on from k s c.in_default.ensures.none))
+    (stays limits (λ held. ⊤) (PutsBelow from s) (PutsBelow from (s + 1)) k told (none_on from k s c.in_default.ensures.none))
 
 pub returns-then-not-lives-clause-settles : goal.returns-then-not-lives-clause-settles
-returns-then-not-lives-clause-settles g c = λ from others limit.
+returns-then-not-lives-clause-settles g c = λ from limits.
     let k = c.args.self.now in
     let s = c.args.stream in
     let old = c.in-Some.tunnel.now in
@@ -39,13 +39,13 @@ returns-then-not-lives-clause-settles g c = λ from others limit.
     let never : lives_in old.stage ≡ false = search rules in
     let is = c.at.follows.holds old ∙ written_where_some k.tunnels s old (ap is_some c.in-Some.ensures.value)
     ∙ put_same k.tunnels s old c.in-Some.ensures.value in
-    subst (λ (tunnels : Map). Settles others limit (λ held. ⊤) (PutsBelow from s) (PutsBelow from (s + 1)) k told
+    subst (λ (tunnels : Map). SettlesBy limits (λ held. ⊤) (PutsBelow from s) (PutsBelow from (s + 1)) k told
     (link_with k.conn tunnels k) told) (sym is)
-    (stays others limit (λ held. ⊤) (PutsBelow from s) (PutsBelow from (s + 1)) k told
+    (stays limits (λ held. ⊤) (PutsBelow from s) (PutsBelow from (s + 1)) k told
     (other_on from k s old c.in-Some.ensures.value never))
 
 pub returns-then-is_done-clause-settles : goal.returns-then-is_done-clause-settles
-returns-then-is_done-clause-settles g c = λ from others limit.
+returns-then-is_done-clause-settles g c = λ from limits.
     let k = c.args.self.now in
     let s = c.args.stream in
     let old = c.in-Some.tunnel.now in
@@ -66,16 +66,16 @@ returns-then-is_done-clause-settles g c = λ from others limit.
     ∙ ap (λ (w : Tunnel). insert k.tunnels s (record w { stage = Over cause.Done })) two_is in
     let now = g.N.Notes.told c.end.new.self in
     let took = subst (λ (w : Tunnel). Takes told (note.End k.number s cause.Done w.went_up w.went_down ∷ []) now) two_is c.end.ensures in
-    settles_still others limit (λ held. ⊤) (PutsBelow from s) (PutsBelow from (s + 1)) k _ c.went.new.self told now
+    settles_still limits (λ held. ⊤) (PutsBelow from s) (PutsBelow from (s + 1)) k _ c.went.new.self told now
     (λ x at. below_still _ c.went.new.self x from (s + 1) at)
     (subst (λ (tunnels : Map). AlwaysSettles (PutsBelow from s) (PutsBelow from (s + 1)) k told (link_with c.finish.new.conn tunnels k) now)
     (sym is)
     (subst (λ (d : Connection). AlwaysSettles (PutsBelow from s) (PutsBelow from (s + 1)) k told
     (link_with d (insert k.tunnels s (record two { stage = Over cause.Done })) k) now) (sym conn_is)
-    (last_on from k s old told c.in-Some.ensures.value live now took (test ∙ c.if-is_done.true))) others limit)
+    (last_on from k s old told c.in-Some.ensures.value live now took (test ∙ c.if-is_done.true))) limits)
 
 pub returns-else-is_done-clause-settles : goal.returns-else-is_done-clause-settles
-returns-else-is_done-clause-settles g c = λ from others limit.
+returns-else-is_done-clause-settles g c = λ from limits.
     let k = c.args.self.now in
     let s = c.args.stream in
     let old = c.in-Some.tunnel.now in
@@ -94,13 +94,13 @@ returns-else-is_done-clause-settles g c = λ from others limit.
     let is = c.at.follows.holds c.finish.new.self
     ∙ written_where_some k.tunnels s c.finish.new.self (ap is_some c.in-Some.ensures.value)
     ∙ ap (λ (w : Tunnel). insert k.tunnels s w) two_is in
-    settles_still others limit (λ held. ⊤) (PutsBelow from s) (PutsBelow from (s + 1)) k _ c.went.new.self told told
+    settles_still limits (λ held. ⊤) (PutsBelow from s) (PutsBelow from (s + 1)) k _ c.went.new.self told told
     (λ x at. below_still _ c.went.new.self x from (s + 1) at)
     (subst (λ (tunnels : Map). AlwaysSettles (PutsBelow from s) (PutsBelow from (s + 1)) k told (link_with c.finish.new.conn tunnels k) told)
     (sym is)
     (subst (λ (d : Connection). AlwaysSettles (PutsBelow from s) (PutsBelow from (s + 1)) k told
     (link_with d (insert k.tunnels s two) k) told) (sym conn_is)
-    (some_on from k s old told c.in-Some.ensures.value live (test ∙ c.if-is_done.false))) others limit)
+    (some_on from k s old told c.in-Some.ensures.value live (test ∙ c.if-is_done.false))) limits)
 
 pub returns-in_default-clause-rouses : goal.returns-in_default-clause-rouses
 returns-in_default-clause-rouses g c = rouses_same c.args.self.now _ refl c.at.follows.holds-at-none

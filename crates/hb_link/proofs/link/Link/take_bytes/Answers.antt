@@ -1,5 +1,6 @@
 use Rattle.std.proofs.Common.{◌≡◌, ◌≤◌, length, ap, sym, ◌∙◌, subst}
 use Rattle.hb_conn.specs.Connection.{Connection}
+use Rattle.hb_link.specs.Counting.{places}
 use Rattle.hb_link.specs.Fronting.{HasCome, TakesFront}
 use Rattle.hb_link.specs.Observed.{wants_in}
 use Rattle.hb_link.specs.Settling.{MayPut}
@@ -25,9 +26,9 @@ returns-clause-takes g c =
     let new = c.put_all.new.self in
     let told = g.N.Notes.told c.args.notes.now in
     let now = g.N.Notes.told c.put_all.new.notes in
-    let settles = settles_then c.args.others c.args.limit (λ h. h ≡ held) (λ n x. HasCome x.phase n x) MayPut Shows mid
+    let settles = settles_then (places c.args.others c.args.limit) (λ h. h ≡ held) (λ n x. HasCome x.phase n x) MayPut Shows mid
     c.look_all.new.self new told (g.N.Notes.told c.look_all.new.notes) now c.in_ok-look_all.ensures.settles
-    (λ start before a stands holds is. c.put_all.ensures.settles c.args.others c.args.limit start before a stands tt is) in
+    (λ start before a stands holds is. c.put_all.ensures.settles (places c.args.others c.args.limit) start before a stands tt is) in
     elim c.match-self.branch [
       | in-Fronting w ↦
           takes_fronting c.args.others c.args.limit held k mid new c.args.b.now told now settles w.in-Fronting.is

@@ -10,7 +10,7 @@ use Rattle.hb_inbound.specs.Part.{up}
 use Rattle.hb_link.specs.declared.tunnel.Tunnel.{Tunnel}
 use Rattle.hb_link.specs.Calls.{UpEnters}
 use Rattle.hb_link.specs.Noted.{Takes}
-use Rattle.hb_link.specs.Reaches.{unguarded}
+use Rattle.hb_link.specs.Counting.{uncounted}
 use Rattle.hb_link.specs.Tunnels.{opened_on}
 use Rattle.hb_link.proofs.Moving.{Map, link_with}
 use Rattle.hb_link.proofs.Opening.{opened, not_opened}
@@ -29,7 +29,7 @@ returns-clause-enters g c = λ u.
     let now = g.N.Notes.told c.verdict.new.self in
     let took = subst (λ (t : Tunnel). Takes told (note.Verdict k.number s 200 k.peer (Some t.target) ∷ []) now) c.open.ensures
     c.verdict.ensures in
-    meets_still unguarded (λ a. ⊤) (up s (e.Opened u)) k _ c.add.new.self told now
+    meets_still uncounted (λ a. ⊤) (up s (e.Opened u)) k _ c.add.new.self told now
     (subst (λ (tunnels : Map). UpEnters s (e.Opened u) k told (link_with c.put_status.new.self tunnels k) now) (sym is)
     (subst (λ (d : Connection). UpEnters s (e.Opened u) k told (link_with d (insert k.tunnels s (opened_on old)) k) now)
     (sym c.put_status.ensures) (opened k s u told old c.in-Some.ensures.value now took)))

@@ -2,6 +2,7 @@ use Rattle.std.proofs.Common.{rules, ◌≡◌, Some, None, refl, ◌<◌, ◌^�
 use Rattle.std.specs.FinMap.{get}
 use Rattle.hb_world.specs.declared.entry.Entry.TheVariants as e
 use Rattle.hb_links.proofs.Entering.{up_told, own_told}
+use Rattle.hb_links.proofs.Staying.{ended_open}
 use Rattle.hb_links.proofs.Stirs.{told_stirs}
 use Rattle.hb_links.proofs.Totals.{told_counts}
 use Rattle.hb_links.proofs.links.Links.ended.Goals as goal
@@ -24,7 +25,7 @@ returns-in-Some-at-2-clause-meets g c =
     let new = c.ended.new.self in
     let none : get k.ups n ≡ None = search rules in
     own_told _ k c.touch-in-None.new.self _ n (λ i. e.Ended i) c.in-Some-at-2.link.now new (g.N.Notes.told c.args.notes.now)
-    (g.N.Notes.told c.ended.new.notes) c.touch-in-None.ensures (c.at-in-None.follows.holds new) none c.in-Some-at-2.ensures.value
+    (g.N.Notes.told c.ended.new.notes) (ended_open n) c.touch-in-None.ensures (c.at-in-None.follows.holds new) none c.in-Some-at-2.ensures.value
     c.ended.ensures.enters
 
 pub returns-in-Some-at-clause-stirs : goal.returns-in-Some-at-clause-stirs

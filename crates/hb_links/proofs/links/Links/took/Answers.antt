@@ -30,7 +30,7 @@ returns-in_ok-take_bytes-in-None-clause-meets g c =
     let takes = subst (λ (o : ℕ). calls.Takes c.args.held.now o c.args.limit c.args.b.now c.in-Some-at-2.link.now
     (g.N.Notes.told c.args.notes.now) new (g.N.Notes.told c.take_bytes.new.notes)) is c.in_ok-take_bytes-in-None.ensures.takes in
     own_takes _ k c.touch-in-None.new.self _ n c.args.b.now c.in-Some-at-2.link.now new (g.N.Notes.told c.args.notes.now)
-    (g.N.Notes.told c.take_bytes.new.notes) c.args.held.now (others_of k n) c.args.limit c.touch-in-None.ensures
+    (g.N.Notes.told c.take_bytes.new.notes) c.args.held.now c.args.limit c.touch-in-None.ensures
     (c.at-in-None.follows.holds new) none c.in-Some-at-2.ensures.value (takes_all c.args.held.now (others_of k n) c.args.limit
     c.args.b.now c.in-Some-at-2.link.now (g.N.Notes.told c.args.notes.now) new (g.N.Notes.told c.take_bytes.new.notes) few takes)
 

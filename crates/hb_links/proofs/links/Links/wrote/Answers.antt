@@ -2,6 +2,7 @@ use Rattle.std.proofs.Common.{rules, ◌≡◌, Some, None, refl, ◌<◌, ◌^�
 use Rattle.std.specs.FinMap.{get}
 use Rattle.hb_world.specs.declared.entry.Entry.TheVariants as e
 use Rattle.hb_links.proofs.Entering.{up_told, own_told}
+use Rattle.hb_links.proofs.Staying.{went_open}
 use Rattle.hb_links.proofs.Stirs.{told_stirs}
 use Rattle.hb_links.proofs.Totals.{told_counts}
 use Rattle.hb_links.proofs.links.Links.wrote.Goals as goal
@@ -24,7 +25,7 @@ returns-in-Some-at-2-clause-meets g c = λ bytes size.
     let new = c.wrote.new.self in
     let none : get k.ups n ≡ None = search rules in
     own_told _ k c.touch-in-None.new.self _ n (λ i. e.Went i bytes) c.in-Some-at-2.link.now new (g.N.Notes.told c.args.notes.now)
-    (g.N.Notes.told c.wrote.new.notes) c.touch-in-None.ensures (c.at-in-None.follows.holds new) none c.in-Some-at-2.ensures.value
+    (g.N.Notes.told c.wrote.new.notes) (went_open n bytes) c.touch-in-None.ensures (c.at-in-None.follows.holds new) none c.in-Some-at-2.ensures.value
     (c.wrote.ensures.goes bytes size)
 
 pub returns-in-Some-at-clause-stirs : goal.returns-in-Some-at-clause-stirs
