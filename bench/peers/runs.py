@@ -51,12 +51,23 @@ def turns(room):
 
 @case
 def a_port_that_is_taken(room):
-    """Status 4 where the door's port is taken."""
+    """Status 4 where the door's port is taken, and a line that names the door and says so."""
     room.control()
     with socket.create_server((HERE, 0)) as taken:
-        proxy = Proxy(room.program, room.discovery, inbound=taken.getsockname()[1])
+        port = taken.getsockname()[1]
+        proxy = Proxy(room.program, room.discovery, inbound=port)
         wanted("the status", proxy.process.wait(10), 4)
-        wanted("what is told last", proxy.told()[-1:], ["hbone: world fault"])
+        wanted("what is told", proxy.told(), [f"hbone: inbound door {HERE}:{port}: address in use", "hbone: world fault"])
+
+
+@case
+def two_doors_on_one_port(room):
+    """Status 4, and a line that names the second door."""
+    room.control()
+    port = free_port()
+    proxy = Proxy(room.program, room.discovery, inbound=port, plain=port)
+    wanted("the status", proxy.process.wait(10), 4)
+    wanted("what is told", proxy.told(), [f"hbone: plain door {HERE}:{port}: address in use", "hbone: world fault"])
 
 
 @case

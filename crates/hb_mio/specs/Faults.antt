@@ -32,7 +32,7 @@ module _ {S : Type 0} where
   OthersSame link before after = (l : ℕ) → l ≢ link → faults_at after l ≡ faults_at before l
 
 -- the real sockets follow no script, and count what failed
-abbrev pub seen_of : {R Stream Listener : Type 0} → MioWorld R Stream Listener → Seen
+abbrev pub seen_of : {R L Stream Listener : Type 0} → MioWorld R L Stream Listener → Seen
 seen_of w = record {
   script = None;
   faults = w.faults;

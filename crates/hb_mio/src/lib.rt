@@ -2,9 +2,12 @@
 #![tactic(auto)]
 
 mod doors;
+mod log;
 mod mio_world;
+mod reason;
 mod socket;
 mod sockets;
 mod watch;
 
+pub use log::Log;
 pub use mio_world::MioWorld;

@@ -8,6 +8,8 @@ ghost use Rattle.hb_world.specs.Answers.{birth_failed};
 ghost use Rattle.hb_world.specs.Seen.{Stays, CountsUp};
 
 use crate::doors::{Doors, address_of};
+use crate::log::Log;
+use crate::reason::{tell_door, tell_wait};
 use crate::sockets::Sockets;
 use crate::watch::{Watch, begin};
 use hb_base::{Cause, Door, Or, Target, Why};
@@ -27,12 +29,14 @@ use std::time::Clock;
 /// with what is ready, and a wait never Stop. A door whose accept failed is named at the next tick, since no event tells again of
 /// what waits there.
 /// A connection of a tunnel's own bytes that is closed for another cause than `Done` is ended by a RST, and each other one by a FIN.
-/// A call that a signal interrupted is made again, up to 16 times. No memory is taken after the first listen, dial or wait, but
-/// for the table of links, and for that before a connection is accepted or begun.
+/// A call that a signal interrupted is made again, up to 16 times. A listen, a wait or a glance that fails tells its log why, in a line:
+/// `hbone: `, the door with its address, or `wait`, a colon and the system's reason. But for that line no memory is taken after the first
+/// listen, dial or wait, but for the table of links, and for that before a connection is accepted or begun.
 #[derive(Drop)]
-pub struct MioWorld<R: Net + Clock + Drop> {
+pub struct MioWorld<R: Net + Clock + Drop, L: Log + Drop> {
     alloc: Global,
     net: R,
+    log: L,
     /// Made at the first listen, dial or wait.
     watch: Option<Watch>,
     doors: Doors,
@@ -41,18 +45,24 @@ pub struct MioWorld<R: Net + Clock + Drop> {
     faults: u64,
 }
 
-impl<R: Net + Clock + Drop> MioWorld<R> {
+impl<R: Net + Clock + Drop, L: Log + Drop> MioWorld<R, L> {
     /// The world as it stands before any call. It asks the system nothing.
-    pub fn new(alloc: Global, net: R) -> MioWorld<R> {
+    pub fn new(alloc: Global, net: R, log: L) -> MioWorld<R, L> {
         MioWorld {
             alloc,
             net,
+            log,
             watch: None,
             doors: Doors::closed(),
             sockets: Sockets::new(alloc),
             birth_faults: 0,
             faults: 0,
         }
+    }
+
+    /// Where it tells why a call failed.
+    pub fn log(&self) -> &L {
+        &self.log
     }
 
     /// Begins to listen.
@@ -154,7 +164,7 @@ fn birth(count: &mut u64, born: Result<Option<u64>, Or<io::Error>>) -> Born
     }
 }
 
-impl<R: Net + Clock + Drop> World for MioWorld<R> {
+impl<R: Net + Clock + Drop, L: Log + Drop> World for MioWorld<R, L> {
     ghost use Rattle.std.specs.Prelude.{None};
     ghost use Rattle.hb_mio.specs.Faults.{seen_of};
 
@@ -166,7 +176,8 @@ impl<R: Net + Clock + Drop> World for MioWorld<R> {
         match self.open(at, door) {
             Ok(()) => Listened::Listening,
             Err(Or::NoMemory) => Listened::NoMemory,
-            Err(Or::Fault(_)) => {
+            Err(Or::Fault(error)) => {
+                tell_door(&mut self.log, self.alloc, at, door, &error);
                 self.faults = self.faults.saturating_add(1);
                 Listened::Failed
             }
@@ -218,8 +229,9 @@ impl<R: Net + Clock + Drop> World for MioWorld<R> {
         match self.gather(ready, true) {
             Ok(true) => Waited::Tick,
             Ok(false) => Waited::Woke,
-            Err(_) => {
+            Err(why) => {
                 ready.clear();
+                tell_wait(&mut self.log, self.alloc, &why);
                 self.faults = self.faults.saturating_add(1);
                 Waited::Failed
             }
@@ -231,8 +243,9 @@ impl<R: Net + Clock + Drop> World for MioWorld<R> {
         match self.gather(ready, false) {
             Ok(true) => Glanced::Tick,
             Ok(false) => Glanced::Woke,
-            Err(_) => {
+            Err(why) => {
                 ready.clear();
+                tell_wait(&mut self.log, self.alloc, &why);
                 self.faults = self.faults.saturating_add(1);
                 Glanced::Failed
             }

@@ -17,6 +17,14 @@ pub fn target(port: u16) -> Target {
     }
 }
 
+/// The target of a port of another machine (RFC 5737).
+pub fn far(port: u16) -> Target {
+    Target {
+        ip: Ip::V4(0xc000_0201),
+        port,
+    }
+}
+
 /// A listener at a port that is free, and the port.
 pub fn listener(rt: &HostRuntime) -> io::Result<(TcpListener, u16)> {
     let listener = TcpListener::bind(rt, here(0))?;

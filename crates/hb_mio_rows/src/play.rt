@@ -1,8 +1,8 @@
 //! A world of real sockets, and the other ends of its links. Each call of the world stands in a function of its own.
 
-use crate::octets::{check_far, comes, free_port, here, listener, pattern, sum_of, target};
-use hb_base::{Cause, Door, Why};
-use hb_mio::MioWorld;
+use crate::octets::{check_far, comes, far, free_port, here, listener, pattern, sum_of, target};
+use hb_base::{Cause, Door, Target, Why};
+use hb_mio::{Log, MioWorld};
 use hb_world::{
     Born, Finished, Glanced, Listened, Looked, Read, Ready, ReadyItem, Waited, World, Wrote,
 };
@@ -14,9 +14,21 @@ use std::test::Fail;
 /// So often a test waits before it gives up; each wait ends within a second.
 const WAITS: u32 = 60;
 
+/// The lines that the world told.
+#[derive(Drop)]
+struct Lines {
+    text: String,
+}
+
+impl Log for Lines {
+    fn line(&mut self, line: &str) {
+        let _ = self.text.push_str(line);
+    }
+}
+
 #[derive(Drop)]
 pub struct Play {
-    world: MioWorld<HostRuntime>,
+    world: MioWorld<HostRuntime, Lines>,
     ready: Ready,
     /// Where the other ends of dialled links listen.
     listener: TcpListener,
@@ -43,8 +55,11 @@ impl Play {
         let (listener, taken) = listener(rt)?;
         let net = rt.clone()?;
         let ready = Ready::new(rt.alloc())?;
+        let lines = Lines {
+            text: String::new(rt.alloc()),
+        };
         Ok(Play {
-            world: MioWorld::new(rt.alloc(), net),
+            world: MioWorld::new(rt.alloc(), net, lines),
             ready,
             listener,
             taken,
@@ -53,8 +68,29 @@ impl Play {
         })
     }
 
-    fn listen(&mut self, port: u16, door: Door) -> Listened {
-        self.world.listen(target(port), door)
+    fn listen(&mut self, at: Target, door: Door) -> Listened {
+        self.world.listen(at, door)
+    }
+
+    /// The port of a place: the one that is taken, or the one that is free at first.
+    fn port_at(&self, place: &str) -> u16 {
+        match place {
+            "taken" => self.taken,
+            _ => self.free,
+        }
+    }
+
+    /// Whether the world told this one line alone, of a door at a place, and why nothing listens there.
+    fn told_why(&self, alloc: Global, place: &str, text: &str) -> Result<bool, AllocError> {
+        let (door, why) = cut(text, " ");
+        let port = self.port_at(place);
+        let ip = if place == "far" {
+            "192.0.2.1"
+        } else {
+            "127.0.0.1"
+        };
+        let line = format!(in alloc; "hbone: {door} door {ip}:{port}: {why}\n")?;
+        Ok(self.world.log().text.as_str() == line.as_str())
     }
 
     fn accept(&mut self, door: Door) -> Born {
@@ -290,8 +326,9 @@ impl Play {
     fn world_line(&mut self, call: &str, first: &str, text: &str) -> Told {
         let link = number_of(first);
         match call {
-            "listen" => Told::Word(word_of_listen(self.listen(self.free, door_of(first)))),
-            "taken" => Told::Word(word_of_listen(self.listen(self.taken, door_of(first)))),
+            "listen" => Told::Word(word_of_listen(self.listen(target(self.free), door_of(first)))),
+            "taken" => Told::Word(word_of_listen(self.listen(target(self.taken), door_of(first)))),
+            "far" => Told::Word(word_of_listen(self.listen(far(self.free), door_of(first)))),
             "accept" => told_of_born(self.accept(door_of(first))),
             "finish" => Told::Word(word_of_finish(self.finish(link))),
             "read" => Told::Word(word_of_read(self.read(link).0)),
@@ -316,6 +353,10 @@ impl Play {
         let link = number_of(first);
         match call {
             "call" => Told::Word(self.call(rt)),
+            "why" => Told::Word(match self.told_why(rt.alloc(), first, text) {
+                Ok(true) => "",
+                _ => "another line",
+            }),
             "named" => Told::Counted("times", self.times_named(door_of(first))),
             "dial" => told_of_born(self.dial(free_port(rt).unwrap_or(0), Why::Discovery)),
             "pair" => told_of_born(self.pair_for(why_of(first))),

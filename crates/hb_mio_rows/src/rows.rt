@@ -6,7 +6,8 @@
 //! | Line | Says |
 //! |---|---|
 //! | `row NAME` | a run begins, with another world |
-//! | `listen DOOR`, `taken DOOR` | the world listens at a port that is free, or at one that isn't |
+//! | `listen DOOR`, `taken DOOR`, `far DOOR` | the world listens at a port that is free, at one that isn't, or at an address of another machine |
+//! | `why PLACE DOOR REASON` | the one line that the world told: of this door, at the port that was free, at the one that is `taken`, or `far` |
 //! | `call` | a connection to that free port; its link is the next that is born |
 //! | `named DOOR` | the world waits until this door is ready: so often it is named then |
 //! | `accept DOOR`, `finish LINK`, `read LINK`, `write LINK TEXT`, `look LINK`, `shut LINK`, `close LINK`, `close LINK CAUSE` | this call; a run that ends is the cause that isn't named |
@@ -46,8 +47,16 @@ hear 1 5 = 0 0 end
 hear 3 5 = 0 0 end
 row a port that is taken is no door
 taken plain = failed
+why taken plain address in use
 accept plain = balked
 accept outbound = balked
+row an address of another machine is no door
+far outbound = failed
+why far outbound address not of this machine
+row two doors have no port in common
+listen inbound = listening
+listen plain = failed
+why free plain address in use
 row what is written comes both ways
 pair = link 1
 says 1 hello

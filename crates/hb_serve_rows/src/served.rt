@@ -4,7 +4,7 @@ use hb_audit::Audits;
 use hb_base::{MemSink, MemSource};
 use hb_cli::run;
 use hb_line_audit::LineAudit;
-use hb_mio::MioWorld;
+use hb_mio::{Log, MioWorld};
 use hb_turns::Keep;
 use hb_world::ScriptWorld;
 use std::io;
@@ -20,6 +20,14 @@ pub struct Ports {
     pub outbound: u16,
     pub upstream: u16,
     pub gateway: u16,
+}
+
+/// What a world tells that is read nowhere.
+#[derive(Drop)]
+struct Unread;
+
+impl Log for Unread {
+    fn line(&mut self, _line: &str) {}
 }
 
 /// An address of this machine.
@@ -57,7 +65,7 @@ fn status_of(
     err: &mut MemSink,
     audits: &mut Audits<LineAudit<MemSink>>,
 ) -> io::Result<u8> {
-    let mut world = MioWorld::new(rt.alloc(), rt.clone()?);
+    let mut world = MioWorld::new(rt.alloc(), rt.clone()?, Unread);
     Ok(run(
         rt.alloc(),
         words,
