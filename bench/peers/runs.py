@@ -1,11 +1,13 @@
 """How a run ends."""
 
+import os
 import signal
 import socket
 import subprocess
+import threading
 import time
 
-from case import PREFACE, case, payload, says
+from case import PREFACE, answer_of, case, payload, says
 from peers import HERE, OTHER, Proxy, echo, free_port, header, mesh, until, wanted
 
 
@@ -113,6 +115,44 @@ def closed_standard_streams(room):
         control.close()
         wanted("what came", (came.startswith(PREFACE), b"verdict" in came), (True, False))
         wanted("the status", process.wait(10), 7)
+
+
+@case
+def standard_error_that_nobody_reads(room):
+    """Standard error is a pipe that nobody reads, while one peer is refused 6,000 requests: an echo goes on, and an update revokes a tunnel
+    of another peer at once. Once it is read, each line comes whole, but for those that are counted as lost."""
+    reads, writes = os.pipe()
+    room.start(err=writes)
+    os.close(writes)
+    up, peer, other = room.upstream(echo), room.peer(), room.peer(identity=OTHER)
+    stream = peer.tunnel(up.port)
+    for _ in range(60):
+        refused = [other.connect(f"{HERE}:{up.port}") for _ in range(100)]
+        other.pump(lambda: all(other.closed(it) for it in refused), "100 refusals")
+    says(peer, stream, b"hello")
+    begun = time.monotonic()
+    room.update(mesh(OTHER))
+    peer.pump(lambda: peer.closed(stream), "a reset", 1)
+    took = time.monotonic() - begun
+    came = bytearray()
+    threading.Thread(target=read_all, args=(reads, came), daemon=True).start()
+    until("what waited", lambda: len(came) > 320_000)
+    answer_of(peer, peer.connect(f"{HERE}:{up.port}"))
+    until("the next line", lambda: b" lines lost\nverdict" in came and came.endswith(b"\n"))
+    lines = came.decode().splitlines()
+    lost = sum(int(line.split(" ")[1]) for line in lines if line.startswith("hbone: "))
+    kept = sum(line.startswith(("verdict ", "end ")) for line in lines)
+    # an answer of 200, 6,000 refusals, an end, one more refusal
+    wanted("lines and those that were lost", (kept + lost, len(lines) - kept), (6003, 1))
+    room.proxy.end()
+    return f"revoked within {took:.2f} s, {lost} lines lost"
+
+
+def read_all(descriptor, came):
+    """Reads until the end."""
+    while part := os.read(descriptor, 65536):
+        came += part
+    os.close(descriptor)
 
 
 def ended(it):

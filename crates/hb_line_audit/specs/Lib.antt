@@ -1,1 +1,3 @@
-pub mod Line
+pub mod LineAudit
+pub mod Lines
+pub mod Refused

@@ -1,76 +1,164 @@
 //! An audit that writes a line for each note.
 
-ghost use Rattle.std.specs.Prelude.{◌≡◌, ◌≤◌, None, IfOk};
-ghost use Rattle.hb_base.specs.Count.{Counts};
+ghost use Rattle.std.specs.Prelude.{◌≡◌, ◌≤◌, ◌≢◌, ◌⊎◌, [], true, false, None, Some, IfOk, OnOk};
+ghost use Rattle.std.specs.String.{string_bytes};
+ghost use Rattle.std.specs.Io.KnownBytes.{Keeps};
+ghost use Rattle.hb_base.specs.Count.{Counts, Rose};
 ghost use Rattle.hb_audit.specs.Held.{held_after, has_failed};
-ghost use Rattle.hb_line_audit.specs.Line.{WritesLine};
+ghost use Rattle.hb_report.specs.Note.{note_line};
+ghost use Rattle.hb_line_audit.specs.Lines.{handed, lost_line};
+ghost use Rattle.hb_line_audit.specs.LineAudit.{TakesLine};
 
+use crate::lines::Lines;
+use crate::polled::Polled;
 use hb_audit::{Audit, Noted};
-use hb_base::{NoMemory, Note, Sink, put_all};
+use hb_base::{NoMemory, Note};
 use hb_report::add_note;
 use std::alloc::Global;
-use std::marker::Model;
 
 /// How many bytes a line may have for which no memory is taken.
 const LINE: usize = 512;
 
-/// Writes the line of each note into a sink, by one `put_all`, and tells no notes. It fails exactly where the sink does. A line of up
-/// to 512 bytes takes no memory; the memory that a longer one took is kept for the next. Contracts see the sink.
+/// How many bytes the line has that tells of lost lines, at most.
+const LOST: usize = 64;
+
+/// Hands the line of each note to a sink that is asked whether it takes more. Up to 262,144 bytes wait until it does; a line for which
+/// there is no room is lost, whole, and counted, and in front of the next that finds room stands `hbone: N lines lost`. It tells no
+/// notes. It fails where a put did, and from then on nothing is put. `over` takes the memory for what waits and for lines of up to 512
+/// bytes; what a longer one took is kept for the next.
 #[derive(Drop)]
 pub struct LineAudit<K> {
-    sink: K,
+    lines: Lines<K>,
     line: String,
+    told: String,
+    /// How often it failed.
+    faults: u64,
 }
 
-impl<K> Model for LineAudit<K> {
-    ghost Value = { K };
-
-    ghost view = { λ a. a.sink };
+/// Writes the line that tells how many lines were lost, where some were, in place of what stood there.
+///
+/// Errors: `NoMemory`.
+fn tell_lost(lost: u64, told: &mut String) -> Result<(), NoMemory>
+    ensures { OnOk result (string_bytes told.new ≡ lost_line lost) }
+{
+    told.clear();
+    if lost == 0 {
+        return Ok(());
+    }
+    write!(told, "hbone: {lost} lines lost\n")
 }
 
-impl<K: Sink + Drop> LineAudit<K> {
-    /// An audit that writes into `sink`, with memory for a line.
+impl<K: Polled + Drop> LineAudit<K> {
+    /// An audit over a sink, before any note.
     ///
     /// Errors: `NoMemory`, and then the sink is dropped.
     pub fn over(alloc: Global, sink: K) -> Result<LineAudit<K>, NoMemory>
-        ensures { IfOk result (λ audit. audit ≡ sink) }
+        ensures { IfOk result (λ audit. audit.lines ≡ record { sink = sink; waits = []; lost = 0; failed = false }) }
     {
+        let lines = Lines::over(alloc, sink)?;
         let line = String::with_capacity(alloc, LINE)?;
-        Ok(LineAudit { sink, line })
+        let told = String::with_capacity(alloc, LOST)?;
+        Ok(LineAudit {
+            lines,
+            line,
+            told,
+            faults: 0,
+        })
     }
 
     /// The sink.
     pub fn sink(&self) -> &K
-        ensures { result.now ≡ self.now }
+        ensures { result.now ≡ self.now.lines.sink }
     {
-        &self.sink
+        self.lines.sink()
     }
-}
 
-impl<K: Sink + Drop> Audit for LineAudit<K> {
-    ghost use Rattle.std.specs.Prelude.{None, ⊤};
+    /// The line that stands ready is taken.
+    #[tactic(auto, using(crate::proofs::HandedLemmas::keeps_next, crate::proofs::HandedLemmas::appends_waits, crate::proofs::HandedLemmas::appends_behind))]
+    fn take_line(&mut self) -> Noted
+        ensures taken { TakesLine K.written self.old.lines self.new.lines (string_bytes self.old.line) result }
+        ensures later { self.old.faults ≤ self.new.faults }
+        ensures counts { Counts self.old.faults self.new.faults (has_failed result) }
+    {
+        if tell_lost(self.lines.lost(), &mut self.told).is_err() {
+            return Noted::NoMemory;
+        }
+        if !self
+            .lines
+            .has_room(self.told.as_bytes(), self.line.as_bytes())
+        {
+            self.lines.flush();
+        }
+        if self.lines.has_failed() {
+            self.faults = self.faults.saturating_add(1);
+            return Noted::Failed;
+        }
+        self.lines.add(self.told.as_bytes(), self.line.as_bytes());
+        Noted::Kept
+    }
 
-    ghost notes = { λ a. None };
-
-    ghost faults = { λ a. K.faults a };
-
-    ghost may_answer = { λ a n answer. ⊤ };
-
-    /// Writes the note's line: a part of it, from the front, where a put fails; nothing where there is no memory for it.
-    fn note(&mut self, n: &Note) -> Noted
-        ensures held { None ≡ held_after None n.now result }
-        ensures later { K.faults self.old ≤ K.faults self.new }
-        ensures counts { Counts (K.faults self.old) (K.faults self.new) (has_failed result) }
-        ensures line { WritesLine (K.written self.old) (K.written self.new) n.now result }
+    /// Takes the line of a note, which waits until a flush.
+    pub fn take(&mut self, n: &Note) -> Noted
+        ensures taken { TakesLine K.written self.old.lines self.new.lines (note_line n.now) result }
+        ensures later { self.old.faults ≤ self.new.faults }
+        ensures counts { Counts self.old.faults self.new.faults (has_failed result) }
     {
         self.line.clear();
         if add_note(n, &mut self.line).is_err() {
             return Noted::NoMemory;
         }
-        match put_all(&mut self.sink, self.line.as_bytes()) {
-            Ok(()) => Noted::Kept,
-            Err(_) => Noted::Failed,
+        self.take_line()
+    }
+
+    /// Takes a line of other words, with its newline, which waits until a flush.
+    pub fn tell(&mut self, line: &str) -> Noted
+        ensures taken { TakesLine K.written self.old.lines self.new.lines line.now result }
+        ensures later { self.old.faults ≤ self.new.faults }
+        ensures counts { Counts self.old.faults self.new.faults (has_failed result) }
+    {
+        self.line.clear();
+        if self.line.push_str(line).is_err() {
+            return Noted::NoMemory;
         }
+        self.take_line()
+    }
+
+    /// Writes what waits, as far as the sink takes it without a wait.
+    pub fn flush(&mut self)
+        ensures kept { Keeps (handed K.written self.old.lines) (handed K.written self.new.lines) }
+        ensures lost { self.new.lines.lost ≡ self.old.lines.lost }
+        ensures rests { self.new.lines.failed ≡ false
+            → (self.new.lines.waits ≡ []) ⊎ (K.answer self.new.lines.sink ≡ Some false) }
+        ensures asks { self.old.lines.failed ≡ false → self.old.lines.waits ≢ []
+            → Rose (K.asked self.old.lines.sink) (K.asked self.new.lines.sink) }
+        ensures counts { self.old.lines.failed ≡ false
+            → Counts (K.faults self.old.lines.sink) (K.faults self.new.lines.sink) self.new.lines.failed }
+        ensures ended { self.old.lines.failed ≡ true → self.new.lines ≡ self.old.lines }
+        ensures faults { self.new.faults ≡ self.old.faults }
+    {
+        self.lines.flush();
+    }
+}
+
+impl<K: Polled + Drop> Audit for LineAudit<K> {
+    ghost use Rattle.std.specs.Prelude.{None, ⊤};
+
+    ghost notes = { λ a. None };
+
+    ghost faults = { λ a. a.faults };
+
+    ghost may_answer = { λ a n answer. ⊤ };
+
+    /// Takes the note's line, and writes what waits, as far as the sink takes it.
+    fn note(&mut self, n: &Note) -> Noted
+        ensures held { None ≡ held_after None n.now result }
+        ensures later { self.old.faults ≤ self.new.faults }
+        ensures counts { Counts self.old.faults self.new.faults (has_failed result) }
+        ensures taken { TakesLine K.written self.old.lines self.new.lines (note_line n.now) result }
+    {
+        let noted = self.take(n);
+        self.flush();
+        noted
     }
 
     /// False: it tells no notes.

@@ -2,6 +2,9 @@
 
 /// Takes lines for whoever runs the program.
 pub trait Log {
-    /// Takes a line, with its newline.
+    /// Takes a line, with its newline. It may wait until a flush.
     fn line(&mut self, line: &str);
+
+    /// Writes what waits, as far as that goes at once.
+    fn flush(&mut self);
 }

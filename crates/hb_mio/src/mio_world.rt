@@ -30,8 +30,9 @@ use std::time::Clock;
 /// what waits there.
 /// A connection of a tunnel's own bytes that is closed for another cause than `Done` is ended by a RST, and each other one by a FIN.
 /// A call that a signal interrupted is made again, up to 16 times. A listen, a wait or a glance that fails tells its log why, in a line:
-/// `hbone: `, the door with its address, or `wait`, a colon and the system's reason. But for that line no memory is taken after the first
-/// listen, dial or wait, but for the table of links, and for that before a connection is accepted or begun.
+/// `hbone: `, the door with its address, or `wait`, a colon and the system's reason. Each wait and each glance flushes the log first.
+/// But for such a line no memory is taken after the first listen, dial or wait, but for the table of links, and for that before a
+/// connection is accepted or begun.
 #[derive(Drop)]
 pub struct MioWorld<R: Net + Clock + Drop, L: Log + Drop> {
     alloc: Global,
@@ -124,10 +125,11 @@ impl<R: Net + Clock + Drop, L: Log + Drop> MioWorld<R, L> {
         self.bear(stream, is_raw(why)).map_err(Or::Fault)
     }
 
-    /// Waits, or doesn't, and adds what is ready. Tells whether a tick is due.
+    /// Flushes the log, waits, or doesn't, and adds what is ready. Tells whether a tick is due.
     fn gather(&mut self, ready: &mut Ready, waits: bool) -> Result<bool, Or<io::Error>>
         ensures stays { Stays (seen_of self.old) (seen_of self.new) }
     {
+        self.log.flush();
         begin(&mut self.watch, self.alloc, &self.net)?;
         let Some(watch) = &mut self.watch else {
             unreachable!()

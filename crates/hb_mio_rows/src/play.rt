@@ -24,6 +24,8 @@ impl Log for Lines {
     fn line(&mut self, line: &str) {
         let _ = self.text.push_str(line);
     }
+
+    fn flush(&mut self) {}
 }
 
 #[derive(Drop)]

@@ -1,9 +1,10 @@
-//! The lines of notes, into sinks that take little, and that fail.
+//! The lines of notes, into sinks that take little, that say that they take no more, and that fail.
 
 use crate::drip::Drip;
+use crate::valve::Valve;
 use hb_audit::{Audit, Noted};
 use hb_base::{Cause, Note, Peer, read_identity, read_ip, read_target};
-use hb_line_audit::LineAudit;
+use hb_line_audit::{Always, LineAudit};
 use std::alloc::Global;
 use std::process::Abort;
 
@@ -33,28 +34,28 @@ fn end(cause: Cause, up: u64, down: u64) -> Note {
 }
 
 /// An audit over a sink that has room for so many bytes.
-fn audit(rt: &impl Abort, alloc: Global, room: usize) -> LineAudit<Drip> {
-    LineAudit::over(alloc, Drip::new(alloc, room))
+fn audit(rt: &impl Abort, alloc: Global, room: usize) -> LineAudit<Always<Drip>> {
+    LineAudit::over(alloc, Always::over(Drip::new(alloc, room)))
         .ok()
         .expect(rt, "memory")
 }
 
-/// The line is written whole where the sink has room for it, and else as far as there is room.
+/// The line is written whole where the sink has room for it, and else as far as there is room; and behind a put that failed no note is
+/// kept.
 fn assert_line(rt: &impl Abort, alloc: Global, n: &Note, line: &str) {
     for room in 0..line.len() {
         let mut audit = audit(rt, alloc, room);
+        let _ = audit.note(n);
+        let noted = audit.note(n);
+        assert!(rt; matches!(noted, Noted::Failed), "room for {room}: {line}");
         assert!(rt;
-            matches!(audit.note(n), Noted::Failed),
-            "room for {room}: {line}"
-        );
-        assert!(rt;
-            audit.sink().as_slice() == &line.as_bytes()[..room],
+            audit.sink().sink().as_slice() == &line.as_bytes()[..room],
             "room for {room}: {line}"
         );
     }
     let mut audit = audit(rt, alloc, line.len());
     assert!(rt; matches!(audit.note(n), Noted::Kept), "{line}");
-    assert!(rt; audit.sink().as_slice() == line.as_bytes(), "{line}");
+    assert!(rt; audit.sink().sink().as_slice() == line.as_bytes(), "{line}");
 }
 
 #[test]
@@ -92,7 +93,10 @@ fn lines_follow_each_other(rt: HostRuntime) {
     let _ = audit.note(&end(Cause::Done, 3, 4));
     let line = "end 18446744073709551615/2147483647 revoked up 1 down 2\n\
 end 18446744073709551615/2147483647 done up 3 down 4\n";
-    assert!(rt; audit.sink().as_slice() == line.as_bytes(), "two lines");
+    assert!(rt;
+        audit.sink().sink().as_slice() == line.as_bytes(),
+        "two lines"
+    );
 }
 
 #[test]
@@ -112,5 +116,57 @@ fn a_line_beyond_512_octets_is_written_whole(rt: HostRuntime) {
     let note = verdict(&rt, alloc, 503, words);
     let mut audit = audit(&rt, alloc, 2000);
     assert!(rt; matches!(audit.note(&note), Noted::Kept), "it is kept");
-    assert!(rt; audit.sink().as_slice() == line.as_bytes(), "it is whole");
+    assert!(rt;
+        audit.sink().sink().as_slice() == line.as_bytes(),
+        "it is whole"
+    );
+}
+
+/// A line of 56 octets.
+const LINE: &str = "end 18446744073709551615/2147483647 revoked up 1 down 2\n";
+
+/// Audits over a sink that says so often that it takes no more, once these many notes came.
+fn behind(rt: &impl Abort, alloc: Global, refusals: u64, notes: u32) -> LineAudit<Valve> {
+    let sink = Valve::new(alloc, refusals);
+    let mut audit = LineAudit::over(alloc, sink).ok().expect(rt, "memory");
+    for _ in 0..notes {
+        let noted = audit.note(&end(Cause::Revoked, 1, 2));
+        assert!(rt; matches!(noted, Noted::Kept), "it is kept");
+    }
+    audit
+}
+
+#[test]
+fn lines_wait_until_the_sink_takes_more(rt: HostRuntime) {
+    let mut audit = behind(&rt, rt.alloc(), 3, 3);
+    assert!(rt; audit.sink().as_slice().is_empty(), "none is written");
+    audit.flush();
+    let lines = audit.sink().as_slice();
+    assert!(rt; lines.len() == 168, "three are written");
+    assert!(rt;
+        lines.starts_with(LINE.as_bytes()) && lines.ends_with(LINE.as_bytes()),
+        "these"
+    );
+    assert!(rt; audit.sink().puts() == 1, "in one put");
+}
+
+/// Of 262,144 octets 4,681 lines of 56 take 262,136. For each that comes then the sink is asked twice.
+#[test]
+fn lines_without_room_are_counted(rt: HostRuntime) {
+    let mut audit = behind(&rt, rt.alloc(), 4681 + 2 * 7, 4681 + 7);
+    assert!(rt; audit.sink().as_slice().is_empty(), "none is written");
+    let _ = audit.note(&end(Cause::Revoked, 1, 2));
+    let lines = audit.sink().as_slice();
+    let behind = lines.get(262_136..).unwrap_or(b"");
+    let mut want = String::from_str(rt.alloc(), "hbone: 7 lines lost\n").expect(&rt, "memory");
+    want.push_str(LINE).expect(&rt, "memory");
+    assert!(rt;
+        behind == want.as_bytes(),
+        "how many were lost, and the next"
+    );
+    assert!(rt; lines.starts_with(LINE.as_bytes()), "those that waited");
+    assert!(rt;
+        audit.sink().is_whole(),
+        "whole lines, of 4,096 octets at most"
+    );
 }

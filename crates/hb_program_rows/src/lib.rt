@@ -24,3 +24,5 @@ mod script_forms;
 mod script_notation;
 #[cfg(test)]
 mod scripts;
+#[cfg(test)]
+mod valve;

@@ -4,7 +4,7 @@ use crate::runs::{NOTHING_FAILS, UNREADABLE, served_with, told_with};
 use crate::scripts::script_of;
 use hb_audit::{Audit, Audits, MemAudit};
 use hb_base::{Cause, MemSink, Note, Peer, read_identity, read_ip, read_target};
-use hb_line_audit::LineAudit;
+use hb_line_audit::{Always, LineAudit};
 use std::alloc::Global;
 use std::process::Abort;
 
@@ -142,18 +142,26 @@ fn an_audit_that_fails_in_a_replay_is_dropped(rt: HostRuntime) {
 }
 
 #[test]
-fn a_sink_has_the_lines_or_its_audit_is_dropped(rt: HostRuntime) {
+fn a_sink_has_the_lines_for_which_it_has_room(rt: HostRuntime) {
     let alloc = rt.alloc();
     for room in 0..LINES.len() + 1 {
         let sink = MemSink::new(alloc, room, &[]).expect(&rt, "memory");
-        let audit = LineAudit::over(alloc, sink).ok().expect(&rt, "memory");
+        let audit = LineAudit::over(alloc, Always::over(sink))
+            .ok()
+            .expect(&rt, "memory");
         let mut audits = Vec::new(alloc);
         audits.push(audit).ok().expect(&rt, "memory");
         let mut audits = Audits::over(audits);
         let told = served_with(&rt, alloc, "USUAL DOOR", SCRIPT, UNREADABLE, &mut audits);
         assert!(&rt; told.as_str() == ENDS, "room for {room}: {told}");
         match audits.as_slice().first() {
-            Some(audit) => assert!(&rt; audit.sink().as_slice() == LINES.as_bytes(), "the lines"),
+            Some(audit) => {
+                let lines = audit.sink().sink().as_slice();
+                assert!(&rt;
+                    lines == &LINES.as_bytes()[..room],
+                    "room for {room}: the lines"
+                )
+            }
             None => assert!(&rt; room < LINES.len(), "room for {room}: none is left"),
         }
     }

@@ -3,7 +3,7 @@
 use hb_audit::Audits;
 use hb_base::{MemSink, MemSource};
 use hb_cli::run;
-use hb_line_audit::LineAudit;
+use hb_line_audit::{Always, LineAudit};
 use hb_mio::{Log, MioWorld};
 use hb_turns::Keep;
 use hb_world::ScriptWorld;
@@ -28,6 +28,8 @@ struct Unread;
 
 impl Log for Unread {
     fn line(&mut self, _line: &str) {}
+
+    fn flush(&mut self) {}
 }
 
 /// An address of this machine.
@@ -63,7 +65,7 @@ fn status_of(
     input: &mut MemSource,
     out: &mut MemSink,
     err: &mut MemSink,
-    audits: &mut Audits<LineAudit<MemSink>>,
+    audits: &mut Audits<LineAudit<Always<MemSink>>>,
 ) -> io::Result<u8> {
     let mut world = MioWorld::new(rt.alloc(), rt.clone()?, Unread);
     Ok(run(
@@ -92,13 +94,13 @@ fn served(rt: &HostRuntime, ports: Ports) -> io::Result<String> {
     let mut err = MemSink::new(rt.alloc(), 1024, &[0])?;
     let mut audits = Vec::new(rt.alloc());
     let lines = MemSink::new(rt.alloc(), 1024, &[0])?;
-    audits.push(LineAudit::over(rt.alloc(), lines)?)?;
+    audits.push(LineAudit::over(rt.alloc(), Always::over(lines))?)?;
     let mut audits = Audits::over(audits);
     let status = status_of(rt, &words, &mut input, &mut out, &mut err, &mut audits)?;
     let output = text_of(out.as_slice());
     let error = text_of(err.as_slice());
     let lines = match audits.as_slice().first() {
-        Some(audit) => text_of(audit.sink().as_slice()),
+        Some(audit) => text_of(audit.sink().sink().as_slice()),
         None => "no audit",
     };
     Ok(format!(in rt.alloc(); "{status}; {output}; {error}; {lines}")?)

@@ -1,23 +1,98 @@
-//! Lines on standard error.
+//! Standard error: the lines that wait for it, and what stands behind them.
 
+use hb_base::{Put, Sink, StdSink};
+use hb_line_audit::{Polled, SharedAudit};
 use hb_mio::Log;
+use libc::net::{POLLERR, POLLHUP, POLLNVAL, POLLOUT, poll};
+use libc::types::pollfd;
 use std::io::Write;
 
-/// Writes the lines of a log; a line that can't be written is left out.
-#[derive(Drop)]
-pub(crate) struct ErrorLog<W> {
-    writer: W,
+/// The descriptor of standard error.
+const STANDARD_ERROR: i32 = 2;
+
+/// Whether a write to standard error of up to 4,096 bytes returns at once: a pipe that polls so takes as many in one piece. One that
+/// fails does too.
+fn takes_more() -> bool {
+    let mut asked = [pollfd {
+        fd: STANDARD_ERROR,
+        events: POLLOUT,
+        revents: 0,
+    }];
+    let _ = poll(&mut asked, 0);
+    asked[0].revents & (POLLOUT | POLLERR | POLLHUP | POLLNVAL) != 0
 }
 
-impl<W> ErrorLog<W> {
-    /// A log whose lines this writer writes.
-    pub fn over(writer: W) -> ErrorLog<W> {
-        ErrorLog { writer }
+/// Standard error, asked by a poll whether it takes more.
+#[derive(Drop)]
+pub(crate) struct StandardError<K> {
+    sink: K,
+    answer: Option<bool>,
+    asked: u64,
+}
+
+impl<K> StandardError<K> {
+    /// Standard error, to which this sink writes, before it was asked.
+    pub fn over(sink: K) -> StandardError<K> {
+        StandardError {
+            sink,
+            answer: None,
+            asked: 0,
+        }
     }
 }
 
-impl<W: Write> Log for ErrorLog<W> {
+impl<K: Sink> Polled for StandardError<K> {
+    ghost written = { λ s. K.written s.sink };
+
+    ghost faults = { λ s. K.faults s.sink };
+
+    ghost answer = { λ s. s.answer };
+
+    ghost asked = { λ s. s.asked };
+
+    fn takes_more(&mut self) -> bool {
+        let takes = takes_more();
+        self.asked = self.asked.saturating_add(1);
+        self.answer = Some(takes);
+        takes
+    }
+
+    fn put(&mut self, from: &[u8]) -> Put {
+        self.answer = None;
+        self.sink.put(from)
+    }
+}
+
+/// The world's lines, which stand among those of the notes.
+#[derive(Drop)]
+pub(crate) struct ErrorLog<K: Drop> {
+    pub lines: SharedAudit<K>,
+}
+
+impl<K: Polled + Drop> Log for ErrorLog<K> {
     fn line(&mut self, line: &str) {
-        let _ = self.writer.write_all(line.as_bytes());
+        self.lines.tell(line);
+    }
+
+    fn flush(&mut self) {
+        self.lines.flush();
+    }
+}
+
+/// Standard error for the lines of a status, which stand behind those of the notes, as far as these are taken.
+#[derive(Drop)]
+pub(crate) struct LastLines<K: Drop, W> {
+    pub lines: SharedAudit<K>,
+    pub sink: StdSink<W>,
+}
+
+impl<K: Polled + Drop, W: Write> Sink for LastLines<K, W> {
+    ghost written = { λ s. W.contents s.sink.0 };
+
+    ghost faults = { λ s. s.sink.1 };
+
+    fn put(&mut self, from: &[u8]) -> Put {
+        self.lines.flush();
+        self.sink.put(from)
     }
 }
