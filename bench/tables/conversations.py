@@ -29,7 +29,7 @@ DATA, HEADERS, PRIORITY, RST_STREAM, SETTINGS, PUSH_PROMISE, PING, GOAWAY, WINDO
 PREFACE = b"PRI * HTTP/2.0\r\n\r\nSM\r\n\r\n"
 LARGEST = 2147483647  # of windows and of stream numbers
 FRAME_SIZE = 16384
-CAPACITY = 32768  # octets of the output
+CAPACITY = 65536  # octets of the output
 STATUSES = {200: 8, 204: 9, 206: 10, 304: 11, 400: 12, 404: 13, 500: 14}  # the static table (RFC 7541 appendix A)
 
 

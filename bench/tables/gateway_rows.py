@@ -316,8 +316,8 @@ def limits():
     row("the hundred and first behind one that ended", LIVE + many + woken(3, reset(9, 8)) + begun(b"x", link=103)
         + woken(3, headers(201, b"\x88")))
     row("a hundred and one where more are let", LIVE + woken(3, settings((3, 1000))) + many + begun(b"x", link=103), f"{DOOR} --brief")
-    row("a request wants room", LIVE + room(3, 0) + woken(3, *[PING * 100] * 20) + begun(b"x", link=4), f"{DOOR} --brief")
-    row("a request has room again", LIVE + room(3, 0) + woken(3, *[PING * 100] * 20) + room(3, 40000) + GO + begun(b"x", link=4))
+    row("a request wants room", LIVE + room(3, 0) + woken(3, *[PING * 100] * 40) + begun(b"x", link=4), f"{DOOR} --brief")
+    row("a request has room again", LIVE + room(3, 0) + woken(3, *[PING * 100] * 40) + room(3, 40000) + GO + begun(b"x", link=4))
 
 
 # Three endpoints with HBONE and a source more, for pools

@@ -12,6 +12,7 @@ import json
 import re
 
 LARGEST = 2**31 - 1
+OUTPUT = 65536  # octets that wait on a connection
 NUMBERS = 2**63 - 1
 ADDRESS = "type.googleapis.com/istio.workload.Address"
 POLICY = "type.googleapis.com/istio.security.Authorization"
@@ -718,7 +719,7 @@ class Link:
         return b"".join(part.octets for part in self.parts)
 
     def room(self):
-        return 32768 - len(self.output())
+        return OUTPUT - len(self.output())
 
     def wants(self):
         return max(0, (self.room() - 320) // self.choice.share)

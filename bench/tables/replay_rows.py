@@ -485,15 +485,15 @@ def rows_of_windows():
 
 
 def rows_of_floods():
-    row("a flood of PING while writes balk", LIVE + [room(0), piece(PINGED * 2500), WAKE, WAKE, room(10**6), WAKE])
-    row("a flood of SETTINGS while writes balk", LIVE + [room(0), piece(SET * 4000), WAKE, WAKE, room(10**6), WAKE])
-    row("a flood of PING, and room bit by bit", LIVE + [room(0), piece(PINGED * 2500), WAKE, room(1), WAKE, room(16), WAKE,
+    row("a flood of PING while writes balk", LIVE + [room(0), piece(PINGED * 5000), WAKE, WAKE, room(10**6), WAKE])
+    row("a flood of SETTINGS while writes balk", LIVE + [room(0), piece(SET * 8000), WAKE, WAKE, room(10**6), WAKE])
+    row("a flood of PING, and room bit by bit", LIVE + [room(0), piece(PINGED * 5000), WAKE, room(1), WAKE, room(16), WAKE,
                                                         room(20000), WAKE,
                                                       room(7), WAKE, room(22476), WAKE])
-    row("a flood of both in many pieces", LIVE + [room(0)] + [piece((PINGED + SET) * 50)] * 40 + [WAKE, room(10**6), WAKE])
-    row("a flood, and a message behind it", LIVE + [room(0), piece(PINGED * 2500 + data(M1)), WAKE, room(10**6), WAKE])
-    row("a flood, and an end behind it", LIVE + [room(0), piece(PINGED * 2500), WAKE, room(10**6), WAKE, on("end"), WAKE] + AGAIN)
-    row("a flood, and an end that isn't read", LIVE + [room(0), piece(PINGED * 2500), on("end"), WAKE] + AGAIN)
+    row("a flood of both in many pieces", LIVE + [room(0)] + [piece((PINGED + SET) * 50)] * 80 + [WAKE, room(10**6), WAKE])
+    row("a flood, and a message behind it", LIVE + [room(0), piece(PINGED * 5000 + data(M1)), WAKE, room(10**6), WAKE])
+    row("a flood, and an end behind it", LIVE + [room(0), piece(PINGED * 5000), WAKE, room(10**6), WAKE, on("end"), WAKE] + AGAIN)
+    row("a flood, and an end that isn't read", LIVE + [room(0), piece(SET + PINGED * 3836), on("end"), WAKE] + AGAIN)
     row("the last room counts", [room(1000), room(10)] + OPEN + [room(5), room(7), WAKE], "--trace")
     row("an opening that goes in parts", [room(10)] + OPEN + [room(0), WAKE, room(1), WAKE, room(1000), WAKE], "--trace")
     row("no write for a turn", OPEN + [room(0)] + came(SET + OK, data(M1), data(M2)) + [room(9), WAKE, room(6), WAKE]

@@ -13,7 +13,7 @@ import re
 
 import replay_model as model
 import routes
-from replay_model import ADDRESS, POLICY, LARGEST, ConnFault, Ends, Fault, frame, pairs_of
+from replay_model import ADDRESS, POLICY, LARGEST, OUTPUT, ConnFault, Ends, Fault, frame, pairs_of
 
 # Beside the choices of the control plane's link: the order of links in a round, how much of an upstream, or of a link of raw bytes,
 # is read at once, whether a write of a ring ends where its memory does, the order of an update's notes over links, whether the stream
@@ -708,7 +708,7 @@ class Gateway(Connection):
         return self.header.octets or super().output()
 
     def room(self):
-        return 32768 - len(super().output())
+        return OUTPUT - len(super().output())
 
     def last_taken(self):
         return 0

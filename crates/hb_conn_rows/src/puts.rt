@@ -56,16 +56,16 @@ the peer's limit: client; take 000006040000000000000300000001; sent ACK; open 1;
 a limit of none: client; take 000006040000000000000300000000; sent ACK; open 0; sent
 the lowest owed frame first: full; end 57; end 55; end 1; ends 1 yes; ends 57 yes; own 57 no; \
     wrote 1; room 0; waits 000000000100000035 000000000100000001; wrote 8; room 8; wrote 1; room 0; wrote 9; room 0; \
-    waits 000000000100000035 000000000100000001 000000000100000037 000000000100000039; wrote 32768; sent; ends 57 no
+    waits 000000000100000035 000000000100000001 000000000100000037 000000000100000039; wrote 65536; sent; ends 57 no
 an owed end behind an owed status: full; status 57 200; end 57; wrote 16; room 4; \
     waits 000000000100000035 0000020104000000392088 000000000100000039
 an owed status that ends: full; status 57 404 end; ends 57 yes; own 57 no; wrote 9; room 6; ends 57 yes; \
-    waits 000000000100000035 00000201050000003920 8d; wrote 32762; ends 57 no
+    waits 000000000100000035 00000201050000003920 8d; wrote 65530; ends 57 no
 an owed reset: full; reset 57 8; own 57 no; wrote 4; room 12; waits 000000000100000035; wrote 1; room 0; \
     waits 000000000100000035 00000403000000003900000008
 a frame that has room: full; wrote 4; reset 57 8; end 59; room 3; waits 000000000100000035 00000000010000003b
 an owed end goes with its stream: full; end 57; reset 57 8; ends 57 no; wrote 100; waits 000000000100000035 00000403000000003900000008
-room by a reset: full; end 57; reset 1 8; room 16379; waits 000000000100000035 00000403000000000100000008 000000000100000039
+room by a reset: full; end 57; reset 1 8; room 16371; waits 000000000100000035 00000403000000000100000008 000000000100000039
 an owed increment: credit; credit 1 32768; room 8; wrote 5; room 0; waits 000000000100000035 00000408000000000100008000
 an owed increment goes with its stream: credit; credit 1 32768; reset 1 8; waits 000000000100000035 00000403000000000100000008
 an owed increment in front of the end: credit; credit 1 32768; end 1; wrote 14; room 0; \
@@ -78,10 +78,10 @@ fn setup_of(name: &str) -> &str {
     match name {
         "client" => "take SET; wrote 54",
         "full" => "\
-take PRE SET; wrote 30; peer 101; some 1 16384 16384; take 0000080600000000000102030405060708*949; room 242; each end 3 55; room 8",
+take PRE SET; wrote 30; peer 101; some 1 16376 16376; take 0000080600000000000102030405060708*2877; room 242; each end 3 55; room 8",
         "credit" => "\
-take PRE SET; wrote 30; peer 101; take 004000000000000001 61*16384 004000000000000001 61*16384; wrote 13; some 1 16384 16384; \
-take 0000080600000000000102030405060708*949; room 242; each end 3 55; room 8",
+take PRE SET; wrote 30; peer 101; take 004000000000000001 61*16384 004000000000000001 61*16384; wrote 13; some 1 16376 16376; \
+take 0000080600000000000102030405060708*2877; room 242; each end 3 55; room 8",
         _ => "take PRE SET; wrote 30",
     }
 }

@@ -48,7 +48,7 @@ fn the_101st_open_stream_is_refused(rt: HostRuntime) {
 
 fn assert_deaf(rt: &impl Abort, alloc: Global, conn: &mut Conn) {
     assert!(rt; conn.space() == 16_393);
-    assert!(rt; conn.room() == 32_768 - 45);
+    assert!(rt; conn.room() == 65_536 - 45);
     let wrong = octets_of(rt, alloc, "ACK ACK");
     let seen = run(rt, alloc, conn, wrong.as_slice(), 18);
     assert!(rt; seen.told.as_bytes() == " f1".as_bytes());

@@ -1,28 +1,30 @@
 //! A straight buffer of a fixed size, which both the reader and the output are made of.
 
-ghost use Rattle.std.specs.Prelude.{◌≡◌, ◌+◌, ◌-◌, ◌≤◌, ◌++◌, [], length, take, drop, slice_range, IfOk};
+ghost use Rattle.std.specs.Prelude.{◌≡◌, ◌+◌, ◌-◌, ◌≤◌, ◌++◌, [], length, take, drop, vec_capacity, vec_len, IfOk};
 
 use hb_base::NoMemory;
 use std::alloc::Global;
 use std::marker::Model;
 
-/// Bytes that come in at the end and go out anywhere, at most as many as its size.
+/// Bytes that come in at the end and go out anywhere, at most as many as its size. Its memory is taken when it is made, and is
+/// touched only as far as bytes stood in it.
 #[derive(Drop)]
 pub(crate) struct Buffer {
+    /// What stands behind `start` is held.
     bytes: Vec<u8>,
+    size: usize,
     start: usize,
-    end: usize,
 }
 
 impl Model for Buffer {
-    ghost use Rattle.std.specs.Prelude.{◌≤◌, vec_len, slice_range};
+    ghost use Rattle.std.specs.Prelude.{◌≤◌, vec_capacity, vec_len, drop};
     ghost use Rattle.hb_frames.specs.BoundedBytes.{BoundedBytes};
 
     ghost Value = { BoundedBytes };
 
-    ghost view = { λ b. record { items = slice_range b.bytes.items b.start b.end; size = vec_len b.bytes } };
+    ghost view = { λ b. record { items = drop b.start b.bytes.items; size = b.size } };
 
-    ghost invariant = { λ b. (b.start ≤ b.end) × (b.end ≤ vec_len b.bytes) };
+    ghost invariant = { λ b. (b.start ≤ vec_len b.bytes) × (vec_len b.bytes ≤ b.size) × (b.size ≤ vec_capacity b.bytes) };
 }
 
 impl Buffer {
@@ -32,11 +34,11 @@ impl Buffer {
     pub fn new(alloc: Global, size: usize) -> Result<Buffer, NoMemory>
         ensures { IfOk result (λ b. b ≡ record { items = []; size = size }) }
     {
-        let bytes = vec![in alloc; 0u8; size]?;
+        let bytes = Vec::with_capacity(alloc, size)?;
         Ok(Buffer {
             bytes,
+            size,
             start: 0,
-            end: 0,
         })
     }
 
@@ -45,7 +47,7 @@ impl Buffer {
         ensures value { result ≡ self.now.size - length self.now.items }
         ensures fits { length self.now.items ≤ self.now.size }
     {
-        self.bytes.len() - (self.end - self.start)
+        self.size - (self.bytes.len() - self.start)
     }
 
     /// The bytes that are held, in order.
@@ -53,7 +55,7 @@ impl Buffer {
         ensures value { result.now ≡ self.now.items }
         ensures fits { length self.now.items ≤ self.now.size }
     {
-        &self.bytes.as_slice()[self.start..self.end]
+        &self.bytes.as_slice()[self.start..]
     }
 
     /// Adds these bytes at the end.
@@ -61,12 +63,11 @@ impl Buffer {
         requires { length self.old.items + length piece.now ≤ self.old.size }
         ensures { self.new ≡ record self.old { items = self.old.items ++ piece.now } }
     {
-        let held = self.end - self.start;
-        let (bytes, start, end) = (self.bytes.as_mut_slice(), self.start, self.end);
-        self.start = with_room(bytes, start, end, piece.len());
-        self.end = self.start + held;
-        write_at(self.bytes.as_mut_slice(), self.end, piece);
-        self.end += piece.len();
+        self.start = with_room(&mut self.bytes, self.start, self.size, piece.len());
+        match self.bytes.extend_from_slice(piece) {
+            Ok(()) => {}
+            Err(_) => unreachable!(),
+        }
     }
 
     /// Removes the first `n` bytes.
@@ -75,6 +76,10 @@ impl Buffer {
         ensures { self.new ≡ record self.old { items = drop n self.old.items } }
     {
         self.start += n;
+        if self.start == self.bytes.len() {
+            self.bytes.clear();
+            self.start = 0;
+        }
     }
 
     /// Removes `n` bytes from place `at`.
@@ -83,42 +88,50 @@ impl Buffer {
         ensures { self.new
             ≡ record self.old { items = take at self.old.items ++ drop (at + n) self.old.items } }
     {
-        let to = self.start + at;
-        close_gap(self.bytes.as_mut_slice(), to, to + n, self.end);
-        self.end -= n;
+        remove(&mut self.bytes, self.start, at, n);
     }
 }
 
-/// Where the bytes from `start` to `end` stand once `more` bytes fit behind them: where they stood, or
-/// else at the front.
-fn with_room(bytes: &mut [u8], start: usize, end: usize, more: usize) -> usize
-    requires order { start ≤ end }
-    requires in_bounds { end ≤ length bytes.old }
-    requires fits { (end - start) + more ≤ length bytes.old }
-    ensures fits { result + (end - start) + more ≤ length bytes.old }
-    ensures kept { slice_range bytes.new result (result + (end - start)) ≡ slice_range bytes.old start end }
+/// Where the bytes behind `start` stand once `more` fit behind them: where they stood, or else at the front.
+fn with_room(bytes: &mut Vec<u8>, start: usize, size: usize, more: usize) -> usize
+    requires order { start ≤ vec_len bytes.old }
+    requires in_size { vec_len bytes.old ≤ size }
+    requires fits { (vec_len bytes.old - start) + more ≤ size }
+    ensures kept { drop result bytes.new.items ≡ drop start bytes.old.items }
+    ensures order { result ≤ vec_len bytes.new }
+    ensures room { vec_len bytes.new + more ≤ size }
+    ensures capacity { vec_capacity bytes.new ≡ vec_capacity bytes.old }
 {
-    if bytes.len() - end < more {
-        bytes.copy_within(start..end, 0);
+    let len = bytes.len();
+    if size - len < more {
+        bytes.as_mut_slice().copy_within(start..len, 0);
+        bytes.truncate(len - start);
         0
     } else {
         start
     }
 }
 
-fn write_at(bytes: &mut [u8], at: usize, piece: &[u8])
-    requires { at + length piece.now ≤ length bytes.old }
-    ensures { take (at + length piece.now) bytes.new ≡ take at bytes.old ++ piece.now }
+/// Removes `n` bytes from place `at` of those behind `start`.
+fn remove(bytes: &mut Vec<u8>, start: usize, at: usize, n: usize)
+    requires in_bounds { start + (at + n) ≤ vec_len bytes.old }
+    ensures kept { drop start bytes.new.items ≡ take at (drop start bytes.old.items) ++ drop (at + n) (drop start bytes.old.items) }
+    ensures order { start ≤ vec_len bytes.new }
+    ensures shorter { vec_len bytes.new ≤ vec_len bytes.old }
+    ensures capacity { vec_capacity bytes.new ≡ vec_capacity bytes.old }
 {
-    bytes[at..at + piece.len()].copy_from_slice(piece);
+    let left = bytes.len() - n;
+    let to = start + at;
+    close_gap(bytes.as_mut_slice(), to, to + n);
+    bytes.truncate(left);
 }
 
-/// Moves the bytes from `from` to `end` down to `to`.
-fn close_gap(bytes: &mut [u8], to: usize, from: usize, end: usize)
+/// Moves the bytes from `from` on down to `to`.
+fn close_gap(bytes: &mut [u8], to: usize, from: usize)
     requires gap { to ≤ from }
-    requires order { from ≤ end }
-    requires in_bounds { end ≤ length bytes.old }
-    ensures { take (to + (end - from)) bytes.new ≡ take to bytes.old ++ slice_range bytes.old from end }
+    requires in_bounds { from ≤ length bytes.old }
+    ensures { take (to + (length bytes.old - from)) bytes.new ≡ take to bytes.old ++ drop from bytes.old }
 {
+    let end = bytes.len();
     bytes.copy_within(from..end, to);
 }

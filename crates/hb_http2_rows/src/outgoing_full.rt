@@ -15,23 +15,23 @@ fn assert_last(rt: &impl Abort, outgoing: &Outgoing, count: usize, last: u8) {
     assert!(rt; outgoing.front().last() == Some(&last));
 }
 
-/// 3,640 frames of nine octets leave room for eight more.
+/// 7,280 frames of nine octets leave room for 16 more.
 #[test]
 fn many_frames_wait(rt: HostRuntime) {
     let mut outgoing = Outgoing::new(rt.alloc()).expect(&rt, "memory");
-    for _ in 0..1_820 {
+    for _ in 0..3_640 {
         put(&rt, &mut outgoing, ACKNOWLEDGED);
         put(&rt, &mut outgoing, END);
     }
-    assert!(rt; outgoing.room() == 8);
-    assert_last(&rt, &outgoing, 32_760, 3);
+    assert!(rt; outgoing.room() == 16);
+    assert_last(&rt, &outgoing, 65_520, 3);
     wrote(&rt, &mut outgoing, 10);
     assert!(rt; outgoing.take_back(3) == 0);
     assert!(rt; outgoing.end_waits(3));
-    assert_last(&rt, &outgoing, 8 + 1_819 * 9, 0);
+    assert_last(&rt, &outgoing, 8 + 3_639 * 9, 0);
     wrote(&rt, &mut outgoing, 8);
     assert!(rt; !outgoing.end_waits(3));
-    wrote(&rt, &mut outgoing, 1_819 * 9);
+    wrote(&rt, &mut outgoing, 3_639 * 9);
     assert!(rt; outgoing.is_empty());
 }
 
@@ -74,20 +74,20 @@ fn many_ends_are_taken_back(rt: HostRuntime) {
     assert_last(&rt, &outgoing, 2_198 * 9 + 8, 0);
 }
 
-/// Two DATA frames of 16,384 octets fill it to the last octet, also once others were written.
+/// Two DATA frames of 32,768 octets fill it to the last octet, also once others were written.
 #[test]
 fn the_last_octet_is_put(rt: HostRuntime) {
     let mut outgoing = Outgoing::new(rt.alloc()).expect(&rt, "memory");
-    let payload = [7u8; 16_375];
+    let payload = [7u8; 32_759];
     outgoing.put_frame(0, 0, 1, &payload);
     outgoing.put_frame(0, 1, 3, &payload);
     assert!(rt; outgoing.room() == 0);
-    wrote(&rt, &mut outgoing, 16_384);
-    assert!(rt; outgoing.room() == 16_384);
+    wrote(&rt, &mut outgoing, 32_768);
+    assert!(rt; outgoing.room() == 32_768);
     outgoing.put_frame(0, 0, 5, &payload);
     assert!(rt; outgoing.room() == 0);
     assert!(rt; outgoing.take_back(1) == 0);
-    assert!(rt; outgoing.take_back(3) == 16_375);
+    assert!(rt; outgoing.take_back(3) == 32_759);
     assert!(rt; outgoing.unbegun().is_some_and(|found| found.stream == 5));
-    assert_last(&rt, &outgoing, 16_384, 7);
+    assert_last(&rt, &outgoing, 32_768, 7);
 }

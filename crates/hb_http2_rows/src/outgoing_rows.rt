@@ -7,10 +7,10 @@ use std::alloc::Global;
 use std::process::Abort;
 
 const ROWS: &str = "\
-nothing waits: waits; room 32768; unbegun 0 0; ends 0 no; back 1 0; wrote 0; waits
-a DATA frame is taken back whole: put 000003000000000001616263; unbegun 1 3; back 1 3; waits; room 32768
+nothing waits: waits; room 65536; unbegun 0 0; ends 0 no; back 1 0; wrote 0; waits
+a DATA frame is taken back whole: put 000003000000000001616263; unbegun 1 3; back 1 3; waits; room 65536
 one octet is written: put 000003000000000001616263; begun 1 no; wrote 1; unbegun 0 0; begun 1 yes; begun 3 no; back 1 0; \
-    waits 0003000000000001616263; room 32757
+    waits 0003000000000001616263; room 65525
 in the middle of a header: put 00000100000000000161; put 00000100000000000362; wrote 14; back 3 0; waits 000000000362
 at the end of a header: put 00000100000000000362; wrote 9; back 3 0; waits 62
 in the middle of a payload: put 000003000000000003626364; put 00000100000000000365; wrote 10; back 3 1; waits 6364
@@ -38,7 +38,7 @@ an opening: open 505249202a20485454502f322e300d0a0d0a534d0d0a0d0a; ends 0 no; pu
 an opening and a frame begun: open 505249202a20485454502f322e300d0a0d0a534d0d0a0d0a; put 00000100010000000161; wrote 25; \
     ends 1 yes; back 1 0; waits 000100010000000161
 all DATA is taken back: put 00000100000000000161; put 000000040100000000; put 0000020001000000036263; put 000000000100000005; all; \
-    waits 000000040100000000; unbegun 0 0; ends 3 no; room 32759
+    waits 000000040100000000; unbegun 0 0; ends 3 no; room 65527
 but what has begun: put 00000100000000000161; put 00000100000000000362; wrote 1; all; waits 000100000000000161; all; wrote 9; waits
 an opening twice: open 41; wrote 1; open 42; waits 42; back 0 0
 ";

@@ -12,14 +12,14 @@ pub fn put(rt: &impl Abort, outgoing: &mut Outgoing, octets: &[u8]) {
     let (head, payload) = octets.split_at(9);
     let word = u32::from_be_bytes([head[5], head[6], head[7], head[8]]);
     assert!(rt; word <= 2_147_483_647);
-    assert!(rt; payload.len() <= 32_768);
+    assert!(rt; payload.len() <= 65_536);
     assert!(rt; outgoing.room() >= 9 + payload.len());
     outgoing.put_frame(head[3], head[4], word, payload);
 }
 
 fn open(rt: &impl Abort, outgoing: &mut Outgoing, octets: &[u8]) {
     assert!(rt; outgoing.is_empty());
-    assert!(rt; octets.len() <= 32_768);
+    assert!(rt; octets.len() <= 65_536);
     outgoing.put_opening(octets);
 }
 

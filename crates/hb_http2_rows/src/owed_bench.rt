@@ -47,9 +47,9 @@ impl Bench {
 
     /// Puts a DATA frame of stream 99 that leaves so much room.
     fn fill(&mut self, rt: &impl Abort, room: usize) {
-        let payload = [0u8; 32_768];
+        let payload = [0u8; 65_536];
         let free = self.out.room();
-        assert!(rt; room <= 32_768 && free <= 32_768 && room + 9 <= free);
+        assert!(rt; room <= 65_536 && free <= 65_536 && room + 9 <= free);
         self.out.put_frame(0, 0, 99, &payload[..free - 9 - room]);
     }
 

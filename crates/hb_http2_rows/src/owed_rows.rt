@@ -33,22 +33,22 @@ closed and paid in part: fill 30; open 1; status 1 200 open; reset 1 8; close 1;
 an end is taken back: open 1; end 1; ends 1 yes; back 1; ends 1 no; none yes; pay; waits; end 1; ends 1 yes
 only the end is taken back: open 1; end 1; credit 1 9; back 1; owes 1 yes; pay; waits 00000408000000000100000009
 a closed record's end is taken back: open 1; end 1; close 1; back 1; none yes; end 1; none yes
-no room for an increment: fill 12; open 1; credit 1 7; pay; owes 1 yes; wrote 32756; waits; pay; waits 00000408000000000100000007
-room for an increment: fill 13; open 1; credit 1 7; pay; none yes; wrote 32755; waits 00000408000000000100000007
-no room for an end: fill 8; open 1; end 1; pay; owes 1 yes; wrote 32760; waits
-room for an end: fill 9; open 1; end 1; pay; none yes; wrote 32759; waits 000000000100000001
-no room for a reset: fill 12; open 1; reset 1 8; pay; owes 1 yes; wrote 32756; waits
-room for a reset: fill 13; open 1; reset 1 8; pay; none yes; wrote 32755; waits 00000403000000000100000008
-no room for a status: fill 16; open 1; status 1 200 end; pay; owes 1 yes; wrote 32752; waits; pay; waits 0000020105000000012088
-room for a status: fill 17; open 1; status 1 451 end; pay; none yes; wrote 32751; waits 000006010500000001200803343531
-nothing overtakes: fill 12; open 1; open 3; credit 1 7; end 3; pay; owes 1 yes; owes 3 yes; wrote 32756; waits; pay; \
+no room for an increment: fill 12; open 1; credit 1 7; pay; owes 1 yes; wrote 65524; waits; pay; waits 00000408000000000100000007
+room for an increment: fill 13; open 1; credit 1 7; pay; none yes; wrote 65523; waits 00000408000000000100000007
+no room for an end: fill 8; open 1; end 1; pay; owes 1 yes; wrote 65528; waits
+room for an end: fill 9; open 1; end 1; pay; none yes; wrote 65527; waits 000000000100000001
+no room for a reset: fill 12; open 1; reset 1 8; pay; owes 1 yes; wrote 65524; waits
+room for a reset: fill 13; open 1; reset 1 8; pay; none yes; wrote 65523; waits 00000403000000000100000008
+no room for a status: fill 16; open 1; status 1 200 end; pay; owes 1 yes; wrote 65520; waits; pay; waits 0000020105000000012088
+room for a status: fill 17; open 1; status 1 451 end; pay; none yes; wrote 65519; waits 000006010500000001200803343531
+nothing overtakes: fill 12; open 1; open 3; credit 1 7; end 3; pay; owes 1 yes; owes 3 yes; wrote 65524; waits; pay; \
     waits 00000408000000000100000007000000000100000003
-nor on the same stream: fill 16; open 1; status 1 200 open; credit 1 7; end 1; pay; ends 1 yes; wrote 32752; waits
-room for one of two: fill 25; open 1; open 3; reset 1 8; reset 3 8; pay; owes 1 no; owes 3 yes; wrote 32743; \
+nor on the same stream: fill 16; open 1; status 1 200 open; credit 1 7; end 1; pay; ends 1 yes; wrote 65520; waits
+room for one of two: fill 25; open 1; open 3; reset 1 8; reset 3 8; pay; owes 1 no; owes 3 yes; wrote 65511; \
     waits 00000403000000000100000008; pay; waits 0000040300000000010000000800000403000000000300000008
-room for both: fill 26; open 1; open 3; reset 1 8; reset 3 8; pay; none yes; wrote 32742; \
+room for both: fill 26; open 1; open 3; reset 1 8; reset 3 8; pay; none yes; wrote 65510; \
     waits 0000040300000000010000000800000403000000000300000008
-room comes in between: fill 9; open 1; end 1; status 1 200 open; pay; ends 1 yes; wrote 32759; pay; \
+room comes in between: fill 9; open 1; end 1; status 1 200 open; pay; ends 1 yes; wrote 65527; pay; \
     waits 0000020104000000012088000000000100000001; none yes
 nothing is owed any more: open 1; open 3; end 1; reset 3 8; clear; none yes; owes 1 no; end 1; none yes; pay; waits
 opened anew: open 1; end 1; credit 1 4; open 1; none yes; credits 1 0

@@ -91,7 +91,7 @@ settles_from others limit H P Q R k n told now gives settles start before a stan
 -- THE BYTES
 
 -- a new connection has room for all that a front header may have behind it
-fresh_room : room fresh_server ≡ 32747
+fresh_room : room fresh_server ≡ 65515
 fresh_room = refl
 
 fresh_fares : (bytes : List ℕ) → AreOctets bytes → length bytes ≤ longest_front → Fares (taken fresh_server bytes)

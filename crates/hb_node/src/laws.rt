@@ -14,7 +14,7 @@ pub fn balks_pass()
     ensures waits { WaitsPass }
 {}
 
-/// Of a link that lives bytes are wanted, unless 32,000 octets wait to be written.
+/// Of a link that lives bytes are wanted wherever its output has room for 768 octets more.
 pub fn reads_where_room()
     ensures { ReadsWhereRoom }
 {}

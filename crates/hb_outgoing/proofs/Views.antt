@@ -31,7 +31,7 @@ view items rest begun = waiting (take rest items) begun (frames_of (drop rest it
 
 -- what the octets and the count of those begun keep
 pub record Inside (items : List ℕ) (rest : ℕ) : Type 0 where
-  pub small : length items ≤ 32768
+  pub small : length items ≤ 65536
   pub within : rest ≤ length items
   pub whole : AreWhole (drop rest items)
 
@@ -45,7 +45,7 @@ none_waits = record {
   seen = ap (waiting [] None) no_frames;
 }
 
-pub opening_waits : (bytes : List ℕ) → length bytes ≤ 32768 → Becomes bytes (length bytes) None (opened bytes)
+pub opening_waits : (bytes : List ℕ) → length bytes ≤ 65536 → Becomes bytes (length bytes) None (opened bytes)
 opening_waits bytes small =
     let none : drop (length bytes) bytes ≡ [] = drop_all (length bytes) bytes (omega arith) in
     record {
@@ -61,7 +61,7 @@ opening_alone items rest bytes whole empty =
     ap (λ (xs : List ℕ). drop 9 (xs ++ spelling (raw 0 0 0 bytes))) (drop_all 0 items len)
 
 pub frame_is_put : (items : List ℕ) (rest : ℕ) (begun : Option Head) (f : RawFrame) → Inside items rest → Fits f
-    → length items + (9 + length f.payload) ≤ 32768 → Becomes (items ++ spelling f) rest begun (put f (view items rest begun))
+    → length items + (9 + length f.payload) ≤ 65536 → Becomes (items ++ spelling f) rest begun (put f (view items rest begun))
 frame_is_put items rest begun f inside fits room =
     let grows = grown (drop rest items) f inside.whole fits in
     let len = length-append items (spelling f) in

@@ -104,7 +104,7 @@ begins_end bytes n end passed =
 -- what is left and what was taken once a walk came to a place
 pub record Takes (stream : Option ℕ) (before now : List ℕ) (from at ahead taken kept : ℕ) : Type 0 where
   pub within : at ≤ length now
-  pub small : length now ≤ 32768
+  pub small : length now ≤ 65536
   pub later : AreWhole (drop at now)
   pub left : take at now ++ spelled (filter (is_kept stream) (frames_of (drop at now)))
       ≡ take from before ++ spelled (filter (is_kept stream) (frames_of (drop from before)))
@@ -135,14 +135,14 @@ data_is_short stream (f ∷ fs) =
     (λ (test : is_data_of stream f ≡ false). omega (arith, (kept_more stream f fs test).1, len, shorter))
     (cases_Bool (is_data_of stream f))
 
-pub taken_is_small : (stream : Option ℕ) (bytes : List ℕ) (from : ℕ) → AreWhole (drop from bytes) → length bytes ≤ 32768
-    → data_size stream (frames_of (drop from bytes)) ≤ 32768
+pub taken_is_small : (stream : Option ℕ) (bytes : List ℕ) (from : ℕ) → AreWhole (drop from bytes) → length bytes ≤ 65536
+    → data_size stream (frames_of (drop from bytes)) ≤ 65536
 taken_is_small stream bytes from whole small =
     omega (arith, data_is_short stream (frames_of (drop from bytes)), ap length whole.joined, length-drop from bytes, small)
 
 pub taken_fits : (stream : Option ℕ) (before now : List ℕ) (from at ahead to taken kept size : ℕ) (f : RawFrame)
     → Takes stream before now from at ahead taken kept → Stands now f at to → is_data_of stream f ≡ true
-    → size ≡ length f.payload → AreWhole (drop from before) → length before ≤ 32768 → taken + size ≤ 32768
+    → size ≡ length f.payload → AreWhole (drop from before) → length before ≤ 65536 → taken + size ≤ 65536
 taken_fits stream before now from at ahead to taken kept size f so stands test size_is whole small =
     let all = ap (data_size stream) stands.first ∙ (taken_more stream f (frames_of (drop to now)) test).1 in
     omega (arith, all, size_is, so.taken_is, taken_is_small stream before from whole small)
@@ -158,7 +158,7 @@ filter_is_few p (f ∷ fs) =
     (cases_Bool (p f))
 
 pub kept_fits : (stream : Option ℕ) (before now : List ℕ) (from at ahead taken kept : ℕ)
-    → Takes stream before now from at ahead taken kept → AreWhole (drop from before) → length before ≤ 32768 → kept ≤ 32768
+    → Takes stream before now from at ahead taken kept → AreWhole (drop from before) → length before ≤ 65536 → kept ≤ 65536
 kept_fits stream before now from at ahead taken kept so whole small =
     let fs = frames_of (drop from before) in
     omega (

@@ -20,7 +20,7 @@ octets_of w = w.rest ++ spelled w.queue
 
 -- how many octets can wait
 abbrev pub size : ℕ
-size = 32768
+size = 65536
 
 -- how many more can wait
 abbrev pub room_of : Waiting → ℕ

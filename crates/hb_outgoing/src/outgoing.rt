@@ -20,12 +20,12 @@ use std::alloc::Global;
 use std::marker::Model;
 
 /// How many octets can wait.
-const SIZE: usize = 32_768;
+const SIZE: usize = 65_536;
 
 /// The octets of a frame's header, for which the output has room beside.
 const HEADER: usize = 9;
 
-/// What waits to be written on one connection: at most 32,768 octets. It takes its memory when it is made.
+/// What waits to be written on one connection: at most 65,536 octets. It takes its memory when it is made.
 #[derive(Drop)]
 pub struct Outgoing {
     output: Output,
@@ -57,7 +57,7 @@ impl Model for Outgoing {
     } };
 
     ghost invariant = { λ o.
-        (o.output.size ≡ 32777) × (length o.output.items ≤ 32768) × (o.rest ≤ length o.output.items)
+        (o.output.size ≡ 65545) × (length o.output.items ≤ 65536) × (o.rest ≤ length o.output.items)
         × AreWhole (drop o.rest o.output.items)
         × KnowsData o.data_waits o.count o.streams (frames_of (drop o.rest o.output.items))
         × NoDataBefore o.output.items o.rest o.from };

@@ -119,7 +119,7 @@ pub(crate) fn take_data(
     stream: Option<u32>,
 ) -> (u32, usize)
     requires order { from ≤ length output.old.items }
-    requires small { length output.old.items ≤ 32768 }
+    requires small { length output.old.items ≤ 65536 }
     requires whole { AreWhole (drop from output.old.items) }
     requires counted { count ≡ data_count (frames_of (drop from output.old.items)) }
     ensures value { result.0 ≡ data_size stream (frames_of (drop from output.old.items)) }

@@ -47,9 +47,9 @@ Finishes trace l = asleep (way.Finish l) trace ≡ true
 abbrev pub Looks : List Entry → ℕ → Type 0
 Looks trace l = (has_ended l trace ≡ false) ⊎ (asleep (way.Look l) trace ≡ true)
 
--- more than 32,000 octets wait to be written on a connection
+-- the output of a connection has room for fewer than 768 octets more
 abbrev pub IsCrowded : Connection → Type 0
-IsCrowded c = 32000 < length (connection.output c)
+IsCrowded c = connection.room c < 768
 
 -- a way takes no more: it has ended, or its ring is full
 abbrev pub IsFull : (size : ℕ) → Way → Type 0

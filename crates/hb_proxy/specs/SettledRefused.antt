@@ -67,14 +67,14 @@ LeavesUndialled = (g : NodeConfig) (x : Machine) (points : List Point) (trace : 
 
 -- A LINK
 
--- octets wait on a connection that isn't asleep for writing; few wait on one that isn't asleep for reading
+-- octets wait on a connection that isn't asleep for writing; there is room on one that isn't asleep for reading
 abbrev pub LeavesUnwritten : Type 0
 LeavesUnwritten = (g : NodeConfig) (x : Machine) (points : List Point) (trace : List Entry) (l : ℕ) → (x.inbound l).phase ≡ serving
     → 0 < length (connection.output (x.inbound l).conn) → asleep (way.Write l) trace ≡ false → IsSettled g x points trace → ⊥
 
 abbrev pub LeavesLinkUnread : Type 0
 LeavesLinkUnread = (g : NodeConfig) (x : Machine) (points : List Point) (trace : List Entry) (l : ℕ) → (x.inbound l).phase ≡ serving
-    → length (connection.output (x.inbound l).conn) ≤ 32000 → asleep (way.Read l) trace ≡ false → IsSettled g x points trace → ⊥
+    → 768 ≤ connection.room (x.inbound l).conn → asleep (way.Read l) trace ≡ false → IsSettled g x points trace → ⊥
 
 -- a link that is open and whose peer sends no more isn't asleep for looks, so that it may have broken unseen
 abbrev pub LeavesUnlooked : Type 0

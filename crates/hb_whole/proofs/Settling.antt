@@ -87,14 +87,14 @@ writes_map trace l f (inr none) = inr (f none)
 
 -- WHERE NOTHING MAY BE READ
 
-many_wait : (n wanted : ℕ) → wanted ≡ 0 → (768 ≤ 32768 - n → 0 < wanted) → 32000 < n
-many_wait n wanted none reads =
-    ⊎_elim (λ (few : n - 32000 ≡ 0). absurd (let some : 0 < wanted = reads (omega (arith, few)) in omega (arith, some, none)))
-    (λ (many : 0 < n - 32000). omega (arith, many)) (eq-zero-or-pos (n - 32000))
+little_room : (room wanted : ℕ) → wanted ≡ 0 → (768 ≤ room → 0 < wanted) → room < 768
+little_room room wanted none reads =
+    ⊎_elim (λ (much : 768 - room ≡ 0). absurd (let some : 0 < wanted = reads (omega (arith, much)) in omega (arith, some, none)))
+    (λ (little : 0 < 768 - room). omega (arith, little)) (eq-zero-or-pos (768 - room))
 
 crowded : (c : Connection) → IsKept c → IsLookedAt c → wants_of c ≡ 0 → IsCrowded c
 crowded c kept looked none =
-    many_wait (length (connection.output c)) (wants_of c) none (λ room. some_are_wanted c kept looked (omega (arith, room)))
+    little_room (connection.room c) (wants_of c) none (λ much. some_are_wanted c kept looked (omega (arith, much)))
 
 fills : (size n : ℕ) → size - n ≡ 0 → size ≤ n
 fills size n none = omega (arith, none)
@@ -211,8 +211,8 @@ module _ (taken : List Note) (p : Proxy) (trace : List Entry) (s : Stands taken 
 
       crowded_so : (shown_of p).wants l ≡ 0 → IsCrowded (x.control.links l).conn
       crowded_so none =
-          many_wait (length (connection.output (x.control.links l).conn)) (model.wants x.control l) (sym wants_are ∙ none)
-          (λ room. control_reads p.control x.control l s.control is (omega (arith, room)))
+          little_room (connection.room (x.control.links l).conn) (model.wants x.control l) (sym wants_are ∙ none)
+          (control_reads p.control x.control l s.control is)
 
       none_waits : (shown_of p).output l ≡ [] → connection.output (x.control.links l).conn ≡ []
       none_waits none = sym (ap (λ (q : d.Phase). model.output_by q (x.control.links l)) is) ∙ sym output_is ∙ none

@@ -20,7 +20,7 @@ overflow_add-taken c =
     let placed = subst (λ (xs : List ℕ). IsPlaced xs at size) seen c.frame_at-next.ensures.placed in
     let test_seen : is_data_of stream (raw_at (drop at c.front.result.now)) ≡ true = search rules in
     let test = subst (λ (xs : List ℕ). is_data_of stream (raw_at (drop at xs)) ≡ true) seen test_seen in
-    let small : c.loop-ahead.taken + size ≤ 32768 =
+    let small : c.loop-ahead.taken + size ≤ 65536 =
     taken_fits stream c.args.output.now.items now c.args.from at c.loop-ahead.ahead (at + (9 + size))
     c.loop-ahead.taken c.loop-ahead.kept size (raw_at (drop at now)) c.loop-ahead.invariant.takes placed.stands test placed.size_is
     c.requires.whole c.requires.small in

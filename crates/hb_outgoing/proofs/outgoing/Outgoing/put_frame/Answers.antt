@@ -20,7 +20,7 @@ returns-clause-after c =
     let rest = c.self.inside.rest in
     let inv = c.self.invariant in
     let roomy = rw (← c.self.view_is) at c.requires.room in
-    let room : length items + (9 + length f.payload) ≤ 32768 = omega (arith, roomy, ap length (octets_are items rest inv.3)) in
+    let room : length items + (9 + length f.payload) ≤ 65536 = omega (arith, roomy, ap length (octets_are items rest inv.3)) in
     let fits : Fits f = record { kind = omega arith; flags = omega arith; stream = omega arith; size = omega (arith, room) } in
     let before : Inside items rest = record { small = inv.1; within = inv.2; whole = inv.3 } in
     let now = frame_is_put items rest c.self.inside.begun f before fits room in
@@ -34,7 +34,7 @@ invariant_of-self c =
     let rest = c.self.inside.rest in
     let inv = c.self.invariant in
     let roomy = rw (← c.self.view_is) at c.requires.room in
-    let room : length items + (9 + length f.payload) ≤ 32768 = omega (arith, roomy, ap length (octets_are items rest inv.3)) in
+    let room : length items + (9 + length f.payload) ≤ 65536 = omega (arith, roomy, ap length (octets_are items rest inv.3)) in
     let fits : Fits f = record { kind = omega arith; flags = omega arith; stream = omega arith; size = omega (arith, room) } in
     let before : Inside items rest = record { small = inv.1; within = inv.2; whole = inv.3 } in
     let now = frame_is_put items rest c.self.inside.begun f before fits room in

@@ -19,7 +19,7 @@ invariant_of-self c =
     let known = knows_becomes self.data_waits 0 self.streams _ _ _ _ opening (knows_none self.data_waits self.streams) in
     let before = at_rest bytes (length bytes) opening.inside in (
       ap (λ (b : BoundedBytes). b.size) c.drop_front.ensures ∙ ap (λ (b : BoundedBytes). b.size) c.put_frame.ensures ∙ c.self.invariant.0,
-      subst (λ (xs : List ℕ). length xs ≤ 32768) (sym is) opening.inside.small,
+      subst (λ (xs : List ℕ). length xs ≤ 65536) (sym is) opening.inside.small,
       subst (λ (xs : List ℕ). length bytes ≤ length xs) (sym is) opening.inside.within,
       subst (λ (xs : List ℕ). AreWhole (drop (length bytes) xs)) (sym is) opening.inside.whole,
       subst (λ (xs : List ℕ). KnowsBehind self.data_waits 0 self.streams xs (length bytes)) (sym is) known,
