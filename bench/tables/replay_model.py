@@ -18,8 +18,7 @@ ADDRESS = "type.googleapis.com/istio.workload.Address"
 POLICY = "type.googleapis.com/istio.security.Authorization"
 PREFACE = b"PRI * HTTP/2.0\r\n\r\nSM\r\n\r\n"
 PATH = b"/envoy.service.discovery.v3.AggregatedDiscoveryService/DeltaAggregatedResources"
-USAGE = (" (usage: hbone replay --node NODE --id ID --discovery TARGET [--inbound TARGET] [--outbound TARGET] [--plain TARGET] "
-         "[--network NETWORK] [--hbone-port PORT] [--tunnels COUNT] [--turns COUNT] [--trace] [--brief])")
+USAGE = " (see hbone replay --help)"
 
 # How much of an output's free room may be read at once (one part of so many), whether requests are put as soon as one is
 # there or behind all that came, whether a link that opens is read and written in the same round, the order of a round, and

@@ -3,7 +3,7 @@ use Rattle.std.proofs.Common.{◌≡◌, ◌≢◌, ℕ, ◌≤◌, Bool, true, 
 use Rattle.std.specs.Prelude.{◌⊎◌, IfOk, IsTrue}
 use Rattle.std.specs.Bool.{MatchBool}
 use Rattle.std.specs.Result.{MatchResult}
-use Rattle.hb_words.specs.Command.{Command, Replay, checks, shows, replays, serves, makes}
+use Rattle.hb_words.specs.Command.{Command, Replay, checks, shows, replays, serves, makes, prints}
 use Rattle.hb_words.specs.declared.asks.Make.{Make}
 use Rattle.hb_words.specs.declared.fault.WordsFault.{WordsFault}
 use Rattle.hb_cli.specs.Replaying.{RunState, done_in, DoneLawfully}
@@ -46,6 +46,7 @@ none_broken (Ok (makes m)) r left none unused = by_run m.run where
   by_run : (run : Bool) → MatchBool run (DoneLawfully made_run r.left.script.trace) (RunsNothing r)
   by_run true = inl (ap (λ (s : RunState). s.script.trace) left ∙ none)
   by_run false = (left, unused.2)
+none_broken (Ok (prints p)) r left none unused = (left, unused.2)
 none_broken (Err fault) r left none unused = tt
 
 module _ (input out err : Use) (w : WorldUse) (before left : RunState) where
@@ -67,6 +68,7 @@ module _ (input out err : Use) (w : WorldUse) (before left : RunState) where
   }
   stays_by (serves s) result leaves hears later = stays_still (run_of (serves s)) leaves hears later
   stays_by (makes m) result leaves hears later = stays_still (run_of (makes m)) leaves hears later
+  stays_by (prints p) result leaves hears later = stays_still (run_of (prints p)) leaves hears later
 
   replay_idle : (p : Replay) (stop : Stop) → stop ≢ NoMemory → Leaves p input.bytes left (Err stop)
       → HearsBy (replays p) w.heard (held left.keep) (Err stop) → DoesNothing (run_of (replays p))
@@ -84,6 +86,7 @@ module _ (input out err : Use) (w : WorldUse) (before left : RunState) where
   does_nothing (replays p) stop none other leaves hears = replay_idle p stop other leaves hears
   does_nothing (serves s) stop none other leaves hears = (ap (λ (s : RunState). s.script.trace) leaves ∙ none, hears)
   does_nothing (makes m) stop none other leaves hears = (ap (λ (s : RunState). s.script.trace) leaves ∙ none, hears)
+  does_nothing (prints p) stop none other leaves hears = (ap (λ (s : RunState). s.script.trace) leaves ∙ none, hears)
 
   replay_broken : (p : Replay) (stop : Stop) → Leaves p input.bytes left (Err stop) → BreaksOff (Ok (replays p)) (run_of (replays p))
   replay_broken p (Words fault) leaves = inl leaves
@@ -99,6 +102,7 @@ module _ (input out err : Use) (w : WorldUse) (before left : RunState) where
   broken (replays p) stop takes leaves = replay_broken p stop leaves
   broken (serves s) stop takes leaves = absurd cc
   broken (makes m) stop takes leaves = absurd cc
+  broken (prints p) stop takes leaves = absurd cc
 
   -- the answer is one of the command
   gives : (c : Command) (a : Answer) → Suits c a → LooksAt (Ok c) (done_in left) input (Ok (answer_text a))
@@ -115,6 +119,7 @@ module _ (input out err : Use) (w : WorldUse) (before left : RunState) where
   gives (replays p) (Replayed told) suits looks leaves hears = (looks, leaves, hears)
   gives (serves s) a suits looks leaves hears = absurd suits
   gives (makes m) a suits looks leaves hears = absurd suits
+  gives (prints p) a suits looks leaves hears = absurd suits
 
   -- memory lacked while it was printed, so it is one of `show`
   is_shown : (c : Command) (a : Answer) → (IsMade a → ⊥) → Suits c a → c ≡ shows
@@ -127,6 +132,7 @@ module _ (input out err : Use) (w : WorldUse) (before left : RunState) where
   is_shown (replays p) (Replayed told) lacks suits = absurd (lacks tt)
   is_shown (serves s) a lacks suits = absurd suits
   is_shown (makes m) a lacks suits = absurd suits
+  is_shown (prints p) a lacks suits = absurd suits
 
   module _ (c : Command) (takes : IsTrue (takes_input (Ok c))) (later : NoneFalls input out err) where
     -- memory lacked before anything was printed
@@ -174,11 +180,11 @@ module _ (input out err : Use) (w : WorldUse) (before left : RunState) where
       -- or as far as memory went
       pub printed_short : (p : Printed) (status : ℕ) → p ≡ Short → (IsMade a → p ≢ Short) → Prints out (answer_text a) p → status ≡ 9
           → Tells err (stop_line NoMemory) → EndsWith (run_of c) status
-      printed_short p status short made prints nine told =
+      printed_short p status short made written nine told =
           let shown = is_shown c a (λ is. made is short) suits in
           ends_at (run_of c) 9 status nine (stays_by c (Ok a) leaves hears later) (
             looks.4,
-            inr (answer_text a, ap Ok shown, looks, subst (Prints out (answer_text a)) short prints),
+            inr (answer_text a, ap Ok shown, looks, subst (Prints out (answer_text a)) short written),
             told,
             subst (λ (d : Command). BreaksOff (Ok d) (run_of c)) (sym shown) tt,
           )

@@ -3,7 +3,7 @@ use Rattle.std.proofs.Common.{◌≡◌, ◌≢◌, ℕ, ◌≤◌, ◌==◌, �
 use Rattle.std.proofs.lemmas.Bool.Decides.{nat_tests}
 use Rattle.std.specs.Bool.{MatchBool}
 use Rattle.std.specs.Prelude.{◌⊎◌, IsOk, IsErr, IsTrue}
-use Rattle.hb_words.specs.Command.{Command, Replay, checks, shows, replays, serves, makes}
+use Rattle.hb_words.specs.Command.{Command, Replay, checks, shows, replays, serves, makes, prints}
 use Rattle.hb_words.specs.declared.fault.WordsFault.{WordsFault}
 use Rattle.hb_cli.specs.Replaying.{RunState}
 use Rattle.hb_cli.specs.declared.ended.ReplayEnd.{ReplayEnd}
@@ -137,6 +137,7 @@ module _ (r : Run) (end : ReplayEnd) (text : List ℕ) where
     of_command (replays p) g = g.0.4
     of_command (serves s) g = g.0.1
     of_command (makes m) g = g.0.1
+    of_command (prints p) g = g.0.1
 
   module _ (takes : IsTrue (takes_input r.asked)) where
     -- of a command by its input the text is the outcome
@@ -148,6 +149,7 @@ module _ (r : Run) (end : ReplayEnd) (text : List ℕ) where
       of_command (replays p) asks g = g.0
       of_command (serves s) asks g = absurd (takes_none r.asked (serves s) refl asks takes)
       of_command (makes m) asks g = absurd (takes_none r.asked (makes m) refl asks takes)
+      of_command (prints p) asks g = absurd (takes_none r.asked (prints p) refl asks takes)
 
     -- of these a replay alone is ended otherwise than by a stop
     pub is_replay : end ≢ ends.Stopped → Answers r end text → (p : Replay) × (r.asked ≡ Ok (replays p))
@@ -158,6 +160,7 @@ module _ (r : Run) (end : ReplayEnd) (text : List ℕ) where
       of_command (replays p) asks g = (p, asks)
       of_command (serves s) asks g = absurd (takes_none r.asked (serves s) refl asks takes)
       of_command (makes m) asks g = absurd (takes_none r.asked (makes m) refl asks takes)
+      of_command (prints p) asks g = absurd (takes_none r.asked (prints p) refl asks takes)
 
 -- what an answer says that is printed whole
 abbrev pub Whole : Run → Type 0

@@ -3,6 +3,7 @@ pub mod Endings
 pub mod Inputs
 pub mod Makes
 pub mod Outcomes
+pub mod Pages
 pub mod Printing
 pub mod Runs
 pub mod Serves

@@ -14,21 +14,13 @@ use Rattle.hb_cli.specs.declared.answer.Printed.{Printed}
 use Rattle.hb_cli.specs.declared.answer.Printed.TheVariants.{Whole, Failed, NoMemory}
 use Rattle.hb_cli.specs.Ending.{Run, RunsNothing, Answers, Finishes, IsDone, Unwritten, ShownInPart, BreaksOff, Wanting, Stays, EndsWith}
 use Rattle.hb_cli.specs.Hearing.{HearsAll, HearsNone}
-use Rattle.hb_cli.specs.Making.{made_run, made_text, made_total, RunsMade, PrintsMade, PrintsMadePart, Lacks, RunsAt, TextAt, MakesAt}
+use Rattle.hb_cli.specs.Making.{made_run, made_text, made_total, RunsMade, PrintsMade, PrintsMadePart, RunsAt, MakesAt}
 use Rattle.hb_cli.specs.Leaving.{EndsRun}
-use Rattle.hb_cli.specs.Run.{takes_input, write_fault_line, world_fault_line, turns_spent_line}
+use Rattle.hb_cli.specs.Printing.{Lacks, PrintsAt}
+use Rattle.hb_cli.specs.Run.{takes_input, world_fault_line, turns_spent_line}
 use Rattle.hb_cli.specs.Serving.{PrintsRun}
 use Rattle.hb_cli.specs.Use.{Use, Untouched, WritesAll, WritesPart, Prints, Tells}
 use Rattle.hb_cli.proofs.Endings.{NoneFalls, pick, ends_at, finished, by_status, gives_of, same_command, accepted, takes_none}
-
-module _ (m : Make) (out err : Use) where
-  -- the text was printed in part
-  pub text_in_part : (text : List ℕ) (p : Printed) (status : ℕ) → text ≡ made_text m → p ≢ Whole → p ≢ NoMemory → Prints out text p
-      → status ≡ 7 → Tells err write_fault_line → TextAt m out err status
-  text_in_part text Whole status is whole lacks prints seven tells = absurd (whole refl)
-  text_in_part text Failed status is whole lacks prints seven tells =
-      subst (TextAt m out err) (sym seven) (subst (WritesPart out) is prints, tells)
-  text_in_part text NoMemory status is whole lacks prints seven tells = absurd (lacks refl)
 
 module _ (m : Make) (h : Heard) (left : RunState) (out err : Use) where
   -- the totals of a run of its lines were printed, or a part of them
@@ -53,7 +45,7 @@ module _ (m : Make) (r : Run) (asks : r.asked ≡ Ok (makes m)) where
   abbrev ByRun : Bool → ℕ → Type 0
   ByRun run status =
       MatchBool run (RunsAt m r.world.heard r.left r.out r.err status)
-      ((r.left ≡ r.before) × HearsNone r.world.heard × TextAt m r.out r.err status)
+      ((r.left ≡ r.before) × HearsNone r.world.heard × PrintsAt (made_text m) r.out r.err status)
 
   abbrev GivesByRun : Bool → ReplayEnd → List ℕ → Type 0
   GivesByRun run end text =

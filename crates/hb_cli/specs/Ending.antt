@@ -6,7 +6,9 @@ use Rattle.hb_turns.specs.Notes.{held}
 use Rattle.hb_turns.specs.declared.served.Served.{Served}
 use Rattle.hb_words.specs.declared.asks.Make.{Make}
 use Rattle.hb_words.specs.declared.fault.WordsFault.{WordsFault}
-use Rattle.hb_words.specs.Command.{Command, Replay, Serve, checks, shows, replays, serves, makes}
+use Rattle.hb_words.specs.Command.{Command, Replay, Serve, checks, shows, replays, serves, makes, prints}
+use Rattle.hb_words.specs.Page.{page_text}
+use Rattle.hb_words.specs.declared.page.Page.{Page}
 use Rattle.hb_world.specs.Seen.{Seen}
 use Rattle.hb_cli.specs.Replaying.{RunState, done_in, DoneLawfully}
 use Rattle.hb_cli.specs.declared.ended.ReplayEnd.{ReplayEnd}
@@ -32,7 +34,7 @@ pub record Run : Type 0 where
   pub before : RunState
   pub left : RunState
 
--- the words ask for a command that is answered by its input: each but `serve` and `make` is
+-- the words ask for a command that is answered by its input: each but `serve`, `make` and a page is
 abbrev pub IsByInput : Run → Type 0
 IsByInput r = IsOk r.asked × IsTrue (takes_input r.asked)
 
@@ -57,12 +59,16 @@ MakeGives m r end text = Untouched r.input × MatchBool m.run
     (RunsMade m r.world.heard r.left end × (text ≡ made_total r.left))
     ((end ≡ ends.Stopped) × RunsNothing r × (text ≡ made_text m))
 
+abbrev pub PageGives : Page → Run → ReplayEnd → List ℕ → Type 0
+PageGives p r end text = Untouched r.input × (end ≡ ends.Stopped) × RunsNothing r × (text ≡ page_text p)
+
 abbrev pub Gives : Command → Run → ReplayEnd → List ℕ → Type 0
 Gives (checks q) r end text = (end ≡ ends.Stopped) × HasOutcome r (Ok text)
 Gives shows r end text = (end ≡ ends.Stopped) × HasOutcome r (Ok text)
 Gives (replays p) r end text = ReplayGives p r end text
 Gives (serves s) r end text = ServeGives s r end text
 Gives (makes m) r end text = MakeGives m r end text
+Gives (prints p) r end text = PageGives p r end text
 
 abbrev pub Answers : Run → ReplayEnd → List ℕ → Type 0
 Answers r end text = (c : Command) × (r.asked ≡ Ok c) × Gives c r end text
@@ -119,6 +125,7 @@ abbrev pub BreaksOff : Result Command WordsFault → Run → Type 0
 BreaksOff (Ok (replays p)) r = DoneLawfully p r.left.script.trace
 BreaksOff (Ok (serves s)) r = Unused r.world ⊎ ((told : Served) × Worked s r.world told)
 BreaksOff (Ok (makes m)) r = MatchBool m.run (DoneLawfully made_run r.left.script.trace) (RunsNothing r)
+BreaksOff (Ok (prints p)) r = RunsNothing r
 BreaksOff _ r = ⊤
 
 -- 9: memory was wanting, before the answer or while it was shown
@@ -156,8 +163,8 @@ pub record EndsWith (r : Run) (status : ℕ) : Type 0 where
 abbrev pub EachEnding : (Run → ℕ → Type 0) → Type 0
 EachEnding P = (r : Run) (status : ℕ) → EndsWith r status → P r status
 
--- What a run leaves as it was, whole: `serve` and `make` read no input; but for `serve` no command makes a call on the world of sockets,
--- and none changes the script that it follows
+-- What a run leaves as it was, whole: `serve`, `make` and a page read no input; but for `serve` no command makes a call on the world of
+-- sockets, and none changes the script that it follows
 pub record Others {S W : Type 0} (asked : Result Command WordsFault) (seen : W → Seen) (input input_after : S) (world world_after : W)
     : Type 0 where
   pub unread : takes_input asked ≡ false → input_after ≡ input

@@ -8,6 +8,8 @@ pub mod Judge
 pub mod Leaving
 pub mod Looking
 pub mod Making
+pub mod Paging
+pub mod Printing
 pub mod Refused
 pub mod Replaying
 pub mod Run

@@ -14,9 +14,9 @@ use Rattle.hb_cli.specs.Replaying.{RunState, done_in, IsRun, DoneLawfully}
 use Rattle.hb_cli.specs.declared.ended.ReplayEnd.{ReplayEnd}
 use Rattle.hb_cli.specs.declared.ended.ReplayEnd.TheVariants as ends
 use Rattle.hb_cli.specs.Hearing.{HearsAll, HearsNone}
-use Rattle.hb_cli.specs.Run.{stop_line, write_fault_line, world_fault_line, turns_spent_line}
-use Rattle.hb_cli.specs.Use.{Use, Untouched, WritesAll, WritesPart, Tells}
-use Rattle.hb_cli.specs.declared.stop.Stop.TheVariants.{NoMemory}
+use Rattle.hb_cli.specs.Printing.{Lacks, PrintsAt}
+use Rattle.hb_cli.specs.Run.{write_fault_line, world_fault_line, turns_spent_line}
+use Rattle.hb_cli.specs.Use.{Use, WritesAll, WritesPart, Tells}
 
 -- the text of the script that is asked for
 abbrev pub made_text : Make → List ℕ
@@ -58,10 +58,6 @@ abbrev pub PrintsMadePart : Make → Heard → RunState → Use → Use → Type
 PrintsMadePart m heard left out err =
     (end : ReplayEnd) × RunsMade m heard left end × WritesPart out (made_total left) × Tells err write_fault_line
 
--- 9: nothing is printed
-abbrev pub Lacks : Use → Use → Type 0
-Lacks out err = Untouched out × Tells err (stop_line NoMemory)
-
 -- What `make N --run` does at each status; at 9 what was done is lawful.
 abbrev pub RunsAt : Make → Heard → RunState → Use → Use → ℕ → Type 0
 RunsAt m heard left out err status =
@@ -71,14 +67,7 @@ RunsAt m heard left out err status =
     (MatchBool (status == 7) (PrintsMadePart m heard left out err)
     (MatchBool (status == 9) (DoneLawfully made_run left.script.trace × Lacks out err) ⊥))))
 
--- What `make N` does at each status.
-abbrev pub TextAt : Make → Use → Use → ℕ → Type 0
-TextAt m out err status =
-    MatchBool (status == 0) (WritesAll out (made_text m) × Tells err [])
-    (MatchBool (status == 7) (WritesPart out (made_text m) × Tells err write_fault_line)
-    (MatchBool (status == 9) (Lacks out err) ⊥))
-
--- What `make` does at each status. Where it runs nothing, the script's world and the notes stay, and no note is told.
+-- What `make` does at each status. Where it runs nothing, its text is printed, the script's world and the notes stay, and no note is told.
 abbrev pub MakesAt : Make → Heard → RunState → RunState → Use → Use → ℕ → Type 0
 MakesAt m heard before left out err status =
-    MatchBool m.run (RunsAt m heard left out err status) ((left ≡ before) × HearsNone heard × TextAt m out err status)
+    MatchBool m.run (RunsAt m heard left out err status) ((left ≡ before) × HearsNone heard × PrintsAt (made_text m) out err status)

@@ -12,12 +12,16 @@ use Rattle.hb_cli.specs.Replaying.{RunState, RunsAs, done_with}
 use Rattle.hb_serve.specs.Served.{Heard, heard_of}
 use Rattle.hb_words.specs.Command.{Question, Serve, checks}
 use Rattle.hb_words.specs.Fault.{fault_line}
+use Rattle.hb_words.specs.Page.{page_text}
 use Rattle.hb_words.specs.declared.asks.Make.{Make}
 use Rattle.hb_words.specs.declared.fault.WordsFault.TheVariants.{NoCommand}
+use Rattle.hb_words.specs.declared.page.Page.{Page}
+use Rattle.hb_words.specs.declared.page.Page.TheVariants.{Commands, Version}
 use Rattle.hb_cli.specs.Ended.{ended_as, replay_end}
 use Rattle.hb_cli.specs.Ending.{Run, EndsWith}
 use Rattle.hb_cli.specs.Hearing.{HearsNone}
 use Rattle.hb_cli.specs.Making.{made_text, MakesAt}
+use Rattle.hb_cli.specs.Paging.{PagesAt}
 use Rattle.hb_cli.specs.Run.{stop_line}
 use Rattle.hb_cli.specs.Serving.{WorldUse, world_use, Unused, ServesAt}
 use Rattle.hb_cli.specs.Use.{Use, use_of, Untouched, Tells}
@@ -143,3 +147,26 @@ TextMayBePrinted = (m : Make) (h : Heard) (state : RunState) (out err : Use) →
 abbrev pub MakeMayLack : Type 0
 MakeMayLack = (m : Make) (h : Heard) (state : RunState) (out err : Use) → m.run ≡ false → HearsNone h → Untouched out
     → Tells err (stop_line NoMemory) → MakesAt m h state state out err 9
+
+-- PAGES
+
+-- it ends with no such status
+abbrev pub PageNeverEndsWith : ℕ → Type 0
+PageNeverEndsWith status =
+    (p : Page) (h : Heard) (before left : RunState) (out err : Use) → PagesAt p h before left out err status → ⊥
+
+-- the version is asked for, and nothing is printed, or another page
+abbrev pub PrintsNoPage : Type 0
+PrintsNoPage = (h : Heard) (before left : RunState) (out err : Use) → out.bytes ≡ Some [] → out.bytes_after ≡ Some []
+    → PagesAt Version h before left out err 0 → ⊥
+
+abbrev pub PrintsAnotherPage : Type 0
+PrintsAnotherPage = (h : Heard) (before left : RunState) (out err : Use) → out.bytes ≡ Some []
+    → out.bytes_after ≡ Some (page_text Commands) → PagesAt Version h before left out err 0 → ⊥
+
+-- it is printed
+abbrev pub PageMayBePrinted : Type 0
+PageMayBePrinted = (p : Page) (h : Heard) (state : RunState) (out err : Use) → HearsNone h
+    → out.bytes ≡ Some [] → out.bytes_after ≡ Some (page_text p) → out.faults_after ≡ out.faults
+    → err.bytes ≡ Some [] → err.bytes_after ≡ Some [] → err.faults_after ≡ err.faults
+    → PagesAt p h state state out err 0

@@ -13,7 +13,7 @@ use Rattle.hb_script.specs.declared.fault.ScriptWhy.TheVariants as row
 use Rattle.hb_script.specs.Script.{lines}
 use Rattle.hb_wire.specs.Message.{and_then}
 use Rattle.hb_words.specs.Fault.{fault_line}
-use Rattle.hb_words.specs.Command.{Command, checks, shows, replays, serves, makes}
+use Rattle.hb_words.specs.Command.{Command, checks, shows, replays, serves, makes, prints}
 use Rattle.hb_words.specs.declared.fault.WordsFault.{WordsFault}
 use Rattle.hb_cli.specs.declared.input.InputWhy.{InputWhy}
 use Rattle.hb_cli.specs.declared.input.InputWhy.TheVariants as why
@@ -53,13 +53,15 @@ or_line (Ok x) = Ok x
 or_line (Err fault) = Err (BadLine fault)
 
 -- What a command prints by the resources that an input leaves, or the first of its messages that is refused. `replay` prints
--- the report of the done that it left, where each row of its input is a line. `serve` and `make`, which read no input, print nothing by it.
+-- the report of the done that it left, where each row of its input is a line. `serve`, `make` and a page, which read no input, print
+-- nothing by it.
 abbrev pub printed_by : Command → Done → List ℕ → Result (List ℕ) Refusal
 printed_by (checks q) done input = and_then (judged_by q input) (λ j. Ok (answer_line j))
 printed_by shows done input = and_then (left_by true [] [] input) (λ l. Ok (shown l))
 printed_by (replays r) done input = and_then (or_line (lines input)) (λ script. Ok (report_of r done))
 printed_by (serves s) done input = Ok []
 printed_by (makes m) done input = Ok []
+printed_by (prints p) done input = Ok []
 
 -- what a command prints after this input, or why it prints nothing
 unfoldable pub answer_after : Command → Done → List ℕ → Result (List ℕ) Stop
@@ -73,10 +75,11 @@ outcome_by asked done input = and_then (or_words asked) (λ c. answer_after c do
 abbrev pub IsOutcomeBy : Result Command WordsFault → Done → Result (List ℕ) Stop → Type 0
 IsOutcomeBy asked done o = (input : List ℕ) × (outcome_by asked done input ≡ o)
 
--- words that ask for `serve` or `make` read no input; of all others the outcome is by the input
+-- words that ask for `serve`, `make` or a page read no input; of all others the outcome is by the input
 abbrev pub takes_input : Result Command WordsFault → Bool
 takes_input (Ok (serves s)) = false
 takes_input (Ok (makes m)) = false
+takes_input (Ok (prints p)) = false
 takes_input (Ok _) = true
 takes_input (Err fault) = true
 

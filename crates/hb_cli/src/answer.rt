@@ -6,6 +6,7 @@ ghost use Rattle.hb_held.specs.Rows.{rows};
 ghost use Rattle.hb_lines.specs.Row.{row_text};
 ghost use Rattle.hb_cli.specs.Answer.{answer_text, IsMade};
 ghost use Rattle.hb_cli.specs.Leaving.{EndsRun, end_of};
+ghost use Rattle.hb_cli.specs.Printing.{PrintsAt};
 ghost use Rattle.hb_cli.specs.Run.{answer_line, shown};
 ghost use Rattle.hb_cli.specs.Use.{Prints, used};
 ghost use Rattle.hb_cli.specs.declared.answer.Printed.TheVariants as printing;
@@ -56,6 +57,18 @@ pub fn print_text<K: Sink>(out: &mut K, text: &[u8]) -> Printed
     match put_all(out, text) {
         Ok(()) => Printed::Whole,
         Err(_) => Printed::Failed,
+    }
+}
+
+/// Prints a text that is there whole. Gives the status.
+pub fn print_whole<K: Sink, E: Sink>(text: &[u8], out: &mut K, err: &mut E) -> u8
+    ensures prints { PrintsAt text.now (used K.written K.faults out.old out.new) (used E.written E.faults err.old err.new) result }
+    ensures later_out { K.faults out.old ≤ K.faults out.new }
+    ensures later_err { E.faults err.old ≤ E.faults err.new }
+{
+    match print_text(out, text) {
+        Printed::Whole => 0,
+        _ => tell(err, b"hbone: write fault\n", 7),
     }
 }
 

@@ -27,6 +27,7 @@ ghost use Rattle.hb_cli.specs.declared.stop.Stop.TheVariants.{NoMemory};
 use crate::answer::{Answer, Printed, end, print};
 use crate::input::{Refused, read_input};
 use crate::making::make_script;
+use crate::paging::print_page;
 use crate::replaying::replay;
 use crate::serving::serve_world;
 use crate::stop::Stop;
@@ -104,7 +105,7 @@ fn answer<A: Audit>(
             Ok(Answer::Left(left))
         }
         Command::Replay(words) => replay_input(alloc, words, input, keep, audits, script),
-        Command::Serve(_) | Command::Make(_) => unreachable!(),
+        Command::Serve(_) | Command::Make(_) | Command::Print(_) => unreachable!(),
     }
 }
 
@@ -207,8 +208,8 @@ fn conclude<S: Source, K: Sink, E: Sink, A: Audit>(
     }
 }
 
-/// A run. The words are looked at first; then `serve` runs over the world, `make` makes a script, and any other command is answered
-/// by its input.
+/// A run. The words are looked at first; then `serve` runs over the world, `make` makes a script, a page is printed, and any other
+/// command is answered by its input.
 fn obey<S: Source, K: Sink, E: Sink, A: Audit, W: World>(
     alloc: Global,
     words: &[String],
@@ -236,6 +237,7 @@ fn obey<S: Source, K: Sink, E: Sink, A: Audit, W: World>(
     match read_words(alloc, words) {
         Ok(Command::Serve(asked)) => serve_world(alloc, &asked, out, err, audits, world),
         Ok(Command::Make(asked)) => make_script(alloc, &asked, out, err, keep, audits, script),
+        Ok(Command::Print(page)) => print_page(alloc, page, out, err),
         Ok(command) => conclude(alloc, &command, input, out, err, keep, audits, script),
         Err(Or::Fault(fault)) => give_up(alloc, Stop::Words(fault), err),
         Err(Or::NoMemory) => give_up(alloc, Stop::NoMemory, err),
@@ -246,7 +248,7 @@ fn obey<S: Source, K: Sink, E: Sink, A: Audit, W: World>(
 /// none to `err`; a fault of `err` changes no status. The statuses: 0 done, 2 words that aren't accepted,
 /// 3 an input that is refused, 4 a run of the proxy whose world failed, 5 one whose turns were spent, 6 a read that
 /// failed, 7 a write that failed, 9 want of memory. The words are looked at first, then the whole input is read, and then
-/// it is looked at; `serve` and `make` read none. `world` is the one that `serve` runs over, and `script` that of `replay` and of
+/// it is looked at; `serve`, `make` and a page read none. `world` is the one that `serve` runs over, and `script` that of `replay` and of
 /// `make --run`; nothing happened in it before. `keep` has the notes of a run over it; where it keeps none, such a run ends with 9.
 /// The notes of `serve` aren't kept. Each note of a run is told to the audits when it is made; one that doesn't keep it is dropped,
 /// and the run goes on.
@@ -275,7 +277,7 @@ pub fn run<S: Source, K: Sink, E: Sink, A: Audit, W: World>(
     }) result }
     // The script's lines allow the trace that its world has then.
     ensures allowed { Allowed script.new.lines script.new.trace }
-    // `serve` and `make` leave the input as it was, and all but `serve` the world of sockets.
+    // `serve`, `make` and a page leave the input as it was, and all but `serve` the world of sockets.
     ensures others { Others (words_of (map string_bytes words.now)) W.seen input.old input.new world.old world.new }
 {
     let status = obey(alloc, words, input, out, err, keep, audits, world, script);

@@ -4,6 +4,7 @@ ghost use Rattle.hb_cli.specs.Refused.{NoOtherStatus, DonePrintsNothing, Refused
 ghost use Rattle.hb_cli.specs.Refused.{NeverEndsWith, PrintsNothing, HidesFault, InventsFault, PrintsWanting, MayLack};
 ghost use Rattle.hb_cli.specs.Refused.{MakeNeverEndsWith, TextNeverEndsWith, MakesNothing, MakesAnother, RunsUnasked};
 ghost use Rattle.hb_cli.specs.Refused.{RunsNothing, RunsUntold, TextMayBePrinted, MakeMayLack};
+ghost use Rattle.hb_cli.specs.Refused.{PageNeverEndsWith, PrintsNoPage, PrintsAnotherPage, PageMayBePrinted};
 ghost use Rattle.hb_cli.specs.Refused.{EndsLacking, RunsLacking, EndsAsTold};
 
 /// No run ends with 1. One that is done printed what `check` answers; one whose input is refused printed nothing; and where a read failed
@@ -45,6 +46,19 @@ pub fn ends_of_make_are_told_apart()
     ensures untold { RunsUntold }
     ensures printed { TextMayBePrinted }
     ensures lacks { MakeMayLack }
+{}
+
+/// A page is of accepted words, reads no input and runs nothing, so it never ends with 2 to 6. At status 0 it was printed, and no other
+/// one. It may be.
+pub fn ends_of_pages_are_told_apart()
+    ensures words { PageNeverEndsWith 2 }
+    ensures input { PageNeverEndsWith 3 }
+    ensures world { PageNeverEndsWith 4 }
+    ensures turns { PageNeverEndsWith 5 }
+    ensures unread { PageNeverEndsWith 6 }
+    ensures nothing { PrintsNoPage }
+    ensures another { PrintsAnotherPage }
+    ensures printed { PageMayBePrinted }
 {}
 
 /// A run in which a request was answered 500 for want of memory isn't told to have ended by a stop, by its world or by its turns. One in

@@ -8,6 +8,7 @@ mod ended;
 mod input;
 pub mod laws;
 mod making;
+mod paging;
 mod replaying;
 pub mod run_laws;
 mod serving;

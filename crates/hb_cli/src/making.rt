@@ -8,10 +8,11 @@ ghost use Rattle.hb_script.specs.Spelling.{lines_text};
 ghost use Rattle.hb_serve.specs.Served.{heard_of};
 ghost use Rattle.hb_words.specs.AskedRun.{replay_seen};
 ghost use Rattle.hb_words.specs.Make.{most_tunnels};
-ghost use Rattle.hb_cli.specs.Making.{made_run, RunsAt, TextAt, MakesAt};
+ghost use Rattle.hb_cli.specs.Making.{made_run, made_text, RunsAt, MakesAt};
+ghost use Rattle.hb_cli.specs.Printing.{PrintsAt};
 ghost use Rattle.hb_cli.specs.Use.{used};
 
-use crate::answer::{Printed, print_text};
+use crate::answer::print_whole;
 use crate::replaying::replay_lines;
 use crate::serving::print_total;
 use crate::telling::tell;
@@ -64,17 +65,14 @@ fn text_of(alloc: Global, count: u32) -> Result<Vec<u8>, NoMemory>
 /// Prints the text of a script. Gives the status.
 fn print_made<K: Sink, E: Sink>(alloc: Global, make: &Make, out: &mut K, err: &mut E) -> u8
     requires { make.now.count ≤ most_tunnels }
-    ensures text { TextAt make.now (used K.written K.faults out.old out.new) (used E.written E.faults err.old err.new) result }
+    ensures text { PrintsAt (made_text make.now) (used K.written K.faults out.old out.new) (used E.written E.faults err.old err.new) result }
     ensures later_out { K.faults out.old ≤ K.faults out.new }
     ensures later_err { E.faults err.old ≤ E.faults err.new }
 {
     let Ok(text) = text_of(alloc, make.count) else {
         return tell(err, b"hbone: out of memory\n", 9);
     };
-    match print_text(out, text.as_slice()) {
-        Printed::Whole => 0,
-        _ => tell(err, b"hbone: write fault\n", 7),
-    }
+    print_whole(text.as_slice(), out, err)
 }
 
 /// Runs the proxy over the lines of a script in whose world nothing happened yet, tells its notes to the audits, prints its totals,

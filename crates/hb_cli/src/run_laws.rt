@@ -8,11 +8,13 @@ ghost use Rattle.hb_cli.specs.Replaying.{DoneLawfully, done_in};
 ghost use Rattle.hb_cli.specs.declared.ended.ReplayEnd.{ReplayEnd as ReplayEnds};
 ghost use Rattle.hb_cli.specs.declared.ended.ReplayEnd.TheVariants as ends;
 ghost use Rattle.hb_turns.specs.Notes.{held};
-ghost use Rattle.hb_words.specs.Command.{Replay as Replays, Serve as Serves, shows, replays, serves, makes};
+ghost use Rattle.hb_words.specs.Command.{Replay as Replays, Serve as Serves, shows, replays, serves, makes, prints};
 ghost use Rattle.hb_words.specs.declared.asks.Make.{Make as Makes};
+ghost use Rattle.hb_words.specs.declared.page.Page.{Page as Pages};
 ghost use Rattle.hb_cli.specs.Ending.{EachEnding};
 ghost use Rattle.hb_cli.specs.Making.{MakesAt};
 ghost use Rattle.hb_cli.specs.Leaving.{RunsTo};
+ghost use Rattle.hb_cli.specs.Paging.{PagesAt};
 ghost use Rattle.hb_cli.specs.Run.{IsOutcomeBy, IsStated, ReadsEnough, WritesLine, outcome_by, status_of};
 ghost use Rattle.hb_cli.specs.Run.{is_answered, line_at, stop_line, takes_input};
 ghost use Rattle.hb_cli.specs.Serving.{ServesAt};
@@ -25,7 +27,7 @@ pub fn words_are_refused_exactly()
     ensures reads_nothing { EachEnding (λ r status. status ≡ 2 → r.input.bytes_after ≡ r.input.bytes) }
 {}
 
-/// But for `serve` and `make` a command is answered by its input, which is read to its end, or past its limit, before it is looked at. Of
+/// But for `serve`, `make` and a page a command is answered by its input, which is read to its end, or past its limit, before it is looked at. Of
 /// one that is told the status is the stated one: 3 exactly by the input, 0 with its answer; a replay that has an answer may have ended
 /// otherwise than by a stop.
 pub fn statuses_are_stated_by_words_and_input()
@@ -75,7 +77,7 @@ pub fn lines_are_told_by_statuses()
 
 /// A replay ran over the lines of the input that is told, and left a trace that is lawful: at 0 a stop ended it, at 4 a wait that failed,
 /// and at 5 its turns were spent; 7 comes behind any of these. At 9 what was done is lawful, and at 2, 3 and 6 nothing was done. But for
-/// `serve` and `make` 4 and 5 come of a replay alone.
+/// `serve`, `make` and pages 4 and 5 come of a replay alone.
 pub fn replays_leave_lawful_runs()
     ensures stopped { EachEnding (λ r status. (p : Replays) → r.asked ≡ Ok (replays p) → status ≡ 0
         → RunsTo p r.input.bytes r.left ends.Stopped) }
@@ -102,9 +104,11 @@ pub fn audits_hear_all_notes_of_a_replay()
         → r.world.heard.after ≡ r.world.heard.before) }
 {}
 
-/// `serve` and `make` end as their own tables say.
-pub fn serve_and_make_end_by_their_tables()
+/// `serve`, `make` and pages, which read no input, end as their own tables say.
+pub fn others_end_by_their_tables()
     ensures serves { EachEnding (λ r status. (s : Serves) → r.asked ≡ Ok (serves s) → ServesAt s r.world r.out r.err status) }
     ensures makes { EachEnding (λ r status. (m : Makes) → r.asked ≡ Ok (makes m)
         → MakesAt m r.world.heard r.before r.left r.out r.err status) }
+    ensures pages { EachEnding (λ r status. (p : Pages) → r.asked ≡ Ok (prints p)
+        → PagesAt p r.world.heard r.before r.left r.out r.err status) }
 {}

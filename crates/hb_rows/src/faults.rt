@@ -88,8 +88,8 @@ CHECK; WORKLOAD; 0; 0; 2; 0; 5; 7 "al" "hbone"
 check; WORKLOAD; 0; 0; 64; 1; 64; 2 "" ""
 check; WORKLOAD; 0; 0; 64; 0; 13; 2 "" "hbone: words:"
 # Words that aren't accepted, and reads and writes that fail.
-chec; WORKLOAD; 1; 0; 64; 0; 1024; 2 "" "hbone: words: unknown command 'chec' USAGE\n"
-chec; 00; 1; 1; 0; 0; 1024; 2 "" "hbone: words: unknown command 'chec' USAGE\n"
+chec; WORKLOAD; 1; 0; 64; 0; 1024; 2 "" "hbone: words: unknown command 'chec' (see hbone --help)\n"
+chec; 00; 1; 1; 0; 0; 1024; 2 "" "hbone: words: unknown command 'chec' (see hbone --help)\n"
 check; WORKLOAD; 1; 1; 0; 1; 0; 2 "" ""
 # What is held is shown, to the last byte.
 show; WORKLOAD; 0; 0; 230; 0; 64; 0 "CAME\nHELD\n" ""
@@ -119,18 +119,15 @@ show; 00; 0; 0; 512; 1; 64; 3 "" ""
 show; 00; 0; 0; 512; 0; 10; 3 "" "hbone: mes"
 show; WORKLOAD; 0; 1; 512; 1; 64; 7 "" ""
 show; WORKLOAD; 1; 1; 0; 1; 0; 6 "" ""
-show x; WORKLOAD; 1; 1; 0; 0; 1024; 2 "" "hbone: words: unexpected word 'x' (usage: hbone show)\n"
+show x; WORKLOAD; 1; 1; 0; 0; 1024; 2 "" "hbone: words: unexpected word 'x' (see hbone show --help)\n"
+# A page reads nothing, and fails where it can't be put.
+--version; WORKLOAD; 1; 0; 64; 1; 0; 0 "hbone 0.1.0\n" ""
+--version; WORKLOAD; 1; 1; 64; 0; 64; 7 "" "hbone: write fault\n"
+--version; WORKLOAD; 1; 0; 11; 0; 64; 7 "hbone 0.1.0" "hbone: write fault\n"
+show --help; WORKLOAD; 1; 2; 5; 1; 0; 7 "Tells" ""
 # All of them fail.
 CHECK; WORKLOAD; 1; 1; 0; 1; 0; 6 "" ""
 CHECK; WORKLOAD; 0; 1; 0; 1; 0; 7 "" """#;
-
-/// The forms of all words.
-const USAGE: &str =
-    "(usage: hbone check --node NODE [--network NETWORK] SOURCE IDENTITY TARGET, hbone show, hbone make N [--run], hbone re\
-play --node NODE --id ID --discovery TARGET [--inbound TARGET] [--outbound TARGET] [--plain TARGET] [--network NETWORK\
-] [--hbone-port PORT] [--tunnels COUNT] [--turns COUNT] [--trace] [--brief], or hbone serve --node NODE --id ID --disc\
-overy TARGET [--inbound TARGET] [--outbound TARGET] [--plain TARGET] [--network NETWORK] [--hbone-port PORT] [--tunnel\
-s COUNT] [--turns COUNT] [--ticks COUNT])";
 
 /// What `show` tells of WORKLOAD.
 const CAME: &str =
@@ -144,12 +141,7 @@ const HELD: &str =
 const RECORD: &str = "0a1f0a037765621201611a040a00000728014a026e31820103612f70a201027531";
 
 /// The text that the name of a part of an end stands for.
-const PARTS: [(&str, &str); 4] = [
-    ("USAGE", USAGE),
-    ("CAME", CAME),
-    ("HELD", HELD),
-    ("RECORD", RECORD),
-];
+const PARTS: [(&str, &str); 3] = [("CAME", CAME), ("HELD", HELD), ("RECORD", RECORD)];
 
 /// A text with a part in the place of each name.
 fn with_part(rt: &impl Abort, alloc: Global, text: &str, name: &str, part: &str) -> String {

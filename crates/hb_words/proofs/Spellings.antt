@@ -1,11 +1,13 @@
 -- The words that are accepted are the spellings of items of a command.
-use Rattle.std.proofs.Common.{◌≡◌, ℕ, Bool, true, false, true≢false, ◌&&◌, cond, List, [], ◌∷◌, Option, Some, None, option_and_then, option_map, Result, Ok, Err, codes, bytes_eq, refl, sym, subst, ap, ap₂, ◌∙◌}
+use Rattle.std.proofs.Common.{◌≡◌, Bool, true, false, true≢false, ◌&&◌, cond, List, [], ◌∷◌, Option, Some, None, option_and_then, option_map, inl, inr, Result, Ok, Err, codes, bytes_eq, refl, sym, subst, ap, ap₂, ◌∙◌}
 use Rattle.std.specs.List.{list_all}
+use Rattle.std.specs.Prelude.{◌⊎◌}
 use Rattle.std.proofs.lemmas.Bool.{and_parts}
 use Rattle.std.proofs.lemmas.Slice.Eq.{bytes_eq-Decides}
+use Rattle.clap.proofs.OnLiterals.{clap_on_literals}
 use Rattle.clap.proofs.WalkLemmas.{first_value-rows}
-use Rattle.clap.specs.Matches.{first_value, found_of}
-use Rattle.clap.specs.Simple.{subcommand_of, subcommand_rows_of}
+use Rattle.clap.specs.Matches.{first_value}
+use Rattle.clap.specs.Simple.{subcommand_rows_of}
 use Rattle.clap.specs.Takes.{takes}
 use Rattle.clap.specs.Walk.{Row, Text, first_of, rows_of}
 use Rattle.clap.specs.declared.parser.matches.ArgMatches.{ArgMatches}
@@ -19,12 +21,15 @@ use Rattle.hb_words.specs.declared.fault.WordsFault.{WordsFault}
 use Rattle.hb_words.specs.declared.fault.WordsFault.TheVariants.{UnknownCommand, Behind}
 use Rattle.hb_words.specs.declared.part.CommandName.{CommandName}
 use Rattle.hb_words.specs.declared.part.CommandName.TheVariants.{Check, Show, Make, Replay, Serve}
-use Rattle.hb_words.specs.Command.{Command as Asked}
+use Rattle.hb_words.specs.declared.page.Page.{Page}
+use Rattle.hb_words.specs.declared.page.Page.TheVariants.{Commands, Words, Version}
+use Rattle.hb_words.specs.Command.{Command as Asked, prints}
 use Rattle.hb_words.specs.Grammar.{command_text, parts_of, declared, commands}
+use Rattle.hb_words.specs.Page.{SpellsPage, page_of}
 use Rattle.hb_words.specs.Part.{command_named}
-use Rattle.hb_words.specs.Values.{Values, asked_by}
-use Rattle.hb_words.specs.Why.{shown, why_of}
-use Rattle.hb_words.specs.Words.{program, is_accepted, values_of, or_behind, behind, command_first, of_named, words_of, values_among, ReadsSpelledItems, AcceptsSpelledItemsAlone}
+use Rattle.hb_words.specs.Values.{asked_by}
+use Rattle.hb_words.specs.Why.{shown, step, walk, why_of}
+use Rattle.hb_words.specs.Words.{program, is_accepted, values_of, or_behind, behind, command_first, of_named, command_by, or_page, words_of, values_among, ReadsSpelledItems, ReadsPages, AsksForPage, AsksByItems, AcceptsThese, OthersAskForNone}
 use Rattle.hb_words.proofs.Alike.{asked_alike}
 
 pub are_all_proper : are_proper commands ≡ true
@@ -38,6 +43,9 @@ own_named Show = refl
 own_named Make = refl
 own_named Replay = refl
 own_named Serve = refl
+
+same_command : (c k : CommandName) → Some c ≡ Some k → c ≡ k
+same_command c k is = cc
 
 abbrev IsDeclared : Text → Command → Type 0
 IsDeclared word d = (c : CommandName) × (word ≡ command_text c) × (d ≡ declared c)
@@ -97,29 +105,101 @@ module _ (words : List Text) (c : CommandName) (items : List Item) (spells : Spe
   asks_same : asked_by c (values_of words) ≡ asked_by c (values_among (parts_of c) items)
   asks_same = asked_alike c (values_of words) (values_among (parts_of c) items) values_same
 
-  words_behind : (rest : List Text) → words ≡ command_text c ∷ rest → words_of words ≡ behind c words rest
-  unfolding words_of
+  words_behind : (rest : List Text) → words ≡ command_text c ∷ rest → command_by words ≡ behind c words rest
+  unfolding command_by
   words_behind rest is =
-      ap words_of is ∙ ap (of_named (command_text c) rest) (own_named c) ∙ ap (λ (l : List Text). behind c l rest) (sym is)
+      ap command_by is ∙ ap (of_named (command_text c) rest) (own_named c) ∙ ap (λ (l : List Text). behind c l rest) (sym is)
 
-  reads_spelled : words_of words ≡ or_behind c (asked_by c (values_among (parts_of c) items))
+  reads_spelled : command_by words ≡ or_behind c (asked_by c (values_among (parts_of c) items))
   reads_spelled =
       words_behind _ spells.1 ∙ behind_accepted c words _ (spelled_accepted words (declared c) items spells) ∙ ap (or_behind c) asks_same
+
+-- ---- words that ask for a page
+
+same_page : (p q : Page) → Some p ≡ Some q → p ≡ q
+same_page p q is = cc
+
+one_word : (word : Text) (p : Page) (help version : Bool) → bytes_eq word (codes "--help") ≡ help
+    → bytes_eq word (codes "--version") ≡ version
+    → cond help (Some Commands) (cond version (Some Version) None) ≡ Some p → SpellsPage (word ∷ []) p
+one_word word p true version helps tells is =
+    subst (SpellsPage (word ∷ [])) (same_page Commands p is) (ap (λ (w : Text). w ∷ []) ((bytes_eq-Decides word (codes "--help")).0 helps))
+one_word word p false true helps tells is =
+    subst (SpellsPage (word ∷ [])) (same_page Version p is) (ap (λ (w : Text). w ∷ []) ((bytes_eq-Decides word (codes "--version")).0 tells))
+one_word word p false false helps tells is = cc
+
+module _ (name : Text) (c : CommandName) where
+  named_or : (k : CommandName) (rest : Option CommandName) (same : Bool) → bytes_eq name (command_text k) ≡ same
+      → (rest ≡ Some c → name ≡ command_text c) → cond same (Some k) rest ≡ Some c → name ≡ command_text c
+  named_or k rest true same more is = (bytes_eq-Decides name (command_text k)).0 same ∙ ap command_text (same_command k c is)
+  named_or k rest false same more is = more is
+
+  named_text : command_named name ≡ Some c → name ≡ command_text c
+  named_text =
+      named_or Check _ _ refl
+      (named_or Show _ _ refl (named_or Make _ _ refl (named_or Replay _ _ refl (named_or Serve None _ refl (λ is. cc)))))
+
+two_words : (name word : Text) (p : Page) (help : Bool) (o : Option CommandName) → bytes_eq word (codes "--help") ≡ help
+    → command_named name ≡ o → cond help (option_map Words o) None ≡ Some p → SpellsPage (name ∷ word ∷ []) p
+two_words name word p true (Some c) helps names is =
+    subst (SpellsPage (name ∷ word ∷ [])) (same_page (Words c) p is)
+    (ap₂ (λ (n w : Text). n ∷ w ∷ []) (named_text name c names) ((bytes_eq-Decides word (codes "--help")).0 helps))
+two_words name word p true None helps names is = cc
+two_words name word p false o helps names is = cc
+
+-- no others ask for one
+page_spelled : (words : List Text) (p : Page) → page_of words ≡ Some p → SpellsPage words p
+unfolding page_of
+page_spelled [] p is = cc
+page_spelled (word ∷ []) p is = one_word word p _ _ refl refl is
+page_spelled (name ∷ word ∷ []) p is = two_words name word p _ _ refl refl is
+page_spelled (name ∷ word ∷ third ∷ rest) p is = cc
+
+-- and these spell no items of a command
+page_unaccepted : (words : List Text) (p : Page) → SpellsPage words p → is_accepted words ≡ false
+unfolding is_accepted clap_on_literals
+page_unaccepted words Commands is = subst (λ (l : List Text). is_accepted l ≡ false) (sym is) refl
+page_unaccepted words Version is = subst (λ (l : List Text). is_accepted l ≡ false) (sym is) refl
+page_unaccepted words (Words Check) is = subst (λ (l : List Text). is_accepted l ≡ false) (sym is) refl
+page_unaccepted words (Words Show) is = subst (λ (l : List Text). is_accepted l ≡ false) (sym is) refl
+page_unaccepted words (Words Make) is = subst (λ (l : List Text). is_accepted l ≡ false) (sym is) refl
+page_unaccepted words (Words Replay) is = subst (λ (l : List Text). is_accepted l ≡ false) (sym is) refl
+page_unaccepted words (Words Serve) is = subst (λ (l : List Text). is_accepted l ≡ false) (sym is) refl
+
+accepted_no_page : (words : List Text) → is_accepted words ≡ true → page_of words ≡ None
+accepted_no_page words accepted = go (page_of words) refl where
+  go : (o : Option Page) → page_of words ≡ o → page_of words ≡ None
+  go None is = is
+  go (Some p) is = absurd (true≢false (sym accepted ∙ page_unaccepted words p (page_spelled words p is)))
+
+by_command : (words : List Text) → page_of words ≡ None → words_of words ≡ command_by words
+unfolding words_of
+by_command words is = ap (λ (o : Option Page). or_page o (command_by words)) is
+
+by_page : (words : List Text) (p : Page) → page_of words ≡ Some p → words_of words ≡ Ok (prints p)
+unfolding words_of
+by_page words p is = ap (λ (o : Option Page). or_page o (command_by words)) is
+
+page_is : (words : List Text) (p : Page) → SpellsPage words p → page_of words ≡ Some p
+unfolding page_of
+page_is words Commands is = ap page_of is
+page_is words Version is = ap page_of is
+page_is words (Words c) is = ap page_of is ∙ ap (option_map Words) (own_named c)
 
 -- ---- the laws
 
 pub reads_spelled_items : ReadsSpelledItems
-reads_spelled_items words c items spells = reads_spelled words c items spells
+reads_spelled_items words c items spells =
+    by_command words (accepted_no_page words (spelled_accepted words (declared c) items spells)) ∙ reads_spelled words c items spells
+
+pub reads_pages : ReadsPages
+reads_pages words p is = by_page words p (page_is words p is)
 
 asked_behind : (c : CommandName) (asked : Asked) (r : Result Asked Why) → or_behind c r ≡ Ok asked → r ≡ Ok asked
 asked_behind c asked (Ok x) is = cc
 asked_behind c asked (Err why) is = cc
 
-abbrev Accepts : List Text → Asked → Type 0
-Accepts words asked = (c : CommandName) × (items : List Item) × Spells commands words (declared c) items
-    × (asked_by c (values_among (parts_of c) items) ≡ Ok asked)
-
-from_accepted : (words : List Text) (asked : Asked) → is_accepted words ≡ true → words_of words ≡ Ok asked → Accepts words asked
+from_accepted : (words : List Text) (asked : Asked) → is_accepted words ≡ true → command_by words ≡ Ok asked → AsksByItems words asked
 from_accepted words asked accepted is =
     let found = accepted_spells words accepted in
     let named = is_declared found.0.name found.0 found.2.0 in
@@ -127,8 +207,8 @@ from_accepted words asked accepted is =
     (named.0, found.1, spells, asked_behind named.0 asked _ (sym (reads_spelled words named.0 found.1 spells) ∙ is))
 
 from_named : (word : Text) (rest : List Text) (asked : Asked) (o : Option CommandName) (b : Bool) → command_named word ≡ o
-    → is_accepted (word ∷ rest) ≡ b → words_of (word ∷ rest) ≡ Ok asked → Accepts (word ∷ rest) asked
-unfolding words_of
+    → is_accepted (word ∷ rest) ≡ b → command_by (word ∷ rest) ≡ Ok asked → AsksByItems (word ∷ rest) asked
+unfolding command_by
 from_named word rest asked o true named accepted is = from_accepted (word ∷ rest) asked accepted is
 from_named word rest asked None false named accepted is =
     let told : Err (UnknownCommand (shown word)) ≡ Ok asked = sym (ap (of_named word rest) named) ∙ is in
@@ -138,16 +218,26 @@ from_named word rest asked (Some c) false named accepted is =
     let refused = behind_refused c (word ∷ rest) rest accepted in
     cc
 
-pub accepts_spelled_items_alone : AcceptsSpelledItemsAlone
-unfolding words_of
-accepts_spelled_items_alone [] asked is = cc
-accepts_spelled_items_alone (word ∷ rest) asked is =
+same_asked : (a b : Asked) (r : Result Asked WordsFault) → r ≡ Ok a → r ≡ Ok b → a ≡ b
+same_asked a b r is so = let same : Ok a ≡ Ok b = sym is ∙ so in cc
+
+asked_by_items : (words : List Text) (asked : Asked) → command_by words ≡ Ok asked → AsksByItems words asked
+unfolding command_by
+asked_by_items [] asked is = cc
+asked_by_items (word ∷ rest) asked is =
     from_named word rest asked (command_named word) (is_accepted (word ∷ rest)) refl refl is
 
--- ---- what was read
+pub accepts_these : AcceptsThese
+accepts_these words asked is = go (page_of words) refl where
+  go : (o : Option Page) → page_of words ≡ o → AsksForPage words asked ⊎ AsksByItems words asked
+  go (Some p) found = inl (p, page_spelled words p found, same_asked asked (prints p) (words_of words) is (by_page words p found))
+  go None found = inr (asked_by_items words asked (sym (by_command words found) ∙ is))
 
-same_command : (c k : CommandName) → Some c ≡ Some k → c ≡ k
-same_command c k is = cc
+pub others_ask_for_none : OthersAskForNone
+unfolding words_of command_by page_of behind is_accepted walk step clap_on_literals
+others_ask_for_none = (refl, refl, refl, refl, refl, refl)
+
+-- ---- what was read
 
 -- the command that the first word names is the one whose items the words spell
 spelled_by_first : (words : List Text) (c : CommandName) (d : Command) (items : List Item) → command_first words ≡ Some c

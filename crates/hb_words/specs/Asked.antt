@@ -5,7 +5,7 @@ use Rattle.hb_words.specs.declared.asks.Check.{Check}
 use Rattle.hb_words.specs.declared.asks.Command.{Command as Given}
 use Rattle.hb_words.specs.declared.asks.Command.TheVariants as given
 use Rattle.hb_words.specs.AskedRun.{replay_seen, serve_seen}
-use Rattle.hb_words.specs.Command.{Question, Command, checks, shows, replays, serves, makes}
+use Rattle.hb_words.specs.Command.{Question, Command, checks, shows, replays, serves, makes, prints}
 
 abbrev pub question : Check → Question
 question c = record { node = c.node.now; network = c.network.now; peer = c.peer; target = c.target }
@@ -16,6 +16,7 @@ command_of given.Show = shows
 command_of (given.Replay r) = replays (replay_seen r)
 command_of (given.Serve s) = serves (serve_seen s)
 command_of (given.Make m) = makes m
+command_of (given.Print p) = prints p
 
 abbrev pub asked : {E : Type 0} → Result Check (Or E) → Result Question (Or E)
 asked (Ok c) = Ok (question c)

@@ -3,6 +3,7 @@ use Rattle.std.specs.Prelude.{ℕ, Bool, List, Option}
 use Rattle.hb_base.specs.declared.peer.Peer.{Peer}
 use Rattle.hb_base.specs.declared.target.Target.{Target}
 use Rattle.hb_words.specs.declared.asks.Make.{Make}
+use Rattle.hb_words.specs.declared.page.Page.{Page}
 
 -- what `check` asks: is this peer admitted at this target of this node of this network?
 pub record Question : Type 0 where
@@ -36,10 +37,12 @@ pub record Serve : Type 0 where
   pub run : RunWords
   pub ticks : Option ℕ
 
--- what is asked for: an answer to a question, what is held, a run over a script, one over real sockets, or a script that is made
+-- what is asked for: an answer to a question, what is held, a run over a script, one over real sockets, a script that is made, or a page
+-- of the program's own
 pub data Command : Type 0 where
   checks : Question → Command
   shows : Command
   replays : Replay → Command
   serves : Serve → Command
   makes : Make → Command
+  prints : Page → Command

@@ -7,11 +7,10 @@ use Rattle.hb_words.specs.declared.fault.Why.TheVariants as why
 use Rattle.hb_words.specs.declared.fault.WordsFault.{WordsFault}
 use Rattle.hb_words.specs.declared.fault.WordsFault.TheVariants as faults
 use Rattle.hb_words.specs.declared.part.CommandName.{CommandName}
-use Rattle.hb_words.specs.declared.part.CommandName.TheVariants.{Check, Show, Make, Replay, Serve}
 use Rattle.hb_words.specs.declared.part.PartName.{PartName}
 use Rattle.hb_words.specs.declared.part.PartName.TheVariants as parts
 use Rattle.hb_words.specs.Grammar.{command_text}
-use Rattle.hb_words.specs.Part.{name_text, usage_of}
+use Rattle.hb_words.specs.Part.{name_text}
 
 -- what stands before a part whose value is told
 abbrev pub lead : PartName → List ℕ
@@ -57,22 +56,17 @@ why_text c (why.BadTarget fault) = target_text fault
 why_text c (why.Missing part) = part_text [] part (codes " is wanted behind ") ++ command_text c
 why_text c why.NotAccepted = codes "these words aren't accepted"
 
--- the forms of all commands' words
-abbrev pub usage : List ℕ
-usage = usage_of Check ++ codes ", " ++ usage_of Show ++ codes ", " ++ usage_of Make ++ codes ", " ++ usage_of Replay
-    ++ codes ", or " ++ usage_of Serve
-
 abbrev pub fault_text : WordsFault → List ℕ
 fault_text faults.NotUtf8 = codes "a word is not UTF-8"
 fault_text faults.NoCommand = codes "a command is wanted"
 fault_text (faults.UnknownCommand word) = codes "unknown command '" ++ word ++ codes "'"
 fault_text (faults.Behind command reason) = why_text command reason
 
--- the form of the named command's words, or those of all commands
-abbrev pub usage_at : WordsFault → List ℕ
-usage_at (faults.Behind command reason) = usage_of command
-usage_at _ = usage
+-- what prints the words of the named command, or the commands
+abbrev pub help_at : WordsFault → List ℕ
+help_at (faults.Behind command reason) = codes "hbone " ++ command_text command ++ codes " --help"
+help_at _ = codes "hbone --help"
 
--- the line, with the form of accepted words
+-- the line, with what prints the accepted words
 abbrev pub fault_line : WordsFault → List ℕ
-fault_line fault = codes "hbone: words: " ++ fault_text fault ++ codes " (usage: " ++ usage_at fault ++ codes ")\n"
+fault_line fault = codes "hbone: words: " ++ fault_text fault ++ codes " (see " ++ help_at fault ++ codes ")\n"

@@ -5,6 +5,7 @@ pub mod Fault
 pub mod Grammar
 pub mod Make
 pub mod Number
+pub mod Page
 pub mod Part
 pub mod Values
 pub mod Why

@@ -116,15 +116,3 @@ abbrev pub places_of : CommandName → List PartName
 places_of Check = Source ∷ Identity ∷ Target ∷ []
 places_of Make = Count ∷ []
 places_of _ = []
-
--- the form of its words
-abbrev pub usage_of : CommandName → List ℕ
-usage_of Check = codes "hbone check --node NODE [--network NETWORK] SOURCE IDENTITY TARGET"
-usage_of Show = codes "hbone show"
-usage_of Make = codes "hbone make N [--run]"
-usage_of Replay =
-    codes "hbone replay --node NODE --id ID --discovery TARGET [--inbound TARGET] [--outbound TARGET] [--plain TARGET]"
-    ++ codes " [--network NETWORK] [--hbone-port PORT] [--tunnels COUNT] [--turns COUNT] [--trace] [--brief]"
-usage_of Serve =
-    codes "hbone serve --node NODE --id ID --discovery TARGET [--inbound TARGET] [--outbound TARGET] [--plain TARGET]"
-    ++ codes " [--network NETWORK] [--hbone-port PORT] [--tunnels COUNT] [--turns COUNT] [--ticks COUNT]"

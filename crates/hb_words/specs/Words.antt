@@ -1,17 +1,21 @@
 -- The words of the command line: `check --node NODE [--network NETWORK] SOURCE IDENTITY TARGET`, `show`, `make N [--run]`, and `replay`
--- and `serve` with their options.
-use Rattle.std.specs.Prelude.{◌≡◌, ℕ, ◌&&◌, Bool, List, [], ◌∷◌, Option, Some, None, Result, Ok, Err, option_and_then, if◌then◌else◌, codes}
+-- and `serve` with their options; `--help` and `--version` alone, and `--help` alone behind a command.
+use Rattle.std.specs.Prelude.{◌≡◌, ◌⊎◌, ℕ, ◌&&◌, Bool, List, [], ◌∷◌, Option, Some, None, Result, Ok, Err, option_and_then, if◌then◌else◌, codes}
 use Rattle.std.specs.List.{list_all}
 use Rattle.clap.specs.Simple.{App, subcommand_of}
 use Rattle.clap.specs.Takes.{takes}
 use Rattle.clap.specs.Walk.{first_of}
 use Rattle.hb_options.specs.Items.{Part, Item, Spells, app, is_clean, part_named, value_of}
 use Rattle.hb_words.specs.declared.fault.Why.{Why}
+use Rattle.hb_words.specs.declared.fault.Why.TheVariants.{Unknown}
 use Rattle.hb_words.specs.declared.fault.WordsFault.{WordsFault}
 use Rattle.hb_words.specs.declared.fault.WordsFault.TheVariants.{NoCommand, UnknownCommand, Behind}
+use Rattle.hb_words.specs.declared.page.Page.{Page}
 use Rattle.hb_words.specs.declared.part.CommandName.{CommandName}
-use Rattle.hb_words.specs.Command.{Command}
+use Rattle.hb_words.specs.declared.part.CommandName.TheVariants.{Show}
+use Rattle.hb_words.specs.Command.{Command, prints}
 use Rattle.hb_words.specs.Grammar.{commands, declared, parts_of}
+use Rattle.hb_words.specs.Page.{SpellsPage, page_of}
 use Rattle.hb_words.specs.Part.{command_named}
 use Rattle.hb_words.specs.Values.{Values, asked_by}
 use Rattle.hb_words.specs.Why.{shown, why_of}
@@ -44,10 +48,18 @@ abbrev pub of_named : List ℕ → List (List ℕ) → Option CommandName → Re
 of_named word rest None = Err (UnknownCommand (shown word))
 of_named word rest (Some c) = behind c (word ∷ rest) rest
 
+-- what words ask of a command, or why they aren't accepted
+unfoldable pub command_by : List (List ℕ) → Result Command WordsFault
+command_by [] = Err NoCommand
+command_by (word ∷ rest) = of_named word rest (command_named word)
+
+abbrev pub or_page : Option Page → Result Command WordsFault → Result Command WordsFault
+or_page (Some page) asked = Ok (prints page)
+or_page None asked = asked
+
 -- What the words ask, or why they aren't accepted.
 unfoldable pub words_of : List (List ℕ) → Result Command WordsFault
-words_of [] = Err NoCommand
-words_of (word ∷ rest) = of_named word rest (command_named word)
+words_of words = or_page (page_of words) (command_by words)
 
 -- ---- by the items that words spell
 
@@ -60,8 +72,28 @@ abbrev pub ReadsSpelledItems : Type 0
 ReadsSpelledItems = (words : List (List ℕ)) (c : CommandName) (items : List Item) → Spells commands words (declared c) items
     → words_of words ≡ or_behind c (asked_by c (values_among (parts_of c) items))
 
--- and no other words are accepted
-abbrev pub AcceptsSpelledItemsAlone : Type 0
-AcceptsSpelledItemsAlone = (words : List (List ℕ)) (asked : Command) → words_of words ≡ Ok asked
-    → (c : CommandName) × (items : List Item) × Spells commands words (declared c) items
+-- words that ask for a page ask that it is printed
+abbrev pub ReadsPages : Type 0
+ReadsPages = (words : List (List ℕ)) (page : Page) → SpellsPage words page → words_of words ≡ Ok (prints page)
+
+-- the words spell a page that is asked for, or items by which this is asked
+abbrev pub AsksForPage : List (List ℕ) → Command → Type 0
+AsksForPage words asked = (page : Page) × SpellsPage words page × (asked ≡ prints page)
+
+abbrev pub AsksByItems : List (List ℕ) → Command → Type 0
+AsksByItems words asked = (c : CommandName) × (items : List Item) × Spells commands words (declared c) items
     × (asked_by c (values_among (parts_of c) items) ≡ Ok asked)
+
+-- words that some programs take so ask for no page here
+abbrev pub OthersAskForNone : Type 0
+OthersAskForNone =
+    (words_of (codes "-h" ∷ []) ≡ Err (UnknownCommand (codes "-h")))
+    × (words_of (codes "help" ∷ []) ≡ Err (UnknownCommand (codes "help")))
+    × (words_of (codes "--" ∷ []) ≡ Err (UnknownCommand (codes "--")))
+    × (words_of (codes "--help" ∷ codes "show" ∷ []) ≡ Err (UnknownCommand (codes "--help")))
+    × (words_of (codes "show" ∷ codes "-h" ∷ []) ≡ Err (Behind Show (Unknown (codes "-h"))))
+    × (words_of (codes "show" ∷ codes "--help" ∷ codes "--help" ∷ []) ≡ Err (Behind Show (Unknown (codes "--help"))))
+
+-- and no other words are accepted
+abbrev pub AcceptsThese : Type 0
+AcceptsThese = (words : List (List ℕ)) (asked : Command) → words_of words ≡ Ok asked → AsksForPage words asked ⊎ AsksByItems words asked

@@ -1,5 +1,6 @@
 //! What the words ask for.
 
+use crate::page::Page;
 use hb_base::{Peer, Target};
 
 /// What `check` asks: is this peer admitted at this target of this node of this network?
@@ -69,4 +70,6 @@ pub enum Command<'a> {
     Replay(Replay<'a>),
     Serve(Serve<'a>),
     Make(Make),
+    /// That this is printed.
+    Print(Page),
 }

@@ -3,7 +3,7 @@
 ghost use Rattle.std.specs.Prelude.{◌≡◌, IfOk};
 ghost use Rattle.std.specs.Str.{IsUtf8};
 ghost use Rattle.std.specs.String.{string_bytes};
-ghost use Rattle.hb_words.specs.Fault.{lead, grammar_text, target_text, part_text, why_text, usage, fault_text, usage_at, fault_line};
+ghost use Rattle.hb_words.specs.Fault.{lead, grammar_text, target_text, part_text, why_text, fault_text, help_at, fault_line};
 
 use crate::part::{CommandName, PartName};
 use hb_base::{BadTarget, NoMemory, Text};
@@ -137,18 +137,6 @@ impl Why {
     }
 }
 
-/// The forms of all commands' words.
-fn usage(alloc: Global) -> Result<String, NoMemory>
-    ensures { IfOk result (λ t. string_bytes t ≡ usage) }
-{
-    let check = CommandName::Check.usage();
-    let show = CommandName::Show.usage();
-    let make = CommandName::Make.usage();
-    let replay = CommandName::Replay.usage();
-    let serve = CommandName::Serve.usage();
-    format!(in alloc; "{check}, {show}, {make}, {replay}, or {serve}")
-}
-
 impl WordsFault {
     fn text(&self, alloc: Global) -> Result<String, NoMemory>
         ensures { IfOk result (λ t. string_bytes t ≡ fault_text self.now) }
@@ -164,27 +152,27 @@ impl WordsFault {
         }
     }
 
-    /// The form of the named command's words, or those of all commands.
-    fn usage(&self, alloc: Global) -> Result<String, NoMemory>
-        ensures { IfOk result (λ t. string_bytes t ≡ usage_at self.now) }
+    /// What prints the words of the named command, or the commands.
+    fn help(&self, alloc: Global) -> Result<String, NoMemory>
+        ensures { IfOk result (λ t. string_bytes t ≡ help_at self.now) }
     {
         match self {
             WordsFault::Behind(command, _) => {
-                let form = command.usage();
-                format!(in alloc; "{form}")
+                let command = command.name();
+                format!(in alloc; "hbone {command} --help")
             }
-            _ => usage(alloc),
+            _ => format!(in alloc; "hbone --help"),
         }
     }
 
-    /// The line that tells it, with the form of accepted words.
+    /// The line that tells it, with what prints the accepted words.
     ///
     /// Errors: `NoMemory`.
     pub fn line(&self, alloc: Global) -> Result<String, NoMemory>
         ensures { IfOk result (λ l. string_bytes l ≡ fault_line self.now) }
     {
         let text = self.text(alloc)?;
-        let usage = self.usage(alloc)?;
-        format!(in alloc; "hbone: words: {text} (usage: {usage})\n")
+        let help = self.help(alloc)?;
+        format!(in alloc; "hbone: words: {text} (see {help})\n")
     }
 }

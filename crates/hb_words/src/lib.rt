@@ -6,6 +6,7 @@ mod fault;
 mod grammar;
 mod laws;
 mod number;
+mod page;
 mod part;
 mod values;
 mod why;
@@ -13,6 +14,9 @@ mod words;
 
 pub use asks::{Check, Command, Make, Replay, RunWords, Serve};
 pub use fault::{Why, WordsFault};
-pub use laws::words_are_read_as_they_are_spelled;
+pub use laws::{
+    each_part_has_its_line, other_words_ask_for_no_page, words_are_read_as_they_are_spelled,
+};
+pub use page::Page;
 pub use part::{CommandName, PartName};
 pub use words::read_words;

@@ -2,7 +2,7 @@
 
 ghost use Rattle.std.specs.Prelude.{◌≡◌};
 ghost use Rattle.hb_words.specs.Grammar.{command_text};
-ghost use Rattle.hb_words.specs.Part.{command_named, id_text, dashes, is_run_option, has, is_flag, any_option, other_option, part_of, places_of, usage_of};
+ghost use Rattle.hb_words.specs.Part.{command_named, id_text, dashes, is_run_option, has, is_flag, any_option, other_option, part_of, places_of};
 
 /// The commands.
 #[derive(Clone, Copy)]
@@ -232,29 +232,6 @@ impl CommandName {
             CommandName::Check => CHECK_PLACES.as_slice(),
             CommandName::Make => MAKE_PLACES.as_slice(),
             _ => &[],
-        }
-    }
-
-    /// The form of its words.
-    pub(crate) fn usage(self) -> &'static str
-        ensures { result.now ≡ usage_of self }
-    {
-        match self {
-            CommandName::Check => {
-                "hbone check --node NODE [--network NETWORK] SOURCE IDENTITY TARGET"
-            }
-            CommandName::Show => "hbone show",
-            CommandName::Make => "hbone make N [--run]",
-            CommandName::Replay => {
-                "hbone replay --node NODE --id ID --discovery TARGET [--inbound TARGET] \
-                 [--outbound TARGET] [--plain TARGET] [--network NETWORK] [--hbone-port PORT] \
-                 [--tunnels COUNT] [--turns COUNT] [--trace] [--brief]"
-            }
-            CommandName::Serve => {
-                "hbone serve --node NODE --id ID --discovery TARGET [--inbound TARGET] \
-                 [--outbound TARGET] [--plain TARGET] [--network NETWORK] [--hbone-port PORT] \
-                 [--tunnels COUNT] [--turns COUNT] [--ticks COUNT]"
-            }
         }
     }
 }

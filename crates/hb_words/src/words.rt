@@ -10,6 +10,7 @@ ghost use Rattle.hb_words.specs.Words.{behind, command_first, words_of};
 use crate::asks::Command;
 use crate::fault::WordsFault;
 use crate::grammar::matches;
+use crate::page::page_of;
 use crate::part::{CommandName, command_named};
 use crate::values::asked_by;
 use crate::why::{shown, why_of};
@@ -45,11 +46,14 @@ fn read_behind<'a>(
 ///
 /// Errors: of words that aren't accepted the first fault, word by word, and then what isn't there; of others the first value that isn't
 /// of its grammar and range; and `NoMemory`.
-#[tactic(auto, unfolding(crate::specs::Words::words_of))]
+#[tactic(auto, unfolding(crate::specs::Words::words_of, crate::specs::Words::command_by))]
 pub fn read_words(alloc: Global, words: &[String]) -> Result<Command<'_>, Or<WordsFault>>
     ensures told { Answers (commanded result) (words_of (map string_bytes words.now)) }
     ensures range { IfOk result (λ c. IsInRange (command_of c)) }
 {
+    if let Some(page) = page_of(words) {
+        return Ok(Command::Print(page));
+    }
     let Some((word, rest)) = words.split_first() else {
         return Err(Or::Fault(WordsFault::NoCommand));
     };

@@ -2,6 +2,7 @@ use Rattle.std.proofs.Common.{◌≡◌, refl, arith}
 use Rattle.hb_words.specs.AskedRun.{serve_seen}
 use Rattle.hb_cli.proofs.Concluding.{words_refused, words_unread}
 use Rattle.hb_cli.proofs.Makes.{made}
+use Rattle.hb_cli.proofs.Pages.{paged}
 use Rattle.hb_cli.proofs.Serves.{served}
 use Rattle.hb_cli.proofs.command.obey.Goals as goal
 
@@ -14,6 +15,11 @@ pub returns-in-Ok-Make-clause-ends : goal.returns-in-Ok-Make-clause-ends
 returns-in-Ok-Make-clause-ends g c =
     made c.in-Ok-Make.asked _ (rw c.in-Ok-Make.field-0-is at c.in-Ok-Make.ensures.told) c.make_script.result (refl, refl)
     (omega arith, c.make_script.ensures.later_out, c.make_script.ensures.later_err) c.make_script.ensures.makes
+
+pub returns-in-Ok-Print-clause-ends : goal.returns-in-Ok-Print-clause-ends
+returns-in-Ok-Print-clause-ends g c =
+    paged c.in-Ok-Print.page _ (rw c.in-Ok-Print.field-0-is at c.in-Ok-Print.ensures.told) c.print_page.result (refl, refl)
+    (omega arith, c.print_page.ensures.later_out, c.print_page.ensures.later_err) (refl, refl, c.print_page.ensures.prints)
 
 pub returns-in-Ok : goal.returns-in-Ok
 returns-in-Ok g c =

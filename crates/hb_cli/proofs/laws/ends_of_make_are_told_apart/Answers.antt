@@ -9,17 +9,18 @@ use Rattle.hb_turns.specs.Totals.{totals_of}
 use Rattle.hb_turns.specs.declared.served.Totals.{Totals}
 use Rattle.hb_words.specs.declared.asks.Make.{Make}
 use Rattle.hb_cli.specs.Hearing.{HearsNone}
-use Rattle.hb_cli.specs.Making.{made_text, made_total, RunsAt, TextAt, MakesAt}
+use Rattle.hb_cli.specs.Making.{made_text, made_total, RunsAt, MakesAt}
+use Rattle.hb_cli.specs.Printing.{PrintsAt}
 use Rattle.hb_cli.specs.Use.{Use}
 use Rattle.hb_cli.proofs.laws.ends_of_make_are_told_apart.Goals as goal
 
 -- what `make` does by whether it runs
 abbrev ByRun : Bool → Make → Heard → RunState → RunState → Use → Use → ℕ → Type 0
 ByRun run m h before left out err status =
-    MatchBool run (RunsAt m h left out err status) ((left ≡ before) × HearsNone h × TextAt m out err status)
+    MatchBool run (RunsAt m h left out err status) ((left ≡ before) × HearsNone h × PrintsAt (made_text m) out err status)
 
 without : (m : Make) (h : Heard) (before left : RunState) (out err : Use) (status : ℕ) → m.run ≡ false
-    → MakesAt m h before left out err status → (left ≡ before) × HearsNone h × TextAt m out err status
+    → MakesAt m h before left out err status → (left ≡ before) × HearsNone h × PrintsAt (made_text m) out err status
 without m h before left out err status is at = subst (λ (run : Bool). ByRun run m h before left out err status) is at
 
 with_run : (m : Make) (h : Heard) (before left : RunState) (out err : Use) (status : ℕ) → m.run ≡ true
@@ -27,7 +28,7 @@ with_run : (m : Make) (h : Heard) (before left : RunState) (out err : Use) (stat
 with_run m h before left out err status is at = subst (λ (run : Bool). ByRun run m h before left out err status) is at
 
 printed : (m : Make) (h : Heard) (state : RunState) (out err : Use) (status : ℕ) → m.run ≡ false → HearsNone h
-    → TextAt m out err status → MakesAt m h state state out err status
+    → PrintsAt (made_text m) out err status → MakesAt m h state state out err status
 printed m h state out err status is hears at =
     subst (λ (run : Bool). ByRun run m h state state out err status) (sym is) (refl, hears, at)
 
