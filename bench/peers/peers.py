@@ -85,10 +85,10 @@ def far_mesh(*principals, target=8080, sources=(("c", SOURCE), ("d", OTHER_SOURC
 
 
 class Proxy:
-    """`hbone serve`; `doors` has the port of each door. Without one it has an inbound door at some port. Its standard error is a file, or
-    the descriptor `err`."""
+    """`hbone serve`, run by the script `by` if there is one; `doors` has the port of each door. Without one it has an inbound door at some
+    port. Its standard error is a file, or the descriptor `err`."""
 
-    def __init__(self, program, discovery, words=(), descriptors=None, node="n1", err=None, **doors):
+    def __init__(self, program, discovery, words=(), descriptors=None, node="n1", err=None, by=(), **doors):
         self.doors = doors or {"inbound": free_port()}
         self.err = tempfile.TemporaryFile()
         self.out = tempfile.TemporaryFile()
@@ -96,7 +96,7 @@ class Proxy:
         for door, port in self.doors.items():
             names += [f"--{door}", f"{HERE}:{port}"]
         limit = (lambda: resource.setrlimit(resource.RLIMIT_NOFILE, (descriptors, descriptors))) if descriptors else None
-        self.process = subprocess.Popen([program, "serve", *names, *words], stdout=self.out, stderr=err or self.err, preexec_fn=limit)
+        self.process = subprocess.Popen([*by, program, "serve", *names, *words], stdout=self.out, stderr=err or self.err, preexec_fn=limit)
 
     def listens(self):
         if self.process.poll() is not None:

@@ -8,7 +8,7 @@ import threading
 import time
 
 from case import PREFACE, answer_of, case, payload, says
-from peers import HERE, OTHER, Proxy, echo, free_port, header, mesh, until, wanted
+from peers import HERE, OTHER, TOP, Proxy, echo, free_port, header, mesh, until, wanted
 
 
 @case
@@ -81,6 +81,19 @@ def a_signal(room):
     wanted("the status", room.proxy.end(), -15)
     wanted("what is printed", room.proxy.printed(), [])
     until("an end at the upstream", lambda: up.one().ended)
+
+
+@case
+def a_signal_to_its_script(room):
+    """Behind `examples/until_signal.sh` SIGTERM ends it in order: the line of its tunnel, the total line, and status 0."""
+    room.control()
+    room.serve("--stop-on-input", by=[TOP / "examples/until_signal.sh"])
+    room.settle()
+    peer, up = room.peer(), room.upstream(echo)
+    says(peer, peer.tunnel(up.port), b"hello")
+    wanted("the status", room.proxy.end(), 0)
+    wanted("the last note", room.proxy.notes()[-1:], ["end stopped up 5 down 5"])
+    wanted("what is printed", room.proxy.printed(), ["total: 3 links, 1 accepted, 0 revoked, 5 up, 5 down"])
 
 
 @case

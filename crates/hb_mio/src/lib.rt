@@ -7,6 +7,7 @@ mod mio_world;
 mod reason;
 mod socket;
 mod sockets;
+mod stop;
 mod watch;
 
 pub use log::Log;

@@ -1,16 +1,18 @@
 //! The world of real sockets.
 
-ghost use Rattle.std.specs.Prelude.{◌≡◌, ◌<◌, OnErr, true};
+ghost use Rattle.std.specs.Prelude.{◌≡◌, ◌<◌, OnErr, true, false};
 ghost use Rattle.std.specs.HashMap.{spare};
 ghost use Rattle.hb_mio.specs.Faults.{seen_of};
+ghost use Rattle.hb_mio.specs.Stop.{IgnoresInput, waited_by};
 ghost use Rattle.hb_mio.specs.Stuck.{stuck_at};
-ghost use Rattle.hb_world.specs.Answers.{birth_failed};
+ghost use Rattle.hb_world.specs.Answers.{birth_failed, wait_failed};
 ghost use Rattle.hb_world.specs.Seen.{Stays, CountsUp};
 
 use crate::doors::{Doors, address_of};
 use crate::log::Log;
 use crate::reason::{tell_door, tell_wait};
 use crate::sockets::Sockets;
+use crate::stop::Input;
 use crate::watch::{Watch, begin};
 use hb_base::{Cause, Door, Or, Target, Why};
 use hb_world::{Born, Finished, Glanced, Listened, Looked, Read, Ready, Waited, World, Wrote};
@@ -18,6 +20,7 @@ use mio::net::TcpStream;
 use std::alloc::Global;
 use std::io::{self, ErrorKind};
 use std::net::Net;
+use std::os::fd::RawFd;
 use std::time::Clock;
 
 /// The real sockets of TCP. It tells no trace.
@@ -25,8 +28,9 @@ use std::time::Clock;
 /// Of the system's events it takes each once: a link is registered both ways at its birth, and never again. A read behind one that
 /// didn't fill its buffer balks without a call of the system, until the next event, unless the last one told that the peer sends
 /// no more; and so does a finish without an event. A look tells whether an event said that the connection failed, once for each, without
-/// a call of the system. A wait or a glance answers Tick once a second has passed since the last one,
-/// with what is ready, and a wait never Stop. A door whose accept failed is named at the next tick, since no event tells again of
+/// a call of the system. A wait or a glance answers Tick once a second has passed since the last one, with what is ready; a wait answers
+/// Stop from the end or the first byte of the input of `stop_on` on, and never without it. A door whose accept failed is named at the
+/// next tick, since no event tells again of
 /// what waits there.
 /// A connection of a tunnel's own bytes that is closed for another cause than `Done` is ended by a RST, and each other one by a FIN.
 /// A call that a signal interrupted is made again, up to 16 times. A listen, a wait or a glance that fails tells its log why, in a line:
@@ -64,6 +68,30 @@ impl<R: Net + Clock + Drop, L: Log + Drop> MioWorld<R, L> {
     /// Where it tells why a call failed.
     pub fn log(&self) -> &L {
         &self.log
+    }
+
+    /// From now on waits answer Stop once an input ended or has a byte. It is meant for a pipe or a socket that stays open.
+    ///
+    /// Errors: what the system tells where that can't be watched, as of a file or of `/dev/null`, or `NoMemory`; and then they don't.
+    pub fn stop_on(&mut self, input: RawFd) -> Result<(), Or<io::Error>>
+        ensures stays { Stays (seen_of self.old) (seen_of self.new) }
+    {
+        begin(&mut self.watch, self.alloc, &self.net)?;
+        let Some(watch) = &mut self.watch else {
+            unreachable!()
+        };
+        watch.stop_on(input).map_err(Or::Fault)
+    }
+
+    /// What a wait answers that didn't fail.
+    fn waited(&self, is_due: bool) -> Waited
+        ensures told { result ≡ waited_by self.now.watch is_due }
+        ensures well { wait_failed result ≡ false }
+    {
+        match &self.watch {
+            Some(watch) => watch.input().waited(is_due),
+            None => Input::Ignored.waited(is_due),
+        }
     }
 
     /// Begins to listen.
@@ -128,6 +156,7 @@ impl<R: Net + Clock + Drop, L: Log + Drop> MioWorld<R, L> {
     /// Flushes the log, waits, or doesn't, and adds what is ready. Tells whether a tick is due.
     fn gather(&mut self, ready: &mut Ready, waits: bool) -> Result<bool, Or<io::Error>>
         ensures stays { Stays (seen_of self.old) (seen_of self.new) }
+        ensures ignores { IgnoresInput self.old.watch → IgnoresInput self.new.watch }
     {
         self.log.flush();
         begin(&mut self.watch, self.alloc, &self.net)?;
@@ -229,8 +258,7 @@ impl<R: Net + Clock + Drop, L: Log + Drop> World for MioWorld<R, L> {
     fn wait(&mut self, ready: &mut Ready) -> Waited {
         ready.clear();
         match self.gather(ready, true) {
-            Ok(true) => Waited::Tick,
-            Ok(false) => Waited::Woke,
+            Ok(is_due) => self.waited(is_due),
             Err(why) => {
                 ready.clear();
                 tell_wait(&mut self.log, self.alloc, &why);

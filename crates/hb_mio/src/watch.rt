@@ -2,12 +2,15 @@
 
 ghost use Rattle.std.specs.Prelude.{◌≡◌, ◌<◌, ◌++◌, ◌∷◌, [], OnOk, IsSome, length, true, false};
 ghost use Rattle.hb_mio.specs.Faults.{SameFaults};
+ghost use Rattle.hb_mio.specs.Stop.{IgnoresInput};
 ghost use Rattle.hb_mio.specs.Stuck.{stuck_at};
+ghost use Rattle.hb_mio.specs.declared.stop.Input.TheVariants.{Ignored};
 ghost use Rattle.hb_world.specs.declared.entry.ReadyItem.TheVariants.{Door as AtDoor};
 
 use crate::doors::{Doors, door_of};
 use crate::socket::tells_end;
 use crate::sockets::Sockets;
+use crate::stop::{Input, watch_input};
 use hb_base::{Door, Or};
 use hb_world::{Ready, ReadyItem};
 use mio::event::Event;
@@ -15,6 +18,7 @@ use mio::{Events, Poll, Registry};
 use std::alloc::Global;
 use std::io;
 use std::net::Net;
+use std::os::fd::RawFd;
 use std::time::{Clock, Duration, Instant};
 
 /// So many events are told at once, which leaves place for the three doors among what is ready.
@@ -26,12 +30,13 @@ const MOST_READY: usize = 1024;
 /// The time from a tick to the next, in seconds.
 const TICK: u64 = 1;
 
-/// The system's events, and when the last tick was.
+/// The system's events, when the last tick was, and the input that ends the run.
 #[derive(Drop)]
 pub(crate) struct Watch {
     poll: Poll,
     events: Events,
     ticked: Instant,
+    input: Input,
 }
 
 /// Begins to watch, where that isn't done.
@@ -42,7 +47,8 @@ pub(crate) fn begin<R: Net + Clock>(
     alloc: Global,
     net: &R,
 ) -> Result<(), Or<io::Error>>
-    ensures { OnOk result (IsSome watch.new) }
+    ensures begun { OnOk result (IsSome watch.new) }
+    ensures ignores { IgnoresInput watch.old → IgnoresInput watch.new }
 {
     if watch.is_none() {
         let events = Events::with_capacity(alloc, EVENTS)?;
@@ -52,6 +58,7 @@ pub(crate) fn begin<R: Net + Clock>(
             poll,
             events,
             ticked,
+            input: Input::Ignored,
         });
     }
     Ok(())
@@ -63,13 +70,34 @@ impl Watch {
         self.poll.registry()
     }
 
-    /// How long it is until the next tick is due.
+    /// From now on the end of an input, or its first byte, ends the run.
+    ///
+    /// Errors: what the system tells, and then it doesn't.
+    pub fn stop_on(&mut self, input: RawFd) -> io::Result<()> {
+        watch_input(self.poll.registry(), input)?;
+        self.input = Input::Watched;
+        Ok(())
+    }
+
+    /// The input that ends the run.
+    pub fn input(&self) -> Input
+        ensures { result ≡ self.now.input }
+    {
+        self.input
+    }
+
+    /// How long it is until the next tick is due; no time once the run is to end.
     fn left(&self, clock: &impl Clock) -> io::Result<Duration> {
+        if matches!(self.input, Input::Ended) {
+            return Ok(Duration::from_secs(0));
+        }
         Ok(Duration::from_secs(TICK).saturating_sub(self.ticked.elapsed(clock)?))
     }
 
     /// Whether a tick is due; then the next is due a second from now.
-    fn tick(&mut self, clock: &impl Clock) -> io::Result<bool> {
+    fn tick(&mut self, clock: &impl Clock) -> io::Result<bool>
+        ensures { self.new.input ≡ self.old.input }
+    {
         let now = Instant::now(clock)?;
         let due = Duration::from_secs(TICK) <= now.saturating_duration_since(self.ticked);
         if due {
@@ -90,10 +118,12 @@ impl Watch {
         sockets: &mut Sockets,
         ready: &mut Ready,
     ) -> io::Result<bool>
-        ensures { SameFaults sockets.old.by_number sockets.new.by_number }
+        ensures same { SameFaults sockets.old.by_number sockets.new.by_number }
+        ensures ignores { self.old.input ≡ Ignored → self.new.input ≡ Ignored }
     {
         self.poll.poll(&mut self.events, Some(most))?;
         tell_all(&self.events, doors, sockets, ready);
+        self.input = self.input.behind(&self.events);
         let due = self.tick(clock)?;
         if due {
             knock(doors, Door::Inbound, ready);
@@ -113,7 +143,8 @@ impl Watch {
         sockets: &mut Sockets,
         ready: &mut Ready,
     ) -> io::Result<bool>
-        ensures { SameFaults sockets.old.by_number sockets.new.by_number }
+        ensures same { SameFaults sockets.old.by_number sockets.new.by_number }
+        ensures ignores { self.old.input ≡ Ignored → self.new.input ≡ Ignored }
     {
         let left = self.left(clock)?;
         self.gather(clock, left, doors, sockets, ready)
@@ -129,7 +160,8 @@ impl Watch {
         sockets: &mut Sockets,
         ready: &mut Ready,
     ) -> io::Result<bool>
-        ensures { SameFaults sockets.old.by_number sockets.new.by_number }
+        ensures same { SameFaults sockets.old.by_number sockets.new.by_number }
+        ensures ignores { self.old.input ≡ Ignored → self.new.input ≡ Ignored }
     {
         self.gather(clock, Duration::from_secs(0), doors, sockets, ready)
     }

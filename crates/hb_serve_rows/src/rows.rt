@@ -1,4 +1,4 @@
-//! The lines of each run of `hbone serve`, which its fifth tick ends.
+//! The lines of each run of `hbone serve`, which its fifth tick ends, or its input.
 //!
 //! A connection has a name: `plane`, `peer`, `upstream`, `gateway`, `other` and `later`. A port is that of the control plane, `plane`; of a
 //! door, `door`, `plain` or `outbound`; of the `upstream` or of the `gateway`.
@@ -16,6 +16,7 @@
 //! | `last NAME OCTETS` | the same, and the stream ends behind it |
 //! | `shuts NAME`, `drops NAME` | the test sends no more there, or closes the connection |
 //! | `closed NAME` | the program closed it, and nothing more comes there |
+//! | `stops byte`, `stops end` | the test writes a byte into the run's input, or closes it |
 //! | `ends PORT TEXT` | the run ends: its status, its output, its error text and the lines of its notes, with `; ` between |
 //!
 //! In the latter a newline is written as a bar, and the digits of that port as five marks.
@@ -261,5 +262,40 @@ closed peer
 closed gateway
 closed other
 closed later
+closed plane
+";
+
+/// Runs that their input ends.
+pub const STOPPED: &str = "\
+row the end of the input ends a run, and its tunnel with it
+connect peer door
+writes peer REQUEST
+reads peer GREETED
+accept upstream upstream
+reads peer ADMITTED
+writes peer HELLO
+reads upstream hello
+stops end
+ends upstream 0; total: 3 links, 1 accepted, 0 revoked, 5 up, 0 down|; ; \
+verdict 2/1 200 10.0.0.9 cluster.local/ns/a/sa/c 127.0.0.1:#####|end 2/1 stopped up 5 down 0|
+closed upstream
+closed peer
+closed plane
+row a byte of the input does so, too
+writes plane FREED
+reads plane CHANGE_TAKEN
+connect peer plain
+writes peer HEADER
+writes peer NUMBER upstream
+writes peer hello
+accept upstream upstream
+reads upstream hello
+writes upstream world
+reads peer world
+stops byte
+ends upstream 0; total: 3 links, 1 accepted, 0 revoked, 5 up, 5 down|; ; \
+verdict 2/0 200 10.0.0.9 - 127.0.0.1:#####|end 2/0 stopped up 5 down 5|
+closed upstream
+closed peer
 closed plane
 ";

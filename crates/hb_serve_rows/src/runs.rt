@@ -1,7 +1,7 @@
-//! The runs. Each ends in its sixth second, so a test makes three.
+//! The runs. Each that its ticks end does so in its sixth second, so a test makes three.
 
 use crate::octets::cut;
-use crate::rows::{BEGIN, OUTBOUND, RELAYS, TUNNELS};
+use crate::rows::{BEGIN, OUTBOUND, RELAYS, STOPPED, TUNNELS};
 use crate::serving::Serving;
 use std::test::Fail;
 use std::thread::Threads;
@@ -21,14 +21,19 @@ fn play_lines(
     Ok(String::new(rt.alloc()))
 }
 
-/// Makes the runs of a table. The name and the line of the first that goes otherwise.
-fn play(rt: &(impl Threads + AllocGlobal), net: &HostRuntime, rows: &str) -> Result<String, Fail> {
+/// Makes the runs of a table, which their ticks end or their inputs. The name and the line of the first that goes otherwise.
+fn play(
+    rt: &(impl Threads + AllocGlobal),
+    net: &HostRuntime,
+    rows: &str,
+    by_input: bool,
+) -> Result<String, Fail> {
     for row in rows.split("row ") {
         let (name, lines) = cut(row, "\n");
         if name.is_empty() {
             continue;
         }
-        let mut serving = Serving::begin(rt, net.clone()?)?;
+        let mut serving = Serving::begin(rt, net.clone()?, by_input)?;
         for lines in [BEGIN, lines] {
             let told = play_lines(rt, &mut serving, lines)?;
             if !told.is_empty() {
@@ -41,21 +46,28 @@ fn play(rt: &(impl Threads + AllocGlobal), net: &HostRuntime, rows: &str) -> Res
 
 #[test]
 fn tunnels_go_as_their_lines_say(rt: HostRuntime) -> Result<(), Fail> {
-    let told = play(&rt, &rt, TUNNELS)?;
+    let told = play(&rt, &rt, TUNNELS, false)?;
     assert!(rt; told.is_empty(), "{told}");
     Ok(())
 }
 
 #[test]
 fn relays_go_as_their_lines_say(rt: HostRuntime) -> Result<(), Fail> {
-    let told = play(&rt, &rt, RELAYS)?;
+    let told = play(&rt, &rt, RELAYS, false)?;
     assert!(rt; told.is_empty(), "{told}");
     Ok(())
 }
 
 #[test]
 fn outbound_relays_go_as_their_lines_say(rt: HostRuntime) -> Result<(), Fail> {
-    let told = play(&rt, &rt, OUTBOUND)?;
+    let told = play(&rt, &rt, OUTBOUND, false)?;
+    assert!(rt; told.is_empty(), "{told}");
+    Ok(())
+}
+
+#[test]
+fn inputs_end_runs_as_their_lines_say(rt: HostRuntime) -> Result<(), Fail> {
+    let told = play(&rt, &rt, STOPPED, true)?;
     assert!(rt; told.is_empty(), "{told}");
     Ok(())
 }

@@ -1,9 +1,9 @@
 //! A run of `serve` in a thread of its own, and the other ends of its connections.
 
 use crate::octets::{cut, frame_of, moved, pattern, with_port};
-use crate::served::{Ports, at, served_to_its_end};
+use crate::served::{EndedBy, Ports, at, served_to_its_end};
 use std::alloc::AllocError;
-use std::io::{self, ErrorKind};
+use std::io::{self, ErrorKind, PipeWriter, Write, pipe};
 use std::net::{TcpListener, TcpStream};
 use std::test::Fail;
 use std::thread::{self, JoinHandle, Threads};
@@ -19,6 +19,8 @@ pub struct Serving {
     gateway: TcpListener,
     /// None once it has ended.
     run: Option<JoinHandle<Option<String>>>,
+    /// The other end of the input that ends the run. None where none does, and once it is closed.
+    input: Option<PipeWriter>,
     /// The connections, each at the place of its name; None where there is none yet, or it is closed.
     ends: Vec<Option<TcpStream>>,
     /// What came by the last line, or was told.
@@ -50,8 +52,8 @@ fn place_of(name: &str) -> usize {
 }
 
 impl Serving {
-    /// Begins a run.
-    pub fn begin(rt: &impl Threads, net: HostRuntime) -> Result<Serving, Fail> {
+    /// Begins a run, which its fifth tick ends or its input.
+    pub fn begin(rt: &impl Threads, net: HostRuntime, by_input: bool) -> Result<Serving, Fail> {
         let (plane, plane_port) = listener(&net)?;
         let (upstream, upstream_port) = listener(&net)?;
         let (gateway, gateway_port) = listener(&net)?;
@@ -72,7 +74,13 @@ impl Serving {
         }
         let came = Vec::new(net.alloc());
         let of_run = net.clone()?;
-        let run = thread::spawn(rt, move || served_to_its_end(&of_run, ports))?;
+        let (ended_by, input) = if by_input {
+            let (reader, writer) = pipe(&net)?;
+            (EndedBy::Input(reader), Some(writer))
+        } else {
+            (EndedBy::Ticks, None)
+        };
+        let run = thread::spawn(rt, move || served_to_its_end(&of_run, ports, &ended_by))?;
         Ok(Serving {
             net,
             ports,
@@ -80,6 +88,7 @@ impl Serving {
             upstream,
             gateway,
             run: Some(run),
+            input,
             ends,
             came,
         })
@@ -162,6 +171,18 @@ impl Serving {
         self.hold(name, end) && is_well
     }
 
+    /// A byte in the input of the run, or its end.
+    fn stop(&mut self, how: &str) -> bool {
+        match (&mut self.input, how) {
+            (None, _) => false,
+            (Some(input), "byte") => input.write_all(b"x").is_ok(),
+            (Some(_), _) => {
+                self.input = None;
+                true
+            }
+        }
+    }
+
     /// What the run tells at its end.
     fn joined(&mut self, rt: &impl Threads) -> Option<String> {
         match self.run.take() {
@@ -191,6 +212,7 @@ impl Serving {
             "accept" => self.accept(name, words),
             "connect" => self.connect(name, words),
             "ends" => self.ends(rt, name, words).unwrap_or(false),
+            "stops" => self.stop(name),
             _ => match self.octets_of(words) {
                 Ok(octets) => self.at_end(call, name, octets.as_slice()),
                 Err(_) => false,

@@ -50,4 +50,5 @@ asked_alike Serve v w same =
       same (codes "tunnels") _ refl,
       same (codes "turns") _ refl,
       same (codes "ticks") _ refl,
+      same (codes "stop-on-input") _ refl,
     ) refl

@@ -32,10 +32,11 @@ pub record Replay : Type 0 where
   pub trace : Bool
   pub brief : Bool
 
--- what `serve` asks: a run over real sockets, and the tick that ends it; None: no number of them does
+-- what `serve` asks: a run over real sockets, the tick that ends it, if a number of them does, and whether standard input ends it
 pub record Serve : Type 0 where
   pub run : RunWords
   pub ticks : Option ℕ
+  pub stop_on_input : Bool
 
 -- what is asked for: an answer to a question, what is held, a run over a script, one over real sockets, a script that is made, or a page
 -- of the program's own

@@ -1,6 +1,6 @@
 -- What each command declares: options with one value, `--name value` or `--name=value`, flags, `--name`, and words in places. Options and
 -- flags stand in any order, between the words in places too, each at most once; what is wanted has to be there, and nothing else is.
-use Rattle.std.specs.Prelude.{ℕ, true, false, List, [], ◌∷◌, ◌++◌, map, codes}
+use Rattle.std.specs.Prelude.{ℕ, true, false, List, [], ◌∷◌, codes}
 use Rattle.hb_options.specs.Items.{Part, option, flag, place, Command}
 use Rattle.hb_words.specs.declared.part.CommandName.{CommandName}
 use Rattle.hb_words.specs.declared.part.CommandName.TheVariants.{Check, Show, Make, Replay, Serve}
@@ -26,7 +26,7 @@ parts_of Check =
 parts_of Show = []
 parts_of Make = place (codes "N") true ∷ flag (codes "run") ∷ []
 parts_of Replay = run_parts (flag (codes "trace") ∷ flag (codes "brief") ∷ [])
-parts_of Serve = run_parts (option (codes "ticks") false ∷ [])
+parts_of Serve = run_parts (option (codes "ticks") false ∷ flag (codes "stop-on-input") ∷ [])
 
 -- the command, by the word that names it
 abbrev pub declared : CommandName → Command

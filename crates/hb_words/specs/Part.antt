@@ -1,10 +1,10 @@
 -- The commands and their parts, by which a fault is told.
-use Rattle.std.specs.Prelude.{ℕ, Bool, true, false, ◌||◌, List, [], ◌∷◌, ◌++◌, Option, Some, None, if◌then◌else◌, codes}
+use Rattle.std.specs.Prelude.{ℕ, Bool, true, false, List, [], ◌∷◌, ◌++◌, Option, Some, None, if◌then◌else◌, codes}
 use Rattle.std.specs.Str.{bytes_eq}
 use Rattle.hb_words.specs.declared.part.CommandName.{CommandName}
 use Rattle.hb_words.specs.declared.part.CommandName.TheVariants.{Check, Show, Make, Replay, Serve}
 use Rattle.hb_words.specs.declared.part.PartName.{PartName}
-use Rattle.hb_words.specs.declared.part.PartName.TheVariants.{Node, Network, Source, Identity, Target, Id, Discovery, Inbound, Outbound, Plain, HbonePort, Tunnels, Turns, Ticks, Trace, Brief, Count, Run}
+use Rattle.hb_words.specs.declared.part.PartName.TheVariants.{Node, Network, Source, Identity, Target, Id, Discovery, Inbound, Outbound, Plain, HbonePort, Tunnels, Turns, Ticks, StopOnInput, Trace, Brief, Count, Run}
 
 -- the command that a word names
 abbrev pub command_named : List ℕ → Option CommandName
@@ -31,6 +31,7 @@ id_text HbonePort = codes "hbone-port"
 id_text Tunnels = codes "tunnels"
 id_text Turns = codes "turns"
 id_text Ticks = codes "ticks"
+id_text StopOnInput = codes "stop-on-input"
 id_text Trace = codes "trace"
 id_text Brief = codes "brief"
 id_text Count = codes "N"
@@ -55,9 +56,10 @@ other_option name =
     else (if bytes_eq name (codes "--tunnels") then Some Tunnels
     else (if bytes_eq name (codes "--turns") then Some Turns
     else (if bytes_eq name (codes "--ticks") then Some Ticks
+    else (if bytes_eq name (codes "--stop-on-input") then Some StopOnInput
     else (if bytes_eq name (codes "--trace") then Some Trace
     else (if bytes_eq name (codes "--brief") then Some Brief
-    else (if bytes_eq name (codes "--run") then Some Run else None))))))
+    else (if bytes_eq name (codes "--run") then Some Run else None)))))))
 
 abbrev pub any_option : List ℕ → Option PartName
 any_option name =
@@ -84,6 +86,7 @@ is_run_option Turns = true
 is_run_option _ = false
 
 abbrev pub is_flag : PartName → Bool
+is_flag StopOnInput = true
 is_flag Trace = true
 is_flag Brief = true
 is_flag Run = true
@@ -101,6 +104,7 @@ has Replay Trace = true
 has Replay Brief = true
 has Replay p = is_run_option p
 has Serve Ticks = true
+has Serve StopOnInput = true
 has Serve p = is_run_option p
 
 abbrev pub held : {A : Type 0} → (A → Bool) → Option A → Option A

@@ -16,7 +16,7 @@ use Rattle.hb_words.specs.declared.fault.Why.TheVariants.{BadValue, BadTarget}
 use Rattle.hb_words.specs.declared.part.CommandName.{CommandName}
 use Rattle.hb_words.specs.declared.part.CommandName.TheVariants as command
 use Rattle.hb_words.specs.declared.part.PartName.{PartName}
-use Rattle.hb_words.specs.declared.part.PartName.TheVariants.{Node, Network, Source, Identity as Peer, Target, Id, Discovery, Inbound, Outbound, Plain, HbonePort, Tunnels, Turns, Ticks, Trace, Brief, Count, Run}
+use Rattle.hb_words.specs.declared.part.PartName.TheVariants.{Node, Network, Source, Identity as Peer, Target, Id, Discovery, Inbound, Outbound, Plain, HbonePort, Tunnels, Turns, Ticks, StopOnInput, Trace, Brief, Count, Run}
 use Rattle.hb_words.specs.Command.{Question, Command, RunWords, Replay, Serve, checks, shows, replays, serves, makes}
 use Rattle.hb_words.specs.Make.{most_tunnels}
 use Rattle.hb_words.specs.Number.{number_of}
@@ -111,7 +111,10 @@ unfoldable pub replay_by : Values → Result Replay Why
 replay_by v = and_then (run_by v) (λ r. Ok (record { run = r; trace = is_raised v Trace; brief = is_raised v Brief }))
 
 unfoldable pub serve_by : Values → Result Serve Why
-serve_by v = and_then (run_by v) (λ r. and_then (number_in v Ticks 18446744073709551615) (λ ticks. Ok (record { run = r; ticks = ticks })))
+serve_by v =
+    and_then (run_by v) (λ r.
+    and_then (number_in v Ticks 18446744073709551615) (λ ticks.
+    Ok (record { run = r; ticks = ticks; stop_on_input = is_raised v StopOnInput })))
 
 -- what the command asks that has these values, or the first that isn't of its grammar and range
 unfoldable pub asked_by : CommandName → Values → Result Command Why

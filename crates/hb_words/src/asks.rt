@@ -51,6 +51,8 @@ pub struct Serve<'a> {
     pub run: RunWords<'a>,
     /// The tick that ends it, at least 1. None: no number of them does.
     pub ticks: Option<u64>,
+    /// Whether the end of standard input, or its first byte, ends it.
+    pub stop_on_input: bool,
 }
 
 /// What `make` asks: a script of so many tunnels.

@@ -60,6 +60,7 @@ static COMMANDS: [Declaration<'static>; 5] = [
             Part::Valued("tunnels", false),
             Part::Valued("turns", false),
             Part::Valued("ticks", false),
+            Part::Flag("stop-on-input"),
         ],
     },
 ];

@@ -57,7 +57,7 @@ static REPLAY_PARTS: [PartName; 12] = [
     PartName::Brief,
 ];
 
-static SERVE_PARTS: [PartName; 11] = [
+static SERVE_PARTS: [PartName; 12] = [
     PartName::Node,
     PartName::Id,
     PartName::Discovery,
@@ -69,6 +69,7 @@ static SERVE_PARTS: [PartName; 11] = [
     PartName::Tunnels,
     PartName::Turns,
     PartName::Ticks,
+    PartName::StopOnInput,
 ];
 
 /// The page that one word asks for.
@@ -221,6 +222,9 @@ impl PartName {
             }
             PartName::Ticks => {
                 "  --ticks COUNT         the tick of the timer, about one a second, that ends the run\n"
+            }
+            PartName::StopOnInput => {
+                "  --stop-on-input       ends the run where standard input ends or has a byte\n"
             }
             PartName::Trace => "  --trace               tells each call on a socket, too\n",
             PartName::Brief => "  --brief               tells the totals alone\n",

@@ -33,6 +33,7 @@ pub enum PartName {
     Tunnels,
     Turns,
     Ticks,
+    StopOnInput,
     Trace,
     Brief,
     /// The number of tunnels of `make`.
@@ -110,6 +111,9 @@ fn other_option(name: &str) -> Option<PartName>
     if name == "--ticks" {
         return Some(PartName::Ticks);
     }
+    if name == "--stop-on-input" {
+        return Some(PartName::StopOnInput);
+    }
     if name == "--trace" {
         return Some(PartName::Trace);
     }
@@ -142,6 +146,7 @@ impl PartName {
             PartName::Tunnels => "tunnels",
             PartName::Turns => "turns",
             PartName::Ticks => "ticks",
+            PartName::StopOnInput => "stop-on-input",
             PartName::Trace => "trace",
             PartName::Brief => "brief",
             PartName::Count => "N",
@@ -181,7 +186,10 @@ impl PartName {
     pub(crate) fn is_flag(self) -> bool
         ensures { result ≡ is_flag self }
     {
-        matches!(self, PartName::Trace | PartName::Brief | PartName::Run)
+        matches!(
+            self,
+            PartName::StopOnInput | PartName::Trace | PartName::Brief | PartName::Run
+        )
     }
 }
 
@@ -210,7 +218,9 @@ impl CommandName {
             CommandName::Replay => {
                 part.is_run_option() || matches!(part, PartName::Trace | PartName::Brief)
             }
-            CommandName::Serve => part.is_run_option() || matches!(part, PartName::Ticks),
+            CommandName::Serve => {
+                part.is_run_option() || matches!(part, PartName::Ticks | PartName::StopOnInput)
+            }
         }
     }
 

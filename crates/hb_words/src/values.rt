@@ -167,6 +167,7 @@ fn serve<'a>(values: &ArgMatches<'a>) -> Result<Serve<'a>, Why>
     Ok(Serve {
         run: run(values)?,
         ticks: number(values, PartName::Ticks, u64::MAX)?,
+        stop_on_input: is_raised(values, PartName::StopOnInput),
     })
 }
 
