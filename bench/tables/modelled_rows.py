@@ -639,6 +639,7 @@ def requests_that_end():
     base = on("open", 1) + woken(1, WELCOME)
     row("404 and the peer's end", base + woken(1, workloads(), policies()) + opened(ask(1, TO, True)))
     row("one place, and a request that finds none ends its side", LIVE + woken(2, ask(3, b"10.0.0.7:9090", True)), "--tunnels", "1")
+    row("one place, and a second request finds none", LIVE + woken(2, ask(3)) + woken(2, reset(1, 8)) + woken(2, ask(5)), "--tunnels", "1")
     row("a dial fails behind the peer's end", BASE + '{"nodial":1}\n' + opened(ask(1, TO, True)))
     TOLD.update(TOLD_TOO)
 

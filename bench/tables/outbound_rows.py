@@ -383,6 +383,13 @@ def named():
     row("a header with the longest identity", BASE + opened(b"a", more=tlv(b"spiffe://a/ns/b/sa/" + b"c" * 4062)))
 
 
+def places():
+    """One place, which a tunnel takes, and which is free again behind an update that ends it."""
+    tunnel = modelled.ACCEPT + woken(2, tunnel_rows.OPENING + ask(to=b"10.0.0.7:9090")) + on("open", 3)
+    row("one place, which an update frees", BASE + tunnel + ACCEPT + WAKE + "\n" + woken(1, DENY, ALLOW) + opened(b"out", link=5), ALL,
+        "--tunnels", "1")
+
+
 # The table
 
 HEAD = ["Runs of `hbone replay --outbound`. bench/tables/outbound_rows.py prints this file: a plain model of the pages answers."]
@@ -392,7 +399,7 @@ PARTS = {**plain.PARTS, "frontweb": front().hex(), "mesh": BASE, "meshtold": _TO
 
 def main():
     for rows in (by_hand, missing, straight, chosen, gateways, unsynced, doors, headers, dials, ends, updates, rooms, mixed, traces, nowhere,
-                 waits, named):
+                 waits, named, places):
         rows()
     assert len({name for name, *_ in ROWS}) == len(ROWS)
     table = Table(HEAD, PARTS)

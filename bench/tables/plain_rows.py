@@ -201,6 +201,12 @@ def nowhere():
         + begun(header=front(destination="00" * 16, source="20010db8" + "00" * 11 + "09", family=0x21)))
 
 
+def places():
+    """One place, which is taken, and is free again behind an update that ends the link."""
+    one = [DOOR, "--tunnels", "1"]
+    row("one place, which an update frees", LIVE + ACCEPT + WAKE + "\n" + woken(1, DENY, ALLOW) + opened(b"again", link=5), *one)
+
+
 # The table
 
 HEAD = ["Runs of `hbone replay --plain`. bench/tables/plain_rows.py prints this file: a plain model of the pages answers."]
@@ -208,7 +214,7 @@ PARTS = {**modelled.PARTS, "front9": front().hex(), "f9": F9.hex(), "openbase": 
 
 
 def main():
-    for rows in (by_hand, headers, verdicts, dials, ends, rooms, mixed, traces, nowhere):
+    for rows in (by_hand, headers, verdicts, dials, ends, rooms, mixed, traces, nowhere, places):
         rows()
     table = Table(HEAD, PARTS)
     for each in ROWS:

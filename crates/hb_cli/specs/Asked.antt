@@ -13,8 +13,9 @@ config_of r = record {
   node = r.node;
   doors = record { inbound = r.inbound; outbound = r.outbound; plain = r.plain };
   hbone_port = r.hbone_port;
+  limits = record { links = 1024; tunnels = r.tunnels };
 }
 
 -- its run, which so many ticks end, if a number of them does
 abbrev pub words_of : RunWords → Option ℕ → ServeWords
-words_of r ticks = record { config = config_of r; tunnels = r.tunnels; turns = r.turns; ticks = ticks }
+words_of r ticks = record { config = config_of r; turns = r.turns; ticks = ticks }

@@ -6,10 +6,13 @@ ghost use Rattle.hb_cli.specs.Asked.{config_of, words_of};
 
 use hb_base::{NoMemory, Text};
 use hb_held::OwnDoors;
-use hb_model::NodeConfig;
+use hb_model::{Limits, NodeConfig};
 use hb_serve::ServeWords;
 use hb_words::RunWords;
 use std::alloc::Global;
+
+/// The most inbound links and links to gateways that may be open at a time.
+const MOST_LINKS: u64 = 1024;
 
 /// The node that is asked for.
 fn config_of(alloc: Global, words: &RunWords<'_>) -> Result<NodeConfig, NoMemory>
@@ -26,6 +29,10 @@ fn config_of(alloc: Global, words: &RunWords<'_>) -> Result<NodeConfig, NoMemory
             plain: words.plain,
         },
         hbone_port: words.hbone_port,
+        limits: Limits {
+            links: MOST_LINKS,
+            tunnels: words.tunnels as u64,
+        },
     })
 }
 
@@ -41,7 +48,6 @@ pub fn serve_words(
 {
     Ok(ServeWords {
         config: config_of(alloc, words)?,
-        tunnels: words.tunnels as usize,
         turns: words.turns,
         ticks,
     })

@@ -6,7 +6,7 @@ use crate::resources::text;
 use crate::words::{At, cut, must, number_of, octets_of, put_close, same, text_of};
 use hb_base::{Cause, Why, read_target};
 use hb_held::OwnDoors;
-use hb_model::{Act, NodeConfig};
+use hb_model::{Act, Limits, NodeConfig};
 use hb_node::{NoJudge, Node};
 use std::alloc::Global;
 use std::process::Abort;
@@ -19,6 +19,10 @@ fn config(rt: &impl Abort, alloc: Global) -> NodeConfig {
         node: text(rt, alloc, b"n1"),
         doors: OwnDoors::none(),
         hbone_port: 15008,
+        limits: Limits {
+            links: 1024,
+            tunnels: 4096,
+        },
     }
 }
 

@@ -327,17 +327,11 @@ comes_down old new u bytes becomes =
 
 -- BIRTH
 pub begins : (d : Door) (l : ℕ) (k : Relay) → captured_of k ≡ record no_link { door = d; stage = m.fronting } → Begins d l k
-begins d l k is a routing new = record {
-  parts = welcomed ∷ [];
-  reached = next (next a (entry (e.Accepted l d))) welcomed;
-  leads = (tt, tt, refl, (refl, refl));
-  shows = shows_so k (next (next a (entry (e.Accepted l d))) welcomed).link
-      (ap (λ (x : Captured). as_told (record x { door = d; stage = m.fronting })) new ∙ sym is)
-      (subst (λ (x : Captured). RestsBy m.fronting (record x { door = d; stage = m.fronting })) (sym new)
-      ((refl, omega arith), (refl, refl)))
-      (λ on. ap (λ (x : Captured). key_of x.aim) new);
-  noted = refl;
-}
+begins d l k is a new =
+    shows_so k (next (next a (entry (e.Accepted l d))) welcomed).link
+    (ap (λ (x : Captured). as_told (record x { door = d; stage = m.fronting })) new ∙ sym is)
+    (subst (λ (x : Captured). RestsBy m.fronting (record x { door = d; stage = m.fronting })) (sym new) ((refl, omega arith), (refl, refl)))
+    (λ on. ap (λ (x : Captured). key_of x.aim) new)
 
 -- or it is turned away
 pub turns_away : (d : Door) (l : ℕ) (k : Relay) → captured_of k ≡ record no_link { door = d; stage = m.over cause.NoRoom }

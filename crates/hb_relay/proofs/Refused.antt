@@ -54,8 +54,7 @@ module _ (l : ℕ) (held : Resources) (x : Captured) (k : Relay) (why : Cause) (
       tells : (o : Option _) → o ≡ Some (end_note l why x.went_up x.went_down) → notes (left o ∷ parts) ≡ [] → ⊥
       tells None is none = (cc)
       tells (Some note) is none = (cc)
-  untold (welcomed ∷ parts) routing b behind (inner, routed, may, more) shows none =
-      (let both : m.ended why ≡ m.arriving = sym ended_is ∙ may in cc)
+  untold (welcomed ∷ parts) routing b behind (inner, routed, may, more) shows none = absurd inner
   untold (lacked ∷ parts) routing b behind (inner, routed, may, more) shows none =
       subst (λ (s : Stage). Lacks s (ends_for why x)) ended_is may
   untold (misfronted fault ∷ parts) routing b behind (inner, routed, may, more) shows none =

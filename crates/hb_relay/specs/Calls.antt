@@ -1,5 +1,5 @@
 -- What each call of a link is to the machine.
-use Rattle.std.specs.Prelude.{⊤, ◌≡◌, ℕ, List, length, Option, None}
+use Rattle.std.specs.Prelude.{⊤, ◌≡◌, ℕ, List, length, Option}
 use Rattle.hb_base.specs.declared.cause.Cause.{Cause}
 use Rattle.hb_base.specs.declared.door.Door.{Door}
 use Rattle.hb_base.specs.declared.note.Note.{Note}
@@ -10,7 +10,7 @@ use Rattle.hb_world.specs.declared.entry.Entry.{Entry}
 use Rattle.hb_world.specs.declared.entry.Entry.TheVariants as e
 use Rattle.hb_captured.specs.Answer.{Routing}
 use Rattle.hb_captured.specs.Captured.{no_link}
-use Rattle.hb_captured.specs.Part.{Part, entry, up, crowded, applied, stopped}
+use Rattle.hb_captured.specs.Part.{Part, entry, up, welcomed, crowded, applied, stopped}
 use Rattle.hb_captured.specs.Runs.{Local, MayGo, next, StandsFor, counted}
 use Rattle.hb_relay.specs.declared.relay.Relay.{Relay}
 use Rattle.hb_relay.specs.Reaches.{Inner, IsInner, leaving, Reaches, MeetsBy, Meets}
@@ -60,11 +60,9 @@ Updates held old new made = (r : Response) → Follows IsInner (λ h. held ≡ a
 abbrev pub StopsLeaving : ℕ → Cause → Relay → Relay → Option Note → Type 0
 StopsLeaving begun cause old new made = (n : ℕ) → counted n ≡ begun → Follows (leaving n) any (stopped cause) old new made
 
--- a link is born at a door, and makes no note
+-- a link is born at a door, and makes no note: it is taken in; or, where as many are open as may be, it is turned away
 abbrev pub Begins : Door → ℕ → Relay → Type 0
-Begins d l k =
-    (a : Local) (routing : Routing) → a.link ≡ no_link → Reaches IsInner l routing (next a (entry (e.Accepted l d))) k routing None
+Begins d l k = (a : Local) → a.link ≡ no_link → Shows k (next (next a (entry (e.Accepted l d))) welcomed).link
 
--- a link is born where as many are open as may be: it is turned away, and makes no note
 abbrev pub TurnsAway : Door → ℕ → Relay → Type 0
 TurnsAway d l k = (a : Local) → a.link ≡ no_link → Shows k (next (next a (entry (e.Accepted l d))) crowded).link

@@ -5,14 +5,14 @@ use Rattle.hb_held.specs.Held.{Resources}
 use Rattle.hb_captured.specs.Answer.{Routing}
 use Rattle.hb_captured.specs.Captured.{Captured}
 use Rattle.hb_captured.specs.Counts.{counted_with}
-use Rattle.hb_captured.specs.Part.{Part, welcomed, lacked, misfronted, fronted, refused, accepted, loosed, left, done, notes, note_if}
+use Rattle.hb_captured.specs.Part.{Part, lacked, misfronted, fronted, refused, accepted, loosed, left, done, notes, note_if}
 use Rattle.hb_captured.specs.Runs.{Local, MayGo, next, StandsFor}
 use Rattle.hb_relay.specs.declared.relay.Relay.{Relay}
 use Rattle.hb_relay.specs.Shows.{Shows}
 
--- a part that follows by itself: neither an entry, nor what happens on a stream, nor what others do to the link
+-- a part that follows by itself: neither an entry, nor what happens on a stream, nor what others do to the link, nor what goes by how many
+-- links there are
 abbrev pub IsInner : Part → Type 0
-IsInner welcomed = ⊤
 IsInner lacked = ⊤
 IsInner (misfronted fault) = ⊤
 IsInner (fronted seen routing aim) = ⊤

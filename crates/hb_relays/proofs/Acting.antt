@@ -3,7 +3,7 @@ use Rattle.std.proofs.Common.{◌≡◌, ◌≢◌, inl, inr, ⊎_elim, ℕ, ◌
 use Rattle.std.proofs.lemmas.Bool.{cases_eq, eq-eqb, eqb-true, ne_eqb}
 use Rattle.std.specs.FinMap.{get, insert, remove}
 use Rattle.hb_base.specs.declared.cause.Cause.{Cause}
-use Rattle.hb_captured.specs.Answer.{key_of, why_for}
+use Rattle.hb_captured.specs.Answer.{why_for}
 use Rattle.hb_captured.specs.Calm.{IsCalm, IsCalmBy}
 use Rattle.hb_captured.specs.Captured as m
 use Rattle.hb_captured.specs.Captured.{Captured, Stage, counts_for, due, entered, is_raw, up_entered}
@@ -16,10 +16,11 @@ use Rattle.hb_map.specs.Keyed.{written}
 use Rattle.hb_model.specs.declared.config.NodeConfig.{NodeConfig}
 use Rattle.hb_proxy.proofs.Owned.{all_owned, whose_in}
 use Rattle.hb_proxy.proofs.PlainStays.{is_plain_born}
+use Rattle.hb_proxy.specs.Load.{LinksFull}
 use Rattle.hb_proxy.specs.Machine.{Machine, Outward, outward, plain_local, with_plain}
 use Rattle.hb_proxy.specs.Owners.{plain_link, relay_of}
 use Rattle.hb_proxy.specs.Points.{Point}
-use Rattle.hb_proxy.specs.Runs.{BirthMayCome, ControlRests, DialsGate, GatesLet, IfThrough, Lets, LiveRests, NoneOffers, PlainGuard, PlainLets, PlainMayCome, RestsAmong, StandsFor, StreamRestsBy, is_act}
+use Rattle.hb_proxy.specs.Runs.{BirthMayCome, ControlRests, DialsGate, GatesLet, IfThrough, Lets, LiveRests, MayDialGate, NoneOffers, PlainGuard, PlainLets, PlainMayCome, RestsAmong, StandsFor, StreamRestsBy, is_act}
 use Rattle.hb_proxy.specs.Seen.{IsPlainThereBy}
 use Rattle.hb_proxy.specs.Ups.{IsRelayOf}
 use Rattle.hb_relay.specs.Acts as relay
@@ -128,10 +129,12 @@ module _ (k : Relays) (l : ℕ) (old new : Relay) (is : get k.relays l ≡ Some 
   guard z act birth = act_may_come k x l z shows.relays shows.calm rests lets act birth
 
   -- it has an upstream: so no link to a gateway is dialled for it
-  none_dialled : (u : ℕ) → (x.plain l).up ≡ u → 0 < u → DialsGate x l
+  none_dialled : (u : ℕ) → (x.plain l).up ≡ u → 0 < u → DialsGate x l × MayDialGate g x l
   none_dialled u is some =
-      subst (λ (o : Option Key). IfThrough o (NoneOffers x))
-      (sym ((runs_straight g x points stands l).straight (subst (λ (n : ℕ). 0 < n) (sym is) some))) tt
+      let straight = (runs_straight g x points stands l).straight (subst (λ (n : ℕ). 0 < n) (sym is) some) in (
+        subst (λ (o : Option Key). IfThrough o (NoneOffers x)) (sym straight) tt,
+        subst (λ (o : Option Key). IfThrough o (λ key. LinksFull false g x)) (sym straight) tt,
+      )
 
   -- a stream is at rest as it was where the link to the client is shut
   shut_rests : (x.plain l).stage ≡ m.live → RestsAmong x.gates (entered (e.Shut l) (x.plain l))
@@ -158,7 +161,8 @@ module _ (k : Relays) (l : ℕ) (old new : Relay) (is : get k.relays l ≡ Some 
   shut_up : (u : ℕ) → relay.Does (up (e.Shut u)) old new → Does (touched_at l (changed l new k)) g x l (up (e.Shut u))
   shut_up u it =
       let may = (it (plain_local x l) shown.1).0 in
-      does (up (e.Shut u)) (insert k.relays l new) k.ups it (guard (e.Shut u) refl tt, none_dialled u may.2 may.3) refl
+      does (up (e.Shut u)) (insert k.relays l new) k.ups it (guard (e.Shut u) refl tt, (none_dialled u may.2 may.3).0, (none_dialled u may.2 may.3).1)
+      refl
       (put_elsewhere k.relays l new)
       (kept (next (plain_local x l) (up (e.Shut u))).link opens) (stays (next (plain_local x l) (up (e.Shut u))).link refl)
       (apart_from_due (x.plain l).stage m.live may.1 (λ no. cc no))
@@ -168,7 +172,8 @@ module _ (k : Relays) (l : ℕ) (old new : Relay) (is : get k.relays l ≡ Some 
       → Does (touched_at l (relays_with (insert k.relays l new) (remove k.ups u) k)) g x l (up (e.Closed u cause))
   close_up u cause it =
       let one = (it (plain_local x l) shown.1).0 in
-      does (up (e.Closed u cause)) (insert k.relays l new) (remove k.ups u) it (guard (e.Closed u cause) refl tt, none_dialled u one.2 one.3)
+      does (up (e.Closed u cause)) (insert k.relays l new) (remove k.ups u) it
+      (guard (e.Closed u cause) refl tt, (none_dialled u one.2 one.3).0, (none_dialled u one.2 one.3).1)
       refl (put_elsewhere k.relays l new) (kept (next (plain_local x l) (up (e.Closed u cause))).link opens)
       (λ z others z_is. closed_index x.plain z l others k.ups shows.index u (one.3, one.2) (ap (λ (c : Captured). c.up) z_is))
       (apart_from_due (x.plain l).stage (m.over cause) one.1 (λ no. cc no))

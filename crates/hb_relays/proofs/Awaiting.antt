@@ -3,7 +3,6 @@ use Rattle.std.proofs.Common.{◌≡◌, ◌≢◌, ◌⊎◌, inl, inr, ℕ, �
 use Rattle.std.proofs.lemmas.Bool.{cond_both, eqb-true, eq-eqb, false≢true}
 use Rattle.hb_base.specs.declared.cause.Cause.{Cause}
 use Rattle.hb_base.specs.declared.cause.Cause.TheVariants as cause
-use Rattle.hb_base.specs.declared.target.Target.{Target}
 use Rattle.hb_captured.proofs.Streamed.{Streamed, said, road_of, never, has, was_left, MayStream, all_streamed}
 use Rattle.hb_captured.specs.Captured as captured
 use Rattle.hb_captured.specs.Captured.{Captured, is_raw, judges, is_judged, ends_by, hung_up, came_by, entered, up_entered, left_by, judged_by, rejudged, told_by}
@@ -436,7 +435,7 @@ module _ (g : NodeConfig) (x : Machine) (points : List Point) (stands : StandsFo
       by (drops begun) may guard raw at = tt {0}
       by (completes begun note) may guard raw at = tt {0}
 
-  own_elsewhere : (n : ℕ) (p : gateway.Part) (s : ℕ) → GateGuard x n p → IsElsewhere s p
+  own_elsewhere : (n : ℕ) (p : gateway.Part) (s : ℕ) → GateGuard g x n p → IsElsewhere s p
   own_elsewhere n (gateway.tells k heard begun) s guard = absurd guard
   own_elsewhere n p s guard = tt {0}
 

@@ -26,7 +26,7 @@ use Rattle.hb_relay.specs.declared.relay.Relay.{Relay}
 use Rattle.hb_world.specs.declared.entry.Entry.TheVariants as e
 use Rattle.hb_relays.specs.Reaches.{Leads, Meets, any}
 use Rattle.hb_relays.specs.declared.relays.Relays.{Relays}
-use Rattle.hb_relays.proofs.Lifted.{counts, here, inner_guard, inner_plain, lifted, notes_of, there}
+use Rattle.hb_relays.proofs.Lifted.{counts, here, inner_guard, lifted, notes_of, there}
 use Rattle.hb_relays.proofs.Showing.{MeetsAt, kept_shown, meets_begun}
 use Rattle.hb_relays.proofs.Staying.{inner_gate, inner_stream, is_begun}
 
@@ -90,7 +90,7 @@ module _ (g : NodeConfig) (l n s m : ℕ) (shared : Shared) (leaves : Leaves l n
       record {
         y = rest.y;
         more = of_plain l p ∷ rest.more;
-        leads = (inner_plain p inner, z, (may, guard, refl), rest.leads);
+        leads = (inner, z, (may, guard, refl), rest.leads);
         here = rest.here;
         counted = rest.counted;
         others = λ k apart. rest.others k apart ∙ there x l p (next_link (x.plain l) p) k apart;

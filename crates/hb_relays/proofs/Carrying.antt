@@ -696,7 +696,7 @@ module _ (g : NodeConfig) (x : Machine) (points : List Point) (stands : StandsFo
   step_fits (of_gate n p) y steps l =
       subst (λ (z : Machine). FitOf z.gates (z.plain l)) (sym steps.3)
       (unmoved (λ m. cond (m == n) steps.0 (x.gates m)) l (λ on. gate_keeps n steps.0 (x.plain l).gate (x.plain l).stream
-      (λ at. own_keeps n (x.gates n) steps.0 (x.plain l).stream p steps.1 (unshared x n p steps.2))))
+      (λ at. own_keeps n (x.gates n) steps.0 (x.plain l).stream p steps.1 (unshared g x n p steps.2))))
   step_fits (of_stream k n s w) y steps l =
       subst (λ (z : Machine). FitOf z.gates (z.plain l)) (sym steps.4)
       (cond_both (l == k) (next_link (x.plain k) (captured_part n s w)) (x.plain l)

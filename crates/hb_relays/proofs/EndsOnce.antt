@@ -1,10 +1,9 @@
 -- A tunnel is told once that the gateway ended its side; in every run.
-use Rattle.std.proofs.Common.{◌≡◌, ◌≢◌, ◌⊎◌, inl, inr, ℕ, ◌+◌, ◌-◌, ◌<◌, ◌≤◌, ◌==◌, ◌&&◌, ◌||◌, not, nat_lt, Bool, true, false, cond, List, ◌∷◌, [], ◌++◌, length, Option, Some, None, Ok, refl, ap, sym, ◌∙◌, subst, arith}
+use Rattle.std.proofs.Common.{◌≡◌, ◌≢◌, ◌⊎◌, inl, inr, ℕ, ◌≤◌, ◌==◌, ◌&&◌, ◌||◌, not, nat_lt, Bool, true, false, cond, List, Option, Some, None, refl, ap, sym, ◌∙◌, subst, arith}
 use Rattle.std.proofs.lemmas.Bool.{cond_both, eqb-true, eq-eqb, ne_eqb, false≢true}
 use Rattle.std.specs.List.{flat_map}
 use Rattle.hb_base.specs.declared.cause.Cause.{Cause}
 use Rattle.hb_base.specs.declared.cause.Cause.TheVariants as cause
-use Rattle.hb_base.specs.declared.target.Target.{Target}
 use Rattle.hb_captured.specs.Captured as captured
 use Rattle.hb_captured.specs.Captured.{Captured, is_raw, judges, is_judged, came_by, entered, up_entered, judged_by, rejudged, told_by, ends_if}
 use Rattle.hb_captured.specs.Part as part
@@ -51,13 +50,13 @@ use Rattle.hb_world.specs.declared.entry.Entry.{Entry}
 use Rattle.hb_world.specs.declared.entry.Entry.TheVariants as e
 use Rattle.hb_proxy.proofs.Aims.{aims_fit, is_asked}
 use Rattle.hb_proxy.proofs.Closing.{IsClosing, finds_closed}
-use Rattle.hb_proxy.proofs.Fitting.{Follows, closed_so, mail_ends, write_follows, put_follows, end_follows, reset_follows, open_follows, peer_same}
+use Rattle.hb_proxy.proofs.Fitting.{Follows, closed_so, mail_ends, write_follows, put_follows, end_follows, reset_follows, open_follows}
 use Rattle.hb_proxy.proofs.Gates.{gates_run}
 use Rattle.hb_proxy.proofs.Streams.{PlainKeeps, part_keeps, seen_keeps, none_at_zero, runs_agree}
 use Rattle.hb_proxy.proofs.Tunnels.{goes_on_with, lives_on, mails_fit, some_told, unused_free}
 use Rattle.hb_proxy.specs.Machine.{Machine, plain_local, with_control, plain_seen_by, gate_seen_by}
 use Rattle.hb_proxy.specs.Points.{Point, of_control, of_link, of_plain, of_gate, of_stream, gates_of}
-use Rattle.hb_proxy.specs.Runs.{ControlGuard, GateGuard, PlainGuard, IsStreamOf, StreamGuard, Steps, StandsFor, begins, goes_on}
+use Rattle.hb_proxy.specs.Runs.{ControlGuard, GateGuard, PlainGuard, StreamGuard, Steps, StandsFor, begins, goes_on}
 use Rattle.hb_proxy.specs.Streams.{HasTunnel}
 use Rattle.hb_proxy.specs.Shared.{Shared, asks, tells, puts, finishes, credits, drops, completes, captured_part, gateway_part}
 use Rattle.hb_tunnel.specs.Way.{Way}
@@ -717,7 +716,7 @@ module _ (g : NodeConfig) (x : Machine) (points : List Point) (stands : StandsFo
       by (drops begun) may guard steps raw at = tt {0}
       by (completes begun note) may guard steps raw at = tt {0}
 
-  own_far : (n : ℕ) (p : gateway.Part) (s : ℕ) → GateGuard x n p → IsFar s p
+  own_far : (n : ℕ) (p : gateway.Part) (s : ℕ) → GateGuard g x n p → IsFar s p
   own_far n (gateway.tells k heard begun) s guard = absurd guard
   own_far n (gateway.asks k link authority) s guard = absurd guard
   own_far n p s guard = tt {0}

@@ -1,5 +1,5 @@
 -- An entry on the link of a number is told to that link, to the one whose upstream it is, or to the link to a gateway.
-use Rattle.std.proofs.Common.{◌≡◌, ◌≢◌, inl, inr, ℕ, ◌<◌, ◌==◌, ◌||◌, not, Bool, true, false, cond, List, [], ◌∷◌, ◌++◌, Option, Some, None, is_some, Result, Ok, Err, OnOk, refl, ap, sym, ◌∙◌, subst, arith}
+use Rattle.std.proofs.Common.{◌≡◌, ◌≢◌, inl, inr, ℕ, ◌<◌, ◌==◌, ◌||◌, not, Bool, true, false, cond, List, [], ◌∷◌, ◌++◌, Option, Some, None, IsSome, is_some, Result, Ok, Err, OnOk, refl, ap, sym, ◌∙◌, subst, arith}
 use Rattle.std.proofs.lemmas.Bool.{eq-eqb, eqb-true}
 use Rattle.std.specs.FinMap.{get}
 use Rattle.hb_base.specs.declared.note.Note.{Note}
@@ -19,9 +19,10 @@ use Rattle.hb_link.specs.Noted.{Told, Takes}
 use Rattle.hb_map.proofs.Laws.{written_where_some}
 use Rattle.hb_map.specs.Keyed.{written}
 use Rattle.hb_model.specs.declared.config.NodeConfig.{NodeConfig}
+use Rattle.hb_proxy.specs.Load.{LinksFull}
 use Rattle.hb_proxy.specs.Machine.{Machine, outward, with_plain}
 use Rattle.hb_proxy.specs.Points.{Point, of_gate, of_plain}
-use Rattle.hb_proxy.specs.Runs.{PlainLets, PlainMayCome, Steps, StandsFor, goes_on, is_act}
+use Rattle.hb_proxy.specs.Runs.{IfThrough, PlainLets, PlainMayCome, Steps, StandsFor, goes_on, is_act}
 use Rattle.hb_relay.specs.Answering.{routing_of as code_routing}
 use Rattle.hb_relay.specs.Calls as calls
 use Rattle.hb_relay.specs.Reaches as relay
@@ -31,14 +32,18 @@ use Rattle.hb_relay.specs.declared.routes.Routes.{Routes}
 use Rattle.hb_world.specs.declared.entry.Entry.{Entry}
 use Rattle.hb_world.specs.declared.entry.Entry.TheVariants as e
 use Rattle.hb_world.specs.declared.entry.Way.TheVariants as way
-use Rattle.hb_relays.specs.Calls.{gate_point, point_by, point_for, Enters, EntersWhere, GateEntersWhere}
+use Rattle.hb_relays.specs.Calls.{gate_point, point_by, point_for, Enters, EntersWhere, GateEntersWhere, Takes as TakesIn}
 use Rattle.hb_relays.specs.Joining.{Joins, Refuses, also, all, but, with_link}
 use Rattle.hb_relays.specs.Pumping.{NoneDueBut, Pumps}
-use Rattle.hb_relays.specs.Reaches.{Meets, any}
+use Rattle.hb_relays.specs.Reaches.{FindsRoomAt, IsRefusing, LeadsBy, Meets, MeetsIn, any}
+use Rattle.hb_relays.specs.Shows.{ShowsRelay}
 use Rattle.hb_relays.specs.Walks.{Map, changed, relays_with, routes_with, touched_at}
 use Rattle.hb_relays.specs.declared.relays.Relays.{Relays}
-use Rattle.hb_relays.proofs.Lifted.{there}
-use Rattle.hb_relays.proofs.Progress.{comes_then, comes_whole, knows, stands_on}
+use Rattle.hb_relays.proofs.Away.{away_is}
+use Rattle.hb_relays.proofs.Due.{AwaitsMore, calm_awaits, inner_same, leads_refusing}
+use Rattle.hb_relays.proofs.Lifted.{leads_keep, there}
+use Rattle.hb_relays.proofs.Progress.{append_by, comes_then, comes_whole, is_all, knows, noted_then, stands_by, stands_on}
+use Rattle.hb_relays.proofs.Room.{full_same}
 use Rattle.hb_relays.proofs.Showing.{GoesAt, MeetsAt, kept_shown, lifts, meets_begun, not_link, waits_none}
 use Rattle.hb_relays.proofs.Staying.{Stays, begun_undue, is_begun}
 
@@ -157,7 +162,7 @@ others_undue : (x : Machine) (l : ℕ) (z : Entry) → is_act z ≡ false → Pl
 others_undue x l z no_act may j apart =
     quiet_undue (x.plain j) (subst (λ (first : Bool). PlainLets first (x.plain j)) no_act (may.others j apart))
 
-either : (b : Bool) → (b || not b) ≡ true
+pub either : (b : Bool) → (b || not b) ≡ true
 either true = refl
 either false = refl
 
@@ -169,28 +174,70 @@ undue_then g x y l z a told now no_act steps goes j apart is =
     goes.others j apart ∙ ap (λ (w : Machine). w.plain j) steps.2 ∙ there x l (entry z) (next_link (x.plain l) (entry z)) j apart in
     others_undue x l z no_act steps.1 j apart (sym (ap (λ (c : Captured). c.stage) were) ∙ is)
 
+-- where nothing follows by which it would be refused
+pub in_room : (held : Resources) (room : Bool) (p : Point) (k new : Relays) (told now : Told) → ((z : Machine) → FindsRoomAt room p z)
+    → Meets (λ x. x.control.held ≡ held) p k told new now → MeetsIn held room p k told new now
+in_room held room p k new told now finds meets g x y points stands shows holds full steps =
+    let follows = meets g x y points stands shows holds steps in (
+      record {
+        more = follows.more;
+        reached = follows.reached;
+        leads = leads_refusing g y follows.more follows.reached follows.leads;
+        shows = follows.shows;
+        noted = follows.noted;
+      },
+      finds follows.reached,
+    )
+
+-- one that is shown has no whole header that waits
+shown_awaits : (l : ℕ) (o : Option Relay) (x : Captured) → ShowsRelay l o x → AwaitsMore x
+shown_awaits l None x shown = calm_awaits x (away_is x shown).calm
+shown_awaits l (Some k) x shown = calm_awaits x shown.1.calm
+
 -- bytes came: it gets its stream where it wants one, or is refused, and what may be put is
-pub own_took : (P : Resources → Type 0) (k a b c d : Relays) (n : ℕ) (bytes : List ℕ) (told one two now : Told)
-    → MeetsAt P n (entry (e.Came n bytes)) k told a one → Joins n a b → Refuses b one c two → Pumps n c two d now
-    → Meets (λ x. P x.control.held) (of_plain n (entry (e.Came n bytes))) k told d now
-own_took P k a b c d n bytes told one two now meets joins refuses pumps g x y points stands shows holds steps =
+pub own_took : (held : Resources) (room : Bool) (k a b c d : Relays) (n : ℕ) (bytes : List ℕ) (told one two now : Told)
+    → MeetsAt (λ h. h ≡ held) n (entry (e.Came n bytes)) k told a one → Joins n a b → Refuses n room b one c two → Pumps n c two d now
+    → MeetsIn held room (of_plain n (entry (e.Came n bytes))) k told d now
+own_took held room k a b c d n bytes told one two now meets joins refuses pumps g x y points stands shows holds full steps =
     let p = of_plain n (entry (e.Came n bytes)) in
     let goes = meets g x y points stands shows holds steps in
     let first = goes.comes in
     let ran : StandsFor g y (points ++ p ∷ []) = goes_on stands p steps refl in
     let at = stands_on g y (points ++ p ∷ []) first.more first.reached ran first.leads in
-    let joined = joins (but n) (not_link n) g first.reached at.0 at.1 first.shows one in
+    let joining = joins (but n) (not_link n) g first.reached at.0 at.1 first.shows one in
+    let joined = joining.0 in
     let second = comes_then (but n) (also n (but n)) (not_link n) (not_link n) all all g y a b told one one first joined in
     let at_second = stands_on g y (points ++ p ∷ []) second.more second.reached ran second.leads in
-    let refused = refuses (not_link n) g second.reached at_second.0 at_second.1
+    let refusing = refuses (not_link n) g second.reached at_second.0 at_second.1
     (knows (also n (but n)) all (not_link n) (not_link n) all all g b (outward second.reached) (λ j is. either (j == n)) (λ j w is. is)
-    (λ j is. is) second.shows) in
-    let third = comes_then (also n (but n)) all (not_link n) (not_link n) all all g y b c told one two second refused in
-    let at_third = stands_on g y (points ++ p ∷ []) third.more third.reached ran third.leads in
-    let pumped = pumps (not_link n) g third.reached at_third.0 at_third.1 third.shows
-    (λ j apart. refused.undue j (joined.undue j (undue_then g x y n (e.Came n bytes) a told one refl steps goes j apart))) in
-    comes_whole all (with_link n (not_link n)) all g y d told now (λ j. refl) (λ j w. either (j == n)) (λ j. refl)
-    (comes_then all all (not_link n) (with_link n (not_link n)) all all g y c d told two now third pumped)
+    (λ j is. is) second.shows)
+    (λ stage. subst (λ (w : Machine). LinksFull (not room) g w) (sym (joining.1 stage))
+    (full_same (not room) g x first.reached
+    ((leads_keep g y first.more first.reached first.leads).inbound ∙ ap (λ (w : Machine). w.inbound) steps.2)
+    (goes.gates ∙ ap (λ (w : Machine). w.gates) steps.2) full)) in
+    let refused = refusing.0 in
+    let leads_there : LeadsBy IsRefusing g y (second.more ++ refused.more) refused.reached =
+    append_by IsRefusing g y second.reached refused.reached second.more refused.more
+    (leads_refusing g y second.more second.reached second.leads) refused.leads in
+    let at_third = stands_by IsRefusing g y (points ++ p ∷ []) (second.more ++ refused.more) refused.reached ran leads_there in
+    let pumped = pumps (not_link n) g refused.reached at_third.0 at_third.1 refused.shows
+    (λ j apart. refused.undue j (joined.undue j (undue_then g x y n (e.Came n bytes) a told one refl steps goes j apart))) in (
+      record {
+        more = (second.more ++ refused.more) ++ pumped.more;
+        reached = pumped.reached;
+        leads = append_by IsRefusing g y refused.reached pumped.reached (second.more ++ refused.more) pumped.more leads_there
+            (leads_refusing g refused.reached pumped.more pumped.reached pumped.leads);
+        shows = is_all all (with_link n (not_link n)) all g d (outward pumped.reached) (λ j. refl) (λ j w. either (j == n)) (λ j. refl)
+            pumped.shows;
+        noted = noted_then told two now (second.more ++ refused.more) pumped.more
+            (noted_then told one two second.more refused.more second.noted refused.noted) pumped.noted;
+      },
+      λ stage. (let same : pumped.reached.plain n ≡ refused.reached.plain n =
+          inner_same g refused.reached pumped.more pumped.reached pumped.leads n
+          (shown_awaits n (get c.relays n) (refused.reached.plain n) (refused.shows.relays n)) stage in
+          subst (λ (w : Captured). IfThrough (key_of w.aim) (λ key. room ≡ true)) (sym same)
+          (refusing.1 (ap (λ (w : Captured). w.stage) (sym same) ∙ stage))),
+    )
 
 -- it waits for none behind an entry: what may be put is
 pub own_pumped : (P : Resources → Type 0) (k a b : Relays) (n : ℕ) (z : Entry) (told one now : Told) → is_act z ≡ false
@@ -230,14 +277,19 @@ went_begun n bytes x may = ap is_begun may.1.1
 
 -- WHICH POINT IT IS
 
+-- a link's own, whatever is said of that
+pub own_at : (M : Point → Type 0) (k : Relays) (n : ℕ) (z : Entry) (old : Relay) → get k.ups n ≡ None → get k.relays n ≡ Some old
+    → M (of_plain n (entry z)) → (q : Point) → point_for k n z ≡ Some q → M q
+own_at M k n z old none is holds q point = subst M (sym (own_point k n z q point old none is)) holds
+
 pub own_told : (P : Machine → Type 0) (k new : Relays) (n : ℕ) (z : Entry) (old : Relay) (told now : Told) → get k.ups n ≡ None
     → get k.relays n ≡ Some old → Meets P (of_plain n (entry z)) k told new now → EntersWhere P n z k told new now
-own_told P k new n z old told now none is meets q point =
-    subst (λ (w : Point). Meets P w k told new now) (sym (own_point k n z q point old none is)) meets
+own_told P k new n z old told now none is meets q point = own_at (λ w. Meets P w k told new now) k n z old none is meets q point
 
-pub gate_told : (P : Machine → Type 0) (k new : Relays) (n : ℕ) (z : Entry) (told now : Told) → get k.ups n ≡ None
-    → get k.relays n ≡ None → GateEntersWhere P n z k told new now → EntersWhere P n z k told new now
-gate_told P k new n z told now none gone enters q point = by (get k.gates n) refl
+-- one of a link to a gateway
+pub gate_at : (M : Point → Type 0) (k : Relays) (n : ℕ) (z : Entry) → get k.ups n ≡ None → get k.relays n ≡ None
+    → (IsSome (get k.gates n) → M (of_gate n (gateway.entry z))) → (q : Point) → point_for k n z ≡ Some q → M q
+gate_at M k n z none gone holds q point = by (get k.gates n) refl
   where
     at_gate : (o : Option Gate) → get k.gates n ≡ o → gate_point o n z ≡ Some q
     at_gate o found =
@@ -245,12 +297,25 @@ gate_told P k new n z told now none gone enters q point = by (get k.gates n) ref
         ∙ sym (ap (λ (a : Option ℕ). point_by a (get k.relays n) (get k.gates n) n z) none
         ∙ ap (λ (a : Option Relay). point_by None a (get k.gates n) n z) gone) ∙ point
 
-    by : (o : Option Gate) → get k.gates n ≡ o → Meets P q k told new now
+    by : (o : Option Gate) → get k.gates n ≡ o → M q
     by None found = absurd (let both : None ≡ Some q = at_gate None found in cc both)
     by (Some kept) found =
         let both : Some (of_gate n (gateway.entry z)) ≡ Some q = at_gate (Some kept) found in
         let is : of_gate n (gateway.entry z) ≡ q = cc both in
-        subst (λ (w : Point). Meets P w k told new now) is (enters (ap is_some found))
+        subst M is (holds (ap is_some found))
+
+pub gate_told : (P : Machine → Type 0) (k new : Relays) (n : ℕ) (z : Entry) (told now : Told) → get k.ups n ≡ None
+    → get k.relays n ≡ None → GateEntersWhere P n z k told new now → EntersWhere P n z k told new now
+gate_told P k new n z told now none gone enters q point = gate_at (λ w. Meets P w k told new now) k n z none gone enters q point
+
+-- an upstream's
+pub up_took : (held : Resources) (room : Bool) (k new : Relays) (n l : ℕ) (bytes : List ℕ) (told now : Told) → get k.ups n ≡ Some l
+    → EntersWhere (λ x. x.control.held ≡ held) n (e.Came n bytes) k told new now → TakesIn held room n bytes k told new now
+up_took held room k new n l bytes told now found enters q point =
+    let is = up_point k n (e.Came n bytes) q point l found in
+    subst (λ (w : Point). MeetsIn held room w k told new now) (sym is)
+    (in_room held room (of_plain l (up (e.Came n bytes))) k new told now (λ z. tt)
+    (subst (λ (w : Point). Meets (λ x. x.control.held ≡ held) w k told new now) is (enters q point)))
 
 -- no link that was accepted opens
 pub none_opens : (k new : Relays) (n : ℕ) (told now : Told) (old : Relay) → get k.ups n ≡ None → get k.relays n ≡ Some old

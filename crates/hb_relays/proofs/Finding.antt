@@ -1,5 +1,4 @@
 -- What is found on a link to a gateway leads on: its tunnel hears it, each tunnel is told its end, and streams are reset.
-use Rattle.std.specs.Prelude.{⊤}
 use Rattle.std.proofs.Common.{◌≡◌, ◌≢◌, ◌⊎◌, inl, inr, ⊎_elim, ℕ, ◌<◌, ◌^◌, ◌==◌, Bool, true, false, cond, List, [], ◌∷◌, ◌++◌, Option, Some, None, is_some, IsSome, refl, ap, sym, ◌∙◌, subst}
 use Rattle.std.proofs.lemmas.Bool.{cases_eq, eq-eqb, false≢true, ne_eqb, true≢false}
 use Rattle.std.specs.List.{flat_map}
@@ -40,23 +39,20 @@ use Rattle.hb_proxy.proofs.Gates.{gates_run}
 use Rattle.hb_proxy.proofs.Tunnels.{goes_on_with, lives_on, mails_fit}
 use Rattle.hb_proxy.proofs.Brought.{runs_fit}
 use Rattle.hb_proxy.specs.Machine.{Machine, Outward, outward, with_gate as with_gateway}
-use Rattle.hb_proxy.specs.Notes.{notes}
 use Rattle.hb_history.specs.Points.{data_in}
 use Rattle.hb_proxy.specs.Points.{Point, of_gate, gates_of}
-use Rattle.hb_proxy.specs.Runs.{RestsAmong, Steps, StandsFor, goes_on}
+use Rattle.hb_proxy.specs.Runs.{Steps, StandsFor, goes_on}
 use Rattle.hb_proxy.specs.Seen.{IsGateThere}
 use Rattle.hb_proxy.specs.Streams.{HasTunnel}
-use Rattle.hb_relay.specs.Answering.{routing_of}
-use Rattle.hb_relay.specs.Shows.{Shows, HasUpstream}
+use Rattle.hb_relay.specs.Shows.{Shows}
 use Rattle.hb_relay.specs.declared.relay.Relay.{Relay}
-use Rattle.hb_relays.specs.Joining.{GoesOn, ShowsSome, all, but, not_of}
-use Rattle.hb_relays.specs.Leaving.{Resets, ResetsIf}
+use Rattle.hb_relays.specs.Joining.{all, but, not_of}
+use Rattle.hb_relays.specs.Leaving.{ResetsIf}
 use Rattle.hb_relays.specs.Looking.{DeliversTo, FindsAt, FindsOn, GoesOpen, HearsLook, HearsOn, IsSettled, IsTold, LookedBy, LooksOnce, ResetsGate, ResetsOn, ServesAt, ServesOn, SettledBy, Settles, ShowsOpen, after_look}
 use Rattle.hb_relays.specs.Pumping.{NoneDue}
-use Rattle.hb_relays.specs.Reaches.{Leads}
 use Rattle.hb_relays.specs.Touched.{is_touched, touched}
 use Rattle.hb_relays.specs.Shows.{IsGateAway, ShowsGate, ShowsRelay}
-use Rattle.hb_relays.specs.Walks.{changed, gate_touched_at, routes_with, touched_at, with_gate}
+use Rattle.hb_relays.specs.Walks.{gate_touched_at, with_gate}
 use Rattle.hb_relays.specs.declared.relays.Relays.{Relays}
 use Rattle.hb_relays.proofs.Awaiting.{carried_opened, is_opening, is_opens, streamed_so}
 use Rattle.hb_relays.proofs.Carrying.{live_carries}
@@ -64,7 +60,7 @@ use Rattle.hb_relays.proofs.EndsOnce.{runs_end}
 use Rattle.hb_relays.proofs.GateEntering.{others_rest}
 use Rattle.hb_relays.proofs.Looked.{SameBut, carrying_hears, fares_same, looked_active, same_active}
 use Rattle.hb_relays.proofs.Progress.{goes_then, stands_on}
-use Rattle.hb_relays.proofs.Resetting.{AreReset, ResetsLeave, resets_go, resets_leave}
+use Rattle.hb_relays.proofs.Resetting.{AreReset, resets_go, resets_leave}
 use Rattle.hb_relays.proofs.Settling.{away_raw, each_shown, may_fail}
 use Rattle.hb_relays.proofs.Showing.{apart_of}
 use Rattle.hb_relays.proofs.Tells.{Around, at_gate, at_number, on_stream, told_open}

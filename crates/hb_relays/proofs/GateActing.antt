@@ -1,16 +1,13 @@
 -- The close of a link to a gateway that is due is one of all links.
-use Rattle.std.specs.Prelude.{⊤}
-use Rattle.std.proofs.Common.{◌≡◌, ◌≢◌, inr, ⊎_elim, ℕ, ◌<◌, ◌^◌, ◌==◌, ◌||◌, Bool, true, false, cond, List, Option, Some, None, is_some, IsSome, refl, ap, sym, ◌∙◌, subst}
+use Rattle.std.proofs.Common.{◌≡◌, ◌≢◌, inr, ⊎_elim, ℕ, Bool, true, cond, List, Option, Some, None, is_some, refl, ap, sym, ◌∙◌, subst}
 use Rattle.std.proofs.lemmas.Bool.{cases_eq, eq-eqb, false≢true, ne_eqb, or_right}
 use Rattle.std.specs.FinMap.{get, insert, remove}
 use Rattle.hb_base.specs.declared.cause.Cause.{Cause}
 use Rattle.hb_captured.specs.Answer.{key_of}
-use Rattle.hb_captured.specs.Captured.{Captured, due, is_raw}
 use Rattle.hb_conn.specs.Connection.{Connection}
 use Rattle.hb_gate.specs.Calls as gate
 use Rattle.hb_gate.specs.declared.gate.Gate.{Gate}
 use Rattle.hb_gateway.specs.Calm.{IsCalm, close_due}
-use Rattle.hb_gateway.specs.Gateway as machine
 use Rattle.hb_gateway.specs.Gateway.{Gateway, Phase, offers}
 use Rattle.hb_gateway.specs.Hears.{all_hear}
 use Rattle.hb_gateway.specs.Key.{Key}
@@ -20,17 +17,15 @@ use Rattle.hb_map.proofs.Laws.{put_here, put_elsewhere, removed_here, removed_el
 use Rattle.hb_map.specs.Keyed.{written}
 use Rattle.hb_model.specs.declared.config.NodeConfig.{NodeConfig}
 use Rattle.hb_proxy.proofs.Gates.{gates_run}
-use Rattle.hb_proxy.specs.Machine.{Machine, Outward, outward, with_gate as with_gateway}
+use Rattle.hb_proxy.specs.Machine.{Machine, outward, with_gate as with_gateway}
 use Rattle.hb_proxy.specs.Points.{Point, gates_of}
-use Rattle.hb_proxy.specs.Runs.{ControlRests, GateLets, GateMayCome, IfThrough, Lets, NoneOffersAmong, PlainLets, RestsAmong, StandsFor, StreamRestsBy, gate_first, is_gate_faulted}
+use Rattle.hb_proxy.specs.Runs.{ControlRests, GateLets, GateMayCome, IfThrough, Lets, NoneOffersAmong, PlainLets, RestsAmong, StandsFor, gate_first, is_gate_faulted}
 use Rattle.hb_world.specs.declared.act.Act.{Act}
 use Rattle.hb_world.specs.declared.act.Act.TheVariants as act
-use Rattle.hb_world.specs.declared.entry.Entry.{Entry}
 use Rattle.hb_world.specs.declared.entry.Entry.TheVariants as e
 use Rattle.hb_relays.specs.Acts.{DoesGate}
 use Rattle.hb_relays.specs.Joining.{Gates}
 use Rattle.hb_relays.specs.Shows.{ShowsGate, ShowsRelays}
-use Rattle.hb_relays.specs.Touched.{is_touched}
 use Rattle.hb_relays.specs.Stirring.{StirsBut, closed_in}
 use Rattle.hb_relays.specs.Walks.{GateActs, ShowsGatesBut, closing_as, gate_touched_at}
 use Rattle.hb_relays.specs.declared.relays.Relays.{Relays}

@@ -1,5 +1,5 @@
 -- Which numbers are of a link, and the links that stir are told one after another.
-use Rattle.std.proofs.Common.{◌≡◌, ◌⊎◌, inl, inr, ⊎_elim, ◌||◌, ℕ, ◌<◌, ◌^◌, Bool, true, false, Option, Some, None, is_some, IsSome, refl, ap, sym, ◌∙◌, subst, arith}
+use Rattle.std.proofs.Common.{◌≡◌, ◌⊎◌, inl, inr, ⊎_elim, ◌||◌, ℕ, ◌<◌, ◌^◌, true, false, Option, Some, None, is_some, IsSome, refl, ap, sym, ◌∙◌, subst, arith}
 use Rattle.std.proofs.lemmas.Bool.{or_left, or_right, or_from, or_cases, eq-eqb, false≢true}
 use Rattle.std.specs.FinMap.{get}
 use Rattle.hb_gate.specs.declared.gate.Gate.{Gate}

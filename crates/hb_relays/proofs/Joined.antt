@@ -1,6 +1,6 @@
 -- A link gets its stream: where the code of both does so, that of all links goes on.
 use Rattle.std.proofs.Common.{◌≡◌, ◌≢◌, ⊎_elim, ℕ, ◌<◌, ◌^◌, Bool, true, false, List, [], ◌∷◌, ◌||◌, Option, Some, None, is_some, refl, ap, sym, ◌∙◌, subst, arith}
-use Rattle.std.proofs.lemmas.Bool.{false≢true, cases_eq, ne_eqb}
+use Rattle.std.proofs.lemmas.Bool.{cases_eq, ne_eqb}
 use Rattle.std.specs.FinMap.{get, insert}
 use Rattle.hb_base.specs.declared.target.Target.{Target}
 use Rattle.hb_captured.specs.Answer.{Routing, Aim, through, key_of}
@@ -172,6 +172,9 @@ module _ (g : NodeConfig) (k : Relays) (l n s : ℕ) (old one : Relay) (kept two
   is_opening : (y.plain l).stage ≡ opening
   is_opening = ap (λ (w : Captured). w.stage) here
 
+  joined_undue : (y.plain l).stage ≢ due
+  joined_undue now = let no : opening ≡ due = sym is_opening ∙ now in cc
+
   opens_still : (x.plain l).closed ≡ false
   opens_still = opens_by (x.plain l).stage (x.plain l).closed shown_one.2
 
@@ -224,7 +227,7 @@ module _ (g : NodeConfig) (k : Relays) (l n s : ℕ) (old one : Relay) (kept two
       waits_then : (j : ℕ) → j ≢ l → also l waiting j ≡ true → waiting j ≡ true
       waits_then j apart waits = ap (λ (b : Bool). b || waiting j) (sym (ne_eqb j l apart)) ∙ waits
 
-  pub joined_goes : (told : Told) → GoesOn (also l waiting) resting all g x (paired l n one two k.routes k) told told
+  abbrev joined_goes : (told : Told) → GoesOn (also l waiting) resting all g x (paired l n one two k.routes k) told told
   joined_goes told = record {
     more = of_stream l n s (asks authority) ∷ [];
     reached = y;
@@ -243,19 +246,25 @@ pub joins : (k new : Relays) (l n s : ℕ) (old one : Relay) (kept two : Gate) (
     → new ≡ paired l n one two k.routes k → Joins l k new
 joins k new l n s old one kept two authority is is_gate asks_one asks_two may_ask new_is waiting resting g x points stands shows told =
     let on = may_ask waiting resting g x points stands shows in
-    subst (λ (m : Relays). GoesOn (also l waiting) resting all g x m told told) (sym new_is)
-    (joined_goes g k l n s old one kept two authority waiting resting x points stands shows is is_gate asks_one asks_two on.waits
-    on.asks.endpoint on.asks.aim on.room on.asks.first told)
+    subst (λ (m : Relays). (goes : GoesOn (also l waiting) resting all g x m told told)
+    × ((goes.reached.plain l).stage ≡ due → goes.reached ≡ x)) (sym new_is) (
+      joined_goes g k l n s old one kept two authority waiting resting x points stands shows is is_gate asks_one asks_two on.waits
+          on.asks.endpoint on.asks.aim on.room on.asks.first told,
+      λ stage. absurd (joined_undue g k l n s old one kept two authority waiting resting x points stands shows is is_gate asks_one asks_two
+          on.waits on.asks.endpoint on.asks.aim on.room on.asks.first stage),
+    )
 
 -- nothing is done where it wants none, or none has room
 pub joins_none : (k : Relays) (l : ℕ) → MayAsk l k None → Joins l k k
-joins_none k l none waiting resting g x points stands shows told =
-    goes_nowhere (also l waiting) resting all g x k told
-    (shows_as waiting (also l waiting) resting resting all g k (outward x) shows (λ j rests. shows.streams j rests)
-    (λ j waits stage. ⊎_elim
-    (λ at. subst (λ (i : ℕ). IfThrough (key_of (x.plain i).aim) (NoneOffersAmong x.gates)) (sym at)
-    (none waiting resting g x points stands shows (ap (λ (i : ℕ). (x.plain i).stage) (sym at) ∙ stage)))
-    (λ apart. shows.wanting j (ap (λ (b : Bool). b || waiting j) (sym (ne_eqb j l apart)) ∙ waits) stage) (cases_eq j l)))
+joins_none k l none waiting resting g x points stands shows told = (
+  goes_nowhere (also l waiting) resting all g x k told
+      (shows_as waiting (also l waiting) resting resting all g k (outward x) shows (λ j rests. shows.streams j rests)
+      (λ j waits stage. ⊎_elim
+      (λ at. subst (λ (i : ℕ). IfThrough (key_of (x.plain i).aim) (NoneOffersAmong x.gates)) (sym at)
+      (none waiting resting g x points stands shows (ap (λ (i : ℕ). (x.plain i).stage) (sym at) ∙ stage)))
+      (λ apart. shows.wanting j (ap (λ (b : Bool). b || waiting j) (sym (ne_eqb j l apart)) ∙ waits) stage) (cases_eq j l))),
+  λ stage. refl,
+)
 
 -- WHICH IS ASKED FOR
 module _ (k : Relays) (l : ℕ) where
@@ -298,20 +307,22 @@ module _ (k : Relays) (l : ℕ) where
       )
 
 -- it waits for one
-pub wants_none : (k : Relays) (l : ℕ) → IsWanting l k false
-wants_none k l waiting resting g x points stands shows is = absurd (false≢true is)
+pub wants_away : (k : Relays) (l : ℕ) → get k.relays l ≡ None → IsWanting l k false
+wants_away k l gone waiting resting g x points stands shows stage =
+    absurd (away_undue (x.plain l) (subst (λ (o : Option Relay). ShowsRelay l o (x.plain l)) gone (shows.relays l)) stage)
 
 pub wants_some : (k : Relays) (l : ℕ) (w : Relay) → get k.relays l ≡ Some w → (o : Option (Key × Target)) → streamed.WantsStream w o
     → IsWanting l k (is_some o)
-wants_some k l w found None wants waiting resting g x points stands shows is = absurd (false≢true is)
-wants_some k l w found (Some at) wants waiting resting g x points stands shows is =
+wants_some k l w found None wants waiting resting g x points stands shows = λ stage.
+    wants (x.plain l) (shown_here k l w found x shows.relays) stage
+wants_some k l w found (Some at) wants waiting resting g x points stands shows =
     let want = wants (x.plain l) (shown_here k l w found x shows.relays) in
     record { waits = want.0; keyed = ap is_some (ap key_of want.1.1) }
 
 -- as the code says it
 pub wants_code : (k : Relays) (l : ℕ) (w : Relay) → get k.relays l ≡ Some w → (o : Option (Code × Target)) (is : Bool)
     → streamed.WantsStream w (wanted_as o) → is ≡ is_some o → IsWanting l k is
-wants_code k l w found None is wants same = subst (IsWanting l k) (sym same) (wants_none k l)
+wants_code k l w found None is wants same = subst (IsWanting l k) (sym same) (wants_some k l w found None wants)
 wants_code k l w found (Some at) is wants same =
     subst (IsWanting l k) (sym same) (wants_some k l w found (Some (key_as at.0, at.1)) wants)
 

@@ -7,6 +7,7 @@ pub mod Births
 pub mod Breaking
 pub mod Carrying
 pub mod Dialling
+pub mod Due
 pub mod EndingGates
 pub mod EndingLinks
 pub mod EndsOnce
@@ -17,6 +18,7 @@ pub mod GateActing
 pub mod GateEntering
 pub mod Hearing
 pub mod Joined
+pub mod Kept
 pub mod LeftToLook
 pub mod Lifted
 pub mod Looked
@@ -35,6 +37,7 @@ pub mod Refusing
 pub mod Resetting
 pub mod Resting
 pub mod RestsRefused
+pub mod Room
 pub mod Settling
 pub mod Showing
 pub mod Speaking

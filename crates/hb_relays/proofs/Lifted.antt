@@ -15,13 +15,15 @@ use Rattle.hb_proxy.specs.Points.{Point, of_control, of_link, of_plain, of_gate,
 use Rattle.hb_proxy.specs.Runs.{PlainGuard, routing_of}
 use Rattle.hb_relay.specs.Reaches as relay
 use Rattle.hb_relay.specs.Reaches.{rerouted}
-use Rattle.hb_relays.specs.Reaches.{IsPlainInner, Leads}
+use Rattle.hb_relays.specs.Reaches.{Leads}
 
 -- such a part may come wherever its link lets it, by these counts
 pub inner_guard : (g : NodeConfig) (x : Machine) (l : ℕ) (p : Part) → relay.IsInner p → relay.IsRouted (routing_of g x) p
     → PlainGuard g x l p
 inner_guard g x l (part.entry z) inner routed = absurd inner
 inner_guard g x l (part.up z) inner routed = absurd inner
+inner_guard g x l part.welcomed inner routed = absurd inner
+inner_guard g x l part.crowded inner routed = absurd inner
 inner_guard g x l (part.fronted seen by aim) inner routed = routed
 inner_guard g x l (part.refused seen by why status note) inner routed = routed
 inner_guard g x l part.roomless inner routed = absurd inner
@@ -35,11 +37,6 @@ inner_guard g x l (part.completed begun note) inner routed = absurd inner
 inner_guard g x l (part.applied r) inner routed = absurd inner
 inner_guard g x l (part.stopped why) inner routed = absurd inner
 inner_guard g x l _ inner routed = tt
-
--- and by itself in the whole too
-pub inner_plain : (p : Part) → relay.IsInner p → IsPlainInner p
-inner_plain part.roomless inner = tt
-inner_plain p inner = inner
 
 -- what the link of the part is then, and what the others are
 pub here : (g : NodeConfig) (x : Machine) (l : ℕ) (p : Part) → PlainGuard g x l p
@@ -87,7 +84,7 @@ lifted g l x (p ∷ parts) b behind (inner, routed, may, more) =
     (sym (here g x l p guard)) more)) in
     record {
       y = rest.y;
-      leads = (inner_plain p inner, y, (may, guard, refl), rest.leads);
+      leads = (inner, y, (may, guard, refl), rest.leads);
       here = rest.here;
       counted = rest.counted;
       others = λ k apart. rest.others k apart ∙ there x l p (next_link (x.plain l) p) k apart;

@@ -1,17 +1,16 @@
 -- A look at what came on a link to a gateway, what its tunnel hears of it, and what is settled behind that.
-use Rattle.std.specs.Prelude.{⊤}
-use Rattle.std.proofs.Common.{◌≡◌, ℕ, ◌==◌, nat_lt, Bool, true, false, cond, List, [], ◌∷◌, Option, Some, None, is_some, refl, ap, sym, ◌∙◌, subst}
-use Rattle.std.proofs.lemmas.Bool.{cases_eq, cond_both, eq-eqb, false≢true, ne_eqb}
+use Rattle.std.proofs.Common.{◌≡◌, ℕ, ◌==◌, nat_lt, Bool, true, false, cond, List, Option, None, refl, ap, sym, ◌∙◌, subst}
+use Rattle.std.proofs.lemmas.Bool.{false≢true}
 use Rattle.hb_gate.specs.Calls as gate
 use Rattle.hb_gate.specs.Calls.{none, more}
 use Rattle.hb_gateway.specs.Calm.{AllReset, is_failing}
-use Rattle.hb_gateway.specs.Gateway.{Gateway, Stream, at_stage, carries, is_active, settled, stage_of}
-use Rattle.hb_gateway.specs.Hears.{all_hear, hears}
+use Rattle.hb_gateway.specs.Gateway.{Gateway, at_stage, carries, is_active, settled, stage_of}
+use Rattle.hb_gateway.specs.Hears.{all_hear}
 use Rattle.hb_conn.specs.Connection.{Connection}
 use Rattle.hb_conn.specs.Observed.{aborted}
 use Rattle.hb_conn.specs.declared.found.Found.{Found}
 use Rattle.hb_conn.specs.declared.found.Found.TheVariants as found
-use Rattle.hb_gateway.specs.Part.{looked, reset}
+use Rattle.hb_gateway.specs.Part.{looked}
 use Rattle.hb_gateway.specs.Response as response
 use Rattle.hb_gateway.specs.Response.{Stage, Heard, carrying, opens, fails, heard_of}
 use Rattle.hb_gateway.specs.Runs as gateways

@@ -1,5 +1,5 @@
 -- One look follows another, until nothing is left to be looked at; then what may be put is put.
-use Rattle.std.proofs.Common.{◌≡◌, ⊎_elim, ℕ, not, Bool, true, false, [], refl, ap, sym, subst}
+use Rattle.std.proofs.Common.{⊎_elim, ℕ, not, Bool, true, false, [], refl, ap, sym, subst}
 use Rattle.std.proofs.lemmas.Bool.{cases_eq, ne_eqb}
 use Rattle.hb_gateway.specs.Calm.{IsCalm, IsCalmBy}
 use Rattle.hb_gateway.specs.Gateway as machine

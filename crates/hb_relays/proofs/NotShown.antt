@@ -1,129 +1,37 @@
 -- A link that is accepted is kept, and a link that may be shown.
-use Rattle.std.proofs.Common.{◌≡◌, ◌≢◌, ◌⊎◌, inl, inr, ⊎_elim, ◌==◌, ℕ, ◌<◌, ◌^◌, Bool, false, cond, List, [], ◌∷◌, Option, Some, None, is_some, refl, ap, sym, ◌∙◌, subst, arith}
+use Rattle.std.proofs.Common.{◌≡◌, ◌≢◌, ⊎_elim, ◌==◌, ℕ, ◌<◌, ◌^◌, Bool, cond, Option, Some, None, is_some, refl, ap, sym, ◌∙◌, subst, arith}
 use Rattle.std.proofs.lemmas.Bool.{cases_eq, eq-eqb, ne_eqb, false≢true}
 use Rattle.std.specs.FinMap.{get, get-empty, empty}
 use Rattle.hb_captured.specs.Captured as m
 use Rattle.hb_captured.specs.Answer.{Aim, key_of}
 use Rattle.hb_captured.specs.Captured.{Captured, Stage, no_link, at_stage}
-use Rattle.hb_captured.specs.Part as part
-use Rattle.hb_captured.specs.Part.{Part, entry}
-use Rattle.hb_captured.specs.Runs.{Local, next, next_link}
 use Rattle.hb_gate.specs.declared.gate.Gate.{Gate}
 use Rattle.hb_gateway.specs.Calm.{close_due}
 use Rattle.hb_gateway.specs.Gateway as gateway
 use Rattle.hb_map.proofs.Laws.{put_here, put_elsewhere}
-use Rattle.hb_model.specs.declared.config.NodeConfig.{NodeConfig}
-use Rattle.hb_proxy.proofs.Plain.{plain_runs}
-use Rattle.hb_proxy.specs.Held.{at_start}
-use Rattle.hb_proxy.specs.Machine.{Machine, plain_local}
-use Rattle.hb_proxy.specs.Points.{Point, of_control, of_link, of_plain, of_gate, of_stream, plain_of}
+use Rattle.hb_proxy.specs.Machine.{Machine}
 use Rattle.hb_proxy.specs.Runs.{IfThrough, NoneOffersAmong}
 use Rattle.hb_proxy.specs.Seen.{IsGateThere, IsPlainThereBy}
-use Rattle.hb_proxy.specs.Shared.{Shared, asks, tells, puts, finishes, credits, drops, completes, captured_part}
 use Rattle.hb_relay.proofs.Refused.{new_is_shown}
 use Rattle.hb_relay.specs.declared.relay.Relay.{Relay}
-use Rattle.hb_world.specs.declared.entry.Entry.TheVariants as e
-use Rattle.hb_relays.specs.Reaches.{IsPlainInner, Leads}
 use Rattle.hb_relays.specs.Refused.{ForgetsLink, OneIsShown, LacksGate, KeepsClosedGate, MissesClose, WaitsThough}
-use Rattle.hb_relays.specs.Shows.{IsAway, IsGateAway, IsIdle, ShowsGate, ShowsRelay}
-use Rattle.hb_relays.proofs.Away.{away_is}
-use Rattle.hb_relays.proofs.Lifted.{here, there}
+use Rattle.hb_relays.specs.Shows.{IsAway, IsAwayBy, IsGateAway, IsIdle, ShowsGate, ShowsRelay}
 use Rattle.hb_relays.proofs.Showing.{raw_rests}
-use Rattle.hb_relays.proofs.Staying.{told_stays, Stays, inner_stays, stays_then, part_back, unborn_is}
 
--- A LINK THAT IS OPEN STAYS SO
-
--- what follows by itself closes no link, and leads to no birth
-record Goes (x y : Captured) : Type 0 where
-  stays : Stays x y
-  back : y.stage ≡ m.unborn → x.stage ≡ m.unborn
-
-same_goes : (x y : Captured) → y ≡ x → Goes x y
-same_goes x y is = record {
-  stays = record { up = ap (λ (c : Captured). c.up) is; closed = ap (λ (c : Captured). c.closed) is };
-  back = λ now. ap (λ (c : Captured). c.stage) (sym is) ∙ now;
-}
-
--- a part of one that follows, or of its stream, closes it not
-plain_stays : (a : Local) (p : Part) → IsPlainInner p → Stays a.link (next a p).link
-plain_stays a part.roomless inner = record { up = refl; closed = refl }
-plain_stays a p inner = inner_stays a p inner
-
-stream_stays : (n s : ℕ) (w : Shared) (a : Local) → Stays a.link (next a (captured_part n s w)).link
-stream_stays n s (asks authority) a = record { up = refl; closed = refl }
-stream_stays n s (tells heard begun) a = told_stays heard begun a.link
-stream_stays n s (puts waiting count) a = record { up = refl; closed = refl }
-stream_stays n s finishes a = record { up = refl; closed = refl }
-stream_stays n s (credits count) a = record { up = refl; closed = refl }
-stream_stays n s (drops begun) a = record { up = refl; closed = refl }
-stream_stays n s (completes begun note) a = record { up = refl; closed = refl }
-
-stream_next : (n s : ℕ) (w : Shared) (a : Local) → (next a (captured_part n s w)).link ≡ next_link a.link (captured_part n s w)
-stream_next n s (asks authority) a = refl
-stream_next n s (tells heard begun) a = refl
-stream_next n s (puts waiting count) a = refl
-stream_next n s finishes a = refl
-stream_next n s (credits count) a = refl
-stream_next n s (drops begun) a = refl
-stream_next n s (completes begun note) a = refl
-
-then_goes : (x y z : Captured) → Goes x y → Goes y z → Goes x z
-then_goes x y z first rest =
-    record { stays = stays_then x y z first.stays rest.stays; back = λ now. first.back (rest.back now) }
-
-points_go : (g : NodeConfig) (x : Machine) (more : List Point) (y : Machine) → Leads g x more y → (n : ℕ) → Goes (x.plain n) (y.plain n)
-points_go g x [] y is n = same_goes (x.plain n) (y.plain n) (ap (λ (w : Machine). w.plain n) is)
-points_go g x (of_control q ∷ more) y is n = absurd is.0
-points_go g x (of_link l p ∷ more) y is n = absurd is.0
-points_go g x (of_gate m p ∷ more) y (inner, mid, steps, leads) n =
-    then_goes (x.plain n) (mid.plain n) (y.plain n) (same_goes (x.plain n) (mid.plain n) (ap (λ (w : Machine). w.plain n) steps.3))
-    (points_go g mid more y leads n)
-points_go g x (of_stream l m s w ∷ more) y (inner, mid, steps, leads) n =
-    then_goes (x.plain n) (mid.plain n) (y.plain n) (by (cases_eq n l)) (points_go g mid more y leads n)
-  where
-    changed : Captured
-    changed = next_link (x.plain l) (captured_part m s w)
-
-    by : (n ≡ l) ⊎ (n ≢ l) → Goes (x.plain n) (mid.plain n)
-    by (inl same) =
-        subst (λ (i : ℕ). Goes (x.plain i) (mid.plain i)) (sym same)
-        (subst (λ (c : Captured). Goes (x.plain l) c)
-        (sym (ap (λ (z : Machine). z.plain l) steps.4 ∙ ap (λ (b : Bool). cond b changed (x.plain l)) (eq-eqb l l refl)
-        ∙ sym (stream_next m s w (plain_local x l))))
-        (record { stays = stream_stays m s w (plain_local x l); back = part_back (plain_local x l) (captured_part m s w) }))
-    by (inr apart) =
-        same_goes (x.plain n) (mid.plain n)
-        (ap (λ (z : Machine). z.plain n) steps.4 ∙ ap (λ (b : Bool). cond b changed (x.plain n)) (ne_eqb n l apart))
-points_go g x (of_plain l p ∷ more) y (inner, mid, steps, leads) n =
-    then_goes (x.plain n) (mid.plain n) (y.plain n) (by (cases_eq n l)) (points_go g mid more y leads n)
-  where
-    by : (n ≡ l) ⊎ (n ≢ l) → Goes (x.plain n) (mid.plain n)
-    by (inl same) =
-        subst (λ (i : ℕ). Goes (x.plain i) (mid.plain i)) (sym same)
-        (subst (λ (c : Captured). Goes (x.plain l) c)
-        (sym (ap (λ (w : Machine). w.plain l) steps.2 ∙ ap (λ (c : Local). c.link) (here g x l p steps.1)))
-        (record { stays = plain_stays (plain_local x l) p inner; back = part_back (plain_local x l) p }))
-    by (inr apart) = same_goes (x.plain n) (mid.plain n) (ap (λ (w : Machine). w.plain n) steps.2 ∙ there x l p _ n apart)
+-- A LINK THAT IS TAKEN IN IS KEPT
 
 unkept : (o : Option Relay) (n : ℕ) (x z : Captured) → x.stage ≡ m.unborn → ShowsRelay n o x → ShowsRelay n o z → IsAway z
 unkept None n x z unborn was now = now
 unkept (Some w) n x z unborn was now = absurd (subst (λ (s : Stage). IsPlainThereBy s x.closed) unborn was.2)
 
 pub forgets_link : ForgetsLink
-forgets_link g x y points k d n stands shows steps begins =
-    let came = entry (e.Accepted n d) in
-    let follows = begins g x y points stands shows tt steps in
-    let z = follows.reached in
-    let none = unborn_is n (at_start g) (plain_local x n) (plain_of n points) (plain_runs g x points n stands) steps.0.1 in
-    let y_is : y.plain n ≡ record (x.plain n) { door = d; stage = m.arriving } =
-    ap (λ (w : Machine). w.plain n) steps.2 ∙ ap (λ (c : Local). c.link) (here g x n came steps.1) in
-    let goes = points_go g y follows.more z follows.leads n in
-    let opens : (z.plain n).closed ≡ false =
-    goes.stays.closed ∙ ap (λ (c : Captured). c.closed) y_is ∙ ap (λ (c : Captured). c.closed) none in
-    let away = unkept (get k.relays n) n (x.plain n) (z.plain n) steps.0.1 (shows.relays n) (follows.shows.relays n) in
-    let both : m.arriving ≡ m.unborn =
-    sym (ap (λ (c : Captured). c.stage) y_is) ∙ goes.back ((away_is (z.plain n) away).unborn opens) in
-    cc both
+forgets_link g x y points k d n stands shows few steps begins =
+    let did = begins g x y points stands shows few steps in
+    let fronts : (did.0.plain n).stage ≡ m.fronting =
+    ap (λ (w : Machine). (w.plain n).stage) did.1.2
+    ∙ ap (λ (b : Bool). (cond b (at_stage m.fronting (y.plain n)) (y.plain n)).stage) (eq-eqb n n refl) in
+    let away = unkept (get k.relays n) n (x.plain n) (did.0.plain n) steps.0.1 (shows.relays n) (did.2.relays n) in
+    subst (λ (s : Stage). IsAwayBy s (did.0.plain n)) fronts away
 
 -- ONE LINK
 

@@ -1,6 +1,6 @@
--- The first link to a gateway that has room, and the walk over links that want one.
-use Rattle.std.proofs.Common.{◌≡◌, inl, inr, ⊎_elim, ℕ, ◌<◌, ◌^◌, ◌-◌, ◌==◌, ◌&&◌, ◌||◌, Bool, true, false, List, Option, Some, None, IsSome, is_some, refl, ap, sym, ◌∙◌, subst, arith}
-use Rattle.std.proofs.lemmas.Bool.{cases_order, eq-eqb, false≢true, ltb-true, lt-ltb, or_left}
+-- The first link to a gateway that has room.
+use Rattle.std.proofs.Common.{◌≡◌, inl, inr, ⊎_elim, ℕ, ◌<◌, ◌^◌, ◌-◌, ◌&&◌, Bool, true, false, List, Option, Some, None, IsSome, is_some, refl, ap, sym, ◌∙◌, subst, arith}
+use Rattle.std.proofs.lemmas.Bool.{cases_order, false≢true, ltb-true, lt-ltb}
 use Rattle.std.specs.FinMap.{FinMap, get}
 use Rattle.std.specs.Option.{option_map}
 use Rattle.std.specs.Ordering.{nat_cmp}
@@ -11,21 +11,16 @@ use Rattle.hb_gateway.specs.Gateway as gateway
 use Rattle.hb_gateway.specs.Gateway.{Gateway, Phase, carries, has_room, offers}
 use Rattle.hb_gateway.specs.Key.{Key}
 use Rattle.hb_gateway.specs.Runs as gateways
-use Rattle.hb_link.specs.Noted.{Told}
 use Rattle.hb_map.specs.Keyed.{IsFirstFrom}
 use Rattle.hb_model.specs.declared.config.NodeConfig.{NodeConfig}
 use Rattle.hb_proxy.specs.Machine.{Machine, outward}
 use Rattle.hb_proxy.proofs.Gates.{gates_run}
 use Rattle.hb_proxy.specs.Points.{Point, gates_of}
 use Rattle.hb_proxy.specs.Runs.{StandsFor}
-use Rattle.hb_relay.specs.declared.relay.Relay.{Relay}
-use Rattle.hb_relays.specs.Joining.{Gates, Links, Streams, ShowsSome, GoesOn, OnRuns, AreShown, HasRoom, OffersOn, OffersAt, IsBehind, FirstOffers, Joins, JoinsAll, all, also}
+use Rattle.hb_relays.specs.Joining.{Gates, Links, Streams, ShowsSome, AreShown, HasRoom, OffersOn, OffersAt, IsBehind, FirstOffers}
 use Rattle.hb_relays.specs.Pumping.{is_before}
-use Rattle.hb_relays.specs.Shows.{IsGateAway, ShowsGate, ShowsRelay}
+use Rattle.hb_relays.specs.Shows.{IsGateAway, ShowsGate}
 use Rattle.hb_relays.specs.declared.relays.Relays.{Relays}
-use Rattle.hb_relays.proofs.Onward.{shows_as, goes_nowhere, goes_as}
-use Rattle.hb_relays.proofs.Progress.{stands_on, goes_then}
-use Rattle.hb_relays.proofs.PumpedLink.{away_undue}
 
 -- ONE LINK TO A GATEWAY
 
@@ -125,41 +120,6 @@ all_shown waiting resting calm g k x points stands shows = record {
   shown = shows.gates;
   numbered = shows.gate_numbered;
 }
-
--- EACH LINK GETS ITS STREAM: those in front of a number have
-abbrev pub JoinedBefore : Option ℕ → Relays → Relays → Type 0
-JoinedBefore from old new =
-    OnRuns old (λ w r g x. (told : Told) → GoesOn (λ j. is_before j from) r all g x new told told)
-
-pub join_starts : (k : Relays) (first : Option ℕ) → IsFirstFrom k.relays 0 first → JoinedBefore first k k
-join_starts k first is w r g x points stands shows told =
-    goes_nowhere (λ j. is_before j first) r all g x k told
-    (shows_as w (λ j. is_before j first) r r all g k (outward x) shows (λ l rests. shows.streams l rests)
-    (λ l before waits. absurd (away_undue (x.plain l) (subst (λ (o : Option Relay). ShowsRelay l o (x.plain l))
-    (before_first k.relays first is l before) (shows.relays l)) waits)))
-
-pub join_goes : (k mid new : Relays) (n : ℕ) (next : Option ℕ) → JoinedBefore (Some n) k mid → Joins n mid new
-    → IsBehind new.relays n next → JoinedBefore next k new
-join_goes k mid new n next so_far joins is w r g x points stands shows told =
-    let one = so_far w r g x points stands shows told in
-    let on = stands_on g x points one.more one.reached stands one.leads in
-    let two = joins (λ j. is_before j (Some n)) r g one.reached on.0 on.1 one.shows told in
-    let both = goes_then (λ j. is_before j (Some n)) (also n (λ j. is_before j (Some n))) r r all all g x mid new told told told one two in
-    goes_as (also n (λ j. is_before j (Some n))) (λ j. is_before j next) r r all g x new told told both
-    (λ l rests. both.shows.streams l rests)
-    (λ l before waits. ⊎_elim
-    (λ same. both.shows.wanting l (or_left (l == n) (is_before l (Some n)) (eq-eqb l n same)) waits)
-    (⊎_elim (λ low. both.shows.wanting l (or_also (l == n) (is_before l (Some n)) (lt-ltb l n low)) waits)
-    (λ high. absurd (away_undue (both.reached.plain l) (subst (λ (o : Option Relay). ShowsRelay l o (both.reached.plain l))
-    (between new.relays n next both.shows.numbered is l high before) (both.shows.relays l)) waits)))
-    (cases_order l n))
-  where
-    or_also : (a b : Bool) → b ≡ true → (a || b) ≡ true
-    or_also true b is = refl
-    or_also false b is = is
-
-pub join_ends : (k new : Relays) → JoinedBefore None k new → JoinsAll k new
-join_ends k new so_far w r g x points stands shows told = so_far w r g x points stands shows told
 
 -- how many numbers are left
 abbrev pub numbers_left : Option ℕ → ℕ

@@ -30,7 +30,7 @@ shows_as waiting fewer resting less calm g k x shows rests waits = record {
 }
 
 -- nothing is done
-pub goes_nowhere : (waiting : Links) (resting : Streams) (calm : Links) (g : NodeConfig) (x : Machine) (k : Relays) (told : Told)
+abbrev pub goes_nowhere : (waiting : Links) (resting : Streams) (calm : Links) (g : NodeConfig) (x : Machine) (k : Relays) (told : Told)
     → ShowsSome waiting resting calm g k (outward x) → GoesOn waiting resting calm g x k told told
 goes_nowhere waiting resting calm g x k told shows = record {
   more = [];

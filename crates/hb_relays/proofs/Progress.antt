@@ -11,7 +11,7 @@ use Rattle.hb_proxy.specs.Notes.{notes, note_in}
 use Rattle.hb_proxy.specs.Points.{Point}
 use Rattle.hb_proxy.specs.Runs.{StandsFor, goes_on}
 use Rattle.hb_relays.specs.Joining.{Links, Streams, ShowsSome, GoesOn, all, every}
-use Rattle.hb_relays.specs.Reaches.{Leads, Follows}
+use Rattle.hb_relays.specs.Reaches.{IsInner, Leads, LeadsBy, Follows}
 use Rattle.hb_relays.specs.Shows.{ShowsRelays}
 use Rattle.hb_relays.specs.declared.relays.Relays.{Relays}
 
@@ -70,17 +70,25 @@ is_all some streams calm g k x waits rests calms shows = record {
 
 -- POINTS ONE AFTER ANOTHER
 
+pub append_by : (I : Point → Type 0) (g : NodeConfig) (x y z : Machine) (first more : List Point) → LeadsBy I g x first y
+    → LeadsBy I g y more z → LeadsBy I g x (first ++ more) z
+append_by I g x y z [] more is behind = subst (λ (w : Machine). LeadsBy I g w more z) is behind
+append_by I g x y z (p ∷ first) more is behind = (is.0, is.1, is.2, append_by I g is.1 y z first more is.3 behind)
+
 pub leads_append : (g : NodeConfig) (x y z : Machine) (first more : List Point) → Leads g x first y → Leads g y more z
     → Leads g x (first ++ more) z
-leads_append g x y z [] more is behind = subst (λ (w : Machine). Leads g w more z) is behind
-leads_append g x y z (p ∷ first) more is behind = (is.0, is.1, is.2, leads_append g is.1 y z first more is.3 behind)
+leads_append g x y z first more is behind = append_by IsInner g x y z first more is behind
 
 -- a run goes on by them
+pub stands_by : (I : Point → Type 0) (g : NodeConfig) (x : Machine) (points : List Point) (more : List Point) (y : Machine)
+    → StandsFor g x points → LeadsBy I g x more y → (all_points : List Point) × StandsFor g y all_points
+stands_by I g x points [] y stands is = (points, subst (λ (w : Machine). StandsFor g w points) (sym is) stands)
+stands_by I g x points (p ∷ more) y stands is =
+    stands_by I g is.1 (points ++ p ∷ []) more y (goes_on stands p is.2 refl) is.3
+
 pub stands_on : (g : NodeConfig) (x : Machine) (points : List Point) (more : List Point) (y : Machine) → StandsFor g x points
     → Leads g x more y → (all_points : List Point) × StandsFor g y all_points
-stands_on g x points [] y stands is = (points, subst (λ (w : Machine). StandsFor g w points) (sym is) stands)
-stands_on g x points (p ∷ more) y stands is =
-    stands_on g is.1 (points ++ p ∷ []) more y (goes_on stands p is.2 refl) is.3
+stands_on g x points more y stands is = stands_by IsInner g x points more y stands is
 
 pub noted_then : (told mid now : Told) (first more : List Point) → Takes told (notes first) mid → Takes mid (notes more) now
     → Takes told (notes (first ++ more)) now
@@ -132,7 +140,7 @@ comes_whole some streams calm g x k told now waits rests calms comes = record {
   noted = comes.noted;
 }
 
-pub goes_follow : (g : NodeConfig) (x : Machine) (k : Relays) (told now : Told) → GoesOn all every all g x k told now
+abbrev pub goes_follow : (g : NodeConfig) (x : Machine) (k : Relays) (told now : Told) → GoesOn all every all g x k told now
     → Follows g x k told now
 goes_follow g x k told now goes = record {
   more = goes.more;

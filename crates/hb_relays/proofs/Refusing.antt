@@ -1,5 +1,5 @@
 -- A link for which there is no room is refused, with what follows by itself.
-use Rattle.std.proofs.Common.{◌≡◌, ◌≢◌, ⊎_elim, ℕ, ◌<◌, ◌^◌, true, false, List, ◌∷◌, map, Option, Some, None, is_some, refl, ap, sym, ◌∙◌, subst}
+use Rattle.std.proofs.Common.{◌≡◌, ◌≢◌, ⊎_elim, ℕ, ◌<◌, ◌^◌, not, Bool, true, false, List, [], ◌∷◌, map, Option, Some, None, is_some, refl, ap, sym, ◌∙◌, subst}
 use Rattle.std.proofs.lemmas.Bool.{cases_eq}
 use Rattle.std.specs.FinMap.{get, insert}
 use Rattle.hb_base.specs.declared.cause.Cause.TheVariants as cause
@@ -12,11 +12,13 @@ use Rattle.hb_captured.specs.Runs as captured
 use Rattle.hb_captured.specs.Runs.{Local, MayGo, next, next_link}
 use Rattle.hb_gateway.specs.Calm as gateway_calm
 use Rattle.hb_gateway.specs.Gateway.{Gateway}
+use Rattle.hb_gateway.specs.Key.{Key}
 use Rattle.hb_link.specs.Noted.{Told, Takes}
 use Rattle.hb_map.proofs.Laws.{put_here, put_elsewhere}
 use Rattle.hb_model.specs.declared.config.NodeConfig.{NodeConfig}
 use Rattle.hb_proxy.proofs.Plain.{plain_runs}
 use Rattle.hb_proxy.specs.Held.{at_start}
+use Rattle.hb_proxy.specs.Load.{LinksFull}
 use Rattle.hb_proxy.specs.Machine.{Machine, outward, plain_local, with_plain}
 use Rattle.hb_proxy.specs.Points.{Point, of_plain, plain_of}
 use Rattle.hb_proxy.specs.Runs.{PlainGuard, StandsFor, RestsAmong, IfThrough, NoneOffersAmong, routing_of}
@@ -27,24 +29,61 @@ use Rattle.hb_relay.specs.Shows.{HasUpstream}
 use Rattle.hb_relay.specs.Streamed.{LacksRoom}
 use Rattle.hb_relay.specs.declared.relay.Relay.{Relay}
 use Rattle.hb_relay.specs.declared.routes.Routes.{Routes}
-use Rattle.hb_relays.specs.Joining.{Streams, ShowsSome, GoesOn, IsWanting, Refuses, WaitsFor, all}
+use Rattle.hb_relays.specs.Joining.{Streams, ShowsSome, GoesOnBy, IsWanting, Refuses, WaitsFor, all}
+use Rattle.hb_relays.specs.Reaches.{FindsRoom, IsRefusing}
 use Rattle.hb_relays.specs.Shows.{IsIdle, ShowsRelay, ShowsGate}
 use Rattle.hb_relays.specs.Walks.{relays_with, routes_with, touched_at}
 use Rattle.hb_relays.specs.declared.relays.Relays.{Relays}
+use Rattle.hb_relays.proofs.Due.{leads_refusing}
 use Rattle.hb_relays.proofs.Lifted.{Lifted, lifted, counts, here, there, notes_of}
 use Rattle.hb_relays.proofs.Onward.{goes_nowhere}
+use Rattle.hb_relays.proofs.PumpedLink.{away_undue}
 use Rattle.hb_relays.proofs.Showing.{opens_by, raw_rests, same_ups, there_by, ups_same}
 use Rattle.hb_relays.proofs.Staying.{is_begun, begun_undue, leads_begun, leads_gate, leads_stay}
 use Rattle.hb_relays.proofs.Touching.{untouched}
 
--- nothing is done
-pub refuses_none : (k : Relays) (told : Told) → Refuses k told k told
-refuses_none k told resting g x points stands shows = goes_nowhere all resting all g x k told shows
+-- nothing is done where it finds room
+stays_so : (k : Relays) (l : ℕ) (room : Bool) (told : Told)
+    → ((resting : Streams) (g : NodeConfig) (x : Machine) (points : List Point) → StandsFor g x points
+    → ShowsSome all resting all g k (outward x) → FindsRoom room (x.plain l)) → Refuses l room k told k told
+stays_so k l room told finds resting g x points stands shows full =
+    let goes = goes_nowhere all resting all g x k told shows in (
+      record {
+        more = [];
+        reached = x;
+        leads = refl;
+        shows = shows;
+        undue = goes.undue;
+        noted = goes.noted;
+      },
+      finds resting g x points stands shows,
+    )
+
+has_room : (o : Option Key) → IfThrough o (λ key. true ≡ true)
+has_room None = tt
+has_room (Some key) = refl
+
+pub refuses_none : (k : Relays) (l : ℕ) (room : Bool) (told : Told) → room ≡ true → Refuses l room k told k told
+refuses_none k l room told is =
+    stays_so k l room told (λ resting g x points stands shows.
+    subst (λ (b : Bool). FindsRoom b (x.plain l)) (sym is) (λ stage. has_room (key_of (x.plain l).aim)))
+
+-- or waits for no link to a gateway, or isn't there
+pub refuses_unwanted : (k : Relays) (l : ℕ) (room : Bool) (told : Told) → IsWanting l k false → Refuses l room k told k told
+refuses_unwanted k l room told none =
+    stays_so k l room told (λ resting g x points stands shows stage.
+    subst (λ (o : Option Key). IfThrough o (λ key. room ≡ true)) (sym (none all resting g x points stands shows stage)) tt)
+
+pub refuses_away : (k : Relays) (l : ℕ) (room : Bool) (told : Told) → get k.relays l ≡ None → Refuses l room k told k told
+refuses_away k l room told gone =
+    stays_so k l room told (λ resting g x points stands shows stage.
+    absurd (away_undue (x.plain l) (subst (λ (o : Option Relay). ShowsRelay l o (x.plain l)) gone (shows.relays l)) stage))
 
 module _ (g : NodeConfig) (k : Relays) (l : ℕ) (old new : Relay) (routes : Routes) (told now : Told) (made : Option Note)
     (resting : Streams) (x : Machine) (points : List Point) (stands : StandsFor g x points)
     (shows : ShowsSome all resting all g k (outward x)) (is : get k.relays l ≡ Some old) (wants : WaitsFor l x)
-    (lacks : LacksRoom old (code_routing k.routes) new (code_routing routes) made) (takes : Takes told (note_if made) now) where
+    (lacks : LacksRoom old (code_routing k.routes) new (code_routing routes) made) (takes : Takes told (note_if made) now)
+    (full : LinksFull true g x) where
   shown : ShowsRelay l (Some old) (x.plain l)
   shown = subst (λ (o : Option Relay). ShowsRelay l o (x.plain l)) is (shows.relays l)
 
@@ -52,7 +91,7 @@ module _ (g : NodeConfig) (k : Relays) (l : ℕ) (old new : Relay) (routes : Rou
   may = (wants.waits, wants.keyed)
 
   guard : PlainGuard g x l roomless
-  guard = shows.wanting l refl wants.waits
+  guard = (shows.wanting l refl wants.waits, full)
 
   abbrev y : Machine
   y = with_plain l roomless (next_link (x.plain l) roomless) x
@@ -80,7 +119,7 @@ module _ (g : NodeConfig) (k : Relays) (l : ℕ) (old new : Relay) (routes : Rou
       (rerouted (x.plain l) (next (plain_local x l) roomless).link (code_routing k.routes)) c one.parts one.reached (code_routing routes))
       (sym (here g x l roomless guard)) one.leads)
 
-  then : Lifted g l y one.parts one.reached (code_routing routes)
+  abbrev then : Lifted g l y one.parts one.reached (code_routing routes)
   then = lifted g l y one.parts one.reached (code_routing routes) leads
 
   abbrev z : ℕ → Captured
@@ -155,11 +194,11 @@ module _ (g : NodeConfig) (k : Relays) (l : ℕ) (old new : Relay) (routes : Rou
         (cases_eq j l);
   }
 
-  refused_goes : GoesOn all resting all g x (touched_at l (routes_with routes (relays_with (insert k.relays l new) k.ups k))) told now
+  abbrev refused_goes : GoesOnBy IsRefusing all resting all g x (touched_at l (routes_with routes (relays_with (insert k.relays l new) k.ups k))) told now
   refused_goes = record {
     more = of_plain l roomless ∷ map (of_plain l) one.parts;
     reached = then.y;
-    leads = (tt, y, (may, guard, refl), then.leads);
+    leads = (tt, y, (may, guard, refl), leads_refusing g y (map (of_plain l) one.parts) then.y then.leads);
     shows = refused_shows;
     undue = λ j was. ⊎_elim
         (λ at now_due. undue (ap (λ (i : ℕ). (z i).stage) (sym at) ∙ now_due))
@@ -170,11 +209,14 @@ module _ (g : NodeConfig) (k : Relays) (l : ℕ) (old new : Relay) (routes : Rou
   }
 
 -- it is refused
-pub refuses : (k new_all : Relays) (l : ℕ) (old new : Relay) (routes : Routes) (told now : Told) (made : Option Note)
+pub refuses : (k new_all : Relays) (l : ℕ) (room : Bool) (old new : Relay) (routes : Routes) (told now : Told) (made : Option Note)
     → get k.relays l ≡ Some old → IsWanting l k true → LacksRoom old (code_routing k.routes) new (code_routing routes) made
     → Takes told (note_if made) now → new_all ≡ touched_at l (routes_with routes (relays_with (insert k.relays l new) k.ups k))
-    → Refuses k told new_all now
-refuses k new_all l old new routes told now made is wants lacks takes new_is resting g x points stands shows =
-    subst (λ (w : Relays). GoesOn all resting all g x w told now) (sym new_is)
-    (refused_goes g k l old new routes told now made resting x points stands shows is (wants all resting g x points stands shows refl) lacks
-    takes)
+    → room ≡ false → Refuses l room k told new_all now
+refuses k new_all l room old new routes told now made is wants lacks takes new_is none resting g x points stands shows full =
+    let waits = wants all resting g x points stands shows in
+    let so = subst (λ (b : Bool). LinksFull (not b) g x) none (full waits.waits) in
+    subst (λ (w : Relays). (goes : GoesOnBy IsRefusing all resting all g x w told now) × FindsRoom room (goes.reached.plain l)) (sym new_is) (
+      refused_goes g k l old new routes told now made resting x points stands shows is waits lacks takes so,
+      λ stage. absurd (undue g k l old new routes told now made resting x points stands shows is waits lacks takes so stage),
+    )

@@ -7,7 +7,7 @@ use Rattle.hb_base.specs.declared.door.Why.{Why}
 use Rattle.hb_base.specs.declared.door.Why.TheVariants as whys
 use Rattle.hb_base.specs.declared.target.Target.{Target}
 use Rattle.hb_captured.specs.Calm as calm
-use Rattle.hb_captured.specs.Part.{entry, up, crowded}
+use Rattle.hb_captured.specs.Part.{Part, entry, up, welcomed, crowded}
 use Rattle.hb_disco.specs.declared.response.Response.{Response}
 use Rattle.hb_gate.specs.Observed as gate
 use Rattle.hb_gate.specs.declared.gate.Gate.{Gate}
@@ -21,6 +21,7 @@ use Rattle.hb_held.specs.Outcome.{after_response}
 use Rattle.hb_link.specs.Noted.{Told}
 use Rattle.hb_model.specs.Point as point
 use Rattle.hb_model.specs.declared.config.NodeConfig.{NodeConfig}
+use Rattle.hb_proxy.specs.Load.{PlacesFull}
 use Rattle.hb_proxy.specs.Machine.{Machine, Outward, outward}
 use Rattle.hb_proxy.specs.Points.{Point, of_control, of_plain, of_gate}
 use Rattle.hb_proxy.specs.Runs.{Steps, StandsFor}
@@ -30,7 +31,7 @@ use Rattle.hb_relay.specs.Shows.{captured_of}
 use Rattle.hb_relay.specs.declared.relay.Relay.{Relay}
 use Rattle.hb_world.specs.declared.entry.Entry.{Entry}
 use Rattle.hb_world.specs.declared.entry.Entry.TheVariants as e
-use Rattle.hb_relays.specs.Reaches.{Meets, any}
+use Rattle.hb_relays.specs.Reaches.{Follows, Meets, MeetsIn, NoneWaits, OnlyWaits, any}
 use Rattle.hb_relays.specs.Shows.{ShowsRelays}
 use Rattle.hb_relays.specs.declared.relays.Relays.{Relays}
 
@@ -72,29 +73,35 @@ GateGoes n count old told new now = (bytes : List ℕ) → length bytes ≡ coun
 abbrev pub Goes : (n count : ℕ) → Relays → Told → Relays → Told → Type 0
 Goes n count old told new now = (bytes : List ℕ) → length bytes ≡ count → Enters n (e.Went n bytes) old told new now
 
--- bytes came, while this was held
-abbrev pub Takes : Resources → ℕ → List ℕ → Relays → Told → Relays → Told → Type 0
-Takes held n bytes old told new now = EntersWhere (λ x. x.control.held ≡ held) n (e.Came n bytes) old told new now
+-- bytes came, while this was held, and while one link more could be or not
+abbrev pub Takes : Resources → (room : Bool) → ℕ → List ℕ → Relays → Told → Relays → Told → Type 0
+Takes held room n bytes old told new now =
+    (p : Point) → point_for old n (e.Came n bytes) ≡ Some p → MeetsIn held room p old told new now
 
--- a link is accepted at a door, and no note is made
-abbrev pub Begins : Door → ℕ → Relays → Relays → Type 0
-Begins d n old new = Meets any (of_plain n (entry (e.Accepted n d))) old (Some []) new (Some [])
-
--- a link is accepted where as many are open as may be: behind its birth it is turned away
-abbrev pub TurnsAway : Door → ℕ → Relays → Relays → Type 0
-TurnsAway d n old new =
-    (g : NodeConfig) (x y : Machine) (points : List Point) → StandsFor g x points → ShowsRelays g old (outward x)
+-- a link is accepted at a door, of which this is made behind its birth where all places are taken, or not; no note is made
+abbrev pub IsBorn : Part → (full : Bool) → Door → ℕ → Relays → Relays → Type 0
+IsBorn p full d n old new =
+    (g : NodeConfig) (x y : Machine) (points : List Point) → StandsFor g x points → ShowsRelays g old (outward x) → PlacesFull full g x
     → Steps g x (of_plain n (entry (e.Accepted n d))) y
-    → (z : Machine) × Steps g y (of_plain n crowded) z × ShowsRelays g new (outward z)
+    → (z : Machine) × Steps g y (of_plain n p) z × ShowsRelays g new (outward z)
+
+-- it is taken in, or turned away
+abbrev pub Begins : Door → ℕ → Relays → Relays → Type 0
+Begins d n old new = IsBorn welcomed false d n old new
+
+abbrev pub TurnsAway : Door → ℕ → Relays → Relays → Type 0
+TurnsAway d n old new = IsBorn crowded true d n old new
 
 -- the dial for a link gave the link u, or none
 abbrev pub Dials : (l u : ℕ) → Relays → Relays → Type 0
 Dials l u old new = (to : Target) (why : Why) → Meets any (of_plain l (up (e.Dialled u to why))) old (Some []) new (Some [])
 
--- that of a link to a gateway for a link gave the link n
+-- that of a link to a gateway for a link, which alone waits, gave the link n: none waits then
 abbrev pub DialsGate : (a n : ℕ) → Relays → Relays → Type 0
 DialsGate a n old new =
-    (to : Target) (key : Key) → Meets any (of_gate n (gateway.dialled (e.Dialled n to (whys.Gateway a)) key)) old (Some []) new (Some [])
+    (to : Target) (key : Key) (g : NodeConfig) (x y : Machine) (points : List Point) → StandsFor g x points
+    → ShowsRelays g old (outward x) → OnlyWaits a x → Steps g x (of_gate n (gateway.dialled (e.Dialled n to (whys.Gateway a)) key)) y
+    → (follows : Follows g y new (Some []) (Some [])) × NoneWaits follows.reached
 
 abbrev pub DialFails : ℕ → Relays → Told → Relays → Told → Type 0
 DialFails l old told new now = (to : Target) (why : Why) → Meets any (of_plain l (up (e.DialFailed to why))) old told new now

@@ -15,12 +15,13 @@ use Rattle.hb_gateway.specs.Runs as gateway
 use Rattle.hb_link.specs.Noted.{Told, Takes}
 use Rattle.hb_map.specs.Keyed.{IsFirstFrom}
 use Rattle.hb_model.specs.declared.config.NodeConfig.{NodeConfig}
+use Rattle.hb_proxy.specs.Load.{LinksFull}
 use Rattle.hb_proxy.specs.Machine.{Machine, Outward, outward}
 use Rattle.hb_proxy.specs.Notes.{notes}
 use Rattle.hb_proxy.specs.Points.{Point}
 use Rattle.hb_proxy.specs.Runs.{Asks, StandsFor, RestsAmong, IfThrough, NoneOffersAmong}
 use Rattle.hb_relay.specs.Answering.{routing_of}
-use Rattle.hb_relays.specs.Reaches.{Leads}
+use Rattle.hb_relays.specs.Reaches.{FindsRoom, IsInner, IsRefusing, LeadsBy}
 use Rattle.hb_relays.specs.Shows.{IsIdle, IsIndex, ShowsRelay, ShowsGate}
 use Rattle.hb_relays.specs.Touched.{is_touched}
 use Rattle.hb_relays.specs.declared.relays.Relays.{Relays}
@@ -71,14 +72,18 @@ pub record ShowsSome (waiting : Links) (resting : Streams) (calm : Links) (g : N
   pub wanting : (l : ℕ) → waiting l ≡ true → (x.plain l).stage ≡ due → IfThrough (key_of (x.plain l).aim) (NoneOffersAmong x.gates)
 
 -- Such points lead on from a machine to one that the code shows so, and none is due that wasn't
-pub record GoesOn (waiting : Links) (resting : Streams) (calm : Links) (g : NodeConfig) (x : Machine) (k : Relays)
+pub record GoesOnBy (I : Point → Type 0) (waiting : Links) (resting : Streams) (calm : Links) (g : NodeConfig) (x : Machine) (k : Relays)
     (told now : Told) : Type 0 where
   pub more : List Point
   pub reached : Machine
-  pub leads : Leads g x more reached
+  pub leads : LeadsBy I g x more reached
   pub shows : ShowsSome waiting resting calm g k (outward reached)
   pub undue : (l : ℕ) → (x.plain l).stage ≢ due → (reached.plain l).stage ≢ due
   pub noted : Takes told (notes more) now
+
+-- of points that follow by themselves
+abbrev pub GoesOn : (waiting : Links) (resting : Streams) (calm : Links) → NodeConfig → Machine → Relays → Told → Told → Type 0
+GoesOn waiting resting calm g x k told now = GoesOnBy IsInner waiting resting calm g x k told now
 
 -- so it is for each run of the whole that was shown so, whatever is known of other links
 abbrev pub OnRuns : Relays → (Links → Streams → NodeConfig → Machine → Type 0) → Type 0
@@ -86,18 +91,18 @@ OnRuns old P =
     (waiting : Links) (resting : Streams) (g : NodeConfig) (x : Machine) (points : List Point) → StandsFor g x points
     → ShowsSome waiting resting all g old (outward x) → P waiting resting g x
 
--- A LINK THAT WANTS ONE GETS ITS STREAM: where it still waits behind that, none has room for it; so it is of each
+-- A LINK THAT WANTS ONE GETS ITS STREAM: where it still waits behind that, none has room for it, and nothing was done
 abbrev pub Joins : ℕ → Relays → Relays → Type 0
-Joins l old new = OnRuns old (λ w r g x. (told : Told) → GoesOn (also l w) r all g x new told told)
-
-abbrev pub JoinsAll : Relays → Relays → Type 0
-JoinsAll old new = OnRuns old (λ w r g x. (told : Told) → GoesOn all r all g x new told told)
+Joins l old new =
+    OnRuns old (λ w r g x. (told : Told) → (goes : GoesOn (also l w) r all g x new told told)
+    × ((goes.reached.plain l).stage ≡ due → goes.reached ≡ x))
 
 -- one for which none has room, and none may be dialled, is refused
-abbrev pub Refuses : Relays → Told → Relays → Told → Type 0
-Refuses old told new now =
+abbrev pub Refuses : ℕ → (room : Bool) → Relays → Told → Relays → Told → Type 0
+Refuses l room old told new now =
     (resting : Streams) (g : NodeConfig) (x : Machine) (points : List Point) → StandsFor g x points
-    → ShowsSome all resting all g old (outward x) → GoesOn all resting all g x new told now
+    → ShowsSome all resting all g old (outward x) → ((x.plain l).stage ≡ due → LinksFull (not room) g x)
+    → (goes : GoesOnBy IsRefusing all resting all g x new told now) × FindsRoom room (goes.reached.plain l)
 
 -- WHICH LINK TO A GATEWAY IT TAKES: of whatever machines those of the code show, each of a run, the first one for a key that has room
 pub record AreShown (gates : Gates) (f : ℕ → Gateway) : Type 0 where
@@ -152,5 +157,9 @@ pub record WaitsFor (l : ℕ) (x : Machine) : Type 0 where
   pub waits : (x.plain l).stage ≡ due
   pub keyed : IsSome (key_of (x.plain l).aim)
 
+abbrev pub WaitsIf : Bool → ℕ → Machine → Type 0
+WaitsIf true l x = WaitsFor l x
+WaitsIf false l x = (x.plain l).stage ≡ due → key_of (x.plain l).aim ≡ None
+
 abbrev pub IsWanting : ℕ → Relays → Bool → Type 0
-IsWanting l k is = OfRuns k (λ x. is ≡ true → WaitsFor l x)
+IsWanting l k is = OfRuns k (WaitsIf is l)

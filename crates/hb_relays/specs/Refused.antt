@@ -11,6 +11,7 @@ use Rattle.hb_gate.specs.declared.gate.Gate.{Gate}
 use Rattle.hb_gateway.specs.Gateway as gateway
 use Rattle.hb_gateway.specs.Gateway.{opening, closing, closed, offers}
 use Rattle.hb_model.specs.declared.config.NodeConfig.{NodeConfig}
+use Rattle.hb_proxy.specs.Load.{PlacesFull}
 use Rattle.hb_proxy.specs.Machine.{Machine, Outward, outward}
 use Rattle.hb_proxy.specs.Points.{Point, of_plain}
 use Rattle.hb_proxy.specs.Runs.{Steps, StandsFor}
@@ -50,10 +51,10 @@ abbrev pub MissesDial : Type 0
 MissesDial = (g : NodeConfig) (k : Relays) (x : Outward) (l : ℕ)
     → (x.plain l).stage ≡ due → is_touched k.due l ≡ false → ShowsRelays g k x → ⊥
 
--- a link was accepted, and nothing changed
+-- a link was accepted where a place is free, and nothing changed
 abbrev pub ForgetsLink : Type 0
 ForgetsLink = (g : NodeConfig) (x y : Machine) (points : List Point) (k : Relays) (d : Door) (n : ℕ) → StandsFor g x points
-    → ShowsRelays g k (outward x) → Steps g x (of_plain n (entry (e.Accepted n d))) y → Begins d n k k → ⊥
+    → ShowsRelays g k (outward x) → PlacesFull false g x → Steps g x (of_plain n (entry (e.Accepted n d))) y → Begins d n k k → ⊥
 
 -- other connections are counted than the machine counts, or gateways have another port
 abbrev pub Miscounts : Type 0

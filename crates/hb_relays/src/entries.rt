@@ -69,7 +69,7 @@ impl Relays {
         self.look_all(number, notes)
     }
 
-    /// These bytes were read, while this was held; `room`: and a link to a gateway may be dialled.
+    /// These bytes were read, while this was held; `room`: and one link more may be, so that one to a gateway may be dialled.
     ///
     /// Errors: `NoMemory`, behind which the run ends.
     pub fn took<N: Notes>(
@@ -81,7 +81,7 @@ impl Relays {
         notes: &mut N,
     ) -> Result<(), NoMemory>
         requires { length b.now ≤ wants_of self.old number }
-        ensures meets { OnOk result (Takes held.now number b.now self.old (N.told notes.old) self.new (N.told notes.new)) }
+        ensures meets { OnOk result (Takes held.now room number b.now self.old (N.told notes.old) self.new (N.told notes.new)) }
         ensures stirs { OnOk result (Stirs self.old self.new) }
     {
         match self.ups.get(number).copied() {

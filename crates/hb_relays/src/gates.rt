@@ -35,7 +35,7 @@ fn is_more(look: Look) -> bool
 }
 
 impl Relays {
-    /// The dial for a link gave the link to a gateway of this number.
+    /// The dial for a link, which alone waits for one, gave the link to a gateway of this number.
     ///
     /// Errors: `NoMemory`, behind which the run ends.
     pub fn gate_dialled(&mut self, link: u64, number: u64) -> Result<(), NoMemory>
@@ -54,7 +54,7 @@ impl Relays {
         let gate = Gate::dialled(self.alloc, number, key.copy(self.alloc)?)?;
         self.gates.put(number, gate)?;
         self.touch_gate(number);
-        self.join_all()
+        self.join(link)
     }
 
     /// What a tunnel is to be told of its end.

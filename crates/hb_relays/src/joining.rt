@@ -2,7 +2,7 @@
 
 ghost use Rattle.std.specs.Prelude.{OnOk};
 ghost use Rattle.hb_gateway.specs.Keys.{key_as};
-ghost use Rattle.hb_relays.specs.Joining.{OffersAt, IsBehind, FirstOffers, MayAsk, IsWanting, Joins, JoinsAll, Refuses};
+ghost use Rattle.hb_relays.specs.Joining.{OffersAt, IsBehind, FirstOffers, MayAsk, IsWanting, Joins, Refuses};
 ghost use Rattle.hb_relays.specs.Stirring.{Stirs};
 
 use crate::relays::Relays;
@@ -94,7 +94,7 @@ impl Relays {
 
     /// Where it still wants one, and no link to its gateway may be dialled, it is refused.
     pub(crate) fn refuse_roomless<N: Notes>(&mut self, link: u64, room: bool, notes: &mut N)
-        ensures refuses { Refuses self.old (N.told notes.old) self.new (N.told notes.new) }
+        ensures refuses { Refuses link room self.old (N.told notes.old) self.new (N.told notes.new) }
         ensures stirs { Stirs self.old self.new }
     {
         if room {
@@ -109,20 +109,5 @@ impl Relays {
         let made = relay.lacks_room(&mut self.routes);
         self.touch(link);
         tell(made, notes);
-    }
-
-    /// So it is for each link that wants one.
-    ///
-    /// Errors: `NoMemory`, behind which the run ends.
-    pub(crate) fn join_all(&mut self) -> Result<(), NoMemory>
-        ensures joins { OnOk result (JoinsAll self.old self.new) }
-        ensures stirs { OnOk result (Stirs self.old self.new) }
-    {
-        let mut from = self.relays.first_from(0);
-        while let Some(number) = from {
-            self.join(number)?;
-            from = next_behind(&self.relays, number);
-        }
-        Ok(())
     }
 }

@@ -12,7 +12,15 @@ use Rattle.hb_world.specs.declared.entry.Entry.{Entry}
 -- what a run is asked for where no call names it
 
 abbrev pub nobody : NodeConfig
-nobody = record { id = []; discovery = record { ip = V4 0; port = 0 }; network = []; node = []; doors = no_doors; hbone_port = 15008 }
+nobody = record {
+  id = [];
+  discovery = record { ip = V4 0; port = 0 };
+  network = [];
+  node = [];
+  doors = no_doors;
+  hbone_port = 15008;
+  limits = record { links = 1024; tunnels = 4096 };
+}
 
 -- the proxy stands for a trace, once these notes of it were taken; it is asked for so, and audits that held that before hold this since
 -- the notes were told to them

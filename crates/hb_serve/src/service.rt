@@ -11,14 +11,11 @@ use crate::words::ServeWords;
 use hb_audit::{Audit, Audits};
 use hb_held::OwnDoors;
 use hb_turns::{Doors, Keep, ServeWords as LoopWords, Served, serve as run};
-use hb_whole::{Limits, Proxy};
+use hb_whole::Proxy;
 use hb_world::World;
 use std::alloc::Global;
 use std::marker::Brand;
 use std::mem;
-
-/// The most inbound links that may be open at a time.
-const MOST_LINKS: usize = 1024;
 
 /// What the event loop is asked for.
 fn loop_words(doors: OwnDoors, turns: u64, ticks: Option<u64>) -> LoopWords
@@ -49,12 +46,8 @@ fn serve_asked<G: Given, A: Audit, W: World>(
         (Serves words result keep.new (heard_of (held_by A.notes audits.old) (held_by A.notes audits.new))) }
     ensures faults { CountsWhole (W.seen world.old) (W.seen world.new) (is_fault result.end) }
 {
-    let limits = Limits {
-        links: MOST_LINKS,
-        tunnels: words.tunnels,
-    };
     let asked = loop_words(words.config.doors, words.turns, words.ticks);
-    let Ok(proxy) = Proxy::new(alloc, words.config, limits) else {
+    let Ok(proxy) = Proxy::new(alloc, words.config) else {
         return Served::nothing();
     };
     let told = mem::replace(audits, Audits::none(alloc));

@@ -5,10 +5,8 @@ use hb_model::NodeConfig;
 /// What a run of the proxy is asked for.
 #[derive(Drop)]
 pub struct ServeWords {
-    /// The node, with its doors.
+    /// The node, with its doors and its limits.
     pub config: NodeConfig,
-    /// The most tunnels at a time.
-    pub tunnels: usize,
     /// The most turns.
     pub turns: u64,
     /// The tick that ends the run; `None`: no number of them does.

@@ -30,6 +30,8 @@ use Rattle.hb_whole.specs.Stands.{Stands, EndsBy, ControlEnds}
 use Rattle.hb_whole.specs.declared.proxy.Proxy.{Proxy}
 use Rattle.hb_whole.proofs.Growing.{stood}
 use Rattle.hb_whole.proofs.Heard.{number_is}
+use Rattle.hb_whole.proofs.Keeping.{few_kept, step_keeps}
+use Rattle.hb_whole.proofs.Limited.{limited_then, none_arriving}
 use Rattle.hb_whole.proofs.Relays.{gates_calm, plain_calm}
 use Rattle.hb_whole.proofs.Routes.{seen_of, lives_then}
 use Rattle.hb_whole.proofs.Stirring.{StirsOn, all_stir, none_stir, other_stirs}
@@ -136,6 +138,9 @@ module _ (taken : List Note) (p : Proxy) (n : State) (l : ℕ) (cause : Cause)
       ) in
       stood taken p after trace (e.Closed l cause) s (with_control q m2 x) (of_control q ∷ []) acts.0
       (goes_on s.run (of_control q) steps refl) refl refl did.1 s.links s.relays (takes_none (told p.side.notes)) refl
+      (limited_then p after x (with_control q m2 x) refl acts.0 (λ is. is)
+      (few_kept p.control.config x (with_control q m2 x) (step_keeps p.control.config x (with_control q m2 x) (of_control q) tt steps)
+      (plain_calm p.side.relays s.relays) (none_arriving p.side.links x.inbound s.links)) s.limited)
       (closed_ends p.control.config x l cause p.ends_for s.ends) refl
 
   pub close_cause : (c : Cause) → p.ends_for ≡ Some c → cause ≡ c

@@ -1,30 +1,28 @@
 -- What follows by itself on the links that go out: it leaves the other parts as they are, and follows beside whatever these are.
 use Rattle.std.proofs.Common.{◌≡◌, ℕ, ◌<◌, ◌==◌, min, false, cond, List, [], ◌∷◌, refl, ap, sym, ◌∙◌, subst}
-use Rattle.hb_base.specs.declared.target.Target.{Target}
-use Rattle.hb_captured.specs.Answer.{key_of, through}
+use Rattle.hb_captured.specs.Answer.{through}
 use Rattle.hb_captured.specs.Counts.{counted_with}
 use Rattle.hb_captured.specs.Part as part
 use Rattle.hb_captured.specs.Runs.{Local, MayGo, next_link}
 use Rattle.hb_conn.specs.Observed.{creditable}
 use Rattle.hb_gateway.specs.Gateway.{Gateway, offers}
-use Rattle.hb_gateway.specs.Key.{Key}
 use Rattle.hb_gateway.specs.Part as gate
 use Rattle.hb_gateway.specs.Runs as gateway
-use Rattle.hb_inbound.specs.Inbound.{Inbound}
 use Rattle.hb_model.specs.Machine.{Machine as Control}
 use Rattle.hb_model.specs.declared.config.NodeConfig.{NodeConfig}
 use Rattle.hb_proxy.specs.Machine.{Machine, Outward, outward, plain_local, with_gate, with_plain, with_stream}
 use Rattle.hb_proxy.specs.Points.{Point, of_control, of_link, of_plain, of_gate, of_stream}
-use Rattle.hb_proxy.specs.Runs.{Asks, GateGuard, IfThrough, IsStreamOf, PlainGuard, Steps, StreamGuard}
+use Rattle.hb_proxy.specs.Runs.{GateGuard, IsStreamOf, PlainGuard, Steps, StreamGuard}
 use Rattle.hb_proxy.specs.Shared.{Shared, asks, puts, credits, captured_part, gateway_part}
-use Rattle.hb_relays.specs.Reaches.{IsInner, Leads}
+use Rattle.hb_relays.proofs.Due.{as_refusing}
+use Rattle.hb_relays.specs.Reaches.{IsInner, IsRefusing, Leads, LeadsBy}
 
 -- THE OTHER PARTS STAY
 pub record Keeps (x y : Machine) : Type 0 where
   pub control : y.control ≡ x.control
   pub inbound : y.inbound ≡ x.inbound
 
-pub step_keeps : (g : NodeConfig) (x y : Machine) (p : Point) → IsInner p → Steps g x p y → Keeps x y
+pub step_keeps : (g : NodeConfig) (x y : Machine) (p : Point) → IsRefusing p → Steps g x p y → Keeps x y
 step_keeps g x y (of_control q) inner steps = absurd inner
 step_keeps g x y (of_link l p) inner steps = absurd inner
 step_keeps g x y (of_plain l p) inner steps = record {
@@ -40,7 +38,7 @@ step_keeps g x y (of_stream l n s w) inner steps = record {
   inbound = ap (λ (w : Machine). w.inbound) steps.4;
 }
 
-pub leads_keep : (g : NodeConfig) (x y : Machine) (more : List Point) → Leads g x more y → Keeps x y
+pub leads_keep : (g : NodeConfig) (x y : Machine) (more : List Point) → LeadsBy IsRefusing g x more y → Keeps x y
 leads_keep g x y [] is = record { control = ap (λ (w : Machine). w.control) is; inbound = ap (λ (w : Machine). w.inbound) is }
 leads_keep g x y (p ∷ more) is =
     let first = step_keeps g x is.1 p is.0 is.2 in
@@ -49,10 +47,7 @@ leads_keep g x y (p ∷ more) is =
 
 -- BESIDE OTHER PARTS
 
--- what goes out by itself says which links to gateways have room for a link
-abbrev OutDials : Outward → ℕ → Type 0
-OutDials o l = IfThrough (key_of (o.plain l).aim) (λ (key : Key). (n : ℕ) → (o.gates n).key ≡ key → offers (o.gates n) ≡ false)
-
+-- what goes out by itself says which links to gateways have room
 abbrev OutFirst : Outward → ℕ → Type 0
 OutFirst o n = (k : ℕ) → k < n → (o.gates k).key ≡ (o.gates n).key → offers (o.gates k) ≡ false
 
@@ -75,10 +70,12 @@ module _ (g : NodeConfig) (x z : Machine) (same : outward z ≡ outward x) where
       guard ∙ ap (λ (o : Outward). record { opens = o.opens; hbone_port = g.hbone_port }) (sym same)
   plain_guard l (part.refused seen by why status note) inner guard =
       guard ∙ ap (λ (o : Outward). record { opens = o.opens; hbone_port = g.hbone_port }) (sym same)
-  plain_guard l part.roomless inner guard = subst (λ (o : Outward). OutDials o l) (sym same) guard
+  plain_guard l part.welcomed inner guard = absurd inner
+  plain_guard l part.crowded inner guard = absurd inner
+  plain_guard l part.roomless inner guard = absurd inner
   plain_guard l _ inner guard = guard
 
-  gate_guard : (n : ℕ) (p : gate.Part) → IsInner (of_gate n p) → GateGuard x n p → GateGuard z n p
+  gate_guard : (n : ℕ) (p : gate.Part) → IsInner (of_gate n p) → GateGuard g x n p → GateGuard g z n p
   gate_guard n (gate.entry q) inner guard = absurd inner
   gate_guard n (gate.dialled q key) inner guard = absurd inner
   gate_guard n _ inner guard = guard
@@ -165,6 +162,6 @@ pub beside : (g : NodeConfig) (x : Machine) (more : List Point) (y z : Machine) 
 beside g x [] y z is same control = record { reached = z; leads = refl; same = same ∙ sym (ap outward is) }
 beside g x (p ∷ more) y z is same control =
     let one = step_beside g x is.1 z p is.0 is.2 same control in
-    let kept = (step_keeps g x is.1 p is.0 is.2).control in
+    let kept = (step_keeps g x is.1 p (as_refusing p is.0) is.2).control in
     let rest = beside g is.1 more y one.next is.3 one.same (one.control ∙ control ∙ sym kept) in
     record { reached = rest.reached; leads = (is.0, one.next, one.steps, rest.leads); same = rest.same }

@@ -62,26 +62,26 @@ birth_above x (e.Wait ready how) birth = omega arith
 none_born : (n : ℕ) (zs : List Entry) → zs ≡ [] → n ≤ born_after n zs
 none_born n zs is = subst (λ (ys : List Entry). n ≤ born_after n ys) (sym is) (omega arith)
 
-link_above : (x : Machine) (l : ℕ) (p : Part) → LinkGuard x l p → x.born ≤ born_after x.born (part.entry_in p)
-link_above x l (part.entry z) guard = birth_above x z guard.birth
-link_above x l (part.up s z) guard = birth_above x z guard.birth
-link_above x l part.welcomed guard = none_born x.born [] refl
-link_above x l part.crowded guard = none_born x.born [] refl
-link_above x l part.lacked guard = none_born x.born [] refl
-link_above x l (part.fronted seen) guard = none_born x.born [] refl
-link_above x l (part.misfronted fault) guard = none_born x.born [] refl
-link_above x l (part.looked ps said headers) guard = none_born x.born [] refl
-link_above x l (part.decided s full given) guard = none_born x.born [] refl
-link_above x l (part.accepted s made) guard = none_born x.born [] refl
-link_above x l (part.refused s status resets made) guard = none_born x.born [] refl
-link_above x l (part.reset s code made) guard = none_born x.born [] refl
-link_above x l (part.left s made) guard = none_born x.born [] refl
-link_above x l (part.done s made) guard = none_born x.born [] refl
-link_above x l (part.put s bytes) guard = none_born x.born [] refl
-link_above x l (part.finished s) guard = none_born x.born [] refl
-link_above x l (part.credited s n) guard = none_born x.born [] refl
-link_above x l (part.applied r) guard = absurd guard
-link_above x l (part.stopped why) guard = absurd guard
+link_above : (g : NodeConfig) (x : Machine) (l : ℕ) (p : Part) → LinkGuard g x l p → x.born ≤ born_after x.born (part.entry_in p)
+link_above g x l (part.entry z) guard = birth_above x z guard.birth
+link_above g x l (part.up s z) guard = birth_above x z guard.birth
+link_above g x l part.welcomed guard = none_born x.born [] refl
+link_above g x l part.crowded guard = none_born x.born [] refl
+link_above g x l part.lacked guard = none_born x.born [] refl
+link_above g x l (part.fronted seen) guard = none_born x.born [] refl
+link_above g x l (part.misfronted fault) guard = none_born x.born [] refl
+link_above g x l (part.looked ps said headers) guard = none_born x.born [] refl
+link_above g x l (part.decided s full given) guard = none_born x.born [] refl
+link_above g x l (part.accepted s made) guard = none_born x.born [] refl
+link_above g x l (part.refused s status resets made) guard = none_born x.born [] refl
+link_above g x l (part.reset s code made) guard = none_born x.born [] refl
+link_above g x l (part.left s made) guard = none_born x.born [] refl
+link_above g x l (part.done s made) guard = none_born x.born [] refl
+link_above g x l (part.put s bytes) guard = none_born x.born [] refl
+link_above g x l (part.finished s) guard = none_born x.born [] refl
+link_above g x l (part.credited s n) guard = none_born x.born [] refl
+link_above g x l (part.applied r) guard = absurd guard
+link_above g x l (part.stopped why) guard = absurd guard
 
 plain_above : (g : NodeConfig) (x : Machine) (l : ℕ) (p : plain.Part) → PlainGuard g x l p → x.born ≤ born_after x.born (plain.entry_in p)
 plain_above g x l (plain.entry z) guard = birth_above x z guard.birth
@@ -106,26 +106,26 @@ plain_above g x l (plain.done made) guard = none_born x.born [] refl
 plain_above g x l (plain.applied r) guard = absurd guard
 plain_above g x l (plain.stopped why) guard = absurd guard
 
-gate_above : (x : Machine) (n : ℕ) (p : gate.Part) → GateGuard x n p → x.born ≤ born_after x.born (gate.entry_in p)
-gate_above x n (gate.entry z) guard = birth_above x z guard.birth
-gate_above x n (gate.dialled z key) guard = birth_above x z guard.0.birth
-gate_above x n gate.lacked guard = none_born x.born [] refl
-gate_above x n (gate.looked ps told headers) guard = none_born x.born [] refl
-gate_above x n (gate.asks s captured authority) guard = absurd guard
-gate_above x n (gate.tells s heard begun) guard = absurd guard
-gate_above x n (gate.put s bytes count) guard = absurd guard
-gate_above x n (gate.finished s) guard = absurd guard
-gate_above x n (gate.credited s k) guard = absurd guard
-gate_above x n (gate.reset s code) guard = none_born x.born [] refl
-gate_above x n (gate.dropped s begun) guard = absurd guard
-gate_above x n (gate.done s begun) guard = absurd guard
-gate_above x n (gate.stopped why) guard = absurd guard
+gate_above : (g : NodeConfig) (x : Machine) (n : ℕ) (p : gate.Part) → GateGuard g x n p → x.born ≤ born_after x.born (gate.entry_in p)
+gate_above g x n (gate.entry z) guard = birth_above x z guard.birth
+gate_above g x n (gate.dialled z key) guard = birth_above x z guard.0.birth
+gate_above g x n gate.lacked guard = none_born x.born [] refl
+gate_above g x n (gate.looked ps told headers) guard = none_born x.born [] refl
+gate_above g x n (gate.asks s captured authority) guard = absurd guard
+gate_above g x n (gate.tells s heard begun) guard = absurd guard
+gate_above g x n (gate.put s bytes count) guard = absurd guard
+gate_above g x n (gate.finished s) guard = absurd guard
+gate_above g x n (gate.credited s k) guard = absurd guard
+gate_above g x n (gate.reset s code) guard = none_born x.born [] refl
+gate_above g x n (gate.dropped s begun) guard = absurd guard
+gate_above g x n (gate.done s begun) guard = absurd guard
+gate_above g x n (gate.stopped why) guard = absurd guard
 
 step_below : (g : NodeConfig) (x y : Machine) (p : Point) → Steps g x p y → x.control.born ≤ x.born → y.control.born ≤ y.born
 step_below g x y (of_control q) steps below =
     subst (λ (w : Machine). w.control.born ≤ w.born) (sym steps.3) (control_below g x q steps.0 steps.1 below)
 step_below g x y (of_link l p) steps below =
-    let above = link_above x l p steps.2 in
+    let above = link_above g x l p steps.2 in
     let so : x.control.born ≤ born_after x.born (part.entry_in p) = omega (arith, above, below) in
     subst (λ (w : Machine). w.control.born ≤ w.born) (sym steps.3) so
 step_below g x y (of_plain l p) steps below =
@@ -133,7 +133,7 @@ step_below g x y (of_plain l p) steps below =
     let so : x.control.born ≤ born_after x.born (plain.entry_in p) = omega (arith, above, below) in
     subst (λ (w : Machine). w.control.born ≤ w.born) (sym steps.2) so
 step_below g x y (of_gate n p) steps below =
-    let above = gate_above x n p steps.2 in
+    let above = gate_above g x n p steps.2 in
     let so : x.control.born ≤ born_after x.born (gate.entry_in p) = omega (arith, above, below) in
     subst (λ (w : Machine). w.control.born ≤ w.born) (sym steps.3) so
 step_below g x y (of_stream l n i w) steps below = subst (λ (w : Machine). w.control.born ≤ w.born) (sym steps.4) below

@@ -23,6 +23,7 @@ use Rattle.hb_inbound.specs.Part as part
 use Rattle.hb_inbound.specs.Runs as inbound
 use Rattle.hb_inbound.specs.Tunnel as t
 use Rattle.hb_inbound.specs.Tunnel.{Stage, up_entered}
+use Rattle.hb_link.proofs.Noted.{makes_none}
 use Rattle.hb_link.specs.Tunnels.{phase_of}
 use Rattle.hb_link.specs.declared.link.Link.{Link}
 use Rattle.hb_link.specs.declared.phase.Phase.{Phase as Here}
@@ -30,7 +31,8 @@ use Rattle.hb_link.specs.declared.phase.Phase.TheVariants as here
 use Rattle.hb_links.proofs.Acting.{all_calm}
 use Rattle.hb_links.specs.Calls as links
 use Rattle.hb_links.specs.Reaches as links_reach
-use Rattle.hb_links.specs.Reaches.{unguarded}
+use Rattle.hb_links.specs.Load.{Recounts}
+use Rattle.hb_links.specs.Reaches.{uncounted}
 use Rattle.hb_links.specs.Shows.{ShowsAll, ShowsLink}
 use Rattle.hb_links.specs.Stirring as links_stirring
 use Rattle.hb_links.specs.declared.links.Links.{Links}
@@ -42,9 +44,12 @@ use Rattle.hb_node.specs.State.{State, ShowsLink as ShowsControl, number_of}
 use Rattle.hb_node.specs.declared.link.Link.{Link as ControlLink}
 use Rattle.hb_proxy.proofs.Projection.{control_runs}
 use Rattle.hb_proxy.specs.Doors.{is_at_door}
+use Rattle.hb_proxy.specs.Load.{LinksFull}
 use Rattle.hb_proxy.specs.Machine.{Machine, outward, with_gate, with_part, with_plain}
+use Rattle.hb_proxy.specs.Notes.{notes}
 use Rattle.hb_proxy.specs.Points.{of_gate, of_link, of_plain, control_of}
-use Rattle.hb_proxy.specs.Runs.{BirthMayCome, ControlMayCome, ControlRests, DialsGate, GateMayCome, IfThrough, LinkMayCome, Lets, NoneOffers, PlainLets, PlainMayCome, Steps, gate_first, goes_first, is_act, link_first, is_gate_faulted, is_link_faulted}
+use Rattle.hb_proxy.specs.Runs.{BirthMayCome, ControlMayCome, ControlRests, DialsGate, GateMayCome, IfThrough, LinkMayCome, Lets, MayDialGate, NoneOffers, PlainLets, PlainMayCome, Steps, gate_first, goes_first, is_act, link_first, is_gate_faulted, is_link_faulted}
+use Rattle.hb_relays.proofs.Due.{leads_refusing}
 use Rattle.hb_relays.specs.Calls as relays
 use Rattle.hb_relays.specs.Reaches as relays_reach
 use Rattle.hb_relays.specs.Shows.{ShowsRelays}
@@ -63,7 +68,9 @@ use Rattle.hb_whole.proofs.Births.{door_told, fresh_at, next_number, quiet_links
 use Rattle.hb_whole.proofs.Born.{born_below}
 use Rattle.hb_whole.proofs.Heard.{with_state, state_tells, state_stirs, judged_alone, enters}
 use Rattle.hb_whole.proofs.Keys.{keys_written}
+use Rattle.hb_whole.proofs.Keeping.{few_kept, keeps_then, links_keep, none_few, relays_keep, step_keeps}
 use Rattle.hb_whole.proofs.Leading.{links_follow, relays_follow}
+use Rattle.hb_whole.proofs.Limited.{none_arriving, recounts_same}
 use Rattle.hb_whole.proofs.LinkMay.{up_steps}
 use Rattle.hb_whole.proofs.Relays.{gates_calm, plain_calm}
 use Rattle.hb_whole.proofs.Stirring.{links_stir, none_stir, relays_stir}
@@ -202,32 +209,38 @@ up_guard taken p trace s l z rests act birth = record {
 
 -- what comes of it is told
 up_told : (p : Proxy) (side : Side) (l k : ℕ) (z : Entry) → side.relays ≡ p.side.relays → is_at_door z ≡ false
-    → links_reach.Meets unguarded (λ x. ⊤) (of_link l (part.up k z)) p.side.links (told p.side.notes) side.links (told side.notes)
-    → links_stirring.Stirs p.side.links side.links → (taken : List Note) (trace : List Entry) (s : Stands taken p trace)
+    → links_reach.Meets uncounted (λ g x. ⊤) (of_link l (part.up k z)) p.side.links (told p.side.notes) side.links (told side.notes)
+    → Recounts p.side.links side.links → links_stirring.Stirs p.side.links side.links → (taken : List Note) (trace : List Entry) (s : Stands taken p trace)
     → p.ends_for ≡ None → inbound.UpMayCome l k (s.machine.inbound l) ((s.machine.inbound l).tunnels k) z → LinkMayCome s.machine l z
     → Stands taken (with_side side p) (trace ++ z ∷ []) × shown.Stirs (trace ++ z ∷ []) (shown_of p) (shown_of (with_side side p))
-up_told p side l k z same door meets stirs taken trace s going may guard =
-    let steps = up_steps p.control.config s.machine l k z may guard in
+up_told p side l k z same door meets counts stirs taken trace s going may guard =
+    let g = p.control.config in
+    let steps = up_steps g s.machine l k z may guard in
     let next = with_part l (part.up k z) (at_stream k (up_entered z) (s.machine.inbound l)) s.machine in
-    door_told taken p side trace z s (of_link l (part.up k z)) next going steps refl door refl refl
-    (links_follow p.control.config next (told p.side.notes) side unguarded
-    (subst (λ (r : Relays). ShowsRelays p.control.config r (outward s.machine)) (sym same) s.relays)
-    (meets p.control.config s.machine next s.points s.run s.links tt steps))
+    let behind = meets g s.machine next s.points s.run s.links tt steps in
+    door_told taken p side trace z s (of_link l (part.up k z)) next going steps refl door refl refl counts
+    (links_follow g next (told p.side.notes) side uncounted
+    (subst (λ (r : Relays). ShowsRelays g r (outward s.machine)) (sym same) s.relays) behind)
+    (few_kept g s.machine behind.reached
+    (keeps_then s.machine next behind.reached (step_keeps g s.machine next (of_link l (part.up k z)) tt steps)
+    (links_keep uncounted (λ x i is. is) g next behind.more behind.reached behind.leads))
+    (plain_calm p.side.relays s.relays) (none_arriving side.links behind.reached.inbound behind.shows))
     (λ j. links_stir p.side side j same (stirs j))
 
 pub up_fails : (p : Proxy) (side : Side) (l k : ℕ) → side.relays ≡ p.side.relays
-    → links.DialFails l k p.side.links (told p.side.notes) side.links (told side.notes) → links_stirring.Stirs p.side.links side.links
+    → links.DialFails l k p.side.links (told p.side.notes) side.links (told side.notes) → Recounts p.side.links side.links
+    → links_stirring.Stirs p.side.links side.links
     → (to : Target) → Tells Stands shown_of (e.DialFailed to (whys.Upstream l k)) p (with_side side p)
-up_fails p side l k same fails stirs to taken trace s may =
+up_fails p side l k same fails counts stirs to taken trace s may =
     let z = e.DialFailed to (whys.Upstream l k) in
     let due = due_of_up taken p trace s to l k may in
-    up_told p side l k z same refl (fails to (whys.Upstream l k)) stirs taken trace s due.going
+    up_told p side l k z same refl (fails to (whys.Upstream l k)) counts stirs taken trace s due.going
     (all_calm p.side.links s.machine.inbound s.links l, due.stage, due.target, refl)
     (up_guard taken p trace s l z due.rests refl tt)
 
-pub up_dialled : (p : Proxy) (new : Links) (l k u : ℕ) → links.Dials l k u p.side.links new → links_stirring.Stirs p.side.links new
-    → (to : Target) → Tells Stands shown_of (e.Dialled u to (whys.Upstream l k)) p (with_side (record p.side { links = new }) p)
-up_dialled p new l k u dials stirs to taken trace s may =
+pub up_dialled : (p : Proxy) (new : Links) (l k u : ℕ) → links.Dials l k u p.side.links new → Recounts p.side.links new
+    → links_stirring.Stirs p.side.links new → (to : Target) → Tells Stands shown_of (e.Dialled u to (whys.Upstream l k)) p (with_side (record p.side { links = new }) p)
+up_dialled p new l k u dials counts stirs to taken trace s may =
     let z = e.Dialled u to (whys.Upstream l k) in
     let due = due_of_up taken p trace s to l k may.0 in
     let next = next_number taken p trace s u may.1 in
@@ -236,8 +249,8 @@ up_dialled p new l k u dials stirs to taken trace s may =
     λ same. due_is_born l k (get p.side.links.links l) (s.machine.inbound l) (s.links.links l) due.stage
     (ap (λ (j : ℕ). (s.machine.inbound j).phase) (sym same) ∙ fresh.link) in
     up_told p (record p.side { links = new }) l k z refl refl
-    (quiet_links unguarded (λ x. ⊤) (of_link l (part.up k z)) p.side.links new (told p.side.notes) (dials to (whys.Upstream l k)))
-    stirs taken trace s due.going
+    (quiet_links uncounted (λ g x. ⊤) (of_link l (part.up k z)) p.side.links new (told p.side.notes) (dials to (whys.Upstream l k)))
+    counts stirs taken trace s due.going
     (all_calm p.side.links s.machine.inbound s.links l, due.stage, (omega (arith, next), apart, λ j. fresh.up l j), due.target, refl)
     (up_guard taken p trace s l z due.rests refl next)
 
@@ -256,7 +269,7 @@ record PlainDue (taken : List Note) (p : Proxy) (trace : List Entry) (s : Stands
   pub rests : ControlRests s.machine.control
   pub why_is : why ≡ why_for (s.machine.plain l).aim (s.machine.plain l).door l
   pub stage : (s.machine.plain l).stage ≡ captured.due
-  pub gate : DialsGate s.machine l
+  pub gate : DialsGate s.machine l × MayDialGate p.control.config s.machine l
   pub address : to ≡ address_of (s.machine.plain l).aim
 
 no_plain_end : (x : Machine) (l : ℕ) (ends : Option Cause) → (x.plain l).stage ≡ captured.due → EndsBy ends x → ends ≡ None
@@ -279,7 +292,7 @@ due_of_plain taken p trace s to why l for dials =
       rests = due.0;
       why_is = due.1;
       stage = due.2;
-      gate = due.3;
+      gate = (due.3, s.limited.few.room l due.2);
       address = due.4;
     }
 
@@ -304,16 +317,23 @@ plain_guard taken p trace s l z rests act birth = record {
 plain_told : (p : Proxy) (side : Side) (l : ℕ) (z : Entry) → side.links ≡ p.side.links → is_at_door z ≡ false
     → relays_reach.Meets relays_reach.any (of_plain l (plain.up z)) p.side.relays (told p.side.notes) side.relays (told side.notes)
     → relays_stirring.Stirs p.side.relays side.relays → (taken : List Note) (trace : List Entry) (s : Stands taken p trace)
-    → p.ends_for ≡ None → captured_runs.UpMayCome l (s.machine.plain l) z → PlainMayCome s.machine l z → DialsGate s.machine l
+    → p.ends_for ≡ None → captured_runs.UpMayCome l (s.machine.plain l) z → PlainMayCome s.machine l z
+    → DialsGate s.machine l × MayDialGate p.control.config s.machine l
     → Stands taken (with_side side p) (trace ++ z ∷ []) × shown.Stirs (trace ++ z ∷ []) (shown_of p) (shown_of (with_side side p))
 plain_told p side l z same door meets stirs taken trace s going may guard gate =
     let next = with_plain l (plain.up z) (captured.up_entered z (s.machine.plain l)) s.machine in
     let steps : Steps p.control.config s.machine (of_plain l (plain.up z)) next =
-    (may, (guard, gate), refl) in
+    (may, (guard, gate.0, gate.1), refl) in
+    let g = p.control.config in
+    let behind = meets g s.machine next s.points s.run s.relays tt steps in
+    let follows = relays_follow g next (told p.side.notes) side
+    (subst (λ (k : Links). ShowsAll k s.machine.inbound) (sym same) s.links) behind in
     door_told taken p side trace z s (of_plain l (plain.up z)) next going steps refl door refl refl
-    (relays_follow p.control.config next (told p.side.notes) side
-    (subst (λ (k : Links). ShowsAll k s.machine.inbound) (sym same) s.links)
-    (meets p.control.config s.machine next s.points s.run s.relays tt steps))
+    (recounts_same p.side.links side.links same) follows
+    (few_kept g s.machine behind.reached
+    (keeps_then s.machine next behind.reached (step_keeps g s.machine next (of_plain l (plain.up z)) tt steps)
+    (relays_keep g next behind.more behind.reached (leads_refusing g next behind.more behind.reached behind.leads)))
+    (plain_calm p.side.relays s.relays) (none_arriving side.links behind.reached.inbound follows.links))
     (λ j. relays_stir p.side side j same (stirs j))
 
 plain_fails : (p : Proxy) (side : Side) (why : Why) (l : ℕ) → IsOf l why → side.links ≡ p.side.links
@@ -394,15 +414,23 @@ gate_dialled p new l n dials stirs to taken trace s may =
         record {
           due = due.stage;
           keyed = wanted.keyed;
-          none = subst (λ (o : Option Key). IfThrough o (NoneOffers x)) wanted.keyed due.gate;
+          none = subst (λ (o : Option Key). IfThrough o (NoneOffers x)) wanted.keyed due.gate.0;
         },
+        subst (λ (o : Option Key). IfThrough o (λ key. LinksFull false p.control.config x)) wanted.keyed due.gate.1,
       ),
       refl,
     ) in
-    door_told taken p (record p.side { relays = new }) trace z s point next due.going steps refl refl refl refl
-    (relays_follow p.control.config next (told p.side.notes) (record p.side { relays = new }) s.links
-    (quiet_relays relays_reach.any point p.side.relays new (told p.side.notes) (dials to key) p.control.config x next s.points s.run
-    s.relays tt steps))
+    let did = dials to key p.control.config x next s.points s.run s.relays (λ k is. s.limited.few.one k l is due.stage) steps in
+    let behind = did.0 in
+    door_told taken p (record p.side { relays = new }) trace z s point next due.going steps refl refl refl refl (λ counted. counted)
+    (relays_follow p.control.config next (told p.side.notes) (record p.side { relays = new }) s.links (record {
+      more = behind.more;
+      reached = behind.reached;
+      leads = behind.leads;
+      shows = behind.shows;
+      noted = makes_none (notes behind.more) behind.noted (told p.side.notes);
+    }))
+    (λ few. none_few p.control.config behind.reached did.1)
     (λ j. relays_stir p.side (record p.side { relays = new }) j refl (stirs j))
 
 -- ANSWERS TO DIALS, BY WHAT THEY ARE
@@ -416,18 +444,18 @@ answered p q why due link got why_is link_is tells to =
     (subst (λ (o : Option ℕ). Tells Stands shown_of (dial_entry to due o) p q) (sym link_is) (tells to))
 
 pub up_answers : (p : Proxy) (new : Links) (why : Why) (link : Option ℕ) (l k u : ℕ) → why ≡ whys.Upstream l k → link ≡ Some u
-    → links.Dials l k u p.side.links new → links_stirring.Stirs p.side.links new → (to : Target)
+    → links.Dials l k u p.side.links new → Recounts p.side.links new → links_stirring.Stirs p.side.links new → (to : Target)
     → Tells Stands shown_of (dial_entry to why link) p (with_side (record p.side { links = new }) p)
-up_answers p new why link l k u why_is link_is dials stirs =
+up_answers p new why link l k u why_is link_is dials counts stirs =
     answered p (with_side (record p.side { links = new }) p) why (whys.Upstream l k) link (Some u) why_is link_is
-    (up_dialled p new l k u dials stirs)
+    (up_dialled p new l k u dials counts stirs)
 
 pub up_answers_none : (p : Proxy) (side : Side) (why : Why) (link : Option ℕ) (l k : ℕ) → side.relays ≡ p.side.relays
     → why ≡ whys.Upstream l k → link ≡ None → links.DialFails l k p.side.links (told p.side.notes) side.links (told side.notes)
-    → links_stirring.Stirs p.side.links side.links → (to : Target)
+    → Recounts p.side.links side.links → links_stirring.Stirs p.side.links side.links → (to : Target)
     → Tells Stands shown_of (dial_entry to why link) p (with_side side p)
-up_answers_none p side why link l k same why_is link_is fails stirs =
-    answered p (with_side side p) why (whys.Upstream l k) link None why_is link_is (up_fails p side l k same fails stirs)
+up_answers_none p side why link l k same why_is link_is fails counts stirs =
+    answered p (with_side side p) why (whys.Upstream l k) link None why_is link_is (up_fails p side l k same fails counts stirs)
 
 pub plain_answers : (p : Proxy) (new : Relays) (why : Why) (link : Option ℕ) (l u : ℕ) → IsFor l why → link ≡ Some u
     → relays.Dials l u p.side.relays new → relays_stirring.Stirs p.side.relays new → (to : Target)

@@ -32,7 +32,8 @@ use Rattle.hb_links.proofs.Acting.{all_calm}
 use Rattle.hb_links.proofs.Due.{none_is_due}
 use Rattle.hb_links.specs.Busy as busy
 use Rattle.hb_links.specs.Calls as links
-use Rattle.hb_links.specs.Reaches.{unguarded}
+use Rattle.hb_links.specs.Load.{Recounts}
+use Rattle.hb_links.specs.Reaches.{uncounted}
 use Rattle.hb_model.specs.Discovery as d
 use Rattle.hb_model.specs.Machine as control
 use Rattle.hb_model.specs.Machine.{Machine as Control}
@@ -63,6 +64,8 @@ use Rattle.hb_whole.specs.declared.side.Side.{Side}
 use Rattle.hb_whole.proofs.Free.{calm_of, control_rests, goes_on as runs_on, none_of}
 use Rattle.hb_whole.proofs.GateGiving.{gate_ends_at}
 use Rattle.hb_whole.proofs.Growing.{notes_grow}
+use Rattle.hb_whole.proofs.Keeping.{none_few}
+use Rattle.hb_whole.proofs.Limited.{limited_then}
 use Rattle.hb_whole.proofs.LinkGiving.{ends_at}
 use Rattle.hb_whole.proofs.Leading.{Follows, IsInner, Leads, both_follow, inner_silent, inner_control, entries_more, stands_behind}
 use Rattle.hb_whole.proofs.PlainGiving.{plain_ends_at}
@@ -300,11 +303,11 @@ module _ (c : Cause) (l : ℕ) (a : captured.Local) (ends : PlainEnds c a.link) 
   left_so begun plain.accepting so = absurd so
   left_so begun plain.live so = absurd so
 
-  plain_step : (p : plain_part.Part) → relays_reach.IsInner (of_plain l p) → captured.MayGo l a p
+  plain_step : (p : plain_part.Part) → relays_reach.IsRefusing (of_plain l p) → captured.MayGo l a p
       → PlainEnds c (captured.next_link a.link p)
   plain_step (plain_part.entry z) inner may = absurd inner
   plain_step (plain_part.up z) inner may = absurd inner
-  plain_step plain_part.welcomed inner may = absurd (never_plain plain.arriving may)
+  plain_step plain_part.welcomed inner may = absurd inner
   plain_step plain_part.crowded inner may = absurd inner
   plain_step plain_part.lacked inner may = absurd (plain_lacks c a.link.stage a.link ends may)
   plain_step (plain_part.misfronted fault) inner may = absurd (never_plain plain.fronting may.0)
@@ -387,8 +390,9 @@ step_so c g x y (of_plain l p) inner steps ends =
     let a = plain_local x l in
     let at : PlainEnds c (captured.next_link (x.plain l) p) =
     ⊎_elim (λ own. plain_step c l a (ends.plain l) p own steps.0)
-    (λ is. absurd (never_plain c l a (ends.plain l) plain.arriving
-    (subst (λ (w : plain_part.Part). captured.MayGo l a w) is steps.0))) inner in
+    (λ born. absurd (never_plain c l a (ends.plain l) plain.arriving
+    (⊎_elim (λ is. subst (λ (w : plain_part.Part). captured.MayGo l a w) is steps.0)
+    (λ is. subst (λ (w : plain_part.Part). captured.MayGo l a w) is steps.0) born))) inner in
     subst (λ (w : Machine). Ends c w) (sym steps.2) (plain_ends_at c x l p (captured.next_link (x.plain l) p) at ends)
 step_so c g x y (of_gate n p) inner steps ends =
     subst (λ (w : Machine). Ends c w) (sym steps.3)
@@ -464,9 +468,9 @@ with_stop n side c p = record p { control = n; side = side; dials = None; ends_f
 
 -- the links of the doors were told, with these notes in between
 pub stops : (p : Proxy) (n : State) (side : Side) (between : Told) (c : Cause) → node.Stops c p.control n
-    → links.Stops c p.side.links (told p.side.notes) side.links between
+    → links.Stops c p.side.links (told p.side.notes) side.links between → Recounts p.side.links side.links
     → relays.Stops c p.side.relays between side.relays (told side.notes) → Stops Stands shown_of p (with_stop n side c p)
-stops p n side between c control_stops_so links_stop relays_stop going none taken trace s = record {
+stops p n side between c control_stops_so links_stop counts relays_stop going none taken trace s = record {
   machine = follows.reached;
   points = s.points ++ of_control (point.stopped c) ∷ follows.more;
   run = subst (λ (g : NodeConfig). StandsFor g follows.reached (s.points ++ of_control (point.stopped c) ∷ follows.more))
@@ -485,7 +489,10 @@ stops p n side between c control_stops_so links_stop relays_stop going none take
   noted = notes_grow taken (told p.side.notes) (told side.notes) s.points (of_control (point.stopped c) ∷ follows.more) follows.noted
       s.noted;
   dial = tt;
-  ends = (ap (λ (w : Control). w.over) control_is, inner_ends c p.control.config y follows.reached follows.more follows.leads ends_y);
+  limited = limited_then p (with_stop n side c p) x follows.reached refl control_stops_so.0 counts
+      (λ few. none_few p.control.config follows.reached (λ l due.
+      subst (λ (r : plain.Stage). PlainEndsBy c r (follows.reached.plain l)) due (ends_reached.plain l))) s.limited;
+  ends = (ap (λ (w : Control). w.over) control_is, ends_reached);
   sound = s.sound;
 }
   where
@@ -521,7 +528,7 @@ stops p n side between c control_stops_so links_stop relays_stop going none take
 
     follows : Follows p.control.config y (told p.side.notes) side
     follows =
-        both_follow p.control.config y (told p.side.notes) between side unguarded
+        both_follow p.control.config y (told p.side.notes) between side uncounted
         (links_stop p.control.config x y s.points s.run s.links tt steps)
         (relays_stop p.control.config x y s.points s.run s.relays tt steps)
 
@@ -538,3 +545,6 @@ stops p n side between c control_stops_so links_stop relays_stop going none take
       plain = λ l. plain_stops c (x.plain l).stage (x.plain l) (quiet l).0 (quiet l).1;
       gates = λ n. gate_stops c (x.gates n).phase (s.relays.gate_idle n (none_touched p.side.relays.gate_due idle_gates.1 n));
     }
+
+    ends_reached : Ends c follows.reached
+    ends_reached = inner_ends c p.control.config y follows.reached follows.more follows.leads ends_y

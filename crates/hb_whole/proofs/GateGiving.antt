@@ -1,11 +1,12 @@
 -- What a close that is given of a link to a gateway makes of the traces that the proxy stands for, and how the run ends there.
-use Rattle.std.proofs.Common.{◌≡◌, ℕ, ◌==◌, Bool, true, false, cond, List, [], ◌∷◌, ◌++◌, Option, Some, None, refl, ap, sym, ◌∙◌, subst}
+use Rattle.std.proofs.Common.{◌≡◌, ℕ, ◌==◌, Bool, true, false, cond, List, Option, Some, None, refl, ap, sym, ◌∙◌, subst}
 use Rattle.hb_base.specs.declared.cause.Cause.{Cause}
 use Rattle.hb_base.specs.declared.note.Note.{Note}
 use Rattle.hb_gateway.specs.Calm.{close_due}
 use Rattle.hb_gateway.specs.Gateway as m
 use Rattle.hb_gateway.specs.Gateway.{Gateway, Phase}
 use Rattle.hb_gateway.specs.Part.{Part, entry}
+use Rattle.hb_links.specs.Load.{Recounts}
 use Rattle.hb_links.specs.Shows.{ShowsAll}
 use Rattle.hb_links.specs.declared.links.Links.{Links}
 use Rattle.hb_proxy.specs.Machine.{Machine, with_gate}
@@ -13,12 +14,10 @@ use Rattle.hb_proxy.specs.Points.{of_gate}
 use Rattle.hb_proxy.specs.Seen.{IsGateThere}
 use Rattle.hb_relays.specs.Acts.{DoesGate}
 use Rattle.hb_relays.specs.declared.relays.Relays.{Relays}
-use Rattle.hb_world.specs.Trace.{lives}
 use Rattle.hb_world.specs.declared.entry.Entry.{Entry}
 use Rattle.hb_world.specs.declared.entry.Entry.TheVariants as e
 use Rattle.hb_whole.specs.Stands.{Stands, EndsBy, Ends, GateEnds}
 use Rattle.hb_whole.specs.declared.proxy.Proxy.{Proxy}
-use Rattle.hb_whole.specs.declared.side.Side.{Side}
 use Rattle.hb_whole.proofs.Giving.{acted, Closes}
 use Rattle.hb_whole.proofs.Routes.{seen_of, lives_then}
 
@@ -65,9 +64,9 @@ due_for (m.closing why) cause c is ends = let same : why ≡ cause = cc in sym s
 
 -- ITS CLOSE, where the inbound links were asked first, and are shown still
 pub gate_closes : (taken : List Note) (p : Proxy) (asked : Links) (behind : Relays) (trace : List Entry) (s : Stands taken p trace)
-    → ShowsAll asked s.machine.inbound → (n : ℕ) (why : Cause) → DoesGate behind p.control.config s.machine n (entry (e.Closed n why))
+    → ShowsAll asked s.machine.inbound → Recounts p.side.links asked → (n : ℕ) (why : Cause) → DoesGate behind p.control.config s.machine n (entry (e.Closed n why))
     → Closes p (record p.side { links = asked; relays = behind }) taken trace s n why
-gate_closes taken p asked behind trace s shown n why does =
+gate_closes taken p asked behind trace s shown counts n why does =
     let x = s.machine in
     let due : close_due (x.gates n).phase ≡ Some why = does.steps.1.0.2 in
     let y_is = does.steps.3 in
@@ -77,7 +76,7 @@ gate_closes taken p asked behind trace s shown n why does =
       stands =
           acted taken p (record p.side { links = asked; relays = behind }) trace s (e.Closed n why) (of_gate n (entry (e.Closed n why)))
           does.y does.steps (ap (λ (y : Machine). y.control) y_is) refl refl refl
-          (subst (λ (y : Machine). ShowsAll asked y.inbound) (sym y_is) shown) does.shows refl
+          (subst (λ (y : Machine). ShowsAll asked y.inbound) (sym y_is) shown) does.shows refl tt counts
           (subst (λ (y : Machine). EndsBy p.ends_for y) (sym y_is)
           (closed_ends p.ends_for x n (entry (e.Closed n why)) does.steps.0 closed s.ends));
       for = λ c ends.

@@ -1,5 +1,5 @@
 -- An entry of a link to a gateway, which the event loop tells, may come next in the machine.
-use Rattle.std.proofs.Common.{◌≡◌, ◌⊎◌, inl, inr, ⊎_elim, ℕ, ◌<◌, ◌≤◌, ◌||◌, Bool, true, false, is_none, List, [], ◌++◌, length, take, drop, Some, None, refl, ap, sym, ◌∙◌, subst, arith}
+use Rattle.std.proofs.Common.{◌≡◌, ◌⊎◌, inl, inr, ⊎_elim, ℕ, ◌<◌, ◌≤◌, ◌||◌, Bool, true, false, is_none, List, ◌++◌, length, take, drop, Some, None, refl, ap, sym, ◌∙◌, subst, arith}
 use Rattle.std.proofs.lemmas.Bool.{and_parts}
 use Rattle.std.proofs.lemmas.List.{length-take, take-append-drop}
 use Rattle.std.specs.FinMap.{get}
@@ -16,7 +16,7 @@ use Rattle.hb_node.specs.State.{due_of}
 use Rattle.hb_proxy.specs.Doors.{without_doors}
 use Rattle.hb_proxy.specs.Machine.{Machine}
 use Rattle.hb_proxy.specs.Points.{of_gate}
-use Rattle.hb_proxy.specs.Runs.{BirthMayCome, GateLets, GateMayCome, GatesLet, Lets, PlainLets, gate_first, is_gate_faulted, is_act}
+use Rattle.hb_proxy.specs.Runs.{BirthMayCome, GateMayCome, GatesLet, Lets, PlainLets, gate_first, is_gate_faulted, is_act}
 use Rattle.hb_proxy.specs.Seen.{Seen, GateOpenBy, IsGateThere}
 use Rattle.hb_ready.specs.Sight.{is_open}
 use Rattle.hb_relays.specs.Calls as relays

@@ -3,6 +3,7 @@ use Rattle.std.proofs.Common.{◌≡◌, true, Option, Some, None, IfNone, IfSom
 use Rattle.hb_base.specs.declared.cause.Cause.{Cause}
 use Rattle.hb_links.specs.Acts as links
 use Rattle.hb_links.specs.Busy as busy
+use Rattle.hb_links.specs.Load.{Recounts}
 use Rattle.hb_links.specs.Stirring as links_stirring
 use Rattle.hb_links.specs.declared.links.Links.{Links}
 use Rattle.hb_model.specs.declared.act.Act.{Act as ControlAct}
@@ -50,18 +51,18 @@ module _ (p : Proxy) (n : State) (had : Option ControlAct) (had_is : had ≡ Non
 
   -- an act of the inbound links
   pub links_give_so : (new : Links) (q : Proxy) (got : Option Act) (due : Act) (r : Option Act) → got ≡ Some due
-      → links.Acts got p.side.links new → links_stirring.StirsBut (links_stirring.closed_in got) p.side.links new
-      → r ≡ given_by p.ends_for due → q ≡ given_behind p.ends_for due (record p { control = n; side = record p.side { links = new } })
+      → links.Acts got p.side.links new → Recounts p.side.links new
+      → links_stirring.StirsBut (links_stirring.closed_in got) p.side.links new → r ≡ given_by p.ends_for due → q ≡ given_behind p.ends_for due (record p { control = n; side = record p.side { links = new } })
       → Acts Stands shown_of r p q
-  links_give_so new q got due r got_is acts stirs r_is q_is =
+  links_give_so new q got due r got_is acts counts stirs r_is q_is =
       gives_so p q (record p { side = record p.side { links = new } }) r due refl r_is
       (q_is ∙ ap (λ (w : State). given_behind p.ends_for due (record p { control = w; side = record p.side { links = new } })) same)
-      (links_give p new rests due p.ends_for refl (subst (λ (o : Option Act). links.Acts o p.side.links new) got_is acts)
+      (links_give p new counts rests due p.ends_for refl (subst (λ (o : Option Act). links.Acts o p.side.links new) got_is acts)
       (subst (λ (o : Option Act). links_stirring.StirsBut (links_stirring.closed_in o) p.side.links new) got_is stirs))
 
   -- nor have the inbound links
   module _ (new : Links) (behind : Relays) (got : Option Act) (got_is : got ≡ None) (none : links.Acts got p.side.links new)
-      (still : links_stirring.StirsBut (links_stirring.closed_in got) p.side.links new) where
+      (counts : Recounts p.side.links new) (still : links_stirring.StirsBut (links_stirring.closed_in got) p.side.links new) where
     none_so : links.Acts None p.side.links new
     none_so = subst (λ (o : Option Act). links.Acts o p.side.links new) got_is none
 
@@ -78,7 +79,7 @@ module _ (p : Proxy) (n : State) (had : Option ControlAct) (had_is : had ≡ Non
         gives_so p q (record p { side = record p.side { links = new; relays = behind } }) r due refl r_is
         (q_is ∙ ap (λ (w : State). given_behind p.ends_for due
         (record p { control = w; side = record p.side { links = new; relays = behind } })) same)
-        (relays_give p new behind rests none_so still_so due p.ends_for refl
+        (relays_give p new behind rests none_so counts still_so due p.ends_for refl
         (subst (λ (o : Option Act). relays.Acts o p.side.relays behind) gave_is acts)
         (subst (λ (o : Option Act). relays_stirring.StirsBut (relays_stirring.closed_in o) p.side.relays behind) gave_is stirs))
 
@@ -89,7 +90,7 @@ module _ (p : Proxy) (n : State) (had : Option ControlAct) (had_is : had ≡ Non
     none_gives_so gave gave_is acts stirs =
         subst (λ (w : State). Acts Stands shown_of None p
         (record p { control = w; side = record p.side { links = new; relays = behind }; dials = None })) (sym same)
-        (none_given p new behind rests none_so still_so (subst (λ (o : Option Act). relays.Acts o p.side.relays behind) gave_is acts)
+        (none_given p new behind rests none_so counts still_so (subst (λ (o : Option Act). relays.Acts o p.side.relays behind) gave_is acts)
         (subst (λ (o : Option Act). relays_stirring.StirsBut (relays_stirring.closed_in o) p.side.relays behind) gave_is stirs))
 
     pub none_lives_so : (gave : Option Act) → gave ≡ None → IfNone got (busy.is_idle new ≡ true)

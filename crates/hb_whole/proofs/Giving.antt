@@ -8,6 +8,7 @@ use Rattle.hb_base.specs.declared.note.Note.{Note}
 use Rattle.hb_base.specs.declared.target.Target.{Target}
 use Rattle.hb_link.proofs.Noted.{takes_none}
 use Rattle.hb_link.specs.Noted.{Told, Takes}
+use Rattle.hb_links.specs.Load.{Recounts}
 use Rattle.hb_links.specs.Shows.{ShowsAll}
 use Rattle.hb_links.specs.Stirring.{closed_in}
 use Rattle.hb_model.proofs.DialsDue.{runs_on as dials_go_on}
@@ -43,6 +44,9 @@ use Rattle.hb_whole.specs.declared.proxy.Proxy.{Proxy}
 use Rattle.hb_whole.specs.declared.side.Side.{Side}
 use Rattle.hb_whole.proofs.Acting.{another, close_lives, close_stands, close_cause, close_stirs}
 use Rattle.hb_whole.proofs.Growing.{stood}
+use Rattle.hb_whole.proofs.Keeping.{IsSteady, few_kept, step_keeps}
+use Rattle.hb_whole.proofs.Limited.{limited_then, none_arriving}
+use Rattle.hb_whole.proofs.Relays.{plain_calm}
 use Rattle.hb_whole.proofs.Stirring.{SideStirs, none_stir}
 use Rattle.hb_whole.proofs.Telling.{with_act, act_stirs}
 
@@ -55,9 +59,9 @@ given_behind ends due p = record p { dials = dial_in ends due; strange = strange
 -- the links of the doors were asked, and a dial may be made
 pub waits : (p : Proxy) (side : Side) (taken : List Note) (trace : List Entry) (s : Stands taken p trace) (dial : Option (Target × Why))
     → ShowsAll side.links s.machine.inbound → ShowsRelays p.control.config side.relays (outward s.machine)
-    → told side.notes ≡ told p.side.notes
+    → told side.notes ≡ told p.side.notes → Recounts p.side.links side.links
     → MayBeDialled p.control.config s.machine dial → Stands taken (with_act side dial p.strange p) trace
-waits p side taken trace s dial links relays same may = record {
+waits p side taken trace s dial links relays same counts may = record {
   machine = s.machine;
   points = s.points;
   run = s.run;
@@ -67,6 +71,7 @@ waits p side taken trace s dial links relays same may = record {
   relays = relays;
   noted = subst (λ (t : Told). AreNotes taken t s.points) (sym same) s.noted;
   dial = may;
+  limited = limited_then p (with_act side dial p.strange p) s.machine s.machine refl refl counts (λ few. few) s.limited;
   ends = s.ends;
   sound = s.sound;
 }
@@ -121,7 +126,7 @@ control_gives p n (own.Dial to why) None is acts =
       refl,
       λ taken trace s.
           let due = control_dials taken p trace s to why n acts in (
-            waits p p.side taken trace s (Some (to, why)) s.links s.relays refl
+            waits p p.side taken trace s (Some (to, why)) s.links s.relays refl (λ is. is)
                 (subst (λ (w : Why). DialIsDue p.control.config s.machine to w) (sym due.2) (due.0, due.1)),
             act_stirs p p.side (Some (to, why)) p.strange trace (λ l alive. none_stir p.side l),
           ),
@@ -148,13 +153,17 @@ pub acted : (taken : List Note) (p : Proxy) (side : Side) (trace : List Entry) (
     (y : Machine) → Steps p.control.config s.machine at y → y.control ≡ s.machine.control → entries (at ∷ []) ≡ z ∷ []
     → notes (at ∷ []) ≡ [] → is_at_door z ≡ false → ShowsAll side.links y.inbound
     → ShowsRelays p.control.config side.relays (outward y)
-    → told side.notes ≡ told p.side.notes → EndsBy p.ends_for y → Stands taken (with_act side None p.strange p) (trace ++ z ∷ [])
-acted taken p side trace s z at y steps control one none door links relays same ends =
+    → told side.notes ≡ told p.side.notes → IsSteady at → Recounts p.side.links side.links → EndsBy p.ends_for y
+    → Stands taken (with_act side None p.strange p) (trace ++ z ∷ [])
+acted taken p side trace s z at y steps control one none door links relays same steady counts ends =
     stood taken p (with_act side None p.strange p) trace z s y (at ∷ []) refl (goes_on s.run at steps refl) door one
     (subst (λ (c : Control). Shows p.control c) (sym control) s.control) links relays
     (subst (λ (t : Told). Takes (told p.side.notes) (notes (at ∷ [])) t) (sym same)
     (subst (λ (ns : List Note). Takes (told p.side.notes) ns (told p.side.notes)) (sym none) (takes_none (told p.side.notes))))
-    refl ends refl
+    refl
+    (limited_then p (with_act side None p.strange p) s.machine y refl refl counts
+    (few_kept p.control.config s.machine y (step_keeps p.control.config s.machine y at steady steps)
+    (plain_calm p.side.relays s.relays) (none_arriving side.links y.inbound links)) s.limited) ends refl
 
 -- AN ACT OF A DOOR, BY WHAT IT IS TO BE
 
@@ -184,6 +193,7 @@ module _ (p : Proxy) (side : Side) where
     pub links : ShowsAll side.links s.machine.inbound
     pub relays : ShowsRelays p.control.config side.relays (outward s.machine)
     pub noted : told side.notes ≡ told p.side.notes
+    pub counts : Recounts p.side.links side.links
     pub due : DialIsDue p.control.config s.machine to why
     pub goes : (c : Cause) → p.ends_for ≡ Some c → ⊥
 
@@ -220,7 +230,7 @@ module _ (p : Proxy) (side : Side) where
     refl,
     λ taken trace s.
         let at = so taken trace s in (
-          waits p side taken trace s (Some (to, why)) at.links at.relays at.noted at.due,
+          waits p side taken trace s (Some (to, why)) at.links at.relays at.noted at.counts at.due,
           act_stirs p side (Some (to, why)) p.strange trace (λ l alive. stirs l (λ same. absurd cc)),
         ),
   )

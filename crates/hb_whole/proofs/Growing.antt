@@ -15,7 +15,7 @@ use Rattle.hb_proxy.specs.Runs.{StandsFor}
 use Rattle.hb_relays.specs.Shows.{ShowsRelays}
 use Rattle.hb_world.specs.declared.entry.Entry.{Entry}
 use Rattle.hb_whole.specs.Queue.{told}
-use Rattle.hb_whole.specs.Stands.{Stands, AreNotes, MayBeDialled, EndsBy}
+use Rattle.hb_whole.specs.Stands.{Stands, AreNotes, IsLimited, MayBeDialled, EndsBy}
 use Rattle.hb_whole.specs.declared.proxy.Proxy.{Proxy}
 use Rattle.hb_whole.proofs.Leading.{entries_more, notes_more}
 
@@ -50,9 +50,9 @@ notes_grow taken (Some waiting) new points more takes are =
 pub stood : (taken : List Note) (p q : Proxy) (trace : List Entry) (z : Entry) (s : Stands taken p trace) (y : Machine) (more : List Point)
     → q.control.config ≡ p.control.config → StandsFor p.control.config y (s.points ++ more) → is_at_door z ≡ false → entries more ≡ z ∷ []
     → Shows q.control y.control → ShowsAll q.side.links y.inbound → ShowsRelays p.control.config q.side.relays (outward y)
-    → Takes (told p.side.notes) (notes more) (told q.side.notes) → q.dials ≡ None → EndsBy q.ends_for y
+    → Takes (told p.side.notes) (notes more) (told q.side.notes) → q.dials ≡ None → IsLimited q y → EndsBy q.ends_for y
     → q.strange ≡ p.strange → Stands taken q (trace ++ z ∷ [])
-stood taken p q trace z s y more config run door one control links relays takes dials ends sound = record {
+stood taken p q trace z s y more config run door one control links relays takes dials limited ends sound = record {
   machine = y;
   points = s.points ++ more;
   run = subst (λ (g : NodeConfig). StandsFor g y (s.points ++ more)) (sym config) run;
@@ -63,6 +63,7 @@ stood taken p q trace z s y more config run door one control links relays takes 
   relays = subst (λ (g : NodeConfig). ShowsRelays g q.side.relays (outward y)) (sym config) relays;
   noted = notes_grow taken (told p.side.notes) (told q.side.notes) s.points more takes s.noted;
   dial = subst (λ d. MayBeDialled q.control.config y d) (sym dials) tt;
+  limited = limited;
   ends = ends;
   sound = sound ∙ s.sound;
 }

@@ -1,5 +1,5 @@
 -- An entry of a link of a door, or of an upstream, that may come next in the machine.
-use Rattle.std.proofs.Common.{◌≡◌, ℕ, [], ◌∷◌, Some, refl}
+use Rattle.std.proofs.Common.{◌≡◌, ◌⊎◌, inl, inr, ℕ, [], ◌∷◌, Some, refl}
 use Rattle.hb_captured.specs.Captured as captured
 use Rattle.hb_captured.specs.Captured.{Captured}
 use Rattle.hb_captured.specs.Part as plain
@@ -16,10 +16,11 @@ use Rattle.hb_links.specs.Calls.{point_for}
 use Rattle.hb_proxy.specs.Machine.{Machine, born_by, with_part, with_plain, with_gate, outward as outward_of}
 use Rattle.hb_proxy.specs.Notes.{note_in}
 use Rattle.hb_proxy.specs.Points.{Point, of_link, of_plain, of_gate, entry_in}
-use Rattle.hb_proxy.specs.Runs.{DialsGate, GateMayCome, LinkMayCome, PlainMayCome, Steps}
+use Rattle.hb_proxy.specs.Runs.{DialsGate, GateMayCome, LinkMayCome, MayDialGate, PlainMayCome, Steps}
 use Rattle.hb_relays.specs.Calls as relays
 use Rattle.hb_world.specs.declared.entry.Entry.{Entry}
 use Rattle.hb_whole.specs.declared.proxy.Proxy.{Proxy}
+use Rattle.hb_whole.proofs.Keeping.{IsSteady}
 use Rattle.hb_whole.proofs.LinkMay.{link_steps, up_steps}
 use Rattle.hb_whole.proofs.Still.{own_same, up_same, plain_same, gate_same}
 
@@ -46,11 +47,14 @@ pub record Guarded (p : Proxy) (x : Machine) (z : Entry) : Type 0 where
 pub record LinkGuarded (p : Proxy) (x : Machine) (l : ℕ) (z : Entry) : Type 0 where
   pub at : Guarded p x z
   pub found : point_for p.side.links l z ≡ Some at.point
+  pub steady : IsSteady at.point
   pub outward : outward_of at.next ≡ outward_of x
 
 pub record PlainGuarded (p : Proxy) (x : Machine) (l : ℕ) (z : Entry) : Type 0 where
   pub at : Guarded p x z
   pub found : relays.point_for p.side.relays l z ≡ Some at.point
+  -- but an entry of a plain link may bring its header
+  pub steady : IsSteady at.point ⊎ ((k : ℕ) × (at.point ≡ of_plain k (plain.entry z)))
   pub inbound : at.next.inbound ≡ x.inbound
 
 -- ON AN INBOUND LINK, AND ON AN UPSTREAM
@@ -69,6 +73,7 @@ guarded_link p x l z found may guard = record {
     same = λ still. own_same x l z (still.link (x.inbound l)) still.born;
   };
   found = found z;
+  steady = tt;
   outward = refl;
 }
 
@@ -86,6 +91,7 @@ guarded_up p x u l s z found may guard = record {
     same = λ still. up_same x l s z still.up still.born;
   };
   found = found z;
+  steady = tt;
   outward = refl;
 }
 
@@ -105,23 +111,26 @@ guarded_plain p x l z found may guard = record {
     same = λ still. plain_same x l (plain.entry z) (captured.entered z (x.plain l)) (still.plain (x.plain l)) still.born;
   };
   found = found z;
+  steady = inr (l, refl);
   inbound = refl;
 }
 
 pub guarded_relay : (p : Proxy) (x : Machine) (u l : ℕ) (z : Entry)
     → ((z : Entry) → relays.point_for p.side.relays u z ≡ Some (of_plain l (plain.up z)))
-    → captured_runs.UpMayCome l (x.plain l) z → PlainMayCome x l z → DialsGate x l → PlainGuarded p x u z
+    → captured_runs.UpMayCome l (x.plain l) z → PlainMayCome x l z → DialsGate x l × MayDialGate p.control.config x l
+    → PlainGuarded p x u z
 guarded_relay p x u l z found may guard dials = record {
   at = record {
     point = of_plain l (plain.up z);
     next = with_plain l (plain.up z) (captured.up_entered z (x.plain l)) x;
-    steps = (may, (guard, dials), refl);
+    steps = (may, (guard, dials.0, dials.1), refl);
     one = refl;
     no_note = refl;
     control = refl;
     same = λ still. plain_same x l (plain.up z) (captured.up_entered z (x.plain l)) (still.relay (x.plain l)) still.born;
   };
   found = found z;
+  steady = inl tt;
   inbound = refl;
 }
 
@@ -142,5 +151,6 @@ guarded_gate p x n z found may guard = record {
         still.born;
   };
   found = found z;
+  steady = inl tt;
   inbound = refl;
 }

@@ -36,6 +36,8 @@ use Rattle.hb_whole.proofs.ControlMay.{going_of, dialling_of, live_of, wants_own
 use Rattle.hb_whole.proofs.Controlling.{goes}
 use Rattle.hb_whole.proofs.Free.{free, goes_on as runs_on}
 use Rattle.hb_whole.proofs.Growing.{stood}
+use Rattle.hb_whole.proofs.Keeping.{few_kept, keeps_then, step_keeps}
+use Rattle.hb_whole.proofs.Limited.{limited_then, none_arriving}
 use Rattle.hb_whole.proofs.Relays.{gates_calm, plain_calm}
 use Rattle.hb_whole.proofs.Routes.{control_owner, seen_of, open_then, current_is}
 use Rattle.hb_whole.proofs.Stirring.{SideStirs, StirsOn, none_stir, stir_then, all_stir, other_stirs, stirs_now}
@@ -109,6 +111,9 @@ enters taken p n side trace z s goes_so going door may guard told_so =
           (subst (λ (ps : List Point). StandsFor g on.machine ps) (append_assoc s.points (of_control q ∷ []) on.more) on.run) door
           (ap (λ (zs : List Entry). z ∷ zs) on.silent)
           (subst (λ (c : Control). Shows n c) (sym on.control) r.shows) on.links on.relays on.noted refl
+          (limited_then p (with_state n side p) x on.machine refl told_so.0 on.counts
+          (few_kept g x on.machine (keeps_then x y on.machine (step_keeps g x y (of_control q) tt steps) on.keeps)
+          (plain_calm p.side.relays s.relays) (none_arriving side.links on.machine.inbound on.links)) s.limited)
           (subst (λ (o : Option _). EndsBy o on.machine) (sym going) (ap (λ (c : Control). c.over) on.control ∙ kept.0 ∙ goes_so)) refl;
       number = number_is n.link r.machine r.shows.link ∙ kept.1;
       stirs = judged_stirs (held_behind m.held r.points) p.side side r.judged;

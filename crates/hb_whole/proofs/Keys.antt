@@ -7,7 +7,7 @@ use Rattle.hb_base.specs.declared.door.Door.TheVariants as door
 use Rattle.hb_base.specs.declared.identity.Identity.{Identity}
 use Rattle.hb_base.specs.declared.ip.Ip.{Ip}
 use Rattle.hb_captured.specs.Answer.{Aim, Routing, straight_to, through, key_of, key_for, aims, by_verdict, by_way, identity_at, identity_in, is_sent, refused_with, answer_on, verdict_on, way_on}
-use Rattle.hb_captured.specs.Captured.{Captured, Stage, ends_for, entered, fronting, came_by, judged_by, judges, is_judged, rejudged, told_by, up_entered}
+use Rattle.hb_captured.specs.Captured.{Captured, Stage, entered, fronting, came_by, judged_by, judges, is_judged, rejudged, told_by, up_entered}
 use Rattle.hb_captured.specs.Part as part
 use Rattle.hb_captured.specs.Part.{Part}
 use Rattle.hb_captured.specs.Runs.{Local, MayGo, next_link}

@@ -1,5 +1,7 @@
 pub mod Beside
+pub mod Keeping
 pub mod Leading
+pub mod Limited
 pub mod Growing
 pub mod Relays
 pub mod Free

@@ -14,6 +14,7 @@ use Rattle.hb_inbound.specs.Tunnel as t
 use Rattle.hb_inbound.specs.Tunnel.{Tunnel, Stage, up_entered}
 use Rattle.hb_links.specs.Acts as links
 use Rattle.hb_links.specs.Acts.{Does}
+use Rattle.hb_links.specs.Load.{Recounts}
 use Rattle.hb_links.specs.Shows.{ShowsAll}
 use Rattle.hb_links.specs.Stirring.{StirsBut, closed_in}
 use Rattle.hb_links.specs.declared.links.Links.{Links}
@@ -41,6 +42,7 @@ use Rattle.hb_whole.specs.Stands.{Stands, EndsBy, Ends, LinkEnds, TunnelEnds, Di
 use Rattle.hb_whole.specs.declared.proxy.Proxy.{Proxy}
 use Rattle.hb_whole.specs.declared.side.Side.{Side}
 use Rattle.hb_whole.proofs.Free.{control_rests}
+use Rattle.hb_whole.proofs.Keeping.{IsSteady}
 use Rattle.hb_whole.proofs.Relays.{gates_calm, plain_calm}
 use Rattle.hb_whole.proofs.Routes.{seen_of, lives_then, shut_then}
 use Rattle.hb_whole.proofs.Stirring.{links_stir}
@@ -99,7 +101,7 @@ link_ends_at (Some c) x l p next phase tunnels is =
 -- of an inbound one
 module _ (taken : List Note) (p : Proxy) (links_behind : Links) (trace : List Entry) (s : Stands taken p trace) (l : ℕ) (q : Part)
     (z : Entry) (does : Does links_behind p.control.config s.machine l q) (one : part.entry_in q ≡ z ∷ [])
-    (none : part.note_in q ≡ []) where
+    (none : part.note_in q ≡ []) (steady : IsSteady (of_link l q)) (counts : Recounts p.side.links links_behind) where
   abbrev pub side_behind : Side
   side_behind = record p.side { links = links_behind }
 
@@ -113,13 +115,13 @@ module _ (taken : List Note) (p : Proxy) (links_behind : Links) (trace : List En
       let y_is : does.y ≡ with_part l q does.steps.0 s.machine = does.steps.3 in
       acted taken p side_behind trace s z (of_link l q) does.y does.steps (ap (λ (y : Machine). y.control) y_is)
       (ap (λ (zs : List Entry). zs ++ []) one) (ap (λ (ns : List Note). ns ++ []) none) door does.shows
-      (subst (λ (y : Machine). ShowsRelays p.control.config p.side.relays (outward y)) (sym y_is) s.relays) refl
+      (subst (λ (y : Machine). ShowsRelays p.control.config p.side.relays (outward y)) (sym y_is) s.relays) refl steady counts
       (subst (λ (y : Machine). EndsBy p.ends_for y) (sym y_is) ends)
 
 -- THE LINK'S OWN CLOSE
 
-module _ (taken : List Note) (p : Proxy) (links_behind : Links) (trace : List Entry) (s : Stands taken p trace) (l : ℕ) (cause : Cause)
-    (does : Does links_behind p.control.config s.machine l (part.entry (e.Closed l cause))) where
+module _ (taken : List Note) (p : Proxy) (links_behind : Links) (counts : Recounts p.side.links links_behind) (trace : List Entry)
+    (s : Stands taken p trace) (l : ℕ) (cause : Cause) (does : Does links_behind p.control.config s.machine l (part.entry (e.Closed l cause))) where
   abbrev x : Machine
   x = s.machine
 
@@ -141,7 +143,7 @@ module _ (taken : List Note) (p : Proxy) (links_behind : Links) (trace : List En
 
   pub own_stands : Stands taken (with_act (record p.side { links = links_behind }) None p.strange p) (trace ++ e.Closed l cause ∷ [])
   own_stands =
-      does_stands taken p links_behind trace s l (part.entry (e.Closed l cause)) (e.Closed l cause) does refl refl
+      does_stands taken p links_behind trace s l (part.entry (e.Closed l cause)) (e.Closed l cause) does refl refl tt counts
       (link_ends_at p.ends_for x l (part.entry (e.Closed l cause)) does.steps.0
       (λ c so. subst (λ (y : Inbound). LinkEnds c y.phase) (sym next_is) tt)
       (λ c s so. subst (λ (y : Inbound). TunnelEnds c (y.tunnels s).stage) (sym next_is) so) s.ends) refl
@@ -184,7 +186,8 @@ up_joins x g points run l s u stage is up shape =
       ap (λ (r : Stage). up_by r ((x.inbound l).tunnels s)) is ∙ shape.0 ((x.inbound l).tunnels s) ∙ up,
     )
 
-module _ (taken : List Note) (p : Proxy) (links_behind : Links) (trace : List Entry) (s : Stands taken p trace) (l k u : ℕ) where
+module _ (taken : List Note) (p : Proxy) (links_behind : Links) (counts : Recounts p.side.links links_behind) (trace : List Entry)
+    (s : Stands taken p trace) (l k u : ℕ) where
   -- its close
   module _ (cause : Cause) (does : Does links_behind p.control.config s.machine l (part.up k (e.Closed u cause))) where
     closing : Joins ((s.machine.inbound l).tunnels k) u
@@ -202,7 +205,7 @@ module _ (taken : List Note) (p : Proxy) (links_behind : Links) (trace : List En
 
     pub up_stands : Stands taken (with_act (record p.side { links = links_behind }) None p.strange p) (trace ++ e.Closed u cause ∷ [])
     up_stands =
-        does_stands taken p links_behind trace s l (part.up k (e.Closed u cause)) (e.Closed u cause) does refl refl
+        does_stands taken p links_behind trace s l (part.up k (e.Closed u cause)) (e.Closed u cause) does refl refl tt counts
         (up_ends p.control.config s.machine does.y l k (e.Closed u cause) does.steps p.ends_for (λ c w is. tt) s.ends) refl
 
   -- its shut
@@ -226,13 +229,13 @@ module _ (taken : List Note) (p : Proxy) (links_behind : Links) (trace : List En
     pub shut_stands : p.ends_for ≡ None
         → Stands taken (with_act (record p.side { links = links_behind }) None p.strange p) (trace ++ e.Shut u ∷ [])
     shut_stands going =
-        does_stands taken p links_behind trace s l (part.up k (e.Shut u)) (e.Shut u) does refl refl
+        does_stands taken p links_behind trace s l (part.up k (e.Shut u)) (e.Shut u) does refl refl tt counts
         (up_ends p.control.config s.machine does.y l k (e.Shut u) does.steps p.ends_for (λ c w is. is) s.ends) refl
 
 -- ALL OF THEM
 
 -- of the inbound links
-module _ (p : Proxy) (links_behind : Links) (rests : due_of p.control ≡ None) where
+module _ (p : Proxy) (links_behind : Links) (counts : Recounts p.side.links links_behind) (rests : due_of p.control ≡ None) where
   abbrev side : Side
   side = record p.side { links = links_behind }
 
@@ -245,23 +248,23 @@ module _ (p : Proxy) (links_behind : Links) (rests : due_of p.control ≡ None) 
   gives_by : (due : Act) → links.Acts (Some due) p.side.links links_behind → Gives p side due
   gives_by (act.Close u cause) acts = λ taken trace s.
       ⊎_elim (λ does. record {
-        alive = own_lives taken p links_behind trace s u cause does;
-        stands = own_stands taken p links_behind trace s u cause does;
-        for = own_cause taken p links_behind trace s u cause does;
+        alive = own_lives taken p links_behind counts trace s u cause does;
+        stands = own_stands taken p links_behind counts trace s u cause does;
+        for = own_cause taken p links_behind counts trace s u cause does;
       })
       (λ at. record {
-        alive = up_lives taken p links_behind trace s at.0 at.1 u cause at.2;
-        stands = up_stands taken p links_behind trace s at.0 at.1 u cause at.2;
-        for = up_cause taken p links_behind trace s at.0 at.1 u cause at.2;
+        alive = up_lives taken p links_behind counts trace s at.0 at.1 u cause at.2;
+        stands = up_stands taken p links_behind counts trace s at.0 at.1 u cause at.2;
+        for = up_cause taken p links_behind counts trace s at.0 at.1 u cause at.2;
       }) (on (Some (act.Close u cause)) acts taken trace s)
   gives_by (act.Shut u) acts = λ taken trace s.
       let at = on (Some (act.Shut u)) acts taken trace s in
-      let both = shut_lives taken p links_behind trace s at.0 at.1 u at.2 in
+      let both = shut_lives taken p links_behind counts trace s at.0 at.1 u at.2 in
       record {
         alive = both.0;
         unshut = both.1;
-        stands = shut_stands taken p links_behind trace s at.0 at.1 u at.2;
-        goes = shut_goes taken p links_behind trace s at.0 at.1 u at.2;
+        stands = shut_stands taken p links_behind counts trace s at.0 at.1 u at.2;
+        goes = shut_goes taken p links_behind counts trace s at.0 at.1 u at.2;
       }
   gives_by (act.Dial to why) acts = λ taken trace s.
       let at = on (Some (act.Dial to why)) acts taken trace s in
@@ -269,6 +272,7 @@ module _ (p : Proxy) (links_behind : Links) (rests : due_of p.control ≡ None) 
         links = at.0;
         relays = s.relays;
         noted = refl;
+        counts = counts;
         due = subst (λ (w : Why). DialIsDue p.control.config s.machine to w) (sym at.3)
             (control_rests p.control s.machine.control s.control rests, at.4, at.5);
         goes = λ c is. subst (λ (r : Stage). TunnelEnds c r) at.4

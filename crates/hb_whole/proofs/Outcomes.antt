@@ -9,6 +9,10 @@ pub if_ok : {T E : Type 0} (r : Result T E) (A B : Type 0) → (A → B) → IfO
 if_ok (Ok x) A B makes had = makes had
 if_ok (Err why) A B makes had = tt
 
+pub three_ok : {T E : Type 0} (r : Result T E) (A B C D : Type 0) → (A → B → C → D) → OnOk r A → OnOk r B → OnOk r C → OnOk r D
+three_ok (Ok x) A B C D makes first second third = makes first second third
+three_ok (Err why) A B C D makes first second third = tt
+
 pub two_ok : {T E : Type 0} (r : Result T E) (A B C : Type 0) → (A → B → C) → OnOk r A → OnOk r B → OnOk r C
 two_ok (Ok x) A B C makes first second = makes first second
 two_ok (Err why) A B C makes first second = tt

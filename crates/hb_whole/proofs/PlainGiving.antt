@@ -15,6 +15,7 @@ use Rattle.hb_captured.specs.Part.{Part}
 use Rattle.hb_captured.specs.Runs as captured
 use Rattle.hb_links.proofs.Acting.{all_calm}
 use Rattle.hb_links.specs.Acts as links
+use Rattle.hb_links.specs.Load.{Recounts}
 use Rattle.hb_links.specs.Shows.{ShowsAll}
 use Rattle.hb_links.specs.Stirring as links_stirring
 use Rattle.hb_links.specs.declared.links.Links.{Links}
@@ -42,6 +43,7 @@ use Rattle.hb_whole.specs.Stands.{Stands, EndsBy, Ends, PlainEnds, PlainEndsBy, 
 use Rattle.hb_whole.specs.declared.proxy.Proxy.{Proxy}
 use Rattle.hb_whole.specs.declared.side.Side.{Side}
 use Rattle.hb_whole.proofs.Free.{control_rests}
+use Rattle.hb_whole.proofs.Keeping.{IsSteady}
 use Rattle.hb_whole.proofs.GateGiving.{gate_closes}
 use Rattle.hb_whole.proofs.Giving.{acted, gives, Closes, Gives, Shuts, given_behind, not_shut, waits}
 use Rattle.hb_whole.proofs.LinkGiving.{links_asked}
@@ -122,7 +124,7 @@ plain_due g x to (through key authority endpoint) d l due = due
 
 -- the inbound links were asked first, and are shown still
 module _ (taken : List Note) (p : Proxy) (asked : Links) (behind : Relays) (trace : List Entry) (stands : Stands taken p trace)
-    (shown : ShowsAll asked stands.machine.inbound) where
+    (shown : ShowsAll asked stands.machine.inbound) (counts : Recounts p.side.links asked) where
   abbrev pub side_behind : Side
   side_behind = record p.side { links = asked; relays = behind }
 
@@ -141,13 +143,14 @@ module _ (taken : List Note) (p : Proxy) (asked : Links) (behind : Relays) (trac
 
   -- it is done
   does_stands : (l : ℕ) (q : Part) (z : Entry) (does : Does behind p.control.config x l q) → part.entry_in q ≡ z ∷ []
-      → part.note_in q ≡ [] → is_at_door z ≡ false → EndsBy p.ends_for (with_plain l q (captured.next_link (x.plain l) q) x)
+      → part.note_in q ≡ [] → is_at_door z ≡ false → IsSteady (of_plain l q)
+      → EndsBy p.ends_for (with_plain l q (captured.next_link (x.plain l) q) x)
       → Stands taken (with_act side_behind None p.strange p) (trace ++ z ∷ [])
-  does_stands l q z does one none door ends =
+  does_stands l q z does one none door steady ends =
       let y_is = does.steps.2 in
       acted taken p side_behind trace stands z (of_plain l q) does.y does.steps (ap (λ (y : Machine). y.control) y_is)
       (ap (λ (zs : List Entry). zs ++ []) one) (ap (λ (ns : List Note). ns ++ []) none) door
-      (subst (λ (y : Machine). ShowsAll asked y.inbound) (sym y_is) shown) does.shows refl
+      (subst (λ (y : Machine). ShowsAll asked y.inbound) (sym y_is) shown) does.shows refl steady counts
       (subst (λ (y : Machine). EndsBy p.ends_for y) (sym y_is) ends)
 
   -- a link's own close
@@ -158,7 +161,7 @@ module _ (taken : List Note) (p : Proxy) (asked : Links) (behind : Relays) (trac
       let left : (x.plain u).closed ≡ true → ⊥ = λ closed. cc in
       record {
         alive = link_lives u (subst (λ (r : Stage). IsPlainThereBy r (x.plain u).closed) (sym may.2) may.3);
-        stands = does_stands u (part.entry (e.Closed u why)) (e.Closed u why) does refl refl refl
+        stands = does_stands u (part.entry (e.Closed u why)) (e.Closed u why) does refl refl refl tt
             (keeps_ends p.ends_for x u (part.entry (e.Closed u why)) (record (x.plain u) { closed = true })
             (λ c so. ends_still c (x.plain u).stage (x.plain u) (record (x.plain u) { closed = true }) (λ gone. (refl, gone.1)) so)
             stands.ends);
@@ -172,7 +175,7 @@ module _ (taken : List Note) (p : Proxy) (asked : Links) (behind : Relays) (trac
       let may : captured.UpMayCome l (x.plain l) (e.Closed u why) = does.steps.0 in
       record {
         alive = relay_lives l u (may.3, may.2);
-        stands = does_stands l (part.up (e.Closed u why)) (e.Closed u why) does refl refl refl
+        stands = does_stands l (part.up (e.Closed u why)) (e.Closed u why) does refl refl refl tt
             (keeps_ends p.ends_for x l (part.up (e.Closed u why)) (record (x.plain l) { up = 0 })
             (λ c so. ends_still c (x.plain l).stage (x.plain l) (record (x.plain l) { up = 0 }) (λ gone. (gone.0, refl)) so)
             stands.ends);
@@ -182,11 +185,11 @@ module _ (taken : List Note) (p : Proxy) (asked : Links) (behind : Relays) (trac
 
   -- a shut is of a run that goes on, and says nothing of its end
   shut_stands : (l : ℕ) (q : Part) (z : Entry) (does : Does behind p.control.config x l q) → part.entry_in q ≡ z ∷ []
-      → part.note_in q ≡ [] → is_at_door z ≡ false → p.ends_for ≡ None
+      → part.note_in q ≡ [] → is_at_door z ≡ false → IsSteady (of_plain l q) → p.ends_for ≡ None
       → (with_plain l q (captured.next_link (x.plain l) q) x).control.over ≡ x.control.over
       → Stands taken (with_act side_behind None p.strange p) (trace ++ z ∷ [])
-  shut_stands l q z does one none door going over =
-      does_stands l q z does one none door
+  shut_stands l q z does one none door steady going over =
+      does_stands l q z does one none door steady
       (subst (λ (o : Option Cause). EndsBy o (with_plain l q (captured.next_link (x.plain l) q) x)) (sym going)
       (over ∙ subst (λ (o : Option Cause). EndsBy o x) going stands.ends))
 
@@ -198,7 +201,7 @@ module _ (taken : List Note) (p : Proxy) (asked : Links) (behind : Relays) (trac
         alive = link_lives u there;
         unshut = sym (shut_then trace u) ∙ (seen_of taken p trace stands).plain.link_shut u there
             ∙ not_shut (x.plain u).shut (and_parts _ _ may.3).1;
-        stands = λ going. shut_stands u (part.entry (e.Shut u)) (e.Shut u) does refl refl refl going refl;
+        stands = λ going. shut_stands u (part.entry (e.Shut u)) (e.Shut u) does refl refl refl tt going refl;
         goes = λ c ends. never_live c (x.plain u) may.2 ((ends_so c ends).plain u);
       }
 
@@ -210,7 +213,7 @@ module _ (taken : List Note) (p : Proxy) (asked : Links) (behind : Relays) (trac
         alive = relay_lives l u joins;
         unshut = sym (shut_then trace u) ∙ ((seen_of taken p trace stands).plain.up l u joins).1
             ∙ unshut_up (x.plain l) may.4;
-        stands = λ going. shut_stands l (part.up (e.Shut u)) (e.Shut u) does refl refl refl going refl;
+        stands = λ going. shut_stands l (part.up (e.Shut u)) (e.Shut u) does refl refl refl tt going refl;
         goes = λ c ends. never_live c (x.plain l) may.1 ((ends_so c ends).plain l);
       }
 
@@ -218,7 +221,7 @@ module _ (taken : List Note) (p : Proxy) (asked : Links) (behind : Relays) (trac
 
 -- the inbound links were asked first, and gave none
 module _ (p : Proxy) (asked : Links) (behind : Relays) (rests : due_of p.control ≡ None) (none : links.Acts None p.side.links asked)
-    (still : links_stirring.StirsBut None p.side.links asked) where
+    (counts : Recounts p.side.links asked) (still : links_stirring.StirsBut None p.side.links asked) where
   abbrev side : Side
   side = record p.side { links = asked; relays = behind }
 
@@ -229,24 +232,25 @@ module _ (p : Proxy) (asked : Links) (behind : Relays) (rests : due_of p.control
       (all_calm p.side.links s.machine.inbound s.links)
 
   shown : (taken : List Note) (trace : List Entry) (s : Stands taken p trace) → ShowsAll asked s.machine.inbound
-  shown taken trace s = links_asked p asked rests none taken trace s
+  shown taken trace s = links_asked p asked counts rests none taken trace s
 
   gives_by : (due : Act) → relays.Acts (Some due) p.side.relays behind → Gives p side due
   gives_by (act.Close u why) acts = λ taken trace s.
       let links = shown taken trace s in
-      ⊎_elim (λ does. own_closes taken p asked behind trace s links u why does)
-      (λ more. ⊎_elim (λ at. up_closes taken p asked behind trace s links at.0 u why at.1)
-      (λ does. gate_closes taken p asked behind trace s links u why does) more) (on (Some (act.Close u why)) acts taken trace s)
+      ⊎_elim (λ does. own_closes taken p asked behind trace s links counts u why does)
+      (λ more. ⊎_elim (λ at. up_closes taken p asked behind trace s links counts at.0 u why at.1)
+      (λ does. gate_closes taken p asked behind trace s links counts u why does) more) (on (Some (act.Close u why)) acts taken trace s)
   gives_by (act.Shut u) acts = λ taken trace s.
       let links = shown taken trace s in
-      ⊎_elim (λ does. own_shuts taken p asked behind trace s links u does)
-      (λ at. up_shuts taken p asked behind trace s links at.0 u at.1) (on (Some (act.Shut u)) acts taken trace s)
+      ⊎_elim (λ does. own_shuts taken p asked behind trace s links counts u does)
+      (λ at. up_shuts taken p asked behind trace s links counts at.0 u at.1) (on (Some (act.Shut u)) acts taken trace s)
   gives_by (act.Dial to why) acts = λ taken trace s.
       let at = on (Some (act.Dial to why)) acts taken trace s in
       record {
         links = shown taken trace s;
         relays = at.0;
         noted = refl;
+        counts = counts;
         due = subst (λ (w : Why). DialIsDue p.control.config s.machine to w) (sym at.2)
             (plain_due p.control.config s.machine to (s.machine.plain at.1).aim (s.machine.plain at.1).door at.1
             (control_rests p.control s.machine.control s.control rests, refl, at.3, at.4, at.5));
@@ -264,7 +268,7 @@ module _ (p : Proxy) (asked : Links) (behind : Relays) (rests : due_of p.control
   pub none_given : relays.Acts None p.side.relays behind → relays_stirring.StirsBut None p.side.relays behind
       → Acts Stands shown_of None p (record p { side = side; dials = None })
   none_given acts stirs = λ taken trace s. (
-    waits p side taken trace s None (shown taken trace s) (on None acts taken trace s).0 refl tt,
+    waits p side taken trace s None (shown taken trace s) (on None acts taken trace s).0 refl counts tt,
     act_stirs p side None p.strange trace
         (λ l alive. record { links = still l (λ same. absurd cc); relays = stirs l (λ same. absurd cc) }),
   )

@@ -16,7 +16,7 @@ use Rattle.hb_proxy.proofs.Owned.{all_owned, whose_in}
 use Rattle.hb_proxy.specs.Doors.{without_doors}
 use Rattle.hb_proxy.specs.Machine.{Machine}
 use Rattle.hb_proxy.specs.Points.{of_plain, of_gate}
-use Rattle.hb_proxy.specs.Runs.{DialsGate}
+use Rattle.hb_proxy.specs.Runs.{DialsGate, MayDialGate}
 use Rattle.hb_proxy.specs.Seen.{Seen, IsPlainThere, IsGateThere}
 use Rattle.hb_proxy.specs.Ups.{IsRelayOf}
 use Rattle.hb_ready.specs.Sight.{is_open}
@@ -65,9 +65,9 @@ module _ (taken : List Note) (p : Proxy) (trace : List Entry) (s : Stands taken 
   seen = seen_of taken p trace s
 
   -- a link with an upstream goes straight
-  dials : (k : ℕ) → IsRelayOf (x.plain k) l → DialsGate x k
+  dials : (k : ℕ) → IsRelayOf (x.plain k) l → DialsGate x k × MayDialGate p.control.config x k
   dials k joins =
-      dials_none x k ((runs_straight p.control.config x s.points s.run k).straight
+      dials_none p.control.config x k ((runs_straight p.control.config x s.points s.run k).straight
       (subst (λ (u : ℕ). 0 < u) (sym joins.1) joins.0))
 
   -- it is one to a gateway

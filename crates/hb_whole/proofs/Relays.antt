@@ -14,8 +14,9 @@ use Rattle.hb_gateway.specs.Gateway.{Gateway}
 use Rattle.hb_gateway.specs.Key.{Key}
 use Rattle.hb_kept.specs.Kept.{IsKept}
 use Rattle.hb_model.specs.declared.config.NodeConfig.{NodeConfig}
+use Rattle.hb_proxy.specs.Load.{LinksFull}
 use Rattle.hb_proxy.specs.Machine.{Machine, Outward, outward}
-use Rattle.hb_proxy.specs.Runs.{DialsGate, GatesLet, IfThrough, NoneOffers}
+use Rattle.hb_proxy.specs.Runs.{DialsGate, GatesLet, IfThrough, MayDialGate, NoneOffers}
 use Rattle.hb_proxy.specs.Seen.{IsPlainThere, IsGateThere}
 use Rattle.hb_relay.specs.declared.relay.Relay.{Relay}
 use Rattle.hb_relays.proofs.Away.{away_is}
@@ -143,9 +144,12 @@ module _ {g : NodeConfig} (k : Relays) {out : Outward} (shows : ShowsRelays g k 
       by false is = refl
       by true is = absurd (never (present n (get k.ups n) (has_relay n) refl refl is))
 
--- one that goes straight waits for no link to a gateway
-pub dials_none : (x : Machine) (l : ℕ) → key_of (x.plain l).aim ≡ None → DialsGate x l
-dials_none x l straight = subst (λ (o : Option Key). IfThrough o (NoneOffers x)) (sym straight) tt
+-- one that goes straight waits for no link to a gateway, whether one may be dialled or not
+pub dials_none : (g : NodeConfig) (x : Machine) (l : ℕ) → key_of (x.plain l).aim ≡ None → DialsGate x l × MayDialGate g x l
+dials_none g x l straight = (
+  subst (λ (o : Option Key). IfThrough o (NoneOffers x)) (sym straight) tt,
+  subst (λ (o : Option Key). IfThrough o (λ key. LinksFull false g x)) (sym straight) tt,
+)
 
 -- HOW MUCH MAY BE READ, AND WHAT IS TO BE WRITTEN
 

@@ -49,6 +49,7 @@ still taken p trace z s at next steps same door one none = record {
   noted = notes_grow taken (told p.side.notes) (told p.side.notes) s.points (at ∷ [])
       (subst (λ (ns : List Note). Takes (told p.side.notes) ns (told p.side.notes)) (sym none) (takes_none (told p.side.notes))) s.noted;
   dial = s.dial;
+  limited = s.limited;
   ends = s.ends;
   sound = s.sound;
 }
@@ -66,6 +67,7 @@ at_door taken p trace z door s = record {
   relays = s.relays;
   noted = s.noted;
   dial = s.dial;
+  limited = s.limited;
   ends = s.ends;
   sound = s.sound;
 }

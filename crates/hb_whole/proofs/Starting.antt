@@ -2,9 +2,11 @@
 use Rattle.std.proofs.Common.{◌≡◌, ◌&&◌, Bool, true, false, is_none, List, [], Option, Some, None, refl, ap, sym, ◌∙◌, subst}
 use Rattle.hb_base.specs.declared.cause.Cause.{Cause}
 use Rattle.hb_base.specs.declared.note.Note.{Note}
+use Rattle.hb_captured.specs.Captured.{unborn, due as waits}
 use Rattle.hb_held.specs.Held.{nothing_held}
 use Rattle.hb_inbound.specs.Inbound.{no_link}
 use Rattle.hb_links.specs.Busy as busy
+use Rattle.hb_links.specs.Load.{IsCounted}
 use Rattle.hb_links.specs.Shows.{ShowsAll}
 use Rattle.hb_model.specs.Machine as control
 use Rattle.hb_model.specs.declared.config.NodeConfig.{NodeConfig}
@@ -18,11 +20,13 @@ use Rattle.hb_whole.specs.Queue.{told}
 use Rattle.hb_whole.specs.Sight.{shown_of, closes_by, is_idle}
 use Rattle.hb_whole.specs.Stands.{Stands, AreNotes, MayBeDialled, EndsBy}
 use Rattle.hb_whole.specs.declared.proxy.Proxy.{Proxy}
+use Rattle.hb_whole.proofs.Keeping.{none_few}
 
 pub fresh_stands : (p : Proxy) (g : NodeConfig) → p.control ≡ fresh_state g (nothing_held g.network g.node g.doors)
     → Shows p.control (control.fresh g) → ShowsAll p.side.links (λ l. no_link) → ShowsRelays g p.side.relays (outward (fresh g))
-    → told p.side.notes ≡ Some [] → p.dials ≡ None → p.ends_for ≡ None → p.strange ≡ false → Stands [] p []
-fresh_stands p g state shows links relays noted dials ends sound = record {
+    → told p.side.notes ≡ Some [] → p.dials ≡ None → p.limits ≡ g.limits → IsCounted p.side.links → p.ends_for ≡ None
+    → p.strange ≡ false → Stands [] p []
+fresh_stands p g state shows links relays noted dials limits counted ends sound = record {
   machine = fresh g;
   points = [];
   run = subst (λ (c : NodeConfig). StandsFor c (fresh g) []) (ap (λ (s : State). s.config) (sym state)) (begins refl refl);
@@ -32,6 +36,11 @@ fresh_stands p g state shows links relays noted dials ends sound = record {
   relays = subst (λ (c : NodeConfig). ShowsRelays c p.side.relays (outward (fresh g))) (ap (λ (s : State). s.config) (sym state)) relays;
   noted = subst (λ (o : Option (List Note)). AreNotes [] o []) (sym noted) refl;
   dial = subst (λ d. MayBeDialled p.control.config (fresh g) d) (sym dials) tt;
+  limited = record {
+    limits = limits ∙ ap (λ (s : State). s.config.limits) (sym state);
+    counted = counted;
+    few = none_few p.control.config (fresh g) (λ l due. (let no : unborn ≡ waits = due in cc no));
+  };
   ends = subst (λ (o : Option Cause). EndsBy o (fresh g)) (sym ends) refl;
   sound = sound;
 }

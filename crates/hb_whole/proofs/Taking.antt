@@ -4,6 +4,7 @@ use Rattle.std.specs.Option.{option_to_list}
 use Rattle.std.proofs.lemmas.List.{append_assoc}
 use Rattle.std.proofs.lemmas.Bool.{eqb-true}
 use Rattle.hb_base.specs.declared.note.Note.{Note}
+use Rattle.hb_links.specs.Load.{Recounts}
 use Rattle.hb_links.specs.Shows.{IsAway}
 use Rattle.hb_links.specs.Stirring as links
 use Rattle.hb_links.specs.declared.links.Links.{Links}
@@ -25,6 +26,7 @@ use Rattle.hb_whole.specs.declared.owner.Owner.{Owner}
 use Rattle.hb_whole.specs.declared.owner.Owner.TheVariants.{Control, Plain, Inbound}
 use Rattle.hb_whole.specs.declared.proxy.Proxy.{Proxy}
 use Rattle.hb_whole.specs.declared.queue.Queue.{Queue}
+use Rattle.hb_whole.proofs.Limited.{limited_then}
 use Rattle.hb_whole.proofs.Routes.{LinkRoute, PlainRoute, to_link, to_up, to_plain, to_relay, to_gate, is_owned, link_route, plain_route}
 
 -- A NOTE
@@ -45,6 +47,7 @@ pub takes_next : {E : Type 0} (p : Proxy) (q : Queue) (r : Result (Option Note) 
     → Stands (taken ++ option_to_list note) (with_notes q p) trace)
 takes_next p q (Err why) head still = tt
 takes_next p q (Ok note) head still = λ taken trace s. record {
+  limited = limited_then p (with_notes q p) s.machine s.machine refl refl (λ is. is) (λ few. few) s.limited;
   machine = s.machine;
   points = s.points;
   run = s.run;
@@ -66,6 +69,7 @@ own_heard p = record p { stirs = false }
 
 own_stands : (taken : List Note) (p : Proxy) (trace : List Entry) → Stands taken p trace → Stands taken (own_heard p) trace
 own_stands taken p trace s = record {
+  limited = limited_then p (own_heard p) s.machine s.machine refl refl (λ is. is) (λ few. few) s.limited;
   machine = s.machine;
   points = s.points;
   run = s.run;
@@ -141,10 +145,10 @@ module _ (taken : List Note) (p : Proxy) (trace : List Entry) (s : Stands taken 
       at (to_gate there up relay found) = inr (inr there)
 
 pub doors_hear : (taken : List Note) (p : Proxy) (new : Links) (behind : Relays) (result : Option ℕ) (trace : List Entry)
-    → own_told p ≡ None → links.Hears result p.side.links new → relays.Hears result p.side.relays behind
+    → own_told p ≡ None → links.Hears result p.side.links new → Recounts p.side.links new → relays.Hears result p.side.relays behind
     → relays.OnlyHears p.side.relays behind → Stands taken p trace
     → Stands taken (links_heard new behind p) trace × Hears trace result (shown_of p) (shown_of (links_heard new behind p))
-doors_hear taken p new behind result trace none hears relays_hear only s =
+doors_hear taken p new behind result trace none hears counts relays_hear only s =
     let heard = hears s.machine.inbound s.links in
     let relays_heard = relays_hear p.control.config (outward s.machine) s.relays in (
       record {
@@ -157,6 +161,7 @@ doors_hear taken p new behind result trace none hears relays_hear only s =
         relays = relays_heard.0;
         noted = s.noted;
         dial = s.dial;
+        limited = limited_then p (links_heard new behind p) s.machine s.machine refl refl counts (λ few. few) s.limited;
         ends = s.ends;
         sound = s.sound;
       },

@@ -13,6 +13,7 @@ use Rattle.hb_inbound.specs.Inbound as inbound
 use Rattle.hb_inbound.specs.Inbound.{Inbound}
 use Rattle.hb_inbound.specs.Tunnel as t
 use Rattle.hb_proxy.specs.Notes.{notes as notes_of}
+use Rattle.hb_links.specs.Load.{IsCounted}
 use Rattle.hb_links.specs.Shows.{ShowsAll}
 use Rattle.hb_model.specs.Discovery as discovery
 use Rattle.hb_model.specs.declared.config.NodeConfig.{NodeConfig}
@@ -20,7 +21,7 @@ use Rattle.hb_node.specs.State.{Shows}
 use Rattle.hb_proxy.specs.Doors.{without_doors}
 use Rattle.hb_proxy.specs.Machine.{Machine, outward}
 use Rattle.hb_proxy.specs.Points.{Point, entries}
-use Rattle.hb_proxy.specs.Runs.{ControlRests, DialsGate, StandsFor}
+use Rattle.hb_proxy.specs.Runs.{ControlRests, DialsGate, MayDialGate, StandsFor}
 use Rattle.hb_relays.specs.Shows.{ShowsRelays}
 use Rattle.hb_world.specs.declared.entry.Entry.{Entry}
 use Rattle.hb_whole.specs.Queue.{told}
@@ -106,6 +107,17 @@ abbrev pub EndsBy : Option Cause → Machine → Type 0
 EndsBy None x = x.control.over ≡ false
 EndsBy (Some cause) x = (x.control.over ≡ true) × Ends cause x
 
+-- no two plain links wait for a dial; and for the one that waits for a link to its gateway there may be one link more
+pub record WaitsAreFew (g : NodeConfig) (x : Machine) : Type 0 where
+  pub one : (l k : ℕ) → (x.plain l).stage ≡ plain.due → (x.plain k).stage ≡ plain.due → l ≡ k
+  pub room : (l : ℕ) → (x.plain l).stage ≡ plain.due → MayDialGate g x l
+
+-- the code keeps the limits that it was told, and counts the tunnels of its inbound links
+pub record IsLimited (p : Proxy) (x : Machine) : Type 0 where
+  pub limits : p.limits ≡ p.control.config.limits
+  pub counted : IsCounted p.side.links
+  pub few : WaitsAreFew p.control.config x
+
 -- The proxy stands for a trace, of whose notes these were taken: a run of the machine leads to one that the code shows, whose entries are
 -- the trace but for the calls at doors that gave no link
 pub record Stands (taken : List Note) (p : Proxy) (trace : List Entry) : Type 0 where
@@ -118,5 +130,6 @@ pub record Stands (taken : List Note) (p : Proxy) (trace : List Entry) : Type 0 
   pub relays : ShowsRelays p.control.config p.side.relays (outward machine)
   pub noted : AreNotes taken (told p.side.notes) points
   pub dial : MayBeDialled p.control.config machine p.dials
+  pub limited : IsLimited p machine
   pub ends : EndsBy p.ends_for machine
   pub sound : p.strange ≡ false

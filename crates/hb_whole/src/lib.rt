@@ -7,4 +7,4 @@ mod proxy;
 mod queue;
 mod side;
 
-pub use proxy::{Limits, Proxy};
+pub use proxy::Proxy;

@@ -18,18 +18,11 @@ use crate::queue::Queue;
 use crate::side::Side;
 use hb_base::{Cause, Door, NoMemory, Note, Target, Why};
 use hb_links::Links;
-use hb_model::{Act as ControlAct, NodeConfig};
+use hb_model::{Act as ControlAct, Limits, NodeConfig};
 use hb_node::Node as Control;
 use hb_relays::Relays;
 use hb_world::Act;
 use std::alloc::Global;
-
-/// The most inbound links and links to gateways that may be open at a time, and the most tunnels; a plain link is one, from its birth.
-#[derive(Clone, Copy)]
-pub struct Limits {
-    pub links: usize,
-    pub tunnels: usize,
-}
 
 /// A node of the mesh: its link to the control plane, its inbound links with their tunnels, and its plain links.
 #[derive(Drop)]
@@ -68,12 +61,13 @@ impl Proxy {
     /// A node that holds nothing, and whose control plane is to be dialled.
     ///
     /// Errors: `NoMemory`.
-    pub fn new(alloc: Global, config: NodeConfig, limits: Limits) -> Result<Proxy, NoMemory>
+    pub fn new(alloc: Global, config: NodeConfig) -> Result<Proxy, NoMemory>
         ensures stands { IfOk result (λ proxy. Stands [] proxy []) }
         ensures fresh { IfOk result (λ proxy. IsFreshNode (shown_of proxy)) }
         ensures config { IfOk result (λ proxy. config_of proxy ≡ config) }
     {
         let hbone_port = config.hbone_port;
+        let limits = config.limits;
         let control = Control::new(alloc, config)?;
         Ok(Proxy {
             control,
@@ -117,7 +111,7 @@ impl Proxy {
     fn places(&self) -> usize
         ensures { result ≡ places_of self.now }
     {
-        self.limits.tunnels.saturating_sub(self.side.relays.len())
+        (self.limits.tunnels as usize).saturating_sub(self.side.relays.len())
     }
 
     /// Whether one more inbound link, or one to a gateway, may be open.
@@ -128,7 +122,7 @@ impl Proxy {
             .links
             .len()
             .saturating_add(self.side.relays.gates())
-            < self.limits.links
+            < self.limits.links as usize
     }
 
     /// The link to the control plane, where it stirred and that wasn't told. `None`: there is none.

@@ -1,15 +1,18 @@
 use Rattle.std.proofs.Common.{rules, ◌≡◌, Some, None, refl, subst}
 use Rattle.std.specs.FinMap.{get}
 use Rattle.hb_world.specs.declared.entry.Entry.TheVariants as e
+use Rattle.hb_gateway.specs.Part as gateway
 use Rattle.hb_held.specs.Held.{Resources}
 use Rattle.hb_link.proofs.Noted.{takes_none}
+use Rattle.hb_proxy.specs.Points.{of_gate}
 use Rattle.hb_relay.specs.Answering.{routing_of as code_routing}
-use Rattle.hb_relays.proofs.Entering.{anywhere, gate_told, own_goes, on_ok, own_told, own_took, up_told}
+use Rattle.hb_relays.proofs.Entering.{anywhere, gate_at, in_room, own_at, own_goes, on_ok, own_took, up_took, up_told}
 use Rattle.hb_relays.proofs.Staying.{came_stays}
 use Rattle.hb_relays.proofs.Stirs.{stirs_all_then, told_stirs}
 use Rattle.hb_relays.specs.Walks.{Map}
 use Rattle.hb_relays.specs.Stirring.{Stirs}
 use Rattle.hb_relays.specs.Calls.{GateTakes}
+use Rattle.hb_relays.specs.Reaches.{MeetsIn}
 use Rattle.hb_relays.proofs.relays.Relays.took.Goals as goal
 
 pub returns-in-Some-at-clause-meets : goal.returns-in-Some-at-clause-meets
@@ -20,11 +23,12 @@ returns-in-Some-at-clause-meets g c =
     let new = c.up_bytes.new.self in
     let told = g.N.Notes.told c.args.notes.now in
     let found : get k.ups n ≡ Some l = search rules in
-    up_told (λ (h : Resources). h ≡ c.args.held.now) k c.touch.new.self _ k.routes c.in-Some-at.relay.now new told told None
+    up_took c.args.held.now c.args.room k c.touch.new.self n l c.args.b.now told told found
+    (up_told (λ (h : Resources). h ≡ c.args.held.now) k c.touch.new.self _ k.routes c.in-Some-at.relay.now new told told None
     (takes_none told) n (e.Came n c.args.b.now) l c.touch.ensures (c.at.follows.holds new) found c.in-Some-at.ensures.value
     (λ x. record { up = refl; closed = refl })
     (anywhere (λ (h : Resources). h ≡ c.args.held.now) _ c.in-Some-at.relay.now new (code_routing k.routes)
-    (code_routing k.routes) None (c.up_bytes.ensures n (code_routing k.routes)))
+    (code_routing k.routes) None (c.up_bytes.ensures n (code_routing k.routes))))
 
 pub returns-in-Some-at-clause-stirs : goal.returns-in-Some-at-clause-stirs
 returns-in-Some-at-clause-stirs g c =
@@ -40,10 +44,12 @@ returns-in_default-at-clause-meets g c =
     let told = g.N.Notes.told c.args.notes.now in
     let now = g.N.Notes.told c.gate_took.new.notes in
     on_ok c.gate_took.result
-    (λ meets. gate_told (λ x. x.control.held ≡ c.args.held.now) k d n (e.Came n c.args.b.now) told now none c.in_default-at.ensures.none
-    (λ some g' x y points stands shows holds steps.
+    (λ meets. gate_at (λ w. MeetsIn c.args.held.now c.args.room w k told d now) k n (e.Came n c.args.b.now) none
+    c.in_default-at.ensures.none
+    (λ some. in_room c.args.held.now c.args.room (of_gate n (gateway.entry (e.Came n c.args.b.now))) k d told now (λ z. tt)
+    (λ g' x y points stands shows holds steps.
     (subst (λ (all : Map). GateTakes n c.args.b.now (record k { relays = all }) told d now) c.at-in-None.follows.holds-at-none meets)
-    some g' x y points stands shows tt steps)) c.gate_took.ensures.meets
+    some g' x y points stands shows tt steps))) c.gate_took.ensures.meets
 
 pub returns-in_default-at-clause-stirs : goal.returns-in_default-at-clause-stirs
 returns-in_default-at-clause-stirs g c =
@@ -65,8 +71,8 @@ returns-in_ok-join-in-None-clause-meets g c =
     let told = g.N.Notes.told c.args.notes.now in
     let one = g.N.Notes.told c.tell.new.notes in
     let now = g.N.Notes.told c.pump_link.new.notes in
-    own_told (λ x. x.control.held ≡ c.args.held.now) k d n (e.Came n bytes) old told now none is
-    (own_took (λ h. h ≡ c.args.held.now) k a c.join.new.self c.refuse_roomless.new.self d n bytes told one
+    own_at (λ w. MeetsIn c.args.held.now c.args.room w k told d now) k n (e.Came n bytes) old none is
+    (own_took c.args.held.now c.args.room k a c.join.new.self c.refuse_roomless.new.self d n bytes told one
     (g.N.Notes.told c.refuse_roomless.new.notes) now
     (own_goes (λ h. h ≡ c.args.held.now) k a _ c.take_bytes-made.new.routes old new told one c.take_bytes-made.result c.tell.ensures n
     (λ i. e.Came i bytes) c.touch-in-None.ensures (c.at-in-None.follows.holds new) is (λ x. came_stays x.stage bytes x)

@@ -1,6 +1,7 @@
 use Rattle.std.proofs.Common.{◌≡◌, inl, inr, refl}
 use Rattle.hb_base.specs.declared.target.Target.{Target}
 use Rattle.hb_links.specs.Calls as links
+use Rattle.hb_links.specs.Load.{Recounts}
 use Rattle.hb_links.specs.Stirring as links_stirring
 use Rattle.hb_node.specs.State.{Answers}
 use Rattle.hb_relays.specs.Calls as relays
@@ -10,7 +11,7 @@ use Rattle.hb_whole.specs.Sight.{shown_of}
 use Rattle.hb_whole.specs.Stands.{Stands, config_of}
 use Rattle.hb_whole.proofs.Dialling.{answers_config, control_answers, gate_answers, plain_answers, plain_answers_none, up_answers, up_answers_none}
 use Rattle.hb_whole.proofs.Heard.{with_state}
-use Rattle.hb_whole.proofs.Outcomes.{if_ok, two_ok}
+use Rattle.hb_whole.proofs.Outcomes.{if_ok, three_ok, two_ok}
 use Rattle.hb_whole.proofs.Telling.{with_side}
 use Rattle.hb_whole.proofs.proxy.Proxy.dialled.Goals as goal
 
@@ -36,17 +37,18 @@ returns-in-Some-clause-tells c =
     let new = done.new.self in
     let l = c.in-Upstream.at in
     let k = c.in-Upstream.stream in
-    two_ok done.result (links.Dials l k c.in-Some.number p.side.links new) (links_stirring.Stirs p.side.links new)
+    three_ok done.result (links.Dials l k c.in-Some.number p.side.links new) (Recounts p.side.links new)
+    (links_stirring.Stirs p.side.links new)
     ((to : Target) → Tells Stands shown_of (dial_entry to c.args.why c.args.link) p (with_side (record p.side { links = new }) p))
-    (λ dials stirs. up_answers p new c.args.why c.args.link l k c.in-Some.number c.in-Upstream.is c.in-Some.is dials stirs)
-    done.ensures.meets done.ensures.stirs
+    (λ dials counts stirs. up_answers p new c.args.why c.args.link l k c.in-Some.number c.in-Upstream.is c.in-Some.is dials counts stirs)
+    done.ensures.meets done.ensures.counts done.ensures.stirs
 
 pub returns-in-None-clause-tells : goal.returns-in-None-clause-tells
 returns-in-None-clause-tells c =
     let p = c.args.self.now in
     let done = c.dial_failed in
     up_answers_none p (record p.side { links = done.new.self; notes = done.new.notes }) c.args.why c.args.link c.in-Upstream.at
-    c.in-Upstream.stream refl c.in-Upstream.is c.in-None.is done.ensures.meets done.ensures.stirs
+    c.in-Upstream.stream refl c.in-Upstream.is c.in-None.is done.ensures.meets done.ensures.counts done.ensures.stirs
 
 pub returns-in-Some-link-clause-tells : goal.returns-in-Some-link-clause-tells
 returns-in-Some-link-clause-tells c =

@@ -21,7 +21,7 @@ returns-in-Some-next_act-clause-acts c =
     let got = c.next_act-2 in
     let given = c.give-in-Some-next_act in
     links_give_so p c.next_act.new.self c.next_act.result c.in_default.is c.next_act.ensures.act c.next_act.ensures.machine
-    got.new.self given.new.self got.result c.in-Some-next_act.act given.result c.in-Some-next_act.is got.ensures.acts got.ensures.stirs
+    got.new.self given.new.self got.result c.in-Some-next_act.act given.result c.in-Some-next_act.is got.ensures.acts got.ensures.counts got.ensures.stirs
     given.ensures.given given.ensures.after
 
 pub returns-in-Some-next_act-clause-config : goal.returns-in-Some-next_act-clause-config
@@ -35,7 +35,7 @@ returns-in-Some-next_act-2-clause-acts c =
     let gave = c.next_act-3 in
     let given = c.give-in-Some-next_act-2 in
     relays_give_so p c.next_act.new.self c.next_act.result c.in_default.is c.next_act.ensures.act c.next_act.ensures.machine
-    got.new.self gave.new.self got.result c.in_default-next_act.is got.ensures.acts got.ensures.stirs given.new.self gave.result
+    got.new.self gave.new.self got.result c.in_default-next_act.is got.ensures.acts got.ensures.counts got.ensures.stirs given.new.self gave.result
     c.in-Some-next_act-2.act given.result c.in-Some-next_act-2.is gave.ensures.acts gave.ensures.stirs given.ensures.given
     given.ensures.after
 
@@ -48,7 +48,7 @@ returns-in-None-clause-acts c =
     let got = c.next_act-2 in
     let gave = c.next_act-3 in
     none_gives_so c.args.self.now c.next_act.new.self c.next_act.result c.in_default.is c.next_act.ensures.act c.next_act.ensures.machine
-    got.new.self gave.new.self got.result c.in_default-next_act.is got.ensures.acts got.ensures.stirs gave.result c.in-None.is
+    got.new.self gave.new.self got.result c.in_default-next_act.is got.ensures.acts got.ensures.counts got.ensures.stirs gave.result c.in-None.is
     gave.ensures.acts gave.ensures.stirs
 
 pub returns-in-None-clause-all : goal.returns-in-None-clause-all
@@ -56,7 +56,7 @@ returns-in-None-clause-all c =
     let got = c.next_act-2 in
     let gave = c.next_act-3 in
     none_lives_so c.args.self.now c.next_act.new.self c.next_act.result c.in_default.is c.next_act.ensures.act c.next_act.ensures.machine
-    got.new.self gave.new.self got.result c.in_default-next_act.is got.ensures.acts got.ensures.stirs gave.result c.in-None.is
+    got.new.self gave.new.self got.result c.in_default-next_act.is got.ensures.acts got.ensures.counts got.ensures.stirs gave.result c.in-None.is
     got.ensures.none gave.ensures.none
 
 pub returns-in-None-clause-config : goal.returns-in-None-clause-config

@@ -7,6 +7,7 @@ use Rattle.hb_world.specs.declared.entry.Entry.{Entry}
 use Rattle.hb_whole.specs.Sight.{shown_of}
 use Rattle.hb_whole.specs.Stands.{Stands}
 use Rattle.hb_whole.specs.declared.proxy.Proxy.{Proxy}
+use Rattle.hb_whole.proofs.Limited.{only_counts}
 use Rattle.hb_whole.proofs.Taking.{own_hears, doors_hear, links_silent, relays_unheard}
 use Rattle.hb_whole.proofs.proxy.Proxy.next_stirred.Goals as goal
 
@@ -30,8 +31,10 @@ returns-in-Some-next_stirred-clause-hears c =
     let hears : links.Hears (Some told) p.side.links new =
     subst (λ (o : Option ℕ). links.Hears o p.side.links new) c.in-Some-next_stirred.is
     (subst (λ (q : Proxy). links.Hears c.next_stirred.result q.side.links new) c.next_own.ensures.after c.next_stirred.ensures.hears) in
+    let counts = only_counts p.side.links new
+    (subst (λ (q : Proxy). links.OnlyHears q.side.links new) c.next_own.ensures.after c.next_stirred.ensures.same) in
     subst (λ (q : Proxy). HearsTo (Some told) p (record q { side = record q.side { links = new } })) (sym c.next_own.ensures.after)
-    (λ taken trace s. doors_hear taken p new p.side.relays (Some told) trace (sym c.next_own.ensures.own ∙ c.in_default.is) hears
+    (λ taken trace s. doors_hear taken p new p.side.relays (Some told) trace (sym c.next_own.ensures.own ∙ c.in_default.is) hears counts
     (relays_unheard (Some told) p.side.relays) refl s)
 
 pub returns-clause-hears : goal.returns-clause-hears
@@ -47,7 +50,9 @@ returns-clause-hears c =
     subst (λ (q : Proxy). relays.Hears result q.side.relays behind) c.next_own.ensures.after c.next_stirred-2.ensures.hears in
     let only : relays.OnlyHears p.side.relays behind =
     subst (λ (q : Proxy). relays.OnlyHears q.side.relays behind) c.next_own.ensures.after c.next_stirred-2.ensures.same in
+    let counts = only_counts p.side.links new
+    (subst (λ (q : Proxy). links.OnlyHears q.side.links new) c.next_own.ensures.after c.next_stirred.ensures.same) in
     subst (λ (q : Proxy). HearsTo result p (record q { side = record q.side { links = new; relays = behind } }))
     (sym c.next_own.ensures.after)
     (λ taken trace s. doors_hear taken p new behind result trace (sym c.next_own.ensures.own ∙ c.in_default.is)
-    (links_silent result p.side.links new hears) relays_hear only s)
+    (links_silent result p.side.links new hears) counts relays_hear only s)

@@ -1,6 +1,6 @@
 use Rattle.std.proofs.Common.{refl, sym, ◌∙◌}
 use Rattle.std.specs.Prelude.{⊤}
-use Rattle.hb_links.specs.Reaches.{unguarded}
+use Rattle.hb_links.specs.Reaches.{uncounted}
 use Rattle.hb_relays.specs.Reaches.{any}
 use Rattle.hb_world.specs.declared.entry.Entry.TheVariants as e
 use Rattle.hb_whole.proofs.Guards as link
@@ -29,7 +29,7 @@ returns-in-Plain-clause-tells c =
     let l = c.args.link in
     let whose = sym c.owner_of.ensures ∙ c.in-Plain.is in
     let done = c.opened-in-Plain in
-    plain_tells p (record p.side { relays = done.new.self; notes = done.new.notes }) (e.Opened l) l any refl refl
+    plain_tells p (record p.side { relays = done.new.self; notes = done.new.notes }) (e.Opened l) l any tt refl refl
     (λ taken trace s may. (may.0.0, plain.opened_may taken p trace s l whose may, tt)) done.ensures.meets done.ensures.stirs
 
 pub returns-in-Inbound-clause-tells : goal.returns-in-Inbound-clause-tells
@@ -38,5 +38,7 @@ returns-in-Inbound-clause-tells c =
     let l = c.args.link in
     let whose = sym c.owner_of.ensures ∙ c.in-Inbound.is in
     let done = c.opened-in-Inbound in
-    link_tells p (record p.side { links = done.new.self; notes = done.new.notes }) (e.Opened l) l (λ q. unguarded) (λ x. ⊤) refl refl
-    (λ taken trace s may. (may.0.0, link.opened_may taken p trace s l whose may, tt)) done.ensures.meets done.ensures.stirs
+    link_tells p (record p.side { links = done.new.self; notes = done.new.notes }) (e.Opened l) l (λ q. uncounted) (λ g x. ⊤) (λ q x i is. is)
+    refl refl
+    (λ taken trace s may. (may.0.0, link.opened_may taken p trace s l whose may, tt)) done.ensures.meets
+    done.ensures.counts done.ensures.stirs

@@ -6,7 +6,7 @@ pub returns-clause-stands : goal.returns-clause-stands
 returns-clause-stands c =
     stops c.args.self.now c.stop.new.self
     (record { links = c.stopped.new.self; relays = c.stopped-2.new.self; notes = c.stopped-2.new.notes }) (told c.stopped.new.notes)
-    c.args.cause c.stop.ensures c.stopped.ensures.meets c.stopped-2.ensures.meets
+    c.args.cause c.stop.ensures c.stopped.ensures.meets c.stopped.ensures.counts c.stopped-2.ensures.meets
 
 pub returns-clause-config : goal.returns-clause-config
 returns-clause-config c = c.stop.ensures.0

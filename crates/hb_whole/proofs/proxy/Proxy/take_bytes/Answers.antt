@@ -1,6 +1,6 @@
-use Rattle.std.proofs.Common.{◌≡◌, refl, sym, ◌∙◌}
+use Rattle.std.proofs.Common.{◌≡◌, ℕ, Bool, OnOk, refl, sym, ◌∙◌, subst}
 use Rattle.hb_links.specs.Calls.{Takes, counting}
-use Rattle.hb_links.specs.Load.{others_of}
+use Rattle.hb_links.specs.Load.{others_of, LeavesPlaces, Recounts}
 use Rattle.hb_links.specs.Stirring.{Stirs}
 use Rattle.hb_node.specs.State.{EntersJudged}
 use Rattle.hb_relays.specs.Calls as relays
@@ -9,16 +9,18 @@ use Rattle.hb_turns.specs.Shown.{Tells}
 use Rattle.hb_world.specs.declared.entry.Entry.TheVariants as e
 use Rattle.hb_whole.specs.Judged.{Judges}
 use Rattle.hb_whole.specs.Queue.{told}
-use Rattle.hb_whole.specs.Sight.{shown_of}
+use Rattle.hb_whole.specs.Sight.{has_room, shown_of}
 use Rattle.hb_whole.specs.Stands.{Stands, config_of}
 use Rattle.hb_whole.specs.declared.side.Side.{Side}
+use Rattle.hb_whole.proofs.Free.{free}
 use Rattle.hb_whole.proofs.Guards as link
 use Rattle.hb_whole.proofs.Heard as control
 use Rattle.hb_whole.proofs.Heard.{with_state, state_tells}
-use Rattle.hb_whole.proofs.Outcomes.{if_ok, two_ok}
+use Rattle.hb_whole.proofs.Limited.{leaves}
+use Rattle.hb_whole.proofs.Outcomes.{if_ok, three_ok, two_ok}
 use Rattle.hb_whole.proofs.PlainGuards as plain
 use Rattle.hb_whole.proofs.Routes.{is_owned}
-use Rattle.hb_whole.proofs.Telling.{with_side, link_tells, plain_tells}
+use Rattle.hb_whole.proofs.Telling.{with_side, counting_takes, link_tells, plain_takes}
 use Rattle.hb_whole.proofs.proxy.Proxy.take_bytes.Goals as goal
 
 pub returns-in-Control-clause-tells : goal.returns-in-Control-clause-tells
@@ -53,15 +55,19 @@ returns-in-Plain-clause-tells c =
     let notes = done.new.notes in
     let side : Side = record p.side { relays = new; notes = notes } in
     let held = c.held-held in
-    two_ok done.result (relays.Takes held.result.now l bytes p.side.relays (told p.side.notes) new (told notes))
+    two_ok done.result (relays.Takes held.result.now (has_room p) l bytes p.side.relays (told p.side.notes) new (told notes))
     (relays_stirring.Stirs p.side.relays new) (Tells Stands shown_of (e.Came l bytes) p (with_side side p))
-    (λ takes stirs. plain_tells p side (e.Came l bytes) l (λ x. x.control.held ≡ held.result.now) refl refl
+    (λ takes stirs. plain_takes p side l bytes held.result.now refl
     (λ taken trace s may. (
       may.0.0,
       plain.came_may taken p trace s l whose bytes c.are_octets.ensures may,
       s.control.held ∙ sym held.ensures,
+      free taken p trace s may.0,
     ))
-    takes stirs) done.ensures.meets done.ensures.stirs
+    takes stirs)
+    (subst (λ (room : Bool). OnOk done.result (relays.Takes held.result.now room l bytes p.side.relays (told p.side.notes) new (told notes)))
+    c.has_room-room.ensures done.ensures.meets)
+    done.ensures.stirs
 
 pub returns-in-Inbound-clause-tells : goal.returns-in-Inbound-clause-tells
 returns-in-Inbound-clause-tells c =
@@ -75,14 +81,19 @@ returns-in-Inbound-clause-tells c =
     let side : Side = record p.side { links = new; notes = notes } in
     let held = c.held-held-in-Inbound in
     let limit = c.places-places.result in
-    two_ok done.result
+    three_ok done.result
     (Takes held.result.now (others_of p.side.links l) limit l bytes p.side.links (told p.side.notes) new (told notes))
-    (Stirs p.side.links new) (Tells Stands shown_of (e.Came l bytes) p (with_side side p))
-    (λ takes stirs. link_tells p side (e.Came l bytes) l (λ q. counting (others_of p.side.links l) limit q)
-    (λ x. x.control.held ≡ held.result.now) refl refl
+    (Recounts p.side.links new) (Stirs p.side.links new) (Tells Stands shown_of (e.Came l bytes) p (with_side side p))
+    (λ takes counts stirs taken trace s. link_tells p side (e.Came l bytes) l (λ q. counting (others_of p.side.links l) limit q)
+    (λ g x. (x.control.held ≡ held.result.now) × LeavesPlaces limit g x) (counting_takes (others_of p.side.links l) limit) refl refl
     (λ taken trace s may. (
       may.0.0,
       link.came_may taken p trace s l whose bytes c.are_octets.ensures may,
-      s.control.held ∙ sym held.ensures,
+      (
+        s.control.held ∙ sym held.ensures,
+        subst (λ (n : ℕ). LeavesPlaces n p.control.config s.machine) (sym c.places-places.ensures)
+            (leaves taken p trace s (free taken p trace s may.0)),
+      ),
     ))
-    takes stirs) done.ensures.meets done.ensures.stirs
+    (λ point found. takes point found s.limited.counted) counts stirs taken trace s) done.ensures.meets done.ensures.counts
+    done.ensures.stirs

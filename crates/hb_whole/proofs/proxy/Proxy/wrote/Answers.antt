@@ -1,7 +1,7 @@
 use Rattle.std.proofs.Common.{◌≡◌, length, take, refl, sym, ◌∙◌}
 use Rattle.std.specs.Prelude.{⊤}
 use Rattle.std.proofs.lemmas.List.{length-take-le}
-use Rattle.hb_links.specs.Reaches.{unguarded}
+use Rattle.hb_links.specs.Reaches.{uncounted}
 use Rattle.hb_relays.specs.Reaches.{any}
 use Rattle.hb_world.specs.declared.entry.Entry.TheVariants as e
 use Rattle.hb_whole.specs.Sight.{shown_of}
@@ -38,7 +38,7 @@ returns-in-Plain-clause-tells c =
     let done = c.wrote-in-Plain in
     let bytes = take c.args.n ((shown_of p).output l) in
     let size : length bytes ≡ c.args.n = length-take-le c.args.n ((shown_of p).output l) c.requires in
-    plain_tells p (record p.side { relays = done.new.self; notes = done.new.notes }) (e.Went l bytes) l any refl refl
+    plain_tells p (record p.side { relays = done.new.self; notes = done.new.notes }) (e.Went l bytes) l any tt refl refl
     (λ taken trace s may. (may.0.0, plain.went_may taken p trace s l whose bytes may, tt)) (done.ensures.meets bytes size)
     done.ensures.stirs
 
@@ -50,5 +50,7 @@ returns-in-Inbound-clause-tells c =
     let done = c.wrote-in-Inbound in
     let bytes = take c.args.n ((shown_of p).output l) in
     let size : length bytes ≡ c.args.n = length-take-le c.args.n ((shown_of p).output l) c.requires in
-    link_tells p (record p.side { links = done.new.self; notes = done.new.notes }) (e.Went l bytes) l (λ q. unguarded) (λ x. ⊤) refl refl
-    (λ taken trace s may. (may.0.0, link.went_may taken p trace s l whose bytes may, tt)) (done.ensures.meets bytes size) done.ensures.stirs
+    link_tells p (record p.side { links = done.new.self; notes = done.new.notes }) (e.Went l bytes) l (λ q. uncounted) (λ g x. ⊤) (λ q x i is. is)
+    refl refl
+    (λ taken trace s may. (may.0.0, link.went_may taken p trace s l whose bytes may, tt)) (done.ensures.meets bytes size)
+    done.ensures.counts done.ensures.stirs
