@@ -132,14 +132,14 @@ def closed_standard_streams(room):
 
 @case
 def standard_error_that_nobody_reads(room):
-    """Standard error is a pipe that nobody reads, while one peer is refused 6,000 requests: an echo goes on, and an update revokes a tunnel
+    """Standard error is a pipe that nobody reads, while one peer is refused 5,500 requests: an echo goes on, and an update revokes a tunnel
     of another peer at once. Once it is read, each line comes whole, but for those that are counted as lost."""
     reads, writes = os.pipe()
     room.start(err=writes)
     os.close(writes)
     up, peer, other = room.upstream(echo), room.peer(), room.peer(identity=OTHER)
     stream = peer.tunnel(up.port)
-    for _ in range(60):
+    for _ in range(55):
         refused = [other.connect(f"{HERE}:{up.port}") for _ in range(100)]
         other.pump(lambda: all(other.closed(it) for it in refused), "100 refusals")
     says(peer, stream, b"hello")
@@ -149,14 +149,14 @@ def standard_error_that_nobody_reads(room):
     took = time.monotonic() - begun
     came = bytearray()
     threading.Thread(target=read_all, args=(reads, came), daemon=True).start()
-    until("what waited", lambda: len(came) > 320_000)
+    until("what waited", lambda: len(came) > 300_000)
     answer_of(peer, peer.connect(f"{HERE}:{up.port}"))
     until("the next line", lambda: b" lines lost\nverdict" in came and came.endswith(b"\n"))
     lines = came.decode().splitlines()
     lost = sum(int(line.split(" ")[1]) for line in lines if line.startswith("hbone: "))
     kept = sum(line.startswith(("verdict ", "end ")) for line in lines)
-    # an answer of 200, 6,000 refusals, an end, one more refusal
-    wanted("lines and those that were lost", (kept + lost, len(lines) - kept), (6003, 1))
+    # an answer of 200, 5,500 refusals, an end, one more refusal
+    wanted("lines and those that were lost", (kept + lost, len(lines) - kept), (5503, 1))
     room.proxy.end()
     return f"revoked within {took:.2f} s, {lost} lines lost"
 

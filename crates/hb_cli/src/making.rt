@@ -65,7 +65,8 @@ fn text_of(alloc: Global, count: u32) -> Result<Vec<u8>, NoMemory>
 /// Prints the text of a script. Gives the status.
 fn print_made<K: Sink, E: Sink>(alloc: Global, make: &Make, out: &mut K, err: &mut E) -> u8
     requires { make.now.count ≤ most_tunnels }
-    ensures text { PrintsAt (made_text make.now) (used K.written K.faults out.old out.new) (used E.written E.faults err.old err.new) result }
+    ensures text { PrintsAt (made_text make.now)
+        (used K.written K.faults out.old out.new) (used E.written E.faults err.old err.new) result }
     ensures later_out { K.faults out.old ≤ K.faults out.new }
     ensures later_err { E.faults err.old ≤ E.faults err.new }
 {

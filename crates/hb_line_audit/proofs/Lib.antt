@@ -1,1 +1,1 @@
-pub mod HandedLemmas
+pub mod Handed

@@ -74,7 +74,7 @@ impl<K: Polled + Drop> LineAudit<K> {
     }
 
     /// The line that stands ready is taken.
-    #[tactic(auto, using(crate::proofs::HandedLemmas::keeps_next, crate::proofs::HandedLemmas::appends_waits, crate::proofs::HandedLemmas::appends_behind))]
+    #[tactic(auto, using(crate::proofs::Handed::keeps_next, crate::proofs::Handed::adds, crate::proofs::Handed::adds_behind))]
     fn take_line(&mut self) -> Noted
         ensures taken { TakesLine K.written self.old.lines self.new.lines (string_bytes self.old.line) result }
         ensures later { self.old.faults ≤ self.new.faults }

@@ -119,7 +119,7 @@ impl<K: Polled + Drop> Lines<K> {
 
     /// Writes what waits, as far as the sink takes it without a wait: whole lines, where one is no longer than 4,096 bytes. Behind a put
     /// that failed nothing is written.
-    #[tactic(auto, using(crate::proofs::HandedLemmas::keeps_next))]
+    #[tactic(auto, using(crate::proofs::Handed::keeps_next))]
     pub fn flush(&mut self)
         ensures kept { Keeps (handed K.written self.old) (handed K.written self.new) }
         ensures lost { self.new.lost ≡ self.old.lost }

@@ -29,9 +29,8 @@ use std::time::Clock;
 /// didn't fill its buffer balks without a call of the system, until the next event, unless the last one told that the peer sends
 /// no more; and so does a finish without an event. A look tells whether an event said that the connection failed, once for each, without
 /// a call of the system. A wait or a glance answers Tick once a second has passed since the last one, with what is ready; a wait answers
-/// Stop from the end or the first byte of the input of `stop_on` on, and never without it. A door whose accept failed is named at the
-/// next tick, since no event tells again of
-/// what waits there.
+/// Stop from the end or the first byte of the input of `stop_on` on, and never without one. A door whose accept failed is named at the
+/// next tick, since no event tells again of what waits there.
 /// A connection of a tunnel's own bytes that is closed for another cause than `Done` is ended by a RST, and each other one by a FIN.
 /// A call that a signal interrupted is made again, up to 16 times. A listen, a wait or a glance that fails tells its log why, in a line:
 /// `hbone: `, the door with its address, or `wait`, a colon and the system's reason. Each wait and each glance flushes the log first.

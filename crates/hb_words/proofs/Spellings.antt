@@ -123,7 +123,8 @@ one_word : (word : Text) (p : Page) (help version : Bool) → bytes_eq word (cod
     → bytes_eq word (codes "--version") ≡ version
     → cond help (Some Commands) (cond version (Some Version) None) ≡ Some p → SpellsPage (word ∷ []) p
 one_word word p true version helps tells is =
-    subst (SpellsPage (word ∷ [])) (same_page Commands p is) (ap (λ (w : Text). w ∷ []) ((bytes_eq-Decides word (codes "--help")).0 helps))
+    subst (SpellsPage (word ∷ [])) (same_page Commands p is)
+    (ap (λ (w : Text). w ∷ []) ((bytes_eq-Decides word (codes "--help")).0 helps))
 one_word word p false true helps tells is =
     subst (SpellsPage (word ∷ [])) (same_page Version p is) (ap (λ (w : Text). w ∷ []) ((bytes_eq-Decides word (codes "--version")).0 tells))
 one_word word p false false helps tells is = cc

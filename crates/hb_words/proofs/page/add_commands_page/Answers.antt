@@ -6,6 +6,5 @@ use Rattle.hb_words.proofs.page.add_commands_page.Goals as goal
 pub returns : goal.returns
 returns c =
     let are : c.as_slice.result.now ≡ shown_commands = search rules in
-    subst
-    (λ (commands : List CommandName). OnOk c.add_commands.result (string_bytes c.add_commands.new.text ≡ string_bytes c.args.text.now ++ commands_page commands))
-    are c.add_commands.ensures
+    subst (λ (commands : List CommandName). OnOk c.add_commands.result
+    (string_bytes c.add_commands.new.text ≡ string_bytes c.args.text.now ++ commands_page commands)) are c.add_commands.ensures

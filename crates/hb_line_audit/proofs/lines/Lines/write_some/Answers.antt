@@ -1,5 +1,5 @@
 use Rattle.std.proofs.Common.{rules, take}
-use Rattle.hb_line_audit.proofs.HandedLemmas.{keeps_wrote}
+use Rattle.hb_line_audit.proofs.Handed.{keeps_wrote}
 use Rattle.hb_line_audit.proofs.lines.Lines.write_some.Goals as goal
 
 pub returns-in-Took-clause-kept : goal.returns-in-Took-clause-kept

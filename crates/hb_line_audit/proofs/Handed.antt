@@ -31,14 +31,14 @@ keeps_wrote a b c waits from rest count n same had fits appends left =
     (ap (λ octets. octets ++ rest) part ∙ (ap (λ octets. take n waits ++ octets) left ∙ take-append-drop n waits))
 
 -- more waits
-pub appends_waits : (a : Option (List ℕ)) (waits line : List ℕ)
+pub adds : (a : Option (List ℕ)) (waits line : List ℕ)
     → Appends (option_map (λ octets. octets ++ waits) a) (option_map (λ octets. octets ++ (waits ++ line)) a) line
-appends_waits None waits line = tt
-appends_waits (Some xs) waits line = sym (append_assoc xs waits line)
+adds None waits line = tt
+adds (Some xs) waits line = sym (append_assoc xs waits line)
 
 -- behind what stays more waits
-pub appends_behind : (a b c : Option (List ℕ)) (line : List ℕ) → Keeps a b → Appends b c line → Appends a c line
-appends_behind None b c line keeps appends = tt
-appends_behind (Some xs) None c line keeps appends = absurd keeps
-appends_behind (Some xs) (Some ys) None line keeps appends = appends
-appends_behind (Some xs) (Some ys) (Some zs) line keeps appends = appends ∙ ap (λ octets. octets ++ line) keeps
+pub adds_behind : (a b c : Option (List ℕ)) (line : List ℕ) → Keeps a b → Appends b c line → Appends a c line
+adds_behind None b c line keeps appends = tt
+adds_behind (Some xs) None c line keeps appends = absurd keeps
+adds_behind (Some xs) (Some ys) None line keeps appends = appends
+adds_behind (Some xs) (Some ys) (Some zs) line keeps appends = appends ∙ ap (λ octets. octets ++ line) keeps
