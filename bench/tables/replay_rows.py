@@ -489,7 +489,7 @@ def rows_of_floods():
     row("a flood of SETTINGS while writes balk", LIVE + [room(0), piece(SET * 8000), WAKE, WAKE, room(10**6), WAKE])
     row("a flood of PING, and room bit by bit", LIVE + [room(0), piece(PINGED * 5000), WAKE, room(1), WAKE, room(16), WAKE,
                                                         room(20000), WAKE,
-                                                      room(7), WAKE, room(22476), WAKE])
+                                                      room(7), WAKE, room(64976), WAKE])
     row("a flood of both in many pieces", LIVE + [room(0)] + [piece((PINGED + SET) * 50)] * 80 + [WAKE, room(10**6), WAKE])
     row("a flood, and a message behind it", LIVE + [room(0), piece(PINGED * 5000 + data(M1)), WAKE, room(10**6), WAKE])
     row("a flood, and an end behind it", LIVE + [room(0), piece(PINGED * 5000), WAKE, room(10**6), WAKE, on("end"), WAKE] + AGAIN)
