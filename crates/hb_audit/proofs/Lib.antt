@@ -1,2 +1,3 @@
 pub mod LeftLemmas
+mod Lent
 pub mod TellsLemmas

@@ -1,8 +1,11 @@
 -- What is left of audits once several notes were told to them.
-use Rattle.std.specs.Prelude.{◌≡◌, ◌⊎◌, ⊤, List, [], ◌∷◌, ◌++◌, map, Option}
+use Rattle.std.specs.Prelude.{◌≡◌, ◌⊎◌, ⊤, List, [], ◌∷◌, ◌++◌, length, map, Option}
 use Rattle.std.specs.Option.{option_map}
 use Rattle.hb_base.specs.declared.note.Note.{Note}
-use Rattle.hb_audit.specs.Tells.{Tells}
+use Rattle.hb_audit.specs.declared.audit.Noted.{Noted}
+use Rattle.hb_audit.specs.declared.audit.Noted.TheVariants.{Kept}
+use Rattle.hb_audit.specs.HeldBy.{answers_by}
+use Rattle.hb_audit.specs.Tells.{Answering, Tells}
 
 -- the first list's items stand in the second one, in their order, with others between them
 abbrev pub StandIn : {A : Type 0} → List A → List A → Type 0
@@ -14,6 +17,14 @@ StandIn (x ∷ xs) (y ∷ ys) = ((x ≡ y) × StandIn xs ys) ⊎ StandIn (x ∷ 
 abbrev pub followed_by_all : List Note → Option (List Note) → Option (List Note)
 followed_by_all notes held = option_map (λ before. before ++ notes) held
 
--- each audit that is left was one before, in the same order, and holds what it held, followed by all notes that were told
-abbrev pub LeftHoldAll : Type 0
-LeftHoldAll = (old new : List (Option (List Note))) (notes : List Note) → Tells old new notes → StandIn new (map (followed_by_all notes) old)
+module _ {B : Type 0} (notes : B → Option (List Note)) (answers : Answering B) where
+  -- each audit that is left was one before, in the same order, and holds what it held, followed by all notes that were told
+  abbrev pub LeftHoldAll : Type 0
+  LeftHoldAll = (old new : List B) (told : List Note) → Tells (answers_by notes answers) old new told
+      → StandIn (map notes new) (map (followed_by_all told) (map notes old))
+
+  -- where each answer that an audit may give is that it keeps the note, all are left
+  abbrev pub AllStay : Type 0
+  AllStay = (old new : List B) (told : List Note)
+      → ((b : B) (n : Note) (answer : Noted) (after : B) → answers b n answer after → answer ≡ Kept)
+      → Tells (answers_by notes answers) old new told → length new ≡ length old

@@ -1,3 +1,4 @@
+pub mod Boxed
 pub mod Held
 pub mod HeldBy
 pub mod Laws

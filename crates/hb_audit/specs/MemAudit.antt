@@ -22,12 +22,12 @@ is_number n (Some m) = n == m
 abbrev pub fails : Auditing → Bool
 fails a = is_number (one_more a.calls) a.fail || nat_le a.room (length a.notes)
 
--- it answers that it failed exactly where the next call fails; else it kept the note or had no memory for it
-abbrev pub may_answer : Auditing → Noted → Type 0
-may_answer a answer = has_failed answer ≡ fails a
-
 -- what stands after that answer to this note
 abbrev pub after_note : Auditing → Note → Noted → Auditing
 after_note a n Kept = record a { notes = a.notes ++ n ∷ []; calls = one_more a.calls }
 after_note a n Failed = record a { calls = one_more a.calls; faults = one_more a.faults }
 after_note a n NoMemory = record a { calls = one_more a.calls }
+
+-- it answers that it failed exactly where the next call fails; else it kept the note or had no memory for it
+abbrev pub answers_so : Auditing → Note → Noted → Auditing → Type 0
+answers_so a n answer after = (has_failed answer ≡ fails a) × (after ≡ after_note a n answer)

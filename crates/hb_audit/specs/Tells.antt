@@ -1,28 +1,33 @@
--- What is left of audits once notes were told to each of them.
-use Rattle.std.specs.Prelude.{◌≡◌, List, [], ◌∷◌, length, map, Option}
-use Rattle.std.specs.List.{AllZip}
+-- What is left of audits once notes were told to each of them. What one answers to a note, and what it is after, is its own.
+use Rattle.std.specs.Prelude.{◌≡◌, List, [], ◌∷◌}
 use Rattle.hb_base.specs.declared.note.Note.{Note}
 use Rattle.hb_audit.specs.declared.audit.Noted.{Noted}
 use Rattle.hb_audit.specs.declared.audit.Noted.TheVariants.{Kept, Failed, NoMemory}
-use Rattle.hb_audit.specs.Held.{followed_by}
 
--- what the audits hold that are left once each was told this note and answered so: those that kept it, in their order
-abbrev pub left_after : List Noted → Note → List (Option (List Note)) → List (Option (List Note))
-left_after (Kept ∷ answers) n (held ∷ others) = followed_by n held ∷ left_after answers n others
-left_after (Failed ∷ answers) n (held ∷ others) = left_after answers n others
-left_after (NoMemory ∷ answers) n (held ∷ others) = left_after answers n others
-left_after _ n _ = []
+-- one that kept a note is left, as it is after, in front of these others; one that didn't isn't
+abbrev pub left_by : {B : Type 0} → Noted → B → List B → List B
+left_by Kept b others = b ∷ others
+left_by Failed b others = others
+left_by NoMemory b others = others
 
--- each audit was told this note and gave an answer that it may give, and those that kept it are left, which hold this now
-abbrev pub TellsOwn : {B : Type 0} → (B → Option (List Note)) → (B → Note → Noted → Type 0) → List B → List (Option (List Note)) → Note → Type 0
-TellsOwn notes may_answer audits left n =
-    (answers : List Noted) × AllZip (λ audit answer. may_answer audit n answer) audits answers × (left ≡ left_after answers n (map notes audits))
+-- what audits of a type answer to a note, each as it stands, and what it is after that
+abbrev pub Answering : Type 0 → Type 1
+Answering B = B → Note → Noted → B → Type 0
 
--- each audit was told this note and gave an answer, and those that kept it are left
-abbrev pub TellsOne : List (Option (List Note)) → List (Option (List Note)) → Note → Type 0
-TellsOne old new n = (answers : List Noted) × (length answers ≡ length old) × (new ≡ left_after answers n old)
+module _ {B : Type 0} (answers : Answering B) where
+  -- what the first one gave, and of the others those that are left
+  pub record Gave (b : B) (n : Note) : Type 0 where
+    pub answer : Noted
+    pub after : B
+    pub own : answers b n answer after
+    pub others : List B
 
--- the notes were told one after the other, each to those that were left
-abbrev pub Tells : List (Option (List Note)) → List (Option (List Note)) → List Note → Type 0
-Tells old new [] = new ≡ old
-Tells old new (n ∷ notes) = (between : List (Option (List Note))) × TellsOne old between n × Tells between new notes
+  -- each audit was told this note, in order, and gave an answer of its own; those that kept it are left
+  abbrev pub TellsOne : List B → List B → Note → Type 0
+  TellsOne [] left n = left ≡ []
+  TellsOne (b ∷ audits) left n = (gave : Gave b n) × (left ≡ left_by gave.answer gave.after gave.others) × TellsOne audits gave.others n
+
+  -- the notes were told one after the other, each to those that were left
+  abbrev pub Tells : List B → List B → List Note → Type 0
+  Tells old new [] = new ≡ old
+  Tells old new (n ∷ notes) = (between : List B) × TellsOne old between n × Tells between new notes

@@ -27,12 +27,12 @@ pub trait Audit: Drop {
     /// How often it failed.
     ghost faults: { Self → ℕ };
 
-    /// Which answers it may give to a note, as it stands.
-    ghost may_answer: { Self → Note → Noted → Type 0 };
+    /// Which answers it may give to a note, as it stands, and what it is then.
+    ghost answers: { Self → Note → Noted → Self → Type 0 };
 
     /// Takes a note.
     fn note(&mut self, n: &Note) -> Noted
-        ensures own { may_answer self.old n.now result }
+        ensures own { answers self.old n.now result self.new }
         ensures held { notes self.new ≡ held_after (notes self.old) n.now result }
         ensures later { faults self.old ≤ faults self.new }
         ensures counts { Counts (faults self.old) (faults self.new) (has_failed result) };

@@ -3,7 +3,7 @@
 ghost use Rattle.std.specs.Prelude.{◌≡◌, ◌+◌, ◌↔◌, [], Some, IsTrue, length, map, slice_get};
 ghost use Rattle.std.specs.Option.{option_and_then};
 ghost use Rattle.hb_audit.specs.Held.{note_at};
-ghost use Rattle.hb_audit.specs.HeldBy.{held_by, TellsEach};
+ghost use Rattle.hb_audit.specs.HeldBy.{each, held_by, answers_by};
 ghost use Rattle.hb_audit.specs.Tells.{TellsOne};
 
 use crate::audit::{Audit, Noted};
@@ -19,14 +19,14 @@ pub struct Audits<A> {
 impl<A: Audit> Audits<A> {
     /// These audits.
     pub fn over(audits: Vec<A>) -> Audits<A>
-        ensures { held_by A.notes result ≡ map A.notes audits.items }
+        ensures { each result ≡ audits.items }
     {
         Audits { audits }
     }
 
     /// No audit, which takes no memory.
     pub fn none(alloc: Global) -> Audits<A>
-        ensures { held_by A.notes result ≡ [] }
+        ensures { each result ≡ [] }
     {
         Audits {
             audits: Vec::new(alloc),
@@ -35,14 +35,14 @@ impl<A: Audit> Audits<A> {
 
     /// The audits, in order.
     pub fn as_slice(&self) -> &[A]
-        ensures { map A.notes result.now ≡ held_by A.notes self.now }
+        ensures { result.now ≡ each self.now }
     {
         self.audits.as_slice()
     }
 
     /// How many audits there are.
     pub fn len(&self) -> usize
-        ensures { result ≡ length (held_by A.notes self.now) }
+        ensures { result ≡ length (each self.now) }
     {
         self.audits.len()
     }
@@ -60,9 +60,8 @@ impl<A: Audit> Audits<A> {
 
     /// Tells each audit a note. One that did not keep it is dropped; the others stay in their order. How many were dropped.
     pub fn tell(&mut self, n: &Note) -> usize
-        ensures own { TellsEach A.notes A.may_answer self.old self.new n.now }
-        ensures one { TellsOne (held_by A.notes self.old) (held_by A.notes self.new) n.now }
-        ensures dropped { length (held_by A.notes self.new) + result ≡ length (held_by A.notes self.old) }
+        ensures one { TellsOne (answers_by A.notes A.answers) (each self.old) (each self.new) n.now }
+        ensures dropped { length (each self.new) + result ≡ length (each self.old) }
     {
         let mut dropped = 0;
         let mut at = 0;

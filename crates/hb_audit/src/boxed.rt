@@ -5,11 +5,13 @@ use hb_base::Note;
 
 /// What the audit inside does.
 impl Audit for Box<dyn Audit> {
+    ghost use Rattle.hb_audit.specs.Boxed.{HoldsThen};
+
     ghost notes = { λ b. (Audit-box b).notes b.value };
 
     ghost faults = { λ b. (Audit-box b).faults b.value };
 
-    ghost may_answer = { λ b. (Audit-box b).may_answer b.value };
+    ghost answers = { λ b n answer after. HoldsThen b ((Audit-box b).answers b.value n answer) after };
 
     fn note(&mut self, n: &Note) -> Noted {
         (**self).note(n)

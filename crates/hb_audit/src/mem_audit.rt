@@ -3,7 +3,7 @@
 ghost use Rattle.std.specs.Prelude.{◌≡◌, ◌≤◌, ◌↔◌, [], Some, IsTrue};
 ghost use Rattle.hb_base.specs.Count.{Counts};
 ghost use Rattle.hb_audit.specs.Held.{held_after, has_failed, note_at};
-ghost use Rattle.hb_audit.specs.MemAudit.{Auditing, may_answer, after_note};
+ghost use Rattle.hb_audit.specs.MemAudit.{Auditing, answers_so};
 
 use crate::audit::{Audit, Noted};
 use crate::same::is_same_note;
@@ -63,21 +63,20 @@ impl MemAudit {
 
 impl Audit for MemAudit {
     ghost use Rattle.std.specs.Prelude.{Some};
-    ghost use Rattle.hb_audit.specs.MemAudit.{may_answer};
+    ghost use Rattle.hb_audit.specs.MemAudit.{answers_so};
 
     ghost notes = { λ a. Some a.notes };
 
     ghost faults = { λ a. a.faults };
 
-    ghost may_answer = { λ a n answer. may_answer a answer };
+    ghost answers = { λ a n answer after. answers_so a n answer after };
 
     /// Keeps a copy of the note, unless the call is the one that fails or there is no room.
     fn note(&mut self, n: &Note) -> Noted
-        ensures own { may_answer self.old result }
+        ensures own { answers_so self.old n.now result self.new }
         ensures held { Some self.new.notes ≡ held_after (Some self.old.notes) n.now result }
         ensures later { self.old.faults ≤ self.new.faults }
         ensures counts { Counts self.old.faults self.new.faults (has_failed result) }
-        ensures after { self.new ≡ after_note self.old n.now result }
     {
         self.calls = self.calls.saturating_add(1);
         if self.fail == Some(self.calls) || self.room <= self.notes.len() {

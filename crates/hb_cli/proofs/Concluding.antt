@@ -1,24 +1,22 @@
 -- How a command that is answered by its input ends: by what was found, and how far that was told or printed.
-use Rattle.std.proofs.Common.{◌≡◌, ◌≢◌, ℕ, ◌≤◌, Bool, true, false, List, [], Option, Result, Ok, Err, refl, sym, subst, ap, ◌∙◌, inl, inr}
-use Rattle.std.specs.Prelude.{◌⊎◌, IfOk, IsTrue}
+use Rattle.std.proofs.Common.{◌≡◌, ◌≢◌, ℕ, Bool, true, false, List, [], Result, Ok, Err, refl, sym, subst, ap, ◌∙◌, inl, inr}
+use Rattle.std.specs.Prelude.{IfOk, IsTrue}
 use Rattle.std.specs.Bool.{MatchBool}
 use Rattle.std.specs.Result.{MatchResult}
+use Rattle.hb_audit.specs.Tells.{Answering}
 use Rattle.hb_words.specs.Command.{Command, Replay, checks, shows, replays, serves, makes, prints}
-use Rattle.hb_words.specs.declared.asks.Make.{Make}
 use Rattle.hb_words.specs.declared.fault.WordsFault.{WordsFault}
 use Rattle.hb_cli.specs.Replaying.{RunState, done_in, DoneLawfully}
-use Rattle.hb_serve.specs.Served.{Heard}
 use Rattle.hb_turns.specs.Notes.{held}
 use Rattle.hb_cli.specs.declared.answer.Answer.{Answer}
 use Rattle.hb_cli.specs.declared.answer.Answer.TheVariants.{Judged, Left, Replayed}
 use Rattle.hb_cli.specs.declared.answer.Printed.{Printed}
-use Rattle.hb_cli.specs.declared.answer.Printed.TheVariants.{Failed, NoMemory as Short}
+use Rattle.hb_cli.specs.declared.answer.Printed.TheVariants.{NoMemory as Short}
 use Rattle.hb_cli.specs.declared.stop.Stop.{Stop}
 use Rattle.hb_cli.specs.declared.stop.Stop.TheVariants.{Words, TooLong, Refused, ReadFault, NoMemory}
 use Rattle.hb_cli.specs.Answer.{answer_text, IsMade, Suits}
 use Rattle.hb_cli.specs.Ending.{Run, Gives, DoesNothing, RunsNothing, BreaksOff, Stays, EndsWith}
 use Rattle.hb_cli.specs.Hearing.{HearsBy}
-use Rattle.hb_cli.specs.Input.{Leaves as Held}
 use Rattle.hb_cli.specs.Making.{made_run}
 use Rattle.hb_cli.specs.Looking.{LooksAt, ComesTo, takes_memory, GivesUp}
 use Rattle.hb_cli.specs.Leaving.{Leaves, LeavesBy, EndsRun, end_of}
@@ -36,7 +34,8 @@ made text (Ok l) given stop err status k same takes own is told = rw same (inl (
 made text (Err e) given stop err status k same takes own is told = rw same (inr (takes, told.0, told.1))
 
 -- what nothing was done in is broken off lawfully
-pub none_broken : (asked : Result Command WordsFault) (r : Run) → r.left ≡ r.before → r.before.script.trace ≡ [] → Unused r.world
+pub none_broken : {A : Type 0} {own : Answering A} (asked : Result Command WordsFault) (r : Run own) → r.left ≡ r.before
+    → r.before.script.trace ≡ [] → Unused r.world
     → BreaksOff asked r
 none_broken (Ok (checks q)) r left none unused = tt
 none_broken (Ok shows) r left none unused = tt
@@ -49,9 +48,9 @@ none_broken (Ok (makes m)) r left none unused = by_run m.run where
 none_broken (Ok (prints p)) r left none unused = (left, unused.2)
 none_broken (Err fault) r left none unused = tt
 
-module _ (input out err : Use) (w : WorldUse) (before left : RunState) where
+module _ {A : Type 0} {own : Answering A} (input out err : Use) (w : WorldUse own) (before left : RunState) where
   -- the run of a command
-  abbrev pub run_of : Command → Run
+  abbrev pub run_of : Command → Run own
   run_of c = record { asked = Ok c; input = input; out = out; err = err; world = w; before = before; left = left }
 
   -- what was found leaves as it was what the command leaves so
@@ -190,7 +189,8 @@ module _ (input out err : Use) (w : WorldUse) (before left : RunState) where
           )
 
 -- words that aren't accepted: that was told, and nothing was done
-pub words_refused : (r : Run) (fault : WordsFault) (status : ℕ) → r.asked ≡ Err fault → Untouched r.input → Untouched r.out
+pub words_refused : {A : Type 0} {own : Answering A} (r : Run own) (fault : WordsFault) (status : ℕ) → r.asked ≡ Err fault
+    → Untouched r.input → Untouched r.out
     → r.left ≡ r.before → r.before.script.trace ≡ [] → Unused r.world → NoneFalls r.input r.out r.err → GivesUp (Words fault) r.err status
     → EndsWith r status
 words_refused r fault status refused unread quiet left none unused later (inl told) =
@@ -201,7 +201,8 @@ words_refused r fault status refused unread quiet left none unused later (inr to
     (unread.1, inl quiet, told.2, none_broken r.asked r left none unused)
 
 -- memory lacked for the words
-pub words_unread : (r : Run) (status : ℕ) → NoFault r.input → Untouched r.out → r.left ≡ r.before → r.before.script.trace ≡ []
+pub words_unread : {A : Type 0} {own : Answering A} (r : Run own) (status : ℕ) → NoFault r.input → Untouched r.out → r.left ≡ r.before
+    → r.before.script.trace ≡ []
     → Unused r.world → NoneFalls r.input r.out r.err → GivesUp NoMemory r.err status → EndsWith r status
 words_unread r status well quiet left none unused later (inl told) =
     ends_at r 9 status told.0 (stays_still r left unused.2 later) (well, inl quiet, told.1, none_broken r.asked r left none unused)

@@ -1,14 +1,15 @@
 -- How a run ends: from what holds at its status, and by each status.
-use Rattle.std.proofs.Common.{◌≡◌, ◌≢◌, ℕ, ◌≤◌, ◌==◌, ◌||◌, Bool, true, false, List, [], Result, Ok, Err, refl, sym, subst, ap, ◌∙◌, inl, inr, arith}
+use Rattle.std.proofs.Common.{◌≡◌, ◌≢◌, ℕ, ◌≤◌, ◌==◌, ◌||◌, Bool, true, false, List, Result, Ok, Err, refl, sym, subst, ap, inl, inr, arith}
 use Rattle.std.proofs.lemmas.Bool.Decides.{nat_tests}
 use Rattle.std.specs.Bool.{MatchBool}
 use Rattle.std.specs.Prelude.{◌⊎◌, IsOk, IsErr, IsTrue}
+use Rattle.hb_audit.specs.Tells.{Answering}
 use Rattle.hb_words.specs.Command.{Command, Replay, checks, shows, replays, serves, makes, prints}
 use Rattle.hb_words.specs.declared.fault.WordsFault.{WordsFault}
 use Rattle.hb_cli.specs.Replaying.{RunState}
 use Rattle.hb_cli.specs.declared.ended.ReplayEnd.{ReplayEnd}
 use Rattle.hb_cli.specs.declared.ended.ReplayEnd.TheVariants as ends
-use Rattle.hb_cli.specs.Ending.{Run, HasOutcome, Gives, Answers, Finishes, IsDone, WordsRefused, InputRefused, WorldFailed, TurnsSpent, Unread, Unwritten, Wanting}
+use Rattle.hb_cli.specs.Ending.{Run, HasOutcome, Gives, Answers, IsDone, WordsRefused, InputRefused, WorldFailed, TurnsSpent, Unread, Unwritten, Wanting}
 use Rattle.hb_cli.specs.Ending.{Stays, EndsWith}
 use Rattle.hb_cli.specs.Leaving.{EndsRun}
 use Rattle.hb_cli.specs.Run.{is_status, is_answered, takes_input}
@@ -19,7 +20,8 @@ abbrev pub NoneFalls : Use → Use → Use → Type 0
 NoneFalls input out err = (input.faults ≤ input.faults_after) × (out.faults ≤ out.faults_after) × (err.faults ≤ err.faults_after)
 
 -- a run that left all as it was
-pub stays_still : (r : Run) → r.left ≡ r.before → r.world.heard.after ≡ r.world.heard.before → NoneFalls r.input r.out r.err → Stays r
+pub stays_still : {A : Type 0} {own : Answering A} (r : Run own) → r.left ≡ r.before → r.world.heard.after ≡ r.world.heard.before
+    → NoneFalls r.input r.out r.err → Stays r
 stays_still r left hears later = record {
   idle = λ never none. (ap (λ (s : RunState). s.script) left, ap (λ (s : RunState). s.keep) left);
   untold = λ takes never. hears;
@@ -37,7 +39,7 @@ pick n k true e h here behind = here (equal n k e) h
 pick n k false e h here behind = behind h
 
 -- what is said at a status
-abbrev pub At : Run → ℕ → Type 0
+abbrev pub At : {A : Type 0} {own : Answering A} → Run own → ℕ → Type 0
 At r status =
     MatchBool (status == 0) (IsDone r)
     (MatchBool (status == 2) (WordsRefused r)
@@ -48,7 +50,7 @@ At r status =
     (MatchBool (status == 7) (Unwritten r)
     (MatchBool (status == 9) (Wanting r) ⊥)))))))
 
-is_one : (r : Run) (status : ℕ) → At r status → IsTrue (is_status status)
+is_one : {A : Type 0} {own : Answering A} (r : Run own) (status : ℕ) → At r status → IsTrue (is_status status)
 is_one r status at =
     let is : (k : ℕ) → IsTrue (is_status k) → status ≡ k → IsTrue (is_status status) =
     λ k one same. subst (λ s. IsTrue (is_status s)) (sym same) one in
@@ -62,7 +64,7 @@ is_one r status at =
     pick status 9 (status == 9) refl at9 (λ same a. is 9 refl same) (λ none. absurd none))))))))
 
 -- a run ends with this status, at which so much is said
-pub ends_at : (r : Run) (k status : ℕ) → status ≡ k → Stays r → At r k → EndsWith r status
+pub ends_at : {A : Type 0} {own : Answering A} (r : Run own) (k status : ℕ) → status ≡ k → Stays r → At r k → EndsWith r status
 ends_at r k status is stays at =
     let here : At r status = subst (At r) (sym is) at in
     record {
@@ -79,7 +81,8 @@ ends_at r k status is stays at =
     }
 
 -- an answer is printed whole, and the run of the proxy behind it ended so
-pub finished : (r : Run) (end : ReplayEnd) (text : List ℕ) (status : ℕ) → Answers r end text → WritesAll r.out text
+pub finished : {A : Type 0} {own : Answering A} (r : Run own) (end : ReplayEnd) (text : List ℕ) (status : ℕ) → Answers r end text
+    → WritesAll r.out text
     → EndsRun end r.err status → Stays r → EndsWith r status
 finished r ends.Stopped text status answers writes told stays = ends_at r 0 status told.0 stays (text, answers, writes, told.1)
 finished r ends.WorldFault text status answers writes told stays = ends_at r 4 status told.0 stays (text, answers, writes, told.1)
@@ -93,7 +96,8 @@ one_of k n true rest e some here behind = here (same k n e)
 one_of k n false rest e some here behind = behind some
 
 -- what holds at each status holds at all
-pub by_status : (r : Run) (P : ℕ → Type 0) → (IsDone r → P 0) → (WordsRefused r → P 2) → (InputRefused r → P 3) → (WorldFailed r → P 4)
+pub by_status : {A : Type 0} {own : Answering A} (r : Run own) (P : ℕ → Type 0) → (IsDone r → P 0) → (WordsRefused r → P 2)
+    → (InputRefused r → P 3) → (WorldFailed r → P 4)
     → (TurnsSpent r → P 5) → (Unread r → P 6) → (Unwritten r → P 7) → (Wanting r → P 9) → (status : ℕ) → EndsWith r status → P status
 by_status r P p0 p2 p3 p4 p5 p6 p7 p9 status e =
     one_of 0 status (0 == status) _ refl e.nothing_else (λ is. subst P (sym is) (p0 (e.done is))) (λ s2.
@@ -123,7 +127,7 @@ pub takes_none : (asked : Result Command WordsFault) (c : Command) → takes_inp
 takes_none asked c none is takes =
     let never : IsTrue (takes_input (Ok c)) = subst (λ (a : Result Command WordsFault). IsTrue (takes_input a)) is takes in absurd cc
 
-module _ (r : Run) (end : ReplayEnd) (text : List ℕ) where
+module _ {A : Type 0} {own : Answering A} (r : Run own) (end : ReplayEnd) (text : List ℕ) where
   -- the answer is that of the command that is asked for
   pub gives_of : (c : Command) → r.asked ≡ Ok c → Answers r end text → Gives c r end text
   gives_of c asks a = subst (λ (d : Command). Gives d r end text) (same_command r.asked a.0 c a.1 asks) a.2
@@ -163,17 +167,18 @@ module _ (r : Run) (end : ReplayEnd) (text : List ℕ) where
       of_command (prints p) asks g = absurd (takes_none r.asked (prints p) refl asks takes)
 
 -- what an answer says that is printed whole
-abbrev pub Whole : Run → Type 0
+abbrev pub Whole : {A : Type 0} {own : Answering A} → Run own → Type 0
 Whole r = (end : ReplayEnd) × (text : List ℕ) × Answers r end text × WritesAll r.out text
 
 -- at 0, 4 and 5 the answer is printed whole
-pub is_whole : (r : Run) (status : ℕ) → EndsWith r status → IsTrue (is_answered status) → Whole r
+pub is_whole : {A : Type 0} {own : Answering A} (r : Run own) (status : ℕ) → EndsWith r status → IsTrue (is_answered status) → Whole r
 is_whole r = by_status r (λ s. IsTrue (is_answered s) → Whole r)
     (λ a h. (ends.Stopped, a.0, a.1, a.2)) (λ a h. absurd cc) (λ a h. absurd cc) (λ a h. (ends.WorldFault, a.0, a.1, a.2))
     (λ a h. (ends.TurnsSpent, a.0, a.1, a.2)) (λ a h. absurd cc) (λ a h. absurd cc) (λ a h. absurd cc)
 
 -- at 2, 3 and 6
-pub refused_at : {P : Type 0} (r : Run) (status : ℕ) → EndsWith r status → (status ≡ 2) ⊎ (status ≡ 3) ⊎ (status ≡ 6)
+pub refused_at : {A : Type 0} {own : Answering A} {P : Type 0} (r : Run own) (status : ℕ) → EndsWith r status → (status ≡ 2)
+    ⊎ (status ≡ 3) ⊎ (status ≡ 6)
     → (WordsRefused r → P) → (InputRefused r → P) → (Unread r → P) → P
 refused_at r status e (inl two) words input unread = words (e.words_refused two)
 refused_at r status e (inr (inl three)) words input unread = input (e.input_refused three)

@@ -1,7 +1,8 @@
 -- What `make` does, from what is said of its run, and how a run of it ends.
-use Rattle.std.proofs.Common.{◌≡◌, ◌≢◌, ℕ, ◌==◌, Bool, true, false, List, [], Ok, refl, sym, ◌∙◌, subst, inl, inr, ⊎_elim}
+use Rattle.std.proofs.Common.{◌≡◌, ℕ, ◌==◌, Bool, true, false, List, [], Ok, refl, sym, ◌∙◌, subst, inl, inr, ⊎_elim}
 use Rattle.std.specs.Bool.{MatchBool}
 use Rattle.std.specs.Prelude.{IsTrue}
+use Rattle.hb_audit.specs.Tells.{Answering}
 use Rattle.hb_make.specs.Made.{made as lines_made}
 use Rattle.hb_world.specs.declared.line.Line.{Line}
 use Rattle.hb_words.specs.Command.{Replay, shows, makes}
@@ -10,8 +11,6 @@ use Rattle.hb_serve.specs.Served.{Heard}
 use Rattle.hb_cli.specs.Replaying.{RunState, done_in, IsRun, DoneLawfully, report_of}
 use Rattle.hb_cli.specs.declared.ended.ReplayEnd.{ReplayEnd}
 use Rattle.hb_cli.specs.declared.ended.ReplayEnd.TheVariants as ends
-use Rattle.hb_cli.specs.declared.answer.Printed.{Printed}
-use Rattle.hb_cli.specs.declared.answer.Printed.TheVariants.{Whole, Failed, NoMemory}
 use Rattle.hb_cli.specs.Ending.{Run, RunsNothing, Answers, Finishes, IsDone, Unwritten, ShownInPart, BreaksOff, Wanting, Stays, EndsWith}
 use Rattle.hb_cli.specs.Hearing.{HearsAll, HearsNone}
 use Rattle.hb_cli.specs.Making.{made_run, made_text, made_total, RunsMade, PrintsMade, PrintsMadePart, RunsAt, MakesAt}
@@ -19,10 +18,10 @@ use Rattle.hb_cli.specs.Leaving.{EndsRun}
 use Rattle.hb_cli.specs.Printing.{Lacks, PrintsAt}
 use Rattle.hb_cli.specs.Run.{takes_input, world_fault_line, turns_spent_line}
 use Rattle.hb_cli.specs.Serving.{PrintsRun}
-use Rattle.hb_cli.specs.Use.{Use, Untouched, WritesAll, WritesPart, Prints, Tells}
+use Rattle.hb_cli.specs.Use.{Use, Untouched, WritesAll, WritesPart}
 use Rattle.hb_cli.proofs.Endings.{NoneFalls, pick, ends_at, finished, by_status, gives_of, same_command, accepted, takes_none}
 
-module _ (m : Make) (h : Heard) (left : RunState) (out err : Use) where
+module _ {A : Type 0} {own : Answering A} (m : Make) (h : Heard own) (left : RunState) (out err : Use) where
   -- the totals of a run of its lines were printed, or a part of them
   printed_at : (end : ReplayEnd) (status : ℕ) → RunsMade m h left end → PrintsRun end (made_total left) out err status
       → RunsAt m h left out err status
@@ -31,7 +30,8 @@ module _ (m : Make) (h : Heard) (left : RunState) (out err : Use) where
   printed_at ends.TurnsSpent status run (inl p) = subst (RunsAt m h left out err) (sym p.1.0) (run, p.0, p.1.1)
   printed_at end status run (inr p) = subst (RunsAt m h left out err) (sym p.0) (end, run, p.1, p.2)
 
-  pub run_printed : (r : Replay) (lines : List Line) (end : ReplayEnd) (text : List ℕ) (status : ℕ) → r ≡ made_run → lines ≡ lines_made m.count
+  pub run_printed : (r : Replay) (lines : List Line) (end : ReplayEnd) (text : List ℕ) (status : ℕ) → r ≡ made_run
+      → lines ≡ lines_made m.count
       → (left.script.lines ≡ lines) × IsRun r end (done_in left) × (text ≡ report_of r (done_in left)) → HearsAll h (done_in left).notes
       → PrintsRun end text out err status → RunsAt m h left out err status
   run_printed r lines end text status same are ran tells p =
@@ -40,7 +40,7 @@ module _ (m : Make) (h : Heard) (left : RunState) (out err : Use) where
       in printed_at end status (ran.0 ∙ are, at.0, tells) (subst (λ (t : List ℕ). PrintsRun end t out err status) at.1 p)
 
 -- Its table and the endings of a run say the same of it
-module _ (m : Make) (r : Run) (asks : r.asked ≡ Ok (makes m)) where
+module _ {A : Type 0} {own : Answering A} (m : Make) (r : Run own) (asks : r.asked ≡ Ok (makes m)) where
   -- what is said at each status, by whether the script is run
   abbrev ByRun : Bool → ℕ → Type 0
   ByRun run status =

@@ -1,6 +1,7 @@
 -- What is printed of a text, and how a run ends that prints a page.
 use Rattle.std.proofs.Common.{◌≡◌, ◌≢◌, ℕ, ◌==◌, List, Ok, refl, sym, subst, inl, ⊎_elim}
 use Rattle.std.specs.Prelude.{IsTrue}
+use Rattle.hb_audit.specs.Tells.{Answering}
 use Rattle.hb_words.specs.Command.{shows, prints}
 use Rattle.hb_words.specs.Page.{page_text}
 use Rattle.hb_words.specs.declared.page.Page.{Page}
@@ -9,9 +10,8 @@ use Rattle.hb_cli.specs.declared.answer.Printed.TheVariants.{Whole, Failed, NoMe
 use Rattle.hb_cli.specs.declared.ended.ReplayEnd.{ReplayEnd}
 use Rattle.hb_cli.specs.declared.ended.ReplayEnd.TheVariants as ends
 use Rattle.hb_cli.specs.Ending.{Run, PageGives, Answers, IsDone, Unwritten, ShownInPart, BreaksOff, Wanting, Stays, EndsWith}
-use Rattle.hb_cli.specs.Hearing.{HearsNone}
 use Rattle.hb_cli.specs.Paging.{PagesAt}
-use Rattle.hb_cli.specs.Printing.{Lacks, PrintsAt}
+use Rattle.hb_cli.specs.Printing.{PrintsAt}
 use Rattle.hb_cli.specs.Run.{takes_input, write_fault_line}
 use Rattle.hb_cli.specs.Use.{Use, Untouched, WritesAll, WritesPart, Prints, Tells}
 use Rattle.hb_cli.proofs.Endings.{NoneFalls, stays_still, pick, ends_at, finished, by_status, gives_of, same_command, accepted, takes_none}
@@ -24,14 +24,15 @@ text_in_part out err text Failed status whole lacks written seven tells = subst 
 text_in_part out err text NoMemory status whole lacks written seven tells = absurd (lacks refl)
 
 -- What is printed at each status and the endings of a run say the same of a page
-module _ (p : Page) (r : Run) (asks : r.asked ≡ Ok (prints p)) where
+module _ {A : Type 0} {own : Answering A} (p : Page) (r : Run own) (asks : r.asked ≡ Ok (prints p)) where
   -- it leaves the input, the script's world and the notes as they were
   pub paged : (status : ℕ) → Untouched r.input → NoneFalls r.input r.out r.err
       → PagesAt p r.world.heard r.before r.left r.out r.err status → EndsWith r status
   paged status unread later at =
       pick status 0 (status == 0) refl at.2 (λ same a. finished r ends.Stopped (page_text p) status text a.0 (same, a.1) stays) (λ at7.
       pick status 7 (status == 7) refl at7 (λ same a. ends_at r 7 status same stays (ends.Stopped, page_text p, text, a.0, a.1)) (λ at9.
-      pick status 9 (status == 9) refl at9 (λ same a. ends_at r 9 status same stays (unread.1, inl a.0, a.1, broken)) (λ none. absurd none)))
+      pick status 9 (status == 9) refl at9 (λ same a. ends_at r 9 status same stays (unread.1, inl a.0, a.1, broken))
+      (λ none. absurd none)))
     where
       stays : Stays r
       stays = stays_still r at.0 at.1 later

@@ -1,6 +1,7 @@
 -- What `serve` does, from what is said of its run, and how a run of it ends.
 use Rattle.std.proofs.Common.{◌≡◌, ℕ, ◌==◌, List, [], Some, Ok, refl, sym, ap, subst, inl, inr, ⊎_elim}
 use Rattle.std.proofs.lemmas.Option.{IfSome_then}
+use Rattle.hb_audit.specs.Tells.{Answering}
 use Rattle.hb_base.specs.Count.{Counts}
 use Rattle.hb_report.specs.Total.{total_line}
 use Rattle.hb_turns.specs.Ends.{is_fault}
@@ -27,7 +28,7 @@ same_fault turns.WorldFault end is = let same : ends.WorldFault ≡ end = cc in 
 same_fault turns.TurnsSpent end is = let same : ends.TurnsSpent ≡ end = cc in ap is_world_fault same
 same_fault turns.NoMemory end is = absurd (cc)
 
-module _ (s : Serve) (w : WorldUse) where
+module _ {A : Type 0} {own : Answering A} (s : Serve) (w : WorldUse own) where
   ran_to : (told : Served) (end : ReplayEnd) → ended_as told ≡ Some end → Worked s w told → RanTo s w told end
   ran_to told end ended worked = (
     ended,
@@ -55,7 +56,7 @@ module _ (s : Serve) (w : WorldUse) where
         (subst (λ (t : List ℕ). PrintsRun end t out err status) is p)
 
 -- Its table and the endings of a run say the same of it
-module _ (s : Serve) (r : Run) (asks : r.asked ≡ Ok (serves s)) where
+module _ {A : Type 0} {own : Answering A} (s : Serve) (r : Run own) (asks : r.asked ≡ Ok (serves s)) where
   -- it leaves the input, the script's world and the notes as they were
   pub served : (status : ℕ) → Untouched r.input → r.left ≡ r.before → NoneFalls r.input r.out r.err
       → ServesAt s r.world r.out r.err status → EndsWith r status

@@ -2,6 +2,7 @@
 -- totals of the run.
 use Rattle.std.specs.Prelude.{◌≡◌, ℕ, ◌==◌, false, true, List, [], Some, None, codes}
 use Rattle.std.specs.Bool.{MatchBool}
+use Rattle.hb_audit.specs.Tells.{Answering}
 use Rattle.hb_base.specs.declared.ip.Ip.TheVariants.{V4}
 use Rattle.hb_make.specs.Made.{made}
 use Rattle.hb_report.specs.Total.{total_line}
@@ -42,7 +43,7 @@ made_run = record {
 }
 
 -- the lines of the script were run over, the run ended so, and all its notes were told to the audits
-abbrev pub RunsMade : Make → Heard → RunState → ReplayEnd → Type 0
+abbrev pub RunsMade : {A : Type 0} {own : Answering A} → Make → Heard own → RunState → ReplayEnd → Type 0
 RunsMade m heard left end = (left.script.lines ≡ made m.count) × IsRun made_run end (done_in left) × HearsAll heard (done_in left).notes
 
 -- the line of its totals
@@ -50,16 +51,16 @@ abbrev pub made_total : RunState → List ℕ
 made_total left = total_line (totals_of (done_in left).trace (done_in left).notes)
 
 -- 0, 4 and 5: it ended so, the line is printed whole, and how it ended is told
-abbrev pub PrintsMade : Make → Heard → RunState → Use → Use → ReplayEnd → List ℕ → Type 0
+abbrev pub PrintsMade : {A : Type 0} {own : Answering A} → Make → Heard own → RunState → Use → Use → ReplayEnd → List ℕ → Type 0
 PrintsMade m heard left out err end ending = RunsMade m heard left end × WritesAll out (made_total left) × Tells err ending
 
 -- 7: a put failed, and the line is printed in part
-abbrev pub PrintsMadePart : Make → Heard → RunState → Use → Use → Type 0
+abbrev pub PrintsMadePart : {A : Type 0} {own : Answering A} → Make → Heard own → RunState → Use → Use → Type 0
 PrintsMadePart m heard left out err =
     (end : ReplayEnd) × RunsMade m heard left end × WritesPart out (made_total left) × Tells err write_fault_line
 
 -- What `make N --run` does at each status; at 9 what was done is lawful.
-abbrev pub RunsAt : Make → Heard → RunState → Use → Use → ℕ → Type 0
+abbrev pub RunsAt : {A : Type 0} {own : Answering A} → Make → Heard own → RunState → Use → Use → ℕ → Type 0
 RunsAt m heard left out err status =
     MatchBool (status == 0) (PrintsMade m heard left out err ends.Stopped [])
     (MatchBool (status == 4) (PrintsMade m heard left out err ends.WorldFault world_fault_line)
@@ -68,6 +69,6 @@ RunsAt m heard left out err status =
     (MatchBool (status == 9) (DoneLawfully made_run left.script.trace × Lacks out err) ⊥))))
 
 -- What `make` does at each status. Where it runs nothing, its text is printed, the script's world and the notes stay, and no note is told.
-abbrev pub MakesAt : Make → Heard → RunState → RunState → Use → Use → ℕ → Type 0
+abbrev pub MakesAt : {A : Type 0} {own : Answering A} → Make → Heard own → RunState → RunState → Use → Use → ℕ → Type 0
 MakesAt m heard before left out err status =
     MatchBool m.run (RunsAt m heard left out err status) ((left ≡ before) × HearsNone heard × PrintsAt (made_text m) out err status)

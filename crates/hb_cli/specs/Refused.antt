@@ -1,5 +1,6 @@
 -- Ends of a run, and of the commands serve and make, that aren't what they do, and some that are.
 use Rattle.std.specs.Prelude.{◌≡◌, ◌≢◌, ℕ, true, false, [], ◌∷◌, List, Option, Ok, Err, Some}
+use Rattle.hb_audit.specs.Tells.{Answering}
 use Rattle.hb_base.specs.declared.note.Note.{Note}
 use Rattle.hb_base.specs.declared.note.Note.TheVariants.{Verdict}
 use Rattle.hb_base.specs.declared.peer.Peer.{Peer}
@@ -30,63 +31,63 @@ use Rattle.hb_cli.specs.declared.stop.Stop.TheVariants.{NoMemory}
 -- RUN
 
 -- it ends with a status that isn't there
-abbrev pub NoOtherStatus : Type 0
-NoOtherStatus = (r : Run) → EndsWith r 1 → ⊥
+abbrev pub NoOtherStatus : {A : Type 0} → Answering A → Type 0
+NoOtherStatus own = (r : Run own) → EndsWith r 1 → ⊥
 
 -- `check` is done, and printed nothing
-abbrev pub DonePrintsNothing : Type 0
-DonePrintsNothing = (r : Run) (q : Question) → r.asked ≡ Ok (checks q) → r.out.bytes ≡ Some [] → r.out.bytes_after ≡ Some []
+abbrev pub DonePrintsNothing : {A : Type 0} → Answering A → Type 0
+DonePrintsNothing own = (r : Run own) (q : Question) → r.asked ≡ Ok (checks q) → r.out.bytes ≡ Some [] → r.out.bytes_after ≡ Some []
     → EndsWith r 0 → ⊥
 
 -- the input is refused, and something was printed
-abbrev pub RefusedPrints : Type 0
-RefusedPrints = (r : Run) → r.out.bytes ≡ Some [] → r.out.bytes_after ≡ Some (1 ∷ []) → EndsWith r 3 → ⊥
+abbrev pub RefusedPrints : {A : Type 0} → Answering A → Type 0
+RefusedPrints own = (r : Run own) → r.out.bytes ≡ Some [] → r.out.bytes_after ≡ Some (1 ∷ []) → EndsWith r 3 → ⊥
 
 -- a read failed, and isn't counted
-abbrev pub UnreadUncounted : Type 0
-UnreadUncounted = (r : Run) → r.input.faults ≡ 0 → r.input.faults_after ≡ 0 → EndsWith r 6 → ⊥
+abbrev pub UnreadUncounted : {A : Type 0} → Answering A → Type 0
+UnreadUncounted own = (r : Run own) → r.input.faults ≡ 0 → r.input.faults_after ≡ 0 → EndsWith r 6 → ⊥
 
 -- without words nothing of an input is read and nothing is printed; and that is told
-abbrev pub without_words : RunState → Run
-without_words state = record {
+abbrev pub without_words : {A : Type 0} (own : Answering A) → RunState → Run own
+without_words own state = record {
   asked = Err NoCommand;
   input = use_of (Some (1 ∷ [])) (Some (1 ∷ [])) 0 0;
   out = use_of (Some []) (Some []) 0 0;
   err = use_of (Some []) (Some (fault_line NoCommand)) 0 0;
-  world = world_use (Some []) (Some []) 0 0 (heard_of [] []);
+  world = world_use (Some []) (Some []) 0 0 (heard_of own [] []);
   before = state;
   left = state;
 }
 
-abbrev pub NoWordsAreRefused : Type 0
-NoWordsAreRefused = (state : RunState) → state.script.trace ≡ [] → EndsWith (without_words state) 2
+abbrev pub NoWordsAreRefused : {A : Type 0} → Answering A → Type 0
+NoWordsAreRefused own = (state : RunState) → state.script.trace ≡ [] → EndsWith (without_words own state) 2
 
 -- SERVE
 
 -- it ends with no such status
-abbrev pub NeverEndsWith : ℕ → Type 0
-NeverEndsWith status = (s : Serve) (w : WorldUse) (out err : Use) → ServesAt s w out err status → ⊥
+abbrev pub NeverEndsWith : {A : Type 0} → Answering A → ℕ → Type 0
+NeverEndsWith own status = (s : Serve) (w : WorldUse own) (out err : Use) → ServesAt s w out err status → ⊥
 
 -- it ended by a stop, and nothing was printed
-abbrev pub PrintsNothing : Type 0
-PrintsNothing = (s : Serve) (w : WorldUse) (out err : Use) → out.bytes ≡ Some [] → out.bytes_after ≡ Some []
+abbrev pub PrintsNothing : {A : Type 0} → Answering A → Type 0
+PrintsNothing own = (s : Serve) (w : WorldUse own) (out err : Use) → out.bytes ≡ Some [] → out.bytes_after ≡ Some []
     → ServesAt s w out err 0 → ⊥
 
 -- it is told to have ended by a stop, and a listen or a wait failed; or by that, and none failed
-abbrev pub HidesFault : Type 0
-HidesFault = (s : Serve) (w : WorldUse) (out err : Use) → w.faults ≡ 0 → w.faults_after ≡ 1 → ServesAt s w out err 0 → ⊥
+abbrev pub HidesFault : {A : Type 0} → Answering A → Type 0
+HidesFault own = (s : Serve) (w : WorldUse own) (out err : Use) → w.faults ≡ 0 → w.faults_after ≡ 1 → ServesAt s w out err 0 → ⊥
 
-abbrev pub InventsFault : Type 0
-InventsFault = (s : Serve) (w : WorldUse) (out err : Use) → w.faults ≡ 0 → w.faults_after ≡ 0 → ServesAt s w out err 4 → ⊥
+abbrev pub InventsFault : {A : Type 0} → Answering A → Type 0
+InventsFault own = (s : Serve) (w : WorldUse own) (out err : Use) → w.faults ≡ 0 → w.faults_after ≡ 0 → ServesAt s w out err 4 → ⊥
 
 -- memory lacked, and something was printed
-abbrev pub PrintsWanting : Type 0
-PrintsWanting = (s : Serve) (w : WorldUse) (out err : Use) → out.bytes ≡ Some [] → out.bytes_after ≡ Some (1 ∷ [])
+abbrev pub PrintsWanting : {A : Type 0} → Answering A → Type 0
+PrintsWanting own = (s : Serve) (w : WorldUse own) (out err : Use) → out.bytes ≡ Some [] → out.bytes_after ≡ Some (1 ∷ [])
     → ServesAt s w out err 9 → ⊥
 
 -- memory lacked before any call, and that is told
-abbrev pub MayLack : Type 0
-MayLack = (s : Serve) (w : WorldUse) (out err : Use) → Unused w → Untouched out → Tells err (stop_line NoMemory)
+abbrev pub MayLack : {A : Type 0} → Answering A → Type 0
+MayLack own = (s : Serve) (w : WorldUse own) (out err : Use) → Unused w → Untouched out → Tells err (stop_line NoMemory)
     → ServesAt s w out err 9
 
 -- memory lacked for a request, and the run is told to have ended
@@ -107,66 +108,66 @@ EndsAsTold = (told : Served) → told.wanting ≡ false → told.totals.lacked �
 -- MAKE
 
 -- it ends with no such status: it reads no input, and its words were accepted; without a run no turns are spent and no world fails
-abbrev pub MakeNeverEndsWith : ℕ → Type 0
-MakeNeverEndsWith status =
-    (m : Make) (h : Heard) (before left : RunState) (out err : Use) → MakesAt m h before left out err status → ⊥
+abbrev pub MakeNeverEndsWith : {A : Type 0} → Answering A → ℕ → Type 0
+MakeNeverEndsWith own status =
+    (m : Make) (h : Heard own) (before left : RunState) (out err : Use) → MakesAt m h before left out err status → ⊥
 
-abbrev pub TextNeverEndsWith : ℕ → Type 0
-TextNeverEndsWith status =
-    (m : Make) (h : Heard) (before left : RunState) (out err : Use) → m.run ≡ false → MakesAt m h before left out err status → ⊥
+abbrev pub TextNeverEndsWith : {A : Type 0} → Answering A → ℕ → Type 0
+TextNeverEndsWith own status =
+    (m : Make) (h : Heard own) (before left : RunState) (out err : Use) → m.run ≡ false → MakesAt m h before left out err status → ⊥
 
 -- a script's text is asked for, and nothing is printed; or its first octet isn't that of a line; or its lines are run
-abbrev pub MakesNothing : Type 0
-MakesNothing = (m : Make) (h : Heard) (before left : RunState) (out err : Use) → m.run ≡ false
+abbrev pub MakesNothing : {A : Type 0} → Answering A → Type 0
+MakesNothing own = (m : Make) (h : Heard own) (before left : RunState) (out err : Use) → m.run ≡ false
     → out.bytes ≡ Some [] → out.bytes_after ≡ Some [] → MakesAt m h before left out err 0 → ⊥
 
-abbrev pub MakesAnother : Type 0
-MakesAnother = (m : Make) (h : Heard) (before left : RunState) (out err : Use) (text : List ℕ) → m.run ≡ false
+abbrev pub MakesAnother : {A : Type 0} → Answering A → Type 0
+MakesAnother own = (m : Make) (h : Heard own) (before left : RunState) (out err : Use) (text : List ℕ) → m.run ≡ false
     → out.bytes ≡ Some [] → out.bytes_after ≡ Some (91 ∷ text) → MakesAt m h before left out err 0 → ⊥
 
-abbrev pub RunsUnasked : Type 0
-RunsUnasked = (m : Make) (h : Heard) (before left : RunState) (out err : Use) (status : ℕ) → m.run ≡ false
+abbrev pub RunsUnasked : {A : Type 0} → Answering A → Type 0
+RunsUnasked own = (m : Make) (h : Heard own) (before left : RunState) (out err : Use) (status : ℕ) → m.run ≡ false
     → before.script.lines ≡ [] → left.script.lines ≢ [] → MakesAt m h before left out err status → ⊥
 
 -- a run is asked for, and none is made; or nothing of it is printed
-abbrev pub RunsNothing : Type 0
-RunsNothing = (m : Make) (h : Heard) (before left : RunState) (out err : Use) → m.run ≡ true → left.script.lines ≡ []
+abbrev pub RunsNothing : {A : Type 0} → Answering A → Type 0
+RunsNothing own = (m : Make) (h : Heard own) (before left : RunState) (out err : Use) → m.run ≡ true → left.script.lines ≡ []
     → MakesAt m h before left out err 0 → ⊥
 
-abbrev pub RunsUntold : Type 0
-RunsUntold = (m : Make) (h : Heard) (before left : RunState) (out err : Use) → m.run ≡ true
+abbrev pub RunsUntold : {A : Type 0} → Answering A → Type 0
+RunsUntold own = (m : Make) (h : Heard own) (before left : RunState) (out err : Use) → m.run ≡ true
     → out.bytes ≡ Some [] → out.bytes_after ≡ Some [] → MakesAt m h before left out err 0 → ⊥
 
 -- the text is printed; or memory lacked before any call, and that is told
-abbrev pub TextMayBePrinted : Type 0
-TextMayBePrinted = (m : Make) (h : Heard) (state : RunState) (out err : Use) → m.run ≡ false → HearsNone h
+abbrev pub TextMayBePrinted : {A : Type 0} → Answering A → Type 0
+TextMayBePrinted own = (m : Make) (h : Heard own) (state : RunState) (out err : Use) → m.run ≡ false → HearsNone h
     → out.bytes ≡ Some [] → out.bytes_after ≡ Some (made_text m) → out.faults_after ≡ out.faults
     → err.bytes ≡ Some [] → err.bytes_after ≡ Some [] → err.faults_after ≡ err.faults
     → MakesAt m h state state out err 0
 
-abbrev pub MakeMayLack : Type 0
-MakeMayLack = (m : Make) (h : Heard) (state : RunState) (out err : Use) → m.run ≡ false → HearsNone h → Untouched out
+abbrev pub MakeMayLack : {A : Type 0} → Answering A → Type 0
+MakeMayLack own = (m : Make) (h : Heard own) (state : RunState) (out err : Use) → m.run ≡ false → HearsNone h → Untouched out
     → Tells err (stop_line NoMemory) → MakesAt m h state state out err 9
 
 -- PAGES
 
 -- it ends with no such status
-abbrev pub PageNeverEndsWith : ℕ → Type 0
-PageNeverEndsWith status =
-    (p : Page) (h : Heard) (before left : RunState) (out err : Use) → PagesAt p h before left out err status → ⊥
+abbrev pub PageNeverEndsWith : {A : Type 0} → Answering A → ℕ → Type 0
+PageNeverEndsWith own status =
+    (p : Page) (h : Heard own) (before left : RunState) (out err : Use) → PagesAt p h before left out err status → ⊥
 
 -- the version is asked for, and nothing is printed, or another page
-abbrev pub PrintsNoPage : Type 0
-PrintsNoPage = (h : Heard) (before left : RunState) (out err : Use) → out.bytes ≡ Some [] → out.bytes_after ≡ Some []
+abbrev pub PrintsNoPage : {A : Type 0} → Answering A → Type 0
+PrintsNoPage own = (h : Heard own) (before left : RunState) (out err : Use) → out.bytes ≡ Some [] → out.bytes_after ≡ Some []
     → PagesAt Version h before left out err 0 → ⊥
 
-abbrev pub PrintsAnotherPage : Type 0
-PrintsAnotherPage = (h : Heard) (before left : RunState) (out err : Use) → out.bytes ≡ Some []
+abbrev pub PrintsAnotherPage : {A : Type 0} → Answering A → Type 0
+PrintsAnotherPage own = (h : Heard own) (before left : RunState) (out err : Use) → out.bytes ≡ Some []
     → out.bytes_after ≡ Some (page_text Commands) → PagesAt Version h before left out err 0 → ⊥
 
 -- it is printed
-abbrev pub PageMayBePrinted : Type 0
-PageMayBePrinted = (p : Page) (h : Heard) (state : RunState) (out err : Use) → HearsNone h
+abbrev pub PageMayBePrinted : {A : Type 0} → Answering A → Type 0
+PageMayBePrinted own = (p : Page) (h : Heard own) (state : RunState) (out err : Use) → HearsNone h
     → out.bytes ≡ Some [] → out.bytes_after ≡ Some (page_text p) → out.faults_after ≡ out.faults
     → err.bytes ≡ Some [] → err.bytes_after ≡ Some [] → err.faults_after ≡ err.faults
     → PagesAt p h state state out err 0

@@ -1,6 +1,6 @@
 -- A run of the proxy over a script, as its trace and its notes tell it.
 use Rattle.std.specs.Prelude.{⊤, ◌≡◌, ◌⊎◌, ℕ, false, List, [], Option, None, Some, Result, Ok, Err}
-use Rattle.hb_audit.specs.Tells.{Tells}
+use Rattle.hb_audit.specs.Tells.{Answering, Tells}
 use Rattle.hb_base.specs.declared.note.Note.{Note}
 use Rattle.hb_base.specs.declared.or.Or.{Or}
 use Rattle.hb_base.specs.declared.or.Or.TheVariants.{Fault, NoMemory}
@@ -85,7 +85,7 @@ Replays r text left (Err (Fault fault)) = (lines text ≡ Err fault) × (left.sc
 Replays r text left (Err NoMemory) = DoneLawfully r left.script.trace
 
 -- What a replay tells to audits that held the first and hold the second behind it: all its notes; where a row is no line, none
-abbrev pub TellsNotes : List (Option (List Note)) → List (Option (List Note)) → List Note → Result Replayed (Or ScriptFault) → Type 0
-TellsNotes before after notes (Ok told) = Tells before after notes
-TellsNotes before after notes (Err (Fault fault)) = after ≡ before
-TellsNotes before after notes (Err NoMemory) = ⊤
+abbrev pub TellsNotes : {A : Type 0} → Answering A → List A → List A → List Note → Result Replayed (Or ScriptFault) → Type 0
+TellsNotes own before after notes (Ok told) = Tells own before after notes
+TellsNotes own before after notes (Err (Fault fault)) = after ≡ before
+TellsNotes own before after notes (Err NoMemory) = ⊤

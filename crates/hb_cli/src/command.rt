@@ -3,7 +3,7 @@
 ghost use Rattle.std.specs.Prelude.{◌≡◌, ◌≤◌, [], IsTrue, IfOk, map, Ok, Err};
 ghost use Rattle.std.specs.Result.{MatchResult};
 ghost use Rattle.std.specs.String.{string_bytes};
-ghost use Rattle.hb_audit.specs.HeldBy.{held_by};
+ghost use Rattle.hb_audit.specs.HeldBy.{each, answers_by};
 ghost use Rattle.hb_base.specs.Outcome.{Answers};
 ghost use Rattle.hb_cli.specs.Replaying.{done_by, run_state};
 ghost use Rattle.hb_serve.specs.Served.{heard_of};
@@ -67,7 +67,7 @@ fn replay_input<A: Audit>(
     ensures text { Answers (texts result) (printed_by (replays (replay_seen words.now)) (done_by script.new.trace keep.new) input) }
     ensures kind { IfOk result (λ a. Suits (replays (replay_seen words.now)) a) }
     ensures leaves { LeavesOf (replay_seen words.now) input (run_state script.new keep.new) result }
-    ensures heard { HearsOf (replays (replay_seen words.now)) (heard_of (held_by A.notes audits.old) (held_by A.notes audits.new))
+    ensures heard { HearsOf (replays (replay_seen words.now)) (heard_of (answers_by A.notes A.answers) (each audits.old) (each audits.new))
         (held keep.new) result }
 {
     match replay(alloc, words, input, keep, audits, script) {
@@ -92,7 +92,7 @@ fn answer<A: Audit>(
     ensures text { Answers (texts result) (printed_by (command_of command.now) (done_by script.new.trace keep.new) input) }
     ensures kind { IfOk result (λ a. Suits (command_of command.now) a) }
     ensures leaves { CommandLeaves (command_of command.now) input (run_state script.old keep.old) (run_state script.new keep.new) result }
-    ensures heard { HearsOf (command_of command.now) (heard_of (held_by A.notes audits.old) (held_by A.notes audits.new))
+    ensures heard { HearsOf (command_of command.now) (heard_of (answers_by A.notes A.answers) (each audits.old) (each audits.new))
         (held keep.new) result }
 {
     match command {
@@ -126,7 +126,7 @@ fn find_out<S: Source, A: Audit>(
     ensures kind { IfOk result (λ a. Suits (command_of command.now) a) }
     ensures leaves { LeavesBy (command_of command.now) (S.left input.old) (run_state script.old keep.old)
         (run_state script.new keep.new) result }
-    ensures heard { HearsBy (command_of command.now) (heard_of (held_by A.notes audits.old) (held_by A.notes audits.new))
+    ensures heard { HearsBy (command_of command.now) (heard_of (answers_by A.notes A.answers) (each audits.old) (each audits.new))
         (held keep.new) result }
     ensures later { S.faults input.old ≤ S.faults input.new }
 {
@@ -186,7 +186,7 @@ fn conclude<S: Source, K: Sink, E: Sink, A: Audit>(
     requires by_input { IsTrue (takes_input (Ok (command_of command.now))) }
     requires lines { script.old.lines ≡ [] }
     requires trace { script.old.trace ≡ [] }
-    ensures ends { (w : WorldUse) → w.heard ≡ heard_of (held_by A.notes audits.old) (held_by A.notes audits.new) → EndsWith (record {
+    ensures ends { (w : WorldUse (answers_by A.notes A.answers)) → w.heard ≡ heard_of (answers_by A.notes A.answers) (each audits.old) (each audits.new) → EndsWith (record {
       asked = Ok (command_of command.now);
       input = used S.left S.faults input.old input.new;
       out = used K.written K.faults out.old out.new;
@@ -228,7 +228,7 @@ fn obey<S: Source, K: Sink, E: Sink, A: Audit, W: World>(
       input = used S.left S.faults input.old input.new;
       out = used K.written K.faults out.old out.new;
       err = used E.written E.faults err.old err.new;
-      world = world_used W.trace W.seen world.old world.new (heard_of (held_by A.notes audits.old) (held_by A.notes audits.new));
+      world = world_used W.trace W.seen world.old world.new (heard_of (answers_by A.notes A.answers) (each audits.old) (each audits.new));
       before = run_state script.old keep.old;
       left = run_state script.new keep.new;
     }) result }
@@ -271,7 +271,7 @@ pub fn run<S: Source, K: Sink, E: Sink, A: Audit, W: World>(
       input = used S.left S.faults input.old input.new;
       out = used K.written K.faults out.old out.new;
       err = used E.written E.faults err.old err.new;
-      world = world_used W.trace W.seen world.old world.new (heard_of (held_by A.notes audits.old) (held_by A.notes audits.new));
+      world = world_used W.trace W.seen world.old world.new (heard_of (answers_by A.notes A.answers) (each audits.old) (each audits.new));
       before = run_state script.old keep.old;
       left = run_state script.new keep.new;
     }) result }

@@ -1,7 +1,7 @@
 //! `make`: a script that is made, and its text or the totals of its run.
 
 ghost use Rattle.std.specs.Prelude.{◌≡◌, ◌≤◌, [], IfOk};
-ghost use Rattle.hb_audit.specs.HeldBy.{held_by};
+ghost use Rattle.hb_audit.specs.HeldBy.{each, answers_by};
 ghost use Rattle.hb_make.specs.Made.{made};
 ghost use Rattle.hb_cli.specs.Replaying.{run_state};
 ghost use Rattle.hb_script.specs.Spelling.{lines_text};
@@ -90,7 +90,7 @@ fn run_made<K: Sink, E: Sink, A: Audit>(
     requires range { make.now.count ≤ most_tunnels }
     requires lines { script.old.lines ≡ [] }
     requires trace { script.old.trace ≡ [] }
-    ensures runs { RunsAt make.now (heard_of (held_by A.notes audits.old) (held_by A.notes audits.new)) (run_state script.new keep.new)
+    ensures runs { RunsAt make.now (heard_of (answers_by A.notes A.answers) (each audits.old) (each audits.new)) (run_state script.new keep.new)
         (used K.written K.faults out.old out.new) (used E.written E.faults err.old err.new) result }
     ensures later_out { K.faults out.old ≤ K.faults out.new }
     ensures later_err { E.faults err.old ≤ E.faults err.new }
@@ -118,7 +118,7 @@ pub fn make_script<K: Sink, E: Sink, A: Audit>(
     requires range { make.now.count ≤ most_tunnels }
     requires lines { script.old.lines ≡ [] }
     requires trace { script.old.trace ≡ [] }
-    ensures makes { MakesAt make.now (heard_of (held_by A.notes audits.old) (held_by A.notes audits.new))
+    ensures makes { MakesAt make.now (heard_of (answers_by A.notes A.answers) (each audits.old) (each audits.new))
         (run_state script.old keep.old) (run_state script.new keep.new)
         (used K.written K.faults out.old out.new) (used E.written E.faults err.old err.new) result }
     ensures later_out { K.faults out.old ≤ K.faults out.new }

@@ -1,7 +1,7 @@
 //! A run over a script, and what is told of it.
 
 ghost use Rattle.std.specs.Prelude.{◌≡◌, [], IfOk};
-ghost use Rattle.hb_audit.specs.HeldBy.{held_by};
+ghost use Rattle.hb_audit.specs.HeldBy.{each, answers_by};
 ghost use Rattle.hb_audit.specs.Tells.{Tells};
 ghost use Rattle.hb_base.specs.Outcome.{Answers};
 ghost use Rattle.hb_report.specs.Report.{report};
@@ -43,7 +43,7 @@ fn run_over<A: Audit>(
     ensures lawful { DoneLawfully (replay_seen words.now) script.new.trace }
     ensures runs { IfOk result (λ ran. IsRun (replay_seen words.now) ran.0 (done_by script.new.trace keep.new)) }
     ensures totals { IfOk result (λ ran. ran.1 ≡ totals_of script.new.trace (held keep.new)) }
-    ensures told { IfOk result (λ ran. Tells (held_by A.notes audits.old) (held_by A.notes audits.new) (held keep.new)) }
+    ensures told { IfOk result (λ ran. Tells (answers_by A.notes A.answers) (each audits.old) (each audits.new) (held keep.new)) }
 {
     let asked = serve_words(alloc, &words.run, None)?;
     let served = serve(alloc, asked, keep, audits, script);
@@ -98,7 +98,7 @@ pub fn replay_lines<A: Audit>(
     requires lines { script.old.lines ≡ [] }
     requires trace { script.old.trace ≡ [] }
     ensures replays { ReplaysLines (replay_seen words.now) lines (run_state script.new keep.new) result }
-    ensures tells { IfOk result (λ _. Tells (held_by A.notes audits.old) (held_by A.notes audits.new) (held keep.new)) }
+    ensures tells { IfOk result (λ _. Tells (answers_by A.notes A.answers) (each audits.old) (each audits.new) (held keep.new)) }
 {
     script.load(lines)?;
     let (end, totals) = run_over(alloc, words, keep, audits, script)?;
@@ -122,7 +122,7 @@ pub fn replay<A: Audit>(
     requires lines { script.old.lines ≡ [] }
     requires trace { script.old.trace ≡ [] }
     ensures replays { Replays (replay_seen words.now) text (run_state script.new keep.new) result }
-    ensures tells { TellsNotes (held_by A.notes audits.old) (held_by A.notes audits.new) (held keep.new) result }
+    ensures tells { TellsNotes (answers_by A.notes A.answers) (each audits.old) (each audits.new) (held keep.new) result }
 {
     let lines = lines_of(alloc, text)?;
     Ok(replay_lines(alloc, words, lines, keep, audits, script)?)

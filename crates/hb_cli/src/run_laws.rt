@@ -2,6 +2,7 @@
 
 ghost use Rattle.std.specs.Prelude.{◌≡◌, ◌≢◌, ◌<◌, ◌≤◌, ◌==◌, ◌⊎◌, ℕ, List, [], false, IsTrue, IsErr, IfSome, length, take, Ok, Err};
 ghost use Rattle.std.specs.Io.KnownBytes.{Appends};
+ghost use Rattle.hb_audit.specs.HeldBy.{answers_by};
 ghost use Rattle.hb_audit.specs.Tells.{Tells};
 ghost use Rattle.hb_base.specs.Count.{Counts, Rose};
 ghost use Rattle.hb_cli.specs.Replaying.{DoneLawfully, done_in};
@@ -20,46 +21,48 @@ ghost use Rattle.hb_cli.specs.Run.{is_answered, line_at, stop_line, takes_input}
 ghost use Rattle.hb_cli.specs.Serving.{ServesAt};
 ghost use Rattle.hb_cli.specs.declared.stop.Stop.{Stop};
 
+use hb_audit::Audit;
+
 /// 2 comes exactly where the words aren't accepted, want of memory aside, and nothing is read then.
-pub fn words_are_refused_exactly()
-    ensures words_refused { EachEnding (λ r status. status ≡ 2 → IsErr r.asked) }
-    ensures refused_words { EachEnding (λ r status. IsErr r.asked → (status ≡ 2) ⊎ (status ≡ 9)) }
-    ensures reads_nothing { EachEnding (λ r status. status ≡ 2 → r.input.bytes_after ≡ r.input.bytes) }
+pub fn words_are_refused_exactly<A: Audit>()
+    ensures words_refused { EachEnding (answers_by A.notes A.answers) (λ r status. status ≡ 2 → IsErr r.asked) }
+    ensures refused_words { EachEnding (answers_by A.notes A.answers) (λ r status. IsErr r.asked → (status ≡ 2) ⊎ (status ≡ 9)) }
+    ensures reads_nothing { EachEnding (answers_by A.notes A.answers) (λ r status. status ≡ 2 → r.input.bytes_after ≡ r.input.bytes) }
 {}
 
 /// But for `serve`, `make` and a page a command is answered by its input, which is read to its end, or past its limit, before it is looked at. Of
 /// one that is told the status is the stated one: 3 exactly by the input, 0 with its answer; a replay that has an answer may have ended
 /// otherwise than by a stop.
-pub fn statuses_are_stated_by_words_and_input()
-    ensures stated { EachEnding (λ r status. IsTrue (takes_input r.asked) → IfSome r.input.bytes
+pub fn statuses_are_stated_by_words_and_input<A: Audit>()
+    ensures stated { EachEnding (answers_by A.notes A.answers) (λ r status. IsTrue (takes_input r.asked) → IfSome r.input.bytes
         (λ left. IsStated (status_of (outcome_by r.asked (done_in r.left) left)) status)) }
-    ensures complete { EachEnding (λ r status. IsTrue (takes_input r.asked) → IfSome r.input.bytes
+    ensures complete { EachEnding (answers_by A.notes A.answers) (λ r status. IsTrue (takes_input r.asked) → IfSome r.input.bytes
         (λ left. status_of (outcome_by r.asked (done_in r.left) left) ≡ 0
         → (Rose r.input.faults r.input.faults_after → ⊥) → (Rose r.out.faults r.out.faults_after → ⊥)
         → IsTrue (is_answered status) ⊎ (status ≡ 9))) }
-    ensures reads_enough { EachEnding (λ r status. IsTrue (takes_input r.asked)
+    ensures reads_enough { EachEnding (answers_by A.notes A.answers) (λ r status. IsTrue (takes_input r.asked)
         → IsTrue (is_answered status) ⊎ (status ≡ 3) ⊎ (status ≡ 7) → ReadsEnough r.input.bytes r.input.bytes_after) }
 {}
 
 /// 6 comes exactly where a take failed, and 7 where a put into the output did: the count is one more then, and else the same.
-pub fn faults_are_told_by_statuses()
-    ensures read_fault { EachEnding (λ r status. Counts r.input.faults r.input.faults_after (status == 6)) }
-    ensures write_fault { EachEnding (λ r status. Counts r.out.faults r.out.faults_after (status == 7)) }
+pub fn faults_are_told_by_statuses<A: Audit>()
+    ensures read_fault { EachEnding (answers_by A.notes A.answers) (λ r status. Counts r.input.faults r.input.faults_after (status == 6)) }
+    ensures write_fault { EachEnding (answers_by A.notes A.answers) (λ r status. Counts r.out.faults r.out.faults_after (status == 7)) }
 {}
 
 /// The answer, which is that of some input, and of the one that is told, is printed whole at 0, 4 and 5, and in part at 7. At every other
 /// status nothing is printed; but where memory is wanting while `show` prints, a part is.
-pub fn answers_are_printed_as_words_and_input_have_them()
-    ensures printed { EachEnding (λ r status. IsTrue (takes_input r.asked) → IsTrue (is_answered status) → (text : List ℕ)
+pub fn answers_are_printed_as_words_and_input_have_them<A: Audit>()
+    ensures printed { EachEnding (answers_by A.notes A.answers) (λ r status. IsTrue (takes_input r.asked) → IsTrue (is_answered status) → (text : List ℕ)
         × IsOutcomeBy r.asked (done_in r.left) (Ok text)
         × IfSome r.input.bytes (λ left. outcome_by r.asked (done_in r.left) left ≡ Ok text)
         × Appends r.out.bytes r.out.bytes_after text) }
-    ensures printed_part { EachEnding (λ r status. IsTrue (takes_input r.asked) → status ≡ 7 → (text : List ℕ)
+    ensures printed_part { EachEnding (answers_by A.notes A.answers) (λ r status. IsTrue (takes_input r.asked) → status ≡ 7 → (text : List ℕ)
         × IsOutcomeBy r.asked (done_in r.left) (Ok text)
         × IfSome r.input.bytes (λ left. outcome_by r.asked (done_in r.left) left ≡ Ok text)
         × ((n : ℕ) × (n < length text) × Appends r.out.bytes r.out.bytes_after (take n text))) }
-    ensures quiet { EachEnding (λ r status. is_answered status ≡ false → status ≢ 7 → status ≢ 9 → r.out.bytes_after ≡ r.out.bytes) }
-    ensures printed_wanting { EachEnding (λ r status. status ≡ 9 → (r.out.bytes_after ≡ r.out.bytes) ⊎ ((text : List ℕ)
+    ensures quiet { EachEnding (answers_by A.notes A.answers) (λ r status. is_answered status ≡ false → status ≢ 7 → status ≢ 9 → r.out.bytes_after ≡ r.out.bytes) }
+    ensures printed_wanting { EachEnding (answers_by A.notes A.answers) (λ r status. status ≡ 9 → (r.out.bytes_after ≡ r.out.bytes) ⊎ ((text : List ℕ)
         × (r.asked ≡ Ok shows) × IsOutcomeBy r.asked (done_in r.left) (Ok text)
         × IfSome r.input.bytes (λ left. outcome_by r.asked (done_in r.left) left ≡ Ok text)
         × ((n : ℕ) × (n ≤ length text) × Appends r.out.bytes r.out.bytes_after (take n text)))) }
@@ -67,10 +70,10 @@ pub fn answers_are_printed_as_words_and_input_have_them()
 
 /// The line of the status is told, all of it, or a part where a put into the error text failed; its count counts just that. Of status 3 it
 /// is the line of a refused input, told or not; of one that is told, of its outcome.
-pub fn lines_are_told_by_statuses()
-    ensures told { EachEnding (λ r status. IfSome (line_at status r.asked (done_in r.left) r.input.bytes)
+pub fn lines_are_told_by_statuses<A: Audit>()
+    ensures told { EachEnding (answers_by A.notes A.answers) (λ r status. IfSome (line_at status r.asked (done_in r.left) r.input.bytes)
         (λ text. WritesLine r.err.bytes r.err.bytes_after r.err.faults r.err.faults_after text)) }
-    ensures told_refusal { EachEnding (λ r status. status ≡ 3 → (stop : Stop) × (status_of (Err stop) ≡ 3)
+    ensures told_refusal { EachEnding (answers_by A.notes A.answers) (λ r status. status ≡ 3 → (stop : Stop) × (status_of (Err stop) ≡ 3)
         × IfSome r.input.bytes (λ left. outcome_by r.asked (done_in r.left) left ≡ Err stop)
         × WritesLine r.err.bytes r.err.bytes_after r.err.faults r.err.faults_after (stop_line stop)) }
 {}
@@ -78,37 +81,37 @@ pub fn lines_are_told_by_statuses()
 /// A replay ran over the lines of the input that is told, and left a trace that is lawful: at 0 a stop ended it, at 4 a wait that failed,
 /// and at 5 its turns were spent; 7 comes behind any of these. At 9 what was done is lawful, and at 2, 3 and 6 nothing was done. But for
 /// `serve`, `make` and pages 4 and 5 come of a replay alone.
-pub fn replays_leave_lawful_runs()
-    ensures stopped { EachEnding (λ r status. (p : Replays) → r.asked ≡ Ok (replays p) → status ≡ 0
+pub fn replays_leave_lawful_runs<A: Audit>()
+    ensures stopped { EachEnding (answers_by A.notes A.answers) (λ r status. (p : Replays) → r.asked ≡ Ok (replays p) → status ≡ 0
         → RunsTo p r.input.bytes r.left ends.Stopped) }
-    ensures world_fault { EachEnding (λ r status. (p : Replays) → r.asked ≡ Ok (replays p) → status ≡ 4
+    ensures world_fault { EachEnding (answers_by A.notes A.answers) (λ r status. (p : Replays) → r.asked ≡ Ok (replays p) → status ≡ 4
         → RunsTo p r.input.bytes r.left ends.WorldFault) }
-    ensures turns_spent { EachEnding (λ r status. (p : Replays) → r.asked ≡ Ok (replays p) → status ≡ 5
+    ensures turns_spent { EachEnding (answers_by A.notes A.answers) (λ r status. (p : Replays) → r.asked ≡ Ok (replays p) → status ≡ 5
         → RunsTo p r.input.bytes r.left ends.TurnsSpent) }
-    ensures unwritten { EachEnding (λ r status. (p : Replays) → r.asked ≡ Ok (replays p) → status ≡ 7
+    ensures unwritten { EachEnding (answers_by A.notes A.answers) (λ r status. (p : Replays) → r.asked ≡ Ok (replays p) → status ≡ 7
         → (end : ReplayEnds) × RunsTo p r.input.bytes r.left end) }
-    ensures wanting { EachEnding (λ r status. (p : Replays) → r.asked ≡ Ok (replays p) → status ≡ 9
+    ensures wanting { EachEnding (answers_by A.notes A.answers) (λ r status. (p : Replays) → r.asked ≡ Ok (replays p) → status ≡ 9
         → DoneLawfully p r.left.script.trace) }
-    ensures nothing_done { EachEnding (λ r status. (status ≡ 2) ⊎ (status ≡ 3) ⊎ (status ≡ 6) → r.left.script.trace ≡ []) }
-    ensures replays_alone { EachEnding (λ r status. IsTrue (takes_input r.asked) → (status ≡ 4) ⊎ (status ≡ 5)
+    ensures nothing_done { EachEnding (answers_by A.notes A.answers) (λ r status. (status ≡ 2) ⊎ (status ≡ 3) ⊎ (status ≡ 6) → r.left.script.trace ≡ []) }
+    ensures replays_alone { EachEnding (answers_by A.notes A.answers) (λ r status. IsTrue (takes_input r.asked) → (status ≡ 4) ⊎ (status ≡ 5)
         → (p : Replays) × (r.asked ≡ Ok (replays p))) }
 {}
 
 /// All notes of a replay that ends so were told to the audits, one after the other, and those are left that kept each. At 2, 3 and 6 no
 /// note was told.
-pub fn audits_hear_all_notes_of_a_replay()
-    ensures heard { EachEnding (λ r status. (p : Replays) → r.asked ≡ Ok (replays p)
+pub fn audits_hear_all_notes_of_a_replay<A: Audit>()
+    ensures heard { EachEnding (answers_by A.notes A.answers) (λ r status. (p : Replays) → r.asked ≡ Ok (replays p)
         → (status ≡ 0) ⊎ (status ≡ 4) ⊎ (status ≡ 5) ⊎ (status ≡ 7)
-        → Tells r.world.heard.before r.world.heard.after (held r.left.keep)) }
-    ensures none_heard { EachEnding (λ r status. (status ≡ 2) ⊎ (status ≡ 3) ⊎ (status ≡ 6)
+        → Tells (answers_by A.notes A.answers) r.world.heard.before r.world.heard.after (held r.left.keep)) }
+    ensures none_heard { EachEnding (answers_by A.notes A.answers) (λ r status. (status ≡ 2) ⊎ (status ≡ 3) ⊎ (status ≡ 6)
         → r.world.heard.after ≡ r.world.heard.before) }
 {}
 
 /// `serve`, `make` and pages, which read no input, end as their own tables say.
-pub fn others_end_by_their_tables()
-    ensures serves { EachEnding (λ r status. (s : Serves) → r.asked ≡ Ok (serves s) → ServesAt s r.world r.out r.err status) }
-    ensures makes { EachEnding (λ r status. (m : Makes) → r.asked ≡ Ok (makes m)
+pub fn others_end_by_their_tables<A: Audit>()
+    ensures serves { EachEnding (answers_by A.notes A.answers) (λ r status. (s : Serves) → r.asked ≡ Ok (serves s) → ServesAt s r.world r.out r.err status) }
+    ensures makes { EachEnding (answers_by A.notes A.answers) (λ r status. (m : Makes) → r.asked ≡ Ok (makes m)
         → MakesAt m r.world.heard r.before r.left r.out r.err status) }
-    ensures pages { EachEnding (λ r status. (p : Pages) → r.asked ≡ Ok (prints p)
+    ensures pages { EachEnding (answers_by A.notes A.answers) (λ r status. (p : Pages) → r.asked ≡ Ok (prints p)
         → PagesAt p r.world.heard r.before r.left r.out r.err status) }
 {}

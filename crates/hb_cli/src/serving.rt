@@ -1,7 +1,7 @@
 //! `serve`: a run of the proxy over a world, and the line of its totals.
 
 ghost use Rattle.std.specs.Prelude.{◌≡◌, ◌≤◌, Some, IsErr, IfOk};
-ghost use Rattle.hb_audit.specs.HeldBy.{held_by};
+ghost use Rattle.hb_audit.specs.HeldBy.{each, answers_by};
 ghost use Rattle.hb_report.specs.Total.{total_line};
 ghost use Rattle.hb_serve.specs.Served.{heard_of};
 ghost use Rattle.hb_words.specs.AskedRun.{serve_seen};
@@ -33,9 +33,9 @@ fn serve_over<A: Audit, W: World>(
     world: &mut W,
 ) -> Result<Served, NoMemory>
     ensures worked { IfOk result (λ told. Worked (serve_seen words.now)
-        (world_used W.trace W.seen world.old world.new (heard_of (held_by A.notes audits.old) (held_by A.notes audits.new))) told) }
+        (world_used W.trace W.seen world.old world.new (heard_of (answers_by A.notes A.answers) (each audits.old) (each audits.new))) told) }
     ensures unused { IsErr result
-        → Unused (world_used W.trace W.seen world.old world.new (heard_of (held_by A.notes audits.old) (held_by A.notes audits.new))) }
+        → Unused (world_used W.trace W.seen world.old world.new (heard_of (answers_by A.notes A.answers) (each audits.old) (each audits.new))) }
     ensures follows { (W.seen world.new).script ≡ (W.seen world.old).script }
 {
     let asked = serve_words(alloc, &words.run, words.ticks)?;
@@ -80,7 +80,7 @@ pub fn serve_world<K: Sink, E: Sink, A: Audit, W: World>(
     world: &mut W,
 ) -> u8
     ensures serves { ServesAt (serve_seen words.now)
-        (world_used W.trace W.seen world.old world.new (heard_of (held_by A.notes audits.old) (held_by A.notes audits.new)))
+        (world_used W.trace W.seen world.old world.new (heard_of (answers_by A.notes A.answers) (each audits.old) (each audits.new)))
         (used K.written K.faults out.old out.new) (used E.written E.faults err.old err.new) result }
     ensures follows { (W.seen world.new).script ≡ (W.seen world.old).script }
     ensures later_out { K.faults out.old ≤ K.faults out.new }

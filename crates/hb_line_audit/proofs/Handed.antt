@@ -1,9 +1,9 @@
 -- What is written and waits, from step to step.
-use Rattle.std.proofs.Common.{◌≡◌, ◌≤◌, ℕ, List, ◌++◌, length, take, drop, sym, ◌∙◌, ap, subst, arith}
+use Rattle.std.proofs.Common.{◌≡◌, ◌≤◌, ℕ, List, [], ◌++◌, length, take, drop, sym, ◌∙◌, ap, subst, arith}
 use Rattle.std.specs.Prelude.{Option, Some, None}
 use Rattle.std.specs.Option.{option_map}
 use Rattle.std.specs.Io.KnownBytes.{Keeps, Appends}
-use Rattle.std.proofs.lemmas.List.{append_assoc, take-append-drop, take-take, length-take}
+use Rattle.std.proofs.lemmas.List.{append_assoc, append-nil, take-append-drop, take-take, length-take}
 
 -- what stays twice stays
 pub keeps_next : (a b c : Option (List ℕ)) → Keeps a b → Keeps b c → Keeps a c
@@ -42,3 +42,16 @@ adds_behind None b c line keeps appends = tt
 adds_behind (Some xs) None c line keeps appends = absurd keeps
 adds_behind (Some xs) (Some ys) None line keeps appends = appends
 adds_behind (Some xs) (Some ys) (Some zs) line keeps appends = appends ∙ ap (λ octets. octets ++ line) keeps
+
+-- what more waits twice
+pub appends_both : (a b c : Option (List ℕ)) (one more : List ℕ) → Appends a b one → Appends b c more → Appends a c (one ++ more)
+appends_both None b c one more first next = tt
+appends_both (Some xs) None c one more first next = absurd first
+appends_both (Some xs) (Some ys) None one more first next = next
+appends_both (Some xs) (Some ys) (Some zs) one more first next =
+    next ∙ ap (λ (octets : List ℕ). octets ++ more) first ∙ append_assoc xs one more
+
+-- nothing more
+pub appends_none : (a : Option (List ℕ)) → Appends a a []
+appends_none None = tt
+appends_none (Some xs) = sym (append-nil xs)

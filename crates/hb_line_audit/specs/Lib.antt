@@ -1,3 +1,4 @@
 pub mod LineAudit
 pub mod Lines
+pub mod Notes
 pub mod Refused

@@ -1,8 +1,9 @@
 -- Small examples of a line that an audit takes, right and wrong. A sink is what was written to it.
 use Rattle.std.specs.Prelude.{◌≡◌, ℕ, false, List, [], ◌∷◌, ◌++◌, codes, Some}
 use Rattle.hb_audit.specs.declared.audit.Noted.TheVariants.{Kept, Failed}
-use Rattle.hb_line_audit.specs.Lines.{Logging, whole_lines, portion}
+use Rattle.hb_line_audit.specs.Lines.{Logging, lost_line, whole_lines, portion}
 use Rattle.hb_line_audit.specs.LineAudit.{TakesLine}
+use Rattle.hb_line_audit.specs.Notes.{AreLines}
 
 -- a line
 abbrev pub a_line : List ℕ
@@ -63,3 +64,32 @@ NoLine = whole_lines (97 ∷ 98 ∷ []) ≡ 0
 -- what is short goes whole
 abbrev pub ShortGoesWhole : Type 0
 ShortGoesWhole = portion (97 ∷ 10 ∷ 98 ∷ []) ≡ 3
+
+-- SEVERAL LINES
+
+-- another line
+abbrev pub another : List ℕ
+another = 98 ∷ 10 ∷ []
+
+abbrev pub AreBoth : ℕ → List ℕ → ℕ → Type 0
+AreBoth lost text now = AreLines (a_line ∷ another ∷ []) lost text now
+
+-- both stand there; the first one is lost, and told
+abbrev pub LinesAreWhole : Type 0
+LinesAreWhole = AreBoth 0 (a_line ++ another) 0
+
+abbrev pub LineIsLost : Type 0
+LineIsLost = AreBoth 0 (lost_line 1 ++ another) 0
+
+-- the first one is missing, and none is counted; they change places; the last one is cut; one that was lost isn't told
+abbrev pub LineIsMissing : Type 0
+LineIsMissing = AreBoth 0 another 0 → ⊥
+
+abbrev pub LinesChangePlaces : Type 0
+LinesChangePlaces = AreBoth 0 (another ++ a_line) 0 → ⊥
+
+abbrev pub LineIsCut : Type 0
+LineIsCut = AreBoth 0 a_line 0 → ⊥
+
+abbrev pub LostIsHidden : Type 0
+LostIsHidden = AreBoth 1 (a_line ++ another) 0 → ⊥

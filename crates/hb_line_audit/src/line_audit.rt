@@ -8,6 +8,7 @@ ghost use Rattle.hb_audit.specs.Held.{held_after, has_failed};
 ghost use Rattle.hb_report.specs.Note.{note_line};
 ghost use Rattle.hb_line_audit.specs.Lines.{handed, lost_line};
 ghost use Rattle.hb_line_audit.specs.LineAudit.{TakesLine};
+ghost use Rattle.hb_line_audit.specs.Notes.{TakesNote};
 
 use crate::lines::Lines;
 use crate::polled::Polled;
@@ -141,20 +142,21 @@ impl<K: Polled + Drop> LineAudit<K> {
 }
 
 impl<K: Polled + Drop> Audit for LineAudit<K> {
-    ghost use Rattle.std.specs.Prelude.{None, ⊤};
+    ghost use Rattle.std.specs.Prelude.{None};
+    ghost use Rattle.hb_line_audit.specs.Notes.{TakesNote};
 
     ghost notes = { λ a. None };
 
     ghost faults = { λ a. a.faults };
 
-    ghost may_answer = { λ a n answer. ⊤ };
+    ghost answers = { λ a n answer after. TakesNote K.written a n answer after };
 
     /// Takes the note's line, and writes what waits, as far as the sink takes it.
     fn note(&mut self, n: &Note) -> Noted
+        ensures own { TakesNote K.written self.old n.now result self.new }
         ensures held { None ≡ held_after None n.now result }
         ensures later { self.old.faults ≤ self.new.faults }
         ensures counts { Counts self.old.faults self.new.faults (has_failed result) }
-        ensures taken { TakesLine K.written self.old.lines self.new.lines (note_line n.now) result }
     {
         let noted = self.take(n);
         self.flush();

@@ -64,7 +64,7 @@ impl<K: Polled + Drop> Audit for SharedAudit<K> {
 
     ghost faults = { λ a. a.faults };
 
-    ghost may_answer = { λ a n answer. ⊤ };
+    ghost answers = { λ a n answer after. ⊤ };
 
     /// Takes the note's line, which waits until a flush.
     fn note(&mut self, n: &Note) -> Noted {

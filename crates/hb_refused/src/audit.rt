@@ -1,7 +1,7 @@
 //! Of hb_audit.
 
 ghost use Rattle.std.specs.Prelude.{◌≡◌, ◌+◌, length};
-ghost use Rattle.hb_audit.specs.HeldBy.{held_by, TellsEach};
+ghost use Rattle.hb_audit.specs.HeldBy.{each, answers_by};
 ghost use Rattle.hb_audit.specs.Tells.{TellsOne};
 
 use hb_audit::{Audit, Audits};
@@ -9,9 +9,8 @@ use hb_base::Note;
 
 /// `Audits::tell`.
 pub fn tell<A: Audit>(audits: &mut Audits<A>, n: &Note) -> usize
-    ensures own { TellsEach A.notes A.may_answer audits.old audits.new n.now }
-    ensures one { TellsOne (held_by A.notes audits.old) (held_by A.notes audits.new) n.now }
-    ensures dropped { length (held_by A.notes audits.new) + result ≡ length (held_by A.notes audits.old) }
+    ensures one { TellsOne (answers_by A.notes A.answers) (each audits.old) (each audits.new) n.now }
+    ensures dropped { length (each audits.new) + result ≡ length (each audits.old) }
 {
     audits.tell(n)
 }

@@ -2,7 +2,7 @@
 
 ghost use Rattle.std.specs.Prelude.{◌≡◌, [], map};
 ghost use Rattle.std.specs.String.{string_bytes};
-ghost use Rattle.hb_audit.specs.HeldBy.{held_by};
+ghost use Rattle.hb_audit.specs.HeldBy.{each, answers_by};
 ghost use Rattle.hb_cli.specs.Ending.{EndsWith, Others};
 ghost use Rattle.hb_cli.specs.Replaying.{run_state};
 ghost use Rattle.hb_cli.specs.Serving.{world_used};
@@ -36,7 +36,7 @@ pub fn run<S: Source, K: Sink, E: Sink, A: Audit, W: World>(
       input = used S.left S.faults input.old input.new;
       out = used K.written K.faults out.old out.new;
       err = used E.written E.faults err.old err.new;
-      world = world_used W.trace W.seen world.old world.new (heard_of (held_by A.notes audits.old) (held_by A.notes audits.new));
+      world = world_used W.trace W.seen world.old world.new (heard_of (answers_by A.notes A.answers) (each audits.old) (each audits.new));
       before = run_state script.old keep.old;
       left = run_state script.new keep.new;
     }) result }

@@ -1,6 +1,7 @@
 -- What the event loop says of a run, and what follows of its trace.
 use Rattle.std.proofs.Common.{◌≡◌, inr, List, [], ◌++◌, Option, Some, None, ap, sym, ◌∙◌, subst}
 use Rattle.std.proofs.lemmas.List.{append-nil}
+use Rattle.hb_audit.specs.Tells.{Answering}
 use Rattle.hb_base.specs.declared.cause.Cause.{Cause}
 use Rattle.hb_base.specs.declared.note.Note.{Note}
 use Rattle.hb_proxy.specs.Notes.{notes as notes_of}
@@ -27,7 +28,7 @@ use Rattle.hb_serve.specs.Served.{StandsAs, AreLawful, HasNotes, Serves, heard_o
 use Rattle.hb_serve.specs.declared.words.ServeWords.{ServeWords}
 use Rattle.hb_laws.proofs.Runs.{run_is_lawful}
 use Rattle.hb_serve.proofs.Along.{served_along}
-use Rattle.hb_serve.proofs.Asking.{Held, StandsIn}
+use Rattle.hb_serve.proofs.Asking.{StandsIn}
 
 -- what a proxy stands for whose run goes on
 goes_on : (g : NodeConfig) (taken : List Note) (p : Proxy) (trace : List Entry) → StandsAs g taken p trace → p.ends_for ≡ None
@@ -75,19 +76,19 @@ settled_at g before z s = tt
 settled : (g : NodeConfig) (trace : List Entry) → rests.SettledLaw (StandsAs g) shown_of trace → SettledLaw g trace
 settled g trace law before z after is = settled_at g before z (law before z after is)
 
--- a node that has a proxy in it, and audits
-module _ {N : Type 0} (f : N → Proxy) (h : N → Held) (before : Held) where
-  gives : (g : NodeConfig) (notes : List Note) (n : N) (trace : List Entry) → StandsIn f h g before notes n trace
+-- a node that has a proxy in it, and audits, of which each may answer so
+module _ {A : Type 0} (answers : Answering A) {N : Type 0} (f : N → Proxy) (h : N → List A) (before : List A) where
+  gives : (g : NodeConfig) (notes : List Note) (n : N) (trace : List Entry) → StandsIn answers f h g before notes n trace
       → StandsAs g notes (f n) trace
   gives g notes n trace stands = (stands.0, stands.1.0)
 
   -- its run, and the notes that were told
   served_with : (words : ServeWords) (served : Served) (keep : Option (List Note)) (n : N) (trace : List Entry)
-      → turns.IsServed (StandsIn f h words.config before) (λ m. shown_of (f m)) (words_of words) served (turns.leaves keep n) trace
-      → Serves words served keep (heard_of before (h n)) trace
+      → turns.IsServed (StandsIn answers f h words.config before) (λ m. shown_of (f m)) (words_of words) served (turns.leaves keep n) trace
+      → Serves words served keep (heard_of answers before (h n)) trace
   served_with words served keep n trace run =
       let g = words.config in
-      let along = served_along f (StandsIn f h g before) (StandsAs g) (gives g) shown_of (words_of words) served
+      let along = served_along f (StandsIn answers f h g before) (StandsAs g) (gives g) shown_of (words_of words) served
       (turns.leaves keep n) trace run in
       inr (
         record {
@@ -109,11 +110,12 @@ module _ {N : Type 0} (f : N → Proxy) (h : N → Held) (before : Held) where
   -- of a node that is asked for this, and of what the event loop is asked for with it
   pub serves_so : (g : NodeConfig) (asked : LoopWords) (words : ServeWords) (served : Served) (keep : Option (List Note)) (n : N)
       (trace : List Entry) → words.config ≡ g → asked ≡ words_of words
-      → turns.IsServed (StandsIn f h g before) (λ m. shown_of (f m)) asked served (turns.leaves keep n) trace
-      → Serves words served keep (heard_of before (h n)) trace
+      → turns.IsServed (StandsIn answers f h g before) (λ m. shown_of (f m)) asked served (turns.leaves keep n) trace
+      → Serves words served keep (heard_of answers before (h n)) trace
   serves_so g asked words served keep n trace config is run =
       served_with words served keep n trace
-      (subst (λ (c : NodeConfig). turns.IsServed (StandsIn f h c before) (λ m. shown_of (f m)) (words_of words) served
+      (subst (λ (c : NodeConfig). turns.IsServed (StandsIn answers f h c before) (λ m. shown_of (f m)) (words_of words) served
       (turns.leaves keep n) trace)
       (sym config)
-      (subst (λ (w : LoopWords). turns.IsServed (StandsIn f h g before) (λ m. shown_of (f m)) w served (turns.leaves keep n) trace) is run))
+      (subst (λ (w : LoopWords). turns.IsServed (StandsIn answers f h g before) (λ m. shown_of (f m)) w served
+      (turns.leaves keep n) trace) is run))

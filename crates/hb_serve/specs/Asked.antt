@@ -1,6 +1,6 @@
 -- The node that the event loop runs: a proxy that is asked for so, with audits to which its notes are told.
-use Rattle.std.specs.Prelude.{◌≡◌, List, [], Option}
-use Rattle.hb_audit.specs.Tells.{Tells}
+use Rattle.std.specs.Prelude.{◌≡◌, List, []}
+use Rattle.hb_audit.specs.Tells.{Answering, Tells}
 use Rattle.hb_base.specs.declared.ip.Ip.TheVariants.{V4}
 use Rattle.hb_base.specs.declared.note.Note.{Note}
 use Rattle.hb_held.specs.Held.{no_doors}
@@ -22,7 +22,8 @@ nobody = record {
   limits = record { links = 1024; tunnels = 4096 };
 }
 
--- the proxy stands for a trace, once these notes of it were taken; it is asked for so, and audits that held that before hold this since
--- the notes were told to them
-abbrev pub StandsWith : NodeConfig → List (Option (List Note)) → List Note → Proxy → List (Option (List Note)) → List Entry → Type 0
-StandsWith g before taken p now trace = Stands taken p trace × ((config_of p ≡ g) × Tells before now taken)
+module _ {A : Type 0} (answers : Answering A) where
+  -- the proxy stands for a trace, once these notes of it were taken; it is asked for so, and of these audits those are left to which the
+  -- notes were told
+  abbrev pub StandsWith : NodeConfig → List A → List Note → Proxy → List A → List Entry → Type 0
+  StandsWith g before taken p now trace = Stands taken p trace × ((config_of p ≡ g) × Tells answers before now taken)

@@ -1,5 +1,6 @@
 -- Audits behind a run, right and wrong.
 use Rattle.std.specs.Prelude.{◌≡◌, false, List, [], ◌∷◌, Option, Some, None}
+use Rattle.hb_audit.specs.Refused.{any_answer, kept_alone}
 use Rattle.hb_base.specs.declared.note.Note.{Note}
 use Rattle.hb_turns.specs.declared.served.Served.{Served}
 use Rattle.hb_turns.specs.declared.served.ServeEnd.TheVariants as ends
@@ -16,18 +17,23 @@ module _ (words : ServeWords) (served : Served) (keep : Option (List Note)) (tra
   -- one that tells its notes, and one that doesn't, were told all
   abbrev pub HoldAll : Type 0
   HoldAll = (run : IsServed words served keep trace) (notes : List Note) → NotesAre run notes
-      → AreTold words served keep trace run (heard_of (Some [] ∷ None ∷ []) (Some notes ∷ None ∷ []))
+      → AreTold words served keep trace run (heard_of any_answer (Some [] ∷ None ∷ []) (Some notes ∷ None ∷ []))
 
   -- one is left that holds others, fewer or more
   abbrev pub HoldsOthers : Type 0
   HoldsOthers = (run : IsServed words served keep trace) (notes holds : List Note) → NotesAre run notes
       → (served.end ≡ ends.NoMemory → ⊥) → served.unkept ≡ false → (holds ≡ notes → ⊥)
-      → AreTold words served keep trace run (heard_of (Some [] ∷ []) (Some holds ∷ [])) → ⊥
+      → AreTold words served keep trace run (heard_of any_answer (Some [] ∷ []) (Some holds ∷ [])) → ⊥
 
   -- one is left that wasn't there
   abbrev pub OneMoreIsLeft : Type 0
   OneMoreIsLeft = (run : IsServed words served keep trace) → (served.end ≡ ends.NoMemory → ⊥) → served.unkept ≡ false
-      → AreTold words served keep trace run (heard_of [] (None ∷ [])) → ⊥
+      → AreTold words served keep trace run (heard_of any_answer [] (None ∷ [])) → ⊥
+
+  -- one that keeps each note is gone
+  abbrev pub KeeperIsGone : Type 0
+  KeeperIsGone = (run : IsServed words served keep trace) → (served.end ≡ ends.NoMemory → ⊥) → served.unkept ≡ false
+      → AreTold words served keep trace run (heard_of kept_alone (Some [] ∷ []) []) → ⊥
 
 abbrev pub AllRunsHoldAll : Type 0
 AllRunsHoldAll = (words : ServeWords) (served : Served) (keep : Option (List Note)) (trace : List Entry) → HoldAll words served keep trace
@@ -39,3 +45,7 @@ NoRunHoldsOthers = (words : ServeWords) (served : Served) (keep : Option (List N
 abbrev pub NoRunLeavesOneMore : Type 0
 NoRunLeavesOneMore = (words : ServeWords) (served : Served) (keep : Option (List Note)) (trace : List Entry)
     → OneMoreIsLeft words served keep trace
+
+abbrev pub NoRunDropsKeepers : Type 0
+NoRunDropsKeepers = (words : ServeWords) (served : Served) (keep : Option (List Note)) (trace : List Entry)
+    → KeeperIsGone words served keep trace

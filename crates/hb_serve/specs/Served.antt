@@ -2,6 +2,7 @@
 use Rattle.std.specs.Prelude.{◌≡◌, ◌⊎◌, ℕ, false, List, [], ◌++◌, Option}
 use Rattle.std.specs.Option.{option_to_list}
 use Rattle.hb_audit.specs.Tells as audits
+use Rattle.hb_audit.specs.Tells.{Answering}
 use Rattle.hb_base.specs.declared.note.Note.{Note}
 use Rattle.hb_proxy.specs.Notes.{notes as notes_of}
 use Rattle.hb_held.specs.declared.doors.OwnDoors.{OwnDoors}
@@ -75,22 +76,24 @@ pub record LacksNode (served : Served) (trace : List Entry) : Type 0 where
   pub totals : served.totals ≡ no_totals
   pub none : trace ≡ []
 
--- what the audits held before a run, and what those hold that are left behind it
-pub record Heard : Type 0 where
-  pub before : List (Option (List Note))
-  pub after : List (Option (List Note))
+-- audits of which each answers so: those before a run, and those that are left behind it
+pub record Heard {A : Type 0} (own : Answering A) : Type 0 where
+  pub before : List A
+  pub after : List A
 
-abbrev pub heard_of : List (Option (List Note)) → List (Option (List Note)) → Heard
-heard_of before after = record { before = before; after = after }
+abbrev pub heard_of : {A : Type 0} (own : Answering A) → List A → List A → Heard own
+heard_of own before after = record { before = before; after = after }
 
--- unless memory lacked, all notes of the run were told to the audits, one after the other, and those that kept each are left
-abbrev pub AreTold : (words : ServeWords) (served : Served) (keep : Option (List Note)) (trace : List Entry)
-    → IsServed words served keep trace → Heard → Type 0
-AreTold words served keep trace run heard = (lacks_none : served.end ≡ ends.NoMemory → ⊥) (keeps_all : served.unkept ≡ false)
-    → audits.Tells heard.before heard.after (run.noted lacks_none keeps_all).notes
+-- unless memory lacked, all notes of the run were told to the audits, one after the other, each gave answers of its own, and those are
+-- left that kept each
+abbrev pub AreTold : {A : Type 0} {own : Answering A} (words : ServeWords) (served : Served) (keep : Option (List Note))
+    (trace : List Entry)
+    → IsServed words served keep trace → Heard own → Type 0
+AreTold {A} {own} words served keep trace run heard = (lacks_none : served.end ≡ ends.NoMemory → ⊥) (keeps_all : served.unkept ≡ false)
+    → audits.Tells own heard.before heard.after (run.noted lacks_none keeps_all).notes
 
 -- a run was served, and its notes told; or nothing was done
-abbrev pub Serves : ServeWords → Served → Option (List Note) → Heard → List Entry → Type 0
+abbrev pub Serves : {A : Type 0} {own : Answering A} → ServeWords → Served → Option (List Note) → Heard own → List Entry → Type 0
 Serves words served keep heard trace =
     (LacksNode served trace × (heard.after ≡ heard.before))
     ⊎ ((run : IsServed words served keep trace) × AreTold words served keep trace run heard)

@@ -1,9 +1,9 @@
-//! The proxy as the event loop runs it, with the audits to which its notes are told. Contracts know what it is asked for, and what the
-//! audits held before the run.
+//! The proxy as the event loop runs it, with the audits to which its notes are told. Contracts know what it is asked for, and the audits
+//! as they were before the run.
 
-ghost use Rattle.std.specs.Prelude.{◌≡◌, ◌++◌, List, Option};
+ghost use Rattle.std.specs.Prelude.{◌≡◌, ◌++◌, List};
 ghost use Rattle.std.specs.Option.{option_to_list};
-ghost use Rattle.hb_audit.specs.HeldBy.{held_by};
+ghost use Rattle.hb_audit.specs.HeldBy.{each, answers_by};
 ghost use Rattle.hb_audit.specs.Tells.{Tells};
 ghost use Rattle.hb_base.specs.declared.note.Note.{Note};
 
@@ -14,35 +14,34 @@ use hb_whole::Proxy;
 use hb_world::Act;
 use std::marker::{Brand, PhantomData};
 
-/// What a node is asked for, and what the audits held before its run, which contracts name by a type. No code reads it.
-pub(crate) trait Given {
-    ghost use Rattle.std.specs.Prelude.{List, Option};
-    ghost use Rattle.hb_base.specs.declared.note.Note.{Note};
+/// What a node is asked for, and the audits before its run, which contracts name by a type. No code reads it.
+pub(crate) trait Given<A> {
+    ghost use Rattle.std.specs.Prelude.{List};
     ghost use Rattle.hb_model.specs.declared.config.NodeConfig.{NodeConfig};
 
     ghost config: { NodeConfig };
 
-    ghost held: { List (Option (List Note)) };
+    ghost before: { List A };
 }
 
-impl Given for Brand {
+impl<A> Given<A> for Brand {
     ghost use Rattle.std.specs.Prelude.{[]};
     ghost use Rattle.hb_serve.specs.Asked.{nobody};
 
     ghost config = { nobody };
 
-    ghost held = { [] };
+    ghost before = { [] };
 }
 
 /// A proxy that was asked for this, and the audits that are left.
 #[derive(Drop)]
-pub(crate) struct Asked<G: Given, A> {
+pub(crate) struct Asked<G: Given<A>, A> {
     proxy: Proxy,
     audits: Audits<A>,
     of: PhantomData<G>,
 }
 
-impl<G: Given, A: Audit> Asked<G, A> {
+impl<G: Given<A>, A: Audit> Asked<G, A> {
     /// One whose notes are told to these audits.
     pub fn over(proxy: Proxy, audits: Audits<A>) -> Asked<G, A>
         ensures proxy { result.proxy ≡ proxy }
@@ -65,8 +64,8 @@ impl<G: Given, A: Audit> Asked<G, A> {
 
 /// Tells a note, where there is one.
 fn tell<A: Audit>(audits: &mut Audits<A>, note: &Option<Note>)
-    ensures { (before : List (Option (List Note))) (taken : List Note) → Tells before (held_by A.notes audits.old) taken
-        → Tells before (held_by A.notes audits.new) (taken ++ option_to_list note.now) }
+    ensures { (before : List A) (taken : List Note) → Tells (answers_by A.notes A.answers) before (each audits.old) taken
+        → Tells (answers_by A.notes A.answers) before (each audits.new) (taken ++ option_to_list note.now) }
 {
     match note {
         Some(told) => {
@@ -76,13 +75,14 @@ fn tell<A: Audit>(audits: &mut Audits<A>, note: &Option<Note>)
     }
 }
 
-impl<G: Given, A: Audit> Node for Asked<G, A> {
-    ghost use Rattle.hb_audit.specs.HeldBy.{held_by};
+impl<G: Given<A>, A: Audit> Node for Asked<G, A> {
+    ghost use Rattle.hb_audit.specs.HeldBy.{each, answers_by};
     ghost use Rattle.hb_whole.proofs.Resting as whole;
     ghost use Rattle.hb_whole.specs.Sight.{shown_of};
     ghost use Rattle.hb_serve.specs.Asked.{StandsWith};
 
-    ghost stands = { λ taken node trace. StandsWith G.config G.held taken node.proxy (held_by A.notes node.audits) trace };
+    ghost stands = { λ taken node trace.
+        StandsWith (answers_by A.notes A.answers) G.config G.before taken node.proxy (each node.audits) trace };
 
     ghost shown = { λ node. shown_of node.proxy };
 

@@ -1,7 +1,7 @@
 //! A run of the proxy, from its start to its end.
 
 ghost use Rattle.std.specs.Prelude.{◌≡◌, [], Some, IfSome};
-ghost use Rattle.hb_audit.specs.HeldBy.{held_by};
+ghost use Rattle.hb_audit.specs.HeldBy.{each, answers_by};
 ghost use Rattle.hb_turns.specs.Ends.{is_fault};
 ghost use Rattle.hb_turns.specs.Faults.{CountsWhole};
 ghost use Rattle.hb_serve.specs.Served.{loop_words, heard_of, Serves};
@@ -33,7 +33,7 @@ fn loop_words(doors: OwnDoors, turns: u64, ticks: Option<u64>) -> LoopWords
 }
 
 /// Runs the proxy that contracts know to be asked for so.
-fn serve_asked<G: Given, A: Audit, W: World>(
+fn serve_asked<G: Given<A>, A: Audit, W: World>(
     alloc: Global,
     words: ServeWords,
     keep: &mut Keep,
@@ -41,9 +41,9 @@ fn serve_asked<G: Given, A: Audit, W: World>(
     world: &mut W,
 ) -> Served
     requires config { words.config ≡ G.config }
-    requires held { held_by A.notes audits.old ≡ G.held }
+    requires before { each audits.old ≡ G.before }
     ensures served { W.trace world.old ≡ Some [] → IfSome (W.trace world.new)
-        (Serves words result keep.new (heard_of (held_by A.notes audits.old) (held_by A.notes audits.new))) }
+        (Serves words result keep.new (heard_of (answers_by A.notes A.answers) (each audits.old) (each audits.new))) }
     ensures faults { CountsWhole (W.seen world.old) (W.seen world.new) (is_fault result.end) }
 {
     let asked = loop_words(words.config.doors, words.turns, words.ticks);
@@ -68,7 +68,7 @@ pub fn serve<A: Audit, W: World>(
     world: &mut W,
 ) -> Served
     ensures served { W.trace world.old ≡ Some [] → IfSome (W.trace world.new)
-        (Serves words result keep.new (heard_of (held_by A.notes audits.old) (held_by A.notes audits.new))) }
+        (Serves words result keep.new (heard_of (answers_by A.notes A.answers) (each audits.old) (each audits.new))) }
     ensures faults { CountsWhole (W.seen world.old) (W.seen world.new) (is_fault result.end) }
 {
     serve_asked::<Brand, A, W>(alloc, words, keep, audits, world)

@@ -1,31 +1,26 @@
-use Rattle.std.proofs.Common.{◌≡◌, List, [], ◌∷◌}
-use Rattle.std.specs.List.{AllZip}
-use Rattle.std.specs.Prelude.{Option, map}
-use Rattle.hb_base.specs.declared.note.Note.{Note}
+use Rattle.std.proofs.Common.{◌≡◌, List, [], ◌∷◌, ◌∙◌}
 use Rattle.hb_audit.specs.declared.audit.Noted.{Noted}
 use Rattle.hb_audit.specs.declared.audit.Noted.TheVariants.{Kept, Failed, NoMemory}
-use Rattle.hb_audit.specs.Refused.{Only}
-use Rattle.hb_audit.specs.Tells.{left_after}
+use Rattle.hb_audit.specs.Tells.{left_by}
 use Rattle.hb_audit.proofs.laws.audits_are_left_by_their_own_answers.Goals as goal
 
-module _ {B : Type 0} (notes : B → Option (List Note)) (may_answer : B → Note → Noted → Type 0) (b : B) (n : Note) where
-  dropped : (answers : List Noted) → Only notes may_answer Kept b n → AllZip (λ audit answer. may_answer audit n answer) (b ∷ []) answers
-      → [] ≡ left_after answers n (map notes (b ∷ [])) → ⊥
-  dropped [] only all is = all
-  dropped (Kept ∷ answers) only all is = absurd cc
-  dropped (Failed ∷ answers) only all is = let same : Failed ≡ Kept = only Failed all.0 in absurd cc
-  dropped (NoMemory ∷ answers) only all is = let same : NoMemory ≡ Kept = only NoMemory all.0 in absurd cc
+module _ {B : Type 0} (c : B) where
+  dropped : (answer : Noted) (others : List B) → answer ≡ Kept → [] ≡ left_by answer c others → ⊥
+  dropped Kept others only is = absurd cc
+  dropped Failed others only is = absurd cc
+  dropped NoMemory others only is = absurd cc
 
-  left : (held : Option (List Note)) (answers : List Noted) → Only notes may_answer Failed b n
-      → AllZip (λ audit answer. may_answer audit n answer) (b ∷ []) answers → held ∷ [] ≡ left_after answers n (map notes (b ∷ [])) → ⊥
-  left held [] only all is = all
-  left held (Kept ∷ answers) only all is = let same : Kept ≡ Failed = only Kept all.0 in absurd cc
-  left held (NoMemory ∷ answers) only all is = let same : NoMemory ≡ Failed = only NoMemory all.0 in absurd cc
-  left held (Failed ∷ []) only all is = absurd cc
-  left held (Failed ∷ next ∷ answers) only all is = all.1
+  gone : (answer : Noted) (others left : List B) → answer ≡ Failed → left ≡ left_by answer c others → others ≡ [] → left ≡ []
+  gone Kept others left only is none = absurd cc
+  gone Failed others left only is none = is ∙ none
+  gone NoMemory others left only is none = absurd cc
 
 pub returns-clause-keeps : goal.returns-clause-keeps
-returns-clause-keeps g c = λ b n only told. dropped g.A.Audit.notes g.A.Audit.may_answer b n told.0 only told.1 told.2
+returns-clause-keeps g c = λ b n only told. let gave = told.0 in
+    dropped gave.after gave.answer gave.others (only gave.answer gave.after gave.own) told.1
 
 pub returns-clause-fails : goal.returns-clause-fails
-returns-clause-fails g c = λ b n held only told. left g.A.Audit.notes g.A.Audit.may_answer b n held told.0 only told.1 told.2
+returns-clause-fails g c = λ b after n only told. let gave = told.0 in
+    let none : (after ∷ []) ≡ [] = gone gave.after gave.answer gave.others (after ∷ [])
+    (only gave.answer gave.after gave.own) told.1 told.2 in
+    absurd cc

@@ -1,4 +1,4 @@
-use Rattle.std.proofs.Common.{◌≡◌, refl, arith}
+use Rattle.std.proofs.Common.{refl, arith}
 use Rattle.hb_words.specs.AskedRun.{serve_seen}
 use Rattle.hb_cli.proofs.Concluding.{words_refused, words_unread}
 use Rattle.hb_cli.proofs.Makes.{made}

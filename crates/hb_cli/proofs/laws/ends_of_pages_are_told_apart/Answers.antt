@@ -27,28 +27,35 @@ has a b text a_is b_is =
     subst (λ (x : Option (List ℕ)). Appends x b text) (sym a_is) (subst (λ (y : Option (List ℕ)). Appends (Some []) y text) (sym b_is) refl)
 
 pub returns-clause-words : goal.returns-clause-words
-returns-clause-words c = λ p h before left out err at. at.2
+returns-clause-words g c = λ p h before left out err at. at.2
 
 pub returns-clause-input : goal.returns-clause-input
-returns-clause-input c = λ p h before left out err at. at.2
+returns-clause-input g c = λ p h before left out err at. at.2
 
 pub returns-clause-world : goal.returns-clause-world
-returns-clause-world c = λ p h before left out err at. at.2
+returns-clause-world g c = λ p h before left out err at. at.2
 
 pub returns-clause-turns : goal.returns-clause-turns
-returns-clause-turns c = λ p h before left out err at. at.2
+returns-clause-turns g c = λ p h before left out err at. at.2
 
 pub returns-clause-unread : goal.returns-clause-unread
-returns-clause-unread c = λ p h before left out err at. at.2
+returns-clause-unread g c = λ p h before left out err at. at.2
 
 pub returns-clause-nothing : goal.returns-clause-nothing
-returns-clause-nothing c = λ h before left out err old new at.
+returns-clause-nothing g c = λ h before left out err old new at.
     no_text (appended out.bytes out.bytes_after [] [] (page_text Version) old new at.2.0.0)
 
 pub returns-clause-another : goal.returns-clause-another
-returns-clause-another c = λ h before left out err old new at.
+returns-clause-another g c = λ h before left out err old new at.
     no_other (appended out.bytes out.bytes_after [] (page_text Commands) (page_text Version) old new at.2.0.0)
 
 pub returns-clause-printed : goal.returns-clause-printed
-returns-clause-printed c = λ p h state out err hears old new faults told still silent.
-    (refl, hears, ((has out.bytes out.bytes_after (page_text p) old new, faults), inl (has err.bytes err.bytes_after [] told still, silent)))
+returns-clause-printed g c = λ p h state out err hears old new faults told still silent. (
+  refl,
+  hears,
+  (
+    (has out.bytes out.bytes_after (page_text p) old new, faults),
+    inl
+        (has err.bytes err.bytes_after [] told still, silent),
+  ),
+)

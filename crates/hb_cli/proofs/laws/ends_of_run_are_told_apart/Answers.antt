@@ -1,6 +1,7 @@
 use Rattle.std.proofs.Common.{◌≡◌, ℕ, List, [], Option, Some, Result, Ok, Err, inl, refl, sym, subst, ap, ◌∙◌, if◌then◌else◌, Bool, true, false, arith}
 use Rattle.std.specs.Io.KnownBytes.{Appends}
 use Rattle.std.specs.Prelude.{nat_lt, length}
+use Rattle.hb_audit.specs.HeldBy.{answers_by}
 use Rattle.hb_wire.specs.Message.{and_then}
 use Rattle.hb_words.specs.Command.{Command, Question, checks}
 use Rattle.hb_words.specs.declared.fault.WordsFault.{WordsFault}
@@ -41,10 +42,10 @@ none_appended a b text a_is b_is appends =
     sym same
 
 pub returns-clause-status : goal.returns-clause-status
-returns-clause-status c = λ r e. let never = e.nothing_else in absurd cc
+returns-clause-status g c = λ r e. let never = e.nothing_else in absurd cc
 
 pub returns-clause-nothing : goal.returns-clause-nothing
-returns-clause-nothing c = λ r q asks before after e.
+returns-clause-nothing g c = λ r q asks before after e.
     let a = e.done refl in
     let empty = none_appended r.out.bytes r.out.bytes_after a.0 before after a.2.0 in
     let outcome = (gives_of r _ a.0 (checks q) asks a.1).1.2 in
@@ -53,12 +54,13 @@ returns-clause-nothing c = λ r q asks before after e.
     prints q (done_in r.left) outcome.0 (by_words ∙ ap Ok empty)
 
 pub returns-clause-refused : goal.returns-clause-refused
-returns-clause-refused c = λ r before after e. absurd (let same = sym before ∙ sym (e.input_refused refl).4.0 ∙ after in cc)
+returns-clause-refused g c = λ r before after e. absurd (let same = sym before ∙ sym (e.input_refused refl).4.0 ∙ after in cc)
 
 pub returns-clause-uncounted : goal.returns-clause-uncounted
-returns-clause-uncounted c = λ r before after e. let same = (e.unread refl).1 in omega (arith, before, after, same)
+returns-clause-uncounted g c = λ r before after e. let same = (e.unread refl).1 in omega (arith, before, after, same)
 
 pub returns-clause-words : goal.returns-clause-words
-returns-clause-words c = λ state none.
-    ends_at (without_words state) 2 2 refl (stays_still (without_words state) refl refl (omega arith, omega arith, omega arith))
+returns-clause-words g c = λ state none.
+    let r = without_words (answers_by g.A.Audit.notes g.A.Audit.answers) state in
+    ends_at r 2 2 refl (stays_still r refl refl (omega arith, omega arith, omega arith))
     (NoCommand, refl, (refl, refl), (refl, refl), inl (refl, refl), (none, refl))

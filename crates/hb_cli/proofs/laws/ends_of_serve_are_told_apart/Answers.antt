@@ -14,26 +14,26 @@ none_appended a b totals a_is b_is appends =
     (subst (λ (y : Option (List ℕ)). Appends a y (total_line totals)) b_is appends))
 
 pub returns-clause-words : goal.returns-clause-words
-returns-clause-words c = λ s w out err at. at
+returns-clause-words g c = λ s w out err at. at
 
 pub returns-clause-input : goal.returns-clause-input
-returns-clause-input c = λ s w out err at. at
+returns-clause-input g c = λ s w out err at. at
 
 pub returns-clause-unread : goal.returns-clause-unread
-returns-clause-unread c = λ s w out err at. at
+returns-clause-unread g c = λ s w out err at. at
 
 pub returns-clause-nothing : goal.returns-clause-nothing
-returns-clause-nothing c = λ s w out err before after at.
+returns-clause-nothing g c = λ s w out err before after at.
     none_appended out.bytes out.bytes_after at.0.totals before after at.2.0
 
 pub returns-clause-hidden : goal.returns-clause-hidden
-returns-clause-hidden c = λ s w out err before after at. let same = at.1.2 in omega (arith, before, after, same)
+returns-clause-hidden g c = λ s w out err before after at. let same = at.1.2 in omega (arith, before, after, same)
 
 pub returns-clause-invented : goal.returns-clause-invented
-returns-clause-invented c = λ s w out err before after at. let same = at.1.2 in omega (arith, before, after, same)
+returns-clause-invented g c = λ s w out err before after at. let same = at.1.2 in omega (arith, before, after, same)
 
 pub returns-clause-wanting : goal.returns-clause-wanting
-returns-clause-wanting c = λ s w out err before after at. absurd (let same = sym before ∙ sym at.1.0 ∙ after in cc)
+returns-clause-wanting g c = λ s w out err before after at. absurd (let same = sym before ∙ sym at.1.0 ∙ after in cc)
 
 pub returns-clause-lacks : goal.returns-clause-lacks
-returns-clause-lacks c = λ s w out err unused untouched tells. (inl unused, untouched, tells)
+returns-clause-lacks g c = λ s w out err unused untouched tells. (inl unused, untouched, tells)

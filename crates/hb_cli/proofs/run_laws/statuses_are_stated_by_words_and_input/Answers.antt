@@ -1,6 +1,7 @@
 use Rattle.std.proofs.Common.{◌≡◌, ℕ, List, Option, Some, None, Result, Err, refl, sym, subst, ◌∙◌, inl, inr, arith}
 use Rattle.std.proofs.lemmas.Option.{IfSome_then}
 use Rattle.std.specs.Prelude.{◌⊎◌, IfSome, IsTrue}
+use Rattle.hb_audit.specs.Tells.{Answering}
 use Rattle.hb_base.specs.Count.{Rose, one_more}
 use Rattle.hb_cli.specs.Replaying.{Done, done_in}
 use Rattle.hb_words.specs.Command.{Command}
@@ -20,7 +21,7 @@ words_outcome : (asked : Result Command WordsFault) (fault : WordsFault) (done :
     → outcome_by asked done input ≡ Err (Words fault)
 words_outcome asked fault done input e = rw e refl
 
-module _ (r : Run) (takes : IsTrue (takes_input r.asked)) where
+module _ {A : Type 0} {own : Answering A} (r : Run own) (takes : IsTrue (takes_input r.asked)) where
   -- the status is the stated one, or one of others that may come in its place
   abbrev Stated : ℕ → Type 0
   Stated s = IfSome r.input.bytes (λ left. IsStated (status_of (outcome_by r.asked (done_in r.left) left)) s)
@@ -42,7 +43,8 @@ rose before after e = rw e (omega arith)
 answered_at : (status k : ℕ) → status ≡ k → IsTrue (is_answered k) → IsTrue (is_answered status)
 answered_at status k is answered = subst (λ s. IsTrue (is_answered s)) (sym is) answered
 
-answered_or_nine : (r : Run) (stated status : ℕ) → EndsWith r status → IsStated stated status → stated ≡ 0
+answered_or_nine : {A : Type 0} {own : Answering A} (r : Run own) (stated status : ℕ) → EndsWith r status → IsStated stated status
+    → stated ≡ 0
     → (Rose r.input.faults r.input.faults_after → ⊥) → (Rose r.out.faults r.out.faults_after → ⊥)
     → IsTrue (is_answered status) ⊎ (status ≡ 9)
 answered_or_nine r stated status e (inl is) zero no_reads no_puts = inl (answered_at status 0 (is ∙ zero) refl)
@@ -55,16 +57,16 @@ answered_or_nine r stated status e (inr (inr (inl (inr (inr seven), is)))) zero 
 answered_or_nine r stated status e (inr (inr (inr nine))) zero no_reads no_puts = inr nine
 
 pub returns-clause-stated : goal.returns-clause-stated
-returns-clause-stated c = λ r status e takes. is_stated r takes status e
+returns-clause-stated g c = λ r status e takes. is_stated r takes status e
 
 pub returns-clause-complete : goal.returns-clause-complete
-returns-clause-complete c = λ r status e takes.
+returns-clause-complete g c = λ r status e takes.
     IfSome_then r.input.bytes (is_stated r takes status e) (λ left is. answered_or_nine r
     (status_of (outcome_by r.asked (done_in r.left) left)) status e is)
 
 pub returns-clause-reads_enough : goal.returns-clause-reads_enough
-returns-clause-reads_enough c = λ r status e takes at. enough r status e takes at where
-  enough : (r : Run) (status : ℕ) → EndsWith r status → IsTrue (takes_input r.asked)
+returns-clause-reads_enough g c = λ r status e takes at. enough r status e takes at where
+  enough : {A : Type 0} {own : Answering A} (r : Run own) (status : ℕ) → EndsWith r status → IsTrue (takes_input r.asked)
       → IsTrue (is_answered status) ⊎ (status ≡ 3) ⊎ (status ≡ 7) → ReadsEnough r.input.bytes r.input.bytes_after
   enough r status e takes (inl answered) = let a = is_whole r status e answered in (outcome_is r a.0 a.1 takes a.2).3
   enough r status e takes (inr (inl three)) = (e.input_refused three).3.3

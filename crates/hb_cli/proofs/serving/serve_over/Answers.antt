@@ -1,13 +1,13 @@
 use Rattle.std.proofs.Common.{subst}
 use Rattle.std.proofs.lemmas.Option.{IfSome_then}
-use Rattle.hb_audit.specs.HeldBy.{held_by}
+use Rattle.hb_audit.specs.HeldBy.{each, answers_by}
 use Rattle.hb_serve.specs.Served.{Serves, heard_of}
 use Rattle.hb_serve.specs.declared.words.ServeWords.{ServeWords}
 use Rattle.hb_cli.proofs.serving.serve_over.Goals as goal
 
 pub returns-clause-worked : goal.returns-clause-worked
 returns-clause-worked g c =
-    let heard = heard_of (held_by g.A.Audit.notes c.args.audits.now) (held_by g.A.Audit.notes c.serve.new.audits) in (
+    let heard = heard_of (answers_by g.A.Audit.notes g.A.Audit.answers) (each c.args.audits.now) (each c.serve.new.audits) in (
       λ fresh. IfSome_then (g.W.World.trace c.serve.new.world) (c.serve.ensures.served fresh)
           (λ trace run. (
             c.serve.new.keep,

@@ -1,5 +1,7 @@
+use Rattle.hb_audit.specs.HeldBy.{answers_by}
 use Rattle.hb_serve.proofs.Asking.{tells_as}
 use Rattle.hb_serve.proofs.asked.AskedNode.broke.Goals as goal
 
 pub returns : goal.returns
-returns g c = tells_as g.G.Given.config g.G.Given.held _ _ _ _ c.broke.ensures.tells c.broke.ensures.config
+returns g c = tells_as
+    (answers_by g.A.Audit.notes g.A.Audit.answers) g.G.Given.config g.G.Given.before _ _ _ _ c.broke.ensures.tells c.broke.ensures.config
